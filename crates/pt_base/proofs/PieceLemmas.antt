@@ -1,5 +1,5 @@
 -- How a place in the pieces moves.
-use Rattle.std.proofs.Common.{◌≡◌, ◌<◌, ◌≤◌, ◌+◌, ℕ, suc, zero, List, [], ◌∷◌, ◌++◌, length, Vec, refl, sym, ◌∙◌, ap, get_or, take, drop, subst, append_assoc, length-drop, add-one, arith}
+use Rattle.std.proofs.Common.{◌≡◌, ◌<◌, ◌≤◌, ◌+◌, ℕ, suc, zero, List, [], ◌∷◌, ◌++◌, length, Vec, refl, sym, ◌∙◌, ap, get_or, take, drop, append_assoc, length-drop, add-one, arith}
 use Rattle.std.proofs.lemmas.List.{take_all, drop_all, drop-drop, take-append-drop}
 use Rattle.std.proofs.Math.Seq.{take-add}
 use Rattle.std.specs.declared.alloc.Global.{Global}

@@ -1,5 +1,5 @@
 -- The calls of an object in memory, some of which are to fail.
-use Rattle.std.specs.Prelude.{◌≡◌, ◌↔◌, ℕ, ◌+◌, ◌-◌, ◌^◌, Bool, true, false, IsTrue, List, if◌then◌else◌, nat_lt, nat_eq, Vec, Result, IsErrOf, min}
+use Rattle.std.specs.Prelude.{◌≡◌, ◌↔◌, ℕ, ◌+◌, ◌-◌, ◌^◌, Bool, true, false, IsTrue, List, nat_eq, Vec, Result, IsErrOf, min}
 use Rattle.std.specs.List.{list_any}
 use Rattle.std.specs.declared.alloc.Global.{Global}
 use Rattle.pt_base.specs.declared.calls.Calls.{Calls}

@@ -55,7 +55,7 @@ mod tests {
         assert!(rt; folder.read(alloc, "b", 3) == Err(FolderFault::Missing));
         assert!(rt; folder.write(alloc, "a", b"") == Err(FolderFault::Failed));
         assert!(rt; folder.read(alloc, "a", 3) == Err(FolderFault::Missing));
-        assert_eq!(rt; folder.files()[0].1.as_slice(), b"hello".as_slice());
+        assert_eq!(rt; folder.files().len(), 1);
         Ok(())
     }
 

@@ -1,5 +1,5 @@
-use Rattle.std.proofs.Common.{◌≡◌, ◌<◌, ◌++◌, ◌+◌, ℕ, [], List, length, take, drop, arith, sym, ◌∙◌, ap, append_assoc}
-use Rattle.pt_base.specs.Pieces.{given, left, joined, next_piece, without, piece_at}
+use Rattle.std.proofs.Common.{◌+◌, length, arith}
+use Rattle.pt_base.specs.Pieces.{given, left}
 use Rattle.pt_base.proofs.PieceLemmas.{piece_at-is, given-more, left-end, next-left, left-more, whole-kept}
 use Rattle.pt_base.proofs.pieces.Pieces.next.Goals as goal
 
