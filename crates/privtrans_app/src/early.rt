@@ -1,0 +1,65 @@
+// The tree of an early program: hosts, and a main without branches, by their names.
+use pt_base::{Bytes, Listed};
+
+/// A parameter of a host, of type int.
+#[derive(Drop)]
+pub struct HostParam {
+    pub name: Bytes,
+    /// It is marked `priv`.
+    pub marked: bool,
+}
+
+/// The declaration of a host.
+#[derive(Drop)]
+pub struct Host {
+    pub name: Bytes,
+    /// It is marked `priv`.
+    pub privileged: bool,
+    /// It is marked `declassify` beside `priv`.
+    pub declassify: bool,
+    /// Its result is int, and not void.
+    pub gives: bool,
+    pub params: Listed<HostParam>,
+}
+
+/// An argument of a call.
+#[derive(Drop)]
+pub enum Arg {
+    Number(u32),
+    Variable(Bytes),
+}
+
+/// A call of the host of this name.
+#[derive(Drop)]
+pub struct Call {
+    pub callee: Bytes,
+    pub args: Listed<Arg>,
+}
+
+/// What is stored in a variable.
+#[derive(Drop)]
+pub enum Source {
+    Number(u32),
+    Variable(Bytes),
+    Call(Call),
+}
+
+/// A statement of main.
+#[derive(Drop)]
+pub enum Statement {
+    /// `target = source;`
+    Set { target: Bytes, source: Source },
+    /// A call whose result is dropped, if it has one.
+    Do(Call),
+}
+
+/// A program of the early grammar.
+#[derive(Drop)]
+pub struct Program {
+    pub hosts: Listed<Host>,
+    /// The names of main's variables, in order.
+    pub variables: Listed<Bytes>,
+    pub statements: Listed<Statement>,
+    /// The number that main returns.
+    pub status: u32,
+}
