@@ -1,13 +1,13 @@
 -- Proofs of the laws on marks.
-use Rattle.std.proofs.Common.{◌≡◌, ◌<◌, ◌≤◌, ℕ, zero, suc, List, [], ◌∷◌, ◌++◌, length, get_or, refl, sym, ◌∙◌, ap, subst, arith, Bool, true, false, Option, Some, None, IsTrue, IsSome, is_some, MatchOption}
+use Rattle.std.proofs.Common.{◌≡◌, ◌<◌, ℕ, zero, suc, List, [], ◌∷◌, ◌++◌, length, get_or, refl, sym, ◌∙◌, ap, subst, arith, Bool, Option, Some, None, IsTrue, IsSome, MatchOption}
 use Rattle.std.specs.List.{All, Contains}
-use Rattle.std.proofs.lemmas.List.{get_or_default, get_or_past}
+use Rattle.std.proofs.lemmas.List.{get_or_default}
 use Rattle.std.proofs.lemmas.List.Elements.{All-contains, Contains-get_or}
 use Rattle.pt_base.specs.declared.slot.Slot.{Slot}
 use Rattle.pt_base.specs.declared.slot.Edge.{Edge}
 use Rattle.propagation.specs.Paths.{no_edge, from_of, to_of, Leads, IsPriv, IsSimplePath}
 use Rattle.propagation.specs.Marks.{path_shown, IsMarked, AreMarks}
-use Rattle.propagation.specs.Laws.{AreIn, IsClosed, MoreMarksMore, OrderIsFree, MarksAreLeast}
+use Rattle.propagation.specs.Laws.{AreIn, MoreMarksMore, OrderIsFree, MarksAreLeast}
 
 -- ---- marked is privileged
 
@@ -62,10 +62,11 @@ stays_in edges set follows [] a b h has = subst (λ (x : Slot). IsTrue (set x)) 
 stays_in edges set follows (k ∷ path) a b h has = stays_in edges set follows path (to_of edges k) b h.2 (follows k no_edge h.0 (subst (λ (x : Slot). IsTrue (set x)) (sym h.1) has))
 
 pub least : MarksAreLeast
-least seeds edges slots marks are within ends =
-    (record { seeded = seeded; follows = follows },
-      λ set closed s m. let priv : IsPriv seeds edges s = marked_priv seeds edges slots marks are s m in
-          stays_in edges set closed.follows priv.1 priv.0 s priv.3 (All-contains (λ (x : Slot). IsTrue (set x)) seeds priv.0 closed.seeded priv.2))
+least seeds edges slots marks are within ends = (
+  record { seeded = seeded; follows = follows },
+  λ set closed s m. let priv : IsPriv seeds edges s = marked_priv seeds edges slots marks are s m in
+      stays_in edges set closed.follows priv.1 priv.0 s priv.3 (All-contains (λ (x : Slot). IsTrue (set x)) seeds priv.0 closed.seeded priv.2),
+)
   where
     seeded : All (IsMarked marks) seeds
     seeded k d lt = priv_marked seeds edges slots marks are (get_or seeds k d) (within k d lt) (get_or seeds k d, [], Contains-get_or seeds k d lt, refl)

@@ -9,7 +9,7 @@ use Rattle.propagation.specs.declared.reached.Found.{Found}
 use Rattle.propagation.specs.declared.reached.Step.{Step}
 use Rattle.propagation.specs.Adjacent.{Bounds, AreChains}
 use Rattle.propagation.specs.Paths.{from_of, to_of, no_edge}
-use Rattle.propagation.specs.Reached.{no_slot, slot_at, by_at, place_of, HasPlace, AreEarlier, marked_places, marked_order, AreSound, Keeps, AreDone}
+use Rattle.propagation.specs.Reached.{no_slot, slot_at, by_at, HasPlace, AreEarlier, marked_places, marked_order, AreSound, Keeps, AreDone}
 use Rattle.propagation.proofs.MarkLemmas.{Marked, marked_is, keeps_refl, keeps_trans}
 
 has_within : (places : List (Option ℕ)) (s p : ℕ) → get_or places s None ≡ Some p → s < length places

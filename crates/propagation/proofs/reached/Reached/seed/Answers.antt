@@ -1,7 +1,6 @@
 use Rattle.std.proofs.Common.{◌≡◌, length, get_or, arith, subst, below_more, None, List, ◌∙◌}
 use Rattle.std.proofs.lemmas.List.{get_or_default}
 use Rattle.std.proofs.lemmas.List.Elements.{Contains-get_or}
-use Rattle.pt_base.specs.declared.slot.Slot.{Slot}
 use Rattle.pt_base.specs.declared.slot.Edge.{Edge}
 use Rattle.propagation.specs.Reached.{AreSound, HasPlace}
 use Rattle.propagation.proofs.MarkLemmas.{marked_is, Marked}
