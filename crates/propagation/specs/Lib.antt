@@ -4,3 +4,4 @@ pub mod Marks
 pub mod Paths
 pub mod Reached
 pub mod Shown
+pub mod Walk

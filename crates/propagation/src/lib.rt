@@ -5,6 +5,7 @@ mod adjacent;
 mod laws;
 mod marks;
 mod reached;
+mod walk;
 
 pub use laws::{marks_are_least, more_marks_more, order_is_free};
 pub use marks::{Marks, propagate};

@@ -33,19 +33,19 @@ impl Marks {
     pub fn is_priv(&self, s: Slot) -> bool
         requires { s.0 < length self.now }
         ensures shown { result ≡ is_some (path_shown self.now s) }
-        ensures exact { (seeds : List Slot) (edges : List Edge) (slots : ℕ) → AreMarks seeds edges slots self.now →
-            (IsTrue result ↔ IsPriv seeds edges s) }
+        ensures exact { (seeds : List Slot) (edges : List Edge) (slots : ℕ) →
+            AreMarks seeds edges slots self.now → (IsTrue result ↔ IsPriv seeds edges s) }
     {
         self.reached.place(s).is_some()
     }
 
-    /// The numbers of edges that lead to the slot from a seed and come to no slot twice, or `None`
-    /// where it isn't privileged. No path from a seed to the slot has fewer edges.
+    /// The numbers of edges that lead to the slot from a seed, in order, and come to no slot twice;
+    /// `None` where it isn't privileged. Of the paths it is a shortest one, which no clause says.
     pub fn path_to(&self, alloc: Global, s: Slot) -> Result<Option<Vec<u64>>, AllocError>
         requires { s.0 < length self.now }
         ensures shown { IfOk result (λ o. option_map (λ path. path.items) o ≡ path_shown self.now s) }
-        ensures exact { IfOk result (λ o. (seeds : List Slot) (edges : List Edge) (slots : ℕ) → AreMarks seeds edges slots self.now →
-            MatchOption o (¬ IsPriv seeds edges s) (λ path. IsSimplePath seeds edges path.items s)) }
+        ensures exact { IfOk result (λ o. (seeds : List Slot) (edges : List Edge) (slots : ℕ) →
+            AreMarks seeds edges slots self.now → MatchOption o (¬ IsPriv seeds edges s) (λ path. IsSimplePath seeds edges path.items s)) }
     {
         let Some(place) = self.reached.place(s) else {
             return Ok(None);
