@@ -2,5 +2,7 @@
 #![tactic(auto)]
 
 mod early;
+mod held;
 
 pub use early::{Arg, Call, Host, HostParam, Program, Source, Statement};
+pub use held::Held;

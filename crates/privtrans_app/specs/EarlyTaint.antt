@@ -1,0 +1,89 @@
+-- Which variables of an early program may hold handles, and that none of them goes where a number
+-- belongs.
+use Rattle.std.specs.Prelude.{◌≡◌, ℕ, Bool, true, false, not, ◌&&◌, List, [], ◌∷◌, Option, Some, None, ⊤, length, if◌then◌else◌}
+use Rattle.pt_base.specs.declared.slot.Slot.{Slot}
+use Rattle.pt_base.specs.declared.slot.Edge.{Edge}
+use Rattle.propagation.specs.Paths.{IsPriv}
+use Rattle.privtrans_app.specs.Names.{place_in}
+use Rattle.privtrans_app.specs.EarlyConditions.{host_of}
+use Rattle.privtrans_app.specs.declared.early.HostParam.{HostParam}
+use Rattle.privtrans_app.specs.declared.early.Host.{Host}
+use Rattle.privtrans_app.specs.declared.early.Arg.{Arg}
+use Rattle.privtrans_app.specs.declared.early.Arg.TheVariants.{Number, Variable}
+use Rattle.privtrans_app.specs.declared.early.Call.{Call}
+use Rattle.privtrans_app.specs.declared.early.Source.{Source}
+use Rattle.privtrans_app.specs.declared.early.Source.TheVariants.{Number as FromNumber, Variable as FromVariable, Call as FromCall}
+use Rattle.privtrans_app.specs.declared.early.Statement.{Statement}
+use Rattle.privtrans_app.specs.declared.early.Statement.TheVariants.{Set, Do}
+use Rattle.privtrans_app.specs.declared.early.Program.{Program}
+
+-- a variable's slot
+abbrev pub slot_of : List (List ℕ) → List ℕ → Slot
+slot_of names x = record { 0 = place_in names x }
+
+-- the result of a host is sealed: it is marked `priv` alone
+abbrev pub is_sealed : Option Host → Bool
+is_sealed None = false
+is_sealed (Some h) = h.privileged && not h.declassify
+
+-- a slot, where the truth value says so, before others
+abbrev pub slot_if : Bool → Slot → List Slot → List Slot
+slot_if true s slots = s ∷ slots
+slot_if false s slots = slots
+
+-- the variables to which a call of a sealing host is assigned
+abbrev pub sources : List Host → List (List ℕ) → List Statement → List Slot
+sources hosts names [] = []
+sources hosts names (Set target (FromNumber n) ∷ rest) = sources hosts names rest
+sources hosts names (Set target (FromVariable x) ∷ rest) = sources hosts names rest
+sources hosts names (Set target (FromCall c) ∷ rest) =
+    slot_if (is_sealed (host_of hosts c.callee)) (slot_of names target) (sources hosts names rest)
+sources hosts names (Do c ∷ rest) = sources hosts names rest
+
+-- the way from a copied variable to the one that it is assigned to
+abbrev pub copy_edge : List (List ℕ) → List ℕ → List ℕ → Edge
+copy_edge names x target = record { from = slot_of names x; to = slot_of names target; span = record { from = 0; to = 0 } }
+
+abbrev pub copies : List (List ℕ) → List Statement → List Edge
+copies names [] = []
+copies names (Set target (FromNumber n) ∷ rest) = copies names rest
+copies names (Set target (FromVariable x) ∷ rest) = copy_edge names x target ∷ copies names rest
+copies names (Set target (FromCall c) ∷ rest) = copies names rest
+copies names (Do c ∷ rest) = copies names rest
+
+-- a variable is tainted where copies lead to it from one that a sealing host's result is assigned to,
+-- wherever these statements stand
+abbrev pub IsTainted : Program → List ℕ → Type 0
+IsTainted p x = IsPriv (sources p.hosts p.variables p.statements) (copies p.variables p.statements) (slot_of p.variables x)
+
+-- an argument for a parameter that is marked or not is no tainted variable, unless it is marked
+abbrev pub ArgKeeps : (List ℕ → Type 0) → Bool → Arg → Type 0
+ArgKeeps Tainted true arg = ⊤
+ArgKeeps Tainted false (Number n) = ⊤
+ArgKeeps Tainted false (Variable x) = Tainted x → ⊥
+
+abbrev pub ArgsKeep : (List ℕ → Type 0) → List HostParam → List Arg → Type 0
+ArgsKeep Tainted [] args = ⊤
+ArgsKeep Tainted (p ∷ ps) [] = ⊤
+ArgsKeep Tainted (p ∷ ps) (a ∷ rest) = ArgKeeps Tainted p.marked a × ArgsKeep Tainted ps rest
+
+abbrev pub params_of : Option Host → List HostParam
+params_of None = []
+params_of (Some h) = h.params
+
+abbrev pub CallKeeps : (List ℕ → Type 0) → List Host → Call → Type 0
+CallKeeps Tainted hosts c = ArgsKeep Tainted (params_of (host_of hosts c.callee)) c.args
+
+abbrev pub StatementKeeps : (List ℕ → Type 0) → List Host → Statement → Type 0
+StatementKeeps Tainted hosts (Set target (FromNumber n)) = ⊤
+StatementKeeps Tainted hosts (Set target (FromVariable x)) = ⊤
+StatementKeeps Tainted hosts (Set target (FromCall c)) = CallKeeps Tainted hosts c
+StatementKeeps Tainted hosts (Do c) = CallKeeps Tainted hosts c
+
+abbrev pub StatementsKeep : (List ℕ → Type 0) → List Host → List Statement → Type 0
+StatementsKeep Tainted hosts [] = ⊤
+StatementsKeep Tainted hosts (s ∷ ss) = StatementKeeps Tainted hosts s × StatementsKeep Tainted hosts ss
+
+-- no tainted variable is an argument for an unmarked parameter
+abbrev pub KeepsTaint : Program → Type 0
+KeepsTaint p = StatementsKeep (IsTainted p) p.hosts p.statements
