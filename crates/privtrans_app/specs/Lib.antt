@@ -1,5 +1,6 @@
 pub mod EarlyConditions
 pub mod EarlyPair
+pub mod EarlyRun
 pub mod EarlyTaint
 pub mod EarlyTree
 pub mod Names
