@@ -1,3 +1,5 @@
+pub mod IndexLemmas
+pub mod LookupLemmas
 pub mod PairLemmas
 pub mod RunLemmas
 pub mod TaintLemmas

@@ -3,4 +3,5 @@ pub mod EarlyPair
 pub mod EarlyRun
 pub mod EarlyTaint
 pub mod EarlyTree
+pub mod Index
 pub mod Names

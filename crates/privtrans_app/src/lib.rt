@@ -3,6 +3,8 @@
 
 mod early;
 mod held;
+mod index;
+mod lookup;
 
 pub use early::{Arg, Call, Host, HostParam, Program, Source, Statement};
 pub use held::Held;
