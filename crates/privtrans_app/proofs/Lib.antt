@@ -1,3 +1,4 @@
+pub mod FreshLemmas
 pub mod IndexLemmas
 pub mod LookupLemmas
 pub mod PairLemmas

@@ -4,4 +4,5 @@ pub mod EarlyRun
 pub mod EarlyTaint
 pub mod EarlyTree
 pub mod Index
+pub mod Lookup
 pub mod Names

@@ -1,6 +1,7 @@
 //! The top call.
 #![tactic(auto)]
 
+mod conditions;
 mod early;
 mod held;
 mod index;

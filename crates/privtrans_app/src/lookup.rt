@@ -10,6 +10,13 @@ use crate::index::Index;
 use pt_base::Bytes;
 use std::alloc::{AllocError, Global};
 
+/// The names of a program's hosts and variables, by number.
+#[derive(Drop)]
+pub struct Names {
+    pub hosts: Index,
+    pub variables: Index,
+}
+
 /// The names of hosts by number, where no two are equal.
 pub(crate) fn index_hosts(alloc: Global, hosts: &[Host]) -> Result<Option<Index>, AllocError>
     ensures { IfOk result (λ o. MatchOption o (fresh [] [] (names_of hosts.now) ≡ false)
@@ -50,6 +57,7 @@ pub(crate) fn index_variables(
 }
 
 /// A host with its number.
+#[derive(Clone, Copy)]
 pub(crate) struct Named<'a> {
     pub number: usize,
     pub host: &'a Host,
