@@ -1,5 +1,5 @@
 -- An index as a list of names.
-use Rattle.std.proofs.Common.{◌≡◌, ℕ, zero, suc, List, [], ◌∷◌, ◌++◌, map, Vec, refl, sym, ◌∙◌, ap, ◌+◌, length, nat_lt, cond, not, arith, Bool, true, false, ◌||◌, if◌then◌else◌, Option, Some, None, option_map}
+use Rattle.std.proofs.Common.{◌≡◌, ◌≤◌, ℕ, zero, suc, List, [], ◌∷◌, ◌++◌, map, Vec, refl, sym, ◌∙◌, ap, ◌+◌, length, nat_lt, cond, not, arith, Bool, true, false, ◌||◌, if◌then◌else◌, Option, Some, None, option_map}
 use Rattle.std.specs.Prelude.{position}
 use Rattle.std.specs.List.{list_any, position_or_len}
 use Rattle.std.specs.Str.{bytes_eq}
@@ -56,3 +56,34 @@ listed-insert eq same keys after k name is none e =
     ap listed e
       ∙ ap (λ b. listed (if b then keys else keys ++ k ∷ [])) (any_in eq same keys k ∙ ap (is_in (listed keys)) is ∙ not_found (is_in (listed keys) name) (place_in (listed keys) name) none)
       ∙ listed-push keys k ∙ ap (λ n. listed keys ++ n ∷ []) is
+
+absent_place : (names : List (List ℕ)) (name : List ℕ) → is_in names name ≡ false → length names ≡ place_in names name
+absent_place [] name none = refl
+absent_place (x ∷ names) name none = go (bytes_eq name x) none (absent_place names name)
+  where
+    go : (b : Bool) → (b || is_in names name) ≡ false → (is_in names name ≡ false → length names ≡ place_in names name) → suc (length names) ≡ (if b then 0 else suc (place_in names name))
+    go true is rest = cc
+    go false is rest = ap suc (rest is)
+
+here_place : (b : Bool) (p n : ℕ) → (if b then Some p else None) ≡ Some n → n ≡ p
+here_place true p n is = grind arith
+here_place false p n is = cc
+
+pub found_is_place : (names : List (List ℕ)) (name : List ℕ) (n : ℕ) → found_in names name ≡ Some n → n ≡ place_in names name
+found_is_place names name n is = here_place (is_in names name) (place_in names name) n is
+
+pub absent_is_end : (names : List (List ℕ)) (name : List ℕ) → found_in names name ≡ None → length names ≡ place_in names name
+absent_is_end names name none = absent_place names name (not_found (is_in names name) (place_in names name) none)
+
+pub place_within : (names : List (List ℕ)) (name : List ℕ) → place_in names name ≤ length names
+place_within [] name = omega arith
+place_within (x ∷ names) name = go (bytes_eq name x) (place_within names name)
+  where
+    go : (b : Bool) → place_in names name ≤ length names → (if b then 0 else suc (place_in names name)) ≤ suc (length names)
+    go true le = omega arith
+    go false le = omega arith
+
+pub found_within : (names : List (List ℕ)) (name : List ℕ) (n : ℕ) → found_in names name ≡ Some n → n ≤ length names
+found_within names name n is = let same : n ≡ place_in names name = found_is_place names name n is in omega (arith, place_within names name)
+
+pub ruleset places = (found_is_place, absent_is_end, found_within)

@@ -1,6 +1,6 @@
 // Names by the place where they were added.
-ghost use Rattle.std.specs.Prelude.{◌≡◌, ◌∷◌, ◌++◌, [], not, IfOk, if◌then◌else◌};
-ghost use Rattle.privtrans_app.specs.Names.{is_in, found_in};
+ghost use Rattle.std.specs.Prelude.{◌≡◌, ◌≤◌, ◌∷◌, ◌++◌, [], not, IfOk, length, if◌then◌else◌};
+ghost use Rattle.privtrans_app.specs.Names.{is_in, place_in, found_in};
 ghost use Rattle.privtrans_app.specs.Index.{names_listed};
 
 use indexmap::IndexSet;
@@ -32,6 +32,25 @@ impl Index {
         }
         self.names.insert(Vec::from_slice(alloc, name)?)?;
         Ok(true)
+    }
+
+    /// How many names there are.
+    pub(crate) fn len(&self) -> usize
+        ensures { result ≡ length (names_listed self.now) }
+    {
+        self.names.len()
+    }
+
+    /// The place of a name, counted from 0; the number of names where it isn't there.
+    #[tactic(auto, using(crate::proofs::IndexLemmas::places))]
+    pub(crate) fn place_or_end(&self, name: &[u8]) -> usize
+        ensures place { result ≡ place_in (names_listed self.now) name.now }
+        ensures within { result ≤ length (names_listed self.now) }
+    {
+        match self.place(name) {
+            Some(place) => place,
+            None => self.len(),
+        }
     }
 
     /// The place of a name, counted from 0.
