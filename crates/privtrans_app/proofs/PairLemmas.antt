@@ -153,7 +153,7 @@ steady_next : (m : HostModel) (vs : List ℤ) → is_steady m ≡ true → (host
 steady_next (Table rows other) vs is = refl
 steady_next (Feed values other next) vs is = cc
 steady_next (Input next) vs is = cc
-steady_next Bytes vs is = refl
+steady_next Bytes vs is = cc
 steady_next (Line name) vs is = refl
 
 steady_at : (ms : List HostModel) (f : ℕ) → AreSteady ms → is_steady (model_at ms f) ≡ true

@@ -30,7 +30,7 @@ pub record Pair : Type 0 where
 
 -- what stands for the host of this number
 abbrev pub model_at : List HostModel → ℕ → HostModel
-model_at models f = slice_index_or models f Bytes
+model_at models f = slice_index_or models f (Line [])
 
 -- the value of a handle is the monitor's stored one
 abbrev pub revealed : List ℤ → Held → ℤ

@@ -17,7 +17,7 @@ abbrev pub is_steady : HostModel → Bool
 is_steady (Table rows other) = true
 is_steady (Feed values other next) = false
 is_steady (Input next) = false
-is_steady Bytes = true
+is_steady Bytes = false
 is_steady (Line name) = true
 
 abbrev pub AreSteady : List HostModel → Type 0

@@ -6,3 +6,4 @@ pub mod EarlyTree
 pub mod Index
 pub mod Lookup
 pub mod Names
+pub mod PairView

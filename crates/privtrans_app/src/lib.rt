@@ -6,6 +6,7 @@ mod early;
 mod held;
 mod index;
 mod lookup;
+mod pair;
 mod taint;
 
 pub use early::{Arg, Call, Host, HostParam, Program, Source, Statement};
