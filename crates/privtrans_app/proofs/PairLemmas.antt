@@ -161,6 +161,12 @@ steady_at [] f all = refl
 steady_at (m ∷ ms) zero all = all.0
 steady_at (m ∷ ms) (suc f) all = steady_at ms f all.1
 
+-- a model that is read at a place
+pub steady_read : (ms : List HostModel) (f : ℕ) (m : HostModel) → AreSteady ms → f < length ms → m ≡ get_or ms f m → is_steady m ≡ true
+steady_read [] f m all lt is = absurd (omega arith)
+steady_read (k ∷ ms) zero m all lt is = subst (λ x. is_steady x ≡ true) (sym is) all.0
+steady_read (k ∷ ms) (suc f) m all lt is = steady_read ms f m all.1 (omega arith) is
+
 -- ---- arguments
 
 abbrev pub cells_of : List ℤ → List Held → List Value

@@ -102,13 +102,18 @@ abbrev pub holds_from_now : ℕ → Option Held → Pair → Pair
 holds_from_now at None pair = pair
 holds_from_now at (Some held) pair = record pair { variables = slice_set pair.variables at held }
 
+-- what a statement stores, and what is left by it
+abbrev pub source_done : List Host → List HostModel → List (List ℕ) → Source → Pair → Called
+source_done hosts models names (FromNumber n) pair = record { result = Some (Plain (pos n)); pair = pair }
+source_done hosts models names (FromVariable x) pair = record { result = Some (arg_held names pair.variables (Variable x)); pair = pair }
+source_done hosts models names (FromCall c) pair = call_made hosts models names c pair
+
+abbrev pub stored_in : ℕ → Called → Pair
+stored_in at called = holds_from_now at called.result called.pair
+
 -- a statement is done
 abbrev pub done : List Host → List HostModel → List (List ℕ) → Statement → Pair → Pair
-done hosts models names (Set target (FromNumber n)) pair = holds_from_now (place_in names target) (Some (Plain (pos n))) pair
-done hosts models names (Set target (FromVariable x)) pair =
-    holds_from_now (place_in names target) (Some (arg_held names pair.variables (Variable x))) pair
-done hosts models names (Set target (FromCall c)) pair =
-    let called = call_made hosts models names c pair in holds_from_now (place_in names target) called.result called.pair
+done hosts models names (Set target source) pair = stored_in (place_in names target) (source_done hosts models names source pair)
 done hosts models names (Do c) pair = (call_made hosts models names c pair).pair
 
 -- statements are done in order

@@ -1,12 +1,14 @@
 //! The top call.
 #![tactic(auto)]
 
+mod answer;
 mod conditions;
 mod early;
 mod held;
 mod index;
 mod lookup;
 mod pair;
+mod sending;
 mod taint;
 
 pub use early::{Arg, Call, Host, HostParam, Program, Source, Statement};

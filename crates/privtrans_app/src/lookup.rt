@@ -1,5 +1,5 @@
 // The hosts and variables of an early program, by their names.
-ghost use Rattle.std.specs.Prelude.{◌≡◌, ◌∷◌, ◌++◌, [], Some, None, MatchOption, IfOk, IfSome, option_map, true, false, ◌&&◌, not};
+ghost use Rattle.std.specs.Prelude.{◌≡◌, ◌<◌, ◌∷◌, ◌++◌, [], length, Some, None, MatchOption, IfOk, IfSome, option_map, true, false, ◌&&◌, not};
 ghost use Rattle.privtrans_app.specs.Names.{place_in, fresh};
 ghost use Rattle.privtrans_app.specs.Index.{names_listed};
 ghost use Rattle.privtrans_app.specs.EarlyTree.{names_of};
@@ -69,6 +69,7 @@ pub(crate) fn host_named<'a>(index: &Index, hosts: &'a [Host], name: &[u8]) -> O
     requires { names_listed index.now ≡ names_of hosts.now }
     ensures host { option_map (λ n. n.host.now) result ≡ host_of hosts.now name.now }
     ensures number { IfSome result (λ n. n.number ≡ place_in (names_of hosts.now) name.now) }
+    ensures below { IfSome result (λ n. n.number < length hosts.now) }
 {
     match index.place(name) {
         Some(number) => Some(Named {

@@ -1,185 +1,22 @@
 // The two halves at work: the slave goes through main's statements, the monitor keeps the values of
 // handles and answers privileged calls.
-ghost use Rattle.std.specs.Prelude.{◌≡◌, ◌++◌, ◌∷◌, [], ℕ, List, pos, true, IfOk, OnOk, Some, map, length};
-ghost use Rattle.std.specs.Fmt.{signed_decimal};
-ghost use Rattle.pt_tree.specs.HostStep.{table_result, same_numbers, spaced, host_step};
+ghost use Rattle.std.specs.Prelude.{◌≡◌, ◌<◌, ◌++◌, ◌∷◌, [], true, length, IfOk, OnOk, Some, slice_set, slice_index_or};
 ghost use Rattle.privtrans_app.specs.Names.{place_in};
 ghost use Rattle.privtrans_app.specs.Index.{names_listed};
+ghost use Rattle.privtrans_app.specs.Lookup.{AreNamesOf};
 ghost use Rattle.privtrans_app.specs.EarlyTree.{names_of};
 ghost use Rattle.privtrans_app.specs.EarlyConditions.{host_of};
-ghost use Rattle.privtrans_app.specs.EarlyPair.{revealed, plain_of, arg_held, sent_for, sent, args_held, call_numbers, bytes_of, Pair as State, Called, replied, host_called, called_of, call_made, holds_from_now, done, all_done, pair_start, pair_run, model_at};
+ghost use Rattle.privtrans_app.specs.EarlyPair.{args_held, replied, host_called, call_made, holds_from_now, source_done, done, all_done, pair_start, pair_run, model_at};
 ghost use Rattle.privtrans_app.specs.EarlyRun.{is_steady, AreSteady};
-ghost use Rattle.privtrans_app.specs.Lookup.{AreNamesOf};
 ghost use Rattle.privtrans_app.specs.PairView.{pair_of};
 
-use crate::early::{Arg, Call, Host, HostParam, Program, Source, Statement};
+use crate::answer::answer;
+use crate::early::{Call, Host, Program, Source, Statement};
 use crate::held::Held;
-use crate::index::Index;
 use crate::lookup::{Names, host_named};
-use itoa::Buffer;
-use pt_tree::{HostModel, Row};
+use crate::sending::{held_at, numbers, sent_args};
+use pt_tree::HostModel;
 use std::alloc::{AllocError, Global};
-
-// Whether the two lists of numbers are equal.
-fn are_same(a: &[i128], b: &[i128]) -> bool
-    ensures { result ≡ same_numbers a.now b.now }
-{
-    let mut rest = a;
-    let mut left = b;
-    while let [x, after @ ..] = rest {
-        let [y, further @ ..] = left else {
-            return false;
-        };
-        if *x != *y {
-            return false;
-        }
-        rest = after;
-        left = further;
-    }
-    left.is_empty()
-}
-
-// The result of the first row with these arguments, else the other number.
-fn row_result(rows: &[Row], other: i128, args: &[i128]) -> i128
-    ensures { result ≡ table_result rows.now other args.now }
-{
-    let mut rest = rows;
-    while let [row, after @ ..] = rest {
-        if are_same(row.args.as_slice(), args) {
-            return row.result;
-        }
-        rest = after;
-    }
-    other
-}
-
-// Appends the numbers in decimal, each with a space before it.
-fn write_numbers(args: &[i128], out: &mut Vec<u8>) -> Result<(), AllocError>
-    ensures { OnOk result (out.new.items ≡ out.old.items ++ spaced args.now) }
-{
-    let mut buffer = Buffer::new();
-    let mut rest = args;
-    while let [arg, after @ ..] = rest {
-        out.push(b' ')?;
-        out.extend_from_slice(buffer.format(*arg).as_bytes())?;
-        rest = after;
-    }
-    Ok(())
-}
-
-// One call of a host that answers every call alike.
-fn answer(model: &HostModel, args: &[i128], out: &mut Vec<u8>) -> Result<Option<i128>, AllocError>
-    requires { is_steady model.now ≡ true }
-    ensures result { IfOk result (λ o. o ≡ (host_step [] model.now args.now).result) }
-    ensures out { OnOk result (out.new.items ≡ out.old.items ++ bytes_of (host_step [] model.now args.now).written) }
-{
-    match model {
-        HostModel::Table { rows, other } => Ok(Some(row_result(rows.as_slice(), *other, args))),
-        HostModel::Line { name } => {
-            out.extend_from_slice(name.as_slice())?;
-            write_numbers(args, out)?;
-            out.push(b'\n')?;
-            Ok(None)
-        }
-        HostModel::Bytes => Ok(None),
-        HostModel::Feed { .. } => Ok(None),
-        HostModel::Input { .. } => Ok(None),
-    }
-}
-
-// What an argument holds.
-fn held_by(variables: &Index, holds: &[Held], arg: &Arg) -> Held
-    ensures { result ≡ arg_held (names_listed variables.now) holds.now arg.now }
-{
-    match arg {
-        Arg::Number(n) => Held::Plain(i128::from(*n)),
-        Arg::Variable(name) => {
-            let place = variables.place_or_end(name.as_slice());
-            if place < holds.len() {
-                holds[place]
-            } else {
-                Held::Plain(0)
-            }
-        }
-    }
-}
-
-// The number of what is held where the slave needs one: a handle counts as 0.
-fn plain(held: Held) -> i128
-    ensures { result ≡ plain_of held }
-{
-    match held {
-        Held::Plain(n) => n,
-        Held::Handle(_) => 0,
-    }
-}
-
-// What is sent for the parameters of a call.
-fn sent_args(
-    alloc: Global,
-    variables: &Index,
-    holds: &[Held],
-    params: &[HostParam],
-    args: &[Arg],
-) -> Result<Vec<Held>, AllocError>
-    ensures { IfOk result (λ v. v.items ≡ sent params.now (args_held (names_listed variables.now) holds.now args.now)) }
-{
-    let mut list = Vec::new(alloc);
-    let mut rest = params;
-    let mut left = args;
-    while let [param, after @ ..] = rest {
-        let [arg, further @ ..] = left else {
-            return Ok(list);
-        };
-        let held = held_by(variables, holds, arg);
-        list.push(if param.marked {
-            held
-        } else {
-            Held::Plain(plain(held))
-        })?;
-        rest = after;
-        left = further;
-    }
-    Ok(list)
-}
-
-// The value of what the slave sent, with a handle replaced by the stored value.
-fn reveal(stored: &[i128], held: Held) -> i128
-    ensures { result ≡ revealed stored.now held }
-{
-    match held {
-        Held::Plain(n) => n,
-        Held::Handle(h) => {
-            if h < stored.len() {
-                stored[h]
-            } else {
-                0
-            }
-        }
-    }
-}
-
-// The numbers of a call: the monitor's reading of what was sent, or the slave's own.
-fn numbers(
-    alloc: Global,
-    privileged: bool,
-    stored: &[i128],
-    list: &[Held],
-) -> Result<Vec<i128>, AllocError>
-    ensures { IfOk result (λ v. v.items ≡ call_numbers privileged stored.now list.now) }
-{
-    let mut values = Vec::new(alloc);
-    let mut rest = list;
-    while let [held, after @ ..] = rest {
-        values.push(if privileged {
-            reveal(stored, *held)
-        } else {
-            plain(*held)
-        })?;
-        rest = after;
-    }
-    Ok(values)
-}
 
 /// What both halves hold: the slave's variables, the monitor's stored values, and the bytes that
 /// were written.
@@ -188,13 +25,6 @@ pub struct Pair {
     variables: Vec<Held>,
     stored: Vec<i128>,
     out: Vec<u8>,
-}
-
-// The program that both halves work on: its hosts, what stands for them, and its names.
-pub(crate) struct Parts<'a> {
-    pub names: &'a Names,
-    pub hosts: &'a [Host],
-    pub models: &'a [HostModel],
 }
 
 impl Pair {
@@ -224,4 +54,147 @@ impl Pair {
             })),
         }
     }
+
+    // A call of a host: what it sends, and what comes back.
+    fn call_host(
+        &mut self,
+        alloc: Global,
+        names: &Names,
+        model: &HostModel,
+        host: &Host,
+        call: &Call,
+    ) -> Result<Option<Held>, AllocError>
+        requires { is_steady model.now ≡ true }
+        ensures result { IfOk result (λ o. o ≡ (host_called host.now model.now
+            (args_held (names_listed names.now.variables) self.old.variables.items call.now.args) (pair_of self.old)).result) }
+        ensures pair { OnOk result (pair_of self.new ≡ (host_called host.now model.now
+            (args_held (names_listed names.now.variables) self.old.variables.items call.now.args) (pair_of self.old)).pair) }
+    {
+        let list = sent_args(
+            alloc,
+            &names.variables,
+            &self.variables,
+            host.params.as_slice(),
+            call.args.as_slice(),
+        )?;
+        let values = numbers(alloc, host.privileged, &self.stored, &list)?;
+        let given = answer(model, &values, &mut self.out)?;
+        self.reply(host.privileged && !host.declassify, given)
+    }
+
+    // The call of a statement.
+    fn call(
+        &mut self,
+        alloc: Global,
+        names: &Names,
+        hosts: &[Host],
+        models: &[HostModel],
+        call: &Call,
+    ) -> Result<Option<Held>, AllocError>
+        requires names { names_listed names.now.hosts ≡ names_of hosts.now }
+        requires count { length models.now ≡ length hosts.now }
+        requires steady { AreSteady models.now }
+        ensures result { IfOk result (λ o. o ≡ (call_made hosts.now models.now
+            (names_listed names.now.variables) call.now (pair_of self.old)).result) }
+        ensures pair { OnOk result (pair_of self.new ≡ (call_made hosts.now models.now
+            (names_listed names.now.variables) call.now (pair_of self.old)).pair) }
+    {
+        match host_named(&names.hosts, hosts, call.callee.as_slice()) {
+            Some(named) => self.call_host(alloc, names, &models[named.number], named.host, call),
+            None => Ok(None),
+        }
+    }
+
+    // A variable holds this from now on.
+    fn hold(&mut self, place: usize, held: Option<Held>)
+        ensures { pair_of self.new ≡ holds_from_now place held (pair_of self.old) }
+    {
+        if let Some(held) = held {
+            if place < self.variables.len() {
+                self.variables[place] = held;
+            }
+        }
+    }
+
+    // What a statement stores.
+    fn source(
+        &mut self,
+        alloc: Global,
+        names: &Names,
+        hosts: &[Host],
+        models: &[HostModel],
+        source: &Source,
+    ) -> Result<Option<Held>, AllocError>
+        requires names { names_listed names.now.hosts ≡ names_of hosts.now }
+        requires count { length models.now ≡ length hosts.now }
+        requires steady { AreSteady models.now }
+        ensures result { IfOk result (λ o. o ≡ (source_done hosts.now models.now
+            (names_listed names.now.variables) source.now (pair_of self.old)).result) }
+        ensures pair { OnOk result (pair_of self.new ≡ (source_done hosts.now models.now
+            (names_listed names.now.variables) source.now (pair_of self.old)).pair) }
+    {
+        match source {
+            Source::Number(n) => Ok(Some(Held::Plain(i128::from(*n)))),
+            Source::Variable(name) => {
+                let place = names.variables.place_or_end(name.as_slice());
+                Ok(Some(held_at(&self.variables, place)))
+            }
+            Source::Call(call) => self.call(alloc, names, hosts, models, call),
+        }
+    }
+
+    // One statement.
+    fn step(
+        &mut self,
+        alloc: Global,
+        names: &Names,
+        hosts: &[Host],
+        models: &[HostModel],
+        statement: &Statement,
+    ) -> Result<(), AllocError>
+        requires names { names_listed names.now.hosts ≡ names_of hosts.now }
+        requires count { length models.now ≡ length hosts.now }
+        requires steady { AreSteady models.now }
+        ensures { OnOk result (pair_of self.new ≡ done hosts.now models.now
+            (names_listed names.now.variables) statement.now (pair_of self.old)) }
+    {
+        match statement {
+            Statement::Set { target, source } => {
+                let held = self.source(alloc, names, hosts, models, source)?;
+                self.hold(names.variables.place_or_end(target.as_slice()), held);
+                Ok(())
+            }
+            Statement::Do(call) => {
+                let _ = self.call(alloc, names, hosts, models, call)?;
+                Ok(())
+            }
+        }
+    }
+}
+
+/// The bytes that an early program writes, where both halves do its statements in order.
+pub(crate) fn written_by(
+    alloc: Global,
+    names: &Names,
+    program: &Program,
+    models: &[HostModel],
+) -> Result<Vec<u8>, AllocError>
+    requires names { AreNamesOf program.now names.now }
+    requires count { length models.now ≡ length program.now.hosts }
+    requires steady { AreSteady models.now }
+    ensures { IfOk result (λ v. v.items ≡ (pair_run program.now models.now).out) }
+{
+    let hosts = program.hosts.as_slice();
+    let count = program.variables.as_slice().len();
+    let mut pair = Pair {
+        variables: vec![in alloc; Held::Plain(0); count]?,
+        stored: Vec::new(alloc),
+        out: Vec::new(alloc),
+    };
+    let mut rest = program.statements.as_slice();
+    while let [statement, after @ ..] = rest {
+        pair.step(alloc, names, hosts, models, statement)?;
+        rest = after;
+    }
+    Ok(pair.out)
 }
