@@ -6,6 +6,8 @@ mod early;
 mod held;
 mod index;
 mod lookup;
+mod models;
+mod rules;
 
 pub use early::{Arg, Call, Host, HostParam, Program, Source, Statement};
 pub use held::Held;
