@@ -1,3 +1,5 @@
+pub mod EarlyHostLemmas
+pub mod EarlyPolicyLemmas
 pub mod FreshLemmas
 pub mod IndexLemmas
 pub mod LookupLemmas

@@ -1,5 +1,7 @@
 pub mod EarlyConditions
+pub mod EarlyHosts
 pub mod EarlyPair
+pub mod EarlyPolicy
 pub mod EarlyRun
 pub mod EarlyTaint
 pub mod EarlyTree

@@ -7,7 +7,9 @@ mod early;
 mod held;
 mod index;
 mod lookup;
+mod models;
 mod pair;
+mod rules;
 mod sending;
 mod taint;
 
