@@ -1,0 +1,3 @@
+pub mod EarlyReading
+pub mod EarlySpelling
+pub mod EarlyTokens

@@ -9,14 +9,22 @@ pub struct HostParam {
     pub marked: bool,
 }
 
+/// How a host is marked.
+#[derive(Clone, Copy, PartialEq, Eq, Debug)]
+pub enum HostMark {
+    /// It has no mark.
+    Plain,
+    /// It is marked `priv` alone.
+    Priv,
+    /// It is marked `priv` and `declassify`.
+    Declassify,
+}
+
 /// The declaration of a host.
 #[derive(Drop)]
 pub struct Host {
     pub name: Bytes,
-    /// It is marked `priv`.
-    pub privileged: bool,
-    /// It is marked `declassify` beside `priv`.
-    pub declassify: bool,
+    pub mark: HostMark,
     /// Its result is int, and not void.
     pub gives: bool,
     pub params: Listed<HostParam>,

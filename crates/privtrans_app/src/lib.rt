@@ -2,5 +2,7 @@
 #![tactic(auto)]
 
 mod early;
+mod early_lexer;
+mod early_token;
 
-pub use early::{Arg, Call, Host, HostParam, Program, Source, Statement};
+pub use early::{Arg, Call, Host, HostMark, HostParam, Program, Source, Statement};
