@@ -10,7 +10,7 @@ use Rattle.privtrans_app.specs.declared.early_token.Token.{Token}
 use Rattle.privtrans_app.specs.declared.early_token.Symbol.{Symbol}
 use Rattle.privtrans_app.specs.declared.early_token.ReadError.{ReadError}
 use Rattle.privtrans_app.specs.declared.early_token.ReadError.TheVariants.{Memory, NotEarly}
-use Rattle.privtrans_app.specs.EarlyReading.{◌>>=◌, Fails}
+use Rattle.privtrans_app.specs.EarlySteps.{◌>>=◌, Fails}
 use Rattle.privtrans_app.specs.EarlyTokens.{is_blank, is_digit, is_word_byte, begins_with, joined, runs, is_decimal, value_from, number_of, token_of, tokens_in, tokens_of}
 
 value_from-grows : (n : ℕ) (bs : List ℕ) → n ≤ value_from n bs

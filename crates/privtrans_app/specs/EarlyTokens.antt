@@ -3,7 +3,7 @@ use Rattle.std.specs.Prelude.{ℕ, ◌+◌, ◌-◌, ◌*◌, Bool, true, false,
 use Rattle.std.specs.List.{find, list_any, list_all}
 use Rattle.std.specs.Option.{option_map}
 use Rattle.std.specs.Str.{bytes_eq}
-use Rattle.privtrans_app.specs.EarlyReading.{◌>>=◌}
+use Rattle.privtrans_app.specs.EarlySteps.{◌>>=◌}
 use Rattle.privtrans_app.specs.declared.early_token.Token.{Token}
 use Rattle.privtrans_app.specs.declared.early_token.Token.TheVariants.{Fixed, Name, Number}
 use Rattle.privtrans_app.specs.declared.early_token.Symbol.{Symbol}

@@ -1,3 +1,4 @@
 pub mod EarlyReading
 pub mod EarlySpelling
+pub mod EarlySteps
 pub mod EarlyTokens

@@ -1,7 +1,7 @@
 // The tokens of an early text: its runs, and the token that each run is.
 ghost use Rattle.std.specs.Prelude.{◌≡◌, ◌<◌, ◌≤◌, ◌∷◌, length, map, take, drop, false};
 ghost use Rattle.privtrans_app.specs.EarlyTokens.{is_blank, is_digit, is_letter, is_word_byte, begins_with, is_name, runs, symbol_in, symbol_of, number_of, token_of, tokens_of};
-ghost use Rattle.privtrans_app.specs.EarlyReading.{Gives};
+ghost use Rattle.privtrans_app.specs.EarlySteps.{Gives};
 ghost use Rattle.std.specs.List.{find, list_any, prefix_len};
 ghost use Rattle.std.specs.Option.{option_map};
 ghost use Rattle.std.specs.Str.{bytes_eq};

@@ -3,6 +3,7 @@
 
 mod early;
 mod early_lexer;
+mod early_parser;
 mod early_token;
 
 pub use early::{Arg, Call, Host, HostMark, HostParam, Program, Source, Statement};
