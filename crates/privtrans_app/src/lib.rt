@@ -3,6 +3,7 @@
 
 mod early;
 mod early_lexer;
+mod early_lists;
 mod early_parser;
 mod early_token;
 
