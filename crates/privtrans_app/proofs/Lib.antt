@@ -1,2 +1,4 @@
+pub mod GrammarLemmas
 pub mod StepLemmas
+pub mod TextLemmas
 pub mod TokenLemmas

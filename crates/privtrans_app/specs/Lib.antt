@@ -1,4 +1,5 @@
 pub mod EarlyReading
 pub mod EarlySpelling
 pub mod EarlySteps
+pub mod EarlyText
 pub mod EarlyTokens
