@@ -1,6 +1,6 @@
 -- Each part of the early grammar is read exactly as it is spelled.
-use Rattle.std.proofs.Common.{◌≡◌, ℕ, zero, suc, ◌+◌, ◌<◌, ◌≤◌, Bool, true, false, cond, List, [], ◌∷◌, ◌++◌, length, Option, Some, None, Result, Ok, Err, ◌⊎◌, inl, inr, refl, sym, ap, subst, ◌∙◌, eqb, arith}
-use Rattle.std.specs.Prelude.{codes, IfOk, MatchOption}
+use Rattle.std.proofs.Common.{◌≡◌, ℕ, ◌<◌, Bool, true, false, cond, List, [], ◌∷◌, ◌++◌, length, Option, Some, None, Result, Ok, Err, ◌⊎◌, inl, inr, refl, sym, ap, ◌∙◌, eqb, arith}
+use Rattle.std.specs.Prelude.{codes, IfOk}
 use Rattle.std.specs.List.{flat_map}
 use Rattle.std.proofs.lemmas.Bool.{eqb-true}
 use Rattle.std.proofs.lemmas.List.{append-nil, length-append, nil_from_length}
@@ -14,7 +14,6 @@ use Rattle.privtrans_app.specs.declared.early.Statement.{Statement}
 use Rattle.privtrans_app.specs.declared.early.Statement.TheVariants as statement
 use Rattle.privtrans_app.specs.declared.early.Source.{Source}
 use Rattle.privtrans_app.specs.declared.early.Source.TheVariants as source
-use Rattle.privtrans_app.specs.declared.early.Call.{Call}
 use Rattle.privtrans_app.specs.declared.early.Arg.{Arg}
 use Rattle.privtrans_app.specs.declared.early.Arg.TheVariants as arg
 use Rattle.privtrans_app.specs.declared.early_token.ReadError.{ReadError}
@@ -23,7 +22,7 @@ use Rattle.privtrans_app.specs.declared.early_token.Token.TheVariants.{Fixed, Na
 use Rattle.privtrans_app.specs.declared.early_token.Symbol.{Symbol}
 use Rattle.privtrans_app.specs.declared.early_token.Symbol.TheVariants.{Int, Void, Return, Attribute, Main, OpenParen, CloseParen, OpenBrace, CloseBrace, Comma, Semicolon, Equal}
 use Rattle.privtrans_app.specs.EarlySpelling.{fixed, spelled_priv, spelled_end, spelled_param_mark, spelled_host_mark, spelled_param, spelled_params, spelled_result, spelled_host, spelled_arg, spelled_args, spelled_call, spelled_source, spelled_statement, spelled_variable, spelled}
-use Rattle.privtrans_app.specs.EarlySteps.{◌>>=◌, Gives, Reader, begins, begins_number, begins_call, skip, skip_word, skip_both, name_at, number_at, nothing, behind, before, both, made, choose, many}
+use Rattle.privtrans_app.specs.EarlySteps.{◌>>=◌, Gives, Reader, begins, begins_number, begins_call, skip, nothing, behind, both, choose, many}
 use Rattle.privtrans_app.specs.EarlyReading.{skip_priv, skip_end, skip_declassify, is_marked, mark_of, listed, arg_of, source_of, statement_of, param_mark_at, host_mark_at, param_at, next_param_at, params_at, result_at, host_at, arg_at, next_arg_at, args_at, call_at, source_at, statement_at, variable_at, end_at, program_at, read_whole}
 use Rattle.privtrans_app.proofs.StepLemmas.{Skips, Exact, Any, either, bind_some, some_is, both-exact, behind-exact, before-exact, made-exact, choose-exact, weaker, shortens, many-exact, skip-exact, word-exact, skip_both-exact, name-exact, number-exact, nothing-exact}
 

@@ -1,5 +1,5 @@
 -- What the steps take, and that they take it again.
-use Rattle.std.proofs.Common.{◌≡◌, ℕ, zero, suc, ◌+◌, ◌-◌, ◌<◌, ◌≤◌, Bool, true, false, nat_lt, cond, List, [], ◌∷◌, ◌++◌, length, get_or, take, drop, drop-cons, map, Option, Some, None, ◌⊎◌, inl, inr, refl, sym, ap, subst, ◌∙◌, append_assoc, eq-eqb, arith}
+use Rattle.std.proofs.Common.{◌≡◌, ℕ, zero, suc, ◌<◌, ◌≤◌, Bool, true, false, nat_lt, cond, List, [], ◌∷◌, ◌++◌, length, get_or, Option, Some, None, ◌⊎◌, inl, inr, refl, sym, ap, subst, ◌∙◌, append_assoc, eq-eqb, arith}
 use Rattle.std.specs.List.{flat_map}
 use Rattle.std.specs.Str.{bytes_eq}
 use Rattle.std.proofs.lemmas.Bool.{cases_lt, lt-ltb, le-ltb, eqb-true}
@@ -10,7 +10,7 @@ use Rattle.privtrans_app.specs.declared.early_token.Token.TheVariants.{Fixed, Na
 use Rattle.privtrans_app.specs.declared.early_token.Symbol.{Symbol}
 use Rattle.privtrans_app.specs.declared.early_token.Symbol.TheVariants.{Int, Void, Return, Attribute, Main, OpenParen, CloseParen, OpenBrace, CloseBrace, Comma, Semicolon, Equal}
 use Rattle.privtrans_app.specs.EarlySpelling.{fixed}
-use Rattle.privtrans_app.specs.EarlySteps.{◌>>=◌, Reader, Skipper, number_of_symbol, is_symbol, begins, begins_number, begins_call, skip, skip_word, skip_both, name_at, number_at, nothing, behind, before, both, made, choose, gathered, gather, all_of, many}
+use Rattle.privtrans_app.specs.EarlySteps.{◌>>=◌, Reader, Skipper, number_of_symbol, is_symbol, skip, skip_word, skip_both, name_at, number_at, nothing, behind, before, both, made, choose, gathered, gather, all_of, many}
 
 -- ---- lists, read as long as there is a part
 
@@ -153,6 +153,7 @@ choose-exact {A = A} {B = B} F test s t p q P Q first second = record {
     by ts z false e =
         let a = bind_some (q ts) (λ x. Some (inr x.0, x.1)) z e in
         subst (λ (z : (A ⊎ B) × List Token). ts ≡ either s t z.0 ++ z.1) (some_is (inr a.0.0, a.0.1) z a.2) (Q.takes ts a.0 a.1)
+
     choice : (z : A ⊎ B) (rest : List Token) → F rest → choose test p q (either s t z ++ rest) ≡ Some (z, rest)
     choice (inl x) rest f =
         ap (λ b. cond b (made inl p (s x ++ rest)) (made inr q (s x ++ rest))) (first x rest f) ∙ ap (λ (o : Option (A × List Token)). o >>= λ x. Some (inl x.0, x.1)) (P.again x rest f)
@@ -180,9 +181,11 @@ many-exact {A = A} s p P filled = record {
         within : (b : Bool) → (let y : List A × List Token = cond b (x.0 ∷ (gather p n x.1).0, (gather p n x.1).1) ([], ts) in ts ≡ flat_map s y.0 ++ y.1)
         within true = P.takes ts x e ∙ ap (λ (r : List Token). s x.0 ++ r) (others x.1) ∙ sym (append_assoc (s x.0) (flat_map s (gather p n x.1).0) (gather p n x.1).1)
         within false = refl
+
     gathers : (n : ℕ) (ts : List Token) → ts ≡ flat_map s (gather p n ts).0 ++ (gather p n ts).1
     gathers zero ts = refl
     gathers (suc n) ts = by n ts (p ts) refl (gathers n)
+
     regathers : (xs : List A) (rest : List Token) → p rest ≡ None → all_of p (flat_map s xs ++ rest) ≡ (xs, rest)
     regathers [] rest h = all_of-none p rest h
     regathers (x ∷ xs) rest h =

@@ -4,7 +4,6 @@ use Rattle.privtrans_app.specs.declared.early.Program.{Program}
 use Rattle.privtrans_app.specs.declared.early_token.Token.{Token}
 use Rattle.privtrans_app.specs.EarlySteps.{◌>>=◌}
 use Rattle.privtrans_app.specs.EarlyTokens.{tokens_of}
-use Rattle.privtrans_app.specs.EarlySpelling.{spelled}
 use Rattle.privtrans_app.specs.EarlyReading.{read_whole}
 use Rattle.privtrans_app.specs.EarlyText.{IsEarlyText, OneTree, program_of}
 use Rattle.privtrans_app.proofs.StepLemmas.{bind_some, some_is}

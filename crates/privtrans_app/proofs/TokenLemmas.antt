@@ -1,6 +1,6 @@
 -- The runs of a text from its front on, and the tokens that they give.
-use Rattle.std.proofs.Common.{◌≡◌, ℕ, zero, suc, ◌+◌, ◌-◌, ◌*◌, ◌<◌, ◌≤◌, Bool, true, false, not, ◌&&◌, ◌||◌, nat_le, cond, List, [], ◌∷◌, ◌++◌, length, get_or, take, drop, drop-cons, map, Option, Some, None, refl, sym, ap, subst, ◌∙◌, append_assoc, arith, rules}
-use Rattle.std.specs.List.{find, list_all, prefix_len}
+use Rattle.std.proofs.Common.{◌≡◌, ℕ, suc, ◌+◌, ◌-◌, ◌*◌, ◌<◌, ◌≤◌, Bool, true, false, ◌&&◌, nat_le, cond, List, [], ◌∷◌, ◌++◌, length, get_or, take, drop, drop-cons, map, Option, Some, None, refl, sym, ap, ◌∙◌, append_assoc, arith}
+use Rattle.std.specs.List.{find, prefix_len}
 use Rattle.std.specs.Option.{option_map}
 use Rattle.std.specs.Str.{bytes_eq}
 use Rattle.std.proofs.lemmas.Bool.Decides.{nat_tests}
@@ -11,7 +11,7 @@ use Rattle.privtrans_app.specs.declared.early_token.Symbol.{Symbol}
 use Rattle.privtrans_app.specs.declared.early_token.ReadError.{ReadError}
 use Rattle.privtrans_app.specs.declared.early_token.ReadError.TheVariants.{Memory, NotEarly}
 use Rattle.privtrans_app.specs.EarlySteps.{◌>>=◌, Fails}
-use Rattle.privtrans_app.specs.EarlyTokens.{is_blank, is_digit, is_word_byte, begins_with, joined, runs, is_decimal, value_from, number_of, token_of, tokens_in, tokens_of}
+use Rattle.privtrans_app.specs.EarlyTokens.{is_blank, is_word_byte, begins_with, joined, runs, is_decimal, value_from, number_of, token_of, tokens_in, tokens_of}
 
 value_from-grows : (n : ℕ) (bs : List ℕ) → n ≤ value_from n bs
 value_from-grows n [] = omega arith

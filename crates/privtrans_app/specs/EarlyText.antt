@@ -1,5 +1,5 @@
 -- Which texts are early programs, and of which tree.
-use Rattle.std.specs.Prelude.{◌≡◌, ℕ, List, Option, Some, None}
+use Rattle.std.specs.Prelude.{◌≡◌, ℕ, List, Option, Some}
 use Rattle.privtrans_app.specs.declared.early.Program.{Program}
 use Rattle.privtrans_app.specs.EarlySteps.{◌>>=◌}
 use Rattle.privtrans_app.specs.EarlyTokens.{tokens_of}

@@ -87,7 +87,10 @@ fn number(tokens: &[Token]) -> Result<(u32, &[Token]), ReadError>
 fn skip_priv(tokens: &[Token]) -> Result<&[Token], ReadError>
     ensures { Gives (λ x. x.now) result (skip_priv tokens.now) }
 {
-    let rest = skip(tokens, &[Symbol::Attribute, Symbol::OpenParen, Symbol::OpenParen])?;
+    let rest = skip(
+        tokens,
+        &[Symbol::Attribute, Symbol::OpenParen, Symbol::OpenParen],
+    )?;
     skip_word(rest, b"priv")
 }
 

@@ -32,5 +32,50 @@ pub fn read_program(alloc: Global, text: &[u8]) -> Result<Option<Program>, Alloc
 /// A text is an early program of one tree at most. It does nothing.
 pub fn one_tree()
     ensures { OneTree }
-{
+{}
+
+#[cfg(test)]
+mod tests {
+    use super::*;
+    use std::test::Fail;
+
+    const TEXTS: [(&str, bool); 16] = [
+        ("int main(void) { return 0; }", true),
+        ("int\nmain ( void ) {return 2147483647;}\n", true),
+        (
+            "int priv(int declassify); int main(void) { int x; x = priv(7); priv(x); return 0; }",
+            true,
+        ),
+        (
+            "__attribute__((priv)) int f(void); int main(void) { f(); return 0; }",
+            true,
+        ),
+        (
+            "__attribute__((priv, declassify)) int f(__attribute__((priv)) int k, int n); void g(int n); int main(void) { int k; int s; k = 5; s = f(k, 5); k = s; g(s); return 0; }",
+            true,
+        ),
+        ("", false),
+        ("int main(void) { return 2147483648; }", false),
+        ("int main(void) { return 00; }", false),
+        ("int main(void) { return 0;\t}", false),
+        ("int main(void) { return 0; } ;", false),
+        ("int main(void) { return0; }", false),
+        ("int main() { return 0; }", false),
+        ("int main(void) { int x; x = 1; int y; return 0; }", false),
+        ("int while(void); int main(void) { return 0; }", false),
+        ("int f(int main); int main(void) { return 0; }", false),
+        (
+            "__attribute__((declassify)) int f(void); int main(void) { return 0; }",
+            false,
+        ),
+    ];
+
+    #[test]
+    fn texts_are_early_or_not(rt: HostRuntime) -> Result<(), Fail> {
+        for (text, early) in TEXTS {
+            let program = read_program(rt.alloc(), text.as_bytes())?;
+            assert_eq!(rt; program.is_some(), early, "{text}");
+        }
+        Ok(())
+    }
 }

@@ -1,6 +1,4 @@
-use Rattle.std.proofs.Common.{◌≡◌, ◌<◌, ℕ, true, get_or, length, sym, subst, ◌∙◌, ◌∷◌, take, drop, arith}
-use Rattle.std.specs.List.{prefix_len}
-use Rattle.privtrans_app.specs.EarlyTokens.{is_word_byte, runs}
+use Rattle.std.proofs.Common.{sym, ◌∙◌, arith}
 use Rattle.privtrans_app.proofs.TokenLemmas.{word_first, sign_first}
 use Rattle.privtrans_app.proofs.early_lexer.run_len.Goals as goal
 

@@ -1,6 +1,5 @@
-use Rattle.std.proofs.Common.{◌≡◌, ◌++◌, ◌∷◌, [], sym, ◌∙◌, take, drop, arith}
+use Rattle.std.proofs.Common.{arith}
 use Rattle.std.proofs.lemmas.Result.{err_from_is_err_and}
-use Rattle.privtrans_app.specs.EarlyTokens.{is_blank, runs}
 use Rattle.privtrans_app.proofs.TokenLemmas.{blank_skipped, run_read, run_refused, text_read}
 use Rattle.privtrans_app.proofs.early_lexer.tokens_of.Goals as goal
 
