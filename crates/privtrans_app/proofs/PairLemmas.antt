@@ -29,6 +29,7 @@ use Rattle.privtrans_app.specs.declared.early.Statement.{Statement}
 use Rattle.privtrans_app.specs.declared.early.Statement.TheVariants.{Set, Do}
 use Rattle.privtrans_app.specs.declared.held.Held.{Held}
 use Rattle.privtrans_app.specs.declared.held.Held.TheVariants.{Plain, Handle}
+use Rattle.privtrans_app.specs.Marks.{is_privileged, is_declassified}
 
 -- a handle is stored, and stands only where it may
 abbrev pub HandleFits : ℕ → Type 0 → Held → Type 0
@@ -40,7 +41,7 @@ no_number = Plain (pos 0)
 
 -- a guarded call of this function is one of a privileged host
 abbrev pub IsGuarded : List Host → ℕ → Type 0
-IsGuarded hosts f = (h : Host) × (slice_get hosts f ≡ Some h) × (h.privileged ≡ true)
+IsGuarded hosts f = (h : Host) × (slice_get hosts f ≡ Some h) × (is_privileged h.mark ≡ true)
 
 abbrev pub AreGuarded : List Host → List Event → Type 0
 AreGuarded hosts [] = ⊤
@@ -101,8 +102,8 @@ host_good_or (k ∷ hosts) name good =
 pub host_good : (hosts : List Host) (name : List ℕ) (h : Host) → hosts_are_good hosts ≡ true → host_of hosts name ≡ Some h → host_is_good h ≡ true
 host_good hosts name h good is = subst IsGood is (host_good_or hosts name good)
 
-marks_good : (h : Host) → host_is_good h ≡ true → (h.privileged || not (has_marked h.params)) ≡ true
-marks_good h good = (both (nat_lt (length h.params) 9 && all_differ (param_names h.params)) (h.privileged || not (has_marked h.params)) good).1
+marks_good : (h : Host) → host_is_good h ≡ true → (is_privileged h.mark || not (has_marked h.params)) ≡ true
+marks_good h good = (both (nat_lt (length h.params) 9 && all_differ (param_names h.params)) (is_privileged h.mark || not (has_marked h.params)) good).1
 
 pub signature_at : (hosts : List Host) (f : ℕ) (h : Host) → slice_get hosts f ≡ Some h → slice_get (map signature_of hosts) f ≡ Some (signature_of h)
 signature_at [] f h is = cc
@@ -125,7 +126,7 @@ written_out None = refl
 written_out (Some bytes) = append-nil bytes
 
 written_guarded : (h : Host) (f : ℕ) (vs : List ℤ) → written (guarded_event (Some (signature_of h)) f vs) ≡ []
-written_guarded h f vs = go h.privileged
+written_guarded h f vs = go (is_privileged h.mark)
   where
     go : (b : Bool) → written (if b then guarded f (plain_numbers (map param_of h.params) vs) ∷ [] else []) ≡ []
     go true = refl
@@ -141,9 +142,9 @@ guarded_out hosts None = tt
 guarded_out hosts (Some bytes) = tt
 
 guarded_call : (hosts : List Host) (h : Host) (f : ℕ) (vs : List ℤ) → slice_get hosts f ≡ Some h → AreGuarded hosts (guarded_event (Some (signature_of h)) f vs)
-guarded_call hosts h f vs is = go h.privileged refl
+guarded_call hosts h f vs is = go (is_privileged h.mark) refl
   where
-    go : (b : Bool) → h.privileged ≡ b → AreGuarded hosts (if b then guarded f (plain_numbers (map param_of h.params) vs) ∷ [] else [])
+    go : (b : Bool) → is_privileged h.mark ≡ b → AreGuarded hosts (if b then guarded f (plain_numbers (map param_of h.params) vs) ∷ [] else [])
     go true e = ((h, is, e), tt)
     go false e = tt
 
@@ -346,17 +347,17 @@ pub record CallGoes (names : List (List ℕ)) (T : ℕ → Type 0) (hosts : List
 pub host_goes : (names : List (List ℕ)) (T : ℕ → Type 0) (hosts : List Host) (models : List HostModel) (pair : Pair) (st : State) (c : Call) (h : Host) (left : ℕ)
     → Agrees (length names) T hosts models pair st → AreSteady models → host_of hosts c.callee ≡ Some h → host_is_good h ≡ true
     → length h.params ≡ length c.args → args_are_good names c.args ≡ true → ArgsKeep (λ x. T (place_in names x)) h.params c.args → st.left ≡ suc left
-    → CallGoes names T hosts models pair st c (h.privileged && not h.declassify)
+    → CallGoes names T hosts models pair st c (is_privileged h.mark && not (is_declassified h.mark))
         (host_called h (model_at models (place_in (names_of hosts) c.callee)) (args_held names pair.variables c.args) pair)
 host_goes names T hosts models pair st c h left agrees steady is good same args keeps turns =
     let f : ℕ = place_in (names_of hosts) c.callee in
     let vs : List ℤ = numbers_of (cells_of pair.stored (args_held names pair.variables c.args)) in
-    let answer : Answer = host_step [] (model_at models f) (call_numbers h.privileged pair.stored (sent h.params (args_held names pair.variables c.args))) in
+    let answer : Answer = host_step [] (model_at models f) (call_numbers (is_privileged h.mark) pair.stored (sent h.params (args_held names pair.variables c.args))) in
     let at : slice_get hosts f ≡ Some h = host_at hosts c.callee h is in
-    let marks : (h.privileged || not (has_marked h.params)) ≡ true = marks_good h good in
+    let marks : (is_privileged h.mark || not (has_marked h.params)) ≡ true = marks_good h good in
     let same_answer : host_step st.input (st.hosts f) vs ≡ answer =
       ap (λ input. host_step input (st.hosts f) vs) agrees.no_input ∙ ap (λ m. host_step [] m vs) (agrees.models_are f)
-        ∙ ap (host_step [] (model_at models f)) (sym (numbers_fit names T hosts models pair st agrees h.privileged h.params c.args marks same args keeps)) in
+        ∙ ap (host_step [] (model_at models f)) (sym (numbers_fit names T hosts models pair st agrees (is_privileged h.mark) h.params c.args marks same args keeps)) in
     record {
       value = result_value answer.result;
       after = answered_state hosts f left vs answer st;
@@ -364,8 +365,8 @@ host_goes names T hosts models pair st c h left agrees steady is good same args 
         ap (λ r. r >>= host_call (map signature_of hosts) 1 f) (args_values names T hosts models pair st (host_call (map signature_of hosts)) agrees c.args args)
           ∙ ap (λ n. take_turn n st (λ st1. answered f (host_step st1.input (st1.hosts f) vs) (record st1 { events = st1.events ++ guarded_event (slice_get (map signature_of hosts) f) f vs }))) turns
           ∙ ap (λ a. answered f a (record st { left = left; events = st.events ++ guarded_event (slice_get (map signature_of hosts) f) f vs })) same_answer;
-      agrees = reply_agrees (length names) T hosts models (record pair { out = pair.out ++ bytes_of answer.written }) (answered_state hosts f left vs answer st) (h.privileged && not h.declassify) answer.result
+      agrees = reply_agrees (length names) T hosts models (record pair { out = pair.out ++ bytes_of answer.written }) (answered_state hosts f left vs answer st) (is_privileged h.mark && not (is_declassified h.mark)) answer.result
         (answer_agrees (length names) T hosts models pair st h f left vs answer agrees at (steady_next (model_at models f) _ (steady_at models f steady)));
       left = omega (arith, turns);
-      result = reply_is (h.privileged && not h.declassify) answer.result (record pair { out = pair.out ++ bytes_of answer.written });
+      result = reply_is (is_privileged h.mark && not (is_declassified h.mark)) answer.result (record pair { out = pair.out ++ bytes_of answer.written });
     }

@@ -29,6 +29,7 @@ use Rattle.privtrans_app.specs.declared.early.Statement.TheVariants.{Set, Do}
 use Rattle.privtrans_app.specs.declared.early.Program.{Program}
 use Rattle.privtrans_app.specs.declared.held.Held.{Held}
 use Rattle.privtrans_app.specs.declared.held.Held.TheVariants.{Plain, Handle}
+use Rattle.privtrans_app.specs.Marks.{is_privileged}
 
 -- ---- calls
 
@@ -222,14 +223,14 @@ declared_cells from (suc count) i memory le lt = go (nat_eq i from) refl (λ mor
 
 -- ---- what is expected
 
-allowed_at : (hosts : List Host) (allowed : List (List ℕ)) (f : ℕ) (h : Host) → slice_get hosts f ≡ Some h → h.privileged ≡ true → AllAllowed hosts allowed
+allowed_at : (hosts : List Host) (allowed : List (List ℕ)) (f : ℕ) (h : Host) → slice_get hosts f ≡ Some h → is_privileged h.mark ≡ true → AllAllowed hosts allowed
     → is_in allowed (get_or (names_of hosts) f []) ≡ true
 allowed_at [] allowed f h is privileged all = cc
 allowed_at (k ∷ hosts) allowed zero h is privileged all = subst (λ (o : Option Host). IsAllowed o) is all.0 privileged
   where
     IsAllowed : Option Host → Type 0
     IsAllowed None = ⊤
-    IsAllowed (Some x) = x.privileged ≡ true → is_in allowed k.name ≡ true
+    IsAllowed (Some x) = is_privileged x.mark ≡ true → is_in allowed k.name ≡ true
 allowed_at (k ∷ hosts) allowed (suc f) h is privileged all = allowed_at hosts allowed f h is privileged all.1
 
 all_expected : (hosts : List Host) (state : List ℕ) (allowed : List (List ℕ)) (events : List Event) (end : End) (calls : ℕ) → AreGuarded hosts events → AllAllowed hosts allowed

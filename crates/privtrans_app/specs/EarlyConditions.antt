@@ -13,6 +13,7 @@ use Rattle.privtrans_app.specs.declared.early.Source.TheVariants.{Number as From
 use Rattle.privtrans_app.specs.declared.early.Statement.{Statement}
 use Rattle.privtrans_app.specs.declared.early.Statement.TheVariants.{Set, Do}
 use Rattle.privtrans_app.specs.declared.early.Program.{Program}
+use Rattle.privtrans_app.specs.Marks.{is_privileged}
 
 -- the host of a name, the first where there are several
 abbrev pub host_of : List Host → List ℕ → Option Host
@@ -29,7 +30,7 @@ has_marked (p ∷ ps) = p.marked || has_marked ps
 
 -- a host has at most 8 parameters, of different names, and marked ones only where it is privileged
 abbrev pub host_is_good : Host → Bool
-host_is_good h = nat_lt (length h.params) 9 && all_differ (param_names h.params) && (h.privileged || not (has_marked h.params))
+host_is_good h = nat_lt (length h.params) 9 && all_differ (param_names h.params) && (is_privileged h.mark || not (has_marked h.params))
 
 abbrev pub hosts_are_good : List Host → Bool
 hosts_are_good [] = true

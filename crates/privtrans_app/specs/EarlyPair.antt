@@ -20,6 +20,7 @@ use Rattle.privtrans_app.specs.declared.early.Statement.TheVariants.{Set, Do}
 use Rattle.privtrans_app.specs.declared.early.Program.{Program}
 use Rattle.privtrans_app.specs.declared.held.Held.{Held}
 use Rattle.privtrans_app.specs.declared.held.Held.TheVariants.{Plain, Handle}
+use Rattle.privtrans_app.specs.Marks.{is_privileged, is_declassified}
 
 -- What both halves hold: the slave's variables, the monitor's stored values, and the bytes that were
 -- written.
@@ -85,8 +86,8 @@ replied false (Some v) pair = record { result = Some (Plain v); pair = pair }
 
 abbrev pub host_called : Host → HostModel → List Held → Pair → Called
 host_called h model helds pair =
-    let answer = host_step [] model (call_numbers h.privileged pair.stored (sent h.params helds)) in
-    replied (h.privileged && not h.declassify) answer.result (record pair { out = pair.out ++ bytes_of answer.written })
+    let answer = host_step [] model (call_numbers (is_privileged h.mark) pair.stored (sent h.params helds)) in
+    replied (is_privileged h.mark && not (is_declassified h.mark)) answer.result (record pair { out = pair.out ++ bytes_of answer.written })
 
 -- a call of the host of this name
 abbrev pub called_of : Option Host → HostModel → List Held → Pair → Called

@@ -5,6 +5,7 @@ use Rattle.std.specs.Char.{is_ascii_alphanumeric}
 use Rattle.std.specs.List.{flat_map, list_all, list_any}
 use Rattle.std.specs.Str.{bytes_eq}
 use Rattle.privtrans_app.specs.declared.early.Host.{Host}
+use Rattle.privtrans_app.specs.Marks.{is_privileged}
 
 -- a letter, a digit or `_`
 abbrev pub is_state_byte : ℕ → Bool
@@ -39,7 +40,7 @@ pub record IsSpelling (text state : List ℕ) (functions : List (List ℕ)) : Ty
 
 -- the names of the privileged hosts, in order
 abbrev pub privileged_names : List Host → List (List ℕ)
-privileged_names hosts = map (λ h. h.name) (filter (λ h. h.privileged) hosts)
+privileged_names hosts = map (λ h. h.name) (filter (λ h. is_privileged h.mark) hosts)
 
 -- each of xs is among ys
 abbrev pub all_among : List (List ℕ) → List (List ℕ) → Bool

@@ -11,6 +11,7 @@ use Rattle.privtrans_app.specs.EarlyTaint.{KeepsTaint}
 use Rattle.privtrans_app.specs.EarlyPair.{Pair, model_at, pair_run}
 use Rattle.privtrans_app.specs.declared.early.Host.{Host}
 use Rattle.privtrans_app.specs.declared.early.Program.{Program}
+use Rattle.privtrans_app.specs.Marks.{is_privileged}
 
 -- the model answers every call alike
 abbrev pub is_steady : HostModel → Bool
@@ -35,7 +36,7 @@ early_answers hosts state allowed = record {
 -- each privileged host's name is allowed
 abbrev pub AllAllowed : List Host → List (List ℕ) → Type 0
 AllAllowed [] allowed = ⊤
-AllAllowed (h ∷ hs) allowed = (h.privileged ≡ true → is_in allowed h.name ≡ true) × AllAllowed hs allowed
+AllAllowed (h ∷ hs) allowed = (is_privileged h.mark ≡ true → is_in allowed h.name ≡ true) × AllAllowed hs allowed
 
 -- the pair of an early program writes what is expected of it, and the program returns its number
 abbrev pub PairKeeps : Type 0

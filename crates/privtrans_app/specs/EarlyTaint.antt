@@ -17,6 +17,7 @@ use Rattle.privtrans_app.specs.declared.early.Source.TheVariants.{Number as From
 use Rattle.privtrans_app.specs.declared.early.Statement.{Statement}
 use Rattle.privtrans_app.specs.declared.early.Statement.TheVariants.{Set, Do}
 use Rattle.privtrans_app.specs.declared.early.Program.{Program}
+use Rattle.privtrans_app.specs.Marks.{is_privileged, is_declassified}
 
 -- a variable's slot
 abbrev pub slot_of : List (List ℕ) → List ℕ → Slot
@@ -25,7 +26,7 @@ slot_of names x = record { 0 = place_in names x }
 -- the result of a host is sealed: it is marked `priv` alone
 abbrev pub is_sealed : Option Host → Bool
 is_sealed None = false
-is_sealed (Some h) = h.privileged && not h.declassify
+is_sealed (Some h) = is_privileged h.mark && not (is_declassified h.mark)
 
 -- the variable to which a statement assigns a sealed result
 abbrev pub sealed_target_of : List Host → List (List ℕ) → Statement → Option Slot

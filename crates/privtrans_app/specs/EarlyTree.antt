@@ -16,6 +16,7 @@ use Rattle.privtrans_app.specs.declared.early.Source.TheVariants.{Number as From
 use Rattle.privtrans_app.specs.declared.early.Statement.{Statement}
 use Rattle.privtrans_app.specs.declared.early.Statement.TheVariants.{Set, Do}
 use Rattle.privtrans_app.specs.declared.early.Program.{Program}
+use Rattle.privtrans_app.specs.Marks.{is_privileged, is_declassified}
 
 -- the names of hosts
 abbrev pub names_of : List Host → List (List ℕ)
@@ -32,8 +33,8 @@ signature_of h = record {
   result = if h.gives then Some Int else None;
   params = map param_of h.params;
   host = true;
-  privileged = h.privileged;
-  declassify = h.declassify;
+  privileged = is_privileged h.mark;
+  declassify = is_declassified h.mark;
 }
 
 -- an argument, where the variables have these names

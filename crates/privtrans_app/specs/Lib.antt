@@ -2,10 +2,16 @@ pub mod EarlyConditions
 pub mod EarlyHosts
 pub mod EarlyPair
 pub mod EarlyPolicy
+pub mod EarlyReading
 pub mod EarlyRun
+pub mod EarlySpelling
+pub mod EarlySteps
 pub mod EarlyTaint
+pub mod EarlyText
+pub mod EarlyTokens
 pub mod EarlyTree
 pub mod Index
 pub mod Lookup
+pub mod Marks
 pub mod Names
 pub mod PairView

@@ -56,7 +56,7 @@ fn is_good_host(host: &Host) -> bool
     ensures { result ≡ host_is_good host.now }
 {
     let params = host.params.as_slice();
-    params.len() < 9 && params_differ(params) && (host.privileged || !any_marked(params))
+    params.len() < 9 && params_differ(params) && (host.mark.is_privileged() || !any_marked(params))
 }
 
 fn are_good_hosts(hosts: &[Host]) -> bool

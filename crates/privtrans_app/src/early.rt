@@ -1,4 +1,7 @@
 // The tree of an early program: hosts, and a main without branches, by their names.
+ghost use Rattle.std.specs.Prelude.{◌≡◌, ◌&&◌, not};
+ghost use Rattle.privtrans_app.specs.Marks.{is_privileged, is_declassified};
+
 use pt_base::{Bytes, Listed};
 
 /// A parameter of a host, of type int.
@@ -9,14 +12,46 @@ pub struct HostParam {
     pub marked: bool,
 }
 
+/// How a host is marked.
+#[derive(Clone, Copy, PartialEq, Eq, Debug)]
+pub enum HostMark {
+    /// It has no mark.
+    Plain,
+    /// It is marked `priv` alone.
+    Priv,
+    /// It is marked `priv` and `declassify`.
+    Declassify,
+}
+
+impl HostMark {
+    /// It is marked `priv`.
+    pub(crate) fn is_privileged(self) -> bool
+        ensures { result ≡ is_privileged self }
+    {
+        match self {
+            HostMark::Plain => false,
+            HostMark::Priv => true,
+            HostMark::Declassify => true,
+        }
+    }
+
+    /// The result of the host stays with the monitor: it is marked `priv` alone.
+    pub(crate) fn is_sealed(self) -> bool
+        ensures { result ≡ (is_privileged self && not (is_declassified self)) }
+    {
+        match self {
+            HostMark::Plain => false,
+            HostMark::Priv => true,
+            HostMark::Declassify => false,
+        }
+    }
+}
+
 /// The declaration of a host.
 #[derive(Drop)]
 pub struct Host {
     pub name: Bytes,
-    /// It is marked `priv`.
-    pub privileged: bool,
-    /// It is marked `declassify` beside `priv`.
-    pub declassify: bool,
+    pub mark: HostMark,
     /// Its result is int, and not void.
     pub gives: bool,
     pub params: Listed<HostParam>,

@@ -77,9 +77,9 @@ impl Pair {
             host.params.as_slice(),
             call.args.as_slice(),
         )?;
-        let values = numbers(alloc, host.privileged, &self.stored, &list)?;
+        let values = numbers(alloc, host.mark.is_privileged(), &self.stored, &list)?;
         let given = answer(model, &values, &mut self.out)?;
-        self.reply(host.privileged && !host.declassify, given)
+        self.reply(host.mark.is_sealed(), given)
     }
 
     // The call of a statement.

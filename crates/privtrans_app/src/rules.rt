@@ -190,7 +190,7 @@ fn names_of<'a>(alloc: Global, hosts: &'a [Host]) -> Result<Vec<&'a [u8]>, Alloc
 {
     let mut names = Vec::new(alloc);
     for host in hosts {
-        if host.privileged {
+        if host.mark.is_privileged() {
             names.push(host.name.as_slice())?;
         }
     }

@@ -27,7 +27,7 @@ fn seals(names: &Names, hosts: &[Host], call: &Call) -> bool
     ensures { result ≡ is_sealed (host_of hosts.now call.now.callee) }
 {
     match host_named(&names.hosts, hosts, call.callee.as_slice()) {
-        Some(named) => named.host.privileged && !named.host.declassify,
+        Some(named) => named.host.mark.is_sealed(),
         None => false,
     }
 }
