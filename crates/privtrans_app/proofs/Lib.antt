@@ -5,4 +5,5 @@ pub mod IndexLemmas
 pub mod LookupLemmas
 pub mod PairLemmas
 pub mod RunLemmas
+pub mod TableAndPolicy
 pub mod TaintLemmas
