@@ -1,18 +1,29 @@
 -- Each text is read in one way as the lines of an early policy.
-use Rattle.std.proofs.Common.{◌≡◌, ◌≢◌, ℕ, ◌+◌, ◌<◌, ◌≤◌, Bool, true, false, not, ◌&&◌, ◌||◌, ◌==◌, List, [], ◌∷◌, ◌++◌, map, length, codes, Option, Some, None, MatchOption, Bor, cond, refl, sym, ap, ◌∙◌, subst, arith}
+use Rattle.std.proofs.Common.{◌≡◌, ◌≢◌, ℕ, ◌+◌, ◌<◌, ◌≤◌, Bool, true, false, not, ◌&&◌, ◌||◌, ◌==◌, List, [], ◌∷◌, ◌++◌, map, length, drop, get_or, drop-cons, add-one, if◌then◌else◌, codes, Option, Some, None, MatchOption, Bor, cond, refl, sym, ap, ◌∙◌, subst, arith}
 use Rattle.std.proofs.lemmas.Bool.{false≢true}
 use Rattle.std.proofs.lemmas.Bool.Decides.{Decides-eqb}
 use Rattle.std.proofs.lemmas.List.{append_cancel_left, append_assoc, append-nil, length-append}
-use Rattle.std.proofs.lemmas.List.Folds.{list_all-append, list_all-map}
+use Rattle.std.proofs.Math.Seq.{drop-length}
+use Rattle.std.proofs.lemmas.List.Folds.{list_all-append}
 use Rattle.std.proofs.lemmas.List.Sums.{take_while-cons}
-use Rattle.std.specs.List.{list_all, list_any, take_while}
+use Rattle.std.proofs.lemmas.Slice.Eq.{bytes_eq-Decides}
+use Rattle.std.specs.List.{list_all, take_while}
 use Rattle.std.specs.Str.{bytes_eq}
-use Rattle.privtrans_app.specs.EarlyPolicy.{is_state_byte, is_state, is_word_byte, is_word, line_of, spelled_policy, IsSpelling, privileged_names, all_among, IsEarlyPolicy}
+use Rattle.privtrans_app.specs.EarlyPolicy.{is_state_byte, is_state, is_word_byte, is_word, line_of, spelled_policy, IsSpelling, privileged_names, all_in, SameNames, IsEarlyPolicy}
+use Rattle.privtrans_app.specs.Names.{is_in}
 use Rattle.privtrans_app.specs.declared.early.Host.{Host}
 
 both : (a b : Bool) → (a && b) ≡ true → (a ≡ true) × (b ≡ true)
 both true b e = (refl, e)
 both false b e = absurd (false≢true e)
+
+or_false : (b : Bool) → (b || false) ≡ b
+or_false true = refl
+or_false false = refl
+
+or_assoc : (a b c : Bool) → (a || (b || c)) ≡ ((a || b) || c)
+or_assoc true b c = refl
+or_assoc false b c = refl
 
 -- ---- parts of a text
 
@@ -187,36 +198,67 @@ spelling_unique text v w (f ∷ fs) (g ∷ gs) s t =
     let left = left_of v (f ∷ fs) (g ∷ gs) [] s.words t.words (append-nil (spelled_policy v (f ∷ fs)) ∙ sym s.spelled ∙ again) in
     sym (left.joined ∙ ap (λ more. (f ∷ fs) ++ more) (nothing_left v left.more left.spelled) ∙ append-nil (f ∷ fs))
 
--- ---- words among words
+-- ---- names in an index
 
-list_any-map : {A B : Type 0} (p : B → Bool) (h : A → B) (xs : List A) → list_any p (map h xs) ≡ list_any (λ x. p (h x)) xs
-list_any-map p h [] = refl
-list_any-map p h (x ∷ xs) = ap (λ b. p (h x) || b) (list_any-map p h xs)
+is_in-push : (xs : List (List ℕ)) (y x : List ℕ) → is_in (xs ++ y ∷ []) x ≡ (is_in xs x || bytes_eq x y)
+is_in-push [] y x = or_false (bytes_eq x y)
+is_in-push (z ∷ xs) y x = ap (λ b. bytes_eq x z || b) (is_in-push xs y x) ∙ or_assoc (bytes_eq x z) (is_in xs x) (bytes_eq x y)
 
-all_among-lent : (words others : List (Bor (List ℕ))) →
-    list_all (λ w. list_any (λ o. bytes_eq o.now w.now) others) words ≡ all_among (map (λ w. w.now) words) (map (λ o. o.now) others)
-all_among-lent words others =
-    sym (list_all-map (λ x. list_any (λ y. bytes_eq y x) (map (λ o. o.now) others)) (λ w. w.now) words ∙ simp list_any-map)
+added : (b : Bool) (old new rest : List (List ℕ)) (y x : List ℕ) → b ≡ not (is_in old y) → new ≡ (if b then old ++ y ∷ [] else old)
+    → (is_in new x || is_in rest x) ≡ (is_in old x || (bytes_eq x y || is_in rest x))
+added true old new rest y x is e =
+    ap (λ ns. is_in ns x || is_in rest x) e ∙ ap (λ b. b || is_in rest x) (is_in-push old y x) ∙ sym (or_assoc (is_in old x) (bytes_eq x y) (is_in rest x))
+added false old new rest y x is e =
+    ap (λ ns. is_in ns x || is_in rest x) e ∙ known (bytes_eq x y) (is_in old x) (is_in rest x)
+    (λ same. subst (λ n. is_in old n ≡ true) (sym ((bytes_eq-Decides x y).0 same)) (was_in (is_in old y) is))
+  where
+    was_in : (b : Bool) → false ≡ not b → b ≡ true
+    was_in true e = refl
+    was_in false e = absurd (false≢true e)
 
-pub tested : (r b : Bool) (xs ys us vs : List (Bor (List ℕ))) (words others : List (List ℕ)) → r ≡ list_all (λ x. list_any (λ y. bytes_eq y.now x.now) ys) xs → r ≡ b
-    → xs ≡ us → ys ≡ vs → map (λ u. u.now) us ≡ words → map (λ v. v.now) vs ≡ others → all_among words others ≡ b
-tested r b xs ys us vs words others e t same_xs same_ys us_are vs_are =
-    rw (← us_are, ← vs_are, ← same_xs, ← same_ys) (sym (all_among-lent xs ys) ∙ sym e ∙ t)
+    known : (a b c : Bool) → (a ≡ true → b ≡ true) → (b || c) ≡ (b || (a || c))
+    known true b c h = rw (h refl) refl
+    known false b c h = refl
+
+-- one more word in an index, of those that go into it
+pub indexed_more : (old new all : List (List ℕ)) (words : List (Bor (List ℕ))) (i : ℕ) (d : Bor (List ℕ)) (b : Bool) → i < length words
+    → b ≡ not (is_in old (get_or words i d).now) → new ≡ (if b then old ++ (get_or words i d).now ∷ [] else old)
+    → ((x : List ℕ) → (is_in old x || is_in (map (λ v. v.now) (drop i words)) x) ≡ is_in all x)
+    → (x : List ℕ) → (is_in new x || is_in (map (λ v. v.now) (drop (i + 1) words)) x) ≡ is_in all x
+indexed_more old new all words i d b below is e h x =
+    let next : drop i words ≡ get_or words i d ∷ drop (i + 1) words = drop-cons words i d below ∙ rw add-one refl in
+    added b old new (map (λ v. v.now) (drop (i + 1) words)) (get_or words i d).now x is e
+    ∙ ap (λ vs. is_in old x || is_in (map (λ v. v.now) vs) x) (sym next)
+    ∙ h x
+
+pub indexed_all : (names all : List (List ℕ)) (words : List (Bor (List ℕ))) → ((x : List ℕ) → (is_in names x || is_in (map (λ v. v.now) (drop (length words) words)) x) ≡ is_in all x)
+    → SameNames names all
+indexed_all names all words h x =
+    sym (or_false (is_in names x)) ∙ ap (λ vs. is_in names x || is_in (map (λ v. v.now) vs) x) (sym (drop-length words)) ∙ h x
+
+list_all-same : (p q : List ℕ → Bool) → ((x : List ℕ) → p x ≡ q x) → (xs : List (List ℕ)) → list_all p xs ≡ list_all q xs
+list_all-same p q h [] = refl
+list_all-same p q h (x ∷ xs) = ap (λ b. b && list_all p xs) (h x) ∙ ap (λ b. q x && b) (list_all-same p q h xs)
+
+pub tested : (r b : Bool) (xs us ys vs : List (Bor (List ℕ))) (names words others : List (List ℕ)) → r ≡ all_in (map (λ x. x.now) xs) names → r ≡ b
+    → xs ≡ us → map (λ u. u.now) us ≡ words → SameNames names (map (λ y. y.now) ys) → ys ≡ vs → map (λ v. v.now) vs ≡ others → all_in words others ≡ b
+tested r b xs us ys vs names words others e t same_xs us_are same same_ys vs_are =
+    rw (← us_are, ← vs_are, ← same_xs, ← same_ys) (sym (list_all-same (is_in names) (is_in (map (λ y. y.now) ys)) same (map (λ x. x.now) xs)) ∙ sym e ∙ t)
 
 -- ---- the whole
 
 pub accepted : (text : List ℕ) (hosts : List Host) (v w : List ℕ) (fs gs : List (List ℕ)) → IsSpelling text v fs → w ≡ v → gs ≡ fs
-    → all_among fs (privileged_names hosts) ≡ true → all_among (privileged_names hosts) fs ≡ true → IsEarlyPolicy text hosts w gs
+    → all_in fs (privileged_names hosts) ≡ true → all_in (privileged_names hosts) fs ≡ true → IsEarlyPolicy text hosts w gs
 accepted text hosts v w fs gs s same_state same_functions known allowed =
     let here : IsEarlyPolicy text hosts v fs = record { spelling = s; privileged = known; allowed = allowed } in
     subst (λ u. IsEarlyPolicy text hosts u gs) (sym same_state) (subst (λ hs. IsEarlyPolicy text hosts v hs) (sym same_functions) here)
 
 pub not_allowed : (text : List ℕ) (hosts : List Host) (v : List ℕ) (fs : List (List ℕ)) → IsSpelling text v fs
-    → all_among (privileged_names hosts) fs ≡ false → (w : List ℕ) (gs : List (List ℕ)) → IsEarlyPolicy text hosts w gs → ⊥
+    → all_in (privileged_names hosts) fs ≡ false → (w : List ℕ) (gs : List (List ℕ)) → IsEarlyPolicy text hosts w gs → ⊥
 not_allowed text hosts v fs s miss w gs p =
-    false≢true (sym miss ∙ ap (all_among (privileged_names hosts)) (spelling_unique text v w fs gs s p.spelling) ∙ p.allowed)
+    false≢true (sym miss ∙ ap (all_in (privileged_names hosts)) (spelling_unique text v w fs gs s p.spelling) ∙ p.allowed)
 
 pub not_privileged : (text : List ℕ) (hosts : List Host) (v : List ℕ) (fs : List (List ℕ)) → IsSpelling text v fs
-    → all_among fs (privileged_names hosts) ≡ false → (w : List ℕ) (gs : List (List ℕ)) → IsEarlyPolicy text hosts w gs → ⊥
+    → all_in fs (privileged_names hosts) ≡ false → (w : List ℕ) (gs : List (List ℕ)) → IsEarlyPolicy text hosts w gs → ⊥
 not_privileged text hosts v fs s miss w gs p =
-    false≢true (sym miss ∙ ap (λ hs. all_among hs (privileged_names hosts)) (spelling_unique text v w fs gs s p.spelling) ∙ p.privileged)
+    false≢true (sym miss ∙ ap (λ hs. all_in hs (privileged_names hosts)) (spelling_unique text v w fs gs s p.spelling) ∙ p.privileged)

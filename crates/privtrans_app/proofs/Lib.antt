@@ -7,6 +7,7 @@ pub mod LookupLemmas
 pub mod PairLemmas
 pub mod RunLemmas
 pub mod StepLemmas
+pub mod TableAndPolicy
 pub mod TaintLemmas
 pub mod TextLemmas
 pub mod TokenLemmas

@@ -1,11 +1,12 @@
 -- What an early policy is: a line for each function that may be called, all in one state, which
 -- stays.
-use Rattle.std.specs.Prelude.{◌≡◌, ◌≤◌, ◌<◌, ℕ, Bool, not, ◌&&◌, ◌||◌, ◌==◌, nat_le, IsTrue, List, ◌++◌, length, map, filter, codes}
+use Rattle.std.specs.Prelude.{◌≡◌, ◌≤◌, ◌<◌, ℕ, Bool, not, ◌&&◌, ◌||◌, ◌==◌, nat_le, IsTrue, List, ◌++◌, length, filter, codes}
 use Rattle.std.specs.Char.{is_ascii_alphanumeric}
-use Rattle.std.specs.List.{flat_map, list_all, list_any}
-use Rattle.std.specs.Str.{bytes_eq}
-use Rattle.privtrans_app.specs.declared.early.Host.{Host}
+use Rattle.std.specs.List.{flat_map, list_all}
+use Rattle.privtrans_app.specs.Names.{is_in}
+use Rattle.privtrans_app.specs.EarlyTree.{names_of}
 use Rattle.privtrans_app.specs.Marks.{is_privileged}
+use Rattle.privtrans_app.specs.declared.early.Host.{Host}
 
 -- a letter, a digit or `_`
 abbrev pub is_state_byte : ℕ → Bool
@@ -40,14 +41,18 @@ pub record IsSpelling (text state : List ℕ) (functions : List (List ℕ)) : Ty
 
 -- the names of the privileged hosts, in order
 abbrev pub privileged_names : List Host → List (List ℕ)
-privileged_names hosts = map (λ h. h.name) (filter (λ h. is_privileged h.mark) hosts)
+privileged_names hosts = names_of (filter (λ h. is_privileged h.mark) hosts)
 
--- each of xs is among ys
-abbrev pub all_among : List (List ℕ) → List (List ℕ) → Bool
-all_among xs ys = list_all (λ x. list_any (λ y. bytes_eq y x) ys) xs
+-- each of xs is in ys
+abbrev pub all_in : List (List ℕ) → List (List ℕ) → Bool
+all_in xs ys = list_all (is_in ys) xs
+
+-- the same names are in both
+abbrev pub SameNames : List (List ℕ) → List (List ℕ) → Type 0
+SameNames xs ys = (name : List ℕ) → is_in xs name ≡ is_in ys name
 
 -- the text is the lines of these functions in this state, and they are the privileged hosts
 pub record IsEarlyPolicy (text : List ℕ) (hosts : List Host) (state : List ℕ) (functions : List (List ℕ)) : Type 0 where
   pub spelling : IsSpelling text state functions
-  pub privileged : IsTrue (all_among functions (privileged_names hosts))
-  pub allowed : IsTrue (all_among (privileged_names hosts) functions)
+  pub privileged : IsTrue (all_in functions (privileged_names hosts))
+  pub allowed : IsTrue (all_in (privileged_names hosts) functions)

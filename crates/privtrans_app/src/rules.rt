@@ -1,10 +1,11 @@
 // Reads an early policy.
 ghost use Rattle.std.specs.Prelude.{◌≡◌, ◌≢◌, ◌<◌, ◌≤◌, ◌++◌, ℕ, List, Some, IsTrue, IfOk, IfSome, IfNone, MatchOption, length, map, option_map};
-ghost use Rattle.std.specs.List.{list_all, list_any, take_while};
-ghost use Rattle.std.specs.Str.{bytes_eq};
-ghost use Rattle.privtrans_app.specs.EarlyPolicy.{is_state_byte, is_state, is_word_byte, is_word, line_of, spelled_policy, IsSpelling, privileged_names, all_among, IsEarlyPolicy};
+ghost use Rattle.std.specs.List.{list_all, take_while};
+ghost use Rattle.privtrans_app.specs.Index.{names_listed};
+ghost use Rattle.privtrans_app.specs.EarlyPolicy.{is_state_byte, is_state, is_word_byte, is_word, line_of, spelled_policy, IsSpelling, privileged_names, all_in, SameNames, IsEarlyPolicy};
 
 use crate::early::Host;
+use crate::index::Index;
 use pt_base::{Bytes, Listed};
 use std::alloc::{AllocError, Global};
 
@@ -40,11 +41,13 @@ pub(crate) fn read_rules(
     let Some(lines) = read_lines(alloc, text)? else {
         return Ok(None);
     };
-    let names = names_of(alloc, hosts)?;
-    if !are_among(&names, &lines.functions) {
+    let names = privileged_names(alloc, hosts)?;
+    let allowed = index_of(alloc, &lines.functions)?;
+    if !are_in(&names, &allowed) {
         return Ok(None);
     }
-    if !are_among(&lines.functions, &names) {
+    let known = index_of(alloc, &names)?;
+    if !are_in(&lines.functions, &known) {
         return Ok(None);
     }
     Ok(Some(Rules {
@@ -185,7 +188,7 @@ fn after<'a>(text: &'a [u8], part: &[u8]) -> Option<&'a [u8]>
 }
 
 // The names of the privileged hosts.
-fn names_of<'a>(alloc: Global, hosts: &'a [Host]) -> Result<Vec<&'a [u8]>, AllocError>
+fn privileged_names<'a>(alloc: Global, hosts: &'a [Host]) -> Result<Vec<&'a [u8]>, AllocError>
     ensures { IfOk result (λ names. map (λ n. n.now) names.items ≡ privileged_names hosts.now) }
 {
     let mut names = Vec::new(alloc);
@@ -197,11 +200,27 @@ fn names_of<'a>(alloc: Global, hosts: &'a [Host]) -> Result<Vec<&'a [u8]>, Alloc
     Ok(names)
 }
 
-// Whether each of these is among the others.
-fn are_among(words: &[&[u8]], others: &[&[u8]]) -> bool
-    ensures { result ≡ list_all (λ w. list_any (λ o. bytes_eq o.now w.now) others.now) words.now }
+// An index of the words.
+fn index_of(alloc: Global, words: &[&[u8]]) -> Result<Index, AllocError>
+    ensures { IfOk result (λ index. SameNames (names_listed index) (map (λ w. w.now) words.now)) }
 {
-    words.iter().all(|word| others.contains(word))
+    let mut index = Index::new(alloc);
+    for word in words {
+        let _new = index.add(alloc, word)?;
+    }
+    Ok(index)
+}
+
+// Whether each of the words is in the index.
+fn are_in(words: &[&[u8]], index: &Index) -> bool
+    ensures { result ≡ all_in (map (λ w. w.now) words.now) (names_listed index.now) }
+{
+    for word in words {
+        if index.place(word).is_none() {
+            return false;
+        }
+    }
+    true
 }
 
 // Copies of the words.
