@@ -6,7 +6,8 @@ use Rattle.privtrans_app.specs.EarlyTokens.{tokens_of}
 use Rattle.privtrans_app.specs.EarlySpelling.{spelled}
 use Rattle.privtrans_app.specs.EarlyReading.{read_whole}
 
--- the text is an early program of this tree: its tokens are those that spell the tree
+-- The text is an early program of this tree: its tokens are those that spell the tree. A text's tokens are names only
+-- for identifiers that are no word of the grammar and no keyword, and numbers only up to the largest int.
 abbrev pub IsEarlyText : List ℕ → Program → Type 0
 IsEarlyText text p = tokens_of text ≡ Some (spelled p)
 

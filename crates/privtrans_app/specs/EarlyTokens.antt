@@ -8,7 +8,6 @@ use Rattle.privtrans_app.specs.declared.early_token.Token.{Token}
 use Rattle.privtrans_app.specs.declared.early_token.Token.TheVariants.{Fixed, Name, Number}
 use Rattle.privtrans_app.specs.declared.early_token.Symbol.{Symbol}
 use Rattle.privtrans_app.specs.declared.early_token.Symbol.TheVariants.{Int, Void, Return, Attribute, Main, OpenParen, CloseParen, OpenBrace, CloseBrace, Comma, Semicolon, Equal}
-use Rattle.privtrans_app.specs.declared.early_lexer.TheConstants.{MOST}
 
 -- spaces and line feeds, which stand between tokens alone
 abbrev pub is_blank : ℕ → Bool
@@ -62,7 +61,7 @@ symbols =
     (codes ")", CloseParen) ∷ (codes "{", OpenBrace) ∷ (codes "}", CloseBrace) ∷
     (codes ",", Comma) ∷ (codes ";", Semicolon) ∷ (codes "=", Equal) ∷ []
 
--- identifiers that are no keyword
+-- identifiers that are no keyword; words of the grammar are none either, since each is a symbol first
 unfoldable pub is_name : List ℕ → Bool
 is_name run = begins_with is_letter run && not (list_any (λ word. bytes_eq word run) keywords)
 
@@ -84,8 +83,9 @@ abbrev pub value_from : ℕ → List ℕ → ℕ
 value_from n [] = n
 value_from n (b ∷ bs) = value_from (10 * n + (b - 48)) bs
 
+-- the number that a run is: at most the largest int of C
 unfoldable pub number_of : List ℕ → Option ℕ
-number_of run = if is_decimal run && nat_le (value_from 0 run) MOST then Some (value_from 0 run) else None
+number_of run = if is_decimal run && nat_le (value_from 0 run) 2147483647 then Some (value_from 0 run) else None
 
 -- the token that a run is: a word of the grammar or a punctuator, a name or a number
 abbrev pub token_else : Option Symbol → Bool → List ℕ → Option Token

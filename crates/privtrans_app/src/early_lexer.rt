@@ -94,6 +94,7 @@ fn is_word_byte(b: u8) -> bool
     is_letter(b) || is_digit(b)
 }
 
+// What stands beside a run in a table, as the table has it.
 fn found_in(table: &[(&str, Symbol)], run: &[u8]) -> Option<Symbol>
     ensures { result ≡ option_map (λ row. row.1) (find (λ row. bytes_eq row.0.now run.now) table.now) }
 {
@@ -103,7 +104,7 @@ fn found_in(table: &[(&str, Symbol)], run: &[u8]) -> Option<Symbol>
         .map(|row| row.1)
 }
 
-// What stands beside a run in a table.
+// What stands beside a run in a table, as the definitions say it.
 fn symbol_in(table: &[(&str, Symbol)], run: &[u8]) -> Option<Symbol>
     ensures { result ≡ symbol_in (map (λ row. (row.0.now, row.1)) table.now) run.now }
 {
