@@ -1,4 +1,5 @@
 pub mod EarlyHostLemmas
+pub mod EarlyInputLemmas
 pub mod EarlyPolicyLemmas
 pub mod FreshLemmas
 pub mod GrammarLemmas

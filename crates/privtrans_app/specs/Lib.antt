@@ -1,5 +1,6 @@
 pub mod EarlyConditions
 pub mod EarlyHosts
+pub mod EarlyInput
 pub mod EarlyPair
 pub mod EarlyPolicy
 pub mod EarlyReading
@@ -8,10 +9,16 @@ pub mod EarlySpelling
 pub mod EarlySteps
 pub mod EarlyTaint
 pub mod EarlyText
+pub mod EarlyTexts
 pub mod EarlyTokens
 pub mod EarlyTree
+pub mod Ending
+pub mod EndingSeen
+pub mod Help
 pub mod Index
 pub mod Lookup
 pub mod Marks
 pub mod Names
 pub mod PairView
+pub mod Reading
+pub mod Words
