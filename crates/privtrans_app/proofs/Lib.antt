@@ -4,8 +4,10 @@ pub mod EarlyPolicyLemmas
 pub mod FreshLemmas
 pub mod GrammarLemmas
 pub mod IndexLemmas
+pub mod LocalLemmas
 pub mod LookupLemmas
 pub mod PairLemmas
+pub mod ReadingLemmas
 pub mod RunLemmas
 pub mod StepLemmas
 pub mod TableAndPolicy

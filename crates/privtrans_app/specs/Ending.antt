@@ -115,3 +115,11 @@ Reports e report report' faults faults' status =
     ((status ≡ status_of e) × Appends report report' (report_of e))
     ⊎ ((status ≡ 4) × (status_of e ≢ 12) × Rose faults faults' × AppendsPart report report' (report_of e))
     ⊎ ((status ≡ 12) × AppendsPart report report' (report_of e))
+
+-- What writing a text to out comes to: the ending where it was written, else a fault of writing or
+-- want of memory, where a first part of it was written.
+abbrev pub Puts : Option (List ℕ) → Option (List ℕ) → ℕ → ℕ → List ℕ → Ending → Ending → Type 0
+Puts out out' writes writes' text done came =
+    ((came ≡ done) × Appends out out' text)
+    ⊎ ((came ≡ write_fault) × Rose writes writes' × AppendsPart out out' text)
+    ⊎ ((came ≡ memory) × AppendsPart out out' text)

@@ -12,6 +12,7 @@ mod early_reader;
 mod early_token;
 mod ending;
 mod held;
+mod help;
 mod index;
 mod local;
 mod lookup;
@@ -20,7 +21,7 @@ mod pair;
 mod rules;
 mod sending;
 mod taint;
+mod top;
 mod words;
 
-pub use early::{Arg, Call, Host, HostMark, HostParam, Program, Source, Statement};
-pub use held::Held;
+pub use top::privtrans;

@@ -1,0 +1,96 @@
+// The top call.
+ghost use Rattle.std.specs.Prelude.{◌≡◌, ◌⊎◌, ℕ, List, Option, Some, IfSome, map, codes};
+ghost use Rattle.std.specs.Io.KnownBytes.{Appends};
+ghost use Rattle.pt_base.specs.Faults.{Rose};
+ghost use Rattle.pt_base.specs.Files.{Files};
+ghost use Rattle.pt_base.specs.Told.{AppendsPart};
+ghost use Rattle.privtrans_app.specs.EarlyInput.{Texts, IsBuilt, IsNotBuilt};
+ghost use Rattle.privtrans_app.specs.Ending.{Ending, ComesTo, Puts, Reports, AreHeld};
+ghost use Rattle.privtrans_app.specs.EndingSeen.{ending_seen};
+ghost use Rattle.privtrans_app.specs.Words.{IsHelp, IsVersion};
+
+use crate::ending::{Ending as Came, report, status};
+use crate::help::{HELP, VERSION};
+use crate::local::local;
+use crate::words::{Form, form_of};
+use pt_base::{Chooser, Folder, Sink, SinkFault, Spawner, Watch};
+use std::alloc::Global;
+use std::thread::Threads;
+
+// Writes a text to out, and says what that comes to.
+fn put<'a, K: Sink>(alloc: Global, out: &mut K, text: &[u8], done: Came<'a>) -> Came<'a>
+    ensures { Puts (K.taken out.old) (K.taken out.new) (K.faults out.old) (K.faults out.new) text.now (ending_seen done.entry) (ending_seen result) }
+{
+    match out.write(alloc, text) {
+        Ok(()) => done,
+        Err(SinkFault::Failed) => Came::WriteFault,
+        Err(SinkFault::Memory) => Came::Memory,
+    }
+}
+
+// What the words come to.
+fn came_to<'a, F: Folder, K: Sink>(
+    alloc: Global,
+    words: &[&'a str],
+    folder: &mut F,
+    out: &mut K,
+) -> Came<'a>
+    ensures { ComesTo (map (λ w. w.now) words.now) (F.files folder.old) (F.read_faults folder.old) (F.read_faults folder.new)
+        (K.taken out.old) (K.taken out.new) (K.faults out.old) (K.faults out.new) (ending_seen result) }
+{
+    match form_of(words) {
+        None => Came::Usage,
+        Some(Form::Help) => put(alloc, out, HELP, Came::Help),
+        Some(Form::Version) => put(alloc, out, VERSION, Came::Version),
+        Some(Form::Local(words)) => local(alloc, &words, folder, out),
+    }
+}
+
+// Reports an ending, and gives the status of the call.
+fn tell<E: Sink>(alloc: Global, sink: &mut E, ending: Came<'_>) -> u8
+    ensures { Reports (ending_seen ending.entry) (E.taken sink.old) (E.taken sink.new) (E.faults sink.old) (E.faults sink.new) result }
+{
+    let Ok(line) = report(alloc, ending) else {
+        return 12;
+    };
+    if line.is_empty() {
+        return status(ending);
+    }
+    match sink.write(alloc, &line) {
+        Ok(()) => status(ending),
+        Err(SinkFault::Failed) => {
+            if status(ending) == 12 {
+                12
+            } else {
+                4
+            }
+        }
+        Err(SinkFault::Memory) => 12,
+    }
+}
+
+/// Does what the words ask for, and gives the status that the program ends with: 0 where it was
+/// done, 1 where the words are of no form, 2 where a file is missing, 3 where one can't be read, 4
+/// where out or report can't be written, 5 where the texts aren't early, 12 for want of memory. One
+/// line in `report` says how it ended.
+pub fn privtrans<R: Threads + Sync, F: Folder, K: Sink, E: Sink, S: Spawner, C: Chooser, W: Watch>(
+    _rt: &R,
+    alloc: Global,
+    words: &[&str],
+    folder: &mut F,
+    out: &mut K,
+    report: &mut E,
+    _spawner: &mut S,
+    _chooser: &mut C,
+    _watch: &W,
+) -> u8
+    // the call comes to an ending, each only where the words, the files and the outside have its
+    // cause, and reports it
+    ensures answer { (e : Ending)
+        × ComesTo (map (λ w. w.now) words.now) (F.files folder.old) (F.read_faults folder.old) (F.read_faults folder.new)
+            (K.taken out.old) (K.taken out.new) (K.faults out.old) (K.faults out.new) e
+        × Reports e (E.taken report.old) (E.taken report.new) (E.faults report.old) (E.faults report.new) result }
+{
+    let ending = came_to(alloc, words, folder, out);
+    tell(alloc, report, ending)
+}
