@@ -1,0 +1,5 @@
+pub mod Conversions
+pub mod Ranges
+pub mod Shifts
+pub mod WordBits
+pub mod Words
