@@ -1,4 +1,5 @@
 pub mod Conversions
+pub mod Division
 pub mod Ranges
 pub mod Shifts
 pub mod WordBits

@@ -36,7 +36,7 @@ fitted-range t v =
     (λ _. if-ok (is_in_range t v) (Ok v) (Err Overflow) (InRange t) (in_range-test t v) (tt {0}))
     (conv-in_range t v)
 
-around_zero : (t : IntType) → (low_of t ≤ℤ pos 0) × (pos 0 ≤ℤ high_of t)
+pub around_zero : (t : IntType) → (low_of t ≤ℤ pos 0) × (pos 0 ≤ℤ high_of t)
 around_zero Char = (omega (arith, ints), omega (arith, ints))
 around_zero SChar = (omega (arith, ints), omega (arith, ints))
 around_zero UChar = (omega (arith, ints), omega (arith, ints))
@@ -48,11 +48,11 @@ around_zero Long = (omega (arith, ints), omega (arith, ints))
 around_zero ULong = (omega (arith, ints), omega (arith, ints))
 
 -- a number from 0 to a number of the type is one too
-inside : (t : IntType) (a r : ℤ) → InRange t a → ((pos 0 ≤ℤ r) × (r ≤ℤ a)) ⊎ ((a ≤ℤ r) × (r ≤ℤ pos 0)) → InRange t r
+pub inside : (t : IntType) (a r : ℤ) → InRange t a → ((pos 0 ≤ℤ r) × (r ≤ℤ a)) ⊎ ((a ≤ℤ r) × (r ≤ℤ pos 0)) → InRange t r
 inside t a r h (inl p) = (omega (arith, ints, (around_zero t).0), omega (arith, ints))
 inside t a r h (inr p) = (omega (arith, ints), omega (arith, ints, (around_zero t).1))
 
-rem-range : (t : IntType) (a b : ℤ) → InRange t a → InRange t (int_rem a b)
+pub rem-range : (t : IntType) (a b : ℤ) → InRange t a → InRange t (int_rem a b)
 rem-range t (pos n) b h = inside t (pos n) _ h (inl (omega (arith, ints), omega (arith, ints, mod-le n (unsigned_abs b))))
 rem-range t (negsuc n) b h = inside t (negsuc n) _ h (inr (omega (arith, ints, mod-le (suc n) (unsigned_abs b)), omega (arith, ints)))
 

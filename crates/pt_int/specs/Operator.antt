@@ -1,12 +1,12 @@
 -- What the operators give, over whole numbers (C99 6.5.3.3 and 6.5.5 to 6.5.12).
-use Rattle.std.specs.Prelude.{◌^◌, ◌-◌, ℤ, pos, neg_ℤ, ◌+ℤ◌, ◌-ℤ◌, ◌*ℤ◌, Bool, true, false, not, ◌&&◌, if◌then◌else◌, Result, Ok, Err, int_lt, int_le, int_div, int_rem, unsigned_abs, bit_and, bit_or, bit_xor}
+use Rattle.std.specs.Prelude.{◌≢◌, ◌^◌, ◌-◌, ℤ, pos, neg_ℤ, ◌+ℤ◌, ◌-ℤ◌, ◌*ℤ◌, Bool, true, false, not, ◌&&◌, if◌then◌else◌, Result, Ok, Err, int_lt, int_le, int_div, int_rem, unsigned_abs, bit_and, bit_or, bit_xor}
 use Rattle.std.specs.Int.{int_div_euclid}
 use Rattle.std.specs.Ordering.{int_eq}
 use Rattle.pt_base.specs.declared.int_type.IntType.{IntType}
 use Rattle.pt_base.specs.declared.int_type.IntType.TheVariants.{Int}
 use Rattle.pt_base.specs.declared.trap.Trap.{Trap}
 use Rattle.pt_base.specs.declared.trap.Trap.TheVariants.{Overflow, DivZero, Shift}
-use Rattle.pt_base.specs.IntTypes.{width_of, is_signed}
+use Rattle.pt_base.specs.IntTypes.{width_of, is_signed, InRange}
 use Rattle.pt_int.specs.declared.operator.BinOp.{BinOp}
 use Rattle.pt_int.specs.declared.operator.BinOp.TheVariants.{Mul, Div, Rem, Add, Sub, Shl, Shr, Lt, Gt, Le, Ge, Eq, Ne, And, Xor, Or}
 use Rattle.pt_int.specs.declared.operator.UnOp.{UnOp}
@@ -21,6 +21,10 @@ fitted t v = if is_signed t then (if is_in_range t v then Ok v else Err Overflow
 -- a / b, rounded towards zero (C99 6.5.5p6)
 abbrev pub quotient_of : IntType → ℤ → ℤ → Result ℤ Trap
 quotient_of t a b = if int_eq b (pos 0) then Err DivZero else fitted t (int_div a b)
+
+-- a / b is a number of t
+abbrev pub HasQuotient : IntType → ℤ → ℤ → Type 0
+HasQuotient t a b = (b ≢ pos 0) × InRange t (int_div a b)
 
 -- v, or the trap in its place
 abbrev pub unless_trap : Result ℤ Trap → ℤ → Result ℤ Trap

@@ -1,12 +1,12 @@
 // Arithmetic: on signed types as numbers of 64 bits with their sign, on unsigned types as
 // numbers of 64 bits without.
-ghost use Rattle.std.specs.Prelude.{◌≡◌, ◌^◌, ◌<◌, ◌+ℤ◌, ◌-ℤ◌, ◌*ℤ◌, neg_ℤ, pos, true, false, Ok, FitsSigned, SomeIff, IsTrue, int_div, int_rem, ℤ, MatchResult, unsigned_abs};
-ghost use Rattle.std.specs.Int.{w64, int_div_euclid};
+ghost use Rattle.std.specs.Prelude.{◌≡◌, ◌^◌, ◌<◌, ◌+ℤ◌, ◌-ℤ◌, ◌*ℤ◌, ◌↔◌, pos, true, false, Err, FitsSigned, SomeIff, IsTrue, ℤ, MatchOption, unsigned_abs};
+ghost use Rattle.std.specs.Int.{w64};
 ghost use Rattle.pt_base.specs.IntTypes.{width_of, is_signed, InRange};
 ghost use Rattle.pt_int.specs.Conversion.{conv};
-ghost use Rattle.pt_int.specs.Operator.{fitted, quotient_of, remainder_of, left_shift_of, right_shift_of, is_amount};
+ghost use Rattle.pt_int.specs.Operator.{fitted, quotient_of, remainder_of, left_shift_of, right_shift_of, is_amount, HasQuotient};
 
-use crate::conversion::{all_ones, in_range, signed, width};
+use crate::conversion::{all_ones, greatest, least, signed, width};
 use pt_base::{IntType, Trap};
 
 /// `a + b`
@@ -54,10 +54,11 @@ pub(crate) fn quotient(t: IntType, a: i128, b: i128) -> Result<i128, Trap>
     requires right { InRange t b }
     ensures { result ≡ quotient_of t a b }
 {
-    if b == 0 {
-        Err(Trap::DivZero)
-    } else if signed(t) {
-        settled(t, narrow(t, a).checked_div(narrow(t, b)))
+    if let Some(trap) = division_trap(t, a, b) {
+        return Err(trap);
+    }
+    if signed(t) {
+        Ok(i128::from(narrow(t, a) / narrow(t, b)))
     } else {
         Ok(i128::from(natural(t, a) / natural(t, b)))
     }
@@ -69,11 +70,28 @@ pub(crate) fn remainder(t: IntType, a: i128, b: i128) -> Result<i128, Trap>
     requires right { InRange t b }
     ensures { result ≡ remainder_of t a b }
 {
-    quotient(t, a, b)?;
+    if let Some(trap) = division_trap(t, a, b) {
+        return Err(trap);
+    }
     if signed(t) {
-        Ok(i128::from(narrow(t, a).wrapping_rem(narrow(t, b))))
+        Ok(i128::from(narrow(t, a) % narrow(t, b)))
     } else {
         Ok(i128::from(natural(t, a) % natural(t, b)))
+    }
+}
+
+// The trap of `a / b`: the one quotient that doesn't fit is that of the least number by -1.
+fn division_trap(t: IntType, a: i128, b: i128) -> Option<Trap>
+    requires left { InRange t a }
+    requires right { InRange t b }
+    ensures { MatchOption result (HasQuotient t a b) (λ trap. quotient_of t a b ≡ Err trap) }
+{
+    if b == 0 {
+        Some(Trap::DivZero)
+    } else if b == -1 && a == i128::from(least(t)) {
+        Some(Trap::Overflow)
+    } else {
+        None
     }
 }
 
@@ -82,11 +100,11 @@ pub(crate) fn left_shift(t: IntType, a: i128, b: i128) -> Result<i128, Trap>
     requires { InRange t a }
     ensures { result ≡ left_shift_of t a b }
 {
-    let Some(amount) = amount(t, b) else {
+    let Some(amount) = shift_amount(t, b) else {
         return Err(Trap::Shift);
     };
     if signed(t) {
-        fit(t, scaled(narrow(t, a), amount))
+        settled(t, scaled(narrow(t, a), amount))
     } else {
         Ok(wrapped(t, natural(t, a) << amount))
     }
@@ -97,7 +115,7 @@ pub(crate) fn right_shift(t: IntType, a: i128, b: i128) -> Result<i128, Trap>
     requires { InRange t a }
     ensures { result ≡ right_shift_of t a b }
 {
-    let Some(amount) = amount(t, b) else {
+    let Some(amount) = shift_amount(t, b) else {
         return Err(Trap::Shift);
     };
     if signed(t) {
@@ -108,7 +126,7 @@ pub(crate) fn right_shift(t: IntType, a: i128, b: i128) -> Result<i128, Trap>
 }
 
 // The number of bits to shift by.
-fn amount(t: IntType, b: i128) -> Option<u32>
+fn shift_amount(t: IntType, b: i128) -> Option<u32>
     ensures { SomeIff result (IsTrue (is_amount t b)) (unsigned_abs b) }
 {
     if 0 <= b && b < i128::from(width(t)) {
@@ -118,12 +136,16 @@ fn amount(t: IntType, b: i128) -> Option<u32>
     }
 }
 
-// `v` times 2 to the `amount`.
-fn scaled(v: i64, amount: u32) -> i128
+// `v` times 2 to the `amount`, where 64 bits hold it.
+fn scaled(v: i64, amount: u32) -> Option<i64>
     requires { amount < 64 }
-    ensures { result ≡ v *ℤ pos (2 ^ amount) }
+    ensures { SomeIff result (FitsSigned w64 (v *ℤ pos (2 ^ amount))) (v *ℤ pos (2 ^ amount)) }
 {
-    i128::from(v) * (1i128 << amount)
+    if amount < 63 {
+        v.checked_mul(1i64 << amount)
+    } else {
+        i64::try_from(i128::from(v) * (1i128 << amount)).ok()
+    }
 }
 
 // A number of a signed type.
@@ -150,21 +172,18 @@ fn settled(t: IntType, exact: Option<i64>) -> Result<i128, Trap>
     ensures { (z : ℤ) → SomeIff exact (FitsSigned w64 z) z → result ≡ fitted t z }
 {
     match exact {
-        Some(v) => fit(t, i128::from(v)),
-        None => Err(Trap::Overflow),
+        Some(v) if holds(t, v) => Ok(i128::from(v)),
+        _ => Err(Trap::Overflow),
     }
 }
 
-// The number in the signed type.
-fn fit(t: IntType, v: i128) -> Result<i128, Trap>
+// Whether the signed type has the number.
+fn holds(t: IntType, v: i64) -> bool
     requires { is_signed t ≡ true }
-    ensures { result ≡ fitted t v }
+    ensures { IsTrue result ↔ InRange t v }
 {
-    if in_range(t, v) {
-        Ok(v)
-    } else {
-        Err(Trap::Overflow)
-    }
+    let greatest = greatest(t) as i64;
+    -1 - greatest <= v && v <= greatest
 }
 
 // The number modulo 2 to the width of the unsigned type, from what 64 bits hold of it.

@@ -1,8 +1,22 @@
-use Rattle.std.proofs.Common.{◌≡◌, ◌≢◌, FitsSigned, rules, pos, SomeIff, int_div, arith, subst}
-use Rattle.std.specs.Int.{w64, CanDivide}
-use Rattle.pt_int.specs.Operator.{fitted}
-use Rattle.pt_int.proofs.Words.{passed, passed-is, is_nonzero, quotient-fits}
+use Rattle.std.proofs.Common.{FitsSigned, Ok, rules, sym, ap, ◌∙◌, int_div}
+use Rattle.std.specs.Int.{w64}
+use Rattle.std.proofs.lemmas.Int.{to_z-of_z}
+use mir.Syntax.{w128}
+use Rattle.pt_int.specs.Operator.{HasQuotient}
+use Rattle.pt_int.proofs.Division.{quotient-is, narrow-fits}
+use Rattle.pt_int.proofs.Words.{passed, passed-is, is_nonzero}
 use Rattle.pt_int.proofs.arithmetic.quotient.Goals as goal
+
+pub nonzero_div-narrow : goal.nonzero_div-narrow
+nonzero_div-narrow c =
+    let f : FitsSigned w64 c.narrow.result = search rules in
+    let g : FitsSigned w64 c.narrow-then-signed.result = search rules in
+    let a = passed c.args.a c.narrow.result c.ranges.a f c.narrow.ensures in
+    let b = passed c.args.b c.narrow-then-signed.result c.ranges.b g c.narrow-then-signed.ensures in
+    let s = sym c.signed.ensures ∙ c.if-signed.true in
+    let q : HasQuotient c.args.t c.args.a c.args.b = simp (to_z-of_z w128 c.args.a c.ranges.a, to_z-of_z w128 c.args.b c.ranges.b) at c.in_default.ensures in
+    let y = passed-is c.args.b c.narrow-then-signed.result c.ranges.b c.narrow-then-signed.ensures in
+    (is_nonzero c.narrow-then-signed.result g (λ e. q.0 (sym y ∙ e)), simp (a, b) (narrow-fits c.args.t (int_div c.args.a c.args.b) s q.1))
 
 pub returns-then-signed : goal.returns-then-signed
 returns-then-signed c =
@@ -10,9 +24,9 @@ returns-then-signed c =
     let g : FitsSigned w64 c.narrow-then-signed.result = search rules in
     let a = passed c.args.a c.narrow.result c.ranges.a f c.narrow.ensures in
     let b = passed c.args.b c.narrow-then-signed.result c.ranges.b g c.narrow-then-signed.ensures in
-    let q : SomeIff c.checked_div.result (CanDivide w64 c.args.a c.args.b) (int_div c.args.a c.args.b) = simp (a, b) at c.checked_div.ensures in
-    let fits = subst (FitsSigned w64) (passed-is c.args.b c.narrow-then-signed.result c.ranges.b c.narrow-then-signed.ensures) g in
-    let h = c.if-b-eq0.false in
-    let nonzero : c.args.b ≢ pos 0 = grind arith in
-    let e : c.settled.result ≡ fitted c.args.t (int_div c.args.a c.args.b) = c.settled.ensures _ (quotient-fits c.checked_div.result c.args.a c.args.b (is_nonzero c.args.b fits nonzero) q) in
-    grind arith
+    let s = sym c.signed.ensures ∙ c.if-signed.true in
+    let q : HasQuotient c.args.t c.args.a c.args.b = simp (to_z-of_z w128 c.args.a c.ranges.a, to_z-of_z w128 c.args.b c.ranges.b) at c.in_default.ensures in
+    let r : FitsSigned w128 c.from.result = search rules in
+    let e = simp (a, b) at c.from.ensures in
+    ap Ok (to_z-of_z w128 c.from.result r ∙ e ∙ to_z-of_z w64 (int_div c.args.a c.args.b) (narrow-fits c.args.t (int_div c.args.a c.args.b) s q.1))
+    ∙ sym (quotient-is c.args.t c.args.a c.args.b q)
