@@ -9,3 +9,6 @@ mod operator;
 pub use conversion::{convert, in_range, promote, usual};
 pub use evaluation::{binary, unary};
 pub use operator::{BinOp, UnOp};
+
+#[cfg(test)]
+mod tests;
