@@ -28,3 +28,7 @@ conv t v = of_bits t (bits_of t v)
 -- whether v is a number of t
 abbrev pub is_in_range : IntType → ℤ → Bool
 is_in_range t v = int_le (low_of t) v && int_le v (high_of t)
+
+-- no other number of t is v converted to t
+abbrev pub IsOnlyConversion : Type 0
+IsOnlyConversion = (t : IntType) (v r : ℤ) → IsConversion t v r → r ≡ conv t v

@@ -1,7 +1,7 @@
 // The integer types: promotion, the usual conversions, ranges and conversion.
 ghost use Rattle.std.specs.Prelude.{◌≡◌, ◌↔◌, ◌^◌, ◌-◌, ◌<◌, IsTrue, pos};
 ghost use Rattle.pt_base.specs.IntTypes.{width_of, is_signed, low_of, high_of, InRange, promoted, usual as usual_type};
-ghost use Rattle.pt_int.specs.Conversion.{conv, bits_of, of_bits, IsConversion};
+ghost use Rattle.pt_int.specs.Conversion.{conv, bits_of, of_bits, IsConversion, IsOnlyConversion};
 
 use pt_base::IntType;
 
@@ -42,6 +42,11 @@ pub fn convert(v: i128, t: IntType) -> i128
 {
     of_low_bits(t, low_bits(t, v))
 }
+
+/// No two numbers of a type are equal modulo 2 to its width, so a number has one conversion.
+pub fn conversion_is_one()
+    ensures { IsOnlyConversion }
+{}
 
 /// The number of the type with these bits.
 pub(crate) fn of_low_bits(t: IntType, bits: u64) -> i128

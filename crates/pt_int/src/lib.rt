@@ -6,7 +6,7 @@ mod conversion;
 mod evaluation;
 mod operator;
 
-pub use conversion::{convert, in_range, promote, usual};
+pub use conversion::{conversion_is_one, convert, in_range, promote, usual};
 pub use evaluation::{binary, unary};
 pub use operator::{BinOp, UnOp};
 
