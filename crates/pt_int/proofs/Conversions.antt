@@ -45,9 +45,11 @@ pub bits_of-lt : (t : IntType) (v : ℤ) → bits_of t v < 2 ^ width_of t
 bits_of-lt t v = residue-lt (2 ^ width_of t) v (width-pow t)
 
 pub conv-in_range : (t : IntType) (v : ℤ) → InRange t (conv t v)
+unfolding conv
 conv-in_range t v = of_bits-in_range t (bits_of t v) (bits_of-lt t v)
 
 pub conversion : (t : IntType) (v : ℤ) → IsConversion t v (conv t v)
+unfolding conv
 conversion t v = record {
   in_range = conv-in_range t v;
   same = same-chosen (int_lt (high_of t) (pos (bits_of t v))) (2 ^ width_of t) (bits_of t v) v (residue-same (2 ^ width_of t) v (width-pow t));
@@ -55,6 +57,7 @@ conversion t v = record {
 
 -- a number of the type stays as it is
 pub conv-same : (t : IntType) (v : ℤ) → InRange t v → conv t v ≡ v
+unfolding conv
 conv-same Char (pos n) h = grind (arith, ints)
 conv-same Char (negsuc n) h = grind (arith, ints)
 conv-same SChar (pos n) h = grind (arith, ints)

@@ -72,6 +72,7 @@ unless-range (Ok x) v P h = h
 unless-range (Err e) v P h = tt {0}
 
 pub binary_of-range : (op : BinOp) (t : IntType) (a b : ℤ) → InRange t a → (is_shift op ≡ false → InRange t b) → IfOk (binary_of op t a b) (InRange (binary_type op t))
+unfolding binary_of
 binary_of-range Mul t a b p q = fitted-range t _
 binary_of-range Div t a b p q = quotient-range t a b
 binary_of-range Rem t a b p q = unless-range (quotient_of t a b) _ (InRange t) (rem-range t a b p)
@@ -90,6 +91,7 @@ binary_of-range Xor t a b p q = of_bits-in_range t _ (xor_lt (width_of t) _ _ (b
 binary_of-range Or t a b p q = of_bits-in_range t _ (or_lt (width_of t) _ _ (bits_of-lt t a) (bits_of-lt t b))
 
 pub unary_of-range : (op : UnOp) (t : IntType) (a : ℤ) → InRange t a → IfOk (unary_of op t a) (InRange (unary_type op t))
+unfolding unary_of
 unary_of-range Minus t a p = fitted-range t _
 unary_of-range Plus t a p = p
 unary_of-range Flip t a p = of_bits-in_range t _ (xor_lt (width_of t) _ _ (bits_of-lt t a) (ones-lt t))

@@ -7,7 +7,7 @@ use mir.Syntax.{w128}
 use Rattle.pt_base.specs.declared.int_type.IntType.{IntType}
 use Rattle.pt_base.specs.declared.int_type.IntType.TheVariants.{Char, SChar, UChar, Short, UShort, Int, UInt, Long, ULong}
 use Rattle.pt_base.specs.IntTypes.{InRange, is_signed, width_of}
-use Rattle.pt_int.specs.Conversion.{bits_of, of_bits}
+use Rattle.pt_int.specs.Conversion.{conv, bits_of, of_bits}
 use Rattle.pt_int.proofs.Conversions.{conv-same}
 
 -- how many bits stand below the sign
@@ -102,6 +102,7 @@ word-fits n h = search rules
 
 -- a word in the type's range is the number of its low bits
 word-whole : (t : IntType) (n : ℕ) → n < 2 ^ 128 → IsTop t (n / 2 ^ value_bits t) → to_z w128 n ≡ of_bits t (n % 2 ^ width_of t)
+unfolding conv
 word-whole t n h top =
     sym (conv-same t (to_z w128 n) (from-top t n h top))
     ∙ ap (of_bits t) (sym (word-low t (to_z w128 n) (word-fits n h)) ∙ ap (λ (m : ℕ). m % 2 ^ width_of t) (of_z-to_z w128 n h))

@@ -22,7 +22,7 @@ abbrev pub of_bits : IntType → ℕ → ℤ
 of_bits t bits = if int_lt (high_of t) (pos bits) then pos bits -ℤ pos (2 ^ width_of t) else pos bits
 
 -- the conversion as a number: that of the low bits
-abbrev pub conv : IntType → ℤ → ℤ
+unfoldable pub conv : IntType → ℤ → ℤ
 conv t v = of_bits t (bits_of t v)
 
 -- whether v is a number of t

@@ -52,7 +52,7 @@ abbrev pub truth : Bool → ℤ
 truth holds = if holds then pos 1 else pos 0
 
 -- a op b, where a and b are numbers of t, and b of any type at a shift
-abbrev pub binary_of : BinOp → IntType → ℤ → ℤ → Result ℤ Trap
+unfoldable pub binary_of : BinOp → IntType → ℤ → ℤ → Result ℤ Trap
 binary_of Mul t a b = fitted t (a *ℤ b)
 binary_of Div t a b = quotient_of t a b
 binary_of Rem t a b = remainder_of t a b
@@ -71,7 +71,7 @@ binary_of Xor t a b = Ok (of_bits t (bit_xor (bits_of t a) (bits_of t b)))
 binary_of Or t a b = Ok (of_bits t (bit_or (bits_of t a) (bits_of t b)))
 
 -- op a, where a is a number of t
-abbrev pub unary_of : UnOp → IntType → ℤ → Result ℤ Trap
+unfoldable pub unary_of : UnOp → IntType → ℤ → Result ℤ Trap
 unary_of Minus t a = fitted t (neg_ℤ a)
 unary_of Plus t a = Ok a
 unary_of Flip t a = Ok (of_bits t (bit_xor (bits_of t a) (2 ^ width_of t - 1)))

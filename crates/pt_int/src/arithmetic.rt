@@ -1,5 +1,7 @@
 // Arithmetic: on signed types as numbers of 64 bits with their sign, on unsigned types as
 // numbers of 64 bits without.
+#![tactic(auto, unfolding(crate::specs::Conversion::conv))]
+
 ghost use Rattle.std.specs.Prelude.{◌≡◌, ◌^◌, ◌<◌, ◌+ℤ◌, ◌-ℤ◌, ◌*ℤ◌, ◌↔◌, pos, true, false, Err, FitsSigned, SomeIff, IsTrue, ℤ, MatchOption, unsigned_abs};
 ghost use Rattle.std.specs.Int.{w64};
 ghost use Rattle.pt_base.specs.IntTypes.{width_of, is_signed, InRange};

@@ -36,6 +36,7 @@ pub fn in_range(t: IntType, v: i128) -> bool
 
 /// The number of the type that is equal to `v` modulo 2 to the width (C99 6.3.1.3): to a signed
 /// type too, where it keeps the low bits.
+#[tactic(auto, unfolding(crate::specs::Conversion::conv))]
 pub fn convert(v: i128, t: IntType) -> i128
     ensures value { result ≡ conv t v }
     ensures rule { IsConversion t v result }

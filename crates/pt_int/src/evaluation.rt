@@ -1,4 +1,6 @@
 // What an operator gives: a number, or a trap.
+#![tactic(auto, unfolding(crate::specs::Operator::binary_of, crate::specs::Operator::unary_of))]
+
 ghost use Rattle.std.specs.Prelude.{◌≡◌, false, IfOk};
 ghost use Rattle.pt_base.specs.IntTypes.{InRange};
 ghost use Rattle.pt_int.specs.Operator.{binary_of, unary_of, binary_type, unary_type, is_shift};
