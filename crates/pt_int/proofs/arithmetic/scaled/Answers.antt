@@ -1,0 +1,10 @@
+use Rattle.std.proofs.lemmas.Int.{to_z-of_z}
+use Rattle.std.specs.Int.{w64}
+use Rattle.pt_int.proofs.Words.{one_shifted}
+use Rattle.pt_int.proofs.arithmetic.scaled.Goals as goal
+
+pub returns-then-amount-lt63 : goal.returns-then-amount-lt63
+returns-then-amount-lt63 c =
+    let v = to_z-of_z w64 c.args.v c.ranges.v in
+    let k = one_shifted c.args.amount c.if-amount-lt63.true in
+    simp (v, k) at c.checked_mul.ensures
