@@ -1,12 +1,12 @@
 -- What the bytes from a place on begin with, by their first bytes, as the code finds it out.
-use Rattle.std.specs.Prelude.{ℕ, ◌+◌, ◌-◌, ◌≡◌, Bool, not, ◌||◌, ◌&&◌, ◌==◌, nat_le, if◌then◌else◌, List, [], ◌∷◌, length, take, drop, slice_index, Option, Some, None}
+use Rattle.std.specs.Prelude.{ℕ, ◌+◌, ◌-◌, ◌≡◌, ◌<◌, ◌≤◌, Bool, not, ◌||◌, ◌&&◌, ◌==◌, nat_le, if◌then◌else◌, List, [], ◌∷◌, length, take, drop, slice_index, Option, Some, None}
 use Rattle.std.specs.List.{prefix_len, position}
 use Rattle.std.specs.Option.{option_map, option_map_or, option_or, option_and_then}
 use Rattle.c_lexer.specs.Bytes.{is_space, is_nondigit, is_word_byte}
 use Rattle.c_lexer.specs.Numbers.{begins_number, continues, constant_of}
 use Rattle.c_lexer.specs.Characters.{character_of}
 use Rattle.c_lexer.specs.Comments.{opens_comment, is_no_line_feed}
-use Rattle.c_lexer.specs.Spelling.{spelling_of, punctuator_of}
+use Rattle.c_lexer.specs.Spelling.{punctuator_of}
 use Rattle.c_lexer.specs.Lexemes.{identifier_meaning, character_meaning, StartsToken}
 use Rattle.c_lexer.specs.Comments.{IsBlank}
 use Rattle.c_lexer.specs.Lexes.{IsFault}
@@ -24,6 +24,12 @@ BeginsWith bs (Blank n) = IsBlank bs n
 BeginsWith bs (Token n kind value) = StartsToken bs n kind value
 BeginsWith bs (Fault kind) = IsFault bs kind
 
+-- what is answered has at least one byte, and at most so many
+abbrev pub FitsIn : ℕ → Next → Type 0
+FitsIn size (Blank n) = (0 < n) × (n ≤ size)
+FitsIn size (Token n kind value) = (0 < n) × (n ≤ size)
+FitsIn size (Fault kind) = Unit {0}
+
 abbrev pub token : ℕ → TokenKind × TokenValue → Next
 token n meaning = Token n meaning.0 meaning.1
 
@@ -36,8 +42,7 @@ run_after before [] = 0
 run_after before (b ∷ bs) = if continues before b then 1 + run_after b bs else 0
 
 abbrev pub number_run : List ℕ → ℕ
-number_run [] = 0
-number_run (b ∷ bs) = 1 + run_after b bs
+number_run bs = 1 + run_after (slice_index bs 0) (drop 1 bs)
 
 abbrev pub number_next : List ℕ → Next
 number_next bs = let n = number_run bs in option_map_or (λ v. Token n Number v) (constant_of (take n bs)) (Fault BadNumber)
@@ -64,15 +69,15 @@ comment_next bs =
     if slice_index bs 1 == 47 then Blank (2 + prefix_len is_no_line_feed (drop 2 bs))
     else option_map_or (λ n. Blank (2 + n)) (close_of (drop 2 bs)) (Fault OpenComment)
 
--- the punctuator that the first n bytes are
-abbrev pub punctuator_at : ℕ → List ℕ → Option TokenKind
-punctuator_at n bs = if nat_le n (length bs) then punctuator_of (take n bs) else None
+-- the punctuator that the first n bytes are, and how many they are
+abbrev pub punctuator_at : ℕ → List ℕ → Option (TokenKind × ℕ)
+punctuator_at n bs = if nat_le n (length bs) then option_map (λ k. (k, n)) (punctuator_of (take n bs)) else None
 
-abbrev pub longest_punctuator : List ℕ → Option TokenKind
-longest_punctuator bs = option_or (punctuator_at 3 bs) (option_or (punctuator_at 2 bs) (punctuator_at 1 bs))
+abbrev pub longest_punctuator : List ℕ → Option (TokenKind × ℕ)
+longest_punctuator bs = option_or (option_or (punctuator_at 3 bs) (punctuator_at 2 bs)) (punctuator_at 1 bs)
 
 abbrev pub punctuator_next : List ℕ → Next
-punctuator_next bs = option_map_or (λ k. Token (length (spelling_of k)) k Fixed) (longest_punctuator bs) (Fault BadByte)
+punctuator_next bs = option_map_or (λ p. Token p.1 p.0 Fixed) (longest_punctuator bs) (Fault BadByte)
 
 unfoldable pub next_of : List ℕ → Next
 next_of bs =
