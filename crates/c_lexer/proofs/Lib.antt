@@ -1,1 +1,5 @@
+pub mod CommentLemmas
+pub mod Firsts
+pub mod NumberLemmas
+pub mod Runs
 pub mod SpellingLemmas

@@ -47,11 +47,13 @@ number_run bs = 1 + run_after (slice_index bs 0) (drop 1 bs)
 abbrev pub number_next : List ℕ → Next
 number_next bs = let n = number_run bs in option_map_or (λ v. Token n Number v) (constant_of (take n bs)) (Fault BadNumber)
 
--- past the first quote that can close a character constant: not the one after the opening quote, nor the one after its backslash
+-- the first place of a quote that can close a character constant: behind one byte, or behind a backslash and one byte
+abbrev pub first_close : List ℕ → ℕ
+first_close bs = if slice_index bs 1 == 92 then 3 else 2
+
+-- past the first quote that can close a character constant
 abbrev pub character_run : List ℕ → Option ℕ
-character_run bs =
-    let start = if slice_index bs 1 == 92 then 3 else 2 in
-    option_map (λ n. start + n + 1) (position (λ b. b == 39) (drop start bs))
+character_run bs = option_map (λ n. first_close bs + n + 1) (position (λ b. b == 39) (drop (first_close bs) bs))
 
 abbrev pub character_at : List ℕ → ℕ → Next
 character_at bs n = option_map_or (λ b. token n (character_meaning b)) (character_of (take n bs)) (Fault BadChar)

@@ -1,7 +1,8 @@
 // Character constants: how far one goes, and the byte that it spells.
-ghost use Rattle.std.specs.Prelude.{◌≡◌, ℕ, ◌<◌, ◌≤◌, length, pos, IfSome};
+ghost use Rattle.std.specs.Prelude.{◌≡◌, ◌==◌, ℕ, ◌<◌, ◌≤◌, length, pos, IfSome};
 ghost use Rattle.c_lexer.specs.Characters.{plain_byte, simple_escape, byte_in, escaped_byte, byte_of, char_value, character_of};
-ghost use Rattle.c_lexer.specs.Next.{character_run};
+ghost use Rattle.std.specs.List.{position};
+ghost use Rattle.c_lexer.specs.Next.{character_run, first_close};
 
 use crate::number::{digit_count, number_in};
 
@@ -11,15 +12,30 @@ pub fn character_run(rest: &[u8]) -> Option<usize>
     ensures run { result ≡ character_run rest.now }
     ensures within { IfSome result (λ n. n ≤ length rest.now) }
 {
-    let start = match rest {
-        [_, b'\\', ..] => 3,
-        _ => 2,
-    };
+    let start = first_close(rest);
     if rest.len() < start {
         return None;
     }
-    let quote = rest[start..].iter().position(|byte| *byte == b'\'')?;
+    let quote = first_quote(&rest[start..])?;
     Some(start + quote + 1)
+}
+
+/// The first place of a quote that can close the constant: behind one byte, or behind a backslash
+/// and one byte.
+fn first_close(rest: &[u8]) -> usize
+    ensures { result ≡ first_close rest.now }
+{
+    match rest {
+        [_, b'\\', ..] => 3,
+        _ => 2,
+    }
+}
+
+fn first_quote(bytes: &[u8]) -> Option<usize>
+    ensures quote { result ≡ position (λ b. b == 39) bytes.now }
+    ensures within { IfSome result (λ n. n < length bytes.now) }
+{
+    bytes.iter().position(|byte| *byte == b'\'')
 }
 
 fn plain_byte(byte: u8) -> Option<u8>
@@ -49,6 +65,7 @@ fn simple_escape(letter: u8) -> Option<u8>
 }
 
 /// The byte that the digits spell, all of them in the base.
+#[tactic(auto, using(crate::proofs::NumberLemmas::list_all_by_count))]
 fn byte_in(base: u8, digits: &[u8]) -> Option<u8>
     requires { 0 < base }
     ensures { result ≡ byte_in base digits.now }
@@ -84,6 +101,7 @@ fn byte_of(spelled: &[u8]) -> Option<u8>
 }
 
 /// The byte that a character constant spells.
+#[tactic(auto, unfolding(crate::specs::Characters::character_of))]
 pub fn character(word: &[u8]) -> Option<u8>
     ensures { result ≡ character_of word.now }
 {

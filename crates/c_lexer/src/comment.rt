@@ -1,5 +1,5 @@
 // Space and comments.
-ghost use Rattle.std.specs.Prelude.{◌≡◌, ℕ, ◌≤◌, length, IfSome};
+ghost use Rattle.std.specs.Prelude.{◌≡◌, ◌==◌, ◌&&◌, ℕ, ◌≤◌, length, IfSome};
 ghost use Rattle.std.specs.List.{prefix_len};
 ghost use Rattle.c_lexer.specs.Bytes.{is_space};
 ghost use Rattle.c_lexer.specs.Comments.{opens_comment, is_no_line_feed};
@@ -37,11 +37,17 @@ pub fn close(rest: &[u8]) -> Option<usize>
     ensures within { IfSome result (λ n. n ≤ length rest.now) }
 {
     let mut at = 0;
-    while at < rest.len() {
-        if let [b'*', b'/', ..] = &rest[at..] {
+    while at + 1 < rest.len() {
+        if is_close(rest[at], rest[at + 1]) {
             return Some(at + 2);
         }
         at += 1;
     }
     None
+}
+
+fn is_close(first: u8, second: u8) -> bool
+    ensures { result ≡ ((first == 42) && (second == 47)) }
+{
+    first == b'*' && second == b'/'
 }

@@ -159,6 +159,7 @@ fn constant_in(base: u8, bytes: &[u8]) -> Option<TokenValue>
 
 /// The value and type of an integer constant. None where the number is no constant, or where no
 /// type of its list represents its value.
+#[tactic(auto, unfolding(crate::specs::Numbers::constant_of))]
 pub fn constant(word: &[u8]) -> Option<TokenValue>
     ensures { result ≡ constant_of word.now }
 {
