@@ -2,7 +2,7 @@
 ghost use Rattle.std.specs.Prelude.{◌≡◌, ℕ, ◌<◌, ◌≤◌, length, slice_index, IfOk, IsTrue};
 ghost use Rattle.std.specs.List.{prefix_len};
 ghost use Rattle.c_lexer.specs.Bytes.{is_word_byte};
-ghost use Rattle.c_lexer.specs.Next.{word_next, number_next, character_next, comment_next, punctuator_next, BeginsWith, FitsIn};
+ghost use Rattle.c_lexer.specs.Next.{word_next, number_next, character_next, comment_next, punctuator_next, next_of};
 
 use crate::character::{char_value, character, character_run};
 use crate::comment::{close, is_space, line_length, opens_comment};
@@ -29,10 +29,10 @@ pub enum Next {
 }
 
 /// What the bytes begin with.
+#[tactic(auto, unfolding(crate::specs::Next::next_of))]
 pub fn begins_with(alloc: Global, rest: &[u8]) -> Result<Next, AllocError>
     requires { 0 < length rest.now }
-    ensures begins { IfOk result (BeginsWith rest.now) }
-    ensures fits { IfOk result (FitsIn (length rest.now)) }
+    ensures { IfOk result (λ n. n ≡ next_of rest.now) }
 {
     let first = rest[0];
     if is_space(first) {
