@@ -1,7 +1,10 @@
+pub mod Classes
 pub mod CommentLemmas
 pub mod Firsts
 pub mod Marks
 pub mod NumberLemmas
 pub mod Quotes
 pub mod Runs
+pub mod Sound
 pub mod SpellingLemmas
+pub mod Unique
