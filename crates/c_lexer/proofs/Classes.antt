@@ -36,9 +36,9 @@ number_begins [] (suc m) h = absurd (cc)
 number_begins (b ∷ bs) (suc m) h = ⊎_elim
     (λ (digit : is_ascii_digit b ≡ true). grind (arith, digit))
     (λ (p : (b ≡ 46) × (is_ascii_digit (get_or (take m bs) 0 0) ≡ true)).
-        let point : nat_eq b 46 ≡ true = grind (arith, p.0) in
-        let digit = digit_of_taken bs m p.1 in
-        grind (arith, point, digit))
+    let point : nat_eq b 46 ≡ true = grind (arith, p.0) in
+    let digit = digit_of_taken bs m p.1 in
+    grind (arith, point, digit))
     (begins_by b (take m bs) (number_first (b ∷ take m bs) h))
 
 quote_begins : (bs : List ℕ) (m : ℕ) → IsTrue (is_some (character_of (take m bs))) → get_or bs 0 0 ≡ 39
@@ -114,10 +114,11 @@ quote_is_no_comment bs h = no_slash bs (ap (λ b. nat_eq b 47) h)
 -- no word begins with a space
 pub lexeme_is_no_space : (bs : List ℕ) (m : ℕ) → IsLexeme (take m bs) → is_space (get_or bs 0 0) ≡ false
 lexeme_is_no_space bs m lexeme = elim (class_of bs m lexeme) [
-    word h first ↦ nondigit_is_no_space (get_or bs 0 0) first
+  | word h first ↦ nondigit_is_no_space (get_or bs 0 0) first
   | numeral h first ↦ number_is_no_space bs first
   | quoted h first ↦ ap is_space first
-  | mark h first ↦ mark_is_no_space (get_or bs 0 0) first ]
+  | mark h first ↦ mark_is_no_space (get_or bs 0 0) first
+]
 
 -- no punctuator is another word
 abbrev is_mark_alone : TokenKind → Bool
@@ -137,7 +138,7 @@ unfolding punctuator_of character_of
 mark_alone w k h =
     let found = found_among punctuators is_mark_alone w k refl h in
     let alone : (not (is_identifier w) && (not (is_number w) && not (is_some (character_of w)))) ≡ true
-        = ap (λ v. not (is_identifier v) && (not (is_number v) && not (is_some (character_of v)))) found.1 ∙ found.0 in
+    = ap (λ v. not (is_identifier v) && (not (is_number v) && not (is_some (character_of v)))) found.1 ∙ found.0 in
     record { no_word = grind (arith, alone); no_number = grind (arith, alone); no_character = grind (arith, alone) }
 
 pub point_alone : (w : List ℕ) (k : TokenKind) → punctuator_of w ≡ Some k → get_or w 0 0 ≡ 46 → length w ≡ 1

@@ -30,7 +30,7 @@ pub number_in_le : (base : ℕ) (digits : List ℕ) (i : ℕ) → 0 < base → n
 number_in_le base digits i h =
     let all : number_in base (take i digits ++ drop i digits) ≡ number_in base digits = ap (number_in base) (take-append-drop i digits) in
     let split : number_in base (take i digits ++ drop i digits) ≡ fold (step base) (number_in base (take i digits)) (drop i digits)
-        = fold-append (step base) 0 (take i digits) (drop i digits) in
+    = fold-append (step base) 0 (take i digits) (drop i digits) in
     omega (arith, all, split, grows base (number_in base (take i digits)) (drop i digits) h)
 
 -- one more digit
@@ -60,7 +60,7 @@ pub constant_is : (base : ℕ) (bs : List ℕ) (n : ℕ) (s : Suffix) (r : Optio
     → type_for (number_in base (take n bs)) (types_of base s) ≡ r → constant_in base bs ≡ constant_at (number_in base (take n bs)) r
 constant_is base bs n s r count some suffix type =
     let P : ℕ → Type 0 = λ m. 0 < m → suffix_of (drop m bs) ≡ Some s → type_for (number_in base (take m bs)) (types_of base s) ≡ r
-        → constant_in base bs ≡ constant_at (number_in base (take m bs)) r in
+    → constant_in base bs ≡ constant_at (number_in base (take m bs)) r in
     let whole : take (length bs - n) (drop n bs) ≡ drop n bs = take_all (length bs - n) (drop n bs) (simp length-drop (omega arith)) in
     subst P (sym count) (λ h e f. grind (arith, h, e, f)) some (ap suffix_of (sym whole) ∙ suffix) type
 

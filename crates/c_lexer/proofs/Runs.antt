@@ -83,10 +83,10 @@ run_begins : (b : ℕ) (bs : List ℕ) → begins_number (b ∷ bs) ≡ true →
 run_begins b bs begins = ⊎_elim
     (λ (digit : is_ascii_digit b ≡ true). grind (arith, digit))
     (λ (p : (b ≡ 46) × (is_ascii_digit (get_or bs 0 0) ≡ true)).
-        let still : is_ascii_digit (get_or (take (run_after b bs) bs) 0 0) ≡ true
-            = subst (λ v. is_ascii_digit (get_or (take (run_after v bs) bs) 0 0) ≡ true) (sym p.0) (point_begins bs p.1) in
-        let point : nat_eq b 46 ≡ true = grind (arith, p.0) in
-        grind (arith, point, still))
+    let still : is_ascii_digit (get_or (take (run_after b bs) bs) 0 0) ≡ true
+    = subst (λ v. is_ascii_digit (get_or (take (run_after v bs) bs) 0 0) ≡ true) (sym p.0) (point_begins bs p.1) in
+    let point : nat_eq b 46 ≡ true = grind (arith, p.0) in
+    grind (arith, point, still))
     (begins_by b bs begins)
 
 pub run_is_number : (bs : List ℕ) → begins_number bs ≡ true → IsTrue (is_number (take (number_run bs) bs))

@@ -37,12 +37,13 @@ is_found (Some a) h = (a, refl)
 -- a word
 word_longest : (bs : List ℕ) → is_nondigit (get_or bs 0 0) ≡ true → (m : ℕ) → m ≤ length bs → IsLexeme (take m bs) → m ≤ prefix_len is_word_byte bs
 word_longest bs h m within lexeme = elim (class_of bs m lexeme) [
-    word w first ↦ word_within_run bs m within w
+  | word w first ↦ word_within_run bs m within w
   | numeral w first ↦ absurd (contra (is_nondigit (get_or bs 0 0)) (number_is_no_word bs first) h)
   | quoted w first ↦ absurd (contra (is_nondigit (get_or bs 0 0)) (ap is_nondigit first) h)
-  | mark w first ↦ absurd (contra (is_mark (get_or bs 0 0)) (nondigit_is_no_mark (get_or bs 0 0) h) first) ]
+  | mark w first ↦ absurd (contra (is_mark (get_or bs 0 0)) (nondigit_is_no_mark (get_or bs 0 0) h) first)
+]
 
-pub word_sound : (bs : List ℕ) → is_nondigit (get_or bs 0 0) ≡ true → BeginsWith bs (word_next bs)
+word_sound : (bs : List ℕ) → is_nondigit (get_or bs 0 0) ≡ true → BeginsWith bs (word_next bs)
 word_sound bs h = record {
   no_comment = word_is_no_comment bs h;
   longest = record {
@@ -61,10 +62,10 @@ mark_in_number [] (suc m) h first within w = omega arith
 mark_in_number (b ∷ bs) (suc m) h first within w = ⊎_elim
     (λ (digit : is_ascii_digit b ≡ true). absurd (contra (is_mark b) (digit_is_no_mark b digit) first))
     (λ (point : b ≡ 46).
-        let found = is_found (punctuator_of (b ∷ take m bs)) w in
-        let one : suc (length (take m bs)) ≡ 1 = point_alone (b ∷ take m bs) found.0 found.1 point in
-        let size : length (take m bs) ≡ m = length-take-le m bs (omega arith) in
-        omega (arith, one, size))
+    let found = is_found (punctuator_of (b ∷ take m bs)) w in
+    let one : suc (length (take m bs)) ≡ 1 = point_alone (b ∷ take m bs) found.0 found.1 point in
+    let size : length (take m bs) ≡ m = length-take-le m bs (omega arith) in
+    omega (arith, one, size))
     (number_byte (b ∷ bs) h)
 
 number_longest : (bs : List ℕ) → begins_number bs ≡ true → IsLongest bs (number_run bs)
@@ -72,10 +73,11 @@ number_longest bs h = record {
   within = number_run_within bs h;
   lexeme = number (run_is_number bs h);
   longest = λ m within lexeme. elim (class_of bs m lexeme) [
-      word w first ↦ absurd (contra (is_nondigit (get_or bs 0 0)) (number_is_no_word bs h) first)
+    | word w first ↦ absurd (contra (is_nondigit (get_or bs 0 0)) (number_is_no_word bs h) first)
     | numeral w first ↦ number_within_run bs m within w
     | quoted w first ↦ absurd (contra (nat_eq (get_or bs 0 0) 39) (number_is_no_quote bs h) (ap (λ b. nat_eq b 39) first))
-    | mark w first ↦ mark_in_number bs m h first within w ];
+    | mark w first ↦ mark_in_number bs m h first within w
+  ];
 }
 
 number_sound_at : (bs : List ℕ) → begins_number bs ≡ true → (r : Option TokenValue) → constant_of (take (number_run bs) bs) ≡ r
@@ -87,17 +89,18 @@ number_sound_at bs h (Some v) e = record {
 }
 number_sound_at bs h None e = bad_number (number_run bs) (number_longest bs h) (run_is_number bs h) e
 
-pub number_sound : (bs : List ℕ) → begins_number bs ≡ true → BeginsWith bs (number_next bs)
+number_sound : (bs : List ℕ) → begins_number bs ≡ true → BeginsWith bs (number_next bs)
 number_sound bs h = number_sound_at bs h (constant_of (take (number_run bs) bs)) refl
 
 -- a character constant
 at_quote : (bs : List ℕ) → get_or bs 0 0 ≡ 39 → (P : ℕ → Type 0) → ((m v : ℕ) → m ≤ length bs → character_of (take m bs) ≡ Some v → P m)
     → (m : ℕ) → m ≤ length bs → IsLexeme (take m bs) → P m
 at_quote bs h P holds m within lexeme = elim (class_of bs m lexeme) [
-    word w first ↦ absurd (contra (is_nondigit (get_or bs 0 0)) (ap is_nondigit h) first)
+  | word w first ↦ absurd (contra (is_nondigit (get_or bs 0 0)) (ap is_nondigit h) first)
   | numeral w first ↦ absurd (contra (nat_eq (get_or bs 0 0) 39) (number_is_no_quote bs first) (ap (λ b. nat_eq b 39) h))
   | quoted w first ↦ let found = is_found (character_of (take m bs)) w in holds m found.0 within found.1
-  | mark w first ↦ absurd (contra (is_mark (get_or bs 0 0)) (ap is_mark h) first) ]
+  | mark w first ↦ absurd (contra (is_mark (get_or bs 0 0)) (ap is_mark h) first)
+]
 
 character_sound_at : (bs : List ℕ) (n : ℕ) → get_or bs 0 0 ≡ 39 → character_run bs ≡ Some n → (r : Option ℕ) → character_of (take n bs) ≡ r
     → BeginsWith bs (option_map_or (λ b. token n (character_meaning b)) r (Fault BadChar))
@@ -112,16 +115,16 @@ character_sound_at bs n h run (Some v) e = record {
 }
 character_sound_at bs n h run None e =
     bad_char h (at_quote bs h (λ m. ⊥) (λ m w within is.
-        let same : m ≡ n = let one = character_is_run bs m w within is in cc in
-        let none : character_of (take m bs) ≡ None = ap (λ k. character_of (take k bs)) same ∙ e in
-        cc))
+    let same : m ≡ n = let one = character_is_run bs m w within is in cc in
+    let none : character_of (take m bs) ≡ None = ap (λ k. character_of (take k bs)) same ∙ e in
+    cc))
 
 character_sound_run : (bs : List ℕ) → get_or bs 0 0 ≡ 39 → (r : Option ℕ) → character_run bs ≡ r
     → BeginsWith bs (option_map_or (character_at bs) r (Fault BadChar))
 character_sound_run bs h (Some n) run = character_sound_at bs n h run (character_of (take n bs)) refl
 character_sound_run bs h None run = bad_char h (at_quote bs h (λ m. ⊥) (λ m w within is. let one = character_is_run bs m w within is in cc))
 
-pub character_sound : (bs : List ℕ) → get_or bs 0 0 ≡ 39 → BeginsWith bs (character_next bs)
+character_sound : (bs : List ℕ) → get_or bs 0 0 ≡ 39 → BeginsWith bs (character_next bs)
 character_sound bs h = character_sound_run bs h (character_run bs) refl
 
 -- a comment
@@ -157,7 +160,7 @@ comment_sound_by : (bs : List ℕ) → get_or bs 0 0 ≡ 47 → (r : Bool) → n
 comment_sound_by bs first true e h = line_sound bs (drop 2 bs) (two_bytes bs 47 47 (omega arith) (omega arith) first (same_number (get_or bs 1 0) 47 e))
 comment_sound_by bs first false e h = block_sound bs (drop 2 bs) (two_bytes bs 47 42 (omega arith) (omega arith) first (same_number (get_or bs 1 0) 42 h)) (close_of (drop 2 bs)) refl
 
-pub comment_sound : (bs : List ℕ) → opens_comment bs ≡ true → BeginsWith bs (comment_next bs)
+comment_sound : (bs : List ℕ) → opens_comment bs ≡ true → BeginsWith bs (comment_next bs)
 comment_sound bs h =
     let opens = and_true (nat_eq (get_or bs 0 0) 47) (nat_eq (get_or bs 1 0) 47 || nat_eq (get_or bs 1 0) 42) h in
     comment_sound_by bs (same_number (get_or bs 0 0) 47 opens.0) (nat_eq (get_or bs 1 0) 47) refl opens.1
@@ -174,10 +177,11 @@ record Marked (bs : List ℕ) : Type 0 where
 at_mark : (bs : List ℕ) → Marked bs → (P : ℕ → Type 0) → ((m : ℕ) → m ≤ length bs → (p : TokenKind × ℕ) → longest_punctuator bs ≡ Some p → m ≤ p.1 → P m)
     → (m : ℕ) → m ≤ length bs → IsLexeme (take m bs) → P m
 at_mark bs k P holds m within lexeme = elim (class_of bs m lexeme) [
-    word w first ↦ absurd (contra (is_nondigit (get_or bs 0 0)) k.no_word first)
+  | word w first ↦ absurd (contra (is_nondigit (get_or bs 0 0)) k.no_word first)
   | numeral w first ↦ absurd (contra (begins_number bs) k.no_number first)
   | quoted w first ↦ absurd (contra (nat_eq (get_or bs 0 0) 39) k.no_quote (ap (λ b. nat_eq b 39) first))
-  | mark w first ↦ let r = mark_within_longest bs m within w in holds m within r.0 r.1 r.2 ]
+  | mark w first ↦ let r = mark_within_longest bs m within w in holds m within r.0 r.1 r.2
+]
 
 punctuator_sound_at : (bs : List ℕ) → Marked bs → (r : Option (TokenKind × ℕ)) → longest_punctuator bs ≡ r
     → BeginsWith bs (option_map_or (λ p. Token p.1 p.0 Fixed) r (Fault BadByte))
@@ -196,7 +200,7 @@ punctuator_sound_at bs k None e =
     bad_byte k.nonempty k.no_space (λ first. contra (nat_eq (get_or bs 0 0) 39) k.no_quote (ap (λ b. nat_eq b 39) first)) k.no_comment
     (at_mark bs k (λ m. ⊥) (λ m within q f le. cc))
 
-pub punctuator_sound : (bs : List ℕ) → Marked bs → BeginsWith bs (punctuator_next bs)
+punctuator_sound : (bs : List ℕ) → Marked bs → BeginsWith bs (punctuator_next bs)
 punctuator_sound bs k = punctuator_sound_at bs k (longest_punctuator bs) refl
 
 by_test : (P : Next → Type 0) (t : Bool) (x y : Next) → (t ≡ true → P x) → (t ≡ false → P y) → P (cond t x y)

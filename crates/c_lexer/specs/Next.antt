@@ -24,12 +24,6 @@ BeginsWith bs (Blank n) = IsBlank bs n
 BeginsWith bs (Token n kind value) = StartsToken bs n kind value
 BeginsWith bs (Fault kind) = IsFault bs kind
 
--- what is answered has at least one byte, and at most so many
-abbrev pub FitsIn : ℕ → Next → Type 0
-FitsIn size (Blank n) = (0 < n) × (n ≤ size)
-FitsIn size (Token n kind value) = (0 < n) × (n ≤ size)
-FitsIn size (Fault kind) = Unit {0}
-
 abbrev pub token : ℕ → TokenKind × TokenValue → Next
 token n meaning = Token n meaning.0 meaning.1
 

@@ -5,11 +5,9 @@ ghost use Rattle.c_lexer.specs.Lexes.{TokensAreOne, FaultIsOne, TokensOrFault};
 pub fn tokens_are_one()
     ensures tokens { TokensAreOne }
     ensures faults { FaultIsOne }
-{
-}
+{}
 
 /// A text has tokens or a fault, and never both.
 pub fn tokens_or_fault()
     ensures { TokensOrFault }
-{
-}
+{}

@@ -8,11 +8,19 @@ use std::test::Fail;
 fn only(alloc: Global, text: &[u8]) -> Result<Option<Token>, LexError> {
     let mut tokens = lex(alloc, text)?;
     let last = tokens.pop();
-    if tokens.is_empty() { Ok(last) } else { Ok(None) }
+    if tokens.is_empty() {
+        Ok(last)
+    } else {
+        Ok(None)
+    }
 }
 
 /// The value and type of a text that is one constant.
-fn constant(alloc: Global, text: &str, kind: TokenKind) -> Result<Option<(i128, IntType)>, LexError> {
+fn constant(
+    alloc: Global,
+    text: &str,
+    kind: TokenKind,
+) -> Result<Option<(i128, IntType)>, LexError> {
     let Some(token) = only(alloc, text.as_bytes())? else {
         return Ok(None);
     };
@@ -140,7 +148,11 @@ fn constants_have_the_first_type_that_represents_them(rt: HostRuntime) -> Result
         ("1u", 1, IntType::UInt),
         ("4294967295U", 4294967295, IntType::UInt),
         ("4294967296u", 4294967296, IntType::ULong),
-        ("18446744073709551615u", 18446744073709551615, IntType::ULong),
+        (
+            "18446744073709551615u",
+            18446744073709551615,
+            IntType::ULong,
+        ),
         ("1l", 1, IntType::Long),
         ("9223372036854775807L", 9223372036854775807, IntType::Long),
         ("1ul", 1, IntType::ULong),
@@ -148,7 +160,11 @@ fn constants_have_the_first_type_that_represents_them(rt: HostRuntime) -> Result
         ("1UL", 1, IntType::ULong),
         ("1Lu", 1, IntType::ULong),
         ("1uL", 1, IntType::ULong),
-        ("18446744073709551615lU", 18446744073709551615, IntType::ULong),
+        (
+            "18446744073709551615lU",
+            18446744073709551615,
+            IntType::ULong,
+        ),
         ("017", 15, IntType::Int),
         ("00", 0, IntType::Int),
         ("017777777777", 2147483647, IntType::Int),
@@ -156,8 +172,16 @@ fn constants_have_the_first_type_that_represents_them(rt: HostRuntime) -> Result
         ("037777777777", 4294967295, IntType::UInt),
         ("040000000000", 4294967296, IntType::Long),
         ("0777777777777777777777", 9223372036854775807, IntType::Long),
-        ("01000000000000000000000", 9223372036854775808, IntType::ULong),
-        ("01777777777777777777777", 18446744073709551615, IntType::ULong),
+        (
+            "01000000000000000000000",
+            9223372036854775808,
+            IntType::ULong,
+        ),
+        (
+            "01777777777777777777777",
+            18446744073709551615,
+            IntType::ULong,
+        ),
         ("0x7fffffff", 2147483647, IntType::Int),
         ("0X80000000", 2147483648, IntType::UInt),
         ("0xFFFFFFFF", 4294967295, IntType::UInt),
@@ -295,7 +319,14 @@ fn tokens_stand_at_their_places(rt: HostRuntime) -> Result<(), Fail> {
     assert_eq!(rt; tokens.len(), rows.len());
     for (kind, from, to) in rows.iter().rev() {
         let token = tokens.pop().ok_or("a token")?;
-        assert!(rt; token.kind == *kind && token.span == Span { from: *from, to: *to });
+        assert!(rt;
+            token.kind == *kind
+                && token.span
+                    == Span {
+                        from: *from,
+                        to: *to
+                    }
+        );
     }
     Ok(())
 }

@@ -2,10 +2,10 @@
 ghost use Rattle.std.specs.Prelude.{◌≡◌, ℕ, ◌≤◌, length, IfOk, IsOk, MatchResult, vec_len};
 ghost use Rattle.c_lexer.specs.Lexes.{Lexes, IsLexError};
 
-use crate::error::{LexError, LexFault, LexFaultKind};
-use crate::next::{begins_with, Next};
-use crate::token::Token;
 use crate::TEXT_LIMIT;
+use crate::error::{LexError, LexFault, LexFaultKind};
+use crate::next::{Next, begins_with};
+use crate::token::Token;
 use pt_base::Span;
 use std::alloc::Global;
 

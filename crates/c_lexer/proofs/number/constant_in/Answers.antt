@@ -23,5 +23,5 @@ returns c =
     let f : FitsSigned w128 c.from.result = search rules in
     let value = fits_some _ _ c.in_ok-value.ensures in
     let is = constant_is c.args.base c.args.bytes.now c.digit_count-count.result c.in_ok-suffix.suffix _ c.digit_count-count.ensures.count (omega arith) (sym c.in_ok-suffix.ensures)
-        (ap (λ v. type_for v (types_of c.args.base c.in_ok-suffix.suffix)) (sym value) ∙ sym c.in_ok-ty.ensures) in
+    (ap (λ v. type_for v (types_of c.args.base c.in_ok-suffix.suffix)) (sym value) ∙ sym c.in_ok-ty.ensures) in
     simp to_z-of_z (ap (λ (v : ℤ). Some (Constant v c.in_ok-ty.ty)) (c.from.ensures ∙ ap pos value) ∙ sym is)
