@@ -1,6 +1,6 @@
 -- The classes of words have no word in common, and a word's class is told by the bytes that it begins with.
-use Rattle.std.proofs.Common.{◌≡◌, ℕ, ◌+◌, ◌≤◌, ◌<◌, zero, suc, Bool, true, false, cond, nat_eq, List, [], ◌∷◌, length, take, get_or, refl, ap, sym, ◌∙◌, subst, inl, inr, ⊎_elim, rules, arith}
-use Rattle.std.specs.Prelude.{Option, Some, None, not, ◌||◌, ◌&&◌, ◌⊎◌, is_some, IsTrue}
+use Rattle.std.proofs.Common.{◌≡◌, ℕ, zero, suc, Bool, true, false, nat_eq, List, [], ◌∷◌, length, take, get_or, refl, ap, sym, ◌∙◌, subst, inl, inr, ⊎_elim, arith}
+use Rattle.std.specs.Prelude.{Some, not, ◌||◌, ◌&&◌, ◌⊎◌, is_some, IsTrue}
 use Rattle.std.specs.Option.{option_map}
 use Rattle.std.specs.Char.{is_ascii_digit}
 use Rattle.c_lexer.specs.Bytes.{is_space, is_nondigit}
@@ -11,9 +11,8 @@ use Rattle.c_lexer.specs.Comments.{opens_comment}
 use Rattle.c_lexer.specs.Lexemes.{is_identifier, IsLexeme, identifier, number, character, punctuator, identifier_meaning, character_meaning, meaning_of}
 use Rattle.c_lexer.specs.declared.token.TokenKind.{TokenKind}
 use Rattle.c_lexer.specs.declared.token.TokenKind.TheVariants.{Number}
-use Rattle.c_lexer.specs.declared.token.TokenValue.{TokenValue}
 use Rattle.c_lexer.specs.declared.token.TokenValue.TheVariants.{Fixed}
-use Rattle.c_lexer.proofs.Firsts.{is_mark, found_among, is_found, mark_first, quote_first, nondigit_first, number_first, begins_by, nondigit_is_no_space, nondigit_is_no_mark, nondigit_is_no_digit, mark_is_no_space, digit_is_no_space, digit_is_no_mark}
+use Rattle.c_lexer.proofs.Firsts.{is_mark, found_among, mark_first, quote_first, nondigit_first, number_first, begins_by, nondigit_is_no_space, nondigit_is_no_digit, mark_is_no_space, digit_is_no_space}
 
 pub not_true : (t : Bool) → (t ≡ true → ⊥) → t ≡ false
 not_true true h = absurd (h refl)

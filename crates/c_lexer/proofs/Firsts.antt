@@ -1,7 +1,7 @@
 -- What a word's first bytes tell of its class.
-use Rattle.std.proofs.Common.{◌≡◌, ℕ, ◌+◌, ◌≤◌, ◌<◌, zero, suc, Bool, true, false, cond, nat_eq, List, [], ◌∷◌, length, take, get_or, refl, ap, sym, ◌∙◌, subst, inl, inr, rules, arith}
-use Rattle.std.specs.Prelude.{Option, Some, None, ◌||◌, ◌&&◌, ◌⊎◌, is_some, IsTrue, slice_index}
-use Rattle.std.specs.List.{list_all, find}
+use Rattle.std.proofs.Common.{◌≡◌, ℕ, ◌≤◌, ◌<◌, Bool, true, false, cond, nat_eq, List, [], ◌∷◌, get_or, refl, ap, sym, ◌∙◌, inl, inr, arith}
+use Rattle.std.specs.Prelude.{Option, Some, None, ◌||◌, ◌&&◌, ◌⊎◌, is_some, IsTrue}
+use Rattle.std.specs.List.{list_all}
 use Rattle.std.specs.Int.{is_in_range}
 use Rattle.std.specs.Str.{bytes_eq}
 use Rattle.std.specs.Char.{is_ascii_digit}
@@ -10,8 +10,7 @@ use Rattle.c_lexer.specs.Bytes.{is_space, is_nondigit, is_word_byte}
 use Rattle.c_lexer.specs.Spelling.{spelling_of, punctuators, kind_among, punctuator_of}
 use Rattle.c_lexer.specs.Numbers.{is_number, begins_number}
 use Rattle.c_lexer.specs.Characters.{character_of}
-use Rattle.c_lexer.specs.Comments.{opens_comment}
-use Rattle.c_lexer.specs.Lexemes.{is_identifier, IsLexeme}
+use Rattle.c_lexer.specs.Lexemes.{is_identifier}
 use Rattle.c_lexer.specs.declared.token.TokenKind.{TokenKind}
 
 -- the ranges in which the punctuators' first bytes lie

@@ -1,11 +1,11 @@
 -- What bytes begin with has at least one byte, and no more than there are.
-use Rattle.std.proofs.Common.{◌≡◌, ℕ, ◌+◌, ◌≤◌, ◌<◌, zero, suc, Bool, true, false, List, [], ◌∷◌, ◌++◌, length, take, drop, get_or, refl, ap, sym, ◌∙◌, subst, rules, arith, length-append}
-use Rattle.std.specs.Prelude.{IsTrue, codes}
+use Rattle.std.proofs.Common.{◌≡◌, ℕ, ◌≤◌, ◌<◌, zero, suc, true, false, List, [], ◌∷◌, ◌++◌, length, take, get_or, ap, arith, length-append}
+use Rattle.std.specs.Prelude.{IsTrue}
 use Rattle.c_lexer.specs.Bytes.{is_space}
 use Rattle.c_lexer.specs.Comments.{IsBlank, space, line, block}
-use Rattle.c_lexer.specs.Lexemes.{IsLexeme, identifier, number, character, punctuator, IsLongest, StartsToken}
+use Rattle.c_lexer.specs.Lexemes.{IsLexeme, identifier, number, character, punctuator}
 use Rattle.c_lexer.specs.Lexes.{IsFault, bad_byte, open_comment, bad_number, bad_char}
-use Rattle.c_lexer.specs.Next.{BeginsWith, next_of}
+use Rattle.c_lexer.specs.Next.{BeginsWith}
 use Rattle.c_lexer.specs.declared.error.LexFaultKind.{LexFaultKind}
 use Rattle.c_lexer.specs.declared.next.Next.{Next}
 use Rattle.c_lexer.specs.declared.next.Next.TheVariants.{Blank, Token, Fault}

@@ -1,5 +1,5 @@
 -- The longest punctuator that bytes begin with.
-use Rattle.std.proofs.Common.{◌≡◌, ℕ, ◌+◌, ◌-◌, ◌≤◌, ◌<◌, zero, suc, Bool, true, false, cond, nat_eq, nat_le, List, [], ◌∷◌, length, take, refl, ap, sym, ◌∙◌, subst, inl, inr, ⊎_elim, rules, arith, length-take-le}
+use Rattle.std.proofs.Common.{◌≡◌, ℕ, ◌≤◌, zero, suc, Bool, true, false, cond, nat_le, List, length, take, refl, ap, sym, ◌∙◌, subst, inl, inr, ⊎_elim, arith, length-take-le}
 use Rattle.std.specs.Prelude.{Option, Some, None, ◌⊎◌, is_some, IsTrue, ◌&&◌}
 use Rattle.std.specs.Option.{option_or, option_map}
 use Rattle.c_lexer.specs.Spelling.{spelling_of, punctuators, punctuator_of}

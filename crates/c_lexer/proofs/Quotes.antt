@@ -1,8 +1,8 @@
 -- A character constant ends at the first quote that can close it.
-use Rattle.std.proofs.Common.{◌≡◌, ℕ, ◌+◌, ◌-◌, ◌≤◌, ◌<◌, zero, suc, Bool, true, false, cond, nat_eq, nat_le, nat_lt, List, [], ◌∷◌, ◌++◌, length, take, drop, get_or, refl, ap, sym, ◌∙◌, subst, inl, inr, ⊎_elim, rules, arith, length-append, length-drop, length-take-le, take-append-drop, append_assoc}
-use Rattle.std.specs.Prelude.{Option, Some, None, not, ◌||◌, ◌&&◌, ◌⊎◌, is_some, IsTrue, slice_index, if◌then◌else◌}
-use Rattle.std.specs.List.{list_all, prefix_len, position, position_or_len}
-use Rattle.std.specs.Char.{is_digit, digit_value}
+use Rattle.std.proofs.Common.{◌≡◌, ℕ, ◌+◌, ◌-◌, ◌≤◌, ◌<◌, suc, Bool, true, false, cond, nat_eq, nat_le, List, [], ◌∷◌, ◌++◌, length, take, drop, get_or, refl, ap, sym, ◌∙◌, subst, inl, inr, ⊎_elim, arith, length-append, length-drop, length-take-le, take-append-drop, append_assoc}
+use Rattle.std.specs.Prelude.{Option, Some, None, not, ◌&&◌, ◌⊎◌}
+use Rattle.std.specs.List.{list_all, position, position_or_len}
+use Rattle.std.specs.Char.{is_digit}
 use Rattle.std.specs.Option.{option_map}
 use Rattle.std.proofs.lemmas.List.{take_more, take_all}
 use Rattle.c_lexer.specs.Characters.{plain_byte, simple_escape, byte_in, escaped_byte, byte_of, character_of}

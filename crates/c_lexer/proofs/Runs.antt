@@ -1,7 +1,7 @@
 -- No word of its class that begins at a place is longer than the run of bytes of the class, and the run is such a word.
-use Rattle.std.proofs.Common.{◌≡◌, ℕ, ◌+◌, ◌-◌, ◌≤◌, ◌<◌, zero, suc, Bool, true, false, cond, nat_eq, nat_le, List, [], ◌∷◌, ◌++◌, length, take, drop, get_or, refl, ap, sym, ◌∙◌, subst, inl, inr, ⊎_elim, rules, arith, length-drop, length-take-le, take-append-drop}
-use Rattle.std.specs.Prelude.{Option, Some, None, ◌||◌, ◌&&◌, ◌⊎◌, is_some, IsTrue, slice_index, if◌then◌else◌}
-use Rattle.std.specs.List.{list_all, prefix_len, position, position_or_len}
+use Rattle.std.proofs.Common.{◌≡◌, ℕ, ◌+◌, ◌≤◌, zero, suc, Bool, true, false, cond, nat_eq, List, [], ◌∷◌, length, take, get_or, refl, sym, subst, ⊎_elim, arith}
+use Rattle.std.specs.Prelude.{IsTrue}
+use Rattle.std.specs.List.{list_all, prefix_len}
 use Rattle.std.specs.Char.{is_ascii_digit}
 use Rattle.c_lexer.specs.Bytes.{is_nondigit, is_word_byte}
 use Rattle.c_lexer.specs.Numbers.{is_number, begins_number, goes_on, continues}

@@ -1,17 +1,17 @@
 -- The bytes from a place on begin with what the code finds there.
-use Rattle.std.proofs.Common.{◌≡◌, ℕ, ◌+◌, ◌≤◌, ◌<◌, zero, suc, Bool, true, false, cond, nat_eq, List, [], ◌∷◌, ◌++◌, length, take, drop, get_or, refl, ap, sym, ◌∙◌, subst, inl, inr, ⊎_elim, rules, arith, length-take-le, take-append-drop}
-use Rattle.std.specs.Prelude.{Option, Some, None, ◌||◌, ◌&&◌, ◌⊎◌, is_some, IsTrue, codes}
+use Rattle.std.proofs.Common.{◌≡◌, ℕ, ◌+◌, ◌≤◌, ◌<◌, zero, suc, Bool, true, false, cond, nat_eq, List, [], ◌∷◌, length, take, drop, get_or, refl, ap, sym, ◌∙◌, subst, ⊎_elim, arith, length-take-le, take-append-drop}
+use Rattle.std.specs.Prelude.{Option, Some, None, ◌||◌, ◌&&◌, is_some, IsTrue}
 use Rattle.std.specs.List.{prefix_len}
 use Rattle.std.specs.Option.{option_map, option_map_or}
 use Rattle.std.specs.Char.{is_ascii_digit}
 use Rattle.std.proofs.lemmas.List.Sums.{prefix_len-le-length}
 use Rattle.c_lexer.specs.Bytes.{is_space, is_nondigit, is_word_byte}
 use Rattle.c_lexer.specs.Spelling.{punctuator_of}
-use Rattle.c_lexer.specs.Numbers.{is_number, begins_number, constant_of}
+use Rattle.c_lexer.specs.Numbers.{begins_number, constant_of}
 use Rattle.c_lexer.specs.Characters.{character_of}
 use Rattle.c_lexer.specs.Comments.{opens_comment, is_no_line_feed, IsBlank, space, line, block}
-use Rattle.c_lexer.specs.Lexemes.{IsLexeme, identifier, number, character, punctuator, IsLongest, StartsToken, character_meaning}
-use Rattle.c_lexer.specs.Lexes.{NoLexeme, IsFault, bad_byte, open_comment, bad_number, bad_char}
+use Rattle.c_lexer.specs.Lexemes.{IsLexeme, identifier, number, character, punctuator, IsLongest, character_meaning}
+use Rattle.c_lexer.specs.Lexes.{bad_byte, open_comment, bad_number, bad_char}
 use Rattle.c_lexer.specs.Next.{BeginsWith, token, word_next, number_run, number_next, character_run, character_at, character_next, close_of, comment_next, longest_punctuator, punctuator_next, next_of}
 use Rattle.c_lexer.specs.declared.token.TokenKind.{TokenKind}
 use Rattle.c_lexer.specs.declared.token.TokenKind.TheVariants.{Number}

@@ -1,10 +1,10 @@
 -- A word is the spelling of the kind that is found for it, and a word of another length is none of the kinds.
-use Rattle.std.proofs.Common.{◌≡◌, ℕ, ◌+◌, Bool, true, false, cond, nat_eq, List, [], ◌∷◌, length, refl, ap, sym, ◌∙◌, subst, rules, arith}
-use Rattle.std.specs.Prelude.{Option, Some, None}
-use Rattle.std.specs.List.{list_any, find}
+use Rattle.std.proofs.Common.{◌≡◌, ℕ, Bool, false, nat_eq, List, [], ◌∷◌, length, refl, rules, arith}
+use Rattle.std.specs.Prelude.{None}
+use Rattle.std.specs.List.{list_any}
 use Rattle.std.specs.Str.{bytes_eq}
 use Rattle.c_lexer.specs.declared.token.TokenKind.{TokenKind}
-use Rattle.c_lexer.specs.Spelling.{spelling_of, keywords, punctuators, kind_among, keyword_of, punctuator_of}
+use Rattle.c_lexer.specs.Spelling.{spelling_of, keywords, kind_among, keyword_of}
 
 abbrev pub as_long : ℕ → TokenKind → Bool
 as_long n k = nat_eq n (length (spelling_of k))

@@ -1,5 +1,5 @@
 -- One step of reading a text.
-use Rattle.std.proofs.Common.{◌≡◌, ℕ, ◌-◌, ◌≤◌, ◌<◌, List, length, take, drop, ap, sym, ◌∙◌, subst, arith, length-drop}
+use Rattle.std.proofs.Common.{◌≡◌, ℕ, ◌-◌, ◌<◌, List, length, take, drop, ap, sym, ◌∙◌, subst, arith, length-drop}
 use Rattle.std.proofs.lemmas.List.{take_all}
 use Rattle.c_lexer.specs.Next.{BeginsWith, next_of}
 use Rattle.c_lexer.specs.declared.next.Next.{Next}

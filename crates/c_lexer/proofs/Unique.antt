@@ -1,13 +1,12 @@
 -- Bytes begin with one thing at most.
-use Rattle.std.proofs.Common.{◌≡◌, ℕ, ◌+◌, ◌≤◌, ◌<◌, zero, suc, Bool, true, false, cond, nat_eq, List, [], ◌∷◌, ◌++◌, length, take, drop, get_or, refl, ap, sym, ◌∙◌, subst, inl, inr, ⊎_elim, rules, arith}
-use Rattle.std.specs.Prelude.{Option, Some, None, ◌||◌, ◌&&◌, ◌⊎◌, is_some, IsTrue, codes}
+use Rattle.std.proofs.Common.{◌≡◌, ℕ, ◌+◌, true, false, cond, nat_eq, List, ◌∷◌, ◌++◌, length, take, get_or, refl, ap, sym, ◌∙◌, subst, arith}
 use Rattle.std.specs.List.{prefix_len}
 use Rattle.std.specs.Option.{option_map, option_map_or}
 use Rattle.c_lexer.specs.Bytes.{is_space}
 use Rattle.c_lexer.specs.Comments.{opens_comment, is_no_line_feed, IsBlank, space, line, block}
-use Rattle.c_lexer.specs.Lexemes.{IsLexeme, IsLongest, StartsToken, meaning_of}
+use Rattle.c_lexer.specs.Lexemes.{IsLongest, StartsToken, meaning_of}
 use Rattle.c_lexer.specs.Lexes.{NoLexeme, IsFault, bad_byte, open_comment, bad_number, bad_char}
-use Rattle.c_lexer.specs.Next.{BeginsWith, close_of, comment_next}
+use Rattle.c_lexer.specs.Next.{BeginsWith, comment_next}
 use Rattle.c_lexer.specs.declared.token.TokenKind.{TokenKind}
 use Rattle.c_lexer.specs.declared.token.TokenKind.TheVariants.{Number}
 use Rattle.c_lexer.specs.declared.token.TokenValue.{TokenValue}

@@ -1,13 +1,12 @@
 -- A text read step by step: what is read grows at its end, and is one.
-use Rattle.std.proofs.Common.{◌≡◌, ℕ, ◌+◌, ◌-◌, ◌≤◌, ◌<◌, zero, suc, Bool, true, false, cond, List, [], ◌∷◌, ◌++◌, length, take, drop, get_or, refl, ap, sym, ◌∙◌, subst, inl, inr, ⊎_elim, rules, arith, length-drop}
-use Rattle.std.specs.Prelude.{Option, Some, None, ◌⊎◌}
+use Rattle.std.proofs.Common.{◌≡◌, ℕ, ◌+◌, ◌≤◌, ◌<◌, zero, suc, List, [], ◌∷◌, ◌++◌, length, drop, refl, ap, sym, ◌∙◌, subst, inl, inr, ⊎_elim, arith, length-drop}
+use Rattle.std.specs.Prelude.{◌⊎◌}
 use Rattle.std.proofs.lemmas.List.{drop_all}
 use Rattle.std.proofs.str.Laws.{order}
 use Rattle.std.proofs.lemmas.List.{append-nil}
-use Rattle.pt_base.specs.declared.span.Span.{Span}
 use Rattle.c_lexer.specs.Comments.{IsBlank}
-use Rattle.c_lexer.specs.Lexemes.{IsLongest, StartsToken}
-use Rattle.c_lexer.specs.Lexes.{IsGap, none, more, StandsIn, Reads, Lexes, IsFault, IsFirstFault, TokensAreOne, FaultIsOne, TokensOrFault}
+use Rattle.c_lexer.specs.Lexemes.{StartsToken}
+use Rattle.c_lexer.specs.Lexes.{IsGap, none, more, Reads, Lexes, IsFault, IsFirstFault, TokensAreOne, FaultIsOne, TokensOrFault}
 use Rattle.c_lexer.specs.Next.{BeginsWith, next_of}
 use Rattle.c_lexer.specs.declared.token.Token.{Token}
 use Rattle.c_lexer.specs.declared.token.TokenKind.{TokenKind}

@@ -1,9 +1,8 @@
 -- Character constants (C99 6.4.4.4) of one byte, and the values that they have as an `int`.
-use Rattle.std.specs.Prelude.{ℕ, ◌+◌, ◌-◌, Bool, true, false, not, ◌&&◌, ◌==◌, nat_lt, nat_le, if◌then◌else◌, List, [], ◌∷◌, length, take, slice_index, Option, Some, None, ℤ, pos, negsuc}
+use Rattle.std.specs.Prelude.{ℕ, ◌-◌, not, ◌&&◌, ◌==◌, nat_lt, nat_le, if◌then◌else◌, List, [], ◌∷◌, length, take, slice_index, Option, Some, None, ℤ, pos, negsuc}
 use Rattle.std.specs.List.{list_all}
 use Rattle.std.specs.Int.{is_in_range}
 use Rattle.std.specs.Char.{is_digit}
-use Rattle.std.specs.Option.{option_and_then}
 use Rattle.c_lexer.specs.Bytes.{number_in}
 
 -- a printable byte stands for itself, other than `'` and `\`

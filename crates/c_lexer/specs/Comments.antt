@@ -1,5 +1,5 @@
 -- Space and comments (C99 6.4.9).
-use Rattle.std.specs.Prelude.{ℕ, ◌+◌, ◌≡◌, ◌⊎◌, Bool, true, false, not, ◌||◌, ◌&&◌, ◌==◌, List, [], ◌∷◌, ◌++◌, length, slice_index, IsTrue, codes}
+use Rattle.std.specs.Prelude.{ℕ, ◌+◌, ◌≡◌, Bool, true, false, not, ◌||◌, ◌&&◌, ◌==◌, List, [], ◌∷◌, ◌++◌, length, slice_index, IsTrue, codes}
 use Rattle.std.specs.List.{list_all}
 use Rattle.c_lexer.specs.Bytes.{is_space}
 

@@ -1,5 +1,5 @@
 -- The tokens of a whole text, and its first fault.
-use Rattle.std.specs.Prelude.{ℕ, ◌+◌, ◌≡◌, ◌≢◌, ◌≤◌, ◌<◌, ◌⊎◌, Bool, true, false, ◌==◌, List, [], ◌∷◌, ◌++◌, length, take, drop, slice_index, IsTrue, None, codes}
+use Rattle.std.specs.Prelude.{ℕ, ◌+◌, ◌≡◌, ◌≢◌, ◌≤◌, ◌<◌, ◌⊎◌, false, List, [], ◌∷◌, ◌++◌, length, take, drop, slice_index, IsTrue, None, codes}
 use Rattle.c_lexer.specs.Bytes.{is_space}
 use Rattle.c_lexer.specs.Numbers.{is_number, constant_of}
 use Rattle.c_lexer.specs.Comments.{opens_comment, has_close, IsBlank}

@@ -1,7 +1,7 @@
 -- What the bytes from a place on begin with, by their first bytes, as the code finds it out.
-use Rattle.std.specs.Prelude.{ℕ, ◌+◌, ◌-◌, ◌≡◌, ◌<◌, ◌≤◌, Bool, not, ◌||◌, ◌&&◌, ◌==◌, nat_le, if◌then◌else◌, List, [], ◌∷◌, length, take, drop, slice_index, Option, Some, None}
+use Rattle.std.specs.Prelude.{ℕ, ◌+◌, ◌&&◌, ◌==◌, nat_le, if◌then◌else◌, List, [], ◌∷◌, length, take, drop, slice_index, Option, Some, None}
 use Rattle.std.specs.List.{prefix_len, position}
-use Rattle.std.specs.Option.{option_map, option_map_or, option_or, option_and_then}
+use Rattle.std.specs.Option.{option_map, option_map_or, option_or}
 use Rattle.c_lexer.specs.Bytes.{is_space, is_nondigit, is_word_byte}
 use Rattle.c_lexer.specs.Numbers.{begins_number, continues, constant_of}
 use Rattle.c_lexer.specs.Characters.{character_of}

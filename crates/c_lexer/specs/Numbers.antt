@@ -1,5 +1,5 @@
 -- Preprocessing numbers (C99 6.4.8) and the integer constants among them (C99 6.4.4.1).
-use Rattle.std.specs.Prelude.{ℕ, ◌+◌, ◌-◌, ◌^◌, Bool, true, false, ◌||◌, ◌&&◌, ◌==◌, nat_lt, if◌then◌else◌, List, [], ◌∷◌, drop, take, slice_index, Option, Some, None, pos}
+use Rattle.std.specs.Prelude.{ℕ, ◌-◌, ◌^◌, Bool, true, false, ◌||◌, ◌&&◌, ◌==◌, nat_lt, if◌then◌else◌, List, [], ◌∷◌, drop, take, slice_index, Option, Some, None, pos}
 use Rattle.std.specs.List.{find, prefix_len}
 use Rattle.std.specs.Option.{option_map, option_and_then}
 use Rattle.std.specs.Char.{is_ascii_digit, is_digit, to_ascii_lowercase}

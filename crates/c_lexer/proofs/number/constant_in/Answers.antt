@@ -1,10 +1,9 @@
-use Rattle.std.proofs.Common.{◌≡◌, ◌<◌, ◌≤◌, ◌^◌, ℕ, sym, ap, ◌∙◌, subst, arith, rules, FitsSigned, to_z-of_z, take, drop, ℤ}
-use Rattle.std.specs.Prelude.{Some, Option, pos}
+use Rattle.std.proofs.Common.{sym, ap, ◌∙◌, arith, rules, FitsSigned, to_z-of_z, ℤ}
+use Rattle.std.specs.Prelude.{Some, pos}
 use Rattle.std.specs.Int.{w128}
-use Rattle.c_lexer.specs.Bytes.{number_in}
-use Rattle.c_lexer.specs.Numbers.{suffix_of, type_for, types_of}
+use Rattle.c_lexer.specs.Numbers.{type_for, types_of}
 use Rattle.c_lexer.specs.declared.token.TokenValue.TheVariants.{Constant}
-use Rattle.c_lexer.proofs.NumberLemmas.{type_for_large, constant_is, constant_at, fits_some, fits_none}
+use Rattle.c_lexer.proofs.NumberLemmas.{type_for_large, constant_is, fits_some, fits_none}
 use Rattle.c_lexer.proofs.number.constant_in.Goals as goal
 
 pub returns-in_err-value : goal.returns-in_err-value

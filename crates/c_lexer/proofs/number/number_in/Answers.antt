@@ -1,7 +1,6 @@
-use Rattle.std.proofs.Common.{◌≡◌, ◌≤◌, ◌+◌, take, arith}
+use Rattle.std.proofs.Common.{◌+◌, arith}
 use Rattle.std.proofs.lemmas.List.{take_all}
 use Rattle.std.proofs.lemmas.Grind.{common_steps}
-use Rattle.c_lexer.specs.Bytes.{number_in}
 use Rattle.c_lexer.proofs.NumberLemmas.{number_in_le, number_in_more}
 use Rattle.c_lexer.proofs.number.number_in.Goals as goal
 

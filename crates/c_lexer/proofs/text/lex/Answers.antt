@@ -1,6 +1,5 @@
-use Rattle.std.proofs.Common.{◌≡◌, ℕ, ◌+◌, ◌-◌, ◌≤◌, ◌<◌, length, take, drop, inr, sym, ◌∙◌, subst, arith, rules}
+use Rattle.std.proofs.Common.{◌+◌, ◌≤◌, length, inr, sym, ◌∙◌, subst, arith, rules}
 use Rattle.c_lexer.specs.Lexes.{Reads, none}
-use Rattle.c_lexer.specs.Next.{next_of, BeginsWith}
 use Rattle.c_lexer.specs.declared.next.Next.TheVariants.{Blank, Token, Fault}
 use Rattle.c_lexer.proofs.Steps.{step_begins, step_fits}
 use Rattle.c_lexer.proofs.Walks.{reads_blank, reads_token}
