@@ -10,4 +10,5 @@ pub mod Sound
 pub mod SpellingLemmas
 pub mod Steps
 pub mod Unique
+pub mod ValueLemmas
 pub mod Walks

@@ -7,3 +7,4 @@ pub mod Lexes
 pub mod Next
 pub mod Numbers
 pub mod Spelling
+pub mod Values

@@ -1,6 +1,10 @@
 use Rattle.std.proofs.Common.{◌+◌, ◌≤◌, length, inr, sym, ◌∙◌, subst, arith, rules}
 use Rattle.c_lexer.specs.Lexes.{Reads, none}
 use Rattle.c_lexer.specs.declared.next.Next.TheVariants.{Blank, Token, Fault}
+use Rattle.std.specs.Prelude.{IsTrue}
+use Rattle.std.proofs.lemmas.List.Elements.{All-push}
+use Rattle.c_lexer.specs.Values.{fits_type, ConstantsFit}
+use Rattle.c_lexer.proofs.ValueLemmas.{meaning_fits}
 use Rattle.c_lexer.proofs.Steps.{step_begins, step_fits}
 use Rattle.c_lexer.proofs.Walks.{reads_blank, reads_token}
 use Rattle.c_lexer.proofs.text.lex.Goals as goal
@@ -9,6 +13,7 @@ pub loop-at-init : goal.loop-at-init
 loop-at-init c = record {
   within = omega arith;
   reads = subst (λ ts. Reads c.args.text.now 0 ts 0) (sym c.new-tokens.ensures.items) none;
+  constants = subst ConstantsFit (sym c.new-tokens.ensures.items) (search rules);
   count = omega (arith, c.new-tokens.ensures.len);
 }
 
@@ -30,6 +35,7 @@ loop-at-preserved-in-Blank c =
     record {
       within = omega (arith, fits.1);
       reads = reads_blank c.args.text.now 0 c.loop-at.tokens.items c.loop-at.at c.in-Blank.length c.loop-at.invariant.reads begins;
+      constants = c.loop-at.invariant.constants;
       count = omega arith;
     }
 
@@ -65,6 +71,7 @@ loop-at-preserved c =
     record {
       within = omega (arith, fits.1);
       reads = subst (λ ts. Reads c.args.text.now 0 ts (c.loop-at.at + c.in-Token.length)) (sym pushed) reads;
+      constants = subst ConstantsFit (sym pushed) (All-push (λ t. IsTrue (fits_type t.value)) c.loop-at.tokens.items _ c.loop-at.invariant.constants (meaning_fits _ c.in-Token.kind c.in-Token.value begins.means));
       count = omega (arith, fits.0, c.in_ok-push-in-Token.ensures.len);
     }
 
