@@ -175,12 +175,25 @@ pub enum TokenKind {
     Comma,
 }
 
+impl TokenKind {
+    ghost use Rattle.std.specs.Prelude.{◌≡◌, ◌↔◌, IsTrue};
+
+    /// Whether this is that kind.
+    pub fn is(self, kind: TokenKind) -> bool
+        ensures { IsTrue result ↔ (self ≡ kind) }
+    {
+        self == kind
+    }
+}
+
 /// What a token carries beside its kind.
 #[derive(Drop)]
 pub enum TokenValue {
     /// The bytes of an identifier.
     Name(Bytes),
-    /// The value and type of a number or a character constant.
+    /// The value and type of a number or a character constant. A number's type is the first of its
+    /// list that represents the value (C99 6.4.4.1). A character's type is `int`, and its value
+    /// that of a signed `char`, from -128 to 127.
     Constant { value: i128, ty: IntType },
     /// Nothing: a keyword or a punctuator.
     Fixed,
