@@ -72,7 +72,7 @@ pub fn propagate(
     reached.seed(seeds)?;
     let mut next = 0;
     while next < reached.order.len() {
-        reached.visit(edges, &chains, next)?;
+        reached.visit(&chains, next)?;
         next += 1;
     }
     Ok(Marks { reached })

@@ -56,30 +56,27 @@ impl Reached {
     }
 
     /// Marks the slots to which the edges from a reached slot lead.
-    pub fn visit(
-        &mut self,
-        edges: &[Edge],
-        chains: &Chains,
-        parent: usize,
-    ) -> Result<(), AllocError>
-        requires sound { (seeds : List Slot) × IsSound seeds edges.now (slots_of self.old) self.old }
-        requires chains { AreChains edges.now (slots_of self.old)
-            chains.now.below.items chains.now.before.items }
-        requires ends { All (λ e. e.to.0 < slots_of self.old) edges.now }
+    pub fn visit(&mut self, chains: &Chains, parent: usize) -> Result<(), AllocError>
+        requires sound { (seeds : List Slot) × (edges : List Edge) ×
+            AreChains edges (slots_of self.old) chains.now ×
+            IsSound seeds edges (slots_of self.old) self.old }
         requires parent { parent < length self.old.order.items }
-        ensures sound { OnOk result ((seeds : List Slot) →
-            IsSound seeds edges.now (slots_of self.old) self.old →
-            IsSound seeds edges.now (slots_of self.old) self.new) }
+        ensures sound { OnOk result ((seeds : List Slot) (edges : List Edge) →
+            AreChains edges (slots_of self.old) chains.now →
+            IsSound seeds edges (slots_of self.old) self.old →
+            IsSound seeds edges (slots_of self.old) self.new) }
         ensures keeps { OnOk result (KeepsReached self.old self.new) }
-        ensures done { OnOk result (
-            GoesOn edges.now (slot_at self.old.order.items parent) self.new) }
+        ensures done { OnOk result ((edges : List Edge) →
+            AreChains edges (slots_of self.old) chains.now →
+            GoesOn edges (slot_at self.old.order.items parent) self.new) }
     {
         let slot = self.order[parent].slot;
         let mut bound = chains.below[slot.0 as usize];
         while bound > 0 {
             let edge = bound - 1;
-            self.mark(edges[edge].to, Some(Step { edge, parent }))?;
-            bound = chains.before[edge];
+            let link = chains.links[edge];
+            self.mark(link.to, Some(Step { edge, parent }))?;
+            bound = link.before;
         }
         Ok(())
     }
