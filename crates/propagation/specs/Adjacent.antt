@@ -6,7 +6,7 @@ use Rattle.propagation.specs.declared.adjacent.Chains.{Chains}
 use Rattle.propagation.specs.declared.adjacent.Link.{Link}
 use Rattle.propagation.specs.Paths.{from_of, to_of}
 
--- all edges from the slot that are numbered below `limit` are below `bound`, and the one just below it is from the slot
+-- of the edges numbered below `limit`, those from the slot are below `bound`, and the last of them just below it
 pub record Bounds (edges : List Edge) (slot : Slot) (limit bound : ℕ) : Type 0 where
   pub within : bound ≤ limit
   pub all : (j : ℕ) → j < limit → from_of edges j ≡ slot → j < bound

@@ -15,7 +15,8 @@ use std::alloc::{AllocError, Global};
 impl Reached {
     /// Nothing is reached yet.
     pub fn new(alloc: Global, slots: usize) -> Result<Reached, AllocError>
-        ensures { IfOk result (λ r. (seeds : List Slot) (edges : List Edge) → IsSound seeds edges slots r) }
+        ensures { IfOk result (λ r. (seeds : List Slot) (edges : List Edge) →
+            IsSound seeds edges slots r) }
     {
         let places = vec![in alloc; None; slots]?;
         let order = Vec::new(alloc);
@@ -42,7 +43,8 @@ impl Reached {
 
     /// Marks the seeds.
     pub fn seed(&mut self, seeds: &[Slot]) -> Result<(), AllocError>
-        requires sound { (edges : List Edge) × IsSound seeds.now edges (slots_of self.old) self.old }
+        requires sound { (edges : List Edge) ×
+            IsSound seeds.now edges (slots_of self.old) self.old }
         requires within { All (λ s. s.0 < slots_of self.old) seeds.now }
         ensures sound { OnOk result ((edges : List Edge) →
             IsSound seeds.now edges (slots_of self.old) self.old →
