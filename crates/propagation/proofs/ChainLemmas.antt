@@ -5,8 +5,9 @@ use Rattle.std.proofs.lemmas.Bool.{cases_eq}
 use Rattle.std.proofs.lemmas.List.{get_or_append_left, get_or_at, get_or_default}
 use Rattle.pt_base.specs.declared.slot.Slot.{Slot}
 use Rattle.pt_base.specs.declared.slot.Edge.{Edge}
-use Rattle.propagation.specs.Adjacent.{Bounds}
-use Rattle.propagation.specs.Paths.{from_of}
+use Rattle.propagation.specs.declared.adjacent.Link.{Link}
+use Rattle.propagation.specs.Adjacent.{Bounds, IsLink, no_link}
+use Rattle.propagation.specs.Paths.{from_of, to_of}
 use Rattle.propagation.proofs.SlotLemmas.{slot_cases}
 
 -- the edge k itself is the last one from its slot
@@ -29,11 +30,11 @@ below_step edges below k slots len within h s lt = go (slot_cases s (from_of edg
         subst (Bounds edges s (k + 1)) (sym r) (bounds_here edges s k (sym e))
     go (inr ne) = subst (Bounds edges s (k + 1)) (sym (get_or-set_other below (from_of edges k).0 s.0 (k + 1) 0 ne)) (bounds_other edges s k (get_or below s.0 0) (λ e. ne (ap (λ (u : Slot). u.0) (sym e))) (h s lt))
 
-pub before_step : (edges : List Edge) (below before after : List ℕ) (k b slots : ℕ) → length below ≡ slots → (from_of edges k).0 < slots → length before ≡ k → after ≡ before ++ b ∷ [] → b ≡ get_or below (from_of edges k).0 b → ((s : Slot) → s.0 < slots → Bounds edges s k (get_or below s.0 0)) → ((j : ℕ) → j < k → Bounds edges (from_of edges j) j (get_or before j 0)) → (j : ℕ) → j < k + 1 → Bounds edges (from_of edges j) j (get_or after j 0)
-before_step edges below before after k b slots size within len is read here h =
-    let e : b ≡ get_or below (from_of edges k).0 0 = read ∙ get_or_default below (from_of edges k).0 b 0 (omega arith) in
-    let H : Bounds edges (from_of edges k) k b = subst (Bounds edges (from_of edges k) k) (sym e) (here (from_of edges k) within) in
-    subst (λ xs. (j : ℕ) → j < k + 1 → Bounds edges (from_of edges j) j (get_or xs j 0)) (sym is)
-    (below_more (λ j. Bounds edges (from_of edges j) j (get_or (before ++ b ∷ []) j 0)) k
-    (λ j lt. subst (Bounds edges (from_of edges j) j) (sym (get_or_append_left before (b ∷ []) 0 j (omega arith))) (h j lt))
-    (subst (Bounds edges (from_of edges k) k) (sym (get_or_at before b [] 0 k len)) H))
+pub link_step : (edges : List Edge) (below : List ℕ) (links after : List Link) (k slots : ℕ) (link : Link) → length below ≡ slots → (from_of edges k).0 < slots → length links ≡ k → after ≡ links ++ link ∷ [] → link.before ≡ get_or below (from_of edges k).0 link.before → link.to ≡ to_of edges k → ((s : Slot) → s.0 < slots → Bounds edges s k (get_or below s.0 0)) → ((j : ℕ) → j < k → IsLink edges j (get_or links j no_link)) → (j : ℕ) → j < k + 1 → IsLink edges j (get_or after j no_link)
+link_step edges below links after k slots link size within len is read target here h =
+    let e : link.before ≡ get_or below (from_of edges k).0 0 = read ∙ get_or_default below (from_of edges k).0 link.before 0 (omega arith) in
+    let last : IsLink edges k link = record { target = target; earlier = subst (Bounds edges (from_of edges k) k) (sym e) (here (from_of edges k) within) } in
+    subst (λ xs. (j : ℕ) → j < k + 1 → IsLink edges j (get_or xs j no_link)) (sym is)
+    (below_more (λ j. IsLink edges j (get_or (links ++ link ∷ []) j no_link)) k
+    (λ j lt. subst (IsLink edges j) (sym (get_or_append_left links (link ∷ []) no_link j (omega arith))) (h j lt))
+    (subst (IsLink edges k) (sym (get_or_at links link [] no_link k len)) last))

@@ -11,17 +11,18 @@ AreIn {X} xs ys = (x : X) → Contains xs x → Contains ys x
 -- more seeds and more edges mark no less
 abbrev pub MoreMarksMore : Type 0
 MoreMarksMore = (seeds seeds' : List Slot) (edges edges' : List Edge) (slots : ℕ) (marks marks' : Shown) →
-    AreMarks seeds edges slots marks → AreMarks seeds' edges' slots marks' → AreIn seeds seeds' → AreIn edges edges' →
+    AreMarks seeds edges slots marks → AreMarks seeds' edges' slots marks' →
+    AreIn seeds seeds' → AreIn edges edges' →
     (s : Slot) → IsMarked marks s → IsMarked marks' s
 
--- the same seeds and the same edges mark the same slots, in whatever order and however often they are listed
+-- the same seeds and edges mark the same slots, in whatever order and however often they are listed
 abbrev pub OrderIsFree : Type 0
 OrderIsFree = (seeds seeds' : List Slot) (edges edges' : List Edge) (slots : ℕ) (marks marks' : Shown) →
     AreMarks seeds edges slots marks → AreMarks seeds' edges' slots marks' →
     AreIn seeds seeds' → AreIn seeds' seeds → AreIn edges edges' → AreIn edges' edges →
     (s : Slot) → IsMarked marks s ↔ IsMarked marks' s
 
--- a set of slots has the seeds, and where it has the slot that an edge leads from it has the one that it leads to
+-- a set of slots has the seeds, and with the start of an edge it has its end
 pub record IsClosed (seeds : List Slot) (edges : List Edge) (Has : Slot → Type 0) : Type 0 where
   pub seeded : All Has seeds
   pub follows : All (λ e. Has e.from → Has e.to) edges
@@ -31,4 +32,5 @@ abbrev pub MarksAreLeast : Type 0
 MarksAreLeast = (seeds : List Slot) (edges : List Edge) (slots : ℕ) (marks : Shown) →
     AreMarks seeds edges slots marks → All (λ s. s.0 < slots) seeds → All (λ e. e.to.0 < slots) edges →
     IsClosed seeds edges (IsMarked marks) ×
-    ((set : Slot → Bool) → IsClosed seeds edges (λ s. IsTrue (set s)) → (s : Slot) → IsMarked marks s → IsTrue (set s))
+    ((set : Slot → Bool) → IsClosed seeds edges (λ s. IsTrue (set s)) →
+    (s : Slot) → IsMarked marks s → IsTrue (set s))

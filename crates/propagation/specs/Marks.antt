@@ -14,7 +14,8 @@ path_shown marks s = slice_index_or marks s.0 None
 abbrev pub IsMarked : Shown → Slot → Type 0
 IsMarked marks s = IsSome (path_shown marks s)
 
--- these are the marks of so many slots: of each privileged one a path from a seed, and none of the others
+-- the marks of so many slots: of each privileged one a path from a seed, and none of the others
 pub record AreMarks (seeds : List Slot) (edges : List Edge) (slots : ℕ) (marks : Shown) : Type 0 where
   pub size : length marks ≡ slots
-  pub paths : (s : Slot) → s.0 < slots → MatchOption (path_shown marks s) (¬ IsPriv seeds edges s) (λ path. IsSimplePath seeds edges path s)
+  pub paths : (s : Slot) → s.0 < slots →
+      MatchOption (path_shown marks s) (¬ IsPriv seeds edges s) (λ path. IsSimplePath seeds edges path s)

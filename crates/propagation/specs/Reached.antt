@@ -59,6 +59,7 @@ abbrev pub Comes : List Slot → List Edge → List Found → Slot → Option St
 Comes seeds edges order s None = Contains seeds s
 Comes seeds edges order s (Some step) = (step.edge < length edges) × (from_of edges step.edge ≡ slot_at order step.parent) × (to_of edges step.edge ≡ s)
 
+-- places and order agree, and each reached slot is a seed or comes from an earlier one
 pub record AreSound (seeds : List Slot) (edges : List Edge) (slots : ℕ) (places : List (Option ℕ)) (order : List Found) : Type 0 where
   pub size : length places ≡ slots
   pub room : empty places + length order ≡ slots

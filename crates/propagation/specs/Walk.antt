@@ -10,7 +10,7 @@ use Rattle.propagation.specs.Reached.{AreSound, HasPlace, Keeps}
 abbrev pub slots_of : Reached → ℕ
 slots_of r = length r.places.items
 
--- each reached slot is a seed, or an edge leads to it from one that was reached before
+-- each reached slot is a seed, or an edge leads to it from one reached before it
 abbrev pub IsSound : List Slot → List Edge → ℕ → Reached → Type 0
 IsSound seeds edges slots r = AreSound seeds edges slots r.places.items r.order.items
 
@@ -18,6 +18,7 @@ IsSound seeds edges slots r = AreSound seeds edges slots r.places.items r.order.
 abbrev pub KeepsReached : Reached → Reached → Type 0
 KeepsReached old new = Keeps old.places.items old.order.items new.places.items new.order.items
 
+-- the slot was reached
 abbrev pub HasReached : Reached → Slot → Type 0
 HasReached r s = HasPlace r.places.items s
 

@@ -42,7 +42,7 @@ mod tests {
     #[test]
     fn each_privileged_slot_shows_a_shortest_path(rt: HostRuntime) -> Result<(), Fail> {
         let alloc = rt.alloc();
-        // seeds, edges, and for each slot the least number of edges from a seed, where there is a path
+        // seeds, edges, and for each slot the fewest edges from a seed, where there is a path
         let cases: [(&[u64], &[(u64, u64)], &[Option<usize>]); 7] = [
             // no seed
             (&[], &[(0, 1)], &[None, None]),

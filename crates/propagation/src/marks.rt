@@ -43,9 +43,11 @@ impl Marks {
     /// `None` where it isn't privileged. Of the paths it is a shortest one, which no clause says.
     pub fn path_to(&self, alloc: Global, s: Slot) -> Result<Option<Vec<u64>>, AllocError>
         requires { s.0 < length self.now }
-        ensures shown { IfOk result (λ o. option_map (λ path. path.items) o ≡ path_shown self.now s) }
+        ensures shown { IfOk result (λ o.
+            option_map (λ path. path.items) o ≡ path_shown self.now s) }
         ensures exact { IfOk result (λ o. (seeds : List Slot) (edges : List Edge) (slots : ℕ) →
-            AreMarks seeds edges slots self.now → MatchOption o (¬ IsPriv seeds edges s) (λ path. IsSimplePath seeds edges path.items s)) }
+            AreMarks seeds edges slots self.now →
+            MatchOption o (¬ IsPriv seeds edges s) (λ path. IsSimplePath seeds edges path.items s)) }
     {
         let Some(place) = self.reached.place(s) else {
             return Ok(None);
@@ -72,7 +74,7 @@ pub fn propagate(
     reached.seed(seeds)?;
     let mut next = 0;
     while next < reached.order.len() {
-        reached.visit(edges, &chains, next)?;
+        reached.visit(&chains, next)?;
         next += 1;
     }
     Ok(Marks { reached })

@@ -15,7 +15,8 @@ use std::alloc::{AllocError, Global};
 impl Reached {
     /// Nothing is reached yet.
     pub fn new(alloc: Global, slots: usize) -> Result<Reached, AllocError>
-        ensures { IfOk result (λ r. (seeds : List Slot) (edges : List Edge) → IsSound seeds edges slots r) }
+        ensures { IfOk result (λ r. (seeds : List Slot) (edges : List Edge) →
+            IsSound seeds edges slots r) }
     {
         let places = vec![in alloc; None; slots]?;
         let order = Vec::new(alloc);
@@ -42,7 +43,8 @@ impl Reached {
 
     /// Marks the seeds.
     pub fn seed(&mut self, seeds: &[Slot]) -> Result<(), AllocError>
-        requires sound { (edges : List Edge) × IsSound seeds.now edges (slots_of self.old) self.old }
+        requires sound { (edges : List Edge) ×
+            IsSound seeds.now edges (slots_of self.old) self.old }
         requires within { All (λ s. s.0 < slots_of self.old) seeds.now }
         ensures sound { OnOk result ((edges : List Edge) →
             IsSound seeds.now edges (slots_of self.old) self.old →
@@ -56,30 +58,27 @@ impl Reached {
     }
 
     /// Marks the slots to which the edges from a reached slot lead.
-    pub fn visit(
-        &mut self,
-        edges: &[Edge],
-        chains: &Chains,
-        parent: usize,
-    ) -> Result<(), AllocError>
-        requires sound { (seeds : List Slot) × IsSound seeds edges.now (slots_of self.old) self.old }
-        requires chains { AreChains edges.now (slots_of self.old)
-            chains.now.below.items chains.now.before.items }
-        requires ends { All (λ e. e.to.0 < slots_of self.old) edges.now }
+    pub fn visit(&mut self, chains: &Chains, parent: usize) -> Result<(), AllocError>
+        requires sound { (seeds : List Slot) × (edges : List Edge) ×
+            AreChains edges (slots_of self.old) chains.now ×
+            IsSound seeds edges (slots_of self.old) self.old }
         requires parent { parent < length self.old.order.items }
-        ensures sound { OnOk result ((seeds : List Slot) →
-            IsSound seeds edges.now (slots_of self.old) self.old →
-            IsSound seeds edges.now (slots_of self.old) self.new) }
+        ensures sound { OnOk result ((seeds : List Slot) (edges : List Edge) →
+            AreChains edges (slots_of self.old) chains.now →
+            IsSound seeds edges (slots_of self.old) self.old →
+            IsSound seeds edges (slots_of self.old) self.new) }
         ensures keeps { OnOk result (KeepsReached self.old self.new) }
-        ensures done { OnOk result (
-            GoesOn edges.now (slot_at self.old.order.items parent) self.new) }
+        ensures done { OnOk result ((edges : List Edge) →
+            AreChains edges (slots_of self.old) chains.now →
+            GoesOn edges (slot_at self.old.order.items parent) self.new) }
     {
         let slot = self.order[parent].slot;
         let mut bound = chains.below[slot.0 as usize];
         while bound > 0 {
             let edge = bound - 1;
-            self.mark(edges[edge].to, Some(Step { edge, parent }))?;
-            bound = chains.before[edge];
+            let link = chains.links[edge];
+            self.mark(link.to, Some(Step { edge, parent }))?;
+            bound = link.before;
         }
         Ok(())
     }

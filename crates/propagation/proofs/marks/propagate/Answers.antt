@@ -1,6 +1,6 @@
 use Rattle.std.proofs.Common.{◌≡◌, length, arith}
 use Rattle.propagation.proofs.PathLemmas.{shows}
-use Rattle.propagation.proofs.VisitLemmas.{at_length, walking_start, walking_step, walked}
+use Rattle.propagation.proofs.VisitLemmas.{at_length, chains_at, walking_start, walking_step, walked}
 use Rattle.propagation.proofs.marks.propagate.Goals as goal
 
 pub seed-requires-clause-sound : goal.seed-requires-clause-sound
@@ -14,8 +14,16 @@ loop-next-init c =
     let size : length c.in_ok-reached.reached.places.items ≡ c.args.slots = (c.in_ok-reached.ensures c.args.seeds.now c.args.edges.now).size in
     walking_start _ _ _ _ _ _ size (c.in_ok-seed.ensures.sound c.args.edges.now (at_length _ _ _ _ _ (c.in_ok-reached.ensures c.args.seeds.now c.args.edges.now))) c.in_ok-seed.ensures.done
 
+pub visit-requires-clause-sound : goal.visit-requires-clause-sound
+visit-requires-clause-sound c =
+    let w = c.loop-next.invariant in
+    (c.args.seeds.now, c.args.edges.now, chains_at _ _ _ _ _ _ _ w c.in_ok-chains.ensures, at_length _ _ _ _ _ w.sound)
+
 pub loop-next-preserved : goal.loop-next-preserved
-loop-next-preserved c = walking_step _ _ _ _ _ _ _ _ c.loop-next.invariant (grind arith) c.in_ok-visit.ensures.sound c.in_ok-visit.ensures.keeps c.in_ok-visit.ensures.done
+loop-next-preserved c =
+    let w = c.loop-next.invariant in
+    let are = chains_at _ _ _ _ _ _ _ w c.in_ok-chains.ensures in
+    walking_step _ _ _ _ _ _ _ _ w (grind arith) (λ seeds sound. c.in_ok-visit.ensures.sound seeds c.args.edges.now are sound) c.in_ok-visit.ensures.keeps (c.in_ok-visit.ensures.done c.args.edges.now are)
 
 pub returns : goal.returns
 returns c = shows _ _ _ _ _ (walked _ _ _ _ _ _ c.loop-next.invariant (grind arith))
