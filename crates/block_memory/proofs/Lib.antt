@@ -1,0 +1,4 @@
+pub mod FramesLemmas
+pub mod PiecesLemmas
+pub mod StackLemmas
+pub mod TableLemmas
