@@ -1,4 +1,5 @@
-pub mod FramesLemmas
-pub mod PiecesLemmas
-pub mod StackLemmas
-pub mod TableLemmas
+pub mod BlocksLemmas
+mod FramesLemmas
+mod PiecesLemmas
+mod StackLemmas
+mod TableLemmas

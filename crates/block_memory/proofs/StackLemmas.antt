@@ -277,12 +277,6 @@ pub stacked-begun : (starts starts' : List Start) (types types' : List IntType) 
 stacked-begun starts starts' types types' cells cells' ts cs start v grows is view =
     ap (take (length v)) (stacked-grown _ _ _ _ _ _ _ _ _ v grows is view) ∙ take_at v (record { types = ts; cells = cs } ∷ []) (length v) refl
 
--- cells that are filled up
-pub filled : (xs ys : List Cell) (n m k : ℕ) (x : Cell) → ys ≡ take n xs ++ replicate (n - m) x → m ≡ length xs → n ≡ length xs + k → ys ≡ xs ++ replicate k x
-filled xs ys n m k x h old new =
-    let more : n - m ≡ k = omega arith in
-    h ∙ ap (λ zs. zs ++ replicate (n - m) x) (take_all n xs (omega arith)) ∙ ap (λ j. xs ++ replicate j x) more
-
 pub on_err : {T E P : Type 0} (r : Result T E) → P → OnErr r P
 on_err (Ok x) p = tt
 on_err (Err e) p = p

@@ -42,8 +42,8 @@ without_frames blocks depth (Global number) = blocks (Global number)
 without_frames blocks depth (Received number) = blocks (Received number)
 
 -- no local of this depth or a greater one is live
-abbrev pub IsFree : Blocks → ℕ → Type 0
-IsFree blocks depth = (d var : ℕ) → depth ≤ d → blocks (Local d var) ≡ no_block
+pub record IsFree (blocks : Blocks) (depth : ℕ) : Type 0 where
+  pub none : (d var : ℕ) → depth ≤ d → blocks (Local d var) ≡ no_block
 
 -- a block of these types and so many cells may be put under the name: a local keeps what it has
 abbrev pub HasRoom : Blocks → BlockName → List IntType → ℕ → Type 0

@@ -6,7 +6,7 @@ use Rattle.block_memory.specs.Frames.{local_at}
 use Rattle.block_memory.specs.Table.{numbered}
 
 -- the block of each name
-abbrev pub blocks_of : BlockMemory → Blocks
+unfoldable pub blocks_of : BlockMemory → Blocks
 blocks_of memory (Local depth var) = local_at memory.locals depth var
 blocks_of memory (Global number) = numbered memory.globals number
 blocks_of memory (Received number) = numbered memory.received number

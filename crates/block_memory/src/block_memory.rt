@@ -18,6 +18,7 @@ pub struct BlockMemory {
     received: Table,
 }
 
+#[tactic(auto, unfolding(crate::specs::Memory::blocks_of))]
 impl BlockMemory {
     ghost use Rattle.std.specs.Prelude.{◌≡◌, ◌<◌, length, OnOk, OnErr, slice_get, Some};
     ghost use Rattle.block_memory.specs.Block.{no_block, with_cell};

@@ -60,8 +60,10 @@ impl HeldBlock {
         ensures ok { OnOk result (self.new ≡ record { types = types.now; cells = cells.now }) }
         ensures err { OnErr result (self.new ≡ self.old) }
     {
-        self.types.reserve(types.len())?;
-        self.cells.reserve(cells.len())?;
+        self.types
+            .reserve(types.len().saturating_sub(self.types.len()))?;
+        self.cells
+            .reserve(cells.len().saturating_sub(self.cells.len()))?;
         self.types.clear();
         self.types.extend_from_slice(types)?;
         self.cells.clear();

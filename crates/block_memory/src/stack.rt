@@ -1,4 +1,7 @@
 // Blocks that are added and dropped at the end, their cells in one growing vector.
+ghost use Rattle.std.specs.Prelude.{◌≡◌, ◌<◌, ◌^◌, ◌++◌, pos, replicate, OnErr, OnOk};
+ghost use Rattle.block_memory.specs.declared.cell.Cell.TheVariants.{Int};
+
 use crate::cell::{Cell, Pointer};
 use crate::shape::BlockShape;
 use crate::start::Start;
@@ -65,9 +68,8 @@ impl Stack {
             BlockShape::OnePointer => self.cells.push(Cell::Ptr(Pointer::Null))?,
             BlockShape::Ints(types) => {
                 let types = types.as_slice();
-                self.types.extend_from_slice(types)?;
-                self.cells
-                    .resize(self.cells.len() + types.len(), Cell::Int(0))?;
+                add_types(&mut self.types, types)?;
+                add_zeros(&mut self.cells, types.len())?;
             }
         }
         Ok(())
@@ -144,4 +146,31 @@ impl Stack {
         let start = self.starts[first + var].cells;
         self.cells[start + cell] = value;
     }
+}
+
+// Most variables are one number, which the two below push without a loop.
+
+#[inline]
+fn add_types(types: &mut Vec<IntType>, more: &[IntType]) -> Result<(), AllocError>
+    ensures ok { OnOk result (types.new.items ≡ types.old.items ++ more.now) }
+    ensures err { OnErr result (types.new.items ≡ types.old.items) }
+{
+    if let [only] = more {
+        types.push(*only)?;
+        return Ok(());
+    }
+    types.extend_from_slice(more)
+}
+
+#[inline]
+fn add_zeros(cells: &mut Vec<Cell>, count: usize) -> Result<(), AllocError>
+    requires { count < 2 ^ 63 }
+    ensures ok { OnOk result (cells.new.items ≡ cells.old.items ++ replicate count (Int (pos 0))) }
+    ensures err { OnErr result (cells.new.items ≡ cells.old.items) }
+{
+    if count == 1 {
+        cells.push(Cell::Int(0))?;
+        return Ok(());
+    }
+    cells.resize(cells.len() + count, Cell::Int(0))
 }

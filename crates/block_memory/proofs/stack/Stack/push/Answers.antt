@@ -3,7 +3,7 @@ use Rattle.block_memory.specs.declared.cell.Cell.TheVariants.{Int, Ptr}
 use Rattle.block_memory.specs.declared.cell.Pointer.TheVariants.{Null}
 use Rattle.block_memory.specs.declared.shape.BlockShape.TheVariants.{Ints}
 use Rattle.block_memory.specs.Block.{fresh}
-use Rattle.block_memory.proofs.StackLemmas.{filled, Grows, IsStack-grown, on_err, stacked-begun, stacked-grown}
+use Rattle.block_memory.proofs.StackLemmas.{Grows, IsStack-grown, on_err, stacked-begun, stacked-grown}
 use Rattle.block_memory.proofs.stack.Stack.push.Goals as goal
 
 pub invariant_of-self-in-Continue-branch-2 : goal.invariant_of-self-in-Continue-branch-2
@@ -30,14 +30,14 @@ invariant_of-self-in_err-push-in-OnePointer c =
     })
     c.self.invariant
 
-pub invariant_of-self-in_err-extend_from_slice-in-Ints : goal.invariant_of-self-in_err-extend_from_slice-in-Ints
-invariant_of-self-in_err-extend_from_slice-in-Ints c =
+pub invariant_of-self-in_err-add_types-in-Ints : goal.invariant_of-self-in_err-add_types-in-Ints
+invariant_of-self-in_err-add_types-in-Ints c =
     IsStack-grown _ _ _ _ _ _ [] [] _
     (record {
       starts-are = c.in_ok-push.ensures.items;
       types-from = c.len.ensures ∙ c.self.inside.types.ok.0;
       cells-from = c.len-2.ensures ∙ c.self.inside.cells.ok.0;
-      types-are = (c.in_err-extend_from_slice-in-Ints).ensures.items ∙ sym (append-nil _);
+      types-are = c.in_err-add_types-in-Ints.ensures.err ∙ sym (append-nil _);
       cells-are = sym (append-nil _);
     })
     c.self.invariant
@@ -49,20 +49,20 @@ invariant_of-self-in-Continue-branch-4 c =
       starts-are = c.in_ok-push.ensures.items;
       types-from = c.len.ensures ∙ c.self.inside.types.ok.0;
       cells-from = c.len-2.ensures ∙ c.self.inside.cells.ok.0;
-      types-are = (c.in_ok-extend_from_slice-in-Ints).ensures.items;
-      cells-are = filled _ _ (c.len-in-Ints.result + length c.as_slice-types.result.now) c.self.inside.cells.len (length c.as_slice-types.result.now) _ c.in_ok-resize-in-Ints.ensures.items c.self.inside.cells.ok.0 (omega (arith, c.len-in-Ints.ensures, c.self.inside.cells.ok.0));
+      types-are = c.in_ok-add_types-in-Ints.ensures.ok;
+      cells-are = c.in_ok-add_zeros-in-Ints.ensures.ok;
     })
     c.self.invariant
 
-pub invariant_of-self-in_err-resize-in-Ints : goal.invariant_of-self-in_err-resize-in-Ints
-invariant_of-self-in_err-resize-in-Ints c =
+pub invariant_of-self-in_err-add_zeros-in-Ints : goal.invariant_of-self-in_err-add_zeros-in-Ints
+invariant_of-self-in_err-add_zeros-in-Ints c =
     IsStack-grown _ _ _ _ _ _ c.as_slice-types.result.now [] _
     (record {
       starts-are = c.in_ok-push.ensures.items;
       types-from = c.len.ensures ∙ c.self.inside.types.ok.0;
       cells-from = c.len-2.ensures ∙ c.self.inside.cells.ok.0;
-      types-are = (c.in_ok-extend_from_slice-in-Ints).ensures.items;
-      cells-are = c.in_err-resize-in-Ints.ensures.items ∙ sym (append-nil _);
+      types-are = c.in_ok-add_types-in-Ints.ensures.ok;
+      cells-are = c.in_err-add_zeros-in-Ints.ensures.err ∙ sym (append-nil _);
     })
     c.self.invariant
 
@@ -79,15 +79,15 @@ returns-in_ok-push-in-OnePointer-clause-ok c =
     c.self.invariant c.self.view_is
     ∙ ap (λ shape. c.args.self.now ++ fresh shape ∷ []) (sym c.in-OnePointer.is)
 
-pub returns-in_ok-resize-in-Ints-clause-ok : goal.returns-in_ok-resize-in-Ints-clause-ok
-returns-in_ok-resize-in-Ints-clause-ok c =
+pub returns-in_ok-add_zeros-in-Ints-clause-ok : goal.returns-in_ok-add_zeros-in-Ints-clause-ok
+returns-in_ok-add_zeros-in-Ints-clause-ok c =
     stacked-grown _ _ _ _ _ _ c.as_slice-types.result.now (replicate (length c.as_slice-types.result.now) (Int (pos 0))) _ _
     (record {
       starts-are = c.in_ok-push.ensures.items;
       types-from = c.len.ensures ∙ c.self.inside.types.ok.0;
       cells-from = c.len-2.ensures ∙ c.self.inside.cells.ok.0;
-      types-are = (c.in_ok-extend_from_slice-in-Ints).ensures.items;
-      cells-are = filled _ _ (c.len-in-Ints.result + length c.as_slice-types.result.now) c.self.inside.cells.len (length c.as_slice-types.result.now) _ c.in_ok-resize-in-Ints.ensures.items c.self.inside.cells.ok.0 (omega (arith, c.len-in-Ints.ensures, c.self.inside.cells.ok.0));
+      types-are = c.in_ok-add_types-in-Ints.ensures.ok;
+      cells-are = c.in_ok-add_zeros-in-Ints.ensures.ok;
     })
     c.self.invariant c.self.view_is
     ∙ ap (λ types. c.args.self.now ++ fresh (Ints types) ∷ []) c.as_slice-types.ensures
@@ -107,30 +107,30 @@ returns-in_err-push-in-OnePointer-clause-err c =
     c.self.invariant c.self.view_is
     )
 
-pub returns-in_err-extend_from_slice-in-Ints-clause-err : goal.returns-in_err-extend_from_slice-in-Ints-clause-err
-returns-in_err-extend_from_slice-in-Ints-clause-err c =
+pub returns-in_err-add_types-in-Ints-clause-err : goal.returns-in_err-add_types-in-Ints-clause-err
+returns-in_err-add_types-in-Ints-clause-err c =
     on_err _ (
     stacked-begun _ _ _ _ _ _ [] [] _ _
     (record {
       starts-are = c.in_ok-push.ensures.items;
       types-from = c.len.ensures ∙ c.self.inside.types.ok.0;
       cells-from = c.len-2.ensures ∙ c.self.inside.cells.ok.0;
-      types-are = (c.in_err-extend_from_slice-in-Ints).ensures.items ∙ sym (append-nil _);
+      types-are = c.in_err-add_types-in-Ints.ensures.err ∙ sym (append-nil _);
       cells-are = sym (append-nil _);
     })
     c.self.invariant c.self.view_is
     )
 
-pub returns-in_err-resize-in-Ints-clause-err : goal.returns-in_err-resize-in-Ints-clause-err
-returns-in_err-resize-in-Ints-clause-err c =
+pub returns-in_err-add_zeros-in-Ints-clause-err : goal.returns-in_err-add_zeros-in-Ints-clause-err
+returns-in_err-add_zeros-in-Ints-clause-err c =
     on_err _ (
     stacked-begun _ _ _ _ _ _ c.as_slice-types.result.now [] _ _
     (record {
       starts-are = c.in_ok-push.ensures.items;
       types-from = c.len.ensures ∙ c.self.inside.types.ok.0;
       cells-from = c.len-2.ensures ∙ c.self.inside.cells.ok.0;
-      types-are = (c.in_ok-extend_from_slice-in-Ints).ensures.items;
-      cells-are = c.in_err-resize-in-Ints.ensures.items ∙ sym (append-nil _);
+      types-are = c.in_ok-add_types-in-Ints.ensures.ok;
+      cells-are = c.in_err-add_zeros-in-Ints.ensures.err ∙ sym (append-nil _);
     })
     c.self.invariant c.self.view_is
     )
