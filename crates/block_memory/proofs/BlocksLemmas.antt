@@ -1,5 +1,5 @@
 -- Laws of memories that callers need.
-use Rattle.std.proofs.Common.{◌≡◌, ◌∙◌, ◌+◌, ◌<◌, ◌≤◌, ◌&&◌, ℕ, Bool, true, false, nat_eq, nat_lt, if◌then◌else◌, List, get_or, length, map, refl, ap, sym, subst, arith, length-set}
+use Rattle.std.proofs.Common.{◌≡◌, ◌∙◌, ◌+◌, ◌≤◌, ◌&&◌, ℕ, Bool, true, false, nat_eq, nat_lt, if◌then◌else◌, List, get_or, length, map, refl, ap, subst, arith, length-set}
 use Rattle.std.proofs.lemmas.Bool.Decides.{nat_tests}
 use Rattle.block_memory.specs.declared.cell.BlockName.{BlockName}
 use Rattle.block_memory.specs.declared.cell.BlockName.TheVariants.{Local, Global, Received}

@@ -1,5 +1,5 @@
 -- Laws of the locals' blocks, by depth and variable.
-use Rattle.std.proofs.Common.{◌≡◌, ◌≢◌, ◌∙◌, ◌+◌, ◌-◌, ◌<◌, ◌≤◌, ◌&&◌, ℕ, add-one, suc, zero, Bool, true, false, nat_eq, nat_lt, if◌then◌else◌, List, [], ◌∷◌, ◌++◌, Result, Ok, Err, OnOk, OnErr, length, take, drop, map, set, get_or, replicate, slice_range, refl, sym, ap, subst, arith, length-append, length-set}
+use Rattle.std.proofs.Common.{◌≡◌, ◌≢◌, ◌∙◌, ◌+◌, ◌-◌, ◌<◌, ◌≤◌, ◌&&◌, ℕ, add-one, suc, zero, Bool, true, false, nat_eq, nat_lt, if◌then◌else◌, List, [], ◌∷◌, ◌++◌, Result, Ok, Err, OnOk, OnErr, length, take, drop, set, get_or, replicate, slice_range, refl, sym, ap, subst, arith, length-append}
 use Rattle.std.proofs.lemmas.List.{append_assoc, drop_at, drop_more, length-take-le, set_at, take-append-drop, take_all, take_more, get_or-set_other, get_or-set_same, get_or-take, get_or_default, get_or_past, length-take}
 use Rattle.std.proofs.lemmas.List.Edits.{get_or-between, length-between}
 use Rattle.std.proofs.Math.Nat.{sub_self}
@@ -9,7 +9,7 @@ use Rattle.block_memory.specs.declared.cell.Cell.{Cell}
 use Rattle.block_memory.specs.Block.{Block, no_block}
 use Rattle.block_memory.specs.Frames.{frame_at, local_at, IsFreeFrom, SameBelow, SameLocals, SetsFrame, SetsLocal}
 use Rattle.block_memory.specs.Pieces.{AreStarts, first_start, pieces}
-use Rattle.block_memory.proofs.PiecesLemmas.{AreStarts-take, pieces-take, length-pieces, pieces-set, pieces_at, slice_range-append, slice_range-end, start-le, start-next, first_start-le}
+use Rattle.block_memory.proofs.PiecesLemmas.{AreStarts-take, pieces-take, length-pieces, pieces-set, pieces_at, slice_range-append, slice_range-end, start-le, first_start-le}
 
 slice_range-none : {X : Type 0} (xs : List X) (a : ℕ) → slice_range xs a a ≡ []
 slice_range-none xs a = ap (λ n. take n (drop a xs)) (sub_self a)

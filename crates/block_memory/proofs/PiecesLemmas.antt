@@ -1,8 +1,8 @@
 -- Laws of lists that lie in one list.
-use Rattle.std.proofs.Common.{◌≡◌, ◌≢◌, ◌∙◌, ◌+◌, ◌-◌, ◌<◌, ◌≤◌, ℕ, suc, zero, List, [], ◌∷◌, ◌++◌, length, take, drop, set, get_or, replicate, slice_range, refl, sym, ap, subst, arith, length-append, length-drop, length-take, length-set}
+use Rattle.std.proofs.Common.{◌≡◌, ◌∙◌, ◌+◌, ◌-◌, ◌<◌, ◌≤◌, ℕ, suc, zero, List, [], ◌∷◌, ◌++◌, length, take, drop, set, get_or, slice_range, refl, sym, ap, subst, arith, length-append, length-drop, length-set}
 use Rattle.std.proofs.Math.Seq.{take-set-lt}
 use Rattle.std.proofs.lemmas.Slice.{between_is}
-use Rattle.std.proofs.lemmas.List.{length-take-le, take_at, drop_at, take-append-le, drop-append-le, take_all, take-take, drop-take, drop-set-add, drop-set-lt, take-set-le, places, append-nil}
+use Rattle.std.proofs.lemmas.List.{length-take-le, drop_at, take-append-le, drop-append-le, take_all, take-take, drop-set-add, drop-set-lt, take-set-le}
 use Rattle.block_memory.specs.Pieces.{AreStarts, first_start, pieces}
 
 -- a part of a list is in front of what is added

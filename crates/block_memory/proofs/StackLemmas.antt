@@ -1,8 +1,8 @@
 -- Laws of blocks whose cells lie in one list.
-use Rattle.std.proofs.Common.{◌≡◌, ◌∙◌, ◌+◌, ◌-◌, ◌<◌, ◌≤◌, ℕ, pos, add-one, suc, zero, List, [], ◌∷◌, ◌++◌, length, take, map, replicate, set, get_or, slice_range, slice_get, Option, Some, Result, Ok, Err, OnOk, OnErr, refl, sym, ap, subst, arith, length-append, length-set}
-use Rattle.std.proofs.lemmas.List.{append-nil, get_or_default, get_or_past, length-map, length-take-le, map-append, take-map, take-take, take_all, take_at}
+use Rattle.std.proofs.Common.{◌≡◌, ◌∙◌, ◌+◌, ◌-◌, ◌<◌, ◌≤◌, ℕ, pos, add-one, suc, zero, List, [], ◌∷◌, ◌++◌, length, take, map, set, get_or, slice_range, slice_get, Some, Result, Ok, Err, OnErr, refl, sym, ap, subst, arith, length-append, length-set}
+use Rattle.std.proofs.lemmas.List.{get_or_default, get_or_past, length-map, length-take-le, map-append, take-map, take-take, take_at}
 use Rattle.std.proofs.lemmas.List.Edits.{get_or-between, length-between}
-use Rattle.std.proofs.lemmas.Option.{slice_get-get_or, slice_get_read}
+use Rattle.std.proofs.lemmas.Option.{slice_get-get_or}
 use Rattle.pt_base.specs.declared.int_type.IntType.{IntType}
 use Rattle.block_memory.specs.declared.cell.Cell.{Cell}
 use Rattle.block_memory.specs.declared.cell.Cell.TheVariants.{Int}

@@ -1,11 +1,11 @@
 -- Laws of blocks by number.
-use Rattle.std.proofs.Common.{◌≡◌, ◌∙◌, ◌<◌, ◌≤◌, ℕ, Bool, true, false, nat_lt, subst, suc, zero, List, [], ◌∷◌, ◌++◌, length, get_or, slice_get, Option, Some, refl, ap, sym, arith}
+use Rattle.std.proofs.Common.{◌≡◌, ◌∙◌, ◌<◌, ◌≤◌, ℕ, Bool, true, false, nat_lt, subst, suc, zero, List, [], ◌∷◌, ◌++◌, length, get_or, slice_get, Some, refl, ap, sym, arith}
 use Rattle.std.proofs.lemmas.Bool.Decides.{nat_tests}
 use Rattle.std.proofs.lemmas.List.{get_or_default, get_or_past}
 use Rattle.std.proofs.lemmas.Option.{slice_get_read}
 use Rattle.block_memory.specs.declared.cell.Cell.{Cell}
 use Rattle.block_memory.specs.Block.{Block, no_block}
-use Rattle.block_memory.specs.Table.{numbered, SameBlocks}
+use Rattle.block_memory.specs.Table.{numbered}
 
 -- blocks of no cells at the end change nothing
 pub numbered-push : (blocks : List Block) (k : ℕ) → numbered (blocks ++ no_block ∷ []) k ≡ numbered blocks k

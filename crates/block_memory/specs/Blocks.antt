@@ -1,5 +1,5 @@
 -- A memory: which block each name has, and how calls change that.
-use Rattle.std.specs.Prelude.{◌≡◌, ◌≤◌, ℕ, List, length, map, Bool, true, false, ◌&&◌, nat_eq, nat_lt, if◌then◌else◌, slice_index_or}
+use Rattle.std.specs.Prelude.{◌≡◌, ◌≤◌, ℕ, List, length, map, Bool, false, ◌&&◌, nat_eq, nat_lt, if◌then◌else◌, slice_index_or}
 use Rattle.pt_base.specs.declared.int_type.IntType.{IntType}
 use Rattle.block_memory.specs.declared.cell.BlockName.{BlockName}
 use Rattle.block_memory.specs.declared.cell.BlockName.TheVariants.{Local, Global, Received}

@@ -36,8 +36,8 @@ impl BlockMemory {
         }
     }
 
-    /// Makes the variables of a function that is entered at this depth, each 0 or null. Where memory
-    /// is wanting the blocks stay as they are.
+    /// Makes the variables of a function that is entered at this depth, each 0 or null. No local of
+    /// this depth or a greater one may be live. Where memory is wanting the blocks stay as they are.
     #[inline]
     pub fn enter(&mut self, depth: u32, vars: &[BlockShape]) -> Result<(), AllocError>
         requires { IsFree (blocks_of self.old) depth }
@@ -55,7 +55,7 @@ impl BlockMemory {
         self.locals.leave(depth);
     }
 
-    /// What stands in a cell.
+    /// What stands in a cell that is there.
     #[inline]
     pub fn read(&self, at: CellAt) -> Cell
         requires { at.cell < length (blocks_of self.now at.block).cells }
@@ -69,7 +69,7 @@ impl BlockMemory {
         }
     }
 
-    /// Writes a cell. All others stay.
+    /// Writes a cell that is there. All others stay.
     #[inline]
     pub fn write(&mut self, at: CellAt, c: Cell)
         requires { at.cell < length (blocks_of self.old at.block).cells }

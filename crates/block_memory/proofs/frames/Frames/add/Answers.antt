@@ -1,4 +1,4 @@
-use Rattle.std.proofs.Common.{◌≡◌, ◌∙◌, ◌++◌, ◌-◌, ◌≤◌, ap, arith, drop, length, replicate, suc, sym}
+use Rattle.std.proofs.Common.{◌∙◌, ◌++◌, ◌-◌, ◌≤◌, ap, arith, length, replicate, suc}
 use Rattle.block_memory.proofs.FramesLemmas.{AreStarts-added, frames-count, OnOk-added, padded, prefixed, SameBelow-of_SetsFrame, SetsFrame-added}
 use Rattle.block_memory.proofs.StackLemmas.{on_err}
 use Rattle.block_memory.proofs.frames.Frames.add.Goals as goal

@@ -1,4 +1,4 @@
-use Rattle.std.proofs.Common.{◌≡◌, ◌∙◌, ◌+◌, ◌++◌, List, ap, append-nil, arith, drop, length, length-append, length-drop, set, subst, sym, take}
+use Rattle.std.proofs.Common.{◌∙◌, ◌++◌, List, ap, append-nil, arith, drop, length, length-append, length-drop, subst, take}
 use Rattle.std.proofs.lemmas.List.{drop_all, length-take-le, take_all}
 use Rattle.block_memory.specs.declared.cell.Cell.{Cell}
 use Rattle.block_memory.specs.Block.{Block, with_cell}

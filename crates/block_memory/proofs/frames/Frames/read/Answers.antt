@@ -1,4 +1,4 @@
-use Rattle.std.proofs.Common.{◌∙◌, ◌<◌, ap, arith, length, slice_get, subst, sym}
+use Rattle.std.proofs.Common.{◌∙◌, ◌<◌, ap, arith, length, slice_get, subst}
 use Rattle.block_memory.specs.Block.{Block}
 use Rattle.block_memory.proofs.FramesLemmas.{frame_in, local_in}
 use Rattle.block_memory.proofs.frames.Frames.read.Goals as goal

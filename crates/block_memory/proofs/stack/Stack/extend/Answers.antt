@@ -1,6 +1,3 @@
-use Rattle.std.proofs.Common.{◌∙◌, ◌++◌, List, ap, length, length-append, arith, map, take}
-use Rattle.std.proofs.lemmas.List.{take-append-le, take-take, take_at}
-use Rattle.block_memory.specs.Block.{Block, fresh}
 use Rattle.block_memory.proofs.StackLemmas.{on_err, prefix_kept}
 use Rattle.block_memory.proofs.stack.Stack.extend.Goals as goal
 

@@ -1,9 +1,9 @@
-use Rattle.std.proofs.Common.{◌≡◌, ◌∙◌, ◌+◌, ◌++◌, ◌∷◌, [], ap, append-nil, length, pos, replicate, sym, arith}
+use Rattle.std.proofs.Common.{◌∙◌, ◌++◌, ◌∷◌, [], ap, append-nil, length, pos, replicate, sym}
 use Rattle.block_memory.specs.declared.cell.Cell.TheVariants.{Int, Ptr}
 use Rattle.block_memory.specs.declared.cell.Pointer.TheVariants.{Null}
 use Rattle.block_memory.specs.declared.shape.BlockShape.TheVariants.{Ints}
 use Rattle.block_memory.specs.Block.{fresh}
-use Rattle.block_memory.proofs.StackLemmas.{Grows, IsStack-grown, on_err, stacked-begun, stacked-grown}
+use Rattle.block_memory.proofs.StackLemmas.{IsStack-grown, on_err, stacked-begun, stacked-grown}
 use Rattle.block_memory.proofs.stack.Stack.push.Goals as goal
 
 pub invariant_of-self-in-Continue-branch-2 : goal.invariant_of-self-in-Continue-branch-2

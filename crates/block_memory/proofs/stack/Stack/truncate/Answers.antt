@@ -1,6 +1,5 @@
-use Rattle.std.proofs.Common.{◌∙◌, ◌<◌, arith, length, sym}
+use Rattle.std.proofs.Common.{◌<◌, arith, length, sym}
 use Rattle.std.proofs.lemmas.List.{take_all}
-use Rattle.block_memory.specs.Stack.{IsStack, stacked}
 use Rattle.block_memory.proofs.StackLemmas.{blocks_kept, IsStack-kept, stack-count}
 use Rattle.block_memory.proofs.stack.Stack.truncate.Goals as goal
 

@@ -1,4 +1,4 @@
-use Rattle.std.proofs.Common.{◌≡◌, ◌∙◌, ◌++◌, ◌∷◌, [], ap}
+use Rattle.std.proofs.Common.{◌∙◌, ◌++◌, ◌∷◌, [], ap}
 use Rattle.block_memory.specs.Block.{Block}
 use Rattle.block_memory.specs.Table.{numbered}
 use Rattle.block_memory.proofs.TableLemmas.{numbered-push}
