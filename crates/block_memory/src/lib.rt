@@ -12,12 +12,12 @@ mod table;
 
 pub use block_memory::BlockMemory;
 pub use cell::{BlockName, Cell, CellAt, Pointer};
-pub use shape::{BlockShape, IntTypes};
+pub use shape::BlockShape;
 
 #[cfg(test)]
 mod tests {
     use super::*;
-    use pt_base::IntType;
+    use pt_base::{IntType, Listed};
     use std::test::Fail;
 
     #[test]
@@ -26,7 +26,7 @@ mod tests {
         let types = [IntType::Int, IntType::Char];
         let number = BlockName::Local { depth: 7, var: 0 };
         let pointer = BlockName::Local { depth: 7, var: 1 };
-        let ints = IntTypes::new(Vec::from_slice(alloc, &types)?).copy(alloc)?;
+        let ints = Listed::new(Vec::from_slice(alloc, &types)?);
         let shapes = [BlockShape::Ints(ints), BlockShape::OnePointer];
         let mut memory = BlockMemory::new(alloc);
         memory.enter(7, &shapes)?;
