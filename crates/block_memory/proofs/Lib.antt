@@ -1,0 +1,5 @@
+pub mod BlocksLemmas
+mod FramesLemmas
+mod PiecesLemmas
+mod StackLemmas
+mod TableLemmas
