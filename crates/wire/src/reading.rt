@@ -1,0 +1,4 @@
+// Reading messages.
+mod fields;
+mod lists;
+mod messages;
