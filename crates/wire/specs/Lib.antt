@@ -5,3 +5,4 @@ pub mod View
 pub mod Steps
 pub mod Laws
 pub mod Reading
+pub mod Fronts

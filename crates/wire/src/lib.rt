@@ -7,8 +7,10 @@ mod limits;
 mod lists;
 mod message;
 mod reading;
+mod writing;
 
 pub use cell::{Arg, WireCell};
 pub use fault::{FrameFault, WireError};
 pub use lists::{Args, Block, Blocks, Cells};
 pub use message::{CallBody, Message, ReplyBody};
+pub use writing::write_message;

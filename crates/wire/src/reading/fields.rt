@@ -1,5 +1,5 @@
 // Reading the fields of a payload: each function gives a value and the bytes behind it.
-ghost use Rattle.std.specs.Prelude.{◌≡◌};
+ghost use Rattle.std.specs.Prelude.{◌≡◌, MatchOption};
 ghost use Rattle.std.specs.Int.{w32, w64, w128};
 ghost use Rattle.wire.specs.Reading.{Gives, byte_at, number_at, signed_at, truth_at, type_of, kind_of, cell_at, pointer_at, argument_at, typed_cell_at, result_at};
 
@@ -17,15 +17,25 @@ pub(crate) fn byte(bytes: &[u8]) -> Result<(u8, &[u8]), ReadError>
     }
 }
 
-pub(crate) fn number_u32(bytes: &[u8]) -> Result<(u32, &[u8]), ReadError>
-    ensures { Gives (λ x. (x.0, x.1.now)) result (number_at w32 bytes.now) }
+/// The number in the first four bytes and the bytes behind it, where there are four.
+pub(crate) fn first_u32(bytes: &[u8]) -> Option<(u32, &[u8])>
+    ensures { MatchOption result (number_at w32 bytes.now ≡ None) (λ x. number_at w32 bytes.now ≡ Some (x.0, x.1.now)) }
 {
     if bytes.len() < 4 {
-        return Err(ReadError::Bad);
+        return None;
     }
     let (front, rest) = bytes.split_at(4);
     let number = u32::from_be_bytes([front[0], front[1], front[2], front[3]]);
-    Ok((number, rest))
+    Some((number, rest))
+}
+
+pub(crate) fn number_u32(bytes: &[u8]) -> Result<(u32, &[u8]), ReadError>
+    ensures { Gives (λ x. (x.0, x.1.now)) result (number_at w32 bytes.now) }
+{
+    match first_u32(bytes) {
+        Some(found) => Ok(found),
+        None => Err(ReadError::Bad),
+    }
 }
 
 pub(crate) fn number_u64(bytes: &[u8]) -> Result<(u64, &[u8]), ReadError>
@@ -118,10 +128,8 @@ fn int_type(number: u8) -> Option<IntType>
 pub(crate) fn trap_kind(number: u8) -> Option<Trap>
     ensures { result ≡ kind_of number }
 {
-    if number == 0 {
-        return None;
-    }
-    KINDS.get(number as usize - 1).copied()
+    let place = number.checked_sub(1)?;
+    KINDS.get(place as usize).copied()
 }
 
 #[tactic(auto, unfolding(crate::specs::Reading::cell_at))]
