@@ -16,7 +16,7 @@ use Rattle.wire.specs.declared.cell.Arg.{Arg}
 use Rattle.wire.specs.declared.cell.Arg.TheVariants as argument
 use Rattle.wire.specs.declared.cell.WireCell.{WireCell}
 use Rattle.wire.specs.declared.cell.WireCell.TheVariants as cell
-use Rattle.wire.specs.Spelling.{four_bytes, eight_bytes, sixteen_signed_bytes, truth_byte, type_byte, kind_byte, cell_bytes, argument_bytes, typed_cell_bytes, result_bytes}
+use Rattle.wire.specs.Spelling.{four_bytes, eight_bytes, four_signed_bytes, sixteen_signed_bytes, truth_byte, type_byte, kind_byte, cell_bytes, argument_bytes, typed_cell_bytes, result_bytes}
 use Rattle.wire.specs.Limits.{FitsCell, FitsArgument, FitsTypedCell}
 use Rattle.wire.specs.Reading.{◌>>=◌, Field, byte_at, number_at, signed_at, truth_at, types, kinds, type_of, kind_of, cell_at, pointer_at, argument_at, typed_cell_at, result_at}
 use Rattle.wire.proofs.Bytes.{AreBytes, AreBytes-drop, AreBytes-take, AreBytes-rest, IsWide, wide32, wide64, wide128}
@@ -69,7 +69,7 @@ byte_again b rest h = refl
 pub byte_field : IsField (λ b. b < 2 ^ 8) (λ b. b ∷ []) byte_at
 byte_field = record { takes = byte_takes; again = byte_again }
 
-guard_fails : {A : Type 0} (b : Bool) (r : Option A) (y : A) → cond b None r ≡ Some y → (b ≡ false) × (r ≡ Some y)
+pub guard_fails : {A : Type 0} (b : Bool) (r : Option A) (y : A) → cond b None r ≡ Some y → (b ≡ false) × (r ≡ Some y)
 guard_fails true r y e = absurd cc
 guard_fails false r y e = (refl, e)
 
@@ -93,14 +93,13 @@ number_again w limit wide n rest lt =
 pub number_field : (w : Width) (limit : ℕ) → IsWide w limit → IsField (λ n. n < limit) (to_be_bytes w) (number_at w)
 number_field w limit wide = record { takes = number_takes w limit wide; again = number_again w limit wide }
 
-pub field32 : IsField (λ n. n < 2 ^ 32) (to_be_bytes w32) (number_at w32)
+pub field32 : IsField (λ n. n < 2 ^ 32) four_bytes (number_at w32)
+unfolding four_bytes
 field32 = number_field w32 (2 ^ 32) wide32
 
-pub field64 : IsField (λ n. n < 2 ^ 64) (to_be_bytes w64) (number_at w64)
+pub field64 : IsField (λ n. n < 2 ^ 64) eight_bytes (number_at w64)
+unfolding eight_bytes
 field64 = number_field w64 (2 ^ 64) wide64
-
-field128 : IsField (λ n. n < 2 ^ 128) (to_be_bytes w128) (number_at w128)
-field128 = number_field w128 (2 ^ 128) wide128
 
 -- ---- signed numbers
 
@@ -139,10 +138,12 @@ signed_again w wide signed z rest fits =
     ap (λ r. r >>= λ n. Some (cast_signed w n.0, n.1)) (number_again w (2 ^ bits w) wide (cast_unsigned w z) rest (signed.below z fits))
     ∙ ap (λ x. Some (x, rest)) (to_z-of_z w z fits)
 
-pub field_signed32 : IsField (FitsSigned w32) (λ z. to_be_bytes w32 (cast_unsigned w32 z)) (signed_at w32)
+pub field_signed32 : IsField (FitsSigned w32) four_signed_bytes (signed_at w32)
+unfolding four_signed_bytes
 field_signed32 = record { takes = signed_takes w32 wide32 signed32; again = signed_again w32 wide32 signed32 }
 
-pub field_signed128 : IsField (FitsSigned w128) (λ z. to_be_bytes w128 (cast_unsigned w128 z)) (signed_at w128)
+pub field_signed128 : IsField (FitsSigned w128) sixteen_signed_bytes (signed_at w128)
+unfolding sixteen_signed_bytes
 field_signed128 = record { takes = signed_takes w128 wide128 signed128; again = signed_again w128 wide128 signed128 }
 
 -- ---- a truth value, a type, a kind

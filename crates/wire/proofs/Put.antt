@@ -1,5 +1,7 @@
 -- Writing the items of a list one behind the other, as a loop does.
 use Rattle.std.proofs.Common.{◌≡◌, ℕ, ◌+◌, ◌<◌, ◌≤◌, List, [], ◌∷◌, ◌++◌, length, get_or, drop, refl, sym, ap, subst, ◌∙◌, append_assoc, arith}
+use Rattle.std.specs.Prelude.{Result, Ok, Err, OnOk, is_ok, cond}
+use Rattle.std.specs.declared.alloc.AllocError.{AllocError}
 use Rattle.std.specs.List.{flat_map, AllByRecursion}
 use Rattle.std.proofs.lemmas.List.{append-nil, drop_more, drop_all}
 
@@ -27,3 +29,8 @@ putting_done spelled Fits all xs i before now le so_far =
     let none : drop i xs ≡ [] = drop_all i xs le in
     let left = subst (λ left. Putting spelled Fits all left before now) none so_far in
     (sym (append-nil now) ∙ left.bytes, left.fits tt)
+
+-- a slice was appended where there was memory
+pub added : (r : Result (Unit {0}) AllocError) (new old more bytes : List ℕ) → new ≡ cond (is_ok r) (old ++ more) old → more ≡ bytes → OnOk r (new ≡ old ++ bytes)
+added (Ok u) new old more bytes e same = e ∙ ap (λ x. old ++ x) same
+added (Err f) new old more bytes e same = tt

@@ -16,17 +16,17 @@ use Rattle.wire.specs.declared.message.Message.{Message}
 use Rattle.wire.specs.declared.message.Message.TheVariants as message
 
 -- a number of 32 or 64 bits
-abbrev pub four_bytes : ℕ → List ℕ
+unfoldable pub four_bytes : ℕ → List ℕ
 four_bytes n = to_be_bytes w32 n
 
-abbrev pub eight_bytes : ℕ → List ℕ
+unfoldable pub eight_bytes : ℕ → List ℕ
 eight_bytes n = to_be_bytes w64 n
 
 -- signed numbers of 32 or 128 bits, in two's complement
-abbrev pub four_signed_bytes : ℤ → List ℕ
+unfoldable pub four_signed_bytes : ℤ → List ℕ
 four_signed_bytes z = to_be_bytes w32 (cast_unsigned w32 z)
 
-abbrev pub sixteen_signed_bytes : ℤ → List ℕ
+unfoldable pub sixteen_signed_bytes : ℤ → List ℕ
 sixteen_signed_bytes z = to_be_bytes w128 (cast_unsigned w128 z)
 
 abbrev pub truth_byte : Bool → ℕ

@@ -57,18 +57,21 @@ fn put_bytes(out: &mut Vec<u8>, bytes: &[u8]) -> Result<(), AllocError>
     out.extend_from_slice(bytes)
 }
 
+#[tactic(auto, unfolding(crate::specs::Spelling::four_bytes))]
 fn put_u32(out: &mut Vec<u8>, number: u32) -> Result<(), AllocError>
     ensures { OnOk result (out.new.items ≡ out.old.items ++ four_bytes number) }
 {
     out.extend_from_slice(&number.to_be_bytes())
 }
 
+#[tactic(auto, unfolding(crate::specs::Spelling::eight_bytes))]
 fn put_u64(out: &mut Vec<u8>, number: u64) -> Result<(), AllocError>
     ensures { OnOk result (out.new.items ≡ out.old.items ++ eight_bytes number) }
 {
     out.extend_from_slice(&number.to_be_bytes())
 }
 
+#[tactic(auto, unfolding(crate::specs::Spelling::four_signed_bytes))]
 fn put_i32(out: &mut Vec<u8>, number: &i32) -> Result<(), AllocError>
     ensures bytes { OnOk result (out.new.items ≡ out.old.items ++ four_signed_bytes number.now) }
     ensures fits { FitsSigned w32 number.now }
@@ -76,6 +79,7 @@ fn put_i32(out: &mut Vec<u8>, number: &i32) -> Result<(), AllocError>
     out.extend_from_slice(&number.cast_unsigned().to_be_bytes())
 }
 
+#[tactic(auto, unfolding(crate::specs::Spelling::sixteen_signed_bytes))]
 fn put_i128(out: &mut Vec<u8>, number: &i128) -> Result<(), AllocError>
     ensures bytes { OnOk result (out.new.items ≡ out.old.items ++ sixteen_signed_bytes number.now) }
     ensures fits { FitsSigned w128 number.now }
@@ -293,6 +297,7 @@ fn put_payload(out: &mut Vec<u8>, m: &Message) -> Result<(), AllocError>
 /// # Errors
 ///
 /// Where memory runs out `out` is as before.
+#[tactic(auto, using(std::proofs::Common::append_assoc), unfolding(crate::specs::Spelling::four_bytes))]
 pub fn write_message(alloc: Global, m: &Message, out: &mut Vec<u8>) -> Result<(), AllocError>
     requires { KeepsLimits m.now }
     ensures appended { OnOk result (out.new.items ≡ out.old.items ++ spelling m.now) }
@@ -303,9 +308,11 @@ pub fn write_message(alloc: Global, m: &Message, out: &mut Vec<u8>) -> Result<()
     put_payload(&mut payload, m)?;
     let before = out.len();
     out.extend_from_slice(&(payload.len() as u32).to_be_bytes())?;
-    if out.extend_from_slice(&payload).is_err() {
-        out.truncate(before);
-        return Err(AllocError);
+    match out.extend_from_slice(&payload) {
+        Ok(()) => Ok(()),
+        Err(e) => {
+            out.truncate(before);
+            Err(e)
+        }
     }
-    Ok(())
 }

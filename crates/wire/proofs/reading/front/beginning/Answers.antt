@@ -1,30 +1,25 @@
-use Rattle.std.proofs.Common.{rules, ◌≡◌, IfOk, OnErr, ℕ, ◌+◌, ◌-◌, ◌*◌, ◌<◌, ◌≤◌, length, ◌/◌, ◌%◌, Bool, true, false, nat_eq, nat_lt, List, [], ◌∷◌, ◌++◌, slice_index_or, slice_set, bit_and, bit_or, Fits, w8, w32, w64, Bor, MutBor}
-use Rattle.wire.specs.Reading.{beginning_of}
-use Rattle.wire.specs.Frames.{HoldsFrame}
-use Rattle.wire.specs.Fronts.{seen, IsInside}
+use Rattle.std.proofs.Common.{arith}
+use Rattle.wire.proofs.Front.{begins_none, begins_long, begins_cut, begins_message, begins_bad, frame_inside, holds_frame}
 use Rattle.wire.proofs.reading.front.beginning.Goals as goal
 
--- src/reading/front.rt:34:9
 pub returns-in_default-clause-ok : goal.returns-in_default-clause-ok
-returns-in_default-clause-ok c = ?
+returns-in_default-clause-ok c = begins_none c.args.bytes.now c.in_default.ensures
 
--- src/reading/front.rt:37:9
-pub returns-then-size-gt-LONGEST_PAYLOAD-clause-ok :
-    goal.returns-then-size-gt-LONGEST_PAYLOAD-clause-ok
-returns-then-size-gt-LONGEST_PAYLOAD-clause-ok c = ?
+pub returns-then-size-gt-LONGEST_PAYLOAD-clause-ok : goal.returns-then-size-gt-LONGEST_PAYLOAD-clause-ok
+returns-then-size-gt-LONGEST_PAYLOAD-clause-ok c = begins_long c.args.bytes.now c.in-Some.size c.in-Some.tail.now c.in-Some.ensures c.if-size-gt-LONGEST_PAYLOAD.true
 
--- src/reading/front.rt:41:9
 pub returns-then-tail-size-clause-ok : goal.returns-then-tail-size-clause-ok
-returns-then-tail-size-clause-ok c = ?
+returns-then-tail-size-clause-ok c =
+    begins_cut c.args.bytes.now c.in-Some.size c.in-Some.tail.now c.in-Some.ensures c.if-size-gt-LONGEST_PAYLOAD.false c.if-tail-size.true
 
--- src/reading/front.rt:28:1
 pub returns-in-Ok-clause-ok : goal.returns-in-Ok-clause-ok
-returns-in-Ok-clause-ok c = ?
+returns-in-Ok-clause-ok c =
+    begins_message c.args.bytes.now c.in-Some.size c.in-Some.tail.now c.in-Ok.message c.in-Some.ensures c.if-size-gt-LONGEST_PAYLOAD.false c.if-tail-size.false c.in-Ok.ensures
 
--- src/reading/front.rt:28:1
 pub returns-in-Err-Bad-clause-ok : goal.returns-in-Err-Bad-clause-ok
-returns-in-Err-Bad-clause-ok c = ?
+returns-in-Err-Bad-clause-ok c =
+    begins_bad c.args.bytes.now c.in-Some.size c.in-Some.tail.now c.in-Err-Bad.field-0 c.in-Some.ensures c.if-size-gt-LONGEST_PAYLOAD.false c.if-tail-size.false c.in-Err-Bad.field-0-is c.in-Err-Bad.ensures
 
--- src/reading/front.rt:28:1
 pub returns-in-Err-Memory-clause-err : goal.returns-in-Err-Memory-clause-err
-returns-in-Err-Memory-clause-err c = ?
+returns-in-Err-Memory-clause-err c =
+    holds_frame c.args.bytes.now c.in-Some.size c.in-Some.tail.now (λ i. omega (arith, c.type_inv.bytes i)) c.in-Some.ensures c.if-size-gt-LONGEST_PAYLOAD.false c.if-tail-size.false
