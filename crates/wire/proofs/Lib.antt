@@ -2,6 +2,8 @@ pub mod Bytes
 pub mod Fields
 pub mod ListLaws
 pub mod PayloadLaws
+pub mod StreamLaws
+pub mod RunLaws
 pub mod Loop
 pub mod Put
 pub mod Front

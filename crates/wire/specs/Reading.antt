@@ -15,7 +15,7 @@ use Rattle.wire.specs.declared.message.Message.{Message}
 use Rattle.wire.specs.declared.message.Message.TheVariants as message
 use Rattle.wire.specs.declared.fault.ReadError.{ReadError}
 use Rattle.wire.specs.declared.fault.ReadError.TheVariants as errors
-use Rattle.wire.specs.Limits.{longest_piece, most_in_a_call, most_in_a_block, longest_payload}
+use Rattle.wire.specs.Limits.{longest_piece, most_in_a_call, most_in_a_block}
 
 infixl 10 ◌>>=◌
 abbrev pub ◌>>=◌ : {A B : Type 0} → Option A → (A → Option B) → Option B
@@ -208,26 +208,3 @@ payload_of (suc (suc (suc (suc zero))) ∷ rest) = trap_of rest
 payload_of (suc (suc (suc (suc (suc zero)))) ∷ rest) = park_of rest
 payload_of (suc (suc (suc (suc (suc (suc zero))))) ∷ rest) = reply_of rest
 payload_of (suc (suc (suc (suc (suc (suc (suc tag)))))) ∷ rest) = None
-
--- ---- frames
-
--- what the bytes begin with
-pub data Beginning : Type 0 where
-  unfinished : Beginning
-  too_long : Beginning
-  bad_frame : Beginning
-  framed : Message → List ℕ → Beginning
-
-unfoldable pub framed_by : Option Message → List ℕ → Beginning
-framed_by None rest = bad_frame
-framed_by (Some m) rest = framed m rest
-
-unfoldable pub behind_length : Field ℕ → Beginning
-behind_length None = unfinished
-behind_length (Some (size, tail)) =
-  if nat_lt longest_payload size then too_long
-  else if nat_lt (length tail) size then unfinished
-  else framed_by (payload_of (take size tail)) (drop size tail)
-
-unfoldable pub beginning_of : List ℕ → Beginning
-beginning_of bytes = behind_length (number_at w32 bytes)

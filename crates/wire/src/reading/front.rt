@@ -1,8 +1,7 @@
 // What stands at the front of a stream.
-ghost use Rattle.std.specs.Prelude.{◌≡◌, IfOk, OnErr};
-ghost use Rattle.wire.specs.Reading.{beginning_of};
+ghost use Rattle.std.specs.Prelude.{IfOk, OnErr};
 ghost use Rattle.wire.specs.Frames.{HoldsFrame};
-ghost use Rattle.wire.specs.Fronts.{seen, IsInside};
+ghost use Rattle.wire.specs.Fronts.{IsFront};
 
 use super::fields::first_u32;
 use super::messages::message;
@@ -26,8 +25,7 @@ pub(crate) enum Front {
 
 /// What the bytes begin with. Only the payload of a whole frame is looked at.
 pub(crate) fn beginning(alloc: Global, bytes: &[u8]) -> Result<Front, AllocError>
-    ensures ok { IfOk result (λ f. beginning_of bytes.now ≡ seen f bytes.now) }
-    ensures inside { IfOk result (λ f. IsInside f bytes.now) }
+    ensures ok { IfOk result (λ f. IsFront f bytes.now) }
     ensures err { OnErr result (HoldsFrame bytes.now) }
 {
     let Some((size, tail)) = first_u32(bytes) else {
