@@ -13,6 +13,7 @@ use Rattle.wire.specs.Fronts.{IsFramed}
 use Rattle.wire.specs.Reading.{Fails, Field, number_at, payload_of}
 use Rattle.wire.proofs.Bytes.{AreBytes, AreBytes-take}
 use Rattle.wire.proofs.Fields.{guard_fails, some_is, field32}
+use Rattle.wire.proofs.Sizes.{length-four_bytes}
 use Rattle.wire.proofs.PayloadLaws.{payload_takes, payload_again}
 
 -- ---- the front as a value
@@ -124,10 +125,6 @@ number_none_short bytes none =
           let no : None ≡ Some (from_be_bytes w32 (take 4 bytes), drop 4 bytes) = sym none ∙ some in
           absurd cc
     ]
-
-pub length-four_bytes : (n : ℕ) → length (four_bytes n) ≡ 4
-unfolding four_bytes
-length-four_bytes n = refl
 
 -- ---- as the code finds it
 

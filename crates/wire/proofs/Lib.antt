@@ -4,6 +4,7 @@ pub mod ListLaws
 pub mod PayloadLaws
 pub mod StreamLaws
 pub mod RunLaws
+pub mod Sizes
 pub mod Loop
 pub mod Put
 pub mod Front

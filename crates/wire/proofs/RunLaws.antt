@@ -12,7 +12,7 @@ use Rattle.wire.specs.Frames.{IsUnfinished, HoldsFrame, BeginsBad, BeginsTooLong
 use Rattle.wire.specs.View.{ReaderView, fresh}
 use Rattle.wire.specs.Steps.{Takes, Refuses, Answers, Step, fed, answered, Leads, Runs, all_fed, message_of, all_given}
 use Rattle.wire.specs.Laws.{ending_at, Follows}
-use Rattle.wire.proofs.StreamLaws.{same_message, stops_no_message, stops_once}
+use Rattle.wire.proofs.StreamLaws.{same_message, stops_no_message, stops_once, streams_once}
 
 -- ---- one answer
 
@@ -144,12 +144,18 @@ taken_no_end before after given more ending takes s =
     stops_no_message ending before.offset (before.unread ++ more) given.0 (after.unread ++ more) s (begins_more given.0 before.unread after.unread more takes.begins)
 
 follows_more : (after : ReaderView) (given m : Message × ℕ) (others ms : List (Message × ℕ)) (ending : Ending) → m ≡ given → Follows after others ms ending → Follows after (given ∷ others) (m ∷ ms) ending
-follows_more after given m others ms ending same f = record { more = f.more; first = λ i. same i ∷ f.first i; left = f.left; kept = f.kept }
+follows_more after given m others ms ending same f = record { more = f.more; first = λ i. same i ∷ f.first i; left = f.left; at_end = f.at_end; at_fault = f.at_fault }
 
 done : (view : ReaderView) (messages : List (Message × ℕ)) (ending : Ending) → Sound view → Ahead view [] messages ending → Follows view [] messages ending
 done view messages ending sound s =
     let left : IsStream view.offset view.unread messages ending = subst (λ bytes. IsStream view.offset bytes messages ending) (append-nil view.unread) s in
-    record { more = messages; first = refl; left = left; kept = go view.fault sound left }
+    record {
+      more = messages;
+      first = refl;
+      left = left;
+      at_end = λ cut. streams_once messages [] ending open_end view.offset view.unread left cut;
+      at_fault = go view.fault sound left;
+    }
   where
     go : (f : Option FrameFault) → IfSome f (λ kind. FaultBegins kind view.unread) → IsStream view.offset view.unread messages ending → IfSome f (λ kind. (messages ≡ []) × (ending ≡ ending_at kind view.offset))
     go None h left = tt

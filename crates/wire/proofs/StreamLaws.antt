@@ -12,7 +12,8 @@ use Rattle.wire.specs.Laws.{OneSpelling, OneStream}
 use Rattle.wire.proofs.Bytes.{AreBytes, AreBytes-take, AreBytes-right, AreBytes-from}
 use Rattle.wire.proofs.Fields.{field32}
 use Rattle.wire.proofs.PayloadLaws.{payload_takes, payload_again}
-use Rattle.wire.proofs.Front.{Beginning, unfinished, too_long, bad_frame, framed, framed_by, beginning_of, found_too_long, found_cut, found_bad, found_message, unfinished_is, too_long_is, frame_is, message_is, same_payload, bad_is_no_message, number_none_short, length-four_bytes}
+use Rattle.wire.proofs.Front.{Beginning, unfinished, too_long, bad_frame, framed, framed_by, beginning_of, found_too_long, found_cut, found_bad, found_message, unfinished_is, too_long_is, frame_is, message_is, same_payload, bad_is_no_message, number_none_short}
+use Rattle.wire.proofs.Sizes.{length-four_bytes}
 
 -- ---- spellings
 

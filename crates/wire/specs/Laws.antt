@@ -1,12 +1,13 @@
 -- The laws of spellings, streams and readers.
-use Rattle.std.specs.Prelude.{◌≡◌, ◌≢◌, ℕ, List, [], ◌++◌, Option, IfSome, Result, Err}
+use Rattle.std.specs.Prelude.{◌≡◌, ◌≢◌, ℕ, ◌+◌, ◌*◌, ◌≤◌, List, [], ◌++◌, length, Option, IfSome, Result, Err}
 use Rattle.wire.specs.declared.message.Message.{Message}
+use Rattle.wire.specs.declared.message.Message.TheVariants as message
 use Rattle.wire.specs.declared.fault.FrameFault.{FrameFault}
 use Rattle.wire.specs.declared.fault.FrameFault.TheVariants as fault
 use Rattle.wire.specs.declared.fault.WireError.{WireError}
 use Rattle.wire.specs.declared.fault.WireError.TheVariants as error
-use Rattle.wire.specs.Limits.{FitsTypes, KeepsLimits, IsBytes, Spells}
-use Rattle.wire.specs.Frames.{Ending, bad_frame_at, too_long_at, IsStream}
+use Rattle.wire.specs.Limits.{FitsTypes, KeepsCounts, KeepsLimits, IsBytes, Spells, longest_payload}
+use Rattle.wire.specs.Frames.{IsUnfinished, Ending, open_end, bad_frame_at, too_long_at, IsStream}
 use Rattle.wire.specs.View.{ReaderView, fresh}
 use Rattle.wire.specs.Steps.{Answers, Step, Runs, all_fed, all_given}
 
@@ -18,6 +19,19 @@ pub record OneSpelling (m : Message) : Type 0 where
 
 abbrev pub EachHasOneSpelling : Type 0
 EachHasOneSpelling = (m : Message) → OneSpelling m
+
+-- the counts suffice where no long bytes and not very many cells are sent
+abbrev pub IsShort : Message → Type 0
+IsShort (message.Boot piece) = Unit {0}
+IsShort (message.Call turns function depth wants body) = Unit {0}
+IsShort (message.Emit turns bytes) = length bytes + 9 ≤ longest_payload
+IsShort (message.Exit turns status) = Unit {0}
+IsShort (message.Trap turns kind span) = Unit {0}
+IsShort (message.Park turns) = Unit {0}
+IsShort (message.Reply body) = 17 * length body.cells + 23 ≤ longest_payload
+
+abbrev pub CountsSuffice : Type 0
+CountsSuffice = (m : Message) → KeepsCounts m → IsShort m → KeepsLimits m
 
 -- two messages with one spelling are one message
 abbrev pub EachHasOneReading : Type 0
@@ -47,12 +61,14 @@ abbrev pub ending_at : FrameFault → ℕ → Ending
 ending_at fault.BadFrame place = bad_frame_at place
 ending_at fault.TooLong place = too_long_at place
 
--- the messages given are the first of the stream, what is unread has the others, and a kept fault is the stream's
+-- The messages given are the first of the stream, and what is unread has the others. There are none where what is
+-- unread is unfinished, and none where a fault is kept, which is then the stream's.
 pub record Follows (after : ReaderView) (given messages : List (Message × ℕ)) (ending : Ending) : Type 0 where
   pub more : List (Message × ℕ)
   pub first : messages ≡ given ++ more
   pub left : IsStream after.offset after.unread more ending
-  pub kept : IfSome after.fault (λ kind. (more ≡ []) × (ending ≡ ending_at kind after.offset))
+  pub at_end : IsUnfinished after.unread → (more ≡ []) × (ending ≡ open_end)
+  pub at_fault : IfSome after.fault (λ kind. (more ≡ []) × (ending ≡ ending_at kind after.offset))
 
 -- however the bytes are cut, a reader gives the first messages of the stream of all bytes fed
 abbrev pub AnyCutting : Type 0

@@ -1,9 +1,15 @@
 // The laws of spellings, streams and readers, each on a function with nothing to do.
-ghost use Rattle.wire.specs.Laws.{EachHasOneSpelling, EachHasOneReading, NoneBeginsAnother, EachHasOneStream, OneAnswer, AnyCutting};
+ghost use Rattle.wire.specs.Laws.{EachHasOneSpelling, CountsSuffice, EachHasOneReading, NoneBeginsAnother, EachHasOneStream, OneAnswer, AnyCutting};
 
 /// A message that keeps all limits has one spelling, any other has none.
 pub fn one_spelling()
     ensures { EachHasOneSpelling }
+{
+}
+
+/// A message whose counts keep their limits keeps all limits, if it has no long bytes and not very many cells.
+pub fn counts_suffice()
+    ensures { CountsSuffice }
 {
 }
 
