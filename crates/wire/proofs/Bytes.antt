@@ -84,12 +84,12 @@ bytes_back (b ∷ bytes) high h =
     let rest = AreBytes-rest b bytes h in
     let below : worth bytes < 256 ^ size = worth_below bytes rest in
     let turned : high * 256 ^ suc size + (b * 256 ^ size + worth bytes) ≡ (high * 256 + b) * 256 ^ size + worth bytes =
-        ap (λ p. high * p + (b * 256 ^ size + worth bytes)) (pow-succ' 256 size) ∙ omega arith in
+    ap (λ p. high * p + (b * 256 ^ size + worth bytes)) (pow-succ' 256 size) ∙ omega arith in
     let first : byte_at size (high * 256 ^ suc size + (b * 256 ^ size + worth bytes)) ≡ b =
-        byte_is size (high * 256 ^ suc size + (b * 256 ^ size + worth bytes)) ∙ ap (λ n. n / 256 ^ size % 256) turned
-        ∙ ap (λ n. n % 256) (div-mul-add (high * 256 + b) (256 ^ size) (worth bytes) below) ∙ mod-mul-add high 256 b (h 0) in
+    byte_is size (high * 256 ^ suc size + (b * 256 ^ size + worth bytes)) ∙ ap (λ n. n / 256 ^ size % 256) turned
+    ∙ ap (λ n. n % 256) (div-mul-add (high * 256 + b) (256 ^ size) (worth bytes) below) ∙ mod-mul-add high 256 b (h 0) in
     let others : bytes_high_first size (high * 256 ^ suc size + (b * 256 ^ size + worth bytes)) ≡ bytes =
-        ap (bytes_high_first size) turned ∙ bytes_back bytes (high * 256 + b) rest in
+    ap (bytes_high_first size) turned ∙ bytes_back bytes (high * 256 + b) rest in
     λ i. first i ∷ others i
 
 -- ---- 16 bytes

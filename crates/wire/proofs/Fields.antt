@@ -291,7 +291,7 @@ pointer_again : (block base count index : ℕ) (rest : List ℕ) → FitsArgumen
 unfolding pointer_at byte_at
 pointer_again block base count index rest fits =
     let regrouped : (four_bytes base ++ (four_bytes count ++ four_bytes index)) ++ rest ≡ four_bytes base ++ (four_bytes count ++ (four_bytes index ++ rest)) =
-        append_assoc (four_bytes base) (four_bytes count ++ four_bytes index) rest ∙ ap (λ x. four_bytes base ++ x) (append_assoc (four_bytes count) (four_bytes index) rest) in
+    append_assoc (four_bytes base) (four_bytes count ++ four_bytes index) rest ∙ ap (λ x. four_bytes base ++ x) (append_assoc (four_bytes count) (four_bytes index) rest) in
     ap (λ x. pointer_at (block ∷ x)) regrouped
     ∙ rw (field32.again base (four_bytes count ++ (four_bytes index ++ rest)) fits.1, field32.again count (four_bytes index ++ rest) fits.2, field32.again index rest fits.3) refl
 

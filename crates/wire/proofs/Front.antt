@@ -32,7 +32,7 @@ framed_by (Some m) rest = framed m rest
 behind_length : Field ℕ → Beginning
 behind_length None = unfinished
 behind_length (Some (size, tail)) =
-  cond (ltb longest_payload size) too_long (cond (ltb (length tail) size) unfinished (framed_by (payload_of (take size tail)) (drop size tail)))
+    cond (ltb longest_payload size) too_long (cond (ltb (length tail) size) unfinished (framed_by (payload_of (take size tail)) (drop size tail)))
 
 pub beginning_of : List ℕ → Beginning
 beginning_of bytes = behind_length (number_at w32 bytes)
@@ -163,9 +163,9 @@ found_bad bytes size tail fits at le inside none =
     record {
       frame = frame;
       no_message = λ m s.
-        let again : payload_of (take size tail) ≡ Some m = ap payload_of (sym (same_payload m (take size tail) short s)) ∙ payload_again m s.fits s.keeps in
-        let no : None ≡ Some m = sym none ∙ again in
-        cc;
+          let again : payload_of (take size tail) ≡ Some m = ap payload_of (sym (same_payload m (take size tail) short s)) ∙ payload_again m s.fits s.keeps in
+          let no : None ≡ Some m = sym none ∙ again in
+          cc;
     }
 
 pub found_fault : (bytes : List ℕ) (size : ℕ) (tail : List ℕ) (e : ReadError) → AreBytes bytes → number_at w32 bytes ≡ Some (size, tail) → size ≤ longest_payload → size ≤ length tail
@@ -186,7 +186,7 @@ found_message bytes size tail m fits at le inside some =
     let four = behind_four bytes size tail at in
     let rest : drop size tail ≡ drop (4 + size) bytes = ap (drop size) four.1 ∙ drop-drop size 4 bytes in
     let whole : bytes ≡ spelling m ++ drop size tail =
-        frame.are ∙ ap (λ x. four_bytes (length x) ++ (x ++ drop size tail)) taken.parts ∙ sym (append_assoc (four_bytes (length (payload m))) (payload m) (drop size tail)) in
+    frame.are ∙ ap (λ x. four_bytes (length x) ++ (x ++ drop size tail)) taken.parts ∙ sym (append_assoc (four_bytes (length (payload m))) (payload m) (drop size tail)) in
     record {
       begins = record { spelled = record { fits = taken.fits; keeps = keeps; are = refl }; are = subst (λ rest. bytes ≡ spelling m ++ rest) rest whole };
       whole = omega (arith, length-append (four_bytes (length (payload m))) (payload m), length-four_bytes (length (payload m)), ap length taken.parts, length-take size tail);

@@ -156,7 +156,7 @@ unfolding reply_at
 reply_again body rest good =
     let cells = flat_map cell_bytes body.cells in
     let regrouped : reply_bytes body ++ rest ≡ result_bytes body.result ++ (four_bytes (length body.cells) ++ (cells ++ rest)) =
-        append_assoc (result_bytes body.result) (four_bytes (length body.cells) ++ cells) rest ∙ ap (λ x. result_bytes body.result ++ x) (append_assoc (four_bytes (length body.cells)) cells rest) in
+    append_assoc (result_bytes body.result) (four_bytes (length body.cells) ++ cells) rest ∙ ap (λ x. result_bytes body.result ++ x) (append_assoc (four_bytes (length body.cells)) cells rest) in
     ap reply_at regrouped
     ∙ rw (result_field.again body.result (four_bytes (length body.cells) ++ (cells ++ rest)) good.0.result, field32.again (length body.cells) (cells ++ rest) good.1, many_again cell_field body.cells rest good.0.cells) refl
 

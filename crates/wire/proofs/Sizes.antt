@@ -56,8 +56,13 @@ typed_cell_size typed = omega (arith, cell_size typed.1)
 
 block_size : (cells : List (IntType × WireCell)) → IsBlock cells → length (block_bytes cells) ≤ 1_179_652
 block_size cells good =
-    omega (arith, good.1, length-append (four_bytes (length cells)) (flat_map typed_cell_bytes cells), length-four_bytes (length cells),
-      flat_map_at_most typed_cell_bytes 18 cells (each (λ typed. length (typed_cell_bytes typed) ≤ 18) typed_cell_size cells))
+    omega (
+      arith,
+      good.1,
+      length-append (four_bytes (length cells)) (flat_map typed_cell_bytes cells),
+      length-four_bytes (length cells),
+      flat_map_at_most typed_cell_bytes 18 cells (each (λ typed. length (typed_cell_bytes typed) ≤ 18) typed_cell_size cells),
+    )
 
 block_sizes : (blocks : List (List (IntType × WireCell))) → AllByRecursion IsBlock blocks → AllByRecursion (λ cells. length (block_bytes cells) ≤ 1_179_652) blocks
 block_sizes [] h = tt
@@ -76,14 +81,26 @@ result_size (Some c) = omega (arith, cell_size c)
 reply_size : (body : ReplyBody) → length (reply_bytes body) ≤ 17 * length body.cells + 22
 reply_size body =
     let cells : length (flat_map cell_bytes body.cells) ≤ length body.cells * 17 = flat_map_at_most cell_bytes 17 body.cells (each (λ c. length (cell_bytes c) ≤ 17) cell_size body.cells) in
-    omega (arith, cells, result_size body.result, length-append (result_bytes body.result) (four_bytes (length body.cells) ++ flat_map cell_bytes body.cells),
-      length-append (four_bytes (length body.cells)) (flat_map cell_bytes body.cells), length-four_bytes (length body.cells))
+    omega (
+      arith,
+      cells,
+      result_size body.result,
+      length-append (result_bytes body.result) (four_bytes (length body.cells) ++ flat_map cell_bytes body.cells),
+      length-append (four_bytes (length body.cells)) (flat_map cell_bytes body.cells),
+      length-four_bytes (length body.cells),
+    )
 
 payload_size : (m : Message) → KeepsCounts m → IsShort m → length (payload m) ≤ longest_payload
 payload_size (message.Boot piece) counts short = omega (arith, counts)
 payload_size (message.Call turns function depth wants body) counts short =
-    omega (arith, call_size body counts, length-append (eight_bytes turns) (four_bytes function ++ (depth ∷ truth_byte wants ∷ call_bytes body)), length-append (four_bytes function) (depth ∷ truth_byte wants ∷ call_bytes body),
-      length-eight_bytes turns, length-four_bytes function)
+    omega (
+      arith,
+      call_size body counts,
+      length-append (eight_bytes turns) (four_bytes function ++ (depth ∷ truth_byte wants ∷ call_bytes body)),
+      length-append (four_bytes function) (depth ∷ truth_byte wants ∷ call_bytes body),
+      length-eight_bytes turns,
+      length-four_bytes function,
+    )
 payload_size (message.Emit turns bytes) counts short = omega (arith, short, length-append (eight_bytes turns) bytes, length-eight_bytes turns)
 payload_size (message.Exit turns status) counts short = omega (arith, length-append (eight_bytes turns) (four_signed_bytes status), length-eight_bytes turns, length-four_signed_bytes status)
 payload_size (message.Trap turns kind span) counts short =

@@ -87,7 +87,7 @@ streams_once (m ∷ ms) [] one two at bytes s t = absurd (stops_no_message two a
 streams_once (m ∷ ms) (k ∷ ks) one two at bytes s t =
     let same = same_message m.0 k.0 bytes s.0 t.0 s.1 t.1 in
     let moved : IsStream (at + length (spelling m.0)) s.0 ks two =
-        subst (λ (x : Message). IsStream (at + length (spelling x)) s.0 ks two) (sym same.0) (subst (λ rest. IsStream (at + length (spelling k.0)) rest ks two) (sym same.1) t.3) in
+    subst (λ (x : Message). IsStream (at + length (spelling x)) s.0 ks two) (sym same.0) (subst (λ rest. IsStream (at + length (spelling k.0)) rest ks two) (sym same.1) t.3) in
     let more = streams_once ms ks one two (at + length (spelling m.0)) s.0 s.3 moved in
     let place : m.1 ≡ k.1 = s.2 ∙ sym t.2 in
     ((λ i. (same.0 i, place i) ∷ more.0 i), more.1)
@@ -110,9 +110,9 @@ front_of bytes fits = go (number_at w32 bytes) refl
         elim (cases_lt longest_payload size) [
           | inl over ↦ inl (too_long_at, λ at. (refl, found_too_long bytes size tail fits e over))
           | inr le ↦ elim (cases_lt (length tail) size) [
-              | inl cut ↦ inl (λ at. open_end, λ at. found_cut bytes size tail fits e le cut)
-              | inr inside ↦ whole_front bytes size tail (payload_of (take size tail)) fits e le inside refl
-            ]
+            | inl cut ↦ inl (λ at. open_end, λ at. found_cut bytes size tail fits e le cut)
+            | inr inside ↦ whole_front bytes size tail (payload_of (take size tail)) fits e le inside refl
+          ]
         ]
 
 -- a spelling has bytes

@@ -57,4 +57,4 @@ Stops (too_long_at place) at bytes = (place ≡ at) × BeginsTooLong bytes
 abbrev pub IsStream : ℕ → List ℕ → List (Message × ℕ) → Ending → Type 0
 IsStream at bytes [] ending = Stops ending at bytes
 IsStream at bytes (given ∷ more) ending =
-  (rest : List ℕ) × Begins given.0 bytes rest × (given.1 ≡ at) × IsStream (at + length (spelling given.0)) rest more ending
+    (rest : List ℕ) × Begins given.0 bytes rest × (given.1 ≡ at) × IsStream (at + length (spelling given.0)) rest more ending

@@ -54,8 +54,8 @@ EachHasOneStream = (bytes : List ℕ) → IsBytes bytes → OneStream bytes
 -- but for want of memory, next has one answer
 abbrev pub OneAnswer : Type 0
 OneAnswer =
-  (before first second : ReaderView) (a b : Result (Option (Message × ℕ)) WireError) → Answers before a first → Answers before b second
-  → a ≢ Err error.Memory → b ≢ Err error.Memory → (a ≡ b) × (first ≡ second)
+    (before first second : ReaderView) (a b : Result (Option (Message × ℕ)) WireError) → Answers before a first → Answers before b second
+    → a ≢ Err error.Memory → b ≢ Err error.Memory → (a ≡ b) × (first ≡ second)
 
 abbrev pub ending_at : FrameFault → ℕ → Ending
 ending_at fault.BadFrame place = bad_frame_at place
@@ -73,5 +73,5 @@ pub record Follows (after : ReaderView) (given messages : List (Message × ℕ))
 -- however the bytes are cut, a reader gives the first messages of the stream of all bytes fed
 abbrev pub AnyCutting : Type 0
 AnyCutting =
-  (steps : List Step) (after : ReaderView) (messages : List (Message × ℕ)) (ending : Ending)
-  → Runs steps fresh after → IsStream 0 (all_fed steps) messages ending → Follows after (all_given steps) messages ending
+    (steps : List Step) (after : ReaderView) (messages : List (Message × ℕ)) (ending : Ending)
+    → Runs steps fresh after → IsStream 0 (all_fed steps) messages ending → Follows after (all_given steps) messages ending

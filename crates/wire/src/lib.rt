@@ -13,8 +13,14 @@ mod writing;
 
 pub use cell::{Arg, WireCell};
 pub use fault::{FrameFault, WireError};
-pub use laws::{any_cutting, counts_suffice, none_begins_another, one_answer, one_reading, one_spelling, one_stream};
+pub use laws::{
+    any_cutting, counts_suffice, none_begins_another, one_answer, one_reading, one_spelling,
+    one_stream,
+};
 pub use lists::{Args, Block, Blocks, Cells};
 pub use message::{CallBody, Message, ReplyBody};
 pub use reader::Reader;
 pub use writing::write_message;
+
+#[cfg(test)]
+mod tests;

@@ -32,13 +32,25 @@ pub enum Message {
         body: CallBody,
     },
     /// Bytes for the output.
-    Emit { turns: u64, bytes: Bytes },
+    Emit {
+        turns: u64,
+        bytes: Bytes,
+    },
     /// The program ended with a status.
-    Exit { turns: u64, status: i32 },
+    Exit {
+        turns: u64,
+        status: i32,
+    },
     /// The program broke off at a stretch of its text.
-    Trap { turns: u64, kind: Trap, span: Span },
+    Trap {
+        turns: u64,
+        kind: Trap,
+        span: Span,
+    },
     /// The turns are used up.
-    Park { turns: u64 },
+    Park {
+        turns: u64,
+    },
     /// The answer to a call that wants one.
     Reply(ReplyBody),
 }

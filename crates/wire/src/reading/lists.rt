@@ -11,11 +11,7 @@ use crate::message::{CallBody, ReplyBody};
 use pt_base::IntType;
 use std::alloc::Global;
 
-fn cells_of(
-    alloc: Global,
-    count: u32,
-    bytes: &[u8],
-) -> Result<(Vec<WireCell>, &[u8]), ReadError>
+fn cells_of(alloc: Global, count: u32, bytes: &[u8]) -> Result<(Vec<WireCell>, &[u8]), ReadError>
     ensures { Gives (λ x. (x.0.items, x.1.now)) result (many cell_at count bytes.now) }
 {
     let mut items = Vec::new(alloc);
