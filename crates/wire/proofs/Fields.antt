@@ -1,9 +1,8 @@
 -- A field that is read is the field that was written, and what was written is read again.
-use Rattle.std.proofs.Common.{◌≡◌, ℕ, zero, suc, ℤ, ◌+◌, ◌-◌, ◌^◌, ◌<◌, ◌≤◌, Bool, true, false, cond, ltb, leb, eqb, ◌≢◌, pos, negsuc, ◌&&◌, List, [], ◌∷◌, ◌++◌, length, get_or, take, drop, Option, Some, None, refl, sym, ap, subst, ◌∙◌, append_assoc, arith, inl, inr}
+use Rattle.std.proofs.Common.{◌≡◌, ℕ, zero, suc, ℤ, ◌+◌, ◌-◌, ◌^◌, ◌<◌, ◌≤◌, Bool, true, false, cond, ltb, eqb, ◌≢◌, pos, negsuc, List, [], ◌∷◌, ◌++◌, length, take, drop, Option, Some, None, refl, sym, ap, subst, ◌∙◌, append_assoc, arith}
 use Rattle.std.specs.Prelude.{IfSome, FitsSigned, slice_get}
-use Rattle.std.specs.List.{flat_map, AllByRecursion}
 use Rattle.std.specs.Int.{Width, w32, w64, w128, byte_len, from_be_bytes, to_be_bytes, cast_signed, cast_unsigned}
-use Rattle.std.proofs.lemmas.Bool.{cases_lt, ltb-false, le-ltb, eqb-false}
+use Rattle.std.proofs.lemmas.Bool.{ltb-false, le-ltb, eqb-false}
 use Rattle.std.proofs.lemmas.List.{take_at, drop_at, take-append-drop, length-append, length-take}
 use Rattle.std.proofs.lemmas.Int.{to_z-of_z, of_z-to_z}
 use Rattle.std.proofs.Math.Facts.{sfits_to_z}
@@ -18,7 +17,7 @@ use Rattle.wire.specs.declared.cell.WireCell.{WireCell}
 use Rattle.wire.specs.declared.cell.WireCell.TheVariants as cell
 use Rattle.wire.specs.Spelling.{four_bytes, eight_bytes, four_signed_bytes, sixteen_signed_bytes, truth_byte, type_byte, kind_byte, cell_bytes, argument_bytes, typed_cell_bytes, result_bytes}
 use Rattle.wire.specs.Limits.{FitsCell, FitsArgument, FitsTypedCell}
-use Rattle.wire.specs.Reading.{◌>>=◌, Field, byte_at, number_at, signed_at, truth_at, types, kinds, type_of, kind_of, cell_at, pointer_at, argument_at, typed_cell_at, result_at}
+use Rattle.wire.specs.Reading.{◌>>=◌, Field, byte_at, number_at, signed_at, truth_at, kinds, type_of, kind_of, cell_at, pointer_at, argument_at, typed_cell_at, result_at}
 use Rattle.wire.proofs.Bytes.{AreBytes, AreBytes-drop, AreBytes-take, AreBytes-rest, IsWide, wide32, wide64, wide128}
 
 -- the value of a step that gave one

@@ -1,5 +1,5 @@
 -- What bytes begin with, by the number in their first four and what stands behind it.
-use Rattle.std.proofs.Common.{◌≡◌, ℕ, ◌+◌, ◌<◌, ◌≤◌, ◌^◌, Bool, true, false, cond, ltb, List, [], ◌∷◌, ◌++◌, length, take, drop, Option, Some, None, refl, sym, ap, subst, ◌∙◌, append_assoc, arith, inl, inr}
+use Rattle.std.proofs.Common.{◌≡◌, ℕ, ◌+◌, ◌<◌, ◌≤◌, ◌^◌, cond, ltb, List, ◌++◌, length, take, drop, Option, Some, None, refl, sym, ap, subst, ◌∙◌, append_assoc, arith, inl, inr}
 use Rattle.std.specs.Int.{w32, from_be_bytes}
 use Rattle.std.proofs.lemmas.Bool.{lt-ltb, le-ltb, ltb-false, cases_lt}
 use Rattle.std.proofs.lemmas.List.{length-take, take-append-drop, drop-drop, take_at, drop_at, length-append, length-drop}
@@ -7,8 +7,8 @@ use Rattle.wire.specs.declared.message.Message.{Message}
 use Rattle.wire.specs.declared.fault.ReadError.{ReadError}
 use Rattle.wire.specs.declared.fault.ReadError.TheVariants as errors
 use Rattle.wire.specs.Spelling.{four_bytes, payload, spelling}
-use Rattle.wire.specs.Limits.{longest_payload, FitsTypes, KeepsLimits, Spells}
-use Rattle.wire.specs.Frames.{EndsInside, IsUnfinished, HoldsFrame, BeginsBad, BeginsTooLong, Begins}
+use Rattle.wire.specs.Limits.{longest_payload, KeepsLimits, Spells}
+use Rattle.wire.specs.Frames.{IsUnfinished, HoldsFrame, BeginsBad, BeginsTooLong, Begins}
 use Rattle.wire.specs.Fronts.{IsFramed}
 use Rattle.wire.specs.Reading.{Fails, Field, number_at, payload_of}
 use Rattle.wire.proofs.Bytes.{AreBytes, AreBytes-take}

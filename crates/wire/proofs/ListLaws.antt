@@ -1,16 +1,14 @@
 -- Lists that are read are the lists that were written, and what was written is read again.
-use Rattle.std.proofs.Common.{◌≡◌, ℕ, zero, suc, ◌+◌, ◌^◌, ◌<◌, ◌≤◌, Bool, true, false, cond, leb, ◌&&◌, List, [], ◌∷◌, ◌++◌, length, Option, Some, None, refl, sym, ap, subst, ◌∙◌, append_assoc, arith}
-use Rattle.std.specs.Prelude.{IfSome}
+use Rattle.std.proofs.Common.{◌≡◌, ℕ, zero, suc, ◌^◌, ◌<◌, ◌≤◌, Bool, true, false, cond, leb, ◌&&◌, List, [], ◌∷◌, ◌++◌, length, Some, None, refl, sym, ap, subst, ◌∙◌, append_assoc, arith}
 use Rattle.std.specs.List.{flat_map, AllByRecursion}
-use Rattle.std.specs.Int.{w32, to_be_bytes}
+use Rattle.std.specs.Int.{w32}
 use Rattle.std.proofs.lemmas.Bool.{leb-true, le-leb}
 use Rattle.pt_base.specs.declared.int_type.IntType.{IntType}
-use Rattle.wire.specs.declared.cell.Arg.{Arg}
 use Rattle.wire.specs.declared.cell.WireCell.{WireCell}
 use Rattle.wire.specs.declared.message.CallBody.{CallBody}
 use Rattle.wire.specs.declared.message.ReplyBody.{ReplyBody}
 use Rattle.wire.specs.Spelling.{four_bytes, cell_bytes, argument_bytes, typed_cell_bytes, block_bytes, call_bytes, result_bytes, reply_bytes}
-use Rattle.wire.specs.Limits.{FitsCell, FitsArgument, FitsTypedCell, FitsBlock, FitsCall, FitsReply, IsBlock, IsCall, most_in_a_call, most_in_a_block}
+use Rattle.wire.specs.Limits.{FitsBlock, FitsCall, FitsReply, IsBlock, IsCall, most_in_a_call, most_in_a_block}
 use Rattle.wire.specs.Reading.{◌>>=◌, Field, byte_at, number_at, cell_at, argument_at, typed_cell_at, result_at, many, few, block_at, call_at, reply_at}
 use Rattle.wire.proofs.Bytes.{AreBytes}
 use Rattle.wire.proofs.Fields.{bind_some, guard_some, some_is, Takes, Takes-then, IsField, byte_field, field32, cell_field, argument_field, typed_cell_field, result_field}

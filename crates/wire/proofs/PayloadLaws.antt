@@ -1,7 +1,7 @@
 -- A payload that is read is the message's, and what was written is read again.
-use Rattle.std.proofs.Common.{◌≡◌, ℕ, ℤ, zero, suc, ◌+◌, ◌^◌, ◌<◌, ◌≤◌, Bool, true, false, cond, leb, eqb, List, [], ◌∷◌, ◌++◌, length, Option, Some, None, refl, sym, ap, subst, ◌∙◌, append_assoc, arith}
+use Rattle.std.proofs.Common.{◌≡◌, ℕ, ℤ, zero, suc, ◌^◌, ◌<◌, ◌≤◌, leb, eqb, List, [], ◌∷◌, ◌++◌, length, Option, Some, refl, sym, ap, subst, ◌∙◌, arith}
 use Rattle.std.specs.List.{flat_map}
-use Rattle.std.specs.Int.{w32, w64, to_be_bytes}
+use Rattle.std.specs.Int.{w32, w64}
 use Rattle.std.proofs.lemmas.Bool.{leb-true, le-leb, eqb-true}
 use Rattle.std.proofs.lemmas.List.{append-nil, nil_from_length, length-append}
 use Rattle.pt_base.specs.declared.trap.Trap.{Trap}
@@ -11,7 +11,7 @@ use Rattle.wire.specs.declared.message.ReplyBody.{ReplyBody}
 use Rattle.wire.specs.declared.message.Message.{Message}
 use Rattle.wire.specs.declared.message.Message.TheVariants as message
 use Rattle.wire.specs.Spelling.{four_bytes, eight_bytes, four_signed_bytes, truth_byte, kind_byte, cell_bytes, call_bytes, result_bytes, reply_bytes, payload}
-use Rattle.wire.specs.Limits.{FitsTypes, KeepsCounts, KeepsLimits, longest_piece, longest_payload}
+use Rattle.wire.specs.Limits.{FitsTypes, KeepsCounts, KeepsLimits, longest_piece}
 use Rattle.wire.specs.Reading.{◌>>=◌, Field, byte_at, number_at, signed_at, truth_at, kind_of, call_at, reply_at, alone, boot_of, call_of, emit_of, exit_of, trap_of, park_of, reply_of, payload_of}
 use Rattle.wire.proofs.Bytes.{AreBytes, AreBytes-rest, IsBytes-from}
 use Rattle.wire.proofs.Fields.{bind_some, guard_some, some_is, Takes, Takes-then, byte_field, field32, field64, field_signed32, truth_field, kind_is, kind_again}

@@ -8,9 +8,9 @@ use Rattle.wire.specs.declared.fault.FrameFault.TheVariants as fault
 use Rattle.wire.specs.declared.fault.WireError.{WireError}
 use Rattle.wire.specs.declared.fault.WireError.TheVariants as error
 use Rattle.wire.specs.Spelling.{four_bytes, spelling}
-use Rattle.wire.specs.Frames.{IsUnfinished, HoldsFrame, BeginsBad, BeginsTooLong, Begins, Ending, open_end, bad_frame_at, too_long_at, Stops, IsStream}
+use Rattle.wire.specs.Frames.{BeginsBad, BeginsTooLong, Begins, Ending, open_end, Stops, IsStream}
 use Rattle.wire.specs.View.{ReaderView, fresh}
-use Rattle.wire.specs.Steps.{Takes, Refuses, Answers, Step, fed, answered, Leads, Runs, all_fed, message_of, all_given}
+use Rattle.wire.specs.Steps.{Takes, Refuses, Answers, Step, fed, answered, Runs, all_fed, all_given}
 use Rattle.wire.specs.Laws.{ending_at, Follows}
 use Rattle.wire.proofs.StreamLaws.{same_message, stops_no_message, stops_once, streams_once}
 

@@ -1,18 +1,16 @@
 -- Each list of bytes is one stream of messages.
-use Rattle.std.proofs.Common.{◌≡◌, ◌≢◌, ℕ, zero, suc, ◌+◌, ◌<◌, ◌≤◌, ◌^◌, List, [], ◌∷◌, ◌++◌, length, take, drop, Option, Some, None, ◌⊎◌, refl, sym, ap, subst, ◌∙◌, append_assoc, arith, inl, inr}
+use Rattle.std.proofs.Common.{◌≡◌, ℕ, zero, suc, ◌+◌, ◌<◌, ◌≤◌, List, [], ◌∷◌, ◌++◌, length, take, drop, Option, Some, None, ◌⊎◌, refl, sym, ap, subst, ◌∙◌, arith, inl, inr}
 use Rattle.std.specs.Int.{w32}
 use Rattle.std.proofs.lemmas.Bool.{cases_lt}
-use Rattle.std.proofs.lemmas.List.{append-nil, length-append, length-take, take-append-drop}
+use Rattle.std.proofs.lemmas.List.{append-nil, length-append}
 use Rattle.wire.specs.declared.message.Message.{Message}
 use Rattle.wire.specs.Spelling.{four_bytes, payload, spelling}
-use Rattle.wire.specs.Limits.{longest_payload, FitsTypes, KeepsLimits, IsBytes, Spells}
-use Rattle.wire.specs.Frames.{EndsInside, IsUnfinished, HoldsFrame, BeginsBad, BeginsTooLong, Begins, Ending, open_end, bad_frame_at, too_long_at, Stops, IsStream}
+use Rattle.wire.specs.Limits.{longest_payload, IsBytes, Spells}
+use Rattle.wire.specs.Frames.{IsUnfinished, HoldsFrame, BeginsTooLong, Begins, Ending, open_end, bad_frame_at, too_long_at, Stops, IsStream}
 use Rattle.wire.specs.Reading.{Field, number_at, payload_of}
 use Rattle.wire.specs.Laws.{OneSpelling, OneStream}
-use Rattle.wire.proofs.Bytes.{AreBytes, AreBytes-take, AreBytes-right, AreBytes-from}
-use Rattle.wire.proofs.Fields.{field32}
-use Rattle.wire.proofs.PayloadLaws.{payload_takes, payload_again}
-use Rattle.wire.proofs.Front.{Beginning, unfinished, too_long, bad_frame, framed, framed_by, beginning_of, found_too_long, found_cut, found_bad, found_message, unfinished_is, too_long_is, frame_is, message_is, same_payload, bad_is_no_message, number_none_short}
+use Rattle.wire.proofs.Bytes.{AreBytes, AreBytes-right, AreBytes-from}
+use Rattle.wire.proofs.Front.{unfinished, too_long, framed, framed_by, found_too_long, found_cut, found_bad, found_message, unfinished_is, too_long_is, frame_is, message_is, bad_is_no_message, number_none_short}
 use Rattle.wire.proofs.Sizes.{length-four_bytes}
 
 -- ---- spellings

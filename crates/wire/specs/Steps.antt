@@ -6,7 +6,6 @@ use Rattle.wire.specs.declared.fault.FrameFault.TheVariants as fault
 use Rattle.wire.specs.declared.fault.WireError.{WireError}
 use Rattle.wire.specs.declared.fault.WireError.TheVariants as error
 use Rattle.wire.specs.Spelling.{spelling}
-use Rattle.wire.specs.Limits.{Spells}
 use Rattle.wire.specs.Frames.{IsUnfinished, HoldsFrame, BeginsBad, BeginsTooLong, Begins}
 use Rattle.wire.specs.View.{ReaderView}
 

@@ -1,4 +1,9 @@
 //! Messages as bytes: their one spelling, and a reader of it for any pieces.
+//!
+//! Framing is exact: what is written is the message's spelling (`write_message`), each message has one and
+//! no spelling begins another (`one_spelling`, `one_reading`, `none_begins_another`), bytes are one stream
+//! of messages (`one_stream`), and a reader gives this stream's messages however the bytes are cut
+//! (`Reader`, `one_answer`, `any_cutting`).
 #![tactic(auto)]
 
 mod cell;

@@ -238,6 +238,15 @@ fn put_reply(out: &mut Vec<u8>, body: &ReplyBody) -> Result<(), AllocError>
     put_cells(out, cells)
 }
 
+// The tag and the turns.
+#[tactic(auto, using(std::proofs::Common::append_assoc))]
+fn put_start(out: &mut Vec<u8>, tag: u8, turns: u64) -> Result<(), AllocError>
+    ensures { OnOk result (out.new.items ≡ out.old.items ++ tag ∷ eight_bytes turns) }
+{
+    put_byte(out, tag)?;
+    put_u64(out, turns)
+}
+
 #[tactic(auto, using(std::proofs::Common::append_assoc))]
 fn put_payload(out: &mut Vec<u8>, m: &Message) -> Result<(), AllocError>
     requires { KeepsLimits m.now }
@@ -256,33 +265,28 @@ fn put_payload(out: &mut Vec<u8>, m: &Message) -> Result<(), AllocError>
             wants,
             body,
         } => {
-            put_byte(out, 1)?;
-            put_u64(out, *turns)?;
+            put_start(out, 1, *turns)?;
             put_u32(out, *function)?;
             put_byte(out, *depth)?;
             put_byte(out, u8::from(*wants))?;
             put_call(out, body)?;
         }
         Message::Emit { turns, bytes } => {
-            put_byte(out, 2)?;
-            put_u64(out, *turns)?;
+            put_start(out, 2, *turns)?;
             put_bytes(out, bytes.as_slice())?;
         }
         Message::Exit { turns, status } => {
-            put_byte(out, 3)?;
-            put_u64(out, *turns)?;
+            put_start(out, 3, *turns)?;
             put_i32(out, status)?;
         }
         Message::Trap { turns, kind, span } => {
-            put_byte(out, 4)?;
-            put_u64(out, *turns)?;
+            put_start(out, 4, *turns)?;
             put_byte(out, kind_number(*kind))?;
             put_u32(out, span.from)?;
             put_u32(out, span.to)?;
         }
         Message::Park { turns } => {
-            put_byte(out, 5)?;
-            put_u64(out, *turns)?;
+            put_start(out, 5, *turns)?;
         }
         Message::Reply(body) => {
             put_byte(out, 6)?;

@@ -1,5 +1,4 @@
-use Rattle.std.proofs.Common.{◌≡◌, ◌++◌, drop}
-use Rattle.std.specs.List.{flat_map, AllByRecursion}
+use Rattle.std.proofs.Common.{drop}
 use Rattle.wire.specs.Spelling.{argument_bytes}
 use Rattle.wire.specs.Limits.{FitsArgument}
 use Rattle.wire.proofs.Put.{Putting}

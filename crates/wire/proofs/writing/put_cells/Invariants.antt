@@ -1,5 +1,4 @@
-use Rattle.std.proofs.Common.{◌≡◌, ◌++◌, drop}
-use Rattle.std.specs.List.{flat_map, AllByRecursion}
+use Rattle.std.proofs.Common.{drop}
 use Rattle.wire.specs.Spelling.{cell_bytes}
 use Rattle.wire.specs.Limits.{FitsCell}
 use Rattle.wire.proofs.Put.{Putting}

@@ -1,5 +1,4 @@
-use Rattle.std.proofs.Common.{◌≡◌, ◌++◌, drop}
-use Rattle.std.specs.List.{flat_map, AllByRecursion}
+use Rattle.std.proofs.Common.{drop}
 use Rattle.wire.specs.Spelling.{typed_cell_bytes}
 use Rattle.wire.specs.Limits.{FitsTypedCell}
 use Rattle.wire.proofs.Put.{Putting}
