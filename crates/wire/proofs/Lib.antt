@@ -1,0 +1,10 @@
+pub mod Bytes
+pub mod Fields
+pub mod ListLaws
+pub mod PayloadLaws
+pub mod StreamLaws
+pub mod RunLaws
+pub mod Sizes
+pub mod Loop
+pub mod Put
+pub mod Front

@@ -1,0 +1,5 @@
+// Reading messages.
+mod fields;
+pub(crate) mod front;
+mod lists;
+mod messages;
