@@ -175,6 +175,17 @@ pub enum TokenKind {
     Comma,
 }
 
+impl TokenKind {
+    ghost use Rattle.std.specs.Prelude.{◌≡◌, ◌↔◌, IsTrue};
+
+    /// Whether this is that kind.
+    pub fn is(self, kind: TokenKind) -> bool
+        ensures { IsTrue result ↔ (self ≡ kind) }
+    {
+        self == kind
+    }
+}
+
 /// What a token carries beside its kind.
 #[derive(Drop)]
 pub enum TokenValue {

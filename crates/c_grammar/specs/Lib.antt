@@ -1,0 +1,7 @@
+pub mod Builds
+pub mod Grammar
+pub mod Item
+pub mod Numbers
+pub mod Part
+pub mod Sets
+pub mod Table
