@@ -1,6 +1,7 @@
 pub mod Builds
 pub mod Grammar
 pub mod Item
+pub mod Machine
 pub mod Numbers
 pub mod Part
 pub mod Sets

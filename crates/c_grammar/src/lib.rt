@@ -1,4 +1,5 @@
-//! The grammar: its symbols, its rules and the table that tells which rule a token leads to.
+//! The grammar: its symbols, its rules and the table that tells which rule a token leads to. The
+//! rules, what they build and the derivation by them stand in specs/.
 #![tactic(auto)]
 
 mod symbol;

@@ -194,15 +194,17 @@ static LEADING: [u128; 177] = [
 pub fn row(symbol: Symbol, next: TokenKind) -> Option<u8>
     ensures { result ≡ row_of symbol next }
 {
-    alternatives(symbol).iter().copied().find(|rule| is_led_to(*rule, next))
+    alternatives(symbol)
+        .iter()
+        .copied()
+        .find(|rule| is_led_to(*rule, next))
 }
 
 /// The table is the grammar's: the tokens that lead to a rule are those that can begin it, and for
 /// an empty one those that can follow its symbol, by the least sets that the rules ask for.
 pub fn table_is_the_grammars()
     ensures { TableIsTheGrammars }
-{
-}
+{}
 
 fn is_led_to(rule: u8, next: TokenKind) -> bool
     ensures { result ≡ leads_to next rule }
@@ -301,5 +303,19 @@ pub fn alternatives(symbol: Symbol) -> &'static [u8]
         Symbol::Section => &[172],
         Symbol::Label => &[173, 174],
         Symbol::SectionItems => &[175, 176],
+    }
+}
+
+#[cfg(test)]
+mod tests {
+    use super::*;
+
+    #[test]
+    fn rows_are_numbered_by_the_grammar(rt: HostRuntime) {
+        assert!(rt; row(Symbol::Statement, TokenKind::While) == Some(72));
+        assert!(rt; row(Symbol::ElsePart, TokenKind::Else) == Some(78));
+        assert!(rt; row(Symbol::ElsePart, TokenKind::CloseBrace) == Some(79));
+        assert!(rt; row(Symbol::Statement, TokenKind::Switch) == Some(169));
+        assert!(rt; row(Symbol::Sections, TokenKind::While) == None);
     }
 }

@@ -1,16 +1,15 @@
 -- What a variant with a list is seen as: the list of its items.
-use Rattle.std.proofs.Common.{◌≡◌, ℕ, refl, ap, ◌∙◌, rules, map, List, [], ◌∷◌}
+use Rattle.std.proofs.Common.{◌≡◌, refl, ap, ◌∙◌, rules, map}
 use Rattle.std.specs.Prelude.{Box, Vec}
 use Rattle.std.specs.declared.alloc.Global.{Global}
 use Rattle.pt_base.specs.declared.span.Span.{Span}
 use Rattle.pt_tree.specs.declared.word.Word.{Word}
-use Rattle.pt_tree.specs.declared.operator.BinaryOp.{BinaryOp}
 use Rattle.pt_tree.specs.declared.specifier.Declarator.{Declarator}
 use Rattle.pt_tree.specs.declared.specifier.FieldDecl.{FieldDecl}
 use Rattle.pt_tree.specs.declared.specifier.Spec.{Spec, Row_of-Spec, end_of-Spec, more_of-Spec, items-the_row-Spec, Row_of-FieldDecl, end_of-FieldDecl, more_of-FieldDecl, items-the_row-FieldDecl}
 use Rattle.pt_tree.specs.declared.specifier.Spec.TheVariants.{Struct}
 use Rattle.pt_tree.specs.declared.specifier.Spec.TheViews as spec_views
-use Rattle.pt_tree.specs.SpecifierTree.{SpecTree, FieldTree, spec_and, field_and, field, structure, view_spec, view_spec_row, view_field, view_field_row, spec_trees, field_trees}
+use Rattle.pt_tree.specs.SpecifierTree.{spec_and, field_and, field, structure, view_spec, view_spec_row, view_field, view_field_row, spec_trees, field_trees}
 use Rattle.pt_tree.specs.declared.expression.Link.{Link}
 use Rattle.pt_tree.specs.declared.expression.Postfix.{Postfix, Row_of-Expr, end_of-Expr, more_of-Expr, items-the_row-Expr}
 use Rattle.pt_tree.specs.declared.expression.Expr.{Expr, Row_of-Link, end_of-Link, more_of-Link, items-the_row-Link, Row_of-Postfix, end_of-Postfix, more_of-Postfix, items-the_row-Postfix}

@@ -1,5 +1,5 @@
 -- Expressions without where their parts lie in memory.
-use Rattle.std.specs.Prelude.{List, [], ◌∷◌, Option, Bool, ℤ, map}
+use Rattle.std.specs.Prelude.{List, [], ◌∷◌, Option, Bool, map}
 use Rattle.pt_base.specs.declared.span.Span.{Span}
 use Rattle.pt_tree.specs.declared.word.Word.{Word}
 use Rattle.pt_tree.specs.declared.word.Constant.{Constant}

@@ -1,5 +1,5 @@
 -- What is kept of each parsed program: how many nodes it has, and that its constants are in range.
-use Rattle.std.specs.Prelude.{ℕ, ◌+◌, List, [], ◌∷◌, Option, None, Some, Bool, true, false, ◌&&◌, length, nat_lt, int_le}
+use Rattle.std.specs.Prelude.{List, [], ◌∷◌, Option, None, Some, Bool, true, ◌&&◌, int_le}
 use Rattle.pt_base.specs.IntTypes.{low_of, high_of}
 use Rattle.pt_tree.specs.declared.word.Constant.{Constant}
 use Rattle.pt_tree.specs.declared.specifier.Declarator.{Declarator}

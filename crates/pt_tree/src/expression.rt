@@ -56,42 +56,80 @@ pub enum Postfix {
 
 impl Expr {
     /// An operator before its operand.
-    pub fn prefixed(alloc: Global, span: Span, op: PrefixOp, operand: Expr) -> Result<Expr, AllocError>
+    pub fn prefixed(
+        alloc: Global,
+        span: Span,
+        op: PrefixOp,
+        operand: Expr,
+    ) -> Result<Expr, AllocError>
         ensures { IfOk result (λ e. view_expr e ≡ prefix span op (view_expr operand)) }
     {
         Ok(Expr::Prefix(span, op, Box::new(alloc, operand)?))
     }
 
     /// A cast to what the specifiers say, to a pointer to it where `pointer` holds.
-    pub fn cast(alloc: Global, span: Span, specs: Vec<Spec>, pointer: bool, operand: Expr) -> Result<Expr, AllocError>
+    pub fn cast(
+        alloc: Global,
+        span: Span,
+        specs: Vec<Spec>,
+        pointer: bool,
+        operand: Expr,
+    ) -> Result<Expr, AllocError>
         ensures { IfOk result (λ e. view_expr e ≡ cast span (spec_trees (map view_spec specs.items)) pointer (view_expr operand)) }
     {
         Ok(Expr::Cast(span, specs, pointer, Box::new(alloc, operand)?))
     }
 
     /// An operand with what stands behind it.
-    pub fn with_postfixes(alloc: Global, span: Span, operand: Expr, postfixes: Vec<Postfix>) -> Result<Expr, AllocError>
+    pub fn with_postfixes(
+        alloc: Global,
+        span: Span,
+        operand: Expr,
+        postfixes: Vec<Postfix>,
+    ) -> Result<Expr, AllocError>
         ensures { IfOk result (λ e. view_expr e ≡ postfix span (view_expr operand) (postfix_trees (map view_postfix postfixes.items))) }
     {
         Ok(Expr::Postfix(span, Box::new(alloc, operand)?, postfixes))
     }
 
     /// A first operand and the links behind it.
-    pub fn chained(alloc: Global, span: Span, first: Expr, links: Vec<Link>) -> Result<Expr, AllocError>
+    pub fn chained(
+        alloc: Global,
+        span: Span,
+        first: Expr,
+        links: Vec<Link>,
+    ) -> Result<Expr, AllocError>
         ensures { IfOk result (λ e. view_expr e ≡ chain span (view_expr first) (link_trees (map view_link links.items))) }
     {
         Ok(Expr::Chain(span, Box::new(alloc, first)?, links))
     }
 
     /// `test ? yes : no`
-    pub fn chosen(alloc: Global, span: Span, test: Expr, yes: Expr, no: Expr) -> Result<Expr, AllocError>
+    pub fn chosen(
+        alloc: Global,
+        span: Span,
+        test: Expr,
+        yes: Expr,
+        no: Expr,
+    ) -> Result<Expr, AllocError>
         ensures { IfOk result (λ e. view_expr e ≡ choice span (view_expr test) (view_expr yes) (view_expr no)) }
     {
-        Ok(Expr::Choice(span, Box::new(alloc, test)?, Box::new(alloc, yes)?, Box::new(alloc, no)?))
+        Ok(Expr::Choice(
+            span,
+            Box::new(alloc, test)?,
+            Box::new(alloc, yes)?,
+            Box::new(alloc, no)?,
+        ))
     }
 
     /// An assignment, by an operator where it is a compound one.
-    pub fn assigned(alloc: Global, span: Span, op: Option<BinaryOp>, to: Expr, value: Expr) -> Result<Expr, AllocError>
+    pub fn assigned(
+        alloc: Global,
+        span: Span,
+        op: Option<BinaryOp>,
+        to: Expr,
+        value: Expr,
+    ) -> Result<Expr, AllocError>
         ensures { IfOk result (λ e. view_expr e ≡ assign span op (view_expr to) (view_expr value)) }
     {
         Ok(Expr::Assign(span, op, Box::new(alloc, to)?, Box::new(alloc, value)?))

@@ -12,7 +12,7 @@ mod word;
 pub use declaration::{Declaration, InitDeclarator, Initializer};
 pub use expression::{Expr, Link, Postfix};
 pub use operator::{BinaryOp, PrefixOp};
-pub use program::{Function, Item, ParamDecl};
+pub use program::{Function, Item, ParamDecl, Program};
 pub use specifier::{Declarator, FieldDecl, Spec, SpecWord, Suffix};
 pub use statement::{Block, ForInit, Label, Section, Stmt};
 pub use word::{Constant, Word};

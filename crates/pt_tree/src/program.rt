@@ -31,3 +31,9 @@ pub enum Item {
     Declare(Declaration),
     Function(Function),
 }
+
+/// A parsed program.
+#[derive(Drop)]
+pub struct Program {
+    pub items: Vec<Item>,
+}

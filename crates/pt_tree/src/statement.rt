@@ -74,10 +74,21 @@ impl Stmt {
     }
 
     /// An `if` with `else`.
-    pub fn choice(alloc: Global, span: Span, test: Expr, yes: Stmt, no: Stmt) -> Result<Stmt, AllocError>
+    pub fn choice(
+        alloc: Global,
+        span: Span,
+        test: Expr,
+        yes: Stmt,
+        no: Stmt,
+    ) -> Result<Stmt, AllocError>
         ensures { IfOk result (λ s. view_stmt s ≡ choose span (view_expr test) (view_stmt yes) (otherwise (view_stmt no))) }
     {
-        Ok(Stmt::If(span, test, Box::new(alloc, yes)?, Some(Box::new(alloc, no)?)))
+        Ok(Stmt::If(
+            span,
+            test,
+            Box::new(alloc, yes)?,
+            Some(Box::new(alloc, no)?),
+        ))
     }
 
     /// A `while`.
