@@ -20,9 +20,9 @@ use Rattle.c_grammar.specs.Machine.{Entry, takes, gives, opens, closes, builds, 
 use Rattle.c_parser.specs.declared.error.ParseError.{ParseError}
 use Rattle.c_parser.specs.declared.error.ParseError.TheVariants.{Memory, FaultAt, TooDeep}
 use Rattle.c_parser.specs.declared.parsed.Parsed.{Parsed}
-use Rattle.c_parser.specs.Parses.{Comes, Parses, Moves, Stops, Enters, Fails, Expects, Begins, Goes, IsOneOf, row_at, is_kind, is_fixed, has_one, has_two, has_constant, deepest}
+use Rattle.c_parser.specs.Parses.{Comes, Parses, Turns, Fails, Tells, Enters, Expects, Begins, Goes, IsOneOf, row_at, is_kind, is_fixed, has_one, has_two, has_constant, deepest}
 
-pub shifted : (tokens : List Token) (k : TokenKind) (at depth : ℕ) (new : List Part) → accepted k (slice_get tokens at) ≡ Some new → Moves tokens (takes k) at depth new (at + 1)
+pub shifted : (tokens : List Token) (k : TokenKind) (at depth : ℕ) (new : List Part) → accepted k (slice_get tokens at) ≡ Some new → Turns tokens (takes k ∷ []) at depth [] new (at + 1)
 shifted tokens k at depth new h = record {
   from = λ rest parts o c. record {
     steps = suc c.steps;
@@ -30,11 +30,11 @@ shifted tokens k at depth new h = record {
   };
 }
 
-pub mismatched : (tokens : List Token) (k : TokenKind) (at depth : ℕ) → accepted k (slice_get tokens at) ≡ None → Stops tokens (takes k) at depth (fault_at at)
+pub mismatched : (tokens : List Token) (k : TokenKind) (at depth : ℕ) → accepted k (slice_get tokens at) ≡ None → Fails tokens (takes k ∷ []) at depth [] (FaultAt at)
 mismatched tokens k at depth h = record {
-  from = λ rest parts. record {
+  from = λ o e rest parts. record {
     steps = 1;
-    by = ap (λ a. on_token a at (λ new. run (Some deepest) tokens 0 rest (at + 1) depth (new ++ parts))) h;
+    by = ap (λ a. on_token a at (λ new. run (Some deepest) tokens 0 rest (at + 1) depth (new ++ parts))) h ∙ sym e;
   };
 }
 
@@ -46,11 +46,11 @@ entered tokens s at r h = record {
   };
 }
 
-pub no_rule : (tokens : List Token) (s : Symbol) (at depth : ℕ) → row_at tokens s at ≡ None → Stops tokens (gives s) at depth (fault_at at)
+pub no_rule : (tokens : List Token) (s : Symbol) (at depth : ℕ) → row_at tokens s at ≡ None → Fails tokens (gives s ∷ []) at depth [] (FaultAt at)
 no_rule tokens s at depth h = record {
-  from = λ rest parts. record {
+  from = λ o e rest parts. record {
     steps = 1;
-    by = ap (λ a. on_rule a at (λ n. run (Some deepest) tokens 0 (wanted at n ++ rest) at depth parts)) h;
+    by = ap (λ a. on_rule a at (λ n. run (Some deepest) tokens 0 (wanted at n ++ rest) at depth parts)) h ∙ sym e;
   };
 }
 
@@ -58,58 +58,42 @@ no_rule tokens s at depth h = record {
 pub builds_on : (tokens : List Token) (from at depth : ℕ) (f : Span → List Part → List Part) (rest : List Entry) (parts : List Part) (o : Outcome) → Comes tokens rest at depth (f (stretch tokens from at) parts) o → Comes tokens (builds from f ∷ rest) at depth parts o
 builds_on tokens from at depth f rest parts o c = record { steps = suc c.steps; by = c.by }
 
-pub opened : (tokens : List Token) (s : Symbol) (at depth next : ℕ) (new : List Part) → depth < 200 → Moves tokens (gives s) at (depth + 1) new next → Moves tokens (opens s) at depth new next
-opened tokens s at depth next new lt m = record {
-  from = λ rest parts o c.
-      let closed : Comes tokens (closes ∷ rest) next (depth + 1) (new ++ parts) o = record {
-        steps = suc c.steps;
-        by = ap (λ d. run (Some deepest) tokens c.steps rest next d (new ++ parts)) back ∙ c.by;
-      } in
-      let inner = m.from (closes ∷ rest) parts o closed in record {
-        steps = suc inner.steps;
-        by = ap (λ b. if b then run (Some deepest) tokens inner.steps (gives s ∷ closes ∷ rest) at (depth + 1) parts else too_deep at) allowed ∙ inner.by;
-      };
-}
-  where
-    allowed : nat_lt depth 200 ≡ true
-    allowed = search (rules, nat_tests)
+allowed : (depth : ℕ) → depth < 200 → nat_lt depth 200 ≡ true
+allowed depth lt = search (rules, nat_tests)
 
+opens_so : (tokens : List Token) (s : Symbol) (at depth : ℕ) (rest : List Entry) (parts : List Part) (o : Outcome) → depth < 200 → Comes tokens (gives s ∷ closes ∷ rest) at (depth + 1) parts o → Comes tokens (opens s ∷ rest) at depth parts o
+opens_so tokens s at depth rest parts o lt c = record {
+  steps = suc c.steps;
+  by = ap (λ b. if b then run (Some deepest) tokens c.steps (gives s ∷ closes ∷ rest) at (depth + 1) parts else too_deep at) (allowed depth lt) ∙ c.by;
+}
+
+closes_so : (tokens : List Token) (at depth : ℕ) (rest : List Entry) (parts : List Part) (o : Outcome) → Comes tokens rest at depth parts o → Comes tokens (closes ∷ rest) at (depth + 1) parts o
+closes_so tokens at depth rest parts o c = record { steps = suc c.steps; by = ap (λ d. run (Some deepest) tokens c.steps rest at d parts) back ∙ c.by }
+  where
     back : depth + 1 - 1 ≡ depth
     back = omega arith
 
-pub opened_fails : (tokens : List Token) (s : Symbol) (at depth : ℕ) (e : ParseError) → depth < 200 → Fails tokens (gives s) at (depth + 1) e → Fails tokens (opens s) at depth e
-opened_fails tokens s at depth e lt f = go e f
-  where
-    allowed : nat_lt depth 200 ≡ true
-    allowed = search (rules, nat_tests)
+-- a counted symbol is what the symbol is, one deeper
+pub opened : {T : Type 0} (new : T → List Part) (tokens : List Token) (s : Symbol) (at depth : ℕ) (r : Result (Parsed T) ParseError) → depth < 200 → Parses [] new tokens (gives s ∷ []) at (depth + 1) r → Parses [] new tokens (opens s ∷ []) at depth r
+opened new tokens s at depth (Ok p) lt m = record { from = λ rest parts o c. opens_so _ _ _ _ _ _ _ lt (m.from _ _ _ (closes_so _ _ _ _ _ _ c)) }
+opened new tokens s at depth (Err err) lt f = record { from = λ o e rest parts. opens_so _ _ _ _ _ _ _ lt (f.from o e _ _) }
 
-    stops : (o : Outcome) → Stops tokens (gives s) at (depth + 1) o → Stops tokens (opens s) at depth o
-    stops o m = record {
-      from = λ rest parts.
-          let inner = m.from (closes ∷ rest) parts in record {
-            steps = suc inner.steps;
-            by = ap (λ b. if b then run (Some deepest) tokens inner.steps (gives s ∷ closes ∷ rest) at (depth + 1) parts else too_deep at) allowed ∙ inner.by;
-          };
-    }
-
-    go : (e : ParseError) → Fails tokens (gives s) at (depth + 1) e → Fails tokens (opens s) at depth e
-    go Memory f = tt {0}
-    go (FaultAt n) f = stops (fault_at n) f
-    go (TooDeep n) f = stops (too_deep n) f
-
-pub opened_too_deep : (tokens : List Token) (s : Symbol) (at depth : ℕ) → depth ≡ 200 → Stops tokens (opens s) at depth (too_deep at)
+pub opened_too_deep : (tokens : List Token) (s : Symbol) (at depth : ℕ) → depth ≡ 200 → Fails tokens (opens s ∷ []) at depth [] (TooDeep at)
 opened_too_deep tokens s at depth e = record {
-  from = λ rest parts. record {
+  from = λ o t rest parts. record {
     steps = 1;
-    by = ap (λ d. if nat_lt d 200 then run (Some deepest) tokens 0 (gives s ∷ closes ∷ rest) at (d + 1) parts else too_deep at) e;
+    by = ap (λ d. if nat_lt d 200 then run (Some deepest) tokens 0 (gives s ∷ closes ∷ rest) at (d + 1) parts else too_deep at) e ∙ sym t;
   };
 }
 
--- a fault of what is wanted behind a part of the stack is a fault of the whole
-pub after : {tokens : List Token} {e e' : Entry} {at at' depth depth' : ℕ} {rest' : List Entry → List Entry} {parts' : List Part → List Part} (err : ParseError) → ((rest : List Entry) (parts : List Part) (o : Outcome) → Comes tokens (e' ∷ rest' rest) at' depth' (parts' parts) o → Comes tokens (e ∷ rest) at depth parts o) → Fails tokens e' at' depth' err → Fails tokens e at depth err
-after Memory k f = tt {0}
-after (FaultAt n) k f = record { from = λ rest parts. k rest parts _ (f.from _ _) }
-after (TooDeep n) k f = record { from = λ rest parts. k rest parts _ (f.from _ _) }
+-- a symbol is what the rule that it enters is
+pub by_rule : {T : Type 0} (old : List Part) (new : T → List Part) (tokens : List Token) (s : Symbol) (at depth r : ℕ) (result : Result (Parsed T) ParseError) → Enters tokens s at r → Parses old new tokens (wanted at r) at depth result → Parses old new tokens (gives s ∷ []) at depth result
+by_rule old new tokens s at depth r (Ok p) e m = record { from = λ rest parts o c. e.from _ _ _ _ (m.from _ _ _ c) }
+by_rule old new tokens s at depth r (Err err) e f = record { from = λ o t rest parts. e.from _ _ _ _ (f.from o t _ _) }
+
+-- want of memory tells nothing
+pub no_memory : (tokens : List Token) (es : List Entry) (at depth : ℕ) (old : List Part) → Fails tokens es at depth old Memory
+no_memory tokens es at depth old = record { from = λ o e rest parts. absurd e }
 
 pub same_kind : (k : TokenKind) (o : Option Token) → is_fixed k ≡ true → is_kind k o ≡ true → accepted k o ≡ Some []
 same_kind k None fixed h = cc
@@ -239,7 +223,7 @@ only_rule tokens s at n one h = subst (Enters tokens s at) (go (alternatives_of 
     go (r ∷ []) one (inr e) = absurd e
     go (r ∷ x ∷ rs) one c = cc
 
-pub of_two : (tokens : List Token) (s : Symbol) (at n : ℕ) (first : Bool) → has_two (alternatives_of s) ≡ true → row_at tokens s at ≡ Some n → first ≡ nat_eq n (get_or (alternatives_of s) 0 0) → Goes tokens s at (Ok first)
+pub of_two : (tokens : List Token) (s : Symbol) (at n : ℕ) (first : Bool) → has_two (alternatives_of s) ≡ true → row_at tokens s at ≡ Some n → first ≡ nat_eq n (get_or (alternatives_of s) 0 0) → Goes tokens s at first
 of_two tokens s at n first two h e = go first (nat_eq n (get_or (alternatives_of s) 0 0)) e refl
   where
     second : (rs : List ℕ) → has_two rs ≡ true → IsOneOf n rs → nat_eq n (get_or rs 0 0) ≡ false → n ≡ get_or rs 1 0
@@ -253,9 +237,9 @@ of_two tokens s at n first two h e = go first (nat_eq n (get_or (alternatives_of
     is_first : nat_eq n (get_or (alternatives_of s) 0 0) ≡ true → n ≡ get_or (alternatives_of s) 0 0
     is_first e = search (rules, nat_tests)
 
-    go : (first same : Bool) → first ≡ same → nat_eq n (get_or (alternatives_of s) 0 0) ≡ same → Goes tokens s at (Ok first)
-    go true true e is = subst (Enters tokens s at) (is_first is) (entered tokens s at n h)
-    go false false e is = subst (Enters tokens s at) (second (alternatives_of s) two (among tokens s at n h) is) (entered tokens s at n h)
+    go : (first same : Bool) → first ≡ same → nat_eq n (get_or (alternatives_of s) 0 0) ≡ same → Goes tokens s at first
+    go true true e is = record { first = λ _. subst (Enters tokens s at) (is_first is) (entered tokens s at n h); second = λ w. cc }
+    go false false e is = record { first = λ w. cc; second = λ _. subst (Enters tokens s at) (second (alternatives_of s) two (among tokens s at n h) is) (entered tokens s at n h) }
     go true false e is = cc
     go false true e is = cc
 
@@ -266,17 +250,17 @@ accepted_is : (k : TokenKind) (t : Token) → is_kind k (Some t) ≡ true → ac
 accepted_is k t is = ap (λ b. if b then given k t.span t.value else None) is
 
 -- a token of the kind with its value, and one without
-pub value_stands : (tokens : List Token) (at depth : ℕ) (k : TokenKind) (t : Token) (new : List Part) → at < length tokens → t ≡ get_or tokens at t → true ≡ is_kind k (slice_get tokens at) → given k t.span t.value ≡ Some new → Moves tokens (takes k) at depth new (at + 1)
+pub value_stands : (tokens : List Token) (at depth : ℕ) (k : TokenKind) (t : Token) (new : List Part) → at < length tokens → t ≡ get_or tokens at t → true ≡ is_kind k (slice_get tokens at) → given k t.span t.value ≡ Some new → Turns tokens (takes k ∷ []) at depth [] new (at + 1)
 value_stands tokens at depth k t new lt e is g =
     let h = found tokens at t lt e in
     shifted tokens k at depth new (ap (accepted k) h ∙ accepted_is k t (sym (ap (is_kind k) h) ∙ sym is) ∙ g)
 
-pub value_lacks : (tokens : List Token) (at depth : ℕ) (k : TokenKind) (t : Token) → at < length tokens → t ≡ get_or tokens at t → true ≡ is_kind k (slice_get tokens at) → given k t.span t.value ≡ None → Stops tokens (takes k) at depth (fault_at at)
+pub value_lacks : (tokens : List Token) (at depth : ℕ) (k : TokenKind) (t : Token) → at < length tokens → t ≡ get_or tokens at t → true ≡ is_kind k (slice_get tokens at) → given k t.span t.value ≡ None → Fails tokens (takes k ∷ []) at depth [] (FaultAt at)
 value_lacks tokens at depth k t lt e is g =
     let h = found tokens at t lt e in
     mismatched tokens k at depth (ap (accepted k) h ∙ accepted_is k t (sym (ap (is_kind k) h) ∙ sym is) ∙ g)
 
-pub other_token : (tokens : List Token) (at depth : ℕ) (k : TokenKind) → false ≡ is_kind k (slice_get tokens at) → Stops tokens (takes k) at depth (fault_at at)
+pub other_token : (tokens : List Token) (at depth : ℕ) (k : TokenKind) → false ≡ is_kind k (slice_get tokens at) → Fails tokens (takes k ∷ []) at depth [] (FaultAt at)
 other_token tokens at depth k h = mismatched tokens k at depth (other_kind k (slice_get tokens at) (sym h))
 
 pub no_name : (s : Span) (v : TokenValue) → ((x : ℤ) × (ty : IntType) × (v ≡ Constant x ty)) ⊎ (v ≡ Fixed) → given Identifier s v ≡ None
@@ -294,10 +278,6 @@ no_constant Number s v h (inr e) = ap (given Number s) e
 no_constant Character s v h (inl e) = ap (given Character s) e.1
 no_constant Character s v h (inr e) = ap (given Character s) e
 no_constant k s v h e = cc
-
--- the same, by the `?` of the code
-pub passed_on : {T : Type 0} {part : T → Part} {tokens : List Token} {e e' : Entry} {at at' depth depth' : ℕ} {rest' : List Entry → List Entry} {parts' : List Part → List Part} (r : Result (Parsed T) ParseError) (err : ParseError) → r ≡ Err err → ((rest : List Entry) (parts : List Part) (o : Outcome) → Comes tokens (e' ∷ rest' rest) at' depth' (parts' parts) o → Comes tokens (e ∷ rest) at depth parts o) → Fails tokens e' at' depth' err → Parses part tokens e at depth r
-passed_on {part = part} {tokens = tokens} {e = e} {at = at} {depth = depth} r err is k f = subst (Parses part tokens e at depth) (sym is) (after err k f)
 
 -- what is built is what is made
 pub built : (tokens : List Token) (from at depth : ℕ) (f : Span → List Part → List Part) (rest : List Entry) (parts new : List Part) (o : Outcome) → f (stretch tokens from at) parts ≡ new → Comes tokens rest at depth new o → Comes tokens (builds from f ∷ rest) at depth parts o

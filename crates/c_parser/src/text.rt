@@ -1,9 +1,10 @@
 // The tokens one by one: what stands at a place, and which rule it leads to.
-ghost use Rattle.std.specs.Prelude.{◌≡◌, ◌+◌, ◌<◌, ◌≤◌, ◌^◌, length, slice_get, IfOk, IfSome, Some, None, IsTrue, get_or, List};
+ghost use Rattle.std.specs.Prelude.{◌≡◌, ◌+◌, ◌<◌, ◌≤◌, ◌^◌, length, slice_get, IfOk, IfErr, IfSome, Some, None, IsTrue, get_or, List, ℕ, [], ◌∷◌};
 ghost use Rattle.c_grammar.specs.Numbers.{kind_number};
-ghost use Rattle.c_grammar.specs.Machine.{accepted, stretch, given, start_of, end_of};
+ghost use Rattle.c_grammar.specs.Machine.{gives, accepted, stretch, given, start_of, end_of};
 ghost use Rattle.c_grammar.specs.Table.{alternatives_of};
-ghost use Rattle.c_parser.specs.Parses.{Expects, Begins, Goes, Chooses, Finds, is_kind, is_fixed, has_constant, has_one, has_two, row_at, a_word, a_number};
+ghost use Rattle.c_parser.specs.Parses.{Expects, Begins, Goes, Fails, Chooses, Finds, is_kind, is_fixed, has_constant, has_one, has_two, row_at};
+ghost use Rattle.c_parser.specs.Parts.{a_word, a_number};
 
 use crate::error::ParseError;
 use c_grammar::{Symbol, alternatives, row};
@@ -84,7 +85,8 @@ pub(crate) fn takes_first(tokens: &[Token], at: usize, symbol: Symbol) -> Result
     requires within { at ≤ length tokens.now }
     requires few { length tokens.now < 2 ^ 32 }
     requires double { IsTrue (has_two (alternatives_of symbol)) }
-    ensures { Goes tokens.now symbol at result }
+    ensures goes { IfOk result (λ first. Goes tokens.now symbol at first) }
+    ensures fails { IfErr result (λ e. (depth : ℕ) → Fails tokens.now (gives symbol ∷ []) at depth [] e) }
 {
     match rule_at(tokens, at, symbol) {
         Some(rule) => Ok(rule == first_rule(symbol)),
@@ -177,4 +179,13 @@ pub(crate) fn constant(tokens: &[Token], at: usize, kind: TokenKind) -> Result<C
         }),
         TokenValue::Name(_) | TokenValue::Fixed => Err(fault),
     }
+}
+
+/// A list of one.
+pub(crate) fn one<T: Drop>(alloc: Global, item: T) -> Result<Vec<T>, ParseError>
+    ensures { IfOk result (λ v. v.items ≡ item ∷ []) }
+{
+    let mut items = Vec::new(alloc);
+    items.push(item)?;
+    Ok(items)
 }

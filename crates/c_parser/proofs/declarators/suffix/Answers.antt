@@ -1,0 +1,20 @@
+use Rattle.std.proofs.Common.{◌≡◌, ◌+◌, ◌-◌, ◌*◌, ◌<◌, ◌≤◌, ◌++◌, ℕ, List, [], ◌∷◌, Ok, Err, Some, None, rules, arith, refl, sym, ap, ◌∙◌, length, map, subst, option_map, true, false}
+use Rattle.c_grammar.specs.declared.symbol.Symbol.TheVariants as s
+use Rattle.c_parser.proofs.Steps.{built}
+use Rattle.c_parser.proofs.declarators.suffix.Goals as goal
+
+pub returns-in_err-inside-clause-parses : goal.returns-in_err-inside-clause-parses
+returns-in_err-inside-clause-parses c = λ depth. let is : c.from_residual-in_err-inside.result ≡ Err c.in_err-inside.field-0.0 = search rules in rw is (record { from = λ o e rest parts. (c.in_ok-stands.ensures.goes.first c.if-stands.true).from _ _ _ _ ((c.in_err-inside.ensures.expects depth).from o e _ _) })
+
+pub returns-in_err-size-clause-parses : goal.returns-in_err-size-clause-parses
+returns-in_err-size-clause-parses c = λ depth. let is : c.from_residual-in_err-size.result ≡ Err c.in_err-size.field-0.0 = search rules in rw is (record { from = λ o e rest parts. (c.in_ok-stands.ensures.goes.first c.if-stands.true).from _ _ _ _ ((c.in_ok-inside.ensures.expects depth).from _ _ _ ((c.in_err-size.ensures.parses depth).from o e _ _)) })
+
+pub returns-in_err-next-clause-parses : goal.returns-in_err-next-clause-parses
+returns-in_err-next-clause-parses c = λ depth. let is : c.from_residual-in_err-next.result ≡ Err c.in_err-next.field-0.0 = search rules in rw is (record { from = λ o e rest parts. (c.in_ok-stands.ensures.goes.first c.if-stands.true).from _ _ _ _ ((c.in_ok-inside.ensures.expects depth).from _ _ _ ((c.in_ok-size.ensures.parses depth).from _ _ _ ((c.in_err-next.ensures.expects depth).from o e _ _))) })
+
+pub returns-then-stands-clause-parses : goal.returns-then-stands-clause-parses
+returns-then-stands-clause-parses c = λ depth. record { from = λ rest parts o k. (c.in_ok-stands.ensures.goes.first c.if-stands.true).from _ _ _ _ ((c.in_ok-inside.ensures.expects depth).from _ _ _ ((c.in_ok-size.ensures.parses depth).from _ _ _ ((c.in_ok-next.ensures.expects depth).from _ _ _ (k)))) }
+
+pub returns-clause-parses : goal.returns-clause-parses
+returns-clause-parses c = λ depth. record { from = λ rest parts o k. (c.in_ok-stands.ensures.goes.second c.if-stands.false).from _ _ _ _ (built _ _ _ _ _ _ _ _ _ (search rules) (k)) }
+
