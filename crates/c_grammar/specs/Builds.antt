@@ -3,7 +3,6 @@ use Rattle.std.specs.Prelude.{List, [], ◌∷◌, ◌++◌, Option, None, Some,
 use Rattle.pt_base.specs.declared.span.Span.{Span}
 use Rattle.pt_tree.specs.declared.operator.BinaryOp.{BinaryOp}
 use Rattle.pt_tree.specs.declared.operator.PrefixOp.{PrefixOp}
-use Rattle.pt_tree.specs.declared.operator.PrefixOp.TheVariants.{Increment, Decrement}
 use Rattle.pt_tree.specs.declared.specifier.SpecWord.{SpecWord}
 use Rattle.pt_tree.specs.declared.specifier.Suffix.TheVariants.{Plain, Open, Sized}
 use Rattle.pt_tree.specs.SpecifierTree as t
@@ -306,13 +305,9 @@ abbrev pub prefixed : Span → List Part → List Part
 prefixed at (expr e ∷ prefix_op op ∷ ts) = expr (prefix at op e) ∷ ts
 prefixed at ts = ts
 
-abbrev pub incremented : Span → List Part → List Part
-incremented at (expr e ∷ ts) = expr (prefix at Increment e) ∷ ts
-incremented at ts = ts
-
-abbrev pub decremented : Span → List Part → List Part
-decremented at (expr e ∷ ts) = expr (prefix at Decrement e) ∷ ts
-decremented at ts = ts
+abbrev pub stepped : PrefixOp → Span → List Part → List Part
+stepped op at (expr e ∷ ts) = expr (prefix at op e) ∷ ts
+stepped op at ts = ts
 
 abbrev pub with_postfixes : Span → List Part → List Part
 with_postfixes at (postfixes ps ∷ expr e ∷ ts) = expr (postfixed at e ps) ∷ ts
@@ -361,11 +356,8 @@ abbrev pub a_constant : Span → List Part → List Part
 a_constant at (number c ∷ ts) = expr (constant c) ∷ ts
 a_constant at ts = ts
 
-abbrev pub plain_assignment : Span → List Part → List Part
-plain_assignment at ts = assign_op None ∷ ts
-
-abbrev pub compound : BinaryOp → Span → List Part → List Part
-compound op at ts = assign_op (Some op) ∷ ts
+abbrev pub assigning : Option BinaryOp → Span → List Part → List Part
+assigning op at ts = assign_op op ∷ ts
 
 abbrev pub operator : PrefixOp → Span → List Part → List Part
 operator op at ts = prefix_op op ∷ ts

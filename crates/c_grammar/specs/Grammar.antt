@@ -1,13 +1,13 @@
 -- The grammar: its rules in the order of their numbers, counted from 1. What a rule builds stands
 -- where it is built, behind the parts that it is built from.
-use Rattle.std.specs.Prelude.{ℕ, ◌-◌, List, [], ◌∷◌, get_or}
+use Rattle.std.specs.Prelude.{List, [], ◌∷◌, Some, None}
 use Rattle.c_lexer.specs.declared.token.TokenKind.TheVariants as k
 use Rattle.pt_tree.specs.declared.operator.BinaryOp.TheVariants as b
 use Rattle.pt_tree.specs.declared.operator.PrefixOp.TheVariants as p
 use Rattle.pt_tree.specs.declared.specifier.SpecWord.TheVariants as w
 use Rattle.c_grammar.specs.declared.symbol.Symbol.TheVariants as s
 use Rattle.c_grammar.specs.Item.{Item, token, symbol, counted, build, Rule, rule}
-use Rattle.c_grammar.specs.Builds.{add_item, an_item, no_declarators, function_rest, first_init, no_body, some_body, first_spec, add_spec, keyword, first_name, an_attribute, add_name, a_struct, first_field, no_fields, add_field, first_declarator, a_field, add_declarator, a_declarator, star, no_star, no_suffix, a_size, no_size, no_value, single_value, first_expr, brace_list, add_expr, add_init, first_param, no_params, add_param, a_param, some_name, no_name, no_statements, a_block, add_statement, declared, a_declaration, block_statement, nothing, evaluated, chosen, while_statement, do_statement, for_statement, returned, broken, continued, some_else, no_else, for_declaration, for_nothing, for_expression, some_expr, no_expr, assigned, some_assignment, no_assignment, conditional, some_arms, no_arms, in_parentheses, prefixed, incremented, decremented, no_postfixes, with_postfixes, a_cast, grouped, add_index, add_call, add_dot, add_arrow, add_increment, add_decrement, no_exprs, a_name, a_constant, plain_assignment, compound, operator, no_links, chain_of, add_link, no_sections, switch_statement, add_section, a_section, a_case, a_default}
+use Rattle.c_grammar.specs.Builds.{add_item, an_item, no_declarators, function_rest, first_init, no_body, some_body, first_spec, add_spec, keyword, first_name, an_attribute, add_name, a_struct, first_field, no_fields, add_field, first_declarator, a_field, add_declarator, a_declarator, star, no_star, no_suffix, a_size, no_size, no_value, single_value, first_expr, brace_list, add_expr, add_init, first_param, no_params, add_param, a_param, some_name, no_name, no_statements, a_block, add_statement, declared, a_declaration, block_statement, nothing, evaluated, chosen, while_statement, do_statement, for_statement, returned, broken, continued, some_else, no_else, for_declaration, for_nothing, for_expression, some_expr, no_expr, assigned, some_assignment, no_assignment, conditional, some_arms, no_arms, in_parentheses, prefixed, stepped, no_postfixes, with_postfixes, a_cast, grouped, add_index, add_call, add_dot, add_arrow, add_increment, add_decrement, no_exprs, a_name, a_constant, assigning, operator, no_links, chain_of, add_link, no_sections, switch_statement, add_section, a_section, a_case, a_default}
 
 abbrev pub grammar : List Rule
 grammar =
@@ -105,8 +105,8 @@ grammar =
     rule s.CondTail (build no_arms ∷ []) ∷
     rule s.Unary (token k.OpenParen ∷ symbol s.Paren ∷ build in_parentheses ∷ []) ∷
     rule s.Unary (symbol s.UnaryOp ∷ counted s.Unary ∷ build prefixed ∷ []) ∷
-    rule s.Unary (token k.PlusPlus ∷ counted s.Unary ∷ build incremented ∷ []) ∷
-    rule s.Unary (token k.MinusMinus ∷ counted s.Unary ∷ build decremented ∷ []) ∷
+    rule s.Unary (token k.PlusPlus ∷ counted s.Unary ∷ build (stepped p.Increment) ∷ []) ∷
+    rule s.Unary (token k.MinusMinus ∷ counted s.Unary ∷ build (stepped p.Decrement) ∷ []) ∷
     rule s.Unary (symbol s.Primary ∷ build no_postfixes ∷ symbol s.Postfixes ∷ build with_postfixes ∷ []) ∷
     rule s.Paren (symbol s.Specs ∷ symbol s.Star ∷ token k.CloseParen ∷ counted s.Unary ∷ build a_cast ∷ []) ∷
     rule s.Paren (counted s.Expr ∷ token k.CloseParen ∷ build no_postfixes ∷ symbol s.Postfixes ∷ build grouped ∷ []) ∷
@@ -124,17 +124,17 @@ grammar =
     rule s.Primary (token k.Identifier ∷ build a_name ∷ []) ∷
     rule s.Primary (token k.Number ∷ build a_constant ∷ []) ∷
     rule s.Primary (token k.Character ∷ build a_constant ∷ []) ∷
-    rule s.AssignOp (token k.Equal ∷ build plain_assignment ∷ []) ∷
-    rule s.AssignOp (token k.StarEqual ∷ build (compound b.Multiply) ∷ []) ∷
-    rule s.AssignOp (token k.SlashEqual ∷ build (compound b.Divide) ∷ []) ∷
-    rule s.AssignOp (token k.PercentEqual ∷ build (compound b.Remainder) ∷ []) ∷
-    rule s.AssignOp (token k.PlusEqual ∷ build (compound b.Add) ∷ []) ∷
-    rule s.AssignOp (token k.MinusEqual ∷ build (compound b.Subtract) ∷ []) ∷
-    rule s.AssignOp (token k.ShiftLeftEqual ∷ build (compound b.ShiftLeft) ∷ []) ∷
-    rule s.AssignOp (token k.ShiftRightEqual ∷ build (compound b.ShiftRight) ∷ []) ∷
-    rule s.AssignOp (token k.AmpEqual ∷ build (compound b.BitAnd) ∷ []) ∷
-    rule s.AssignOp (token k.CaretEqual ∷ build (compound b.BitXor) ∷ []) ∷
-    rule s.AssignOp (token k.PipeEqual ∷ build (compound b.BitOr) ∷ []) ∷
+    rule s.AssignOp (token k.Equal ∷ build (assigning None) ∷ []) ∷
+    rule s.AssignOp (token k.StarEqual ∷ build (assigning (Some b.Multiply)) ∷ []) ∷
+    rule s.AssignOp (token k.SlashEqual ∷ build (assigning (Some b.Divide)) ∷ []) ∷
+    rule s.AssignOp (token k.PercentEqual ∷ build (assigning (Some b.Remainder)) ∷ []) ∷
+    rule s.AssignOp (token k.PlusEqual ∷ build (assigning (Some b.Add)) ∷ []) ∷
+    rule s.AssignOp (token k.MinusEqual ∷ build (assigning (Some b.Subtract)) ∷ []) ∷
+    rule s.AssignOp (token k.ShiftLeftEqual ∷ build (assigning (Some b.ShiftLeft)) ∷ []) ∷
+    rule s.AssignOp (token k.ShiftRightEqual ∷ build (assigning (Some b.ShiftRight)) ∷ []) ∷
+    rule s.AssignOp (token k.AmpEqual ∷ build (assigning (Some b.BitAnd)) ∷ []) ∷
+    rule s.AssignOp (token k.CaretEqual ∷ build (assigning (Some b.BitXor)) ∷ []) ∷
+    rule s.AssignOp (token k.PipeEqual ∷ build (assigning (Some b.BitOr)) ∷ []) ∷
     rule s.UnaryOp (token k.Amp ∷ build (operator p.AddressOf) ∷ []) ∷
     rule s.UnaryOp (token k.Star ∷ build (operator p.Dereference) ∷ []) ∷
     rule s.UnaryOp (token k.Plus ∷ build (operator p.Plus) ∷ []) ∷

@@ -1,5 +1,5 @@
 -- The steps of the derivation, as the parser takes them.
-use Rattle.std.proofs.Common.{◌≡◌, Result, ℕ, zero, suc, ◌+◌, ◌-◌, ◌<◌, List, [], ◌∷◌, ◌++◌, Option, Some, None, refl, sym, rules, ap, ◌∙◌, subst, arith, Bool, true, false, ◌⊎◌, inl, inr, Ok, Err, nat_eq, nat_lt, slice_get, get_or, if◌then◌else◌, cond, ℤ, length}
+use Rattle.std.proofs.Common.{◌≡◌, Result, ℕ, zero, suc, ◌+◌, ◌-◌, ◌<◌, List, [], ◌∷◌, ◌++◌, Option, Some, None, refl, sym, rules, ap, ◌∙◌, subst, arith, Bool, true, false, ◌⊎◌, inl, inr, Ok, Err, nat_eq, nat_lt, slice_get, get_or, if◌then◌else◌, cond, ℤ, length, map}
 use Rattle.std.proofs.lemmas.Bool.Decides.{nat_tests}
 use Rattle.pt_base.specs.declared.span.Span.{Span}
 use Rattle.c_lexer.specs.declared.token.Token.{Token}
@@ -10,6 +10,7 @@ use Rattle.c_grammar.specs.declared.symbol.Symbol.{Symbol}
 use Rattle.c_grammar.specs.declared.symbol.Symbol.TheVariants.{TranslationUnit}
 use Rattle.std.specs.List.{find}
 use Rattle.std.proofs.lemmas.Option.{slice_get-get_or}
+use Rattle.std.proofs.lemmas.List.{map-append}
 use Rattle.pt_base.specs.declared.int_type.IntType.{IntType}
 use Rattle.pt_base.specs.declared.bytes.Bytes.{Bytes}
 use Rattle.c_lexer.specs.declared.token.TokenKind.TheVariants.{Identifier, Number, Character}
@@ -211,9 +212,6 @@ among tokens s at n h = go (slice_get tokens at) h
     go None h = one_at_end s n h
     go (Some t) h = find_one (leads_to t.kind) (alternatives_of s) n h
 
-pub chosen : (tokens : List Token) (s : Symbol) (at n : ℕ) → row_at tokens s at ≡ Some n → Enters tokens s at n × IsOneOf n (alternatives_of s)
-chosen tokens s at n h = (entered tokens s at n h, among tokens s at n h)
-
 pub only_rule : (tokens : List Token) (s : Symbol) (at n : ℕ) → has_one (alternatives_of s) ≡ true → row_at tokens s at ≡ Some n → Enters tokens s at (get_or (alternatives_of s) 0 0)
 only_rule tokens s at n one h = subst (Enters tokens s at) (go (alternatives_of s) one (among tokens s at n h)) (entered tokens s at n h)
   where
@@ -282,3 +280,10 @@ no_constant k s v h e = cc
 -- what is built is what is made
 pub built : (tokens : List Token) (from at depth : ℕ) (f : Span → List Part → List Part) (rest : List Entry) (parts new : List Part) (o : Outcome) → f (stretch tokens from at) parts ≡ new → Comes tokens rest at depth new o → Comes tokens (builds from f ∷ rest) at depth parts o
 built tokens from at depth f rest parts new o e c = builds_on tokens from at depth f rest parts o (subst (λ ps. Comes tokens rest at depth ps o) (sym e) c)
+
+-- lists at the top of the parts
+pub same_top : {A : Type 0} (f : A → Part) (x y : A) (parts : List Part) → x ≡ y → f x ∷ parts ≡ f y ∷ parts
+same_top f x y parts e = ap (λ z. f z ∷ parts) e
+
+pub pushed : {A B : Type 0} (c : List B → Part) (f : A → B) (old new : List A) (x : A) (parts : List Part) → new ≡ old ++ x ∷ [] → c (map f old ++ f x ∷ []) ∷ parts ≡ c (map f new) ∷ parts
+pushed c f old new x parts e = ap (λ xs. c xs ∷ parts) (sym (ap (map f) e ∙ map-append f old (x ∷ [])))

@@ -82,11 +82,6 @@ abbrev pub IsOneOf : ℕ → List ℕ → Type 0
 IsOneOf n [] = ⊥
 IsOneOf n (r ∷ rs) = (n ≡ r) ⊎ IsOneOf n rs
 
--- one of the rules of a symbol
-abbrev pub Chooses : List Token → Symbol → ℕ → Result ℕ ParseError → Type 0
-Chooses tokens s at (Ok r) = Enters tokens s at r × IsOneOf r (alternatives_of s)
-Chooses tokens s at (Err err) = (depth : ℕ) → Fails tokens (gives s ∷ []) at depth [] err
-
 abbrev pub has_one : List ℕ → Bool
 has_one (r ∷ []) = true
 has_one rs = false

@@ -3,7 +3,7 @@ ghost use Rattle.std.specs.Prelude.{◌≡◌, ◌+◌, ◌<◌, ◌≤◌, ◌^
 ghost use Rattle.c_grammar.specs.Numbers.{kind_number};
 ghost use Rattle.c_grammar.specs.Machine.{gives, accepted, stretch, given, start_of, end_of};
 ghost use Rattle.c_grammar.specs.Table.{alternatives_of};
-ghost use Rattle.c_parser.specs.Parses.{Expects, Begins, Goes, Fails, Chooses, Finds, is_kind, is_fixed, has_constant, has_one, has_two, row_at};
+ghost use Rattle.c_parser.specs.Parses.{Expects, Begins, Goes, Fails, Enters, IsOneOf, Finds, is_kind, is_fixed, has_constant, has_one, has_two, row_at};
 ghost use Rattle.c_parser.specs.Parts.{a_word, a_number};
 
 use crate::error::ParseError;
@@ -11,7 +11,7 @@ use c_grammar::{Symbol, alternatives, row};
 use c_lexer::{Token, TokenKind, TokenValue};
 use pt_base::Span;
 use pt_tree::{Constant, Word};
-use std::alloc::Global;
+use std::alloc::{AllocError, Global};
 
 /// How many counted symbols may be open.
 pub const DEEPEST: u32 = 200;
@@ -98,7 +98,9 @@ pub(crate) fn takes_first(tokens: &[Token], at: usize, symbol: Symbol) -> Result
 pub(crate) fn choose(tokens: &[Token], at: usize, symbol: Symbol) -> Result<u8, ParseError>
     requires within { at ≤ length tokens.now }
     requires few { length tokens.now < 2 ^ 32 }
-    ensures { Chooses tokens.now symbol at result }
+    ensures enters { IfOk result (λ rule. Enters tokens.now symbol at rule) }
+    ensures among { IfOk result (λ rule. IsOneOf rule (alternatives_of symbol)) }
+    ensures fails { IfErr result (λ e. (depth : ℕ) → Fails tokens.now (gives symbol ∷ []) at depth [] e) }
 {
     match rule_at(tokens, at, symbol) {
         Some(rule) => Ok(rule),
@@ -182,7 +184,7 @@ pub(crate) fn constant(tokens: &[Token], at: usize, kind: TokenKind) -> Result<C
 }
 
 /// A list of one.
-pub(crate) fn one<T: Drop>(alloc: Global, item: T) -> Result<Vec<T>, ParseError>
+pub(crate) fn one<T: Drop>(alloc: Global, item: T) -> Result<Vec<T>, AllocError>
     ensures { IfOk result (λ v. v.items ≡ item ∷ []) }
 {
     let mut items = Vec::new(alloc);
