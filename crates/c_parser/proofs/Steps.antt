@@ -21,6 +21,9 @@ use Rattle.c_grammar.specs.Machine.{Entry, takes, gives, opens, closes, builds, 
 use Rattle.c_parser.specs.declared.error.ParseError.{ParseError}
 use Rattle.c_parser.specs.declared.error.ParseError.TheVariants.{Memory, FaultAt, TooDeep}
 use Rattle.c_parser.specs.declared.parsed.Parsed.{Parsed}
+use Rattle.pt_tree.specs.declared.expression.Postfix.{Postfix}
+use Rattle.c_grammar.specs.declared.symbol.Symbol.TheVariants.{Postfixes}
+use Rattle.c_parser.specs.Parts.{Adds, Lengthens, Ends}
 use Rattle.c_parser.specs.Parses.{Comes, Parses, Turns, Fails, Tells, Enters, Expects, Begins, Goes, IsOneOf, row_at, is_kind, is_fixed, has_one, has_two, has_constant, deepest}
 
 pub shifted : (tokens : List Token) (k : TokenKind) (at depth : ℕ) (new : List Part) → accepted k (slice_get tokens at) ≡ Some new → Turns tokens (takes k ∷ []) at depth [] new (at + 1)
@@ -287,3 +290,12 @@ same_top f x y parts e = ap (λ z. f z ∷ parts) e
 
 pub pushed : {A B : Type 0} (c : List B → Part) (f : A → B) (old new : List A) (x : A) (parts : List Part) → new ≡ old ++ x ∷ [] → c (map f old ++ f x ∷ []) ∷ parts ≡ c (map f new) ∷ parts
 pushed c f old new x parts e = ap (λ xs. c xs ∷ parts) (sym (ap (map f) e ∙ map-append f old (x ∷ [])))
+
+-- what stands behind an operand, by its rule
+pub adds_by_rule : (tokens : List Token) (at depth r : ℕ) (result : Result (Option (Parsed Postfix)) ParseError) → Enters tokens Postfixes at r → Adds tokens (wanted at r) at depth result → Adds tokens (gives Postfixes ∷ []) at depth result
+adds_by_rule tokens at depth r (Ok None) e m = record { from = λ rest parts o c. e.from _ _ _ _ (m.from _ _ _ c) }
+adds_by_rule tokens at depth r (Ok (Some p)) e m = record { from = λ ps rest parts o c. e.from _ _ _ _ (m.from _ _ _ _ c) }
+adds_by_rule tokens at depth r (Err err) e f = λ ps. record { from = λ o t rest parts. e.from _ _ _ _ ((f ps).from o t _ _) }
+
+pub ends_by_rule : (tokens : List Token) (at depth : ℕ) → Enters tokens Postfixes at 106 → Ends tokens (gives Postfixes ∷ []) at depth
+ends_by_rule tokens at depth e = record { from = λ rest parts o c. e.from _ _ _ _ c }

@@ -1,2 +1,3 @@
+pub mod Levels
 pub mod Parses
 pub mod Parts

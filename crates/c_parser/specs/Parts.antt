@@ -1,5 +1,5 @@
 -- The parts that the parser's trees are.
-use Rattle.std.specs.Prelude.{Bool, List, [], ◌∷◌, Option, map, option_map, Vec}
+use Rattle.std.specs.Prelude.{Bool, List, [], ◌∷◌, Option, map, option_map, Vec, ℕ, ◌++◌, Result, Ok, Err, Some, None}
 use Rattle.std.specs.declared.alloc.Global.{Global}
 use Rattle.pt_tree.specs.declared.word.Word.{Word}
 use Rattle.pt_tree.specs.declared.word.Constant.{Constant}
@@ -8,7 +8,19 @@ use Rattle.pt_tree.specs.declared.specifier.Suffix.{Suffix}
 use Rattle.pt_tree.specs.declared.specifier.Spec.{Spec}
 use Rattle.pt_tree.specs.declared.specifier.FieldDecl.{FieldDecl}
 use Rattle.pt_tree.specs.SpecifierTree.{view_spec, view_field}
-use Rattle.c_grammar.specs.Part.{Part, word, number, pointer, suffix, declarator, declarators, name, names, spec, specs, field, fields}
+use Rattle.pt_tree.specs.declared.operator.BinaryOp.{BinaryOp}
+use Rattle.pt_tree.specs.declared.operator.PrefixOp.{PrefixOp}
+use Rattle.pt_tree.specs.declared.expression.Expr.{Expr}
+use Rattle.pt_tree.specs.declared.expression.Link.{Link}
+use Rattle.pt_tree.specs.declared.expression.Postfix.{Postfix}
+use Rattle.pt_tree.specs.ExpressionTree.{PostfixTree, view_expr, view_link, view_postfix}
+use Rattle.c_lexer.specs.declared.token.Token.{Token}
+use Rattle.c_grammar.specs.declared.symbol.Symbol.TheVariants.{Postfixes}
+use Rattle.c_grammar.specs.Machine.{Entry, gives, Outcome}
+use Rattle.c_parser.specs.declared.error.ParseError.{ParseError}
+use Rattle.c_parser.specs.declared.parsed.Parsed.{Parsed}
+use Rattle.c_parser.specs.Parses.{Comes, Fails}
+use Rattle.c_grammar.specs.Part.{assign_op, prefix_op, expr, exprs, links, postfixes, Part, word, number, pointer, suffix, declarator, declarators, name, names, spec, specs, field, fields}
 
 abbrev pub a_word : Word → List Part
 a_word w = word w ∷ []
@@ -45,3 +57,34 @@ of_field f = field (view_field f) ∷ []
 
 abbrev pub of_fields : Vec FieldDecl Global → List Part
 of_fields fs = fields (map view_field fs.items) ∷ []
+
+abbrev pub of_assign_op : Option BinaryOp → List Part
+of_assign_op op = assign_op op ∷ []
+
+abbrev pub of_prefix_op : PrefixOp → List Part
+of_prefix_op op = prefix_op op ∷ []
+
+abbrev pub of_expr : Expr → List Part
+of_expr e = expr (view_expr e) ∷ []
+
+abbrev pub of_exprs : Vec Expr Global → List Part
+of_exprs es = exprs (map view_expr es.items) ∷ []
+
+abbrev pub of_links : Vec Link Global → List Part
+of_links ls = links (map view_link ls.items) ∷ []
+
+abbrev pub of_postfixes : Vec Postfix Global → List Part
+of_postfixes ps = postfixes (map view_postfix ps.items) ∷ []
+
+-- one more postfix stands behind an operand, and then perhaps others
+pub record Lengthens (tokens : List Token) (entries : List Entry) (at depth : ℕ) (p : PostfixTree) (next : ℕ) : Type 0 where
+  pub from : (ps : List PostfixTree) (rest : List Entry) (parts : List Part) (o : Outcome) → Comes tokens (gives Postfixes ∷ rest) next depth (postfixes (ps ++ p ∷ []) ∷ parts) o → Comes tokens (entries ++ rest) at depth (postfixes ps ∷ parts) o
+
+-- none does
+pub record Ends (tokens : List Token) (entries : List Entry) (at depth : ℕ) : Type 0 where
+  pub from : (rest : List Entry) (parts : List Part) (o : Outcome) → Comes tokens rest at depth parts o → Comes tokens (entries ++ rest) at depth parts o
+
+abbrev pub Adds : List Token → List Entry → ℕ → ℕ → Result (Option (Parsed Postfix)) ParseError → Type 0
+Adds tokens es at depth (Ok None) = Ends tokens es at depth
+Adds tokens es at depth (Ok (Some p)) = Lengthens tokens es at depth (view_postfix p.tree) p.next
+Adds tokens es at depth (Err err) = (ps : List PostfixTree) → Fails tokens es at depth (postfixes ps ∷ []) err

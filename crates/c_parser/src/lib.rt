@@ -3,6 +3,8 @@
 
 mod declarators;
 mod error;
+mod expressions;
+mod operators;
 mod parsed;
 mod specifiers;
 mod text;
