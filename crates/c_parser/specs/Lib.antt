@@ -1,3 +1,5 @@
+pub mod Answer
 pub mod Levels
 pub mod Parses
 pub mod Parts
+pub mod Rests

@@ -20,7 +20,20 @@ use Rattle.c_grammar.specs.Machine.{Entry, gives, Outcome}
 use Rattle.c_parser.specs.declared.error.ParseError.{ParseError}
 use Rattle.c_parser.specs.declared.parsed.Parsed.{Parsed}
 use Rattle.c_parser.specs.Parses.{Comes, Fails}
-use Rattle.c_grammar.specs.Part.{assign_op, prefix_op, expr, exprs, links, postfixes, Part, word, number, pointer, suffix, declarator, declarators, name, names, spec, specs, field, fields}
+use Rattle.pt_tree.specs.declared.declaration.Initializer.{Initializer}
+use Rattle.pt_tree.specs.declared.declaration.InitDeclarator.{InitDeclarator}
+use Rattle.pt_tree.specs.declared.declaration.Declaration.{Declaration}
+use Rattle.pt_tree.specs.declared.statement.Stmt.{Stmt}
+use Rattle.pt_tree.specs.declared.statement.Block.{Block}
+use Rattle.pt_tree.specs.declared.statement.Section.{Section}
+use Rattle.pt_tree.specs.declared.statement.Label.{Label}
+use Rattle.pt_tree.specs.declared.statement.ForInit.{ForInit}
+use Rattle.pt_tree.specs.declared.program.ParamDecl.{ParamDecl}
+use Rattle.pt_tree.specs.declared.program.Item.{Item}
+use Rattle.pt_tree.specs.StatementTree as t
+use Rattle.pt_tree.specs.StatementTree.{ElseTree, no_else, view_declaration, view_init, view_init_declarator, view_stmt, view_block, view_for_init, view_label, view_section}
+use Rattle.pt_tree.specs.ProgramTree.{view_param, view_item}
+use Rattle.c_grammar.specs.Part.{declaration, init, init_declarators, param, params, stmt, stmts, block, otherwise, for_init, maybe_expr, label, section, sections, body, item, items, assign_op, prefix_op, expr, exprs, links, postfixes, Part, word, number, pointer, suffix, declarator, declarators, name, names, spec, specs, field, fields}
 
 abbrev pub a_word : Word → List Part
 a_word w = word w ∷ []
@@ -88,3 +101,61 @@ abbrev pub Adds : List Token → List Entry → ℕ → ℕ → Result (Option (
 Adds tokens es at depth (Ok None) = Ends tokens es at depth
 Adds tokens es at depth (Ok (Some p)) = Lengthens tokens es at depth (view_postfix p.tree) p.next
 Adds tokens es at depth (Err err) = (ps : List PostfixTree) → Fails tokens es at depth (postfixes ps ∷ []) err
+
+abbrev pub of_declaration : Declaration → List Part
+of_declaration d = declaration (view_declaration d) ∷ []
+
+abbrev pub of_init : Option Initializer → List Part
+of_init i = init (view_init i) ∷ []
+
+abbrev pub of_initializer : Initializer → List Part
+of_initializer i = init (view_init (Some i)) ∷ []
+
+abbrev pub of_inits : Vec InitDeclarator Global → List Part
+of_inits ds = init_declarators (map view_init_declarator ds.items) ∷ []
+
+abbrev pub of_param : ParamDecl → List Part
+of_param p = param (view_param p) ∷ []
+
+abbrev pub of_params : Vec ParamDecl Global → List Part
+of_params ps = params (map view_param ps.items) ∷ []
+
+abbrev pub of_stmt : Stmt → List Part
+of_stmt s = stmt (view_stmt s) ∷ []
+
+abbrev pub of_stmts : Vec Stmt Global → List Part
+of_stmts ss = stmts (map view_stmt ss.items) ∷ []
+
+abbrev pub of_block : Block → List Part
+of_block b = block (view_block b) ∷ []
+
+abbrev pub else_tree : Option Stmt → ElseTree
+else_tree None = no_else
+else_tree (Some s) = t.otherwise (view_stmt s)
+
+abbrev pub of_else : Option Stmt → List Part
+of_else o = otherwise (else_tree o) ∷ []
+
+abbrev pub of_for_init : ForInit → List Part
+of_for_init i = for_init (view_for_init i) ∷ []
+
+abbrev pub of_maybe_expr : Option Expr → List Part
+of_maybe_expr e = maybe_expr (option_map view_expr e) ∷ []
+
+abbrev pub of_label : Label → List Part
+of_label l = label (view_label l) ∷ []
+
+abbrev pub of_section : Section → List Part
+of_section s = section (view_section s) ∷ []
+
+abbrev pub of_sections : Vec Section Global → List Part
+of_sections ss = sections (map view_section ss.items) ∷ []
+
+abbrev pub of_body : Option Block → List Part
+of_body b = body (option_map view_block b) ∷ []
+
+abbrev pub of_item : Item → List Part
+of_item i = item (view_item i) ∷ []
+
+abbrev pub of_items : Vec Item Global → List Part
+of_items is = items (map view_item is.items) ∷ []
