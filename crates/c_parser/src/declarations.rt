@@ -45,10 +45,10 @@ fn declaration_rest(alloc: Global, tokens: &[Token], at: usize, depth: u32) -> R
 {
     let ends = takes_first(tokens, at, Symbol::DeclarationRest)?;
     if ends {
-        let next = expect(tokens, at, TokenKind::Semicolon)?;
+        let end = expect(tokens, at, TokenKind::Semicolon)?;
         return Ok(Parsed {
             tree: Vec::new(alloc),
-            next,
+            next: end,
         });
     }
     let first = declarator(alloc, tokens, at)?;

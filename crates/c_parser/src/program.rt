@@ -142,3 +142,124 @@ fn function_end(alloc: Global, tokens: &[Token], at: usize, depth: u32) -> Resul
         next: body.next,
     })
 }
+
+#[cfg(test)]
+mod tests {
+    use super::*;
+    use c_lexer::TokenValue;
+    use pt_base::{Bytes, IntType, Span};
+    use pt_tree::{Expr, Stmt};
+    use std::alloc::AllocError;
+    use std::test::Fail;
+
+    fn value(alloc: Global, kind: TokenKind) -> TokenValue {
+        match kind {
+            TokenKind::Identifier => TokenValue::Name(Bytes::new(Vec::new(alloc))),
+            TokenKind::Number | TokenKind::Character => TokenValue::Constant {
+                value: 0,
+                ty: IntType::Int,
+            },
+            _ => TokenValue::Fixed,
+        }
+    }
+
+    fn add(alloc: Global, tokens: &mut Vec<Token>, kinds: &[TokenKind]) -> Result<(), AllocError> {
+        for kind in kinds {
+            tokens.push(Token {
+                kind: *kind,
+                span: Span { from: 0, to: 1 },
+                value: value(alloc, *kind),
+            })?;
+        }
+        Ok(())
+    }
+
+    const MAIN: [TokenKind; 6] = [
+        TokenKind::Int,
+        TokenKind::Identifier,
+        TokenKind::OpenParen,
+        TokenKind::Void,
+        TokenKind::CloseParen,
+        TokenKind::OpenBrace,
+    ];
+
+    #[test]
+    fn a_missing_semicolon_is_a_fault(rt: HostRuntime) -> Result<(), Fail> {
+        let mut tokens = Vec::new(rt.alloc());
+        add(rt.alloc(), &mut tokens, &MAIN)?;
+        add(rt.alloc(), &mut tokens, &[
+            TokenKind::Return,
+            TokenKind::Number,
+            TokenKind::CloseBrace,
+        ])?;
+        assert!(rt; tokens.len() <= 1_048_576);
+        assert!(rt; matches!(parse(rt.alloc(), &tokens), Err(ParseError::FaultAt(8))));
+        Ok(())
+    }
+
+    #[test]
+    fn nesting_has_a_limit(rt: HostRuntime) -> Result<(), Fail> {
+        let mut tokens = Vec::new(rt.alloc());
+        add(rt.alloc(), &mut tokens, &MAIN)?;
+        for _ in 0..200 {
+            add(rt.alloc(), &mut tokens, &[TokenKind::OpenBrace])?;
+        }
+        assert!(rt; tokens.len() <= 1_048_575);
+        assert!(rt; matches!(parse(rt.alloc(), &tokens), Err(ParseError::FaultAt(206))));
+        add(rt.alloc(), &mut tokens, &[TokenKind::OpenBrace])?;
+        assert!(rt; tokens.len() <= 1_048_576);
+        assert!(rt; matches!(parse(rt.alloc(), &tokens), Err(ParseError::TooDeep(206))));
+        Ok(())
+    }
+
+    #[test]
+    fn a_switch_begins_with_a_label(rt: HostRuntime) -> Result<(), Fail> {
+        let mut tokens = Vec::new(rt.alloc());
+        add(rt.alloc(), &mut tokens, &MAIN)?;
+        add(rt.alloc(), &mut tokens, &[
+            TokenKind::Switch,
+            TokenKind::OpenParen,
+            TokenKind::Number,
+            TokenKind::CloseParen,
+            TokenKind::OpenBrace,
+            TokenKind::Break,
+        ])?;
+        assert!(rt; tokens.len() <= 1_048_576);
+        assert!(rt; matches!(parse(rt.alloc(), &tokens), Err(ParseError::FaultAt(11))));
+        Ok(())
+    }
+
+    #[test]
+    fn an_else_goes_with_the_inner_if(rt: HostRuntime) -> Result<(), Fail> {
+        let mut tokens = Vec::new(rt.alloc());
+        add(rt.alloc(), &mut tokens, &MAIN)?;
+        for _ in 0..2 {
+            add(rt.alloc(), &mut tokens, &[
+                TokenKind::If,
+                TokenKind::OpenParen,
+                TokenKind::Number,
+                TokenKind::CloseParen,
+            ])?;
+        }
+        add(rt.alloc(), &mut tokens, &[
+            TokenKind::Semicolon,
+            TokenKind::Else,
+            TokenKind::Semicolon,
+            TokenKind::CloseBrace,
+        ])?;
+        assert!(rt; tokens.len() <= 1_048_576);
+        let program = parse(rt.alloc(), &tokens)?;
+        let Some(Item::Function(main)) = program.items.first() else {
+            return Err(Fail::new("no function"));
+        };
+        let Some(body) = &main.body else {
+            return Err(Fail::new("no body"));
+        };
+        let Some(Stmt::If(_, Expr::Constant(_), inner, outer)) = body.items.first() else {
+            return Err(Fail::new("no if"));
+        };
+        assert!(rt; outer.is_none());
+        assert!(rt; matches!(&**inner, Stmt::If(_, _, _, Some(_))));
+        Ok(())
+    }
+}

@@ -168,9 +168,9 @@ pub(crate) fn constant(tokens: &[Token], at: usize, kind: TokenKind) -> Result<C
     ensures number { Finds a_number tokens.now kind at result }
     ensures goes_on { IfOk result (λ _. at < length tokens.now) }
 {
-    let fault = ParseError::FaultAt(at as u32);
+    let missing = ParseError::FaultAt(at as u32);
     if !stands(tokens, at, kind) {
-        return Err(fault);
+        return Err(missing);
     }
     let token = &tokens[at];
     match &token.value {
@@ -179,7 +179,7 @@ pub(crate) fn constant(tokens: &[Token], at: usize, kind: TokenKind) -> Result<C
             value: *value,
             ty: *ty,
         }),
-        TokenValue::Name(_) | TokenValue::Fixed => Err(fault),
+        TokenValue::Name(_) | TokenValue::Fixed => Err(missing),
     }
 }
 
