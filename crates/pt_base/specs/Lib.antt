@@ -1,6 +1,10 @@
+pub mod Calls
+pub mod Faults
 pub mod Files
 pub mod Held
 pub mod IntTypes
+pub mod Objects
+pub mod Pieces
 pub mod Script
 pub mod Told
 pub mod Turns

@@ -1,0 +1,14 @@
+pub mod EarlyHostLemmas
+pub mod EarlyInputLemmas
+pub mod EarlyPolicyLemmas
+pub mod FreshLemmas
+pub mod GrammarLemmas
+pub mod IndexLemmas
+pub mod LookupLemmas
+pub mod PairLemmas
+pub mod RunLemmas
+pub mod StepLemmas
+pub mod TableAndPolicy
+pub mod TaintLemmas
+pub mod TextLemmas
+pub mod TokenLemmas

@@ -1,0 +1,117 @@
+-- What a call comes to, how it is reported, and when each comes.
+use Rattle.std.specs.Prelude.{◌≡◌, ◌≢◌, ◌⊎◌, ◌≤◌, ◌<◌, ℕ, List, [], ◌∷◌, ◌++◌, ⊤, codes, Option, Some, None, IfSome}
+use Rattle.std.specs.Fmt.{decimal}
+use Rattle.std.specs.Io.KnownBytes.{Appends, Keeps}
+use Rattle.pt_base.specs.Faults.{Rose}
+use Rattle.pt_base.specs.Files.{Files, Lacks}
+use Rattle.pt_base.specs.Told.{AppendsPart}
+use Rattle.privtrans_app.specs.Words.{IsHelp, IsVersion, IsLocal, IsNoForm}
+use Rattle.privtrans_app.specs.EarlyInput.{Texts, IsBuilt, IsNotBuilt}
+use Rattle.privtrans_app.specs.Help.{help_text, version_text}
+
+-- What a call comes to.
+pub data Ending : Type 0 where
+  -- the help text, or the version, is written
+  help : Ending
+  version : Ending
+  -- main returned this number
+  exit : ℕ → Ending
+  -- the words are of no form
+  usage : Ending
+  -- no file of this name is held
+  missing : List ℕ → Ending
+  -- the file of this name can't be read
+  read_fault : List ℕ → Ending
+  -- out or report can't be written
+  write_fault : Ending
+  -- the texts aren't early
+  not_built : Ending
+  -- want of memory
+  memory : Ending
+
+-- the status that a call ends with
+abbrev pub status_of : Ending → ℕ
+status_of help = 0
+status_of version = 0
+status_of (exit status) = 0
+status_of usage = 1
+status_of (missing name) = 2
+status_of (read_fault name) = 3
+status_of write_fault = 4
+status_of not_built = 5
+status_of memory = 12
+
+-- what is reported
+abbrev pub report_of : Ending → List ℕ
+report_of help = []
+report_of version = []
+report_of (exit status) = codes "exit " ++ decimal status ++ codes "\n"
+report_of usage = codes "usage\n"
+report_of (missing name) = codes "missing " ++ name ++ codes "\n"
+report_of (read_fault name) = codes "read fault " ++ name ++ codes "\n"
+report_of write_fault = codes "write fault\n"
+report_of not_built = codes "early 1 NotBuilt\n"
+report_of memory = codes "memory\n"
+
+-- a file of the words has this name
+pub record IsNamed (words : List (List ℕ)) (name : List ℕ) : Type 0 where
+  pub program : List ℕ
+  pub host : List ℕ
+  pub policy : List ℕ
+  pub input : List ℕ
+  pub turns : ℕ
+  pub window : ℕ
+  pub form : IsLocal words program host policy input turns window
+  pub is : (name ≡ program) ⊎ (name ≡ host) ⊎ (name ≡ policy) ⊎ (name ≡ input)
+
+-- the words are a run of files that hold these texts
+pub record AreHeld (words : List (List ℕ)) (files : Files) (t : Texts) (turns window : ℕ) : Type 0 where
+  pub program_name : List ℕ
+  pub host_name : List ℕ
+  pub policy_name : List ℕ
+  pub input_name : List ℕ
+  pub form : IsLocal words program_name host_name policy_name input_name turns window
+  pub program : files program_name ≡ Some t.program
+  pub host : files host_name ≡ Some t.host
+  pub policy : files policy_name ≡ Some t.policy
+  pub input : files input_name ≡ Some t.input
+
+-- where the files are told: they hold texts of which these bytes and this status are expected
+abbrev pub Expects : List (List ℕ) → Option Files → List ℕ → ℕ → Type 0
+Expects words None bytes status = ⊤
+Expects words (Some files) bytes status =
+    (t : Texts) × (turns : ℕ) × (window : ℕ) × AreHeld words files t turns window × IsBuilt t turns bytes status
+
+-- where the files are told: they hold texts that aren't early
+abbrev pub Refuses : List (List ℕ) → Option Files → Type 0
+Refuses words None = ⊤
+Refuses words (Some files) = (t : Texts) × (turns : ℕ) × (window : ℕ) × AreHeld words files t turns window × IsNotBuilt t turns
+
+-- what was written is a first part of all bytes that are expected
+abbrev pub WritesPart : List (List ℕ) → Option Files → Option (List ℕ) → Option (List ℕ) → Type 0
+WritesPart words None old new = ⊤
+WritesPart words (Some files) old new = (t : Texts) (turns window : ℕ) (bytes : List ℕ) (status : ℕ) →
+    AreHeld words files t turns window → IsBuilt t turns bytes status → AppendsPart old new bytes
+
+-- When a call comes to each ending, and what out has then: `reads` and `writes` are the counts of
+-- failed reads and of failed writes to out, before and after.
+abbrev pub ComesTo : List (List ℕ) → Option Files → ℕ → ℕ → Option (List ℕ) → Option (List ℕ) → ℕ → ℕ → Ending → Type 0
+ComesTo words files reads reads' out out' writes writes' help = IsHelp words × Appends out out' help_text
+ComesTo words files reads reads' out out' writes writes' version = IsVersion words × Appends out out' version_text
+ComesTo words files reads reads' out out' writes writes' (exit status) =
+    (bytes : List ℕ) × Expects words files bytes status × Appends out out' bytes
+ComesTo words files reads reads' out out' writes writes' usage = IsNoForm words × Keeps out out'
+ComesTo words files reads reads' out out' writes writes' (missing name) =
+    IsNamed words name × (Lacks files name ⊎ Rose reads reads') × Keeps out out'
+ComesTo words files reads reads' out out' writes writes' (read_fault name) = IsNamed words name × Rose reads reads' × Keeps out out'
+ComesTo words files reads reads' out out' writes writes' write_fault = Rose writes writes' × WritesPart words files out out'
+ComesTo words files reads reads' out out' writes writes' not_built = Refuses words files × Keeps out out'
+ComesTo words files reads reads' out out' writes writes' memory = WritesPart words files out out'
+
+-- How an ending is reported, and the status: as it is where the report was written, else 4, with the
+-- count of failed writes to report risen, or 12.
+abbrev pub Reports : Ending → Option (List ℕ) → Option (List ℕ) → ℕ → ℕ → ℕ → Type 0
+Reports e report report' faults faults' status =
+    ((status ≡ status_of e) × Appends report report' (report_of e))
+    ⊎ ((status ≡ 4) × (status_of e ≢ 12) × Rose faults faults' × AppendsPart report report' (report_of e))
+    ⊎ ((status ≡ 12) × AppendsPart report report' (report_of e))

@@ -1,0 +1,16 @@
+-- The help text and the version.
+use Rattle.std.specs.Prelude.{ℕ, List, ◌++◌, codes}
+
+-- the forms of the words
+abbrev pub help_text : List ℕ
+help_text = codes "privtrans runs an annotated C program as a privileged monitor and an unprivileged slave.\n\n"
+    ++ codes "privtrans local PROG HOST POLICY INPUT TURNS WINDOW\n"
+    ++ codes "    runs both halves in one process, with this host table, policy and input, within\n"
+    ++ codes "    TURNS turns (0 to 4294967295), where WINDOW messages (1 to 1024) may wait\n"
+    ++ codes "privtrans --help, privtrans -h\n"
+    ++ codes "    writes this text\n"
+    ++ codes "privtrans --version\n"
+    ++ codes "    writes the version\n"
+
+abbrev pub version_text : List ℕ
+version_text = codes "privtrans 0.1.0\n"

@@ -1,0 +1,30 @@
+-- What the words may be.
+use Rattle.std.specs.Prelude.{◌≡◌, ◌⊎◌, ◌≤◌, ℕ, List, [], ◌∷◌, codes}
+use Rattle.std.specs.Fmt.{decimal}
+use Rattle.privtrans_app.specs.declared.words.Form.{Form}
+use Rattle.privtrans_app.specs.declared.words.Form.TheVariants.{Help, Version, Local}
+
+abbrev pub IsHelp : List (List ℕ) → Type 0
+IsHelp words = (words ≡ codes "--help" ∷ []) ⊎ (words ≡ codes "-h" ∷ [])
+
+abbrev pub IsVersion : List (List ℕ) → Type 0
+IsVersion words = words ≡ codes "--version" ∷ []
+
+-- `local`, the names of four files, and two numbers in their ranges, in digits without a leading zero
+pub record IsLocal (words : List (List ℕ)) (program host policy input : List ℕ) (turns window : ℕ) : Type 0 where
+  pub are : words ≡ codes "local" ∷ program ∷ host ∷ policy ∷ input ∷ decimal turns ∷ decimal window ∷ []
+  pub turns_most : turns ≤ 4294967295
+  pub window_least : 1 ≤ window
+  pub window_most : window ≤ 1024
+
+-- the words are of no form
+pub record IsNoForm (words : List (List ℕ)) : Type 0 where
+  pub no_help : IsHelp words → ⊥
+  pub no_version : IsVersion words → ⊥
+  pub no_local : (program host policy input : List ℕ) (turns window : ℕ) → IsLocal words program host policy input turns window → ⊥
+
+-- the words are of this form
+abbrev pub IsForm : List (List ℕ) → Form → Type 0
+IsForm words Help = IsHelp words
+IsForm words Version = IsVersion words
+IsForm words (Local l) = IsLocal words l.program.now l.host.now l.policy.now l.input.now l.turns l.window

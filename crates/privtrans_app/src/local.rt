@@ -1,0 +1,82 @@
+// Both halves in one process: the files are read, early texts are run, and what they write goes to
+// out.
+ghost use Rattle.std.specs.Prelude.{◌≡◌, ◌≤◌, ◌+◌, ℕ, List, IfOk, IfErr};
+ghost use Rattle.pt_base.specs.Files.{SameFiles, GivesFirst};
+ghost use Rattle.privtrans_app.specs.Words.{IsLocal};
+ghost use Rattle.privtrans_app.specs.Ending.{ComesTo};
+ghost use Rattle.privtrans_app.specs.EndingSeen.{ending_seen};
+ghost use Rattle.privtrans_app.specs.Reading.{IsReadRefusal, IsRefusal, AreFirst};
+ghost use Rattle.privtrans_app.specs.EarlyTexts.{texts_of};
+
+use crate::early_input::{MOST_BYTES, Outcome, Texts, outcome_of};
+use crate::ending::Ending;
+use crate::words::LocalWords;
+use pt_base::{Folder, FolderFault, Sink, SinkFault};
+use std::alloc::Global;
+
+// The first bytes of a file, one more than a text may have.
+fn read_text<'a, F: Folder>(alloc: Global, folder: &mut F, name: &'a str) -> Result<Vec<u8>, Ending<'a>>
+    ensures content { IfOk result (λ v. GivesFirst (F.files folder.old) name.entry.now 1048577 v.items) }
+    ensures refusal { IfErr result (λ e. IsReadRefusal name.entry.now (F.files folder.old)
+        (F.read_faults folder.old) (F.read_faults folder.new) (ending_seen e)) }
+    ensures same { SameFiles (F.files folder.old) (F.files folder.new) }
+    ensures later { F.read_faults folder.old ≤ F.read_faults folder.new }
+{
+    match folder.read(alloc, name, MOST_BYTES + 1) {
+        Ok(bytes) => Ok(bytes),
+        Err(FolderFault::Missing) => Err(Ending::Missing(name)),
+        Err(FolderFault::Failed) => Err(Ending::ReadFault(name)),
+        Err(FolderFault::Memory) => Err(Ending::Memory),
+    }
+}
+
+// The texts of the words' files, in the order of the words.
+fn read_texts<'a, F: Folder>(
+    alloc: Global,
+    folder: &mut F,
+    words: &LocalWords<'a>,
+) -> Result<Texts, Ending<'a>>
+    ensures texts { IfOk result (λ t. AreFirst words.now (F.files folder.old) (texts_of t)) }
+    ensures refusal { IfErr result (λ e. IsRefusal words.now (F.files folder.old)
+        (F.read_faults folder.old) (F.read_faults folder.new) (ending_seen e)) }
+{
+    let program = read_text(alloc, folder, words.program)?;
+    let host = read_text(alloc, folder, words.host)?;
+    let policy = read_text(alloc, folder, words.policy)?;
+    let input = read_text(alloc, folder, words.input)?;
+    Ok(Texts {
+        program,
+        host,
+        policy,
+        input,
+    })
+}
+
+/// Runs the files that the words name.
+pub(crate) fn local<'a, F: Folder, K: Sink>(
+    alloc: Global,
+    words: &LocalWords<'a>,
+    folder: &mut F,
+    out: &mut K,
+) -> Ending<'a>
+    ensures { (given : List (List ℕ)) →
+        IsLocal given words.now.program.now words.now.host.now words.now.policy.now words.now.input.now words.now.turns words.now.window →
+        ComesTo given (F.files folder.old) (F.read_faults folder.old) (F.read_faults folder.new)
+            (K.taken out.old) (K.taken out.new) (K.faults out.old) (K.faults out.new) (ending_seen result) }
+{
+    let texts = match read_texts(alloc, folder, words) {
+        Ok(texts) => texts,
+        Err(ending) => return ending,
+    };
+    let Ok(outcome) = outcome_of(alloc, &texts, words.turns) else {
+        return Ending::Memory;
+    };
+    match outcome {
+        Outcome::NotBuilt => Ending::NotBuilt,
+        Outcome::Exits { out: bytes, status } => match out.write(alloc, &bytes) {
+            Ok(()) => Ending::Exit(status),
+            Err(SinkFault::Failed) => Ending::WriteFault,
+            Err(SinkFault::Memory) => Ending::Memory,
+        },
+    }
+}

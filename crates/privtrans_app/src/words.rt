@@ -1,0 +1,138 @@
+// The words of a call, read by hand.
+ghost use Rattle.std.specs.Prelude.{◌≡◌, ◌≤◌, ◌≢◌, ◌∷◌, [], ℕ, MatchOption, IsTrue, false, map, codes};
+ghost use Rattle.std.specs.Fmt.{decimal};
+ghost use Rattle.privtrans_app.specs.Words.{IsForm, IsNoForm};
+
+use itoa::Buffer;
+
+/// The words of a run of both halves in one process.
+#[derive(Clone, Copy)]
+pub(crate) struct LocalWords<'a> {
+    pub program: &'a str,
+    pub host: &'a str,
+    pub policy: &'a str,
+    pub input: &'a str,
+    pub turns: u32,
+    pub window: u32,
+}
+
+/// What the words ask for.
+#[derive(Clone, Copy)]
+pub(crate) enum Form<'a> {
+    Help,
+    Version,
+    Local(LocalWords<'a>),
+}
+
+// The number of a word in digits without a leading zero, if it is at most `most`.
+fn number(word: &str, most: u32) -> Option<u32>
+    ensures { MatchOption result ((n : ℕ) → n ≤ most → word.now ≢ decimal n) (λ n. (n ≤ most) × (word.now ≡ decimal n)) }
+{
+    let Ok(n) = u32::from_str_radix(word, 10) else {
+        return None;
+    };
+    if n > most {
+        return None;
+    }
+    if is_spelling(n, word) { Some(n) } else { None }
+}
+
+// Whether the word is the number in digits without a leading zero.
+fn is_spelling(n: u32, word: &str) -> bool
+    ensures yes { IsTrue result → word.now ≡ decimal n }
+    ensures no { result ≡ false → word.now ≢ decimal n }
+{
+    let mut buffer = Buffer::new();
+    buffer.format(n) == word
+}
+
+/// What the words ask for; none where they are of no form.
+pub(crate) fn form_of<'a>(words: &[&'a str]) -> Option<Form<'a>>
+    ensures { MatchOption result (IsNoForm (map (λ w. w.now) words.now)) (IsForm (map (λ w. w.now) words.now)) }
+{
+    match words {
+        [] => None,
+        [word, rest @ ..] => form_after(word, rest),
+    }
+}
+
+// What a word and those after it ask for.
+fn form_after<'a>(word: &str, rest: &[&'a str]) -> Option<Form<'a>>
+    ensures { MatchOption result (IsNoForm (word.now ∷ map (λ w. w.now) rest.now)) (IsForm (word.now ∷ map (λ w. w.now) rest.now)) }
+{
+    if rest.is_empty() {
+        one_word(word)
+    } else if word == "local" {
+        local_words(rest)
+    } else {
+        None
+    }
+}
+
+// The words after `local`.
+fn local_words<'a>(words: &[&'a str]) -> Option<Form<'a>>
+    ensures { MatchOption result (IsNoForm (codes "local" ∷ map (λ w. w.now) words.now)) (IsForm (codes "local" ∷ map (λ w. w.now) words.now)) }
+{
+    let [program, words @ ..] = words else {
+        return None;
+    };
+    let [host, words @ ..] = words else {
+        return None;
+    };
+    let [policy, words @ ..] = words else {
+        return None;
+    };
+    let [input, words @ ..] = words else {
+        return None;
+    };
+    let [turns, words @ ..] = words else {
+        return None;
+    };
+    let [window, words @ ..] = words else {
+        return None;
+    };
+    if words.is_empty() {
+        local_form(program, host, policy, input, turns, window)
+    } else {
+        None
+    }
+}
+
+fn one_word<'a>(word: &str) -> Option<Form<'a>>
+    ensures { MatchOption result (IsNoForm (word.now ∷ [])) (IsForm (word.now ∷ [])) }
+{
+    if word == "--help" || word == "-h" {
+        Some(Form::Help)
+    } else if word == "--version" {
+        Some(Form::Version)
+    } else {
+        None
+    }
+}
+
+fn local_form<'a>(
+    program: &'a str,
+    host: &'a str,
+    policy: &'a str,
+    input: &'a str,
+    turns: &str,
+    window: &str,
+) -> Option<Form<'a>>
+    ensures { MatchOption result
+        (IsNoForm (codes "local" ∷ program.now ∷ host.now ∷ policy.now ∷ input.now ∷ turns.now ∷ window.now ∷ []))
+        (IsForm (codes "local" ∷ program.now ∷ host.now ∷ policy.now ∷ input.now ∷ turns.now ∷ window.now ∷ [])) }
+{
+    let turns = number(turns, u32::MAX)?;
+    let window = number(window, 1024)?;
+    if window == 0 {
+        return None;
+    }
+    Some(Form::Local(LocalWords {
+        program,
+        host,
+        policy,
+        input,
+        turns,
+        window,
+    }))
+}

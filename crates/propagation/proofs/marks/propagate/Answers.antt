@@ -1,0 +1,21 @@
+use Rattle.std.proofs.Common.{◌≡◌, length, arith}
+use Rattle.propagation.proofs.PathLemmas.{shows}
+use Rattle.propagation.proofs.VisitLemmas.{at_length, walking_start, walking_step, walked}
+use Rattle.propagation.proofs.marks.propagate.Goals as goal
+
+pub seed-requires-clause-sound : goal.seed-requires-clause-sound
+seed-requires-clause-sound c = (c.args.edges.now, at_length _ _ _ _ _ (c.in_ok-reached.ensures c.args.seeds.now c.args.edges.now))
+
+pub seed-requires-clause-within : goal.seed-requires-clause-within
+seed-requires-clause-within c = let s = (c.in_ok-reached.ensures c.args.seeds.now c.args.edges.now).size in grind (arith, s)
+
+pub loop-next-init : goal.loop-next-init
+loop-next-init c =
+    let size : length c.in_ok-reached.reached.places.items ≡ c.args.slots = (c.in_ok-reached.ensures c.args.seeds.now c.args.edges.now).size in
+    walking_start _ _ _ _ _ _ size (c.in_ok-seed.ensures.sound c.args.edges.now (at_length _ _ _ _ _ (c.in_ok-reached.ensures c.args.seeds.now c.args.edges.now))) c.in_ok-seed.ensures.done
+
+pub loop-next-preserved : goal.loop-next-preserved
+loop-next-preserved c = walking_step _ _ _ _ _ _ _ _ c.loop-next.invariant (grind arith) c.in_ok-visit.ensures.sound c.in_ok-visit.ensures.keeps c.in_ok-visit.ensures.done
+
+pub returns : goal.returns
+returns c = shows _ _ _ _ _ (walked _ _ _ _ _ _ c.loop-next.invariant (grind arith))

@@ -1,0 +1,7 @@
+pub mod Adjacent
+pub mod Laws
+pub mod Marks
+pub mod Paths
+pub mod Reached
+pub mod Shown
+pub mod Walk

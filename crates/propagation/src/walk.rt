@@ -1,0 +1,109 @@
+// The walk along the edges: what it reaches, and the way back.
+ghost use Rattle.std.specs.Prelude.{◌≡◌, ◌<◌, List, IfOk, OnOk, length, All};
+ghost use Rattle.pt_base.specs.declared.slot.Slot.{Slot};
+ghost use Rattle.pt_base.specs.declared.slot.Edge.{Edge};
+ghost use Rattle.propagation.specs.Adjacent.{AreChains};
+ghost use Rattle.propagation.specs.Reached.{IsParent, marked_order, marked_places, place_of, slot_at};
+ghost use Rattle.propagation.specs.Shown.{path_of};
+ghost use Rattle.propagation.specs.Walk.{GoesOn, HasReached, IsSound, KeepsReached, slots_of};
+
+use crate::adjacent::Chains;
+use crate::reached::{Found, Reached, Step};
+use pt_base::{Edge, Slot};
+use std::alloc::{AllocError, Global};
+
+impl Reached {
+    /// Nothing is reached yet.
+    pub fn new(alloc: Global, slots: usize) -> Result<Reached, AllocError>
+        ensures { IfOk result (λ r. (seeds : List Slot) (edges : List Edge) → IsSound seeds edges slots r) }
+    {
+        let places = vec![in alloc; None; slots]?;
+        let order = Vec::new(alloc);
+        Ok(Reached { places, order })
+    }
+
+    /// Adds a slot to the reached ones, if it isn't one of them.
+    fn mark(&mut self, slot: Slot, by: Option<Step>) -> Result<(), AllocError>
+        requires within { slot.0 < slots_of self.old }
+        requires parent { IsParent (length self.old.order.items) by }
+        ensures places { OnOk result (self.new.places.items ≡
+            marked_places self.old.places.items slot (length self.old.order.items)) }
+        ensures order { OnOk result (self.new.order.items ≡
+            marked_order self.old.places.items self.old.order.items slot by) }
+    {
+        let index = slot.0 as usize;
+        if self.places[index].is_none() {
+            let place = self.order.len();
+            self.order.push(Found { slot, by })?;
+            self.places[index] = Some(place);
+        }
+        Ok(())
+    }
+
+    /// Marks the seeds.
+    pub fn seed(&mut self, seeds: &[Slot]) -> Result<(), AllocError>
+        requires sound { (edges : List Edge) × IsSound seeds.now edges (slots_of self.old) self.old }
+        requires within { All (λ s. s.0 < slots_of self.old) seeds.now }
+        ensures sound { OnOk result ((edges : List Edge) →
+            IsSound seeds.now edges (slots_of self.old) self.old →
+            IsSound seeds.now edges (slots_of self.old) self.new) }
+        ensures done { OnOk result (All (HasReached self.new) seeds.now) }
+    {
+        for seed in seeds {
+            self.mark(*seed, None)?;
+        }
+        Ok(())
+    }
+
+    /// Marks the slots to which the edges from a reached slot lead.
+    pub fn visit(
+        &mut self,
+        edges: &[Edge],
+        chains: &Chains,
+        parent: usize,
+    ) -> Result<(), AllocError>
+        requires sound { (seeds : List Slot) × IsSound seeds edges.now (slots_of self.old) self.old }
+        requires chains { AreChains edges.now (slots_of self.old)
+            chains.now.below.items chains.now.before.items }
+        requires ends { All (λ e. e.to.0 < slots_of self.old) edges.now }
+        requires parent { parent < length self.old.order.items }
+        ensures sound { OnOk result ((seeds : List Slot) →
+            IsSound seeds edges.now (slots_of self.old) self.old →
+            IsSound seeds edges.now (slots_of self.old) self.new) }
+        ensures keeps { OnOk result (KeepsReached self.old self.new) }
+        ensures done { OnOk result (
+            GoesOn edges.now (slot_at self.old.order.items parent) self.new) }
+    {
+        let slot = self.order[parent].slot;
+        let mut bound = chains.below[slot.0 as usize];
+        while bound > 0 {
+            let edge = bound - 1;
+            self.mark(edges[edge].to, Some(Step { edge, parent }))?;
+            bound = chains.before[edge];
+        }
+        Ok(())
+    }
+
+    /// The slot's place in the order, if it was reached.
+    pub fn place(&self, s: Slot) -> Option<usize>
+        requires { s.0 < slots_of self.now }
+        ensures { result ≡ place_of self.now.places.items s }
+    {
+        self.places[s.0 as usize]
+    }
+
+    /// The edges by which the walk came to the slot at this place, from a seed on.
+    pub fn path(&self, alloc: Global, place: usize) -> Result<Vec<u64>, AllocError>
+        requires { place < length self.now.order.items }
+        ensures { IfOk result (λ path. path.items ≡ path_of self.now.order.items place) }
+    {
+        let mut path = Vec::new(alloc);
+        let mut at = place;
+        while let Some(step) = self.order[at].by {
+            path.push(step.edge as u64)?;
+            at = step.parent;
+        }
+        path.reverse();
+        Ok(path)
+    }
+}

@@ -1,0 +1,5 @@
+pub mod Meaning
+pub mod Memory
+pub mod Program
+pub mod Run
+pub mod State

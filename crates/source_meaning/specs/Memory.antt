@@ -1,0 +1,40 @@
+-- The memory of the original program: which cells lie in which block.
+use Rattle.std.specs.Prelude.{◌≡◌, ℕ, ℤ, pos, Bool, true, false, ◌&&◌, List, [], if◌then◌else◌, nat_eq, slice_index_or, slice_set}
+
+-- An object is a block of cells. A local is named by the depth of its function's call and by its
+-- variable, a global by its number.
+pub data Block : Type 0 where
+  local : ℕ → ℕ → Block
+  global : ℕ → Block
+
+-- A cell holds a number, or it is null, or it points: into a block, with a base cell, a count of
+-- elements and an index.
+pub data Cell : Type 0 where
+  number : ℤ → Cell
+  null : Cell
+  pointer : Block → ℕ → ℕ → ℕ → Cell
+
+abbrev pub same_block : Block → Block → Bool
+same_block (local depth x) (local depth' x') = nat_eq depth depth' && nat_eq x x'
+same_block (local depth x) (global g) = false
+same_block (global g) (local depth x) = false
+same_block (global g) (global g') = nat_eq g g'
+
+-- the cells under each name; none under a name that isn't live
+abbrev pub Memory : Type 0
+Memory = Block → List Cell
+
+abbrev pub nothing_live : Memory
+nothing_live block = []
+
+-- the memory in which this block has these cells, and the others are as they were
+abbrev pub put : Memory → Block → List Cell → Memory
+put memory block cells other = if same_block other block then cells else memory other
+
+-- one cell
+abbrev pub read : Memory → Block → ℕ → Cell
+read memory block at = slice_index_or (memory block) at (number (pos 0))
+
+-- the memory in which one cell is written, and its neighbours are as they were
+abbrev pub write : Memory → Block → ℕ → Cell → Memory
+write memory block at cell = put memory block (slice_set (memory block) at cell)
