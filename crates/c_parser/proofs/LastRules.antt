@@ -83,4 +83,3 @@ last_UnaryOp n n125 n126 n127 n128 n129 (inr (inr (inr (inl e)))) = absurd (n128
 last_UnaryOp n n125 n126 n127 n128 n129 (inr (inr (inr (inr (inl e))))) = absurd (n129 e)
 last_UnaryOp n n125 n126 n127 n128 n129 (inr (inr (inr (inr (inr (inl e)))))) = e
 last_UnaryOp n n125 n126 n127 n128 n129 (inr (inr (inr (inr (inr (inr e)))))) = absurd e
-

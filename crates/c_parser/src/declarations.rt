@@ -15,7 +15,12 @@ use c_lexer::{Token, TokenKind};
 use pt_tree::{Declaration, Expr, InitDeclarator, Initializer, ParamDecl};
 use std::alloc::Global;
 
-pub(crate) fn declaration(alloc: Global, tokens: &[Token], at: usize, depth: u32) -> Result<Parsed<Declaration>, ParseError>
+pub(crate) fn declaration(
+    alloc: Global,
+    tokens: &[Token],
+    at: usize,
+    depth: u32,
+) -> Result<Parsed<Declaration>, ParseError>
     requires within { at ≤ length tokens.now }
     requires few { length tokens.now < 2 ^ 32 }
     requires shallow { depth ≤ 200 }
@@ -36,7 +41,12 @@ pub(crate) fn declaration(alloc: Global, tokens: &[Token], at: usize, depth: u32
     })
 }
 
-fn declaration_rest(alloc: Global, tokens: &[Token], at: usize, depth: u32) -> Result<Parsed<Vec<InitDeclarator>>, ParseError>
+fn declaration_rest(
+    alloc: Global,
+    tokens: &[Token],
+    at: usize,
+    depth: u32,
+) -> Result<Parsed<Vec<InitDeclarator>>, ParseError>
     requires within { at ≤ length tokens.now }
     requires few { length tokens.now < 2 ^ 32 }
     requires shallow { depth ≤ 200 }
@@ -53,10 +63,13 @@ fn declaration_rest(alloc: Global, tokens: &[Token], at: usize, depth: u32) -> R
     }
     let first = declarator(alloc, tokens, at)?;
     let init = initializer(alloc, tokens, first.next, depth)?;
-    let objects = one(alloc, InitDeclarator {
-        declarator: first.tree,
-        init: init.tree,
-    })?;
+    let objects = one(
+        alloc,
+        InitDeclarator {
+            declarator: first.tree,
+            init: init.tree,
+        },
+    )?;
     let all = more_objects(alloc, tokens, init.next, depth, objects)?;
     let next = expect(tokens, all.next, TokenKind::Semicolon)?;
     Ok(Parsed {
@@ -66,7 +79,13 @@ fn declaration_rest(alloc: Global, tokens: &[Token], at: usize, depth: u32) -> R
 }
 
 /// The declarators of objects after the first.
-pub(crate) fn more_objects(alloc: Global, tokens: &[Token], at: usize, depth: u32, mut objects: Vec<InitDeclarator>) -> Result<Parsed<Vec<InitDeclarator>>, ParseError>
+pub(crate) fn more_objects(
+    alloc: Global,
+    tokens: &[Token],
+    at: usize,
+    depth: u32,
+    mut objects: Vec<InitDeclarator>,
+) -> Result<Parsed<Vec<InitDeclarator>>, ParseError>
     requires within { at ≤ length tokens.now }
     requires few { length tokens.now < 2 ^ 32 }
     requires shallow { depth ≤ 200 }
@@ -94,7 +113,12 @@ pub(crate) fn more_objects(alloc: Global, tokens: &[Token], at: usize, depth: u3
 }
 
 /// The value of a declared object, if it has one.
-pub(crate) fn initializer(alloc: Global, tokens: &[Token], at: usize, depth: u32) -> Result<Parsed<Option<Initializer>>, ParseError>
+pub(crate) fn initializer(
+    alloc: Global,
+    tokens: &[Token],
+    at: usize,
+    depth: u32,
+) -> Result<Parsed<Option<Initializer>>, ParseError>
     requires within { at ≤ length tokens.now }
     requires few { length tokens.now < 2 ^ 32 }
     requires shallow { depth ≤ 200 }
@@ -116,7 +140,12 @@ pub(crate) fn initializer(alloc: Global, tokens: &[Token], at: usize, depth: u32
     })
 }
 
-fn initial_value(alloc: Global, tokens: &[Token], at: usize, depth: u32) -> Result<Parsed<Initializer>, ParseError>
+fn initial_value(
+    alloc: Global,
+    tokens: &[Token],
+    at: usize,
+    depth: u32,
+) -> Result<Parsed<Initializer>, ParseError>
     requires within { at ≤ length tokens.now }
     requires few { length tokens.now < 2 ^ 32 }
     requires shallow { depth ≤ 200 }
@@ -144,7 +173,13 @@ fn initial_value(alloc: Global, tokens: &[Token], at: usize, depth: u32) -> Resu
 }
 
 // The values in braces after the first. A comma may stand behind the last.
-fn more_values(alloc: Global, tokens: &[Token], at: usize, depth: u32, mut values: Vec<Expr>) -> Result<Parsed<Vec<Expr>>, ParseError>
+fn more_values(
+    alloc: Global,
+    tokens: &[Token],
+    at: usize,
+    depth: u32,
+    mut values: Vec<Expr>,
+) -> Result<Parsed<Vec<Expr>>, ParseError>
     requires within { at ≤ length tokens.now }
     requires few { length tokens.now < 2 ^ 32 }
     requires shallow { depth ≤ 200 }
@@ -172,7 +207,12 @@ fn more_values(alloc: Global, tokens: &[Token], at: usize, depth: u32, mut value
 }
 
 /// The parameters of a function.
-pub(crate) fn parameters(alloc: Global, tokens: &[Token], at: usize, depth: u32) -> Result<Parsed<Vec<ParamDecl>>, ParseError>
+pub(crate) fn parameters(
+    alloc: Global,
+    tokens: &[Token],
+    at: usize,
+    depth: u32,
+) -> Result<Parsed<Vec<ParamDecl>>, ParseError>
     requires within { at ≤ length tokens.now }
     requires few { length tokens.now < 2 ^ 32 }
     requires shallow { depth ≤ 200 }
@@ -192,7 +232,13 @@ pub(crate) fn parameters(alloc: Global, tokens: &[Token], at: usize, depth: u32)
     })
 }
 
-fn more_parameters(alloc: Global, tokens: &[Token], at: usize, depth: u32, mut params: Vec<ParamDecl>) -> Result<Parsed<Vec<ParamDecl>>, ParseError>
+fn more_parameters(
+    alloc: Global,
+    tokens: &[Token],
+    at: usize,
+    depth: u32,
+    mut params: Vec<ParamDecl>,
+) -> Result<Parsed<Vec<ParamDecl>>, ParseError>
     requires within { at ≤ length tokens.now }
     requires few { length tokens.now < 2 ^ 32 }
     requires shallow { depth ≤ 200 }
@@ -212,7 +258,12 @@ fn more_parameters(alloc: Global, tokens: &[Token], at: usize, depth: u32, mut p
     }
 }
 
-fn parameter(alloc: Global, tokens: &[Token], at: usize, depth: u32) -> Result<Parsed<ParamDecl>, ParseError>
+fn parameter(
+    alloc: Global,
+    tokens: &[Token],
+    at: usize,
+    depth: u32,
+) -> Result<Parsed<ParamDecl>, ParseError>
     requires within { at ≤ length tokens.now }
     requires few { length tokens.now < 2 ^ 32 }
     requires shallow { depth ≤ 200 }

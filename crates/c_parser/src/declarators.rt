@@ -72,7 +72,11 @@ fn array_size(tokens: &[Token], at: usize) -> Result<Parsed<Suffix>, ParseError>
 }
 
 /// The name of a parameter, if it has one.
-pub(crate) fn parameter_name(alloc: Global, tokens: &[Token], at: usize) -> Result<Parsed<Option<Word>>, ParseError>
+pub(crate) fn parameter_name(
+    alloc: Global,
+    tokens: &[Token],
+    at: usize,
+) -> Result<Parsed<Option<Word>>, ParseError>
     requires within { at ≤ length tokens.now }
     requires few { length tokens.now < 2 ^ 32 }
     ensures parses { (depth : ℕ) → Parses [] of_name tokens.now (gives Symbol.Name ∷ []) at depth result }
@@ -92,7 +96,11 @@ pub(crate) fn parameter_name(alloc: Global, tokens: &[Token], at: usize) -> Resu
     })
 }
 
-pub(crate) fn declarator(alloc: Global, tokens: &[Token], at: usize) -> Result<Parsed<Declarator>, ParseError>
+pub(crate) fn declarator(
+    alloc: Global,
+    tokens: &[Token],
+    at: usize,
+) -> Result<Parsed<Declarator>, ParseError>
     requires within { at ≤ length tokens.now }
     requires few { length tokens.now < 2 ^ 32 }
     ensures parses { (depth : ℕ) → Parses [] of_declarator tokens.now (gives Symbol.Declarator ∷ []) at depth result }
@@ -115,7 +123,12 @@ pub(crate) fn declarator(alloc: Global, tokens: &[Token], at: usize) -> Result<P
 }
 
 /// The declarators of fields after the first.
-pub(crate) fn more_declarators(alloc: Global, tokens: &[Token], at: usize, mut declarators: Vec<Declarator>) -> Result<Parsed<Vec<Declarator>>, ParseError>
+pub(crate) fn more_declarators(
+    alloc: Global,
+    tokens: &[Token],
+    at: usize,
+    mut declarators: Vec<Declarator>,
+) -> Result<Parsed<Vec<Declarator>>, ParseError>
     requires within { at ≤ length tokens.now }
     requires few { length tokens.now < 2 ^ 32 }
     ensures parses { (depth : ℕ) → Parses (of_declarators declarators) of_declarators tokens.now (gives Symbol.MoreDeclarators ∷ []) at depth result }

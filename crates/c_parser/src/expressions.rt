@@ -10,10 +10,14 @@ ghost use Rattle.c_parser.specs.Parts.{of_expr, of_exprs, of_links, of_postfixes
 
 use crate::declarators::star;
 use crate::error::ParseError;
-use crate::operators::{Level, assignment_operator, begin_level, kind_by, link_operator, prefix_operator, tighter};
+use crate::operators::{
+    Level, assignment_operator, begin_level, kind_by, link_operator, prefix_operator, tighter,
+};
 use crate::parsed::Parsed;
 use crate::specifiers::specifiers;
-use crate::text::{DEEPEST, begin, choose, constant, expect, identifier, one, span_of, takes_first};
+use crate::text::{
+    DEEPEST, begin, choose, constant, expect, identifier, one, span_of, takes_first,
+};
 use c_grammar::Symbol;
 use c_lexer::{Token, TokenKind};
 use pt_base::Span;
@@ -22,7 +26,12 @@ use std::alloc::{AllocError, Global};
 
 /// An expression, which is counted.
 #[cycle(expressions)]
-pub(crate) fn expression(alloc: Global, tokens: &[Token], at: usize, depth: u32) -> Result<Parsed<Expr>, ParseError>
+pub(crate) fn expression(
+    alloc: Global,
+    tokens: &[Token],
+    at: usize,
+    depth: u32,
+) -> Result<Parsed<Expr>, ParseError>
     requires within { at ≤ length tokens.now }
     requires few { length tokens.now < 2 ^ 32 }
     requires shallow { depth ≤ 200 }
@@ -36,7 +45,12 @@ pub(crate) fn expression(alloc: Global, tokens: &[Token], at: usize, depth: u32)
 }
 
 #[cycle(expressions)]
-fn assignment(alloc: Global, tokens: &[Token], at: usize, depth: u32) -> Result<Parsed<Expr>, ParseError>
+fn assignment(
+    alloc: Global,
+    tokens: &[Token],
+    at: usize,
+    depth: u32,
+) -> Result<Parsed<Expr>, ParseError>
     requires within { at ≤ length tokens.now }
     requires few { length tokens.now < 2 ^ 32 }
     requires shallow { depth ≤ 200 }
@@ -61,7 +75,12 @@ fn assignment(alloc: Global, tokens: &[Token], at: usize, depth: u32) -> Result<
 
 /// A conditional expression, which takes no assignment.
 #[cycle(expressions)]
-pub(crate) fn conditional(alloc: Global, tokens: &[Token], at: usize, depth: u32) -> Result<Parsed<Expr>, ParseError>
+pub(crate) fn conditional(
+    alloc: Global,
+    tokens: &[Token],
+    at: usize,
+    depth: u32,
+) -> Result<Parsed<Expr>, ParseError>
     requires within { at ≤ length tokens.now }
     requires few { length tokens.now < 2 ^ 32 }
     requires shallow { depth ≤ 200 }
@@ -87,7 +106,12 @@ pub(crate) fn conditional(alloc: Global, tokens: &[Token], at: usize, depth: u32
 }
 
 #[cycle(expressions)]
-fn nested_conditional(alloc: Global, tokens: &[Token], at: usize, depth: u32) -> Result<Parsed<Expr>, ParseError>
+fn nested_conditional(
+    alloc: Global,
+    tokens: &[Token],
+    at: usize,
+    depth: u32,
+) -> Result<Parsed<Expr>, ParseError>
     requires within { at ≤ length tokens.now }
     requires few { length tokens.now < 2 ^ 32 }
     requires shallow { depth ≤ 200 }
@@ -102,7 +126,13 @@ fn nested_conditional(alloc: Global, tokens: &[Token], at: usize, depth: u32) ->
 
 // The operands of one level.
 #[cycle(expressions)]
-fn level_chain(alloc: Global, tokens: &[Token], at: usize, depth: u32, level: Level) -> Result<Parsed<Expr>, ParseError>
+fn level_chain(
+    alloc: Global,
+    tokens: &[Token],
+    at: usize,
+    depth: u32,
+    level: Level,
+) -> Result<Parsed<Expr>, ParseError>
     requires within { at ≤ length tokens.now }
     requires few { length tokens.now < 2 ^ 32 }
     requires shallow { depth ≤ 200 }
@@ -131,7 +161,13 @@ fn chain_up(alloc: Global, span: Span, first: Expr, links: Vec<Link>) -> Result<
 }
 
 #[cycle(expressions)]
-fn operand(alloc: Global, tokens: &[Token], at: usize, depth: u32, level: Level) -> Result<Parsed<Expr>, ParseError>
+fn operand(
+    alloc: Global,
+    tokens: &[Token],
+    at: usize,
+    depth: u32,
+    level: Level,
+) -> Result<Parsed<Expr>, ParseError>
     requires within { at ≤ length tokens.now }
     requires few { length tokens.now < 2 ^ 32 }
     requires shallow { depth ≤ 200 }
@@ -145,7 +181,14 @@ fn operand(alloc: Global, tokens: &[Token], at: usize, depth: u32, level: Level)
 }
 
 #[cycle(expressions)]
-fn more_operands(alloc: Global, tokens: &[Token], at: usize, depth: u32, level: Level, mut links: Vec<Link>) -> Result<Parsed<Vec<Link>>, ParseError>
+fn more_operands(
+    alloc: Global,
+    tokens: &[Token],
+    at: usize,
+    depth: u32,
+    level: Level,
+    mut links: Vec<Link>,
+) -> Result<Parsed<Vec<Link>>, ParseError>
     requires within { at ≤ length tokens.now }
     requires few { length tokens.now < 2 ^ 32 }
     requires shallow { depth ≤ 200 }
@@ -186,14 +229,33 @@ fn unary(alloc: Global, tokens: &[Token], at: usize, depth: u32) -> Result<Parse
     match rule {
         93 => parenthesised(alloc, tokens, at, depth),
         94 => prefixed(alloc, tokens, at, depth),
-        95 => step(alloc, tokens, at, depth, TokenKind::PlusPlus, PrefixOp::Increment),
-        96 => step(alloc, tokens, at, depth, TokenKind::MinusMinus, PrefixOp::Decrement),
+        95 => step(
+            alloc,
+            tokens,
+            at,
+            depth,
+            TokenKind::PlusPlus,
+            PrefixOp::Increment,
+        ),
+        96 => step(
+            alloc,
+            tokens,
+            at,
+            depth,
+            TokenKind::MinusMinus,
+            PrefixOp::Decrement,
+        ),
         _ => with_postfixes(alloc, tokens, at, depth),
     }
 }
 
 #[cycle(expressions)]
-fn nested_unary(alloc: Global, tokens: &[Token], at: usize, depth: u32) -> Result<Parsed<Expr>, ParseError>
+fn nested_unary(
+    alloc: Global,
+    tokens: &[Token],
+    at: usize,
+    depth: u32,
+) -> Result<Parsed<Expr>, ParseError>
     requires within { at ≤ length tokens.now }
     requires few { length tokens.now < 2 ^ 32 }
     requires shallow { depth ≤ 200 }
@@ -208,7 +270,12 @@ fn nested_unary(alloc: Global, tokens: &[Token], at: usize, depth: u32) -> Resul
 
 // A cast, or an expression in parentheses with what stands behind it.
 #[cycle(expressions)]
-fn parenthesised(alloc: Global, tokens: &[Token], at: usize, depth: u32) -> Result<Parsed<Expr>, ParseError>
+fn parenthesised(
+    alloc: Global,
+    tokens: &[Token],
+    at: usize,
+    depth: u32,
+) -> Result<Parsed<Expr>, ParseError>
     requires within { at ≤ length tokens.now }
     requires few { length tokens.now < 2 ^ 32 }
     requires shallow { depth ≤ 200 }
@@ -242,7 +309,12 @@ fn parenthesised(alloc: Global, tokens: &[Token], at: usize, depth: u32) -> Resu
 }
 
 #[cycle(expressions)]
-fn prefixed(alloc: Global, tokens: &[Token], at: usize, depth: u32) -> Result<Parsed<Expr>, ParseError>
+fn prefixed(
+    alloc: Global,
+    tokens: &[Token],
+    at: usize,
+    depth: u32,
+) -> Result<Parsed<Expr>, ParseError>
     requires within { at ≤ length tokens.now }
     requires few { length tokens.now < 2 ^ 32 }
     requires shallow { depth ≤ 200 }
@@ -261,7 +333,14 @@ fn prefixed(alloc: Global, tokens: &[Token], at: usize, depth: u32) -> Result<Pa
 
 // `++` or `--` before its operand.
 #[cycle(expressions)]
-fn step(alloc: Global, tokens: &[Token], at: usize, depth: u32, kind: TokenKind, op: PrefixOp) -> Result<Parsed<Expr>, ParseError>
+fn step(
+    alloc: Global,
+    tokens: &[Token],
+    at: usize,
+    depth: u32,
+    kind: TokenKind,
+    op: PrefixOp,
+) -> Result<Parsed<Expr>, ParseError>
     requires within { at ≤ length tokens.now }
     requires few { length tokens.now < 2 ^ 32 }
     requires shallow { depth ≤ 200 }
@@ -280,7 +359,12 @@ fn step(alloc: Global, tokens: &[Token], at: usize, depth: u32, kind: TokenKind,
 }
 
 #[cycle(expressions)]
-fn with_postfixes(alloc: Global, tokens: &[Token], at: usize, depth: u32) -> Result<Parsed<Expr>, ParseError>
+fn with_postfixes(
+    alloc: Global,
+    tokens: &[Token],
+    at: usize,
+    depth: u32,
+) -> Result<Parsed<Expr>, ParseError>
     requires within { at ≤ length tokens.now }
     requires few { length tokens.now < 2 ^ 32 }
     requires shallow { depth ≤ 200 }
@@ -298,7 +382,12 @@ fn with_postfixes(alloc: Global, tokens: &[Token], at: usize, depth: u32) -> Res
     })
 }
 
-fn put_behind(alloc: Global, span: Span, operand: Expr, postfixes: Vec<Postfix>) -> Result<Expr, AllocError>
+fn put_behind(
+    alloc: Global,
+    span: Span,
+    operand: Expr,
+    postfixes: Vec<Postfix>,
+) -> Result<Expr, AllocError>
     ensures { IfOk result (λ e. view_expr e ≡ postfixed span (view_expr operand) (map view_postfix postfixes.items)) }
 {
     if postfixes.is_empty() {
@@ -308,7 +397,13 @@ fn put_behind(alloc: Global, span: Span, operand: Expr, postfixes: Vec<Postfix>)
 }
 
 #[cycle(expressions)]
-fn more_postfixes(alloc: Global, tokens: &[Token], at: usize, depth: u32, mut postfixes: Vec<Postfix>) -> Result<Parsed<Vec<Postfix>>, ParseError>
+fn more_postfixes(
+    alloc: Global,
+    tokens: &[Token],
+    at: usize,
+    depth: u32,
+    mut postfixes: Vec<Postfix>,
+) -> Result<Parsed<Vec<Postfix>>, ParseError>
     requires within { at ≤ length tokens.now }
     requires few { length tokens.now < 2 ^ 32 }
     requires shallow { depth ≤ 200 }
@@ -335,7 +430,12 @@ fn more_postfixes(alloc: Global, tokens: &[Token], at: usize, depth: u32, mut po
 
 // What stands behind an operand next, if anything does.
 #[cycle(expressions)]
-fn postfix(alloc: Global, tokens: &[Token], at: usize, depth: u32) -> Result<Option<Parsed<Postfix>>, ParseError>
+fn postfix(
+    alloc: Global,
+    tokens: &[Token],
+    at: usize,
+    depth: u32,
+) -> Result<Option<Parsed<Postfix>>, ParseError>
     requires within { at ≤ length tokens.now }
     requires few { length tokens.now < 2 ^ 32 }
     requires shallow { depth ≤ 200 }
@@ -355,7 +455,12 @@ fn postfix(alloc: Global, tokens: &[Token], at: usize, depth: u32) -> Result<Opt
 }
 
 #[cycle(expressions)]
-fn index(alloc: Global, tokens: &[Token], at: usize, depth: u32) -> Result<Option<Parsed<Postfix>>, ParseError>
+fn index(
+    alloc: Global,
+    tokens: &[Token],
+    at: usize,
+    depth: u32,
+) -> Result<Option<Parsed<Postfix>>, ParseError>
     requires within { at ≤ length tokens.now }
     requires few { length tokens.now < 2 ^ 32 }
     requires shallow { depth ≤ 200 }
@@ -373,7 +478,12 @@ fn index(alloc: Global, tokens: &[Token], at: usize, depth: u32) -> Result<Optio
 }
 
 #[cycle(expressions)]
-fn call(alloc: Global, tokens: &[Token], at: usize, depth: u32) -> Result<Option<Parsed<Postfix>>, ParseError>
+fn call(
+    alloc: Global,
+    tokens: &[Token],
+    at: usize,
+    depth: u32,
+) -> Result<Option<Parsed<Postfix>>, ParseError>
     requires within { at ≤ length tokens.now }
     requires few { length tokens.now < 2 ^ 32 }
     requires shallow { depth ≤ 200 }
@@ -390,7 +500,12 @@ fn call(alloc: Global, tokens: &[Token], at: usize, depth: u32) -> Result<Option
     }))
 }
 
-fn dot(alloc: Global, tokens: &[Token], at: usize, depth: u32) -> Result<Option<Parsed<Postfix>>, ParseError>
+fn dot(
+    alloc: Global,
+    tokens: &[Token],
+    at: usize,
+    depth: u32,
+) -> Result<Option<Parsed<Postfix>>, ParseError>
     requires within { at ≤ length tokens.now }
     requires few { length tokens.now < 2 ^ 32 }
     requires shallow { depth ≤ 200 }
@@ -406,7 +521,12 @@ fn dot(alloc: Global, tokens: &[Token], at: usize, depth: u32) -> Result<Option<
     }))
 }
 
-fn arrow(alloc: Global, tokens: &[Token], at: usize, depth: u32) -> Result<Option<Parsed<Postfix>>, ParseError>
+fn arrow(
+    alloc: Global,
+    tokens: &[Token],
+    at: usize,
+    depth: u32,
+) -> Result<Option<Parsed<Postfix>>, ParseError>
     requires within { at ≤ length tokens.now }
     requires few { length tokens.now < 2 ^ 32 }
     requires shallow { depth ≤ 200 }
@@ -453,7 +573,12 @@ fn decrement(tokens: &[Token], at: usize, depth: u32) -> Result<Option<Parsed<Po
 }
 
 #[cycle(expressions)]
-fn arguments(alloc: Global, tokens: &[Token], at: usize, depth: u32) -> Result<Parsed<Vec<Expr>>, ParseError>
+fn arguments(
+    alloc: Global,
+    tokens: &[Token],
+    at: usize,
+    depth: u32,
+) -> Result<Parsed<Vec<Expr>>, ParseError>
     requires within { at ≤ length tokens.now }
     requires few { length tokens.now < 2 ^ 32 }
     requires shallow { depth ≤ 200 }
@@ -474,7 +599,13 @@ fn arguments(alloc: Global, tokens: &[Token], at: usize, depth: u32) -> Result<P
 }
 
 #[cycle(expressions)]
-fn more_arguments(alloc: Global, tokens: &[Token], at: usize, depth: u32, mut values: Vec<Expr>) -> Result<Parsed<Vec<Expr>>, ParseError>
+fn more_arguments(
+    alloc: Global,
+    tokens: &[Token],
+    at: usize,
+    depth: u32,
+    mut values: Vec<Expr>,
+) -> Result<Parsed<Vec<Expr>>, ParseError>
     requires within { at ≤ length tokens.now }
     requires few { length tokens.now < 2 ^ 32 }
     requires shallow { depth ≤ 200 }

@@ -94,7 +94,11 @@ pub(crate) fn begin_level(tokens: &[Token], at: usize, level: Level) -> Result<(
 }
 
 /// The operator of the level that goes on there; none where the operands end.
-pub(crate) fn link_operator(tokens: &[Token], at: usize, level: Level) -> Result<Option<BinaryOp>, ParseError>
+pub(crate) fn link_operator(
+    tokens: &[Token],
+    at: usize,
+    level: Level,
+) -> Result<Option<BinaryOp>, ParseError>
     requires within { at ≤ length tokens.now }
     requires few { length tokens.now < 2 ^ 32 }
     ensures enters { IfOk result (λ op. EntersLink tokens.now level at op) }
@@ -158,7 +162,10 @@ pub(crate) fn kind_by(op: BinaryOp) -> TokenKind
 }
 
 /// The operator of an assignment; none for `=`.
-pub(crate) fn assignment_operator(tokens: &[Token], at: usize) -> Result<Parsed<Option<BinaryOp>>, ParseError>
+pub(crate) fn assignment_operator(
+    tokens: &[Token],
+    at: usize,
+) -> Result<Parsed<Option<BinaryOp>>, ParseError>
     requires within { at ≤ length tokens.now }
     requires few { length tokens.now < 2 ^ 32 }
     ensures parses { (depth : ℕ) → Parses [] of_assign_op tokens.now (gives Symbol.AssignOp ∷ []) at depth result }
@@ -169,18 +176,38 @@ pub(crate) fn assignment_operator(tokens: &[Token], at: usize) -> Result<Parsed<
         114 => assigning_by(tokens, at, TokenKind::Equal, None),
         115 => assigning_by(tokens, at, TokenKind::StarEqual, Some(BinaryOp::Multiply)),
         116 => assigning_by(tokens, at, TokenKind::SlashEqual, Some(BinaryOp::Divide)),
-        117 => assigning_by(tokens, at, TokenKind::PercentEqual, Some(BinaryOp::Remainder)),
+        117 => assigning_by(
+            tokens,
+            at,
+            TokenKind::PercentEqual,
+            Some(BinaryOp::Remainder),
+        ),
         118 => assigning_by(tokens, at, TokenKind::PlusEqual, Some(BinaryOp::Add)),
         119 => assigning_by(tokens, at, TokenKind::MinusEqual, Some(BinaryOp::Subtract)),
-        120 => assigning_by(tokens, at, TokenKind::ShiftLeftEqual, Some(BinaryOp::ShiftLeft)),
-        121 => assigning_by(tokens, at, TokenKind::ShiftRightEqual, Some(BinaryOp::ShiftRight)),
+        120 => assigning_by(
+            tokens,
+            at,
+            TokenKind::ShiftLeftEqual,
+            Some(BinaryOp::ShiftLeft),
+        ),
+        121 => assigning_by(
+            tokens,
+            at,
+            TokenKind::ShiftRightEqual,
+            Some(BinaryOp::ShiftRight),
+        ),
         122 => assigning_by(tokens, at, TokenKind::AmpEqual, Some(BinaryOp::BitAnd)),
         123 => assigning_by(tokens, at, TokenKind::CaretEqual, Some(BinaryOp::BitXor)),
         _ => assigning_by(tokens, at, TokenKind::PipeEqual, Some(BinaryOp::BitOr)),
     }
 }
 
-fn assigning_by(tokens: &[Token], at: usize, kind: TokenKind, op: Option<BinaryOp>) -> Result<Parsed<Option<BinaryOp>>, ParseError>
+fn assigning_by(
+    tokens: &[Token],
+    at: usize,
+    kind: TokenKind,
+    op: Option<BinaryOp>,
+) -> Result<Parsed<Option<BinaryOp>>, ParseError>
     requires within { at ≤ length tokens.now }
     requires few { length tokens.now < 2 ^ 32 }
     requires fixed { IsTrue (is_fixed kind) }
@@ -209,7 +236,12 @@ pub(crate) fn prefix_operator(tokens: &[Token], at: usize) -> Result<Parsed<Pref
     }
 }
 
-fn prefixing_by(tokens: &[Token], at: usize, kind: TokenKind, op: PrefixOp) -> Result<Parsed<PrefixOp>, ParseError>
+fn prefixing_by(
+    tokens: &[Token],
+    at: usize,
+    kind: TokenKind,
+    op: PrefixOp,
+) -> Result<Parsed<PrefixOp>, ParseError>
     requires within { at ≤ length tokens.now }
     requires few { length tokens.now < 2 ^ 32 }
     requires fixed { IsTrue (is_fixed kind) }

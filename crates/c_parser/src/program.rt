@@ -35,7 +35,13 @@ pub fn parse(alloc: Global, tokens: &[Token]) -> Result<Program, ParseError>
     Ok(Program { items: all.tree })
 }
 
-fn more_external(alloc: Global, tokens: &[Token], at: usize, depth: u32, mut items: Vec<Item>) -> Result<Parsed<Vec<Item>>, ParseError>
+fn more_external(
+    alloc: Global,
+    tokens: &[Token],
+    at: usize,
+    depth: u32,
+    mut items: Vec<Item>,
+) -> Result<Parsed<Vec<Item>>, ParseError>
     requires within { at ≤ length tokens.now }
     requires few { length tokens.now < 2 ^ 32 }
     requires shallow { depth ≤ 200 }
@@ -54,7 +60,12 @@ fn more_external(alloc: Global, tokens: &[Token], at: usize, depth: u32, mut ite
     }
 }
 
-fn external(alloc: Global, tokens: &[Token], at: usize, depth: u32) -> Result<Parsed<Item>, ParseError>
+fn external(
+    alloc: Global,
+    tokens: &[Token],
+    at: usize,
+    depth: u32,
+) -> Result<Parsed<Item>, ParseError>
     requires within { at ≤ length tokens.now }
     requires few { length tokens.now < 2 ^ 32 }
     requires shallow { depth ≤ 200 }
@@ -72,7 +83,12 @@ fn external(alloc: Global, tokens: &[Token], at: usize, depth: u32) -> Result<Pa
     })
 }
 
-fn external_rest(alloc: Global, tokens: &[Token], at: usize, depth: u32) -> Result<Parsed<Rest>, ParseError>
+fn external_rest(
+    alloc: Global,
+    tokens: &[Token],
+    at: usize,
+    depth: u32,
+) -> Result<Parsed<Rest>, ParseError>
     requires within { at ≤ length tokens.now }
     requires few { length tokens.now < 2 ^ 32 }
     requires shallow { depth ≤ 200 }
@@ -93,7 +109,13 @@ fn external_rest(alloc: Global, tokens: &[Token], at: usize, depth: u32) -> Resu
     Ok(tail)
 }
 
-fn external_tail(alloc: Global, tokens: &[Token], at: usize, depth: u32, first: Declarator) -> Result<Parsed<Rest>, ParseError>
+fn external_tail(
+    alloc: Global,
+    tokens: &[Token],
+    at: usize,
+    depth: u32,
+    first: Declarator,
+) -> Result<Parsed<Rest>, ParseError>
     requires within { at ≤ length tokens.now }
     requires few { length tokens.now < 2 ^ 32 }
     requires shallow { depth ≤ 200 }
@@ -112,10 +134,13 @@ fn external_tail(alloc: Global, tokens: &[Token], at: usize, depth: u32, first: 
         });
     }
     let init = initializer(alloc, tokens, at, depth)?;
-    let objects = one(alloc, InitDeclarator {
-        declarator: first,
-        init: init.tree,
-    })?;
+    let objects = one(
+        alloc,
+        InitDeclarator {
+            declarator: first,
+            init: init.tree,
+        },
+    )?;
     let all = more_objects(alloc, tokens, init.next, depth, objects)?;
     let next = expect(tokens, all.next, TokenKind::Semicolon)?;
     Ok(Parsed {
@@ -124,7 +149,12 @@ fn external_tail(alloc: Global, tokens: &[Token], at: usize, depth: u32, first: 
     })
 }
 
-fn function_end(alloc: Global, tokens: &[Token], at: usize, depth: u32) -> Result<Parsed<Option<Block>>, ParseError>
+fn function_end(
+    alloc: Global,
+    tokens: &[Token],
+    at: usize,
+    depth: u32,
+) -> Result<Parsed<Option<Block>>, ParseError>
     requires within { at ≤ length tokens.now }
     requires few { length tokens.now < 2 ^ 32 }
     requires shallow { depth ≤ 200 }
@@ -187,11 +217,11 @@ mod tests {
     fn a_missing_semicolon_is_a_fault(rt: HostRuntime) -> Result<(), Fail> {
         let mut tokens = Vec::new(rt.alloc());
         add(rt.alloc(), &mut tokens, &MAIN)?;
-        add(rt.alloc(), &mut tokens, &[
-            TokenKind::Return,
-            TokenKind::Number,
-            TokenKind::CloseBrace,
-        ])?;
+        add(
+            rt.alloc(),
+            &mut tokens,
+            &[TokenKind::Return, TokenKind::Number, TokenKind::CloseBrace],
+        )?;
         assert!(rt; tokens.len() <= 1_048_576);
         assert!(rt; matches!(parse(rt.alloc(), &tokens), Err(ParseError::FaultAt(8))));
         Ok(())
@@ -216,14 +246,18 @@ mod tests {
     fn a_switch_begins_with_a_label(rt: HostRuntime) -> Result<(), Fail> {
         let mut tokens = Vec::new(rt.alloc());
         add(rt.alloc(), &mut tokens, &MAIN)?;
-        add(rt.alloc(), &mut tokens, &[
-            TokenKind::Switch,
-            TokenKind::OpenParen,
-            TokenKind::Number,
-            TokenKind::CloseParen,
-            TokenKind::OpenBrace,
-            TokenKind::Break,
-        ])?;
+        add(
+            rt.alloc(),
+            &mut tokens,
+            &[
+                TokenKind::Switch,
+                TokenKind::OpenParen,
+                TokenKind::Number,
+                TokenKind::CloseParen,
+                TokenKind::OpenBrace,
+                TokenKind::Break,
+            ],
+        )?;
         assert!(rt; tokens.len() <= 1_048_576);
         assert!(rt; matches!(parse(rt.alloc(), &tokens), Err(ParseError::FaultAt(11))));
         Ok(())
@@ -234,19 +268,27 @@ mod tests {
         let mut tokens = Vec::new(rt.alloc());
         add(rt.alloc(), &mut tokens, &MAIN)?;
         for _ in 0..2 {
-            add(rt.alloc(), &mut tokens, &[
-                TokenKind::If,
-                TokenKind::OpenParen,
-                TokenKind::Number,
-                TokenKind::CloseParen,
-            ])?;
+            add(
+                rt.alloc(),
+                &mut tokens,
+                &[
+                    TokenKind::If,
+                    TokenKind::OpenParen,
+                    TokenKind::Number,
+                    TokenKind::CloseParen,
+                ],
+            )?;
         }
-        add(rt.alloc(), &mut tokens, &[
-            TokenKind::Semicolon,
-            TokenKind::Else,
-            TokenKind::Semicolon,
-            TokenKind::CloseBrace,
-        ])?;
+        add(
+            rt.alloc(),
+            &mut tokens,
+            &[
+                TokenKind::Semicolon,
+                TokenKind::Else,
+                TokenKind::Semicolon,
+                TokenKind::CloseBrace,
+            ],
+        )?;
         assert!(rt; tokens.len() <= 1_048_576);
         let program = parse(rt.alloc(), &tokens)?;
         let Some(Item::Function(main)) = program.items.first() else {

@@ -15,7 +15,12 @@ use pt_tree::{FieldDecl, Spec, SpecWord, Word};
 use std::alloc::Global;
 
 #[cycle(specifiers)]
-pub(crate) fn specifiers(alloc: Global, tokens: &[Token], at: usize, depth: u32) -> Result<Parsed<Vec<Spec>>, ParseError>
+pub(crate) fn specifiers(
+    alloc: Global,
+    tokens: &[Token],
+    at: usize,
+    depth: u32,
+) -> Result<Parsed<Vec<Spec>>, ParseError>
     requires within { at ≤ length tokens.now }
     requires few { length tokens.now < 2 ^ 32 }
     requires shallow { depth ≤ 200 }
@@ -30,7 +35,13 @@ pub(crate) fn specifiers(alloc: Global, tokens: &[Token], at: usize, depth: u32)
 }
 
 #[cycle(specifiers)]
-fn more_specifiers(alloc: Global, tokens: &[Token], at: usize, depth: u32, mut specs: Vec<Spec>) -> Result<Parsed<Vec<Spec>>, ParseError>
+fn more_specifiers(
+    alloc: Global,
+    tokens: &[Token],
+    at: usize,
+    depth: u32,
+    mut specs: Vec<Spec>,
+) -> Result<Parsed<Vec<Spec>>, ParseError>
     requires within { at ≤ length tokens.now }
     requires few { length tokens.now < 2 ^ 32 }
     requires shallow { depth ≤ 200 }
@@ -50,7 +61,12 @@ fn more_specifiers(alloc: Global, tokens: &[Token], at: usize, depth: u32, mut s
 }
 
 #[cycle(specifiers)]
-fn specifier(alloc: Global, tokens: &[Token], at: usize, depth: u32) -> Result<Parsed<Spec>, ParseError>
+fn specifier(
+    alloc: Global,
+    tokens: &[Token],
+    at: usize,
+    depth: u32,
+) -> Result<Parsed<Spec>, ParseError>
     requires within { at ≤ length tokens.now }
     requires few { length tokens.now < 2 ^ 32 }
     requires shallow { depth ≤ 200 }
@@ -74,7 +90,12 @@ fn specifier(alloc: Global, tokens: &[Token], at: usize, depth: u32) -> Result<P
     }
 }
 
-fn word(tokens: &[Token], at: usize, kind: TokenKind, word: SpecWord) -> Result<Parsed<Spec>, ParseError>
+fn word(
+    tokens: &[Token],
+    at: usize,
+    kind: TokenKind,
+    word: SpecWord,
+) -> Result<Parsed<Spec>, ParseError>
     requires within { at ≤ length tokens.now }
     requires few { length tokens.now < 2 ^ 32 }
     requires fixed { IsTrue (is_fixed kind) }
@@ -111,7 +132,12 @@ fn attribute(alloc: Global, tokens: &[Token], at: usize) -> Result<Parsed<Spec>,
     })
 }
 
-fn more_names(alloc: Global, tokens: &[Token], at: usize, mut names: Vec<Word>) -> Result<Parsed<Vec<Word>>, ParseError>
+fn more_names(
+    alloc: Global,
+    tokens: &[Token],
+    at: usize,
+    mut names: Vec<Word>,
+) -> Result<Parsed<Vec<Word>>, ParseError>
     requires within { at ≤ length tokens.now }
     requires few { length tokens.now < 2 ^ 32 }
     ensures parses { (depth : ℕ) → Parses (of_names names) of_names tokens.now (gives Symbol.MoreNames ∷ []) at depth result }
@@ -131,7 +157,12 @@ fn more_names(alloc: Global, tokens: &[Token], at: usize, mut names: Vec<Word>) 
 }
 
 #[cycle(specifiers)]
-fn structure(alloc: Global, tokens: &[Token], at: usize, depth: u32) -> Result<Parsed<Spec>, ParseError>
+fn structure(
+    alloc: Global,
+    tokens: &[Token],
+    at: usize,
+    depth: u32,
+) -> Result<Parsed<Spec>, ParseError>
     requires within { at ≤ length tokens.now }
     requires few { length tokens.now < 2 ^ 32 }
     requires shallow { depth ≤ 200 }
@@ -150,7 +181,12 @@ fn structure(alloc: Global, tokens: &[Token], at: usize, depth: u32) -> Result<P
 }
 
 #[cycle(specifiers)]
-fn struct_body(alloc: Global, tokens: &[Token], at: usize, depth: u32) -> Result<Parsed<Vec<FieldDecl>>, ParseError>
+fn struct_body(
+    alloc: Global,
+    tokens: &[Token],
+    at: usize,
+    depth: u32,
+) -> Result<Parsed<Vec<FieldDecl>>, ParseError>
     requires within { at ≤ length tokens.now }
     requires few { length tokens.now < 2 ^ 32 }
     requires shallow { depth ≤ 200 }
@@ -176,7 +212,13 @@ fn struct_body(alloc: Global, tokens: &[Token], at: usize, depth: u32) -> Result
 }
 
 #[cycle(specifiers)]
-fn more_fields(alloc: Global, tokens: &[Token], at: usize, depth: u32, mut fields: Vec<FieldDecl>) -> Result<Parsed<Vec<FieldDecl>>, ParseError>
+fn more_fields(
+    alloc: Global,
+    tokens: &[Token],
+    at: usize,
+    depth: u32,
+    mut fields: Vec<FieldDecl>,
+) -> Result<Parsed<Vec<FieldDecl>>, ParseError>
     requires within { at ≤ length tokens.now }
     requires few { length tokens.now < 2 ^ 32 }
     requires shallow { depth ≤ 200 }
@@ -196,7 +238,12 @@ fn more_fields(alloc: Global, tokens: &[Token], at: usize, depth: u32, mut field
 }
 
 #[cycle(specifiers)]
-fn field(alloc: Global, tokens: &[Token], at: usize, depth: u32) -> Result<Parsed<FieldDecl>, ParseError>
+fn field(
+    alloc: Global,
+    tokens: &[Token],
+    at: usize,
+    depth: u32,
+) -> Result<Parsed<FieldDecl>, ParseError>
     requires within { at ≤ length tokens.now }
     requires few { length tokens.now < 2 ^ 32 }
     requires shallow { depth ≤ 200 }
@@ -210,7 +257,12 @@ fn field(alloc: Global, tokens: &[Token], at: usize, depth: u32) -> Result<Parse
 }
 
 #[cycle(specifiers)]
-fn field_declaration(alloc: Global, tokens: &[Token], at: usize, depth: u32) -> Result<Parsed<FieldDecl>, ParseError>
+fn field_declaration(
+    alloc: Global,
+    tokens: &[Token],
+    at: usize,
+    depth: u32,
+) -> Result<Parsed<FieldDecl>, ParseError>
     requires within { at ≤ length tokens.now }
     requires few { length tokens.now < 2 ^ 32 }
     requires shallow { depth ≤ 200 }

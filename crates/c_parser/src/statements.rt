@@ -18,7 +18,12 @@ use pt_tree::{Block, Expr, ForInit, Label, Section, Stmt};
 use std::alloc::{AllocError, Global};
 
 #[cycle(statements)]
-fn statement(alloc: Global, tokens: &[Token], at: usize, depth: u32) -> Result<Parsed<Stmt>, ParseError>
+fn statement(
+    alloc: Global,
+    tokens: &[Token],
+    at: usize,
+    depth: u32,
+) -> Result<Parsed<Stmt>, ParseError>
     requires within { at ≤ length tokens.now }
     requires few { length tokens.now < 2 ^ 32 }
     requires shallow { depth ≤ 200 }
@@ -32,7 +37,12 @@ fn statement(alloc: Global, tokens: &[Token], at: usize, depth: u32) -> Result<P
 }
 
 #[cycle(statements)]
-fn any_statement(alloc: Global, tokens: &[Token], at: usize, depth: u32) -> Result<Parsed<Stmt>, ParseError>
+fn any_statement(
+    alloc: Global,
+    tokens: &[Token],
+    at: usize,
+    depth: u32,
+) -> Result<Parsed<Stmt>, ParseError>
     requires within { at ≤ length tokens.now }
     requires few { length tokens.now < 2 ^ 32 }
     requires shallow { depth ≤ 200 }
@@ -57,7 +67,12 @@ fn any_statement(alloc: Global, tokens: &[Token], at: usize, depth: u32) -> Resu
 
 /// A block.
 #[cycle(statements)]
-pub(crate) fn block(alloc: Global, tokens: &[Token], at: usize, depth: u32) -> Result<Parsed<Block>, ParseError>
+pub(crate) fn block(
+    alloc: Global,
+    tokens: &[Token],
+    at: usize,
+    depth: u32,
+) -> Result<Parsed<Block>, ParseError>
     requires within { at ≤ length tokens.now }
     requires few { length tokens.now < 2 ^ 32 }
     requires shallow { depth ≤ 200 }
@@ -80,7 +95,13 @@ pub(crate) fn block(alloc: Global, tokens: &[Token], at: usize, depth: u32) -> R
 }
 
 #[cycle(statements)]
-fn more_items(alloc: Global, tokens: &[Token], at: usize, depth: u32, mut items: Vec<Stmt>) -> Result<Parsed<Vec<Stmt>>, ParseError>
+fn more_items(
+    alloc: Global,
+    tokens: &[Token],
+    at: usize,
+    depth: u32,
+    mut items: Vec<Stmt>,
+) -> Result<Parsed<Vec<Stmt>>, ParseError>
     requires within { at ≤ length tokens.now }
     requires few { length tokens.now < 2 ^ 32 }
     requires shallow { depth ≤ 200 }
@@ -120,7 +141,12 @@ fn item(alloc: Global, tokens: &[Token], at: usize, depth: u32) -> Result<Parsed
 }
 
 #[cycle(statements)]
-fn block_statement(alloc: Global, tokens: &[Token], at: usize, depth: u32) -> Result<Parsed<Stmt>, ParseError>
+fn block_statement(
+    alloc: Global,
+    tokens: &[Token],
+    at: usize,
+    depth: u32,
+) -> Result<Parsed<Stmt>, ParseError>
     requires within { at ≤ length tokens.now }
     requires few { length tokens.now < 2 ^ 32 }
     requires shallow { depth ≤ 200 }
@@ -148,7 +174,12 @@ fn empty_statement(tokens: &[Token], at: usize) -> Result<Parsed<Stmt>, ParseErr
     })
 }
 
-fn expression_statement(alloc: Global, tokens: &[Token], at: usize, depth: u32) -> Result<Parsed<Stmt>, ParseError>
+fn expression_statement(
+    alloc: Global,
+    tokens: &[Token],
+    at: usize,
+    depth: u32,
+) -> Result<Parsed<Stmt>, ParseError>
     requires within { at ≤ length tokens.now }
     requires few { length tokens.now < 2 ^ 32 }
     requires shallow { depth ≤ 200 }
@@ -165,7 +196,12 @@ fn expression_statement(alloc: Global, tokens: &[Token], at: usize, depth: u32) 
 }
 
 #[cycle(statements)]
-fn if_statement(alloc: Global, tokens: &[Token], at: usize, depth: u32) -> Result<Parsed<Stmt>, ParseError>
+fn if_statement(
+    alloc: Global,
+    tokens: &[Token],
+    at: usize,
+    depth: u32,
+) -> Result<Parsed<Stmt>, ParseError>
     requires within { at ≤ length tokens.now }
     requires few { length tokens.now < 2 ^ 32 }
     requires shallow { depth ≤ 200 }
@@ -186,7 +222,13 @@ fn if_statement(alloc: Global, tokens: &[Token], at: usize, depth: u32) -> Resul
     })
 }
 
-fn chosen(alloc: Global, span: Span, test: Expr, yes: Stmt, no: Option<Stmt>) -> Result<Stmt, AllocError>
+fn chosen(
+    alloc: Global,
+    span: Span,
+    test: Expr,
+    yes: Stmt,
+    no: Option<Stmt>,
+) -> Result<Stmt, AllocError>
     ensures { IfOk result (λ s. view_stmt s ≡ choose span (view_expr test) (view_stmt yes) (else_tree no)) }
 {
     match no {
@@ -196,7 +238,12 @@ fn chosen(alloc: Global, span: Span, test: Expr, yes: Stmt, no: Option<Stmt>) ->
 }
 
 #[cycle(statements)]
-fn else_part(alloc: Global, tokens: &[Token], at: usize, depth: u32) -> Result<Parsed<Option<Stmt>>, ParseError>
+fn else_part(
+    alloc: Global,
+    tokens: &[Token],
+    at: usize,
+    depth: u32,
+) -> Result<Parsed<Option<Stmt>>, ParseError>
     requires within { at ≤ length tokens.now }
     requires few { length tokens.now < 2 ^ 32 }
     requires shallow { depth ≤ 200 }
@@ -219,7 +266,12 @@ fn else_part(alloc: Global, tokens: &[Token], at: usize, depth: u32) -> Result<P
 }
 
 #[cycle(statements)]
-fn while_statement(alloc: Global, tokens: &[Token], at: usize, depth: u32) -> Result<Parsed<Stmt>, ParseError>
+fn while_statement(
+    alloc: Global,
+    tokens: &[Token],
+    at: usize,
+    depth: u32,
+) -> Result<Parsed<Stmt>, ParseError>
     requires within { at ≤ length tokens.now }
     requires few { length tokens.now < 2 ^ 32 }
     requires shallow { depth ≤ 200 }
@@ -240,7 +292,12 @@ fn while_statement(alloc: Global, tokens: &[Token], at: usize, depth: u32) -> Re
 }
 
 #[cycle(statements)]
-fn do_statement(alloc: Global, tokens: &[Token], at: usize, depth: u32) -> Result<Parsed<Stmt>, ParseError>
+fn do_statement(
+    alloc: Global,
+    tokens: &[Token],
+    at: usize,
+    depth: u32,
+) -> Result<Parsed<Stmt>, ParseError>
     requires within { at ≤ length tokens.now }
     requires few { length tokens.now < 2 ^ 32 }
     requires shallow { depth ≤ 200 }
@@ -260,7 +317,12 @@ fn do_statement(alloc: Global, tokens: &[Token], at: usize, depth: u32) -> Resul
 }
 
 #[cycle(statements)]
-fn for_statement(alloc: Global, tokens: &[Token], at: usize, depth: u32) -> Result<Parsed<Stmt>, ParseError>
+fn for_statement(
+    alloc: Global,
+    tokens: &[Token],
+    at: usize,
+    depth: u32,
+) -> Result<Parsed<Stmt>, ParseError>
     requires within { at ≤ length tokens.now }
     requires few { length tokens.now < 2 ^ 32 }
     requires shallow { depth ≤ 200 }
@@ -283,7 +345,12 @@ fn for_statement(alloc: Global, tokens: &[Token], at: usize, depth: u32) -> Resu
     })
 }
 
-fn for_init(alloc: Global, tokens: &[Token], at: usize, depth: u32) -> Result<Parsed<ForInit>, ParseError>
+fn for_init(
+    alloc: Global,
+    tokens: &[Token],
+    at: usize,
+    depth: u32,
+) -> Result<Parsed<ForInit>, ParseError>
     requires within { at ≤ length tokens.now }
     requires few { length tokens.now < 2 ^ 32 }
     requires shallow { depth ≤ 200 }
@@ -298,7 +365,12 @@ fn for_init(alloc: Global, tokens: &[Token], at: usize, depth: u32) -> Result<Pa
     }
 }
 
-fn for_declaration(alloc: Global, tokens: &[Token], at: usize, depth: u32) -> Result<Parsed<ForInit>, ParseError>
+fn for_declaration(
+    alloc: Global,
+    tokens: &[Token],
+    at: usize,
+    depth: u32,
+) -> Result<Parsed<ForInit>, ParseError>
     requires within { at ≤ length tokens.now }
     requires few { length tokens.now < 2 ^ 32 }
     requires shallow { depth ≤ 200 }
@@ -325,7 +397,12 @@ fn for_nothing(tokens: &[Token], at: usize) -> Result<Parsed<ForInit>, ParseErro
     })
 }
 
-fn for_expression(alloc: Global, tokens: &[Token], at: usize, depth: u32) -> Result<Parsed<ForInit>, ParseError>
+fn for_expression(
+    alloc: Global,
+    tokens: &[Token],
+    at: usize,
+    depth: u32,
+) -> Result<Parsed<ForInit>, ParseError>
     requires within { at ≤ length tokens.now }
     requires few { length tokens.now < 2 ^ 32 }
     requires shallow { depth ≤ 200 }
@@ -340,7 +417,12 @@ fn for_expression(alloc: Global, tokens: &[Token], at: usize, depth: u32) -> Res
     })
 }
 
-fn optional_expression(alloc: Global, tokens: &[Token], at: usize, depth: u32) -> Result<Parsed<Option<Expr>>, ParseError>
+fn optional_expression(
+    alloc: Global,
+    tokens: &[Token],
+    at: usize,
+    depth: u32,
+) -> Result<Parsed<Option<Expr>>, ParseError>
     requires within { at ≤ length tokens.now }
     requires few { length tokens.now < 2 ^ 32 }
     requires shallow { depth ≤ 200 }
@@ -361,7 +443,12 @@ fn optional_expression(alloc: Global, tokens: &[Token], at: usize, depth: u32) -
     })
 }
 
-fn for_step(alloc: Global, tokens: &[Token], at: usize, depth: u32) -> Result<Parsed<Option<Expr>>, ParseError>
+fn for_step(
+    alloc: Global,
+    tokens: &[Token],
+    at: usize,
+    depth: u32,
+) -> Result<Parsed<Option<Expr>>, ParseError>
     requires within { at ≤ length tokens.now }
     requires few { length tokens.now < 2 ^ 32 }
     requires shallow { depth ≤ 200 }
@@ -382,7 +469,12 @@ fn for_step(alloc: Global, tokens: &[Token], at: usize, depth: u32) -> Result<Pa
     })
 }
 
-fn return_statement(alloc: Global, tokens: &[Token], at: usize, depth: u32) -> Result<Parsed<Stmt>, ParseError>
+fn return_statement(
+    alloc: Global,
+    tokens: &[Token],
+    at: usize,
+    depth: u32,
+) -> Result<Parsed<Stmt>, ParseError>
     requires within { at ≤ length tokens.now }
     requires few { length tokens.now < 2 ^ 32 }
     requires shallow { depth ≤ 200 }
@@ -430,7 +522,12 @@ fn continue_statement(tokens: &[Token], at: usize) -> Result<Parsed<Stmt>, Parse
 }
 
 #[cycle(statements)]
-fn switch_statement(alloc: Global, tokens: &[Token], at: usize, depth: u32) -> Result<Parsed<Stmt>, ParseError>
+fn switch_statement(
+    alloc: Global,
+    tokens: &[Token],
+    at: usize,
+    depth: u32,
+) -> Result<Parsed<Stmt>, ParseError>
     requires within { at ≤ length tokens.now }
     requires few { length tokens.now < 2 ^ 32 }
     requires shallow { depth ≤ 200 }
@@ -453,7 +550,13 @@ fn switch_statement(alloc: Global, tokens: &[Token], at: usize, depth: u32) -> R
 }
 
 #[cycle(statements)]
-fn more_sections(alloc: Global, tokens: &[Token], at: usize, depth: u32, mut sections: Vec<Section>) -> Result<Parsed<Vec<Section>>, ParseError>
+fn more_sections(
+    alloc: Global,
+    tokens: &[Token],
+    at: usize,
+    depth: u32,
+    mut sections: Vec<Section>,
+) -> Result<Parsed<Vec<Section>>, ParseError>
     requires within { at ≤ length tokens.now }
     requires few { length tokens.now < 2 ^ 32 }
     requires shallow { depth ≤ 200 }
@@ -476,7 +579,12 @@ fn more_sections(alloc: Global, tokens: &[Token], at: usize, depth: u32, mut sec
 }
 
 #[cycle(statements)]
-fn section(alloc: Global, tokens: &[Token], at: usize, depth: u32) -> Result<Parsed<Section>, ParseError>
+fn section(
+    alloc: Global,
+    tokens: &[Token],
+    at: usize,
+    depth: u32,
+) -> Result<Parsed<Section>, ParseError>
     requires within { at ≤ length tokens.now }
     requires few { length tokens.now < 2 ^ 32 }
     requires shallow { depth ≤ 200 }
@@ -498,7 +606,12 @@ fn section(alloc: Global, tokens: &[Token], at: usize, depth: u32) -> Result<Par
     })
 }
 
-fn label(alloc: Global, tokens: &[Token], at: usize, depth: u32) -> Result<Parsed<Label>, ParseError>
+fn label(
+    alloc: Global,
+    tokens: &[Token],
+    at: usize,
+    depth: u32,
+) -> Result<Parsed<Label>, ParseError>
     requires within { at ≤ length tokens.now }
     requires few { length tokens.now < 2 ^ 32 }
     requires shallow { depth ≤ 200 }
@@ -526,7 +639,13 @@ fn label(alloc: Global, tokens: &[Token], at: usize, depth: u32) -> Result<Parse
 }
 
 #[cycle(statements)]
-fn section_items(alloc: Global, tokens: &[Token], at: usize, depth: u32, mut items: Vec<Stmt>) -> Result<Parsed<Vec<Stmt>>, ParseError>
+fn section_items(
+    alloc: Global,
+    tokens: &[Token],
+    at: usize,
+    depth: u32,
+    mut items: Vec<Stmt>,
+) -> Result<Parsed<Vec<Stmt>>, ParseError>
     requires within { at ≤ length tokens.now }
     requires few { length tokens.now < 2 ^ 32 }
     requires shallow { depth ≤ 200 }

@@ -23,4 +23,3 @@ returns-in_err-rest-clause-parses c = let is : c.from_residual-in_err-rest.resul
 
 pub returns-clause-parses : goal.returns-clause-parses
 returns-clause-parses c = record { from = λ rest parts o k. c.in_ok-begin.ensures.from _ _ _ _ (c.in_ok-specs.ensures.parses.from _ _ _ (c.in_ok-rest.ensures.parses.from _ _ _ (built _ _ _ _ _ _ _ _ _ (search rules) (k)))) }
-

@@ -38,4 +38,3 @@ returns-in_err-next-clause-parses c = let is : c.from_residual-in_err-next.resul
 
 pub returns-clause-parses : goal.returns-clause-parses
 returns-clause-parses c = record { from = λ rest parts o k. (c.in_ok-ends.ensures.goes.second c.if-ends.false).from _ _ _ _ ((c.in_ok-first.ensures.parses c.args.depth).from _ _ _ (c.in_ok-init.ensures.parses.from _ _ _ (built _ _ _ _ _ _ _ _ _ (same_top (λ xs. q.init_declarators (map view_init_declarator xs)) _ _ _ (sym c.in_ok-objects.ensures)) (c.in_ok-all.ensures.parses.from _ _ _ ((c.in_ok-next.ensures.expects c.args.depth).from _ _ _ (k)))))) }
-

@@ -35,4 +35,3 @@ returns-in_err-init-clause-parses c = let is : c.from_residual-in_err-init.resul
 
 pub loop-objects-preserved : goal.loop-objects-preserved
 loop-objects-preserved c = record { repeats = record { from = λ rest parts o k. c.loop-objects.invariant.repeats.from _ _ _ ((c.in_ok-more.ensures.goes.first c.if-not-more.false).from _ _ _ _ ((c.in_ok-after.ensures.expects c.args.depth).from _ _ _ ((c.in_ok-one.ensures.parses c.args.depth).from _ _ _ (c.in_ok-init.ensures.parses.from _ _ _ (built _ _ _ _ _ _ _ _ _ (pushed q.init_declarators view_init_declarator _ _ _ _ c.in_ok-push.ensures.items) (k)))))) }; after = omega (arith, c.loop-objects.invariant.after, c.loop-objects.invariant.within, c.in_ok-after.ensures.goes_on.0, c.in_ok-after.ensures.goes_on.1, c.in_ok-one.ensures.goes_on.0, c.in_ok-one.ensures.goes_on.1, c.in_ok-init.ensures.goes_on.0, c.in_ok-init.ensures.goes_on.1); within = omega (arith, c.loop-objects.invariant.after, c.loop-objects.invariant.within, c.in_ok-after.ensures.goes_on.0, c.in_ok-after.ensures.goes_on.1, c.in_ok-one.ensures.goes_on.0, c.in_ok-one.ensures.goes_on.1, c.in_ok-init.ensures.goes_on.0, c.in_ok-init.ensures.goes_on.1) }
-

@@ -14,4 +14,3 @@ invariant-loop-objects l = record {
 
 abbrev pub decreases-loop-objects : goal.decreases-loop-objects
 decreases-loop-objects l = length l.tokens - l.next
-

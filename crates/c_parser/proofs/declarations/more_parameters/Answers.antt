@@ -32,4 +32,3 @@ returns-in_err-one-clause-parses c = let is : c.from_residual-in_err-one.result 
 
 pub loop-params-preserved : goal.loop-params-preserved
 loop-params-preserved c = record { repeats = record { from = λ rest parts o k. c.loop-params.invariant.repeats.from _ _ _ ((c.in_ok-more.ensures.goes.first c.if-not-more.false).from _ _ _ _ ((c.in_ok-after.ensures.expects c.args.depth).from _ _ _ (c.in_ok-one.ensures.parses.from _ _ _ (built _ _ _ _ _ _ _ _ _ (pushed q.params view_param _ _ _ _ c.in_ok-push.ensures.items) (k))))) }; after = omega (arith, c.loop-params.invariant.after, c.loop-params.invariant.within, c.in_ok-after.ensures.goes_on.0, c.in_ok-after.ensures.goes_on.1, c.in_ok-one.ensures.goes_on.0, c.in_ok-one.ensures.goes_on.1); within = omega (arith, c.loop-params.invariant.after, c.loop-params.invariant.within, c.in_ok-after.ensures.goes_on.0, c.in_ok-after.ensures.goes_on.1, c.in_ok-one.ensures.goes_on.0, c.in_ok-one.ensures.goes_on.1) }
-

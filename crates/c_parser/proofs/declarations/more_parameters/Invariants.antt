@@ -14,4 +14,3 @@ invariant-loop-params l = record {
 
 abbrev pub decreases-loop-params : goal.decreases-loop-params
 decreases-loop-params l = length l.tokens - l.next
-

@@ -38,4 +38,3 @@ returns-in_err-one-clause-parses c = let is : c.from_residual-in_err-one.result 
 
 pub loop-values-preserved : goal.loop-values-preserved
 loop-values-preserved c = record { repeats = record { from = λ rest parts o k. c.loop-values.invariant.repeats.from _ _ _ ((c.in_ok-more.ensures.goes.first c.if-not-more.false).from _ _ _ _ ((c.in_ok-after.ensures.expects c.args.depth).from _ _ _ ((c.in_ok-again.ensures.goes.first c.if-not-again.false).from _ _ _ _ (c.in_ok-one.ensures.parses.from _ _ _ (built _ _ _ _ _ _ _ _ _ (pushed q.exprs view_expr _ _ _ _ c.in_ok-push.ensures.items) (k)))))) }; after = omega (arith, c.loop-values.invariant.after, c.loop-values.invariant.within, c.in_ok-after.ensures.goes_on.0, c.in_ok-after.ensures.goes_on.1, c.in_ok-one.ensures.goes_on.0, c.in_ok-one.ensures.goes_on.1); within = omega (arith, c.loop-values.invariant.after, c.loop-values.invariant.within, c.in_ok-after.ensures.goes_on.0, c.in_ok-after.ensures.goes_on.1, c.in_ok-one.ensures.goes_on.0, c.in_ok-one.ensures.goes_on.1) }
-

@@ -14,4 +14,3 @@ invariant-loop-values l = record {
 
 abbrev pub decreases-loop-values : goal.decreases-loop-values
 decreases-loop-values l = length l.tokens - l.next
-

@@ -29,4 +29,3 @@ returns-in_err-suffix-clause-parses c = let is : c.from_residual-in_err-suffix.r
 
 pub returns-clause-parses : goal.returns-clause-parses
 returns-clause-parses c = record { from = λ rest parts o k. c.in_ok-begin.ensures.from _ _ _ _ (c.in_ok-specs.ensures.parses.from _ _ _ ((c.in_ok-pointer.ensures.parses c.args.depth).from _ _ _ ((c.in_ok-name.ensures.parses c.args.depth).from _ _ _ ((c.in_ok-suffix.ensures.parses c.args.depth).from _ _ _ (built _ _ _ _ _ _ _ _ _ (search rules) (k)))))) }
-

@@ -29,4 +29,3 @@ returns-then-stands-clause-parses c = record { from = λ rest parts o k. (c.in_o
 
 pub returns-clause-parses : goal.returns-clause-parses
 returns-clause-parses c = record { from = λ rest parts o k. (c.in_ok-stands.ensures.goes.second c.if-stands.false).from _ _ _ _ (built _ _ _ _ _ _ _ _ _ (search rules) (k)) }
-

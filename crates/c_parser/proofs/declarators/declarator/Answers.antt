@@ -22,4 +22,3 @@ returns-in_err-suffix-clause-parses c = λ depth. let is : c.from_residual-in_er
 
 pub returns-clause-parses : goal.returns-clause-parses
 returns-clause-parses c = λ depth. record { from = λ rest parts o k. c.in_ok-begin.ensures.from _ _ _ _ ((c.in_ok-star.ensures.parses depth).from _ _ _ ((c.in_ok-name.ensures.word depth).from _ _ _ ((c.in_ok-suffix.ensures.parses depth).from _ _ _ (built _ _ _ _ _ _ _ _ _ (search rules) (k))))) }
-

@@ -28,4 +28,3 @@ returns-in_err-one-clause-parses c = λ depth. let is : c.from_residual-in_err-o
 
 pub loop-declarators-preserved : goal.loop-declarators-preserved
 loop-declarators-preserved c = record { repeats = λ depth. record { from = λ rest parts o k. (c.loop-declarators.invariant.repeats depth).from _ _ _ ((c.in_ok-more.ensures.goes.first c.if-not-more.false).from _ _ _ _ ((c.in_ok-after.ensures.expects depth).from _ _ _ ((c.in_ok-one.ensures.parses depth).from _ _ _ (built _ _ _ _ _ _ _ _ _ (same_top q.declarators _ _ _ (sym c.in_ok-push.ensures.items)) (k))))) }; after = omega (arith, c.loop-declarators.invariant.after, c.loop-declarators.invariant.within, c.in_ok-after.ensures.goes_on.0, c.in_ok-after.ensures.goes_on.1, c.in_ok-one.ensures.goes_on.0, c.in_ok-one.ensures.goes_on.1); within = omega (arith, c.loop-declarators.invariant.after, c.loop-declarators.invariant.within, c.in_ok-after.ensures.goes_on.0, c.in_ok-after.ensures.goes_on.1, c.in_ok-one.ensures.goes_on.0, c.in_ok-one.ensures.goes_on.1) }
-

@@ -14,4 +14,3 @@ invariant-loop-declarators l = record {
 
 abbrev pub decreases-loop-declarators : goal.decreases-loop-declarators
 decreases-loop-declarators l = length l.tokens - l.next
-

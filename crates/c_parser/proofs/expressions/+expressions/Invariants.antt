@@ -92,4 +92,3 @@ invariant-more_arguments-loop-values l = record {
 
 abbrev pub decreases-more_arguments-loop-values : goal.decreases-more_arguments-loop-values
 decreases-more_arguments-loop-values l = length l.tokens - l.next
-

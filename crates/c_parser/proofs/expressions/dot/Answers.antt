@@ -24,4 +24,3 @@ returns-in_err-name-clause-parses c = let is : c.from_residual-in_err-name.resul
 
 pub returns-clause-parses : goal.returns-clause-parses
 returns-clause-parses c = record { from = λ ps rest parts o k. (c.in_ok-after.ensures.expects c.args.depth).from _ _ _ ((c.in_ok-name.ensures.word c.args.depth).from _ _ _ (built _ _ _ _ _ _ _ _ _ (search rules) (k))) }
-

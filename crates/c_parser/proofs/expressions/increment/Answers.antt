@@ -21,4 +21,3 @@ returns-in_err-next-clause-parses c = let is : c.from_residual.result ≡ Err c.
 
 pub returns-clause-parses : goal.returns-clause-parses
 returns-clause-parses c = record { from = λ ps rest parts o k. (c.in_ok-next.ensures.expects c.args.depth).from _ _ _ (built _ _ _ _ _ _ _ _ _ (search rules) (k)) }
-

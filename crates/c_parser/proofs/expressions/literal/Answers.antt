@@ -21,4 +21,3 @@ returns-in_err-value-clause-parses c = λ depth. let is : c.from_residual.result
 
 pub returns-clause-parses : goal.returns-clause-parses
 returns-clause-parses c = λ depth. record { from = λ rest parts o k. (c.in_ok-value.ensures.number depth).from _ _ _ (built _ _ _ _ _ _ _ _ _ (search rules) (k)) }
-

@@ -24,4 +24,3 @@ returns-in-112-clause-parses c = λ depth. by_rule [] of_expr c.args.tokens.now 
 
 pub returns-in_default-clause-parses : goal.returns-in_default-clause-parses
 returns-in_default-clause-parses c = λ depth. by_rule [] of_expr c.args.tokens.now s.Primary c.args.at depth 113 _ (subst (Enters c.args.tokens.now s.Primary c.args.at) (last_Primary c.in_ok-rule.rule (search rules) (search rules) c.in_ok-rule.ensures.among) c.in_ok-rule.ensures.enters) (c.literal-in_default.ensures.parses depth)
-

@@ -48,4 +48,3 @@ returns-in-123-clause-parses c = λ depth. by_rule [] of_assign_op c.args.tokens
 
 pub returns-in_default-clause-parses : goal.returns-in_default-clause-parses
 returns-in_default-clause-parses c = λ depth. by_rule [] of_assign_op c.args.tokens.now s.AssignOp c.args.at depth 124 _ (subst (Enters c.args.tokens.now s.AssignOp c.args.at) (last_AssignOp c.in_ok-rule.rule (search rules) (search rules) (search rules) (search rules) (search rules) (search rules) (search rules) (search rules) (search rules) (search rules) c.in_ok-rule.ensures.among) c.in_ok-rule.ensures.enters) (c.assigning_by-in_default.ensures.parses depth)
-

@@ -33,4 +33,3 @@ returns-in-129-clause-parses c = λ depth. by_rule [] of_prefix_op c.args.tokens
 
 pub returns-in_default-clause-parses : goal.returns-in_default-clause-parses
 returns-in_default-clause-parses c = λ depth. by_rule [] of_prefix_op c.args.tokens.now s.UnaryOp c.args.at depth 130 _ (subst (Enters c.args.tokens.now s.UnaryOp c.args.at) (last_UnaryOp c.in_ok-rule.rule (search rules) (search rules) (search rules) (search rules) (search rules) c.in_ok-rule.ensures.among) c.in_ok-rule.ensures.enters) (c.prefixing_by-in_default.ensures.parses depth)
-

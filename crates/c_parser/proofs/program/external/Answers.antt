@@ -27,4 +27,3 @@ returns-in_err-rest-clause-parses c = let is : c.from_residual-in_err-rest.resul
 
 pub returns-clause-parses : goal.returns-clause-parses
 returns-clause-parses c = record { from = λ rest parts o k. c.in_ok-begin.ensures.from _ _ _ _ (c.in_ok-specs.ensures.parses.from _ _ _ (c.in_ok-rest.ensures.parses.from _ _ _ (built _ _ _ _ _ _ _ _ _ (an_item_of c.in_ok-rest.rest.tree _ (map view_spec c.in_ok-specs.specs.tree.items) parts ∙ ap (λ i. q.item i ∷ parts) (sym (c.into_item-tree.ensures ∙ ap (λ z. item_of c.in_ok-rest.rest.tree z (spec_trees (map view_spec c.in_ok-specs.specs.tree.items))) c.span_of-span.ensures))) k))) }
-

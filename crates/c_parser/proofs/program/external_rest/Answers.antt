@@ -36,4 +36,3 @@ returns-in_err-tail-clause-parses c = let is : c.from_residual-in_err-tail.resul
 
 pub returns-clause-parses : goal.returns-clause-parses
 returns-clause-parses c = record { from = λ rest parts o k. (c.in_ok-ends.ensures.goes.second c.if-ends.false).from _ _ _ _ ((c.in_ok-first.ensures.parses c.args.depth).from _ _ _ (c.in_ok-tail.ensures.parses.from _ _ _ (k))) }
-

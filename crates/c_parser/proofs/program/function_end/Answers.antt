@@ -33,4 +33,3 @@ returns-in_err-body-clause-parses c = let is : c.from_residual-in_err-body.resul
 
 pub returns-clause-parses : goal.returns-clause-parses
 returns-clause-parses c = record { from = λ rest parts o k. (c.in_ok-ends.ensures.goes.second c.if-ends.false).from _ _ _ _ (c.in_ok-body.ensures.parses.from _ _ _ (built _ _ _ _ _ _ _ _ _ (search rules) (k))) }
-

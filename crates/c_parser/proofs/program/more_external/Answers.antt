@@ -33,4 +33,3 @@ returns-in_err-one-clause-parses c = let is : c.from_residual-in_err-one.result 
 
 pub loop-items-preserved : goal.loop-items-preserved
 loop-items-preserved c = record { repeats = record { from = λ rest parts o k. c.loop-items.invariant.repeats.from _ _ _ ((c.in_ok-more.ensures.goes.first c.if-not-more.false).from _ _ _ _ (c.in_ok-one.ensures.parses.from _ _ _ (built _ _ _ _ _ _ _ _ _ (pushed q.items view_item _ _ _ _ c.in_ok-push.ensures.items) (k)))) }; after = omega (arith, c.loop-items.invariant.after, c.loop-items.invariant.within, c.in_ok-one.ensures.goes_on.0, c.in_ok-one.ensures.goes_on.1); within = omega (arith, c.loop-items.invariant.after, c.loop-items.invariant.within, c.in_ok-one.ensures.goes_on.0, c.in_ok-one.ensures.goes_on.1) }
-

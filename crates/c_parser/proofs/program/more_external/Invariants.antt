@@ -18,4 +18,3 @@ invariant-loop-items l = record {
 
 abbrev pub decreases-loop-items : goal.decreases-loop-items
 decreases-loop-items l = length l.tokens - l.next
-

@@ -133,4 +133,3 @@ field_declaration-returns-in_err-next-clause-parses t c = let is : c.from_residu
 
 pub field_declaration-returns-clause-parses : goal.field_declaration-returns-clause-parses
 field_declaration-returns-clause-parses t c = record { from = λ rest parts o k. c.in_ok-begin.ensures.from _ _ _ _ (c.in_ok-specs.ensures.parses.from _ _ _ ((c.in_ok-first.ensures.parses c.args.depth).from _ _ _ (built _ _ _ _ _ _ _ _ _ (same_top q.declarators _ _ _ (sym c.in_ok-declarators.ensures)) ((c.in_ok-all.ensures.parses c.args.depth).from _ _ _ ((c.in_ok-next.ensures.expects c.args.depth).from _ _ _ (built _ _ _ _ _ _ _ _ _ (search rules) (k))))))) }
-

@@ -48,4 +48,3 @@ decreases-field l = 8 * (200 - l.depth)
 
 abbrev pub decreases-field_declaration : goal.decreases-field_declaration
 decreases-field_declaration l = 8 * (200 - l.depth) + 7
-

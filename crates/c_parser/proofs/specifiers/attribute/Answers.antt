@@ -34,4 +34,3 @@ returns-in_err-next-clause-parses c = λ depth. let is : c.from_residual-in_err-
 
 pub returns-clause-parses : goal.returns-clause-parses
 returns-clause-parses c = λ depth. record { from = λ rest parts o k. c.in_ok-begin.ensures.from _ _ _ _ ((c.in_ok-after.ensures.expects depth).from _ _ _ ((c.in_ok-outer.ensures.expects depth).from _ _ _ ((c.in_ok-inner.ensures.expects depth).from _ _ _ ((c.in_ok-first.ensures.word depth).from _ _ _ (built _ _ _ _ _ _ _ _ _ (same_top q.names _ _ _ (sym c.in_ok-names.ensures)) ((c.in_ok-all.ensures.parses depth).from _ _ _ ((c.in_ok-closed.ensures.expects depth).from _ _ _ ((c.in_ok-next.ensures.expects depth).from _ _ _ (built _ _ _ _ _ _ _ _ _ (search rules) (k)))))))))) }
-

@@ -28,4 +28,3 @@ returns-in_err-name-clause-parses c = λ depth. let is : c.from_residual-in_err-
 
 pub loop-names-preserved : goal.loop-names-preserved
 loop-names-preserved c = record { repeats = λ depth. record { from = λ rest parts o k. (c.loop-names.invariant.repeats depth).from _ _ _ ((c.in_ok-more.ensures.goes.first c.if-not-more.false).from _ _ _ _ ((c.in_ok-after.ensures.expects depth).from _ _ _ ((c.in_ok-name.ensures.word depth).from _ _ _ (built _ _ _ _ _ _ _ _ _ (same_top q.names _ _ _ (sym c.in_ok-push.ensures.items)) (k))))) }; after = omega (arith, c.loop-names.invariant.after, c.loop-names.invariant.within, c.in_ok-after.ensures.goes_on.0, c.in_ok-after.ensures.goes_on.1, c.in_ok-name.ensures.goes_on); within = omega (arith, c.loop-names.invariant.after, c.loop-names.invariant.within, c.in_ok-after.ensures.goes_on.0, c.in_ok-after.ensures.goes_on.1, c.in_ok-name.ensures.goes_on) }
-

@@ -14,4 +14,3 @@ invariant-loop-names l = record {
 
 abbrev pub decreases-loop-names : goal.decreases-loop-names
 decreases-loop-names l = length l.tokens - l.next
-

@@ -266,4 +266,3 @@ section_items-returns-in_err-one-clause-parses t c = let is : c.from_residual-in
 
 pub section_items-loop-items-preserved : goal.section_items-loop-items-preserved
 section_items-loop-items-preserved t c = record { repeats = record { from = λ rest parts o k. c.loop-items.invariant.repeats.from _ _ _ ((c.in_ok-more.ensures.goes.first c.if-not-more.false).from _ _ _ _ (c.in_ok-one.ensures.parses.from _ _ _ (built _ _ _ _ _ _ _ _ _ (pushed q.stmts view_stmt _ _ _ _ c.in_ok-push.ensures.items) (k)))) }; after = omega (arith, c.loop-items.invariant.after, c.loop-items.invariant.within, c.in_ok-one.ensures.goes_on.0, c.in_ok-one.ensures.goes_on.1); within = omega (arith, c.loop-items.invariant.after, c.loop-items.invariant.within, c.in_ok-one.ensures.goes_on.0, c.in_ok-one.ensures.goes_on.1) }
-

@@ -79,4 +79,3 @@ invariant-section_items-loop-items l = record {
 
 abbrev pub decreases-section_items-loop-items : goal.decreases-section_items-loop-items
 decreases-section_items-loop-items l = length l.tokens - l.next
-

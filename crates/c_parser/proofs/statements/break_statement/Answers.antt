@@ -23,4 +23,3 @@ returns-in_err-next-clause-parses c = λ depth. let is : c.from_residual-in_err-
 
 pub returns-clause-parses : goal.returns-clause-parses
 returns-clause-parses c = λ depth. record { from = λ rest parts o k. (c.in_ok-word.ensures.expects depth).from _ _ _ ((c.in_ok-next.ensures.expects depth).from _ _ _ (built _ _ _ _ _ _ _ _ _ (search rules) (k))) }
-

@@ -23,4 +23,3 @@ returns-in_err-next-clause-parses c = let is : c.from_residual-in_err-next.resul
 
 pub returns-clause-parses : goal.returns-clause-parses
 returns-clause-parses c = record { from = λ rest parts o k. c.in_ok-value.ensures.parses.from _ _ _ ((c.in_ok-next.ensures.expects c.args.depth).from _ _ _ (built _ _ _ _ _ _ _ _ _ (search rules) (k))) }
-

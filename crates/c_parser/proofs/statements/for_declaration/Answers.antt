@@ -20,4 +20,3 @@ returns-in_err-declared-clause-parses c = let is : c.from_residual.result ≡ Er
 
 pub returns-clause-parses : goal.returns-clause-parses
 returns-clause-parses c = record { from = λ rest parts o k. c.in_ok-declared.ensures.parses.from _ _ _ (built _ _ _ _ _ _ _ _ _ (search rules) (k)) }
-

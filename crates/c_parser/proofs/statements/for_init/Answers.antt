@@ -23,4 +23,3 @@ returns-in-81-clause-parses c = by_rule [] of_for_init c.args.tokens.now s.ForIn
 
 pub returns-in_default-clause-parses : goal.returns-in_default-clause-parses
 returns-in_default-clause-parses c = by_rule [] of_for_init c.args.tokens.now s.ForInit c.args.at c.args.depth 82 _ (subst (Enters c.args.tokens.now s.ForInit c.args.at) (last_ForInit c.in_ok-rule.rule (search rules) (search rules) c.in_ok-rule.ensures.among) c.in_ok-rule.ensures.enters) c.for_expression.ensures.parses
-

@@ -38,4 +38,3 @@ returns-in_err-end-clause-parses c = let is : c.from_residual-in_err-end.result 
 
 pub returns-clause-parses : goal.returns-clause-parses
 returns-clause-parses c = record { from = λ rest parts o k. (c.in_ok-compares.ensures.goes.second c.if-compares.false).from _ _ _ _ ((c.in_ok-other.ensures.expects c.args.depth).from _ _ _ ((c.in_ok-end.ensures.expects c.args.depth).from _ _ _ (built _ _ _ _ _ _ _ _ _ (search rules) (k)))) }
-
