@@ -5,6 +5,7 @@ mod declarations;
 mod declarators;
 mod error;
 mod expressions;
+mod laws;
 mod operators;
 mod parsed;
 mod program;
@@ -14,5 +15,6 @@ mod statements;
 mod text;
 
 pub use error::ParseError;
+pub use laws::the_limit_is_nesting;
 pub use program::parse;
 pub use text::DEEPEST;
