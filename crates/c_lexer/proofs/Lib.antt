@@ -1,0 +1,14 @@
+pub mod Classes
+pub mod CommentLemmas
+pub mod Firsts
+pub mod Fits
+pub mod Marks
+pub mod NumberLemmas
+pub mod Quotes
+pub mod Runs
+pub mod Sound
+pub mod SpellingLemmas
+pub mod Steps
+pub mod Unique
+pub mod ValueLemmas
+pub mod Walks

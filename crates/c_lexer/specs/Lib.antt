@@ -1,0 +1,10 @@
+pub mod Bytes
+pub mod Characters
+pub mod Comments
+pub mod Faults
+pub mod Lexemes
+pub mod Lexes
+pub mod Next
+pub mod Numbers
+pub mod Spelling
+pub mod Values

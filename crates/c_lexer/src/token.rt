@@ -191,7 +191,9 @@ impl TokenKind {
 pub enum TokenValue {
     /// The bytes of an identifier.
     Name(Bytes),
-    /// The value and type of a number or a character constant.
+    /// The value and type of a number or a character constant. A number's type is the first of its
+    /// list that represents the value (C99 6.4.4.1). A character's type is `int`, and its value
+    /// that of a signed `char`, from -128 to 127.
     Constant { value: i128, ty: IntType },
     /// Nothing: a keyword or a punctuator.
     Fixed,
