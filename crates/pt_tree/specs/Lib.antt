@@ -1,1 +1,6 @@
+pub mod ExpressionTree
+pub mod Facts
 pub mod HostStep
+pub mod ProgramTree
+pub mod SpecifierTree
+pub mod StatementTree

@@ -1,0 +1,35 @@
+use Rattle.std.proofs.Common.{◌≡◌, ◌≢◌, ◌+◌, ◌-◌, ◌*◌, ◌<◌, ◌≤◌, ◌++◌, ℕ, List, [], ◌∷◌, Ok, Err, Some, None, rules, arith, refl, sym, ap, ◌∙◌, length, map, subst, option_map, true, false, get_or}
+use Rattle.c_grammar.specs.declared.symbol.Symbol.TheVariants as s
+use Rattle.c_grammar.specs.Part as q
+use Rattle.pt_tree.specs.SpecifierTree.{view_spec, view_field}
+use Rattle.pt_tree.specs.ExpressionTree.{view_expr, view_link, view_postfix}
+use Rattle.pt_tree.specs.StatementTree.{view_init_declarator, view_stmt, view_section}
+use Rattle.pt_tree.specs.ProgramTree.{view_param, view_item}
+use Rattle.std.proofs.Common.{IfSome}
+use Rattle.pt_tree.specs.ExpressionTree.{link}
+use Rattle.c_grammar.specs.Machine.{takes, gives, opens, builds, wanted}
+use Rattle.c_parser.specs.Parses.{Comes, Turns, Fails, Parses, Enters, IsOneOf}
+use Rattle.c_parser.proofs.LastRules.{last_Spec, last_Statement, last_Unary, last_Postfixes, last_Primary, last_ForInit, last_AssignOp, last_UnaryOp}
+use Rattle.c_parser.proofs.LevelRules.{one_rule, level_rule, link_rule}
+use Rattle.c_parser.proofs.Steps.{built, builds_on, same_top, pushed, by_rule, adds_by_rule, ends_by_rule, opened, entered}
+use Rattle.c_parser.specs.Parts.{of_item, of_items, of_declarator, of_body}
+use Rattle.c_parser.specs.Rests.{of_rest}
+use Rattle.pt_tree.specs.SpecifierTree.{spec_trees}
+use Rattle.c_parser.specs.Rests.{item_of}
+use Rattle.c_parser.proofs.Answering.{an_item_of}
+use Rattle.c_parser.proofs.program.more_external.Goals as goal
+
+pub loop-items-init : goal.loop-items-init
+loop-items-init c = record { repeats = record { from = λ rest parts o k. k }; after = omega arith; within = omega arith }
+
+pub returns-in_err-more-clause-parses : goal.returns-in_err-more-clause-parses
+returns-in_err-more-clause-parses c = let is : c.from_residual.result ≡ Err c.in_err-more.field-0.0 = search rules in rw is (record { from = λ o e rest parts. c.loop-items.invariant.repeats.from _ _ _ ((c.in_err-more.ensures.fails c.args.depth).from o e _ _) })
+
+pub returns-then-not-more-clause-parses : goal.returns-then-not-more-clause-parses
+returns-then-not-more-clause-parses c = record { from = λ rest parts o k. c.loop-items.invariant.repeats.from _ _ _ ((c.in_ok-more.ensures.goes.second c.if-not-more.true).from _ _ _ _ (k)) }
+
+pub returns-in_err-one-clause-parses : goal.returns-in_err-one-clause-parses
+returns-in_err-one-clause-parses c = let is : c.from_residual-in_err-one.result ≡ Err c.in_err-one.field-0.0 = search rules in rw is (record { from = λ o e rest parts. c.loop-items.invariant.repeats.from _ _ _ ((c.in_ok-more.ensures.goes.first c.if-not-more.false).from _ _ _ _ (c.in_err-one.ensures.parses.from o e _ _)) })
+
+pub loop-items-preserved : goal.loop-items-preserved
+loop-items-preserved c = record { repeats = record { from = λ rest parts o k. c.loop-items.invariant.repeats.from _ _ _ ((c.in_ok-more.ensures.goes.first c.if-not-more.false).from _ _ _ _ (c.in_ok-one.ensures.parses.from _ _ _ (built _ _ _ _ _ _ _ _ _ (pushed q.items view_item _ _ _ _ c.in_ok-push.ensures.items) (k)))) }; after = omega (arith, c.loop-items.invariant.after, c.loop-items.invariant.within, c.in_ok-one.ensures.goes_on.0, c.in_ok-one.ensures.goes_on.1); within = omega (arith, c.loop-items.invariant.after, c.loop-items.invariant.within, c.in_ok-one.ensures.goes_on.0, c.in_ok-one.ensures.goes_on.1) }

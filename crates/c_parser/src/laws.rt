@@ -1,0 +1,9 @@
+// What holds of the derivation.
+ghost use Rattle.c_parser.specs.Nesting.{LimitIsNesting};
+
+/// Within a limit on how many counted symbols are open, the derivation gives what it gives without
+/// one, where the nesting never goes over the limit; and else the first place at which it does.
+pub fn the_limit_is_nesting()
+    ensures { LimitIsNesting }
+{
+}

@@ -1,0 +1,20 @@
+//! The parser: from tokens to the tree of a program.
+#![tactic(auto)]
+
+mod declarations;
+mod declarators;
+mod error;
+mod expressions;
+mod laws;
+mod operators;
+mod parsed;
+mod program;
+mod rest;
+mod specifiers;
+mod statements;
+mod text;
+
+pub use error::ParseError;
+pub use laws::the_limit_is_nesting;
+pub use program::parse;
+pub use text::DEEPEST;
