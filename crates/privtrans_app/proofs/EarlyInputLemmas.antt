@@ -33,7 +33,7 @@ built_by t turns p models state allowed early = record {
   allowed = allowed;
   early = early;
   is = pair_keeps p models state allowed turns early.good.keeps.names early.good.keeps.taint (models_are_steady p.hosts t.host models early.given.hosts)
-    (policy_allows t.policy p.hosts state allowed early.given.policy) early.good.keeps.enough;
+      (policy_allows t.policy p.hosts state allowed early.given.policy) early.good.keeps.enough;
 }
 
 -- of a text that is early, no other tree keeps the conditions
@@ -59,6 +59,7 @@ built_once t turns a b m n x y =
   where
     some_models : (ms ns : List HostModel) → Some ms ≡ Some ns → ms ≡ ns
     some_models ms ns e = cc
+
     expects : {c : List ℕ} {k : ℕ} → (z : IsBuilt t turns c k) → c ≡ (pair_run z.program z.models).out
     expects {c} {k} z = ap (λ (x : Expected). x.bytes) (sym z.is ∙ (built_by t turns z.program z.models z.state z.allowed z.early).is)
 
@@ -86,18 +87,18 @@ cut_is_whole : (whole cut : Texts) (turns : ℕ) (p : Program) (models : List Ho
     → IsEarly cut turns p models state allowed → cut ≡ whole
 cut_is_whole whole cut turns p models state allowed is early =
     same_texts whole cut
-      (is.program ∙ within_cut whole.program (subst (λ xs. length xs ≤ most) is.program early.sized.program))
-      (is.host ∙ within_cut whole.host (subst (λ xs. length xs ≤ most) is.host early.sized.host))
-      (is.policy ∙ within_cut whole.policy (subst (λ xs. length xs ≤ most) is.policy early.sized.policy))
-      (is.input ∙ empty_cut whole.input (sym is.input ∙ early.sized.input))
+    (is.program ∙ within_cut whole.program (subst (λ xs. length xs ≤ most) is.program early.sized.program))
+    (is.host ∙ within_cut whole.host (subst (λ xs. length xs ≤ most) is.host early.sized.host))
+    (is.policy ∙ within_cut whole.policy (subst (λ xs. length xs ≤ most) is.policy early.sized.policy))
+    (is.input ∙ empty_cut whole.input (sym is.input ∙ early.sized.input))
 
 whole_is_cut : (whole cut : Texts) (turns : ℕ) (p : Program) (models : List HostModel) (state : List ℕ) (allowed : List (List ℕ)) → CutOf whole cut
     → IsEarly whole turns p models state allowed → whole ≡ cut
 whole_is_cut whole cut turns p models state allowed is early =
     sym (same_texts whole cut
-      (is.program ∙ whole_cut whole.program early.sized.program) (is.host ∙ whole_cut whole.host early.sized.host)
-      (is.policy ∙ whole_cut whole.policy early.sized.policy)
-      (is.input ∙ whole_cut whole.input (let none : length whole.input ≡ 0 = ap length early.sized.input in omega arith)))
+    (is.program ∙ whole_cut whole.program early.sized.program) (is.host ∙ whole_cut whole.host early.sized.host)
+    (is.policy ∙ whole_cut whole.policy early.sized.policy)
+    (is.input ∙ whole_cut whole.input (let none : length whole.input ≡ 0 = ap length early.sized.input in omega arith)))
 
 -- what is built of cut texts is built of the whole ones
 pub built_whole : (whole cut : Texts) (turns : ℕ) (bytes : List ℕ) (status : ℕ) → CutOf whole cut → IsBuilt cut turns bytes status → IsBuilt whole turns bytes status
@@ -127,6 +128,7 @@ models_count hosts text ms e = go (reading_of text) e
     in_object : (b : Bool) (table : Data) → (if b then each (host_model table) hosts else None) ≡ Some ms → length ms ≡ length hosts
     in_object true table is = each_count (host_model table) hosts ms is
     in_object false table is = cc
+
     go : (o : Option Data) → option_and_then (models_of hosts) o ≡ Some ms → length ms ≡ length hosts
     go None is = cc
     go (Some table) is = in_object (is_some (as_object table)) table is

@@ -32,9 +32,9 @@ none_in-cons : (h : List ℕ) (hs vs : List (List ℕ)) → none_in (h ∷ hs) v
 none_in-cons h hs [] = refl
 none_in-cons h hs (v ∷ vs) =
     ap (λ b. not (bytes_eq v h || is_in hs v) && b) (none_in-cons h hs vs)
-      ∙ split (bytes_eq v h) (is_in hs v) (is_in vs h) (none_in hs vs)
-      ∙ ap (λ b. (b && not (is_in vs h)) && (not (is_in hs v) && none_in hs vs)) (ap not (bytes_eq_comm v h))
-      ∙ join (bytes_eq h v) (is_in vs h) (not (is_in hs v) && none_in hs vs)
+    ∙ split (bytes_eq v h) (is_in hs v) (is_in vs h) (none_in hs vs)
+    ∙ ap (λ b. (b && not (is_in vs h)) && (not (is_in hs v) && none_in hs vs)) (ap not (bytes_eq_comm v h))
+    ∙ join (bytes_eq h v) (is_in vs h) (not (is_in hs v) && none_in hs vs)
   where
     join : (a b c : Bool) → ((not a && not b) && c) ≡ (not (a || b) && c)
     join true b c = refl
@@ -44,9 +44,9 @@ none_in-push : (s : List (List ℕ)) (x : List ℕ) (xs : List (List ℕ)) → n
 none_in-push s x [] = refl
 none_in-push s x (y ∷ ys) =
     ap (λ b. not b && none_in (s ++ x ∷ []) ys) (is_in-append s (x ∷ []) y)
-      ∙ ap (λ b. not (is_in s y || (bytes_eq y x || false)) && b) (none_in-push s x ys)
-      ∙ ap (λ b. not (is_in s y || (b || false)) && (none_in s ys && not (is_in ys x))) (bytes_eq_comm y x)
-      ∙ join (is_in s y) (bytes_eq x y) (none_in s ys) (is_in ys x)
+    ∙ ap (λ b. not (is_in s y || (bytes_eq y x || false)) && b) (none_in-push s x ys)
+    ∙ ap (λ b. not (is_in s y || (b || false)) && (none_in s ys && not (is_in ys x))) (bytes_eq_comm y x)
+    ∙ join (is_in s y) (bytes_eq x y) (none_in s ys) (is_in ys x)
   where
     join : (a b c d : Bool) → (not (a || (b || false)) && (c && not d)) ≡ ((not a && c) && not (b || d))
     join true b c d = refl
@@ -63,8 +63,8 @@ fresh_is : (others seen xs : List (List ℕ)) → fresh others seen xs ≡ ((non
 fresh_is others seen [] = refl
 fresh_is others seen (x ∷ xs) =
     ap (λ b. (not (is_in others x) && not (is_in seen x)) && b) (fresh_is others (seen ++ x ∷ []) xs)
-      ∙ ap (λ b. (not (is_in others x) && not (is_in seen x)) && ((none_in others xs && b) && all_differ xs)) (none_in-push seen x xs)
-      ∙ shuffle (is_in others x) (is_in seen x) (none_in others xs) (none_in seen xs) (is_in xs x) (all_differ xs)
+    ∙ ap (λ b. (not (is_in others x) && not (is_in seen x)) && ((none_in others xs && b) && all_differ xs)) (none_in-push seen x xs)
+    ∙ shuffle (is_in others x) (is_in seen x) (none_in others xs) (none_in seen xs) (is_in xs x) (all_differ xs)
   where
     shuffle : (a b c d e f : Bool) → ((not a && not b) && ((c && (d && not e)) && f)) ≡ (((not a && c) && (not b && d)) && (not e && f))
     shuffle true b c d e f = refl
@@ -82,9 +82,9 @@ differ-append [] vs = go (all_differ vs) (none_in-nothing vs)
     go false e = refl
 differ-append (h ∷ hs) vs =
     ap (λ b. not b && all_differ (hs ++ vs)) (is_in-append hs vs h)
-      ∙ ap (λ b. not (is_in hs h || is_in vs h) && b) (differ-append hs vs)
-      ∙ shuffle (is_in hs h) (is_in vs h) (all_differ hs) (all_differ vs) (none_in hs vs)
-      ∙ ap (λ b. ((not (is_in hs h) && all_differ hs) && all_differ vs) && b) (sym (none_in-cons h hs vs))
+    ∙ ap (λ b. not (is_in hs h || is_in vs h) && b) (differ-append hs vs)
+    ∙ shuffle (is_in hs h) (is_in vs h) (all_differ hs) (all_differ vs) (none_in hs vs)
+    ∙ ap (λ b. ((not (is_in hs h) && all_differ hs) && all_differ vs) && b) (sym (none_in-cons h hs vs))
   where
     shuffle : (a b c d e : Bool) → (not (a || b) && ((c && d) && e)) ≡ (((not a && c) && d) && (not b && e))
     shuffle true b c d e = refl
@@ -97,9 +97,9 @@ differ-append (h ∷ hs) vs =
 pub fresh_all : (hs vs : List (List ℕ)) → all_differ (hs ++ vs) ≡ (fresh [] [] hs && fresh hs [] vs)
 fresh_all hs vs =
     differ-append hs vs
-      ∙ sym (ap (λ b. b && fresh hs [] vs) (fresh_is [] [] hs ∙ ap (λ b. (b && b) && all_differ hs) (none_in-nothing hs))
-        ∙ ap (λ b. all_differ hs && b) (fresh_is hs [] vs ∙ ap (λ b. (none_in hs vs && b) && all_differ vs) (none_in-nothing vs))
-        ∙ shuffle (all_differ hs) (none_in hs vs) (all_differ vs))
+    ∙ sym (ap (λ b. b && fresh hs [] vs) (fresh_is [] [] hs ∙ ap (λ b. (b && b) && all_differ hs) (none_in-nothing hs))
+    ∙ ap (λ b. all_differ hs && b) (fresh_is hs [] vs ∙ ap (λ b. (none_in hs vs && b) && all_differ vs) (none_in-nothing vs))
+    ∙ shuffle (all_differ hs) (none_in hs vs) (all_differ vs))
   where
     shuffle : (a b c : Bool) → (a && ((b && true) && c)) ≡ ((a && c) && b)
     shuffle true true true = refl

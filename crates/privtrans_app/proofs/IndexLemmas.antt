@@ -34,7 +34,7 @@ within_is (k ∷ keys) name = go (bytes_eq name k.items) (within_is keys name)
 pub position_found : (keys : List (Vec ℕ Global)) (name : List ℕ) → position (λ k. bytes_eq name k.items) keys ≡ found_in (listed keys) name
 position_found keys name =
     ap (λ n. if nat_lt n (length keys) then Some n else None) (place_is keys name)
-      ∙ ap (λ b. if b then Some (place_in (listed keys) name) else None) (within_is keys name)
+    ∙ ap (λ b. if b then Some (place_in (listed keys) name) else None) (within_is keys name)
 
 any_in : (eq : Vec ℕ Global → Vec ℕ Global → Bool) → ((a b : Vec ℕ Global) → eq a b ≡ bytes_eq a.items b.items) → (keys : List (Vec ℕ Global)) (k : Vec ℕ Global)
     → list_any (eq k) keys ≡ is_in (listed keys) k.items
@@ -54,8 +54,8 @@ pub listed-insert : (eq : Vec ℕ Global → Vec ℕ Global → Bool) → ((a b 
     → k.items ≡ name → found_in (listed keys) name ≡ None → after ≡ insert_key eq keys k → listed after ≡ listed keys ++ name ∷ []
 listed-insert eq same keys after k name is none e =
     ap listed e
-      ∙ ap (λ b. listed (if b then keys else keys ++ k ∷ [])) (any_in eq same keys k ∙ ap (is_in (listed keys)) is ∙ not_found (is_in (listed keys) name) (place_in (listed keys) name) none)
-      ∙ listed-push keys k ∙ ap (λ n. listed keys ++ n ∷ []) is
+    ∙ ap (λ b. listed (if b then keys else keys ++ k ∷ [])) (any_in eq same keys k ∙ ap (is_in (listed keys)) is ∙ not_found (is_in (listed keys) name) (place_in (listed keys) name) none)
+    ∙ listed-push keys k ∙ ap (λ n. listed keys ++ n ∷ []) is
 
 absent_place : (names : List (List ℕ)) (name : List ℕ) → is_in names name ≡ false → length names ≡ place_in names name
 absent_place [] name none = refl

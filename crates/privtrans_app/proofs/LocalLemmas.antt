@@ -71,11 +71,11 @@ pub refusal_comes : (given : List (List ℕ)) (words : LocalWords) (files : Opti
     → Gives given words → IsRefusal words files reads reads' e → ComesTo given files reads reads' o o writes writes e
 refusal_comes given words files reads reads' writes o e form refusal =
     of_four {P = ComesTo given files reads reads' o o writes writes e}
-      (λ is. read_refusal_comes given files reads reads' writes o words.program.now e (named_in given words form words.program.now (inl refl)) is)
-      (λ is. read_refusal_comes given files reads reads' writes o words.host.now e (named_in given words form words.host.now (inr (inl refl))) is)
-      (λ is. read_refusal_comes given files reads reads' writes o words.policy.now e (named_in given words form words.policy.now (inr (inr (inl refl)))) is)
-      (λ is. read_refusal_comes given files reads reads' writes o words.input.now e (named_in given words form words.input.now (inr (inr (inr refl)))) is)
-      refusal
+    (λ is. read_refusal_comes given files reads reads' writes o words.program.now e (named_in given words form words.program.now (inl refl)) is)
+    (λ is. read_refusal_comes given files reads reads' writes o words.host.now e (named_in given words form words.host.now (inr (inl refl))) is)
+    (λ is. read_refusal_comes given files reads reads' writes o words.policy.now e (named_in given words form words.policy.now (inr (inr (inl refl)))) is)
+    (λ is. read_refusal_comes given files reads reads' writes o words.input.now e (named_in given words form words.input.now (inr (inr (inr refl)))) is)
+    refusal
 
 -- ---- texts that were read
 
@@ -149,5 +149,5 @@ part_written given words (Some files) cut bytes status o o' form first built par
     let w = whole_of given words files cut form first in
     let same = same_held given files w.texts t words.turns words.window turns window w.held held in
     let here : IsBuilt t turns bytes status =
-      subst (λ m. IsBuilt t m bytes status) same.1 (subst (λ x. IsBuilt x words.turns bytes status) same.0 (built_whole w.texts cut words.turns bytes status w.cuts built)) in
+    subst (λ m. IsBuilt t m bytes status) same.1 (subst (λ x. IsBuilt x words.turns bytes status) same.0 (built_whole w.texts cut words.turns bytes status w.cuts built)) in
     subst (AppendsPart o o') (built_once t turns bytes more status status' here built') part

@@ -188,7 +188,7 @@ args_values names T hosts models pair st calls agrees [] good = refl
 args_values names T hosts models pair st calls agrees (a ∷ rest) good =
     let goods : (arg_is_good names a ≡ true) × (args_are_good names rest ≡ true) = both (arg_is_good names a) (args_are_good names rest) good in
     ap (λ r. r >>= λ v st1. values_of (args_tree names rest) calls 1 st1 >>= λ vs. gives (v ∷ vs)) (arg_value names T hosts models pair st calls agrees a goods.0)
-      ∙ ap (λ r. r >>= λ vs. gives (holds (number (revealed pair.stored (arg_held names pair.variables a))) ∷ vs)) (args_values names T hosts models pair st calls agrees rest goods.1)
+    ∙ ap (λ r. r >>= λ vs. gives (holds (number (revealed pair.stored (arg_held names pair.variables a))) ∷ vs)) (args_values names T hosts models pair st calls agrees rest goods.1)
 
 -- what is no handle is its number
 plain_is : (kept : List ℤ) (May : Type 0) (count : ℕ) (h : Held) → HandleFits count May h → (May → ⊥) → plain_of h ≡ revealed kept h
@@ -201,7 +201,7 @@ plain_arg : (names : List (List ℕ)) (T : ℕ → Type 0) (hosts : List Host) (
 plain_arg names T hosts models pair st agrees (Number n) good keeps = refl
 plain_arg names T hosts models pair st agrees (Variable x) good keeps =
     plain_is pair.stored (T (place_in names x)) (length pair.stored) (get_or pair.variables (place_in names x) no_number)
-      (agrees.handles (place_in names x) (place_in-lt names x good)) keeps
+    (agrees.handles (place_in names x) (place_in-lt names x good)) keeps
 
 read_fits : (names : List (List ℕ)) (T : ℕ → Type 0) (hosts : List Host) (models : List HostModel) (pair : Pair) (st : State)
     → Agrees (length names) T hosts models pair st → (marked : Bool) (a : Arg) → arg_is_good names a ≡ true → ArgKeeps (λ x. T (place_in names x)) marked a
@@ -228,7 +228,7 @@ numbers_read names T hosts models pair st agrees (p ∷ ps) [] same good keeps =
 numbers_read names T hosts models pair st agrees (p ∷ ps) (a ∷ rest) same good keeps =
     let goods : (arg_is_good names a ≡ true) × (args_are_good names rest ≡ true) = both (arg_is_good names a) (args_are_good names rest) good in
     join _ _ _ _ (read_fits names T hosts models pair st agrees p.marked a goods.0 keeps.0)
-      (numbers_read names T hosts models pair st agrees ps rest (omega arith) goods.1 keeps.1)
+    (numbers_read names T hosts models pair st agrees ps rest (omega arith) goods.1 keeps.1)
 
 numbers_own : (names : List (List ℕ)) (T : ℕ → Type 0) (hosts : List Host) (models : List HostModel) (pair : Pair) (st : State)
     → Agrees (length names) T hosts models pair st → (ps : List HostParam) (rest : List Arg) → length ps ≡ length rest → has_marked ps ≡ false
@@ -241,7 +241,7 @@ numbers_own names T hosts models pair st agrees (p ∷ ps) (a ∷ rest) same own
     let goods : (arg_is_good names a ≡ true) × (args_are_good names rest ≡ true) = both (arg_is_good names a) (args_are_good names rest) good in
     let owns : (p.marked ≡ false) × (has_marked ps ≡ false) = neither p.marked (has_marked ps) own in
     join _ _ _ _ (own_fits names T hosts models pair st agrees p.marked a owns.0 goods.0 keeps.0)
-      (numbers_own names T hosts models pair st agrees ps rest (omega arith) owns.1 goods.1 keeps.1)
+    (numbers_own names T hosts models pair st agrees ps rest (omega arith) owns.1 goods.1 keeps.1)
 
 numbers_fit : (names : List (List ℕ)) (T : ℕ → Type 0) (hosts : List Host) (models : List HostModel) (pair : Pair) (st : State)
     → Agrees (length names) T hosts models pair st → (privileged : Bool) (ps : List HostParam) (rest : List Arg) → (privileged || not (has_marked ps)) ≡ true → length ps ≡ length rest
@@ -314,14 +314,14 @@ answer_agrees count T hosts models pair st h f left vs answer agrees is next =
       models_are = models_kept st.hosts models f answer.next agrees.models_are next;
       no_input = agrees.no_input;
       bytes = written-append (st.events ++ event) (out_event answer.written)
-        ∙ ap (λ bs. bs ++ written (out_event answer.written)) (written-append st.events event
+          ∙ ap (λ bs. bs ++ written (out_event answer.written)) (written-append st.events event
           ∙ ap (λ o. written st.events ++ written (guarded_event o f vs)) sig
           ∙ ap (λ bs. written st.events ++ bs) (written_guarded h f vs)
           ∙ append-nil (written st.events) ∙ agrees.bytes)
-        ∙ ap (λ bs. pair.out ++ bs) (written_out answer.written);
+          ∙ ap (λ bs. pair.out ++ bs) (written_out answer.written);
       calls_are = guarded-append hosts (st.events ++ event) (out_event answer.written)
-        (guarded-append hosts st.events event agrees.calls_are (subst (λ o. AreGuarded hosts (guarded_event o f vs)) (sym sig) (guarded_call hosts h f vs is)))
-        (guarded_out hosts answer.written);
+          (guarded-append hosts st.events event agrees.calls_are (subst (λ o. AreGuarded hosts (guarded_event o f vs)) (sym sig) (guarded_call hosts h f vs is)))
+          (guarded_out hosts answer.written);
     }
 
 reply_agrees : (count : ℕ) (T : ℕ → Type 0) (hosts : List Host) (models : List HostModel) (pair : Pair) (st : State) (sealed : Bool) (result : Option ℤ)
@@ -348,7 +348,7 @@ pub host_goes : (names : List (List ℕ)) (T : ℕ → Type 0) (hosts : List Hos
     → Agrees (length names) T hosts models pair st → AreSteady models → host_of hosts c.callee ≡ Some h → host_is_good h ≡ true
     → length h.params ≡ length c.args → args_are_good names c.args ≡ true → ArgsKeep (λ x. T (place_in names x)) h.params c.args → st.left ≡ suc left
     → CallGoes names T hosts models pair st c (is_privileged h.mark && not (is_declassified h.mark))
-        (host_called h (model_at models (place_in (names_of hosts) c.callee)) (args_held names pair.variables c.args) pair)
+    (host_called h (model_at models (place_in (names_of hosts) c.callee)) (args_held names pair.variables c.args) pair)
 host_goes names T hosts models pair st c h left agrees steady is good same args keeps turns =
     let f : ℕ = place_in (names_of hosts) c.callee in
     let vs : List ℤ = numbers_of (cells_of pair.stored (args_held names pair.variables c.args)) in
@@ -356,17 +356,17 @@ host_goes names T hosts models pair st c h left agrees steady is good same args 
     let at : slice_get hosts f ≡ Some h = host_at hosts c.callee h is in
     let marks : (is_privileged h.mark || not (has_marked h.params)) ≡ true = marks_good h good in
     let same_answer : host_step st.input (st.hosts f) vs ≡ answer =
-      ap (λ input. host_step input (st.hosts f) vs) agrees.no_input ∙ ap (λ m. host_step [] m vs) (agrees.models_are f)
-        ∙ ap (host_step [] (model_at models f)) (sym (numbers_fit names T hosts models pair st agrees (is_privileged h.mark) h.params c.args marks same args keeps)) in
+    ap (λ input. host_step input (st.hosts f) vs) agrees.no_input ∙ ap (λ m. host_step [] m vs) (agrees.models_are f)
+    ∙ ap (host_step [] (model_at models f)) (sym (numbers_fit names T hosts models pair st agrees (is_privileged h.mark) h.params c.args marks same args keeps)) in
     record {
       value = result_value answer.result;
       after = answered_state hosts f left vs answer st;
       does =
-        ap (λ r. r >>= host_call (map signature_of hosts) 1 f) (args_values names T hosts models pair st (host_call (map signature_of hosts)) agrees c.args args)
+          ap (λ r. r >>= host_call (map signature_of hosts) 1 f) (args_values names T hosts models pair st (host_call (map signature_of hosts)) agrees c.args args)
           ∙ ap (λ n. take_turn n st (λ st1. answered f (host_step st1.input (st1.hosts f) vs) (record st1 { events = st1.events ++ guarded_event (slice_get (map signature_of hosts) f) f vs }))) turns
           ∙ ap (λ a. answered f a (record st { left = left; events = st.events ++ guarded_event (slice_get (map signature_of hosts) f) f vs })) same_answer;
       agrees = reply_agrees (length names) T hosts models (record pair { out = pair.out ++ bytes_of answer.written }) (answered_state hosts f left vs answer st) (is_privileged h.mark && not (is_declassified h.mark)) answer.result
-        (answer_agrees (length names) T hosts models pair st h f left vs answer agrees at (steady_next (model_at models f) _ (steady_at models f steady)));
+          (answer_agrees (length names) T hosts models pair st h f left vs answer agrees at (steady_next (model_at models f) _ (steady_at models f steady)));
       left = omega (arith, turns);
       result = reply_is (is_privileged h.mark && not (is_declassified h.mark)) answer.result (record pair { out = pair.out ++ bytes_of answer.written });
     }

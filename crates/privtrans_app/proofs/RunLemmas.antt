@@ -52,7 +52,7 @@ call_goes names T hosts models pair st c used agrees steady goods good keeps tur
     go None is callee keep = cc
     go (Some h) is callee keep =
         host_goes names T hosts models pair st c h (st.left - 1) agrees steady is (host_good hosts c.callee h goods is)
-          (callee_count h (length c.args) used callee) (both (callee_is_good (host_of hosts c.callee) (length c.args) used) (args_are_good names c.args) good).1 keep (omega arith)
+        (callee_count h (length c.args) used callee) (both (callee_is_good (host_of hosts c.callee) (length c.args) used) (args_are_good names c.args) good).1 keep (omega arith)
 
 -- ---- statements
 
@@ -75,8 +75,10 @@ stores names T hosts models pair st at held cell agrees within is fits = record 
   where
     inside : at < length pair.variables
     inside = let same : length pair.variables ≡ length names = agrees.count_is in omega arith
+
     reads_same : (i : ℕ) → i ≡ at → get_or (set pair.variables at held) i no_number ≡ held
     reads_same i same = ap (λ k. get_or (set pair.variables at held) k no_number) same ∙ get_or-set_same pair.variables at held no_number inside
+
     cells : (i : ℕ) → i < length names → write st.memory (local 1 at) 0 cell (local 1 i) ≡ number (revealed pair.stored (get_or (set pair.variables at held) i no_number)) ∷ []
     cells i lt = go (nat_eq i at) refl
       where
@@ -84,6 +86,7 @@ stores names T hosts models pair st at held cell agrees within is fits = record 
         go true e = let same : i ≡ at = grind arith in
             ap (λ xs. set xs 0 cell) (agrees.cells at within) ∙ ap (λ c. c ∷ []) is ∙ ap (λ h. number (revealed pair.stored h) ∷ []) (sym (reads_same i same))
         go false e = agrees.cells i lt ∙ ap (λ h. number (revealed pair.stored h) ∷ []) (sym (get_or-set_other pair.variables at i held no_number (λ same. grind arith)))
+
     handles : (i : ℕ) → i < length names → HandleFits (length pair.stored) (T i) (get_or (set pair.variables at held) i no_number)
     handles i lt = go (nat_eq i at) refl
       where
@@ -138,8 +141,8 @@ statement_steps names T hosts models pair st (Set target (FromVariable x)) agree
       after = record st { memory = write st.memory (local 1 (place_in names target)) 0 (read st.memory (local 1 (place_in names x)) 0) };
       does = refl;
       agrees = stores names T hosts models pair st (place_in names target) (arg_held names pair.variables (Variable x)) (read st.memory (local 1 (place_in names x)) 0) agrees within
-        (ap (λ cells. get_or cells 0 (number (pos 0))) (agrees.cells (place_in names x) reads))
-        (fits_move (length pair.stored) (T (place_in names x)) (T (place_in names target)) _ (agrees.handles (place_in names x) reads) follows);
+          (ap (λ cells. get_or cells 0 (number (pos 0))) (agrees.cells (place_in names x) reads))
+          (fits_move (length pair.stored) (T (place_in names x)) (T (place_in names target)) _ (agrees.handles (place_in names x) reads) follows);
       left = omega arith;
     }
 statement_steps names T hosts models pair st (Set target (FromCall c)) agrees steady goods good keeps follows turns =
@@ -148,7 +151,7 @@ statement_steps names T hosts models pair st (Set target (FromCall c)) agrees st
     let called : Called = call_made hosts models names c pair in
     let goes : CallGoes names T hosts models pair st c (is_sealed (host_of hosts c.callee)) called = call_goes names T hosts models pair st c true agrees steady goods goods2.1 keeps turns in
     let kept : Kept names T hosts models (holds_from_now (place_in names target) called.result called.pair) goes.after (place_in names target) goes.value =
-      keeps_result names T hosts models called.pair goes.after (place_in names target) (is_sealed (host_of hosts c.callee)) called.result goes.value goes.agrees within follows goes.result in
+    keeps_result names T hosts models called.pair goes.after (place_in names target) (is_sealed (host_of hosts c.callee)) called.result goes.value goes.agrees within follows goes.result in
     record {
       after = kept.after;
       does = ap (λ r. (r >>= stored 1 (place_in names target)) >>= λ v. gives goes_on) goes.does ∙ ap (λ r. r >>= λ v. gives goes_on) kept.does;
@@ -175,7 +178,7 @@ all_step names T hosts models pair st (s ∷ ss) agrees steady goods good keeps 
     let first : Steps names T hosts models pair st s = statement_steps names T hosts models pair st s agrees steady goods goods2.0 keeps.0 follows.0 (omega arith) in
     let left : first.after.left + calls_in s ≡ st.left = first.left in
     let others : AllStep names T hosts models (done hosts models names s pair) first.after ss =
-      all_step names T hosts models (done hosts models names s pair) first.after ss first.agrees steady goods goods2.1 keeps.1 follows.1 (omega arith) in
+    all_step names T hosts models (done hosts models names s pair) first.after ss first.agrees steady goods goods2.1 keeps.1 follows.1 (omega arith) in
     record {
       after = others.after;
       does = λ rest. ap (λ r. r >>= after_flow (statements (map (statement_tree hosts names) ss ++ rest) (host_call (map signature_of hosts)) 1)) first.does ∙ others.does rest;
@@ -214,6 +217,7 @@ declared_cells from (suc count) i memory le lt = go (nat_eq i from) refl (λ mor
     here : (b : Bool) → nat_eq i from ≡ b → b ≡ true → (if b then number (pos 0) ∷ [] else memory (local 1 i)) ≡ number (pos 0) ∷ []
     here true e is = refl
     here false e is = cc
+
     go : (b : Bool) → nat_eq i from ≡ b
         → (suc from ≤ i → declared_memory (suc from) count (put memory (local 1 from) (number (pos 0) ∷ [])) (local 1 i) ≡ number (pos 0) ∷ [])
         → declared_memory (suc from) count (put memory (local 1 from) (number (pos 0) ∷ [])) (local 1 i) ≡ number (pos 0) ∷ []
@@ -239,7 +243,7 @@ all_expected hosts state allowed [] end calls good all = refl
 all_expected hosts state allowed (out bytes ∷ events) end calls good all = ap (after_bytes bytes) (all_expected hosts state allowed events end calls good all)
 all_expected hosts state allowed (guarded f vs ∷ events) end calls good all =
     ap (λ b. decided (early_answers hosts state allowed) state (calls + 1) f (if b then Some state else None) (λ s. expected_from (early_answers hosts state allowed) s (calls + 1) events end))
-      (allowed_at hosts allowed f good.0.0 good.0.1 good.0.2 all)
+    (allowed_at hosts allowed f good.0.0 good.0.1 good.0.2 all)
     ∙ all_expected hosts state allowed events end (calls + 1) good.1 all
 
 -- ---- the whole program
@@ -255,11 +259,11 @@ length-replicated (suc count) = ap suc (length-replicated count)
 
 begins : (names : List (List ℕ)) (T : ℕ → Type 0) (hosts : List Host) (models : List HostModel) (turns : ℕ)
     → Agrees (length names) T hosts models (pair_start (length names))
-        (record (start (model_at models) [] turns) { memory = declared_memory 0 (length names) (start (model_at models) [] turns).memory })
+    (record (start (model_at models) [] turns) { memory = declared_memory 0 (length names) (start (model_at models) [] turns).memory })
 begins names T hosts models turns = record {
   count_is = length-replicated (length names);
   cells = λ i lt. declared_cells 0 (length names) i (start (model_at models) [] turns).memory (omega arith) (omega arith)
-    ∙ ap (λ h. number (revealed [] h) ∷ []) (sym (replicate_is (length names) i));
+      ∙ ap (λ h. number (revealed [] h) ∷ []) (sym (replicate_is (length names) i));
   handles = λ i lt. subst (λ h. HandleFits 0 (T i) h) (sym (replicate_is (length names) i)) tt;
   models_are = λ f. refl;
   no_input = refl;
@@ -278,15 +282,15 @@ pair_keeps p models state allowed turns good taint steady all enough =
     let st1 : State = record st0 { memory = declared_memory 0 (length names) st0.memory } in
     let last : List Said = give_back (constant (pos p.status)) ∷ [] in
     let steps : AllStep names T p.hosts models (pair_start (length names)) st1 p.statements =
-      all_step names T p.hosts models (pair_start (length names)) st1 p.statements (begins names T p.hosts models turns) steady goods.0 goods.1 taint
-        (all_follow (sources p.hosts names p.statements) (copies names p.statements) p.hosts names p.statements (λ s c. c) (λ e c. c)) enough in
+    all_step names T p.hosts models (pair_start (length names)) st1 p.statements (begins names T p.hosts models turns) steady goods.0 goods.1 taint
+    (all_follow (sources p.hosts names p.statements) (copies names p.statements) p.hosts names p.statements (λ s c. c) (λ e c. c)) enough in
     let runs : statements (meant p).main calls 1 st0 ≡ statements last calls 1 steps.after =
-      ap (λ ss. statements ss calls 1 st0) (append_assoc (declares 0 (length names)) (map (statement_tree p.hosts names) p.statements) last)
-        ∙ declares_go p.hosts 0 (length names) (map (statement_tree p.hosts names) p.statements ++ last) st0
-        ∙ steps.does last in
+    ap (λ ss. statements ss calls 1 st0) (append_assoc (declares 0 (length names)) (map (statement_tree p.hosts names) p.statements) last)
+    ∙ declares_go p.hosts 0 (length names) (map (statement_tree p.hosts names) p.statements ++ last) st0
+    ∙ steps.does last in
     ap (λ o. expected (early_answers p.hosts state allowed) (ended turns o)) runs
-      ∙ all_expected p.hosts state allowed steps.after.events (Exit (pos p.status)) 0 steps.agrees.calls_are all
-      ∙ ap (λ bytes. record { bytes = bytes; end = Exit (pos p.status) }) steps.agrees.bytes
+    ∙ all_expected p.hosts state allowed steps.after.events (Exit (pos p.status)) 0 steps.agrees.calls_are all
+    ∙ ap (λ bytes. record { bytes = bytes; end = Exit (pos p.status) }) steps.agrees.bytes
   where
     good_parts : (q : Program) → names_are_good q ≡ true → (hosts_are_good q.hosts ≡ true) × (statements_are_good q.hosts q.variables q.statements ≡ true)
     good_parts q is =

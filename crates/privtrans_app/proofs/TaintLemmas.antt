@@ -48,7 +48,7 @@ along : (seeds : List Slot) (edges : List Edge) (e : Edge) → Contains edges e 
 along seeds edges e c priv =
     let same : get_or edges c.0 no_edge ≡ e = get_or_default edges c.0 no_edge e c.1 ∙ c.2 in
     let path : Leads edges (priv.1 ++ c.0 ∷ []) priv.0 (to_of edges c.0) =
-      leads_push edges priv.1 priv.0 e.from c.0 priv.3 c.1 (ap (λ (x : Edge). x.from) same) in
+    leads_push edges priv.1 priv.0 e.from c.0 priv.3 c.1 (ap (λ (x : Edge). x.from) same) in
     (priv.0, priv.1 ++ c.0 ∷ [], priv.2, subst (λ (x : Edge). Leads edges (priv.1 ++ c.0 ∷ []) priv.0 x.to) same path)
 
 after : {X : Type 0} (o : Option X) (x : X) (xs : List X) → Contains xs x → Contains (option_to_list o ++ xs) x
@@ -61,11 +61,12 @@ pub all_follow : (seeds : List Slot) (edges : List Edge) (hosts : List Host) (na
     → ((e : Edge) → Contains (copies names ss) e → Contains edges e)
     → AllFollow (λ i. IsPriv seeds edges (record { 0 = i })) hosts names ss
 all_follow seeds edges hosts names [] more_seeds more_edges = tt
-all_follow seeds edges hosts names (s ∷ ss) more_seeds more_edges =
-    (one s more_seeds more_edges,
-      all_follow seeds edges hosts names ss
-        (λ x c. more_seeds x (after (sealed_target_of hosts names s) x (sources hosts names ss) c))
-        (λ e c. more_edges e (after (copied_by names s) e (copies names ss) c)))
+all_follow seeds edges hosts names (s ∷ ss) more_seeds more_edges = (
+  one s more_seeds more_edges,
+  all_follow seeds edges hosts names ss
+      (λ x c. more_seeds x (after (sealed_target_of hosts names s) x (sources hosts names ss) c))
+      (λ e c. more_edges e (after (copied_by names s) e (copies names ss) c)),
+)
   where
     one : (s : Statement) → ((x : Slot) → Contains (option_to_list (sealed_target_of hosts names s) ++ sources hosts names ss) x → Contains seeds x)
         → ((e : Edge) → Contains (option_to_list (copied_by names s) ++ copies names ss) e → Contains edges e)
@@ -112,7 +113,7 @@ args_stand test Tainted tests [] rest = stands_always
 args_stand test Tainted tests (p ∷ ps) [] = stands_always
 args_stand test Tainted tests (p ∷ ps) (a ∷ rest) =
     stands_both (arg_keeps test p.marked a) (args_keep test ps rest) (ArgKeeps Tainted p.marked a) (ArgsKeep Tainted ps rest)
-      (arg_stands test Tainted tests p.marked a) (args_stand test Tainted tests ps rest)
+    (arg_stands test Tainted tests p.marked a) (args_stand test Tainted tests ps rest)
 
 statement_stands : (test : List ℕ → Bool) (Tainted : List ℕ → Type 0) → Tests test Tainted → (hosts : List Host) (s : Statement) → StandsFor (statement_keeps test hosts s) (StatementKeeps Tainted hosts s)
 statement_stands test Tainted tests hosts (Set target (FromNumber n)) = stands_always
@@ -124,7 +125,7 @@ pub statements_stand : (test : List ℕ → Bool) (Tainted : List ℕ → Type 0
 statements_stand test Tainted tests hosts [] = stands_always
 statements_stand test Tainted tests hosts (s ∷ ss) =
     stands_both (statement_keeps test hosts s) (statements_keep test hosts ss) (StatementKeeps Tainted hosts s) (StatementsKeep Tainted hosts ss)
-      (statement_stands test Tainted tests hosts s) (statements_stand test Tainted tests hosts ss)
+    (statement_stands test Tainted tests hosts s) (statements_stand test Tainted tests hosts ss)
 
 -- the marks are such a test
 pub marks_test : (p : Program) (marks : List (Option (List ℕ)))
@@ -134,8 +135,9 @@ marks_test p marks are x = (yes_is, no_is)
   where
     yes_is : marked_tainted marks p.variables x ≡ true → IsTainted p x
     yes_is is = marked_priv (sources p.hosts p.variables p.statements) (copies p.variables p.statements) (length p.variables + 1) marks are (slot_of p.variables x) is
+
     no_is : marked_tainted marks p.variables x ≡ false → IsTainted p x → ⊥
     no_is is priv =
         let marked : marked_tainted marks p.variables x ≡ true =
-          priv_marked (sources p.hosts p.variables p.statements) (copies p.variables p.statements) (length p.variables + 1) marks are (slot_of p.variables x) (omega (arith, place_within p.variables x)) priv in
+        priv_marked (sources p.hosts p.variables p.statements) (copies p.variables p.statements) (length p.variables + 1) marks are (slot_of p.variables x) (omega (arith, place_within p.variables x)) priv in
         cc

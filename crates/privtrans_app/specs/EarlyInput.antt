@@ -78,7 +78,7 @@ pub record IsBuilt (t : Texts) (turns : ℕ) (bytes : List ℕ) (status : ℕ) :
   pub allowed : List (List ℕ)
   pub early : IsEarly t turns program models state allowed
   pub is : expected (early_answers program.hosts state allowed) (run (meant program) (model_at models) [] turns)
-    ≡ record { bytes = bytes; end = Exit (pos status) }
+      ≡ record { bytes = bytes; end = Exit (pos status) }
 
 abbrev pub IsOutcome : Texts → ℕ → Outcome → Type 0
 IsOutcome t turns NotBuilt = IsNotBuilt t turns

@@ -68,6 +68,6 @@ abbrev pub meant : Program → Meant
 meant p = record {
   signatures = map signature_of p.hosts;
   main = declares 0 (length p.variables)
-    ++ map (statement_tree p.hosts p.variables) p.statements
-    ++ give_back (constant (pos p.status)) ∷ [];
+      ++ map (statement_tree p.hosts p.variables) p.statements
+      ++ give_back (constant (pos p.status)) ∷ [];
 }

@@ -57,7 +57,11 @@ fn write_numbers(args: &[i128], out: &mut Vec<u8>) -> Result<(), AllocError>
 }
 
 // One call of a host that answers every call alike.
-pub(crate) fn answer(model: &HostModel, args: &[i128], out: &mut Vec<u8>) -> Result<Option<i128>, AllocError>
+pub(crate) fn answer(
+    model: &HostModel,
+    args: &[i128],
+    out: &mut Vec<u8>,
+) -> Result<Option<i128>, AllocError>
     requires { is_steady model.now ≡ true }
     ensures result { IfOk result (λ o. o ≡ (host_step [] model.now args.now).result) }
     ensures out { OnOk result (out.new.items ≡ out.old.items ++ bytes_of (host_step [] model.now args.now).written) }

@@ -169,7 +169,10 @@ pub(crate) fn calls_within(statements: &[Statement], turns: u64) -> bool
 }
 
 /// The names of a program by number, where its names, its hosts and its statements are good.
-pub(crate) fn names_of_program(alloc: Global, program: &Program) -> Result<Option<Names>, AllocError>
+pub(crate) fn names_of_program(
+    alloc: Global,
+    program: &Program,
+) -> Result<Option<Names>, AllocError>
     ensures { IfOk result (λ o. MatchOption o (names_are_good program.now ≡ false)
         (λ names. (names_are_good program.now ≡ true) × AreNamesOf program.now names)) }
 {

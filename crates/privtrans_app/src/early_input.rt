@@ -89,10 +89,14 @@ fn fit(texts: &Texts) -> bool
 }
 
 // The models of a program's hosts, where the host table and the policy are good.
-fn good_models(alloc: Global, texts: &Texts, hosts: &[Host]) -> Result<Option<Vec<HostModel>>, AllocError>
+fn good_models(
+    alloc: Global,
+    texts: &Texts,
+    hosts: &[Host],
+) -> Result<Option<Vec<HostModel>>, AllocError>
     ensures { IfOk result (λ o. MatchOption o (HaveNoModels (texts_of texts.now) hosts.now)
         (λ models. AreModels (texts_of texts.now) hosts.now models.items
-            × (length models.items ≡ length hosts.now) × AreSteady models.items)) }
+        × (length models.items ≡ length hosts.now) × AreSteady models.items)) }
 {
     let Some(models) = read_models(alloc, &texts.host, hosts)? else {
         return Ok(None);

@@ -15,7 +15,11 @@ use pt_base::{Folder, FolderFault, Sink, SinkFault};
 use std::alloc::Global;
 
 // The first bytes of a file, one more than a text may have.
-fn read_text<'a, F: Folder>(alloc: Global, folder: &mut F, name: &'a str) -> Result<Vec<u8>, Ending<'a>>
+fn read_text<'a, F: Folder>(
+    alloc: Global,
+    folder: &mut F,
+    name: &'a str,
+) -> Result<Vec<u8>, Ending<'a>>
     ensures content { IfOk result (λ v. GivesFirst (F.files folder.old) name.entry.now 1048577 v.items) }
     ensures refusal { IfErr result (λ e. IsReadRefusal name.entry.now (F.files folder.old)
         (F.read_faults folder.old) (F.read_faults folder.new) (ending_seen e)) }
@@ -62,7 +66,7 @@ pub(crate) fn local<'a, F: Folder, K: Sink>(
     ensures { (given : List (List ℕ)) →
         IsLocal given words.now.program.now words.now.host.now words.now.policy.now words.now.input.now words.now.turns words.now.window →
         ComesTo given (F.files folder.old) (F.read_faults folder.old) (F.read_faults folder.new)
-            (K.taken out.old) (K.taken out.new) (K.faults out.old) (K.faults out.new) (ending_seen result) }
+        (K.taken out.old) (K.taken out.new) (K.faults out.old) (K.faults out.new) (ending_seen result) }
 {
     let texts = match read_texts(alloc, folder, words) {
         Ok(texts) => texts,

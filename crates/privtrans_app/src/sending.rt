@@ -74,13 +74,7 @@ fn reveal(stored: &[i128], held: Held) -> i128
 {
     match held {
         Held::Plain(n) => n,
-        Held::Handle(h) => {
-            if h < stored.len() {
-                stored[h]
-            } else {
-                0
-            }
-        }
+        Held::Handle(h) => { if h < stored.len() { stored[h] } else { 0 } }
     }
 }
 

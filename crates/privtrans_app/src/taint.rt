@@ -97,7 +97,11 @@ fn copy_of(names: &Names, statement: &Statement) -> Option<Edge>
 }
 
 // The ways from copied variables to those that they are assigned to.
-fn copies_of(alloc: Global, names: &Names, statements: &[Statement]) -> Result<Vec<Edge>, AllocError>
+fn copies_of(
+    alloc: Global,
+    names: &Names,
+    statements: &[Statement],
+) -> Result<Vec<Edge>, AllocError>
     ensures copies { IfOk result (λ v. v.items ≡ copies (names_listed names.now.variables) statements.now) }
     ensures froms { IfOk result (λ v. All (λ e. e.from.0 < length (names_listed names.now.variables) + 1) v.items) }
     ensures tos { IfOk result (λ v. All (λ e. e.to.0 < length (names_listed names.now.variables) + 1) v.items) }
@@ -183,12 +187,7 @@ fn keeps_statement(marks: &Marks, names: &Names, hosts: &[Host], statement: &Sta
     }
 }
 
-fn keeps_statements(
-    marks: &Marks,
-    names: &Names,
-    hosts: &[Host],
-    statements: &[Statement],
-) -> bool
+fn keeps_statements(marks: &Marks, names: &Names, hosts: &[Host], statements: &[Statement]) -> bool
     requires size { length marks.now ≡ length (names_listed names.now.variables) + 1 }
     requires names { names_listed names.now.hosts ≡ names_of hosts.now }
     ensures { result ≡ statements_keep (marked_tainted marks.now (names_listed names.now.variables)) hosts.now statements.now }

@@ -58,13 +58,7 @@ fn tell<E: Sink>(alloc: Global, sink: &mut E, ending: Came<'_>) -> u8
     }
     match sink.write(alloc, &line) {
         Ok(()) => status(ending),
-        Err(SinkFault::Failed) => {
-            if status(ending) == 12 {
-                12
-            } else {
-                4
-            }
-        }
+        Err(SinkFault::Failed) => { if status(ending) == 12 { 12 } else { 4 } }
         Err(SinkFault::Memory) => 12,
     }
 }
@@ -88,7 +82,7 @@ pub fn privtrans<R: Threads + Sync, F: Folder, K: Sink, E: Sink, S: Spawner, C: 
     // cause, and reports it
     ensures answer { (e : Ending)
         × ComesTo (map (λ w. w.now) words.now) (F.files folder.old) (F.read_faults folder.old) (F.read_faults folder.new)
-            (K.taken out.old) (K.taken out.new) (K.faults out.old) (K.faults out.new) e
+        (K.taken out.old) (K.taken out.new) (K.faults out.old) (K.faults out.new) e
         × Reports e (E.taken report.old) (E.taken report.new) (E.faults report.old) (E.faults report.new) result }
 {
     let ending = came_to(alloc, words, folder, out);

@@ -23,9 +23,10 @@ returns-then-are_good_statements c =
     let second : fresh (names_listed c.in-Some.host_names) [] p.variables ≡ true = grind arith in
     let variables : names_listed c.in-Some-2.variables ≡ p.variables = grind arith in
     let hosts : hosts_are_good p.hosts ≡ true = grind arith in
-    let statements : statements_are_good p.hosts (names_listed c.in-Some-2.variables) p.statements ≡ true = grind arith in
-    (all_good (all_differ (names_of p.hosts ++ p.variables)) (fresh [] [] (names_of p.hosts)) (fresh (names_of p.hosts) [] p.variables)
-        (hosts_are_good p.hosts) (statements_are_good p.hosts p.variables p.statements)
-        (fresh_all (names_of p.hosts) p.variables) first (subst (λ ns. fresh ns [] p.variables ≡ true) listed second) hosts
-        (subst (λ ns. statements_are_good p.hosts ns p.statements ≡ true) variables statements),
-      record { hosts = listed; variables = variables })
+    let statements : statements_are_good p.hosts (names_listed c.in-Some-2.variables) p.statements ≡ true = grind arith in (
+      all_good (all_differ (names_of p.hosts ++ p.variables)) (fresh [] [] (names_of p.hosts)) (fresh (names_of p.hosts) [] p.variables)
+          (hosts_are_good p.hosts) (statements_are_good p.hosts p.variables p.statements)
+          (fresh_all (names_of p.hosts) p.variables) first (subst (λ ns. fresh ns [] p.variables ≡ true) listed second) hosts
+          (subst (λ ns. statements_are_good p.hosts ns p.statements ≡ true) variables statements),
+      record { hosts = listed; variables = variables },
+    )

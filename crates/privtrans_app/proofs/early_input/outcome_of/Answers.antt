@@ -52,6 +52,6 @@ returns c =
     let given : AreModels t p.hosts c.in-Some-2.models.items = subst (λ hs. AreModels t hs c.in-Some-2.models.items) c.as_slice-hosts.ensures models.0 in
     let sized : AreSized t = c.if-not-fit.ensures.yes (grind arith) in
     let built : IsBuilt t c.args.turns (pair_run p c.in-Some-2.models.items).out p.status =
-      built_by t c.args.turns p c.in-Some-2.models.items given.0 given.1 (record { sized = sized; good = text; given = given.2 }) in
+    built_by t c.args.turns p c.in-Some-2.models.items given.0 given.1 (record { sized = sized; good = text; given = given.2 }) in
     let out : c.in_ok-out.out.items ≡ (pair_run p c.in-Some-2.models.items).out = c.in_ok-out.ensures ∙ ap (λ ms. (pair_run p ms).out) c.deref-2.ensures.value in
     subst (λ bytes. IsBuilt t c.args.turns bytes p.status) (sym out) built

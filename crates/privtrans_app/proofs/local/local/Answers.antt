@@ -11,7 +11,7 @@ use Rattle.privtrans_app.proofs.local.local.Goals as goal
 pub returns-in-Err : goal.returns-in-Err
 returns-in-Err g c = λ given form.
     refusal_comes given c.args.words.now (g.F.Folder.files c.args.folder.now) (g.F.Folder.read_faults c.args.folder.now) (g.F.Folder.read_faults c.read_texts.new.folder)
-      (g.K.Sink.faults c.args.out.now) (g.K.Sink.taken c.args.out.now) (ending_seen c.in-Err.ending) form c.in-Err.ensures.refusal
+    (g.K.Sink.faults c.args.out.now) (g.K.Sink.taken c.args.out.now) (ending_seen c.in-Err.ending) form c.in-Err.ensures.refusal
 
 pub returns-in-NotBuilt : goal.returns-in-NotBuilt
 returns-in-NotBuilt g c = λ given form.
@@ -23,9 +23,11 @@ pub returns-in-Ok-write : goal.returns-in-Ok-write
 returns-in-Ok-write g c = λ given form.
     let cut : Texts = texts_of c.in-Ok.texts in
     let bytes : List ℕ = c.in-Exits.bytes.items in
-    let built : IsBuilt cut c.args.words.now.turns bytes c.in-Exits.status = subst (IsOutcome cut c.args.words.now.turns) c.in-Exits.is c.in-Ok-outcome_of.ensures in
-    (bytes, expects_of given c.args.words.now (g.F.Folder.files c.args.folder.now) cut bytes c.in-Exits.status form c.in-Ok.ensures.texts built,
-      subst (Appends (g.K.Sink.taken c.args.out.now) (g.K.Sink.taken c.write.new.self)) c.deref.ensures.value c.in-Ok-write.ensures.ok)
+    let built : IsBuilt cut c.args.words.now.turns bytes c.in-Exits.status = subst (IsOutcome cut c.args.words.now.turns) c.in-Exits.is c.in-Ok-outcome_of.ensures in (
+      bytes,
+      expects_of given c.args.words.now (g.F.Folder.files c.args.folder.now) cut bytes c.in-Exits.status form c.in-Ok.ensures.texts built,
+      subst (Appends (g.K.Sink.taken c.args.out.now) (g.K.Sink.taken c.write.new.self)) c.deref.ensures.value c.in-Ok-write.ensures.ok,
+    )
 
 pub returns-in-Err-Failed : goal.returns-in-Err-Failed
 returns-in-Err-Failed g c = λ given form.
@@ -33,9 +35,10 @@ returns-in-Err-Failed g c = λ given form.
     let bytes : List ℕ = c.in-Exits.bytes.items in
     let built : IsBuilt cut c.args.words.now.turns bytes c.in-Exits.status = subst (IsOutcome cut c.args.words.now.turns) c.in-Exits.is c.in-Ok-outcome_of.ensures in
     let part : AppendsPart (g.K.Sink.taken c.args.out.now) (g.K.Sink.taken c.write.new.self) bytes =
-      subst (AppendsPart (g.K.Sink.taken c.args.out.now) (g.K.Sink.taken c.write.new.self)) c.deref.ensures.value c.in-Err-Failed.ensures.err in
-    (c.in-Err-Failed.ensures.cause.cause (ap Err c.in-Err-Failed.field-0-is),
-      part_written given c.args.words.now (g.F.Folder.files c.args.folder.now) cut bytes c.in-Exits.status (g.K.Sink.taken c.args.out.now) (g.K.Sink.taken c.write.new.self) form c.in-Ok.ensures.texts built part)
+    subst (AppendsPart (g.K.Sink.taken c.args.out.now) (g.K.Sink.taken c.write.new.self)) c.deref.ensures.value c.in-Err-Failed.ensures.err in (
+      c.in-Err-Failed.ensures.cause.cause (ap Err c.in-Err-Failed.field-0-is),
+      part_written given c.args.words.now (g.F.Folder.files c.args.folder.now) cut bytes c.in-Exits.status (g.K.Sink.taken c.args.out.now) (g.K.Sink.taken c.write.new.self) form c.in-Ok.ensures.texts built part,
+    )
 
 pub returns : goal.returns
 returns g c = λ given form.
@@ -43,5 +46,5 @@ returns g c = λ given form.
     let bytes : List ℕ = c.in-Exits.bytes.items in
     let built : IsBuilt cut c.args.words.now.turns bytes c.in-Exits.status = subst (IsOutcome cut c.args.words.now.turns) c.in-Exits.is c.in-Ok-outcome_of.ensures in
     let part : AppendsPart (g.K.Sink.taken c.args.out.now) (g.K.Sink.taken c.write.new.self) bytes =
-      subst (AppendsPart (g.K.Sink.taken c.args.out.now) (g.K.Sink.taken c.write.new.self)) c.deref.ensures.value c.in-Err-Memory.ensures.err in
+    subst (AppendsPart (g.K.Sink.taken c.args.out.now) (g.K.Sink.taken c.write.new.self)) c.deref.ensures.value c.in-Err-Memory.ensures.err in
     part_written given c.args.words.now (g.F.Folder.files c.args.folder.now) cut bytes c.in-Exits.status (g.K.Sink.taken c.args.out.now) (g.K.Sink.taken c.write.new.self) form c.in-Ok.ensures.texts built part

@@ -10,11 +10,11 @@ no_window word program host policy input turns window zero = record {
   no_help = λ help. grind arith;
   no_version = λ version. grind arith;
   no_local = λ p h q i t w form.
-    let spelled : window ≡ decimal w = ap (λ xs. get_or xs 6 []) form.are in
-    let most : w ≤ 1024 = form.window_most in
-    let least : 1 ≤ w = form.window_least in
-    let none : w ≡ 0 = decimal_injective w 0 (omega arith) (omega arith) (sym spelled ∙ zero) in
-    omega arith;
+      let spelled : window ≡ decimal w = ap (λ xs. get_or xs 6 []) form.are in
+      let most : w ≤ 1024 = form.window_most in
+      let least : 1 ≤ w = form.window_least in
+      let none : w ≡ 0 = decimal_injective w 0 (omega arith) (omega arith) (sym spelled ∙ zero) in
+      omega arith;
 }
 
 pub returns-then-window-eq0 : goal.returns-then-window-eq0

@@ -13,12 +13,12 @@ returns-in_default c = λ n most is.
 pub returns-then-n-most : goal.returns-then-n-most
 returns-then-n-most c = λ n most is.
     let same : c.in-Ok.n ≡ n = ok_is c.in-Ok.n n c.from_str_radix.result c.in-Ok.is
-      (parse-decimal 32 n c.args.word.now c.from_str_radix.result (let fits = c.ranges.most in omega arith) (let fits = c.ranges.most in omega arith) is c.from_str_radix.ensures.value) in
+    (parse-decimal 32 n c.args.word.now c.from_str_radix.result (let fits = c.ranges.most in omega arith) (let fits = c.ranges.most in omega arith) is c.from_str_radix.ensures.value) in
     let over : c.args.most < c.in-Ok.n = c.if-n-most.true in
     omega arith
 
 pub returns-else-is_spelling : goal.returns-else-is_spelling
 returns-else-is_spelling c = λ n most is.
     let same : c.in-Ok.n ≡ n = ok_is c.in-Ok.n n c.from_str_radix.result c.in-Ok.is
-      (parse-decimal 32 n c.args.word.now c.from_str_radix.result (let fits = c.ranges.most in omega arith) (let fits = c.ranges.most in omega arith) is c.from_str_radix.ensures.value) in
+    (parse-decimal 32 n c.args.word.now c.from_str_radix.result (let fits = c.ranges.most in omega arith) (let fits = c.ranges.most in omega arith) is c.from_str_radix.ensures.value) in
     c.if-is_spelling.ensures.no refl (is ∙ ap decimal (sym same))
