@@ -1,3 +1,4 @@
+pub mod CompleteLemmas
 pub mod EarlyHostLemmas
 pub mod EarlyInputLemmas
 pub mod EarlyPolicyLemmas

@@ -123,3 +123,14 @@ Puts out out' writes writes' text done came =
     ((came ≡ done) × Appends out out' text)
     ⊎ ((came ≡ write_fault) × Rose writes writes' × AppendsPart out out' text)
     ⊎ ((came ≡ memory) × AppendsPart out out' text)
+
+-- a count of faults didn't rise
+abbrev pub StaysDown : ℕ → ℕ → Type 0
+StaysDown before now = Rose before now → ⊥
+
+-- the status is 0 for texts of which something is expected, and 5 for texts that aren't early, unless
+-- it is 12
+abbrev pub IsComplete : Texts → ℕ → ℕ → Type 0
+IsComplete t turns status =
+    ((bytes : List ℕ) (s : ℕ) → IsBuilt t turns bytes s → (status ≡ 0) ⊎ (status ≡ 12))
+    × (IsNotBuilt t turns → (status ≡ 5) ⊎ (status ≡ 12))

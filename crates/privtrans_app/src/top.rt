@@ -5,7 +5,7 @@ ghost use Rattle.pt_base.specs.Faults.{Rose};
 ghost use Rattle.pt_base.specs.Files.{Files};
 ghost use Rattle.pt_base.specs.Told.{AppendsPart};
 ghost use Rattle.privtrans_app.specs.EarlyInput.{Texts, IsBuilt, IsNotBuilt};
-ghost use Rattle.privtrans_app.specs.Ending.{Ending, ComesTo, Puts, Reports, AreHeld};
+ghost use Rattle.privtrans_app.specs.Ending.{Ending, ComesTo, Puts, Reports, AreHeld, StaysDown, IsComplete};
 ghost use Rattle.privtrans_app.specs.EndingSeen.{ending_seen};
 ghost use Rattle.privtrans_app.specs.Words.{IsHelp, IsVersion};
 
@@ -84,6 +84,13 @@ pub fn privtrans<R: Threads + Sync, F: Folder, K: Sink, E: Sink, S: Spawner, C: 
         × ComesTo (map (λ w. w.now) words.now) (F.files folder.old) (F.read_faults folder.old) (F.read_faults folder.new)
         (K.taken out.old) (K.taken out.new) (K.faults out.old) (K.faults out.new) e
         × Reports e (E.taken report.old) (E.taken report.new) (E.faults report.old) (E.faults report.new) result }
+    // where the words' files are held and no count of faults rose, it is done or refused by the texts
+    ensures complete { (files : Files) (t : Texts) (turns window : ℕ) → F.files folder.old ≡ Some files
+        → AreHeld (map (λ w. w.now) words.now) files t turns window
+        → StaysDown (F.read_faults folder.old) (F.read_faults folder.new)
+        → StaysDown (K.faults out.old) (K.faults out.new)
+        → StaysDown (E.faults report.old) (E.faults report.new)
+        → IsComplete t turns result }
 {
     let ending = came_to(alloc, words, folder, out);
     tell(alloc, report, ending)
