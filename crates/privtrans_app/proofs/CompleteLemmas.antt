@@ -1,12 +1,10 @@
 -- Where the files are held and no count of faults rose, a call comes to what is expected.
-use Rattle.std.proofs.Common.{◌≡◌, ◌⊎◌, ℕ, List, [], ◌∷◌, length, get_or, refl, sym, ◌∙◌, ap, subst, arith, Option, Some, None, inl, inr}
-use Rattle.std.specs.Io.KnownBytes.{Appends, Keeps}
+use Rattle.std.proofs.Common.{◌≡◌, ◌⊎◌, ℕ, List, [], length, get_or, refl, sym, ◌∙◌, ap, subst, arith, Option, Some, None, inl, inr}
 use Rattle.pt_base.specs.Faults.{Rose}
 use Rattle.pt_base.specs.Files.{Files, Lacks}
-use Rattle.pt_base.specs.Told.{AppendsPart}
-use Rattle.privtrans_app.specs.Words.{IsHelp, IsVersion, IsLocal, IsNoForm}
+use Rattle.privtrans_app.specs.Words.{IsHelp}
 use Rattle.privtrans_app.specs.EarlyInput.{Texts, IsBuilt, IsNotBuilt}
-use Rattle.privtrans_app.specs.Ending.{Ending, help, version, exit, usage, missing, read_fault, write_fault, not_built, memory, status_of, report_of, IsNamed, AreHeld, Expects, Refuses, WritesPart, ComesTo, Reports, StaysDown, IsComplete}
+use Rattle.privtrans_app.specs.Ending.{Ending, help, version, exit, usage, missing, read_fault, write_fault, not_built, memory, status_of, IsNamed, AreHeld, Expects, Refuses, ComesTo, Reports, StaysDown, IsComplete}
 use Rattle.privtrans_app.proofs.LocalLemmas.{same_held}
 
 -- a call whose report was written has the status of its ending, or 12

@@ -1,23 +1,16 @@
 -- Texts that are early, whole or cut just past the limit.
-use Rattle.std.proofs.Common.{◌≡◌, ◌≤◌, ◌<◌, ◌+◌, ℕ, suc, pos, List, [], length, take, min, refl, sym, ◌∙◌, ap, subst, arith, Bool, true, false, if◌then◌else◌, option_map, Option, Some, None, ◌∷◌}
+use Rattle.std.proofs.Common.{◌≡◌, ◌≤◌, ℕ, suc, List, [], length, take, min, refl, sym, ◌∙◌, ap, subst, arith, Bool, true, false, if◌then◌else◌, option_map, Option, Some, None, ◌∷◌}
 use Rattle.std.proofs.lemmas.List.{take_all, length-take}
-use Rattle.pt_base.specs.declared.end.End.{End}
-use Rattle.pt_base.specs.declared.end.End.TheVariants.{Exit}
 use Rattle.pt_tree.specs.declared.host_model.HostModel.{HostModel}
-use Rattle.source_meaning.specs.Run.{Expected, expected, run}
-use Rattle.privtrans_app.specs.EarlyText.{IsEarlyText, OneTree}
-use Rattle.privtrans_app.specs.EarlyTree.{meant}
-use Rattle.privtrans_app.specs.EarlyConditions.{names_are_good, call_count}
-use Rattle.privtrans_app.specs.EarlyTaint.{KeepsTaint}
+use Rattle.source_meaning.specs.Run.{Expected}
+use Rattle.privtrans_app.specs.EarlyText.{IsEarlyText}
 use Rattle.privtrans_app.specs.EarlyHosts.{each, host_model, models_of, table_models, reading_of}
 use Rattle.serde_json.specs.Data.{Data}
 use Rattle.serde_json.specs.Find.{as_object}
 use Rattle.std.specs.Option.{option_and_then, is_some}
 use Rattle.privtrans_app.specs.declared.early.Host.{Host}
-use Rattle.privtrans_app.specs.EarlyPolicy.{IsEarlyPolicy}
-use Rattle.privtrans_app.specs.EarlyPair.{model_at, pair_run}
-use Rattle.privtrans_app.specs.EarlyRun.{early_answers}
-use Rattle.privtrans_app.specs.EarlyInput.{Texts, most, AreSized, KeepsConditions, IsGoodText, ArePolicyModels, HaveNoModels, IsEarly, IsNotBuilt, IsBuilt}
+use Rattle.privtrans_app.specs.EarlyPair.{pair_run}
+use Rattle.privtrans_app.specs.EarlyInput.{Texts, most, KeepsConditions, IsGoodText, ArePolicyModels, HaveNoModels, IsEarly, IsNotBuilt, IsBuilt}
 use Rattle.privtrans_app.proofs.TextLemmas.{one}
 use Rattle.privtrans_app.proofs.RunLemmas.{pair_keeps}
 use Rattle.privtrans_app.proofs.TableAndPolicy.{models_are_steady, policy_allows}

@@ -1,5 +1,5 @@
 -- An index as a list of names.
-use Rattle.std.proofs.Common.{◌≡◌, ◌≤◌, ℕ, zero, suc, List, [], ◌∷◌, ◌++◌, map, Vec, refl, sym, ◌∙◌, ap, ◌+◌, length, nat_lt, cond, not, arith, Bool, true, false, ◌||◌, if◌then◌else◌, Option, Some, None, option_map}
+use Rattle.std.proofs.Common.{◌≡◌, ◌≤◌, ℕ, suc, List, [], ◌∷◌, ◌++◌, map, Vec, refl, ◌∙◌, ap, ◌+◌, length, nat_lt, cond, not, arith, Bool, true, false, ◌||◌, if◌then◌else◌, Some, None}
 use Rattle.std.specs.Prelude.{position}
 use Rattle.std.specs.List.{list_any, position_or_len}
 use Rattle.std.specs.Str.{bytes_eq}

@@ -1,13 +1,13 @@
 -- What the run of files comes to.
-use Rattle.std.proofs.Common.{◌≡◌, ◌≢◌, ◌⊎◌, ◌≤◌, ◌<◌, ◌^◌, ℕ, List, [], ◌∷◌, ◌++◌, take, get_or, refl, sym, ◌∙◌, ap, subst, arith, Option, Some, None, inl, inr}
-use Rattle.std.specs.Io.KnownBytes.{Appends, Keeps}
+use Rattle.std.proofs.Common.{◌≡◌, ◌⊎◌, ◌≤◌, ℕ, List, [], ◌∷◌, ◌++◌, get_or, refl, sym, ◌∙◌, ap, subst, arith, Option, Some, None, inl, inr}
+use Rattle.std.specs.Io.KnownBytes.{Keeps}
 use Rattle.std.specs.Prelude.{codes}
 use Rattle.std.specs.Fmt.{decimal}
 use Rattle.std.proofs.lemmas.Fmt.{decimal_injective}
 use Rattle.pt_base.specs.Faults.{Rose}
-use Rattle.pt_base.specs.Files.{Files, Lacks, GivesFirst}
+use Rattle.pt_base.specs.Files.{Files, Lacks}
 use Rattle.pt_base.specs.Told.{AppendsPart}
-use Rattle.privtrans_app.specs.Words.{IsHelp, IsVersion, IsLocal, IsNoForm}
+use Rattle.privtrans_app.specs.Words.{IsLocal}
 use Rattle.privtrans_app.specs.EarlyInput.{Texts, IsBuilt, IsNotBuilt}
 use Rattle.privtrans_app.specs.Ending.{Ending, help, version, exit, usage, missing, read_fault, write_fault, not_built, memory, IsNamed, AreHeld, Expects, Refuses, WritesPart, ComesTo}
 use Rattle.privtrans_app.specs.Reading.{IsReadRefusal, IsRefusal, AreFirst}

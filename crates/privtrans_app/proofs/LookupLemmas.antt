@@ -1,5 +1,5 @@
 -- A host that is found by its name.
-use Rattle.std.proofs.Common.{◌≡◌, ◌<◌, ℕ, zero, suc, List, [], ◌∷◌, length, get_or, refl, sym, ◌∙◌, ap, arith, Bool, true, false, ◌||◌, if◌then◌else◌, Option, Some, None}
+use Rattle.std.proofs.Common.{◌≡◌, ◌<◌, ℕ, suc, List, [], ◌∷◌, length, get_or, refl, sym, ◌∙◌, ap, arith, Bool, true, false, ◌||◌, if◌then◌else◌, Some, None}
 use Rattle.std.specs.Str.{bytes_eq}
 use Rattle.privtrans_app.specs.Names.{is_in, place_in, found_in}
 use Rattle.privtrans_app.specs.EarlyTree.{names_of}

@@ -1,32 +1,27 @@
 -- The pair's halves, with handles revealed, go as the program does.
-use Rattle.std.proofs.Common.{◌≡◌, ◌≢◌, ◌⊎◌, ◌<◌, ◌≤◌, ◌+◌, ℕ, zero, suc, ℤ, pos, List, [], ◌∷◌, ◌++◌, length, map, get_or, set, refl, sym, ◌∙◌, ap, subst, arith, Bool, true, false, not, ◌&&◌, ◌||◌, if◌then◌else◌, nat_eq, nat_lt, Option, Some, None, append_assoc, length-append, inl, inr, option_map}
+use Rattle.std.proofs.Common.{◌≡◌, ◌<◌, ◌+◌, ℕ, zero, suc, ℤ, pos, List, [], ◌∷◌, ◌++◌, length, map, get_or, refl, sym, ◌∙◌, ap, subst, arith, Bool, true, false, not, ◌&&◌, ◌||◌, if◌then◌else◌, nat_eq, nat_lt, Option, Some, None, append_assoc, length-append, option_map}
 use Rattle.std.specs.Prelude.{⊤, slice_get}
 use Rattle.std.specs.Str.{bytes_eq}
-use Rattle.std.proofs.lemmas.List.{get_or-set_same, get_or-set_other, get_or_push, length-set}
+use Rattle.std.proofs.lemmas.List.{get_or_push}
 use Rattle.std.proofs.Math.ListN.{get_or-append}
 use Rattle.pt_tree.specs.declared.host_model.HostModel.{HostModel}
 use Rattle.pt_tree.specs.declared.host_model.HostModel.TheVariants.{Table, Feed, Input, Bytes, Line}
 use Rattle.pt_tree.specs.HostStep.{Answer, host_step}
-use Rattle.source_meaning.specs.Memory.{Memory, Cell, number, Block, local, global, same_block, put, read, write}
-use Rattle.source_meaning.specs.Program.{Expression, constant, variable, assign, call, Arguments, none, argument, Statement as Said, declare, evaluate, give_back}
-use Rattle.source_meaning.specs.State.{State, Event, out, guarded, Hosts, put_host, Value, holds, nothing, number_of, numbers_of, Outcome, gives, ◌>>=◌, take_turn}
-use Rattle.source_meaning.specs.Meaning.{Calls, value_of, values_of, stored, Flow, goes_on, statement, after_flow, statements, plain_numbers, guarded_event, out_event, result_value, answered, host_call}
+use Rattle.source_meaning.specs.Memory.{number, local}
+use Rattle.source_meaning.specs.State.{State, Event, out, guarded, Hosts, put_host, Value, holds, nothing, numbers_of, gives, ◌>>=◌, take_turn}
+use Rattle.source_meaning.specs.Meaning.{Calls, value_of, values_of, plain_numbers, guarded_event, out_event, result_value, answered, host_call}
 use Rattle.source_meaning.specs.Run.{written}
 use Rattle.privtrans_app.specs.Names.{is_in, place_in, all_differ}
-use Rattle.privtrans_app.specs.EarlyTree.{names_of, param_of, signature_of, arg_tree, args_tree, call_tree, source_tree, statement_tree}
-use Rattle.privtrans_app.specs.EarlyConditions.{host_of, param_names, has_marked, host_is_good, hosts_are_good, arg_is_good, args_are_good, callee_is_good, call_is_good, source_is_good, statement_is_good, statements_are_good, calls_in, call_count}
-use Rattle.privtrans_app.specs.EarlyTaint.{is_sealed, ArgKeeps, ArgsKeep, params_of, CallKeeps, StatementKeeps, StatementsKeep}
-use Rattle.privtrans_app.specs.EarlyPair.{Pair, model_at, revealed, plain_of, arg_held, sent_for, sent, args_held, call_numbers, Called, bytes_of, replied, host_called, called_of, call_made, holds_from_now, done, all_done}
+use Rattle.privtrans_app.specs.EarlyTree.{names_of, param_of, signature_of, arg_tree, args_tree, call_tree}
+use Rattle.privtrans_app.specs.EarlyConditions.{host_of, param_names, has_marked, host_is_good, hosts_are_good, arg_is_good, args_are_good}
+use Rattle.privtrans_app.specs.EarlyTaint.{ArgKeeps, ArgsKeep}
+use Rattle.privtrans_app.specs.EarlyPair.{Pair, model_at, revealed, plain_of, arg_held, sent_for, sent, args_held, call_numbers, Called, bytes_of, replied, host_called}
 use Rattle.privtrans_app.specs.EarlyRun.{is_steady, AreSteady}
-use Rattle.privtrans_app.proofs.TaintLemmas.{Follows, AllFollow}
 use Rattle.privtrans_app.specs.declared.early.HostParam.{HostParam}
 use Rattle.privtrans_app.specs.declared.early.Host.{Host}
 use Rattle.privtrans_app.specs.declared.early.Arg.{Arg}
 use Rattle.privtrans_app.specs.declared.early.Arg.TheVariants.{Number, Variable}
 use Rattle.privtrans_app.specs.declared.early.Call.{Call}
-use Rattle.privtrans_app.specs.declared.early.Source.TheVariants.{Number as FromNumber, Variable as FromVariable, Call as FromCall}
-use Rattle.privtrans_app.specs.declared.early.Statement.{Statement}
-use Rattle.privtrans_app.specs.declared.early.Statement.TheVariants.{Set, Do}
 use Rattle.privtrans_app.specs.declared.held.Held.{Held}
 use Rattle.privtrans_app.specs.declared.held.Held.TheVariants.{Plain, Handle}
 use Rattle.privtrans_app.specs.Marks.{is_privileged, is_declassified}

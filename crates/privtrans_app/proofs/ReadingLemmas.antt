@@ -1,7 +1,6 @@
 -- Files that are read one after the other.
-use Rattle.std.proofs.Common.{◌≡◌, ◌≤◌, ◌<◌, ◌^◌, ◌-◌, ◌⊎◌, ℕ, List, Option, Some, None, arith, sym, ◌∙◌, inl, inr}
-use Rattle.pt_base.specs.Faults.{Rose}
-use Rattle.pt_base.specs.Files.{Files, SameFiles, GivesFirst, Lacks}
+use Rattle.std.proofs.Common.{ℕ, List, Option, Some, None, sym, ◌∙◌}
+use Rattle.pt_base.specs.Files.{Files, SameFiles, GivesFirst}
 
 pub same_trans : (a b c : Option Files) → SameFiles a b → SameFiles b c → SameFiles a c
 same_trans None b c x y = tt

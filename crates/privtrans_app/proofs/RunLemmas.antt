@@ -1,24 +1,23 @@
 -- Whole early programs: their statements, their declarations, and what is expected of them.
-use Rattle.std.proofs.Common.{◌≡◌, ◌≢◌, ◌<◌, ◌≤◌, ◌+◌, ◌-◌, ℕ, zero, suc, ℤ, pos, List, [], ◌∷◌, ◌++◌, length, map, get_or, set, refl, sym, ◌∙◌, ap, subst, arith, Bool, true, false, not, ◌&&◌, if◌then◌else◌, nat_eq, Option, Some, None, append_assoc}
+use Rattle.std.proofs.Common.{◌≡◌, ◌≢◌, ◌<◌, ◌≤◌, ◌+◌, ◌-◌, ℕ, zero, suc, pos, List, [], ◌∷◌, ◌++◌, length, map, get_or, set, refl, sym, ◌∙◌, ap, subst, arith, Bool, true, false, ◌&&◌, if◌then◌else◌, nat_eq, Option, Some, None, append_assoc}
 use Rattle.std.specs.Prelude.{⊤, slice_get, replicate}
-use Rattle.std.specs.Str.{bytes_eq}
 use Rattle.std.proofs.lemmas.List.{get_or-set_same, get_or-set_other, length-set}
 use Rattle.pt_base.specs.declared.end.End.{End}
 use Rattle.pt_base.specs.declared.end.End.TheVariants.{Exit}
 use Rattle.pt_tree.specs.declared.host_model.HostModel.{HostModel}
 use Rattle.source_meaning.specs.Memory.{Memory, Cell, number, local, put, read, write}
-use Rattle.source_meaning.specs.Program.{Statement as Said, declare, evaluate, give_back, constant}
-use Rattle.source_meaning.specs.State.{State, Event, out, guarded, Value, holds, nothing, Outcome, gives, ◌>>=◌}
-use Rattle.source_meaning.specs.Meaning.{stored, Flow, goes_on, returns, statement, after_flow, statements, host_call}
-use Rattle.source_meaning.specs.Run.{Run, Answers, Expected, expected, expected_from, decided, after_bytes, ended, run, start, written}
+use Rattle.source_meaning.specs.Program.{Statement as Said, give_back, constant}
+use Rattle.source_meaning.specs.State.{State, Event, out, guarded, Value, holds, nothing, gives, ◌>>=◌}
+use Rattle.source_meaning.specs.Meaning.{stored, goes_on, statement, after_flow, statements, host_call}
+use Rattle.source_meaning.specs.Run.{expected, expected_from, decided, after_bytes, ended, start, written}
 use Rattle.privtrans_app.specs.Names.{is_in, place_in, all_differ}
 use Rattle.privtrans_app.specs.EarlyTree.{names_of, signature_of, statement_tree, declares, meant}
-use Rattle.privtrans_app.specs.EarlyConditions.{host_of, hosts_are_good, args_are_good, callee_is_good, call_is_good, source_is_good, statement_is_good, statements_are_good, names_are_good, calls_in, call_count}
-use Rattle.privtrans_app.specs.EarlyTaint.{is_sealed, ArgsKeep, params_of, CallKeeps, StatementKeeps, StatementsKeep, KeepsTaint, IsTainted, sources, copies}
-use Rattle.privtrans_app.specs.EarlyPair.{Pair, model_at, revealed, arg_held, args_held, Called, host_called, called_of, call_made, holds_from_now, done, all_done, pair_start, pair_run}
+use Rattle.privtrans_app.specs.EarlyConditions.{host_of, hosts_are_good, args_are_good, callee_is_good, call_is_good, statement_is_good, statements_are_good, names_are_good, calls_in, call_count}
+use Rattle.privtrans_app.specs.EarlyTaint.{is_sealed, ArgsKeep, params_of, CallKeeps, StatementKeeps, StatementsKeep, sources, copies}
+use Rattle.privtrans_app.specs.EarlyPair.{Pair, model_at, revealed, arg_held, args_held, Called, called_of, call_made, holds_from_now, done, all_done, pair_start}
 use Rattle.privtrans_app.specs.EarlyRun.{AreSteady, early_answers, AllAllowed, PairKeeps}
 use Rattle.privtrans_app.proofs.TaintLemmas.{Follows, AllFollow, all_follow}
-use Rattle.privtrans_app.proofs.PairLemmas.{HandleFits, no_number, IsGuarded, AreGuarded, Agrees, place_in-lt, both, host_good, ResultIs, CallGoes, host_goes}
+use Rattle.privtrans_app.proofs.PairLemmas.{HandleFits, no_number, AreGuarded, Agrees, place_in-lt, both, host_good, ResultIs, CallGoes, host_goes}
 use Rattle.propagation.specs.Paths.{IsPriv}
 use Rattle.privtrans_app.specs.declared.early.Host.{Host}
 use Rattle.privtrans_app.specs.declared.early.Arg.TheVariants.{Variable}

@@ -1,7 +1,7 @@
 -- What an early program is to keep beside its grammar.
-use Rattle.std.specs.Prelude.{◌≡◌, ℕ, ◌+◌, Bool, true, false, not, ◌&&◌, ◌||◌, IsTrue, List, [], ◌∷◌, ◌++◌, Option, Some, None, length, if◌then◌else◌, nat_eq, nat_lt}
+use Rattle.std.specs.Prelude.{ℕ, ◌+◌, Bool, true, false, not, ◌&&◌, ◌||◌, List, [], ◌∷◌, ◌++◌, Option, Some, None, length, if◌then◌else◌, nat_eq, nat_lt}
 use Rattle.std.specs.Str.{bytes_eq}
-use Rattle.privtrans_app.specs.Names.{is_in, place_in, all_differ}
+use Rattle.privtrans_app.specs.Names.{is_in, all_differ}
 use Rattle.privtrans_app.specs.EarlyTree.{names_of}
 use Rattle.privtrans_app.specs.declared.early.HostParam.{HostParam}
 use Rattle.privtrans_app.specs.declared.early.Host.{Host}

@@ -1,8 +1,8 @@
 -- Which texts are early, and what is expected of them.
-use Rattle.std.specs.Prelude.{◌≡◌, ◌≤◌, ℕ, pos, true, List, [], length, Option, Some, IfSome}
+use Rattle.std.specs.Prelude.{◌≡◌, ◌≤◌, ℕ, pos, true, List, [], length, Some}
 use Rattle.pt_base.specs.declared.end.End.TheVariants.{Exit}
 use Rattle.pt_tree.specs.declared.host_model.HostModel.{HostModel}
-use Rattle.source_meaning.specs.Run.{Expected, expected, run}
+use Rattle.source_meaning.specs.Run.{expected, run}
 use Rattle.privtrans_app.specs.EarlyText.{IsEarlyText}
 use Rattle.privtrans_app.specs.EarlyTree.{meant}
 use Rattle.privtrans_app.specs.EarlyConditions.{names_are_good, call_count}

@@ -1,13 +1,12 @@
 -- The two halves at work on an early program: the slave's variables hold numbers or handles, the
 -- monitor keeps the values of handles.
-use Rattle.std.specs.Prelude.{ℕ, ℤ, pos, Bool, true, false, not, ◌&&◌, List, [], ◌∷◌, ◌++◌, Option, Some, None, map, length, if◌then◌else◌, slice_index_or, slice_get, slice_set, replicate}
+use Rattle.std.specs.Prelude.{ℕ, ℤ, pos, Bool, true, false, not, ◌&&◌, List, [], ◌∷◌, ◌++◌, Option, Some, None, map, length, slice_index_or, slice_set, replicate}
 use Rattle.pt_tree.specs.declared.host_model.HostModel.{HostModel}
-use Rattle.pt_tree.specs.declared.host_model.HostModel.TheVariants.{Table, Feed, Input, Bytes, Line}
-use Rattle.pt_tree.specs.HostStep.{Answer, host_step}
+use Rattle.pt_tree.specs.declared.host_model.HostModel.TheVariants.{Line}
+use Rattle.pt_tree.specs.HostStep.{host_step}
 use Rattle.privtrans_app.specs.Names.{place_in}
 use Rattle.privtrans_app.specs.EarlyTree.{names_of}
 use Rattle.privtrans_app.specs.EarlyConditions.{host_of}
-use Rattle.privtrans_app.specs.EarlyTaint.{params_of, is_sealed}
 use Rattle.privtrans_app.specs.declared.early.HostParam.{HostParam}
 use Rattle.privtrans_app.specs.declared.early.Host.{Host}
 use Rattle.privtrans_app.specs.declared.early.Arg.{Arg}

@@ -1,14 +1,14 @@
 -- What the pair gives is what is expected of the program.
-use Rattle.std.specs.Prelude.{◌≡◌, ◌≤◌, ℕ, ℤ, pos, Bool, true, false, List, [], ◌∷◌, ⊤, Option, Some, None, length, if◌then◌else◌, slice_get, slice_index_or}
+use Rattle.std.specs.Prelude.{◌≡◌, ◌≤◌, ℕ, pos, Bool, true, false, List, [], ◌∷◌, ⊤, Some, None, if◌then◌else◌, slice_index_or}
 use Rattle.pt_base.specs.declared.end.End.TheVariants.{Exit}
 use Rattle.pt_tree.specs.declared.host_model.HostModel.{HostModel}
 use Rattle.pt_tree.specs.declared.host_model.HostModel.TheVariants.{Table, Feed, Input, Bytes, Line}
-use Rattle.source_meaning.specs.Run.{Answers, Expected, expected, run}
+use Rattle.source_meaning.specs.Run.{Answers, expected, run}
 use Rattle.privtrans_app.specs.Names.{is_in}
 use Rattle.privtrans_app.specs.EarlyTree.{names_of, meant}
 use Rattle.privtrans_app.specs.EarlyConditions.{names_are_good, call_count}
 use Rattle.privtrans_app.specs.EarlyTaint.{KeepsTaint}
-use Rattle.privtrans_app.specs.EarlyPair.{Pair, model_at, pair_run}
+use Rattle.privtrans_app.specs.EarlyPair.{model_at, pair_run}
 use Rattle.privtrans_app.specs.declared.early.Host.{Host}
 use Rattle.privtrans_app.specs.declared.early.Program.{Program}
 use Rattle.privtrans_app.specs.Marks.{is_privileged}

@@ -1,6 +1,6 @@
 -- Which variables of an early program may hold handles, and that none of them goes where a number
 -- belongs.
-use Rattle.std.specs.Prelude.{◌≡◌, ℕ, Bool, true, false, not, ◌&&◌, List, [], ◌∷◌, ◌++◌, Option, Some, None, ⊤, length, is_some, option_to_list, if◌then◌else◌}
+use Rattle.std.specs.Prelude.{ℕ, Bool, true, false, not, ◌&&◌, List, [], ◌∷◌, ◌++◌, Option, Some, None, ⊤, is_some, option_to_list, if◌then◌else◌}
 use Rattle.pt_base.specs.declared.slot.Slot.{Slot}
 use Rattle.pt_base.specs.declared.slot.Edge.{Edge}
 use Rattle.propagation.specs.Paths.{IsPriv}
@@ -12,7 +12,6 @@ use Rattle.privtrans_app.specs.declared.early.Host.{Host}
 use Rattle.privtrans_app.specs.declared.early.Arg.{Arg}
 use Rattle.privtrans_app.specs.declared.early.Arg.TheVariants.{Number, Variable}
 use Rattle.privtrans_app.specs.declared.early.Call.{Call}
-use Rattle.privtrans_app.specs.declared.early.Source.{Source}
 use Rattle.privtrans_app.specs.declared.early.Source.TheVariants.{Number as FromNumber, Variable as FromVariable, Call as FromCall}
 use Rattle.privtrans_app.specs.declared.early.Statement.{Statement}
 use Rattle.privtrans_app.specs.declared.early.Statement.TheVariants.{Set, Do}

@@ -1,5 +1,5 @@
 -- What an early program means: the program of its hosts and statements by number.
-use Rattle.std.specs.Prelude.{ℕ, suc, zero, ◌+◌, ℤ, pos, Bool, true, false, List, [], ◌∷◌, ◌++◌, Option, Some, None, map, length, if◌then◌else◌, slice_get}
+use Rattle.std.specs.Prelude.{ℕ, suc, zero, pos, true, false, List, [], ◌∷◌, ◌++◌, Some, None, map, length, if◌then◌else◌}
 use Rattle.pt_base.specs.declared.int_type.IntType.TheVariants.{Int}
 use Rattle.pt_tree.specs.declared.signature.Signature.{Signature}
 use Rattle.pt_tree.specs.declared.signature.Param.{Param}

@@ -1,4 +1,4 @@
-use Rattle.std.proofs.Common.{◌≡◌, ◌++◌, length}
+use Rattle.std.proofs.Common.{◌≡◌, length}
 use Rattle.pt_tree.specs.HostStep.{same_numbers}
 use Rattle.privtrans_app.proofs.answer.are_same.Given as goal
 

@@ -1,4 +1,4 @@
-use Rattle.std.proofs.Common.{◌≡◌, ◌++◌, length}
+use Rattle.std.proofs.Common.{◌≡◌, length}
 use Rattle.pt_tree.specs.HostStep.{table_result}
 use Rattle.privtrans_app.proofs.answer.row_result.Given as goal
 

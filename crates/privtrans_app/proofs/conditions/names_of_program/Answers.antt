@@ -1,4 +1,4 @@
-use Rattle.std.proofs.Common.{◌≡◌, ◌++◌, ℕ, List, [], Bool, true, ◌&&◌, arith, refl, ◌∙◌, ap, subst}
+use Rattle.std.proofs.Common.{◌≡◌, ◌++◌, [], Bool, true, ◌&&◌, arith, refl, subst}
 use Rattle.privtrans_app.specs.Names.{all_differ, fresh}
 use Rattle.privtrans_app.specs.Index.{names_listed}
 use Rattle.privtrans_app.specs.EarlyConditions.{hosts_are_good, statements_are_good}

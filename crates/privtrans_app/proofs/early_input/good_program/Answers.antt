@@ -1,7 +1,7 @@
-use Rattle.std.proofs.Common.{◌≡◌, ℕ, List, Option, Some, None, arith, subst}
+use Rattle.std.proofs.Common.{Option, arith, subst}
 use Rattle.std.specs.Prelude.{MatchOption}
 use Rattle.privtrans_app.specs.EarlyText.{IsEarlyText}
-use Rattle.privtrans_app.specs.EarlyInput.{KeepsConditions, IsGoodText}
+use Rattle.privtrans_app.specs.EarlyInput.{KeepsConditions}
 use Rattle.privtrans_app.specs.Lookup.{AreNamesOf}
 use Rattle.privtrans_app.specs.declared.lookup.Names.{Names}
 use Rattle.privtrans_app.proofs.EarlyInputLemmas.{only_good}

@@ -1,11 +1,10 @@
-use Rattle.std.proofs.Common.{◌≡◌, ℕ, List, length, Option, Some, None, arith, sym, subst, ap, ◌∙◌}
+use Rattle.std.proofs.Common.{◌≡◌, ℕ, List, length, Option, None, arith, sym, subst, ap, ◌∙◌}
 use Rattle.std.specs.Prelude.{MatchOption, Vec}
 use Rattle.std.specs.declared.alloc.Global.{Global}
 use Rattle.pt_tree.specs.declared.host_model.HostModel.{HostModel}
-use Rattle.privtrans_app.specs.EarlyText.{IsEarlyText}
 use Rattle.privtrans_app.specs.EarlyTexts.{texts_of}
 use Rattle.privtrans_app.specs.EarlyRun.{AreSteady}
-use Rattle.privtrans_app.specs.EarlyInput.{Texts, KeepsConditions, IsGoodText, AreSized, AreModels, HaveNoModels, IsEarly, IsBuilt}
+use Rattle.privtrans_app.specs.EarlyInput.{Texts, IsGoodText, AreSized, AreModels, HaveNoModels, IsBuilt}
 use Rattle.privtrans_app.specs.EarlyPair.{pair_run}
 use Rattle.privtrans_app.specs.Lookup.{AreNamesOf}
 use Rattle.privtrans_app.specs.declared.early.Host.{Host}

@@ -1,6 +1,5 @@
-use Rattle.std.proofs.Common.{◌≡◌, ℕ, List, Option, ap, subst, Err}
+use Rattle.std.proofs.Common.{ℕ, List, ap, subst, Err}
 use Rattle.std.specs.Io.KnownBytes.{Appends}
-use Rattle.pt_base.specs.Files.{Files}
 use Rattle.pt_base.specs.Told.{AppendsPart}
 use Rattle.privtrans_app.specs.EarlyInput.{Texts, IsOutcome, IsBuilt, IsNotBuilt}
 use Rattle.privtrans_app.specs.EarlyTexts.{texts_of}

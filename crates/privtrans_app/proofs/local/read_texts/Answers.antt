@@ -1,4 +1,4 @@
-use Rattle.std.proofs.Common.{◌≡◌, ℕ, List, Option}
+use Rattle.std.proofs.Common.{Option}
 use Rattle.pt_base.specs.Files.{Files, SameFiles}
 use Rattle.privtrans_app.proofs.ReadingLemmas.{same_trans, gives_same}
 use Rattle.privtrans_app.proofs.local.read_texts.Goals as goal

@@ -1,4 +1,4 @@
-use Rattle.std.proofs.Common.{◌≡◌, ◌+◌, ℕ, List, length, Bool, true, false, Option, arith, sym, ◌∙◌, ap, subst}
+use Rattle.std.proofs.Common.{◌≡◌, ◌+◌, ℕ, List, length, Bool, Option, arith, sym, ◌∙◌, ap, subst}
 use Rattle.propagation.specs.Marks.{AreMarks}
 use Rattle.privtrans_app.specs.Index.{names_listed}
 use Rattle.privtrans_app.specs.EarlyTaint.{sources, copies, statements_keep, marked_tainted, IsTainted, KeepsTaint}

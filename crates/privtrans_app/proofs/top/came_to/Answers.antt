@@ -1,4 +1,4 @@
-use Rattle.std.proofs.Common.{◌≡◌, ℕ, List, map, Option, Some, arith, subst}
+use Rattle.std.proofs.Common.{ℕ, List, map, Option, subst}
 use Rattle.std.specs.Prelude.{MatchOption}
 use Rattle.privtrans_app.specs.Words.{IsForm, IsNoForm}
 use Rattle.privtrans_app.specs.declared.words.Form.{Form}

@@ -1,5 +1,4 @@
-use Rattle.std.proofs.Common.{◌≡◌, ℕ, List, map, Option, Some, subst}
-use Rattle.pt_base.specs.Files.{Files}
+use Rattle.std.proofs.Common.{map, subst}
 use Rattle.privtrans_app.specs.Ending.{ComesTo}
 use Rattle.privtrans_app.specs.EndingSeen.{ending_seen}
 use Rattle.privtrans_app.proofs.CompleteLemmas.{completes}

@@ -1,7 +1,7 @@
-use Rattle.std.proofs.Common.{◌≡◌, ◌≤◌, ◌<◌, ◌^◌, ℕ, List, [], ◌∷◌, get_or, arith, sym, ◌∙◌, ap, subst}
+use Rattle.std.proofs.Common.{◌≡◌, ◌≤◌, ℕ, List, [], ◌∷◌, get_or, arith, sym, ◌∙◌, ap}
 use Rattle.std.specs.Fmt.{decimal}
 use Rattle.std.proofs.lemmas.Fmt.{decimal_injective}
-use Rattle.privtrans_app.specs.Words.{IsLocal, IsNoForm}
+use Rattle.privtrans_app.specs.Words.{IsNoForm}
 use Rattle.privtrans_app.proofs.words.local_form.Goals as goal
 
 -- a window of 0 is none
