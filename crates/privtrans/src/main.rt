@@ -47,13 +47,7 @@ fn no_words<E: Sink>(alloc: Global, report: &mut E, fault: &io::Error) -> u8 {
     };
     match report.write(alloc, line) {
         Ok(()) => status,
-        Err(_) => {
-            if status == 12 {
-                12
-            } else {
-                4
-            }
-        }
+        Err(_) => { if status == 12 { 12 } else { 4 } }
     }
 }
 

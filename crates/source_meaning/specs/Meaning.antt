@@ -1,14 +1,14 @@
 -- The meaning of a program: one equation for each form, from left to right, with one memory, no
 -- handles and no messages.
-use Rattle.std.specs.Prelude.{ℕ, ℤ, pos, Bool, true, false, not, ◌&&◌, List, [], ◌∷◌, ◌++◌, Option, Some, None, if◌then◌else◌, slice_get}
+use Rattle.std.specs.Prelude.{ℕ, ℤ, pos, Bool, false, not, List, [], ◌∷◌, ◌++◌, Option, Some, None, if◌then◌else◌, slice_get}
 use Rattle.pt_tree.specs.declared.signature.Signature.{Signature}
 use Rattle.pt_tree.specs.declared.signature.Param.{Param}
 use Rattle.pt_tree.specs.declared.signature.ParamKind.{ParamKind}
 use Rattle.pt_tree.specs.declared.signature.ParamKind.TheVariants.{Int, Ptr}
 use Rattle.pt_tree.specs.HostStep.{Answer, host_step}
-use Rattle.source_meaning.specs.Memory.{Memory, Cell, number, local, put, read, write}
+use Rattle.source_meaning.specs.Memory.{number, local, put, read, write}
 use Rattle.source_meaning.specs.Program.{Expression, constant, variable, assign, call, Arguments, none, argument, Statement, declare, evaluate, give_back}
-use Rattle.source_meaning.specs.State.{State, Event, out, guarded, put_host, Value, holds, nothing, number_of, numbers_of, Outcome, gives, trapped, spent, ◌>>=◌, take_turn}
+use Rattle.source_meaning.specs.State.{State, Event, out, guarded, put_host, Value, holds, nothing, numbers_of, Outcome, gives, ◌>>=◌, take_turn}
 
 -- what a call does: the depth of the caller, the function, and the values of the arguments
 abbrev pub Calls : Type 0
@@ -26,6 +26,7 @@ abbrev mutual
   value_of (variable x) calls depth st = gives (holds (read st.memory (local depth x) 0)) st
   value_of (assign x e) calls depth st = value_of e calls depth st >>= stored depth x
   value_of (call f arguments) calls depth st = values_of arguments calls depth st >>= calls depth f
+
   -- the values of arguments, from the left
   pub values_of : Arguments → Calls → ℕ → State → Outcome (List Value)
   values_of none calls depth st = gives [] st
@@ -89,4 +90,4 @@ answered f answer st = gives (result_value answer.result)
 abbrev pub host_call : List Signature → Calls
 host_call signatures depth f values st = take_turn st.left st (λ st1.
     answered f (host_step st1.input (st1.hosts f) (numbers_of values))
-      (record st1 { events = st1.events ++ guarded_event (slice_get signatures f) f (numbers_of values) }))
+    (record st1 { events = st1.events ++ guarded_event (slice_get signatures f) f (numbers_of values) }))

@@ -1,5 +1,5 @@
 -- The memory of the original program: which cells lie in which block.
-use Rattle.std.specs.Prelude.{◌≡◌, ℕ, ℤ, pos, Bool, true, false, ◌&&◌, List, [], if◌then◌else◌, nat_eq, slice_index_or, slice_set}
+use Rattle.std.specs.Prelude.{ℕ, ℤ, pos, Bool, false, ◌&&◌, List, [], if◌then◌else◌, nat_eq, slice_index_or, slice_set}
 
 -- An object is a block of cells. A local is named by the depth of its function's call and by its
 -- variable, a global by its number.

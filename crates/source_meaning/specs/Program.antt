@@ -13,6 +13,7 @@ mutual
     assign : ℕ → Expression → Expression
     -- a call of the function of this number (C99 6.5.2.2)
     call : ℕ → Arguments → Expression
+
   -- The arguments of a call, from the left.
   pub data Arguments : Type 0 where
     none : Arguments

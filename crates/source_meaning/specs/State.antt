@@ -1,5 +1,5 @@
 -- What a run goes through: its state, its events, and what a part of it comes to.
-use Rattle.std.specs.Prelude.{ℕ, suc, zero, ℤ, pos, List, [], ◌∷◌, ◌++◌, if◌then◌else◌, nat_eq}
+use Rattle.std.specs.Prelude.{ℕ, suc, zero, ℤ, pos, List, [], ◌∷◌, if◌then◌else◌, nat_eq}
 use Rattle.pt_base.specs.declared.span.Span.{Span}
 use Rattle.pt_base.specs.declared.trap.Trap.{Trap}
 use Rattle.pt_tree.specs.declared.host_model.HostModel.{HostModel}
@@ -51,7 +51,6 @@ pub data Outcome (A : Type 0) : Type 0 where
   spent : State → Outcome A
 
 infixl 20 ◌>>=◌
-
 -- one part after another
 abbrev pub ◌>>=◌ : {A B : Type 0} → Outcome A → (A → State → Outcome B) → Outcome B
 gives a st >>= next = next a st
