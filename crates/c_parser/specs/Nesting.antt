@@ -3,7 +3,7 @@ use Rattle.std.specs.Prelude.{◌≡◌, ℕ, zero, suc, ◌+◌, ◌-◌, ◌<�
 use Rattle.c_lexer.specs.declared.token.Token.{Token}
 use Rattle.c_grammar.specs.declared.symbol.Symbol.TheVariants.{TranslationUnit}
 use Rattle.c_grammar.specs.Part.{Part, items}
-use Rattle.c_grammar.specs.Machine.{Entry, takes, gives, opens, closes, builds, Outcome, done, fault_at, too_deep, unfinished, rule_at, wanted, accepted, stretch, run, derived}
+use Rattle.c_grammar.specs.Machine.{Entry, takes, gives, opens, closes, builds, Outcome, done, fault_at, too_deep, unfinished, rule_at, wanted, accepted, stretch, derived}
 
 abbrev pub count_rule : Option ℕ → (ℕ → ℕ) → ℕ
 count_rule None go = 0

@@ -5,5 +5,4 @@ ghost use Rattle.c_parser.specs.Nesting.{LimitIsNesting};
 /// one, where the nesting never goes over the limit; and else the first place at which it does.
 pub fn the_limit_is_nesting()
     ensures { LimitIsNesting }
-{
-}
+{}
