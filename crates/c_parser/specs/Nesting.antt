@@ -38,3 +38,7 @@ Agrees limit unfinished free deep = (free ≡ unfinished) × ((p : ℕ) → deep
 -- limit; and else the first place at which it does.
 abbrev pub LimitIsNesting : Type 0
 LimitIsNesting = (limit : ℕ) (tokens : List Token) (n : ℕ) → Agrees limit (derived (Some limit) tokens n) (derived None tokens n) (nested tokens n)
+
+-- However many steps are taken, the derivation comes to one outcome at most.
+abbrev pub OneOutcome : Type 0
+OneOutcome = (limit : Option ℕ) (tokens : List Token) (n m : ℕ) → (derived limit tokens n ≡ unfinished → ⊥) → (derived limit tokens m ≡ unfinished → ⊥) → derived limit tokens n ≡ derived limit tokens m
