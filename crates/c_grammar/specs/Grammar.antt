@@ -6,7 +6,7 @@ use Rattle.pt_tree.specs.declared.operator.BinaryOp.TheVariants as b
 use Rattle.pt_tree.specs.declared.operator.PrefixOp.TheVariants as p
 use Rattle.pt_tree.specs.declared.specifier.SpecWord.TheVariants as w
 use Rattle.c_grammar.specs.declared.symbol.Symbol.TheVariants as s
-use Rattle.c_grammar.specs.Item.{Item, token, symbol, counted, build, Rule, rule}
+use Rattle.c_grammar.specs.Item.{token, symbol, counted, build, Rule, rule}
 use Rattle.c_grammar.specs.Builds.{add_item, an_item, no_declarators, function_rest, first_init, no_body, some_body, first_spec, add_spec, keyword, first_name, an_attribute, add_name, a_struct, first_field, no_fields, add_field, first_declarator, a_field, add_declarator, a_declarator, star, no_star, no_suffix, a_size, no_size, no_value, single_value, first_expr, brace_list, add_expr, add_init, first_param, no_params, add_param, a_param, some_name, no_name, no_statements, a_block, add_statement, declared, a_declaration, block_statement, nothing, evaluated, chosen, while_statement, do_statement, for_statement, returned, broken, continued, some_else, no_else, for_declaration, for_nothing, for_expression, some_expr, no_expr, assigned, some_assignment, no_assignment, conditional, some_arms, no_arms, in_parentheses, prefixed, stepped, no_postfixes, with_postfixes, a_cast, grouped, add_index, add_call, add_dot, add_arrow, add_increment, add_decrement, no_exprs, a_name, a_constant, assigning, operator, no_links, chain_of, add_link, no_sections, switch_statement, add_section, a_section, a_case, a_default}
 
 abbrev pub grammar : List Rule

@@ -1,11 +1,11 @@
 -- The derivation: a stack of what is still wanted, which begins as a program. A symbol on top gives
 -- way to the rule that its row names, and a token on top must be the next one. What a rule builds
 -- has the span from the rule's first to past its last token.
-use Rattle.std.specs.Prelude.{ℕ, zero, suc, ◌≡◌, ◌+◌, ◌-◌, List, [], ◌∷◌, ◌++◌, Option, Some, None, Bool, true, nat_eq, nat_lt, get_or, map, slice_get, if◌then◌else◌}
+use Rattle.std.specs.Prelude.{ℕ, zero, suc, ◌+◌, ◌-◌, List, [], ◌∷◌, ◌++◌, Option, Some, None, Bool, true, nat_eq, nat_lt, get_or, map, slice_get, if◌then◌else◌}
 use Rattle.pt_base.specs.declared.span.Span.{Span}
 use Rattle.c_lexer.specs.declared.token.Token.{Token}
 use Rattle.c_lexer.specs.declared.token.TokenValue.{TokenValue}
-use Rattle.c_lexer.specs.declared.token.TokenValue.TheVariants.{Name, Constant, Fixed}
+use Rattle.c_lexer.specs.declared.token.TokenValue.TheVariants.{Name, Constant}
 use Rattle.c_lexer.specs.declared.token.TokenKind.{TokenKind}
 use Rattle.c_lexer.specs.declared.token.TokenKind.TheVariants.{Identifier, Number, Character}
 use Rattle.c_grammar.specs.declared.symbol.Symbol.{Symbol}

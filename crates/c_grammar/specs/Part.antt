@@ -1,5 +1,5 @@
 -- The parts that the derivation has of the tree, innermost first.
-use Rattle.std.specs.Prelude.{List, [], ◌∷◌, ◌++◌, Bool, Option}
+use Rattle.std.specs.Prelude.{List, Bool, Option}
 use Rattle.pt_tree.specs.declared.word.Word.{Word}
 use Rattle.pt_tree.specs.declared.word.Constant.{Constant}
 use Rattle.pt_tree.specs.declared.operator.BinaryOp.{BinaryOp}

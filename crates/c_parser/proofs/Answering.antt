@@ -1,5 +1,5 @@
 -- The whole text: what stands outside of functions, and what the parser answers.
-use Rattle.std.proofs.Common.{◌≡◌, List, [], ◌∷◌, ◌++◌, refl, Err, map}
+use Rattle.std.proofs.Common.{◌≡◌, List, [], ◌∷◌, ◌++◌, refl, Err}
 use Rattle.pt_base.specs.declared.span.Span.{Span}
 use Rattle.pt_tree.specs.SpecifierTree.{SpecTree, spec_trees}
 use Rattle.c_lexer.specs.declared.token.Token.{Token}

@@ -1,8 +1,7 @@
 -- The limit stops the derivation exactly where the nesting first goes over it.
-use Rattle.std.proofs.Common.{◌≡◌, ℕ, zero, suc, ◌+◌, ◌-◌, ◌<◌, ◌≤◌, max, List, [], ◌∷◌, ◌++◌, Option, None, Some, nat_eq, nat_lt, if◌then◌else◌, slice_get, refl, sym, ap, ◌∙◌, subst, arith, rules, Bool, true, false}
+use Rattle.std.proofs.Common.{◌≡◌, ℕ, zero, suc, ◌+◌, ◌-◌, ◌<◌, ◌≤◌, max, List, [], ◌∷◌, ◌++◌, Option, None, Some, nat_eq, nat_lt, if◌then◌else◌, slice_get, refl, arith, rules, Bool, true, false}
 use Rattle.std.proofs.lemmas.Bool.Decides.{nat_tests}
 use Rattle.c_lexer.specs.declared.token.Token.{Token}
-use Rattle.c_grammar.specs.declared.symbol.Symbol.{Symbol}
 use Rattle.c_grammar.specs.declared.symbol.Symbol.TheVariants.{TranslationUnit}
 use Rattle.c_grammar.specs.Part.{Part, items}
 use Rattle.c_grammar.specs.Machine.{Entry, takes, gives, opens, closes, builds, Outcome, done, fault_at, too_deep, unfinished, rule_at, wanted, accepted, stretch, run, on_rule, on_token}

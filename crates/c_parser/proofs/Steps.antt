@@ -1,5 +1,5 @@
 -- The steps of the derivation, as the parser takes them.
-use Rattle.std.proofs.Common.{◌≡◌, Result, ℕ, zero, suc, ◌+◌, ◌-◌, ◌<◌, List, [], ◌∷◌, ◌++◌, Option, Some, None, refl, sym, rules, ap, ◌∙◌, subst, arith, Bool, true, false, ◌⊎◌, inl, inr, Ok, Err, nat_eq, nat_lt, slice_get, get_or, if◌then◌else◌, cond, ℤ, length, map}
+use Rattle.std.proofs.Common.{◌≡◌, Result, ℕ, suc, ◌+◌, ◌-◌, ◌<◌, List, [], ◌∷◌, ◌++◌, Option, Some, None, refl, sym, rules, ap, ◌∙◌, subst, arith, Bool, true, false, ◌⊎◌, inl, inr, Ok, Err, nat_eq, nat_lt, slice_get, get_or, if◌then◌else◌, cond, ℤ, length, map}
 use Rattle.std.proofs.lemmas.Bool.Decides.{nat_tests}
 use Rattle.pt_base.specs.declared.span.Span.{Span}
 use Rattle.c_lexer.specs.declared.token.Token.{Token}
@@ -17,14 +17,14 @@ use Rattle.c_lexer.specs.declared.token.TokenKind.TheVariants.{Identifier, Numbe
 use Rattle.c_lexer.specs.declared.token.TokenValue.TheVariants.{Name, Constant, Fixed}
 use Rattle.c_grammar.specs.Part.{Part, number}
 use Rattle.c_grammar.specs.Table.{alternatives_of, leads_to}
-use Rattle.c_grammar.specs.Machine.{Entry, takes, gives, opens, closes, builds, Outcome, fault_at, too_deep, run, rule_at, wanted, accepted, given, on_rule, on_token, stretch}
+use Rattle.c_grammar.specs.Machine.{Entry, takes, gives, opens, closes, builds, Outcome, too_deep, run, rule_at, wanted, accepted, given, on_rule, on_token, stretch}
 use Rattle.c_parser.specs.declared.error.ParseError.{ParseError}
 use Rattle.c_parser.specs.declared.error.ParseError.TheVariants.{Memory, FaultAt, TooDeep}
 use Rattle.c_parser.specs.declared.parsed.Parsed.{Parsed}
 use Rattle.pt_tree.specs.declared.expression.Postfix.{Postfix}
 use Rattle.c_grammar.specs.declared.symbol.Symbol.TheVariants.{Postfixes}
-use Rattle.c_parser.specs.Parts.{Adds, Lengthens, Ends}
-use Rattle.c_parser.specs.Parses.{Comes, Parses, Turns, Fails, Tells, Enters, Expects, Begins, Goes, IsOneOf, row_at, is_kind, is_fixed, has_one, has_two, has_constant, deepest}
+use Rattle.c_parser.specs.Parts.{Adds, Ends}
+use Rattle.c_parser.specs.Parses.{Comes, Parses, Turns, Fails, Enters, Goes, IsOneOf, row_at, is_kind, is_fixed, has_one, has_two, has_constant, deepest}
 
 pub shifted : (tokens : List Token) (k : TokenKind) (at depth : ℕ) (new : List Part) → accepted k (slice_get tokens at) ≡ Some new → Turns tokens (takes k ∷ []) at depth [] new (at + 1)
 shifted tokens k at depth new h = record {

@@ -3,7 +3,7 @@ use Rattle.std.specs.Prelude.{◌≡◌, ℕ, zero, suc, ◌+◌, ◌-◌, ◌<�
 use Rattle.c_lexer.specs.declared.token.Token.{Token}
 use Rattle.c_grammar.specs.declared.symbol.Symbol.TheVariants.{TranslationUnit}
 use Rattle.c_grammar.specs.Part.{Part, items}
-use Rattle.c_grammar.specs.Machine.{Entry, takes, gives, opens, closes, builds, Outcome, done, fault_at, too_deep, unfinished, rule_at, wanted, accepted, stretch, run, derived}
+use Rattle.c_grammar.specs.Machine.{Entry, takes, gives, opens, closes, builds, Outcome, done, fault_at, too_deep, unfinished, rule_at, wanted, accepted, stretch, derived}
 
 abbrev pub count_rule : Option ℕ → (ℕ → ℕ) → ℕ
 count_rule None go = 0
@@ -38,3 +38,7 @@ Agrees limit unfinished free deep = (free ≡ unfinished) × ((p : ℕ) → deep
 -- limit; and else the first place at which it does.
 abbrev pub LimitIsNesting : Type 0
 LimitIsNesting = (limit : ℕ) (tokens : List Token) (n : ℕ) → Agrees limit (derived (Some limit) tokens n) (derived None tokens n) (nested tokens n)
+
+-- However many steps are taken, the derivation comes to one outcome at most.
+abbrev pub OneOutcome : Type 0
+OneOutcome = (limit : Option ℕ) (tokens : List Token) (n m : ℕ) → (derived limit tokens n ≡ unfinished → ⊥) → (derived limit tokens m ≡ unfinished → ⊥) → derived limit tokens n ≡ derived limit tokens m

@@ -3,9 +3,9 @@ use Rattle.std.specs.Prelude.{◌≡◌, ℕ, List, [], ◌∷◌, ◌++◌, ◌
 use Rattle.c_lexer.specs.declared.token.Token.{Token}
 use Rattle.c_lexer.specs.declared.token.TokenKind.{TokenKind}
 use Rattle.c_grammar.specs.declared.symbol.Symbol.{Symbol}
-use Rattle.c_grammar.specs.Part.{Part, word, number}
+use Rattle.c_grammar.specs.Part.{Part}
 use Rattle.c_grammar.specs.Table.{alternatives_of}
-use Rattle.c_grammar.specs.Machine.{Entry, takes, gives, opens, Outcome, fault_at, too_deep, run, rule_at, wanted, accepted}
+use Rattle.c_grammar.specs.Machine.{Entry, takes, gives, Outcome, fault_at, too_deep, run, rule_at, wanted}
 use Rattle.c_grammar.specs.Numbers.{kind_number}
 use Rattle.c_lexer.specs.declared.token.TokenKind.TheVariants.{Identifier, Number, Character}
 use Rattle.c_parser.specs.declared.error.ParseError.{ParseError}

@@ -15,6 +15,6 @@ mod statements;
 mod text;
 
 pub use error::ParseError;
-pub use laws::the_limit_is_nesting;
+pub use laws::{the_derivation_has_one_outcome, the_limit_is_nesting};
 pub use program::parse;
 pub use text::DEEPEST;

@@ -1,4 +1,4 @@
-use Rattle.std.proofs.Common.{◌≡◌, rules, sym, get_or, ◌∙◌}
+use Rattle.std.proofs.Common.{rules}
 use Rattle.std.proofs.lemmas.Option.{unwrap_or-slice_get}
 use Rattle.c_grammar.specs.Table.{leading}
 use Rattle.c_grammar.proofs.table.leading_to.Goals as goal

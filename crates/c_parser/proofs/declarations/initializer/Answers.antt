@@ -1,18 +1,5 @@
-use Rattle.std.proofs.Common.{◌≡◌, ◌≢◌, ◌+◌, ◌-◌, ◌*◌, ◌<◌, ◌≤◌, ◌++◌, ℕ, List, [], ◌∷◌, Ok, Err, Some, None, rules, arith, refl, sym, ap, ◌∙◌, length, map, subst, option_map, true, false, get_or}
-use Rattle.c_grammar.specs.declared.symbol.Symbol.TheVariants as s
-use Rattle.c_grammar.specs.Part as q
-use Rattle.pt_tree.specs.SpecifierTree.{view_spec, view_field}
-use Rattle.pt_tree.specs.ExpressionTree.{view_expr, view_link, view_postfix}
-use Rattle.pt_tree.specs.StatementTree.{view_init_declarator, view_stmt, view_section}
-use Rattle.pt_tree.specs.ProgramTree.{view_param, view_item}
-use Rattle.std.proofs.Common.{IfSome}
-use Rattle.pt_tree.specs.ExpressionTree.{link}
-use Rattle.c_grammar.specs.Machine.{takes, gives, opens, builds, wanted}
-use Rattle.c_parser.specs.Parses.{Comes, Turns, Fails, Parses, Enters, IsOneOf}
-use Rattle.c_parser.proofs.LastRules.{last_Spec, last_Statement, last_Unary, last_Postfixes, last_Primary, last_ForInit, last_AssignOp, last_UnaryOp}
-use Rattle.c_parser.proofs.LevelRules.{one_rule, level_rule, link_rule}
-use Rattle.c_parser.proofs.Steps.{built, builds_on, same_top, pushed, by_rule, adds_by_rule, ends_by_rule, opened, entered}
-use Rattle.c_parser.specs.Parts.{of_declaration, of_init, of_initializer, of_inits, of_exprs, of_param, of_params}
+use Rattle.std.proofs.Common.{◌≡◌, Err, rules}
+use Rattle.c_parser.proofs.Steps.{built}
 use Rattle.c_parser.proofs.declarations.initializer.Goals as goal
 
 pub returns-in_err-stands-clause-parses : goal.returns-in_err-stands-clause-parses

@@ -1,8 +1,8 @@
-use Rattle.std.proofs.Common.{◌≡◌, ◌≢◌, ◌+◌, ◌-◌, ◌*◌, ◌<◌, ◌≤◌, ◌++◌, ℕ, List, [], ◌∷◌, Ok, Err, Some, None, rules, arith, refl, sym, ap, ◌∙◌, length, map, subst, option_map, true, false, get_or}
+use Rattle.std.proofs.Common.{◌-◌, ◌≤◌, length}
 use Rattle.c_grammar.specs.declared.symbol.Symbol.TheVariants as s
-use Rattle.c_grammar.specs.Machine.{takes, gives, opens, builds, wanted}
+use Rattle.c_grammar.specs.Machine.{gives}
 use Rattle.c_parser.specs.Parses.{Repeats}
-use Rattle.c_parser.specs.Parts.{of_declaration, of_init, of_initializer, of_inits, of_exprs, of_param, of_params}
+use Rattle.c_parser.specs.Parts.{of_params}
 use Rattle.c_parser.proofs.declarations.more_parameters.Given as goal
 
 abbrev pub invariant-loop-params : goal.invariant-loop-params

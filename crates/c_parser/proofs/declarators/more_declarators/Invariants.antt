@@ -1,8 +1,8 @@
-use Rattle.std.proofs.Common.{◌≡◌, ◌≢◌, ◌+◌, ◌-◌, ◌*◌, ◌<◌, ◌≤◌, ◌++◌, ℕ, List, [], ◌∷◌, Ok, Err, Some, None, rules, arith, refl, sym, ap, ◌∙◌, length, map, subst, option_map, true, false}
+use Rattle.std.proofs.Common.{◌-◌, ◌≤◌, ℕ, length}
 use Rattle.c_grammar.specs.declared.symbol.Symbol.TheVariants as s
-use Rattle.c_grammar.specs.Machine.{takes, gives, opens, builds, wanted}
+use Rattle.c_grammar.specs.Machine.{gives}
 use Rattle.c_parser.specs.Parses.{Repeats}
-use Rattle.c_parser.specs.Parts.{of_pointer, of_suffix, of_declarator, of_name, of_declarators}
+use Rattle.c_parser.specs.Parts.{of_declarators}
 use Rattle.c_parser.proofs.declarators.more_declarators.Given as goal
 
 abbrev pub invariant-loop-declarators : goal.invariant-loop-declarators

@@ -1,9 +1,9 @@
-use Rattle.std.proofs.Common.{◌≡◌, ◌≢◌, ◌+◌, ◌-◌, ◌*◌, ◌<◌, ◌≤◌, ◌++◌, ℕ, List, [], ◌∷◌, Ok, Err, Some, None, rules, arith, refl, sym, ap, ◌∙◌, length, map, subst, option_map, true, false, get_or}
+use Rattle.std.proofs.Common.{◌+◌, ◌-◌, ◌*◌, ◌≤◌, length}
 use Rattle.c_grammar.specs.declared.symbol.Symbol.TheVariants as s
-use Rattle.c_grammar.specs.Machine.{takes, gives, opens, builds, wanted}
+use Rattle.c_grammar.specs.Machine.{gives}
 use Rattle.c_parser.specs.Parses.{Repeats}
-use Rattle.c_parser.specs.Parts.{of_expr, of_exprs, of_links, of_postfixes, Adds}
-use Rattle.c_parser.specs.Levels.{symbol_of, tail_of, tighter_of, number_of, EntersLink}
+use Rattle.c_parser.specs.Parts.{of_exprs, of_links, of_postfixes}
+use Rattle.c_parser.specs.Levels.{tail_of, number_of}
 use Rattle.c_parser.proofs.expressions.+expressions.Given as goal
 
 abbrev pub decreases-expression : goal.decreases-expression

@@ -1,4 +1,4 @@
-use Rattle.std.proofs.Common.{◌≡◌, sym, subst}
+use Rattle.std.proofs.Common.{sym, subst}
 use Rattle.c_grammar.specs.Table.{alternatives_of}
 use Rattle.c_parser.specs.Levels.{EntersLink}
 use Rattle.c_parser.specs.Parses.{Enters, IsOneOf}

@@ -1,12 +1,8 @@
-use Rattle.std.proofs.Common.{◌≡◌, ◌≢◌, ◌+◌, ◌-◌, ◌*◌, ◌<◌, ◌≤◌, ◌++◌, ℕ, List, [], ◌∷◌, Ok, Err, Some, None, rules, arith, refl, sym, ap, ◌∙◌, length, map, subst, option_map, true, false, get_or}
+use Rattle.std.proofs.Common.{◌-◌, ◌≤◌, length}
 use Rattle.c_grammar.specs.declared.symbol.Symbol.TheVariants as s
-use Rattle.c_grammar.specs.Machine.{takes, gives, opens, builds, wanted}
+use Rattle.c_grammar.specs.Machine.{gives}
 use Rattle.c_parser.specs.Parses.{Repeats}
-use Rattle.c_parser.specs.Parts.{of_item, of_items, of_declarator, of_body}
-use Rattle.c_parser.specs.Rests.{of_rest}
-use Rattle.pt_tree.specs.SpecifierTree.{spec_trees}
-use Rattle.c_parser.specs.Rests.{item_of}
-use Rattle.c_parser.proofs.Answering.{an_item_of}
+use Rattle.c_parser.specs.Parts.{of_items}
 use Rattle.c_parser.proofs.program.more_external.Given as goal
 
 abbrev pub invariant-loop-items : goal.invariant-loop-items

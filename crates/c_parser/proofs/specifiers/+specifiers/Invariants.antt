@@ -1,8 +1,8 @@
-use Rattle.std.proofs.Common.{◌≡◌, ◌≢◌, ◌+◌, ◌-◌, ◌*◌, ◌<◌, ◌≤◌, ◌++◌, ℕ, List, [], ◌∷◌, Ok, Err, Some, None, rules, arith, refl, sym, ap, ◌∙◌, length, map, subst, option_map, true, false}
+use Rattle.std.proofs.Common.{◌+◌, ◌-◌, ◌*◌, ◌≤◌, length}
 use Rattle.c_grammar.specs.declared.symbol.Symbol.TheVariants as s
-use Rattle.c_grammar.specs.Machine.{takes, gives, opens, builds, wanted}
+use Rattle.c_grammar.specs.Machine.{gives}
 use Rattle.c_parser.specs.Parses.{Repeats}
-use Rattle.c_parser.specs.Parts.{of_specs, of_spec, of_names, of_fields, of_field}
+use Rattle.c_parser.specs.Parts.{of_specs, of_fields}
 use Rattle.c_parser.proofs.specifiers.+specifiers.Given as goal
 
 abbrev pub decreases-specifiers : goal.decreases-specifiers

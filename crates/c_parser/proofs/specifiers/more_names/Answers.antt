@@ -1,14 +1,6 @@
-use Rattle.std.proofs.Common.{◌≡◌, ◌≢◌, ◌+◌, ◌-◌, ◌*◌, ◌<◌, ◌≤◌, ◌++◌, ℕ, List, [], ◌∷◌, Ok, Err, Some, None, rules, arith, refl, sym, ap, ◌∙◌, length, map, subst, option_map, true, false}
-use Rattle.c_grammar.specs.declared.symbol.Symbol.TheVariants as s
-use Rattle.c_parser.proofs.Steps.{built, same_top, pushed, by_rule, opened, opened_too_deep}
-use Rattle.c_parser.specs.Parses.{Enters}
-use Rattle.c_parser.proofs.LastRules.{last_Spec, last_Statement, last_Unary, last_Postfixes, last_Primary, last_ForInit, last_AssignOp, last_UnaryOp}
+use Rattle.std.proofs.Common.{◌≡◌, Err, rules, arith, sym}
+use Rattle.c_parser.proofs.Steps.{built, same_top}
 use Rattle.c_grammar.specs.Part as q
-use Rattle.pt_tree.specs.SpecifierTree.{view_spec, view_field}
-use Rattle.pt_tree.specs.ExpressionTree.{view_expr, view_link, view_postfix}
-use Rattle.pt_tree.specs.StatementTree.{view_init_declarator, view_stmt, view_section}
-use Rattle.pt_tree.specs.ProgramTree.{view_param, view_item}
-use Rattle.c_parser.specs.Parts.{of_specs, of_spec, of_names, of_fields, of_field}
 use Rattle.c_parser.proofs.specifiers.more_names.Goals as goal
 
 pub loop-names-init : goal.loop-names-init

@@ -1,8 +1,8 @@
-use Rattle.std.proofs.Common.{◌≡◌, ◌≢◌, ◌+◌, ◌-◌, ◌*◌, ◌<◌, ◌≤◌, ◌++◌, ℕ, List, [], ◌∷◌, Ok, Err, Some, None, rules, arith, refl, sym, ap, ◌∙◌, length, map, subst, option_map, true, false, get_or}
+use Rattle.std.proofs.Common.{◌+◌, ◌-◌, ◌*◌, ◌≤◌, length}
 use Rattle.c_grammar.specs.declared.symbol.Symbol.TheVariants as s
-use Rattle.c_grammar.specs.Machine.{takes, gives, opens, builds, wanted}
+use Rattle.c_grammar.specs.Machine.{gives}
 use Rattle.c_parser.specs.Parses.{Repeats}
-use Rattle.c_parser.specs.Parts.{of_stmt, of_stmts, of_block, of_else, of_for_init, of_maybe_expr, of_section, of_sections, of_label, else_tree}
+use Rattle.c_parser.specs.Parts.{of_stmts, of_sections}
 use Rattle.c_parser.proofs.statements.+statements.Given as goal
 
 abbrev pub decreases-statement : goal.decreases-statement

@@ -1,4 +1,4 @@
-use Rattle.std.proofs.Common.{◌≡◌, sym, refl, ap, ◌∙◌, slice_get, rules}
+use Rattle.std.proofs.Common.{sym, ◌∙◌}
 use Rattle.c_parser.proofs.Steps.{only_rule}
 use Rattle.c_parser.proofs.text.begin.Goals as goal
 

@@ -1,4 +1,4 @@
-use Rattle.std.proofs.Common.{◌≡◌, sym, ◌∙◌}
+use Rattle.std.proofs.Common.{sym, ◌∙◌}
 use Rattle.c_parser.proofs.Steps.{entered, among}
 use Rattle.c_parser.proofs.text.choose.Goals as goal
 

@@ -1,10 +1,10 @@
-use Rattle.std.proofs.Common.{◌≡◌, sym, refl, ap, ◌∙◌, slice_get, rules, [], ◌∷◌, Some}
+use Rattle.std.proofs.Common.{refl, ap, ◌∙◌, rules, [], ◌∷◌}
 use Rattle.std.proofs.Common.{FitsSigned}
 use Rattle.std.specs.Int.{w128}
 use Rattle.std.proofs.lemmas.Int.{to_z-of_z}
 use Rattle.c_grammar.specs.Part.{number}
 use Rattle.c_grammar.specs.Machine.{given}
-use Rattle.c_parser.proofs.Steps.{value_stands, value_lacks, other_token, a_constant, no_constant}
+use Rattle.c_parser.proofs.Steps.{value_stands, value_lacks, a_constant, no_constant}
 use Rattle.c_parser.proofs.text.constant.Goals as goal
 
 pub returns-in-Constant-clause-number : goal.returns-in-Constant-clause-number

@@ -1,4 +1,4 @@
-use Rattle.std.proofs.Common.{◌≡◌, sym, ◌∙◌, slice_get}
+use Rattle.std.proofs.Common.{sym, ◌∙◌, slice_get}
 use Rattle.c_parser.proofs.Steps.{shifted, mismatched, same_kind, other_kind}
 use Rattle.c_parser.proofs.text.expect.Goals as goal
 

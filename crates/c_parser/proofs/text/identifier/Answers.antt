@@ -1,8 +1,8 @@
-use Rattle.std.proofs.Common.{◌≡◌, sym, refl, ap, ◌∙◌, slice_get, rules, [], ◌∷◌, Some}
+use Rattle.std.proofs.Common.{sym, refl, ap, ◌∙◌, [], ◌∷◌, Some}
 use Rattle.c_lexer.specs.declared.token.TokenKind.TheVariants.{Identifier}
 use Rattle.c_grammar.specs.Part.{word}
 use Rattle.c_grammar.specs.Machine.{given}
-use Rattle.c_parser.proofs.Steps.{value_stands, value_lacks, other_token, no_name}
+use Rattle.c_parser.proofs.Steps.{value_stands, value_lacks, no_name}
 use Rattle.c_parser.proofs.text.identifier.Goals as goal
 
 pub returns-in-Ok-clause-word : goal.returns-in-Ok-clause-word

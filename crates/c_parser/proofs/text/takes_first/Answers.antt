@@ -1,4 +1,4 @@
-use Rattle.std.proofs.Common.{◌≡◌, sym, refl, ap, ◌∙◌, slice_get, rules, nat_eq}
+use Rattle.std.proofs.Common.{sym, ap, ◌∙◌, nat_eq}
 use Rattle.c_parser.proofs.Steps.{of_two}
 use Rattle.c_parser.proofs.text.takes_first.Goals as goal
 
