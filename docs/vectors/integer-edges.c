@@ -1,5 +1,5 @@
 /* Writes the tables of pt_int's test of the edges, as Rust array items. Built and run with
- *     gcc -O0 -o edges pt_int-edges.c && ./edges
+ *     gcc -O0 -o edges integer-edges.c && ./edges
  * on x86-64 Linux, where the types have the widths of the project and char is signed.
  *
  * What C defines, gcc computes at run time in the very type. Where C leaves the behaviour undefined, the
