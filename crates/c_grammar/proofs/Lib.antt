@@ -1,0 +1,4 @@
+pub mod BuildFacts
+pub mod PartFacts
+pub mod ProgramFacts
+pub mod RuleFacts

@@ -1,4 +1,4 @@
-// Functions and whole programs.
+// Functions, and what stands outside of them.
 use crate::declaration::Declaration;
 use crate::specifier::{Declarator, Spec, Suffix};
 use crate::statement::Block;
@@ -30,10 +30,4 @@ pub struct Function {
 pub enum Item {
     Declare(Declaration),
     Function(Function),
-}
-
-/// A parsed program.
-#[derive(Drop)]
-pub struct Program {
-    pub items: Vec<Item>,
 }
