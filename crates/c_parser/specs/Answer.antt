@@ -2,7 +2,7 @@
 -- deepest nesting is open.
 use Rattle.std.specs.Prelude.{◌≡◌, ℕ, List, [], ◌∷◌, Some, Result, Ok, Err, map}
 use Rattle.c_lexer.specs.declared.token.Token.{Token}
-use Rattle.pt_tree.specs.declared.program.Program.{Program}
+use Rattle.pt_tree.specs.declared.parsed_program.Program.{Program}
 use Rattle.pt_tree.specs.ProgramTree.{view_item}
 use Rattle.c_grammar.specs.Part.{items}
 use Rattle.c_grammar.specs.Machine.{Outcome, done, fault_at, too_deep, derived}

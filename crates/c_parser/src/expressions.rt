@@ -2,10 +2,10 @@
 ghost use Rattle.std.specs.Prelude.{◌≡◌, ◌+◌, ◌<◌, ◌≤◌, ◌^◌, ◌++◌, length, IfOk, Some, None, List, ℕ, [], ◌∷◌, IsTrue, true, false};
 ghost use Rattle.c_grammar.specs.Machine.{takes, gives, opens, builds, wanted};
 ghost use Rattle.std.specs.Prelude.{map, IfSome};
-ghost use Rattle.pt_tree.specs.ExpressionTree.{view_expr, view_link, view_postfix};
-ghost use Rattle.c_grammar.specs.Builds.{chained, postfixed, stepped, a_constant};
+ghost use Rattle.pt_tree.specs.ExpressionTree.{view_expr, view_link};
+ghost use Rattle.c_grammar.specs.Builds.{chained, stepped};
 ghost use Rattle.c_parser.specs.Levels.{symbol_of, tail_of, tighter_of};
-ghost use Rattle.c_parser.specs.Parses.{Parses, is_fixed, has_constant};
+ghost use Rattle.c_parser.specs.Parses.{Parses, is_fixed};
 ghost use Rattle.c_parser.specs.Parts.{of_expr, of_exprs, of_links, of_postfixes, Adds};
 
 use crate::declarators::star;
@@ -14,10 +14,10 @@ use crate::operators::{
     Level, assignment_operator, begin_level, kind_by, link_operator, prefix_operator, tighter,
 };
 use crate::parsed::Parsed;
+use crate::postfixes::{arrow, decrement, dot, increment, put_behind};
+use crate::primaries::primary;
 use crate::specifiers::specifiers;
-use crate::text::{
-    DEEPEST, begin, choose, constant, expect, identifier, one, span_of, takes_first,
-};
+use crate::text::{DEEPEST, begin, choose, expect, one, span_of, takes_first};
 use c_grammar::Symbol;
 use c_lexer::{Token, TokenKind};
 use pt_base::Span;
@@ -382,20 +382,6 @@ fn with_postfixes(
     })
 }
 
-fn put_behind(
-    alloc: Global,
-    span: Span,
-    operand: Expr,
-    postfixes: Vec<Postfix>,
-) -> Result<Expr, AllocError>
-    ensures { IfOk result (λ e. view_expr e ≡ postfixed span (view_expr operand) (map view_postfix postfixes.items)) }
-{
-    if postfixes.is_empty() {
-        return Ok(operand);
-    }
-    Expr::with_postfixes(alloc, span, operand, postfixes)
-}
-
 #[cycle(expressions)]
 fn more_postfixes(
     alloc: Global,
@@ -500,78 +486,6 @@ fn call(
     }))
 }
 
-fn dot(
-    alloc: Global,
-    tokens: &[Token],
-    at: usize,
-    depth: u32,
-) -> Result<Option<Parsed<Postfix>>, ParseError>
-    requires within { at ≤ length tokens.now }
-    requires few { length tokens.now < 2 ^ 32 }
-    requires shallow { depth ≤ 200 }
-    ensures parses { Adds tokens.now (wanted at 102) at depth result }
-    ensures goes_on { IfOk result (λ o. IfSome o (λ p. (at < p.next) × (p.next ≤ length tokens.now))) }
-{
-    let after = expect(tokens, at, TokenKind::Dot)?;
-    let name = identifier(alloc, tokens, after)?;
-    let span = span_of(tokens, at, after + 1);
-    Ok(Some(Parsed {
-        tree: Postfix::Field(span, name),
-        next: after + 1,
-    }))
-}
-
-fn arrow(
-    alloc: Global,
-    tokens: &[Token],
-    at: usize,
-    depth: u32,
-) -> Result<Option<Parsed<Postfix>>, ParseError>
-    requires within { at ≤ length tokens.now }
-    requires few { length tokens.now < 2 ^ 32 }
-    requires shallow { depth ≤ 200 }
-    ensures parses { Adds tokens.now (wanted at 103) at depth result }
-    ensures goes_on { IfOk result (λ o. IfSome o (λ p. (at < p.next) × (p.next ≤ length tokens.now))) }
-{
-    let after = expect(tokens, at, TokenKind::Arrow)?;
-    let name = identifier(alloc, tokens, after)?;
-    let span = span_of(tokens, at, after + 1);
-    Ok(Some(Parsed {
-        tree: Postfix::Arrow(span, name),
-        next: after + 1,
-    }))
-}
-
-fn increment(tokens: &[Token], at: usize, depth: u32) -> Result<Option<Parsed<Postfix>>, ParseError>
-    requires within { at ≤ length tokens.now }
-    requires few { length tokens.now < 2 ^ 32 }
-    requires shallow { depth ≤ 200 }
-    ensures parses { Adds tokens.now (wanted at 104) at depth result }
-    ensures goes_on { IfOk result (λ o. IfSome o (λ p. (at < p.next) × (p.next ≤ length tokens.now))) }
-{
-    let next = expect(tokens, at, TokenKind::PlusPlus)?;
-    let span = span_of(tokens, at, next);
-    Ok(Some(Parsed {
-        tree: Postfix::Increment(span),
-        next,
-    }))
-}
-
-fn decrement(tokens: &[Token], at: usize, depth: u32) -> Result<Option<Parsed<Postfix>>, ParseError>
-    requires within { at ≤ length tokens.now }
-    requires few { length tokens.now < 2 ^ 32 }
-    requires shallow { depth ≤ 200 }
-    ensures parses { Adds tokens.now (wanted at 105) at depth result }
-    ensures goes_on { IfOk result (λ o. IfSome o (λ p. (at < p.next) × (p.next ≤ length tokens.now))) }
-{
-    let next = expect(tokens, at, TokenKind::MinusMinus)?;
-    let span = span_of(tokens, at, next);
-    Ok(Some(Parsed {
-        tree: Postfix::Decrement(span),
-        next,
-    }))
-}
-
 #[cycle(expressions)]
 fn arguments(
     alloc: Global,
@@ -623,45 +537,4 @@ fn more_arguments(
         values.push(one.tree)?;
         next = one.next;
     }
-}
-
-fn primary(alloc: Global, tokens: &[Token], at: usize) -> Result<Parsed<Expr>, ParseError>
-    requires within { at ≤ length tokens.now }
-    requires few { length tokens.now < 2 ^ 32 }
-    ensures parses { (depth : ℕ) → Parses [] of_expr tokens.now (gives Symbol.Primary ∷ []) at depth result }
-    ensures goes_on { IfOk result (λ p. (at < p.next) × (p.next ≤ length tokens.now)) }
-{
-    let rule = choose(tokens, at, Symbol::Primary)?;
-    match rule {
-        111 => name(alloc, tokens, at),
-        112 => literal(tokens, at, TokenKind::Number),
-        _ => literal(tokens, at, TokenKind::Character),
-    }
-}
-
-fn name(alloc: Global, tokens: &[Token], at: usize) -> Result<Parsed<Expr>, ParseError>
-    requires within { at ≤ length tokens.now }
-    requires few { length tokens.now < 2 ^ 32 }
-    ensures parses { (depth : ℕ) → Parses [] of_expr tokens.now (wanted at 111) at depth result }
-    ensures goes_on { IfOk result (λ p. (at < p.next) × (p.next ≤ length tokens.now)) }
-{
-    let word = identifier(alloc, tokens, at)?;
-    Ok(Parsed {
-        tree: Expr::Name(word),
-        next: at + 1,
-    })
-}
-
-fn literal(tokens: &[Token], at: usize, kind: TokenKind) -> Result<Parsed<Expr>, ParseError>
-    requires within { at ≤ length tokens.now }
-    requires few { length tokens.now < 2 ^ 32 }
-    requires valued { IsTrue (has_constant kind) }
-    ensures parses { (depth : ℕ) → Parses [] of_expr tokens.now (takes kind ∷ builds at a_constant ∷ []) at depth result }
-    ensures goes_on { IfOk result (λ p. (at < p.next) × (p.next ≤ length tokens.now)) }
-{
-    let value = constant(tokens, at, kind)?;
-    Ok(Parsed {
-        tree: Expr::Constant(value),
-        next: at + 1,
-    })
 }

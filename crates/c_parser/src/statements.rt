@@ -4,17 +4,23 @@ ghost use Rattle.c_grammar.specs.Machine.{takes, gives, opens, builds, wanted};
 ghost use Rattle.pt_tree.specs.ExpressionTree.{view_expr};
 ghost use Rattle.pt_tree.specs.StatementTree.{choose, view_stmt};
 ghost use Rattle.c_parser.specs.Parses.{Parses};
-ghost use Rattle.c_parser.specs.Parts.{of_stmt, of_stmts, of_block, of_else, of_for_init, of_maybe_expr, of_section, of_sections, of_label, else_tree};
+ghost use Rattle.c_parser.specs.Parts.{of_stmt, of_stmts, of_block, of_else, of_section, of_sections, else_tree};
 
 use crate::declarations::declaration;
 use crate::error::ParseError;
-use crate::expressions::{conditional, expression};
+use crate::expressions::expression;
+use crate::for_heads::{for_init, for_step};
+use crate::labels::label;
 use crate::parsed::Parsed;
+use crate::plain_statements::{
+    break_statement, continue_statement, empty_statement, expression_statement,
+    optional_expression, return_statement,
+};
 use crate::text::{DEEPEST, begin, choose, expect, span_of, takes_first};
 use c_grammar::Symbol;
 use c_lexer::{Token, TokenKind};
 use pt_base::Span;
-use pt_tree::{Block, Expr, ForInit, Label, Section, Stmt};
+use pt_tree::{Block, Expr, Section, Stmt};
 use std::alloc::{AllocError, Global};
 
 #[cycle(statements)]
@@ -157,41 +163,6 @@ fn block_statement(
     Ok(Parsed {
         tree: Stmt::braces(inner.tree),
         next: inner.next,
-    })
-}
-
-fn empty_statement(tokens: &[Token], at: usize) -> Result<Parsed<Stmt>, ParseError>
-    requires within { at ≤ length tokens.now }
-    requires few { length tokens.now < 2 ^ 32 }
-    ensures parses { (depth : ℕ) → Parses [] of_stmt tokens.now (wanted at 69) at depth result }
-    ensures goes_on { IfOk result (λ p. (at < p.next) × (p.next ≤ length tokens.now)) }
-{
-    let next = expect(tokens, at, TokenKind::Semicolon)?;
-    let span = span_of(tokens, at, next);
-    Ok(Parsed {
-        tree: Stmt::Empty(span),
-        next,
-    })
-}
-
-fn expression_statement(
-    alloc: Global,
-    tokens: &[Token],
-    at: usize,
-    depth: u32,
-) -> Result<Parsed<Stmt>, ParseError>
-    requires within { at ≤ length tokens.now }
-    requires few { length tokens.now < 2 ^ 32 }
-    requires shallow { depth ≤ 200 }
-    ensures parses { Parses [] of_stmt tokens.now (wanted at 70) at depth result }
-    ensures goes_on { IfOk result (λ p. (at < p.next) × (p.next ≤ length tokens.now)) }
-{
-    let value = expression(alloc, tokens, at, depth)?;
-    let next = expect(tokens, value.next, TokenKind::Semicolon)?;
-    let span = span_of(tokens, at, next);
-    Ok(Parsed {
-        tree: Stmt::Expr(span, value.tree),
-        next,
     })
 }
 
@@ -345,182 +316,6 @@ fn for_statement(
     })
 }
 
-fn for_init(
-    alloc: Global,
-    tokens: &[Token],
-    at: usize,
-    depth: u32,
-) -> Result<Parsed<ForInit>, ParseError>
-    requires within { at ≤ length tokens.now }
-    requires few { length tokens.now < 2 ^ 32 }
-    requires shallow { depth ≤ 200 }
-    ensures parses { Parses [] of_for_init tokens.now (gives Symbol.ForInit ∷ []) at depth result }
-    ensures goes_on { IfOk result (λ p. (at < p.next) × (p.next ≤ length tokens.now)) }
-{
-    let rule = choose(tokens, at, Symbol::ForInit)?;
-    match rule {
-        80 => for_declaration(alloc, tokens, at, depth),
-        81 => for_nothing(tokens, at),
-        _ => for_expression(alloc, tokens, at, depth),
-    }
-}
-
-fn for_declaration(
-    alloc: Global,
-    tokens: &[Token],
-    at: usize,
-    depth: u32,
-) -> Result<Parsed<ForInit>, ParseError>
-    requires within { at ≤ length tokens.now }
-    requires few { length tokens.now < 2 ^ 32 }
-    requires shallow { depth ≤ 200 }
-    ensures parses { Parses [] of_for_init tokens.now (wanted at 80) at depth result }
-    ensures goes_on { IfOk result (λ p. (at < p.next) × (p.next ≤ length tokens.now)) }
-{
-    let declared = declaration(alloc, tokens, at, depth)?;
-    Ok(Parsed {
-        tree: ForInit::Declare(declared.tree),
-        next: declared.next,
-    })
-}
-
-fn for_nothing(tokens: &[Token], at: usize) -> Result<Parsed<ForInit>, ParseError>
-    requires within { at ≤ length tokens.now }
-    requires few { length tokens.now < 2 ^ 32 }
-    ensures parses { (depth : ℕ) → Parses [] of_for_init tokens.now (wanted at 81) at depth result }
-    ensures goes_on { IfOk result (λ p. (at < p.next) × (p.next ≤ length tokens.now)) }
-{
-    let next = expect(tokens, at, TokenKind::Semicolon)?;
-    Ok(Parsed {
-        tree: ForInit::Nothing,
-        next,
-    })
-}
-
-fn for_expression(
-    alloc: Global,
-    tokens: &[Token],
-    at: usize,
-    depth: u32,
-) -> Result<Parsed<ForInit>, ParseError>
-    requires within { at ≤ length tokens.now }
-    requires few { length tokens.now < 2 ^ 32 }
-    requires shallow { depth ≤ 200 }
-    ensures parses { Parses [] of_for_init tokens.now (wanted at 82) at depth result }
-    ensures goes_on { IfOk result (λ p. (at < p.next) × (p.next ≤ length tokens.now)) }
-{
-    let value = expression(alloc, tokens, at, depth)?;
-    let next = expect(tokens, value.next, TokenKind::Semicolon)?;
-    Ok(Parsed {
-        tree: ForInit::Expr(value.tree),
-        next,
-    })
-}
-
-fn optional_expression(
-    alloc: Global,
-    tokens: &[Token],
-    at: usize,
-    depth: u32,
-) -> Result<Parsed<Option<Expr>>, ParseError>
-    requires within { at ≤ length tokens.now }
-    requires few { length tokens.now < 2 ^ 32 }
-    requires shallow { depth ≤ 200 }
-    ensures parses { Parses [] of_maybe_expr tokens.now (gives Symbol.Opt ∷ []) at depth result }
-    ensures goes_on { IfOk result (λ p. (at ≤ p.next) × (p.next ≤ length tokens.now)) }
-{
-    let stands = takes_first(tokens, at, Symbol::Opt)?;
-    if stands {
-        let value = expression(alloc, tokens, at, depth)?;
-        return Ok(Parsed {
-            tree: Some(value.tree),
-            next: value.next,
-        });
-    }
-    Ok(Parsed {
-        tree: None,
-        next: at,
-    })
-}
-
-fn for_step(
-    alloc: Global,
-    tokens: &[Token],
-    at: usize,
-    depth: u32,
-) -> Result<Parsed<Option<Expr>>, ParseError>
-    requires within { at ≤ length tokens.now }
-    requires few { length tokens.now < 2 ^ 32 }
-    requires shallow { depth ≤ 200 }
-    ensures parses { Parses [] of_maybe_expr tokens.now (gives Symbol.ForStep ∷ []) at depth result }
-    ensures goes_on { IfOk result (λ p. (at ≤ p.next) × (p.next ≤ length tokens.now)) }
-{
-    let stands = takes_first(tokens, at, Symbol::ForStep)?;
-    if stands {
-        let value = expression(alloc, tokens, at, depth)?;
-        return Ok(Parsed {
-            tree: Some(value.tree),
-            next: value.next,
-        });
-    }
-    Ok(Parsed {
-        tree: None,
-        next: at,
-    })
-}
-
-fn return_statement(
-    alloc: Global,
-    tokens: &[Token],
-    at: usize,
-    depth: u32,
-) -> Result<Parsed<Stmt>, ParseError>
-    requires within { at ≤ length tokens.now }
-    requires few { length tokens.now < 2 ^ 32 }
-    requires shallow { depth ≤ 200 }
-    ensures parses { Parses [] of_stmt tokens.now (wanted at 75) at depth result }
-    ensures goes_on { IfOk result (λ p. (at < p.next) × (p.next ≤ length tokens.now)) }
-{
-    let word = expect(tokens, at, TokenKind::Return)?;
-    let value = optional_expression(alloc, tokens, word, depth)?;
-    let next = expect(tokens, value.next, TokenKind::Semicolon)?;
-    let span = span_of(tokens, at, next);
-    Ok(Parsed {
-        tree: Stmt::Return(span, value.tree),
-        next,
-    })
-}
-
-fn break_statement(tokens: &[Token], at: usize) -> Result<Parsed<Stmt>, ParseError>
-    requires within { at ≤ length tokens.now }
-    requires few { length tokens.now < 2 ^ 32 }
-    ensures parses { (depth : ℕ) → Parses [] of_stmt tokens.now (wanted at 76) at depth result }
-    ensures goes_on { IfOk result (λ p. (at < p.next) × (p.next ≤ length tokens.now)) }
-{
-    let word = expect(tokens, at, TokenKind::Break)?;
-    let next = expect(tokens, word, TokenKind::Semicolon)?;
-    let span = span_of(tokens, at, next);
-    Ok(Parsed {
-        tree: Stmt::Break(span),
-        next,
-    })
-}
-
-fn continue_statement(tokens: &[Token], at: usize) -> Result<Parsed<Stmt>, ParseError>
-    requires within { at ≤ length tokens.now }
-    requires few { length tokens.now < 2 ^ 32 }
-    ensures parses { (depth : ℕ) → Parses [] of_stmt tokens.now (wanted at 77) at depth result }
-    ensures goes_on { IfOk result (λ p. (at < p.next) × (p.next ≤ length tokens.now)) }
-{
-    let word = expect(tokens, at, TokenKind::Continue)?;
-    let next = expect(tokens, word, TokenKind::Semicolon)?;
-    let span = span_of(tokens, at, next);
-    Ok(Parsed {
-        tree: Stmt::Continue(span),
-        next,
-    })
-}
-
 #[cycle(statements)]
 fn switch_statement(
     alloc: Global,
@@ -603,38 +398,6 @@ fn section(
             statements: body.tree,
         },
         next: body.next,
-    })
-}
-
-fn label(
-    alloc: Global,
-    tokens: &[Token],
-    at: usize,
-    depth: u32,
-) -> Result<Parsed<Label>, ParseError>
-    requires within { at ≤ length tokens.now }
-    requires few { length tokens.now < 2 ^ 32 }
-    requires shallow { depth ≤ 200 }
-    ensures parses { Parses [] of_label tokens.now (gives Symbol.Label ∷ []) at depth result }
-    ensures goes_on { IfOk result (λ p. (at < p.next) × (p.next ≤ length tokens.now)) }
-{
-    let compares = takes_first(tokens, at, Symbol::Label)?;
-    if compares {
-        let word = expect(tokens, at, TokenKind::Case)?;
-        let value = conditional(alloc, tokens, word, depth)?;
-        let next = expect(tokens, value.next, TokenKind::Colon)?;
-        let span = span_of(tokens, at, next);
-        return Ok(Parsed {
-            tree: Label::Case(span, value.tree),
-            next,
-        });
-    }
-    let other = expect(tokens, at, TokenKind::Default)?;
-    let end = expect(tokens, other, TokenKind::Colon)?;
-    let span = span_of(tokens, at, end);
-    Ok(Parsed {
-        tree: Label::Default(span),
-        next: end,
     })
 }
 

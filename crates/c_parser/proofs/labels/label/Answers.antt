@@ -1,6 +1,6 @@
 use Rattle.std.proofs.Common.{◌≡◌, Err, rules}
 use Rattle.c_parser.proofs.Steps.{built}
-use Rattle.c_parser.proofs.statements.label.Goals as goal
+use Rattle.c_parser.proofs.labels.label.Goals as goal
 
 pub returns-in_err-compares-clause-parses : goal.returns-in_err-compares-clause-parses
 returns-in_err-compares-clause-parses c = let is : c.from_residual.result ≡ Err c.in_err-compares.field-0.0 = search rules in rw is (record { from = λ o e rest parts. (c.in_err-compares.ensures.fails c.args.depth).from o e _ _ })

@@ -1,6 +1,6 @@
 use Rattle.std.proofs.Common.{◌≡◌, Err, rules}
 use Rattle.c_parser.proofs.Steps.{built}
-use Rattle.c_parser.proofs.expressions.arrow.Goals as goal
+use Rattle.c_parser.proofs.postfixes.arrow.Goals as goal
 
 pub returns-in_err-after-clause-parses : goal.returns-in_err-after-clause-parses
 returns-in_err-after-clause-parses c = let is : c.from_residual.result ≡ Err c.in_err-after.field-0.0 = search rules in rw is (λ ps. record { from = λ o e rest parts. (c.in_err-after.ensures.expects c.args.depth).from o e _ _ })

@@ -4,7 +4,7 @@ use Rattle.c_parser.specs.Parses.{Enters}
 use Rattle.c_parser.proofs.LastRules.{last_Primary}
 use Rattle.c_parser.proofs.Steps.{by_rule}
 use Rattle.c_parser.specs.Parts.{of_expr}
-use Rattle.c_parser.proofs.expressions.primary.Goals as goal
+use Rattle.c_parser.proofs.primaries.primary.Goals as goal
 
 pub returns-in-111-clause-parses : goal.returns-in-111-clause-parses
 returns-in-111-clause-parses c = λ depth. by_rule [] of_expr c.args.tokens.now s.Primary c.args.at depth 111 _ (subst (Enters c.args.tokens.now s.Primary c.args.at) c.in-111.is c.in_ok-rule.ensures.enters) (c.name.ensures.parses depth)
