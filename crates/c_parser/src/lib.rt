@@ -17,6 +17,8 @@ mod program;
 mod rest;
 mod specifiers;
 mod statements;
+#[cfg(test)]
+mod tests;
 mod text;
 
 pub use error::ParseError;

@@ -73,7 +73,11 @@ pub(crate) fn arrow(
 }
 
 /// `++` behind an operand.
-pub(crate) fn increment(tokens: &[Token], at: usize, depth: u32) -> Result<Option<Parsed<Postfix>>, ParseError>
+pub(crate) fn increment(
+    tokens: &[Token],
+    at: usize,
+    depth: u32,
+) -> Result<Option<Parsed<Postfix>>, ParseError>
     requires within { at ≤ length tokens.now }
     requires few { length tokens.now < 2 ^ 32 }
     requires shallow { depth ≤ 200 }
@@ -89,7 +93,11 @@ pub(crate) fn increment(tokens: &[Token], at: usize, depth: u32) -> Result<Optio
 }
 
 /// `--` behind an operand.
-pub(crate) fn decrement(tokens: &[Token], at: usize, depth: u32) -> Result<Option<Parsed<Postfix>>, ParseError>
+pub(crate) fn decrement(
+    tokens: &[Token],
+    at: usize,
+    depth: u32,
+) -> Result<Option<Parsed<Postfix>>, ParseError>
     requires within { at ≤ length tokens.now }
     requires few { length tokens.now < 2 ^ 32 }
     requires shallow { depth ≤ 200 }

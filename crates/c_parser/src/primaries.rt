@@ -14,7 +14,11 @@ use pt_tree::Expr;
 use std::alloc::Global;
 
 /// An identifier or a constant.
-pub(crate) fn primary(alloc: Global, tokens: &[Token], at: usize) -> Result<Parsed<Expr>, ParseError>
+pub(crate) fn primary(
+    alloc: Global,
+    tokens: &[Token],
+    at: usize,
+) -> Result<Parsed<Expr>, ParseError>
     requires within { at ≤ length tokens.now }
     requires few { length tokens.now < 2 ^ 32 }
     ensures parses { (depth : ℕ) → Parses [] of_expr tokens.now (gives Symbol.Primary ∷ []) at depth result }
