@@ -1,6 +1,6 @@
 // The table: which rules a symbol has, and which tokens lead to each.
-ghost use Rattle.std.specs.Prelude.{◌≡◌, get_or, IsTrue, ◌↔◌, Some, None};
-ghost use Rattle.c_grammar.specs.Numbers.{kind_number};
+ghost use Rattle.std.specs.Prelude.{◌≡◌, ◌<◌, ◌≤◌, get_or};
+ghost use Rattle.c_grammar.specs.Numbers.{kind_number, symbol_number};
 ghost use Rattle.c_grammar.specs.Table.{alternatives_of, leading, leads_to, row_of};
 ghost use Rattle.c_grammar.specs.Sets.{TableIsTheGrammars};
 
@@ -257,6 +257,16 @@ pub fn alternatives(symbol: Symbol) -> &'static [u8]
         Symbol::MoreParams => &[55, 56],
         Symbol::Param => &[57],
         Symbol::Name => &[58, 59],
+        _ => inner_alternatives(symbol),
+    }
+}
+
+// Those of a symbol that stands in the body of a function.
+fn inner_alternatives(symbol: Symbol) -> &'static [u8]
+    requires { 28 ≤ symbol_number symbol }
+    ensures { result.now ≡ alternatives_of symbol }
+{
+    match symbol {
         Symbol::Block => &[60],
         Symbol::Items => &[61, 62],
         Symbol::Item => &[63, 64],
@@ -267,6 +277,20 @@ pub fn alternatives(symbol: Symbol) -> &'static [u8]
         Symbol::ForInit => &[80, 81, 82],
         Symbol::ForStep => &[83, 84],
         Symbol::Opt => &[85, 86],
+        Symbol::Sections => &[170, 171],
+        Symbol::Section => &[172],
+        Symbol::Label => &[173, 174],
+        Symbol::SectionItems => &[175, 176],
+        _ => expression_alternatives(symbol),
+    }
+}
+
+// Those of a symbol that stands in an expression.
+fn expression_alternatives(symbol: Symbol) -> &'static [u8]
+    requires { (38 ≤ symbol_number symbol) × (symbol_number symbol < 70) }
+    ensures { result.now ≡ alternatives_of symbol }
+{
+    match symbol {
         Symbol::Expr => &[87],
         Symbol::AssignTail => &[88, 89],
         Symbol::Cond => &[90],
@@ -299,10 +323,7 @@ pub fn alternatives(symbol: Symbol) -> &'static [u8]
         Symbol::AdditiveTail => &[161, 162, 163],
         Symbol::Multiplicative => &[164],
         Symbol::MultiplicativeTail => &[165, 166, 167, 168],
-        Symbol::Sections => &[170, 171],
-        Symbol::Section => &[172],
-        Symbol::Label => &[173, 174],
-        Symbol::SectionItems => &[175, 176],
+        _ => &[],
     }
 }
 
