@@ -1,6 +1,6 @@
 -- What each building action does to the parts: how many nodes it makes at most, and that it keeps
 -- their constants in range.
-use Rattle.std.proofs.Common.{◌≡◌, ℕ, ◌+◌, ◌≤◌, List, [], ◌∷◌, Option, true, ◌&&◌, refl, ◌∙◌, arith, length-append}
+use Rattle.std.proofs.Common.{ℕ, ◌+◌, ◌≤◌, List, [], ◌∷◌, Option, true, ◌&&◌, refl, ◌∙◌, arith, length-append}
 use Rattle.pt_base.specs.declared.span.Span.{Span}
 use Rattle.pt_tree.specs.declared.operator.BinaryOp.{BinaryOp}
 use Rattle.pt_tree.specs.declared.operator.PrefixOp.{PrefixOp}

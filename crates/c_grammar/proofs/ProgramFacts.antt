@@ -8,7 +8,7 @@ use Rattle.pt_tree.specs.Facts.{items_sound}
 use Rattle.c_lexer.specs.Values.{fits_type, ConstantsFit}
 use Rattle.c_lexer.specs.declared.token.Token.{Token}
 use Rattle.c_lexer.specs.declared.token.TokenValue.{TokenValue}
-use Rattle.c_lexer.specs.declared.token.TokenValue.TheVariants.{Name, Constant, Fixed}
+use Rattle.c_lexer.specs.declared.token.TokenValue.TheVariants.{Name, Constant}
 use Rattle.c_lexer.specs.declared.token.TokenKind.{TokenKind}
 use Rattle.c_lexer.specs.declared.token.TokenKind.TheVariants.{Identifier, Number, Character}
 use Rattle.c_grammar.specs.declared.symbol.Symbol.{Symbol}
