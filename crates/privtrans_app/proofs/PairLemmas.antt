@@ -8,8 +8,9 @@ use Rattle.pt_tree.specs.declared.host_model.HostModel.{HostModel}
 use Rattle.pt_tree.specs.declared.host_model.HostModel.TheVariants.{Table, Feed, Input, Bytes, Line}
 use Rattle.pt_tree.specs.HostStep.{Answer, host_step}
 use Rattle.source_meaning.specs.Memory.{number, local}
+use Rattle.pt_tree.specs.PlainNumbers.{plain_numbers}
 use Rattle.source_meaning.specs.State.{State, Event, out, guarded, Hosts, put_host, Value, holds, nothing, numbers_of, gives, ◌>>=◌, take_turn}
-use Rattle.source_meaning.specs.Meaning.{Calls, value_of, values_of, plain_numbers, guarded_event, out_event, result_value, answered, host_call}
+use Rattle.source_meaning.specs.Meaning.{Calls, value_of, values_of, guarded_event, out_event, result_value, answered, host_call}
 use Rattle.source_meaning.specs.Run.{written}
 use Rattle.privtrans_app.specs.Names.{is_in, place_in, all_differ}
 use Rattle.privtrans_app.specs.EarlyTree.{names_of, param_of, signature_of, arg_tree, args_tree, call_tree}

@@ -7,7 +7,7 @@ use Rattle.serde_json.specs.Data.{Data}
 use Rattle.serde_json.specs.Find.{get, as_object}
 use Rattle.pt_tree.specs.declared.host_model.HostModel.{HostModel}
 use Rattle.pt_tree.specs.declared.host_model.HostModel.TheVariants.{Table, Line}
-use Rattle.pt_tree.specs.declared.host_model.Row.{Row}
+use Rattle.pt_tree.specs.declared.row.Row.{Row}
 use Rattle.privtrans_app.specs.Names.{is_in}
 use Rattle.privtrans_app.specs.EarlyHosts.{each, has_kind, rows_of, other_of, entry_model, host_model, models_of, table_models, reading_of}
 use Rattle.privtrans_app.specs.EarlyPolicy.{privileged_names, all_in, IsEarlyPolicy}

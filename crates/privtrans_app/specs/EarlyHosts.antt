@@ -9,7 +9,7 @@ use Rattle.pt_base.specs.IntTypes.{low_of, high_of}
 use Rattle.pt_base.specs.declared.int_type.IntType.TheVariants.{Int}
 use Rattle.pt_tree.specs.declared.host_model.HostModel.{HostModel}
 use Rattle.pt_tree.specs.declared.host_model.HostModel.TheVariants.{Table, Line}
-use Rattle.pt_tree.specs.declared.host_model.Row.{Row}
+use Rattle.pt_tree.specs.declared.row.Row.{Row}
 use Rattle.privtrans_app.specs.declared.early.Host.{Host}
 
 -- the value of a text: JSON is in UTF-8

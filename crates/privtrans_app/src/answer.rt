@@ -1,46 +1,13 @@
 // How a host that answers every call alike answers one.
 ghost use Rattle.std.specs.Prelude.{◌≡◌, ◌++◌, [], true, IfOk, OnOk};
 ghost use Rattle.std.specs.Fmt.{signed_decimal};
-ghost use Rattle.pt_tree.specs.HostStep.{table_result, same_numbers, spaced, host_step};
+ghost use Rattle.pt_tree.specs.HostStep.{spaced, host_step};
 ghost use Rattle.privtrans_app.specs.EarlyPair.{bytes_of};
 ghost use Rattle.privtrans_app.specs.EarlyRun.{is_steady};
 
 use itoa::Buffer;
-use pt_tree::{HostModel, Row};
+use pt_tree::HostModel;
 use std::alloc::AllocError;
-
-// Whether the two lists of numbers are equal.
-fn are_same(a: &[i128], b: &[i128]) -> bool
-    ensures { result ≡ same_numbers a.now b.now }
-{
-    let mut rest = a;
-    let mut left = b;
-    while let [x, after @ ..] = rest {
-        let [y, further @ ..] = left else {
-            return false;
-        };
-        if *x != *y {
-            return false;
-        }
-        rest = after;
-        left = further;
-    }
-    left.is_empty()
-}
-
-// The result of the first row with these arguments, else the other number.
-fn row_result(rows: &[Row], other: i128, args: &[i128]) -> i128
-    ensures { result ≡ table_result rows.now other args.now }
-{
-    let mut rest = rows;
-    while let [row, after @ ..] = rest {
-        if are_same(row.args.as_slice(), args) {
-            return row.result;
-        }
-        rest = after;
-    }
-    other
-}
 
 // Appends the numbers in decimal, each with a space before it.
 fn write_numbers(args: &[i128], out: &mut Vec<u8>) -> Result<(), AllocError>
@@ -67,7 +34,7 @@ pub(crate) fn answer(
     ensures out { OnOk result (out.new.items ≡ out.old.items ++ bytes_of (host_step [] model.now args.now).written) }
 {
     match model {
-        HostModel::Table { rows, other } => Ok(Some(row_result(rows.as_slice(), *other, args))),
+        HostModel::Table { rows, other } => Ok(Some(rows.result(args).unwrap_or(*other))),
         HostModel::Line { name } => {
             out.extend_from_slice(name.as_slice())?;
             write_numbers(args, out)?;

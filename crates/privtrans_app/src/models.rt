@@ -114,7 +114,7 @@ fn rows(alloc: Global, list: &[Value], count: usize) -> Result<Option<Rows>, All
         };
         rows.push(row)?;
     }
-    Ok(Some(Listed::new(rows)))
+    Ok(Some(Rows::new(alloc, rows)?))
 }
 
 // A row with this many arguments.

@@ -6,7 +6,7 @@ use Rattle.std.specs.Int.RustNames.{unsigned_abs}
 use Rattle.std.specs.Fmt.{signed_decimal}
 use Rattle.pt_tree.specs.declared.host_model.HostModel.{HostModel}
 use Rattle.pt_tree.specs.declared.host_model.HostModel.TheVariants.{Table, Feed, Input, Bytes, Line}
-use Rattle.pt_tree.specs.declared.host_model.Row.{Row}
+use Rattle.pt_tree.specs.declared.row.Row.{Row}
 
 -- the two lists are equal
 abbrev pub same_numbers : List ℤ → List ℤ → Bool
@@ -15,11 +15,14 @@ same_numbers [] (b ∷ bs) = false
 same_numbers (a ∷ as') [] = false
 same_numbers (a ∷ as') (b ∷ bs) = int_eq a b && same_numbers as' bs
 
--- the result of the first row with these arguments, else the other number
+-- the result of the first row with these arguments
+abbrev pub first_result : List Row → List ℤ → Option ℤ
+first_result [] args = None
+first_result (row ∷ rows) args = if same_numbers row.args args then Some row.result else first_result rows args
+
+-- the same, else the other number
 abbrev pub table_result : List Row → ℤ → List ℤ → ℤ
-table_result [] other args = other
-table_result (row ∷ rows) other args =
-    if same_numbers row.args args then row.result else table_result rows other args
+table_result rows other args = unwrap_or (first_result rows args) other
 
 -- the place after this one, and the end of the list at its end
 abbrev pub place_after : ℕ → ℕ → ℕ

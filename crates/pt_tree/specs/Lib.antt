@@ -2,6 +2,8 @@ pub mod ExpressionTree
 pub mod Facts
 pub mod HostStep
 pub mod Nodes
+pub mod PlainNumbers
 pub mod ProgramTree
+pub mod RowIndex
 pub mod SpecifierTree
 pub mod StatementTree

@@ -1,18 +1,8 @@
 // What stands for a host: how it answers a call.
-use pt_base::{Bytes, Listed};
-
-/// A list of numbers.
-pub type Numbers = Listed<i128>;
-
-/// A row of a table: what it answers where a call has these arguments.
-#[derive(Drop)]
-pub struct Row {
-    pub args: Numbers,
-    pub result: i128,
-}
-
-/// The rows of a table, in order.
-pub type Rows = Listed<Row>;
+use crate::row::Numbers;
+use crate::rows::Rows;
+use pt_base::Bytes;
+use std::alloc::{AllocError, Global};
 
 /// How a host answers its calls.
 #[derive(Drop)]
@@ -41,4 +31,34 @@ pub enum HostModel {
     Line {
         name: Bytes,
     },
+}
+
+impl HostModel {
+    ghost use Rattle.std.specs.Prelude.{◌≡◌, IfOk};
+
+    /// A model that is equal to this one.
+    pub fn copy(&self, alloc: Global) -> Result<HostModel, AllocError>
+        ensures { IfOk result (λ m. m ≡ self.now) }
+    {
+        match self {
+            HostModel::Table { rows, other } => Ok(HostModel::Table {
+                rows: rows.copy(alloc)?,
+                other: *other,
+            }),
+            HostModel::Feed {
+                values,
+                other,
+                next,
+            } => Ok(HostModel::Feed {
+                values: values.copy(alloc)?,
+                other: *other,
+                next: *next,
+            }),
+            HostModel::Input { next } => Ok(HostModel::Input { next: *next }),
+            HostModel::Bytes => Ok(HostModel::Bytes),
+            HostModel::Line { name } => Ok(HostModel::Line {
+                name: name.copy(alloc)?,
+            }),
+        }
+    }
 }

@@ -2,10 +2,8 @@
 -- handles and no messages.
 use Rattle.std.specs.Prelude.{ℕ, ℤ, pos, Bool, false, not, List, [], ◌∷◌, ◌++◌, Option, Some, None, if◌then◌else◌, slice_get}
 use Rattle.pt_tree.specs.declared.signature.Signature.{Signature}
-use Rattle.pt_tree.specs.declared.signature.Param.{Param}
-use Rattle.pt_tree.specs.declared.signature.ParamKind.{ParamKind}
-use Rattle.pt_tree.specs.declared.signature.ParamKind.TheVariants.{Int, Ptr}
 use Rattle.pt_tree.specs.HostStep.{Answer, host_step}
+use Rattle.pt_tree.specs.PlainNumbers.{plain_numbers}
 use Rattle.source_meaning.specs.Memory.{number, local, put, read, write}
 use Rattle.source_meaning.specs.Program.{Expression, constant, variable, assign, call, Arguments, none, argument, Statement, declare, evaluate, give_back}
 use Rattle.source_meaning.specs.State.{State, Event, out, guarded, put_host, Value, holds, nothing, numbers_of, Outcome, gives, ◌>>=◌, take_turn}
@@ -54,17 +52,6 @@ after_flow rest (returns v) st = gives (returns v) st
 abbrev pub statements : List Statement → Calls → ℕ → State → Outcome Flow
 statements [] calls depth st = gives goes_on st
 statements (s ∷ ss) calls depth st = statement s calls depth st >>= after_flow (statements ss calls depth)
-
--- the parameter takes a number, and isn't marked
-abbrev pub is_plain : ParamKind → Bool → Bool
-is_plain (Int t) marked = not marked
-is_plain (Ptr elem fixed) marked = false
-
--- the numbers that a call gives for unmarked integer parameters
-abbrev pub plain_numbers : List Param → List ℤ → List ℤ
-plain_numbers [] vs = []
-plain_numbers (p ∷ ps) [] = []
-plain_numbers (p ∷ ps) (v ∷ vs) = if is_plain p.kind p.marked then v ∷ plain_numbers ps vs else plain_numbers ps vs
 
 -- the event of a call from code that isn't privileged: a guarded call, where the function is privileged
 abbrev pub guarded_event : Option Signature → ℕ → List ℤ → List Event

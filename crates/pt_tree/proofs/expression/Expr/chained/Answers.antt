@@ -1,4 +1,4 @@
-use Rattle.pt_tree.proofs.Rows.{view_chain}
+use Rattle.pt_tree.proofs.ListsInTrees.{view_chain}
 use Rattle.pt_tree.proofs.expression.Expr.chained.Goals as goal
 
 pub returns : goal.returns

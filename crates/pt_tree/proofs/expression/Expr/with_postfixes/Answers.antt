@@ -1,4 +1,4 @@
-use Rattle.pt_tree.proofs.Rows.{view_postfixes}
+use Rattle.pt_tree.proofs.ListsInTrees.{view_postfixes}
 use Rattle.pt_tree.proofs.expression.Expr.with_postfixes.Goals as goal
 
 pub returns : goal.returns

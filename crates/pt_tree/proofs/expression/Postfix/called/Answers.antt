@@ -1,4 +1,4 @@
-use Rattle.pt_tree.proofs.Rows.{view_call}
+use Rattle.pt_tree.proofs.ListsInTrees.{view_call}
 use Rattle.pt_tree.proofs.expression.Postfix.called.Goals as goal
 
 pub returns : goal.returns

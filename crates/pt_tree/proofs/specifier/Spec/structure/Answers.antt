@@ -1,4 +1,4 @@
-use Rattle.pt_tree.proofs.Rows.{view_structure}
+use Rattle.pt_tree.proofs.ListsInTrees.{view_structure}
 use Rattle.pt_tree.proofs.specifier.Spec.structure.Goals as goal
 
 pub returns : goal.returns

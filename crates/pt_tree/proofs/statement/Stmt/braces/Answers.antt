@@ -1,4 +1,4 @@
-use Rattle.pt_tree.proofs.Rows.{view_block_stmt}
+use Rattle.pt_tree.proofs.ListsInTrees.{view_block_stmt}
 use Rattle.pt_tree.proofs.statement.Stmt.braces.Goals as goal
 
 pub returns : goal.returns

@@ -1,4 +1,4 @@
-use Rattle.pt_tree.proofs.Rows.{view_switch}
+use Rattle.pt_tree.proofs.ListsInTrees.{view_switch}
 use Rattle.pt_tree.proofs.statement.Stmt.switch.Goals as goal
 
 pub returns : goal.returns
