@@ -1,0 +1,4 @@
+pub mod ExpressionTree
+pub mod StatementTree
+pub mod TypedTree
+pub mod TypedView
