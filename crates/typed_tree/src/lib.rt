@@ -5,6 +5,7 @@ mod expression;
 mod function;
 mod ids;
 mod link;
+mod part;
 mod place;
 mod statement;
 mod typed;
@@ -15,6 +16,7 @@ pub use expression::{Form, TypedExpr};
 pub use function::TypedFn;
 pub use ids::ExprId;
 pub use link::{LinkStep, LogicalOp, TypedLink, TypedOperand};
+pub use part::{Part, Role};
 pub use place::{Place, PlaceStep, Root};
 pub use statement::{
     Items, TypedBody, TypedDeclaration, TypedDeclarator, TypedForInit, TypedInit, TypedLabel,
