@@ -11,6 +11,7 @@ mod statement;
 mod typed;
 mod types;
 mod variable;
+mod walk;
 
 pub use expression::{Form, TypedExpr};
 pub use function::TypedFn;
