@@ -1,5 +1,5 @@
 -- What stands in a typed program: its functions by number and by name, and their parts.
-use Rattle.std.specs.Prelude.{ℕ, suc, List, [], ◌∷◌, Option, Some, None, if◌then◌else◌, option_map, option_and_then, slice_get}
+use Rattle.std.specs.Prelude.{◌≡◌, ℕ, suc, List, [], ◌∷◌, Option, Some, None, if◌then◌else◌, option_map, option_and_then, slice_get}
 use Rattle.std.specs.Str.{bytes_eq}
 use Rattle.pt_base.specs.declared.ids.FnId.{FnId}
 use Rattle.pt_tree.specs.declared.signature.Signature.{Signature}
@@ -27,6 +27,10 @@ named_from k (f ∷ fs) name = if bytes_eq f.signature.name name then Some (reco
 -- the function with this name; None where no function has it
 abbrev pub function_named : TypedTree → List ℕ → Option FnId
 function_named t name = named_from 0 t.functions name
+
+-- the function of this number has this name
+abbrev pub HasName : TypedTree → FnId → List ℕ → Type 0
+HasName t f name = option_map (λ s. s.name) (signature_of t f) ≡ Some name
 
 -- the parts of the function of this number, none of a host
 abbrev pub parts_in : TypedTree → FnId → List Part

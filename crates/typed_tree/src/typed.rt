@@ -27,13 +27,14 @@ pub struct Typed {
 }
 
 impl Typed {
-    ghost use Rattle.std.specs.Prelude.{◌≡◌, ◌<◌, Some, IfOk, IsTrue, length, slice_get};
+    ghost use Rattle.std.specs.Prelude.{◌≡◌, ◌<◌, ◌↔◌, Some, IfOk, IsTrue, All, length, slice_get};
     ghost use Rattle.std.specs.Option.{option_copied};
+    ghost use Rattle.pt_base.specs.declared.ids.FnId.{FnId};
     ghost use Rattle.typed_tree.specs.ExpressionTree.{view_expr};
     ghost use Rattle.typed_tree.specs.TypedTree.{tree_of};
     ghost use Rattle.typed_tree.specs.TypedView.{view_typed};
     ghost use Rattle.typed_tree.specs.WellFormed.{is_well_formed};
-    ghost use Rattle.typed_tree.specs.Lookup.{signature_of, function_named, parts_in};
+    ghost use Rattle.typed_tree.specs.Lookup.{signature_of, function_named, HasName, parts_in};
 
     /// The program of these parts, which are well formed together.
     pub fn new(
@@ -63,6 +64,14 @@ impl Typed {
 
     /// The function with this name; None where no function has it.
     pub fn function_of(&self, name: &[u8]) -> Option<FnId>
+        ensures is { result ≡ function_named (view_typed self.now) name.now }
+        ensures only { (f : FnId) → (result ≡ Some f) ↔ HasName (view_typed self.now) f name.now }
+    {
+        self.find(name)
+    }
+
+    // the same, without the fact that a name is that of one function
+    fn find(&self, name: &[u8]) -> Option<FnId>
         ensures { result ≡ function_named (view_typed self.now) name.now }
     {
         let mut number = 0;
@@ -85,6 +94,15 @@ impl Typed {
 
     /// The outermost expressions of the body of this function, in text order; none of a host.
     pub fn parts(&self, alloc: Global, f: FnId) -> Result<Vec<Part>, AllocError>
+        ensures all { IfOk result (λ ps. ps.items ≡ parts_in (view_typed self.now) f) }
+        ensures known { IfOk result (λ ps. All (λ p. p.expr.0 < length (view_typed self.now).exprs) ps.items) }
+    {
+        let parts = self.collect_parts(alloc, f)?;
+        Ok(parts)
+    }
+
+    // the same, without the fact that each part is in the tree
+    fn collect_parts(&self, alloc: Global, f: FnId) -> Result<Vec<Part>, AllocError>
         ensures { IfOk result (λ ps. ps.items ≡ parts_in (view_typed self.now) f) }
     {
         let mut parts = Vec::new(alloc);

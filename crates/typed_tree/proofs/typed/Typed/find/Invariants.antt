@@ -2,7 +2,7 @@ use Rattle.std.proofs.Common.{◌≡◌, map, drop}
 use Rattle.typed_tree.specs.TypedTree.{view_function}
 use Rattle.typed_tree.specs.TypedView.{view_typed}
 use Rattle.typed_tree.specs.Lookup.{named_from, function_named}
-use Rattle.typed_tree.proofs.typed.Typed.function_of.Given as goal
+use Rattle.typed_tree.proofs.typed.Typed.find.Given as goal
 
 -- the function that is sought stands among the rest
 abbrev pub invariant-loop-function : goal.invariant-loop-function
