@@ -1,5 +1,5 @@
 -- The function with a name is the one function that has it.
-use Rattle.std.proofs.Common.{◌≡◌, ◌+◌, ◌∙◌, sym, ap, ℕ, zero, suc, refl, Bool, true, false, List, [], ◌∷◌, arith, Option, Some, None, if◌then◌else◌}
+use Rattle.std.proofs.Common.{◌≡◌, ◌+◌, ◌∙◌, sym, ap, ℕ, zero, suc, refl, Bool, true, false, List, [], ◌∷◌, arith, map, Option, Some, None, if◌then◌else◌}
 use Rattle.std.specs.Prelude.{◌↔◌, IsTrue, ◌&&◌, not, slice_get, option_map}
 use Rattle.std.specs.List.{list_any}
 use Rattle.std.specs.Str.{bytes_eq}
@@ -7,7 +7,7 @@ use Rattle.std.proofs.lemmas.Slice.Eq.{bytes_eq-Decides}
 use Rattle.pt_base.specs.declared.ids.FnId.{FnId}
 use Rattle.typed_tree.specs.TypedTree.{FunctionTree, TypedTree}
 use Rattle.typed_tree.specs.Lookup.{named_from, function_named, HasName}
-use Rattle.typed_tree.specs.WellFormed.{is_well_formed, name_of, names_distinct}
+use Rattle.typed_tree.specs.WellFormed.{is_well_formed, name_of, are_distinct}
 use Rattle.typed_tree.proofs.WellFormedLemmas.{and_left, and_right, Facts, facts_of}
 
 -- the name of the function of this number
@@ -30,13 +30,13 @@ found_has (g ∷ fs) k name f e = go (bytes_eq (name_of g) name) refl e (λ h. f
     go false other h rest = let r = rest h in let at : f.0 ≡ suc k + r.0 = r.1 in (suc (r.0), omega (arith, at), r.2)
 
 -- a name that stands among these is found by the test
-has_name : (fs : List FunctionTree) (i : ℕ) (g : List ℕ) (name : List ℕ) → name_at fs i ≡ Some name → bytes_eq g name ≡ true → list_any (λ h. bytes_eq g (name_of h)) fs ≡ true
+has_name : (fs : List FunctionTree) (i : ℕ) (g : List ℕ) (name : List ℕ) → name_at fs i ≡ Some name → bytes_eq g name ≡ true → list_any (bytes_eq g) (map name_of fs) ≡ true
 has_name [] i g name e same = grind (arith, e)
 has_name (h ∷ fs) zero g name e same = grind (arith, e, same)
 has_name (h ∷ fs) (suc i) g name e same = grind (arith, has_name fs i g name e same)
 
 -- where names are distinct, the search finds the function that has the name
-has_found : (fs : List FunctionTree) (k : ℕ) (name : List ℕ) (i : ℕ) → IsTrue (names_distinct fs) → name_at fs i ≡ Some name → named_from k fs name ≡ Some (record { 0 = k + i })
+has_found : (fs : List FunctionTree) (k : ℕ) (name : List ℕ) (i : ℕ) → IsTrue (are_distinct (map name_of fs)) → name_at fs i ≡ Some name → named_from k fs name ≡ Some (record { 0 = k + i })
 has_found [] k name i d e = grind (arith, e)
 has_found (g ∷ fs) k name zero d e = go (bytes_eq (name_of g) name) ((bytes_eq-Decides (name_of g) name).1 (some_same e))
   where
@@ -46,12 +46,12 @@ has_found (g ∷ fs) k name zero d e = go (bytes_eq (name_of g) name) ((bytes_eq
     go : (b : Bool) → b ≡ true → chosen b k (named_from (suc k) fs name) ≡ Some (record { 0 = k + 0 })
     go true is = ap (λ n. Some (record { 0 = n })) (omega arith)
     go false is = grind (arith, is)
-has_found (g ∷ fs) k name (suc i) d e = go (bytes_eq (name_of g) name) refl (has_found fs (suc k) name i (and_right (not (list_any (λ h. bytes_eq (name_of g) (name_of h)) fs)) (names_distinct fs) d) e)
+has_found (g ∷ fs) k name (suc i) d e = go (bytes_eq (name_of g) name) refl (has_found fs (suc k) name i (and_right (not (list_any (bytes_eq (name_of g)) (map name_of fs))) (are_distinct (map name_of fs)) d) e)
   where
     go : (b : Bool) → bytes_eq (name_of g) name ≡ b → named_from (suc k) fs name ≡ Some (record { 0 = suc k + i }) → chosen b k (named_from (suc k) fs name) ≡ Some (record { 0 = k + suc i })
     go true same h =
         let again = has_name fs i (name_of g) name e same in
-        let lone = and_left (not (list_any (λ h. bytes_eq (name_of g) (name_of h)) fs)) (names_distinct fs) d in
+        let lone = and_left (not (list_any (bytes_eq (name_of g)) (map name_of fs))) (are_distinct (map name_of fs)) d in
         grind (arith, again, lone)
     go false other h = h ∙ ap (λ n. Some (record { 0 = n })) (omega arith)
 

@@ -1,5 +1,5 @@
 -- What is known of a well formed program.
-use Rattle.std.proofs.Common.{◌≤◌, ◌<◌, ◌^◌, ℕ, refl, Bool, true, false, List, [], ◌∷◌, length, arith}
+use Rattle.std.proofs.Common.{◌≤◌, ◌<◌, ◌^◌, ℕ, refl, Bool, true, false, List, [], ◌∷◌, length, arith, map}
 use Rattle.std.specs.Prelude.{IsTrue, ◌&&◌, nat_lt, sum_by}
 use Rattle.std.specs.List.{list_all, list_any}
 use Rattle.std.proofs.lemmas.Bool.Decides.{nat_tests}
@@ -7,7 +7,7 @@ use Rattle.std.proofs.lemmas.List.Sums.{sum_by-cons}
 use Rattle.typed_tree.specs.TypedTree.{FunctionTree, TypedTree}
 use Rattle.typed_tree.specs.Nodes.{nodes_of, function_nodes, expr_nodes}
 use Rattle.typed_tree.specs.ExpressionTree.{ExprTree, typed}
-use Rattle.typed_tree.specs.WellFormed.{is_well_formed, structs_sound, global_sound, globals_small, function_sound, names_distinct, is_start, are_numbered, all_parts_of}
+use Rattle.typed_tree.specs.WellFormed.{is_well_formed, structs_sound, global_sound, globals_small, function_sound, name_of, are_distinct, is_start, are_numbered, all_parts_of}
 
 pub and_left : (a b : Bool) → IsTrue (a && b) → IsTrue a
 and_left true b h = refl
@@ -23,7 +23,7 @@ pub record Facts (t : TypedTree) : Type 0 where
   pub globals : IsTrue (list_all (global_sound t.structs) t.globals)
   pub small : IsTrue (globals_small t.globals)
   pub functions : IsTrue (list_all (function_sound t) t.functions)
-  pub names : IsTrue (names_distinct t.functions)
+  pub names : IsTrue (are_distinct (map name_of t.functions))
   pub start : IsTrue (list_any is_start t.functions)
   pub numbered : IsTrue (are_numbered 0 (all_parts_of t.functions) (length t.exprs))
   pub few : IsTrue (nat_lt (nodes_of t) (2 ^ 28))

@@ -3,6 +3,7 @@
 
 mod expression;
 mod function;
+mod host_program;
 mod ids;
 mod link;
 mod part;
