@@ -15,7 +15,7 @@ use Rattle.pt_tree.specs.declared.signature.Elem.TheVariants as e
 use Rattle.pt_tree.specs.declared.signature.Signature.{Signature}
 use Rattle.typed_tree.specs.TypedTree.{FunctionTree, TypedTree}
 use Rattle.typed_tree.specs.Cells.{leaves_of}
-use Rattle.typed_tree.specs.Nodes.{function_nodes}
+use Rattle.typed_tree.specs.Nodes.{function_nodes, nodes_of}
 use Rattle.typed_tree.specs.Parts.{function_parts}
 use Rattle.typed_tree.specs.TypeTests.{same_type}
 use Rattle.typed_tree.specs.WellFormedExpression.{param_type, is_main}
@@ -117,6 +117,22 @@ host_nodes (s ∷ ss) h =
     let rest = host_nodes ss (and_right (is_host s) (list_all is_host ss) h) in
     rw (sum_by-cons function_nodes (host_function s) (map host_function ss)) (omega (arith, few, count, rest))
 
+few_nodes : (hosts : List Signature) → IsTrue (list_all is_host hosts) → IsTrue (nat_lt (length hosts) (2 ^ 20)) → IsTrue (nat_lt (nodes_of (host_program hosts)) (2 ^ 28))
+few_nodes hosts h few =
+    let total = sum_by-append function_nodes (map host_function hosts) (main_function ∷ []) in
+    let bound = host_nodes hosts h in
+    grind (arith, nat_tests, total, bound, few)
+
 pub hosts_well_formed : (hosts : List Signature) → IsTrue (are_hosts hosts) → IsTrue (is_well_formed (host_program hosts))
 unfolding is_well_formed
-hosts_well_formed hosts h = ?
+hosts_well_formed hosts h =
+    let names = and_right (list_all is_host hosts) (are_distinct (map (λ s. s.name) hosts) && nat_lt (length hosts) (2 ^ 20)) h in
+    let all = and_left (list_all is_host hosts) (are_distinct (map (λ s. s.name) hosts) && nat_lt (length hosts) (2 ^ 20)) h in
+    let few = and_right (are_distinct (map (λ s. s.name) hosts)) (nat_lt (length hosts) (2 ^ 20)) names in
+    let hs = map host_function hosts in
+    let functions : IsTrue (list_all (function_sound (host_program hosts)) (hs ++ main_function ∷ [])) =
+        list_all-append (function_sound (host_program hosts)) hs (main_function ∷ []) ∙ and_both _ _ (hosts_sound hosts hosts all) (and_both _ _ (main_sound hosts) refl) in
+    let start : IsTrue (list_any is_start (hs ++ main_function ∷ [])) =
+        list_any-append is_start hs (main_function ∷ []) ∙ or_right _ _ refl in
+    let apart = distinct hosts all (and_left (are_distinct (map (λ s. s.name) hosts)) (nat_lt (length hosts) (2 ^ 20)) names) in
+    and_both _ _ (and_both _ _ functions (and_both _ _ apart start)) (and_both _ _ (numbered hosts) (few_nodes hosts all few))
