@@ -131,8 +131,8 @@ hosts_well_formed hosts h =
     let few = and_right (are_distinct (map (λ s. s.name) hosts)) (nat_lt (length hosts) (2 ^ 20)) names in
     let hs = map host_function hosts in
     let functions : IsTrue (list_all (function_sound (host_program hosts)) (hs ++ main_function ∷ [])) =
-        list_all-append (function_sound (host_program hosts)) hs (main_function ∷ []) ∙ and_both _ _ (hosts_sound hosts hosts all) (and_both _ _ (main_sound hosts) refl) in
+    list_all-append (function_sound (host_program hosts)) hs (main_function ∷ []) ∙ and_both _ _ (hosts_sound hosts hosts all) (and_both _ _ (main_sound hosts) refl) in
     let start : IsTrue (list_any is_start (hs ++ main_function ∷ [])) =
-        list_any-append is_start hs (main_function ∷ []) ∙ or_right _ _ refl in
+    list_any-append is_start hs (main_function ∷ []) ∙ or_right _ _ refl in
     let apart = distinct hosts all (and_left (are_distinct (map (λ s. s.name) hosts)) (nat_lt (length hosts) (2 ^ 20)) names) in
     and_both _ _ (and_both _ _ functions (and_both _ _ apart start)) (and_both _ _ (numbered hosts) (few_nodes hosts all few))

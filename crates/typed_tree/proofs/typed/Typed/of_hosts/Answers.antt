@@ -14,6 +14,6 @@ new-requires-3 c =
     let functions : map view_function c.push.new.self.items ≡ map host_function c.args.hosts.items ++ main_function ∷ [] = search (rules, map-append) in
     let exprs : map view_expr c.push-2.new.self.items ≡ zero_expr ∷ [] = search rules in
     let tree : tree_of c.new-structs.result c.new-globals.result c.push.new.self.items c.push-2.new.self.items ≡ host_program c.args.hosts.items =
-        λ i. record { structs = structs i; globals = globals i; functions = functions i; exprs = exprs i } in
+    λ i. record { structs = structs i; globals = globals i; functions = functions i; exprs = exprs i } in
     let hosts : IsTrue (are_hosts c.args.hosts.items) = search rules in
     rw tree (hosts_well_formed c.args.hosts.items hosts)
