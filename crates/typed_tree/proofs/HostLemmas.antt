@@ -1,7 +1,7 @@
 -- The program that declares hosts is well formed.
-use Rattle.std.proofs.Common.{◌≡◌, ◌≤◌, ◌<◌, ◌+◌, ◌*◌, ◌++◌, ◌∙◌, sym, ap, refl, ℕ, Bool, true, false, List, [], ◌∷◌, length, arith, map, ◌^◌}
+use Rattle.std.proofs.Common.{◌≡◌, ◌≤◌, ◌*◌, ◌++◌, ◌∙◌, refl, ℕ, Bool, true, false, List, [], ◌∷◌, length, arith, map, ◌^◌}
 use Rattle.std.specs.Prelude.{IsTrue, ◌&&◌, ◌||◌, not, nat_lt, nat_le, nat_eq, sum_by, codes}
-use Rattle.std.specs.List.{list_all, list_any, flat_map}
+use Rattle.std.specs.List.{list_all, list_any}
 use Rattle.std.specs.Str.{bytes_eq}
 use Rattle.std.proofs.lemmas.Bool.Decides.{nat_tests}
 use Rattle.std.proofs.lemmas.List.{length-map}
@@ -11,9 +11,7 @@ use Rattle.std.proofs.lemmas.Grind.{flat_map-append}
 use Rattle.pt_tree.specs.declared.signature.Param.{Param}
 use Rattle.pt_tree.specs.declared.signature.ParamKind.{ParamKind}
 use Rattle.pt_tree.specs.declared.signature.ParamKind.TheVariants as k
-use Rattle.pt_tree.specs.declared.signature.Elem.TheVariants as e
 use Rattle.pt_tree.specs.declared.signature.Signature.{Signature}
-use Rattle.typed_tree.specs.TypedTree.{FunctionTree, TypedTree}
 use Rattle.typed_tree.specs.Cells.{leaves_of}
 use Rattle.typed_tree.specs.Nodes.{function_nodes, nodes_of}
 use Rattle.typed_tree.specs.Parts.{function_parts}

@@ -1,6 +1,6 @@
 -- The function with a name is the one function that has it.
 use Rattle.std.proofs.Common.{◌≡◌, ◌+◌, ◌∙◌, sym, ap, ℕ, zero, suc, refl, Bool, true, false, List, [], ◌∷◌, arith, map, Option, Some, None, if◌then◌else◌}
-use Rattle.std.specs.Prelude.{◌↔◌, IsTrue, ◌&&◌, not, slice_get, option_map}
+use Rattle.std.specs.Prelude.{◌↔◌, IsTrue, not, slice_get, option_map}
 use Rattle.std.specs.List.{list_any}
 use Rattle.std.specs.Str.{bytes_eq}
 use Rattle.std.proofs.lemmas.Slice.Eq.{bytes_eq-Decides}
@@ -8,7 +8,7 @@ use Rattle.pt_base.specs.declared.ids.FnId.{FnId}
 use Rattle.typed_tree.specs.TypedTree.{FunctionTree, TypedTree}
 use Rattle.typed_tree.specs.Lookup.{named_from, function_named, HasName}
 use Rattle.typed_tree.specs.WellFormed.{is_well_formed, name_of, are_distinct}
-use Rattle.typed_tree.proofs.WellFormedLemmas.{and_left, and_right, Facts, facts_of}
+use Rattle.typed_tree.proofs.WellFormedLemmas.{and_left, and_right, facts_of}
 
 -- the name of the function of this number
 abbrev name_at : List FunctionTree → ℕ → Option (List ℕ)

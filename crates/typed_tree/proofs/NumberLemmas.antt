@@ -1,6 +1,6 @@
 -- Which numbers name an entry of a well formed program.
-use Rattle.std.proofs.Common.{◌≡◌, ◌<◌, ◌≤◌, ◌+◌, ◌++◌, ◌∙◌, sym, ap, ℕ, zero, suc, refl, Bool, true, false, List, [], ◌∷◌, length, arith, map, Option, Some, None}
-use Rattle.std.specs.Prelude.{IsTrue, ◌&&◌, nat_lt, nat_eq, slice_get, option_map, option_and_then, All}
+use Rattle.std.proofs.Common.{◌≡◌, ◌<◌, ◌+◌, ◌∙◌, sym, ℕ, zero, suc, refl, Bool, List, [], ◌∷◌, length, arith, Option, Some, None}
+use Rattle.std.specs.Prelude.{IsTrue, nat_lt, nat_eq, slice_get, option_and_then, All}
 use Rattle.std.specs.List.{list_all, flat_map}
 use Rattle.std.proofs.lemmas.Bool.Decides.{nat_tests}
 use Rattle.std.proofs.lemmas.Option.{slice_get_within}
@@ -14,10 +14,9 @@ use Rattle.typed_tree.specs.ExpressionTree.{ExprTree}
 use Rattle.typed_tree.specs.TypedTree.{FunctionTree, TypedTree}
 use Rattle.typed_tree.specs.Parts.{function_parts}
 use Rattle.typed_tree.specs.Lookup.{parts_in}
-use Rattle.typed_tree.specs.WellFormedExpression.{Names, is_typed}
 use Rattle.typed_tree.specs.WellFormedStatement.{Scope, found_fits, expr_fits}
-use Rattle.typed_tree.specs.WellFormed.{is_well_formed, function_sound, global_sound, are_numbered, all_parts_of}
-use Rattle.typed_tree.proofs.WellFormedLemmas.{and_left, and_right, Facts, facts_of}
+use Rattle.typed_tree.specs.WellFormed.{is_well_formed, function_sound, are_numbered, all_parts_of}
+use Rattle.typed_tree.proofs.WellFormedLemmas.{and_left, and_right, facts_of}
 
 -- what passes for all passes for each
 pub passes_at : {X : Type 0} (p : X → Bool) → (xs : List X) (k : ℕ) (x : X) → IsTrue (list_all p xs) → slice_get xs k ≡ Some x → IsTrue (p x)

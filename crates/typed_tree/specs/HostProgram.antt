@@ -1,5 +1,5 @@
 -- The program that declares some hosts and does nothing.
-use Rattle.std.specs.Prelude.{ℕ, ◌^◌, pos, List, [], ◌∷◌, ◌++◌, None, Some, Bool, true, false, ◌&&◌, not, nat_le, nat_lt, length, map, codes}
+use Rattle.std.specs.Prelude.{◌^◌, pos, List, [], ◌∷◌, ◌++◌, None, Some, Bool, false, ◌&&◌, not, nat_le, nat_lt, length, map, codes}
 use Rattle.std.specs.List.{list_all}
 use Rattle.pt_base.specs.declared.span.Span.{Span}
 use Rattle.pt_base.specs.declared.int_type.IntType.TheVariants as t

@@ -29,6 +29,11 @@ pub record TypedTree : Type 0 where
 abbrev pub view_function : TypedFn → FunctionTree
 view_function f = record { signature = f.signature; name = f.name; vars = f.vars; body = option_map view_body f.body }
 
+-- what each function is called with
+abbrev pub signatures_of : TypedTree → List Signature
+signatures_of t = map (λ f. f.signature) t.functions
+
+-- a program of these parts
 abbrev pub tree_of : List StructInfo → List TypedGlobal → List TypedFn → List TypedExpr → TypedTree
 tree_of structs globals functions exprs = record {
   structs = structs;

@@ -16,7 +16,7 @@ use Rattle.typed_tree.specs.declared.types.StructInfo.{StructInfo}
 use Rattle.typed_tree.specs.declared.variable.Var.{Var}
 use Rattle.typed_tree.specs.declared.variable.TypedGlobal.{TypedGlobal}
 use Rattle.typed_tree.specs.StatementTree.{BodyTree, block}
-use Rattle.typed_tree.specs.TypedTree.{FunctionTree, TypedTree}
+use Rattle.typed_tree.specs.TypedTree.{FunctionTree, TypedTree, signatures_of}
 use Rattle.typed_tree.specs.Cells.{leaves_of, cells_of}
 use Rattle.typed_tree.specs.Parts.{function_parts}
 use Rattle.typed_tree.specs.Nodes.{nodes_of}
@@ -102,7 +102,7 @@ abbrev pub names_in : TypedTree → FunctionTree → Names
 names_in t f = record {
   structs = t.structs;
   globals = t.globals;
-  signatures = map (λ g. g.signature) t.functions;
+  signatures = signatures_of t;
   vars = f.vars;
 }
 

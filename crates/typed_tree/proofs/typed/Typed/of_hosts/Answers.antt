@@ -2,7 +2,7 @@ use Rattle.std.proofs.Common.{◌≡◌, ◌∷◌, ◌++◌, [], map, rules}
 use Rattle.std.specs.Prelude.{IsTrue}
 use Rattle.std.proofs.lemmas.List.{map-append}
 use Rattle.typed_tree.specs.ExpressionTree.{view_expr}
-use Rattle.typed_tree.specs.TypedTree.{TypedTree, view_function, tree_of}
+use Rattle.typed_tree.specs.TypedTree.{view_function, tree_of}
 use Rattle.typed_tree.specs.HostProgram.{are_hosts, host_function, main_function, zero_expr, host_program}
 use Rattle.typed_tree.proofs.HostLemmas.{hosts_well_formed}
 use Rattle.typed_tree.proofs.typed.Typed.of_hosts.Goals as goal
