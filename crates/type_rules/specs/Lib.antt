@@ -1,1 +1,3 @@
+pub mod Conversions
+pub mod Operators
 pub mod Types

@@ -27,6 +27,26 @@ is_same_elem (elem.Int a) (elem.Int b) = is_same_int a b
 is_same_elem (elem.Struct m) (elem.Struct n) = nat_eq m n
 is_same_elem a b = false
 
+-- the type of what is faulty
+abbrev pub is_bad : «Type» → Bool
+is_bad ty.Bad = true
+is_bad t = false
+
+abbrev pub is_integer : «Type» → Bool
+is_integer (ty.Int t) = true
+is_integer t = false
+
+-- integers and pointers are the scalar types (C99 6.2.5p21)
+abbrev pub is_scalar : «Type» → Bool
+is_scalar (ty.Int t) = true
+is_scalar (ty.Pointer e fixed) = true
+is_scalar t = false
+
+-- the type of an element
+abbrev pub elem_type : Elem → «Type»
+elem_type (elem.Int t) = ty.Int t
+elem_type (elem.Struct n) = ty.Struct n
+
 -- the type of an object's value: an array's is a pointer to its elements (C99 6.3.2.1p3)
 abbrev pub value_type : «Type» → Bool → «Type»
 value_type (ty.Array e count) fixed = ty.Pointer e fixed

@@ -22,6 +22,32 @@ pub enum Type {
     Pointer { elem: Elem, fixed: bool },
 }
 
+impl Type {
+    ghost use Rattle.std.specs.Prelude.{◌≡◌};
+    ghost use Rattle.type_rules.specs.Types as is;
+
+    /// Whether this is the type of what is faulty.
+    pub(crate) fn is_bad(self) -> bool
+        ensures { result ≡ is.is_bad self }
+    {
+        matches!(self, Type::Bad)
+    }
+
+    /// Whether this is an integer type.
+    pub(crate) fn is_integer(self) -> bool
+        ensures { result ≡ is.is_integer self }
+    {
+        matches!(self, Type::Int(_))
+    }
+
+    /// Whether this is an integer or a pointer type (C99 6.2.5p21).
+    pub(crate) fn is_scalar(self) -> bool
+        ensures { result ≡ is.is_scalar self }
+    {
+        matches!(self, Type::Int(_) | Type::Pointer { .. })
+    }
+}
+
 /// An expression as a value: an array stands as the pointer that it decays to.
 #[derive(Clone, Copy, Debug, PartialEq, Eq)]
 pub struct Value {
@@ -41,8 +67,18 @@ pub fn value_type(ty: Type, fixed: bool) -> Type
     }
 }
 
+/// The type of an element.
+pub fn elem_type(elem: Elem) -> Type
+    ensures { result ≡ is.elem_type elem }
+{
+    match elem {
+        Elem::Int(t) => Type::Int(t),
+        Elem::Struct(number) => Type::Struct(number),
+    }
+}
+
 /// Whether both are one type. `char` is neither `signed char` nor `unsigned char` (C99 6.2.5p15).
-pub fn is_same_elem(a: Elem, b: Elem) -> bool
+pub(crate) fn is_same_elem(a: Elem, b: Elem) -> bool
     ensures { result ≡ is.is_same_elem a b }
 {
     match (a, b) {
