@@ -19,11 +19,13 @@ abbrev pub at_right : Rule
 at_right = Wrong false true
 
 -- an operand of type Bad gives no fault of its own, and one that isn't taken is wrong whatever the other is
+abbrev pub judged : (bad takes_left takes_right : Bool) → Rule → Rule
+judged true left right rule = Unknown
+judged false true true rule = rule
+judged false left right rule = Wrong (not left) (not right)
+
 abbrev pub where_taken : (taken : «Type» → Bool) → Value → Value → Rule → Rule
-where_taken taken v w rule =
-    if is_bad v.ty || is_bad w.ty then Unknown
-    else if taken v.ty && taken w.ty then rule
-    else Wrong (not (taken v.ty)) (not (taken w.ty))
+where_taken taken v w = judged (is_bad v.ty || is_bad w.ty) (taken v.ty) (taken w.ty)
 
 -- what the operator takes as an operand, whatever the other one is
 abbrev pub takes : BinaryOp → «Type» → Bool

@@ -43,19 +43,12 @@ pub(crate) const AT_RIGHT: Rule = Rule::Wrong {
 pub fn binary_rule(op: BinaryOp, left: Value, right: Value) -> Rule
     ensures { result ≡ is.binary_rule op left right }
 {
-    if left.ty.is_bad() || right.ty.is_bad() {
-        return Rule::Unknown;
-    }
-    let taken_left = takes(op, left.ty);
-    let taken_right = takes(op, right.ty);
-    if taken_left && taken_right {
-        pair_rule(op, left, right)
-    } else {
-        Rule::Wrong {
-            left: !taken_left,
-            right: !taken_right,
-        }
-    }
+    judged(
+        left.ty.is_bad() || right.ty.is_bad(),
+        takes(op, left.ty),
+        takes(op, right.ty),
+        pair_rule(op, left, right),
+    )
 }
 
 /// What `left[right]` does (C99 6.5.2.1): a Move or a MoveBy. Of two integers the left one is
@@ -63,19 +56,12 @@ pub fn binary_rule(op: BinaryOp, left: Value, right: Value) -> Rule
 pub fn index_rule(left: Value, right: Value) -> Rule
     ensures { result ≡ is.index_rule left right }
 {
-    if left.ty.is_bad() || right.ty.is_bad() {
-        return Rule::Unknown;
-    }
-    let taken_left = left.ty.is_scalar();
-    let taken_right = right.ty.is_scalar();
-    if taken_left && taken_right {
-        subscript(left.ty, right.ty)
-    } else {
-        Rule::Wrong {
-            left: !taken_left,
-            right: !taken_right,
-        }
-    }
+    judged(
+        left.ty.is_bad() || right.ty.is_bad(),
+        left.ty.is_scalar(),
+        right.ty.is_scalar(),
+        subscript(left.ty, right.ty),
+    )
 }
 
 /// The type of what the rule gives for these operands; Bad where it gives nothing.
@@ -89,6 +75,22 @@ pub fn rule_type(rule: Rule, left: Value, right: Value) -> Type
         Rule::Move => left.ty,
         Rule::MoveBy => right.ty,
         Rule::Difference => Type::Int(IntType::Long),
+    }
+}
+
+/// The rule, where neither operand is Bad and both are taken.
+fn judged(bad: bool, takes_left: bool, takes_right: bool, rule: Rule) -> Rule
+    ensures { result ≡ is.judged bad takes_left takes_right rule }
+{
+    if bad {
+        Rule::Unknown
+    } else if takes_left && takes_right {
+        rule
+    } else {
+        Rule::Wrong {
+            left: !takes_left,
+            right: !takes_right,
+        }
     }
 }
 
