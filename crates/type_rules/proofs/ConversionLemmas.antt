@@ -1,19 +1,18 @@
 -- The laws of conversions.
 use Rattle.std.proofs.Common.{◌≡◌, ◌≢◌, ◌∙◌, ◌&&◌, ◌||◌, not, nat_eq, Bool, true, false, if◌then◌else◌, IsTrue, refl, ap, sym, subst}
 use Rattle.pt_base.specs.IntTypes.{usual}
-use Rattle.pt_base.specs.declared.int_type.IntType.{IntType}
 use Rattle.pt_tree.specs.declared.operator.BinaryOp.{BinaryOp}
 use Rattle.pt_tree.specs.declared.signature.Elem.{Elem}
 use Rattle.type_rules.specs.declared.types.Type.{«Type»}
 use Rattle.type_rules.specs.declared.types.Type.TheVariants.{Bad, Void, Int, Struct, Array, Pointer}
 use Rattle.type_rules.specs.declared.types.Value.{Value}
 use Rattle.type_rules.specs.declared.operators.Rule.{Rule}
-use Rattle.type_rules.specs.declared.operators.Rule.TheVariants.{Unknown, Wrong}
+use Rattle.type_rules.specs.declared.operators.Rule.TheVariants.{Unknown}
 use Rattle.type_rules.specs.declared.conversions.Fit.{Fit}
 use Rattle.type_rules.specs.declared.conversions.Fit.TheVariants as fit
 use Rattle.type_rules.specs.declared.conversions.ChoiceRule.{ChoiceRule}
 use Rattle.type_rules.specs.declared.conversions.ChoiceRule.TheVariants as choice
-use Rattle.type_rules.specs.Conversions.{choice_rule, compound_rule, fit_rule, is_wrong, joined, taken}
+use Rattle.type_rules.specs.Conversions.{compound_rule, fit_rule, is_wrong, joined, taken}
 use Rattle.type_rules.specs.Operators.{at_right, binary_rule, rule_type}
 use Rattle.type_rules.specs.Laws.{Answers, ArmsFitTheirChoice, CompoundsFit, IntegersFitIntegers, OperatorsAnswer, PointersFitPointers, fits, is_given, is_unknown}
 use Rattle.type_rules.specs.Types.{is_bad, is_integer, is_same_elem}
@@ -51,6 +50,7 @@ points e e' fixed fixed' null = (stored (is_same_elem e e' && (fixed || not fixe
     stored : (b : Bool) → (is_same_elem e e' && (fixed || not fixed')) ≡ b → pointed b ≡ fit.Points → (e ≡ e') × (IsTrue fixed' → IsTrue fixed)
     stored true h p = let parts = both (is_same_elem e e') (fixed || not fixed') h in (same_elem e e' parts.0, kept fixed fixed' parts.1)
     stored false h p = cc
+
     stores : (e ≡ e') × (IsTrue fixed' → IsTrue fixed) → pointed (is_same_elem e e' && (fixed || not fixed')) ≡ fit.Points
     stores (same, const) =
         ap (λ x. pointed (is_same_elem e x && (fixed || not fixed'))) (sym same) ∙
@@ -100,9 +100,10 @@ arms v w t e some = arm v.ty v.null w.ty w.null t e some
     arm (Pointer e f) m (Pointer e' f') n t h some = either (is_same_elem e e') refl h
       where
         either : (s : Bool) → is_same_elem e e' ≡ s → (if s then choice.Gives (Pointer e (f || f')) else choice.Wrong) ≡ choice.Gives t → Fits t (Pointer e f) m (Pointer e' f') n
-        either true same g = subst (λ t. Fits t (Pointer e f) m (Pointer e' f') n) (same_given (Pointer e (f || f')) t g)
-            (fits_pointed (is_same_elem e e) ((f || f') || not f) (is_same_elem-self e) (with_first f f'),
-            fits_pointed (is_same_elem e e') ((f || f') || not f') same (with_last f f'))
+        either true same g = subst (λ t. Fits t (Pointer e f) m (Pointer e' f') n) (same_given (Pointer e (f || f')) t g) (
+          fits_pointed (is_same_elem e e) ((f || f') || not f) (is_same_elem-self e) (with_first f f'),
+          fits_pointed (is_same_elem e e') ((f || f') || not f') same (with_last f f'),
+        )
         either false same g = cc
     arm (Pointer e f) m (Int b) true t h some = subst (λ t. Fits t (Pointer e f) m (Int b) true) (same_given (Pointer e f) t h) (fits_itself e f m, refl)
     arm (Pointer e f) m (Int b) false t h some = cc
@@ -174,6 +175,7 @@ compound_answers op t w = go (is_wrong (fit_rule t (outcome op t w))) refl
   where
     computed : Answers (binary_rule op (object t) w) (object t) w
     computed = binary_answers op (object t) w
+
     go : (b : Bool) → is_wrong (fit_rule t (outcome op t w)) ≡ b → Answers (if b then at_right else binary_rule op (object t) w) (object t) w
     go false e = computed
     go true e =
@@ -186,6 +188,7 @@ compounds op t w = go (is_wrong (fit_rule t (outcome op t w))) refl
   where
     computed : Answers (binary_rule op (object t) w) (object t) w
     computed = binary_answers op (object t) w
+
     go : (b : Bool) → is_wrong (fit_rule t (outcome op t w)) ≡ b → is_given (if b then at_right else binary_rule op (object t) w) ≡ true →
         ((if b then at_right else binary_rule op (object t) w) ≡ binary_rule op (object t) w) × (fits (fit_rule t (outcome op t w)) ≡ true)
     go true e given = cc

@@ -1,20 +1,17 @@
 -- The laws of operators.
-use Rattle.std.proofs.Common.{◌≡◌, ◌≢◌, ◌∙◌, ◌&&◌, ◌||◌, not, Bool, true, false, if◌then◌else◌, refl, ap, sym}
-use Rattle.pt_base.specs.IntTypes.{promoted, usual}
-use Rattle.pt_base.specs.declared.int_type.IntType.{IntType}
+use Rattle.std.proofs.Common.{◌≡◌, ◌≢◌, ◌∙◌, ◌||◌, not, Bool, true, false, if◌then◌else◌, refl, ap, sym}
 use Rattle.pt_tree.specs.declared.operator.BinaryOp.{BinaryOp}
 use Rattle.pt_tree.specs.declared.operator.BinaryOp.TheVariants.{LogicalOr, LogicalAnd, BitOr, BitXor, BitAnd, Equal, NotEqual, Less, Greater, LessEqual, GreaterEqual, ShiftLeft, ShiftRight, Add, Subtract, Multiply, Divide, Remainder}
-use Rattle.pt_tree.specs.declared.signature.Elem.{Elem}
 use Rattle.pt_tree.specs.declared.signature.Elem.TheVariants as elem
 use Rattle.type_rules.specs.declared.types.Type.{«Type»}
 use Rattle.type_rules.specs.declared.types.Type.TheVariants.{Bad, Void, Int, Struct, Array, Pointer}
 use Rattle.type_rules.specs.declared.types.Value.{Value}
 use Rattle.type_rules.specs.declared.operators.Rule.{Rule}
-use Rattle.type_rules.specs.declared.operators.Rule.TheVariants.{Unknown, Wrong, Arithmetic, Comparison, Shift, Logical, Move, MoveBy, Difference, ComparePointers}
+use Rattle.type_rules.specs.declared.operators.Rule.TheVariants.{Comparison, Difference}
 use Rattle.type_rules.specs.declared.unary.UnaryRule.TheVariants as unary
-use Rattle.type_rules.specs.Operators.{arithmetic, at_right, binary_rule, compared, comparison, deref_rule, difference, index_rule, judged, not_rule, pair_rule, pointers, promoted_rule, rule_type, shift, step_rule, subscript, sum, takes}
-use Rattle.type_rules.specs.Laws.{Answers, AnswersOne, ComparisonsAreSymmetric, SubscriptsAreSums, UnaryRulesAnswer, is_comparison, is_given, is_silent, is_unknown, names_operand}
-use Rattle.type_rules.specs.Types.{elem_type, is_bad, is_same_elem, is_scalar}
+use Rattle.type_rules.specs.Operators.{arithmetic, at_right, binary_rule, compared, deref_rule, difference, index_rule, judged, not_rule, pair_rule, pointers, promoted_rule, rule_type, shift, step_rule, subscript, sum, takes}
+use Rattle.type_rules.specs.Laws.{Answers, AnswersOne, ComparisonsAreSymmetric, SubscriptsAreSums, UnaryRulesAnswer, is_given, is_silent, is_unknown, names_operand}
+use Rattle.type_rules.specs.Types.{is_bad, is_same_elem, is_scalar}
 use Rattle.type_rules.proofs.TypeLemmas.{same_elem_back, usual_back}
 
 -- what Answers asks of a rule of two operands that are taken
@@ -146,6 +143,7 @@ promoted_answers = record { silent = silent; typed = typed }
     silent : (t : «Type») → is_silent (promoted_rule t) ≡ is_bad t
     silent Bad = refl
     silent t = refl
+
     typed : (t s : «Type») → promoted_rule t ≡ unary.Gives s → s ≢ Bad
     typed Bad s e z = cc
     typed t s e z = cc
@@ -156,6 +154,7 @@ not_answers = record { silent = silent; typed = typed }
     silent : (t : «Type») → is_silent (not_rule t) ≡ is_bad t
     silent Bad = refl
     silent t = refl
+
     typed : (t s : «Type») → not_rule t ≡ unary.Gives s → s ≢ Bad
     typed Bad s e z = cc
     typed t s e z = cc
@@ -166,6 +165,7 @@ step_answers = record { silent = silent; typed = typed }
     silent : (t : «Type») → is_silent (step_rule t) ≡ is_bad t
     silent Bad = refl
     silent t = refl
+
     typed : (t s : «Type») → step_rule t ≡ unary.Gives s → s ≢ Bad
     typed Bad s e z = cc
     typed t s e z = cc
@@ -176,6 +176,7 @@ deref_answers = record { silent = silent; typed = typed }
     silent : (t : «Type») → is_silent (deref_rule t) ≡ is_bad t
     silent Bad = refl
     silent t = refl
+
     typed : (t s : «Type») → deref_rule t ≡ unary.Gives s → s ≢ Bad
     typed (Pointer (elem.Int t) f) s e z = cc
     typed (Pointer (elem.Struct n) f) s e z = cc

@@ -3,7 +3,7 @@ use Rattle.std.specs.Prelude.{Bool, true, false, ◌&&◌, ◌||◌, not, nat_eq
 use Rattle.pt_base.specs.IntTypes.{usual}
 use Rattle.pt_tree.specs.declared.operator.BinaryOp.{BinaryOp}
 use Rattle.type_rules.specs.declared.types.Type.{«Type»}
-use Rattle.type_rules.specs.declared.types.Type.TheVariants.{Bad, Void, Int, Struct, Pointer}
+use Rattle.type_rules.specs.declared.types.Type.TheVariants.{Void, Int, Struct, Pointer}
 use Rattle.type_rules.specs.declared.types.Value.{Value}
 use Rattle.type_rules.specs.declared.operators.Rule.{Rule}
 use Rattle.type_rules.specs.declared.conversions.Fit.{Fit}
