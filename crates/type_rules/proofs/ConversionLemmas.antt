@@ -12,7 +12,7 @@ use Rattle.type_rules.specs.declared.conversions.Fit.{Fit}
 use Rattle.type_rules.specs.declared.conversions.Fit.TheVariants as fit
 use Rattle.type_rules.specs.declared.conversions.ChoiceRule.{ChoiceRule}
 use Rattle.type_rules.specs.declared.conversions.ChoiceRule.TheVariants as choice
-use Rattle.type_rules.specs.Conversions.{compound_rule, fit_rule, is_wrong, joined, taken}
+use Rattle.type_rules.specs.Conversions.{choice_rule, compound_rule, fit_rule, is_wrong, joined, taken}
 use Rattle.type_rules.specs.Operators.{at_right, binary_rule, rule_type}
 use Rattle.type_rules.specs.Laws.{Answers, ArmsFitTheirChoice, CompoundsFit, IntegersFitIntegers, OperatorsAnswer, PointersFitPointers, fits, is_given, is_unknown}
 use Rattle.type_rules.specs.Types.{is_bad, is_integer, is_same_elem}
@@ -20,6 +20,7 @@ use Rattle.type_rules.proofs.OperatorLemmas.{binary_answers, index_answers}
 use Rattle.type_rules.proofs.TypeLemmas.{is_same_elem-self, same_elem}
 
 pub integers : IntegersFitIntegers
+unfolding fit_rule
 integers t v = fitted v.ty
   where
     fitted : (s : «Type») → fits (if is_bad (Int t) || is_bad s then fit.Unknown else taken (Int t) s v.null) ≡ is_integer s
@@ -45,6 +46,7 @@ abbrev pointed : Bool → Fit
 pointed b = if b then fit.Points else fit.Wrong
 
 pub points : PointersFitPointers
+unfolding fit_rule
 points e e' fixed fixed' null = (stored (is_same_elem e e' && (fixed || not fixed')) refl, stores)
   where
     stored : (b : Bool) → (is_same_elem e e' && (fixed || not fixed')) ≡ b → pointed b ≡ fit.Points → (e ≡ e') × (IsTrue fixed' → IsTrue fixed)
@@ -90,9 +92,11 @@ fixed_or_not true = refl
 fixed_or_not false = refl
 
 fits_itself : (e : Elem) (f null : Bool) → fits (fit_rule (Pointer e f) (record { ty = Pointer e f; null = null })) ≡ true
+unfolding fit_rule
 fits_itself e f null = fits_pointed (is_same_elem e e) (f || not f) (is_same_elem-self e) (fixed_or_not f)
 
 pub arms : ArmsFitTheirChoice
+unfolding fit_rule choice_rule
 arms v w t e some = arm v.ty v.null w.ty w.null t e some
   where
     arm : (a : «Type») (m : Bool) (b : «Type») (n : Bool) (t : «Type») → chosen a m b n ≡ choice.Gives t → t ≢ Void → Fits t a m b n
@@ -171,6 +175,7 @@ abbrev outcome : BinaryOp → «Type» → Value → Value
 outcome op t w = record { ty = rule_type (binary_rule op (object t) w) (object t) w; null = false }
 
 compound_answers : (op : BinaryOp) (t : «Type») (w : Value) → Answers (compound_rule op t w) (object t) w
+unfolding compound_rule fit_rule
 compound_answers op t w = go (is_wrong (fit_rule t (outcome op t w))) refl
   where
     computed : Answers (binary_rule op (object t) w) (object t) w
@@ -184,6 +189,7 @@ compound_answers op t w = go (is_wrong (fit_rule t (outcome op t w))) refl
         record { silent = sym known ∙ computed.silent; named = refl; typed = refl; bad = refl }
 
 pub compounds : CompoundsFit
+unfolding compound_rule fit_rule
 compounds op t w = go (is_wrong (fit_rule t (outcome op t w))) refl
   where
     computed : Answers (binary_rule op (object t) w) (object t) w

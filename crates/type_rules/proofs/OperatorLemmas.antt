@@ -96,12 +96,15 @@ answers v w left right rule known = go (is_bad v.ty || is_bad w.ty) refl left ri
     go false e false false = record { silent = sym e; named = refl; typed = refl; bad = refl }
 
 pub binary_answers : (op : BinaryOp) (v w : Value) → Answers (binary_rule op v w) v w
+unfolding binary_rule
 binary_answers op v w = answers v w (takes op v.ty) (takes op w.ty) (pair_rule op v w) (pair_known op v w)
 
 pub index_answers : (v w : Value) → Answers (index_rule v w) v w
+unfolding index_rule
 index_answers v w = answers v w (is_scalar v.ty) (is_scalar w.ty) (subscript v.ty w.ty) (subscript_known v.ty w.ty v.null w.null)
 
 pub subscripts : SubscriptsAreSums
+unfolding index_rule binary_rule
 subscripts v w = moved v.ty w.ty
   where
     moved : (a b : «Type») → is_given (judged (is_bad a || is_bad b) (is_scalar a) (is_scalar b) (subscript a b)) ≡ true →
@@ -129,6 +132,7 @@ compared_back (Array e k) (Array e' k') m n h = cc
 compared_back a b m n h = cc
 
 pub symmetric : ComparisonsAreSymmetric
+unfolding binary_rule
 symmetric Equal v w c h = compared_back v.ty w.ty v.null w.null h
 symmetric NotEqual v w c h = compared_back v.ty w.ty v.null w.null h
 symmetric Less v w c h = compared_back v.ty w.ty v.null w.null h
@@ -138,6 +142,7 @@ symmetric GreaterEqual v w c h = compared_back v.ty w.ty v.null w.null h
 symmetric op v w c h = cc
 
 promoted_answers : AnswersOne promoted_rule
+unfolding promoted_rule
 promoted_answers = record { silent = silent; typed = typed }
   where
     silent : (t : «Type») → is_silent (promoted_rule t) ≡ is_bad t
@@ -149,6 +154,7 @@ promoted_answers = record { silent = silent; typed = typed }
     typed t s e z = cc
 
 not_answers : AnswersOne not_rule
+unfolding not_rule
 not_answers = record { silent = silent; typed = typed }
   where
     silent : (t : «Type») → is_silent (not_rule t) ≡ is_bad t
@@ -160,6 +166,7 @@ not_answers = record { silent = silent; typed = typed }
     typed t s e z = cc
 
 step_answers : AnswersOne step_rule
+unfolding step_rule
 step_answers = record { silent = silent; typed = typed }
   where
     silent : (t : «Type») → is_silent (step_rule t) ≡ is_bad t
@@ -171,6 +178,7 @@ step_answers = record { silent = silent; typed = typed }
     typed t s e z = cc
 
 deref_answers : AnswersOne deref_rule
+unfolding deref_rule
 deref_answers = record { silent = silent; typed = typed }
   where
     silent : (t : «Type») → is_silent (deref_rule t) ≡ is_bad t

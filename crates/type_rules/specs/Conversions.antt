@@ -27,7 +27,7 @@ taken (Struct m) (Struct n) null = if nat_eq m n then fit.Copies else fit.Wrong
 taken t s null = fit.Wrong
 
 -- a value as what is assigned to an object of this type, passed to such a parameter or returned as such a result
-abbrev pub fit_rule : «Type» → Value → Fit
+unfoldable pub fit_rule : «Type» → Value → Fit
 fit_rule t v = if is_bad t || is_bad v.ty then fit.Unknown else taken t v.ty v.null
 
 abbrev pub is_wrong : Fit → Bool
@@ -35,7 +35,7 @@ is_wrong fit.Wrong = true
 is_wrong f = false
 
 -- v op= w with an object of the type t as v, typed as the object = v op w (C99 6.5.16.2): the result has to fit
-abbrev pub compound_rule : BinaryOp → «Type» → Value → Rule
+unfoldable pub compound_rule : BinaryOp → «Type» → Value → Rule
 compound_rule op t w =
     let v : Value = record { ty = t; null = false } in
     let rule = binary_rule op v w in
@@ -53,10 +53,10 @@ joined (Struct m) null (Struct n) null' = choice.Structs
 joined a null b null' = choice.Wrong
 
 -- the arms v and w of ?:
-abbrev pub choice_rule : Value → Value → ChoiceRule
+unfoldable pub choice_rule : Value → Value → ChoiceRule
 choice_rule v w = if is_bad v.ty || is_bad w.ty then choice.Unknown else joined v.ty v.null w.ty w.null
 
-abbrev pub condition_rule : Value → ConditionRule
+unfoldable pub condition_rule : Value → ConditionRule
 condition_rule v = if is_bad v.ty then condition.Unknown else if is_scalar v.ty then condition.Good else condition.Wrong
 
 -- from integer to integer type, from anything to void; to no pointer in this profile (C99 6.5.4)
@@ -67,5 +67,5 @@ converted (Int t) (Int s) = cast.Converts t
 converted t s = cast.Wrong
 
 -- v under a cast to t
-abbrev pub cast_rule : «Type» → Value → CastRule
+unfoldable pub cast_rule : «Type» → Value → CastRule
 cast_rule t v = if is_bad t || is_bad v.ty then cast.Unknown else converted t v.ty

@@ -108,7 +108,7 @@ pair_rule LogicalAnd v w = Logical
 pair_rule LogicalOr v w = Logical
 
 -- v op w
-abbrev pub binary_rule : BinaryOp → Value → Value → Rule
+unfoldable pub binary_rule : BinaryOp → Value → Value → Rule
 binary_rule op v w = where_taken (takes op) v w (pair_rule op v w)
 
 -- one operand is a pointer and the other an integer (C99 6.5.2.1p1)
@@ -119,7 +119,7 @@ subscript (Int a) (Int b) = Wrong true false
 subscript a b = at_right
 
 -- v[w]
-abbrev pub index_rule : Value → Value → Rule
+unfoldable pub index_rule : Value → Value → Rule
 index_rule v w = where_taken is_scalar v w (subscript v.ty w.ty)
 
 -- the type of what the rule gives for the operands v and w
@@ -136,27 +136,27 @@ rule_type Difference v w = Int int.Long
 rule_type ComparePointers v w = Int int.Int
 
 -- + - ~ of an operand of this type (C99 6.5.3.3)
-abbrev pub promoted_rule : «Type» → UnaryRule
+unfoldable pub promoted_rule : «Type» → UnaryRule
 promoted_rule Bad = unary.Unknown
 promoted_rule (Int t) = unary.Gives (Int (promoted t))
 promoted_rule t = unary.Wrong
 
 -- ! of it (C99 6.5.3.3p5)
-abbrev pub not_rule : «Type» → UnaryRule
+unfoldable pub not_rule : «Type» → UnaryRule
 not_rule Bad = unary.Unknown
 not_rule (Int t) = unary.Gives (Int int.Int)
 not_rule (Pointer e fixed) = unary.Gives (Int int.Int)
 not_rule t = unary.Wrong
 
 -- ++ and -- of an object of this type, before it or behind it (C99 6.5.2.4, 6.5.3.1)
-abbrev pub step_rule : «Type» → UnaryRule
+unfoldable pub step_rule : «Type» → UnaryRule
 step_rule Bad = unary.Unknown
 step_rule (Int t) = unary.Gives (Int t)
 step_rule (Pointer e fixed) = unary.Gives (Pointer e fixed)
 step_rule t = unary.Wrong
 
 -- * of it, and the object to the left of -> (C99 6.5.3.2p2, 6.5.2.3p2): the type of the pointee
-abbrev pub deref_rule : «Type» → UnaryRule
+unfoldable pub deref_rule : «Type» → UnaryRule
 deref_rule Bad = unary.Unknown
 deref_rule (Pointer e fixed) = unary.Gives (elem_type e)
 deref_rule t = unary.Wrong

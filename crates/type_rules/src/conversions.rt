@@ -1,4 +1,6 @@
 // What an object takes, the arms of a choice, conditions and casts.
+#![tactic(auto, unfolding(crate::specs::Conversions::fit_rule, crate::specs::Conversions::compound_rule, crate::specs::Conversions::choice_rule, crate::specs::Conversions::condition_rule, crate::specs::Conversions::cast_rule))]
+
 ghost use Rattle.std.specs.Prelude.{◌≡◌};
 ghost use Rattle.type_rules.specs.Conversions as is;
 

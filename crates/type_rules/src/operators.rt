@@ -1,4 +1,6 @@
 // What an operator does with two operands.
+#![tactic(auto, unfolding(crate::specs::Operators::binary_rule, crate::specs::Operators::index_rule))]
+
 ghost use Rattle.std.specs.Prelude.{◌≡◌};
 ghost use Rattle.type_rules.specs.Operators as is;
 

@@ -1,4 +1,6 @@
 // What an operator does with one operand.
+#![tactic(auto, unfolding(crate::specs::Operators::promoted_rule, crate::specs::Operators::not_rule, crate::specs::Operators::step_rule, crate::specs::Operators::deref_rule))]
+
 ghost use Rattle.std.specs.Prelude.{◌≡◌};
 ghost use Rattle.type_rules.specs.Operators as is;
 
