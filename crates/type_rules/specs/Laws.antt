@@ -14,7 +14,9 @@ use Rattle.type_rules.specs.declared.unary.UnaryRule.TheVariants as unary
 use Rattle.type_rules.specs.declared.conversions.Fit.{Fit}
 use Rattle.type_rules.specs.declared.conversions.Fit.TheVariants as fit
 use Rattle.type_rules.specs.declared.conversions.ChoiceRule.TheVariants as choice
-use Rattle.type_rules.specs.Conversions.{fit_rule, choice_rule, compound_rule}
+use Rattle.type_rules.specs.declared.conversions.ConditionRule.TheVariants as condition
+use Rattle.type_rules.specs.declared.conversions.CastRule.TheVariants as cast
+use Rattle.type_rules.specs.Conversions.{fit_rule, choice_rule, condition_rule, cast_rule, compound_rule}
 use Rattle.type_rules.specs.Operators.{binary_rule, index_rule, rule_type, promoted_rule, not_rule, step_rule, deref_rule}
 use Rattle.type_rules.specs.Types.{is_bad, is_integer, is_scalar}
 
@@ -80,6 +82,14 @@ ComparisonsAreSymmetric = (op : BinaryOp) (v w : Value) → is_comparison op ≡
 -- E1[E2] moves as E1 + E2 does
 abbrev pub SubscriptsAreSums : Type 0
 SubscriptsAreSums = (v w : Value) → is_given (index_rule v w) ≡ true → index_rule v w ≡ binary_rule Add v w
+
+-- the rules of conversions are silent exactly where a type is Bad, and a choice never gives Bad
+pub record ConversionsAnswer : Type 0 where
+  pub stored : (t : «Type») (v : Value) → (fit_rule t v ≡ fit.Unknown) ↔ ((is_bad t || is_bad v.ty) ≡ true)
+  pub chosen : (v w : Value) → (choice_rule v w ≡ choice.Unknown) ↔ ((is_bad v.ty || is_bad w.ty) ≡ true)
+  pub tested : (v : Value) → (condition_rule v ≡ condition.Unknown) ↔ (is_bad v.ty ≡ true)
+  pub converted : (t : «Type») (v : Value) → (cast_rule t v ≡ cast.Unknown) ↔ ((is_bad t || is_bad v.ty) ≡ true)
+  pub typed : (v w : Value) (t : «Type») → choice_rule v w ≡ choice.Gives t → t ≢ ty.Bad
 
 -- neither unknown nor a fault
 abbrev pub fits : Fit → Bool
