@@ -20,6 +20,7 @@ use Rattle.type_rules.specs.Conversions.{fit_rule, choice_rule, condition_rule, 
 use Rattle.type_rules.specs.Operators.{binary_rule, index_rule, rule_type, promoted_rule, not_rule, step_rule, deref_rule}
 use Rattle.type_rules.specs.Types.{is_bad, is_integer, is_scalar}
 
+-- an operand is Bad
 abbrev pub is_unknown : Rule → Bool
 is_unknown Unknown = true
 is_unknown rule = false
@@ -49,6 +50,7 @@ pub record OperatorsAnswer : Type 0 where
   pub index : (v w : Value) → Answers (index_rule v w) v w
   pub compound : (op : BinaryOp) (t : «Type») (w : Value) → Answers (compound_rule op t w) (record { ty = t; null = false }) w
 
+-- the operand is Bad
 abbrev pub is_silent : UnaryRule → Bool
 is_silent unary.Unknown = true
 is_silent rule = false
@@ -65,6 +67,7 @@ pub record UnaryRulesAnswer : Type 0 where
   pub step : AnswersOne step_rule
   pub deref : AnswersOne deref_rule
 
+-- the relational and equality operators (C99 6.5.8, 6.5.9)
 abbrev pub is_comparison : BinaryOp → Bool
 is_comparison Equal = true
 is_comparison NotEqual = true
