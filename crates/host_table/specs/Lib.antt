@@ -1,0 +1,6 @@
+pub mod Entries
+pub mod Found
+pub mod Fits
+pub mod HostFaults
+pub mod Hosts
+pub mod Written
