@@ -1,1 +1,5 @@
+pub mod CallLemmas
+pub mod FoundLemmas
+pub mod ModelLemmas
+pub mod SpacedLemmas
 pub mod TextLemmas

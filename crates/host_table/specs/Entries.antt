@@ -1,5 +1,5 @@
 -- What an entry of a host table says: the model that stands for a host.
-use Rattle.std.specs.Prelude.{ℕ, ℤ, Bool, true, false, List, [], ◌∷◌, Option, Some, None, option_map, option_and_then, if◌then◌else◌, codes, bytes_eq}
+use Rattle.std.specs.Prelude.{ℕ, ℤ, List, [], ◌∷◌, Option, Some, None, option_map, option_and_then, if◌then◌else◌, codes, bytes_eq}
 use Rattle.serde_json.specs.Data.{Data, Items, no_items, item}
 use Rattle.serde_json.specs.Find.{get, as_number, as_integer, as_str, as_array}
 use Rattle.pt_tree.specs.declared.host_model.HostModel.{HostModel}
@@ -69,10 +69,18 @@ kind_of word =
 abbrev pub kind_in : Data → Option Kind
 kind_in entry = option_and_then kind_of (option_and_then as_str (get (codes "kind") entry))
 
+-- the model of an entry with `rows` and `else`
+abbrev pub table_in : Data → Option HostModel
+table_in entry = option_and_then (λ rows. option_map (Table rows) (other_in entry)) (rows_in entry)
+
+-- the model of an entry with `values` and `else`
+abbrev pub feed_in : Data → Option HostModel
+feed_in entry = option_and_then (λ values. option_map (λ other. Feed values other 0) (other_in entry)) (values_in entry)
+
 -- the model of an entry of this kind for a host of this name
 abbrev pub model_of_kind : List ℕ → Data → Kind → Option HostModel
-model_of_kind name entry kind.Table = option_and_then (λ rows. option_map (Table rows) (other_in entry)) (rows_in entry)
-model_of_kind name entry kind.Feed = option_and_then (λ values. option_map (λ other. Feed values other 0) (other_in entry)) (values_in entry)
+model_of_kind name entry kind.Table = table_in entry
+model_of_kind name entry kind.Feed = feed_in entry
 model_of_kind name entry kind.Input = Some (Input 0)
 model_of_kind name entry kind.Bytes = Some Bytes
 model_of_kind name entry kind.Line = Some (Line name)

@@ -1,5 +1,5 @@
 -- The hosts of a run, and how calls change them.
-use Rattle.std.specs.Prelude.{◌≡◌, ℕ, length, slice_get, length, ℤ, Bool, true, false, nat_eq, List, [], Option, Some, None, is_some, option_map, unwrap_or, if◌then◌else◌}
+use Rattle.std.specs.Prelude.{◌≡◌, ℕ, length, slice_get, length, ℤ, Bool, nat_eq, List, [], Option, Some, None, option_map, unwrap_or, if◌then◌else◌}
 use Rattle.std.specs.List.{list_any}
 use Rattle.std.specs.Map.{lookup}
 use Rattle.pt_base.specs.declared.ids.FnId.{FnId}

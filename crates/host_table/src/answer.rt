@@ -64,9 +64,8 @@ fn advance(model: &mut HostModel, input: &[u8])
 {
     let count = count_of(model, input);
     match model {
-        HostModel::Feed { next, .. } | HostModel::Input { next } => {
-            *next = place_after(count, *next);
-        }
+        HostModel::Feed { next, .. } => *next = place_after(count, *next),
+        HostModel::Input { next } => *next = place_after(count, *next),
         HostModel::Table { .. } | HostModel::Bytes | HostModel::Line { .. } => {}
     }
 }

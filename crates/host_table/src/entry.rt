@@ -1,8 +1,8 @@
 // The entries of hosts.
-ghost use Rattle.std.specs.Prelude.{◌≡◌, ℕ, List, IfOk, option_map};
+ghost use Rattle.std.specs.Prelude.{◌≡◌, IfOk, option_map};
 ghost use Rattle.serde_json.specs.Find.{get};
 ghost use Rattle.serde_json.specs.View.{view};
-ghost use Rattle.host_table.specs.Entries.{model_of_kind, model_in, entry_of};
+ghost use Rattle.host_table.specs.Entries.{table_in, feed_in, model_of_kind, model_in, entry_of};
 
 use crate::items::{other, rows, values};
 use crate::kind::{Kind, kind_in};
@@ -78,7 +78,7 @@ fn model_of_kind(
 
 // The model of an entry of kind table.
 fn table(alloc: Global, entry: &Value) -> Result<Option<HostModel>, AllocError>
-    ensures { (name : List ℕ) → IfOk result (λ o. o ≡ model_of_kind name (view entry.now) Kind.Table) }
+    ensures { IfOk result (λ o. o ≡ table_in (view entry.now)) }
 {
     let Some(rows) = rows(alloc, entry)? else {
         return Ok(None);
@@ -91,7 +91,7 @@ fn table(alloc: Global, entry: &Value) -> Result<Option<HostModel>, AllocError>
 
 // The model of an entry of kind feed.
 fn feed(alloc: Global, entry: &Value) -> Result<Option<HostModel>, AllocError>
-    ensures { (name : List ℕ) → IfOk result (λ o. o ≡ model_of_kind name (view entry.now) Kind.Feed) }
+    ensures { IfOk result (λ o. o ≡ feed_in (view entry.now)) }
 {
     let Some(values) = values(alloc, entry)? else {
         return Ok(None);

@@ -73,6 +73,9 @@ impl Host {
     pub(crate) fn place(&self, f: FnId) -> Option<usize>
         ensures { MatchOption result (lookup (nat_eq f.0) self.now.models.items ≡ None) (IsPlaceOf self.now.models.items f.0) }
     {
-        self.models.binary_search_by_key(&f.0, |m| m.0).ok()
+        match self.models.as_slice().binary_search_by_key(&f.0, |m| m.0) {
+            Ok(place) => Some(place),
+            Err(_) => None,
+        }
     }
 }

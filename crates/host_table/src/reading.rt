@@ -149,7 +149,7 @@ fn host_by(alloc: Global, table: &Value, fns: &[Signature]) -> Result<Host, Host
         return Err(alone(alloc, HostFault::Shape(None)));
     }
     let found = found_of(alloc, table, fns)?;
-    if !found.faults.is_empty() {
+    if !found.faults.as_slice().is_empty() {
         return Err(HostError::Faults(Listed::new(found.faults)));
     }
     Ok(Host::from_models(alloc, found.models))
