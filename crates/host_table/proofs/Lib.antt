@@ -3,3 +3,4 @@ pub mod FoundLemmas
 pub mod ModelLemmas
 pub mod SpacedLemmas
 pub mod TextLemmas
+pub mod WholeLemmas

@@ -89,11 +89,12 @@ model_of_kind name entry kind.Line = Some (Line name)
 abbrev pub model_in : List ℕ → Data → Option HostModel
 model_in name entry = option_and_then (model_of_kind name entry) (kind_in entry)
 
-abbrev shaped_or_not : Option HostModel → Entry
+-- an entry with a model is shaped
+abbrev pub shaped_or_not : Option HostModel → Entry
 shaped_or_not None = Misshaped
 shaped_or_not (Some model) = Shaped model
 
-abbrev entry_by : List ℕ → Option Data → Entry
+abbrev pub entry_by : List ℕ → Option Data → Entry
 entry_by name None = Missing
 entry_by name (Some entry) = shaped_or_not (model_in name entry)
 

@@ -9,6 +9,7 @@ mod fault;
 mod host;
 mod items;
 mod kind;
+mod laws;
 mod part;
 mod reading;
 mod writing;
@@ -16,6 +17,7 @@ mod writing;
 pub use checks::fits;
 pub use fault::{HostError, HostFault};
 pub use host::Host;
+pub use laws::fits_on;
 
 /// A host table may have this many bytes.
 pub const TABLE_LIMIT: usize = 1_048_576;
