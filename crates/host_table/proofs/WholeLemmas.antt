@@ -1,5 +1,5 @@
 -- A table without faults has a model for each host, and it fits.
-use Rattle.std.proofs.Common.{◌≡◌, ◌≤◌, ℕ, zero, suc, ℤ, List, [], ◌∷◌, ◌++◌, length, slice_get, Bool, true, false, true≢false, ◌&&◌, nat_le, nat_lt, Option, Some, None, IsSome, option_map, is_some, if◌then◌else◌, subst, refl, sym, ap, ◌∙◌, arith, Ok}
+use Rattle.std.proofs.Common.{◌≡◌, ◌≤◌, ℕ, zero, suc, ℤ, List, [], ◌∷◌, ◌++◌, length, slice_get, Bool, true, false, true≢false, ◌&&◌, nat_le, nat_lt, Option, Some, None, IsSome, option_map, is_some, if◌then◌else◌, subst, refl, sym, ap, ◌∙◌, arith, Result, Ok, Err, IfOk}
 use Rattle.std.proofs.lemmas.Bool.Decides.{nat_tests}
 use Rattle.std.proofs.lemmas.Option.{none-some, same_Some}
 use Rattle.std.specs.Option.{option_and_then, option_to_list}
@@ -18,6 +18,7 @@ use Rattle.host_table.specs.Hosts.{Hosts, hosts_of}
 use Rattle.host_table.specs.Whole.{HasHosts, FitsOn}
 use Rattle.host_table.specs.declared.entry.Entry.{Entry}
 use Rattle.host_table.specs.declared.entry.Entry.TheVariants as entry
+use Rattle.host_table.specs.declared.fault.HostError.{HostError}
 use Rattle.host_table.specs.declared.fault.HostFault.{HostFault}
 use Rattle.host_table.specs.declared.fault.HostFault.TheVariants.{Shape, Missing, WrongParams, Range, TwoInputs, TooLong}
 use Rattle.host_table.specs.declared.host.Host.{Host}
@@ -150,5 +151,9 @@ by_length true faults none = absurd (filled TooLong [] none)
 by_length false faults none = none
 
 -- a reading has a model for each host, and it fits
-pub reading_has : (text : List ℕ) (fns : List Signature) (host : Host) → IsReading text fns (Ok host) → HasHosts (hosts_of host) fns
+reading_has : (text : List ℕ) (fns : List Signature) (host : Host) → IsReading text fns (Ok host) → HasHosts (hosts_of host) fns
 reading_has text fns host answer = by_reading (reading_of text) fns (hosts_of host) (by_length (nat_lt 1048576 (length text)) (faults_by (reading_of text) fns) answer.0) answer.1
+
+pub readings_have : (text : List ℕ) (fns : List Signature) (r : Result Host HostError) → IsReading text fns r → IfOk r (λ host. HasHosts (hosts_of host) fns)
+readings_have text fns (Ok host) answer = reading_has text fns host answer
+readings_have text fns (Err e) answer = tt

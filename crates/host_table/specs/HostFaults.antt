@@ -1,5 +1,5 @@
 -- The faults of a host table, and the hosts that a table without faults gives.
-use Rattle.std.specs.Prelude.{◌≡◌, ◌≢◌, ℕ, Bool, true, false, ◌&&◌, nat_lt, List, [], ◌∷◌, ◌++◌, length, Option, Some, None, is_some, option_map, option_and_then, option_to_list, slice_get, if◌then◌else◌, Result, Ok, Err, codes}
+use Rattle.std.specs.Prelude.{◌≡◌, ◌≢◌, ℕ, Bool, true, false, ◌&&◌, nat_lt, List, [], ◌∷◌, ◌++◌, length, Option, Some, None, is_some, map, option_map, option_and_then, option_to_list, slice_get, if◌then◌else◌, Result, Ok, Err, codes}
 use Rattle.std.specs.List.{list_any}
 use Rattle.std.specs.Str.{is_utf8}
 use Rattle.pt_base.specs.declared.ids.FnId.{FnId}
@@ -9,6 +9,7 @@ use Rattle.pt_tree.specs.declared.signature.Signature.{Signature}
 use Rattle.serde_json.specs.Data.{Data}
 use Rattle.serde_json.specs.Find.{as_object}
 use Rattle.serde_json.specs.Read.{read}
+use Rattle.typed_tree.specs.TypedTree.{TypedTree}
 use Rattle.host_table.specs.Entries.{entry_of}
 use Rattle.host_table.specs.Fits.{has_right_params, has_numbers_in_range}
 use Rattle.host_table.specs.Hosts.{Hosts, hosts_of}
@@ -19,6 +20,10 @@ use Rattle.host_table.specs.declared.fault.HostFault.TheVariants.{NotJson, Shape
 use Rattle.host_table.specs.declared.fault.HostError.{HostError}
 use Rattle.host_table.specs.declared.fault.HostError.TheVariants.{Faults, Memory}
 use Rattle.host_table.specs.declared.host.Host.{Host}
+
+-- the signatures of a program's functions, by number
+abbrev pub signatures_of : TypedTree → List Signature
+signatures_of t = map (λ f. f.signature) t.functions
 
 -- the value of a text: JSON is in UTF-8
 abbrev pub reading_of : List ℕ → Option Data

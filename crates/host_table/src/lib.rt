@@ -12,12 +12,15 @@ mod kind;
 mod laws;
 mod part;
 mod reading;
+#[cfg(test)]
+mod tests;
 mod writing;
 
 pub use checks::fits;
 pub use fault::{HostError, HostFault};
 pub use host::Host;
 pub use laws::fits_on;
+pub use reading::read_host;
 
 /// A host table may have this many bytes.
 pub const TABLE_LIMIT: usize = 1_048_576;

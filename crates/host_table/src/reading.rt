@@ -2,8 +2,11 @@
 ghost use Rattle.std.specs.Prelude.{◌≡◌, ◌≤◌, ◌^◌, ◌||◌, ◌++◌, [], length, IfOk, OnOk, Some, option_to_list};
 ghost use Rattle.serde_json.specs.View.{view};
 ghost use Rattle.host_table.specs.Entries.{entry_of};
-ghost use Rattle.host_table.specs.Found.{numbered, models_from};
-ghost use Rattle.host_table.specs.HostFaults.{is_input, reads_input, entry_fault, faults_after, faults_by, table_hosts, IsAnswer, IsReading, IsOneFault};
+ghost use Rattle.host_table.specs.Found.{numbered, models_from, signatures_in};
+ghost use Rattle.typed_tree.specs.TypedView.{view_typed};
+ghost use Rattle.host_table.specs.Hosts.{hosts_of};
+ghost use Rattle.host_table.specs.Whole.{HasHosts};
+ghost use Rattle.host_table.specs.HostFaults.{is_input, reads_input, entry_fault, faults_after, faults_by, table_hosts, IsAnswer, IsReading, IsOneFault, signatures_of};
 
 use crate::TABLE_LIMIT;
 use crate::checks::{has_numbers_in_range, has_right_params};
@@ -14,6 +17,7 @@ use pt_base::{FnId, Listed};
 use pt_tree::{HostModel, Signature};
 use serde_json::Value;
 use std::alloc::{AllocError, Global};
+use typed_tree::{Typed, TypedFn};
 
 /// What was found of the hosts so far.
 #[derive(Drop)]
@@ -96,19 +100,19 @@ fn entry_fault(taken: bool, f: FnId, s: &Signature, entry: &Entry) -> Option<Hos
 }
 
 // What the table has for the hosts among the functions.
-fn found_of(alloc: Global, table: &Value, fns: &[Signature]) -> Result<Found, AllocError>
+fn found_of(alloc: Global, table: &Value, fns: &[TypedFn]) -> Result<Found, AllocError>
     requires { length fns.now ≤ 2 ^ 32 }
-    ensures faults { IfOk result (λ found. found.faults.items ≡ faults_after (view table.now) [] fns.now) }
-    ensures models { IfOk result (λ found. found.models.items ≡ models_from (view table.now) 0 fns.now) }
+    ensures faults { IfOk result (λ found. found.faults.items ≡ faults_after (view table.now) [] (signatures_in fns.now)) }
+    ensures models { IfOk result (λ found. found.models.items ≡ models_from (view table.now) 0 (signatures_in fns.now)) }
 {
     let mut found = Found {
         faults: Vec::new(alloc),
         models: Vec::new(alloc),
         has_input: false,
     };
-    for (number, s) in fns.iter().enumerate() {
-        if s.host {
-            found.add(alloc, table, FnId(number as u32), s)?;
+    for (number, f) in fns.iter().enumerate() {
+        if f.signature.host {
+            found.add(alloc, table, FnId(number as u32), &f.signature)?;
         }
     }
     Ok(found)
@@ -125,10 +129,24 @@ fn alone(alloc: Global, fault: HostFault) -> HostError
     }
 }
 
-/// The hosts of a table for these functions.
-pub(crate) fn host_of(alloc: Global, text: &[u8], fns: &[Signature]) -> Result<Host, HostError>
+/// The hosts of a table for a program: for each host that the program declares, called or not, the
+/// model that the member of its name says, and no input. Members for other names are passed over,
+/// and of two with one name the last counts.
+///
+/// Where there are faults, they are answered in place of hosts: TooLong, NotJson and a Shape of the
+/// whole stand alone; else each declared host gives its first fault, in the order of their
+/// numbers. Memory is answered only where memory was wanting.
+pub fn read_host(alloc: Global, text: &[u8], t: &Typed) -> Result<Host, HostError>
+    ensures reading { IsReading text.now (signatures_of (view_typed t.now)) result }
+    ensures hosts { IfOk result (λ h. HasHosts (hosts_of h) (signatures_of (view_typed t.now))) }
+{
+    host_of(alloc, text, t.functions.as_slice())
+}
+
+// The hosts of a table for these functions.
+pub(crate) fn host_of(alloc: Global, text: &[u8], fns: &[TypedFn]) -> Result<Host, HostError>
     requires { length fns.now ≤ 2 ^ 32 }
-    ensures { IsReading text.now fns.now result }
+    ensures { IsReading text.now (signatures_in fns.now) result }
 {
     if text.len() > TABLE_LIMIT {
         return Err(alone(alloc, HostFault::TooLong));
@@ -141,9 +159,9 @@ pub(crate) fn host_of(alloc: Global, text: &[u8], fns: &[Signature]) -> Result<H
 }
 
 // The hosts of a table that was read.
-fn host_by(alloc: Global, table: &Value, fns: &[Signature]) -> Result<Host, HostError>
+fn host_by(alloc: Global, table: &Value, fns: &[TypedFn]) -> Result<Host, HostError>
     requires { length fns.now ≤ 2 ^ 32 }
-    ensures { IsAnswer (faults_by (Some (view table.now)) fns.now) (Some (table_hosts (view table.now) fns.now)) result }
+    ensures { IsAnswer (faults_by (Some (view table.now)) (signatures_in fns.now)) (Some (table_hosts (view table.now) (signatures_in fns.now))) result }
 {
     if !table.is_object() {
         return Err(alone(alloc, HostFault::Shape(None)));

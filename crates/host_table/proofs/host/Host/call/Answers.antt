@@ -37,7 +37,7 @@ unfolding hosts_of
 returns-clause-hosts c =
     call_hosts _ _ (stepped c) _ c.answer.new.model _ _ _ (is_call c) (is_step c)
     (same_hosts _ _ (λ g. ap (λ (m : ℕ × HostModel). models_by (slice_set c.args.self.now.models.items c.place_in-place.result (m.0, c.answer.new.model)) g)
-            (place_read _ _ _ c.place_in-place.ensures c.index_mut-entry.result.now c.index_mut-entry.ensures.value)
-        ∙ models_by-set _ _ _ c.place_in-place.ensures.model c.answer.new.model g (distinct_from_sorted _ c.args.self.now.ordered) c.place_in-place.ensures.stands)
+    (place_read _ _ _ c.place_in-place.ensures c.index_mut-entry.result.now c.index_mut-entry.ensures.value)
+    ∙ models_by-set _ _ _ c.place_in-place.ensures.model c.answer.new.model g (distinct_from_sorted _ c.args.self.now.ordered) c.place_in-place.ensures.stands)
     refl)
     c.answer.ensures.next
