@@ -9,10 +9,13 @@ use std::test::Fail;
 use typed_tree::TypedFn;
 
 const LOAD: FnId = FnId(0);
+
 const SIGN: FnId = FnId(1);
+
 const PUT: FnId = FnId(2);
 
-const TABLE: &[u8] = b"{\"load\":{\"kind\":\"table\",\"rows\":[[[7],1234],[[8],5],[[7],1]],\"else\":0},\"sign\":{\"kind\":\"table\",\"rows\":[[[1234,5],99]],\"else\":-1},\"put\":{\"kind\":\"line\"}}";
+const TABLE: &[u8] =
+    b"{\"load\":{\"kind\":\"table\",\"rows\":[[[7],1234],[[8],5]],\"else\":0},\"sign\":{\"kind\":\"table\",\"rows\":[[[1234,5],99]],\"else\":-1},\"put\":{\"kind\":\"line\"}}";
 
 // A parameter of type int.
 fn int(marked: bool) -> Param {
@@ -27,14 +30,14 @@ fn int(marked: bool) -> Param {
 fn host(
     alloc: Global,
     name: &[u8],
-    result: Option<IntType>,
+    gives: Option<IntType>,
     params: &[Param],
     privileged: bool,
 ) -> Result<TypedFn, AllocError> {
     Ok(TypedFn {
         signature: Signature {
             name: Bytes::new(Vec::from_slice(alloc, name)?),
-            result,
+            result: gives,
             params: Listed::new(Vec::from_slice(alloc, params)?),
             host: true,
             privileged,
@@ -88,6 +91,138 @@ fn the_signers_table_is_read(rt: HostRuntime) -> Result<(), Fail> {
     answers(&rt, alloc, &mut hosts, (LOAD, &[7]), (Some(1234), b""))?;
     answers(&rt, alloc, &mut hosts, (LOAD, &[9]), (Some(0), b""))?;
     answers(&rt, alloc, &mut hosts, (SIGN, &[1234, 5]), (Some(99), b""))?;
-    answers(&rt, alloc, &mut hosts, (PUT, &[-99]), (None, b"put -99\n"))
-        .map_err(Fail::from)
+    answers(&rt, alloc, &mut hosts, (PUT, &[-99]), (None, b"put -99\n"))?;
+    Ok(())
+}
+
+#[test]
+fn copies_answer_alike(rt: HostRuntime) -> Result<(), Fail> {
+    let alloc = rt.alloc();
+    let fns = signer(alloc)?;
+    let hosts = host_of(alloc, TABLE, fns.as_slice())?;
+    let load = hosts.model(LOAD).ok_or("load has a model")?;
+    assert!(rt; fits(load, &fns.get(0).ok_or("load is declared")?.signature));
+    let models = vec![in alloc; (LOAD.0, load.copy(alloc)?)]?;
+    let mut copies = Host::from_models(alloc, models);
+    answers(&rt, alloc, &mut copies, (LOAD, &[7]), (Some(1234), b""))?;
+    Ok(())
+}
+
+#[test]
+fn each_kind_answers(rt: HostRuntime) -> Result<(), Fail> {
+    let alloc = rt.alloc();
+    let text =
+        b"{\"next\":{\"kind\":\"input\"},\"raw\":{\"kind\":\"bytes\"},\"roll\":{\"kind\":\"feed\",\"values\":[4,5],\"else\":6},\"twice\":{\"kind\":\"table\",\"rows\":[[[],1],[[],2]],\"else\":3}}";
+    let (next, raw, roll, twice) = (FnId(0), FnId(1), FnId(2), FnId(3));
+    let int_result = Some(IntType::Int);
+    let mut fns = Vec::new(alloc);
+    fns.push(host(alloc, b"next", int_result, &[], false)?)?;
+    fns.push(host(alloc, b"raw", None, &[int(false), int(false)], false)?)?;
+    fns.push(host(alloc, b"roll", int_result, &[int(false)], false)?)?;
+    fns.push(host(alloc, b"twice", int_result, &[], false)?)?;
+    let whole = host_of(alloc, text.as_slice(), fns.as_slice())?;
+    let mut hosts = whole.part(alloc, &[next, raw, roll, twice, FnId(9)])?;
+    hosts.give(alloc, &[200])?;
+    for wanted in [200, -1, -1] {
+        answers(&rt, alloc, &mut hosts, (next, &[]), (Some(wanted), b""))?;
+    }
+    for wanted in [4, 5, 6, 6] {
+        answers(&rt, alloc, &mut hosts, (roll, &[1]), (Some(wanted), b""))?;
+    }
+    answers(&rt, alloc, &mut hosts, (raw, &[-1, 256]), (None, &[255, 0]))?;
+    answers(&rt, alloc, &mut hosts, (twice, &[]), (Some(1), b""))?;
+    let part = hosts.part(alloc, &[raw])?;
+    assert!(rt; part.model(raw).is_some());
+    assert!(rt; part.model(roll).is_none());
+    Ok(())
+}
+
+#[test]
+fn faults_of_the_signers_tables(rt: HostRuntime) -> Result<(), Fail> {
+    let alloc = rt.alloc();
+    let fns = signer(alloc)?;
+    let cases: [(&[u8], &[HostFault]); 6] = [
+        (b"[", &[HostFault::NotJson]),
+        (b"[]", &[HostFault::Shape(None)]),
+        (
+            b"{}",
+            &[
+                HostFault::Missing(LOAD),
+                HostFault::Missing(SIGN),
+                HostFault::Missing(PUT),
+            ],
+        ),
+        (
+            b"{\"load\":{\"kind\":\"tables\"},\"sign\":{\"kind\":\"table\",\"rows\":[],\"else\":1.0},\"put\":1}",
+            &[
+                HostFault::Shape(Some(LOAD)),
+                HostFault::Shape(Some(SIGN)),
+                HostFault::Shape(Some(PUT)),
+            ],
+        ),
+        (
+            b"{\"load\":{\"kind\":\"table\",\"rows\":[[[7,7],2147483648]],\"else\":0},\"sign\":{\"kind\":\"line\"},\"put\":{\"kind\":\"feed\",\"values\":[],\"else\":0}}",
+            &[
+                HostFault::WrongParams(LOAD),
+                HostFault::WrongParams(SIGN),
+                HostFault::WrongParams(PUT),
+            ],
+        ),
+        (
+            b"{\"load\":{\"kind\":\"table\",\"rows\":[[[7],2147483648]],\"else\":0},\"sign\":{\"kind\":\"feed\",\"values\":[1],\"else\":-2147483649},\"put\":{\"kind\":\"bytes\"}}",
+            &[HostFault::Range(LOAD), HostFault::Range(SIGN)],
+        ),
+    ];
+    for (text, wanted) in cases {
+        has_faults(&rt, alloc, text, fns.as_slice(), wanted);
+    }
+    let long = vec![in alloc; b' '; TABLE_LIMIT + 1]?;
+    has_faults(
+        &rt,
+        alloc,
+        long.as_slice(),
+        fns.as_slice(),
+        &[HostFault::TooLong],
+    );
+    Ok(())
+}
+
+#[test]
+fn one_host_reads_the_input_and_a_mixed_one_is_a_table(rt: HostRuntime) -> Result<(), Fail> {
+    let alloc = rt.alloc();
+    let int_result = Some(IntType::Int);
+    let mut fns = Vec::new(alloc);
+    fns.push(host(alloc, b"a", int_result, &[], false)?)?;
+    fns.push(host(alloc, b"b", int_result, &[], false)?)?;
+    fns.push(host(alloc, b"c", int_result, &[int(true)], false)?)?;
+    let text =
+        b"{\"a\":{\"kind\":\"input\"},\"b\":{\"kind\":\"input\"},\"c\":{\"kind\":\"feed\",\"values\":[],\"else\":0}}";
+    let wanted = [
+        HostFault::TwoInputs(FnId(1)),
+        HostFault::WrongParams(FnId(2)),
+    ];
+    has_faults(
+        &rt,
+        alloc,
+        text.as_slice(),
+        fns.as_slice(),
+        wanted.as_slice(),
+    );
+    Ok(())
+}
+
+#[test]
+fn faults_have_numbers_and_names(rt: HostRuntime) {
+    for (fault, number, name) in [
+        (HostFault::NotJson, 1, "NotJson"),
+        (HostFault::Shape(None), 2, "Shape"),
+        (HostFault::Missing(LOAD), 3, "Missing"),
+        (HostFault::Range(LOAD), 4, "Range"),
+        (HostFault::WrongParams(LOAD), 5, "WrongParams"),
+        (HostFault::TwoInputs(LOAD), 6, "TwoInputs"),
+        (HostFault::TooLong, 7, "TooLong"),
+    ] {
+        assert_eq!(rt; fault.number(), number);
+        assert_eq!(rt; fault.name(), name);
+    }
 }
