@@ -59,9 +59,22 @@ fn signer(alloc: Global) -> Result<Vec<TypedFn>, AllocError> {
     Ok(fns)
 }
 
+// What the table is read as for the functions.
+fn read(rt: &impl Abort, alloc: Global, text: &[u8], fns: &[TypedFn]) -> Result<Host, HostError> {
+    assert!(rt; fns.len() < 10);
+    host_of(alloc, text, fns)
+}
+
+// A host that this model stands for.
+fn host_by(alloc: Global, f: FnId, model: HostModel) -> Result<Host, AllocError> {
+    let mut models = Vec::new(alloc);
+    models.push((f.0, model))?;
+    Ok(Host::from_models(alloc, models))
+}
+
 // That the table has exactly these faults for the functions.
 fn has_faults(rt: &impl Abort, alloc: Global, text: &[u8], fns: &[TypedFn], wanted: &[HostFault]) {
-    match host_of(alloc, text, fns) {
+    match read(rt, alloc, text, fns) {
         Err(HostError::Faults(faults)) => assert_eq!(rt; faults.as_slice(), wanted),
         Err(HostError::Memory) => assert!(rt; false),
         Ok(_) => assert!(rt; false),
@@ -87,7 +100,7 @@ fn answers(
 fn the_signers_table_is_read(rt: HostRuntime) -> Result<(), Fail> {
     let alloc = rt.alloc();
     let fns = signer(alloc)?;
-    let mut hosts = host_of(alloc, TABLE, fns.as_slice())?;
+    let mut hosts = read(&rt, alloc, TABLE, fns.as_slice())?;
     answers(&rt, alloc, &mut hosts, (LOAD, &[7]), (Some(1234), b""))?;
     answers(&rt, alloc, &mut hosts, (LOAD, &[9]), (Some(0), b""))?;
     answers(&rt, alloc, &mut hosts, (SIGN, &[1234, 5]), (Some(99), b""))?;
@@ -99,11 +112,10 @@ fn the_signers_table_is_read(rt: HostRuntime) -> Result<(), Fail> {
 fn copies_answer_alike(rt: HostRuntime) -> Result<(), Fail> {
     let alloc = rt.alloc();
     let fns = signer(alloc)?;
-    let hosts = host_of(alloc, TABLE, fns.as_slice())?;
+    let hosts = read(&rt, alloc, TABLE, fns.as_slice())?;
     let load = hosts.model(LOAD).ok_or("load has a model")?;
     assert!(rt; fits(load, &fns.get(0).ok_or("load is declared")?.signature));
-    let models = vec![in alloc; (LOAD.0, load.copy(alloc)?)]?;
-    let mut copies = Host::from_models(alloc, models);
+    let mut copies = host_by(alloc, LOAD, load.copy(alloc)?)?;
     answers(&rt, alloc, &mut copies, (LOAD, &[7]), (Some(1234), b""))?;
     Ok(())
 }
@@ -120,7 +132,7 @@ fn each_kind_answers(rt: HostRuntime) -> Result<(), Fail> {
     fns.push(host(alloc, b"raw", None, &[int(false), int(false)], false)?)?;
     fns.push(host(alloc, b"roll", int_result, &[int(false)], false)?)?;
     fns.push(host(alloc, b"twice", int_result, &[], false)?)?;
-    let whole = host_of(alloc, text.as_slice(), fns.as_slice())?;
+    let whole = read(&rt, alloc, text.as_slice(), fns.as_slice())?;
     let mut hosts = whole.part(alloc, &[next, raw, roll, twice, FnId(9)])?;
     hosts.give(alloc, &[200])?;
     for wanted in [200, -1, -1] {
