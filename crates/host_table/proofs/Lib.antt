@@ -1,0 +1,7 @@
+pub mod CallLemmas
+pub mod FoundLemmas
+pub mod ModelLemmas
+pub mod ProgramLemmas
+pub mod SpacedLemmas
+pub mod TextLemmas
+pub mod WholeLemmas

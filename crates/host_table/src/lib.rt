@@ -1,0 +1,26 @@
+//! Host tables: what stands for the hosts of a program, and how they answer calls.
+#![tactic(auto)]
+
+mod answer;
+mod call;
+mod checks;
+mod entry;
+mod fault;
+mod host;
+mod items;
+mod kind;
+mod laws;
+mod part;
+mod reading;
+#[cfg(test)]
+mod tests;
+mod writing;
+
+pub use checks::fits;
+pub use fault::{HostError, HostFault};
+pub use host::Host;
+pub use laws::fits_on;
+pub use reading::read_host;
+
+/// A host table may have this many bytes.
+pub const TABLE_LIMIT: usize = 1_048_576;
