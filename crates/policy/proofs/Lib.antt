@@ -1,2 +1,4 @@
 pub mod LineLemmas
 pub mod NumberLemmas
+pub mod BoundLemmas
+pub mod RangesLemmas

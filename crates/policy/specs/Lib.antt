@@ -1,6 +1,12 @@
 pub mod Faults
+pub mod Functions
+pub mod LineReading
 pub mod Lines
+pub mod Named
 pub mod Numbers
+pub mod Plain
+pub mod PolicyFault
+pub mod ProgramRules
 pub mod Reading
 pub mod Rules
 pub mod Spelled

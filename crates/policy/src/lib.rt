@@ -4,7 +4,10 @@
 mod argument;
 mod decimal;
 mod error;
+mod functions;
 mod line;
+mod numbers;
+mod rule;
 mod spelling;
 
 pub use error::{PolicyError, PolicyFault, PolicyFaultKind};

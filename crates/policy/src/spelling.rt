@@ -36,7 +36,7 @@ struct Beginning<'a> {
 pub(crate) fn spelled_rule(alloc: Global, line: &[u8]) -> Result<Option<SpelledRule<'_>>, AllocError>
     ensures { IfOk result (λ o. option_map view_spelled o ≡ rule_of (words_of line.now)) }
 {
-    let Some(start) = beginning(line) else {
+    let Some(start) = rule_beginning(line) else {
         return Ok(None);
     };
     let (ranges, rest) = leading_ranges(alloc, start.rest)?;
@@ -53,7 +53,7 @@ pub(crate) fn spelled_rule(alloc: Global, line: &[u8]) -> Result<Option<SpelledR
 }
 
 // `from STATE allow FUNCTION`
-fn beginning(line: &[u8]) -> Option<Beginning<'_>>
+fn rule_beginning(line: &[u8]) -> Option<Beginning<'_>>
     ensures { option_map view_beginning result ≡ beginning_of (words_of line.now) }
 {
     let (from, rest) = first_state(after_word(line, b"from")?)?;
@@ -92,7 +92,7 @@ fn first_range(line: &[u8]) -> Option<(ArgRange, &[u8])>
 fn range(first: &[u8], second: &[u8], third: &[u8]) -> Option<ArgRange>
     ensures { result ≡ range_of first.now second.now third.now }
 {
-    if second != b"in" {
+    if second != b"in".as_slice() {
         return None;
     }
     let parameter = parameter(first)?;
