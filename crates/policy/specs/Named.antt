@@ -1,5 +1,6 @@
 -- Functions by name.
-use Rattle.std.specs.Prelude.{◌≡◌, ℕ, List, map, Option, Bor}
+use Rattle.std.specs.Prelude.{◌≡◌, ℕ, List, map, Option}
+use Rattle.std.specs.Borrow.{Bor}
 use Rattle.std.specs.List.{position_from}
 use Rattle.std.specs.Map.{lookup}
 use Rattle.std.specs.Str.{bytes_eq}
