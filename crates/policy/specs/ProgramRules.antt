@@ -35,12 +35,12 @@ are_seen params ranges = list_all (λ r. is_seen params r.parameter) ranges
 abbrev pub plain_range : List Param → ArgRange → PlainRange
 plain_range params r = record { place = plain_place params r.parameter; low = r.low; high = r.high }
 
--- the spelled rule, over the function of this number
-abbrev pub rule_over : List Signature → SpelledRule → ℕ → Rule
-rule_over signatures s f = record {
+-- the spelled rule, over the function of this number with these parameters
+abbrev pub rule_over : List Param → SpelledRule → ℕ → Rule
+rule_over params s f = record {
   from = s.from;
   function = record { 0 = f };
-  ranges = map (plain_range (params_of signatures f)) s.ranges;
+  ranges = map (plain_range params) s.ranges;
   most = s.most;
   to = s.to;
 }
@@ -51,4 +51,4 @@ pub record IsRuleOf (signatures : List Signature) (words : List (List ℕ)) (rul
   pub spells : IsRule words spelled
   pub guarded : guarded_function signatures spelled.function ≡ Some rule.function.0
   pub seen : IsTrue (are_seen (params_of signatures rule.function.0) spelled.ranges)
-  pub is : rule ≡ rule_over signatures spelled rule.function.0
+  pub is : rule ≡ rule_over (params_of signatures rule.function.0) spelled rule.function.0

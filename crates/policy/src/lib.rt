@@ -7,6 +7,8 @@ mod error;
 mod functions;
 mod line;
 mod numbers;
+mod plain;
+mod reading;
 mod rule;
 mod spelling;
 
