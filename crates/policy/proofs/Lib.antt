@@ -3,3 +3,7 @@ pub mod NumberLemmas
 pub mod BoundLemmas
 pub mod RangesLemmas
 pub mod NamedLemmas
+pub mod OptionLemmas
+pub mod DecimalLaws
+pub mod BoundLaws
+pub mod RuleLaws
