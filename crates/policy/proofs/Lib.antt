@@ -7,3 +7,4 @@ pub mod OptionLemmas
 pub mod DecimalLaws
 pub mod BoundLaws
 pub mod RuleLaws
+pub mod TextLaws

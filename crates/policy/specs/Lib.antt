@@ -1,5 +1,6 @@
 pub mod Faults
 pub mod Functions
+pub mod Indexed
 pub mod LineReading
 pub mod Lines
 pub mod Named
@@ -9,5 +10,7 @@ pub mod PolicyFault
 pub mod ProgramRules
 pub mod Reading
 pub mod Rules
+pub mod Places
 pub mod Spelled
 pub mod SpelledView
+pub mod Verdicts

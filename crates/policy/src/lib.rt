@@ -5,14 +5,21 @@ mod argument;
 mod decimal;
 mod error;
 mod functions;
+mod homes;
+mod index;
+mod indexing;
 mod line;
 mod numbers;
 mod plain;
 mod reading;
 mod rule;
 mod spelling;
+mod step;
+mod verdict;
 
 pub use error::{PolicyError, PolicyFault, PolicyFaultKind};
+pub use rule::{PlainRange, Rule};
+pub use verdict::Verdict;
 
 /// A text may have this many bytes.
 pub const TEXT_LIMIT: usize = 1_048_576;
