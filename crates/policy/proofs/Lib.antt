@@ -8,3 +8,5 @@ pub mod DecimalLaws
 pub mod BoundLaws
 pub mod RuleLaws
 pub mod TextLaws
+pub mod PlaceLemmas
+pub mod FitLemmas

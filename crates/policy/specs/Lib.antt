@@ -7,6 +7,7 @@ pub mod Named
 pub mod Numbers
 pub mod Plain
 pub mod PolicyFault
+pub mod PolicyView
 pub mod ProgramRules
 pub mod Reading
 pub mod Rules

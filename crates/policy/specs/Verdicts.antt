@@ -46,14 +46,18 @@ first_fit s f plain = first_fit_from (fits s.state f plain) 0 s.rules s.uses
 abbrev pub verdict_on : Standing → FnId → List ℤ → Verdict
 verdict_on s f plain = option_map_or Allow (first_fit s f plain) Deny
 
--- one use more, where the rule has a limit
-abbrev pub counted : Option ℕ → List ℕ → ℕ → List ℕ
-counted None uses k = uses
-counted (Some most) uses k = slice_set uses k (slice_index uses k + 1)
+-- one use more is counted where the rule has a limit
+abbrev pub one_more : Option ℕ → ℕ → ℕ
+one_more None uses = uses
+one_more (Some most) uses = uses + 1
 
 abbrev pub used : Standing → ℕ → Option Rule → Standing
 used s k None = s
-used s k (Some rule) = record { rules = s.rules; state = rule.to; uses = counted rule.most s.uses k }
+used s k (Some rule) = record {
+  rules = s.rules;
+  state = rule.to;
+  uses = slice_set s.uses k (one_more rule.most (slice_index s.uses k));
+}
 
 -- the standing after a verdict: the rule that allowed the call is used, and its `to` is the state
 abbrev pub after : Standing → Verdict → Standing

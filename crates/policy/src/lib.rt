@@ -3,6 +3,7 @@
 
 mod argument;
 mod decimal;
+mod deciding;
 mod error;
 mod functions;
 mod homes;
@@ -11,13 +12,16 @@ mod indexing;
 mod line;
 mod numbers;
 mod plain;
+mod policy;
 mod reading;
 mod rule;
 mod spelling;
+mod starting;
 mod step;
 mod verdict;
 
 pub use error::{PolicyError, PolicyFault, PolicyFaultKind};
+pub use policy::Policy;
 pub use rule::{PlainRange, Rule};
 pub use verdict::Verdict;
 
