@@ -10,3 +10,4 @@ pub mod RuleLaws
 pub mod TextLaws
 pub mod PlaceLemmas
 pub mod FitLemmas
+pub mod StandingLemmas
