@@ -6,18 +6,18 @@ use Rattle.std.proofs.lemmas.Bool.{eqb-true, ltb-true, lt-ltb}
 use Rattle.std.proofs.lemmas.Bool.Decides.{nat_tests}
 use Rattle.pt_tree.specs.declared.signature.Param.{Param}
 use Rattle.pt_tree.specs.declared.signature.Signature.{Signature}
-use Rattle.policy.specs.Lines.{words_of, is_passed_over, is_blank, is_word}
+use Rattle.policy.specs.Lines.{lines_of, words_of, is_passed_over, is_blank, is_word}
 use Rattle.policy.specs.Spelled.{SpelledRule}
 use Rattle.policy.specs.Rules.{IsRule}
 use Rattle.policy.specs.Reading.{rule_of}
 use Rattle.policy.specs.ProgramRules.{guarded_function, is_privileged, params_of, are_seen, rule_over, IsRuleOf}
-use Rattle.policy.specs.PolicyFault.{HaveRules, none, passed, rule, HasFault, syntax, too_long, unknown_function, unseen_arg}
+use Rattle.policy.specs.PolicyFault.{HaveRules, none, passed, rule, HasFault, syntax, too_long, unknown_function, unseen_arg, IsPolicy, IsFirstFault}
 use Rattle.policy.specs.LineReading.{checked_rule, resolved, line_rule, with_rule, line_read, then_read, read_from}
 use Rattle.policy.specs.declared.rule.Rule.{Rule}
 use Rattle.policy.specs.declared.error.PolicyFaultKind.{PolicyFaultKind}
 use Rattle.policy.specs.declared.error.PolicyFaultKind.TheVariants.{Syntax, UnknownFunction, UnseenArg, TooLong}
 use Rattle.policy.specs.declared.error.PolicyFault.{PolicyFault}
-use Rattle.policy.specs.declared.TheConstants.{RULE_LIMIT}
+use Rattle.policy.specs.declared.TheConstants.{RULE_LIMIT, TEXT_LIMIT}
 use Rattle.policy.proofs.OptionLemmas.{if_true, if_false}
 use Rattle.policy.proofs.RuleLaws.{rule_is, rule_gives}
 
@@ -272,3 +272,43 @@ pub reads : (signatures : List Signature) (so_far : List Rule) (n : ℕ) (lines 
 unfolding IsRead ReadsOn
 reads signatures so_far n [] few = record { rules = []; whole = sym (append-nil so_far); have = none; few = omega arith }
 reads signatures so_far n (line ∷ lines) few = read_line signatures so_far n line lines few (λ rs small. reads signatures rs (n + 1) lines small)
+
+-- whole texts
+
+pub policy_reads : (signatures : List Signature) (text : List ℕ) (rules : List Rule) → IsPolicy signatures text rules → read_from signatures [] 0 (lines_of text) ≡ Ok rules
+policy_reads signatures text rules is =
+    ap (read_from signatures [] 0) (sym (append-nil (lines_of text)))
+    ∙ reads_on signatures (lines_of text) [] rules [] 0 is.lines (let few : length rules ≤ RULE_LIMIT = is.few in omega arith)
+
+pub fault_reads : (signatures : List Signature) (text : List ℕ) (fault : PolicyFault) → IsFirstFault signatures text fault → read_from signatures [] 0 (lines_of text) ≡ Err fault
+fault_reads signatures text fault is =
+    ap (read_from signatures [] 0) is.lines
+    ∙ reads_on signatures is.before (is.line ∷ is.after) is.rules [] 0 is.faultless (let few : length is.rules ≤ RULE_LIMIT = is.few in omega arith)
+    ∙ reads_fault signatures is.rules (0 + length is.before) is.line is.after fault.kind is.faulty
+    ∙ ap (λ n. Err record { kind = fault.kind; line = n }) (let number : fault.line ≡ length is.before + 1 = is.number in omega arith)
+
+pub reads_policy : (signatures : List Signature) (text : List ℕ) (rules : List Rule) → length text ≤ TEXT_LIMIT → read_from signatures [] 0 (lines_of text) ≡ Ok rules → IsPolicy signatures text rules
+unfolding IsRead
+reads_policy signatures text rules short e =
+    let all : AllRead signatures [] (lines_of text) rules = subst (IsRead signatures [] 0 (lines_of text)) e (reads signatures [] 0 (lines_of text) (omega arith)) in
+    let few : 0 + length all.rules ≤ RULE_LIMIT = all.few in
+    subst (IsPolicy signatures text) (sym all.whole) record { short = short; lines = all.have; few = omega arith }
+
+pub reads_first_fault : (signatures : List Signature) (text : List ℕ) (fault : PolicyFault) → read_from signatures [] 0 (lines_of text) ≡ Err fault → IsFirstFault signatures text fault
+unfolding IsRead
+reads_first_fault signatures text fault e =
+    let stopped : Stopped signatures [] 0 (lines_of text) fault = subst (IsRead signatures [] 0 (lines_of text)) e (reads signatures [] 0 (lines_of text) (omega arith)) in
+    let few : 0 + length stopped.rules ≤ RULE_LIMIT = stopped.few in
+    let number : fault.line ≡ 0 + length stopped.before + 1 = stopped.number in
+    let none' : 0 + length stopped.rules ≡ length stopped.rules = omega arith in
+    record {
+      before = stopped.before;
+      line = stopped.line;
+      after = stopped.after;
+      rules = stopped.rules;
+      lines = stopped.cut;
+      number = omega arith;
+      faultless = stopped.have;
+      few = omega arith;
+      faulty = subst (λ k. HasFault signatures k stopped.line fault.kind) none' stopped.faulty;
+    }

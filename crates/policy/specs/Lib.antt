@@ -1,6 +1,7 @@
 pub mod Faults
 pub mod Functions
 pub mod Indexed
+pub mod Laws
 pub mod LineReading
 pub mod Lines
 pub mod Named

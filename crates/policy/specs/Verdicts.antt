@@ -1,5 +1,5 @@
 -- Verdicts on guarded calls, by the rules of a policy.
-use Rattle.std.specs.Prelude.{ℕ, ◌+◌, ℤ, int_le, Bool, true, false, ◌&&◌, nat_eq, nat_lt, if◌then◌else◌, List, [], ◌∷◌, map, Option, Some, None, slice_get, slice_index, slice_set, codes}
+use Rattle.std.specs.Prelude.{ℕ, ◌+◌, ℤ, int_le, Bool, true, false, ◌&&◌, nat_eq, nat_lt, if◌then◌else◌, List, [], ◌∷◌, length, replicate, Option, Some, None, slice_get, slice_index, slice_set, codes}
 use Rattle.std.specs.Option.{option_map_or}
 use Rattle.std.specs.List.{list_all}
 use Rattle.std.specs.Str.{bytes_eq}
@@ -82,4 +82,4 @@ first_state (rule ∷ rules) = rule.from
 
 -- where a policy of these rules starts
 abbrev pub start : List Rule → Standing
-start rules = record { rules = rules; state = first_state rules; uses = map (λ rule. 0) rules }
+start rules = record { rules = rules; state = first_state rules; uses = replicate (length rules) 0 }

@@ -9,10 +9,12 @@ mod functions;
 mod homes;
 mod index;
 mod indexing;
+mod laws;
 mod line;
 mod numbers;
 mod plain;
 mod policy;
+mod reader;
 mod reading;
 mod rule;
 mod spelling;
@@ -21,6 +23,9 @@ mod step;
 mod verdict;
 
 pub use error::{PolicyError, PolicyFault, PolicyFaultKind};
+pub use laws::{
+    limits_hold, places_are_arguments, policy_or_fault, rules_are_one, verdicts_are_steps,
+};
 pub use policy::Policy;
 pub use rule::{PlainRange, Rule};
 pub use verdict::Verdict;

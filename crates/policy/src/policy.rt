@@ -1,10 +1,13 @@
 // Policies: what may be called, by what was called before.
+use crate::RULE_LIMIT;
 use crate::deciding::{first_fit, one_more};
 use crate::index::RuleIndex;
+use crate::indexing::rule_index;
 use crate::rule::Rule;
 use crate::starting::first_state;
 use crate::verdict::Verdict;
 use pt_base::FnId;
+use std::alloc::{AllocError, Global};
 use std::marker::Model;
 
 /// A policy where it stands. Contracts see its rules, the name of its state, and how often each
@@ -33,14 +36,32 @@ impl Model for Policy {
 }
 
 impl Policy {
-    ghost use Rattle.std.specs.Prelude.{◌≡◌, ◌∷◌, List};
-    ghost use Rattle.policy.specs.Verdicts.{verdict_on, after, verdicts, Call};
+    ghost use Rattle.std.specs.Prelude.{◌≡◌, ◌≤◌, ◌∷◌, List, IfOk, length};
+    ghost use Rattle.policy.specs.Verdicts.{verdict_on, after, verdicts, Call, start};
+
+    /// The policy of these rules at its start.
+    pub(crate) fn new(alloc: Global, rules: Vec<Rule>) -> Result<Policy, AllocError>
+        requires { length rules.items ≤ RULE_LIMIT }
+        ensures { IfOk result (λ p. p ≡ start rules.items) }
+    {
+        let index = rule_index(alloc, &rules)?;
+        let uses = vec![in alloc; 0; rules.len()]?;
+        Ok(Policy {
+            rules,
+            uses,
+            index,
+            home: 0,
+            last: None,
+        })
+    }
 
     /// The verdict on a call of a privileged function or host, by the plain numbers that it gives.
     /// The first rule that fits allows the call and is used; after `Deny` nothing is changed.
     pub fn decide(&mut self, f: FnId, plain: &[i128]) -> Verdict
         ensures verdict { result ≡ verdict_on self.old f plain.now }
         ensures after { self.new ≡ after self.old result }
+        ensures fold { (calls : List Call) →
+            verdicts self.old (record { function = f; plain = plain.now } ∷ calls) ≡ result ∷ verdicts self.new calls }
     {
         let Some(place) = first_fit(&self.rules, &self.uses, &self.index, self.home, f, plain) else {
             return Verdict::Deny;
