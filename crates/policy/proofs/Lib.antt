@@ -11,3 +11,6 @@ pub mod TextLaws
 pub mod PlaceLemmas
 pub mod FitLemmas
 pub mod StandingLemmas
+pub mod LawLemmas
+pub mod PlainLemmas
+pub mod VerdictLemmas

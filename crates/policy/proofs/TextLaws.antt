@@ -1,5 +1,5 @@
 -- The rules and the first fault of a text, as the reading finds them.
-use Rattle.std.proofs.Common.{◌≡◌, ◌∙◌, ◌+◌, ◌<◌, ◌≤◌, ℕ, suc, Bool, true, false, ◌&&◌, ◌==◌, nat_lt, if◌then◌else◌, List, [], ◌∷◌, ◌++◌, length, slice_index, Option, Some, None, Result, Ok, Err, refl, ap, ap₂, sym, subst, arith, codes, append_assoc, append-nil, length-append}
+use Rattle.std.proofs.Common.{◌≡◌, ◌∙◌, ◌+◌, ◌<◌, ◌≤◌, ℕ, suc, Bool, true, false, ◌&&◌, ◌==◌, nat_lt, if◌then◌else◌, List, [], ◌∷◌, ◌++◌, length, slice_index, Option, Some, None, Result, Ok, Err, MatchResult, Vec, Global, inr, refl, ap, ap₂, sym, subst, arith, codes, append_assoc, append-nil, length-append}
 use Rattle.std.specs.Option.{option_map_or, option_and_then}
 use Rattle.std.specs.List.{filter, slice_split, onto_first}
 use Rattle.std.proofs.lemmas.Bool.{eqb-true, ltb-true, lt-ltb}
@@ -11,12 +11,14 @@ use Rattle.policy.specs.Spelled.{SpelledRule}
 use Rattle.policy.specs.Rules.{IsRule}
 use Rattle.policy.specs.Reading.{rule_of}
 use Rattle.policy.specs.ProgramRules.{guarded_function, is_privileged, params_of, are_seen, rule_over, IsRuleOf}
-use Rattle.policy.specs.PolicyFault.{HaveRules, none, passed, rule, HasFault, syntax, too_long, unknown_function, unseen_arg, IsPolicy, IsFirstFault}
-use Rattle.policy.specs.LineReading.{checked_rule, resolved, line_rule, with_rule, line_read, then_read, read_from}
+use Rattle.policy.specs.PolicyFault.{HaveRules, none, passed, rule, HasFault, syntax, too_long, unknown_function, unseen_arg, IsPolicy, IsFirstFault, IsPolicyError}
+use Rattle.policy.specs.LineReading.{checked_rule, resolved, line_rule, with_rule, line_read, then_read, read_from, TextGives}
 use Rattle.policy.specs.declared.rule.Rule.{Rule}
 use Rattle.policy.specs.declared.error.PolicyFaultKind.{PolicyFaultKind}
 use Rattle.policy.specs.declared.error.PolicyFaultKind.TheVariants.{Syntax, UnknownFunction, UnseenArg, TooLong}
 use Rattle.policy.specs.declared.error.PolicyFault.{PolicyFault}
+use Rattle.policy.specs.declared.error.PolicyError.{PolicyError}
+use Rattle.policy.specs.declared.error.PolicyError.TheVariants.{Memory, Fault}
 use Rattle.policy.specs.declared.TheConstants.{RULE_LIMIT, TEXT_LIMIT}
 use Rattle.policy.proofs.OptionLemmas.{if_true, if_false}
 use Rattle.policy.proofs.RuleLaws.{rule_is, rule_gives}
@@ -312,3 +314,13 @@ reads_first_fault signatures text fault e =
       few = omega arith;
       faulty = subst (λ k. HasFault signatures k stopped.line fault.kind) none' stopped.faulty;
     }
+
+pub policy_few : (signatures : List Signature) (text : List ℕ) (rules : List Rule) → IsPolicy signatures text rules → length rules ≤ RULE_LIMIT
+policy_few signatures text rules is = is.few
+
+-- what a call answers is so
+pub text_is : (signatures : List Signature) (text : List ℕ) (r : Result (Vec Rule Global) PolicyError) → length text ≤ TEXT_LIMIT → TextGives r (read_from signatures [] 0 (lines_of text))
+    → MatchResult r (λ rules. IsPolicy signatures text rules.items) (IsPolicyError signatures text)
+text_is signatures text (Ok rules) short gives = reads_policy signatures text rules.items short gives
+text_is signatures text (Err Memory) short gives = tt
+text_is signatures text (Err (Fault fault)) short gives = inr (short, reads_first_fault signatures text fault gives)

@@ -20,6 +20,8 @@ mod rule;
 mod spelling;
 mod starting;
 mod step;
+#[cfg(test)]
+mod tests;
 mod verdict;
 
 pub use error::{PolicyError, PolicyFault, PolicyFaultKind};

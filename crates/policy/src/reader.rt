@@ -1,5 +1,6 @@
 // Policies are read.
 ghost use Rattle.std.specs.Prelude.{◌≡◌, ◌<◌, ◌^◌, IfOk, MatchResult, length, map};
+ghost use Rattle.policy.specs.Functions.{known};
 ghost use Rattle.policy.specs.PolicyFault.{IsPolicy, IsPolicyError};
 ghost use Rattle.policy.specs.Verdicts.{start};
 
@@ -8,6 +9,7 @@ use crate::error::{PolicyError, PolicyFault, PolicyFaultKind};
 use crate::functions::Functions;
 use crate::policy::Policy;
 use crate::reading::read_rules;
+use crate::rule::Rule;
 use pt_tree::Signature;
 use std::alloc::Global;
 
@@ -22,13 +24,25 @@ pub(crate) fn policy_over(
         (IsPolicyError (map (λ s. s.now) signatures.now) text.now) }
     ensures start { IfOk result (λ p. p ≡ start p.rules) }
 {
+    let functions = Functions::new(alloc, signatures)?;
+    let rules = rules_of(alloc, text, &functions)?;
+    Ok(Policy::new(alloc, rules)?)
+}
+
+// The rules of the text.
+fn rules_of(
+    alloc: Global,
+    text: &[u8],
+    functions: &Functions,
+) -> Result<Vec<Rule>, PolicyError>
+    ensures { MatchResult result (λ rules. IsPolicy (known functions.now) text.now rules.items)
+        (IsPolicyError (known functions.now) text.now) }
+{
     if text.len() > TEXT_LIMIT {
         return Err(PolicyError::Fault(PolicyFault {
             kind: PolicyFaultKind::TooLong,
             line: 0,
         }));
     }
-    let functions = Functions::new(alloc, signatures)?;
-    let rules = read_rules(alloc, text, &functions)?;
-    Ok(Policy::new(alloc, rules)?)
+    read_rules(alloc, text, functions)
 }
