@@ -3,7 +3,7 @@ use Rattle.std.proofs.Common.{◌≡◌, ◌∙◌, ◌+◌, ◌-◌, ◌<◌, �
 use Rattle.std.specs.List.{position_from, list_all}
 use Rattle.std.proofs.lemmas.Bool.{eqb-true, eq-eqb}
 use Rattle.pt_base.specs.declared.ids.FnId.{FnId}
-use Rattle.policy.specs.Places.{first_in, home_of, is_keyed, steps_from}
+use Rattle.policy.specs.Places.{first_in, state_number, is_keyed, steps_from}
 use Rattle.policy.specs.Verdicts.{is_within, is_left, is_of, fits, first_fit_from}
 use Rattle.policy.specs.declared.rule.Rule.{Rule}
 use Rattle.policy.specs.declared.step.Step.{Step}
@@ -138,39 +138,39 @@ ahead_found key plain rules uses k rule same ahead read free =
 -- the steps of an index
 
 pub record Leads (all rules : List Rule) (from k : ℕ) (step : Step) : Type 0 where
-  pub target : (d : Rule) → step.to ≡ home_of all (get_or rules k d).to
-  pub following : (d : Rule) → step.following ≡ position_from (is_keyed all (home_of all (get_or rules k d).from) (get_or rules k d).function.0) (from + k + 1) (drop (suc k) rules)
+  pub target : (d : Rule) → step.to ≡ state_number all (get_or rules k d).to
+  pub following : (d : Rule) → step.following ≡ position_from (is_keyed all (state_number all (get_or rules k d).from) (get_or rules k d).function.0) (from + k + 1) (drop (suc k) rules)
 
 pub step_at : (all rules : List Rule) (from k : ℕ) (step : Step) → slice_get (steps_from all from rules) k ≡ Some step → Leads all rules from k step
 step_at all [] from k step e = cc
 step_at all (rule ∷ rules) from zero step e =
-    let is : record { to = home_of all rule.to; following = position_from (is_keyed all (home_of all rule.from) rule.function.0) (from + 1) rules } ≡ step = cc in
+    let is : record { to = state_number all rule.to; following = position_from (is_keyed all (state_number all rule.from) rule.function.0) (from + 1) rules } ≡ step = cc in
     let same : from + 1 ≡ from + 0 + 1 = omega arith in
     record {
       target = λ d. ap (λ (s : Step). s.to) (sym is);
-      following = λ d. ap (λ (s : Step). s.following) (sym is) ∙ ap (λ i. position_from (is_keyed all (home_of all rule.from) rule.function.0) i rules) same;
+      following = λ d. ap (λ (s : Step). s.following) (sym is) ∙ ap (λ i. position_from (is_keyed all (state_number all rule.from) rule.function.0) i rules) same;
     }
 step_at all (rule ∷ rules) from (suc k) step e =
     let rest = step_at all rules (from + 1) k step e in
     let same : from + 1 + k + 1 ≡ from + suc k + 1 = omega arith in
     record {
       target = rest.target;
-      following = λ d. rest.following d ∙ ap (λ i. position_from (is_keyed all (home_of all (get_or rules k d).from) (get_or rules k d).function.0) i (drop (suc k) rules)) same;
+      following = λ d. rest.following d ∙ ap (λ i. position_from (is_keyed all (state_number all (get_or rules k d).from) (get_or rules k d).function.0) i (drop (suc k) rules)) same;
     }
 
 pub steps_long : (all rules : List Rule) (from : ℕ) → length (steps_from all from rules) ≡ length rules
 steps_long all [] from = refl
 steps_long all (rule ∷ rules) from = ap suc (steps_long all rules (from + 1))
 
-key_is : (home g h f : ℕ) → (nat_eq home h && nat_eq g f) ≡ true → (home ≡ h) × (g ≡ f)
-key_is home g h f e = let t = both (nat_eq home h) (nat_eq g f) e in (eqb-true home h t.0, eqb-true g f t.1)
+key_is : (number g h f : ℕ) → (nat_eq number h && nat_eq g f) ≡ true → (number ≡ h) × (g ≡ f)
+key_is number g h f e = let t = both (nat_eq number h) (nat_eq g f) e in (eqb-true number h t.0, eqb-true g f t.1)
 
 -- the step of a rule of the key leads to the next one of the key
 pub key_step : (rules : List Rule) (k state f : ℕ) (step : Step) (d : Rule) → slice_get (steps_from rules 0 rules) k ≡ Some step → is_keyed rules state f (get_or rules k d) ≡ true
     → step.following ≡ position_from (is_keyed rules state f) (k + 1) (drop (k + 1) rules)
 key_step rules k state f step d at keyed =
     let leads = step_at rules rules 0 k step at in
-    let key = key_is (home_of rules (get_or rules k d).from) (get_or rules k d).function.0 state f keyed in
+    let key = key_is (state_number rules (get_or rules k d).from) (get_or rules k d).function.0 state f keyed in
     let same : 0 + k + 1 ≡ k + 1 = omega arith in
     leads.following d
     ∙ ap₂ (λ h g. position_from (is_keyed rules h g) (0 + k + 1) (drop (suc k) rules)) key.0 key.1
@@ -219,35 +219,35 @@ same_first rules from state p q a b same =
     let d : Rule = record { from = []; function = record { 0 = 0 }; ranges = []; most = None; to = [] } in
     sym (x.named d) ∙ ap (λ i. (get_or rules i d).from) past ∙ y.named d
 
-same_home : (rules : List Rule) (from state : List ℕ) (p : ℕ) → first_in rules from ≡ Some p → home_of rules from ≡ home_of rules state → from ≡ state
-same_home rules from state p a same = go (first_in rules state) refl
+same_number : (rules : List Rule) (from state : List ℕ) (p : ℕ) → first_in rules from ≡ Some p → state_number rules from ≡ state_number rules state → from ≡ state
+same_number rules from state p a same = go (first_in rules state) refl
   where
-    home : home_of rules from ≡ p
-    home = ap (λ o. unwrap_or o (length rules)) a
+    number : state_number rules from ≡ p
+    number = ap (λ o. unwrap_or o (length rules)) a
     go : (o : Option ℕ) → first_in rules state ≡ o → from ≡ state
     go None none =
         let x = found_in from rules 0 p a in
         let within : x.past < length rules = x.within in
         let place : p ≡ 0 + x.past = x.place in
-        let end : p ≡ length rules = sym home ∙ same ∙ ap (λ o. unwrap_or o (length rules)) none in
+        let end : p ≡ length rules = sym number ∙ same ∙ ap (λ o. unwrap_or o (length rules)) none in
         absurd (omega arith)
-    go (Some q) some = same_first rules from state p q a some (sym home ∙ same ∙ ap (λ o. unwrap_or o (length rules)) some)
+    go (Some q) some = same_first rules from state p q a some (sym number ∙ same ∙ ap (λ o. unwrap_or o (length rules)) some)
 
 eq_same : (n : ℕ) → nat_eq n n ≡ true
 eq_same n = eq-eqb n n refl
 
 -- of a rule's state, the numbers are equal exactly where the names are
-home_tells : (rules : List Rule) (from state : List ℕ) (p : ℕ) → first_in rules from ≡ Some p → nat_eq (home_of rules from) (home_of rules state) ≡ bytes_eq from state
-home_tells rules from state p a = go (bytes_eq from state) refl
+number_tells : (rules : List Rule) (from state : List ℕ) (p : ℕ) → first_in rules from ≡ Some p → nat_eq (state_number rules from) (state_number rules state) ≡ bytes_eq from state
+number_tells rules from state p a = go (bytes_eq from state) refl
   where
-    go : (b : Bool) → bytes_eq from state ≡ b → nat_eq (home_of rules from) (home_of rules state) ≡ b
-    go true is = ap (λ s. nat_eq (home_of rules from) (home_of rules s)) (sym (bytes_equal from state is)) ∙ eq_same (home_of rules from)
-    go false isnt = differ (nat_eq (home_of rules from) (home_of rules state)) refl
+    go : (b : Bool) → bytes_eq from state ≡ b → nat_eq (state_number rules from) (state_number rules state) ≡ b
+    go true is = ap (λ s. nat_eq (state_number rules from) (state_number rules s)) (sym (bytes_equal from state is)) ∙ eq_same (state_number rules from)
+    go false isnt = differ (nat_eq (state_number rules from) (state_number rules state)) refl
       where
-        differ : (b : Bool) → nat_eq (home_of rules from) (home_of rules state) ≡ b → b ≡ false
+        differ : (b : Bool) → nat_eq (state_number rules from) (state_number rules state) ≡ b → b ≡ false
         differ false e = refl
         differ true e =
-            let same : from ≡ state = same_home rules from state p a (eqb-true (home_of rules from) (home_of rules state) e) in
+            let same : from ≡ state = same_number rules from state p a (eqb-true (state_number rules from) (state_number rules state) e) in
             let yes' : bytes_eq from state ≡ true = ap (λ w. bytes_eq w state) same ∙ bytes_same state in
             sym yes' ∙ isnt
 
@@ -260,15 +260,15 @@ fit_agree test other k (rule ∷ rules) (n ∷ uses) agree =
     ap₂ (λ b o. if b then Some k else o) (agree 0 n rule (omega arith)) (fit_agree test other (k + 1) rules uses (λ j m d within. agree (suc j) m d (omega arith)))
 
 -- by numbers and by names the same rule is found
-pub fit_by_name : (rules : List Rule) (uses : List ℕ) (state : ℕ) (f : FnId) (plain : List ℤ) (name : List ℕ) → state ≡ home_of rules name
+pub fit_by_name : (rules : List Rule) (uses : List ℕ) (state : ℕ) (f : FnId) (plain : List ℤ) (name : List ℕ) → state ≡ state_number rules name
     → first_fit_from (keyed_fits (is_keyed rules state f.0) plain) 0 rules uses ≡ first_fit_from (fits name f plain) 0 rules uses
 fit_by_name rules uses state f plain name is =
     fit_agree (keyed_fits (is_keyed rules state f.0) plain) (fits name f plain) 0 rules uses
     (λ j n d within.
         let rule : Rule = get_or rules j d in
         let first = has_first rule.from rules 0 j d within refl in
-        ap (λ h. (nat_eq (home_of rules rule.from) h && nat_eq rule.function.0 f.0) && may_use plain rule n) is
-        ∙ ap (λ b. (b && nat_eq rule.function.0 f.0) && may_use plain rule n) (home_tells rules rule.from name first.0 first.1))
+        ap (λ h. (nat_eq (state_number rules rule.from) h && nat_eq rule.function.0 f.0) && may_use plain rule n) is
+        ∙ ap (λ b. (b && nat_eq rule.function.0 f.0) && may_use plain rule n) (number_tells rules rule.from name first.0 first.1))
 
 -- the rule that was found may be used
 pub fit_is_left : (state : List ℕ) (f : FnId) (plain : List ℤ) (low k : ℕ) (rules : List Rule) (uses : List ℕ) → first_fit_from (fits state f plain) low rules uses ≡ Some k

@@ -2,7 +2,7 @@
 use Rattle.std.proofs.Common.{◌≡◌, ◌∙◌, ◌+◌, ◌-◌, ◌<◌, ◌≤◌, ℕ, suc, Bool, ◌&&◌, cond, nat_eq, List, [], ◌∷◌, ◌++◌, length, drop, get_or, reverse, Option, Some, refl, ap, ap₂, sym, arith, drop-cons, add-one}
 use Rattle.std.specs.List.{position_from}
 use Rattle.std.proofs.lemmas.List.{reverse-append}
-use Rattle.policy.specs.Places.{is_keyed, home_of, steps_from}
+use Rattle.policy.specs.Places.{is_keyed, state_number, steps_from}
 use Rattle.policy.specs.declared.rule.Rule.{Rule}
 use Rattle.policy.specs.declared.step.Step.{Step}
 
@@ -22,8 +22,8 @@ place_step p xs next x t new old some within read is put before =
     ∙ sym (ap (position_from p (next - 1)) (cut_here xs next x some within read))
 
 pub steps_more : (rules : List Rule) (next : ℕ) (rule : Rule) (to : ℕ) (following : Option ℕ) (old new : List Step)
-    → 0 < next → next - 1 < length rules → rule ≡ get_or rules (next - 1) rule → to ≡ home_of rules rule.to
-    → following ≡ position_from (is_keyed rules (home_of rules rule.from) rule.function.0) next (drop next rules)
+    → 0 < next → next - 1 < length rules → rule ≡ get_or rules (next - 1) rule → to ≡ state_number rules rule.to
+    → following ≡ position_from (is_keyed rules (state_number rules rule.from) rule.function.0) next (drop next rules)
     → new ≡ old ++ record { to = to; following = following } ∷ [] → reverse old ≡ steps_from rules next (drop next rules)
     → reverse new ≡ steps_from rules (next - 1) (drop (next - 1) rules)
 steps_more rules next rule to following old new some within read target next_one pushed before =
@@ -33,5 +33,5 @@ steps_more rules next rule to following old new some within read target next_one
     ∙ reverse-append old (record { to = to; following = following } ∷ [])
     ∙ ap (step to following) (before ∙ ap (λ n. steps_from rules n (drop next rules)) same)
     ∙ ap₂ (λ t f. step t f (steps_from rules (next - 1 + 1) (drop next rules))) target
-    (next_one ∙ ap (λ n. position_from (is_keyed rules (home_of rules rule.from) rule.function.0) n (drop next rules)) same)
+    (next_one ∙ ap (λ n. position_from (is_keyed rules (state_number rules rule.from) rule.function.0) n (drop next rules)) same)
     ∙ sym (ap (steps_from rules (next - 1)) (cut_here rules next rule some within read))

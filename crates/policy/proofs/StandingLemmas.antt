@@ -3,7 +3,7 @@ use Rattle.std.proofs.Common.{◌≡◌, ◌∙◌, ◌+◌, ◌<◌, ◌≤◌,
 use Rattle.std.specs.Option.{option_map_or}
 use Rattle.std.proofs.lemmas.Option.{slice_get_read}
 use Rattle.pt_base.specs.declared.ids.FnId.{FnId}
-use Rattle.policy.specs.Places.{home_of, steps_from}
+use Rattle.policy.specs.Places.{state_number, steps_from}
 use Rattle.policy.specs.Indexed.{IsIndex}
 use Rattle.policy.specs.Verdicts.{Standing, is_left, fits, first_fit_from, first_state, one_more, used}
 use Rattle.policy.specs.PolicyView.{state_after, IsKept}
@@ -22,10 +22,10 @@ place_left name f plain rules uses place r n found read count =
     ∙ ap (λ i. is_left (get_or rules i r).most (slice_index uses i)) (sym past)
     ∙ left.2 r
 
-pub kept_after : (rules : List Rule) (uses : List ℕ) (table : RuleIndex) (home place value : ℕ) (last : Option ℕ) (r : Rule) (step : Step)
-    → IsKept rules uses table home last → place < length rules → r ≡ get_or rules place r → slice_get table.steps.items place ≡ Some step
+pub kept_after : (rules : List Rule) (uses : List ℕ) (table : RuleIndex) (number place value : ℕ) (last : Option ℕ) (r : Rule) (step : Step)
+    → IsKept rules uses table number last → place < length rules → r ≡ get_or rules place r → slice_get table.steps.items place ≡ Some step
     → IsKept rules (slice_set uses place value) table step.to (Some place)
-kept_after rules uses table home place value last r step kept within read at =
+kept_after rules uses table number place value last r step kept within read at =
     let leads = step_at rules rules 0 place step (ap (λ s. slice_get s place) (sym kept.index.steps) ∙ at) in
     let here : slice_get rules place ≡ Some r = slice_get_read rules (length rules) place r refl within read in
     record {
@@ -33,8 +33,8 @@ kept_after rules uses table home place value last r step kept within read at =
       counts = length-set uses place value ∙ kept.counts;
       index = kept.index;
       state =
-          leads.target r ∙ ap (λ (q : Rule). home_of rules q.to) (sym read)
-          ∙ ap (λ o. home_of rules (option_map_or (λ q. q.to) o (first_state rules))) (sym here);
+          leads.target r ∙ ap (λ (q : Rule). state_number rules q.to) (sym read)
+          ∙ ap (λ o. state_number rules (option_map_or (λ q. q.to) o (first_state rules))) (sym here);
     }
 
 pub used_is : (rules : List Rule) (state uses : List ℕ) (place value : ℕ) (r : Rule) → place < length rules → r ≡ get_or rules place r → value ≡ one_more r.most (slice_index uses place)

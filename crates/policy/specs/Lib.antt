@@ -13,6 +13,7 @@ pub mod ProgramRules
 pub mod Reading
 pub mod Rules
 pub mod Places
+pub mod Signatures
 pub mod Spelled
 pub mod SpelledView
 pub mod Verdicts

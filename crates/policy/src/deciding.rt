@@ -2,7 +2,7 @@
 ghost use Rattle.std.specs.Prelude.{◌≡◌, ◌<◌, ◌&&◌, ℕ, List, IfSome, IsTrue, length};
 ghost use Rattle.std.specs.List.{list_all};
 ghost use Rattle.policy.specs.Indexed.{IsIndex};
-ghost use Rattle.policy.specs.Places.{home_of};
+ghost use Rattle.policy.specs.Places.{state_number};
 ghost use Rattle.policy.specs.Verdicts.{is_within, is_left, fits, first_fit_from, one_more};
 
 use crate::index::RuleIndex;
@@ -21,7 +21,7 @@ pub(crate) fn first_fit(
 ) -> Option<u32>
     requires index { IsIndex rules.now index.now }
     requires uses { length uses.now ≡ length rules.now }
-    ensures fit { (name : List ℕ) → state ≡ home_of rules.now name →
+    ensures fit { (name : List ℕ) → state ≡ state_number rules.now name →
         result ≡ first_fit_from (fits name f plain.now) 0 rules.now uses.now }
     ensures within { IfSome result (λ k. k < length rules.now) }
 {

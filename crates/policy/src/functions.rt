@@ -1,5 +1,5 @@
 // The functions of a program, by number and by name.
-use crate::numbers::numbers_of;
+use crate::names::numbers_by_name;
 use pt_base::FnId;
 use pt_tree::{Param, Signature};
 use std::alloc::{AllocError, Global};
@@ -29,7 +29,7 @@ impl<'a> Functions<'a> {
         requires { length signatures.now < 2 ^ 32 }
         ensures { IfOk result (λ f. known f ≡ map (λ s. s.now) signatures.now) }
     {
-        let numbers = numbers_of(alloc, signatures)?;
+        let numbers = numbers_by_name(alloc, signatures)?;
         Ok(Functions {
             signatures,
             numbers,

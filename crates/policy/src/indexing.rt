@@ -2,9 +2,9 @@
 ghost use Rattle.std.specs.Prelude.{◌≡◌, ◌<◌, ◌^◌, IfOk, length};
 ghost use Rattle.policy.specs.Indexed.{IsIndex};
 
-use crate::homes::{home, homes_of};
 use crate::index::RuleIndex;
 use crate::rule::Rule;
+use crate::states::{state_number, state_numbers};
 use crate::step::Step;
 use std::alloc::{AllocError, Global};
 use std::collections::HashMap;
@@ -14,7 +14,7 @@ pub(crate) fn rule_index(alloc: Global, rules: &[Rule]) -> Result<RuleIndex, All
     requires { length rules.now < 2 ^ 32 }
     ensures { IfOk result (λ index. IsIndex rules.now index) }
 {
-    let homes = homes_of(alloc, rules)?;
+    let numbers = state_numbers(alloc, rules)?;
     let count = rules.len() as u32;
     let mut heads = HashMap::new(alloc);
     let mut steps = Vec::with_capacity(alloc, rules.len())?;
@@ -22,8 +22,8 @@ pub(crate) fn rule_index(alloc: Global, rules: &[Rule]) -> Result<RuleIndex, All
     while next > 0 {
         next -= 1;
         let rule = &rules[next];
-        let state = home(&homes, count, rule.from.as_slice());
-        let to = home(&homes, count, rule.to.as_slice());
+        let state = state_number(&numbers, count, rule.from.as_slice());
+        let to = state_number(&numbers, count, rule.to.as_slice());
         let following = heads.insert((state, rule.function.0), next as u32)?;
         steps.push(Step { to, following })?;
     }

@@ -6,22 +6,22 @@ mod decimal;
 mod deciding;
 mod error;
 mod functions;
-mod homes;
 mod index;
 mod indexing;
 mod laws;
 mod line;
-mod numbers;
+mod names;
 mod plain;
 mod policy;
-mod reader;
-mod reading;
+mod read;
 mod rule;
 mod spelling;
 mod starting;
+mod states;
 mod step;
 #[cfg(test)]
 mod tests;
+mod text;
 mod verdict;
 
 pub use error::{PolicyError, PolicyFault, PolicyFaultKind};
@@ -29,6 +29,7 @@ pub use laws::{
     limits_hold, places_are_arguments, policy_or_fault, rules_are_one, verdicts_are_steps,
 };
 pub use policy::Policy;
+pub use read::read_policy;
 pub use rule::{PlainRange, Rule};
 pub use verdict::Verdict;
 

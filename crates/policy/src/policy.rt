@@ -18,7 +18,7 @@ pub struct Policy {
     uses: Vec<u32>,
     index: RuleIndex,
     // the number of the state
-    home: u32,
+    number: u32,
     // the rule that was used last
     last: Option<u32>,
 }
@@ -32,7 +32,7 @@ impl Model for Policy {
 
     ghost view = { λ p. record { rules = p.rules.items; state = state_after p.rules.items p.last; uses = p.uses.items } };
 
-    ghost invariant = { λ p. IsKept p.rules.items p.uses.items p.index p.home p.last };
+    ghost invariant = { λ p. IsKept p.rules.items p.uses.items p.index p.number p.last };
 }
 
 impl Policy {
@@ -50,7 +50,7 @@ impl Policy {
             rules,
             uses,
             index,
-            home: 0,
+            number: 0,
             last: None,
         })
     }
@@ -63,12 +63,12 @@ impl Policy {
         ensures fold { (calls : List Call) →
             verdicts self.old (record { function = f; plain = plain.now } ∷ calls) ≡ result ∷ verdicts self.new calls }
     {
-        let Some(place) = first_fit(&self.rules, &self.uses, &self.index, self.home, f, plain) else {
+        let Some(place) = first_fit(&self.rules, &self.uses, &self.index, self.number, f, plain) else {
             return Verdict::Deny;
         };
         let k = place as usize;
         self.uses[k] = one_more(self.rules[k].most, self.uses[k]);
-        self.home = self.index.step(k).to;
+        self.number = self.index.step(k).to;
         self.last = Some(place);
         Verdict::Allow(place)
     }

@@ -1,6 +1,6 @@
 // The rows of policies, over the functions of the signer.
 use super::*;
-use crate::reader::policy_over;
+use crate::read::policy_over;
 use pt_base::{Bytes, FnId, IntType, Listed};
 use pt_tree::{Elem, Param, ParamKind, Signature};
 use std::alloc::{AllocError, Global};

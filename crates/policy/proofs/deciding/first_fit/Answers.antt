@@ -10,11 +10,11 @@ loop-next-init c =
     (c.first-next.ensures ∙ c.requires.index.heads c.args.state c.args.f.0)
 
 pub returns-then-may_use-clause-fit : goal.returns-then-may_use-clause-fit
-returns-then-may_use-clause-fit c = λ name home.
+returns-then-may_use-clause-fit c = λ name number.
     sym (ahead_found (is_keyed c.args.rules.now c.args.state c.args.f.0) c.args.plain.now c.args.rules.now c.args.uses.now c.in-Some.place c.index-rules-k.result c.requires.uses
     (subst (λ (o : Option ℕ). Ahead (is_keyed c.args.rules.now c.args.state c.args.f.0) c.args.plain.now c.args.rules.now c.args.uses.now o) c.in-Some.is c.loop-next.invariant)
     c.index-rules-k.is (sym c.may_use.ensures ∙ c.if-may_use.true))
-    ∙ fit_by_name c.args.rules.now c.args.uses.now c.args.state c.args.f c.args.plain.now name home
+    ∙ fit_by_name c.args.rules.now c.args.uses.now c.args.state c.args.f c.args.plain.now name number
 
 pub step-next-requires : goal.step-next-requires
 step-next-requires c =
@@ -43,7 +43,7 @@ loop-next-smaller c =
     (c.loop-next.invariant.keyed c.in-Some.place c.index-rules-k.result c.in-Some.is))).later)
 
 pub returns-clause-fit : goal.returns-clause-fit
-returns-clause-fit c = λ name home.
+returns-clause-fit c = λ name number.
     let none : c.loop-next.next ≡ None = c.in_default.is in
     sym (c.loop-next.invariant.fit ∙ ap (left_to (is_keyed c.args.rules.now c.args.state c.args.f.0) c.args.plain.now c.args.rules.now c.args.uses.now) none)
-    ∙ fit_by_name c.args.rules.now c.args.uses.now c.args.state c.args.f c.args.plain.now name home
+    ∙ fit_by_name c.args.rules.now c.args.uses.now c.args.state c.args.f c.args.plain.now name number

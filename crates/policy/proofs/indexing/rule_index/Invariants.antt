@@ -7,7 +7,7 @@ use Rattle.policy.proofs.indexing.rule_index.Given as goal
 abbrev pub invariant-loop-next : goal.invariant-loop-next
 invariant-loop-next l = record {
   within : l.next ≤ length l.rules;
-  heads : (home f : ℕ) → head_at l.heads.entries home f ≡ position_from (is_keyed l.rules home f) l.next (drop l.next l.rules);
+  heads : (number f : ℕ) → head_at l.heads.entries number f ≡ position_from (is_keyed l.rules number f) l.next (drop l.next l.rules);
   steps : reverse l.steps.items ≡ steps_from l.rules l.next (drop l.next l.rules);
 }
 

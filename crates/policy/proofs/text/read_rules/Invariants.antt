@@ -2,7 +2,7 @@ use Rattle.std.proofs.Common.{◌≡◌, ◌+◌, ◌≤◌, [], length}
 use Rattle.policy.specs.Lines.{lines_of}
 use Rattle.policy.specs.Functions.{known}
 use Rattle.policy.specs.LineReading.{read_from}
-use Rattle.policy.proofs.reading.read_rules.Given as goal
+use Rattle.policy.proofs.text.read_rules.Given as goal
 
 -- the rules so far, and the lines that are left
 abbrev pub invariant-loop-rest : goal.invariant-loop-rest

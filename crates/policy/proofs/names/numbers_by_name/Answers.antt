@@ -1,6 +1,6 @@
 use Rattle.std.proofs.Common.{◌<◌, ◌-◌, length, arith}
 use Rattle.policy.proofs.NamedLemmas.{named_step}
-use Rattle.policy.proofs.numbers.numbers_of.Goals as goal
+use Rattle.policy.proofs.names.numbers_by_name.Goals as goal
 
 pub loop-next-preserved : goal.loop-next-preserved
 loop-next-preserved c =

@@ -2,13 +2,13 @@ use Rattle.std.proofs.Common.{◌≡◌, ◌≤◌, ℕ, List, length, drop}
 use Rattle.std.specs.List.{position_from}
 use Rattle.std.specs.Map.{lookup}
 use Rattle.std.specs.Str.{bytes_eq}
-use Rattle.policy.proofs.homes.homes_of.Given as goal
+use Rattle.policy.proofs.states.state_numbers.Given as goal
 
 -- the states of the rules from here on have their numbers
 abbrev pub invariant-loop-next : goal.invariant-loop-next
 invariant-loop-next l = record {
   within : l.next ≤ length l.rules;
-  homes : (state : List ℕ) → lookup (λ k. bytes_eq state k.now) l.homes.entries ≡ position_from (λ r. bytes_eq r.from state) l.next (drop l.next l.rules);
+  numbers : (state : List ℕ) → lookup (λ k. bytes_eq state k.now) l.numbers.entries ≡ position_from (λ r. bytes_eq r.from state) l.next (drop l.next l.rules);
 }
 
 abbrev pub decreases-loop-next : goal.decreases-loop-next

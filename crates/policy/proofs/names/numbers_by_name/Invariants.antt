@@ -2,7 +2,7 @@ use Rattle.std.proofs.Common.{◌≡◌, ◌≤◌, ℕ, List, length, drop, map
 use Rattle.std.specs.List.{position_from}
 use Rattle.std.specs.Map.{lookup}
 use Rattle.std.specs.Str.{bytes_eq}
-use Rattle.policy.proofs.numbers.numbers_of.Given as goal
+use Rattle.policy.proofs.names.numbers_by_name.Given as goal
 
 -- the functions from here on have their numbers
 abbrev pub invariant-loop-next : goal.invariant-loop-next
