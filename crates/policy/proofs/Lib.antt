@@ -14,3 +14,4 @@ pub mod StandingLemmas
 pub mod LawLemmas
 pub mod PlainLemmas
 pub mod VerdictLemmas
+pub mod SignatureLemmas

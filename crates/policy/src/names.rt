@@ -7,7 +7,7 @@ use std::alloc::{AllocError, Global};
 use std::collections::HashMap;
 
 /// The number of each function by its name, and of the first where names repeat.
-pub(crate) fn numbers_of<'a>(
+pub(crate) fn numbers_by_name<'a>(
     alloc: Global,
     signatures: &'a [&'a Signature],
 ) -> Result<HashMap<&'a [u8], u32>, AllocError>
