@@ -224,6 +224,7 @@ same_number rules from state p a same = go (first_in rules state) refl
   where
     number : state_number rules from ≡ p
     number = ap (λ o. unwrap_or o (length rules)) a
+
     go : (o : Option ℕ) → first_in rules state ≡ o → from ≡ state
     go None none =
         let x = found_in from rules 0 p a in
@@ -265,10 +266,10 @@ pub fit_by_name : (rules : List Rule) (uses : List ℕ) (state : ℕ) (f : FnId)
 fit_by_name rules uses state f plain name is =
     fit_agree (keyed_fits (is_keyed rules state f.0) plain) (fits name f plain) 0 rules uses
     (λ j n d within.
-        let rule : Rule = get_or rules j d in
-        let first = has_first rule.from rules 0 j d within refl in
-        ap (λ h. (nat_eq (state_number rules rule.from) h && nat_eq rule.function.0 f.0) && may_use plain rule n) is
-        ∙ ap (λ b. (b && nat_eq rule.function.0 f.0) && may_use plain rule n) (number_tells rules rule.from name first.0 first.1))
+    let rule : Rule = get_or rules j d in
+    let first = has_first rule.from rules 0 j d within refl in
+    ap (λ h. (nat_eq (state_number rules rule.from) h && nat_eq rule.function.0 f.0) && may_use plain rule n) is
+    ∙ ap (λ b. (b && nat_eq rule.function.0 f.0) && may_use plain rule n) (number_tells rules rule.from name first.0 first.1))
 
 -- the rule that was found may be used
 pub fit_is_left : (state : List ℕ) (f : FnId) (plain : List ℤ) (low k : ℕ) (rules : List Rule) (uses : List ℕ) → first_fit_from (fits state f plain) low rules uses ≡ Some k

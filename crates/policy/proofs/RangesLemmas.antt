@@ -22,8 +22,7 @@ pub ranges_more : (all : List ArgRange × List (List ℕ)) (ws others : List (Li
     → Some (r, others) ≡ first_range ws → longer ≡ so_far ++ r ∷ [] → all.0 ≡ so_far ++ (ranges_of ws).0 → all.1 ≡ (ranges_of ws).1
     → (all.0 ≡ longer ++ (ranges_of others).0) × (all.1 ≡ (ranges_of others).1)
 ranges_more all ws others r so_far longer e pushed ranges rest =
-    let step : ranges_of ws ≡ onto_ranges r (ranges_of others) = ranges_step ws others r e in
-    (
+    let step : ranges_of ws ≡ onto_ranges r (ranges_of others) = ranges_step ws others r e in (
       ranges ∙ ap (λ p. so_far ++ p.0) step ∙ sym (append_assoc so_far (r ∷ []) (ranges_of others).0) ∙ ap (λ xs. xs ++ (ranges_of others).0) (sym pushed),
       rest ∙ ap (λ p. p.1) step,
     )

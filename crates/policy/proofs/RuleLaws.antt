@@ -189,8 +189,10 @@ ending_gives limit most to (at_most word n is) e =
   where
     with_target : Option ℕ × List (List ℕ) → Option (Option ℕ × List ℕ)
     with_target p = option_map (λ t. (p.0, t)) (target_of p.1)
+
     with_count : ℕ × List (List ℕ) → Option ℕ × List (List ℕ)
     with_count q = (Some q.0, q.1)
+
     behind_count : ℕ → ℕ × List (List ℕ)
     behind_count k = (k, codes "to" ∷ to ∷ [])
 

@@ -90,6 +90,7 @@ line_reads signatures before line counts = go (rule_of (words_of line)) refl
       where
         spells : IsRule (words_of line) s
         spells = rule_is (words_of line) s is
+
         among : (t : Bool) → nat_lt before RULE_LIMIT ≡ t → Reading signatures before line (if t then resolved signatures s else Err TooLong)
         among true few = resolved_reads signatures before line s spells (ltb-true before RULE_LIMIT few)
         among false many = too_long s spells (grind (arith, nat_tests))
@@ -132,7 +133,7 @@ fault_read signatures before line kind (unknown_function s is few unknown) =
 fault_read signatures before line kind (unseen_arg s f is few guarded unseen) = (
   rule_line line s is,
   read_resolved signatures before line s is few ∙ resolved_as signatures s (Some f) guarded
-  ∙ if_false (are_seen (params_of signatures f) s.ranges) (Ok (rule_over (params_of signatures f) s f)) (Err UnseenArg) unseen,
+      ∙ if_false (are_seen (params_of signatures f) s.ranges) (Ok (rule_over (params_of signatures f) s f)) (Err UnseenArg) unseen,
 )
 
 -- the lines of a text

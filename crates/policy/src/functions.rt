@@ -1,11 +1,11 @@
 // The functions of a program, by number and by name.
+ghost use Rattle.policy.specs.Named.{HaveNumbers};
+
 use crate::names::numbers_by_name;
 use pt_base::FnId;
 use pt_tree::{Param, Signature};
 use std::alloc::{AllocError, Global};
 use std::collections::HashMap;
-
-ghost use Rattle.policy.specs.Named.{HaveNumbers};
 
 /// The functions of a program, with their numbers by name.
 #[derive(Drop)]

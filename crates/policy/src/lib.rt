@@ -2,8 +2,8 @@
 #![tactic(auto)]
 
 mod argument;
-mod decimal;
 mod deciding;
+mod decimal;
 mod error;
 mod functions;
 mod index;

@@ -63,7 +63,8 @@ impl Policy {
         ensures fold { (calls : List Call) →
             verdicts self.old (record { function = f; plain = plain.now } ∷ calls) ≡ result ∷ verdicts self.new calls }
     {
-        let Some(place) = first_fit(&self.rules, &self.uses, &self.index, self.number, f, plain) else {
+        let Some(place) = first_fit(&self.rules, &self.uses, &self.index, self.number, f, plain)
+        else {
             return Verdict::Deny;
         };
         let k = place as usize;

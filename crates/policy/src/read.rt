@@ -10,8 +10,8 @@ use crate::TEXT_LIMIT;
 use crate::error::{PolicyError, PolicyFault, PolicyFaultKind};
 use crate::functions::Functions;
 use crate::policy::Policy;
-use crate::text::read_rules;
 use crate::rule::Rule;
+use crate::text::read_rules;
 use pt_tree::Signature;
 use std::alloc::{AllocError, Global};
 use typed_tree::Typed;
@@ -60,11 +60,7 @@ pub(crate) fn policy_over(
 }
 
 // The rules of the text.
-fn rules_of(
-    alloc: Global,
-    text: &[u8],
-    functions: &Functions,
-) -> Result<Vec<Rule>, PolicyError>
+fn rules_of(alloc: Global, text: &[u8], functions: &Functions) -> Result<Vec<Rule>, PolicyError>
     ensures { MatchResult result (λ rules. IsPolicy (known functions.now) text.now rules.items)
         (IsPolicyError (known functions.now) text.now) }
 {

@@ -33,7 +33,10 @@ struct Beginning<'a> {
 
 /// The rule that the words of the line spell, if they spell one.
 #[tactic(auto, unfolding(crate::specs::Reading::rule_of))]
-pub(crate) fn spelled_rule(alloc: Global, line: &[u8]) -> Result<Option<SpelledRule<'_>>, AllocError>
+pub(crate) fn spelled_rule(
+    alloc: Global,
+    line: &[u8],
+) -> Result<Option<SpelledRule<'_>>, AllocError>
     ensures { IfOk result (λ o. option_map view_spelled o ≡ rule_of (words_of line.now)) }
 {
     let Some(start) = rule_beginning(line) else {

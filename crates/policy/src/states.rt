@@ -8,7 +8,10 @@ use std::alloc::{AllocError, Global};
 use std::collections::HashMap;
 
 /// The numbers of the states in which rules begin.
-pub(crate) fn state_numbers(alloc: Global, rules: &[Rule]) -> Result<HashMap<&[u8], u32>, AllocError>
+pub(crate) fn state_numbers(
+    alloc: Global,
+    rules: &[Rule],
+) -> Result<HashMap<&[u8], u32>, AllocError>
     requires { length rules.now < 2 ^ 32 }
     ensures { IfOk result (λ m. HaveStates m.entries rules.now) }
 {

@@ -5,8 +5,10 @@ use pt_base::{Bytes, FnId, IntType, Listed};
 use pt_tree::{Elem, Param, ParamKind, Signature};
 use std::alloc::{AllocError, Global};
 use std::test::Fail;
+use typed_tree::Typed;
 
 const LOAD: FnId = FnId(0);
+
 const SIGN: FnId = FnId(1);
 
 const PLAIN: Param = Param {
@@ -14,11 +16,13 @@ const PLAIN: Param = Param {
     marked: false,
     declassify: false,
 };
+
 const MARKED: Param = Param {
     kind: ParamKind::Int(IntType::Int),
     marked: true,
     declassify: false,
 };
+
 const POINTER: Param = Param {
     kind: ParamKind::Ptr {
         elem: Elem::Int(IntType::Int),
@@ -65,7 +69,11 @@ fn fault(alloc: Global, text: &[u8]) -> Result<Option<(PolicyFaultKind, u32)>, P
 
 static FAULTS: [(&str, PolicyFaultKind, u32); 16] = [
     ("from a allow put to a", PolicyFaultKind::UnknownFunction, 1),
-    ("from a allow main to a", PolicyFaultKind::UnknownFunction, 1),
+    (
+        "from a allow main to a",
+        PolicyFaultKind::UnknownFunction,
+        1,
+    ),
     (
         "from a allow sign arg1 in 0..9 to a",
         PolicyFaultKind::UnseenArg,
@@ -160,7 +168,8 @@ fn faults_have_numbers_and_names(rt: HostRuntime) -> Result<(), Fail> {
 #[test]
 fn the_first_rule_that_fits_is_used(rt: HostRuntime) -> Result<(), Fail> {
     let alloc = rt.alloc();
-    let text = b"# the signer\nfrom a allow load to b\n\nfrom b\tallow sign arg2 in 005..5 to b\nfrom b allow sign at most 1 to _9";
+    let text =
+        b"# the signer\nfrom a allow load to b\n\nfrom b\tallow sign arg2 in 005..5 to b\nfrom b allow sign at most 1 to _9";
     let mut policy = policy(alloc, text)?;
     assert_eq!(rt; policy.state(), b"a".as_slice());
     // no rule of the state, and nothing changes
@@ -179,7 +188,10 @@ fn the_first_rule_that_fits_is_used(rt: HostRuntime) -> Result<(), Fail> {
 #[test]
 fn a_limited_rule_is_used_up(rt: HostRuntime) -> Result<(), Fail> {
     let alloc = rt.alloc();
-    let mut policy = policy(alloc, b"from a allow load arg1 in -0..18446744073709551615 at most 1 to a\n")?;
+    let mut policy = policy(
+        alloc,
+        b"from a allow load arg1 in -0..18446744073709551615 at most 1 to a\n",
+    )?;
     assert!(rt; policy.decide(LOAD, &[-1]) == Verdict::Deny);
     assert!(rt; policy.decide(LOAD, &[18446744073709551615]) == Verdict::Allow(0));
     assert!(rt; policy.decide(LOAD, &[0]) == Verdict::Deny);
@@ -192,5 +204,19 @@ fn without_rules_all_is_denied(rt: HostRuntime) -> Result<(), Fail> {
     let mut policy = policy(rt.alloc(), b"")?;
     assert!(rt; policy.decide(LOAD, &[7]) == Verdict::Deny);
     assert_eq!(rt; policy.state(), b"-".as_slice());
+    Ok(())
+}
+
+#[test]
+fn a_program_has_its_policy(rt: HostRuntime) -> Result<(), Fail> {
+    let alloc = rt.alloc();
+    let mut hosts = Vec::new(alloc);
+    hosts.push(signature(alloc, b"load", &[PLAIN], true)?)?;
+    hosts.push(signature(alloc, b"sign", &[MARKED, PLAIN], true)?)?;
+    let typed = Typed::of_hosts(alloc, hosts)?.ok_or("no program")?;
+    let text = b"from a allow load to a\nfrom a allow sign to a\n";
+    let mut policy = read_policy(alloc, text, &typed)?;
+    assert!(rt; policy.decide(SIGN, &[5]) == Verdict::Allow(1));
+    assert!(rt; policy.decide(LOAD, &[7]) == Verdict::Allow(0));
     Ok(())
 }
