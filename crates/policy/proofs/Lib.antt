@@ -1,0 +1,17 @@
+pub mod LineLemmas
+pub mod NumberLemmas
+pub mod BoundLemmas
+pub mod RangesLemmas
+pub mod NamedLemmas
+pub mod OptionLemmas
+pub mod DecimalLaws
+pub mod BoundLaws
+pub mod RuleLaws
+pub mod TextLaws
+pub mod PlaceLemmas
+pub mod FitLemmas
+pub mod StandingLemmas
+pub mod LawLemmas
+pub mod PlainLemmas
+pub mod VerdictLemmas
+pub mod SignatureLemmas
