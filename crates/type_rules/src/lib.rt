@@ -1,0 +1,6 @@
+//! The types of objects and of expressions.
+#![tactic(auto)]
+
+mod types;
+
+pub use types::Type;
