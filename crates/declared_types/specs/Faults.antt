@@ -31,9 +31,13 @@ fault_name NoMain = codes "NoMain"
 fault_name TooLarge = codes "TooLarge"
 fault_name BadAttribute = codes "BadAttribute"
 
--- by where they begin, then by where they end, then by number
+-- by where they begin, then by where they end
+abbrev pub span_cmp : Span → Span → Ordering
+span_cmp a b = ordering_then (nat_cmp a.from b.from) (nat_cmp a.to b.to)
+
+-- by their places, then by number
 abbrev pub fault_cmp : TypeFault → TypeFault → Ordering
-fault_cmp f g = ordering_then (nat_cmp f.span.from g.span.from) (ordering_then (nat_cmp f.span.to g.span.to) (nat_cmp (fault_number f.kind) (fault_number g.kind)))
+fault_cmp f g = ordering_then (span_cmp f.span g.span) (nat_cmp (fault_number f.kind) (fault_number g.kind))
 
 abbrev pub fault_at : FaultKind → Span → TypeFault
 fault_at kind span = record { span = span; kind = kind }

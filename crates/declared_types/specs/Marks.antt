@@ -1,5 +1,5 @@
 -- Attributes, where each may stand, and what they mark.
-use Rattle.std.specs.Prelude.{ℕ, List, Bool, true, false, not, ◌&&◌, ◌||◌, map, filter, codes, if◌then◌else◌}
+use Rattle.std.specs.Prelude.{ℕ, List, Bool, true, false, not, ◌&&◌, ◌||◌, flat_map, codes, if◌then◌else◌}
 use Rattle.std.specs.Str.{bytes_eq}
 use Rattle.std.specs.List.{list_any}
 use Rattle.pt_tree.specs.declared.word.Word.{Word}
@@ -11,7 +11,7 @@ use Rattle.declared_types.specs.declared.marks.Carrier.TheVariants.{Object, Fiel
 use Rattle.declared_types.specs.declared.marks.Mark.{Mark}
 use Rattle.declared_types.specs.declared.marks.Mark.TheVariants.{Priv, Unpriv, Declassify, Other}
 use Rattle.declared_types.specs.declared.marks.Marks.{Marks}
-use Rattle.declared_types.specs.Faults.{fault_at}
+use Rattle.declared_types.specs.Faults.{fault_if}
 
 abbrev pub mark_of : List ℕ → Mark
 mark_of name =
@@ -64,4 +64,4 @@ may_stand Nothing marked m = false
 
 -- a fault at each attribute that may not stand before this
 abbrev pub mark_faults : Carrier → List Attribute → List TypeFault
-mark_faults carrier attributes = map (λ a. fault_at BadAttribute a.span) (filter (λ a. not (may_stand carrier (marks_of attributes).marked a.mark)) attributes)
+mark_faults carrier attributes = flat_map (λ a. fault_if (not (may_stand carrier (marks_of attributes).marked a.mark)) BadAttribute a.span) attributes

@@ -10,6 +10,26 @@ use Rattle.declared_types.specs.declared.words.Often.{Often}
 use Rattle.declared_types.specs.declared.words.Often.TheVariants.{Never, Once, Again}
 use Rattle.declared_types.specs.declared.words.TypeWords.{TypeWords}
 
+-- ---- the combinations, as the standard lists them; the words may stand in any order
+
+abbrev pub short_words : List (List SpecWord)
+short_words = (Short ∷ []) ∷ (Signed ∷ Short ∷ []) ∷ (Short ∷ Int ∷ []) ∷ (Signed ∷ Short ∷ Int ∷ []) ∷ []
+
+abbrev pub unsigned_short_words : List (List SpecWord)
+unsigned_short_words = (Unsigned ∷ Short ∷ []) ∷ (Unsigned ∷ Short ∷ Int ∷ []) ∷ []
+
+abbrev pub int_words : List (List SpecWord)
+int_words = (Int ∷ []) ∷ (Signed ∷ []) ∷ (Signed ∷ Int ∷ []) ∷ []
+
+abbrev pub unsigned_words : List (List SpecWord)
+unsigned_words = (Unsigned ∷ []) ∷ (Unsigned ∷ Int ∷ []) ∷ []
+
+abbrev pub long_words : List (List SpecWord)
+long_words = (Long ∷ []) ∷ (Signed ∷ Long ∷ []) ∷ (Long ∷ Int ∷ []) ∷ (Signed ∷ Long ∷ Int ∷ []) ∷ []
+
+abbrev pub unsigned_long_words : List (List SpecWord)
+unsigned_long_words = (Unsigned ∷ Long ∷ []) ∷ (Unsigned ∷ Long ∷ Int ∷ []) ∷ []
+
 -- a type with the lists of words that name it
 pub record Combination : Type 0 where
   pub ty : «Type»
@@ -18,19 +38,18 @@ pub record Combination : Type 0 where
 abbrev pub names : «Type» → List (List SpecWord) → Combination
 names ty lists = record { ty = ty; lists = lists }
 
--- the combinations, as the standard lists them; the words may stand in any order
 abbrev pub combinations : List Combination
 combinations =
     names ty.Void ((Void ∷ []) ∷ [])
     ∷ names (ty.Int int.Char) ((Char ∷ []) ∷ [])
     ∷ names (ty.Int int.SChar) ((Signed ∷ Char ∷ []) ∷ [])
     ∷ names (ty.Int int.UChar) ((Unsigned ∷ Char ∷ []) ∷ [])
-    ∷ names (ty.Int int.Short) ((Short ∷ []) ∷ (Signed ∷ Short ∷ []) ∷ (Short ∷ Int ∷ []) ∷ (Signed ∷ Short ∷ Int ∷ []) ∷ [])
-    ∷ names (ty.Int int.UShort) ((Unsigned ∷ Short ∷ []) ∷ (Unsigned ∷ Short ∷ Int ∷ []) ∷ [])
-    ∷ names (ty.Int int.Int) ((Int ∷ []) ∷ (Signed ∷ []) ∷ (Signed ∷ Int ∷ []) ∷ [])
-    ∷ names (ty.Int int.UInt) ((Unsigned ∷ []) ∷ (Unsigned ∷ Int ∷ []) ∷ [])
-    ∷ names (ty.Int int.Long) ((Long ∷ []) ∷ (Signed ∷ Long ∷ []) ∷ (Long ∷ Int ∷ []) ∷ (Signed ∷ Long ∷ Int ∷ []) ∷ [])
-    ∷ names (ty.Int int.ULong) ((Unsigned ∷ Long ∷ []) ∷ (Unsigned ∷ Long ∷ Int ∷ []) ∷ [])
+    ∷ names (ty.Int int.Short) short_words
+    ∷ names (ty.Int int.UShort) unsigned_short_words
+    ∷ names (ty.Int int.Int) int_words
+    ∷ names (ty.Int int.UInt) unsigned_words
+    ∷ names (ty.Int int.Long) long_words
+    ∷ names (ty.Int int.ULong) unsigned_long_words
     ∷ []
 
 -- ---- words in any order: how often each stands
@@ -65,15 +84,19 @@ with_word t Unsigned = record t { unsigned = once_more t.unsigned }
 abbrev pub type_words : List SpecWord → TypeWords
 type_words words = fold with_word no_words words
 
-abbrev pub same_words : TypeWords → TypeWords → Bool
+unfoldable pub same_words : TypeWords → TypeWords → Bool
 same_words a b = as_often a.void b.void && (as_often a.char b.char && (as_often a.short b.short && (as_often a.int b.int && (as_often a.long b.long && (as_often a.signed b.signed && as_often a.unsigned b.unsigned)))))
 
 -- ---- what a list of keywords says
 
+-- these are the words of one of the lists
+unfoldable pub are_one_of : TypeWords → List (List SpecWord) → Bool
+are_one_of words lists = list_any (λ list. same_words words (type_words list)) lists
+
 -- the type of the first of these combinations that the words are
 abbrev pub named_in : List Combination → TypeWords → Option «Type»
 named_in [] words = None
-named_in (c ∷ cs) words = if list_any (λ list. same_words words (type_words list)) c.lists then Some c.ty else named_in cs words
+named_in (c ∷ cs) words = if are_one_of words c.lists then Some c.ty else named_in cs words
 
 -- the type that keywords and struct specifiers name together, by the types of the latter: a
 -- combination of type words, or one struct and no type word

@@ -9,8 +9,8 @@ mod specifiers;
 mod structs;
 mod words;
 
-pub use fault::{FaultKind, TypeFault};
-pub use marks::{Attribute, Carrier, Mark, Marks};
+pub use fault::{FaultKind, TypeFault, arrange, note_if};
+pub use marks::{Attribute, Attributes, Carrier, Mark, Marks, marks_among, note_attributes};
 pub use name_table::NameTable;
 pub use objects::ObjectKind;
 pub use specifiers::Specified;
