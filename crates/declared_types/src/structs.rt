@@ -10,7 +10,7 @@ use std::alloc::{AllocError, Global};
 use type_rules::Type;
 
 /// Cells are counted up to this number, which is over every limit.
-const MOST_CELLS: u32 = 1_048_577;
+pub(crate) const MOST_CELLS: u32 = 1_048_577;
 
 /// A field of a struct.
 #[derive(Clone, Copy, Debug, PartialEq, Eq, Drop)]
