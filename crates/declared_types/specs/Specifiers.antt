@@ -74,14 +74,20 @@ referred structs tag = record {
 
 -- a struct specifier with a body, at its closing brace: of two structs of one tag the first stays.
 -- Bodies stand at file scope; another is judged all the same, but names no type
-abbrev pub defined : Bool → Span → Word → Body → Naming
-defined at_file first tag body =
-    let structs = with_struct body.structs tag.bytes body.fields in
+unfoldable pub defined : Bool → Span → Word → Structs → Fields → Naming
+defined at_file first tag structs fields =
+    let after = with_struct structs tag.bytes fields in
     record {
-      structs = structs;
-      types = (if at_file then struct_type structs tag.bytes else ty.Bad) ∷ [];
-      faults = body.faults ++ fault_if (not (is_new body.structs tag.bytes)) Redeclared tag.span ++ fault_if (not at_file) OutOfProfile first;
+      structs = after;
+      types = (if at_file then struct_type after tag.bytes else ty.Bad) ∷ [];
+      faults = fault_if (not (is_new structs tag.bytes)) Redeclared tag.span ++ fault_if (not at_file) OutOfProfile first;
     }
+
+-- the same, with the faults of the body before it
+abbrev pub defined_by : Bool → Span → Word → Body → Naming
+defined_by at_file first tag body =
+    let n = defined at_file first tag body.structs body.fields in
+    record { structs = n.structs; types = n.types; faults = body.faults ++ n.faults }
 
 -- ---- the whole list
 
@@ -133,7 +139,7 @@ abbrev mutual
   named_by at_file first structs (attribute s names) = record { structs = structs; types = []; faults = [] }
   named_by at_file first structs (keyword s w) = record { structs = structs; types = []; faults = [] }
   named_by at_file first structs (structure s tag fs) =
-      if has_fields fs then defined at_file first tag (body_of structs [] fs) else referred structs tag
+      if has_fields fs then defined_by at_file first tag (body_of structs [] fs) else referred structs tag
 
   pub named_by_all : Bool → Span → Structs → SpecTrees → Naming
   named_by_all at_file first structs no_specs = record { structs = structs; types = []; faults = [] }
@@ -158,3 +164,7 @@ abbrev mutual
 
 abbrev pub specified : Bool → Structs → SpecTrees → Judged
 specified at_file structs specs = judged at_file specs (named_by_all at_file (first_of specs) structs specs)
+
+-- what a struct specifier names, with its body or without
+abbrev pub named_struct : Bool → Span → Structs → Word → FieldTrees → Naming
+named_struct at_file first structs tag fs = named_by at_file first structs (structure first tag fs)

@@ -5,6 +5,7 @@ ghost use Rattle.declared_types.specs.Marks.{attribute_of};
 ghost use Rattle.declared_types.specs.Words.{storage_limit};
 ghost use Rattle.declared_types.specs.Specifiers as is;
 
+use crate::bodies::named_types;
 use crate::fault::{FaultKind, TypeFault, note_if};
 use crate::marks::{Attribute, Attributes, attribute_named};
 use crate::structs::Structs;
@@ -26,6 +27,23 @@ pub struct Specified {
     /// `extern` is among them.
     pub external: bool,
     pub attributes: Attributes,
+}
+
+/// What a list of specifiers says, which stands at file scope or elsewhere. The structs that it
+/// declares come into the table, and its faults to the end of `faults`.
+pub fn judge_specifiers(
+    alloc: Global,
+    structs: &mut Structs,
+    at_file: bool,
+    specs: &[Spec],
+    faults: &mut Vec<TypeFault>,
+) -> Result<Specified, AllocError>
+    ensures given { IfOk result (λ g. g ≡ (is.specified at_file structs.old (view_specs specs.now)).given) }
+    ensures structs { OnOk result (structs.new ≡ (is.specified at_file structs.old (view_specs specs.now)).structs) }
+    ensures faults { OnOk result (faults.new.items ≡ faults.old.items ++ (is.specified at_file structs.old (view_specs specs.now)).faults) }
+{
+    let types = named_types(alloc, structs, at_file, specs, faults)?;
+    judged(alloc, at_file, specs, &types, faults)
 }
 
 /// What a list of specifiers says, by the types that its struct specifiers name.
