@@ -113,28 +113,19 @@ fn has_declassify(attributes: &[Attribute]) -> bool
 fn is_priv_mark(mark: Mark) -> bool
     ensures { result ≡ is_priv mark }
 {
-    match mark {
-        Mark::Priv => true,
-        _ => false,
-    }
+    matches!(mark, Mark::Priv)
 }
 
 fn is_unpriv_mark(mark: Mark) -> bool
     ensures { result ≡ is_unpriv mark }
 {
-    match mark {
-        Mark::Unpriv => true,
-        _ => false,
-    }
+    matches!(mark, Mark::Unpriv)
 }
 
 fn is_declassify_mark(mark: Mark) -> bool
     ensures { result ≡ is_declassify mark }
 {
-    match mark {
-        Mark::Declassify => true,
-        _ => false,
-    }
+    matches!(mark, Mark::Declassify)
 }
 
 /// Whether the attribute may stand before this, where `marked` says whether `priv` stands in the

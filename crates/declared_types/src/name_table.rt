@@ -35,7 +35,7 @@ impl<V: Drop> NameTable<V> {
     }
 
     /// How many names there are.
-    pub fn len(&self) -> u32
+    pub fn count(&self) -> u32
         ensures { result ≡ length self.now }
     {
         self.entries.len() as u32
@@ -83,7 +83,7 @@ impl<V: Drop> NameTable<V> {
         if self.number_of(name).is_some() {
             return Ok(false);
         }
-        if self.len() == u32::MAX {
+        if self.count() == u32::MAX {
             return Err(AllocError);
         }
         self.entries.insert(Vec::from_slice(alloc, name)?, value)?;

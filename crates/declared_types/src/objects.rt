@@ -27,66 +27,45 @@ impl ObjectKind {
     fn is_global(self) -> bool
         ensures { result ≡ is.is_global self }
     {
-        match self {
-            ObjectKind::Global => true,
-            _ => false,
-        }
+        matches!(self, ObjectKind::Global)
     }
 
     fn is_parameter(self) -> bool
         ensures { result ≡ is.is_parameter self }
     {
-        match self {
-            ObjectKind::Parameter => true,
-            _ => false,
-        }
+        matches!(self, ObjectKind::Parameter)
     }
 
     fn may_be_pointer(self) -> bool
         ensures { result ≡ is.may_be_pointer self }
     {
-        match self {
-            ObjectKind::Local | ObjectKind::Parameter => true,
-            ObjectKind::Global | ObjectKind::Field => false,
-        }
+        matches!(self, ObjectKind::Local | ObjectKind::Parameter)
     }
 }
 
 fn is_void(ty: Type) -> bool
     ensures { result ≡ is.is_void ty }
 {
-    match ty {
-        Type::Void => true,
-        _ => false,
-    }
+    matches!(ty, Type::Void)
 }
 
 fn is_struct(ty: Type) -> bool
     ensures { result ≡ is.is_struct ty }
 {
-    match ty {
-        Type::Struct(_) => true,
-        _ => false,
-    }
+    matches!(ty, Type::Struct(_))
 }
 
 fn is_pointer(ty: Type) -> bool
     ensures { result ≡ is.is_pointer ty }
 {
-    match ty {
-        Type::Pointer { .. } => true,
-        _ => false,
-    }
+    matches!(ty, Type::Pointer { .. })
 }
 
 /// Whether an array stands behind the name.
 fn is_array_form(suffix: Suffix) -> bool
     ensures { result ≡ is.is_array_form suffix }
 {
-    match suffix {
-        Suffix::Plain => false,
-        Suffix::Open | Suffix::Sized(_) => true,
-    }
+    matches!(suffix, Suffix::Open | Suffix::Sized(_))
 }
 
 /// Whether an array's size is wanting where it must be, or isn't at least 1.
