@@ -4,7 +4,8 @@ use Rattle.std.specs.List.{list_any}
 use Rattle.pt_base.specs.declared.span.Span.{Span}
 use Rattle.pt_tree.specs.declared.word.Word.{Word}
 use Rattle.pt_tree.specs.declared.specifier.SpecWord.{SpecWord}
-use Rattle.pt_tree.specs.SpecifierTree.{SpecTree, SpecTrees, FieldTree, FieldTrees, attribute, keyword, structure, no_specs, spec_and, field, no_fields, field_and}
+use Rattle.pt_tree.specs.declared.specifier.FieldDecl.{FieldDecl}
+use Rattle.pt_tree.specs.SpecifierTree.{SpecTree, SpecTrees, FieldTree, FieldTrees, attribute, keyword, structure, no_specs, spec_and, field, no_fields, field_and, view_field, field_trees}
 use Rattle.type_rules.specs.declared.types.Type.{«Type»}
 use Rattle.type_rules.specs.declared.types.Type.TheVariants as ty
 use Rattle.declared_types.specs.declared.fault.TypeFault.{TypeFault}
@@ -129,6 +130,10 @@ judged at_file specs n = record {
   faults = n.faults ++ word_faults at_file specs n.types;
 }
 
+-- the declarations of a struct's body
+abbrev pub view_body : List FieldDecl → FieldTrees
+view_body body = field_trees (map view_field body)
+
 abbrev pub has_fields : FieldTrees → Bool
 has_fields no_fields = false
 has_fields (field_and f rest) = true
@@ -162,9 +167,13 @@ abbrev mutual
       let rest = body_of one.structs one.fields fs in
       record { structs = rest.structs; fields = rest.fields; faults = one.faults ++ rest.faults }
 
+-- what the struct specifiers of a list name
+abbrev pub named_types : Bool → Structs → SpecTrees → Naming
+named_types at_file structs specs = named_by_all at_file (first_of specs) structs specs
+
 abbrev pub specified : Bool → Structs → SpecTrees → Judged
-specified at_file structs specs = judged at_file specs (named_by_all at_file (first_of specs) structs specs)
+specified at_file structs specs = judged at_file specs (named_types at_file structs specs)
 
 -- what a struct specifier names, with its body or without
-abbrev pub named_struct : Bool → Span → Structs → Word → FieldTrees → Naming
-named_struct at_file first structs tag fs = named_by at_file first structs (structure first tag fs)
+abbrev pub named_struct : Bool → Span → Structs → Word → List FieldDecl → Naming
+named_struct at_file first structs tag body = named_by at_file first structs (structure first tag (view_body body))

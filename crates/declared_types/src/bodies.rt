@@ -1,6 +1,6 @@
 // The struct specifiers of a declaration, and the structs that they declare (C99 6.7.2.1, 6.7.2.3).
-ghost use Rattle.std.specs.Prelude.{◌≡◌, ◌++◌, [], ◌∷◌, map, IfOk, OnOk};
-ghost use Rattle.pt_tree.specs.SpecifierTree.{view_spec, view_specs, view_field, field_trees};
+ghost use Rattle.std.specs.Prelude.{◌≡◌, ◌++◌, [], ◌∷◌, IfOk, OnOk};
+ghost use Rattle.pt_tree.specs.SpecifierTree.{view_spec, view_specs, view_field};
 ghost use Rattle.declared_types.specs.Specifiers as is;
 
 use crate::fault::{FaultKind, TypeFault, note_if};
@@ -23,9 +23,13 @@ pub(crate) fn named_types(
     specs: &[Spec],
     faults: &mut Vec<TypeFault>,
 ) -> Result<Vec<Type>, AllocError>
-    ensures types { IfOk result (λ types. types.items ≡ (is.named_by_all at_file (is.first_of (view_specs specs.now)) structs.old (view_specs specs.now)).types) }
-    ensures structs { OnOk result (structs.new ≡ (is.named_by_all at_file (is.first_of (view_specs specs.now)) structs.old (view_specs specs.now)).structs) }
-    ensures faults { OnOk result (faults.new.items ≡ faults.old.items ++ (is.named_by_all at_file (is.first_of (view_specs specs.now)) structs.old (view_specs specs.now)).faults) }
+    ensures types { IfOk result (λ types.
+        types.items ≡ (is.named_types at_file structs.old (view_specs specs.now)).types) }
+    ensures structs { OnOk result (
+        structs.new ≡ (is.named_types at_file structs.old (view_specs specs.now)).structs) }
+    ensures faults { OnOk result (
+        faults.new.items ≡ faults.old.items
+        ++ (is.named_types at_file structs.old (view_specs specs.now)).faults) }
 {
     let first = first_of(specs);
     let mut types = Vec::new(alloc);
@@ -46,9 +50,13 @@ fn add_named(
     types: &mut Vec<Type>,
     faults: &mut Vec<TypeFault>,
 ) -> Result<(), AllocError>
-    ensures types { OnOk result (types.new.items ≡ types.old.items ++ (is.named_by at_file first structs.old (view_spec spec.now)).types) }
-    ensures structs { OnOk result (structs.new ≡ (is.named_by at_file first structs.old (view_spec spec.now)).structs) }
-    ensures faults { OnOk result (faults.new.items ≡ faults.old.items ++ (is.named_by at_file first structs.old (view_spec spec.now)).faults) }
+    ensures types { OnOk result (types.new.items
+        ≡ types.old.items ++ (is.named_by at_file first structs.old (view_spec spec.now)).types) }
+    ensures structs { OnOk result (
+        structs.new ≡ (is.named_by at_file first structs.old (view_spec spec.now)).structs) }
+    ensures faults { OnOk result (
+        faults.new.items ≡ faults.old.items
+        ++ (is.named_by at_file first structs.old (view_spec spec.now)).faults) }
 {
     match spec {
         Spec::Attribute(_, _) => {}
@@ -73,9 +81,13 @@ fn structure(
     body: &[FieldDecl],
     faults: &mut Vec<TypeFault>,
 ) -> Result<Type, AllocError>
-    ensures types { IfOk result (λ t. t ∷ [] ≡ (is.named_struct at_file first structs.old tag.now (field_trees (map view_field body.now))).types) }
-    ensures structs { OnOk result (structs.new ≡ (is.named_struct at_file first structs.old tag.now (field_trees (map view_field body.now))).structs) }
-    ensures faults { OnOk result (faults.new.items ≡ faults.old.items ++ (is.named_struct at_file first structs.old tag.now (field_trees (map view_field body.now))).faults) }
+    ensures types { IfOk result (λ t.
+        t ∷ [] ≡ (is.named_struct at_file first structs.old tag.now body.now).types) }
+    ensures structs { OnOk result (
+        structs.new ≡ (is.named_struct at_file first structs.old tag.now body.now).structs) }
+    ensures faults { OnOk result (
+        faults.new.items ≡ faults.old.items
+        ++ (is.named_struct at_file first structs.old tag.now body.now).faults) }
 {
     if body.is_empty() {
         return refer(structs, tag, faults);
@@ -92,9 +104,13 @@ fn fields_of(
     body: &[FieldDecl],
     faults: &mut Vec<TypeFault>,
 ) -> Result<Fields, AllocError>
-    ensures fields { IfOk result (λ fields. fields ≡ (is.body_of structs.old [] (field_trees (map view_field body.now))).fields) }
-    ensures structs { OnOk result (structs.new ≡ (is.body_of structs.old [] (field_trees (map view_field body.now))).structs) }
-    ensures faults { OnOk result (faults.new.items ≡ faults.old.items ++ (is.body_of structs.old [] (field_trees (map view_field body.now))).faults) }
+    ensures fields { IfOk result (λ fields.
+        fields ≡ (is.body_of structs.old [] (is.view_body body.now)).fields) }
+    ensures structs { OnOk result (
+        structs.new ≡ (is.body_of structs.old [] (is.view_body body.now)).structs) }
+    ensures faults { OnOk result (
+        faults.new.items ≡ faults.old.items
+        ++ (is.body_of structs.old [] (is.view_body body.now)).faults) }
 {
     let mut fields = NameTable::new(alloc);
     for declaration in body {
@@ -112,20 +128,33 @@ fn add_declaration(
     declaration: &FieldDecl,
     faults: &mut Vec<TypeFault>,
 ) -> Result<(), AllocError>
-    ensures fields { OnOk result (fields.new ≡ (is.with_field structs.old fields.old (view_field declaration.now)).fields) }
-    ensures structs { OnOk result (structs.new ≡ (is.with_field structs.old fields.old (view_field declaration.now)).structs) }
-    ensures faults { OnOk result (faults.new.items ≡ faults.old.items ++ (is.with_field structs.old fields.old (view_field declaration.now)).faults) }
+    ensures fields { OnOk result (
+        fields.new ≡ (is.with_field structs.old fields.old (view_field declaration.now)).fields) }
+    ensures structs { OnOk result (
+        structs.new ≡ (is.with_field structs.old fields.old (view_field declaration.now)).structs) }
+    ensures faults { OnOk result (
+        faults.new.items ≡ faults.old.items
+        ++ (is.with_field structs.old fields.old (view_field declaration.now)).faults) }
 {
     let types = named_types(alloc, structs, false, &declaration.specs, faults)?;
     let given = judged(alloc, false, &declaration.specs, &types, faults)?;
     note_attributes(faults, Carrier::Field, given.attributes.as_slice())?;
-    add_fields(alloc, structs, &given, fields, &declaration.declarators, faults)
+    add_fields(
+        alloc,
+        structs,
+        &given,
+        fields,
+        &declaration.declarators,
+        faults,
+    )
 }
 
 /// The type of the struct with this tag; a fault at the tag where none is declared.
 fn refer(structs: &Structs, tag: &Word, faults: &mut Vec<TypeFault>) -> Result<Type, AllocError>
     ensures types { IfOk result (λ t. t ∷ [] ≡ (is.referred structs.now tag.now).types) }
-    ensures faults { OnOk result (faults.new.items ≡ faults.old.items ++ (is.referred structs.now tag.now).faults) }
+    ensures faults { OnOk result (
+        faults.new.items ≡ faults.old.items
+        ++ (is.referred structs.now tag.now).faults) }
 {
     let ty = struct_named(structs, tag.bytes.as_slice());
     let unknown = structs.number_of(tag.bytes.as_slice()).is_none();
@@ -144,9 +173,13 @@ fn define(
     fields: Fields,
     faults: &mut Vec<TypeFault>,
 ) -> Result<Type, AllocError>
-    ensures types { IfOk result (λ t. t ∷ [] ≡ (is.defined at_file first tag.now structs.old fields).types) }
-    ensures structs { OnOk result (structs.new ≡ (is.defined at_file first tag.now structs.old fields).structs) }
-    ensures faults { OnOk result (faults.new.items ≡ faults.old.items ++ (is.defined at_file first tag.now structs.old fields).faults) }
+    ensures types { IfOk result (λ t.
+        t ∷ [] ≡ (is.defined at_file first tag.now structs.old fields).types) }
+    ensures structs { OnOk result (
+        structs.new ≡ (is.defined at_file first tag.now structs.old fields).structs) }
+    ensures faults { OnOk result (
+        faults.new.items ≡ faults.old.items
+        ++ (is.defined at_file first tag.now structs.old fields).faults) }
 {
     let is_new = declare_struct(alloc, structs, tag.bytes.as_slice(), fields)?;
     note_if(faults, !is_new, FaultKind::Redeclared, tag.span)?;

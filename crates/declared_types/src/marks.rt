@@ -35,7 +35,9 @@ pub enum Carrier {
     /// The declaration of a struct's field.
     Field,
     /// A function or a host.
-    Function { privileged: bool },
+    Function {
+        privileged: bool,
+    },
     /// A parameter of a function or a host. `returns` is a pointer whose pointee isn't const, so
     /// that values come back through it.
     Parameter {
@@ -159,7 +161,9 @@ pub fn note_attributes(
     carrier: Carrier,
     attributes: &[Attribute],
 ) -> Result<(), AllocError>
-    ensures { OnOk result (faults.new.items ≡ faults.old.items ++ mark_faults carrier attributes.now) }
+    ensures { OnOk result (
+        faults.new.items ≡ faults.old.items
+        ++ mark_faults carrier attributes.now) }
 {
     let marked = has_priv(attributes);
     for a in attributes {

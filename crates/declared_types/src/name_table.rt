@@ -22,8 +22,8 @@ impl<V: Drop> Model for NameTable<V> {
 }
 
 impl<V: Drop> NameTable<V> {
-    ghost use Rattle.std.specs.Prelude.{◌≡◌, ◌^◌, ◌<◌, [], length, option_copied, option_map, slice_get, is_none, OnOk, OnErr, IfOk};
-    ghost use Rattle.declared_types.specs.NameTables.{number_of, value_at, values, with_name, is_new};
+    ghost use Rattle.std.specs.Prelude.{◌≡◌, ◌^◌, ◌<◌, [], length, option_copied, option_map, is_none, OnOk, OnErr, IfOk};
+    ghost use Rattle.declared_types.specs.NameTables.{number_of, value_at, name_at, values, with_name, is_new};
 
     /// A table of no names.
     pub fn new(alloc: Global) -> NameTable<V>
@@ -59,7 +59,7 @@ impl<V: Drop> NameTable<V> {
 
     /// The name with this number.
     pub fn name(&self, number: u32) -> Option<&[u8]>
-        ensures { option_map (λ name. name.now) result ≡ option_map (λ e. e.0) (slice_get self.now number) }
+        ensures { option_map (λ name. name.now) result ≡ name_at self.now number }
     {
         let (name, _) = self.entries.get_index(number as usize)?;
         Some(name.as_slice())

@@ -108,7 +108,9 @@ pub fn note_object(
     suffix: Suffix,
     at: Span,
 ) -> Result<(), AllocError>
-    ensures { OnOk result (faults.new.items ≡ faults.old.items ++ is.object_faults kind given.now pointer suffix at) }
+    ensures { OnOk result (
+        faults.new.items ≡ faults.old.items
+        ++ is.object_faults kind given.now pointer suffix at) }
 {
     let wrong_base = is_wrong_base(kind, given);
     let wrong_form = is_wrong_form(kind, given.base, pointer, suffix);
@@ -202,7 +204,9 @@ pub fn note_size(
     ty: Type,
     at: Span,
 ) -> Result<(), AllocError>
-    ensures { OnOk result (faults.new.items ≡ faults.old.items ++ is.size_faults structs.now ty at) }
+    ensures { OnOk result (
+        faults.new.items ≡ faults.old.items
+        ++ is.size_faults structs.now ty at) }
 {
     let wrong = cells_of(structs, ty) > OBJECT_LIMIT;
     note_if(faults, wrong, FaultKind::TooLarge, at)
@@ -224,7 +228,9 @@ pub fn note_result(
     suffix: Suffix,
     at: Span,
 ) -> Result<(), AllocError>
-    ensures { OnOk result (faults.new.items ≡ faults.old.items ++ is.result_faults given.now pointer suffix at) }
+    ensures { OnOk result (
+        faults.new.items ≡ faults.old.items
+        ++ is.result_faults given.now pointer suffix at) }
 {
     let wrong = is_wrong_result(given.base, pointer, suffix);
     note_if(faults, wrong, FaultKind::OutOfProfile, at)

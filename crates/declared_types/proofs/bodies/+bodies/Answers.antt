@@ -34,7 +34,7 @@ structure-returns-clause-structs t c =
 pub structure-returns-clause-faults : goal.structure-returns-clause-faults
 structure-returns-clause-faults t c =
     let some : nat_eq (length c.args.body.now) 0 ≡ false = grind arith in
-    let body = is.body_of c.args.structs.now [] (field_trees (map view_field c.args.body.now)) in
+    let body = is.body_of c.args.structs.now [] (is.view_body c.args.body.now) in
     let n = is.defined c.args.at_file c.args.first c.args.tag.now c.fields_of.new.structs c.in_ok-fields.fields in
     subst (λ x. OnOk c.define.result (c.define.new.faults.items ≡ c.args.faults.now.items ++ x.faults)) (sym (named_with_body c.args.at_file c.args.first c.args.structs.now c.fields_of.new.structs c.args.tag.now c.args.body.now c.in_ok-fields.fields some c.in_ok-fields.ensures.structs c.in_ok-fields.ensures.fields))
     (on_ok c.define.result (λ e. e ∙ ap (λ xs. xs ++ n.faults) c.in_ok-fields.ensures.faults ∙ append_assoc c.args.faults.now.items body.faults n.faults) c.define.ensures.faults)
