@@ -1,10 +1,23 @@
 // What declarations are judged to be, on lists of specifiers that are built by hand.
+mod declarators;
+
 use super::*;
-use pt_base::{Bytes, IntType, Listed, Span};
-use pt_tree::{Constant, Declarator, Elem, FieldDecl, Spec, SpecWord, Suffix, Word};
+use pt_base::IntType::{Char, Int, Long, SChar, Short, UChar, UInt, ULong, UShort};
+use pt_base::{Bytes, Listed, Span};
+use pt_tree::{
+    Constant, Declarator, Elem, FieldDecl, Spec, SpecWord, SpecWord as Is, Suffix, Word,
+};
 use std::alloc::{AllocError, Global};
+use std::process::Abort;
 use std::test::Fail;
 use type_rules::Type;
+
+const INT: Type = Type::Int(Int);
+
+const CHARS: Type = Type::Array {
+    elem: Elem::Int(Char),
+    count: 3,
+};
 
 // the stretch of two bytes from here on
 fn at(from: u32) -> Span {
@@ -57,14 +70,14 @@ fn sized(value: i128) -> Suffix {
     Suffix::Sized(Constant {
         span: at(900),
         value,
-        ty: IntType::Int,
+        ty: Int,
     })
 }
 
-// a field's declaration with one declarator at this place
+// a field's declaration of keywords and one declarator at this place
 fn field(
     alloc: Global,
-    specs: Vec<Spec>,
+    words: &[SpecWord],
     from: u32,
     name: &str,
     suffix: Suffix,
@@ -78,7 +91,7 @@ fn field(
     })?;
     Ok(FieldDecl {
         span: at(from),
-        specs,
+        specs: keywords(alloc, words)?,
         declarators,
     })
 }
@@ -90,344 +103,259 @@ fn structure(alloc: Global, tag: &str, body: Vec<FieldDecl>) -> Result<Vec<Spec>
     Ok(specs)
 }
 
-// `struct pair { int x; const short z[3]; }`
-fn pair(alloc: Global) -> Result<Vec<Spec>, AllocError> {
+// `struct TAG { int x; SECOND }`
+fn pair(alloc: Global, tag: &str, second: FieldDecl) -> Result<Vec<Spec>, AllocError> {
     let mut body = Vec::new(alloc);
-    let int = keywords(alloc, &[SpecWord::Int])?;
-    body.push(field(alloc, int, 60, "x", Suffix::Plain)?)?;
-    let short = keywords(alloc, &[SpecWord::Const, SpecWord::Short])?;
-    body.push(field(alloc, short, 62, "z", sized(3))?)?;
-    structure(alloc, "pair", body)
+    body.push(field(alloc, &[Is::Int], 60, "x", Suffix::Plain)?)?;
+    body.push(second)?;
+    structure(alloc, tag, body)
+}
+
+// the base of the specifiers, whose faults are these
+fn judged(
+    rt: &impl Abort,
+    structs: &mut Structs,
+    at_file: bool,
+    specs: &[Spec],
+    expected: &[TypeFault],
+    alloc: Global,
+) -> Result<Type, AllocError> {
+    let mut faults = Vec::new(alloc);
+    let given = judge_specifiers(alloc, structs, at_file, specs, &mut faults)?;
+    assert!(rt; faults.as_slice() == expected);
+    Ok(given.base)
+}
+
+// the keywords name this type
+fn name(rt: &impl Abort, alloc: Global, words: &[SpecWord], ty: Type) -> Result<(), AllocError> {
+    let mut structs = Structs::new(alloc);
+    let specs = keywords(alloc, words)?;
+    let base = judged(rt, &mut structs, true, &specs, &[], alloc)?;
+    assert_eq!(rt; base, ty);
+    Ok(())
+}
+
+// the keywords name no type there
+fn name_none(
+    rt: &impl Abort,
+    alloc: Global,
+    at_file: bool,
+    words: &[SpecWord],
+) -> Result<(), AllocError> {
+    let mut structs = Structs::new(alloc);
+    let specs = keywords(alloc, words)?;
+    let expected = [fault(FaultKind::OutOfProfile, 0)];
+    let base = judged(rt, &mut structs, at_file, &specs, &expected, alloc)?;
+    assert_eq!(rt; base, Type::Bad);
+    Ok(())
 }
 
 #[test]
-fn type_words_name_types_in_any_order(rt: HostRuntime) -> Result<(), Fail> {
-    use SpecWord::{Char, Const, Int, Long, Short, Signed, Unsigned, Void};
-    let cases: [(&[SpecWord], Type); 23] = [
-        (&[Void], Type::Void),
-        (&[Char], Type::Int(IntType::Char)),
-        (&[Char, Signed], Type::Int(IntType::SChar)),
-        (&[Unsigned, Char], Type::Int(IntType::UChar)),
-        (&[Short], Type::Int(IntType::Short)),
-        (&[Short, Signed], Type::Int(IntType::Short)),
-        (&[Int, Short], Type::Int(IntType::Short)),
-        (&[Int, Signed, Short], Type::Int(IntType::Short)),
-        (&[Short, Unsigned], Type::Int(IntType::UShort)),
-        (&[Unsigned, Int, Short], Type::Int(IntType::UShort)),
-        (&[Int], Type::Int(IntType::Int)),
-        (&[Signed], Type::Int(IntType::Int)),
-        (&[Int, Signed], Type::Int(IntType::Int)),
-        (&[Unsigned], Type::Int(IntType::UInt)),
-        (&[Int, Unsigned], Type::Int(IntType::UInt)),
-        (&[Long], Type::Int(IntType::Long)),
-        (&[Signed, Long], Type::Int(IntType::Long)),
-        (&[Long, Int], Type::Int(IntType::Long)),
-        (&[Int, Long, Signed], Type::Int(IntType::Long)),
-        (&[Unsigned, Long], Type::Int(IntType::ULong)),
-        (&[Long, Int, Unsigned], Type::Int(IntType::ULong)),
-        (&[Const, Int, Const], Type::Int(IntType::Int)),
-        (&[Char, Const], Type::Int(IntType::Char)),
-    ];
+fn void_and_the_kinds_of_char(rt: HostRuntime) -> Result<(), Fail> {
     let alloc = rt.alloc();
-    for (words, ty) in cases {
-        let mut structs = Structs::new(alloc);
-        let mut faults = Vec::new(alloc);
-        let specs = keywords(alloc, words)?;
-        let given = judge_specifiers(alloc, &mut structs, true, &specs, &mut faults)?;
-        assert_eq!(rt; given.base, ty);
-        assert!(rt; faults.is_empty());
-    }
+    name(&rt, alloc, &[Is::Void], Type::Void)?;
+    name(&rt, alloc, &[Is::Char], Type::Int(Char))?;
+    name(&rt, alloc, &[Is::Char, Is::Signed], Type::Int(SChar))?;
+    name(&rt, alloc, &[Is::Unsigned, Is::Char], Type::Int(UChar))?;
+    Ok(())
+}
+
+#[test]
+fn the_kinds_of_short(rt: HostRuntime) -> Result<(), Fail> {
+    let alloc = rt.alloc();
+    name(&rt, alloc, &[Is::Short], Type::Int(Short))?;
+    name(&rt, alloc, &[Is::Short, Is::Signed], Type::Int(Short))?;
+    name(&rt, alloc, &[Is::Int, Is::Short], Type::Int(Short))?;
+    name(
+        &rt,
+        alloc,
+        &[Is::Int, Is::Signed, Is::Short],
+        Type::Int(Short),
+    )?;
+    name(&rt, alloc, &[Is::Short, Is::Unsigned], Type::Int(UShort))?;
+    name(
+        &rt,
+        alloc,
+        &[Is::Unsigned, Is::Int, Is::Short],
+        Type::Int(UShort),
+    )?;
+    Ok(())
+}
+
+#[test]
+fn the_kinds_of_int(rt: HostRuntime) -> Result<(), Fail> {
+    let alloc = rt.alloc();
+    name(&rt, alloc, &[Is::Const, Is::Int, Is::Const], INT)?;
+    name(&rt, alloc, &[Is::Signed], INT)?;
+    name(&rt, alloc, &[Is::Int, Is::Signed], INT)?;
+    name(&rt, alloc, &[Is::Static, Is::Unsigned], Type::Int(UInt))?;
+    name(&rt, alloc, &[Is::Int, Is::Unsigned], Type::Int(UInt))?;
+    Ok(())
+}
+
+#[test]
+fn the_kinds_of_long(rt: HostRuntime) -> Result<(), Fail> {
+    let alloc = rt.alloc();
+    name(&rt, alloc, &[Is::Long], Type::Int(Long))?;
+    name(&rt, alloc, &[Is::Signed, Is::Long], Type::Int(Long))?;
+    name(&rt, alloc, &[Is::Long, Is::Int], Type::Int(Long))?;
+    name(
+        &rt,
+        alloc,
+        &[Is::Int, Is::Long, Is::Signed],
+        Type::Int(Long),
+    )?;
+    name(&rt, alloc, &[Is::Unsigned, Is::Long], Type::Int(ULong))?;
+    name(
+        &rt,
+        alloc,
+        &[Is::Long, Is::Int, Is::Unsigned],
+        Type::Int(ULong),
+    )?;
     Ok(())
 }
 
 #[test]
 fn other_words_are_out_of_profile(rt: HostRuntime) -> Result<(), Fail> {
-    use SpecWord::{Char, Const, Extern, Int, Long, Short, Signed, Static, Unsigned, Void};
-    let cases: [(bool, &[SpecWord]); 11] = [
-        (true, &[Const]),
-        (true, &[Long, Long]),
-        (true, &[Char, Int]),
-        (true, &[Signed, Unsigned]),
-        (true, &[Signed, Int, Signed]),
-        (true, &[Void, Int]),
-        (true, &[Short, Long]),
-        (true, &[Static, Extern, Int]),
-        (true, &[Static, Int, Static]),
-        (false, &[Int, Static]),
-        (false, &[Extern, Int]),
-    ];
     let alloc = rt.alloc();
-    for (at_file, words) in cases {
-        let mut structs = Structs::new(alloc);
-        let mut faults = Vec::new(alloc);
-        let specs = keywords(alloc, words)?;
-        let given = judge_specifiers(alloc, &mut structs, at_file, &specs, &mut faults)?;
-        assert_eq!(rt; given.base, Type::Bad);
-        assert!(rt; faults.as_slice() == [fault(FaultKind::OutOfProfile, 0)].as_slice());
-    }
+    name_none(&rt, alloc, true, &[Is::Const])?;
+    name_none(&rt, alloc, true, &[Is::Long, Is::Long])?;
+    name_none(&rt, alloc, true, &[Is::Char, Is::Int])?;
+    name_none(&rt, alloc, true, &[Is::Signed, Is::Unsigned])?;
+    name_none(&rt, alloc, true, &[Is::Void, Is::Int])?;
     Ok(())
 }
 
 #[test]
-fn a_storage_word_and_const_stand_at_file_scope(rt: HostRuntime) -> Result<(), Fail> {
+fn one_storage_word_stands_at_file_scope_alone(rt: HostRuntime) -> Result<(), Fail> {
+    let alloc = rt.alloc();
+    name_none(&rt, alloc, true, &[Is::Static, Is::Extern, Is::Int])?;
+    name_none(&rt, alloc, true, &[Is::Static, Is::Int, Is::Static])?;
+    name_none(&rt, alloc, false, &[Is::Int, Is::Static])?;
+    name_none(&rt, alloc, false, &[Is::Extern, Is::Int])?;
+    Ok(())
+}
+
+#[test]
+fn extern_and_const_are_told(rt: HostRuntime) -> Result<(), Fail> {
     let alloc = rt.alloc();
     let mut structs = Structs::new(alloc);
     let mut faults = Vec::new(alloc);
-    let words = [SpecWord::Extern, SpecWord::Const, SpecWord::Int];
-    let specs = keywords(alloc, &words)?;
+    let specs = keywords(alloc, &[Is::Extern, Is::Const, Is::Int])?;
     let given = judge_specifiers(alloc, &mut structs, true, &specs, &mut faults)?;
     assert!(rt; given.external && given.fixed);
     assert_eq!(rt; given.first, at(0));
-    assert_eq!(rt; given.base, Type::Int(IntType::Int));
     assert!(rt; given.attributes.as_slice().is_empty());
-    assert!(rt; faults.is_empty());
     Ok(())
+}
+
+// a table with `struct pair { int x; const char z[3]; }` alone
+fn declared(rt: &impl Abort, alloc: Global) -> Result<Structs, AllocError> {
+    let mut structs = Structs::new(alloc);
+    let second = field(alloc, &[Is::Const, Is::Char], 62, "z", sized(3))?;
+    let specs = pair(alloc, "pair", second)?;
+    let base = judged(rt, &mut structs, true, &specs, &[], alloc)?;
+    assert_eq!(rt; base, Type::Struct(0));
+    Ok(structs)
 }
 
 #[test]
 fn a_body_declares_a_struct(rt: HostRuntime) -> Result<(), Fail> {
-    let alloc = rt.alloc();
-    let mut structs = Structs::new(alloc);
-    let mut faults = Vec::new(alloc);
-    let specs = pair(alloc)?;
-    let given = judge_specifiers(alloc, &mut structs, true, &specs, &mut faults)?;
-    assert!(rt; faults.is_empty());
-    assert_eq!(rt; given.base, Type::Struct(0));
+    let structs = declared(&rt, rt.alloc())?;
     assert_eq!(rt; struct_named(&structs, b"pair"), Type::Struct(0));
     assert_eq!(rt; struct_named(&structs, b"pairs"), Type::Bad);
     assert_eq!(rt; cells_of(&structs, Type::Struct(0)), 4);
     assert!(rt; has_const(&structs, Type::Struct(0)));
+    Ok(())
+}
+
+#[test]
+fn fields_are_found_by_name(rt: HostRuntime) -> Result<(), Fail> {
+    let structs = declared(&rt, rt.alloc())?;
     let found = field_named(&structs, 0, b"z").ok_or("no field z")?;
     assert_eq!(rt; found.number, 1);
-    let ty = Type::Array {
-        elem: Elem::Int(IntType::Short),
-        count: 3,
-    };
-    assert_eq!(rt; found.entry.ty, ty);
+    assert_eq!(rt; found.entry.ty, CHARS);
     assert!(rt; found.entry.fixed && !found.entry.marked);
     assert!(rt; field_named(&structs, 0, b"y").is_none());
-    assert!(rt; field_named(&structs, 1, b"x").is_none());
     Ok(())
 }
 
 #[test]
-fn faults_of_struct_specifiers(rt: HostRuntime) -> Result<(), Fail> {
+fn a_tag_without_a_body_is_declared_before(rt: HostRuntime) -> Result<(), Fail> {
     let alloc = rt.alloc();
-    let mut structs = Structs::new(alloc);
-    let mut faults = Vec::new(alloc);
-    // no struct has the tag
+    let mut structs = declared(&rt, alloc)?;
     let specs = structure(alloc, "pair", Vec::new(alloc))?;
-    let given = judge_specifiers(alloc, &mut structs, true, &specs, &mut faults)?;
-    assert_eq!(rt; given.base, Type::Bad);
-    assert!(rt; faults.as_slice() == [fault(FaultKind::UnknownName, 52)].as_slice());
-    faults.clear();
-    // a body that doesn't stand at file scope declares its struct all the same
-    let specs = pair(alloc)?;
-    let given = judge_specifiers(alloc, &mut structs, false, &specs, &mut faults)?;
-    assert_eq!(rt; given.base, Type::Bad);
-    assert!(rt; faults.as_slice() == [fault(FaultKind::OutOfProfile, 50)].as_slice());
-    faults.clear();
-    // a second body of the tag: the first stays
-    let mut body = Vec::new(alloc);
-    let int = keywords(alloc, &[SpecWord::Int])?;
-    body.push(field(alloc, int, 60, "other", Suffix::Plain)?)?;
-    let specs = structure(alloc, "pair", body)?;
-    let given = judge_specifiers(alloc, &mut structs, true, &specs, &mut faults)?;
-    assert_eq!(rt; given.base, Type::Struct(0));
-    assert!(rt; faults.as_slice() == [fault(FaultKind::Redeclared, 52)].as_slice());
-    assert!(rt; field_named(&structs, 0, b"other").is_none());
-    assert_eq!(rt; structs.count(), 1);
+    let known = judged(&rt, &mut structs, false, &specs, &[], alloc)?;
+    assert_eq!(rt; known, Type::Struct(0));
+    let specs = structure(alloc, "list", Vec::new(alloc))?;
+    let expected = [fault(FaultKind::UnknownName, 52)];
+    let unknown = judged(&rt, &mut structs, true, &specs, &expected, alloc)?;
+    assert_eq!(rt; unknown, Type::Bad);
     Ok(())
 }
 
 #[test]
-fn faults_of_fields(rt: HostRuntime) -> Result<(), Fail> {
+fn a_body_elsewhere_declares_its_struct(rt: HostRuntime) -> Result<(), Fail> {
     let alloc = rt.alloc();
     let mut structs = Structs::new(alloc);
-    let mut faults = Vec::new(alloc);
-    let mut body = Vec::new(alloc);
-    let marked = attributed(alloc, &["priv", "unpriv"])?;
-    body.push(field(alloc, marked, 60, "key", Suffix::Plain)?)?;
-    let char = keywords(alloc, &[SpecWord::Char])?;
-    body.push(field(alloc, char, 62, "key", Suffix::Plain)?)?;
-    let char = keywords(alloc, &[SpecWord::Char])?;
-    body.push(field(alloc, char, 64, "large", sized(65_537))?)?;
-    let char = keywords(alloc, &[SpecWord::Char])?;
-    body.push(field(alloc, char, 66, "open", Suffix::Open)?)?;
-    let specs = structure(alloc, "keys", body)?;
-    judge_specifiers(alloc, &mut structs, true, &specs, &mut faults)?;
-    let expected = [
-        fault(FaultKind::BadAttribute, 102),
-        fault(FaultKind::Redeclared, 62),
-        fault(FaultKind::TooLarge, 64),
-        fault(FaultKind::OutOfProfile, 66),
-    ];
-    assert!(rt; faults.as_slice() == expected.as_slice());
-    let key = field_named(&structs, 0, b"key").ok_or("no field key")?;
-    assert!(rt; key.entry.marked);
-    assert_eq!(rt; key.entry.ty, Type::Int(IntType::Int));
-    let open = field_named(&structs, 0, b"open").ok_or("no field open")?;
-    assert_eq!(rt; open.number, 2);
-    assert_eq!(rt; open.entry.ty, Type::Bad);
+    let second = field(alloc, &[Is::Int], 62, "y", Suffix::Plain)?;
+    let specs = pair(alloc, "pair", second)?;
+    let expected = [fault(FaultKind::OutOfProfile, 50)];
+    let base = judged(&rt, &mut structs, false, &specs, &expected, alloc)?;
+    assert_eq!(rt; base, Type::Bad);
+    assert_eq!(rt; struct_named(&structs, b"pair"), Type::Struct(0));
+    Ok(())
+}
+
+#[test]
+fn of_two_structs_the_first_stays(rt: HostRuntime) -> Result<(), Fail> {
+    let alloc = rt.alloc();
+    let mut structs = declared(&rt, alloc)?;
+    let second = field(alloc, &[Is::Int], 62, "y", Suffix::Plain)?;
+    let specs = pair(alloc, "pair", second)?;
+    let expected = [fault(FaultKind::Redeclared, 52)];
+    let base = judged(&rt, &mut structs, true, &specs, &expected, alloc)?;
+    assert_eq!(rt; base, Type::Struct(0));
+    assert!(rt; field_named(&structs, 0, b"y").is_none());
+    Ok(())
+}
+
+#[test]
+fn of_two_fields_the_first_stays(rt: HostRuntime) -> Result<(), Fail> {
+    let alloc = rt.alloc();
+    let mut structs = Structs::new(alloc);
+    let second = field(alloc, &[Is::Char], 62, "x", Suffix::Plain)?;
+    let specs = pair(alloc, "twice", second)?;
+    let expected = [fault(FaultKind::Redeclared, 62)];
+    judged(&rt, &mut structs, true, &specs, &expected, alloc)?;
+    let found = field_named(&structs, 0, b"x").ok_or("no field x")?;
+    assert_eq!(rt; found.entry.ty, INT);
+    Ok(())
+}
+
+#[test]
+fn a_field_may_be_too_large(rt: HostRuntime) -> Result<(), Fail> {
+    let alloc = rt.alloc();
+    let mut structs = Structs::new(alloc);
+    let second = field(alloc, &[Is::Char], 62, "large", sized(65_537))?;
+    let specs = pair(alloc, "large", second)?;
+    let expected = [fault(FaultKind::TooLarge, 62)];
+    judged(&rt, &mut structs, true, &specs, &expected, alloc)?;
     assert_eq!(rt; cells_of(&structs, Type::Struct(0)), 65_538);
     Ok(())
 }
 
-// what `extern`, `const` and the base say, from 0 on
-fn given(alloc: Global, base: Type, fixed: bool, external: bool) -> Specified {
-    Specified {
-        first: at(0),
-        base,
-        fixed,
-        external,
-        attributes: Listed::new(Vec::new(alloc)),
-    }
-}
-
 #[test]
-fn declarators_shape_types(rt: HostRuntime) -> Result<(), Fail> {
-    use ObjectKind::{Field, Global, Local, Parameter};
-    let char = Type::Int(IntType::Char);
-    let elem = Elem::Int(IntType::Char);
-    let array = Type::Array { elem, count: 3 };
-    let pointer = Type::Pointer { elem, fixed: true };
-    let node = Type::Struct(1);
-    let nodes = Type::Array {
-        elem: Elem::Struct(1),
-        count: 1,
-    };
-    // the base is const: the object is const, but where it is a pointer, its pointee
-    let cases: [(ObjectKind, Type, bool, Suffix, Type, bool); 8] = [
-        (Global, char, false, Suffix::Plain, char, true),
-        (Local, char, false, sized(3), array, true),
-        (Field, node, false, sized(1), nodes, true),
-        (Local, node, false, Suffix::Plain, node, true),
-        (Local, char, true, Suffix::Plain, pointer, false),
-        (Parameter, char, true, Suffix::Plain, pointer, false),
-        (Parameter, char, false, Suffix::Open, pointer, false),
-        (Parameter, char, false, sized(3), pointer, false),
-    ];
-    let alloc = rt.alloc();
-    for (kind, base, star, suffix, ty, fixed) in cases {
-        let given = given(alloc, base, true, false);
-        let mut faults = Vec::new(alloc);
-        note_object(&mut faults, kind, &given, star, suffix, at(10))?;
-        assert!(rt; faults.is_empty());
-        assert_eq!(rt; object_type(kind, &given, star, suffix), ty);
-        assert_eq!(rt; is_fixed(kind, &given, star, suffix), fixed);
-    }
-    Ok(())
-}
-
-#[test]
-fn objects_out_of_profile(rt: HostRuntime) -> Result<(), Fail> {
-    use ObjectKind::{Field, Global, Local, Parameter};
-    let int = Type::Int(IntType::Int);
-    let plain = Suffix::Plain;
-    // where the fault stands: at the first specifier, or at the name
-    let cases: [(ObjectKind, Type, bool, Suffix, bool, u32); 10] = [
-        (Local, Type::Void, false, plain, false, 0),
-        (Parameter, Type::Void, true, plain, false, 0),
-        (Global, int, false, plain, true, 0),
-        (Global, int, true, plain, false, 10),
-        (Field, Type::Bad, true, plain, false, 10),
-        (Parameter, int, true, sized(2), false, 10),
-        (Local, int, false, Suffix::Open, false, 10),
-        (Local, int, false, sized(0), false, 10),
-        (Parameter, int, false, sized(0), false, 10),
-        (Parameter, Type::Struct(0), false, plain, false, 10),
-    ];
-    let alloc = rt.alloc();
-    for (kind, base, star, suffix, external, from) in cases {
-        let given = given(alloc, base, false, external);
-        let mut faults = Vec::new(alloc);
-        note_object(&mut faults, kind, &given, star, suffix, at(10))?;
-        assert!(rt; faults.as_slice() == [fault(FaultKind::OutOfProfile, from)].as_slice());
-        assert_eq!(rt; object_type(kind, &given, star, suffix), Type::Bad);
-    }
-    Ok(())
-}
-
-#[test]
-fn results_are_integers_or_void(rt: HostRuntime) -> Result<(), Fail> {
-    let int = Type::Int(IntType::Int);
-    let plain = Suffix::Plain;
-    let cases: [(Type, bool, Suffix, Type, bool); 7] = [
-        (int, false, plain, int, false),
-        (Type::Void, false, plain, Type::Void, false),
-        (Type::Bad, false, plain, Type::Bad, false),
-        (Type::Void, true, plain, Type::Bad, true),
-        (int, true, plain, Type::Bad, true),
-        (Type::Struct(0), false, plain, Type::Bad, true),
-        (int, false, Suffix::Open, Type::Bad, true),
-    ];
-    let alloc = rt.alloc();
-    for (base, star, suffix, ty, wrong) in cases {
-        let given = given(alloc, base, false, true);
-        let mut faults = Vec::new(alloc);
-        note_result(&mut faults, &given, star, suffix, at(10))?;
-        assert_eq!(rt; !faults.is_empty(), wrong);
-        assert!(rt; !wrong || faults.as_slice() == [fault(FaultKind::OutOfProfile, 10)].as_slice());
-        assert_eq!(rt; result_type(&given, star, suffix), ty);
-    }
-    Ok(())
-}
-
-#[test]
-fn an_object_has_65536_cells_at_most(rt: HostRuntime) -> Result<(), Fail> {
-    let alloc = rt.alloc();
-    let structs = Structs::new(alloc);
-    let elem = Elem::Int(IntType::Char);
-    let mut faults = Vec::new(alloc);
-    for count in [65_536, 65_537] {
-        note_size(
-            &mut faults,
-            &structs,
-            Type::Array { elem, count },
-            at(count),
-        )?;
-    }
-    assert!(rt; faults.as_slice() == [fault(FaultKind::TooLarge, 65_537)].as_slice());
-    Ok(())
-}
-
-#[test]
-fn attributes_stand_where_they_may(rt: HostRuntime) -> Result<(), Fail> {
-    let parameter = |privileged, host, returns| Carrier::Parameter {
-        privileged,
-        host,
-        returns,
-    };
-    let names = ["priv", "unpriv", "declassify", "packed"];
-    // whether each name may stand alone before this
-    let cases: [(Carrier, [bool; 4]); 9] = [
-        (Carrier::Object, [true, true, false, false]),
-        (Carrier::Field, [true, false, false, false]),
-        (
-            Carrier::Function { privileged: false },
-            [true, false, false, false],
-        ),
-        (
-            Carrier::Function { privileged: true },
-            [true, false, true, false],
-        ),
-        (parameter(false, false, true), [true, true, false, false]),
-        (parameter(false, true, false), [true, false, false, false]),
-        (parameter(true, false, true), [true, false, true, false]),
-        (parameter(true, false, false), [true, false, false, false]),
-        (Carrier::Nothing, [false, false, false, false]),
-    ];
+fn a_marked_field_has_no_other_attribute(rt: HostRuntime) -> Result<(), Fail> {
     let alloc = rt.alloc();
     let mut structs = Structs::new(alloc);
-    for (carrier, fine) in cases {
-        for (name, may) in names.iter().zip(fine.iter()) {
-            let mut faults = Vec::new(alloc);
-            let specs = attributed(alloc, &[*name])?;
-            let given = judge_specifiers(alloc, &mut structs, true, &specs, &mut faults)?;
-            note_attributes(&mut faults, carrier, given.attributes.as_slice())?;
-            assert_eq!(rt; faults.is_empty(), *may);
-        }
-    }
+    let mut second = field(alloc, &[], 62, "key", Suffix::Plain)?;
+    second.specs = attributed(alloc, &["priv", "unpriv"])?;
+    let specs = pair(alloc, "keys", second)?;
+    let expected = [fault(FaultKind::BadAttribute, 102)];
+    judged(&rt, &mut structs, true, &specs, &expected, alloc)?;
+    let found = field_named(&structs, 0, b"key").ok_or("no field key")?;
+    assert!(rt; found.entry.marked);
     Ok(())
 }
 
@@ -436,15 +364,12 @@ fn priv_and_unpriv_exclude_each_other(rt: HostRuntime) -> Result<(), Fail> {
     let alloc = rt.alloc();
     let mut structs = Structs::new(alloc);
     let mut faults = Vec::new(alloc);
-    let specs = attributed(alloc, &["unpriv", "priv", "unpriv"])?;
+    let specs = attributed(alloc, &["unpriv", "priv", "packed"])?;
     let given = judge_specifiers(alloc, &mut structs, true, &specs, &mut faults)?;
     let attributes = given.attributes.as_slice();
     note_attributes(&mut faults, Carrier::Object, attributes)?;
-    let expected = [
-        fault(FaultKind::BadAttribute, 100),
-        fault(FaultKind::BadAttribute, 104),
-    ];
-    assert!(rt; faults.as_slice() == expected.as_slice());
+    let wrong = FaultKind::BadAttribute;
+    assert!(rt; faults.as_slice() == [fault(wrong, 100), fault(wrong, 104)].as_slice());
     let marks = marks_among(attributes);
     assert!(rt; marks.marked && marks.unpriv && !marks.declassify);
     Ok(())
