@@ -1,0 +1,3 @@
+pub mod BodiesLemmas
+pub mod FaultLemmas
+pub mod NameTableLemmas
