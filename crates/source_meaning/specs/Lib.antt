@@ -1,5 +1,10 @@
+pub mod Expressions
+pub mod Functions
 pub mod Meaning
 pub mod Memory
 pub mod Program
 pub mod Run
 pub mod State
+pub mod Statements
+pub mod Values
+pub mod WholeRun
