@@ -1,5 +1,6 @@
 pub mod Expressions
 pub mod Functions
+pub mod Laws
 pub mod Meaning
 pub mod Memory
 pub mod Program

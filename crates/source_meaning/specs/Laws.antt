@@ -1,0 +1,57 @@
+-- Laws of whole runs, and of what is expected of them under a policy.
+use Rattle.std.specs.Prelude.{◌≡◌, ◌≢◌, ◌<◌, ◌≤◌, ℕ, ◌+◌, ℤ, List, [], ◌∷◌, ◌++◌, Option, Some, None}
+use Rattle.pt_base.specs.declared.end.End.TheVariants.{Spent, Refused}
+use Rattle.typed_tree.specs.TypedTree.{TypedTree}
+use Rattle.source_meaning.specs.State.{Hosts, Event, out, guarded}
+use Rattle.source_meaning.specs.Run.{Run, written, Answers, Expected, expected}
+use Rattle.source_meaning.specs.WholeRun.{whole_run}
+
+-- ---- budgets
+
+-- A run that ended before its budget was spent is the same with every budget from the turns that it
+-- used on, and with every smaller budget the program's run ends Spent.
+abbrev pub EndedRunsStay : Type 0
+EndedRunsStay = (program : TypedTree) (hosts : Hosts) (input : List ℕ) (n : ℕ) →
+    (whole_run program hosts input n).end ≢ Spent →
+    ((m : ℕ) → (whole_run program hosts input n).turns ≤ m → whole_run program hosts input m ≡ whole_run program hosts input n) ×
+    ((m : ℕ) → m < (whole_run program hosts input n).turns → (whole_run program hosts input m).end ≡ Spent)
+
+-- a run uses no more turns than its budget has, and a run that ends Spent uses them all
+abbrev pub SpentRunsUseAll : Type 0
+SpentRunsUseAll = (program : TypedTree) (hosts : Hosts) (input : List ℕ) (n : ℕ) →
+    ((whole_run program hosts input n).turns ≤ n) ×
+    ((whole_run program hosts input n).end ≡ Spent → (whole_run program hosts input n).turns ≡ n)
+
+-- with fewer turns the same is seen, as far as they go
+abbrev pub FewerTurnsShowLess : Type 0
+FewerTurnsShowLess = (program : TypedTree) (hosts : Hosts) (input : List ℕ) (m n : ℕ) → m ≤ n →
+    (rest : List Event) × ((whole_run program hosts input n).events ≡ (whole_run program hosts input m).events ++ rest)
+
+-- ---- policies
+
+-- from state s on the policy allows each guarded call of these events in turn, and comes to state t
+abbrev pub Allows : {S : Type 0} → Answers S → S → List Event → S → Type 0
+Allows policy s [] t = s ≡ t
+Allows policy s (out bytes ∷ events) t = Allows policy s events t
+Allows {S} policy s (guarded f vs ∷ events) t = (s' : S) × (policy.next s f vs ≡ Some s') × Allows policy s' events t
+
+-- how many guarded calls these events have
+abbrev pub call_count : List Event → ℕ
+call_count [] = 0
+call_count (out bytes ∷ events) = call_count events
+call_count (guarded f vs ∷ events) = call_count events + 1
+
+-- Where the policy allows every guarded call, the bytes of all out events and the run's own end are
+-- expected.
+abbrev pub AllowedRunsStay : Type 0 → Type 0
+AllowedRunsStay S = (policy : Answers S) (run : Run) (t : S) → Allows policy policy.first run.events t →
+    expected policy run ≡ record { bytes = written run.events; end = run.end }
+
+-- Where a guarded call is denied and those before it were allowed, the bytes written before it are
+-- expected, and its refusal: its number from 1, its function and the policy's state there.
+abbrev pub DeniedRunsStop : Type 0 → Type 0
+DeniedRunsStop S = (policy : Answers S) (run : Run) (before after : List Event) (f : ℕ) (vs : List ℤ) (t : S) →
+    run.events ≡ before ++ guarded f vs ∷ after →
+    Allows policy policy.first before t →
+    policy.next t f vs ≡ None →
+    expected policy run ≡ record { bytes = written before; end = Refused (call_count before + 1) (record { 0 = f }) (policy.name t) }
