@@ -1,19 +1,17 @@
 -- Calls keep their budget, at each depth.
-use Rattle.std.proofs.Common.{◌≡◌, ◌+◌, ℕ, zero, suc, ℤ, List, [], ◌∷◌, ◌++◌, Option, Some, None, if◌then◌else◌, refl, ◌∙◌, ap, arith}
-use Rattle.std.proofs.lemmas.List.{append_assoc}
+use Rattle.std.proofs.Common.{ℕ, zero, suc, List, Option, Some, None, refl, arith}
 use Rattle.pt_base.specs.declared.int_type.IntType.{IntType}
 use Rattle.pt_base.specs.declared.span.Span.{Span}
 use Rattle.pt_base.specs.declared.trap.Trap.TheVariants.{Depth, NoReturn}
-use Rattle.pt_tree.specs.HostStep.{Answer, host_step}
+use Rattle.pt_tree.specs.HostStep.{host_step}
 use Rattle.typed_tree.specs.TypedTree.{TypedTree}
-use Rattle.source_meaning.specs.Memory.{Memory}
-use Rattle.source_meaning.specs.State.{State, Event, put_host, Outcome, gives, trapped, ◌>>=◌, take_turn}
+use Rattle.source_meaning.specs.State.{State, Event, Outcome, gives, trapped}
 use Rattle.source_meaning.specs.Values as v
 use Rattle.source_meaning.specs.Values.{Value, numbers_of}
 use Rattle.source_meaning.specs.Expressions.{Frame, Calls}
 use Rattle.source_meaning.specs.Statements.{Flow, goes_on, broke, continues, returned, statement}
-use Rattle.source_meaning.specs.Functions.{function_at, body_at, code_at, guarded_event, out_event, noted, result_value, answered, host_call, with_parameters, without_locals, brace_of, at_brace, returned_from, frame_in, entered, function_call, calls_within}
-use Rattle.source_meaning.proofs.Budgets.{Grows, grows_same, grows_self, longer, state_of, Follows, Keeps, keeps_bind, keeps_gives, keeps_trapped, keeps_change, keeps_memory, keeps_either, keeps_turn}
+use Rattle.source_meaning.specs.Functions.{function_at, body_at, code_at, guarded_event, out_event, noted, answered, host_call, with_parameters, without_locals, brace_of, at_brace, returned_from, frame_in, entered, function_call, calls_within}
+use Rattle.source_meaning.proofs.Budgets.{Keeps, keeps_bind, keeps_gives, keeps_trapped, keeps_change, keeps_memory, keeps_either, keeps_turn}
 use Rattle.source_meaning.proofs.ExpressionBudgets.{CallsKeep}
 use Rattle.source_meaning.proofs.StatementBudgets.{keeps_statement}
 
@@ -64,9 +62,9 @@ keeps_function program calls k frame f values =
 
 pub keeps_calls : (program : TypedTree) (deeper : ℕ) → CallsKeep (calls_within program deeper)
 keeps_calls program zero = record {
-  each = λ frame s f values. keeps_either (function_at program f).signature.host (host_call program frame f values) (λ st. trapped Depth s st) (keeps_host program frame f values) (keeps_trapped Depth s)
+  each = λ frame s f values. keeps_either (function_at program f).signature.host (host_call program frame f values) (λ st. trapped Depth s st) (keeps_host program frame f values) (keeps_trapped Depth s);
 }
 keeps_calls program (suc deeper) = record {
   each = λ frame s f values. keeps_either (function_at program f).signature.host (host_call program frame f values) (function_call program (calls_within program deeper) frame f values)
-      (keeps_host program frame f values) (keeps_function program (calls_within program deeper) (keeps_calls program deeper) frame f values)
+      (keeps_host program frame f values) (keeps_function program (calls_within program deeper) (keeps_calls program deeper) frame f values);
 }

@@ -1,5 +1,5 @@
 -- Expressions keep their budget where calls do.
-use Rattle.std.proofs.Common.{◌≡◌, ◌+◌, ℕ, Bool, true, false, List, [], ◌∷◌, Option, Result, Ok, Err, if◌then◌else◌, pos, refl}
+use Rattle.std.proofs.Common.{◌≡◌, ℕ, Bool, List, [], ◌∷◌, Option, Result, Ok, Err, if◌then◌else◌, pos, refl}
 use Rattle.pt_base.specs.declared.span.Span.{Span}
 use Rattle.pt_base.specs.declared.trap.Trap.{Trap}
 use Rattle.typed_tree.specs.declared.types.VarTy.{VarTy}
@@ -8,11 +8,11 @@ use Rattle.typed_tree.specs.declared.link.LinkStep.{LinkStep}
 use Rattle.typed_tree.specs.declared.link.LogicalOp.{LogicalOp}
 use Rattle.typed_tree.specs.ExpressionTree as t
 use Rattle.typed_tree.specs.ExpressionTree.{ExprTree, typed, FormTree, ExprTrees, no_exprs, expr_and, LinkTrees, no_links, link_and, link, OperandTrees, no_operands, operand_and, operand, PlaceTree, place, RootTree, StepTree, StepTrees, no_steps, step_and}
-use Rattle.source_meaning.specs.Memory.{local, global, Cell, number, null, read, Memory}
-use Rattle.source_meaning.specs.State.{State, Outcome, gives, trapped, spent, ◌>>=◌}
+use Rattle.source_meaning.specs.Memory.{local, global, Cell, number, null, read}
+use Rattle.source_meaning.specs.State.{State, gives, ◌>>=◌}
 use Rattle.source_meaning.specs.Values.{Value, holds, nothing, cell_of, is_true, truth_value, converted, converted_cell, Location, moved, number_of, unary_cell, stepped, unit_step}
 use Rattle.source_meaning.specs.Expressions.{Frame, Calls, Context, sizes, or_trap, type_at, field_at, decayed, address_of, dereferenced, element_of, indexed, loaded, stored_in, store, compounded, cell_or_trap, step_gives, counted, is_decided, link_type, type_or_int, type_of, nowhere, value_of, form_value, values_of, links_value, link_value, operands_value, operand_value, location_of, root_location, assigned_location, form_location, steps_location, step_location}
-use Rattle.source_meaning.proofs.Budgets.{Grows, grows_same, grows_self, longer, Follows, Keeps, keeps_bind, keeps_gives, keeps_trapped, keeps_read, keeps_change, keeps_memory, keeps_if, keeps_either}
+use Rattle.source_meaning.proofs.Budgets.{longer, Keeps, keeps_bind, keeps_gives, keeps_trapped, keeps_read, keeps_memory, keeps_if, keeps_either}
 
 pub record CallsKeep (calls : Calls) : Type 0 where
   pub each : (frame : Frame) (s : Span) (f : ℕ) (values : List Value) → Keeps (calls frame s f values)
@@ -48,13 +48,13 @@ keeps_compounded : (c : Context) (s : Span) (at : Location) (step : LinkStep) (v
 keeps_compounded c s at step v =
     keeps_read (λ st. read st.memory at.block at.cell) (λ old st. or_trap s (stepped (sizes c) at.ty step old (cell_of v)) st >>= λ cell. store at (holds (converted_cell at.ty cell))) (λ d st. refl)
     (λ old. keeps_bind (or_trap s (stepped (sizes c) at.ty step old (cell_of v))) (λ cell. store at (holds (converted_cell at.ty cell)))
-      (keeps_or_trap s (stepped (sizes c) at.ty step old (cell_of v))) (λ cell. keeps_store at (holds (converted_cell at.ty cell))))
+    (keeps_or_trap s (stepped (sizes c) at.ty step old (cell_of v))) (λ cell. keeps_store at (holds (converted_cell at.ty cell))))
 
 keeps_counted : (c : Context) (s : Span) (back postfix : Bool) (at : Location) → Keeps (counted c s back postfix at)
 keeps_counted c s back postfix at =
     keeps_read (loaded c at at.ty) (λ old st. compounded c s at (unit_step at.ty back) (holds (number (pos 1))) st >>= λ v. gives (step_gives postfix old v)) (same_loaded c at at.ty)
     (λ old. keeps_bind (compounded c s at (unit_step at.ty back) (holds (number (pos 1)))) (λ v. gives (step_gives postfix old v))
-      (keeps_compounded c s at (unit_step at.ty back) (holds (number (pos 1)))) (λ v. keeps_gives (step_gives postfix old v)))
+    (keeps_compounded c s at (unit_step at.ty back) (holds (number (pos 1)))) (λ v. keeps_gives (step_gives postfix old v)))
 
 -- ---- the forms
 

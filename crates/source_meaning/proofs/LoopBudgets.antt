@@ -1,6 +1,6 @@
 -- Loops keep their budget where each of their rounds does.
-use Rattle.std.proofs.Common.{◌≡◌, ◌≤◌, ◌<◌, ◌+◌, ℕ, zero, suc, Bool, true, false, refl, sym, subst, arith}
-use Rattle.source_meaning.specs.State.{State, Outcome, gives, trapped, spent, ◌>>=◌, take_turn}
+use Rattle.std.proofs.Common.{◌≡◌, ◌≤◌, ◌<◌, ◌+◌, ℕ, zero, suc, Bool, false, refl, arith}
+use Rattle.source_meaning.specs.State.{State, Outcome, spent, ◌>>=◌}
 use Rattle.source_meaning.specs.Statements.{Flow, Round, again, leaves, after_round, looped}
 use Rattle.source_meaning.proofs.Budgets.{Grows, state_of, longer, Follows, Keeps, grows_self, grows_bind, grows_turn, follows_bind, follows_turn}
 
@@ -30,9 +30,9 @@ follows_looped d (suc rounds) (suc rounds') round k first st le le' =
     follows_turn d st.left st (λ st1. round first st1 >>= after_round (looped rounds round false)) (λ st1. round first st1 >>= after_round (looped rounds' round false)) refl
     (λ st1. grows_bind st1 (round first st1) (after_round (looped rounds' round false)) ((k first).grows st1) (grows_after (looped rounds' round false) (grows_looped rounds' round k false)))
     (λ m e. let st1 : State = record st { left = m } in
-      follows_bind d st1 (round first st1) (round first (longer d st1)) (after_round (looped rounds round false)) (after_round (looped rounds' round false))
-      ((k first).grows st1) ((k first).follows d st1) (grows_after (looped rounds' round false) (grows_looped rounds' round k false))
-      (λ r st2 lt. follows_after d m (looped rounds round false) (looped rounds' round false) (λ st3 le3. follows_looped d rounds rounds' round k false st3 (omega arith) (omega arith)) r st2 lt))
+    follows_bind d st1 (round first st1) (round first (longer d st1)) (after_round (looped rounds round false)) (after_round (looped rounds' round false))
+    ((k first).grows st1) ((k first).follows d st1) (grows_after (looped rounds' round false) (grows_looped rounds' round k false))
+    (λ r st2 lt. follows_after d m (looped rounds round false) (looped rounds' round false) (λ st3 le3. follows_looped d rounds rounds' round k false st3 (omega arith) (omega arith)) r st2 lt))
 
 pub keeps_looped : (round : Bool → State → Outcome Round) → ((first : Bool) → Keeps (round first)) → (first : Bool) → Keeps (λ st. looped st.left round first st)
 keeps_looped round k first = record {

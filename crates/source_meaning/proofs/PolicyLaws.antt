@@ -1,10 +1,10 @@
 -- What is expected under a policy, event by event.
-use Rattle.std.proofs.Common.{◌≡◌, ℕ, ◌+◌, ℤ, List, [], ◌∷◌, ◌++◌, Option, Some, None, refl, sym, ◌∙◌, ap, subst, arith}
+use Rattle.std.proofs.Common.{◌≡◌, ℕ, ◌+◌, List, [], ◌∷◌, ◌++◌, sym, ◌∙◌, ap, arith}
 use Rattle.std.proofs.lemmas.List.{append_assoc, append-nil}
 use Rattle.pt_base.specs.declared.end.End.{End}
 use Rattle.pt_base.specs.declared.end.End.TheVariants.{Refused}
 use Rattle.source_meaning.specs.State.{Event, out, guarded}
-use Rattle.source_meaning.specs.Run.{Run, written, Answers, Expected, after_bytes, decided, expected_from, expected}
+use Rattle.source_meaning.specs.Run.{written, Answers, after_bytes, decided, expected_from}
 use Rattle.source_meaning.specs.Laws.{Allows, call_count, AllowedRunsStay, DeniedRunsStop}
 
 -- events that the policy allows add their bytes, and it goes on from the state that it came to

@@ -1,5 +1,5 @@
 -- Statements keep their budget where calls do.
-use Rattle.std.proofs.Common.{◌≡◌, ◌+◌, ℕ, zero, suc, Bool, true, false, List, [], ◌∷◌, Option, Some, None, if◌then◌else◌, get_or, refl}
+use Rattle.std.proofs.Common.{◌+◌, ℕ, zero, suc, Bool, true, false, List, [], ◌∷◌, Option, Some, None, if◌then◌else◌, get_or}
 use Rattle.pt_int.specs.Conversion.{conv}
 use Rattle.typed_tree.specs.declared.ids.ExprId.{ExprId}
 use Rattle.typed_tree.specs.declared.statement.TypedInit.{TypedInit}
@@ -8,7 +8,7 @@ use Rattle.typed_tree.specs.declared.statement.TypedDeclarator.{TypedDeclarator}
 use Rattle.typed_tree.specs.declared.statement.TypedForInit.{TypedForInit}
 use Rattle.typed_tree.specs.declared.statement.TypedForInit.TheVariants as f
 use Rattle.typed_tree.specs.StatementTree.{BodyTree, block, nothing, evaluate, declare, choose, while_true, do_while, for_each, give_back, stop_loop, next_turn, switch, ElseTree, no_else, otherwise, BodyTrees, no_bodies, body_and, SectionTree, section, SectionTrees, no_sections, section_and}
-use Rattle.source_meaning.specs.Memory.{Block, local, put}
+use Rattle.source_meaning.specs.Memory.{local, put}
 use Rattle.source_meaning.specs.State.{State, Outcome, gives, ◌>>=◌, take_turn}
 use Rattle.source_meaning.specs.Values as v
 use Rattle.source_meaning.specs.Values.{Value, number_of, is_true, cleared}
@@ -105,8 +105,8 @@ mutual
   keeps_statement (for_each s begin test step a) code k =
       keeps_bind (for_begins begin code) (λ flow st1. looped st1.left (λ first. stepped_first first step code (tested test code (λ st2. statement a code st2 >>= body_round))) true st1) (keeps_begins begin code k)
       (λ flow. keeps_looped (λ first. stepped_first first step code (tested test code (λ st2. statement a code st2 >>= body_round)))
-        (λ first. keeps_stepped first step code (tested test code (λ st2. statement a code st2 >>= body_round)) k
-          (keeps_tested test code (λ st2. statement a code st2 >>= body_round) k (keeps_bind (statement a code) body_round (keeps_statement a code k) keeps_round))) true)
+      (λ first. keeps_stepped first step code (tested test code (λ st2. statement a code st2 >>= body_round)) k
+      (keeps_tested test code (λ st2. statement a code st2 >>= body_round) k (keeps_bind (statement a code) body_round (keeps_statement a code k) keeps_round))) true)
   keeps_statement (give_back s None) code k = keeps_gives (returned v.nothing)
   keeps_statement (give_back s (Some e)) code k = keeps_bind (outermost code e) (λ x. gives (returned x)) (keeps_outermost code e k) (λ x. keeps_gives (returned x))
   keeps_statement (stop_loop s) code k = keeps_gives broke
@@ -114,7 +114,7 @@ mutual
   keeps_statement (switch s e ty sections) code k =
       keeps_bind (outermost code e) (λ x st1. take_turn st1.left st1 (λ st2. sections_from sections (chosen sections (conv ty (number_of x))) code st2 >>= past_switch)) (keeps_outermost code e k)
       (λ x. keeps_turn (λ st2. sections_from sections (chosen sections (conv ty (number_of x))) code st2 >>= past_switch)
-        (keeps_bind (sections_from sections (chosen sections (conv ty (number_of x))) code) past_switch (keeps_sections sections (chosen sections (conv ty (number_of x))) code k) keeps_past))
+      (keeps_bind (sections_from sections (chosen sections (conv ty (number_of x))) code) past_switch (keeps_sections sections (chosen sections (conv ty (number_of x))) code k) keeps_past))
 
   keeps_otherwise : (b : ElseTree) (code : Code) → CallsKeep code.context.calls → Keeps (otherwise_of b code)
   keeps_otherwise no_else code k = keeps_gives goes_on

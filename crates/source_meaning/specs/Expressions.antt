@@ -1,11 +1,10 @@
 -- The meaning of expressions: one equation for each form, from left to right (C99 6.5, with this
 -- project's order of evaluation).
-use Rattle.std.specs.Prelude.{ℕ, ◌+◌, ℤ, pos, Bool, true, false, not, List, [], ◌∷◌, Option, Some, None, Result, Ok, Err, if◌then◌else◌, get_or, take, drop}
+use Rattle.std.specs.Prelude.{ℕ, ◌+◌, pos, Bool, false, not, List, [], ◌∷◌, Option, Some, None, Result, Ok, Err, if◌then◌else◌, get_or, take, drop}
 use Rattle.pt_base.specs.declared.int_type.IntType.TheVariants as i
 use Rattle.pt_base.specs.declared.span.Span.{Span}
 use Rattle.pt_base.specs.declared.trap.Trap.{Trap}
 use Rattle.pt_base.specs.declared.trap.Trap.TheVariants.{Null}
-use Rattle.pt_tree.specs.declared.signature.Elem.{Elem}
 use Rattle.typed_tree.specs.declared.types.VarTy.{VarTy}
 use Rattle.typed_tree.specs.declared.types.VarTy.TheVariants.{Int, Struct, Array, Pointer}
 use Rattle.typed_tree.specs.declared.types.StructInfo.{StructInfo}
@@ -14,10 +13,10 @@ use Rattle.typed_tree.specs.declared.link.LogicalOp.{LogicalOp}
 use Rattle.typed_tree.specs.declared.link.LogicalOp.TheVariants.{And, Or}
 use Rattle.typed_tree.specs.ExpressionTree as t
 use Rattle.typed_tree.specs.ExpressionTree.{ExprTree, typed, FormTree, ExprTrees, no_exprs, expr_and, LinkTrees, no_links, link_and, link, OperandTrees, no_operands, operand_and, operand, PlaceTree, place, RootTree, StepTree, StepTrees, no_steps, step_and}
-use Rattle.typed_tree.specs.Objects.{sizes_of, cells_by, elem_cells, offset_of, fields_of, elem_type}
-use Rattle.source_meaning.specs.Memory.{Block, local, global, Cell, number, null, pointer, read, write, put, Memory}
-use Rattle.source_meaning.specs.State.{State, Outcome, gives, trapped, spent, ◌>>=◌}
-use Rattle.source_meaning.specs.Values.{Value, holds, whole, nothing, cell_of, number_of, is_true, truth_value, converted, converted_cell, cleared, moved, Location, reached, unary_cell, stepped, unit_step}
+use Rattle.typed_tree.specs.Objects.{sizes_of, cells_by, offset_of, fields_of, elem_type}
+use Rattle.source_meaning.specs.Memory.{Block, local, global, Cell, number, null, pointer, read, write, Memory}
+use Rattle.source_meaning.specs.State.{State, Outcome, gives, trapped, ◌>>=◌}
+use Rattle.source_meaning.specs.Values.{Value, holds, whole, nothing, cell_of, number_of, is_true, truth_value, converted, converted_cell, moved, Location, reached, unary_cell, stepped, unit_step}
 
 -- Where a function's code runs: at which depth it was called, and whether a privileged function is
 -- active, itself or one that called it.

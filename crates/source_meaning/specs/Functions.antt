@@ -2,20 +2,19 @@
 use Rattle.std.specs.Prelude.{ℕ, zero, suc, ◌+◌, ◌-◌, ℤ, Bool, true, false, not, ◌&&◌, ◌||◌, List, [], ◌∷◌, ◌++◌, Option, Some, None, map, if◌then◌else◌, get_or, nat_eq}
 use Rattle.pt_base.specs.declared.int_type.IntType.{IntType}
 use Rattle.pt_base.specs.declared.span.Span.{Span}
-use Rattle.pt_base.specs.declared.trap.Trap.{Trap}
 use Rattle.pt_base.specs.declared.trap.Trap.TheVariants.{Depth, NoReturn}
 use Rattle.pt_tree.specs.declared.signature.Signature.{Signature}
 use Rattle.pt_tree.specs.declared.signature.Param.{Param}
 use Rattle.pt_tree.specs.declared.signature.ParamKind.{ParamKind}
 use Rattle.pt_tree.specs.declared.signature.ParamKind.TheVariants.{Int, Ptr}
 use Rattle.pt_tree.specs.HostStep.{Answer, host_step}
-use Rattle.typed_tree.specs.StatementTree.{BodyTree, block, nothing, evaluate, declare, choose, while_true, do_while, for_each, give_back, stop_loop, next_turn, switch}
+use Rattle.typed_tree.specs.StatementTree.{BodyTree, block, nothing}
 use Rattle.typed_tree.specs.TypedTree.{TypedTree, FunctionTree}
-use Rattle.source_meaning.specs.Memory.{Block, local, global, Cell, number, Memory, put}
-use Rattle.source_meaning.specs.State.{State, Event, out, guarded, put_host, Outcome, gives, trapped, spent, ◌>>=◌, take_turn}
+use Rattle.source_meaning.specs.Memory.{Block, local, global, number, Memory, put}
+use Rattle.source_meaning.specs.State.{State, Event, out, guarded, put_host, Outcome, gives, trapped, ◌>>=◌, take_turn}
 use Rattle.source_meaning.specs.Values as v
 use Rattle.source_meaning.specs.Values.{Value, holds, cell_of, numbers_of}
-use Rattle.source_meaning.specs.Expressions.{Frame, Calls, Context}
+use Rattle.source_meaning.specs.Expressions.{Frame, Calls}
 use Rattle.source_meaning.specs.Statements.{Code, Flow, goes_on, broke, continues, returned, statement}
 
 -- no function

@@ -1,9 +1,9 @@
 -- Laws of whole runs, and of what is expected of them under a policy.
-use Rattle.std.specs.Prelude.{◌≡◌, ◌≢◌, ◌<◌, ◌≤◌, ℕ, ◌+◌, ℤ, List, [], ◌∷◌, ◌++◌, Option, Some, None}
+use Rattle.std.specs.Prelude.{◌≡◌, ◌≢◌, ◌<◌, ◌≤◌, ℕ, ◌+◌, ℤ, List, [], ◌∷◌, ◌++◌, Some, None}
 use Rattle.pt_base.specs.declared.end.End.TheVariants.{Spent, Refused}
 use Rattle.typed_tree.specs.TypedTree.{TypedTree}
 use Rattle.source_meaning.specs.State.{Hosts, Event, out, guarded}
-use Rattle.source_meaning.specs.Run.{Run, written, Answers, Expected, expected}
+use Rattle.source_meaning.specs.Run.{Run, written, Answers, expected}
 use Rattle.source_meaning.specs.WholeRun.{whole_run}
 
 -- ---- budgets

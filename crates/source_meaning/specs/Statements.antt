@@ -1,11 +1,7 @@
 -- The meaning of statements: one equation for each form (C99 6.8).
-use Rattle.std.specs.Prelude.{ℕ, zero, suc, ◌+◌, ℤ, pos, Bool, true, false, List, [], ◌∷◌, Option, Some, None, if◌then◌else◌, get_or, unwrap_or, option_map}
+use Rattle.std.specs.Prelude.{ℕ, zero, suc, ◌+◌, ℤ, Bool, true, false, List, [], ◌∷◌, Option, Some, None, if◌then◌else◌, get_or, unwrap_or, option_map}
 use Rattle.std.specs.Ordering.{int_eq}
-use Rattle.pt_base.specs.declared.int_type.IntType.{IntType}
-use Rattle.pt_base.specs.declared.int_type.IntType.TheVariants as i
-use Rattle.pt_base.specs.declared.span.Span.{Span}
 use Rattle.pt_int.specs.Conversion.{conv}
-use Rattle.typed_tree.specs.declared.types.VarTy.TheVariants.{Int}
 use Rattle.typed_tree.specs.declared.ids.ExprId.{ExprId}
 use Rattle.typed_tree.specs.declared.statement.TypedLabel.{TypedLabel}
 use Rattle.typed_tree.specs.declared.statement.TypedLabel.TheVariants.{Case, Default}
@@ -17,8 +13,8 @@ use Rattle.typed_tree.specs.declared.statement.TypedForInit.TheVariants as f
 use Rattle.typed_tree.specs.ExpressionTree.{ExprTree, typed}
 use Rattle.typed_tree.specs.ExpressionTree as t
 use Rattle.typed_tree.specs.StatementTree.{BodyTree, block, nothing, evaluate, declare, choose, while_true, do_while, for_each, give_back, stop_loop, next_turn, switch, ElseTree, no_else, otherwise, BodyTrees, no_bodies, body_and, SectionTree, section, SectionTrees, no_sections, section_and}
-use Rattle.source_meaning.specs.Memory.{Block, local, put}
-use Rattle.source_meaning.specs.State.{State, Outcome, gives, trapped, spent, ◌>>=◌, take_turn}
+use Rattle.source_meaning.specs.Memory.{local, put}
+use Rattle.source_meaning.specs.State.{State, Outcome, gives, spent, ◌>>=◌, take_turn}
 use Rattle.source_meaning.specs.Values as v
 use Rattle.source_meaning.specs.Values.{Value, number_of, is_true, cleared, Location}
 use Rattle.source_meaning.specs.Expressions.{Context, sizes, type_at, value_of, store}

@@ -1,14 +1,13 @@
 -- The run of a whole program within a budget of turns.
-use Rattle.std.specs.Prelude.{ℕ, zero, suc, ◌-◌, ◌+◌, ℤ, pos, Bool, false, List, [], ◌∷◌, map, codes, if◌then◌else◌}
+use Rattle.std.specs.Prelude.{ℕ, suc, ◌-◌, ◌+◌, pos, false, List, [], ◌∷◌, map, codes, if◌then◌else◌}
 use Rattle.std.specs.Str.{bytes_eq}
-use Rattle.pt_base.specs.declared.end.End.{End}
 use Rattle.pt_base.specs.declared.end.End.TheVariants.{Exit, Trapped, Spent}
 use Rattle.typed_tree.specs.declared.variable.TypedGlobal.{TypedGlobal}
 use Rattle.typed_tree.specs.TypedTree.{TypedTree, FunctionTree}
-use Rattle.source_meaning.specs.Memory.{Memory, Block, global, number, nothing_live, put}
-use Rattle.source_meaning.specs.State.{State, Hosts, Event, Outcome, gives, trapped, spent}
+use Rattle.source_meaning.specs.Memory.{Memory, global, number, nothing_live, put}
+use Rattle.source_meaning.specs.State.{State, Hosts, Outcome, gives, trapped, spent}
 use Rattle.source_meaning.specs.Run.{Run}
-use Rattle.source_meaning.specs.Values.{Value, number_of}
+use Rattle.source_meaning.specs.Values.{number_of}
 use Rattle.source_meaning.specs.Expressions.{Frame}
 use Rattle.source_meaning.specs.Statements.{Flow, goes_on, broke, continues, returned, statement}
 use Rattle.source_meaning.specs.Functions.{body_at, code_at, calls_within}
