@@ -1,5 +1,4 @@
--- What a part of a run does with its budget: it only adds events and only takes turns, and with more
--- turns it does the same as long as the fewer last.
+-- What parts of a run do with their budget.
 use Rattle.std.proofs.Common.{◌≡◌, ◌≤◌, ◌+◌, ℕ, zero, suc, Bool, true, false, List, [], ◌++◌, if◌then◌else◌, refl, sym, ◌∙◌, ap, subst, arith}
 use Rattle.std.proofs.lemmas.List.{append_assoc, append-nil}
 use Rattle.pt_base.specs.declared.span.Span.{Span}
@@ -18,17 +17,19 @@ state_of (gives a st) = st
 state_of (trapped trap s st) = st
 state_of (spent st) = st
 
--- the state with more turns left: d of them and one
+-- the state with d + 1 turns more left
 abbrev pub longer : ℕ → State → State
 longer d st = record st { left = suc (st.left + d) }
 
--- r is what it comes to with d turns more and one: the same, with as many more left; or where the
--- fewer turns were spent it goes on, and takes one more at least
+-- r is what it comes to with d + 1 turns more: the same, with as many more left; or, where the fewer
+-- turns were spent, it goes on from there and takes at least one of them
 abbrev pub Follows : {A : Type 0} → ℕ → Outcome A → Outcome A → Type 0
 Follows d (gives a st) r = r ≡ gives a (longer d st)
 Follows d (trapped trap s st) r = r ≡ trapped trap s (longer d st)
 Follows d (spent st) r = (st.left ≡ 0) × Grows (record st { left = d }) (state_of r)
 
+-- f only adds events and only takes turns, and with more turns it does the same as long as the fewer
+-- last
 pub record Keeps {A : Type 0} (f : State → Outcome A) : Type 0 where
   pub grows : (st : State) → Grows st (state_of (f st))
   pub follows : (d : ℕ) (st : State) → Follows d (f st) (f (longer d st))

@@ -1,11 +1,11 @@
 -- What is expected under a policy, event by event.
-use Rattle.std.proofs.Common.{◌≡◌, ℕ, ◌+◌, List, [], ◌∷◌, ◌++◌, sym, ◌∙◌, ap, arith}
+use Rattle.std.proofs.Common.{◌⊎◌, inl, inr, Option, Some, None, ◌≡◌, ℕ, ◌+◌, List, [], ◌∷◌, ◌++◌, sym, ◌∙◌, ap, refl, arith}
 use Rattle.std.proofs.lemmas.List.{append_assoc, append-nil}
 use Rattle.pt_base.specs.declared.end.End.{End}
 use Rattle.pt_base.specs.declared.end.End.TheVariants.{Refused}
 use Rattle.source_meaning.specs.State.{Event, out, guarded}
 use Rattle.source_meaning.specs.Run.{written, Answers, after_bytes, decided, expected_from}
-use Rattle.source_meaning.specs.Laws.{Allows, call_count, AllowedRunsStay, DeniedRunsStop}
+use Rattle.source_meaning.specs.Laws.{Allows, call_count, Denies, AllowedRunsStay, DeniedRunsStop, RunsAreAllowedOrDenied}
 
 -- events that the policy allows add their bytes, and it goes on from the state that it came to
 allowed_first : {S : Type 0} (policy : Answers S) (s t : S) (calls : ℕ) (before after : List Event) (end : End) → Allows policy s before t →
@@ -29,10 +29,30 @@ allowed S policy run t h =
     ap (λ bs. record { bytes = bs; end = run.end }) (append-nil (written run.events))
 
 pub denied : (S : Type 0) → DeniedRunsStop S
-denied S policy run before after f vs t is h deny =
-    let count : 0 + call_count before + 1 ≡ call_count before + 1 = omega arith in
-    ap (λ es. expected_from policy policy.first 0 es run.end) is ∙
-    allowed_first policy policy.first t 0 before (guarded f vs ∷ after) run.end h ∙
-    ap (λ o. after_bytes (written before) (decided policy t (0 + call_count before + 1) f o (λ s'. expected_from policy s' (0 + call_count before + 1) after run.end))) deny ∙
-    ap (λ bs. record { bytes = bs; end = Refused (0 + call_count before + 1) (record { 0 = f }) (policy.name t) }) (append-nil (written before)) ∙
-    ap (λ n. record { bytes = written before; end = Refused n (record { 0 = f }) (policy.name t) }) count
+denied S policy run d =
+    let count : 0 + call_count d.before + 1 ≡ call_count d.before + 1 = omega arith in
+    ap (λ es. expected_from policy policy.first 0 es run.end) d.split ∙
+    allowed_first policy policy.first d.state 0 d.before (guarded d.function d.values ∷ d.after) run.end d.allowed ∙
+    ap (λ o. after_bytes (written d.before) (decided policy d.state (0 + call_count d.before + 1) d.function o (λ s'. expected_from policy s' (0 + call_count d.before + 1) d.after run.end))) d.denied ∙
+    ap (λ bs. record { bytes = bs; end = Refused (0 + call_count d.before + 1) (record { 0 = d.function }) (policy.name d.state) }) (append-nil (written d.before)) ∙
+    ap (λ n. record { bytes = written d.before; end = Refused n (record { 0 = d.function }) (policy.name d.state) }) count
+
+-- ---- one or the other
+
+either_from : {S : Type 0} (policy : Answers S) (s : S) (events : List Event) → ((t : S) × Allows policy s events t) ⊎ Denies policy s events
+either_from policy s [] = inl (s, refl)
+either_from policy s (out bytes ∷ events) = elim (either_from policy s events) [
+  | inl a ↦ inl (a.0, a.1)
+  | inr d ↦ inr (record { before = out bytes ∷ d.before; function = d.function; values = d.values; after = d.after; split = ap (λ es. out bytes ∷ es) d.split; state = d.state; allowed = d.allowed; denied = d.denied })
+]
+either_from {S} policy s (guarded f vs ∷ events) = go (policy.next s f vs) refl (λ s'. either_from policy s' events)
+  where
+    go : (o : Option S) → policy.next s f vs ≡ o → ((s' : S) → ((t : S) × Allows policy s' events t) ⊎ Denies policy s' events) → ((t : S) × Allows policy s (guarded f vs ∷ events) t) ⊎ Denies policy s (guarded f vs ∷ events)
+    go None e rest = inr (record { before = []; function = f; values = vs; after = events; split = refl; state = s; allowed = refl; denied = e })
+    go (Some s') e rest = elim (rest s') [
+      | inl a ↦ inl (a.0, (s', e, a.1))
+      | inr d ↦ inr (record { before = guarded f vs ∷ d.before; function = d.function; values = d.values; after = d.after; split = ap (λ es. guarded f vs ∷ es) d.split; state = d.state; allowed = (s', e, d.allowed); denied = d.denied })
+    ]
+
+pub either : (S : Type 0) → RunsAreAllowedOrDenied S
+either S policy run = either_from policy policy.first run.events

@@ -1,5 +1,5 @@
 -- Laws of whole runs, and of what is expected of them under a policy.
-use Rattle.std.specs.Prelude.{◌≡◌, ◌≢◌, ◌<◌, ◌≤◌, ℕ, ◌+◌, ℤ, List, [], ◌∷◌, ◌++◌, Some, None}
+use Rattle.std.specs.Prelude.{◌≡◌, ◌≢◌, ◌<◌, ◌≤◌, ◌⊎◌, ℕ, ◌+◌, ℤ, List, [], ◌∷◌, ◌++◌, Some, None}
 use Rattle.pt_base.specs.declared.end.End.TheVariants.{Spent, Refused}
 use Rattle.typed_tree.specs.TypedTree.{TypedTree}
 use Rattle.source_meaning.specs.State.{Hosts, Event, out, guarded}
@@ -47,11 +47,25 @@ abbrev pub AllowedRunsStay : Type 0 → Type 0
 AllowedRunsStay S = (policy : Answers S) (run : Run) (t : S) → Allows policy policy.first run.events t →
     expected policy run ≡ record { bytes = written run.events; end = run.end }
 
--- Where a guarded call is denied and those before it were allowed, the bytes written before it are
--- expected, and its refusal: its number from 1, its function and the policy's state there.
+-- These events have a call that the policy denies: from state s on it allows those before, and in the
+-- state that it came to it denies this one.
+pub record Denies {S : Type 0} (policy : Answers S) (s : S) (events : List Event) : Type 0 where
+  pub before : List Event
+  pub function : ℕ
+  pub values : List ℤ
+  pub after : List Event
+  pub split : events ≡ before ++ guarded function values ∷ after
+  pub state : S
+  pub allowed : Allows policy s before state
+  pub denied : policy.next state function values ≡ None
+
+-- Where the policy denies a call, the bytes written before it are expected, and its refusal: its
+-- number from 1, its function and the policy's state there.
 abbrev pub DeniedRunsStop : Type 0 → Type 0
-DeniedRunsStop S = (policy : Answers S) (run : Run) (before after : List Event) (f : ℕ) (vs : List ℤ) (t : S) →
-    run.events ≡ before ++ guarded f vs ∷ after →
-    Allows policy policy.first before t →
-    policy.next t f vs ≡ None →
-    expected policy run ≡ record { bytes = written before; end = Refused (call_count before + 1) (record { 0 = f }) (policy.name t) }
+DeniedRunsStop S = (policy : Answers S) (run : Run) (d : Denies policy policy.first run.events) →
+    expected policy run ≡ record { bytes = written d.before; end = Refused (call_count d.before + 1) (record { 0 = d.function }) (policy.name d.state) }
+
+-- every run is the one or the other
+abbrev pub RunsAreAllowedOrDenied : Type 0 → Type 0
+RunsAreAllowedOrDenied S = (policy : Answers S) (run : Run) →
+    ((t : S) × Allows policy policy.first run.events t) ⊎ Denies policy policy.first run.events

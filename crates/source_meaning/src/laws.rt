@@ -1,5 +1,5 @@
 // What holds of whole runs, and of what is expected of them under a policy.
-ghost use Rattle.source_meaning.specs.Laws.{EndedRunsStay, SpentRunsUseAll, FewerTurnsShowLess, AllowedRunsStay, DeniedRunsStop};
+ghost use Rattle.source_meaning.specs.Laws.{EndedRunsStay, SpentRunsUseAll, FewerTurnsShowLess, AllowedRunsStay, DeniedRunsStop, RunsAreAllowedOrDenied};
 
 /// A run that ended before its budget was spent is the same with every budget that has the turns
 /// which it used, and is spent with every smaller one.
@@ -23,8 +23,12 @@ pub fn allowed_runs_stay<S>()
     ensures { AllowedRunsStay S }
 {}
 
-/// Where a guarded call is denied and those before it were allowed, what was written before it and
-/// its refusal are expected.
+/// Where the policy denies a guarded call, what was written before it and its refusal are expected.
 pub fn denied_runs_stop<S>()
     ensures { DeniedRunsStop S }
+{}
+
+/// Of each run the policy allows every guarded call, or it denies one and allows those before it.
+pub fn runs_are_allowed_or_denied<S>()
+    ensures { RunsAreAllowedOrDenied S }
 {}
