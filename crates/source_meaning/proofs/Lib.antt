@@ -5,3 +5,5 @@ pub mod LoopBudgets
 pub mod PolicyLaws
 pub mod RunLaws
 pub mod StatementBudgets
+pub mod WorkedRuns
+pub mod WorkedTrees
