@@ -1,5 +1,5 @@
 -- What is expected under a policy, event by event.
-use Rattle.std.proofs.Common.{◌⊎◌, inl, inr, Option, Some, None, ◌≡◌, ℕ, ◌+◌, List, [], ◌∷◌, ◌++◌, sym, ◌∙◌, ap, refl, arith}
+use Rattle.std.proofs.Common.{◌⊎◌, inl, inr, Option, Some, None, ◌≡◌, ℕ, ◌+◌, List, [], ◌∷◌, ◌++◌, ℤ, sym, ◌∙◌, ap, refl, subst, arith}
 use Rattle.std.proofs.lemmas.List.{append_assoc, append-nil}
 use Rattle.pt_base.specs.declared.end.End.{End}
 use Rattle.pt_base.specs.declared.end.End.TheVariants.{Refused}
@@ -23,9 +23,9 @@ allowed_first policy s t calls (guarded f vs ∷ before) after end h =
     ap (λ n. after_bytes (written before) (expected_from policy t n after end)) count
 
 pub allowed : (S : Type 0) → AllowedRunsStay S
-allowed S policy run t h =
+allowed S policy run all =
     ap (λ es. expected_from policy policy.first 0 es run.end) (sym (append-nil run.events)) ∙
-    allowed_first policy policy.first t 0 run.events [] run.end h ∙
+    allowed_first policy policy.first all.0 0 run.events [] run.end all.1 ∙
     ap (λ bs. record { bytes = bs; end = run.end }) (append-nil (written run.events))
 
 pub denied : (S : Type 0) → DeniedRunsStop S
@@ -54,5 +54,21 @@ either_from {S} policy s (guarded f vs ∷ events) = go (policy.next s f vs) ref
       | inr d ↦ inr (record { before = guarded f vs ∷ d.before; function = d.function; values = d.values; after = d.after; split = ap (λ es. guarded f vs ∷ es) d.split; state = d.state; allowed = (s', e, d.allowed); denied = d.denied })
     ]
 
+-- events that go on with a denied call aren't allowed
+never_both : {S : Type 0} (policy : Answers S) (s t u : S) (before after : List Event) (f : ℕ) (vs : List ℤ) → Allows policy s (before ++ guarded f vs ∷ after) t → Allows policy s before u → policy.next u f vs ≡ None → ⊥
+never_both policy s t u [] after f vs all some deny =
+    let here : policy.next s f vs ≡ None = ap (λ x. policy.next x f vs) some ∙ deny in
+    let there : policy.next s f vs ≡ Some all.0 = all.1 in
+    cc
+never_both policy s t u (out bytes ∷ before) after f vs all some deny = never_both policy s t u before after f vs all some deny
+never_both policy s t u (guarded g ws ∷ before) after f vs all some deny =
+    let one : policy.next s g ws ≡ Some all.0 = all.1 in
+    let two : policy.next s g ws ≡ Some some.0 = some.1 in
+    let same : some.0 ≡ all.0 = cc in
+    never_both policy all.0 t u before after f vs all.2 (subst (λ x. Allows policy x before u) same some.2) deny
+
 pub either : (S : Type 0) → RunsAreAllowedOrDenied S
-either S policy run = either_from policy policy.first run.events
+either S policy run = (
+  either_from policy policy.first run.events,
+  λ all d. never_both policy policy.first all.0 d.state d.before d.after d.function d.values (subst (λ es. Allows policy policy.first es all.0) d.split all.1) d.allowed d.denied,
+)

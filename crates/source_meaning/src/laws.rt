@@ -28,7 +28,8 @@ pub fn denied_runs_stop<S>()
     ensures { DeniedRunsStop S }
 {}
 
-/// Of each run the policy allows every guarded call, or it denies one and allows those before it.
+/// Of each run the policy allows every guarded call, or it denies one and allows those before it,
+/// and never both.
 pub fn runs_are_allowed_or_denied<S>()
     ensures { RunsAreAllowedOrDenied S }
 {}
