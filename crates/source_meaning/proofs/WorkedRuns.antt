@@ -128,6 +128,17 @@ aliases_run : whole_run aliases signing [] 2 ≡ record { events = guarded 0 [] 
 unfolding binary_of conv digits
 aliases_run = refl
 
+-- priv void f(int n, priv int k) { w(n); } priv void w(priv int v); int main(void) { f(3, 4); w(5); return 0; }
+abbrev guards : TypedTree
+guards = program
+    (main [] (does 0 ∷ does 1 ∷ returns 2 ∷ []) ∷
+    function (codes "f") None (int_param false ∷ int_param true ∷ []) true (of_type int ∷ of_type int ∷ []) (block anywhere (body_trees (does 3 ∷ []))) ∷ host (codes "w") None (int_param true ∷ []) true ∷ [])
+    (call anywhere None 1 (constant 3 ∷ constant 4 ∷ []) ∷ call anywhere None 2 (constant 5 ∷ []) ∷ constant 0 ∷ call anywhere None 2 (value 0 ∷ []) ∷ [])
+
+guards_outermost : whole_run guards no_host [] 9 ≡ record { events = guarded 1 (pos 3 ∷ []) ∷ out (3 ∷ []) ∷ guarded 2 [] ∷ out (5 ∷ []) ∷ []; end = Exit (pos 0); turns = 3 }
+unfolding binary_of conv
+guards_outermost = refl
+
 -- ---- objects
 
 -- int a[3]; return a[N];
@@ -149,6 +160,14 @@ writes_null = program (main (of_type to_int ∷ []) (declares 0 n.Nothing ∷ do
 
 writes_null_traps : whole_run writes_null no_host [] 0 ≡ record { events = []; end = Trapped trap.Null (at 25 27); turns = 0 }
 writes_null_traps = refl
+
+-- int g(void); int main(void) { int *p; *p = g(); return 0; }
+abbrev fixes_its_place : TypedTree
+fixes_its_place = program (main (of_type to_int ∷ []) (declares 0 n.Nothing ∷ does 0 ∷ returns 1 ∷ []) ∷ host (codes "g") (Some i.Int) [] false ∷ [])
+    (assign int (place (t.deref (read to_int (variable 0)) (at 38 40)) no_steps) (call anywhere (Some int) 1 []) ∷ constant 0 ∷ [])
+
+fixes_its_place_first : whole_run fixes_its_place no_host [] 5 ≡ record { events = []; end = Trapped trap.Null (at 38 40); turns = 0 }
+fixes_its_place_first = refl
 
 -- char c = 100; c += 200; return c;
 abbrev narrows : TypedTree
