@@ -4,6 +4,7 @@ pub mod ExpressionBudgets
 pub mod LoopBudgets
 pub mod PolicyLaws
 pub mod RunLaws
+pub mod SizeLemmas
 pub mod StatementBudgets
 pub mod WorkedRuns
 pub mod WorkedTrees

@@ -13,7 +13,7 @@ use Rattle.typed_tree.specs.declared.link.LogicalOp.{LogicalOp}
 use Rattle.typed_tree.specs.declared.link.LogicalOp.TheVariants.{And, Or}
 use Rattle.typed_tree.specs.ExpressionTree as t
 use Rattle.typed_tree.specs.ExpressionTree.{ExprTree, typed, FormTree, ExprTrees, no_exprs, expr_and, LinkTrees, no_links, link_and, link, OperandTrees, no_operands, operand_and, operand, PlaceTree, place, RootTree, StepTree, StepTrees, no_steps, step_and}
-use Rattle.typed_tree.specs.Objects.{sizes_of, cells_by, offset_of, fields_of, elem_type}
+use Rattle.typed_tree.specs.Sizes.{sizes_of, cells_by, offset_of, fields_of, elem_type}
 use Rattle.source_meaning.specs.Memory.{Block, local, global, Cell, number, null, pointer, read, write, Memory}
 use Rattle.source_meaning.specs.State.{State, Outcome, gives, trapped, ◌>>=◌}
 use Rattle.source_meaning.specs.Values.{Value, holds, whole, nothing, cell_of, number_of, is_true, truth_value, converted, converted_cell, moved, Location, reached, unary_cell, stepped, unit_step}

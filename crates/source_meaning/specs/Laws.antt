@@ -2,6 +2,10 @@
 use Rattle.std.specs.Prelude.{◌≡◌, ◌≢◌, ◌<◌, ◌≤◌, ◌⊎◌, ℕ, ◌+◌, ℤ, List, [], ◌∷◌, ◌++◌, Some, None}
 use Rattle.pt_base.specs.declared.end.End.TheVariants.{Spent, Refused}
 use Rattle.typed_tree.specs.TypedTree.{TypedTree}
+use Rattle.typed_tree.specs.declared.types.StructInfo.{StructInfo}
+use Rattle.typed_tree.specs.declared.types.VarTy.{VarTy}
+use Rattle.typed_tree.specs.Cells.{cells_of}
+use Rattle.typed_tree.specs.Sizes.{cells_by, sizes_of}
 use Rattle.source_meaning.specs.State.{Hosts, Event, out, guarded}
 use Rattle.source_meaning.specs.Run.{Run, written, Answers, expected}
 use Rattle.source_meaning.specs.WholeRun.{whole_run}
@@ -74,3 +78,7 @@ abbrev pub RunsAreAllowedOrDenied : Type 0 → Type 0
 RunsAreAllowedOrDenied S = (policy : Answers S) (run : Run) →
     (AllowsAll policy run.events ⊎ Denies policy policy.first run.events) ×
     (AllowsAll policy run.events → Denies policy policy.first run.events → ⊥)
+
+-- The sizes by which objects are laid out are the numbers of their integer leaves.
+abbrev pub SizesAreLeaves : Type 0
+SizesAreLeaves = (structs : List StructInfo) (ty : VarTy) → cells_by (sizes_of structs) ty ≡ cells_of structs ty

@@ -17,7 +17,7 @@ use Rattle.typed_tree.specs.declared.types.VarTy.{VarTy}
 use Rattle.typed_tree.specs.declared.types.VarTy.TheVariants.{Int, Struct, Array, Pointer}
 use Rattle.typed_tree.specs.declared.link.LinkStep.{LinkStep}
 use Rattle.typed_tree.specs.declared.link.LinkStep.TheVariants.{Arithmetic, Shift, Move, MoveBy, Difference, Compare}
-use Rattle.typed_tree.specs.Objects.{cells_by, elem_cells}
+use Rattle.typed_tree.specs.Sizes.{cells_by, elem_cells}
 use Rattle.typed_tree.specs.Pointers.{cell_at, directed, moved_index}
 use Rattle.source_meaning.specs.Memory.{Block, same_block, Cell, number, null, pointer}
 

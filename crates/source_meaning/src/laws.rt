@@ -1,5 +1,5 @@
 // What holds of whole runs, and of what is expected of them under a policy.
-ghost use Rattle.source_meaning.specs.Laws.{EndedRunsStay, SpentRunsUseAll, FewerTurnsShowLess, AllowedRunsStay, DeniedRunsStop, RunsAreAllowedOrDenied};
+ghost use Rattle.source_meaning.specs.Laws.{EndedRunsStay, SpentRunsUseAll, FewerTurnsShowLess, AllowedRunsStay, DeniedRunsStop, RunsAreAllowedOrDenied, SizesAreLeaves};
 
 /// A run that ended before its budget was spent is the same with every budget that has the turns
 /// which it used, and is spent with every smaller one.
@@ -32,4 +32,9 @@ pub fn denied_runs_stop<S>()
 /// and never both.
 pub fn runs_are_allowed_or_denied<S>()
     ensures { RunsAreAllowedOrDenied S }
+{}
+
+/// The sizes by which objects are laid out are the numbers of their integer leaves.
+pub fn sizes_are_leaves()
+    ensures { SizesAreLeaves }
 {}

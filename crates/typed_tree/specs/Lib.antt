@@ -1,6 +1,16 @@
+pub mod Cells
 pub mod ExpressionTree
-pub mod Objects
+pub mod HostProgram
+pub mod Lookup
+pub mod Nodes
+pub mod Parts
 pub mod Pointers
+pub mod Sizes
 pub mod StatementTree
+pub mod TypeRules
+pub mod TypeTests
 pub mod TypedTree
 pub mod TypedView
+pub mod WellFormed
+pub mod WellFormedExpression
+pub mod WellFormedStatement

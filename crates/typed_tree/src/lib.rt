@@ -3,18 +3,22 @@
 
 mod expression;
 mod function;
+mod host_program;
 mod ids;
 mod link;
+mod part;
 mod place;
 mod statement;
 mod typed;
 mod types;
 mod variable;
+mod walk;
 
 pub use expression::{Form, TypedExpr};
 pub use function::TypedFn;
 pub use ids::ExprId;
 pub use link::{LinkStep, LogicalOp, TypedLink, TypedOperand};
+pub use part::{Part, Role};
 pub use place::{Place, PlaceStep, Root};
 pub use statement::{
     Items, TypedBody, TypedDeclaration, TypedDeclarator, TypedForInit, TypedInit, TypedLabel,

@@ -1,5 +1,5 @@
--- Objects as blocks of cells: one cell for each integer leaf, in the order of the declarations, and
--- one for a pointer.
+-- How many cells objects have, by a table of the structs' sizes: one cell for each integer leaf. A
+-- pointer has none here; the block of a pointer variable is one cell.
 use Rattle.std.specs.Prelude.{ℕ, ◌+◌, ◌*◌, List, [], ◌∷◌, ◌++◌, get_or, take}
 use Rattle.pt_tree.specs.declared.signature.Elem.{Elem}
 use Rattle.pt_tree.specs.declared.signature.Elem.TheVariants as e
@@ -18,7 +18,7 @@ abbrev pub cells_by : List ℕ → VarTy → ℕ
 cells_by sizes (Int t) = 1
 cells_by sizes (Struct n) = get_or sizes n 0
 cells_by sizes (Array elem count) = count * elem_cells sizes elem
-cells_by sizes (Pointer elem fixed) = 1
+cells_by sizes (Pointer elem fixed) = 0
 
 abbrev pub fields_cells : List ℕ → List Field → ℕ
 fields_cells sizes [] = 0
