@@ -1,5 +1,11 @@
+pub mod Expressions
+pub mod Functions
+pub mod Laws
 pub mod Meaning
 pub mod Memory
 pub mod Program
 pub mod Run
 pub mod State
+pub mod Statements
+pub mod Values
+pub mod WholeRun

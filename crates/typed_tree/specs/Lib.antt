@@ -4,6 +4,8 @@ pub mod HostProgram
 pub mod Lookup
 pub mod Nodes
 pub mod Parts
+pub mod Pointers
+pub mod Sizes
 pub mod StatementTree
 pub mod TypeRules
 pub mod TypeTests

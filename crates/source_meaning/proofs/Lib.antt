@@ -1,0 +1,10 @@
+pub mod Budgets
+pub mod CallBudgets
+pub mod ExpressionBudgets
+pub mod LoopBudgets
+pub mod PolicyLaws
+pub mod RunLaws
+pub mod SizeLemmas
+pub mod StatementBudgets
+pub mod WorkedRuns
+pub mod WorkedTrees

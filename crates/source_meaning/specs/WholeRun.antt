@@ -1,0 +1,52 @@
+-- The run of a whole program within a budget of turns.
+use Rattle.std.specs.Prelude.{ℕ, suc, ◌-◌, ◌+◌, pos, false, List, [], ◌∷◌, map, codes, if◌then◌else◌}
+use Rattle.std.specs.Str.{bytes_eq}
+use Rattle.pt_base.specs.declared.end.End.TheVariants.{Exit, Trapped, Spent}
+use Rattle.typed_tree.specs.declared.variable.TypedGlobal.{TypedGlobal}
+use Rattle.typed_tree.specs.TypedTree.{TypedTree, FunctionTree}
+use Rattle.source_meaning.specs.Memory.{Memory, global, number, nothing_live, put}
+use Rattle.source_meaning.specs.State.{State, Hosts, Outcome, gives, trapped, spent}
+use Rattle.source_meaning.specs.Run.{Run}
+use Rattle.source_meaning.specs.Values.{number_of}
+use Rattle.source_meaning.specs.Expressions.{Frame}
+use Rattle.source_meaning.specs.Statements.{Flow, goes_on, broke, continues, returned, statement}
+use Rattle.source_meaning.specs.Functions.{body_at, code_at, calls_within}
+
+-- the deepest call
+abbrev pub deepest : ℕ
+deepest = 200
+
+-- the number of the function with this name, from this one on
+abbrev pub named_from : ℕ → List FunctionTree → List ℕ → ℕ
+named_from n [] name = n
+named_from n (f ∷ fs) name = if bytes_eq name f.signature.name then n else named_from (suc n) fs name
+
+abbrev pub main_of : TypedTree → ℕ
+main_of program = named_from 0 program.functions (codes "main")
+
+-- the memory at the start: each global with its cells
+abbrev pub with_globals : Memory → ℕ → List TypedGlobal → Memory
+with_globals memory g [] = memory
+with_globals memory g (x ∷ xs) = with_globals (put memory (global g) (map number x.cells)) (g + 1) xs
+
+abbrev pub begun : TypedTree → Hosts → List ℕ → ℕ → State
+begun program hosts input turns =
+    record { memory = with_globals nothing_live 0 program.globals; hosts = hosts; input = input; events = []; left = turns }
+
+abbrev pub main_frame : Frame
+main_frame = record { depth = 1; privileged = false }
+
+-- the run that main comes to; reaching its closing brace returns 0 (C99 5.1.2.2.3)
+abbrev pub run_of : ℕ → Outcome Flow → Run
+run_of turns (gives goes_on st) = record { events = st.events; end = Exit (pos 0); turns = turns - st.left }
+run_of turns (gives broke st) = record { events = st.events; end = Exit (pos 0); turns = turns - st.left }
+run_of turns (gives continues st) = record { events = st.events; end = Exit (pos 0); turns = turns - st.left }
+run_of turns (gives (returned v) st) = record { events = st.events; end = Exit (number_of v); turns = turns - st.left }
+run_of turns (trapped trap s st) = record { events = st.events; end = Trapped trap s; turns = turns - st.left }
+run_of turns (spent st) = record { events = st.events; end = Spent; turns = turns - st.left }
+
+-- the run of a program with these hosts and this input within a budget of turns; main runs at depth 1,
+-- and entering it takes no turn
+abbrev pub whole_run : TypedTree → Hosts → List ℕ → ℕ → Run
+whole_run program hosts input turns =
+    run_of turns (statement (body_at program (main_of program)) (code_at program (main_of program) main_frame (calls_within program (deepest - 1))) (begun program hosts input turns))
