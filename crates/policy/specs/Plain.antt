@@ -3,19 +3,7 @@ use Rattle.std.specs.Prelude.{◌≡◌, ℕ, ℤ, Bool, false, not, List, [], �
 use Rattle.std.specs.Option.{option_map_or}
 use Rattle.std.specs.List.{count_by}
 use Rattle.pt_tree.specs.declared.signature.Param.{Param}
-use Rattle.pt_tree.specs.declared.signature.ParamKind.{ParamKind}
-use Rattle.pt_tree.specs.declared.signature.ParamKind.TheVariants.{Int, Ptr}
-
--- the parameter takes a number, and isn't marked
-abbrev pub is_plain : ParamKind → Bool → Bool
-is_plain (Int t) marked = not marked
-is_plain (Ptr elem fixed) marked = false
-
--- the numbers that a call gives for unmarked integer parameters, of all that it gives
-abbrev pub plain_numbers : List Param → List ℤ → List ℤ
-plain_numbers [] vs = []
-plain_numbers (p ∷ ps) [] = []
-plain_numbers (p ∷ ps) (v ∷ vs) = if is_plain p.kind p.marked then v ∷ plain_numbers ps vs else plain_numbers ps vs
+use Rattle.pt_tree.specs.PlainNumbers.{is_plain, plain_numbers}
 
 -- the parameter at the place is there, takes a number and isn't marked
 abbrev pub is_seen : List Param → ℕ → Bool

@@ -1,7 +1,8 @@
 // The plain numbers of a call: those of integer parameters that aren't marked `priv`.
 ghost use Rattle.std.specs.Prelude.{◌≡◌, ◌++◌, IfOk, map, if◌then◌else◌};
 ghost use Rattle.std.specs.Option.{option_map};
-ghost use Rattle.policy.specs.Plain.{is_plain, is_seen, plain_place};
+ghost use Rattle.pt_tree.specs.PlainNumbers.{is_plain};
+ghost use Rattle.policy.specs.Plain.{is_seen, plain_place};
 ghost use Rattle.policy.specs.ProgramRules.{are_seen, plain_range};
 
 use crate::argument::ArgRange;

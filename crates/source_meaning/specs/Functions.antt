@@ -4,10 +4,8 @@ use Rattle.pt_base.specs.declared.int_type.IntType.{IntType}
 use Rattle.pt_base.specs.declared.span.Span.{Span}
 use Rattle.pt_base.specs.declared.trap.Trap.TheVariants.{Depth, NoReturn}
 use Rattle.pt_tree.specs.declared.signature.Signature.{Signature}
-use Rattle.pt_tree.specs.declared.signature.Param.{Param}
-use Rattle.pt_tree.specs.declared.signature.ParamKind.{ParamKind}
-use Rattle.pt_tree.specs.declared.signature.ParamKind.TheVariants.{Int, Ptr}
 use Rattle.pt_tree.specs.HostStep.{Answer, host_step}
+use Rattle.pt_tree.specs.PlainNumbers.{plain_numbers}
 use Rattle.typed_tree.specs.StatementTree.{BodyTree, block, nothing}
 use Rattle.typed_tree.specs.TypedTree.{TypedTree, FunctionTree}
 use Rattle.source_meaning.specs.Memory.{Block, local, global, number, Memory, put}
@@ -48,17 +46,6 @@ code_at program f frame calls = record {
 }
 
 -- ---- events
-
--- the parameter takes a number, and isn't marked
-abbrev pub is_plain : ParamKind → Bool → Bool
-is_plain (Int t) marked = not marked
-is_plain (Ptr elem fixed) marked = false
-
--- the numbers that a call gives for unmarked integer parameters
-abbrev pub plain_numbers : List Param → List ℤ → List ℤ
-plain_numbers [] vs = []
-plain_numbers (p ∷ ps) [] = []
-plain_numbers (p ∷ ps) (v ∷ vs) = if is_plain p.kind p.marked then v ∷ plain_numbers ps vs else plain_numbers ps vs
 
 -- a call of a privileged function while none is active is guarded
 abbrev pub guarded_event : Frame → Signature → ℕ → List Value → List Event
