@@ -206,7 +206,3 @@ models_by-set (e ∷ models) f (suc i) old new g differ stands =
     later_set (nat_eq f g) (nat_eq g e.0) e.1 new (models_by models g) (models_by (set models i (f, new)) g)
     (λ own here. true≢false (sym (ap (nat_eq e.0) (exact_unsigned_eq f g own) ∙ nat_eq_equiv.symm e.0 g ∙ here) ∙ all_at (λ q. nat_eq e.0 q ≡ false) models i (f, old) differ.0 stands))
     (models_by-set models f i old new g differ.1 stands)
-
-pub one_number : (models : Models) (m : ℕ × HostModel) → models ≡ m ∷ [] → IsDistinct nat_eq (keys_of models)
-unfolding IsDistinct
-one_number models m is = rw is (tt, tt)
