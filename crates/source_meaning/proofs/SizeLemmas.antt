@@ -50,7 +50,7 @@ sizes_after_leaves : (known : List (List IntType)) (structs : List StructInfo) �
 sizes_after_leaves known [] = refl
 sizes_after_leaves known (s ∷ ss) =
     let one : map length known ++ fields_cells (map length known) s.fields ∷ [] ≡ map length (known ++ struct_leaves known s ∷ []) =
-        ap (λ k. map length known ++ k ∷ []) (fields_size known s.fields) ∙ sym (map_append known (struct_leaves known s ∷ [])) in
+    ap (λ k. map length known ++ k ∷ []) (fields_size known s.fields) ∙ sym (map_append known (struct_leaves known s ∷ [])) in
     ap (λ xs. sizes_after xs ss) one ∙ sizes_after_leaves (known ++ struct_leaves known s ∷ []) ss
 
 pub sizes : (structs : List StructInfo) (ty : VarTy) → cells_by (sizes_of structs) ty ≡ cells_of structs ty
