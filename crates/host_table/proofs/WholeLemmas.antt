@@ -1,19 +1,18 @@
 -- A table without faults has a model for each host, and it fits.
-use Rattle.std.proofs.Common.{◌≡◌, ◌≤◌, ℕ, zero, suc, ℤ, List, [], ◌∷◌, ◌++◌, length, slice_get, Bool, true, false, true≢false, ◌&&◌, nat_le, nat_lt, Option, Some, None, IsSome, option_map, is_some, if◌then◌else◌, subst, refl, sym, ap, ◌∙◌, arith, Result, Ok, Err, IfOk}
+use Rattle.std.proofs.Common.{◌≡◌, ◌≤◌, ℕ, zero, suc, ℤ, List, [], ◌∷◌, ◌++◌, length, slice_get, Bool, true, false, true≢false, ◌&&◌, nat_le, nat_lt, Option, Some, None, option_map, is_some, if◌then◌else◌, subst, refl, sym, ap, ◌∙◌, arith, Result, Ok, Err, IfOk}
 use Rattle.std.proofs.lemmas.Bool.Decides.{nat_tests}
 use Rattle.std.proofs.lemmas.Option.{none-some, same_Some}
 use Rattle.std.specs.Option.{option_and_then, option_to_list}
 use Rattle.pt_base.specs.declared.ids.FnId.{FnId}
-use Rattle.pt_tree.specs.HostStep.{host_step}
 use Rattle.pt_tree.specs.declared.host_model.HostModel.{HostModel}
 use Rattle.pt_tree.specs.declared.host_model.HostModel.TheVariants.{Table, Feed, Input, Bytes, Line}
 use Rattle.pt_tree.specs.declared.row.Row.{Row}
 use Rattle.pt_tree.specs.declared.signature.Signature.{Signature}
 use Rattle.serde_json.specs.Data.{Data}
 use Rattle.serde_json.specs.Find.{get, as_object}
-use Rattle.host_table.specs.Entries.{model_of_kind, model_in, kind_in, table_in, feed_in, rows_in, values_in, other_in, shaped_or_not, entry_by, entry_of}
+use Rattle.host_table.specs.Entries.{model_of_kind, model_in, kind_in, rows_in, values_in, other_in, shaped_or_not, entry_by, entry_of}
 use Rattle.host_table.specs.Fits.{has_right_params, has_numbers_in_range, has_short_name, fits}
-use Rattle.host_table.specs.HostFaults.{host_faults, faults_by, faults_after, fault_after, entry_fault, is_taken, is_input, shaped_model, host_model, reading_of, table_hosts, IsReading}
+use Rattle.host_table.specs.HostFaults.{faults_by, faults_after, fault_after, entry_fault, is_taken, is_input, shaped_model, host_model, reading_of, table_hosts, IsReading}
 use Rattle.host_table.specs.Hosts.{Hosts, hosts_of}
 use Rattle.host_table.specs.Whole.{HasHosts, FitsOn}
 use Rattle.host_table.specs.declared.entry.Entry.{Entry}

@@ -1,11 +1,8 @@
-use Rattle.std.proofs.Common.{◌≡◌, ◌≤◌, ◌^◌, length, map, sym, ap, subst, ◌∙◌, Ok, Err, Result, arith}
+use Rattle.std.proofs.Common.{◌≡◌, ◌≤◌, ◌^◌, length, map, arith}
 use Rattle.std.proofs.lemmas.List.{length-map}
-use Rattle.std.specs.Prelude.{IfOk}
-use Rattle.pt_tree.specs.declared.signature.Signature.{Signature}
 use Rattle.typed_tree.specs.TypedTree.{view_function}
 use Rattle.typed_tree.specs.TypedView.{view_typed}
 use Rattle.host_table.specs.Found.{signatures_in}
-use Rattle.host_table.specs.HostFaults.{IsReading, signatures_of}
 use Rattle.host_table.proofs.ProgramLemmas.{few_functions, same_signatures}
 use Rattle.host_table.proofs.WholeLemmas.{readings_have}
 use Rattle.host_table.proofs.reading.read_host.Goals as goal
