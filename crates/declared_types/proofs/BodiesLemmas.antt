@@ -1,15 +1,15 @@
 -- Struct specifiers, with a body and as they stand in a tree.
-use Rattle.std.proofs.Common.{◌≡◌, ◌∙◌, refl, ap, sym, subst, List, [], ◌∷◌, ◌++◌, Bool, true, false, map, length, nat_eq, Vec, Result, Ok, Err, OnOk, if◌then◌else◌}
+use Rattle.std.proofs.Common.{◌≡◌, ◌∙◌, refl, ap, sym, List, [], ◌∷◌, Bool, true, false, length, nat_eq, Vec, Result, Ok, Err, OnOk, if◌then◌else◌}
 use Rattle.std.specs.declared.alloc.Global.{Global}
 use Rattle.pt_base.specs.declared.span.Span.{Span}
 use Rattle.pt_tree.specs.declared.word.Word.{Word}
 use Rattle.pt_tree.specs.declared.specifier.FieldDecl.{FieldDecl}
 use Rattle.pt_tree.specs.declared.specifier.Spec.{Spec}
 use Rattle.pt_tree.specs.declared.specifier.Spec.TheVariants.{Struct}
-use Rattle.pt_tree.specs.SpecifierTree.{FieldTrees, structure, view_spec, view_field, field_trees}
+use Rattle.pt_tree.specs.SpecifierTree.{view_spec}
 use Rattle.pt_tree.proofs.Rows.{view_structure}
 use Rattle.declared_types.specs.Structs.{Fields, Structs}
-use Rattle.declared_types.specs.Specifiers.{Naming, Body, defined, defined_by, referred, has_fields, body_of, named_by, named_struct, view_body}
+use Rattle.declared_types.specs.Specifiers.{defined_by, referred, has_fields, body_of, named_by, named_struct, view_body}
 
 -- a struct specifier of a tree, by the list of its fields
 pub named_is : (at_file : Bool) (first : Span) (structs : Structs) (spec : Spec) (s : Span) (tag : Word) (body : Vec FieldDecl Global) (fields : List FieldDecl)

@@ -1,6 +1,5 @@
-use Rattle.std.proofs.Common.{◌≡◌, ◌∙◌, ap, sym, subst, ◌++◌, ◌∷◌, [], IfOk, OnOk, map, nat_eq, length, false, arith}
+use Rattle.std.proofs.Common.{◌≡◌, ◌∙◌, ap, sym, subst, ◌++◌, ◌∷◌, [], IfOk, OnOk, nat_eq, length, false, arith}
 use Rattle.std.proofs.lemmas.List.{append_assoc}
-use Rattle.pt_tree.specs.SpecifierTree.{view_field, view_spec, field_trees}
 use Rattle.declared_types.specs.Specifiers as is
 use Rattle.declared_types.proofs.BodiesLemmas.{named_is, named_with_body, on_ok}
 use Rattle.declared_types.proofs.bodies.+bodies.Goals as goal

@@ -1,5 +1,5 @@
-use Rattle.std.proofs.Common.{◌≡◌, ◌++◌, [], drop, map}
-use Rattle.pt_tree.specs.SpecifierTree.{view_specs, view_field, field_trees}
+use Rattle.std.proofs.Common.{◌≡◌, ◌++◌, [], drop}
+use Rattle.pt_tree.specs.SpecifierTree.{view_specs}
 use Rattle.declared_types.specs.Specifiers as is
 use Rattle.declared_types.proofs.bodies.+bodies.Given as goal
 

@@ -1,6 +1,6 @@
 use Rattle.std.proofs.Common.{◌≡◌, ◌∙◌, ap, arith, refl, true}
 use Rattle.declared_types.specs.NameTables.{is_new, with_name}
-use Rattle.declared_types.proofs.NameTableLemmas.{named, named-insert}
+use Rattle.declared_types.proofs.NameTableLemmas.{named-insert}
 use Rattle.declared_types.proofs.name_table.NameTable.add.Goals as goal
 
 pub returns-clause-added : goal.returns-clause-added
