@@ -1,12 +1,10 @@
 -- The two bounds of a word, by its first point.
-use Rattle.std.proofs.Common.{◌≡◌, ◌∙◌, ◌+◌, ◌<◌, ℕ, ℤ, zero, suc, Bool, true, false, cond, not, ◌&&◌, ◌==◌, if◌then◌else◌, List, [], ◌∷◌, ◌++◌, length, take, drop, slice_index, Option, Some, None, refl, ap, ap₂, sym, subst, arith, one-add, add-suc, add-zero, suc-add}
-use Rattle.std.specs.Option.{option_map, option_and_then}
+use Rattle.std.proofs.Common.{◌≡◌, ◌∙◌, ◌+◌, ℕ, ℤ, zero, suc, cond, not, ◌&&◌, ◌==◌, if◌then◌else◌, List, [], ◌∷◌, ◌++◌, length, take, drop, slice_index, Option, Some, None, refl, ap, ap₂, sym, arith, one-add, add-zero, suc-add}
 use Rattle.std.specs.List.{position_or_len}
 use Rattle.std.proofs.lemmas.Bool.{eqb-true}
-use Rattle.policy.specs.Numbers.{IsBound}
 use Rattle.policy.specs.Rules.{AreBounds}
 use Rattle.policy.specs.Reading.{bound_of, bounds_of, pair_of}
-use Rattle.policy.proofs.OptionLemmas.{if_some, map_some, then_some, both}
+use Rattle.policy.proofs.OptionLemmas.{if_some, both}
 use Rattle.policy.proofs.DecimalLaws.{bound_is, bound_gives, bound_pointless, Pointless}
 
 -- two points stand at the place

@@ -1,7 +1,7 @@
 -- The two bounds of a word.
-use Rattle.std.proofs.Common.{◌≡◌, ◌∙◌, ◌+◌, ◌-◌, ◌<◌, ℕ, ℤ, suc, Bool, true, false, cond, not, ◌&&◌, nat_lt, ◌==◌, if◌then◌else◌, List, [], ◌∷◌, length, take, drop, get_or, slice_index, Option, Some, None, refl, ap, ap₂, sym, subst, arith, one-add, length-drop, take_all, eq-eqb}
+use Rattle.std.proofs.Common.{◌≡◌, ◌∙◌, ◌+◌, ◌-◌, ◌<◌, ℕ, ℤ, suc, Bool, true, false, cond, not, ◌&&◌, nat_lt, ◌==◌, if◌then◌else◌, List, [], ◌∷◌, length, take, drop, slice_index, Option, Some, None, refl, ap, ap₂, sym, arith, one-add, length-drop, take_all, eq-eqb}
 use Rattle.std.proofs.lemmas.Bool.Decides.{nat_tests}
-use Rattle.std.specs.List.{position, position_or_len, prefix_len}
+use Rattle.std.specs.List.{position, position_or_len}
 use Rattle.policy.specs.Reading.{bound_of, bounds_of, pair_of}
 
 -- at the first place that passes, the byte passes

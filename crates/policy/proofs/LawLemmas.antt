@@ -7,7 +7,7 @@ use Rattle.pt_tree.specs.declared.signature.Signature.{Signature}
 use Rattle.policy.specs.Lines.{lines_of}
 use Rattle.policy.specs.Spelled.{SpelledRule}
 use Rattle.policy.specs.LineReading.{read_from}
-use Rattle.policy.specs.PolicyFault.{IsPolicy, IsFirstFault, IsPolicyFault}
+use Rattle.policy.specs.PolicyFault.{IsPolicy, IsPolicyFault}
 use Rattle.policy.specs.Laws.{RuleIsOne, PolicyIsOne, FaultIsOne, PolicyOrFault}
 use Rattle.policy.specs.declared.rule.Rule.{Rule}
 use Rattle.policy.specs.declared.error.PolicyFaultKind.TheVariants.{TooLong}

@@ -1,5 +1,5 @@
 -- The first line of a text, and the first word of a line.
-use Rattle.std.proofs.Common.{◌≡◌, ◌∙◌, ◌+◌, ◌<◌, ◌≤◌, ℕ, zero, suc, Bool, true, false, cond, not, nat_eq, if◌then◌else◌, List, [], ◌∷◌, ◌++◌, length, take, drop, refl, ap, sym, subst, arith, add-one, one-add, length-take, length-drop, take_all, drop_of_length-le, ap₂, ◌-◌, min}
+use Rattle.std.proofs.Common.{◌≡◌, ◌∙◌, ◌+◌, ◌<◌, ◌≤◌, ℕ, suc, Bool, true, false, cond, not, if◌then◌else◌, List, [], ◌∷◌, length, take, drop, refl, ap, sym, subst, arith, add-one, one-add, length-take, length-drop, take_all, drop_of_length-le, ap₂, ◌-◌}
 use Rattle.std.specs.Prelude.{◌==◌}
 use Rattle.std.specs.List.{filter, prefix_len, slice_split, onto_first}
 use Rattle.policy.specs.Lines.{lines_of, words_of, is_blank, is_word}

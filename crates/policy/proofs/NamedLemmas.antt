@@ -1,5 +1,5 @@
 -- One function more in a list of numbers by name.
-use Rattle.std.proofs.Common.{◌≡◌, ◌∙◌, ◌+◌, ◌-◌, ◌<◌, ℕ, suc, cond, List, ◌∷◌, length, drop, get_or, map, Option, Some, refl, ap, ap₂, sym, arith, drop-cons, add-one, Bor}
+use Rattle.std.proofs.Common.{◌≡◌, ◌∙◌, ◌+◌, ◌-◌, ◌<◌, ℕ, cond, List, ◌∷◌, length, drop, get_or, map, Option, Some, ap, ap₂, sym, arith, drop-cons, add-one, Bor}
 use Rattle.std.specs.List.{position_from}
 use Rattle.std.specs.Str.{bytes_eq}
 use Rattle.pt_tree.specs.declared.signature.Signature.{Signature}

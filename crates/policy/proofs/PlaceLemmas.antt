@@ -1,5 +1,5 @@
 -- One item more at the front, in tables of places.
-use Rattle.std.proofs.Common.{◌≡◌, ◌∙◌, ◌+◌, ◌-◌, ◌<◌, ◌≤◌, ℕ, suc, Bool, ◌&&◌, cond, nat_eq, List, [], ◌∷◌, ◌++◌, length, drop, get_or, reverse, Option, Some, refl, ap, ap₂, sym, arith, drop-cons, add-one}
+use Rattle.std.proofs.Common.{◌≡◌, ◌∙◌, ◌+◌, ◌-◌, ◌<◌, ℕ, suc, Bool, cond, List, [], ◌∷◌, ◌++◌, length, drop, get_or, reverse, Option, Some, ap, ap₂, sym, arith, drop-cons}
 use Rattle.std.specs.List.{position_from}
 use Rattle.std.proofs.lemmas.List.{reverse-append}
 use Rattle.policy.specs.Places.{is_keyed, state_number, steps_from}

@@ -1,8 +1,8 @@
 -- The argument of a plain parameter stands among the plain numbers at its place.
-use Rattle.std.proofs.Common.{◌≡◌, ◌∙◌, ◌+◌, ℕ, ℤ, zero, suc, Bool, true, false, if◌then◌else◌, List, [], ◌∷◌, take, slice_get, Option, Some, None, refl, ap, sym, subst, arith, one-add, zero-add, count_by, cond}
+use Rattle.std.proofs.Common.{◌≡◌, ◌∙◌, ◌+◌, zero, suc, Bool, true, false, if◌then◌else◌, List, [], ◌∷◌, take, slice_get, refl, ap, one-add, zero-add, cond}
 use Rattle.pt_tree.specs.declared.signature.Param.{Param}
 use Rattle.std.proofs.lemmas.List.Sums.{sum_by-cons}
-use Rattle.policy.specs.Plain.{is_plain, plain_numbers, is_seen, plain_place, PlacesAreArguments}
+use Rattle.policy.specs.Plain.{is_plain, plain_numbers, plain_place, PlacesAreArguments}
 
 no_numbers : (params : List Param) → plain_numbers params [] ≡ []
 no_numbers [] = refl

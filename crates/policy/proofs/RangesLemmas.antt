@@ -1,5 +1,5 @@
 -- One range more at the front.
-use Rattle.std.proofs.Common.{◌≡◌, ◌∙◌, ℕ, List, [], ◌∷◌, ◌++◌, Option, Some, None, refl, ap, ap₂, sym, append_assoc}
+use Rattle.std.proofs.Common.{◌≡◌, ◌∙◌, ℕ, List, [], ◌∷◌, ◌++◌, Option, Some, None, ap, ap₂, sym, append_assoc}
 use Rattle.std.specs.Option.{option_map, option_map_or}
 use Rattle.policy.specs.declared.argument.ArgRange.{ArgRange}
 use Rattle.policy.specs.Reading.{range_of, first_range, ranges_of, onto_ranges}

@@ -1,13 +1,13 @@
 -- Words spell a rule exactly where the reading finds it.
-use Rattle.std.proofs.Common.{◌≡◌, ◌∙◌, ◌+◌, ◌-◌, ◌^◌, ◌<◌, ◌≤◌, ℕ, ℤ, zero, suc, Bool, true, false, ◌&&◌, ◌==◌, nat_le, if◌then◌else◌, List, [], ◌∷◌, ◌++◌, length, take, drop, slice_index, Option, Some, None, refl, ap, ap₂, sym, subst, arith, codes, bytes_eq, ◌↔◌}
+use Rattle.std.proofs.Common.{◌≡◌, ◌∙◌, ◌+◌, ◌-◌, ◌^◌, ◌<◌, ◌≤◌, ℕ, suc, true, ◌&&◌, ◌==◌, nat_le, List, [], ◌∷◌, ◌++◌, length, Option, Some, None, refl, ap, ap₂, sym, subst, arith, codes, bytes_eq}
 use Rattle.std.specs.Option.{option_map, option_map_or, option_and_then}
 use Rattle.std.specs.Int.{is_in_range}
-use Rattle.std.proofs.lemmas.Bool.{eqb-true, eq-eqb}
+use Rattle.std.proofs.lemmas.Bool.{eqb-true}
 use Rattle.std.proofs.lemmas.Bool.Decides.{nat_tests}
 use Rattle.policy.specs.Numbers.{IsCount}
 use Rattle.policy.specs.Spelled.{SpelledRule}
 use Rattle.policy.specs.Rules.{is_state, IsParameter, AreBounds, AreRanges, none, more, IsLimit, without, at_most, IsRule}
-use Rattle.policy.specs.Reading.{after_word, first_word, first_state, digits_below, parameter_of, range_with, range_of, first_range, onto_ranges, ranges_of, count_from, limit_from, alone, target_of, ending_of, Beginning, beginning_of, bounds_of, rule_with, rule_of}
+use Rattle.policy.specs.Reading.{after_word, first_word, first_state, digits_below, parameter_of, range_with, range_of, onto_ranges, ranges_of, count_from, limit_from, alone, target_of, ending_of, Beginning, beginning_of, bounds_of, rule_with, rule_of}
 use Rattle.policy.specs.declared.argument.ArgRange.{ArgRange}
 use Rattle.policy.proofs.OptionLemmas.{if_some, if_true, map_some, then_some, both, bytes_same, bytes_equal}
 use Rattle.policy.proofs.DecimalLaws.{count_is, count_gives}

@@ -1,10 +1,9 @@
 -- A policy after a rule was used.
-use Rattle.std.proofs.Common.{◌≡◌, ◌∙◌, ◌+◌, ◌<◌, ◌≤◌, ℕ, ℤ, Bool, true, List, length, get_or, set, slice_get, slice_index, slice_set, Option, Some, None, refl, ap, ap₂, sym, subst, arith, length-set}
+use Rattle.std.proofs.Common.{◌≡◌, ◌∙◌, ◌+◌, ◌<◌, ℕ, ℤ, true, List, length, get_or, slice_get, slice_index, slice_set, Option, Some, refl, ap, ap₂, sym, arith, length-set}
 use Rattle.std.specs.Option.{option_map_or}
 use Rattle.std.proofs.lemmas.Option.{slice_get_read}
 use Rattle.pt_base.specs.declared.ids.FnId.{FnId}
-use Rattle.policy.specs.Places.{state_number, steps_from}
-use Rattle.policy.specs.Indexed.{IsIndex}
+use Rattle.policy.specs.Places.{state_number}
 use Rattle.policy.specs.Verdicts.{Standing, is_left, fits, first_fit_from, first_state, one_more, used}
 use Rattle.policy.specs.PolicyView.{state_after, IsKept}
 use Rattle.policy.specs.declared.rule.Rule.{Rule}

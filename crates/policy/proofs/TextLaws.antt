@@ -1,18 +1,17 @@
 -- The rules and the first fault of a text, as the reading finds them.
-use Rattle.std.proofs.Common.{◌≡◌, ◌∙◌, ◌+◌, ◌<◌, ◌≤◌, ℕ, suc, Bool, true, false, ◌&&◌, ◌==◌, nat_lt, if◌then◌else◌, List, [], ◌∷◌, ◌++◌, length, slice_index, Option, Some, None, Result, Ok, Err, MatchResult, Vec, Global, inr, refl, ap, ap₂, sym, subst, arith, codes, append_assoc, append-nil, length-append}
-use Rattle.std.specs.Option.{option_map_or, option_and_then}
+use Rattle.std.proofs.Common.{◌≡◌, ◌∙◌, ◌+◌, ◌<◌, ◌≤◌, ℕ, suc, Bool, true, false, ◌==◌, nat_lt, if◌then◌else◌, List, [], ◌∷◌, ◌++◌, length, slice_index, Option, Some, None, Result, Ok, Err, MatchResult, Vec, Global, inr, refl, ap, ap₂, sym, subst, arith, codes, append_assoc, append-nil, length-append}
+use Rattle.std.specs.Option.{option_map_or}
 use Rattle.std.specs.List.{filter, slice_split, onto_first}
 use Rattle.std.proofs.lemmas.Bool.{eqb-true, ltb-true, lt-ltb}
 use Rattle.std.proofs.lemmas.Bool.Decides.{nat_tests}
-use Rattle.pt_tree.specs.declared.signature.Param.{Param}
 use Rattle.pt_tree.specs.declared.signature.Signature.{Signature}
 use Rattle.policy.specs.Lines.{lines_of, words_of, is_passed_over, is_blank, is_word}
 use Rattle.policy.specs.Spelled.{SpelledRule}
 use Rattle.policy.specs.Rules.{IsRule}
 use Rattle.policy.specs.Reading.{rule_of}
-use Rattle.policy.specs.ProgramRules.{guarded_function, is_privileged, params_of, are_seen, rule_over, IsRuleOf}
+use Rattle.policy.specs.ProgramRules.{guarded_function, params_of, are_seen, rule_over, IsRuleOf}
 use Rattle.policy.specs.PolicyFault.{HaveRules, none, passed, rule, HasFault, syntax, too_long, unknown_function, unseen_arg, IsPolicy, IsFirstFault, IsPolicyError}
-use Rattle.policy.specs.LineReading.{checked_rule, resolved, line_rule, with_rule, line_read, then_read, read_from, TextGives}
+use Rattle.policy.specs.LineReading.{checked_rule, resolved, line_rule, with_rule, then_read, read_from, TextGives}
 use Rattle.policy.specs.declared.rule.Rule.{Rule}
 use Rattle.policy.specs.declared.error.PolicyFaultKind.{PolicyFaultKind}
 use Rattle.policy.specs.declared.error.PolicyFaultKind.TheVariants.{Syntax, UnknownFunction, UnseenArg, TooLong}

@@ -1,5 +1,5 @@
 -- Verdicts on many calls.
-use Rattle.std.proofs.Common.{◌≡◌, ◌∙◌, ◌+◌, ◌<◌, ◌≤◌, ℕ, ℤ, zero, suc, Bool, true, false, cond, nat_eq, nat_lt, List, [], ◌∷◌, ◌++◌, length, replicate, get_or, set, slice_get, slice_index, slice_set, Option, Some, None, refl, ap, ap₂, sym, subst, arith, count_by, length-set, get_or-set_same, get_or-set_other, ◌≢◌}
+use Rattle.std.proofs.Common.{◌≡◌, ◌∙◌, ◌+◌, ◌<◌, ◌≤◌, ℕ, ℤ, zero, suc, Bool, true, false, cond, nat_eq, nat_lt, List, [], ◌∷◌, length, replicate, get_or, slice_get, slice_index, Option, Some, None, refl, ap, sym, subst, arith, count_by, length-set, get_or-set_same, get_or-set_other, ◌≢◌}
 use Rattle.std.specs.Option.{option_map_or}
 use Rattle.std.proofs.lemmas.Bool.{eqb-true, ltb-true}
 use Rattle.std.proofs.lemmas.Bool.Decides.{nat_tests}
@@ -7,10 +7,9 @@ use Rattle.std.proofs.lemmas.Option.{slice_get_within, get_or_from_slice_get}
 use Rattle.std.proofs.lemmas.List.{length-replicate}
 use Rattle.std.proofs.lemmas.List.Sums.{sum_by-cons}
 use Rattle.pt_base.specs.declared.ids.FnId.{FnId}
-use Rattle.policy.specs.Verdicts.{Standing, is_left, fits, first_fit_from, first_fit, verdict_on, one_more, used, after, Call, verdicts, start}
-use Rattle.policy.specs.Laws.{standing_after, VerdictsAreSteps, is_by, LimitsHold}
+use Rattle.policy.specs.Verdicts.{Standing, is_left, first_fit, verdict_on, one_more, used, after, Call, verdicts, start}
+use Rattle.policy.specs.Laws.{VerdictsAreSteps, is_by, LimitsHold}
 use Rattle.policy.specs.declared.rule.Rule.{Rule}
-use Rattle.policy.specs.declared.verdict.Verdict.{Verdict}
 use Rattle.policy.specs.declared.verdict.Verdict.TheVariants.{Allow, Deny}
 use Rattle.policy.proofs.FitLemmas.{fit_is_left}
 

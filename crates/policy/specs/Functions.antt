@@ -1,5 +1,5 @@
 -- What an index of functions shows.
-use Rattle.std.specs.Prelude.{ℕ, List, map}
+use Rattle.std.specs.Prelude.{List, map}
 use Rattle.pt_tree.specs.declared.signature.Signature.{Signature}
 use Rattle.policy.specs.declared.functions.Functions.{Functions}
 

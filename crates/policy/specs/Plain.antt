@@ -1,5 +1,5 @@
 -- The plain numbers of a call: those that it gives for integer parameters that aren't marked `priv`.
-use Rattle.std.specs.Prelude.{◌≡◌, ℕ, ℤ, Bool, false, not, List, [], ◌∷◌, take, Option, Some, slice_get, IsTrue, if◌then◌else◌}
+use Rattle.std.specs.Prelude.{◌≡◌, ℕ, ℤ, Bool, false, not, List, [], ◌∷◌, take, slice_get, IsTrue, if◌then◌else◌}
 use Rattle.std.specs.Option.{option_map_or}
 use Rattle.std.specs.List.{count_by}
 use Rattle.pt_tree.specs.declared.signature.Param.{Param}

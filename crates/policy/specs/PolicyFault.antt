@@ -1,5 +1,5 @@
 -- The rules that a text has, and its first fault.
-use Rattle.std.specs.Prelude.{◌≡◌, ℕ, ◌+◌, ◌<◌, ◌≤◌, ◌⊎◌, false, List, [], ◌∷◌, ◌++◌, length, Option, Some, None, IsTrue}
+use Rattle.std.specs.Prelude.{◌≡◌, ℕ, ◌+◌, ◌<◌, ◌≤◌, ◌⊎◌, false, List, [], ◌∷◌, ◌++◌, length, Some, None, IsTrue}
 use Rattle.pt_tree.specs.declared.signature.Signature.{Signature}
 use Rattle.policy.specs.Lines.{lines_of, words_of, is_passed_over}
 use Rattle.policy.specs.Rules.{IsRule}

@@ -1,5 +1,4 @@
 -- What is seen of the parts of a line.
-use Rattle.std.specs.Prelude.{ℕ, List}
 use Rattle.policy.specs.Lines.{words_of}
 use Rattle.policy.specs.Spelled as spec
 use Rattle.policy.specs.Reading as reading

@@ -1,6 +1,5 @@
-use Rattle.std.proofs.Common.{◌≡◌, ◌∙◌, ◌<◌, ℕ, Option, Some, None, length, slice_get, ap, sym, subst, arith}
+use Rattle.std.proofs.Common.{◌≡◌, ◌∙◌, ◌<◌, ℕ, Option, None, length, slice_get, ap, sym, subst, arith}
 use Rattle.policy.specs.Places.{is_keyed}
-use Rattle.policy.specs.declared.rule.Rule.{Rule}
 use Rattle.policy.proofs.FitLemmas.{Ahead, ahead_start, ahead_next, ahead_found, left_to, left_in, left_less, key_step, steps_long, fit_by_name}
 use Rattle.policy.proofs.deciding.first_fit.Goals as goal
 

@@ -1,4 +1,4 @@
-use Rattle.std.proofs.Common.{◌≡◌, ◌∙◌, ◌<◌, ◌-◌, ◌&&◌, nat_eq, length, arith, ap, ap₂, sym, refl, drop, rules}
+use Rattle.std.proofs.Common.{◌≡◌, ◌∙◌, ◌<◌, ◌-◌, ◌&&◌, nat_eq, length, arith, ap, refl, drop}
 use Rattle.std.specs.List.{position_from}
 use Rattle.policy.specs.Places.{state_number, is_keyed, steps_from}
 use Rattle.policy.proofs.PlaceLemmas.{place_step, steps_more}

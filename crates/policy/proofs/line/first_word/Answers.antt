@@ -1,4 +1,4 @@
-use Rattle.std.proofs.Common.{◌≡◌, ◌<◌, length, arith, rules, tests, refl, take, drop, ◌-◌}
+use Rattle.std.proofs.Common.{◌≡◌, ◌<◌, length, rules, tests, refl, take, drop, ◌-◌}
 use Rattle.policy.proofs.LineLemmas.{no_word, word_cut}
 use Rattle.policy.proofs.line.first_word.Goals as goal
 

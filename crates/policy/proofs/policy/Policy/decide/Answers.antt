@@ -1,4 +1,4 @@
-use Rattle.std.proofs.Common.{◌≡◌, ◌∙◌, ◌<◌, ℕ, List, Some, length, slice_index, ap, ap₂, sym, subst, arith, refl, slice_get}
+use Rattle.std.proofs.Common.{◌≡◌, ◌∙◌, ◌<◌, ℕ, List, Some, length, ap, ap₂, sym, subst, arith, slice_get}
 use Rattle.std.proofs.lemmas.List.{get_or_default}
 use Rattle.policy.specs.Places.{state_number}
 use Rattle.policy.specs.Verdicts.{fits, first_fit_from, one_more, used as used_by}
