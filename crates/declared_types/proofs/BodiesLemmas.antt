@@ -7,7 +7,7 @@ use Rattle.pt_tree.specs.declared.specifier.FieldDecl.{FieldDecl}
 use Rattle.pt_tree.specs.declared.specifier.Spec.{Spec}
 use Rattle.pt_tree.specs.declared.specifier.Spec.TheVariants.{Struct}
 use Rattle.pt_tree.specs.SpecifierTree.{view_spec}
-use Rattle.pt_tree.proofs.Rows.{view_structure}
+use Rattle.pt_tree.proofs.ListsInTrees.{view_structure}
 use Rattle.declared_types.specs.Structs.{Fields, Structs}
 use Rattle.declared_types.specs.Specifiers.{defined_by, referred, has_fields, body_of, named_by, named_struct, view_body}
 
