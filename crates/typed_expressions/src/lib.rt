@@ -1,0 +1,11 @@
+//! The types of expressions: what names mean where one stands, what is known of it, its typed tree,
+//! and its faults.
+#![tactic(auto)]
+
+mod meaning;
+mod names;
+mod operand;
+
+pub use meaning::{Callable, Meaning, Object, Variable};
+pub use names::Names;
+pub use operand::{Elaborated, Operand};
