@@ -1,6 +1,7 @@
 -- Chains of operators that group to the left (C99 6.5.5 to 6.5.14): the value so far, and one link after
 -- the other.
-use Rattle.std.specs.Prelude.{List, [], ◌∷◌, ◌++◌, Bool, true, false, beq, Option, Some, None, unwrap_or, is_some, map, if◌then◌else◌}
+use Rattle.std.specs.Prelude.{List, [], ◌∷◌, ◌++◌, Bool, true, false, Option, Some, None, unwrap_or, is_some, map, if◌then◌else◌}
+use Rattle.std.proofs.Math.Bool.{beq}
 use Rattle.pt_base.specs.declared.span.Span.{Span}
 use Rattle.pt_base.specs.declared.int_type.IntType.TheVariants as int
 use Rattle.pt_int.specs.declared.operator.BinOp.{BinOp}
