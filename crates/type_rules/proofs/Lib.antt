@@ -1,0 +1,3 @@
+pub mod ConversionLemmas
+pub mod OperatorLemmas
+pub mod TypeLemmas
