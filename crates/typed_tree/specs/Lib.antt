@@ -1,0 +1,12 @@
+pub mod Cells
+pub mod ExpressionTree
+pub mod Nodes
+pub mod Parts
+pub mod StatementTree
+pub mod TypeRules
+pub mod TypeTests
+pub mod TypedTree
+pub mod TypedView
+pub mod WellFormed
+pub mod WellFormedExpression
+pub mod WellFormedStatement

@@ -1,0 +1,155 @@
+-- Which typed programs are well formed.
+use Rattle.std.specs.Prelude.{ℕ, ◌^◌, ℤ, List, [], ◌∷◌, suc, Option, None, Some, Bool, true, false, ◌&&◌, not, nat_lt, nat_le, nat_eq, length, map, sum_by, is_some, is_none}
+use Rattle.std.specs.List.{list_all, list_any, flat_map}
+use Rattle.std.specs.Str.{bytes_eq}
+use Rattle.pt_base.specs.declared.int_type.IntType.{IntType}
+use Rattle.pt_base.specs.declared.int_type.IntType.TheVariants as t
+use Rattle.pt_int.specs.Conversion.{is_in_range}
+use Rattle.pt_tree.specs.declared.signature.Elem.{Elem}
+use Rattle.pt_tree.specs.declared.signature.Param.{Param}
+use Rattle.pt_tree.specs.declared.signature.ParamKind.{ParamKind}
+use Rattle.pt_tree.specs.declared.signature.ParamKind.TheVariants as k
+use Rattle.pt_tree.specs.declared.signature.Signature.{Signature}
+use Rattle.typed_tree.specs.declared.part.Part.{Part}
+use Rattle.typed_tree.specs.declared.types.VarTy.{VarTy}
+use Rattle.typed_tree.specs.declared.types.VarTy.TheVariants.{Int, Struct, Array, Pointer}
+use Rattle.typed_tree.specs.declared.types.Field.{Field}
+use Rattle.typed_tree.specs.declared.types.StructInfo.{StructInfo}
+use Rattle.typed_tree.specs.declared.variable.Var.{Var}
+use Rattle.typed_tree.specs.declared.variable.TypedGlobal.{TypedGlobal}
+use Rattle.typed_tree.specs.StatementTree.{BodyTree, block}
+use Rattle.typed_tree.specs.TypedTree.{FunctionTree, TypedTree}
+use Rattle.typed_tree.specs.Cells.{leaves_of, cells_of}
+use Rattle.typed_tree.specs.Parts.{function_parts}
+use Rattle.typed_tree.specs.Nodes.{nodes_of}
+use Rattle.typed_tree.specs.TypeTests.{same_type, same_int}
+use Rattle.typed_tree.specs.WellFormedExpression.{Names, is_elem, param_type, is_main}
+use Rattle.typed_tree.specs.WellFormedStatement.{Scope, is_sound}
+
+-- the type of a field or global among so many structs: no pointer, and an array has an element
+abbrev pub is_plain_type : ℕ → VarTy → Bool
+is_plain_type structs (Int t) = true
+is_plain_type structs (Struct n) = nat_lt n structs
+is_plain_type structs (Array elem count) = is_elem structs (Some elem) && nat_le 1 count
+is_plain_type structs (Pointer elem fixed) = false
+
+-- the type of a variable, which may be a pointer too
+abbrev pub is_variable_type : ℕ → VarTy → Bool
+is_variable_type structs (Int t) = true
+is_variable_type structs (Struct n) = nat_lt n structs
+is_variable_type structs (Array elem count) = is_elem structs (Some elem) && nat_le 1 count
+is_variable_type structs (Pointer elem fixed) = is_elem structs (Some elem)
+
+-- the most cells of one object or field
+abbrev pub is_small : List StructInfo → VarTy → Bool
+is_small structs ty = nat_le (cells_of structs ty) 65_536
+
+abbrev pub field_sound : List StructInfo → ℕ → Field → Bool
+field_sound structs earlier f = is_plain_type earlier f.ty && is_small structs f.ty
+
+-- a struct behind so many: it has a field, and its fields name earlier structs only
+abbrev pub struct_sound : List StructInfo → ℕ → StructInfo → Bool
+struct_sound structs earlier s = nat_le 1 (length s.fields) && list_all (field_sound structs earlier) s.fields
+
+-- the structs of a list, of which so many stand before
+abbrev pub structs_sound : List StructInfo → ℕ → List StructInfo → Bool
+structs_sound structs earlier [] = true
+structs_sound structs earlier (s ∷ rest) = struct_sound structs earlier s && structs_sound structs (suc earlier) rest
+
+-- one number for each integer, in the range of its type
+abbrev pub cells_fit : List IntType → List ℤ → Bool
+cells_fit [] [] = true
+cells_fit [] (v ∷ vs) = false
+cells_fit (t ∷ ts) [] = false
+cells_fit (t ∷ ts) (v ∷ vs) = is_in_range t v && cells_fit ts vs
+
+abbrev pub global_sound : List StructInfo → TypedGlobal → Bool
+global_sound structs g =
+    (is_plain_type (length structs) g.var.ty && is_small structs g.var.ty)
+    && (is_none g.var.holds && cells_fit (leaves_of structs g.var.ty) g.cells)
+
+-- all globals together, in cells
+abbrev pub globals_small : List TypedGlobal → Bool
+globals_small globals = nat_le (sum_by (λ g. length g.cells) globals) 1_048_576
+
+abbrev pub variable_sound : List StructInfo → Var → Bool
+variable_sound structs x = is_variable_type (length structs) x.ty && (is_small structs x.ty && is_none x.holds)
+
+abbrev pub is_integer_kind : ParamKind → Bool
+is_integer_kind (k.Int t) = true
+is_integer_kind (k.Ptr elem fixed) = false
+
+abbrev pub is_integer_param : Param → Bool
+is_integer_param p = is_integer_kind p.kind
+
+-- the first variables are the parameters
+abbrev pub params_lead : List Param → List Var → Bool
+params_lead [] xs = true
+params_lead (p ∷ ps) [] = false
+params_lead (p ∷ ps) (x ∷ xs) = same_type (param_type p.kind) x.ty && params_lead ps xs
+
+-- a host: its parameters are integers, and it has no other variables
+abbrev pub host_sound : FunctionTree → Bool
+host_sound f =
+    f.signature.host
+    && (list_all is_integer_param f.signature.params && nat_eq (length f.vars) (length f.signature.params))
+
+-- a body is a block
+abbrev pub is_block : BodyTree → Bool
+is_block (block s bs) = true
+is_block _ = false
+
+-- what the numbers in this function name
+abbrev pub names_in : TypedTree → FunctionTree → Names
+names_in t f = record {
+  structs = t.structs;
+  globals = t.globals;
+  signatures = map (λ g. g.signature) t.functions;
+  vars = f.vars;
+}
+
+abbrev pub scope_in : TypedTree → FunctionTree → Scope
+scope_in t f = record { names = names_in t f; exprs = t.exprs; result = f.signature.result }
+
+-- a function with a body, or a host
+abbrev pub body_sound : TypedTree → FunctionTree → Option BodyTree → Bool
+body_sound t f None = host_sound f
+body_sound t f (Some b) = not f.signature.host && (is_block b && is_sound (scope_in t f) false false b)
+
+abbrev pub function_sound : TypedTree → FunctionTree → Bool
+function_sound t f =
+    (nat_le (length f.signature.params) 8 && params_lead f.signature.params f.vars)
+    && (list_all (variable_sound t.structs) f.vars && body_sound t f f.body)
+
+abbrev pub name_of : FunctionTree → List ℕ
+name_of f = f.signature.name
+
+-- no two functions have one name
+abbrev pub names_distinct : List FunctionTree → Bool
+names_distinct [] = true
+names_distinct (f ∷ fs) = not (list_any (λ g. bytes_eq (name_of f) (name_of g)) fs) && names_distinct fs
+
+-- an int, if there is a type
+abbrev pub is_int_result : Option IntType → Bool
+is_int_result None = false
+is_int_result (Some r) = same_int r t.Int
+
+-- what main is: a function with a body, the result int and no parameters
+abbrev pub is_start : FunctionTree → Bool
+is_start f = is_main f.signature && (is_some f.body && (is_int_result f.signature.result && nat_eq (length f.signature.params) 0))
+
+-- the outermost expressions of all bodies, in text order
+abbrev pub all_parts_of : List FunctionTree → List Part
+all_parts_of fs = flat_map (λ f. function_parts f.body) fs
+
+-- the parts have the numbers from the first up to the last, this one left out
+abbrev pub are_numbered : ℕ → List Part → ℕ → Bool
+are_numbered first [] last = nat_eq first last
+are_numbered first (p ∷ ps) last = nat_eq p.expr.0 first && are_numbered (suc first) ps last
+
+-- what is kept of every typed program
+unfoldable pub is_well_formed : TypedTree → Bool
+is_well_formed t =
+    (structs_sound t.structs 0 t.structs && (list_all (global_sound t.structs) t.globals && globals_small t.globals))
+    && ((list_all (function_sound t) t.functions && (names_distinct t.functions && list_any is_start t.functions))
+    && (are_numbered 0 (all_parts_of t.functions) (length t.exprs) && nat_lt (nodes_of t) (2 ^ 28)))

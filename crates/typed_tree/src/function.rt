@@ -1,0 +1,17 @@
+// Functions.
+use crate::statement::TypedBody;
+use crate::variable::Vars;
+use pt_base::Span;
+use pt_tree::Signature;
+
+/// A function or host.
+#[derive(Drop)]
+pub struct TypedFn {
+    pub signature: Signature,
+    /// Where it is named first.
+    pub name: Span,
+    /// Its variables, the parameters first.
+    pub vars: Vars,
+    /// None of a host.
+    pub body: Option<TypedBody>,
+}

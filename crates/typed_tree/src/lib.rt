@@ -1,0 +1,27 @@
+//! The typed tree: a program with types, explicit conversions and numbered names.
+#![tactic(auto)]
+
+mod expression;
+mod function;
+mod ids;
+mod link;
+mod part;
+mod place;
+mod statement;
+mod typed;
+mod types;
+mod variable;
+
+pub use expression::{Form, TypedExpr};
+pub use function::TypedFn;
+pub use ids::ExprId;
+pub use link::{LinkStep, LogicalOp, TypedLink, TypedOperand};
+pub use part::{Part, Role};
+pub use place::{Place, PlaceStep, Root};
+pub use statement::{
+    Items, TypedBody, TypedDeclaration, TypedDeclarator, TypedForInit, TypedInit, TypedLabel,
+    TypedSection,
+};
+pub use typed::Typed;
+pub use types::{Field, Fields, StructInfo, VarTy};
+pub use variable::{Cells, TypedGlobal, Var, Vars};

@@ -1,0 +1,35 @@
+// The variables of functions, and globals.
+use crate::types::VarTy;
+use pt_base::{Bytes, Listed, Span};
+
+/// An object: a variable of a function or a global.
+#[derive(Drop)]
+pub struct Var {
+    pub name: Bytes,
+    /// Where it is declared.
+    pub span: Span,
+    pub ty: VarTy,
+    /// It is marked `priv`.
+    pub marked: bool,
+    /// It is marked `unpriv`.
+    pub unpriv: bool,
+    /// Of a temporary, the expression that it holds. The typed tree has no temporaries: None.
+    pub holds: Option<Span>,
+}
+
+/// The variables of a function, its parameters first.
+pub type Vars = Listed<Var>;
+
+/// The values of an object's integers, in declaration order.
+pub type Cells = Listed<i128>;
+
+/// A global with the values that it starts with.
+#[derive(Drop)]
+pub struct TypedGlobal {
+    pub var: Var,
+    /// It is const.
+    pub fixed: bool,
+    /// It is marked `declassify`.
+    pub declassify: bool,
+    pub cells: Cells,
+}
