@@ -1,0 +1,9 @@
+pub mod Cells
+pub mod Faults
+pub mod Fields
+pub mod Marks
+pub mod NameTables
+pub mod Objects
+pub mod Specifiers
+pub mod Structs
+pub mod Words
