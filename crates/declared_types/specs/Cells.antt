@@ -7,7 +7,7 @@ use Rattle.type_rules.specs.declared.types.Type.{«Type»}
 use Rattle.type_rules.specs.declared.types.Type.TheVariants as ty
 use Rattle.declared_types.specs.declared.structs.FieldEntry.{FieldEntry}
 use Rattle.declared_types.specs.declared.structs.StructEntry.{StructEntry}
-use Rattle.declared_types.specs.NameTables.{Named, value_at}
+use Rattle.declared_types.specs.NameTables.{Named, value_at, values}
 
 -- cells are counted up to the first number that is over every limit, 1,048,576 cells for all globals
 -- being the highest
@@ -33,4 +33,4 @@ cells_of structs (ty.Pointer e fixed) = 1
 
 -- the cells of all fields together
 abbrev pub cells_in : Named StructEntry → Named FieldEntry → ℕ
-cells_in structs fields = counted (sum_by (λ f. cells_of structs f.1.ty) fields)
+cells_in structs fields = counted (sum_by (λ f. cells_of structs f.ty) (values fields))

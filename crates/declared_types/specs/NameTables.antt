@@ -1,5 +1,5 @@
 -- Values by name, in the order in which the names came.
-use Rattle.std.specs.Prelude.{ℕ, List, [], ◌∷◌, ◌++◌, Bool, Option, is_none, position, slice_get, option_map, if◌then◌else◌}
+use Rattle.std.specs.Prelude.{ℕ, List, [], ◌∷◌, ◌++◌, Bool, Option, is_none, position, slice_get, option_map, map, if◌then◌else◌}
 use Rattle.std.specs.Str.{bytes_eq}
 
 abbrev pub Named : Type 0 → Type 0
@@ -13,6 +13,10 @@ module _ {X : Type 0} where
   -- the value with this number
   abbrev pub value_at : Named X → ℕ → Option X
   value_at table number = option_map (λ entry. entry.1) (slice_get table number)
+
+  -- all values, in order
+  abbrev pub values : Named X → List X
+  values table = map (λ entry. entry.1) table
 
   abbrev pub is_new : Named X → List ℕ → Bool
   is_new table name = is_none (number_of table name)

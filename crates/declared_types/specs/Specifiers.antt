@@ -1,5 +1,5 @@
 -- What a list of specifiers says, and the structs that it declares (C99 6.7.1 to 6.7.3).
-use Rattle.std.specs.Prelude.{List, [], ◌∷◌, ◌++◌, Bool, true, false, not, is_none, unwrap_or, map, count_by, nat_le, if◌then◌else◌}
+use Rattle.std.specs.Prelude.{ℕ, List, [], ◌∷◌, ◌++◌, Bool, true, false, not, Option, Some, None, option_to_list, is_none, unwrap_or, map, count_by, nat_le, if◌then◌else◌}
 use Rattle.std.specs.List.{list_any}
 use Rattle.pt_base.specs.declared.span.Span.{Span}
 use Rattle.pt_tree.specs.declared.word.Word.{Word}
@@ -31,17 +31,24 @@ abbrev pub first_of : SpecTrees → Span
 first_of no_specs = record { from = 0; to = 0 }
 first_of (spec_and s rest) = span_of s
 
+abbrev pub keyword_of : SpecTree → Option SpecWord
+keyword_of (attribute s names) = None
+keyword_of (keyword s w) = Some w
+keyword_of (structure s tag body) = None
+
 abbrev pub keywords : SpecTrees → List SpecWord
 keywords no_specs = []
-keywords (spec_and (attribute s names) rest) = keywords rest
-keywords (spec_and (keyword s w) rest) = w ∷ keywords rest
-keywords (spec_and (structure s tag body) rest) = keywords rest
+keywords (spec_and s rest) = option_to_list (keyword_of s) ++ keywords rest
+
+-- the names in an attribute
+abbrev pub names_of : SpecTree → List Word
+names_of (attribute s names) = names
+names_of (keyword s w) = []
+names_of (structure s tag body) = []
 
 abbrev pub attributes : SpecTrees → List Attribute
 attributes no_specs = []
-attributes (spec_and (attribute s names) rest) = map attribute_of names ++ attributes rest
-attributes (spec_and (keyword s w) rest) = attributes rest
-attributes (spec_and (structure s tag body) rest) = attributes rest
+attributes (spec_and s rest) = map attribute_of (names_of s) ++ attributes rest
 
 -- ---- the struct specifiers: they name types, and those with a body declare structs
 
@@ -88,12 +95,16 @@ pub record Judged : Type 0 where
 abbrev pub has_storage_room : Bool → List SpecWord → Bool
 has_storage_room at_file words = nat_le (count_by is_storage_word words) (storage_limit at_file)
 
+-- the type that is named, if there is one and no storage word too many
+abbrev pub base_of : Bool → Option «Type» → «Type»
+base_of has_room named = if has_room then unwrap_or named ty.Bad else ty.Bad
+
 abbrev pub given_by : Bool → SpecTrees → List «Type» → Specified
 given_by at_file specs types =
     let words = keywords specs in
     record {
       first = first_of specs;
-      base = (if has_storage_room at_file words then unwrap_or (named words types) ty.Bad else ty.Bad);
+      base = base_of (has_storage_room at_file words) (named words types);
       fixed = list_any is_const_word words;
       external = list_any is_extern_word words;
       attributes = attributes specs;

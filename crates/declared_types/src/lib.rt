@@ -2,6 +2,7 @@
 #![tactic(auto)]
 
 mod fault;
+mod fields;
 mod marks;
 mod name_table;
 mod objects;
@@ -12,6 +13,12 @@ mod words;
 pub use fault::{FaultKind, TypeFault, arrange, note_if};
 pub use marks::{Attribute, Attributes, Carrier, Mark, Marks, marks_among, note_attributes};
 pub use name_table::NameTable;
-pub use objects::ObjectKind;
+pub use objects::{
+    ObjectKind, is_fixed, is_mutable_pointer, note_object, note_result, note_size, object_type,
+    result_type,
+};
 pub use specifiers::Specified;
-pub use structs::{FieldEntry, Fields, StructEntry, Structs};
+pub use structs::{
+    FieldEntry, Fields, FoundField, StructEntry, Structs, cells_of, declare_struct, field_named,
+    has_const, struct_named,
+};

@@ -1,9 +1,10 @@
 // Attributes, where each may stand, and what they mark.
 ghost use Rattle.std.specs.Prelude.{◌≡◌, ◌++◌, OnOk};
-ghost use Rattle.declared_types.specs.Marks.{is_priv, is_unpriv, is_declassify, marks_of, mark_of, may_stand, mark_faults};
+ghost use Rattle.declared_types.specs.Marks.{is_priv, is_unpriv, is_declassify, marks_of, mark_of, attribute_of, may_stand, mark_faults};
 
 use crate::fault::{FaultKind, TypeFault, note_if};
 use pt_base::{Listed, Span};
+use pt_tree::Word;
 use std::alloc::AllocError;
 
 /// The name of an attribute.
@@ -55,7 +56,7 @@ pub struct Marks {
 }
 
 /// What the name of an attribute marks.
-pub(crate) fn mark_named(name: &[u8]) -> Mark
+fn mark_named(name: &[u8]) -> Mark
     ensures { result ≡ mark_of name.now }
 {
     if name == b"priv".as_slice() {
@@ -66,6 +67,16 @@ pub(crate) fn mark_named(name: &[u8]) -> Mark
         Mark::Declassify
     } else {
         Mark::Other
+    }
+}
+
+/// The attribute of a name.
+pub(crate) fn attribute_named(name: &Word) -> Attribute
+    ensures { result ≡ attribute_of name.now }
+{
+    Attribute {
+        span: name.span,
+        mark: mark_named(name.bytes.as_slice()),
     }
 }
 

@@ -22,8 +22,8 @@ impl<V: Drop> Model for NameTable<V> {
 }
 
 impl<V: Drop> NameTable<V> {
-    ghost use Rattle.std.specs.Prelude.{◌≡◌, ◌^◌, ◌<◌, [], length, map, option_copied, option_map, slice_get, is_none, OnOk, OnErr, IfOk};
-    ghost use Rattle.declared_types.specs.NameTables.{number_of, value_at, with_name, is_new};
+    ghost use Rattle.std.specs.Prelude.{◌≡◌, ◌^◌, ◌<◌, [], length, option_copied, option_map, slice_get, is_none, OnOk, OnErr, IfOk};
+    ghost use Rattle.declared_types.specs.NameTables.{number_of, value_at, values, with_name, is_new};
 
     /// A table of no names.
     pub fn new(alloc: Global) -> NameTable<V>
@@ -67,7 +67,7 @@ impl<V: Drop> NameTable<V> {
 
     /// The values, in order.
     pub fn values(&self) -> Values<'_, Vec<u8>, V>
-        ensures { result ≡ map (λ e. e.1) self.now }
+        ensures { result ≡ values self.now }
     {
         self.entries.values()
     }

@@ -1,5 +1,5 @@
 // The structs of a program, and how many cells an object has.
-ghost use Rattle.std.specs.Prelude.{◌≡◌, OnOk, OnErr, IfOk};
+ghost use Rattle.std.specs.Prelude.{◌≡◌, ◌+◌, OnOk, OnErr, IfOk};
 ghost use Rattle.declared_types.specs.Cells as cells;
 ghost use Rattle.declared_types.specs.NameTables.{is_new};
 ghost use Rattle.declared_types.specs.Structs as is;
@@ -33,6 +33,13 @@ pub struct StructEntry {
     pub cells: u32,
     /// A part of it is const.
     pub has_const: bool,
+}
+
+/// A field with its number among the fields of its struct.
+#[derive(Clone, Copy, Debug, PartialEq, Eq)]
+pub struct FoundField {
+    pub number: u32,
+    pub entry: FieldEntry,
 }
 
 /// The structs of a program by tag.
@@ -103,4 +110,64 @@ fn counted(count: u64) -> u32
     ensures { result ≡ cells.counted count }
 {
     count.min(u64::from(MOST_CELLS)) as u32
+}
+
+/// The sum of two numbers of cells, counted up to 1,048,577.
+fn plus(a: u32, b: u32) -> u32
+    ensures { result ≡ cells.counted (a + b) }
+{
+    counted(u64::from(a) + u64::from(b))
+}
+
+/// How many cells the fields have together, counted up to 1,048,577.
+fn cells_in(structs: &Structs, fields: &Fields) -> u32
+    ensures { result ≡ cells.cells_in structs.now fields.now }
+{
+    let mut total = 0;
+    for field in fields.values() {
+        total = plus(total, cells_of(structs, field.ty));
+    }
+    total
+}
+
+/// Whether a part of one of the fields is const.
+fn has_const_field(structs: &Structs, fields: &Fields) -> bool
+    ensures { result ≡ is.has_const_field structs.now fields.now }
+{
+    fields
+        .values()
+        .any(|field| field.fixed || has_const(structs, field.ty))
+}
+
+/// Declares a struct with this tag and these fields, and says whether the tag is new. A struct that
+/// is there keeps its fields. Where memory is wanting, the table stays as it is.
+pub fn declare_struct(
+    alloc: Global,
+    structs: &mut Structs,
+    tag: &[u8],
+    fields: Fields,
+) -> Result<bool, AllocError>
+    ensures declared { OnOk result (structs.new ≡ is.with_struct structs.old tag.now fields) }
+    ensures new { IfOk result (λ b. b ≡ is_new structs.old tag.now) }
+    ensures err { OnErr result (structs.new ≡ structs.old) }
+{
+    let entry = StructEntry {
+        cells: cells_in(structs, &fields),
+        has_const: has_const_field(structs, &fields),
+        fields,
+    };
+    structs.add(alloc, tag, entry)
+}
+
+/// The field of this name of the struct with this number, and its number.
+pub fn field_named(structs: &Structs, number: u32, name: &[u8]) -> Option<FoundField>
+    ensures { result ≡ is.field_named structs.now number name.now }
+{
+    let fields = &structs.get(number)?.fields;
+    let place = fields.number_of(name)?;
+    let entry = fields.get(place)?;
+    Some(FoundField {
+        number: place,
+        entry: *entry,
+    })
 }
