@@ -22,7 +22,7 @@ use Rattle.typed_expressions.specs.Targets.{optional_fault, target_fault}
 -- ---- =
 
 -- the right side doesn't fit; of an array or a void left side that isn't asked
-abbrev pub misfits : «Type» → Value → Bool
+unfoldable pub misfits : «Type» → Value → Bool
 misfits Bad w = false
 misfits Void w = false
 misfits (Int t) w = is_wrong (fit_rule (Int t) w)
@@ -30,15 +30,15 @@ misfits (Struct n) w = is_wrong (fit_rule (Struct n) w)
 misfits (Array e count) w = false
 misfits (Pointer e fixed) w = is_wrong (fit_rule (Pointer e fixed) w)
 
-abbrev pub stored_tree : Span → Known → Value → ExprTree → ExprTree
+unfoldable pub stored_tree : Span → Known → Value → ExprTree → ExprTree
 stored_tree s a w x = typed s (var_type a.ty) (assign (place_of a.tree) (as_type a.ty w.null x))
 
-abbrev pub stored_by : Option FaultKind → Bool → Span → Span → Known → Span → Value → ExprTree → Made
+unfoldable pub stored_by : Option FaultKind → Bool → Span → Span → Known → Span → Value → ExprTree → Made
 stored_by target misfit s left a right w x = record {
   operand = if is_some target || misfit then faulty else plain a.ty (stored_tree s a w x);
   faults = optional_fault target left ++ fault_if misfit WrongType right }
 
-abbrev pub stored : Structs → Span → Span → Known → Span → Known → Made
+unfoldable pub stored : Structs → Span → Span → Known → Span → Known → Made
 stored structs s left a right b =
     if is_bad a.ty || is_bad b.ty then refused []
     else stored_by (target_fault structs a) (misfits a.ty (value_of b)) s left a right (value_of b) (value_tree right b)
@@ -46,7 +46,7 @@ stored structs s left a right b =
 -- ---- op=
 
 -- an array on the left is faulty already, and the operator isn't asked
-abbrev pub step_rule_of : BinaryOp → «Type» → Value → Rule
+unfoldable pub step_rule_of : BinaryOp → «Type» → Value → Rule
 step_rule_of op Bad w = rule.Unknown
 step_rule_of op Void w = compound_rule op Void w
 step_rule_of op (Int t) w = compound_rule op (Int t) w
@@ -54,7 +54,7 @@ step_rule_of op (Struct n) w = compound_rule op (Struct n) w
 step_rule_of op (Array e count) w = rule.Unknown
 step_rule_of op (Pointer e fixed) w = compound_rule op (Pointer e fixed) w
 
-abbrev pub is_refused : Rule → Bool
+unfoldable pub is_refused : Rule → Bool
 is_refused rule.Unknown = true
 is_refused (rule.Wrong left right) = true
 is_refused r = false
@@ -62,19 +62,19 @@ is_refused r = false
 abbrev pub object_value : «Type» → Value
 object_value ty = record { ty = ty; null = false }
 
-abbrev pub compound_tree : Rule → BinaryOp → Span → Known → Value → ExprTree → ExprTree
+unfoldable pub compound_tree : Rule → BinaryOp → Span → Known → Value → ExprTree → ExprTree
 compound_tree rule op s a w x = typed s (var_type a.ty) (compound (place_of a.tree) (step_of (integer_op op) rule) (converted_by rule w (object_value a.ty) x))
 
-abbrev pub compounded_by : Option FaultKind → Rule → BinaryOp → Span → Span → Known → Span → Value → ExprTree → Made
+unfoldable pub compounded_by : Option FaultKind → Rule → BinaryOp → Span → Span → Known → Span → Value → ExprTree → Made
 compounded_by target rule op s left a right w x = record {
   operand = if is_some target || is_refused rule then faulty else plain a.ty (compound_tree rule op s a w x);
   faults = optional_fault target left ++ rule_faults rule left right }
 
-abbrev pub compounded : Structs → BinaryOp → Span → Span → Known → Span → Known → Made
+unfoldable pub compounded : Structs → BinaryOp → Span → Span → Known → Span → Known → Made
 compounded structs op s left a right b =
     if is_bad a.ty || is_bad b.ty then refused []
     else compounded_by (target_fault structs a) (step_rule_of op a.ty (value_of b)) op s left a right (value_of b) (value_tree right b)
 
-abbrev pub assigned : Structs → Option BinaryOp → Span → Span → Known → Span → Known → Made
+unfoldable pub assigned : Structs → Option BinaryOp → Span → Span → Known → Span → Known → Made
 assigned structs None s left a right b = stored structs s left a right b
 assigned structs (Some op) s left a right b = compounded structs op s left a right b

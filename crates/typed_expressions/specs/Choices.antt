@@ -25,23 +25,26 @@ value_at p = value_of p.known
 abbrev pub tree_at : Placed → ExprTree
 tree_at p = value_tree p.span p.known
 
--- each arm as a value of the type
-abbrev pub choice_tree : Span → «Type» → Placed → Placed → Placed → ExprTree
+-- an arm as a value of the type
+unfoldable pub arm_tree : «Type» → Placed → ExprTree
+arm_tree ty p = as_type ty (value_at p).null (tree_at p)
+
+unfoldable pub choice_tree : Span → «Type» → Placed → Placed → Placed → ExprTree
 choice_tree s ty test first last =
-    typed s (var_type ty) (choice (tree_at test) (as_type ty (value_at first).null (tree_at first)) (as_type ty (value_at last).null (tree_at last)))
+    typed s (var_type ty) (choice (tree_at test) (arm_tree ty first) (arm_tree ty last))
 
 -- by the arms, the test not being Bad: a wrong test is a fault beside one of the arms
-abbrev pub chosen_by : ChoiceRule → Bool → Span → Placed → Placed → Placed → Made
+unfoldable pub chosen_by : ChoiceRule → Bool → Span → Placed → Placed → Placed → Made
 chosen_by arms.Unknown wrong s test first last = refused []
 chosen_by arms.Wrong wrong s test first last = refused (fault_if wrong WrongType test.span ++ fault_at WrongType last.span ∷ [])
 chosen_by arms.Structs wrong s test first last = refused (fault_if wrong WrongType test.span ++ fault_at OutOfProfile s ∷ [])
 chosen_by (arms.Gives ty) true s test first last = refused (fault_at WrongType test.span ∷ [])
 chosen_by (arms.Gives ty) false s test first last = fine (plain ty (choice_tree s ty test first last))
 
-abbrev pub chosen_when : ConditionRule → ChoiceRule → Span → Placed → Placed → Placed → Made
+unfoldable pub chosen_when : ConditionRule → ChoiceRule → Span → Placed → Placed → Placed → Made
 chosen_when condition.Unknown rule s test first last = refused []
 chosen_when condition.Wrong rule s test first last = chosen_by rule true s test first last
 chosen_when condition.Good rule s test first last = chosen_by rule false s test first last
 
-abbrev pub chosen : Span → Placed → Placed → Placed → Made
+unfoldable pub chosen : Span → Placed → Placed → Placed → Made
 chosen s test first last = chosen_when (condition_rule (value_at test)) (choice_rule (value_at first) (value_at last)) s test first last

@@ -13,7 +13,7 @@ use Rattle.typed_tree.specs.declared.types.VarTy.TheVariants as v
 use Rattle.typed_tree.specs.ExpressionTree.{ExprTree, typed, convert, null}
 
 -- it is a value of this integer type
-abbrev pub is_of_int : IntType → Option VarTy → Bool
+unfoldable pub is_of_int : IntType → Option VarTy → Bool
 is_of_int t None = false
 is_of_int t (Some (v.Int u)) = is_same_int t u
 is_of_int t (Some (v.Struct n)) = false
@@ -21,7 +21,7 @@ is_of_int t (Some (v.Array e count)) = false
 is_of_int t (Some (v.Pointer e fixed)) = false
 
 -- it is a pointer whose pointee is const or not, as `fixed` says
-abbrev pub is_of_pointer : Bool → Option VarTy → Bool
+unfoldable pub is_of_pointer : Bool → Option VarTy → Bool
 is_of_pointer fixed None = false
 is_of_pointer fixed (Some (v.Int u)) = false
 is_of_pointer fixed (Some (v.Struct n)) = false
@@ -32,11 +32,11 @@ abbrev pub converted : VarTy → ExprTree → ExprTree
 converted t (typed s ty f) = typed s (Some t) (convert (typed s ty f))
 
 -- as a value of the integer type
-abbrev pub to_int : IntType → ExprTree → ExprTree
+unfoldable pub to_int : IntType → ExprTree → ExprTree
 to_int t (typed s ty f) = if is_of_int t ty then typed s ty f else converted (v.Int t) (typed s ty f)
 
 -- a pointer to such elements as one whose pointee is const or not
-abbrev pub to_pointer : Elem → Bool → ExprTree → ExprTree
+unfoldable pub to_pointer : Elem → Bool → ExprTree → ExprTree
 to_pointer e fixed (typed s ty f) = if is_of_pointer fixed ty then typed s ty f else converted (v.Pointer e fixed) (typed s ty f)
 
 -- a null constant as a pointer (C99 6.3.2.3p3)
@@ -44,7 +44,7 @@ abbrev pub to_null : Elem → Bool → ExprTree → ExprTree
 to_null e fixed (typed s ty f) = typed s (Some (v.Pointer e fixed)) null
 
 -- a value as one of the type, which it fits; `is_null` says that it is a null constant
-abbrev pub as_type : «Type» → Bool → ExprTree → ExprTree
+unfoldable pub as_type : «Type» → Bool → ExprTree → ExprTree
 as_type Bad is_null x = x
 as_type Void is_null x = x
 as_type (Int t) is_null x = to_int t x
@@ -53,7 +53,7 @@ as_type (Array e count) is_null x = x
 as_type (Pointer e fixed) is_null x = if is_null then to_null e fixed x else to_pointer e fixed x
 
 -- the integer promotions (C99 6.3.1.1p2) of a value of the type
-abbrev pub as_promoted : «Type» → ExprTree → ExprTree
+unfoldable pub as_promoted : «Type» → ExprTree → ExprTree
 as_promoted Bad x = x
 as_promoted Void x = x
 as_promoted (Int t) x = to_int (promoted t) x

@@ -43,16 +43,16 @@ abbrev pub an_object : Object → RootTree → Made
 an_object o root = fine (designated o.ty o.fixed (object root []))
 
 -- a function's name stands in calls alone
-abbrev pub named_as : Env → Word → Option Meaning → Made
+unfoldable pub named_as : Env → Word → Option Meaning → Made
 named_as env w None = refused (fault_at UnknownName w.span ∷ [])
 named_as env w (Some (Function f)) = refused (fault_at OutOfProfile w.span ∷ [])
 named_as env w (Some (Global g)) = an_object (global_at env g) (global g)
 named_as env w (Some (Local v)) = an_object (variable_at env v) (local v)
 
-abbrev pub named : Env → Word → Made
+unfoldable pub named : Env → Word → Made
 named env w = named_as env w (find env w.bytes)
 
-abbrev pub literal : Constant → Known
+unfoldable pub literal : Constant → Known
 literal c = record { ty = Int c.ty; fixed = false; designates = false; null = int_eq c.value (pos 0); tree = value (typed c.span (Some (v.Int c.ty)) (constant c.value)) }
 
 -- ---- parts and wholes
@@ -66,7 +66,7 @@ abbrev pub over : List TypeFault → Structs → Made → Judged
 over faults structs m = record { operand = m.operand; structs = structs; faults = faults ++ m.faults }
 
 -- where a function is called, its name isn't judged as an expression
-abbrev pub headed : Option FnId → Structs → Judged → Judged
+unfoldable pub headed : Option FnId → Structs → Judged → Judged
 headed (Some f) structs p = record { operand = faulty; structs = structs; faults = [] }
 headed None structs p = p
 
@@ -81,7 +81,7 @@ pub record Linked : Type 0 where
   pub structs : Structs
   pub faults : List TypeFault
 
-abbrev pub postfix_span : e.PostfixTree → Span
+unfoldable pub postfix_span : e.PostfixTree → Span
 postfix_span (e.index s a) = s
 postfix_span (e.call s es) = s
 postfix_span (e.dot s w) = s
@@ -89,7 +89,7 @@ postfix_span (e.arrow s w) = s
 postfix_span (e.increment s) = s
 postfix_span (e.decrement s) = s
 
-abbrev mutual
+unfoldable mutual
   pub judge : Env → Structs → e.ExprTree → Judged
   judge env structs (e.name w) = alone structs (named env w)
   judge env structs (e.constant c) = alone structs (fine (literal c))

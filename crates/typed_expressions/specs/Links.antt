@@ -1,6 +1,6 @@
 -- Chains of operators that group to the left (C99 6.5.5 to 6.5.14): the value so far, and one link after
 -- the other.
-use Rattle.std.specs.Prelude.{List, [], ◌∷◌, ◌++◌, Bool, true, false, Option, Some, None, unwrap_or, is_some, map, if◌then◌else◌}
+use Rattle.std.specs.Prelude.{List, [], ◌∷◌, ◌++◌, Bool, true, false, Option, Some, None, unwrap_or, is_some, length, map, nat_eq, if◌then◌else◌}
 use Rattle.std.proofs.Math.Bool.{beq}
 use Rattle.pt_base.specs.declared.span.Span.{Span}
 use Rattle.pt_base.specs.declared.int_type.IntType.TheVariants as int
@@ -30,7 +30,7 @@ use Rattle.typed_expressions.specs.Operands.{Known, var_type, plain, value_of, v
 -- ---- operators
 
 -- the operators of integers
-abbrev pub integer_op : BinaryOp → BinOp
+unfoldable pub integer_op : BinaryOp → BinOp
 integer_op LogicalOr = binop.Or
 integer_op LogicalAnd = binop.And
 integer_op BitOr = binop.Or
@@ -51,7 +51,7 @@ integer_op Divide = binop.Div
 integer_op Remainder = binop.Rem
 
 -- && and ||
-abbrev pub logical_of : BinaryOp → Option LogicalOp
+unfoldable pub logical_of : BinaryOp → Option LogicalOp
 logical_of LogicalOr = Some logical_op.Or
 logical_of LogicalAnd = Some logical_op.And
 logical_of BitOr = None
@@ -73,16 +73,16 @@ logical_of Remainder = None
 
 -- ---- what a rule makes of an operator and its operands
 
-abbrev pub is_shift_left : BinOp → Bool
+unfoldable pub is_shift_left : BinOp → Bool
 is_shift_left binop.Shl = true
 is_shift_left op = false
 
-abbrev pub is_subtraction : BinOp → Bool
+unfoldable pub is_subtraction : BinOp → Bool
 is_subtraction binop.Sub = true
 is_subtraction op = false
 
 -- the step of a chain; that of a faulty link, or of && and ||, is any
-abbrev pub step_of : BinOp → Rule → LinkStep
+unfoldable pub step_of : BinOp → Rule → LinkStep
 step_of op rule.Unknown = link_step.Difference
 step_of op (rule.Wrong left right) = link_step.Difference
 step_of op (rule.Arithmetic t) = link_step.Arithmetic op t
@@ -96,7 +96,7 @@ step_of op rule.ComparePointers = link_step.Compare op
 
 -- the conversion of an operand, on either side, by the rule: `own` is the operand's value and `other`
 -- the other one's
-abbrev pub converted_by : Rule → Value → Value → ExprTree → ExprTree
+unfoldable pub converted_by : Rule → Value → Value → ExprTree → ExprTree
 converted_by rule.Unknown own other x = x
 converted_by (rule.Wrong left right) own other x = x
 converted_by (rule.Arithmetic t) own other x = to_int t x
@@ -108,7 +108,7 @@ converted_by rule.MoveBy own other x = x
 converted_by rule.Difference own other x = x
 converted_by rule.ComparePointers own other x = if own.null then as_type other.ty true x else x
 
-abbrev pub rule_faults : Rule → Span → Span → List TypeFault
+unfoldable pub rule_faults : Rule → Span → Span → List TypeFault
 rule_faults rule.Unknown left right = []
 rule_faults (rule.Wrong at_left at_right) left right = fault_if at_left WrongType left ++ fault_if at_right WrongType right
 rule_faults (rule.Arithmetic t) left right = []
@@ -124,7 +124,7 @@ rule_faults rule.ComparePointers left right = []
 
 -- the operators of a chain are of one level; the grammar builds no others, and an operator among those
 -- of the other sort is wrong
-abbrev pub link_rule : Bool → BinaryOp → Value → Value → Rule
+unfoldable pub link_rule : Bool → BinaryOp → Value → Value → Rule
 link_rule is_logical op so_far w = if beq is_logical (is_some (logical_of op)) then binary_rule op so_far w else rule.Wrong true true
 
 -- all of a chain so far: its value, where it stands, the tree of the first operand and the links
@@ -134,43 +134,44 @@ pub record SoFar : Type 0 where
   pub first : ExprTree
   pub links : List LinkTree
 
-abbrev pub begun : Span → Known → SoFar
+unfoldable pub begun : Span → Known → SoFar
 begun at k = record { value = value_of k; span = at; first = value_tree at k; links = [] }
 
 -- the type of a step's result; that of a faulty one is any
-abbrev pub link_type : «Type» → VarTy
+unfoldable pub link_type : «Type» → VarTy
 link_type ty = unwrap_or (var_type ty) (v.Int int.Int)
 
+unfoldable pub has_none : List LinkTree → Bool
+has_none links = nat_eq (length links) 0
+
 -- the first operand is converted by the first link, and what comes later by its step
-abbrev pub first_by : List LinkTree → Rule → Value → Value → ExprTree → ExprTree
-first_by [] rule own other x = converted_by rule own other x
-first_by (l ∷ ls) rule own other x = x
+unfoldable pub first_by : Bool → Rule → Value → Value → ExprTree → ExprTree
+first_by is_first rule own other x = if is_first then converted_by rule own other x else x
 
 -- a link more, with an operand of this value and tree; the span is that of all up to and with it
-abbrev pub linked : Rule → BinaryOp → Span → SoFar → Value → ExprTree → SoFar
+unfoldable pub linked : Rule → BinaryOp → Span → SoFar → Value → ExprTree → SoFar
 linked rule op span far w x = record {
   value = record { ty = rule_type rule far.value w; null = false };
   span = span;
-  first = first_by far.links rule far.value w far.first;
+  first = first_by (has_none far.links) rule far.value w far.first;
   links = far.links ++ link span (link_type (rule_type rule far.value w)) (step_of (integer_op op) rule) (converted_by rule w far.value x) ∷ [] }
 
-abbrev pub operand_of : LinkTree → OperandTree
+unfoldable pub operand_of : LinkTree → OperandTree
 operand_of (link span ty step x) = operand span x
 
 -- the tree of a chain with at least one link
-abbrev pub links_tree : Option LogicalOp → Span → Option VarTy → ExprTree → List LinkTree → ExprTree
+unfoldable pub links_tree : Option LogicalOp → Span → Option VarTy → ExprTree → List LinkTree → ExprTree
 links_tree None s ty first links = typed s ty (chain first (link_trees links))
 links_tree (Some op) s ty first links = typed s ty (logical op first (operand_trees (map operand_of links)))
 
-abbrev pub chain_tree : Option LogicalOp → Span → Option VarTy → ExprTree → List LinkTree → ExprTree
-chain_tree op s ty first [] = first
-chain_tree op s ty first (l ∷ ls) = links_tree op s ty first (l ∷ ls)
+unfoldable pub chain_tree : Option LogicalOp → Span → Option VarTy → ExprTree → List LinkTree → ExprTree
+chain_tree op s ty first links = if has_none links then first else links_tree op s ty first links
 
 -- a whole chain
-abbrev pub chained : Option LogicalOp → Span → SoFar → Known
+unfoldable pub chained : Option LogicalOp → Span → SoFar → Known
 chained op s far = plain far.value.ty (chain_tree op s (var_type far.value.ty) far.first far.links)
 
 -- the sort of a chain, by its first operator
-abbrev pub sort_of : e.LinkTrees → Option LogicalOp
+unfoldable pub sort_of : e.LinkTrees → Option LogicalOp
 sort_of e.no_links = None
 sort_of (e.link_and (e.link s op a) rest) = logical_of op

@@ -44,7 +44,7 @@ pub record Made : Type 0 where
 -- ---- types as the typed tree has them
 
 -- the type of a value; None is void, and also stands where a type is Bad
-abbrev pub var_type : «Type» → Option VarTy
+unfoldable pub var_type : «Type» → Option VarTy
 var_type Bad = None
 var_type Void = None
 var_type (Int t) = Some (v.Int t)
@@ -54,14 +54,14 @@ var_type (Pointer e fixed) = Some (v.Pointer e fixed)
 
 -- ---- places
 
-abbrev pub root_of : Elaboration → RootTree
+unfoldable pub root_of : Elaboration → RootTree
 root_of (value e) = assigned e
 root_of (object root steps) = root
 root_of (pointed p s) = deref p s
 root_of (moved (typed s t f)) = deref (typed s t f) s
 root_of (element root steps at i s) = root
 
-abbrev pub steps_of : Elaboration → List StepTree
+unfoldable pub steps_of : Elaboration → List StepTree
 steps_of (value e) = []
 steps_of (object root steps) = steps
 steps_of (pointed p s) = []
@@ -76,14 +76,14 @@ place_of t = place (root_of t) (step_trees (steps_of t))
 -- ---- values
 
 -- an array is read by decaying (C99 6.3.2.1p3)
-abbrev pub read_form : «Type» → PlaceTree → FormTree
+unfoldable pub read_form : «Type» → PlaceTree → FormTree
 read_form (Array e count) p = decay p
 read_form t p = read p
 
 abbrev pub read_object : Span → «Type» → Bool → PlaceTree → ExprTree
 read_object s ty fixed p = typed s (var_type (value_type ty fixed)) (read_form ty p)
 
-abbrev pub read_tree : Span → «Type» → Bool → Elaboration → ExprTree
+unfoldable pub read_tree : Span → «Type» → Bool → Elaboration → ExprTree
 read_tree s ty fixed (value e) = e
 read_tree s ty fixed (object root steps) = read_object s ty fixed (place_of (object root steps))
 read_tree s ty fixed (pointed p span) = read_object s ty fixed (place_of (pointed p span))
@@ -91,11 +91,11 @@ read_tree s ty fixed (moved p) = read_object s ty fixed (place_of (moved p))
 read_tree s ty fixed (element root steps at i span) = read_object s ty fixed (place_of (element root steps at i span))
 
 -- the tree of the expression's value; the expression has the span
-abbrev pub value_tree : Span → Known → ExprTree
+unfoldable pub value_tree : Span → Known → ExprTree
 value_tree s k = read_tree s k.ty k.fixed k.tree
 
 -- the expression as a value (C99 6.3.2.1p2 and p3)
-abbrev pub value_of : Known → Value
+unfoldable pub value_of : Known → Value
 value_of k = record { ty = value_type k.ty k.fixed; null = k.null }
 
 -- ---- what is known of simple expressions
@@ -128,7 +128,7 @@ refused faults = record { operand = faulty; faults = faults }
 -- ---- spans
 
 -- where an expression stands; parentheses round it belong to what it stands in
-abbrev pub span_of : e.ExprTree → Span
+unfoldable pub span_of : e.ExprTree → Span
 span_of (e.name w) = w.span
 span_of (e.constant c) = c.span
 span_of (e.prefix s op a) = s

@@ -21,10 +21,9 @@ use Rattle.typed_tree.specs.declared.link.LinkStep.TheVariants as link_step
 use Rattle.typed_tree.specs.ExpressionTree.{ExprTree, typed, chain, link, link_trees, field, deref, call, expr_trees, RootTree, StepTree}
 use Rattle.declared_types.specs.declared.fault.FaultKind.TheVariants.{UnknownName, WrongType, ArgCount, OutOfProfile}
 use Rattle.declared_types.specs.declared.fault.TypeFault.{TypeFault}
-use Rattle.declared_types.specs.declared.structs.FieldEntry.{FieldEntry}
+use Rattle.declared_types.specs.declared.structs.FoundField.{FoundField}
 use Rattle.declared_types.specs.Faults.{fault_at, fault_if}
-use Rattle.declared_types.specs.NameTables.{number_of, value_at}
-use Rattle.declared_types.specs.Structs.{Fields, Structs, fields_of}
+use Rattle.declared_types.specs.Structs.{Structs, field_named}
 use Rattle.typed_expressions.specs.declared.meaning.Callable.{Callable}
 use Rattle.typed_expressions.specs.declared.meaning.Meaning.{Meaning}
 use Rattle.typed_expressions.specs.declared.meaning.Meaning.TheVariants.{Function, Global, Local}
@@ -36,7 +35,7 @@ use Rattle.typed_expressions.specs.Prefixes.{points_to_const}
 
 -- ---- [ ]
 
-abbrev pub pointee : «Type» → «Type»
+unfoldable pub pointee : «Type» → «Type»
 pointee Bad = Bad
 pointee Void = Bad
 pointee (Int t) = Bad
@@ -49,11 +48,11 @@ abbrev pub pointee_known : «Type» → Elaboration → Known
 pointee_known ty t = designated (pointee ty) (points_to_const ty) t
 
 -- one operand moved by the other
-abbrev pub moved_tree : Span → «Type» → LinkStep → ExprTree → ExprTree → ExprTree
+unfoldable pub moved_tree : Span → «Type» → LinkStep → ExprTree → ExprTree → ExprTree
 moved_tree s ty step x y = typed s (var_type ty) (chain x (link_trees (link s (link_type ty) step y ∷ [])))
 
 -- an array's element is a part of it; what else is subscripted is a moved pointer
-abbrev pub element_tree : «Type» → Span → Span → Known → ExprTree → Elaboration
+unfoldable pub element_tree : «Type» → Span → Span → Known → ExprTree → Elaboration
 element_tree (Array e count) s at k y = element (root_of k.tree) (steps_of k.tree) at y s
 element_tree Bad s at k y = moved (moved_tree s (value_of k).ty (link_step.Move false) (value_tree at k) y)
 element_tree Void s at k y = moved (moved_tree s (value_of k).ty (link_step.Move false) (value_tree at k) y)
@@ -61,7 +60,11 @@ element_tree (Int t) s at k y = moved (moved_tree s (value_of k).ty (link_step.M
 element_tree (Struct n) s at k y = moved (moved_tree s (value_of k).ty (link_step.Move false) (value_tree at k) y)
 element_tree (Pointer e fixed) s at k y = moved (moved_tree s (value_of k).ty (link_step.Move false) (value_tree at k) y)
 
-abbrev pub indexed_by : Rule → Span → Span → Known → Span → Known → Made
+-- the same where the index is the pointer
+unfoldable pub index_tree : Span → Span → Known → Span → Known → Elaboration
+index_tree s at k at_index i = moved (moved_tree s (value_of i).ty link_step.MoveBy (value_tree at k) (value_tree at_index i))
+
+unfoldable pub indexed_by : Rule → Span → Span → Known → Span → Known → Made
 indexed_by rule.Unknown s at k at_index i = refused []
 indexed_by (rule.Wrong left right) s at k at_index i = refused (rule_faults (rule.Wrong left right) at at_index)
 indexed_by (rule.Arithmetic t) s at k at_index i = refused []
@@ -69,77 +72,61 @@ indexed_by (rule.Comparison t) s at k at_index i = refused []
 indexed_by (rule.Shift t) s at k at_index i = refused []
 indexed_by rule.Logical s at k at_index i = refused []
 indexed_by rule.Move s at k at_index i = fine (pointee_known (value_of k).ty (element_tree k.ty s at k (value_tree at_index i)))
-indexed_by rule.MoveBy s at k at_index i = fine (pointee_known (value_of i).ty (moved (moved_tree s (value_of i).ty link_step.MoveBy (value_tree at k) (value_tree at_index i))))
+indexed_by rule.MoveBy s at k at_index i = fine (pointee_known (value_of i).ty (index_tree s at k at_index i))
 indexed_by rule.Difference s at k at_index i = refused []
 indexed_by rule.ComparePointers s at k at_index i = refused []
 
-abbrev pub indexed : Span → Span → Known → Span → Known → Made
+unfoldable pub indexed : Span → Span → Known → Span → Known → Made
 indexed s at k at_index i = indexed_by (index_rule (value_of k) (value_of i)) s at k at_index i
 
 -- ---- . and ->
 
-abbrev pub numbered : ℕ → Option FieldEntry → Option (ℕ × FieldEntry)
-numbered n None = None
-numbered n (Some f) = Some (n, f)
-
-abbrev pub field_numbered : Fields → Option ℕ → Option (ℕ × FieldEntry)
-field_numbered fields None = None
-field_numbered fields (Some n) = numbered n (value_at fields n)
-
-abbrev pub field_in : Option Fields → List ℕ → Option (ℕ × FieldEntry)
-field_in None name = None
-field_in (Some fields) name = field_numbered fields (number_of fields name)
-
--- a struct's field of this name, with its number
-abbrev pub field_of : Structs → ℕ → List ℕ → Option (ℕ × FieldEntry)
-field_of structs n name = field_in (fields_of structs n) name
-
 -- a part of an object: it is const where the object or the field is, and an object where that is one
-abbrev pub part_by : Option (ℕ × FieldEntry) → Word → Bool → Bool → RootTree → List StepTree → Made
+unfoldable pub part_by : Option FoundField → Word → Bool → Bool → RootTree → List StepTree → Made
 part_by None w fixed designates root steps = refused (fault_at UnknownName w.span ∷ [])
 part_by (Some f) w fixed designates root steps = fine (record {
-  ty = f.1.ty;
-  fixed = fixed || f.1.fixed;
+  ty = f.entry.ty;
+  fixed = fixed || f.entry.fixed;
   designates = designates;
   null = false;
-  tree = object root (steps ++ field f.0 ∷ []) })
+  tree = object root (steps ++ field f.number ∷ []) })
 
-abbrev pub dotted_as : «Type» → Structs → Word → Span → Known → Made
+unfoldable pub dotted_as : «Type» → Structs → Word → Span → Known → Made
 dotted_as Bad structs w at k = refused []
 dotted_as Void structs w at k = refused (fault_at WrongType at ∷ [])
 dotted_as (Int t) structs w at k = refused (fault_at WrongType at ∷ [])
-dotted_as (Struct n) structs w at k = part_by (field_of structs n w.bytes) w k.fixed k.designates (root_of k.tree) (steps_of k.tree)
+dotted_as (Struct n) structs w at k = part_by (field_named structs n w.bytes) w k.fixed k.designates (root_of k.tree) (steps_of k.tree)
 dotted_as (Array e count) structs w at k = refused (fault_at WrongType at ∷ [])
 dotted_as (Pointer e fixed) structs w at k = refused (fault_at WrongType at ∷ [])
 
-abbrev pub dotted : Structs → Word → Span → Known → Made
+unfoldable pub dotted : Structs → Word → Span → Known → Made
 dotted structs w at k = dotted_as k.ty structs w at k
 
-abbrev pub arrow_as : «Type» → Structs → Span → Word → Span → ExprTree → Made
+unfoldable pub arrow_as : «Type» → Structs → Span → Word → Span → ExprTree → Made
 arrow_as Bad structs s w at x = refused []
 arrow_as Void structs s w at x = refused (fault_at WrongType at ∷ [])
 arrow_as (Int t) structs s w at x = refused (fault_at WrongType at ∷ [])
 arrow_as (Struct n) structs s w at x = refused (fault_at WrongType at ∷ [])
 arrow_as (Array e count) structs s w at x = refused (fault_at WrongType at ∷ [])
 arrow_as (Pointer (elem.Int t) fixed) structs s w at x = refused (fault_at WrongType at ∷ [])
-arrow_as (Pointer (elem.Struct n) fixed) structs s w at x = part_by (field_of structs n w.bytes) w fixed true (deref x s) []
+arrow_as (Pointer (elem.Struct n) fixed) structs s w at x = part_by (field_named structs n w.bytes) w fixed true (deref x s) []
 
-abbrev pub arrow : Structs → Span → Word → Span → Known → Made
+unfoldable pub arrow : Structs → Span → Word → Span → Known → Made
 arrow structs s w at k = arrow_as (value_of k).ty structs s w at (value_tree at k)
 
 -- ---- calls
 
-abbrev pub is_main : List ℕ → Bool
+unfoldable pub is_main : List ℕ → Bool
 is_main name = bytes_eq name (codes "main")
 
-abbrev pub function_meant : Option Meaning → Option FnId
+unfoldable pub function_meant : Option Meaning → Option FnId
 function_meant None = None
 function_meant (Some (Function f)) = Some f
 function_meant (Some (Global g)) = None
 function_meant (Some (Local v)) = None
 
 -- the function that the expression names
-abbrev pub function_named : Env → e.ExprTree → Option FnId
+unfoldable pub function_named : Env → e.ExprTree → Option FnId
 function_named env (e.name w) = function_meant (find env w.bytes)
 function_named env (e.constant c) = None
 function_named env (e.prefix s op a) = None
@@ -149,7 +136,7 @@ function_named env (e.chain s a ls) = None
 function_named env (e.choice s a b c) = None
 function_named env (e.assign s op a b) = None
 
-abbrev pub is_call : e.PostfixTree → Bool
+unfoldable pub is_call : e.PostfixTree → Bool
 is_call (e.index s a) = false
 is_call (e.call s es) = true
 is_call (e.dot s w) = false
@@ -157,28 +144,31 @@ is_call (e.arrow s w) = false
 is_call (e.increment s) = false
 is_call (e.decrement s) = false
 
-abbrev pub is_called : e.PostfixTrees → Bool
+unfoldable pub is_called : e.PostfixTrees → Bool
 is_called e.no_postfixes = false
 is_called (e.postfix_and p ps) = is_call p
 
 -- the function that is called: a call stands directly behind its name
-abbrev pub function_called : Env → e.ExprTree → e.PostfixTrees → Option FnId
+unfoldable pub function_called : Env → e.ExprTree → e.PostfixTrees → Option FnId
 function_called env a ps = if is_called ps then function_named env a else None
 
-abbrev pub params_of : Option Callable → List «Type»
+unfoldable pub function_params : Callable → List «Type»
+function_params f = if is_main f.name then [] else f.params
+
+unfoldable pub params_of : Option Callable → List «Type»
 params_of None = []
-params_of (Some f) = if is_main f.name then [] else f.params
+params_of (Some f) = function_params f
 
 -- the types that a call's arguments have to fit: those of a function that may be called
-abbrev pub params_for : Env → Option FnId → List «Type»
+unfoldable pub params_for : Env → Option FnId → List «Type»
 params_for env None = []
 params_for env (Some f) = params_of (function_at env f)
 
-abbrev pub argument_tree : Option «Type» → Value → ExprTree → ExprTree
+unfoldable pub argument_tree : Option «Type» → Value → ExprTree → ExprTree
 argument_tree None w x = x
 argument_tree (Some t) w x = as_type t w.null x
 
-abbrev pub argument_faults : Option «Type» → Value → Span → List TypeFault
+unfoldable pub argument_faults : Option «Type» → Value → Span → List TypeFault
 argument_faults None w at = []
 argument_faults (Some t) w at = fault_if (is_wrong (fit_rule t w)) WrongType at
 
@@ -186,15 +176,18 @@ abbrev pub call_tree : Span → «Type» → FnId → List ExprTree → ExprTree
 call_tree s ty f trees = typed s (var_type ty) (call f (expr_trees trees))
 
 -- with another number of arguments than parameters, the call has no type
-abbrev pub called_function : Option Callable → Span → FnId → List ExprTree → Made
-called_function None s f trees = refused []
-called_function (Some c) s f trees =
+unfoldable pub call_of : Callable → Span → FnId → List ExprTree → Made
+call_of c s f trees =
     if is_main c.name then refused (fault_at OutOfProfile s ∷ [])
     else if nat_eq (length trees) (length c.params) then fine (plain c.result (call_tree s c.result f trees))
     else refused (fault_at ArgCount s ∷ [])
 
+unfoldable pub called_function : Option Callable → Span → FnId → List ExprTree → Made
+called_function None s f trees = refused []
+called_function (Some c) s f trees = call_of c s f trees
+
 -- what is no function isn't called
-abbrev pub called_other : «Type» → Span → Made
+unfoldable pub called_other : «Type» → Span → Made
 called_other Bad s = refused []
 called_other Void s = refused (fault_at WrongType s ∷ [])
 called_other (Int t) s = refused (fault_at WrongType s ∷ [])
@@ -203,6 +196,6 @@ called_other (Array e count) s = refused (fault_at WrongType s ∷ [])
 called_other (Pointer e fixed) s = refused (fault_at WrongType s ∷ [])
 
 -- a call of a function, or of what else has this type
-abbrev pub called : Env → Option FnId → «Type» → Span → List ExprTree → Made
+unfoldable pub called : Env → Option FnId → «Type» → Span → List ExprTree → Made
 called env None ty s trees = called_other ty s
 called env (Some f) ty s trees = called_function (function_at env f) s f trees

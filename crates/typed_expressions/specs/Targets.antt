@@ -12,15 +12,15 @@ use Rattle.declared_types.specs.Structs.{Structs, has_const}
 use Rattle.typed_expressions.specs.Operands.{Known}
 
 -- at most one fault, at this place
-abbrev pub optional_fault : Option FaultKind → Span → List TypeFault
+unfoldable pub optional_fault : Option FaultKind → Span → List TypeFault
 optional_fault None s = []
 optional_fault (Some kind) s = fault_at kind s ∷ []
 
 -- it must designate an object, which is const neither itself nor in a part
-abbrev pub object_fault : Bool → Bool → Option FaultKind
+unfoldable pub object_fault : Bool → Bool → Option FaultKind
 object_fault designates is_const = if designates then (if is_const then Some ConstWrite else None) else Some NotLvalue
 
-abbrev pub target_fault_of : «Type» → Bool → Bool → Option FaultKind
+unfoldable pub target_fault_of : «Type» → Bool → Bool → Option FaultKind
 target_fault_of Bad designates is_const = None
 target_fault_of Void designates is_const = object_fault designates is_const
 target_fault_of (Int t) designates is_const = object_fault designates is_const
@@ -29,5 +29,5 @@ target_fault_of (Array e count) designates is_const = Some WrongType
 target_fault_of (Pointer e fixed) designates is_const = object_fault designates is_const
 
 -- what is wrong with it as the operand that an operator writes; an array is never written whole
-abbrev pub target_fault : Structs → Known → Option FaultKind
+unfoldable pub target_fault : Structs → Known → Option FaultKind
 target_fault structs k = target_fault_of k.ty k.designates (k.fixed || has_const structs k.ty)

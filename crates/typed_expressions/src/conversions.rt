@@ -13,6 +13,7 @@ use type_rules::Type;
 use typed_tree::{Form, TypedExpr, VarTy};
 
 /// A value as one of the type, which it fits; `is_null` says that it is a null constant.
+#[tactic(auto, unfolding(crate::specs::Conversions::as_type))]
 pub fn as_type(
     alloc: Global,
     ty: Type,
@@ -35,6 +36,7 @@ pub fn as_type(
 }
 
 /// The integer promotions (C99 6.3.1.1p2) of a value of the type.
+#[tactic(auto, unfolding(crate::specs::Conversions::as_promoted))]
 pub(crate) fn as_promoted(
     alloc: Global,
     ty: Type,
@@ -51,6 +53,7 @@ pub(crate) fn as_promoted(
 }
 
 /// A value as one of the integer type.
+#[tactic(auto, unfolding(crate::specs::Conversions::to_int))]
 pub(crate) fn to_int(alloc: Global, t: IntType, value: TypedExpr) -> Result<TypedExpr, AllocError>
     ensures { IfOk result (λ x. view_expr x ≡ is.to_int t (view_expr value)) }
 {
@@ -61,6 +64,7 @@ pub(crate) fn to_int(alloc: Global, t: IntType, value: TypedExpr) -> Result<Type
 }
 
 /// A pointer to such elements as one whose pointee is const or not.
+#[tactic(auto, unfolding(crate::specs::Conversions::to_pointer))]
 fn to_pointer(
     alloc: Global,
     elem: Elem,
@@ -98,6 +102,7 @@ fn converted(alloc: Global, ty: VarTy, value: TypedExpr) -> Result<TypedExpr, Al
 }
 
 /// Whether a value of the second type is one of the integer type.
+#[tactic(auto, unfolding(crate::specs::Conversions::is_of_int))]
 fn is_of_int(t: IntType, ty: Option<VarTy>) -> bool
     ensures { result ≡ is.is_of_int t ty }
 {
@@ -111,6 +116,7 @@ fn is_of_int(t: IntType, ty: Option<VarTy>) -> bool
 }
 
 /// Whether a value of the second type is a pointer whose pointee is const or not, as `fixed` says.
+#[tactic(auto, unfolding(crate::specs::Conversions::is_of_pointer))]
 fn is_of_pointer(fixed: bool, ty: Option<VarTy>) -> bool
     ensures { result ≡ is.is_of_pointer fixed ty }
 {

@@ -2,12 +2,20 @@
 //! and its faults.
 #![tactic(auto)]
 
+mod assignments;
+mod choices;
 mod conversions;
+mod faults;
+mod links;
 mod meaning;
 mod names;
 mod operand;
+mod postfixes;
+mod prefixes;
 
+pub use assignments::is_misfit;
 pub use conversions::as_type;
-pub use meaning::{Callable, Meaning, Object, Variable};
-pub use names::Names;
+pub use meaning::{Callable, Meaning, Object, ParamTypes, Variable};
+pub use names::{Names, Scope};
 pub use operand::{Elaborated, Operand};
+pub use postfixes::fitted;

@@ -1,6 +1,6 @@
 // What is known of an expression.
 ghost use Rattle.std.specs.Prelude.{◌≡◌, ◌++◌, ◌∷◌, [], IfOk, map};
-ghost use Rattle.typed_tree.specs.ExpressionTree.{view_expr, view_form, view_place, view_root, view_step, item};
+ghost use Rattle.typed_tree.specs.ExpressionTree.{view_expr, view_form, view_place, view_root, view_step, deref, item};
 ghost use Rattle.typed_expressions.specs.Operands as is;
 ghost use Rattle.typed_expressions.specs.Views.{elaboration, known};
 
@@ -40,6 +40,7 @@ pub enum Elaborated {
 
 impl Operand {
     /// A faulty expression; its uses have no fault of their own.
+    #[tactic(auto, unfolding(crate::specs::Operands::var_type, crate::specs::Views::elaboration))]
     pub fn faulty() -> Operand
         ensures { known result ≡ is.faulty }
     {
@@ -55,6 +56,7 @@ impl Operand {
     }
 
     /// A value that is no constant.
+    #[tactic(auto, unfolding(crate::specs::Views::elaboration))]
     pub(crate) fn plain(ty: Type, tree: TypedExpr) -> Operand
         ensures { known result ≡ is.plain ty (view_expr tree) }
     {
@@ -81,6 +83,7 @@ impl Operand {
     }
 
     /// The expression as a value (C99 6.3.2.1p2 and p3).
+    #[tactic(auto, unfolding(crate::specs::Operands::value_of))]
     pub fn value(&self) -> Value
         ensures { result ≡ is.value_of (known self.now) }
     {
@@ -91,6 +94,7 @@ impl Operand {
     }
 
     /// The tree of the expression's value; the expression has this span.
+    #[tactic(auto, unfolding(crate::specs::Operands::value_tree))]
     pub fn into_tree(self, alloc: Global, at: Span) -> Result<TypedExpr, AllocError>
         ensures { IfOk result (λ x. view_expr x ≡ is.value_tree at (known self)) }
     {
@@ -101,6 +105,7 @@ impl Operand {
 impl Elaborated {
     /// The tree of the value of an expression with this span, which designates an object of this
     /// type, const where `fixed` holds, or is a value.
+    #[tactic(auto, unfolding(crate::specs::Operands::read_tree, crate::specs::Operands::root_of, crate::specs::Operands::steps_of, crate::specs::Views::elaboration))]
     fn into_value(
         self,
         alloc: Global,
@@ -131,6 +136,7 @@ impl Elaborated {
 
     /// The object as a place. Of a struct that is a value, as only an assignment gives one, it is the
     /// assigned object.
+    #[tactic(auto, unfolding(crate::specs::Operands::root_of, crate::specs::Operands::steps_of, crate::specs::Views::elaboration))]
     pub(crate) fn into_place(self, alloc: Global) -> Result<Place, AllocError>
         ensures root { IfOk result (λ p. view_root p.root ≡ is.root_of (elaboration self)) }
         ensures steps { IfOk result (λ p. map view_step p.steps.items ≡ is.steps_of (elaboration self)) }
@@ -157,7 +163,7 @@ pub(crate) fn pointed_place(
     pointer: TypedExpr,
     span: Span,
 ) -> Result<Place, AllocError>
-    ensures root { IfOk result (λ p. view_root p.root ≡ is.root_of (is.pointed (view_expr pointer) span)) }
+    ensures root { IfOk result (λ p. view_root p.root ≡ deref (view_expr pointer) span) }
     ensures steps { IfOk result (λ p. p.steps.items ≡ []) }
 {
     Ok(Place {
@@ -187,6 +193,7 @@ fn read_object(at: Span, ty: Type, fixed: bool, place: Place) -> TypedExpr
     }
 }
 
+#[tactic(auto, unfolding(crate::specs::Operands::read_form))]
 fn read_form(ty: Type, place: Place) -> Form
     ensures { view_form result ≡ is.read_form ty (view_place place) }
 {
@@ -199,6 +206,7 @@ fn read_form(ty: Type, place: Place) -> Form
 }
 
 /// The type of a value in the typed tree: None is void, and also stands where a type is Bad.
+#[tactic(auto, unfolding(crate::specs::Operands::var_type))]
 pub(crate) fn var_type(ty: Type) -> Option<VarTy>
     ensures { result ≡ is.var_type ty }
 {
