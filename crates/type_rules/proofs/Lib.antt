@@ -1,3 +1,4 @@
 pub mod ConversionLemmas
 pub mod OperatorLemmas
+pub mod SilenceLemmas
 pub mod TypeLemmas

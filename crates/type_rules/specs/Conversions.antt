@@ -30,6 +30,7 @@ taken t s null = fit.Wrong
 unfoldable pub fit_rule : «Type» → Value → Fit
 fit_rule t v = if is_bad t || is_bad v.ty then fit.Unknown else taken t v.ty v.null
 
+-- the value doesn't fit
 abbrev pub is_wrong : Fit → Bool
 is_wrong fit.Wrong = true
 is_wrong f = false
@@ -56,6 +57,7 @@ joined a null b null' = choice.Wrong
 unfoldable pub choice_rule : Value → Value → ChoiceRule
 choice_rule v w = if is_bad v.ty || is_bad w.ty then choice.Unknown else joined v.ty v.null w.ty w.null
 
+-- v where a truth value is wanted: an integer or a pointer (C99 6.8.4.1p1, 6.8.5p2, 6.5.15p2)
 unfoldable pub condition_rule : Value → ConditionRule
 condition_rule v = if is_bad v.ty then condition.Unknown else if is_scalar v.ty then condition.Good else condition.Wrong
 

@@ -14,10 +14,13 @@ use Rattle.type_rules.specs.declared.unary.UnaryRule.TheVariants as unary
 use Rattle.type_rules.specs.declared.conversions.Fit.{Fit}
 use Rattle.type_rules.specs.declared.conversions.Fit.TheVariants as fit
 use Rattle.type_rules.specs.declared.conversions.ChoiceRule.TheVariants as choice
-use Rattle.type_rules.specs.Conversions.{fit_rule, choice_rule, compound_rule}
+use Rattle.type_rules.specs.declared.conversions.ConditionRule.TheVariants as condition
+use Rattle.type_rules.specs.declared.conversions.CastRule.TheVariants as cast
+use Rattle.type_rules.specs.Conversions.{fit_rule, choice_rule, condition_rule, cast_rule, compound_rule}
 use Rattle.type_rules.specs.Operators.{binary_rule, index_rule, rule_type, promoted_rule, not_rule, step_rule, deref_rule}
 use Rattle.type_rules.specs.Types.{is_bad, is_integer, is_scalar}
 
+-- an operand is Bad
 abbrev pub is_unknown : Rule → Bool
 is_unknown Unknown = true
 is_unknown rule = false
@@ -47,6 +50,7 @@ pub record OperatorsAnswer : Type 0 where
   pub index : (v w : Value) → Answers (index_rule v w) v w
   pub compound : (op : BinaryOp) (t : «Type») (w : Value) → Answers (compound_rule op t w) (record { ty = t; null = false }) w
 
+-- the operand is Bad
 abbrev pub is_silent : UnaryRule → Bool
 is_silent unary.Unknown = true
 is_silent rule = false
@@ -63,6 +67,7 @@ pub record UnaryRulesAnswer : Type 0 where
   pub step : AnswersOne step_rule
   pub deref : AnswersOne deref_rule
 
+-- the relational and equality operators (C99 6.5.8, 6.5.9)
 abbrev pub is_comparison : BinaryOp → Bool
 is_comparison Equal = true
 is_comparison NotEqual = true
@@ -80,6 +85,14 @@ ComparisonsAreSymmetric = (op : BinaryOp) (v w : Value) → is_comparison op ≡
 -- E1[E2] moves as E1 + E2 does
 abbrev pub SubscriptsAreSums : Type 0
 SubscriptsAreSums = (v w : Value) → is_given (index_rule v w) ≡ true → index_rule v w ≡ binary_rule Add v w
+
+-- the rules of conversions are silent exactly where a type is Bad, and a choice never gives Bad
+pub record ConversionsAnswer : Type 0 where
+  pub stored : (t : «Type») (v : Value) → (fit_rule t v ≡ fit.Unknown) ↔ ((is_bad t || is_bad v.ty) ≡ true)
+  pub chosen : (v w : Value) → (choice_rule v w ≡ choice.Unknown) ↔ ((is_bad v.ty || is_bad w.ty) ≡ true)
+  pub tested : (v : Value) → (condition_rule v ≡ condition.Unknown) ↔ (is_bad v.ty ≡ true)
+  pub converted : (t : «Type») (v : Value) → (cast_rule t v ≡ cast.Unknown) ↔ ((is_bad t || is_bad v.ty) ≡ true)
+  pub typed : (v w : Value) (t : «Type») → choice_rule v w ≡ choice.Gives t → t ≢ ty.Bad
 
 -- neither unknown nor a fault
 abbrev pub fits : Fit → Bool

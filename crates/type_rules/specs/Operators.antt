@@ -23,6 +23,7 @@ judged true left right rule = Unknown
 judged false true true rule = rule
 judged false left right rule = Wrong (not left) (not right)
 
+-- the rule of two operands, each of which is taken or not
 abbrev pub where_taken : (taken : «Type» → Bool) → Value → Value → Rule → Rule
 where_taken taken v w = judged (is_bad v.ty || is_bad w.ty) (taken v.ty) (taken w.ty)
 
@@ -57,14 +58,14 @@ abbrev pub shift : «Type» → «Type» → Rule
 shift (Int a) (Int b) = Shift (promoted a)
 shift a b = at_right
 
--- C99 6.5.6p2
+-- two integers, or a pointer that is moved by an integer on either side (C99 6.5.6p2)
 abbrev pub sum : «Type» → «Type» → Rule
 sum (Int a) (Int b) = Arithmetic (usual a b)
 sum (Pointer e fixed) (Int b) = Move
 sum (Int a) (Pointer e fixed) = MoveBy
 sum a b = at_right
 
--- C99 6.5.6p3, where const of a pointee doesn't count
+-- two integers, a pointer less an integer, or two pointers of one pointee, const aside (C99 6.5.6p3)
 abbrev pub difference : «Type» → «Type» → Rule
 difference (Int a) (Int b) = Arithmetic (usual a b)
 difference (Pointer e fixed) (Int b) = Move
@@ -111,7 +112,7 @@ pair_rule LogicalOr v w = Logical
 unfoldable pub binary_rule : BinaryOp → Value → Value → Rule
 binary_rule op v w = where_taken (takes op) v w (pair_rule op v w)
 
--- one operand is a pointer and the other an integer (C99 6.5.2.1p1)
+-- a pointer and an integer, in either order (C99 6.5.2.1p1); of two integers the left one is wrong
 abbrev pub subscript : «Type» → «Type» → Rule
 subscript (Pointer e fixed) (Int b) = Move
 subscript (Int a) (Pointer e fixed) = MoveBy
@@ -135,20 +136,20 @@ rule_type MoveBy v w = w.ty
 rule_type Difference v w = Int int.Long
 rule_type ComparePointers v w = Int int.Int
 
--- + - ~ of an operand of this type (C99 6.5.3.3)
+-- + - ~ of a value of this type: an integer, which is promoted (C99 6.5.3.3)
 unfoldable pub promoted_rule : «Type» → UnaryRule
 promoted_rule Bad = unary.Unknown
 promoted_rule (Int t) = unary.Gives (Int (promoted t))
 promoted_rule t = unary.Wrong
 
--- ! of it (C99 6.5.3.3p5)
+-- ! of it: an integer or a pointer, to int (C99 6.5.3.3p5)
 unfoldable pub not_rule : «Type» → UnaryRule
 not_rule Bad = unary.Unknown
 not_rule (Int t) = unary.Gives (Int int.Int)
 not_rule (Pointer e fixed) = unary.Gives (Int int.Int)
 not_rule t = unary.Wrong
 
--- ++ and -- of an object of this type, before it or behind it (C99 6.5.2.4, 6.5.3.1)
+-- ++ and --, before or behind an object of this type: an integer or a pointer (C99 6.5.2.4, 6.5.3.1)
 unfoldable pub step_rule : «Type» → UnaryRule
 step_rule Bad = unary.Unknown
 step_rule (Int t) = unary.Gives (Int t)

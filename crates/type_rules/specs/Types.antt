@@ -31,6 +31,7 @@ abbrev pub is_bad : «Type» → Bool
 is_bad ty.Bad = true
 is_bad t = false
 
+-- an integer type
 abbrev pub is_integer : «Type» → Bool
 is_integer (ty.Int t) = true
 is_integer t = false

@@ -1,5 +1,5 @@
 // What holds of the rules whatever the operands.
-ghost use Rattle.type_rules.specs.Laws.{OperatorsAnswer, UnaryRulesAnswer, ComparisonsAreSymmetric, SubscriptsAreSums, IntegersFitIntegers, PointersFitPointers, ArmsFitTheirChoice, CompoundsFit};
+ghost use Rattle.type_rules.specs.Laws.{OperatorsAnswer, UnaryRulesAnswer, ConversionsAnswer, ComparisonsAreSymmetric, SubscriptsAreSums, IntegersFitIntegers, PointersFitPointers, ArmsFitTheirChoice, CompoundsFit};
 
 /// An operator, a subscript and a compound assignment are silent exactly where an operand is Bad,
 /// each of their faults stands at an operand, and where they have none they give a type that isn't
@@ -11,6 +11,12 @@ pub fn operators_answer()
 /// An operator of one operand is silent exactly where it is Bad, and never gives Bad.
 pub fn unary_rules_answer()
     ensures { UnaryRulesAnswer }
+{}
+
+/// Fits, choices, conditions and casts are silent exactly where a type is Bad, and a choice never
+/// gives Bad.
+pub fn conversions_answer()
+    ensures { ConversionsAnswer }
 {}
 
 /// Two operands that are compared are compared in the same way when they change places.

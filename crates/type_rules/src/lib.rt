@@ -12,8 +12,9 @@ pub use conversions::{
     condition_rule, fit_rule,
 };
 pub use laws::{
-    arms_fit_their_choice, comparisons_are_symmetric, compounds_fit, integers_fit_integers,
-    operators_answer, pointers_fit_pointers, subscripts_are_sums, unary_rules_answer,
+    arms_fit_their_choice, comparisons_are_symmetric, compounds_fit, conversions_answer,
+    integers_fit_integers, operators_answer, pointers_fit_pointers, subscripts_are_sums,
+    unary_rules_answer,
 };
 pub use operators::{Rule, binary_rule, index_rule, rule_type};
 pub use types::{Type, Value, elem_type, value_type};

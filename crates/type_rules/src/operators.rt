@@ -80,7 +80,7 @@ pub fn rule_type(rule: Rule, left: Value, right: Value) -> Type
     }
 }
 
-/// The rule, where neither operand is Bad and both are taken.
+/// The rule where neither operand is Bad and both are taken, else what is said of those.
 fn judged(bad: bool, takes_left: bool, takes_right: bool, rule: Rule) -> Rule
     ensures { result ≡ is.judged bad takes_left takes_right rule }
 {
