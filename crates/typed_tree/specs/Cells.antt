@@ -6,7 +6,6 @@ use Rattle.pt_tree.specs.declared.signature.Elem.{Elem}
 use Rattle.pt_tree.specs.declared.signature.Elem.TheVariants as e
 use Rattle.typed_tree.specs.declared.types.VarTy.{VarTy}
 use Rattle.typed_tree.specs.declared.types.VarTy.TheVariants.{Int, Struct, Array, Pointer}
-use Rattle.typed_tree.specs.declared.types.Field.{Field}
 use Rattle.typed_tree.specs.declared.types.StructInfo.{StructInfo}
 
 -- so many times the list

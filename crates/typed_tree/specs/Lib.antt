@@ -1,5 +1,7 @@
 pub mod Cells
 pub mod ExpressionTree
+pub mod HostProgram
+pub mod Lookup
 pub mod Nodes
 pub mod Parts
 pub mod StatementTree

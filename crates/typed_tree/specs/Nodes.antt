@@ -1,6 +1,6 @@
 -- How many nodes a typed program has: its expressions, the steps of its places, its statements,
 -- sections and declarators, and what is declared.
-use Rattle.std.specs.Prelude.{ℕ, ◌+◌, Option, None, Some, length, sum_by, List}
+use Rattle.std.specs.Prelude.{ℕ, ◌+◌, Option, None, Some, length, sum_by}
 use Rattle.typed_tree.specs.declared.statement.TypedForInit.{TypedForInit}
 use Rattle.typed_tree.specs.declared.statement.TypedForInit.TheVariants as f
 use Rattle.typed_tree.specs.declared.statement.TypedDeclaration.{TypedDeclaration}

@@ -1,5 +1,5 @@
 -- Which type an operator gives, by the types of its operands (C99 6.5), None being void.
-use Rattle.std.specs.Prelude.{Bool, true, false, ◌&&◌, ◌||◌, not, Option, Some, None, if◌then◌else◌, is_some, is_none}
+use Rattle.std.specs.Prelude.{Bool, true, false, ◌&&◌, ◌||◌, not, Option, Some, None, if◌then◌else◌, is_some}
 use Rattle.pt_base.specs.declared.int_type.IntType.{IntType}
 use Rattle.pt_base.specs.declared.int_type.IntType.TheVariants as t
 use Rattle.pt_base.specs.IntTypes.{promoted, usual}

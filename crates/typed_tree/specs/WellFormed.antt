@@ -5,11 +5,9 @@ use Rattle.std.specs.Str.{bytes_eq}
 use Rattle.pt_base.specs.declared.int_type.IntType.{IntType}
 use Rattle.pt_base.specs.declared.int_type.IntType.TheVariants as t
 use Rattle.pt_int.specs.Conversion.{is_in_range}
-use Rattle.pt_tree.specs.declared.signature.Elem.{Elem}
 use Rattle.pt_tree.specs.declared.signature.Param.{Param}
 use Rattle.pt_tree.specs.declared.signature.ParamKind.{ParamKind}
 use Rattle.pt_tree.specs.declared.signature.ParamKind.TheVariants as k
-use Rattle.pt_tree.specs.declared.signature.Signature.{Signature}
 use Rattle.typed_tree.specs.declared.part.Part.{Part}
 use Rattle.typed_tree.specs.declared.types.VarTy.{VarTy}
 use Rattle.typed_tree.specs.declared.types.VarTy.TheVariants.{Int, Struct, Array, Pointer}
@@ -124,10 +122,10 @@ function_sound t f =
 abbrev pub name_of : FunctionTree → List ℕ
 name_of f = f.signature.name
 
--- no two functions have one name
-abbrev pub names_distinct : List FunctionTree → Bool
-names_distinct [] = true
-names_distinct (f ∷ fs) = not (list_any (λ g. bytes_eq (name_of f) (name_of g)) fs) && names_distinct fs
+-- no two names are equal
+abbrev pub are_distinct : List (List ℕ) → Bool
+are_distinct [] = true
+are_distinct (name ∷ names) = not (list_any (bytes_eq name) names) && are_distinct names
 
 -- an int, if there is a type
 abbrev pub is_int_result : Option IntType → Bool
@@ -151,5 +149,5 @@ are_numbered first (p ∷ ps) last = nat_eq p.expr.0 first && are_numbered (suc 
 unfoldable pub is_well_formed : TypedTree → Bool
 is_well_formed t =
     (structs_sound t.structs 0 t.structs && (list_all (global_sound t.structs) t.globals && globals_small t.globals))
-    && ((list_all (function_sound t) t.functions && (names_distinct t.functions && list_any is_start t.functions))
+    && ((list_all (function_sound t) t.functions && (are_distinct (map name_of t.functions) && list_any is_start t.functions))
     && (are_numbered 0 (all_parts_of t.functions) (length t.exprs) && nat_lt (nodes_of t) (2 ^ 28)))

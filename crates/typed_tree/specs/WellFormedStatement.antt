@@ -1,6 +1,6 @@
 -- Which statements are well formed: their outermost expressions are, with types that fit where they
 -- stand; break and continue stand in what they leave; the labels of a switch are distinct.
-use Rattle.std.specs.Prelude.{ℕ, ℤ, List, [], ◌∷◌, ◌++◌, Option, None, Some, Bool, true, false, ◌&&◌, not, slice_get, option_map, is_none, map, nat_le, length}
+use Rattle.std.specs.Prelude.{List, [], ◌∷◌, Option, None, Some, Bool, true, false, ◌&&◌, not, slice_get, option_map, is_none, map}
 use Rattle.std.specs.List.{list_any, list_all}
 use Rattle.std.specs.Ordering.{int_eq}
 use Rattle.pt_base.specs.declared.int_type.IntType.{IntType}

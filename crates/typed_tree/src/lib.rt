@@ -3,6 +3,7 @@
 
 mod expression;
 mod function;
+mod host_program;
 mod ids;
 mod link;
 mod part;
@@ -11,6 +12,7 @@ mod statement;
 mod typed;
 mod types;
 mod variable;
+mod walk;
 
 pub use expression::{Form, TypedExpr};
 pub use function::TypedFn;

@@ -1,6 +1,7 @@
 // The types of objects, and what the structs of a program are.
 use pt_base::{Bytes, IntType, Listed};
 use pt_tree::Elem;
+use std::alloc::{AllocError, Global};
 
 /// The type of an object or of a value. A value has no array type: it decays.
 #[derive(Clone, Copy, Debug, PartialEq, Eq)]
@@ -31,4 +32,37 @@ pub type Fields = Listed<Field>;
 pub struct StructInfo {
     pub name: Bytes,
     pub fields: Fields,
+}
+
+impl Field {
+    ghost use Rattle.std.specs.Prelude.{◌≡◌, IfOk};
+
+    // a field that is equal to this one
+    fn copy(&self, alloc: Global) -> Result<Field, AllocError>
+        ensures { IfOk result (λ f. f ≡ self.now) }
+    {
+        Ok(Field {
+            name: self.name.copy(alloc)?,
+            ty: self.ty,
+            marked: self.marked,
+        })
+    }
+}
+
+impl StructInfo {
+    ghost use Rattle.std.specs.Prelude.{◌≡◌, IfOk};
+
+    /// A struct that is equal to this one.
+    pub fn copy(&self, alloc: Global) -> Result<StructInfo, AllocError>
+        ensures { IfOk result (λ s. s ≡ self.now) }
+    {
+        let mut fields = Vec::new(alloc);
+        for field in self.fields.as_slice() {
+            fields.push(field.copy(alloc)?)?;
+        }
+        Ok(StructInfo {
+            name: self.name.copy(alloc)?,
+            fields: Listed::new(fields),
+        })
+    }
 }

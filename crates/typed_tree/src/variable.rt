@@ -1,6 +1,7 @@
 // The variables of functions, and globals.
 use crate::types::VarTy;
 use pt_base::{Bytes, Listed, Span};
+use std::alloc::{AllocError, Global};
 
 /// An object: a variable of a function or a global.
 #[derive(Drop)]
@@ -32,4 +33,22 @@ pub struct TypedGlobal {
     /// It is marked `declassify`.
     pub declassify: bool,
     pub cells: Cells,
+}
+
+impl Var {
+    ghost use Rattle.std.specs.Prelude.{◌≡◌, IfOk};
+
+    /// A variable that is equal to this one.
+    pub fn copy(&self, alloc: Global) -> Result<Var, AllocError>
+        ensures { IfOk result (λ v. v ≡ self.now) }
+    {
+        Ok(Var {
+            name: self.name.copy(alloc)?,
+            span: self.span,
+            ty: self.ty,
+            marked: self.marked,
+            unpriv: self.unpriv,
+            holds: self.holds,
+        })
+    }
 }
