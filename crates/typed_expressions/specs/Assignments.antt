@@ -36,7 +36,8 @@ stored_tree s a w x = typed s (var_type a.ty) (assign (place_of a.tree) (as_type
 unfoldable pub stored_by : Option FaultKind → Bool → Span → Span → Known → Span → Value → ExprTree → Made
 stored_by target misfit s left a right w x = record {
   operand = if is_some target || misfit then faulty else plain a.ty (stored_tree s a w x);
-  faults = optional_fault target left ++ fault_if misfit WrongType right }
+  faults = optional_fault target left ++ fault_if misfit WrongType right;
+}
 
 unfoldable pub stored : Structs → Span → Span → Known → Span → Known → Made
 stored structs s left a right b =
@@ -68,7 +69,8 @@ compound_tree rule op s a w x = typed s (var_type a.ty) (compound (place_of a.tr
 unfoldable pub compounded_by : Option FaultKind → Rule → BinaryOp → Span → Span → Known → Span → Value → ExprTree → Made
 compounded_by target rule op s left a right w x = record {
   operand = if is_some target || is_refused rule then faulty else plain a.ty (compound_tree rule op s a w x);
-  faults = optional_fault target left ++ rule_faults rule left right }
+  faults = optional_fault target left ++ rule_faults rule left right;
+}
 
 unfoldable pub compounded : Structs → BinaryOp → Span → Span → Known → Span → Known → Made
 compounded structs op s left a right b =

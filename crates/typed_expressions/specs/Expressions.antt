@@ -39,18 +39,21 @@ pub record Judged : Type 0 where
 
 -- ---- names and constants
 
-abbrev pub an_object : Object → RootTree → Made
-an_object o root = fine (designated o.ty o.fixed (object root []))
+abbrev pub an_object : Object → RootTree → Known
+an_object o root = designated o.ty o.fixed (object root [])
 
 -- a function's name stands in calls alone
-unfoldable pub named_as : Env → Word → Option Meaning → Made
-named_as env w None = refused (fault_at UnknownName w.span ∷ [])
-named_as env w (Some (Function f)) = refused (fault_at OutOfProfile w.span ∷ [])
-named_as env w (Some (Global g)) = an_object (global_at env g) (global g)
-named_as env w (Some (Local v)) = an_object (variable_at env v) (local v)
+unfoldable pub meant : Env → Span → Meaning → Made
+meant env s (Function f) = refused (fault_at OutOfProfile s ∷ [])
+meant env s (Global g) = fine (an_object (global_at env g) (global g))
+meant env s (Local v) = fine (an_object (variable_at env v) (local v))
+
+unfoldable pub named_as : Env → Span → Option Meaning → Made
+named_as env s None = refused (fault_at UnknownName s ∷ [])
+named_as env s (Some m) = meant env s m
 
 unfoldable pub named : Env → Word → Made
-named env w = named_as env w (find env w.bytes)
+named env w = named_as env w.span (find env w.bytes)
 
 unfoldable pub literal : Constant → Known
 literal c = record { ty = Int c.ty; fixed = false; designates = false; null = int_eq c.value (pos 0); tree = value (typed c.span (Some (v.Int c.ty)) (constant c.value)) }
@@ -64,6 +67,17 @@ alone structs m = record { operand = m.operand; structs = structs; faults = m.fa
 -- what an operator makes of judged operands with these faults
 abbrev pub over : List TypeFault → Structs → Made → Judged
 over faults structs m = record { operand = m.operand; structs = structs; faults = faults ++ m.faults }
+
+-- what the specifiers of a cast say, which take no attributes
+pub record CastBase : Type 0 where
+  pub base : «Type»
+  pub structs : Structs
+  pub faults : List TypeFault
+
+unfoldable pub cast_specified : Structs → SpecTrees → CastBase
+cast_specified structs specs =
+    let j = specified false structs specs in
+    record { base = j.given.base; structs = j.structs; faults = j.faults ++ mark_faults carrier.Nothing j.given.attributes }
 
 -- where a function is called, its name isn't judged as an expression
 unfoldable pub headed : Option FnId → Structs → Judged → Judged
@@ -97,9 +111,9 @@ unfoldable mutual
       let p = judge env structs a in
       over p.faults p.structs (prefixed p.structs op s (span_of a) p.operand)
   judge env structs (e.cast s specs pointer a) =
-      let j = specified false structs specs in
+      let j = cast_specified structs specs in
       let p = judge env j.structs a in
-      over (j.faults ++ mark_faults carrier.Nothing j.given.attributes ++ p.faults) p.structs (cast_to pointer j.given.base s (span_of a) p.operand)
+      over (j.faults ++ p.faults) p.structs (cast_to pointer j.base s (span_of a) p.operand)
   judge env structs (e.postfix s a ps) =
       let callee = function_called env a ps in
       let p = headed callee structs (judge env structs a) in
@@ -134,7 +148,8 @@ unfoldable mutual
       record {
         far = linked rule op (joined s span) far (value_of q.operand) (value_tree (span_of a) q.operand);
         structs = q.structs;
-        faults = q.faults ++ rule_faults rule far.span (span_of a) }
+        faults = q.faults ++ rule_faults rule far.span (span_of a);
+      }
 
   -- the postfixes of an expression with the span `s`, behind an operand with the span `at` or the name
   -- of the function that is called
@@ -166,4 +181,5 @@ unfoldable mutual
       record {
         trees = argument_tree (slice_get params n) (value_of p.operand) (value_tree (span_of a) p.operand) ∷ rest.trees;
         structs = rest.structs;
-        faults = p.faults ++ argument_faults (slice_get params n) (value_of p.operand) (span_of a) ++ rest.faults }
+        faults = p.faults ++ argument_faults (slice_get params n) (value_of p.operand) (span_of a) ++ rest.faults;
+      }

@@ -154,7 +154,8 @@ linked rule op span far w x = record {
   value = record { ty = rule_type rule far.value w; null = false };
   span = span;
   first = first_by (has_none far.links) rule far.value w far.first;
-  links = far.links ++ link span (link_type (rule_type rule far.value w)) (step_of (integer_op op) rule) (converted_by rule w far.value x) ∷ [] }
+  links = far.links ++ link span (link_type (rule_type rule far.value w)) (step_of (integer_op op) rule) (converted_by rule w far.value x) ∷ [];
+}
 
 unfoldable pub operand_of : LinkTree → OperandTree
 operand_of (link span ty step x) = operand span x

@@ -89,7 +89,8 @@ part_by (Some f) w fixed designates root steps = fine (record {
   fixed = fixed || f.entry.fixed;
   designates = designates;
   null = false;
-  tree = object root (steps ++ field f.number ∷ []) })
+  tree = object root (steps ++ field f.number ∷ []);
+})
 
 unfoldable pub dotted_as : «Type» → Structs → Word → Span → Known → Made
 dotted_as Bad structs w at k = refused []

@@ -6,6 +6,7 @@ ghost use Rattle.typed_expressions.specs.Gives.{Makes};
 ghost use Rattle.typed_expressions.specs.Views.{placed};
 
 use crate::conversions::as_type;
+use crate::faults::note;
 use crate::operand::{Operand, var_type};
 use crate::prefixes::refused;
 use declared_types::{FaultKind, TypeFault, note_if};
@@ -59,11 +60,13 @@ fn chosen_by(
         ChoiceRule::Unknown => Ok(Operand::faulty()),
         ChoiceRule::Wrong => {
             note_if(faults, wrong, FaultKind::WrongType, test.span)?;
-            refused(faults, FaultKind::WrongType, last.span)
+            note(faults, FaultKind::WrongType, last.span)?;
+            Ok(Operand::faulty())
         }
         ChoiceRule::Structs => {
             note_if(faults, wrong, FaultKind::WrongType, test.span)?;
-            refused(faults, FaultKind::OutOfProfile, s)
+            note(faults, FaultKind::OutOfProfile, s)?;
+            Ok(Operand::faulty())
         }
         ChoiceRule::Gives(ty) => {
             if wrong {

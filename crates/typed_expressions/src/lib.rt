@@ -5,6 +5,7 @@
 mod assignments;
 mod choices;
 mod conversions;
+mod expressions;
 mod faults;
 mod links;
 mod meaning;
@@ -15,6 +16,7 @@ mod prefixes;
 
 pub use assignments::is_misfit;
 pub use conversions::as_type;
+pub use expressions::{expression, span_of};
 pub use meaning::{Callable, Meaning, Object, ParamTypes, Variable};
 pub use names::{Names, Scope};
 pub use operand::{Elaborated, Operand};

@@ -138,7 +138,9 @@ impl Names {
         ensures new { IfOk result (λ b. b ≡ is_new (env_of self.old).file function.name) }
     {
         let number = FnId(as_number(self.functions.len())?);
-        let is_new = self.file.add(alloc, function.name.as_slice(), Meaning::Function(number))?;
+        let is_new = self
+            .file
+            .add(alloc, function.name.as_slice(), Meaning::Function(number))?;
         self.functions.push(function)?;
         Ok(is_new)
     }

@@ -109,25 +109,13 @@ fn element_tree(
 
 /// The same of a subscript whose index is the pointer.
 #[tactic(auto, unfolding(crate::specs::Postfixes::index_tree, crate::specs::Views::elaboration))]
-fn index_tree(
-    alloc: Global,
-    s: Span,
-    base: Placed,
-    index: Placed,
-) -> Result<Elaborated, AllocError>
+fn index_tree(alloc: Global, s: Span, base: Placed, index: Placed) -> Result<Elaborated, AllocError>
     ensures { IfOk result (λ t. elaboration t ≡ is.index_tree s base.span (known base.operand) index.span (known index.operand)) }
 {
     let ty = index.operand.value().ty;
     let by = base.operand.into_tree(alloc, base.span)?;
     let pointer = index.operand.into_tree(alloc, index.span)?;
-    Ok(Elaborated::Moved(moved_tree(
-        alloc,
-        s,
-        ty,
-        LinkStep::MoveBy,
-        by,
-        pointer,
-    )?))
+    Ok(Elaborated::Moved(moved_tree(alloc, s, ty, LinkStep::MoveBy, by, pointer)?))
 }
 
 /// One operand moved by the other.
@@ -248,7 +236,8 @@ pub(crate) fn arrow(
             part_by(field, word, object, place, faults)
         }
         Type::Pointer {
-            elem: Elem::Int(_), ..
+            elem: Elem::Int(_),
+            ..
         } => refused(faults, FaultKind::WrongType, at),
         Type::Void | Type::Int(_) | Type::Struct(_) | Type::Array { .. } => {
             refused(faults, FaultKind::WrongType, at)
@@ -438,11 +427,7 @@ fn is_count(trees: &Vec<TypedExpr>, params: &[Type]) -> bool
 
 /// What is no function isn't called.
 #[tactic(auto, unfolding(crate::specs::Postfixes::called_other))]
-fn called_other(
-    ty: Type,
-    s: Span,
-    faults: &mut Vec<TypeFault>,
-) -> Result<Operand, AllocError>
+fn called_other(ty: Type, s: Span, faults: &mut Vec<TypeFault>) -> Result<Operand, AllocError>
     ensures { Makes result faults.old.items faults.new.items (is.called_other ty s) }
 {
     match ty {

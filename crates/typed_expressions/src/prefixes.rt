@@ -309,7 +309,10 @@ pub(crate) fn stepped(
     note_optional(faults, target, at)?;
     match step_rule(operand.ty) {
         UnaryRule::Unknown => Ok(Operand::faulty()),
-        UnaryRule::Wrong => refused(faults, FaultKind::WrongType, at),
+        UnaryRule::Wrong => {
+            note(faults, FaultKind::WrongType, at)?;
+            Ok(Operand::faulty())
+        }
         UnaryRule::Gives(ty) => match target {
             Some(_) => Ok(Operand::faulty()),
             None => {
