@@ -113,7 +113,7 @@ fn stored_tree(
     let null = right.operand.value().null;
     let tree = right.operand.into_tree(alloc, right.span)?;
     let tree = as_type(alloc, ty, null, tree)?;
-    let place = left.tree.into_place(alloc)?;
+    let place = left.into_elaborated().into_place(alloc)?;
     Ok(TypedExpr {
         span: s,
         ty: var_type(ty),
@@ -195,7 +195,7 @@ fn compound_tree(
     let value = right.operand.value();
     let tree = right.operand.into_tree(alloc, right.span)?;
     let tree = converted_by(alloc, rule, value, object, tree)?;
-    let place = left.tree.into_place(alloc)?;
+    let place = left.into_elaborated().into_place(alloc)?;
     let step = step_of(integer_op(op), rule);
     Ok(TypedExpr {
         span: s,

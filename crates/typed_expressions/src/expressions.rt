@@ -11,7 +11,7 @@ ghost use Rattle.typed_expressions.specs.Views.{known, so_far};
 
 use crate::assignments::assigned;
 use crate::choices::{Placed, chosen};
-use crate::links::{SoFar, begun, chained, link_rule, linked, note_rule, sort_of};
+use crate::links::{SoFar, begun, link_rule, note_rule, sort_of};
 use crate::meaning::{Meaning, Object};
 use crate::names::Names;
 use crate::operand::{Elaborated, Operand};
@@ -78,7 +78,7 @@ pub fn expression(
                 is_logical: sort.is_some(),
             };
             let far = more_links(alloc, names, structs, chain, far, links, faults)?;
-            let found = chained(alloc, sort, *s, far)?;
+            let found = far.chained(alloc, sort, *s)?;
             Ok(found)
         }
         Expr::Choice(s, a, b, c) => {
@@ -152,7 +152,7 @@ fn one_link(
     note_rule(faults, rule, far.span, span)?;
     let tree = operand.into_tree(alloc, span)?;
     let whole = joined(chain.span, link.span);
-    let far = linked(alloc, rule, link.op, whole, far, value, tree)?;
+    let far = far.linked(alloc, rule, link.op, whole, value, tree)?;
     Ok(far)
 }
 

@@ -1,5 +1,5 @@
 // Chains of operators that group to the left (C99 6.5.5 to 6.5.14).
-ghost use Rattle.std.specs.Prelude.{◌≡◌, ◌++◌, IfOk, OnOk, length, map, nat_eq};
+ghost use Rattle.std.specs.Prelude.{◌≡◌, ◌++◌, ◌∷◌, [], IfOk, OnOk, length, map, nat_eq};
 ghost use Rattle.pt_tree.specs.ExpressionTree as parsed;
 ghost use Rattle.typed_tree.specs.ExpressionTree.{view_expr, view_link, view_operand};
 ghost use Rattle.typed_expressions.specs.Links as is;
@@ -16,7 +16,6 @@ use type_rules::{Rule, Type, Value, binary_rule, rule_type};
 use typed_tree::{Form, LinkStep, LogicalOp, TypedExpr, TypedLink, TypedOperand, VarTy};
 
 /// All of a chain so far: its value, where it stands, the tree of the first operand and the links.
-#[derive(Drop)]
 pub(crate) struct SoFar {
     pub value: Value,
     pub span: Span,
@@ -38,41 +37,83 @@ pub(crate) fn begun(alloc: Global, at: Span, operand: Operand) -> Result<SoFar, 
     })
 }
 
-/// A chain with a link more, whose operand has this value and tree; the span is that of all up to and
-/// with it.
-#[tactic(auto, unfolding(crate::specs::Links::linked))]
-pub(crate) fn linked(
-    alloc: Global,
-    rule: Rule,
-    op: BinaryOp,
-    span: Span,
-    far: SoFar,
-    value: Value,
-    tree: TypedExpr,
-) -> Result<SoFar, AllocError>
-    ensures { IfOk result (λ f. so_far f ≡ is.linked rule op span (so_far far) value (view_expr tree)) }
+impl Drop for SoFar {
+    fn drop(self) {
+        let SoFar {
+            value: _,
+            span: _,
+            first: _,
+            links: _,
+        } = self;
+    }
+}
+
+impl SoFar {
+    /// The chain with a link more, whose operand has this value and tree; the span is that of all up
+    /// to and with it.
+    #[tactic(auto, unfolding(crate::specs::Links::linked))]
+    pub(crate) fn linked(
+        self,
+        alloc: Global,
+        rule: Rule,
+        op: BinaryOp,
+        span: Span,
+        value: Value,
+        tree: TypedExpr,
+    ) -> Result<SoFar, AllocError>
+        ensures { IfOk result (λ f. so_far f ≡ is.linked rule op span (so_far self) value (view_expr tree)) }
+    {
+        let SoFar {
+            value: left,
+            span: _,
+            first,
+            links,
+        } = self;
+        let ty = rule_type(rule, left, value);
+        let first = first_by(alloc, is_first(&links), rule, left, value, first)?;
+        let operand = converted_by(alloc, rule, value, left, tree)?;
+        let link = TypedLink {
+            span,
+            ty: link_type(ty),
+            step: step_of(integer_op(op), rule),
+            operand,
+        };
+        Ok(SoFar {
+            value: Value { ty, null: false },
+            span,
+            first,
+            links: with_link(links, link)?,
+        })
+    }
+
+    /// The whole chain.
+    #[tactic(auto, unfolding(crate::specs::Links::chained))]
+    pub(crate) fn chained(
+        self,
+        alloc: Global,
+        sort: Option<LogicalOp>,
+        s: Span,
+    ) -> Result<Operand, AllocError>
+        ensures { IfOk result (λ o. known o ≡ is.chained sort s (so_far self)) }
+    {
+        let SoFar {
+            value,
+            span: _,
+            first,
+            links,
+        } = self;
+        let ty = value.ty;
+        let tree = chain_tree(alloc, sort, s, var_type(ty), first, links)?;
+        Ok(Operand::plain(ty, tree))
+    }
+}
+
+fn with_link(links: Vec<TypedLink>, link: TypedLink) -> Result<Vec<TypedLink>, AllocError>
+    ensures { IfOk result (λ v. map view_link v.items ≡ map view_link links.items ++ view_link link ∷ []) }
 {
-    let SoFar {
-        value: left,
-        span: _,
-        first,
-        mut links,
-    } = far;
-    let ty = rule_type(rule, left, value);
-    let first = first_by(alloc, is_first(&links), rule, left, value, first)?;
-    let operand = converted_by(alloc, rule, value, left, tree)?;
-    links.push(TypedLink {
-        span,
-        ty: link_type(ty),
-        step: step_of(integer_op(op), rule),
-        operand,
-    })?;
-    Ok(SoFar {
-        value: Value { ty, null: false },
-        span,
-        first,
-        links,
-    })
+    let mut links = links;
+    links.push(link)?;
+    Ok(links)
 }
 
 /// Whether no link stands before.
@@ -99,21 +140,6 @@ fn first_by(
         return converted_by(alloc, rule, own, other, tree);
     }
     Ok(tree)
-}
-
-/// A whole chain.
-#[tactic(auto, unfolding(crate::specs::Links::chained))]
-pub(crate) fn chained(
-    alloc: Global,
-    sort: Option<LogicalOp>,
-    s: Span,
-    far: SoFar,
-) -> Result<Operand, AllocError>
-    ensures { IfOk result (λ o. known o ≡ is.chained sort s (so_far far)) }
-{
-    let ty = far.value.ty;
-    let tree = chain_tree(alloc, sort, s, var_type(ty), far.first, far.links)?;
-    Ok(Operand::plain(ty, tree))
 }
 
 #[tactic(auto, unfolding(crate::specs::Links::chain_tree))]

@@ -10,7 +10,6 @@ use type_rules::{Type, Value, value_type};
 use typed_tree::{Form, Place, PlaceStep, Root, TypedExpr, VarTy};
 
 /// What is known of an expression. An array isn't decayed here.
-#[derive(Drop)]
 pub struct Operand {
     pub ty: Type,
     /// The object that it designates is const itself.
@@ -20,6 +19,18 @@ pub struct Operand {
     /// It is an integer constant of value 0.
     pub null: bool,
     pub tree: Elaborated,
+}
+
+impl Drop for Operand {
+    fn drop(self) {
+        let Operand {
+            ty: _,
+            fixed: _,
+            designates: _,
+            null: _,
+            tree: _,
+        } = self;
+    }
 }
 
 /// The typed tree of an expression, by what the expression is.
@@ -53,6 +64,13 @@ impl Operand {
                 form: Form::Constant(0),
             },
         )
+    }
+
+    /// A faulty expression in place of this one.
+    pub(crate) fn forgotten(self) -> Operand
+        ensures { known result ≡ is.faulty }
+    {
+        Operand::faulty()
     }
 
     /// A value that is no constant.
@@ -98,7 +116,22 @@ impl Operand {
     pub fn into_tree(self, alloc: Global, at: Span) -> Result<TypedExpr, AllocError>
         ensures { IfOk result (λ x. view_expr x ≡ is.value_tree at (known self)) }
     {
-        self.tree.into_value(alloc, at, self.ty, self.fixed)
+        let (ty, fixed) = (self.ty, self.fixed);
+        self.into_elaborated().into_value(alloc, at, ty, fixed)
+    }
+
+    /// The expression's tree.
+    pub(crate) fn into_elaborated(self) -> Elaborated
+        ensures { result ≡ self.tree }
+    {
+        let Operand {
+            ty: _,
+            fixed: _,
+            designates: _,
+            null: _,
+            tree,
+        } = self;
+        tree
     }
 }
 

@@ -20,7 +20,7 @@ use crate::links::{link_type, note_rule};
 use crate::meaning::{Callable, Meaning};
 use crate::names::Names;
 use crate::operand::{Elaborated, Operand, pointed_place, var_type};
-use crate::prefixes::{points_to_const, refused, valued};
+use crate::prefixes::{points_to_const, refuse, refused, valued};
 use declared_types::{FaultKind, FoundField, Structs, TypeFault, field_named, note_if};
 use pt_base::{FnId, Span};
 use pt_tree::{Elem, Expr, Postfix, Word};
@@ -95,7 +95,7 @@ fn element_tree(
     let index = index.operand.into_tree(alloc, index.span)?;
     match base.operand.ty {
         Type::Array { .. } => {
-            let array = base.operand.tree.into_place(alloc)?;
+            let array = base.operand.into_elaborated().into_place(alloc)?;
             Ok(Elaborated::Item(array, base.span, index, s))
         }
         Type::Bad | Type::Void | Type::Int(_) | Type::Struct(_) | Type::Pointer { .. } => {
@@ -157,18 +157,18 @@ pub(crate) fn dotted(
     ensures { Makes result faults.old.items faults.new.items (is.dotted structs.now word.now at (known operand)) }
 {
     match operand.ty {
-        Type::Bad => Ok(Operand::faulty()),
+        Type::Bad => Ok(operand.forgotten()),
         Type::Struct(n) => {
             let field = field_named(structs, n, word.bytes.as_slice());
             let object = Whole {
                 fixed: operand.fixed,
                 designates: operand.designates,
             };
-            let place = operand.tree.into_place(alloc)?;
+            let place = operand.into_elaborated().into_place(alloc)?;
             part_by(field, word, object, place, faults)
         }
         Type::Void | Type::Int(_) | Type::Array { .. } | Type::Pointer { .. } => {
-            refused(faults, FaultKind::WrongType, at)
+            refuse(operand, faults, FaultKind::WrongType, at)
         }
     }
 }
@@ -221,7 +221,7 @@ pub(crate) fn arrow(
     ensures { Makes result faults.old.items faults.new.items (is.arrow structs.now s word.now at (known operand)) }
 {
     match operand.value().ty {
-        Type::Bad => Ok(Operand::faulty()),
+        Type::Bad => Ok(operand.forgotten()),
         Type::Pointer {
             elem: Elem::Struct(n),
             fixed,
@@ -238,9 +238,9 @@ pub(crate) fn arrow(
         Type::Pointer {
             elem: Elem::Int(_),
             ..
-        } => refused(faults, FaultKind::WrongType, at),
+        } => refuse(operand, faults, FaultKind::WrongType, at),
         Type::Void | Type::Int(_) | Type::Struct(_) | Type::Array { .. } => {
-            refused(faults, FaultKind::WrongType, at)
+            refuse(operand, faults, FaultKind::WrongType, at)
         }
     }
 }

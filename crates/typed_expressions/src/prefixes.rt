@@ -71,11 +71,8 @@ fn computed(
     ensures { Makes result faults.old.items faults.new.items (is.computed op s at (known operand)) }
 {
     match unary_rule(op, operand.value().ty) {
-        UnaryRule::Unknown => Ok(Operand::faulty()),
-        UnaryRule::Wrong => {
-            note(faults, FaultKind::WrongType, at)?;
-            Ok(Operand::faulty())
-        }
+        UnaryRule::Unknown => Ok(operand.forgotten()),
+        UnaryRule::Wrong => refuse(operand, faults, FaultKind::WrongType, at),
         UnaryRule::Gives(ty) => {
             let tree = operand.into_tree(alloc, at)?;
             let tree = unary_operand(alloc, op, ty, tree)?;
@@ -138,11 +135,8 @@ fn dereferenced(
 {
     let value = operand.value();
     match deref_rule(value.ty) {
-        UnaryRule::Unknown => Ok(Operand::faulty()),
-        UnaryRule::Wrong => {
-            note(faults, FaultKind::WrongType, at)?;
-            Ok(Operand::faulty())
-        }
+        UnaryRule::Unknown => Ok(operand.forgotten()),
+        UnaryRule::Wrong => refuse(operand, faults, FaultKind::WrongType, at),
         UnaryRule::Gives(ty) => {
             let pointer = operand.into_tree(alloc, at)?;
             let fixed = points_to_const(value.ty);
@@ -174,16 +168,16 @@ fn addressed(
     ensures { Makes result faults.old.items faults.new.items (is.addressed s at (known operand)) }
 {
     match operand.ty {
-        Type::Bad => Ok(Operand::faulty()),
-        Type::Void => refused(faults, FaultKind::NotLvalue, at),
+        Type::Bad => Ok(operand.forgotten()),
+        Type::Void => refuse(operand, faults, FaultKind::NotLvalue, at),
         Type::Int(t) => address_of(alloc, s, at, Elem::Int(t), operand, faults),
         Type::Struct(n) => address_of(alloc, s, at, Elem::Struct(n), operand, faults),
-        Type::Array { .. } => refused(faults, FaultKind::WrongType, at),
+        Type::Array { .. } => refuse(operand, faults, FaultKind::WrongType, at),
         Type::Pointer { .. } => {
             if operand.designates {
-                refused(faults, FaultKind::OutOfProfile, s)
+                refuse(operand, faults, FaultKind::OutOfProfile, s)
             } else {
-                refused(faults, FaultKind::NotLvalue, at)
+                refuse(operand, faults, FaultKind::NotLvalue, at)
             }
         }
     }
@@ -201,6 +195,20 @@ pub(crate) fn refused(
     Ok(Operand::faulty())
 }
 
+/// A faulty expression in place of this one, with one fault of its own.
+pub(crate) fn refuse(
+    operand: Operand,
+    faults: &mut Vec<TypeFault>,
+    kind: FaultKind,
+    at: Span,
+) -> Result<Operand, AllocError>
+    ensures { Makes result faults.old.items faults.new.items (o.refused (fault_at kind at ∷ [])) }
+{
+    let faulty = operand.forgotten();
+    note(faults, kind, at)?;
+    Ok(faulty)
+}
+
 /// The address of an object of this type; what designates none has no address.
 #[tactic(auto, unfolding(crate::specs::Prefixes::address_of))]
 fn address_of(
@@ -214,10 +222,10 @@ fn address_of(
     ensures { Makes result faults.old.items faults.new.items (is.address_of s at elem (known operand)) }
 {
     if !operand.designates {
-        return refused(faults, FaultKind::NotLvalue, at);
+        return refuse(operand, faults, FaultKind::NotLvalue, at);
     }
     let fixed = operand.fixed;
-    let tree = address_tree(alloc, s, elem, fixed, operand.tree)?;
+    let tree = address_tree(alloc, s, elem, fixed, operand.into_elaborated())?;
     Ok(Operand::plain(Type::Pointer { elem, fixed }, tree))
 }
 
@@ -316,7 +324,7 @@ pub(crate) fn stepped(
         UnaryRule::Gives(ty) => match target {
             Some(_) => Ok(Operand::faulty()),
             None => {
-                let place = operand.tree.into_place(alloc)?;
+                let place = operand.into_elaborated().into_place(alloc)?;
                 Ok(valued(s, ty, Form::step(place, how.back, how.postfix)))
             }
         },
@@ -337,9 +345,9 @@ pub(crate) fn cast_to(
     ensures { Makes result faults.old.items faults.new.items (is.cast_to pointer base s at (known operand)) }
 {
     match cast_rule(cast_target(pointer, base), operand.value()) {
-        CastRule::Unknown => Ok(Operand::faulty()),
-        CastRule::Wrong => refused(faults, FaultKind::WrongType, at),
-        CastRule::OutOfProfile => refused(faults, FaultKind::OutOfProfile, s),
+        CastRule::Unknown => Ok(operand.forgotten()),
+        CastRule::Wrong => refuse(operand, faults, FaultKind::WrongType, at),
+        CastRule::OutOfProfile => refuse(operand, faults, FaultKind::OutOfProfile, s),
         CastRule::Converts(t) => {
             let tree = operand.into_tree(alloc, at)?;
             Ok(valued(s, Type::Int(t), Form::convert(alloc, tree)?))
