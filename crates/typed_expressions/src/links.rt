@@ -1,5 +1,5 @@
 // Chains of operators that group to the left (C99 6.5.5 to 6.5.14).
-ghost use Rattle.std.specs.Prelude.{◌≡◌, ◌++◌, ◌∷◌, [], IfOk, OnOk, length, map, nat_eq};
+ghost use Rattle.std.specs.Prelude.{◌≡◌, ◌++◌, ◌∷◌, [], IfOk, OnOk, map};
 ghost use Rattle.pt_tree.specs.ExpressionTree as parsed;
 ghost use Rattle.typed_tree.specs.ExpressionTree.{view_expr, view_link, view_operand};
 ghost use Rattle.typed_expressions.specs.Links as is;
@@ -119,7 +119,7 @@ fn with_link(links: Vec<TypedLink>, link: TypedLink) -> Result<Vec<TypedLink>, A
 /// Whether no link stands before.
 #[tactic(auto, unfolding(crate::specs::Links::has_none))]
 fn is_first(links: &Vec<TypedLink>) -> bool
-    ensures { result ≡ nat_eq (length (map view_link links.now.items)) 0 }
+    ensures { result ≡ is.has_none (map view_link links.now.items) }
 {
     links.is_empty()
 }
