@@ -1,5 +1,5 @@
 -- How the walks over links and arguments go on, and what the parts of an expression give together.
-use Rattle.std.proofs.Common.{◌≡◌, ℕ, suc, ◌+◌, ◌<◌, List, [], ◌∷◌, ◌++◌, Bool, Option, length, get_or, drop, drop-cons, add-one, slice_get, is_some, refl, sym, ap, ◌∙◌, append_assoc, subst}
+use Rattle.std.proofs.Common.{◌≡◌, ℕ, suc, ◌+◌, ◌<◌, List, [], ◌∷◌, ◌++◌, Bool, Option, length, get_or, drop, drop-cons, add-one, slice_get, is_some, refl, sym, ap, ◌∙◌, append_assoc, append-nil, subst, Some, None}
 use Rattle.pt_base.specs.declared.ids.FnId.{FnId}
 use Rattle.pt_base.specs.declared.span.Span.{Span}
 use Rattle.pt_tree.specs.ExpressionTree as e
@@ -13,7 +13,7 @@ use Rattle.typed_expressions.specs.Environment.{Env}
 use Rattle.typed_expressions.specs.Expressions.{Judged, Arguments, Linked, judge, judge_links, judge_link, judge_postfixes, judge_postfix, judge_arguments, headed}
 use Rattle.typed_expressions.specs.Gives.{Is, IsMade}
 use Rattle.typed_expressions.specs.Links.{SoFar, begun, chained, sort_of}
-use Rattle.typed_expressions.specs.Operands.{Known, joined, span_of, value_of, value_tree}
+use Rattle.typed_expressions.specs.Operands.{Known, faulty, joined, span_of, value_of, value_tree}
 use Rattle.typed_expressions.specs.Postfixes.{argument_tree, argument_faults, called, function_called, params_for}
 use Rattle.typed_expressions.specs.Views.{known}
 
@@ -66,11 +66,11 @@ arguments_step env st st' params n a es trees trees' noted middle noted' start a
       trees_are = ap (λ xs. xs ++ trees_of (judge_arguments env st' params (n + 1) es)) x ∙ ap (λ ys. (trees ++ tree ∷ []) ++ ys) (ap trees_of same) ∙ append_assoc trees (tree ∷ []) rest.trees ∙ before.trees_are;
       structs = ap structs_of same ∙ before.structs;
       faults =
-        ap (λ xs. xs ++ faults_of (judge_arguments env st' params (n + 1) es)) (f ∙ ap (λ xs. xs ++ own) m)
-        ∙ ap (λ ys. ((noted ++ p.faults) ++ own) ++ ys) (ap faults_of same)
-        ∙ ap (λ xs. xs ++ rest.faults) (append_assoc noted p.faults own)
-        ∙ append_assoc noted (p.faults ++ own) rest.faults
-        ∙ before.faults;
+          ap (λ xs. xs ++ faults_of (judge_arguments env st' params (n + 1) es)) (f ∙ ap (λ xs. xs ++ own) m)
+          ∙ ap (λ ys. ((noted ++ p.faults) ++ own) ++ ys) (ap faults_of same)
+          ∙ ap (λ xs. xs ++ rest.faults) (append_assoc noted p.faults own)
+          ∙ append_assoc noted (p.faults ++ own) rest.faults
+          ∙ before.faults;
     }
 
 -- ---- the parts of an expression
@@ -80,6 +80,16 @@ pub record IsHead (callee : Option FnId) (st : Structs) (p : Judged) (k : Known)
   pub operand : k ≡ (headed callee st p).operand
   pub structs : st' ≡ (headed callee st p).structs
   pub faults : middle ≡ before ++ (headed callee st p).faults
+
+pub head_called : (callee : Option FnId) (f : FnId) (st : Structs) (p : Judged) (k : Known) (st' : Structs) (before middle : List TypeFault) → callee ≡ Some f → k ≡ faulty → st' ≡ st → middle ≡ before → IsHead callee st p k st' before middle
+unfolding headed
+head_called callee f st p k st' before middle c o t m =
+    subst (λ y. IsHead y st p k st' before middle) (sym c) (record { operand = o; structs = t; faults = m ∙ sym (append-nil before) })
+
+pub head_judged : (callee : Option FnId) (st : Structs) (p : Judged) (found found' : Operand) (st1 st2 : Structs) (before middle middle' : List TypeFault) → callee ≡ None → found' ≡ found → st2 ≡ st1 → middle' ≡ middle → Is found st1 before middle p → IsHead callee st p (known found') st2 before middle'
+unfolding headed
+head_judged callee st p found found' st1 st2 before middle middle' c o t m j =
+    subst (λ y. IsHead y st p (known found') st2 before middle') (sym c) (record { operand = ap known o ∙ j.operand; structs = t ∙ j.structs_are; faults = m ∙ j.faults })
 
 pub postfix_gives : (env : Env) (st st1 st2 : Structs) (s at : Span) (a : e.ExprTree) (ps : e.PostfixTrees) (callee : Option FnId) (k : Known) (found : Operand) (before middle after : List TypeFault) → callee ≡ function_called env a ps → at ≡ span_of a → IsHead callee st (judge env st a) k st1 before middle → Is found st2 middle after (judge_postfixes env st1 s callee at k ps) → Is found st2 before after (judge env st (e.postfix s a ps))
 unfolding judge
@@ -91,10 +101,10 @@ postfix_gives env st st1 st2 s at a ps callee k found before middle after c w h 
     let structs_of : Judged → Structs = λ y. y.structs in
     let faults_of : Judged → List TypeFault = λ y. y.faults in
     let same : judge_postfixes env st1 s callee at k ps ≡ r =
-        ap (λ y. judge_postfixes env y s callee at k ps) (h.structs ∙ ap structs_of head)
-        ∙ ap (λ y. judge_postfixes env p.structs s y at k ps) c
-        ∙ ap (λ y. judge_postfixes env p.structs s (function_called env a ps) y k ps) w
-        ∙ ap (λ y. judge_postfixes env p.structs s (function_called env a ps) (span_of a) y ps) (h.operand ∙ ap operand_of head) in
+    ap (λ y. judge_postfixes env y s callee at k ps) (h.structs ∙ ap structs_of head)
+    ∙ ap (λ y. judge_postfixes env p.structs s y at k ps) c
+    ∙ ap (λ y. judge_postfixes env p.structs s (function_called env a ps) y k ps) w
+    ∙ ap (λ y. judge_postfixes env p.structs s (function_called env a ps) (span_of a) y ps) (h.operand ∙ ap operand_of head) in
     record {
       operand = q.operand ∙ ap operand_of same;
       structs_are = q.structs_are ∙ ap structs_of same;
@@ -110,9 +120,9 @@ chain_gives env st st1 st2 s at a ls sort is_logical first found far0 far1 befor
     let structs_of : Linked → Structs = λ x. x.structs in
     let faults_of : Linked → List TypeFault = λ x. x.faults in
     let same : judge_links env st1 s is_logical far0 ls ≡ r =
-        ap (λ y. judge_links env y s is_logical far0 ls) p.structs_are
-        ∙ ap (λ y. judge_links env j.structs s y far0 ls) (l ∙ ap is_some o)
-        ∙ ap (λ y. judge_links env j.structs s (is_some (sort_of ls)) y ls) (b ∙ ap (λ y. begun y (known first)) w ∙ ap (λ y. begun (span_of a) y) p.operand) in
+    ap (λ y. judge_links env y s is_logical far0 ls) p.structs_are
+    ∙ ap (λ y. judge_links env j.structs s y far0 ls) (l ∙ ap is_some o)
+    ∙ ap (λ y. judge_links env j.structs s (is_some (sort_of ls)) y ls) (b ∙ ap (λ y. begun y (known first)) w ∙ ap (λ y. begun (span_of a) y) p.operand) in
     record {
       operand = k ∙ ap (λ y. chained y s far1) o ∙ ap (λ y. chained (sort_of ls) s y) (f ∙ ap far_of same);
       structs_are = t ∙ ap structs_of same;
@@ -128,7 +138,7 @@ call_gives env st st1 s span whole at callee k ty es params trees found before m
     let structs_of : Arguments → Structs = λ z. z.structs in
     let faults_of : Arguments → List TypeFault = λ z. z.faults in
     let made : called env callee ty whole trees ≡ called env callee k.ty (joined s span) q.trees =
-        ap (λ z. called env callee z whole trees) y ∙ ap (λ z. called env callee k.ty z trees) w ∙ ap (λ z. called env callee k.ty (joined s span) z) (x ∙ ap trees_of same) in
+    ap (λ z. called env callee z whole trees) y ∙ ap (λ z. called env callee k.ty z trees) w ∙ ap (λ z. called env callee k.ty (joined s span) z) (x ∙ ap trees_of same) in
     let moved : IsMade found middle after (called env callee k.ty (joined s span) q.trees) = subst (λ z. IsMade found middle after z) made m in
     record {
       operand = moved.operand;

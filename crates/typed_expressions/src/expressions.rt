@@ -15,7 +15,9 @@ use crate::links::{SoFar, begun, link_rule, note_rule, sort_of};
 use crate::meaning::{Meaning, Object};
 use crate::names::Names;
 use crate::operand::{Elaborated, Operand};
-use crate::postfixes::{argument, arrow, called, dotted, function_called, indexed, params_for};
+use crate::postfixes::{
+    argument, arrow, called, dotted, function_called, indexed, param_at, params_for,
+};
 use crate::prefixes::{Stepping, cast_to, prefixed, refused, stepped};
 use declared_types::{Carrier, FaultKind, Structs, TypeFault, judge_specifiers, note_attributes};
 use pt_base::{FnId, Span};
@@ -267,7 +269,7 @@ fn arguments(
     let mut trees = Vec::new(alloc);
     for (n, a) in args.iter().enumerate() {
         let operand = expression(alloc, names, structs, a, faults)?;
-        let param = params.get(n).copied();
+        let param = param_at(params, n);
         trees.push(argument(alloc, param, span_of(a), operand, faults)?)?;
     }
     Ok(trees)

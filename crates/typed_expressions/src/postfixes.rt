@@ -1,6 +1,6 @@
 // What stands behind an operand (C99 6.5.2). `s` is the span of all up to and with it, `at` that of all
 // before it, whose own faults are there already.
-ghost use Rattle.std.specs.Prelude.{◌≡◌, ◌++◌, ◌∷◌, [], IfOk, OnOk, length, map, nat_eq, option_copied};
+ghost use Rattle.std.specs.Prelude.{◌≡◌, ◌++◌, ◌∷◌, [], IfOk, OnOk, length, map, nat_eq, option_copied, slice_get};
 ghost use Rattle.declared_types.specs.Faults.{fault_if};
 ghost use Rattle.declared_types.specs.declared.fault.FaultKind.TheVariants.{WrongType};
 ghost use Rattle.pt_tree.specs.ExpressionTree as parsed;
@@ -322,6 +322,13 @@ pub(crate) fn params_for(names: &Names, callee: Option<FnId>) -> &[Type]
         None => &[],
         Some(function) => function_params(function),
     }
+}
+
+/// The type of the parameter with this number, if there is one.
+pub(crate) fn param_at(params: &[Type], number: usize) -> Option<Type>
+    ensures { result ≡ slice_get params.now number }
+{
+    params.get(number).copied()
 }
 
 #[tactic(auto, unfolding(crate::specs::Postfixes::function_params))]
