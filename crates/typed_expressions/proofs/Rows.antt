@@ -9,7 +9,7 @@ use Rattle.pt_tree.specs.declared.expression.Link.{Link}
 use Rattle.pt_tree.specs.declared.expression.Postfix.{Postfix}
 use Rattle.pt_tree.specs.declared.expression.Postfix.TheVariants as p
 use Rattle.pt_tree.specs.ExpressionTree.{postfix, chain, call, view_expr, view_link, view_postfix, expr_trees, link_trees, postfix_trees}
-use Rattle.pt_tree.proofs.Rows as rows_of
+use Rattle.pt_tree.proofs.ListsInTrees as rows_of
 
 pub view_call : (s : Span) (es : Vec Expr Global) → view_postfix (p.Call s es) ≡ call s (expr_trees (map view_expr es.items))
 view_call s es = rows_of.view_call s es
