@@ -1,0 +1,7 @@
+//! The types of statements: initialisers, the declarations of variables, and statements, with their
+//! typed trees and faults.
+#![tactic(auto)]
+
+mod constants;
+mod context;
+mod switches;
