@@ -121,6 +121,10 @@ switched st a =
 
 -- ---- statements
 
+-- the scope of a block ends with it
+abbrev pub left : CheckedAll → CheckedAll
+left all = record { state = outside all.state; bodies = all.bodies; trees = all.trees; faults = all.faults }
+
 -- a statement that has no parts
 abbrev pub simple : State → t.BodyTree → List TypeFault → Checked
 simple st tree faults = record { state = st; tree = tree; trees = []; faults = faults }
@@ -129,8 +133,8 @@ abbrev mutual
   pub checked : Context → State → s.StmtTree → Checked
   checked c st (s.declare d) = let x = declared st d in record { state = x.state; tree = t.declare x.declaration; trees = x.trees; faults = x.faults }
   checked c st (s.block s ss) =
-      let all = checked_all c (inside st) ss in
-      record { state = outside all.state; tree = t.block s (t.body_trees all.bodies); trees = all.trees; faults = all.faults }
+      let all = left (checked_all c (inside st) ss) in
+      record { state = all.state; tree = t.block s (t.body_trees all.bodies); trees = all.trees; faults = all.faults }
   checked c st (s.nothing s) = simple st (t.nothing s) []
   checked c st (s.evaluate s a) =
       let p = evaluated st a in
@@ -187,6 +191,10 @@ abbrev mutual
       let l = labelled st.env kind st.structs seen label in
       let all = checked_all c (with_structs st l.structs) xs in
       record { state = all.state; seen = l.seen; sections = t.section s l.label (t.body_trees all.bodies) ∷ []; trees = all.trees; faults = l.faults ++ all.faults }
+
+-- a block's statements, in a scope of their own
+abbrev pub checked_inner : Context → State → s.StmtTrees → CheckedAll
+checked_inner c st xs = left (checked_all c (inside st) xs)
 
 -- The outermost block of a function with this result type, whose parameters' scope is open: its items
 -- share that scope.

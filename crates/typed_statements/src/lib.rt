@@ -4,4 +4,7 @@
 
 mod constants;
 mod context;
+mod outermost;
+mod seen;
+mod stand_in;
 mod switches;
