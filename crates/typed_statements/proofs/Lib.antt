@@ -1,0 +1,3 @@
+pub mod GlobalItemLemmas
+pub mod ItemLemmas
+pub mod LeafLemmas

@@ -4,6 +4,7 @@
 
 mod constants;
 mod context;
+mod leaves;
 mod outermost;
 mod seen;
 mod stand_in;
