@@ -4,6 +4,8 @@
 
 mod constants;
 mod context;
+mod declarations;
+mod initialisers;
 mod leaves;
 mod outermost;
 mod seen;
