@@ -5,9 +5,12 @@
 mod constants;
 mod context;
 mod declarations;
+mod global_initialisers;
 mod initialisers;
 mod leaves;
 mod outermost;
 mod seen;
 mod stand_in;
 mod switches;
+
+pub use global_initialisers::global_values;
