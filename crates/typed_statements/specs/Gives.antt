@@ -22,7 +22,7 @@ use Rattle.typed_statements.specs.Declarations.{Declared, DeclaredAll, Declaring
 use Rattle.typed_statements.specs.declared.switches.Controlling.{Controlling}
 use Rattle.typed_statements.specs.GlobalInitialisers.{GlobalInit}
 use Rattle.typed_statements.specs.Labels.{Seen, Labelled}
-use Rattle.typed_statements.specs.Statements.{Begun, Chosen, Checked, CheckedAll, CheckedSections}
+use Rattle.typed_statements.specs.Statements.{Begun, Chosen, Checked, CheckedAll, CheckedSection, CheckedSections}
 use Rattle.typed_tree.specs.declared.statement.TypedLabel.{TypedLabel}
 
 -- the state, the outermost expressions and the faults so far
@@ -99,8 +99,8 @@ ChecksAll (Ok bodies) before after c = (map view_body bodies.items ≡ c.bodies)
 ChecksAll (Err e) before after c = Unit {0}
 
 -- a section of a switch, with the labels behind it
-abbrev pub ChecksSection : Result TypedSection AllocError → Progress → Progress → Seen → CheckedSections → Type 0
-ChecksSection (Ok part) before after seen c = (view_section part ∷ [] ≡ c.sections) × (seen ≡ c.seen) × Reaches before after c.state c.trees c.faults
+abbrev pub ChecksSection : Result TypedSection AllocError → Progress → Progress → Seen → CheckedSection → Type 0
+ChecksSection (Ok part) before after seen c = (view_section part ≡ c.section) × (seen ≡ c.seen) × Reaches before after c.state c.trees c.faults
 ChecksSection (Err e) before after seen c = Unit {0}
 
 abbrev pub ChecksSections : Result (Vec TypedSection Global) AllocError → Progress → Progress → CheckedSections → Type 0

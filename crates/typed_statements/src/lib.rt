@@ -11,6 +11,8 @@ mod leaves;
 mod outermost;
 mod seen;
 mod stand_in;
+mod statements;
 mod switches;
 
 pub use global_initialisers::global_values;
+pub use statements::check_block;
