@@ -1,5 +1,5 @@
 -- As many leaves as there are items suffice.
-use Rattle.std.proofs.Common.{◌≡◌, ℕ, List, [], ◌∷◌, ◌++◌, ◌<◌, ◌+◌, Bool, ◌&&◌, Option, is_some, slice_get, length, take, refl, ap, ◌∙◌, arith, map}
+use Rattle.std.proofs.Common.{◌≡◌, ℕ, List, [], ◌∷◌, ◌++◌, ◌<◌, ◌+◌, Bool, ◌&&◌, Option, is_some, slice_get, length, refl, ap, ◌∙◌, arith}
 use Rattle.pt_tree.specs.ExpressionTree.{ExprTree, expr_trees}
 use Rattle.type_rules.specs.declared.types.Type.{«Type»}
 use Rattle.std.proofs.Common.{subst, Vec, Result}

@@ -32,7 +32,11 @@ pub(crate) fn declared(
     ensures { IsDeclaration result (progress_of names.old structs.old exprs.old faults.old) (progress_of names.new structs.new exprs.new faults.new) (is.declared (state_of names.old structs.old exprs.old) (view_declaration d.now)) }
 {
     let given = specify(alloc, structs, false, &d.specs, faults)?;
-    note_attributes(faults, carrier_of(&d.declarators), given.attributes.as_slice())?;
+    note_attributes(
+        faults,
+        carrier_of(&d.declarators),
+        given.attributes.as_slice(),
+    )?;
     let ds = declared_all(alloc, names, structs, exprs, faults, &given, &d.declarators)?;
     Ok(TypedDeclaration {
         span: d.span,

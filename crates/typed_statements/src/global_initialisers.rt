@@ -55,9 +55,7 @@ fn given_values(
             add_item(alloc, names, structs, faults, Some(ty), e, &mut values)?;
             Ok(values)
         }
-        Initializer::Braces(_, es) => {
-            filled_values(alloc, names, structs, faults, ty, es)
-        }
+        Initializer::Braces(_, es) => { filled_values(alloc, names, structs, faults, ty, es) }
     }
 }
 
@@ -128,7 +126,15 @@ fn add_item_at(
 ) -> Result<(), AllocError>
     ensures { AddsValues result structs.new values.old.items values.new.items faults.old.items faults.new.items (is.global_item (env_of names.now) structs.old (slice_get leaves.now n) (view_expr e.now)) }
 {
-    add_item(alloc, names, structs, faults, leaves.get(n).copied(), e, values)
+    add_item(
+        alloc,
+        names,
+        structs,
+        faults,
+        leaves.get(n).copied(),
+        e,
+        values,
+    )
 }
 
 /// Adds the value of an item for this leaf: of a constant with at most one `-` before it, else 0. What

@@ -10,8 +10,7 @@ ghost use Rattle.typed_statements.specs.Leaves.{leaves_of};
 use crate::leaves::first_leaves;
 use crate::outermost::{evaluated, fitted, span_of};
 use declared_types::{FaultKind, Structs, TypeFault, note_if};
-use pt_base::Listed;
-use pt_base::Span;
+use pt_base::{Listed, Span};
 use pt_tree::{Expr, Initializer};
 use std::alloc::{AllocError, Global};
 use type_rules::Type;
@@ -52,7 +51,9 @@ fn given(
             let id = fitted(alloc, names, structs, exprs, faults, ty, e)?;
             Ok(TypedInit::Value(id))
         }
-        Initializer::Braces(span, es) => braces(alloc, names, structs, exprs, faults, ty, *span, es),
+        Initializer::Braces(span, es) => braces(
+            alloc, names, structs, exprs, faults, ty, *span, es,
+        ),
     }
 }
 
@@ -86,7 +87,16 @@ fn filled(
     ensures { Lists result (progress_of names.now structs.old exprs.old faults.old) (progress_of names.now structs.new exprs.new faults.new) (is.items (state_of names.now structs.old exprs.old) (leaves_of structs.old ty) (not (is_bad ty)) 0 (expr_trees (map view_expr es.now))) }
 {
     let leaves = first_leaves(alloc, structs, ty, es.len())?;
-    items(alloc, names, structs, exprs, faults, &leaves, is_sound(ty), es)
+    items(
+        alloc,
+        names,
+        structs,
+        exprs,
+        faults,
+        &leaves,
+        is_sound(ty),
+        es,
+    )
 }
 
 /// Whether the type isn't Bad.
@@ -143,7 +153,16 @@ fn item_at(
 ) -> Result<ExprId, AllocError>
     ensures { Places result (progress_of names.now structs.old exprs.old faults.old) (progress_of names.now structs.new exprs.new faults.new) (is.item (state_of names.now structs.old exprs.old) (slice_get leaves.now n) is_excess (view_expr e.now)) }
 {
-    item(alloc, names, structs, exprs, faults, leaves.get(n).copied(), is_excess, e)
+    item(
+        alloc,
+        names,
+        structs,
+        exprs,
+        faults,
+        leaves.get(n).copied(),
+        is_excess,
+        e,
+    )
 }
 
 /// An item for this leaf. An item without a leaf is judged, and is one too many where `is_excess`

@@ -104,7 +104,16 @@ fn statement(
             TypedBody::for_each(alloc, *span, init, test, step, body)
         }
         Stmt::Return(span, value) => {
-            let id = given_back(alloc, names, structs, exprs, faults, context.result, *span, value)?;
+            let id = given_back(
+                alloc,
+                names,
+                structs,
+                exprs,
+                faults,
+                context.result,
+                *span,
+                value,
+            )?;
             Ok(TypedBody::Return(*span, id))
         }
         Stmt::Break(span) => {
@@ -117,7 +126,9 @@ fn statement(
             Ok(TypedBody::Continue(*span))
         }
         Stmt::Switch(span, on, parts) => {
-            switch(alloc, parts, names, structs, exprs, faults, context, *span, on)
+            switch(
+                alloc, parts, names, structs, exprs, faults, context, *span, on,
+            )
         }
     }
 }
@@ -200,7 +211,9 @@ fn sections(
     let mut seen = SeenLabels::none(alloc);
     let mut typed = Vec::new(alloc);
     for part in parts {
-        typed.push(section(alloc, part, names, structs, exprs, faults, context, kind, &mut seen)?)?;
+        typed.push(section(
+            alloc, part, names, structs, exprs, faults, context, kind, &mut seen,
+        )?)?;
     }
     Ok(typed)
 }
@@ -221,7 +234,15 @@ fn section(
     ensures { ChecksSection result (progress_of names.old structs.old exprs.old faults.old) (progress_of names.new structs.new exprs.new faults.new) (seen_of seen.new) (is.checked_section context kind (seen_of seen.old) (state_of names.old structs.old exprs.old) (view_section part.now)) }
 {
     let label = labelled(alloc, names, structs, faults, kind, seen, &part.label)?;
-    let statements = statements(alloc, &part.statements, names, structs, exprs, faults, context)?;
+    let statements = statements(
+        alloc,
+        &part.statements,
+        names,
+        structs,
+        exprs,
+        faults,
+        context,
+    )?;
     Ok(TypedSection {
         span: part.span,
         label,

@@ -101,7 +101,12 @@ pub(crate) fn labelled(
     match label {
         Label::Case(span, e) => case(alloc, names, structs, faults, kind, seen, *span, e),
         Label::Default(span) => {
-            note_if(faults, seen.has_default, FaultKind::Redeclared, default_word(*span))?;
+            note_if(
+                faults,
+                seen.has_default,
+                FaultKind::Redeclared,
+                default_word(*span),
+            )?;
             seen.has_default = true;
             Ok(TypedLabel::Default(*span))
         }
