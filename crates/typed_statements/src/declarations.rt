@@ -8,10 +8,9 @@ ghost use Rattle.typed_statements.specs.Gives.{Declares, DeclaresAll, IsDeclarat
 
 use crate::initialisers::initialised;
 use crate::outermost::as_number;
-use crate::stand_in::specify;
 use declared_types::{
-    Carrier, FaultKind, ObjectKind, Specified, Structs, TypeFault, is_fixed, marks_among,
-    note_attributes, note_if, note_object, note_size, object_type,
+    Carrier, FaultKind, ObjectKind, Specified, Structs, TypeFault, is_fixed, judge_specifiers,
+    marks_among, note_attributes, note_if, note_object, note_size, object_type,
 };
 use pt_base::{Listed, VarId};
 use pt_tree::{Declaration, Declarator, InitDeclarator};
@@ -31,7 +30,7 @@ pub(crate) fn declared(
 ) -> Result<TypedDeclaration, AllocError>
     ensures { IsDeclaration result (progress_of names.old structs.old exprs.old faults.old) (progress_of names.new structs.new exprs.new faults.new) (is.declared (state_of names.old structs.old exprs.old) (view_declaration d.now)) }
 {
-    let given = specify(alloc, structs, false, &d.specs, faults)?;
+    let given = judge_specifiers(alloc, structs, false, &d.specs, faults)?;
     note_attributes(
         faults,
         carrier_of(&d.declarators),

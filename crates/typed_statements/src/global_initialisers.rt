@@ -12,14 +12,13 @@ ghost use Rattle.typed_statements.specs.Leaves.{leaves_of};
 use crate::constants::{Number, number_of};
 use crate::initialisers::{is_sound, is_still_counted};
 use crate::leaves::first_leaves;
-use crate::outermost::{is_misfit, span_of};
-use crate::stand_in::judge;
+use crate::outermost::is_misfit;
 use declared_types::{FaultKind, Structs, TypeFault, note_if};
 use pt_int::convert;
 use pt_tree::{Expr, Initializer};
 use std::alloc::{AllocError, Global};
 use type_rules::{Type, Value, fit_rule};
-use typed_expressions::Names;
+use typed_expressions::{Names, expression, span_of};
 
 /// What a global of this type starts with: the values of its first leaves in order, as many as the
 /// initialiser gives. Its further leaves start with 0.
@@ -156,7 +155,7 @@ fn add_item(
             add_stored(values, leaf, n.value)
         }
         None => {
-            let _ = judge(alloc, names, structs, e, faults)?;
+            let _ = expression(alloc, names, structs, e, faults)?;
             note_if(faults, true, FaultKind::OutOfProfile, span_of(e))?;
             add_stored(values, leaf, 0)
         }

@@ -8,13 +8,13 @@ ghost use Rattle.typed_statements.specs.Initialisers as is;
 ghost use Rattle.typed_statements.specs.Leaves.{leaves_of};
 
 use crate::leaves::first_leaves;
-use crate::outermost::{evaluated, fitted, span_of};
+use crate::outermost::{evaluated, fitted};
 use declared_types::{FaultKind, Structs, TypeFault, note_if};
 use pt_base::{Listed, Span};
 use pt_tree::{Expr, Initializer};
 use std::alloc::{AllocError, Global};
 use type_rules::Type;
-use typed_expressions::Names;
+use typed_expressions::{Names, span_of};
 use typed_tree::{ExprId, TypedExpr, TypedInit};
 
 /// What a variable of this type starts with.

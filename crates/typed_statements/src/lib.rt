@@ -10,7 +10,6 @@ mod initialisers;
 mod leaves;
 mod outermost;
 mod seen;
-mod stand_in;
 mod statements;
 mod switches;
 

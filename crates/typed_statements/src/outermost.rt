@@ -2,17 +2,14 @@
 ghost use Rattle.std.specs.Prelude.{◌≡◌, ◌++◌, ◌∷◌, [], IfOk, OnOk, length, option_map};
 ghost use Rattle.type_rules.specs.Conversions.{is_wrong};
 ghost use Rattle.pt_tree.specs.ExpressionTree.{view_expr};
-ghost use Rattle.typed_expressions.specs.Operands as operands;
 ghost use Rattle.typed_statements.specs.Gives.{Places, PlacesMaybe, progress_of, state_of};
 ghost use Rattle.typed_statements.specs.Outermost as is;
 
-use crate::stand_in::judge;
 use declared_types::{FaultKind, Structs, TypeFault, note_if};
-use pt_base::Span;
 use pt_tree::Expr;
 use std::alloc::{AllocError, Global};
 use type_rules::{ConditionRule, Fit, Type, condition_rule, fit_rule};
-use typed_expressions::{Names, as_type};
+use typed_expressions::{Names, as_type, expression, span_of};
 use typed_tree::{ExprId, TypedExpr};
 
 /// How many there are, as the number of the next one.
@@ -23,22 +20,6 @@ pub(crate) fn as_number(count: usize) -> Result<u32, AllocError>
         return Err(AllocError);
     }
     Ok(count as u32)
-}
-
-/// Where an expression stands; parentheses round it belong to what it stands in.
-pub(crate) fn span_of(e: &Expr) -> Span
-    ensures { result ≡ operands.span_of (view_expr e.now) }
-{
-    match e {
-        Expr::Name(word) => word.span,
-        Expr::Constant(constant) => constant.span,
-        Expr::Prefix(span, _, _) => *span,
-        Expr::Cast(span, _, _, _) => *span,
-        Expr::Postfix(span, _, _) => *span,
-        Expr::Chain(span, _, _) => *span,
-        Expr::Choice(span, _, _, _) => *span,
-        Expr::Assign(span, _, _, _) => *span,
-    }
 }
 
 /// Gives an outermost expression the next number.
@@ -62,7 +43,7 @@ pub(crate) fn evaluated(
 ) -> Result<ExprId, AllocError>
     ensures { Places result (progress_of names.now structs.old exprs.old faults.old) (progress_of names.now structs.new exprs.new faults.new) (is.evaluated (state_of names.now structs.old exprs.old) (view_expr e.now)) }
 {
-    let operand = judge(alloc, names, structs, e, faults)?;
+    let operand = expression(alloc, names, structs, e, faults)?;
     place(exprs, operand.into_tree(alloc, span_of(e))?)
 }
 
@@ -77,7 +58,7 @@ pub(crate) fn tested(
 ) -> Result<ExprId, AllocError>
     ensures { Places result (progress_of names.now structs.old exprs.old faults.old) (progress_of names.now structs.new exprs.new faults.new) (is.tested (state_of names.now structs.old exprs.old) (view_expr e.now)) }
 {
-    let operand = judge(alloc, names, structs, e, faults)?;
+    let operand = expression(alloc, names, structs, e, faults)?;
     let wrong = is_no_condition(condition_rule(operand.value()));
     note_if(faults, wrong, FaultKind::WrongType, span_of(e))?;
     place(exprs, operand.into_tree(alloc, span_of(e))?)
@@ -104,7 +85,7 @@ pub(crate) fn fitted(
 ) -> Result<ExprId, AllocError>
     ensures { Places result (progress_of names.now structs.old exprs.old faults.old) (progress_of names.now structs.new exprs.new faults.new) (is.fitted (state_of names.now structs.old exprs.old) ty (view_expr e.now)) }
 {
-    let operand = judge(alloc, names, structs, e, faults)?;
+    let operand = expression(alloc, names, structs, e, faults)?;
     let value = operand.value();
     let wrong = is_misfit(fit_rule(ty, value));
     note_if(faults, wrong, FaultKind::WrongType, span_of(e))?;

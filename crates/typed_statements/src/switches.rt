@@ -11,16 +11,15 @@ ghost use Rattle.typed_statements.specs.Labels as is;
 ghost use Rattle.typed_statements.specs.Statements.{switched};
 
 use crate::constants::{Number, number_of};
-use crate::outermost::{place, span_of};
+use crate::outermost::place;
 use crate::seen::SeenLabels;
-use crate::stand_in::judge;
 use declared_types::{FaultKind, Structs, TypeFault, note_if};
 use pt_base::{IntType, Span};
 use pt_int::{convert, promote};
 use pt_tree::{Expr, Label};
 use std::alloc::{AllocError, Global};
 use type_rules::Type;
-use typed_expressions::Names;
+use typed_expressions::{Names, expression, span_of};
 use typed_tree::{ExprId, TypedExpr, TypedLabel};
 
 /// How the cases of a switch are compared.
@@ -50,7 +49,7 @@ pub(crate) fn control(
 ) -> Result<Controlling, AllocError>
     ensures { Switches result (progress_of names.now structs.old exprs.old faults.old) (progress_of names.now structs.new exprs.new faults.new) (switched (state_of names.now structs.old exprs.old) (view_expr e.now)) }
 {
-    let operand = judge(alloc, names, structs, e, faults)?;
+    let operand = expression(alloc, names, structs, e, faults)?;
     let ty = operand.value().ty;
     note_if(faults, is_no_integer(ty), FaultKind::WrongType, span_of(e))?;
     let id = place(exprs, operand.into_tree(alloc, span_of(e))?)?;
@@ -139,7 +138,7 @@ fn case(
     match number_of(e) {
         Some(number) => number_case(faults, kind, seen, span, span_of(e), number),
         None => {
-            let _ = judge(alloc, names, structs, e, faults)?;
+            let _ = expression(alloc, names, structs, e, faults)?;
             note_if(faults, true, FaultKind::OutOfProfile, span_of(e))?;
             Ok(TypedLabel::Case(span, 0))
         }

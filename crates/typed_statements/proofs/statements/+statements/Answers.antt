@@ -1,6 +1,6 @@
 -- A switch, as the list of its sections.
 use Rattle.std.proofs.Common.{◌≡◌, ◌∙◌, ap, sym, subst, map}
-use Rattle.pt_tree.proofs.Rows.{view_switch}
+use Rattle.pt_tree.proofs.ListsInTrees.{view_switch}
 use Rattle.pt_tree.specs.ExpressionTree.{view_expr}
 use Rattle.pt_tree.specs.StatementTree.{StmtTree, switch as switch_tree, view_stmt, view_section, section_trees}
 use Rattle.typed_statements.specs.Gives.{Checks, progress_of, state_of}
