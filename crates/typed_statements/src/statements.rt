@@ -9,7 +9,7 @@ ghost use Rattle.typed_statements.specs.Statements as is;
 
 use crate::context::Context;
 use crate::declarations::declared;
-use crate::outermost::{evaluated, fitted, maybe_evaluated, maybe_tested, span_of, tested};
+use crate::outermost::{evaluated, fitted, maybe_evaluated, maybe_tested, tested};
 use crate::seen::SeenLabels;
 use crate::switches::{Kind, control, labelled};
 use declared_types::{FaultKind, Structs, TypeFault, note_if};
@@ -17,7 +17,7 @@ use pt_base::Span;
 use pt_tree::{Expr, ForInit, Section, Stmt};
 use std::alloc::{AllocError, Global};
 use type_rules::Type;
-use typed_expressions::Names;
+use typed_expressions::{Names, span_of};
 use typed_tree::{ExprId, TypedBody, TypedExpr, TypedForInit, TypedSection};
 
 /// The items of a function's outermost block, for a result of this type. They stand in the innermost
