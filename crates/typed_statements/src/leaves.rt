@@ -19,7 +19,7 @@ pub(crate) fn first_leaves(
     ensures { IfOk result (λ leaves. take wanted leaves.items ≡ take wanted (is.leaves_of structs.now ty)) }
 {
     let mut leaves = Vec::new(alloc);
-    add_object(alloc, structs, structs.count() as usize, ty, wanted, &mut leaves)?;
+    add_object(alloc, structs, structs.count(), ty, wanted, &mut leaves)?;
     Ok(leaves)
 }
 
