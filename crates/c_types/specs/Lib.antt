@@ -1,0 +1,7 @@
+pub mod Unions
+pub mod Parameters
+pub mod Progress
+pub mod Functions
+pub mod Globals
+pub mod Programs
+pub mod Answers
