@@ -124,11 +124,11 @@ pub record Head : Type 0 where
   pub structs : Structs
   pub faults : List TypeFault
 
-abbrev pub head_of : FunctionMarks → Progress → parsed.FunctionTree → Head
-head_of marks st f =
+abbrev pub head_of : FunctionMarks → Env → Structs → parsed.FunctionTree → Head
+head_of marks env structs f =
     let d = f.declarator in
-    let j = specified true st.structs f.specs in
-    let ps = declared_all marks (is_some f.body) 0 (opened st.env) j.structs (parameters_of f.params) in
+    let j = specified true structs f.specs in
+    let ps = declared_all marks (is_some f.body) (opened env) j.structs (parameters_of f.params) in
     record {
       callable = record { name = d.name.bytes; result = result_type j.given d.pointer d.suffix; params = variable_types ps.env };
       env = ps.env;
@@ -270,7 +270,7 @@ with_definition st k result at (Some b) =
 abbrev pub checked_function : FunctionMarks → Progress → parsed.FunctionTree → Checked
 checked_function marks st f =
     let at = f.declarator.name.span in
-    let h = head_of marks st f in
+    let h = head_of marks st.env st.structs f in
     let known = with_head marks st h at (is_some f.body) in
     let c = with_definition known (number_in st (earlier st h.callable)) h.callable.result at f.body in
     record {

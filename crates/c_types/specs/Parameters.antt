@@ -1,5 +1,5 @@
 -- The parameters of functions (C99 6.7.5.3).
-use Rattle.std.specs.Prelude.{ℕ, ◌+◌, List, [], ◌∷◌, ◌++◌, Bool, true, false, not, ◌&&◌, ◌||◌, Option, Some, None, is_none, nat_eq, if◌then◌else◌}
+use Rattle.std.specs.Prelude.{ℕ, List, [], ◌∷◌, ◌++◌, Bool, true, false, not, ◌&&◌, ◌||◌, Option, Some, None, is_none, is_some, length, nat_eq, if◌then◌else◌}
 use Rattle.std.specs.Option.{option_map_or}
 use Rattle.pt_base.specs.declared.span.Span.{Span}
 use Rattle.pt_tree.specs.declared.word.Word.{Word}
@@ -103,23 +103,21 @@ param_carrier marks p given = Parameter marks.privileged (not marks.defined) (is
 abbrev pub judged_attributes : FunctionMarks → ParamTree → Specified → List Attribute
 judged_attributes marks p given = if is_host_pointer marks p then [] else given.attributes
 
--- the scope has the name already
-abbrev pub is_repeated : Env → Option Word → Bool
-is_repeated env None = false
-is_repeated env (Some w) = not (is_new_inside env.scopes w.bytes)
+-- it has a name, which the scope has already
+abbrev pub is_repeated : Env → Bool → Variable → Bool
+is_repeated env is_named v = is_named && not (is_new_inside env.scopes v.name)
 
-abbrev pub param_faults : Env → FunctionMarks → Bool → ℕ → ParamTree → Specified → List TypeFault
-param_faults env marks defines k p given =
+abbrev pub param_faults : FunctionMarks → Bool → ℕ → ParamTree → Specified → Bool → List TypeFault
+param_faults marks defines k p given repeated =
     object_faults kind.Parameter given p.pointer p.suffix (place_of p given)
     ++ fault_if (is_refused marks k p) OutOfProfile (place_of p given)
     ++ fault_if (lacks_name defines p) OutOfProfile given.first
-    ++ fault_if (is_repeated env p.name) Redeclared (place_of p given)
+    ++ fault_if repeated Redeclared (place_of p given)
     ++ mark_faults (param_carrier marks p given) (judged_attributes marks p given)
 
 -- a variable that the scope names, where it has a name
-abbrev pub with_param : Env → Option Word → Variable → Env
-with_param env None v = with_unnamed env v
-with_param env (Some w) v = with_variable env v
+abbrev pub with_param : Env → Bool → Variable → Env
+with_param env is_named v = if is_named then with_variable env v else with_unnamed env v
 
 -- ---- all parameters, in order: they are the first variables of the function's outermost scope
 
@@ -128,19 +126,21 @@ pub record Declared : Type 0 where
   pub structs : Structs
   pub faults : List TypeFault
 
-abbrev pub declared_one : FunctionMarks → Bool → ℕ → Env → Structs → ParamTree → Declared
-declared_one marks defines k env structs p =
+-- its number is that of the variable
+abbrev pub declared_one : FunctionMarks → Bool → Env → Structs → ParamTree → Declared
+declared_one marks defines env structs p =
+    let k = length env.variables in
     let j = specified false structs p.specs in
+    let v = param_variable marks defines k p j.given in
     record {
-      env = with_param env p.name (param_variable marks defines k p j.given);
+      env = with_param env (is_some p.name) v;
       structs = j.structs;
-      faults = j.faults ++ param_faults env marks defines k p j.given;
+      faults = j.faults ++ param_faults marks defines k p j.given (is_repeated env (is_some p.name) v);
     }
 
--- the parameters from number k on
-abbrev pub declared_all : FunctionMarks → Bool → ℕ → Env → Structs → List ParamTree → Declared
-declared_all marks defines k env structs [] = record { env = env; structs = structs; faults = [] }
-declared_all marks defines k env structs (p ∷ ps) =
-    let one = declared_one marks defines k env structs p in
-    let rest = declared_all marks defines (k + 1) one.env one.structs ps in
+abbrev pub declared_all : FunctionMarks → Bool → Env → Structs → List ParamTree → Declared
+declared_all marks defines env structs [] = record { env = env; structs = structs; faults = [] }
+declared_all marks defines env structs (p ∷ ps) =
+    let one = declared_one marks defines env structs p in
+    let rest = declared_all marks defines one.env one.structs ps in
     record { env = rest.env; structs = rest.structs; faults = one.faults ++ rest.faults }

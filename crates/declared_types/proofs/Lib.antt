@@ -1,2 +1,3 @@
+pub mod BodiesLemmas
 pub mod FaultLemmas
 pub mod NameTableLemmas

@@ -14,6 +14,10 @@ module _ {X : Type 0} where
   abbrev pub value_at : Named X → ℕ → Option X
   value_at table number = option_map (λ entry. entry.1) (slice_get table number)
 
+  -- the name with this number
+  abbrev pub name_at : Named X → ℕ → Option (List ℕ)
+  name_at table number = option_map (λ entry. entry.0) (slice_get table number)
+
   -- all values, in order
   abbrev pub values : Named X → List X
   values table = map (λ entry. entry.1) table

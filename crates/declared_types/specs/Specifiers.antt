@@ -4,7 +4,8 @@ use Rattle.std.specs.List.{list_any}
 use Rattle.pt_base.specs.declared.span.Span.{Span}
 use Rattle.pt_tree.specs.declared.word.Word.{Word}
 use Rattle.pt_tree.specs.declared.specifier.SpecWord.{SpecWord}
-use Rattle.pt_tree.specs.SpecifierTree.{SpecTree, SpecTrees, FieldTree, FieldTrees, attribute, keyword, structure, no_specs, spec_and, field, no_fields, field_and}
+use Rattle.pt_tree.specs.declared.specifier.FieldDecl.{FieldDecl}
+use Rattle.pt_tree.specs.SpecifierTree.{SpecTree, SpecTrees, FieldTree, FieldTrees, attribute, keyword, structure, no_specs, spec_and, field, no_fields, field_and, view_field, field_trees}
 use Rattle.type_rules.specs.declared.types.Type.{«Type»}
 use Rattle.type_rules.specs.declared.types.Type.TheVariants as ty
 use Rattle.declared_types.specs.declared.fault.TypeFault.{TypeFault}
@@ -74,14 +75,20 @@ referred structs tag = record {
 
 -- a struct specifier with a body, at its closing brace: of two structs of one tag the first stays.
 -- Bodies stand at file scope; another is judged all the same, but names no type
-abbrev pub defined : Bool → Span → Word → Body → Naming
-defined at_file first tag body =
-    let structs = with_struct body.structs tag.bytes body.fields in
+unfoldable pub defined : Bool → Span → Word → Structs → Fields → Naming
+defined at_file first tag structs fields =
+    let after = with_struct structs tag.bytes fields in
     record {
-      structs = structs;
-      types = (if at_file then struct_type structs tag.bytes else ty.Bad) ∷ [];
-      faults = body.faults ++ fault_if (not (is_new body.structs tag.bytes)) Redeclared tag.span ++ fault_if (not at_file) OutOfProfile first;
+      structs = after;
+      types = (if at_file then struct_type after tag.bytes else ty.Bad) ∷ [];
+      faults = fault_if (not (is_new structs tag.bytes)) Redeclared tag.span ++ fault_if (not at_file) OutOfProfile first;
     }
+
+-- the same, with the faults of the body before it
+abbrev pub defined_by : Bool → Span → Word → Body → Naming
+defined_by at_file first tag body =
+    let n = defined at_file first tag body.structs body.fields in
+    record { structs = n.structs; types = n.types; faults = body.faults ++ n.faults }
 
 -- ---- the whole list
 
@@ -123,6 +130,10 @@ judged at_file specs n = record {
   faults = n.faults ++ word_faults at_file specs n.types;
 }
 
+-- the declarations of a struct's body
+abbrev pub view_body : List FieldDecl → FieldTrees
+view_body body = field_trees (map view_field body)
+
 abbrev pub has_fields : FieldTrees → Bool
 has_fields no_fields = false
 has_fields (field_and f rest) = true
@@ -133,7 +144,7 @@ abbrev mutual
   named_by at_file first structs (attribute s names) = record { structs = structs; types = []; faults = [] }
   named_by at_file first structs (keyword s w) = record { structs = structs; types = []; faults = [] }
   named_by at_file first structs (structure s tag fs) =
-      if has_fields fs then defined at_file first tag (body_of structs [] fs) else referred structs tag
+      if has_fields fs then defined_by at_file first tag (body_of structs [] fs) else referred structs tag
 
   pub named_by_all : Bool → Span → Structs → SpecTrees → Naming
   named_by_all at_file first structs no_specs = record { structs = structs; types = []; faults = [] }
@@ -156,5 +167,13 @@ abbrev mutual
       let rest = body_of one.structs one.fields fs in
       record { structs = rest.structs; fields = rest.fields; faults = one.faults ++ rest.faults }
 
+-- what the struct specifiers of a list name
+abbrev pub named_types : Bool → Structs → SpecTrees → Naming
+named_types at_file structs specs = named_by_all at_file (first_of specs) structs specs
+
 abbrev pub specified : Bool → Structs → SpecTrees → Judged
-specified at_file structs specs = judged at_file specs (named_by_all at_file (first_of specs) structs specs)
+specified at_file structs specs = judged at_file specs (named_types at_file structs specs)
+
+-- what a struct specifier names, with its body or without
+abbrev pub named_struct : Bool → Span → Structs → Word → List FieldDecl → Naming
+named_struct at_file first structs tag body = named_by at_file first structs (structure first tag (view_body body))

@@ -34,13 +34,23 @@ fn add_field(
     declarator: &Declarator,
     faults: &mut Vec<TypeFault>,
 ) -> Result<(), AllocError>
-    ensures fields { OnOk result (fields.new ≡ with_name fields.old declarator.now.name.bytes (is.field_of given.now declarator.now)) }
-    ensures faults { OnOk result (faults.new.items ≡ faults.old.items ++ is.field_faults structs.now given.now fields.old declarator.now) }
+    ensures fields { OnOk result (fields.new
+        ≡ with_name fields.old declarator.now.name.bytes (is.field_of given.now declarator.now)) }
+    ensures faults { OnOk result (
+        faults.new.items ≡ faults.old.items
+        ++ is.field_faults structs.now given.now fields.old declarator.now) }
 {
     let at = declarator.name.span;
     let entry = field_of(given, declarator);
     let kind = ObjectKind::Field;
-    note_object(faults, kind, given, declarator.pointer, declarator.suffix, at)?;
+    note_object(
+        faults,
+        kind,
+        given,
+        declarator.pointer,
+        declarator.suffix,
+        at,
+    )?;
     note_size(faults, structs, entry.ty, at)?;
     let is_new = fields.add(alloc, declarator.name.bytes.as_slice(), entry)?;
     note_if(faults, !is_new, FaultKind::Redeclared, at)
@@ -55,8 +65,11 @@ pub(crate) fn add_fields(
     declarators: &[Declarator],
     faults: &mut Vec<TypeFault>,
 ) -> Result<(), AllocError>
-    ensures fields { OnOk result (fields.new ≡ (is.declared structs.now given.now fields.old declarators.now).fields) }
-    ensures faults { OnOk result (faults.new.items ≡ faults.old.items ++ (is.declared structs.now given.now fields.old declarators.now).faults) }
+    ensures fields { OnOk result (
+        fields.new ≡ (is.declared structs.now given.now fields.old declarators.now).fields) }
+    ensures faults { OnOk result (
+        faults.new.items ≡ faults.old.items
+        ++ (is.declared structs.now given.now fields.old declarators.now).faults) }
 {
     for declarator in declarators {
         add_field(alloc, structs, given, fields, declarator, faults)?;

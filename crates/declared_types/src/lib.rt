@@ -1,6 +1,7 @@
 //! What a declaration's specifiers and declarators make of a name, and the table of structs.
 #![tactic(auto)]
 
+mod bodies;
 mod fault;
 mod fields;
 mod marks;
@@ -17,8 +18,11 @@ pub use objects::{
     ObjectKind, is_fixed, is_mutable_pointer, note_object, note_result, note_size, object_type,
     result_type,
 };
-pub use specifiers::Specified;
+pub use specifiers::{Specified, attributes, judge_specifiers};
 pub use structs::{
     FieldEntry, Fields, FoundField, StructEntry, Structs, cells_of, declare_struct, field_named,
     has_const, struct_named,
 };
+
+#[cfg(test)]
+mod tests;

@@ -35,7 +35,9 @@ pub enum Carrier {
     /// The declaration of a struct's field.
     Field,
     /// A function or a host.
-    Function { privileged: bool },
+    Function {
+        privileged: bool,
+    },
     /// A parameter of a function or a host. `returns` is a pointer whose pointee isn't const, so
     /// that values come back through it.
     Parameter {
@@ -113,28 +115,19 @@ fn has_declassify(attributes: &[Attribute]) -> bool
 fn is_priv_mark(mark: Mark) -> bool
     ensures { result ≡ is_priv mark }
 {
-    match mark {
-        Mark::Priv => true,
-        _ => false,
-    }
+    matches!(mark, Mark::Priv)
 }
 
 fn is_unpriv_mark(mark: Mark) -> bool
     ensures { result ≡ is_unpriv mark }
 {
-    match mark {
-        Mark::Unpriv => true,
-        _ => false,
-    }
+    matches!(mark, Mark::Unpriv)
 }
 
 fn is_declassify_mark(mark: Mark) -> bool
     ensures { result ≡ is_declassify mark }
 {
-    match mark {
-        Mark::Declassify => true,
-        _ => false,
-    }
+    matches!(mark, Mark::Declassify)
 }
 
 /// Whether the attribute may stand before this, where `marked` says whether `priv` stands in the
@@ -168,7 +161,9 @@ pub fn note_attributes(
     carrier: Carrier,
     attributes: &[Attribute],
 ) -> Result<(), AllocError>
-    ensures { OnOk result (faults.new.items ≡ faults.old.items ++ mark_faults carrier attributes.now) }
+    ensures { OnOk result (
+        faults.new.items ≡ faults.old.items
+        ++ mark_faults carrier attributes.now) }
 {
     let marked = has_priv(attributes);
     for a in attributes {

@@ -22,8 +22,8 @@ impl<V: Drop> Model for NameTable<V> {
 }
 
 impl<V: Drop> NameTable<V> {
-    ghost use Rattle.std.specs.Prelude.{◌≡◌, ◌^◌, ◌<◌, [], length, option_copied, option_map, slice_get, is_none, OnOk, OnErr, IfOk};
-    ghost use Rattle.declared_types.specs.NameTables.{number_of, value_at, values, with_name, is_new};
+    ghost use Rattle.std.specs.Prelude.{◌≡◌, ◌^◌, ◌<◌, [], length, option_copied, option_map, is_none, OnOk, OnErr, IfOk};
+    ghost use Rattle.declared_types.specs.NameTables.{number_of, value_at, name_at, values, with_name, is_new};
 
     /// A table of no names.
     pub fn new(alloc: Global) -> NameTable<V>
@@ -35,7 +35,7 @@ impl<V: Drop> NameTable<V> {
     }
 
     /// How many names there are.
-    pub fn len(&self) -> u32
+    pub fn count(&self) -> u32
         ensures { result ≡ length self.now }
     {
         self.entries.len() as u32
@@ -59,7 +59,7 @@ impl<V: Drop> NameTable<V> {
 
     /// The name with this number.
     pub fn name(&self, number: u32) -> Option<&[u8]>
-        ensures { option_map (λ name. name.now) result ≡ option_map (λ e. e.0) (slice_get self.now number) }
+        ensures { option_map (λ name. name.now) result ≡ name_at self.now number }
     {
         let (name, _) = self.entries.get_index(number as usize)?;
         Some(name.as_slice())
@@ -83,7 +83,7 @@ impl<V: Drop> NameTable<V> {
         if self.number_of(name).is_some() {
             return Ok(false);
         }
-        if self.len() == u32::MAX {
+        if self.count() == u32::MAX {
             return Err(AllocError);
         }
         self.entries.insert(Vec::from_slice(alloc, name)?, value)?;

@@ -27,66 +27,45 @@ impl ObjectKind {
     fn is_global(self) -> bool
         ensures { result ≡ is.is_global self }
     {
-        match self {
-            ObjectKind::Global => true,
-            _ => false,
-        }
+        matches!(self, ObjectKind::Global)
     }
 
     fn is_parameter(self) -> bool
         ensures { result ≡ is.is_parameter self }
     {
-        match self {
-            ObjectKind::Parameter => true,
-            _ => false,
-        }
+        matches!(self, ObjectKind::Parameter)
     }
 
     fn may_be_pointer(self) -> bool
         ensures { result ≡ is.may_be_pointer self }
     {
-        match self {
-            ObjectKind::Local | ObjectKind::Parameter => true,
-            ObjectKind::Global | ObjectKind::Field => false,
-        }
+        matches!(self, ObjectKind::Local | ObjectKind::Parameter)
     }
 }
 
 fn is_void(ty: Type) -> bool
     ensures { result ≡ is.is_void ty }
 {
-    match ty {
-        Type::Void => true,
-        _ => false,
-    }
+    matches!(ty, Type::Void)
 }
 
 fn is_struct(ty: Type) -> bool
     ensures { result ≡ is.is_struct ty }
 {
-    match ty {
-        Type::Struct(_) => true,
-        _ => false,
-    }
+    matches!(ty, Type::Struct(_))
 }
 
 fn is_pointer(ty: Type) -> bool
     ensures { result ≡ is.is_pointer ty }
 {
-    match ty {
-        Type::Pointer { .. } => true,
-        _ => false,
-    }
+    matches!(ty, Type::Pointer { .. })
 }
 
 /// Whether an array stands behind the name.
 fn is_array_form(suffix: Suffix) -> bool
     ensures { result ≡ is.is_array_form suffix }
 {
-    match suffix {
-        Suffix::Plain => false,
-        Suffix::Open | Suffix::Sized(_) => true,
-    }
+    matches!(suffix, Suffix::Open | Suffix::Sized(_))
 }
 
 /// Whether an array's size is wanting where it must be, or isn't at least 1.
@@ -129,7 +108,9 @@ pub fn note_object(
     suffix: Suffix,
     at: Span,
 ) -> Result<(), AllocError>
-    ensures { OnOk result (faults.new.items ≡ faults.old.items ++ is.object_faults kind given.now pointer suffix at) }
+    ensures { OnOk result (
+        faults.new.items ≡ faults.old.items
+        ++ is.object_faults kind given.now pointer suffix at) }
 {
     let wrong_base = is_wrong_base(kind, given);
     let wrong_form = is_wrong_form(kind, given.base, pointer, suffix);
@@ -223,7 +204,9 @@ pub fn note_size(
     ty: Type,
     at: Span,
 ) -> Result<(), AllocError>
-    ensures { OnOk result (faults.new.items ≡ faults.old.items ++ is.size_faults structs.now ty at) }
+    ensures { OnOk result (
+        faults.new.items ≡ faults.old.items
+        ++ is.size_faults structs.now ty at) }
 {
     let wrong = cells_of(structs, ty) > OBJECT_LIMIT;
     note_if(faults, wrong, FaultKind::TooLarge, at)
@@ -245,7 +228,9 @@ pub fn note_result(
     suffix: Suffix,
     at: Span,
 ) -> Result<(), AllocError>
-    ensures { OnOk result (faults.new.items ≡ faults.old.items ++ is.result_faults given.now pointer suffix at) }
+    ensures { OnOk result (
+        faults.new.items ≡ faults.old.items
+        ++ is.result_faults given.now pointer suffix at) }
 {
     let wrong = is_wrong_result(given.base, pointer, suffix);
     note_if(faults, wrong, FaultKind::OutOfProfile, at)

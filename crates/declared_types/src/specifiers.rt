@@ -1,10 +1,11 @@
 // What the specifiers of a declaration say (C99 6.7.1 to 6.7.3).
 ghost use Rattle.std.specs.Prelude.{◌≡◌, ◌++◌, map, IfOk, OnOk};
-ghost use Rattle.pt_tree.specs.SpecifierTree.{view_spec, view_specs, view_field, field_trees};
+ghost use Rattle.pt_tree.specs.SpecifierTree.{view_spec, view_specs};
 ghost use Rattle.declared_types.specs.Marks.{attribute_of};
 ghost use Rattle.declared_types.specs.Words.{storage_limit};
 ghost use Rattle.declared_types.specs.Specifiers as is;
 
+use crate::bodies::named_types;
 use crate::fault::{FaultKind, TypeFault, note_if};
 use crate::marks::{Attribute, Attributes, attribute_named};
 use crate::structs::Structs;
@@ -28,6 +29,27 @@ pub struct Specified {
     pub attributes: Attributes,
 }
 
+/// What a list of specifiers says, which stands at file scope or elsewhere. The structs that it
+/// declares come into the table, and its faults to the end of `faults`.
+pub fn judge_specifiers(
+    alloc: Global,
+    structs: &mut Structs,
+    at_file: bool,
+    specs: &[Spec],
+    faults: &mut Vec<TypeFault>,
+) -> Result<Specified, AllocError>
+    ensures given { IfOk result (λ given.
+        given ≡ (is.specified at_file structs.old (view_specs specs.now)).given) }
+    ensures structs { OnOk result (
+        structs.new ≡ (is.specified at_file structs.old (view_specs specs.now)).structs) }
+    ensures faults { OnOk result (
+        faults.new.items ≡ faults.old.items
+        ++ (is.specified at_file structs.old (view_specs specs.now)).faults) }
+{
+    let types = named_types(alloc, structs, at_file, specs, faults)?;
+    judged(alloc, at_file, specs, &types, faults)
+}
+
 /// What a list of specifiers says, by the types that its struct specifiers name.
 pub(crate) fn judged(
     alloc: Global,
@@ -36,8 +58,11 @@ pub(crate) fn judged(
     types: &[Type],
     faults: &mut Vec<TypeFault>,
 ) -> Result<Specified, AllocError>
-    ensures given { IfOk result (λ g. g ≡ is.given_by at_file (view_specs specs.now) types.now) }
-    ensures faults { OnOk result (faults.new.items ≡ faults.old.items ++ is.word_faults at_file (view_specs specs.now) types.now) }
+    ensures given { IfOk result (λ given.
+        given ≡ is.given_by at_file (view_specs specs.now) types.now) }
+    ensures faults { OnOk result (
+        faults.new.items ≡ faults.old.items
+        ++ is.word_faults at_file (view_specs specs.now) types.now) }
 {
     let first = first_of(specs);
     let words = keywords(alloc, specs)?;
@@ -127,8 +152,9 @@ fn names_of(spec: &Spec) -> &[Word]
 }
 
 /// The attributes among the specifiers, in order.
-fn attributes(alloc: Global, specs: &[Spec]) -> Result<Vec<Attribute>, AllocError>
-    ensures { IfOk result (λ attributes. attributes.items ≡ is.attributes (view_specs specs.now)) }
+pub fn attributes(alloc: Global, specs: &[Spec]) -> Result<Vec<Attribute>, AllocError>
+    ensures { IfOk result (λ attributes.
+        attributes.items ≡ is.attributes (view_specs specs.now)) }
 {
     let mut attributes = Vec::new(alloc);
     for spec in specs {
@@ -138,7 +164,8 @@ fn attributes(alloc: Global, specs: &[Spec]) -> Result<Vec<Attribute>, AllocErro
 }
 
 fn add_attributes(attributes: &mut Vec<Attribute>, names: &[Word]) -> Result<(), AllocError>
-    ensures { OnOk result (attributes.new.items ≡ attributes.old.items ++ map attribute_of names.now) }
+    ensures { OnOk result (attributes.new.items
+        ≡ attributes.old.items ++ map attribute_of names.now) }
 {
     for name in names {
         attributes.push(attribute_named(name))?;

@@ -217,28 +217,19 @@ pub(crate) fn storage_words(keywords: &[SpecWord]) -> usize
 fn is_const_word(word: SpecWord) -> bool
     ensures { result ≡ is.is_const_word word }
 {
-    match word {
-        SpecWord::Const => true,
-        _ => false,
-    }
+    matches!(word, SpecWord::Const)
 }
 
 fn is_extern_word(word: SpecWord) -> bool
     ensures { result ≡ is.is_extern_word word }
 {
-    match word {
-        SpecWord::Extern => true,
-        _ => false,
-    }
+    matches!(word, SpecWord::Extern)
 }
 
 fn is_storage_word(word: SpecWord) -> bool
     ensures { result ≡ is.is_storage_word word }
 {
-    match word {
-        SpecWord::Extern | SpecWord::Static => true,
-        _ => false,
-    }
+    matches!(word, SpecWord::Extern | SpecWord::Static)
 }
 
 impl Often {
