@@ -32,13 +32,13 @@ use Rattle.typed_expressions.specs.declared.meaning.Callable.{Callable}
 use Rattle.typed_expressions.specs.declared.meaning.Meaning.{Meaning}
 use Rattle.typed_expressions.specs.declared.meaning.Meaning.TheVariants.{Function, Global, Local}
 use Rattle.typed_expressions.specs.declared.meaning.Variable.{Variable}
-use Rattle.typed_expressions.specs.Environment.{Env, opened, find_in, with_function, without_variables}
+use Rattle.typed_expressions.specs.Environment.{Env, opened, find_in, function_at, with_function, without_variables}
 use Rattle.typed_statements.specs.Outermost.{State}
 use Rattle.typed_statements.specs.Statements.{CheckedAll, checked_block}
 use Rattle.c_types.specs.declared.function_marks.FunctionMarks.{FunctionMarks}
 use Rattle.c_types.specs.Unions.{marks_at}
-use Rattle.c_types.specs.Parameters.{parameters_of, declared_all}
-use Rattle.c_types.specs.Progress.{Progress, object_type_of, result_of}
+use Rattle.c_types.specs.Parameters.{parameters_of, Declared, declared_all}
+use Rattle.c_types.specs.Progress.{Progress, object_type_of, result_type_of}
 
 -- ---- declarations of one function agree
 
@@ -87,13 +87,20 @@ abbrev pub differ : Callable → Callable → Bool
 differ f g = not (agree f.result g.result && all_agree f.params g.params)
 
 -- the function of this number has a body
-abbrev pub has_body : Progress → FnId → Bool
-has_body st f = option_map_or (λ g. is_some g.body) (slice_get st.functions f.0) false
+abbrev pub has_body : List FunctionTree → FnId → Bool
+has_body functions k = option_map_or (λ g. is_some g.body) (slice_get functions k.0) false
+
+-- the function of this number is declared with other types
+abbrev pub has_other_types : Env → FnId → Callable → Bool
+has_other_types env k f = option_map_or (λ g. differ g f) (function_at env k) false
+
+abbrev pub clashes_with : Progress → FnId → Callable → Bool → Bool
+clashes_with st k f defines = has_other_types st.env k f || (defines && has_body st.functions k)
 
 -- what the name is already doesn't agree with a further declaration or definition
 abbrev pub clashes : Progress → Callable → Bool → Option Meaning → Bool
 clashes st f defines None = false
-clashes st f defines (Some (Function k)) = option_map_or (λ g. differ g f) (slice_get st.env.functions k.0) false || (defines && has_body st k)
+clashes st f defines (Some (Function k)) = clashes_with st k f defines
 clashes st f defines (Some (Global g)) = true
 clashes st f defines (Some (Local v)) = true
 
@@ -112,9 +119,32 @@ earlier st f = function_in (find_in st.env.file f.name)
 
 -- ---- what a declaration says
 
--- the types of the parameters, which are the variables so far
-abbrev pub variable_types : Env → List «Type»
-variable_types env = map (λ v. v.ty) env.variables
+-- what stands before the name: the structs behind it, the type of the result, and the faults
+pub record Judged : Type 0 where
+  pub structs : Structs
+  pub ty : «Type»
+  pub faults : List TypeFault
+
+abbrev pub result_of : Bool → Structs → parsed.FunctionTree → Judged
+result_of privileged structs f =
+    let d = f.declarator in
+    let j = specified true structs f.specs in
+    record {
+      structs = j.structs;
+      ty = result_type j.given d.pointer d.suffix;
+      faults =
+        j.faults
+        ++ result_faults j.given d.pointer d.suffix d.name.span
+        ++ mark_faults (carrier.Function privileged) j.given.attributes;
+    }
+
+-- the parameters, in a scope that stays open
+abbrev pub params_of_function : FunctionMarks → Env → Structs → parsed.FunctionTree → Declared
+params_of_function marks env structs f = declared_all marks (is_some f.body) (opened env) structs (parameters_of f.params)
+
+-- a function whose parameters are the variables
+abbrev pub callable_of : Env → List ℕ → «Type» → Callable
+callable_of env name ty = record { name = name; result = ty; params = map (λ v. v.ty) env.variables }
 
 -- A declaration of a function: what it calls for, the scope of its parameters, the structs behind it,
 -- and the faults.
@@ -126,27 +156,19 @@ pub record Head : Type 0 where
 
 abbrev pub head_of : FunctionMarks → Env → Structs → parsed.FunctionTree → Head
 head_of marks env structs f =
-    let d = f.declarator in
-    let j = specified true structs f.specs in
-    let ps = declared_all marks (is_some f.body) (opened env) j.structs (parameters_of f.params) in
+    let r = result_of marks.privileged structs f in
+    let ps = params_of_function marks env r.structs f in
     record {
-      callable = record { name = d.name.bytes; result = result_type j.given d.pointer d.suffix; params = variable_types ps.env };
+      callable = callable_of ps.env f.declarator.name.bytes r.ty;
       env = ps.env;
       structs = ps.structs;
-      faults =
-        j.faults
-        ++ result_faults j.given d.pointer d.suffix d.name.span
-        ++ mark_faults (carrier.Function marks.privileged) j.given.attributes
-        ++ ps.faults;
+      faults = r.faults ++ ps.faults;
     }
 
 -- ---- the entry of a function
 
 abbrev pub var_of : Variable → Var
 var_of x = record { name = x.name; span = x.span; ty = object_type_of x.ty; marked = x.marked; unpriv = x.unpriv; holds = None }
-
-abbrev pub vars_of : Env → List Var
-vars_of env = map var_of env.variables
 
 -- what a parameter of this type takes; that of a faulty one is any
 abbrev pub kind_of : «Type» → ParamKind
@@ -168,16 +190,16 @@ params_of ms k (t ∷ ts) = param_of (marks_at ms k) t ∷ params_of ms (k + 1) 
 abbrev pub signature_of : FunctionMarks → Callable → Signature
 signature_of marks f = record {
   name = f.name;
-  result = result_of f.result;
+  result = result_type_of f.result;
   params = params_of marks.params 0 f.params;
   host = not marks.defined;
   privileged = marks.privileged;
   declassify = marks.declassify;
 }
 
--- as its first declaration has it
-abbrev pub entry_of : FunctionMarks → Head → Span → FunctionTree
-entry_of marks h at = record { signature = signature_of marks h.callable; name = at; vars = vars_of h.env; body = None }
+-- as its first declaration has it: its variables are its parameters
+abbrev pub entry_of : FunctionMarks → Callable → List Variable → Span → FunctionTree
+entry_of marks f variables at = record { signature = signature_of marks f; name = at; vars = map var_of variables; body = None }
 
 -- ---- the declaration
 
@@ -186,13 +208,14 @@ abbrev pub number_in : Progress → Option FnId → ℕ
 number_in st None = length st.env.functions
 number_in st (Some k) = k.0
 
-abbrev pub env_with : Head → Option FnId → Env
-env_with h None = with_function h.env h.callable
-env_with h (Some k) = h.env
+-- the function is known from its declarator on, in its own body too (C99 6.2.1p7); here the parameters
+-- are its variables
+abbrev pub declared_as : FunctionMarks → Progress → Callable → Span → Option FnId → Progress
+declared_as marks st f at None = record st { env = with_function st.env f; functions = st.functions ++ entry_of marks f st.env.variables at ∷ [] }
+declared_as marks st f at (Some k) = st
 
-abbrev pub functions_with : Progress → FunctionTree → Option FnId → List FunctionTree
-functions_with st entry None = st.functions ++ entry ∷ []
-functions_with st entry (Some k) = st.functions
+abbrev pub declared : FunctionMarks → Progress → Callable → Span → Progress
+declared marks st f at = declared_as marks st f at (earlier st f)
 
 -- ---- the definition
 
@@ -219,20 +242,6 @@ is_int (Pointer e fixed) = false
 abbrev pub is_start : Callable → Bool → Bool
 is_start f defines = bytes_eq f.name (codes "main") && (defines && (is_int f.result && nat_eq (length f.params) 0))
 
--- the function is known from its declarator on, in its own body too (C99 6.2.1p7)
-abbrev pub with_head : FunctionMarks → Progress → Head → Span → Bool → Progress
-with_head marks st h at defines =
-    let known = earlier st h.callable in
-    record {
-      env = env_with h known;
-      structs = h.structs;
-      functions = functions_with st (entry_of marks h at) known;
-      globals = st.globals;
-      cells = st.cells;
-      exprs = st.exprs;
-      has_main = st.has_main || is_start h.callable defines;
-    }
-
 abbrev pub body_state : Progress → State
 body_state st = record { env = st.env; structs = st.structs; next = length st.exprs }
 
@@ -241,7 +250,7 @@ abbrev pub behind_body : Progress → ℕ → Span → CheckedAll → Progress
 behind_body st k s all = record {
   env = without_variables all.state.env;
   structs = all.state.structs;
-  functions = with_body st.functions k (vars_of all.state.env) (block s (body_trees all.bodies));
+  functions = with_body st.functions k (map var_of all.state.env.variables) (block s (body_trees all.bodies));
   globals = st.globals;
   cells = st.cells;
   exprs = st.exprs ++ all.trees;
@@ -266,14 +275,26 @@ with_definition st k result at (Some b) =
       faults = all.faults ++ fault_if (are_too_large all.state.structs all.state.env.variables) TooLarge at;
     }
 
+-- behind the declarator, where the parameters' scope is open; it may be main, with which a program begins
+abbrev pub with_head : Progress → Head → Bool → Progress
+with_head st h defines = record {
+  env = h.env;
+  structs = h.structs;
+  functions = st.functions;
+  globals = st.globals;
+  cells = st.cells;
+  exprs = st.exprs;
+  has_main = st.has_main || is_start h.callable defines;
+}
+
 -- a function's declaration or definition
 abbrev pub checked_function : FunctionMarks → Progress → parsed.FunctionTree → Checked
 checked_function marks st f =
     let at = f.declarator.name.span in
     let h = head_of marks st.env st.structs f in
-    let known = with_head marks st h at (is_some f.body) in
-    let c = with_definition known (number_in st (earlier st h.callable)) h.callable.result at f.body in
+    let known = with_head st h (is_some f.body) in
+    let c = with_definition (declared marks known h.callable at) (number_in known (earlier known h.callable)) h.callable.result at f.body in
     record {
       progress = c.progress;
-      faults = h.faults ++ fault_if (is_redeclared st h.callable (is_some f.body)) Redeclared at ++ c.faults;
+      faults = h.faults ++ fault_if (is_redeclared known h.callable (is_some f.body)) Redeclared at ++ c.faults;
     }

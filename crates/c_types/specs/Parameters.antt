@@ -11,7 +11,6 @@ use Rattle.type_rules.specs.declared.types.Type.{«Type»}
 use Rattle.type_rules.specs.declared.types.Type.TheVariants as ty
 use Rattle.declared_types.specs.declared.fault.FaultKind.TheVariants.{Redeclared, OutOfProfile}
 use Rattle.declared_types.specs.declared.fault.TypeFault.{TypeFault}
-use Rattle.declared_types.specs.declared.marks.Attribute.{Attribute}
 use Rattle.declared_types.specs.declared.marks.Carrier.{Carrier}
 use Rattle.declared_types.specs.declared.marks.Carrier.TheVariants.{Parameter}
 use Rattle.declared_types.specs.declared.objects.ObjectKind.TheVariants as kind
@@ -100,8 +99,8 @@ abbrev pub param_carrier : FunctionMarks → ParamTree → Specified → Carrier
 param_carrier marks p given = Parameter marks.privileged (not marks.defined) (is_mutable_pointer given p.pointer p.suffix)
 
 -- a host's pointer is one fault, whatever its attributes are
-abbrev pub judged_attributes : FunctionMarks → ParamTree → Specified → List Attribute
-judged_attributes marks p given = if is_host_pointer marks p then [] else given.attributes
+abbrev pub attribute_faults : FunctionMarks → ParamTree → Specified → List TypeFault
+attribute_faults marks p given = if is_host_pointer marks p then [] else mark_faults (param_carrier marks p given) given.attributes
 
 -- it has a name, which the scope has already
 abbrev pub is_repeated : Env → Bool → Variable → Bool
@@ -113,7 +112,7 @@ param_faults marks defines k p given repeated =
     ++ fault_if (is_refused marks k p) OutOfProfile (place_of p given)
     ++ fault_if (lacks_name defines p) OutOfProfile given.first
     ++ fault_if repeated Redeclared (place_of p given)
-    ++ mark_faults (param_carrier marks p given) (judged_attributes marks p given)
+    ++ attribute_faults marks p given
 
 -- a variable that the scope names, where it has a name
 abbrev pub with_param : Env → Bool → Variable → Env

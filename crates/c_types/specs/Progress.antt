@@ -34,10 +34,10 @@ abbrev pub object_type_of : «Type» → VarTy
 object_type_of t = unwrap_or (var_type t) (v.Int int.Int)
 
 -- the type of a result: an integer, or None for void; that of a faulty one is any
-abbrev pub result_of : «Type» → Option IntType
-result_of Bad = None
-result_of Void = None
-result_of (Int t) = Some t
-result_of (Struct n) = None
-result_of (Array e count) = None
-result_of (Pointer e fixed) = None
+abbrev pub result_type_of : «Type» → Option IntType
+result_type_of Bad = None
+result_type_of Void = None
+result_type_of (Int t) = Some t
+result_type_of (Struct n) = None
+result_type_of (Array e count) = None
+result_type_of (Pointer e fixed) = None
