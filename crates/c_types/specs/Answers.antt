@@ -27,5 +27,11 @@ Answers (Ok e) c = (c.faults ≡ []) × (view_elaborated e ≡ c.tree)
 Answers (Err (Faults fs)) c = AreFaults fs.items c.faults
 Answers (Err Memory) c = Unit {0}
 
+-- the same, of the parts that were made and the faults that were found
+abbrev pub AnswersWith : Result Elaborated TypeError → Elaborated → List TypeFault → Type 0
+AnswersWith (Ok e) parts faults = (faults ≡ []) × (e ≡ parts)
+AnswersWith (Err (Faults fs)) parts faults = AreFaults fs.items faults
+AnswersWith (Err Memory) parts faults = Unit {0}
+
 abbrev pub IsAnswer : Result Elaborated TypeError → List ItemTree → Type 0
 IsAnswer r items = Answers r (checked_program items)

@@ -33,10 +33,10 @@ use Rattle.typed_expressions.specs.declared.meaning.Meaning.{Meaning}
 use Rattle.typed_expressions.specs.declared.meaning.Meaning.TheVariants.{Function, Global, Local}
 use Rattle.typed_expressions.specs.declared.meaning.Variable.{Variable}
 use Rattle.typed_expressions.specs.Environment.{Env, opened, find_in, function_at, with_function, without_variables}
-use Rattle.typed_statements.specs.Outermost.{State}
-use Rattle.typed_statements.specs.Statements.{CheckedAll, checked_block}
+use Rattle.typed_statements.specs.Statements.{CheckedAll}
 use Rattle.c_types.specs.declared.function_marks.FunctionMarks.{FunctionMarks}
 use Rattle.c_types.specs.Unions.{marks_at}
+use Rattle.c_types.specs.Blocks.{block_in}
 use Rattle.c_types.specs.Parameters.{parameters_of, Declared, declared_all}
 use Rattle.c_types.specs.Progress.{Progress, object_type_of, result_type_of}
 
@@ -154,7 +154,7 @@ pub record Head : Type 0 where
   pub structs : Structs
   pub faults : List TypeFault
 
-abbrev pub head_of : FunctionMarks → Env → Structs → parsed.FunctionTree → Head
+unfoldable pub head_of : FunctionMarks → Env → Structs → parsed.FunctionTree → Head
 head_of marks env structs f =
     let r = result_of marks.privileged structs f in
     let ps = params_of_function marks env r.structs f in
@@ -219,9 +219,12 @@ declared marks st f at = declared_as marks st f at (earlier st f)
 
 -- ---- the definition
 
+abbrev pub with_parts : FunctionTree → List Var → BodyTree → FunctionTree
+with_parts f vars body = record f { vars = vars; body = Some body }
+
 -- the variables and the body of the function of this number
 abbrev pub with_body : List FunctionTree → ℕ → List Var → BodyTree → List FunctionTree
-with_body fs k vars body = option_map_or (λ f. slice_set fs k (record f { vars = vars; body = Some body })) (slice_get fs k) fs
+with_body fs k vars body = option_map_or (λ f. slice_set fs k (with_parts f vars body)) (slice_get fs k) fs
 
 -- the most cells that the variables of a function may have together
 abbrev pub variables_limit : ℕ
@@ -241,9 +244,6 @@ is_int (Pointer e fixed) = false
 
 abbrev pub is_start : Callable → Bool → Bool
 is_start f defines = bytes_eq f.name (codes "main") && (defines && (is_int f.result && nat_eq (length f.params) 0))
-
-abbrev pub body_state : Progress → State
-body_state st = record { env = st.env; structs = st.structs; next = length st.exprs }
 
 -- behind a function its scopes and variables are gone
 abbrev pub behind_body : Progress → ℕ → Span → CheckedAll → Progress
@@ -265,36 +265,46 @@ pub record Checked : Type 0 where
   pub progress : Progress
   pub faults : List TypeFault
 
--- the body of function number k, where there is one; too many cells are a fault at the function's name
-abbrev pub with_definition : Progress → ℕ → «Type» → Span → Option BlockTree → Checked
-with_definition st k result at None = record { progress = behind_prototype st; faults = [] }
-with_definition st k result at (Some b) =
-    let all = checked_block result (body_state st) b.items in
+-- the body of function number k; too many cells are a fault at the function's name
+abbrev pub defined : Progress → ℕ → «Type» → Span → BlockTree → Checked
+defined st k result at b =
+    let all = block_in result st.env st.structs (length st.exprs) b.items in
     record {
       progress = behind_body st k b.span all;
       faults = all.faults ++ fault_if (are_too_large all.state.structs all.state.env.variables) TooLarge at;
     }
 
--- behind the declarator, where the parameters' scope is open; it may be main, with which a program begins
-abbrev pub with_head : Progress → Head → Bool → Progress
-with_head st h defines = record {
+-- the same, where there is a body
+abbrev pub with_definition : Progress → ℕ → «Type» → Span → Option BlockTree → Checked
+with_definition st k result at None = record { progress = behind_prototype st; faults = [] }
+with_definition st k result at (Some b) = defined st k result at b
+
+-- behind the declarator, where the parameters' scope is open
+abbrev pub with_head : Progress → Head → Progress
+with_head st h = record {
   env = h.env;
   structs = h.structs;
   functions = st.functions;
   globals = st.globals;
   cells = st.cells;
   exprs = st.exprs;
-  has_main = st.has_main || is_start h.callable defines;
+  has_main = st.has_main;
 }
+
+-- it may be main, with which a program begins
+abbrev pub with_start : Progress → Callable → Bool → Progress
+with_start st f defines = record st { has_main = is_start f defines || st.has_main }
+
+-- behind the declarator of a function that is so called
+unfoldable pub completed : FunctionMarks → Progress → Callable → parsed.FunctionTree → Checked
+completed marks st f function =
+    let at = function.declarator.name.span in
+    let c = with_definition (declared marks st f at) (number_in st (earlier st f)) f.result at function.body in
+    record { progress = c.progress; faults = fault_if (is_redeclared st f (is_some function.body)) Redeclared at ++ c.faults }
 
 -- a function's declaration or definition
 abbrev pub checked_function : FunctionMarks → Progress → parsed.FunctionTree → Checked
 checked_function marks st f =
-    let at = f.declarator.name.span in
     let h = head_of marks st.env st.structs f in
-    let known = with_head st h (is_some f.body) in
-    let c = with_definition (declared marks known h.callable at) (number_in known (earlier known h.callable)) h.callable.result at f.body in
-    record {
-      progress = c.progress;
-      faults = h.faults ++ fault_if (is_redeclared known h.callable (is_some f.body)) Redeclared at ++ c.faults;
-    }
+    let c = completed marks (with_start (with_head st h) h.callable (is_some f.body)) h.callable f in
+    record { progress = c.progress; faults = h.faults ++ c.faults }

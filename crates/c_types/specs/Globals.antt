@@ -1,5 +1,5 @@
 -- Globals (C99 6.9.2).
-use Rattle.std.specs.Prelude.{ℕ, ◌+◌, ◌-◌, ℤ, pos, List, [], ◌∷◌, ◌++◌, Bool, true, not, ◌&&◌, None, length, nat_lt, nat_le, replicate, if◌then◌else◌}
+use Rattle.std.specs.Prelude.{ℕ, ◌+◌, ◌-◌, ℤ, pos, List, [], ◌∷◌, ◌++◌, Bool, true, not, ◌&&◌, None, length, nat_lt, nat_le, replicate, take, if◌then◌else◌}
 use Rattle.pt_tree.specs.declared.specifier.Declarator.{Declarator}
 use Rattle.pt_tree.specs.StatementTree.{InitDeclaratorTree, DeclarationTree}
 use Rattle.type_rules.specs.declared.types.Type.{«Type»}
@@ -43,54 +43,59 @@ var_of given d = record {
   holds = None;
 }
 
--- all globals with this one
-abbrev pub cells_with : Progress → «Type» → ℕ
-cells_with st t = counted (st.cells + cells_of st.structs t)
+-- so many cells, then so many: the cells of all globals with a further one
+abbrev pub cells_with : ℕ → ℕ → ℕ
+cells_with total count = counted (total + count)
 
 -- the first one that brings all globals over the limit
-abbrev pub brings_over : Progress → «Type» → Bool
-brings_over st t = nat_le st.cells globals_limit && nat_lt globals_limit (cells_with st t)
+abbrev pub brings_over : ℕ → ℕ → Bool
+brings_over total count = nat_le total globals_limit && nat_lt globals_limit (cells_with total count)
 
--- what it starts with: the values, and 0 behind them; nothing past the limit
-abbrev pub start_cells : Progress → «Type» → List ℤ → List ℤ
-start_cells st t values =
-    if nat_le (cells_with st t) globals_limit then values ++ replicate (cells_of st.structs t - length values) (pos 0) else []
+-- so many cells: the values, and 0 behind them
+abbrev pub padded : ℕ → List ℤ → List ℤ
+padded count values = take count values ++ replicate (count - length values) (pos 0)
 
-abbrev pub typed_global : Progress → Specified → Declarator → List ℤ → TypedGlobal
-typed_global st given d values = record {
+-- what a global starts with; nothing past the limit
+abbrev pub start_cells : ℕ → ℕ → List ℤ → List ℤ
+start_cells total count values = if nat_le (cells_with total count) globals_limit then padded count values else []
+
+abbrev pub typed_global : Specified → Declarator → List ℤ → TypedGlobal
+typed_global given d cells = record {
   var = var_of given d;
   fixed = is_fixed kind.Global given d.pointer d.suffix;
   declassify = (marks_of given.attributes).declassify;
-  cells = start_cells st (global_type given d) values;
+  cells = cells;
 }
 
 -- the faults of the declaration itself: of the type, the size, a name that the file has, and all globals
-abbrev pub global_faults : Progress → Specified → Declarator → List TypeFault
-global_faults st given d =
+abbrev pub global_faults : Structs → Specified → Declarator → Bool → Bool → List TypeFault
+global_faults structs given d repeated over =
     object_faults kind.Global given d.pointer d.suffix d.name.span
-    ++ size_faults st.structs (global_type given d) d.name.span
-    ++ fault_if (not (is_new st.env.file d.name.bytes)) Redeclared d.name.span
-    ++ fault_if (brings_over st (global_type given d)) TooLarge d.name.span
-
-abbrev pub known_global : Progress → Specified → Declarator → Env
-known_global st given d = with_global st.env d.name.bytes (object_of given d)
+    ++ size_faults structs (global_type given d) d.name.span
+    ++ fault_if repeated Redeclared d.name.span
+    ++ fault_if over TooLarge d.name.span
 
 -- a declarator: the global is known in its own initialiser (C99 6.2.1p7)
 abbrev pub declared_one : Specified → Progress → InitDeclaratorTree → Checked
-declared_one given st d =
-    let known = known_global st given d.declarator in
-    let init = global_initialised known st.structs (global_type given d.declarator) d.init in
+declared_one given st i =
+    let d = i.declarator in
+    let ty = global_type given d in
+    let count = cells_of st.structs ty in
+    let known = with_global st.env d.name.bytes (object_of given d) in
+    let init = global_initialised known st.structs ty i.init in
     record {
       progress = record {
         env = known;
         structs = init.structs;
         functions = st.functions;
-        globals = st.globals ++ typed_global st given d.declarator init.values ∷ [];
-        cells = cells_with st (global_type given d.declarator);
+        globals = st.globals ++ typed_global given d (start_cells st.cells count init.values) ∷ [];
+        cells = cells_with st.cells count;
         exprs = st.exprs;
         has_main = st.has_main;
       };
-      faults = global_faults st given d.declarator ++ init.faults;
+      faults =
+        global_faults st.structs given d (not (is_new st.env.file d.name.bytes)) (brings_over st.cells count)
+        ++ init.faults;
     }
 
 abbrev pub declared_all : Specified → Progress → List InitDeclaratorTree → Checked

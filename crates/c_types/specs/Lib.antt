@@ -1,6 +1,7 @@
 pub mod Unions
 pub mod Parameters
 pub mod Progress
+pub mod Blocks
 pub mod Functions
 pub mod Globals
 pub mod ProgressOf

@@ -1,6 +1,9 @@
 // The answer for a program: its typed tree, or all its type faults.
+ghost use Rattle.std.specs.Prelude.{◌≡◌};
+
 use declared_types::TypeFault;
 use pt_base::Listed;
+use std::alloc::{AllocError, AllocFailed};
 use typed_tree::{StructInfo, TypedExpr, TypedFn, TypedGlobal};
 
 /// The parts of the typed tree of a program without type faults. Each list is numbered from 0:
@@ -22,4 +25,24 @@ pub enum TypeError {
     Faults(Vec<TypeFault>),
     /// Memory is wanting.
     Memory,
+}
+
+impl From<AllocError> for TypeError {
+    ghost use Rattle.c_types.specs.declared.answer.TypeError.TheVariants.{Memory};
+
+    ghost from_gives = { λ _ e. e ≡ Memory };
+
+    fn from(_: AllocError) -> Self {
+        TypeError::Memory
+    }
+}
+
+impl<T: Drop> From<AllocFailed<T>> for TypeError {
+    ghost use Rattle.c_types.specs.declared.answer.TypeError.TheVariants.{Memory};
+
+    ghost from_gives = { λ _ e. e ≡ Memory };
+
+    fn from(_: AllocFailed<T>) -> Self {
+        TypeError::Memory
+    }
 }

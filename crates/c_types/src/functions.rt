@@ -27,7 +27,7 @@ use typed_tree::TypedFn;
 const VARIABLES_LIMIT: u32 = 16_384;
 
 /// Whether a declaration is a definition.
-fn is_definition(function: &Function) -> bool
+pub(crate) fn is_definition(function: &Function) -> bool
     ensures { result ≡ is_some (view_function function.now).body }
 {
     match &function.body {
@@ -89,6 +89,7 @@ fn callable(alloc: Global, names: &Names, name: &[u8], result_ty: Type) -> Resul
 
 /// Judges a function's declarator, opens the scope of its parameters, and declares them there. Adds
 /// the faults, and gives what the function is called with.
+#[tactic(auto, unfolding(crate::specs::Functions::head_of))]
 pub(crate) fn judge_head(
     alloc: Global,
     marks: &FunctionMarks,
@@ -135,7 +136,7 @@ fn earlier(progress: &Progress, function: &Callable) -> Option<FnId>
 }
 
 /// Whether the variables of a function have too many cells together.
-fn are_too_large(structs: &Structs, variables: &[Variable]) -> bool
+pub(crate) fn are_too_large(structs: &Structs, variables: &[Variable]) -> bool
     ensures { result ≡ is.are_too_large structs.now variables.now }
 {
     let mut room = VARIABLES_LIMIT;
@@ -150,7 +151,7 @@ fn are_too_large(structs: &Structs, variables: &[Variable]) -> bool
 }
 
 /// Whether a definition is one of main that a program can begin with (C99 5.1.2.2.1).
-fn is_start(function: &Callable, defines: bool) -> bool
+pub(crate) fn is_start(function: &Callable, defines: bool) -> bool
     ensures { result ≡ is.is_start function.now defines }
 {
     function.name.as_slice() == b"main".as_slice()
@@ -173,7 +174,7 @@ fn is_int(ty: Type) -> bool
 }
 
 /// Makes a function known that isn't yet, and gives its number. Its parameters are the variables.
-fn declare(
+pub(crate) fn declare(
     alloc: Global,
     marks: &FunctionMarks,
     progress: &mut Progress,
@@ -220,7 +221,7 @@ fn has_body(functions: &[TypedFn], k: FnId) -> bool
 }
 
 /// Whether the name is already what doesn't agree with this declaration or definition.
-fn is_redeclared(progress: &Progress, function: &Callable, defines: bool) -> bool
+pub(crate) fn is_redeclared(progress: &Progress, function: &Callable, defines: bool) -> bool
     ensures { result ≡ is.is_redeclared (progress_of progress.now) function.now defines }
 {
     match meaning_in(&progress.names.file, function.name.as_slice()) {

@@ -5,8 +5,12 @@ mod agreement;
 mod answer;
 mod entries;
 mod function_marks;
+mod definitions;
 mod functions;
+mod globals;
 mod parameters;
+mod programs;
 mod progress;
+mod stand_in;
 
 pub use answer::{Elaborated, TypeError};
