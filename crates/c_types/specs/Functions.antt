@@ -133,9 +133,9 @@ result_of privileged structs f =
       structs = j.structs;
       ty = result_type j.given d.pointer d.suffix;
       faults =
-        j.faults
-        ++ result_faults j.given d.pointer d.suffix d.name.span
-        ++ mark_faults (carrier.Function privileged) j.given.attributes;
+          j.faults
+          ++ result_faults j.given d.pointer d.suffix d.name.span
+          ++ mark_faults (carrier.Function privileged) j.given.attributes;
     }
 
 -- the parameters, in a scope that stays open

@@ -17,9 +17,9 @@ use Rattle.declared_types.specs.Objects.{object_faults, object_type, is_fixed, s
 use Rattle.declared_types.specs.Specifiers.{specified}
 use Rattle.declared_types.specs.Structs.{Structs}
 use Rattle.typed_expressions.specs.declared.meaning.Object.{Object}
-use Rattle.typed_expressions.specs.Environment.{Env, with_global}
+use Rattle.typed_expressions.specs.Environment.{with_global}
 use Rattle.typed_statements.specs.Declarations.{carrier_of}
-use Rattle.typed_statements.specs.GlobalInitialisers.{GlobalInit, global_initialised}
+use Rattle.typed_statements.specs.GlobalInitialisers.{global_initialised}
 use Rattle.c_types.specs.Progress.{Progress, object_type_of}
 use Rattle.c_types.specs.Functions.{Checked}
 
@@ -94,8 +94,8 @@ declared_one given st i =
         has_main = st.has_main;
       };
       faults =
-        global_faults st.structs given d (not (is_new st.env.file d.name.bytes)) (brings_over st.cells count)
-        ++ init.faults;
+          global_faults st.structs given d (not (is_new st.env.file d.name.bytes)) (brings_over st.cells count)
+          ++ init.faults;
     }
 
 abbrev pub declared_all : Specified → Progress → List InitDeclaratorTree → Checked

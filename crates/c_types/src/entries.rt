@@ -32,11 +32,8 @@ pub(crate) fn result_of(ty: Type) -> Option<IntType>
 {
     match ty {
         Type::Int(t) => Some(t),
-        Type::Bad
-        | Type::Void
-        | Type::Struct(_)
-        | Type::Array { .. }
-        | Type::Pointer { .. } => None,
+        Type::Bad | Type::Void | Type::Struct(_) | Type::Array { .. } | Type::Pointer { .. } =>
+            None,
     }
 }
 

@@ -13,8 +13,8 @@ use crate::function_marks::FunctionMarks;
 use crate::parameters::{declare_params, parameters_of};
 use crate::progress::Progress;
 use declared_types::{
-    Carrier, NameTable, Structs, TypeFault, cells_of, judge_specifiers, note_attributes, note_result,
-    result_type,
+    Carrier, NameTable, Structs, TypeFault, cells_of, judge_specifiers, note_attributes,
+    note_result, result_type,
 };
 use pt_base::{Bytes, FnId, IntType, Listed, Span};
 use pt_tree::Function;
@@ -52,7 +52,11 @@ fn judge_result(
     let at = declarator.name.span;
     let given = judge_specifiers(alloc, structs, true, &function.specs, faults)?;
     note_result(faults, &given, declarator.pointer, declarator.suffix, at)?;
-    note_attributes(faults, Carrier::Function { privileged }, given.attributes.as_slice())?;
+    note_attributes(
+        faults,
+        Carrier::Function { privileged },
+        given.attributes.as_slice(),
+    )?;
     Ok(result_type(&given, declarator.pointer, declarator.suffix))
 }
 
@@ -76,7 +80,12 @@ fn judge_params(
 }
 
 /// What a function of this name and result is called with, whose parameters are the variables.
-fn callable(alloc: Global, names: &Names, name: &[u8], result_ty: Type) -> Result<Callable, AllocError>
+fn callable(
+    alloc: Global,
+    names: &Names,
+    name: &[u8],
+    result_ty: Type,
+) -> Result<Callable, AllocError>
     ensures { IfOk result (λ c. c ≡ is.callable_of (env_of names.now) name.now result_ty) }
 {
     let types = types_of(alloc, &names.variables)?;
@@ -105,7 +114,12 @@ pub(crate) fn judge_head(
 {
     let result_ty = judge_result(alloc, marks.privileged, structs, function, faults)?;
     judge_params(alloc, marks, names, structs, function, faults)?;
-    callable(alloc, names, function.declarator.name.bytes.as_slice(), result_ty)
+    callable(
+        alloc,
+        names,
+        function.declarator.name.bytes.as_slice(),
+        result_ty,
+    )
 }
 
 /// What the file says that a name means.
@@ -165,11 +179,8 @@ fn is_int(ty: Type) -> bool
 {
     match ty {
         Type::Int(t) => t == IntType::Int,
-        Type::Bad
-        | Type::Void
-        | Type::Struct(_)
-        | Type::Array { .. }
-        | Type::Pointer { .. } => false,
+        Type::Bad | Type::Void | Type::Struct(_) | Type::Array { .. } | Type::Pointer { .. } =>
+            false,
     }
 }
 

@@ -64,7 +64,12 @@ fn start_cells(
 fn global_type(given: &Specified, declarator: &Declarator) -> Type
     ensures { result ≡ is.global_type given.now declarator.now }
 {
-    object_type(ObjectKind::Global, given, declarator.pointer, declarator.suffix)
+    object_type(
+        ObjectKind::Global,
+        given,
+        declarator.pointer,
+        declarator.suffix,
+    )
 }
 
 fn object_of(given: &Specified, declarator: &Declarator) -> Object
@@ -72,7 +77,12 @@ fn object_of(given: &Specified, declarator: &Declarator) -> Object
 {
     Object {
         ty: global_type(given, declarator),
-        fixed: is_fixed(ObjectKind::Global, given, declarator.pointer, declarator.suffix),
+        fixed: is_fixed(
+            ObjectKind::Global,
+            given,
+            declarator.pointer,
+            declarator.suffix,
+        ),
     }
 }
 
@@ -101,7 +111,12 @@ fn typed_global(
 {
     Ok(TypedGlobal {
         var: var_of(alloc, given, declarator)?,
-        fixed: is_fixed(ObjectKind::Global, given, declarator.pointer, declarator.suffix),
+        fixed: is_fixed(
+            ObjectKind::Global,
+            given,
+            declarator.pointer,
+            declarator.suffix,
+        ),
         declassify: marks_among(given.attributes.as_slice()).declassify,
         cells: Listed::new(cells),
     })
@@ -120,7 +135,14 @@ fn note_global(
 {
     let at = declarator.name.span;
     let kind = ObjectKind::Global;
-    note_object(faults, kind, given, declarator.pointer, declarator.suffix, at)?;
+    note_object(
+        faults,
+        kind,
+        given,
+        declarator.pointer,
+        declarator.suffix,
+        at,
+    )?;
     note_size(faults, structs, global_type(given, declarator), at)?;
     note_if(faults, repeated, FaultKind::Redeclared, at)?;
     note_if(faults, over, FaultKind::TooLarge, at)
@@ -143,11 +165,27 @@ fn declare_global(
     let total = progress.cells;
     let name = declarator.name.bytes.as_slice();
     let is_new = progress.names.add_global(alloc, name, object)?;
-    note_global(faults, &progress.structs, given, declarator, !is_new, brings_over(total, count))?;
+    note_global(
+        faults,
+        &progress.structs,
+        given,
+        declarator,
+        !is_new,
+        brings_over(total, count),
+    )?;
     let structs = &mut progress.structs;
-    let values = global_values(alloc, &progress.names, structs, faults, object.ty, &global.init)?;
+    let values = global_values(
+        alloc,
+        &progress.names,
+        structs,
+        faults,
+        object.ty,
+        &global.init,
+    )?;
     let cells = start_cells(alloc, total, count, values)?;
-    progress.globals.push(typed_global(alloc, given, declarator, cells)?)?;
+    progress
+        .globals
+        .push(typed_global(alloc, given, declarator, cells)?)?;
     progress.cells = cells_with(total, count);
     Ok(())
 }

@@ -3,9 +3,9 @@
 
 mod agreement;
 mod answer;
+mod definitions;
 mod entries;
 mod function_marks;
-mod definitions;
 mod functions;
 mod globals;
 mod parameters;

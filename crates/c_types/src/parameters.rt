@@ -26,13 +26,7 @@ pub(crate) fn parameters_of(params: &[ParamDecl]) -> &[ParamDecl]
     match params {
         [] => params,
         [first, rest @ ..] => match rest {
-            [] => {
-                if is_void_param(first) {
-                    &[]
-                } else {
-                    params
-                }
-            }
+            [] => { if is_void_param(first) { &[] } else { params } }
             [_, ..] => params,
         },
     }
