@@ -1,4 +1,5 @@
 pub mod Unions
+pub mod MarkTables
 pub mod Parameters
 pub mod Progress
 pub mod Blocks

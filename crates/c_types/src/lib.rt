@@ -8,6 +8,7 @@ mod entries;
 mod function_marks;
 mod functions;
 mod globals;
+mod mark_table;
 mod parameters;
 mod programs;
 mod progress;
