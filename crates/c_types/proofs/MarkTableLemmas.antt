@@ -1,9 +1,9 @@
 -- Tables of marks by name.
-use Rattle.std.proofs.Common.{◌≡◌, ◌∙◌, ℕ, ◌+◌, List, [], ◌∷◌, ◌++◌, Bool, true, false, cond, Option, Some, None, Vec, refl, ap, sym, subst, map, fold, length, if◌then◌else◌, slice_set, suc, zero, arith}
+use Rattle.std.proofs.Common.{◌≡◌, ◌∙◌, ℕ, ◌+◌, List, [], ◌∷◌, ◌++◌, Bool, true, false, Some, Vec, refl, ap, sym, subst, fold, length, if◌then◌else◌, slice_set, arith}
 use Rattle.std.specs.Prelude.{unwrap_or, slice_get}
 use Rattle.std.specs.Option.{option_map_or}
 use Rattle.std.specs.Str.{bytes_eq}
-use Rattle.std.specs.Map.{lookup, IsKeyTest, AreApart}
+use Rattle.std.specs.Map.{lookup}
 use Rattle.std.specs.Map as maps
 use Rattle.std.specs.declared.alloc.Global.{Global}
 use Rattle.std.proofs.lemmas.Cmp.{nat_list_eq_equiv}
@@ -11,8 +11,8 @@ use Rattle.std.proofs.lemmas.Slice.Eq.{bytes_eq-Decides}
 use Rattle.pt_tree.specs.ProgramTree.{FunctionTree, ItemTree, declares, function}
 use Rattle.declared_types.specs.declared.marks.Marks.{Marks}
 use Rattle.c_types.specs.declared.function_marks.FunctionMarks.{FunctionMarks}
-use Rattle.c_types.specs.Unions.{both, union, undeclared, with_declaration, declarations_of, all_marks, function_marks}
-use Rattle.c_types.specs.MarkTables.{Known, marks_in, KeepsOthers, with_marks, with_function, with_item, with_items, nothing_known, with_marks_at, with_marks_from}
+use Rattle.c_types.specs.Unions.{both, union, undeclared, with_declaration, declarations_of, function_marks}
+use Rattle.c_types.specs.MarkTables.{Known, marks_in, KeepsOthers, with_marks, with_function, with_items, nothing_known, with_marks_from}
 
 pub same_function : {A B : Type 0} (f g : A → B) → ((x : A) → f x ≡ g x) → f ≡ g
 same_function f g h = λ i x. h x i

@@ -13,5 +13,7 @@ mod parameters;
 mod programs;
 mod progress;
 mod stand_in;
+mod structs;
 
 pub use answer::{Elaborated, TypeError};
+pub use programs::check_types;
