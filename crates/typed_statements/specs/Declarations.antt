@@ -17,7 +17,8 @@ use Rattle.declared_types.specs.Marks.{marks_of, mark_faults}
 use Rattle.declared_types.specs.Objects.{object_faults, object_type, is_fixed, size_faults}
 use Rattle.declared_types.specs.Specifiers.{specified}
 use Rattle.typed_expressions.specs.declared.meaning.Variable.{Variable}
-use Rattle.typed_expressions.specs.Environment.{with_variable, is_new_inside}
+use Rattle.declared_types.specs.Structs.{Structs}
+use Rattle.typed_expressions.specs.Environment.{Env, with_variable, is_new_inside}
 use Rattle.typed_statements.specs.Initialisers.{initialised}
 use Rattle.typed_statements.specs.Outermost.{State}
 
@@ -37,11 +38,11 @@ variable_of given d = record {
 }
 
 -- the faults of the declaration itself: of the type, the size, and a name that the innermost scope has
-abbrev pub variable_faults : State → Specified → Declarator → List TypeFault
-variable_faults st given d =
+abbrev pub variable_faults : Env → Structs → Specified → Declarator → List TypeFault
+variable_faults env structs given d =
     object_faults kind.Local given d.pointer d.suffix d.name.span
-    ++ size_faults st.structs (local_type given d) d.name.span
-    ++ fault_if (not (is_new_inside st.env.scopes d.name.bytes)) Redeclared d.name.span
+    ++ size_faults structs (local_type given d) d.name.span
+    ++ fault_if (not (is_new_inside env.scopes d.name.bytes)) Redeclared d.name.span
 
 -- a declarator: the variable is known in its own initialiser (C99 6.2.1p7)
 pub record Declared : Type 0 where
@@ -60,7 +61,7 @@ declared_one given st d =
       state = init.state;
       declarator = record { var = record { 0 = length st.env.variables }; init = init.init };
       trees = init.trees;
-      faults = variable_faults st given d.declarator ++ init.faults;
+      faults = variable_faults st.env st.structs given d.declarator ++ init.faults;
     }
 
 pub record DeclaredAll : Type 0 where

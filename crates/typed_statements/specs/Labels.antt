@@ -71,14 +71,17 @@ pub record Labelled : Type 0 where
 abbrev pub default_word : Span → Span
 default_word s = record { from = s.from; to = min (s.from + 7) 4294967295 }
 
--- a case of this value; the second one of a value is a fault, where cases are compared
+-- the labels behind a case of this value; cases that aren't compared aren't kept
+abbrev pub case_seen : Kind → Seen → ℤ → Seen
+case_seen kind seen v = record { cases = if kind.compared then with_case seen.cases v else seen.cases; has_default = seen.has_default }
+
+-- the second case of a value is a fault, where cases are compared
+abbrev pub case_faults : Kind → Seen → Span → ℤ → List TypeFault
+case_faults kind seen at v = fault_if (kind.compared && is_seen seen.cases v) Redeclared at
+
+-- a case of this value; its expression has the span `at`
 abbrev pub case_of : Kind → Structs → Seen → Span → Span → ℤ → Labelled
-case_of kind structs seen s at v = record {
-  structs = structs;
-  seen = record { cases = if kind.compared then with_case seen.cases v else seen.cases; has_default = seen.has_default };
-  label = l.Case s v;
-  faults = fault_if (kind.compared && is_seen seen.cases v) Redeclared at;
-}
+case_of kind structs seen s at v = record { structs = structs; seen = case_seen kind seen v; label = l.Case s v; faults = case_faults kind seen at v }
 
 abbrev pub case_by : Env → Kind → Structs → Seen → Span → e.ExprTree → Option Number → Labelled
 case_by env kind structs seen s a (Some n) = case_of kind structs seen s (span_of a) (conv kind.ty n.value)

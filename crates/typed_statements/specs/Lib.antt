@@ -6,3 +6,5 @@ pub mod GlobalInitialisers
 pub mod Declarations
 pub mod Labels
 pub mod Statements
+pub mod Seen
+pub mod Gives

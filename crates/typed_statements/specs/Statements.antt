@@ -63,10 +63,17 @@ pub record CheckedAll : Type 0 where
   pub trees : List ExprTree
   pub faults : List TypeFault
 
--- the sections of a switch, with the labels so far
-pub record CheckedSections : Type 0 where
+-- a section of a switch, with the labels behind its own
+pub record CheckedSection : Type 0 where
   pub state : State
   pub seen : Seen
+  pub section : t.SectionTree
+  pub trees : List ExprTree
+  pub faults : List TypeFault
+
+-- the sections of a switch
+pub record CheckedSections : Type 0 where
+  pub state : State
   pub sections : List t.SectionTree
   pub trees : List ExprTree
   pub faults : List TypeFault
@@ -121,6 +128,10 @@ switched st a =
 
 -- ---- statements
 
+-- the scope of a block ends with it
+abbrev pub left : CheckedAll → CheckedAll
+left all = record { state = outside all.state; bodies = all.bodies; trees = all.trees; faults = all.faults }
+
 -- a statement that has no parts
 abbrev pub simple : State → t.BodyTree → List TypeFault → Checked
 simple st tree faults = record { state = st; tree = tree; trees = []; faults = faults }
@@ -129,8 +140,8 @@ abbrev mutual
   pub checked : Context → State → s.StmtTree → Checked
   checked c st (s.declare d) = let x = declared st d in record { state = x.state; tree = t.declare x.declaration; trees = x.trees; faults = x.faults }
   checked c st (s.block s ss) =
-      let all = checked_all c (inside st) ss in
-      record { state = outside all.state; tree = t.block s (t.body_trees all.bodies); trees = all.trees; faults = all.faults }
+      let all = left (checked_all c (inside st) ss) in
+      record { state = all.state; tree = t.block s (t.body_trees all.bodies); trees = all.trees; faults = all.faults }
   checked c st (s.nothing s) = simple st (t.nothing s) []
   checked c st (s.evaluate s a) =
       let p = evaluated st a in
@@ -176,17 +187,21 @@ abbrev mutual
       record { state = rest.state; bodies = one.tree ∷ rest.bodies; trees = one.trees ++ rest.trees; faults = one.faults ++ rest.faults }
 
   pub checked_sections : Context → Kind → Seen → State → s.SectionTrees → CheckedSections
-  checked_sections c kind seen st s.no_sections = record { state = st; seen = seen; sections = []; trees = []; faults = [] }
+  checked_sections c kind seen st s.no_sections = record { state = st; sections = []; trees = []; faults = [] }
   checked_sections c kind seen st (s.section_and x xs) =
       let one = checked_section c kind seen st x in
       let rest = checked_sections c kind one.seen one.state xs in
-      record { state = rest.state; seen = rest.seen; sections = one.sections ++ rest.sections; trees = one.trees ++ rest.trees; faults = one.faults ++ rest.faults }
+      record { state = rest.state; sections = one.section ∷ rest.sections; trees = one.trees ++ rest.trees; faults = one.faults ++ rest.faults }
 
-  pub checked_section : Context → Kind → Seen → State → s.SectionTree → CheckedSections
+  pub checked_section : Context → Kind → Seen → State → s.SectionTree → CheckedSection
   checked_section c kind seen st (s.section s label xs) =
       let l = labelled st.env kind st.structs seen label in
       let all = checked_all c (with_structs st l.structs) xs in
-      record { state = all.state; seen = l.seen; sections = t.section s l.label (t.body_trees all.bodies) ∷ []; trees = all.trees; faults = l.faults ++ all.faults }
+      record { state = all.state; seen = l.seen; section = t.section s l.label (t.body_trees all.bodies); trees = all.trees; faults = l.faults ++ all.faults }
+
+-- a block's statements, in a scope of their own
+abbrev pub checked_inner : Context → State → s.StmtTrees → CheckedAll
+checked_inner c st xs = left (checked_all c (inside st) xs)
 
 -- The outermost block of a function with this result type, whose parameters' scope is open: its items
 -- share that scope.

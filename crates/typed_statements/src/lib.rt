@@ -4,4 +4,15 @@
 
 mod constants;
 mod context;
+mod declarations;
+mod global_initialisers;
+mod initialisers;
+mod leaves;
+mod outermost;
+mod seen;
+mod stand_in;
+mod statements;
 mod switches;
+
+pub use global_initialisers::global_values;
+pub use statements::check_block;
