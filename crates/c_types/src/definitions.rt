@@ -13,7 +13,7 @@ use crate::functions::{
     are_too_large, declare, is_definition, is_redeclared, is_start, judge_head,
 };
 use crate::progress::Progress;
-use crate::stand_in::check_block;
+use crate::statements::check_block;
 use declared_types::{FaultKind, TypeFault, note_if};
 use pt_base::{Listed, Span};
 use pt_tree::{Block, Function};

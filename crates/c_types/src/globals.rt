@@ -7,7 +7,7 @@ ghost use Rattle.c_types.specs.ProgressOf.{progress_of};
 
 use crate::entries::object_type_of;
 use crate::progress::Progress;
-use crate::stand_in::global_values;
+use crate::statements::global_values;
 use declared_types::{
     Carrier, FaultKind, ObjectKind, Specified, Structs, TypeFault, cells_of, is_fixed,
     judge_specifiers, marks_among, note_attributes, note_if, note_object, note_size, object_type,

@@ -12,7 +12,7 @@ mod mark_table;
 mod parameters;
 mod programs;
 mod progress;
-mod stand_in;
+mod statements;
 mod structs;
 
 pub use answer::{Elaborated, TypeError};
