@@ -14,6 +14,7 @@ use typed_expressions::{Callable, Variable};
 use typed_tree::{TypedFn, Var, VarTy};
 
 /// The type of an object; that of a faulty one is any.
+#[tactic(auto, unfolding(typed_expressions::specs::Operands::var_type))]
 pub(crate) fn object_type_of(ty: Type) -> VarTy
     ensures { result ≡ types.object_type_of ty }
 {
