@@ -1,5 +1,5 @@
 -- How the walks over links and arguments go on, and what the parts of an expression give together.
-use Rattle.std.proofs.Common.{◌≡◌, ℕ, suc, ◌+◌, ◌<◌, List, [], ◌∷◌, ◌++◌, Bool, Option, length, get_or, drop, drop-cons, add-one, slice_get, is_some, refl, sym, ap, ◌∙◌, append_assoc, append-nil, subst, Some, None}
+use Rattle.std.proofs.Common.{◌≡◌, ℕ, suc, ◌+◌, ◌<◌, List, [], ◌∷◌, ◌++◌, Bool, Option, length, get_or, drop, drop-cons, add-one, slice_get, is_some, sym, ap, ◌∙◌, append_assoc, append-nil, subst, Some, None}
 use Rattle.pt_base.specs.declared.ids.FnId.{FnId}
 use Rattle.pt_base.specs.declared.span.Span.{Span}
 use Rattle.pt_tree.specs.ExpressionTree as e

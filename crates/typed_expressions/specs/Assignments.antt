@@ -1,5 +1,5 @@
 -- Assignments (C99 6.5.16). `s` is the span of the whole, `left` and `right` are those of the operands.
-use Rattle.std.specs.Prelude.{List, [], ◌∷◌, ◌++◌, Bool, true, false, ◌||◌, Option, Some, None, is_some, if◌then◌else◌}
+use Rattle.std.specs.Prelude.{[], ◌++◌, Bool, true, false, ◌||◌, Option, Some, None, is_some, if◌then◌else◌}
 use Rattle.pt_base.specs.declared.span.Span.{Span}
 use Rattle.pt_tree.specs.declared.operator.BinaryOp.{BinaryOp}
 use Rattle.type_rules.specs.declared.types.Type.{«Type»}
@@ -16,7 +16,7 @@ use Rattle.declared_types.specs.Faults.{fault_if}
 use Rattle.declared_types.specs.Structs.{Structs}
 use Rattle.typed_expressions.specs.Conversions.{as_type}
 use Rattle.typed_expressions.specs.Links.{integer_op, step_of, converted_by, rule_faults}
-use Rattle.typed_expressions.specs.Operands.{Elaboration, Known, Made, var_type, place_of, value_of, value_tree, plain, faulty, refused}
+use Rattle.typed_expressions.specs.Operands.{Known, Made, var_type, place_of, value_of, value_tree, plain, faulty, refused}
 use Rattle.typed_expressions.specs.Targets.{optional_fault, target_fault}
 
 -- ---- =

@@ -1,5 +1,5 @@
 -- `test ? first : last` (C99 6.5.15). `s` is the span of the whole, the others those of the operands.
-use Rattle.std.specs.Prelude.{List, [], ◌∷◌, ◌++◌, Bool, true, false}
+use Rattle.std.specs.Prelude.{[], ◌∷◌, ◌++◌, Bool, true, false}
 use Rattle.pt_base.specs.declared.span.Span.{Span}
 use Rattle.type_rules.specs.declared.types.Type.{«Type»}
 use Rattle.type_rules.specs.declared.types.Value.{Value}

@@ -1,6 +1,6 @@
 -- Implicit conversions in the typed tree: a form of its own where the type changes, with the operand's
 -- span, and none where it stays.
-use Rattle.std.specs.Prelude.{Bool, true, false, Option, Some, None, if◌then◌else◌}
+use Rattle.std.specs.Prelude.{Bool, false, Option, Some, None, if◌then◌else◌}
 use Rattle.std.proofs.Math.Bool.{beq}
 use Rattle.pt_base.specs.IntTypes.{promoted}
 use Rattle.pt_base.specs.declared.int_type.IntType.{IntType}

@@ -1,10 +1,9 @@
 -- What stands behind an operand (C99 6.5.2). `s` is the span of all up to and with it, `at` that of all
 -- before it.
-use Rattle.std.specs.Prelude.{ℕ, List, [], ◌∷◌, ◌++◌, Bool, true, false, ◌||◌, Option, Some, None, codes, length, nat_eq, slice_get, if◌then◌else◌}
+use Rattle.std.specs.Prelude.{ℕ, List, [], ◌∷◌, ◌++◌, Bool, true, false, ◌||◌, Option, Some, None, codes, length, nat_eq, if◌then◌else◌}
 use Rattle.std.specs.Str.{bytes_eq}
 use Rattle.pt_base.specs.declared.ids.FnId.{FnId}
 use Rattle.pt_base.specs.declared.span.Span.{Span}
-use Rattle.pt_tree.specs.declared.signature.Elem.{Elem}
 use Rattle.pt_tree.specs.declared.signature.Elem.TheVariants as elem
 use Rattle.pt_tree.specs.declared.word.Word.{Word}
 use Rattle.pt_tree.specs.ExpressionTree as e
@@ -30,7 +29,7 @@ use Rattle.typed_expressions.specs.declared.meaning.Meaning.TheVariants.{Functio
 use Rattle.typed_expressions.specs.Conversions.{as_type}
 use Rattle.typed_expressions.specs.Environment.{Env, find, function_at}
 use Rattle.typed_expressions.specs.Links.{link_type, rule_faults}
-use Rattle.typed_expressions.specs.Operands.{Elaboration, value, object, pointed, moved, element, Known, Made, var_type, root_of, steps_of, value_tree, value_of, plain, designated, fine, refused}
+use Rattle.typed_expressions.specs.Operands.{Elaboration, object, moved, element, Known, Made, var_type, root_of, steps_of, value_tree, value_of, plain, designated, fine, refused}
 use Rattle.typed_expressions.specs.Prefixes.{points_to_const}
 
 -- ---- [ ]

@@ -1,6 +1,6 @@
 -- Operators before one operand, and casts (C99 6.5.3, 6.5.4). `s` is the span of the whole, `at` that
 -- of the operand.
-use Rattle.std.specs.Prelude.{List, [], ◌∷◌, ◌++◌, Bool, true, false, Option, Some, None, if◌then◌else◌}
+use Rattle.std.specs.Prelude.{[], ◌∷◌, ◌++◌, Bool, true, false, Option, Some, None, if◌then◌else◌}
 use Rattle.pt_base.specs.declared.span.Span.{Span}
 use Rattle.pt_base.specs.declared.int_type.IntType.TheVariants as int
 use Rattle.pt_int.specs.declared.operator.UnOp.{UnOp}

@@ -1,6 +1,6 @@
 -- What may be written: the left side of an assignment, and the operand of ++ and -- (C99 6.5.16p2,
 -- 6.5.2.4p1, 6.5.3.1p1).
-use Rattle.std.specs.Prelude.{List, [], ◌∷◌, Bool, true, false, ◌||◌, Option, Some, None, if◌then◌else◌}
+use Rattle.std.specs.Prelude.{List, [], ◌∷◌, Bool, ◌||◌, Option, Some, None, if◌then◌else◌}
 use Rattle.pt_base.specs.declared.span.Span.{Span}
 use Rattle.type_rules.specs.declared.types.Type.{«Type»}
 use Rattle.type_rules.specs.declared.types.Type.TheVariants.{Bad, Void, Int, Struct, Array, Pointer}

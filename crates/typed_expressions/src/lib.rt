@@ -21,3 +21,6 @@ pub use meaning::{Callable, Meaning, Object, ParamTypes, Variable};
 pub use names::{Names, Scope};
 pub use operand::{Elaborated, Operand};
 pub use postfixes::fitted;
+
+#[cfg(test)]
+mod tests;

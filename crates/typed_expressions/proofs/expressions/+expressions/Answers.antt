@@ -1,4 +1,4 @@
-use Rattle.std.proofs.Common.{rules, arith, ◌≡◌, ◌∙◌, ◌<◌, map, ℕ, ◌+◌, length, List, [], ◌∷◌, ◌++◌, drop, slice_get, ap, sym, refl, subst}
+use Rattle.std.proofs.Common.{rules, ◌∙◌, map, [], ◌∷◌, ◌++◌, slice_get, ap, sym, refl, subst}
 use Rattle.std.proofs.lemmas.List.{map-append}
 use Rattle.pt_tree.specs.ExpressionTree as parsed
 use Rattle.typed_tree.specs.ExpressionTree.{view_expr}
