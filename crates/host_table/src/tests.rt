@@ -1,12 +1,12 @@
 // Host tables, as they are read, and calls of hosts.
 use crate::reading::host_of;
-use crate::{Host, HostError, HostFault, TABLE_LIMIT, fits};
+use crate::{Host, HostError, HostFault, TABLE_LIMIT, fits, read_host};
 use pt_base::{Bytes, FnId, IntType, Listed, Span};
 use pt_tree::{HostModel, Param, ParamKind, Signature};
 use std::alloc::{AllocError, Global};
 use std::process::Abort;
 use std::test::Fail;
-use typed_tree::TypedFn;
+use typed_tree::{Typed, TypedFn};
 
 const LOAD: FnId = FnId(0);
 
@@ -26,6 +26,24 @@ fn int(marked: bool) -> Param {
     }
 }
 
+// What a host is called with, privileged or not.
+fn signature(
+    alloc: Global,
+    name: &[u8],
+    gives: Option<IntType>,
+    params: &[Param],
+    privileged: bool,
+) -> Result<Signature, AllocError> {
+    Ok(Signature {
+        name: Bytes::new(Vec::from_slice(alloc, name)?),
+        result: gives,
+        params: Listed::new(Vec::from_slice(alloc, params)?),
+        host: true,
+        privileged,
+        declassify: false,
+    })
+}
+
 // A host, privileged or not.
 fn host(
     alloc: Global,
@@ -35,14 +53,7 @@ fn host(
     privileged: bool,
 ) -> Result<TypedFn, AllocError> {
     Ok(TypedFn {
-        signature: Signature {
-            name: Bytes::new(Vec::from_slice(alloc, name)?),
-            result: gives,
-            params: Listed::new(Vec::from_slice(alloc, params)?),
-            host: true,
-            privileged,
-            declassify: false,
-        },
+        signature: signature(alloc, name, gives, params, privileged)?,
         name: Span { from: 0, to: 0 },
         vars: Listed::new(Vec::new(alloc)),
         body: None,
@@ -237,4 +248,22 @@ fn faults_have_numbers_and_names(rt: HostRuntime) {
         assert_eq!(rt; fault.number(), number);
         assert_eq!(rt; fault.name(), name);
     }
+}
+
+// The program of one host, `load`.
+fn loader(alloc: Global) -> Result<Option<Typed>, AllocError> {
+    let mut hosts = Vec::new(alloc);
+    hosts.push(signature(alloc, b"load", Some(IntType::Int), &[int(false)], true)?)?;
+    Typed::of_hosts(alloc, hosts)
+}
+
+#[test]
+fn a_program_has_its_hosts(rt: HostRuntime) -> Result<(), Fail> {
+    let alloc = rt.alloc();
+    let program = loader(alloc)?.ok_or("no program")?;
+    let read = read_host(alloc, TABLE, &program)?;
+    assert!(rt; matches!(read.model(LOAD), Some(HostModel::Table { .. })));
+    assert!(rt; read.model(SIGN).is_none());
+    assert!(rt; matches!(read_host(alloc, b"[", &program), Err(HostError::Faults(_))));
+    Ok(())
 }
