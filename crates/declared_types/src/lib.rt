@@ -18,7 +18,7 @@ pub use objects::{
     ObjectKind, is_fixed, is_mutable_pointer, note_object, note_result, note_size, object_type,
     result_type,
 };
-pub use specifiers::{Specified, judge_specifiers};
+pub use specifiers::{Specified, attributes, judge_specifiers};
 pub use structs::{
     FieldEntry, Fields, FoundField, StructEntry, Structs, cells_of, declare_struct, field_named,
     has_const, struct_named,

@@ -152,7 +152,7 @@ fn names_of(spec: &Spec) -> &[Word]
 }
 
 /// The attributes among the specifiers, in order.
-fn attributes(alloc: Global, specs: &[Spec]) -> Result<Vec<Attribute>, AllocError>
+pub fn attributes(alloc: Global, specs: &[Spec]) -> Result<Vec<Attribute>, AllocError>
     ensures { IfOk result (λ attributes.
         attributes.items ≡ is.attributes (view_specs specs.now)) }
 {

@@ -137,10 +137,11 @@ compared op size a b = Ok (number (pos 0))
 
 -- ---- operators
 
--- an operator before its operand, whose type this is (C99 6.5.3.3); `!` asks whether a pointer is null
+-- an operator before its operand, as a number of the type (C99 6.5.3.3); `!` asks whether a pointer is
+-- null
 abbrev pub unary_cell : UnOp → VarTy → Cell → Result Cell Trap
 unary_cell u.Not ty cell = Ok (number (truth (not (holds_in cell))))
-unary_cell op (Int t) cell = if_ok (unary_of op t (number_in cell)) number
+unary_cell op (Int t) cell = if_ok (unary_of op t (conv t (number_in cell))) number
 unary_cell op ty cell = Ok cell
 
 abbrev pub shift_of : Bool → BinOp
@@ -157,10 +158,11 @@ promoted_of (Int t) = promoted t
 promoted_of ty = i.Int
 
 -- a step of a chain or of a compound assignment, from the value so far with an operand: an operator
--- computes in its type, a shift in the promoted type of its left operand (C99 6.5.7p3)
+-- computes in its type, to which both are converted (C99 6.3.1.8), a shift in the promoted type of its
+-- left operand alone (C99 6.5.7p3)
 abbrev pub stepped : List ℕ → VarTy → LinkStep → Cell → Cell → Result Cell Trap
-stepped sizes ty (Arithmetic op t) a b = if_ok (binary_of op t (conv t (number_in a)) (number_in b)) number
-stepped sizes ty (Shift left) a b = if_ok (binary_of (shift_of left) (promoted_of ty) (number_in a) (number_in b)) number
+stepped sizes ty (Arithmetic op t) a b = if_ok (binary_of op t (conv t (number_in a)) (conv t (number_in b))) number
+stepped sizes ty (Shift left) a b = if_ok (binary_of (shift_of left) (promoted_of ty) (conv (promoted_of ty) (number_in a)) (number_in b)) number
 stepped sizes ty (Move back) a b = moved (directed back (number_in b)) a
 stepped sizes ty MoveBy a b = moved (number_in a) b
 stepped sizes ty Difference a b = if_ok (indices_of a b) (λ ij. number (ij.0 -ℤ ij.1))

@@ -2,6 +2,8 @@
 use Rattle.std.specs.Prelude.{ℕ, suc, ◌-◌, ◌+◌, pos, false, List, [], ◌∷◌, map, codes, if◌then◌else◌}
 use Rattle.std.specs.Str.{bytes_eq}
 use Rattle.pt_base.specs.declared.end.End.TheVariants.{Exit, Trapped, Spent}
+use Rattle.pt_base.specs.declared.int_type.IntType.TheVariants as i
+use Rattle.pt_int.specs.Conversion.{conv}
 use Rattle.typed_tree.specs.declared.variable.TypedGlobal.{TypedGlobal}
 use Rattle.typed_tree.specs.TypedTree.{TypedTree, FunctionTree}
 use Rattle.source_meaning.specs.Memory.{Memory, global, number, nothing_live, put}
@@ -36,12 +38,13 @@ begun program hosts input turns =
 abbrev pub main_frame : Frame
 main_frame = record { depth = 1; privileged = false }
 
--- the run that main comes to; reaching its closing brace returns 0 (C99 5.1.2.2.3)
+-- the run that main comes to: it ends with its int, and reaching its closing brace returns 0 (C99
+-- 5.1.2.2.3)
 abbrev pub run_of : ℕ → Outcome Flow → Run
 run_of turns (gives goes_on st) = record { events = st.events; end = Exit (pos 0); turns = turns - st.left }
 run_of turns (gives broke st) = record { events = st.events; end = Exit (pos 0); turns = turns - st.left }
 run_of turns (gives continues st) = record { events = st.events; end = Exit (pos 0); turns = turns - st.left }
-run_of turns (gives (returned v) st) = record { events = st.events; end = Exit (number_of v); turns = turns - st.left }
+run_of turns (gives (returned v) st) = record { events = st.events; end = Exit (conv i.Int (number_of v)); turns = turns - st.left }
 run_of turns (trapped trap s st) = record { events = st.events; end = Trapped trap s; turns = turns - st.left }
 run_of turns (spent st) = record { events = st.events; end = Spent; turns = turns - st.left }
 

@@ -15,9 +15,10 @@ use Rattle.pt_tree.specs.declared.signature.Signature.{Signature}
 use Rattle.typed_tree.specs.Cells.{leaves_of}
 use Rattle.typed_tree.specs.Nodes.{function_nodes, nodes_of}
 use Rattle.typed_tree.specs.Parts.{function_parts}
+use Rattle.typed_tree.specs.TypedTree.{TypedTree}
 use Rattle.typed_tree.specs.TypeTests.{same_type}
 use Rattle.typed_tree.specs.WellFormedExpression.{param_type, is_main}
-use Rattle.typed_tree.specs.WellFormed.{is_well_formed, name_of, are_distinct, is_start, are_numbered, all_parts_of, function_sound, params_lead, variable_sound, is_integer_param, is_integer_kind}
+use Rattle.typed_tree.specs.WellFormed.{is_well_formed, name_of, are_distinct, is_start, numbers_sound, function_sound, params_lead, variable_sound, is_integer_param, is_integer_kind}
 use Rattle.typed_tree.specs.HostProgram.{host_variable, host_function, main_function, host_program, is_host, are_hosts}
 use Rattle.typed_tree.proofs.WellFormedLemmas.{and_left, and_right}
 
@@ -99,12 +100,14 @@ distinct (s ∷ ss) h d =
     neither true b h i = h
     neither false b h i = i
 
-no_parts : (hosts : List Signature) → all_parts_of (map host_function hosts) ≡ []
-no_parts [] = refl
-no_parts (s ∷ ss) = no_parts ss
+hosts_numbered : (t : TypedTree) (hosts : List Signature) → IsTrue (list_all (numbers_sound t) (map host_function hosts))
+hosts_numbered t [] = refl
+hosts_numbered t (s ∷ ss) = hosts_numbered t ss
 
-numbered : (hosts : List Signature) → IsTrue (are_numbered 0 (all_parts_of (map host_function hosts ++ main_function ∷ [])) 1)
-numbered hosts = rw (flat_map-append (λ f. function_parts f.body) (map host_function hosts) (main_function ∷ [])) (rw (no_parts hosts) refl)
+numbered : (hosts : List Signature) → IsTrue (list_all (numbers_sound (host_program hosts)) (map host_function hosts ++ main_function ∷ []))
+numbered hosts =
+    list_all-append (numbers_sound (host_program hosts)) (map host_function hosts) (main_function ∷ [])
+    ∙ and_both _ _ (hosts_numbered (host_program hosts) hosts) refl
 
 host_nodes : (hosts : List Signature) → IsTrue (list_all is_host hosts) → sum_by function_nodes (map host_function hosts) ≤ length hosts * 9
 host_nodes [] h = grind arith

@@ -7,7 +7,7 @@ use Rattle.std.proofs.lemmas.List.Sums.{sum_by-cons}
 use Rattle.typed_tree.specs.TypedTree.{FunctionTree, TypedTree}
 use Rattle.typed_tree.specs.Nodes.{nodes_of, function_nodes, expr_nodes}
 use Rattle.typed_tree.specs.ExpressionTree.{ExprTree, typed}
-use Rattle.typed_tree.specs.WellFormed.{is_well_formed, structs_sound, global_sound, globals_small, function_sound, name_of, are_distinct, is_start, are_numbered, all_parts_of}
+use Rattle.typed_tree.specs.WellFormed.{is_well_formed, structs_sound, global_sound, globals_small, function_sound, name_of, are_distinct, is_start, numbers_sound}
 
 pub and_left : (a b : Bool) → IsTrue (a && b) → IsTrue a
 and_left true b h = refl
@@ -25,7 +25,7 @@ pub record Facts (t : TypedTree) : Type 0 where
   pub functions : IsTrue (list_all (function_sound t) t.functions)
   pub names : IsTrue (are_distinct (map name_of t.functions))
   pub start : IsTrue (list_any is_start t.functions)
-  pub numbered : IsTrue (are_numbered 0 (all_parts_of t.functions) (length t.exprs))
+  pub numbered : IsTrue (list_all (numbers_sound t) t.functions)
   pub few : IsTrue (nat_lt (nodes_of t) (2 ^ 28))
 
 pub facts_of : (t : TypedTree) → IsTrue (is_well_formed t) → Facts t

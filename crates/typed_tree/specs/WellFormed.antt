@@ -1,6 +1,6 @@
 -- Which typed programs are well formed.
 use Rattle.std.specs.Prelude.{ℕ, ◌^◌, ℤ, List, [], ◌∷◌, suc, Option, None, Some, Bool, true, false, ◌&&◌, not, nat_lt, nat_le, nat_eq, length, map, sum_by, is_some, is_none}
-use Rattle.std.specs.List.{list_all, list_any, flat_map}
+use Rattle.std.specs.List.{list_all, list_any}
 use Rattle.std.specs.Str.{bytes_eq}
 use Rattle.pt_base.specs.declared.int_type.IntType.{IntType}
 use Rattle.pt_base.specs.declared.int_type.IntType.TheVariants as t
@@ -136,18 +136,23 @@ is_int_result (Some r) = same_int r t.Int
 abbrev pub is_start : FunctionTree → Bool
 is_start f = is_main f.signature && (is_some f.body && (is_int_result f.signature.result && nat_eq (length f.signature.params) 0))
 
--- the outermost expressions of all bodies, in text order
-abbrev pub all_parts_of : List FunctionTree → List Part
-all_parts_of fs = flat_map (λ f. function_parts f.body) fs
-
--- the parts have the numbers from the first up to the last, this one left out
+-- the parts have the numbers from this one on, all below the last
 abbrev pub are_numbered : ℕ → List Part → ℕ → Bool
-are_numbered first [] last = nat_eq first last
+are_numbered first [] last = nat_le first last
 are_numbered first (p ∷ ps) last = nat_eq p.expr.0 first && are_numbered (suc first) ps last
+
+-- the same, from the number of the first part on
+abbrev pub are_consecutive : List Part → ℕ → Bool
+are_consecutive [] last = true
+are_consecutive (p ∷ ps) last = are_numbered p.expr.0 (p ∷ ps) last
+
+-- the outermost expressions of a body have consecutive numbers, in text order
+abbrev pub numbers_sound : TypedTree → FunctionTree → Bool
+numbers_sound t f = are_consecutive (function_parts f.body) (length t.exprs)
 
 -- what is kept of every typed program
 unfoldable pub is_well_formed : TypedTree → Bool
 is_well_formed t =
     (structs_sound t.structs 0 t.structs && (list_all (global_sound t.structs) t.globals && globals_small t.globals))
     && ((list_all (function_sound t) t.functions && (are_distinct (map name_of t.functions) && list_any is_start t.functions))
-    && (are_numbered 0 (all_parts_of t.functions) (length t.exprs) && nat_lt (nodes_of t) (2 ^ 28)))
+    && (list_all (numbers_sound t) t.functions && nat_lt (nodes_of t) (2 ^ 28)))

@@ -1,0 +1,10 @@
+pub mod Unions
+pub mod MarkTables
+pub mod Parameters
+pub mod Progress
+pub mod Blocks
+pub mod Functions
+pub mod Globals
+pub mod ProgressOf
+pub mod Programs
+pub mod Answers

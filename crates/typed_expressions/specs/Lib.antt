@@ -1,0 +1,13 @@
+pub mod Environment
+pub mod Operands
+pub mod Conversions
+pub mod Targets
+pub mod Prefixes
+pub mod Links
+pub mod Choices
+pub mod Assignments
+pub mod Postfixes
+pub mod Expressions
+pub mod EnvOf
+pub mod Views
+pub mod Gives

@@ -1,0 +1,205 @@
+// Assignments (C99 6.5.16). `s` is the span of the whole, `left` and `right` are those of the operands,
+// whose own faults are there already.
+ghost use Rattle.std.specs.Prelude.{◌≡◌, IfOk};
+ghost use Rattle.typed_tree.specs.ExpressionTree.{view_expr};
+ghost use Rattle.type_rules.specs.Conversions.{is_wrong, fit_rule};
+ghost use Rattle.type_rules.specs.Types.{is_bad};
+ghost use Rattle.typed_expressions.specs.Assignments as is;
+ghost use Rattle.typed_expressions.specs.Gives.{Makes};
+ghost use Rattle.typed_expressions.specs.Operands.{value_of, value_tree};
+ghost use Rattle.typed_expressions.specs.Views.{known};
+
+use crate::choices::Placed;
+use crate::conversions::as_type;
+use crate::faults::{note_optional, target_fault};
+use crate::links::{converted_by, integer_op, note_rule, step_of};
+use crate::operand::{Operand, var_type};
+use declared_types::{FaultKind, Structs, TypeFault, note_if};
+use pt_base::Span;
+use pt_tree::BinaryOp;
+use std::alloc::{AllocError, Global};
+use type_rules::{Fit, Rule, Type, Value, compound_rule, fit_rule};
+use typed_tree::{Form, TypedExpr};
+
+/// An assignment, by an operator where it is a compound one.
+#[tactic(auto, unfolding(crate::specs::Assignments::assigned))]
+pub(crate) fn assigned(
+    alloc: Global,
+    structs: &Structs,
+    op: Option<BinaryOp>,
+    s: Span,
+    left: Placed,
+    right: Placed,
+    faults: &mut Vec<TypeFault>,
+) -> Result<Operand, AllocError>
+    ensures { Makes result faults.old.items faults.new.items (is.assigned structs.now op s left.span (known left.operand) right.span (known right.operand)) }
+{
+    match op {
+        None => stored(alloc, structs, s, left, right, faults),
+        Some(op) => compounded(alloc, structs, op, s, left, right, faults),
+    }
+}
+
+/// `=`
+#[tactic(auto, unfolding(crate::specs::Assignments::stored, crate::specs::Assignments::stored_by))]
+fn stored(
+    alloc: Global,
+    structs: &Structs,
+    s: Span,
+    left: Placed,
+    right: Placed,
+    faults: &mut Vec<TypeFault>,
+) -> Result<Operand, AllocError>
+    ensures { Makes result faults.old.items faults.new.items (is.stored structs.now s left.span (known left.operand) right.span (known right.operand)) }
+{
+    let ty = left.operand.ty;
+    if is_bad(ty) || is_bad(right.operand.ty) {
+        return Ok(Operand::faulty());
+    }
+    let target = target_fault(structs, &left.operand);
+    let misfit = misfits(ty, right.operand.value());
+    note_optional(faults, target, left.span)?;
+    note_if(faults, misfit, FaultKind::WrongType, right.span)?;
+    if target.is_some() || misfit {
+        return Ok(Operand::faulty());
+    }
+    let tree = stored_tree(alloc, s, left.operand, right)?;
+    Ok(Operand::plain(ty, tree))
+}
+
+/// Whether this is the type of what is faulty.
+fn is_bad(ty: Type) -> bool
+    ensures { result ≡ is_bad ty }
+{
+    match ty {
+        Type::Bad => true,
+        Type::Void | Type::Int(_) | Type::Struct(_) | Type::Array { .. } | Type::Pointer { .. } => {
+            false
+        }
+    }
+}
+
+/// Whether the right side doesn't fit; of an array or a void left side that isn't asked.
+#[tactic(auto, unfolding(crate::specs::Assignments::misfits))]
+fn misfits(ty: Type, value: Value) -> bool
+    ensures { result ≡ is.misfits ty value }
+{
+    match ty {
+        Type::Bad | Type::Void | Type::Array { .. } => false,
+        Type::Int(_) | Type::Struct(_) | Type::Pointer { .. } => is_misfit(ty, value),
+    }
+}
+
+/// Whether the value isn't taken by an object of the type (C99 6.5.16.1).
+pub fn is_misfit(ty: Type, value: Value) -> bool
+    ensures { result ≡ is_wrong (fit_rule ty value) }
+{
+    match fit_rule(ty, value) {
+        Fit::Wrong => true,
+        Fit::Unknown | Fit::Converts(_) | Fit::Points | Fit::Null | Fit::Copies => false,
+    }
+}
+
+#[tactic(auto, unfolding(crate::specs::Assignments::stored_tree))]
+fn stored_tree(
+    alloc: Global,
+    s: Span,
+    left: Operand,
+    right: Placed,
+) -> Result<TypedExpr, AllocError>
+    ensures { IfOk result (λ x. view_expr x ≡ is.stored_tree s (known left) (value_of (known right.operand)) (value_tree right.span (known right.operand))) }
+{
+    let ty = left.ty;
+    let null = right.operand.value().null;
+    let tree = right.operand.into_tree(alloc, right.span)?;
+    let tree = as_type(alloc, ty, null, tree)?;
+    let place = left.into_elaborated().into_place(alloc)?;
+    Ok(TypedExpr {
+        span: s,
+        ty: var_type(ty),
+        form: Form::assign(alloc, place, tree)?,
+    })
+}
+
+/// `op=`
+#[tactic(auto, unfolding(crate::specs::Assignments::compounded, crate::specs::Assignments::compounded_by))]
+fn compounded(
+    alloc: Global,
+    structs: &Structs,
+    op: BinaryOp,
+    s: Span,
+    left: Placed,
+    right: Placed,
+    faults: &mut Vec<TypeFault>,
+) -> Result<Operand, AllocError>
+    ensures { Makes result faults.old.items faults.new.items (is.compounded structs.now op s left.span (known left.operand) right.span (known right.operand)) }
+{
+    let ty = left.operand.ty;
+    if is_bad(ty) || is_bad(right.operand.ty) {
+        return Ok(Operand::faulty());
+    }
+    let target = target_fault(structs, &left.operand);
+    let rule = step_rule_of(op, ty, right.operand.value());
+    note_optional(faults, target, left.span)?;
+    note_rule(faults, rule, left.span, right.span)?;
+    if target.is_some() || is_refused(rule) {
+        return Ok(Operand::faulty());
+    }
+    let tree = compound_tree(alloc, rule, op, s, left.operand, right)?;
+    Ok(Operand::plain(ty, tree))
+}
+
+/// The rule of the operator; an array on the left is faulty already, and the operator isn't asked.
+#[tactic(auto, unfolding(crate::specs::Assignments::step_rule_of))]
+fn step_rule_of(op: BinaryOp, ty: Type, value: Value) -> Rule
+    ensures { result ≡ is.step_rule_of op ty value }
+{
+    match ty {
+        Type::Bad | Type::Array { .. } => Rule::Unknown,
+        Type::Void | Type::Int(_) | Type::Struct(_) | Type::Pointer { .. } => {
+            compound_rule(op, ty, value)
+        }
+    }
+}
+
+#[tactic(auto, unfolding(crate::specs::Assignments::is_refused))]
+fn is_refused(rule: Rule) -> bool
+    ensures { result ≡ is.is_refused rule }
+{
+    match rule {
+        Rule::Unknown | Rule::Wrong { .. } => true,
+        Rule::Arithmetic(_)
+        | Rule::Comparison(_)
+        | Rule::Shift(_)
+        | Rule::Logical
+        | Rule::Move
+        | Rule::MoveBy
+        | Rule::Difference
+        | Rule::ComparePointers => false,
+    }
+}
+
+#[tactic(auto, unfolding(crate::specs::Assignments::compound_tree))]
+fn compound_tree(
+    alloc: Global,
+    rule: Rule,
+    op: BinaryOp,
+    s: Span,
+    left: Operand,
+    right: Placed,
+) -> Result<TypedExpr, AllocError>
+    ensures { IfOk result (λ x. view_expr x ≡ is.compound_tree rule op s (known left) (value_of (known right.operand)) (value_tree right.span (known right.operand))) }
+{
+    let ty = left.ty;
+    let object = Value { ty, null: false };
+    let value = right.operand.value();
+    let tree = right.operand.into_tree(alloc, right.span)?;
+    let tree = converted_by(alloc, rule, value, object, tree)?;
+    let place = left.into_elaborated().into_place(alloc)?;
+    let step = step_of(integer_op(op), rule);
+    Ok(TypedExpr {
+        span: s,
+        ty: var_type(ty),
+        form: Form::compound(alloc, place, step, tree)?,
+    })
+}

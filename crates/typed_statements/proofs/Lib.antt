@@ -1,0 +1,4 @@
+pub mod GlobalItemLemmas
+pub mod ItemLemmas
+pub mod LeafLemmas
+pub mod StatementLemmas
