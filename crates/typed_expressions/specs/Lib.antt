@@ -1,5 +1,6 @@
 pub mod Environment
 pub mod Operands
+pub mod StructInfos
 pub mod Conversions
 pub mod Targets
 pub mod Prefixes

@@ -1,0 +1,155 @@
+// Whole programs (C99 6.9).
+ghost use Rattle.std.specs.Prelude.{◌≡◌, ◌++◌, map, IfOk, OnOk};
+ghost use Rattle.pt_tree.specs.ProgramTree.{view_item};
+ghost use Rattle.typed_programs.specs.Answers.{AnswersWith, IsAnswer, view_elaborated};
+ghost use Rattle.typed_programs.specs.MarkTables.{marks_in};
+ghost use Rattle.typed_programs.specs.Progress as start;
+ghost use Rattle.typed_programs.specs.Programs as is;
+ghost use Rattle.typed_programs.specs.ProgressOf.{progress_of};
+
+use crate::answer::{Elaborated, TypeError};
+use crate::definitions::check_function;
+use crate::function_marks::FunctionMarks;
+use crate::globals::check_declaration;
+use crate::mark_table::{MarkTable, mark_table, undeclared};
+use crate::progress::Progress;
+use crate::structs::struct_infos;
+use declared_types::{FaultKind, NameTable, TypeFault, arrange, note_if};
+use pt_base::{Listed, Span};
+use pt_tree::{Item, Program};
+use std::alloc::{AllocError, Global};
+use typed_expressions::Names;
+
+/// Adds the fault of a program that can't begin.
+fn note_main(faults: &mut Vec<TypeFault>, has_main: bool) -> Result<(), AllocError>
+    ensures { OnOk result (faults.new.items ≡ faults.old.items ++ is.main_faults has_main) }
+{
+    let nowhere = Span { from: 0, to: 0 };
+    note_if(faults, !has_main, FaultKind::NoMain, nowhere)
+}
+
+/// Judges an item, by what all declarations say of a function, if it is one.
+fn check_item(
+    alloc: Global,
+    marks: &FunctionMarks,
+    progress: &mut Progress,
+    item: &Item,
+    faults: &mut Vec<TypeFault>,
+) -> Result<(), AllocError>
+    ensures progress { OnOk result (progress_of progress.new ≡ (is.checked_item marks.now (progress_of progress.old) (view_item item.now)).progress) }
+    ensures faults { OnOk result (faults.new.items ≡ faults.old.items ++ (is.checked_item marks.now (progress_of progress.old) (view_item item.now)).faults) }
+{
+    match item {
+        Item::Declare(declaration) => check_declaration(alloc, progress, declaration, faults),
+        Item::Function(function) => check_function(alloc, marks, progress, function, faults),
+    }
+}
+
+/// The name of a function; none of a declaration.
+fn function_name(item: &Item) -> &[u8]
+    ensures { result.now ≡ is.function_name (view_item item.now) }
+{
+    match item {
+        Item::Declare(_) => &[],
+        Item::Function(function) => function.declarator.name.bytes.as_slice(),
+    }
+}
+
+/// Judges an item, by what the table says.
+fn check_known(
+    alloc: Global,
+    table: &MarkTable,
+    progress: &mut Progress,
+    item: &Item,
+    faults: &mut Vec<TypeFault>,
+) -> Result<(), AllocError>
+    ensures progress { OnOk result (progress_of progress.new ≡ (is.checked_item (marks_in table.now.entries (is.function_name (view_item item.now))) (progress_of progress.old) (view_item item.now)).progress) }
+    ensures faults { OnOk result (faults.new.items ≡ faults.old.items ++ (is.checked_item (marks_in table.now.entries (is.function_name (view_item item.now))) (progress_of progress.old) (view_item item.now)).faults) }
+{
+    match table.get(function_name(item)) {
+        Some(marks) => check_item(alloc, marks, progress, item, faults),
+        None => check_item(alloc, &undeclared(alloc), progress, item, faults),
+    }
+}
+
+/// Judges items in order, by what the table says.
+fn check_items(
+    alloc: Global,
+    table: &MarkTable,
+    progress: &mut Progress,
+    items: &[Item],
+    faults: &mut Vec<TypeFault>,
+) -> Result<(), AllocError>
+    ensures progress { OnOk result (progress_of progress.new ≡ (is.checked_items (marks_in table.now.entries) (progress_of progress.old) (map view_item items.now)).progress) }
+    ensures faults { OnOk result (faults.new.items ≡ faults.old.items ++ (is.checked_items (marks_in table.now.entries) (progress_of progress.old) (map view_item items.now)).faults) }
+{
+    for item in items {
+        check_known(alloc, table, progress, item, faults)?;
+    }
+    Ok(())
+}
+
+/// Before the first item.
+fn begin(alloc: Global) -> Progress
+    ensures { progress_of result ≡ start.at_start }
+{
+    Progress {
+        names: Names::new(alloc),
+        structs: NameTable::new(alloc),
+        functions: Vec::new(alloc),
+        globals: Vec::new(alloc),
+        cells: 0,
+        exprs: Vec::new(alloc),
+        has_main: false,
+    }
+}
+
+/// Judges the items of a program, and adds the faults.
+fn check_program(
+    alloc: Global,
+    items: &[Item],
+    faults: &mut Vec<TypeFault>,
+) -> Result<Progress, AllocError>
+    ensures tree { IfOk result (λ p. is.tree_of (progress_of p) ≡ (is.checked_program (map view_item items.now)).tree) }
+    ensures faults { OnOk result (faults.new.items ≡ faults.old.items ++ (is.checked_program (map view_item items.now)).faults) }
+{
+    let table = mark_table(alloc, items)?;
+    let mut progress = begin(alloc);
+    check_items(alloc, &table, &mut progress, items, faults)?;
+    note_main(faults, progress.has_main)?;
+    Ok(progress)
+}
+
+/// The parts of the typed tree.
+fn elaborated(alloc: Global, progress: Progress) -> Result<Elaborated, AllocError>
+    ensures { IfOk result (λ e. view_elaborated e ≡ is.tree_of (progress_of progress)) }
+{
+    let structs = struct_infos(alloc, &progress.structs)?;
+    Ok(Elaborated {
+        structs: Listed::new(structs),
+        globals: Listed::new(progress.globals),
+        functions: progress.functions,
+        exprs: progress.exprs,
+    })
+}
+
+/// The answer with these parts and these faults.
+fn answer(parts: Elaborated, mut faults: Vec<TypeFault>) -> Result<Elaborated, TypeError>
+    ensures { AnswersWith result parts faults.items }
+{
+    if faults.is_empty() {
+        return Ok(parts);
+    }
+    arrange(&mut faults);
+    Err(TypeError::Faults(faults))
+}
+
+/// The typed tree of a program, or all its type faults.
+pub fn elaborate(alloc: Global, program: &Program) -> Result<Elaborated, TypeError>
+    ensures { IsAnswer result (map view_item program.now.items.items) }
+{
+    let mut faults = Vec::new(alloc);
+    let progress = check_program(alloc, &program.items, &mut faults)?;
+    let parts = elaborated(alloc, progress)?;
+    answer(parts, faults)
+}
