@@ -1,6 +1,6 @@
 -- The meaning of a program: one equation for each form, from left to right, with one memory, no
 -- handles and no messages.
-use Rattle.std.specs.Prelude.{ℕ, ℤ, pos, Bool, false, not, List, [], ◌∷◌, ◌++◌, Option, Some, None, if◌then◌else◌, slice_get}
+use Rattle.std.specs.Prelude.{ℕ, ℤ, pos, List, [], ◌∷◌, ◌++◌, Option, Some, None, if◌then◌else◌, slice_get}
 use Rattle.pt_tree.specs.declared.signature.Signature.{Signature}
 use Rattle.pt_tree.specs.HostStep.{Answer, host_step}
 use Rattle.pt_tree.specs.PlainNumbers.{plain_numbers}
