@@ -7,6 +7,7 @@ mod block;
 mod cell;
 mod comparison;
 mod fault;
+mod frames;
 mod layout;
 mod location;
 mod memory;
