@@ -28,3 +28,6 @@ pub use memory::Memory;
 pub use operator::{stepped, unary, unit_step};
 pub use starts::cleared_cells;
 pub use value::{Value, numbers};
+
+#[cfg(test)]
+mod tests;

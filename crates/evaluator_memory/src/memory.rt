@@ -1,4 +1,6 @@
 // The memory of a run: the cells of each block.
+ghost use Rattle.std.specs.Prelude.{◌≡◌, drop, take};
+
 use crate::arithmetic::sum;
 use crate::block::Block;
 use crate::cell::Cell;
@@ -19,13 +21,11 @@ pub struct Memory {
 
 #[tactic(auto, unfolding(crate::specs::Image::memory_of))]
 impl Memory {
-    ghost use Rattle.std.specs.Prelude.{◌≡◌, IfOk, map, OnOk};
-    ghost use Rattle.source_meaning.specs.Memory.{nothing_live, put, read, write};
-    ghost use Rattle.source_meaning.specs.Expressions.{stored_in, write_all};
+    ghost use Rattle.std.specs.Prelude.{◌≡◌, map, OnOk};
+    ghost use Rattle.source_meaning.specs.Memory.{nothing_live, put, write};
     ghost use Rattle.source_meaning.specs.Functions.{without_locals};
     ghost use Rattle.evaluator_memory.specs.Image.{memory_of};
-    ghost use Rattle.evaluator_memory.specs.Objects.{cells_in};
-    ghost use Rattle.evaluator_memory.specs.View.{view_block, view_cell, view_location, view_value};
+    ghost use Rattle.evaluator_memory.specs.View.{view_block, view_cell};
 
     /// No block is live.
     pub fn new(alloc: Global) -> Memory
@@ -60,16 +60,6 @@ impl Memory {
         }
     }
 
-    /// What stands in a cell; 0 where it isn't there.
-    pub fn read(&self, block: Block, at: u64) -> Cell
-        ensures { view_cell result ≡ read (memory_of self.now) (view_block block) at }
-    {
-        match self.block(block).get(at as usize) {
-            Some(cell) => *cell,
-            None => Cell::Number(0),
-        }
-    }
-
     /// Writes one cell, where it is there.
     pub fn write(&mut self, block: Block, at: u64, cell: Cell)
         ensures { memory_of self.new ≡ write (memory_of self.old) (view_block block) at (view_cell cell) }
@@ -80,6 +70,32 @@ impl Memory {
                 self.frames.write(depth as usize, variable as usize, at, cell);
             }
             Block::Global(g) => self.globals.write(g as usize, at, cell),
+        }
+    }
+
+    /// Ends the variables of a function that was called at this depth.
+    pub fn leave(&mut self, depth: u32)
+        ensures { memory_of self.new ≡ without_locals (memory_of self.old) depth }
+    {
+        self.frames.leave(depth as usize);
+    }
+}
+
+impl Memory {
+    ghost use Rattle.std.specs.Prelude.{◌≡◌, IfOk, map, OnOk};
+    ghost use Rattle.source_meaning.specs.Memory.{read};
+    ghost use Rattle.source_meaning.specs.Expressions.{stored_in, write_all};
+    ghost use Rattle.evaluator_memory.specs.Image.{memory_of};
+    ghost use Rattle.evaluator_memory.specs.Objects.{cells_in};
+    ghost use Rattle.evaluator_memory.specs.View.{view_block, view_cell, view_location, view_value};
+
+    /// What stands in a cell; 0 where it isn't there.
+    pub fn read(&self, block: Block, at: u64) -> Cell
+        ensures { view_cell result ≡ read (memory_of self.now) (view_block block) at }
+    {
+        match self.block(block).get(at as usize) {
+            Some(cell) => *cell,
+            None => Cell::Number(0),
         }
     }
 
@@ -113,17 +129,14 @@ impl Memory {
     pub fn cells_at(&self, at: Location, count: u64) -> Result<Vec<Cell>, AllocError>
         ensures { IfOk result (λ v. map view_cell v.items ≡ cells_in (memory_of self.now) (view_location at) count) }
     {
-        let cells = self.block(at.block);
-        let from = cells.len().min(at.cell as usize);
-        let rest = &cells[from..];
-        let end = rest.len().min(count as usize);
-        Vec::from_slice(self.alloc, &rest[..end])
+        Vec::from_slice(self.alloc, part(self.block(at.block), at.cell, count))
     }
+}
 
-    /// Ends the variables of a function that was called at this depth.
-    pub fn leave(&mut self, depth: u32)
-        ensures { memory_of self.new ≡ without_locals (memory_of self.old) depth }
-    {
-        self.frames.leave(depth as usize);
-    }
+// So many cells from a place on, as far as they are there.
+fn part(cells: &[Cell], from: u64, count: u64) -> &[Cell]
+    ensures { result.now ≡ take count (drop from cells.now) }
+{
+    let rest = &cells[cells.len().min(from as usize)..];
+    &rest[..rest.len().min(count as usize)]
 }

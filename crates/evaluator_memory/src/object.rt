@@ -44,9 +44,13 @@ impl Memory {
     ) -> Result<Value, Fault>
         ensures { (context : Context) (s : Span) (st : State) → context.structs ≡ layout.now → st.memory ≡ memory_of self.old → IsOutcome view_value s st result (memory_of self.new) (compounded context s (view_location at) step (view_value value.now) st) }
     {
-        let cell = self.combined(layout, at, step, value.cell())?;
-        self.write(at.block, at.cell, cell);
-        Ok(Value::Holds(cell))
+        match self.combined(layout, at, step, value.cell()) {
+            Ok(cell) => {
+                self.write(at.block, at.cell, cell);
+                Ok(Value::Holds(cell))
+            }
+            Err(trap) => Err(Fault::Trapped(trap)),
+        }
     }
 
     /// `++` and `--`, which give the value before them where they stand behind the object.
@@ -76,6 +80,9 @@ impl Memory {
         ensures { if_ok result view_cell ≡ compounded_in layout.now (memory_of self.now) (view_location at) step (view_cell cell) }
     {
         let old = self.read(at.block, at.cell);
-        Ok(stepped(layout, at.ty, step, old, cell)?.converted(at.ty))
+        match stepped(layout, at.ty, step, old, cell) {
+            Ok(cell) => Ok(cell.converted(at.ty)),
+            Err(trap) => Err(trap),
+        }
     }
 }

@@ -1,7 +1,7 @@
 // Operators on cells.
-ghost use Rattle.std.specs.Prelude.{◌≡◌, ◌-ℤ◌};
+ghost use Rattle.std.specs.Prelude.{◌≡◌, ◌-ℤ◌, true};
 ghost use Rattle.pt_int.specs.Conversion.{conv};
-ghost use Rattle.pt_int.specs.Operator.{binary_of, unary_of};
+ghost use Rattle.pt_int.specs.Operator.{binary_of, is_shift, unary_of};
 ghost use Rattle.typed_tree.specs.Sizes.{sizes_of};
 ghost use Rattle.source_meaning.specs.Memory.{number};
 ghost use Rattle.source_meaning.specs.Values.{if_ok, indices_of, number_in, pointee_cells, promoted_of, shift_of, stepped as stepped_cell, unary_cell, unit_step as unit_step_of};
@@ -65,11 +65,7 @@ pub fn unit_step(ty: VarTy, back: bool) -> LinkStep
 fn signed(op: UnOp, t: IntType, cell: Cell) -> Result<Cell, Trap>
     ensures { if_ok result view_cell ≡ if_ok (unary_of op t (conv t (number_in (view_cell cell)))) number }
 {
-    Ok(Cell::Number(pt_int::unary(
-        op,
-        t,
-        convert(cell.number(), t),
-    )?))
+    number_or_trap(pt_int::unary(op, t, convert(cell.number(), t)))
 }
 
 // `a op b` in the type.
@@ -78,20 +74,23 @@ fn computed(op: BinOp, t: IntType, a: Cell, b: Cell) -> Result<Cell, Trap>
 {
     let a = convert(a.number(), t);
     let b = convert(b.number(), t);
-    Ok(Cell::Number(binary(op, t, a, b)?))
+    number_or_trap(binary(op, t, a, b))
 }
 
 // `a << b` or `a >> b` in the type.
 fn shifted(left: bool, t: IntType, a: Cell, b: Cell) -> Result<Cell, Trap>
     ensures { if_ok result view_cell ≡ if_ok (binary_of (shift_of left) t (conv t (number_in (view_cell a))) (number_in (view_cell b))) number }
 {
-    let op = if left { BinOp::Shl } else { BinOp::Shr };
-    Ok(Cell::Number(binary(
-        op,
-        t,
-        convert(a.number(), t),
-        b.number(),
-    )?))
+    let amount = b.number();
+    number_or_trap(binary(shift(left), t, convert(a.number(), t), amount))
+}
+
+// `<<`, or `>>`.
+fn shift(left: bool) -> BinOp
+    ensures which { result ≡ shift_of left }
+    ensures kind { is_shift result ≡ true }
+{
+    if left { BinOp::Shl } else { BinOp::Shr }
 }
 
 // How many elements lie between two pointers into one array (C99 6.5.6p9).
@@ -119,5 +118,15 @@ fn cells_pointed_to(layout: &Layout, ty: VarTy) -> u64
     match ty {
         VarTy::Pointer { elem, .. } => layout.element_cells(elem),
         VarTy::Int(_) | VarTy::Struct(_) | VarTy::Array { .. } => 0,
+    }
+}
+
+// The number as a cell.
+fn number_or_trap(computed: Result<i128, Trap>) -> Result<Cell, Trap>
+    ensures { if_ok result view_cell ≡ if_ok computed number }
+{
+    match computed {
+        Ok(v) => Ok(Cell::Number(v)),
+        Err(trap) => Err(trap),
     }
 }
