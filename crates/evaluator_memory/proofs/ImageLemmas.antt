@@ -1,10 +1,8 @@
 -- How the memory that the code's memory stands for changes with its rows and frames.
-use Rattle.std.proofs.Common.{◌≡◌, ◌∙◌, ◌&&◌, ℕ, Bool, true, false, nat_eq, if◌then◌else◌, List, [], Result, Ok, Err, OnOk, get_or, map, set, refl, ap, subst}
+use Rattle.std.proofs.Common.{◌≡◌, ◌∙◌, ◌&&◌, ℕ, Bool, true, false, nat_eq, if◌then◌else◌, List, [], get_or, map, set, refl, ap}
 use Rattle.std.proofs.lemmas.List.{map-set}
-use Rattle.std.specs.declared.alloc.AllocError.{AllocError}
 use Rattle.source_meaning.specs.Memory as m
 use Rattle.source_meaning.specs.Memory.{put, write}
-use Rattle.source_meaning.specs.Functions.{without_locals}
 use Rattle.evaluator_memory.specs.declared.cell.Cell.{Cell}
 use Rattle.evaluator_memory.specs.declared.memory.Memory.{Memory}
 use Rattle.evaluator_memory.specs.Image.{memory_of, local_at, SetsLocal, SetsRow}

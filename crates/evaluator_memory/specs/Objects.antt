@@ -1,8 +1,8 @@
 -- What is computed with objects, by the structs of the program and a memory alone.
-use Rattle.std.specs.Prelude.{ℕ, ℤ, pos, Bool, false, List, [], Result, Ok, Err, if◌then◌else◌, drop, take}
+use Rattle.std.specs.Prelude.{ℕ, ℤ, false, List, [], Result, Ok, Err, drop, take}
 use Rattle.pt_base.specs.declared.trap.Trap.{Trap}
 use Rattle.typed_tree.specs.declared.types.VarTy.{VarTy}
-use Rattle.typed_tree.specs.declared.types.VarTy.TheVariants.{Int, Struct, Array, Pointer}
+use Rattle.typed_tree.specs.declared.types.VarTy.TheVariants.{Struct}
 use Rattle.typed_tree.specs.declared.types.StructInfo.{StructInfo}
 use Rattle.typed_tree.specs.declared.link.LinkStep.{LinkStep}
 use Rattle.typed_tree.specs.Sizes.{sizes_of, cells_by}

@@ -1,6 +1,6 @@
 // Where objects lie.
 ghost use Rattle.std.specs.Prelude.{◌≡◌, map};
-ghost use Rattle.source_meaning.specs.Expressions.{address_of, decayed, element_of as element_type, type_at};
+ghost use Rattle.source_meaning.specs.Expressions.{address_of, decayed, element_of as element_type, type_at, type_or_int as type_if_any};
 ghost use Rattle.evaluator_memory.specs.View.{view_cell, view_location};
 
 use crate::block::Block;
@@ -71,6 +71,16 @@ pub fn global_type(globals: &[TypedGlobal], n: u32) -> VarTy
 {
     match globals.get(n as usize) {
         Some(global) => global.var.ty,
+        None => VarTy::Int(IntType::Int),
+    }
+}
+
+/// The type of an expression; int where it is void.
+pub fn type_or_int(ty: Option<VarTy>) -> VarTy
+    ensures { result ≡ type_if_any ty }
+{
+    match ty {
+        Some(ty) => ty,
         None => VarTy::Int(IntType::Int),
     }
 }

@@ -43,7 +43,9 @@ impl Memory {
         ensures { map view_cell result.now ≡ memory_of self.now (view_block block) }
     {
         match block {
-            Block::Local { depth, variable } => self.frames.cells(depth as usize, variable as usize),
+            Block::Local { depth, variable } => self
+                .frames
+                .cells(depth as usize, variable as usize),
             Block::Global(g) => self.globals.cells(g as usize),
         }
     }
@@ -67,7 +69,8 @@ impl Memory {
         let at = at as usize;
         match block {
             Block::Local { depth, variable } => {
-                self.frames.write(depth as usize, variable as usize, at, cell);
+                self.frames
+                    .write(depth as usize, variable as usize, at, cell);
             }
             Block::Global(g) => self.globals.write(g as usize, at, cell),
         }

@@ -5,6 +5,7 @@ ghost use Rattle.pt_int.specs.Operator.{binary_of, is_shift, unary_of};
 ghost use Rattle.typed_tree.specs.Sizes.{sizes_of};
 ghost use Rattle.source_meaning.specs.Memory.{number};
 ghost use Rattle.source_meaning.specs.Values.{if_ok, indices_of, number_in, pointee_cells, promoted_of, shift_of, stepped as stepped_cell, unary_cell, unit_step as unit_step_of};
+ghost use Rattle.source_meaning.specs.Expressions.{is_decided as is_decided_by};
 ghost use Rattle.evaluator_memory.specs.View.{view_cell};
 
 use crate::cell::Cell;
@@ -12,7 +13,7 @@ use crate::comparison::{compared, indices};
 use crate::layout::Layout;
 use pt_base::{IntType, Trap};
 use pt_int::{BinOp, UnOp, binary, convert, promote, usual};
-use typed_tree::{LinkStep, VarTy};
+use typed_tree::{LinkStep, LogicalOp, VarTy};
 
 /// An operator before its operand, as a number of the type (C99 6.5.3.3); `!` asks whether a pointer
 /// is null.
@@ -29,13 +30,7 @@ pub fn unary(op: UnOp, ty: VarTy, cell: Cell) -> Result<Cell, Trap>
 /// A step of a chain or of a compound assignment, from the value so far of this type with an operand:
 /// an operator computes in its type, to which both are converted (C99 6.3.1.8), a shift in the
 /// promoted type of its left operand alone (C99 6.5.7p3).
-pub fn stepped(
-    layout: &Layout,
-    ty: VarTy,
-    step: LinkStep,
-    a: Cell,
-    b: Cell,
-) -> Result<Cell, Trap>
+pub fn stepped(layout: &Layout, ty: VarTy, step: LinkStep, a: Cell, b: Cell) -> Result<Cell, Trap>
     ensures { if_ok result view_cell ≡ stepped_cell (sizes_of layout.now) ty step (view_cell a) (view_cell b) }
 {
     match step {
@@ -62,6 +57,17 @@ pub fn unit_step(ty: VarTy, back: bool) -> LinkStep
     }
 }
 
+/// Whether the value so far decides `&&` or `||` (C99 6.5.13p4, 6.5.14p4).
+pub fn is_decided(op: LogicalOp, holds: bool) -> bool
+    ensures { result ≡ is_decided_by op holds }
+{
+    match op {
+        LogicalOp::And => !holds,
+        LogicalOp::Or => holds,
+    }
+}
+
+// `op a` in the type.
 fn signed(op: UnOp, t: IntType, cell: Cell) -> Result<Cell, Trap>
     ensures { if_ok result view_cell ≡ if_ok (unary_of op t (conv t (number_in (view_cell cell)))) number }
 {

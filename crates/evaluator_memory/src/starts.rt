@@ -1,4 +1,10 @@
 // The cells that objects start with: variables at their declarations, parameters and globals.
+ghost use Rattle.std.specs.Prelude.{◌≡◌, ◌+◌, [], ◌∷◌, IfOk, map, replicate, pos};
+ghost use Rattle.typed_tree.specs.Sizes.{sizes_of};
+ghost use Rattle.source_meaning.specs.Memory.{number};
+ghost use Rattle.source_meaning.specs.Values.{cleared};
+ghost use Rattle.evaluator_memory.specs.View.{view_cell};
+
 use crate::block::Block;
 use crate::cell::Cell;
 use crate::layout::Layout;
@@ -6,12 +12,6 @@ use crate::memory::Memory;
 use crate::value::Value;
 use std::alloc::{AllocError, Global};
 use typed_tree::{TypedGlobal, VarTy};
-
-ghost use Rattle.std.specs.Prelude.{◌≡◌, ◌+◌, [], ◌∷◌, IfOk, map, replicate, pos};
-ghost use Rattle.typed_tree.specs.Sizes.{sizes_of};
-ghost use Rattle.source_meaning.specs.Memory.{number};
-ghost use Rattle.source_meaning.specs.Values.{cleared};
-ghost use Rattle.evaluator_memory.specs.View.{view_cell};
 
 /// The cells that an object of the type has when its declaration is reached.
 pub fn cleared_cells(alloc: Global, layout: &Layout, ty: VarTy) -> Result<Vec<Cell>, AllocError>

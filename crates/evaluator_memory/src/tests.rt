@@ -5,14 +5,17 @@ use pt_int::{BinOp, UnOp};
 use pt_tree::Elem;
 use std::alloc::{AllocError, Global};
 use std::test::Fail;
-use typed_tree::{Field, LinkStep, StructInfo, TypedGlobal, Var, VarTy};
+use typed_tree::{Field, LinkStep, LogicalOp, StructInfo, TypedGlobal, Var, VarTy};
 
 static INT: VarTy = VarTy::Int(IntType::Int);
+
 static CHAR: VarTy = VarTy::Int(IntType::Char);
+
 static INTS: VarTy = VarTy::Array {
     elem: Elem::Int(IntType::Int),
     count: 3,
 };
+
 static TO_STRUCT: VarTy = VarTy::Pointer {
     elem: Elem::Struct(0),
     fixed: false,
@@ -104,10 +107,7 @@ fn blocks_are_put_written_and_ended(rt: HostRuntime) -> Result<(), Fail> {
     memory.write(local, 3, Cell::Number(9));
     assert!(rt; memory.read(local, 1) == Cell::Number(7));
     assert!(rt; memory.read(local, 3) == Cell::Number(0));
-    let whole = Value::Whole(Vec::from_slice(
-        alloc,
-        &[Cell::Number(4), Cell::Number(5)],
-    )?);
+    let whole = Value::Whole(Vec::from_slice(alloc, &[Cell::Number(4), Cell::Number(5)])?);
     memory.store(at(local, 1, VarTy::Struct(0)), &whole)?;
     let want = [Cell::Number(1), Cell::Number(4), Cell::Number(5)];
     assert!(rt; memory.block(local) == want.as_slice());
@@ -127,7 +127,7 @@ fn objects_start_with_their_cells(rt: HostRuntime) -> Result<(), Fail> {
     globals.push(global(alloc, &[1])?)?;
     globals.push(global(alloc, &[2, 3])?)?;
     assert!(rt; global_type(globals.as_slice(), 1) == INTS);
-    assert!(rt; variable_type(&[], 0) == INT);
+    assert!(rt; variable_type(&[], 0) == INT && type_or_int(None) == INT);
     let mut memory = Memory::with_globals(alloc, globals.as_slice())?;
     assert!(rt; memory.read(Block::Global(1), 1) == Cell::Number(3));
     let mut values = Vec::new(alloc);
@@ -160,10 +160,18 @@ fn pointers_lead_to_objects(rt: HostRuntime) -> Result<(), Fail> {
         assert!(rt; array.indexed(&layout, index) == want, "at {index}");
     }
     let one = at(Block::Global(0), 4, VarTy::Struct(0)).address();
-    assert!(rt; one.dereferenced(&layout, TO_STRUCT) == Ok(at(Block::Global(0), 4, VarTy::Struct(0))));
+    assert!(rt;
+        one.dereferenced(&layout, TO_STRUCT) == Ok(at(Block::Global(0), 4, VarTy::Struct(0)))
+    );
     assert!(rt; Cell::Null.dereferenced(&layout, TO_STRUCT) == Err(Fault::Trapped(Trap::Null)));
     assert!(rt; array.decayed().moved(true, 1) == Err(Trap::PtrRange));
-    assert!(rt; element_of(INTS) == VarTy::Pointer { elem: Elem::Int(IntType::Int), fixed: false });
+    assert!(rt;
+        element_of(INTS)
+            == VarTy::Pointer {
+                elem: Elem::Int(IntType::Int),
+                fixed: false
+            }
+    );
     Ok(())
 }
 
@@ -178,16 +186,64 @@ fn operators_give_cells(rt: HostRuntime) -> Result<(), Fail> {
     let five = Cell::Number(5);
     let two = Cell::Number(2);
     for (ty, step, a, b, want) in [
-        (INT, LinkStep::Arithmetic(BinOp::Sub, IntType::Int), five, two, Ok(Cell::Number(3))),
-        (CHAR, LinkStep::Shift { left: true }, five, two, Ok(Cell::Number(20))),
-        (CHAR, LinkStep::Shift { left: false }, five, two, Ok(Cell::Number(1))),
-        (pointer, LinkStep::Move { back: false }, first, two, Ok(third)),
-        (pointer, LinkStep::Move { back: true }, third, two, Ok(first)),
+        (
+            INT,
+            LinkStep::Arithmetic(BinOp::Sub, IntType::Int),
+            five,
+            two,
+            Ok(Cell::Number(3)),
+        ),
+        (
+            CHAR,
+            LinkStep::Shift { left: true },
+            five,
+            two,
+            Ok(Cell::Number(20)),
+        ),
+        (
+            CHAR,
+            LinkStep::Shift { left: false },
+            five,
+            two,
+            Ok(Cell::Number(1)),
+        ),
+        (
+            pointer,
+            LinkStep::Move { back: false },
+            first,
+            two,
+            Ok(third),
+        ),
+        (
+            pointer,
+            LinkStep::Move { back: true },
+            third,
+            two,
+            Ok(first),
+        ),
         (INT, LinkStep::MoveBy, two, first, Ok(third)),
         (pointer, LinkStep::Difference, third, first, Ok(two)),
-        (pointer, LinkStep::Compare(BinOp::Lt), first, third, Ok(Cell::Number(1))),
-        (pointer, LinkStep::Compare(BinOp::Eq), first, other, Ok(Cell::Number(0))),
-        (pointer, LinkStep::Compare(BinOp::Lt), first, other, Err(Trap::PtrCompare)),
+        (
+            pointer,
+            LinkStep::Compare(BinOp::Lt),
+            first,
+            third,
+            Ok(Cell::Number(1)),
+        ),
+        (
+            pointer,
+            LinkStep::Compare(BinOp::Eq),
+            first,
+            other,
+            Ok(Cell::Number(0)),
+        ),
+        (
+            pointer,
+            LinkStep::Compare(BinOp::Lt),
+            first,
+            other,
+            Err(Trap::PtrCompare),
+        ),
     ] {
         assert!(rt; stepped(&layout, ty, step, a, b) == want, "{step:?}");
     }
@@ -195,6 +251,7 @@ fn operators_give_cells(rt: HostRuntime) -> Result<(), Fail> {
     assert!(rt; unary(UnOp::Minus, INT, five) == Ok(Cell::Number(-5)));
     assert!(rt; unary(UnOp::Not, pointer, Cell::Null) == Ok(Cell::Number(1)));
     assert!(rt; unit_step(pointer, true) == LinkStep::Move { back: true });
+    assert!(rt; is_decided(LogicalOp::And, false) && !is_decided(LogicalOp::Or, false));
     Ok(())
 }
 
