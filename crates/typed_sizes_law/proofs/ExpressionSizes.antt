@@ -79,8 +79,8 @@ some_node (e.choice s a b c) = omega arith
 some_node (e.assign s op a b) = omega arith
 
 mutual
+  unfolding judge judge_links judge_link judge_postfixes judge_postfix judge_arguments
   pub judge_small : (env : Env) (structs : Structs) (a : e.ExprTree) → Fits structs (parsed.expr_nodes a) (judge env structs a).operand (judge env structs a).structs
-  unfolding judge
   judge_small env structs (e.name w) = let one = named_small env w in omega (arith, one)
   judge_small env structs (e.constant c) = let one = literal_small c in omega (arith, one)
   judge_small env structs (e.prefix s op a) =
@@ -116,7 +116,6 @@ mutual
 
   links_small : (env : Env) (structs : Structs) (s : Span) (is_logical : Bool) (far : SoFar) (ls : e.LinkTrees)
       → far_nodes (judge_links env structs s is_logical far ls).far + struct_nodes (judge_links env structs s is_logical far ls).structs ≤ 3 * parsed.links_nodes ls + (far_nodes far + struct_nodes structs)
-  unfolding judge_links
   links_small env structs s is_logical far e.no_links = omega arith
   links_small env structs s is_logical far (e.link_and l ls) =
       let one = link_small env structs s is_logical far l in
@@ -125,7 +124,6 @@ mutual
 
   link_small : (env : Env) (structs : Structs) (s : Span) (is_logical : Bool) (far : SoFar) (l : e.LinkTree)
       → far_nodes (judge_link env structs s is_logical far l).far + struct_nodes (judge_link env structs s is_logical far l).structs ≤ 3 * parsed.link_nodes l + (far_nodes far + struct_nodes structs)
-  unfolding judge_link
   link_small env structs s is_logical far (e.link span op a) =
       let q = judge_small env structs a in
       let read = value_small (span_of a) (judge env structs a).operand in
@@ -134,7 +132,6 @@ mutual
 
   postfixes_small : (env : Env) (structs : Structs) (s : Span) (callee : Option FnId) (at : Span) (k : Known) (ps : e.PostfixTrees)
       → weight_of (judge_postfixes env structs s callee at k ps).operand + struct_nodes (judge_postfixes env structs s callee at k ps).structs ≤ 3 * parsed.postfixes_nodes ps + (weight_of k + struct_nodes structs)
-  unfolding judge_postfixes
   postfixes_small env structs s callee at k e.no_postfixes = omega arith
   postfixes_small env structs s callee at k (e.postfix_and p ps) =
       let one = postfix_small env structs s callee at k p in
@@ -143,7 +140,6 @@ mutual
 
   postfix_small : (env : Env) (structs : Structs) (s : Span) (callee : Option FnId) (at : Span) (k : Known) (p : e.PostfixTree)
       → weight_of (judge_postfix env structs s callee at k p).operand + struct_nodes (judge_postfix env structs s callee at k p).structs ≤ 3 * parsed.postfix_nodes p + (weight_of k + struct_nodes structs)
-  unfolding judge_postfix
   postfix_small env structs s callee at k (e.index span a) =
       let q = judge_small env structs a in
       let own = indexed_small (joined s span) at k (span_of a) (judge env structs a).operand in
@@ -159,7 +155,6 @@ mutual
 
   arguments_small : (env : Env) (structs : Structs) (params : List «Type») (n : ℕ) (es : e.ExprTrees)
       → exprs_nodes (expr_trees (judge_arguments env structs params n es).trees) + struct_nodes (judge_arguments env structs params n es).structs ≤ 3 * parsed.exprs_nodes es + struct_nodes structs
-  unfolding judge_arguments
   arguments_small env structs params n e.no_exprs = omega arith
   arguments_small env structs params n (e.expr_and a es) =
       let p = judge_small env structs a in
