@@ -1,5 +1,5 @@
 -- An expression's tree has at most three nodes for each node of the expression.
-use Rattle.std.proofs.Common.{◌≡◌, ◌≤◌, ◌+◌, ◌*◌, ◌++◌, ◌∙◌, sym, ap, refl, ℕ, Bool, true, false, List, [], ◌∷◌, length, arith, Option, Some, None}
+use Rattle.std.proofs.Common.{◌≤◌, ◌+◌, ◌*◌, ℕ, Bool, true, false, List, arith, Option, Some, None}
 use Rattle.std.specs.Prelude.{is_some, slice_get}
 use Rattle.pt_base.specs.declared.ids.FnId.{FnId}
 use Rattle.pt_base.specs.declared.span.Span.{Span}
@@ -9,17 +9,15 @@ use Rattle.pt_tree.specs.SpecifierTree.{SpecTrees}
 use Rattle.pt_tree.specs.Nodes as parsed
 use Rattle.type_rules.specs.declared.types.Type.{«Type»}
 use Rattle.type_rules.specs.declared.types.Value.{Value}
-use Rattle.typed_tree.specs.ExpressionTree.{ExprTree, expr_trees, local, global}
+use Rattle.typed_tree.specs.ExpressionTree.{ExprTree, expr_trees}
 use Rattle.typed_tree.specs.Nodes.{expr_nodes, exprs_nodes}
 use Rattle.declared_types.specs.Structs.{Structs}
 use Rattle.typed_expressions.specs.declared.meaning.Meaning.{Meaning}
 use Rattle.typed_expressions.specs.declared.meaning.Meaning.TheVariants.{Function, Global, Local}
-use Rattle.typed_expressions.specs.Conversions.{as_type}
 use Rattle.typed_expressions.specs.Environment.{Env, find}
 use Rattle.typed_expressions.specs.Operands.{Known, value_of, value_tree, span_of, joined}
-use Rattle.typed_expressions.specs.Links.{SoFar, begun, linked, link_rule, sort_of}
+use Rattle.typed_expressions.specs.Links.{SoFar, begun, link_rule, sort_of}
 use Rattle.typed_expressions.specs.Postfixes.{function_called, params_for, argument_tree}
-use Rattle.typed_expressions.specs.Prefixes.{prefixed, cast_to, stepped}
 use Rattle.typed_expressions.specs.Expressions.{Judged, meant, named_as, named, literal, cast_specified, headed, postfix_span, judge, judge_links, judge_link, judge_postfixes, judge_postfix, judge_arguments}
 use Rattle.typed_sizes_law.proofs.SpecifierSizes.{struct_nodes, specified_small}
 use Rattle.typed_sizes_law.proofs.TreeSizes.{weight_of, value_small, as_type_small}
@@ -80,6 +78,7 @@ some_node (e.assign s op a b) = omega arith
 
 mutual
   unfolding judge judge_links judge_link judge_postfixes judge_postfix judge_arguments
+
   pub judge_small : (env : Env) (structs : Structs) (a : e.ExprTree) → Fits structs (parsed.expr_nodes a) (judge env structs a).operand (judge env structs a).structs
   judge_small env structs (e.name w) = let one = named_small env w in omega (arith, one)
   judge_small env structs (e.constant c) = let one = literal_small c in omega (arith, one)

@@ -1,5 +1,5 @@
 -- What operators make of operands has few nodes more than these.
-use Rattle.std.proofs.Common.{◌≡◌, ◌≤◌, ◌+◌, ◌*◌, ◌++◌, ◌∙◌, sym, ap, refl, ℕ, Bool, true, false, List, [], ◌∷◌, length, map, arith, Option, Some, None}
+use Rattle.std.proofs.Common.{◌≡◌, ◌≤◌, ◌+◌, ◌++◌, refl, ℕ, Bool, true, false, List, [], ◌∷◌, length, map, arith, Option, Some, None}
 use Rattle.std.specs.Prelude.{◌||◌, is_some, nat_eq, if◌then◌else◌}
 use Rattle.pt_base.specs.declared.ids.FnId.{FnId}
 use Rattle.pt_base.specs.declared.span.Span.{Span}
@@ -24,13 +24,13 @@ use Rattle.type_rules.specs.declared.conversions.ConditionRule.{ConditionRule}
 use Rattle.type_rules.specs.declared.conversions.ConditionRule.TheVariants as condition
 use Rattle.type_rules.specs.declared.operators.Rule.{Rule}
 use Rattle.type_rules.specs.declared.operators.Rule.TheVariants as rule
-use Rattle.type_rules.specs.Operators.{promoted_rule, not_rule, step_rule, deref_rule, index_rule, rule_type}
+use Rattle.type_rules.specs.Operators.{step_rule, deref_rule, index_rule, rule_type}
 use Rattle.type_rules.specs.Conversions.{cast_rule, condition_rule, choice_rule}
 use Rattle.type_rules.specs.Types.{is_bad}
 use Rattle.typed_tree.specs.declared.link.LogicalOp.{LogicalOp}
 use Rattle.typed_tree.specs.declared.link.LinkStep.{LinkStep}
 use Rattle.typed_tree.specs.declared.link.LinkStep.TheVariants as link_step
-use Rattle.typed_tree.specs.ExpressionTree.{ExprTree, LinkTree, RootTree, StepTree, typed, link, link_trees, operand_trees, expr_trees, deref, field}
+use Rattle.typed_tree.specs.ExpressionTree.{ExprTree, LinkTree, RootTree, StepTree, typed, link, link_trees, operand_trees, expr_trees, deref}
 use Rattle.typed_tree.specs.Nodes.{expr_nodes, root_nodes, link_nodes, operand_nodes, exprs_nodes}
 use Rattle.declared_types.specs.declared.fault.FaultKind.{FaultKind}
 use Rattle.declared_types.specs.declared.structs.FoundField.{FoundField}
@@ -38,7 +38,7 @@ use Rattle.declared_types.specs.Structs.{Structs, field_named}
 use Rattle.typed_expressions.specs.declared.meaning.Callable.{Callable}
 use Rattle.typed_expressions.specs.Conversions.{as_type}
 use Rattle.typed_expressions.specs.Environment.{Env, function_at}
-use Rattle.typed_expressions.specs.Operands.{Elaboration, value, object, pointed, moved, element, Known, Made, root_of, steps_of, var_type, value_tree, value_of, faulty, plain, refused}
+use Rattle.typed_expressions.specs.Operands.{Elaboration, value, object, pointed, moved, element, Known, Made, root_of, steps_of, var_type, value_tree, value_of, faulty, plain}
 use Rattle.typed_expressions.specs.Targets.{target_fault}
 use Rattle.typed_expressions.specs.Prefixes.{unary_rule_of, unary_operand, computed_by, computed, points_to_const, dereferenced_by, dereferenced, address_tree, address_of, address_of_pointer, addressed_as, addressed, stepped_by, stepped, prefixed, cast_target, cast_by, cast_to}
 use Rattle.typed_expressions.specs.Links.{SoFar, begun, link_type, step_of, integer_op, converted_by, first_by, has_none, linked, operand_of, links_tree, chained}

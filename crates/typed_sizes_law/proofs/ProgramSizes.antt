@@ -1,5 +1,5 @@
 -- The typed tree of a program has at most three nodes for each node of the program.
-use Rattle.std.proofs.Common.{◌≡◌, ◌≤◌, ◌+◌, ◌*◌, ◌++◌, ◌∙◌, sym, ap, refl, ℕ, zero, suc, Bool, true, false, List, [], ◌∷◌, length, map, arith, Option, Some, None}
+use Rattle.std.proofs.Common.{◌≡◌, ◌≤◌, ◌+◌, ◌*◌, ◌++◌, ◌∙◌, ap, refl, ℕ, zero, suc, Bool, true, false, List, [], ◌∷◌, length, map, arith, Option, Some, None}
 use Rattle.std.specs.Prelude.{◌&&◌, not, is_some, slice_get, slice_set, sum_by, if◌then◌else◌}
 use Rattle.std.specs.Option.{option_map_or}
 use Rattle.std.proofs.lemmas.List.{length-append, length-map}
@@ -25,20 +25,19 @@ use Rattle.declared_types.specs.Structs.{Structs}
 use Rattle.typed_expressions.specs.declared.meaning.Callable.{Callable}
 use Rattle.typed_expressions.specs.declared.meaning.Variable.{Variable}
 use Rattle.typed_expressions.specs.Environment.{Env, opened, with_global}
-use Rattle.typed_expressions.specs.Expressions.{judge}
 use Rattle.typed_expressions.specs.StructInfos.{field_info, struct_info, infos_of}
 use Rattle.typed_statements.specs.declared.constants.Number.{Number}
 use Rattle.typed_statements.specs.Constants.{number_of}
 use Rattle.typed_statements.specs.GlobalInitialisers.{item_of, global_item, global_items, global_initialised}
 use Rattle.typed_statements.specs.Leaves.{leaves_of}
-use Rattle.typed_statements.specs.Statements.{CheckedAll, checked_block}
+use Rattle.typed_statements.specs.Statements.{checked_block}
 use Rattle.typed_programs.specs.declared.function_marks.FunctionMarks.{FunctionMarks}
 use Rattle.typed_programs.specs.Unions.{function_marks}
 use Rattle.typed_programs.specs.Blocks.{block_in}
 use Rattle.typed_programs.specs.Parameters as p
 use Rattle.typed_programs.specs.Parameters.{parameters_of, is_void_param, param_variable, with_param}
 use Rattle.typed_programs.specs.Progress.{Progress, at_start}
-use Rattle.typed_programs.specs.Functions.{Checked, Head, head_of, result_of, var_of, entry_of, number_in, earlier, declared_as, with_parts, with_body, defined, with_definition, with_head, with_start, completed, checked_function}
+use Rattle.typed_programs.specs.Functions.{Checked, Head, head_of, result_of, var_of, entry_of, number_in, earlier, declared_as, with_parts, with_body, with_definition, with_head, with_start, completed, checked_function}
 use Rattle.typed_programs.specs.Globals as g
 use Rattle.typed_programs.specs.Programs.{checked_item, function_name, checked_items, tree_of}
 use Rattle.typed_sizes_law.specs.Laws.{TypedTreesAreSmall}

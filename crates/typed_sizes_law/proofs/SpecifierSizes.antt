@@ -1,5 +1,5 @@
 -- Specifiers declare at most as many structs and fields as they have nodes.
-use Rattle.std.proofs.Common.{◌≡◌, ◌≤◌, ◌+◌, ◌*◌, ◌++◌, ◌∙◌, ap, refl, ℕ, Bool, true, false, List, [], ◌∷◌, length, arith}
+use Rattle.std.proofs.Common.{◌≡◌, ◌≤◌, ◌+◌, ◌++◌, ℕ, Bool, true, false, List, [], ◌∷◌, length, arith}
 use Rattle.std.specs.Prelude.{if◌then◌else◌}
 use Rattle.std.proofs.lemmas.List.{length-append}
 use Rattle.pt_base.specs.declared.span.Span.{Span}
@@ -12,7 +12,7 @@ use Rattle.declared_types.specs.declared.structs.StructEntry.{StructEntry}
 use Rattle.declared_types.specs.NameTables.{Named, is_new, with_name}
 use Rattle.declared_types.specs.Structs.{Fields, Structs, struct_of}
 use Rattle.declared_types.specs.Fields.{field_of, declared}
-use Rattle.declared_types.specs.Specifiers.{Naming, Body, defined, first_of, judged, named_by, named_by_all, with_field, body_of, specified}
+use Rattle.declared_types.specs.Specifiers.{defined, first_of, judged, named_by, named_by_all, with_field, body_of, specified}
 
 -- the structs with their fields
 abbrev pub struct_nodes : Structs → ℕ

@@ -1,6 +1,6 @@
 -- Statements, with their outermost expressions and the variables and structs that they declare, have at
 -- most three nodes for each node of the program.
-use Rattle.std.proofs.Common.{◌≡◌, ◌≤◌, ◌+◌, ◌*◌, ◌++◌, ◌∙◌, sym, ap, refl, ℕ, Bool, true, false, List, [], ◌∷◌, length, arith, Option, Some, None}
+use Rattle.std.proofs.Common.{◌≡◌, ◌≤◌, ◌+◌, ◌*◌, ◌++◌, ℕ, Bool, false, List, [], ◌∷◌, length, arith, Option, Some, None}
 use Rattle.std.specs.Prelude.{◌&&◌, not, is_some, slice_get}
 use Rattle.std.proofs.lemmas.List.{length-append}
 use Rattle.pt_base.specs.declared.span.Span.{Span}
@@ -17,7 +17,7 @@ use Rattle.typed_tree.specs.Nodes.{expr_nodes}
 use Rattle.declared_types.specs.declared.specifiers.Specified.{Specified}
 use Rattle.declared_types.specs.Specifiers.{specified}
 use Rattle.declared_types.specs.Structs.{Structs}
-use Rattle.typed_expressions.specs.Environment.{Env, with_variable}
+use Rattle.typed_expressions.specs.Environment.{Env}
 use Rattle.typed_expressions.specs.Expressions.{judge}
 use Rattle.typed_expressions.specs.Operands.{value_of, value_tree, span_of}
 use Rattle.typed_statements.specs.declared.context.Context.{Context}
