@@ -1,0 +1,5 @@
+pub mod Lists
+pub mod SameTypes
+pub mod Fits
+pub mod Steps
+pub mod Known
