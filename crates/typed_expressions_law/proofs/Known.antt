@@ -125,14 +125,10 @@ element-object n structs ty fixed root steps i s h = record {
   good = subst (λ t. IsTrue (is_variable structs t)) h.is (elem-variable structs h.of (and_left (is_elem structs (Some h.of)) _ h.array.good));
 }
 
--- what designates an object, or is a struct, is a place
-pub place_sound : (n : Names) (structs : ℕ) (ty : «Type») (fixed designates : Bool) (t : Elaboration) → SoundTree n structs ty fixed designates t → (is_struct ty ≡ false → designates ≡ true) → SoundPlace n structs ty designates (place_of t)
+-- what isn't just a value, or is a struct, is a place
+pub place_sound : (n : Names) (structs : ℕ) (ty : «Type») (fixed designates : Bool) (t : Elaboration) → SoundTree n structs ty fixed designates t → (value_type ty false ≡ ty → designates ≡ false → is_struct ty ≡ true) → SoundPlace n structs ty designates (place_of t)
 unfolding root_of steps_of
-place_sound n structs ty fixed designates (value x) h k = by_kind (is_struct ty) refl
-  where
-    by_kind : (b : Bool) → is_struct ty ≡ b → SoundPlace n structs ty designates (place (tree.assigned x) no_steps)
-    by_kind true e = record { fits = both (is_typed n x) true h.fits.typed refl; has = h.stored e; written = λ d. true≢false designates d h.none }
-    by_kind false e = true≢false designates (k e) h.none
+place_sound n structs ty fixed designates (value x) h k = record { fits = both (is_typed n x) true h.fits.typed refl; has = h.stored (k h.whole h.none); written = λ d. true≢false designates d h.none }
 place_sound n structs ty fixed designates (object root steps) h k = record { fits = h.object.fits; has = h.object.has; written = h.written }
 place_sound n structs ty fixed designates (pointed x s) h k =
     let o = pointed-object n structs ty fixed x s h in

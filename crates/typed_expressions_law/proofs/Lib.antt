@@ -3,3 +3,4 @@ pub mod SameTypes
 pub mod Fits
 pub mod Steps
 pub mod Known
+pub mod Outcomes
