@@ -4,3 +4,5 @@ pub mod Fits
 pub mod Steps
 pub mod Known
 pub mod Outcomes
+pub mod Takes
+pub mod Links
