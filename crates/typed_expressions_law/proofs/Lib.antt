@@ -6,3 +6,5 @@ pub mod Known
 pub mod Outcomes
 pub mod Takes
 pub mod Links
+pub mod Choices
+pub mod Assignments
