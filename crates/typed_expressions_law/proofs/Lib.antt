@@ -8,3 +8,5 @@ pub mod Takes
 pub mod Links
 pub mod Choices
 pub mod Assignments
+pub mod Moves
+pub mod Prefixes
