@@ -10,3 +10,7 @@ pub mod Choices
 pub mod Assignments
 pub mod Moves
 pub mod Prefixes
+pub mod Postfixes
+pub mod Fields
+pub mod Names
+pub mod Calls
