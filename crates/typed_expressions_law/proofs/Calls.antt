@@ -162,7 +162,7 @@ called_sound n env structs h f ty s trees i p z =
     let z' = subst (λ o. (called_function o s f trees).faults ≡ []) c.1 z in
     subst (λ o. SoundKnown n (length structs) (called_function o s f trees).operand) (sym c.1) (call_of_sound n (length structs) c.0 f s trees (h.functions f.0 c.0 c.1) p' z')
 
-pub called_other_faults : {X : Type 0} (t : «Type») (s : Span) → is_bad t ≡ false → (called_other t s).faults ≡ [] → X
+called_other_faults : {X : Type 0} (t : «Type») (s : Span) → is_bad t ≡ false → (called_other t s).faults ≡ [] → X
 unfolding called_other
 called_other_faults Bad s h z = cc
 called_other_faults Void s h z = cc
@@ -170,6 +170,11 @@ called_other_faults (Int t) s h z = cc
 called_other_faults (Struct m) s h z = cc
 called_other_faults (Array e c) s h z = cc
 called_other_faults (Pointer e f) s h z = cc
+
+-- what is no function isn't called without a fault
+pub no_call : {X : Type 0} (env : Env) (t : «Type») (s : Span) (trees : List ExprTree) → is_bad t ≡ false → (called env None t s trees).faults ≡ [] → X
+unfolding called
+no_call env t s trees h z = called_other_faults t s h z
 
 -- the parameters of a function that is called are parameters
 pub params_are : (n : Names) (env : Env) (structs : Structs) → Agrees env structs n → (f : FnId) → IsTrue (nat_lt f.0 (length env.functions)) → IsTrue (list_all (is_parameter (length structs)) (params_for env (Some f)))

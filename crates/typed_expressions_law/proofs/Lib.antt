@@ -14,3 +14,4 @@ pub mod Postfixes
 pub mod Fields
 pub mod Names
 pub mod Calls
+pub mod Judgments
