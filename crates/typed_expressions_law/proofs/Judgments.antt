@@ -246,7 +246,7 @@ mutual
         );
       }
 
--- by the law of specifiers, which casts hold
+-- by the law of the specifiers that casts hold
 pub expressions_by : SpecifiersAreSound → ExpressionsAreSound
 expressions_by spec n env structs a h ok z =
     let r = law spec n env structs a h ok z in
