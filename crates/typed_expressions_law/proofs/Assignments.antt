@@ -1,13 +1,10 @@
 -- Assignments without a fault are sound values.
-use Rattle.std.proofs.Common.{◌≡◌, ◌∙◌, ◌≤◌, ℕ, refl, ap, sym, subst, List, [], ◌∷◌, ◌++◌, Bool, true, false, Option, Some, None, length, if◌then◌else◌, is_some}
-use Rattle.std.specs.Prelude.{⊤, IsTrue, ◌&&◌, ◌||◌, not}
+use Rattle.std.proofs.Common.{◌≡◌, ◌∙◌, ◌≤◌, ℕ, refl, ap, sym, subst, [], Bool, true, false, Option, Some, None, length, if◌then◌else◌, is_some}
+use Rattle.std.specs.Prelude.{IsTrue, ◌&&◌, ◌||◌, not}
 use Rattle.pt_base.specs.declared.span.Span.{Span}
-use Rattle.pt_base.specs.IntTypes.{usual, promoted}
-use Rattle.pt_base.specs.declared.int_type.IntType.{IntType}
-use Rattle.pt_base.specs.declared.int_type.IntType.TheVariants as int
+use Rattle.pt_base.specs.IntTypes.{promoted}
 use Rattle.pt_tree.specs.declared.operator.BinaryOp.{BinaryOp}
 use Rattle.pt_tree.specs.declared.operator.BinaryOp.TheVariants.{LogicalOr, LogicalAnd, BitOr, BitXor, BitAnd, Equal, NotEqual, Less, Greater, LessEqual, GreaterEqual, ShiftLeft, ShiftRight, Add, Subtract, Multiply, Divide, Remainder}
-use Rattle.pt_tree.specs.declared.signature.Elem.{Elem}
 use Rattle.type_rules.specs.declared.types.Type.{«Type»}
 use Rattle.type_rules.specs.declared.types.Type.TheVariants.{Bad, Void, Int, Struct, Array, Pointer}
 use Rattle.type_rules.specs.declared.types.Value.{Value}
@@ -15,40 +12,32 @@ use Rattle.type_rules.specs.declared.operators.Rule.{Rule}
 use Rattle.type_rules.specs.declared.operators.Rule.TheVariants as rule
 use Rattle.type_rules.specs.Conversions.{fit_rule, is_wrong, compound_rule}
 use Rattle.type_rules.specs.Operators.{binary_rule, rule_type, at_right}
-use Rattle.type_rules.specs.Types.{is_bad, is_integer, value_type}
-use Rattle.typed_tree.specs.declared.types.VarTy.{VarTy}
+use Rattle.type_rules.specs.Types.{is_bad, value_type}
 use Rattle.typed_tree.specs.declared.types.VarTy.TheVariants as v
-use Rattle.typed_tree.specs.declared.link.LinkStep.{LinkStep}
-use Rattle.typed_tree.specs.ExpressionTree.{ExprTree, typed}
+use Rattle.typed_tree.specs.ExpressionTree.{ExprTree}
 use Rattle.typed_tree.specs.TypeTests as test
 use Rattle.typed_tree.specs.TypeRules.{stepped, promoted_value, converts, is_compound, is_comparison}
-use Rattle.typed_tree.specs.WellFormedExpression.{Names, is_typed, ty_of, is_elem, place_fits, place_type, is_object, assigned_type}
+use Rattle.typed_tree.specs.WellFormedExpression.{Names, is_typed, ty_of, place_fits, place_type, is_object, assigned_type}
 use Rattle.declared_types.specs.declared.fault.FaultKind.{FaultKind}
-use Rattle.declared_types.specs.declared.fault.FaultKind.TheVariants.{WrongType}
 use Rattle.declared_types.specs.Faults.{fault_if}
 use Rattle.declared_types.specs.Objects.{is_struct}
 use Rattle.declared_types.specs.Structs.{Structs, has_const}
-use Rattle.typed_expressions.specs.Assignments.{misfits, stored_tree, stored_by, stored, is_compounding, operator_rule, step_rule_of, is_refused, object_value, compound_tree, compounded_by, compounded, assigned}
+use Rattle.typed_expressions.specs.Assignments.{misfits, stored_tree, stored_by, stored, is_compounding, operator_rule, step_rule_of, is_refused, compound_tree, compounded_by, compounded, assigned}
 use Rattle.typed_expressions.specs.Conversions.{as_type}
 use Rattle.typed_expressions.specs.Links.{integer_op, step_of, converted_by, rule_faults, logical_of, link_type}
 use Rattle.typed_expressions.specs.Operands.{Known, var_type, place_of, value_of, value_tree, plain}
 use Rattle.typed_expressions.specs.Targets.{optional_fault, object_fault, target_fault_of, target_fault}
 use Rattle.declared_types_law.specs.Types.{is_good, is_variable}
 use Rattle.typed_expressions_law.specs.Laws.{SoundValue, Fitted}
-use Rattle.typed_expressions_law.proofs.Lists.{both, none_left, none_right, true≢false}
-use Rattle.typed_expressions_law.proofs.SameTypes.{same_types-self, same_types-equal, same_elem-self, usual-promoted-left, promoted-promoted}
+use Rattle.typed_expressions_law.proofs.Lists.{both, true≢false}
+use Rattle.typed_expressions_law.proofs.SameTypes.{same_types-equal, same_elem-self, usual-promoted-left}
 use Rattle.typed_expressions_law.proofs.Fits.{values_fit}
-use Rattle.typed_expressions_law.proofs.Known.{SoundKnown, SoundPlace, plain_sound, value_sound, place_sound, designated_variable, good-variable}
+use Rattle.typed_expressions_law.proofs.Known.{SoundKnown, plain_sound, value_sound, place_sound, designated_variable, good-variable}
 use Rattle.typed_expressions_law.proofs.Links.{no_struct}
 use Rattle.typed_expressions_law.proofs.Outcomes.{good_known, neither, val, Outcome, numbers, truths, shifts, moves, moves_by, differs, compares, null_right, null_left, binary_outcome}
-use Rattle.typed_expressions_law.proofs.Takes.{Takes, numbers_take, shifts_take, moves_take}
+use Rattle.typed_expressions_law.proofs.Takes.{numbers_take, shifts_take, moves_take}
 
 -- ---- what may be written
-
-is_none_fault : (o : Option FaultKind) (s : Span) → optional_fault o s ≡ [] → o ≡ None
-unfolding optional_fault
-is_none_fault None s h = refl
-is_none_fault (Some k) s h = cc
 
 pub if_fault : (b : Bool) (k : FaultKind) (s : Span) → fault_if b k s ≡ [] → b ≡ false
 if_fault true k s h = cc
@@ -146,7 +135,7 @@ stored_by_sound n structs s left right None false k w x below t h e z =
     plain_sound n structs k.ty (stored_tree s k w x)
     (record {
       typed = both (place_fits n (place_of k.tree) && is_object (place_of k.tree)) _ (both (place_fits n (place_of k.tree)) _ p.fits p.written)
-        (both (test.same_types (place_type n (place_of k.tree)) (var_type k.ty) && test.is_value (var_type k.ty)) _
+          (both (test.same_types (place_type n (place_of k.tree)) (var_type k.ty) && test.is_value (var_type k.ty)) _
           (both (test.same_types (place_type n (place_of k.tree)) (var_type k.ty)) _ (same_types-equal _ _ p.has) (is_value_variable structs k.ty p.variable p.whole))
           (both (is_typed n (as_type k.ty w.null x)) _ y.typed (same_types-equal _ _ y.has)));
       has = refl;
@@ -211,7 +200,7 @@ record Compounds (n : Names) (op : BinaryOp) (r : Rule) (s t : «Type») (k : Bo
   back : IsTrue (converts (stepped (promoted_value (var_type s)) (step_of (integer_op op) r) (ty_of (converted_by r (val t k) (val s false) y))) (var_type s))
   kept : is_refused r ≡ false
 
-or_not : (f : Bool) → (not f || f) ≡ true
+pub or_not : (f : Bool) → (not f || f) ≡ true
 or_not true = refl
 or_not false = refl
 
@@ -274,7 +263,7 @@ compound_sound n structs op s k w x r p h e =
     plain_sound n structs k.ty (compound_tree r op s k w x)
     (record {
       typed = both (place_fits n (place_of k.tree) && is_object (place_of k.tree)) _ (both (place_fits n (place_of k.tree)) _ p.fits p.written)
-        (both (test.same_types (place_type n (place_of k.tree)) (var_type k.ty)) _ (same_types-equal _ _ p.has)
+          (both (test.same_types (place_type n (place_of k.tree)) (var_type k.ty)) _ (same_types-equal _ _ p.has)
           (both (is_typed n (converted_by r w (val k.ty false) x)) _ h.typed (both (is_compound (step_of (integer_op op) r)) _ h.step h.back)));
       has = refl;
     })

@@ -1,21 +1,18 @@
 -- Calls without a fault: each argument fits its parameter, and the result is the function's.
-use Rattle.std.proofs.Common.{◌≡◌, ◌∙◌, ◌≤◌, ◌<◌, ◌+◌, ℕ, zero, suc, refl, ap, sym, subst, List, [], ◌∷◌, ◌++◌, Bool, true, false, Option, Some, None, length, map, arith}
-use Rattle.std.specs.Prelude.{⊤, IsTrue, ◌&&◌, not, slice_get, option_map, nat_lt, nat_eq, codes, if◌then◌else◌}
+use Rattle.std.proofs.Common.{◌≡◌, ◌∙◌, ◌≤◌, ◌+◌, ℕ, suc, refl, ap, sym, subst, List, [], ◌∷◌, Bool, true, false, Option, Some, None, length, map, arith}
+use Rattle.std.specs.Prelude.{⊤, IsTrue, not, slice_get, option_map, nat_lt, nat_eq, codes, if◌then◌else◌}
 use Rattle.std.specs.List.{list_all}
 use Rattle.std.specs.Str.{bytes_eq}
-use Rattle.std.proofs.lemmas.Bool.Decides.{nat_tests}
 use Rattle.pt_base.specs.declared.span.Span.{Span}
 use Rattle.pt_base.specs.declared.ids.FnId.{FnId}
 use Rattle.pt_tree.specs.declared.signature.Param.{Param}
-use Rattle.pt_tree.specs.declared.signature.Signature.{Signature}
 use Rattle.type_rules.specs.declared.types.Type.{«Type»}
 use Rattle.type_rules.specs.declared.types.Type.TheVariants.{Bad, Void, Int, Struct, Array, Pointer}
 use Rattle.type_rules.specs.declared.types.Value.{Value}
 use Rattle.type_rules.specs.Conversions.{fit_rule, is_wrong}
 use Rattle.type_rules.specs.Types.{is_bad, value_type}
-use Rattle.typed_tree.specs.declared.types.VarTy.{VarTy}
 use Rattle.typed_tree.specs.declared.types.VarTy.TheVariants as v
-use Rattle.typed_tree.specs.ExpressionTree.{ExprTree, typed, call, no_exprs, expr_and, expr_trees}
+use Rattle.typed_tree.specs.ExpressionTree.{ExprTree, expr_trees}
 use Rattle.typed_tree.specs.TypeTests as test
 use Rattle.typed_tree.specs.WellFormedExpression.{Names, is_typed, ty_of, is_elem, param_type, arguments_fit, all_typed, call_fits}
 use Rattle.typed_tree.specs.WellFormedExpression as w
@@ -24,8 +21,7 @@ use Rattle.declared_types.specs.Faults.{fault_at, fault_if}
 use Rattle.declared_types.specs.Objects.{is_struct}
 use Rattle.declared_types.specs.Structs.{Structs}
 use Rattle.typed_expressions.specs.declared.meaning.Callable.{Callable}
-use Rattle.typed_expressions.specs.Conversions.{as_type}
-use Rattle.typed_expressions.specs.Environment.{Env, function_at}
+use Rattle.typed_expressions.specs.Environment.{Env}
 use Rattle.typed_expressions.specs.Operands.{var_type, plain, fine, refused}
 use Rattle.typed_expressions.specs.Postfixes.{is_main, function_params, params_of, params_for, argument_tree, argument_faults, call_tree, call_of, called_function, called_other, called}
 use Rattle.declared_types_law.specs.Types.{is_good, is_variable, is_parameter, is_result}
@@ -139,8 +135,8 @@ call_typed n structs c f s trees h m l p =
     let a = all_fit n h.signature.params c.params trees h.takes l p in
     let named : w.is_main h.signature ≡ false = ap (λ x. bytes_eq x (codes "main")) h.name ∙ m in
     let fits : IsTrue (call_fits (Some h.signature) (expr_trees trees) (var_type c.result)) =
-        both (not (w.is_main h.signature)) _ (ap not named)
-          (both (arguments_fit h.signature.params (expr_trees trees)) _ a.fit (same_types-equal (var_type c.result) (option_map v.Int h.signature.result) (sym h.gives))) in
+    both (not (w.is_main h.signature)) _ (ap not named)
+    (both (arguments_fit h.signature.params (expr_trees trees)) _ a.fit (same_types-equal (var_type c.result) (option_map v.Int h.signature.result) (sym h.gives))) in
     plain_sound n structs c.result (call_tree s c.result f trees)
     (record { typed = both (all_typed n (expr_trees trees)) _ a.typed (ap (λ o. call_fits o (expr_trees trees) (var_type c.result)) h.is ∙ fits); has = refl })
     (result_good structs c.result h.result) (result_whole c.result h.result) (λ k. result_plain c.result h.result k)

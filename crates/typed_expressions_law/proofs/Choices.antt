@@ -1,35 +1,33 @@
 -- A choice without a fault is a sound value.
-use Rattle.std.proofs.Common.{◌≡◌, ◌∙◌, ◌≤◌, ℕ, refl, ap, sym, subst, List, [], ◌∷◌, ◌++◌, Bool, true, false, Option, Some, None, length, if◌then◌else◌}
+use Rattle.std.proofs.Common.{◌≡◌, ◌≤◌, ℕ, refl, sym, subst, [], Bool, true, false, length, if◌then◌else◌}
 use Rattle.std.specs.Prelude.{⊤, IsTrue, ◌&&◌, ◌||◌, not}
 use Rattle.pt_base.specs.declared.span.Span.{Span}
 use Rattle.pt_base.specs.IntTypes.{usual}
-use Rattle.pt_tree.specs.declared.signature.Elem.{Elem}
 use Rattle.type_rules.specs.declared.types.Type.{«Type»}
 use Rattle.type_rules.specs.declared.types.Type.TheVariants.{Bad, Void, Int, Struct, Array, Pointer}
 use Rattle.type_rules.specs.declared.types.Value.{Value}
 use Rattle.type_rules.specs.declared.conversions.ChoiceRule.{ChoiceRule}
 use Rattle.type_rules.specs.declared.conversions.ChoiceRule.TheVariants as arms
-use Rattle.type_rules.specs.declared.conversions.ConditionRule.{ConditionRule}
 use Rattle.type_rules.specs.declared.conversions.ConditionRule.TheVariants as condition
 use Rattle.type_rules.specs.Conversions.{choice_rule, condition_rule, joined}
 use Rattle.type_rules.specs.Types.{is_bad, is_integer, is_scalar, is_same_elem, value_type}
 use Rattle.type_rules.proofs.TypeLemmas.{is_same_elem-self}
-use Rattle.typed_tree.specs.ExpressionTree.{ExprTree, typed}
+use Rattle.typed_tree.specs.ExpressionTree.{ExprTree}
 use Rattle.typed_tree.specs.TypeTests as test
 use Rattle.typed_tree.specs.TypeRules.{is_arm}
-use Rattle.typed_tree.specs.WellFormedExpression.{Names, is_typed, ty_of, is_elem}
+use Rattle.typed_tree.specs.WellFormedExpression.{Names, is_typed, ty_of}
 use Rattle.declared_types.specs.Objects.{is_struct}
 use Rattle.typed_expressions.specs.Choices.{Placed, value_at, tree_at, arm_tree, choice_tree, chosen_by, chosen_when, chosen}
-use Rattle.typed_expressions.specs.Conversions.{as_type, to_pointer}
-use Rattle.typed_expressions.specs.Operands.{var_type, value_of, value_tree, plain}
+use Rattle.typed_expressions.specs.Conversions.{as_type}
+use Rattle.typed_expressions.specs.Operands.{var_type, plain}
 use Rattle.declared_types_law.specs.Types.{is_good}
 use Rattle.typed_expressions_law.specs.Laws.{SoundValue, Fitted}
 use Rattle.typed_expressions_law.proofs.Lists.{both}
-use Rattle.typed_expressions_law.proofs.SameTypes.{same_types-self, same_types-equal, usual-promoted, elem-more}
+use Rattle.typed_expressions_law.proofs.SameTypes.{same_types-equal, usual-promoted, elem-more}
 use Rattle.typed_expressions_law.proofs.Fits.{int_fits, pointer_fits, null_fits}
 use Rattle.typed_expressions_law.proofs.Known.{SoundKnown, plain_sound, value_sound}
-use Rattle.typed_expressions_law.proofs.Links.{no_struct}
-use Rattle.typed_expressions_law.proofs.Outcomes.{good_known, neither, val}
+use Rattle.typed_expressions_law.proofs.Links.{no_struct, scalar_has}
+use Rattle.typed_expressions_law.proofs.Outcomes.{good_known, neither}
 
 -- the arms as values of their common type
 pub record Arms (n : Names) (structs : ℕ) (ty : «Type») (m k : Bool) (x y : ExprTree) : Type 0 where
@@ -59,13 +57,6 @@ or_right false false = refl
 or_self : (f : Bool) → (f || not f) ≡ true
 or_self true = refl
 or_self false = refl
-
-
-
-
-void_kept : (n : Names) (m : Bool) (x : ExprTree) → Fitted n Void x → Fitted n Void (as_type Void m x)
-unfolding as_type
-void_kept n m x h = h
 
 joined_fits : (n : Names) (structs : ℕ) (s t : «Type») (m k : Bool) (x y : ExprTree) → structs ≤ length n.structs → IsTrue (is_good structs s) → IsTrue (is_good structs t) → (m ≡ true → is_integer s ≡ true) → (k ≡ true → is_integer t ≡ true) → Fitted n s x → Fitted n t y → JoinedFits n structs (joined s m t k) m k x y
 unfolding as_type var_type
@@ -126,11 +117,11 @@ gives_sound n structs s ty one first last g c h =
     plain_sound n structs ty (choice_tree s ty one first last)
     (record {
       typed = both (is_typed n (tree_at one) && test.is_scalar (ty_of (tree_at one))) _ (both (is_typed n (tree_at one)) _ g c)
-        (both (is_typed n (arm_tree ty first) && test.same_types (ty_of (arm_tree ty first)) (var_type ty)) _
+          (both (is_typed n (arm_tree ty first) && test.same_types (ty_of (arm_tree ty first)) (var_type ty)) _
           (both (is_typed n (arm_tree ty first)) _ h.first.typed (same_types-equal _ _ h.first.has))
           (both (is_typed n (arm_tree ty last) && test.same_types (ty_of (arm_tree ty last)) (var_type ty)) _
-            (both (is_typed n (arm_tree ty last)) _ h.last.typed (same_types-equal _ _ h.last.has))
-            h.arm));
+          (both (is_typed n (arm_tree ty last)) _ h.last.typed (same_types-equal _ _ h.last.has))
+          h.arm));
       has = refl;
     })
     h.good h.whole (λ k. no_struct ty h.plain k)
@@ -149,22 +140,13 @@ wrong_faults n structs arms.Wrong s one first last h k = cc
 wrong_faults n structs arms.Structs s one first last h k = cc
 wrong_faults n structs (arms.Gives ty) s one first last h k = cc
 
-scalar_tree : (t : «Type») (x : ExprTree) → is_scalar t ≡ true → ty_of x ≡ var_type t → IsTrue (test.is_scalar (ty_of x))
-unfolding var_type
-scalar_tree Bad x s h = cc
-scalar_tree Void x s h = cc
-scalar_tree (Int t) x s h = ap test.is_scalar h
-scalar_tree (Struct m) x s h = cc
-scalar_tree (Array e c) x s h = cc
-scalar_tree (Pointer e f) x s h = ap test.is_scalar h
-
 when_sound : (n : Names) (structs : ℕ) (r : ChoiceRule) (s : Span) (one first last : Placed) → SoundValue n structs (value_at one) (tree_at one) → JoinedFits n structs r (value_at first).null (value_at last).null (tree_at first) (tree_at last) → (chosen_when (condition_rule (value_at one)) r s one first last).faults ≡ [] → SoundKnown n structs (chosen_when (condition_rule (value_at one)) r s one first last).operand
 unfolding condition_rule chosen_when
 when_sound n structs r s one first last g h k = by_test (is_bad (value_at one).ty) (is_scalar (value_at one).ty) (good_known structs (value_at one).ty g.good) refl k
   where
     by_test : (b c : Bool) → b ≡ false → is_scalar (value_at one).ty ≡ c → (chosen_when (if b then condition.Unknown else if c then condition.Good else condition.Wrong) r s one first last).faults ≡ [] → SoundKnown n structs (chosen_when (if b then condition.Unknown else if c then condition.Good else condition.Wrong) r s one first last).operand
     by_test true c e f z = cc
-    by_test false true e f z = by_sound n structs r s one first last g.typed (scalar_tree (value_at one).ty (tree_at one) f g.has) h z
+    by_test false true e f z = by_sound n structs r s one first last g.typed (scalar_has (value_at one).ty (tree_at one) f g.has) h z
     by_test false false e f z = wrong_faults n structs r s one first last h z
 
 pub chosen_sound : (n : Names) (structs : ℕ) (s : Span) (one first last : Placed) → structs ≤ length n.structs → SoundKnown n structs one.known → SoundKnown n structs first.known → SoundKnown n structs last.known → (chosen s one first last).faults ≡ [] → SoundKnown n structs (chosen s one first last).operand

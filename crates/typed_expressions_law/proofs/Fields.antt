@@ -1,14 +1,11 @@
 -- The fields of the judged structs are those of the typed tree's structs.
-use Rattle.std.proofs.Common.{◌≡◌, ◌∙◌, ◌≤◌, ◌<◌, ◌+◌, ℕ, zero, suc, refl, ap, sym, subst, List, [], ◌∷◌, ◌++◌, Bool, true, false, Option, Some, None, length, map, arith}
-use Rattle.std.specs.Prelude.{IsTrue, ◌&&◌, slice_get, option_map, option_and_then, unwrap_or, nat_lt, nat_le}
-use Rattle.std.specs.List.{list_all}
+use Rattle.std.proofs.Common.{◌≡◌, ◌∙◌, ◌≤◌, ◌<◌, ◌+◌, ℕ, zero, suc, refl, ap, subst, List, [], ◌∷◌, ◌++◌, Option, Some, None, length, arith}
+use Rattle.std.specs.Prelude.{IsTrue, slice_get, option_map, option_and_then, nat_lt, nat_le}
 use Rattle.std.proofs.lemmas.Bool.Decides.{nat_tests}
 use Rattle.std.proofs.lemmas.List.{length-append, length-map}
 use Rattle.std.proofs.lemmas.Option.{slice_get-map, slice_get_within}
-use Rattle.pt_base.specs.declared.int_type.IntType.TheVariants as int
 use Rattle.type_rules.specs.declared.types.Type.{«Type»}
 use Rattle.type_rules.specs.declared.types.Type.TheVariants.{Bad, Void, Int, Struct, Array, Pointer}
-use Rattle.typed_tree.specs.declared.types.VarTy.{VarTy}
 use Rattle.typed_tree.specs.declared.types.VarTy.TheVariants as v
 use Rattle.typed_tree.specs.declared.types.Field.{Field}
 use Rattle.typed_tree.specs.declared.types.StructInfo.{StructInfo}
@@ -19,7 +16,7 @@ use Rattle.declared_types.specs.declared.structs.FieldEntry.{FieldEntry}
 use Rattle.declared_types.specs.declared.structs.FoundField.{FoundField}
 use Rattle.declared_types.specs.declared.structs.StructEntry.{StructEntry}
 use Rattle.declared_types.specs.NameTables.{number_of, value_at, values}
-use Rattle.declared_types.specs.Structs.{Fields, Structs, found_in, fields_of, field_named}
+use Rattle.declared_types.specs.Structs.{Fields, Structs, found_in, field_named}
 use Rattle.typed_expressions.specs.Operands.{var_type}
 use Rattle.typed_expressions.specs.StructInfos.{object_type_of, field_info, struct_info, infos_of}
 use Rattle.declared_types_law.specs.Types.{is_plain, is_variable}
@@ -123,8 +120,7 @@ fields_agree n structs more h is m name f found =
     let plain = field_plain structs m f more h p in
     let info : slice_get (infos_of (structs ++ more)) m ≡ Some (struct_info p.entry) = slice_get-map struct_info (structs ++ more) m ∙ ap (option_map struct_info) (get-left structs more m p.entry p.at) in
     let field : slice_get (struct_info p.entry).fields f.number ≡ Some (field_info (p.name, f.entry)) = slice_get-map field_info p.entry.1.fields f.number ∙ ap (option_map field_info) p.field in
-    let within : m < length structs = slice_get_within structs m p.entry p.at in
-    (
+    let within : m < length structs = slice_get_within structs m p.entry p.at in (
       ap (λ ss. field_type ss (Some (v.Struct m)) f.number) is ∙ type_in (infos_of (structs ++ more)) m f.number (struct_info p.entry) (field_info (p.name, f.entry)) info field ∙ plain_type m f.entry.ty plain,
       plain_variable m (length structs) f.entry.ty (omega arith) plain,
     )

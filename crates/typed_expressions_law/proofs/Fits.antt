@@ -1,13 +1,11 @@
 -- What a conversion makes of a well formed tree is one of the type that it converts to.
-use Rattle.std.proofs.Common.{◌≡◌, ◌∙◌, ◌≤◌, ℕ, nat_eq, refl, ap, sym, subst, Bool, true, false, Option, Some, None, length, if◌then◌else◌}
+use Rattle.std.proofs.Common.{◌≡◌, ◌≤◌, ℕ, nat_eq, refl, ap, sym, subst, Bool, true, false, Option, Some, length, if◌then◌else◌}
 use Rattle.std.specs.Prelude.{IsTrue, ◌&&◌, ◌||◌, not}
 use Rattle.pt_base.specs.IntTypes.{promoted}
 use Rattle.pt_base.specs.declared.int_type.IntType.{IntType}
 use Rattle.pt_tree.specs.declared.signature.Elem.{Elem}
 use Rattle.type_rules.specs.declared.types.Type.{«Type»}
 use Rattle.type_rules.specs.declared.types.Type.TheVariants.{Bad, Void, Int, Struct, Array, Pointer}
-use Rattle.type_rules.specs.declared.types.Value.{Value}
-use Rattle.type_rules.specs.declared.conversions.Fit.{Fit}
 use Rattle.type_rules.specs.declared.conversions.Fit.TheVariants as fit
 use Rattle.type_rules.specs.Types.{is_same_int, is_same_elem, is_integer}
 use Rattle.type_rules.specs.Conversions.{fit_rule, is_wrong}
@@ -19,7 +17,7 @@ use Rattle.typed_tree.specs.WellFormedExpression.{Names, form_fits, is_elem}
 use Rattle.typed_expressions.specs.Conversions.{to_int, to_pointer, to_null, as_type, as_promoted, is_of_int, is_of_pointer, converted}
 use Rattle.typed_expressions.specs.Operands.{var_type}
 use Rattle.declared_types_law.specs.Types.{is_good, is_variable}
-use Rattle.typed_expressions_law.specs.Laws.{SoundValue, Fitted, ValuesFit}
+use Rattle.typed_expressions_law.specs.Laws.{Fitted, ValuesFit}
 use Rattle.typed_expressions_law.proofs.Lists.{both}
 use Rattle.typed_expressions_law.proofs.SameTypes.{same_elem-self, same_number, elem-more}
 

@@ -1,5 +1,5 @@
 -- Expressions without a fault are sound: one case for each form.
-use Rattle.std.proofs.Common.{◌≡◌, ◌∙◌, ◌≤◌, ◌+◌, ℕ, refl, ap, sym, subst, List, [], ◌∷◌, ◌++◌, Bool, true, false, Option, Some, None, length, is_some, inr}
+use Rattle.std.proofs.Common.{◌≡◌, ◌∙◌, ◌≤◌, ◌+◌, ℕ, refl, sym, subst, List, [], ◌∷◌, ◌++◌, Bool, true, false, Option, Some, None, length, is_some, inr}
 use Rattle.std.specs.Prelude.{IsTrue, ◌&&◌, slice_get, nat_lt}
 use Rattle.std.specs.List.{list_all}
 use Rattle.pt_base.specs.declared.span.Span.{Span}
@@ -14,15 +14,15 @@ use Rattle.declared_types.specs.declared.fault.TypeFault.{TypeFault}
 use Rattle.declared_types.specs.Specifiers.{specified}
 use Rattle.declared_types.specs.Structs.{Structs}
 use Rattle.typed_expressions.specs.Environment.{Env}
-use Rattle.typed_expressions.specs.Expressions.{Judged, CastBase, Linked, Arguments, alone, over, cast_specified, headed, postfix_span, judge, judge_links, judge_link, judge_postfixes, judge_postfix, judge_arguments}
-use Rattle.typed_expressions.specs.Links.{SoFar, begun, link_rule, linked, rule_faults, sort_of, chained}
+use Rattle.typed_expressions.specs.Expressions.{Judged, CastBase, Linked, Arguments, cast_specified, headed, postfix_span, judge, judge_links, judge_link, judge_postfixes, judge_postfix, judge_arguments}
+use Rattle.typed_expressions.specs.Links.{SoFar, begun, sort_of}
 use Rattle.typed_expressions.specs.Operands.{Known, faulty, joined, span_of, value_of, value_tree}
-use Rattle.typed_expressions.specs.Postfixes.{argument_tree, argument_faults, function_called, params_for, is_call, is_called}
+use Rattle.typed_expressions.specs.Postfixes.{argument_faults, function_called, params_for, is_call, is_called}
 use Rattle.declared_types_law.specs.Laws.{SpecifiersAreSound}
 use Rattle.declared_types_law.specs.Sound.{SoundStructs}
 use Rattle.declared_types_law.specs.Types.{is_base, is_parameter}
 use Rattle.typed_expressions_law.specs.Agreement.{Agrees}
-use Rattle.typed_expressions_law.specs.Laws.{SoundValue, SoundExpression, ExpressionsAreSound}
+use Rattle.typed_expressions_law.specs.Laws.{ExpressionsAreSound}
 use Rattle.typed_expressions_law.proofs.Lists.{none_left, none_right}
 use Rattle.typed_expressions_law.proofs.Known.{SoundKnown, value_sound}
 use Rattle.typed_expressions_law.proofs.Links as links

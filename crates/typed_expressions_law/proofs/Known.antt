@@ -1,6 +1,6 @@
 -- Which knowledge of an expression is sound, and that its value and its place then are.
-use Rattle.std.proofs.Common.{◌≡◌, ◌∙◌, ◌≤◌, ℕ, refl, ap, sym, subst, List, [], ◌∷◌, ◌++◌, Bool, true, false, Option, Some, None, length}
-use Rattle.std.specs.Prelude.{IsTrue, ◌&&◌, option_map}
+use Rattle.std.proofs.Common.{◌≡◌, ◌∙◌, ℕ, refl, ap, sym, subst, List, [], ◌∷◌, ◌++◌, Bool, true, false, Some}
+use Rattle.std.specs.Prelude.{IsTrue, option_map}
 use Rattle.pt_base.specs.declared.span.Span.{Span}
 use Rattle.pt_base.specs.declared.int_type.IntType.{IntType}
 use Rattle.pt_tree.specs.declared.signature.Elem.{Elem}
@@ -8,19 +8,17 @@ use Rattle.pt_tree.specs.declared.signature.Elem.TheVariants as elem
 use Rattle.type_rules.specs.declared.types.Type.{«Type»}
 use Rattle.type_rules.specs.declared.types.Type.TheVariants.{Bad, Void, Int, Struct, Array, Pointer}
 use Rattle.type_rules.specs.Types.{is_integer, elem_type, value_type}
-use Rattle.typed_tree.specs.declared.types.VarTy.{VarTy}
 use Rattle.typed_tree.specs.declared.types.VarTy.TheVariants as v
-use Rattle.typed_tree.specs.ExpressionTree.{ExprTree, typed, StepTree, item, step_trees, no_steps, step_and, RootTree, deref, PlaceTree, place, read, decay}
-use Rattle.typed_tree.specs.ExpressionTree as tree
-use Rattle.typed_tree.specs.TypeTests.{same_types, both_elem, item_of, is_value, integer_of, pointee_of, type_of_elem}
-use Rattle.typed_tree.specs.WellFormedExpression.{Names, is_typed, ty_of, is_elem, place_fits, place_type, is_object, is_named, ends_in_field, assigned_type, root_fits, root_type, steps_fit, steps_type, step_type, item_type}
+use Rattle.typed_tree.specs.ExpressionTree.{ExprTree, typed, StepTree, item, step_trees, no_steps, RootTree, deref, PlaceTree, place}
+use Rattle.typed_tree.specs.TypeTests.{same_types, both_elem, item_of, integer_of, pointee_of, type_of_elem}
+use Rattle.typed_tree.specs.WellFormedExpression.{Names, is_typed, ty_of, is_elem, place_fits, place_type, is_object, is_named, ends_in_field, assigned_type, root_fits, root_type, item_type}
 use Rattle.typed_tree.proofs.WellFormedLemmas.{and_left, and_right}
 use Rattle.declared_types.specs.Objects.{is_struct}
-use Rattle.typed_expressions.specs.Operands.{Elaboration, value, object, pointed, moved, element, Known, Made, var_type, root_of, steps_of, place_of, read_form, read_object, read_tree, value_tree, value_of, plain}
+use Rattle.typed_expressions.specs.Operands.{Elaboration, value, object, pointed, moved, element, Known, var_type, root_of, steps_of, place_of, read_form, read_object, read_tree, value_tree, value_of, plain}
 use Rattle.declared_types_law.specs.Types.{is_good, is_variable}
 use Rattle.typed_expressions_law.specs.Laws.{SoundValue, Fitted}
 use Rattle.typed_expressions_law.proofs.Lists.{both, true≢false}
-use Rattle.typed_expressions_law.proofs.SameTypes.{same_elem-self, same_types-self, same_types-equal}
+use Rattle.typed_expressions_law.proofs.SameTypes.{same_elem-self, same_types-equal}
 use Rattle.typed_expressions_law.proofs.Steps.{steps_fit-last, steps_type-last, element_is_object}
 
 -- a place of an object of this type
@@ -192,6 +190,3 @@ value_sound n structs s k h =
 
 pub plain_sound : (n : Names) (structs : ℕ) (ty : «Type») (x : ExprTree) → Fitted n ty x → IsTrue (is_good structs ty) → value_type ty false ≡ ty → (is_struct ty ≡ true → assigned_type x ≡ var_type ty) → SoundKnown n structs (plain ty x)
 plain_sound n structs ty x h good whole stored = record { tree = record { fits = h; good = good; whole = whole; none = refl; stored = stored }; null = λ e. cc }
-
-pub fitted_of : (n : Names) (structs : ℕ) (k : Known) (s : Span) → SoundKnown n structs k → Fitted n (value_of k).ty (value_tree s k)
-fitted_of n structs k s h = let w = value_sound n structs s k h in record { typed = w.typed; has = w.has }

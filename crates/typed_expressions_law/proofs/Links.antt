@@ -1,34 +1,31 @@
 -- Chains of operators: each link leaves the chain so far sound, and a whole chain is a sound value.
-use Rattle.std.proofs.Common.{◌≡◌, ◌∙◌, ◌≤◌, ◌⊎◌, inl, inr, ℕ, refl, ap, sym, subst, List, [], ◌∷◌, ◌++◌, Bool, true, false, Option, Some, None, length, if◌then◌else◌, map, is_some, arith}
-use Rattle.std.specs.Prelude.{IsTrue, ◌&&◌, ◌||◌, not, nat_eq}
+use Rattle.std.proofs.Common.{◌≡◌, ◌∙◌, ◌≤◌, ◌⊎◌, inl, inr, ℕ, refl, ap, sym, subst, List, [], ◌∷◌, ◌++◌, Bool, true, false, Option, Some, None, length, map, is_some, arith}
+use Rattle.std.specs.Prelude.{IsTrue, ◌&&◌}
 use Rattle.std.proofs.lemmas.Bool.Decides.{nat_tests}
-use Rattle.std.proofs.lemmas.List.{length-append}
 use Rattle.pt_base.specs.declared.span.Span.{Span}
 use Rattle.pt_base.specs.declared.int_type.IntType.TheVariants as int
 use Rattle.pt_tree.specs.declared.operator.BinaryOp.{BinaryOp}
-use Rattle.pt_tree.specs.declared.signature.Elem.{Elem}
 use Rattle.type_rules.specs.declared.types.Type.{«Type»}
 use Rattle.type_rules.specs.declared.types.Type.TheVariants.{Bad, Void, Int, Struct, Array, Pointer}
 use Rattle.type_rules.specs.declared.types.Value.{Value}
 use Rattle.type_rules.specs.declared.operators.Rule.{Rule}
 use Rattle.type_rules.specs.declared.operators.Rule.TheVariants as rule
-use Rattle.type_rules.specs.Types.{is_scalar, is_bad, is_integer, value_type}
+use Rattle.type_rules.specs.Types.{is_scalar, is_bad, value_type}
 use Rattle.type_rules.specs.Operators.{rule_type, binary_rule}
 use Rattle.typed_tree.specs.declared.link.LogicalOp.{LogicalOp}
 use Rattle.typed_tree.specs.declared.types.VarTy.{VarTy}
-use Rattle.typed_tree.specs.declared.types.VarTy.TheVariants as v
-use Rattle.typed_tree.specs.ExpressionTree.{ExprTree, typed, chain, LinkTree, link, link_trees, OperandTree, operand, operand_trees}
+use Rattle.typed_tree.specs.ExpressionTree.{ExprTree, LinkTree, link, link_trees, operand_trees}
 use Rattle.typed_tree.specs.TypeTests as test
-use Rattle.typed_tree.specs.TypeRules.{stepped, is_promoted}
-use Rattle.typed_tree.specs.WellFormedExpression.{Names, is_typed, ty_of, is_elem, links_fit, has_links, operands_fit, has_operands}
+use Rattle.typed_tree.specs.TypeRules.{stepped}
+use Rattle.typed_tree.specs.WellFormedExpression.{Names, is_typed, ty_of, links_fit, has_links, operands_fit, has_operands}
 use Rattle.typed_tree.proofs.WellFormedLemmas.{and_left, and_right}
 use Rattle.declared_types.specs.Objects.{is_struct}
 use Rattle.typed_expressions.specs.Links.{SoFar, integer_op, logical_of, step_of, converted_by, rule_faults, link_rule, begun, link_type, has_none, first_by, linked, operand_of, links_tree, chained}
-use Rattle.typed_expressions.specs.Operands.{Known, var_type, value_of, value_tree, plain}
+use Rattle.typed_expressions.specs.Operands.{Known, var_type, plain}
 use Rattle.declared_types_law.specs.Types.{is_good}
-use Rattle.typed_expressions_law.specs.Laws.{SoundValue, Fitted}
-use Rattle.typed_expressions_law.proofs.Lists.{both, none_left}
-use Rattle.typed_expressions_law.proofs.SameTypes.{same_types-self, same_types-equal}
+use Rattle.typed_expressions_law.specs.Laws.{SoundValue}
+use Rattle.typed_expressions_law.proofs.Lists.{both}
+use Rattle.typed_expressions_law.proofs.SameTypes.{same_types-equal}
 use Rattle.typed_expressions_law.proofs.Known.{SoundKnown, plain_sound, value_sound}
 use Rattle.typed_expressions_law.proofs.Outcomes.{good_known, binary_outcome, logical_outcome, of_sort}
 use Rattle.typed_expressions_law.proofs.Takes.{is_ready, Takes, First, first_takes, later_takes}
@@ -66,11 +63,6 @@ some-operands : (ls : List LinkTree) → has_none ls ≡ false → has_operands 
 unfolding has_none operand_of
 some-operands [] h = cc
 some-operands (link s ty op b ∷ rest) h = refl
-
-none-first : (ls : List LinkTree) → has_none ls ≡ true → ls ≡ []
-unfolding has_none
-none-first [] h = refl
-none-first (a ∷ rest) h = absurd (grind (arith, nat_tests))
 
 -- ---- a chain so far
 
@@ -151,7 +143,7 @@ number_linked n structs op sp far w y l q below (inr a) s o h =
 
 -- ---- one link of && or ||
 
-scalar_has : (t : «Type») (x : ExprTree) → is_scalar t ≡ true → ty_of x ≡ var_type t → IsTrue (test.is_scalar (ty_of x))
+pub scalar_has : (t : «Type») (x : ExprTree) → is_scalar t ≡ true → ty_of x ≡ var_type t → IsTrue (test.is_scalar (ty_of x))
 unfolding var_type
 scalar_has Bad x s h = cc
 scalar_has Void x s h = cc
@@ -233,8 +225,8 @@ truths_sound n structs op s far h =
     let x : «Type» → ExprTree = λ t. links_tree (Some op) s (var_type t) far.first far.links in
     subst (λ (t : «Type»). SoundKnown n structs (plain t (x t))) (sym h.truth)
     (plain_sound n structs (Int int.Int) (x (Int int.Int))
-      (record { typed = both (is_typed n far.first && test.is_scalar (ty_of far.first)) _ (both (is_typed n far.first) _ h.typed h.scalar) (both (has_operands (operand_trees (map operand_of far.links)) && operands_fit n (operand_trees (map operand_of far.links))) true (both (has_operands (operand_trees (map operand_of far.links))) _ (some-operands far.links h.some) h.operands) refl); has = refl })
-      refl refl (λ k. cc))
+    (record { typed = both (is_typed n far.first && test.is_scalar (ty_of far.first)) _ (both (is_typed n far.first) _ h.typed h.scalar) (both (has_operands (operand_trees (map operand_of far.links)) && operands_fit n (operand_trees (map operand_of far.links))) true (both (has_operands (operand_trees (map operand_of far.links))) _ (some-operands far.links h.some) h.operands) refl); has = refl })
+    refl refl (λ k. cc))
 
 whole_sound : (n : Names) (structs : ℕ) (op : Option LogicalOp) (s : Span) (far : SoFar) → Under n structs (is_some op) far → SoundKnown n structs (plain far.value.ty (links_tree op s (var_type far.value.ty) far.first far.links))
 whole_sound n structs None s far h = going_sound n structs s far h

@@ -1,6 +1,5 @@
 -- Pointers that are moved by an integer, on either side.
-use Rattle.std.proofs.Common.{◌≡◌, ◌∙◌, refl, ap, sym, subst, List, [], ◌∷◌, Bool, true, false, Option, Some, None, if◌then◌else◌, is_some}
-use Rattle.std.specs.Prelude.{IsTrue, ◌&&◌}
+use Rattle.std.proofs.Common.{◌≡◌, ◌∙◌, refl, ap, [], ◌∷◌, Bool, Option, Some}
 use Rattle.pt_base.specs.declared.span.Span.{Span}
 use Rattle.pt_base.specs.declared.int_type.IntType.{IntType}
 use Rattle.pt_tree.specs.declared.signature.Elem.{Elem}

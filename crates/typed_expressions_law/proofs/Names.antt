@@ -1,6 +1,6 @@
 -- Names and constants as expressions, without a fault.
-use Rattle.std.proofs.Common.{◌≡◌, ◌∙◌, ◌≤◌, ◌<◌, ℕ, zero, suc, refl, ap, sym, subst, List, [], ◌∷◌, ◌++◌, Bool, true, false, Option, Some, None, length, map, arith, get_or}
-use Rattle.std.specs.Prelude.{IsTrue, ◌&&◌, slice_get, option_map, option_and_then, nat_lt, All, if◌then◌else◌}
+use Rattle.std.proofs.Common.{◌≡◌, ◌∙◌, ℕ, zero, suc, refl, ap, sym, subst, List, [], ◌∷◌, Bool, true, false, Option, Some, None, length, arith, get_or}
+use Rattle.std.specs.Prelude.{IsTrue, slice_get, option_map, nat_lt, All, if◌then◌else◌}
 use Rattle.std.specs.Option.{option_map_or}
 use Rattle.std.proofs.lemmas.Bool.Decides.{nat_tests}
 use Rattle.std.proofs.lemmas.Option.{slice_get_within, get_or_from_slice_get}
@@ -11,8 +11,6 @@ use Rattle.pt_tree.specs.declared.word.Word.{Word}
 use Rattle.pt_tree.specs.declared.word.Constant.{Constant}
 use Rattle.pt_tree.specs.Facts.{is_sound}
 use Rattle.pt_tree.specs.ExpressionTree as e
-use Rattle.typed_tree.specs.declared.variable.Var.{Var}
-use Rattle.typed_tree.specs.declared.variable.TypedGlobal.{TypedGlobal}
 use Rattle.typed_tree.specs.ExpressionTree.{RootTree, local, global, place, no_steps}
 use Rattle.typed_tree.specs.WellFormedExpression.{Names, root_fits, root_type, is_object, is_named}
 use Rattle.declared_types.specs.NameTables.{number_of, value_at}
@@ -20,8 +18,6 @@ use Rattle.declared_types.specs.Structs.{Structs}
 use Rattle.typed_expressions.specs.declared.meaning.Meaning.{Meaning}
 use Rattle.typed_expressions.specs.declared.meaning.Meaning.TheVariants.{Function, Global, Local}
 use Rattle.typed_expressions.specs.declared.meaning.Object.{Object}
-use Rattle.typed_expressions.specs.declared.meaning.Variable.{Variable}
-use Rattle.typed_expressions.specs.declared.meaning.Callable.{Callable}
 use Rattle.typed_expressions.specs.Environment.{Env, Scope, meaning_at, find_in, or_else, find_through, find, no_object, object_of, global_at, variable_at}
 use Rattle.typed_expressions.specs.Expressions.{meant, named_as, named, literal, an_object}
 use Rattle.typed_expressions.specs.Operands.{var_type}

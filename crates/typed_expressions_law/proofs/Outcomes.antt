@@ -1,6 +1,6 @@
 -- What the two operands of an operator are where its rule has no fault.
-use Rattle.std.proofs.Common.{◌≡◌, ◌∙◌, refl, ap, sym, subst, List, [], ◌∷◌, ◌++◌, Bool, true, false, Option, Some, None, if◌then◌else◌, is_some}
-use Rattle.std.specs.Prelude.{IsTrue, ◌&&◌, ◌||◌, not}
+use Rattle.std.proofs.Common.{◌≡◌, ◌∙◌, refl, ap, sym, subst, [], Bool, true, false, if◌then◌else◌, is_some}
+use Rattle.std.specs.Prelude.{IsTrue, ◌||◌}
 use Rattle.std.proofs.Math.Bool.{beq}
 use Rattle.pt_base.specs.declared.span.Span.{Span}
 use Rattle.pt_base.specs.IntTypes.{promoted, usual}

@@ -1,6 +1,6 @@
 -- What stands behind an operand: elements, parts and calls, without a fault.
-use Rattle.std.proofs.Common.{◌≡◌, ◌∙◌, ◌≤◌, ◌⊎◌, inl, inr, ℕ, refl, ap, sym, subst, List, [], ◌∷◌, ◌++◌, Bool, true, false, Option, Some, None, length, if◌then◌else◌}
-use Rattle.std.specs.Prelude.{IsTrue, ◌&&◌, ◌||◌, not}
+use Rattle.std.proofs.Common.{◌≡◌, ◌∙◌, ◌⊎◌, inl, inr, ℕ, refl, ap, sym, subst, List, [], Bool, true, false, Option, Some, None, length}
+use Rattle.std.specs.Prelude.{IsTrue, ◌||◌}
 use Rattle.pt_base.specs.declared.span.Span.{Span}
 use Rattle.pt_base.specs.declared.int_type.IntType.{IntType}
 use Rattle.pt_tree.specs.declared.signature.Elem.{Elem}
@@ -10,27 +10,24 @@ use Rattle.type_rules.specs.declared.types.Type.{«Type»}
 use Rattle.type_rules.specs.declared.types.Type.TheVariants.{Bad, Void, Int, Struct, Array, Pointer}
 use Rattle.type_rules.specs.declared.operators.Rule.{Rule}
 use Rattle.type_rules.specs.declared.operators.Rule.TheVariants as rule
-use Rattle.type_rules.specs.Types.{is_bad, is_scalar, elem_type, value_type}
+use Rattle.type_rules.specs.Types.{is_bad, is_scalar, value_type}
 use Rattle.type_rules.specs.Operators.{index_rule, subscript}
-use Rattle.typed_tree.specs.declared.types.VarTy.{VarTy}
 use Rattle.typed_tree.specs.declared.types.VarTy.TheVariants as v
 use Rattle.typed_tree.specs.declared.link.LinkStep.TheVariants as link_step
-use Rattle.typed_tree.specs.ExpressionTree.{ExprTree, typed, RootTree, StepTree, field, deref, place, step_trees, no_steps}
-use Rattle.typed_tree.specs.WellFormedExpression.{Names, is_typed, ty_of, is_elem, place_fits, place_type, root_fits, root_type, steps_fit, steps_type, step_type, field_type, is_object, is_named}
+use Rattle.typed_tree.specs.ExpressionTree.{ExprTree, RootTree, StepTree, field, deref, place, step_trees}
+use Rattle.typed_tree.specs.WellFormedExpression.{Names, is_elem, root_fits, root_type, step_type, field_type, is_named}
 use Rattle.typed_tree.proofs.WellFormedLemmas.{and_left, and_right}
-use Rattle.declared_types.specs.declared.fault.FaultKind.TheVariants.{UnknownName}
 use Rattle.declared_types.specs.declared.structs.FoundField.{FoundField}
-use Rattle.declared_types.specs.Objects.{is_struct}
 use Rattle.declared_types.specs.Structs.{Structs, field_named}
 use Rattle.typed_expressions.specs.Links.{link_type, rule_faults}
-use Rattle.typed_expressions.specs.Operands.{Elaboration, value, object, pointed, moved, element, Known, var_type, root_of, steps_of, place_of, value_of, value_tree}
+use Rattle.typed_expressions.specs.Operands.{Elaboration, value, object, pointed, moved, element, Known, var_type, root_of, steps_of, value_of, value_tree}
 use Rattle.typed_expressions.specs.Prefixes.{points_to_const}
 use Rattle.typed_expressions.specs.Postfixes.{pointee, pointee_known, moved_tree, element_tree, index_tree, indexed_by, indexed, part_by, dotted_as, dotted, arrow_as, arrow}
 use Rattle.declared_types_law.specs.Types.{is_good, is_variable}
 use Rattle.typed_expressions_law.specs.Laws.{SoundValue, Fitted}
-use Rattle.typed_expressions_law.proofs.Lists.{both, true≢false}
+use Rattle.typed_expressions_law.proofs.Lists.{both}
 use Rattle.typed_expressions_law.proofs.Steps.{steps_fit-last, steps_type-last, ends-last, field_is_object}
-use Rattle.typed_expressions_law.proofs.Known.{SoundKnown, SoundTree, SoundPlace, SoundPointed, value_sound, place_sound, elem-variable}
+use Rattle.typed_expressions_law.proofs.Known.{SoundKnown, SoundTree, SoundPlace, value_sound, place_sound, elem-variable}
 use Rattle.typed_expressions_law.proofs.Assignments.{good_of}
 use Rattle.typed_expressions_law.proofs.Moves.{move_fits, move_by_fits}
 use Rattle.typed_expressions_law.proofs.Outcomes.{taken, good_known, neither}
@@ -75,12 +72,6 @@ subscripts (Array e b) t l q g h z = cc
 
 pointer_good : (structs : ℕ) (t : «Type») (e : Elem) (f : Bool) → IsTrue (is_good structs t) → t ≡ Pointer e f → IsTrue (is_elem structs (Some e))
 pointer_good structs t e f g h = let P : «Type» → Type 0 = λ u. IsTrue (is_good structs u) in subst P h g
-
-
-
-
-same_pointer : (a b : Elem) (f g : Bool) → Pointer a f ≡ Pointer b g → (a ≡ b) × (f ≡ g)
-same_pointer a b f g h = (cc, cc)
 
 -- a pointer's element
 pointer_moved : (n : Names) (structs : ℕ) (s : Span) (e : Elem) (f : Bool) (b : IntType) (x y : ExprTree) → IsTrue (is_elem structs (Some e)) → Fitted n (Pointer e f) x → Fitted n (Int b) y → SoundKnown n structs (pointee_known (Pointer e f) (moved (moved_tree s (Pointer e f) (link_step.Move false) x y)))

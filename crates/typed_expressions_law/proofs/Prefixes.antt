@@ -1,6 +1,6 @@
 -- Operators before an operand, and casts, without a fault.
-use Rattle.std.proofs.Common.{◌≡◌, ◌∙◌, ◌≤◌, ℕ, refl, ap, sym, subst, List, [], ◌∷◌, ◌++◌, Bool, true, false, Option, Some, None, length, if◌then◌else◌}
-use Rattle.std.specs.Prelude.{IsTrue, ◌&&◌, ◌||◌, not, is_none}
+use Rattle.std.proofs.Common.{◌≡◌, ◌∙◌, ℕ, refl, ap, sym, subst, [], ◌∷◌, Bool, true, false, Option, Some, None, if◌then◌else◌}
+use Rattle.std.specs.Prelude.{IsTrue, ◌&&◌, ◌||◌}
 use Rattle.pt_base.specs.declared.span.Span.{Span}
 use Rattle.pt_base.specs.IntTypes.{promoted}
 use Rattle.pt_base.specs.declared.int_type.IntType.{IntType}
@@ -13,37 +13,34 @@ use Rattle.pt_tree.specs.declared.signature.Elem.{Elem}
 use Rattle.pt_tree.specs.declared.signature.Elem.TheVariants as elem
 use Rattle.type_rules.specs.declared.types.Type.{«Type»}
 use Rattle.type_rules.specs.declared.types.Type.TheVariants.{Bad, Void, Int, Struct, Array, Pointer}
-use Rattle.type_rules.specs.declared.unary.UnaryRule.{UnaryRule}
-use Rattle.type_rules.specs.declared.unary.UnaryRule.TheVariants as unary_rule
-use Rattle.type_rules.specs.declared.conversions.CastRule.{CastRule}
 use Rattle.type_rules.specs.declared.conversions.CastRule.TheVariants as cast
 use Rattle.type_rules.specs.Conversions as conversion
 use Rattle.type_rules.specs.Conversions.{cast_rule}
 use Rattle.type_rules.specs.Operators.{promoted_rule, not_rule, step_rule, deref_rule}
 use Rattle.type_rules.specs.Types.{is_bad, elem_type, value_type}
-use Rattle.typed_tree.specs.declared.types.VarTy.{VarTy}
 use Rattle.typed_tree.specs.declared.types.VarTy.TheVariants as v
-use Rattle.typed_tree.specs.ExpressionTree.{ExprTree, typed, unary, place, step_trees, RootTree, StepTree}
+use Rattle.typed_tree.specs.ExpressionTree.{ExprTree, typed, place, step_trees}
 use Rattle.typed_tree.specs.TypeTests as test
-use Rattle.typed_tree.specs.TypeRules.{is_same_promoted, is_promoted, converts}
-use Rattle.typed_tree.specs.WellFormedExpression.{Names, form_fits, is_typed, ty_of, is_elem, place_fits, place_type, is_object, is_named, ends_in_field, is_addressed}
+use Rattle.typed_tree.specs.TypeRules.{is_same_promoted, converts}
+use Rattle.typed_tree.specs.WellFormedExpression.{Names, is_typed, ty_of, is_elem, place_fits, place_type, is_object, is_addressed}
 use Rattle.declared_types.specs.declared.fault.FaultKind.{FaultKind}
 use Rattle.declared_types.specs.declared.fault.FaultKind.TheVariants.{NotLvalue}
 use Rattle.declared_types.specs.Faults.{fault_at}
 use Rattle.declared_types.specs.Objects.{is_struct}
 use Rattle.declared_types.specs.Structs.{Structs}
 use Rattle.typed_expressions.specs.Conversions.{to_int, as_type}
-use Rattle.typed_expressions.specs.Operands.{Elaboration, value, object, pointed, moved, element, Known, var_type, root_of, steps_of, place_of, value_of, value_tree, plain, designated, fine, refused, read_form}
+use Rattle.typed_expressions.specs.Operands.{Elaboration, value, object, pointed, moved, element, Known, var_type, root_of, steps_of, place_of, value_of, value_tree, plain, fine, refused}
 use Rattle.typed_expressions.specs.Prefixes.{unary_rule_of, unary_operand, computed_by, computed, points_to_const, dereferenced_by, dereferenced, address_tree, address_of, address_of_pointer, addressed_as, addressed, step_tree, stepped_by, stepped, prefixed, cast_target, cast_by, cast_to}
 use Rattle.typed_expressions.specs.Targets.{optional_fault, target_fault}
 use Rattle.declared_types_law.specs.Types.{is_good, is_base, is_variable}
-use Rattle.typed_expressions_law.specs.Laws.{SoundValue, Fitted}
-use Rattle.typed_expressions_law.proofs.Lists.{both, none_left, true≢false}
+use Rattle.typed_expressions_law.specs.Laws.{Fitted}
+use Rattle.typed_expressions_law.proofs.Lists.{both, true≢false}
 use Rattle.typed_expressions_law.proofs.SameTypes.{same_int-self, same_elem-self, same_types-equal, promoted-promoted}
 use Rattle.typed_expressions_law.proofs.Fits.{int_fits}
-use Rattle.typed_expressions_law.proofs.Known.{SoundKnown, SoundTree, SoundPointed, SoundPlaced, SoundElement, plain_sound, value_sound, designated_variable, elem-var_type}
-use Rattle.typed_expressions_law.proofs.Assignments.{Target, target_sound, good_of}
+use Rattle.typed_expressions_law.proofs.Known.{SoundKnown, SoundTree, plain_sound, value_sound, designated_variable}
+use Rattle.typed_expressions_law.proofs.Assignments.{Target, target_sound, good_of, or_not}
 use Rattle.typed_expressions_law.proofs.Moves.{move_fits}
+use Rattle.typed_expressions_law.proofs.Outcomes.{good_known, neither}
 
 -- ---- + - ~ !
 
@@ -54,9 +51,6 @@ promoted_operand n t x h = both (is_typed n x) _ h.typed (ap (λ z. is_same_prom
 int_sound : (n : Names) (structs : ℕ) (t : IntType) (x : ExprTree) → IsTrue (is_typed n x) → ty_of x ≡ Some (v.Int t) → SoundKnown n structs (plain (Int t) x)
 unfolding var_type
 int_sound n structs t x h e = plain_sound n structs (Int t) x (record { typed = h; has = e }) refl refl (λ k. cc)
-
-not_scalar : (t : VarTy) → test.is_scalar (Some t) ≡ true → IsTrue (test.is_scalar (Some t) && test.same_types (Some (v.Int int.Int)) (Some (v.Int int.Int)))
-not_scalar t h = both (test.is_scalar (Some t)) true h refl
 
 computed_at : (n : Names) (structs : ℕ) (o : UnOp) (s at : Span) (t : «Type») (x : ExprTree) → IsTrue (is_good structs t) → Fitted n t x → (computed_by (unary_rule_of o t) o s at x).faults ≡ [] → SoundKnown n structs (computed_by (unary_rule_of o t) o s at x).operand
 unfolding unary_rule_of computed_by unary_operand promoted_rule not_rule as_type var_type
@@ -121,19 +115,12 @@ unfolding var_type
 element_self (elem.Int t) = same_elem-self (elem.Int t)
 element_self (elem.Struct m) = same_elem-self (elem.Struct m)
 
-or_not : (f : Bool) → (not f || f) ≡ true
-or_not true = refl
-or_not false = refl
-
-retyped : (n : Names) (s span : Span) (t u : Option VarTy) (f : _) → t ≡ u → IsTrue (is_typed n (typed span t f)) → IsTrue (is_typed n (typed s t f))
-retyped n s span t u f e h = h
-
 address_fits : (n : Names) (structs : ℕ) (s : Span) (e : Elem) (fixed designates : Bool) (t : Elaboration) → SoundTree n structs (elem_type e) fixed designates t → designates ≡ true → Fitted n (Pointer e fixed) (address_tree s e fixed t)
 unfolding address_tree var_type root_of steps_of
 address_fits n structs s e fixed designates (value x) h d = true≢false designates d h.none
 address_fits n structs s e fixed designates (object root steps) h d = record {
   typed = both (place_fits n (place root (step_trees steps))) _ h.object.fits
-    (both (is_addressed (place root (step_trees steps))) _ (both (is_object (place root (step_trees steps))) _ (h.written d) h.ends)
+      (both (is_addressed (place root (step_trees steps))) _ (both (is_object (place root (step_trees steps))) _ (h.written d) h.ends)
       (ap (λ z. test.both_elem (test.element_of z) (Some e)) h.object.has ∙ element_self e));
   has = refl;
 }
@@ -141,7 +128,7 @@ address_fits n structs s e fixed designates (pointed x span) h d =
     let same = same_of h.of e h.is in
     record {
       typed = both (is_typed n x) _ h.pointer.typed
-        (ap (λ z. converts z (Some (v.Pointer e fixed))) h.pointer.has ∙ both (test.same_elem h.of e) _ (ap (λ z. test.same_elem z e) same ∙ same_elem-self e) (or_not fixed));
+          (ap (λ z. converts z (Some (v.Pointer e fixed))) h.pointer.has ∙ both (test.same_elem h.of e) _ (ap (λ z. test.same_elem z e) same ∙ same_elem-self e) (or_not fixed));
       has = refl;
     }
 address_fits n structs s e fixed designates (moved (typed span t f)) h d = record { typed = h.pointer.typed; has = h.pointer.has ∙ ap (λ z. Some (v.Pointer z fixed)) (same_of h.of e h.is) }
@@ -150,7 +137,7 @@ address_fits n structs s e fixed designates (element root steps at i span) h d =
     move_fits n s span e fixed false h.index (typed at (Some (v.Pointer e fixed)) _) i
     (record {
       typed = both (place_fits n (place root (step_trees steps))) _ h.array.fits
-        (ap (λ z. test.both_elem (test.item_of z) (Some e)) h.array.has ∙ ap (λ z. test.same_elem z e) same ∙ same_elem-self e);
+          (ap (λ z. test.both_elem (test.item_of z) (Some e)) h.array.has ∙ ap (λ z. test.same_elem z e) same ∙ same_elem-self e);
       has = refl;
     })
     h.at
@@ -194,7 +181,7 @@ step_sound n structs s back postfix k t p e c g w ns =
     plain_sound n structs t (step_tree s t back postfix k.tree)
     (record {
       typed = both (place_fits n (place_of k.tree) && is_object (place_of k.tree)) _ (both (place_fits n (place_of k.tree)) _ p.fits p.written)
-        (both (test.same_types (place_type n (place_of k.tree)) (var_type t)) _ (same_types-equal _ _ (p.has ∙ ap var_type e)) c);
+          (both (test.same_types (place_type n (place_of k.tree)) (var_type t)) _ (same_types-equal _ _ (p.has ∙ ap var_type e)) c);
       has = refl;
     })
     g w (λ q. absurd (ns q))
@@ -265,24 +252,12 @@ target_known structs true (Struct m) h = refl
 target_known structs true (Array e c) h = refl
 target_known structs true (Pointer e f) h = refl
 
-good_bad : (structs : ℕ) (t : «Type») → IsTrue (is_good structs t) → is_bad t ≡ false
-good_bad structs Bad h = cc
-good_bad structs Void h = refl
-good_bad structs (Int a) h = refl
-good_bad structs (Struct a) h = refl
-good_bad structs (Array e c) h = refl
-good_bad structs (Pointer e f) h = refl
-
-either_bad : (a b : Bool) → a ≡ false → b ≡ false → (a || b) ≡ false
-either_bad true b h k = cc
-either_bad false b h k = k
-
 pub cast_sound : (n : Names) (structs : ℕ) (pointer : Bool) (base : «Type») (s at : Span) (k : Known) → IsTrue (is_base structs base) → SoundKnown n structs k → (cast_to pointer base s at k).faults ≡ [] → SoundKnown n structs (cast_to pointer base s at k).operand
 unfolding cast_to cast_rule
 cast_sound n structs pointer base s at k b h z =
     let w = value_sound n structs at k h in
     let t = cast_target pointer base in
-    let known : (is_bad t || is_bad (value_of k).ty) ≡ false = either_bad (is_bad t) (is_bad (value_of k).ty) (target_known structs pointer base b) (good_bad structs (value_of k).ty w.good) in
+    let known : (is_bad t || is_bad (value_of k).ty) ≡ false = neither (is_bad t) (is_bad (value_of k).ty) (target_known structs pointer base b) (good_known structs (value_of k).ty w.good) in
     let z' : (cast_by (if false then cast.Unknown else conversion.converted t (value_of k).ty) s at (value_tree at k)).faults ≡ [] = subst (λ c. (cast_by (if c then cast.Unknown else conversion.converted t (value_of k).ty) s at (value_tree at k)).faults ≡ []) known z in
     subst (λ c. SoundKnown n structs (cast_by (if c then cast.Unknown else conversion.converted t (value_of k).ty) s at (value_tree at k)).operand) (sym known)
     (cast_known n structs s at t (value_of k).ty (value_tree at k) w.good (record { typed = w.typed; has = w.has }) z')

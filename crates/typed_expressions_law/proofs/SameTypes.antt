@@ -1,6 +1,6 @@
 -- The tests of types hold of equal types; the integer types of conversions.
 use Rattle.std.proofs.Common.{◌≡◌, ◌∙◌, ◌≤◌, ℕ, nat_eq, refl, ap, sym, arith, Bool, true, false, Option, Some, None}
-use Rattle.std.specs.Prelude.{IsTrue, ◌&&◌}
+use Rattle.std.specs.Prelude.{IsTrue}
 use Rattle.std.proofs.lemmas.Bool.Decides.{nat_tests}
 use Rattle.pt_base.specs.IntTypes.{promoted, usual}
 use Rattle.pt_base.specs.declared.int_type.IntType.{IntType}
@@ -9,7 +9,7 @@ use Rattle.pt_tree.specs.declared.signature.Elem.{Elem}
 use Rattle.pt_tree.specs.declared.signature.Elem.TheVariants as elem
 use Rattle.typed_tree.specs.declared.types.VarTy.{VarTy}
 use Rattle.typed_tree.specs.declared.types.VarTy.TheVariants as v
-use Rattle.typed_tree.specs.TypeTests.{same_int, same_elem, same_bool, same_type, same_types}
+use Rattle.typed_tree.specs.TypeTests.{same_int, same_elem, same_bool, same_types}
 use Rattle.typed_tree.specs.TypeRules.{is_promoted}
 use Rattle.typed_tree.specs.WellFormedExpression.{is_elem}
 use Rattle.typed_expressions_law.proofs.Lists.{both}

@@ -1,6 +1,6 @@
 -- The step of a link takes its operands once they are converted.
 use Rattle.std.proofs.Common.{◌≡◌, ◌∙◌, ◌≤◌, ℕ, refl, ap, sym, subst, Bool, true, false, Option, Some, None, length, if◌then◌else◌}
-use Rattle.std.specs.Prelude.{IsTrue, ◌&&◌, ◌||◌, not}
+use Rattle.std.specs.Prelude.{IsTrue, ◌&&◌, not}
 use Rattle.pt_base.specs.IntTypes.{promoted, usual}
 use Rattle.pt_base.specs.declared.int_type.IntType.{IntType}
 use Rattle.pt_base.specs.declared.int_type.IntType.TheVariants as int
@@ -16,15 +16,14 @@ use Rattle.type_rules.specs.declared.operators.Rule.TheVariants as rule
 use Rattle.type_rules.specs.Types.{is_same_elem, is_integer}
 use Rattle.type_rules.specs.Operators.{rule_type}
 use Rattle.type_rules.proofs.TypeLemmas.{same_elem}
-use Rattle.typed_tree.specs.declared.link.LinkStep.{LinkStep}
 use Rattle.typed_tree.specs.declared.link.LinkStep.TheVariants as link_step
 use Rattle.typed_tree.specs.declared.types.VarTy.{VarTy}
 use Rattle.typed_tree.specs.declared.types.VarTy.TheVariants as v
 use Rattle.typed_tree.specs.ExpressionTree.{ExprTree}
 use Rattle.typed_tree.specs.TypeTests as test
-use Rattle.typed_tree.specs.TypeRules.{stepped, is_promoted, is_comparison, shift_type, moved_type, int_where}
+use Rattle.typed_tree.specs.TypeRules.{stepped, is_promoted, is_comparison, int_where}
 use Rattle.typed_tree.specs.WellFormedExpression.{Names, is_typed, ty_of, is_elem}
-use Rattle.typed_expressions.specs.Conversions.{to_int, as_type, as_promoted}
+use Rattle.typed_expressions.specs.Conversions.{as_type}
 use Rattle.typed_expressions.specs.Links.{integer_op, step_of, is_shift_left, is_subtraction, converted_by, link_type}
 use Rattle.typed_expressions.specs.Operands.{var_type}
 use Rattle.declared_types_law.specs.Types.{is_good}
