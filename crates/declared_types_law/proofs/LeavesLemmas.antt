@@ -18,6 +18,7 @@ use Rattle.typed_statements.specs.Leaves.{object_leaves, field_leaves, struct_le
 use Rattle.declared_types_law.specs.Types.{is_plain}
 use Rattle.declared_types_law.specs.Sound.{SoundStructs}
 use Rattle.declared_types_law.specs.Laws.{LeavesAreSound}
+use Rattle.declared_types_law.proofs.GoodTypes.{plain_more}
 use Rattle.declared_types_law.proofs.TableLemmas.{get_before, get_some, cells_before, field_at, sound_at, sound_prefix}
 use Rattle.declared_types_law.proofs.SizeLemmas.{integers_of, integers_of_int, integers_of_ints, integers_of_structs, integers_in_struct, Counts, object_counts, all_count}
 
@@ -62,16 +63,6 @@ field_gives structs more within n f long gives counts plain plain' few = go (nat
         let exact = object_counts (structs ++ more) n f.ty counts plain (omega (arith, before, few)) in
         let none : cells_of structs f.ty ≡ 0 = grind (arith, nat_tests, e) in
         sym (ap (map Int) (none_of_length (integers_of (structs ++ more) f.ty) (exact ∙ before ∙ none)))
-
--- a good type among fewer structs is one among more
-plain_more : (m n : ℕ) (t : «Type») → m ≤ n → IsTrue (is_plain m t) → IsTrue (is_plain n t)
-plain_more m n Bad le h = h
-plain_more m n Void le h = h
-plain_more m n (Int t) le h = h
-plain_more m n (Struct k) le h = grind (arith, nat_tests, h)
-plain_more m n (Array (elem.Int t) count) le h = h
-plain_more m n (Array (elem.Struct k) count) le h = grind (arith, nat_tests, h)
-plain_more m n (Pointer e fixed) le h = h
 
 fields_give : (structs more : Structs) (within : ℕ → List «Type») (n : ℕ) (fs : List FieldEntry) → n ≤ length structs → Gives (structs ++ more) within n → Counts (structs ++ more) n
     → IsTrue (list_all (field_at structs n) fs)

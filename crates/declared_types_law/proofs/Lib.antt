@@ -1,4 +1,5 @@
 pub mod FaultLemmas
+pub mod GoodTypes
 pub mod ObjectLemmas
 pub mod TableLemmas
 pub mod TypedLeaves
@@ -6,3 +7,4 @@ pub mod SizeLemmas
 pub mod LeavesLemmas
 pub mod StructLemmas
 pub mod SpecifierLemmas
+pub mod FieldLemmas

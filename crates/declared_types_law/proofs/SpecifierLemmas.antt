@@ -31,7 +31,8 @@ use Rattle.declared_types_law.specs.Types.{is_base}
 use Rattle.declared_types_law.specs.Sound.{field_sound, SoundStruct, SoundStructs}
 use Rattle.declared_types_law.specs.Laws.{SpecifiersAreSound}
 use Rattle.declared_types_law.proofs.FaultLemmas.{none_left, none_right, no_fault, both, or_left, or_right}
-use Rattle.declared_types_law.proofs.ObjectLemmas.{objects_are_sound, base_more}
+use Rattle.declared_types_law.proofs.GoodTypes.{base_more}
+use Rattle.declared_types_law.proofs.ObjectLemmas.{objects_are_sound}
 use Rattle.declared_types_law.proofs.TableLemmas.{sound_push}
 
 -- ---- what words name
