@@ -1,5 +1,5 @@
 -- The body of a function without a fault has well formed statements.
-use Rattle.std.specs.Prelude.{◌≡◌, ℕ, List, [], ◌∷◌, ◌++◌, Bool, false, ◌&&◌, Option, Some, IsTrue, length, slice_get, option_map}
+use Rattle.std.specs.Prelude.{◌≡◌, ℕ, List, [], ◌++◌, Bool, false, ◌&&◌, Option, Some, IsTrue, length, slice_get, option_map}
 use Rattle.std.specs.List.{list_all}
 use Rattle.pt_base.specs.declared.int_type.IntType.{IntType}
 use Rattle.pt_tree.specs.Facts.{stmts_sound}
@@ -12,9 +12,8 @@ use Rattle.typed_tree.specs.StatementTree.{body_trees}
 use Rattle.typed_tree.specs.Parts.{all_parts}
 use Rattle.typed_tree.specs.WellFormed.{are_consecutive, is_variable_type, is_small}
 use Rattle.typed_tree.specs.WellFormedExpression.{Names}
-use Rattle.typed_tree.specs.WellFormedStatement.{Scope, all_sound}
+use Rattle.typed_tree.specs.WellFormedStatement.{all_sound}
 use Rattle.typed_expressions.specs.declared.meaning.Variable.{Variable}
-use Rattle.typed_expressions.specs.Environment as env
 use Rattle.typed_expressions.specs.Operands.{var_type}
 use Rattle.typed_expressions.specs.StructInfos.{object_type_of}
 use Rattle.typed_statements.specs.Outermost.{State}
@@ -47,8 +46,8 @@ pub record SoundBody (n : Names) (all : List ExprTree) (result : Option IntType)
 -- The body's outermost expressions stand among all of the program's from the state's number on, and its
 -- variables are those of the function.
 abbrev pub BodiesAreSound : Type 0
-BodiesAreSound = (n : Names) (all before after : List ExprTree) (result : Option IntType) (ty : «Type») (st : State) (items : List StmtTree) (scope : env.Scope) →
-    Agrees st.env st.structs n → st.env.scopes ≡ scope ∷ [] →
+BodiesAreSound = (n : Names) (all before after : List ExprTree) (result : Option IntType) (ty : «Type») (st : State) (items : List StmtTree) →
+    Agrees st.env st.structs n →
     IsTrue (is_result ty) → option_map v.Int result ≡ var_type ty →
     HasVariables n (checked_block ty st items).state.env.variables →
     all ≡ before ++ (checked_block ty st items).trees ++ after → length before ≡ st.next →
