@@ -42,7 +42,7 @@ pub record SoundLabel (t : IntType) (structs' structs : Structs) (seen' seen : S
   pub other : (m : TypedLabel) → IsTrue (is_fresh seen' m) → IsTrue (not (same_label l m))
   pub before : (m : TypedLabel) → IsTrue (is_fresh seen' m) → IsTrue (is_fresh seen m)
 
-converted_in_range : (t : IntType) (v : ℤ) → IsTrue (is_in_range t (conv t v))
+pub converted_in_range : (t : IntType) (v : ℤ) → IsTrue (is_in_range t (conv t v))
 converted_in_range t v = go (conv t v) (conv-in_range t v)
   where
     go : (w : ℤ) → InRange t w → is_in_range t w ≡ true
