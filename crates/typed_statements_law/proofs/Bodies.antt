@@ -1,5 +1,5 @@
 -- The body of a function without a fault.
-use Rattle.std.proofs.Common.{◌≡◌, ◌≤◌, ℕ, ◌+◌, refl, sym, ap, subst, false, List, ◌∷◌, [], ◌++◌, length, length-append, arith}
+use Rattle.std.proofs.Common.{◌≡◌, ◌≤◌, ℕ, ◌+◌, sym, ap, subst, false, List, ◌++◌, length, length-append, arith}
 use Rattle.pt_tree.specs.StatementTree.{stmt_trees}
 use Rattle.typed_tree.specs.ExpressionTree.{ExprTree}
 use Rattle.typed_tree.specs.Parts.{all_parts}
@@ -7,14 +7,14 @@ use Rattle.typed_tree.specs.StatementTree.{body_trees}
 use Rattle.typed_tree.specs.WellFormedStatement.{Scope}
 use Rattle.typed_statements.specs.declared.context.Context.{Context}
 use Rattle.typed_statements.specs.Statements.{checked_all}
-use Rattle.typed_statements_law.specs.Laws.{BodiesAreSound, SoundBody}
+use Rattle.typed_statements_law.specs.Laws.{BodiesAreSound}
 use Rattle.typed_statements_law.proofs.Numbering.{StandAt, stand, consecutive}
 use Rattle.typed_statements_law.proofs.StatementWalks.{all_go}
 use Rattle.typed_statements_law.proofs.Given.{Laws, Ready, Returns}
 use Rattle.typed_statements_law.proofs.Statements.{statements_sound}
 
 pub bodies_sound : Laws → BodiesAreSound
-bodies_sound laws n all before after result ty st items scope agrees open' good is has all_are first given none =
+bodies_sound laws n all before after result ty st items agrees good is has all_are first given none =
     let c : Context = record { result = ty; in_loop = false; in_switch = false } in
     let sc : Scope = record { names = n; exprs = all; result = result } in
     let b = checked_all c st (stmt_trees items) in

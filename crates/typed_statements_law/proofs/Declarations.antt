@@ -1,9 +1,7 @@
 -- Declarations without a fault declare good variables, whose initialisers fit.
-use Rattle.std.proofs.Common.{◌≡◌, ◌≤◌, ℕ, ◌+◌, refl, sym, ap, ◌∙◌, subst, Bool, true, false, List, [], ◌∷◌, ◌++◌, length, Option, Some, None}
-use Rattle.std.specs.Prelude.{IsTrue, ◌&&◌, nat_le, not, slice_get, option_map}
-use Rattle.std.specs.List.{list_all}
+use Rattle.std.proofs.Common.{◌≡◌, refl, sym, ◌∙◌, subst, true, false, List, [], ◌∷◌, ◌++◌, length, Option, Some}
+use Rattle.std.specs.Prelude.{IsTrue, ◌&&◌, not, slice_get, option_map}
 use Rattle.pt_base.specs.declared.span.Span.{Span}
-use Rattle.pt_tree.specs.SpecifierTree.{SpecTrees}
 use Rattle.pt_tree.specs.StatementTree as s
 use Rattle.pt_tree.specs.StatementTree.{InitDeclaratorTree, DeclarationTree, ForInitTree}
 use Rattle.pt_tree.specs.Facts.{specs_sound, suffix_sound, init_sound, inits_sound, declaration_sound, for_init_sound}
@@ -17,7 +15,6 @@ use Rattle.typed_tree.specs.WellFormed.{is_small, is_variable_type}
 use Rattle.typed_tree.specs.WellFormedStatement.{Scope, init_fits, declarator_fits, declaration_fits, for_init_fits}
 use Rattle.typed_tree.proofs.WellFormedLemmas.{and_left, and_right}
 use Rattle.declared_types.specs.declared.fault.FaultKind.TheVariants.{Redeclared}
-use Rattle.declared_types.specs.declared.fault.TypeFault.{TypeFault}
 use Rattle.declared_types.specs.declared.objects.ObjectKind.TheVariants as kind
 use Rattle.declared_types.specs.declared.specifiers.Specified.{Specified}
 use Rattle.declared_types.specs.Faults.{fault_if}
@@ -25,22 +22,20 @@ use Rattle.declared_types.specs.Marks.{mark_faults}
 use Rattle.declared_types.specs.Objects.{object_faults, size_faults}
 use Rattle.declared_types.specs.Specifiers.{specified}
 use Rattle.declared_types.specs.Structs.{Structs}
-use Rattle.declared_types.specs.declared.structs.StructEntry.{StructEntry}
 use Rattle.typed_expressions.specs.declared.meaning.Variable.{Variable}
 use Rattle.typed_expressions.specs.Environment.{is_new_inside}
 use Rattle.typed_expressions.specs.Operands.{var_type}
-use Rattle.typed_expressions.specs.StructInfos.{object_type_of, infos_of}
+use Rattle.typed_expressions.specs.StructInfos.{object_type_of}
 use Rattle.typed_statements.specs.Initialisers.{initialised}
 use Rattle.typed_statements.specs.Outermost.{State}
 use Rattle.typed_statements.specs.Declarations.{known_variable, local_type, variable_of, variable_faults, declared_one, declared_all, declared, carrier_of}
 use Rattle.typed_statements.specs.Statements.{for_begun, with_structs}
 use Rattle.declared_types_law.specs.Types.{is_base, is_variable}
-use Rattle.declared_types_law.specs.Sound.{SoundFrom, SoundStructs}
+use Rattle.declared_types_law.specs.Sound.{SoundFrom}
 use Rattle.typed_expressions_law.specs.Agreement.{Agrees}
 use Rattle.typed_statements_law.specs.Laws.{HasVariables, is_sound_variable}
 use Rattle.typed_statements_law.proofs.ListLemmas.{none_left, none_right, both, get_end}
 use Rattle.typed_statements_law.proofs.TypeLemmas.{variable_type}
-use Rattle.typed_statements_law.proofs.Numbering.{Goes}
 use Rattle.typed_statements_law.proofs.Walks.{initialiser_goes, declared_one_goes, declared_all_goes}
 use Rattle.typed_statements_law.proofs.Environments.{agrees_variable, structs_within}
 use Rattle.typed_statements_law.proofs.Given.{Laws, Ready, Keeps, keeps_nowhere, keeps_on, has_first, ready_first, ready_second}

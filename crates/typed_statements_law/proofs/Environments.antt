@@ -1,6 +1,6 @@
 -- Scopes that open and close, and variables that come, keep what is known of names.
-use Rattle.std.proofs.Common.{◌≡◌, ◌≤◌, ℕ, ◌+◌, refl, sym, ap, ◌∙◌, subst, Bool, true, false, List, [], ◌∷◌, ◌++◌, length, length-append, arith, Option, Some, ◌⊎◌, inl, inr}
-use Rattle.std.specs.Prelude.{IsTrue, All, slice_get, option_map, nat_lt, if◌then◌else◌}
+use Rattle.std.proofs.Common.{◌≡◌, ◌≤◌, ℕ, sym, ap, ◌∙◌, subst, Bool, true, false, List, [], ◌∷◌, ◌++◌, length, length-append, arith, Some, inl, inr}
+use Rattle.std.specs.Prelude.{IsTrue, All, slice_get, option_map, if◌then◌else◌}
 use Rattle.std.proofs.lemmas.Bool.Decides.{nat_tests}
 use Rattle.std.proofs.lemmas.List.{length-map}
 use Rattle.std.proofs.lemmas.List.Elements.{All-nil, All-cons, All-head, All-tail, All-push}
@@ -86,7 +86,7 @@ bound_kept env (scope ∷ scopes) name m h here =
 variables_agree : (env : Env) (structs : Structs) (n : Names) (x : Variable) → Agrees env structs n → IsTrue (is_variable (length structs) x.ty) → HasVariables n (env.variables ++ x ∷ []) → (k : ℕ) (y : Variable) → slice_get (env.variables ++ x ∷ []) k ≡ Some y → HasType (length structs) y.ty (option_map (λ z. z.ty) (slice_get n.vars k))
 variables_agree env structs n x a good has k y e =
     elim (get_pushed env.variables x k y e) [
-      inl old ↦ a.variables k y old
+      | inl old ↦ a.variables k y old
       | inr same ↦ let is = subst (λ (z : Variable). IsTrue (is_variable (length structs) z.ty)) same good in (is, has k y e ∙ sym (has_object_type (length structs) y.ty is))
     ]
 

@@ -1,5 +1,5 @@
 -- Initialisers without a fault fit the variable.
-use Rattle.std.proofs.Common.{◌≡◌, ℕ, zero, suc, ◌+◌, refl, sym, ap, ◌∙◌, subst, Bool, true, false, List, [], ◌∷◌, ◌++◌, map, length, Option, Some, None, arith}
+use Rattle.std.proofs.Common.{◌≡◌, ℕ, suc, ◌+◌, refl, sym, ap, ◌∙◌, subst, Bool, true, false, List, [], ◌∷◌, ◌++◌, map, length, Option, Some, None, arith}
 use Rattle.std.specs.Prelude.{⊤, IsTrue, ◌&&◌, is_some, not, slice_get}
 use Rattle.pt_base.specs.declared.int_type.IntType.{IntType}
 use Rattle.pt_base.specs.declared.span.Span.{Span}
@@ -20,22 +20,19 @@ use Rattle.typed_tree.specs.TypeTests.{same_types, is_value}
 use Rattle.typed_tree.specs.WellFormedStatement.{Scope, expr_fits, item_types, items_fit, init_fits}
 use Rattle.typed_tree.proofs.WellFormedLemmas.{and_left, and_right}
 use Rattle.declared_types.specs.declared.fault.FaultKind.TheVariants.{WrongType}
-use Rattle.declared_types.specs.declared.fault.TypeFault.{TypeFault}
 use Rattle.declared_types.specs.Faults.{fault_if}
 use Rattle.declared_types.specs.Objects.{size_faults}
 use Rattle.declared_types.specs.Structs.{Structs}
 use Rattle.typed_expressions.specs.Operands.{var_type, span_of}
-use Rattle.typed_expressions.specs.StructInfos.{object_type_of, infos_of}
+use Rattle.typed_expressions.specs.StructInfos.{object_type_of}
 use Rattle.typed_statements.specs.Leaves.{leaves_of}
 use Rattle.typed_statements.specs.Initialisers.{Listing, item, items, initialised}
 use Rattle.typed_statements.specs.Outermost.{State, evaluated, fitted}
 use Rattle.declared_types_law.specs.Types.{is_variable}
 use Rattle.typed_expressions_law.specs.Agreement.{Agrees}
 use Rattle.typed_statements_law.proofs.ListLemmas.{none_left, none_right, both}
-use Rattle.typed_statements_law.proofs.TypeLemmas.{same_type_self}
 use Rattle.typed_statements_law.proofs.Numbering.{goes_one}
-use Rattle.typed_statements_law.proofs.Walks.{items_go}
-use Rattle.typed_statements_law.proofs.Given.{Laws, Ready, Keeps, keeps_nowhere, keeps_on, ready_first, ready_second}
+use Rattle.typed_statements_law.proofs.Given.{Laws, Ready, Keeps, keeps_nowhere, keeps_on, ready_second}
 use Rattle.typed_statements_law.proofs.Outermost.{fitted_sound, takes_same}
 
 -- ---- leaves

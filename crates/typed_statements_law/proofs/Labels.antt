@@ -1,5 +1,5 @@
 -- The labels of a switch without a fault are distinct, and their values in range.
-use Rattle.std.proofs.Common.{◌≡◌, ℤ, refl, sym, ap, ◌∙◌, subst, Bool, true, false, List, [], ◌∷◌, ◌++◌, Option, Some, None, arith}
+use Rattle.std.proofs.Common.{◌≡◌, ℤ, refl, sym, ap, subst, Bool, true, false, List, [], ◌∷◌, ◌++◌, Option, Some, None, arith}
 use Rattle.std.specs.Prelude.{IsTrue, ◌&&◌, ◌||◌, not, if◌then◌else◌}
 use Rattle.std.specs.Cmp.{int_eq_equiv}
 use Rattle.std.specs.List.{list_all, list_any}
@@ -15,7 +15,7 @@ use Rattle.pt_tree.specs.ExpressionTree as e
 use Rattle.pt_tree.specs.StatementTree.{LabelTree, case_label, default_label}
 use Rattle.typed_tree.specs.declared.statement.TypedLabel.{TypedLabel}
 use Rattle.typed_tree.specs.declared.statement.TypedLabel.TheVariants.{Case, Default}
-use Rattle.typed_tree.specs.WellFormedStatement.{same_label, label_fits, labels_distinct}
+use Rattle.typed_tree.specs.WellFormedStatement.{same_label, label_fits}
 use Rattle.typed_tree.proofs.WellFormedLemmas.{and_left, and_right}
 use Rattle.declared_types.specs.declared.fault.FaultKind.TheVariants.{Redeclared, OutOfProfile}
 use Rattle.declared_types.specs.Faults.{fault_at}
@@ -26,7 +26,7 @@ use Rattle.typed_expressions.specs.Operands.{span_of}
 use Rattle.typed_statements.specs.declared.constants.Number.{Number}
 use Rattle.typed_statements.specs.declared.switches.Kind.{Kind}
 use Rattle.typed_statements.specs.Constants.{number_of}
-use Rattle.typed_statements.specs.Labels.{Seen, is_seen, with_case, case_by, case_of, labelled, default_word}
+use Rattle.typed_statements.specs.Labels.{Seen, is_seen, case_by, case_of, labelled, default_word}
 use Rattle.typed_statements_law.proofs.ListLemmas.{none_right, not_wrong, both}
 
 -- the label is none of those that were seen
@@ -42,7 +42,7 @@ pub record SoundLabel (t : IntType) (structs' structs : Structs) (seen' seen : S
   pub other : (m : TypedLabel) → IsTrue (is_fresh seen' m) → IsTrue (not (same_label l m))
   pub before : (m : TypedLabel) → IsTrue (is_fresh seen' m) → IsTrue (is_fresh seen m)
 
-converted_in_range : (t : IntType) (v : ℤ) → IsTrue (is_in_range t (conv t v))
+pub converted_in_range : (t : IntType) (v : ℤ) → IsTrue (is_in_range t (conv t v))
 converted_in_range t v = go (conv t v) (conv-in_range t v)
   where
     go : (w : ℤ) → InRange t w → is_in_range t w ≡ true

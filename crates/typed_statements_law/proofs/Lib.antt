@@ -11,3 +11,4 @@ pub mod Declarations
 pub mod Labels
 pub mod Statements
 pub mod Bodies
+pub mod GlobalStarts

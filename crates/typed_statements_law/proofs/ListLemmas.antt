@@ -1,11 +1,11 @@
 -- Lists that are empty, what stands at a place of a list, and tests of all elements.
-use Rattle.std.proofs.Common.{◌≡◌, ℕ, zero, suc, refl, ap, ◌∙◌, Bool, true, false, List, [], ◌∷◌, ◌++◌, length, Option, Some, None, ◌⊎◌, inl, inr}
-use Rattle.std.specs.Prelude.{IsTrue, ◌&&◌, slice_get, if◌then◌else◌}
+use Rattle.std.proofs.Common.{◌≡◌, ℕ, zero, suc, refl, ◌∙◌, Bool, true, false, List, [], ◌∷◌, ◌++◌, length, Some, ◌⊎◌, inl, inr}
+use Rattle.std.specs.Prelude.{IsTrue, ◌&&◌, slice_get}
 use Rattle.std.specs.List.{list_all}
 use Rattle.std.proofs.lemmas.List.Folds.{list_all-append}
 use Rattle.pt_base.specs.declared.span.Span.{Span}
 use Rattle.declared_types.specs.declared.fault.FaultKind.{FaultKind}
-use Rattle.declared_types.specs.Faults.{fault_if, fault_at}
+use Rattle.declared_types.specs.Faults.{fault_if}
 
 pub none_left : {X : Type 0} (xs ys : List X) → xs ++ ys ≡ [] → xs ≡ []
 none_left [] ys h = refl

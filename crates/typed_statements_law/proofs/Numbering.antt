@@ -1,7 +1,7 @@
 -- The outermost expressions of statements have consecutive numbers, and stand in the program's list at
 -- these numbers.
-use Rattle.std.proofs.Common.{◌≡◌, ◌≤◌, ℕ, zero, suc, ◌+◌, refl, sym, ap, ◌∙◌, subst, List, [], ◌∷◌, ◌++◌, length, length-append, append_assoc, append-nil, arith, Option, Some}
-use Rattle.std.specs.Prelude.{⊤, IsTrue, ◌&&◌, nat_eq, slice_get}
+use Rattle.std.proofs.Common.{◌≡◌, ◌≤◌, ℕ, suc, ◌+◌, refl, sym, ap, ◌∙◌, subst, List, [], ◌∷◌, ◌++◌, length, length-append, append_assoc, append-nil, arith, Some}
+use Rattle.std.specs.Prelude.{⊤, IsTrue, nat_eq, slice_get}
 use Rattle.std.proofs.lemmas.Bool.Decides.{nat_tests}
 use Rattle.typed_tree.specs.declared.part.Part.{Part}
 use Rattle.typed_tree.specs.declared.part.Role.{Role}

@@ -1,6 +1,6 @@
 -- Outermost expressions without a fault are well formed where they stand.
-use Rattle.std.proofs.Common.{◌≡◌, ◌≤◌, ℕ, refl, sym, ap, ◌∙◌, subst, Bool, true, false, List, [], ◌∷◌, ◌++◌, Option, Some, None, length}
-use Rattle.std.specs.Prelude.{IsTrue, ◌&&◌, slice_get, option_map}
+use Rattle.std.proofs.Common.{◌≡◌, ℕ, refl, sym, ap, subst, Bool, true, false, [], Option, Some, None, length}
+use Rattle.std.specs.Prelude.{IsTrue, slice_get, option_map}
 use Rattle.pt_base.specs.declared.int_type.IntType.{IntType}
 use Rattle.pt_base.specs.declared.span.Span.{Span}
 use Rattle.pt_tree.specs.ExpressionTree as e
@@ -13,15 +13,12 @@ use Rattle.typed_tree.specs.declared.ids.ExprId.{ExprId}
 use Rattle.typed_tree.specs.declared.types.VarTy.{VarTy}
 use Rattle.typed_tree.specs.declared.types.VarTy.TheVariants as v
 use Rattle.typed_tree.specs.ExpressionTree.{ExprTree}
-use Rattle.typed_tree.specs.TypeTests.{same_types, same_type, both_int, integer_of, is_scalar, is_value}
+use Rattle.typed_tree.specs.TypeTests.{same_types, both_int, integer_of, is_scalar, is_value}
 use Rattle.typed_tree.specs.WellFormedExpression.{Names, ty_of, is_typed}
 use Rattle.typed_tree.specs.WellFormedStatement.{Scope, found_fits, expr_fits, option_fits, any_type, promotes_to, return_fits}
 use Rattle.declared_types.specs.declared.fault.FaultKind.TheVariants.{WrongType}
-use Rattle.declared_types.specs.declared.fault.TypeFault.{TypeFault}
 use Rattle.declared_types.specs.Faults.{fault_if}
-use Rattle.declared_types.specs.Structs.{Structs}
-use Rattle.typed_expressions.specs.Conversions.{as_type}
-use Rattle.typed_expressions.specs.Expressions.{Judged, judge}
+use Rattle.typed_expressions.specs.Expressions.{judge}
 use Rattle.typed_expressions.specs.Operands.{var_type, value_of, value_tree, span_of}
 use Rattle.typed_expressions.specs.StructInfos.{object_type_of}
 use Rattle.typed_statements.specs.Labels.{kind_of, is_no_integer}
@@ -29,7 +26,7 @@ use Rattle.typed_statements.specs.Outermost.{State, evaluated, tested, fitted, m
 use Rattle.typed_statements.specs.Statements.{switched, given_back, wants_value}
 use Rattle.declared_types_law.specs.Types.{is_variable, is_result}
 use Rattle.typed_expressions_law.specs.Agreement.{Agrees}
-use Rattle.typed_expressions_law.specs.Laws.{SoundValue, SoundExpression, Fitted}
+use Rattle.typed_expressions_law.specs.Laws.{SoundValue}
 use Rattle.typed_statements_law.proofs.ListLemmas.{none_left, none_right, not_wrong, both}
 use Rattle.typed_statements_law.proofs.TypeLemmas.{has_object_type, condition_type, no_void, taking, switch_type, same_int_self, same_type_self}
 use Rattle.typed_statements_law.proofs.Environments.{structs_within}
@@ -76,12 +73,13 @@ fitted_sound laws sc st ty a agrees here sound good none =
     let s = laws.expressions sc.names st.env st.structs a agrees sound (none_left j.faults own none) in
     let w = s.value (span_of a) in
     let right = not_wrong wrong WrongType (span_of a) (none_right j.faults own none) in
-    let f = laws.values sc.names (length st.structs) ty value (value_tree (span_of a) j.operand) w good (structs_within st.env st.structs sc.names agrees) right in
-    (keeps_behind sc.names st j.structs s.same agrees,
-    record {
-      fits = λ test h. found sc test st.next (fitted st ty a).tree here f.typed (subst (λ (o : Option VarTy). IsTrue (test o)) (sym f.has) h);
-      value = taking (length st.structs) ty value good w.good right;
-    })
+    let f = laws.values sc.names (length st.structs) ty value (value_tree (span_of a) j.operand) w good (structs_within st.env st.structs sc.names agrees) right in (
+      keeps_behind sc.names st j.structs s.same agrees,
+      record {
+        fits = λ test h. found sc test st.next (fitted st ty a).tree here f.typed (subst (λ (o : Option VarTy). IsTrue (test o)) (sym f.has) h);
+        value = taking (length st.structs) ty value good w.good right;
+      },
+    )
 
 -- its type is that of the object
 pub takes_same : (sc : Scope) (structs : ℕ) (ty : «Type») (id : ExprId) → IsTrue (is_variable structs ty) → Taken sc ty id → IsTrue (expr_fits sc (same_types (Some (object_type_of ty))) id)

@@ -1,14 +1,14 @@
 -- Whatever the faults, statements number their outermost expressions in the order of their parts.
-use Rattle.std.proofs.Common.{◌≡◌, refl, List, [], ◌∷◌, ◌++◌}
+use Rattle.std.proofs.Common.{[], ◌∷◌, ◌++◌}
 use Rattle.pt_tree.specs.StatementTree as s
 use Rattle.typed_tree.specs.declared.part.Role.TheVariants as role
 use Rattle.typed_tree.specs.Parts.{part_of, optional_part, for_init_parts, parts_of, else_parts, all_parts, section_parts}
-use Rattle.typed_tree.specs.StatementTree.{body_trees, section_trees, SectionTree, section}
+use Rattle.typed_tree.specs.StatementTree.{body_trees, section_trees}
 use Rattle.typed_statements.specs.declared.context.Context.{Context}
 use Rattle.typed_statements.specs.declared.switches.Kind.{Kind}
 use Rattle.typed_statements.specs.Labels.{Seen, none_seen, labelled}
-use Rattle.typed_statements.specs.Outermost.{State, evaluated, tested, maybe_evaluated, maybe_tested}
-use Rattle.typed_statements.specs.Statements.{checked, checked_else, checked_all, checked_sections, checked_section, for_begun, given_back, switched, inside, outside, looping, switching, with_structs}
+use Rattle.typed_statements.specs.Outermost.{State, tested, maybe_evaluated, maybe_tested}
+use Rattle.typed_statements.specs.Statements.{checked, checked_else, checked_all, checked_sections, for_begun, switched, inside, outside, looping, switching, with_structs}
 use Rattle.typed_statements_law.proofs.Numbering.{Goes, goes_nowhere, goes_on, goes_one, goes_inside, goes_outside, goes_with}
 use Rattle.typed_statements_law.proofs.Walks.{declared_goes, begun_goes, maybe_tested_goes, maybe_evaluated_goes, given_back_goes}
 

@@ -1,12 +1,10 @@
 -- Statements without a fault are well formed.
-use Rattle.std.proofs.Common.{◌≡◌, refl, sym, ap, ◌∙◌, subst, Bool, true, false, List, [], ◌∷◌, ◌++◌, Option}
+use Rattle.std.proofs.Common.{◌≡◌, refl, sym, ◌∙◌, subst, Bool, true, false, [], ◌∷◌, ◌++◌}
 use Rattle.std.specs.Prelude.{IsTrue, ◌&&◌, ◌||◌, not}
 use Rattle.std.specs.List.{list_all, list_any}
 use Rattle.pt_tree.specs.StatementTree as s
 use Rattle.pt_tree.specs.Facts.{expr_sound, option_sound, for_init_sound, label_sound, stmt_sound, else_sound as other_sound, stmts_sound, sections_sound as parts_sound}
 use Rattle.typed_tree.specs.declared.part.Role.TheVariants as role
-use Rattle.typed_tree.specs.declared.statement.TypedLabel.{TypedLabel}
-use Rattle.typed_tree.specs.ExpressionTree.{ExprTree}
 use Rattle.typed_tree.specs.Parts.{part_of, optional_part, for_init_parts, parts_of, else_parts, all_parts, section_parts}
 use Rattle.typed_tree.specs.StatementTree.{body_trees, section_trees}
 use Rattle.typed_tree.specs.TypeTests.{is_scalar}
@@ -17,11 +15,11 @@ use Rattle.declared_types.specs.Structs.{Structs}
 use Rattle.typed_statements.specs.declared.context.Context.{Context}
 use Rattle.typed_statements.specs.declared.switches.Kind.{Kind}
 use Rattle.typed_statements.specs.Labels.{Seen, none_seen, labelled}
-use Rattle.typed_statements.specs.Outermost.{State, evaluated, tested, maybe_evaluated, maybe_tested}
-use Rattle.typed_statements.specs.Statements.{Checked, CheckedElse, CheckedAll, CheckedSections, checked, checked_else, checked_all, checked_sections, for_begun, given_back, switched, inside, outside, looping, switching, with_structs}
+use Rattle.typed_statements.specs.Outermost.{State, tested, maybe_evaluated, maybe_tested}
+use Rattle.typed_statements.specs.Statements.{CheckedSections, checked, checked_else, checked_all, checked_sections, for_begun, switched, inside, looping, switching, with_structs}
 use Rattle.typed_expressions_law.specs.Agreement.{Agrees}
 use Rattle.typed_statements_law.proofs.ListLemmas.{none_left, none_right, not_wrong, both}
-use Rattle.typed_statements_law.proofs.Numbering.{Goes, goes_on, goes_one, goes_with}
+use Rattle.typed_statements_law.proofs.Numbering.{goes_on, goes_one, goes_with}
 use Rattle.typed_statements_law.proofs.Walks.{begun_goes, maybe_tested_goes, maybe_evaluated_goes}
 use Rattle.typed_statements_law.proofs.StatementWalks.{goes, else_goes, all_go, sections_go}
 use Rattle.typed_statements_law.proofs.Given.{Laws, Returns, Ready, Keeps, keeps_nowhere, keeps_on, keeps_scope, ready_scope, ready_first, ready_second}
@@ -72,9 +70,10 @@ mutual
       let r3 = ready_second sc p.state q.state e.state q.trees e.trees (parts_of q.tree) (goes c p.state x) second.0 r1 in
       let third = otherwise_sound laws sc c q.state o returns r3 (and_right (stmt_sound x) (other_sound o) given') (none_right q.faults e.faults rest) in
       let yes' = is_sound sc (is_left c) c.in_loop q.tree in
-      let no' = else_sound sc (is_left c) c.in_loop e.tree in
-      (keeps_on sc.names st p.state e.state first.0 (keeps_on sc.names p.state q.state e.state second.0 third.0),
-      both (expr_fits sc is_scalar p.id) (yes' && no') first.1 (both yes' no' second.1 third.1))
+      let no' = else_sound sc (is_left c) c.in_loop e.tree in (
+        keeps_on sc.names st p.state e.state first.0 (keeps_on sc.names p.state q.state e.state second.0 third.0),
+        both (expr_fits sc is_scalar p.id) (yes' && no') first.1 (both yes' no' second.1 third.1),
+      )
   sound laws sc c st (s.while_true at a x) returns r given none =
       let p = tested st a in
       let q = checked (looping c) p.state x in
@@ -104,13 +103,13 @@ mutual
       let n2 = none_right p.faults (q.faults ++ d.faults) n1 in
       let r0 = ready_scope sc st d.state (b.trees ++ (p.trees ++ (q.trees ++ d.trees))) r in
       let first = begun_sound laws sc (inside st) i (ready_first sc (inside st) b.state d.state b.trees (p.trees ++ (q.trees ++ d.trees)) (optional_part role.Condition p.id ++ (optional_part role.Value q.id ++ parts_of d.tree)) test r0)
-        (and_left (for_init_sound i) (option_sound a && (option_sound u && stmt_sound x)) given) (none_left b.faults (p.faults ++ (q.faults ++ d.faults)) none) in
+      (and_left (for_init_sound i) (option_sound a && (option_sound u && stmt_sound x)) given) (none_left b.faults (p.faults ++ (q.faults ++ d.faults)) none) in
       let r1 = ready_second sc (inside st) b.state d.state b.trees (p.trees ++ (q.trees ++ d.trees)) (for_init_parts b.init) (begun_goes (inside st) i) first.0 r0 in
       let second = maybe_tested_sound laws sc b.state a (ready_first sc b.state p.state d.state p.trees (q.trees ++ d.trees) (optional_part role.Value q.id ++ parts_of d.tree) update r1)
-        (and_left (option_sound a) (option_sound u && stmt_sound x) g1) (none_left p.faults (q.faults ++ d.faults) n1) in
+      (and_left (option_sound a) (option_sound u && stmt_sound x) g1) (none_left p.faults (q.faults ++ d.faults) n1) in
       let r2 = ready_second sc b.state p.state d.state p.trees (q.trees ++ d.trees) (optional_part role.Condition p.id) (maybe_tested_goes b.state a) second.0 r1 in
       let third = maybe_evaluated_sound laws sc p.state u (ready_first sc p.state q.state d.state q.trees d.trees (parts_of d.tree) body r2)
-        (and_left (option_sound u) (stmt_sound x) g2) (none_left q.faults d.faults n2) in
+      (and_left (option_sound u) (stmt_sound x) g2) (none_left q.faults d.faults n2) in
       let r3 = ready_second sc p.state q.state d.state q.trees d.trees (optional_part role.Value q.id) (maybe_evaluated_goes p.state u) third.0 r2 in
       let fourth = sound laws sc (looping c) q.state x returns r3 (and_right (option_sound u) (stmt_sound x) g2) (none_right q.faults d.faults n2) in
       let keeps = keeps_on sc.names (inside st) b.state d.state first.0 (keeps_on sc.names b.state p.state d.state second.0 (keeps_on sc.names p.state q.state d.state third.0 fourth.0)) in
@@ -128,10 +127,11 @@ mutual
       let r1 = ready_second sc st p.state q.state (p.tree ∷ []) q.trees (part_of role.Condition p.id ∷ []) (goes_one st _ _ _) first.keeps r in
       let second = parts_are_sound laws sc (switching c) p.kind none_seen p.state xs returns (or_true c.in_loop) first.compared r1 (and_right (expr_sound a) (parts_sound xs) given) (none_right p.faults q.faults none) in
       let labels = labels_of (section_trees q.sections) in
-      let all = sections_sound sc c.in_loop (section_trees q.sections) in
-      (keeps_on sc.names st p.state q.state first.keeps second.keeps,
-      both (expr_fits sc (promotes_to p.kind.ty) p.id) (labels_fit p.kind.ty labels && all) first.fits
-      (both (labels_fit p.kind.ty labels) all (both (list_all (label_fits p.kind.ty) labels) (labels_distinct labels) second.fit second.distinct) second.sound))
+      let all = sections_sound sc c.in_loop (section_trees q.sections) in (
+        keeps_on sc.names st p.state q.state first.keeps second.keeps,
+        both (expr_fits sc (promotes_to p.kind.ty) p.id) (labels_fit p.kind.ty labels && all) first.fits
+            (both (labels_fit p.kind.ty labels) all (both (list_all (label_fits p.kind.ty) labels) (labels_distinct labels) second.fit second.distinct) second.sound),
+      )
 
   otherwise_sound : (laws : Laws) (sc : Scope) (c : Context) (st : State) (x : s.ElseTree) → Returns sc c.result → Ready sc st (checked_else c st x).state (checked_else c st x).trees → IsTrue (other_sound x) → (checked_else c st x).faults ≡ [] → Keeps sc.names st (checked_else c st x).state × IsTrue (else_sound sc (is_left c) c.in_loop (checked_else c st x).tree)
   otherwise_sound laws sc c st s.no_else returns r given none = (keeps_nowhere sc.names st r.agrees, refl)
@@ -145,9 +145,10 @@ mutual
       let r1 = ready_first sc st one.state rest.state one.trees rest.trees (all_parts (body_trees rest.bodies)) (all_go c one.state xs) r in
       let first = sound laws sc c st x returns r1 (and_left (stmt_sound x) (stmts_sound xs) given) (none_left one.faults rest.faults none) in
       let r2 = ready_second sc st one.state rest.state one.trees rest.trees (parts_of one.tree) (goes c st x) first.0 r in
-      let second = statements_sound laws sc c one.state xs returns r2 (and_right (stmt_sound x) (stmts_sound xs) given) (none_right one.faults rest.faults none) in
-      (keeps_on sc.names st one.state rest.state first.0 second.0,
-      both (is_sound sc (is_left c) c.in_loop one.tree) (all_sound sc (is_left c) c.in_loop (body_trees rest.bodies)) first.1 second.1)
+      let second = statements_sound laws sc c one.state xs returns r2 (and_right (stmt_sound x) (stmts_sound xs) given) (none_right one.faults rest.faults none) in (
+        keeps_on sc.names st one.state rest.state first.0 second.0,
+        both (is_sound sc (is_left c) c.in_loop one.tree) (all_sound sc (is_left c) c.in_loop (body_trees rest.bodies)) first.1 second.1,
+      )
 
   parts_are_sound : (laws : Laws) (sc : Scope) (c : Context) (kind : Kind) (seen : Seen) (st : State) (xs : s.SectionTrees) → Returns sc c.result → is_left c ≡ true → IsTrue kind.compared → Ready sc st (checked_sections c kind seen st xs).state (checked_sections c kind seen st xs).trees → IsTrue (parts_sound xs) → (checked_sections c kind seen st xs).faults ≡ [] → SoundSections sc c.in_loop kind seen st (checked_sections c kind seen st xs)
   parts_are_sound laws sc c kind seen st s.no_sections returns out compared r given none = record { keeps = keeps_nowhere sc.names st r.agrees; sound = refl; fit = refl; distinct = refl; fresh = refl }

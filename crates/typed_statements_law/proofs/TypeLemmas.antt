@@ -1,6 +1,6 @@
 -- Types as the typed tree has them, and what the rules of conversions say of them.
-use Rattle.std.proofs.Common.{◌≡◌, ◌≤◌, ℕ, refl, sym, ap, subst, Bool, true, false, List, [], ◌∷◌, arith, Option, Some, None}
-use Rattle.std.specs.Prelude.{IsTrue, ◌&&◌, nat_lt, nat_le, nat_eq}
+use Rattle.std.proofs.Common.{◌≡◌, ◌≤◌, ℕ, refl, Bool, true, false, arith, Some}
+use Rattle.std.specs.Prelude.{IsTrue, nat_le, nat_eq}
 use Rattle.std.proofs.lemmas.Bool.Decides.{nat_tests}
 use Rattle.pt_base.specs.declared.int_type.IntType.{IntType}
 use Rattle.pt_base.specs.IntTypes.{promoted}
@@ -12,7 +12,7 @@ use Rattle.type_rules.specs.declared.types.Value.{Value}
 use Rattle.type_rules.specs.Conversions.{condition_rule, fit_rule, is_wrong}
 use Rattle.typed_tree.specs.declared.types.VarTy.{VarTy}
 use Rattle.typed_tree.specs.declared.types.VarTy.TheVariants as v
-use Rattle.typed_tree.specs.TypeTests.{place_of, same_int, same_bool, same_elem, same_type, same_types, is_scalar, is_value}
+use Rattle.typed_tree.specs.TypeTests.{place_of, same_int, same_bool, same_elem, same_type, is_scalar, is_value}
 use Rattle.typed_tree.specs.WellFormed.{is_variable_type}
 use Rattle.typed_tree.specs.WellFormedExpression.{is_elem}
 use Rattle.typed_tree.specs.WellFormedStatement.{promotes_to}

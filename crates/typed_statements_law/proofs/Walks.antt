@@ -1,6 +1,6 @@
 -- Whatever the faults, declarations and initialisers number their outermost expressions one after the
 -- other, and add variables at the end.
-use Rattle.std.proofs.Common.{◌≡◌, ℕ, ◌+◌, refl, sym, List, [], ◌∷◌, ◌++◌, Bool, false, Option, Some, None, append-nil, length, map, arith}
+use Rattle.std.proofs.Common.{ℕ, ◌+◌, refl, List, [], ◌∷◌, Bool, false, Option, Some, None, length, map, arith}
 use Rattle.std.specs.Prelude.{◌&&◌, is_some, not, slice_get}
 use Rattle.pt_base.specs.declared.ids.VarId.{VarId}
 use Rattle.pt_base.specs.declared.span.Span.{Span}
@@ -9,13 +9,12 @@ use Rattle.pt_tree.specs.StatementTree as s
 use Rattle.pt_tree.specs.StatementTree.{InitTree, InitDeclaratorTree, DeclarationTree, ForInitTree, no_init, single, braces}
 use Rattle.type_rules.specs.declared.types.Type.{«Type»}
 use Rattle.type_rules.specs.Types.{is_bad}
-use Rattle.typed_tree.specs.declared.part.Part.{Part}
 use Rattle.typed_tree.specs.declared.part.Role.TheVariants as role
 use Rattle.typed_tree.specs.Parts.{part_of, optional_part, init_parts, declarator_parts, declaration_parts, for_init_parts}
 use Rattle.declared_types.specs.declared.specifiers.Specified.{Specified}
 use Rattle.declared_types.specs.Specifiers.{specified}
 use Rattle.typed_statements.specs.Leaves.{leaves_of}
-use Rattle.typed_statements.specs.Outermost.{State, Placed, evaluated, tested, fitted, maybe_evaluated, maybe_tested}
+use Rattle.typed_statements.specs.Outermost.{State, maybe_evaluated, maybe_tested}
 use Rattle.typed_statements.specs.Initialisers.{item, items, initialised}
 use Rattle.typed_statements.specs.Declarations.{known_variable, local_type, variable_of, declared_one, declared_all, declared}
 use Rattle.typed_statements.specs.Statements.{for_begun, given_back, with_structs}
