@@ -1,0 +1,13 @@
+//! The front end: from the text of a program to the parts of its typed tree, or to the faults of the
+//! first stage that finds one.
+#![tactic(auto)]
+
+mod error;
+mod parse_fault;
+mod reading;
+#[cfg(test)]
+mod tests;
+
+pub use error::FrontError;
+pub use parse_fault::{ParseFault, ParseFaultKind};
+pub use reading::read_program;
