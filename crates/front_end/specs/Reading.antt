@@ -3,12 +3,14 @@
 use Rattle.std.specs.Prelude.{◌≡◌, ◌≤◌, ℕ, List, [], ◌∷◌, length, map, slice_get, Option, None, Some, Result, Ok, Err}
 use Rattle.c_lexer.specs.declared.TheConstants.{TEXT_LIMIT}
 use Rattle.c_lexer.specs.declared.token.Token.{Token}
+use Rattle.c_lexer.specs.declared.error.LexFault.{LexFault}
 use Rattle.c_lexer.specs.Lexes.{Lexes, IsLexFault}
 use Rattle.c_grammar.specs.Part.{items}
 use Rattle.c_grammar.specs.Machine.{Outcome, done, fault_at, too_deep}
 use Rattle.c_parser.specs.Answer.{Gives}
 use Rattle.pt_tree.specs.declared.parsed_program.Program.{Program}
 use Rattle.pt_tree.specs.ProgramTree.{ItemTree, view_item}
+use Rattle.typed_tree.specs.TypedTree.{TypedTree}
 use Rattle.declared_types.specs.declared.fault.TypeFault.{TypeFault}
 use Rattle.typed_programs.specs.declared.answer.Elaborated.{Elaborated}
 use Rattle.typed_programs.specs.Answers.{AreFaults, view_elaborated}
@@ -48,20 +50,12 @@ pub record IsParseFault (text : List ℕ) (fault : ParseFault) : Type 0 where
   pub stops : Gives tokens (stopped fault.kind number)
   pub place : fault.at ≡ place_of text (slice_get tokens number)
 
--- the text has a parsed tree, or the first fault of the first of two stages that finds one
-abbrev pub HasTree : List ℕ → Result Program FrontError → Type 0
-HasTree text (Ok p) = IsProgram text (map view_item p.items.items)
-HasTree text (Err (Lex fault)) = IsLexFault text fault
-HasTree text (Err (Parse fault)) = IsParseFault text fault
-HasTree text (Err (Types faults)) = ⊥
-HasTree text (Err Memory) = Unit {0}
-
 -- the text is a program without type faults, and this is its typed tree
-pub record IsTyped (text : List ℕ) (e : Elaborated) : Type 0 where
+pub record HasTypedTree (text : List ℕ) (tree : TypedTree) : Type 0 where
   pub program : List ItemTree
   pub reads : IsProgram text program
   pub faultless : type_faults program ≡ []
-  pub tree : view_elaborated e ≡ (checked_program program).tree
+  pub typed : tree ≡ (checked_program program).tree
 
 -- The text is a program with these type faults: all of them, at least one, in strictly ascending order
 -- of their places and then of their numbers.
@@ -70,11 +64,36 @@ pub record HasTypeFaults (text : List ℕ) (faults : List TypeFault) : Type 0 wh
   pub reads : IsProgram text program
   pub all : AreFaults faults (type_faults program)
 
--- the typed tree of the text, or the faults of the first stage that finds one; want of memory tells
--- nothing
+-- what a text comes to
+pub data Reading : Type 0 where
+  typed_tree : TypedTree → Reading
+  lex_fault : LexFault → Reading
+  parse_fault : ParseFault → Reading
+  type_faults_of : List TypeFault → Reading
+
+-- the text comes to its typed tree, or to the faults of the first stage that finds one
+abbrev pub ComesTo : List ℕ → Reading → Type 0
+ComesTo text (typed_tree tree) = HasTypedTree text tree
+ComesTo text (lex_fault fault) = IsLexFault text fault
+ComesTo text (parse_fault fault) = IsParseFault text fault
+ComesTo text (type_faults_of faults) = HasTypeFaults text faults
+
+-- what the text comes to; want of memory tells nothing
 abbrev pub Reads : List ℕ → Result Elaborated FrontError → Type 0
-Reads text (Ok e) = IsTyped text e
-Reads text (Err (Lex fault)) = IsLexFault text fault
-Reads text (Err (Parse fault)) = IsParseFault text fault
-Reads text (Err (Types faults)) = HasTypeFaults text faults.items
+Reads text (Ok e) = ComesTo text (typed_tree (view_elaborated e))
+Reads text (Err (Lex fault)) = ComesTo text (lex_fault fault)
+Reads text (Err (Parse fault)) = ComesTo text (parse_fault fault)
+Reads text (Err (Types faults)) = ComesTo text (type_faults_of faults.items)
 Reads text (Err Memory) = Unit {0}
+
+-- its parsed tree, or the faults of the first of two stages that finds one
+abbrev pub HasTree : List ℕ → Result Program FrontError → Type 0
+HasTree text (Ok p) = IsProgram text (map view_item p.items.items)
+HasTree text (Err (Lex fault)) = IsLexFault text fault
+HasTree text (Err (Parse fault)) = IsParseFault text fault
+HasTree text (Err (Types faults)) = ⊥
+HasTree text (Err Memory) = Unit {0}
+
+-- a text comes to one reading at most
+abbrev pub ReadingIsOne : Type 0
+ReadingIsOne = (text : List ℕ) (r s : Reading) → ComesTo text r → ComesTo text s → r ≡ s

@@ -3,11 +3,13 @@
 #![tactic(auto)]
 
 mod error;
+mod laws;
 mod parse_fault;
 mod reading;
 #[cfg(test)]
 mod tests;
 
 pub use error::FrontError;
+pub use laws::a_text_has_one_reading;
 pub use parse_fault::{ParseFault, ParseFaultKind};
 pub use reading::read_program;
