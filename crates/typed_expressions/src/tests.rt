@@ -193,6 +193,24 @@ fn faults_of_targets_and_calls_stand_at_their_places(rt: HostRuntime) -> Result<
 }
 
 #[test]
+fn trees_that_no_text_has_are_wrong(rt: HostRuntime) -> Result<(), Fail> {
+    let alloc = rt.alloc();
+    let whole = fault(FaultKind::WrongType, 0, 1);
+    let chain = Expr::chained(alloc, span(0, 1), name(alloc, 0, 1, b"i")?, Vec::new(alloc))?;
+    assert!(rt; is_judged(alloc, chain, Type::Bad, whole)?);
+    let names = some_names(alloc)?;
+    let mut structs: Structs = NameTable::new(alloc);
+    let mut faults = Vec::new(alloc);
+    let less = Some(BinaryOp::Less);
+    let first = name(alloc, 0, 1, b"i")?;
+    let store = Expr::assigned(alloc, span(0, 6), less, first, name(alloc, 5, 6, b"g")?)?;
+    let operand = expression(alloc, &names, &mut structs, &store, &mut faults)?;
+    assert!(rt; operand.ty == Type::Bad);
+    assert_eq!(rt; faults.len(), 2);
+    Ok(())
+}
+
+#[test]
 fn values_are_fitted_to_types(rt: HostRuntime) -> Result<(), Fail> {
     let alloc = rt.alloc();
     let names = some_names(alloc)?;
