@@ -110,10 +110,10 @@ same_parse_fault : (text : List ℕ) (f g : ParseFault) → IsParseFault text f 
 same_parse_fault text f g a b =
     let ts : a.tokens ≡ b.tokens = same_tokens text a.tokens b.tokens a.lexed b.lexed in
     let z : stopped f.kind a.number ≡ stopped g.kind b.number =
-      outcomes text a.tokens b.tokens _ _ a.lexed b.lexed a.stops b.stops (stopped_ends f.kind a.number) (stopped_ends g.kind b.number) in
+    outcomes text a.tokens b.tokens _ _ a.lexed b.lexed a.stops b.stops (stopped_ends f.kind a.number) (stopped_ends g.kind b.number) in
     let n : a.number ≡ b.number = same_number f.kind g.kind a.number b.number z in
     let at : place_of text (slice_get a.tokens a.number) ≡ place_of text (slice_get b.tokens b.number) =
-      ap (λ x. place_of text (slice_get x a.number)) ts ∙ ap (λ x. place_of text (slice_get b.tokens x)) n in
+    ap (λ x. place_of text (slice_get x a.number)) ts ∙ ap (λ x. place_of text (slice_get b.tokens x)) n in
     same_fault f g (same_kind f.kind g.kind a.number b.number z) (a.place ∙ at ∙ sym b.place)
 
 -- ---- types

@@ -22,8 +22,8 @@ none_in_empty x h = let lt : h.0 < 0 = h.1 in absurd (omega arith)
 in_cons : {X : Type 0} → (x : X) (xs : List X) (z : X) → Contains (x ∷ xs) z → (x ≡ z) ⊎ Contains xs z
 in_cons x xs z h =
     elim (Contains-append_cases (x ∷ []) xs z h) as (λ _. (x ≡ z) ⊎ Contains xs z) [
-      inl one ↦ elim (Contains-push_cases [] x z one) as (λ _. (x ≡ z) ⊎ Contains xs z) [ inl none ↦ absurd (none_in_empty z none) | inr e ↦ inl e ]
-    | inr rest ↦ inr rest
+      | inl one ↦ elim (Contains-push_cases [] x z one) as (λ _. (x ≡ z) ⊎ Contains xs z) [ inl none ↦ absurd (none_in_empty z none) | inr e ↦ inl e ]
+      | inr rest ↦ inr rest
     ]
 
 in_head : {X : Type 0} → (x : X) (xs : List X) → Contains (x ∷ xs) x
@@ -61,8 +61,10 @@ same_members R o (x ∷ xs) [] s t m = absurd (none_in_empty x ((m x).0 (in_head
 same_members R o (x ∷ xs) (y ∷ ys) s t m =
     let e : x ≡ y = heads R o x xs y ys s t (in_cons y ys x ((m x).0 (in_head x xs))) (in_cons x xs y ((m y).1 (in_head y ys))) in
     let rest : xs ≡ ys = same_members R o xs ys (sorted_tail R x xs s) (sorted_tail R y ys t)
-      (λ z. ((λ h. tails R o x xs y ys z s e h (in_cons y ys z ((m z).0 (in_tail x xs z h)))),
-        (λ h. tails R o y ys x xs z t (sym e) h (in_cons x xs z ((m z).1 (in_tail y ys z h)))))) in
+    (λ z. (
+      (λ h. tails R o x xs y ys z s e h (in_cons y ys z ((m z).0 (in_tail x xs z h)))),
+      (λ h. tails R o y ys x xs z t (sym e) h (in_cons x xs z ((m z).1 (in_tail y ys z h)))),
+    )) in
     cc
 
 -- ---- the order of faults

@@ -9,6 +9,7 @@ mod values;
 
 use super::*;
 use declared_types::TypeFault;
+use pt_base::Span;
 use std::alloc::{AllocError, Global};
 use std::process::Abort;
 use std::test::Fail;
@@ -17,6 +18,18 @@ use std::test::Fail;
 static DECLARATIONS: &str = "struct s { int f; const int k; }; struct t { int f; }; void v(void); \
 int h(int n); int u(int *at) { return 0; } \
 int main(void) { int i, *p, *q, r[2]; long *w; const int *c; struct s a; struct t b, d; ";
+
+/// Texts that have no tokens, or whose tokens are no program.
+static EARLIER_FAULTS: [&str; 8] = [
+    "int x = 09; => lex 3 BadNumber 8",
+    "int x = 'ab'; int main(int) { return @; } => lex 4 BadChar 8",
+    "int @; => lex 1 BadByte 4",
+    "int x; /* y => lex 2 OpenComment 7",
+    "int main(void) { return 0 } => parse 1 FaultAt 26",
+    "int x = 1 + ; int x; => parse 1 FaultAt 12",
+    "int  => parse 1 FaultAt 4",
+    "int main(void) { switch (1) { int a; } } => parse 1 FaultAt 30",
+];
 
 /// Type faults, as reports spell them.
 fn told_faults(alloc: Global, faults: &[TypeFault]) -> Result<String, AllocError> {
@@ -34,8 +47,8 @@ fn told_faults(alloc: Global, faults: &[TypeFault]) -> Result<String, AllocError
 }
 
 /// What a text comes to, as reports spell it.
-fn told(alloc: Global, text: &str) -> Result<String, AllocError> {
-    match read_program(alloc, text.as_bytes()) {
+fn told(alloc: Global, text: &[u8]) -> Result<String, AllocError> {
+    match read_program(alloc, text) {
         Ok(_) => String::from_str(alloc, "ok"),
         Err(FrontError::Memory) => String::from_str(alloc, "memory"),
         Err(FrontError::Lex(fault)) => {
@@ -59,9 +72,11 @@ fn hold<R: Abort + AllocGlobal>(
 ) -> Result<(), Fail> {
     let alloc = rt.alloc();
     for row in rows {
-        let (text, faults) = row.split_once(" => ").ok_or(Fail::new("a row is no row"))?;
+        let Some((text, faults)) = row.split_once(" => ") else {
+            return Err(Fail::new("no row"));
+        };
         let whole = format!(in alloc; "{before}{text}{after}")?;
-        assert_eq!(rt; told(alloc, &whole)?.as_str(), faults, "{row}");
+        assert_eq!(rt; told(alloc, whole.as_bytes())?.as_str(), faults, "{row}");
     }
     Ok(())
 }
@@ -82,6 +97,20 @@ fn faults_stand_where_the_rules_say(rt: HostRuntime) -> Result<(), Fail> {
     hold(&rt, "", &values::ITEMS, main)?;
     hold(&rt, DECLARATIONS, &values::BODIES, " }")?;
     hold(&rt, "", &values::PROGRAMS, "")
+}
+
+#[test]
+fn the_first_stage_with_a_fault_decides(rt: HostRuntime) -> Result<(), Fail> {
+    let alloc = rt.alloc();
+    hold(&rt, "", &EARLIER_FAULTS, "")?;
+    let mut text = vec![in alloc; b' '; 1_048_576]?;
+    assert_eq!(rt; told(alloc, &text)?.as_str(), "8 NoMain 0..0");
+    text.push(b' ')?;
+    assert_eq!(rt; told(alloc, &text)?.as_str(), "lex 5 TooLong 1048576");
+    let mut deep = b"int main(void) {".to_vec(alloc)?;
+    deep.resize(217, b'{')?;
+    assert_eq!(rt; told(alloc, &deep)?.as_str(), "parse 2 TooDeep 216");
+    Ok(())
 }
 
 #[test]
