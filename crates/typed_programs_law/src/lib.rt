@@ -1,0 +1,2 @@
+//! What holds of programs without a fault: their typed trees are well formed.
+#![tactic(auto)]
