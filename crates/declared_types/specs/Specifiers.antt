@@ -1,5 +1,5 @@
 -- What a list of specifiers says, and the structs that it declares (C99 6.7.1 to 6.7.3).
-use Rattle.std.specs.Prelude.{List, [], ◌∷◌, ◌++◌, Bool, true, false, not, Option, Some, None, option_to_list, is_none, unwrap_or, map, count_by, nat_le, if◌then◌else◌}
+use Rattle.std.specs.Prelude.{List, [], ◌∷◌, ◌++◌, Bool, true, false, not, ◌||◌, Option, Some, None, option_to_list, is_none, unwrap_or, length, map, count_by, nat_eq, nat_le, if◌then◌else◌}
 use Rattle.std.specs.List.{list_any}
 use Rattle.pt_base.specs.declared.span.Span.{Span}
 use Rattle.pt_tree.specs.declared.word.Word.{Word}
@@ -74,14 +74,17 @@ referred structs tag = record {
 }
 
 -- a struct specifier with a body, at its closing brace: of two structs of one tag the first stays.
--- Bodies stand at file scope; another is judged all the same, but names no type
+-- Bodies stand at file scope; another is judged all the same, but names no type. One that declares no
+-- field is left out too (C99 6.7.2.1p7)
 unfoldable pub defined : Bool → Span → Word → Structs → Fields → Naming
 defined at_file first tag structs fields =
     let after = with_struct structs tag.bytes fields in
     record {
       structs = after;
       types = (if at_file then struct_type after tag.bytes else ty.Bad) ∷ [];
-      faults = fault_if (not (is_new structs tag.bytes)) Redeclared tag.span ++ fault_if (not at_file) OutOfProfile first;
+      faults =
+          fault_if (not (is_new structs tag.bytes)) Redeclared tag.span
+          ++ fault_if (not at_file || nat_eq (length fields) 0) OutOfProfile first;
     }
 
 -- the same, with the faults of the body before it

@@ -181,9 +181,10 @@ fn define(
         faults.new.items ≡ faults.old.items
         ++ (is.defined at_file first tag.now structs.old fields).faults) }
 {
+    let is_empty = fields.count() == 0;
     let is_new = declare_struct(alloc, structs, tag.bytes.as_slice(), fields)?;
     note_if(faults, !is_new, FaultKind::Redeclared, tag.span)?;
-    note_if(faults, !at_file, FaultKind::OutOfProfile, first)?;
+    note_if(faults, !at_file || is_empty, FaultKind::OutOfProfile, first)?;
     Ok(if at_file {
         struct_named(structs, tag.bytes.as_slice())
     } else {

@@ -308,6 +308,22 @@ fn a_body_elsewhere_declares_its_struct(rt: HostRuntime) -> Result<(), Fail> {
 }
 
 #[test]
+fn a_body_declares_a_field(rt: HostRuntime) -> Result<(), Fail> {
+    let alloc = rt.alloc();
+    let mut structs = Structs::new(alloc);
+    let mut body = Vec::new(alloc);
+    body.push(FieldDecl {
+        span: at(60),
+        specs: keywords(alloc, &[Is::Int])?,
+        declarators: Vec::new(alloc),
+    })?;
+    let specs = structure(alloc, "none", body)?;
+    let expected = [fault(FaultKind::OutOfProfile, 50)];
+    judged(&rt, &mut structs, true, &specs, &expected, alloc)?;
+    Ok(())
+}
+
+#[test]
 fn of_two_structs_the_first_stays(rt: HostRuntime) -> Result<(), Fail> {
     let alloc = rt.alloc();
     let mut structs = declared(&rt, alloc)?;

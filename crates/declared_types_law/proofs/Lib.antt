@@ -1,0 +1,10 @@
+pub mod FaultLemmas
+pub mod GoodTypes
+pub mod ObjectLemmas
+pub mod TableLemmas
+pub mod TypedLeaves
+pub mod SizeLemmas
+pub mod LeavesLemmas
+pub mod StructLemmas
+pub mod SpecifierLemmas
+pub mod FieldLemmas

@@ -1,5 +1,5 @@
 -- What holds of declarations without a fault.
-use Rattle.std.specs.Prelude.{◌≡◌, ℕ, List, [], ◌++◌, Bool, true, false, IsTrue, length, map, nat_le}
+use Rattle.std.specs.Prelude.{◌≡◌, ℕ, [], ◌++◌, Bool, false, IsTrue, length, map, nat_le}
 use Rattle.pt_base.specs.declared.span.Span.{Span}
 use Rattle.pt_tree.specs.SpecifierTree.{SpecTrees}
 use Rattle.pt_tree.specs.declared.specifier.Suffix.{Suffix}
@@ -44,16 +44,16 @@ ResultsAreSound = (structs : ℕ) (given : Specified) (pointer : Bool) (suffix :
 
 -- the typed tree counts the cells of an object that isn't too large alike, whatever structs come later
 abbrev pub SizesAreSound : Type 0
-SizesAreSound = (structs more : Structs) (ty : «Type») (at : Span) → SoundStructs (structs ++ more) →
-    IsTrue (is_plain (length structs) ty) → size_faults structs ty at ≡ [] →
-    (typed.cells_of (infos_of (structs ++ more)) (object_type_of ty) ≡ cells_of structs ty) ×
-    IsTrue (nat_le (typed.cells_of (infos_of (structs ++ more)) (object_type_of ty)) 65_536)
+SizesAreSound = (structs more : Structs) (t : «Type») (at : Span) → SoundStructs (structs ++ more) →
+    IsTrue (is_plain (length structs) t) → size_faults structs t at ≡ [] →
+    (typed.cells_of (infos_of (structs ++ more)) (object_type_of t) ≡ cells_of structs t) ×
+    IsTrue (nat_le (typed.cells_of (infos_of (structs ++ more)) (object_type_of t)) 65_536)
 
 -- and it has the same integers, in order
 abbrev pub LeavesAreSound : Type 0
-LeavesAreSound = (structs more : Structs) (ty : «Type») (at : Span) → SoundStructs (structs ++ more) →
-    IsTrue (is_plain (length structs) ty) → size_faults structs ty at ≡ [] →
-    leaves_of structs ty ≡ map ty.Int (typed.leaves_of (infos_of (structs ++ more)) (object_type_of ty))
+LeavesAreSound = (structs more : Structs) (t : «Type») (at : Span) → SoundStructs (structs ++ more) →
+    IsTrue (is_plain (length structs) t) → size_faults structs t at ≡ [] →
+    leaves_of structs t ≡ map ty.Int (typed.leaves_of (infos_of (structs ++ more)) (object_type_of t))
 
 -- a sound table makes a well formed list of structs
 abbrev pub StructsAreWellFormed : Type 0

@@ -1,5 +1,5 @@
 -- Which tables of structs are sound.
-use Rattle.std.specs.Prelude.{◌≡◌, ◌≤◌, ⊤, ℕ, List, [], ◌∷◌, ◌++◌, ◌&&◌, IsTrue, length, nat_le}
+use Rattle.std.specs.Prelude.{◌≡◌, ◌≤◌, ⊤, [], ◌∷◌, ◌++◌, Bool, ◌&&◌, IsTrue, length, nat_le}
 use Rattle.std.specs.List.{list_all}
 use Rattle.declared_types.specs.declared.structs.FieldEntry.{FieldEntry}
 use Rattle.declared_types.specs.declared.structs.StructEntry.{StructEntry}

@@ -11,6 +11,7 @@ use Rattle.std.specs.Option.{option_and_then, is_some}
 use Rattle.privtrans_app.specs.declared.early.Host.{Host}
 use Rattle.privtrans_app.specs.EarlyPair.{pair_run}
 use Rattle.privtrans_app.specs.EarlyInput.{Texts, most, KeepsConditions, IsGoodText, ArePolicyModels, HaveNoModels, IsEarly, IsNotBuilt, IsBuilt}
+use Rattle.privtrans_app.proofs.EarlyWordLemmas.{main_is_main}
 use Rattle.privtrans_app.proofs.TextLemmas.{one}
 use Rattle.privtrans_app.proofs.RunLemmas.{pair_keeps}
 use Rattle.privtrans_app.proofs.TableAndPolicy.{models_are_steady, policy_allows}
@@ -25,7 +26,7 @@ built_by t turns p models state allowed early = record {
   state = state;
   allowed = allowed;
   early = early;
-  is = pair_keeps p models state allowed turns early.good.keeps.names early.good.keeps.taint (models_are_steady p.hosts t.host models early.given.hosts)
+  is = pair_keeps p models state allowed turns (main_is_main t.program p early.good.text) early.good.keeps.names early.good.keeps.taint (models_are_steady p.hosts t.host models early.given.hosts)
       (policy_allows t.policy p.hosts state allowed early.given.policy) early.good.keeps.enough;
 }
 

@@ -2,7 +2,9 @@ pub mod CompleteLemmas
 pub mod EarlyHostLemmas
 pub mod EarlyInputLemmas
 pub mod EarlyPolicyLemmas
+pub mod EarlyWordLemmas
 pub mod FreshLemmas
+pub mod FunctionLemmas
 pub mod GrammarLemmas
 pub mod IndexLemmas
 pub mod LocalLemmas

@@ -1,5 +1,5 @@
 -- The pair's halves, with handles revealed, go as the program does.
-use Rattle.std.proofs.Common.{◌≡◌, ◌<◌, ◌+◌, ℕ, zero, suc, ℤ, pos, List, [], ◌∷◌, ◌++◌, length, map, get_or, refl, sym, ◌∙◌, ap, subst, arith, Bool, true, false, not, ◌&&◌, ◌||◌, if◌then◌else◌, nat_eq, nat_lt, Option, Some, None, append_assoc, length-append, option_map}
+use Rattle.std.proofs.Common.{◌≡◌, ◌<◌, ◌+◌, ℕ, zero, suc, ℤ, pos, List, [], ◌∷◌, ◌++◌, length, map, get_or, refl, sym, ◌∙◌, ap, subst, arith, Bool, true, false, not, ◌&&◌, ◌||◌, if◌then◌else◌, nat_eq, nat_lt, Option, Some, None, append_assoc, length-append}
 use Rattle.std.specs.Prelude.{⊤, slice_get}
 use Rattle.std.specs.Str.{bytes_eq}
 use Rattle.std.proofs.lemmas.List.{get_or_push}
@@ -7,13 +7,19 @@ use Rattle.std.proofs.Math.ListN.{get_or-append}
 use Rattle.pt_tree.specs.declared.host_model.HostModel.{HostModel}
 use Rattle.pt_tree.specs.declared.host_model.HostModel.TheVariants.{Table, Feed, Input, Bytes, Line}
 use Rattle.pt_tree.specs.HostStep.{Answer, host_step}
-use Rattle.source_meaning.specs.Memory.{number, local}
 use Rattle.pt_tree.specs.PlainNumbers.{plain_numbers}
-use Rattle.source_meaning.specs.State.{State, Event, out, guarded, Hosts, put_host, Value, holds, nothing, numbers_of, gives, ◌>>=◌, take_turn}
-use Rattle.source_meaning.specs.Meaning.{Calls, value_of, values_of, guarded_event, out_event, result_value, answered, host_call}
+use Rattle.pt_base.specs.declared.span.Span.{Span}
+use Rattle.typed_tree.specs.declared.types.VarTy.{VarTy}
+use Rattle.typed_tree.specs.HostProgram.{nowhere}
+use Rattle.source_meaning.specs.Memory.{number, local, read}
+use Rattle.source_meaning.specs.State.{State, Event, out, guarded, Hosts, put_host, Outcome, gives, ◌>>=◌, take_turn}
+use Rattle.source_meaning.specs.Values.{Value, holds, whole, nothing, numbers_of}
+use Rattle.source_meaning.specs.Expressions.{Calls, Context, type_at, loaded, value_of, values_of}
+use Rattle.source_meaning.specs.Functions.{guarded_event, out_event, noted, result_value, answered}
 use Rattle.source_meaning.specs.Run.{written}
+use Rattle.source_meaning.specs.WholeRun.{main_frame}
 use Rattle.privtrans_app.specs.Names.{is_in, place_in, all_differ}
-use Rattle.privtrans_app.specs.EarlyTree.{names_of, param_of, signature_of, arg_tree, args_tree, call_tree}
+use Rattle.privtrans_app.specs.EarlyTree.{names_of, param_of, signature_of, int_type, variable_tree, arg_tree, args_tree, call_tree}
 use Rattle.privtrans_app.specs.EarlyConditions.{host_of, param_names, has_marked, host_is_good, hosts_are_good, arg_is_good, args_are_good}
 use Rattle.privtrans_app.specs.EarlyTaint.{ArgKeeps, ArgsKeep}
 use Rattle.privtrans_app.specs.EarlyPair.{Pair, model_at, revealed, plain_of, arg_held, sent_for, sent, args_held, call_numbers, Called, bytes_of, replied, host_called}
@@ -101,11 +107,6 @@ host_good hosts name h good is = subst IsGood is (host_good_or hosts name good)
 marks_good : (h : Host) → host_is_good h ≡ true → (is_privileged h.mark || not (has_marked h.params)) ≡ true
 marks_good h good = (both (nat_lt (length h.params) 9 && all_differ (param_names h.params)) (is_privileged h.mark || not (has_marked h.params)) good).1
 
-pub signature_at : (hosts : List Host) (f : ℕ) (h : Host) → slice_get hosts f ≡ Some h → slice_get (map signature_of hosts) f ≡ Some (signature_of h)
-signature_at [] f h is = cc
-signature_at (k ∷ hosts) zero h is = ap (option_map signature_of) is
-signature_at (k ∷ hosts) (suc f) h is = signature_at hosts f h is
-
 -- ---- events
 
 append-nil : (xs : List ℕ) → xs ++ [] ≡ xs
@@ -121,10 +122,10 @@ written_out : (o : Option (List ℕ)) → written (out_event o) ≡ bytes_of o
 written_out None = refl
 written_out (Some bytes) = append-nil bytes
 
-written_guarded : (h : Host) (f : ℕ) (vs : List ℤ) → written (guarded_event (Some (signature_of h)) f vs) ≡ []
+written_guarded : (h : Host) (f : ℕ) (vs : List Value) → written (guarded_event main_frame (signature_of h) f vs) ≡ []
 written_guarded h f vs = go (is_privileged h.mark)
   where
-    go : (b : Bool) → written (if b then guarded f (plain_numbers (map param_of h.params) vs) ∷ [] else []) ≡ []
+    go : (b : Bool) → written (if b && true then guarded f (plain_numbers (map param_of h.params) (numbers_of vs)) ∷ [] else []) ≡ []
     go true = refl
     go false = refl
 
@@ -137,10 +138,10 @@ guarded_out : (hosts : List Host) (o : Option (List ℕ)) → AreGuarded hosts (
 guarded_out hosts None = tt
 guarded_out hosts (Some bytes) = tt
 
-guarded_call : (hosts : List Host) (h : Host) (f : ℕ) (vs : List ℤ) → slice_get hosts f ≡ Some h → AreGuarded hosts (guarded_event (Some (signature_of h)) f vs)
+guarded_call : (hosts : List Host) (h : Host) (f : ℕ) (vs : List Value) → slice_get hosts f ≡ Some h → AreGuarded hosts (guarded_event main_frame (signature_of h) f vs)
 guarded_call hosts h f vs is = go (is_privileged h.mark) refl
   where
-    go : (b : Bool) → is_privileged h.mark ≡ b → AreGuarded hosts (if b then guarded f (plain_numbers (map param_of h.params) vs) ∷ [] else [])
+    go : (b : Bool) → is_privileged h.mark ≡ b → AreGuarded hosts (if b && true then guarded f (plain_numbers (map param_of h.params) (numbers_of vs)) ∷ [] else [])
     go true e = ((h, is, e), tt)
     go false e = tt
 
@@ -170,21 +171,35 @@ abbrev pub cells_of : List ℤ → List Held → List Value
 cells_of kept [] = []
 cells_of kept (h ∷ hs) = holds (number (revealed kept h)) ∷ cells_of kept hs
 
-arg_value : (names : List (List ℕ)) (T : ℕ → Type 0) (hosts : List Host) (models : List HostModel) (pair : Pair) (st : State) (calls : Calls)
-    → Agrees (length names) T hosts models pair st → (a : Arg) → arg_is_good names a ≡ true
-    → value_of (arg_tree names a) calls 1 st ≡ gives (holds (number (revealed pair.stored (arg_held names pair.variables a)))) st
-arg_value names T hosts models pair st calls agrees (Number n) good = refl
-arg_value names T hosts models pair st calls agrees (Variable x) good =
-    ap (λ cells. gives (holds (get_or cells 0 (number (pos 0)))) st) (agrees.cells (place_in names x) (place_in-lt names x good))
+-- what main's expressions are evaluated with
+abbrev pub main_context : List VarTy → Calls → Context
+main_context types calls = record { structs = []; globals = []; variables = types; frame = main_frame; calls = calls }
 
-args_values : (names : List (List ℕ)) (T : ℕ → Type 0) (hosts : List Host) (models : List HostModel) (pair : Pair) (st : State) (calls : Calls)
+-- each variable is an int
+abbrev pub AreInts : List VarTy → Type 0
+AreInts types = (x : ℕ) → type_at types x ≡ int_type
+
+pub variable_value : (types : List VarTy) (calls : Calls) (st : State) (x : ℕ) → AreInts types
+    → value_of (variable_tree x) (main_context types calls) st ≡ gives (holds (read st.memory (local 1 x) 0)) st
+variable_value types calls st x ints =
+    ap (λ (ty : VarTy). gives (loaded (main_context types calls) (record { block = local 1 x; cell = 0; ty = ty }) ty st) st) (ints x)
+
+arg_value : (names : List (List ℕ)) (T : ℕ → Type 0) (hosts : List Host) (models : List HostModel) (pair : Pair) (st : State) (types : List VarTy) (calls : Calls) → AreInts types
+    → Agrees (length names) T hosts models pair st → (a : Arg) → arg_is_good names a ≡ true
+    → value_of (arg_tree names a) (main_context types calls) st ≡ gives (holds (number (revealed pair.stored (arg_held names pair.variables a)))) st
+arg_value names T hosts models pair st types calls ints agrees (Number n) good = refl
+arg_value names T hosts models pair st types calls ints agrees (Variable x) good =
+    variable_value types calls st (place_in names x) ints
+    ∙ ap (λ cells. gives (holds (get_or cells 0 (number (pos 0)))) st) (agrees.cells (place_in names x) (place_in-lt names x good))
+
+args_values : (names : List (List ℕ)) (T : ℕ → Type 0) (hosts : List Host) (models : List HostModel) (pair : Pair) (st : State) (types : List VarTy) (calls : Calls) → AreInts types
     → Agrees (length names) T hosts models pair st → (rest : List Arg) → args_are_good names rest ≡ true
-    → values_of (args_tree names rest) calls 1 st ≡ gives (cells_of pair.stored (args_held names pair.variables rest)) st
-args_values names T hosts models pair st calls agrees [] good = refl
-args_values names T hosts models pair st calls agrees (a ∷ rest) good =
+    → values_of (args_tree names rest) (main_context types calls) st ≡ gives (cells_of pair.stored (args_held names pair.variables rest)) st
+args_values names T hosts models pair st types calls ints agrees [] good = refl
+args_values names T hosts models pair st types calls ints agrees (a ∷ rest) good =
     let goods : (arg_is_good names a ≡ true) × (args_are_good names rest ≡ true) = both (arg_is_good names a) (args_are_good names rest) good in
-    ap (λ r. r >>= λ v st1. values_of (args_tree names rest) calls 1 st1 >>= λ vs. gives (v ∷ vs)) (arg_value names T hosts models pair st calls agrees a goods.0)
-    ∙ ap (λ r. r >>= λ vs. gives (holds (number (revealed pair.stored (arg_held names pair.variables a))) ∷ vs)) (args_values names T hosts models pair st calls agrees rest goods.1)
+    ap (λ r. r >>= λ v st1. values_of (args_tree names rest) (main_context types calls) st1 >>= λ vs. gives (v ∷ vs)) (arg_value names T hosts models pair st types calls ints agrees a goods.0)
+    ∙ ap (λ r. r >>= λ vs. gives (holds (number (revealed pair.stored (arg_held names pair.variables a))) ∷ vs)) (args_values names T hosts models pair st types calls ints agrees rest goods.1)
 
 -- what is no handle is its number
 plain_is : (kept : List ℤ) (May : Type 0) (count : ℕ) (h : Held) → HandleFits count May h → (May → ⊥) → plain_of h ≡ revealed kept h
@@ -257,6 +272,7 @@ numbers_fit names T hosts models pair st agrees false ps rest is same good keeps
 abbrev pub ResultIs : Option Held → List ℤ → Value → Bool → Type 0
 ResultIs None kept nothing sealed = ⊤
 ResultIs None kept (holds cell) sealed = ⊥
+ResultIs None kept (whole cells) sealed = ⊥
 ResultIs (Some h) kept value sealed = (value ≡ holds (number (revealed kept h))) × HandleFits (length kept) (sealed ≡ true) h
 
 revealed_more : (kept : List ℤ) (v : ℤ) (May : Type 0) (h : Held) → HandleFits (length kept) May h → revealed (kept ++ v ∷ []) h ≡ revealed kept h
@@ -280,12 +296,12 @@ more_stored count T hosts models pair st v agrees = record {
 }
 
 -- the state after a host's answer
-abbrev pub answered_state : List Host → ℕ → ℕ → List ℤ → Answer → State → State
-answered_state hosts f left vs answer st = record {
+abbrev pub answered_state : Host → ℕ → ℕ → List Value → Answer → State → State
+answered_state h f left vs answer st = record {
   memory = st.memory;
   hosts = put_host st.hosts f answer.next;
   input = st.input;
-  events = (st.events ++ guarded_event (slice_get (map signature_of hosts) f) f vs) ++ out_event answer.written;
+  events = (st.events ++ guarded_event main_frame (signature_of h) f vs) ++ out_event answer.written;
   left = left;
 }
 
@@ -297,12 +313,11 @@ models_kept hosts models f next are is g = go (nat_eq g f) refl
     go true e = let same : g ≡ f = grind arith in is ∙ ap (model_at models) (sym same)
     go false e = are g
 
-answer_agrees : (count : ℕ) (T : ℕ → Type 0) (hosts : List Host) (models : List HostModel) (pair : Pair) (st : State) (h : Host) (f left : ℕ) (vs : List ℤ) (answer : Answer)
+answer_agrees : (count : ℕ) (T : ℕ → Type 0) (hosts : List Host) (models : List HostModel) (pair : Pair) (st : State) (h : Host) (f left : ℕ) (vs : List Value) (answer : Answer)
     → Agrees count T hosts models pair st → slice_get hosts f ≡ Some h → answer.next ≡ model_at models f
-    → Agrees count T hosts models (record pair { out = pair.out ++ bytes_of answer.written }) (answered_state hosts f left vs answer st)
+    → Agrees count T hosts models (record pair { out = pair.out ++ bytes_of answer.written }) (answered_state h f left vs answer st)
 answer_agrees count T hosts models pair st h f left vs answer agrees is next =
-    let sig : slice_get (map signature_of hosts) f ≡ Some (signature_of h) = signature_at hosts f h is in
-    let event : List Event = guarded_event (slice_get (map signature_of hosts) f) f vs in
+    let event : List Event = guarded_event main_frame (signature_of h) f vs in
     record {
       count_is = agrees.count_is;
       cells = agrees.cells;
@@ -311,12 +326,11 @@ answer_agrees count T hosts models pair st h f left vs answer agrees is next =
       no_input = agrees.no_input;
       bytes = written-append (st.events ++ event) (out_event answer.written)
           ∙ ap (λ bs. bs ++ written (out_event answer.written)) (written-append st.events event
-          ∙ ap (λ o. written st.events ++ written (guarded_event o f vs)) sig
           ∙ ap (λ bs. written st.events ++ bs) (written_guarded h f vs)
           ∙ append-nil (written st.events) ∙ agrees.bytes)
           ∙ ap (λ bs. pair.out ++ bs) (written_out answer.written);
       calls_are = guarded-append hosts (st.events ++ event) (out_event answer.written)
-          (guarded-append hosts st.events event agrees.calls_are (subst (λ o. AreGuarded hosts (guarded_event o f vs)) (sym sig) (guarded_call hosts h f vs is)))
+          (guarded-append hosts st.events event agrees.calls_are (guarded_call hosts h f vs is))
           (guarded_out hosts answer.written);
     }
 
@@ -331,37 +345,47 @@ reply_is sealed None pair = tt
 reply_is true (Some v) pair = (ap (λ w. holds (number w)) (sym (get_or_push pair.stored v (pos 0) (length pair.stored) refl)), (omega (arith, length-append pair.stored (v ∷ [])), refl))
 reply_is false (Some v) pair = (refl, tt)
 
+-- what a call of this host from main does
+abbrev pub host_reached : Host → ℕ → List Value → State → Outcome Value
+host_reached h f vs st = take_turn st.left st (λ st1.
+    answered f (host_step st1.input (st1.hosts f) (numbers_of vs)) (noted (guarded_event main_frame (signature_of h) f vs) st1))
+
+-- main's calls reach the hosts
+abbrev pub ReachHosts : List Host → Calls → Type 0
+ReachHosts hosts calls = (f : ℕ) (h : Host) (s : Span) (vs : List Value) (st : State) → slice_get hosts f ≡ Some h → calls main_frame s f vs st ≡ host_reached h f vs st
+
 -- What a call comes to in the program and in the pair.
-pub record CallGoes (names : List (List ℕ)) (T : ℕ → Type 0) (hosts : List Host) (models : List HostModel) (pair : Pair) (st : State) (c : Call) (sealed : Bool) (called : Called) : Type 0 where
+pub record CallGoes (names : List (List ℕ)) (T : ℕ → Type 0) (hosts : List Host) (models : List HostModel) (types : List VarTy) (calls : Calls) (pair : Pair) (st : State) (c : Call) (sealed : Bool) (called : Called) : Type 0 where
   pub value : Value
   pub after : State
-  pub does : value_of (call_tree hosts names c) (host_call (map signature_of hosts)) 1 st ≡ gives value after
+  pub does : value_of (call_tree hosts names c) (main_context types calls) st ≡ gives value after
   pub agrees : Agrees (length names) T hosts models called.pair after
   pub left : after.left + 1 ≡ st.left
   pub result : ResultIs called.result called.pair.stored value sealed
 
-pub host_goes : (names : List (List ℕ)) (T : ℕ → Type 0) (hosts : List Host) (models : List HostModel) (pair : Pair) (st : State) (c : Call) (h : Host) (left : ℕ)
-    → Agrees (length names) T hosts models pair st → AreSteady models → host_of hosts c.callee ≡ Some h → host_is_good h ≡ true
+pub host_goes : (names : List (List ℕ)) (T : ℕ → Type 0) (hosts : List Host) (models : List HostModel) (types : List VarTy) (calls : Calls) (pair : Pair) (st : State) (c : Call) (h : Host) (left : ℕ)
+    → AreInts types → ReachHosts hosts calls → Agrees (length names) T hosts models pair st → AreSteady models → host_of hosts c.callee ≡ Some h → host_is_good h ≡ true
     → length h.params ≡ length c.args → args_are_good names c.args ≡ true → ArgsKeep (λ x. T (place_in names x)) h.params c.args → st.left ≡ suc left
-    → CallGoes names T hosts models pair st c (is_privileged h.mark && not (is_declassified h.mark))
+    → CallGoes names T hosts models types calls pair st c (is_privileged h.mark && not (is_declassified h.mark))
     (host_called h (model_at models (place_in (names_of hosts) c.callee)) (args_held names pair.variables c.args) pair)
-host_goes names T hosts models pair st c h left agrees steady is good same args keeps turns =
+host_goes names T hosts models types calls pair st c h left ints reach agrees steady is good same args keeps turns =
     let f : ℕ = place_in (names_of hosts) c.callee in
-    let vs : List ℤ = numbers_of (cells_of pair.stored (args_held names pair.variables c.args)) in
+    let vs : List Value = cells_of pair.stored (args_held names pair.variables c.args) in
     let answer : Answer = host_step [] (model_at models f) (call_numbers (is_privileged h.mark) pair.stored (sent h.params (args_held names pair.variables c.args))) in
     let at : slice_get hosts f ≡ Some h = host_at hosts c.callee h is in
     let marks : (is_privileged h.mark || not (has_marked h.params)) ≡ true = marks_good h good in
-    let same_answer : host_step st.input (st.hosts f) vs ≡ answer =
-    ap (λ input. host_step input (st.hosts f) vs) agrees.no_input ∙ ap (λ m. host_step [] m vs) (agrees.models_are f)
+    let same_answer : host_step st.input (st.hosts f) (numbers_of vs) ≡ answer =
+    ap (λ input. host_step input (st.hosts f) (numbers_of vs)) agrees.no_input ∙ ap (λ m. host_step [] m (numbers_of vs)) (agrees.models_are f)
     ∙ ap (host_step [] (model_at models f)) (sym (numbers_fit names T hosts models pair st agrees (is_privileged h.mark) h.params c.args marks same args keeps)) in
     record {
       value = result_value answer.result;
-      after = answered_state hosts f left vs answer st;
+      after = answered_state h f left vs answer st;
       does =
-          ap (λ r. r >>= host_call (map signature_of hosts) 1 f) (args_values names T hosts models pair st (host_call (map signature_of hosts)) agrees c.args args)
-          ∙ ap (λ n. take_turn n st (λ st1. answered f (host_step st1.input (st1.hosts f) vs) (record st1 { events = st1.events ++ guarded_event (slice_get (map signature_of hosts) f) f vs }))) turns
-          ∙ ap (λ a. answered f a (record st { left = left; events = st.events ++ guarded_event (slice_get (map signature_of hosts) f) f vs })) same_answer;
-      agrees = reply_agrees (length names) T hosts models (record pair { out = pair.out ++ bytes_of answer.written }) (answered_state hosts f left vs answer st) (is_privileged h.mark && not (is_declassified h.mark)) answer.result
+          ap (λ r. r >>= calls main_frame nowhere f) (args_values names T hosts models pair st types calls ints agrees c.args args)
+          ∙ reach f h nowhere vs st at
+          ∙ ap (λ n. take_turn n st (λ st1. answered f (host_step st1.input (st1.hosts f) (numbers_of vs)) (noted (guarded_event main_frame (signature_of h) f vs) st1))) turns
+          ∙ ap (λ a. answered f a (noted (guarded_event main_frame (signature_of h) f vs) (record st { left = left }))) same_answer;
+      agrees = reply_agrees (length names) T hosts models (record pair { out = pair.out ++ bytes_of answer.written }) (answered_state h f left vs answer st) (is_privileged h.mark && not (is_declassified h.mark)) answer.result
           (answer_agrees (length names) T hosts models pair st h f left vs answer agrees at (steady_next (model_at models f) _ (steady_at models f steady)));
       left = omega (arith, turns);
       result = reply_is (is_privileged h.mark && not (is_declassified h.mark)) answer.result (record pair { out = pair.out ++ bytes_of answer.written });

@@ -1,23 +1,36 @@
 -- Whole early programs: their statements, their declarations, and what is expected of them.
 use Rattle.std.proofs.Common.{◌≡◌, ◌≢◌, ◌<◌, ◌≤◌, ◌+◌, ◌-◌, ℕ, zero, suc, pos, List, [], ◌∷◌, ◌++◌, length, map, get_or, set, refl, sym, ◌∙◌, ap, subst, arith, Bool, true, false, ◌&&◌, if◌then◌else◌, nat_eq, Option, Some, None, append_assoc}
 use Rattle.std.specs.Prelude.{⊤, slice_get, replicate}
+use Rattle.std.proofs.lemmas.Int.{ints}
 use Rattle.std.proofs.lemmas.List.{get_or-set_same, get_or-set_other, length-set}
 use Rattle.pt_base.specs.declared.end.End.{End}
 use Rattle.pt_base.specs.declared.end.End.TheVariants.{Exit}
 use Rattle.pt_tree.specs.declared.host_model.HostModel.{HostModel}
-use Rattle.source_meaning.specs.Memory.{Memory, Cell, number, local, put, read, write}
-use Rattle.source_meaning.specs.Program.{Statement as Said, give_back, constant}
-use Rattle.source_meaning.specs.State.{State, Event, out, guarded, Value, holds, nothing, gives, ◌>>=◌}
-use Rattle.source_meaning.specs.Meaning.{stored, goes_on, statement, after_flow, statements, host_call}
-use Rattle.source_meaning.specs.Run.{expected, expected_from, decided, after_bytes, ended, start, written}
+use Rattle.pt_base.specs.declared.int_type.IntType.TheVariants as i
+use Rattle.pt_int.specs.Conversion.{conv}
+use Rattle.pt_int.proofs.Conversions.{conv-same}
+use Rattle.typed_tree.specs.declared.types.VarTy.{VarTy}
+use Rattle.typed_tree.specs.ExpressionTree.{ExprTree}
+use Rattle.typed_tree.specs.StatementTree.{BodyTree, give_back, no_bodies, body_trees}
+use Rattle.typed_tree.specs.TypedTree.{FunctionTree}
+use Rattle.typed_tree.specs.HostProgram.{nowhere}
+use Rattle.source_meaning.specs.Memory.{Memory, Cell, number, local, put, read, write, nothing_live}
+use Rattle.source_meaning.specs.State.{State, Event, out, guarded, Outcome, gives, ◌>>=◌}
+use Rattle.source_meaning.specs.Values.{Value, holds, whole, nothing, Location, cleared}
+use Rattle.source_meaning.specs.Expressions.{Calls, type_at, sizes, store, value_of}
+use Rattle.source_meaning.specs.Statements.{Code, Flow, goes_on, returned, after_flow, statement, all_of, no_expr}
+use Rattle.source_meaning.specs.Functions.{body_or_none, calls_within}
+use Rattle.source_meaning.specs.Run.{expected, expected_from, decided, after_bytes, written}
+use Rattle.source_meaning.specs.WholeRun.{run_of}
 use Rattle.privtrans_app.specs.Names.{is_in, place_in, all_differ}
-use Rattle.privtrans_app.specs.EarlyTree.{names_of, signature_of, statement_tree, declares, meant}
+use Rattle.privtrans_app.specs.EarlyTree.{names_of, number_tree, statement_tree, declares, evaluates, main_function, meant}
 use Rattle.privtrans_app.specs.EarlyConditions.{host_of, hosts_are_good, args_are_good, callee_is_good, call_is_good, statement_is_good, statements_are_good, names_are_good, calls_in, call_count}
-use Rattle.privtrans_app.specs.EarlyTaint.{is_sealed, ArgsKeep, params_of, CallKeeps, StatementKeeps, StatementsKeep, sources, copies}
-use Rattle.privtrans_app.specs.EarlyPair.{Pair, model_at, revealed, arg_held, args_held, Called, called_of, call_made, holds_from_now, done, all_done, pair_start}
+use Rattle.privtrans_app.specs.EarlyTaint.{is_sealed, ArgsKeep, params_of, CallKeeps, StatementKeeps, StatementsKeep, KeepsTaint, sources, copies}
+use Rattle.privtrans_app.specs.EarlyPair.{Pair, model_at, revealed, arg_held, args_held, Called, called_of, call_made, holds_from_now, done, all_done, pair_start, pair_run}
 use Rattle.privtrans_app.specs.EarlyRun.{AreSteady, early_answers, AllAllowed, PairKeeps}
 use Rattle.privtrans_app.proofs.TaintLemmas.{Follows, AllFollow, all_follow}
-use Rattle.privtrans_app.proofs.PairLemmas.{HandleFits, no_number, AreGuarded, Agrees, place_in-lt, both, host_good, ResultIs, CallGoes, host_goes}
+use Rattle.privtrans_app.proofs.PairLemmas.{HandleFits, no_number, AreGuarded, Agrees, place_in-lt, both, host_good, main_context, AreInts, variable_value, ResultIs, ReachHosts, CallGoes, host_goes}
+use Rattle.privtrans_app.proofs.FunctionLemmas.{last_is, main_at, reaches, ints_are, AreNamed, named_all}
 use Rattle.propagation.specs.Paths.{IsPriv}
 use Rattle.privtrans_app.specs.declared.early.Host.{Host}
 use Rattle.privtrans_app.specs.declared.early.Arg.TheVariants.{Variable}
@@ -39,18 +52,18 @@ no_host count used (Some h) is good = cc
 callee_count : (h : Host) (count : ℕ) (used : Bool) → callee_is_good (Some h) count used ≡ true → length h.params ≡ count
 callee_count h count used good = let e : nat_eq (length h.params) count ≡ true = (both (nat_eq (length h.params) count) _ good).0 in grind arith
 
-call_goes : (names : List (List ℕ)) (T : ℕ → Type 0) (hosts : List Host) (models : List HostModel) (pair : Pair) (st : State) (c : Call) (used : Bool)
-    → Agrees (length names) T hosts models pair st → AreSteady models → hosts_are_good hosts ≡ true → call_is_good hosts names used c ≡ true
+call_goes : (names : List (List ℕ)) (T : ℕ → Type 0) (hosts : List Host) (models : List HostModel) (types : List VarTy) (calls : Calls) (pair : Pair) (st : State) (c : Call) (used : Bool)
+    → AreInts types → ReachHosts hosts calls → Agrees (length names) T hosts models pair st → AreSteady models → hosts_are_good hosts ≡ true → call_is_good hosts names used c ≡ true
     → CallKeeps (λ x. T (place_in names x)) hosts c → 1 ≤ st.left
-    → CallGoes names T hosts models pair st c (is_sealed (host_of hosts c.callee)) (call_made hosts models names c pair)
-call_goes names T hosts models pair st c used agrees steady goods good keeps turns =
+    → CallGoes names T hosts models types calls pair st c (is_sealed (host_of hosts c.callee)) (call_made hosts models names c pair)
+call_goes names T hosts models types calls pair st c used ints reach agrees steady goods good keeps turns =
     go (host_of hosts c.callee) refl (both (callee_is_good (host_of hosts c.callee) (length c.args) used) (args_are_good names c.args) good).0 keeps
   where
     go : (o : Option Host) → host_of hosts c.callee ≡ o → callee_is_good o (length c.args) used ≡ true → ArgsKeep (λ x. T (place_in names x)) (params_of o) c.args
-        → CallGoes names T hosts models pair st c (is_sealed o) (called_of o (model_at models (place_in (names_of hosts) c.callee)) (args_held names pair.variables c.args) pair)
+        → CallGoes names T hosts models types calls pair st c (is_sealed o) (called_of o (model_at models (place_in (names_of hosts) c.callee)) (args_held names pair.variables c.args) pair)
     go None is callee keep = cc
     go (Some h) is callee keep =
-        host_goes names T hosts models pair st c h (st.left - 1) agrees steady is (host_good hosts c.callee h goods is)
+        host_goes names T hosts models types calls pair st c h (st.left - 1) ints reach agrees steady is (host_good hosts c.callee h goods is)
         (callee_count h (length c.args) used callee) (both (callee_is_good (host_of hosts c.callee) (length c.args) used) (args_are_good names c.args) good).1 keep (omega arith)
 
 -- ---- statements
@@ -94,93 +107,117 @@ stores names T hosts models pair st at held cell agrees within is fits = record 
             subst (λ h. HandleFits (length pair.stored) (T i) h) (sym (reads_same i same)) (subst (λ k. HandleFits (length pair.stored) (T k) held) (sym same) fits)
         go false e = subst (λ h. HandleFits (length pair.stored) (T i) h) (sym (get_or-set_other pair.variables at i held no_number (λ same. grind arith))) (agrees.handles i lt)
 
+-- where the variable of this number lies
+abbrev target : List VarTy → ℕ → Location
+target types x = record { block = local 1 x; cell = 0; ty = type_at types x }
+
 -- What a statement comes to in the program and in the pair.
-record Steps (names : List (List ℕ)) (T : ℕ → Type 0) (hosts : List Host) (models : List HostModel) (pair : Pair) (st : State) (s : Statement) : Type 0 where
+record Steps (names : List (List ℕ)) (T : ℕ → Type 0) (hosts : List Host) (models : List HostModel) (types : List VarTy) (calls : Calls) (pair : Pair) (st : State) (s : Statement) : Type 0 where
+  pub value : Value
   pub after : State
-  pub does : statement (statement_tree hosts names s) (host_call (map signature_of hosts)) 1 st ≡ gives goes_on after
+  pub does : value_of (statement_tree hosts names s) (main_context types calls) st ≡ gives value after
   pub agrees : Agrees (length names) T hosts models (done hosts models names s pair) after
   pub left : after.left + calls_in s ≡ st.left
 
 -- what storing a call's result comes to
-record Kept (names : List (List ℕ)) (T : ℕ → Type 0) (hosts : List Host) (models : List HostModel) (pair : Pair) (st : State) (at : ℕ) (value : Value) : Type 0 where
+record Kept (names : List (List ℕ)) (T : ℕ → Type 0) (hosts : List Host) (models : List HostModel) (types : List VarTy) (pair : Pair) (st : State) (at : ℕ) (value : Value) : Type 0 where
   pub after : State
-  pub does : stored 1 at value st ≡ gives value after
+  pub does : store (target types at) value st ≡ gives value after
   pub agrees : Agrees (length names) T hosts models pair after
   pub left : after.left ≡ st.left
 
-keeps_result : (names : List (List ℕ)) (T : ℕ → Type 0) (hosts : List Host) (models : List HostModel) (pair : Pair) (st : State) (at : ℕ) (sealed : Bool) (o : Option Held) (value : Value)
+keeps_result : (names : List (List ℕ)) (T : ℕ → Type 0) (hosts : List Host) (models : List HostModel) (types : List VarTy) (pair : Pair) (st : State) (at : ℕ) (sealed : Bool) (o : Option Held) (value : Value)
     → Agrees (length names) T hosts models pair st → at < length names → (sealed ≡ true → T at) → ResultIs o pair.stored value sealed
-    → Kept names T hosts models (holds_from_now at o pair) st at value
-keeps_result names T hosts models pair st at sealed None nothing agrees within taints is = record { after = st; does = refl; agrees = agrees; left = refl }
-keeps_result names T hosts models pair st at sealed None (holds cell) agrees within taints is = absurd is
-keeps_result names T hosts models pair st at sealed (Some h) value agrees within taints is = record {
+    → Kept names T hosts models types (holds_from_now at o pair) st at value
+keeps_result names T hosts models types pair st at sealed None nothing agrees within taints is = record { after = st; does = refl; agrees = agrees; left = refl }
+keeps_result names T hosts models types pair st at sealed None (holds cell) agrees within taints is = absurd is
+keeps_result names T hosts models types pair st at sealed None (whole cells) agrees within taints is = absurd is
+keeps_result names T hosts models types pair st at sealed (Some h) value agrees within taints is = record {
   after = record st { memory = write st.memory (local 1 at) 0 (number (revealed pair.stored h)) };
-  does = subst (λ w. stored 1 at w st ≡ gives w (record st { memory = write st.memory (local 1 at) 0 (number (revealed pair.stored h)) })) (sym is.0) refl;
+  does = subst (λ w. store (target types at) w st ≡ gives w (record st { memory = write st.memory (local 1 at) 0 (number (revealed pair.stored h)) })) (sym is.0) refl;
   agrees = stores names T hosts models pair st at h (number (revealed pair.stored h)) agrees within refl (fits_move (length pair.stored) (sealed ≡ true) (T at) h is.1 taints);
   left = refl;
 }
 
-statement_steps : (names : List (List ℕ)) (T : ℕ → Type 0) (hosts : List Host) (models : List HostModel) (pair : Pair) (st : State) (s : Statement)
-    → Agrees (length names) T hosts models pair st → AreSteady models → hosts_are_good hosts ≡ true → statement_is_good hosts names s ≡ true
+statement_steps : (names : List (List ℕ)) (T : ℕ → Type 0) (hosts : List Host) (models : List HostModel) (types : List VarTy) (calls : Calls) (pair : Pair) (st : State) (s : Statement)
+    → AreInts types → ReachHosts hosts calls → Agrees (length names) T hosts models pair st → AreSteady models → hosts_are_good hosts ≡ true → statement_is_good hosts names s ≡ true
     → StatementKeeps (λ x. T (place_in names x)) hosts s → Follows T hosts names s → calls_in s ≤ st.left
-    → Steps names T hosts models pair st s
-statement_steps names T hosts models pair st (Set target (FromNumber n)) agrees steady goods good keeps follows turns =
-    let within : place_in names target < length names = place_in-lt names target (both (is_in names target) true good).0 in
+    → Steps names T hosts models types calls pair st s
+statement_steps names T hosts models types calls pair st (Set x (FromNumber n)) ints reach agrees steady goods good keeps follows turns =
+    let within : place_in names x < length names = place_in-lt names x (both (is_in names x) true good).0 in
     record {
-      after = record st { memory = write st.memory (local 1 (place_in names target)) 0 (number (pos n)) };
+      value = holds (number (pos n));
+      after = record st { memory = write st.memory (local 1 (place_in names x)) 0 (number (pos n)) };
       does = refl;
-      agrees = stores names T hosts models pair st (place_in names target) (Plain (pos n)) (number (pos n)) agrees within refl tt;
+      agrees = stores names T hosts models pair st (place_in names x) (Plain (pos n)) (number (pos n)) agrees within refl tt;
       left = omega arith;
     }
-statement_steps names T hosts models pair st (Set target (FromVariable x)) agrees steady goods good keeps follows turns =
-    let goods2 : (is_in names target ≡ true) × (is_in names x ≡ true) = both (is_in names target) (is_in names x) good in
-    let within : place_in names target < length names = place_in-lt names target goods2.0 in
-    let reads : place_in names x < length names = place_in-lt names x goods2.1 in
+statement_steps names T hosts models types calls pair st (Set x (FromVariable y)) ints reach agrees steady goods good keeps follows turns =
+    let goods2 : (is_in names x ≡ true) × (is_in names y ≡ true) = both (is_in names x) (is_in names y) good in
+    let within : place_in names x < length names = place_in-lt names x goods2.0 in
+    let reads : place_in names y < length names = place_in-lt names y goods2.1 in
     record {
-      after = record st { memory = write st.memory (local 1 (place_in names target)) 0 (read st.memory (local 1 (place_in names x)) 0) };
-      does = refl;
-      agrees = stores names T hosts models pair st (place_in names target) (arg_held names pair.variables (Variable x)) (read st.memory (local 1 (place_in names x)) 0) agrees within
-          (ap (λ cells. get_or cells 0 (number (pos 0))) (agrees.cells (place_in names x) reads))
-          (fits_move (length pair.stored) (T (place_in names x)) (T (place_in names target)) _ (agrees.handles (place_in names x) reads) follows);
+      value = holds (read st.memory (local 1 (place_in names y)) 0);
+      after = record st { memory = write st.memory (local 1 (place_in names x)) 0 (read st.memory (local 1 (place_in names y)) 0) };
+      does = ap (λ r. r >>= store (target types (place_in names x))) (variable_value types calls st (place_in names y) ints);
+      agrees = stores names T hosts models pair st (place_in names x) (arg_held names pair.variables (Variable y)) (read st.memory (local 1 (place_in names y)) 0) agrees within
+          (ap (λ cells. get_or cells 0 (number (pos 0))) (agrees.cells (place_in names y) reads))
+          (fits_move (length pair.stored) (T (place_in names y)) (T (place_in names x)) _ (agrees.handles (place_in names y) reads) follows);
       left = omega arith;
     }
-statement_steps names T hosts models pair st (Set target (FromCall c)) agrees steady goods good keeps follows turns =
-    let goods2 : (is_in names target ≡ true) × (call_is_good hosts names true c ≡ true) = both (is_in names target) (call_is_good hosts names true c) good in
-    let within : place_in names target < length names = place_in-lt names target goods2.0 in
+statement_steps names T hosts models types calls pair st (Set x (FromCall c)) ints reach agrees steady goods good keeps follows turns =
+    let goods2 : (is_in names x ≡ true) × (call_is_good hosts names true c ≡ true) = both (is_in names x) (call_is_good hosts names true c) good in
+    let within : place_in names x < length names = place_in-lt names x goods2.0 in
     let called : Called = call_made hosts models names c pair in
-    let goes : CallGoes names T hosts models pair st c (is_sealed (host_of hosts c.callee)) called = call_goes names T hosts models pair st c true agrees steady goods goods2.1 keeps turns in
-    let kept : Kept names T hosts models (holds_from_now (place_in names target) called.result called.pair) goes.after (place_in names target) goes.value =
-    keeps_result names T hosts models called.pair goes.after (place_in names target) (is_sealed (host_of hosts c.callee)) called.result goes.value goes.agrees within follows goes.result in
+    let goes : CallGoes names T hosts models types calls pair st c (is_sealed (host_of hosts c.callee)) called = call_goes names T hosts models types calls pair st c true ints reach agrees steady goods goods2.1 keeps turns in
+    let kept : Kept names T hosts models types (holds_from_now (place_in names x) called.result called.pair) goes.after (place_in names x) goes.value =
+    keeps_result names T hosts models types called.pair goes.after (place_in names x) (is_sealed (host_of hosts c.callee)) called.result goes.value goes.agrees within follows goes.result in
     record {
+      value = goes.value;
       after = kept.after;
-      does = ap (λ r. (r >>= stored 1 (place_in names target)) >>= λ v. gives goes_on) goes.does ∙ ap (λ r. r >>= λ v. gives goes_on) kept.does;
+      does = ap (λ r. r >>= store (target types (place_in names x))) goes.does ∙ kept.does;
       agrees = kept.agrees;
       left = ap (λ n. n + 1) kept.left ∙ goes.left;
     }
-statement_steps names T hosts models pair st (Do c) agrees steady goods good keeps follows turns =
-    let goes : CallGoes names T hosts models pair st c (is_sealed (host_of hosts c.callee)) (call_made hosts models names c pair) = call_goes names T hosts models pair st c false agrees steady goods good keeps turns in
-    record { after = goes.after; does = ap (λ r. r >>= λ v. gives goes_on) goes.does; agrees = goes.agrees; left = goes.left }
+statement_steps names T hosts models types calls pair st (Do c) ints reach agrees steady goods good keeps follows turns =
+    let goes : CallGoes names T hosts models types calls pair st c (is_sealed (host_of hosts c.callee)) (call_made hosts models names c pair) = call_goes names T hosts models types calls pair st c false ints reach agrees steady goods good keeps turns in
+    record { value = goes.value; after = goes.after; does = goes.does; agrees = goes.agrees; left = goes.left }
+
+-- what main's statements run with
+abbrev main_code : List VarTy → Calls → List ExprTree → Code
+main_code types calls exprs = record { context = main_context types calls; exprs = exprs }
 
 -- What statements come to in the program, whatever follows them, and in the pair.
-record AllStep (names : List (List ℕ)) (T : ℕ → Type 0) (hosts : List Host) (models : List HostModel) (pair : Pair) (st : State) (ss : List Statement) : Type 0 where
+record AllStep (names : List (List ℕ)) (T : ℕ → Type 0) (hosts : List Host) (models : List HostModel) (code : Code) (pair : Pair) (st : State) (from : ℕ) (ss : List Statement) : Type 0 where
   pub after : State
-  pub does : (rest : List Said) → statements (map (statement_tree hosts names) ss ++ rest) (host_call (map signature_of hosts)) 1 st ≡ statements rest (host_call (map signature_of hosts)) 1 after
+  pub does : (rest : List BodyTree) → all_of (body_trees (evaluates from (length ss) ++ rest)) code st ≡ all_of (body_trees rest) code after
   pub agrees : Agrees (length names) T hosts models (all_done hosts models names ss pair) after
 
-all_step : (names : List (List ℕ)) (T : ℕ → Type 0) (hosts : List Host) (models : List HostModel) (pair : Pair) (st : State) (ss : List Statement)
+-- a statement evaluates the outermost expression that it names
+evaluated : (types : List VarTy) (calls : Calls) (exprs : List ExprTree) (k : ℕ) (e : ExprTree) (value : Value) (st after : State) (rest : State → Outcome Flow)
+    → get_or exprs k no_expr ≡ e → value_of e (main_context types calls) st ≡ gives value after
+    → ((value_of (get_or exprs k no_expr) (main_context types calls) st >>= λ v. gives goes_on) >>= after_flow rest) ≡ rest after
+evaluated types calls exprs k e value st after rest is does =
+    ap (λ (x : ExprTree). (value_of x (main_context types calls) st >>= λ v. gives goes_on) >>= after_flow rest) is
+    ∙ ap (λ r. (r >>= λ v. gives goes_on) >>= after_flow rest) does
+
+all_step : (names : List (List ℕ)) (T : ℕ → Type 0) (hosts : List Host) (models : List HostModel) (types : List VarTy) (calls : Calls) (exprs : List ExprTree) (pair : Pair) (st : State) (from : ℕ) (ss : List Statement)
+    → AreInts types → ReachHosts hosts calls → AreNamed exprs from (map (statement_tree hosts names) ss)
     → Agrees (length names) T hosts models pair st → AreSteady models → hosts_are_good hosts ≡ true → statements_are_good hosts names ss ≡ true
     → StatementsKeep (λ x. T (place_in names x)) hosts ss → AllFollow T hosts names ss → call_count ss ≤ st.left
-    → AllStep names T hosts models pair st ss
-all_step names T hosts models pair st [] agrees steady goods good keeps follows turns = record { after = st; does = λ rest. refl; agrees = agrees }
-all_step names T hosts models pair st (s ∷ ss) agrees steady goods good keeps follows turns =
+    → AllStep names T hosts models (main_code types calls exprs) pair st from ss
+all_step names T hosts models types calls exprs pair st from [] ints reach named agrees steady goods good keeps follows turns = record { after = st; does = λ rest. refl; agrees = agrees }
+all_step names T hosts models types calls exprs pair st from (s ∷ ss) ints reach named agrees steady goods good keeps follows turns =
     let goods2 : (statement_is_good hosts names s ≡ true) × (statements_are_good hosts names ss ≡ true) = both (statement_is_good hosts names s) (statements_are_good hosts names ss) good in
-    let first : Steps names T hosts models pair st s = statement_steps names T hosts models pair st s agrees steady goods goods2.0 keeps.0 follows.0 (omega arith) in
+    let first : Steps names T hosts models types calls pair st s = statement_steps names T hosts models types calls pair st s ints reach agrees steady goods goods2.0 keeps.0 follows.0 (omega arith) in
     let left : first.after.left + calls_in s ≡ st.left = first.left in
-    let others : AllStep names T hosts models (done hosts models names s pair) first.after ss =
-    all_step names T hosts models (done hosts models names s pair) first.after ss first.agrees steady goods goods2.1 keeps.1 follows.1 (omega arith) in
+    let others : AllStep names T hosts models (main_code types calls exprs) (done hosts models names s pair) first.after (suc from) ss =
+    all_step names T hosts models types calls exprs (done hosts models names s pair) first.after (suc from) ss ints reach named.1 first.agrees steady goods goods2.1 keeps.1 follows.1 (omega arith) in
     record {
       after = others.after;
-      does = λ rest. ap (λ r. r >>= after_flow (statements (map (statement_tree hosts names) ss ++ rest) (host_call (map signature_of hosts)) 1)) first.does ∙ others.does rest;
+      does = λ rest.
+          evaluated types calls exprs from (statement_tree hosts names s) first.value st first.after (all_of (body_trees (evaluates (suc from) (length ss) ++ rest)) (main_code types calls exprs)) named.0 first.does
+          ∙ others.does rest;
       agrees = others.agrees;
     }
 
@@ -190,13 +227,14 @@ declared_memory : ℕ → ℕ → Memory → Memory
 declared_memory from zero memory = memory
 declared_memory from (suc count) memory = declared_memory (suc from) count (put memory (local 1 from) (number (pos 0) ∷ []))
 
-declares_go : (hosts : List Host) (from count : ℕ) (rest : List Said) (st : State)
-    → statements (declares from count ++ rest) (host_call (map signature_of hosts)) 1 st
-    ≡ statements rest (host_call (map signature_of hosts)) 1 (record st { memory = declared_memory from count st.memory })
+declares_go : (types : List VarTy) (calls : Calls) (exprs : List ExprTree) (from count : ℕ) (rest : List BodyTree) (st : State) → AreInts types
+    → all_of (body_trees (declares from count ++ rest)) (main_code types calls exprs) st
+    ≡ all_of (body_trees rest) (main_code types calls exprs) (record st { memory = declared_memory from count st.memory })
 unfolding declared_memory
-declares_go hosts from zero rest st = refl
-declares_go hosts from (suc count) rest st =
-    declares_go hosts (suc from) count rest (record st { memory = put st.memory (local 1 from) (number (pos 0) ∷ []) })
+declares_go types calls exprs from zero rest st ints = refl
+declares_go types calls exprs from (suc count) rest st ints =
+    ap (λ (ty : VarTy). all_of (body_trees (declares (suc from) count ++ rest)) (main_code types calls exprs) (record st { memory = put st.memory (local 1 from) (cleared (sizes (main_context types calls)) ty) })) (ints from)
+    ∙ declares_go types calls exprs (suc from) count rest (record st { memory = put st.memory (local 1 from) (number (pos 0) ∷ []) }) ints
 
 declared_below : (from count i : ℕ) (memory : Memory) → i < from → declared_memory from count memory (local 1 i) ≡ memory (local 1 i)
 unfolding declared_memory
@@ -256,12 +294,15 @@ length-replicated : (count : ℕ) → length (replicate count no_number) ≡ cou
 length-replicated zero = refl
 length-replicated (suc count) = ap suc (length-replicated count)
 
+-- main's state as it begins
+abbrev first_state : List HostModel → ℕ → State
+first_state models turns = record { memory = nothing_live; hosts = model_at models; input = []; events = []; left = turns }
+
 begins : (names : List (List ℕ)) (T : ℕ → Type 0) (hosts : List Host) (models : List HostModel) (turns : ℕ)
-    → Agrees (length names) T hosts models (pair_start (length names))
-    (record (start (model_at models) [] turns) { memory = declared_memory 0 (length names) (start (model_at models) [] turns).memory })
+    → Agrees (length names) T hosts models (pair_start (length names)) (record (first_state models turns) { memory = declared_memory 0 (length names) nothing_live })
 begins names T hosts models turns = record {
   count_is = length-replicated (length names);
-  cells = λ i lt. declared_cells 0 (length names) i (start (model_at models) [] turns).memory (omega arith) (omega arith)
+  cells = λ i lt. declared_cells 0 (length names) i nothing_live (omega arith) (omega arith)
       ∙ ap (λ h. number (revealed [] h) ∷ []) (sym (replicate_is (length names) i));
   handles = λ i lt. subst (λ h. HandleFits 0 (T i) h) (sym (replicate_is (length names) i)) tt;
   models_are = λ f. refl;
@@ -270,28 +311,54 @@ begins names T hosts models turns = record {
   calls_are = tt;
 }
 
--- the pair gives what is expected
-pub pair_keeps : PairKeeps
-pair_keeps p models state allowed turns good taint steady all enough =
+-- What main's body comes to.
+record MainReturns (p : Program) (models : List HostModel) (code : Code) (turns : ℕ) : Type 0 where
+  pub after : State
+  pub does : statement (body_or_none (main_function p).body) code (first_state models turns) ≡ gives (returned (holds (number (pos p.status)))) after
+  pub bytes : written after.events ≡ (pair_run p models).out
+  pub calls_are : AreGuarded p.hosts after.events
+
+main_returns : (p : Program) (models : List HostModel) (types : List VarTy) (calls : Calls) (turns : ℕ) → AreInts types → ReachHosts p.hosts calls
+    → names_are_good p ≡ true → KeepsTaint p → AreSteady models → call_count p.statements ≤ turns
+    → MainReturns p models (main_code types calls (meant p).exprs) turns
+main_returns p models types calls turns ints reach good taint steady enough =
     let names : List (List ℕ) = p.variables in
     let T : ℕ → Type 0 = λ i. IsPriv (sources p.hosts names p.statements) (copies names p.statements) (record { 0 = i }) in
     let goods : (hosts_are_good p.hosts ≡ true) × (statements_are_good p.hosts names p.statements ≡ true) = good_parts p good in
-    let calls = host_call (map signature_of p.hosts) in
-    let st0 : State = start (model_at models) [] turns in
-    let st1 : State = record st0 { memory = declared_memory 0 (length names) st0.memory } in
-    let last : List Said = give_back (constant (pos p.status)) ∷ [] in
-    let steps : AllStep names T p.hosts models (pair_start (length names)) st1 p.statements =
-    all_step names T p.hosts models (pair_start (length names)) st1 p.statements (begins names T p.hosts models turns) steady goods.0 goods.1 taint
+    let exprs : List ExprTree = (meant p).exprs in
+    let code : Code = main_code types calls exprs in
+    let st1 : State = record (first_state models turns) { memory = declared_memory 0 (length names) nothing_live } in
+    let last : List BodyTree = give_back nowhere (Some (record { 0 = length p.statements })) ∷ [] in
+    let steps : AllStep names T p.hosts models code (pair_start (length names)) st1 0 p.statements =
+    all_step names T p.hosts models types calls exprs (pair_start (length names)) st1 0 p.statements ints reach (named_all (map (statement_tree p.hosts names) p.statements) (number_tree p.status ∷ []))
+    (begins names T p.hosts models turns) steady goods.0 goods.1 taint
     (all_follow (sources p.hosts names p.statements) (copies names p.statements) p.hosts names p.statements (λ s c. c) (λ e c. c)) enough in
-    let runs : statements (meant p).main calls 1 st0 ≡ statements last calls 1 steps.after =
-    ap (λ ss. statements ss calls 1 st0) (append_assoc (declares 0 (length names)) (map (statement_tree p.hosts names) p.statements) last)
-    ∙ declares_go p.hosts 0 (length names) (map (statement_tree p.hosts names) p.statements ++ last) st0
-    ∙ steps.does last in
-    ap (λ o. expected (early_answers p.hosts state allowed) (ended turns o)) runs
-    ∙ all_expected p.hosts state allowed steps.after.events (Exit (pos p.status)) 0 steps.agrees.calls_are all
-    ∙ ap (λ bytes. record { bytes = bytes; end = Exit (pos p.status) }) steps.agrees.bytes
+    record {
+      after = steps.after;
+      does =
+          ap (λ ss. all_of (body_trees ss) code (first_state models turns)) (append_assoc (declares 0 (length names)) (evaluates 0 (length p.statements)) last)
+          ∙ declares_go types calls exprs 0 (length names) (evaluates 0 (length p.statements) ++ last) (first_state models turns) ints
+          ∙ steps.does last
+          ∙ ap (λ (e : ExprTree). (value_of e (main_context types calls) steps.after >>= λ v. gives (returned v)) >>= after_flow (all_of no_bodies code))
+          (last_is (statement_tree p.hosts names) p.statements (number_tree p.status) no_expr);
+      bytes = steps.agrees.bytes;
+      calls_are = steps.agrees.calls_are;
+    }
   where
     good_parts : (q : Program) → names_are_good q ≡ true → (hosts_are_good q.hosts ≡ true) × (statements_are_good q.hosts q.variables q.statements ≡ true)
     good_parts q is =
         let two = both (all_differ (names_of q.hosts ++ q.variables) && hosts_are_good q.hosts) (statements_are_good q.hosts q.variables q.statements) is in
         ((both (all_differ (names_of q.hosts ++ q.variables)) (hosts_are_good q.hosts) two.0).1, two.1)
+
+-- the pair gives what is expected
+pub pair_keeps : PairKeeps
+pair_keeps p models state allowed turns main good taint steady all enough =
+    let types : List VarTy = map (λ x. x.ty) (main_function p).vars in
+    let returns : MainReturns p models (main_code types (calls_within (meant p) 199) (meant p).exprs) turns =
+    main_returns p models types (calls_within (meant p) 199) turns (ints_are p.variables) (reaches p 198) good taint steady enough in
+    ap (λ (f : FunctionTree). expected (early_answers p.hosts state allowed)
+    (run_of turns (statement (body_or_none f.body) (main_code (map (λ x. x.ty) f.vars) (calls_within (meant p) 199) (meant p).exprs) (first_state models turns)))) (main_at p main.named)
+    ∙ ap (λ o. expected (early_answers p.hosts state allowed) (run_of turns o)) returns.does
+    ∙ all_expected p.hosts state allowed returns.after.events (Exit (conv i.Int (pos p.status))) 0 returns.calls_are all
+    ∙ ap (λ v. record { bytes = written returns.after.events; end = Exit v }) (conv-same i.Int (pos p.status) (omega (arith, ints), omega (arith, ints)))
+    ∙ ap (λ bytes. record { bytes = bytes; end = Exit (pos p.status) }) returns.bytes

@@ -2,7 +2,8 @@
 use Rattle.std.specs.Prelude.{◌≡◌, ◌≤◌, ℕ, pos, true, List, [], length, Some}
 use Rattle.pt_base.specs.declared.end.End.TheVariants.{Exit}
 use Rattle.pt_tree.specs.declared.host_model.HostModel.{HostModel}
-use Rattle.source_meaning.specs.Run.{expected, run}
+use Rattle.source_meaning.specs.Run.{expected}
+use Rattle.source_meaning.specs.WholeRun.{whole_run}
 use Rattle.privtrans_app.specs.EarlyText.{IsEarlyText}
 use Rattle.privtrans_app.specs.EarlyTree.{meant}
 use Rattle.privtrans_app.specs.EarlyConditions.{names_are_good, call_count}
@@ -77,7 +78,7 @@ pub record IsBuilt (t : Texts) (turns : ℕ) (bytes : List ℕ) (status : ℕ) :
   pub state : List ℕ
   pub allowed : List (List ℕ)
   pub early : IsEarly t turns program models state allowed
-  pub is : expected (early_answers program.hosts state allowed) (run (meant program) (model_at models) [] turns)
+  pub is : expected (early_answers program.hosts state allowed) (whole_run (meant program) (model_at models) [] turns)
       ≡ record { bytes = bytes; end = Exit (pos status) }
 
 abbrev pub IsOutcome : Texts → ℕ → Outcome → Type 0

@@ -1,9 +1,10 @@
 -- What the pair gives is what is expected of the program.
-use Rattle.std.specs.Prelude.{◌≡◌, ◌≤◌, ℕ, pos, Bool, true, false, List, [], ◌∷◌, ⊤, Some, None, if◌then◌else◌, slice_index_or}
+use Rattle.std.specs.Prelude.{◌≡◌, ◌≤◌, ℕ, pos, Bool, true, false, List, [], ◌∷◌, ⊤, Some, None, if◌then◌else◌, slice_index_or, codes}
 use Rattle.pt_base.specs.declared.end.End.TheVariants.{Exit}
 use Rattle.pt_tree.specs.declared.host_model.HostModel.{HostModel}
 use Rattle.pt_tree.specs.declared.host_model.HostModel.TheVariants.{Table, Feed, Input, Bytes, Line}
-use Rattle.source_meaning.specs.Run.{Answers, expected, run}
+use Rattle.source_meaning.specs.Run.{Answers, expected}
+use Rattle.source_meaning.specs.WholeRun.{whole_run}
 use Rattle.privtrans_app.specs.Names.{is_in}
 use Rattle.privtrans_app.specs.EarlyTree.{names_of, meant}
 use Rattle.privtrans_app.specs.EarlyConditions.{names_are_good, call_count}
@@ -38,9 +39,14 @@ abbrev pub AllAllowed : List Host → List (List ℕ) → Type 0
 AllAllowed [] allowed = ⊤
 AllAllowed (h ∷ hs) allowed = (is_privileged h.mark ≡ true → is_in allowed h.name ≡ true) × AllAllowed hs allowed
 
+-- no host is named main, and the number that is returned fits int
+pub record MainIsMain (p : Program) : Type 0 where
+  pub named : is_in (names_of p.hosts) (codes "main") ≡ false
+  pub fits : p.status ≤ 2147483647
+
 -- the pair of an early program writes what is expected of it, and the program returns its number
 abbrev pub PairKeeps : Type 0
 PairKeeps = (p : Program) (models : List HostModel) (state : List ℕ) (allowed : List (List ℕ)) (turns : ℕ) →
-    names_are_good p ≡ true → KeepsTaint p → AreSteady models → AllAllowed p.hosts allowed → call_count p.statements ≤ turns →
-    expected (early_answers p.hosts state allowed) (run (meant p) (model_at models) [] turns)
+    MainIsMain p → names_are_good p ≡ true → KeepsTaint p → AreSteady models → AllAllowed p.hosts allowed → call_count p.statements ≤ turns →
+    expected (early_answers p.hosts state allowed) (whole_run (meant p) (model_at models) [] turns)
     ≡ record { bytes = (pair_run p models).out; end = Exit (pos p.status) }

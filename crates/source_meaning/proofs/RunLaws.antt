@@ -3,6 +3,8 @@ use Rattle.std.proofs.Common.{◌≡◌, ◌<◌, ◌≤◌, ◌+◌, ◌-◌, �
 use Rattle.std.proofs.lemmas.Bool.{cases_order}
 use Rattle.std.proofs.lemmas.List.{append-nil}
 use Rattle.pt_base.specs.declared.end.End.TheVariants.{Exit, Trapped, Spent}
+use Rattle.pt_base.specs.declared.int_type.IntType.TheVariants as i
+use Rattle.pt_int.specs.Conversion.{conv}
 use Rattle.typed_tree.specs.TypedTree.{TypedTree}
 use Rattle.source_meaning.specs.State.{State, Hosts, Event, Outcome, gives, trapped, spent}
 use Rattle.source_meaning.specs.Run.{Run}
@@ -45,7 +47,7 @@ same_given : (n d : ℕ) (flow : Flow) (st : State) → suc (n + d) - suc (st.le
 same_given n d goes_on st e = ap (λ turns. record { events = st.events; end = Exit (pos 0); turns = turns }) e
 same_given n d broke st e = ap (λ turns. record { events = st.events; end = Exit (pos 0); turns = turns }) e
 same_given n d continues st e = ap (λ turns. record { events = st.events; end = Exit (pos 0); turns = turns }) e
-same_given n d (returned v) st e = ap (λ turns. record { events = st.events; end = Exit (number_of v); turns = turns }) e
+same_given n d (returned v) st e = ap (λ turns. record { events = st.events; end = Exit (conv i.Int (number_of v)); turns = turns }) e
 
 -- the run with n turns is that with more, or it is spent, and the longer one uses more
 record IsSpentFirst (n : ℕ) (run more : Run) : Type 0 where

@@ -146,6 +146,7 @@ abbrev reads : ℕ → TypedTree
 reads index = program (main (of_type (ints 3) ∷ []) (declares 0 n.Nothing ∷ returns 0 ∷ []) ∷ []) (read int (part 0 (item (at 34 38) (constant index) no_steps)) ∷ [])
 
 reads_2 : whole_run (reads 2) no_host [] 0 ≡ record { events = []; end = Exit (pos 0); turns = 0 }
+unfolding conv
 reads_2 = refl
 
 reads_3 : whole_run (reads 3) no_host [] 0 ≡ record { events = []; end = Trapped trap.Bounds (at 34 38); turns = 0 }
@@ -184,6 +185,7 @@ reads_its_own = program (main (of_type (ints 2) ∷ []) (declares 0 (n.Items any
     (constant 1 ∷ read int (part 0 (item anywhere (constant 0) no_steps)) ∷ read int (part 0 (item anywhere (constant 1) no_steps)) ∷ [])
 
 reads_its_own_runs : whole_run reads_its_own no_host [] 0 ≡ record { events = []; end = Exit (pos 1); turns = 0 }
+unfolding conv
 reads_its_own_runs = refl
 
 -- struct S x[2]; struct S y; struct S *p; p = x; p++; p->a[2] = 7; y = x[1]; return (x[0] = y).a[2] + x[0].a[2] + p->a[1];

@@ -1,9 +1,7 @@
 pub mod Expressions
 pub mod Functions
 pub mod Laws
-pub mod Meaning
 pub mod Memory
-pub mod Program
 pub mod Run
 pub mod State
 pub mod Statements

@@ -1,32 +1,14 @@
--- The run of a whole program within a budget of turns, and the run that is expected under a policy.
-use Rattle.std.specs.Prelude.{ℕ, ◌-◌, ◌+◌, ℤ, pos, List, [], ◌∷◌, ◌++◌, Option, Some, None}
+-- What is seen of the run of a whole program, and what is expected of it under a policy.
+use Rattle.std.specs.Prelude.{ℕ, ◌+◌, ℤ, List, [], ◌∷◌, ◌++◌, Option, Some, None}
 use Rattle.pt_base.specs.declared.end.End.{End}
-use Rattle.pt_base.specs.declared.end.End.TheVariants.{Exit, Trapped, Spent, Refused}
-use Rattle.source_meaning.specs.Memory.{nothing_live}
-use Rattle.source_meaning.specs.Program.{Program}
-use Rattle.source_meaning.specs.State.{State, Hosts, Event, out, guarded, number_of, Outcome, gives, trapped, spent}
-use Rattle.source_meaning.specs.Meaning.{Flow, goes_on, returns, statements, host_call}
+use Rattle.pt_base.specs.declared.end.End.TheVariants.{Refused}
+use Rattle.source_meaning.specs.State.{Event, out, guarded}
 
 -- A run: what is seen of it, how it ends, and how many turns it used.
 pub record Run : Type 0 where
   pub events : List Event
   pub end : End
   pub turns : ℕ
-
-abbrev pub start : Hosts → List ℕ → ℕ → State
-start hosts input turns = record { memory = nothing_live; hosts = hosts; input = input; events = []; left = turns }
-
--- the run that main's body comes to; reaching its closing brace returns 0 (C99 5.1.2.2.3)
-abbrev pub ended : ℕ → Outcome Flow → Run
-ended turns (gives goes_on st) = record { events = st.events; end = Exit (pos 0); turns = turns - st.left }
-ended turns (gives (returns v) st) = record { events = st.events; end = Exit (number_of v); turns = turns - st.left }
-ended turns (trapped trap span st) = record { events = st.events; end = Trapped trap span; turns = turns - st.left }
-ended turns (spent st) = record { events = st.events; end = Spent; turns = turns - st.left }
-
--- the run of a program with these hosts and this input, within this budget; main runs at depth 1
-abbrev pub run : Program → Hosts → List ℕ → ℕ → Run
-run program hosts input turns =
-    ended turns (statements program.main (host_call program.signatures) 1 (start hosts input turns))
 
 -- the bytes that hosts write in a list of events
 abbrev pub written : List Event → List ℕ

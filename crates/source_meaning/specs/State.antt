@@ -1,9 +1,9 @@
 -- What a run goes through: its state, its events, and what a part of it comes to.
-use Rattle.std.specs.Prelude.{ℕ, suc, zero, ℤ, pos, List, [], ◌∷◌, if◌then◌else◌, nat_eq}
+use Rattle.std.specs.Prelude.{ℕ, suc, zero, ℤ, List, if◌then◌else◌, nat_eq}
 use Rattle.pt_base.specs.declared.span.Span.{Span}
 use Rattle.pt_base.specs.declared.trap.Trap.{Trap}
 use Rattle.pt_tree.specs.declared.host_model.HostModel.{HostModel}
-use Rattle.source_meaning.specs.Memory.{Memory, Cell, number, null, pointer}
+use Rattle.source_meaning.specs.Memory.{Memory}
 
 -- What is seen of a run: the bytes that a host writes at one call, and each guarded call with the
 -- numbers that it gives for unmarked integer parameters.
@@ -27,22 +27,6 @@ pub record State : Type 0 where
   pub events : List Event
   -- the turns that are left of the budget
   pub left : ℕ
-
--- The value of an expression: what a cell can hold, or nothing where its type is void.
-pub data Value : Type 0 where
-  holds : Cell → Value
-  nothing : Value
-
--- the number of a value, where it is one
-abbrev pub number_of : Value → ℤ
-number_of (holds (number v)) = v
-number_of (holds null) = pos 0
-number_of (holds (pointer block base count index)) = pos 0
-number_of nothing = pos 0
-
-abbrev pub numbers_of : List Value → List ℤ
-numbers_of [] = []
-numbers_of (v ∷ vs) = number_of v ∷ numbers_of vs
 
 -- What a part of a run comes to: something and a state to go on from, a trap, or a spent budget.
 pub data Outcome (A : Type 0) : Type 0 where

@@ -111,9 +111,9 @@ postfix_gives env st st1 st2 s at a ps callee k found before middle after c w h 
       faults = q.faults ∙ ap (λ ys. middle ++ ys) (ap faults_of same) ∙ ap (λ xs. xs ++ r.faults) (h.faults ∙ ap (λ ys. before ++ ys) (ap faults_of head)) ∙ append_assoc before p.faults r.faults;
     }
 
-pub chain_gives : (env : Env) (st st1 st2 : Structs) (s at : Span) (a : e.ExprTree) (ls : e.LinkTrees) (sort : Option LogicalOp) (is_logical : Bool) (first found : Operand) (far0 far1 : SoFar) (before middle after : List TypeFault) → Is first st1 before middle (judge env st a) → at ≡ span_of a → far0 ≡ begun at (known first) → sort ≡ sort_of ls → is_logical ≡ is_some sort → far1 ≡ (judge_links env st1 s is_logical far0 ls).far → st2 ≡ (judge_links env st1 s is_logical far0 ls).structs → after ≡ middle ++ (judge_links env st1 s is_logical far0 ls).faults → known found ≡ chained sort s far1 → Is found st2 before after (judge env st (e.chain s a ls))
+pub chain_gives : (env : Env) (st st1 st2 : Structs) (s at : Span) (a : e.ExprTree) (ls : e.LinkTrees) (sort : Option LogicalOp) (is_logical : Bool) (first found : Operand) (far0 far1 : SoFar) (before middle linked after : List TypeFault) → Is first st1 before middle (judge env st a) → at ≡ span_of a → far0 ≡ begun at (known first) → sort ≡ sort_of ls → is_logical ≡ is_some sort → far1 ≡ (judge_links env st1 s is_logical far0 ls).far → st2 ≡ (judge_links env st1 s is_logical far0 ls).structs → linked ≡ middle ++ (judge_links env st1 s is_logical far0 ls).faults → IsMade found linked after (chained sort s far1) → Is found st2 before after (judge env st (e.chain s a ls))
 unfolding judge
-chain_gives env st st1 st2 s at a ls sort is_logical first found far0 far1 before middle after p w b o l f t n k =
+chain_gives env st st1 st2 s at a ls sort is_logical first found far0 far1 before middle linked after p w b o l f t n m =
     let j = judge env st a in
     let r = judge_links env j.structs s (is_some (sort_of ls)) (begun (span_of a) j.operand) ls in
     let far_of : Linked → SoFar = λ x. x.far in
@@ -123,10 +123,16 @@ chain_gives env st st1 st2 s at a ls sort is_logical first found far0 far1 befor
     ap (λ y. judge_links env y s is_logical far0 ls) p.structs_are
     ∙ ap (λ y. judge_links env j.structs s y far0 ls) (l ∙ ap is_some o)
     ∙ ap (λ y. judge_links env j.structs s (is_some (sort_of ls)) y ls) (b ∙ ap (λ y. begun y (known first)) w ∙ ap (λ y. begun (span_of a) y) p.operand) in
+    let whole : chained sort s far1 ≡ chained (sort_of ls) s r.far = ap (λ y. chained y s far1) o ∙ ap (λ y. chained (sort_of ls) s y) (f ∙ ap far_of same) in
+    let made : IsMade found linked after (chained (sort_of ls) s r.far) = subst (λ y. IsMade found linked after y) whole m in
     record {
-      operand = k ∙ ap (λ y. chained y s far1) o ∙ ap (λ y. chained (sort_of ls) s y) (f ∙ ap far_of same);
+      operand = made.operand;
       structs_are = t ∙ ap structs_of same;
-      faults = n ∙ ap (λ ys. middle ++ ys) (ap faults_of same) ∙ ap (λ xs. xs ++ r.faults) p.faults ∙ append_assoc before j.faults r.faults;
+      faults =
+          made.faults
+          ∙ ap (λ xs. xs ++ (chained (sort_of ls) s r.far).faults)
+          (n ∙ ap (λ ys. middle ++ ys) (ap faults_of same) ∙ ap (λ xs. xs ++ r.faults) p.faults ∙ append_assoc before j.faults r.faults)
+          ∙ append_assoc before (j.faults ++ r.faults) (chained (sort_of ls) s r.far).faults;
     }
 
 pub call_gives : (env : Env) (st st1 : Structs) (s span whole at : Span) (callee : Option FnId) (k : Known) (ty : «Type») (es : e.ExprTrees) (params : List «Type») (trees : List ExprTree) (found : Operand) (before middle after : List TypeFault) → params ≡ params_for env callee → trees ≡ (judge_arguments env st params 0 es).trees → st1 ≡ (judge_arguments env st params 0 es).structs → middle ≡ before ++ (judge_arguments env st params 0 es).faults → ty ≡ k.ty → whole ≡ joined s span → IsMade found middle after (called env callee ty whole trees) → Is found st1 before after (judge_postfix env st s callee at k (e.call span es))

@@ -2,6 +2,7 @@
 use Rattle.std.specs.Prelude.{[], ◌++◌, Bool, true, false, ◌||◌, Option, Some, None, is_some, if◌then◌else◌}
 use Rattle.pt_base.specs.declared.span.Span.{Span}
 use Rattle.pt_tree.specs.declared.operator.BinaryOp.{BinaryOp}
+use Rattle.pt_tree.specs.declared.operator.BinaryOp.TheVariants.{LogicalOr, LogicalAnd, BitOr, BitXor, BitAnd, Equal, NotEqual, Less, Greater, LessEqual, GreaterEqual, ShiftLeft, ShiftRight, Add, Subtract, Multiply, Divide, Remainder}
 use Rattle.type_rules.specs.declared.types.Type.{«Type»}
 use Rattle.type_rules.specs.declared.types.Type.TheVariants.{Bad, Void, Int, Struct, Array, Pointer}
 use Rattle.type_rules.specs.declared.types.Value.{Value}
@@ -46,14 +47,39 @@ stored structs s left a right b =
 
 -- ---- op=
 
+-- an assignment can be compounded with it: * / % + - << >> & ^ | (C99 6.5.16)
+unfoldable pub is_compounding : BinaryOp → Bool
+is_compounding LogicalOr = false
+is_compounding LogicalAnd = false
+is_compounding BitOr = true
+is_compounding BitXor = true
+is_compounding BitAnd = true
+is_compounding Equal = false
+is_compounding NotEqual = false
+is_compounding Less = false
+is_compounding Greater = false
+is_compounding LessEqual = false
+is_compounding GreaterEqual = false
+is_compounding ShiftLeft = true
+is_compounding ShiftRight = true
+is_compounding Add = true
+is_compounding Subtract = true
+is_compounding Multiply = true
+is_compounding Divide = true
+is_compounding Remainder = true
+
+-- the grammar builds no assignment with another operator, and both operands of one are wrong
+unfoldable pub operator_rule : BinaryOp → «Type» → Value → Rule
+operator_rule op ty w = if is_compounding op then compound_rule op ty w else rule.Wrong true true
+
 -- an array on the left is faulty already, and the operator isn't asked
 unfoldable pub step_rule_of : BinaryOp → «Type» → Value → Rule
 step_rule_of op Bad w = rule.Unknown
-step_rule_of op Void w = compound_rule op Void w
-step_rule_of op (Int t) w = compound_rule op (Int t) w
-step_rule_of op (Struct n) w = compound_rule op (Struct n) w
+step_rule_of op Void w = operator_rule op Void w
+step_rule_of op (Int t) w = operator_rule op (Int t) w
+step_rule_of op (Struct n) w = operator_rule op (Struct n) w
 step_rule_of op (Array e count) w = rule.Unknown
-step_rule_of op (Pointer e fixed) w = compound_rule op (Pointer e fixed) w
+step_rule_of op (Pointer e fixed) w = operator_rule op (Pointer e fixed) w
 
 unfoldable pub is_refused : Rule → Bool
 is_refused rule.Unknown = true

@@ -122,7 +122,7 @@ unfoldable mutual
   judge env structs (e.chain s a ls) =
       let p = judge env structs a in
       let q = judge_links env p.structs s (is_some (sort_of ls)) (begun (span_of a) p.operand) ls in
-      record { operand = chained (sort_of ls) s q.far; structs = q.structs; faults = p.faults ++ q.faults }
+      over (p.faults ++ q.faults) q.structs (chained (sort_of ls) s q.far)
   judge env structs (e.choice s a b c) =
       let p = judge env structs a in
       let q = judge env p.structs b in

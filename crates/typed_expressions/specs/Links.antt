@@ -23,9 +23,9 @@ use Rattle.typed_tree.specs.declared.link.LogicalOp.TheVariants as logical_op
 use Rattle.typed_tree.specs.ExpressionTree.{ExprTree, typed, chain, logical, LinkTree, link, link_trees, OperandTree, operand, operand_trees}
 use Rattle.declared_types.specs.declared.fault.FaultKind.TheVariants.{WrongType}
 use Rattle.declared_types.specs.declared.fault.TypeFault.{TypeFault}
-use Rattle.declared_types.specs.Faults.{fault_if}
+use Rattle.declared_types.specs.Faults.{fault_at, fault_if}
 use Rattle.typed_expressions.specs.Conversions.{as_type, as_promoted, to_int}
-use Rattle.typed_expressions.specs.Operands.{Known, var_type, plain, value_of, value_tree}
+use Rattle.typed_expressions.specs.Operands.{Known, Made, var_type, plain, fine, refused, value_of, value_tree}
 
 -- ---- operators
 
@@ -160,17 +160,16 @@ linked rule op span far w x = record {
 unfoldable pub operand_of : LinkTree → OperandTree
 operand_of (link span ty step x) = operand span x
 
--- the tree of a chain with at least one link
+-- the tree of a chain with these links
 unfoldable pub links_tree : Option LogicalOp → Span → Option VarTy → ExprTree → List LinkTree → ExprTree
 links_tree None s ty first links = typed s ty (chain first (link_trees links))
 links_tree (Some op) s ty first links = typed s ty (logical op first (operand_trees (map operand_of links)))
 
-unfoldable pub chain_tree : Option LogicalOp → Span → Option VarTy → ExprTree → List LinkTree → ExprTree
-chain_tree op s ty first links = if has_none links then first else links_tree op s ty first links
-
--- a whole chain
-unfoldable pub chained : Option LogicalOp → Span → SoFar → Known
-chained op s far = plain far.value.ty (chain_tree op s (var_type far.value.ty) far.first far.links)
+-- a whole chain; the grammar builds none without a link, which would have no tree
+unfoldable pub chained : Option LogicalOp → Span → SoFar → Made
+chained op s far =
+    if has_none far.links then refused (fault_at WrongType s ∷ [])
+    else fine (plain far.value.ty (links_tree op s (var_type far.value.ty) far.first far.links))
 
 -- the sort of a chain, by its first operator
 unfoldable pub sort_of : e.LinkTrees → Option LogicalOp

@@ -157,8 +157,51 @@ fn step_rule_of(op: BinaryOp, ty: Type, value: Value) -> Rule
     match ty {
         Type::Bad | Type::Array { .. } => Rule::Unknown,
         Type::Void | Type::Int(_) | Type::Struct(_) | Type::Pointer { .. } => {
-            compound_rule(op, ty, value)
+            operator_rule(op, ty, value)
         }
+    }
+}
+
+/// The rule of a compound assignment. With an operator that forms none, as the grammar never builds it,
+/// both operands are wrong.
+#[tactic(auto, unfolding(crate::specs::Assignments::operator_rule))]
+fn operator_rule(op: BinaryOp, ty: Type, value: Value) -> Rule
+    ensures { result ≡ is.operator_rule op ty value }
+{
+    if is_compounding(op) {
+        compound_rule(op, ty, value)
+    } else {
+        Rule::Wrong {
+            left: true,
+            right: true,
+        }
+    }
+}
+
+/// Whether an assignment can be compounded with it (C99 6.5.16).
+#[tactic(auto, unfolding(crate::specs::Assignments::is_compounding))]
+fn is_compounding(op: BinaryOp) -> bool
+    ensures { result ≡ is.is_compounding op }
+{
+    match op {
+        BinaryOp::BitOr
+        | BinaryOp::BitXor
+        | BinaryOp::BitAnd
+        | BinaryOp::ShiftLeft
+        | BinaryOp::ShiftRight
+        | BinaryOp::Add
+        | BinaryOp::Subtract
+        | BinaryOp::Multiply
+        | BinaryOp::Divide
+        | BinaryOp::Remainder => true,
+        BinaryOp::LogicalOr
+        | BinaryOp::LogicalAnd
+        | BinaryOp::Equal
+        | BinaryOp::NotEqual
+        | BinaryOp::Less
+        | BinaryOp::Greater
+        | BinaryOp::LessEqual
+        | BinaryOp::GreaterEqual => false,
     }
 }
 

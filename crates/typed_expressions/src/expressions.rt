@@ -80,7 +80,7 @@ pub fn expression(
                 is_logical: sort.is_some(),
             };
             let far = more_links(alloc, names, structs, chain, far, links, faults)?;
-            let found = far.chained(alloc, sort, *s)?;
+            let found = far.chained(alloc, sort, *s, faults)?;
             Ok(found)
         }
         Expr::Choice(s, a, b, c) => {

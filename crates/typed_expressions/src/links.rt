@@ -2,11 +2,13 @@
 ghost use Rattle.std.specs.Prelude.{◌≡◌, ◌++◌, ◌∷◌, [], IfOk, OnOk, map};
 ghost use Rattle.pt_tree.specs.ExpressionTree as parsed;
 ghost use Rattle.typed_tree.specs.ExpressionTree.{view_expr, view_link, view_operand};
+ghost use Rattle.typed_expressions.specs.Gives.{Makes};
 ghost use Rattle.typed_expressions.specs.Links as is;
 ghost use Rattle.typed_expressions.specs.Views.{known, so_far};
 
 use crate::conversions::{as_promoted, as_type, to_int};
 use crate::operand::{Operand, var_type};
+use crate::prefixes::refused;
 use declared_types::{FaultKind, TypeFault, note_if};
 use pt_base::{IntType, Span};
 use pt_int::BinOp;
@@ -86,15 +88,16 @@ impl SoFar {
         })
     }
 
-    /// The whole chain.
+    /// The whole chain. One without a link, as the grammar never builds it, is wrong.
     #[tactic(auto, unfolding(crate::specs::Links::chained))]
     pub(crate) fn chained(
         self,
         alloc: Global,
         sort: Option<LogicalOp>,
         s: Span,
+        faults: &mut Vec<TypeFault>,
     ) -> Result<Operand, AllocError>
-        ensures { IfOk result (λ o. known o ≡ is.chained sort s (so_far self)) }
+        ensures { Makes result faults.old.items faults.new.items (is.chained sort s (so_far self)) }
     {
         let SoFar {
             value,
@@ -102,8 +105,11 @@ impl SoFar {
             first,
             links,
         } = self;
+        if is_first(&links) {
+            return refused(faults, FaultKind::WrongType, s);
+        }
         let ty = value.ty;
-        let tree = chain_tree(alloc, sort, s, var_type(ty), first, links)?;
+        let tree = links_tree(alloc, sort, s, var_type(ty), first, links)?;
         Ok(Operand::plain(ty, tree))
     }
 }
@@ -142,24 +148,7 @@ fn first_by(
     Ok(tree)
 }
 
-#[tactic(auto, unfolding(crate::specs::Links::chain_tree))]
-fn chain_tree(
-    alloc: Global,
-    sort: Option<LogicalOp>,
-    s: Span,
-    ty: Option<VarTy>,
-    first: TypedExpr,
-    links: Vec<TypedLink>,
-) -> Result<TypedExpr, AllocError>
-    ensures { IfOk result (λ x. view_expr x ≡ is.chain_tree sort s ty (view_expr first) (map view_link links.items)) }
-{
-    if is_first(&links) {
-        return Ok(first);
-    }
-    links_tree(alloc, sort, s, ty, first, links)
-}
-
-/// The tree of a chain with at least one link.
+/// The tree of a chain with these links.
 #[tactic(auto, unfolding(crate::specs::Links::links_tree))]
 fn links_tree(
     alloc: Global,

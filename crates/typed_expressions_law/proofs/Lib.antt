@@ -1,0 +1,17 @@
+pub mod Lists
+pub mod SameTypes
+pub mod Fits
+pub mod Steps
+pub mod Known
+pub mod Outcomes
+pub mod Takes
+pub mod Links
+pub mod Choices
+pub mod Assignments
+pub mod Moves
+pub mod Prefixes
+pub mod Postfixes
+pub mod Fields
+pub mod Names
+pub mod Calls
+pub mod Judgments

@@ -1,5 +1,5 @@
 -- What names mean while a program is judged agrees with the entries of its typed tree.
-use Rattle.std.specs.Prelude.{◌≡◌, ℕ, List, ◌++◌, Bool, Option, Some, IsTrue, All, length, map, slice_get, nat_lt, option_map}
+use Rattle.std.specs.Prelude.{◌≡◌, ℕ, ◌++◌, Bool, Option, Some, IsTrue, All, length, map, slice_get, nat_lt, option_map}
 use Rattle.std.specs.List.{list_all}
 use Rattle.pt_tree.specs.declared.signature.Param.{Param}
 use Rattle.pt_tree.specs.declared.signature.Signature.{Signature}

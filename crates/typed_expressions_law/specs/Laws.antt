@@ -1,5 +1,5 @@
 -- An expression without a fault has a well formed tree of its own type.
-use Rattle.std.specs.Prelude.{◌≡◌, ◌≤◌, ℕ, [], Bool, true, false, IsTrue, length}
+use Rattle.std.specs.Prelude.{◌≡◌, ◌≤◌, ℕ, [], true, false, IsTrue, length}
 use Rattle.pt_base.specs.declared.span.Span.{Span}
 use Rattle.pt_tree.specs.ExpressionTree as e
 use Rattle.pt_tree.specs.Facts.{expr_sound}

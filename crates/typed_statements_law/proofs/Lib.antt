@@ -1,0 +1,14 @@
+pub mod ListLemmas
+pub mod Numbering
+pub mod Walks
+pub mod StatementWalks
+pub mod TypeLemmas
+pub mod Environments
+pub mod Given
+pub mod Outermost
+pub mod Initialisers
+pub mod Declarations
+pub mod Labels
+pub mod Statements
+pub mod Bodies
+pub mod GlobalStarts

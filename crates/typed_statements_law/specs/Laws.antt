@@ -1,25 +1,32 @@
--- The body of a function without a fault has well formed statements.
-use Rattle.std.specs.Prelude.{◌≡◌, ℕ, List, [], ◌∷◌, ◌++◌, Bool, false, ◌&&◌, Option, Some, IsTrue, length, slice_get, option_map}
+-- The body of a function without a fault has well formed statements, and a global starts with numbers that
+-- fit it.
+use Rattle.std.specs.Prelude.{◌≡◌, ℕ, ◌-◌, pos, List, [], ◌++◌, Bool, false, ◌&&◌, Option, Some, IsTrue, length, take, replicate, slice_get, option_map}
 use Rattle.std.specs.List.{list_all}
 use Rattle.pt_base.specs.declared.int_type.IntType.{IntType}
+use Rattle.pt_base.specs.declared.span.Span.{Span}
 use Rattle.pt_tree.specs.Facts.{stmts_sound}
-use Rattle.pt_tree.specs.StatementTree.{StmtTree, stmt_trees}
+use Rattle.pt_tree.specs.StatementTree.{InitTree, StmtTree, stmt_trees}
 use Rattle.type_rules.specs.declared.types.Type.{«Type»}
 use Rattle.typed_tree.specs.declared.types.StructInfo.{StructInfo}
 use Rattle.typed_tree.specs.declared.types.VarTy.TheVariants as v
+use Rattle.typed_tree.specs.Cells as typed
 use Rattle.typed_tree.specs.ExpressionTree.{ExprTree}
 use Rattle.typed_tree.specs.StatementTree.{body_trees}
 use Rattle.typed_tree.specs.Parts.{all_parts}
-use Rattle.typed_tree.specs.WellFormed.{are_consecutive, is_variable_type, is_small}
+use Rattle.typed_tree.specs.WellFormed.{are_consecutive, cells_fit, is_variable_type, is_small}
 use Rattle.typed_tree.specs.WellFormedExpression.{Names}
-use Rattle.typed_tree.specs.WellFormedStatement.{Scope, all_sound}
+use Rattle.typed_tree.specs.WellFormedStatement.{all_sound}
+use Rattle.declared_types.specs.Objects.{size_faults}
+use Rattle.declared_types.specs.Structs.{Structs}
 use Rattle.typed_expressions.specs.declared.meaning.Variable.{Variable}
-use Rattle.typed_expressions.specs.Environment as env
+use Rattle.typed_expressions.specs.Environment.{Env}
 use Rattle.typed_expressions.specs.Operands.{var_type}
-use Rattle.typed_expressions.specs.StructInfos.{object_type_of}
+use Rattle.typed_expressions.specs.StructInfos.{object_type_of, infos_of}
+use Rattle.typed_statements.specs.GlobalInitialisers.{GlobalInit, global_initialised}
 use Rattle.typed_statements.specs.Outermost.{State}
 use Rattle.typed_statements.specs.Statements.{CheckedAll, checked_block}
-use Rattle.declared_types_law.specs.Types.{is_result}
+use Rattle.declared_types_law.specs.Sound.{SoundStructs}
+use Rattle.declared_types_law.specs.Types.{is_plain, is_result}
 use Rattle.typed_expressions_law.specs.Agreement.{Agrees}
 
 -- these are the first variables of the function in the typed tree
@@ -47,10 +54,22 @@ pub record SoundBody (n : Names) (all : List ExprTree) (result : Option IntType)
 -- The body's outermost expressions stand among all of the program's from the state's number on, and its
 -- variables are those of the function.
 abbrev pub BodiesAreSound : Type 0
-BodiesAreSound = (n : Names) (all before after : List ExprTree) (result : Option IntType) (ty : «Type») (st : State) (items : List StmtTree) (scope : env.Scope) →
-    Agrees st.env st.structs n → st.env.scopes ≡ scope ∷ [] →
+BodiesAreSound = (n : Names) (all before after : List ExprTree) (result : Option IntType) (ty : «Type») (st : State) (items : List StmtTree) →
+    Agrees st.env st.structs n →
     IsTrue (is_result ty) → option_map v.Int result ≡ var_type ty →
     HasVariables n (checked_block ty st items).state.env.variables →
     all ≡ before ++ (checked_block ty st items).trees ++ after → length before ≡ st.next →
     IsTrue (stmts_sound (stmt_trees items)) → (checked_block ty st items).faults ≡ [] →
     SoundBody n all result st (checked_block ty st items)
+
+-- a global with these leaves that starts so: the values, and 0 behind them, are one number for each leaf,
+-- in its range
+pub record SoundStart (leaves : List IntType) (structs : Structs) (g : GlobalInit) : Type 0 where
+  pub structs_are : g.structs ≡ structs
+  pub cells : IsTrue (cells_fit leaves (take (length leaves) g.values ++ replicate (length leaves - length g.values) (pos 0)))
+
+-- what a global of a good type starts with, whatever structs come later
+abbrev pub StartsAreSound : Type 0
+StartsAreSound = (env : Env) (structs more : Structs) (ty : «Type») (init : InitTree) (at : Span) → SoundStructs (structs ++ more) →
+    IsTrue (is_plain (length structs) ty) → size_faults structs ty at ≡ [] → (global_initialised env structs ty init).faults ≡ [] →
+    SoundStart (typed.leaves_of (infos_of (structs ++ more)) (object_type_of ty)) structs (global_initialised env structs ty init)

@@ -1,10 +1,15 @@
-//! What holds of bodies without a fault: their typed statements are well formed, and their outermost
-//! expressions have consecutive numbers.
+//! What holds of bodies and of globals' initialisers without a fault: typed statements are well formed,
+//! their outermost expressions have consecutive numbers, and globals start with numbers that fit them.
 #![tactic(auto)]
 
-ghost use Rattle.typed_statements_law.specs.Laws.{BodiesAreSound};
+ghost use Rattle.typed_statements_law.specs.Laws.{BodiesAreSound, StartsAreSound};
 
 /// The typed statements of a body without a fault are well formed.
 pub fn bodies_are_sound()
     ensures { BodiesAreSound }
+{}
+
+/// The numbers with which a global starts are in the ranges of its integers.
+pub fn starts_are_sound()
+    ensures { StartsAreSound }
 {}

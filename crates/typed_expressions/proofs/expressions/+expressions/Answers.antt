@@ -70,8 +70,8 @@ expression-returns-in_ok-found-in-Chain t c =
     let at = c.span_of-in-Chain.ensures ∙ ap (λ x. span_of (parsed.view_expr x)) c.deref-in-Chain-2.ensures in
     let sort = c.sort_of-sort.ensures ∙ ap (λ xs. sort_of (parsed.link_trees (map parsed.view_link xs))) c.deref-in-Chain-3.ensures.value in
     let r = subst (λ xs. IsLinked c.in_ok-far-in-Chain-2.far c.more_links.new.structs c.expression-in-Chain.new.faults.items c.more_links.new.faults.items (judge_links env c.expression-in-Chain.new.structs c.in-Chain.s c.is_some.result (so_far c.in_ok-far-in-Chain.far) (parsed.link_trees (map parsed.view_link xs)))) c.deref-in-Chain-4.ensures.value c.in_ok-far-in-Chain-2.ensures in
-    subst (λ x. Is c.in_ok-found-in-Chain.found c.more_links.new.structs c.args.faults.now.items c.more_links.new.faults.items (judge env c.args.structs.now x)) (sym is)
-    (chain_gives env c.args.structs.now c.expression-in-Chain.new.structs c.more_links.new.structs c.in-Chain.s c.span_of-in-Chain.result a ls c.sort_of-sort.result c.is_some.result c.in_ok-first-in-Chain.first c.in_ok-found-in-Chain.found (so_far c.in_ok-far-in-Chain.far) (so_far c.in_ok-far-in-Chain-2.far) _ _ _ first at c.in_ok-far-in-Chain.ensures sort c.is_some.ensures r.far r.structs_are r.faults c.in_ok-found-in-Chain.ensures)
+    subst (λ x. Is c.in_ok-found-in-Chain.found c.more_links.new.structs c.args.faults.now.items c.chained.new.faults.items (judge env c.args.structs.now x)) (sym is)
+    (chain_gives env c.args.structs.now c.expression-in-Chain.new.structs c.more_links.new.structs c.in-Chain.s c.span_of-in-Chain.result a ls c.sort_of-sort.result c.is_some.result c.in_ok-first-in-Chain.first c.in_ok-found-in-Chain.found (so_far c.in_ok-far-in-Chain.far) (so_far c.in_ok-far-in-Chain-2.far) _ _ _ _ first at c.in_ok-far-in-Chain.ensures sort c.is_some.ensures r.far r.structs_are r.faults c.in_ok-found-in-Chain.ensures)
 
 pub expression-returns-in_ok-found-in-Postfix : goal.expression-returns-in_ok-found-in-Postfix
 expression-returns-in_ok-found-in-Postfix t c =

@@ -1,0 +1,4 @@
+pub mod Answers
+pub mod Image
+pub mod Objects
+pub mod View

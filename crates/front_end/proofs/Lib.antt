@@ -1,0 +1,2 @@
+mod SortedFaults
+mod OneReading

@@ -1,0 +1,3 @@
+pub mod ParseFaults
+pub mod Errors
+pub mod Reading

@@ -1,0 +1,40 @@
+// From a program's text to its typed tree: tokens, the parsed tree, types, each where the stage
+// before finds no fault.
+ghost use Rattle.front_end.specs.Reading.{HasTree, Reads};
+
+use crate::error::FrontError;
+use crate::parse_fault::{ParseFault, ParseFaultKind, place};
+use c_lexer::lex;
+use c_parser::{ParseError, parse};
+use pt_tree::Program;
+use std::alloc::Global;
+use typed_programs::{Elaborated, elaborate};
+
+/// The parsed tree of a text.
+fn parsed(alloc: Global, text: &[u8]) -> Result<Program, FrontError>
+    ensures { HasTree text.now result }
+{
+    let tokens = lex(alloc, text)?;
+    let (kind, token) = match parse(alloc, &tokens) {
+        Ok(program) => return Ok(program),
+        Err(ParseError::Memory) => return Err(FrontError::Memory),
+        Err(ParseError::FaultAt(token)) => (ParseFaultKind::FaultAt, token),
+        Err(ParseError::TooDeep(token)) => (ParseFaultKind::TooDeep, token),
+    };
+    let at = place(text, &tokens, token);
+    Err(FrontError::Parse(ParseFault { kind, at }))
+}
+
+/// The parts of the typed tree of a program's text.
+///
+/// # Errors
+///
+/// `Memory`; or the first fault of the text where it has no tokens, or where its tokens are no
+/// program; or all type faults of the program.
+pub fn read_program(alloc: Global, text: &[u8]) -> Result<Elaborated, FrontError>
+    ensures { Reads text.now result }
+{
+    let program = parsed(alloc, text)?;
+    let typed = elaborate(alloc, &program)?;
+    Ok(typed)
+}

@@ -1,0 +1,128 @@
+-- The tests of types hold of equal types; the integer types of conversions.
+use Rattle.std.proofs.Common.{◌≡◌, ◌∙◌, ◌≤◌, ℕ, nat_eq, refl, ap, sym, arith, Bool, true, false, Option, Some, None}
+use Rattle.std.specs.Prelude.{IsTrue}
+use Rattle.std.proofs.lemmas.Bool.Decides.{nat_tests}
+use Rattle.pt_base.specs.IntTypes.{promoted, usual}
+use Rattle.pt_base.specs.declared.int_type.IntType.{IntType}
+use Rattle.pt_base.specs.declared.int_type.IntType.TheVariants.{Char, SChar, UChar, Short, UShort, Int, UInt, Long, ULong}
+use Rattle.pt_tree.specs.declared.signature.Elem.{Elem}
+use Rattle.pt_tree.specs.declared.signature.Elem.TheVariants as elem
+use Rattle.typed_tree.specs.declared.types.VarTy.{VarTy}
+use Rattle.typed_tree.specs.declared.types.VarTy.TheVariants as v
+use Rattle.typed_tree.specs.TypeTests.{same_int, same_elem, same_bool, same_types}
+use Rattle.typed_tree.specs.TypeRules.{is_promoted}
+use Rattle.typed_tree.specs.WellFormedExpression.{is_elem}
+use Rattle.typed_expressions_law.proofs.Lists.{both}
+
+pub number-self : (a : ℕ) → nat_eq a a ≡ true
+number-self a = grind (arith, nat_tests)
+
+pub same_number : (a b : ℕ) → nat_eq a b ≡ true → a ≡ b
+same_number a b h = grind (arith, nat_tests)
+
+pub same_int-self : (a : IntType) → same_int a a ≡ true
+same_int-self Char = refl
+same_int-self SChar = refl
+same_int-self UChar = refl
+same_int-self Short = refl
+same_int-self UShort = refl
+same_int-self Int = refl
+same_int-self UInt = refl
+same_int-self Long = refl
+same_int-self ULong = refl
+
+pub same_elem-self : (a : Elem) → same_elem a a ≡ true
+same_elem-self (elem.Int a) = same_int-self a
+same_elem-self (elem.Struct n) = number-self n
+
+pub same_bool-self : (a : Bool) → same_bool a a ≡ true
+same_bool-self true = refl
+same_bool-self false = refl
+
+pub same_types-self : (a : Option VarTy) → same_types a a ≡ true
+same_types-self None = refl
+same_types-self (Some (v.Int t)) = same_int-self t
+same_types-self (Some (v.Struct n)) = number-self n
+same_types-self (Some (v.Array e count)) = both (same_elem e e) (nat_eq count count) (same_elem-self e) (number-self count)
+same_types-self (Some (v.Pointer e fixed)) = both (same_elem e e) (same_bool fixed fixed) (same_elem-self e) (same_bool-self fixed)
+
+pub same_types-equal : (a b : Option VarTy) → a ≡ b → same_types a b ≡ true
+same_types-equal a b h = ap (λ x. same_types a x) (sym h) ∙ same_types-self a
+
+-- ---- integer types
+
+pub promoted-promoted : (a : IntType) → is_promoted (promoted a) ≡ true
+promoted-promoted Char = refl
+promoted-promoted SChar = refl
+promoted-promoted UChar = refl
+promoted-promoted Short = refl
+promoted-promoted UShort = refl
+promoted-promoted Int = refl
+promoted-promoted UInt = refl
+promoted-promoted Long = refl
+promoted-promoted ULong = refl
+
+pub promoted-same : (a : IntType) → is_promoted a ≡ true → promoted a ≡ a
+promoted-same Char h = cc
+promoted-same SChar h = cc
+promoted-same UChar h = cc
+promoted-same Short h = cc
+promoted-same UShort h = cc
+promoted-same Int h = refl
+promoted-same UInt h = refl
+promoted-same Long h = refl
+promoted-same ULong h = refl
+
+pub usual-promoted : (a b : IntType) → is_promoted (usual a b) ≡ true
+usual-promoted Char Char = refl
+usual-promoted SChar SChar = refl
+usual-promoted UChar UChar = refl
+usual-promoted Short Short = refl
+usual-promoted UShort UShort = refl
+usual-promoted Int Int = refl
+usual-promoted UInt UInt = refl
+usual-promoted Long Long = refl
+usual-promoted ULong ULong = refl
+usual-promoted a b = refl
+
+-- the value so far, converted or promoted, keeps the common type
+pub usual-left : (a b : IntType) → usual a (usual a b) ≡ usual a b
+usual-left Char Char = refl
+usual-left SChar SChar = refl
+usual-left UChar UChar = refl
+usual-left Short Short = refl
+usual-left UShort UShort = refl
+usual-left Int Int = refl
+usual-left UInt UInt = refl
+usual-left Long Long = refl
+usual-left ULong ULong = refl
+usual-left a b = refl
+
+pub usual-promoted-left : (a b : IntType) → usual (promoted a) (usual a b) ≡ usual a b
+usual-promoted-left Char Char = refl
+usual-promoted-left SChar SChar = refl
+usual-promoted-left UChar UChar = refl
+usual-promoted-left Short Short = refl
+usual-promoted-left UShort UShort = refl
+usual-promoted-left Int Int = refl
+usual-promoted-left UInt UInt = refl
+usual-promoted-left Long Long = refl
+usual-promoted-left ULong ULong = refl
+usual-promoted-left a b = refl
+
+pub usual-both : (a b : IntType) → usual (usual a b) (usual a b) ≡ usual a b
+usual-both Char Char = refl
+usual-both SChar SChar = refl
+usual-both UChar UChar = refl
+usual-both Short Short = refl
+usual-both UShort UShort = refl
+usual-both Int Int = refl
+usual-both UInt UInt = refl
+usual-both Long Long = refl
+usual-both ULong ULong = refl
+usual-both a b = refl
+
+-- an element among some structs is one among more
+pub elem-more : (a b : ℕ) (e : Elem) → a ≤ b → IsTrue (is_elem a (Some e)) → IsTrue (is_elem b (Some e))
+elem-more a b (elem.Int t) k h = refl
+elem-more a b (elem.Struct n) k h = grind (arith, nat_tests)

@@ -1,0 +1,43 @@
+-- Lists that are empty, what stands at a place of a list, and tests of all elements.
+use Rattle.std.proofs.Common.{◌≡◌, ℕ, zero, suc, refl, ◌∙◌, Bool, true, false, List, [], ◌∷◌, ◌++◌, length, Some, ◌⊎◌, inl, inr}
+use Rattle.std.specs.Prelude.{IsTrue, ◌&&◌, slice_get}
+use Rattle.std.specs.List.{list_all}
+use Rattle.std.proofs.lemmas.List.Folds.{list_all-append}
+use Rattle.pt_base.specs.declared.span.Span.{Span}
+use Rattle.declared_types.specs.declared.fault.FaultKind.{FaultKind}
+use Rattle.declared_types.specs.Faults.{fault_if}
+
+pub none_left : {X : Type 0} (xs ys : List X) → xs ++ ys ≡ [] → xs ≡ []
+none_left [] ys h = refl
+none_left (x ∷ xs) ys h = cc
+
+pub none_right : {X : Type 0} (xs ys : List X) → xs ++ ys ≡ [] → ys ≡ []
+none_right [] ys h = h
+none_right (x ∷ xs) ys h = cc
+
+pub not_wrong : (wrong : Bool) (kind : FaultKind) (at : Span) → fault_if wrong kind at ≡ [] → wrong ≡ false
+not_wrong false kind at h = refl
+not_wrong true kind at h = cc
+
+pub both : (a b : Bool) → IsTrue a → IsTrue b → IsTrue (a && b)
+both true b h k = k
+both false b h k = h
+
+pub get_left : {X : Type 0} (xs ys : List X) (k : ℕ) (x : X) → slice_get xs k ≡ Some x → slice_get (xs ++ ys) k ≡ Some x
+get_left [] ys k x h = cc
+get_left (y ∷ xs) ys zero x h = h
+get_left (y ∷ xs) ys (suc k) x h = get_left xs ys k x h
+
+pub get_end : {X : Type 0} (xs ys : List X) (y : X) → slice_get (xs ++ y ∷ ys) (length xs) ≡ Some y
+get_end [] ys y = refl
+get_end (x ∷ xs) ys y = get_end xs ys y
+
+-- what stands in a list with one more element is that element or stood there before
+pub get_pushed : {X : Type 0} (xs : List X) (y : X) (k : ℕ) (x : X) → slice_get (xs ++ y ∷ []) k ≡ Some x → (slice_get xs k ≡ Some x) ⊎ (y ≡ x)
+get_pushed [] y zero x h = inr (cc)
+get_pushed [] y (suc k) x h = inl h
+get_pushed (z ∷ xs) y zero x h = inl h
+get_pushed (z ∷ xs) y (suc k) x h = get_pushed xs y k x h
+
+pub all_append : {X : Type 0} (p : X → Bool) (xs ys : List X) → IsTrue (list_all p xs) → IsTrue (list_all p ys) → IsTrue (list_all p (xs ++ ys))
+all_append p xs ys h k = list_all-append p xs ys ∙ both (list_all p xs) (list_all p ys) h k
