@@ -10,3 +10,4 @@ pub mod Functions
 pub mod Values
 pub mod Globals
 pub mod Programs
+pub mod ProgramsAreWellFormed
