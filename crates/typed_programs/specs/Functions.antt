@@ -33,12 +33,13 @@ use Rattle.typed_expressions.specs.declared.meaning.Meaning.{Meaning}
 use Rattle.typed_expressions.specs.declared.meaning.Meaning.TheVariants.{Function, Global, Local}
 use Rattle.typed_expressions.specs.declared.meaning.Variable.{Variable}
 use Rattle.typed_expressions.specs.Environment.{Env, opened, find_in, function_at, with_function, without_variables}
+use Rattle.typed_expressions.specs.StructInfos.{object_type_of}
 use Rattle.typed_statements.specs.Statements.{CheckedAll}
 use Rattle.typed_programs.specs.declared.function_marks.FunctionMarks.{FunctionMarks}
 use Rattle.typed_programs.specs.Unions.{marks_at}
 use Rattle.typed_programs.specs.Blocks.{block_in}
 use Rattle.typed_programs.specs.Parameters.{parameters_of, Declared, declared_all}
-use Rattle.typed_programs.specs.Progress.{Progress, object_type_of, result_type_of}
+use Rattle.typed_programs.specs.Progress.{Progress, result_type_of}
 
 -- ---- declarations of one function agree
 

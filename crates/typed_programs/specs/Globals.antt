@@ -18,9 +18,10 @@ use Rattle.declared_types.specs.Specifiers.{specified}
 use Rattle.declared_types.specs.Structs.{Structs}
 use Rattle.typed_expressions.specs.declared.meaning.Object.{Object}
 use Rattle.typed_expressions.specs.Environment.{with_global}
+use Rattle.typed_expressions.specs.StructInfos.{object_type_of}
 use Rattle.typed_statements.specs.Declarations.{carrier_of}
 use Rattle.typed_statements.specs.GlobalInitialisers.{global_initialised}
-use Rattle.typed_programs.specs.Progress.{Progress, object_type_of}
+use Rattle.typed_programs.specs.Progress.{Progress}
 use Rattle.typed_programs.specs.Functions.{Checked}
 
 -- the most cells that all globals may have together

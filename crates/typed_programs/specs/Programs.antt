@@ -1,18 +1,15 @@
 -- Whole programs (C99 6.9): the typed tree, and all type faults.
-use Rattle.std.specs.Prelude.{ℕ, List, [], ◌∷◌, ◌++◌, Bool, not, map}
+use Rattle.std.specs.Prelude.{ℕ, List, [], ◌∷◌, ◌++◌, Bool, not}
 use Rattle.pt_base.specs.declared.span.Span.{Span}
 use Rattle.pt_tree.specs.ProgramTree.{ItemTree, declares, function}
-use Rattle.typed_tree.specs.declared.types.Field.{Field}
-use Rattle.typed_tree.specs.declared.types.StructInfo.{StructInfo}
 use Rattle.typed_tree.specs.TypedTree.{TypedTree}
 use Rattle.declared_types.specs.declared.fault.FaultKind.TheVariants.{NoMain}
 use Rattle.declared_types.specs.declared.fault.TypeFault.{TypeFault}
-use Rattle.declared_types.specs.declared.structs.FieldEntry.{FieldEntry}
-use Rattle.declared_types.specs.declared.structs.StructEntry.{StructEntry}
 use Rattle.declared_types.specs.Faults.{fault_if}
+use Rattle.typed_expressions.specs.StructInfos.{infos_of}
 use Rattle.typed_programs.specs.declared.function_marks.FunctionMarks.{FunctionMarks}
 use Rattle.typed_programs.specs.Unions.{function_marks}
-use Rattle.typed_programs.specs.Progress.{Progress, at_start, object_type_of}
+use Rattle.typed_programs.specs.Progress.{Progress, at_start}
 use Rattle.typed_programs.specs.Functions.{Checked, checked_function}
 use Rattle.typed_programs.specs.Globals.{checked_declaration}
 
@@ -38,14 +35,8 @@ checked_items marks st (item ∷ items) =
 
 -- ---- the tree
 
-abbrev pub field_info : List ℕ × FieldEntry → Field
-field_info f = record { name = f.0; ty = object_type_of f.1.ty; marked = f.1.marked }
-
-abbrev pub struct_info : List ℕ × StructEntry → StructInfo
-struct_info s = record { name = s.0; fields = map field_info s.1.fields }
-
 abbrev pub tree_of : Progress → TypedTree
-tree_of st = record { structs = map struct_info st.structs; globals = st.globals; functions = st.functions; exprs = st.exprs }
+tree_of st = record { structs = infos_of st.structs; globals = st.globals; functions = st.functions; exprs = st.exprs }
 
 -- ---- the program
 

@@ -1,17 +1,13 @@
--- What the items of a program make so far, and types as the typed tree has them.
-use Rattle.std.specs.Prelude.{ℕ, List, [], Bool, false, Option, Some, None, unwrap_or}
+-- What the items of a program make so far, and the types of results as the typed tree has them.
+use Rattle.std.specs.Prelude.{ℕ, List, [], Bool, false, Option, Some, None}
 use Rattle.pt_base.specs.declared.int_type.IntType.{IntType}
-use Rattle.pt_base.specs.declared.int_type.IntType.TheVariants as int
 use Rattle.type_rules.specs.declared.types.Type.{«Type»}
 use Rattle.type_rules.specs.declared.types.Type.TheVariants.{Bad, Void, Int, Struct, Array, Pointer}
-use Rattle.typed_tree.specs.declared.types.VarTy.{VarTy}
-use Rattle.typed_tree.specs.declared.types.VarTy.TheVariants as v
 use Rattle.typed_tree.specs.declared.variable.TypedGlobal.{TypedGlobal}
 use Rattle.typed_tree.specs.ExpressionTree.{ExprTree}
 use Rattle.typed_tree.specs.TypedTree.{FunctionTree}
 use Rattle.declared_types.specs.Structs.{Structs}
 use Rattle.typed_expressions.specs.Environment.{Env, no_names}
-use Rattle.typed_expressions.specs.Operands.{var_type}
 
 pub record Progress : Type 0 where
   pub env : Env
@@ -28,10 +24,6 @@ pub record Progress : Type 0 where
 
 abbrev pub at_start : Progress
 at_start = record { env = no_names; structs = []; functions = []; globals = []; cells = 0; exprs = []; has_main = false }
-
--- the type of an object; that of a faulty one is any
-abbrev pub object_type_of : «Type» → VarTy
-object_type_of t = unwrap_or (var_type t) (v.Int int.Int)
 
 -- the type of a result: an integer, or None for void; that of a faulty one is any
 abbrev pub result_type_of : «Type» → Option IntType

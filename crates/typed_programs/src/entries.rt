@@ -1,7 +1,8 @@
 // The entries of functions, variables and structs in the typed tree.
 ghost use Rattle.std.specs.Prelude.{◌≡◌, map, IfOk};
 ghost use Rattle.typed_tree.specs.TypedTree.{view_function};
-ghost use Rattle.typed_programs.specs.Progress as types;
+ghost use Rattle.typed_expressions.specs.StructInfos as objects;
+ghost use Rattle.typed_programs.specs.Progress as results;
 ghost use Rattle.typed_programs.specs.Functions as is;
 
 use crate::function_marks::{FunctionMarks, marks_at};
@@ -16,7 +17,7 @@ use typed_tree::{TypedFn, Var, VarTy};
 /// The type of an object; that of a faulty one is any.
 #[tactic(auto, unfolding(typed_expressions::specs::Operands::var_type))]
 pub(crate) fn object_type_of(ty: Type) -> VarTy
-    ensures { result ≡ types.object_type_of ty }
+    ensures { result ≡ objects.object_type_of ty }
 {
     match ty {
         Type::Bad | Type::Void => VarTy::Int(IntType::Int),
@@ -29,7 +30,7 @@ pub(crate) fn object_type_of(ty: Type) -> VarTy
 
 /// The type of a result; None is void. That of a faulty one is any.
 pub(crate) fn result_of(ty: Type) -> Option<IntType>
-    ensures { result ≡ types.result_type_of ty }
+    ensures { result ≡ results.result_type_of ty }
 {
     match ty {
         Type::Int(t) => Some(t),

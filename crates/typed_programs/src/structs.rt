@@ -1,6 +1,6 @@
 // The structs of the typed tree.
 ghost use Rattle.std.specs.Prelude.{◌≡◌, map, option_map, slice_get, IfOk};
-ghost use Rattle.typed_programs.specs.Programs as is;
+ghost use Rattle.typed_expressions.specs.StructInfos as is;
 
 use crate::entries::object_type_of;
 use declared_types::{FieldEntry, Fields, StructEntry, Structs};

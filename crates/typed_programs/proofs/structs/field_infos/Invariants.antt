@@ -1,5 +1,5 @@
 use Rattle.std.proofs.Common.{◌≡◌, ◌++◌, drop, map}
-use Rattle.typed_programs.specs.Programs as is
+use Rattle.typed_expressions.specs.StructInfos as is
 use Rattle.typed_programs.proofs.structs.field_infos.Given as goal
 
 abbrev pub invariant-loop-number : goal.invariant-loop-number

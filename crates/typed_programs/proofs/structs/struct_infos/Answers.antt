@@ -1,6 +1,6 @@
 use Rattle.std.proofs.Common.{rules, ◌≡◌, ◌∙◌, sym, ◌<◌, ◌++◌, [], ◌∷◌, Some, length}
 use Rattle.std.specs.Prelude.{option_map, slice_get}
-use Rattle.typed_programs.specs.Programs.{struct_info}
+use Rattle.typed_expressions.specs.StructInfos.{struct_info}
 use Rattle.typed_programs.proofs.StructLemmas.{one_more, is_there}
 use Rattle.typed_programs.proofs.structs.struct_infos.Goals as goal
 use Rattle.typed_programs.proofs.structs.struct_infos.Goals.{in-Some+in_ok-push-in-Some, in-None}

@@ -1,0 +1,9 @@
+//! The types of programs: a typed tree is well formed, and a program has one where it has no fault.
+#![tactic(auto)]
+
+mod check;
+#[cfg(test)]
+mod tests;
+
+pub use check::check_types;
+pub use typed_programs::TypeError;

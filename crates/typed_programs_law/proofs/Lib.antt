@@ -1,0 +1,13 @@
+pub mod ListLemmas
+pub mod TableLemmas
+pub mod TypeLemmas
+pub mod Sound
+pub mod Parameters
+pub mod Heads
+pub mod Opened
+pub mod Bodies
+pub mod Functions
+pub mod Values
+pub mod Globals
+pub mod Programs
+pub mod ProgramsAreWellFormed
