@@ -10,10 +10,11 @@ use Rattle.c_grammar.specs.Machine.{Outcome, done, fault_at, too_deep}
 use Rattle.c_parser.specs.Answer.{Gives}
 use Rattle.pt_tree.specs.declared.parsed_program.Program.{Program}
 use Rattle.pt_tree.specs.ProgramTree.{ItemTree, view_item}
+use Rattle.typed_tree.specs.declared.typed.Typed.{Typed}
 use Rattle.typed_tree.specs.TypedTree.{TypedTree}
+use Rattle.typed_tree.specs.TypedView.{view_typed}
 use Rattle.declared_types.specs.declared.fault.TypeFault.{TypeFault}
-use Rattle.typed_programs.specs.declared.answer.Elaborated.{Elaborated}
-use Rattle.typed_programs.specs.Answers.{AreFaults, view_elaborated}
+use Rattle.typed_programs.specs.Answers.{AreFaults}
 use Rattle.typed_programs.specs.Programs.{checked_program, type_faults}
 use Rattle.front_end.specs.declared.error.FrontError.{FrontError}
 use Rattle.front_end.specs.declared.error.FrontError.TheVariants.{Lex, Parse, Types, Memory}
@@ -79,8 +80,8 @@ ComesTo text (parse_fault fault) = IsParseFault text fault
 ComesTo text (type_faults_of faults) = HasTypeFaults text faults
 
 -- what the text comes to; want of memory tells nothing
-abbrev pub Reads : List ℕ → Result Elaborated FrontError → Type 0
-Reads text (Ok e) = ComesTo text (typed_tree (view_elaborated e))
+abbrev pub Reads : List ℕ → Result Typed FrontError → Type 0
+Reads text (Ok t) = ComesTo text (typed_tree (view_typed t))
 Reads text (Err (Lex fault)) = ComesTo text (lex_fault fault)
 Reads text (Err (Parse fault)) = ComesTo text (parse_fault fault)
 Reads text (Err (Types faults)) = ComesTo text (type_faults_of faults.items)

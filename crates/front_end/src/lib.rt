@@ -1,4 +1,4 @@
-//! The front end: from the text of a program to the parts of its typed tree, or to the faults of the
+//! The front end: from the text of a program to its typed tree, or to the faults of the
 //! first stage that finds one.
 #![tactic(auto)]
 

@@ -6,9 +6,10 @@ use crate::error::FrontError;
 use crate::parse_fault::{ParseFault, ParseFaultKind, place};
 use c_lexer::lex;
 use c_parser::{ParseError, parse};
+use c_types::check_types;
 use pt_tree::Program;
 use std::alloc::Global;
-use typed_programs::{Elaborated, elaborate};
+use typed_tree::Typed;
 
 /// The parsed tree of a text.
 fn parsed(alloc: Global, text: &[u8]) -> Result<Program, FrontError>
@@ -25,16 +26,16 @@ fn parsed(alloc: Global, text: &[u8]) -> Result<Program, FrontError>
     Err(FrontError::Parse(ParseFault { kind, at }))
 }
 
-/// The parts of the typed tree of a program's text.
+/// The typed tree of a program's text.
 ///
 /// # Errors
 ///
 /// `Memory`; or the first fault of the text where it has no tokens, or where its tokens are no
 /// program; or all type faults of the program.
-pub fn read_program(alloc: Global, text: &[u8]) -> Result<Elaborated, FrontError>
+pub fn read_program(alloc: Global, text: &[u8]) -> Result<Typed, FrontError>
     ensures { Reads text.now result }
 {
     let program = parsed(alloc, text)?;
-    let typed = elaborate(alloc, &program)?;
+    let typed = check_types(alloc, &program)?;
     Ok(typed)
 }

@@ -13,6 +13,7 @@ use pt_base::Span;
 use std::alloc::{AllocError, Global};
 use std::process::Abort;
 use std::test::Fail;
+use typed_tree::Role;
 
 /// The first 200 bytes of a text whose row has statements.
 static DECLARATIONS: &str = "struct s { int f; const int k; }; struct t { int f; }; void v(void); \
@@ -116,4 +117,20 @@ fn the_first_stage_with_a_fault_decides(rt: HostRuntime) -> Result<(), Fail> {
 #[test]
 fn programs_without_faults_have_a_tree(rt: HostRuntime) -> Result<(), Fail> {
     hold(&rt, "", &faultless::PROGRAMS, "")
+}
+
+#[test]
+fn a_body_has_its_outermost_expressions(rt: HostRuntime) -> Result<(), Fail> {
+    let text = b"int main(void) { int i; i = 2147483647; i = i + 1; return i; }";
+    let Ok(typed) = read_program(rt.alloc(), text) else {
+        return Err(Fail::new("a fault"));
+    };
+    let Some(main) = typed.function_of(b"main") else {
+        return Err(Fail::new("no main"));
+    };
+    let parts = typed.parts(rt.alloc(), main)?;
+    assert_eq!(rt; parts.len(), 3);
+    assert!(rt; matches!(parts[2].role, Role::Returned));
+    assert_eq!(rt; typed.expr(parts[2].expr).span.from, 58);
+    Ok(())
 }

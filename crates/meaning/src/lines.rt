@@ -1,6 +1,6 @@
 // The lines in which a run is shown: its events, how it ends, and faults.
 use anyhow::{Result, bail};
-use evaluator::{Event, Expected, Run};
+use evaluator::{Event, Expectation, RunResult};
 use front_end::FrontError;
 use host_table::HostFault;
 use policy::PolicyFault;
@@ -68,7 +68,7 @@ pub fn policy_fault(alloc: Global, fault: PolicyFault) -> Result<String> {
 }
 
 /// A run: its events, its end with the turns that it used, and what is expected of it.
-pub fn run(alloc: Global, program: &Typed, run: &Run, expected: &Expected) -> Result<String> {
+pub fn run(alloc: Global, program: &Typed, run: &RunResult, expected: &Expectation) -> Result<String> {
     let mut text = String::new(alloc);
     for event in run.events.iter() {
         push_event(&mut text, program, event)?;

@@ -20,7 +20,7 @@ pub struct Row<'a> {
 }
 
 /// Reads a list line by line.
-#[derive(Debug)]
+#[derive(Debug, Drop)]
 pub struct Rows<'a> {
     title: Option<&'a str>,
     words: Option<&'a str>,
