@@ -1,0 +1,11 @@
+pub mod ArmLemmas
+pub mod CallLemmas
+pub mod EventLemmas
+pub mod ExpectationLemmas
+pub mod HostLemmas
+pub mod LoopLemmas
+pub mod Measures
+pub mod ObjectLemmas
+pub mod RunLemmas
+pub mod SectionLemmas
+pub mod WalkLemmas

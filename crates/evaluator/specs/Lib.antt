@@ -1,0 +1,7 @@
+pub mod Expected
+pub mod Gives
+pub mod Loops
+pub mod Machine
+pub mod MainRun
+pub mod Measure
+pub mod Seen
