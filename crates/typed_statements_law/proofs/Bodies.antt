@@ -7,11 +7,16 @@ use Rattle.typed_tree.specs.StatementTree.{body_trees}
 use Rattle.typed_tree.specs.WellFormedStatement.{Scope}
 use Rattle.typed_statements.specs.declared.context.Context.{Context}
 use Rattle.typed_statements.specs.Statements.{checked_all}
-use Rattle.typed_statements_law.specs.Laws.{BodiesAreSound}
+use Rattle.typed_statements_law.specs.Laws.{BlocksAreKept, BodiesAreSound}
 use Rattle.typed_statements_law.proofs.Numbering.{StandAt, stand, consecutive}
 use Rattle.typed_statements_law.proofs.StatementWalks.{all_go}
 use Rattle.typed_statements_law.proofs.Given.{Laws, Ready, Returns}
 use Rattle.typed_statements_law.proofs.Statements.{statements_sound}
+
+pub blocks_kept : BlocksAreKept
+blocks_kept ty st items =
+    let g = all_go (record { result = ty; in_loop = false; in_switch = false }) st (stmt_trees items) in
+    record { file = g.file; functions = g.functions; globals = g.globals; new = g.new; variables = g.variables }
 
 pub bodies_sound : Laws → BodiesAreSound
 bodies_sound laws n all before after result ty st items agrees good is has all_are first given none =

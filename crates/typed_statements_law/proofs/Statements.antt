@@ -61,62 +61,62 @@ mutual
       let q = checked c p.state x in
       let e = checked_else c q.state o in
       let parts = stmt_sound x && other_sound o in
-      let rest = none_right p.faults (q.faults ++ e.faults) none in
+      let none_parts = none_right p.faults (q.faults ++ e.faults) none in
       let first = tested_sound laws sc st a r.agrees r.stand.0 (and_left (expr_sound a) parts given) (none_left p.faults (q.faults ++ e.faults) none) in
-      let r1 = ready_second sc st p.state e.state (p.tree ∷ []) (q.trees ++ e.trees) (part_of role.Condition p.id ∷ []) (goes_one st _ _ _) first.0 r in
-      let r2 = ready_first sc p.state q.state e.state q.trees e.trees (else_parts e.tree) (else_goes c q.state o) r1 in
-      let given' = and_right (expr_sound a) parts given in
-      let second = sound laws sc c p.state x returns r2 (and_left (stmt_sound x) (other_sound o) given') (none_left q.faults e.faults rest) in
-      let r3 = ready_second sc p.state q.state e.state q.trees e.trees (parts_of q.tree) (goes c p.state x) second.0 r1 in
-      let third = otherwise_sound laws sc c q.state o returns r3 (and_right (stmt_sound x) (other_sound o) given') (none_right q.faults e.faults rest) in
-      let yes' = is_sound sc (is_left c) c.in_loop q.tree in
-      let no' = else_sound sc (is_left c) c.in_loop e.tree in (
+      let after_test = ready_second sc st p.state e.state (p.tree ∷ []) (q.trees ++ e.trees) (part_of role.Condition p.id ∷ []) (goes_one st _ _ _) first.0 r in
+      let ready_yes = ready_first sc p.state q.state e.state q.trees e.trees (else_parts e.tree) (else_goes c q.state o) after_test in
+      let given_parts = and_right (expr_sound a) parts given in
+      let second = sound laws sc c p.state x returns ready_yes (and_left (stmt_sound x) (other_sound o) given_parts) (none_left q.faults e.faults none_parts) in
+      let ready_no = ready_second sc p.state q.state e.state q.trees e.trees (parts_of q.tree) (goes c p.state x) second.0 after_test in
+      let third = otherwise_sound laws sc c q.state o returns ready_no (and_right (stmt_sound x) (other_sound o) given_parts) (none_right q.faults e.faults none_parts) in
+      let yes_sound = is_sound sc (is_left c) c.in_loop q.tree in
+      let no_sound = else_sound sc (is_left c) c.in_loop e.tree in (
         keeps_on sc.names st p.state e.state first.0 (keeps_on sc.names p.state q.state e.state second.0 third.0),
-        both (expr_fits sc is_scalar p.id) (yes' && no') first.1 (both yes' no' second.1 third.1),
+        both (expr_fits sc is_scalar p.id) (yes_sound && no_sound) first.1 (both yes_sound no_sound second.1 third.1),
       )
   sound laws sc c st (s.while_true at a x) returns r given none =
       let p = tested st a in
       let q = checked (looping c) p.state x in
       let first = tested_sound laws sc st a r.agrees r.stand.0 (and_left (expr_sound a) (stmt_sound x) given) (none_left p.faults q.faults none) in
-      let r1 = ready_second sc st p.state q.state (p.tree ∷ []) q.trees (part_of role.Condition p.id ∷ []) (goes_one st _ _ _) first.0 r in
-      let second = sound laws sc (looping c) p.state x returns r1 (and_right (expr_sound a) (stmt_sound x) given) (none_right p.faults q.faults none) in
+      let after_test = ready_second sc st p.state q.state (p.tree ∷ []) q.trees (part_of role.Condition p.id ∷ []) (goes_one st _ _ _) first.0 r in
+      let second = sound laws sc (looping c) p.state x returns after_test (and_right (expr_sound a) (stmt_sound x) given) (none_right p.faults q.faults none) in
       (keeps_on sc.names st p.state q.state first.0 second.0, both (expr_fits sc is_scalar p.id) (is_sound sc true true q.tree) first.1 second.1)
   sound laws sc c st (s.do_while at x a) returns r given none =
       let q = checked (looping c) st x in
       let p = tested q.state a in
-      let r1 = ready_first sc st q.state p.state q.trees (p.tree ∷ []) (part_of role.Condition p.id ∷ []) (goes_one q.state _ _ _) r in
-      let first = sound laws sc (looping c) st x returns r1 (and_left (stmt_sound x) (expr_sound a) given) (none_left q.faults p.faults none) in
-      let r2 = ready_second sc st q.state p.state q.trees (p.tree ∷ []) (parts_of q.tree) (goes (looping c) st x) first.0 r in
-      let second = tested_sound laws sc q.state a r2.agrees r2.stand.0 (and_right (stmt_sound x) (expr_sound a) given) (none_right q.faults p.faults none) in
+      let ready_body = ready_first sc st q.state p.state q.trees (p.tree ∷ []) (part_of role.Condition p.id ∷ []) (goes_one q.state _ _ _) r in
+      let first = sound laws sc (looping c) st x returns ready_body (and_left (stmt_sound x) (expr_sound a) given) (none_left q.faults p.faults none) in
+      let ready_test = ready_second sc st q.state p.state q.trees (p.tree ∷ []) (parts_of q.tree) (goes (looping c) st x) first.0 r in
+      let second = tested_sound laws sc q.state a ready_test.agrees ready_test.stand.0 (and_right (stmt_sound x) (expr_sound a) given) (none_right q.faults p.faults none) in
       (keeps_on sc.names st q.state p.state first.0 second.0, both (is_sound sc true true q.tree) (expr_fits sc is_scalar p.id) first.1 second.1)
   sound laws sc c st (s.for_each at i a u x) returns r given none =
       let b = for_begun (inside st) i in
       let p = maybe_tested b.state a in
       let q = maybe_evaluated p.state u in
       let d = checked (looping c) q.state x in
-      let body = goes (looping c) q.state x in
-      let update = goes_on p.state q.state d.state q.trees d.trees (optional_part role.Value q.id) (parts_of d.tree) (maybe_evaluated_goes p.state u) body in
-      let test = goes_on b.state p.state d.state p.trees (q.trees ++ d.trees) (optional_part role.Condition p.id) (optional_part role.Value q.id ++ parts_of d.tree) (maybe_tested_goes b.state a) update in
-      let g1 = and_right (for_init_sound i) (option_sound a && (option_sound u && stmt_sound x)) given in
-      let g2 = and_right (option_sound a) (option_sound u && stmt_sound x) g1 in
-      let n1 = none_right b.faults (p.faults ++ (q.faults ++ d.faults)) none in
-      let n2 = none_right p.faults (q.faults ++ d.faults) n1 in
-      let r0 = ready_scope sc st d.state (b.trees ++ (p.trees ++ (q.trees ++ d.trees))) r in
-      let first = begun_sound laws sc (inside st) i (ready_first sc (inside st) b.state d.state b.trees (p.trees ++ (q.trees ++ d.trees)) (optional_part role.Condition p.id ++ (optional_part role.Value q.id ++ parts_of d.tree)) test r0)
+      let body_goes = goes (looping c) q.state x in
+      let update_goes = goes_on p.state q.state d.state q.trees d.trees (optional_part role.Value q.id) (parts_of d.tree) (maybe_evaluated_goes p.state u) body_goes in
+      let test_goes = goes_on b.state p.state d.state p.trees (q.trees ++ d.trees) (optional_part role.Condition p.id) (optional_part role.Value q.id ++ parts_of d.tree) (maybe_tested_goes b.state a) update_goes in
+      let given_parts = and_right (for_init_sound i) (option_sound a && (option_sound u && stmt_sound x)) given in
+      let given_rest = and_right (option_sound a) (option_sound u && stmt_sound x) given_parts in
+      let none_parts = none_right b.faults (p.faults ++ (q.faults ++ d.faults)) none in
+      let none_rest = none_right p.faults (q.faults ++ d.faults) none_parts in
+      let within = ready_scope sc st d.state (b.trees ++ (p.trees ++ (q.trees ++ d.trees))) r in
+      let first = begun_sound laws sc (inside st) i (ready_first sc (inside st) b.state d.state b.trees (p.trees ++ (q.trees ++ d.trees)) (optional_part role.Condition p.id ++ (optional_part role.Value q.id ++ parts_of d.tree)) test_goes within)
       (and_left (for_init_sound i) (option_sound a && (option_sound u && stmt_sound x)) given) (none_left b.faults (p.faults ++ (q.faults ++ d.faults)) none) in
-      let r1 = ready_second sc (inside st) b.state d.state b.trees (p.trees ++ (q.trees ++ d.trees)) (for_init_parts b.init) (begun_goes (inside st) i) first.0 r0 in
-      let second = maybe_tested_sound laws sc b.state a (ready_first sc b.state p.state d.state p.trees (q.trees ++ d.trees) (optional_part role.Value q.id ++ parts_of d.tree) update r1)
-      (and_left (option_sound a) (option_sound u && stmt_sound x) g1) (none_left p.faults (q.faults ++ d.faults) n1) in
-      let r2 = ready_second sc b.state p.state d.state p.trees (q.trees ++ d.trees) (optional_part role.Condition p.id) (maybe_tested_goes b.state a) second.0 r1 in
-      let third = maybe_evaluated_sound laws sc p.state u (ready_first sc p.state q.state d.state q.trees d.trees (parts_of d.tree) body r2)
-      (and_left (option_sound u) (stmt_sound x) g2) (none_left q.faults d.faults n2) in
-      let r3 = ready_second sc p.state q.state d.state q.trees d.trees (optional_part role.Value q.id) (maybe_evaluated_goes p.state u) third.0 r2 in
-      let fourth = sound laws sc (looping c) q.state x returns r3 (and_right (option_sound u) (stmt_sound x) g2) (none_right q.faults d.faults n2) in
+      let after_begin = ready_second sc (inside st) b.state d.state b.trees (p.trees ++ (q.trees ++ d.trees)) (for_init_parts b.init) (begun_goes (inside st) i) first.0 within in
+      let second = maybe_tested_sound laws sc b.state a (ready_first sc b.state p.state d.state p.trees (q.trees ++ d.trees) (optional_part role.Value q.id ++ parts_of d.tree) update_goes after_begin)
+      (and_left (option_sound a) (option_sound u && stmt_sound x) given_parts) (none_left p.faults (q.faults ++ d.faults) none_parts) in
+      let after_test = ready_second sc b.state p.state d.state p.trees (q.trees ++ d.trees) (optional_part role.Condition p.id) (maybe_tested_goes b.state a) second.0 after_begin in
+      let third = maybe_evaluated_sound laws sc p.state u (ready_first sc p.state q.state d.state q.trees d.trees (parts_of d.tree) body_goes after_test)
+      (and_left (option_sound u) (stmt_sound x) given_rest) (none_left q.faults d.faults none_rest) in
+      let after_update = ready_second sc p.state q.state d.state q.trees d.trees (optional_part role.Value q.id) (maybe_evaluated_goes p.state u) third.0 after_test in
+      let fourth = sound laws sc (looping c) q.state x returns after_update (and_right (option_sound u) (stmt_sound x) given_rest) (none_right q.faults d.faults none_rest) in
       let keeps = keeps_on sc.names (inside st) b.state d.state first.0 (keeps_on sc.names b.state p.state d.state second.0 (keeps_on sc.names p.state q.state d.state third.0 fourth.0)) in
-      let body' = is_sound sc true true d.tree in
-      let update' = option_fits sc any_type q.id in
-      let test' = option_fits sc is_scalar p.id in
-      (keeps_scope sc.names st d.state keeps, both (for_init_fits sc b.init) (test' && (update' && body')) first.1 (both test' (update' && body') second.1 (both update' body' third.1 fourth.1)))
+      let body_sound = is_sound sc true true d.tree in
+      let update_fits = option_fits sc any_type q.id in
+      let test_fits = option_fits sc is_scalar p.id in
+      (keeps_scope sc.names st d.state keeps, both (for_init_fits sc b.init) (test_fits && (update_fits && body_sound)) first.1 (both test_fits (update_fits && body_sound) second.1 (both update_fits body_sound third.1 fourth.1)))
   sound laws sc c st (s.give_back at a) returns r given none = given_back_sound laws sc st c.result at a returns r given none
   sound laws sc c st (s.stop_loop at) returns r given none = (keeps_nowhere sc.names st r.agrees, is_true (is_left c) (not_wrong (not (is_left c)) OutOfProfile at none))
   sound laws sc c st (s.next_turn at) returns r given none = (keeps_nowhere sc.names st r.agrees, is_true c.in_loop (not_wrong (not c.in_loop) OutOfProfile at none))
@@ -124,8 +124,8 @@ mutual
       let p = switched st a in
       let q = checked_sections (switching c) p.kind none_seen p.state xs in
       let first = switched_sound laws sc st a r.agrees r.stand.0 (and_left (expr_sound a) (parts_sound xs) given) (none_left p.faults q.faults none) in
-      let r1 = ready_second sc st p.state q.state (p.tree ∷ []) q.trees (part_of role.Condition p.id ∷ []) (goes_one st _ _ _) first.keeps r in
-      let second = parts_are_sound laws sc (switching c) p.kind none_seen p.state xs returns (or_true c.in_loop) first.compared r1 (and_right (expr_sound a) (parts_sound xs) given) (none_right p.faults q.faults none) in
+      let after_test = ready_second sc st p.state q.state (p.tree ∷ []) q.trees (part_of role.Condition p.id ∷ []) (goes_one st _ _ _) first.keeps r in
+      let second = parts_are_sound laws sc (switching c) p.kind none_seen p.state xs returns (or_true c.in_loop) first.compared after_test (and_right (expr_sound a) (parts_sound xs) given) (none_right p.faults q.faults none) in
       let labels = labels_of (section_trees q.sections) in
       let all = sections_sound sc c.in_loop (section_trees q.sections) in (
         keeps_on sc.names st p.state q.state first.keeps second.keeps,
@@ -142,10 +142,10 @@ mutual
   statements_sound laws sc c st (s.stmt_and x xs) returns r given none =
       let one = checked c st x in
       let rest = checked_all c one.state xs in
-      let r1 = ready_first sc st one.state rest.state one.trees rest.trees (all_parts (body_trees rest.bodies)) (all_go c one.state xs) r in
-      let first = sound laws sc c st x returns r1 (and_left (stmt_sound x) (stmts_sound xs) given) (none_left one.faults rest.faults none) in
-      let r2 = ready_second sc st one.state rest.state one.trees rest.trees (parts_of one.tree) (goes c st x) first.0 r in
-      let second = statements_sound laws sc c one.state xs returns r2 (and_right (stmt_sound x) (stmts_sound xs) given) (none_right one.faults rest.faults none) in (
+      let ready_here = ready_first sc st one.state rest.state one.trees rest.trees (all_parts (body_trees rest.bodies)) (all_go c one.state xs) r in
+      let first = sound laws sc c st x returns ready_here (and_left (stmt_sound x) (stmts_sound xs) given) (none_left one.faults rest.faults none) in
+      let ready_rest = ready_second sc st one.state rest.state one.trees rest.trees (parts_of one.tree) (goes c st x) first.0 r in
+      let second = statements_sound laws sc c one.state xs returns ready_rest (and_right (stmt_sound x) (stmts_sound xs) given) (none_right one.faults rest.faults none) in (
         keeps_on sc.names st one.state rest.state first.0 second.0,
         both (is_sound sc (is_left c) c.in_loop one.tree) (all_sound sc (is_left c) c.in_loop (body_trees rest.bodies)) first.1 second.1,
       )
@@ -157,23 +157,23 @@ mutual
       let before = with_structs st l.structs in
       let one = checked_all c before xs in
       let others = checked_sections c kind l.seen one.state rest in
-      let n1 = none_left (l.faults ++ one.faults) others.faults none in
-      let g1 = and_left (label_sound label && stmts_sound xs) (parts_sound rest) given in
-      let label' = labelled_sound st.env kind st.structs seen label compared (none_left l.faults one.faults n1) in
+      let none_here = none_left (l.faults ++ one.faults) others.faults none in
+      let given_here = and_left (label_sound label && stmts_sound xs) (parts_sound rest) given in
+      let named = labelled_sound st.env kind st.structs seen label compared (none_left l.faults one.faults none_here) in
       let walk = goes_with st one.state l.structs one.trees (all_parts (body_trees one.bodies)) (all_go c before xs) in
-      let r1 = ready_first sc st one.state others.state one.trees others.trees (section_parts (section_trees others.sections)) (sections_go c kind l.seen one.state rest) r in
-      let r2 : Ready sc before one.state one.trees = record { agrees = subst (λ (y : Structs). Agrees st.env y sc.names) (sym label'.structs_are) r1.agrees; variables = r1.variables; stand = r1.stand } in
-      let k = statements_sound laws sc c before xs returns r2 (and_right (label_sound label) (stmts_sound xs) g1) (none_right l.faults one.faults n1) in
-      let first : Keeps sc.names st one.state = record { agrees = k.0.agrees; structs = k.0.structs ∙ label'.structs_are; new = k.0.new; variables = k.0.variables; sized = k.0.sized } in
-      let r3 = ready_second sc st one.state others.state one.trees others.trees (all_parts (body_trees one.bodies)) walk first r in
-      let second = parts_are_sound laws sc c kind l.seen one.state rest returns out compared r3 (and_right (label_sound label && stmts_sound xs) (parts_sound rest) given) (none_right (l.faults ++ one.faults) others.faults none) in
+      let ready_here = ready_first sc st one.state others.state one.trees others.trees (section_parts (section_trees others.sections)) (sections_go c kind l.seen one.state rest) r in
+      let ready_body : Ready sc before one.state one.trees = record { agrees = subst (λ (y : Structs). Agrees st.env y sc.names) (sym named.structs_are) ready_here.agrees; variables = ready_here.variables; stand = ready_here.stand } in
+      let k = statements_sound laws sc c before xs returns ready_body (and_right (label_sound label) (stmts_sound xs) given_here) (none_right l.faults one.faults none_here) in
+      let first : Keeps sc.names st one.state = record { agrees = k.0.agrees; structs = k.0.structs ∙ named.structs_are; new = k.0.new; variables = k.0.variables; sized = k.0.sized } in
+      let ready_rest = ready_second sc st one.state others.state one.trees others.trees (all_parts (body_trees one.bodies)) walk first r in
+      let second = parts_are_sound laws sc c kind l.seen one.state rest returns out compared ready_rest (and_right (label_sound label && stmts_sound xs) (parts_sound rest) given) (none_right (l.faults ++ one.faults) others.faults none) in
       let labels = labels_of (section_trees others.sections) in
-      let apart = fresh_labels l.seen seen l.label label'.other label'.before labels second.fresh in
+      let apart = fresh_labels l.seen seen l.label named.other named.before labels second.fresh in
       let body = subst (λ (b : Bool). IsTrue (all_sound sc b c.in_loop (body_trees one.bodies))) out k.1 in
       record {
         keeps = keeps_on sc.names st one.state others.state first second.keeps;
         sound = both (all_sound sc true c.in_loop (body_trees one.bodies)) (sections_sound sc c.in_loop (section_trees others.sections)) body second.sound;
-        fit = both (label_fits kind.ty l.label) (list_all (label_fits kind.ty) labels) label'.fits second.fit;
+        fit = both (label_fits kind.ty l.label) (list_all (label_fits kind.ty) labels) named.fits second.fit;
         distinct = both (not (list_any (same_label l.label) labels)) (labels_distinct labels) apart.0 second.distinct;
-        fresh = both (is_fresh seen l.label) (list_all (is_fresh seen) labels) label'.fresh apart.1;
+        fresh = both (is_fresh seen l.label) (list_all (is_fresh seen) labels) named.fresh apart.1;
       }

@@ -51,6 +51,17 @@ pub record SoundBody (n : Names) (all : List ExprTree) (result : Option IntType)
   pub variables : b.state.env.variables ≡ st.env.variables ++ new
   pub sized : IsTrue (list_all (is_sound_variable n.structs) new)
 
+-- a block's statements leave the file's names alone, and add variables at the end, whatever their faults
+pub record Kept (st : State) (b : CheckedAll) : Type 0 where
+  pub file : b.state.env.file ≡ st.env.file
+  pub functions : b.state.env.functions ≡ st.env.functions
+  pub globals : b.state.env.globals ≡ st.env.globals
+  pub new : List Variable
+  pub variables : b.state.env.variables ≡ st.env.variables ++ new
+
+abbrev pub BlocksAreKept : Type 0
+BlocksAreKept = (ty : «Type») (st : State) (items : List StmtTree) → Kept st (checked_block ty st items)
+
 -- The body's outermost expressions stand among all of the program's from the state's number on, and its
 -- variables are those of the function.
 abbrev pub BodiesAreSound : Type 0

@@ -2,7 +2,12 @@
 //! their outermost expressions have consecutive numbers, and globals start with numbers that fit them.
 #![tactic(auto)]
 
-ghost use Rattle.typed_statements_law.specs.Laws.{BodiesAreSound, StartsAreSound};
+ghost use Rattle.typed_statements_law.specs.Laws.{BlocksAreKept, BodiesAreSound, StartsAreSound};
+
+/// Whatever the faults of a block, its statements change nothing of the file.
+pub fn blocks_are_kept()
+    ensures { BlocksAreKept }
+{}
 
 /// The typed statements of a body without a fault are well formed.
 pub fn bodies_are_sound()
