@@ -39,7 +39,7 @@ use Rattle.declared_types.specs.Structs.{Structs}
 use Rattle.declared_types_law.specs.Types.{is_parameter}
 use Rattle.declared_types_law.specs.Sound.{SoundStructs}
 use Rattle.typed_expressions_law.specs.Agreement.{taken, HasType, HasCallable, is_entry, AreEntries, Agrees}
-use Rattle.typed_statements_law.specs.Laws.{is_sound_variable, SoundBody, BodiesAreSound}
+use Rattle.typed_statements_law.specs.Laws.{is_sound_variable, SoundBody, Kept, BlocksAreKept, BodiesAreSound}
 use Rattle.typed_programs.specs.declared.function_marks.FunctionMarks.{FunctionMarks}
 use Rattle.typed_programs.specs.Functions.{var_of, with_parts, with_body, behind_body, is_int, is_start}
 use Rattle.typed_programs.specs.Progress.{Progress}
@@ -49,17 +49,6 @@ use Rattle.typed_programs_law.proofs.TableLemmas.{sought, name_self, name_same}
 use Rattle.typed_programs_law.proofs.TypeLemmas.{object_there, parameter_variable, params_lead_vars}
 use Rattle.typed_programs_law.proofs.Sound.{signatures, Extends, Grows, defines, SoundEntry, entry_kept, BodyHolds, is_file_entry, is_local_entry, HasObject, Known, SoundTables, HasStart, callable_kept, extends_back}
 use Rattle.typed_programs_law.proofs.Opened.{Opened, params_sound, structs_many, some_same}
-
--- a block's statements leave the file's names alone, and add variables at the end, whatever their faults
-pub record Kept (st : State) (b : CheckedAll) : Type 0 where
-  pub file : b.state.env.file ≡ st.env.file
-  pub functions : b.state.env.functions ≡ st.env.functions
-  pub globals : b.state.env.globals ≡ st.env.globals
-  pub new : List Variable
-  pub variables : b.state.env.variables ≡ st.env.variables ++ new
-
-abbrev pub BlocksAreKept : Type 0
-BlocksAreKept = (ty : «Type») (st : State) (items : List StmtTree) → Kept st (checked_block ty st items)
 
 pub constants_sound : (items : List StmtTree) → IsTrue (stmt_list_sound items) → IsTrue (stmts_sound (stmt_trees items))
 constants_sound [] h = refl

@@ -19,7 +19,7 @@ use Rattle.typed_expressions.specs.declared.meaning.Object.{Object}
 use Rattle.typed_expressions.specs.Environment.{Env, Scope, find_in}
 use Rattle.declared_types_law.specs.Types.{is_result}
 use Rattle.declared_types_law.specs.Laws.{SpecifiersAreSound, ObjectsAreSound, ResultsAreSound}
-use Rattle.typed_statements_law.specs.Laws.{BodiesAreSound}
+use Rattle.typed_statements_law.specs.Laws.{BlocksAreKept, BodiesAreSound}
 use Rattle.typed_programs.specs.declared.function_marks.FunctionMarks.{FunctionMarks}
 use Rattle.typed_programs.specs.Blocks.{block_in}
 use Rattle.typed_programs.specs.Functions.{Head, head_of, clashes, function_in, number_in, declared_as, is_int, is_start, are_too_large, with_definition, with_head, with_start, completed, checked_function}
@@ -30,7 +30,7 @@ use Rattle.typed_programs_law.proofs.Sound.{defines, SoundTables, SoundProgress,
 use Rattle.typed_programs_law.proofs.Parameters.{SoundParams}
 use Rattle.typed_programs_law.proofs.Heads.{SoundHead, sound_head}
 use Rattle.typed_programs_law.proofs.Opened.{Opened, old_opened, new_opened, find_is}
-use Rattle.typed_programs_law.proofs.Bodies.{BlocksAreKept, behind, behind_start}
+use Rattle.typed_programs_law.proofs.Bodies.{behind, behind_start}
 
 -- a function that is declared, and with which the program begins if it did before
 record Stage (marks : List ℕ → FunctionMarks) (rest : List ItemTree) (own : FunctionMarks) (defining : Bool) (before st : Progress) (c : Callable) (k : ℕ) : Type 0 where

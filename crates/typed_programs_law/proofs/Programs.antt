@@ -20,7 +20,7 @@ use Rattle.typed_expressions.specs.declared.meaning.Meaning.TheVariants.{Functio
 use Rattle.typed_expressions.specs.StructInfos.{infos_of}
 use Rattle.declared_types_law.specs.Sound.{SoundStructs}
 use Rattle.declared_types_law.specs.Laws.{SpecifiersAreSound, ObjectsAreSound, ResultsAreSound, SizesAreSound, LeavesAreSound, StructsAreWellFormed}
-use Rattle.typed_statements_law.specs.Laws.{BodiesAreSound}
+use Rattle.typed_statements_law.specs.Laws.{BlocksAreKept, BodiesAreSound}
 use Rattle.typed_programs.specs.declared.function_marks.FunctionMarks.{FunctionMarks}
 use Rattle.typed_programs.specs.Functions.{Checked}
 use Rattle.typed_programs.specs.Progress.{Progress, at_start}
@@ -33,7 +33,6 @@ use Rattle.typed_programs_law.proofs.ListLemmas.{none_left, none_right, no_fault
 use Rattle.typed_programs_law.proofs.TableLemmas.{sought, name_same}
 use Rattle.typed_programs_law.proofs.Sound.{Extends, defines, BodyHolds, SoundEntry, SoundTables, SoundProgress, HasStart}
 use Rattle.typed_programs_law.proofs.Opened.{some_same}
-use Rattle.typed_programs_law.proofs.Bodies.{BlocksAreKept}
 use Rattle.typed_programs_law.proofs.Functions.{function_step}
 use Rattle.typed_programs_law.proofs.Globals.{declaration_step}
 

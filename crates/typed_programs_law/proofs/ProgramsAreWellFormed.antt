@@ -1,37 +1,26 @@
 -- The law of programs, by the laws of their parts.
-use Rattle.std.proofs.Common.{false}
-use Rattle.pt_tree.specs.StatementTree.{stmt_trees}
-use Rattle.typed_statements.specs.declared.context.Context.{Context}
 use Rattle.declared_types_law.proofs.SpecifierLemmas.{specifiers_are_sound}
 use Rattle.declared_types_law.proofs.ObjectLemmas.{objects_are_sound, results_are_sound}
 use Rattle.declared_types_law.proofs.SizeLemmas.{sizes_are_sound}
 use Rattle.declared_types_law.proofs.LeavesLemmas.{leaves_are_sound}
 use Rattle.declared_types_law.proofs.StructLemmas.{structs_are_well_formed}
 use Rattle.typed_expressions_law.proofs.Fits.{values_fit}
-use Rattle.typed_expressions_law.proofs.Expressions.{expressions_are_sound}
+use Rattle.typed_expressions_law.proofs.Judgments.{expressions_by}
 use Rattle.typed_statements_law.specs.Laws.{BodiesAreSound}
-use Rattle.typed_statements_law.proofs.StatementWalks.{all_go}
-use Rattle.typed_statements_law.proofs.Bodies.{bodies_sound}
+use Rattle.typed_statements_law.proofs.Bodies.{blocks_kept, bodies_sound}
 use Rattle.typed_sizes_law.proofs.ProgramSizes.{typed_trees_are_small}
 use Rattle.typed_programs_law.specs.Laws.{ProgramsAreWellFormed}
-use Rattle.typed_programs_law.proofs.Bodies.{BlocksAreKept}
 use Rattle.typed_programs_law.proofs.Programs.{programs_well_formed}
 
 bodies_are_sound : BodiesAreSound
 bodies_are_sound = bodies_sound (record {
-  expressions = expressions_are_sound;
+  expressions = expressions_by specifiers_are_sound;
   values = values_fit;
   specifiers = specifiers_are_sound;
   objects = objects_are_sound;
   sizes = sizes_are_sound;
   leaves = leaves_are_sound;
 })
-
-blocks_are_kept : BlocksAreKept
-blocks_are_kept ty st items =
-    let c : Context = record { result = ty; in_loop = false; in_switch = false } in
-    let g = all_go c st (stmt_trees items) in
-    record { file = g.file; functions = g.functions; globals = g.globals; new = g.new; variables = g.variables }
 
 pub programs_are_well_formed : ProgramsAreWellFormed
 programs_are_well_formed = programs_well_formed (record {
@@ -42,6 +31,6 @@ programs_are_well_formed = programs_well_formed (record {
   leaves = leaves_are_sound;
   structs = structs_are_well_formed;
   bodies = bodies_are_sound;
-  kept = blocks_are_kept;
+  kept = blocks_kept;
   small = typed_trees_are_small;
 })
