@@ -17,10 +17,12 @@ pub fn front_faults(alloc: Global, error: FrontError) -> Result<String> {
     let mut text = String::new(alloc);
     match error {
         FrontError::Lex(fault) => {
-            writeln!(text, "lex {} {} {}", fault.kind.number(), fault.kind.name(), fault.at)?;
+            let (number, name) = (fault.kind.number(), fault.kind.name());
+            writeln!(text, "lex {number} {name} {}", fault.at)?;
         }
         FrontError::Parse(fault) => {
-            writeln!(text, "parse {} {} {}", fault.kind.number(), fault.kind.name(), fault.at)?;
+            let (number, name) = (fault.kind.number(), fault.kind.name());
+            writeln!(text, "parse {number} {name} {}", fault.at)?;
         }
         FrontError::Types(faults) => {
             for fault in faults.iter() {
@@ -63,19 +65,26 @@ fn function_of(fault: &HostFault) -> Option<FnId> {
 /// The fault of a policy.
 pub fn policy_fault(alloc: Global, fault: PolicyFault) -> Result<String> {
     let mut text = String::new(alloc);
-    writeln!(text, "policy {} {} {}", fault.kind.number(), fault.kind.name(), fault.line)?;
+    let (number, name) = (fault.kind.number(), fault.kind.name());
+    writeln!(text, "policy {number} {name} {}", fault.line)?;
     Ok(text)
 }
 
 /// A run: its events, its end with the turns that it used, and what is expected of it.
-pub fn run(alloc: Global, program: &Typed, run: &RunResult, expected: &Expectation) -> Result<String> {
+pub fn run(
+    alloc: Global,
+    program: &Typed,
+    run: &RunResult,
+    expected: &Expectation,
+) -> Result<String> {
     let mut text = String::new(alloc);
     for event in run.events.iter() {
         push_event(&mut text, program, event)?;
     }
     push_end(&mut text, program, &run.end)?;
     let turns = run.turns;
-    writeln!(text, " after {turns} {}", if turns == 1 { "turn" } else { "turns" })?;
+    let word = if turns == 1 { "turn" } else { "turns" };
+    writeln!(text, " after {turns} {word}")?;
     text.push_str("expected ")?;
     push_quoted(&mut text, expected.bytes.as_slice())?;
     text.push(' ')?;

@@ -62,9 +62,13 @@ impl<'a> Rows<'a> {
 // The row of this title and these words, whose last one names the program's file where it has one.
 fn row_of<'a>(title: &'a str, words: &'a str, program: Source<'a>) -> Result<Row<'a>> {
     let mut words = words.split_whitespace();
-    let (Some(turns), Some(host), Some(policy), Some(input), Some(file)) =
-        (words.next(), words.next(), words.next(), words.next(), words.next())
-    else {
+    let (Some(turns), Some(host), Some(policy), Some(input), Some(file)) = (
+        words.next(),
+        words.next(),
+        words.next(),
+        words.next(),
+        words.next(),
+    ) else {
         bail!("{title}: fewer than five words");
     };
     Ok(Row {
