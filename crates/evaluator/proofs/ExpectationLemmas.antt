@@ -1,5 +1,5 @@
 -- What is expected behind what is there so far.
-use Rattle.std.proofs.Common.{◌≡◌, ◌++◌, ◌+◌, ℕ, ℤ, List, [], ◌∷◌, sym, ap, ◌∙◌}
+use Rattle.std.proofs.Common.{◌≡◌, ◌++◌, ◌+◌, ℕ, ℤ, List, ◌∷◌, sym, ap, ◌∙◌}
 use Rattle.std.proofs.lemmas.List.{append_assoc}
 use Rattle.pt_base.specs.declared.end.End.{End}
 use Rattle.policy.specs.Verdicts.{Standing, verdict_on, after}

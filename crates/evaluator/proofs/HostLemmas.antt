@@ -1,5 +1,5 @@
 -- What a host's model answers, as the hosts of a run say it and as the meaning does.
-use Rattle.std.proofs.Common.{◌≡◌, ◌++◌, ℕ, ℤ, suc, zero, Bool, true, false, List, [], ◌∷◌, Option, Some, None, IsSome, option_map, nat_eq, if◌then◌else◌, refl, sym, ap, ◌∙◌, subst}
+use Rattle.std.proofs.Common.{◌≡◌, ◌++◌, ℕ, ℤ, Bool, true, false, List, [], ◌∷◌, Option, Some, None, IsSome, option_map, nat_eq, if◌then◌else◌, refl, sym, ap, ◌∙◌, subst}
 use Rattle.std.proofs.lemmas.List.{append-nil}
 use Rattle.pt_tree.specs.declared.host_model.HostModel.{HostModel}
 use Rattle.pt_tree.specs.declared.host_model.HostModel.TheVariants.{Table, Feed, Input, Bytes, Line}

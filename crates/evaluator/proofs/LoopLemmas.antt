@@ -1,5 +1,5 @@
 -- The three loops as one.
-use Rattle.std.proofs.Common.{◌≡◌, ℕ, suc, ◌+◌, nat_eq, add-one, Bool, true, false, not, ◌||◌, Option, Some, None, if◌then◌else◌, refl, sym, ap, ◌∙◌}
+use Rattle.std.proofs.Common.{◌≡◌, ℕ, suc, ◌+◌, nat_eq, add-one, Bool, true, false, Option, Some, None, if◌then◌else◌, refl, sym, ap, ◌∙◌}
 use Rattle.std.proofs.Math.Dec.{eqb-suc-zero}
 use Rattle.typed_tree.specs.declared.ids.ExprId.{ExprId}
 use Rattle.typed_tree.specs.declared.statement.TypedForInit.{TypedForInit}
@@ -7,9 +7,8 @@ use Rattle.typed_tree.specs.StatementTree.{BodyTree, while_true, do_while, for_e
 use Rattle.pt_base.specs.declared.span.Span.{Span}
 use Rattle.source_meaning.specs.State.{State, Outcome, gives, trapped, spent, ◌>>=◌, take_turn}
 use Rattle.source_meaning.specs.Values.{Value, is_true}
-use Rattle.source_meaning.specs.Statements.{Code, Flow, goes_on, Round, leaves, body_round, after_round, statement, outermost, stepped_first, tested, tested_later, looped, for_begins}
-use Rattle.evaluator.specs.declared.flow.Head.{Head}
-use Rattle.evaluator.specs.Loops.{optional, passed, led_by, led, behind, headed}
+use Rattle.source_meaning.specs.Statements.{Code, goes_on, Round, leaves, body_round, after_round, statement, outermost, stepped_first, tested, tested_later, looped, for_begins}
+use Rattle.evaluator.specs.Loops.{optional, passed, led_by, behind, headed}
 
 -- a turn is taken where one is left
 pub turn_taken : {A : Type 0} (st st1 : State) (next : State → Outcome A) → (st.left ≡ suc st1.left) × (st1 ≡ record st { left = st1.left }) → take_turn st.left st next ≡ next st1

@@ -1,5 +1,5 @@
 -- What the code's answers say of the meaning's outcomes. Where memory is wanting, nothing.
-use Rattle.std.specs.Prelude.{◌≡◌, ℕ, suc, Result, Ok, Err, List, map, Vec, Bool, Option, option_map}
+use Rattle.std.specs.Prelude.{◌≡◌, suc, Result, Ok, Err, List, map, Vec, Bool, Option, option_map}
 use Rattle.std.specs.declared.alloc.Global.{Global}
 use Rattle.source_meaning.specs.State.{State, Outcome, gives, trapped, spent}
 use Rattle.source_meaning.specs.Values as v

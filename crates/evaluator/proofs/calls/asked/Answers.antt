@@ -1,5 +1,5 @@
-use Rattle.std.proofs.Common.{◌≡◌, ◌++◌, ◌∙◌, ap, sym, refl, map, Option, ℤ}
-use Rattle.pt_tree.specs.HostStep.{Answer, host_step}
+use Rattle.std.proofs.Common.{◌≡◌, ◌++◌, ◌∙◌, ap}
+use Rattle.pt_tree.specs.HostStep.{host_step}
 use Rattle.host_table.specs.Hosts.{Hosts, hosts_of, with_model, bytes_of}
 use Rattle.evaluator_memory.proofs.RowLemmas.{where_ok}
 use Rattle.evaluator.specs.Seen.{state_of, models_of}

@@ -1,4 +1,4 @@
-use Rattle.std.proofs.Common.{rules, ◌≡◌, ◌∙◌, ap, sym, refl, subst, map, true, false, ℕ, suc, ◌+◌, ◌-◌, ◌<◌, length, List, [], ◌∷◌, ◌++◌, drop, nat_eq, arith, add-one}
+use Rattle.std.proofs.Common.{rules, ◌≡◌, ◌∙◌, ap, sym, refl, subst, map, false, suc, ◌+◌, ◌-◌, [], ◌∷◌, ◌++◌, drop, nat_eq, arith}
 use Rattle.std.proofs.lemmas.List.{map-append}
 use Rattle.typed_tree.specs.ExpressionTree as tree
 use Rattle.typed_tree.specs.StatementTree as b
@@ -8,14 +8,13 @@ use Rattle.source_meaning.specs.Values.{Value}
 use Rattle.evaluator.proofs.ArmLemmas.{read_is, decay_is, address_is, chain_is, logical_is, assign_led, assign_is, compound_led, compound_is, assigned_led, assigned_is}
 use Rattle.source_meaning.specs.Expressions as is
 use Rattle.source_meaning.specs.Statements as s
-use Rattle.evaluator_memory.specs.View.{view_value, view_location}
-use Rattle.evaluator.specs.Loops as loops
-use Rattle.evaluator.specs.Loops.{headed, led}
-use Rattle.evaluator.specs.Machine.{program_of, context_in, code_in}
-use Rattle.evaluator.specs.Gives.{Gives, Goes}
+use Rattle.evaluator_memory.specs.View.{view_value}
+use Rattle.evaluator.specs.Loops.{headed}
+use Rattle.evaluator.specs.Machine.{context_in, code_in}
+use Rattle.evaluator.specs.Gives.{Gives}
 use Rattle.evaluator.specs.Seen.{state_of, view_round}
 use Rattle.evaluator.proofs.CallLemmas.{calls_host, calls_too_deep, calls_function}
-use Rattle.evaluator.proofs.LoopLemmas.{not_first, looped_turn, turn_taken, while_is, do_is, for_is}
+use Rattle.evaluator.proofs.LoopLemmas.{not_first, looped_turn, while_is, do_is, for_is}
 use Rattle.evaluator.proofs.WalkLemmas.{split_at, values_more}
 use Rattle.evaluator.proofs.evaluation.+evaluation.Goals as goal
 

@@ -1,4 +1,4 @@
-use Rattle.std.proofs.Common.{◌≡◌, ◌≤◌, ◌+◌, ◌∷◌, ◌++◌, ◌∙◌, ap, sym, map, drop, arith, ◌<◌, List, length, get_or, subst}
+use Rattle.std.proofs.Common.{◌+◌, ◌∷◌, ◌++◌, ◌∙◌, ap, sym, map, drop, arith, ◌<◌, List, length, get_or, subst}
 use Rattle.evaluator.specs.declared.state.Event.{Event}
 use Rattle.policy.specs.Verdicts.{verdict_on, after}
 use Rattle.evaluator.specs.Seen.{view_event}
