@@ -6,7 +6,7 @@ mod lines;
 mod rows;
 mod runs;
 
-use anyhow::{Context, Result};
+use anyhow::{Context, Result, bail};
 use rows::Rows;
 use runs::shown;
 use std::rt::Runtime;
@@ -16,13 +16,11 @@ use std::{env, fs};
 /// Runs go as deep as calls and nested expressions do, so they get this many bytes of stack.
 const STACK: usize = 1 << 30;
 
-// Runs each row of the list, in order. The files that it names lie in its own folder.
-fn run_list<R: Runtime + AllocGlobal>(rt: &R, name: &str) -> Result<()> {
-    let text = fs::read_to_string(rt, name).context(format_args!("reading {name}"))?;
-    let folder = match name.rsplit_once('/') {
-        Some((folder, _)) => folder,
-        None => ".",
-    };
+// Runs each row of the list in the folder, in order. The files that it names lie there too.
+fn run_list<R: Runtime + AllocGlobal>(rt: &R, folder: &str, list: &str) -> Result<()> {
+    let alloc = rt.alloc();
+    let path = format!(in alloc; "{folder}/{list}")?;
+    let text = fs::read_to_string(rt, path.as_str()).context(format_args!("reading {path}"))?;
     let mut rows = Rows::new();
     for line in text.lines() {
         if let Some(row) = rows.read(line)? {
@@ -36,10 +34,11 @@ fn run_list<R: Runtime + AllocGlobal>(rt: &R, name: &str) -> Result<()> {
 }
 
 fn run_words<R: Runtime + AllocGlobal>(rt: &R) -> Result<()> {
-    for name in env::args(rt)?.skip(1) {
-        run_list(rt, name.as_str())?;
-    }
-    Ok(())
+    let mut words = env::args(rt)?.skip(1);
+    let (Some(folder), Some(list)) = (words.next(), words.next()) else {
+        bail!("the words are a folder and the name of a list in it");
+    };
+    run_list(rt, folder.as_str(), list.as_str())
 }
 
 fn main(rt: HostRuntime) -> Result<()> {
