@@ -17,6 +17,3 @@ mod whole;
 pub use expectation::{Expectation, expected};
 pub use state::Event;
 pub use whole::{RunResult, run};
-
-#[cfg(test)]
-mod tests;

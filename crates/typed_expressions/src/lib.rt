@@ -21,6 +21,3 @@ pub use meaning::{Callable, Meaning, Object, ParamTypes, Variable};
 pub use names::{Names, Scope};
 pub use operand::{Elaborated, Operand};
 pub use postfixes::fitted;
-
-#[cfg(test)]
-mod tests;
