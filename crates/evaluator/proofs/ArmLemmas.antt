@@ -44,12 +44,12 @@ assign_led form p a a' s ty c st st1 at f l ea =
 pub assign_is : (form : FormTree) (p : PlaceTree) (a a' : ExprTree) (s : Span) (ty : Option VarTy) (c : Context) (st st1 st2 : State) (at : Location) (v : Value) → form ≡ t.assign p a → location_of p c st ≡ gives at st1 → a' ≡ a → value_of a' c st1 ≡ gives v st2 → value_of (typed s ty form) c st ≡ store at v st2
 assign_is form p a a' s ty c st st1 st2 at v f l ea h = assign_led form p a a' s ty c st st1 at f l ea ∙ ap (λ r. r >>= store at) h
 
-pub compound_led : (form : FormTree) (p : PlaceTree) (step : LinkStep) (a a' : ExprTree) (s : Span) (ty : Option VarTy) (c : Context) (st st1 : State) (at : Location) → form ≡ t.compound p step a → location_of p c st ≡ gives at st1 → a' ≡ a → value_of (typed s ty form) c st ≡ (value_of a' c st1 >>= compounded c s at step)
-compound_led form p step a a' s ty c st st1 at f l ea =
+pub compound_led : (form : FormTree) (p : PlaceTree) (left : Span) (step : LinkStep) (a a' : ExprTree) (s : Span) (ty : Option VarTy) (c : Context) (st st1 : State) (at : Location) → form ≡ t.compound p left step a → location_of p c st ≡ gives at st1 → a' ≡ a → value_of (typed s ty form) c st ≡ (value_of a' c st1 >>= compounded c s at step)
+compound_led form p left step a a' s ty c st st1 at f l ea =
     ap (λ x. value_of (typed s ty x) c st) f ∙ ap (λ r. r >>= λ at st1. value_of a c st1 >>= compounded c s at step) l ∙ ap (λ x. value_of x c st1 >>= compounded c s at step) (sym ea)
 
-pub compound_is : (form : FormTree) (p : PlaceTree) (step : LinkStep) (a a' : ExprTree) (s : Span) (ty : Option VarTy) (c : Context) (st st1 st2 : State) (at : Location) (v : Value) → form ≡ t.compound p step a → location_of p c st ≡ gives at st1 → a' ≡ a → value_of a' c st1 ≡ gives v st2 → value_of (typed s ty form) c st ≡ compounded c s at step v st2
-compound_is form p step a a' s ty c st st1 st2 at v f l ea h = compound_led form p step a a' s ty c st st1 at f l ea ∙ ap (λ r. r >>= compounded c s at step) h
+pub compound_is : (form : FormTree) (p : PlaceTree) (left : Span) (step : LinkStep) (a a' : ExprTree) (s : Span) (ty : Option VarTy) (c : Context) (st st1 st2 : State) (at : Location) (v : Value) → form ≡ t.compound p left step a → location_of p c st ≡ gives at st1 → a' ≡ a → value_of a' c st1 ≡ gives v st2 → value_of (typed s ty form) c st ≡ compounded c s at step v st2
+compound_is form p left step a a' s ty c st st1 st2 at v f l ea h = compound_led form p left step a a' s ty c st st1 at f l ea ∙ ap (λ r. r >>= compounded c s at step) h
 
 pub assigned_led : (form : FormTree) (p : PlaceTree) (a a' : ExprTree) (s : Span) (ty : Option VarTy) (c : Context) (st st1 : State) (at : Location) → form ≡ t.assign p a → location_of p c st ≡ gives at st1 → a' ≡ a → assigned_location (typed s ty form) c st ≡ (value_of a' c st1 >>= λ v st2. store at v st2 >>= λ w. gives at)
 assigned_led form p a a' s ty c st st1 at f l ea =

@@ -96,6 +96,7 @@ pub fn value(
             place,
             step,
             operand,
+            ..
         } => {
             let at = location(alloc, machine, frame, place, state)?;
             let v = value(alloc, machine, frame, operand, state)?;
@@ -105,6 +106,7 @@ pub fn value(
             place,
             back,
             postfix,
+            ..
         } => {
             let at = location(alloc, machine, frame, place, state)?;
             counted(machine, frame, e.span, *back, *postfix, at, state)

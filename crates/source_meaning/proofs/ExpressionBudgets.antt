@@ -79,9 +79,9 @@ mutual
       keeps_bind (value_of a c) (λ v. if is_true v then value_of b c else value_of d c) (keeps_value a c k) (λ v. keeps_if (is_true v) (value_of b c) (value_of d c) (keeps_value b c k) (keeps_value d c k))
   keeps_form (t.assign p a) s ty c k =
       keeps_bind (location_of p c) (λ at st. value_of a c st >>= store at) (keeps_location p c k) (λ at. keeps_bind (value_of a c) (store at) (keeps_value a c k) (keeps_store at))
-  keeps_form (t.compound p step a) s ty c k =
+  keeps_form (t.compound p left step a) s ty c k =
       keeps_bind (location_of p c) (λ at st. value_of a c st >>= compounded c s at step) (keeps_location p c k) (λ at. keeps_bind (value_of a c) (compounded c s at step) (keeps_value a c k) (keeps_compounded c s at step))
-  keeps_form (t.step p back postfix) s ty c k = keeps_bind (location_of p c) (counted c s back postfix) (keeps_location p c k) (keeps_counted c s back postfix)
+  keeps_form (t.step p left back postfix) s ty c k = keeps_bind (location_of p c) (counted c s back postfix) (keeps_location p c k) (keeps_counted c s back postfix)
   keeps_form (t.call f arguments) s ty c k = keeps_bind (values_of arguments c) (c.calls c.frame s f.0) (keeps_values arguments c k) (k.each c.frame s f.0)
 
   keeps_values : (es : ExprTrees) (c : Context) → CallsKeep c.calls → Keeps (values_of es c)

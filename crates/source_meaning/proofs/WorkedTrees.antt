@@ -92,11 +92,11 @@ assign ty p a = typed anywhere (Some ty) (t.assign p a)
 
 -- p += a, computed in int
 abbrev pub add_to : VarTy → PlaceTree → ExprTree → ExprTree
-add_to ty p a = typed anywhere (Some ty) (t.compound p (l.Arithmetic b.Add i.Int) a)
+add_to ty p a = typed anywhere (Some ty) (t.compound p anywhere (l.Arithmetic b.Add i.Int) a)
 
 -- p++
 abbrev pub count_up : VarTy → PlaceTree → ExprTree
-count_up ty p = typed anywhere (Some ty) (t.step p false true)
+count_up ty p = typed anywhere (Some ty) (t.step p anywhere false true)
 
 abbrev pub call : Span → Option VarTy → ℕ → List ExprTree → ExprTree
 call s ty f arguments = typed s ty (t.call (record { 0 = f }) (expr_trees arguments))

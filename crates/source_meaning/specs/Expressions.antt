@@ -170,8 +170,8 @@ abbrev mutual
   form_value (t.logical op a operands) s ty c st = value_of a c st >>= λ v. operands_value operands op (is_true v) c
   form_value (t.choice a b d) s ty c st = value_of a c st >>= λ v. if is_true v then value_of b c else value_of d c
   form_value (t.assign p a) s ty c st = location_of p c st >>= λ at st1. value_of a c st1 >>= store at
-  form_value (t.compound p step a) s ty c st = location_of p c st >>= λ at st1. value_of a c st1 >>= compounded c s at step
-  form_value (t.step p back postfix) s ty c st = location_of p c st >>= counted c s back postfix
+  form_value (t.compound p left step a) s ty c st = location_of p c st >>= λ at st1. value_of a c st1 >>= compounded c s at step
+  form_value (t.step p left back postfix) s ty c st = location_of p c st >>= counted c s back postfix
   form_value (t.call f arguments) s ty c st = values_of arguments c st >>= c.calls c.frame s f.0
 
   -- arguments, from the left

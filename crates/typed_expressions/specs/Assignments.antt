@@ -89,12 +89,12 @@ is_refused r = false
 abbrev pub object_value : «Type» → Value
 object_value ty = record { ty = ty; null = false }
 
-unfoldable pub compound_tree : Rule → BinaryOp → Span → Known → Value → ExprTree → ExprTree
-compound_tree rule op s a w x = typed s (var_type a.ty) (compound (place_of a.tree) (step_of (integer_op op) rule) (converted_by rule w (object_value a.ty) x))
+unfoldable pub compound_tree : Rule → BinaryOp → Span → Span → Known → Value → ExprTree → ExprTree
+compound_tree rule op s left a w x = typed s (var_type a.ty) (compound (place_of a.tree) left (step_of (integer_op op) rule) (converted_by rule w (object_value a.ty) x))
 
 unfoldable pub compounded_by : Option FaultKind → Rule → BinaryOp → Span → Span → Known → Span → Value → ExprTree → Made
 compounded_by target rule op s left a right w x = record {
-  operand = if is_some target || is_refused rule then faulty else plain a.ty (compound_tree rule op s a w x);
+  operand = if is_some target || is_refused rule then faulty else plain a.ty (compound_tree rule op s left a w x);
   faults = optional_fault target left ++ rule_faults rule left right;
 }
 

@@ -105,13 +105,13 @@ addressed s at k = addressed_as k.ty s at k
 
 -- ---- ++ and --
 
-abbrev pub step_tree : Span → «Type» → Bool → Bool → Elaboration → ExprTree
-step_tree s ty back postfix t = typed s (var_type ty) (step (place_of t) back postfix)
+abbrev pub step_tree : Span → «Type» → Bool → Bool → Span → Elaboration → ExprTree
+step_tree s ty back postfix at t = typed s (var_type ty) (step (place_of t) at back postfix)
 
 unfoldable pub stepped_by : Option FaultKind → UnaryRule → Span → Bool → Bool → Span → Elaboration → Made
 stepped_by target unary_rule.Unknown s back postfix at t = refused (optional_fault target at)
 stepped_by target unary_rule.Wrong s back postfix at t = refused (optional_fault target at ++ fault_at WrongType at ∷ [])
-stepped_by None (unary_rule.Gives ty) s back postfix at t = fine (plain ty (step_tree s ty back postfix t))
+stepped_by None (unary_rule.Gives ty) s back postfix at t = fine (plain ty (step_tree s ty back postfix at t))
 stepped_by (Some kind) (unary_rule.Gives ty) s back postfix at t = refused (optional_fault (Some kind) at)
 
 -- `back` is --, and `postfix` that it stands behind the operand

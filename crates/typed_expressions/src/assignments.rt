@@ -145,7 +145,7 @@ fn compounded(
     if target.is_some() || is_refused(rule) {
         return Ok(Operand::faulty());
     }
-    let tree = compound_tree(alloc, rule, op, s, left.operand, right)?;
+    let tree = compound_tree(alloc, rule, op, s, left, right)?;
     Ok(Operand::plain(ty, tree))
 }
 
@@ -228,21 +228,22 @@ fn compound_tree(
     rule: Rule,
     op: BinaryOp,
     s: Span,
-    left: Operand,
+    left: Placed,
     right: Placed,
 ) -> Result<TypedExpr, AllocError>
-    ensures { IfOk result (λ x. view_expr x ≡ is.compound_tree rule op s (known left) (value_of (known right.operand)) (value_tree right.span (known right.operand))) }
+    ensures { IfOk result (λ x. view_expr x ≡ is.compound_tree rule op s left.span (known left.operand) (value_of (known right.operand)) (value_tree right.span (known right.operand))) }
 {
-    let ty = left.ty;
+    let ty = left.operand.ty;
     let object = Value { ty, null: false };
     let value = right.operand.value();
     let tree = right.operand.into_tree(alloc, right.span)?;
     let tree = converted_by(alloc, rule, value, object, tree)?;
-    let place = left.into_elaborated().into_place(alloc)?;
+    let at = left.span;
+    let place = left.operand.into_elaborated().into_place(alloc)?;
     let step = step_of(integer_op(op), rule);
     Ok(TypedExpr {
         span: s,
         ty: var_type(ty),
-        form: Form::compound(alloc, place, step, tree)?,
+        form: Form::compound(alloc, place, at, step, tree)?,
     })
 }

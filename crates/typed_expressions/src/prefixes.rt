@@ -325,7 +325,7 @@ pub(crate) fn stepped(
             Some(_) => Ok(Operand::faulty()),
             None => {
                 let place = operand.into_elaborated().into_place(alloc)?;
-                Ok(valued(s, ty, Form::step(place, how.back, how.postfix)))
+                Ok(valued(s, ty, Form::step(place, at, how.back, how.postfix)))
             }
         },
     }

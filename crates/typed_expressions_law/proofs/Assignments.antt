@@ -257,10 +257,10 @@ variable_plain n structs op s t i j r (compares e e' f f' m k c same) = refl
 variable_plain n structs op s t i j r (null_right e f b m c) = refl
 variable_plain n structs op s t i j r (null_left a e f k c) = refl
 
-compound_sound : (n : Names) (structs : ℕ) (op : BinaryOp) (s : Span) (k : Known) (w : Value) (x : ExprTree) (r : Rule) → Target n structs k → Compounds n op r k.ty w.ty w.null x → is_struct k.ty ≡ false → SoundKnown n structs (plain k.ty (compound_tree r op s k w x))
+compound_sound : (n : Names) (structs : ℕ) (op : BinaryOp) (s left : Span) (k : Known) (w : Value) (x : ExprTree) (r : Rule) → Target n structs k → Compounds n op r k.ty w.ty w.null x → is_struct k.ty ≡ false → SoundKnown n structs (plain k.ty (compound_tree r op s left k w x))
 unfolding compound_tree
-compound_sound n structs op s k w x r p h e =
-    plain_sound n structs k.ty (compound_tree r op s k w x)
+compound_sound n structs op s left k w x r p h e =
+    plain_sound n structs k.ty (compound_tree r op s left k w x)
     (record {
       typed = both (place_fits n (place_of k.tree) && is_object (place_of k.tree)) _ (both (place_fits n (place_of k.tree)) _ p.fits p.written)
           (both (test.same_types (place_type n (place_of k.tree)) (var_type k.ty)) _ (same_types-equal _ _ p.has)
@@ -279,7 +279,7 @@ compounded_by_sound n structs op s left right None k w x t h z =
     let out = binary_outcome op k.ty w.ty false w.null left right (no_logical op kept.forms) (good_known structs k.ty (variable_good structs k.ty p.variable p.whole)) (good_known structs w.ty h.good) fine in
     let c = compound_takes n structs op k.ty w.ty false w.null (binary_rule op (val k.ty false) w) x out kept.forms kept.fits p.variable (record { typed = h.typed; has = h.has }) in
     subst (λ r. SoundKnown n structs (compounded_by None r op s left k right w x).operand) (sym kept.same)
-    (rw c.kept (compound_sound n structs op s k w x (binary_rule op (val k.ty false) w) p c (variable_plain n structs op k.ty w.ty false w.null (binary_rule op (val k.ty false) w) out)))
+    (rw c.kept (compound_sound n structs op s left k w x (binary_rule op (val k.ty false) w) p c (variable_plain n structs op k.ty w.ty false w.null (binary_rule op (val k.ty false) w) out)))
 
 pub compounded_sound : (n : Names) (structs : Structs) (count : ℕ) (op : BinaryOp) (s left right : Span) (a b : Known) → SoundKnown n count a → SoundKnown n count b → (compounded structs op s left a right b).faults ≡ [] → SoundKnown n count (compounded structs op s left a right b).operand
 unfolding compounded

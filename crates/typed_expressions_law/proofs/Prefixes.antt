@@ -176,9 +176,9 @@ addressed_sound n structs s at k h z = by_type k.ty refl z
 
 -- ---- ++ and --
 
-step_sound : (n : Names) (structs : ℕ) (s : Span) (back postfix : Bool) (k : Known) (t : «Type») → Target n structs k → k.ty ≡ t → test.is_scalar (var_type t) ≡ true → IsTrue (is_good structs t) → value_type t false ≡ t → (is_struct t ≡ true → ⊥) → SoundKnown n structs (plain t (step_tree s t back postfix k.tree))
-step_sound n structs s back postfix k t p e c g w ns =
-    plain_sound n structs t (step_tree s t back postfix k.tree)
+step_sound : (n : Names) (structs : ℕ) (s at : Span) (back postfix : Bool) (k : Known) (t : «Type») → Target n structs k → k.ty ≡ t → test.is_scalar (var_type t) ≡ true → IsTrue (is_good structs t) → value_type t false ≡ t → (is_struct t ≡ true → ⊥) → SoundKnown n structs (plain t (step_tree s t back postfix at k.tree))
+step_sound n structs s at back postfix k t p e c g w ns =
+    plain_sound n structs t (step_tree s t back postfix at k.tree)
     (record {
       typed = both (place_fits n (place_of k.tree) && is_object (place_of k.tree)) _ (both (place_fits n (place_of k.tree)) _ p.fits p.written)
           (both (test.same_types (place_type n (place_of k.tree)) (var_type t)) _ (same_types-equal _ _ (p.has ∙ ap var_type e)) c);
@@ -188,11 +188,11 @@ step_sound n structs s back postfix k t p e c g w ns =
 
 stepped_at : (n : Names) (structs : ℕ) (s at : Span) (back postfix : Bool) (o : Option FaultKind) (k : Known) (t : «Type») → (o ≡ None → Target n structs k) → k.ty ≡ t → is_bad t ≡ false → (stepped_by o (step_rule t) s back postfix at k.tree).faults ≡ [] → SoundKnown n structs (stepped_by o (step_rule t) s back postfix at k.tree).operand
 unfolding stepped_by step_rule optional_fault var_type
-stepped_at n structs s at back postfix None k (Int t) p e b z = step_sound n structs s back postfix k (Int t) (p refl) e refl refl refl (λ q. cc)
+stepped_at n structs s at back postfix None k (Int t) p e b z = step_sound n structs s at back postfix k (Int t) (p refl) e refl refl refl (λ q. cc)
 stepped_at n structs s at back postfix None k (Pointer e' f) p e b z =
     let target = p refl in
     let good : IsTrue (is_variable structs (Pointer e' f)) = subst (λ t. IsTrue (is_variable structs t)) e target.variable in
-    step_sound n structs s back postfix k (Pointer e' f) target e refl good refl (λ q. cc)
+    step_sound n structs s at back postfix k (Pointer e' f) target e refl good refl (λ q. cc)
 stepped_at n structs s at back postfix None k Bad p e b z = cc
 stepped_at n structs s at back postfix None k Void p e b z = cc
 stepped_at n structs s at back postfix None k (Struct m) p e b z = cc

@@ -270,13 +270,13 @@ stored_small structs s left a right b =
     let read = value_small right b in
     if_made (is_bad a.ty || is_bad b.ty) _ _ _ (omega arith) (omega (arith, own, read))
 
-compound_tree_small : (r : Rule) (o : BinaryOp) (s : Span) (a : Known) (w : Value) (x : ExprTree) → expr_nodes (compound_tree r o s a w x) ≤ 2 + (weight_of a + expr_nodes x)
+compound_tree_small : (r : Rule) (o : BinaryOp) (s left : Span) (a : Known) (w : Value) (x : ExprTree) → expr_nodes (compound_tree r o s left a w x) ≤ 2 + (weight_of a + expr_nodes x)
 unfolding compound_tree
-compound_tree_small r o s a w x = let place = place_weight a.tree in let own = converted_small r w (object_value a.ty) x in omega (arith, place, own)
+compound_tree_small r o s left a w x = let place = place_weight a.tree in let own = converted_small r w (object_value a.ty) x in omega (arith, place, own)
 
 compounded_by_small : (target : Option FaultKind) (r : Rule) (o : BinaryOp) (s left : Span) (a : Known) (right : Span) (w : Value) (x : ExprTree) → made_nodes (compounded_by target r o s left a right w x) ≤ 2 + (weight_of a + expr_nodes x)
 unfolding compounded_by
-compounded_by_small target r o s left a right w x = let tree = compound_tree_small r o s a w x in if_known (is_some target || is_refused r) faulty (plain a.ty (compound_tree r o s a w x)) _ (omega arith) tree
+compounded_by_small target r o s left a right w x = let tree = compound_tree_small r o s left a w x in if_known (is_some target || is_refused r) faulty (plain a.ty (compound_tree r o s left a w x)) _ (omega arith) tree
 
 compounded_small : (structs : Structs) (o : BinaryOp) (s left : Span) (a : Known) (right : Span) (b : Known) → made_nodes (compounded structs o s left a right b) ≤ 3 + (weight_of a + weight_of b)
 unfolding compounded

@@ -56,11 +56,11 @@ view_logical op a os q h = search (rules, form_views.the_lemmas, operand_row, h)
 pub view_assign : (p : Place) (a : TypedExpr) (q : Box TypedExpr Global) → q.value ≡ a → view_form (f.Assign p q) ≡ assign (view_place p) (view_expr a)
 view_assign p a q h = search (rules, form_views.the_lemmas, step_row, h)
 
-pub view_compound : (p : Place) (op : LinkStep) (a : TypedExpr) (q : Box TypedExpr Global) → q.value ≡ a → view_form (f.Compound p op q) ≡ compound (view_place p) op (view_expr a)
-view_compound p op a q h = search (rules, form_views.the_lemmas, step_row, h)
+pub view_compound : (p : Place) (at : Span) (op : LinkStep) (a : TypedExpr) (q : Box TypedExpr Global) → q.value ≡ a → view_form (f.Compound p at op q) ≡ compound (view_place p) at op (view_expr a)
+view_compound p at op a q h = search (rules, form_views.the_lemmas, step_row, h)
 
-pub view_increment : (p : Place) (back postfix : Bool) → view_form (f.Step p back postfix) ≡ step (view_place p) back postfix
-view_increment p back postfix = search (rules, form_views.the_lemmas, step_row)
+pub view_increment : (p : Place) (at : Span) (back postfix : Bool) → view_form (f.Step p at back postfix) ≡ step (view_place p) at back postfix
+view_increment p at back postfix = search (rules, form_views.the_lemmas, step_row)
 
 pub view_call : (g : FnId) (es : Vec TypedExpr Global) → view_form (f.Call g es) ≡ call g (expr_trees (map view_expr es.items))
 view_call g es = search (rules, form_views.the_lemmas, expr_row)

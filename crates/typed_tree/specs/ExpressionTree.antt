@@ -37,9 +37,10 @@ mutual
     logical : LogicalOp → ExprTree → OperandTrees → FormTree
     choice : ExprTree → ExprTree → ExprTree → FormTree
     assign : PlaceTree → ExprTree → FormTree
-    compound : PlaceTree → LinkStep → ExprTree → FormTree
-    -- whether it is --, and whether it stands behind its operand
-    step : PlaceTree → Bool → Bool → FormTree
+    -- the span is that of the place alone
+    compound : PlaceTree → Span → LinkStep → ExprTree → FormTree
+    -- where the place stands, whether it is --, and whether it stands behind its operand
+    step : PlaceTree → Span → Bool → Bool → FormTree
     call : FnId → ExprTrees → FormTree
 
   pub data ExprTrees : Type 0 where
@@ -91,8 +92,8 @@ abbrev mutual
   view_form (f.Logical' op p s t a shape row) = logical op (typed s t (view_form a)) (view_operand_row row)
   view_form (f.Choice' p s t a q u v b r w x c) = choice (typed s t (view_form a)) (typed u v (view_form b)) (typed w x (view_form c))
   view_form (f.Assign' root shape row p s t a) = assign (place (view_root root) (view_step_row row)) (typed s t (view_form a))
-  view_form (f.Compound' root shape row op p s t a) = compound (place (view_root root) (view_step_row row)) op (typed s t (view_form a))
-  view_form (f.Step' root shape row back postfix) = step (place (view_root root) (view_step_row row)) back postfix
+  view_form (f.Compound' root shape row at op p s t a) = compound (place (view_root root) (view_step_row row)) at op (typed s t (view_form a))
+  view_form (f.Step' root shape row at back postfix) = step (place (view_root root) (view_step_row row)) at back postfix
   view_form (f.Call' g shape row) = call g (view_expr_row row)
 
   pub view_root : Root → RootTree

@@ -25,8 +25,8 @@ abbrev mutual
   form_nodes (logical op a os) = expr_nodes a + operand_nodes os
   form_nodes (choice a b c) = expr_nodes a + (expr_nodes b + expr_nodes c)
   form_nodes (assign p a) = place_nodes p + expr_nodes a
-  form_nodes (compound p op a) = place_nodes p + expr_nodes a
-  form_nodes (step p back postfix) = place_nodes p
+  form_nodes (compound p at op a) = place_nodes p + expr_nodes a
+  form_nodes (step p at back postfix) = place_nodes p
   form_nodes (call g arguments) = exprs_nodes arguments
 
   pub exprs_nodes : ExprTrees → ℕ

@@ -157,8 +157,8 @@ abbrev mutual
   form_fits n (logical op a os) t = (is_typed n a && is_scalar (ty_of a)) && ((has_operands os && operands_fit n os) && same_types t int)
   form_fits n (choice a b c) t = (is_typed n a && is_scalar (ty_of a)) && ((is_typed n b && same_types (ty_of b) t) && ((is_typed n c && same_types (ty_of c) t) && is_arm t))
   form_fits n (assign p a) t = (place_fits n p && is_object p) && ((same_types (place_type n p) t && is_value t) && (is_typed n a && same_types (ty_of a) t))
-  form_fits n (compound p op a) t = (place_fits n p && is_object p) && (same_types (place_type n p) t && (is_typed n a && (is_compound op && converts (stepped (promoted_value t) op (ty_of a)) t)))
-  form_fits n (step p back postfix) t = (place_fits n p && is_object p) && (same_types (place_type n p) t && is_scalar t)
+  form_fits n (compound p at op a) t = (place_fits n p && is_object p) && (same_types (place_type n p) t && (is_typed n a && (is_compound op && converts (stepped (promoted_value t) op (ty_of a)) t)))
+  form_fits n (step p at back postfix) t = (place_fits n p && is_object p) && (same_types (place_type n p) t && is_scalar t)
   form_fits n (call g arguments) t = all_typed n arguments && call_fits (slice_get n.signatures g.0) arguments t
 
   pub all_typed : Names → ExprTrees → Bool

@@ -52,16 +52,18 @@ pub enum Form {
     /// An assignment of a value that has the place's type.
     Assign(Place, Box<TypedExpr>),
     /// A compound assignment: from the place's value a step with the operand gives a value, which
-    /// is converted to the place's type.
+    /// is converted to the place's type. `at` is where the place alone stands.
     Compound {
         place: Place,
+        at: Span,
         step: LinkStep,
         operand: Box<TypedExpr>,
     },
     /// `++`, or `--` where `back` holds, of an integer or a pointer. `postfix` gives the value
-    /// before it.
+    /// before it. `at` is where the place alone stands.
     Step {
         place: Place,
+        at: Span,
         back: bool,
         postfix: bool,
     },
@@ -154,28 +156,32 @@ impl Form {
         Ok(Form::Assign(place, Box::new(alloc, value)?))
     }
 
-    /// A compound assignment.
+    /// A compound assignment to a place that stands at `at`.
     pub fn compound(
         alloc: Global,
         place: Place,
+        at: Span,
         step: LinkStep,
         operand: TypedExpr,
     ) -> Result<Form, AllocError>
-        ensures { IfOk result (λ f. view_form f ≡ compound (view_place place) step (view_expr operand)) }
+        ensures { IfOk result (λ f. view_form f ≡ compound (view_place place) at step (view_expr operand)) }
     {
         Ok(Form::Compound {
             place,
+            at,
             step,
             operand: Box::new(alloc, operand)?,
         })
     }
 
-    /// `++`, or `--` where `back` holds, behind its operand where `postfix` does.
-    pub fn step(place: Place, back: bool, postfix: bool) -> Form
-        ensures { view_form result ≡ step (view_place place) back postfix }
+    /// `++`, or `--` where `back` holds, behind its operand where `postfix` does, of a place that
+    /// stands at `at`.
+    pub fn step(place: Place, at: Span, back: bool, postfix: bool) -> Form
+        ensures { view_form result ≡ step (view_place place) at back postfix }
     {
         Form::Step {
             place,
+            at,
             back,
             postfix,
         }

@@ -274,7 +274,7 @@ fn forms_with_lists_are_made(rt: HostRuntime) -> Result<(), Fail> {
 fn forms_with_places_are_made(rt: HostRuntime) -> Result<(), Fail> {
     let alloc = rt.alloc();
     let step = LinkStep::Shift { left: true };
-    let compound = Form::compound(alloc, local(alloc, 0), step, one())?;
+    let compound = Form::compound(alloc, local(alloc, 0), at(0), step, one())?;
     assert!(rt; matches!(compound, Form::Compound { .. }));
     assert!(rt;
         matches!(
@@ -283,7 +283,12 @@ fn forms_with_places_are_made(rt: HostRuntime) -> Result<(), Fail> {
         )
     );
     assert!(rt; matches!(Form::address(local(alloc, 0)), Form::Address(_)));
-    assert!(rt; matches!(Form::step(local(alloc, 0), false, true), Form::Step { .. }));
+    assert!(rt;
+        matches!(
+            Form::step(local(alloc, 0), at(0), false, true),
+            Form::Step { .. }
+        )
+    );
     Ok(())
 }
 

@@ -73,23 +73,23 @@ value-returns-in-Assign t c =
     c.stored.ensures
 
 pub value-returns-in_err-at-in-Compound : goal.value-returns-in_err-at-in-Compound
-value-returns-in_err-at-in-Compound t c = rw (ap tree.view_form c.in-Compound.is ∙ view_compound c.in-Compound.place c.in-Compound.step c.in-Compound.operand.value c.in-Compound.operand refl) (search rules)
+value-returns-in_err-at-in-Compound t c = rw (ap tree.view_form c.in-Compound.is ∙ view_compound c.in-Compound.place _ c.in-Compound.step c.in-Compound.operand.value c.in-Compound.operand refl) (search rules)
 
 pub value-returns-in_err-v-in-Compound : goal.value-returns-in_err-v-in-Compound
 value-returns-in_err-v-in-Compound t c =
-    rw (compound_led _ _ _ _ _ c.args.e.now.span c.args.e.now.ty _ _ _ _ (ap tree.view_form c.in-Compound.is ∙ view_compound c.in-Compound.place c.in-Compound.step c.in-Compound.operand.value c.in-Compound.operand refl) c.in_ok-at-in-Compound.ensures (ap tree.view_expr c.deref-in-Compound.ensures)) (search rules)
+    rw (compound_led _ _ _ _ _ _ c.args.e.now.span c.args.e.now.ty _ _ _ _ (ap tree.view_form c.in-Compound.is ∙ view_compound c.in-Compound.place _ c.in-Compound.step c.in-Compound.operand.value c.in-Compound.operand refl) c.in_ok-at-in-Compound.ensures (ap tree.view_expr c.deref-in-Compound.ensures)) (search rules)
 
 pub value-returns-in-Compound : goal.value-returns-in-Compound
 value-returns-in-Compound t c =
     subst (λ (r : Outcome Value). Gives c.compounded.result (state_of c.compounded.new.state) r)
-    (sym (compound_is _ _ _ _ _ c.args.e.now.span c.args.e.now.ty _ _ _ _ _ _ (ap tree.view_form c.in-Compound.is ∙ view_compound c.in-Compound.place c.in-Compound.step c.in-Compound.operand.value c.in-Compound.operand refl) c.in_ok-at-in-Compound.ensures (ap tree.view_expr c.deref-in-Compound.ensures) c.in_ok-v-in-Compound.ensures))
+    (sym (compound_is _ _ _ _ _ _ c.args.e.now.span c.args.e.now.ty _ _ _ _ _ _ (ap tree.view_form c.in-Compound.is ∙ view_compound c.in-Compound.place _ c.in-Compound.step c.in-Compound.operand.value c.in-Compound.operand refl) c.in_ok-at-in-Compound.ensures (ap tree.view_expr c.deref-in-Compound.ensures) c.in_ok-v-in-Compound.ensures))
     c.compounded.ensures
 
 pub value-returns-in_err-at-in-Step : goal.value-returns-in_err-at-in-Step
-value-returns-in_err-at-in-Step t c = rw (ap tree.view_form c.in-Step.is ∙ view_increment c.in-Step.place c.in-Step.back c.in-Step.postfix) (search rules)
+value-returns-in_err-at-in-Step t c = rw (ap tree.view_form c.in-Step.is ∙ view_increment c.in-Step.place _ c.in-Step.back c.in-Step.postfix) (search rules)
 
 pub value-returns-in-Step : goal.value-returns-in-Step
-value-returns-in-Step t c = rw (ap tree.view_form c.in-Step.is ∙ view_increment c.in-Step.place c.in-Step.back c.in-Step.postfix) (search rules)
+value-returns-in-Step t c = rw (ap tree.view_form c.in-Step.is ∙ view_increment c.in-Step.place _ c.in-Step.back c.in-Step.postfix) (search rules)
 
 pub value-returns-in_err-all-in-Call : goal.value-returns-in_err-all-in-Call
 value-returns-in_err-all-in-Call t c = rw (ap tree.view_form c.in-Call.is ∙ view_call c.in-Call.f c.in-Call.arguments) (search rules)
