@@ -220,12 +220,14 @@ declared marks st f at = declared_as marks st f at (earlier st f)
 
 -- ---- the definition
 
-abbrev pub with_parts : FunctionTree → List Var → BodyTree → FunctionTree
-with_parts f vars body = record f { vars = vars; body = Some body }
+-- its name stands where the definition has it
+abbrev pub with_parts : FunctionTree → Span → List Var → BodyTree → FunctionTree
+with_parts f at vars body = record f { name = at; vars = vars; body = Some body }
 
--- the variables and the body of the function of this number
-abbrev pub with_body : List FunctionTree → ℕ → List Var → BodyTree → List FunctionTree
-with_body fs k vars body = option_map_or (λ f. slice_set fs k (with_parts f vars body)) (slice_get fs k) fs
+-- the function of this number is defined: its name stands at `at`, and these are its variables and its
+-- body
+abbrev pub with_body : List FunctionTree → ℕ → Span → List Var → BodyTree → List FunctionTree
+with_body fs k at vars body = option_map_or (λ f. slice_set fs k (with_parts f at vars body)) (slice_get fs k) fs
 
 -- the most cells that the variables of a function may have together
 abbrev pub variables_limit : ℕ
@@ -247,11 +249,11 @@ abbrev pub is_start : Callable → Bool → Bool
 is_start f defines = bytes_eq f.name (codes "main") && (defines && (is_int f.result && nat_eq (length f.params) 0))
 
 -- behind a function its scopes and variables are gone
-abbrev pub behind_body : Progress → ℕ → Span → CheckedAll → Progress
-behind_body st k s all = record {
+abbrev pub behind_body : Progress → ℕ → Span → Span → CheckedAll → Progress
+behind_body st k at s all = record {
   env = without_variables all.state.env;
   structs = all.state.structs;
-  functions = with_body st.functions k (map var_of all.state.env.variables) (block s (body_trees all.bodies));
+  functions = with_body st.functions k at (map var_of all.state.env.variables) (block s (body_trees all.bodies));
   globals = st.globals;
   cells = st.cells;
   exprs = st.exprs ++ all.trees;
@@ -271,7 +273,7 @@ abbrev pub defined : Progress → ℕ → «Type» → Span → BlockTree → Ch
 defined st k result at b =
     let all = block_in result st.env st.structs (length st.exprs) b.items in
     record {
-      progress = behind_body st k b.span all;
+      progress = behind_body st k at b.span all;
       faults = all.faults ++ fault_if (are_too_large all.state.structs all.state.env.variables) TooLarge at;
     }
 

@@ -22,21 +22,22 @@ use type_rules::Type;
 use typed_expressions::Callable;
 use typed_tree::{TypedBody, TypedFn, Var};
 
-/// Gives a function its variables and its body.
-fn give_body(function: &mut TypedFn, vars: Vec<Var>, body: TypedBody)
-    ensures { view_function function.new ≡ is.with_parts (view_function function.old) vars.items (view_body body) }
+/// Gives a function the place of its name in its definition, its variables and its body.
+fn give_body(function: &mut TypedFn, at: Span, vars: Vec<Var>, body: TypedBody)
+    ensures { view_function function.new ≡ is.with_parts (view_function function.old) at vars.items (view_body body) }
 {
+    function.name = at;
     function.vars = Listed::new(vars);
     function.body = Some(body);
 }
 
-/// Gives the function of this number its variables and its body.
+/// Gives the function of this number what its definition says.
 #[tactic(auto, using(crate::proofs::BodyLemmas::given_body))]
-fn set_body(functions: &mut [TypedFn], number: usize, vars: Vec<Var>, body: TypedBody)
-    ensures { map view_function functions.new ≡ is.with_body (map view_function functions.old) number vars.items (view_body body) }
+fn set_body(functions: &mut [TypedFn], number: usize, at: Span, vars: Vec<Var>, body: TypedBody)
+    ensures { map view_function functions.new ≡ is.with_body (map view_function functions.old) number at vars.items (view_body body) }
 {
     if number < functions.len() {
-        give_body(&mut functions[number], vars, body);
+        give_body(&mut functions[number], at, vars, body);
     }
 }
 
@@ -67,7 +68,7 @@ fn define(
     let vars = vars_of(alloc, &progress.names.variables)?;
     let _ = progress.names.take_variables(alloc);
     let block = TypedBody::block(body.span, statements);
-    set_body(&mut progress.functions, number, vars, block);
+    set_body(&mut progress.functions, number, at, vars, block);
     Ok(())
 }
 

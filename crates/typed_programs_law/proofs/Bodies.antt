@@ -149,7 +149,7 @@ module _ (bodies : BodiesAreSound) (keep : BlocksAreKept) (marks : List ℕ → 
   all = checked_block c.result start b.items
 
   abbrev given : FunctionTree
-  given = with_parts o.entry (map var_of all.state.env.variables) (block b.span (body_trees all.bodies))
+  given = with_parts o.entry f.declarator.name.span (map var_of all.state.env.variables) (block b.span (body_trees all.bodies))
 
   -- behind the body
   abbrev pub after : Progress
@@ -320,15 +320,15 @@ module _ (bodies : BodiesAreSound) (keep : BlocksAreKept) (marks : List ℕ → 
     has_main = st.has_main;
   }
 
-  with_body_is : with_body st.functions k given.vars (block b.span (body_trees all.bodies)) ≡ slice_set st.functions k given
-  with_body_is = ap (λ x. option_map_or (λ e. slice_set st.functions k (with_parts e given.vars (block b.span (body_trees all.bodies)))) x st.functions) o.is
+  with_body_is : with_body st.functions k f.declarator.name.span given.vars (block b.span (body_trees all.bodies)) ≡ slice_set st.functions k given
+  with_body_is = ap (λ x. option_map_or (λ e. slice_set st.functions k (with_parts e f.declarator.name.span given.vars (block b.span (body_trees all.bodies)))) x st.functions) o.is
 
-  behind_is : behind_body st k b.span all ≡ after
+  behind_is : behind_body st k f.declarator.name.span b.span all ≡ after
   behind_is =
-      ap (λ x. made x all.state.env.functions all.state.env.globals all.state.structs (with_body st.functions k given.vars (block b.span (body_trees all.bodies)))) here.file
-      ∙ ap (λ x. made st.env.file x all.state.env.globals all.state.structs (with_body st.functions k given.vars (block b.span (body_trees all.bodies)))) here.functions
-      ∙ ap (λ x. made st.env.file st.env.functions x all.state.structs (with_body st.functions k given.vars (block b.span (body_trees all.bodies)))) here.globals
-      ∙ ap (λ x. made st.env.file st.env.functions st.env.globals x (with_body st.functions k given.vars (block b.span (body_trees all.bodies)))) here.structs
+      ap (λ x. made x all.state.env.functions all.state.env.globals all.state.structs (with_body st.functions k f.declarator.name.span given.vars (block b.span (body_trees all.bodies)))) here.file
+      ∙ ap (λ x. made st.env.file x all.state.env.globals all.state.structs (with_body st.functions k f.declarator.name.span given.vars (block b.span (body_trees all.bodies)))) here.functions
+      ∙ ap (λ x. made st.env.file st.env.functions x all.state.structs (with_body st.functions k f.declarator.name.span given.vars (block b.span (body_trees all.bodies)))) here.globals
+      ∙ ap (λ x. made st.env.file st.env.functions st.env.globals x (with_body st.functions k f.declarator.name.span given.vars (block b.span (body_trees all.bodies)))) here.structs
       ∙ ap (made st.env.file st.env.functions st.env.globals st.structs) with_body_is
 
   -- the program can begin with the function, if its declarator says so
@@ -370,8 +370,8 @@ module _ (bodies : BodiesAreSound) (keep : BlocksAreKept) (marks : List ℕ → 
       begun false q r h = h
 
   -- what the program is behind the body
-  pub behind : SoundTables marks rest (behind_body st k b.span all)
+  pub behind : SoundTables marks rest (behind_body st k f.declarator.name.span b.span all)
   behind = subst (λ z. SoundTables marks rest z) (sym behind_is) set_tables
 
-  pub behind_start : (is_start c true ≡ true) ⊎ HasStart st.functions → HasStart (behind_body st k b.span all).functions
+  pub behind_start : (is_start c true ≡ true) ⊎ HasStart st.functions → HasStart (behind_body st k f.declarator.name.span b.span all).functions
   behind_start h = subst (λ z. HasStart z) (sym with_body_is) (elim h [ inl i ↦ starting i | inr i ↦ still i ])

@@ -64,12 +64,12 @@ set_small [] k f n h = omega arith
 set_small (x ∷ fs) zero f n h = omega (arith, h)
 set_small (x ∷ fs) (suc k) f n h = let rest = set_small fs k f n h in omega (arith, rest)
 
-with_body_small : (fs : List FunctionTree) (k : ℕ) (vars : List Var) (body : BodyTree) → functions_nodes (with_body fs k vars body) ≤ (length vars + typed.body_nodes body) + functions_nodes fs
-with_body_small fs k vars body = go (slice_get fs k)
+with_body_small : (fs : List FunctionTree) (k : ℕ) (at : Span) (vars : List Var) (body : BodyTree) → functions_nodes (with_body fs k at vars body) ≤ (length vars + typed.body_nodes body) + functions_nodes fs
+with_body_small fs k at vars body = go (slice_get fs k)
   where
-    go : (o : Option FunctionTree) → functions_nodes (option_map_or (λ f. slice_set fs k (with_parts f vars body)) o fs) ≤ (length vars + typed.body_nodes body) + functions_nodes fs
+    go : (o : Option FunctionTree) → functions_nodes (option_map_or (λ f. slice_set fs k (with_parts f at vars body)) o fs) ≤ (length vars + typed.body_nodes body) + functions_nodes fs
     go None = omega arith
-    go (Some f) = set_small fs k (with_parts f vars body) (length vars + typed.body_nodes body) (omega arith)
+    go (Some f) = set_small fs k (with_parts f at vars body) (length vars + typed.body_nodes body) (omega arith)
 
 -- ---- globals
 
@@ -178,7 +178,7 @@ definition_small st k result at None = record { few = omega arith; none = refl }
 definition_small st k result at (Some b) =
     let body = all_checked_small (record { result = result; in_loop = false; in_switch = false }) (record { env = st.env; structs = st.structs; next = length st.exprs }) (stmt_trees b.items) in
     let same = length-map (checked_block result (record { env = st.env; structs = st.structs; next = length st.exprs }) b.items).state.env.variables var_of in
-    let parts = with_body_small st.functions k (map var_of (checked_block result (record { env = st.env; structs = st.structs; next = length st.exprs }) b.items).state.env.variables) (block b.span (body_trees (checked_block result (record { env = st.env; structs = st.structs; next = length st.exprs }) b.items).bodies)) in
+    let parts = with_body_small st.functions k at (map var_of (checked_block result (record { env = st.env; structs = st.structs; next = length st.exprs }) b.items).state.env.variables) (block b.span (body_trees (checked_block result (record { env = st.env; structs = st.structs; next = length st.exprs }) b.items).bodies)) in
     let trees = trees_append st.exprs (checked_block result (record { env = st.env; structs = st.structs; next = length st.exprs }) b.items).trees in
     record { few = omega (arith, body, same, parts, trees); none = refl }
 

@@ -8,7 +8,7 @@ use pt_tree::Signature;
 #[derive(Drop)]
 pub struct TypedFn {
     pub signature: Signature,
-    /// Where it is named first.
+    /// Where its name stands: in its definition, and of a host in its first declaration.
     pub name: Span,
     /// Its variables, the parameters first.
     pub vars: Vars,
