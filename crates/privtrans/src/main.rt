@@ -6,7 +6,7 @@ mod sink;
 
 use folder::RealFolder;
 use privtrans_app::privtrans;
-use pt_base::{Alternate, FnId, ScriptLink, Sink, Watch};
+use pt_base::{Alternate, FnId, ScriptLink, Sink, SinkFault, Watch};
 use sink::RealSink;
 use std::alloc::{AllocError, Global};
 use std::io::ErrorKind;
@@ -47,7 +47,8 @@ fn no_words<E: Sink>(alloc: Global, report: &mut E, fault: &io::Error) -> u8 {
     };
     match report.write(alloc, line) {
         Ok(()) => status,
-        Err(_) => { if status == 12 { 12 } else { 4 } }
+        Err(SinkFault::Failed) => { if status == 12 { 12 } else { 4 } }
+        Err(SinkFault::Memory) => 12,
     }
 }
 

@@ -4,7 +4,7 @@ use Rattle.pt_base.specs.Faults.{Rose}
 use Rattle.pt_base.specs.Files.{Files, Lacks}
 use Rattle.privtrans_app.specs.Words.{IsHelp}
 use Rattle.privtrans_app.specs.EarlyInput.{Texts, IsBuilt, IsNotBuilt}
-use Rattle.privtrans_app.specs.Ending.{Ending, help, version, exit, usage, missing, read_fault, write_fault, not_built, memory, status_of, IsNamed, AreHeld, Expects, Refuses, ComesTo, Reports, StaysDown, IsComplete}
+use Rattle.privtrans_app.specs.Ending.{Ending, help, version, exit, usage, missing, read_fault, write_fault, not_built, memory, status_of, IsHeld, IsReached, AreHeld, Expects, Refuses, ComesTo, Reports, StaysDown, IsComplete}
 use Rattle.privtrans_app.proofs.LocalLemmas.{same_held}
 
 -- a call whose report was written has the status of its ending, or 12
@@ -20,13 +20,13 @@ Done t turns status = IsComplete t turns status
 never : (P : Type 0) → ⊥ → P
 never P x = absurd x
 
-words_local : (words : List (List ℕ)) (files : Files) (t : Texts) (turns window n : ℕ) → AreHeld words files t turns window → length words ≡ n → n ≡ 7
+words_local : (words : List (List ℕ)) (files : Files) (t : Texts) (turns window n : ℕ) → AreHeld words (Some files) t turns window → length words ≡ n → n ≡ 7
 words_local words files t turns window n held is = sym is ∙ ap length held.form.are
 
 not_one : (n : ℕ) → n ≡ 1 → n ≡ 7 → ⊥
 not_one n a b = omega arith
 
-no_help : (words : List (List ℕ)) (files : Files) (t : Texts) (turns window : ℕ) → AreHeld words files t turns window → IsHelp words → ⊥
+no_help : (words : List (List ℕ)) (files : Files) (t : Texts) (turns window : ℕ) → AreHeld words (Some files) t turns window → IsHelp words → ⊥
 no_help words files t turns window held (inl is) = not_one (length words) (ap length is) (words_local words files t turns window (length words) held refl)
 no_help words files t turns window held (inr is) = not_one (length words) (ap length is) (words_local words files t turns window (length words) held refl)
 
@@ -34,24 +34,26 @@ some_none : (x : List ℕ) (o : Option (List ℕ)) → o ≡ Some x → o ≡ No
 some_none x o a b = cc
 
 -- a file that the words name is held
-not_lacking : (words : List (List ℕ)) (files : Files) (t : Texts) (turns window : ℕ) (name : List ℕ) → AreHeld words files t turns window → IsNamed words name → files name ≡ None → ⊥
-not_lacking words files t turns window name held named lacks = go named.is
+not_lacking : (words : List (List ℕ)) (files : Files) (t : Texts) (turns window : ℕ) (name : List ℕ) → AreHeld words (Some files) t turns window → IsReached words (Some files) name → files name ≡ None → ⊥
+not_lacking words files t turns window name held reached lacks = go reached.is
   where
-    at : (k : ℕ) → get_or words k [] ≡ get_or words k []
-    at k = refl
+    is_held : (there at file : List ℕ) → name ≡ there → there ≡ at → files at ≡ Some file → ⊥
+    is_held there at file is same has = some_none file (files name) (ap files (is ∙ same) ∙ has) lacks
 
-    go : (name ≡ named.program) ⊎ (name ≡ named.host) ⊎ (name ≡ named.policy) ⊎ (name ≡ named.input) → ⊥
-    go (inl is) = some_none t.program (files name) (ap files (is ∙ sym (ap (λ xs. get_or xs 1 []) named.form.are) ∙ ap (λ xs. get_or xs 1 []) held.form.are) ∙ held.program) lacks
-    go (inr (inl is)) = some_none t.host (files name) (ap files (is ∙ sym (ap (λ xs. get_or xs 2 []) named.form.are) ∙ ap (λ xs. get_or xs 2 []) held.form.are) ∙ held.host) lacks
-    go (inr (inr (inl is))) = some_none t.policy (files name) (ap files (is ∙ sym (ap (λ xs. get_or xs 3 []) named.form.are) ∙ ap (λ xs. get_or xs 3 []) held.form.are) ∙ held.policy) lacks
-    go (inr (inr (inr is))) = some_none t.input (files name) (ap files (is ∙ sym (ap (λ xs. get_or xs 4 []) named.form.are) ∙ ap (λ xs. get_or xs 4 []) held.form.are) ∙ held.input) lacks
+    go : (name ≡ reached.program) ⊎ ((name ≡ reached.host) × IsHeld (Some files) reached.program)
+        ⊎ ((name ≡ reached.policy) × IsHeld (Some files) reached.program × IsHeld (Some files) reached.host)
+        ⊎ ((name ≡ reached.input) × IsHeld (Some files) reached.program × IsHeld (Some files) reached.host × IsHeld (Some files) reached.policy) → ⊥
+    go (inl is) = is_held reached.program held.program_name t.program is (ap (λ xs. get_or xs 1 []) (sym reached.form.are ∙ held.form.are)) held.program
+    go (inr (inl is)) = is_held reached.host held.host_name t.host is.0 (ap (λ xs. get_or xs 2 []) (sym reached.form.are ∙ held.form.are)) held.host
+    go (inr (inr (inl is))) = is_held reached.policy held.policy_name t.policy is.0 (ap (λ xs. get_or xs 3 []) (sym reached.form.are ∙ held.form.are)) held.policy
+    go (inr (inr (inr is))) = is_held reached.input held.input_name t.input is.0 (ap (λ xs. get_or xs 4 []) (sym reached.form.are ∙ held.form.are)) held.input
 
-built_there : (words : List (List ℕ)) (files : Files) (t : Texts) (turns window : ℕ) (bytes : List ℕ) (s : ℕ) → AreHeld words files t turns window → Expects words (Some files) bytes s → IsBuilt t turns bytes s
+built_there : (words : List (List ℕ)) (files : Files) (t : Texts) (turns window : ℕ) (bytes : List ℕ) (s : ℕ) → AreHeld words (Some files) t turns window → Expects words (Some files) bytes s → IsBuilt t turns bytes s
 built_there words files t turns window bytes s held expects =
     let same = same_held words files expects.0 t expects.1 expects.2 turns window expects.3 held in
     subst (λ m. IsBuilt t m bytes s) same.1 (subst (λ x. IsBuilt x expects.1 bytes s) same.0 expects.4)
 
-refused_there : (words : List (List ℕ)) (files : Files) (t : Texts) (turns window : ℕ) → AreHeld words files t turns window → Refuses words (Some files) → IsNotBuilt t turns
+refused_there : (words : List (List ℕ)) (files : Files) (t : Texts) (turns window : ℕ) → AreHeld words (Some files) t turns window → Refuses words (Some files) → IsNotBuilt t turns
 refused_there words files t turns window held refuses =
     let same = same_held words files refuses.0 t refuses.1 refuses.2 turns window refuses.3 held in
     subst (λ m. IsNotBuilt t m) same.1 (subst (λ x. IsNotBuilt x refuses.1) same.0 refuses.4)
@@ -64,7 +66,7 @@ memory_of status n (inl is) = inr is
 memory_of status n (inr is) = inr is
 
 pub completes : (words : List (List ℕ)) (files : Files) (reads reads' : ℕ) (o o' : Option (List ℕ)) (writes writes' : ℕ) (report report' : Option (List ℕ)) (faults faults' status : ℕ) (t : Texts) (turns window : ℕ) (e : Ending)
-    → AreHeld words files t turns window → StaysDown reads reads' → StaysDown writes writes' → StaysDown faults faults'
+    → AreHeld words (Some files) t turns window → StaysDown reads reads' → StaysDown writes writes' → StaysDown faults faults'
     → ComesTo words (Some files) reads reads' o o' writes writes' e → Reports e report report' faults faults' status → IsComplete t turns status
 completes words files reads reads' o o' writes writes' report report' faults faults' status t turns window help held r w f comes tells =
     never (Done t turns status) (no_help words files t turns window held comes.0)

@@ -1,7 +1,8 @@
 -- Texts that are early, whole or cut just past the limit.
-use Rattle.std.proofs.Common.{◌≡◌, ◌≤◌, ℕ, suc, List, [], length, take, min, refl, sym, ◌∙◌, ap, subst, arith, Bool, true, false, if◌then◌else◌, option_map, Option, Some, None, ◌∷◌}
+use Rattle.std.proofs.Common.{◌≡◌, ◌≤◌, ℕ, suc, List, [], length, take, min, refl, sym, ◌∙◌, ap, subst, arith, Bool, true, false, if◌then◌else◌, option_map, Option, Some, None, ◌∷◌, pos}
 use Rattle.std.proofs.lemmas.List.{take_all, length-take}
 use Rattle.pt_tree.specs.declared.host_model.HostModel.{HostModel}
+use Rattle.pt_base.specs.declared.end.End.TheVariants.{Exit}
 use Rattle.source_meaning.specs.Run.{Expected}
 use Rattle.privtrans_app.specs.EarlyText.{IsEarlyText}
 use Rattle.privtrans_app.specs.EarlyHosts.{each, host_model, models_of, table_models, reading_of}
@@ -10,7 +11,7 @@ use Rattle.serde_json.specs.Find.{as_object}
 use Rattle.std.specs.Option.{option_and_then, is_some}
 use Rattle.privtrans_app.specs.declared.early.Host.{Host}
 use Rattle.privtrans_app.specs.EarlyPair.{pair_run}
-use Rattle.privtrans_app.specs.EarlyInput.{Texts, most, KeepsConditions, IsGoodText, ArePolicyModels, HaveNoModels, IsEarly, IsNotBuilt, IsBuilt}
+use Rattle.privtrans_app.specs.EarlyInput.{Texts, most, OneOutcome, KeepsConditions, IsGoodText, ArePolicyModels, HaveNoModels, IsEarly, IsNotBuilt, IsBuilt}
 use Rattle.privtrans_app.proofs.EarlyWordLemmas.{main_is_main}
 use Rattle.privtrans_app.proofs.TextLemmas.{one}
 use Rattle.privtrans_app.proofs.RunLemmas.{pair_keeps}
@@ -42,20 +43,34 @@ no_models t turns q good never p models state allowed early =
 some_is : {X : Type 0} (x y : X) → Some x ≡ Some y → x ≡ y
 some_is x y e = cc
 
--- the expected bytes are one list
-pub built_once : (t : Texts) (turns : ℕ) (a b : List ℕ) (m n : ℕ) → IsBuilt t turns a m → IsBuilt t turns b n → a ≡ b
+-- of texts no two outputs and no two numbers are expected
+pub built_once : OneOutcome
 unfolding built_by
 built_once t turns a b m n x y =
     let p : Program = x.program in
     let same : y.program ≡ p = one t.program y.program p y.early.good.text x.early.good.text in
-    let models : y.models ≡ x.models = some_models y.models x.models (sym y.early.given.hosts ∙ ap (λ (q : Program). table_models q.hosts t.host) same ∙ x.early.given.hosts) in
-    expects x ∙ ap (λ (ms : List HostModel). (pair_run p ms).out) (sym models) ∙ ap (λ (q : Program). (pair_run q y.models).out) (sym same) ∙ sym (expects y)
+    let models : y.models ≡ x.models = some_models y.models x.models (sym y.early.given.hosts ∙ ap (λ (q : Program). table_models q.hosts t.host) same ∙ x.early.given.hosts) in (
+      bytes x ∙ ap (λ (ms : List HostModel). (pair_run p ms).out) (sym models) ∙ ap (λ (q : Program). (pair_run q y.models).out) (sym same) ∙ sym (bytes y),
+      number x ∙ ap (λ (q : Program). q.status) (sym same) ∙ sym (number y),
+    )
   where
     some_models : (ms ns : List HostModel) → Some ms ≡ Some ns → ms ≡ ns
     some_models ms ns e = cc
 
-    expects : {c : List ℕ} {k : ℕ} → (z : IsBuilt t turns c k) → c ≡ (pair_run z.program z.models).out
-    expects {c} {k} z = ap (λ (x : Expected). x.bytes) (sym z.is ∙ (built_by t turns z.program z.models z.state z.allowed z.early).is)
+    ends : List ℕ → ℕ → Expected
+    ends c k = record { bytes = c; end = Exit (pos k) }
+
+    both : {c : List ℕ} {k : ℕ} → (z : IsBuilt t turns c k) → ends c k ≡ ends (pair_run z.program z.models).out z.program.status
+    both {c} {k} z = sym z.is ∙ (built_by t turns z.program z.models z.state z.allowed z.early).is
+
+    bytes : {c : List ℕ} {k : ℕ} → (z : IsBuilt t turns c k) → c ≡ (pair_run z.program z.models).out
+    bytes z = ap (λ (x : Expected). x.bytes) (both z)
+
+    exits : (j k : ℕ) → Exit (pos j) ≡ Exit (pos k) → j ≡ k
+    exits j k e = cc
+
+    number : {c : List ℕ} {k : ℕ} → (z : IsBuilt t turns c k) → k ≡ z.program.status
+    number {c} {k} z = exits k z.program.status (ap (λ (x : Expected). x.end) (both z))
 
 -- ---- texts that are cut just past the limit
 

@@ -81,6 +81,10 @@ pub record IsBuilt (t : Texts) (turns : ℕ) (bytes : List ℕ) (status : ℕ) :
   pub is : expected (early_answers program.hosts state allowed) (whole_run (meant program) (model_at models) [] turns)
       ≡ record { bytes = bytes; end = Exit (pos status) }
 
+-- of texts no two outputs and no two numbers are expected
+abbrev pub OneOutcome : Type 0
+OneOutcome = (t : Texts) (turns : ℕ) (a b : List ℕ) (m n : ℕ) → IsBuilt t turns a m → IsBuilt t turns b n → (a ≡ b) × (m ≡ n)
+
 abbrev pub IsOutcome : Texts → ℕ → Outcome → Type 0
 IsOutcome t turns NotBuilt = IsNotBuilt t turns
 IsOutcome t turns (Exits out status) = IsBuilt t turns out.items status

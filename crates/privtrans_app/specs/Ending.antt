@@ -1,9 +1,9 @@
 -- What a call comes to, how it is reported, and when each comes.
-use Rattle.std.specs.Prelude.{◌≡◌, ◌≢◌, ◌⊎◌, ℕ, List, [], ◌++◌, ⊤, codes, Option, Some, None}
+use Rattle.std.specs.Prelude.{◌≡◌, ◌≢◌, ◌⊎◌, ℕ, Bool, true, false, List, [], ◌++◌, ⊤, codes, Option, Some, None}
 use Rattle.std.specs.Fmt.{decimal}
 use Rattle.std.specs.Io.KnownBytes.{Appends, Keeps}
 use Rattle.pt_base.specs.Faults.{Rose}
-use Rattle.pt_base.specs.Files.{Files, Lacks}
+use Rattle.pt_base.specs.Files.{Files, Lacks, HoldsAt}
 use Rattle.pt_base.specs.Told.{AppendsPart}
 use Rattle.privtrans_app.specs.Words.{IsHelp, IsVersion, IsLocal, IsNoForm}
 use Rattle.privtrans_app.specs.EarlyInput.{Texts, IsBuilt, IsNotBuilt}
@@ -41,6 +41,18 @@ status_of write_fault = 4
 status_of not_built = 5
 status_of memory = 12
 
+-- a call that ends so writes nothing to out
+abbrev pub is_silent : Ending → Bool
+is_silent help = false
+is_silent version = false
+is_silent (exit status) = false
+is_silent usage = true
+is_silent (missing name) = true
+is_silent (read_fault name) = true
+is_silent write_fault = false
+is_silent not_built = true
+is_silent memory = false
+
 -- what is reported
 abbrev pub report_of : Ending → List ℕ
 report_of help = []
@@ -53,8 +65,14 @@ report_of write_fault = codes "write fault\n"
 report_of not_built = codes "early 1 NotBuilt\n"
 report_of memory = codes "memory\n"
 
--- a file of the words has this name
-pub record IsNamed (words : List (List ℕ)) (name : List ℕ) : Type 0 where
+-- a file of this name is held, where that is told
+abbrev pub IsHeld : Option Files → List ℕ → Type 0
+IsHeld None name = ⊤
+IsHeld (Some files) name = (bytes : List ℕ) × (files name ≡ Some bytes)
+
+-- the words are a run of files, this is the name of one of them, and those that are named before it are
+-- held
+pub record IsReached (words : List (List ℕ)) (files : Option Files) (name : List ℕ) : Type 0 where
   pub program : List ℕ
   pub host : List ℕ
   pub policy : List ℕ
@@ -62,36 +80,40 @@ pub record IsNamed (words : List (List ℕ)) (name : List ℕ) : Type 0 where
   pub turns : ℕ
   pub window : ℕ
   pub form : IsLocal words program host policy input turns window
-  pub is : (name ≡ program) ⊎ (name ≡ host) ⊎ (name ≡ policy) ⊎ (name ≡ input)
+  pub is : (name ≡ program)
+      ⊎ ((name ≡ host) × IsHeld files program)
+      ⊎ ((name ≡ policy) × IsHeld files program × IsHeld files host)
+      ⊎ ((name ≡ input) × IsHeld files program × IsHeld files host × IsHeld files policy)
 
--- the words are a run of files that hold these texts
-pub record AreHeld (words : List (List ℕ)) (files : Files) (t : Texts) (turns window : ℕ) : Type 0 where
+-- the words are a run of files that hold these texts, where that is told
+pub record AreHeld (words : List (List ℕ)) (files : Option Files) (t : Texts) (turns window : ℕ) : Type 0 where
   pub program_name : List ℕ
   pub host_name : List ℕ
   pub policy_name : List ℕ
   pub input_name : List ℕ
   pub form : IsLocal words program_name host_name policy_name input_name turns window
-  pub program : files program_name ≡ Some t.program
-  pub host : files host_name ≡ Some t.host
-  pub policy : files policy_name ≡ Some t.policy
-  pub input : files input_name ≡ Some t.input
+  pub program : HoldsAt files program_name t.program
+  pub host : HoldsAt files host_name t.host
+  pub policy : HoldsAt files policy_name t.policy
+  pub input : HoldsAt files input_name t.input
 
--- where the files are told: they hold texts of which these bytes and this status are expected
+-- the files hold texts of which these bytes and this status are expected
 abbrev pub Expects : List (List ℕ) → Option Files → List ℕ → ℕ → Type 0
-Expects words None bytes status = ⊤
-Expects words (Some files) bytes status =
+Expects words files bytes status =
     (t : Texts) × (turns : ℕ) × (window : ℕ) × AreHeld words files t turns window × IsBuilt t turns bytes status
 
--- where the files are told: they hold texts that aren't early
+-- the files hold texts that aren't early
 abbrev pub Refuses : List (List ℕ) → Option Files → Type 0
-Refuses words None = ⊤
-Refuses words (Some files) = (t : Texts) × (turns : ℕ) × (window : ℕ) × AreHeld words files t turns window × IsNotBuilt t turns
+Refuses words files = (t : Texts) × (turns : ℕ) × (window : ℕ) × AreHeld words files t turns window × IsNotBuilt t turns
 
--- what was written is a first part of all bytes that are expected
+-- what a call broke off writing: nothing came to out, or a first part of the text that the words ask
+-- for or of the bytes that are expected
 abbrev pub WritesPart : List (List ℕ) → Option Files → Option (List ℕ) → Option (List ℕ) → Type 0
-WritesPart words None old new = ⊤
-WritesPart words (Some files) old new = (t : Texts) (turns window : ℕ) (bytes : List ℕ) (status : ℕ) →
-    AreHeld words files t turns window → IsBuilt t turns bytes status → AppendsPart old new bytes
+WritesPart words files out out' =
+    Keeps out out'
+    ⊎ (IsHelp words × AppendsPart out out' help_text)
+    ⊎ (IsVersion words × AppendsPart out out' version_text)
+    ⊎ ((bytes : List ℕ) × (status : ℕ) × Expects words files bytes status × AppendsPart out out' bytes)
 
 -- When a call comes to each ending, and what out has then: `reads` and `writes` are the counts of
 -- failed reads and of failed writes to out, before and after.
@@ -102,8 +124,8 @@ ComesTo words files reads reads' out out' writes writes' (exit status) =
     (bytes : List ℕ) × Expects words files bytes status × Appends out out' bytes
 ComesTo words files reads reads' out out' writes writes' usage = IsNoForm words × Keeps out out'
 ComesTo words files reads reads' out out' writes writes' (missing name) =
-    IsNamed words name × (Lacks files name ⊎ Rose reads reads') × Keeps out out'
-ComesTo words files reads reads' out out' writes writes' (read_fault name) = IsNamed words name × Rose reads reads' × Keeps out out'
+    IsReached words files name × (Lacks files name ⊎ Rose reads reads') × Keeps out out'
+ComesTo words files reads reads' out out' writes writes' (read_fault name) = IsReached words files name × Rose reads reads' × Keeps out out'
 ComesTo words files reads reads' out out' writes writes' write_fault = Rose writes writes' × WritesPart words files out out'
 ComesTo words files reads reads' out out' writes writes' not_built = Refuses words files × Keeps out out'
 ComesTo words files reads reads' out out' writes writes' memory = WritesPart words files out out'

@@ -2,7 +2,7 @@
 use Rattle.std.specs.Prelude.{◌≡◌, ◌⊎◌, ℕ, List, ⊤, Option}
 use Rattle.pt_base.specs.Faults.{Rose}
 use Rattle.pt_base.specs.Files.{Files, Lacks, GivesFirst}
-use Rattle.privtrans_app.specs.Ending.{Ending, help, version, exit, usage, missing, read_fault, write_fault, not_built, memory}
+use Rattle.privtrans_app.specs.Ending.{Ending, help, version, exit, usage, missing, read_fault, write_fault, not_built, memory, IsHeld}
 use Rattle.privtrans_app.specs.EarlyInput.{Texts}
 use Rattle.privtrans_app.specs.declared.words.LocalWords.{LocalWords}
 
@@ -18,11 +18,13 @@ IsReadRefusal name files reads reads' write_fault = ⊥
 IsReadRefusal name files reads reads' not_built = ⊥
 IsReadRefusal name files reads reads' memory = ⊤
 
--- why one of the files wasn't read
+-- why one of the files wasn't read, where those before it are held
 abbrev pub IsRefusal : LocalWords → Option Files → ℕ → ℕ → Ending → Type 0
 IsRefusal words files reads reads' e =
-    IsReadRefusal words.program.now files reads reads' e ⊎ IsReadRefusal words.host.now files reads reads' e
-    ⊎ IsReadRefusal words.policy.now files reads reads' e ⊎ IsReadRefusal words.input.now files reads reads' e
+    IsReadRefusal words.program.now files reads reads' e
+    ⊎ (IsHeld files words.program.now × IsReadRefusal words.host.now files reads reads' e)
+    ⊎ (IsHeld files words.program.now × IsHeld files words.host.now × IsReadRefusal words.policy.now files reads reads' e)
+    ⊎ (IsHeld files words.program.now × IsHeld files words.host.now × IsHeld files words.policy.now × IsReadRefusal words.input.now files reads reads' e)
 
 -- these are the first bytes of each file
 pub record AreFirst (words : LocalWords) (files : Option Files) (t : Texts) : Type 0 where

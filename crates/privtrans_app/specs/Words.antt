@@ -17,11 +17,15 @@ pub record IsLocal (words : List (List ℕ)) (program host policy input : List �
   pub window_least : 1 ≤ window
   pub window_most : window ≤ 1024
 
+-- the words name no files to run
+abbrev pub IsNoRun : List (List ℕ) → Type 0
+IsNoRun words = (program host policy input : List ℕ) (turns window : ℕ) → IsLocal words program host policy input turns window → ⊥
+
 -- the words are of no form
 pub record IsNoForm (words : List (List ℕ)) : Type 0 where
   pub no_help : IsHelp words → ⊥
   pub no_version : IsVersion words → ⊥
-  pub no_local : (program host policy input : List ℕ) (turns window : ℕ) → IsLocal words program host policy input turns window → ⊥
+  pub no_local : IsNoRun words
 
 -- the words are of this form
 abbrev pub IsForm : List (List ℕ) → Form → Type 0

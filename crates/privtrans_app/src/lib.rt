@@ -143,21 +143,40 @@ mod tests {
     #[test]
     fn a_failing_outside_has_its_status(rt: HostRuntime) -> Result<(), Fail> {
         let alloc = rt.alloc();
-        let words = ["local", "prog", "host", "policy", "input", "1000", "4"];
+        let words = ["local", "prog", "none", "policy", "input", "1000", "4"];
         let mut fails = Vec::new(alloc);
-        fails.push((2, false))?;
+        fails.push((1, false))?;
         let mut out = ByteSink::new(alloc, Vec::new(alloc));
         let mut report = ByteSink::new(alloc, Vec::new(alloc));
         assert_eq!(rt;
             status_of(&rt, alloc, &words, fails, &mut out, &mut report)?,
             3
         );
-        assert_eq!(rt; report.bytes(), b"read fault host\n".as_slice());
+        assert_eq!(rt; report.bytes(), b"read fault prog\n".as_slice());
+        Ok(())
+    }
+
+    // A sink whose first write fails.
+    fn full(alloc: Global) -> Result<ByteSink, Fail> {
         let mut first = Vec::new(alloc);
         first.push(1)?;
-        let mut full = ByteSink::new(alloc, first);
+        Ok(ByteSink::new(alloc, first))
+    }
+
+    #[test]
+    fn a_full_sink_has_its_status(rt: HostRuntime) -> Result<(), Fail> {
+        let alloc = rt.alloc();
+        let words = ["local", "prog", "host", "policy", "input", "1000", "4"];
+        let mut sink = ByteSink::new(alloc, Vec::new(alloc));
+        let mut closed = full(alloc)?;
         assert_eq!(rt;
-            status_of(&rt, alloc, &words, Vec::new(alloc), &mut full, &mut report)?,
+            status_of(&rt, alloc, &words, Vec::new(alloc), &mut closed, &mut sink)?,
+            4
+        );
+        assert_eq!(rt; sink.bytes(), b"write fault\n".as_slice());
+        let mut closed = full(alloc)?;
+        assert_eq!(rt;
+            status_of(&rt, alloc, &words, Vec::new(alloc), &mut sink, &mut closed)?,
             4
         );
         Ok(())

@@ -1,9 +1,9 @@
 // Both halves in one process: the files are read, early texts are run, and what they write goes to
 // out.
-ghost use Rattle.std.specs.Prelude.{◌≡◌, ◌≤◌, ◌+◌, ℕ, List, IfOk, IfErr};
+ghost use Rattle.std.specs.Prelude.{◌≡◌, ◌≤◌, ◌+◌, ℕ, true, List, IfOk, IfErr};
 ghost use Rattle.pt_base.specs.Files.{SameFiles, GivesFirst};
 ghost use Rattle.privtrans_app.specs.Words.{IsLocal};
-ghost use Rattle.privtrans_app.specs.Ending.{ComesTo};
+ghost use Rattle.privtrans_app.specs.Ending.{ComesTo, is_silent};
 ghost use Rattle.privtrans_app.specs.EndingSeen.{ending_seen};
 ghost use Rattle.privtrans_app.specs.Reading.{IsReadRefusal, IsRefusal, AreFirst};
 ghost use Rattle.privtrans_app.specs.EarlyTexts.{texts_of};
@@ -24,6 +24,7 @@ fn read_text<'a, F: Folder>(
     ensures refusal { IfErr result (λ e. IsReadRefusal name.entry.now (F.files folder.old)
         (F.read_faults folder.old) (F.read_faults folder.new) (ending_seen e)) }
     ensures same { SameFiles (F.files folder.old) (F.files folder.new) }
+    ensures writes { F.write_faults folder.new ≡ F.write_faults folder.old }
     ensures later { F.read_faults folder.old ≤ F.read_faults folder.new }
 {
     match folder.read(alloc, name, MOST_BYTES + 1) {
@@ -43,6 +44,9 @@ fn read_texts<'a, F: Folder>(
     ensures texts { IfOk result (λ t. AreFirst words.now (F.files folder.old) (texts_of t)) }
     ensures refusal { IfErr result (λ e. IsRefusal words.now (F.files folder.old)
         (F.read_faults folder.old) (F.read_faults folder.new) (ending_seen e)) }
+    ensures same { SameFiles (F.files folder.old) (F.files folder.new) }
+    ensures writes { F.write_faults folder.new ≡ F.write_faults folder.old }
+    ensures later { F.read_faults folder.old ≤ F.read_faults folder.new }
 {
     let program = read_text(alloc, folder, words.program)?;
     let host = read_text(alloc, folder, words.host)?;
@@ -63,10 +67,14 @@ pub(crate) fn local<'a, F: Folder, K: Sink>(
     folder: &mut F,
     out: &mut K,
 ) -> Ending<'a>
-    ensures { (given : List (List ℕ)) →
+    ensures ending { (given : List (List ℕ)) →
         IsLocal given words.now.program.now words.now.host.now words.now.policy.now words.now.input.now words.now.turns words.now.window →
         ComesTo given (F.files folder.old) (F.read_faults folder.old) (F.read_faults folder.new)
         (K.taken out.old) (K.taken out.new) (K.faults out.old) (K.faults out.new) (ending_seen result) }
+    ensures silent { is_silent (ending_seen result) ≡ true → out.new ≡ out.old }
+    ensures same { SameFiles (F.files folder.old) (F.files folder.new) }
+    ensures writes { F.write_faults folder.new ≡ F.write_faults folder.old }
+    ensures later { (F.read_faults folder.old ≤ F.read_faults folder.new) × (K.faults out.old ≤ K.faults out.new) }
 {
     let texts = match read_texts(alloc, folder, words) {
         Ok(texts) => texts,

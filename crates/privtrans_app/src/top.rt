@@ -1,13 +1,13 @@
 // The top call.
-ghost use Rattle.std.specs.Prelude.{◌≡◌, ◌⊎◌, ℕ, List, Option, Some, IfSome, map, codes};
+ghost use Rattle.std.specs.Prelude.{◌≡◌, ◌⊎◌, ◌≤◌, ℕ, true, List, Option, Some, IfSome, map, codes};
 ghost use Rattle.std.specs.Io.KnownBytes.{Appends};
 ghost use Rattle.pt_base.specs.Faults.{Rose};
-ghost use Rattle.pt_base.specs.Files.{Files};
+ghost use Rattle.pt_base.specs.Files.{Files, SameFiles};
 ghost use Rattle.pt_base.specs.Told.{AppendsPart};
 ghost use Rattle.privtrans_app.specs.EarlyInput.{Texts, IsBuilt, IsNotBuilt};
-ghost use Rattle.privtrans_app.specs.Ending.{Ending, ComesTo, Puts, Reports, AreHeld, StaysDown, IsComplete};
+ghost use Rattle.privtrans_app.specs.Ending.{Ending, ComesTo, Puts, Reports, AreHeld, StaysDown, IsComplete, is_silent};
 ghost use Rattle.privtrans_app.specs.EndingSeen.{ending_seen};
-ghost use Rattle.privtrans_app.specs.Words.{IsHelp, IsVersion};
+ghost use Rattle.privtrans_app.specs.Words.{IsHelp, IsVersion, IsNoRun};
 
 use crate::ending::{Ending as Came, report, status};
 use crate::help::{HELP, VERSION};
@@ -19,7 +19,8 @@ use std::thread::Threads;
 
 // Writes a text to out, and says what that comes to.
 fn put<'a, K: Sink>(alloc: Global, out: &mut K, text: &[u8], done: Came<'a>) -> Came<'a>
-    ensures { Puts (K.taken out.old) (K.taken out.new) (K.faults out.old) (K.faults out.new) text.now (ending_seen done.entry) (ending_seen result) }
+    ensures ending { Puts (K.taken out.old) (K.taken out.new) (K.faults out.old) (K.faults out.new) text.now (ending_seen done.entry) (ending_seen result) }
+    ensures later { K.faults out.old ≤ K.faults out.new }
 {
     match out.write(alloc, text) {
         Ok(()) => done,
@@ -28,15 +29,20 @@ fn put<'a, K: Sink>(alloc: Global, out: &mut K, text: &[u8], done: Came<'a>) -> 
     }
 }
 
-// What the words come to.
+// What the words come to. No file is written.
 fn came_to<'a, F: Folder, K: Sink>(
     alloc: Global,
     words: &[&'a str],
     folder: &mut F,
     out: &mut K,
 ) -> Came<'a>
-    ensures { ComesTo (map (λ w. w.now) words.now) (F.files folder.old) (F.read_faults folder.old) (F.read_faults folder.new)
+    ensures ending { ComesTo (map (λ w. w.now) words.now) (F.files folder.old) (F.read_faults folder.old) (F.read_faults folder.new)
         (K.taken out.old) (K.taken out.new) (K.faults out.old) (K.faults out.new) (ending_seen result) }
+    ensures silent { is_silent (ending_seen result) ≡ true → out.new ≡ out.old }
+    ensures unread { IsNoRun (map (λ w. w.now) words.now) → folder.new ≡ folder.old }
+    ensures same { SameFiles (F.files folder.old) (F.files folder.new) }
+    ensures writes { F.write_faults folder.new ≡ F.write_faults folder.old }
+    ensures later { (F.read_faults folder.old ≤ F.read_faults folder.new) × (K.faults out.old ≤ K.faults out.new) }
 {
     match form_of(words) {
         None => Came::Usage,
@@ -48,7 +54,8 @@ fn came_to<'a, F: Folder, K: Sink>(
 
 // Reports an ending, and gives the status of the call.
 fn tell<E: Sink>(alloc: Global, sink: &mut E, ending: Came<'_>) -> u8
-    ensures { Reports (ending_seen ending.entry) (E.taken sink.old) (E.taken sink.new) (E.faults sink.old) (E.faults sink.new) result }
+    ensures report { Reports (ending_seen ending.entry) (E.taken sink.old) (E.taken sink.new) (E.faults sink.old) (E.faults sink.new) result }
+    ensures later { E.faults sink.old ≤ E.faults sink.new }
 {
     let Ok(line) = report(alloc, ending) else {
         return 12;
@@ -66,7 +73,7 @@ fn tell<E: Sink>(alloc: Global, sink: &mut E, ending: Came<'_>) -> u8
 /// Does what the words ask for, and gives the status that the program ends with: 0 where it was
 /// done, 1 where the words are of no form, 2 where a file is missing, 3 where one can't be read, 4
 /// where out or report can't be written, 5 where the texts aren't early, 12 for want of memory. One
-/// line in `report` says how it ended.
+/// line in `report` says how it ended; help and version have none.
 pub fn privtrans<R: Threads + Sync, F: Folder, K: Sink, E: Sink, S: Spawner, C: Chooser, W: Watch>(
     _rt: &R,
     alloc: Global,
@@ -74,23 +81,33 @@ pub fn privtrans<R: Threads + Sync, F: Folder, K: Sink, E: Sink, S: Spawner, C: 
     folder: &mut F,
     out: &mut K,
     report: &mut E,
-    _spawner: &mut S,
-    _chooser: &mut C,
+    spawner: &mut S,
+    chooser: &mut C,
     _watch: &W,
 ) -> u8
     // the call comes to an ending, each only where the words, the files and the outside have its
-    // cause, and reports it
+    // cause, and reports it; where it writes nothing to out, out isn't touched
     ensures answer { (e : Ending)
         × ComesTo (map (λ w. w.now) words.now) (F.files folder.old) (F.read_faults folder.old) (F.read_faults folder.new)
         (K.taken out.old) (K.taken out.new) (K.faults out.old) (K.faults out.new) e
-        × Reports e (E.taken report.old) (E.taken report.new) (E.faults report.old) (E.faults report.new) result }
+        × Reports e (E.taken report.old) (E.taken report.new) (E.faults report.old) (E.faults report.new) result
+        × (is_silent e ≡ true → out.new ≡ out.old) }
     // where the words' files are held and no count of faults rose, it is done or refused by the texts
     ensures complete { (files : Files) (t : Texts) (turns window : ℕ) → F.files folder.old ≡ Some files
-        → AreHeld (map (λ w. w.now) words.now) files t turns window
+        → AreHeld (map (λ w. w.now) words.now) (Some files) t turns window
         → StaysDown (F.read_faults folder.old) (F.read_faults folder.new)
         → StaysDown (K.faults out.old) (K.faults out.new)
         → StaysDown (E.faults report.old) (E.faults report.new)
         → IsComplete t turns result }
+    // no file is written, and none is read where the words name none to run; the spawner isn't used and
+    // the chooser isn't asked
+    ensures untouched { SameFiles (F.files folder.old) (F.files folder.new)
+        × (F.write_faults folder.new ≡ F.write_faults folder.old)
+        × (IsNoRun (map (λ w. w.now) words.now) → folder.new ≡ folder.old)
+        × (spawner.new ≡ spawner.old) × (chooser.new ≡ chooser.old) }
+    // no count of faults falls
+    ensures counts { (F.read_faults folder.old ≤ F.read_faults folder.new)
+        × (K.faults out.old ≤ K.faults out.new) × (E.faults report.old ≤ E.faults report.new) }
 {
     let ending = came_to(alloc, words, folder, out);
     tell(alloc, report, ending)

@@ -7,19 +7,19 @@ use Rattle.privtrans_app.specs.EndingSeen.{ending_seen}
 use Rattle.privtrans_app.proofs.LocalLemmas.{refusal_comes, expects_of, refuses_of, part_written, keeps_same}
 use Rattle.privtrans_app.proofs.local.local.Goals as goal
 
-pub returns-in-Err : goal.returns-in-Err
-returns-in-Err g c = λ given form.
+pub returns-in-Err-clause-ending : goal.returns-in-Err-clause-ending
+returns-in-Err-clause-ending g c = λ given form.
     refusal_comes given c.args.words.now (g.F.Folder.files c.args.folder.now) (g.F.Folder.read_faults c.args.folder.now) (g.F.Folder.read_faults c.read_texts.new.folder)
     (g.K.Sink.faults c.args.out.now) (g.K.Sink.taken c.args.out.now) (ending_seen c.in-Err.ending) form c.in-Err.ensures.refusal
 
-pub returns-in-NotBuilt : goal.returns-in-NotBuilt
-returns-in-NotBuilt g c = λ given form.
+pub returns-in-NotBuilt-clause-ending : goal.returns-in-NotBuilt-clause-ending
+returns-in-NotBuilt-clause-ending g c = λ given form.
     let cut : Texts = texts_of c.in-Ok.texts in
     let never : IsNotBuilt cut c.args.words.now.turns = subst (IsOutcome cut c.args.words.now.turns) c.in-NotBuilt.is c.in-Ok-outcome_of.ensures in
     (refuses_of given c.args.words.now (g.F.Folder.files c.args.folder.now) cut form c.in-Ok.ensures.texts never, keeps_same (g.K.Sink.taken c.args.out.now))
 
-pub returns-in-Ok-write : goal.returns-in-Ok-write
-returns-in-Ok-write g c = λ given form.
+pub returns-in-Ok-write-clause-ending : goal.returns-in-Ok-write-clause-ending
+returns-in-Ok-write-clause-ending g c = λ given form.
     let cut : Texts = texts_of c.in-Ok.texts in
     let bytes : List ℕ = c.in-Exits.bytes.items in
     let built : IsBuilt cut c.args.words.now.turns bytes c.in-Exits.status = subst (IsOutcome cut c.args.words.now.turns) c.in-Exits.is c.in-Ok-outcome_of.ensures in (
@@ -28,8 +28,8 @@ returns-in-Ok-write g c = λ given form.
       subst (Appends (g.K.Sink.taken c.args.out.now) (g.K.Sink.taken c.write.new.self)) c.deref.ensures.value c.in-Ok-write.ensures.ok,
     )
 
-pub returns-in-Err-Failed : goal.returns-in-Err-Failed
-returns-in-Err-Failed g c = λ given form.
+pub returns-in-Err-Failed-clause-ending : goal.returns-in-Err-Failed-clause-ending
+returns-in-Err-Failed-clause-ending g c = λ given form.
     let cut : Texts = texts_of c.in-Ok.texts in
     let bytes : List ℕ = c.in-Exits.bytes.items in
     let built : IsBuilt cut c.args.words.now.turns bytes c.in-Exits.status = subst (IsOutcome cut c.args.words.now.turns) c.in-Exits.is c.in-Ok-outcome_of.ensures in
@@ -39,8 +39,8 @@ returns-in-Err-Failed g c = λ given form.
       part_written given c.args.words.now (g.F.Folder.files c.args.folder.now) cut bytes c.in-Exits.status (g.K.Sink.taken c.args.out.now) (g.K.Sink.taken c.write.new.self) form c.in-Ok.ensures.texts built part,
     )
 
-pub returns : goal.returns
-returns g c = λ given form.
+pub returns-clause-ending : goal.returns-clause-ending
+returns-clause-ending g c = λ given form.
     let cut : Texts = texts_of c.in-Ok.texts in
     let bytes : List ℕ = c.in-Exits.bytes.items in
     let built : IsBuilt cut c.args.words.now.turns bytes c.in-Exits.status = subst (IsOutcome cut c.args.words.now.turns) c.in-Exits.is c.in-Ok-outcome_of.ensures in
