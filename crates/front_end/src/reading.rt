@@ -1,5 +1,8 @@
 // From a program's text to its typed tree: tokens, the parsed tree, types, each where the stage
 // before finds no fault.
+ghost use Rattle.std.specs.Prelude.{◌<◌, ◌^◌, IfOk};
+ghost use Rattle.typed_tree.specs.Nodes.{nodes_of};
+ghost use Rattle.typed_tree.specs.TypedView.{view_typed};
 ghost use Rattle.front_end.specs.Reading.{HasTree, Reads};
 
 use crate::error::FrontError;
@@ -26,14 +29,15 @@ fn parsed(alloc: Global, text: &[u8]) -> Result<Program, FrontError>
     Err(FrontError::Parse(ParseFault { kind, at }))
 }
 
-/// The typed tree of a program's text.
+/// The typed tree of a program's text, which has fewer than 16,777,216 nodes.
 ///
 /// # Errors
 ///
 /// `Memory`; or the first fault of the text where it has no tokens, or where its tokens are no
 /// program; or all type faults of the program.
 pub fn read_program(alloc: Global, text: &[u8]) -> Result<Typed, FrontError>
-    ensures { Reads text.now result }
+    ensures reading { Reads text.now result }
+    ensures small { IfOk result (λ t. nodes_of (view_typed t) < 2 ^ 24) }
 {
     let program = parsed(alloc, text)?;
     let typed = check_types(alloc, &program)?;

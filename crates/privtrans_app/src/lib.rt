@@ -24,6 +24,8 @@ mod taint;
 mod top;
 mod words;
 
+pub use early_input::one_outcome;
+pub use early_reader::one_tree;
 pub use top::privtrans;
 
 #[cfg(test)]
