@@ -6,14 +6,21 @@ use Rattle.std.specs.Str.{bytes_eq}
 use Rattle.std.proofs.lemmas.Bool.Decides.{nat_tests}
 use Rattle.std.proofs.lemmas.Slice.Eq.{bytes_eq-Decides}
 use Rattle.privtrans_app.specs.declared.early.Host.{Host}
+use Rattle.privtrans_app.specs.declared.early.Arg.{Arg}
+use Rattle.privtrans_app.specs.declared.early.Arg.TheVariants as arg
+use Rattle.privtrans_app.specs.declared.early.Call.{Call}
+use Rattle.privtrans_app.specs.declared.early.Source.{Source}
+use Rattle.privtrans_app.specs.declared.early.Source.TheVariants as source
+use Rattle.privtrans_app.specs.declared.early.Statement.{Statement}
+use Rattle.privtrans_app.specs.declared.early.Statement.TheVariants as statement
 use Rattle.privtrans_app.specs.declared.early.Program.{Program}
 use Rattle.privtrans_app.specs.declared.early_token.Token.{Token}
 use Rattle.privtrans_app.specs.declared.early_token.Token.TheVariants.{Fixed, Name, Number}
 use Rattle.privtrans_app.specs.declared.early_token.Symbol.{Symbol}
-use Rattle.privtrans_app.specs.declared.early_token.Symbol.TheVariants.{Int, Void, Main, OpenParen, CloseParen, OpenBrace}
+use Rattle.privtrans_app.specs.declared.early_token.Symbol.TheVariants.{Int, Void, Main, OpenParen, CloseParen, OpenBrace, Comma}
 use Rattle.privtrans_app.specs.EarlySteps.{◌>>=◌}
 use Rattle.privtrans_app.specs.EarlyTokens.{is_name, is_decimal, value_from, number_of, symbol_of, token_else, token_of, tokens_in, tokens_of, runs}
-use Rattle.privtrans_app.specs.EarlySpelling.{fixed, spelled_host_mark, spelled_result, spelled_host, spelled_variable, spelled_statement}
+use Rattle.privtrans_app.specs.EarlySpelling.{fixed, spelled_host_mark, spelled_result, spelled_host, spelled_arg, spelled_args, spelled_call, spelled_source, spelled_variable, spelled_statement}
 use Rattle.privtrans_app.specs.EarlyText.{IsEarlyText}
 use Rattle.privtrans_app.specs.Names.{is_in}
 use Rattle.privtrans_app.specs.EarlyTree.{names_of}
@@ -101,3 +108,76 @@ main_is_main text p early =
     let in_main = good_right (fixed (Int ∷ Main ∷ OpenParen ∷ Void ∷ CloseParen ∷ OpenBrace ∷ [])) _ (good_right (flat_map spelled_host p.hosts) _ good) in
     let last = good_right (flat_map spelled_statement p.statements) _ (good_right (flat_map spelled_variable p.variables) _ in_main) in
     record { named = no_hosts_main p.hosts (good_left (flat_map spelled_host p.hosts) _ good); fits = last.1.0 }
+
+-- ---- the numbers of main's statements
+
+-- the numbers that stand in arguments, in what is stored, and in statements fit int
+abbrev pub ArgFits : Arg → Type 0
+ArgFits (arg.Number n) = n ≤ 2147483647
+ArgFits (arg.Variable x) = ⊤
+
+abbrev pub ArgsFit : List Arg → Type 0
+ArgsFit [] = ⊤
+ArgsFit (a ∷ rest) = ArgFits a × ArgsFit rest
+
+abbrev pub SourceFits : Source → Type 0
+SourceFits (source.Number n) = n ≤ 2147483647
+SourceFits (source.Variable x) = ⊤
+SourceFits (source.Call c) = ArgsFit c.args
+
+abbrev pub StatementFits : Statement → Type 0
+StatementFits (statement.Set target source) = SourceFits source
+StatementFits (statement.Do c) = ArgsFit c.args
+
+abbrev pub StatementsFit : List Statement → Type 0
+StatementsFit [] = ⊤
+StatementsFit (s ∷ ss) = StatementFits s × StatementsFit ss
+
+-- a number among arguments fits int
+arg_fits : (a : Arg) → AreGood (spelled_arg a) → ArgFits a
+arg_fits (arg.Number n) good = good.0
+arg_fits (arg.Variable x) good = tt
+
+-- the same of arguments behind the first
+more_fit : (rest : List Arg) → AreGood (flat_map (λ a. Fixed Comma ∷ spelled_arg a) rest) → ArgsFit rest
+more_fit [] good = tt
+more_fit (a ∷ rest) good = (
+  arg_fits a (good_left (spelled_arg a) _ good.1),
+  more_fit rest (good_right (spelled_arg a) _ good.1),
+)
+
+-- the same of all arguments
+args_fit : (rest : List Arg) → AreGood (spelled_args rest) → ArgsFit rest
+args_fit [] good = tt
+args_fit (a ∷ rest) good = (arg_fits a (good_left (spelled_arg a) _ good), more_fit rest (good_right (spelled_arg a) _ good))
+
+-- the same of the arguments of a call
+call_fits : (c : Call) → AreGood (spelled_call c) → ArgsFit c.args
+call_fits c good = args_fit c.args (good_left (spelled_args c.args) _ good.1.1)
+
+-- the numbers of what is stored fit int
+source_fits : (s : Source) → AreGood (spelled_source s) → SourceFits s
+source_fits (source.Number n) good = good.0
+source_fits (source.Variable x) good = tt
+source_fits (source.Call c) good = call_fits c good
+
+-- the numbers of a statement fit int
+statement_fits : (s : Statement) → AreGood (spelled_statement s) → StatementFits s
+statement_fits (statement.Set target source) good = source_fits source (good_left (spelled_source source) _ good.1.1)
+statement_fits (statement.Do c) good = call_fits c (good_left (spelled_call c) _ good)
+
+-- the numbers of statements fit int
+statements_fit : (ss : List Statement) → AreGood (flat_map spelled_statement ss) → StatementsFit ss
+statements_fit [] good = tt
+statements_fit (s ∷ ss) good = (
+  statement_fits s (good_left (spelled_statement s) _ good),
+  statements_fit ss (good_right (spelled_statement s) _ good),
+)
+
+-- each number of the program of a text fits int
+pub numbers_fit : (text : List ℕ) (p : Program) → IsEarlyText text p → StatementsFit p.statements
+unfolding tokens_of
+numbers_fit text p early =
+    let good = good_tokens (runs text) _ early in
+    let in_main = good_right (fixed (Int ∷ Main ∷ OpenParen ∷ Void ∷ CloseParen ∷ OpenBrace ∷ [])) _ (good_right (flat_map spelled_host p.hosts) _ good) in
+    statements_fit p.statements (good_left (flat_map spelled_statement p.statements) _ (good_right (flat_map spelled_variable p.variables) _ in_main))

@@ -9,7 +9,7 @@ abbrev pub none_in : List (List ℕ) → List (List ℕ) → Bool
 none_in others [] = true
 none_in others (x ∷ xs) = not (is_in others x) && none_in others xs
 
-bytes_eq_comm : (xs ys : List ℕ) → bytes_eq xs ys ≡ bytes_eq ys xs
+pub bytes_eq_comm : (xs ys : List ℕ) → bytes_eq xs ys ≡ bytes_eq ys xs
 bytes_eq_comm xs ys = grind (arith, bytes_eq-Decides xs ys, bytes_eq-Decides ys xs)
 
 is_in-append : (xs ys : List (List ℕ)) (n : List ℕ) → is_in (xs ++ ys) n ≡ (is_in xs n || is_in ys n)
@@ -74,7 +74,7 @@ fresh_is others seen (x ∷ xs) =
     shuffle false false true false e f = refl
     shuffle false false false d e f = refl
 
-differ-append : (hs vs : List (List ℕ)) → all_differ (hs ++ vs) ≡ ((all_differ hs && all_differ vs) && none_in hs vs)
+pub differ-append : (hs vs : List (List ℕ)) → all_differ (hs ++ vs) ≡ ((all_differ hs && all_differ vs) && none_in hs vs)
 differ-append [] vs = go (all_differ vs) (none_in-nothing vs)
   where
     go : (b : Bool) → none_in [] vs ≡ true → b ≡ (b && none_in [] vs)

@@ -2,6 +2,9 @@ pub mod CompleteLemmas
 pub mod EarlyHostLemmas
 pub mod EarlyInputLemmas
 pub mod EarlyPolicyLemmas
+pub mod EarlyTreeLemmas
+pub mod EarlyTreeParts
+pub mod EarlyTreeSizes
 pub mod EarlyWordLemmas
 pub mod FreshLemmas
 pub mod FunctionLemmas

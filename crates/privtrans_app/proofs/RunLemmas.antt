@@ -49,7 +49,7 @@ no_host : (count : ℕ) (used : Bool) (o : Option Host) → o ≡ None → calle
 no_host count used None is good = cc
 no_host count used (Some h) is good = cc
 
-callee_count : (h : Host) (count : ℕ) (used : Bool) → callee_is_good (Some h) count used ≡ true → length h.params ≡ count
+pub callee_count : (h : Host) (count : ℕ) (used : Bool) → callee_is_good (Some h) count used ≡ true → length h.params ≡ count
 callee_count h count used good = let e : nat_eq (length h.params) count ≡ true = (both (nat_eq (length h.params) count) _ good).0 in grind arith
 
 call_goes : (names : List (List ℕ)) (T : ℕ → Type 0) (hosts : List Host) (models : List HostModel) (types : List VarTy) (calls : Calls) (pair : Pair) (st : State) (c : Call) (used : Bool)

@@ -1,7 +1,8 @@
 -- Which texts are early, and what is expected of them.
-use Rattle.std.specs.Prelude.{◌≡◌, ◌≤◌, ℕ, pos, true, List, [], length, Some}
+use Rattle.std.specs.Prelude.{◌≡◌, ◌≤◌, ℕ, pos, true, IsTrue, List, [], length, Some}
 use Rattle.pt_base.specs.declared.end.End.TheVariants.{Exit}
 use Rattle.pt_tree.specs.declared.host_model.HostModel.{HostModel}
+use Rattle.typed_tree.specs.WellFormed.{is_well_formed}
 use Rattle.source_meaning.specs.Run.{expected}
 use Rattle.source_meaning.specs.WholeRun.{whole_run}
 use Rattle.privtrans_app.specs.EarlyText.{IsEarlyText}
@@ -84,6 +85,10 @@ pub record IsBuilt (t : Texts) (turns : ℕ) (bytes : List ℕ) (status : ℕ) :
 -- of texts no two outputs and no two numbers are expected
 abbrev pub OneOutcome : Type 0
 OneOutcome = (t : Texts) (turns : ℕ) (a b : List ℕ) (m n : ℕ) → IsBuilt t turns a m → IsBuilt t turns b n → (a ≡ b) × (m ≡ n)
+
+-- the typed tree that an early program means is well formed
+abbrev pub TreesAreWellFormed : Type 0
+TreesAreWellFormed = (t : Texts) (turns : ℕ) (p : Program) (models : List HostModel) (state : List ℕ) (allowed : List (List ℕ)) → IsEarly t turns p models state allowed → IsTrue (is_well_formed (meant p))
 
 abbrev pub IsOutcome : Texts → ℕ → Outcome → Type 0
 IsOutcome t turns NotBuilt = IsNotBuilt t turns

@@ -1,6 +1,6 @@
 // The texts of a run: whether they are early, and what both halves make of them.
 ghost use Rattle.std.specs.Prelude.{◌≡◌, IfOk, IsTrue, MatchOption, false, length};
-ghost use Rattle.privtrans_app.specs.EarlyInput.{IsOutcome, OneOutcome, KeepsConditions, IsGoodText, AreSized, AreModels, HaveNoModels};
+ghost use Rattle.privtrans_app.specs.EarlyInput.{IsOutcome, OneOutcome, TreesAreWellFormed, KeepsConditions, IsGoodText, AreSized, AreModels, HaveNoModels};
 ghost use Rattle.privtrans_app.specs.EarlyRun.{AreSteady};
 ghost use Rattle.privtrans_app.specs.Lookup.{AreNamesOf};
 ghost use Rattle.privtrans_app.specs.declared.early.Program.{Program};
@@ -131,4 +131,9 @@ pub(crate) fn outcome_of(alloc: Global, texts: &Texts, turns: u32) -> Result<Out
 /// Of texts one output and one number are expected at most. It does nothing.
 pub fn one_outcome()
     ensures { OneOutcome }
+{}
+
+/// The typed tree of early texts is well formed. It does nothing.
+pub fn trees_are_well_formed()
+    ensures { TreesAreWellFormed }
 {}

@@ -24,7 +24,7 @@ mod taint;
 mod top;
 mod words;
 
-pub use early_input::one_outcome;
+pub use early_input::{one_outcome, trees_are_well_formed};
 pub use early_reader::one_tree;
 pub use top::privtrans;
 
