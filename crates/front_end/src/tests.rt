@@ -13,7 +13,7 @@ use pt_base::Span;
 use std::alloc::{AllocError, Global};
 use std::process::Abort;
 use std::test::Fail;
-use typed_tree::{Role, TypedFn};
+use typed_tree::{Form, Role, TypedFn};
 
 /// The first 200 bytes of a text whose row has statements.
 static DECLARATIONS: &str = "struct s { int f; const int k; }; struct t { int f; }; void v(void); \
@@ -139,6 +139,28 @@ fn a_body_has_its_outermost_expressions(rt: HostRuntime) -> Result<(), Fail> {
     assert_eq!(rt; parts.len(), 3);
     assert!(rt; matches!(parts[2].role, Role::Returned));
     assert_eq!(rt; typed.expr(parts[2].expr).span.from, 58);
+    Ok(())
+}
+
+#[test]
+fn changed_objects_keep_where_they_stand(rt: HostRuntime) -> Result<(), Fail> {
+    let text = b"int main(void) { int k; k = 0; (k)++; k  += 2; return k; }";
+    let Ok(typed) = read_program(rt.alloc(), text) else {
+        return Err(Fail::new("a fault"));
+    };
+    let Some(main) = typed.function_of(b"main") else {
+        return Err(Fail::new("no main"));
+    };
+    let parts = typed.parts(rt.alloc(), main)?;
+    assert_eq!(rt; parts.len(), 4);
+    let Form::Step { at, .. } = &typed.expr(parts[1].expr).form else {
+        return Err(Fail::new("no step"));
+    };
+    assert!(rt; *at == Span { from: 32, to: 33 });
+    let Form::Compound { at, .. } = &typed.expr(parts[2].expr).form else {
+        return Err(Fail::new("no compound assignment"));
+    };
+    assert!(rt; *at == Span { from: 38, to: 39 });
     Ok(())
 }
 
