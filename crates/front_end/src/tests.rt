@@ -13,7 +13,7 @@ use pt_base::Span;
 use std::alloc::{AllocError, Global};
 use std::process::Abort;
 use std::test::Fail;
-use typed_tree::Role;
+use typed_tree::{Form, Role, TypedFn};
 
 /// The first 200 bytes of a text whose row has statements.
 static DECLARATIONS: &str = "struct s { int f; const int k; }; struct t { int f; }; void v(void); \
@@ -31,6 +31,13 @@ static EARLIER_FAULTS: [&str; 8] = [
     "int  => parse 1 FaultAt 4",
     "int main(void) { switch (1) { int a; } } => parse 1 FaultAt 30",
 ];
+
+/// Functions with more than one declaration, and a host. Marks stand on some of them.
+static DECLARED_AGAIN: &str = "int main(void); \
+__attribute__((priv)) int f(int a, int b, int c); int h(int a, int b); \
+__attribute__((priv)) int h(int a, __attribute__((priv)) int b); \
+int f(__attribute__((priv)) int a, int b, int c) { return a; } int main(void) { return 0; } \
+int f(int a, int b, __attribute__((priv)) int c);";
 
 /// Type faults, as reports spell them.
 fn told_faults(alloc: Global, faults: &[TypeFault]) -> Result<String, AllocError> {
@@ -133,4 +140,101 @@ fn a_body_has_its_outermost_expressions(rt: HostRuntime) -> Result<(), Fail> {
     assert!(rt; matches!(parts[2].role, Role::Returned));
     assert_eq!(rt; typed.expr(parts[2].expr).span.from, 58);
     Ok(())
+}
+
+#[test]
+fn changed_objects_keep_where_they_stand(rt: HostRuntime) -> Result<(), Fail> {
+    let text = b"int main(void) { int k; k = 0; (k)++; k  += 2; return k; }";
+    let Ok(typed) = read_program(rt.alloc(), text) else {
+        return Err(Fail::new("a fault"));
+    };
+    let Some(main) = typed.function_of(b"main") else {
+        return Err(Fail::new("no main"));
+    };
+    let parts = typed.parts(rt.alloc(), main)?;
+    assert_eq!(rt; parts.len(), 4);
+    let Form::Step { at, .. } = &typed.expr(parts[1].expr).form else {
+        return Err(Fail::new("no step"));
+    };
+    assert!(rt; *at == Span { from: 32, to: 33 });
+    let Form::Compound { at, .. } = &typed.expr(parts[2].expr).form else {
+        return Err(Fail::new("no compound assignment"));
+    };
+    assert!(rt; *at == Span { from: 38, to: 39 });
+    Ok(())
+}
+
+/// Where a function's name stands, whether it is a host and privileged, and for each parameter
+/// whether it is marked.
+fn told_function(alloc: Global, function: &TypedFn) -> Result<String, AllocError> {
+    let Span { from, to } = function.name;
+    let mut told = format!(in alloc; "{from}..{to}")?;
+    if function.signature.host {
+        told.push_str(" host")?;
+    }
+    if function.signature.privileged {
+        told.push_str(" priv")?;
+    }
+    for param in function.signature.params.as_slice() {
+        told.push_str(if param.marked { " marked" } else { " plain" })?;
+    }
+    Ok(told)
+}
+
+#[test]
+fn declarations_of_a_name_are_one_function(rt: HostRuntime) -> Result<(), Fail> {
+    let alloc = rt.alloc();
+    let Ok(typed) = read_program(alloc, DECLARED_AGAIN.as_bytes()) else {
+        return Err(Fail::new("a fault"));
+    };
+    let mut told = String::new(alloc);
+    for function in &typed.functions {
+        told.push_str(told_function(alloc, function)?.as_str())?;
+        told.push_str("; ")?;
+    }
+    let want = "219..223; 156..157 priv marked plain marked; 70..71 host priv plain marked; ";
+    assert_eq!(rt; told.as_str(), want);
+    Ok(())
+}
+
+/// A text of almost 1 MiB, with a piece so often in its middle, comes to this.
+fn hold_long<R: Abort + AllocGlobal>(
+    rt: &R,
+    first: &str,
+    piece: &str,
+    count: u32,
+    last: &str,
+    want: &str,
+) -> Result<(), Fail> {
+    let alloc = rt.alloc();
+    let mut text = first.as_bytes().to_vec(alloc)?;
+    for _ in 0..count {
+        text.extend_from_slice(piece.as_bytes())?;
+    }
+    text.extend_from_slice(last.as_bytes())?;
+    assert!(rt; text.len() > 1_048_570, "{piece}");
+    assert_eq!(rt; told(alloc, &text)?.as_str(), want, "{piece}");
+    Ok(())
+}
+
+#[test]
+fn the_longest_chains_are_read(rt: HostRuntime) -> Result<(), Fail> {
+    for (first, piece, count, want) in [
+        ("int main(void) { return 1", "+1-1", 262_136, "ok"),
+        ("int main(void) { int a; return a", "&&a", 349_513, "ok"),
+        (
+            "int main(void) { int *p; return p",
+            "[0]",
+            349_513,
+            "4 WrongType 32..36",
+        ),
+    ] {
+        hold_long(&rt, first, piece, count, "; }", want)?;
+    }
+    Ok(())
+}
+
+#[test]
+fn the_longest_list_of_statements_is_read(rt: HostRuntime) -> Result<(), Fail> {
+    hold_long(&rt, "int main(void) { int a; ", "a=1;", 262_137, "}", "ok")
 }

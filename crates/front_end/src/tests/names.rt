@@ -1,7 +1,7 @@
 // Names: unknown ones, second declarations, and where a program begins.
 
 /// Texts behind which main follows.
-pub(super) static ITEMS: [&str; 23] = [
+pub(super) static ITEMS: [&str; 26] = [
     // A name, a tag or a field that is not declared there.
     "int f(int a) { return g(a); } int g(int a) { return a; } => 1 UnknownName 22..23",
     "struct s; => 1 UnknownName 7..8",
@@ -27,10 +27,13 @@ pub(super) static ITEMS: [&str; 23] = [
     "int f(int a) { return a; } int f(long b) { return b; } => 2 Redeclared 31..32",
     "int f(void); int f; => 2 Redeclared 17..18",
     "int f; int f(void); => 2 Redeclared 11..12",
+    "int f(struct u *p); int f(int a); => 1 UnknownName 13..14; 7 OutOfProfile 16..17",
+    "int f(struct u *p); int f(int a) { return a; } => 1 UnknownName 13..14",
+    "int f(int a); int f(struct u *p) { return *p; } => 1 UnknownName 27..28",
 ];
 
 /// Whole texts.
-pub(super) static PROGRAMS: [&str; 25] = [
+pub(super) static PROGRAMS: [&str; 26] = [
     // A name, a tag or a field that is not declared there.
     "int main(void) { return y; } => 1 UnknownName 24..25",
     "int main(void) { y = 1; return y + z; } => 1 UnknownName 17..18; 1 UnknownName 31..32; 1 UnknownName 35..36",
@@ -47,6 +50,7 @@ pub(super) static PROGRAMS: [&str; 25] = [
     "int main(void) { int f; f = 1; int g; return f; } int f(void); => ok",
     "int main(void) { int i; for (int i = 0; ; ) { int i; i = 1; break; } return i; } => ok",
     "int main(int a) { return a; } int main(void) { return 0; } => 2 Redeclared 34..38",
+    "int f(int a); int f(int a, int b); int main(void) { return f(1) + f(1, 2); } => 2 Redeclared 18..19; 5 ArgCount 66..73",
     // Where a program begins.
     " => 8 NoMain 0..0",
     "int main(int a) { return a; } => 8 NoMain 0..0",

@@ -9,10 +9,12 @@ pub(super) static ITEMS: [&str; 3] = [
 ];
 
 /// Statements behind the declarations of all bodies.
-pub(super) static BODIES: [&str; 2] = [
+pub(super) static BODIES: [&str; 3] = [
     // Conditions are integers or pointers.
     "if (a) ; while (a) ; do ; while (a); for (; a; ) ; a ? 1 : 2; => 4 WrongType 204..205; 4 WrongType 216..217; 4 WrongType 233..234; 4 WrongType 244..245; 4 WrongType 251..252",
     "if (v()) ; if (p) ; while (c) ; for (; 0; ) ; if (zz) ; if ((a)) ; => 4 WrongType 204..207; 1 UnknownName 250..252; 4 WrongType 261..262",
+    // What designates no object is not changed and has no address.
+    "1 += p; => 3 NotLvalue 200..201; 4 WrongType 205..206",
 ];
 
 /// Whole texts.
