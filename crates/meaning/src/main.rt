@@ -30,7 +30,7 @@ fn run_list<R: Runtime + AllocGlobal>(rt: &R, folder: &str, list: &str) -> Resul
             print!(rt; "{shown}")?;
         }
     }
-    Ok(())
+    rows.end()
 }
 
 fn run_words<R: Runtime + AllocGlobal>(rt: &R) -> Result<()> {

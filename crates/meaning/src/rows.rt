@@ -39,7 +39,7 @@ impl<'a> Rows<'a> {
     ///
     /// # Errors
     ///
-    /// A line of words that aren't five, the first a number of turns.
+    /// A line of words that aren't five, the first of them a number of turns.
     pub fn read(&mut self, line: &'a str) -> Result<Option<Row<'a>>> {
         let Some(title) = self.title else {
             self.title = Some(line);
@@ -48,28 +48,42 @@ impl<'a> Rows<'a> {
         if let Some(words) = self.words {
             self.title = None;
             self.words = None;
-            return Ok(Some(row_of(title, words, Source::Text(line))?));
+            return Ok(Some(row_of(title, words, Some(line))?));
         }
         if line.ends_with(" -") {
             self.words = Some(line);
             return Ok(None);
         }
         self.title = None;
-        Ok(Some(row_of(title, line, Source::File(line))?))
+        Ok(Some(row_of(title, line, None)?))
+    }
+
+    /// The list ends here.
+    ///
+    /// # Errors
+    ///
+    /// A row without its words or its program.
+    pub fn end(&self) -> Result<()> {
+        match self.title {
+            None => Ok(()),
+            Some(title) => bail!("{title}: the list ends within the row"),
+        }
     }
 }
 
-// The row of this title and these words, whose last one names the program's file where it has one.
-fn row_of<'a>(title: &'a str, words: &'a str, program: Source<'a>) -> Result<Row<'a>> {
+// The row of this title, these words and this program, which is else in the file that the last word
+// names.
+fn row_of<'a>(title: &'a str, words: &'a str, program: Option<&'a str>) -> Result<Row<'a>> {
     let mut words = words.split_whitespace();
-    let (Some(turns), Some(host), Some(policy), Some(input), Some(file)) = (
+    let (Some(turns), Some(host), Some(policy), Some(input), Some(file), None) = (
+        words.next(),
         words.next(),
         words.next(),
         words.next(),
         words.next(),
         words.next(),
     ) else {
-        bail!("{title}: fewer than five words");
+        bail!("{title}: not five words");
     };
     Ok(Row {
         title,
@@ -78,8 +92,8 @@ fn row_of<'a>(title: &'a str, words: &'a str, program: Source<'a>) -> Result<Row
         policy,
         input,
         program: match program {
-            Source::File(_) => Source::File(file),
-            Source::Text(text) => Source::Text(text),
+            None => Source::File(file),
+            Some(text) => Source::Text(text),
         },
     })
 }
