@@ -1,4 +1,4 @@
-use Rattle.std.proofs.Common.{◌≡◌, ◌≤◌, ℕ, Option, Err, inl, inr, rules, arith}
+use Rattle.std.proofs.Common.{◌≡◌, Option, Err, inl, inr, rules, arith}
 use Rattle.pt_base.specs.Files.{Files, SameFiles}
 use Rattle.privtrans_app.proofs.ReadingLemmas.{same_trans, gives_same, gives_held, refusal_since}
 use Rattle.privtrans_app.proofs.local.read_texts.Goals as goal
