@@ -1,34 +1,42 @@
--- Where the files are held and no count of faults rose, a call comes to what is expected.
+-- Where no count of faults rose, a call has the status of its words and files.
 use Rattle.std.proofs.Common.{◌≡◌, ◌⊎◌, ℕ, List, [], length, get_or, refl, sym, ◌∙◌, ap, subst, arith, Option, Some, None, inl, inr}
 use Rattle.pt_base.specs.Faults.{Rose}
 use Rattle.pt_base.specs.Files.{Files, Lacks}
-use Rattle.privtrans_app.specs.Words.{IsHelp}
+use Rattle.privtrans_app.specs.Words.{IsHelp, IsVersion, IsLocal, IsNoForm}
 use Rattle.privtrans_app.specs.EarlyInput.{Texts, IsBuilt, IsNotBuilt}
-use Rattle.privtrans_app.specs.Ending.{Ending, help, version, exit, usage, missing, read_fault, write_fault, not_built, memory, status_of, IsHeld, IsReached, AreHeld, Expects, Refuses, ComesTo, Reports, StaysDown, IsComplete}
+use Rattle.privtrans_app.specs.Ending.{Ending, help, version, exit, usage, missing, read_fault, write_fault, not_built, memory, status_of, IsHeld, IsReached, AreHeld, Expects, Refuses, ComesTo, Reports, StaysDown, EndsWith, IsByForm, IsByFiles}
 use Rattle.privtrans_app.proofs.LocalLemmas.{same_held}
 
 -- a call whose report was written has the status of its ending, or 12
-told : (e : Ending) (report report' : Option (List ℕ)) (faults faults' status : ℕ) → Reports e report report' faults faults' status → StaysDown faults faults' → (status ≡ status_of e) ⊎ (status ≡ 12)
+told : (e : Ending) (report report' : Option (List ℕ)) (faults faults' status : ℕ) → Reports e report report' faults faults' status → StaysDown faults faults' → EndsWith status (status_of e)
 told e report report' faults faults' status (inl is) down = inl is.0
 told e report report' faults faults' status (inr (inl is)) down = absurd (down is.2)
 told e report report' faults faults' status (inr (inr is)) down = inr is.0
 
-abbrev Done : Texts → ℕ → ℕ → Type 0
-Done t turns status = IsComplete t turns status
+-- want of memory is one of two statuses anywhere
+memory_of : (status n : ℕ) → EndsWith status 12 → EndsWith status n
+memory_of status n (inl is) = inr is
+memory_of status n (inr is) = inr is
 
--- an ending that can't be
-never : (P : Type 0) → ⊥ → P
-never P x = absurd x
+-- ---- words of two forms
 
-words_local : (words : List (List ℕ)) (files : Files) (t : Texts) (turns window n : ℕ) → AreHeld words (Some files) t turns window → length words ≡ n → n ≡ 7
-words_local words files t turns window n held is = sym is ∙ ap length held.form.are
+seven : (words : List (List ℕ)) (p h q i : List ℕ) (m w : ℕ) → IsLocal words p h q i m w → length words ≡ 7
+seven words p h q i m w form = ap length form.are
 
-not_one : (n : ℕ) → n ≡ 1 → n ≡ 7 → ⊥
-not_one n a b = omega arith
+one_of_help : (words : List (List ℕ)) → IsHelp words → length words ≡ 1
+one_of_help words (inl is) = ap length is
+one_of_help words (inr is) = ap length is
 
-no_help : (words : List (List ℕ)) (files : Files) (t : Texts) (turns window : ℕ) → AreHeld words (Some files) t turns window → IsHelp words → ⊥
-no_help words files t turns window held (inl is) = not_one (length words) (ap length is) (words_local words files t turns window (length words) held refl)
-no_help words files t turns window held (inr is) = not_one (length words) (ap length is) (words_local words files t turns window (length words) held refl)
+one_or_seven : (n : ℕ) → n ≡ 1 → n ≡ 7 → ⊥
+one_or_seven n a b = omega arith
+
+no_help : (words : List (List ℕ)) (p h q i : List ℕ) (m w : ℕ) → IsLocal words p h q i m w → IsHelp words → ⊥
+no_help words p h q i m w form is = one_or_seven (length words) (one_of_help words is) (seven words p h q i m w form)
+
+no_version : (words : List (List ℕ)) (p h q i : List ℕ) (m w : ℕ) → IsLocal words p h q i m w → IsVersion words → ⊥
+no_version words p h q i m w form is = one_or_seven (length words) (ap length is) (seven words p h q i m w form)
+
+-- ---- files that are held
 
 some_none : (x : List ℕ) (o : Option (List ℕ)) → o ≡ Some x → o ≡ None → ⊥
 some_none x o a b = cc
@@ -61,36 +69,98 @@ refused_there words files t turns window held refuses =
 not_both : (t : Texts) (turns : ℕ) (bytes : List ℕ) (s : ℕ) → IsBuilt t turns bytes s → IsNotBuilt t turns → ⊥
 not_both t turns bytes s built none = none built.program built.models built.state built.allowed built.early
 
-memory_of : (status n : ℕ) → (status ≡ 12) ⊎ (status ≡ 12) → (status ≡ n) ⊎ (status ≡ 12)
-memory_of status n (inl is) = inr is
-memory_of status n (inr is) = inr is
+-- ---- the status of each ending
 
-pub completes : (words : List (List ℕ)) (files : Files) (reads reads' : ℕ) (o o' : Option (List ℕ)) (writes writes' : ℕ) (report report' : Option (List ℕ)) (faults faults' status : ℕ) (t : Texts) (turns window : ℕ) (e : Ending)
-    → AreHeld words (Some files) t turns window → StaysDown reads reads' → StaysDown writes writes' → StaysDown faults faults'
-    → ComesTo words (Some files) reads reads' o o' writes writes' e → Reports e report report' faults faults' status → IsComplete t turns status
-completes words files reads reads' o o' writes writes' report report' faults faults' status t turns window help held r w f comes tells =
-    never (Done t turns status) (no_help words files t turns window held comes.0)
-completes words files reads reads' o o' writes writes' report report' faults faults' status t turns window version held r w f comes tells =
-    never (Done t turns status) (not_one (length words) (ap length comes.0) (words_local words files t turns window (length words) held refl))
-completes words files reads reads' o o' writes writes' report report' faults faults' status t turns window (exit s) held r w f comes tells = (
-  λ bytes k built. told (exit s) report report' faults faults' status tells f,
-  λ none. never ((status ≡ 5) ⊎ (status ≡ 12)) (not_both t turns comes.0 s (built_there words files t turns window comes.0 s held comes.1) none),
-)
-completes words files reads reads' o o' writes writes' report report' faults faults' status t turns window usage held r w f comes tells =
-    never (Done t turns status) (comes.0.no_local held.program_name held.host_name held.policy_name held.input_name turns window held.form)
-completes words files reads reads' o o' writes writes' report report' faults faults' status t turns window (missing name) held r w f comes tells =
-    never (Done t turns status) (go comes.1)
-  where
-    go : Lacks (Some files) name ⊎ Rose reads reads' → ⊥
-    go (inl lacks) = not_lacking words files t turns window name held comes.0 lacks
-    go (inr rose) = r rose
-completes words files reads reads' o o' writes writes' report report' faults faults' status t turns window (read_fault name) held r w f comes tells =
-    never (Done t turns status) (r comes.1)
-completes words files reads reads' o o' writes writes' report report' faults faults' status t turns window write_fault held r w f comes tells =
-    never (Done t turns status) (w comes.0)
-completes words files reads reads' o o' writes writes' report report' faults faults' status t turns window not_built held r w f comes tells = (
-  λ bytes k built. never ((status ≡ 0) ⊎ (status ≡ 12)) (not_both t turns bytes k built (refused_there words files t turns window held comes.0)),
-  λ none. told not_built report report' faults faults' status tells f,
-)
-completes words files reads reads' o o' writes writes' report report' faults faults' status t turns window memory held r w f comes tells =
-    (λ bytes k built. memory_of status 0 (told memory report report' faults faults' status tells f), λ none. memory_of status 5 (told memory report report' faults faults' status tells f))
+module _ (words : List (List ℕ)) (reads reads' : ℕ) (o o' : Option (List ℕ)) (writes writes' : ℕ) (report report' : Option (List ℕ)) (faults faults' status : ℕ)
+    (w : StaysDown writes writes') (f : StaysDown faults faults') where
+  ends : (e : Ending) → Reports e report report' faults faults' status → EndsWith status (status_of e)
+  ends e tells = told e report report' faults faults' status tells f
+
+  wants : (n : ℕ) → Reports memory report report' faults faults' status → EndsWith status n
+  wants n tells = memory_of status n (ends memory tells)
+
+  -- the help text and the version
+  by_text : (files : Option Files) (e : Ending) → (IsNoForm words → ⊥) → ((p h q i : List ℕ) (m n : ℕ) → IsLocal words p h q i m n → ⊥)
+      → ComesTo words files reads reads' o o' writes writes' e → Reports e report report' faults faults' status → EndsWith status 0
+  by_text files help formed no_run comes tells = ends help tells
+  by_text files version formed no_run comes tells = ends version tells
+  by_text files (exit s) formed no_run comes tells = ends (exit s) tells
+  by_text files usage formed no_run comes tells = absurd (formed comes.0)
+  by_text files (missing name) formed no_run comes tells = absurd (no_run _ _ _ _ _ _ comes.0.form)
+  by_text files (read_fault name) formed no_run comes tells = absurd (no_run _ _ _ _ _ _ comes.0.form)
+  by_text files write_fault formed no_run comes tells = absurd (w comes.0)
+  by_text files not_built formed no_run comes tells = absurd (no_run _ _ _ _ _ _ comes.0.3.form)
+  by_text files memory formed no_run comes tells = wants 0 tells
+
+  -- words of no form
+  by_usage : (files : Option Files) (e : Ending) → IsNoForm words
+      → ComesTo words files reads reads' o o' writes writes' e → Reports e report report' faults faults' status → EndsWith status 1
+  by_usage files help none comes tells = absurd (none.no_help comes.0)
+  by_usage files version none comes tells = absurd (none.no_version comes.0)
+  by_usage files (exit s) none comes tells = absurd (none.no_local _ _ _ _ _ _ comes.1.3.form)
+  by_usage files usage none comes tells = ends usage tells
+  by_usage files (missing name) none comes tells = absurd (none.no_local _ _ _ _ _ _ comes.0.form)
+  by_usage files (read_fault name) none comes tells = absurd (none.no_local _ _ _ _ _ _ comes.0.form)
+  by_usage files write_fault none comes tells = absurd (w comes.0)
+  by_usage files not_built none comes tells = absurd (none.no_local _ _ _ _ _ _ comes.0.3.form)
+  by_usage files memory none comes tells = wants 1 tells
+
+  pub by_form : (files : Option Files) (e : Ending) → ComesTo words files reads reads' o o' writes writes' e → Reports e report report' faults faults' status → IsByForm words status
+  by_form files e comes tells = record {
+    help = λ is. by_text files e (λ none. none.no_help is) (λ p h q i m n form. no_help words p h q i m n form is) comes tells;
+    version = λ is. by_text files e (λ none. none.no_version is) (λ p h q i m n form. no_version words p h q i m n form is) comes tells;
+    usage = λ none. by_usage files e none comes tells;
+  }
+
+  -- a file that isn't held
+  by_lack : (files : Files) (e : Ending) → StaysDown reads reads' → (name : List ℕ) → IsReached words (Some files) name → files name ≡ None
+      → ComesTo words (Some files) reads reads' o o' writes writes' e → Reports e report report' faults faults' status → EndsWith status 2
+  by_lack files help r name reached lacks comes tells = absurd (no_help words _ _ _ _ _ _ reached.form comes.0)
+  by_lack files version r name reached lacks comes tells = absurd (no_version words _ _ _ _ _ _ reached.form comes.0)
+  by_lack files (exit s) r name reached lacks comes tells = absurd (not_lacking words files _ _ _ name comes.1.3 reached lacks)
+  by_lack files usage r name reached lacks comes tells = absurd (comes.0.no_local _ _ _ _ _ _ reached.form)
+  by_lack files (missing n) r name reached lacks comes tells = ends (missing n) tells
+  by_lack files (read_fault n) r name reached lacks comes tells = absurd (r comes.1)
+  by_lack files write_fault r name reached lacks comes tells = absurd (w comes.0)
+  by_lack files not_built r name reached lacks comes tells = absurd (not_lacking words files _ _ _ name comes.0.3 reached lacks)
+  by_lack files memory r name reached lacks comes tells = wants 2 tells
+
+  -- files that are held, which is told: none is missing
+  none_missing : (files : Files) (t : Texts) (turns window : ℕ) (name : List ℕ) → StaysDown reads reads' → AreHeld words (Some files) t turns window → IsReached words (Some files) name
+      → Lacks (Some files) name ⊎ Rose reads reads' → ⊥
+  none_missing files t turns window name r held reached (inl lacks) = not_lacking words files t turns window name held reached lacks
+  none_missing files t turns window name r held reached (inr rose) = r rose
+
+  -- texts of which something is expected
+  by_built : (files : Files) (e : Ending) → StaysDown reads reads' → (t : Texts) (turns window : ℕ) (bytes : List ℕ) (s : ℕ) → AreHeld words (Some files) t turns window → IsBuilt t turns bytes s
+      → ComesTo words (Some files) reads reads' o o' writes writes' e → Reports e report report' faults faults' status → EndsWith status 0
+  by_built files help r t turns window bytes s held built comes tells = ends help tells
+  by_built files version r t turns window bytes s held built comes tells = ends version tells
+  by_built files (exit k) r t turns window bytes s held built comes tells = ends (exit k) tells
+  by_built files usage r t turns window bytes s held built comes tells = absurd (comes.0.no_local _ _ _ _ _ _ held.form)
+  by_built files (missing name) r t turns window bytes s held built comes tells = absurd (none_missing files t turns window name r held comes.0 comes.1)
+  by_built files (read_fault name) r t turns window bytes s held built comes tells = absurd (r comes.1)
+  by_built files write_fault r t turns window bytes s held built comes tells = absurd (w comes.0)
+  by_built files not_built r t turns window bytes s held built comes tells = absurd (not_both t turns bytes s built (refused_there words files t turns window held comes.0))
+  by_built files memory r t turns window bytes s held built comes tells = wants 0 tells
+
+  -- texts that aren't early
+  by_refused : (files : Files) (e : Ending) → StaysDown reads reads' → (t : Texts) (turns window : ℕ) → AreHeld words (Some files) t turns window → IsNotBuilt t turns
+      → ComesTo words (Some files) reads reads' o o' writes writes' e → Reports e report report' faults faults' status → EndsWith status 5
+  by_refused files help r t turns window held none comes tells = absurd (no_help words _ _ _ _ _ _ held.form comes.0)
+  by_refused files version r t turns window held none comes tells = absurd (no_version words _ _ _ _ _ _ held.form comes.0)
+  by_refused files (exit s) r t turns window held none comes tells = absurd (not_both t turns comes.0 s (built_there words files t turns window comes.0 s held comes.1) none)
+  by_refused files usage r t turns window held none comes tells = absurd (comes.0.no_local _ _ _ _ _ _ held.form)
+  by_refused files (missing name) r t turns window held none comes tells = absurd (none_missing files t turns window name r held comes.0 comes.1)
+  by_refused files (read_fault name) r t turns window held none comes tells = absurd (r comes.1)
+  by_refused files write_fault r t turns window held none comes tells = absurd (w comes.0)
+  by_refused files not_built r t turns window held none comes tells = ends not_built tells
+  by_refused files memory r t turns window held none comes tells = wants 5 tells
+
+  pub by_files : (files : Files) (e : Ending) → StaysDown reads reads'
+      → ComesTo words (Some files) reads reads' o o' writes writes' e → Reports e report report' faults faults' status → IsByFiles words files status
+  by_files files e r comes tells = record {
+    missing = λ name reached lacks. by_lack files e r name reached lacks comes tells;
+    built = λ t turns window bytes s held built. by_built files e r t turns window bytes s held built comes tells;
+    not_built = λ t turns window held none. by_refused files e r t turns window held none comes tells;
+  }

@@ -150,9 +150,19 @@ Puts out out' writes writes' text done came =
 abbrev pub StaysDown : ℕ → ℕ → Type 0
 StaysDown before now = Rose before now → ⊥
 
--- the status is 0 for texts of which something is expected, and 5 for texts that aren't early, unless
--- it is 12
-abbrev pub IsComplete : Texts → ℕ → ℕ → Type 0
-IsComplete t turns status =
-    ((bytes : List ℕ) (s : ℕ) → IsBuilt t turns bytes s → (status ≡ 0) ⊎ (status ≡ 12))
-    × (IsNotBuilt t turns → (status ≡ 5) ⊎ (status ≡ 12))
+-- the status is this one, or 12
+abbrev pub EndsWith : ℕ → ℕ → Type 0
+EndsWith status n = (status ≡ n) ⊎ (status ≡ 12)
+
+-- the status by the form of the words: 0 for the help text and the version, 1 for words of no form
+pub record IsByForm (words : List (List ℕ)) (status : ℕ) : Type 0 where
+  pub help : IsHelp words → EndsWith status 0
+  pub version : IsVersion words → EndsWith status 0
+  pub usage : IsNoForm words → EndsWith status 1
+
+-- the status of a run of files that are held as told: 2 where one isn't, 0 for texts of which something is
+-- expected, and 5 for texts that aren't early
+pub record IsByFiles (words : List (List ℕ)) (files : Files) (status : ℕ) : Type 0 where
+  pub missing : (name : List ℕ) → IsReached words (Some files) name → files name ≡ None → EndsWith status 2
+  pub built : (t : Texts) (turns window : ℕ) (bytes : List ℕ) (s : ℕ) → AreHeld words (Some files) t turns window → IsBuilt t turns bytes s → EndsWith status 0
+  pub not_built : (t : Texts) (turns window : ℕ) → AreHeld words (Some files) t turns window → IsNotBuilt t turns → EndsWith status 5

@@ -61,68 +61,64 @@ fn status_of<R: Threads + Sync>(
     ))
 }
 
+// Whether a call on the signer's files, none of which fails, has this status, and writes this to out
+// and this as its report.
+fn ends<R: Threads + Sync>(
+    rt: &R,
+    alloc: Global,
+    words: &[&str],
+    status: u8,
+    written: &str,
+    line: &str,
+) -> Result<bool, Fail> {
+    let mut out = ByteSink::new(alloc, Vec::new(alloc));
+    let mut report = ByteSink::new(alloc, Vec::new(alloc));
+    let found = status_of(rt, alloc, words, Vec::new(alloc), &mut out, &mut report)?;
+    Ok(found == status && out.bytes() == written.as_bytes() && report.bytes() == line.as_bytes())
+}
+
+// The same of a run with this host table and these turns.
+fn runs<R: Threads + Sync>(
+    rt: &R,
+    alloc: Global,
+    host: &str,
+    turns: &str,
+    status: u8,
+    written: &str,
+    line: &str,
+) -> Result<bool, Fail> {
+    let words = ["local", "prog", host, "policy", "input", turns, "4"];
+    ends(rt, alloc, &words, status, written, line)
+}
+
 #[test]
-fn the_signature_prints_and_each_cause_has_its_status(rt: HostRuntime) -> Result<(), Fail> {
+fn the_signature_prints(rt: HostRuntime) -> Result<(), Fail> {
     let alloc = rt.alloc();
-    // words, the status, out and report
-    let cases: [(&[&str], u8, &str, &str); 6] = [
-        (
-            &["local", "prog", "host", "policy", "input", "1000", "4"],
-            0,
-            "put 99\n",
-            "exit 0\n",
-        ),
-        (
-            &["local", "prog", "host", "policy", "input", "3", "4"],
-            0,
-            "put 99\n",
-            "exit 0\n",
-        ),
-        (
-            &["local", "prog", "host", "policy", "input", "2", "4"],
-            5,
-            "",
-            "early 1 NotBuilt\n",
-        ),
-        (
-            &["local", "prog", "none", "policy", "input", "9", "4"],
-            2,
-            "",
-            "missing none\n",
-        ),
-        (
-            &["local", "prog", "host", "policy", "input", "01", "4"],
-            1,
-            "",
-            "usage\n",
-        ),
-        (&["--version"], 0, "privtrans 0.1.0\n", ""),
-    ];
-    for (words, status, written, line) in cases {
-        let mut out = ByteSink::new(alloc, Vec::new(alloc));
-        let mut report = ByteSink::new(alloc, Vec::new(alloc));
-        assert_eq!(rt;
-            status_of(&rt, alloc, words, Vec::new(alloc), &mut out, &mut report)?,
-            status
-        );
-        assert_eq!(rt; out.bytes(), written.as_bytes());
-        assert_eq!(rt; report.bytes(), line.as_bytes());
-    }
+    assert!(rt; runs(&rt, alloc, "host", "1000", 0, "put 99\n", "exit 0\n")?);
+    assert!(rt; runs(&rt, alloc, "host", "3", 0, "put 99\n", "exit 0\n")?);
     Ok(())
 }
 
 #[test]
-fn a_failing_outside_has_its_status(rt: HostRuntime) -> Result<(), Fail> {
+fn each_cause_has_its_status(rt: HostRuntime) -> Result<(), Fail> {
+    let alloc = rt.alloc();
+    assert!(rt; runs(&rt, alloc, "host", "2", 5, "", "early 1 NotBuilt\n")?);
+    assert!(rt; runs(&rt, alloc, "none", "9", 2, "", "missing none\n")?);
+    assert!(rt; runs(&rt, alloc, "host", "01", 1, "", "usage\n")?);
+    assert!(rt; ends(&rt, alloc, &["--version"], 0, "privtrans 0.1.0\n", "")?);
+    Ok(())
+}
+
+#[test]
+fn a_file_that_fails_is_named_before_a_missing_one(rt: HostRuntime) -> Result<(), Fail> {
     let alloc = rt.alloc();
     let words = ["local", "prog", "none", "policy", "input", "1000", "4"];
     let mut fails = Vec::new(alloc);
     fails.push((1, false))?;
     let mut out = ByteSink::new(alloc, Vec::new(alloc));
     let mut report = ByteSink::new(alloc, Vec::new(alloc));
-    assert_eq!(rt;
-        status_of(&rt, alloc, &words, fails, &mut out, &mut report)?,
-        3
-    );
+    let status = status_of(&rt, alloc, &words, fails, &mut out, &mut report)?;
+    assert_eq!(rt; status, 3);
     assert_eq!(rt; report.bytes(), b"read fault prog\n".as_slice());
     Ok(())
 }
@@ -135,20 +131,24 @@ fn full(alloc: Global) -> Result<ByteSink, Fail> {
 }
 
 #[test]
-fn a_full_sink_has_its_status(rt: HostRuntime) -> Result<(), Fail> {
+fn a_full_out_is_a_write_fault(rt: HostRuntime) -> Result<(), Fail> {
     let alloc = rt.alloc();
     let words = ["local", "prog", "host", "policy", "input", "1000", "4"];
-    let mut sink = ByteSink::new(alloc, Vec::new(alloc));
-    let mut closed = full(alloc)?;
-    assert_eq!(rt;
-        status_of(&rt, alloc, &words, Vec::new(alloc), &mut closed, &mut sink)?,
-        4
-    );
-    assert_eq!(rt; sink.bytes(), b"write fault\n".as_slice());
-    let mut closed = full(alloc)?;
-    assert_eq!(rt;
-        status_of(&rt, alloc, &words, Vec::new(alloc), &mut sink, &mut closed)?,
-        4
-    );
+    let mut out = full(alloc)?;
+    let mut report = ByteSink::new(alloc, Vec::new(alloc));
+    let status = status_of(&rt, alloc, &words, Vec::new(alloc), &mut out, &mut report)?;
+    assert_eq!(rt; status, 4);
+    assert_eq!(rt; report.bytes(), b"write fault\n".as_slice());
+    Ok(())
+}
+
+#[test]
+fn a_full_report_is_a_write_fault(rt: HostRuntime) -> Result<(), Fail> {
+    let alloc = rt.alloc();
+    let words = ["local", "prog", "host", "policy", "input", "1000", "4"];
+    let mut out = ByteSink::new(alloc, Vec::new(alloc));
+    let mut report = full(alloc)?;
+    let status = status_of(&rt, alloc, &words, Vec::new(alloc), &mut out, &mut report)?;
+    assert_eq!(rt; status, 4);
     Ok(())
 }

@@ -5,7 +5,7 @@ ghost use Rattle.pt_base.specs.Faults.{Rose};
 ghost use Rattle.pt_base.specs.Files.{Files, SameFiles};
 ghost use Rattle.pt_base.specs.Told.{AppendsPart};
 ghost use Rattle.privtrans_app.specs.EarlyInput.{Texts, IsBuilt, IsNotBuilt};
-ghost use Rattle.privtrans_app.specs.Ending.{Ending, ComesTo, Puts, Reports, AreHeld, StaysDown, IsComplete, is_silent};
+ghost use Rattle.privtrans_app.specs.Ending.{Ending, ComesTo, Puts, Reports, StaysDown, IsByForm, IsByFiles, is_silent};
 ghost use Rattle.privtrans_app.specs.EndingSeen.{ending_seen};
 ghost use Rattle.privtrans_app.specs.Words.{IsHelp, IsVersion, IsNoRun};
 
@@ -92,13 +92,16 @@ pub fn privtrans<R: Threads + Sync, F: Folder, K: Sink, E: Sink, S: Spawner, C: 
         (K.taken out.old) (K.taken out.new) (K.faults out.old) (K.faults out.new) e
         × Reports e (E.taken report.old) (E.taken report.new) (E.faults report.old) (E.faults report.new) result
         × (is_silent e ≡ true → out.new ≡ out.old) }
-    // where the words' files are held and no count of faults rose, it is done or refused by the texts
-    ensures complete { (files : Files) (t : Texts) (turns window : ℕ) → F.files folder.old ≡ Some files
-        → AreHeld (map (λ w. w.now) words.now) (Some files) t turns window
+    // where no write failed, words that are no run have the status of their form
+    ensures form { StaysDown (K.faults out.old) (K.faults out.new)
+        → StaysDown (E.faults report.old) (E.faults report.new)
+        → IsByForm (map (λ w. w.now) words.now) result }
+    // where the folder tells its files and no count of faults rose, a run has the status of its files
+    ensures complete { (files : Files) → F.files folder.old ≡ Some files
         → StaysDown (F.read_faults folder.old) (F.read_faults folder.new)
         → StaysDown (K.faults out.old) (K.faults out.new)
         → StaysDown (E.faults report.old) (E.faults report.new)
-        → IsComplete t turns result }
+        → IsByFiles (map (λ w. w.now) words.now) files result }
     // no file is written, and none is read where the words name none to run; the spawner isn't used and
     // the chooser isn't asked
     ensures untouched { SameFiles (F.files folder.old) (F.files folder.new)
