@@ -14,7 +14,7 @@ use Rattle.type_rules.specs.Types.{is_bad, value_type}
 use Rattle.typed_tree.specs.declared.types.VarTy.TheVariants as v
 use Rattle.typed_tree.specs.ExpressionTree.{ExprTree, expr_trees}
 use Rattle.typed_tree.specs.TypeTests as test
-use Rattle.typed_tree.specs.WellFormedExpression.{Names, is_typed, ty_of, is_elem, param_type, arguments_fit, all_typed, call_fits}
+use Rattle.typed_tree.specs.WellFormedExpression.{Names, is_typed, ty_of, param_type, arguments_fit, all_typed, call_fits}
 use Rattle.typed_tree.specs.WellFormedExpression as w
 use Rattle.declared_types.specs.declared.fault.FaultKind.TheVariants.{WrongType, OutOfProfile, ArgCount}
 use Rattle.declared_types.specs.Faults.{fault_at, fault_if}

@@ -1,5 +1,5 @@
 -- A function that gets a body without a fault.
-use Rattle.std.proofs.Common.{◌≡◌, ◌≤◌, ◌++◌, ◌∙◌, sym, ap, subst, refl, ℕ, zero, suc, Bool, true, false, List, [], ◌∷◌, length, arith, map, Option, Some, None, inl, inr, slice_set}
+use Rattle.std.proofs.Common.{◌≡◌, ◌++◌, ◌∙◌, sym, ap, subst, refl, ℕ, zero, suc, Bool, true, false, List, [], ◌∷◌, length, arith, map, Option, Some, None, inl, inr, slice_set}
 use Rattle.std.specs.Prelude.{IsTrue, ◌&&◌, ◌||◌, slice_get, option_map, is_some, nat_eq, codes, ◌⊎◌}
 use Rattle.std.specs.Option.{option_map_or}
 use Rattle.std.specs.List.{All, list_all}
@@ -8,7 +8,6 @@ use Rattle.std.proofs.lemmas.List.Elements.{All-nil, All-cons}
 use Rattle.pt_base.specs.declared.ids.FnId.{FnId}
 use Rattle.pt_base.specs.declared.int_type.IntType.{IntType}
 use Rattle.pt_base.specs.declared.int_type.IntType.TheVariants as int
-use Rattle.pt_tree.specs.declared.signature.Signature.{Signature}
 use Rattle.pt_tree.specs.Facts.{stmt_list_sound, stmt_sound, stmts_sound}
 use Rattle.pt_tree.specs.ProgramTree.{ItemTree, function}
 use Rattle.pt_tree.specs.ProgramTree as parsed
@@ -44,10 +43,10 @@ use Rattle.typed_programs.specs.declared.function_marks.FunctionMarks.{FunctionM
 use Rattle.typed_programs.specs.Functions.{var_of, with_parts, with_body, behind_body, is_int, is_start}
 use Rattle.typed_programs.specs.Progress.{Progress}
 use Rattle.typed_tree.proofs.WellFormedLemmas.{and_left, and_right}
-use Rattle.typed_programs_law.proofs.ListLemmas.{and_both, all_joined, all_weaker, all_get, all_pass, joined_none, get_kept, get_mapped, get_set, get_set_same, get_after_set, length_set, length_mapped, map_joined, IsSet, IsOther}
+use Rattle.typed_programs_law.proofs.ListLemmas.{and_both, all_joined, all_weaker, all_get, all_pass, joined_none, get_kept, get_mapped, get_set, get_set_same, get_after_set, length_set, length_mapped, map_joined}
 use Rattle.typed_programs_law.proofs.TableLemmas.{sought, name_self, name_same}
 use Rattle.typed_programs_law.proofs.TypeLemmas.{object_there, parameter_variable, params_lead_vars}
-use Rattle.typed_programs_law.proofs.Sound.{signatures, Extends, Grows, defines, SoundEntry, entry_kept, BodyHolds, is_file_entry, is_local_entry, HasObject, Known, SoundTables, HasStart, callable_kept, extends_back}
+use Rattle.typed_programs_law.proofs.Sound.{signatures, Extends, Grows, defines, SoundEntry, entry_kept, is_file_entry, is_local_entry, HasObject, Known, SoundTables, HasStart, callable_kept, extends_back}
 use Rattle.typed_programs_law.proofs.Opened.{Opened, params_sound, structs_many, some_same}
 
 pub constants_sound : (items : List StmtTree) → IsTrue (stmt_list_sound items) → IsTrue (stmts_sound (stmt_trees items))

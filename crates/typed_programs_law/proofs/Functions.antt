@@ -2,7 +2,6 @@
 use Rattle.std.proofs.Common.{◌≡◌, ◌++◌, ◌∙◌, sym, ap, subst, refl, ℕ, Bool, true, false, List, [], ◌∷◌, length, map, Option, Some, None, inl, inr}
 use Rattle.std.specs.Prelude.{IsTrue, ◌&&◌, ◌||◌, ◌⊎◌, is_some, codes, nat_eq}
 use Rattle.std.specs.Str.{bytes_eq}
-use Rattle.pt_base.specs.declared.ids.FnId.{FnId}
 use Rattle.pt_base.specs.declared.span.Span.{Span}
 use Rattle.pt_tree.specs.Facts.{body_sound}
 use Rattle.pt_tree.specs.ProgramTree.{ItemTree, function}
@@ -22,13 +21,13 @@ use Rattle.declared_types_law.specs.Laws.{SpecifiersAreSound, ObjectsAreSound, R
 use Rattle.typed_statements_law.specs.Laws.{BlocksAreKept, BodiesAreSound}
 use Rattle.typed_programs.specs.declared.function_marks.FunctionMarks.{FunctionMarks}
 use Rattle.typed_programs.specs.Blocks.{block_in}
-use Rattle.typed_programs.specs.Functions.{Head, head_of, clashes, function_in, number_in, declared_as, is_int, is_start, are_too_large, with_definition, with_head, with_start, completed, checked_function}
+use Rattle.typed_programs.specs.Functions.{Head, head_of, clashes, function_in, number_in, declared_as, is_int, is_start, are_too_large, with_definition, completed, checked_function}
 use Rattle.typed_programs.specs.Progress.{Progress}
 use Rattle.typed_programs_law.proofs.ListLemmas.{none_left, none_right, no_fault, joined_none, get_kept}
 use Rattle.typed_programs_law.proofs.TableLemmas.{sought}
-use Rattle.typed_programs_law.proofs.Sound.{defines, SoundTables, SoundProgress, HasStart, moved, tables_moved}
+use Rattle.typed_programs_law.proofs.Sound.{defines, SoundTables, SoundProgress, HasStart, tables_moved}
 use Rattle.typed_programs_law.proofs.Parameters.{SoundParams}
-use Rattle.typed_programs_law.proofs.Heads.{SoundHead, sound_head}
+use Rattle.typed_programs_law.proofs.Heads.{sound_head}
 use Rattle.typed_programs_law.proofs.Opened.{Opened, old_opened, new_opened, find_is}
 use Rattle.typed_programs_law.proofs.Bodies.{behind, behind_start}
 

@@ -1,20 +1,18 @@
 -- Declarations at file scope without a fault.
-use Rattle.std.proofs.Common.{◌≡◌, ◌≤◌, ◌+◌, ◌++◌, ◌∙◌, sym, ap, subst, refl, ℕ, suc, ℤ, pos, Bool, true, false, List, [], ◌∷◌, length, arith, map, take, ◌-◌, Option, Some, None, inl, inr, not, if◌then◌else◌}
-use Rattle.std.specs.Prelude.{IsTrue, ◌&&◌, nat_lt, nat_le, slice_get, sum_by, is_none, replicate}
+use Rattle.std.proofs.Common.{◌≡◌, ◌≤◌, ◌+◌, ◌++◌, ◌∙◌, sym, ap, subst, refl, ℕ, suc, ℤ, pos, Bool, true, false, List, [], ◌∷◌, length, arith, take, ◌-◌, Option, Some, None, inl, inr, not, if◌then◌else◌}
+use Rattle.std.specs.Prelude.{IsTrue, ◌&&◌, nat_lt, nat_le, slice_get, sum_by, replicate}
 use Rattle.std.specs.Str.{bytes_eq}
 use Rattle.std.proofs.lemmas.Bool.Decides.{nat_tests}
 use Rattle.std.proofs.lemmas.List.{length-take, length-replicate}
 use Rattle.std.proofs.lemmas.List.Sums.{sum_by-append}
-use Rattle.std.specs.List.{list_all}
 use Rattle.pt_base.specs.declared.ids.FnId.{FnId}
-use Rattle.pt_tree.specs.declared.specifier.Declarator.{Declarator}
 use Rattle.pt_tree.specs.ProgramTree.{ItemTree, declares}
 use Rattle.pt_tree.specs.StatementTree.{InitDeclaratorTree, DeclarationTree}
 use Rattle.type_rules.specs.declared.types.Type.{«Type»}
 use Rattle.typed_tree.specs.declared.types.StructInfo.{StructInfo}
 use Rattle.typed_tree.specs.declared.variable.TypedGlobal.{TypedGlobal}
 use Rattle.typed_tree.specs.Cells as typed
-use Rattle.typed_tree.specs.TypedTree.{FunctionTree, TypedTree}
+use Rattle.typed_tree.specs.TypedTree.{TypedTree}
 use Rattle.typed_tree.specs.WellFormed.{is_plain_type, is_small, cells_fit, global_sound}
 use Rattle.declared_types.specs.declared.fault.FaultKind.TheVariants.{Redeclared, TooLarge}
 use Rattle.declared_types.specs.declared.objects.ObjectKind.TheVariants as kind
@@ -22,14 +20,14 @@ use Rattle.declared_types.specs.declared.specifiers.Specified.{Specified}
 use Rattle.declared_types.specs.Cells.{cells_of}
 use Rattle.declared_types.specs.Faults.{fault_if}
 use Rattle.declared_types.specs.Marks.{mark_faults}
-use Rattle.declared_types.specs.NameTables.{is_new, with_name}
+use Rattle.declared_types.specs.NameTables.{is_new}
 use Rattle.declared_types.specs.Objects.{object_faults, size_faults}
 use Rattle.declared_types.specs.Specifiers.{specified}
 use Rattle.declared_types.specs.Structs.{Structs}
 use Rattle.typed_expressions.specs.declared.meaning.Meaning.{Meaning}
-use Rattle.typed_expressions.specs.declared.meaning.Meaning.TheVariants.{Function, Global, Local}
+use Rattle.typed_expressions.specs.declared.meaning.Meaning.TheVariants.{Function, Global}
 use Rattle.typed_expressions.specs.declared.meaning.Object.{Object}
-use Rattle.typed_expressions.specs.Environment.{Env, Scope, with_global}
+use Rattle.typed_expressions.specs.Environment.{Env, with_global}
 use Rattle.typed_expressions.specs.StructInfos.{object_type_of, infos_of, struct_info}
 use Rattle.typed_statements.specs.Declarations.{carrier_of}
 use Rattle.typed_statements.specs.GlobalInitialisers.{GlobalInit, global_initialised}
@@ -38,15 +36,14 @@ use Rattle.declared_types_law.specs.Types.{is_base, is_plain}
 use Rattle.declared_types_law.specs.Sound.{SoundStructs}
 use Rattle.declared_types_law.specs.Laws.{SpecifiersAreSound, ObjectsAreSound, SizesAreSound, LeavesAreSound}
 use Rattle.typed_programs.specs.declared.function_marks.FunctionMarks.{FunctionMarks}
-use Rattle.typed_programs.specs.Globals.{globals_limit, global_type, object_of, cells_with, brings_over, padded, start_cells, typed_global, global_faults, declared_one, declared_all, checked_declaration}
+use Rattle.typed_programs.specs.Globals.{globals_limit, global_type, object_of, cells_with, brings_over, padded, start_cells, typed_global, declared_one, declared_all, checked_declaration}
 use Rattle.typed_programs.specs.Progress.{Progress}
-use Rattle.typed_tree.proofs.WellFormedLemmas.{and_left, and_right}
 use Rattle.typed_programs_law.proofs.ListLemmas.{none_left, none_right, no_fault, and_both, all_joined, joined_none, length_joined, length_mapped, length_pushed, get_kept, get_last, get_pushed, IsLast}
 use Rattle.typed_programs_law.proofs.TableLemmas.{sought, none_where_new, sought_pushed, sought_kept, pushed}
 use Rattle.typed_programs_law.proofs.TypeLemmas.{plain_fine, plain_more, plain_type, plain_variable, object_there}
-use Rattle.typed_programs_law.proofs.Sound.{Extends, Grows, defines, SoundEntry, entry_kept, is_file_meaning, is_file_entry, HasObject, Known, SoundTables, SoundProgress, HasStart, object_kept, extends_back, moved, tables_moved}
+use Rattle.typed_programs_law.proofs.Sound.{Extends, Grows, defines, entry_kept, is_file_meaning, is_file_entry, HasObject, Known, SoundTables, SoundProgress, HasStart, object_kept, extends_back, tables_moved}
 use Rattle.typed_programs_law.proofs.Opened.{some_same, files_more}
-use Rattle.typed_programs_law.proofs.Values.{SoundInit, init_sound, padded_fits}
+use Rattle.typed_programs_law.proofs.Values.{init_sound, padded_fits}
 
 -- ---- cells
 

@@ -1,5 +1,5 @@
 -- A function's declarator without a fault.
-use Rattle.std.proofs.Common.{◌≡◌, ◌≤◌, ◌++◌, ◌∙◌, sym, ap, subst, refl, ℕ, Bool, true, false, List, [], ◌∷◌, length, arith, map}
+use Rattle.std.proofs.Common.{◌≡◌, ◌++◌, ◌∙◌, sym, ap, subst, refl, ℕ, true, [], ◌∷◌, length, arith, map}
 use Rattle.std.specs.Prelude.{IsTrue, is_some}
 use Rattle.std.specs.List.{list_all}
 use Rattle.pt_tree.specs.ProgramTree as parsed
@@ -14,7 +14,7 @@ use Rattle.declared_types_law.specs.Types.{is_parameter, is_result}
 use Rattle.declared_types_law.specs.Sound.{SoundStructs}
 use Rattle.declared_types_law.specs.Laws.{SpecifiersAreSound, ObjectsAreSound, ResultsAreSound}
 use Rattle.typed_programs.specs.declared.function_marks.FunctionMarks.{FunctionMarks}
-use Rattle.typed_programs.specs.Parameters.{parameters_of, declared_all}
+use Rattle.typed_programs.specs.Parameters.{parameters_of}
 use Rattle.typed_programs.specs.Functions.{Head, head_of, result_of, params_of_function}
 use Rattle.typed_programs.specs.Progress.{Progress}
 use Rattle.typed_programs_law.proofs.ListLemmas.{none_left, none_right}

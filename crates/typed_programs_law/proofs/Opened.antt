@@ -1,38 +1,35 @@
 -- A function that is declared, whose scope is open.
-use Rattle.std.proofs.Common.{◌≡◌, ◌≤◌, ◌<◌, ◌+◌, ◌++◌, ◌∙◌, sym, ap, subst, refl, ℕ, suc, Bool, true, false, List, [], ◌∷◌, length, arith, map, Option, Some, None, not, if◌then◌else◌, inl, inr}
-use Rattle.std.specs.Prelude.{IsTrue, ◌&&◌, ◌||◌, nat_lt, nat_le, nat_eq, slice_get, option_map, is_some}
+use Rattle.std.proofs.Common.{◌≡◌, ◌≤◌, ◌+◌, ◌++◌, ◌∙◌, sym, ap, subst, refl, ℕ, suc, Bool, true, false, List, [], ◌∷◌, length, arith, map, Option, Some, None, not, if◌then◌else◌, inl, inr}
+use Rattle.std.specs.Prelude.{IsTrue, ◌&&◌, ◌||◌, nat_lt, nat_le, nat_eq, slice_get, is_some}
 use Rattle.std.specs.Option.{option_map_or}
 use Rattle.std.specs.List.{list_all}
 use Rattle.std.specs.Str.{bytes_eq}
 use Rattle.std.proofs.lemmas.Bool.Decides.{nat_tests}
 use Rattle.pt_base.specs.declared.ids.FnId.{FnId}
 use Rattle.pt_base.specs.declared.span.Span.{Span}
-use Rattle.pt_tree.specs.declared.signature.Signature.{Signature}
 use Rattle.pt_tree.specs.ProgramTree.{ItemTree}
 use Rattle.type_rules.specs.declared.types.Type.{«Type»}
 use Rattle.type_rules.specs.Types.{is_integer}
 use Rattle.typed_tree.specs.declared.types.StructInfo.{StructInfo}
-use Rattle.typed_tree.specs.declared.variable.TypedGlobal.{TypedGlobal}
 use Rattle.typed_tree.specs.TypedTree.{FunctionTree, TypedTree}
 use Rattle.typed_tree.specs.WellFormed.{variable_sound, is_variable_type, is_small, params_lead, is_integer_param}
-use Rattle.declared_types.specs.NameTables.{Named, number_of, is_new, with_name}
+use Rattle.declared_types.specs.NameTables.{number_of}
 use Rattle.typed_expressions.specs.declared.meaning.Callable.{Callable}
-use Rattle.typed_expressions.specs.declared.meaning.Object.{Object}
 use Rattle.typed_expressions.specs.declared.meaning.Meaning.{Meaning}
 use Rattle.typed_expressions.specs.declared.meaning.Meaning.TheVariants.{Function, Global, Local}
 use Rattle.typed_expressions.specs.declared.meaning.Variable.{Variable}
-use Rattle.typed_expressions.specs.Environment.{Env, Scope, find_in, meaning_at, function_at, with_function}
+use Rattle.typed_expressions.specs.Environment.{Scope, find_in, meaning_at}
 use Rattle.typed_expressions.specs.Operands.{var_type}
-use Rattle.typed_expressions.specs.StructInfos.{object_type_of, infos_of, struct_info}
+use Rattle.typed_expressions.specs.StructInfos.{object_type_of, struct_info}
 use Rattle.declared_types_law.specs.Types.{is_parameter, is_result}
 use Rattle.typed_expressions_law.specs.Agreement.{HasCallable}
 use Rattle.typed_programs.specs.declared.function_marks.FunctionMarks.{FunctionMarks}
-use Rattle.typed_programs.specs.Functions.{agree, all_agree, differ, has_body, has_other_types, clashes, function_in, var_of, signature_of, entry_of, number_in, declared_as}
+use Rattle.typed_programs.specs.Functions.{agree, all_agree, differ, has_body, has_other_types, clashes, var_of, entry_of, declared_as}
 use Rattle.typed_programs.specs.Progress.{Progress}
 use Rattle.typed_programs_law.proofs.ListLemmas.{and_both, all_joined, all_weaker, length_pushed, length_joined, length_mapped, map_joined, joined_none, get_kept, get_last, get_pushed, get_below, get_within, get_mapped, IsLast}
 use Rattle.typed_programs_law.proofs.TableLemmas.{sought, value_of, found, name_self, name_same, new_where_none, sought_pushed, sought_kept, pushed}
 use Rattle.typed_programs_law.proofs.TypeLemmas.{result_fine, agree_same, all_agree_same, result_given, params_taken, params_many, params_lead_vars, integers_taken, parameter_variable, variable_more, variable_type, parameter_small}
-use Rattle.typed_programs_law.proofs.Sound.{signatures, Extends, Grows, defines, SoundEntry, entry_kept, BodyHolds, is_file_meaning, is_file_entry, HasObject, Known, SoundTables, callable_kept, extends_back}
+use Rattle.typed_programs_law.proofs.Sound.{signatures, Extends, Grows, defines, SoundEntry, entry_kept, is_file_meaning, is_file_entry, Known, SoundTables, callable_kept, extends_back}
 use Rattle.typed_programs_law.proofs.Parameters.{SoundParams}
 use Rattle.typed_tree.proofs.WellFormedLemmas.{and_left, and_right}
 

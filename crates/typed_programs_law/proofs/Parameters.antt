@@ -1,6 +1,6 @@
 -- The parameters of a function whose declarator has no fault.
-use Rattle.std.proofs.Common.{◌≡◌, ◌≤◌, ◌+◌, ◌++◌, ◌∙◌, sym, ap, subst, refl, ℕ, suc, Bool, true, false, List, [], ◌∷◌, length, arith, map, Option, Some, None, not, if◌then◌else◌}
-use Rattle.std.specs.Prelude.{IsTrue, ◌&&◌, ◌||◌, nat_lt, nat_eq, is_some, slice_get}
+use Rattle.std.proofs.Common.{◌≡◌, ◌≤◌, ◌+◌, ◌++◌, ◌∙◌, sym, ap, subst, refl, ℕ, suc, Bool, true, false, List, [], ◌∷◌, length, arith, map, not, if◌then◌else◌}
+use Rattle.std.specs.Prelude.{IsTrue, ◌&&◌, ◌||◌, nat_lt, nat_eq, is_some}
 use Rattle.std.specs.List.{list_all}
 use Rattle.std.proofs.lemmas.Bool.Decides.{nat_tests}
 use Rattle.pt_tree.specs.declared.specifier.Suffix.{Suffix}
@@ -15,15 +15,15 @@ use Rattle.declared_types.specs.declared.specifiers.Specified.{Specified}
 use Rattle.declared_types.specs.Faults.{fault_if}
 use Rattle.declared_types.specs.NameTables.{is_new, with_name}
 use Rattle.declared_types.specs.Objects.{object_faults, object_type, is_array_form, is_wrong_base, is_wrong_form}
-use Rattle.declared_types.specs.Specifiers.{Judged, specified}
+use Rattle.declared_types.specs.Specifiers.{specified}
 use Rattle.declared_types.specs.Structs.{Structs}
 use Rattle.typed_expressions.specs.declared.meaning.Meaning.{Meaning}
 use Rattle.typed_expressions.specs.declared.meaning.Meaning.TheVariants.{Function, Global, Local}
 use Rattle.typed_expressions.specs.declared.meaning.Variable.{Variable}
-use Rattle.typed_expressions.specs.Environment.{Env, Scope, with_variable, with_unnamed, bind_inner}
+use Rattle.typed_expressions.specs.Environment.{Env, Scope, bind_inner}
 use Rattle.declared_types_law.specs.Types.{is_base, is_parameter}
 use Rattle.declared_types_law.specs.Sound.{SoundStructs}
-use Rattle.declared_types_law.specs.Laws.{SoundJudged, SpecifiersAreSound, ObjectsAreSound}
+use Rattle.declared_types_law.specs.Laws.{SpecifiersAreSound, ObjectsAreSound}
 use Rattle.typed_programs.specs.declared.function_marks.FunctionMarks.{FunctionMarks}
 use Rattle.typed_programs.specs.Parameters.{is_pointer_form, is_host_pointer, is_refused, lacks_name, place_of, param_type, param_variable, param_faults, attribute_faults, is_repeated, with_param, Declared, declared_one, declared_all}
 use Rattle.typed_programs_law.proofs.ListLemmas.{none_left, none_right, no_fault, and_both, all_joined, all_weaker, length_pushed, map_joined}

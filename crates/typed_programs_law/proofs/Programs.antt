@@ -1,5 +1,5 @@
 -- A program without a fault, by its items in order.
-use Rattle.std.proofs.Common.{◌≡◌, ◌≤◌, ◌<◌, ◌*◌, ◌^◌, ◌+◌, ◌++◌, ◌∙◌, sym, ap, subst, refl, ℕ, zero, suc, Bool, true, false, List, [], ◌∷◌, length, arith, map, fold, Option, Some, None, not, if◌then◌else◌}
+use Rattle.std.proofs.Common.{◌≡◌, ◌≤◌, ◌<◌, ◌*◌, ◌^◌, ◌+◌, ◌∙◌, sym, ap, subst, refl, ℕ, suc, Bool, true, false, List, [], ◌∷◌, length, arith, map, fold, Option, Some, None, not, if◌then◌else◌}
 use Rattle.std.specs.Prelude.{IsTrue, ◌&&◌, ◌||◌, nat_lt, nat_le, nat_eq, slice_get, sum_by, is_some}
 use Rattle.std.specs.List.{list_all, list_any}
 use Rattle.std.specs.Str.{bytes_eq}
@@ -12,7 +12,7 @@ use Rattle.typed_tree.specs.Nodes as typed
 use Rattle.typed_tree.specs.StatementTree.{BodyTree}
 use Rattle.typed_tree.specs.TypedTree as tree
 use Rattle.typed_tree.specs.TypedTree.{TypedTree}
-use Rattle.typed_tree.specs.WellFormed.{structs_sound, global_sound, globals_small, variable_sound, params_lead, host_sound, is_integer_param, is_block, scope_in, body_sound as typed_body, function_sound, name_of, are_distinct, is_start, numbers_sound, is_well_formed}
+use Rattle.typed_tree.specs.WellFormed.{structs_sound, global_sound, globals_small, variable_sound, params_lead, is_integer_param, is_block, scope_in, body_sound as typed_body, function_sound, name_of, are_distinct, is_start, numbers_sound, is_well_formed}
 use Rattle.typed_tree.specs.WellFormedStatement.{is_sound}
 use Rattle.declared_types.specs.declared.fault.FaultKind.TheVariants.{NoMain}
 use Rattle.typed_expressions.specs.declared.meaning.Meaning.{Meaning}
@@ -24,14 +24,14 @@ use Rattle.typed_statements_law.specs.Laws.{BlocksAreKept, BodiesAreSound}
 use Rattle.typed_programs.specs.declared.function_marks.FunctionMarks.{FunctionMarks}
 use Rattle.typed_programs.specs.Functions.{Checked}
 use Rattle.typed_programs.specs.Progress.{Progress, at_start}
-use Rattle.typed_programs.specs.Programs.{checked_item, checked_items, function_name, tree_of, nowhere, main_faults, checked_program, type_faults}
+use Rattle.typed_programs.specs.Programs.{checked_item, checked_items, function_name, tree_of, nowhere, main_faults}
 use Rattle.typed_programs.specs.Unions.{declarations_of, undeclared, with_declaration, function_marks}
 use Rattle.typed_tree.proofs.WellFormedLemmas.{and_left, and_right}
 use Rattle.typed_sizes_law.specs.Laws.{TypedTreesAreSmall}
 use Rattle.typed_programs_law.specs.Laws.{ProgramsAreWellFormed}
-use Rattle.typed_programs_law.proofs.ListLemmas.{none_left, none_right, no_fault, and_both, all_of, any_of, joined_none, get_below, get_within}
+use Rattle.typed_programs_law.proofs.ListLemmas.{none_left, none_right, no_fault, and_both, all_of, any_of, joined_none}
 use Rattle.typed_programs_law.proofs.TableLemmas.{sought, name_same}
-use Rattle.typed_programs_law.proofs.Sound.{Extends, defines, BodyHolds, SoundEntry, SoundTables, SoundProgress, HasStart}
+use Rattle.typed_programs_law.proofs.Sound.{Extends, defines, BodyHolds, SoundEntry, SoundTables, SoundProgress}
 use Rattle.typed_programs_law.proofs.Opened.{some_same}
 use Rattle.typed_programs_law.proofs.Functions.{function_step}
 use Rattle.typed_programs_law.proofs.Globals.{declaration_step}

@@ -1,6 +1,5 @@
 -- What a name means in a table, and in one with a name more.
-use Rattle.std.proofs.Common.{◌≡◌, ◌<◌, ◌+◌, ◌++◌, ◌∙◌, sym, ap, refl, ℕ, zero, suc, Bool, true, false, List, [], ◌∷◌, length, arith, cond, nat_lt, not, Option, Some, None, inl, inr, if◌then◌else◌, is_none}
-use Rattle.std.specs.Prelude.{IsTrue, ◌⊎◌, slice_get, option_map, position}
+use Rattle.std.proofs.Common.{◌≡◌, ◌<◌, ◌+◌, ◌++◌, ◌∙◌, sym, ap, refl, ℕ, zero, suc, Bool, true, false, List, [], ◌∷◌, length, arith, cond, nat_lt, not, Option, Some, None, if◌then◌else◌, is_none}
 use Rattle.std.specs.List.{prefix_len}
 use Rattle.std.specs.Str.{bytes_eq}
 use Rattle.std.proofs.lemmas.Bool.Decides.{nat_tests}

@@ -1,6 +1,6 @@
 -- Good types, and what the typed tree makes of them.
-use Rattle.std.proofs.Common.{◌≡◌, ◌≤◌, ◌+◌, ◌++◌, ◌∙◌, sym, ap, subst, refl, ℕ, suc, Bool, true, false, List, [], ◌∷◌, length, arith, map, Option, Some, None, nat_eq}
-use Rattle.std.specs.Prelude.{IsTrue, ◌&&◌, nat_lt, nat_le, option_map, not}
+use Rattle.std.proofs.Common.{◌≡◌, ◌≤◌, ◌+◌, ◌++◌, ◌∙◌, sym, ap, subst, refl, ℕ, suc, Bool, true, false, List, [], ◌∷◌, length, arith, map, Some, nat_eq}
+use Rattle.std.specs.Prelude.{IsTrue, nat_lt, nat_le, option_map}
 use Rattle.std.specs.List.{list_all}
 use Rattle.std.proofs.lemmas.Bool.Decides.{nat_tests}
 use Rattle.pt_base.specs.declared.int_type.IntType.{IntType}
@@ -10,7 +10,7 @@ use Rattle.pt_tree.specs.declared.signature.Param.{Param}
 use Rattle.pt_tree.specs.declared.signature.Elem.TheVariants as elem
 use Rattle.type_rules.specs.declared.types.Type.{«Type»}
 use Rattle.type_rules.specs.declared.types.Type.TheVariants.{Bad, Void, Int, Struct, Array, Pointer}
-use Rattle.type_rules.specs.Types.{is_bad, is_integer, is_same_int, is_same_elem}
+use Rattle.type_rules.specs.Types.{is_bad, is_integer, is_same_elem}
 use Rattle.type_rules.proofs.TypeLemmas.{same_int, same_elem}
 use Rattle.typed_tree.specs.declared.types.StructInfo.{StructInfo}
 use Rattle.typed_tree.specs.declared.types.VarTy.{VarTy}

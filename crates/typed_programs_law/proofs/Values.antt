@@ -1,10 +1,9 @@
 -- What a global starts with, where its initialiser has no fault: numbers in the ranges of its integers.
-use Rattle.std.proofs.Common.{◌≡◌, ◌+◌, ◌-◌, ◌++◌, ◌∙◌, sym, ap, subst, refl, ℕ, zero, suc, ℤ, pos, Bool, true, false, List, [], ◌∷◌, length, arith, map, take, Option, Some, None}
+use Rattle.std.proofs.Common.{◌≡◌, ◌+◌, ◌-◌, ◌++◌, ◌∙◌, sym, ap, subst, refl, ℕ, suc, ℤ, pos, Bool, true, false, List, [], ◌∷◌, length, arith, map, take, Option, Some, None}
 use Rattle.std.specs.Prelude.{IsTrue, ◌&&◌, ◌≤ℤ◌, int_le, not, is_some, slice_get, replicate}
 use Rattle.std.proofs.lemmas.Int.{ints}
 use Rattle.pt_base.specs.declared.int_type.IntType.{IntType}
 use Rattle.pt_base.specs.declared.int_type.IntType.TheVariants as t
-use Rattle.pt_base.specs.declared.span.Span.{Span}
 use Rattle.pt_base.specs.IntTypes.{InRange, low_of, high_of}
 use Rattle.pt_int.specs.Conversion.{conv, is_in_range}
 use Rattle.pt_int.proofs.Conversions.{conv-in_range}
