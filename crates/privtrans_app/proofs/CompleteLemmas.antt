@@ -1,5 +1,5 @@
 -- Where no count of faults rose, a call has the status of its words and files.
-use Rattle.std.proofs.Common.{◌≡◌, ◌⊎◌, ℕ, List, [], length, get_or, refl, sym, ◌∙◌, ap, subst, arith, Option, Some, None, inl, inr}
+use Rattle.std.proofs.Common.{◌≡◌, ◌⊎◌, ℕ, List, [], length, get_or, sym, ◌∙◌, ap, subst, arith, Option, Some, None, inl, inr}
 use Rattle.pt_base.specs.Faults.{Rose}
 use Rattle.pt_base.specs.Files.{Files, Lacks}
 use Rattle.privtrans_app.specs.Words.{IsHelp, IsVersion, IsLocal, IsNoForm}

@@ -1,6 +1,5 @@
 // How a host that answers every call alike answers one.
 ghost use Rattle.std.specs.Prelude.{◌≡◌, ◌++◌, [], true, IfOk, OnOk};
-ghost use Rattle.std.specs.Fmt.{signed_decimal};
 ghost use Rattle.pt_tree.specs.HostStep.{spaced, host_step};
 ghost use Rattle.privtrans_app.specs.EarlyPair.{bytes_of};
 ghost use Rattle.privtrans_app.specs.EarlyRun.{is_steady};

@@ -1,10 +1,10 @@
 // What an early program is to keep beside its grammar: its names, its hosts and its calls.
-ghost use Rattle.std.specs.Prelude.{◌≡◌, ◌≤◌, ◌+◌, ◌^◌, ◌<◌, IfOk, IsTrue, MatchOption, true, false, length};
+ghost use Rattle.std.specs.Prelude.{◌≡◌, ◌≤◌, ◌<◌, IfOk, IsTrue, MatchOption, true, false};
 ghost use Rattle.privtrans_app.specs.Names.{is_in, all_differ};
 ghost use Rattle.privtrans_app.specs.Index.{names_listed};
 ghost use Rattle.privtrans_app.specs.Lookup.{AreNamesOf};
 ghost use Rattle.privtrans_app.specs.EarlyTree.{names_of};
-ghost use Rattle.privtrans_app.specs.EarlyConditions.{host_of, has_marked, host_is_good, hosts_are_good, arg_is_good, args_are_good, callee_is_good, call_is_good, source_is_good, statement_is_good, statements_are_good, names_are_good, param_names, calls_in, call_count};
+ghost use Rattle.privtrans_app.specs.EarlyConditions.{has_marked, host_is_good, hosts_are_good, args_are_good, call_is_good, source_is_good, statement_is_good, statements_are_good, names_are_good, param_names, calls_in, call_count};
 
 use crate::early::{Arg, Call, Host, HostParam, Program, Source, Statement};
 use crate::lookup::{Names, host_named, index_hosts, index_variables};

@@ -1,5 +1,5 @@
 // Lists of parts of an early program, of which each reads itself.
-ghost use Rattle.std.specs.Prelude.{◌≡◌, ◌<◌, length, List, Option, IfOk, Some};
+ghost use Rattle.std.specs.Prelude.{◌<◌, length, List, Option, IfOk};
 ghost use Rattle.privtrans_app.specs.EarlySteps.{Gives, many};
 ghost use Rattle.privtrans_app.specs.declared.early_token.Token.{Token};
 

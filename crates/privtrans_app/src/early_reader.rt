@@ -1,5 +1,5 @@
 // The tree of an early text.
-ghost use Rattle.std.specs.Prelude.{◌≡◌, IfOk, MatchOption};
+ghost use Rattle.std.specs.Prelude.{IfOk, MatchOption};
 ghost use Rattle.privtrans_app.specs.declared.early.Program.{Program};
 ghost use Rattle.privtrans_app.specs.EarlySteps.{Gives};
 ghost use Rattle.privtrans_app.specs.EarlyText.{IsEarlyText, OneTree, program_of};

@@ -1,5 +1,5 @@
 // The hosts and variables of an early program, by their names.
-ghost use Rattle.std.specs.Prelude.{◌≡◌, ◌<◌, ◌∷◌, ◌++◌, [], length, Some, None, MatchOption, IfOk, IfSome, option_map, true, false, ◌&&◌, not};
+ghost use Rattle.std.specs.Prelude.{◌≡◌, ◌<◌, [], length, Some, None, MatchOption, IfOk, IfSome, option_map, true, false};
 ghost use Rattle.privtrans_app.specs.Names.{place_in, fresh};
 ghost use Rattle.privtrans_app.specs.Index.{names_listed};
 ghost use Rattle.privtrans_app.specs.EarlyTree.{names_of};

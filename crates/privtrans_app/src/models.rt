@@ -1,8 +1,8 @@
 // Reads the host table of an early program.
-ghost use Rattle.std.specs.Prelude.{◌≡◌, IfOk, length, map, option_map};
+ghost use Rattle.std.specs.Prelude.{◌≡◌, IfOk, map, option_map};
 ghost use Rattle.serde_json.specs.Find.{get};
 ghost use Rattle.serde_json.specs.View.{view};
-ghost use Rattle.privtrans_app.specs.EarlyHosts.{each, items_in, two_of, int_of, ints_of, row_of, rows_of, other_of, table_of, has_kind, host_model, entry_model, models_of, table_models};
+ghost use Rattle.privtrans_app.specs.EarlyHosts.{each, items_in, int_of, ints_of, row_of, table_of, has_kind, host_model, models_of, table_models};
 
 use crate::early::Host;
 use pt_base::{Bytes, Listed};

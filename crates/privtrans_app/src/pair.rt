@@ -1,12 +1,10 @@
 // The two halves at work: the slave goes through main's statements, the monitor keeps the values of
 // handles and answers privileged calls.
-ghost use Rattle.std.specs.Prelude.{◌≡◌, ◌<◌, ◌++◌, ◌∷◌, [], true, length, IfOk, OnOk, Some, slice_set, slice_index_or};
-ghost use Rattle.privtrans_app.specs.Names.{place_in};
+ghost use Rattle.std.specs.Prelude.{◌≡◌, ◌<◌, ◌++◌, ◌∷◌, [], true, length, IfOk, OnOk, Some};
 ghost use Rattle.privtrans_app.specs.Index.{names_listed};
 ghost use Rattle.privtrans_app.specs.Lookup.{AreNamesOf};
 ghost use Rattle.privtrans_app.specs.EarlyTree.{names_of};
-ghost use Rattle.privtrans_app.specs.EarlyConditions.{host_of};
-ghost use Rattle.privtrans_app.specs.EarlyPair.{args_held, replied, host_called, call_made, holds_from_now, source_done, done, all_done, pair_start, pair_run, model_at};
+ghost use Rattle.privtrans_app.specs.EarlyPair.{args_held, replied, host_called, call_made, holds_from_now, source_done, done, pair_run};
 ghost use Rattle.privtrans_app.specs.EarlyRun.{is_steady, AreSteady};
 ghost use Rattle.privtrans_app.specs.PairView.{pair_of};
 

@@ -1,8 +1,8 @@
 // Reads an early policy.
-ghost use Rattle.std.specs.Prelude.{◌≡◌, ◌≢◌, ◌<◌, ◌≤◌, ◌++◌, ℕ, List, Some, IsTrue, IfOk, IfSome, IfNone, MatchOption, length, map, option_map};
+ghost use Rattle.std.specs.Prelude.{◌≡◌, ◌≢◌, ◌<◌, ◌++◌, ℕ, List, Some, IsTrue, IfOk, IfSome, IfNone, MatchOption, length, map, option_map};
 ghost use Rattle.std.specs.List.{list_all, take_while};
 ghost use Rattle.privtrans_app.specs.Index.{names_listed};
-ghost use Rattle.privtrans_app.specs.EarlyPolicy.{is_state_byte, is_state, is_word_byte, is_word, line_of, spelled_policy, IsSpelling, privileged_names, all_in, SameNames, IsEarlyPolicy};
+ghost use Rattle.privtrans_app.specs.EarlyPolicy.{is_state_byte, is_state, is_word_byte, is_word, line_of, IsSpelling, privileged_names, all_in, SameNames, IsEarlyPolicy};
 
 use crate::early::Host;
 use crate::index::Index;

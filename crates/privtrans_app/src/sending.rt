@@ -1,7 +1,7 @@
 // What the slave sends, and what both halves make of it.
-ghost use Rattle.std.specs.Prelude.{◌≡◌, ◌++◌, IfOk, pos, slice_index_or};
+ghost use Rattle.std.specs.Prelude.{◌≡◌, IfOk, pos, slice_index_or};
 ghost use Rattle.privtrans_app.specs.Index.{names_listed};
-ghost use Rattle.privtrans_app.specs.EarlyPair.{revealed, plain_of, arg_held, sent_for, sent, args_held, call_numbers};
+ghost use Rattle.privtrans_app.specs.EarlyPair.{revealed, plain_of, arg_held, sent, args_held, call_numbers};
 
 use crate::early::{Arg, HostParam};
 use crate::held::Held;

@@ -1,12 +1,10 @@
 // Which variables may hold handles, and whether one of them goes where a number belongs.
-ghost use Rattle.std.specs.Prelude.{◌≡◌, ◌<◌, ◌+◌, ◌++◌, ◌∷◌, [], IfOk, IfSome, length, All, not, true, false};
-ghost use Rattle.propagation.specs.Marks.{AreMarks, path_shown};
-ghost use Rattle.privtrans_app.specs.Names.{place_in};
+ghost use Rattle.std.specs.Prelude.{◌≡◌, ◌<◌, ◌+◌, IfOk, IfSome, length, All, not, true, false};
 ghost use Rattle.privtrans_app.specs.Index.{names_listed};
 ghost use Rattle.privtrans_app.specs.Lookup.{AreNamesOf};
 ghost use Rattle.privtrans_app.specs.EarlyTree.{names_of};
 ghost use Rattle.privtrans_app.specs.EarlyConditions.{host_of};
-ghost use Rattle.privtrans_app.specs.EarlyTaint.{slot_of, is_sealed, sources, copies, params_of, args_keep, arg_keeps, call_keeps, statement_keeps, statements_keep, marked_tainted, KeepsTaint, sealed_target_of, copied_by};
+ghost use Rattle.privtrans_app.specs.EarlyTaint.{slot_of, is_sealed, sources, copies, args_keep, arg_keeps, call_keeps, statement_keeps, statements_keep, marked_tainted, KeepsTaint, sealed_target_of, copied_by};
 
 use crate::early::{Arg, Call, Host, HostParam, Program, Source, Statement};
 use crate::lookup::{Names, host_named};

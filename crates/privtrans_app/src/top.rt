@@ -1,13 +1,9 @@
 // The top call.
-ghost use Rattle.std.specs.Prelude.{◌≡◌, ◌⊎◌, ◌≤◌, ℕ, true, List, Option, Some, IfSome, map, codes};
-ghost use Rattle.std.specs.Io.KnownBytes.{Appends};
-ghost use Rattle.pt_base.specs.Faults.{Rose};
+ghost use Rattle.std.specs.Prelude.{◌≡◌, ◌≤◌, true, Some, map};
 ghost use Rattle.pt_base.specs.Files.{Files, SameFiles};
-ghost use Rattle.pt_base.specs.Told.{AppendsPart};
-ghost use Rattle.privtrans_app.specs.EarlyInput.{Texts, IsBuilt, IsNotBuilt};
 ghost use Rattle.privtrans_app.specs.Ending.{Ending, ComesTo, Puts, Reports, StaysDown, IsByForm, IsByFiles, is_silent};
 ghost use Rattle.privtrans_app.specs.EndingSeen.{ending_seen};
-ghost use Rattle.privtrans_app.specs.Words.{IsHelp, IsVersion, IsNoRun};
+ghost use Rattle.privtrans_app.specs.Words.{IsNoRun};
 
 use crate::ending::{Ending as Came, report, status};
 use crate::help::{HELP, VERSION};
