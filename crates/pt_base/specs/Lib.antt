@@ -3,6 +3,7 @@ pub mod Faults
 pub mod Files
 pub mod Held
 pub mod IntTypes
+pub mod Names
 pub mod Objects
 pub mod Pieces
 pub mod Script

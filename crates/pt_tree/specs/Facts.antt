@@ -1,7 +1,10 @@
--- What is kept of each parsed program: how many nodes it has, and that its constants are in range.
+-- What is kept of each parsed program beside the number of its nodes: its constants are in range, and its
+-- words are short.
 use Rattle.std.specs.Prelude.{List, [], ◌∷◌, Option, None, Some, Bool, true, ◌&&◌, int_le}
 use Rattle.pt_base.specs.IntTypes.{low_of, high_of}
+use Rattle.pt_base.specs.Names.{is_short}
 use Rattle.pt_tree.specs.declared.word.Constant.{Constant}
+use Rattle.pt_tree.specs.declared.word.Word.{Word}
 use Rattle.pt_tree.specs.declared.specifier.Declarator.{Declarator}
 use Rattle.pt_tree.specs.declared.specifier.Suffix.{Suffix}
 use Rattle.pt_tree.specs.declared.specifier.Suffix.TheVariants.{Plain, Open, Sized}
@@ -18,20 +21,35 @@ use Rattle.pt_tree.specs.ProgramTree.{ParamTree, FunctionTree, ItemTree}
 abbrev pub is_sound : Constant → Bool
 is_sound c = int_le (low_of c.ty) c.value && int_le c.value (high_of c.ty)
 
+abbrev pub word_sound : Word → Bool
+word_sound w = is_short w.bytes
+
+abbrev pub words_sound : List Word → Bool
+words_sound [] = true
+words_sound (w ∷ ws) = word_sound w && words_sound ws
+
+-- a word that may be left out
+abbrev pub name_sound : Option Word → Bool
+name_sound None = true
+name_sound (Some w) = word_sound w
+
 abbrev pub suffix_sound : Suffix → Bool
 suffix_sound Plain = true
 suffix_sound Open = true
 suffix_sound (Sized c) = is_sound c
 
+abbrev pub declarator_sound : Declarator → Bool
+declarator_sound d = word_sound d.name && suffix_sound d.suffix
+
 abbrev pub declarators_sound : List Declarator → Bool
 declarators_sound [] = true
-declarators_sound (d ∷ ds) = suffix_sound d.suffix && declarators_sound ds
+declarators_sound (d ∷ ds) = declarator_sound d && declarators_sound ds
 
 abbrev mutual
   pub spec_sound : SpecTree → Bool
-  spec_sound (s.attribute p names) = true
+  spec_sound (s.attribute p names) = words_sound names
   spec_sound (s.keyword p w) = true
-  spec_sound (s.structure p tag fs) = fields_sound fs
+  spec_sound (s.structure p tag fs) = word_sound tag && fields_sound fs
 
   pub specs_sound : SpecTrees → Bool
   specs_sound s.no_specs = true
@@ -46,7 +64,7 @@ abbrev mutual
 
 abbrev mutual
   pub expr_sound : ExprTree → Bool
-  expr_sound (e.name w) = true
+  expr_sound (e.name w) = word_sound w
   expr_sound (e.constant c) = is_sound c
   expr_sound (e.prefix p op a) = expr_sound a
   expr_sound (e.cast p specs pointer a) = specs_sound specs && expr_sound a
@@ -69,8 +87,8 @@ abbrev mutual
   pub postfix_sound : PostfixTree → Bool
   postfix_sound (e.index p a) = expr_sound a
   postfix_sound (e.call p as_given) = exprs_sound as_given
-  postfix_sound (e.dot p w) = true
-  postfix_sound (e.arrow p w) = true
+  postfix_sound (e.dot p w) = word_sound w
+  postfix_sound (e.arrow p w) = word_sound w
   postfix_sound (e.increment p) = true
   postfix_sound (e.decrement p) = true
 
@@ -89,7 +107,7 @@ init_sound (t.braces p items) = exprs_sound items
 
 abbrev pub inits_sound : List InitDeclaratorTree → Bool
 inits_sound [] = true
-inits_sound (d ∷ ds) = (suffix_sound d.declarator.suffix && init_sound d.init) && inits_sound ds
+inits_sound (d ∷ ds) = (declarator_sound d.declarator && init_sound d.init) && inits_sound ds
 
 abbrev pub declaration_sound : DeclarationTree → Bool
 declaration_sound d = specs_sound d.specs && inits_sound d.declarators
@@ -135,7 +153,7 @@ abbrev mutual
 
 abbrev pub params_sound : List ParamTree → Bool
 params_sound [] = true
-params_sound (p ∷ ps) = (specs_sound p.specs && suffix_sound p.suffix) && params_sound ps
+params_sound (p ∷ ps) = (specs_sound p.specs && (name_sound p.name && suffix_sound p.suffix)) && params_sound ps
 
 abbrev pub stmt_list_sound : List StmtTree → Bool
 stmt_list_sound [] = true
@@ -146,7 +164,7 @@ body_sound None = true
 body_sound (Some b) = stmt_list_sound b.items
 
 abbrev pub function_sound : FunctionTree → Bool
-function_sound f = (specs_sound f.specs && suffix_sound f.declarator.suffix) && (params_sound f.params && body_sound f.body)
+function_sound f = (specs_sound f.specs && declarator_sound f.declarator) && (params_sound f.params && body_sound f.body)
 
 abbrev pub item_sound : ItemTree → Bool
 item_sound (i.declares d) = declaration_sound d
