@@ -1,6 +1,7 @@
--- Which models fit which hosts.
-use Rattle.std.specs.Prelude.{ℤ, Bool, true, false, not, ◌&&◌, ◌==◌, nat_le, List, [], ◌∷◌, length, Option, Some, None, is_some}
-use Rattle.std.specs.List.{list_all, list_any}
+-- Which models fit which hosts: what may stand for a host of a signature.
+use Rattle.std.specs.Prelude.{ℤ, Bool, true, false, not, ◌&&◌, ◌==◌, List, [], ◌∷◌, length, Option, Some, None, is_some}
+use Rattle.std.specs.List.{list_all}
+use Rattle.pt_base.specs.Names.{is_short}
 use Rattle.pt_base.specs.declared.int_type.IntType.{IntType}
 use Rattle.pt_base.specs.declared.int_type.IntType.TheVariants.{Char, SChar, UChar, Short, UShort, Int, UInt, Long, ULong}
 use Rattle.pt_int.specs.Conversion.{is_in_range}
@@ -11,10 +12,7 @@ use Rattle.pt_tree.specs.declared.signature.Param.{Param}
 use Rattle.pt_tree.specs.declared.signature.ParamKind.{ParamKind}
 use Rattle.pt_tree.specs.declared.signature.ParamKind.TheVariants as param
 use Rattle.pt_tree.specs.declared.signature.Signature.{Signature}
-
--- a host that isn't privileged and has a marked parameter
-abbrev pub is_mixed : Signature → Bool
-is_mixed s = not s.privileged && list_any (λ p. p.marked) s.params
+use Rattle.host_models.specs.Mixed.{is_mixed}
 
 abbrev is_int : IntType → Bool
 is_int Char = false
@@ -67,13 +65,13 @@ has_numbers_in_range s (Input next) = true
 has_numbers_in_range s Bytes = true
 has_numbers_in_range s (Line name) = true
 
--- a line begins with a name of at most 1 MiB
+-- a line begins with a short name
 abbrev pub has_short_name : HostModel → Bool
 has_short_name (Table rows other) = true
 has_short_name (Feed values other next) = true
 has_short_name (Input next) = true
 has_short_name Bytes = true
-has_short_name (Line name) = nat_le (length name) 1048576
+has_short_name (Line name) = is_short name
 
 -- the model may stand for a host of this signature
 abbrev pub fits : HostModel → Signature → Bool

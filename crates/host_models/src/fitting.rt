@@ -1,30 +1,32 @@
 // Whether a model fits a host.
 ghost use Rattle.std.specs.Prelude.{◌≡◌, ◌==◌, length};
-ghost use Rattle.std.specs.List.{list_all, list_any};
+ghost use Rattle.std.specs.List.{list_all};
 ghost use Rattle.pt_int.specs.Conversion.{is_in_range};
-ghost use Rattle.host_table.specs.Fits.{is_mixed, gives_int, has_right_params, is_in_param, is_in_result, are_in_params, is_row_in_range, has_numbers_in_range, has_short_name, fits};
+ghost use Rattle.host_models.specs.Fitting.{gives_int, has_right_params, is_in_param, is_in_result, are_in_params, is_row_in_range, has_numbers_in_range, has_short_name, fits};
 
-use crate::TABLE_LIMIT;
+use crate::mixed::is_mixed;
 use pt_base::IntType;
 use pt_int::in_range;
 use pt_tree::{HostModel, Param, ParamKind, Row, Signature};
 
+// A name may have this many bytes.
+const LONGEST_NAME: usize = 1_048_576;
+
 /// Whether the model may stand for a host of this signature: its kind is one for the host's
 /// result, parameters and marks, its rows have as many arguments as the host has parameters, its
-/// numbers are of the parameters' and the result's types, and a line's name has at most 1,048,576
-/// bytes.
+/// numbers are of the parameters' and the result's types, and a line's name is short.
 pub fn fits(model: &HostModel, s: &Signature) -> bool
     ensures { result ≡ fits model.now s.now }
 {
     has_right_params(s, model) && has_numbers_in_range(s, model) && has_short_name(model)
 }
 
-// Whether a line's name is no longer than a text may be.
+// Whether a line's name is short.
 fn has_short_name(model: &HostModel) -> bool
     ensures { result ≡ has_short_name model.now }
 {
     match model {
-        HostModel::Line { name } => name.as_slice().len() <= TABLE_LIMIT,
+        HostModel::Line { name } => name.as_slice().len() <= LONGEST_NAME,
         HostModel::Table { .. }
         | HostModel::Feed { .. }
         | HostModel::Input { .. }
@@ -32,17 +34,19 @@ fn has_short_name(model: &HostModel) -> bool
     }
 }
 
-// Whether the host isn't privileged and has a marked parameter.
-fn is_mixed(s: &Signature) -> bool
-    ensures { result ≡ is_mixed s.now }
+/// Whether the kind of the model is one for the host's result, parameters and marks, and its rows
+/// have as many arguments as the host has parameters.
+pub fn has_right_params(s: &Signature, model: &HostModel) -> bool
+    ensures { result ≡ has_right_params s.now model.now }
 {
-    !s.privileged && any_marked(s.params.as_slice())
-}
-
-fn any_marked(params: &[Param]) -> bool
-    ensures { result ≡ list_any (λ p. p.marked) params.now }
-{
-    params.iter().any(|p| p.marked)
+    match model {
+        HostModel::Table { rows, .. } => {
+            s.result.is_some() && have_length(rows.as_slice(), s.params.as_slice().len())
+        }
+        HostModel::Feed { .. } => s.result.is_some() && !is_mixed(s),
+        HostModel::Input { .. } => gives_int(s) && s.params.as_slice().is_empty() && !is_mixed(s),
+        HostModel::Bytes | HostModel::Line { .. } => s.result.is_none() && !is_mixed(s),
+    }
 }
 
 // Whether the result is of type int.
@@ -55,37 +59,15 @@ fn gives_int(s: &Signature) -> bool
     }
 }
 
-/// Whether the kind of the model is one for the host's result, parameters and marks, and its rows
-/// have as many arguments as the host has parameters.
-pub(crate) fn has_right_params(s: &Signature, model: &HostModel) -> bool
-    ensures { result ≡ has_right_params s.now model.now }
-{
-    match model {
-        HostModel::Table { rows, .. } => {
-            s.result.is_some() && have_length(rows.as_slice(), s.params.as_slice().len())
-        }
-        HostModel::Feed { .. } => s.result.is_some() && !is_mixed(s),
-        HostModel::Input { .. } => {
-            gives_int(s) && s.params.as_slice().is_empty() && !is_mixed(s)
-        }
-        HostModel::Bytes | HostModel::Line { .. } => s.result.is_none() && !is_mixed(s),
-    }
-}
-
 // Whether each row has so many arguments.
 fn have_length(rows: &[Row], count: usize) -> bool
     ensures { result ≡ list_all (λ row. length row.args == count) rows.now }
 {
-    for row in rows {
-        if row.args.as_slice().len() != count {
-            return false;
-        }
-    }
-    true
+    rows.iter().all(|row| row.args.as_slice().len() == count)
 }
 
 /// Whether each number of the model is one of its parameter's or the result's type.
-pub(crate) fn has_numbers_in_range(s: &Signature, model: &HostModel) -> bool
+pub fn has_numbers_in_range(s: &Signature, model: &HostModel) -> bool
     ensures { result ≡ has_numbers_in_range s.now model.now }
 {
     match model {
@@ -103,12 +85,7 @@ pub(crate) fn has_numbers_in_range(s: &Signature, model: &HostModel) -> bool
 fn are_rows_in_range(s: &Signature, rows: &[Row]) -> bool
     ensures { result ≡ list_all (is_row_in_range s.now) rows.now }
 {
-    for row in rows {
-        if !is_row_in_range(s, row) {
-            return false;
-        }
-    }
-    true
+    rows.iter().all(|row| is_row_in_range(s, row))
 }
 
 fn is_row_in_range(s: &Signature, row: &Row) -> bool
@@ -150,22 +127,14 @@ fn is_in_param(kind: ParamKind, v: i128) -> bool
 fn are_in_result(t: Option<IntType>, values: &[i128]) -> bool
     ensures { result ≡ list_all (is_in_result t) values.now }
 {
-    for value in values {
-        if !is_in_result(t, *value) {
-            return false;
-        }
-    }
-    true
+    values.iter().all(|value| is_in_result(t, *value))
 }
 
 // Whether the number is one of the result's type, which void has none of.
 fn is_in_result(t: Option<IntType>, v: i128) -> bool
     ensures { result ≡ is_in_result t v }
 {
-    match t {
-        Some(t) => is_of(t, v),
-        None => false,
-    }
+    t.is_some_and(|t| is_of(t, v))
 }
 
 // Whether the number is one of the type.
