@@ -9,6 +9,7 @@ use Rattle.pt_int.specs.Operator.{binary_of}
 use Rattle.pt_int.specs.Conversion.{conv}
 use Rattle.pt_tree.specs.declared.signature.Elem.TheVariants as el
 use Rattle.pt_tree.specs.declared.host_model.HostModel.TheVariants.{Table, Line}
+use Rattle.runs.specs.State.{Hosts, out, guarded}
 use Rattle.typed_tree.specs.declared.types.VarTy.TheVariants as ty
 use Rattle.typed_tree.specs.declared.statement.TypedLabel.TheVariants.{Case, Default}
 use Rattle.typed_tree.specs.declared.statement.TypedInit.TheVariants as n
@@ -17,7 +18,6 @@ use Rattle.typed_tree.specs.ExpressionTree as t
 use Rattle.typed_tree.specs.ExpressionTree.{typed, place, no_steps}
 use Rattle.typed_tree.specs.StatementTree.{block, choose, no_else, do_while, for_each, stop_loop, next_turn, switch, body_trees, no_bodies, section, section_trees}
 use Rattle.typed_tree.specs.TypedTree.{TypedTree}
-use Rattle.source_meaning.specs.State.{Hosts, out, guarded}
 use Rattle.source_meaning.specs.WholeRun.{whole_run}
 use Rattle.source_meaning.proofs.WorkedTrees.{at, anywhere, int, char, to_int, ints, one_s, to_s, variable, part, item, field, constant, read, value, as_char, as_int, binary, assign, add_to, count_up, call, expr, does, returns, declares, of_type, int_param, pointer_param, host, function, main, program, no_host}
 
