@@ -139,6 +139,16 @@ guards_outermost : whole_run guards no_host [] 9 ≡ record { events = guarded 1
 unfolding binary_of conv
 guards_outermost = refl
 
+-- ---- variables
+
+-- int x; with no declaration that is reached, x = 5; return x;
+abbrev holds_from_entry : TypedTree
+holds_from_entry = program (main (of_type int ∷ []) (does 0 ∷ returns 1 ∷ []) ∷ []) (assign int (variable 0) (constant 5) ∷ value 0 ∷ [])
+
+holds_from_entry_runs : whole_run holds_from_entry no_host [] 0 ≡ record { events = []; end = Exit (pos 5); turns = 0 }
+unfolding conv
+holds_from_entry_runs = refl
+
 -- ---- objects
 
 -- int a[3]; return a[N];

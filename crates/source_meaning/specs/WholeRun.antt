@@ -1,6 +1,7 @@
 -- The run of a whole program within a budget of turns.
-use Rattle.std.specs.Prelude.{ℕ, ◌-◌, ◌+◌, pos, false, List, [], ◌∷◌, length, map, codes, unwrap_or}
+use Rattle.std.specs.Prelude.{ℕ, ◌-◌, ◌+◌, pos, false, List, [], ◌∷◌, Option, Some, None, map, codes}
 use Rattle.pt_base.specs.declared.end.End.TheVariants.{Exit, Trapped, Spent}
+use Rattle.pt_base.specs.declared.ids.FnId.{FnId}
 use Rattle.pt_base.specs.declared.int_type.IntType.TheVariants as i
 use Rattle.pt_int.specs.Conversion.{conv}
 use Rattle.runs.specs.Run.{Run, deepest}
@@ -14,10 +15,6 @@ use Rattle.source_meaning.specs.Values.{number_of}
 use Rattle.source_meaning.specs.Expressions.{Frame}
 use Rattle.source_meaning.specs.Statements.{Code, Flow, goes_on, broke, continues, returned, statement}
 use Rattle.source_meaning.specs.Functions.{body_at, code_at, opened, calls_within}
-
--- the number of main; where there is none, one that no function has
-abbrev pub main_of : TypedTree → ℕ
-main_of program = (unwrap_or (function_named program (codes "main")) (record { 0 = length program.functions })).0
 
 -- the memory at the start: each global with its cells
 abbrev pub with_globals : Memory → ℕ → List TypedGlobal → Memory
@@ -41,11 +38,17 @@ run_of turns (gives (returned v) st) = record { events = st.events; end = Exit (
 run_of turns (trapped trap s st) = record { events = st.events; end = Trapped trap s; turns = turns - st.left }
 run_of turns (spent st) = record { events = st.events; end = Spent; turns = turns - st.left }
 
-abbrev pub main_code : TypedTree → Code
-main_code program = code_at program (main_of program) main_frame (calls_within program (deepest - 1))
+-- the code of main, where it has this number
+abbrev pub main_code : TypedTree → FnId → Code
+main_code program f = code_at program f.0 main_frame (calls_within program (deepest - 1))
+
+-- main is entered, and its body runs; where there is no main, nothing is done
+abbrev pub main_run : TypedTree → Option FnId → State → Outcome Flow
+main_run program None st = gives goes_on st
+main_run program (Some f) st = statement (body_at program f.0) (main_code program f) (opened (main_code program f) [] st)
 
 -- the run of a program with these hosts and this input within a budget of turns; main runs at depth 1,
 -- and entering it takes no turn
 abbrev pub whole_run : TypedTree → Hosts → List ℕ → ℕ → Run
 whole_run program hosts input turns =
-    run_of turns (statement (body_at program (main_of program)) (main_code program) (opened (main_code program) [] (begun program hosts input turns)))
+    run_of turns (main_run program (function_named program (codes "main")) (begun program hosts input turns))
