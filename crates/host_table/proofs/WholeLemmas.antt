@@ -3,6 +3,7 @@ use Rattle.std.proofs.Common.{◌≡◌, ◌≤◌, ℕ, zero, suc, ℤ, List, [
 use Rattle.std.proofs.lemmas.Bool.Decides.{nat_tests}
 use Rattle.std.proofs.lemmas.Option.{none-some, same_Some}
 use Rattle.std.specs.Option.{option_and_then, option_to_list}
+use Rattle.pt_base.specs.Names.{is_short}
 use Rattle.pt_base.specs.declared.ids.FnId.{FnId}
 use Rattle.pt_tree.specs.declared.host_model.HostModel.{HostModel}
 use Rattle.pt_tree.specs.declared.host_model.HostModel.TheVariants.{Table, Feed, Input, Bytes, Line}
@@ -10,11 +11,11 @@ use Rattle.pt_tree.specs.declared.row.Row.{Row}
 use Rattle.pt_tree.specs.declared.signature.Signature.{Signature}
 use Rattle.serde_json.specs.Data.{Data}
 use Rattle.serde_json.specs.Find.{get, as_object}
+use Rattle.host_models.specs.Fitting.{has_right_params, has_numbers_in_range, has_short_name, fits}
 use Rattle.host_table.specs.Entries.{model_of_kind, model_in, kind_in, rows_in, values_in, other_in, shaped_or_not, entry_by, entry_of}
-use Rattle.host_table.specs.Fits.{has_right_params, has_numbers_in_range, has_short_name, fits}
 use Rattle.host_table.specs.HostFaults.{faults_by, faults_after, fault_after, entry_fault, is_taken, is_input, shaped_model, host_model, reading_of, table_hosts, IsReading}
 use Rattle.host_table.specs.Hosts.{Hosts, hosts_of}
-use Rattle.host_table.specs.Whole.{HasHosts, FitsOn}
+use Rattle.host_table.specs.Whole.{HasHosts}
 use Rattle.host_table.specs.declared.entry.Entry.{Entry}
 use Rattle.host_table.specs.declared.entry.Entry.TheVariants as entry
 use Rattle.host_table.specs.declared.fault.HostError.{HostError}
@@ -23,13 +24,6 @@ use Rattle.host_table.specs.declared.fault.HostFault.TheVariants.{Shape, Missing
 use Rattle.host_table.specs.declared.host.Host.{Host}
 use Rattle.host_table.specs.declared.kind.Kind.{Kind}
 use Rattle.host_table.specs.declared.kind.Kind.TheVariants as kind
-
-pub stays : FitsOn
-stays input (Table rows other) args s fit = fit
-stays input (Feed values other next) args s fit = fit
-stays input (Input next) args s fit = fit
-stays input Bytes args s fit = fit
-stays input (Line name) args s fit = fit
 
 -- ---- a line's name is the host's
 
@@ -43,14 +37,14 @@ short_feed None other m is = absurd (none-some m is)
 short_feed (Some values) None m is = absurd (none-some m is)
 short_feed (Some values) (Some other) m is = ap has_short_name (sym (same_Some (Feed values other 0) m is))
 
-short_kind : (name : List ℕ) (d : Data) (k : Kind) (m : HostModel) → nat_le (length name) 1048576 ≡ true → model_of_kind name d k ≡ Some m → has_short_name m ≡ true
+short_kind : (name : List ℕ) (d : Data) (k : Kind) (m : HostModel) → is_short name ≡ true → model_of_kind name d k ≡ Some m → has_short_name m ≡ true
 short_kind name d kind.Table m short is = short_table (rows_in d) (other_in d) m is
 short_kind name d kind.Feed m short is = short_feed (values_in d) (other_in d) m is
 short_kind name d kind.Input m short is = ap has_short_name (sym (same_Some (Input 0) m is))
 short_kind name d kind.Bytes m short is = ap has_short_name (sym (same_Some Bytes m is))
 short_kind name d kind.Line m short is = ap has_short_name (sym (same_Some (Line name) m is)) ∙ short
 
-short_model : (name : List ℕ) (d : Data) (k : Option Kind) (m : HostModel) → nat_le (length name) 1048576 ≡ true → option_and_then (model_of_kind name d) k ≡ Some m → has_short_name m ≡ true
+short_model : (name : List ℕ) (d : Data) (k : Option Kind) (m : HostModel) → is_short name ≡ true → option_and_then (model_of_kind name d) k ≡ Some m → has_short_name m ≡ true
 short_model name d None m short is = absurd (none-some m is)
 short_model name d (Some k) m short is = short_kind name d k m short is
 
@@ -58,7 +52,7 @@ shaped_is : (o : Option HostModel) (m : HostModel) → shaped_model (shaped_or_n
 shaped_is None m is = absurd (none-some m is)
 shaped_is (Some n) m is = is
 
-short_entry : (name : List ℕ) (d : Option Data) (m : HostModel) → nat_le (length name) 1048576 ≡ true → shaped_model (entry_by name d) ≡ Some m → has_short_name m ≡ true
+short_entry : (name : List ℕ) (d : Option Data) (m : HostModel) → is_short name ≡ true → shaped_model (entry_by name d) ≡ Some m → has_short_name m ≡ true
 short_entry name None m short is = absurd (none-some m is)
 short_entry name (Some d) m short is = short_model name d (kind_in d) m short (shaped_is (model_in name d) m is)
 
@@ -119,40 +113,43 @@ model_at table fns f s at is = ap (option_and_then (host_model table)) at ∙ ap
 no_model : (table : Data) (fns : List Signature) (f : ℕ) (s : Signature) → slice_get fns f ≡ Some s → s.host ≡ false → (table_hosts table fns).models f ≡ None
 no_model table fns f s at is = ap (option_and_then (host_model table)) at ∙ ap (λ b. if b then shaped_model (entry_of table s) else None) is
 
-fit_at : (table : Data) (s : Signature) (model : HostModel) → Sound table s → shaped_model (entry_of table s) ≡ Some model → length s.name ≤ 1048576 → fits model s ≡ true
+fit_at : (table : Data) (s : Signature) (model : HostModel) → Sound table s → shaped_model (entry_of table s) ≡ Some model → is_short s.name ≡ true → fits model s ≡ true
 fit_at table s model here is short =
     let same : here.model ≡ model = same_Some here.model model (sym here.is ∙ is) in
-    let le : nat_le (length s.name) 1048576 ≡ true = grind (arith, nat_tests) in
-    both _ _ (both _ _ (ap (has_right_params s) (sym same) ∙ here.params) (ap (has_numbers_in_range s) (sym same) ∙ here.numbers)) (short_entry s.name (get s.name table) model le is)
+    both _ _ (both _ _ (ap (has_right_params s) (sym same) ∙ here.params) (ap (has_numbers_in_range s) (sym same) ∙ here.numbers)) (short_entry s.name (get s.name table) model short is)
 
 by_host : (table : Data) (fns : List Signature) (f : ℕ) (s : Signature) (model : HostModel) (b : Bool) → s.host ≡ b → HasNone table s → slice_get fns f ≡ Some s → (table_hosts table fns).models f ≡ Some model
-    → length s.name ≤ 1048576 → fits model s ≡ true
+    → is_short s.name ≡ true → fits model s ≡ true
 by_host table fns f s model true is free at has short = fit_at table s model (sound table s free is) (sym (model_at table fns f s at is) ∙ has) short
 by_host table fns f s model false is free at has short = absurd (none-some model (sym (no_model table fns f s at is) ∙ has))
 
-table_has : (table : Data) (fns : List Signature) → faults_after table [] fns ≡ [] → HasHosts (table_hosts table fns) fns
-table_has table fns none = record {
+-- the functions have short names
+abbrev pub HaveShortNames : List Signature → Type 0
+HaveShortNames fns = (f : ℕ) (s : Signature) → slice_get fns f ≡ Some s → is_short s.name ≡ true
+
+table_has : (table : Data) (fns : List Signature) → HaveShortNames fns → faults_after table [] fns ≡ [] → HasHosts (table_hosts table fns) fns
+table_has table fns short none = record {
   model = λ f s at is. let here = sound table s (none_at table [] fns f s none at) is in ap is_some (model_at table fns f s at is ∙ here.is);
-  fit = λ f s model at has short. by_host table fns f s model s.host refl (none_at table [] fns f s none at) at has short;
+  fit = λ f s model at has. by_host table fns f s model s.host refl (none_at table [] fns f s none at) at has (short f s at);
 }
 
-by_object : (b : Bool) (table : Data) (fns : List Signature) → (if b then faults_after table [] fns else Shape None ∷ []) ≡ [] → HasHosts (table_hosts table fns) fns
-by_object true table fns none = table_has table fns none
-by_object false table fns none = absurd (filled (Shape None) [] none)
+by_object : (b : Bool) (table : Data) (fns : List Signature) → HaveShortNames fns → (if b then faults_after table [] fns else Shape None ∷ []) ≡ [] → HasHosts (table_hosts table fns) fns
+by_object true table fns short none = table_has table fns short none
+by_object false table fns short none = absurd (filled (Shape None) [] none)
 
-by_reading : (o : Option Data) (fns : List Signature) (hosts : Hosts) → faults_by o fns ≡ [] → option_map (λ table. table_hosts table fns) o ≡ Some hosts → HasHosts hosts fns
-by_reading None fns hosts none is = absurd (none-some hosts is)
-by_reading (Some table) fns hosts none is =
-    subst (λ (h : Hosts). HasHosts h fns) (same_Some (table_hosts table fns) hosts is) (by_object (is_some (as_object table)) table fns none)
+by_reading : (o : Option Data) (fns : List Signature) (hosts : Hosts) → HaveShortNames fns → faults_by o fns ≡ [] → option_map (λ table. table_hosts table fns) o ≡ Some hosts → HasHosts hosts fns
+by_reading None fns hosts short none is = absurd (none-some hosts is)
+by_reading (Some table) fns hosts short none is =
+    subst (λ (h : Hosts). HasHosts h fns) (same_Some (table_hosts table fns) hosts is) (by_object (is_some (as_object table)) table fns short none)
 
 by_length : (b : Bool) (faults : List HostFault) → (if b then TooLong ∷ [] else faults) ≡ [] → faults ≡ []
 by_length true faults none = absurd (filled TooLong [] none)
 by_length false faults none = none
 
 -- a reading has a model for each host, and it fits
-reading_has : (text : List ℕ) (fns : List Signature) (host : Host) → IsReading text fns (Ok host) → HasHosts (hosts_of host) fns
-reading_has text fns host answer = by_reading (reading_of text) fns (hosts_of host) (by_length (nat_lt 1048576 (length text)) (faults_by (reading_of text) fns) answer.0) answer.1
+reading_has : (text : List ℕ) (fns : List Signature) (host : Host) → HaveShortNames fns → IsReading text fns (Ok host) → HasHosts (hosts_of host) fns
+reading_has text fns host short answer = by_reading (reading_of text) fns (hosts_of host) short (by_length (nat_lt 1048576 (length text)) (faults_by (reading_of text) fns) answer.0) answer.1
 
-pub readings_have : (text : List ℕ) (fns : List Signature) (r : Result Host HostError) → IsReading text fns r → IfOk r (λ host. HasHosts (hosts_of host) fns)
-readings_have text fns (Ok host) answer = reading_has text fns host answer
-readings_have text fns (Err e) answer = tt
+pub readings_have : (text : List ℕ) (fns : List Signature) (r : Result Host HostError) → HaveShortNames fns → IsReading text fns r → IfOk r (λ host. HasHosts (hosts_of host) fns)
+readings_have text fns (Ok host) short answer = reading_has text fns host short answer
+readings_have text fns (Err e) short answer = tt

@@ -1,7 +1,8 @@
 -- The faults of a host table, and the hosts that a table without faults gives.
-use Rattle.std.specs.Prelude.{◌≡◌, ◌≢◌, ℕ, Bool, true, false, ◌&&◌, nat_lt, List, [], ◌∷◌, ◌++◌, length, Option, Some, None, is_some, map, option_map, option_and_then, option_to_list, slice_get, if◌then◌else◌, Result, Ok, Err, codes}
+use Rattle.std.specs.Prelude.{◌≡◌, ◌≢◌, ℕ, Bool, true, false, ◌&&◌, nat_lt, List, [], ◌∷◌, ◌++◌, length, Option, Some, None, is_some, option_map, option_and_then, option_to_list, slice_get, if◌then◌else◌, Result, Ok, Err}
 use Rattle.std.specs.List.{list_any}
 use Rattle.std.specs.Str.{is_utf8}
+use Rattle.host_models.specs.Fitting.{has_right_params, has_numbers_in_range}
 use Rattle.pt_base.specs.declared.ids.FnId.{FnId}
 use Rattle.pt_tree.specs.declared.host_model.HostModel.{HostModel}
 use Rattle.pt_tree.specs.declared.host_model.HostModel.TheVariants.{Table, Feed, Input, Bytes, Line}
@@ -9,9 +10,7 @@ use Rattle.pt_tree.specs.declared.signature.Signature.{Signature}
 use Rattle.serde_json.specs.Data.{Data}
 use Rattle.serde_json.specs.Find.{as_object}
 use Rattle.serde_json.specs.Read.{read}
-use Rattle.typed_tree.specs.TypedTree.{TypedTree}
 use Rattle.host_table.specs.Entries.{entry_of}
-use Rattle.host_table.specs.Fits.{has_right_params, has_numbers_in_range}
 use Rattle.host_table.specs.Hosts.{Hosts, hosts_of}
 use Rattle.host_table.specs.declared.entry.Entry.{Entry}
 use Rattle.host_table.specs.declared.entry.Entry.TheVariants as entry
@@ -20,10 +19,6 @@ use Rattle.host_table.specs.declared.fault.HostFault.TheVariants.{NotJson, Shape
 use Rattle.host_table.specs.declared.fault.HostError.{HostError}
 use Rattle.host_table.specs.declared.fault.HostError.TheVariants.{Faults, Memory}
 use Rattle.host_table.specs.declared.host.Host.{Host}
-
--- the signatures of a program's functions, by number
-abbrev pub signatures_of : TypedTree → List Signature
-signatures_of t = map (λ f. f.signature) t.functions
 
 -- the value of a text: JSON is in UTF-8
 abbrev pub reading_of : List ℕ → Option Data
@@ -103,23 +98,3 @@ IsReading text fns = IsAnswer (host_faults text fns) (option_map (λ table. tabl
 abbrev pub IsOneFault : HostFault → HostError → Type 0
 IsOneFault fault (Faults found) = found ≡ fault ∷ []
 IsOneFault fault Memory = Unit {0}
-
--- the number of each fault
-abbrev pub fault_number : HostFault → ℕ
-fault_number NotJson = 1
-fault_number (Shape f) = 2
-fault_number (Missing f) = 3
-fault_number (Range f) = 4
-fault_number (WrongParams f) = 5
-fault_number (TwoInputs f) = 6
-fault_number TooLong = 7
-
--- the name of each fault
-abbrev pub fault_name : HostFault → List ℕ
-fault_name NotJson = codes "NotJson"
-fault_name (Shape f) = codes "Shape"
-fault_name (Missing f) = codes "Missing"
-fault_name (Range f) = codes "Range"
-fault_name (WrongParams f) = codes "WrongParams"
-fault_name (TwoInputs f) = codes "TwoInputs"
-fault_name TooLong = codes "TooLong"

@@ -1,7 +1,8 @@
 pub mod Entries
 pub mod Found
-pub mod Fits
 pub mod HostFaults
 pub mod Hosts
+pub mod ReportLines
+pub mod RunHosts
 pub mod Whole
 pub mod Written

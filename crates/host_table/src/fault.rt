@@ -1,11 +1,13 @@
-// What is wrong with a host table.
+// What is wrong with a host table, and the lines that report it.
+use itoa::Buffer;
 use pt_base::{FnId, Listed};
-use std::alloc::{AllocError, AllocFailed};
+use std::alloc::{AllocError, AllocFailed, Global};
 use std::fmt;
 use thiserror::Error;
+use typed_tree::Typed;
 
 /// What is wrong with a host table.
-#[derive(Clone, Copy, Debug, PartialEq, Eq, Drop)]
+#[derive(Clone, Copy)]
 pub enum HostFault {
     /// The text is no JSON in UTF-8, or one that the reader refuses.
     NotJson,
@@ -26,8 +28,10 @@ pub enum HostFault {
 }
 
 impl HostFault {
-    ghost use Rattle.std.specs.Prelude.{◌≡◌};
-    ghost use Rattle.host_table.specs.HostFaults.{fault_number, fault_name};
+    ghost use Rattle.std.specs.Prelude.{◌≡◌, ◌++◌, IfOk, OnOk, codes, option_map};
+    ghost use Rattle.std.specs.Fmt.{decimal};
+    ghost use Rattle.typed_tree.specs.TypedView.{view_typed};
+    ghost use Rattle.host_table.specs.ReportLines.{fault_number, fault_name, faulty_function, faulty_name, report_line};
 
     /// The number of the fault, from 1 to 7.
     pub fn number(self) -> u8
@@ -57,6 +61,53 @@ impl HostFault {
             HostFault::TwoInputs(_) => "TwoInputs",
             HostFault::TooLong => "TooLong",
         }
+    }
+
+    // The function whose entry has the fault.
+    fn function(self) -> Option<FnId>
+        ensures { result ≡ faulty_function self }
+    {
+        match self {
+            HostFault::NotJson | HostFault::TooLong => None,
+            HostFault::Shape(f) => f,
+            HostFault::Missing(f)
+            | HostFault::Range(f)
+            | HostFault::WrongParams(f)
+            | HostFault::TwoInputs(f) => Some(f),
+        }
+    }
+
+    // The name of this function in the program.
+    fn function_name(self, t: &Typed) -> Option<&[u8]>
+        ensures { option_map (λ name. name.now) result ≡ faulty_name (view_typed t.now) self }
+    {
+        let signature = t.signature(self.function()?)?;
+        Some(signature.name.as_slice())
+    }
+
+    // The number and the name of the fault.
+    fn numbered_name(self, alloc: Global) -> Result<Vec<u8>, AllocError>
+        ensures { IfOk result (λ line. line.items ≡ codes "host " ++ decimal (fault_number self) ++ codes " " ++ fault_name self) }
+    {
+        let mut buffer = Buffer::new();
+        let mut line = Vec::from_slice(alloc, b"host ")?;
+        line.extend_from_slice(buffer.format(self.number()).as_bytes())?;
+        line.push(b' ')?;
+        line.extend_from_slice(self.name().as_bytes())?;
+        Ok(line)
+    }
+
+    /// The line that reports the fault, without a line feed: `host`, the fault's number and name,
+    /// and the name of the function whose entry has it, if one has.
+    pub fn report_line(self, alloc: Global, t: &Typed) -> Result<Vec<u8>, AllocError>
+        ensures { IfOk result (λ line. line.items ≡ report_line (view_typed t.now) self) }
+    {
+        let mut line = self.numbered_name(alloc)?;
+        if let Some(name) = self.function_name(t) {
+            line.push(b' ')?;
+            line.extend_from_slice(name)?;
+        }
+        Ok(line)
     }
 }
 

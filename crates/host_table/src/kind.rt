@@ -6,7 +6,7 @@ ghost use Rattle.host_table.specs.Entries.{kind_of, kind_in};
 use serde_json::Value;
 
 /// The kind of an entry, by its word.
-#[derive(Clone, Copy, Debug, PartialEq, Eq)]
+#[derive(Clone, Copy)]
 pub(crate) enum Kind {
     Table,
     Feed,

@@ -3,23 +3,19 @@
 
 mod answer;
 mod call;
-mod checks;
 mod entry;
 mod fault;
 mod host;
 mod items;
 mod kind;
-mod laws;
 mod part;
 mod reading;
 #[cfg(test)]
 mod tests;
 mod writing;
 
-pub use checks::fits;
 pub use fault::{HostError, HostFault};
 pub use host::Host;
-pub use laws::fits_on;
 pub use reading::read_host;
 
 /// A host table may have this many bytes.

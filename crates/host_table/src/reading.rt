@@ -3,16 +3,17 @@ ghost use Rattle.std.specs.Prelude.{◌≡◌, ◌≤◌, ◌^◌, ◌||◌, ◌
 ghost use Rattle.serde_json.specs.View.{view};
 ghost use Rattle.host_table.specs.Entries.{entry_of};
 ghost use Rattle.host_table.specs.Found.{numbered, models_from, signatures_in};
+ghost use Rattle.typed_tree.specs.TypedTree.{signatures_of};
 ghost use Rattle.typed_tree.specs.TypedView.{view_typed};
 ghost use Rattle.host_table.specs.Hosts.{hosts_of};
 ghost use Rattle.host_table.specs.Whole.{HasHosts};
-ghost use Rattle.host_table.specs.HostFaults.{is_input, reads_input, entry_fault, faults_after, faults_by, table_hosts, IsAnswer, IsReading, IsOneFault, signatures_of};
+ghost use Rattle.host_table.specs.HostFaults.{is_input, reads_input, entry_fault, faults_after, faults_by, table_hosts, IsAnswer, IsReading, IsOneFault};
 
 use crate::TABLE_LIMIT;
-use crate::checks::{has_numbers_in_range, has_right_params};
 use crate::entry::{Entry, entry_of};
 use crate::fault::{HostError, HostFault};
 use crate::host::Host;
+use host_models::{has_numbers_in_range, has_right_params};
 use pt_base::{FnId, Listed};
 use pt_tree::{HostModel, Signature};
 use serde_json::Value;
