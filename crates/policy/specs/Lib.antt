@@ -1,4 +1,4 @@
-pub mod Faults
+pub mod Answers
 pub mod Functions
 pub mod Indexed
 pub mod Laws
@@ -11,9 +11,9 @@ pub mod PolicyFault
 pub mod PolicyView
 pub mod ProgramRules
 pub mod Reading
+pub mod ReportLines
 pub mod Rules
 pub mod Places
-pub mod Signatures
 pub mod Spelled
 pub mod SpelledView
 pub mod Verdicts

@@ -1,9 +1,10 @@
-// What a text that is no policy is answered with.
-use std::alloc::{AllocError, AllocFailed};
+// What a text that is no policy is answered with, and the line that reports it.
+use itoa::Buffer;
+use std::alloc::{AllocError, AllocFailed, Global};
 use thiserror::Error;
 
 /// What is wrong with a line of a policy.
-#[derive(Clone, Copy, Debug, PartialEq, Eq, Drop)]
+#[derive(Clone, Copy, Debug)]
 pub enum PolicyFaultKind {
     /// The line is not passed over, and its words are no rule.
     Syntax,
@@ -18,8 +19,8 @@ pub enum PolicyFaultKind {
 }
 
 impl PolicyFaultKind {
-    ghost use Rattle.std.specs.Prelude.{◌≡◌, codes};
-    ghost use Rattle.policy.specs.Faults.{fault_number, fault_name};
+    ghost use Rattle.std.specs.Prelude.{◌≡◌};
+    ghost use Rattle.policy.specs.ReportLines.{fault_number, fault_name};
 
     /// The number of the kind, from 1 on.
     pub fn number(self) -> u8
@@ -47,15 +48,35 @@ impl PolicyFaultKind {
 }
 
 /// The first fault of a policy's text.
-#[derive(Clone, Copy, Debug, PartialEq, Eq, Drop)]
+#[derive(Clone, Copy, Debug)]
 pub struct PolicyFault {
     pub kind: PolicyFaultKind,
     /// The line, counted from 1 with those that are passed over; 0 where the text is too long.
     pub line: u32,
 }
 
+impl PolicyFault {
+    ghost use Rattle.std.specs.Prelude.{◌≡◌, IfOk};
+    ghost use Rattle.policy.specs.ReportLines.{report_line};
+
+    /// The line that reports the fault, without a line feed: `policy`, the number and the name of
+    /// its kind, and its line.
+    pub fn report_line(self, alloc: Global) -> Result<Vec<u8>, AllocError>
+        ensures { IfOk result (λ line. line.items ≡ report_line self) }
+    {
+        let (mut number, mut place) = (Buffer::new(), Buffer::new());
+        let mut line = Vec::from_slice(alloc, b"policy ")?;
+        line.extend_from_slice(number.format(self.kind.number()).as_bytes())?;
+        line.push(b' ')?;
+        line.extend_from_slice(self.kind.name().as_bytes())?;
+        line.push(b' ')?;
+        line.extend_from_slice(place.format(self.line).as_bytes())?;
+        Ok(line)
+    }
+}
+
 /// Why a text gives no policy.
-#[derive(Clone, Copy, Debug, PartialEq, Eq, Drop, Error)]
+#[derive(Debug, Drop, Error)]
 pub enum PolicyError {
     #[error("out of memory")]
     Memory,

@@ -1,9 +1,9 @@
 // Policies are read.
 ghost use Rattle.std.specs.Prelude.{◌≡◌, ◌<◌, ◌^◌, IfOk, MatchResult, length, map, vec_len};
+ghost use Rattle.typed_tree.specs.TypedTree.{signatures_of};
 ghost use Rattle.typed_tree.specs.TypedView.{view_typed};
 ghost use Rattle.policy.specs.Functions.{known};
 ghost use Rattle.policy.specs.PolicyFault.{IsPolicy, IsPolicyError};
-ghost use Rattle.policy.specs.Signatures.{signatures_of};
 ghost use Rattle.policy.specs.Verdicts.{start};
 
 use crate::TEXT_LIMIT;
