@@ -1,22 +1,22 @@
 -- A model that fits answers in range, and fits on.
-use Rattle.std.proofs.Common.{◌≡◌, ◌<◌, ℕ, zero, suc, ℤ, pos, negsuc, List, [], ◌∷◌, Bool, true, false, true≢false, ◌&&◌, not, Option, Some, None, is_some, slice_get, get_or, if◌then◌else◌, refl, sym, ◌∙◌, subst, arith}
+use Rattle.std.proofs.Common.{◌≡◌, ◌<◌, ℕ, zero, suc, ℤ, pos, negsuc, List, [], ◌∷◌, Bool, true, false, true≢false, ◌&&◌, not, Option, Some, None, is_some, slice_get, get_or, if◌then◌else◌, refl, sym, subst, arith}
 use Rattle.std.proofs.lemmas.Bool.Decides.{nat_tests}
 use Rattle.std.proofs.lemmas.Int.{ints}
 use Rattle.std.proofs.lemmas.List.Elements.{All-get_or}
 use Rattle.std.proofs.lemmas.Option.{slice_get_within, get_or_from_slice_get}
-use Rattle.std.specs.Prelude.{unwrap_or, option_map, IsTrue, All, length}
+use Rattle.std.specs.Prelude.{unwrap_or, option_map, All}
 use Rattle.std.specs.List.{list_all}
 use Rattle.pt_base.specs.declared.int_type.IntType.{IntType}
 use Rattle.pt_base.specs.declared.int_type.IntType.TheVariants as t
 use Rattle.pt_int.specs.Conversion.{is_in_range}
-use Rattle.pt_tree.specs.HostStep.{Answer, host_step, first_result, table_result, same_numbers, input_result}
+use Rattle.pt_tree.specs.HostStep.{host_step, first_result, table_result, same_numbers, input_result}
 use Rattle.pt_tree.specs.declared.host_model.HostModel.{HostModel}
 use Rattle.pt_tree.specs.declared.host_model.HostModel.TheVariants.{Table, Feed, Input, Bytes, Line}
 use Rattle.pt_tree.specs.declared.row.Row.{Row}
 use Rattle.pt_tree.specs.declared.signature.Signature.{Signature}
 use Rattle.host_models.specs.Mixed.{is_mixed}
 use Rattle.host_models.specs.Fitting.{gives_int, has_right_params, has_numbers_in_range, has_short_name, is_row_in_range, are_in_params, is_in_result, fits}
-use Rattle.host_models.specs.Answering.{is_result, IsAnswerOf, AnswersInRange}
+use Rattle.host_models.specs.Answering.{is_result, AnswersInRange}
 
 left : (a b : Bool) → a && b ≡ true → a ≡ true
 left true b h = refl
