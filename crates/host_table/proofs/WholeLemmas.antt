@@ -1,6 +1,5 @@
 -- A table without faults has a model for each host, and it fits.
-use Rattle.std.proofs.Common.{◌≡◌, ◌≤◌, ℕ, zero, suc, ℤ, List, [], ◌∷◌, ◌++◌, length, slice_get, Bool, true, false, true≢false, ◌&&◌, nat_le, nat_lt, Option, Some, None, option_map, is_some, if◌then◌else◌, subst, refl, sym, ap, ◌∙◌, arith, Result, Ok, Err, IfOk}
-use Rattle.std.proofs.lemmas.Bool.Decides.{nat_tests}
+use Rattle.std.proofs.Common.{◌≡◌, ℕ, zero, suc, ℤ, List, [], ◌∷◌, ◌++◌, length, slice_get, Bool, true, false, true≢false, ◌&&◌, nat_lt, Option, Some, None, option_map, is_some, if◌then◌else◌, subst, refl, sym, ap, ◌∙◌, Result, Ok, Err, IfOk}
 use Rattle.std.proofs.lemmas.Option.{none-some, same_Some}
 use Rattle.std.specs.Option.{option_and_then, option_to_list}
 use Rattle.pt_base.specs.Names.{is_short}

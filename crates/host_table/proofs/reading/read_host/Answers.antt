@@ -1,6 +1,5 @@
-use Rattle.std.proofs.Common.{arith, subst, List}
+use Rattle.std.proofs.Common.{arith, subst}
 use Rattle.std.proofs.lemmas.List.{length-map}
-use Rattle.pt_tree.specs.declared.signature.Signature.{Signature}
 use Rattle.typed_tree.proofs.WellFormedLemmas.{facts_of, functions_few}
 use Rattle.typed_tree.specs.TypedTree.{view_function}
 use Rattle.typed_tree.specs.TypedView.{view_typed}
