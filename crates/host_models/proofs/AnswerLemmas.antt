@@ -18,13 +18,13 @@ use Rattle.host_models.specs.Mixed.{is_mixed}
 use Rattle.host_models.specs.Fitting.{gives_int, has_right_params, has_numbers_in_range, has_short_name, is_row_in_range, are_in_params, is_in_result, fits}
 use Rattle.host_models.specs.Answering.{is_result, AnswersInRange}
 
-left : (a b : Bool) → a && b ≡ true → a ≡ true
-left true b h = refl
-left false b h = h
+first : (a b : Bool) → a && b ≡ true → a ≡ true
+first true b h = refl
+first false b h = h
 
-right_of : (a b : Bool) → a && b ≡ true → b ≡ true
-right_of true b h = h
-right_of false b h = absurd (true≢false (sym h))
+second : (a b : Bool) → a && b ≡ true → b ≡ true
+second true b h = h
+second false b h = absurd (true≢false (sym h))
 
 -- ---- the result
 
@@ -47,16 +47,16 @@ by_rows : (s : Signature) (rows : List Row) (other : ℤ) (args : List ℤ) → 
 by_rows s [] other args all last = last
 by_rows s (row ∷ rows) other args all last =
     by_row s (same_numbers row.args args) row.result other (first_result rows args)
-    (right_of (are_in_params s.params row.args) (is_in_result s.result row.result) (left (is_row_in_range s row) (list_all (is_row_in_range s) rows) all))
-    (by_rows s rows other args (right_of (is_row_in_range s row) (list_all (is_row_in_range s) rows) all) last)
+    (second (are_in_params s.params row.args) (is_in_result s.result row.result) (first (is_row_in_range s row) (list_all (is_row_in_range s) rows) all))
+    (by_rows s rows other args (second (is_row_in_range s row) (list_all (is_row_in_range s) rows) all) last)
 
 -- each value is in range, and so is the one at a place
 by_values : (o : Option IntType) (values : List ℤ) (k : ℕ) (other : ℤ) → list_all (is_in_result o) values ≡ true → is_in_result o other ≡ true
     → is_in_result o (unwrap_or (slice_get values k) other) ≡ true
 by_values o [] zero other all last = last
 by_values o [] (suc k) other all last = last
-by_values o (v ∷ vs) zero other all last = left (is_in_result o v) (list_all (is_in_result o) vs) all
-by_values o (v ∷ vs) (suc k) other all last = by_values o vs k other (right_of (is_in_result o v) (list_all (is_in_result o) vs) all) last
+by_values o (v ∷ vs) zero other all last = first (is_in_result o v) (list_all (is_in_result o) vs) all
+by_values o (v ∷ vs) (suc k) other all last = by_values o vs k other (second (is_in_result o v) (list_all (is_in_result o) vs) all) last
 
 int_gives : (o : Option IntType) (v : ℤ) → gives_int o ≡ true → is_in_range t.Int v ≡ true → is_result o (Some v) ≡ true
 int_gives None v is h = is
@@ -89,14 +89,14 @@ by_input input next bytes = at_place (slice_get input next) refl
 result_right : (input : List ℕ) (model : HostModel) (args : List ℤ) (s : Signature) → All (λ b. b < 256) input → has_right_params s model ≡ true → has_numbers_in_range s model ≡ true
     → is_result s.result (host_step input model args).result ≡ true
 result_right input (Table rows other) args s bytes params numbers =
-    gives s.result (table_result rows other args) (by_rows s rows other args (left (list_all (is_row_in_range s) rows) (is_in_result s.result other) numbers) (right_of (list_all (is_row_in_range s) rows) (is_in_result s.result other) numbers))
+    gives s.result (table_result rows other args) (by_rows s rows other args (first (list_all (is_row_in_range s) rows) (is_in_result s.result other) numbers) (second (list_all (is_row_in_range s) rows) (is_in_result s.result other) numbers))
 result_right input (Feed values other next) args s bytes params numbers =
     gives s.result (unwrap_or (slice_get values next) other)
-    (by_values s.result values next other (left (list_all (is_in_result s.result) values) (is_in_result s.result other) numbers) (right_of (list_all (is_in_result s.result) values) (is_in_result s.result other) numbers))
+    (by_values s.result values next other (first (list_all (is_in_result s.result) values) (is_in_result s.result other) numbers) (second (list_all (is_in_result s.result) values) (is_in_result s.result other) numbers))
 result_right input (Input next) args s bytes params numbers =
-    int_gives s.result (input_result input next) (left _ _ (left _ _ params)) (by_input input next bytes)
-result_right input Bytes args s bytes params numbers = gives_none s.result (left (not (is_some s.result)) (not (is_mixed s)) params)
-result_right input (Line name) args s bytes params numbers = gives_none s.result (left (not (is_some s.result)) (not (is_mixed s)) params)
+    int_gives s.result (input_result input next) (first _ _ (first _ _ params)) (by_input input next bytes)
+result_right input Bytes args s bytes params numbers = gives_none s.result (first (not (is_some s.result)) (not (is_mixed s)) params)
+result_right input (Line name) args s bytes params numbers = gives_none s.result (first (not (is_some s.result)) (not (is_mixed s)) params)
 
 -- ---- the next model
 
@@ -107,10 +107,10 @@ fits_on input (Input next) args s fit = fit
 fits_on input Bytes args s fit = fit
 fits_on input (Line name) args s fit = fit
 
-pub right : AnswersInRange
-right input model args s bytes fit =
-    let suits : has_right_params s model && has_numbers_in_range s model ≡ true = left (has_right_params s model && has_numbers_in_range s model) (has_short_name model) fit in
+pub fits_in_range : AnswersInRange
+fits_in_range input model args s bytes fit =
+    let suits : has_right_params s model && has_numbers_in_range s model ≡ true = first (has_right_params s model && has_numbers_in_range s model) (has_short_name model) fit in
     record {
-      result = result_right input model args s bytes (left (has_right_params s model) (has_numbers_in_range s model) suits) (right_of (has_right_params s model) (has_numbers_in_range s model) suits);
+      result = result_right input model args s bytes (first (has_right_params s model) (has_numbers_in_range s model) suits) (second (has_right_params s model) (has_numbers_in_range s model) suits);
       next = fits_on input model args s fit;
     }
