@@ -1,4 +1,5 @@
 pub mod CallLemmas
+pub mod EachLemmas
 pub mod FoundLemmas
 pub mod ModelLemmas
 pub mod ProgramLemmas

@@ -1,4 +1,4 @@
-use Rattle.std.proofs.Common.{rules, FitsSigned, get_or, pos, ap, ◌∙◌, ◌≡◌, ◌++◌, ◌∷◌, []}
+use Rattle.std.proofs.Common.{rules, FitsSigned, get_or, pos, ap, ◌∙◌, ◌++◌, ◌∷◌, []}
 use Rattle.std.proofs.lemmas.Int.{to_z-of_z}
 use Rattle.std.specs.Int.{w128}
 use Rattle.host_table.proofs.SpacedLemmas.{low-take}
