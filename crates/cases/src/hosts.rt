@@ -130,25 +130,3 @@ pub fn parted(alloc: Global, program: &Typed, host: &Host, row: &str) -> Result<
     let part = host.part(alloc, &listed)?;
     Ok(models(alloc, program, &part)?)
 }
-
-/// The program of the hosts alone.
-///
-/// # Errors
-///
-/// Want of memory.
-pub fn hosts(alloc: Global, program: &Typed) -> Result<String> {
-    let mut hosts = Vec::new(alloc);
-    for function in &program.functions {
-        if function.signature.host {
-            hosts.push(function.signature.copy(alloc)?)?;
-        }
-    }
-    let Some(program) = Typed::of_hosts(alloc, hosts)? else {
-        return Ok(String::from_str(alloc, "refused")?);
-    };
-    let mut told = String::from_str(alloc, "a program of")?;
-    for number in 0..program.functions.len() {
-        push_function(&mut told, &program, Some(FnId(number as u32)))?;
-    }
-    Ok(told)
-}

@@ -1,6 +1,6 @@
 // What the rows of a list have set so far, and what each row shows.
 use crate::frames::{cuts, frames, payload};
-use crate::hosts::{called, given, hosts, parted, read_table};
+use crate::hosts::{called, given, parted, read_table};
 use crate::numbers::reckoned;
 use crate::objects::{choosers, folder, link, sink};
 use crate::paths::paths;
@@ -107,7 +107,6 @@ impl Session {
                 decided(alloc, program, policy, rest)?
             }
             "host" => read_table(alloc, program, &mut self.host, rest)?,
-            "hosts" => hosts(alloc, program)?,
             _ => {
                 let host = self.host.as_mut().context("no hosts")?;
                 match word {

@@ -2,7 +2,7 @@
 use crate::text::{push_bytes, repeats, spelled};
 use crate::types::int_name;
 use anyhow::{Result, bail};
-use c_lexer::{LexError, Token, TokenValue, lex};
+use c_lexer::{LexError, Token, TokenKind, TokenValue, lex};
 use std::alloc::{AllocError, Global};
 
 /// The row with the tokens of its text, one a line, or with its fault.
@@ -29,20 +29,24 @@ pub fn told(alloc: Global, row: &str) -> Result<String> {
     Ok(told)
 }
 
-// A line with a token: its place, its spelling, its kind and what it carries.
+// A line with a token: its place, its spelling, and what it carries, which a keyword or a punctuator
+// doesn't.
 fn push_token(told: &mut String, text: &[u8], token: &Token) -> Result<(), AllocError> {
     let (from, to) = (token.span.from, token.span.to);
     write!(told, "\n  {from}..{to} ")?;
     if let Some(spelling) = text.get(from as usize..to as usize) {
         push_bytes(told, spelling)?;
     }
-    write!(told, " {:?}", token.kind)?;
     match &token.value {
         TokenValue::Name(name) => {
-            told.push(' ')?;
+            told.push_str(" name ")?;
             push_bytes(told, name.as_slice())
         }
-        TokenValue::Constant { value, ty } => write!(told, " {value} {}", int_name(*ty)),
+        TokenValue::Constant { value, ty } => {
+            let is_number = token.kind.is(TokenKind::Number);
+            let kind = if is_number { "number" } else { "character" };
+            write!(told, " {kind} {value} {}", int_name(*ty))
+        }
         TokenValue::Fixed => Ok(()),
     }
 }
