@@ -71,20 +71,7 @@ impl Session {
             self.before = format!(in alloc; "{rest} ")?;
             return Ok(format!(in alloc; "before {rest}")?);
         }
-        let around = match word {
-            "item" => Around {
-                before: "",
-                after: " int main(void) { }",
-            },
-            "body" => Around {
-                before: self.before.as_str(),
-                after: " }",
-            },
-            _ => Around {
-                before: "",
-                after: "",
-            },
-        };
+        let around = around(word, self.before.as_str());
         let judged = judged(alloc, rest, around)?;
         Ok(format!(in alloc; "{word} {judged}")?)
     }
@@ -118,5 +105,23 @@ impl Session {
             }
         };
         Ok(format!(in alloc; "{row} => {answer}")?)
+    }
+}
+
+// What stands before and behind the text of a row with this word.
+fn around<'a>(word: &str, before: &'a str) -> Around<'a> {
+    match word {
+        "item" => Around {
+            before: "",
+            after: " int main(void) { }",
+        },
+        "body" => Around {
+            before,
+            after: " }",
+        },
+        _ => Around {
+            before: "",
+            after: "",
+        },
     }
 }

@@ -12,8 +12,6 @@ mod kind;
 mod laws;
 mod part;
 mod reading;
-#[cfg(test)]
-mod tests;
 mod writing;
 
 pub use checks::fits;

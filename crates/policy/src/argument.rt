@@ -1,7 +1,7 @@
 // The ranges that a rule's line names.
 
 /// A parameter, by its place from 0, and the range for its argument, bounds included.
-#[derive(Clone, Copy, Debug, PartialEq, Eq)]
+#[derive(Clone, Copy)]
 pub struct ArgRange {
     pub parameter: u8,
     pub low: i128,

@@ -2,7 +2,7 @@
 use pt_base::{Bytes, FnId, Listed};
 
 /// A range for one of a call's plain numbers, by its place among them from 0, bounds included.
-#[derive(Clone, Copy, Debug, PartialEq, Eq)]
+#[derive(Clone, Copy)]
 pub struct PlainRange {
     pub place: usize,
     pub low: i128,
