@@ -86,7 +86,11 @@ pub fn cuts(alloc: Global, row: &str) -> Result<String> {
             bail!("other messages for the cut at {cut}");
         }
     }
-    write!(told, "\n  {} cuts give the messages at", stream.len().saturating_add(1))?;
+    write!(
+        told,
+        "\n  {} cuts give the messages at",
+        stream.len().saturating_add(1)
+    )?;
     for place in &first {
         write!(told, " {place}")?;
     }

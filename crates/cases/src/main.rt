@@ -38,7 +38,9 @@ fn run_list<R: Runtime + AllocGlobal>(rt: &R, folder: &str, list: &str) -> Resul
         if line.is_empty() || line.starts_with('#') {
             println!(rt; "{line}")?;
         } else {
-            let shown = session.shown(alloc, line).context(format_args!("at {line}"))?;
+            let shown = session
+                .shown(alloc, line)
+                .context(format_args!("at {line}"))?;
             println!(rt; "{shown}")?;
         }
     }

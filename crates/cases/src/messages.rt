@@ -61,7 +61,11 @@ pub fn push_message(text: &mut String, message: &Message) -> Result<(), AllocErr
             body,
         } => {
             write!(text, "Call turns {turns} function {function} depth {depth}")?;
-            text.push_str(if *wants { " wants a reply" } else { " wants none" })?;
+            text.push_str(if *wants {
+                " wants a reply"
+            } else {
+                " wants none"
+            })?;
             push_call(text, body)
         }
         Message::Emit { turns, bytes } => {
@@ -89,7 +93,10 @@ fn push_call(text: &mut String, body: &CallBody) -> Result<(), AllocError> {
                 base,
                 count,
                 index,
-            } => write!(text, ", block {block} base {base} count {count} index {index}")?,
+            } => write!(
+                text,
+                ", block {block} base {base} count {count} index {index}"
+            )?,
         }
     }
     for block in body.blocks.as_slice() {

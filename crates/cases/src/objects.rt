@@ -2,8 +2,8 @@
 use crate::text::push_bytes;
 use anyhow::Result;
 use pt_base::{
-    Alternate, Bytes, ByteSink, Chooser, Folder, FolderFault, Link, LinkFault, MapFolder, ScriptChooser,
-    ScriptLink, Sink, SinkFault, Spawner, Who,
+    Alternate, ByteSink, Bytes, Chooser, Folder, FolderFault, Link, LinkFault, MapFolder,
+    ScriptChooser, ScriptLink, Sink, SinkFault, Spawner, Who,
 };
 use std::alloc::{AllocError, Global};
 
@@ -28,7 +28,11 @@ pub fn folder(alloc: Global) -> Result<String> {
     Ok(told)
 }
 
-fn push_done(told: &mut String, call: &str, done: Result<(), FolderFault>) -> Result<(), AllocError> {
+fn push_done(
+    told: &mut String,
+    call: &str,
+    done: Result<(), FolderFault>,
+) -> Result<(), AllocError> {
     match done {
         Ok(()) => write!(told, "\n  {call}: done"),
         Err(fault) => write!(told, "\n  {call}: {}", folder_fault(fault)),
@@ -94,7 +98,11 @@ pub fn link(alloc: Global) -> Result<String> {
     Ok(told)
 }
 
-fn push_linked(told: &mut String, call: &str, done: Result<(), LinkFault>) -> Result<(), AllocError> {
+fn push_linked(
+    told: &mut String,
+    call: &str,
+    done: Result<(), LinkFault>,
+) -> Result<(), AllocError> {
     match done {
         Ok(()) => write!(told, "\n  {call}: done"),
         Err(LinkFault::Failed) => write!(told, "\n  {call}: Failed"),

@@ -16,7 +16,12 @@ pub fn names(alloc: Global) -> Result<String> {
     let mut told = String::from_str(alloc, "names")?;
     for _ in 0..3 {
         let handle = names.next();
-        write!(told, "\n  handle {}, then {} given", handle.number(), names.count())?;
+        write!(
+            told,
+            "\n  handle {}, then {} given",
+            handle.number(),
+            names.count()
+        )?;
     }
     Ok(told)
 }

@@ -8,7 +8,7 @@ use front_end::read_program;
 use pt_base::{FnId, IntType, Span};
 use pt_tree::{Elem, Param, ParamKind, Signature};
 use std::alloc::{AllocError, Global};
-use typed_tree::{Form, Role, Typed, TypedExpr, TypedFn, TypedGlobal, VarTy, Var};
+use typed_tree::{Form, Role, Typed, TypedExpr, TypedFn, TypedGlobal, Var, VarTy};
 
 /// A global with more cells than these is told by their number.
 const FEW: usize = 8;
