@@ -46,7 +46,9 @@ pub fn read_table(
 fn models(alloc: Global, program: &Typed, host: &Host) -> Result<String, AllocError> {
     let mut told = String::from_str(alloc, "models of")?;
     for (number, function) in program.functions.iter().enumerate() {
-        if let Some(model) = host.model(FnId(number as u32)) {
+        if let Ok(number) = u32::try_from(number)
+            && let Some(model) = host.model(FnId(number))
+        {
             told.push(' ')?;
             push_bytes(&mut told, function.signature.name.as_slice())?;
             if !fits(model, &function.signature) {

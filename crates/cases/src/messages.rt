@@ -15,16 +15,17 @@ const FEW: usize = 8;
 /// Other characters, and want of memory.
 pub fn bytes_of(alloc: Global, digits: &str) -> Result<Vec<u8>> {
     let mut bytes = Vec::new(alloc);
-    let mut high: Option<u32> = None;
+    let mut high: Option<u8> = None;
     for character in digits.chars() {
         if character == ' ' {
             continue;
         }
         let digit = character.to_digit(16).context("no hexadecimal digit")?;
+        let digit = u8::try_from(digit)?;
         match high {
             None => high = Some(digit),
             Some(first) => {
-                bytes.push(u8::try_from(first * 16 + digit)?)?;
+                bytes.push(u8::try_from(u16::from(first) * 16 + u16::from(digit))?)?;
                 high = None;
             }
         }

@@ -1,6 +1,6 @@
 // Handles, the store of the values that they stand for, and blocks of memory.
 use crate::types::int_name;
-use anyhow::Result;
+use anyhow::{Result, bail};
 use block_memory::{BlockMemory, BlockName, BlockShape, Cell, CellAt, Pointer};
 use handle_store::{Names, Store};
 use pt_base::{IntType, Listed};
@@ -14,7 +14,10 @@ use std::alloc::{AllocError, Global};
 pub fn names(alloc: Global) -> Result<String> {
     let mut names = Names::new();
     let mut told = String::from_str(alloc, "names")?;
-    for _ in 0..3 {
+    for number in 0..3 {
+        if names.count() != number {
+            bail!("another count");
+        }
         let handle = names.next();
         write!(
             told,
@@ -76,7 +79,7 @@ fn push_frames(alloc: Global, told: &mut String) -> Result<(), AllocError> {
         memory.write(at, Cell::Int(-5));
         push_block(told, "written", &memory, number)?;
         told.push_str("\n  read:")?;
-        push_cell(told, memory.read(at))?;
+        push_cell(told, &memory.read(at))?;
     }
     memory.leave(7);
     push_block(told, "left", &memory, number)?;
@@ -106,7 +109,7 @@ fn push_block(
 ) -> Result<(), AllocError> {
     write!(told, "\n  {title}:")?;
     for cell in memory.block(name) {
-        push_cell(told, *cell)?;
+        push_cell(told, cell)?;
     }
     let mut before = " of";
     for ty in memory.types(name) {
@@ -116,7 +119,7 @@ fn push_block(
     Ok(())
 }
 
-fn push_cell(told: &mut String, cell: Cell) -> Result<(), AllocError> {
+fn push_cell(told: &mut String, cell: &Cell) -> Result<(), AllocError> {
     match cell {
         Cell::Int(number) => write!(told, " {number}"),
         Cell::Ptr(Pointer::Null) => told.push_str(" null"),

@@ -34,7 +34,8 @@ pub fn typed(alloc: Global, row: &str) -> Result<String> {
     }
     for (number, function) in program.functions.iter().enumerate() {
         add_function(alloc, &program, function, &mut marks)?;
-        add_parts(alloc, &program, FnId(number as u32), &mut marks)?;
+        let f = FnId(u32::try_from(number)?);
+        add_parts(alloc, &program, f, &mut marks)?;
     }
     let marked = marked(alloc, text.as_bytes(), marks)?;
     let mut told = format!(in alloc; "typed {marked}")?;

@@ -3,7 +3,7 @@ use std::alloc::{AllocError, AllocFailed};
 use thiserror::Error;
 
 /// What is wrong with a line of a policy.
-#[derive(Clone, Copy, Debug, PartialEq, Eq, Drop)]
+#[derive(Clone, Copy, Debug, Drop)]
 pub enum PolicyFaultKind {
     /// The line is not passed over, and its words are no rule.
     Syntax,
@@ -47,7 +47,7 @@ impl PolicyFaultKind {
 }
 
 /// The first fault of a policy's text.
-#[derive(Clone, Copy, Debug, PartialEq, Eq, Drop)]
+#[derive(Clone, Copy, Debug, Drop)]
 pub struct PolicyFault {
     pub kind: PolicyFaultKind,
     /// The line, counted from 1 with those that are passed over; 0 where the text is too long.
@@ -55,7 +55,7 @@ pub struct PolicyFault {
 }
 
 /// Why a text gives no policy.
-#[derive(Clone, Copy, Debug, PartialEq, Eq, Drop, Error)]
+#[derive(Clone, Copy, Debug, Drop, Error)]
 pub enum PolicyError {
     #[error("out of memory")]
     Memory,
