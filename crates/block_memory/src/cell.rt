@@ -2,7 +2,7 @@
 use handle_store::Handle;
 
 /// What stands in a cell.
-#[derive(Clone, Copy, Debug, PartialEq, Eq)]
+#[derive(Clone, Copy)]
 pub enum Cell {
     /// A number.
     Int(i128),
@@ -13,7 +13,7 @@ pub enum Cell {
 }
 
 /// A pointer.
-#[derive(Clone, Copy, Debug, PartialEq, Eq)]
+#[derive(Clone, Copy)]
 pub enum Pointer {
     /// The null pointer.
     Null,
@@ -30,7 +30,7 @@ pub enum Pointer {
 }
 
 /// The name of a block.
-#[derive(Clone, Copy, Debug, PartialEq, Eq)]
+#[derive(Clone, Copy)]
 pub enum BlockName {
     /// A variable of the function that was entered at this depth of calls.
     Local { depth: u32, var: u32 },
@@ -41,7 +41,7 @@ pub enum BlockName {
 }
 
 /// A cell of a block, numbered from 0.
-#[derive(Clone, Copy, Debug, PartialEq, Eq)]
+#[derive(Clone, Copy)]
 pub struct CellAt {
     pub block: BlockName,
     pub cell: u32,

@@ -2,8 +2,6 @@
 #![tactic(auto)]
 
 mod check;
-#[cfg(test)]
-mod tests;
 
 pub use check::check_types;
 pub use typed_programs::TypeError;

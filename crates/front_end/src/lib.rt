@@ -6,8 +6,6 @@ mod error;
 mod laws;
 mod parse_fault;
 mod reading;
-#[cfg(test)]
-mod tests;
 
 pub use error::FrontError;
 pub use laws::a_text_has_one_reading;

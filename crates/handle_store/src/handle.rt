@@ -3,7 +3,7 @@ use std::marker::Model;
 
 /// The name of a value that the monitor keeps. Contracts see it as its number. It comes from
 /// `Names::next` or `Store::add` alone.
-#[derive(Clone, Copy, Debug, PartialEq, Eq)]
+#[derive(Clone, Copy)]
 pub struct Handle {
     number: u64,
 }

@@ -3,7 +3,7 @@ use crate::Handle;
 use std::marker::Model;
 
 /// Gives the handles 0, 1, 2 and so on. Contracts see it as how many were given.
-#[derive(Debug, PartialEq, Eq, Drop)]
+#[derive(Drop)]
 pub struct Names {
     given: u64,
 }

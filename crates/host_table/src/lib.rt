@@ -10,8 +10,6 @@ mod items;
 mod kind;
 mod part;
 mod reading;
-#[cfg(test)]
-mod tests;
 mod writing;
 
 pub use fault::{HostError, HostFault};

@@ -19,8 +19,6 @@ mod spelling;
 mod starting;
 mod states;
 mod step;
-#[cfg(test)]
-mod tests;
 mod text;
 mod verdict;
 

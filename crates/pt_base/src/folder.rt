@@ -6,7 +6,7 @@ ghost use Rattle.pt_base.specs.Files.{Files, SameFiles, SameOthers, HoldsAt, Giv
 use std::alloc::{AllocError, AllocFailed, Global};
 
 /// What a folder answers in place of a file.
-#[derive(Clone, Copy, Debug, PartialEq, Eq)]
+#[derive(Clone, Copy)]
 pub enum FolderFault {
     /// No file of this name is held.
     Missing,

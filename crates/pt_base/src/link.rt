@@ -7,7 +7,7 @@ ghost use Rattle.pt_base.specs.Told.{AppendsPart, GivesWhatIsSaid};
 use std::alloc::{AllocError, Global};
 
 /// Why a link didn't serve.
-#[derive(Clone, Copy, Debug, PartialEq, Eq)]
+#[derive(Clone, Copy)]
 pub enum LinkFault {
     /// The peer can't be started or reached.
     Failed,

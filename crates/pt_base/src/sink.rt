@@ -7,7 +7,7 @@ ghost use Rattle.pt_base.specs.Told.{AppendsPart};
 use std::alloc::{AllocError, Global};
 
 /// Why a sink didn't take bytes.
-#[derive(Clone, Copy, Debug, PartialEq, Eq)]
+#[derive(Clone, Copy)]
 pub enum SinkFault {
     /// They can't be written.
     Failed,

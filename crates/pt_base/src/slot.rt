@@ -3,11 +3,11 @@ use crate::Span;
 
 /// A place that a value can lie in: a variable or a function's result with a field path, numbered
 /// from 0. The elements of an array share one slot.
-#[derive(Clone, Copy, Debug, PartialEq, Eq, PartialOrd, Ord)]
+#[derive(Clone, Copy)]
 pub struct Slot(pub u64);
 
 /// A value may go from one slot to another, by the expression that stands at `span`.
-#[derive(Clone, Copy, Debug, PartialEq, Eq)]
+#[derive(Clone, Copy)]
 pub struct Edge {
     pub from: Slot,
     pub to: Slot,

@@ -9,6 +9,3 @@ mod operator;
 pub use conversion::{conversion_is_one, convert, in_range, promote, usual};
 pub use evaluation::{binary, unary};
 pub use operator::{BinOp, UnOp};
-
-#[cfg(test)]
-mod tests;

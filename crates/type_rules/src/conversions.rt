@@ -11,7 +11,7 @@ use pt_int::usual;
 use pt_tree::BinaryOp;
 
 /// How a value fits an object that it is assigned to, or a parameter or result that it is given as.
-#[derive(Clone, Copy, Debug, PartialEq, Eq)]
+#[derive(Clone, Copy)]
 pub enum Fit {
     /// One of both is of type Bad, which is no fault here.
     Unknown,
@@ -28,7 +28,7 @@ pub enum Fit {
 }
 
 /// What the two arms of a `?:` give.
-#[derive(Clone, Copy, Debug, PartialEq, Eq)]
+#[derive(Clone, Copy)]
 pub enum ChoiceRule {
     /// An arm is of type Bad, which is no fault here.
     Unknown,
@@ -41,7 +41,7 @@ pub enum ChoiceRule {
 }
 
 /// How a value serves as a condition.
-#[derive(Clone, Copy, Debug, PartialEq, Eq)]
+#[derive(Clone, Copy)]
 pub enum ConditionRule {
     /// It is of type Bad, which is no fault here.
     Unknown,
@@ -52,7 +52,7 @@ pub enum ConditionRule {
 }
 
 /// What a cast does.
-#[derive(Clone, Copy, Debug, PartialEq, Eq)]
+#[derive(Clone, Copy)]
 pub enum CastRule {
     /// The type or the operand's type is Bad, which is no fault here.
     Unknown,

@@ -19,6 +19,3 @@ pub use laws::{
 pub use operators::{Rule, binary_rule, index_rule, rule_type};
 pub use types::{Type, Value, elem_type, value_type};
 pub use unary::{UnaryRule, deref_rule, not_rule, promoted_rule, step_rule};
-
-#[cfg(test)]
-mod tests;

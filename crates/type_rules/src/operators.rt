@@ -10,7 +10,7 @@ use pt_int::{promote, usual};
 use pt_tree::BinaryOp;
 
 /// What an operator does with two operands.
-#[derive(Clone, Copy, Debug, PartialEq, Eq)]
+#[derive(Clone, Copy)]
 pub enum Rule {
     /// An operand is of type Bad, which is no fault of the operator.
     Unknown,

@@ -49,7 +49,7 @@ impl Type {
 }
 
 /// An expression as a value: an array stands as the pointer that it decays to.
-#[derive(Clone, Copy, Debug, PartialEq, Eq)]
+#[derive(Clone, Copy)]
 pub struct Value {
     pub ty: Type,
     /// It is an integer constant of value 0; of a value that is no integer this means nothing.

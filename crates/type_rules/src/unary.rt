@@ -9,7 +9,7 @@ use pt_base::IntType;
 use pt_int::promote;
 
 /// What an operator does with one operand.
-#[derive(Clone, Copy, Debug, PartialEq, Eq)]
+#[derive(Clone, Copy)]
 pub enum UnaryRule {
     /// The operand is of type Bad, which is no fault of the operator.
     Unknown,

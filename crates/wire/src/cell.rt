@@ -1,7 +1,7 @@
 // What stands in a cell and what is passed as an argument.
 
 /// A cell as it crosses: a plain number, or the number of a handle that stands for one.
-#[derive(Clone, Copy, Debug, PartialEq, Eq)]
+#[derive(Clone, Copy)]
 pub enum WireCell {
     /// The number itself.
     Number(i128),
@@ -10,7 +10,7 @@ pub enum WireCell {
 }
 
 /// An argument of a call.
-#[derive(Clone, Copy, Debug, PartialEq, Eq)]
+#[derive(Clone, Copy)]
 pub enum Arg {
     /// A number.
     Number(i128),

@@ -2,7 +2,7 @@
 use std::alloc::{AllocError, AllocFailed};
 
 /// What can be wrong with the frame at the front of a reader.
-#[derive(Clone, Copy, Debug, PartialEq, Eq)]
+#[derive(Clone, Copy)]
 pub enum FrameFault {
     /// A whole frame spells no message.
     BadFrame,
@@ -11,7 +11,7 @@ pub enum FrameFault {
 }
 
 /// Why a reader gives no message.
-#[derive(Clone, Copy, Debug, PartialEq, Eq)]
+#[derive(Clone, Copy)]
 pub enum WireError {
     /// The whole frame at this offset spells no message.
     BadFrame(u64),
@@ -22,7 +22,7 @@ pub enum WireError {
 }
 
 /// Why a payload isn't read.
-#[derive(Clone, Copy, Debug, PartialEq, Eq)]
+#[derive(Clone, Copy)]
 pub(crate) enum ReadError {
     /// The bytes are no message's payload.
     Bad,

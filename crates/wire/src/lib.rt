@@ -26,6 +26,3 @@ pub use lists::{Args, Block, Blocks, Cells};
 pub use message::{CallBody, Message, ReplyBody};
 pub use reader::Reader;
 pub use writing::write_message;
-
-#[cfg(test)]
-mod tests;
