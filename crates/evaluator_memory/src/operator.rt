@@ -1,10 +1,11 @@
 // Operators on cells.
-ghost use Rattle.std.specs.Prelude.{◌≡◌, ◌-ℤ◌, true};
+ghost use Rattle.std.specs.Prelude.{◌≡◌, true};
 ghost use Rattle.pt_int.specs.Conversion.{conv};
 ghost use Rattle.pt_int.specs.Operator.{binary_of, is_shift, unary_of};
+ghost use Rattle.runs.specs.Pointers.{difference as difference_of, if_ok};
 ghost use Rattle.typed_tree.specs.Sizes.{sizes_of};
-ghost use Rattle.source_meaning.specs.Memory.{number};
-ghost use Rattle.source_meaning.specs.Values.{if_ok, indices_of, number_in, pointee_cells, promoted_of, shift_of, stepped as stepped_cell, unary_cell, unit_step as unit_step_of};
+ghost use Rattle.source_meaning.specs.Memory.{number, same_block};
+ghost use Rattle.source_meaning.specs.Values.{number_in, pointee_cells, promoted_of, shift_of, stepped as stepped_cell, target_of, unary_cell, unit_step as unit_step_of};
 ghost use Rattle.source_meaning.specs.Expressions.{is_decided as is_decided_by};
 ghost use Rattle.evaluator_memory.specs.View.{view_cell};
 
@@ -101,7 +102,7 @@ fn shift(left: bool) -> BinOp
 
 // How many elements lie between two pointers into one array (C99 6.5.6p9).
 fn difference(a: Cell, b: Cell) -> Result<Cell, Trap>
-    ensures { if_ok result view_cell ≡ if_ok (indices_of (view_cell a) (view_cell b)) (λ ij. number (ij.0 -ℤ ij.1)) }
+    ensures { if_ok result view_cell ≡ if_ok (difference_of same_block (target_of (view_cell a)) (target_of (view_cell b))) number }
 {
     let (i, j) = indices(a, b)?;
     Ok(Cell::Number(i128::from(i) - i128::from(j)))
