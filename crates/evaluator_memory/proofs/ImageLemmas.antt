@@ -1,11 +1,11 @@
 -- How the memory that the code's memory stands for changes with its rows and frames.
-use Rattle.std.proofs.Common.{◌≡◌, ◌∙◌, ◌&&◌, ℕ, zero, suc, ◌∷◌, Bool, true, false, nat_eq, if◌then◌else◌, List, [], get_or, map, set, refl, ap}
+use Rattle.std.proofs.Common.{◌≡◌, ◌∙◌, ◌&&◌, ℕ, Bool, true, false, nat_eq, if◌then◌else◌, List, [], get_or, map, set, refl, ap}
 use Rattle.std.proofs.lemmas.List.{map-set}
 use Rattle.source_meaning.specs.Memory as m
-use Rattle.source_meaning.specs.Memory.{put, with_frame, write}
+use Rattle.source_meaning.specs.Memory.{put, write}
 use Rattle.evaluator_memory.specs.declared.cell.Cell.{Cell}
 use Rattle.evaluator_memory.specs.declared.memory.Memory.{Memory}
-use Rattle.evaluator_memory.specs.Image.{memory_of, local_at, SetsFrame, SetsLocal, SetsRow}
+use Rattle.evaluator_memory.specs.Image.{memory_of, local_at, SetsLocal, SetsRow}
 use Rattle.evaluator_memory.specs.View.{view_cell}
 
 -- memories with the same cells in each block are one
@@ -22,20 +22,6 @@ local_put old new depth x cells sets same = same_memory _ _ each
   where
     each : (block : m.Block) → memory_of new block ≡ put (memory_of old) (m.local depth x) (map view_cell cells) block
     each (m.local d y) = ap (map view_cell) (sets d y) ∙ chosen (nat_eq d depth && nat_eq y x) cells (local_at old.frames d y)
-    each (m.global g) = ap (λ rows. map view_cell (get_or rows g [])) same
-
-get_or-map : (frame : List (List Cell)) (x : ℕ) → map view_cell (get_or frame x []) ≡ get_or (map (map view_cell) frame) x []
-get_or-map [] x = refl
-get_or-map (cells ∷ frame) zero = refl
-get_or-map (cells ∷ frame) (suc x) = get_or-map frame x
-
-pub frame_entered : (old new : Memory) (depth : ℕ) (frame : List (List Cell)) → SetsFrame old.frames new.frames depth frame → new.globals ≡ old.globals → memory_of new ≡ with_frame (memory_of old) depth (map (map view_cell) frame)
-unfolding memory_of
-frame_entered old new depth frame sets same = same_memory _ _ each
-  where
-    each : (block : m.Block) → memory_of new block ≡ with_frame (memory_of old) depth (map (map view_cell) frame) block
-    each (m.local d y) = ap (map view_cell) (sets d y) ∙ chosen (nat_eq d depth) (get_or frame y []) (local_at old.frames d y)
-        ∙ ap (λ cells. if nat_eq d depth then cells else map view_cell (local_at old.frames d y)) (get_or-map frame y)
     each (m.global g) = ap (λ rows. map view_cell (get_or rows g [])) same
 
 pub global_put : (old new : Memory) (g : ℕ) (cells : List Cell) → SetsRow old.globals new.globals g cells → new.frames ≡ old.frames → memory_of new ≡ put (memory_of old) (m.global g) (map view_cell cells)
