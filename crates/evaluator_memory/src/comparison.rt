@@ -13,7 +13,7 @@ use pt_int::BinOp;
 /// A comparison of pointers to elements of so many cells.
 ///
 /// Errors: PtrCompare where they are ordered and aren't into one array (C99 6.5.8p5).
-pub fn compared(op: BinOp, size: u64, a: Cell, b: Cell) -> Result<Cell, Trap>
+pub(crate) fn compared(op: BinOp, size: u64, a: Cell, b: Cell) -> Result<Cell, Trap>
     ensures { if_ok result view_cell ≡ if_ok (compared_targets same_block op size (target_of (view_cell a)) (target_of (view_cell b))) (λ holds. number (truth holds)) }
 {
     let holds = match op {
