@@ -16,7 +16,11 @@ use std::alloc::{AllocError, Global};
 use typed_tree::{TypedGlobal, Var, VarTy};
 
 /// The cells that a variable of the type has when its declaration is reached.
-pub(crate) fn cleared_cells(alloc: Global, layout: &Layout, ty: VarTy) -> Result<Vec<Cell>, AllocError>
+pub(crate) fn cleared_cells(
+    alloc: Global,
+    layout: &Layout,
+    ty: VarTy,
+) -> Result<Vec<Cell>, AllocError>
     ensures { IfOk result (λ v. map view_cell v.items ≡ cleared (sizes_of layout.now) ty) }
 {
     match ty {

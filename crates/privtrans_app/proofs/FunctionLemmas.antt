@@ -2,13 +2,13 @@
 use Rattle.std.proofs.Common.{◌≡◌, ℕ, zero, suc, ◌+◌, List, [], ◌∷◌, ◌++◌, length, map, get_or, refl, ◌∙◌, ap, arith, false, if◌then◌else◌, Option, Some, None, codes, option_map, unwrap_or}
 use Rattle.std.specs.Prelude.{⊤, slice_get}
 use Rattle.std.specs.Str.{bytes_eq}
+use Rattle.pt_base.specs.declared.ids.FnId.{FnId}
+use Rattle.pt_tree.specs.HostStep.{host_step}
 use Rattle.runs.specs.State.{take_turn, guarded_event, noted}
 use Rattle.typed_tree.specs.ExpressionTree.{ExprTree}
 use Rattle.typed_tree.specs.HostProgram.{host_function}
-use Rattle.pt_base.specs.declared.ids.FnId.{FnId}
 use Rattle.typed_tree.specs.TypedTree.{FunctionTree}
 use Rattle.typed_tree.specs.Lookup.{named_from, function_named}
-use Rattle.pt_tree.specs.HostStep.{host_step}
 use Rattle.source_meaning.specs.Values.{numbers_of}
 use Rattle.source_meaning.specs.Functions.{no_function, function_or_none, answered, function_call, calls_within}
 use Rattle.source_meaning.specs.Statements.{no_expr}
