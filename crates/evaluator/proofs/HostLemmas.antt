@@ -11,7 +11,7 @@ use Rattle.std.proofs.lemmas.Bool.{eqb-true, eq-eqb}
 use Rattle.std.specs.Prelude.{pos, IsSomeAnd}
 use Rattle.source_meaning.specs.Memory.{number}
 use Rattle.source_meaning.specs.Values as v
-use Rattle.source_meaning.specs.State.{State, Outcome}
+use Rattle.source_meaning.specs.State.{State}
 use Rattle.source_meaning.specs.Functions.{answered, result_value}
 use Rattle.evaluator.specs.Seen.{models_of, model_or_none, no_model, writes}
 
