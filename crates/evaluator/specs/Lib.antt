@@ -2,6 +2,5 @@ pub mod Expected
 pub mod Gives
 pub mod Loops
 pub mod Machine
-pub mod MainRun
 pub mod Measure
 pub mod Seen

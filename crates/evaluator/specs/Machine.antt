@@ -7,7 +7,7 @@ use Rattle.source_meaning.specs.Expressions as e
 use Rattle.source_meaning.specs.State.{State, Outcome}
 use Rattle.source_meaning.specs.Values.{Value}
 use Rattle.source_meaning.specs.Statements.{Code, Flow, statement}
-use Rattle.source_meaning.specs.Functions.{function_at, calls_within, body_at, brace_of, returned_from}
+use Rattle.source_meaning.specs.Functions.{function_or_none, calls_within, body_at, brace_of, returned_from}
 use Rattle.evaluator.specs.declared.machine.Machine.{Machine}
 use Rattle.evaluator.specs.declared.machine.Frame.{Frame}
 
@@ -21,7 +21,7 @@ unfoldable pub context_in : Machine → Frame → e.Context
 context_in machine frame = record {
   structs = (program_of machine).structs;
   globals = map (λ g. g.var.ty) (program_of machine).globals;
-  variables = map (λ x. x.ty) (function_at (program_of machine) frame.function.0).vars;
+  variables = map (λ x. x.ty) (function_or_none (program_of machine) frame.function.0).vars;
   frame = frame_of frame;
   calls = calls_within (program_of machine) frame.deeper;
 }
@@ -32,7 +32,7 @@ code_in machine frame = record { context = context_in machine frame; exprs = (pr
 -- the call of a frame's function is left, as its body's control goes on
 abbrev pub returned_in : Machine → Frame → Flow → State → Outcome Value
 returned_in machine frame flow st =
-    returned_from (function_at (program_of machine) frame.function.0).signature.result (brace_of (body_at (program_of machine) frame.function.0)) frame.depth flow st
+    returned_from (function_or_none (program_of machine) frame.function.0).signature.result (brace_of (body_at (program_of machine) frame.function.0)) frame.depth flow st
 
 -- the body of a frame's function, and then the return from it
 abbrev pub body_run : Machine → Frame → State → Outcome Value

@@ -1,7 +1,9 @@
 -- What contracts see of the code's values.
-use Rattle.std.specs.Prelude.{ℕ, map, Option, Some, None}
+use Rattle.std.specs.Prelude.{ℕ, pos, Bool, true, false, [], map, Option, Some, None}
 use Rattle.pt_tree.specs.declared.host_model.HostModel.{HostModel}
 use Rattle.pt_tree.specs.declared.host_model.HostModel.TheVariants.{Table, Feed, Input, Bytes, Line}
+use Rattle.runs.specs.Run as run
+use Rattle.runs.specs.State as r
 use Rattle.source_meaning.specs.State as s
 use Rattle.source_meaning.specs.Statements as c
 use Rattle.host_table.specs.Hosts.{hosts_of}
@@ -14,7 +16,7 @@ use Rattle.evaluator.specs.declared.flow.Round.TheVariants.{Again, Leaves}
 use Rattle.evaluator.specs.declared.state.Event.{Event}
 use Rattle.evaluator.specs.declared.state.Event.TheVariants.{Out, Guarded}
 use Rattle.evaluator.specs.declared.state.State.{State}
-use Rattle.std.specs.Prelude.{[], pos, Bool, true, false}
+use Rattle.evaluator.specs.declared.whole.RunResult.{RunResult}
 
 abbrev pub view_flow : Flow → c.Flow
 view_flow GoesOn = c.goes_on
@@ -26,9 +28,12 @@ abbrev pub view_round : Round → c.Round
 view_round Again = c.again
 view_round (Leaves flow) = c.leaves (view_flow flow)
 
-abbrev pub view_event : Event → s.Event
-view_event (Out bytes) = s.out bytes
-view_event (Guarded f plain) = s.guarded f.0 plain
+abbrev pub view_event : Event → r.Event
+view_event (Out bytes) = r.out bytes
+view_event (Guarded f plain) = r.guarded f.0 plain
+
+abbrev pub view_run : RunResult → run.Run
+view_run result = record { events = map view_event result.events.items; end = result.end; turns = result.turns }
 
 -- what stands for a number that no host has: it answers 0
 abbrev pub no_model : HostModel
@@ -39,7 +44,7 @@ model_or_none (Some model) = model
 model_or_none None = no_model
 
 -- what stands for each number
-abbrev pub models_of : (ℕ → Option HostModel) → s.Hosts
+abbrev pub models_of : (ℕ → Option HostModel) → r.Hosts
 models_of models f = model_or_none (models f)
 
 unfoldable pub state_of : State → s.State

@@ -1,14 +1,13 @@
 // Calls of hosts, and the ways into a function and out of it.
 ghost use Rattle.std.specs.Prelude.{◌≡◌, ◌<◌, ◌-◌, ◌+◌, ◌++◌, ◌||◌, map, IfSome, IsSome, IfOk, OnOk};
-ghost use Rattle.pt_tree.specs.HostStep.{host_step};
-ghost use Rattle.runs.specs.State.{put_host};
+ghost use Rattle.runs.specs.State.{answer_of, put_host};
 ghost use Rattle.source_meaning.specs.Values.{numbers_of};
 ghost use Rattle.source_meaning.specs.Statements.{goes_on};
 ghost use Rattle.source_meaning.specs.Functions as meaning;
 ghost use Rattle.host_table.specs.Hosts.{hosts_of, bytes_of};
 ghost use Rattle.evaluator_memory.specs.View.{view_value};
 ghost use Rattle.evaluator.specs.Gives.{Gives, Enters};
-ghost use Rattle.evaluator.specs.Machine.{program_of, frame_of, returned_in};
+ghost use Rattle.evaluator.specs.Machine.{program_of, frame_of, code_in, returned_in};
 ghost use Rattle.evaluator.specs.Seen.{state_of, view_flow, writes};
 
 use crate::events::{note, note_guarded};
@@ -39,7 +38,7 @@ pub fn host_call(
 
 /// A host answers. For a number without a model 0 is the answer, and nothing changes.
 fn answered(alloc: Global, f: FnId, values: &[Value], state: &mut State) -> Result<Value, Stop>
-    ensures { Gives result (state_of state.new) (meaning.answered f.0 (host_step (state_of state.old).input ((state_of state.old).hosts f.0) (numbers_of (map view_value values.now))) (state_of state.old)) }
+    ensures { Gives result (state_of state.new) (meaning.answered f.0 (answer_of f.0 (numbers_of (map view_value values.now)) (state_of state.old)) (state_of state.old)) }
 {
     match state.hosts.model(f) {
         None => Ok(Value::Holds(Cell::Number(0))),
@@ -60,7 +59,7 @@ fn stepped(
 ) -> Result<Value, Stop>
     requires writing { writing ≡ writes ((state_of state.old).hosts f.0) }
     requires model { IsSome ((hosts_of state.old.hosts).models f.0) }
-    ensures { Gives result (state_of state.new) (meaning.answered f.0 (host_step (state_of state.old).input ((state_of state.old).hosts f.0) (numbers_of (map view_value values.now))) (state_of state.old)) }
+    ensures { Gives result (state_of state.new) (meaning.answered f.0 (answer_of f.0 (numbers_of (map view_value values.now)) (state_of state.old)) (state_of state.old)) }
 {
     let all = numbers(alloc, values)?;
     let mut out = Vec::new(alloc);
@@ -80,9 +79,9 @@ fn asked(
     state: &mut State,
 ) -> Result<Option<i128>, AllocError>
     requires { IsSome ((hosts_of state.old.hosts).models f.0) }
-    ensures result { IfOk result (λ o. o ≡ (host_step (state_of state.old).input ((state_of state.old).hosts f.0) numbers.now).result) }
-    ensures out { OnOk result (out.new.items ≡ out.old.items ++ bytes_of (host_step (state_of state.old).input ((state_of state.old).hosts f.0) numbers.now).written) }
-    ensures state { OnOk result (state_of state.new ≡ record (state_of state.old) { hosts = put_host (state_of state.old).hosts f.0 (host_step (state_of state.old).input ((state_of state.old).hosts f.0) numbers.now).next }) }
+    ensures result { IfOk result (λ o. o ≡ (answer_of f.0 numbers.now (state_of state.old)).result) }
+    ensures out { OnOk result (out.new.items ≡ out.old.items ++ bytes_of (answer_of f.0 numbers.now (state_of state.old)).written) }
+    ensures state { OnOk result (state_of state.new ≡ record (state_of state.old) { hosts = put_host (state_of state.old).hosts f.0 (answer_of f.0 numbers.now (state_of state.old)).next }) }
 {
     state.hosts.call(f, numbers, out)
 }
@@ -107,7 +106,7 @@ fn writes(model: &HostModel) -> bool
     }
 }
 
-/// A function is entered: its turn, its event if it is guarded, and its parameters.
+/// A function is entered: its turn, its event if it is guarded, and its variables' cells.
 pub fn entered(
     alloc: Global,
     machine: &Machine<'_>,
@@ -125,14 +124,15 @@ pub fn entered(
     let Some(depth) = one_deeper(frame.depth) else {
         return Err(Stop::Memory);
     };
-    place_parameters(depth, values, state)?;
     let privileged = is_privileged_in(machine, frame, f);
-    Ok(Frame {
+    let inner = Frame {
         function: f,
         depth,
         privileged,
         deeper: frame.deeper - 1,
-    })
+    };
+    opened(machine, inner, values, state)?;
+    Ok(inner)
 }
 
 // the next depth, if there is one
@@ -144,17 +144,26 @@ fn one_deeper(depth: u32) -> Option<u32>
 
 // whether a privileged function is active in a function that is entered
 fn is_privileged_in(machine: &Machine<'_>, frame: Frame, f: FnId) -> bool
-    ensures { result ≡ (frame.privileged || (meaning.function_at (program_of machine.now) f.0).signature.privileged) }
+    ensures { result ≡ (frame.privileged || (meaning.function_or_none (program_of machine.now) f.0).signature.privileged) }
 {
     frame.privileged || machine.is_privileged(f)
 }
 
-// the parameters of a function at this depth get these values
-#[tactic(auto, unfolding(crate::specs::Seen::state_of))]
-fn place_parameters(depth: u32, values: &[Value], state: &mut State) -> Result<(), AllocError>
-    ensures { OnOk result (state_of state.new ≡ record (state_of state.old) { memory = meaning.with_parameters (state_of state.old).memory depth 0 (map view_value values.now) }) }
+/// The variables of a function that is entered get their cells: the parameters hold these values, and
+/// the others are cleared.
+pub fn opened(
+    machine: &Machine<'_>,
+    frame: Frame,
+    values: &[Value],
+    state: &mut State,
+) -> Result<(), AllocError>
+    ensures { OnOk result (state_of state.new ≡ meaning.opened (code_in machine.now frame) (map view_value values.now) (state_of state.old)) }
 {
-    state.memory.enter(depth, values)
+    let variables = machine.variables(frame);
+    state
+        .memory
+        .enter(&machine.layout, frame.depth, variables, values)?;
+    Ok(())
 }
 
 /// A call is left, as its body's control goes on.

@@ -98,9 +98,9 @@ pub fn value(
             operand,
             ..
         } => {
-            let at = location(alloc, machine, frame, place, state)?;
+            let target = location(alloc, machine, frame, place, state)?;
             let v = value(alloc, machine, frame, operand, state)?;
-            compounded(machine, frame, e.span, at, *step, &v, state)
+            compounded(machine, frame, e.span, target, *step, &v, state)
         }
         Form::Step {
             place,

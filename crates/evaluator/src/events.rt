@@ -2,10 +2,10 @@
 ghost use Rattle.std.specs.Prelude.{◌≡◌, ◌∷◌, ◌++◌, ℤ, List, [], IfOk, OnOk, map, if◌then◌else◌};
 ghost use Rattle.pt_tree.specs.PlainNumbers.{is_plain, plain_numbers};
 ghost use Rattle.runs.specs.State.{guarded_event, noted};
-ghost use Rattle.source_meaning.specs.Functions.{function_at};
+ghost use Rattle.source_meaning.specs.Functions.{function_or_none};
 ghost use Rattle.source_meaning.specs.Values.{numbers_of};
 ghost use Rattle.evaluator_memory.specs.View.{view_value};
-ghost use Rattle.evaluator.specs.Machine.{program_of, frame_of};
+ghost use Rattle.evaluator.specs.Machine.{program_of};
 ghost use Rattle.evaluator.specs.Seen.{state_of, view_event};
 
 use crate::machine::{Frame, Machine};
@@ -33,7 +33,7 @@ pub fn note_guarded(
     values: &[Value],
     state: &mut State,
 ) -> Result<(), AllocError>
-    ensures { OnOk result (state_of state.new ≡ noted (guarded_event (frame_of frame) (function_at (program_of machine.now) f.0).signature f.0 (map view_value values.now)) (state_of state.old)) }
+    ensures { OnOk result (state_of state.new ≡ noted (guarded_event frame.privileged (function_or_none (program_of machine.now) f.0).signature f.0 (numbers_of (map view_value values.now))) (state_of state.old)) }
 {
     if !machine.is_privileged(f) || frame.privileged {
         return Ok(());

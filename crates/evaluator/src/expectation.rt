@@ -1,8 +1,8 @@
 // What is expected of a run under a policy.
 ghost use Rattle.std.specs.Prelude.{◌≡◌, ◌++◌, IfOk, OnOk};
-ghost use Rattle.source_meaning.specs.Run as r;
-ghost use Rattle.evaluator.specs.MainRun.{view_run};
+ghost use Rattle.runs.specs.Run as r;
 ghost use Rattle.evaluator.specs.Expected.{answers_of, view_expected};
+ghost use Rattle.evaluator.specs.Seen.{view_run};
 
 use crate::state::Event;
 use crate::whole::RunResult;

@@ -38,7 +38,7 @@ impl<'a> Machine<'a> {
     ghost use Rattle.std.specs.Prelude.{get_or};
     ghost use Rattle.source_meaning.specs.Expressions.{type_at};
     ghost use Rattle.source_meaning.specs.Statements.{no_expr};
-    ghost use Rattle.source_meaning.specs.Functions.{function_at, body_at, no_body, brace_of};
+    ghost use Rattle.source_meaning.specs.Functions.{function_or_none, body_at, no_body, brace_of};
     ghost use Rattle.evaluator.specs.Machine.{program_of, context_in};
     ghost use Rattle.evaluator.specs.Measure.{expr_room, body_room};
 
@@ -49,9 +49,9 @@ impl<'a> Machine<'a> {
         variable_type(self.variables(frame), v.0)
     }
 
-    // the variables of the active function
-    fn variables(&self, frame: Frame) -> &[Var]
-        ensures { result.now ≡ (function_at (program_of self.now) frame.function.0).vars }
+    /// The variables of the active function.
+    pub fn variables(&self, frame: Frame) -> &[Var]
+        ensures { result.now ≡ (function_or_none (program_of self.now) frame.function.0).vars }
     {
         match self.program.functions.get(frame.function.0 as usize) {
             Some(function) => function.vars.as_slice(),
@@ -68,7 +68,7 @@ impl<'a> Machine<'a> {
 
     /// Whether a function is a host, or there is none of this number.
     pub fn is_host(&self, f: FnId) -> bool
-        ensures { result ≡ (function_at (program_of self.now) f.0).signature.host }
+        ensures { result ≡ (function_or_none (program_of self.now) f.0).signature.host }
     {
         match self.program.functions.get(f.0 as usize) {
             Some(function) => function.signature.host,
@@ -78,7 +78,7 @@ impl<'a> Machine<'a> {
 
     /// Whether a function is privileged.
     pub fn is_privileged(&self, f: FnId) -> bool
-        ensures { result ≡ (function_at (program_of self.now) f.0).signature.privileged }
+        ensures { result ≡ (function_or_none (program_of self.now) f.0).signature.privileged }
     {
         match self.program.functions.get(f.0 as usize) {
             Some(function) => function.signature.privileged,
@@ -88,7 +88,7 @@ impl<'a> Machine<'a> {
 
     /// The parameters of a function.
     pub fn params(&self, f: FnId) -> &[Param]
-        ensures { result.now ≡ (function_at (program_of self.now) f.0).signature.params }
+        ensures { result.now ≡ (function_or_none (program_of self.now) f.0).signature.params }
     {
         match self.program.functions.get(f.0 as usize) {
             Some(function) => function.signature.params.as_slice(),
@@ -98,7 +98,7 @@ impl<'a> Machine<'a> {
 
     /// Whether a function has a result.
     pub fn owes_result(&self, f: FnId) -> bool
-        ensures { result ≡ is_some (function_at (program_of self.now) f.0).signature.result }
+        ensures { result ≡ is_some (function_or_none (program_of self.now) f.0).signature.result }
     {
         match self.program.functions.get(f.0 as usize) {
             Some(function) => function.signature.result.is_some(),

@@ -1,7 +1,8 @@
 // Operators on values, each at its place of the text.
 ghost use Rattle.std.specs.Prelude.{◌≡◌};
 ghost use Rattle.source_meaning.specs.State.{State};
-ghost use Rattle.source_meaning.specs.Values.{cell_of, if_ok, unary_cell, stepped};
+ghost use Rattle.runs.specs.Pointers.{if_ok};
+ghost use Rattle.source_meaning.specs.Values.{cell_of, unary_cell, stepped};
 ghost use Rattle.source_meaning.specs.Expressions as is;
 ghost use Rattle.typed_tree.specs.ExpressionTree.{view_expr};
 ghost use Rattle.evaluator_memory.specs.View.{view_cell, view_value};

@@ -1,18 +1,19 @@
 // Whole runs.
-ghost use Rattle.std.specs.Prelude.{◌≡◌, IfOk, false};
+ghost use Rattle.std.specs.Prelude.{◌≡◌, IfOk, codes, false};
 ghost use Rattle.typed_tree.specs.TypedView.{view_typed};
 ghost use Rattle.host_table.specs.Hosts.{hosts_of};
+ghost use Rattle.typed_tree.specs.Lookup.{function_named};
 ghost use Rattle.source_meaning.specs.State as s;
 ghost use Rattle.source_meaning.specs.Statements as c;
 ghost use Rattle.source_meaning.specs.WholeRun as whole;
 ghost use Rattle.evaluator.specs.Gives.{Goes};
-ghost use Rattle.evaluator.specs.Seen.{models_of, state_of};
+ghost use Rattle.evaluator.specs.Seen.{models_of, state_of, view_run};
 ghost use Rattle.evaluator.specs.Machine.{program_of};
-ghost use Rattle.evaluator.specs.MainRun.{main_run, view_run};
 ghost use Rattle.source_meaning.specs.Values.{number_of};
 ghost use Rattle.evaluator_memory.specs.View.{view_value};
 ghost use Rattle.pt_int.specs.Conversion.{conv};
 
+use crate::calls::opened;
 use crate::evaluation::body;
 use crate::flow::Flow;
 use crate::machine::{Frame, Machine};
@@ -46,12 +47,16 @@ pub fn run(alloc: Global, program: &Typed, hosts: Host, turns: u32) -> Result<Ru
     ended(came, turns, state)
 }
 
-/// How control goes on past main's body. Where there is no main, nothing is done.
+/// Main is entered, and how control goes on past its body. Where there is no main, nothing is done.
 fn main_flow(alloc: Global, machine: &Machine<'_>, state: &mut State) -> Result<Flow, Stop>
-    ensures { Goes result (state_of state.new) (main_run (program_of machine.now) (state_of state.old)) }
+    ensures { Goes result (state_of state.new) (whole.main_run (program_of machine.now) (function_named (program_of machine.now) (codes "main")) (state_of state.old)) }
 {
     match machine.program.function_of(b"main") {
-        Some(f) => body(alloc, machine, main_frame(f), state),
+        Some(f) => {
+            let frame = main_frame(f);
+            opened(machine, frame, &[], state)?;
+            body(alloc, machine, frame, state)
+        }
         None => Ok(Flow::GoesOn),
     }
 }

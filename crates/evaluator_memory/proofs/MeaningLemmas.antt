@@ -7,7 +7,7 @@ use Rattle.typed_tree.specs.declared.types.VarTy.{VarTy}
 use Rattle.typed_tree.specs.declared.types.VarTy.TheVariants.{Int, Struct, Array, Pointer}
 use Rattle.source_meaning.specs.Memory.{Cell}
 use Rattle.source_meaning.specs.State.{State}
-use Rattle.source_meaning.specs.Values.{Value, number_of, Location, moved}
+use Rattle.source_meaning.specs.Values.{Value, number_of, Location, moved_cell}
 use Rattle.source_meaning.specs.Expressions.{Context, decayed, dereferenced, element_of, field_at, indexed, loaded, or_trap}
 use Rattle.evaluator_memory.specs.declared.fault.Fault.{Fault}
 use Rattle.evaluator_memory.specs.declared.fault.Fault.TheVariants.{Trapped, Memory}
@@ -32,7 +32,7 @@ two_results s (Ok a) next st = refl
 two_results s (Err trap) next st = refl
 
 pub indexed_is : (context : Context) (s : Span) (at : Location) (index : Value) (st : State) → indexed context s at index st ≡ or_trap s (indexed_in context.structs at (number_of index)) st
-indexed_is context s at index st = two_results s (moved (number_of index) (decayed at at.ty)) (dereferenced context (element_of at.ty)) st
+indexed_is context s at index st = two_results s (moved_cell (number_of index) (decayed at at.ty)) (dereferenced context (element_of at.ty)) st
 
 -- an answer that is a result leaves the state as it is, where its outcome is that result at a place
 pub is_outcome : {A B : Type 0} (view : A → B) (s : Span) (st : State) (answer : Result A Fault) (r : Result B Trap) → IsResult view answer r → IsOutcome view s st answer st.memory (or_trap s r st)

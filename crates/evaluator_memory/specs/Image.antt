@@ -27,9 +27,9 @@ SetsLocal old new depth x cells =
 abbrev pub SameLocals : List (List (List Cell)) → List (List (List Cell)) → Type 0
 SameLocals old new = (d y : ℕ) → local_at new d y ≡ local_at old d y
 
--- no local of the depth has cells, and those of other depths have what they had
-abbrev pub LosesFrame : List (List (List Cell)) → List (List (List Cell)) → ℕ → Type 0
-LosesFrame old new depth = (d y : ℕ) → local_at new d y ≡ (if nat_eq d depth then [] else local_at old d y)
+-- the depth has these variables, and every other depth those that it had
+abbrev pub SetsFrame : List (List (List Cell)) → List (List (List Cell)) → ℕ → List (List Cell) → Type 0
+SetsFrame old new depth frame = (d y : ℕ) → local_at new d y ≡ (if nat_eq d depth then get_or frame y [] else local_at old d y)
 
 -- ---- all blocks
 

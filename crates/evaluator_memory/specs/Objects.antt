@@ -1,6 +1,7 @@
 -- What is computed with objects, by the structs of the program and a memory alone.
 use Rattle.std.specs.Prelude.{ℕ, ℤ, false, List, [], Result, Ok, Err, drop, take}
 use Rattle.pt_base.specs.declared.trap.Trap.{Trap}
+use Rattle.runs.specs.Pointers.{if_ok}
 use Rattle.runs.specs.State.{spent}
 use Rattle.typed_tree.specs.declared.types.VarTy.{VarTy}
 use Rattle.typed_tree.specs.declared.types.VarTy.TheVariants.{Struct}
@@ -8,7 +9,7 @@ use Rattle.typed_tree.specs.declared.types.StructInfo.{StructInfo}
 use Rattle.typed_tree.specs.declared.link.LinkStep.{LinkStep}
 use Rattle.typed_tree.specs.Sizes.{sizes_of, cells_by}
 use Rattle.source_meaning.specs.Memory.{Memory, Cell, read}
-use Rattle.source_meaning.specs.Values.{Value, holds, whole, Location, converted_cell, moved, stepped, if_ok}
+use Rattle.source_meaning.specs.Values.{Value, holds, whole, Location, converted_cell, moved_cell, stepped}
 use Rattle.source_meaning.specs.Expressions.{Context, decayed, dereferenced, element_of, field_at}
 
 -- a program of these structs, of which nothing else matters
@@ -28,7 +29,7 @@ and_then (Err trap) next = Err trap
 
 -- an element of an array: decayed, moved by the index, and dereferenced
 abbrev pub indexed_in : List StructInfo → Location → ℤ → Result Location Trap
-indexed_in structs at index = and_then (moved index (decayed at at.ty)) (dereferenced_in structs (element_of at.ty))
+indexed_in structs at index = and_then (moved_cell index (decayed at at.ty)) (dereferenced_in structs (element_of at.ty))
 
 -- the cells of an object
 abbrev pub cells_in : Memory → Location → ℕ → List Cell

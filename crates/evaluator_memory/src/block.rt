@@ -4,7 +4,7 @@ ghost use Rattle.source_meaning.specs.Memory.{same_block};
 ghost use Rattle.evaluator_memory.specs.View.{view_block};
 
 /// The name of an object's block.
-#[derive(Clone, Copy, Debug, PartialEq, Eq)]
+#[derive(Clone, Copy)]
 pub enum Block {
     /// A variable of the function that was called at this depth.
     Local { depth: u32, variable: u32 },

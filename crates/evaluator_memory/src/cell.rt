@@ -9,7 +9,7 @@ use typed_tree::VarTy;
 
 /// A pointer to an element of a block: from the base cell on there are so many elements, and the
 /// index is from 0 to the count.
-#[derive(Clone, Copy, Debug, PartialEq, Eq)]
+#[derive(Clone, Copy)]
 pub struct Pointer {
     pub block: Block,
     pub base: u64,
@@ -18,7 +18,7 @@ pub struct Pointer {
 }
 
 /// What stands in a cell.
-#[derive(Clone, Copy, Debug, PartialEq, Eq)]
+#[derive(Clone, Copy)]
 pub enum Cell {
     Number(i128),
     Null,

@@ -1,8 +1,9 @@
 // Comparisons of pointers.
 ghost use Rattle.std.specs.Prelude.{◌≡◌, ◌&&◌, nat_eq, pos};
-ghost use Rattle.runs.specs.Pointers.{cell_at as cell_pointed_at};
-ghost use Rattle.source_meaning.specs.Memory.{same_block};
-ghost use Rattle.source_meaning.specs.Values.{are_equal, compared as compared_cell, if_ok, indices_of};
+ghost use Rattle.pt_int.specs.Operator.{truth};
+ghost use Rattle.runs.specs.Pointers.{are_equal, cell_at as cell_pointed_at, compared as compared_targets, if_ok, indices_of};
+ghost use Rattle.source_meaning.specs.Memory.{number, same_block};
+ghost use Rattle.source_meaning.specs.Values.{target_of};
 ghost use Rattle.evaluator_memory.specs.View.{view_block, view_cell};
 
 use crate::cell::{Cell, Pointer};
@@ -12,8 +13,8 @@ use pt_int::BinOp;
 /// A comparison of pointers to elements of so many cells.
 ///
 /// Errors: PtrCompare where they are ordered and aren't into one array (C99 6.5.8p5).
-pub fn compared(op: BinOp, size: u64, a: Cell, b: Cell) -> Result<Cell, Trap>
-    ensures { if_ok result view_cell ≡ compared_cell op size (view_cell a) (view_cell b) }
+pub(crate) fn compared(op: BinOp, size: u64, a: Cell, b: Cell) -> Result<Cell, Trap>
+    ensures { if_ok result view_cell ≡ if_ok (compared_targets same_block op size (target_of (view_cell a)) (target_of (view_cell b))) (λ holds. number (truth holds)) }
 {
     let holds = match op {
         BinOp::Eq => are_one(size, a, b),
@@ -39,22 +40,23 @@ pub fn compared(op: BinOp, size: u64, a: Cell, b: Cell) -> Result<Cell, Trap>
     Ok(Cell::Number(i128::from(holds)))
 }
 
-/// Whether two pointers are equal: both null, or both to one cell of one block (C99 6.5.9p6).
+/// Whether two pointers are equal: both null, or both to one cell of one block (C99 6.5.9p6). A
+/// number is no pointer, and counts as null.
 pub(crate) fn are_one(size: u64, a: Cell, b: Cell) -> bool
-    ensures { result ≡ are_equal size (view_cell a) (view_cell b) }
+    ensures { result ≡ are_equal same_block size (target_of (view_cell a)) (target_of (view_cell b)) }
 {
     match (a, b) {
-        (Cell::Null, Cell::Null) => true,
         (Cell::Pointer(p), Cell::Pointer(q)) => {
             p.block.is_same(q.block) && cell_at(size, p) == cell_at(size, q)
         }
-        _ => false,
+        (Cell::Pointer(_), _) | (_, Cell::Pointer(_)) => false,
+        _ => true,
     }
 }
 
 /// The indices of two pointers into one array.
 pub(crate) fn indices(a: Cell, b: Cell) -> Result<(u64, u64), Trap>
-    ensures { if_ok result (λ p. (pos p.0, pos p.1)) ≡ indices_of (view_cell a) (view_cell b) }
+    ensures { if_ok result (λ p. (pos p.0, pos p.1)) ≡ indices_of same_block (target_of (view_cell a)) (target_of (view_cell b)) }
 {
     match (a, b) {
         (Cell::Pointer(p), Cell::Pointer(q)) if are_in_one_array(p, q) => Ok((p.index, q.index)),

@@ -3,7 +3,7 @@ use pt_base::Trap;
 use std::alloc::{AllocError, AllocFailed};
 
 /// Why an evaluation breaks off.
-#[derive(Clone, Copy, Debug, PartialEq, Eq)]
+#[derive(Clone, Copy)]
 pub enum Fault {
     /// The program's run does.
     Trapped(Trap),

@@ -23,7 +23,7 @@ impl Model for Frames {
 
 impl Frames {
     ghost use Rattle.std.specs.Prelude.{◌≡◌, ◌<◌, [], length, slice_set, OnOk};
-    ghost use Rattle.evaluator_memory.specs.Image.{local_at, LosesFrame, SameLocals, SetsLocal};
+    ghost use Rattle.evaluator_memory.specs.Image.{local_at, SameLocals, SetsFrame, SetsLocal};
 
     /// No frames.
     pub(crate) fn new(alloc: Global) -> Frames
@@ -67,9 +67,18 @@ impl Frames {
         self.frames[depth].put(variable, cells)
     }
 
+    /// Gives the depth these variables.
+    pub(crate) fn enter(&mut self, depth: usize, frame: Rows) -> Result<(), AllocError>
+        ensures { OnOk result (SetsFrame self.old self.new depth frame) }
+    {
+        self.grow(depth)?;
+        self.frames[depth] = frame;
+        Ok(())
+    }
+
     /// Ends the variables of this depth.
     pub(crate) fn leave(&mut self, depth: usize)
-        ensures { LosesFrame self.old self.new depth }
+        ensures { SetsFrame self.old self.new depth [] }
     {
         if depth < self.frames.len() {
             self.frames[depth] = Rows::new(self.alloc);

@@ -20,14 +20,9 @@ mod value;
 
 pub use block::Block;
 pub use cell::{Cell, Pointer};
-pub use comparison::compared;
 pub use fault::Fault;
 pub use layout::Layout;
-pub use location::{Location, element_of, global_type, type_or_int, variable_type};
+pub use location::{Location, global_type, variable_type};
 pub use memory::Memory;
-pub use operator::{is_decided, stepped, unary, unit_step};
-pub use starts::cleared_cells;
+pub use operator::{stepped, unary};
 pub use value::{Value, numbers};
-
-#[cfg(test)]
-mod tests;

@@ -1,6 +1,6 @@
 // Where objects lie.
 ghost use Rattle.std.specs.Prelude.{◌≡◌, map};
-ghost use Rattle.source_meaning.specs.Expressions.{address_of, decayed, element_of as element_type, type_at, type_or_int as type_if_any};
+ghost use Rattle.source_meaning.specs.Expressions.{address_of, decayed, element_of as element_type, type_at};
 ghost use Rattle.evaluator_memory.specs.View.{view_cell, view_location};
 
 use crate::block::Block;
@@ -9,7 +9,7 @@ use pt_base::IntType;
 use typed_tree::{TypedGlobal, Var, VarTy};
 
 /// Where an object lies: at this cell of its block, and of this type.
-#[derive(Clone, Copy, Debug, PartialEq, Eq)]
+#[derive(Clone, Copy)]
 pub struct Location {
     pub block: Block,
     pub cell: u64,
@@ -46,7 +46,7 @@ impl Location {
 }
 
 /// The type of the pointer that an array decays to; another type stays.
-pub fn element_of(ty: VarTy) -> VarTy
+pub(crate) fn element_of(ty: VarTy) -> VarTy
     ensures { result ≡ element_type ty }
 {
     match ty {
@@ -71,16 +71,6 @@ pub fn global_type(globals: &[TypedGlobal], n: u32) -> VarTy
 {
     match globals.get(n as usize) {
         Some(global) => global.var.ty,
-        None => VarTy::Int(IntType::Int),
-    }
-}
-
-/// The type of an expression; int where it is void.
-pub fn type_or_int(ty: Option<VarTy>) -> VarTy
-    ensures { result ≡ type_if_any ty }
-{
-    match ty {
-        Some(ty) => ty,
         None => VarTy::Int(IntType::Int),
     }
 }

@@ -15,7 +15,7 @@ use std::alloc::{AllocError, Global};
 #[derive(Drop)]
 pub struct Memory {
     pub(crate) alloc: Global,
-    frames: Frames,
+    pub(crate) frames: Frames,
     globals: Rows,
 }
 

@@ -15,7 +15,7 @@ impl Memory {
     ghost use Rattle.pt_base.specs.declared.span.Span.{Span};
     ghost use Rattle.source_meaning.specs.State.{State};
     ghost use Rattle.source_meaning.specs.Expressions.{compounded, Context, counted};
-    ghost use Rattle.source_meaning.specs.Values.{if_ok};
+    ghost use Rattle.runs.specs.Pointers.{if_ok};
     ghost use Rattle.evaluator_memory.specs.Answers.{IsOutcome};
     ghost use Rattle.evaluator_memory.specs.Image.{memory_of};
     ghost use Rattle.evaluator_memory.specs.Objects.{compounded_in, loaded_in};

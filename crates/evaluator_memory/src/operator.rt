@@ -1,11 +1,11 @@
 // Operators on cells.
-ghost use Rattle.std.specs.Prelude.{◌≡◌, ◌-ℤ◌, true};
+ghost use Rattle.std.specs.Prelude.{◌≡◌, true};
 ghost use Rattle.pt_int.specs.Conversion.{conv};
 ghost use Rattle.pt_int.specs.Operator.{binary_of, is_shift, unary_of};
+ghost use Rattle.runs.specs.Pointers.{difference as difference_of, if_ok};
 ghost use Rattle.typed_tree.specs.Sizes.{sizes_of};
-ghost use Rattle.source_meaning.specs.Memory.{number};
-ghost use Rattle.source_meaning.specs.Values.{if_ok, indices_of, number_in, pointee_cells, promoted_of, shift_of, stepped as stepped_cell, unary_cell, unit_step as unit_step_of};
-ghost use Rattle.source_meaning.specs.Expressions.{is_decided as is_decided_by};
+ghost use Rattle.source_meaning.specs.Memory.{number, same_block};
+ghost use Rattle.source_meaning.specs.Values.{number_in, pointee_cells, promoted_of, shift_of, stepped as stepped_cell, target_of, unary_cell, unit_step as unit_step_of};
 ghost use Rattle.evaluator_memory.specs.View.{view_cell};
 
 use crate::cell::Cell;
@@ -13,7 +13,7 @@ use crate::comparison::{compared, indices};
 use crate::layout::Layout;
 use pt_base::{IntType, Trap};
 use pt_int::{BinOp, UnOp, binary, convert, promote, usual};
-use typed_tree::{LinkStep, LogicalOp, VarTy};
+use typed_tree::{LinkStep, VarTy};
 
 /// An operator before its operand, as a number of the type (C99 6.5.3.3); `!` asks whether a pointer
 /// is null.
@@ -45,7 +45,7 @@ pub fn stepped(layout: &Layout, ty: VarTy, step: LinkStep, a: Cell, b: Cell) -> 
 
 /// The step by which `++` and `--` add or subtract 1, as a compound assignment does (C99 6.5.2.4,
 /// 6.5.3.1).
-pub fn unit_step(ty: VarTy, back: bool) -> LinkStep
+pub(crate) fn unit_step(ty: VarTy, back: bool) -> LinkStep
     ensures { result ≡ unit_step_of ty back }
 {
     match ty {
@@ -54,16 +54,6 @@ pub fn unit_step(ty: VarTy, back: bool) -> LinkStep
             LinkStep::Arithmetic(op, usual(t, IntType::Int))
         }
         VarTy::Struct(_) | VarTy::Array { .. } | VarTy::Pointer { .. } => LinkStep::Move { back },
-    }
-}
-
-/// Whether the value so far decides `&&` or `||` (C99 6.5.13p4, 6.5.14p4).
-pub fn is_decided(op: LogicalOp, holds: bool) -> bool
-    ensures { result ≡ is_decided_by op holds }
-{
-    match op {
-        LogicalOp::And => !holds,
-        LogicalOp::Or => holds,
     }
 }
 
@@ -101,7 +91,7 @@ fn shift(left: bool) -> BinOp
 
 // How many elements lie between two pointers into one array (C99 6.5.6p9).
 fn difference(a: Cell, b: Cell) -> Result<Cell, Trap>
-    ensures { if_ok result view_cell ≡ if_ok (indices_of (view_cell a) (view_cell b)) (λ ij. number (ij.0 -ℤ ij.1)) }
+    ensures { if_ok result view_cell ≡ if_ok (difference_of same_block (target_of (view_cell a)) (target_of (view_cell b))) number }
 {
     let (i, j) = indices(a, b)?;
     Ok(Cell::Number(i128::from(i) - i128::from(j)))

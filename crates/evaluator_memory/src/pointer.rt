@@ -1,7 +1,7 @@
 // What is done with pointers: they are moved, and lead to objects.
 ghost use Rattle.std.specs.Prelude.{◌≡◌};
 ghost use Rattle.runs.specs.Pointers.{directed, moved_index, up_to as up_to_count};
-ghost use Rattle.typed_tree.specs.Sizes.{elem_type};
+ghost use Rattle.typed_tree.specs.TypeTests.{type_of_elem};
 
 use crate::arithmetic::{product, sum};
 use crate::cell::{Cell, Pointer};
@@ -14,9 +14,11 @@ use typed_tree::VarTy;
 
 impl Cell {
     ghost use Rattle.std.specs.Prelude.{◌≡◌};
-    ghost use Rattle.runs.specs.Pointers.{directed};
-    ghost use Rattle.typed_tree.specs.Sizes.{sizes_of};
-    ghost use Rattle.source_meaning.specs.Values.{if_ok, moved, reached};
+    ghost use Rattle.runs.specs.Pointers.{directed, if_ok, reached};
+    ghost use Rattle.typed_tree.specs.Sizes.{elem_cells, sizes_of};
+    ghost use Rattle.typed_tree.specs.TypeTests.{type_of_elem};
+    ghost use Rattle.source_meaning.specs.Values.{moved_cell, target_of};
+    ghost use Rattle.source_meaning.specs.Expressions.{object_at};
     ghost use Rattle.evaluator_memory.specs.Answers.{IsResult};
     ghost use Rattle.evaluator_memory.specs.Objects.{dereferenced_in};
     ghost use Rattle.evaluator_memory.specs.View.{view_cell, view_location};
@@ -25,7 +27,7 @@ impl Cell {
     ///
     /// Errors: Null where it isn't a pointer, PtrRange where it would leave its array.
     pub fn moved(self, back: bool, amount: i128) -> Result<Cell, Trap>
-        ensures { if_ok result view_cell ≡ moved (directed back amount) (view_cell self) }
+        ensures { if_ok result view_cell ≡ moved_cell (directed back amount) (view_cell self) }
     {
         match self {
             Cell::Number(_) | Cell::Null => Err(Trap::Null),
@@ -57,7 +59,7 @@ impl Cell {
 
     // What a pointer to such an element points to.
     fn reached(self, layout: &Layout, elem: Elem) -> Result<Location, Fault>
-        ensures { IsResult view_location result (reached (sizes_of layout.now) elem (elem_type elem) (view_cell self)) }
+        ensures { IsResult view_location result (if_ok (reached (elem_cells (sizes_of layout.now) elem) (target_of (view_cell self))) (object_at (type_of_elem elem))) }
     {
         match self {
             Cell::Number(_) | Cell::Null => Err(Fault::Trapped(Trap::Null)),
@@ -95,7 +97,7 @@ impl Location {
 
 // The type of an element as that of an object.
 fn type_of(elem: Elem) -> VarTy
-    ensures { result ≡ elem_type elem }
+    ensures { result ≡ type_of_elem elem }
 {
     match elem {
         Elem::Int(t) => VarTy::Int(t),

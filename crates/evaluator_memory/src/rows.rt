@@ -61,7 +61,7 @@ impl Model for Rows {
 }
 
 impl Rows {
-    ghost use Rattle.std.specs.Prelude.{◌≡◌, ◌<◌, [], length, get_or, slice_set, OnOk};
+    ghost use Rattle.std.specs.Prelude.{◌≡◌, ◌<◌, [], ◌∷◌, ◌++◌, length, get_or, slice_set, OnOk};
     ghost use Rattle.evaluator_memory.specs.Image.{SameRows, SetsRow};
 
     /// No number has cells.
@@ -91,6 +91,14 @@ impl Rows {
         if number < self.rows.len() {
             self.rows[number].write(at, cell);
         }
+    }
+
+    /// Gives the next number these cells.
+    pub(crate) fn push(&mut self, cells: Vec<Cell>) -> Result<(), AllocError>
+        ensures { OnOk result (self.new ≡ self.old ++ cells.items ∷ []) }
+    {
+        self.rows.push(Row::new(cells))?;
+        Ok(())
     }
 
     /// Gives the number these cells.

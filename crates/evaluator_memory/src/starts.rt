@@ -1,20 +1,26 @@
-// The cells that objects start with: variables at their declarations, parameters and globals.
+// The cells that objects start with: variables at their function's entry and at their declarations,
+// and globals.
 ghost use Rattle.std.specs.Prelude.{◌≡◌, ◌+◌, [], ◌∷◌, IfOk, map, replicate, pos};
 ghost use Rattle.typed_tree.specs.Sizes.{sizes_of};
 ghost use Rattle.source_meaning.specs.Memory.{number};
-ghost use Rattle.source_meaning.specs.Values.{cleared};
-ghost use Rattle.evaluator_memory.specs.View.{view_cell};
+ghost use Rattle.source_meaning.specs.Values.{cleared, frame_cells};
+ghost use Rattle.evaluator_memory.specs.View.{view_cell, view_value};
 
 use crate::block::Block;
 use crate::cell::Cell;
 use crate::layout::Layout;
 use crate::memory::Memory;
+use crate::rows::Rows;
 use crate::value::Value;
 use std::alloc::{AllocError, Global};
-use typed_tree::{TypedGlobal, VarTy};
+use typed_tree::{TypedGlobal, Var, VarTy};
 
-/// The cells that an object of the type has when its declaration is reached.
-pub fn cleared_cells(alloc: Global, layout: &Layout, ty: VarTy) -> Result<Vec<Cell>, AllocError>
+/// The cells that a variable of the type has when its declaration is reached.
+pub(crate) fn cleared_cells(
+    alloc: Global,
+    layout: &Layout,
+    ty: VarTy,
+) -> Result<Vec<Cell>, AllocError>
     ensures { IfOk result (λ v. map view_cell v.items ≡ cleared (sizes_of layout.now) ty) }
 {
     match ty {
@@ -27,9 +33,8 @@ pub fn cleared_cells(alloc: Global, layout: &Layout, ty: VarTy) -> Result<Vec<Ce
 impl Memory {
     ghost use Rattle.std.specs.Prelude.{◌≡◌, IfOk, map, OnOk};
     ghost use Rattle.typed_tree.specs.Sizes.{sizes_of};
-    ghost use Rattle.source_meaning.specs.Memory.{local, nothing_live, put};
-    ghost use Rattle.source_meaning.specs.Values.{cleared};
-    ghost use Rattle.source_meaning.specs.Functions.{with_parameters};
+    ghost use Rattle.source_meaning.specs.Memory.{local, nothing_live, put, with_frame};
+    ghost use Rattle.source_meaning.specs.Values.{cleared, frame_cells};
     ghost use Rattle.source_meaning.specs.WholeRun.{with_globals};
     ghost use Rattle.evaluator_memory.specs.Image.{memory_of};
     ghost use Rattle.evaluator_memory.specs.View.{view_value};
@@ -48,19 +53,20 @@ impl Memory {
         self.put(Block::Local { depth, variable }, cells)
     }
 
-    /// Gives the parameters of a function that is called at this depth their values.
-    pub fn enter(&mut self, depth: u32, values: &[Value]) -> Result<(), AllocError>
-        ensures { OnOk result (memory_of self.new ≡ with_parameters (memory_of self.old) depth 0 (map view_value values.now)) }
+    /// Gives the variables of a function that is called at this depth their cells: the parameters
+    /// hold these values, and the others are cleared.
+    #[tactic(auto, unfolding(crate::specs::Image::memory_of))]
+    pub fn enter(
+        &mut self,
+        layout: &Layout,
+        depth: u32,
+        variables: &[Var],
+        values: &[Value],
+    ) -> Result<(), AllocError>
+        ensures { OnOk result (memory_of self.new ≡ with_frame (memory_of self.old) depth (frame_cells (sizes_of layout.now) (map (λ x. x.ty) variables.now) (map view_value values.now))) }
     {
-        let mut variable: u32 = 0;
-        for value in values {
-            self.put(
-                Block::Local { depth, variable },
-                one_cell(self.alloc, value.cell())?,
-            )?;
-            variable = next(variable)?;
-        }
-        Ok(())
+        let frame = frame_of(self.alloc, layout, variables, values)?;
+        self.frames.enter(depth as usize, frame)
     }
 
     /// The memory at the start: each global with its cells.
@@ -78,6 +84,29 @@ impl Memory {
         }
         Ok(memory)
     }
+}
+
+// The cells of a function's variables when it is called with these values.
+fn frame_of(
+    alloc: Global,
+    layout: &Layout,
+    variables: &[Var],
+    values: &[Value],
+) -> Result<Rows, AllocError>
+    ensures { IfOk result (λ frame. map (map view_cell) frame ≡ frame_cells (sizes_of layout.now) (map (λ x. x.ty) variables.now) (map view_value values.now)) }
+{
+    let mut frame = Rows::new(alloc);
+    let mut rest = values;
+    for variable in variables {
+        match rest {
+            [value, later @ ..] => {
+                frame.push(one_cell(alloc, value.cell())?)?;
+                rest = later;
+            }
+            [] => frame.push(cleared_cells(alloc, layout, variable.ty)?)?,
+        }
+    }
+    Ok(frame)
 }
 
 // The number after this one.

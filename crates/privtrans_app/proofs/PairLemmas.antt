@@ -123,7 +123,7 @@ written_out : (o : Option (List ℕ)) → written (out_event o) ≡ bytes_of o
 written_out None = refl
 written_out (Some bytes) = append-nil bytes
 
-written_guarded : (h : Host) (f : ℕ) (vs : List Value) → written (guarded_event main_frame (signature_of h) f vs) ≡ []
+written_guarded : (h : Host) (f : ℕ) (vs : List Value) → written (guarded_event false (signature_of h) f (numbers_of vs)) ≡ []
 written_guarded h f vs = go (is_privileged h.mark)
   where
     go : (b : Bool) → written (if b && true then guarded f (plain_numbers (map param_of h.params) (numbers_of vs)) ∷ [] else []) ≡ []
@@ -139,7 +139,7 @@ guarded_out : (hosts : List Host) (o : Option (List ℕ)) → AreGuarded hosts (
 guarded_out hosts None = tt
 guarded_out hosts (Some bytes) = tt
 
-guarded_call : (hosts : List Host) (h : Host) (f : ℕ) (vs : List Value) → slice_get hosts f ≡ Some h → AreGuarded hosts (guarded_event main_frame (signature_of h) f vs)
+guarded_call : (hosts : List Host) (h : Host) (f : ℕ) (vs : List Value) → slice_get hosts f ≡ Some h → AreGuarded hosts (guarded_event false (signature_of h) f (numbers_of vs))
 guarded_call hosts h f vs is = go (is_privileged h.mark) refl
   where
     go : (b : Bool) → is_privileged h.mark ≡ b → AreGuarded hosts (if b && true then guarded f (plain_numbers (map param_of h.params) (numbers_of vs)) ∷ [] else [])
@@ -302,7 +302,7 @@ answered_state h f left vs answer st = record {
   memory = st.memory;
   hosts = put_host st.hosts f answer.next;
   input = st.input;
-  events = (st.events ++ guarded_event main_frame (signature_of h) f vs) ++ out_event answer.written;
+  events = (st.events ++ guarded_event false (signature_of h) f (numbers_of vs)) ++ out_event answer.written;
   left = left;
 }
 
@@ -318,7 +318,7 @@ answer_agrees : (count : ℕ) (T : ℕ → Type 0) (hosts : List Host) (models :
     → Agrees count T hosts models pair st → slice_get hosts f ≡ Some h → answer.next ≡ model_at models f
     → Agrees count T hosts models (record pair { out = pair.out ++ bytes_of answer.written }) (answered_state h f left vs answer st)
 answer_agrees count T hosts models pair st h f left vs answer agrees is next =
-    let event : List Event = guarded_event main_frame (signature_of h) f vs in
+    let event : List Event = guarded_event false (signature_of h) f (numbers_of vs) in
     record {
       count_is = agrees.count_is;
       cells = agrees.cells;
@@ -349,7 +349,7 @@ reply_is false (Some v) pair = (refl, tt)
 -- what a call of this host from main does
 abbrev pub host_reached : Host → ℕ → List Value → State → Outcome Value
 host_reached h f vs st = take_turn st.left st (λ st1.
-    answered f (host_step st1.input (st1.hosts f) (numbers_of vs)) (noted (guarded_event main_frame (signature_of h) f vs) st1))
+    answered f (host_step st1.input (st1.hosts f) (numbers_of vs)) (noted (guarded_event false (signature_of h) f (numbers_of vs)) st1))
 
 -- main's calls reach the hosts
 abbrev pub ReachHosts : List Host → Calls → Type 0
@@ -384,8 +384,8 @@ host_goes names T hosts models types calls pair st c h left ints reach agrees st
       does =
           ap (λ r. r >>= calls main_frame nowhere f) (args_values names T hosts models pair st types calls ints agrees c.args args)
           ∙ reach f h nowhere vs st at
-          ∙ ap (λ n. take_turn n st (λ st1. answered f (host_step st1.input (st1.hosts f) (numbers_of vs)) (noted (guarded_event main_frame (signature_of h) f vs) st1))) turns
-          ∙ ap (λ a. answered f a (noted (guarded_event main_frame (signature_of h) f vs) (record st { left = left }))) same_answer;
+          ∙ ap (λ n. take_turn n st (λ st1. answered f (host_step st1.input (st1.hosts f) (numbers_of vs)) (noted (guarded_event false (signature_of h) f (numbers_of vs)) st1))) turns
+          ∙ ap (λ a. answered f a (noted (guarded_event false (signature_of h) f (numbers_of vs)) (record st { left = left }))) same_answer;
       agrees = reply_agrees (length names) T hosts models (record pair { out = pair.out ++ bytes_of answer.written }) (answered_state h f left vs answer st) (is_privileged h.mark && not (is_declassified h.mark)) answer.result
           (answer_agrees (length names) T hosts models pair st h f left vs answer agrees at (steady_next (model_at models f) _ (steady_at models f steady)));
       left = omega (arith, turns);

@@ -16,13 +16,13 @@ use Rattle.typed_tree.specs.ExpressionTree.{ExprTree}
 use Rattle.typed_tree.specs.StatementTree.{BodyTree, give_back, no_bodies, body_trees}
 use Rattle.typed_tree.specs.TypedTree.{FunctionTree}
 use Rattle.typed_tree.specs.HostProgram.{nowhere}
-use Rattle.source_meaning.specs.Memory.{Memory, Cell, number, local, put, read, write, nothing_live}
+use Rattle.source_meaning.specs.Memory.{Memory, Cell, number, local, put, with_frame, read, write, nothing_live}
 use Rattle.source_meaning.specs.State.{State, Outcome}
-use Rattle.source_meaning.specs.Values.{Value, holds, whole, nothing, Location, cleared}
+use Rattle.source_meaning.specs.Values.{Value, holds, whole, nothing, Location, cleared, frame_cells}
 use Rattle.source_meaning.specs.Expressions.{Calls, type_at, sizes, store, value_of}
 use Rattle.source_meaning.specs.Statements.{Code, Flow, goes_on, returned, after_flow, statement, all_of, no_expr}
 use Rattle.source_meaning.specs.Functions.{body_or_none, calls_within}
-use Rattle.source_meaning.specs.WholeRun.{run_of}
+use Rattle.source_meaning.specs.WholeRun.{main_run, run_of}
 use Rattle.privtrans_app.specs.Names.{is_in, place_in, all_differ}
 use Rattle.privtrans_app.specs.EarlyTree.{names_of, number_tree, statement_tree, declares, evaluates, main_function, meant}
 use Rattle.privtrans_app.specs.EarlyConditions.{host_of, hosts_are_good, args_are_good, callee_is_good, call_is_good, statement_is_good, statements_are_good, names_are_good, calls_in, call_count}
@@ -31,7 +31,7 @@ use Rattle.privtrans_app.specs.EarlyPair.{Pair, model_at, revealed, arg_held, ar
 use Rattle.privtrans_app.specs.EarlyRun.{AreSteady, early_answers, AllAllowed, PairKeeps}
 use Rattle.privtrans_app.proofs.TaintLemmas.{Follows, AllFollow, all_follow}
 use Rattle.privtrans_app.proofs.PairLemmas.{HandleFits, no_number, AreGuarded, Agrees, place_in-lt, both, host_good, main_context, AreInts, variable_value, ResultIs, ReachHosts, CallGoes, host_goes}
-use Rattle.privtrans_app.proofs.FunctionLemmas.{last_is, main_at, reaches, ints_are, AreNamed, named_all}
+use Rattle.privtrans_app.proofs.FunctionLemmas.{last_is, main_found, main_at, reaches, ints_are, AreNamed, named_all}
 use Rattle.propagation.specs.Paths.{IsPriv}
 use Rattle.privtrans_app.specs.declared.early.Host.{Host}
 use Rattle.privtrans_app.specs.declared.early.Arg.TheVariants.{Variable}
@@ -295,15 +295,19 @@ length-replicated : (count : ℕ) → length (replicate count no_number) ≡ cou
 length-replicated zero = refl
 length-replicated (suc count) = ap suc (length-replicated count)
 
--- main's state as it begins
-abbrev first_state : List HostModel → ℕ → State
-first_state models turns = record { memory = nothing_live; hosts = model_at models; input = []; events = []; left = turns }
+-- main's state as its body begins, with this memory
+abbrev first_state : List HostModel → ℕ → Memory → State
+first_state models turns memory = record { memory = memory; hosts = model_at models; input = []; events = []; left = turns }
 
-begins : (names : List (List ℕ)) (T : ℕ → Type 0) (hosts : List Host) (models : List HostModel) (turns : ℕ)
-    → Agrees (length names) T hosts models (pair_start (length names)) (record (first_state models turns) { memory = declared_memory 0 (length names) nothing_live })
-begins names T hosts models turns = record {
+-- the memory in which main's body begins, with variables of these types
+abbrev entered_memory : List VarTy → Memory
+entered_memory types = with_frame nothing_live 1 (frame_cells [] types [])
+
+begins : (names : List (List ℕ)) (T : ℕ → Type 0) (hosts : List Host) (models : List HostModel) (turns : ℕ) (memory : Memory)
+    → Agrees (length names) T hosts models (pair_start (length names)) (first_state models turns (declared_memory 0 (length names) memory))
+begins names T hosts models turns memory = record {
   count_is = length-replicated (length names);
-  cells = λ i lt. declared_cells 0 (length names) i nothing_live (omega arith) (omega arith)
+  cells = λ i lt. declared_cells 0 (length names) i memory (omega arith) (omega arith)
       ∙ ap (λ h. number (revealed [] h) ∷ []) (sym (replicate_is (length names) i));
   handles = λ i lt. subst (λ h. HandleFits 0 (T i) h) (sym (replicate_is (length names) i)) tt;
   models_are = λ f. refl;
@@ -313,32 +317,32 @@ begins names T hosts models turns = record {
 }
 
 -- What main's body comes to.
-record MainReturns (p : Program) (models : List HostModel) (code : Code) (turns : ℕ) : Type 0 where
+record MainReturns (p : Program) (models : List HostModel) (code : Code) (turns : ℕ) (memory : Memory) : Type 0 where
   pub after : State
-  pub does : statement (body_or_none (main_function p).body) code (first_state models turns) ≡ gives (returned (holds (number (pos p.status)))) after
+  pub does : statement (body_or_none (main_function p).body) code (first_state models turns memory) ≡ gives (returned (holds (number (pos p.status)))) after
   pub bytes : written after.events ≡ (pair_run p models).out
   pub calls_are : AreGuarded p.hosts after.events
 
-main_returns : (p : Program) (models : List HostModel) (types : List VarTy) (calls : Calls) (turns : ℕ) → AreInts types → ReachHosts p.hosts calls
+main_returns : (p : Program) (models : List HostModel) (types : List VarTy) (calls : Calls) (turns : ℕ) (memory : Memory) → AreInts types → ReachHosts p.hosts calls
     → names_are_good p ≡ true → KeepsTaint p → AreSteady models → call_count p.statements ≤ turns
-    → MainReturns p models (main_code types calls (meant p).exprs) turns
-main_returns p models types calls turns ints reach good taint steady enough =
+    → MainReturns p models (main_code types calls (meant p).exprs) turns memory
+main_returns p models types calls turns memory ints reach good taint steady enough =
     let names : List (List ℕ) = p.variables in
     let T : ℕ → Type 0 = λ i. IsPriv (sources p.hosts names p.statements) (copies names p.statements) (record { 0 = i }) in
     let goods : (hosts_are_good p.hosts ≡ true) × (statements_are_good p.hosts names p.statements ≡ true) = good_parts p good in
     let exprs : List ExprTree = (meant p).exprs in
     let code : Code = main_code types calls exprs in
-    let st1 : State = record (first_state models turns) { memory = declared_memory 0 (length names) nothing_live } in
+    let st1 : State = first_state models turns (declared_memory 0 (length names) memory) in
     let last : List BodyTree = give_back nowhere (Some (record { 0 = length p.statements })) ∷ [] in
     let steps : AllStep names T p.hosts models code (pair_start (length names)) st1 0 p.statements =
     all_step names T p.hosts models types calls exprs (pair_start (length names)) st1 0 p.statements ints reach (named_all (map (statement_tree p.hosts names) p.statements) (number_tree p.status ∷ []))
-    (begins names T p.hosts models turns) steady goods.0 goods.1 taint
+    (begins names T p.hosts models turns memory) steady goods.0 goods.1 taint
     (all_follow (sources p.hosts names p.statements) (copies names p.statements) p.hosts names p.statements (λ s c. c) (λ e c. c)) enough in
     record {
       after = steps.after;
       does =
-          ap (λ ss. all_of (body_trees ss) code (first_state models turns)) (append_assoc (declares 0 (length names)) (evaluates 0 (length p.statements)) last)
-          ∙ declares_go types calls exprs 0 (length names) (evaluates 0 (length p.statements) ++ last) (first_state models turns) ints
+          ap (λ ss. all_of (body_trees ss) code (first_state models turns memory)) (append_assoc (declares 0 (length names)) (evaluates 0 (length p.statements)) last)
+          ∙ declares_go types calls exprs 0 (length names) (evaluates 0 (length p.statements) ++ last) (first_state models turns memory) ints
           ∙ steps.does last
           ∙ ap (λ (e : ExprTree). (value_of e (main_context types calls) steps.after >>= λ v. gives (returned v)) >>= after_flow (all_of no_bodies code))
           (last_is (statement_tree p.hosts names) p.statements (number_tree p.status) no_expr);
@@ -355,10 +359,11 @@ main_returns p models types calls turns ints reach good taint steady enough =
 pub pair_keeps : PairKeeps
 pair_keeps p models state allowed turns main good taint steady all enough =
     let types : List VarTy = map (λ x. x.ty) (main_function p).vars in
-    let returns : MainReturns p models (main_code types (calls_within (meant p) 199) (meant p).exprs) turns =
-    main_returns p models types (calls_within (meant p) 199) turns (ints_are p.variables) (reaches p 198) good taint steady enough in
-    ap (λ (f : FunctionTree). expected (early_answers p.hosts state allowed)
-    (run_of turns (statement (body_or_none f.body) (main_code (map (λ x. x.ty) f.vars) (calls_within (meant p) 199) (meant p).exprs) (first_state models turns)))) (main_at p main.named)
+    let returns : MainReturns p models (main_code types (calls_within (meant p) 199) (meant p).exprs) turns (entered_memory types) =
+    main_returns p models types (calls_within (meant p) 199) turns (entered_memory types) (ints_are p.variables) (reaches p 198) good taint steady enough in
+    ap (λ o. expected (early_answers p.hosts state allowed) (run_of turns (main_run (meant p) o (first_state models turns nothing_live)))) (main_found p main.named)
+    ∙ ap (λ (f : FunctionTree). expected (early_answers p.hosts state allowed)
+    (run_of turns (statement (body_or_none f.body) (main_code (map (λ x. x.ty) f.vars) (calls_within (meant p) 199) (meant p).exprs) (first_state models turns (entered_memory (map (λ x. x.ty) f.vars)))))) (main_at p)
     ∙ ap (λ o. expected (early_answers p.hosts state allowed) (run_of turns o)) returns.does
     ∙ all_expected p.hosts state allowed returns.after.events (Exit (conv i.Int (pos p.status))) 0 returns.calls_are all
     ∙ ap (λ v. record { bytes = written returns.after.events; end = Exit v }) (conv-same i.Int (pos p.status) (omega (arith, ints), omega (arith, ints)))

@@ -12,7 +12,7 @@ use Rattle.typed_tree.specs.TypedTree.{TypedTree}
 use Rattle.typed_tree.specs.Lookup.{function_named}
 use Rattle.source_meaning.specs.State.{State, Outcome}
 use Rattle.source_meaning.specs.Values.{number_of}
-use Rattle.source_meaning.specs.Statements.{Flow, goes_on, broke, continues, returned, statement}
+use Rattle.source_meaning.specs.Statements.{Flow, goes_on, broke, continues, returned}
 use Rattle.source_meaning.specs.Functions.{body_at}
 use Rattle.source_meaning.specs.WholeRun.{main_run, begun, main_code, run_of, whole_run}
 use Rattle.source_meaning.specs.Laws.{EndedRunsStay, SpentRunsUseAll, FewerTurnsShowLess}

@@ -1,5 +1,5 @@
 -- The meaning of calls (C99 6.5.2.2), within a depth and a budget of turns.
-use Rattle.std.specs.Prelude.{ℕ, zero, suc, ◌+◌, ◌-◌, ℤ, Bool, true, false, ◌||◌, List, [], ◌∷◌, Option, Some, None, map, unwrap_or, if◌then◌else◌, nat_eq}
+use Rattle.std.specs.Prelude.{ℕ, zero, suc, ◌+◌, ◌-◌, ℤ, Bool, true, false, ◌||◌, List, [], Option, Some, None, map, unwrap_or, if◌then◌else◌, nat_eq}
 use Rattle.pt_base.specs.declared.int_type.IntType.{IntType}
 use Rattle.pt_base.specs.declared.span.Span.{Span}
 use Rattle.pt_base.specs.declared.trap.Trap.TheVariants.{Depth, NoReturn}

@@ -73,17 +73,17 @@ value-returns-in-Assign t c =
     (sym (assign_is _ _ _ _ c.args.e.now.span c.args.e.now.ty _ _ _ _ _ _ (ap tree.view_form c.in-Assign.is ∙ view_assign c.in-Assign.place c.in-Assign.a.value c.in-Assign.a refl) c.in_ok-at-in-Assign.ensures (ap tree.view_expr c.deref-in-Assign.ensures) c.in_ok-v-in-Assign.ensures))
     c.stored.ensures
 
-pub value-returns-in_err-at-in-Compound : goal.value-returns-in_err-at-in-Compound
-value-returns-in_err-at-in-Compound t c = rw (ap tree.view_form c.in-Compound.is ∙ view_compound c.in-Compound.place _ c.in-Compound.step c.in-Compound.operand.value c.in-Compound.operand refl) (search rules)
+pub value-returns-in_err-target-in-Compound : goal.value-returns-in_err-target-in-Compound
+value-returns-in_err-target-in-Compound t c = rw (ap tree.view_form c.in-Compound.is ∙ view_compound c.in-Compound.place _ c.in-Compound.step c.in-Compound.operand.value c.in-Compound.operand refl) (search rules)
 
 pub value-returns-in_err-v-in-Compound : goal.value-returns-in_err-v-in-Compound
 value-returns-in_err-v-in-Compound t c =
-    rw (compound_led _ _ _ _ _ _ c.args.e.now.span c.args.e.now.ty _ _ _ _ (ap tree.view_form c.in-Compound.is ∙ view_compound c.in-Compound.place _ c.in-Compound.step c.in-Compound.operand.value c.in-Compound.operand refl) c.in_ok-at-in-Compound.ensures (ap tree.view_expr c.deref-in-Compound.ensures)) (search rules)
+    rw (compound_led _ _ _ _ _ _ c.args.e.now.span c.args.e.now.ty _ _ _ _ (ap tree.view_form c.in-Compound.is ∙ view_compound c.in-Compound.place _ c.in-Compound.step c.in-Compound.operand.value c.in-Compound.operand refl) c.in_ok-target-in-Compound.ensures (ap tree.view_expr c.deref-in-Compound.ensures)) (search rules)
 
 pub value-returns-in-Compound : goal.value-returns-in-Compound
 value-returns-in-Compound t c =
     subst (λ (r : Outcome Value). Gives c.compounded.result (state_of c.compounded.new.state) r)
-    (sym (compound_is _ _ _ _ _ _ c.args.e.now.span c.args.e.now.ty _ _ _ _ _ _ (ap tree.view_form c.in-Compound.is ∙ view_compound c.in-Compound.place _ c.in-Compound.step c.in-Compound.operand.value c.in-Compound.operand refl) c.in_ok-at-in-Compound.ensures (ap tree.view_expr c.deref-in-Compound.ensures) c.in_ok-v-in-Compound.ensures))
+    (sym (compound_is _ _ _ _ _ _ c.args.e.now.span c.args.e.now.ty _ _ _ _ _ _ (ap tree.view_form c.in-Compound.is ∙ view_compound c.in-Compound.place _ c.in-Compound.step c.in-Compound.operand.value c.in-Compound.operand refl) c.in_ok-target-in-Compound.ensures (ap tree.view_expr c.deref-in-Compound.ensures) c.in_ok-v-in-Compound.ensures))
     c.compounded.ensures
 
 pub value-returns-in_err-at-in-Step : goal.value-returns-in_err-at-in-Step
