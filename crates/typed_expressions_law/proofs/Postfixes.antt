@@ -87,7 +87,7 @@ element_at n structs s at (Struct m) fixed designates null t e f b y h i k = cc
 element_at n structs s at (Array e' c) fixed designates null t e f b y h i k =
     let p = place_sound n structs (Array e' c) fixed designates t h.tree (λ u d. cc) in
     let w = value_sound n structs at (record { ty = Array e' c; fixed = fixed; designates = designates; null = null; tree = t }) h in
-    record { tree = record { of = e'; count = c; index = b; array = record { fits = p.fits; has = p.has; good = array_good t h.tree }; is = refl; at = k }; null = λ z. cc }
+    record { tree = record { of = e'; count = c; index = b; array = record { fits = p.fits; has = p.has; good = array_good t h.tree; kept = p.kept }; is = refl; at = k }; null = λ z. cc }
   where
     array_good : (t : Elaboration) → SoundTree n structs (Array e' c) fixed designates t → IsTrue (is_variable structs (Array e' c))
     array_good (value x) z = let u : Pointer e' false ≡ Array e' c = z.whole in cc
@@ -144,7 +144,7 @@ indexed_sound n structs s at k at_index i h g z =
 abbrev pub FieldsAgree : Names → Structs → Type 0
 FieldsAgree n structs = (m : ℕ) (name : List ℕ) (f : FoundField) → field_named structs m name ≡ Some f → (field_type n.structs (Some (v.Struct m)) f.number ≡ var_type f.entry.ty) × IsTrue (is_variable (length structs) f.entry.ty)
 
-part_sound : (n : Names) (count : ℕ) (m : ℕ) (o : Option FoundField) (w : Word) (fixed designates : Bool) (root : RootTree) (steps : List StepTree) → ((f : FoundField) → o ≡ Some f → (field_type n.structs (Some (v.Struct m)) f.number ≡ var_type f.entry.ty) × IsTrue (is_variable count f.entry.ty)) → SoundPlace n count (Struct m) designates (place root (step_trees steps)) → (part_by o w fixed designates root steps).faults ≡ [] → SoundKnown n count (part_by o w fixed designates root steps).operand
+part_sound : (n : Names) (count : ℕ) (m : ℕ) (o : Option FoundField) (w : Word) (fixed designates : Bool) (root : RootTree) (steps : List StepTree) → ((f : FoundField) → o ≡ Some f → (field_type n.structs (Some (v.Struct m)) f.number ≡ var_type f.entry.ty) × IsTrue (is_variable count f.entry.ty)) → SoundPlace n count (Struct m) fixed designates (place root (step_trees steps)) → (part_by o w fixed designates root steps).faults ≡ [] → SoundKnown n count (part_by o w fixed designates root steps).operand
 unfolding part_by var_type
 part_sound n count m None w fixed designates root steps agree p z = cc
 part_sound n count m (Some f) w fixed designates root steps agree p z =
@@ -155,6 +155,7 @@ part_sound n count m (Some f) w fixed designates root steps agree p z =
           fits = both (root_fits n root) _ (and_left (root_fits n root) _ p.fits) (steps_fit-last n steps (field f.number) (and_right (root_fits n root) _ p.fits) refl);
           has = steps_type-last n.structs (root_type n root) steps (field f.number) ∙ ap (λ t. step_type n.structs t (field f.number)) p.has ∙ a.0;
           good = a.1;
+          kept = λ c. ap (λ b. b || f.entry.fixed) (p.kept c);
         };
         written = λ d. field_is_object root steps f.number (p.written d);
         ends = ends-last (is_named root) steps f.number;

@@ -22,7 +22,7 @@ use Rattle.typed_tree.specs.declared.types.VarTy.TheVariants as v
 use Rattle.typed_tree.specs.ExpressionTree.{ExprTree, typed, place, step_trees}
 use Rattle.typed_tree.specs.TypeTests as test
 use Rattle.typed_tree.specs.TypeRules.{is_same_promoted, converts}
-use Rattle.typed_tree.specs.WellFormedExpression.{Names, is_typed, ty_of, is_elem, place_fits, place_type, is_object, is_addressed}
+use Rattle.typed_tree.specs.WellFormedExpression.{Names, is_typed, ty_of, is_elem, place_fits, place_type, place_const, is_object, is_written, is_addressed}
 use Rattle.declared_types.specs.declared.fault.FaultKind.{FaultKind}
 use Rattle.declared_types.specs.declared.fault.FaultKind.TheVariants.{NotLvalue}
 use Rattle.declared_types.specs.Faults.{fault_at}
@@ -34,7 +34,7 @@ use Rattle.typed_expressions.specs.Prefixes.{unary_rule_of, unary_operand, compu
 use Rattle.typed_expressions.specs.Targets.{optional_fault, target_fault}
 use Rattle.declared_types_law.specs.Types.{is_good, is_base, is_variable}
 use Rattle.typed_expressions_law.specs.Laws.{Fitted}
-use Rattle.typed_expressions_law.proofs.Lists.{both, true≢false}
+use Rattle.typed_expressions_law.proofs.Lists.{both, only_where, true≢false}
 use Rattle.typed_expressions_law.proofs.SameTypes.{same_int-self, same_elem-self, same_types-equal, promoted-promoted}
 use Rattle.typed_expressions_law.proofs.Fits.{int_fits}
 use Rattle.typed_expressions_law.proofs.Known.{SoundKnown, SoundTree, plain_sound, value_sound, designated_variable}
@@ -121,7 +121,8 @@ address_fits n structs s e fixed designates (value x) h d = true≢false designa
 address_fits n structs s e fixed designates (object root steps) h d = record {
   typed = both (place_fits n (place root (step_trees steps))) _ h.object.fits
       (both (is_addressed (place root (step_trees steps))) _ (both (is_object (place root (step_trees steps))) _ (h.written d) h.ends)
-      (ap (λ z. test.both_elem (test.element_of z) (Some e)) h.object.has ∙ element_self e));
+      (both (test.both_elem (test.element_of (place_type n (place root (step_trees steps)))) (Some e)) _ (ap (λ z. test.both_elem (test.element_of z) (Some e)) h.object.has ∙ element_self e)
+      (only_where (place_const n (place root (step_trees steps))) fixed h.object.kept)));
   has = refl;
 }
 address_fits n structs s e fixed designates (pointed x span) h d =
@@ -137,7 +138,8 @@ address_fits n structs s e fixed designates (element root steps at i span) h d =
     move_fits n s span e fixed false h.index (typed at (Some (v.Pointer e fixed)) _) i
     (record {
       typed = both (place_fits n (place root (step_trees steps))) _ h.array.fits
-          (ap (λ z. test.both_elem (test.item_of z) (Some e)) h.array.has ∙ ap (λ z. test.same_elem z e) same ∙ same_elem-self e);
+          (both (test.both_elem (test.item_of (place_type n (place root (step_trees steps)))) (Some e)) _ (ap (λ z. test.both_elem (test.item_of z) (Some e)) h.array.has ∙ ap (λ z. test.same_elem z e) same ∙ same_elem-self e)
+          (only_where (place_const n (place root (step_trees steps))) fixed h.array.kept));
       has = refl;
     })
     h.at
@@ -180,7 +182,7 @@ step_sound : (n : Names) (structs : ℕ) (s at : Span) (back postfix : Bool) (k 
 step_sound n structs s at back postfix k t p e c g w ns =
     plain_sound n structs t (step_tree s t back postfix at k.tree)
     (record {
-      typed = both (place_fits n (place_of k.tree) && is_object (place_of k.tree)) _ (both (place_fits n (place_of k.tree)) _ p.fits p.written)
+      typed = both (place_fits n (place_of k.tree) && is_written n (place_of k.tree)) _ (both (place_fits n (place_of k.tree)) _ p.fits p.written)
           (both (test.same_types (place_type n (place_of k.tree)) (var_type t)) _ (same_types-equal _ _ (p.has ∙ ap var_type e)) c);
       has = refl;
     })
