@@ -4,7 +4,7 @@ use Rattle.std.specs.Prelude.{IsTrue, ◌&&◌, not, slice_get, option_map}
 use Rattle.pt_base.specs.declared.span.Span.{Span}
 use Rattle.pt_tree.specs.StatementTree as s
 use Rattle.pt_tree.specs.StatementTree.{InitDeclaratorTree, DeclarationTree, ForInitTree}
-use Rattle.pt_tree.specs.Facts.{specs_sound, suffix_sound, init_sound, inits_sound, declaration_sound, for_init_sound}
+use Rattle.pt_tree.specs.Facts.{specs_sound, declarator_sound, init_sound, inits_sound, declaration_sound, for_init_sound}
 use Rattle.type_rules.specs.declared.types.Type.{«Type»}
 use Rattle.type_rules.specs.declared.types.Type.TheVariants.{Bad, Void, Int, Struct, Array, Pointer}
 use Rattle.typed_tree.specs.declared.types.VarTy.{VarTy}
@@ -105,10 +105,10 @@ declared_all_sound laws sc given st (d ∷ ds) base r sound none =
     let one = declared_one given st d in
     let rest = declared_all given one.state ds in
     let parts = declaration_parts rest.declarators in
-    let here = and_left (suffix_sound d.declarator.suffix && init_sound d.init) (inits_sound ds) sound in
-    let later = and_right (suffix_sound d.declarator.suffix && init_sound d.init) (inits_sound ds) sound in
+    let here = and_left (declarator_sound d.declarator && init_sound d.init) (inits_sound ds) sound in
+    let later = and_right (declarator_sound d.declarator && init_sound d.init) (inits_sound ds) sound in
     let ready = ready_first sc st one.state rest.state one.trees rest.trees parts (declared_all_goes given one.state ds) r in
-    let first = declared_one_sound laws sc given st d base ready (and_right (suffix_sound d.declarator.suffix) (init_sound d.init) here) (none_left one.faults rest.faults none) in
+    let first = declared_one_sound laws sc given st d base ready (and_right (declarator_sound d.declarator) (init_sound d.init) here) (none_left one.faults rest.faults none) in
     let next = ready_second sc st one.state rest.state one.trees rest.trees (declarator_parts one.declarator) (declared_one_goes given st d) first.0 r in
     let base' = subst (λ (x : Structs). IsTrue (is_base (length x) given.base)) (sym first.0.structs) base in
     let second = declared_all_sound laws sc given one.state ds base' next later (none_right one.faults rest.faults none) in
