@@ -210,7 +210,7 @@ one_global objects sizes leaves marks rest given st i t base none =
     let many : length g.cells ≡ count = ap length counted.start ∙ padded_many count init.values in
     let limit : cells_with st.cells count ≤ globals_limit = let a = counted.cells in let b = counted.limit in omega (arith, a, b) in
     let cells : cells_with st.cells count ≡ st.cells + length g.cells = let a = counted.cells in omega (arith, a, many) in
-    let has : HasObject (length st.structs) (object_of given d) (Some g) = record { global = g; is = refl; good = plain_variable (length st.structs) ty plain; has = object_there (length st.structs) ty (plain_variable (length st.structs) ty plain) } in
+    let has : HasObject (length st.structs) (object_of given d) (Some g) = record { global = g; is = refl; good = plain_variable (length st.structs) ty plain; has = object_there (length st.structs) ty (plain_variable (length st.structs) ty plain); fixed = refl } in
     let first = leaves st.structs [] ty d.name.span (subst (λ s. SoundStructs s) (sym (joined_none st.structs)) t.structs) plain small in
     let same = (init_sound known st.structs ty i.init (typed.leaves_of (infos_of (st.structs ++ [])) (object_type_of ty)) first (plain_fine (length st.structs) ty plain) none_init).same in
     let tables = one_tables marks rest st d.name.bytes (object_of given d) g (cells_with st.cells count) t (none_where_new st.env.file d.name.bytes new) has cells limit
