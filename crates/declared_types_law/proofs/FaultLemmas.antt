@@ -18,10 +18,6 @@ pub no_fault : (b : Bool) (kind : FaultKind) (at : Span) → fault_if b kind at 
 no_fault true kind at h = cc
 no_fault false kind at h = refl
 
-pub both : (a b : Bool) → IsTrue a → IsTrue b → IsTrue (a && b)
-both true b h k = k
-both false b h k = h
-
 pub or_left : (a b : Bool) → (a || b) ≡ false → a ≡ false
 or_left true b h = h
 or_left false b h = refl

@@ -24,8 +24,8 @@ use Rattle.typed_expressions.specs.Expressions.{meant, named_as, named, literal,
 use Rattle.typed_expressions.specs.Operands.{var_type}
 use Rattle.typed_expressions.specs.Postfixes.{function_meant, function_named, is_called, function_called}
 use Rattle.typed_expressions_law.specs.Agreement.{HasType, is_entry, AreEntries, Agrees}
-use Rattle.typed_expressions_law.proofs.Lists.{both}
 use Rattle.typed_expressions_law.proofs.Known.{SoundKnown}
+use Rattle.typed_tree.proofs.WellFormedLemmas.{and_both}
 
 -- ---- what a name means is an entry
 
@@ -67,7 +67,7 @@ there (x ∷ xs) (suc k) h = there xs k (grind (arith, nat_tests))
 object_sound : (n : Names) (count : ℕ) (o : Object) (root : RootTree) → IsTrue (root_fits n root) → IsTrue (is_object (place root no_steps)) → IsTrue (is_named root) → HasType count o.ty (root_type n root) → (root_const n root ≡ true → o.fixed ≡ true) → SoundKnown n count (an_object o root)
 object_sound n count o root f i d h c = record {
   tree = record {
-    object = record { fits = both (root_fits n root) true f refl; has = h.1; good = h.0; kept = c };
+    object = record { fits = and_both (root_fits n root) true f refl; has = h.1; good = h.0; kept = c };
     written = λ x. i;
     ends = d;
   };

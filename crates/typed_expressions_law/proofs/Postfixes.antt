@@ -16,7 +16,7 @@ use Rattle.typed_tree.specs.declared.types.VarTy.TheVariants as v
 use Rattle.typed_tree.specs.declared.link.LinkStep.TheVariants as link_step
 use Rattle.typed_tree.specs.ExpressionTree.{ExprTree, RootTree, StepTree, field, deref, place, step_trees}
 use Rattle.typed_tree.specs.WellFormedExpression.{Names, is_elem, root_fits, root_type, step_type, field_type, is_named}
-use Rattle.typed_tree.proofs.WellFormedLemmas.{and_left, and_right}
+use Rattle.typed_tree.proofs.WellFormedLemmas.{and_left, and_right, and_both}
 use Rattle.declared_types.specs.declared.structs.FoundField.{FoundField}
 use Rattle.declared_types.specs.Structs.{Structs, field_named}
 use Rattle.typed_expressions.specs.Links.{link_type, rule_faults}
@@ -25,7 +25,6 @@ use Rattle.typed_expressions.specs.Prefixes.{points_to_const}
 use Rattle.typed_expressions.specs.Postfixes.{pointee, pointee_known, moved_tree, element_tree, index_tree, indexed_by, indexed, part_by, dotted_as, dotted, arrow_as, arrow}
 use Rattle.declared_types_law.specs.Types.{is_good, is_variable}
 use Rattle.typed_expressions_law.specs.Laws.{SoundValue, Fitted}
-use Rattle.typed_expressions_law.proofs.Lists.{both}
 use Rattle.typed_expressions_law.proofs.Steps.{steps_fit-last, steps_type-last, ends-last, field_is_object}
 use Rattle.typed_expressions_law.proofs.Known.{SoundKnown, SoundTree, SoundPlace, value_sound, place_sound, elem-variable}
 use Rattle.typed_expressions_law.proofs.Assignments.{good_of}
@@ -152,7 +151,7 @@ part_sound n count m (Some f) w fixed designates root steps agree p z =
     record {
       tree = record {
         object = record {
-          fits = both (root_fits n root) _ (and_left (root_fits n root) _ p.fits) (steps_fit-last n steps (field f.number) (and_right (root_fits n root) _ p.fits) refl);
+          fits = and_both (root_fits n root) _ (and_left (root_fits n root) _ p.fits) (steps_fit-last n steps (field f.number) (and_right (root_fits n root) _ p.fits) refl);
           has = steps_type-last n.structs (root_type n root) steps (field f.number) ∙ ap (λ t. step_type n.structs t (field f.number)) p.has ∙ a.0;
           good = a.1;
           kept = λ c. ap (λ b. b || f.entry.fixed) (p.kept c);

@@ -45,8 +45,8 @@ use Rattle.typed_programs.specs.declared.function_marks.FunctionMarks.{FunctionM
 use Rattle.typed_programs.specs.Functions.{var_of, with_parts, with_body, behind_body, is_int, is_start}
 use Rattle.typed_programs.specs.Unions.{marks_at}
 use Rattle.typed_programs.specs.Progress.{Progress}
-use Rattle.typed_tree.proofs.WellFormedLemmas.{and_left, and_right}
-use Rattle.typed_programs_law.proofs.ListLemmas.{and_both, all_joined, all_weaker, all_get, all_pass, joined_none, get_kept, get_mapped, get_set, get_set_same, get_after_set, length_set, length_mapped, map_joined}
+use Rattle.typed_tree.proofs.WellFormedLemmas.{and_left, and_right, and_both}
+use Rattle.typed_programs_law.proofs.ListLemmas.{all_joined, all_weaker, all_get, all_pass, joined_none, get_kept, get_mapped, get_set, get_set_same, get_after_set, length_set, length_mapped, map_joined}
 use Rattle.typed_programs_law.proofs.TableLemmas.{sought, name_self, name_same}
 use Rattle.typed_programs_law.proofs.TypeLemmas.{object_there, parameter_variable, params_lead_vars}
 use Rattle.typed_programs_law.proofs.Sound.{signatures, Extends, Grows, defines, SoundEntry, entry_kept, is_file_entry, is_local_entry, HasObject, Known, SoundTables, HasStart, callable_kept, extends_back}

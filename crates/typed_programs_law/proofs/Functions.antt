@@ -24,13 +24,14 @@ use Rattle.typed_programs.specs.declared.function_marks.FunctionMarks.{FunctionM
 use Rattle.typed_programs.specs.Blocks.{block_in}
 use Rattle.typed_programs.specs.Functions.{Head, head_of, clashes, function_in, number_in, declared_as, is_int, is_start, are_too_large, with_definition, completed, checked_function}
 use Rattle.typed_programs.specs.Progress.{Progress}
-use Rattle.typed_programs_law.proofs.ListLemmas.{none_left, none_right, no_fault, joined_none, get_kept}
+use Rattle.typed_programs_law.proofs.ListLemmas.{joined_none, get_kept}
 use Rattle.typed_programs_law.proofs.TableLemmas.{sought}
 use Rattle.typed_programs_law.proofs.Sound.{defines, SoundTables, SoundProgress, HasStart, tables_moved}
 use Rattle.typed_programs_law.proofs.Parameters.{SoundParams}
 use Rattle.typed_programs_law.proofs.Heads.{sound_head}
 use Rattle.typed_programs_law.proofs.Opened.{Opened, old_opened, new_opened, find_is}
 use Rattle.typed_programs_law.proofs.Bodies.{behind, behind_start}
+use Rattle.declared_types_law.proofs.FaultLemmas.{none_left, none_right, no_fault}
 
 -- a function that is declared, and with which the program begins if it did before
 record Stage (marks : List ℕ → FunctionMarks) (rest : List ItemTree) (own : FunctionMarks) (defining : Bool) (before st : Progress) (c : Callable) (k : ℕ) : Type 0 where

@@ -38,12 +38,14 @@ use Rattle.declared_types_law.specs.Laws.{SpecifiersAreSound, ObjectsAreSound, S
 use Rattle.typed_programs.specs.declared.function_marks.FunctionMarks.{FunctionMarks}
 use Rattle.typed_programs.specs.Globals.{globals_limit, global_type, object_of, cells_with, brings_over, padded, start_cells, typed_global, declared_one, declared_all, checked_declaration}
 use Rattle.typed_programs.specs.Progress.{Progress}
-use Rattle.typed_programs_law.proofs.ListLemmas.{none_left, none_right, no_fault, and_both, all_joined, joined_none, length_joined, length_mapped, length_pushed, get_kept, get_last, get_pushed, IsLast}
+use Rattle.typed_programs_law.proofs.ListLemmas.{all_joined, joined_none, length_joined, length_mapped, length_pushed, get_kept, get_last, get_pushed, IsLast}
 use Rattle.typed_programs_law.proofs.TableLemmas.{sought, none_where_new, sought_pushed, sought_kept, pushed}
 use Rattle.typed_programs_law.proofs.TypeLemmas.{plain_fine, plain_more, plain_type, plain_variable, object_there}
 use Rattle.typed_programs_law.proofs.Sound.{Extends, Grows, defines, entry_kept, is_file_meaning, is_file_entry, HasObject, Known, SoundTables, SoundProgress, HasStart, object_kept, extends_back, tables_moved}
 use Rattle.typed_programs_law.proofs.Opened.{some_same, files_more}
 use Rattle.typed_programs_law.proofs.Values.{init_sound, padded_fits}
+use Rattle.declared_types_law.proofs.FaultLemmas.{none_left, none_right, no_fault}
+use Rattle.typed_tree.proofs.WellFormedLemmas.{and_both}
 
 -- ---- cells
 

@@ -17,8 +17,8 @@ use Rattle.typed_programs.specs.declared.function_marks.FunctionMarks.{FunctionM
 use Rattle.typed_programs.specs.Parameters.{parameters_of}
 use Rattle.typed_programs.specs.Functions.{Head, head_of, result_of, params_of_function}
 use Rattle.typed_programs.specs.Progress.{Progress}
-use Rattle.typed_programs_law.proofs.ListLemmas.{none_left, none_right}
 use Rattle.typed_programs_law.proofs.Parameters.{SoundParams, all_params}
+use Rattle.declared_types_law.proofs.FaultLemmas.{none_left, none_right}
 
 pub record SoundHead (marks : FunctionMarks) (st : Progress) (f : parsed.FunctionTree) (h : Head) : Type 0 where
   pub more : Structs

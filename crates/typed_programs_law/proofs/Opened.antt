@@ -29,12 +29,12 @@ use Rattle.typed_programs.specs.declared.function_marks.FunctionMarks.{FunctionM
 use Rattle.typed_programs.specs.Functions.{agree, all_agree, differ, has_body, has_other_types, clashes, var_of, entry_of, declared_as}
 use Rattle.typed_programs.specs.Unions.{marks_at}
 use Rattle.typed_programs.specs.Progress.{Progress}
-use Rattle.typed_programs_law.proofs.ListLemmas.{and_both, all_joined, all_weaker, length_pushed, length_joined, length_mapped, map_joined, joined_none, get_kept, get_last, get_pushed, get_below, get_within, get_mapped, IsLast}
+use Rattle.typed_programs_law.proofs.ListLemmas.{all_joined, all_weaker, length_pushed, length_joined, length_mapped, map_joined, joined_none, get_kept, get_last, get_pushed, get_below, get_within, get_mapped, IsLast}
 use Rattle.typed_programs_law.proofs.TableLemmas.{sought, value_of, found, name_self, name_same, new_where_none, sought_pushed, sought_kept, pushed}
 use Rattle.typed_programs_law.proofs.TypeLemmas.{result_fine, agree_same, all_agree_same, result_given, params_taken, params_many, params_marked, params_lead_vars, integers_taken, parameter_variable, variable_more, variable_type, parameter_small}
 use Rattle.typed_programs_law.proofs.Sound.{signatures, Extends, Grows, defines, SoundEntry, entry_kept, is_file_meaning, is_file_entry, Known, SoundTables, callable_kept, extends_back}
 use Rattle.typed_programs_law.proofs.Parameters.{SoundParams}
-use Rattle.typed_tree.proofs.WellFormedLemmas.{and_left, and_right}
+use Rattle.typed_tree.proofs.WellFormedLemmas.{and_left, and_right, and_both}
 
 meaning_same : (file : Scope) (o : Option ℕ) → meaning_at file o ≡ value_of file o
 meaning_same file None = refl

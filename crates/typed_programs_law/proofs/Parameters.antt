@@ -27,8 +27,10 @@ use Rattle.declared_types_law.specs.Laws.{SpecifiersAreSound, ObjectsAreSound}
 use Rattle.typed_programs.specs.declared.function_marks.FunctionMarks.{FunctionMarks}
 use Rattle.typed_programs.specs.Unions.{marks_at}
 use Rattle.typed_programs.specs.Parameters.{is_pointer_form, is_host_pointer, is_refused, lacks_name, place_of, param_type, param_variable, param_faults, attribute_faults, is_repeated, with_param, Declared, declared_one, declared_all}
-use Rattle.typed_programs_law.proofs.ListLemmas.{none_left, none_right, no_fault, and_both, all_joined, all_weaker, length_pushed, map_joined, get_pushed}
+use Rattle.typed_programs_law.proofs.ListLemmas.{all_joined, all_weaker, length_pushed, map_joined, get_pushed}
 use Rattle.typed_programs_law.proofs.Sound.{is_local_meaning, is_local_entry}
+use Rattle.declared_types_law.proofs.FaultLemmas.{none_left, none_right, no_fault}
+use Rattle.typed_tree.proofs.WellFormedLemmas.{and_both}
 
 -- the parameters so far, in a scope that is open
 pub record SoundParams (marks : FunctionMarks) (base : Env) (structs : ℕ) (env : Env) : Type 0 where

@@ -28,15 +28,16 @@ use Rattle.typed_programs.specs.Functions.{Checked}
 use Rattle.typed_programs.specs.Progress.{Progress, at_start}
 use Rattle.typed_programs.specs.Programs.{checked_item, checked_items, function_name, tree_of, nowhere, main_faults}
 use Rattle.typed_programs.specs.Unions.{declarations_of, undeclared, with_declaration, function_marks}
-use Rattle.typed_tree.proofs.WellFormedLemmas.{and_left, and_right}
+use Rattle.typed_tree.proofs.WellFormedLemmas.{and_left, and_right, and_both}
 use Rattle.typed_sizes_law.specs.Laws.{TypedTreesAreSmall}
 use Rattle.typed_programs_law.specs.Laws.{ProgramsAreWellFormed}
-use Rattle.typed_programs_law.proofs.ListLemmas.{none_left, none_right, no_fault, and_both, all_of, any_of, joined_none}
+use Rattle.typed_programs_law.proofs.ListLemmas.{all_of, any_of, joined_none}
 use Rattle.typed_programs_law.proofs.TableLemmas.{sought, name_same}
 use Rattle.typed_programs_law.proofs.Sound.{Extends, defines, BodyHolds, SoundEntry, SoundTables, SoundProgress}
 use Rattle.typed_programs_law.proofs.Opened.{some_same}
 use Rattle.typed_programs_law.proofs.Functions.{function_step}
 use Rattle.typed_programs_law.proofs.Globals.{declaration_step}
+use Rattle.declared_types_law.proofs.FaultLemmas.{none_left, none_right, no_fault}
 
 -- the laws of the parts
 pub record Laws : Type 0 where

@@ -19,7 +19,7 @@ use Rattle.typed_tree.specs.Cells.{leaves_of}
 use Rattle.typed_tree.specs.TypeTests as typed
 use Rattle.typed_tree.specs.WellFormedExpression.{is_elem, param_type}
 use Rattle.typed_tree.specs.WellFormed.{is_plain_type, is_variable_type, is_small, params_lead, is_integer_param}
-use Rattle.typed_tree.proofs.WellFormedLemmas.{and_left, and_right}
+use Rattle.typed_tree.proofs.WellFormedLemmas.{and_left, and_right, and_both}
 use Rattle.declared_types.specs.declared.marks.Marks.{Marks}
 use Rattle.typed_expressions.specs.declared.meaning.Variable.{Variable}
 use Rattle.typed_expressions.specs.Operands.{var_type}
@@ -29,7 +29,6 @@ use Rattle.typed_expressions_law.specs.Agreement.{taken}
 use Rattle.typed_programs.specs.Functions.{agree, all_agree, var_of, param_of, params_of}
 use Rattle.typed_programs.specs.Progress.{result_type_of}
 use Rattle.typed_programs.specs.Unions.{marks_at}
-use Rattle.typed_programs_law.proofs.ListLemmas.{and_both}
 
 -- ---- more structs
 
