@@ -1,5 +1,5 @@
 -- What would write a const object has the fault ConstWrite.
-use Rattle.std.proofs.Common.{◌≡◌, sym, ap, ◌∙◌, subst, refl, List, [], ◌∷◌, ◌++◌, Bool, true, false, Option, Some, None, if◌then◌else◌, arith}
+use Rattle.std.proofs.Common.{◌≡◌, sym, subst, refl, List, [], ◌∷◌, ◌++◌, Bool, true, false, Option, Some, None, if◌then◌else◌, arith}
 use Rattle.std.specs.Prelude.{◌||◌}
 use Rattle.std.specs.List.{Contains}
 use Rattle.std.proofs.lemmas.List.Elements.{Contains-append_right}
@@ -17,7 +17,7 @@ use Rattle.declared_types.specs.Faults.{fault_at}
 use Rattle.declared_types.specs.Structs.{Structs, has_const}
 use Rattle.typed_expressions.specs.Assignments.{misfits, stored_by, stored, step_rule_of, compounded_by, compounded, assigned}
 use Rattle.typed_expressions.specs.Expressions.{Judged, judge, judge_postfix}
-use Rattle.typed_expressions.specs.Operands.{Elaboration, Known, value_of, value_tree, refused, span_of, joined}
+use Rattle.typed_expressions.specs.Operands.{Known, value_of, value_tree, refused, span_of, joined}
 use Rattle.typed_expressions.specs.Prefixes.{stepped_by, stepped, prefixed}
 use Rattle.typed_expressions.specs.Targets.{optional_fault, object_fault, target_fault_of, target_fault}
 use Rattle.typed_expressions_law.specs.Laws.{ConstIsNotWritten, IsConstObject, is_array}

@@ -1,6 +1,6 @@
 -- Tests that hold only where others do.
-use Rattle.std.proofs.Common.{◌≡◌, ◌++◌, ◌∷◌, [], List, refl, Bool, true, false}
-use Rattle.std.specs.Prelude.{IsTrue, ◌&&◌, ◌||◌, not}
+use Rattle.std.proofs.Common.{◌≡◌, refl, Bool, true, false}
+use Rattle.std.specs.Prelude.{IsTrue, ◌||◌, not}
 
 -- what is so only where the second is
 pub only_where : (a b : Bool) → (a ≡ true → b ≡ true) → IsTrue (not a || b)

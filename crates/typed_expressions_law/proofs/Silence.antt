@@ -1,5 +1,5 @@
 -- An operator with an operand of type Bad adds no fault to those of its operands.
-use Rattle.std.proofs.Common.{◌≡◌, ◌∙◌, ap, refl, sym, List, [], ◌∷◌, ◌++◌, Bool, true, false, Option, Some, None, append-nil, if◌then◌else◌, is_some}
+use Rattle.std.proofs.Common.{◌≡◌, ◌∙◌, ap, refl, List, [], ◌++◌, Bool, true, false, Option, Some, None, append-nil, if◌then◌else◌, is_some}
 use Rattle.std.specs.Prelude.{◌||◌}
 use Rattle.std.proofs.Math.Bool.{beq}
 use Rattle.pt_base.specs.declared.ids.FnId.{FnId}
@@ -13,7 +13,6 @@ use Rattle.pt_tree.specs.ExpressionTree as e
 use Rattle.type_rules.specs.declared.types.Type.{«Type»}
 use Rattle.type_rules.specs.declared.types.Type.TheVariants.{Bad, Void, Int, Struct, Array, Pointer}
 use Rattle.type_rules.specs.declared.types.Value.{Value}
-use Rattle.type_rules.specs.declared.operators.Rule.{Rule}
 use Rattle.type_rules.specs.declared.operators.Rule.TheVariants as rule
 use Rattle.type_rules.specs.declared.conversions.CastRule.TheVariants as cast
 use Rattle.type_rules.specs.declared.conversions.ChoiceRule.{ChoiceRule}
@@ -26,19 +25,18 @@ use Rattle.type_rules.specs.Operators.{judged, takes, pair_rule, subscript, bina
 use Rattle.type_rules.specs.Types.{is_bad, is_scalar, value_type}
 use Rattle.typed_tree.specs.ExpressionTree.{ExprTree}
 use Rattle.declared_types.specs.declared.fault.FaultKind.TheVariants.{WrongType}
-use Rattle.declared_types.specs.declared.fault.TypeFault.{TypeFault}
 use Rattle.declared_types.specs.Faults.{fault_if}
 use Rattle.declared_types.specs.Structs.{Structs, has_const}
 use Rattle.typed_expressions.specs.Assignments.{misfits, stored_by, stored, step_rule_of, compounded_by, compounded, assigned}
 use Rattle.typed_expressions.specs.Choices.{Placed, chosen_by, chosen_when, chosen, value_at}
 use Rattle.typed_expressions.specs.Environment.{Env}
 use Rattle.typed_expressions.specs.Expressions.{Judged, CastBase, cast_specified, judge, judge_link, judge_postfix}
-use Rattle.typed_expressions.specs.Links.{SoFar, logical_of, link_rule, rule_faults}
+use Rattle.typed_expressions.specs.Links.{logical_of, link_rule, rule_faults}
 use Rattle.typed_expressions.specs.Operands.{Known, value_of, value_tree, refused, span_of, joined}
 use Rattle.typed_expressions.specs.Postfixes.{indexed_by, indexed, dotted_as, dotted, arrow_as, arrow, called_other, called, argument_faults}
 use Rattle.typed_expressions.specs.Prefixes.{unary_rule_of, computed_by, computed, points_to_const, dereferenced_by, dereferenced, addressed_as, addressed, stepped_by, stepped, prefixed, cast_target, cast_by, cast_to}
 use Rattle.typed_expressions.specs.Targets.{optional_fault, target_fault_of, target_fault}
-use Rattle.typed_expressions_law.specs.Laws.{BadOperandsAreSilent, is_faulty, is_simple}
+use Rattle.typed_expressions_law.specs.Laws.{BadOperandsAreSilent, is_simple}
 
 -- ---- tests and lists
 

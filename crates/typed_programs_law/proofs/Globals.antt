@@ -31,7 +31,6 @@ use Rattle.typed_expressions.specs.Environment.{Env, with_global}
 use Rattle.typed_expressions.specs.StructInfos.{object_type_of, infos_of, struct_info}
 use Rattle.typed_statements.specs.Declarations.{carrier_of}
 use Rattle.typed_statements.specs.GlobalInitialisers.{GlobalInit, global_initialised}
-use Rattle.typed_statements.specs.Leaves.{leaves_of}
 use Rattle.declared_types_law.specs.Types.{is_base, is_plain}
 use Rattle.declared_types_law.specs.Sound.{SoundStructs}
 use Rattle.declared_types_law.specs.Laws.{SpecifiersAreSound, ObjectsAreSound, SizesAreSound, LeavesAreSound}

@@ -3,9 +3,6 @@ use Rattle.std.proofs.Common.{◌≡◌, ◌<◌, ◌+◌, ◌++◌, ◌∙◌, 
 use Rattle.std.specs.Prelude.{IsTrue, ◌&&◌, ◌||◌, ◌⊎◌, slice_get}
 use Rattle.std.specs.List.{All, list_all, list_any}
 use Rattle.std.proofs.lemmas.List.Elements.{All-nil, All-cons}
-use Rattle.pt_base.specs.declared.span.Span.{Span}
-use Rattle.declared_types.specs.declared.fault.FaultKind.{FaultKind}
-use Rattle.declared_types.specs.Faults.{fault_if}
 use Rattle.typed_tree.proofs.WellFormedLemmas.{and_left, and_right, and_both}
 
 -- ---- tests

@@ -10,7 +10,6 @@ use Rattle.pt_base.specs.declared.span.Span.{Span}
 use Rattle.pt_base.specs.Names.{is_short}
 use Rattle.pt_tree.specs.declared.signature.Param.{Param}
 use Rattle.pt_tree.specs.ProgramTree.{ItemTree}
-use Rattle.type_rules.specs.declared.types.Type.{«Type»}
 use Rattle.type_rules.specs.Types.{is_integer}
 use Rattle.typed_tree.specs.declared.types.StructInfo.{StructInfo}
 use Rattle.typed_tree.specs.TypedTree.{FunctionTree, TypedTree}

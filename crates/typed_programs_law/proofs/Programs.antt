@@ -7,7 +7,7 @@ use Rattle.std.proofs.lemmas.Bool.Decides.{nat_tests}
 use Rattle.pt_base.specs.Names.{is_short}
 use Rattle.pt_tree.specs.Facts.{specs_sound, word_sound, suffix_sound, declarator_sound, params_sound, body_sound, item_sound, items_sound}
 use Rattle.pt_tree.specs.Nodes as parsed
-use Rattle.pt_tree.specs.ProgramTree.{FunctionTree, ItemTree, declares, function}
+use Rattle.pt_tree.specs.ProgramTree.{ItemTree, declares, function}
 use Rattle.typed_tree.specs.declared.variable.TypedGlobal.{TypedGlobal}
 use Rattle.typed_tree.specs.Nodes as typed
 use Rattle.typed_tree.specs.Parts.{parts_of, variables_of}

@@ -1,11 +1,8 @@
 -- Lists that are empty, what stands at a place of a list, and tests of all elements.
-use Rattle.std.proofs.Common.{◌≡◌, ℕ, zero, suc, refl, ◌∙◌, Bool, true, false, List, [], ◌∷◌, ◌++◌, length, Some, ◌⊎◌, inl, inr}
-use Rattle.std.specs.Prelude.{IsTrue, ◌&&◌, slice_get}
+use Rattle.std.proofs.Common.{◌≡◌, ℕ, zero, suc, refl, ◌∙◌, Bool, List, [], ◌∷◌, ◌++◌, length, Some, ◌⊎◌, inl, inr}
+use Rattle.std.specs.Prelude.{IsTrue, slice_get}
 use Rattle.std.specs.List.{list_all}
 use Rattle.std.proofs.lemmas.List.Folds.{list_all-append}
-use Rattle.pt_base.specs.declared.span.Span.{Span}
-use Rattle.declared_types.specs.declared.fault.FaultKind.{FaultKind}
-use Rattle.declared_types.specs.Faults.{fault_if}
 use Rattle.typed_tree.proofs.WellFormedLemmas.{and_both}
 
 pub get_left : {X : Type 0} (xs ys : List X) (k : ℕ) (x : X) → slice_get xs k ≡ Some x → slice_get (xs ++ ys) k ≡ Some x
