@@ -1,6 +1,5 @@
 -- Lists of faults that are empty, and tests.
-use Rattle.std.proofs.Common.{◌≡◌, List, [], ◌∷◌, ◌++◌, Bool, true, false, ◌&&◌, ◌||◌, refl}
-use Rattle.std.specs.Prelude.{IsTrue}
+use Rattle.std.proofs.Common.{◌≡◌, List, [], ◌∷◌, ◌++◌, Bool, true, false, ◌||◌, refl}
 use Rattle.pt_base.specs.declared.span.Span.{Span}
 use Rattle.declared_types.specs.declared.fault.FaultKind.{FaultKind}
 use Rattle.declared_types.specs.Faults.{fault_if}
@@ -17,10 +16,6 @@ none_right (x ∷ xs) ys h = cc
 pub no_fault : (b : Bool) (kind : FaultKind) (at : Span) → fault_if b kind at ≡ [] → b ≡ false
 no_fault true kind at h = cc
 no_fault false kind at h = refl
-
-pub both : (a b : Bool) → IsTrue a → IsTrue b → IsTrue (a && b)
-both true b h k = k
-both false b h k = h
 
 pub or_left : (a b : Bool) → (a || b) ≡ false → a ≡ false
 or_left true b h = h

@@ -21,7 +21,8 @@ use Rattle.typed_expressions.specs.StructInfos.{object_type_of, field_info, stru
 use Rattle.declared_types_law.specs.Types.{is_plain, is_variable}
 use Rattle.declared_types_law.specs.Sound.{SoundStructs}
 use Rattle.declared_types_law.proofs.GoodTypes.{plain_more}
-use Rattle.declared_types_law.proofs.TableLemmas.{get_before, field_at, sound_at}
+use Rattle.typed_tree.proofs.LeavesLemmas.{get_before}
+use Rattle.declared_types_law.proofs.TableLemmas.{field_at, sound_at}
 
 -- a name that is found has a number within the table
 pub number_within : {X : Type 0} (table : Named X) (name : List ℕ) (k : ℕ) → number_of table name ≡ Some k → k < length table

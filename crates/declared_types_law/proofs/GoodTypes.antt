@@ -7,9 +7,8 @@ use Rattle.pt_tree.specs.declared.signature.Elem.TheVariants as elem
 use Rattle.type_rules.specs.declared.types.Type.{«Type»}
 use Rattle.type_rules.specs.declared.types.Type.TheVariants.{Bad, Void, Int, Struct, Array, Pointer}
 use Rattle.typed_tree.specs.WellFormedExpression.{is_elem}
-use Rattle.typed_tree.proofs.WellFormedLemmas.{and_left, and_right}
+use Rattle.typed_tree.proofs.WellFormedLemmas.{and_left, and_right, and_both}
 use Rattle.declared_types_law.specs.Types.{is_good, is_base, is_variable, is_plain, is_parameter, is_result}
-use Rattle.declared_types_law.proofs.FaultLemmas.{both}
 
 -- ---- among more structs
 
@@ -18,7 +17,7 @@ elem_more m n (elem.Int t) le h = h
 elem_more m n (elem.Struct k) le h = grind (arith, nat_tests, h)
 
 array_more : (m n : ℕ) (e : Elem) (count : ℕ) → m ≤ n → IsTrue (is_elem m (Some e) && nat_le 1 count) → IsTrue (is_elem n (Some e) && nat_le 1 count)
-array_more m n e count le h = both _ _ (elem_more m n e le (and_left (is_elem m (Some e)) (nat_le 1 count) h)) (and_right (is_elem m (Some e)) (nat_le 1 count) h)
+array_more m n e count le h = and_both _ _ (elem_more m n e le (and_left (is_elem m (Some e)) (nat_le 1 count) h)) (and_right (is_elem m (Some e)) (nat_le 1 count) h)
 
 pub good_more : (m n : ℕ) (t : «Type») → m ≤ n → IsTrue (is_good m t) → IsTrue (is_good n t)
 good_more m n Bad le h = h

@@ -9,6 +9,7 @@ use Rattle.pt_tree.specs.declared.signature.Elem.TheVariants as elem
 use Rattle.type_rules.specs.declared.types.Type.{«Type»}
 use Rattle.type_rules.specs.declared.types.Type.TheVariants.{Bad, Void, Int, Struct, Array, Pointer}
 use Rattle.typed_tree.specs.Cells as typed
+use Rattle.typed_tree.proofs.LeavesLemmas.{get_before}
 use Rattle.typed_tree.proofs.WellFormedLemmas.{and_left, and_right}
 use Rattle.declared_types.specs.declared.structs.FieldEntry.{FieldEntry}
 use Rattle.declared_types.specs.Cells.{cells_of, object_limit}
@@ -19,7 +20,7 @@ use Rattle.declared_types_law.specs.Types.{is_plain}
 use Rattle.declared_types_law.specs.Sound.{SoundStructs}
 use Rattle.declared_types_law.specs.Laws.{LeavesAreSound}
 use Rattle.declared_types_law.proofs.GoodTypes.{plain_more}
-use Rattle.declared_types_law.proofs.TableLemmas.{get_before, get_some, cells_before, field_at, sound_at, sound_prefix}
+use Rattle.declared_types_law.proofs.TableLemmas.{get_some, cells_before, field_at, sound_at, sound_prefix}
 use Rattle.declared_types_law.proofs.SizeLemmas.{integers_of, integers_of_int, integers_of_ints, integers_of_structs, integers_in_struct, Counts, object_counts, all_count}
 
 map_repeated : {X Y : Type 0} (f : X → Y) (n : ℕ) (xs : List X) → map f (typed.repeated n xs) ≡ typed.repeated n (map f xs)

@@ -13,7 +13,7 @@ use Rattle.pt_tree.specs.declared.specifier.Declarator.{Declarator}
 use Rattle.pt_tree.specs.SpecifierTree.{SpecTree, SpecTrees, FieldTree, FieldTrees, attribute, keyword, structure, no_specs, spec_and, field, no_fields, field_and}
 use Rattle.type_rules.specs.declared.types.Type.{«Type»}
 use Rattle.type_rules.specs.declared.types.Type.TheVariants as ty
-use Rattle.typed_tree.proofs.WellFormedLemmas.{and_left, and_right}
+use Rattle.typed_tree.proofs.WellFormedLemmas.{and_left, and_right, and_both}
 use Rattle.declared_types.specs.declared.fault.FaultKind.TheVariants.{UnknownName, Redeclared, OutOfProfile, TooLarge}
 use Rattle.declared_types.specs.declared.marks.Carrier.TheVariants as carrier
 use Rattle.declared_types.specs.declared.objects.ObjectKind.TheVariants as kind
@@ -30,7 +30,7 @@ use Rattle.declared_types.specs.Specifiers.{Naming, Body, referred, defined, def
 use Rattle.declared_types_law.specs.Types.{is_base}
 use Rattle.declared_types_law.specs.Sound.{field_sound, SoundStruct, SoundStructs}
 use Rattle.declared_types_law.specs.Laws.{SpecifiersAreSound}
-use Rattle.declared_types_law.proofs.FaultLemmas.{none_left, none_right, no_fault, both, or_left, or_right}
+use Rattle.declared_types_law.proofs.FaultLemmas.{none_left, none_right, no_fault, or_left, or_right}
 use Rattle.declared_types_law.proofs.GoodTypes.{base_more}
 use Rattle.declared_types_law.proofs.ObjectLemmas.{objects_are_sound}
 use Rattle.declared_types_law.proofs.TableLemmas.{sound_push}
@@ -104,8 +104,8 @@ not_false false h = cc
 -- ---- fields
 
 list_all_push : {X : Type 0} (p : X → Bool) (xs : List X) (y : X) → IsTrue (list_all p xs) → IsTrue (p y) → IsTrue (list_all p (xs ++ y ∷ []))
-list_all_push p [] y h k = both (p y) true k refl
-list_all_push p (x ∷ xs) y h k = both _ _ (and_left (p x) (list_all p xs) h) (list_all_push p xs y (and_right (p x) (list_all p xs) h) k)
+list_all_push p [] y h k = and_both (p y) true k refl
+list_all_push p (x ∷ xs) y h k = and_both _ _ (and_left (p x) (list_all p xs) h) (list_all_push p xs y (and_right (p x) (list_all p xs) h) k)
 
 field_good : (structs : Structs) (given : Specified) (fields : Fields) (d : Declarator) → IsTrue (is_base (length structs) given.base) → field_faults structs given fields d ≡ []
     → IsTrue (field_sound structs (field_of given d))
@@ -113,7 +113,7 @@ field_good structs given fields d base none =
     let two = none_left (object_faults kind.Field given d.pointer d.suffix d.name.span ++ size_faults structs (field_of given d).ty d.name.span) (fault_if (not (is_new fields d.name.bytes)) Redeclared d.name.span) none in
     let plain = objects_are_sound kind.Field (length structs) given d.pointer d.suffix d.name.span base (none_left (object_faults kind.Field given d.pointer d.suffix d.name.span) (size_faults structs (field_of given d).ty d.name.span) two) in
     let small = no_fault (nat_lt object_limit (cells_of structs (field_of given d).ty)) TooLarge d.name.span (none_right (object_faults kind.Field given d.pointer d.suffix d.name.span) (size_faults structs (field_of given d).ty d.name.span) two) in
-    both _ _ plain (few (cells_of structs (field_of given d).ty) small)
+    and_both _ _ plain (few (cells_of structs (field_of given d).ty) small)
   where
     few : (n : ℕ) → nat_lt 65536 n ≡ false → IsTrue (nat_le n 65536)
     few n h = grind (arith, nat_tests, h)
@@ -163,7 +163,7 @@ referred_good at_file structs tag h none = record {
   grown = sym (append-nil structs);
   none = λ e. refl;
   sound = h;
-  types = both _ _ (found_base (prefix_len (λ e. not (bytes_eq tag.bytes e.0)) structs) (length structs) (no_fault (is_new structs tag.bytes) UnknownName tag.span none)) refl;
+  types = and_both _ _ (found_base (prefix_len (λ e. not (bytes_eq tag.bytes e.0)) structs) (length structs) (no_fault (is_new structs tag.bytes) UnknownName tag.span none)) refl;
 }
 
 defined_good : (at_file : Bool) (first : Span) (tag : Word) (structs : Structs) (b : Body) → SoundStructs structs → SoundBody structs b
@@ -184,7 +184,7 @@ defined_good at_file first tag structs b h body none =
       grown = grown ∙ ap (λ x. x ++ (tag.bytes, struct_of b.structs b.fields) ∷ []) body.same;
       none = λ e. absurd (cc);
       sound = subst SoundStructs (sym grown) all;
-      types = both _ _ (subst (λ f. IsTrue (is_base (length (with_struct b.structs tag.bytes b.fields)) (if f then struct_type (with_struct b.structs tag.bytes b.fields) tag.bytes else ty.Bad))) (sym file)
+      types = and_both _ _ (subst (λ f. IsTrue (is_base (length (with_struct b.structs tag.bytes b.fields)) (if f then struct_type (with_struct b.structs tag.bytes b.fields) tag.bytes else ty.Bad))) (sym file)
           (subst (λ x. IsTrue (is_base (length x) (struct_type x tag.bytes))) (sym grown) named)) refl;
     }
 
@@ -199,11 +199,11 @@ judged_base at_file specs n good none =
 
 list_base_more : (m n : ℕ) (ts : List «Type») → m ≤ n → IsTrue (list_all (is_base m) ts) → IsTrue (list_all (is_base n) ts)
 list_base_more m n [] le h = refl
-list_base_more m n (t ∷ ts) le h = both _ _ (base_more m n t le (and_left (is_base m t) (list_all (is_base m) ts) h)) (list_base_more m n ts le (and_right (is_base m t) (list_all (is_base m) ts) h))
+list_base_more m n (t ∷ ts) le h = and_both _ _ (base_more m n t le (and_left (is_base m t) (list_all (is_base m) ts) h)) (list_base_more m n ts le (and_right (is_base m t) (list_all (is_base m) ts) h))
 
 list_all_append : {X : Type 0} (p : X → Bool) (xs ys : List X) → IsTrue (list_all p xs) → IsTrue (list_all p ys) → IsTrue (list_all p (xs ++ ys))
 list_all_append p [] ys h k = k
-list_all_append p (x ∷ xs) ys h k = both _ _ (and_left (p x) (list_all p xs) h) (list_all_append p xs ys (and_right (p x) (list_all p xs) h) k)
+list_all_append p (x ∷ xs) ys h k = and_both _ _ (and_left (p x) (list_all p xs) h) (list_all_append p xs ys (and_right (p x) (list_all p xs) h) k)
 
 -- one specifier, and then others
 then_good : (at_file : Bool) (structs : Structs) (one rest : Naming) → SoundNaming at_file structs one → SoundNaming at_file one.structs rest

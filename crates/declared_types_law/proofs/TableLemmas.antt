@@ -11,7 +11,8 @@ use Rattle.pt_tree.specs.declared.signature.Elem.TheVariants as elem
 use Rattle.type_rules.specs.declared.types.Type.{«Type»}
 use Rattle.type_rules.specs.declared.types.Type.TheVariants.{Bad, Void, Int, Struct, Array, Pointer}
 use Rattle.typed_tree.specs.WellFormedExpression.{is_elem}
-use Rattle.typed_tree.proofs.WellFormedLemmas.{and_left, and_right}
+use Rattle.typed_tree.proofs.WellFormedLemmas.{and_left, and_right, and_both}
+use Rattle.typed_tree.proofs.LeavesLemmas.{get_before}
 use Rattle.declared_types.specs.declared.structs.FieldEntry.{FieldEntry}
 use Rattle.declared_types.specs.declared.structs.StructEntry.{StructEntry}
 use Rattle.declared_types.specs.Cells.{counted, cells_of, cells_of_elem, cells_in, object_limit}
@@ -19,14 +20,8 @@ use Rattle.declared_types.specs.NameTables.{Named, value_at, values}
 use Rattle.declared_types.specs.Structs.{Structs}
 use Rattle.declared_types_law.specs.Types.{is_plain}
 use Rattle.declared_types_law.specs.Sound.{field_sound, SoundStruct, SoundFrom, SoundStructs}
-use Rattle.declared_types_law.proofs.FaultLemmas.{both}
 
 -- ---- tables that grow
-
-pub get_before : {X : Type 0} (xs ys : List X) (k : ℕ) → k < length xs → slice_get (xs ++ ys) k ≡ slice_get xs k
-get_before [] ys k h = grind (arith, h)
-get_before (x ∷ xs) ys zero h = refl
-get_before (x ∷ xs) ys (suc k) h = get_before xs ys k (omega (arith, h))
 
 pub get_some : {X : Type 0} (xs : List X) (k : ℕ) → k < length xs → (x : X) × (slice_get xs k ≡ Some x)
 get_some [] k h = absurd (omega (arith, h))
@@ -66,12 +61,12 @@ pub field_before : (structs more : Structs) (f : FieldEntry) → IsTrue (field_s
 field_before structs more f h =
     let plain = and_left (is_plain (length structs) f.ty) (nat_le (cells_of structs f.ty) object_limit) h in
     let small = and_right (is_plain (length structs) f.ty) (nat_le (cells_of structs f.ty) object_limit) h in
-    both _ _ plain (subst (λ c. IsTrue (nat_le c object_limit)) (sym (cells_before structs more f.ty plain)) small)
+    and_both _ _ plain (subst (λ c. IsTrue (nat_le c object_limit)) (sym (cells_before structs more f.ty plain)) small)
 
 pub fields_before : (structs more : Structs) (fs : List FieldEntry) → IsTrue (list_all (field_sound structs) fs) → IsTrue (list_all (field_at (structs ++ more) (length structs)) fs)
 fields_before structs more [] h = refl
 fields_before structs more (f ∷ fs) h =
-    both _ _ (field_before structs more f (and_left (field_sound structs f) (list_all (field_sound structs) fs) h))
+    and_both _ _ (field_before structs more f (and_left (field_sound structs f) (list_all (field_sound structs) fs) h))
     (fields_before structs more fs (and_right (field_sound structs f) (list_all (field_sound structs) fs) h))
 
 sums_before : (structs more : Structs) (fs : List FieldEntry) → IsTrue (list_all (field_sound structs) fs)

@@ -6,6 +6,7 @@ use Rattle.std.specs.Str.{bytes_eq}
 use Rattle.std.proofs.lemmas.Bool.Decides.{nat_tests}
 use Rattle.std.proofs.lemmas.List.{length-map}
 use Rattle.std.proofs.lemmas.List.Folds.{list_all-append, list_any-append}
+use Rattle.pt_base.specs.Names.{is_short}
 use Rattle.pt_base.specs.declared.int_type.IntType.TheVariants as i
 use Rattle.typed_tree.specs.declared.part.Part.{Part}
 use Rattle.typed_tree.specs.declared.types.VarTy.{VarTy}
@@ -16,12 +17,12 @@ use Rattle.typed_tree.specs.StatementTree.{BodyTree, give_back, body_trees}
 use Rattle.typed_tree.specs.TypedTree.{FunctionTree}
 use Rattle.typed_tree.specs.HostProgram.{nowhere, host_variable, host_function}
 use Rattle.typed_tree.specs.Cells.{leaves_of}
-use Rattle.typed_tree.specs.Parts.{all_parts}
+use Rattle.typed_tree.specs.Parts.{all_parts, all_variables, function_parts, function_variables}
 use Rattle.typed_tree.specs.Nodes.{nodes_of}
-use Rattle.typed_tree.specs.TypeTests.{both_int, integer_of}
+use Rattle.typed_tree.specs.TypeTests.{same_bool, both_int, integer_of}
 use Rattle.typed_tree.specs.WellFormedExpression.{Names, is_typed}
 use Rattle.typed_tree.specs.WellFormedStatement.{Scope, found_fits, expr_fits, any_type, init_fits, is_sound, all_sound}
-use Rattle.typed_tree.specs.WellFormed.{is_well_formed, names_in, scope_in, function_sound, variable_sound, params_lead, is_integer_param, name_of, are_distinct, is_start, are_numbered, are_consecutive, numbers_sound}
+use Rattle.typed_tree.specs.WellFormed.{is_well_formed, names_in, scope_in, function_sound, variable_sound, params_lead, is_integer_param, name_of, are_distinct, names_sound, is_start, are_numbered, are_consecutive, are_rising, numbers_sound}
 use Rattle.privtrans_app.specs.Names.{is_in, all_differ}
 use Rattle.privtrans_app.specs.EarlyTree.{names_of, param_of, signature_of, int_type, number_tree, statement_tree, declares, evaluates, variable_of, main_function, meant}
 use Rattle.privtrans_app.specs.EarlyConditions.{param_names, has_marked, host_is_good, hosts_are_good, statements_are_good, names_are_good}
@@ -36,6 +37,7 @@ use Rattle.privtrans_app.proofs.EarlyWordLemmas.{StatementsFit, main_is_main, nu
 use Rattle.privtrans_app.proofs.FreshLemmas.{bytes_eq_comm, differ-append, none_in}
 use Rattle.privtrans_app.proofs.PairLemmas.{both, neither}
 use Rattle.privtrans_app.proofs.EarlyTreeLemmas.{and_true, NamesAre, number_typed, statements_typed}
+use Rattle.privtrans_app.proofs.EarlyNameSizes.{names_short}
 use Rattle.privtrans_app.proofs.EarlyTreeSizes.{nodes_few}
 
 -- ---- hosts
@@ -43,7 +45,11 @@ use Rattle.privtrans_app.proofs.EarlyTreeSizes.{nodes_few}
 -- a host's variables are its parameters
 params_lead_all : (ps : List HostParam) → params_lead (map param_of ps) (map host_variable (map param_of ps)) ≡ true
 params_lead_all [] = refl
-params_lead_all (p ∷ ps) = params_lead_all ps
+params_lead_all (p ∷ ps) = and_true _ _ (same_mark p.marked) (params_lead_all ps)
+  where
+    same_mark : (b : Bool) → same_bool b b ≡ true
+    same_mark true = refl
+    same_mark false = refl
 
 -- the variables of parameters are ints
 params_sound : (ps : List HostParam) → list_all (variable_sound []) (map host_variable (map param_of ps)) ≡ true
@@ -201,6 +207,14 @@ names_distinct (h ∷ hosts) main differ none =
     is_false true e = cc
     is_false false e = refl
 
+-- the names of functions are short where those of hosts and of main are
+all_short : (hosts : List Host) (main : FunctionTree) → list_all is_short (names_of hosts) ≡ true → is_short (name_of main) ≡ true
+    → list_all is_short (map name_of (map (λ h. host_function (signature_of h)) hosts ++ main ∷ [])) ≡ true
+all_short [] main short last = and_true _ _ last refl
+all_short (h ∷ hosts) main short last =
+    let two : (is_short h.name ≡ true) × (list_all is_short (names_of hosts) ≡ true) = both (is_short h.name) (list_all is_short (names_of hosts)) short in
+    and_true _ _ two.0 (all_short hosts main two.1 last)
+
 -- the names of hosts differ where all names do
 hosts_differ : (hs vs : List (List ℕ)) → all_differ (hs ++ vs) ≡ true → all_differ hs ≡ true
 hosts_differ hs vs h =
@@ -238,8 +252,8 @@ evaluates_numbered from (suc count) k last at behind = and_true _ _ (itself from
     itself m = grind (arith, nat_tests)
 
 -- main's parts are consecutive
-main_numbered : (p : Program) → numbers_sound (meant p) (main_function p) ≡ true
-main_numbered p =
+main_parts : (p : Program) → are_consecutive (function_parts (main_function p).body) (length (meant p).exprs) ≡ true
+main_parts p =
     let last : List BodyTree = give_back nowhere (Some (record { 0 = length p.statements })) ∷ [] in
     let end : ℕ = length (meant p).exprs in
     let trees : List ExprTree = map (statement_tree p.hosts p.variables) p.statements in
@@ -249,6 +263,29 @@ main_numbered p =
     ∙ ap (λ parts. are_consecutive parts end) (declares_parts 0 (length p.variables) (evaluates 0 (length p.statements) ++ last))
     ∙ consecutive 0 end (all_parts (body_trees (evaluates 0 (length p.statements) ++ last)))
     (evaluates_numbered 0 (length p.statements) (length p.statements) end (omega arith) (omega (arith, count, same)))
+
+-- what is evaluated and returned declares nothing
+evaluates_nothing_new : (from count k : ℕ) → all_variables (body_trees (evaluates from count ++ give_back nowhere (Some (record { 0 = k })) ∷ [])) ≡ []
+evaluates_nothing_new from zero k = refl
+evaluates_nothing_new from (suc count) k = evaluates_nothing_new (suc from) count k
+
+-- declarations name variables one after the other
+declares_rising : (from count : ℕ) (rest : List BodyTree) → all_variables (body_trees rest) ≡ [] → are_rising from (all_variables (body_trees (declares from count ++ rest))) ≡ true
+declares_rising from zero rest none = ap (are_rising from) none
+declares_rising from (suc count) rest none = and_true _ _ (itself from) (declares_rising (suc from) count rest none)
+  where
+    itself : (m : ℕ) → nat_le m m ≡ true
+    itself m = grind (arith, nat_tests)
+
+-- main declares its variables in order
+main_rising : (p : Program) → are_rising 0 (function_variables (main_function p).body) ≡ true
+main_rising p =
+    let last : List BodyTree = give_back nowhere (Some (record { 0 = length p.statements })) ∷ [] in
+    ap (λ ss. are_rising 0 (all_variables (body_trees ss))) (append_assoc (declares 0 (length p.variables)) (evaluates 0 (length p.statements)) last)
+    ∙ declares_rising 0 (length p.variables) (evaluates 0 (length p.statements) ++ last) (evaluates_nothing_new 0 (length p.statements) (length p.statements))
+
+main_numbered : (p : Program) → numbers_sound (meant p) (main_function p) ≡ true
+main_numbered p = and_true _ _ (main_parts p) (main_rising p)
 
 -- hosts have no parts
 hosts_numbered : (p : Program) (hosts : List Host) → list_all (numbers_sound (meant p)) (map (λ h. host_function (signature_of h)) hosts) ≡ true
@@ -263,9 +300,9 @@ or_right true b h = refl
 or_right false b h = h
 
 -- a program is well formed whose names are good, whose numbers fit, and whose tree is small
-tree_well_formed : (p : Program) → MainIsMain p → names_are_good p ≡ true → StatementsFit p.statements → nat_lt (nodes_of (meant p)) (2 ^ 28) ≡ true → IsTrue (is_well_formed (meant p))
+tree_well_formed : (p : Program) → MainIsMain p → list_all is_short (names_of p.hosts) ≡ true → names_are_good p ≡ true → StatementsFit p.statements → nat_lt (nodes_of (meant p)) (2 ^ 28) ≡ true → IsTrue (is_well_formed (meant p))
 unfolding is_well_formed
-tree_well_formed p main good fits few =
+tree_well_formed p main short good fits few =
     let hosts : List FunctionTree = map (λ h. host_function (signature_of h)) p.hosts in
     let two : ((all_differ (names_of p.hosts ++ p.variables) && hosts_are_good p.hosts) ≡ true) × (statements_are_good p.hosts p.variables p.statements ≡ true) =
     both (all_differ (names_of p.hosts ++ p.variables) && hosts_are_good p.hosts) (statements_are_good p.hosts p.variables p.statements) good in
@@ -276,10 +313,11 @@ tree_well_formed p main good fits few =
     let start : list_any is_start (hosts ++ main_function p ∷ []) ≡ true = list_any-append is_start hosts (main_function p ∷ []) ∙ or_right _ _ refl in
     let numbered : list_all (numbers_sound (meant p)) (hosts ++ main_function p ∷ []) ≡ true =
     list_all-append (numbers_sound (meant p)) hosts (main_function p ∷ []) ∙ and_true _ _ (hosts_numbered p p.hosts) (and_true _ _ (main_numbered p) refl) in
-    and_true _ _ (and_true _ _ functions (and_true _ _ distinct start)) (and_true _ _ numbered few)
+    let names : names_sound (map name_of (hosts ++ main_function p ∷ [])) ≡ true = and_true _ _ distinct (all_short p.hosts (main_function p) short refl) in
+    and_true _ _ (and_true _ _ functions (and_true _ _ names start)) (and_true _ _ numbered few)
 
 -- the typed tree that an early program means is well formed
 pub well_formed : TreesAreWellFormed
 well_formed t turns p models state allowed early =
-    tree_well_formed p (main_is_main t.program p early.good.text) early.good.keeps.names (numbers_fit t.program p early.good.text)
+    tree_well_formed p (main_is_main t.program p early.good.text) (names_short t.program p early.good.text early.sized.program) early.good.keeps.names (numbers_fit t.program p early.good.text)
     (nodes_few t.program p early.good.text early.sized.program)

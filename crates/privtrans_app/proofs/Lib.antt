@@ -1,6 +1,7 @@
 pub mod CompleteLemmas
 pub mod EarlyHostLemmas
 pub mod EarlyInputLemmas
+pub mod EarlyNameSizes
 pub mod EarlyPolicyLemmas
 pub mod EarlyTreeLemmas
 pub mod EarlyTreeParts

@@ -17,7 +17,7 @@ use Rattle.typed_tree.specs.declared.types.VarTy.TheVariants as v
 use Rattle.typed_tree.specs.ExpressionTree.{ExprTree}
 use Rattle.typed_tree.specs.TypeTests as test
 use Rattle.typed_tree.specs.TypeRules.{stepped, promoted_value, converts, is_compound, is_comparison}
-use Rattle.typed_tree.specs.WellFormedExpression.{Names, is_typed, ty_of, place_fits, place_type, is_object, assigned_type}
+use Rattle.typed_tree.specs.WellFormedExpression.{Names, is_typed, ty_of, place_fits, place_type, place_const, is_object, is_written, assigned_type}
 use Rattle.declared_types.specs.declared.fault.FaultKind.{FaultKind}
 use Rattle.declared_types.specs.Faults.{fault_if}
 use Rattle.declared_types.specs.Objects.{is_struct}
@@ -28,14 +28,16 @@ use Rattle.typed_expressions.specs.Links.{integer_op, step_of, converted_by, rul
 use Rattle.typed_expressions.specs.Operands.{Known, var_type, place_of, value_of, value_tree, plain}
 use Rattle.typed_expressions.specs.Targets.{optional_fault, object_fault, target_fault_of, target_fault}
 use Rattle.declared_types_law.specs.Types.{is_good, is_variable}
+use Rattle.declared_types_law.proofs.FaultLemmas.{or_left}
 use Rattle.typed_expressions_law.specs.Laws.{SoundValue, Fitted}
-use Rattle.typed_expressions_law.proofs.Lists.{both, true≢false}
+use Rattle.typed_expressions_law.proofs.Lists.{nowhere_where, true≢false}
 use Rattle.typed_expressions_law.proofs.SameTypes.{same_types-equal, same_elem-self, usual-promoted-left}
 use Rattle.typed_expressions_law.proofs.Fits.{values_fit}
 use Rattle.typed_expressions_law.proofs.Known.{SoundKnown, plain_sound, value_sound, place_sound, designated_variable, good-variable}
 use Rattle.typed_expressions_law.proofs.Links.{no_struct}
 use Rattle.typed_expressions_law.proofs.Outcomes.{good_known, neither, val, Outcome, numbers, truths, shifts, moves, moves_by, differs, compares, null_right, null_left, binary_outcome}
 use Rattle.typed_expressions_law.proofs.Takes.{numbers_take, shifts_take, moves_take}
+use Rattle.typed_tree.proofs.WellFormedLemmas.{and_both}
 
 -- ---- what may be written
 
@@ -43,30 +45,32 @@ pub if_fault : (b : Bool) (k : FaultKind) (s : Span) → fault_if b k s ≡ [] �
 if_fault true k s h = cc
 if_fault false k s h = refl
 
-designates_object : (d c : Bool) → object_fault d c ≡ None → d ≡ true
-unfolding object_fault
-designates_object true c h = refl
-designates_object false c h = cc
-
--- no array, and an object
-pub record Written (ty : «Type») (designates : Bool) : Type 0 where
+-- no array, and an object that isn't const
+pub record Written (ty : «Type») (designates is_const : Bool) : Type 0 where
   pub object : designates ≡ true
+  pub free : is_const ≡ false
   pub whole : value_type ty false ≡ ty
 
-pub target_written : (ty : «Type») (d c : Bool) → is_bad ty ≡ false → target_fault_of ty d c ≡ None → Written ty d
+object_written : (ty : «Type») (d c : Bool) → value_type ty false ≡ ty → object_fault d c ≡ None → Written ty d c
+unfolding object_fault
+object_written ty true true w h = cc
+object_written ty true false w h = record { object = refl; free = refl; whole = w }
+object_written ty false c w h = cc
+
+pub target_written : (ty : «Type») (d c : Bool) → is_bad ty ≡ false → target_fault_of ty d c ≡ None → Written ty d c
 unfolding target_fault_of
 target_written Bad d c b h = cc
-target_written Void d c b h = record { object = designates_object d c h; whole = refl }
-target_written (Int t) d c b h = record { object = designates_object d c h; whole = refl }
-target_written (Struct m) d c b h = record { object = designates_object d c h; whole = refl }
+target_written Void d c b h = object_written _ d c refl h
+target_written (Int t) d c b h = object_written _ d c refl h
+target_written (Struct m) d c b h = object_written _ d c refl h
 target_written (Array e k) d c b h = cc
-target_written (Pointer e f) d c b h = record { object = designates_object d c h; whole = refl }
+target_written (Pointer e f) d c b h = object_written _ d c refl h
 
 -- the place of what is written
 pub record Target (n : Names) (structs : ℕ) (k : Known) : Type 0 where
   pub fits : IsTrue (place_fits n (place_of k.tree))
   pub has : place_type n (place_of k.tree) ≡ var_type k.ty
-  pub written : IsTrue (is_object (place_of k.tree))
+  pub written : IsTrue (is_written n (place_of k.tree))
   pub variable : IsTrue (is_variable structs k.ty)
   pub whole : value_type k.ty false ≡ k.ty
 
@@ -88,7 +92,8 @@ unfolding target_fault
 target_sound n structs count k h e =
     let w = target_written k.ty k.designates (k.fixed || has_const structs k.ty) (good_of n count k h) e in
     let p = place_sound n count k.ty k.fixed k.designates k.tree h.tree (λ u d. true≢false k.designates w.object d) in
-    record { fits = p.fits; has = p.has; written = p.written w.object; variable = designated_variable n count k.ty k.fixed k.designates k.tree h.tree w.object; whole = w.whole }
+    let free = or_left k.fixed (has_const structs k.ty) w.free in
+    record { fits = p.fits; has = p.has; written = and_both (is_object (place_of k.tree)) _ (p.written w.object) (nowhere_where (place_const n (place_of k.tree)) k.fixed p.kept free); variable = designated_variable n count k.ty k.fixed k.designates k.tree h.tree w.object; whole = w.whole }
 
 -- ---- =
 
@@ -134,10 +139,10 @@ stored_by_sound n structs s left right None false k w x below t h e z =
     let y = values_fit n structs k.ty w x h p.variable below (not_wrong structs k.ty w p.variable p.whole (sym e)) in
     plain_sound n structs k.ty (stored_tree s k w x)
     (record {
-      typed = both (place_fits n (place_of k.tree) && is_object (place_of k.tree)) _ (both (place_fits n (place_of k.tree)) _ p.fits p.written)
-          (both (test.same_types (place_type n (place_of k.tree)) (var_type k.ty) && test.is_value (var_type k.ty)) _
-          (both (test.same_types (place_type n (place_of k.tree)) (var_type k.ty)) _ (same_types-equal _ _ p.has) (is_value_variable structs k.ty p.variable p.whole))
-          (both (is_typed n (as_type k.ty w.null x)) _ y.typed (same_types-equal _ _ y.has)));
+      typed = and_both (place_fits n (place_of k.tree) && is_written n (place_of k.tree)) _ (and_both (place_fits n (place_of k.tree)) _ p.fits p.written)
+          (and_both (test.same_types (place_type n (place_of k.tree)) (var_type k.ty) && test.is_value (var_type k.ty)) _
+          (and_both (test.same_types (place_type n (place_of k.tree)) (var_type k.ty)) _ (same_types-equal _ _ p.has) (is_value_variable structs k.ty p.variable p.whole))
+          (and_both (is_typed n (as_type k.ty w.null x)) _ y.typed (same_types-equal _ _ y.has)));
       has = refl;
     })
     (variable_good structs k.ty p.variable p.whole) p.whole (λ q. stored_struct n s k w x q)
@@ -215,7 +220,7 @@ compound_takes n structs op s t i j r y (shifts a b m k) o w good h =
     record { typed = z.typed; step = refl; back = ap (λ u. converts u (Some (v.Int a))) z.is; kept = refl }
 compound_takes n structs op s t i j r y (moves e f b m k) o w good h =
     let z = moves_take n structs op e f b false k y good h in
-    record { typed = z.typed; step = refl; back = ap (λ u. converts u (Some (v.Pointer e f))) z.is ∙ both (test.same_elem e e) _ (same_elem-self e) (or_not f); kept = refl }
+    record { typed = z.typed; step = refl; back = ap (λ u. converts u (Some (v.Pointer e f))) z.is ∙ and_both (test.same_elem e e) _ (same_elem-self e) (or_not f); kept = refl }
 compound_takes n structs op s t i j r y (moves_by a e f m k) o w good h = cc
 compound_takes n structs op s t i j r y (differs e e' f f' m k same) o w good h = cc
 compound_takes n structs op s t i j r y (compares e e' f f' m k c same) o w good h = true≢false (is_comparison (integer_op op)) c (no_comparison op o)
@@ -262,9 +267,9 @@ unfolding compound_tree
 compound_sound n structs op s left k w x r p h e =
     plain_sound n structs k.ty (compound_tree r op s left k w x)
     (record {
-      typed = both (place_fits n (place_of k.tree) && is_object (place_of k.tree)) _ (both (place_fits n (place_of k.tree)) _ p.fits p.written)
-          (both (test.same_types (place_type n (place_of k.tree)) (var_type k.ty)) _ (same_types-equal _ _ p.has)
-          (both (is_typed n (converted_by r w (val k.ty false) x)) _ h.typed (both (is_compound (step_of (integer_op op) r)) _ h.step h.back)));
+      typed = and_both (place_fits n (place_of k.tree) && is_written n (place_of k.tree)) _ (and_both (place_fits n (place_of k.tree)) _ p.fits p.written)
+          (and_both (test.same_types (place_type n (place_of k.tree)) (var_type k.ty)) _ (same_types-equal _ _ p.has)
+          (and_both (is_typed n (converted_by r w (val k.ty false) x)) _ h.typed (and_both (is_compound (step_of (integer_op op) r)) _ h.step h.back)));
       has = refl;
     })
     (variable_good structs k.ty p.variable p.whole) p.whole (λ q. no_struct k.ty e q)

@@ -27,12 +27,12 @@ use Rattle.typed_expressions.specs.Postfixes.{is_main, function_params, params_o
 use Rattle.declared_types_law.specs.Types.{is_good, is_variable, is_parameter, is_result}
 use Rattle.typed_expressions_law.specs.Agreement.{HasCallable, Agrees, taken}
 use Rattle.typed_expressions_law.specs.Laws.{SoundValue, Fitted}
-use Rattle.typed_expressions_law.proofs.Lists.{both}
 use Rattle.typed_expressions_law.proofs.SameTypes.{same_types-equal, same_number}
 use Rattle.typed_expressions_law.proofs.Fits.{values_fit}
 use Rattle.typed_expressions_law.proofs.Known.{SoundKnown, plain_sound}
 use Rattle.typed_expressions_law.proofs.Assignments.{if_fault}
 use Rattle.typed_expressions_law.proofs.Names.{there}
+use Rattle.typed_tree.proofs.WellFormedLemmas.{and_both}
 
 -- ---- arguments
 
@@ -99,8 +99,8 @@ all_fit n (p ∷ ps) (t ∷ ts) (x ∷ xs) e l h =
     let same = first_same (taken p) (var_type t) (map taken ps) (map var_type ts) e in
     let rest = all_fit n ps ts xs same.1 (omega arith) h.1 in
     record {
-      typed = both (is_typed n x) _ h.0.typed rest.typed;
-      fit = both (test.same_types (ty_of x) (Some (param_type p.kind))) _ (same_types-equal _ _ (h.0.has ∙ sym same.0)) rest.fit;
+      typed = and_both (is_typed n x) _ h.0.typed rest.typed;
+      fit = and_both (test.same_types (ty_of x) (Some (param_type p.kind))) _ (same_types-equal _ _ (h.0.has ∙ sym same.0)) rest.fit;
     }
 
 -- ---- the call
@@ -135,10 +135,10 @@ call_typed n structs c f s trees h m l p =
     let a = all_fit n h.signature.params c.params trees h.takes l p in
     let named : w.is_main h.signature ≡ false = ap (λ x. bytes_eq x (codes "main")) h.name ∙ m in
     let fits : IsTrue (call_fits (Some h.signature) (expr_trees trees) (var_type c.result)) =
-    both (not (w.is_main h.signature)) _ (ap not named)
-    (both (arguments_fit h.signature.params (expr_trees trees)) _ a.fit (same_types-equal (var_type c.result) (option_map v.Int h.signature.result) (sym h.gives))) in
+    and_both (not (w.is_main h.signature)) _ (ap not named)
+    (and_both (arguments_fit h.signature.params (expr_trees trees)) _ a.fit (same_types-equal (var_type c.result) (option_map v.Int h.signature.result) (sym h.gives))) in
     plain_sound n structs c.result (call_tree s c.result f trees)
-    (record { typed = both (all_typed n (expr_trees trees)) _ a.typed (ap (λ o. call_fits o (expr_trees trees) (var_type c.result)) h.is ∙ fits); has = refl })
+    (record { typed = and_both (all_typed n (expr_trees trees)) _ a.typed (ap (λ o. call_fits o (expr_trees trees) (var_type c.result)) h.is ∙ fits); has = refl })
     (result_good structs c.result h.result) (result_whole c.result h.result) (λ k. result_plain c.result h.result k)
 
 call_of_sound : (n : Names) (structs : ℕ) (c : Callable) (f : FnId) (s : Span) (trees : List ExprTree) → HasCallable structs c (slice_get n.signatures f.0) → Passed n (function_params c) trees → (call_of c s f trees).faults ≡ [] → SoundKnown n structs (call_of c s f trees).operand

@@ -22,12 +22,12 @@ use Rattle.typed_expressions.specs.Conversions.{as_type}
 use Rattle.typed_expressions.specs.Operands.{var_type, plain}
 use Rattle.declared_types_law.specs.Types.{is_good}
 use Rattle.typed_expressions_law.specs.Laws.{SoundValue, Fitted}
-use Rattle.typed_expressions_law.proofs.Lists.{both}
 use Rattle.typed_expressions_law.proofs.SameTypes.{same_types-equal, usual-promoted, elem-more}
 use Rattle.typed_expressions_law.proofs.Fits.{int_fits, pointer_fits, null_fits}
 use Rattle.typed_expressions_law.proofs.Known.{SoundKnown, plain_sound, value_sound}
 use Rattle.typed_expressions_law.proofs.Links.{no_struct, scalar_has}
 use Rattle.typed_expressions_law.proofs.Outcomes.{good_known, neither}
+use Rattle.typed_tree.proofs.WellFormedLemmas.{and_both}
 
 -- the arms as values of their common type
 pub record Arms (n : Names) (structs : ℕ) (ty : «Type») (m k : Bool) (x y : ExprTree) : Type 0 where
@@ -116,11 +116,11 @@ unfolding choice_tree arm_tree
 gives_sound n structs s ty one first last g c h =
     plain_sound n structs ty (choice_tree s ty one first last)
     (record {
-      typed = both (is_typed n (tree_at one) && test.is_scalar (ty_of (tree_at one))) _ (both (is_typed n (tree_at one)) _ g c)
-          (both (is_typed n (arm_tree ty first) && test.same_types (ty_of (arm_tree ty first)) (var_type ty)) _
-          (both (is_typed n (arm_tree ty first)) _ h.first.typed (same_types-equal _ _ h.first.has))
-          (both (is_typed n (arm_tree ty last) && test.same_types (ty_of (arm_tree ty last)) (var_type ty)) _
-          (both (is_typed n (arm_tree ty last)) _ h.last.typed (same_types-equal _ _ h.last.has))
+      typed = and_both (is_typed n (tree_at one) && test.is_scalar (ty_of (tree_at one))) _ (and_both (is_typed n (tree_at one)) _ g c)
+          (and_both (is_typed n (arm_tree ty first) && test.same_types (ty_of (arm_tree ty first)) (var_type ty)) _
+          (and_both (is_typed n (arm_tree ty first)) _ h.first.typed (same_types-equal _ _ h.first.has))
+          (and_both (is_typed n (arm_tree ty last) && test.same_types (ty_of (arm_tree ty last)) (var_type ty)) _
+          (and_both (is_typed n (arm_tree ty last)) _ h.last.typed (same_types-equal _ _ h.last.has))
           h.arm));
       has = refl;
     })

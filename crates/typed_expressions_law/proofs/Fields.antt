@@ -10,7 +10,7 @@ use Rattle.typed_tree.specs.declared.types.VarTy.TheVariants as v
 use Rattle.typed_tree.specs.declared.types.Field.{Field}
 use Rattle.typed_tree.specs.declared.types.StructInfo.{StructInfo}
 use Rattle.typed_tree.specs.WellFormedExpression.{Names, field_type, is_elem}
-use Rattle.typed_tree.proofs.WellFormedLemmas.{and_left, and_right}
+use Rattle.typed_tree.proofs.WellFormedLemmas.{and_left, and_right, and_both}
 use Rattle.typed_tree.proofs.NumberLemmas.{passes_at}
 use Rattle.declared_types.specs.declared.structs.FieldEntry.{FieldEntry}
 use Rattle.declared_types.specs.declared.structs.FoundField.{FoundField}
@@ -21,7 +21,6 @@ use Rattle.typed_expressions.specs.Operands.{var_type}
 use Rattle.typed_expressions.specs.StructInfos.{object_type_of, field_info, struct_info, infos_of}
 use Rattle.declared_types_law.specs.Types.{is_plain, is_variable}
 use Rattle.declared_types_law.specs.Sound.{SoundStruct, SoundFrom, SoundStructs, field_sound}
-use Rattle.typed_expressions_law.proofs.Lists.{both}
 use Rattle.typed_expressions_law.proofs.SameTypes.{elem-more}
 use Rattle.typed_expressions_law.proofs.Postfixes.{FieldsAgree}
 
@@ -82,7 +81,7 @@ plain_variable a b Bad k h = cc
 plain_variable a b Void k h = cc
 plain_variable a b (Int t) k h = refl
 plain_variable a b (Struct m) k h = lower m a b k h
-plain_variable a b (Array e c) k h = both (is_elem b (Some e)) (nat_le 1 c) (elem-more a b e k (and_left (is_elem a (Some e)) (nat_le 1 c) h)) (and_right (is_elem a (Some e)) (nat_le 1 c) h)
+plain_variable a b (Array e c) k h = and_both (is_elem b (Some e)) (nat_le 1 c) (elem-more a b e k (and_left (is_elem a (Some e)) (nat_le 1 c) h)) (and_right (is_elem a (Some e)) (nat_le 1 c) h)
 plain_variable a b (Pointer e f) k h = cc
 
 pub record SoundAt (first j : ℕ) (x : StructEntry) : Type 0 where

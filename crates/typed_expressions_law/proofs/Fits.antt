@@ -18,8 +18,8 @@ use Rattle.typed_expressions.specs.Conversions.{to_int, to_pointer, to_null, as_
 use Rattle.typed_expressions.specs.Operands.{var_type}
 use Rattle.declared_types_law.specs.Types.{is_good, is_variable}
 use Rattle.typed_expressions_law.specs.Laws.{Fitted, ValuesFit}
-use Rattle.typed_expressions_law.proofs.Lists.{both}
 use Rattle.typed_expressions_law.proofs.SameTypes.{same_elem-self, same_number, elem-more}
+use Rattle.typed_tree.proofs.WellFormedLemmas.{and_both}
 
 pub int_fits : (n : Names) (s t : IntType) (x : ExprTree) → Fitted n (Int s) x → Fitted n (Int t) (to_int t x)
 unfolding to_int is_of_int var_type
@@ -27,7 +27,7 @@ int_fits n s t (typed p o f) h = subst (λ (u : Option VarTy). IsTrue (form_fits
   where
     by_test : (b : Bool) → is_same_int t s ≡ b → IsTrue (form_fits n f (Some (v.Int s))) → Fitted n (Int t) (if b then typed p (Some (v.Int s)) f else converted (v.Int t) (typed p (Some (v.Int s)) f))
     by_test true e k = record { typed = k; has = ap (λ u. Some (v.Int u)) (sym (same_int t s e)) }
-    by_test false e k = record { typed = both (form_fits n f (Some (v.Int s))) true k refl; has = refl }
+    by_test false e k = record { typed = and_both (form_fits n f (Some (v.Int s))) true k refl; has = refl }
 
 pub promoted_fits : (n : Names) (s : IntType) (x : ExprTree) → Fitted n (Int s) x → Fitted n (Int (promoted s)) (as_promoted (Int s) x)
 unfolding as_promoted
@@ -36,7 +36,7 @@ promoted_fits n s x h = int_fits n s (promoted s) x h
 own_pointer_fits : (n : Names) (e : Elem) (f f' : Bool) (x : ExprTree) → (f || not f') ≡ true → Fitted n (Pointer e f') x → Fitted n (Pointer e f) (to_pointer e f x)
 unfolding to_pointer is_of_pointer var_type
 own_pointer_fits n e true true (typed p o g) c h = subst (λ (u : Option VarTy). IsTrue (form_fits n g u) → Fitted n (Pointer e true) (to_pointer e true (typed p u g))) (sym h.has) (λ k. record { typed = k; has = refl }) h.typed
-own_pointer_fits n e true false (typed p o g) c h = subst (λ (u : Option VarTy). IsTrue (form_fits n g u) → Fitted n (Pointer e true) (to_pointer e true (typed p u g))) (sym h.has) (λ k. record { typed = both _ _ k (both _ _ (same_elem-self e) refl); has = refl }) h.typed
+own_pointer_fits n e true false (typed p o g) c h = subst (λ (u : Option VarTy). IsTrue (form_fits n g u) → Fitted n (Pointer e true) (to_pointer e true (typed p u g))) (sym h.has) (λ k. record { typed = and_both _ _ k (and_both _ _ (same_elem-self e) refl); has = refl }) h.typed
 own_pointer_fits n e false true x c h = cc
 own_pointer_fits n e false false (typed p o g) c h = subst (λ (u : Option VarTy). IsTrue (form_fits n g u) → Fitted n (Pointer e false) (to_pointer e false (typed p u g))) (sym h.has) (λ k. record { typed = k; has = refl }) h.typed
 

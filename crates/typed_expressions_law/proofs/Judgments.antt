@@ -23,7 +23,6 @@ use Rattle.declared_types_law.specs.Sound.{SoundStructs}
 use Rattle.declared_types_law.specs.Types.{is_base, is_parameter}
 use Rattle.typed_expressions_law.specs.Agreement.{Agrees}
 use Rattle.typed_expressions_law.specs.Laws.{ExpressionsAreSound}
-use Rattle.typed_expressions_law.proofs.Lists.{none_left, none_right}
 use Rattle.typed_expressions_law.proofs.Known.{SoundKnown, value_sound}
 use Rattle.typed_expressions_law.proofs.Links as links
 use Rattle.typed_expressions_law.proofs.Links.{Before, begun_before, chained_sound}
@@ -34,6 +33,7 @@ use Rattle.typed_expressions_law.proofs.Postfixes.{FieldsAgree, indexed_sound, d
 use Rattle.typed_expressions_law.proofs.Fields.{fields_agree, count_within, sound_prefix}
 use Rattle.typed_expressions_law.proofs.Names.{CalledAt, named_sound, literal_sound, called_entry}
 use Rattle.typed_expressions_law.proofs.Calls.{Passed, FromOn, from_here, from_next, from_none, from_start, argument_fits, argument_typed, called_sound, no_call, params_are}
+use Rattle.declared_types_law.proofs.FaultLemmas.{none_left, none_right}
 
 -- ---- what is carried
 

@@ -11,8 +11,9 @@ use Rattle.pt_tree.specs.declared.word.Word.{Word}
 use Rattle.pt_tree.specs.declared.word.Constant.{Constant}
 use Rattle.pt_tree.specs.Facts.{is_sound}
 use Rattle.pt_tree.specs.ExpressionTree as e
+use Rattle.typed_tree.specs.declared.variable.TypedGlobal.{TypedGlobal}
 use Rattle.typed_tree.specs.ExpressionTree.{RootTree, local, global, place, no_steps}
-use Rattle.typed_tree.specs.WellFormedExpression.{Names, root_fits, root_type, is_object, is_named}
+use Rattle.typed_tree.specs.WellFormedExpression.{Names, root_fits, root_type, root_const, is_object, is_named}
 use Rattle.declared_types.specs.NameTables.{number_of, value_at}
 use Rattle.declared_types.specs.Structs.{Structs}
 use Rattle.typed_expressions.specs.declared.meaning.Meaning.{Meaning}
@@ -23,8 +24,8 @@ use Rattle.typed_expressions.specs.Expressions.{meant, named_as, named, literal,
 use Rattle.typed_expressions.specs.Operands.{var_type}
 use Rattle.typed_expressions.specs.Postfixes.{function_meant, function_named, is_called, function_called}
 use Rattle.typed_expressions_law.specs.Agreement.{HasType, is_entry, AreEntries, Agrees}
-use Rattle.typed_expressions_law.proofs.Lists.{both}
 use Rattle.typed_expressions_law.proofs.Known.{SoundKnown}
+use Rattle.typed_tree.proofs.WellFormedLemmas.{and_both}
 
 -- ---- what a name means is an entry
 
@@ -63,15 +64,20 @@ there [] k h = absurd (grind (arith, nat_tests))
 there (x ∷ xs) zero h = (x, refl)
 there (x ∷ xs) (suc k) h = there xs k (grind (arith, nat_tests))
 
-object_sound : (n : Names) (count : ℕ) (o : Object) (root : RootTree) → IsTrue (root_fits n root) → IsTrue (is_object (place root no_steps)) → IsTrue (is_named root) → HasType count o.ty (root_type n root) → SoundKnown n count (an_object o root)
-object_sound n count o root f i d h = record {
+object_sound : (n : Names) (count : ℕ) (o : Object) (root : RootTree) → IsTrue (root_fits n root) → IsTrue (is_object (place root no_steps)) → IsTrue (is_named root) → HasType count o.ty (root_type n root) → (root_const n root ≡ true → o.fixed ≡ true) → SoundKnown n count (an_object o root)
+object_sound n count o root f i d h c = record {
   tree = record {
-    object = record { fits = both (root_fits n root) true f refl; has = h.1; good = h.0 };
+    object = record { fits = and_both (root_fits n root) true f refl; has = h.1; good = h.0; kept = c };
     written = λ x. i;
     ends = d;
   };
   null = λ x. cc;
 }
+
+-- a global is const in the tree where it is known as const
+global_fixed : (o : Option TypedGlobal) (f : Bool) → option_map (λ g. g.fixed) o ≡ Some f → option_map_or (λ (g : TypedGlobal). g.fixed) o false ≡ true → f ≡ true
+global_fixed None f h c = cc
+global_fixed (Some g) f h c = let same : g.fixed ≡ f = cc in sym same ∙ c
 
 meant_sound : (n : Names) (env : Env) (structs : Structs) → Agrees env structs n → (s : Span) (m : Meaning) → IsTrue (is_entry env m) → (meant env s m).faults ≡ [] → SoundKnown n (length structs) (meant env s m).operand
 unfolding meant
@@ -79,11 +85,11 @@ meant_sound n env structs h s (Function f) i z = cc
 meant_sound n env structs h s (Global g) i z =
     let o = there env.globals g.0 i in
     let is : global_at env g ≡ o.0 = ap (λ x. option_map_or (λ (y : Object). y) x no_object) o.1 in
-    subst (λ x. SoundKnown n (length structs) (an_object x (global g))) (sym is) (object_sound n (length structs) o.0 (global g) refl refl refl (h.globals g.0 o.0 o.1))
+    subst (λ x. SoundKnown n (length structs) (an_object x (global g))) (sym is) (object_sound n (length structs) o.0 (global g) refl refl refl (h.globals g.0 o.0 o.1) (global_fixed (slice_get n.globals g.0) o.0.fixed (h.fixed g.0 o.0 o.1)))
 meant_sound n env structs h s (Local v) i z =
     let x = there env.variables v.0 i in
     let is : variable_at env v ≡ object_of x.0 = ap (λ y. option_map_or object_of y no_object) x.1 in
-    subst (λ y. SoundKnown n (length structs) (an_object y (local v))) (sym is) (object_sound n (length structs) (object_of x.0) (local v) refl refl refl (h.variables v.0 x.0 x.1))
+    subst (λ y. SoundKnown n (length structs) (an_object y (local v))) (sym is) (object_sound n (length structs) (object_of x.0) (local v) refl refl refl (h.variables v.0 x.0 x.1) (λ c. cc))
 
 pub named_sound : (n : Names) (env : Env) (structs : Structs) → Agrees env structs n → (w : Word) → (named env w).faults ≡ [] → SoundKnown n (length structs) (named env w).operand
 unfolding named named_as

@@ -16,7 +16,7 @@ use Rattle.typed_tree.specs.declared.types.VarTy.TheVariants as v
 use Rattle.typed_tree.specs.declared.link.LinkStep.TheVariants as link_step
 use Rattle.typed_tree.specs.ExpressionTree.{ExprTree, RootTree, StepTree, field, deref, place, step_trees}
 use Rattle.typed_tree.specs.WellFormedExpression.{Names, is_elem, root_fits, root_type, step_type, field_type, is_named}
-use Rattle.typed_tree.proofs.WellFormedLemmas.{and_left, and_right}
+use Rattle.typed_tree.proofs.WellFormedLemmas.{and_left, and_right, and_both}
 use Rattle.declared_types.specs.declared.structs.FoundField.{FoundField}
 use Rattle.declared_types.specs.Structs.{Structs, field_named}
 use Rattle.typed_expressions.specs.Links.{link_type, rule_faults}
@@ -25,7 +25,6 @@ use Rattle.typed_expressions.specs.Prefixes.{points_to_const}
 use Rattle.typed_expressions.specs.Postfixes.{pointee, pointee_known, moved_tree, element_tree, index_tree, indexed_by, indexed, part_by, dotted_as, dotted, arrow_as, arrow}
 use Rattle.declared_types_law.specs.Types.{is_good, is_variable}
 use Rattle.typed_expressions_law.specs.Laws.{SoundValue, Fitted}
-use Rattle.typed_expressions_law.proofs.Lists.{both}
 use Rattle.typed_expressions_law.proofs.Steps.{steps_fit-last, steps_type-last, ends-last, field_is_object}
 use Rattle.typed_expressions_law.proofs.Known.{SoundKnown, SoundTree, SoundPlace, value_sound, place_sound, elem-variable}
 use Rattle.typed_expressions_law.proofs.Assignments.{good_of}
@@ -87,7 +86,7 @@ element_at n structs s at (Struct m) fixed designates null t e f b y h i k = cc
 element_at n structs s at (Array e' c) fixed designates null t e f b y h i k =
     let p = place_sound n structs (Array e' c) fixed designates t h.tree (λ u d. cc) in
     let w = value_sound n structs at (record { ty = Array e' c; fixed = fixed; designates = designates; null = null; tree = t }) h in
-    record { tree = record { of = e'; count = c; index = b; array = record { fits = p.fits; has = p.has; good = array_good t h.tree }; is = refl; at = k }; null = λ z. cc }
+    record { tree = record { of = e'; count = c; index = b; array = record { fits = p.fits; has = p.has; good = array_good t h.tree; kept = p.kept }; is = refl; at = k }; null = λ z. cc }
   where
     array_good : (t : Elaboration) → SoundTree n structs (Array e' c) fixed designates t → IsTrue (is_variable structs (Array e' c))
     array_good (value x) z = let u : Pointer e' false ≡ Array e' c = z.whole in cc
@@ -144,7 +143,7 @@ indexed_sound n structs s at k at_index i h g z =
 abbrev pub FieldsAgree : Names → Structs → Type 0
 FieldsAgree n structs = (m : ℕ) (name : List ℕ) (f : FoundField) → field_named structs m name ≡ Some f → (field_type n.structs (Some (v.Struct m)) f.number ≡ var_type f.entry.ty) × IsTrue (is_variable (length structs) f.entry.ty)
 
-part_sound : (n : Names) (count : ℕ) (m : ℕ) (o : Option FoundField) (w : Word) (fixed designates : Bool) (root : RootTree) (steps : List StepTree) → ((f : FoundField) → o ≡ Some f → (field_type n.structs (Some (v.Struct m)) f.number ≡ var_type f.entry.ty) × IsTrue (is_variable count f.entry.ty)) → SoundPlace n count (Struct m) designates (place root (step_trees steps)) → (part_by o w fixed designates root steps).faults ≡ [] → SoundKnown n count (part_by o w fixed designates root steps).operand
+part_sound : (n : Names) (count : ℕ) (m : ℕ) (o : Option FoundField) (w : Word) (fixed designates : Bool) (root : RootTree) (steps : List StepTree) → ((f : FoundField) → o ≡ Some f → (field_type n.structs (Some (v.Struct m)) f.number ≡ var_type f.entry.ty) × IsTrue (is_variable count f.entry.ty)) → SoundPlace n count (Struct m) fixed designates (place root (step_trees steps)) → (part_by o w fixed designates root steps).faults ≡ [] → SoundKnown n count (part_by o w fixed designates root steps).operand
 unfolding part_by var_type
 part_sound n count m None w fixed designates root steps agree p z = cc
 part_sound n count m (Some f) w fixed designates root steps agree p z =
@@ -152,9 +151,10 @@ part_sound n count m (Some f) w fixed designates root steps agree p z =
     record {
       tree = record {
         object = record {
-          fits = both (root_fits n root) _ (and_left (root_fits n root) _ p.fits) (steps_fit-last n steps (field f.number) (and_right (root_fits n root) _ p.fits) refl);
+          fits = and_both (root_fits n root) _ (and_left (root_fits n root) _ p.fits) (steps_fit-last n steps (field f.number) (and_right (root_fits n root) _ p.fits) refl);
           has = steps_type-last n.structs (root_type n root) steps (field f.number) ∙ ap (λ t. step_type n.structs t (field f.number)) p.has ∙ a.0;
           good = a.1;
+          kept = λ c. ap (λ b. b || f.entry.fixed) (p.kept c);
         };
         written = λ d. field_is_object root steps f.number (p.written d);
         ends = ends-last (is_named root) steps f.number;

@@ -22,7 +22,7 @@ use Rattle.typed_tree.specs.declared.types.VarTy.TheVariants as v
 use Rattle.typed_tree.specs.ExpressionTree.{ExprTree, typed, place, step_trees}
 use Rattle.typed_tree.specs.TypeTests as test
 use Rattle.typed_tree.specs.TypeRules.{is_same_promoted, converts}
-use Rattle.typed_tree.specs.WellFormedExpression.{Names, is_typed, ty_of, is_elem, place_fits, place_type, is_object, is_addressed}
+use Rattle.typed_tree.specs.WellFormedExpression.{Names, is_typed, ty_of, is_elem, place_fits, place_type, place_const, is_object, is_written, is_addressed}
 use Rattle.declared_types.specs.declared.fault.FaultKind.{FaultKind}
 use Rattle.declared_types.specs.declared.fault.FaultKind.TheVariants.{NotLvalue}
 use Rattle.declared_types.specs.Faults.{fault_at}
@@ -34,19 +34,20 @@ use Rattle.typed_expressions.specs.Prefixes.{unary_rule_of, unary_operand, compu
 use Rattle.typed_expressions.specs.Targets.{optional_fault, target_fault}
 use Rattle.declared_types_law.specs.Types.{is_good, is_base, is_variable}
 use Rattle.typed_expressions_law.specs.Laws.{Fitted}
-use Rattle.typed_expressions_law.proofs.Lists.{both, true≢false}
+use Rattle.typed_expressions_law.proofs.Lists.{only_where, true≢false}
 use Rattle.typed_expressions_law.proofs.SameTypes.{same_int-self, same_elem-self, same_types-equal, promoted-promoted}
 use Rattle.typed_expressions_law.proofs.Fits.{int_fits}
 use Rattle.typed_expressions_law.proofs.Known.{SoundKnown, SoundTree, plain_sound, value_sound, designated_variable}
 use Rattle.typed_expressions_law.proofs.Assignments.{Target, target_sound, good_of, or_not}
 use Rattle.typed_expressions_law.proofs.Moves.{move_fits}
 use Rattle.typed_expressions_law.proofs.Outcomes.{good_known, neither}
+use Rattle.typed_tree.proofs.WellFormedLemmas.{and_both}
 
 -- ---- + - ~ !
 
 promoted_operand : (n : Names) (t : IntType) (x : ExprTree) → Fitted n (Int (promoted t)) x → IsTrue (is_typed n x && is_same_promoted (ty_of x) (Some (v.Int (promoted t))))
 unfolding var_type
-promoted_operand n t x h = both (is_typed n x) _ h.typed (ap (λ z. is_same_promoted z (Some (v.Int (promoted t)))) h.has ∙ both (test.same_int (promoted t) (promoted t)) _ (same_int-self (promoted t)) (promoted-promoted t))
+promoted_operand n t x h = and_both (is_typed n x) _ h.typed (ap (λ z. is_same_promoted z (Some (v.Int (promoted t)))) h.has ∙ and_both (test.same_int (promoted t) (promoted t)) _ (same_int-self (promoted t)) (promoted-promoted t))
 
 int_sound : (n : Names) (structs : ℕ) (t : IntType) (x : ExprTree) → IsTrue (is_typed n x) → ty_of x ≡ Some (v.Int t) → SoundKnown n structs (plain (Int t) x)
 unfolding var_type
@@ -72,8 +73,8 @@ computed_at n structs Flip s at Void x g h k = cc
 computed_at n structs Flip s at (Struct m) x g h k = cc
 computed_at n structs Flip s at (Array e c) x g h k = cc
 computed_at n structs Flip s at (Pointer e f) x g h k = cc
-computed_at n structs Not s at (Int t) x g h k = int_sound n structs int.Int _ (both (is_typed n x) _ h.typed (both (test.is_scalar (ty_of x)) true (ap test.is_scalar h.has) refl)) refl
-computed_at n structs Not s at (Pointer e f) x g h k = int_sound n structs int.Int _ (both (is_typed n x) _ h.typed (both (test.is_scalar (ty_of x)) true (ap test.is_scalar h.has) refl)) refl
+computed_at n structs Not s at (Int t) x g h k = int_sound n structs int.Int _ (and_both (is_typed n x) _ h.typed (and_both (test.is_scalar (ty_of x)) true (ap test.is_scalar h.has) refl)) refl
+computed_at n structs Not s at (Pointer e f) x g h k = int_sound n structs int.Int _ (and_both (is_typed n x) _ h.typed (and_both (test.is_scalar (ty_of x)) true (ap test.is_scalar h.has) refl)) refl
 computed_at n structs Not s at Bad x g h k = cc
 computed_at n structs Not s at Void x g h k = cc
 computed_at n structs Not s at (Struct m) x g h k = cc
@@ -119,16 +120,17 @@ address_fits : (n : Names) (structs : ℕ) (s : Span) (e : Elem) (fixed designat
 unfolding address_tree var_type root_of steps_of
 address_fits n structs s e fixed designates (value x) h d = true≢false designates d h.none
 address_fits n structs s e fixed designates (object root steps) h d = record {
-  typed = both (place_fits n (place root (step_trees steps))) _ h.object.fits
-      (both (is_addressed (place root (step_trees steps))) _ (both (is_object (place root (step_trees steps))) _ (h.written d) h.ends)
-      (ap (λ z. test.both_elem (test.element_of z) (Some e)) h.object.has ∙ element_self e));
+  typed = and_both (place_fits n (place root (step_trees steps))) _ h.object.fits
+      (and_both (is_addressed (place root (step_trees steps))) _ (and_both (is_object (place root (step_trees steps))) _ (h.written d) h.ends)
+      (and_both (test.both_elem (test.element_of (place_type n (place root (step_trees steps)))) (Some e)) _ (ap (λ z. test.both_elem (test.element_of z) (Some e)) h.object.has ∙ element_self e)
+      (only_where (place_const n (place root (step_trees steps))) fixed h.object.kept)));
   has = refl;
 }
 address_fits n structs s e fixed designates (pointed x span) h d =
     let same = same_of h.of e h.is in
     record {
-      typed = both (is_typed n x) _ h.pointer.typed
-          (ap (λ z. converts z (Some (v.Pointer e fixed))) h.pointer.has ∙ both (test.same_elem h.of e) _ (ap (λ z. test.same_elem z e) same ∙ same_elem-self e) (or_not fixed));
+      typed = and_both (is_typed n x) _ h.pointer.typed
+          (ap (λ z. converts z (Some (v.Pointer e fixed))) h.pointer.has ∙ and_both (test.same_elem h.of e) _ (ap (λ z. test.same_elem z e) same ∙ same_elem-self e) (or_not fixed));
       has = refl;
     }
 address_fits n structs s e fixed designates (moved (typed span t f)) h d = record { typed = h.pointer.typed; has = h.pointer.has ∙ ap (λ z. Some (v.Pointer z fixed)) (same_of h.of e h.is) }
@@ -136,8 +138,9 @@ address_fits n structs s e fixed designates (element root steps at i span) h d =
     let same = same_of h.of e h.is in
     move_fits n s span e fixed false h.index (typed at (Some (v.Pointer e fixed)) _) i
     (record {
-      typed = both (place_fits n (place root (step_trees steps))) _ h.array.fits
-          (ap (λ z. test.both_elem (test.item_of z) (Some e)) h.array.has ∙ ap (λ z. test.same_elem z e) same ∙ same_elem-self e);
+      typed = and_both (place_fits n (place root (step_trees steps))) _ h.array.fits
+          (and_both (test.both_elem (test.item_of (place_type n (place root (step_trees steps)))) (Some e)) _ (ap (λ z. test.both_elem (test.item_of z) (Some e)) h.array.has ∙ ap (λ z. test.same_elem z e) same ∙ same_elem-self e)
+          (only_where (place_const n (place root (step_trees steps))) fixed h.array.kept));
       has = refl;
     })
     h.at
@@ -180,8 +183,8 @@ step_sound : (n : Names) (structs : ℕ) (s at : Span) (back postfix : Bool) (k 
 step_sound n structs s at back postfix k t p e c g w ns =
     plain_sound n structs t (step_tree s t back postfix at k.tree)
     (record {
-      typed = both (place_fits n (place_of k.tree) && is_object (place_of k.tree)) _ (both (place_fits n (place_of k.tree)) _ p.fits p.written)
-          (both (test.same_types (place_type n (place_of k.tree)) (var_type t)) _ (same_types-equal _ _ (p.has ∙ ap var_type e)) c);
+      typed = and_both (place_fits n (place_of k.tree) && is_written n (place_of k.tree)) _ (and_both (place_fits n (place_of k.tree)) _ p.fits p.written)
+          (and_both (test.same_types (place_type n (place_of k.tree)) (var_type t)) _ (same_types-equal _ _ (p.has ∙ ap var_type e)) c);
       has = refl;
     })
     g w (λ q. absurd (ns q))
@@ -225,9 +228,9 @@ prefixed_sound n structs count op.Decrement s at k h z = stepped_sound n structs
 
 cast_known : (n : Names) (structs : ℕ) (s at : Span) (t u : «Type») (x : ExprTree) → IsTrue (is_good structs u) → Fitted n u x → (cast_by (conversion.converted t u) s at x).faults ≡ [] → SoundKnown n structs (cast_by (conversion.converted t u) s at x).operand
 unfolding cast_by var_type
-cast_known n structs s at Void u x g h z = plain_sound n structs Void _ (record { typed = both (is_typed n x) true h.typed refl; has = refl }) refl refl (λ q. cc)
+cast_known n structs s at Void u x g h z = plain_sound n structs Void _ (record { typed = and_both (is_typed n x) true h.typed refl; has = refl }) refl refl (λ q. cc)
 cast_known n structs s at (Pointer e f) u x g h z = cc
-cast_known n structs s at (Int t) (Int a) x g h z = int_sound n structs t _ (both (is_typed n x) _ h.typed (ap (λ y. converts y (Some (v.Int t))) h.has)) refl
+cast_known n structs s at (Int t) (Int a) x g h z = int_sound n structs t _ (and_both (is_typed n x) _ h.typed (ap (λ y. converts y (Some (v.Int t))) h.has)) refl
 cast_known n structs s at (Int t) Bad x g h z = cc
 cast_known n structs s at (Int t) Void x g h z = cc
 cast_known n structs s at (Int t) (Struct m) x g h z = cc

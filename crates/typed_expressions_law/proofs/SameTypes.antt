@@ -12,7 +12,7 @@ use Rattle.typed_tree.specs.declared.types.VarTy.TheVariants as v
 use Rattle.typed_tree.specs.TypeTests.{same_int, same_elem, same_bool, same_types}
 use Rattle.typed_tree.specs.TypeRules.{is_promoted}
 use Rattle.typed_tree.specs.WellFormedExpression.{is_elem}
-use Rattle.typed_expressions_law.proofs.Lists.{both}
+use Rattle.typed_tree.proofs.WellFormedLemmas.{and_both}
 
 pub number-self : (a : ℕ) → nat_eq a a ≡ true
 number-self a = grind (arith, nat_tests)
@@ -43,8 +43,8 @@ pub same_types-self : (a : Option VarTy) → same_types a a ≡ true
 same_types-self None = refl
 same_types-self (Some (v.Int t)) = same_int-self t
 same_types-self (Some (v.Struct n)) = number-self n
-same_types-self (Some (v.Array e count)) = both (same_elem e e) (nat_eq count count) (same_elem-self e) (number-self count)
-same_types-self (Some (v.Pointer e fixed)) = both (same_elem e e) (same_bool fixed fixed) (same_elem-self e) (same_bool-self fixed)
+same_types-self (Some (v.Array e count)) = and_both (same_elem e e) (nat_eq count count) (same_elem-self e) (number-self count)
+same_types-self (Some (v.Pointer e fixed)) = and_both (same_elem e e) (same_bool fixed fixed) (same_elem-self e) (same_bool-self fixed)
 
 pub same_types-equal : (a b : Option VarTy) → a ≡ b → same_types a b ≡ true
 same_types-equal a b h = ap (λ x. same_types a x) (sym h) ∙ same_types-self a

@@ -47,13 +47,15 @@ abbrev pub AreEntries : Env → Scope → Type 0
 AreEntries env scope = All (λ entry. IsTrue (is_entry env entry.1)) scope
 
 -- The names of a function in the typed tree have the structs, globals, functions and variables that are
--- known where an expression stands, in their order; more may follow, as later declarations add them.
+-- known where an expression stands, in their order, and a global is const where it is known as const; more
+-- may follow, as later declarations add them.
 pub record Agrees (env : Env) (structs : Structs) (n : Names) : Type 0 where
   pub more : Structs
   pub sound : SoundStructs (structs ++ more)
   pub structs_are : n.structs ≡ infos_of (structs ++ more)
   pub functions : (k : ℕ) (c : Callable) → slice_get env.functions k ≡ Some c → HasCallable (length structs) c (slice_get n.signatures k)
   pub globals : (k : ℕ) (o : Object) → slice_get env.globals k ≡ Some o → HasType (length structs) o.ty (option_map (λ g. g.var.ty) (slice_get n.globals k))
+  pub fixed : (k : ℕ) (o : Object) → slice_get env.globals k ≡ Some o → option_map (λ g. g.fixed) (slice_get n.globals k) ≡ Some o.fixed
   pub variables : (k : ℕ) (x : Variable) → slice_get env.variables k ≡ Some x → HasType (length structs) x.ty (option_map (λ y. y.ty) (slice_get n.vars k))
   pub file : AreEntries env env.file
   pub scopes : All (AreEntries env) env.scopes

@@ -8,6 +8,7 @@ use Rattle.std.proofs.lemmas.List.Elements.{All-nil, All-cons}
 use Rattle.pt_base.specs.declared.ids.FnId.{FnId}
 use Rattle.pt_base.specs.declared.int_type.IntType.{IntType}
 use Rattle.pt_base.specs.declared.int_type.IntType.TheVariants as int
+use Rattle.pt_tree.specs.declared.signature.Param.{Param}
 use Rattle.pt_tree.specs.Facts.{stmt_list_sound, stmt_sound, stmts_sound}
 use Rattle.pt_tree.specs.ProgramTree.{ItemTree, function}
 use Rattle.pt_tree.specs.ProgramTree as parsed
@@ -19,9 +20,10 @@ use Rattle.typed_tree.specs.declared.variable.TypedGlobal.{TypedGlobal}
 use Rattle.typed_tree.specs.declared.types.StructInfo.{StructInfo}
 use Rattle.typed_tree.specs.declared.types.VarTy.TheVariants as v
 use Rattle.typed_tree.specs.ExpressionTree.{ExprTree}
+use Rattle.typed_tree.specs.Parts.{all_variables}
 use Rattle.typed_tree.specs.StatementTree.{block, body_trees}
 use Rattle.typed_tree.specs.TypedTree.{FunctionTree, TypedTree, signatures_of}
-use Rattle.typed_tree.specs.WellFormed.{names_in, variable_sound, params_lead, is_int_result}
+use Rattle.typed_tree.specs.WellFormed.{names_in, variable_sound, params_lead, are_rising, is_int_result}
 use Rattle.typed_tree.specs.WellFormed.{is_start as typed_start}
 use Rattle.typed_tree.specs.WellFormedExpression.{is_main}
 use Rattle.typed_expressions.specs.declared.meaning.Callable.{Callable}
@@ -41,9 +43,10 @@ use Rattle.typed_expressions_law.specs.Agreement.{taken, HasType, HasCallable, i
 use Rattle.typed_statements_law.specs.Laws.{is_sound_variable, SoundBody, Kept, BlocksAreKept, BodiesAreSound}
 use Rattle.typed_programs.specs.declared.function_marks.FunctionMarks.{FunctionMarks}
 use Rattle.typed_programs.specs.Functions.{var_of, with_parts, with_body, behind_body, is_int, is_start}
+use Rattle.typed_programs.specs.Unions.{marks_at}
 use Rattle.typed_programs.specs.Progress.{Progress}
-use Rattle.typed_tree.proofs.WellFormedLemmas.{and_left, and_right}
-use Rattle.typed_programs_law.proofs.ListLemmas.{and_both, all_joined, all_weaker, all_get, all_pass, joined_none, get_kept, get_mapped, get_set, get_set_same, get_after_set, length_set, length_mapped, map_joined}
+use Rattle.typed_tree.proofs.WellFormedLemmas.{and_left, and_right, and_both}
+use Rattle.typed_programs_law.proofs.ListLemmas.{all_joined, all_weaker, all_get, all_pass, joined_none, get_kept, get_mapped, get_set, get_set_same, get_after_set, length_set, length_mapped, map_joined}
 use Rattle.typed_programs_law.proofs.TableLemmas.{sought, name_self, name_same}
 use Rattle.typed_programs_law.proofs.TypeLemmas.{object_there, parameter_variable, params_lead_vars}
 use Rattle.typed_programs_law.proofs.Sound.{signatures, Extends, Grows, defines, SoundEntry, entry_kept, is_file_entry, is_local_entry, HasObject, Known, SoundTables, HasStart, callable_kept, extends_back}
@@ -78,6 +81,7 @@ agrees marks rest own defining st c k o t x f new vars =
       structs_are = x.structs;
       functions = λ j d h. callable_kept (length st.structs) (length st.structs) d (slice_get (signatures st.functions) j) (slice_get (signatures_of t) j) (omega arith) (λ g i. x.functions j g i) (s.callables j d h);
       globals = λ j z h. global_type (length st.structs) z st.globals t.globals j (λ g i. x.globals j g i) (s.objects j z h);
+      fixed = λ j z h. let g = s.objects j z h in ap (option_map (λ y. y.fixed)) (x.globals j g.global g.is) ∙ ap Some g.fixed;
       variables = variables;
       file = all_pass (λ (e : List ℕ × Meaning). is_entry st.env e.1) st.env.file (all_weaker (is_file_entry (length st.functions) (length st.globals)) (λ (e : List ℕ × Meaning). is_entry st.env e.1) (file_entry (length st.functions) (length st.globals) st.env s.numbers s.global_numbers) st.env.file s.file);
       scopes = subst (λ ss. All (AreEntries st.env) ss) (sym o.params.scopes) (All-cons (AreEntries st.env) o.params.scope [] locals (All-nil (AreEntries st.env)));
@@ -139,7 +143,7 @@ other_defines : (f : parsed.FunctionTree) (rest : List ItemTree) (n : List ℕ) 
 other_defines f rest n h = ap (λ b. (b && is_some f.body) || defines rest n) h
 
 module _ (bodies : BodiesAreSound) (keep : BlocksAreKept) (marks : List ℕ → FunctionMarks) (f : parsed.FunctionTree) (rest : List ItemTree) (own : FunctionMarks) (st : Progress) (c : Callable) (k : ℕ) (b : BlockTree)
-    (o : Opened marks (function f ∷ rest) own (is_some f.body) st c k) (name : c.name ≡ f.declarator.name.bytes) (body_is : f.body ≡ Some b) (constants : IsTrue (stmt_list_sound b.items))
+    (o : Opened marks (function f ∷ rest) own (is_some f.body) st c k) (name : c.name ≡ f.declarator.name.bytes) (own_is : marks c.name ≡ own) (body_is : f.body ≡ Some b) (constants : IsTrue (stmt_list_sound b.items))
     (none : (checked_block c.result (record { env = st.env; structs = st.structs; next = length st.exprs }) b.items).faults ≡ []) where
   abbrev start : State
   start = record { env = st.env; structs = st.structs; next = length st.exprs }
@@ -231,15 +235,26 @@ module _ (bodies : BodiesAreSound) (keep : BlocksAreKept) (marks : List ℕ → 
     few = entry_sound.few;
     lead =
         subst (λ xs. IsTrue (params_lead o.entry.signature.params (map var_of xs))) (sym kept.variables)
-        (params_lead_vars (length st.structs) o.entry.signature.params st.env.variables kept.new o.params.types takes);
+        (params_lead_vars (length st.structs) o.entry.signature.params st.env.variables kept.new o.params.types takes (λ j p x h i. entry_marked j p h ∙ sym (o.params.marked j x i)));
+    short = entry_sound.short;
+    marked = entry_sound.marked;
     host = entry_sound.host;
     defined = is_defined;
     vars = vars_at;
-    body = λ t x. let sound = body_at t x in (sound.sound, sound.numbered);
+    body = λ t x. let sound = body_at t x in (sound.sound, sound.numbered, subst (λ n. IsTrue (are_rising n (all_variables (body_trees all.bodies)))) (sym count) sound.rising);
   }
     where
       takes : map taken o.entry.signature.params ≡ map var_type (map (λ x. x.ty) st.env.variables)
       takes = ap (λ s. map taken s.params) entry_signature ∙ o.called.takes ∙ ap (map var_type) o.types
+
+      -- as many parameters as variables
+      count : length o.entry.signature.params ≡ length st.env.variables
+      count = sym (length_mapped taken o.entry.signature.params) ∙ ap length takes ∙ length_mapped var_type (map (λ x. x.ty) st.env.variables) ∙ length_mapped (λ (x : Variable). x.ty) st.env.variables
+
+      entry_marked : (j : ℕ) (p : Param) → slice_get o.entry.signature.params j ≡ Some p → p.marked ≡ (marks_at own.params j).marked
+      entry_marked j p h =
+          let own_marks : marks o.entry.signature.name ≡ own = ap (λ s. marks s.name) entry_signature ∙ ap marks o.called.name ∙ own_is in
+          entry_sound.marked j p h ∙ ap (λ m. (marks_at m.params j).marked) own_marks
 
   -- a function of another number has another name
   other_name : (j : ℕ) (g : FunctionTree) → (j ≡ k → ⊥) → slice_get st.functions j ≡ Some g → bytes_eq f.declarator.name.bytes g.signature.name ≡ false

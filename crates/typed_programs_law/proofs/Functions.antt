@@ -3,6 +3,7 @@ use Rattle.std.proofs.Common.{◌≡◌, ◌++◌, ◌∙◌, sym, ap, subst, re
 use Rattle.std.specs.Prelude.{IsTrue, ◌&&◌, ◌||◌, ◌⊎◌, is_some, codes, nat_eq}
 use Rattle.std.specs.Str.{bytes_eq}
 use Rattle.pt_base.specs.declared.span.Span.{Span}
+use Rattle.pt_base.specs.Names.{is_short}
 use Rattle.pt_tree.specs.Facts.{body_sound}
 use Rattle.pt_tree.specs.ProgramTree.{ItemTree, function}
 use Rattle.pt_tree.specs.ProgramTree as parsed
@@ -23,13 +24,14 @@ use Rattle.typed_programs.specs.declared.function_marks.FunctionMarks.{FunctionM
 use Rattle.typed_programs.specs.Blocks.{block_in}
 use Rattle.typed_programs.specs.Functions.{Head, head_of, clashes, function_in, number_in, declared_as, is_int, is_start, are_too_large, with_definition, completed, checked_function}
 use Rattle.typed_programs.specs.Progress.{Progress}
-use Rattle.typed_programs_law.proofs.ListLemmas.{none_left, none_right, no_fault, joined_none, get_kept}
+use Rattle.typed_programs_law.proofs.ListLemmas.{joined_none, get_kept}
 use Rattle.typed_programs_law.proofs.TableLemmas.{sought}
 use Rattle.typed_programs_law.proofs.Sound.{defines, SoundTables, SoundProgress, HasStart, tables_moved}
 use Rattle.typed_programs_law.proofs.Parameters.{SoundParams}
 use Rattle.typed_programs_law.proofs.Heads.{sound_head}
 use Rattle.typed_programs_law.proofs.Opened.{Opened, old_opened, new_opened, find_is}
 use Rattle.typed_programs_law.proofs.Bodies.{behind, behind_start}
+use Rattle.declared_types_law.proofs.FaultLemmas.{none_left, none_right, no_fault}
 
 -- a function that is declared, and with which the program begins if it did before
 record Stage (marks : List ℕ → FunctionMarks) (rest : List ItemTree) (own : FunctionMarks) (defining : Bool) (before st : Progress) (c : Callable) (k : ℕ) : Type 0 where
@@ -39,7 +41,7 @@ record Stage (marks : List ℕ → FunctionMarks) (rest : List ItemTree) (own : 
 
 module _ (bodies : BodiesAreSound) (keep : BlocksAreKept) (marks : List ℕ → FunctionMarks) (f : parsed.FunctionTree) (rest : List ItemTree) (own : FunctionMarks) (st : Progress) (c : Callable)
     (t : SoundTables marks (function f ∷ rest) st) (params : SoundParams own st.env (length st.structs) st.env) (result : IsTrue (is_result c.result)) (types : c.params ≡ map (λ x. x.ty) st.env.variables)
-    (name : c.name ≡ f.declarator.name.bytes) (own_is : marks c.name ≡ own) (constants : IsTrue (body_sound f.body))
+    (name : c.name ≡ f.declarator.name.bytes) (own_is : marks c.name ≡ own) (short : IsTrue (is_short c.name)) (constants : IsTrue (body_sound f.body))
     (starts : st.has_main ≡ true → (is_start c (is_some f.body) ≡ true) ⊎ HasStart st.functions) where
   abbrev at : Span
   at = f.declarator.name.span
@@ -50,7 +52,7 @@ module _ (bodies : BodiesAreSound) (keep : BlocksAreKept) (marks : List ℕ → 
   stage : (o : Option Meaning) → sought st.env.file c.name ≡ o → clashes st c (is_some f.body) o ≡ false
       → Stage marks (function f ∷ rest) own (is_some f.body) st (declared_as own st c at (function_in o)) c (number_in st (function_in o))
   stage None is fine = record {
-    opened = new_opened marks (function f ∷ rest) own (is_some f.body) st c at t params result types own_is is;
+    opened = new_opened marks (function f ∷ rest) own (is_some f.body) st c at t params result types own_is short is;
     start = kept_start _;
     same = refl;
   }
@@ -96,10 +98,10 @@ module _ (bodies : BodiesAreSound) (keep : BlocksAreKept) (marks : List ℕ → 
       let fine = none_left all.faults (fault_if (are_too_large all.state.structs all.state.env.variables) TooLarge at) none in
       let sound : IsTrue (body_sound (Some b)) = subst (λ x. IsTrue (body_sound x)) is constants in
       record {
-        tables = behind bodies keep marks f rest own st' c k b s.opened name is sound fine;
+        tables = behind bodies keep marks f rest own st' c k b s.opened name own_is is sound fine;
         scopes = refl;
         variables = refl;
-        start = λ h. behind_start bodies keep marks f rest own st' c k b s.opened name is sound fine (go (starts (sym s.same ∙ h)));
+        start = λ h. behind_start bodies keep marks f rest own st' c k b s.opened name own_is is sound fine (go (starts (sym s.same ∙ h)));
       }
     where
       go : (is_start c (is_some f.body) ≡ true) ⊎ HasStart st.functions → (is_start c true ≡ true) ⊎ HasStart st'.functions
@@ -133,16 +135,16 @@ abbrev behind_head : Progress → Head → Bool → Env → Progress
 behind_head st h begins env = record { env = env; structs = h.structs; functions = st.functions; globals = st.globals; cells = st.cells; exprs = st.exprs; has_main = begins }
 
 rebased : (own : FunctionMarks) (base : Env) (n : ℕ) (env : Env) → SoundParams own base n env → SoundParams own env n env
-rebased own base n env p = record { file = refl; functions = refl; globals = refl; scope = p.scope; scopes = p.scopes; locals = p.locals; types = p.types; few = p.few; integers = p.integers }
+rebased own base n env p = record { file = refl; functions = refl; globals = refl; scope = p.scope; scopes = p.scopes; locals = p.locals; types = p.types; marked = p.marked; few = p.few; integers = p.integers }
 
 one_of : (a b : Bool) → (a || b) ≡ true → (a ≡ true) ⊎ (b ≡ true)
 one_of true b h = inl refl
 one_of false b h = inr h
 
 pub function_step : SpecifiersAreSound → ObjectsAreSound → ResultsAreSound → BodiesAreSound → BlocksAreKept → (marks : List ℕ → FunctionMarks) (f : parsed.FunctionTree) (rest : List ItemTree) (st : Progress)
-    → SoundProgress marks (function f ∷ rest) st → IsTrue (body_sound f.body) → (checked_function (marks f.declarator.name.bytes) st f).faults ≡ []
+    → SoundProgress marks (function f ∷ rest) st → IsTrue (is_short f.declarator.name.bytes) → IsTrue (body_sound f.body) → (checked_function (marks f.declarator.name.bytes) st f).faults ≡ []
     → SoundProgress marks rest (checked_function (marks f.declarator.name.bytes) st f).progress
-function_step specifiers objects results bodies keep marks f rest st s constants none =
+function_step specifiers objects results bodies keep marks f rest st s short constants none =
     let own = marks f.declarator.name.bytes in
     let h : Head = head_of own st.env st.structs f in
     let begins : Bool = is_start h.callable (is_some f.body) || st.has_main in
@@ -152,5 +154,5 @@ function_step specifiers objects results bodies keep marks f rest st s constants
     let tables : SoundTables marks (function f ∷ rest) after =
     subst (λ env. SoundTables marks (function f ∷ rest) (behind_head st h begins env)) (env_is h.env st.env.file st.env.functions st.env.globals head.params.file head.params.functions head.params.globals)
     (tables_moved marks (function f ∷ rest) (function f ∷ rest) st h.env.scopes h.env.variables h.structs head.more begins head.grown head.sound (λ n. refl) s.tables) in
-    completed_sound bodies keep marks f rest own after h.callable tables (rebased own st.env (length h.structs) h.env head.params) head.result head.types head.name (ap marks head.name) constants
+    completed_sound bodies keep marks f rest own after h.callable tables (rebased own st.env (length h.structs) h.env head.params) head.result head.types head.name (ap marks head.name) (subst (λ n. IsTrue (is_short n)) (sym head.name) short) constants
     (λ i. elim (one_of (is_start h.callable (is_some f.body)) st.has_main i) [ inl e ↦ inl e | inr e ↦ inr (s.start e) ]) (none_right h.faults last none)

@@ -31,19 +31,20 @@ use Rattle.typed_expressions.specs.Environment.{Env, with_global}
 use Rattle.typed_expressions.specs.StructInfos.{object_type_of, infos_of, struct_info}
 use Rattle.typed_statements.specs.Declarations.{carrier_of}
 use Rattle.typed_statements.specs.GlobalInitialisers.{GlobalInit, global_initialised}
-use Rattle.typed_statements.specs.Leaves.{leaves_of}
 use Rattle.declared_types_law.specs.Types.{is_base, is_plain}
 use Rattle.declared_types_law.specs.Sound.{SoundStructs}
 use Rattle.declared_types_law.specs.Laws.{SpecifiersAreSound, ObjectsAreSound, SizesAreSound, LeavesAreSound}
 use Rattle.typed_programs.specs.declared.function_marks.FunctionMarks.{FunctionMarks}
 use Rattle.typed_programs.specs.Globals.{globals_limit, global_type, object_of, cells_with, brings_over, padded, start_cells, typed_global, declared_one, declared_all, checked_declaration}
 use Rattle.typed_programs.specs.Progress.{Progress}
-use Rattle.typed_programs_law.proofs.ListLemmas.{none_left, none_right, no_fault, and_both, all_joined, joined_none, length_joined, length_mapped, length_pushed, get_kept, get_last, get_pushed, IsLast}
+use Rattle.typed_programs_law.proofs.ListLemmas.{all_joined, joined_none, length_joined, length_mapped, length_pushed, get_kept, get_last, get_pushed, IsLast}
 use Rattle.typed_programs_law.proofs.TableLemmas.{sought, none_where_new, sought_pushed, sought_kept, pushed}
 use Rattle.typed_programs_law.proofs.TypeLemmas.{plain_fine, plain_more, plain_type, plain_variable, object_there}
 use Rattle.typed_programs_law.proofs.Sound.{Extends, Grows, defines, entry_kept, is_file_meaning, is_file_entry, HasObject, Known, SoundTables, SoundProgress, HasStart, object_kept, extends_back, tables_moved}
 use Rattle.typed_programs_law.proofs.Opened.{some_same, files_more}
 use Rattle.typed_programs_law.proofs.Values.{init_sound, padded_fits}
+use Rattle.declared_types_law.proofs.FaultLemmas.{none_left, none_right, no_fault}
+use Rattle.typed_tree.proofs.WellFormedLemmas.{and_both}
 
 -- ---- cells
 
@@ -210,7 +211,7 @@ one_global objects sizes leaves marks rest given st i t base none =
     let many : length g.cells ≡ count = ap length counted.start ∙ padded_many count init.values in
     let limit : cells_with st.cells count ≤ globals_limit = let a = counted.cells in let b = counted.limit in omega (arith, a, b) in
     let cells : cells_with st.cells count ≡ st.cells + length g.cells = let a = counted.cells in omega (arith, a, many) in
-    let has : HasObject (length st.structs) (object_of given d) (Some g) = record { global = g; is = refl; good = plain_variable (length st.structs) ty plain; has = object_there (length st.structs) ty (plain_variable (length st.structs) ty plain) } in
+    let has : HasObject (length st.structs) (object_of given d) (Some g) = record { global = g; is = refl; good = plain_variable (length st.structs) ty plain; has = object_there (length st.structs) ty (plain_variable (length st.structs) ty plain); fixed = refl } in
     let first = leaves st.structs [] ty d.name.span (subst (λ s. SoundStructs s) (sym (joined_none st.structs)) t.structs) plain small in
     let same = (init_sound known st.structs ty i.init (typed.leaves_of (infos_of (st.structs ++ [])) (object_type_of ty)) first (plain_fine (length st.structs) ty plain) none_init).same in
     let tables = one_tables marks rest st d.name.bytes (object_of given d) g (cells_with st.cells count) t (none_where_new st.env.file d.name.bytes new) has cells limit

@@ -1,6 +1,6 @@
 -- A function's declarator without a fault.
 use Rattle.std.proofs.Common.{◌≡◌, ◌++◌, ◌∙◌, sym, ap, subst, refl, ℕ, true, [], ◌∷◌, length, arith, map}
-use Rattle.std.specs.Prelude.{IsTrue, is_some}
+use Rattle.std.specs.Prelude.{IsTrue, slice_get, is_some}
 use Rattle.std.specs.List.{list_all}
 use Rattle.pt_tree.specs.ProgramTree as parsed
 use Rattle.type_rules.specs.Types.{is_integer}
@@ -17,8 +17,8 @@ use Rattle.typed_programs.specs.declared.function_marks.FunctionMarks.{FunctionM
 use Rattle.typed_programs.specs.Parameters.{parameters_of}
 use Rattle.typed_programs.specs.Functions.{Head, head_of, result_of, params_of_function}
 use Rattle.typed_programs.specs.Progress.{Progress}
-use Rattle.typed_programs_law.proofs.ListLemmas.{none_left, none_right}
 use Rattle.typed_programs_law.proofs.Parameters.{SoundParams, all_params}
+use Rattle.declared_types_law.proofs.FaultLemmas.{none_left, none_right}
 
 pub record SoundHead (marks : FunctionMarks) (st : Progress) (f : parsed.FunctionTree) (h : Head) : Type 0 where
   pub more : Structs
@@ -39,6 +39,7 @@ no_params marks st structs scopes variables = record {
   scopes = ap (λ ss. [] ∷ ss) scopes;
   locals = refl;
   types = ap (λ xs. list_all (is_parameter structs) (map (λ x. x.ty) xs)) variables;
+  marked = λ j x h. let none = ap (λ xs. slice_get xs j) variables in cc;
   few = let none = ap length variables in omega (arith, none);
   integers = λ h. ap (λ xs. list_all is_integer (map (λ x. x.ty) xs)) variables;
 }

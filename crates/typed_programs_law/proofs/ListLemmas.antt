@@ -1,32 +1,11 @@
--- Lists by number, tests of all their elements, and lists of faults that are empty.
+-- Lists by number, and tests of all their elements.
 use Rattle.std.proofs.Common.{◌≡◌, ◌<◌, ◌+◌, ◌++◌, ◌∙◌, sym, ap, refl, ℕ, zero, suc, Bool, true, false, List, [], ◌∷◌, length, arith, map, Some, inl, inr, slice_set}
 use Rattle.std.specs.Prelude.{IsTrue, ◌&&◌, ◌||◌, ◌⊎◌, slice_get}
 use Rattle.std.specs.List.{All, list_all, list_any}
 use Rattle.std.proofs.lemmas.List.Elements.{All-nil, All-cons}
-use Rattle.pt_base.specs.declared.span.Span.{Span}
-use Rattle.declared_types.specs.declared.fault.FaultKind.{FaultKind}
-use Rattle.declared_types.specs.Faults.{fault_if}
-use Rattle.typed_tree.proofs.WellFormedLemmas.{and_left, and_right}
-
--- ---- nothing is there
-
-pub none_left : {X : Type 0} (xs ys : List X) → xs ++ ys ≡ [] → xs ≡ []
-none_left [] ys h = refl
-none_left (x ∷ xs) ys h = cc
-
-pub none_right : {X : Type 0} (xs ys : List X) → xs ++ ys ≡ [] → ys ≡ []
-none_right [] ys h = h
-none_right (x ∷ xs) ys h = cc
-
-pub no_fault : (b : Bool) (kind : FaultKind) (at : Span) → fault_if b kind at ≡ [] → b ≡ false
-no_fault true kind at h = cc
-no_fault false kind at h = refl
+use Rattle.typed_tree.proofs.WellFormedLemmas.{and_left, and_right, and_both}
 
 -- ---- tests
-
-pub and_both : (a b : Bool) → IsTrue a → IsTrue b → IsTrue (a && b)
-and_both true b h i = i
-and_both false b h i = h
 
 pub or_left : (a b : Bool) → IsTrue a → IsTrue (a || b)
 or_left true b h = refl

@@ -7,8 +7,9 @@ use Rattle.std.specs.Str.{bytes_eq}
 use Rattle.std.proofs.lemmas.Bool.Decides.{nat_tests}
 use Rattle.pt_base.specs.declared.ids.FnId.{FnId}
 use Rattle.pt_base.specs.declared.span.Span.{Span}
+use Rattle.pt_base.specs.Names.{is_short}
+use Rattle.pt_tree.specs.declared.signature.Param.{Param}
 use Rattle.pt_tree.specs.ProgramTree.{ItemTree}
-use Rattle.type_rules.specs.declared.types.Type.{«Type»}
 use Rattle.type_rules.specs.Types.{is_integer}
 use Rattle.typed_tree.specs.declared.types.StructInfo.{StructInfo}
 use Rattle.typed_tree.specs.TypedTree.{FunctionTree, TypedTree}
@@ -25,13 +26,14 @@ use Rattle.declared_types_law.specs.Types.{is_parameter, is_result}
 use Rattle.typed_expressions_law.specs.Agreement.{HasCallable}
 use Rattle.typed_programs.specs.declared.function_marks.FunctionMarks.{FunctionMarks}
 use Rattle.typed_programs.specs.Functions.{agree, all_agree, differ, has_body, has_other_types, clashes, var_of, entry_of, declared_as}
+use Rattle.typed_programs.specs.Unions.{marks_at}
 use Rattle.typed_programs.specs.Progress.{Progress}
-use Rattle.typed_programs_law.proofs.ListLemmas.{and_both, all_joined, all_weaker, length_pushed, length_joined, length_mapped, map_joined, joined_none, get_kept, get_last, get_pushed, get_below, get_within, get_mapped, IsLast}
+use Rattle.typed_programs_law.proofs.ListLemmas.{all_joined, all_weaker, length_pushed, length_joined, length_mapped, map_joined, joined_none, get_kept, get_last, get_pushed, get_below, get_within, get_mapped, IsLast}
 use Rattle.typed_programs_law.proofs.TableLemmas.{sought, value_of, found, name_self, name_same, new_where_none, sought_pushed, sought_kept, pushed}
-use Rattle.typed_programs_law.proofs.TypeLemmas.{result_fine, agree_same, all_agree_same, result_given, params_taken, params_many, params_lead_vars, integers_taken, parameter_variable, variable_more, variable_type, parameter_small}
+use Rattle.typed_programs_law.proofs.TypeLemmas.{result_fine, agree_same, all_agree_same, result_given, params_taken, params_many, params_marked, params_lead_vars, integers_taken, parameter_variable, variable_more, variable_type, parameter_small}
 use Rattle.typed_programs_law.proofs.Sound.{signatures, Extends, Grows, defines, SoundEntry, entry_kept, is_file_meaning, is_file_entry, Known, SoundTables, callable_kept, extends_back}
 use Rattle.typed_programs_law.proofs.Parameters.{SoundParams}
-use Rattle.typed_tree.proofs.WellFormedLemmas.{and_left, and_right}
+use Rattle.typed_tree.proofs.WellFormedLemmas.{and_left, and_right, and_both}
 
 meaning_same : (file : Scope) (o : Option ℕ) → meaning_at file o ≡ value_of file o
 meaning_same file None = refl
@@ -254,7 +256,7 @@ module _ (marks : List ℕ → FunctionMarks) (rest : List ItemTree) (st : Progr
 -- ---- a new function's own entry
 
 module _ (marks : List ℕ → FunctionMarks) (rest : List ItemTree) (own : FunctionMarks) (defining : Bool) (st : Progress) (c : Callable) (at : Span) (t : SoundTables marks rest st) (params : SoundParams own st.env (length st.structs) st.env)
-    (result : IsTrue (is_result c.result)) (types : c.params ≡ map (λ x. x.ty) st.env.variables) (own_is : marks c.name ≡ own) (new : sought st.env.file c.name ≡ None) where
+    (result : IsTrue (is_result c.result)) (types : c.params ≡ map (λ x. x.ty) st.env.variables) (own_is : marks c.name ≡ own) (short : IsTrue (is_short c.name)) (new : sought st.env.file c.name ≡ None) where
   abbrev first : FunctionTree
   first = entry_of own c st.env.variables at
 
@@ -289,15 +291,21 @@ module _ (marks : List ℕ → FunctionMarks) (rest : List ItemTree) (own : Func
       equal : (m n : ℕ) → m ≡ n → IsTrue (nat_eq m n)
       equal m n h = grind (arith, nat_tests)
 
+  first_marked : (j : ℕ) (p : Param) → slice_get first.signature.params j ≡ Some p → p.marked ≡ (marks_at own.params j).marked
+  first_marked j p h = params_marked own.params 0 c.params j p h ∙ ap (λ i. (marks_at own.params i).marked) (let e : 0 + j ≡ j = omega arith in e)
+
   first_lead : IsTrue (params_lead first.signature.params first.vars)
   first_lead =
       subst (λ xs. IsTrue (params_lead first.signature.params (map var_of xs))) (joined_none st.env.variables)
-      (params_lead_vars (length st.structs) first.signature.params st.env.variables [] params.types (params_taken own.params 0 (length st.structs) c.params good ∙ ap (map var_type) types))
+      (params_lead_vars (length st.structs) first.signature.params st.env.variables [] params.types (params_taken own.params 0 (length st.structs) c.params good ∙ ap (map var_type) types)
+      (λ j p x h i. first_marked j p h ∙ sym (params.marked j x i)))
 
   first_sound : SoundEntry marks rest (with_entry st c first) first
   first_sound = record {
     few = at_most (length first.signature.params) (length st.env.variables) count params.few;
     lead = first_lead;
+    short = short;
+    marked = λ j p h. first_marked j p h ∙ ap (λ m. (marks_at m.params j).marked) (sym own_is);
     host = ap (λ m. not m.defined) (sym own_is);
     defined = t.unknown c.name new;
     vars = λ x z. params_sound x.structs (length st.structs) st.env.variables (structs_many (with_entry st c first) x z) params.types;
@@ -324,6 +332,7 @@ module _ (marks : List ℕ → FunctionMarks) (rest : List ItemTree) (own : Func
           scopes = params.scopes;
           locals = params.locals;
           types = params.types;
+          marked = params.marked;
           few = params.few;
           integers = params.integers;
         };

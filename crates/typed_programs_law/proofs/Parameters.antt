@@ -1,6 +1,6 @@
 -- The parameters of a function whose declarator has no fault.
-use Rattle.std.proofs.Common.{◌≡◌, ◌≤◌, ◌+◌, ◌++◌, ◌∙◌, sym, ap, subst, refl, ℕ, suc, Bool, true, false, List, [], ◌∷◌, length, arith, map, not, if◌then◌else◌}
-use Rattle.std.specs.Prelude.{IsTrue, ◌&&◌, ◌||◌, nat_lt, nat_eq, is_some}
+use Rattle.std.proofs.Common.{◌≡◌, ◌≤◌, ◌++◌, ◌∙◌, sym, ap, subst, refl, ℕ, suc, Bool, true, false, List, [], ◌∷◌, length, arith, map, not, if◌then◌else◌, Some, inl, inr}
+use Rattle.std.specs.Prelude.{IsTrue, ◌&&◌, ◌||◌, nat_lt, nat_eq, slice_get, is_some}
 use Rattle.std.specs.List.{list_all}
 use Rattle.std.proofs.lemmas.Bool.Decides.{nat_tests}
 use Rattle.pt_tree.specs.declared.specifier.Suffix.{Suffix}
@@ -25,9 +25,12 @@ use Rattle.declared_types_law.specs.Types.{is_base, is_parameter}
 use Rattle.declared_types_law.specs.Sound.{SoundStructs}
 use Rattle.declared_types_law.specs.Laws.{SpecifiersAreSound, ObjectsAreSound}
 use Rattle.typed_programs.specs.declared.function_marks.FunctionMarks.{FunctionMarks}
+use Rattle.typed_programs.specs.Unions.{marks_at}
 use Rattle.typed_programs.specs.Parameters.{is_pointer_form, is_host_pointer, is_refused, lacks_name, place_of, param_type, param_variable, param_faults, attribute_faults, is_repeated, with_param, Declared, declared_one, declared_all}
-use Rattle.typed_programs_law.proofs.ListLemmas.{none_left, none_right, no_fault, and_both, all_joined, all_weaker, length_pushed, map_joined}
+use Rattle.typed_programs_law.proofs.ListLemmas.{all_joined, all_weaker, length_pushed, map_joined, get_pushed}
 use Rattle.typed_programs_law.proofs.Sound.{is_local_meaning, is_local_entry}
+use Rattle.declared_types_law.proofs.FaultLemmas.{none_left, none_right, no_fault}
+use Rattle.typed_tree.proofs.WellFormedLemmas.{and_both}
 
 -- the parameters so far, in a scope that is open
 pub record SoundParams (marks : FunctionMarks) (base : Env) (structs : ℕ) (env : Env) : Type 0 where
@@ -38,6 +41,7 @@ pub record SoundParams (marks : FunctionMarks) (base : Env) (structs : ℕ) (env
   pub scopes : env.scopes ≡ scope ∷ []
   pub locals : IsTrue (list_all (is_local_entry (length env.variables)) scope)
   pub types : IsTrue (list_all (is_parameter structs) (map (λ x. x.ty) env.variables))
+  pub marked : (j : ℕ) (x : Variable) → slice_get env.variables j ≡ Some x → x.marked ≡ (marks_at marks.params j).marked
   pub few : length env.variables ≤ 8
   pub integers : marks.defined ≡ false → IsTrue (list_all is_integer (map (λ x. x.ty) env.variables))
 
@@ -57,6 +61,14 @@ named_all p scope name m h i = go (is_new scope name)
     go : (b : Bool) → IsTrue (list_all p (if b then scope ++ (name, m) ∷ [] else scope))
     go true = all_joined p scope ((name, m) ∷ []) h (and_both (p (name, m)) true i refl)
     go false = h
+
+-- a variable more, which has the marks of its position
+marked_more : (marks : FunctionMarks) (xs : List Variable) (v : Variable) → ((j : ℕ) (x : Variable) → slice_get xs j ≡ Some x → x.marked ≡ (marks_at marks.params j).marked)
+    → v.marked ≡ (marks_at marks.params (length xs)).marked → (j : ℕ) (x : Variable) → slice_get (xs ++ v ∷ []) j ≡ Some x → x.marked ≡ (marks_at marks.params j).marked
+marked_more marks xs v before here j x h = elim (get_pushed xs v j x h) [
+  | inl old ↦ before j x old
+  | inr last ↦ ap (λ (y : Variable). y.marked) last.is ∙ here ∙ ap (λ k. (marks_at marks.params k).marked) (sym last.at)
+]
 
 -- ---- one parameter
 
@@ -107,12 +119,13 @@ one_param objects marks base defines structs env p given repeated s good none =
     let whole : IsTrue (is_integer v.ty) = ap is_integer is ∙ integer_param structs given p.pointer p.suffix good form sound in
     subst (λ xs. IsTrue (list_all is_integer xs)) (sym (map_joined (λ (x : Variable). x.ty) env.variables (v ∷ [])))
     (all_joined is_integer (map (λ x. x.ty) env.variables) (v.ty ∷ []) (s.integers host) (and_both (is_integer v.ty) true whole refl)) in
+    let marked = marked_more marks env.variables v s.marked refl in
     let longer = length_pushed env.variables v in
     let few : length (env.variables ++ v ∷ []) ≤ 8 = at_most k (length (env.variables ++ v ∷ [])) longer s.few both.0 in
     let kept : IsTrue (list_all (is_local_entry (length (env.variables ++ v ∷ []))) s.scope) =
     all_weaker (is_local_entry k) (is_local_entry (length (env.variables ++ v ∷ []))) (local_more k (length (env.variables ++ v ∷ [])) (omega (arith, longer))) s.scope s.locals in
     let here : IsTrue (is_local_meaning (length (env.variables ++ v ∷ [])) (Local (record { 0 = k }))) = below k (length (env.variables ++ v ∷ [])) longer in
-    go (is_some p.name) v types integers few kept here
+    go (is_some p.name) v types marked integers few kept here
   where
     at_most : (k n : ℕ) → n ≡ suc k → k ≤ 8 → nat_eq k 8 ≡ false → n ≤ 8
     at_most k n h i j = grind (arith, nat_tests)
@@ -121,11 +134,12 @@ one_param objects marks base defines structs env p given repeated s good none =
     below k n h = grind (arith, nat_tests)
 
     go : (b : Bool) (v : Variable) → IsTrue (list_all (is_parameter structs) (map (λ x. x.ty) (env.variables ++ v ∷ [])))
+        → ((j : ℕ) (x : Variable) → slice_get (env.variables ++ v ∷ []) j ≡ Some x → x.marked ≡ (marks_at marks.params j).marked)
         → (marks.defined ≡ false → IsTrue (list_all is_integer (map (λ x. x.ty) (env.variables ++ v ∷ []))))
         → length (env.variables ++ v ∷ []) ≤ 8 → IsTrue (list_all (is_local_entry (length (env.variables ++ v ∷ []))) s.scope)
         → IsTrue (is_local_meaning (length (env.variables ++ v ∷ [])) (Local (record { 0 = length env.variables })))
         → SoundParams marks base structs (with_param env b v)
-    go true v types integers few kept here = record {
+    go true v types marked integers few kept here = record {
       file = s.file;
       functions = s.functions;
       globals = s.globals;
@@ -133,10 +147,11 @@ one_param objects marks base defines structs env p given repeated s good none =
       scopes = ap (λ ss. bind_inner ss v.name (Local (record { 0 = length env.variables }))) s.scopes;
       locals = named_all (is_local_entry (length (env.variables ++ v ∷ []))) s.scope v.name (Local (record { 0 = length env.variables })) kept here;
       types = types;
+      marked = marked;
       few = few;
       integers = integers;
     }
-    go false v types integers few kept here = record {
+    go false v types marked integers few kept here = record {
       file = s.file;
       functions = s.functions;
       globals = s.globals;
@@ -144,6 +159,7 @@ one_param objects marks base defines structs env p given repeated s good none =
       scopes = s.scopes;
       locals = kept;
       types = types;
+      marked = marked;
       few = few;
       integers = integers;
     }

@@ -4,15 +4,17 @@ use Rattle.std.specs.Prelude.{IsTrue, ◌&&◌, ◌||◌, nat_lt, nat_le, nat_eq
 use Rattle.std.specs.List.{list_all, list_any}
 use Rattle.std.specs.Str.{bytes_eq}
 use Rattle.std.proofs.lemmas.Bool.Decides.{nat_tests}
-use Rattle.pt_tree.specs.Facts.{specs_sound, suffix_sound, params_sound, body_sound, item_sound, items_sound}
+use Rattle.pt_base.specs.Names.{is_short}
+use Rattle.pt_tree.specs.Facts.{specs_sound, word_sound, suffix_sound, declarator_sound, params_sound, body_sound, item_sound, items_sound}
 use Rattle.pt_tree.specs.Nodes as parsed
-use Rattle.pt_tree.specs.ProgramTree.{FunctionTree, ItemTree, declares, function}
+use Rattle.pt_tree.specs.ProgramTree.{ItemTree, declares, function}
 use Rattle.typed_tree.specs.declared.variable.TypedGlobal.{TypedGlobal}
 use Rattle.typed_tree.specs.Nodes as typed
+use Rattle.typed_tree.specs.Parts.{parts_of, variables_of}
 use Rattle.typed_tree.specs.StatementTree.{BodyTree}
 use Rattle.typed_tree.specs.TypedTree as tree
 use Rattle.typed_tree.specs.TypedTree.{TypedTree}
-use Rattle.typed_tree.specs.WellFormed.{structs_sound, global_sound, globals_small, variable_sound, params_lead, is_integer_param, is_block, scope_in, body_sound as typed_body, function_sound, name_of, are_distinct, is_start, numbers_sound, is_well_formed}
+use Rattle.typed_tree.specs.WellFormed.{structs_sound, global_sound, globals_small, variable_sound, params_lead, is_integer_param, is_block, scope_in, body_sound as typed_body, function_sound, name_of, are_distinct, names_sound, are_consecutive, are_rising, is_start, numbers_sound, is_well_formed}
 use Rattle.typed_tree.specs.WellFormedStatement.{is_sound}
 use Rattle.declared_types.specs.declared.fault.FaultKind.TheVariants.{NoMain}
 use Rattle.typed_expressions.specs.declared.meaning.Meaning.{Meaning}
@@ -26,15 +28,16 @@ use Rattle.typed_programs.specs.Functions.{Checked}
 use Rattle.typed_programs.specs.Progress.{Progress, at_start}
 use Rattle.typed_programs.specs.Programs.{checked_item, checked_items, function_name, tree_of, nowhere, main_faults}
 use Rattle.typed_programs.specs.Unions.{declarations_of, undeclared, with_declaration, function_marks}
-use Rattle.typed_tree.proofs.WellFormedLemmas.{and_left, and_right}
+use Rattle.typed_tree.proofs.WellFormedLemmas.{and_left, and_right, and_both}
 use Rattle.typed_sizes_law.specs.Laws.{TypedTreesAreSmall}
 use Rattle.typed_programs_law.specs.Laws.{ProgramsAreWellFormed}
-use Rattle.typed_programs_law.proofs.ListLemmas.{none_left, none_right, no_fault, and_both, all_of, any_of, joined_none}
+use Rattle.typed_programs_law.proofs.ListLemmas.{all_of, any_of, joined_none}
 use Rattle.typed_programs_law.proofs.TableLemmas.{sought, name_same}
 use Rattle.typed_programs_law.proofs.Sound.{Extends, defines, BodyHolds, SoundEntry, SoundTables, SoundProgress}
 use Rattle.typed_programs_law.proofs.Opened.{some_same}
 use Rattle.typed_programs_law.proofs.Functions.{function_step}
 use Rattle.typed_programs_law.proofs.Globals.{declaration_step}
+use Rattle.declared_types_law.proofs.FaultLemmas.{none_left, none_right, no_fault}
 
 -- the laws of the parts
 pub record Laws : Type 0 where
@@ -97,8 +100,10 @@ item_step : Laws → (marks : List ℕ → FunctionMarks) (item : ItemTree) (res
     → (checked_item (marks (function_name item)) st item).faults ≡ [] → SoundProgress marks rest (checked_item (marks (function_name item)) st item).progress
 item_step laws marks (declares d) rest st s constants none = declaration_step laws.specifiers laws.objects laws.sizes laws.leaves marks rest st d s none
 item_step laws marks (function f) rest st s constants none =
-    let inner = and_right (specs_sound f.specs && suffix_sound f.declarator.suffix) (params_sound f.params && body_sound f.body) constants in
-    function_step laws.specifiers laws.objects laws.results laws.bodies laws.kept marks f rest st s (and_right (params_sound f.params) (body_sound f.body) inner) none
+    let outer = and_left (specs_sound f.specs && declarator_sound f.declarator) (params_sound f.params && body_sound f.body) constants in
+    let inner = and_right (specs_sound f.specs && declarator_sound f.declarator) (params_sound f.params && body_sound f.body) constants in
+    let short = and_left (word_sound f.declarator.name) (suffix_sound f.declarator.suffix) (and_right (specs_sound f.specs) (declarator_sound f.declarator) outer) in
+    function_step laws.specifiers laws.objects laws.results laws.bodies laws.kept marks f rest st s short (and_right (params_sound f.params) (body_sound f.body) inner) none
 
 all_steps : Laws → (marks : List ℕ → FunctionMarks) (items : List ItemTree) (st : Progress) → SoundProgress marks items st → IsTrue (items_sound items)
     → (checked_items marks st items).faults ≡ [] → SoundProgress marks [] (checked_items marks st items).progress
@@ -151,7 +156,7 @@ entry_numbered marks st t f e = go f.body (e.body (tree_of st) (whole marks st t
   where
     go : (b : Option BodyTree) → BodyHolds (tree_of st) f b → IsTrue (numbers_sound (tree_of st) (record f { body = b }))
     go None h = refl
-    go (Some b) h = h.1
+    go (Some b) h = and_both (are_consecutive (parts_of b) (length st.exprs)) (are_rising (length f.signature.params) (variables_of b)) h.1 h.2
 
 -- a name that a table has at one number isn't that of a function of a later one
 lone : (look : List ℕ → Option ℕ) (name : List ℕ) (n : ℕ) → look name ≡ Some n → (fs : List tree.FunctionTree) (m : ℕ) → n < m
@@ -173,6 +178,11 @@ names_apart look n (f ∷ fs) h =
     let rest : (k : ℕ) (g : tree.FunctionTree) → slice_get fs k ≡ Some g → look g.signature.name ≡ Some (suc n + k) = λ k g i. h (suc k) g i ∙ ap Some (omega arith) in
     and_both (not (list_any (bytes_eq f.signature.name) (map name_of fs))) (are_distinct (map name_of fs))
     (lone look f.signature.name n at fs (suc n) (omega arith) rest) (names_apart look (suc n) fs rest)
+
+-- each name is short
+names_short : (fs : List tree.FunctionTree) → ((k : ℕ) (f : tree.FunctionTree) → slice_get fs k ≡ Some f → IsTrue (is_short (name_of f))) → IsTrue (list_all is_short (map name_of fs))
+names_short [] h = refl
+names_short (f ∷ fs) h = and_both (is_short (name_of f)) (list_all is_short (map name_of fs)) (h 0 f refl) (names_short fs (λ k g i. h (suc k) g i))
 
 -- the number of a function
 abbrev number_in : Option Meaning → Option ℕ
@@ -198,16 +208,18 @@ programs_well_formed laws items few constants none =
     let globals : IsTrue (list_all (global_sound infos) st.globals) = all_of (global_sound infos) st.globals (λ k g h. t.globals k g h program w) in
     let small : IsTrue (globals_small st.globals) = below (sum_by (λ (g : TypedGlobal). length g.cells) st.globals) st.cells t.cells t.limit in
     let functions : IsTrue (list_all (function_sound program) st.functions) = all_of (function_sound program) st.functions (λ k f h. entry_whole marks st t f (t.entries k f h)) in
-    let names : IsTrue (are_distinct (map name_of st.functions)) = names_apart (λ n. number_in (sought st.env.file n)) 0 st.functions (λ k f h. ap number_in (t.named k f h) ∙ ap Some (omega arith)) in
+    let apart : IsTrue (are_distinct (map name_of st.functions)) = names_apart (λ n. number_in (sought st.env.file n)) 0 st.functions (λ k f h. ap number_in (t.named k f h) ∙ ap Some (omega arith)) in
+    let short : IsTrue (list_all is_short (map name_of st.functions)) = names_short st.functions (λ k f h. (t.entries k f h).short) in
+    let names : IsTrue (names_sound (map name_of st.functions)) = and_both (are_distinct (map name_of st.functions)) (list_all is_short (map name_of st.functions)) apart short in
     let start : IsTrue (list_any is_start st.functions) = any_of is_start st.functions begin.number begin.entry begin.is begin.start in
     let numbered : IsTrue (list_all (numbers_sound program) st.functions) = all_of (numbers_sound program) st.functions (λ k f h. entry_numbered marks st t f (t.entries k f h)) in
     let size = laws.small items in
     let light : IsTrue (nat_lt (typed.nodes_of program) (2 ^ 28)) = fewer (typed.nodes_of program) (parsed.nodes_of items) size few in
     and_both (structs_sound infos 0 infos && (list_all (global_sound infos) st.globals && globals_small st.globals))
-    ((list_all (function_sound program) st.functions && (are_distinct (map name_of st.functions) && list_any is_start st.functions)) && (list_all (numbers_sound program) st.functions && nat_lt (typed.nodes_of program) (2 ^ 28)))
+    ((list_all (function_sound program) st.functions && (names_sound (map name_of st.functions) && list_any is_start st.functions)) && (list_all (numbers_sound program) st.functions && nat_lt (typed.nodes_of program) (2 ^ 28)))
     (and_both (structs_sound infos 0 infos) (list_all (global_sound infos) st.globals && globals_small st.globals) structs (and_both (list_all (global_sound infos) st.globals) (globals_small st.globals) globals small))
-    (and_both (list_all (function_sound program) st.functions && (are_distinct (map name_of st.functions) && list_any is_start st.functions)) (list_all (numbers_sound program) st.functions && nat_lt (typed.nodes_of program) (2 ^ 28))
-    (and_both (list_all (function_sound program) st.functions) (are_distinct (map name_of st.functions) && list_any is_start st.functions) functions (and_both (are_distinct (map name_of st.functions)) (list_any is_start st.functions) names start))
+    (and_both (list_all (function_sound program) st.functions && (names_sound (map name_of st.functions) && list_any is_start st.functions)) (list_all (numbers_sound program) st.functions && nat_lt (typed.nodes_of program) (2 ^ 28))
+    (and_both (list_all (function_sound program) st.functions) (names_sound (map name_of st.functions) && list_any is_start st.functions) functions (and_both (names_sound (map name_of st.functions)) (list_any is_start st.functions) names start))
     (and_both (list_all (numbers_sound program) st.functions) (nat_lt (typed.nodes_of program) (2 ^ 28)) numbered light))
   where
     not_not : (b : Bool) → not b ≡ false → b ≡ true

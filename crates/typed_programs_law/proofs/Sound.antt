@@ -1,18 +1,20 @@
 -- What holds of a program's items that were judged without a fault.
-use Rattle.std.proofs.Common.{◌≡◌, ◌≤◌, ◌+◌, ◌++◌, ◌∙◌, sym, ap, subst, ℕ, Bool, true, false, List, [], ◌∷◌, length, arith, map, Option, Some, None}
+use Rattle.std.proofs.Common.{◌≡◌, ◌≤◌, ◌++◌, ◌∙◌, sym, ap, subst, ℕ, Bool, true, false, List, [], ◌∷◌, length, arith, map, Option, Some, None}
 use Rattle.std.specs.Prelude.{IsTrue, ◌&&◌, ◌||◌, not, nat_lt, nat_le, nat_eq, slice_get, is_some, sum_by}
 use Rattle.std.specs.List.{list_all}
 use Rattle.std.specs.Str.{bytes_eq}
 use Rattle.pt_base.specs.declared.ids.FnId.{FnId}
+use Rattle.pt_base.specs.Names.{is_short}
+use Rattle.pt_tree.specs.declared.signature.Param.{Param}
 use Rattle.pt_tree.specs.declared.signature.Signature.{Signature}
 use Rattle.pt_tree.specs.ProgramTree.{ItemTree, declares, function}
 use Rattle.typed_tree.specs.declared.variable.TypedGlobal.{TypedGlobal}
 use Rattle.typed_tree.specs.ExpressionTree.{ExprTree}
 use Rattle.typed_tree.specs.StatementTree.{BodyTree}
-use Rattle.typed_tree.specs.Parts.{parts_of}
+use Rattle.typed_tree.specs.Parts.{parts_of, variables_of}
 use Rattle.typed_tree.specs.TypedTree.{FunctionTree, TypedTree, signatures_of}
 use Rattle.typed_tree.specs.WellFormedStatement.{is_sound}
-use Rattle.typed_tree.specs.WellFormed.{params_lead, variable_sound, is_integer_param, is_block, scope_in, are_consecutive, global_sound, is_start}
+use Rattle.typed_tree.specs.WellFormed.{params_lead, variable_sound, is_integer_param, is_block, scope_in, are_consecutive, are_rising, global_sound, is_start}
 use Rattle.declared_types.specs.NameTables.{Named}
 use Rattle.declared_types.specs.Structs.{Structs}
 use Rattle.typed_expressions.specs.declared.meaning.Callable.{Callable}
@@ -27,6 +29,7 @@ use Rattle.declared_types_law.specs.Sound.{SoundStructs}
 use Rattle.typed_expressions_law.specs.Agreement.{HasCallable}
 use Rattle.typed_programs.specs.declared.function_marks.FunctionMarks.{FunctionMarks}
 use Rattle.typed_programs.specs.Progress.{Progress}
+use Rattle.typed_programs.specs.Unions.{marks_at}
 use Rattle.typed_programs.specs.Globals.{globals_limit}
 use Rattle.typed_programs_law.proofs.ListLemmas.{joined_again, joined_none, length_joined, all_weaker}
 use Rattle.typed_programs_law.proofs.TypeLemmas.{variable_more, parameter_more}
@@ -78,12 +81,18 @@ defines (function f ∷ items) n = (bytes_eq f.declarator.name.bytes n && is_som
 -- the body, or what holds of a host
 abbrev pub BodyHolds : TypedTree → FunctionTree → Option BodyTree → Type 0
 BodyHolds t f None = f.signature.host ≡ true → IsTrue (list_all is_integer_param f.signature.params) × IsTrue (nat_eq (length f.vars) (length f.signature.params))
-BodyHolds t f (Some b) = IsTrue (is_block b && is_sound (scope_in t f) false false b) × IsTrue (are_consecutive (parts_of b) (length t.exprs))
+BodyHolds t f (Some b) =
+    IsTrue (is_block b && is_sound (scope_in t f) false false b)
+    × IsTrue (are_consecutive (parts_of b) (length t.exprs))
+    × IsTrue (are_rising (length f.signature.params) (variables_of b))
 
 -- a function, where these items come after it
 pub record SoundEntry (marks : List ℕ → FunctionMarks) (rest : List ItemTree) (st : Progress) (f : FunctionTree) : Type 0 where
   pub few : IsTrue (nat_le (length f.signature.params) 8)
   pub lead : IsTrue (params_lead f.signature.params f.vars)
+  pub short : IsTrue (is_short f.signature.name)
+  -- the marks of a parameter are those of all declarations
+  pub marked : (j : ℕ) (p : Param) → slice_get f.signature.params j ≡ Some p → p.marked ≡ (marks_at (marks f.signature.name).params j).marked
   pub host : f.signature.host ≡ not (marks f.signature.name).defined
   pub defined : (marks f.signature.name).defined ≡ (is_some f.body || defines rest f.signature.name)
   pub vars : (t : TypedTree) → Extends st t → IsTrue (list_all (variable_sound t.structs) f.vars)
@@ -94,6 +103,8 @@ pub entry_kept : (marks : List ℕ → FunctionMarks) (rest rest' : List ItemTre
 entry_kept marks rest rest' a b f g same e = record {
   few = e.few;
   lead = e.lead;
+  short = e.short;
+  marked = e.marked;
   host = e.host;
   defined = e.defined ∙ ap (λ d. is_some f.body || d) same;
   vars = λ t x. e.vars t (extends_back a b t g x);
@@ -126,6 +137,7 @@ pub record HasObject (structs : ℕ) (o : Object) (entry : Option TypedGlobal) :
   pub is : entry ≡ Some global
   pub good : IsTrue (is_variable structs o.ty)
   pub has : Some global.var.ty ≡ var_type o.ty
+  pub fixed : global.fixed ≡ o.fixed
 
 -- the function of this number has this name
 pub record Known (functions : List FunctionTree) (n : List ℕ) (k : ℕ) : Type 0 where
@@ -193,7 +205,7 @@ callable_kept m n c o o' h f k = record {
 }
 
 pub object_kept : (m n : ℕ) (o : Object) (x x' : Option TypedGlobal) → m ≤ n → ((g : TypedGlobal) → x ≡ Some g → x' ≡ Some g) → HasObject m o x → HasObject n o x'
-object_kept m n o x x' h f k = record { global = k.global; is = f k.global k.is; good = variable_more m n h o.ty k.good; has = k.has }
+object_kept m n o x x' h f k = record { global = k.global; is = f k.global k.is; good = variable_more m n h o.ty k.good; has = k.has; fixed = k.fixed }
 
 pub tables_moved : (marks : List ℕ → FunctionMarks) (rest rest' : List ItemTree) (st : Progress) (scopes : List (Named Meaning)) (variables : List Variable) (structs more : Structs) (has_main : Bool)
     → structs ≡ st.structs ++ more → SoundStructs structs → ((n : List ℕ) → defines rest n ≡ defines rest' n)

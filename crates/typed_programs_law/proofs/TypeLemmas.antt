@@ -1,10 +1,9 @@
 -- Good types, and what the typed tree makes of them.
-use Rattle.std.proofs.Common.{◌≡◌, ◌≤◌, ◌+◌, ◌++◌, ◌∙◌, sym, ap, subst, refl, ℕ, suc, Bool, true, false, List, [], ◌∷◌, length, arith, map, Some, nat_eq}
-use Rattle.std.specs.Prelude.{IsTrue, nat_lt, nat_le, option_map}
+use Rattle.std.proofs.Common.{◌≡◌, ◌≤◌, ◌+◌, ◌++◌, ◌∙◌, sym, ap, subst, refl, ℕ, zero, suc, Bool, true, false, List, [], ◌∷◌, length, arith, map, Some, nat_eq}
+use Rattle.std.specs.Prelude.{IsTrue, ◌&&◌, nat_lt, nat_le, slice_get, option_map}
 use Rattle.std.specs.List.{list_all}
 use Rattle.std.proofs.lemmas.Bool.Decides.{nat_tests}
 use Rattle.pt_base.specs.declared.int_type.IntType.{IntType}
-use Rattle.pt_base.specs.declared.int_type.IntType.TheVariants as t
 use Rattle.pt_tree.specs.declared.signature.Elem.{Elem}
 use Rattle.pt_tree.specs.declared.signature.Param.{Param}
 use Rattle.pt_tree.specs.declared.signature.Elem.TheVariants as elem
@@ -19,7 +18,7 @@ use Rattle.typed_tree.specs.Cells.{leaves_of}
 use Rattle.typed_tree.specs.TypeTests as typed
 use Rattle.typed_tree.specs.WellFormedExpression.{is_elem, param_type}
 use Rattle.typed_tree.specs.WellFormed.{is_plain_type, is_variable_type, is_small, params_lead, is_integer_param}
-use Rattle.typed_tree.proofs.WellFormedLemmas.{and_left, and_right}
+use Rattle.typed_tree.proofs.WellFormedLemmas.{and_left, and_right, and_both}
 use Rattle.declared_types.specs.declared.marks.Marks.{Marks}
 use Rattle.typed_expressions.specs.declared.meaning.Variable.{Variable}
 use Rattle.typed_expressions.specs.Operands.{var_type}
@@ -29,7 +28,6 @@ use Rattle.typed_expressions_law.specs.Agreement.{taken}
 use Rattle.typed_programs.specs.Functions.{agree, all_agree, var_of, param_of, params_of}
 use Rattle.typed_programs.specs.Progress.{result_type_of}
 use Rattle.typed_programs.specs.Unions.{marks_at}
-use Rattle.typed_programs_law.proofs.ListLemmas.{and_both}
 
 -- ---- more structs
 
@@ -219,19 +217,30 @@ same_type_self (v.Struct n) = grind (arith, nat_tests)
 same_type_self (v.Array e count) = and_both (typed.same_elem e e) (nat_eq count count) (same_elem_self e) (grind (arith, nat_tests))
 same_type_self (v.Pointer e fixed) = and_both (typed.same_elem e e) (typed.same_bool fixed fixed) (same_elem_self e) (same_bool_self fixed)
 
+-- each parameter has the marks of its position
+pub params_marked : (ms : List Marks) (k : ℕ) (xs : List «Type») (j : ℕ) (p : Param) → slice_get (params_of ms k xs) j ≡ Some p → p.marked ≡ (marks_at ms (k + j)).marked
+params_marked ms k [] j p h = cc
+params_marked ms k (x ∷ xs) zero p h =
+    let same : param_of (marks_at ms k) x ≡ p = cc in
+    ap (λ (q : Param). q.marked) (sym same) ∙ ap (λ i. (marks_at ms i).marked) (let e : k ≡ k + 0 = omega arith in e)
+params_marked ms k (x ∷ xs) (suc j) p h = params_marked ms (k + 1) xs j p h ∙ ap (λ i. (marks_at ms i).marked) (let e : (k + 1) + j ≡ k + suc j = omega arith in e)
+
 -- the variables begin with those of the parameters
-pub params_lead_vars : (n : ℕ) (ps : List Param) (xs new : List Variable) → IsTrue (list_all (is_parameter n) (map (λ x. x.ty) xs)) → map taken ps ≡ map var_type (map (λ x. x.ty) xs) → IsTrue (params_lead ps (map var_of (xs ++ new)))
-params_lead_vars n [] xs new h e = refl
-params_lead_vars n (p ∷ ps) [] new h e = cc
-params_lead_vars n (p ∷ ps) (x ∷ xs) new h e =
+pub params_lead_vars : (n : ℕ) (ps : List Param) (xs new : List Variable) → IsTrue (list_all (is_parameter n) (map (λ x. x.ty) xs)) → map taken ps ≡ map var_type (map (λ x. x.ty) xs)
+    → ((j : ℕ) (p : Param) (x : Variable) → slice_get ps j ≡ Some p → slice_get xs j ≡ Some x → p.marked ≡ x.marked) → IsTrue (params_lead ps (map var_of (xs ++ new)))
+params_lead_vars n [] xs new h e m = refl
+params_lead_vars n (p ∷ ps) [] new h e m = cc
+params_lead_vars n (p ∷ ps) (x ∷ xs) new h e m =
     let first : Some (param_type p.kind) ≡ var_type x.ty = cc in
     let rest : map taken ps ≡ map var_type (map (λ x. x.ty) xs) = cc in
     let good = parameter_variable n x.ty (and_left (is_parameter n x.ty) (list_all (is_parameter n) (map (λ x. x.ty) xs)) h) in
     let there = object_there n x.ty good in
     let same : param_type p.kind ≡ object_type_of x.ty = cc in
-    and_both (typed.same_type (param_type p.kind) (object_type_of x.ty)) (params_lead ps (map var_of (xs ++ new)))
-    (subst (λ z. IsTrue (typed.same_type (param_type p.kind) z)) same (same_type_self (param_type p.kind)))
-    (params_lead_vars n ps xs new (and_right (is_parameter n x.ty) (list_all (is_parameter n) (map (λ x. x.ty) xs)) h) rest)
+    let type = subst (λ z. IsTrue (typed.same_type (param_type p.kind) z)) same (same_type_self (param_type p.kind)) in
+    let mark = subst (λ b. IsTrue (typed.same_bool p.marked b)) (m 0 p x refl refl) (same_bool_self p.marked) in
+    and_both (typed.same_type (param_type p.kind) (object_type_of x.ty) && typed.same_bool p.marked x.marked) (params_lead ps (map var_of (xs ++ new)))
+    (and_both (typed.same_type (param_type p.kind) (object_type_of x.ty)) (typed.same_bool p.marked x.marked) type mark)
+    (params_lead_vars n ps xs new (and_right (is_parameter n x.ty) (list_all (is_parameter n) (map (λ x. x.ty) xs)) h) rest (λ j q y a b. m (suc j) q y a b))
 
 integer_taken : (m : Marks) (x : «Type») → IsTrue (is_integer x) → IsTrue (is_integer_param (param_of m x))
 integer_taken m Bad i = cc

@@ -24,8 +24,9 @@ use Rattle.typed_statements.specs.Constants.{number_of}
 use Rattle.typed_statements.specs.Leaves.{leaves_of}
 use Rattle.typed_statements.specs.GlobalInitialisers.{GlobalInit, stored_in, misfit, item_of, excess_faults, global_items, global_initialised}
 use Rattle.typed_programs.specs.Globals.{padded}
-use Rattle.typed_tree.proofs.WellFormedLemmas.{and_left, and_right}
-use Rattle.typed_programs_law.proofs.ListLemmas.{none_left, none_right, no_fault, and_both, length_pushed}
+use Rattle.typed_tree.proofs.WellFormedLemmas.{and_left, and_right, and_both}
+use Rattle.typed_programs_law.proofs.ListLemmas.{length_pushed}
+use Rattle.declared_types_law.proofs.FaultLemmas.{none_left, none_right, no_fault}
 
 -- ---- numbers in range
 

@@ -2,7 +2,7 @@
 use Rattle.std.proofs.Common.{◌≡◌, ◌≤◌, ℕ, ◌+◌, sym, ap, subst, false, List, ◌++◌, length, length-append, arith}
 use Rattle.pt_tree.specs.StatementTree.{stmt_trees}
 use Rattle.typed_tree.specs.ExpressionTree.{ExprTree}
-use Rattle.typed_tree.specs.Parts.{all_parts}
+use Rattle.typed_tree.specs.Parts.{all_parts, all_variables}
 use Rattle.typed_tree.specs.StatementTree.{body_trees}
 use Rattle.typed_tree.specs.WellFormedStatement.{Scope}
 use Rattle.typed_statements.specs.declared.context.Context.{Context}
@@ -10,6 +10,7 @@ use Rattle.typed_statements.specs.Statements.{checked_all}
 use Rattle.typed_statements_law.specs.Laws.{BlocksAreKept, BodiesAreSound}
 use Rattle.typed_statements_law.proofs.Numbering.{StandAt, stand, consecutive}
 use Rattle.typed_statements_law.proofs.StatementWalks.{all_go}
+use Rattle.typed_statements_law.proofs.Rising.{rising, all_rise}
 use Rattle.typed_statements_law.proofs.Given.{Laws, Ready, Returns}
 use Rattle.typed_statements_law.proofs.Statements.{statements_sound}
 
@@ -38,6 +39,7 @@ bodies_sound laws n all before after result ty st items agrees good is has all_a
     record {
       sound = k.1;
       numbered = consecutive st.next parts (length all) g.numbers within;
+      rising = rising (length st.env.variables) (all_variables (body_trees b.bodies)) (length b.state.env.variables) (all_rise c st (stmt_trees items));
       structs = k.0.structs;
       file = g.file;
       functions = g.functions;

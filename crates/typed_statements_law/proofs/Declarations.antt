@@ -4,7 +4,7 @@ use Rattle.std.specs.Prelude.{IsTrue, ◌&&◌, not, slice_get, option_map}
 use Rattle.pt_base.specs.declared.span.Span.{Span}
 use Rattle.pt_tree.specs.StatementTree as s
 use Rattle.pt_tree.specs.StatementTree.{InitDeclaratorTree, DeclarationTree, ForInitTree}
-use Rattle.pt_tree.specs.Facts.{specs_sound, suffix_sound, init_sound, inits_sound, declaration_sound, for_init_sound}
+use Rattle.pt_tree.specs.Facts.{specs_sound, declarator_sound, init_sound, inits_sound, declaration_sound, for_init_sound}
 use Rattle.type_rules.specs.declared.types.Type.{«Type»}
 use Rattle.type_rules.specs.declared.types.Type.TheVariants.{Bad, Void, Int, Struct, Array, Pointer}
 use Rattle.typed_tree.specs.declared.types.VarTy.{VarTy}
@@ -13,7 +13,7 @@ use Rattle.typed_tree.specs.Cells as typed
 use Rattle.typed_tree.specs.Parts.{declarator_parts, declaration_parts}
 use Rattle.typed_tree.specs.WellFormed.{is_small, is_variable_type}
 use Rattle.typed_tree.specs.WellFormedStatement.{Scope, init_fits, declarator_fits, declaration_fits, for_init_fits}
-use Rattle.typed_tree.proofs.WellFormedLemmas.{and_left, and_right}
+use Rattle.typed_tree.proofs.WellFormedLemmas.{and_left, and_right, and_both}
 use Rattle.declared_types.specs.declared.fault.FaultKind.TheVariants.{Redeclared}
 use Rattle.declared_types.specs.declared.objects.ObjectKind.TheVariants as kind
 use Rattle.declared_types.specs.declared.specifiers.Specified.{Specified}
@@ -34,13 +34,14 @@ use Rattle.declared_types_law.specs.Types.{is_base, is_variable}
 use Rattle.declared_types_law.specs.Sound.{SoundFrom}
 use Rattle.typed_expressions_law.specs.Agreement.{Agrees}
 use Rattle.typed_statements_law.specs.Laws.{HasVariables, is_sound_variable}
-use Rattle.typed_statements_law.proofs.ListLemmas.{none_left, none_right, both, get_end}
+use Rattle.typed_statements_law.proofs.ListLemmas.{get_end}
 use Rattle.typed_statements_law.proofs.TypeLemmas.{variable_type}
 use Rattle.typed_statements_law.proofs.Walks.{initialiser_goes, declared_one_goes, declared_all_goes}
 use Rattle.typed_statements_law.proofs.Environments.{agrees_variable, structs_within}
 use Rattle.typed_statements_law.proofs.Given.{Laws, Ready, Keeps, keeps_nowhere, keeps_on, has_first, ready_first, ready_second}
 use Rattle.typed_statements_law.proofs.Initialisers.{initialised_sound}
 use Rattle.typed_statements_law.proofs.Outermost.{evaluated_sound}
+use Rattle.declared_types_law.proofs.FaultLemmas.{none_left, none_right}
 
 -- ---- one variable
 
@@ -72,7 +73,7 @@ known laws sc given st d base r none =
     let g = initialiser_goes given st d in
     let has = has_first sc.names (st.env.variables ++ x ∷ []) g.new (subst (λ (xs : List Variable). HasVariables sc.names xs) g.variables r.variables) in
     let type = variable_type (length st.structs) (length sc.names.structs) x.ty (structs_within st.env st.structs sc.names r.agrees) good in
-    let sized = both (is_variable_type (length sc.names.structs) (object_type_of x.ty)) (is_small sc.names.structs (object_type_of x.ty)) type (small_object laws sc st x.ty name.span r.agrees good small) in
+    let sized = and_both (is_variable_type (length sc.names.structs) (object_type_of x.ty)) (is_small sc.names.structs (object_type_of x.ty)) type (small_object laws sc st x.ty name.span r.agrees good small) in
     record {
       good = good;
       small = small;
@@ -81,7 +82,7 @@ known laws sc given st d base r none =
         structs = refl;
         new = x ∷ [];
         variables = refl;
-        sized = both (is_sound_variable sc.names.structs x) true sized refl;
+        sized = and_both (is_sound_variable sc.names.structs x) true sized refl;
       };
       entry = has (length st.env.variables) x (get_end st.env.variables [] x);
     }
@@ -105,14 +106,14 @@ declared_all_sound laws sc given st (d ∷ ds) base r sound none =
     let one = declared_one given st d in
     let rest = declared_all given one.state ds in
     let parts = declaration_parts rest.declarators in
-    let here = and_left (suffix_sound d.declarator.suffix && init_sound d.init) (inits_sound ds) sound in
-    let later = and_right (suffix_sound d.declarator.suffix && init_sound d.init) (inits_sound ds) sound in
+    let here = and_left (declarator_sound d.declarator && init_sound d.init) (inits_sound ds) sound in
+    let later = and_right (declarator_sound d.declarator && init_sound d.init) (inits_sound ds) sound in
     let ready = ready_first sc st one.state rest.state one.trees rest.trees parts (declared_all_goes given one.state ds) r in
-    let first = declared_one_sound laws sc given st d base ready (and_right (suffix_sound d.declarator.suffix) (init_sound d.init) here) (none_left one.faults rest.faults none) in
+    let first = declared_one_sound laws sc given st d base ready (and_right (declarator_sound d.declarator) (init_sound d.init) here) (none_left one.faults rest.faults none) in
     let next = ready_second sc st one.state rest.state one.trees rest.trees (declarator_parts one.declarator) (declared_one_goes given st d) first.0 r in
     let base' = subst (λ (x : Structs). IsTrue (is_base (length x) given.base)) (sym first.0.structs) base in
     let second = declared_all_sound laws sc given one.state ds base' next later (none_right one.faults rest.faults none) in
-    (keeps_on sc.names st one.state rest.state first.0 second.0, both (declarator_fits sc one.declarator) (declaration_fits sc rest.declarators) first.1 second.1)
+    (keeps_on sc.names st one.state rest.state first.0 second.0, and_both (declarator_fits sc one.declarator) (declaration_fits sc rest.declarators) first.1 second.1)
 
 -- the first structs of a sound table are sound
 sound_before : (before xs ys : Structs) → SoundFrom before (xs ++ ys) → SoundFrom before xs

@@ -28,8 +28,9 @@ use Rattle.typed_statements.specs.Leaves.{leaves_of}
 use Rattle.declared_types_law.specs.Laws.{LeavesAreSound}
 use Rattle.declared_types_law.specs.Types.{is_plain}
 use Rattle.typed_statements_law.specs.Laws.{StartsAreSound}
-use Rattle.typed_statements_law.proofs.ListLemmas.{none_left, none_right, both}
 use Rattle.typed_statements_law.proofs.Labels.{converted_in_range}
+use Rattle.declared_types_law.proofs.FaultLemmas.{none_left, none_right}
+use Rattle.typed_tree.proofs.WellFormedLemmas.{and_both}
 
 -- ---- numbers in the range of integer types
 
@@ -45,7 +46,7 @@ zero_in_range t = let z = around_zero t in grind (arith, ints, z.0, z.1)
 
 zeros_fit : (ts : List IntType) → IsTrue (cells_fit ts (replicate (length ts) (pos 0)))
 zeros_fit [] = refl
-zeros_fit (t ∷ ts) = both (is_in_range t (pos 0)) (cells_fit ts (replicate (length ts) (pos 0))) (zero_in_range t) (zeros_fit ts)
+zeros_fit (t ∷ ts) = and_both (is_in_range t (pos 0)) (cells_fit ts (replicate (length ts) (pos 0))) (zero_in_range t) (zeros_fit ts)
 
 cells_padded : (ts : List IntType) (vs : List ℤ) → Starts ts vs → IsTrue (cells_fit ts (take (length ts) vs ++ replicate (length ts - length vs) (pos 0)))
 cells_padded [] [] h = refl
@@ -56,7 +57,7 @@ cells_padded (t ∷ ts) [] h =
 cells_padded (t ∷ ts) (v ∷ vs) h =
     let rest : length (t ∷ ts) - length (v ∷ vs) ≡ length ts - length vs = omega arith in
     subst (λ (k : ℕ). IsTrue (cells_fit (t ∷ ts) (v ∷ (take (length ts) vs ++ replicate k (pos 0))))) (sym rest)
-    (both (is_in_range t v) (cells_fit ts (take (length ts) vs ++ replicate (length ts - length vs) (pos 0))) h.0 (cells_padded ts vs h.1))
+    (and_both (is_in_range t v) (cells_fit ts (take (length ts) vs ++ replicate (length ts - length vs) (pos 0))) h.0 (cells_padded ts vs h.1))
 
 -- ---- items
 

@@ -18,7 +18,7 @@ use Rattle.typed_tree.specs.Cells as typed
 use Rattle.typed_tree.specs.Parts.{part_of}
 use Rattle.typed_tree.specs.TypeTests.{same_types, is_value}
 use Rattle.typed_tree.specs.WellFormedStatement.{Scope, expr_fits, item_types, items_fit, init_fits}
-use Rattle.typed_tree.proofs.WellFormedLemmas.{and_left, and_right}
+use Rattle.typed_tree.proofs.WellFormedLemmas.{and_left, and_right, and_both}
 use Rattle.declared_types.specs.declared.fault.FaultKind.TheVariants.{WrongType}
 use Rattle.declared_types.specs.Faults.{fault_if}
 use Rattle.declared_types.specs.Objects.{size_faults}
@@ -30,10 +30,10 @@ use Rattle.typed_statements.specs.Initialisers.{Listing, item, items, initialise
 use Rattle.typed_statements.specs.Outermost.{State, evaluated, fitted}
 use Rattle.declared_types_law.specs.Types.{is_variable}
 use Rattle.typed_expressions_law.specs.Agreement.{Agrees}
-use Rattle.typed_statements_law.proofs.ListLemmas.{none_left, none_right, both}
 use Rattle.typed_statements_law.proofs.Numbering.{goes_one}
 use Rattle.typed_statements_law.proofs.Given.{Laws, Ready, Keeps, keeps_nowhere, keeps_on, ready_second}
 use Rattle.typed_statements_law.proofs.Outermost.{fitted_sound, takes_same}
+use Rattle.declared_types_law.proofs.FaultLemmas.{none_left, none_right}
 
 -- ---- leaves
 
@@ -106,7 +106,7 @@ items_sound laws sc st leaves (ty ∷ left) (t ∷ ts) k x (e.expr_and a es) at 
     let others = subst (λ (s : Structs). AreAlike (length s) left ts) (sym first.0.structs) alike.2 in
     let ready = ready_second sc st p.state rest.state (p.tree ∷ []) rest.trees (part_of (role.Init x) p.id ∷ []) (goes_one st _ _ _) first.0 r in
     let second = items_sound laws sc p.state leaves left ts (k + 1) x es later others (and_right (expr_sound a) (exprs_sound es) sound) ready (none_right p.faults rest.faults none) in
-    (keeps_on sc.names st p.state rest.state first.0 second.0, both (expr_fits sc (same_types (Some t)) p.id) (items_fit sc ts rest.ids) fits second.1))
+    (keeps_on sc.names st p.state rest.state first.0 second.0, and_both (expr_fits sc (same_types (Some t)) p.id) (items_fit sc ts rest.ids) fits second.1))
 
 -- ---- initialisers
 
@@ -123,7 +123,7 @@ initialised_sound laws sc st ty at x no_init r good small sound none = (keeps_no
 initialised_sound laws sc st ty at x (single a) r good small sound none =
     let p = fitted_sound laws sc st ty a r.agrees r.stand.0 sound good none in
     let id = (fitted st ty a).id in
-    (p.0, both (is_value (Some (object_type_of ty))) (expr_fits sc (same_types (Some (object_type_of ty))) id) p.1.value (takes_same sc (length st.structs) ty id good p.1))
+    (p.0, and_both (is_value (Some (object_type_of ty))) (expr_fits sc (same_types (Some (object_type_of ty))) id) p.1.value (takes_same sc (length st.structs) ty id good p.1))
 initialised_sound laws sc st ty at x (braces s es) r good small sound none =
     let leaves = leaves_of st.structs ty in
     let ts = item_types sc.names.structs (object_type_of ty) in

@@ -16,7 +16,7 @@ use Rattle.pt_tree.specs.StatementTree.{LabelTree, case_label, default_label}
 use Rattle.typed_tree.specs.declared.statement.TypedLabel.{TypedLabel}
 use Rattle.typed_tree.specs.declared.statement.TypedLabel.TheVariants.{Case, Default}
 use Rattle.typed_tree.specs.WellFormedStatement.{same_label, label_fits}
-use Rattle.typed_tree.proofs.WellFormedLemmas.{and_left, and_right}
+use Rattle.typed_tree.proofs.WellFormedLemmas.{and_left, and_right, and_both}
 use Rattle.declared_types.specs.declared.fault.FaultKind.TheVariants.{Redeclared, OutOfProfile}
 use Rattle.declared_types.specs.Faults.{fault_at}
 use Rattle.declared_types.specs.Structs.{Structs}
@@ -27,7 +27,7 @@ use Rattle.typed_statements.specs.declared.constants.Number.{Number}
 use Rattle.typed_statements.specs.declared.switches.Kind.{Kind}
 use Rattle.typed_statements.specs.Constants.{number_of}
 use Rattle.typed_statements.specs.Labels.{Seen, is_seen, case_by, case_of, labelled, default_word}
-use Rattle.typed_statements_law.proofs.ListLemmas.{none_right, not_wrong, both}
+use Rattle.declared_types_law.proofs.FaultLemmas.{none_right, no_fault}
 
 -- the label is none of those that were seen
 abbrev pub is_fresh : Seen → TypedLabel → Bool
@@ -96,7 +96,7 @@ kept_cases false seen xs ys h k = cc
 
 case_sound : (kind : Kind) (structs : Structs) (seen : Seen) (s p : Span) (v : ℤ) → IsTrue (is_in_range kind.ty v) → IsTrue kind.compared → (case_of kind structs seen s p v).faults ≡ [] → SoundLabel kind.ty structs structs (case_of kind structs seen s p v).seen seen (Case s v)
 case_sound kind structs seen s p v within compared none =
-    let unseen = second_false kind.compared (is_seen seen.cases v) compared (not_wrong (kind.compared && is_seen seen.cases v) Redeclared p none) in
+    let unseen = second_false kind.compared (is_seen seen.cases v) compared (no_fault (kind.compared && is_seen seen.cases v) Redeclared p none) in
     let is = kept_cases kind.compared (is_seen seen.cases v) seen.cases (seen.cases ++ v ∷ []) compared unseen in
     subst (λ (cases : List ℤ). SoundLabel kind.ty structs structs (record { cases = cases; has_default = seen.has_default }) seen (Case s v)) (sym is) (new_case kind.ty structs seen s v within unseen)
 
@@ -119,7 +119,7 @@ labelled_sound env kind structs seen (case_label s a) compared none = case_by_so
 labelled_sound env kind structs seen (default_label s) compared none = record {
   structs_are = refl;
   fits = refl;
-  fresh = is_not seen.has_default (not_wrong seen.has_default Redeclared (default_word s) none);
+  fresh = is_not seen.has_default (no_fault seen.has_default Redeclared (default_word s) none);
   other = other_default seen.cases s;
   before = before_default seen;
 }
@@ -131,4 +131,4 @@ fresh_labels seen' seen l other before [] h = (refl, refl)
 fresh_labels seen' seen l other before (m ∷ ls) h =
     let here = and_left (is_fresh seen' m) (list_all (is_fresh seen') ls) h in
     let rest = fresh_labels seen' seen l other before ls (and_right (is_fresh seen' m) (list_all (is_fresh seen') ls) h) in
-    (nor (same_label l m) (list_any (same_label l) ls) (other m here) rest.0, both (is_fresh seen m) (list_all (is_fresh seen) ls) (before m here) rest.1)
+    (nor (same_label l m) (list_any (same_label l) ls) (other m here) rest.0, and_both (is_fresh seen m) (list_all (is_fresh seen) ls) (before m here) rest.1)

@@ -1,27 +1,9 @@
 -- Lists that are empty, what stands at a place of a list, and tests of all elements.
-use Rattle.std.proofs.Common.{◌≡◌, ℕ, zero, suc, refl, ◌∙◌, Bool, true, false, List, [], ◌∷◌, ◌++◌, length, Some, ◌⊎◌, inl, inr}
-use Rattle.std.specs.Prelude.{IsTrue, ◌&&◌, slice_get}
+use Rattle.std.proofs.Common.{◌≡◌, ℕ, zero, suc, refl, ◌∙◌, Bool, List, [], ◌∷◌, ◌++◌, length, Some, ◌⊎◌, inl, inr}
+use Rattle.std.specs.Prelude.{IsTrue, slice_get}
 use Rattle.std.specs.List.{list_all}
 use Rattle.std.proofs.lemmas.List.Folds.{list_all-append}
-use Rattle.pt_base.specs.declared.span.Span.{Span}
-use Rattle.declared_types.specs.declared.fault.FaultKind.{FaultKind}
-use Rattle.declared_types.specs.Faults.{fault_if}
-
-pub none_left : {X : Type 0} (xs ys : List X) → xs ++ ys ≡ [] → xs ≡ []
-none_left [] ys h = refl
-none_left (x ∷ xs) ys h = cc
-
-pub none_right : {X : Type 0} (xs ys : List X) → xs ++ ys ≡ [] → ys ≡ []
-none_right [] ys h = h
-none_right (x ∷ xs) ys h = cc
-
-pub not_wrong : (wrong : Bool) (kind : FaultKind) (at : Span) → fault_if wrong kind at ≡ [] → wrong ≡ false
-not_wrong false kind at h = refl
-not_wrong true kind at h = cc
-
-pub both : (a b : Bool) → IsTrue a → IsTrue b → IsTrue (a && b)
-both true b h k = k
-both false b h k = h
+use Rattle.typed_tree.proofs.WellFormedLemmas.{and_both}
 
 pub get_left : {X : Type 0} (xs ys : List X) (k : ℕ) (x : X) → slice_get xs k ≡ Some x → slice_get (xs ++ ys) k ≡ Some x
 get_left [] ys k x h = cc
@@ -40,4 +22,4 @@ get_pushed (z ∷ xs) y zero x h = inl h
 get_pushed (z ∷ xs) y (suc k) x h = get_pushed xs y k x h
 
 pub all_append : {X : Type 0} (p : X → Bool) (xs ys : List X) → IsTrue (list_all p xs) → IsTrue (list_all p ys) → IsTrue (list_all p (xs ++ ys))
-all_append p xs ys h k = list_all-append p xs ys ∙ both (list_all p xs) (list_all p ys) h k
+all_append p xs ys h k = list_all-append p xs ys ∙ and_both (list_all p xs) (list_all p ys) h k

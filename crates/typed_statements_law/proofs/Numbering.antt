@@ -12,7 +12,7 @@ use Rattle.declared_types.specs.Structs.{Structs}
 use Rattle.typed_expressions.specs.declared.meaning.Variable.{Variable}
 use Rattle.typed_statements.specs.Outermost.{State, behind}
 use Rattle.typed_statements.specs.Statements.{inside, outside, with_structs}
-use Rattle.typed_statements_law.proofs.ListLemmas.{both}
+use Rattle.typed_tree.proofs.WellFormedLemmas.{and_both}
 
 -- ---- places
 
@@ -61,7 +61,7 @@ numbered k [] last h within = grind (arith, nat_tests, within)
 numbered k (p ∷ ps) last h within =
     let rest : suc k + length ps ≤ last = omega (arith, within) in
     let first : p.expr.0 ≡ k = h.0 in
-    both (nat_eq p.expr.0 k) (are_numbered (suc k) ps last) (grind (arith, nat_tests, first)) (numbered (suc k) ps last h.1 rest)
+    and_both (nat_eq p.expr.0 k) (are_numbered (suc k) ps last) (grind (arith, nat_tests, first)) (numbered (suc k) ps last h.1 rest)
 
 pub consecutive : (k : ℕ) (ps : List Part) (last : ℕ) → AreFrom k ps → k + length ps ≤ last → IsTrue (are_consecutive ps last)
 consecutive k [] last h within = refl

@@ -27,15 +27,16 @@ use Rattle.typed_statements.specs.Statements.{switched, given_back, wants_value}
 use Rattle.declared_types_law.specs.Types.{is_variable, is_result}
 use Rattle.typed_expressions_law.specs.Agreement.{Agrees}
 use Rattle.typed_expressions_law.specs.Laws.{SoundValue}
-use Rattle.typed_statements_law.proofs.ListLemmas.{none_left, none_right, not_wrong, both}
 use Rattle.typed_statements_law.proofs.TypeLemmas.{has_object_type, condition_type, no_void, taking, switch_type, same_int_self, same_type_self}
 use Rattle.typed_statements_law.proofs.Environments.{structs_within}
 use Rattle.typed_statements_law.proofs.Given.{Laws, Returns, Ready, Keeps, keeps_nowhere, keeps_behind}
+use Rattle.declared_types_law.proofs.FaultLemmas.{none_left, none_right, no_fault}
+use Rattle.typed_tree.proofs.WellFormedLemmas.{and_both}
 
 -- a well formed tree of a type that passes the test, which stands at a number
 found : (sc : Scope) (test : Option VarTy → Bool) (k : ℕ) (tree : ExprTree) → slice_get sc.exprs k ≡ Some tree → IsTrue (is_typed sc.names tree) → IsTrue (test (ty_of tree)) → IsTrue (expr_fits sc test (record { 0 = k }))
 found sc test k tree here typed passes =
-    subst (λ (o : Option ExprTree). IsTrue (found_fits sc.names test o)) (sym here) (both (is_typed sc.names tree) (test (ty_of tree)) typed passes)
+    subst (λ (o : Option ExprTree). IsTrue (found_fits sc.names test o)) (sym here) (and_both (is_typed sc.names tree) (test (ty_of tree)) typed passes)
 
 -- a test of the type of a value
 passing : (test : Option VarTy → Bool) (n : Names) (structs : ℕ) (w : Value) (tree : ExprTree) → SoundValue n structs w tree → IsTrue (test (var_type w.ty)) → IsTrue (test (ty_of tree))
@@ -55,7 +56,7 @@ tested_sound laws sc st a agrees here sound none =
     let s = laws.expressions sc.names st.env st.structs a agrees sound (none_left j.faults own none) in
     let w = s.value (span_of a) in
     let value = value_of j.operand in
-    let scalar = condition_type (length st.structs) value.ty value.null w.good (not_wrong wrong WrongType (span_of a) (none_right j.faults own none)) in
+    let scalar = condition_type (length st.structs) value.ty value.null w.good (no_fault wrong WrongType (span_of a) (none_right j.faults own none)) in
     (keeps_behind sc.names st j.structs s.same agrees, found sc is_scalar st.next (tested st a).tree here w.typed (passing is_scalar sc.names (length st.structs) value (tested st a).tree w scalar))
 
 -- a value for an object or a result, in the typed tree: of its type, and one that a value can have
@@ -72,7 +73,7 @@ fitted_sound laws sc st ty a agrees here sound good none =
     let own = fault_if wrong WrongType (span_of a) in
     let s = laws.expressions sc.names st.env st.structs a agrees sound (none_left j.faults own none) in
     let w = s.value (span_of a) in
-    let right = not_wrong wrong WrongType (span_of a) (none_right j.faults own none) in
+    let right = no_fault wrong WrongType (span_of a) (none_right j.faults own none) in
     let f = laws.values sc.names (length st.structs) ty value (value_tree (span_of a) j.operand) w good (structs_within st.env st.structs sc.names agrees) right in (
       keeps_behind sc.names st j.structs s.same agrees,
       record {
@@ -124,7 +125,7 @@ value_back laws sc st Void a returns agrees here sound none =
     let own = fault_if wrong WrongType (span_of a) in
     let s = laws.expressions sc.names st.env st.structs a agrees sound (none_left j.faults own none) in
     let w = s.value (span_of a) in
-    absurd (no_void (length st.structs) value.ty value.null w.good (not_wrong wrong WrongType (span_of a) (none_right j.faults own none)))
+    absurd (no_void (length st.structs) value.ty value.null w.good (no_fault wrong WrongType (span_of a) (none_right j.faults own none)))
 value_back laws sc st (Int t) a returns agrees here sound none =
     let p = fitted_sound laws sc st (Int t) a agrees here sound refl none in
     (p.0, p.1.fits (λ o. both_int (integer_of o) sc.result) (result_type sc.result t returns.is))
@@ -134,7 +135,7 @@ value_back laws sc st (Pointer e fixed) a returns agrees here sound none = let n
 
 pub given_back_sound : (laws : Laws) (sc : Scope) (st : State) (ty : «Type») (at : Span) (a : Option e.ExprTree) → Returns sc ty → Ready sc st (given_back st ty at a).state (given_back st ty at a).trees → IsTrue (option_sound a) → (given_back st ty at a).faults ≡ [] → Keeps sc.names st (given_back st ty at a).state × IsTrue (return_fits sc (given_back st ty at a).id)
 given_back_sound laws sc st ty at None returns r sound none =
-    let is = no_result sc.result ty returns.good returns.is (not_wrong (wants_value ty) WrongType at none) in
+    let is = no_result sc.result ty returns.good returns.is (no_fault (wants_value ty) WrongType at none) in
     (keeps_nowhere sc.names st r.agrees, rw is refl)
 given_back_sound laws sc st ty at (Some a) returns r sound none = value_back laws sc st ty a returns r.agrees r.stand.0 sound none
 
@@ -153,7 +154,7 @@ switched_sound laws sc st a agrees here sound none =
     let own = fault_if wrong WrongType (span_of a) in
     let s = laws.expressions sc.names st.env st.structs a agrees sound (none_left j.faults own none) in
     let w = s.value (span_of a) in
-    let is = switch_type (length st.structs) value.ty w.good (not_wrong wrong WrongType (span_of a) (none_right j.faults own none)) in
+    let is = switch_type (length st.structs) value.ty w.good (no_fault wrong WrongType (span_of a) (none_right j.faults own none)) in
     let test = promotes_to (kind_of value.ty).ty in
     record {
       keeps = keeps_behind sc.names st j.structs s.same agrees;

@@ -9,7 +9,7 @@ use Rattle.typed_tree.specs.Parts.{part_of, optional_part, for_init_parts, parts
 use Rattle.typed_tree.specs.StatementTree.{body_trees, section_trees}
 use Rattle.typed_tree.specs.TypeTests.{is_scalar}
 use Rattle.typed_tree.specs.WellFormedStatement.{Scope, any_type, expr_fits, option_fits, for_init_fits, promotes_to, is_sound, else_sound, all_sound, sections_sound, labels_of, labels_fit, label_fits, labels_distinct, same_label}
-use Rattle.typed_tree.proofs.WellFormedLemmas.{and_left, and_right}
+use Rattle.typed_tree.proofs.WellFormedLemmas.{and_left, and_right, and_both}
 use Rattle.declared_types.specs.declared.fault.FaultKind.TheVariants.{OutOfProfile}
 use Rattle.declared_types.specs.Structs.{Structs}
 use Rattle.typed_statements.specs.declared.context.Context.{Context}
@@ -18,7 +18,6 @@ use Rattle.typed_statements.specs.Labels.{Seen, none_seen, labelled}
 use Rattle.typed_statements.specs.Outermost.{State, tested, maybe_evaluated, maybe_tested}
 use Rattle.typed_statements.specs.Statements.{CheckedSections, checked, checked_else, checked_all, checked_sections, for_begun, switched, inside, looping, switching, with_structs}
 use Rattle.typed_expressions_law.specs.Agreement.{Agrees}
-use Rattle.typed_statements_law.proofs.ListLemmas.{none_left, none_right, not_wrong, both}
 use Rattle.typed_statements_law.proofs.Numbering.{goes_on, goes_one, goes_with}
 use Rattle.typed_statements_law.proofs.Walks.{begun_goes, maybe_tested_goes, maybe_evaluated_goes}
 use Rattle.typed_statements_law.proofs.StatementWalks.{goes, else_goes, all_go, sections_go}
@@ -26,6 +25,7 @@ use Rattle.typed_statements_law.proofs.Given.{Laws, Returns, Ready, Keeps, keeps
 use Rattle.typed_statements_law.proofs.Outermost.{evaluated_sound, tested_sound, maybe_evaluated_sound, maybe_tested_sound, given_back_sound, switched_sound}
 use Rattle.typed_statements_law.proofs.Declarations.{declared_sound, begun_sound}
 use Rattle.typed_statements_law.proofs.Labels.{is_fresh, labelled_sound, fresh_labels}
+use Rattle.declared_types_law.proofs.FaultLemmas.{none_left, none_right, no_fault}
 
 is_true : (b : Bool) → not b ≡ false → IsTrue b
 is_true true h = refl
@@ -72,7 +72,7 @@ mutual
       let yes_sound = is_sound sc (is_left c) c.in_loop q.tree in
       let no_sound = else_sound sc (is_left c) c.in_loop e.tree in (
         keeps_on sc.names st p.state e.state first.0 (keeps_on sc.names p.state q.state e.state second.0 third.0),
-        both (expr_fits sc is_scalar p.id) (yes_sound && no_sound) first.1 (both yes_sound no_sound second.1 third.1),
+        and_both (expr_fits sc is_scalar p.id) (yes_sound && no_sound) first.1 (and_both yes_sound no_sound second.1 third.1),
       )
   sound laws sc c st (s.while_true at a x) returns r given none =
       let p = tested st a in
@@ -80,7 +80,7 @@ mutual
       let first = tested_sound laws sc st a r.agrees r.stand.0 (and_left (expr_sound a) (stmt_sound x) given) (none_left p.faults q.faults none) in
       let after_test = ready_second sc st p.state q.state (p.tree ∷ []) q.trees (part_of role.Condition p.id ∷ []) (goes_one st _ _ _) first.0 r in
       let second = sound laws sc (looping c) p.state x returns after_test (and_right (expr_sound a) (stmt_sound x) given) (none_right p.faults q.faults none) in
-      (keeps_on sc.names st p.state q.state first.0 second.0, both (expr_fits sc is_scalar p.id) (is_sound sc true true q.tree) first.1 second.1)
+      (keeps_on sc.names st p.state q.state first.0 second.0, and_both (expr_fits sc is_scalar p.id) (is_sound sc true true q.tree) first.1 second.1)
   sound laws sc c st (s.do_while at x a) returns r given none =
       let q = checked (looping c) st x in
       let p = tested q.state a in
@@ -88,7 +88,7 @@ mutual
       let first = sound laws sc (looping c) st x returns ready_body (and_left (stmt_sound x) (expr_sound a) given) (none_left q.faults p.faults none) in
       let ready_test = ready_second sc st q.state p.state q.trees (p.tree ∷ []) (parts_of q.tree) (goes (looping c) st x) first.0 r in
       let second = tested_sound laws sc q.state a ready_test.agrees ready_test.stand.0 (and_right (stmt_sound x) (expr_sound a) given) (none_right q.faults p.faults none) in
-      (keeps_on sc.names st q.state p.state first.0 second.0, both (is_sound sc true true q.tree) (expr_fits sc is_scalar p.id) first.1 second.1)
+      (keeps_on sc.names st q.state p.state first.0 second.0, and_both (is_sound sc true true q.tree) (expr_fits sc is_scalar p.id) first.1 second.1)
   sound laws sc c st (s.for_each at i a u x) returns r given none =
       let b = for_begun (inside st) i in
       let p = maybe_tested b.state a in
@@ -116,10 +116,10 @@ mutual
       let body_sound = is_sound sc true true d.tree in
       let update_fits = option_fits sc any_type q.id in
       let test_fits = option_fits sc is_scalar p.id in
-      (keeps_scope sc.names st d.state keeps, both (for_init_fits sc b.init) (test_fits && (update_fits && body_sound)) first.1 (both test_fits (update_fits && body_sound) second.1 (both update_fits body_sound third.1 fourth.1)))
+      (keeps_scope sc.names st d.state keeps, and_both (for_init_fits sc b.init) (test_fits && (update_fits && body_sound)) first.1 (and_both test_fits (update_fits && body_sound) second.1 (and_both update_fits body_sound third.1 fourth.1)))
   sound laws sc c st (s.give_back at a) returns r given none = given_back_sound laws sc st c.result at a returns r given none
-  sound laws sc c st (s.stop_loop at) returns r given none = (keeps_nowhere sc.names st r.agrees, is_true (is_left c) (not_wrong (not (is_left c)) OutOfProfile at none))
-  sound laws sc c st (s.next_turn at) returns r given none = (keeps_nowhere sc.names st r.agrees, is_true c.in_loop (not_wrong (not c.in_loop) OutOfProfile at none))
+  sound laws sc c st (s.stop_loop at) returns r given none = (keeps_nowhere sc.names st r.agrees, is_true (is_left c) (no_fault (not (is_left c)) OutOfProfile at none))
+  sound laws sc c st (s.next_turn at) returns r given none = (keeps_nowhere sc.names st r.agrees, is_true c.in_loop (no_fault (not c.in_loop) OutOfProfile at none))
   sound laws sc c st (s.switch at a xs) returns r given none =
       let p = switched st a in
       let q = checked_sections (switching c) p.kind none_seen p.state xs in
@@ -129,8 +129,8 @@ mutual
       let labels = labels_of (section_trees q.sections) in
       let all = sections_sound sc c.in_loop (section_trees q.sections) in (
         keeps_on sc.names st p.state q.state first.keeps second.keeps,
-        both (expr_fits sc (promotes_to p.kind.ty) p.id) (labels_fit p.kind.ty labels && all) first.fits
-            (both (labels_fit p.kind.ty labels) all (both (list_all (label_fits p.kind.ty) labels) (labels_distinct labels) second.fit second.distinct) second.sound),
+        and_both (expr_fits sc (promotes_to p.kind.ty) p.id) (labels_fit p.kind.ty labels && all) first.fits
+            (and_both (labels_fit p.kind.ty labels) all (and_both (list_all (label_fits p.kind.ty) labels) (labels_distinct labels) second.fit second.distinct) second.sound),
       )
 
   otherwise_sound : (laws : Laws) (sc : Scope) (c : Context) (st : State) (x : s.ElseTree) → Returns sc c.result → Ready sc st (checked_else c st x).state (checked_else c st x).trees → IsTrue (other_sound x) → (checked_else c st x).faults ≡ [] → Keeps sc.names st (checked_else c st x).state × IsTrue (else_sound sc (is_left c) c.in_loop (checked_else c st x).tree)
@@ -147,7 +147,7 @@ mutual
       let ready_rest = ready_second sc st one.state rest.state one.trees rest.trees (parts_of one.tree) (goes c st x) first.0 r in
       let second = statements_sound laws sc c one.state xs returns ready_rest (and_right (stmt_sound x) (stmts_sound xs) given) (none_right one.faults rest.faults none) in (
         keeps_on sc.names st one.state rest.state first.0 second.0,
-        both (is_sound sc (is_left c) c.in_loop one.tree) (all_sound sc (is_left c) c.in_loop (body_trees rest.bodies)) first.1 second.1,
+        and_both (is_sound sc (is_left c) c.in_loop one.tree) (all_sound sc (is_left c) c.in_loop (body_trees rest.bodies)) first.1 second.1,
       )
 
   parts_are_sound : (laws : Laws) (sc : Scope) (c : Context) (kind : Kind) (seen : Seen) (st : State) (xs : s.SectionTrees) → Returns sc c.result → is_left c ≡ true → IsTrue kind.compared → Ready sc st (checked_sections c kind seen st xs).state (checked_sections c kind seen st xs).trees → IsTrue (parts_sound xs) → (checked_sections c kind seen st xs).faults ≡ [] → SoundSections sc c.in_loop kind seen st (checked_sections c kind seen st xs)
@@ -172,8 +172,8 @@ mutual
       let body = subst (λ (b : Bool). IsTrue (all_sound sc b c.in_loop (body_trees one.bodies))) out k.1 in
       record {
         keeps = keeps_on sc.names st one.state others.state first second.keeps;
-        sound = both (all_sound sc true c.in_loop (body_trees one.bodies)) (sections_sound sc c.in_loop (section_trees others.sections)) body second.sound;
-        fit = both (label_fits kind.ty l.label) (list_all (label_fits kind.ty) labels) named.fits second.fit;
-        distinct = both (not (list_any (same_label l.label) labels)) (labels_distinct labels) apart.0 second.distinct;
-        fresh = both (is_fresh seen l.label) (list_all (is_fresh seen) labels) named.fresh apart.1;
+        sound = and_both (all_sound sc true c.in_loop (body_trees one.bodies)) (sections_sound sc c.in_loop (section_trees others.sections)) body second.sound;
+        fit = and_both (label_fits kind.ty l.label) (list_all (label_fits kind.ty) labels) named.fits second.fit;
+        distinct = and_both (not (list_any (same_label l.label) labels)) (labels_distinct labels) apart.0 second.distinct;
+        fresh = and_both (is_fresh seen l.label) (list_all (is_fresh seen) labels) named.fresh apart.1;
       }

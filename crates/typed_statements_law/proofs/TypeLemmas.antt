@@ -16,13 +16,12 @@ use Rattle.typed_tree.specs.TypeTests.{place_of, same_int, same_bool, same_elem,
 use Rattle.typed_tree.specs.WellFormed.{is_variable_type}
 use Rattle.typed_tree.specs.WellFormedExpression.{is_elem}
 use Rattle.typed_tree.specs.WellFormedStatement.{promotes_to}
-use Rattle.typed_tree.proofs.WellFormedLemmas.{and_left, and_right}
+use Rattle.typed_tree.proofs.WellFormedLemmas.{and_left, and_right, and_both}
 use Rattle.typed_expressions.specs.Operands.{var_type}
 use Rattle.typed_expressions.specs.StructInfos.{object_type_of}
 use Rattle.typed_statements.specs.Labels.{kind_of, is_no_integer}
 use Rattle.typed_statements.specs.Outermost.{is_no_condition}
 use Rattle.declared_types_law.specs.Types.{is_good, is_variable}
-use Rattle.typed_statements_law.proofs.ListLemmas.{both}
 
 -- ---- objects
 
@@ -46,7 +45,7 @@ variable_type structs more Void within h = cc
 variable_type structs more (Int t) within h = refl
 variable_type structs more (Struct n) within h = grind (arith, nat_tests, within, h)
 variable_type structs more (Array e count) within h =
-    both (is_elem more (Some e)) (nat_le 1 count)
+    and_both (is_elem more (Some e)) (nat_le 1 count)
     (elem_more structs more e within (and_left (is_elem structs (Some e)) (nat_le 1 count) h))
     (and_right (is_elem structs (Some e)) (nat_le 1 count) h)
 variable_type structs more (Pointer e fixed) within h = elem_more structs more e within h
@@ -70,8 +69,8 @@ same_elem_self (elem.Struct n) = same_number n
 pub same_type_self : (t : VarTy) → IsTrue (same_type t t)
 same_type_self (v.Int t) = same_int_self t
 same_type_self (v.Struct n) = same_number n
-same_type_self (v.Array e count) = both (same_elem e e) (nat_eq count count) (same_elem_self e) (same_number count)
-same_type_self (v.Pointer e fixed) = both (same_elem e e) (same_bool fixed fixed) (same_elem_self e) (same_bool_self fixed)
+same_type_self (v.Array e count) = and_both (same_elem e e) (nat_eq count count) (same_elem_self e) (same_number count)
+same_type_self (v.Pointer e fixed) = and_both (same_elem e e) (same_bool fixed fixed) (same_elem_self e) (same_bool_self fixed)
 
 -- ---- values
 

@@ -12,8 +12,8 @@ use Rattle.typed_tree.specs.declared.types.VarTy.TheVariants as v
 use Rattle.typed_tree.specs.Cells as typed
 use Rattle.typed_tree.specs.ExpressionTree.{ExprTree}
 use Rattle.typed_tree.specs.StatementTree.{body_trees}
-use Rattle.typed_tree.specs.Parts.{all_parts}
-use Rattle.typed_tree.specs.WellFormed.{are_consecutive, cells_fit, is_variable_type, is_small}
+use Rattle.typed_tree.specs.Parts.{all_parts, all_variables}
+use Rattle.typed_tree.specs.WellFormed.{are_consecutive, are_rising, cells_fit, is_variable_type, is_small}
 use Rattle.typed_tree.specs.WellFormedExpression.{Names}
 use Rattle.typed_tree.specs.WellFormedStatement.{all_sound}
 use Rattle.declared_types.specs.Objects.{size_faults}
@@ -41,6 +41,8 @@ is_sound_variable structs x = is_variable_type (length structs) (object_type_of 
 pub record SoundBody (n : Names) (all : List ExprTree) (result : Option IntType) (st : State) (b : CheckedAll) : Type 0 where
   pub sound : IsTrue (all_sound (record { names = n; exprs = all; result = result }) false false (body_trees b.bodies))
   pub numbered : IsTrue (are_consecutive (all_parts (body_trees b.bodies)) (length all))
+  -- declarators name the variables behind those that there were, each once
+  pub rising : IsTrue (are_rising (length st.env.variables) (all_variables (body_trees b.bodies)))
   -- nothing of the file has changed
   pub structs : b.state.structs ≡ st.structs
   pub file : b.state.env.file ≡ st.env.file

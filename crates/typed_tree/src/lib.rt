@@ -27,6 +27,3 @@ pub use statement::{
 pub use typed::Typed;
 pub use types::{Field, Fields, StructInfo, VarTy};
 pub use variable::{Cells, TypedGlobal, Var, Vars};
-
-#[cfg(test)]
-mod tests;
