@@ -1,0 +1,23 @@
+//! The normal form: programs as single steps, in which calls are statements and expressions only
+//! read.
+#![tactic(auto)]
+
+mod boot;
+mod expression;
+mod function;
+mod global;
+mod monitor;
+mod place;
+mod program;
+mod slave;
+mod statement;
+
+pub use boot::Boot;
+pub use expression::Expr;
+pub use function::CoreFn;
+pub use global::GlobalVar;
+pub use monitor::{Bind, Entry, MonitorProgram};
+pub use place::{Place, Root};
+pub use program::{CoreProgram, Signatures};
+pub use slave::SlaveProgram;
+pub use statement::Stmt;
