@@ -1,19 +1,18 @@
 -- The meaning of calls by recursion (C99 6.5.2.2), within a depth and a budget of turns.
-use Rattle.std.specs.Prelude.{ℕ, zero, suc, ◌+◌, Bool, ◌||◌, List, [], ◌∷◌, Option, Some, None, map, if◌then◌else◌, nat_eq, unwrap_or, option_map}
+use Rattle.std.specs.Prelude.{ℕ, zero, suc, ◌+◌, ℤ, true, false, ◌||◌, List, [], ◌∷◌, Option, Some, None, map, if◌then◌else◌, nat_eq, unwrap_or, option_map}
 use Rattle.std.specs.List.{find}
 use Rattle.std.specs.Map.{lookup}
 use Rattle.pt_base.specs.declared.int_type.IntType.{IntType}
 use Rattle.pt_base.specs.declared.span.Span.{Span}
 use Rattle.pt_base.specs.declared.trap.Trap.TheVariants.{Depth, NoReturn}
 use Rattle.pt_tree.specs.declared.signature.Signature.{Signature}
-use Rattle.typed_tree.specs.declared.types.VarTy.{VarTy}
 use Rattle.runs.specs.State.{gives, trapped, ◌>>=◌, take_turn, guarded_event, noted, answer_of, after_answer}
 use Rattle.block_memory.specs.declared.cell.Cell.{Cell}
 use Rattle.block_memory.specs.declared.cell.Cell.TheVariants as cell
 use Rattle.block_memory.specs.declared.cell.BlockName.TheVariants.{Local}
 use Rattle.block_memory.specs.Block.{with_cell}
 use Rattle.block_memory.specs.Blocks.{Blocks, put, with_frame, without_frames}
-use Rattle.pt_core.specs.CodeTree.{FunctionTree, GlobalTree, ProgramTree, no_stmts}
+use Rattle.pt_core.specs.CodeTree.{FunctionTree, ProgramTree, no_stmts}
 use Rattle.pt_core.specs.Types.{Context, shape_of}
 use Rattle.pt_core.specs.Values.{number_in}
 use Rattle.pt_core.specs.Statements.{State, Outcome, Frame, Calls, Flow, goes_on, broke, continues, returned, with_blocks, do_all}

@@ -1,7 +1,6 @@
 -- The meaning of statements by recursion: one equation for each form.
-use Rattle.std.specs.Prelude.{ℕ, zero, suc, List, [], ◌∷◌, Option, Some, None, Result, Ok, Err, if◌then◌else◌}
+use Rattle.std.specs.Prelude.{ℕ, zero, suc, Bool, List, Option, Some, None, Result, Ok, Err, if◌then◌else◌}
 use Rattle.pt_base.specs.declared.span.Span.{Span}
-use Rattle.typed_tree.specs.declared.types.VarTy.{VarTy}
 use Rattle.typed_tree.specs.Sizes.{sizes_of, cells_by}
 use Rattle.runs.specs.State as r
 use Rattle.runs.specs.State.{gives, trapped, spent, ◌>>=◌, take_turn}
@@ -11,7 +10,7 @@ use Rattle.block_memory.specs.Block.{fresh}
 use Rattle.block_memory.specs.Blocks.{Blocks, put}
 use Rattle.pt_core.specs.CodeTree.{PlaceTree, ExprTree, StmtTree, clear, check, assign, copy, call, choose, repeat, break_out, continue_on, give_back, StmtTrees, no_stmts, stmt_and}
 use Rattle.pt_core.specs.Types.{Context, type_at, shape_of}
-use Rattle.pt_core.specs.Values.{Stop, ◌>>?◌, Location, holds_in, value_of, values_of, location_of, cells_at, written, all_written}
+use Rattle.pt_core.specs.Values.{Stop, ◌>>?◌, holds_in, value_of, values_of, location_of, cells_at, written, all_written}
 
 abbrev pub State : Type 0
 State = r.State Blocks
@@ -107,8 +106,8 @@ abbrev mutual
   does (copy to of) f calls st = moves (copied f.context f.depth to of st.memory) st
   does (call callee args result s) f calls st =
       evaluated (values_of f.context f.depth args st.memory) st (λ vs st1. calls f s callee vs st1 >>= kept_in f result)
-  does (choose e yes no) f calls st =
-      evaluated (value_of f.context f.depth e st.memory) st (λ v. if holds_in v then do_all yes f calls else do_all no f calls)
+  does (choose e first second) f calls st =
+      evaluated (value_of f.context f.depth e st.memory) st (λ v. if holds_in v then do_all first f calls else do_all second f calls)
   does (repeat body s) f calls st = looped st.left (do_all body f calls) st
   does break_out f calls st = gives broke st
   does continue_on f calls st = gives continues st

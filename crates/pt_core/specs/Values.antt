@@ -1,7 +1,7 @@
 -- The values of expressions and the places of objects, over block_memory's own blocks and cells. To
 -- evaluate changes nothing; it gives a value, or stops at a trap. Where a number is wanted a handle counts
 -- as 0.
-use Rattle.std.specs.Prelude.{ℕ, ℤ, pos, Bool, true, false, not, List, [], ◌∷◌, Option, Some, None, Result, Ok, Err, if◌then◌else◌, slice_index_or, take, drop}
+use Rattle.std.specs.Prelude.{ℕ, ◌+◌, ℤ, pos, Bool, true, false, not, List, [], ◌∷◌, Option, Some, None, Result, Ok, Err, if◌then◌else◌, slice_index_or, take, drop}
 use Rattle.std.specs.Ordering.{int_eq}
 use Rattle.pt_base.specs.declared.int_type.IntType.{IntType}
 use Rattle.pt_base.specs.declared.span.Span.{Span}
@@ -11,7 +11,8 @@ use Rattle.pt_int.specs.Conversion.{conv}
 use Rattle.pt_int.specs.Operator.{binary_of, unary_of, truth, is_shift}
 use Rattle.typed_tree.specs.declared.types.VarTy.{VarTy}
 use Rattle.typed_tree.specs.declared.types.VarTy.TheVariants.{Int, Struct, Array, Pointer}
-use Rattle.typed_tree.specs.Sizes.{sizes_of, elem_cells, cells_by, offset_of}
+use Rattle.typed_tree.specs.declared.types.StructInfo.{StructInfo}
+use Rattle.typed_tree.specs.Sizes.{sizes_of, elem_cells, offset_of}
 use Rattle.typed_tree.specs.TypeTests.{same_int, type_of_elem}
 use Rattle.runs.specs.Pointers.{Target, moved, directed, reached, compared, difference}
 use Rattle.block_memory.specs.declared.cell.Cell.{Cell}
@@ -22,7 +23,7 @@ use Rattle.block_memory.specs.declared.cell.BlockName.TheVariants.{Local, Global
 use Rattle.block_memory.specs.Block.{with_cell}
 use Rattle.block_memory.specs.Blocks.{Blocks, is_same_name, put}
 use Rattle.pt_core.specs.CodeTree.{RootTree, local, global, deref, PlaceTree, place, ExprTree, constant, read, unary, binary, convert, null, address, decay, move, compare, difference as difference_of, ExprTrees, no_exprs, expr_and}
-use Rattle.pt_core.specs.Types.{Context, type_of, type_at, field_type, pointee_cells}
+use Rattle.pt_core.specs.Types.{Context, type_of, type_at, global_type, field_type, pointee_cells}
 
 -- ---- cells
 
@@ -101,13 +102,14 @@ pub record Location : Type 0 where
   pub cell : ℕ
   pub ty : VarTy
 
+-- at which cell of an object of this type a field begins
+abbrev pub offset_in : List StructInfo → VarTy → ℕ → ℕ
+offset_in structs (Struct n) k = offset_of structs n k
+offset_in structs ty k = 0
+
 -- a field of an object
 abbrev pub field_at : Context → ℕ → Location → Location
-field_at c k at = record { block = at.block; cell = at.cell + offset_in c at.ty k; ty = field_type c.structs at.ty k }
-  where
-    offset_in : Context → VarTy → ℕ → ℕ
-    offset_in c (Struct n) k = offset_of c.structs n k
-    offset_in c ty k = 0
+field_at c k at = record { block = at.block; cell = at.cell + offset_in c.structs at.ty k; ty = field_type c.structs at.ty k }
 
 abbrev pub along : Context → List ℕ → Location → Location
 along c [] at = at
@@ -158,7 +160,7 @@ abbrev mutual
 
   pub root_location : Context → ℕ → RootTree → Blocks → Result Location Stop
   root_location c depth (local v) blocks = Ok (record { block = Local depth v; cell = 0; ty = type_at c.variables v })
-  root_location c depth (global g) blocks = Ok (record { block = Global g; cell = 0; ty = type_at c.globals g })
+  root_location c depth (global g) blocks = Ok (record { block = Global g; cell = 0; ty = global_type c g })
   root_location c depth (deref p s) blocks = value_of c depth p blocks >>? pointee c s (type_of c p)
 
 -- arguments, from the left
