@@ -1,16 +1,17 @@
 -- What a well formed program computes is of the kinds that its types say.
-use Rattle.std.specs.Prelude.{◌≡◌, ◌≤◌, ℕ, List, [], ◌∷◌, Bool, Option, Some, None, IsTrue, map, option_map, slice_get}
+use Rattle.std.specs.Prelude.{◌≡◌, ◌≤◌, ℕ, false, List, [], ◌∷◌, Bool, Option, Some, None, IsTrue, map, option_map, slice_get}
 use Rattle.pt_base.specs.declared.span.Span.{Span}
 use Rattle.pt_tree.specs.declared.signature.Param.{Param}
 use Rattle.typed_tree.specs.declared.types.VarTy.{VarTy}
-use Rattle.typed_tree.specs.declared.types.VarTy.TheVariants.{Int}
+use Rattle.typed_tree.specs.declared.types.VarTy.TheVariants.{Int, Struct}
+use Rattle.typed_tree.specs.declared.types.StructInfo.{StructInfo}
 use Rattle.typed_tree.specs.ExpressionTree.{ExprTree, PlaceTree}
-use Rattle.typed_tree.specs.WellFormedExpression.{Names, is_typed, ty_of, place_type, place_fits, param_type}
+use Rattle.typed_tree.specs.WellFormedExpression.{Names, is_typed, ty_of, field_type, place_type, place_fits, param_type}
 use Rattle.runs.specs.State.{gives, trapped, spent}
 use Rattle.source_meaning.specs.State.{State, Outcome}
 use Rattle.source_meaning.specs.Values.{Value, Location}
 use Rattle.source_meaning.specs.Expressions.{Frame, Calls, Context, value_of, location_of}
-use Rattle.source_soundness.specs.Worlds.{World, Fits, ValueFits, LocationFits}
+use Rattle.source_soundness.specs.Worlds.{World, Fits, ValueFits, LocationFits, is_pointer}
 
 -- where a part of a run gives something, that is so, and the memory still fits
 abbrev pub Keeps : {A : Type 0} → World → (A → Type 0) → Outcome A → Type 0
@@ -31,9 +32,15 @@ CallsFit w n frame calls = (s : Span) (f : ℕ) (vs : List Value) (st : State) (
     slice_get n.signatures f ≡ Some signature → ArgumentsFit w signature.params vs → Fits w st.memory →
     Keeps w (ValueFits w (option_map Int signature.result)) (calls frame s f vs st)
 
+-- no field is a pointer
+abbrev pub FieldsArePlain : List StructInfo → Type 0
+FieldsArePlain structs = (k j : ℕ) (ty : VarTy) → field_type structs (Some (Struct k)) j ≡ Some ty → is_pointer ty ≡ false
+
 -- the context names what the function's code names, and runs at the world's depth
 pub record ContextFits (w : World) (n : Names) (c : Context) : Type 0 where
   pub structs : c.structs ≡ n.structs
+  pub plain : FieldsArePlain n.structs
+  pub plain_globals : (g : ℕ) (ty : VarTy) → slice_get c.globals g ≡ Some ty → is_pointer ty ≡ false
   pub globals : c.globals ≡ map (λ g. g.var.ty) n.globals
   pub variables : c.variables ≡ map (λ x. x.ty) n.vars
   pub known : w.globals ≡ c.globals

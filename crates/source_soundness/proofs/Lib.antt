@@ -1,0 +1,6 @@
+mod Memories
+mod Objects
+mod Operators
+mod Soundness
+mod Steps
+mod Tests
