@@ -2,5 +2,6 @@ mod Memories
 mod Objects
 mod Operators
 mod Soundness
+mod StatementSoundness
 mod Steps
 mod Tests

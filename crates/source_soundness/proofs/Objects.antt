@@ -53,7 +53,7 @@ set_first cells k c d h e = ap (λ i. slice_set cells i d) e ∙ ap (λ xs. slic
 -- what an object holds is of its type
 loaded_as : (w : World) (c : Context) (at : Location) (st : State) (in_ ty : VarTy) → Fits w st.memory → type_in w at.block ≡ Some in_ → depth_of at.block ≤ w.depth → PartFits at.cell in_ ty → IsTrue (is_value (Some ty)) → ValueFits w (Some ty) (loaded c at ty st)
 loaded_as w c at st in_ (Int t) h live low part v =
-    (read st.memory at.block at.cell, refl, numbers_get (st.memory at.block) at.cell (numbers_in w (depth_of at.block) in_ (st.memory at.block) (plain_part at.cell in_ (Int t) part refl) (h at.block in_ live)))
+    numbers_get (st.memory at.block) at.cell (numbers_in w (depth_of at.block) in_ (st.memory at.block) (plain_part at.cell in_ (Int t) part refl) (h at.block in_ live))
 loaded_as w c at st in_ (Struct n) h live low part v =
     (cells_at st at (cells_by (sizes c) (Struct n)), refl, numbers_take (cells_by (sizes c) (Struct n)) (drop at.cell (st.memory at.block))
     (numbers_drop at.cell (st.memory at.block) (numbers_in w (depth_of at.block) in_ (st.memory at.block) (plain_part at.cell in_ (Struct n) part refl) (h at.block in_ live))))
@@ -73,8 +73,9 @@ loaded_fits w c at st ty l v h =
 
 -- what is stored is of the object's type
 stored_as : (w : World) (m : Memory) (at : Location) (v : Value) (in_ ty : VarTy) → Fits w m → type_in w at.block ≡ Some in_ → PartFits at.cell in_ ty → (is_pointer ty ≡ true → depth_of at.block ≡ w.depth) → ValueFits w (Some ty) v → Fits w (stored_in m at v)
-stored_as w m at v in_ (Int t) h live part own fit =
-    subst (λ x. Fits w (stored_in m at x)) (sym fit.1) (number_written w m at.block at.cell fit.0 in_ h live (plain_part at.cell in_ (Int t) part refl) fit.2)
+stored_as w m at (holds c) in_ (Int t) h live part own fit = number_written w m at.block at.cell c in_ h live (plain_part at.cell in_ (Int t) part refl) fit
+stored_as w m at (whole cells) in_ (Int t) h live part own fit = absurd fit
+stored_as w m at nothing in_ (Int t) h live part own fit = h
 stored_as w m at v in_ (Struct n) h live part own fit =
     subst (λ x. Fits w (stored_in m at x)) (sym fit.1) (numbers_written w m at.block at.cell fit.0 in_ h live (plain_part at.cell in_ (Struct n) part refl) fit.2)
 stored_as w m at v in_ (Array elem count) h live part own fit = absurd fit

@@ -45,13 +45,15 @@ moves w d amount (pointer block base count index) h = go (moved_index count inde
 -- ---- values that fit
 
 pub number_of_int : (w : World) (t : IntType) (v : Value) → ValueFits w (Some (Int t)) v → IsNumber (cell_of v)
-number_of_int w t v h = subst (λ x. IsNumber (cell_of x)) (sym h.1) h.2
+number_of_int w t (holds c) h = h
+number_of_int w t (whole cells) h = absurd h
+number_of_int w t nothing h = tt
 
 pub scoped_of_pointer : (w : World) (e : Elem) (f : Bool) (v : Value) → ValueFits w (Some (Pointer e f)) v → IsScoped w w.depth (cell_of v)
 scoped_of_pointer w e f v h = subst (λ x. IsScoped w w.depth (cell_of x)) (sym h.1) h.2
 
 pub int_fits : (w : World) (t : IntType) (c : Cell) → IsNumber c → ValueFits w (Some (Int t)) (holds c)
-int_fits w t c h = (c, refl, h)
+int_fits w t c h = h
 
 pub pointer_fits : (w : World) (e : Elem) (f : Bool) (c : Cell) → IsScoped w w.depth c → ValueFits w (Some (Pointer e f)) (holds c)
 pointer_fits w e f c h = (c, refl, h)
@@ -69,7 +71,7 @@ abbrev pub FitsAs : World → Option VarTy → Cell → Type 0
 FitsAs w t c = ValueFits w t (holds c)
 
 as_ints : (w : World) (t : IntType) (r : Result Cell Trap) → Gives IsNumber r → Gives (FitsAs w (Some (Int t))) r
-as_ints w t (Ok c) h = (c, refl, h)
+as_ints w t (Ok c) h = h
 as_ints w t (Err trap) h = tt
 
 as_pointers : (w : World) (e : Elem) (f : Bool) (r : Result Cell Trap) → Gives (IsScoped w w.depth) r → Gives (FitsAs w (Some (Pointer e f))) r
@@ -102,7 +104,7 @@ unary_gives w u.Minus a t c h = promoted_unary w u.Minus a t c h
 unary_gives w u.Plus a t c h = promoted_unary w u.Plus a t c h
 unary_gives w u.Flip a t c h = promoted_unary w u.Flip a t c h
 unary_gives w u.Not a t c h =
-    at_type w r.int t (unary_cell u.Not (type_or_int a) c) (sym (equal_options t r.int (right (is_scalar a) (same_types t r.int) h))) (number (truth (not (holds_in c))), refl, tt)
+    at_type w r.int t (unary_cell u.Not (type_or_int a) c) (sym (equal_options t r.int (right (is_scalar a) (same_types t r.int) h))) tt
 
 pub converted_fits : (w : World) (a t : Option VarTy) (v : Value) → converts a t ≡ true → ValueFits w a v → ValueFits w t (converted (type_or_int t) v)
 converted_fits w (Some (Int a)) (Some (Int b)) v h fit = number_conv v (number_of_int w a v fit)
@@ -111,7 +113,7 @@ converted_fits w (Some (Int a)) (Some (Int b)) v h fit = number_conv v (number_o
     number_conv v n = go (cell_of v) n
       where
         go : (c : Cell) → IsNumber c → ValueFits w (Some (Int b)) (holds (converted_cell (Int b) c))
-        go (number x) n = (number (conv b x), refl, tt)
+        go (number x) n = tt
         go null n = absurd n
         go (pointer block base count index) n = absurd n
 converted_fits w (Some (Pointer a f)) (Some (Pointer b g)) v h fit = (cell_of v, refl, scoped_of_pointer w a f v fit)

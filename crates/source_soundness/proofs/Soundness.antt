@@ -59,11 +59,11 @@ keeps_cell : (w : World) (ty : Option VarTy) (s : Span) (o : Result Cell Trap) (
 keeps_cell w ty s (Ok c) st h m = (h, m)
 keeps_cell w ty s (Err trap) st h m = tt
 
-keeps_either : {A : Type 0} (w : World) (Q : A → Type 0) (b : Bool) (first second : State → Outcome A) (st : State) → Keeps w Q (first st) → Keeps w Q (second st) → Keeps w Q ((if b then first else second) st)
+pub keeps_either : {A : Type 0} (w : World) (Q : A → Type 0) (b : Bool) (first second : State → Outcome A) (st : State) → Keeps w Q (first st) → Keeps w Q (second st) → Keeps w Q ((if b then first else second) st)
 keeps_either w Q true first second st h k = h
 keeps_either w Q false first second st h k = k
 
-keeps_branch : {A : Type 0} (w : World) (Q : A → Type 0) (b : Bool) (first second : Outcome A) → Keeps w Q first → Keeps w Q second → Keeps w Q (if b then first else second)
+pub keeps_branch : {A : Type 0} (w : World) (Q : A → Type 0) (b : Bool) (first second : Outcome A) → Keeps w Q first → Keeps w Q second → Keeps w Q (if b then first else second)
 keeps_branch w Q true first second h k = h
 keeps_branch w Q false first second h k = k
 
@@ -124,10 +124,10 @@ object_of (Some (Struct a)) (Some (Array b n)) h = never h
 -- ---- values
 
 truth_fits : (w : World) (b : Bool) → ValueFits w r.int (truth_value b)
-truth_fits w b = (number (truth b), refl, tt)
+truth_fits w b = tt
 
 constant_is : (w : World) (v : ℤ) (t : Option VarTy) → IsTrue (constant_fits v (integer_of t)) → ValueFits w t (holds (number v))
-constant_is w v (Some (Int t)) h = (number v, refl, tt)
+constant_is w v (Some (Int t)) h = tt
 constant_is w v None h = never h
 constant_is w v (Some (Struct n)) h = never h
 constant_is w v (Some (Array a n)) h = never h
@@ -155,7 +155,7 @@ object_addressed w at elem l = (l.in_, l.live, plain_part at.cell l.in_ at.ty l.
 
 -- ---- stores
 
-keeps_store : (w : World) (at : Location) (v : Value) (ty : VarTy) (st : State) → LocationFits w (Some ty) at → ValueFits w (Some ty) v → Fits w st.memory → Keeps w (ValueFits w (Some ty)) (store at v st)
+pub keeps_store : (w : World) (at : Location) (v : Value) (ty : VarTy) (st : State) → LocationFits w (Some ty) at → ValueFits w (Some ty) v → Fits w st.memory → Keeps w (ValueFits w (Some ty)) (store at v st)
 keeps_store w at v ty st l fit m = (fit, stored_fits w st.memory at v ty l fit m)
 
 -- what is read of an integer or a pointer, as its promoted type
@@ -226,7 +226,7 @@ unit_storable : (w : World) (ss : List ℕ) (ty : VarTy) (back : Bool) (old : Ce
 unit_storable w ss (Int t) back old h fit = each (stepped ss (Int t) (unit_step (Int t) back) old (number (pos 1))) (number_of_step w ss t back old)
   where
     each : (o : Result Cell Trap) → Gives IsNumber o → Gives (Storable w (Int t)) o
-    each (Ok (number v)) k = (converted_cell (Int t) (number v), refl, tt)
+    each (Ok (number v)) k = tt
     each (Ok null) k = absurd k
     each (Ok (pointer block base count index)) k = absurd k
     each (Err trap) k = tt
@@ -240,27 +240,34 @@ unit_storable w ss (Array elem n) back old h fit = never h
 
 -- ---- where names lie
 
-names_variable : (w : World) (n : Names) (c : Context) (x : ℕ) (ty : VarTy) → ContextFits w n c → option_map (λ (y : Var). y.ty) (slice_get n.vars x) ≡ Some ty →
+own_live : (w : World) (x : ℕ) (ty : VarTy) → 1 ≤ w.depth → slice_get (w.frames w.depth) x ≡ Some ty → type_in w (local w.depth x) ≡ Some ty
+own_live w x ty active h = go (nat_le 1 w.depth) (nat_le w.depth w.depth) (grind (arith, nat_tests)) (grind (arith, nat_tests)) h
+  where
+    go : (a b : Bool) → a ≡ true → b ≡ true → slice_get (w.frames w.depth) x ≡ Some ty → (if a && b then slice_get (w.frames w.depth) x else None) ≡ Some ty
+    go true true p q h = h
+    go false b p q h = cc
+    go true false p q h = cc
+
+-- the type of a variable among those of its function
+pub entry_type : (w : World) (n : Names) (c : Context) (x : ℕ) (ty : VarTy) → ContextFits w n c → option_map (λ (y : Var). y.ty) (slice_get n.vars x) ≡ Some ty → slice_get c.variables x ≡ Some ty
+entry_type w n c x ty k is = ap (λ xs. slice_get xs x) k.variables ∙ got (λ (y : Var). y.ty) n.vars x ∙ is
+
+-- a variable of the function that runs is live
+pub names_live : (w : World) (n : Names) (c : Context) (x : ℕ) (ty : VarTy) → ContextFits w n c → option_map (λ (y : Var). y.ty) (slice_get n.vars x) ≡ Some ty → type_in w (local c.frame.depth x) ≡ Some ty
+names_live w n c x ty k is = subst (λ d. type_in w (local d x) ≡ Some ty) (sym k.at_depth) (own_live w x ty k.active (ap (λ xs. slice_get xs x) k.own ∙ entry_type w n c x ty k is))
+
+pub names_variable : (w : World) (n : Names) (c : Context) (x : ℕ) (ty : VarTy) → ContextFits w n c → option_map (λ (y : Var). y.ty) (slice_get n.vars x) ≡ Some ty →
     LocationFits w (Some ty) (record { block = local c.frame.depth x; cell = 0; ty = type_at c.variables x })
 names_variable w n c x ty k is =
-    let entry : slice_get c.variables x ≡ Some ty = ap (λ xs. slice_get xs x) k.variables ∙ got (λ (y : Var). y.ty) n.vars x ∙ is in
-    let ty_is : type_at c.variables x ≡ ty = got_or c.variables x ty (Int i.Int) entry in
+    let ty_is : type_at c.variables x ≡ ty = got_or c.variables x ty (Int i.Int) (entry_type w n c x ty k is) in
     record {
       has = ap Some (sym ty_is);
       in_ = ty;
-      live = subst (λ d. type_in w (local d x) ≡ Some ty) (sym k.at_depth) (own_live w x ty k.active (ap (λ xs. slice_get xs x) k.own ∙ entry));
+      live = names_live w n c x ty k is;
       shallow = subst (λ d. d ≤ w.depth) (sym k.at_depth) (omega arith);
       part = subst (λ z. PartFits 0 ty z) (sym ty_is) (whole_part ty);
       own = λ p. k.at_depth;
     }
-  where
-    own_live : (w : World) (x : ℕ) (ty : VarTy) → 1 ≤ w.depth → slice_get (w.frames w.depth) x ≡ Some ty → type_in w (local w.depth x) ≡ Some ty
-    own_live w x ty active h = go (nat_le 1 w.depth) (nat_le w.depth w.depth) (grind (arith, nat_tests)) (grind (arith, nat_tests)) h
-      where
-        go : (a b : Bool) → a ≡ true → b ≡ true → slice_get (w.frames w.depth) x ≡ Some ty → (if a && b then slice_get (w.frames w.depth) x else None) ≡ Some ty
-        go true true p q h = h
-        go false b p q h = cc
-        go true false p q h = cc
 
 names_global : (w : World) (n : Names) (c : Context) (g : ℕ) (ty : VarTy) → ContextFits w n c → option_map (λ (y : TypedGlobal). y.var.ty) (slice_get n.globals g) ≡ Some ty →
     LocationFits w (Some ty) (record { block = global g; cell = 0; ty = type_at c.globals g })

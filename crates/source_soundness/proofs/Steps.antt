@@ -49,7 +49,7 @@ abbrev IsInt : VarTy → Type 0
 IsInt ty = (t : IntType) × (Int t ≡ ty)
 
 number_fits : (w : World) (ty : VarTy) (r : Result Cell Trap) → IsInt ty → Gives IsNumber r → Gives (FitsAs w (Some ty)) r
-number_fits w ty (Ok c) is h = subst (λ t. FitsAs w (Some t) c) is.1 (c, refl, h)
+number_fits w ty (Ok c) is h = subst (λ t. FitsAs w (Some t) c) is.1 h
 number_fits w ty (Err trap) is h = tt
 
 arithmetic_int : (op : BinOp) (t : IntType) (a b : Option IntType) (ty : VarTy) → arithmetic_type op t a b ≡ Some ty → IsInt ty

@@ -54,10 +54,16 @@ CellsFit w d (Pointer elem fixed) cells = (c : Cell) × (cells ≡ c ∷ []) × 
 abbrev pub Fits : World → Memory → Type 0
 Fits w memory = (b : Block) (ty : VarTy) → type_in w b ≡ Some ty → CellsFit w (depth_of b) ty (memory b)
 
+-- a number; where a host gives none, it counts as 0
+abbrev pub IsInteger : Value → Type 0
+IsInteger (holds c) = IsNumber c
+IsInteger (whole cells) = ⊥
+IsInteger nothing = Unit {0}
+
 -- a value of this type, None being void
 abbrev pub ValueFits : World → Option VarTy → Value → Type 0
 ValueFits w None v = Unit {0}
-ValueFits w (Some (Int t)) v = (c : Cell) × (v ≡ holds c) × IsNumber c
+ValueFits w (Some (Int t)) v = IsInteger v
 ValueFits w (Some (Struct n)) v = (cells : List Cell) × (v ≡ whole cells) × AreNumbers cells
 ValueFits w (Some (Array elem count)) v = ⊥
 ValueFits w (Some (Pointer elem fixed)) v = (c : Cell) × (v ≡ holds c) × IsScoped w w.depth c
