@@ -1,3 +1,4 @@
+mod CallSoundness
 mod Memories
 mod Objects
 mod Operators

@@ -68,7 +68,7 @@ zeros : (k : ℕ) → AreNumbers (replicate k (number (pos 0)))
 zeros zero = tt
 zeros (suc k) = (tt, zeros k)
 
-cleared_fit : (w : World) (d : ℕ) (ss : List ℕ) (ty : VarTy) → CellsFit w d ty (cleared ss ty)
+pub cleared_fit : (w : World) (d : ℕ) (ss : List ℕ) (ty : VarTy) → CellsFit w d ty (cleared ss ty)
 cleared_fit w d ss (Int t) = (tt, tt)
 cleared_fit w d ss (Struct k) = zeros (cells_by ss (Struct k))
 cleared_fit w d ss (Array elem count) = zeros (cells_by ss (Array elem count))
