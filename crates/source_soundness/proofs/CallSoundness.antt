@@ -1,27 +1,21 @@
 -- Calls keep what fits: a function runs in a world one deeper, which is gone when it returns.
-use Rattle.std.proofs.Common.{◌≡◌, ◌∙◌, ◌≤◌, ◌<◌, ℕ, zero, suc, ◌+◌, pos, ℤ, refl, ap, sym, subst, arith, Bool, true, false, Option, Some, None, List, [], ◌∷◌, if◌then◌else◌, map, nat_eq, nat_le}
-use Rattle.std.specs.Prelude.{IsTrue, ◌&&◌, not, slice_get, get_or, option_map, unwrap_or}
-use Rattle.std.specs.List.{list_all}
+use Rattle.std.proofs.Common.{◌≡◌, ◌∙◌, ◌≤◌, ℕ, zero, suc, refl, ap, sym, subst, arith, Bool, true, false, Some, None, List, [], ◌∷◌, if◌then◌else◌, map, nat_eq, nat_le}
+use Rattle.std.specs.Prelude.{IsTrue, ◌&&◌, slice_get, get_or}
 use Rattle.std.proofs.lemmas.Bool.Decides.{nat_tests}
-use Rattle.pt_base.specs.declared.int_type.IntType.{IntType}
-use Rattle.pt_base.specs.declared.span.Span.{Span}
 use Rattle.pt_tree.specs.declared.signature.Param.{Param}
 use Rattle.pt_tree.specs.declared.signature.ParamKind.{ParamKind}
 use Rattle.pt_tree.specs.declared.signature.ParamKind.TheVariants as k
-use Rattle.pt_tree.specs.declared.signature.Signature.{Signature}
-use Rattle.runs.specs.State.{gives, trapped, spent, ◌>>=◌, take_turn}
 use Rattle.typed_tree.specs.declared.types.VarTy.{VarTy}
 use Rattle.typed_tree.specs.declared.types.VarTy.TheVariants.{Int, Struct, Array, Pointer}
 use Rattle.typed_tree.specs.declared.variable.Var.{Var}
 use Rattle.typed_tree.specs.TypeTests.{same_type, same_bool}
 use Rattle.typed_tree.specs.WellFormed.{params_lead}
 use Rattle.typed_tree.specs.WellFormedExpression.{param_type}
-use Rattle.source_meaning.specs.Memory.{Block, local, global, Cell, number, null, pointer, Memory, put, with_frame}
-use Rattle.source_meaning.specs.State.{State, Outcome}
-use Rattle.source_meaning.specs.Values.{Value, holds, whole, nothing, cell_of, cleared, frame_cells}
-use Rattle.source_meaning.specs.Functions.{is_local_of, without_locals}
-use Rattle.source_soundness.specs.Worlds.{World, type_in, depth_of, is_pointer, IsNumber, IsInteger, IsScoped, AreNumbers, CellsFit, Fits, ValueFits}
-use Rattle.source_soundness.specs.Laws.{Keeps, ArgumentsFit}
+use Rattle.source_meaning.specs.Memory.{Block, local, global, Cell, number, null, pointer, Memory, with_frame}
+use Rattle.source_meaning.specs.Values.{Value, cell_of, cleared, frame_cells}
+use Rattle.source_meaning.specs.Functions.{without_locals}
+use Rattle.source_soundness.specs.Worlds.{World, type_in, depth_of, IsScoped, CellsFit, Fits, ValueFits}
+use Rattle.source_soundness.specs.Laws.{ArgumentsFit}
 use Rattle.source_soundness.proofs.Tests.{left, right, never, equal_types}
 use Rattle.source_soundness.proofs.Operators.{number_of_int, scoped_of_pointer}
 use Rattle.source_soundness.proofs.StatementSoundness.{cleared_fit}

@@ -2,6 +2,8 @@ mod CallSoundness
 mod Memories
 mod Objects
 mod Operators
+mod ProgramFacts
+mod Programs
 mod Soundness
 mod StatementSoundness
 mod Steps

@@ -1,14 +1,13 @@
 -- What a memory that fits shows, and which changes keep that it fits.
-use Rattle.std.proofs.Common.{◌≡◌, ◌∙◌, ◌≤◌, ◌<◌, ℕ, zero, suc, ◌+◌, pos, nat_eq, nat_le, refl, ap, sym, subst, arith, Bool, true, false, Option, Some, None, List, [], ◌∷◌, ◌⊎◌, if◌then◌else◌}
-use Rattle.std.specs.Prelude.{IsTrue, ◌&&◌, slice_get, get_or, slice_set, slice_index_or, take, drop}
+use Rattle.std.proofs.Common.{◌≡◌, ◌∙◌, ℕ, zero, suc, ◌+◌, pos, nat_eq, refl, ap, sym, subst, arith, Bool, true, false, Some, List, [], ◌∷◌, if◌then◌else◌}
+use Rattle.std.specs.Prelude.{slice_set, slice_index_or, take, drop}
 use Rattle.std.proofs.lemmas.Bool.Decides.{nat_tests}
 use Rattle.typed_tree.specs.declared.types.VarTy.{VarTy}
 use Rattle.typed_tree.specs.declared.types.VarTy.TheVariants.{Int, Struct, Array, Pointer}
-use Rattle.source_meaning.specs.Memory.{Block, local, global, same_block, Cell, number, null, pointer, Memory, put, read, write}
-use Rattle.source_meaning.specs.Values.{Value, holds, whole, nothing, Location}
-use Rattle.source_meaning.specs.Expressions.{write_all, stored_in}
-use Rattle.source_soundness.specs.Worlds.{World, type_in, depth_of, is_pointer, IsNumber, IsScoped, AreNumbers, CellsFit, Fits, ValueFits, PartFits, LocationFits}
-use Rattle.source_soundness.proofs.Tests.{left, right, never}
+use Rattle.source_meaning.specs.Memory.{Block, local, global, same_block, Cell, number, Memory, put, write}
+use Rattle.source_meaning.specs.Expressions.{write_all}
+use Rattle.source_soundness.specs.Worlds.{World, type_in, depth_of, is_pointer, IsNumber, AreNumbers, CellsFit, Fits}
+use Rattle.source_soundness.proofs.Tests.{left, right}
 
 -- ---- lists of numbers
 

@@ -1,17 +1,17 @@
 -- Reading and writing objects.
-use Rattle.std.proofs.Common.{◌≡◌, ◌∙◌, ◌≤◌, ◌<◌, ℕ, zero, suc, ◌+◌, pos, nat_eq, nat_le, refl, ap, sym, subst, arith, Bool, true, false, Option, Some, None, List, [], ◌∷◌, if◌then◌else◌}
-use Rattle.std.specs.Prelude.{IsTrue, slice_set, slice_index_or, take, drop}
+use Rattle.std.proofs.Common.{◌≡◌, ◌∙◌, ◌≤◌, ℕ, pos, refl, ap, sym, subst, arith, true, false, Some, List, [], ◌∷◌}
+use Rattle.std.specs.Prelude.{IsTrue, slice_set, slice_index_or, drop}
 use Rattle.typed_tree.specs.declared.types.VarTy.{VarTy}
 use Rattle.typed_tree.specs.declared.types.VarTy.TheVariants.{Int, Struct, Array, Pointer}
 use Rattle.typed_tree.specs.Sizes.{cells_by}
 use Rattle.typed_tree.specs.TypeTests.{is_value}
-use Rattle.source_meaning.specs.Memory.{Block, local, global, Cell, number, null, pointer, Memory, put, read, write}
+use Rattle.source_meaning.specs.Memory.{Block, Cell, number, null, pointer, Memory}
 use Rattle.source_meaning.specs.State.{State}
 use Rattle.source_meaning.specs.Values.{Value, holds, whole, nothing, Location}
-use Rattle.source_meaning.specs.Expressions.{Context, sizes, loaded, cells_at, write_all, stored_in}
-use Rattle.source_soundness.specs.Worlds.{World, type_in, depth_of, is_pointer, IsNumber, IsScoped, AreNumbers, CellsFit, Fits, ValueFits, PartFits, LocationFits}
+use Rattle.source_meaning.specs.Expressions.{Context, sizes, loaded, cells_at, stored_in}
+use Rattle.source_soundness.specs.Worlds.{World, type_in, depth_of, is_pointer, IsScoped, CellsFit, Fits, ValueFits, PartFits, LocationFits}
 use Rattle.source_soundness.proofs.Tests.{never}
-use Rattle.source_soundness.proofs.Memories.{numbers_get, numbers_set, numbers_take, numbers_drop, numbers_in, put_fits, number_written, numbers_written}
+use Rattle.source_soundness.proofs.Memories.{numbers_get, numbers_take, numbers_drop, numbers_in, put_fits, number_written, numbers_written}
 
 -- a part that is no pointer lies in an object that is none
 pub plain_part : (cell : ℕ) (in_ ty : VarTy) → PartFits cell in_ ty → is_pointer ty ≡ false → is_pointer in_ ≡ false
@@ -54,9 +54,12 @@ set_first cells k c d h e = ap (λ i. slice_set cells i d) e ∙ ap (λ xs. slic
 loaded_as : (w : World) (c : Context) (at : Location) (st : State) (in_ ty : VarTy) → Fits w st.memory → type_in w at.block ≡ Some in_ → depth_of at.block ≤ w.depth → PartFits at.cell in_ ty → IsTrue (is_value (Some ty)) → ValueFits w (Some ty) (loaded c at ty st)
 loaded_as w c at st in_ (Int t) h live low part v =
     numbers_get (st.memory at.block) at.cell (numbers_in w (depth_of at.block) in_ (st.memory at.block) (plain_part at.cell in_ (Int t) part refl) (h at.block in_ live))
-loaded_as w c at st in_ (Struct n) h live low part v =
-    (cells_at st at (cells_by (sizes c) (Struct n)), refl, numbers_take (cells_by (sizes c) (Struct n)) (drop at.cell (st.memory at.block))
-    (numbers_drop at.cell (st.memory at.block) (numbers_in w (depth_of at.block) in_ (st.memory at.block) (plain_part at.cell in_ (Struct n) part refl) (h at.block in_ live))))
+loaded_as w c at st in_ (Struct n) h live low part v = (
+  cells_at st at (cells_by (sizes c) (Struct n)),
+  refl,
+  numbers_take (cells_by (sizes c) (Struct n)) (drop at.cell (st.memory at.block))
+      (numbers_drop at.cell (st.memory at.block) (numbers_in w (depth_of at.block) in_ (st.memory at.block) (plain_part at.cell in_ (Struct n) part refl) (h at.block in_ live))),
+)
 loaded_as w c at st in_ (Array elem count) h live low part v = never v
 loaded_as w c at st in_ (Pointer elem fixed) h live low part v =
     let p = pointer_part at.cell in_ (Pointer elem fixed) part refl in

@@ -1,27 +1,23 @@
 -- Operators give what their types say.
-use Rattle.std.proofs.Common.{◌≡◌, ◌∙◌, ◌≤◌, ℕ, pos, ℤ, refl, ap, sym, subst, arith, Bool, true, false, Option, Some, None, List, Result, Ok, Err, if◌then◌else◌, nat_lt, nat_le}
-use Rattle.std.specs.Prelude.{IsTrue, ◌&&◌, ◌||◌, not, is_some}
+use Rattle.std.proofs.Common.{◌≡◌, ℕ, ℤ, refl, sym, subst, Bool, true, Option, Some, None, Result, Ok, Err}
 use Rattle.pt_base.specs.declared.int_type.IntType.{IntType}
 use Rattle.pt_base.specs.declared.trap.Trap.{Trap}
 use Rattle.pt_int.specs.declared.operator.UnOp.{UnOp}
 use Rattle.pt_int.specs.declared.operator.UnOp.TheVariants as u
 use Rattle.pt_int.specs.Conversion.{conv}
-use Rattle.pt_int.specs.Operator.{binary_of, unary_of, truth}
+use Rattle.pt_int.specs.Operator.{unary_of}
 use Rattle.pt_tree.specs.declared.signature.Elem.{Elem}
-use Rattle.runs.specs.Pointers.{Target, if_ok, moved, moved_index, at_index, reached, difference, compared, directed, cell_at}
+use Rattle.runs.specs.Pointers.{if_ok, moved_index, at_index}
 use Rattle.typed_tree.specs.declared.types.VarTy.{VarTy}
 use Rattle.typed_tree.specs.declared.types.VarTy.TheVariants.{Int, Struct, Array, Pointer}
-use Rattle.typed_tree.specs.declared.link.LinkStep.{LinkStep}
-use Rattle.typed_tree.specs.declared.link.LinkStep.TheVariants.{Arithmetic, Shift, Move, MoveBy, Difference, Compare}
-use Rattle.typed_tree.specs.Sizes.{elem_cells}
-use Rattle.typed_tree.specs.TypeTests.{same_types, integer_of, pointee_of, is_scalar, type_of_elem}
+use Rattle.typed_tree.specs.TypeTests.{same_types, is_scalar}
 use Rattle.typed_tree.specs.TypeRules as r
 use Rattle.typed_tree.specs.TypeRules.{unary_fits, converts, promoted_value, is_compound, moved_type, arithmetic_type, shift_type}
-use Rattle.source_meaning.specs.Memory.{Block, same_block, Cell, number, null, pointer}
-use Rattle.source_meaning.specs.Values.{Value, holds, whole, nothing, cell_of, number_in, holds_in, converted_cell, converted, target_of, pointer_to, moved_cell, Location, unary_cell, shift_of, pointee_cells, promoted_of, stepped, unit_step}
+use Rattle.source_meaning.specs.Memory.{Cell, number, null, pointer}
+use Rattle.source_meaning.specs.Values.{Value, holds, whole, nothing, cell_of, number_in, converted_cell, converted, pointer_to, moved_cell, unary_cell}
 use Rattle.source_meaning.specs.Expressions.{type_or_int}
-use Rattle.source_soundness.specs.Worlds.{World, type_in, depth_of, is_pointer, IsNumber, IsScoped, ValueFits, LocationFits}
-use Rattle.source_soundness.proofs.Tests.{left, right, never, equal_options}
+use Rattle.source_soundness.specs.Worlds.{World, IsNumber, IsScoped, ValueFits}
+use Rattle.source_soundness.proofs.Tests.{right, never, equal_options}
 
 -- where there is a result, it is so
 abbrev pub Gives : {A : Type 0} → (A → Type 0) → Result A Trap → Type 0

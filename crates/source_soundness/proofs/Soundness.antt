@@ -1,6 +1,6 @@
 -- Expressions give values of their types, and places lie in live objects: by induction on the tree.
-use Rattle.std.proofs.Common.{◌≡◌, ◌∙◌, ◌≤◌, ℕ, zero, suc, ◌+◌, pos, ℤ, refl, ap, sym, subst, arith, Bool, true, false, Option, Some, None, List, [], ◌∷◌, Result, Ok, Err, if◌then◌else◌, nat_le, map}
-use Rattle.std.specs.Prelude.{IsTrue, ◌&&◌, not, is_none, slice_get, get_or, option_map}
+use Rattle.std.proofs.Common.{◌≡◌, ◌∙◌, ◌≤◌, ℕ, ◌+◌, pos, ℤ, refl, ap, sym, subst, arith, Bool, true, false, Option, Some, None, List, [], ◌∷◌, Result, Ok, Err, if◌then◌else◌, nat_le}
+use Rattle.std.specs.Prelude.{IsTrue, ◌&&◌, not, is_none, slice_get, option_map}
 use Rattle.std.proofs.lemmas.Bool.Decides.{nat_tests}
 use Rattle.pt_base.specs.declared.int_type.IntType.{IntType}
 use Rattle.pt_base.specs.declared.int_type.IntType.TheVariants as i
@@ -11,7 +11,7 @@ use Rattle.pt_base.specs.declared.trap.Trap.{Trap}
 use Rattle.pt_base.specs.IntTypes.{usual}
 use Rattle.pt_int.specs.declared.operator.BinOp.TheVariants.{Add, Sub}
 use Rattle.pt_int.specs.Conversion.{conv}
-use Rattle.pt_int.specs.Operator.{truth, binary_of}
+use Rattle.pt_int.specs.Operator.{binary_of}
 use Rattle.runs.specs.Pointers.{directed}
 use Rattle.pt_tree.specs.declared.signature.Elem.{Elem}
 use Rattle.pt_tree.specs.declared.signature.Elem.TheVariants as e
@@ -27,21 +27,21 @@ use Rattle.typed_tree.specs.declared.link.LogicalOp.{LogicalOp}
 use Rattle.typed_tree.specs.Sizes.{offset_of}
 use Rattle.typed_tree.specs.ExpressionTree as t
 use Rattle.typed_tree.specs.ExpressionTree.{ExprTree, typed, FormTree, ExprTrees, no_exprs, expr_and, LinkTrees, no_links, link_and, link, OperandTrees, no_operands, operand_and, operand, PlaceTree, place, RootTree, StepTree, StepTrees, no_steps, step_and}
-use Rattle.typed_tree.specs.TypeTests.{same_types, both_elem, same_elem, integer_of, pointee_of, element_of, item_of, is_scalar, is_value, type_of_elem}
+use Rattle.typed_tree.specs.TypeTests.{same_types, both_elem, integer_of, pointee_of, element_of, item_of, is_scalar, is_value, type_of_elem}
 use Rattle.typed_tree.specs.TypeRules as r
 use Rattle.typed_tree.specs.TypeRules.{unary_fits, converts, promoted_value, is_compound, is_arm}
 use Rattle.typed_tree.specs.WellFormedExpression as f
 use Rattle.typed_tree.specs.WellFormedExpression.{Names, is_typed, form_fits, all_typed, links_fit, operands_fit, place_fits, root_fits, steps_fit, ty_of, constant_fits, is_elem, is_assign, is_struct, assigned_type, root_type, step_type, steps_type, place_type, item_type, has_links, has_operands, is_addressed, is_written, keeps_const, place_const, param_type, arguments_fit, call_fits, is_main}
-use Rattle.source_meaning.specs.Memory.{Block, local, global, Cell, number, null, pointer, read, Memory}
+use Rattle.source_meaning.specs.Memory.{local, global, Cell, number, null, pointer, read}
 use Rattle.source_meaning.specs.State.{State, Outcome}
-use Rattle.source_meaning.specs.Values.{Value, holds, whole, nothing, cell_of, number_of, number_in, is_true, truth_value, converted_cell, converted, moved_cell, Location, unary_cell, stepped, unit_step}
+use Rattle.source_meaning.specs.Values.{Value, holds, nothing, cell_of, number_of, number_in, is_true, truth_value, converted_cell, converted, moved_cell, Location, unary_cell, stepped, unit_step}
 use Rattle.source_meaning.specs.Expressions as x
 use Rattle.source_meaning.specs.Expressions.{Frame, Calls, Context, sizes, or_trap, type_at, field_at, decayed, address_of, dereferenced, indexed, loaded, stored_in, store, compounded, cell_or_trap, step_gives, counted, is_decided, type_or_int, type_of, value_of, form_value, values_of, links_value, link_value, operands_value, operand_value, location_of, root_location, assigned_location, form_location, steps_location, step_location}
-use Rattle.source_soundness.specs.Worlds.{World, type_in, depth_of, is_pointer, IsNumber, IsScoped, Fits, ValueFits, PartFits, LocationFits}
-use Rattle.source_soundness.specs.Laws.{Keeps, ArgumentsFit, CallsFit, ContextFits}
+use Rattle.source_soundness.specs.Worlds.{World, type_in, is_pointer, IsNumber, IsScoped, Fits, ValueFits, PartFits, LocationFits}
+use Rattle.source_soundness.specs.Laws.{Keeps, ArgumentsFit, ContextFits}
 use Rattle.source_soundness.proofs.Tests.{left, right, never, equal_options, equal_elems, got, got_or}
 use Rattle.source_soundness.proofs.Objects.{plain_part, loaded_fits, stored_fits}
-use Rattle.source_soundness.proofs.Operators.{Gives, FitsAs, gives_number, moves, number_of_int, scoped_of_pointer, unary_gives, converted_fits}
+use Rattle.source_soundness.proofs.Operators.{Gives, FitsAs, gives_number, moves, scoped_of_pointer, unary_gives, converted_fits}
 use Rattle.source_soundness.proofs.Steps.{step_fits, plain_elem, plain_in, whole_part, pointee_fits, field_is}
 
 -- ---- parts of a run
@@ -432,7 +432,7 @@ to_item w n c rest at b s a st ty index l on is = go (item_type (Some a) (intege
         let el = element_step (Some a) (integer_of (ty_of b)) d e in
         keeps_bind w (LocationFits w (Some d)) (LocationFits w (Some ty)) (step_location (t.item b s) at c st) (λ next. steps_location rest next c)
         (keeps_bind w (ValueFits w (ty_of b)) (LocationFits w (Some d)) (value_of b c st) (indexed c s at) index
-          (λ v st1 q m1. subst (λ z. Keeps w (LocationFits w z) (indexed c s at v st1)) (sym el.to) (element_lies w c s at el.elem el.count v st1 (subst (λ z. LocationFits w z at) el.from l) m1)))
+        (λ v st1 q m1. subst (λ z. Keeps w (LocationFits w z) (indexed c s at v st1)) (sym el.to) (element_lies w c s at el.elem el.count v st1 (subst (λ z. LocationFits w z at) el.from l) m1)))
         (λ next st1 l1 m1. on d next st1 is l1 m1)
 
 -- a compound assignment, by its place and its right side
@@ -527,8 +527,8 @@ mutual
       let second = left (is_typed n d && same_types (ty_of d) ty) (is_arm ty) (right (is_typed n b && same_types (ty_of b) ty) ((is_typed n d && same_types (ty_of d) ty) && is_arm ty) arms) in
       keeps_bind w (ValueFits w (ty_of a)) (ValueFits w ty) (value_of a c st) (λ v. if is_true v then value_of b c else value_of d c) (value_fits a w n c st k (left (is_typed n a) (is_scalar (ty_of a)) test) m)
       (λ v st1 q m1. keeps_either w (ValueFits w ty) (is_true v) (value_of b c) (value_of d c) st1
-        (subst (λ z. Keeps w (ValueFits w z) (value_of b c st1)) (equal_options (ty_of b) ty (right (is_typed n b) (same_types (ty_of b) ty) first)) (value_fits b w n c st1 k (left (is_typed n b) (same_types (ty_of b) ty) first) m1))
-        (subst (λ z. Keeps w (ValueFits w z) (value_of d c st1)) (equal_options (ty_of d) ty (right (is_typed n d) (same_types (ty_of d) ty) second)) (value_fits d w n c st1 k (left (is_typed n d) (same_types (ty_of d) ty) second) m1)))
+      (subst (λ z. Keeps w (ValueFits w z) (value_of b c st1)) (equal_options (ty_of b) ty (right (is_typed n b) (same_types (ty_of b) ty) first)) (value_fits b w n c st1 k (left (is_typed n b) (same_types (ty_of b) ty) first) m1))
+      (subst (λ z. Keeps w (ValueFits w z) (value_of d c st1)) (equal_options (ty_of d) ty (right (is_typed n d) (same_types (ty_of d) ty) second)) (value_fits d w n c st1 k (left (is_typed n d) (same_types (ty_of d) ty) second) m1)))
   form_keeps (t.assign p a) s ty w n c st k h m =
       let there = left (place_fits n p) (is_written n p) (left (place_fits n p && is_written n p) ((same_types (place_type n p) ty && is_value ty) && (is_typed n a && same_types (ty_of a) ty)) h) in
       let rest = right (place_fits n p && is_written n p) ((same_types (place_type n p) ty && is_value ty) && (is_typed n a && same_types (ty_of a) ty)) h in
@@ -568,8 +568,8 @@ mutual
       let is = equal_options (ty_of a) (Some (param_type p.kind)) (left (same_types (ty_of a) (Some (param_type p.kind))) (arguments_fit ps rest) h) in
       keeps_bind w (ValueFits w (ty_of a)) (ArgumentsFit w (p ∷ ps)) (value_of a c st) (λ v st1. values_of rest c st1 >>= λ vs. gives (v ∷ vs)) (value_fits a w n c st k (left (is_typed n a) (all_typed n rest) all) m)
       (λ v st1 q m1. keeps_bind w (ArgumentsFit w ps) (ArgumentsFit w (p ∷ ps)) (values_of rest c st1) (λ vs. gives (v ∷ vs))
-        (arguments_keep rest ps w n c st1 k (right (is_typed n a) (all_typed n rest) all) (right (same_types (ty_of a) (Some (param_type p.kind))) (arguments_fit ps rest) h) m1)
-        (λ vs st2 qs m2. ((subst (λ z. ValueFits w z v) is q, qs), m2)))
+      (arguments_keep rest ps w n c st1 k (right (is_typed n a) (all_typed n rest) all) (right (same_types (ty_of a) (Some (param_type p.kind))) (arguments_fit ps rest) h) m1)
+      (λ vs st2 qs m2. ((subst (λ z. ValueFits w z v) is q, qs), m2)))
 
   links_keep : (links : LinkTrees) (so_far : VarTy) (a : Option VarTy) (v : Value) (ty : Option VarTy) (w : World) (n : Names) (c : Context) (st : State) → ContextFits w n c → IsTrue (links_fit n a links ty) → ValueFits w a v → Fits w st.memory → Keeps w (ValueFits w ty) (links_value links so_far v c st)
   links_keep no_links so_far a v ty w n c st k h fit m = (subst (λ z. ValueFits w z v) (equal_options a ty h) fit, m)
@@ -578,8 +578,8 @@ mutual
       let is = equal_options (r.stepped a step (ty_of b)) (Some to) (left (same_types (r.stepped a step (ty_of b)) (Some to)) (links_fit n (Some to) rest ty) more) in
       keeps_bind w (ValueFits w (Some to)) (ValueFits w ty) (link_value (link s to step b) so_far v c st) (λ u. links_value rest to u c)
       (keeps_bind w (ValueFits w (ty_of b)) (ValueFits w (Some to)) (value_of b c st) (λ u. cell_or_trap s (stepped (sizes c) so_far step (cell_of v) (cell_of u)))
-        (value_fits b w n c st k (left (is_typed n b) (same_types (r.stepped a step (ty_of b)) (Some to) && links_fit n (Some to) rest ty) h) m)
-        (λ u st1 q m1. keeps_cell w (Some to) s (stepped (sizes c) so_far step (cell_of v) (cell_of u)) st1 (step_fits w (sizes c) so_far a (ty_of b) to step v u is fit q) m1))
+      (value_fits b w n c st k (left (is_typed n b) (same_types (r.stepped a step (ty_of b)) (Some to) && links_fit n (Some to) rest ty) h) m)
+      (λ u st1 q m1. keeps_cell w (Some to) s (stepped (sizes c) so_far step (cell_of v) (cell_of u)) st1 (step_fits w (sizes c) so_far a (ty_of b) to step v u is fit q) m1))
       (λ u st1 q m1. links_keep rest to (Some to) u ty w n c st1 k (right (same_types (r.stepped a step (ty_of b)) (Some to)) (links_fit n (Some to) rest ty) more) q m1)
 
   operands_keep : (operands : OperandTrees) (op : LogicalOp) (b : Bool) (w : World) (n : Names) (c : Context) (st : State) → ContextFits w n c → IsTrue (operands_fit n operands) → Fits w st.memory → Keeps w (ValueFits w r.int) (operands_value operands op b c st)

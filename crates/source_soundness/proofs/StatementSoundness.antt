@@ -1,6 +1,6 @@
 -- Statements keep what fits, and return values of the function's result.
-use Rattle.std.proofs.Common.{◌≡◌, ◌∙◌, ◌≤◌, ℕ, zero, suc, ◌+◌, pos, ℤ, refl, ap, sym, subst, arith, Bool, true, false, Option, Some, None, List, [], ◌∷◌, if◌then◌else◌, map, replicate}
-use Rattle.std.specs.Prelude.{IsTrue, ◌&&◌, not, is_none, slice_get, get_or, option_map, slice_set}
+use Rattle.std.proofs.Common.{◌≡◌, ◌∙◌, ℕ, zero, suc, ◌+◌, pos, refl, ap, sym, subst, Bool, true, false, Option, Some, None, List, [], ◌∷◌, if◌then◌else◌, map, replicate}
+use Rattle.std.specs.Prelude.{IsTrue, ◌&&◌, is_none, slice_get, get_or, option_map}
 use Rattle.std.specs.List.{list_all}
 use Rattle.pt_base.specs.declared.int_type.IntType.{IntType}
 use Rattle.pt_base.specs.declared.int_type.IntType.TheVariants as i
@@ -9,34 +9,30 @@ use Rattle.runs.specs.State.{gives, trapped, spent, ◌>>=◌, take_turn}
 use Rattle.typed_tree.specs.declared.ids.ExprId.{ExprId}
 use Rattle.typed_tree.specs.declared.types.VarTy.{VarTy}
 use Rattle.typed_tree.specs.declared.types.VarTy.TheVariants.{Int, Struct, Array, Pointer}
-use Rattle.typed_tree.specs.declared.types.StructInfo.{StructInfo}
 use Rattle.typed_tree.specs.declared.variable.Var.{Var}
-use Rattle.typed_tree.specs.declared.statement.TypedLabel.{TypedLabel}
 use Rattle.typed_tree.specs.declared.statement.TypedInit.{TypedInit}
 use Rattle.typed_tree.specs.declared.statement.TypedInit.TheVariants as n
 use Rattle.typed_tree.specs.declared.statement.TypedDeclarator.{TypedDeclarator}
 use Rattle.typed_tree.specs.declared.statement.TypedForInit.{TypedForInit}
 use Rattle.typed_tree.specs.declared.statement.TypedForInit.TheVariants as f
-use Rattle.typed_tree.specs.ExpressionTree.{ExprTree, typed}
+use Rattle.typed_tree.specs.ExpressionTree.{ExprTree}
 use Rattle.typed_tree.specs.StatementTree as b
 use Rattle.typed_tree.specs.StatementTree.{BodyTree, ElseTree, no_else, otherwise, BodyTrees, no_bodies, body_and, SectionTree, section, SectionTrees, no_sections, section_and}
 use Rattle.typed_tree.specs.Cells.{leaves_of}
 use Rattle.typed_tree.specs.Sizes.{cells_by}
-use Rattle.typed_tree.specs.TypeTests.{same_types, both_int, same_int, integer_of, is_scalar, is_value}
-use Rattle.typed_tree.specs.WellFormedExpression.{Names, is_typed, ty_of}
-use Rattle.typed_tree.specs.WellFormedStatement.{Scope, found_fits, expr_fits, any_type, promotes_to, option_fits, item_types, items_fit, init_fits, declarator_fits, declaration_fits, for_init_fits, return_fits, section_label, labels_of, labels_fit, is_sound, else_sound, all_sound, sections_sound}
-use Rattle.source_meaning.specs.Memory.{Block, local, global, Cell, number, null, pointer, Memory, put, write}
+use Rattle.typed_tree.specs.TypeTests.{same_types, both_int, integer_of, is_scalar, is_value}
+use Rattle.typed_tree.specs.WellFormedExpression.{is_typed, ty_of}
+use Rattle.typed_tree.specs.WellFormedStatement.{Scope, found_fits, expr_fits, any_type, promotes_to, option_fits, item_types, items_fit, init_fits, declarator_fits, declaration_fits, for_init_fits, labels_of, labels_fit, is_sound, else_sound, all_sound, sections_sound}
+use Rattle.source_meaning.specs.Memory.{local, number, null}
 use Rattle.source_meaning.specs.State.{State, Outcome}
-use Rattle.source_meaning.specs.Values.{Value, holds, whole, nothing, cell_of, number_of, is_true, cleared, Location}
-use Rattle.source_meaning.specs.Expressions.{Context, sizes, type_at, value_of, store, stored_in}
-use Rattle.source_meaning.specs.Statements as x
-use Rattle.source_meaning.specs.Statements.{Code, no_expr, outermost, Flow, goes_on, broke, continues, returned, after_flow, variable_at, items_stored, initialised, cleared_at, declared, Round, again, leaves, body_round, after_round, looped, tested, stepped_first, tested_later, for_begins, chosen, past_switch, statement, otherwise_of, all_of, sections_from, section_of}
-use Rattle.source_soundness.specs.Worlds.{World, type_in, depth_of, is_pointer, IsNumber, IsScoped, AreNumbers, CellsFit, Fits, ValueFits, PartFits, LocationFits}
-use Rattle.source_soundness.specs.Laws.{Keeps, ContextFits, FlowFits, CodeFits}
-use Rattle.source_soundness.proofs.Tests.{left, right, never, equal_options, equal_ints, got, got_or}
+use Rattle.source_meaning.specs.Values.{Value, holds, whole, nothing, number_of, is_true, cleared}
+use Rattle.source_meaning.specs.Expressions.{sizes, type_at, value_of, store, stored_in}
+use Rattle.source_meaning.specs.Statements.{Code, no_expr, outermost, Flow, goes_on, broke, continues, returned, after_flow, variable_at, items_stored, initialised, cleared_at, declared, Round, again, leaves, body_round, after_round, looped, tested, stepped_first, tested_later, for_begins, chosen, past_switch, statement, otherwise_of, all_of, sections_from}
+use Rattle.source_soundness.specs.Worlds.{World, type_in, is_pointer, AreNumbers, CellsFit, Fits, ValueFits, LocationFits}
+use Rattle.source_soundness.specs.Laws.{Keeps, FlowFits, CodeFits}
+use Rattle.source_soundness.proofs.Tests.{left, right, never, equal_options, equal_ints, got_or}
 use Rattle.source_soundness.proofs.Memories.{put_fits, number_written}
-use Rattle.source_soundness.proofs.Operators.{number_of_int}
-use Rattle.source_soundness.proofs.Soundness.{keeps_bind, keeps_branch, keeps_either, keeps_store, names_live, entry_type, names_variable, value_fits}
+use Rattle.source_soundness.proofs.Soundness.{keeps_bind, keeps_either, keeps_store, names_live, entry_type, names_variable, value_fits}
 
 -- ---- outermost expressions
 
@@ -112,7 +108,7 @@ numbers_stored (e ∷ es) (t ∷ ts) w scope code x cell ty result st k en plain
     keeps_bind w (Passed w (same_types (Some (Int t)))) (FlowFits w result) (outermost code e st) (λ v st1. store (variable_at code x cell) v st1 >>= λ u. items_stored es x (cell + 1) code)
     (outermost_keeps w scope code (same_types (Some (Int t))) e st k (left (expr_fits scope (same_types (Some (Int t))) e) (items_fit scope (map Int ts) es) h) m)
     (λ v st1 p m1. numbers_stored es ts w scope code x (cell + 1) ty result (record st1 { memory = stored_in st1.memory (variable_at code x cell) v }) k en plain
-      (right (expr_fits scope (same_types (Some (Int t))) e) (items_fit scope (map Int ts) es) h) (number_stored w scope code x cell ty t v st1 k en plain (same_as w (Int t) v p) m1))
+    (right (expr_fits scope (same_types (Some (Int t))) e) (items_fit scope (map Int ts) es) h) (number_stored w scope code x cell ty t v st1 k en plain (same_as w (Int t) v p) m1))
 
 items_keep : (es : List ExprId) (w : World) (scope : Scope) (code : Code) (x : ℕ) (ty : VarTy) (result : Option IntType) (st : State) → CodeFits w scope code → Entry scope x ty → IsTrue (items_fit scope (item_types scope.names.structs ty) es) → Fits w st.memory → Keeps w (FlowFits w result) (items_stored es x 0 code st)
 items_keep es w scope code x (Int t) result st k en h m = numbers_stored es (leaves_of scope.names.structs (Int t)) w scope code x 0 (Int t) result st k en refl h m
@@ -156,7 +152,7 @@ RoundFits w result (leaves flow) = FlowFits w result flow
 abbrev Rounds : World → Option IntType → (State → Outcome Round) → Type 0
 Rounds w result round = (st : State) → Fits w st.memory → Keeps w (RoundFits w result) (round st)
 
-turn_keeps : {A : Type 0} (w : World) (Q : A → Type 0) (left : ℕ) (st : State) (next : State → Outcome A) → Fits w st.memory → ((st1 : State) → Fits w st1.memory → Keeps w Q (next st1)) → Keeps w Q (take_turn left st next)
+pub turn_keeps : {A : Type 0} (w : World) (Q : A → Type 0) (left : ℕ) (st : State) (next : State → Outcome A) → Fits w st.memory → ((st1 : State) → Fits w st1.memory → Keeps w Q (next st1)) → Keeps w Q (take_turn left st next)
 turn_keeps w Q zero st next m k = tt
 turn_keeps w Q (suc left) st next m k = k (record st { left = left }) m
 
@@ -239,25 +235,25 @@ mutual
       keeps_bind w (Passed w is_scalar) (FlowFits w scope.result) (outermost code e st) (λ v. if is_true v then statement a code else otherwise_of o code)
       (outermost_keeps w scope code is_scalar e st k (left (expr_fits scope is_scalar e) (is_sound scope out back a && else_sound scope out back o) h) m)
       (λ v st1 p m1. keeps_either w (FlowFits w scope.result) (is_true v) (statement a code) (otherwise_of o code) st1
-        (statement_keeps a w scope code out back st1 k (left (is_sound scope out back a) (else_sound scope out back o) rest) m1)
-        (else_keeps o w scope code out back st1 k (right (is_sound scope out back a) (else_sound scope out back o) rest) m1))
+      (statement_keeps a w scope code out back st1 k (left (is_sound scope out back a) (else_sound scope out back o) rest) m1)
+      (else_keeps o w scope code out back st1 k (right (is_sound scope out back a) (else_sound scope out back o) rest) m1))
   statement_keeps (b.while_true s e a) w scope code out back st k h m =
       looped_keeps st.left w scope.result (λ first. tested (Some e) code (λ st1. statement a code st1 >>= body_round)) true st
       (λ first st1 m1. tested_keeps w scope code (Some e) (λ st2. statement a code st2 >>= body_round) st1 k (left (expr_fits scope is_scalar e) (is_sound scope true true a) h)
-        (λ st2 m2. keeps_bind w (FlowFits w scope.result) (RoundFits w scope.result) (statement a code st2) body_round (statement_keeps a w scope code true true st2 k (right (expr_fits scope is_scalar e) (is_sound scope true true a) h) m2) (body_rounds w scope.result)) m1) m
+      (λ st2 m2. keeps_bind w (FlowFits w scope.result) (RoundFits w scope.result) (statement a code st2) body_round (statement_keeps a w scope code true true st2 k (right (expr_fits scope is_scalar e) (is_sound scope true true a) h) m2) (body_rounds w scope.result)) m1) m
   statement_keeps (b.do_while s a e) w scope code out back st k h m =
       looped_keeps st.left w scope.result (λ first. tested_later first e code (λ st1. statement a code st1 >>= body_round)) true st
       (λ first st1 m1. later_keeps first w scope code e (λ st2. statement a code st2 >>= body_round) st1 k (right (is_sound scope true true a) (expr_fits scope is_scalar e) h)
-        (λ st2 m2. keeps_bind w (FlowFits w scope.result) (RoundFits w scope.result) (statement a code st2) body_round (statement_keeps a w scope code true true st2 k (left (is_sound scope true true a) (expr_fits scope is_scalar e) h) m2) (body_rounds w scope.result)) m1) m
+      (λ st2 m2. keeps_bind w (FlowFits w scope.result) (RoundFits w scope.result) (statement a code st2) body_round (statement_keeps a w scope code true true st2 k (left (is_sound scope true true a) (expr_fits scope is_scalar e) h) m2) (body_rounds w scope.result)) m1) m
   statement_keeps (b.for_each s begin test step a) w scope code out back st k h m =
       let rest = right (for_init_fits scope begin) (option_fits scope is_scalar test && (option_fits scope any_type step && is_sound scope true true a)) h in
       let more = right (option_fits scope is_scalar test) (option_fits scope any_type step && is_sound scope true true a) rest in
       keeps_bind w (FlowFits w scope.result) (FlowFits w scope.result) (for_begins begin code st) (λ flow st1. looped st1.left (λ first. stepped_first first step code (tested test code (λ st2. statement a code st2 >>= body_round))) true st1)
       (begins_keep begin w scope code st k (left (for_init_fits scope begin) (option_fits scope is_scalar test && (option_fits scope any_type step && is_sound scope true true a)) h) m)
       (λ flow st1 q m1. looped_keeps st1.left w scope.result (λ first. stepped_first first step code (tested test code (λ st2. statement a code st2 >>= body_round))) true st1
-        (λ first st2 m2. stepped_keeps first w scope code step (tested test code (λ st3. statement a code st3 >>= body_round)) st2 k (left (option_fits scope any_type step) (is_sound scope true true a) more)
-          (λ st3 m3. tested_keeps w scope code test (λ st4. statement a code st4 >>= body_round) st3 k (left (option_fits scope is_scalar test) (option_fits scope any_type step && is_sound scope true true a) rest)
-            (λ st4 m4. keeps_bind w (FlowFits w scope.result) (RoundFits w scope.result) (statement a code st4) body_round (statement_keeps a w scope code true true st4 k (right (option_fits scope any_type step) (is_sound scope true true a) more) m4) (body_rounds w scope.result)) m3) m2) m1)
+      (λ first st2 m2. stepped_keeps first w scope code step (tested test code (λ st3. statement a code st3 >>= body_round)) st2 k (left (option_fits scope any_type step) (is_sound scope true true a) more)
+      (λ st3 m3. tested_keeps w scope code test (λ st4. statement a code st4 >>= body_round) st3 k (left (option_fits scope is_scalar test) (option_fits scope any_type step && is_sound scope true true a) rest)
+      (λ st4 m4. keeps_bind w (FlowFits w scope.result) (RoundFits w scope.result) (statement a code st4) body_round (statement_keeps a w scope code true true st4 k (right (option_fits scope any_type step) (is_sound scope true true a) more) m4) (body_rounds w scope.result)) m3) m2) m1)
   statement_keeps (b.give_back s None) w scope code out back st k h m = (nothing_fits scope.result h, m)
     where
       nothing_fits : (o : Option IntType) → IsTrue (is_none o) → ValueFits w (option_map Int o) nothing
@@ -273,8 +269,8 @@ mutual
       keeps_bind w (Passed w (promotes_to ty)) (FlowFits w scope.result) (outermost code e st) (λ v st1. take_turn st1.left st1 (λ st2. sections_from sections (chosen sections (conv ty (number_of v))) code st2 >>= past_switch))
       (outermost_keeps w scope code (promotes_to ty) e st k (left (expr_fits scope (promotes_to ty) e) (labels_fit ty (labels_of sections) && sections_sound scope back sections) h) m)
       (λ v st1 p m1. turn_keeps w (FlowFits w scope.result) st1.left st1 (λ st2. sections_from sections (chosen sections (conv ty (number_of v))) code st2 >>= past_switch) m1
-        (λ st2 m2. keeps_bind w (FlowFits w scope.result) (FlowFits w scope.result) (sections_from sections (chosen sections (conv ty (number_of v))) code st2) past_switch
-          (sections_keep sections (chosen sections (conv ty (number_of v))) w scope code back st2 k (right (labels_fit ty (labels_of sections)) (sections_sound scope back sections) rest) m2) (past_keeps w scope.result)))
+      (λ st2 m2. keeps_bind w (FlowFits w scope.result) (FlowFits w scope.result) (sections_from sections (chosen sections (conv ty (number_of v))) code st2) past_switch
+      (sections_keep sections (chosen sections (conv ty (number_of v))) w scope code back st2 k (right (labels_fit ty (labels_of sections)) (sections_sound scope back sections) rest) m2) (past_keeps w scope.result)))
 
   else_keeps : (o : ElseTree) (w : World) (scope : Scope) (code : Code) (out back : Bool) (st : State) → CodeFits w scope code → IsTrue (else_sound scope out back o) → Fits w st.memory → Keeps w (FlowFits w scope.result) (otherwise_of o code st)
   else_keeps no_else w scope code out back st k h m = (tt, m)

@@ -1,6 +1,6 @@
 -- Steps of chains and of places give what their types say.
-use Rattle.std.proofs.Common.{◌≡◌, ◌∙◌, ◌≤◌, ℕ, zero, suc, ◌+◌, pos, ℤ, refl, ap, sym, subst, arith, Bool, true, false, Option, Some, None, List, [], ◌∷◌, Result, Ok, Err, if◌then◌else◌, nat_lt, map}
-use Rattle.std.specs.Prelude.{IsTrue, ◌&&◌, not, is_some, slice_get, get_or, option_map, option_and_then}
+use Rattle.std.proofs.Common.{◌≡◌, ◌∙◌, ℕ, refl, ap, sym, subst, Bool, true, false, Option, Some, None, List, [], Result, Ok, Err, if◌then◌else◌, nat_lt}
+use Rattle.std.specs.Prelude.{◌&&◌, not, is_some, slice_get, get_or, option_map, option_and_then}
 use Rattle.pt_base.specs.declared.int_type.IntType.{IntType}
 use Rattle.pt_base.specs.declared.int_type.IntType.TheVariants as i
 use Rattle.pt_base.specs.IntTypes.{usual}
@@ -11,24 +11,24 @@ use Rattle.pt_int.specs.Conversion.{conv}
 use Rattle.pt_int.specs.Operator.{binary_of, truth, is_shift, binary_type}
 use Rattle.pt_tree.specs.declared.signature.Elem.{Elem}
 use Rattle.pt_tree.specs.declared.signature.Elem.TheVariants as e
-use Rattle.runs.specs.Pointers.{Target, if_ok, reached, difference, compared, directed, cell_at}
+use Rattle.runs.specs.Pointers.{if_ok, difference, compared, directed, cell_at}
 use Rattle.typed_tree.specs.declared.types.VarTy.{VarTy}
 use Rattle.typed_tree.specs.declared.types.VarTy.TheVariants.{Int, Struct, Array, Pointer}
 use Rattle.typed_tree.specs.declared.types.StructInfo.{StructInfo}
 use Rattle.typed_tree.specs.declared.types.Field.{Field}
 use Rattle.typed_tree.specs.declared.link.LinkStep.{LinkStep}
 use Rattle.typed_tree.specs.declared.link.LinkStep.TheVariants.{Arithmetic, Shift, Move, MoveBy, Difference, Compare}
-use Rattle.typed_tree.specs.Sizes.{elem_cells, fields_of}
-use Rattle.typed_tree.specs.TypeTests.{same_int, same_types, both_elem, integer_of, pointee_of, is_scalar, is_value, type_of_elem}
+use Rattle.typed_tree.specs.Sizes.{elem_cells}
+use Rattle.typed_tree.specs.TypeTests.{same_int, both_elem, integer_of, pointee_of, type_of_elem}
 use Rattle.typed_tree.specs.TypeRules as r
 use Rattle.typed_tree.specs.TypeRules.{converts, promoted_value, moved_type, arithmetic_type, shift_type, int_where, is_comparison}
 use Rattle.typed_tree.specs.WellFormedExpression as f
-use Rattle.source_meaning.specs.Memory.{Block, same_block, Cell, number, null, pointer}
-use Rattle.source_meaning.specs.Values.{Value, holds, cell_of, number_in, converted_cell, target_of, moved_cell, Location, shift_of, pointee_cells, promoted_of, stepped, unit_step}
-use Rattle.source_meaning.specs.Expressions.{Context, sizes, type_or_int, field_type, dereferenced, object_at, decayed}
-use Rattle.source_soundness.specs.Worlds.{World, type_in, depth_of, is_pointer, IsNumber, IsScoped, ValueFits, PartFits, LocationFits}
-use Rattle.source_soundness.proofs.Tests.{left, right, never, equal_options, got_or}
-use Rattle.source_soundness.proofs.Operators.{Gives, FitsAs, gives_number, moves, number_of_int, scoped_of_pointer}
+use Rattle.source_meaning.specs.Memory.{same_block, Cell, number, null, pointer}
+use Rattle.source_meaning.specs.Values.{Value, cell_of, number_in, target_of, moved_cell, shift_of, pointee_cells, promoted_of, stepped}
+use Rattle.source_meaning.specs.Expressions.{Context, sizes, field_type, dereferenced, object_at}
+use Rattle.source_soundness.specs.Worlds.{World, is_pointer, IsNumber, IsScoped, ValueFits, PartFits, LocationFits}
+use Rattle.source_soundness.proofs.Tests.{never, got_or}
+use Rattle.source_soundness.proofs.Operators.{Gives, FitsAs, gives_number, moves, scoped_of_pointer}
 
 -- ---- chains
 

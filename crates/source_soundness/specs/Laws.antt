@@ -1,5 +1,6 @@
 -- What a well formed program computes is of the kinds that its types say.
-use Rattle.std.specs.Prelude.{◌≡◌, ◌≤◌, ℕ, false, List, [], ◌∷◌, Bool, Option, Some, None, IsTrue, map, option_map, slice_get}
+use Rattle.std.specs.Prelude.{◌≡◌, ◌≤◌, ℕ, false, List, [], ◌∷◌, Bool, Option, Some, IsTrue, map, option_map, slice_get, if◌then◌else◌, nat_eq}
+use Rattle.pt_base.specs.declared.ids.FnId.{FnId}
 use Rattle.pt_base.specs.declared.int_type.IntType.{IntType}
 use Rattle.pt_base.specs.declared.span.Span.{Span}
 use Rattle.pt_tree.specs.declared.signature.Param.{Param}
@@ -9,12 +10,17 @@ use Rattle.typed_tree.specs.declared.types.StructInfo.{StructInfo}
 use Rattle.typed_tree.specs.ExpressionTree.{ExprTree, PlaceTree}
 use Rattle.typed_tree.specs.WellFormedExpression.{Names, is_typed, ty_of, field_type, place_type, place_fits, param_type}
 use Rattle.typed_tree.specs.StatementTree.{BodyTree}
+use Rattle.typed_tree.specs.TypedTree.{TypedTree, FunctionTree, signatures_of}
+use Rattle.typed_tree.specs.Lookup.{function_at}
+use Rattle.typed_tree.specs.WellFormed.{is_well_formed}
 use Rattle.typed_tree.specs.WellFormedStatement.{Scope, is_sound}
-use Rattle.runs.specs.State.{gives, trapped, spent}
+use Rattle.runs.specs.State.{Hosts, gives, trapped, spent}
 use Rattle.source_meaning.specs.State.{State, Outcome}
-use Rattle.source_meaning.specs.Values.{Value, Location}
+use Rattle.source_meaning.specs.Values.{Value}
 use Rattle.source_meaning.specs.Expressions.{Frame, Calls, Context, value_of, location_of}
 use Rattle.source_meaning.specs.Statements.{Code, Flow, goes_on, broke, continues, returned, statement}
+use Rattle.source_meaning.specs.Functions.{calls_within, opened}
+use Rattle.source_meaning.specs.WholeRun.{main_code, begun}
 use Rattle.source_soundness.specs.Worlds.{World, Fits, ValueFits, LocationFits, is_pointer}
 
 -- where a part of a run gives something, that is so, and the memory still fits
@@ -79,3 +85,24 @@ pub record CodeFits (w : World) (scope : Scope) (code : Code) : Type 0 where
 abbrev pub StatementsKeepTypes : Type 0
 StatementsKeepTypes = (w : World) (scope : Scope) (code : Code) (out again : Bool) (body : BodyTree) (st : State) → CodeFits w scope code →
     IsTrue (is_sound scope out again body) → Fits w st.memory → Keeps w (FlowFits w scope.result) (statement body code st)
+
+-- ---- calls and whole programs
+
+-- main's world
+abbrev pub main_world : TypedTree → FunctionTree → World
+main_world program g = record { globals = map (λ x. x.var.ty) program.globals; frames = λ d. if nat_eq d 1 then map (λ x. x.ty) g.vars else []; depth = 1 }
+
+-- the world of a program: its globals have their types
+abbrev pub IsWorldOf : TypedTree → World → Type 0
+IsWorldOf program w = w.globals ≡ map (λ g. g.var.ty) program.globals
+
+-- Calls from a frame of this depth give results of the callee's type, however deep they may go, and leave
+-- what is live fitting.
+abbrev pub CallsKeepTypes : Type 0
+CallsKeepTypes = (program : TypedTree) (n : Names) (w : World) (frame : Frame) (deep : ℕ) → IsTrue (is_well_formed program) → IsWorldOf program w →
+    frame.depth ≡ w.depth → n.signatures ≡ signatures_of program → CallsFit w n frame (calls_within program deep)
+
+-- where main begins, the globals and main's variables fit their types
+abbrev pub ProgramsBeginFitting : Type 0
+ProgramsBeginFitting = (program : TypedTree) (f : FnId) (hosts : Hosts) (input : List ℕ) (turns : ℕ) (g : FunctionTree) → IsTrue (is_well_formed program) →
+    function_at program f ≡ Some g → g.signature.params ≡ [] → Fits (main_world program g) (opened (main_code program f) [] (begun program hosts input turns)).memory
