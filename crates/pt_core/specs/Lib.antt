@@ -1,1 +1,2 @@
 pub mod CodeTree
+pub mod LeftOperand

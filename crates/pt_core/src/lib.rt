@@ -3,6 +3,7 @@
 #![tactic(auto)]
 
 mod boot;
+mod copy;
 mod expression;
 mod function;
 mod global;
