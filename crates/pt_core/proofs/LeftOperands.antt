@@ -1,5 +1,5 @@
 -- One more left operand at the end of a chain, and one less.
-use Rattle.std.proofs.Common.{◌≡◌, ℕ, List, [], ◌∷◌, ◌++◌, ◌≤◌, Some, refl, ap, ◌∙◌, sym, subst, Bor}
+use Rattle.std.proofs.Common.{◌≡◌, ℕ, List, [], ◌∷◌, ◌++◌, ◌≤◌, Some, refl, ap, ◌∙◌, sym, Bor}
 use Rattle.pt_core.specs.declared.expression.Expr.{Expr, size-Expr}
 use Rattle.pt_core.specs.CodeTree.{ExprTree, view_expr}
 use Rattle.pt_core.specs.LeftOperand.{left_of, Leads}

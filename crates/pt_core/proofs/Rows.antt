@@ -1,5 +1,5 @@
 -- What a variant with a place or a list is seen as.
-use Rattle.std.proofs.Common.{◌≡◌, refl, ap, ◌∙◌, rules, map}
+use Rattle.std.proofs.Common.{◌≡◌, List, refl, ap, ◌∙◌, rules, map}
 use Rattle.std.specs.Prelude.{Vec}
 use Rattle.std.specs.declared.alloc.Global.{Global}
 use Rattle.pt_base.specs.declared.span.Span.{Span}
@@ -10,7 +10,7 @@ use Rattle.pt_core.specs.declared.expression.Expr.TheViews as expr_views
 use Rattle.pt_core.specs.declared.statement.Stmt.{Stmt, Row_of-Stmt, end_of-Stmt, more_of-Stmt, items-the_row-Stmt}
 use Rattle.pt_core.specs.declared.statement.Stmt.TheVariants as s
 use Rattle.pt_core.specs.declared.statement.Stmt.TheViews as stmt_views
-use Rattle.pt_core.specs.CodeTree.{read, address, decay, choose, repeat, stmt_and, view_expr, view_place, view_stmt, view_stmt_row, stmt_trees}
+use Rattle.pt_core.specs.CodeTree.{ExprTree, StmtTree, read, address, decay, choose, repeat, stmt_and, view_expr, view_place, view_stmt, view_stmt_row, stmt_trees}
 
 pub view_read : (p : Place) → view_expr (e.Read p) ≡ read (view_place p)
 view_read p = search (rules, expr_views.the_lemmas)
@@ -30,3 +30,7 @@ view_choose a xs ys = search (rules, stmt_views.the_lemmas, stmt_row)
 
 pub view_repeat : (xs : Vec Stmt Global) (at : Span) → view_stmt (s.Loop xs at) ≡ repeat (stmt_trees (map view_stmt xs.items)) at
 view_repeat xs at = search (rules, stmt_views.the_lemmas, stmt_row)
+
+-- of equal parts
+pub same_choice : (a b : ExprTree) (xs ys us vs : List StmtTree) → a ≡ b → xs ≡ ys → us ≡ vs → choose a (stmt_trees xs) (stmt_trees us) ≡ choose b (stmt_trees ys) (stmt_trees vs)
+same_choice a b xs ys us vs h i j = ap (λ x. choose x (stmt_trees xs) (stmt_trees us)) h ∙ ap (λ x. choose b (stmt_trees x) (stmt_trees us)) i ∙ ap (λ x. choose b (stmt_trees ys) (stmt_trees x)) j

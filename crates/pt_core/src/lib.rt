@@ -3,7 +3,8 @@
 #![tactic(auto)]
 
 mod boot;
-mod copy;
+mod copy_expression;
+mod copy_statement;
 mod expression;
 mod function;
 mod global;

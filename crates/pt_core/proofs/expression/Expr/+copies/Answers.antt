@@ -1,4 +1,4 @@
-use Rattle.std.proofs.Common.{◌≡◌, ◌<◌, ◌≤◌, ◌+◌, ◌*◌, ◌++◌, ◌∷◌, [], ◌∙◌, ap, sym, subst, map, arith}
+use Rattle.std.proofs.Common.{◌<◌, ◌≤◌, ◌∷◌, [], ◌∙◌, ap, sym, subst, map, arith}
 use Rattle.std.proofs.lemmas.List.{map-append}
 use Rattle.pt_core.specs.declared.expression.Expr.{size-Expr}
 use Rattle.pt_core.specs.CodeTree.{view_expr}

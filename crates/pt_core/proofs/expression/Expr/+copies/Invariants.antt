@@ -1,4 +1,4 @@
-use Rattle.std.proofs.Common.{◌≡◌, ◌≤◌, ◌+◌, ◌*◌, map, vec_len}
+use Rattle.std.proofs.Common.{◌≤◌, ◌+◌, ◌*◌, map, vec_len}
 use Rattle.pt_core.specs.declared.expression.Expr.{size-Expr}
 use Rattle.pt_core.specs.CodeTree.{view_expr}
 use Rattle.pt_core.specs.LeftOperand.{Leads}
