@@ -1,13 +1,14 @@
 -- What the forms of an expression come to, after their parts.
 use Rattle.std.proofs.Common.{◌≡◌, Bool, Option, sym, ap, ◌∙◌}
 use Rattle.pt_base.specs.declared.span.Span.{Span}
+use Rattle.runs.specs.State.{gives, ◌>>=◌}
 use Rattle.typed_tree.specs.declared.types.VarTy.{VarTy}
 use Rattle.typed_tree.specs.declared.link.LinkStep.{LinkStep}
 use Rattle.typed_tree.specs.declared.link.LogicalOp.{LogicalOp}
 use Rattle.typed_tree.specs.ExpressionTree as t
 use Rattle.typed_tree.specs.ExpressionTree.{ExprTree, typed, FormTree, LinkTrees, OperandTrees, PlaceTree}
 use Rattle.source_meaning.specs.Memory.{Cell}
-use Rattle.source_meaning.specs.State.{State, gives, ◌>>=◌}
+use Rattle.source_meaning.specs.State.{State}
 use Rattle.source_meaning.specs.Values.{Value, holds, is_true, Location}
 use Rattle.source_meaning.specs.Expressions.{Context, value_of, location_of, assigned_location, loaded, decayed, address_of, store, compounded, links_value, operands_value, type_of}
 

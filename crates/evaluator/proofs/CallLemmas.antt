@@ -2,11 +2,12 @@
 use Rattle.std.proofs.Common.{◌≡◌, ◌-◌, ◌+◌, ◌||◌, ℕ, zero, suc, true, false, List, if◌then◌else◌, refl, sym, ap, ◌∙◌, arith}
 use Rattle.pt_base.specs.declared.span.Span.{Span}
 use Rattle.pt_base.specs.declared.trap.Trap.TheVariants.{Depth}
+use Rattle.runs.specs.State.{trapped, ◌>>=◌, noted, guarded_event}
 use Rattle.typed_tree.specs.TypedTree.{TypedTree}
-use Rattle.source_meaning.specs.State.{State, trapped, ◌>>=◌}
+use Rattle.source_meaning.specs.State.{State}
 use Rattle.source_meaning.specs.Values.{Value}
 use Rattle.source_meaning.specs.Expressions as e
-use Rattle.source_meaning.specs.Functions.{function_at, body_at, code_at, brace_of, returned_from, frame_in, entered, noted, guarded_event, with_parameters, calls_within, host_call, function_call}
+use Rattle.source_meaning.specs.Functions.{function_at, body_at, code_at, brace_of, returned_from, frame_in, entered, with_parameters, calls_within, host_call, function_call}
 use Rattle.source_meaning.specs.Statements.{statement}
 use Rattle.evaluator.specs.declared.machine.Machine.{Machine}
 use Rattle.evaluator.specs.declared.machine.Frame.{Frame}

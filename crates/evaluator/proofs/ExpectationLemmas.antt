@@ -2,10 +2,10 @@
 use Rattle.std.proofs.Common.{◌≡◌, ◌++◌, ◌+◌, ℕ, ℤ, List, ◌∷◌, sym, ap, ◌∙◌}
 use Rattle.std.proofs.lemmas.List.{append_assoc}
 use Rattle.pt_base.specs.declared.end.End.{End}
+use Rattle.runs.specs.Run.{Expected, after_bytes, decided, expected_from}
+use Rattle.runs.specs.State.{Event, out, guarded}
 use Rattle.policy.specs.Verdicts.{Standing, verdict_on, after}
 use Rattle.policy.specs.declared.verdict.Verdict.TheVariants.{Allow}
-use Rattle.source_meaning.specs.State.{Event, out, guarded}
-use Rattle.source_meaning.specs.Run.{Expected, after_bytes, decided, expected_from}
 use Rattle.evaluator.specs.Expected.{answers_of, allowed, function_of}
 
 pub out_more : (first s s' : Standing) (calls calls' : ℕ) (bytes more later : List ℕ) (all events : List Event) (end : End) (whole : Expected) → s' ≡ s → calls' ≡ calls → later ≡ bytes ++ more → all ≡ out more ∷ events → after_bytes bytes (expected_from (answers_of first) s calls all end) ≡ whole → after_bytes later (expected_from (answers_of first) s' calls' events end) ≡ whole

@@ -4,14 +4,15 @@ use Rattle.std.proofs.lemmas.List.{append-nil}
 use Rattle.pt_tree.specs.declared.host_model.HostModel.{HostModel}
 use Rattle.pt_tree.specs.declared.host_model.HostModel.TheVariants.{Table, Feed, Input, Bytes, Line}
 use Rattle.pt_tree.specs.HostStep.{Answer, host_step}
+use Rattle.runs.specs.State.{put_host, out, gives, noted, out_event}
 use Rattle.host_table.specs.Hosts.{Hosts, call_of, with_model, bytes_of}
 use Rattle.std.proofs.lemmas.Bool.{eqb-true, eq-eqb}
 use Rattle.std.specs.Prelude.{pos, IsSomeAnd}
 use Rattle.source_meaning.specs.Memory.{number}
 use Rattle.source_meaning.specs.Values as v
 use Rattle.source_meaning.specs.State as s
-use Rattle.source_meaning.specs.State.{State, put_host, out, Outcome, gives}
-use Rattle.source_meaning.specs.Functions.{answered, noted, out_event, result_value}
+use Rattle.source_meaning.specs.State.{State, Outcome}
+use Rattle.source_meaning.specs.Functions.{answered, result_value}
 use Rattle.evaluator.specs.Seen.{models_of, model_or_none, no_model, writes}
 
 sides : (a b : Bool) → (a ≡ true → b ≡ true) → (b ≡ true → a ≡ true) → a ≡ b

@@ -1,11 +1,12 @@
 -- The three loops as one.
 use Rattle.std.proofs.Common.{◌≡◌, ℕ, suc, ◌+◌, nat_eq, add-one, Bool, true, false, Option, Some, None, if◌then◌else◌, refl, sym, ap, ◌∙◌}
 use Rattle.std.proofs.Math.Dec.{eqb-suc-zero}
+use Rattle.runs.specs.State.{gives, trapped, spent, ◌>>=◌, take_turn}
 use Rattle.typed_tree.specs.declared.ids.ExprId.{ExprId}
 use Rattle.typed_tree.specs.declared.statement.TypedForInit.{TypedForInit}
 use Rattle.typed_tree.specs.StatementTree.{BodyTree, while_true, do_while, for_each}
 use Rattle.pt_base.specs.declared.span.Span.{Span}
-use Rattle.source_meaning.specs.State.{State, Outcome, gives, trapped, spent, ◌>>=◌, take_turn}
+use Rattle.source_meaning.specs.State.{State, Outcome}
 use Rattle.source_meaning.specs.Values.{Value, is_true}
 use Rattle.source_meaning.specs.Statements.{Code, goes_on, Round, leaves, body_round, after_round, statement, outermost, stepped_first, tested, tested_later, looped, for_begins}
 use Rattle.evaluator.specs.Loops.{optional, passed, led_by, behind, headed}

@@ -2,7 +2,8 @@
 use Rattle.std.proofs.Common.{◌≡◌, Result, Ok, Err, sym, ap, ◌∙◌}
 use Rattle.pt_base.specs.declared.span.Span.{Span}
 use Rattle.pt_base.specs.declared.trap.Trap.{Trap}
-use Rattle.source_meaning.specs.State.{State, Outcome, gives, trapped}
+use Rattle.runs.specs.State.{gives, trapped}
+use Rattle.source_meaning.specs.State.{State, Outcome}
 use Rattle.source_meaning.specs.Values as v
 use Rattle.source_meaning.specs.Expressions.{or_trap}
 use Rattle.evaluator_memory.specs.declared.value.Value.{Value}

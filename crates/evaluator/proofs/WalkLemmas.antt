@@ -1,8 +1,9 @@
 -- Parts of a run one after the other, and walks over lists.
 use Rattle.std.proofs.Common.{◌≡◌, ℕ, suc, ◌+◌, ◌<◌, ◌++◌, List, [], ◌∷◌, length, get_or, drop, drop-cons, add-one, refl, sym, ap, ◌∙◌}
 use Rattle.std.proofs.lemmas.List.{append_assoc}
+use Rattle.runs.specs.State.{gives, trapped, spent, ◌>>=◌}
 use Rattle.typed_tree.specs.ExpressionTree.{ExprTree, ExprTrees, expr_and}
-use Rattle.source_meaning.specs.State.{State, Outcome, gives, trapped, spent, ◌>>=◌}
+use Rattle.source_meaning.specs.State.{State, Outcome}
 use Rattle.source_meaning.specs.Values.{Value}
 use Rattle.source_meaning.specs.Expressions.{Context, value_of, values_of}
 

@@ -1,11 +1,11 @@
 -- A policy as it answers guarded calls, and what is expected of a run, as the meaning speaks of it.
 use Rattle.std.specs.Prelude.{ℕ, Option, Some, None}
 use Rattle.pt_base.specs.declared.ids.FnId.{FnId}
+use Rattle.runs.specs.Run.{Answers}
 use Rattle.policy.specs.Verdicts.{Standing, verdict_on, after}
 use Rattle.policy.specs.declared.verdict.Verdict.{Verdict}
 use Rattle.policy.specs.declared.verdict.Verdict.TheVariants.{Allow, Deny}
 use Rattle.source_meaning.specs.Run as r
-use Rattle.source_meaning.specs.Run.{Answers}
 use Rattle.evaluator.specs.declared.expectation.Expectation.{Expectation}
 
 -- the standing after an allowed call, none after a denied one

@@ -1,7 +1,8 @@
 -- What the code's answers say of the meaning's outcomes. Where memory is wanting, nothing.
 use Rattle.std.specs.Prelude.{◌≡◌, suc, Result, Ok, Err, List, map, Vec, Bool, Option, option_map}
 use Rattle.std.specs.declared.alloc.Global.{Global}
-use Rattle.source_meaning.specs.State.{State, Outcome, gives, trapped, spent}
+use Rattle.runs.specs.State.{gives, trapped, spent}
+use Rattle.source_meaning.specs.State.{State, Outcome}
 use Rattle.source_meaning.specs.Values as v
 use Rattle.source_meaning.specs.Statements as c
 use Rattle.evaluator_memory.specs.declared.value.Value.{Value}

@@ -2,9 +2,10 @@
 use Rattle.std.specs.Prelude.{Bool, true, ◌||◌, not, Option, Some, None, if◌then◌else◌}
 use Rattle.pt_base.specs.declared.int_type.IntType.{IntType}
 use Rattle.pt_int.specs.Conversion.{conv}
+use Rattle.runs.specs.State.{gives, ◌>>=◌, take_turn}
 use Rattle.typed_tree.specs.declared.ids.ExprId.{ExprId}
 use Rattle.typed_tree.specs.StatementTree.{BodyTree, SectionTrees}
-use Rattle.source_meaning.specs.State.{State, Outcome, gives, ◌>>=◌, take_turn}
+use Rattle.source_meaning.specs.State.{State, Outcome}
 use Rattle.source_meaning.specs.Values as v
 use Rattle.source_meaning.specs.Values.{Value, is_true, number_of}
 use Rattle.source_meaning.specs.Statements.{Code, Flow, goes_on, returned, Round, leaves, body_round, statement, outermost, sections_from, chosen, past_switch}

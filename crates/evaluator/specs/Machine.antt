@@ -1,9 +1,10 @@
 -- Where code runs, as the meaning speaks of it.
 use Rattle.std.specs.Prelude.{map}
+use Rattle.runs.specs.State.{◌>>=◌}
 use Rattle.typed_tree.specs.TypedTree.{TypedTree}
 use Rattle.typed_tree.specs.TypedView.{view_typed}
 use Rattle.source_meaning.specs.Expressions as e
-use Rattle.source_meaning.specs.State.{State, Outcome, ◌>>=◌}
+use Rattle.source_meaning.specs.State.{State, Outcome}
 use Rattle.source_meaning.specs.Values.{Value}
 use Rattle.source_meaning.specs.Statements.{Code, Flow, statement}
 use Rattle.source_meaning.specs.Functions.{function_at, calls_within, body_at, brace_of, returned_from}

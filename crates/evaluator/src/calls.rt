@@ -1,7 +1,7 @@
 // Calls of hosts, and the ways into a function and out of it.
 ghost use Rattle.std.specs.Prelude.{◌≡◌, ◌<◌, ◌-◌, ◌+◌, ◌++◌, ◌||◌, map, IfSome, IsSome, IfOk, OnOk};
 ghost use Rattle.pt_tree.specs.HostStep.{host_step};
-ghost use Rattle.source_meaning.specs.State.{put_host};
+ghost use Rattle.runs.specs.State.{put_host};
 ghost use Rattle.source_meaning.specs.Values.{numbers_of};
 ghost use Rattle.source_meaning.specs.Statements.{goes_on};
 ghost use Rattle.source_meaning.specs.Functions as meaning;

@@ -1,7 +1,8 @@
 // What is seen of a run as it goes on.
 ghost use Rattle.std.specs.Prelude.{◌≡◌, ◌∷◌, ◌++◌, ℤ, List, [], IfOk, OnOk, map, if◌then◌else◌};
 ghost use Rattle.pt_tree.specs.PlainNumbers.{is_plain, plain_numbers};
-ghost use Rattle.source_meaning.specs.Functions.{function_at, guarded_event, noted};
+ghost use Rattle.runs.specs.State.{guarded_event, noted};
+ghost use Rattle.source_meaning.specs.Functions.{function_at};
 ghost use Rattle.source_meaning.specs.Values.{numbers_of};
 ghost use Rattle.evaluator_memory.specs.View.{view_value};
 ghost use Rattle.evaluator.specs.Machine.{program_of, frame_of};

@@ -1,6 +1,7 @@
 // How control goes on.
 ghost use Rattle.std.specs.Prelude.{◌≡◌, true, false, option_map};
-ghost use Rattle.source_meaning.specs.State.{State, Outcome, gives};
+ghost use Rattle.runs.specs.State.{gives};
+ghost use Rattle.source_meaning.specs.State.{State, Outcome};
 ghost use Rattle.source_meaning.specs.Statements as c;
 ghost use Rattle.evaluator_memory.specs.View.{view_value};
 ghost use Rattle.evaluator.specs.Loops as loops;

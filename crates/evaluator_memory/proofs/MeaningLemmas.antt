@@ -2,10 +2,11 @@
 use Rattle.std.proofs.Common.{◌≡◌, ℕ, Result, Ok, Err, refl, ap}
 use Rattle.pt_base.specs.declared.span.Span.{Span}
 use Rattle.pt_base.specs.declared.trap.Trap.{Trap}
+use Rattle.runs.specs.State.{◌>>=◌}
 use Rattle.typed_tree.specs.declared.types.VarTy.{VarTy}
 use Rattle.typed_tree.specs.declared.types.VarTy.TheVariants.{Int, Struct, Array, Pointer}
 use Rattle.source_meaning.specs.Memory.{Cell}
-use Rattle.source_meaning.specs.State.{State, ◌>>=◌}
+use Rattle.source_meaning.specs.State.{State}
 use Rattle.source_meaning.specs.Values.{Value, number_of, Location, moved}
 use Rattle.source_meaning.specs.Expressions.{Context, decayed, dereferenced, element_of, field_at, indexed, loaded, or_trap}
 use Rattle.evaluator_memory.specs.declared.fault.Fault.{Fault}

@@ -2,8 +2,9 @@
 use Rattle.std.specs.Prelude.{◌≡◌, Result, Ok, Err}
 use Rattle.pt_base.specs.declared.span.Span.{Span}
 use Rattle.pt_base.specs.declared.trap.Trap.{Trap}
+use Rattle.runs.specs.State.{gives, trapped}
 use Rattle.source_meaning.specs.Memory as m
-use Rattle.source_meaning.specs.State.{State, Outcome, gives, trapped}
+use Rattle.source_meaning.specs.State.{State, Outcome}
 use Rattle.evaluator_memory.specs.declared.fault.Fault.{Fault}
 use Rattle.evaluator_memory.specs.declared.fault.Fault.TheVariants.{Trapped, Memory}
 

@@ -1,13 +1,13 @@
 -- What is computed with objects, by the structs of the program and a memory alone.
 use Rattle.std.specs.Prelude.{ℕ, ℤ, false, List, [], Result, Ok, Err, drop, take}
 use Rattle.pt_base.specs.declared.trap.Trap.{Trap}
+use Rattle.runs.specs.State.{spent}
 use Rattle.typed_tree.specs.declared.types.VarTy.{VarTy}
 use Rattle.typed_tree.specs.declared.types.VarTy.TheVariants.{Struct}
 use Rattle.typed_tree.specs.declared.types.StructInfo.{StructInfo}
 use Rattle.typed_tree.specs.declared.link.LinkStep.{LinkStep}
 use Rattle.typed_tree.specs.Sizes.{sizes_of, cells_by}
 use Rattle.source_meaning.specs.Memory.{Memory, Cell, read}
-use Rattle.source_meaning.specs.State.{spent}
 use Rattle.source_meaning.specs.Values.{Value, holds, whole, Location, converted_cell, moved, stepped, if_ok}
 use Rattle.source_meaning.specs.Expressions.{Context, decayed, dereferenced, element_of, field_at}
 

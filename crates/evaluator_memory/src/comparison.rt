@@ -1,6 +1,6 @@
 // Comparisons of pointers.
 ghost use Rattle.std.specs.Prelude.{◌≡◌, ◌&&◌, nat_eq, pos};
-ghost use Rattle.typed_tree.specs.Pointers.{cell_at as cell_pointed_at};
+ghost use Rattle.runs.specs.Pointers.{cell_at as cell_pointed_at};
 ghost use Rattle.source_meaning.specs.Memory.{same_block};
 ghost use Rattle.source_meaning.specs.Values.{are_equal, compared as compared_cell, if_ok, indices_of};
 ghost use Rattle.evaluator_memory.specs.View.{view_block, view_cell};

@@ -1,6 +1,6 @@
 // What is done with pointers: they are moved, and lead to objects.
 ghost use Rattle.std.specs.Prelude.{◌≡◌};
-ghost use Rattle.typed_tree.specs.Pointers.{directed, moved_index, up_to as up_to_count};
+ghost use Rattle.runs.specs.Pointers.{directed, moved_index, up_to as up_to_count};
 ghost use Rattle.typed_tree.specs.Sizes.{elem_type};
 
 use crate::arithmetic::{product, sum};
@@ -14,7 +14,7 @@ use typed_tree::VarTy;
 
 impl Cell {
     ghost use Rattle.std.specs.Prelude.{◌≡◌};
-    ghost use Rattle.typed_tree.specs.Pointers.{directed};
+    ghost use Rattle.runs.specs.Pointers.{directed};
     ghost use Rattle.typed_tree.specs.Sizes.{sizes_of};
     ghost use Rattle.source_meaning.specs.Values.{if_ok, moved, reached};
     ghost use Rattle.evaluator_memory.specs.Answers.{IsResult};

@@ -3,7 +3,7 @@ use Rattle.std.proofs.Common.{◌≡◌, ◌≤◌, ℕ, suc, List, [], length, 
 use Rattle.std.proofs.lemmas.List.{take_all, length-take}
 use Rattle.pt_tree.specs.declared.host_model.HostModel.{HostModel}
 use Rattle.pt_base.specs.declared.end.End.TheVariants.{Exit}
-use Rattle.source_meaning.specs.Run.{Expected}
+use Rattle.runs.specs.Run.{Expected}
 use Rattle.privtrans_app.specs.EarlyText.{IsEarlyText}
 use Rattle.privtrans_app.specs.EarlyHosts.{each, host_model, models_of, table_models, reading_of}
 use Rattle.serde_json.specs.Data.{Data}

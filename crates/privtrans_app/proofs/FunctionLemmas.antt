@@ -2,13 +2,13 @@
 use Rattle.std.proofs.Common.{◌≡◌, ℕ, zero, suc, ◌+◌, List, [], ◌∷◌, ◌++◌, length, map, get_or, refl, ◌∙◌, ap, arith, false, if◌then◌else◌, Some, codes}
 use Rattle.std.specs.Prelude.{⊤, slice_get}
 use Rattle.std.specs.Str.{bytes_eq}
+use Rattle.runs.specs.State.{take_turn, guarded_event, noted}
 use Rattle.typed_tree.specs.ExpressionTree.{ExprTree}
 use Rattle.typed_tree.specs.HostProgram.{host_function}
 use Rattle.typed_tree.specs.TypedTree.{FunctionTree}
 use Rattle.pt_tree.specs.HostStep.{host_step}
-use Rattle.source_meaning.specs.State.{take_turn}
 use Rattle.source_meaning.specs.Values.{numbers_of}
-use Rattle.source_meaning.specs.Functions.{function_at, guarded_event, noted, answered, function_call, calls_within}
+use Rattle.source_meaning.specs.Functions.{function_at, answered, function_call, calls_within}
 use Rattle.source_meaning.specs.Statements.{no_expr}
 use Rattle.source_meaning.specs.WholeRun.{main_frame, named_from, main_of}
 use Rattle.privtrans_app.specs.Names.{is_in}

@@ -9,14 +9,15 @@ use Rattle.pt_tree.specs.declared.host_model.HostModel.TheVariants.{Table, Feed,
 use Rattle.pt_tree.specs.HostStep.{Answer, host_step}
 use Rattle.pt_tree.specs.PlainNumbers.{plain_numbers}
 use Rattle.pt_base.specs.declared.span.Span.{Span}
+use Rattle.runs.specs.Run.{written}
+use Rattle.runs.specs.State.{Event, out, guarded, Hosts, put_host, gives, ◌>>=◌, take_turn, guarded_event, out_event, noted}
 use Rattle.typed_tree.specs.declared.types.VarTy.{VarTy}
 use Rattle.typed_tree.specs.HostProgram.{nowhere}
 use Rattle.source_meaning.specs.Memory.{number, local, read}
-use Rattle.source_meaning.specs.State.{State, Event, out, guarded, Hosts, put_host, Outcome, gives, ◌>>=◌, take_turn}
+use Rattle.source_meaning.specs.State.{State, Outcome}
 use Rattle.source_meaning.specs.Values.{Value, holds, whole, nothing, numbers_of}
 use Rattle.source_meaning.specs.Expressions.{Calls, Context, type_at, loaded, value_of, values_of}
-use Rattle.source_meaning.specs.Functions.{guarded_event, out_event, noted, result_value, answered}
-use Rattle.source_meaning.specs.Run.{written}
+use Rattle.source_meaning.specs.Functions.{result_value, answered}
 use Rattle.source_meaning.specs.WholeRun.{main_frame}
 use Rattle.privtrans_app.specs.Names.{is_in, place_in, all_differ}
 use Rattle.privtrans_app.specs.EarlyTree.{names_of, param_of, signature_of, int_type, variable_tree, arg_tree, args_tree, call_tree}

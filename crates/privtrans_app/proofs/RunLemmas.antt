@@ -9,18 +9,19 @@ use Rattle.pt_tree.specs.declared.host_model.HostModel.{HostModel}
 use Rattle.pt_base.specs.declared.int_type.IntType.TheVariants as i
 use Rattle.pt_int.specs.Conversion.{conv}
 use Rattle.pt_int.proofs.Conversions.{conv-same}
+use Rattle.runs.specs.Run.{expected, expected_from, decided, after_bytes, written}
+use Rattle.runs.specs.State.{Event, out, guarded, gives, ◌>>=◌}
 use Rattle.typed_tree.specs.declared.types.VarTy.{VarTy}
 use Rattle.typed_tree.specs.ExpressionTree.{ExprTree}
 use Rattle.typed_tree.specs.StatementTree.{BodyTree, give_back, no_bodies, body_trees}
 use Rattle.typed_tree.specs.TypedTree.{FunctionTree}
 use Rattle.typed_tree.specs.HostProgram.{nowhere}
 use Rattle.source_meaning.specs.Memory.{Memory, Cell, number, local, put, read, write, nothing_live}
-use Rattle.source_meaning.specs.State.{State, Event, out, guarded, Outcome, gives, ◌>>=◌}
+use Rattle.source_meaning.specs.State.{State, Outcome}
 use Rattle.source_meaning.specs.Values.{Value, holds, whole, nothing, Location, cleared}
 use Rattle.source_meaning.specs.Expressions.{Calls, type_at, sizes, store, value_of}
 use Rattle.source_meaning.specs.Statements.{Code, Flow, goes_on, returned, after_flow, statement, all_of, no_expr}
 use Rattle.source_meaning.specs.Functions.{body_or_none, calls_within}
-use Rattle.source_meaning.specs.Run.{expected, expected_from, decided, after_bytes, written}
 use Rattle.source_meaning.specs.WholeRun.{run_of}
 use Rattle.privtrans_app.specs.Names.{is_in, place_in, all_differ}
 use Rattle.privtrans_app.specs.EarlyTree.{names_of, number_tree, statement_tree, declares, evaluates, main_function, meant}

@@ -2,8 +2,8 @@
 use Rattle.std.specs.Prelude.{◌≡◌, ◌≤◌, ℕ, pos, true, IsTrue, List, [], length, Some}
 use Rattle.pt_base.specs.declared.end.End.TheVariants.{Exit}
 use Rattle.pt_tree.specs.declared.host_model.HostModel.{HostModel}
+use Rattle.runs.specs.Run.{expected}
 use Rattle.typed_tree.specs.WellFormed.{is_well_formed}
-use Rattle.source_meaning.specs.Run.{expected}
 use Rattle.source_meaning.specs.WholeRun.{whole_run}
 use Rattle.privtrans_app.specs.EarlyText.{IsEarlyText}
 use Rattle.privtrans_app.specs.EarlyTree.{meant}

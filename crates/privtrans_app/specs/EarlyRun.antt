@@ -3,7 +3,7 @@ use Rattle.std.specs.Prelude.{◌≡◌, ◌≤◌, ℕ, pos, Bool, true, false,
 use Rattle.pt_base.specs.declared.end.End.TheVariants.{Exit}
 use Rattle.pt_tree.specs.declared.host_model.HostModel.{HostModel}
 use Rattle.pt_tree.specs.declared.host_model.HostModel.TheVariants.{Table, Feed, Input, Bytes, Line}
-use Rattle.source_meaning.specs.Run.{Answers, expected}
+use Rattle.runs.specs.Run.{Answers, expected}
 use Rattle.source_meaning.specs.WholeRun.{whole_run}
 use Rattle.privtrans_app.specs.Names.{is_in}
 use Rattle.privtrans_app.specs.EarlyTree.{names_of, meant}

@@ -3,8 +3,9 @@ use Rattle.std.proofs.Common.{◌≡◌, ◌≤◌, ◌+◌, ℕ, zero, suc, Boo
 use Rattle.std.proofs.lemmas.List.{append_assoc, append-nil}
 use Rattle.pt_base.specs.declared.span.Span.{Span}
 use Rattle.pt_base.specs.declared.trap.Trap.{Trap}
+use Rattle.runs.specs.State.{Event, gives, trapped, spent, ◌>>=◌, take_turn}
 use Rattle.source_meaning.specs.Memory.{Memory}
-use Rattle.source_meaning.specs.State.{State, Event, Outcome, gives, trapped, spent, ◌>>=◌, take_turn}
+use Rattle.source_meaning.specs.State.{State, Outcome}
 
 -- events were added and turns were taken
 pub record Grows (st st' : State) : Type 0 where

@@ -2,6 +2,7 @@
 use Rattle.std.proofs.Common.{◌≡◌, ℕ, Bool, List, [], ◌∷◌, Option, Result, Ok, Err, if◌then◌else◌, pos, refl}
 use Rattle.pt_base.specs.declared.span.Span.{Span}
 use Rattle.pt_base.specs.declared.trap.Trap.{Trap}
+use Rattle.runs.specs.State.{gives, ◌>>=◌}
 use Rattle.typed_tree.specs.declared.types.VarTy.{VarTy}
 use Rattle.typed_tree.specs.declared.types.VarTy.TheVariants.{Int, Struct, Array, Pointer}
 use Rattle.typed_tree.specs.declared.link.LinkStep.{LinkStep}
@@ -9,8 +10,8 @@ use Rattle.typed_tree.specs.declared.link.LogicalOp.{LogicalOp}
 use Rattle.typed_tree.specs.ExpressionTree as t
 use Rattle.typed_tree.specs.ExpressionTree.{ExprTree, typed, FormTree, ExprTrees, no_exprs, expr_and, LinkTrees, no_links, link_and, link, OperandTrees, no_operands, operand_and, operand, PlaceTree, place, RootTree, StepTree, StepTrees, no_steps, step_and}
 use Rattle.source_meaning.specs.Memory.{local, global, Cell, number, null, read}
-use Rattle.source_meaning.specs.State.{State, gives, ◌>>=◌}
-use Rattle.source_meaning.specs.Values.{Value, holds, nothing, cell_of, is_true, truth_value, converted, converted_cell, Location, moved, number_of, unary_cell, stepped, unit_step}
+use Rattle.source_meaning.specs.State.{State}
+use Rattle.source_meaning.specs.Values.{Value, holds, nothing, cell_of, is_true, truth_value, converted, converted_cell, Location, moved_cell, number_of, unary_cell, stepped, unit_step}
 use Rattle.source_meaning.specs.Expressions.{Frame, Calls, Context, sizes, or_trap, type_at, field_at, decayed, address_of, dereferenced, element_of, indexed, loaded, stored_in, store, compounded, cell_or_trap, step_gives, counted, is_decided, link_type, type_or_int, type_of, nowhere, value_of, form_value, values_of, links_value, link_value, operands_value, operand_value, location_of, root_location, assigned_location, form_location, steps_location, step_location}
 use Rattle.source_meaning.proofs.Budgets.{longer, Keeps, keeps_bind, keeps_gives, keeps_trapped, keeps_read, keeps_memory, keeps_if, keeps_either}
 
@@ -37,7 +38,7 @@ keeps_store at v = keeps_memory (λ memory. stored_in memory at v) (λ st. gives
 
 keeps_indexed : (c : Context) (s : Span) (at : Location) (index : Value) → Keeps (indexed c s at index)
 keeps_indexed c s at index =
-    keeps_bind (or_trap s (moved (number_of index) (decayed at at.ty))) (λ cell. or_trap s (dereferenced c (element_of at.ty) cell)) (keeps_or_trap s (moved (number_of index) (decayed at at.ty))) (λ cell. keeps_or_trap s (dereferenced c (element_of at.ty) cell))
+    keeps_bind (or_trap s (moved_cell (number_of index) (decayed at at.ty))) (λ cell. or_trap s (dereferenced c (element_of at.ty) cell)) (keeps_or_trap s (moved_cell (number_of index) (decayed at at.ty))) (λ cell. keeps_or_trap s (dereferenced c (element_of at.ty) cell))
 
 -- ---- operators
 

@@ -2,7 +2,6 @@ pub mod Budgets
 pub mod CallBudgets
 pub mod ExpressionBudgets
 pub mod LoopBudgets
-pub mod PolicyLaws
 pub mod RunLaws
 pub mod SizeLemmas
 pub mod StatementBudgets

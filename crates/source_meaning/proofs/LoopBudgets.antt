@@ -1,6 +1,7 @@
 -- Loops keep their budget where each of their rounds does.
 use Rattle.std.proofs.Common.{◌≡◌, ◌≤◌, ◌<◌, ◌+◌, ℕ, zero, suc, Bool, false, refl, ◌∙◌, ap, arith}
-use Rattle.source_meaning.specs.State.{State, Outcome, gives, trapped, spent, take_turn, ◌>>=◌}
+use Rattle.runs.specs.State.{gives, trapped, spent, take_turn, ◌>>=◌}
+use Rattle.source_meaning.specs.State.{State, Outcome}
 use Rattle.source_meaning.specs.Statements.{Flow, Round, again, leaves, after_round, looped}
 use Rattle.source_meaning.proofs.Budgets.{Grows, state_of, longer, Follows, Keeps, grows_self, grows_bind, grows_turn, follows_bind, follows_turn}
 

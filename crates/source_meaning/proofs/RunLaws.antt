@@ -1,28 +1,34 @@
 -- Whole runs with more turns and with fewer.
-use Rattle.std.proofs.Common.{◌≡◌, ◌<◌, ◌≤◌, ◌+◌, ◌-◌, ◌⊎◌, inl, inr, ℕ, suc, pos, List, [], ◌++◌, refl, sym, ◌∙◌, ap, subst, arith}
+use Rattle.std.proofs.Common.{◌≡◌, ◌<◌, ◌≤◌, ◌+◌, ◌-◌, ◌⊎◌, inl, inr, ℕ, suc, pos, Option, Some, None, codes, List, [], ◌++◌, refl, sym, ◌∙◌, ap, subst, arith}
 use Rattle.std.proofs.lemmas.Bool.{cases_order}
 use Rattle.std.proofs.lemmas.List.{append-nil}
 use Rattle.pt_base.specs.declared.end.End.TheVariants.{Exit, Trapped, Spent}
+use Rattle.pt_base.specs.declared.ids.FnId.{FnId}
 use Rattle.pt_base.specs.declared.int_type.IntType.TheVariants as i
 use Rattle.pt_int.specs.Conversion.{conv}
+use Rattle.runs.specs.Run.{Run, deepest}
+use Rattle.runs.specs.State.{Hosts, Event, gives, trapped, spent}
 use Rattle.typed_tree.specs.TypedTree.{TypedTree}
-use Rattle.source_meaning.specs.State.{State, Hosts, Event, Outcome, gives, trapped, spent}
-use Rattle.source_meaning.specs.Run.{Run}
+use Rattle.typed_tree.specs.Lookup.{function_named}
+use Rattle.source_meaning.specs.State.{State, Outcome}
 use Rattle.source_meaning.specs.Values.{number_of}
 use Rattle.source_meaning.specs.Statements.{Flow, goes_on, broke, continues, returned, statement}
-use Rattle.source_meaning.specs.Functions.{body_at, code_at, calls_within}
-use Rattle.source_meaning.specs.WholeRun.{deepest, main_of, begun, main_frame, run_of, whole_run}
+use Rattle.source_meaning.specs.Functions.{body_at}
+use Rattle.source_meaning.specs.WholeRun.{main_run, begun, main_code, run_of, whole_run}
 use Rattle.source_meaning.specs.Laws.{EndedRunsStay, SpentRunsUseAll, FewerTurnsShowLess}
-use Rattle.source_meaning.proofs.Budgets.{state_of, longer, Follows, Keeps}
-use Rattle.source_meaning.proofs.StatementBudgets.{keeps_statement}
-use Rattle.source_meaning.proofs.CallBudgets.{keeps_calls}
+use Rattle.source_meaning.proofs.Budgets.{state_of, longer, Follows, Keeps, keeps_gives}
+use Rattle.source_meaning.proofs.CallBudgets.{keeps_calls, keeps_opened}
 
 -- what main's body comes to
 abbrev main_part : TypedTree → State → Outcome Flow
-main_part program = statement (body_at program (main_of program)) (code_at program (main_of program) main_frame (calls_within program (deepest - 1)))
+main_part program = main_run program (function_named program (codes "main"))
+
+keeps_main_run : (program : TypedTree) (o : Option FnId) → Keeps (main_run program o)
+keeps_main_run program None = keeps_gives goes_on
+keeps_main_run program (Some f) = keeps_opened (body_at program f.0) (main_code program f) [] (keeps_calls program (deepest - 1))
 
 keeps_main : (program : TypedTree) → Keeps (main_part program)
-keeps_main program = keeps_statement (body_at program (main_of program)) (code_at program (main_of program) main_frame (calls_within program (deepest - 1))) (keeps_calls program (deepest - 1))
+keeps_main program = keeps_main_run program (function_named program (codes "main"))
 
 -- ---- runs of what main's body comes to
 

@@ -1,6 +1,7 @@
 -- Statements keep their budget where calls do.
 use Rattle.std.proofs.Common.{◌+◌, ℕ, zero, suc, Bool, true, false, List, [], ◌∷◌, Option, Some, None, if◌then◌else◌, get_or}
 use Rattle.pt_int.specs.Conversion.{conv}
+use Rattle.runs.specs.State.{gives, ◌>>=◌, take_turn}
 use Rattle.typed_tree.specs.declared.ids.ExprId.{ExprId}
 use Rattle.typed_tree.specs.declared.statement.TypedInit.{TypedInit}
 use Rattle.typed_tree.specs.declared.statement.TypedInit.TheVariants as n
@@ -9,7 +10,7 @@ use Rattle.typed_tree.specs.declared.statement.TypedForInit.{TypedForInit}
 use Rattle.typed_tree.specs.declared.statement.TypedForInit.TheVariants as f
 use Rattle.typed_tree.specs.StatementTree.{BodyTree, block, nothing, evaluate, declare, choose, while_true, do_while, for_each, give_back, stop_loop, next_turn, switch, ElseTree, no_else, otherwise, BodyTrees, no_bodies, body_and, SectionTree, section, SectionTrees, no_sections, section_and}
 use Rattle.source_meaning.specs.Memory.{local, put}
-use Rattle.source_meaning.specs.State.{State, Outcome, gives, ◌>>=◌, take_turn}
+use Rattle.source_meaning.specs.State.{State, Outcome}
 use Rattle.source_meaning.specs.Values as v
 use Rattle.source_meaning.specs.Values.{Value, number_of, is_true, cleared}
 use Rattle.source_meaning.specs.Expressions.{sizes, type_at, store}

@@ -9,6 +9,7 @@ use Rattle.pt_int.specs.Operator.{binary_of}
 use Rattle.pt_int.specs.Conversion.{conv}
 use Rattle.pt_tree.specs.declared.signature.Elem.TheVariants as el
 use Rattle.pt_tree.specs.declared.host_model.HostModel.TheVariants.{Table, Line}
+use Rattle.runs.specs.State.{Hosts, out, guarded}
 use Rattle.typed_tree.specs.declared.types.VarTy.TheVariants as ty
 use Rattle.typed_tree.specs.declared.statement.TypedLabel.TheVariants.{Case, Default}
 use Rattle.typed_tree.specs.declared.statement.TypedInit.TheVariants as n
@@ -17,7 +18,6 @@ use Rattle.typed_tree.specs.ExpressionTree as t
 use Rattle.typed_tree.specs.ExpressionTree.{typed, place, no_steps}
 use Rattle.typed_tree.specs.StatementTree.{block, choose, no_else, do_while, for_each, stop_loop, next_turn, switch, body_trees, no_bodies, section, section_trees}
 use Rattle.typed_tree.specs.TypedTree.{TypedTree}
-use Rattle.source_meaning.specs.State.{Hosts, out, guarded}
 use Rattle.source_meaning.specs.WholeRun.{whole_run}
 use Rattle.source_meaning.proofs.WorkedTrees.{at, anywhere, int, char, to_int, ints, one_s, to_s, variable, part, item, field, constant, read, value, as_char, as_int, binary, assign, add_to, count_up, call, expr, does, returns, declares, of_type, int_param, pointer_param, host, function, main, program, no_host}
 
@@ -138,6 +138,16 @@ guards = program
 guards_outermost : whole_run guards no_host [] 9 ≡ record { events = guarded 1 (pos 3 ∷ []) ∷ out (3 ∷ []) ∷ guarded 2 [] ∷ out (5 ∷ []) ∷ []; end = Exit (pos 0); turns = 3 }
 unfolding binary_of conv
 guards_outermost = refl
+
+-- ---- variables
+
+-- int x; with no declaration that is reached, x = 5; return x;
+abbrev holds_from_entry : TypedTree
+holds_from_entry = program (main (of_type int ∷ []) (does 0 ∷ returns 1 ∷ []) ∷ []) (assign int (variable 0) (constant 5) ∷ value 0 ∷ [])
+
+holds_from_entry_runs : whole_run holds_from_entry no_host [] 0 ≡ record { events = []; end = Exit (pos 5); turns = 0 }
+unfolding conv
+holds_from_entry_runs = refl
 
 -- ---- objects
 

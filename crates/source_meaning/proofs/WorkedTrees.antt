@@ -9,6 +9,7 @@ use Rattle.pt_tree.specs.declared.signature.Param.{Param}
 use Rattle.pt_tree.specs.declared.signature.ParamKind.TheVariants as k
 use Rattle.pt_tree.specs.declared.signature.Elem.TheVariants as el
 use Rattle.pt_tree.specs.declared.host_model.HostModel.TheVariants as h
+use Rattle.runs.specs.State.{Hosts}
 use Rattle.typed_tree.specs.declared.ids.ExprId.{ExprId}
 use Rattle.typed_tree.specs.declared.types.VarTy.{VarTy}
 use Rattle.typed_tree.specs.declared.types.VarTy.TheVariants as ty
@@ -20,7 +21,6 @@ use Rattle.typed_tree.specs.ExpressionTree as t
 use Rattle.typed_tree.specs.ExpressionTree.{ExprTree, typed, PlaceTree, place, StepTrees, no_steps, step_and, ExprTrees, no_exprs, expr_and, no_links, link_and, link, expr_trees}
 use Rattle.typed_tree.specs.StatementTree.{BodyTree, block, evaluate, declare, give_back, body_trees}
 use Rattle.typed_tree.specs.TypedTree.{TypedTree, FunctionTree}
-use Rattle.source_meaning.specs.State.{Hosts}
 
 abbrev pub at : ℕ → ℕ → Span
 at from to = record { from = from; to = to }

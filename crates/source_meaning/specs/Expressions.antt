@@ -5,6 +5,8 @@ use Rattle.pt_base.specs.declared.int_type.IntType.TheVariants as i
 use Rattle.pt_base.specs.declared.span.Span.{Span}
 use Rattle.pt_base.specs.declared.trap.Trap.{Trap}
 use Rattle.pt_base.specs.declared.trap.Trap.TheVariants.{Null}
+use Rattle.runs.specs.Pointers.{if_ok, reached}
+use Rattle.runs.specs.State.{gives, trapped, ◌>>=◌}
 use Rattle.typed_tree.specs.declared.types.VarTy.{VarTy}
 use Rattle.typed_tree.specs.declared.types.VarTy.TheVariants.{Int, Struct, Array, Pointer}
 use Rattle.typed_tree.specs.declared.types.StructInfo.{StructInfo}
@@ -13,10 +15,11 @@ use Rattle.typed_tree.specs.declared.link.LogicalOp.{LogicalOp}
 use Rattle.typed_tree.specs.declared.link.LogicalOp.TheVariants.{And, Or}
 use Rattle.typed_tree.specs.ExpressionTree as t
 use Rattle.typed_tree.specs.ExpressionTree.{ExprTree, typed, FormTree, ExprTrees, no_exprs, expr_and, LinkTrees, no_links, link_and, link, OperandTrees, no_operands, operand_and, operand, PlaceTree, place, RootTree, StepTree, StepTrees, no_steps, step_and}
-use Rattle.typed_tree.specs.Sizes.{sizes_of, cells_by, offset_of, fields_of, elem_type}
+use Rattle.typed_tree.specs.Sizes.{sizes_of, cells_by, elem_cells, offset_of, fields_of}
+use Rattle.typed_tree.specs.TypeTests.{type_of_elem}
 use Rattle.source_meaning.specs.Memory.{Block, local, global, Cell, number, null, pointer, read, write, Memory}
-use Rattle.source_meaning.specs.State.{State, Outcome, gives, trapped, ◌>>=◌}
-use Rattle.source_meaning.specs.Values.{Value, holds, whole, nothing, cell_of, number_of, is_true, truth_value, converted, converted_cell, moved, Location, reached, unary_cell, stepped, unit_step}
+use Rattle.source_meaning.specs.State.{State, Outcome}
+use Rattle.source_meaning.specs.Values.{Value, holds, whole, nothing, cell_of, number_of, is_true, truth_value, converted, converted_cell, target_of, moved_cell, Location, unary_cell, stepped, unit_step}
 
 -- Where a function's code runs: at which depth it was called, and whether a privileged function is
 -- active, itself or one that called it.
@@ -72,9 +75,13 @@ decayed at ty = null
 abbrev pub address_of : Location → Cell
 address_of at = pointer at.block at.cell 1 0
 
+-- the object of this type at a cell of a block
+abbrev pub object_at : VarTy → Block × ℕ → Location
+object_at ty at = record { block = at.0; cell = at.1; ty = ty }
+
 -- what a pointer of this type points to
 abbrev pub dereferenced : Context → VarTy → Cell → Result Location Trap
-dereferenced context (Pointer elem fixed) cell = reached (sizes context) elem (elem_type elem) cell
+dereferenced context (Pointer elem fixed) cell = if_ok (reached (elem_cells (sizes context) elem) (target_of cell)) (object_at (type_of_elem elem))
 dereferenced context ty cell = Err Null
 
 -- the type of an element
@@ -85,7 +92,7 @@ element_of ty = ty
 -- an element of an array: decayed, moved by the index, and dereferenced
 abbrev pub indexed : Context → Span → Location → Value → State → Outcome Location
 indexed context s at index st =
-    or_trap s (moved (number_of index) (decayed at at.ty)) st >>= λ cell. or_trap s (dereferenced context (element_of at.ty) cell)
+    or_trap s (moved_cell (number_of index) (decayed at at.ty)) st >>= λ cell. or_trap s (dereferenced context (element_of at.ty) cell)
 
 -- the cells of an object
 abbrev pub cells_at : State → Location → ℕ → List Cell

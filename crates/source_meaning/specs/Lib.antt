@@ -2,7 +2,6 @@ pub mod Expressions
 pub mod Functions
 pub mod Laws
 pub mod Memory
-pub mod Run
 pub mod State
 pub mod Statements
 pub mod Values

@@ -1,5 +1,5 @@
 -- The memory of the original program: which cells lie in which block.
-use Rattle.std.specs.Prelude.{ℕ, ℤ, pos, Bool, false, ◌&&◌, List, [], if◌then◌else◌, nat_eq, slice_index_or, slice_set}
+use Rattle.std.specs.Prelude.{ℕ, ℤ, pos, Bool, false, ◌&&◌, List, [], if◌then◌else◌, nat_eq, get_or, slice_index_or, slice_set}
 
 -- An object is a block of cells. A local is named by the depth of its function's call and by its
 -- variable, a global by its number.
@@ -30,6 +30,12 @@ nothing_live block = []
 -- the memory in which this block has these cells, and the others are as they were
 abbrev pub put : Memory → Block → List Cell → Memory
 put memory block cells other = if same_block other block then cells else memory other
+
+-- the memory in which the function that was called at this depth has these cells in its variables, each
+-- in its own, and the others' are as they were
+abbrev pub with_frame : Memory → ℕ → List (List Cell) → Memory
+with_frame memory depth frame (local d x) = if nat_eq d depth then get_or frame x [] else memory (local d x)
+with_frame memory depth frame (global g) = memory (global g)
 
 -- one cell
 abbrev pub read : Memory → Block → ℕ → Cell

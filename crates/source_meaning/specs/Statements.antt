@@ -2,6 +2,7 @@
 use Rattle.std.specs.Prelude.{ℕ, zero, suc, ◌+◌, ℤ, Bool, true, false, List, [], ◌∷◌, Option, Some, None, if◌then◌else◌, get_or, unwrap_or, option_map}
 use Rattle.std.specs.Ordering.{int_eq}
 use Rattle.pt_int.specs.Conversion.{conv}
+use Rattle.runs.specs.State.{gives, spent, ◌>>=◌, take_turn}
 use Rattle.typed_tree.specs.declared.ids.ExprId.{ExprId}
 use Rattle.typed_tree.specs.declared.statement.TypedLabel.{TypedLabel}
 use Rattle.typed_tree.specs.declared.statement.TypedLabel.TheVariants.{Case, Default}
@@ -14,7 +15,7 @@ use Rattle.typed_tree.specs.ExpressionTree.{ExprTree, typed}
 use Rattle.typed_tree.specs.ExpressionTree as t
 use Rattle.typed_tree.specs.StatementTree.{BodyTree, block, nothing, evaluate, declare, choose, while_true, do_while, for_each, give_back, stop_loop, next_turn, switch, ElseTree, no_else, otherwise, BodyTrees, no_bodies, body_and, SectionTree, section, SectionTrees, no_sections, section_and}
 use Rattle.source_meaning.specs.Memory.{local, put}
-use Rattle.source_meaning.specs.State.{State, Outcome, gives, spent, ◌>>=◌, take_turn}
+use Rattle.source_meaning.specs.State.{State, Outcome}
 use Rattle.source_meaning.specs.Values as v
 use Rattle.source_meaning.specs.Values.{Value, number_of, is_true, cleared, Location}
 use Rattle.source_meaning.specs.Expressions.{Context, sizes, type_at, value_of, store}

@@ -1,30 +1,20 @@
 -- The run of a whole program within a budget of turns.
-use Rattle.std.specs.Prelude.{ℕ, suc, ◌-◌, ◌+◌, pos, false, List, [], ◌∷◌, map, codes, if◌then◌else◌}
-use Rattle.std.specs.Str.{bytes_eq}
+use Rattle.std.specs.Prelude.{ℕ, ◌-◌, ◌+◌, pos, false, List, [], ◌∷◌, Option, Some, None, map, codes}
 use Rattle.pt_base.specs.declared.end.End.TheVariants.{Exit, Trapped, Spent}
+use Rattle.pt_base.specs.declared.ids.FnId.{FnId}
 use Rattle.pt_base.specs.declared.int_type.IntType.TheVariants as i
 use Rattle.pt_int.specs.Conversion.{conv}
+use Rattle.runs.specs.Run.{Run, deepest}
+use Rattle.runs.specs.State.{Hosts, gives, trapped, spent}
 use Rattle.typed_tree.specs.declared.variable.TypedGlobal.{TypedGlobal}
-use Rattle.typed_tree.specs.TypedTree.{TypedTree, FunctionTree}
+use Rattle.typed_tree.specs.TypedTree.{TypedTree}
+use Rattle.typed_tree.specs.Lookup.{function_named}
 use Rattle.source_meaning.specs.Memory.{Memory, global, number, nothing_live, put}
-use Rattle.source_meaning.specs.State.{State, Hosts, Outcome, gives, trapped, spent}
-use Rattle.source_meaning.specs.Run.{Run}
+use Rattle.source_meaning.specs.State.{State, Outcome}
 use Rattle.source_meaning.specs.Values.{number_of}
 use Rattle.source_meaning.specs.Expressions.{Frame}
-use Rattle.source_meaning.specs.Statements.{Flow, goes_on, broke, continues, returned, statement}
-use Rattle.source_meaning.specs.Functions.{body_at, code_at, calls_within}
-
--- the deepest call
-abbrev pub deepest : ℕ
-deepest = 200
-
--- the number of the function with this name, from this one on
-abbrev pub named_from : ℕ → List FunctionTree → List ℕ → ℕ
-named_from n [] name = n
-named_from n (f ∷ fs) name = if bytes_eq name f.signature.name then n else named_from (suc n) fs name
-
-abbrev pub main_of : TypedTree → ℕ
-main_of program = named_from 0 program.functions (codes "main")
+use Rattle.source_meaning.specs.Statements.{Code, Flow, goes_on, broke, continues, returned, statement}
+use Rattle.source_meaning.specs.Functions.{body_at, code_at, opened, calls_within}
 
 -- the memory at the start: each global with its cells
 abbrev pub with_globals : Memory → ℕ → List TypedGlobal → Memory
@@ -48,8 +38,17 @@ run_of turns (gives (returned v) st) = record { events = st.events; end = Exit (
 run_of turns (trapped trap s st) = record { events = st.events; end = Trapped trap s; turns = turns - st.left }
 run_of turns (spent st) = record { events = st.events; end = Spent; turns = turns - st.left }
 
+-- the code of main, where it has this number
+abbrev pub main_code : TypedTree → FnId → Code
+main_code program f = code_at program f.0 main_frame (calls_within program (deepest - 1))
+
+-- main is entered, and its body runs; where there is no main, nothing is done
+abbrev pub main_run : TypedTree → Option FnId → State → Outcome Flow
+main_run program None st = gives goes_on st
+main_run program (Some f) st = statement (body_at program f.0) (main_code program f) (opened (main_code program f) [] st)
+
 -- the run of a program with these hosts and this input within a budget of turns; main runs at depth 1,
 -- and entering it takes no turn
 abbrev pub whole_run : TypedTree → Hosts → List ℕ → ℕ → Run
 whole_run program hosts input turns =
-    run_of turns (statement (body_at program (main_of program)) (code_at program (main_of program) main_frame (calls_within program (deepest - 1))) (begun program hosts input turns))
+    run_of turns (main_run program (function_named program (codes "main")) (begun program hosts input turns))

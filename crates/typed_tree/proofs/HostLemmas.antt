@@ -8,6 +8,7 @@ use Rattle.std.proofs.lemmas.List.{length-map}
 use Rattle.std.proofs.lemmas.List.Sums.{sum_by-cons, sum_by-append}
 use Rattle.std.proofs.lemmas.List.Folds.{list_all-append, list_any-append}
 use Rattle.std.proofs.lemmas.Grind.{flat_map-append}
+use Rattle.pt_base.specs.Names.{is_short}
 use Rattle.pt_tree.specs.declared.signature.Param.{Param}
 use Rattle.pt_tree.specs.declared.signature.ParamKind.{ParamKind}
 use Rattle.pt_tree.specs.declared.signature.ParamKind.TheVariants as k
@@ -16,29 +17,29 @@ use Rattle.typed_tree.specs.Cells.{leaves_of}
 use Rattle.typed_tree.specs.Nodes.{function_nodes, nodes_of}
 use Rattle.typed_tree.specs.Parts.{function_parts}
 use Rattle.typed_tree.specs.TypedTree.{TypedTree}
-use Rattle.typed_tree.specs.TypeTests.{same_type}
+use Rattle.typed_tree.specs.TypeTests.{same_type, same_bool}
 use Rattle.typed_tree.specs.WellFormedExpression.{param_type, is_main}
 use Rattle.typed_tree.specs.WellFormed.{is_well_formed, name_of, are_distinct, is_start, numbers_sound, function_sound, params_lead, variable_sound, is_integer_param, is_integer_kind}
 use Rattle.typed_tree.specs.HostProgram.{host_variable, host_function, main_function, host_program, is_host, are_hosts}
-use Rattle.typed_tree.proofs.WellFormedLemmas.{and_left, and_right}
-
-and_both : (a b : Bool) → IsTrue a → IsTrue b → IsTrue (a && b)
-and_both true b h i = i
-and_both false b h i = h
+use Rattle.typed_tree.proofs.WellFormedLemmas.{and_left, and_right, and_both}
 
 or_right : (a b : Bool) → IsTrue b → IsTrue (a || b)
 or_right true b h = refl
 or_right false b h = h
 
--- a parameter's variable has its type
+-- a parameter's variable has its type and its mark
 same_param : (kind : ParamKind) → IsTrue (is_integer_kind kind) → IsTrue (same_type (param_type kind) (param_type kind))
 same_param (k.Int t) h = grind (arith, nat_tests)
 same_param (k.Ptr elem fixed) h = grind (arith, h)
 
+same_mark : (b : Bool) → IsTrue (same_bool b b)
+same_mark true = refl
+same_mark false = refl
+
 lead : (ps : List Param) → IsTrue (list_all is_integer_param ps) → IsTrue (params_lead ps (map host_variable ps))
 lead [] h = refl
 lead (p ∷ ps) h =
-    and_both _ _ (same_param p.kind (and_left (is_integer_param p) (list_all is_integer_param ps) h))
+    and_both _ _ (and_both _ _ (same_param p.kind (and_left (is_integer_param p) (list_all is_integer_param ps) h)) (same_mark p.marked))
     (lead ps (and_right (is_integer_param p) (list_all is_integer_param ps) h))
 
 small : (p : Param) → IsTrue (is_integer_param p) → IsTrue (variable_sound [] (host_variable p))
@@ -59,6 +60,7 @@ variables (p ∷ ps) h =
 record Host (s : Signature) : Type 0 where
   pub host : IsTrue s.host
   pub other : IsTrue (not (is_main s))
+  pub short : IsTrue (is_short s.name)
   pub integers : IsTrue (list_all is_integer_param s.params)
   pub few : IsTrue (nat_le (length s.params) 8)
 
@@ -66,7 +68,7 @@ host_of : (s : Signature) → IsTrue (is_host s) → Host s
 host_of s h =
     let rest = and_right _ _ h in
     let last = and_right _ _ rest in
-    record { host = and_left _ _ h; other = and_left _ _ rest; integers = and_left _ _ last; few = and_right _ _ last }
+    record { host = and_left _ _ h; other = and_left _ _ (and_left _ _ rest); short = and_right _ _ (and_left _ _ rest); integers = and_left _ _ last; few = and_right _ _ last }
 
 host_sound_in : (hosts : List Signature) (s : Signature) → IsTrue (is_host s) → IsTrue (function_sound (host_program hosts) (host_function s))
 host_sound_in hosts s h =
@@ -99,6 +101,12 @@ distinct (s ∷ ss) h d =
     neither : (a b : Bool) → IsTrue (not a) → IsTrue (not b) → IsTrue (not (a || b))
     neither true b h i = h
     neither false b h i = i
+
+short_names : (hosts : List Signature) → IsTrue (list_all is_host hosts) → IsTrue (list_all is_short (map name_of (map host_function hosts ++ main_function ∷ [])))
+short_names [] h = refl
+short_names (s ∷ ss) h =
+    let is = host_of s (and_left (is_host s) (list_all is_host ss) h) in
+    and_both _ _ is.short (short_names ss (and_right (is_host s) (list_all is_host ss) h))
 
 hosts_numbered : (t : TypedTree) (hosts : List Signature) → IsTrue (list_all (numbers_sound t) (map host_function hosts))
 hosts_numbered t [] = refl
@@ -136,4 +144,4 @@ hosts_well_formed hosts h =
     let start : IsTrue (list_any is_start (hs ++ main_function ∷ [])) =
     list_any-append is_start hs (main_function ∷ []) ∙ or_right _ _ refl in
     let apart = distinct hosts all (and_left (are_distinct (map (λ s. s.name) hosts)) (nat_lt (length hosts) (2 ^ 20)) names) in
-    and_both _ _ (and_both _ _ functions (and_both _ _ apart start)) (and_both _ _ (numbered hosts) (few_nodes hosts all few))
+    and_both _ _ (and_both _ _ functions (and_both _ _ (and_both _ _ apart (short_names hosts all)) start)) (and_both _ _ (numbered hosts) (few_nodes hosts all few))

@@ -51,7 +51,9 @@ parts_below t f h = go (slice_get t.functions f.0) refl
   where
     go : (o : Option FunctionTree) → slice_get t.functions f.0 ≡ o → IsTrue (list_all (λ p. nat_lt p.expr.0 (length t.exprs)) (function_parts (option_and_then (λ g. g.body) o)))
     go None e = refl
-    go (Some g) e = consecutive_below (function_parts g.body) (length t.exprs) (passes_at (numbers_sound t) t.functions f.0 g (facts_of t h).numbered e)
+    go (Some g) e =
+        let numbers = passes_at (numbers_sound t) t.functions f.0 g (facts_of t h).numbered e in
+        consecutive_below (function_parts g.body) (length t.exprs) (and_left _ _ numbers)
 
 -- each part names an outermost expression
 pub parts_known : (t : TypedTree) (f : FnId) → IsTrue (is_well_formed t) → All (λ p. p.expr.0 < length t.exprs) (parts_in t f)

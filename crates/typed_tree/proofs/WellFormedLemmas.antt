@@ -4,6 +4,7 @@ use Rattle.std.specs.Prelude.{IsTrue, ◌&&◌, nat_lt, sum_by}
 use Rattle.std.specs.List.{list_all, list_any}
 use Rattle.std.proofs.lemmas.Bool.Decides.{nat_tests}
 use Rattle.std.proofs.lemmas.List.Sums.{sum_by-cons}
+use Rattle.pt_base.specs.Names.{is_short}
 use Rattle.typed_tree.specs.TypedTree.{FunctionTree, TypedTree}
 use Rattle.typed_tree.specs.Nodes.{nodes_of, function_nodes, expr_nodes}
 use Rattle.typed_tree.specs.ExpressionTree.{ExprTree, typed}
@@ -17,6 +18,10 @@ pub and_right : (a b : Bool) → IsTrue (a && b) → IsTrue b
 and_right true b h = h
 and_right false b h = grind (arith, h)
 
+pub and_both : (a b : Bool) → IsTrue a → IsTrue b → IsTrue (a && b)
+and_both true b h i = i
+and_both false b h i = h
+
 -- the facts that make a program well formed
 pub record Facts (t : TypedTree) : Type 0 where
   pub structs : IsTrue (structs_sound t.structs 0 t.structs)
@@ -24,6 +29,7 @@ pub record Facts (t : TypedTree) : Type 0 where
   pub small : IsTrue (globals_small t.globals)
   pub functions : IsTrue (list_all (function_sound t) t.functions)
   pub names : IsTrue (are_distinct (map name_of t.functions))
+  pub short : IsTrue (list_all is_short (map name_of t.functions))
   pub start : IsTrue (list_any is_start t.functions)
   pub numbered : IsTrue (list_all (numbers_sound t) t.functions)
   pub few : IsTrue (nat_lt (nodes_of t) (2 ^ 28))
@@ -40,7 +46,8 @@ facts_of t h =
       globals = and_left _ _ (and_right _ _ declared);
       small = and_right _ _ (and_right _ _ declared);
       functions = and_left _ _ functions;
-      names = and_left _ _ (and_right _ _ functions);
+      names = and_left _ _ (and_left _ _ (and_right _ _ functions));
+      short = and_right _ _ (and_left _ _ (and_right _ _ functions));
       start = and_right _ _ (and_right _ _ functions);
       numbered = and_left _ _ exprs;
       few = and_right _ _ exprs;

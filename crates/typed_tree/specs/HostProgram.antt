@@ -3,6 +3,7 @@ use Rattle.std.specs.Prelude.{◌^◌, pos, List, [], ◌∷◌, ◌++◌, None,
 use Rattle.std.specs.List.{list_all}
 use Rattle.pt_base.specs.declared.span.Span.{Span}
 use Rattle.pt_base.specs.declared.int_type.IntType.TheVariants as t
+use Rattle.pt_base.specs.Names.{is_short}
 use Rattle.pt_tree.specs.declared.signature.Param.{Param}
 use Rattle.pt_tree.specs.declared.signature.Signature.{Signature}
 use Rattle.typed_tree.specs.declared.types.VarTy.TheVariants.{Int}
@@ -46,9 +47,9 @@ host_program hosts = record {
   exprs = zero_expr ∷ [];
 }
 
--- a host: it isn't main, and takes at most 8 integers
+-- a host: its name is a short one and not main's, and it takes at most 8 integers
 abbrev pub is_host : Signature → Bool
-is_host s = s.host && (not (is_main s) && (list_all is_integer_param s.params && nat_le (length s.params) 8))
+is_host s = s.host && ((not (is_main s) && is_short s.name) && (list_all is_integer_param s.params && nat_le (length s.params) 8))
 
 -- these may be the hosts of one program: they are hosts with distinct names, and fewer than 2^20
 abbrev pub are_hosts : List Signature → Bool

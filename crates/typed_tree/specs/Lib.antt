@@ -4,7 +4,6 @@ pub mod HostProgram
 pub mod Lookup
 pub mod Nodes
 pub mod Parts
-pub mod Pointers
 pub mod Sizes
 pub mod StatementTree
 pub mod TypeRules

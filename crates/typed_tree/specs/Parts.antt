@@ -1,5 +1,6 @@
--- The outermost expressions of a body in text order, each with what it stands for.
-use Rattle.std.specs.Prelude.{List, [], ◌∷◌, ◌++◌, Option, None, Some, map}
+-- The outermost expressions of a body in text order, each with what it stands for, and the variables
+-- that its declarators declare.
+use Rattle.std.specs.Prelude.{ℕ, List, [], ◌∷◌, ◌++◌, Option, None, Some, map}
 use Rattle.std.specs.List.{flat_map}
 use Rattle.pt_base.specs.declared.ids.VarId.{VarId}
 use Rattle.typed_tree.specs.declared.ids.ExprId.{ExprId}
@@ -69,3 +70,45 @@ abbrev mutual
 abbrev pub function_parts : Option BodyTree → List Part
 function_parts None = []
 function_parts (Some b) = parts_of b
+
+-- ---- the numbers of the variables that declarators declare, in text order
+
+abbrev pub declarator_variables : List TypedDeclarator → List ℕ
+declarator_variables ds = map (λ d. d.var.0) ds
+
+abbrev pub for_init_variables : TypedForInit → List ℕ
+for_init_variables f.Nothing = []
+for_init_variables (f.Declare d) = declarator_variables d.declarators
+for_init_variables (f.Evaluate e) = []
+
+abbrev mutual
+  pub variables_of : BodyTree → List ℕ
+  variables_of (block s bs) = all_variables bs
+  variables_of (nothing s) = []
+  variables_of (evaluate s e) = []
+  variables_of (declare d) = declarator_variables d.declarators
+  variables_of (choose s e a o) = variables_of a ++ else_variables o
+  variables_of (while_true s e a) = variables_of a
+  variables_of (do_while s a e) = variables_of a
+  variables_of (for_each s i t u a) = for_init_variables i ++ variables_of a
+  variables_of (give_back s e) = []
+  variables_of (stop_loop s) = []
+  variables_of (next_turn s) = []
+  variables_of (switch s e t ss) = section_variables ss
+
+  pub else_variables : ElseTree → List ℕ
+  else_variables no_else = []
+  else_variables (otherwise a) = variables_of a
+
+  pub all_variables : BodyTrees → List ℕ
+  all_variables no_bodies = []
+  all_variables (body_and b rest) = variables_of b ++ all_variables rest
+
+  pub section_variables : SectionTrees → List ℕ
+  section_variables no_sections = []
+  section_variables (section_and (section s l bs) rest) = all_variables bs ++ section_variables rest
+
+-- the variables that a function declares in its body, none of a host
+abbrev pub function_variables : Option BodyTree → List ℕ
+function_variables None = []
+function_variables (Some b) = variables_of b

@@ -38,8 +38,3 @@ fields_of structs n = (get_or structs n (record { name = []; fields = [] })).fie
 -- at which cell of a struct a field begins
 abbrev pub offset_of : List StructInfo → ℕ → ℕ → ℕ
 offset_of structs n k = fields_cells (sizes_of structs) (take k (fields_of structs n))
-
--- the type of an element as that of an object
-abbrev pub elem_type : Elem → VarTy
-elem_type (e.Int t) = Int t
-elem_type (e.Struct n) = Struct n

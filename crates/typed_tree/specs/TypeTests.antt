@@ -48,6 +48,14 @@ pointee_of (Some (Struct n)) = None
 pointee_of (Some (Array elem count)) = None
 pointee_of (Some (Pointer elem fixed)) = Some elem
 
+-- a pointer to a const pointee
+abbrev pub points_to_const : Option VarTy → Bool
+points_to_const None = false
+points_to_const (Some (Int t)) = false
+points_to_const (Some (Struct n)) = false
+points_to_const (Some (Array elem count)) = false
+points_to_const (Some (Pointer elem fixed)) = fixed
+
 -- as what an object is pointed to, where it is no array and no pointer
 abbrev pub element_of : Option VarTy → Option Elem
 element_of None = None

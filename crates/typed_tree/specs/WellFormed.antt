@@ -4,6 +4,7 @@ use Rattle.std.specs.List.{list_all, list_any}
 use Rattle.std.specs.Str.{bytes_eq}
 use Rattle.pt_base.specs.declared.int_type.IntType.{IntType}
 use Rattle.pt_base.specs.declared.int_type.IntType.TheVariants as t
+use Rattle.pt_base.specs.Names.{is_short}
 use Rattle.pt_int.specs.Conversion.{is_in_range}
 use Rattle.pt_tree.specs.declared.signature.Param.{Param}
 use Rattle.pt_tree.specs.declared.signature.ParamKind.{ParamKind}
@@ -18,9 +19,9 @@ use Rattle.typed_tree.specs.declared.variable.TypedGlobal.{TypedGlobal}
 use Rattle.typed_tree.specs.StatementTree.{BodyTree, block}
 use Rattle.typed_tree.specs.TypedTree.{FunctionTree, TypedTree, signatures_of}
 use Rattle.typed_tree.specs.Cells.{leaves_of, cells_of}
-use Rattle.typed_tree.specs.Parts.{function_parts}
+use Rattle.typed_tree.specs.Parts.{function_parts, function_variables}
 use Rattle.typed_tree.specs.Nodes.{nodes_of}
-use Rattle.typed_tree.specs.TypeTests.{same_type, same_int}
+use Rattle.typed_tree.specs.TypeTests.{same_type, same_bool, same_int}
 use Rattle.typed_tree.specs.WellFormedExpression.{Names, is_elem, param_type, is_main}
 use Rattle.typed_tree.specs.WellFormedStatement.{Scope, is_sound}
 
@@ -80,11 +81,11 @@ is_integer_kind (k.Ptr elem fixed) = false
 abbrev pub is_integer_param : Param → Bool
 is_integer_param p = is_integer_kind p.kind
 
--- the first variables are the parameters
+-- the first variables are the parameters: they have their types and their marks
 abbrev pub params_lead : List Param → List Var → Bool
 params_lead [] xs = true
 params_lead (p ∷ ps) [] = false
-params_lead (p ∷ ps) (x ∷ xs) = same_type (param_type p.kind) x.ty && params_lead ps xs
+params_lead (p ∷ ps) (x ∷ xs) = (same_type (param_type p.kind) x.ty && same_bool p.marked x.marked) && params_lead ps xs
 
 -- a host: its parameters are integers, and it has no other variables
 abbrev pub host_sound : FunctionTree → Bool
@@ -127,6 +128,10 @@ abbrev pub are_distinct : List (List ℕ) → Bool
 are_distinct [] = true
 are_distinct (name ∷ names) = not (list_any (bytes_eq name) names) && are_distinct names
 
+-- no two names are equal, and each is that of a word of a text
+abbrev pub names_sound : List (List ℕ) → Bool
+names_sound names = are_distinct names && list_all is_short names
+
 -- an int, if there is a type
 abbrev pub is_int_result : Option IntType → Bool
 is_int_result None = false
@@ -146,13 +151,19 @@ abbrev pub are_consecutive : List Part → ℕ → Bool
 are_consecutive [] last = true
 are_consecutive (p ∷ ps) last = are_numbered p.expr.0 (p ∷ ps) last
 
--- the outermost expressions of a body have consecutive numbers, in text order
+-- the numbers rise strictly, the first being no less than this one
+abbrev pub are_rising : ℕ → List ℕ → Bool
+are_rising first [] = true
+are_rising first (n ∷ ns) = nat_le first n && are_rising (suc n) ns
+
+-- In text order the outermost expressions of a body have consecutive numbers, and its declarators name
+-- variables behind the parameters, each of them once.
 abbrev pub numbers_sound : TypedTree → FunctionTree → Bool
-numbers_sound t f = are_consecutive (function_parts f.body) (length t.exprs)
+numbers_sound t f = are_consecutive (function_parts f.body) (length t.exprs) && are_rising (length f.signature.params) (function_variables f.body)
 
 -- what is kept of every typed program
 unfoldable pub is_well_formed : TypedTree → Bool
 is_well_formed t =
     (structs_sound t.structs 0 t.structs && (list_all (global_sound t.structs) t.globals && globals_small t.globals))
-    && ((list_all (function_sound t) t.functions && (are_distinct (map name_of t.functions) && list_any is_start t.functions))
+    && ((list_all (function_sound t) t.functions && (names_sound (map name_of t.functions) && list_any is_start t.functions))
     && (list_all (numbers_sound t) t.functions && nat_lt (nodes_of t) (2 ^ 28)))

@@ -1,7 +1,8 @@
 -- Which expressions are well formed: each number names an entry, each constant is in its range, and
 -- each expression, place and operator has the type that the rules give it, its operands being
--- converted.
-use Rattle.std.specs.Prelude.{ℕ, ℤ, List, [], ◌∷◌, Option, None, Some, Bool, true, false, ◌&&◌, not, if◌then◌else◌, nat_lt, slice_get, option_map, option_and_then, is_none, length, codes}
+-- converted. What is const is not written, and no pointer forgets it.
+use Rattle.std.specs.Prelude.{ℕ, ℤ, List, [], ◌∷◌, Option, None, Some, Bool, true, false, ◌&&◌, ◌||◌, not, if◌then◌else◌, nat_lt, slice_get, option_map, option_and_then, is_none, length, codes}
+use Rattle.std.specs.Option.{option_map_or}
 use Rattle.std.specs.Str.{bytes_eq}
 use Rattle.pt_base.specs.declared.int_type.IntType.{IntType}
 use Rattle.pt_int.specs.Conversion.{is_in_range}
@@ -17,7 +18,7 @@ use Rattle.typed_tree.specs.declared.types.StructInfo.{StructInfo}
 use Rattle.typed_tree.specs.declared.variable.Var.{Var}
 use Rattle.typed_tree.specs.declared.variable.TypedGlobal.{TypedGlobal}
 use Rattle.typed_tree.specs.ExpressionTree.{ExprTree, FormTree, ExprTrees, LinkTrees, OperandTrees, PlaceTree, RootTree, StepTree, StepTrees, typed, constant, null, read, decay, address, unary, convert, discard, chain, logical, choice, assign, compound, step, call, no_exprs, expr_and, link, no_links, link_and, operand, no_operands, operand_and, place, local, global, deref, assigned, field, item, no_steps, step_and}
-use Rattle.typed_tree.specs.TypeTests.{same_types, both_elem, integer_of, pointee_of, element_of, item_of, type_of_elem, is_scalar, is_value}
+use Rattle.typed_tree.specs.TypeTests.{same_types, both_elem, integer_of, pointee_of, points_to_const, element_of, item_of, type_of_elem, is_scalar, is_value}
 use Rattle.typed_tree.specs.TypeRules.{int, stepped, is_compound, promoted_value, converts, unary_fits, is_arm}
 
 -- what the numbers in a function name
@@ -112,6 +113,26 @@ ends_in_field start (step_and (item i s) rest) = ends_in_field false rest
 abbrev pub is_addressed : PlaceTree → Bool
 is_addressed (place r ss) = is_object (place r ss) && ends_in_field (is_named r) ss
 
+-- Where a place begins, the object is const: a const global is, and what a pointer to a const pointee
+-- points to. A variable isn't, since the tree knows no const ones, nor is the value of an assignment.
+abbrev pub root_const : Names → RootTree → Bool
+root_const n (local v) = false
+root_const n (global g) = option_map_or (λ x. x.fixed) (slice_get n.globals g.0) false
+root_const n (deref a s) = points_to_const (ty_of a)
+root_const n (assigned a) = false
+
+-- an object is const, and so is each part of it
+abbrev pub place_const : Names → PlaceTree → Bool
+place_const n (place r ss) = root_const n r
+
+-- a pointer to a const object knows that it is const; one to any object may say so
+abbrev pub keeps_const : Bool → Option VarTy → Bool
+keeps_const is_const t = not is_const || points_to_const t
+
+-- what may be written: an object that isn't const (C99 6.5.16p2, 6.3.2.1p1)
+abbrev pub is_written : Names → PlaceTree → Bool
+is_written n p = is_object p && not (place_const n p)
+
 abbrev pub has_links : LinkTrees → Bool
 has_links no_links = false
 has_links (link_and l rest) = true
@@ -148,17 +169,17 @@ abbrev mutual
   form_fits n (constant v) t = constant_fits v (integer_of t)
   form_fits n null t = is_elem (length n.structs) (pointee_of t)
   form_fits n (read p) t = place_fits n p && (same_types (place_type n p) t && is_value t)
-  form_fits n (decay p) t = place_fits n p && both_elem (item_of (place_type n p)) (pointee_of t)
-  form_fits n (address p) t = place_fits n p && (is_addressed p && both_elem (element_of (place_type n p)) (pointee_of t))
+  form_fits n (decay p) t = place_fits n p && (both_elem (item_of (place_type n p)) (pointee_of t) && keeps_const (place_const n p) t)
+  form_fits n (address p) t = place_fits n p && (is_addressed p && (both_elem (element_of (place_type n p)) (pointee_of t) && keeps_const (place_const n p) t))
   form_fits n (unary op a) t = is_typed n a && unary_fits op (ty_of a) t
   form_fits n (convert a) t = is_typed n a && converts (ty_of a) t
   form_fits n (discard a) t = is_typed n a && is_none t
   form_fits n (chain a ls) t = is_typed n a && (has_links ls && links_fit n (ty_of a) ls t)
   form_fits n (logical op a os) t = (is_typed n a && is_scalar (ty_of a)) && ((has_operands os && operands_fit n os) && same_types t int)
   form_fits n (choice a b c) t = (is_typed n a && is_scalar (ty_of a)) && ((is_typed n b && same_types (ty_of b) t) && ((is_typed n c && same_types (ty_of c) t) && is_arm t))
-  form_fits n (assign p a) t = (place_fits n p && is_object p) && ((same_types (place_type n p) t && is_value t) && (is_typed n a && same_types (ty_of a) t))
-  form_fits n (compound p at op a) t = (place_fits n p && is_object p) && (same_types (place_type n p) t && (is_typed n a && (is_compound op && converts (stepped (promoted_value t) op (ty_of a)) t)))
-  form_fits n (step p at back postfix) t = (place_fits n p && is_object p) && (same_types (place_type n p) t && is_scalar t)
+  form_fits n (assign p a) t = (place_fits n p && is_written n p) && ((same_types (place_type n p) t && is_value t) && (is_typed n a && same_types (ty_of a) t))
+  form_fits n (compound p at op a) t = (place_fits n p && is_written n p) && (same_types (place_type n p) t && (is_typed n a && (is_compound op && converts (stepped (promoted_value t) op (ty_of a)) t)))
+  form_fits n (step p at back postfix) t = (place_fits n p && is_written n p) && (same_types (place_type n p) t && is_scalar t)
   form_fits n (call g arguments) t = all_typed n arguments && call_fits (slice_get n.signatures g.0) arguments t
 
   pub all_typed : Names → ExprTrees → Bool

@@ -17,6 +17,9 @@ use pt_base::{Bytes, IntType, Listed, Span};
 use pt_tree::{Param, ParamKind, Signature};
 use std::alloc::{AllocError, Global};
 
+// the most bytes of a name
+const LONGEST_NAME: usize = 1_048_576;
+
 // what stands in no text
 fn nowhere_at() -> Span
     ensures { result ≡ nowhere }
@@ -43,6 +46,7 @@ fn is_host_of(signature: &Signature) -> bool
 {
     signature.host
         && signature.name.as_slice() != b"main".as_slice()
+        && signature.name.as_slice().len() <= LONGEST_NAME
         && are_integers(signature.params.as_slice())
         && signature.params.as_slice().len() <= 8
 }
@@ -86,7 +90,7 @@ fn have_distinct_names(hosts: &[Signature]) -> bool
 }
 
 /// Whether these may be the hosts of one program: hosts that take at most 8 integers, with
-/// distinct names other than `main`, and fewer than 2^20.
+/// distinct names of at most 1 MiB other than `main`, and fewer than 2^20.
 pub(crate) fn may_be_hosts(hosts: &[Signature]) -> bool
     ensures { result ≡ are_hosts hosts.now }
 {

@@ -57,8 +57,8 @@ impl Typed {
     }
 
     /// The program that declares these hosts, and whose main returns 0. None exactly where they
-    /// aren't hosts that take at most 8 integers, with distinct names other than `main`, or where
-    /// there are 2^20 or more.
+    /// aren't hosts that take at most 8 integers, with distinct names of at most 1 MiB other than
+    /// `main`, or where there are 2^20 or more.
     pub fn of_hosts(alloc: Global, hosts: Vec<Signature>) -> Result<Option<Typed>, AllocError>
         ensures exactly { IfOk result (λ o. IsSome o ↔ IsTrue (are_hosts hosts.items)) }
         ensures program { IfOk result (λ o. IfSome o (λ t. view_typed t ≡ host_program hosts.items)) }

@@ -1,9 +1,10 @@
 use Rattle.std.proofs.Common.{rules, ◌≡◌, ◌∙◌, ap, sym, refl, subst, map, false, suc, ◌+◌, ◌-◌, [], ◌∷◌, ◌++◌, drop, nat_eq, arith}
 use Rattle.std.proofs.lemmas.List.{map-append}
+use Rattle.runs.specs.State.{gives, ◌>>=◌}
 use Rattle.typed_tree.specs.ExpressionTree as tree
 use Rattle.typed_tree.specs.StatementTree as b
 use Rattle.typed_tree.proofs.Rows.{view_read, view_decay, view_address, view_chain, view_logical, view_assign, view_compound, view_increment, view_call, view_block, view_switch}
-use Rattle.source_meaning.specs.State.{Outcome, gives, ◌>>=◌}
+use Rattle.source_meaning.specs.State.{Outcome}
 use Rattle.source_meaning.specs.Values.{Value}
 use Rattle.evaluator.proofs.ArmLemmas.{read_is, decay_is, address_is, chain_is, logical_is, assign_led, assign_is, compound_led, compound_is, assigned_led, assigned_is}
 use Rattle.source_meaning.specs.Expressions as is

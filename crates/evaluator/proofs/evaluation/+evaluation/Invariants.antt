@@ -1,5 +1,5 @@
 use Rattle.std.proofs.Common.{◌≡◌, ◌+◌, ◌*◌, ◌-◌, ◌++◌, drop, map, nat_eq, true}
-use Rattle.source_meaning.specs.State.{gives, ◌>>=◌}
+use Rattle.runs.specs.State.{gives, ◌>>=◌}
 use Rattle.source_meaning.specs.Expressions.{values_of, links_value, operands_value, steps_location}
 use Rattle.source_meaning.specs.Statements as c
 use Rattle.typed_tree.specs.ExpressionTree as t

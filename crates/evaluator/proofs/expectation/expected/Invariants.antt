@@ -1,5 +1,5 @@
 use Rattle.std.proofs.Common.{◌≡◌, ◌≤◌, map, drop}
-use Rattle.source_meaning.specs.Run.{after_bytes, expected_from}
+use Rattle.runs.specs.Run.{after_bytes, expected_from}
 use Rattle.evaluator.specs.Expected.{answers_of}
 use Rattle.evaluator.specs.Seen.{view_event}
 use Rattle.evaluator.proofs.expectation.expected.Given as goal

@@ -2,7 +2,7 @@
 use Rattle.std.specs.Prelude.{ℕ, ◌+◌, ℤ, List, [], ◌∷◌, ◌++◌, Option, Some, None}
 use Rattle.pt_base.specs.declared.end.End.{End}
 use Rattle.pt_base.specs.declared.end.End.TheVariants.{Refused}
-use Rattle.source_meaning.specs.State.{Event, out, guarded}
+use Rattle.runs.specs.State.{Event, out, guarded}
 
 -- A run: what is seen of it, how it ends, and how many turns it used.
 pub record Run : Type 0 where
@@ -48,3 +48,7 @@ expected_from policy s calls (guarded f vs ∷ events) end =
 -- allowed, else the bytes before the first that is denied, and its refusal
 abbrev pub expected : {S : Type 0} → Answers S → Run → Expected
 expected policy run = expected_from policy policy.first 0 run.events run.end
+
+-- the deepest call, main being at depth 1
+abbrev pub deepest : ℕ
+deepest = 200

@@ -3,9 +3,9 @@ use Rattle.std.proofs.Common.{◌⊎◌, inl, inr, Option, Some, None, ◌≡◌
 use Rattle.std.proofs.lemmas.List.{append_assoc, append-nil}
 use Rattle.pt_base.specs.declared.end.End.{End}
 use Rattle.pt_base.specs.declared.end.End.TheVariants.{Refused}
-use Rattle.source_meaning.specs.State.{Event, out, guarded}
-use Rattle.source_meaning.specs.Run.{written, Answers, after_bytes, decided, expected_from}
-use Rattle.source_meaning.specs.Laws.{Allows, call_count, Denies, AllowedRunsStay, DeniedRunsStop, RunsAreAllowedOrDenied}
+use Rattle.runs.specs.State.{Event, out, guarded}
+use Rattle.runs.specs.Run.{written, Answers, after_bytes, decided, expected_from}
+use Rattle.runs.specs.Laws.{Allows, call_count, Denies, AllowedRunsStay, DeniedRunsStop, RunsAreAllowedOrDenied}
 
 -- events that the policy allows add their bytes, and it goes on from the state that it came to
 allowed_first : {S : Type 0} (policy : Answers S) (s t : S) (calls : ℕ) (before after : List Event) (end : End) → Allows policy s before t →

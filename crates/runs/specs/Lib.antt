@@ -1,0 +1,4 @@
+pub mod Laws
+pub mod Pointers
+pub mod Run
+pub mod State

@@ -1,0 +1,52 @@
+-- What a well formed program computes is of the kinds that its types say.
+use Rattle.std.specs.Prelude.{◌≡◌, ◌≤◌, ℕ, List, [], ◌∷◌, Bool, Option, Some, None, IsTrue, map, option_map, slice_get}
+use Rattle.pt_base.specs.declared.span.Span.{Span}
+use Rattle.pt_tree.specs.declared.signature.Param.{Param}
+use Rattle.typed_tree.specs.declared.types.VarTy.{VarTy}
+use Rattle.typed_tree.specs.declared.types.VarTy.TheVariants.{Int}
+use Rattle.typed_tree.specs.ExpressionTree.{ExprTree, PlaceTree}
+use Rattle.typed_tree.specs.WellFormedExpression.{Names, is_typed, ty_of, place_type, place_fits, param_type}
+use Rattle.runs.specs.State.{gives, trapped, spent}
+use Rattle.source_meaning.specs.State.{State, Outcome}
+use Rattle.source_meaning.specs.Values.{Value, Location}
+use Rattle.source_meaning.specs.Expressions.{Frame, Calls, Context, value_of, location_of}
+use Rattle.source_soundness.specs.Worlds.{World, Fits, ValueFits, LocationFits}
+
+-- where a part of a run gives something, that is so, and the memory still fits
+abbrev pub Keeps : {A : Type 0} → World → (A → Type 0) → Outcome A → Type 0
+Keeps w Q (gives a st) = Q a × Fits w st.memory
+Keeps w Q (trapped trap s st) = Unit {0}
+Keeps w Q (spent st) = Unit {0}
+
+-- one value for each parameter, of its type
+abbrev pub ArgumentsFit : World → List Param → List Value → Type 0
+ArgumentsFit w [] [] = Unit {0}
+ArgumentsFit w [] (v ∷ vs) = ⊥
+ArgumentsFit w (p ∷ ps) [] = ⊥
+ArgumentsFit w (p ∷ ps) (v ∷ vs) = ValueFits w (Some (param_type p.kind)) v × ArgumentsFit w ps vs
+
+-- calls from this frame give results of the callee's type, and leave what is live fitting
+abbrev pub CallsFit : World → Names → Frame → Calls → Type 0
+CallsFit w n frame calls = (s : Span) (f : ℕ) (vs : List Value) (st : State) (signature : _) →
+    slice_get n.signatures f ≡ Some signature → ArgumentsFit w signature.params vs → Fits w st.memory →
+    Keeps w (ValueFits w (option_map Int signature.result)) (calls frame s f vs st)
+
+-- the context names what the function's code names, and runs at the world's depth
+pub record ContextFits (w : World) (n : Names) (c : Context) : Type 0 where
+  pub structs : c.structs ≡ n.structs
+  pub globals : c.globals ≡ map (λ g. g.var.ty) n.globals
+  pub variables : c.variables ≡ map (λ x. x.ty) n.vars
+  pub known : w.globals ≡ c.globals
+  pub own : w.frames w.depth ≡ c.variables
+  pub at_depth : c.frame.depth ≡ w.depth
+  pub active : 1 ≤ w.depth
+  pub calls : CallsFit w n c.frame c.calls
+
+-- an expression gives a value of its type, and a place lies in a live object
+abbrev pub ValuesHaveTheirTypes : Type 0
+ValuesHaveTheirTypes = (w : World) (n : Names) (c : Context) (e : ExprTree) (st : State) → ContextFits w n c →
+    IsTrue (is_typed n e) → Fits w st.memory → Keeps w (ValueFits w (ty_of e)) (value_of e c st)
+
+abbrev pub PlacesAreLive : Type 0
+PlacesAreLive = (w : World) (n : Names) (c : Context) (p : PlaceTree) (st : State) (ty : VarTy) → ContextFits w n c →
+    IsTrue (place_fits n p) → place_type n p ≡ Some ty → Fits w st.memory → Keeps w (LocationFits w (Some ty)) (location_of p c st)
