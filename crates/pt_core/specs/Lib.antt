@@ -1,3 +1,4 @@
+pub mod BootLaw
 pub mod Calls
 pub mod CodeTree
 pub mod CoreRun
