@@ -68,21 +68,25 @@ fn a_long_sum_is_copied_and_let_go(rt: HostRuntime) -> Result<(), Fail> {
     Ok(())
 }
 
+// what crosses threads
+fn share(function: &CoreFn, program: &MonitorProgram) {
+    is_shared(function);
+    is_shared(program);
+}
+
 #[test]
 fn programs_are_shared_between_threads(rt: HostRuntime) -> Result<(), Fail> {
     let alloc = rt.alloc();
-    let function = returning(alloc, one())?;
-    is_shared(&function);
-    let mut functions = Vec::new(alloc);
-    functions.push(function)?;
     let program = MonitorProgram {
         structs: Listed::new(Vec::new(alloc)),
         signatures: Listed::new(Vec::new(alloc)),
-        functions,
+        functions: Vec::new(alloc),
         globals: Listed::new(Vec::new(alloc)),
         entries: Listed::new(Vec::new(alloc)),
     };
-    is_shared(&program);
-    assert_eq!(rt; program.functions.len(), 1);
+    let function = returning(alloc, one())?;
+    share(&function, &program);
+    assert_eq!(rt; program.functions.len(), 0);
+    assert_eq!(rt; returned_depth(&function), 0);
     Ok(())
 }
