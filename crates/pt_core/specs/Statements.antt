@@ -1,10 +1,11 @@
 -- The meaning of statements by recursion: one equation for each form.
-use Rattle.std.specs.Prelude.{ℕ, zero, suc, Bool, List, Option, Some, None, Result, Ok, Err, if◌then◌else◌}
+use Rattle.std.specs.Prelude.{ℕ, zero, suc, pos, Bool, List, Option, Some, None, Result, Ok, Err, if◌then◌else◌}
 use Rattle.pt_base.specs.declared.span.Span.{Span}
 use Rattle.typed_tree.specs.Sizes.{sizes_of, cells_by}
 use Rattle.runs.specs.State as r
 use Rattle.runs.specs.State.{gives, trapped, spent, ◌>>=◌, take_turn}
 use Rattle.block_memory.specs.declared.cell.Cell.{Cell}
+use Rattle.block_memory.specs.declared.cell.Cell.TheVariants as cell
 use Rattle.block_memory.specs.declared.cell.BlockName.TheVariants.{Local}
 use Rattle.block_memory.specs.Block.{fresh}
 use Rattle.block_memory.specs.Blocks.{Blocks, put}
@@ -45,10 +46,10 @@ copied c depth to of blocks =
     location_of c depth to blocks >>? λ at. location_of c depth of blocks >>? λ from.
     Ok (all_written blocks at.block at.cell (cells_at blocks from (cells_by (sizes_of c.structs) at.ty)))
 
--- what a call gave goes to a variable, if there is one for it
+-- what a call gave goes to a variable, if there is one for it; 0 where the call gave nothing
 abbrev pub kept : ℕ → Option ℕ → Option Cell → Blocks → Blocks
 kept depth (Some v) (Some c) blocks = written blocks (Local depth v) 0 c
-kept depth (Some v) None blocks = blocks
+kept depth (Some v) None blocks = written blocks (Local depth v) 0 (cell.Int (pos 0))
 kept depth None result blocks = blocks
 
 abbrev pub returned_value : Context → ℕ → Option ExprTree → Blocks → Result (Option Cell) Stop

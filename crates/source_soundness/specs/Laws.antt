@@ -1,16 +1,21 @@
 -- What a well formed program computes is of the kinds that its types say.
-use Rattle.std.specs.Prelude.{◌≡◌, ◌≤◌, ℕ, List, [], ◌∷◌, Bool, Option, Some, None, IsTrue, map, option_map, slice_get}
+use Rattle.std.specs.Prelude.{◌≡◌, ◌≤◌, ℕ, false, List, [], ◌∷◌, Bool, Option, Some, None, IsTrue, map, option_map, slice_get}
+use Rattle.pt_base.specs.declared.int_type.IntType.{IntType}
 use Rattle.pt_base.specs.declared.span.Span.{Span}
 use Rattle.pt_tree.specs.declared.signature.Param.{Param}
 use Rattle.typed_tree.specs.declared.types.VarTy.{VarTy}
-use Rattle.typed_tree.specs.declared.types.VarTy.TheVariants.{Int}
+use Rattle.typed_tree.specs.declared.types.VarTy.TheVariants.{Int, Struct}
+use Rattle.typed_tree.specs.declared.types.StructInfo.{StructInfo}
 use Rattle.typed_tree.specs.ExpressionTree.{ExprTree, PlaceTree}
-use Rattle.typed_tree.specs.WellFormedExpression.{Names, is_typed, ty_of, place_type, place_fits, param_type}
+use Rattle.typed_tree.specs.WellFormedExpression.{Names, is_typed, ty_of, field_type, place_type, place_fits, param_type}
+use Rattle.typed_tree.specs.StatementTree.{BodyTree}
+use Rattle.typed_tree.specs.WellFormedStatement.{Scope, is_sound}
 use Rattle.runs.specs.State.{gives, trapped, spent}
 use Rattle.source_meaning.specs.State.{State, Outcome}
 use Rattle.source_meaning.specs.Values.{Value, Location}
 use Rattle.source_meaning.specs.Expressions.{Frame, Calls, Context, value_of, location_of}
-use Rattle.source_soundness.specs.Worlds.{World, Fits, ValueFits, LocationFits}
+use Rattle.source_meaning.specs.Statements.{Code, Flow, goes_on, broke, continues, returned, statement}
+use Rattle.source_soundness.specs.Worlds.{World, Fits, ValueFits, LocationFits, is_pointer}
 
 -- where a part of a run gives something, that is so, and the memory still fits
 abbrev pub Keeps : {A : Type 0} → World → (A → Type 0) → Outcome A → Type 0
@@ -31,9 +36,15 @@ CallsFit w n frame calls = (s : Span) (f : ℕ) (vs : List Value) (st : State) (
     slice_get n.signatures f ≡ Some signature → ArgumentsFit w signature.params vs → Fits w st.memory →
     Keeps w (ValueFits w (option_map Int signature.result)) (calls frame s f vs st)
 
+-- no field is a pointer
+abbrev pub FieldsArePlain : List StructInfo → Type 0
+FieldsArePlain structs = (k j : ℕ) (ty : VarTy) → field_type structs (Some (Struct k)) j ≡ Some ty → is_pointer ty ≡ false
+
 -- the context names what the function's code names, and runs at the world's depth
 pub record ContextFits (w : World) (n : Names) (c : Context) : Type 0 where
   pub structs : c.structs ≡ n.structs
+  pub plain : FieldsArePlain n.structs
+  pub plain_globals : (g : ℕ) (ty : VarTy) → slice_get c.globals g ≡ Some ty → is_pointer ty ≡ false
   pub globals : c.globals ≡ map (λ g. g.var.ty) n.globals
   pub variables : c.variables ≡ map (λ x. x.ty) n.vars
   pub known : w.globals ≡ c.globals
@@ -50,3 +61,21 @@ ValuesHaveTheirTypes = (w : World) (n : Names) (c : Context) (e : ExprTree) (st 
 abbrev pub PlacesAreLive : Type 0
 PlacesAreLive = (w : World) (n : Names) (c : Context) (p : PlaceTree) (st : State) (ty : VarTy) → ContextFits w n c →
     IsTrue (place_fits n p) → place_type n p ≡ Some ty → Fits w st.memory → Keeps w (LocationFits w (Some ty)) (location_of p c st)
+
+-- ---- statements
+
+-- how control goes on: what is returned is of the function's result
+abbrev pub FlowFits : World → Option IntType → Flow → Type 0
+FlowFits w result goes_on = Unit {0}
+FlowFits w result broke = Unit {0}
+FlowFits w result continues = Unit {0}
+FlowFits w result (returned v) = ValueFits w (option_map Int result) v
+
+-- the code is that of the scope's function, whose variables have the types of its entries
+pub record CodeFits (w : World) (scope : Scope) (code : Code) : Type 0 where
+  pub context : ContextFits w scope.names code.context
+  pub exprs : code.exprs ≡ scope.exprs
+
+abbrev pub StatementsKeepTypes : Type 0
+StatementsKeepTypes = (w : World) (scope : Scope) (code : Code) (out again : Bool) (body : BodyTree) (st : State) → CodeFits w scope code →
+    IsTrue (is_sound scope out again body) → Fits w st.memory → Keeps w (FlowFits w scope.result) (statement body code st)

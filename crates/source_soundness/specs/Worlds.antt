@@ -1,6 +1,6 @@
 -- Which objects are live, and what their cells hold: numbers, but for pointer variables, which are null or
 -- point to a live object that isn't one, of their own depth or a lesser one.
-use Rattle.std.specs.Prelude.{◌≡◌, ◌≤◌, ℕ, Bool, true, false, ◌&&◌, List, [], ◌∷◌, Option, Some, None, All, if◌then◌else◌, nat_le, slice_get}
+use Rattle.std.specs.Prelude.{◌≡◌, ◌≤◌, ℕ, Bool, true, false, ◌&&◌, List, [], ◌∷◌, Option, Some, None, if◌then◌else◌, nat_le, slice_get}
 use Rattle.typed_tree.specs.declared.types.VarTy.{VarTy}
 use Rattle.typed_tree.specs.declared.types.VarTy.TheVariants.{Int, Struct, Array, Pointer}
 use Rattle.source_meaning.specs.Memory.{Block, local, global, Cell, number, null, pointer, Memory}
@@ -41,7 +41,8 @@ IsScoped w d null = Unit {0}
 IsScoped w d (pointer block base count index) = (ty : VarTy) × (type_in w block ≡ Some ty) × (is_pointer ty ≡ false) × (depth_of block ≤ d)
 
 abbrev pub AreNumbers : List Cell → Type 0
-AreNumbers cells = All IsNumber cells
+AreNumbers [] = Unit {0}
+AreNumbers (c ∷ cs) = IsNumber c × AreNumbers cs
 
 -- the cells of an object of this type that was made at this depth
 abbrev pub CellsFit : World → ℕ → VarTy → List Cell → Type 0
@@ -53,10 +54,16 @@ CellsFit w d (Pointer elem fixed) cells = (c : Cell) × (cells ≡ c ∷ []) × 
 abbrev pub Fits : World → Memory → Type 0
 Fits w memory = (b : Block) (ty : VarTy) → type_in w b ≡ Some ty → CellsFit w (depth_of b) ty (memory b)
 
+-- a number; where a host gives none, it counts as 0
+abbrev pub IsInteger : Value → Type 0
+IsInteger (holds c) = IsNumber c
+IsInteger (whole cells) = ⊥
+IsInteger nothing = Unit {0}
+
 -- a value of this type, None being void
 abbrev pub ValueFits : World → Option VarTy → Value → Type 0
 ValueFits w None v = Unit {0}
-ValueFits w (Some (Int t)) v = (c : Cell) × (v ≡ holds c) × IsNumber c
+ValueFits w (Some (Int t)) v = IsInteger v
 ValueFits w (Some (Struct n)) v = (cells : List Cell) × (v ≡ whole cells) × AreNumbers cells
 ValueFits w (Some (Array elem count)) v = ⊥
 ValueFits w (Some (Pointer elem fixed)) v = (c : Cell) × (v ≡ holds c) × IsScoped w w.depth c
@@ -74,3 +81,5 @@ pub record LocationFits (w : World) (ty : Option VarTy) (at : Location) : Type 0
   pub live : type_in w at.block ≡ Some in_
   pub shallow : depth_of at.block ≤ w.depth
   pub part : PartFits at.cell in_ at.ty
+  -- a pointer variable is one of the function that runs
+  pub own : is_pointer at.ty ≡ true → depth_of at.block ≡ w.depth
