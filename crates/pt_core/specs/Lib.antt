@@ -3,6 +3,7 @@ pub mod Calls
 pub mod CodeTree
 pub mod CoreRun
 pub mod LeftOperand
+pub mod ServingLaw
 pub mod Statements
 pub mod Steps
 pub mod Types
