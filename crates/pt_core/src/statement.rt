@@ -1,4 +1,7 @@
 // Statements, the single steps of a function.
+ghost use Rattle.std.specs.Prelude.{◌≡◌, map};
+ghost use Rattle.pt_core.specs.CodeTree.{choose, repeat, stmt_trees, view_expr, view_stmt};
+
 use crate::expression::Expr;
 use crate::place::Place;
 use pt_base::{FnId, Span, VarId};
@@ -49,4 +52,20 @@ pub enum Stmt {
     Return {
         value: Option<Expr>,
     },
+}
+
+impl Stmt {
+    /// One of two lists of statements.
+    pub fn choose(cond: Expr, yes: Vec<Stmt>, no: Vec<Stmt>) -> Stmt
+        ensures { view_stmt result ≡ choose (view_expr cond) (stmt_trees (map view_stmt yes.items)) (stmt_trees (map view_stmt no.items)) }
+    {
+        Stmt::If { cond, yes, no }
+    }
+
+    /// A loop.
+    pub fn repeat(body: Vec<Stmt>, span: Span) -> Stmt
+        ensures { view_stmt result ≡ repeat (stmt_trees (map view_stmt body.items)) span }
+    {
+        Stmt::Loop { body, span }
+    }
 }
