@@ -36,7 +36,7 @@ prefixed op ty a s = a
 
 -- 1 where the value isn't 0 or null, else 0
 abbrev pub truth_of : VarTy → ExprTree → Span → ExprTree
-truth_of (Int t) a s = binary Ne t a (constant t (pos 0)) s
+truth_of (Int t) a s = unary u.Not i.Int (unary u.Not t a s) s
 truth_of (Pointer elem fixed) a s = compare Ne a (null elem) s
 truth_of ty a s = a
 

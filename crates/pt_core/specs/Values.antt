@@ -7,6 +7,8 @@ use Rattle.pt_base.specs.declared.int_type.IntType.{IntType}
 use Rattle.pt_base.specs.declared.span.Span.{Span}
 use Rattle.pt_base.specs.declared.trap.Trap.{Trap}
 use Rattle.pt_int.specs.declared.operator.BinOp.{BinOp}
+use Rattle.pt_int.specs.declared.operator.UnOp.{UnOp}
+use Rattle.pt_int.specs.declared.operator.UnOp.TheVariants.{Not}
 use Rattle.pt_int.specs.Conversion.{conv}
 use Rattle.pt_int.specs.Operator.{binary_of, unary_of, truth, is_shift}
 use Rattle.typed_tree.specs.declared.types.VarTy.{VarTy}
@@ -78,6 +80,11 @@ is_type (Struct n) to = false
 is_type (Array elem count) to = false
 is_type (Pointer elem fixed) to = false
 
+-- the operand of an operator before it; `!` asks of any number whether it is 0 (C99 6.5.3.3p5)
+abbrev pub unary_operand : UnOp → IntType → Cell → ℤ
+unary_operand Not t a = number_in a
+unary_operand _ t a = conv t (number_in a)
+
 -- the right operand of an operator at a type; a shift's amount is taken as it is (C99 6.5.7p3)
 abbrev pub right_operand : BinOp → IntType → Cell → ℤ
 right_operand op t b = if is_shift op then number_in b else conv t (number_in b)
@@ -140,7 +147,7 @@ abbrev mutual
   pub value_of : Context → ℕ → ExprTree → Blocks → Result Cell Stop
   value_of c depth (constant t v) blocks = Ok (cell.Int v)
   value_of c depth (read p) blocks = location_of c depth p blocks >>? λ at. Ok (cell_in blocks at)
-  value_of c depth (unary op t a s) blocks = value_of c depth a blocks >>? λ v. numbered (at_span s (unary_of op t (conv t (number_in v))))
+  value_of c depth (unary op t a s) blocks = value_of c depth a blocks >>? λ v. numbered (at_span s (unary_of op t (unary_operand op t v)))
   value_of c depth (binary op t a b s) blocks =
       value_of c depth a blocks >>? λ v. value_of c depth b blocks >>? λ w. numbered (at_span s (binary_of op t (conv t (number_in v)) (right_operand op t w)))
   value_of c depth (convert to a) blocks = value_of c depth a blocks >>? λ v. Ok (converted (is_type (type_of c a) to) to v)
