@@ -1,0 +1,2 @@
+//! The lowering of typed functions into the normal form.
+#![tactic(auto)]

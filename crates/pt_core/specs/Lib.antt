@@ -1,0 +1,13 @@
+pub mod BootLaw
+pub mod Calls
+pub mod CodeTree
+pub mod CoreRun
+pub mod LeftOperand
+pub mod ServingLaw
+pub mod Statements
+pub mod Steps
+pub mod Types
+pub mod Values
+pub mod WellFormed
+pub mod WellFormedExpression
+pub mod WellFormedStatement

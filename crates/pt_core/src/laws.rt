@@ -1,0 +1,15 @@
+// Laws of the normal form.
+ghost use Rattle.pt_core.specs.BootLaw.{BootsAddHosts};
+ghost use Rattle.pt_core.specs.ServingLaw.{WholeMayServe};
+
+/// A boot is well formed exactly where the slave's program is and its hosts have models that fit
+/// them.
+pub fn boots_add_hosts()
+    ensures { BootsAddHosts }
+{}
+
+/// A program whose functions have all parameters of their signatures may be the monitor's, where
+/// the privileged functions that it calls are among its functions.
+pub fn whole_programs_may_serve()
+    ensures { WholeMayServe }
+{}

@@ -1,0 +1,19 @@
+// Whole programs.
+use crate::function::CoreFn;
+use crate::global::GlobalVar;
+use pt_base::{FnId, Listed};
+use pt_tree::Signature;
+use typed_tree::StructInfo;
+
+/// What functions are called with, each with the function's number.
+pub type Signatures = Listed<(FnId, Signature)>;
+
+/// A whole program: its functions, and the signatures of these and of all that they call. Each
+/// list is in the order of the numbers.
+#[derive(Drop)]
+pub struct CoreProgram {
+    pub structs: Listed<StructInfo>,
+    pub signatures: Signatures,
+    pub functions: Vec<CoreFn>,
+    pub globals: Listed<GlobalVar>,
+}

@@ -1,0 +1,10 @@
+mod CallSoundness
+mod Memories
+mod Objects
+mod Operators
+mod ProgramFacts
+mod Programs
+mod Soundness
+mod StatementSoundness
+mod Steps
+mod Tests
