@@ -1,2 +1,0 @@
-//! The lowering of typed functions into the normal form.
-#![tactic(auto)]
