@@ -3,7 +3,8 @@ use crate::messages::bytes_of;
 use crate::policies::call_of;
 use crate::text::{push_bytes, spelled};
 use anyhow::{Context, Result, bail};
-use host_table::{Host, HostError, HostFault, fits, read_host};
+use host_models::fits;
+use host_table::{Host, HostError, read_host};
 use pt_base::FnId;
 use std::alloc::{AllocError, Global};
 use typed_tree::Typed;
@@ -33,8 +34,8 @@ pub fn read_table(
                 if !told.is_empty() {
                     told.push_str("; ")?;
                 }
-                write!(told, "host {} {}", fault.number(), fault.name())?;
-                push_function(&mut told, program, function_of(fault))?;
+                let line = fault.report_line(alloc, program)?;
+                push_bytes(&mut told, line.as_slice())?;
             }
             Ok(told)
         }
@@ -57,28 +58,6 @@ fn models(alloc: Global, program: &Typed, host: &Host) -> Result<String, AllocEr
         }
     }
     Ok(told)
-}
-
-// The function whose entry has the fault.
-fn function_of(fault: &HostFault) -> Option<FnId> {
-    match *fault {
-        HostFault::NotJson | HostFault::TooLong => None,
-        HostFault::Shape(f) => f,
-        HostFault::Missing(f)
-        | HostFault::Range(f)
-        | HostFault::WrongParams(f)
-        | HostFault::TwoInputs(f) => Some(f),
-    }
-}
-
-fn push_function(told: &mut String, program: &Typed, f: Option<FnId>) -> Result<(), AllocError> {
-    if let Some(f) = f
-        && let Some(signature) = program.signature(f)
-    {
-        told.push(' ')?;
-        push_bytes(told, signature.name.as_slice())?;
-    }
-    Ok(())
 }
 
 /// Gives the hosts the input of a row, in hexadecimal.

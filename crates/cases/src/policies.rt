@@ -26,8 +26,8 @@ pub fn read_text(
             *policy = Some(read);
         }
         Err(PolicyError::Fault(fault)) => {
-            let (number, name) = (fault.kind.number(), fault.kind.name());
-            write!(told, "policy {number} {name} {}", fault.line)?;
+            let line = fault.report_line(alloc)?;
+            push_bytes(&mut told, line.as_slice())?;
         }
         Err(PolicyError::Memory) => bail!("out of memory"),
     }

@@ -4,7 +4,7 @@ use evaluator::{Event, Expectation, RunResult};
 use front_end::FrontError;
 use host_table::HostFault;
 use policy::PolicyFault;
-use pt_base::{End, FnId, Listed, Trap};
+use pt_base::{End, FnId, Listed};
 use std::alloc::{AllocError, Global};
 use typed_tree::Typed;
 
@@ -40,33 +40,19 @@ pub fn front_faults(alloc: Global, error: FrontError) -> Result<String> {
 pub fn host_faults(alloc: Global, program: &Typed, faults: &Listed<HostFault>) -> Result<String> {
     let mut text = String::new(alloc);
     for fault in faults.as_slice().iter() {
-        write!(text, "host {} {}", fault.number(), fault.name())?;
-        if let Some(f) = function_of(fault) {
-            text.push(' ')?;
-            push_name(&mut text, program, f)?;
-        }
+        let line = fault.report_line(alloc, program)?;
+        push_bytes(&mut text, line.as_slice())?;
         text.push('\n')?;
     }
     Ok(text)
 }
 
-// The function whose entry has the fault.
-fn function_of(fault: &HostFault) -> Option<FnId> {
-    match *fault {
-        HostFault::NotJson | HostFault::TooLong => None,
-        HostFault::Shape(f) => f,
-        HostFault::Missing(f)
-        | HostFault::Range(f)
-        | HostFault::WrongParams(f)
-        | HostFault::TwoInputs(f) => Some(f),
-    }
-}
-
 /// The fault of a policy.
 pub fn policy_fault(alloc: Global, fault: PolicyFault) -> Result<String> {
     let mut text = String::new(alloc);
-    let (number, name) = (fault.kind.number(), fault.kind.name());
-    writeln!(text, "policy {number} {name} {}", fault.line)?;
+    let line = fault.report_line(alloc)?;
+    push_bytes(&mut text, line.as_slice())?;
+    text.push('\n')?;
     Ok(text)
 }
 
@@ -120,7 +106,7 @@ fn push_end(text: &mut String, program: &Typed, end: &End) -> Result<(), AllocEr
         End::Exit(status) => write!(text, "exit {status}")?,
         End::Trapped(trap, span) => {
             let (from, to) = (span.from, span.to);
-            write!(text, "trap {} {from}..{to}", trap_name(*trap))?;
+            write!(text, "trap {} {from}..{to}", trap.name())?;
         }
         End::Spent => text.push_str("spent")?,
         End::Refused {
@@ -135,20 +121,6 @@ fn push_end(text: &mut String, program: &Typed, end: &End) -> Result<(), AllocEr
         }
     }
     Ok(())
-}
-
-fn trap_name(trap: Trap) -> &'static str {
-    match trap {
-        Trap::Overflow => "Overflow",
-        Trap::DivZero => "DivZero",
-        Trap::Shift => "Shift",
-        Trap::Bounds => "Bounds",
-        Trap::Null => "Null",
-        Trap::PtrRange => "PtrRange",
-        Trap::PtrCompare => "PtrCompare",
-        Trap::Depth => "Depth",
-        Trap::NoReturn => "NoReturn",
-    }
 }
 
 // The name of a function of the program.

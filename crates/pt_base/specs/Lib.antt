@@ -8,4 +8,5 @@ pub mod Objects
 pub mod Pieces
 pub mod Script
 pub mod Told
+pub mod Traps
 pub mod Turns

@@ -22,3 +22,25 @@ pub enum Trap {
     /// The closing brace of a function that owes a result is reached.
     NoReturn,
 }
+
+impl Trap {
+    ghost use Rattle.std.specs.Prelude.{◌≡◌};
+    ghost use Rattle.pt_base.specs.Traps.{trap_name};
+
+    /// Its name, as reports spell it.
+    pub fn name(self) -> &'static str
+        ensures { result.now ≡ trap_name self }
+    {
+        match self {
+            Trap::Overflow => "Overflow",
+            Trap::DivZero => "DivZero",
+            Trap::Shift => "Shift",
+            Trap::Bounds => "Bounds",
+            Trap::Null => "Null",
+            Trap::PtrRange => "PtrRange",
+            Trap::PtrCompare => "PtrCompare",
+            Trap::Depth => "Depth",
+            Trap::NoReturn => "NoReturn",
+        }
+    }
+}
