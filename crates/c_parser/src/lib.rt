@@ -22,6 +22,8 @@ mod tests;
 mod text;
 
 pub use error::ParseError;
-pub use laws::{the_derivation_has_one_outcome, the_limit_is_nesting};
+pub use laws::{
+    the_derivation_comes_to_an_outcome, the_derivation_has_one_outcome, the_limit_is_nesting,
+};
 pub use program::parse;
 pub use text::DEEPEST;
