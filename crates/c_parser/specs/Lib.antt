@@ -1,6 +1,9 @@
 pub mod Answer
+pub mod Blocks
+pub mod Heads
 pub mod Levels
 pub mod Nesting
 pub mod Parses
 pub mod Parts
 pub mod Rests
+pub mod RuleNames

@@ -1,11 +1,12 @@
 //! The parser: from tokens to the tree of a program.
 #![tactic(auto)]
 
+mod built;
 mod declarations;
 mod declarators;
 mod error;
 mod expressions;
-mod for_heads;
+mod heads;
 mod labels;
 mod laws;
 mod operators;
@@ -16,6 +17,7 @@ mod primaries;
 mod program;
 mod rest;
 mod specifiers;
+mod statement_rule;
 mod statements;
 #[cfg(test)]
 mod tests;

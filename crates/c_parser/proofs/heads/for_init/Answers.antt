@@ -4,7 +4,7 @@ use Rattle.c_parser.specs.Parses.{Enters}
 use Rattle.c_parser.proofs.LastRules.{last_ForInit}
 use Rattle.c_parser.proofs.Steps.{by_rule}
 use Rattle.c_parser.specs.Parts.{of_for_init}
-use Rattle.c_parser.proofs.for_heads.for_init.Goals as goal
+use Rattle.c_parser.proofs.heads.for_init.Goals as goal
 
 pub returns-in-80-clause-parses : goal.returns-in-80-clause-parses
 returns-in-80-clause-parses c = by_rule [] of_for_init c.args.tokens.now s.ForInit c.args.at c.args.depth 80 _ (subst (Enters c.args.tokens.now s.ForInit c.args.at) c.in-80.is c.in_ok-rule.ensures.enters) c.for_declaration.ensures.parses

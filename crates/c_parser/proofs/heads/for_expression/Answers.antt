@@ -1,6 +1,6 @@
 use Rattle.std.proofs.Common.{◌≡◌, Err, rules}
 use Rattle.c_parser.proofs.Steps.{built}
-use Rattle.c_parser.proofs.for_heads.for_expression.Goals as goal
+use Rattle.c_parser.proofs.heads.for_expression.Goals as goal
 
 pub returns-in_err-value-clause-parses : goal.returns-in_err-value-clause-parses
 returns-in_err-value-clause-parses c = let is : c.from_residual.result ≡ Err c.in_err-value.field-0.0 = search rules in rw is (record { from = λ o e rest parts. c.in_err-value.ensures.parses.from o e _ _ })
