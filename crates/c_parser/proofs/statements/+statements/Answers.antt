@@ -56,7 +56,7 @@ pub block-returns-clause-parses : goal.block-returns-clause-parses
 block-returns-clause-parses t c = followed [] _ of_block _ _ _ _ _ _ _ (λ rest parts o k. c.in_ok-inside.ensures.starts.from _ _ _ _ (built _ _ _ _ _ _ _ _ _ (same_top (λ xs. q.stmts (map view_stmt xs)) _ _ _ (sym c.new-none.ensures.items)) (c.in_ok-items.ensures.parses.from _ _ _ k))) (c.block_end.ensures.parses c.args.depth)
 
 pub block-returns-clause-goes_on : goal.block-returns-clause-goes_on
-block-returns-clause-goes_on t c = further c.args.at c.in_ok-items.items.next _ _ (omega arith) c.block_end.ensures.goes_on
+block-returns-clause-goes_on t c = further c.args.at c.in_ok-items.items.next _ _ (omega (arith, c.in_ok-inside.ensures.goes_on.0, c.in_ok-items.ensures.goes_on.0)) c.block_end.ensures.goes_on
 
 pub more_items-loop-items-init : goal.more_items-loop-items-init
 more_items-loop-items-init t c = record { repeats = record { from = λ rest parts o k. k }; after = omega arith; within = omega arith }
@@ -101,7 +101,7 @@ pub if_statement-returns-clause-parses : goal.if_statement-returns-clause-parses
 if_statement-returns-clause-parses t c = made c.args.tokens.now (wanted c.args.at 71) c.args.at c.args.depth _ _ _ c.choice.ensures.built c.choice.ensures.memory (record { from = λ rest parts o k. c.in_ok-test.ensures.parses.from _ _ _ (c.in_ok-yes.ensures.parses.from _ _ _ (c.in_ok-no.ensures.parses.from _ _ _ (builds_on _ _ _ _ _ _ _ _ k))) })
 
 pub if_statement-returns-clause-goes_on : goal.if_statement-returns-clause-goes_on
-if_statement-returns-clause-goes_on t c = made_further c.args.at c.in_ok-no.no.next _ _ _ c.choice.ensures.built (omega arith) (omega arith)
+if_statement-returns-clause-goes_on t c = made_further c.args.at c.in_ok-no.no.next _ _ _ c.choice.ensures.built (omega (arith, c.in_ok-test.ensures.goes_on.0, c.in_ok-yes.ensures.goes_on.0, c.in_ok-no.ensures.goes_on.0)) (omega (arith, c.in_ok-no.ensures.goes_on.1))
 
 pub else_part-returns-in_err-stands-clause-parses : goal.else_part-returns-in_err-stands-clause-parses
 else_part-returns-in_err-stands-clause-parses t c = let is : c.from_residual.result ≡ Err c.in_err-stands.field-0.0 = search rules in rw is (record { from = λ o e rest parts. (c.in_err-stands.ensures.fails c.args.depth).from o e _ _ })
@@ -128,7 +128,7 @@ pub while_statement-returns-clause-parses : goal.while_statement-returns-clause-
 while_statement-returns-clause-parses t c = made c.args.tokens.now (wanted c.args.at 72) c.args.at c.args.depth _ _ _ c.while_loop.ensures.built c.while_loop.ensures.memory (record { from = λ rest parts o k. c.in_ok-test.ensures.parses.from _ _ _ (c.in_ok-body.ensures.parses.from _ _ _ (builds_on _ _ _ _ _ _ _ _ k)) })
 
 pub while_statement-returns-clause-goes_on : goal.while_statement-returns-clause-goes_on
-while_statement-returns-clause-goes_on t c = made_further c.args.at c.in_ok-body.body.next _ _ _ c.while_loop.ensures.built (omega arith) (omega arith)
+while_statement-returns-clause-goes_on t c = made_further c.args.at c.in_ok-body.body.next _ _ _ c.while_loop.ensures.built (omega (arith, c.in_ok-test.ensures.goes_on.0, c.in_ok-body.ensures.goes_on.0)) (omega (arith, c.in_ok-body.ensures.goes_on.1))
 
 pub do_statement-returns-in_err-word-clause-parses : goal.do_statement-returns-in_err-word-clause-parses
 do_statement-returns-in_err-word-clause-parses t c = let is : c.from_residual.result ≡ Err c.in_err-word.field-0.0 = search rules in rw is (record { from = λ o e rest parts. (c.in_err-word.ensures.expects c.args.depth).from o e _ _ })
@@ -140,7 +140,7 @@ pub do_statement-returns-clause-parses : goal.do_statement-returns-clause-parses
 do_statement-returns-clause-parses t c = followed [] _ of_stmt _ _ _ _ _ _ _ (λ rest parts o k. (c.in_ok-word.ensures.expects c.args.depth).from _ _ _ (c.in_ok-body.ensures.parses.from _ _ _ k)) c.do_loop.ensures.parses
 
 pub do_statement-returns-clause-goes_on : goal.do_statement-returns-clause-goes_on
-do_statement-returns-clause-goes_on t c = further c.args.at c.in_ok-body.body.next _ _ (omega arith) c.do_loop.ensures.goes_on
+do_statement-returns-clause-goes_on t c = further c.args.at c.in_ok-body.body.next _ _ (omega (arith, c.in_ok-word.ensures.goes_on.0, c.in_ok-body.ensures.goes_on.0)) c.do_loop.ensures.goes_on
 
 pub for_statement-returns-in_err-head-clause-parses : goal.for_statement-returns-in_err-head-clause-parses
 for_statement-returns-in_err-head-clause-parses t c = let is : c.from_residual.result ≡ Err c.in_err-head.field-0.0 = search rules in rw is (record { from = λ o e rest parts. c.in_err-head.ensures.parses.from o e _ _ })
@@ -152,7 +152,7 @@ pub for_statement-returns-clause-parses : goal.for_statement-returns-clause-pars
 for_statement-returns-clause-parses t c = made c.args.tokens.now (wanted c.args.at 74) c.args.at c.args.depth _ _ _ c.for_loop.ensures.built c.for_loop.ensures.memory (record { from = λ rest parts o k. c.in_ok-head.ensures.parses.from _ _ _ (c.in_ok-body.ensures.parses.from _ _ _ (builds_on _ _ _ _ _ _ _ _ k)) })
 
 pub for_statement-returns-clause-goes_on : goal.for_statement-returns-clause-goes_on
-for_statement-returns-clause-goes_on t c = made_further c.args.at c.in_ok-body.body.next _ _ _ c.for_loop.ensures.built (omega arith) (omega arith)
+for_statement-returns-clause-goes_on t c = made_further c.args.at c.in_ok-body.body.next _ _ _ c.for_loop.ensures.built (omega (arith, c.in_ok-head.ensures.goes_on.0, c.in_ok-body.ensures.goes_on.0)) (omega (arith, c.in_ok-body.ensures.goes_on.1))
 
 pub switch_statement-returns-in_err-on-clause-parses : goal.switch_statement-returns-in_err-on-clause-parses
 switch_statement-returns-in_err-on-clause-parses t c = let is : c.from_residual.result ≡ Err c.in_err-on.field-0.0 = search rules in rw is (record { from = λ o e rest parts. c.in_err-on.ensures.parses.from o e _ _ })
@@ -164,7 +164,7 @@ pub switch_statement-returns-clause-parses : goal.switch_statement-returns-claus
 switch_statement-returns-clause-parses t c = followed [] _ of_stmt _ _ _ _ _ _ _ (λ rest parts o k. c.in_ok-on.ensures.parses.from _ _ _ (built _ _ _ _ _ _ _ _ _ (same_top (λ xs. q.sections (map view_section xs)) _ _ _ (sym c.new-none.ensures.items)) (c.in_ok-sections.ensures.parses.from _ _ _ k))) (c.switch_end.ensures.parses c.args.depth)
 
 pub switch_statement-returns-clause-goes_on : goal.switch_statement-returns-clause-goes_on
-switch_statement-returns-clause-goes_on t c = further c.args.at c.in_ok-sections.sections.next _ _ (omega arith) c.switch_end.ensures.goes_on
+switch_statement-returns-clause-goes_on t c = further c.args.at c.in_ok-sections.sections.next _ _ (omega (arith, c.in_ok-on.ensures.goes_on.0, c.in_ok-sections.ensures.goes_on.0)) c.switch_end.ensures.goes_on
 
 pub more_sections-loop-sections-init : goal.more_sections-loop-sections-init
 more_sections-loop-sections-init t c = record { repeats = record { from = λ rest parts o k. k }; after = omega arith; within = omega arith }
