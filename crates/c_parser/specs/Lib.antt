@@ -3,6 +3,7 @@ pub mod Blocks
 pub mod Heads
 pub mod Levels
 pub mod Nesting
+pub mod OperandNames
 pub mod Parses
 pub mod Parts
 pub mod Rests

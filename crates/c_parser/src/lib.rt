@@ -9,6 +9,7 @@ mod expressions;
 mod heads;
 mod labels;
 mod laws;
+mod operand_rule;
 mod operators;
 mod parsed;
 mod plain_statements;
