@@ -108,10 +108,7 @@ fn more_items(
     loop {
         let more = takes_first(tokens, next, Symbol::Items)?;
         if !more {
-            return Ok(Parsed {
-                tree: items,
-                next,
-            });
+            return Ok(Parsed { tree: items, next });
         }
         let one = item(alloc, tokens, next, depth)?;
         push(&mut items, one.tree)?;
@@ -120,12 +117,7 @@ fn more_items(
 }
 
 #[cycle(statements)]
-fn item(
-    alloc: Global,
-    tokens: &[Token],
-    at: usize,
-    depth: u32,
-) -> Result<Parsed<Stmt>, ParseError>
+fn item(alloc: Global, tokens: &[Token], at: usize, depth: u32) -> Result<Parsed<Stmt>, ParseError>
     requires within { at ≤ length tokens.now }
     requires few { length tokens.now < 2 ^ 32 }
     requires shallow { depth ≤ 200 }
@@ -355,10 +347,7 @@ fn section_items(
     loop {
         let more = takes_first(tokens, next, Symbol::SectionItems)?;
         if !more {
-            return Ok(Parsed {
-                tree: items,
-                next,
-            });
+            return Ok(Parsed { tree: items, next });
         }
         let one = statement(alloc, tokens, next, depth)?;
         push(&mut items, one.tree)?;
