@@ -1,19 +1,19 @@
 -- What each building action does to the parts: how many nodes it makes at most, and that it keeps
--- their constants in range.
+-- their constants in range and their words short.
 use Rattle.std.proofs.Common.{ℕ, ◌+◌, ◌≤◌, List, [], ◌∷◌, Option, true, ◌&&◌, refl, ◌∙◌, arith, length-append}
 use Rattle.pt_base.specs.declared.span.Span.{Span}
 use Rattle.pt_tree.specs.declared.operator.BinaryOp.{BinaryOp}
 use Rattle.pt_tree.specs.declared.operator.PrefixOp.{PrefixOp}
 use Rattle.pt_tree.specs.declared.specifier.SpecWord.{SpecWord}
-use Rattle.pt_tree.specs.SpecifierTree.{spec_trees}
+use Rattle.pt_tree.specs.SpecifierTree.{spec_trees, field_trees}
 use Rattle.pt_tree.specs.ExpressionTree.{index, call, dot, arrow, increment, decrement, link, expr_trees}
 use Rattle.pt_tree.specs.StatementTree.{stmt_trees, section_trees}
-use Rattle.pt_tree.specs.Facts.{suffix_sound, declarators_sound, spec_sound, specs_sound, field_sound, expr_sound, option_sound, init_sound, inits_sound, label_sound, for_init_sound, stmt_sound, else_sound, stmts_sound, sections_sound, params_sound, body_sound}
+use Rattle.pt_tree.specs.Facts.{word_sound, name_sound, suffix_sound, declarator_sound, declarators_sound, spec_sound, specs_sound, field_sound, fields_sound, expr_sound, option_sound, init_sound, inits_sound, label_sound, for_init_sound, stmt_sound, else_sound, stmts_sound, sections_sound, params_sound, body_sound}
 use Rattle.c_grammar.specs.Part.{Part, word, number, absent, names, spec, specs, fields, field, pointer, suffix, declarator, declarators, init, init_declarators, a_rest, declaration, name, param, params, body, block, item, items, stmt, stmts, otherwise, for_init, label, section, sections, expr, exprs, maybe_expr, assign_op, assignment, arms, prefix_op, links, postfixes, cast_of, group_of}
 use Rattle.c_grammar.specs.Builds.{add_item, an_item, no_declarators, function_rest, first_init, add_init, no_body, some_body, first_spec, add_spec, keyword, first_name, add_name, an_attribute, a_struct, first_field, no_fields, add_field, first_declarator, add_declarator, a_field, a_declarator, star, no_star, no_suffix, a_size, no_size, no_value, single_value, brace_list, first_expr, add_expr, no_exprs, first_param, no_params, add_param, a_param, some_name, no_name, no_statements, a_block, add_statement, declared, a_declaration, block_statement, nothing, evaluated, chosen, some_else, no_else, while_statement, do_statement, for_statement, for_declaration, for_nothing, for_expression, returned, broken, continued, switch_statement, no_sections, add_section, a_section, a_case, a_default, some_expr, no_expr, assigned, some_assignment, no_assignment, conditional, some_arms, no_arms, in_parentheses, prefixed, stepped, with_postfixes, no_postfixes, a_cast, grouped, add_index, add_call, add_dot, add_arrow, add_increment, add_decrement, a_name, a_constant, assigning, operator, no_links, add_link, chain_of}
-use Rattle.c_grammar.proofs.PartFacts.{parts_nodes, Sound, both, specs_add, specs_join, fields_add, fields_join, exprs_add, exprs_join, links_add, links_join, postfixes_add, postfixes_join, stmts_add, stmts_join, sections_add, sections_join, declarators_add, declarators_join, inits_add, inits_join, params_add, params_join, items_add, items_join, listed, postfixed_nodes, postfixed_sound, chained_nodes, chained_sound, node_over_one}
+use Rattle.c_grammar.proofs.PartFacts.{parts_nodes, Sound, both, words_join, specs_add, specs_join, fields_add, fields_join, exprs_add, exprs_join, links_add, links_join, postfixes_add, postfixes_join, stmts_add, stmts_join, sections_add, sections_join, declarators_add, declarators_join, inits_add, inits_join, params_add, params_join, items_add, items_join, listed, postfixed_nodes, postfixed_sound, chained_nodes, chained_sound, node_over_one}
 
--- at most n nodes are new, and the constants stay in range
+-- at most n nodes are new, the constants stay in range, and the words stay short
 pub record Good (n : ℕ) (before after : List Part) : Type 0 where
   pub nodes : parts_nodes after ≤ n + parts_nodes before
   pub sound : Sound before → Sound after
@@ -30,7 +30,7 @@ add_item_builds at ts = kept 0 ts
 
 pub an_item_builds : Builds 1 an_item
 an_item_builds at (init_declarators ds ∷ specs ss ∷ ts) = record { nodes = omega arith; sound = λ h. (both (specs_sound (spec_trees ss)) (inits_sound ds) h.1.0 h.0, h.1.1) }
-an_item_builds at (a_rest d ps b ∷ specs ss ∷ ts) = record { nodes = omega arith; sound = λ h. (both (specs_sound (spec_trees ss) && suffix_sound d.suffix) (params_sound ps && body_sound b) (both (specs_sound (spec_trees ss)) (suffix_sound d.suffix) h.1.0 h.0.0) (both (params_sound ps) (body_sound b) h.0.1 h.0.2), h.1.1) }
+an_item_builds at (a_rest d ps b ∷ specs ss ∷ ts) = record { nodes = omega arith; sound = λ h. (both (specs_sound (spec_trees ss) && declarator_sound d) (params_sound ps && body_sound b) (both (specs_sound (spec_trees ss)) (declarator_sound d) h.1.0 h.0.0) (both (params_sound ps) (body_sound b) h.0.1 h.0.2), h.1.1) }
 an_item_builds at ts = kept 1 ts
 
 pub no_declarators_builds : Builds 0 no_declarators
@@ -41,11 +41,11 @@ function_rest_builds at (body b ∷ params ps ∷ declarator d ∷ ts) = record 
 function_rest_builds at ts = kept 0 ts
 
 pub first_init_builds : Builds 0 first_init
-first_init_builds at (init i ∷ declarator d ∷ ts) = record { nodes = omega arith; sound = λ h. (both (suffix_sound d.suffix && init_sound i) (true) (both (suffix_sound d.suffix) (init_sound i) h.1.0 h.0) refl, h.1.1) }
+first_init_builds at (init i ∷ declarator d ∷ ts) = record { nodes = omega arith; sound = λ h. (both (declarator_sound d && init_sound i) (true) (both (declarator_sound d) (init_sound i) h.1.0 h.0) refl, h.1.1) }
 first_init_builds at ts = kept 0 ts
 
 pub add_init_builds : Builds 0 add_init
-add_init_builds at (init i ∷ declarator d ∷ init_declarators ds ∷ ts) = record { nodes = omega (arith, inits_add ds (record { declarator = d; init = i })); sound = λ h. (inits_join ds (record { declarator = d; init = i }) h.1.1.0 (both (suffix_sound d.suffix) (init_sound i) h.1.0 h.0), h.1.1.1) }
+add_init_builds at (init i ∷ declarator d ∷ init_declarators ds ∷ ts) = record { nodes = omega (arith, inits_add ds (record { declarator = d; init = i })); sound = λ h. (inits_join ds (record { declarator = d; init = i }) h.1.1.0 (both (declarator_sound d) (init_sound i) h.1.0 h.0), h.1.1.1) }
 add_init_builds at ts = kept 0 ts
 
 pub no_body_builds : Builds 0 no_body
@@ -67,19 +67,19 @@ pub keyword_builds : (w : SpecWord) → Builds 1 (keyword w)
 keyword_builds w at ts = record { nodes = omega arith; sound = λ h. (refl, h) }
 
 pub first_name_builds : Builds 0 first_name
-first_name_builds at (word n ∷ ts) = record { nodes = omega arith; sound = λ h. (tt, h.1) }
+first_name_builds at (word n ∷ ts) = record { nodes = omega arith; sound = λ h. (both (word_sound n) (true) h.0 refl, h.1) }
 first_name_builds at ts = kept 0 ts
 
 pub add_name_builds : Builds 0 add_name
-add_name_builds at (word n ∷ names ns ∷ ts) = record { nodes = omega (arith, length-append ns (n ∷ [])); sound = λ h. (tt, h.1.1) }
+add_name_builds at (word n ∷ names ns ∷ ts) = record { nodes = omega (arith, length-append ns (n ∷ [])); sound = λ h. (words_join ns n h.1.0 h.0, h.1.1) }
 add_name_builds at ts = kept 0 ts
 
 pub an_attribute_builds : Builds 1 an_attribute
-an_attribute_builds at (names ns ∷ ts) = record { nodes = omega arith; sound = λ h. (refl, h.1) }
+an_attribute_builds at (names ns ∷ ts) = record { nodes = omega arith; sound = λ h. (h.0, h.1) }
 an_attribute_builds at ts = kept 1 ts
 
 pub a_struct_builds : Builds 1 a_struct
-a_struct_builds at (fields fs ∷ word n ∷ ts) = record { nodes = omega arith; sound = λ h. (h.0, h.1.1) }
+a_struct_builds at (fields fs ∷ word n ∷ ts) = record { nodes = omega arith; sound = λ h. (both (word_sound n) (fields_sound (field_trees fs)) h.1.0 h.0, h.1.1) }
 a_struct_builds at ts = kept 1 ts
 
 pub first_field_builds : Builds 0 first_field
@@ -94,7 +94,7 @@ add_field_builds at (field f ∷ fields fs ∷ ts) = record { nodes = omega (ari
 add_field_builds at ts = kept 0 ts
 
 pub first_declarator_builds : Builds 0 first_declarator
-first_declarator_builds at (declarator d ∷ ts) = record { nodes = omega arith; sound = λ h. (both (suffix_sound d.suffix) (true) h.0 refl, h.1) }
+first_declarator_builds at (declarator d ∷ ts) = record { nodes = omega arith; sound = λ h. (both (declarator_sound d) (true) h.0 refl, h.1) }
 first_declarator_builds at ts = kept 0 ts
 
 pub add_declarator_builds : Builds 0 add_declarator
@@ -106,7 +106,7 @@ a_field_builds at (declarators ds ∷ specs ss ∷ ts) = record { nodes = omega 
 a_field_builds at ts = kept 1 ts
 
 pub a_declarator_builds : Builds 1 a_declarator
-a_declarator_builds at (suffix x ∷ word n ∷ pointer p ∷ ts) = record { nodes = omega arith; sound = λ h. (h.0, h.1.1.1) }
+a_declarator_builds at (suffix x ∷ word n ∷ pointer p ∷ ts) = record { nodes = omega arith; sound = λ h. (both (word_sound n) (suffix_sound x) h.1.0 h.0, h.1.1.1) }
 a_declarator_builds at ts = kept 1 ts
 
 pub star_builds : Builds 0 star
@@ -148,7 +148,7 @@ pub no_exprs_builds : Builds 0 no_exprs
 no_exprs_builds at ts = record { nodes = omega arith; sound = λ h. (refl, h) }
 
 pub first_param_builds : Builds 0 first_param
-first_param_builds at (param p ∷ ts) = record { nodes = omega arith; sound = λ h. (both (specs_sound p.specs && suffix_sound p.suffix) (true) h.0 refl, h.1) }
+first_param_builds at (param p ∷ ts) = record { nodes = omega arith; sound = λ h. (both (specs_sound p.specs && (name_sound p.name && suffix_sound p.suffix)) (true) h.0 refl, h.1) }
 first_param_builds at ts = kept 0 ts
 
 pub no_params_builds : Builds 0 no_params
@@ -159,15 +159,15 @@ add_param_builds at (param p ∷ params ps ∷ ts) = record { nodes = omega (ari
 add_param_builds at ts = kept 0 ts
 
 pub a_param_builds : Builds 1 a_param
-a_param_builds at (suffix x ∷ name n ∷ pointer p ∷ specs ss ∷ ts) = record { nodes = omega arith; sound = λ h. (both (specs_sound (spec_trees ss)) (suffix_sound x) h.1.1.1.0 h.0, h.1.1.1.1) }
+a_param_builds at (suffix x ∷ name n ∷ pointer p ∷ specs ss ∷ ts) = record { nodes = omega arith; sound = λ h. (both (specs_sound (spec_trees ss)) (name_sound n && suffix_sound x) h.1.1.1.0 (both (name_sound n) (suffix_sound x) h.1.0 h.0), h.1.1.1.1) }
 a_param_builds at ts = kept 1 ts
 
 pub some_name_builds : Builds 0 some_name
-some_name_builds at (word n ∷ ts) = record { nodes = omega arith; sound = λ h. (tt, h.1) }
+some_name_builds at (word n ∷ ts) = record { nodes = omega arith; sound = λ h. (h.0, h.1) }
 some_name_builds at ts = kept 0 ts
 
 pub no_name_builds : Builds 0 no_name
-no_name_builds at ts = record { nodes = omega arith; sound = λ h. (tt, h) }
+no_name_builds at ts = record { nodes = omega arith; sound = λ h. (refl, h) }
 
 pub no_statements_builds : Builds 0 no_statements
 no_statements_builds at ts = record { nodes = omega arith; sound = λ h. (refl, h) }
@@ -333,11 +333,11 @@ add_call_builds at (exprs es ∷ postfixes ps ∷ ts) = record { nodes = omega (
 add_call_builds at ts = kept 2 ts
 
 pub add_dot_builds : Builds 2 add_dot
-add_dot_builds at (word n ∷ postfixes ps ∷ ts) = record { nodes = omega (arith, postfixes_add ps (dot at n), node_over_one ps (dot at n)); sound = λ h. (postfixes_join ps (dot at n) h.1.0 refl, h.1.1) }
+add_dot_builds at (word n ∷ postfixes ps ∷ ts) = record { nodes = omega (arith, postfixes_add ps (dot at n), node_over_one ps (dot at n)); sound = λ h. (postfixes_join ps (dot at n) h.1.0 h.0, h.1.1) }
 add_dot_builds at ts = kept 2 ts
 
 pub add_arrow_builds : Builds 2 add_arrow
-add_arrow_builds at (word n ∷ postfixes ps ∷ ts) = record { nodes = omega (arith, postfixes_add ps (arrow at n), node_over_one ps (arrow at n)); sound = λ h. (postfixes_join ps (arrow at n) h.1.0 refl, h.1.1) }
+add_arrow_builds at (word n ∷ postfixes ps ∷ ts) = record { nodes = omega (arith, postfixes_add ps (arrow at n), node_over_one ps (arrow at n)); sound = λ h. (postfixes_join ps (arrow at n) h.1.0 h.0, h.1.1) }
 add_arrow_builds at ts = kept 2 ts
 
 pub add_increment_builds : Builds 2 add_increment
@@ -349,7 +349,7 @@ add_decrement_builds at (postfixes ps ∷ ts) = record { nodes = omega (arith, p
 add_decrement_builds at ts = kept 2 ts
 
 pub a_name_builds : Builds 0 a_name
-a_name_builds at (word n ∷ ts) = record { nodes = omega arith; sound = λ h. (refl, h.1) }
+a_name_builds at (word n ∷ ts) = record { nodes = omega arith; sound = λ h. (h.0, h.1) }
 a_name_builds at ts = kept 0 ts
 
 pub a_constant_builds : Builds 0 a_constant

@@ -1,14 +1,16 @@
--- How many nodes the parts of the derivation have, and that their constants are in range.
+-- How many nodes the parts of the derivation have, and that their constants are in range and their
+-- words short.
 use Rattle.std.proofs.Common.{◌≡◌, ℕ, ◌+◌, List, [], ◌∷◌, ◌++◌, Bool, true, false, ◌&&◌, length, refl, sym, ◌∙◌, arith}
 use Rattle.std.specs.Prelude.{IsTrue}
 use Rattle.pt_base.specs.declared.span.Span.{Span}
+use Rattle.pt_tree.specs.declared.word.Word.{Word}
 use Rattle.pt_tree.specs.declared.specifier.Declarator.{Declarator}
 use Rattle.pt_tree.specs.SpecifierTree.{SpecTree, FieldTree, spec_trees, field_trees}
 use Rattle.pt_tree.specs.ExpressionTree.{ExprTree, LinkTree, PostfixTree, expr_trees, link_trees, postfix_trees}
 use Rattle.pt_tree.specs.StatementTree.{InitDeclaratorTree, StmtTree, SectionTree, stmt_trees, section_trees}
 use Rattle.pt_tree.specs.ProgramTree.{ParamTree, ItemTree}
 use Rattle.pt_tree.specs.Nodes.{suffix_nodes, declarator_nodes, declarators_nodes, spec_nodes, specs_nodes, field_nodes, fields_nodes, expr_nodes, exprs_nodes, link_nodes, links_nodes, postfix_nodes, postfixes_nodes, option_nodes, init_nodes, inits_nodes, declaration_nodes, label_nodes, for_init_nodes, stmt_nodes, else_nodes, stmts_nodes, section_nodes, sections_nodes, name_nodes, param_nodes, params_nodes, block_nodes, body_nodes, item_nodes, nodes_of}
-use Rattle.pt_tree.specs.Facts.{is_sound, suffix_sound, declarators_sound, spec_sound, specs_sound, field_sound, fields_sound, expr_sound, exprs_sound, link_sound, links_sound, postfix_sound, postfixes_sound, option_sound, init_sound, inits_sound, declaration_sound, label_sound, for_init_sound, stmt_sound, else_sound, stmts_sound, section_sound, sections_sound, params_sound, stmt_list_sound, body_sound, item_sound, items_sound}
+use Rattle.pt_tree.specs.Facts.{is_sound, word_sound, words_sound, name_sound, suffix_sound, declarator_sound, declarators_sound, spec_sound, specs_sound, field_sound, fields_sound, expr_sound, exprs_sound, link_sound, links_sound, postfix_sound, postfixes_sound, option_sound, init_sound, inits_sound, declaration_sound, label_sound, for_init_sound, stmt_sound, else_sound, stmts_sound, section_sound, sections_sound, params_sound, stmt_list_sound, body_sound, item_sound, items_sound}
 use Rattle.c_grammar.specs.Part.{Part, word, number, absent, names, spec, specs, fields, field, pointer, suffix, declarator, declarators, init, init_declarators, a_rest, declaration, name, param, params, body, block, item, items, stmt, stmts, otherwise, for_init, label, section, sections, expr, exprs, maybe_expr, assign_op, assignment, arms, prefix_op, links, postfixes, cast_of, group_of}
 use Rattle.c_grammar.specs.Builds.{postfixed, chained}
 
@@ -65,26 +67,26 @@ abbrev pub parts_nodes : List Part → ℕ
 parts_nodes [] = 0
 parts_nodes (p ∷ ts) = part_nodes p + parts_nodes ts
 
--- the constants of a part are in range
+-- the constants of a part are in range, and its words are short
 abbrev pub PartSound : Part → Type 0
-PartSound (word w) = Unit {0}
+PartSound (word w) = IsTrue (word_sound w)
 PartSound (number c) = IsTrue (is_sound c)
 PartSound absent = Unit {0}
-PartSound (names ns) = Unit {0}
+PartSound (names ns) = IsTrue (words_sound ns)
 PartSound (spec s) = IsTrue (spec_sound s)
 PartSound (specs ss) = IsTrue (specs_sound (spec_trees ss))
 PartSound (fields fs) = IsTrue (fields_sound (field_trees fs))
 PartSound (field f) = IsTrue (field_sound f)
 PartSound (pointer p) = Unit {0}
 PartSound (suffix x) = IsTrue (suffix_sound x)
-PartSound (declarator d) = IsTrue (suffix_sound d.suffix)
+PartSound (declarator d) = IsTrue (declarator_sound d)
 PartSound (declarators ds) = IsTrue (declarators_sound ds)
 PartSound (init i) = IsTrue (init_sound i)
 PartSound (init_declarators ds) = IsTrue (inits_sound ds)
-PartSound (a_rest d ps b) = IsTrue (suffix_sound d.suffix) × IsTrue (params_sound ps) × IsTrue (body_sound b)
+PartSound (a_rest d ps b) = IsTrue (declarator_sound d) × IsTrue (params_sound ps) × IsTrue (body_sound b)
 PartSound (declaration d) = IsTrue (declaration_sound d)
-PartSound (name n) = Unit {0}
-PartSound (param p) = IsTrue (specs_sound p.specs && suffix_sound p.suffix)
+PartSound (name n) = IsTrue (name_sound n)
+PartSound (param p) = IsTrue (specs_sound p.specs && (name_sound p.name && suffix_sound p.suffix))
 PartSound (params ps) = IsTrue (params_sound ps)
 PartSound (body b) = IsTrue (body_sound b)
 PartSound (block b) = IsTrue (stmt_list_sound b.items)
@@ -151,6 +153,9 @@ specs_add = add spec_nodes (λ ss. specs_nodes (spec_trees ss)) refl (λ _ _. re
 pub specs_join : (ss : List SpecTree) (s : SpecTree) → IsTrue (specs_sound (spec_trees ss)) → IsTrue (spec_sound s) → IsTrue (specs_sound (spec_trees (ss ++ s ∷ [])))
 specs_join = join spec_sound (λ ss. specs_sound (spec_trees ss)) refl (λ _ _. refl)
 
+pub words_join : (ns : List Word) (n : Word) → IsTrue (words_sound ns) → IsTrue (word_sound n) → IsTrue (words_sound (ns ++ n ∷ []))
+words_join = join word_sound words_sound refl (λ _ _. refl)
+
 pub fields_add : (fs : List FieldTree) (f : FieldTree) → fields_nodes (field_trees (fs ++ f ∷ [])) ≡ fields_nodes (field_trees fs) + field_nodes f
 fields_add = add field_nodes (λ fs. fields_nodes (field_trees fs)) refl (λ _ _. refl)
 
@@ -190,20 +195,20 @@ sections_join = join section_sound (λ ss. sections_sound (section_trees ss)) re
 pub declarators_add : (ds : List Declarator) (d : Declarator) → declarators_nodes (ds ++ d ∷ []) ≡ declarators_nodes ds + declarator_nodes d
 declarators_add = add declarator_nodes declarators_nodes refl (λ _ _. refl)
 
-pub declarators_join : (ds : List Declarator) (d : Declarator) → IsTrue (declarators_sound ds) → IsTrue (suffix_sound d.suffix) → IsTrue (declarators_sound (ds ++ d ∷ []))
-declarators_join = join (λ d. suffix_sound d.suffix) declarators_sound refl (λ _ _. refl)
+pub declarators_join : (ds : List Declarator) (d : Declarator) → IsTrue (declarators_sound ds) → IsTrue (declarator_sound d) → IsTrue (declarators_sound (ds ++ d ∷ []))
+declarators_join = join declarator_sound declarators_sound refl (λ _ _. refl)
 
 pub inits_add : (ds : List InitDeclaratorTree) (d : InitDeclaratorTree) → inits_nodes (ds ++ d ∷ []) ≡ inits_nodes ds + (declarator_nodes d.declarator + init_nodes d.init)
 inits_add = add (λ d. declarator_nodes d.declarator + init_nodes d.init) inits_nodes refl (λ _ _. refl)
 
-pub inits_join : (ds : List InitDeclaratorTree) (d : InitDeclaratorTree) → IsTrue (inits_sound ds) → IsTrue (suffix_sound d.declarator.suffix && init_sound d.init) → IsTrue (inits_sound (ds ++ d ∷ []))
-inits_join = join (λ d. suffix_sound d.declarator.suffix && init_sound d.init) inits_sound refl (λ _ _. refl)
+pub inits_join : (ds : List InitDeclaratorTree) (d : InitDeclaratorTree) → IsTrue (inits_sound ds) → IsTrue (declarator_sound d.declarator && init_sound d.init) → IsTrue (inits_sound (ds ++ d ∷ []))
+inits_join = join (λ d. declarator_sound d.declarator && init_sound d.init) inits_sound refl (λ _ _. refl)
 
 pub params_add : (ps : List ParamTree) (p : ParamTree) → params_nodes (ps ++ p ∷ []) ≡ params_nodes ps + param_nodes p
 params_add = add param_nodes params_nodes refl (λ _ _. refl)
 
-pub params_join : (ps : List ParamTree) (p : ParamTree) → IsTrue (params_sound ps) → IsTrue (specs_sound p.specs && suffix_sound p.suffix) → IsTrue (params_sound (ps ++ p ∷ []))
-params_join = join (λ p. specs_sound p.specs && suffix_sound p.suffix) params_sound refl (λ _ _. refl)
+pub params_join : (ps : List ParamTree) (p : ParamTree) → IsTrue (params_sound ps) → IsTrue (specs_sound p.specs && (name_sound p.name && suffix_sound p.suffix)) → IsTrue (params_sound (ps ++ p ∷ []))
+params_join = join (λ p. specs_sound p.specs && (name_sound p.name && suffix_sound p.suffix)) params_sound refl (λ _ _. refl)
 
 pub items_add : (is : List ItemTree) (i : ItemTree) → nodes_of (is ++ i ∷ []) ≡ nodes_of is + item_nodes i
 items_add = add item_nodes nodes_of refl (λ _ _. refl)

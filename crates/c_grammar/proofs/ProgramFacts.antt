@@ -1,11 +1,12 @@
--- A program that is derived has at most twice as many nodes as tokens, and its constants are in range.
+-- A program that is derived has at most twice as many nodes as tokens, its constants are in range, and
+-- its words are short.
 use Rattle.std.proofs.Common.{◌≡◌, ℕ, zero, suc, ◌+◌, ◌-◌, ◌*◌, ◌<◌, ◌≤◌, List, [], ◌∷◌, ◌++◌, Option, None, Some, Bool, true, false, if◌then◌else◌, nat_eq, slice_get, length, map, subst, refl, arith}
 use Rattle.std.specs.Prelude.{IsTrue}
 use Rattle.pt_base.specs.declared.span.Span.{Span}
 use Rattle.pt_tree.specs.ProgramTree.{ItemTree}
 use Rattle.pt_tree.specs.Nodes.{nodes_of}
 use Rattle.pt_tree.specs.Facts.{items_sound}
-use Rattle.c_lexer.specs.Values.{fits_type, ConstantsFit}
+use Rattle.c_lexer.specs.Values.{value_fits, ValuesFit}
 use Rattle.c_lexer.specs.declared.token.Token.{Token}
 use Rattle.c_lexer.specs.declared.token.TokenValue.{TokenValue}
 use Rattle.c_lexer.specs.declared.token.TokenValue.TheVariants.{Name, Constant}
@@ -53,8 +54,8 @@ abbrev Takes : TokenKind → Option (List Part) → Type 0
 Takes k None = Unit {0}
 Takes k (Some new) = (parts_nodes new + worth k ≤ 2) × Sound new
 
-given_takes : (k : TokenKind) (at : Span) (v : TokenValue) → IsTrue (fits_type v) → Takes k (given k at v)
-given_takes Identifier at (Name bytes) fit = (omega arith, (tt, tt))
+given_takes : (k : TokenKind) (at : Span) (v : TokenValue) → IsTrue (value_fits v) → Takes k (given k at v)
+given_takes Identifier at (Name bytes) fit = (omega arith, (fit, tt))
 given_takes Identifier at v fit = tt
 given_takes Number at (Constant value ty) fit = (omega arith, (fit, tt))
 given_takes Number at v fit = tt
@@ -65,9 +66,9 @@ given_takes k at v fit = (omega arith, tt)
 -- the token at a place
 abbrev Found : List Token → ℕ → Option Token → Type 0
 Found tokens at None = Unit {0}
-Found tokens at (Some t) = (at < length tokens) × IsTrue (fits_type t.value)
+Found tokens at (Some t) = (at < length tokens) × IsTrue (value_fits t.value)
 
-found : (tokens : List Token) (at : ℕ) → ConstantsFit tokens → Found tokens at (slice_get tokens at)
+found : (tokens : List Token) (at : ℕ) → ValuesFit tokens → Found tokens at (slice_get tokens at)
 found [] at fit = tt
 found (t ∷ ts) zero fit = (omega arith, fit 0 t (omega arith))
 found (t ∷ ts) (suc at) fit = go (slice_get ts at) (found ts at (λ k d lt. fit (suc k) d (omega arith)))
@@ -80,14 +81,14 @@ abbrev Accepts : List Token → TokenKind → ℕ → Option (List Part) → Typ
 Accepts tokens k at None = Unit {0}
 Accepts tokens k at (Some new) = (at < length tokens) × (parts_nodes new + worth k ≤ 2) × Sound new
 
-accepts : (tokens : List Token) (k : TokenKind) (at : ℕ) → ConstantsFit tokens → Accepts tokens k at (accepted k (slice_get tokens at))
+accepts : (tokens : List Token) (k : TokenKind) (at : ℕ) → ValuesFit tokens → Accepts tokens k at (accepted k (slice_get tokens at))
 accepts tokens k at fit = go (slice_get tokens at) (found tokens at fit)
   where
     value : (o : Option (List Part)) → at < length tokens → Takes k o → Accepts tokens k at o
     value None lt h = tt
     value (Some new) lt h = (lt, h.0, h.1)
 
-    test : (t : Token) (b : Bool) → at < length tokens → IsTrue (fits_type t.value) → Accepts tokens k at (if b then given k t.span t.value else None)
+    test : (t : Token) (b : Bool) → at < length tokens → IsTrue (value_fits t.value) → Accepts tokens k at (if b then given k t.span t.value else None)
     test t true lt fits = value (given k t.span t.value) lt (given_takes k t.span t.value fits)
     test t false lt fits = tt
 
@@ -127,7 +128,7 @@ built tokens from f rest at parts paid h =
     let few = h.few in
     record { stands = h.stands.3; few = omega arith; within = h.within; sound = good.sound h.sound }
 
-fine : (limit : Option ℕ) (tokens : List Token) → ConstantsFit tokens → (n : ℕ) (stack : List Entry) (at depth : ℕ) (parts : List Part) (paid : ℕ) → Known tokens stack at parts paid → IsFine tokens (run limit tokens n stack at depth parts)
+fine : (limit : Option ℕ) (tokens : List Token) → ValuesFit tokens → (n : ℕ) (stack : List Entry) (at depth : ℕ) (parts : List Part) (paid : ℕ) → Known tokens stack at parts paid → IsFine tokens (run limit tokens n stack at depth parts)
 fine limit tokens fit zero stack at depth parts paid h = tt
 fine limit tokens fit (suc n) [] at depth parts paid h = let few = h.few in let within = h.within in (omega arith, h.sound)
 fine limit tokens fit (suc n) (takes k ∷ rest) at depth parts paid h = go (accepted k (slice_get tokens at)) (accepts tokens k at fit) (λ new. fine limit tokens fit n rest (at + 1) depth (new ++ parts) (worth k + paid))
@@ -149,7 +150,7 @@ fine limit tokens fit (suc n) (closes ∷ rest) at depth parts paid h = fine lim
 fine limit tokens fit (suc n) (builds from f ∷ rest) at depth parts paid h = fine limit tokens fit n rest at depth (f (stretch tokens from at) parts) (paid - h.stands.0) (built tokens from f rest at parts paid h)
 
 -- what is known of a program that is derived
-pub program_facts : (limit : Option ℕ) (tokens : List Token) (n : ℕ) (is : List ItemTree) → ConstantsFit tokens → derived limit tokens n ≡ done (items is ∷ []) → (nodes_of is ≤ 2 * length tokens) × IsTrue (items_sound is)
+pub program_facts : (limit : Option ℕ) (tokens : List Token) (n : ℕ) (is : List ItemTree) → ValuesFit tokens → derived limit tokens n ≡ done (items is ∷ []) → (nodes_of is ≤ 2 * length tokens) × IsTrue (items_sound is)
 program_facts limit tokens n is fit e =
     let h : IsFine tokens (done (items is ∷ [])) = subst (IsFine tokens) e (fine limit tokens fit n (gives TranslationUnit ∷ []) 0 0 (items [] ∷ []) 0 (record { stands = tt; few = omega arith; within = omega arith; sound = (refl, tt) })) in
     let few = h.0 in

@@ -1,4 +1,4 @@
--- The values that tokens carry.
+-- The values that tokens carry, and what is known of them.
 use Rattle.std.specs.Prelude.{Bool, true, ◌&&◌, int_le, IsTrue, List, All}
 use Rattle.pt_base.specs.IntTypes.{low_of, high_of}
 use Rattle.pt_base.specs.Names.{is_short}
@@ -7,10 +7,10 @@ use Rattle.c_lexer.specs.declared.token.TokenValue.TheVariants.{Name, Constant, 
 use Rattle.c_lexer.specs.declared.token.Token.{Token}
 
 -- a constant's value is in the range of its type, and a name is short
-abbrev pub fits_type : TokenValue → Bool
-fits_type (Name bytes) = is_short bytes
-fits_type (Constant value ty) = int_le (low_of ty) value && int_le value (high_of ty)
-fits_type Fixed = true
+abbrev pub value_fits : TokenValue → Bool
+value_fits (Name bytes) = is_short bytes
+value_fits (Constant value ty) = int_le (low_of ty) value && int_le value (high_of ty)
+value_fits Fixed = true
 
-abbrev pub ConstantsFit : List Token → Type 0
-ConstantsFit tokens = All (λ t. IsTrue (fits_type t.value)) tokens
+abbrev pub ValuesFit : List Token → Type 0
+ValuesFit tokens = All (λ t. IsTrue (value_fits t.value)) tokens

@@ -8,8 +8,6 @@ mod laws;
 mod next;
 mod number;
 mod spelling;
-#[cfg(test)]
-mod tests;
 mod text;
 mod token;
 

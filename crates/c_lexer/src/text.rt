@@ -1,7 +1,7 @@
 // The tokens of a whole text.
 ghost use Rattle.std.specs.Prelude.{◌≡◌, ℕ, ◌≤◌, length, IfOk, IsOk, MatchResult, vec_len};
 ghost use Rattle.c_lexer.specs.Lexes.{Lexes, IsLexError};
-ghost use Rattle.c_lexer.specs.Values.{ConstantsFit};
+ghost use Rattle.c_lexer.specs.Values.{ValuesFit};
 
 use crate::TEXT_LIMIT;
 use crate::error::{LexError, LexFault, LexFaultKind};
@@ -19,7 +19,7 @@ use std::alloc::Global;
 pub fn lex(alloc: Global, text: &[u8]) -> Result<Vec<Token>, LexError>
     ensures tokens { MatchResult result (λ tokens. Lexes text.now tokens.items) (IsLexError text.now) }
     ensures limit { IsOk result → length text.now ≤ TEXT_LIMIT }
-    ensures constants { IfOk result (λ tokens. ConstantsFit tokens.items) }
+    ensures values { IfOk result (λ tokens. ValuesFit tokens.items) }
     ensures count { IfOk result (λ tokens. vec_len tokens ≤ length text.now) }
 {
     if text.len() > TEXT_LIMIT {

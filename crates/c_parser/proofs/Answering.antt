@@ -7,7 +7,7 @@ use Rattle.pt_tree.specs.SpecifierTree.{SpecTree, spec_trees}
 use Rattle.pt_tree.specs.ProgramTree.{ItemTree}
 use Rattle.pt_tree.specs.Nodes.{nodes_of}
 use Rattle.pt_tree.specs.Facts.{items_sound}
-use Rattle.c_lexer.specs.Values.{ConstantsFit}
+use Rattle.c_lexer.specs.Values.{ValuesFit}
 use Rattle.c_lexer.specs.declared.token.Token.{Token}
 use Rattle.c_grammar.specs.declared.symbol.Symbol.TheVariants.{TranslationUnit}
 use Rattle.c_grammar.specs.Part.{Part, specs, item, items}
@@ -38,8 +38,8 @@ gives_items tokens none is next e turns =
     let x = turns.from [] [] o (record { steps = 1; by = refl }) in
     (x.steps, subst (λ before. run (Some deepest) tokens x.steps (gives TranslationUnit ∷ []) 0 0 (items before ∷ []) ≡ o) e x.by)
 
--- the program that so many tokens give has few nodes, and its constants are in range
-pub facts : (tokens : List Token) (is : List ItemTree) → length tokens ≤ 1048576 → ConstantsFit tokens → Gives tokens (done (items is ∷ [])) → (nodes_of is < 2 ^ 22) × IsTrue (items_sound is)
+-- the program that so many tokens give has few nodes, its constants are in range, and its words are short
+pub facts : (tokens : List Token) (is : List ItemTree) → length tokens ≤ 1048576 → ValuesFit tokens → Gives tokens (done (items is ∷ [])) → (nodes_of is < 2 ^ 22) × IsTrue (items_sound is)
 facts tokens is few fit g =
     let h = program_facts (Some deepest) tokens g.0 is fit g.1 in
     let nodes = h.0 in

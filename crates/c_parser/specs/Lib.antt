@@ -1,6 +1,10 @@
 pub mod Answer
+pub mod Blocks
+pub mod Heads
 pub mod Levels
 pub mod Nesting
+pub mod OperandNames
 pub mod Parses
 pub mod Parts
 pub mod Rests
+pub mod RuleNames

@@ -1,4 +1,5 @@
--- What the limit does: the derivation itself has none.
+-- What the limit does: the derivation itself has none. With a limit or without one, each list of tokens
+-- comes to one outcome.
 use Rattle.std.specs.Prelude.{◌≡◌, ℕ, zero, suc, ◌+◌, ◌-◌, ◌<◌, ◌≤◌, max, List, [], ◌∷◌, ◌++◌, Option, None, Some, nat_eq, if◌then◌else◌, slice_get}
 use Rattle.c_lexer.specs.declared.token.Token.{Token}
 use Rattle.c_grammar.specs.declared.symbol.Symbol.TheVariants.{TranslationUnit}
@@ -42,3 +43,7 @@ LimitIsNesting = (limit : ℕ) (tokens : List Token) (n : ℕ) → Agrees limit 
 -- However many steps are taken, the derivation comes to one outcome at most.
 abbrev pub OneOutcome : Type 0
 OneOutcome = (limit : Option ℕ) (tokens : List Token) (n m : ℕ) → (derived limit tokens n ≡ unfinished → ⊥) → (derived limit tokens m ≡ unfinished → ⊥) → derived limit tokens n ≡ derived limit tokens m
+
+-- However many tokens there are, the derivation comes to an outcome.
+abbrev pub SomeOutcome : Type 0
+SomeOutcome = (limit : Option ℕ) (tokens : List Token) → (n : ℕ) × (derived limit tokens n ≡ unfinished → ⊥)

@@ -5,11 +5,13 @@ ghost use Rattle.std.specs.Prelude.{map, IfSome};
 ghost use Rattle.pt_tree.specs.ExpressionTree.{view_expr, view_link};
 ghost use Rattle.c_grammar.specs.Builds.{chained, stepped};
 ghost use Rattle.c_parser.specs.Levels.{symbol_of, tail_of, tighter_of};
+ghost use Rattle.c_parser.specs.OperandNames.{unary_number, postfix_number};
 ghost use Rattle.c_parser.specs.Parses.{Parses, is_fixed};
 ghost use Rattle.c_parser.specs.Parts.{of_expr, of_exprs, of_links, of_postfixes, Adds};
 
 use crate::declarators::star;
 use crate::error::ParseError;
+use crate::operand_rule::{PostfixRule, UnaryRule, postfix_rule, unary_rule};
 use crate::operators::{
     Level, assignment_operator, begin_level, kind_by, link_operator, prefix_operator, tighter,
 };
@@ -17,7 +19,7 @@ use crate::parsed::Parsed;
 use crate::postfixes::{arrow, decrement, dot, increment, put_behind};
 use crate::primaries::primary;
 use crate::specifiers::specifiers;
-use crate::text::{DEEPEST, begin, choose, expect, one, span_of, takes_first};
+use crate::text::{DEEPEST, begin, expect, one, push, span_of, takes_first};
 use c_grammar::Symbol;
 use c_lexer::{Token, TokenKind};
 use pt_base::Span;
@@ -205,11 +207,12 @@ fn more_operands(
                 let after = expect(tokens, next, kind)?;
                 let one = operand(alloc, tokens, after, depth, level)?;
                 let span = span_of(tokens, next, one.next);
-                links.push(Link {
+                let link = Link {
                     span,
                     op,
                     operand: one.tree,
-                })?;
+                };
+                push(&mut links, link)?;
                 next = one.next;
             }
         }
@@ -225,11 +228,11 @@ fn unary(alloc: Global, tokens: &[Token], at: usize, depth: u32) -> Result<Parse
     ensures parses { Parses [] of_expr tokens.now (gives Symbol.Unary ∷ []) at depth result }
     ensures goes_on { IfOk result (λ p. (at < p.next) × (p.next ≤ length tokens.now)) }
 {
-    let rule = choose(tokens, at, Symbol::Unary)?;
+    let rule = unary_rule(tokens, at)?;
     match rule {
-        93 => parenthesised(alloc, tokens, at, depth),
-        94 => prefixed(alloc, tokens, at, depth),
-        95 => step(
+        UnaryRule::Parenthesised => parenthesised(alloc, tokens, at, depth),
+        UnaryRule::Prefixed => prefixed(alloc, tokens, at, depth),
+        UnaryRule::Increment => step(
             alloc,
             tokens,
             at,
@@ -237,7 +240,7 @@ fn unary(alloc: Global, tokens: &[Token], at: usize, depth: u32) -> Result<Parse
             TokenKind::PlusPlus,
             PrefixOp::Increment,
         ),
-        96 => step(
+        UnaryRule::Decrement => step(
             alloc,
             tokens,
             at,
@@ -245,7 +248,7 @@ fn unary(alloc: Global, tokens: &[Token], at: usize, depth: u32) -> Result<Parse
             TokenKind::MinusMinus,
             PrefixOp::Decrement,
         ),
-        _ => with_postfixes(alloc, tokens, at, depth),
+        UnaryRule::Postfixed => with_postfixes(alloc, tokens, at, depth),
     }
 }
 
@@ -279,7 +282,7 @@ fn parenthesised(
     requires within { at ≤ length tokens.now }
     requires few { length tokens.now < 2 ^ 32 }
     requires shallow { depth ≤ 200 }
-    ensures parses { Parses [] of_expr tokens.now (wanted at 93) at depth result }
+    ensures parses { Parses [] of_expr tokens.now (wanted at (unary_number UnaryRule.Parenthesised)) at depth result }
     ensures goes_on { IfOk result (λ p. (at < p.next) × (p.next ≤ length tokens.now)) }
 {
     let inside = expect(tokens, at, TokenKind::OpenParen)?;
@@ -318,7 +321,7 @@ fn prefixed(
     requires within { at ≤ length tokens.now }
     requires few { length tokens.now < 2 ^ 32 }
     requires shallow { depth ≤ 200 }
-    ensures parses { Parses [] of_expr tokens.now (wanted at 94) at depth result }
+    ensures parses { Parses [] of_expr tokens.now (wanted at (unary_number UnaryRule.Prefixed)) at depth result }
     ensures goes_on { IfOk result (λ p. (at < p.next) × (p.next ≤ length tokens.now)) }
 {
     let op = prefix_operator(tokens, at)?;
@@ -368,7 +371,7 @@ fn with_postfixes(
     requires within { at ≤ length tokens.now }
     requires few { length tokens.now < 2 ^ 32 }
     requires shallow { depth ≤ 200 }
-    ensures parses { Parses [] of_expr tokens.now (wanted at 97) at depth result }
+    ensures parses { Parses [] of_expr tokens.now (wanted at (unary_number UnaryRule.Postfixed)) at depth result }
     ensures goes_on { IfOk result (λ p. (at < p.next) × (p.next ≤ length tokens.now)) }
 {
     let first = primary(alloc, tokens, at)?;
@@ -407,7 +410,7 @@ fn more_postfixes(
                 });
             }
             Some(one) => {
-                postfixes.push(one.tree)?;
+                push(&mut postfixes, one.tree)?;
                 next = one.next;
             }
         }
@@ -428,15 +431,15 @@ fn postfix(
     ensures parses { Adds tokens.now (gives Symbol.Postfixes ∷ []) at depth result }
     ensures goes_on { IfOk result (λ o. IfSome o (λ p. (at < p.next) × (p.next ≤ length tokens.now))) }
 {
-    let rule = choose(tokens, at, Symbol::Postfixes)?;
+    let rule = postfix_rule(tokens, at)?;
     match rule {
-        100 => index(alloc, tokens, at, depth),
-        101 => call(alloc, tokens, at, depth),
-        102 => dot(alloc, tokens, at, depth),
-        103 => arrow(alloc, tokens, at, depth),
-        104 => increment(tokens, at, depth),
-        105 => decrement(tokens, at, depth),
-        _ => Ok(None),
+        PostfixRule::Index => index(alloc, tokens, at, depth),
+        PostfixRule::Call => call(alloc, tokens, at, depth),
+        PostfixRule::Dot => dot(alloc, tokens, at, depth),
+        PostfixRule::Arrow => arrow(alloc, tokens, at, depth),
+        PostfixRule::Increment => increment(tokens, at, depth),
+        PostfixRule::Decrement => decrement(tokens, at, depth),
+        PostfixRule::End => Ok(None),
     }
 }
 
@@ -450,7 +453,7 @@ fn index(
     requires within { at ≤ length tokens.now }
     requires few { length tokens.now < 2 ^ 32 }
     requires shallow { depth ≤ 200 }
-    ensures parses { Adds tokens.now (wanted at 100) at depth result }
+    ensures parses { Adds tokens.now (wanted at (postfix_number PostfixRule.Index)) at depth result }
     ensures goes_on { IfOk result (λ o. IfSome o (λ p. (at < p.next) × (p.next ≤ length tokens.now))) }
 {
     let inside = expect(tokens, at, TokenKind::OpenBracket)?;
@@ -473,7 +476,7 @@ fn call(
     requires within { at ≤ length tokens.now }
     requires few { length tokens.now < 2 ^ 32 }
     requires shallow { depth ≤ 200 }
-    ensures parses { Adds tokens.now (wanted at 101) at depth result }
+    ensures parses { Adds tokens.now (wanted at (postfix_number PostfixRule.Call)) at depth result }
     ensures goes_on { IfOk result (λ o. IfSome o (λ p. (at < p.next) × (p.next ≤ length tokens.now))) }
 {
     let inside = expect(tokens, at, TokenKind::OpenParen)?;
@@ -534,7 +537,7 @@ fn more_arguments(
         }
         let after = expect(tokens, next, TokenKind::Comma)?;
         let one = expression(alloc, tokens, after, depth)?;
-        values.push(one.tree)?;
+        push(&mut values, one.tree)?;
         next = one.next;
     }
 }

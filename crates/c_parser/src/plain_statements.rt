@@ -3,10 +3,12 @@ ghost use Rattle.std.specs.Prelude.{◌≡◌, ◌<◌, ◌≤◌, ◌^◌, leng
 ghost use Rattle.c_grammar.specs.Machine.{gives, wanted};
 ghost use Rattle.c_parser.specs.Parses.{Parses};
 ghost use Rattle.c_parser.specs.Parts.{of_stmt, of_maybe_expr};
+ghost use Rattle.c_parser.specs.RuleNames.{statement_number};
 
 use crate::error::ParseError;
 use crate::expressions::expression;
 use crate::parsed::Parsed;
+use crate::statement_rule::StatementRule;
 use crate::text::{expect, span_of, takes_first};
 use c_grammar::Symbol;
 use c_lexer::{Token, TokenKind};
@@ -17,7 +19,7 @@ use std::alloc::Global;
 pub(crate) fn empty_statement(tokens: &[Token], at: usize) -> Result<Parsed<Stmt>, ParseError>
     requires within { at ≤ length tokens.now }
     requires few { length tokens.now < 2 ^ 32 }
-    ensures parses { (depth : ℕ) → Parses [] of_stmt tokens.now (wanted at 69) at depth result }
+    ensures parses { (depth : ℕ) → Parses [] of_stmt tokens.now (wanted at (statement_number StatementRule.Empty)) at depth result }
     ensures goes_on { IfOk result (λ p. (at < p.next) × (p.next ≤ length tokens.now)) }
 {
     let next = expect(tokens, at, TokenKind::Semicolon)?;
@@ -38,7 +40,7 @@ pub(crate) fn expression_statement(
     requires within { at ≤ length tokens.now }
     requires few { length tokens.now < 2 ^ 32 }
     requires shallow { depth ≤ 200 }
-    ensures parses { Parses [] of_stmt tokens.now (wanted at 70) at depth result }
+    ensures parses { Parses [] of_stmt tokens.now (wanted at (statement_number StatementRule.Expression)) at depth result }
     ensures goes_on { IfOk result (λ p. (at < p.next) × (p.next ≤ length tokens.now)) }
 {
     let value = expression(alloc, tokens, at, depth)?;
@@ -60,7 +62,7 @@ pub(crate) fn return_statement(
     requires within { at ≤ length tokens.now }
     requires few { length tokens.now < 2 ^ 32 }
     requires shallow { depth ≤ 200 }
-    ensures parses { Parses [] of_stmt tokens.now (wanted at 75) at depth result }
+    ensures parses { Parses [] of_stmt tokens.now (wanted at (statement_number StatementRule.Return)) at depth result }
     ensures goes_on { IfOk result (λ p. (at < p.next) × (p.next ≤ length tokens.now)) }
 {
     let word = expect(tokens, at, TokenKind::Return)?;
@@ -77,7 +79,7 @@ pub(crate) fn return_statement(
 pub(crate) fn break_statement(tokens: &[Token], at: usize) -> Result<Parsed<Stmt>, ParseError>
     requires within { at ≤ length tokens.now }
     requires few { length tokens.now < 2 ^ 32 }
-    ensures parses { (depth : ℕ) → Parses [] of_stmt tokens.now (wanted at 76) at depth result }
+    ensures parses { (depth : ℕ) → Parses [] of_stmt tokens.now (wanted at (statement_number StatementRule.Break)) at depth result }
     ensures goes_on { IfOk result (λ p. (at < p.next) × (p.next ≤ length tokens.now)) }
 {
     let word = expect(tokens, at, TokenKind::Break)?;
@@ -93,7 +95,7 @@ pub(crate) fn break_statement(tokens: &[Token], at: usize) -> Result<Parsed<Stmt
 pub(crate) fn continue_statement(tokens: &[Token], at: usize) -> Result<Parsed<Stmt>, ParseError>
     requires within { at ≤ length tokens.now }
     requires few { length tokens.now < 2 ^ 32 }
-    ensures parses { (depth : ℕ) → Parses [] of_stmt tokens.now (wanted at 77) at depth result }
+    ensures parses { (depth : ℕ) → Parses [] of_stmt tokens.now (wanted at (statement_number StatementRule.Continue)) at depth result }
     ensures goes_on { IfOk result (λ p. (at < p.next) × (p.next ≤ length tokens.now)) }
 {
     let word = expect(tokens, at, TokenKind::Continue)?;

@@ -3,9 +3,11 @@ ghost use Rattle.std.specs.Prelude.{◌≡◌, ◌<◌, ◌≤◌, ◌^◌, leng
 ghost use Rattle.c_grammar.specs.Machine.{wanted};
 ghost use Rattle.pt_tree.specs.ExpressionTree.{view_expr, view_postfix};
 ghost use Rattle.c_grammar.specs.Builds.{postfixed};
+ghost use Rattle.c_parser.specs.OperandNames.{postfix_number};
 ghost use Rattle.c_parser.specs.Parts.{Adds};
 
 use crate::error::ParseError;
+use crate::operand_rule::PostfixRule;
 use crate::parsed::Parsed;
 use crate::text::{expect, identifier, span_of};
 use c_lexer::{Token, TokenKind};
@@ -38,7 +40,7 @@ pub(crate) fn dot(
     requires within { at ≤ length tokens.now }
     requires few { length tokens.now < 2 ^ 32 }
     requires shallow { depth ≤ 200 }
-    ensures parses { Adds tokens.now (wanted at 102) at depth result }
+    ensures parses { Adds tokens.now (wanted at (postfix_number PostfixRule.Dot)) at depth result }
     ensures goes_on { IfOk result (λ o. IfSome o (λ p. (at < p.next) × (p.next ≤ length tokens.now))) }
 {
     let after = expect(tokens, at, TokenKind::Dot)?;
@@ -60,7 +62,7 @@ pub(crate) fn arrow(
     requires within { at ≤ length tokens.now }
     requires few { length tokens.now < 2 ^ 32 }
     requires shallow { depth ≤ 200 }
-    ensures parses { Adds tokens.now (wanted at 103) at depth result }
+    ensures parses { Adds tokens.now (wanted at (postfix_number PostfixRule.Arrow)) at depth result }
     ensures goes_on { IfOk result (λ o. IfSome o (λ p. (at < p.next) × (p.next ≤ length tokens.now))) }
 {
     let after = expect(tokens, at, TokenKind::Arrow)?;
@@ -81,7 +83,7 @@ pub(crate) fn increment(
     requires within { at ≤ length tokens.now }
     requires few { length tokens.now < 2 ^ 32 }
     requires shallow { depth ≤ 200 }
-    ensures parses { Adds tokens.now (wanted at 104) at depth result }
+    ensures parses { Adds tokens.now (wanted at (postfix_number PostfixRule.Increment)) at depth result }
     ensures goes_on { IfOk result (λ o. IfSome o (λ p. (at < p.next) × (p.next ≤ length tokens.now))) }
 {
     let next = expect(tokens, at, TokenKind::PlusPlus)?;
@@ -101,7 +103,7 @@ pub(crate) fn decrement(
     requires within { at ≤ length tokens.now }
     requires few { length tokens.now < 2 ^ 32 }
     requires shallow { depth ≤ 200 }
-    ensures parses { Adds tokens.now (wanted at 105) at depth result }
+    ensures parses { Adds tokens.now (wanted at (postfix_number PostfixRule.Decrement)) at depth result }
     ensures goes_on { IfOk result (λ o. IfSome o (λ p. (at < p.next) × (p.next ≤ length tokens.now))) }
 {
     let next = expect(tokens, at, TokenKind::MinusMinus)?;

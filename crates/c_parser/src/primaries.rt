@@ -2,12 +2,14 @@
 ghost use Rattle.std.specs.Prelude.{◌≡◌, ◌<◌, ◌≤◌, ◌^◌, length, IfOk, List, ℕ, [], ◌∷◌, IsTrue};
 ghost use Rattle.c_grammar.specs.Machine.{takes, gives, builds, wanted};
 ghost use Rattle.c_grammar.specs.Builds.{a_constant};
+ghost use Rattle.c_parser.specs.OperandNames.{primary_number};
 ghost use Rattle.c_parser.specs.Parses.{Parses, has_constant};
 ghost use Rattle.c_parser.specs.Parts.{of_expr};
 
 use crate::error::ParseError;
+use crate::operand_rule::{PrimaryRule, primary_rule};
 use crate::parsed::Parsed;
-use crate::text::{choose, constant, identifier};
+use crate::text::{constant, identifier};
 use c_grammar::Symbol;
 use c_lexer::{Token, TokenKind};
 use pt_tree::Expr;
@@ -24,18 +26,18 @@ pub(crate) fn primary(
     ensures parses { (depth : ℕ) → Parses [] of_expr tokens.now (gives Symbol.Primary ∷ []) at depth result }
     ensures goes_on { IfOk result (λ p. (at < p.next) × (p.next ≤ length tokens.now)) }
 {
-    let rule = choose(tokens, at, Symbol::Primary)?;
+    let rule = primary_rule(tokens, at)?;
     match rule {
-        111 => name(alloc, tokens, at),
-        112 => literal(tokens, at, TokenKind::Number),
-        _ => literal(tokens, at, TokenKind::Character),
+        PrimaryRule::Name => name(alloc, tokens, at),
+        PrimaryRule::Number => literal(tokens, at, TokenKind::Number),
+        PrimaryRule::Character => literal(tokens, at, TokenKind::Character),
     }
 }
 
 fn name(alloc: Global, tokens: &[Token], at: usize) -> Result<Parsed<Expr>, ParseError>
     requires within { at ≤ length tokens.now }
     requires few { length tokens.now < 2 ^ 32 }
-    ensures parses { (depth : ℕ) → Parses [] of_expr tokens.now (wanted at 111) at depth result }
+    ensures parses { (depth : ℕ) → Parses [] of_expr tokens.now (wanted at (primary_number PrimaryRule.Name)) at depth result }
     ensures goes_on { IfOk result (λ p. (at < p.next) × (p.next ≤ length tokens.now)) }
 {
     let word = identifier(alloc, tokens, at)?;

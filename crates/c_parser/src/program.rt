@@ -6,7 +6,7 @@ ghost use Rattle.c_parser.specs.Parses.{Parses};
 ghost use Rattle.c_parser.specs.Parts.{of_item, of_items, of_declarator, of_body};
 ghost use Rattle.c_parser.specs.Rests.{of_rest};
 ghost use Rattle.c_parser.specs.Answer.{IsAnswer};
-ghost use Rattle.c_lexer.specs.Values.{ConstantsFit};
+ghost use Rattle.c_lexer.specs.Values.{ValuesFit};
 
 use crate::declarations::{initializer, more_objects, parameters};
 use crate::declarators::declarator;
@@ -25,13 +25,14 @@ use std::alloc::Global;
 /// or the end, that has no rule for the symbol wanted or isn't the token wanted. Nesting goes too
 /// deep where a 201st counted symbol would open.
 ///
-/// There are at most 1,048,576 tokens, and the value of each constant is in the range of its type.
+/// There are at most 1,048,576 tokens, the value of each constant is in the range of its type, and
+/// each name has at most 1,048,576 bytes. The tokens of `lex` are so.
 ///
 /// # Errors
 /// `FaultAt`, `TooDeep`, whichever comes first, or want of memory.
 pub fn parse(alloc: Global, tokens: &[Token]) -> Result<Program, ParseError>
     requires few { length tokens.now ≤ 1048576 }
-    requires fit { ConstantsFit tokens.now }
+    requires fit { ValuesFit tokens.now }
     ensures { IsAnswer tokens.now result }
 {
     let items = Vec::new(alloc);

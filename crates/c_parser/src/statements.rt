@@ -1,27 +1,26 @@
 // Statements and blocks.
-ghost use Rattle.std.specs.Prelude.{◌≡◌, ◌+◌, ◌<◌, ◌≤◌, ◌^◌, ◌++◌, length, IfOk, Some, None, List, ℕ, [], ◌∷◌, IsTrue, true, false};
-ghost use Rattle.c_grammar.specs.Machine.{takes, gives, opens, builds, wanted};
-ghost use Rattle.pt_tree.specs.ExpressionTree.{view_expr};
-ghost use Rattle.pt_tree.specs.StatementTree.{choose, view_stmt};
+ghost use Rattle.std.specs.Prelude.{◌≡◌, ◌+◌, ◌<◌, ◌≤◌, ◌^◌, length, IfOk, ℕ, [], ◌∷◌};
+ghost use Rattle.c_grammar.specs.Machine.{gives, opens, wanted};
 ghost use Rattle.c_parser.specs.Parses.{Parses};
-ghost use Rattle.c_parser.specs.Parts.{of_stmt, of_stmts, of_block, of_else, of_section, of_sections, else_tree};
+ghost use Rattle.c_parser.specs.Parts.{of_stmt, of_stmts, of_block, of_else, of_section, of_sections};
+ghost use Rattle.c_parser.specs.RuleNames.{statement_number};
 
-use crate::declarations::declaration;
+use crate::built::{
+    block_end, block_start, choice, declared, do_loop, for_loop, switch_end, while_loop,
+};
 use crate::error::ParseError;
-use crate::expressions::expression;
-use crate::for_heads::{for_init, for_step};
+use crate::heads::{condition, for_head, switch_head};
 use crate::labels::label;
 use crate::parsed::Parsed;
 use crate::plain_statements::{
-    break_statement, continue_statement, empty_statement, expression_statement,
-    optional_expression, return_statement,
+    break_statement, continue_statement, empty_statement, expression_statement, return_statement,
 };
-use crate::text::{DEEPEST, begin, choose, expect, span_of, takes_first};
+use crate::statement_rule::{StatementRule, statement_rule};
+use crate::text::{DEEPEST, begin, expect, push, span_of, takes_first};
 use c_grammar::Symbol;
 use c_lexer::{Token, TokenKind};
-use pt_base::Span;
-use pt_tree::{Block, Expr, Section, Stmt};
-use std::alloc::{AllocError, Global};
+use pt_tree::{Block, Section, Stmt};
+use std::alloc::Global;
 
 #[cycle(statements)]
 fn statement(
@@ -55,19 +54,19 @@ fn any_statement(
     ensures parses { Parses [] of_stmt tokens.now (gives Symbol.Statement ∷ []) at depth result }
     ensures goes_on { IfOk result (λ p. (at < p.next) × (p.next ≤ length tokens.now)) }
 {
-    let rule = choose(tokens, at, Symbol::Statement)?;
+    let rule = statement_rule(tokens, at)?;
     match rule {
-        68 => block_statement(alloc, tokens, at, depth),
-        69 => empty_statement(tokens, at),
-        70 => expression_statement(alloc, tokens, at, depth),
-        71 => if_statement(alloc, tokens, at, depth),
-        72 => while_statement(alloc, tokens, at, depth),
-        73 => do_statement(alloc, tokens, at, depth),
-        74 => for_statement(alloc, tokens, at, depth),
-        75 => return_statement(alloc, tokens, at, depth),
-        76 => break_statement(tokens, at),
-        77 => continue_statement(tokens, at),
-        _ => switch_statement(alloc, tokens, at, depth),
+        StatementRule::Block => block_statement(alloc, tokens, at, depth),
+        StatementRule::Empty => empty_statement(tokens, at),
+        StatementRule::Expression => expression_statement(alloc, tokens, at, depth),
+        StatementRule::If => if_statement(alloc, tokens, at, depth),
+        StatementRule::While => while_statement(alloc, tokens, at, depth),
+        StatementRule::Do => do_statement(alloc, tokens, at, depth),
+        StatementRule::For => for_statement(alloc, tokens, at, depth),
+        StatementRule::Return => return_statement(alloc, tokens, at, depth),
+        StatementRule::Break => break_statement(tokens, at),
+        StatementRule::Continue => continue_statement(tokens, at),
+        StatementRule::Switch => switch_statement(alloc, tokens, at, depth),
     }
 }
 
@@ -85,19 +84,10 @@ pub(crate) fn block(
     ensures parses { Parses [] of_block tokens.now (gives Symbol.Block ∷ []) at depth result }
     ensures goes_on { IfOk result (λ p. (at < p.next) × (p.next ≤ length tokens.now)) }
 {
-    begin(tokens, at, Symbol::Block)?;
-    let inside = expect(tokens, at, TokenKind::OpenBrace)?;
+    let inside = block_start(tokens, at)?;
     let none = Vec::new(alloc);
     let items = more_items(alloc, tokens, inside, depth, none)?;
-    let next = expect(tokens, items.next, TokenKind::CloseBrace)?;
-    let span = span_of(tokens, at, next);
-    Ok(Parsed {
-        tree: Block {
-            span,
-            items: items.tree,
-        },
-        next,
-    })
+    block_end(tokens, at, items)
 }
 
 #[cycle(statements)]
@@ -121,7 +111,7 @@ fn more_items(
             return Ok(Parsed { tree: items, next });
         }
         let one = item(alloc, tokens, next, depth)?;
-        items.push(one.tree)?;
+        push(&mut items, one.tree)?;
         next = one.next;
     }
 }
@@ -136,14 +126,10 @@ fn item(alloc: Global, tokens: &[Token], at: usize, depth: u32) -> Result<Parsed
 {
     let declares = takes_first(tokens, at, Symbol::Item)?;
     if declares {
-        let declared = declaration(alloc, tokens, at, depth)?;
-        return Ok(Parsed {
-            tree: Stmt::Declare(declared.tree),
-            next: declared.next,
-        });
+        declared(alloc, tokens, at, depth)
+    } else {
+        statement(alloc, tokens, at, depth)
     }
-    let stated = statement(alloc, tokens, at, depth)?;
-    Ok(stated)
 }
 
 #[cycle(statements)]
@@ -156,7 +142,7 @@ fn block_statement(
     requires within { at ≤ length tokens.now }
     requires few { length tokens.now < 2 ^ 32 }
     requires shallow { depth ≤ 200 }
-    ensures parses { Parses [] of_stmt tokens.now (wanted at 68) at depth result }
+    ensures parses { Parses [] of_stmt tokens.now (wanted at (statement_number StatementRule.Block)) at depth result }
     ensures goes_on { IfOk result (λ p. (at < p.next) × (p.next ≤ length tokens.now)) }
 {
     let inner = block(alloc, tokens, at, depth)?;
@@ -176,36 +162,13 @@ fn if_statement(
     requires within { at ≤ length tokens.now }
     requires few { length tokens.now < 2 ^ 32 }
     requires shallow { depth ≤ 200 }
-    ensures parses { Parses [] of_stmt tokens.now (wanted at 71) at depth result }
+    ensures parses { Parses [] of_stmt tokens.now (wanted at (statement_number StatementRule.If)) at depth result }
     ensures goes_on { IfOk result (λ p. (at < p.next) × (p.next ≤ length tokens.now)) }
 {
-    let word = expect(tokens, at, TokenKind::If)?;
-    let inside = expect(tokens, word, TokenKind::OpenParen)?;
-    let test = expression(alloc, tokens, inside, depth)?;
-    let closed = expect(tokens, test.next, TokenKind::CloseParen)?;
-    let yes = statement(alloc, tokens, closed, depth)?;
+    let test = condition(alloc, tokens, at, depth, TokenKind::If)?;
+    let yes = statement(alloc, tokens, test.next, depth)?;
     let no = else_part(alloc, tokens, yes.next, depth)?;
-    let span = span_of(tokens, at, no.next);
-    let tree = chosen(alloc, span, test.tree, yes.tree, no.tree)?;
-    Ok(Parsed {
-        tree,
-        next: no.next,
-    })
-}
-
-fn chosen(
-    alloc: Global,
-    span: Span,
-    test: Expr,
-    yes: Stmt,
-    no: Option<Stmt>,
-) -> Result<Stmt, AllocError>
-    ensures { IfOk result (λ s. view_stmt s ≡ choose span (view_expr test) (view_stmt yes) (else_tree no)) }
-{
-    match no {
-        None => Stmt::when(alloc, span, test, yes),
-        Some(no) => Stmt::choice(alloc, span, test, yes, no),
-    }
+    choice(alloc, tokens, at, test.tree, yes.tree, no)
 }
 
 #[cycle(statements)]
@@ -246,20 +209,12 @@ fn while_statement(
     requires within { at ≤ length tokens.now }
     requires few { length tokens.now < 2 ^ 32 }
     requires shallow { depth ≤ 200 }
-    ensures parses { Parses [] of_stmt tokens.now (wanted at 72) at depth result }
+    ensures parses { Parses [] of_stmt tokens.now (wanted at (statement_number StatementRule.While)) at depth result }
     ensures goes_on { IfOk result (λ p. (at < p.next) × (p.next ≤ length tokens.now)) }
 {
-    let word = expect(tokens, at, TokenKind::While)?;
-    let inside = expect(tokens, word, TokenKind::OpenParen)?;
-    let test = expression(alloc, tokens, inside, depth)?;
-    let closed = expect(tokens, test.next, TokenKind::CloseParen)?;
-    let body = statement(alloc, tokens, closed, depth)?;
-    let span = span_of(tokens, at, body.next);
-    let tree = Stmt::while_true(alloc, span, test.tree, body.tree)?;
-    Ok(Parsed {
-        tree,
-        next: body.next,
-    })
+    let test = condition(alloc, tokens, at, depth, TokenKind::While)?;
+    let body = statement(alloc, tokens, test.next, depth)?;
+    while_loop(alloc, tokens, at, test.tree, body)
 }
 
 #[cycle(statements)]
@@ -272,19 +227,12 @@ fn do_statement(
     requires within { at ≤ length tokens.now }
     requires few { length tokens.now < 2 ^ 32 }
     requires shallow { depth ≤ 200 }
-    ensures parses { Parses [] of_stmt tokens.now (wanted at 73) at depth result }
+    ensures parses { Parses [] of_stmt tokens.now (wanted at (statement_number StatementRule.Do)) at depth result }
     ensures goes_on { IfOk result (λ p. (at < p.next) × (p.next ≤ length tokens.now)) }
 {
     let word = expect(tokens, at, TokenKind::Do)?;
     let body = statement(alloc, tokens, word, depth)?;
-    let after = expect(tokens, body.next, TokenKind::While)?;
-    let inside = expect(tokens, after, TokenKind::OpenParen)?;
-    let test = expression(alloc, tokens, inside, depth)?;
-    let closed = expect(tokens, test.next, TokenKind::CloseParen)?;
-    let next = expect(tokens, closed, TokenKind::Semicolon)?;
-    let span = span_of(tokens, at, next);
-    let tree = Stmt::do_while(alloc, span, body.tree, test.tree)?;
-    Ok(Parsed { tree, next })
+    do_loop(alloc, tokens, at, depth, body)
 }
 
 #[cycle(statements)]
@@ -297,23 +245,12 @@ fn for_statement(
     requires within { at ≤ length tokens.now }
     requires few { length tokens.now < 2 ^ 32 }
     requires shallow { depth ≤ 200 }
-    ensures parses { Parses [] of_stmt tokens.now (wanted at 74) at depth result }
+    ensures parses { Parses [] of_stmt tokens.now (wanted at (statement_number StatementRule.For)) at depth result }
     ensures goes_on { IfOk result (λ p. (at < p.next) × (p.next ≤ length tokens.now)) }
 {
-    let word = expect(tokens, at, TokenKind::For)?;
-    let inside = expect(tokens, word, TokenKind::OpenParen)?;
-    let init = for_init(alloc, tokens, inside, depth)?;
-    let test = optional_expression(alloc, tokens, init.next, depth)?;
-    let after = expect(tokens, test.next, TokenKind::Semicolon)?;
-    let step = for_step(alloc, tokens, after, depth)?;
-    let closed = expect(tokens, step.next, TokenKind::CloseParen)?;
-    let body = statement(alloc, tokens, closed, depth)?;
-    let span = span_of(tokens, at, body.next);
-    let tree = Stmt::for_each(alloc, span, init.tree, test.tree, step.tree, body.tree)?;
-    Ok(Parsed {
-        tree,
-        next: body.next,
-    })
+    let head = for_head(alloc, tokens, at, depth)?;
+    let body = statement(alloc, tokens, head.next, depth)?;
+    for_loop(alloc, tokens, at, head.tree, body)
 }
 
 #[cycle(statements)]
@@ -326,22 +263,13 @@ fn switch_statement(
     requires within { at ≤ length tokens.now }
     requires few { length tokens.now < 2 ^ 32 }
     requires shallow { depth ≤ 200 }
-    ensures parses { Parses [] of_stmt tokens.now (wanted at 169) at depth result }
+    ensures parses { Parses [] of_stmt tokens.now (wanted at (statement_number StatementRule.Switch)) at depth result }
     ensures goes_on { IfOk result (λ p. (at < p.next) × (p.next ≤ length tokens.now)) }
 {
-    let word = expect(tokens, at, TokenKind::Switch)?;
-    let inside = expect(tokens, word, TokenKind::OpenParen)?;
-    let on = expression(alloc, tokens, inside, depth)?;
-    let closed = expect(tokens, on.next, TokenKind::CloseParen)?;
-    let braced = expect(tokens, closed, TokenKind::OpenBrace)?;
+    let on = switch_head(alloc, tokens, at, depth)?;
     let none = Vec::new(alloc);
-    let sections = more_sections(alloc, tokens, braced, depth, none)?;
-    let next = expect(tokens, sections.next, TokenKind::CloseBrace)?;
-    let span = span_of(tokens, at, next);
-    Ok(Parsed {
-        tree: Stmt::switch(span, on.tree, sections.tree),
-        next,
-    })
+    let sections = more_sections(alloc, tokens, on.next, depth, none)?;
+    switch_end(tokens, at, on.tree, sections)
 }
 
 #[cycle(statements)]
@@ -368,7 +296,7 @@ fn more_sections(
             });
         }
         let one = section(alloc, tokens, next, depth)?;
-        sections.push(one.tree)?;
+        push(&mut sections, one.tree)?;
         next = one.next;
     }
 }
@@ -422,7 +350,7 @@ fn section_items(
             return Ok(Parsed { tree: items, next });
         }
         let one = statement(alloc, tokens, next, depth)?;
-        items.push(one.tree)?;
+        push(&mut items, one.tree)?;
         next = one.next;
     }
 }

@@ -1,7 +1,7 @@
 // The rows of texts, with the places of their faults and the shapes of their trees.
 use super::*;
 use c_lexer::lex;
-use pt_tree::{Expr, ForInit, Initializer, Item, Program, Stmt};
+use pt_tree::{Expr, Item, Program, Stmt};
 use std::alloc::Global;
 use std::test::Fail;
 
@@ -18,18 +18,6 @@ fn fault(alloc: Global, text: &str) -> Option<u32> {
     match parsed(alloc, text.as_bytes()) {
         Err(ParseError::FaultAt(at)) => Some(at),
         Ok(_) | Err(_) => None,
-    }
-}
-
-/// The value of the first object of a declaration outside of functions.
-fn value(program: &Program, at: usize) -> Option<&Expr> {
-    let Some(Item::Declare(declaration)) = program.items.get(at) else {
-        return None;
-    };
-    let first = declaration.declarators.first()?;
-    match &first.init {
-        Some(Initializer::Single(value)) => Some(value),
-        _ => None,
     }
 }
 
@@ -83,18 +71,6 @@ fn attributes_and_bodies_stand_where_they_may(rt: HostRuntime) {
 }
 
 #[test]
-fn nesting_has_a_limit(rt: HostRuntime) -> Result<(), Fail> {
-    let mut text = b"int main(void) {".to_vec(rt.alloc())?;
-    for _ in 0..200 {
-        text.push(b'{')?;
-    }
-    assert!(rt; matches!(parsed(rt.alloc(), &text), Err(ParseError::FaultAt(206))));
-    text.push(b'{')?;
-    assert!(rt; matches!(parsed(rt.alloc(), &text), Err(ParseError::TooDeep(206))));
-    Ok(())
-}
-
-#[test]
 fn an_else_goes_with_the_inner_if(rt: HostRuntime) -> Result<(), Fail> {
     let program = parsed(rt.alloc(), b"void f(void) { if (1) if (2) ; else ; }")?;
     let Some(Stmt::If(_, Expr::Constant(_), inner, outer)) = statement(&program) else {
@@ -102,28 +78,5 @@ fn an_else_goes_with_the_inner_if(rt: HostRuntime) -> Result<(), Fail> {
     };
     assert!(rt; outer.is_none());
     assert!(rt; matches!(&**inner, Stmt::If(_, _, _, Some(_))));
-    Ok(())
-}
-
-#[test]
-fn a_cast_is_no_parenthesised_name(rt: HostRuntime) -> Result<(), Fail> {
-    let program = parsed(rt.alloc(), b"int a = (int)b; int c = (b);")?;
-    assert!(rt; matches!(value(&program, 0), Some(Expr::Cast(_, _, false, _))));
-    assert!(rt; matches!(value(&program, 1), Some(Expr::Name(_))));
-    Ok(())
-}
-
-#[test]
-fn a_for_may_declare(rt: HostRuntime) -> Result<(), Fail> {
-    let program = parsed(
-        rt.alloc(),
-        b"void f(void) { for (int i = 0; i < 3; i++) ; }",
-    )?;
-    assert!(rt;
-        matches!(
-            statement(&program),
-            Some(Stmt::For(_, ForInit::Declare(_), Some(_), Some(_), _))
-        )
-    );
     Ok(())
 }

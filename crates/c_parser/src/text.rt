@@ -1,5 +1,5 @@
 // The tokens one by one: what stands at a place, and which rule it leads to.
-ghost use Rattle.std.specs.Prelude.{◌≡◌, ◌+◌, ◌<◌, ◌≤◌, ◌^◌, length, slice_get, IfOk, IfErr, IfSome, Some, None, IsTrue, get_or, List, ℕ, [], ◌∷◌};
+ghost use Rattle.std.specs.Prelude.{◌≡◌, ◌+◌, ◌<◌, ◌≤◌, ◌^◌, length, slice_get, IfOk, IfErr, IfSome, Some, None, IsTrue, get_or, List, ℕ, [], ◌∷◌, ◌++◌};
 ghost use Rattle.c_grammar.specs.Numbers.{kind_number};
 ghost use Rattle.c_grammar.specs.Machine.{gives, accepted, stretch, given, start_of, end_of};
 ghost use Rattle.c_grammar.specs.Table.{alternatives_of};
@@ -190,4 +190,12 @@ pub(crate) fn one<T: Drop>(alloc: Global, item: T) -> Result<Vec<T>, AllocError>
     let mut items = Vec::new(alloc);
     items.push(item)?;
     Ok(items)
+}
+
+/// Puts one more behind a list.
+pub(crate) fn push<T: Drop>(items: &mut Vec<T>, item: T) -> Result<(), AllocError>
+    ensures items { IfOk result (λ _. items.new.items ≡ items.old.items ++ item ∷ []) }
+{
+    items.push(item)?;
+    Ok(())
 }

@@ -1,9 +1,10 @@
-use Rattle.std.proofs.Common.{◌+◌, ◌≤◌, length, inr, sym, ◌∙◌, subst, arith, rules}
+use Rattle.std.proofs.Common.{◌+◌, ◌≤◌, length, drop, inr, sym, ◌∙◌, subst, arith, rules, length-drop}
+use Rattle.pt_base.specs.Names.{longest_name}
 use Rattle.c_lexer.specs.Lexes.{Reads, none}
 use Rattle.c_lexer.specs.declared.next.Next.TheVariants.{Blank, Token, Fault}
 use Rattle.std.specs.Prelude.{IsTrue}
 use Rattle.std.proofs.lemmas.List.Elements.{All-push}
-use Rattle.c_lexer.specs.Values.{fits_type, ConstantsFit}
+use Rattle.c_lexer.specs.Values.{value_fits, ValuesFit}
 use Rattle.c_lexer.proofs.ValueLemmas.{meaning_fits}
 use Rattle.c_lexer.proofs.Steps.{step_begins, step_fits}
 use Rattle.c_lexer.proofs.Walks.{reads_blank, reads_token}
@@ -13,7 +14,7 @@ pub loop-at-init : goal.loop-at-init
 loop-at-init c = record {
   within = omega arith;
   reads = subst (λ ts. Reads c.args.text.now 0 ts 0) (sym c.new-tokens.ensures.items) none;
-  constants = subst ConstantsFit (sym c.new-tokens.ensures.items) (search rules);
+  values = subst ValuesFit (sym c.new-tokens.ensures.items) (search rules);
   count = omega (arith, c.new-tokens.ensures.len);
 }
 
@@ -35,7 +36,7 @@ loop-at-preserved-in-Blank c =
     record {
       within = omega (arith, fits.1);
       reads = reads_blank c.args.text.now 0 c.loop-at.tokens.items c.loop-at.at c.in-Blank.length c.loop-at.invariant.reads begins;
-      constants = c.loop-at.invariant.constants;
+      values = c.loop-at.invariant.values;
       count = omega arith;
     }
 
@@ -67,11 +68,13 @@ loop-at-preserved c =
     let fits = step_fits c.args.text.now c.loop-at.at (Token c.in-Token.length c.in-Token.kind c.in-Token.value) c.loop-at-test.true (sym c.in-Token.is ∙ c.in_ok-length.ensures) in
     let begins = step_begins c.args.text.now c.loop-at.at (Token c.in-Token.length c.in-Token.kind c.in-Token.value) c.loop-at-test.true (sym c.in-Token.is ∙ c.in_ok-length.ensures) in
     let pushed = c.in_ok-push-in-Token.ensures.items in
+    let size = length-drop c.loop-at.at c.args.text.now in
+    let few : length (drop c.loop-at.at c.args.text.now) ≤ longest_name = omega (arith, size) in
     let reads = reads_token c.args.text.now 0 c.loop-at.tokens.items c.loop-at.at c.in-Token.length c.in-Token.kind c.in-Token.value c.loop-at.invariant.reads begins in
     record {
       within = omega (arith, fits.1);
       reads = subst (λ ts. Reads c.args.text.now 0 ts (c.loop-at.at + c.in-Token.length)) (sym pushed) reads;
-      constants = subst ConstantsFit (sym pushed) (All-push (λ t. IsTrue (fits_type t.value)) c.loop-at.tokens.items _ c.loop-at.invariant.constants (meaning_fits _ c.in-Token.kind c.in-Token.value begins.means));
+      values = subst ValuesFit (sym pushed) (All-push (λ t. IsTrue (value_fits t.value)) c.loop-at.tokens.items _ c.loop-at.invariant.values (meaning_fits (drop c.loop-at.at c.args.text.now) c.in-Token.length c.in-Token.kind c.in-Token.value begins.longest.within few begins.means));
       count = omega (arith, fits.0, c.in_ok-push-in-Token.ensures.len);
     }
 

@@ -1,6 +1,6 @@
 use Rattle.std.proofs.Common.{◌-◌, ◌≤◌, length, vec_len}
 use Rattle.c_lexer.specs.Lexes.{Reads}
-use Rattle.c_lexer.specs.Values.{ConstantsFit}
+use Rattle.c_lexer.specs.Values.{ValuesFit}
 use Rattle.c_lexer.proofs.text.lex.Given as goal
 
 -- the tokens so far are those before the place
@@ -8,7 +8,7 @@ abbrev pub invariant-loop-at : goal.invariant-loop-at
 invariant-loop-at l = record {
   within : l.at ≤ length l.text;
   reads : Reads l.text 0 l.tokens.items l.at;
-  constants : ConstantsFit l.tokens.items;
+  values : ValuesFit l.tokens.items;
   count : vec_len l.tokens ≤ l.at;
 }
 

@@ -6,7 +6,7 @@ use Rattle.std.proofs.Common.{IfSome}
 use Rattle.pt_tree.specs.ExpressionTree.{link}
 use Rattle.c_grammar.specs.Machine.{takes, gives}
 use Rattle.c_parser.specs.Parses.{Comes, Turns, Fails, Parses, Enters}
-use Rattle.c_parser.proofs.LastRules.{last_Unary, last_Postfixes}
+use Rattle.c_parser.specs.OperandNames.{unary_number, postfix_number}
 use Rattle.c_parser.proofs.Steps.{built, builds_on, same_top, pushed, by_rule, adds_by_rule, ends_by_rule, opened}
 use Rattle.c_parser.specs.Parts.{of_expr, Adds}
 use Rattle.c_parser.specs.Levels.{EntersLink}
@@ -96,20 +96,20 @@ more_operands-returns-in_err-one-in-Some-clause-parses t c = let is : c.from_res
 pub more_operands-loop-links-preserved : goal.more_operands-loop-links-preserved
 more_operands-loop-links-preserved t c = record { repeats = record { from = λ rest parts o k. c.loop-links.invariant.repeats.from _ _ _ ((subst (EntersLink c.args.tokens.now c.args.level c.loop-links.next) c.in-Some.is c.in_ok-operator.ensures.enters).from _ _ _ _ ((subst (λ x. Turns c.args.tokens.now (takes x ∷ []) c.loop-links.next c.args.depth [] [] c.in_ok-after-in-Some.after) c.kind_by-kind.ensures.kind (c.in_ok-after-in-Some.ensures.expects c.args.depth)).from _ _ _ (c.in_ok-one-in-Some.ensures.parses.from _ _ _ (built _ _ _ _ _ _ _ _ _ (ap (λ z. q.links (map view_link c.loop-links.links.items ++ z ∷ []) ∷ parts) (ap (λ z. link z c.in-Some.op (view_expr c.in_ok-one-in-Some.one.tree)) (sym c.span_of-span.ensures)) ∙ pushed q.links view_link _ _ _ _ c.in_ok-push-in-Some.ensures.items) k)))) }; after = omega (arith, c.loop-links.invariant.after, c.loop-links.invariant.within, c.in_ok-after-in-Some.ensures.goes_on.0, c.in_ok-after-in-Some.ensures.goes_on.1, c.in_ok-one-in-Some.ensures.goes_on.0, c.in_ok-one-in-Some.ensures.goes_on.1); within = omega (arith, c.loop-links.invariant.after, c.loop-links.invariant.within, c.in_ok-after-in-Some.ensures.goes_on.0, c.in_ok-after-in-Some.ensures.goes_on.1, c.in_ok-one-in-Some.ensures.goes_on.0, c.in_ok-one-in-Some.ensures.goes_on.1) }
 
-pub unary-returns-in-93-clause-parses : goal.unary-returns-in-93-clause-parses
-unary-returns-in-93-clause-parses t c = by_rule [] of_expr c.args.tokens.now s.Unary c.args.at c.args.depth 93 _ (subst (Enters c.args.tokens.now s.Unary c.args.at) c.in-93.is c.in_ok-rule.ensures.enters) c.parenthesised.ensures.parses
+pub unary-returns-in-Parenthesised-clause-parses : goal.unary-returns-in-Parenthesised-clause-parses
+unary-returns-in-Parenthesised-clause-parses t c = by_rule [] of_expr c.args.tokens.now s.Unary c.args.at c.args.depth 93 _ (subst (λ r. Enters c.args.tokens.now s.Unary c.args.at (unary_number r)) c.in-Parenthesised.is c.in_ok-rule.ensures.enters) c.parenthesised.ensures.parses
 
-pub unary-returns-in-94-clause-parses : goal.unary-returns-in-94-clause-parses
-unary-returns-in-94-clause-parses t c = by_rule [] of_expr c.args.tokens.now s.Unary c.args.at c.args.depth 94 _ (subst (Enters c.args.tokens.now s.Unary c.args.at) c.in-94.is c.in_ok-rule.ensures.enters) c.prefixed.ensures.parses
+pub unary-returns-in-Prefixed-clause-parses : goal.unary-returns-in-Prefixed-clause-parses
+unary-returns-in-Prefixed-clause-parses t c = by_rule [] of_expr c.args.tokens.now s.Unary c.args.at c.args.depth 94 _ (subst (λ r. Enters c.args.tokens.now s.Unary c.args.at (unary_number r)) c.in-Prefixed.is c.in_ok-rule.ensures.enters) c.prefixed.ensures.parses
 
-pub unary-returns-in-95-clause-parses : goal.unary-returns-in-95-clause-parses
-unary-returns-in-95-clause-parses t c = by_rule [] of_expr c.args.tokens.now s.Unary c.args.at c.args.depth 95 _ (subst (Enters c.args.tokens.now s.Unary c.args.at) c.in-95.is c.in_ok-rule.ensures.enters) c.step.ensures.parses
+pub unary-returns-in-Increment-clause-parses : goal.unary-returns-in-Increment-clause-parses
+unary-returns-in-Increment-clause-parses t c = by_rule [] of_expr c.args.tokens.now s.Unary c.args.at c.args.depth 95 _ (subst (λ r. Enters c.args.tokens.now s.Unary c.args.at (unary_number r)) c.in-Increment.is c.in_ok-rule.ensures.enters) c.step.ensures.parses
 
-pub unary-returns-in-96-clause-parses : goal.unary-returns-in-96-clause-parses
-unary-returns-in-96-clause-parses t c = by_rule [] of_expr c.args.tokens.now s.Unary c.args.at c.args.depth 96 _ (subst (Enters c.args.tokens.now s.Unary c.args.at) c.in-96.is c.in_ok-rule.ensures.enters) c.step-in-96.ensures.parses
+pub unary-returns-in-Decrement-clause-parses : goal.unary-returns-in-Decrement-clause-parses
+unary-returns-in-Decrement-clause-parses t c = by_rule [] of_expr c.args.tokens.now s.Unary c.args.at c.args.depth 96 _ (subst (λ r. Enters c.args.tokens.now s.Unary c.args.at (unary_number r)) c.in-Decrement.is c.in_ok-rule.ensures.enters) c.step-in-Decrement.ensures.parses
 
-pub unary-returns-in_default-clause-parses : goal.unary-returns-in_default-clause-parses
-unary-returns-in_default-clause-parses t c = by_rule [] of_expr c.args.tokens.now s.Unary c.args.at c.args.depth 97 _ (subst (Enters c.args.tokens.now s.Unary c.args.at) (last_Unary c.in_ok-rule.rule (search rules) (search rules) (search rules) (search rules) c.in_ok-rule.ensures.among) c.in_ok-rule.ensures.enters) c.with_postfixes.ensures.parses
+pub unary-returns-in-Postfixed-clause-parses : goal.unary-returns-in-Postfixed-clause-parses
+unary-returns-in-Postfixed-clause-parses t c = by_rule [] of_expr c.args.tokens.now s.Unary c.args.at c.args.depth 97 _ (subst (λ r. Enters c.args.tokens.now s.Unary c.args.at (unary_number r)) c.in-Postfixed.is c.in_ok-rule.ensures.enters) c.with_postfixes.ensures.parses
 
 pub nested_unary-returns-clause-parses : goal.nested_unary-returns-clause-parses
 nested_unary-returns-clause-parses t c = opened of_expr c.args.tokens.now s.Unary c.args.at c.args.depth _ (omega arith) c.unary.ensures.parses
@@ -186,29 +186,29 @@ more_postfixes-returns-in-None-clause-parses t c = record { from = λ rest parts
 pub more_postfixes-loop-postfixes-preserved : goal.more_postfixes-loop-postfixes-preserved
 more_postfixes-loop-postfixes-preserved t c = record { repeats = record { from = λ rest parts o k. c.loop-postfixes.invariant.repeats.from _ _ _ ((subst (λ z. Adds c.args.tokens.now (gives s.Postfixes ∷ []) c.loop-postfixes.next c.args.depth (Ok z)) c.in-Some.is c.in_ok-found.ensures.parses).from _ _ _ _ (subst (λ z. Comes c.args.tokens.now (gives s.Postfixes ∷ rest) c.in-Some.one.next c.args.depth z o) (sym (pushed q.postfixes view_postfix _ _ _ parts c.in_ok-push-in-Some.ensures.items)) k)) }; after = omega (arith, c.loop-postfixes.invariant.after, c.loop-postfixes.invariant.within, subst (λ z. IfSome z (λ p. (c.loop-postfixes.next < p.next) × (p.next ≤ length c.args.tokens.now))) c.in-Some.is c.in_ok-found.ensures.goes_on); within = omega (arith, c.loop-postfixes.invariant.after, c.loop-postfixes.invariant.within, subst (λ z. IfSome z (λ p. (c.loop-postfixes.next < p.next) × (p.next ≤ length c.args.tokens.now))) c.in-Some.is c.in_ok-found.ensures.goes_on) }
 
-pub postfix-returns-in-100-clause-parses : goal.postfix-returns-in-100-clause-parses
-postfix-returns-in-100-clause-parses t c = adds_by_rule c.args.tokens.now c.args.at c.args.depth 100 _ (subst (Enters c.args.tokens.now s.Postfixes c.args.at) c.in-100.is c.in_ok-rule.ensures.enters) c.index.ensures.parses
+pub postfix-returns-in-Index-clause-parses : goal.postfix-returns-in-Index-clause-parses
+postfix-returns-in-Index-clause-parses t c = adds_by_rule c.args.tokens.now c.args.at c.args.depth 100 _ (subst (λ r. Enters c.args.tokens.now s.Postfixes c.args.at (postfix_number r)) c.in-Index.is c.in_ok-rule.ensures.enters) c.index.ensures.parses
 
-pub postfix-returns-in-101-clause-parses : goal.postfix-returns-in-101-clause-parses
-postfix-returns-in-101-clause-parses t c = adds_by_rule c.args.tokens.now c.args.at c.args.depth 101 _ (subst (Enters c.args.tokens.now s.Postfixes c.args.at) c.in-101.is c.in_ok-rule.ensures.enters) c.call.ensures.parses
+pub postfix-returns-in-Call-clause-parses : goal.postfix-returns-in-Call-clause-parses
+postfix-returns-in-Call-clause-parses t c = adds_by_rule c.args.tokens.now c.args.at c.args.depth 101 _ (subst (λ r. Enters c.args.tokens.now s.Postfixes c.args.at (postfix_number r)) c.in-Call.is c.in_ok-rule.ensures.enters) c.call.ensures.parses
 
-pub postfix-returns-in-102-clause-parses : goal.postfix-returns-in-102-clause-parses
-postfix-returns-in-102-clause-parses t c = adds_by_rule c.args.tokens.now c.args.at c.args.depth 102 _ (subst (Enters c.args.tokens.now s.Postfixes c.args.at) c.in-102.is c.in_ok-rule.ensures.enters) c.dot.ensures.parses
+pub postfix-returns-in-Dot-clause-parses : goal.postfix-returns-in-Dot-clause-parses
+postfix-returns-in-Dot-clause-parses t c = adds_by_rule c.args.tokens.now c.args.at c.args.depth 102 _ (subst (λ r. Enters c.args.tokens.now s.Postfixes c.args.at (postfix_number r)) c.in-Dot.is c.in_ok-rule.ensures.enters) c.dot.ensures.parses
 
-pub postfix-returns-in-103-clause-parses : goal.postfix-returns-in-103-clause-parses
-postfix-returns-in-103-clause-parses t c = adds_by_rule c.args.tokens.now c.args.at c.args.depth 103 _ (subst (Enters c.args.tokens.now s.Postfixes c.args.at) c.in-103.is c.in_ok-rule.ensures.enters) c.arrow.ensures.parses
+pub postfix-returns-in-Arrow-clause-parses : goal.postfix-returns-in-Arrow-clause-parses
+postfix-returns-in-Arrow-clause-parses t c = adds_by_rule c.args.tokens.now c.args.at c.args.depth 103 _ (subst (λ r. Enters c.args.tokens.now s.Postfixes c.args.at (postfix_number r)) c.in-Arrow.is c.in_ok-rule.ensures.enters) c.arrow.ensures.parses
 
-pub postfix-returns-in-104-clause-parses : goal.postfix-returns-in-104-clause-parses
-postfix-returns-in-104-clause-parses t c = adds_by_rule c.args.tokens.now c.args.at c.args.depth 104 _ (subst (Enters c.args.tokens.now s.Postfixes c.args.at) c.in-104.is c.in_ok-rule.ensures.enters) c.increment.ensures.parses
+pub postfix-returns-in-Increment-clause-parses : goal.postfix-returns-in-Increment-clause-parses
+postfix-returns-in-Increment-clause-parses t c = adds_by_rule c.args.tokens.now c.args.at c.args.depth 104 _ (subst (λ r. Enters c.args.tokens.now s.Postfixes c.args.at (postfix_number r)) c.in-Increment.is c.in_ok-rule.ensures.enters) c.increment.ensures.parses
 
-pub postfix-returns-in-105-clause-parses : goal.postfix-returns-in-105-clause-parses
-postfix-returns-in-105-clause-parses t c = adds_by_rule c.args.tokens.now c.args.at c.args.depth 105 _ (subst (Enters c.args.tokens.now s.Postfixes c.args.at) c.in-105.is c.in_ok-rule.ensures.enters) c.decrement.ensures.parses
+pub postfix-returns-in-Decrement-clause-parses : goal.postfix-returns-in-Decrement-clause-parses
+postfix-returns-in-Decrement-clause-parses t c = adds_by_rule c.args.tokens.now c.args.at c.args.depth 105 _ (subst (λ r. Enters c.args.tokens.now s.Postfixes c.args.at (postfix_number r)) c.in-Decrement.is c.in_ok-rule.ensures.enters) c.decrement.ensures.parses
 
 pub postfix-returns-in_err-rule-clause-parses : goal.postfix-returns-in_err-rule-clause-parses
 postfix-returns-in_err-rule-clause-parses t c = let is : c.from_residual.result ≡ Err c.in_err-rule.field-0.0 = search rules in rw is (λ ps. record { from = λ o e rest parts. (c.in_err-rule.ensures.fails c.args.depth).from o e _ _ })
 
-pub postfix-returns-in_default-clause-parses : goal.postfix-returns-in_default-clause-parses
-postfix-returns-in_default-clause-parses t c = ends_by_rule c.args.tokens.now c.args.at c.args.depth (subst (Enters c.args.tokens.now s.Postfixes c.args.at) (last_Postfixes c.in_ok-rule.rule (search rules) (search rules) (search rules) (search rules) (search rules) (search rules) c.in_ok-rule.ensures.among) c.in_ok-rule.ensures.enters)
+pub postfix-returns-in-End-clause-parses : goal.postfix-returns-in-End-clause-parses
+postfix-returns-in-End-clause-parses t c = ends_by_rule c.args.tokens.now c.args.at c.args.depth (subst (λ r. Enters c.args.tokens.now s.Postfixes c.args.at (postfix_number r)) c.in-End.is c.in_ok-rule.ensures.enters)
 
 pub index-returns-in_err-inside-clause-parses : goal.index-returns-in_err-inside-clause-parses
 index-returns-in_err-inside-clause-parses t c = let is : c.from_residual.result ≡ Err c.in_err-inside.field-0.0 = search rules in rw is (λ ps. record { from = λ o e rest parts. (c.in_err-inside.ensures.expects c.args.depth).from o e _ _ })
