@@ -123,7 +123,12 @@ fn refer(findings: &mut Findings, tag: &Word) -> Result<Type, AllocError>
 {
     let ty = struct_named(&findings.structs, tag.bytes.as_slice());
     let unknown = findings.structs.number_of(tag.bytes.as_slice()).is_none();
-    note_if(&mut findings.faults, unknown, FaultKind::UnknownName, tag.span)?;
+    note_if(
+        &mut findings.faults,
+        unknown,
+        FaultKind::UnknownName,
+        tag.span,
+    )?;
     Ok(ty)
 }
 
