@@ -4,7 +4,9 @@ use Rattle.std.specs.declared.alloc.AllocError.{AllocError}
 use Rattle.std.specs.declared.alloc.Global.{Global}
 use Rattle.pt_base.specs.declared.ids.FnId.{FnId}
 use Rattle.pt_base.specs.declared.span.Span.{Span}
+use Rattle.pt_tree.specs.declared.operator.BinaryOp.{BinaryOp}
 use Rattle.pt_tree.specs.ExpressionTree as e
+use Rattle.pt_tree.specs.SpecifierTree.{SpecTrees}
 use Rattle.type_rules.specs.declared.types.Type.{«Type»}
 use Rattle.typed_tree.specs.declared.link.LogicalOp.{LogicalOp}
 use Rattle.typed_tree.specs.ExpressionTree.{ExprTree}
@@ -14,11 +16,13 @@ use Rattle.declared_types.specs.Gives.{Reaches}
 use Rattle.declared_types.specs.Structs.{Structs}
 use Rattle.typed_expressions.specs.declared.operand.Operand.{Operand}
 use Rattle.typed_expressions.specs.Environment.{Env}
-use Rattle.typed_expressions.specs.Choices.{Placed}
-use Rattle.typed_expressions.specs.Expressions.{Judged, Arguments, Linked, alone, over, judge, judge_links, judge_link, judge_postfixes, judge_postfix, judge_arguments, headed}
+use Rattle.typed_expressions.specs.Assignments.{assigned}
+use Rattle.typed_expressions.specs.Choices.{Placed, chosen}
+use Rattle.typed_expressions.specs.Expressions.{Judged, Arguments, Linked, alone, over, judge, judge_links, judge_link, judge_postfixes, judge_postfix, judge_arguments, headed, cast_specified}
 use Rattle.typed_expressions.specs.Gives.{GivesJudged, GivesMade, HeadIs, at}
 use Rattle.typed_expressions.specs.Links.{SoFar, begun, chained, sort_of}
 use Rattle.typed_expressions.specs.Operands.{Known, Made, joined, span_of, value_of, value_tree}
+use Rattle.typed_expressions.specs.Prefixes.{cast_to}
 use Rattle.typed_expressions.specs.Postfixes.{argument_tree, argument_faults, function_called}
 
 -- the item at a place stands before the rest
@@ -66,6 +70,73 @@ judged_behind (Err e) before middle after faults j m h = tt {0}
 pub then_reaches : (before middle after : Findings) (s s' : Structs) (p q : List TypeFault) → Reaches before middle s p → Reaches middle after s' q → Reaches before after s' (p ++ q)
 then_reaches before middle after s s' p q m h =
     record { structs_are = h.structs_are; faults_are = h.faults_are ∙ ap (λ xs. xs ++ q) m.faults_are ∙ append_assoc before.faults.items p q }
+
+-- a cast, by what its specifiers say
+pub cast_gives : (r : Result Operand AllocError) (env : Env) (before middle after : Findings) (faults : Vec TypeFault Global) (s : Span) (specs : SpecTrees) (pointer : Bool) (a : e.ExprTree) (base : «Type») (k : Placed)
+    → base ≡ (cast_specified before.structs specs).base
+    → Reaches before middle (cast_specified before.structs specs).structs (cast_specified before.structs specs).faults
+    → k ≡ at a (judge env middle.structs a)
+    → Reaches middle after (judge env middle.structs a).structs (judge env middle.structs a).faults
+    → GivesMade r after.faults.items faults.items (cast_to pointer base s k.span k.known)
+    → GivesJudged r before (record { structs = after.structs; faults = faults }) (judge env before.structs (e.cast s specs pointer a))
+unfolding judge
+cast_gives r env before middle after faults s specs pointer a base k b m is t h =
+    let j = cast_specified before.structs specs in
+    let p = judge env j.structs a in
+    let same : judge env middle.structs a ≡ p = ap (λ y. judge env y a) m.structs_are in
+    made_over r before after faults k (at a p) p.structs (j.faults ++ p.faults) (λ st (x : Placed). cast_to pointer j.base s x.span x.known) (is ∙ ap (at a) same)
+    (then_reaches before middle after j.structs p.structs j.faults p.faults m (subst (λ (y : Judged). Reaches middle after y.structs y.faults) same t))
+    (subst (λ y. GivesMade r after.faults.items faults.items (cast_to pointer y s k.span k.known)) b h)
+
+-- an assignment, by its sides
+pub assign_gives : (r : Result Operand AllocError) (env : Env) (before middle after : Findings) (faults : Vec TypeFault Global) (s : Span) (op : Option BinaryOp) (a b : e.ExprTree) (k l : Placed)
+    → k ≡ at a (judge env before.structs a)
+    → Reaches before middle (judge env before.structs a).structs (judge env before.structs a).faults
+    → l ≡ at b (judge env middle.structs b)
+    → Reaches middle after (judge env middle.structs b).structs (judge env middle.structs b).faults
+    → GivesMade r after.faults.items faults.items (assigned after.structs op s k.span k.known l.span l.known)
+    → GivesJudged r before (record { structs = after.structs; faults = faults }) (judge env before.structs (e.assign s op a b))
+unfolding judge
+assign_gives r env before middle after faults s op a b k l k_is m l_is t h =
+    let p = judge env before.structs a in
+    let q = judge env p.structs b in
+    let same : judge env middle.structs b ≡ q = ap (λ y. judge env y b) m.structs_are in
+    let right : l ≡ at b q = l_is ∙ ap (at b) same in
+    let found : Placed × Placed = (k, l) in
+    let judged : Placed × Placed = (at a p, at b q) in
+    let is : found ≡ judged = (λ i. (k_is i, right i)) in
+    made_over r before after faults found judged q.structs (p.faults ++ q.faults) (λ st (x : Placed × Placed). assigned st op s x.0.span x.0.known x.1.span x.1.known) is
+    (then_reaches before middle after p.structs q.structs p.faults q.faults m (subst (λ (y : Judged). Reaches middle after y.structs y.faults) same t))
+    h
+
+-- a choice, by its test and its arms
+pub choice_gives : (r : Result Operand AllocError) (env : Env) (before middle third after : Findings) (faults : Vec TypeFault Global) (s : Span) (a b c : e.ExprTree) (k l n : Placed)
+    → k ≡ at a (judge env before.structs a)
+    → Reaches before middle (judge env before.structs a).structs (judge env before.structs a).faults
+    → l ≡ at b (judge env middle.structs b)
+    → Reaches middle third (judge env middle.structs b).structs (judge env middle.structs b).faults
+    → n ≡ at c (judge env third.structs c)
+    → Reaches third after (judge env third.structs c).structs (judge env third.structs c).faults
+    → GivesMade r after.faults.items faults.items (chosen s k l n)
+    → GivesJudged r before (record { structs = after.structs; faults = faults }) (judge env before.structs (e.choice s a b c))
+unfolding judge
+choice_gives r env before middle third after faults s a b c k l n k_is m l_is t n_is u h =
+    let p = judge env before.structs a in
+    let q = judge env p.structs b in
+    let v = judge env q.structs c in
+    let same : judge env middle.structs b ≡ q = ap (λ y. judge env y b) m.structs_are in
+    let reached : Reaches middle third q.structs q.faults = subst (λ (y : Judged). Reaches middle third y.structs y.faults) same t in
+    let same_last : judge env third.structs c ≡ v = ap (λ y. judge env y c) reached.structs_are in
+    let first : l ≡ at b q = l_is ∙ ap (at b) same in
+    let last : n ≡ at c v = n_is ∙ ap (at c) same_last in
+    let found : Placed × Placed × Placed = (k, l, n) in
+    let judged : Placed × Placed × Placed = (at a p, at b q, at c v) in
+    let is : found ≡ judged = (λ i. (k_is i, first i, last i)) in
+    made_over r before after faults found judged v.structs (p.faults ++ q.faults ++ v.faults) (λ st (x : Placed × Placed × Placed). chosen s x.0 x.1 x.2) is
+    (then_reaches before third after q.structs v.structs (p.faults ++ q.faults) v.faults
+    (then_reaches before middle third p.structs q.structs p.faults q.faults m reached)
+    (subst (λ (y : Judged). Reaches third after y.structs y.faults) same_last u))
+    h
 
 -- the chain of an operand and its links
 pub chain_gives : (r : Result Operand AllocError) (env : Env) (before middle linked : Findings) (faults : Vec TypeFault Global) (s : Span) (a : e.ExprTree) (ls : e.LinkTrees) (sort : Option LogicalOp) (first : Placed) (start far : SoFar)

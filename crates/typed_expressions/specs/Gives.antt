@@ -12,8 +12,6 @@ use Rattle.declared_types.specs.declared.fault.TypeFault.{TypeFault}
 use Rattle.declared_types.specs.declared.findings.Findings.{Findings}
 use Rattle.declared_types.specs.Gives.{Reaches}
 use Rattle.declared_types.specs.Structs.{Structs}
-use Rattle.typed_expressions.specs.declared.assignments.Sides as a
-use Rattle.typed_expressions.specs.declared.choices.Branches as c
 use Rattle.typed_expressions.specs.declared.expressions.Head.{Head}
 use Rattle.typed_expressions.specs.declared.links.SoFar.{SoFar}
 use Rattle.typed_expressions.specs.declared.operand.Operand.{Operand}
@@ -23,7 +21,7 @@ use Rattle.typed_expressions.specs.Environment.{Env}
 use Rattle.typed_expressions.specs.Expressions.{Judged, Arguments, CastBase, Linked, judge, headed}
 use Rattle.typed_expressions.specs.Operands.{Made, span_of}
 use Rattle.typed_expressions.specs.Postfixes.{function_called}
-use Rattle.typed_expressions.specs.Views.{known, placed, sides, branches, so_far}
+use Rattle.typed_expressions.specs.Views.{known, placed, so_far}
 
 -- the operand, the structs and the faults are those of the judgment, whose faults were added
 abbrev pub GivesJudged : Result Operand AllocError → Findings → Findings → Judged → Type 0
@@ -43,7 +41,7 @@ GivesArguments r before after a = GivesWith (λ trees. map view_expr trees.items
 abbrev pub GivesCastBase : Result «Type» AllocError → Findings → Findings → CastBase → Type 0
 GivesCastBase r before after b = GivesWith (λ ty. ty) r b.base (Reaches before after b.structs b.faults)
 
--- ---- operands, in order
+-- ---- operands
 
 -- an expression with where it stands
 abbrev pub at : e.ExprTree → Judged → Placed
@@ -53,19 +51,6 @@ abbrev pub GivesPlaced : Result o.Placed AllocError → Findings → Findings �
 GivesPlaced r before after env a =
     let p = judge env before.structs a in
     GivesWith placed r (at a p) (Reaches before after p.structs p.faults)
-
-abbrev pub GivesSides : Result a.Sides AllocError → Findings → Findings → Env → e.ExprTree → e.ExprTree → Type 0
-GivesSides r before after env a b =
-    let p = judge env before.structs a in
-    let q = judge env p.structs b in
-    GivesWith {B = Placed × Placed} sides r (at a p, at b q) (Reaches before after q.structs (p.faults ++ q.faults))
-
-abbrev pub GivesBranches : Result c.Branches AllocError → Findings → Findings → Env → e.ExprTree → e.ExprTree → e.ExprTree → Type 0
-GivesBranches r before after env a b c =
-    let p = judge env before.structs a in
-    let q = judge env p.structs b in
-    let s = judge env q.structs c in
-    GivesWith {B = Placed × Placed × Placed} branches r (at a p, at b q, at c s) (Reaches before after s.structs (p.faults ++ q.faults ++ s.faults))
 
 -- what stands before postfixes: where a function is called, its name isn't judged
 pub record HeadIs (name callee : Option FnId) (operand : Placed) (before after : Findings) (a : e.ExprTree) (j : Judged) : Type 0 where

@@ -5,8 +5,6 @@ use Rattle.typed_expressions.specs.declared.operand.Operand.{Operand}
 use Rattle.typed_expressions.specs.declared.operand.Elaborated.{Elaborated}
 use Rattle.typed_expressions.specs.declared.operand.Elaborated.TheVariants.{Value, Place, Pointed, Moved, Item}
 use Rattle.typed_expressions.specs.declared.operand.Placed as p
-use Rattle.typed_expressions.specs.declared.assignments.Sides as a
-use Rattle.typed_expressions.specs.declared.choices.Branches as c
 use Rattle.typed_expressions.specs.declared.links.SoFar as f
 use Rattle.typed_tree.specs.ExpressionTree.{view_link}
 use Rattle.typed_expressions.specs.Choices.{Placed}
@@ -26,14 +24,6 @@ known o = record { ty = o.ty; fixed = o.fixed; designates = o.designates; null =
 -- an operand with where it stands
 abbrev pub placed : p.Placed → Placed
 placed p = record { span = p.span; known = known p.operand }
-
--- the sides of an assignment
-abbrev pub sides : a.Sides → Placed × Placed
-sides s = (placed s.left, placed s.right)
-
--- the operands of a choice
-abbrev pub branches : c.Branches → Placed × Placed × Placed
-branches b = (placed b.test, placed b.first, placed b.last)
 
 -- all of a chain so far
 abbrev pub so_far : f.SoFar → SoFar

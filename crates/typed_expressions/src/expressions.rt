@@ -5,7 +5,7 @@ ghost use Rattle.pt_tree.specs.SpecifierTree.{view_specs};
 ghost use Rattle.typed_tree.specs.ExpressionTree.{view_root};
 ghost use Rattle.typed_expressions.specs.EnvOf.{env_of};
 ghost use Rattle.typed_expressions.specs.Expressions as is;
-ghost use Rattle.typed_expressions.specs.Gives.{GivesArguments, GivesBranches, GivesCastBase, GivesHead, GivesJudged, GivesLinked, GivesMade, GivesPlaced, GivesSides};
+ghost use Rattle.typed_expressions.specs.Gives.{GivesArguments, GivesCastBase, GivesHead, GivesJudged, GivesLinked, GivesMade, GivesPlaced};
 ghost use Rattle.typed_expressions.specs.Operands as o;
 ghost use Rattle.typed_expressions.specs.Views.{known, so_far};
 
@@ -55,13 +55,28 @@ pub fn expression(
             let head = head_of(alloc, names, findings, a, postfixes)?;
             more_postfixes(alloc, names, findings, *s, head, postfixes)
         }
-        Expr::Chain(s, a, links) => chain(alloc, names, findings, *s, a, links),
+        Expr::Chain(s, a, links) => {
+            let first = placed(alloc, names, findings, a)?;
+            let start = begun(alloc, first.span, first.operand)?;
+            let sort = sort_of(links);
+            let whole = Whole {
+                span: *s,
+                is_logical: sort.is_some(),
+            };
+            let far = more_links(alloc, names, findings, whole, start, links)?;
+            far.chained(alloc, sort, *s, &mut findings.faults)
+        }
         Expr::Choice(s, a, b, c) => {
-            let branches = branches(alloc, names, findings, a, b, c)?;
+            let test = placed(alloc, names, findings, a)?;
+            let first = placed(alloc, names, findings, b)?;
+            let last = placed(alloc, names, findings, c)?;
+            let branches = Branches { test, first, last };
             chosen(alloc, *s, branches, &mut findings.faults)
         }
         Expr::Assign(s, op, a, b) => {
-            let sides = sides(alloc, names, findings, a, b)?;
+            let left = placed(alloc, names, findings, a)?;
+            let right = placed(alloc, names, findings, b)?;
+            let sides = Sides { left, right };
             let faults = &mut findings.faults;
             assigned(alloc, &findings.structs, *op, *s, sides, faults)
         }
@@ -85,69 +100,12 @@ fn placed(
     })
 }
 
-/// The operands of a choice, in order.
-#[cycle(expressions)]
-fn branches(
-    alloc: Global,
-    names: &Names,
-    findings: &mut Findings,
-    a: &Expr,
-    b: &Expr,
-    c: &Expr,
-) -> Result<Branches, AllocError>
-    ensures { GivesBranches result findings.old findings.new (env_of names.now) (parsed.view_expr a.now) (parsed.view_expr b.now) (parsed.view_expr c.now) }
-{
-    let test = placed(alloc, names, findings, a)?;
-    let first = placed(alloc, names, findings, b)?;
-    let last = placed(alloc, names, findings, c)?;
-    Ok(Branches { test, first, last })
-}
-
-/// The sides of an assignment, the left one first.
-#[cycle(expressions)]
-fn sides(
-    alloc: Global,
-    names: &Names,
-    findings: &mut Findings,
-    a: &Expr,
-    b: &Expr,
-) -> Result<Sides, AllocError>
-    ensures { GivesSides result findings.old findings.new (env_of names.now) (parsed.view_expr a.now) (parsed.view_expr b.now) }
-{
-    let left = placed(alloc, names, findings, a)?;
-    let right = placed(alloc, names, findings, b)?;
-    Ok(Sides { left, right })
-}
-
 /// A chain of operators as a whole.
 #[derive(Clone, Copy)]
 struct Whole {
     span: Span,
     /// Its operators are `&&` or `||`.
     is_logical: bool,
-}
-
-/// A chain of operators.
-#[cycle(expressions)]
-fn chain(
-    alloc: Global,
-    names: &Names,
-    findings: &mut Findings,
-    s: Span,
-    a: &Expr,
-    links: &[Link],
-) -> Result<Operand, AllocError>
-    ensures { GivesJudged result findings.old findings.new (is.judge (env_of names.now) findings.old.structs (parsed.chain s (parsed.view_expr a.now) (parsed.link_trees (map parsed.view_link links.now)))) }
-{
-    let first = placed(alloc, names, findings, a)?;
-    let far = begun(alloc, first.span, first.operand)?;
-    let sort = sort_of(links);
-    let whole = Whole {
-        span: s,
-        is_logical: sort.is_some(),
-    };
-    let far = more_links(alloc, names, findings, whole, far, links)?;
-    far.chained(alloc, sort, s, &mut findings.faults)
 }
 
 /// The links of a chain, behind all so far.

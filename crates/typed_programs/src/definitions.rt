@@ -57,7 +57,8 @@ fn check_block(
 ) -> Result<Vec<TypedBody>, AllocError>
     ensures { GivesBlock result (walk_of names.old walk.old) (walk_of names.new walk.new) (block_in ty (env_of names.old) walk.old.findings.structs (length walk.old.exprs.items) (map view_stmt items.now)) }
 {
-    typed_statements::check_block(alloc, names, walk, ty, items)
+    let bodies = typed_statements::check_block(alloc, names, walk, ty, items)?;
+    Ok(bodies)
 }
 
 /// Judges the body of the function of this number, whose name stands at `at`.
@@ -114,7 +115,8 @@ fn begin(
     ensures { let before = progress_of progress.old in let h = is.head_of marks.now before.env before.structs (parsed.view_function function.now) in GivesWith (λ c. c) result h.callable (Reaches progress.old progress.new (is.with_head before h) h.faults) }
 {
     let findings = &mut progress.walk.findings;
-    judge_head(alloc, marks, &mut progress.names, findings, function)
+    let callable = judge_head(alloc, marks, &mut progress.names, findings, function)?;
+    Ok(callable)
 }
 
 /// Judges a function behind its declarator.
@@ -134,7 +136,8 @@ fn end(
     note_if(faults, redeclared, FaultKind::Redeclared, at)?;
     let ty = callable.result;
     let number = declare(alloc, marks, progress, callable, at)?;
-    complete(alloc, progress, number, ty, at, &function.body)
+    complete(alloc, progress, number, ty, at, &function.body)?;
+    Ok(())
 }
 
 /// Judges the declaration or definition of a function, by what all its declarations say of it.
@@ -149,5 +152,6 @@ pub(crate) fn check_function(
     let callable = begin(alloc, marks, progress, function)?;
     let defines = is_definition(function);
     progress.has_main = is_start(&callable, defines) || progress.has_main;
-    end(alloc, marks, progress, callable, function)
+    end(alloc, marks, progress, callable, function)?;
+    Ok(())
 }

@@ -69,7 +69,8 @@ fn judge_params(
     let defines = is_definition(function);
     let params = parameters_of(&function.params);
     names.open_scope(alloc)?;
-    declare_params(alloc, marks, defines, names, findings, params)
+    declare_params(alloc, marks, defines, names, findings, params)?;
+    Ok(())
 }
 
 /// What a function of this name and result is called with, whose parameters are the variables.

@@ -214,5 +214,6 @@ pub(crate) fn check_declaration(
     let given = judge_specifiers(alloc, findings, true, &declaration.specs)?;
     let attributes = given.attributes.as_slice();
     note_attributes(&mut findings.faults, carrier(globals), attributes)?;
-    declare_globals(alloc, progress, &given, globals)
+    declare_globals(alloc, progress, &given, globals)?;
+    Ok(())
 }

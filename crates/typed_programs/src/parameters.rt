@@ -238,7 +238,8 @@ fn declare_param(
     let variable = param_variable(alloc, marks, defines, number, param, &given)?;
     let repeated = add_variable(alloc, names, param.name.is_some(), variable)?;
     let faults = &mut findings.faults;
-    note_param(faults, marks, defines, number, param, &given, repeated)
+    note_param(faults, marks, defines, number, param, &given, repeated)?;
+    Ok(())
 }
 
 /// Declares the parameters of a function in the scope that is open. `defines` says that the
