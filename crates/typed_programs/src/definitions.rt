@@ -1,5 +1,5 @@
 // Function definitions (C99 6.9.1), and whole items that are functions.
-ghost use Rattle.std.specs.Prelude.{◌≡◌, length, map, option_map};
+ghost use Rattle.std.specs.Prelude.{◌≡◌, ◌||◌, length, map, option_map};
 ghost use Rattle.pt_base.specs.Gives.{GivesWith};
 ghost use Rattle.pt_tree.specs.ProgramTree as parsed;
 ghost use Rattle.pt_tree.specs.StatementTree.{view_block, view_stmt};
@@ -105,6 +105,13 @@ fn complete(
     }
 }
 
+/// Whether a program can begin with this function, or could before it.
+fn has_start(has_main: bool, callable: &Callable, defines: bool) -> bool
+    ensures { result ≡ (is.is_start callable.now defines || has_main) }
+{
+    is_start(callable, defines) || has_main
+}
+
 /// Judges a function's declarator, opens the scope of its parameters, and declares them there.
 fn begin(
     alloc: Global,
@@ -151,7 +158,7 @@ pub(crate) fn check_function(
 {
     let callable = begin(alloc, marks, progress, function)?;
     let defines = is_definition(function);
-    progress.has_main = is_start(&callable, defines) || progress.has_main;
+    progress.has_main = has_start(progress.has_main, &callable, defines);
     end(alloc, marks, progress, callable, function)?;
     Ok(())
 }
