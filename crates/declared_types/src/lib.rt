@@ -25,6 +25,3 @@ pub use structs::{
     FieldEntry, Fields, FoundField, StructEntry, Structs, cells_of, declare_struct, field_named,
     has_const, struct_named,
 };
-
-#[cfg(test)]
-mod tests;
