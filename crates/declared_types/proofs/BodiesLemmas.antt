@@ -1,5 +1,6 @@
 -- Struct specifiers, with a body and as they stand in a tree.
-use Rattle.std.proofs.Common.{◌≡◌, ◌∙◌, refl, ap, sym, List, [], ◌∷◌, Bool, true, false, length, nat_eq, Vec, Result, Ok, Err, OnOk, if◌then◌else◌}
+use Rattle.std.proofs.Common.{◌≡◌, ◌∙◌, refl, ap, sym, List, [], ◌∷◌, ◌++◌, Bool, true, false, length, nat_eq, Vec, Result, Ok, Err, if◌then◌else◌, append_assoc}
+use Rattle.std.specs.declared.alloc.AllocError.{AllocError}
 use Rattle.std.specs.declared.alloc.Global.{Global}
 use Rattle.pt_base.specs.declared.span.Span.{Span}
 use Rattle.pt_tree.specs.declared.word.Word.{Word}
@@ -8,8 +9,12 @@ use Rattle.pt_tree.specs.declared.specifier.Spec.{Spec}
 use Rattle.pt_tree.specs.declared.specifier.Spec.TheVariants.{Struct}
 use Rattle.pt_tree.specs.SpecifierTree.{view_spec}
 use Rattle.pt_tree.proofs.ListsInTrees.{view_structure}
+use Rattle.type_rules.specs.declared.types.Type.{«Type»}
+use Rattle.declared_types.specs.declared.fault.TypeFault.{TypeFault}
+use Rattle.declared_types.specs.declared.findings.Findings.{Findings}
+use Rattle.declared_types.specs.Gives.{GivesNamed}
 use Rattle.declared_types.specs.Structs.{Fields, Structs}
-use Rattle.declared_types.specs.Specifiers.{defined_by, referred, has_fields, body_of, named_by, named_struct, view_body}
+use Rattle.declared_types.specs.Specifiers.{Naming, defined_by, referred, has_fields, body_of, named_by, named_struct, view_body}
 
 -- a struct specifier of a tree, by the list of its fields
 pub named_is : (at_file : Bool) (first : Span) (structs : Structs) (spec : Spec) (s : Span) (tag : Word) (body : Vec FieldDecl Global) (fields : List FieldDecl)
@@ -34,6 +39,10 @@ named_with_body at_file first structs after tag body fields some s f =
     ∙ ap (λ x. defined_by at_file first tag (record { structs = x; fields = b.fields; faults = b.faults })) (sym s)
     ∙ ap (λ x. defined_by at_file first tag (record { structs = after; fields = x; faults = b.faults })) (sym f)
 
-pub on_ok : {A E P Q : Type 0} → (r : Result A E) → (P → Q) → OnOk r P → OnOk r Q
-on_ok (Ok a) f h = f h
-on_ok (Err e) f h = tt {0}
+-- what follows findings that have added faults already
+pub after_faults : (r : Result «Type» AllocError) (before middle after : Findings) (n : Naming) (faults : List TypeFault)
+    → middle.faults.items ≡ before.faults.items ++ faults → GivesNamed r middle after n
+    → GivesNamed r before after (record { structs = n.structs; types = n.types; faults = faults ++ n.faults })
+after_faults (Ok ty) before middle after n faults m h =
+    (h.0, record { structs_are = h.1.structs_are; faults_are = h.1.faults_are ∙ ap (λ xs. xs ++ n.faults) m ∙ append_assoc before.faults.items faults n.faults })
+after_faults (Err e) before middle after n faults m h = tt {0}

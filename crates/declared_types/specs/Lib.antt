@@ -1,6 +1,7 @@
 pub mod Cells
 pub mod Faults
 pub mod Fields
+pub mod Gives
 pub mod Marks
 pub mod NameTables
 pub mod Objects

@@ -9,7 +9,7 @@ use pt_base::Span;
 use std::alloc::AllocError;
 
 /// What is wrong.
-#[derive(Clone, Copy, Debug, PartialEq, Eq, PartialOrd, Ord)]
+#[derive(Clone, Copy, PartialEq, Eq, PartialOrd, Ord)]
 pub enum FaultKind {
     /// A name, a tag or a field that isn't declared there.
     UnknownName,
@@ -77,7 +77,7 @@ impl FaultKind {
 
 /// A fault of a type, with its place. Faults are ordered by where they begin, then by where they
 /// end, then by the number of their kind.
-#[derive(Clone, Copy, Debug, PartialEq, Eq, PartialOrd, Ord)]
+#[derive(Clone, Copy, PartialEq, Eq, PartialOrd, Ord)]
 pub struct TypeFault {
     pub span: Span,
     pub kind: FaultKind,

@@ -4,6 +4,7 @@
 mod bodies;
 mod fault;
 mod fields;
+mod findings;
 mod marks;
 mod name_table;
 mod objects;
@@ -12,6 +13,7 @@ mod structs;
 mod words;
 
 pub use fault::{FaultKind, TypeFault, arrange, note_if};
+pub use findings::Findings;
 pub use marks::{Attribute, Attributes, Carrier, Mark, Marks, marks_among, note_attributes};
 pub use name_table::NameTable;
 pub use objects::{
@@ -23,6 +25,3 @@ pub use structs::{
     FieldEntry, Fields, FoundField, StructEntry, Structs, cells_of, declare_struct, field_named,
     has_const, struct_named,
 };
-
-#[cfg(test)]
-mod tests;

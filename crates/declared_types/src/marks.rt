@@ -8,7 +8,7 @@ use pt_tree::Word;
 use std::alloc::AllocError;
 
 /// The name of an attribute.
-#[derive(Clone, Copy, Debug, PartialEq, Eq)]
+#[derive(Clone, Copy)]
 pub enum Mark {
     Priv,
     Unpriv,
@@ -18,7 +18,7 @@ pub enum Mark {
 }
 
 /// An attribute's name with its place.
-#[derive(Clone, Copy, Debug, PartialEq, Eq, Drop)]
+#[derive(Clone, Copy, Drop)]
 pub struct Attribute {
     pub span: Span,
     pub mark: Mark,
@@ -28,7 +28,7 @@ pub struct Attribute {
 pub type Attributes = Listed<Attribute>;
 
 /// What a list of specifiers stands before.
-#[derive(Clone, Copy, Debug, PartialEq, Eq)]
+#[derive(Clone, Copy)]
 pub enum Carrier {
     /// The declaration of a global or a local.
     Object,
@@ -50,7 +50,7 @@ pub enum Carrier {
 }
 
 /// The marks of a declaration.
-#[derive(Clone, Copy, Debug, PartialEq, Eq)]
+#[derive(Clone, Copy)]
 pub struct Marks {
     pub marked: bool,
     pub unpriv: bool,

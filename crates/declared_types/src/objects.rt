@@ -15,7 +15,7 @@ use type_rules::Type;
 const OBJECT_LIMIT: u32 = 65_536;
 
 /// What an object is.
-#[derive(Clone, Copy, Debug, PartialEq, Eq)]
+#[derive(Clone, Copy)]
 pub enum ObjectKind {
     Global,
     Local,

@@ -1,14 +1,15 @@
 // What the specifiers of a declaration say (C99 6.7.1 to 6.7.3).
 ghost use Rattle.std.specs.Prelude.{◌≡◌, ◌++◌, map, IfOk, OnOk};
 ghost use Rattle.pt_tree.specs.SpecifierTree.{view_spec, view_specs};
+ghost use Rattle.declared_types.specs.Gives.{GivesJudged};
 ghost use Rattle.declared_types.specs.Marks.{attribute_of};
 ghost use Rattle.declared_types.specs.Words.{storage_limit};
 ghost use Rattle.declared_types.specs.Specifiers as is;
 
 use crate::bodies::named_types;
 use crate::fault::{FaultKind, TypeFault, note_if};
+use crate::findings::Findings;
 use crate::marks::{Attribute, Attributes, attribute_named};
-use crate::structs::Structs;
 use crate::words::{has_const_word, has_extern_word, named_type, storage_words};
 use pt_base::{Listed, Span};
 use pt_tree::{Spec, SpecWord, Word};
@@ -30,24 +31,17 @@ pub struct Specified {
 }
 
 /// What a list of specifiers says, which stands at file scope or elsewhere. The structs that it
-/// declares come into the table, and its faults to the end of `faults`.
+/// declares come into the table, and its faults to the end of the faults.
 pub fn judge_specifiers(
     alloc: Global,
-    structs: &mut Structs,
+    findings: &mut Findings,
     at_file: bool,
     specs: &[Spec],
-    faults: &mut Vec<TypeFault>,
 ) -> Result<Specified, AllocError>
-    ensures given { IfOk result (λ given.
-        given ≡ (is.specified at_file structs.old (view_specs specs.now)).given) }
-    ensures structs { OnOk result (
-        structs.new ≡ (is.specified at_file structs.old (view_specs specs.now)).structs) }
-    ensures faults { OnOk result (
-        faults.new.items ≡ faults.old.items
-        ++ (is.specified at_file structs.old (view_specs specs.now)).faults) }
+    ensures { GivesJudged result findings.old findings.new (is.specified at_file findings.old.structs (view_specs specs.now)) }
 {
-    let types = named_types(alloc, structs, at_file, specs, faults)?;
-    judged(alloc, at_file, specs, &types, faults)
+    let types = named_types(alloc, findings, at_file, specs)?;
+    judged(alloc, at_file, specs, &types, &mut findings.faults)
 }
 
 /// What a list of specifiers says, by the types that its struct specifiers name.

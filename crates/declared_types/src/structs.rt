@@ -13,7 +13,7 @@ use type_rules::Type;
 pub(crate) const MOST_CELLS: u32 = 1_048_577;
 
 /// A field of a struct.
-#[derive(Clone, Copy, Debug, PartialEq, Eq, Drop)]
+#[derive(Clone, Copy, Drop)]
 pub struct FieldEntry {
     pub ty: Type,
     /// The field is const itself.
@@ -36,7 +36,7 @@ pub struct StructEntry {
 }
 
 /// A field with its number among the fields of its struct.
-#[derive(Clone, Copy, Debug, PartialEq, Eq)]
+#[derive(Clone, Copy)]
 pub struct FoundField {
     pub number: u32,
     pub entry: FieldEntry,

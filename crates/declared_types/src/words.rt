@@ -8,7 +8,7 @@ use pt_tree::SpecWord;
 use type_rules::Type;
 
 /// How often a word stands in a list.
-#[derive(Clone, Copy, Debug, PartialEq, Eq)]
+#[derive(Clone, Copy, PartialEq, Eq)]
 pub enum Often {
     Never,
     Once,
@@ -17,7 +17,7 @@ pub enum Often {
 }
 
 /// How often each type word stands in a list.
-#[derive(Clone, Copy, Debug, PartialEq, Eq)]
+#[derive(Clone, Copy)]
 pub struct TypeWords {
     pub void: Often,
     pub char: Often,

@@ -1,6 +1,7 @@
 pub mod Calls
 pub mod Faults
 pub mod Files
+pub mod Gives
 pub mod Held
 pub mod IntTypes
 pub mod Names

@@ -1,61 +1,62 @@
 -- What the judging functions answer.
-use Rattle.std.specs.Prelude.{◌≡◌, List, ◌++◌, map, Result, Ok, Err, Vec}
+use Rattle.std.specs.Prelude.{◌≡◌, List, ◌++◌, map, Option, Result, IfOk, Vec}
 use Rattle.std.specs.declared.alloc.AllocError.{AllocError}
 use Rattle.std.specs.declared.alloc.Global.{Global}
+use Rattle.pt_base.specs.declared.ids.FnId.{FnId}
+use Rattle.pt_base.specs.Gives.{GivesWith}
+use Rattle.pt_tree.specs.ExpressionTree as e
 use Rattle.type_rules.specs.declared.types.Type.{«Type»}
 use Rattle.typed_tree.specs.declared.expression.TypedExpr.{TypedExpr}
 use Rattle.typed_tree.specs.ExpressionTree.{view_expr}
 use Rattle.declared_types.specs.declared.fault.TypeFault.{TypeFault}
+use Rattle.declared_types.specs.declared.findings.Findings.{Findings}
+use Rattle.declared_types.specs.Gives.{Reaches}
 use Rattle.declared_types.specs.Structs.{Structs}
+use Rattle.typed_expressions.specs.declared.expressions.Head.{Head}
 use Rattle.typed_expressions.specs.declared.links.SoFar.{SoFar}
 use Rattle.typed_expressions.specs.declared.operand.Operand.{Operand}
-use Rattle.typed_expressions.specs.Expressions.{Judged, Arguments, CastBase, Linked}
-use Rattle.typed_expressions.specs.Operands.{Made}
-use Rattle.typed_expressions.specs.Views.{known, so_far}
+use Rattle.typed_expressions.specs.declared.operand.Placed as o
+use Rattle.typed_expressions.specs.Choices.{Placed}
+use Rattle.typed_expressions.specs.Environment.{Env}
+use Rattle.typed_expressions.specs.Expressions.{Judged, Arguments, CastBase, Linked, judge, headed}
+use Rattle.typed_expressions.specs.Operands.{Made, span_of}
+use Rattle.typed_expressions.specs.Postfixes.{function_called}
+use Rattle.typed_expressions.specs.Views.{known, placed, so_far}
 
 -- the operand, the structs and the faults are those of the judgment, whose faults were added
-pub record Is (found : Operand) (structs : Structs) (before after : List TypeFault) (j : Judged) : Type 0 where
-  pub operand : known found ≡ j.operand
-  pub structs_are : structs ≡ j.structs
-  pub faults : after ≡ before ++ j.faults
-
-abbrev pub Gives : Result Operand AllocError → Structs → List TypeFault → List TypeFault → Judged → Type 0
-Gives (Ok found) structs before after j = Is found structs before after j
-Gives (Err e) structs before after j = Unit {0}
+abbrev pub GivesJudged : Result Operand AllocError → Findings → Findings → Judged → Type 0
+GivesJudged r before after j = GivesWith known r j.operand (Reaches before after j.structs j.faults)
 
 -- what an operator makes of its operands, whose faults are there already
-pub record IsMade (found : Operand) (before after : List TypeFault) (m : Made) : Type 0 where
-  pub operand : known found ≡ m.operand
-  pub faults : after ≡ before ++ m.faults
-
-abbrev pub Makes : Result Operand AllocError → List TypeFault → List TypeFault → Made → Type 0
-Makes (Ok found) before after m = IsMade found before after m
-Makes (Err e) before after m = Unit {0}
+abbrev pub GivesMade : Result Operand AllocError → List TypeFault → List TypeFault → Made → Type 0
+GivesMade r before after m = GivesWith known r m.operand (after ≡ before ++ m.faults)
 
 -- a chain so far
-pub record IsLinked (found : SoFar) (structs : Structs) (before after : List TypeFault) (l : Linked) : Type 0 where
-  pub far : so_far found ≡ l.far
-  pub structs_are : structs ≡ l.structs
-  pub faults : after ≡ before ++ l.faults
+abbrev pub GivesLinked : Result SoFar AllocError → Findings → Findings → Linked → Type 0
+GivesLinked r before after l = GivesWith so_far r l.far (Reaches before after l.structs l.faults)
 
-abbrev pub GivesLinks : Result SoFar AllocError → Structs → List TypeFault → List TypeFault → Linked → Type 0
-GivesLinks (Ok found) structs before after l = IsLinked found structs before after l
-GivesLinks (Err e) structs before after l = Unit {0}
+abbrev pub GivesArguments : Result (Vec TypedExpr Global) AllocError → Findings → Findings → Arguments → Type 0
+GivesArguments r before after a = GivesWith (λ trees. map view_expr trees.items) r a.trees (Reaches before after a.structs a.faults)
 
-pub record AreArguments (found : Vec TypedExpr Global) (structs : Structs) (before after : List TypeFault) (a : Arguments) : Type 0 where
-  pub trees : map view_expr found.items ≡ a.trees
-  pub structs_are : structs ≡ a.structs
-  pub faults : after ≡ before ++ a.faults
+abbrev pub GivesCastBase : Result «Type» AllocError → Findings → Findings → CastBase → Type 0
+GivesCastBase r before after b = GivesWith (λ ty. ty) r b.base (Reaches before after b.structs b.faults)
 
-abbrev pub GivesArguments : Result (Vec TypedExpr Global) AllocError → Structs → List TypeFault → List TypeFault → Arguments → Type 0
-GivesArguments (Ok found) structs before after a = AreArguments found structs before after a
-GivesArguments (Err e) structs before after a = Unit {0}
+-- ---- operands
 
-pub record IsBase (found : «Type») (structs : Structs) (before after : List TypeFault) (b : CastBase) : Type 0 where
-  pub base : found ≡ b.base
-  pub structs_are : structs ≡ b.structs
-  pub faults : after ≡ before ++ b.faults
+-- an expression with where it stands
+abbrev pub at : e.ExprTree → Judged → Placed
+at a j = record { span = span_of a; known = j.operand }
 
-abbrev pub GivesBase : Result «Type» AllocError → Structs → List TypeFault → List TypeFault → CastBase → Type 0
-GivesBase (Ok found) structs before after b = IsBase found structs before after b
-GivesBase (Err e) structs before after b = Unit {0}
+abbrev pub GivesPlaced : Result o.Placed AllocError → Findings → Findings → Env → e.ExprTree → Type 0
+GivesPlaced r before after env a =
+    let p = judge env before.structs a in
+    GivesWith placed r (at a p) (Reaches before after p.structs p.faults)
+
+-- what stands before postfixes: where a function is called, its name isn't judged
+pub record HeadIs (name callee : Option FnId) (operand : Placed) (before after : Findings) (a : e.ExprTree) (j : Judged) : Type 0 where
+  pub callee_is : callee ≡ name
+  pub operand_is : operand ≡ at a (headed name before.structs j)
+  pub reaches : Reaches before after (headed name before.structs j).structs (headed name before.structs j).faults
+
+abbrev pub GivesHead : Result Head AllocError → Findings → Findings → Env → e.ExprTree → e.PostfixTrees → Type 0
+GivesHead r before after env a ps = IfOk r (λ head. HeadIs (function_called env a ps) head.callee (placed head.operand) before after a (judge env before.structs a))

@@ -4,7 +4,7 @@ use Rattle.typed_tree.specs.ExpressionTree.{view_expr, view_root, view_step}
 use Rattle.typed_expressions.specs.declared.operand.Operand.{Operand}
 use Rattle.typed_expressions.specs.declared.operand.Elaborated.{Elaborated}
 use Rattle.typed_expressions.specs.declared.operand.Elaborated.TheVariants.{Value, Place, Pointed, Moved, Item}
-use Rattle.typed_expressions.specs.declared.choices.Placed as p
+use Rattle.typed_expressions.specs.declared.operand.Placed as p
 use Rattle.typed_expressions.specs.declared.links.SoFar as f
 use Rattle.typed_tree.specs.ExpressionTree.{view_link}
 use Rattle.typed_expressions.specs.Choices.{Placed}

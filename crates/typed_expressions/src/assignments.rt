@@ -5,21 +5,27 @@ ghost use Rattle.typed_tree.specs.ExpressionTree.{view_expr};
 ghost use Rattle.type_rules.specs.Conversions.{is_wrong, fit_rule};
 ghost use Rattle.type_rules.specs.Types.{is_bad};
 ghost use Rattle.typed_expressions.specs.Assignments as is;
-ghost use Rattle.typed_expressions.specs.Gives.{Makes};
+ghost use Rattle.typed_expressions.specs.Gives.{GivesMade};
 ghost use Rattle.typed_expressions.specs.Operands.{value_of, value_tree};
 ghost use Rattle.typed_expressions.specs.Views.{known};
 
-use crate::choices::Placed;
 use crate::conversions::as_type;
 use crate::faults::{note_optional, target_fault};
 use crate::links::{converted_by, integer_op, note_rule, step_of};
-use crate::operand::{Operand, var_type};
+use crate::operand::{Operand, Placed, var_type};
 use declared_types::{FaultKind, Structs, TypeFault, note_if};
 use pt_base::Span;
 use pt_tree::BinaryOp;
 use std::alloc::{AllocError, Global};
 use type_rules::{Fit, Rule, Type, Value, compound_rule, fit_rule};
 use typed_tree::{Form, TypedExpr};
+
+/// The sides of an assignment.
+#[derive(Drop)]
+pub(crate) struct Sides {
+    pub left: Placed,
+    pub right: Placed,
+}
 
 /// An assignment, by an operator where it is a compound one.
 #[tactic(auto, unfolding(crate::specs::Assignments::assigned))]
@@ -28,15 +34,14 @@ pub(crate) fn assigned(
     structs: &Structs,
     op: Option<BinaryOp>,
     s: Span,
-    left: Placed,
-    right: Placed,
+    sides: Sides,
     faults: &mut Vec<TypeFault>,
 ) -> Result<Operand, AllocError>
-    ensures { Makes result faults.old.items faults.new.items (is.assigned structs.now op s left.span (known left.operand) right.span (known right.operand)) }
+    ensures { GivesMade result faults.old.items faults.new.items (is.assigned structs.now op s sides.left.span (known sides.left.operand) sides.right.span (known sides.right.operand)) }
 {
     match op {
-        None => stored(alloc, structs, s, left, right, faults),
-        Some(op) => compounded(alloc, structs, op, s, left, right, faults),
+        None => stored(alloc, structs, s, sides, faults),
+        Some(op) => compounded(alloc, structs, op, s, sides, faults),
     }
 }
 
@@ -46,24 +51,23 @@ fn stored(
     alloc: Global,
     structs: &Structs,
     s: Span,
-    left: Placed,
-    right: Placed,
+    sides: Sides,
     faults: &mut Vec<TypeFault>,
 ) -> Result<Operand, AllocError>
-    ensures { Makes result faults.old.items faults.new.items (is.stored structs.now s left.span (known left.operand) right.span (known right.operand)) }
+    ensures { GivesMade result faults.old.items faults.new.items (is.stored structs.now s sides.left.span (known sides.left.operand) sides.right.span (known sides.right.operand)) }
 {
-    let ty = left.operand.ty;
-    if is_bad(ty) || is_bad(right.operand.ty) {
+    let ty = sides.left.operand.ty;
+    if is_bad(ty) || is_bad(sides.right.operand.ty) {
         return Ok(Operand::faulty());
     }
-    let target = target_fault(structs, &left.operand);
-    let misfit = misfits(ty, right.operand.value());
-    note_optional(faults, target, left.span)?;
-    note_if(faults, misfit, FaultKind::WrongType, right.span)?;
+    let target = target_fault(structs, &sides.left.operand);
+    let misfit = misfits(ty, sides.right.operand.value());
+    note_optional(faults, target, sides.left.span)?;
+    note_if(faults, misfit, FaultKind::WrongType, sides.right.span)?;
     if target.is_some() || misfit {
         return Ok(Operand::faulty());
     }
-    let tree = stored_tree(alloc, s, left.operand, right)?;
+    let tree = stored_tree(alloc, s, sides)?;
     Ok(Operand::plain(ty, tree))
 }
 
@@ -101,19 +105,15 @@ pub fn is_misfit(ty: Type, value: Value) -> bool
 }
 
 #[tactic(auto, unfolding(crate::specs::Assignments::stored_tree))]
-fn stored_tree(
-    alloc: Global,
-    s: Span,
-    left: Operand,
-    right: Placed,
-) -> Result<TypedExpr, AllocError>
-    ensures { IfOk result (λ x. view_expr x ≡ is.stored_tree s (known left) (value_of (known right.operand)) (value_tree right.span (known right.operand))) }
+fn stored_tree(alloc: Global, s: Span, sides: Sides) -> Result<TypedExpr, AllocError>
+    ensures { IfOk result (λ x. view_expr x ≡ is.stored_tree s (known sides.left.operand) (value_of (known sides.right.operand)) (value_tree sides.right.span (known sides.right.operand))) }
 {
-    let ty = left.ty;
+    let Sides { left, right } = sides;
+    let ty = left.operand.ty;
     let null = right.operand.value().null;
     let tree = right.operand.into_tree(alloc, right.span)?;
     let tree = as_type(alloc, ty, null, tree)?;
-    let place = left.into_elaborated().into_place(alloc)?;
+    let place = left.operand.into_elaborated().into_place(alloc)?;
     Ok(TypedExpr {
         span: s,
         ty: var_type(ty),
@@ -128,24 +128,23 @@ fn compounded(
     structs: &Structs,
     op: BinaryOp,
     s: Span,
-    left: Placed,
-    right: Placed,
+    sides: Sides,
     faults: &mut Vec<TypeFault>,
 ) -> Result<Operand, AllocError>
-    ensures { Makes result faults.old.items faults.new.items (is.compounded structs.now op s left.span (known left.operand) right.span (known right.operand)) }
+    ensures { GivesMade result faults.old.items faults.new.items (is.compounded structs.now op s sides.left.span (known sides.left.operand) sides.right.span (known sides.right.operand)) }
 {
-    let ty = left.operand.ty;
-    if is_bad(ty) || is_bad(right.operand.ty) {
+    let ty = sides.left.operand.ty;
+    if is_bad(ty) || is_bad(sides.right.operand.ty) {
         return Ok(Operand::faulty());
     }
-    let target = target_fault(structs, &left.operand);
-    let rule = step_rule_of(op, ty, right.operand.value());
-    note_optional(faults, target, left.span)?;
-    note_rule(faults, rule, left.span, right.span)?;
+    let target = target_fault(structs, &sides.left.operand);
+    let rule = step_rule_of(op, ty, sides.right.operand.value());
+    note_optional(faults, target, sides.left.span)?;
+    note_rule(faults, rule, sides.left.span, sides.right.span)?;
     if target.is_some() || is_refused(rule) {
         return Ok(Operand::faulty());
     }
-    let tree = compound_tree(alloc, rule, op, s, left, right)?;
+    let tree = compound_tree(alloc, rule, op, s, sides)?;
     Ok(Operand::plain(ty, tree))
 }
 
@@ -228,11 +227,11 @@ fn compound_tree(
     rule: Rule,
     op: BinaryOp,
     s: Span,
-    left: Placed,
-    right: Placed,
+    sides: Sides,
 ) -> Result<TypedExpr, AllocError>
-    ensures { IfOk result (λ x. view_expr x ≡ is.compound_tree rule op s left.span (known left.operand) (value_of (known right.operand)) (value_tree right.span (known right.operand))) }
+    ensures { IfOk result (λ x. view_expr x ≡ is.compound_tree rule op s sides.left.span (known sides.left.operand) (value_of (known sides.right.operand)) (value_tree sides.right.span (known sides.right.operand))) }
 {
+    let Sides { left, right } = sides;
     let ty = left.operand.ty;
     let object = Value { ty, null: false };
     let value = right.operand.value();

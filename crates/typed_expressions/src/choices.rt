@@ -2,12 +2,12 @@
 ghost use Rattle.std.specs.Prelude.{◌≡◌, IfOk};
 ghost use Rattle.typed_tree.specs.ExpressionTree.{view_expr};
 ghost use Rattle.typed_expressions.specs.Choices as is;
-ghost use Rattle.typed_expressions.specs.Gives.{Makes};
+ghost use Rattle.typed_expressions.specs.Gives.{GivesMade};
 ghost use Rattle.typed_expressions.specs.Views.{placed};
 
 use crate::conversions::as_type;
 use crate::faults::note;
-use crate::operand::{Operand, var_type};
+use crate::operand::{Operand, Placed, var_type};
 use crate::prefixes::refused;
 use declared_types::{FaultKind, TypeFault, note_if};
 use pt_base::Span;
@@ -15,11 +15,12 @@ use std::alloc::{AllocError, Global};
 use type_rules::{ChoiceRule, ConditionRule, Type, choice_rule, condition_rule};
 use typed_tree::{Form, TypedExpr};
 
-/// An operand with where it stands.
+/// The operands of a choice.
 #[derive(Drop)]
-pub(crate) struct Placed {
-    pub span: Span,
-    pub operand: Operand,
+pub(crate) struct Branches {
+    pub test: Placed,
+    pub first: Placed,
+    pub last: Placed,
 }
 
 /// A choice with the span `s`.
@@ -27,18 +28,19 @@ pub(crate) struct Placed {
 pub(crate) fn chosen(
     alloc: Global,
     s: Span,
-    test: Placed,
-    first: Placed,
-    last: Placed,
+    branches: Branches,
     faults: &mut Vec<TypeFault>,
 ) -> Result<Operand, AllocError>
-    ensures { Makes result faults.old.items faults.new.items (is.chosen s (placed test) (placed first) (placed last)) }
+    ensures { GivesMade result faults.old.items faults.new.items (is.chosen s (placed branches.test) (placed branches.first) (placed branches.last)) }
 {
-    let rule = choice_rule(first.operand.value(), last.operand.value());
-    match condition_rule(test.operand.value()) {
+    let rule = choice_rule(
+        branches.first.operand.value(),
+        branches.last.operand.value(),
+    );
+    match condition_rule(branches.test.operand.value()) {
         ConditionRule::Unknown => Ok(Operand::faulty()),
-        ConditionRule::Wrong => chosen_by(alloc, rule, true, s, test, first, last, faults),
-        ConditionRule::Good => chosen_by(alloc, rule, false, s, test, first, last, faults),
+        ConditionRule::Wrong => chosen_by(alloc, rule, true, s, branches, faults),
+        ConditionRule::Good => chosen_by(alloc, rule, false, s, branches, faults),
     }
 }
 
@@ -49,30 +51,28 @@ fn chosen_by(
     rule: ChoiceRule,
     wrong: bool,
     s: Span,
-    test: Placed,
-    first: Placed,
-    last: Placed,
+    branches: Branches,
     faults: &mut Vec<TypeFault>,
 ) -> Result<Operand, AllocError>
-    ensures { Makes result faults.old.items faults.new.items (is.chosen_by rule wrong s (placed test) (placed first) (placed last)) }
+    ensures { GivesMade result faults.old.items faults.new.items (is.chosen_by rule wrong s (placed branches.test) (placed branches.first) (placed branches.last)) }
 {
     match rule {
         ChoiceRule::Unknown => Ok(Operand::faulty()),
         ChoiceRule::Wrong => {
-            note_if(faults, wrong, FaultKind::WrongType, test.span)?;
-            note(faults, FaultKind::WrongType, last.span)?;
+            note_if(faults, wrong, FaultKind::WrongType, branches.test.span)?;
+            note(faults, FaultKind::WrongType, branches.last.span)?;
             Ok(Operand::faulty())
         }
         ChoiceRule::Structs => {
-            note_if(faults, wrong, FaultKind::WrongType, test.span)?;
+            note_if(faults, wrong, FaultKind::WrongType, branches.test.span)?;
             note(faults, FaultKind::OutOfProfile, s)?;
             Ok(Operand::faulty())
         }
         ChoiceRule::Gives(ty) => {
             if wrong {
-                return refused(faults, FaultKind::WrongType, test.span);
+                return refused(faults, FaultKind::WrongType, branches.test.span);
             }
-            let tree = choice_tree(alloc, s, ty, test, first, last)?;
+            let tree = choice_tree(alloc, s, ty, branches)?;
             Ok(Operand::plain(ty, tree))
         }
     }
@@ -84,12 +84,11 @@ fn choice_tree(
     alloc: Global,
     s: Span,
     ty: Type,
-    test: Placed,
-    first: Placed,
-    last: Placed,
+    branches: Branches,
 ) -> Result<TypedExpr, AllocError>
-    ensures { IfOk result (λ x. view_expr x ≡ is.choice_tree s ty (placed test) (placed first) (placed last)) }
+    ensures { IfOk result (λ x. view_expr x ≡ is.choice_tree s ty (placed branches.test) (placed branches.first) (placed branches.last)) }
 {
+    let Branches { test, first, last } = branches;
     let test = test.operand.into_tree(alloc, test.span)?;
     let first = arm(alloc, ty, first)?;
     let last = arm(alloc, ty, last)?;

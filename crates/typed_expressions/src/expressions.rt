@@ -5,21 +5,21 @@ ghost use Rattle.pt_tree.specs.SpecifierTree.{view_specs};
 ghost use Rattle.typed_tree.specs.ExpressionTree.{view_root};
 ghost use Rattle.typed_expressions.specs.EnvOf.{env_of};
 ghost use Rattle.typed_expressions.specs.Expressions as is;
-ghost use Rattle.typed_expressions.specs.Gives.{Gives, GivesArguments, GivesBase, GivesLinks, Makes};
+ghost use Rattle.typed_expressions.specs.Gives.{GivesArguments, GivesCastBase, GivesHead, GivesJudged, GivesLinked, GivesMade, GivesPlaced};
 ghost use Rattle.typed_expressions.specs.Operands as o;
 ghost use Rattle.typed_expressions.specs.Views.{known, so_far};
 
-use crate::assignments::assigned;
-use crate::choices::{Placed, chosen};
-use crate::links::{SoFar, begun, link_rule, note_rule, sort_of};
+use crate::assignments::{Sides, assigned};
+use crate::choices::{Branches, chosen};
+use crate::links::{Joint, SoFar, begun, link_rule, note_rule, sort_of};
 use crate::meaning::{Meaning, Object};
 use crate::names::Names;
-use crate::operand::{Elaborated, Operand};
+use crate::operand::{Elaborated, Operand, Placed};
 use crate::postfixes::{
     argument, arrow, called, dotted, function_called, indexed, param_at, params_for,
 };
 use crate::prefixes::{Stepping, cast_to, prefixed, refused, stepped};
-use declared_types::{Carrier, FaultKind, Structs, TypeFault, judge_specifiers, note_attributes};
+use declared_types::{Carrier, FaultKind, Findings, TypeFault, judge_specifiers, note_attributes};
 use pt_base::{FnId, Span};
 use pt_tree::{Constant, Expr, Link, Postfix, Spec, Word};
 use std::alloc::{AllocError, Global};
@@ -27,88 +27,84 @@ use type_rules::Type;
 use typed_tree::{Form, Place, Root, TypedExpr, VarTy};
 
 /// What is known of an expression, and its typed tree, which is there for a faulty one too, and is
-/// then any tree. Its faults go to the end of `faults`. A cast may hold the body of a struct, which is
-/// declared.
+/// then any tree. Its faults go to the end of those found. A cast may hold the body of a struct, which
+/// is declared.
 #[cycle(expressions)]
-#[tactic(auto, using(crate::proofs::Rows::rows), unfolding(crate::specs::Expressions::judge, crate::specs::Expressions::headed))]
 pub fn expression(
     alloc: Global,
     names: &Names,
-    structs: &mut Structs,
+    findings: &mut Findings,
     e: &Expr,
-    faults: &mut Vec<TypeFault>,
 ) -> Result<Operand, AllocError>
-    ensures { Gives result structs.new faults.old.items faults.new.items (is.judge (env_of names.now) structs.old (parsed.view_expr e.now)) }
+    ensures { GivesJudged result findings.old findings.new (is.judge (env_of names.now) findings.old.structs (parsed.view_expr e.now)) }
 {
     match e {
-        Expr::Name(word) => {
-            let made = named(alloc, names, word, faults)?;
-            Ok(made)
-        }
+        Expr::Name(word) => named(alloc, names, word, &mut findings.faults),
         Expr::Constant(constant) => Ok(literal(*constant)),
         Expr::Prefix(s, op, a) => {
-            let operand = expression(alloc, names, structs, a, faults)?;
-            let made = prefixed(alloc, structs, *op, *s, span_of(a), operand, faults)?;
-            Ok(made)
+            let operand = placed(alloc, names, findings, a)?;
+            let faults = &mut findings.faults;
+            prefixed(alloc, &findings.structs, *op, *s, operand, faults)
         }
         Expr::Cast(s, specs, pointer, a) => {
-            let base = cast_base(alloc, structs, specs, faults)?;
-            let operand = expression(alloc, names, structs, a, faults)?;
-            let made = cast_to(alloc, *pointer, base, *s, span_of(a), operand, faults)?;
-            Ok(made)
+            let base = cast_base(alloc, findings, specs)?;
+            let operand = placed(alloc, names, findings, a)?;
+            cast_to(alloc, *pointer, base, *s, operand, &mut findings.faults)
         }
         Expr::Postfix(s, a, postfixes) => {
-            let callee = function_called(names, a, postfixes);
-            let operand = match callee {
-                Some(_) => Operand::faulty(),
-                None => expression(alloc, names, structs, a, faults)?,
-            };
-            let head = Head {
-                span: span_of(a),
-                callee,
-                operand,
-            };
-            let found = behind(alloc, names, structs, *s, head, postfixes, faults)?;
-            Ok(found)
+            let head = head_of(alloc, names, findings, a, postfixes)?;
+            more_postfixes(alloc, names, findings, *s, head, postfixes)
         }
         Expr::Chain(s, a, links) => {
-            let first = expression(alloc, names, structs, a, faults)?;
-            let far = begun(alloc, span_of(a), first)?;
+            let first = placed(alloc, names, findings, a)?;
+            let start = begun(alloc, first.span, first.operand)?;
             let sort = sort_of(links);
-            let chain = Chain {
+            let whole = Whole {
                 span: *s,
                 is_logical: sort.is_some(),
             };
-            let far = more_links(alloc, names, structs, chain, far, links, faults)?;
-            let found = far.chained(alloc, sort, *s, faults)?;
-            Ok(found)
+            let far = more_links(alloc, names, findings, whole, start, links)?;
+            far.chained(alloc, sort, *s, &mut findings.faults)
         }
         Expr::Choice(s, a, b, c) => {
-            let test = expression(alloc, names, structs, a, faults)?;
-            let first = expression(alloc, names, structs, b, faults)?;
-            let last = expression(alloc, names, structs, c, faults)?;
-            let test = at(span_of(a), test);
-            let first = at(span_of(b), first);
-            let last = at(span_of(c), last);
-            let made = chosen(alloc, *s, test, first, last, faults)?;
-            Ok(made)
+            let test = placed(alloc, names, findings, a)?;
+            let first = placed(alloc, names, findings, b)?;
+            let last = placed(alloc, names, findings, c)?;
+            let branches = Branches { test, first, last };
+            chosen(alloc, *s, branches, &mut findings.faults)
         }
         Expr::Assign(s, op, a, b) => {
-            let left = expression(alloc, names, structs, a, faults)?;
-            let right = expression(alloc, names, structs, b, faults)?;
-            let left = at(span_of(a), left);
-            let right = at(span_of(b), right);
-            let made = assigned(alloc, structs, *op, *s, left, right, faults)?;
-            Ok(made)
+            let left = placed(alloc, names, findings, a)?;
+            let right = placed(alloc, names, findings, b)?;
+            let sides = Sides { left, right };
+            let faults = &mut findings.faults;
+            assigned(alloc, &findings.structs, *op, *s, sides, faults)
         }
     }
 }
 
+/// An expression with where it stands.
+#[cycle(expressions)]
+fn placed(
+    alloc: Global,
+    names: &Names,
+    findings: &mut Findings,
+    e: &Expr,
+) -> Result<Placed, AllocError>
+    ensures { GivesPlaced result findings.old findings.new (env_of names.now) (parsed.view_expr e.now) }
+{
+    let operand = expression(alloc, names, findings, e)?;
+    Ok(Placed {
+        span: span_of(e),
+        operand,
+    })
+}
+
 /// A chain of operators as a whole.
 #[derive(Clone, Copy)]
-struct Chain {
+struct Whole {
     span: Span,
-    /// It is one of `&&` or `||`.
+    /// Its operators are `&&` or `||`.
     is_logical: bool,
 }
 
@@ -118,17 +114,16 @@ struct Chain {
 fn more_links(
     alloc: Global,
     names: &Names,
-    structs: &mut Structs,
-    chain: Chain,
+    findings: &mut Findings,
+    whole: Whole,
     far: SoFar,
     links: &[Link],
-    faults: &mut Vec<TypeFault>,
 ) -> Result<SoFar, AllocError>
-    ensures { GivesLinks result structs.new faults.old.items faults.new.items (is.judge_links (env_of names.now) structs.old chain.span chain.is_logical (so_far far) (parsed.link_trees (map parsed.view_link links.now))) }
+    ensures { GivesLinked result findings.old findings.new (is.judge_links (env_of names.now) findings.old.structs whole.span whole.is_logical (so_far far) (parsed.link_trees (map parsed.view_link links.now))) }
 {
     let mut far = far;
     for link in links {
-        far = one_link(alloc, names, structs, chain, far, link, faults)?;
+        far = one_link(alloc, names, findings, whole, far, link)?;
     }
     Ok(far)
 }
@@ -139,119 +134,149 @@ fn more_links(
 fn one_link(
     alloc: Global,
     names: &Names,
-    structs: &mut Structs,
-    chain: Chain,
+    findings: &mut Findings,
+    whole: Whole,
     far: SoFar,
     link: &Link,
-    faults: &mut Vec<TypeFault>,
 ) -> Result<SoFar, AllocError>
-    ensures { GivesLinks result structs.new faults.old.items faults.new.items (is.judge_link (env_of names.now) structs.old chain.span chain.is_logical (so_far far) (parsed.view_link link.now)) }
+    ensures { GivesLinked result findings.old findings.new (is.judge_link (env_of names.now) findings.old.structs whole.span whole.is_logical (so_far far) (parsed.view_link link.now)) }
 {
-    let operand = expression(alloc, names, structs, &link.operand, faults)?;
-    let span = span_of(&link.operand);
+    let operand = expression(alloc, names, findings, &link.operand)?;
+    let at = span_of(&link.operand);
     let value = operand.value();
-    let rule = link_rule(chain.is_logical, link.op, far.value, value);
-    note_rule(faults, rule, far.span, span)?;
-    let tree = operand.into_tree(alloc, span)?;
-    let whole = joined(chain.span, link.span);
-    let far = far.linked(alloc, rule, link.op, whole, value, tree)?;
+    let rule = link_rule(whole.is_logical, link.op, far.value, value);
+    note_rule(&mut findings.faults, rule, far.span, at)?;
+    let tree = operand.into_tree(alloc, at)?;
+    let span = joined(whole.span, link.span);
+    let joint = Joint {
+        rule,
+        op: link.op,
+        span,
+    };
+    let far = far.linked(alloc, joint, value, tree)?;
     Ok(far)
 }
 
 /// What stands before a postfix.
 #[derive(Drop)]
 struct Head {
-    span: Span,
     /// It is the name of this function, which is called.
     callee: Option<FnId>,
-    operand: Operand,
+    operand: Placed,
+}
+
+/// What stands before these postfixes.
+#[cycle(expressions)]
+fn head_of(
+    alloc: Global,
+    names: &Names,
+    findings: &mut Findings,
+    a: &Expr,
+    postfixes: &[Postfix],
+) -> Result<Head, AllocError>
+    ensures { GivesHead result findings.old findings.new (env_of names.now) (parsed.view_expr a.now) (parsed.postfix_trees (map parsed.view_postfix postfixes.now)) }
+{
+    match function_called(names, a, postfixes) {
+        Some(f) => Ok(Head {
+            callee: Some(f),
+            operand: Placed {
+                span: span_of(a),
+                operand: Operand::faulty(),
+            },
+        }),
+        None => {
+            let operand = placed(alloc, names, findings, a)?;
+            Ok(Head {
+                callee: None,
+                operand,
+            })
+        }
+    }
 }
 
 /// The postfixes of an expression with the span `s`, behind its head.
 #[cycle(expressions)]
 #[tactic(auto, unfolding(crate::specs::Expressions::judge_postfixes))]
-fn behind(
+fn more_postfixes(
     alloc: Global,
     names: &Names,
-    structs: &mut Structs,
+    findings: &mut Findings,
     s: Span,
     head: Head,
     postfixes: &[Postfix],
-    faults: &mut Vec<TypeFault>,
 ) -> Result<Operand, AllocError>
-    ensures { Gives result structs.new faults.old.items faults.new.items (is.judge_postfixes (env_of names.now) structs.old s head.callee head.span (known head.operand) (parsed.postfix_trees (map parsed.view_postfix postfixes.now))) }
+    ensures { GivesJudged result findings.old findings.new (is.judge_postfixes (env_of names.now) findings.old.structs s head.callee head.operand.span (known head.operand.operand) (parsed.postfix_trees (map parsed.view_postfix postfixes.now))) }
 {
     let mut head = head;
     for p in postfixes {
         let span = joined(s, postfix_span(p));
-        let operand = postfix(alloc, names, structs, s, head, p, faults)?;
+        let operand = one_postfix(alloc, names, findings, s, head, p)?;
         head = Head {
-            span,
             callee: None,
-            operand,
+            operand: Placed { span, operand },
         };
     }
-    Ok(head.operand)
+    Ok(head.operand.operand)
 }
 
 /// One postfix.
 #[cycle(expressions)]
-#[tactic(auto, using(crate::proofs::Rows::rows), unfolding(crate::specs::Expressions::judge_postfix))]
-fn postfix(
+fn one_postfix(
     alloc: Global,
     names: &Names,
-    structs: &mut Structs,
+    findings: &mut Findings,
     s: Span,
     head: Head,
     p: &Postfix,
-    faults: &mut Vec<TypeFault>,
 ) -> Result<Operand, AllocError>
-    ensures { Gives result structs.new faults.old.items faults.new.items (is.judge_postfix (env_of names.now) structs.old s head.callee head.span (known head.operand) (parsed.view_postfix p.now)) }
+    ensures { GivesJudged result findings.old findings.new (is.judge_postfix (env_of names.now) findings.old.structs s head.callee head.operand.span (known head.operand.operand) (parsed.view_postfix p.now)) }
 {
     match p {
         Postfix::Index(span, a) => {
-            let index = expression(alloc, names, structs, a, faults)?;
-            let base = at(head.span, head.operand);
-            let index = at(span_of(a), index);
-            let made = indexed(alloc, joined(s, *span), base, index, faults)?;
-            Ok(made)
+            let index = placed(alloc, names, findings, a)?;
+            let s = joined(s, *span);
+            indexed(alloc, s, head.operand, index, &mut findings.faults)
         }
         Postfix::Call(span, args) => {
             let params = params_for(names, head.callee);
-            let trees = arguments(alloc, names, structs, params, args, faults)?;
-            let ty = head.operand.ty;
-            let made = called(names, head.callee, ty, joined(s, *span), trees, faults)?;
-            Ok(made)
+            let trees = arguments(alloc, names, findings, params, args)?;
+            let ty = head.operand.operand.ty;
+            let s = joined(s, *span);
+            called(names, head.callee, ty, s, trees, &mut findings.faults)
         }
         Postfix::Field(_, word) => {
-            let made = dotted(alloc, structs, word, head.span, head.operand, faults)?;
-            Ok(made)
+            let faults = &mut findings.faults;
+            dotted(alloc, &findings.structs, word, head.operand, faults)
         }
         Postfix::Arrow(span, word) => {
             let s = joined(s, *span);
-            let made = arrow(alloc, structs, s, word, head.span, head.operand, faults)?;
-            Ok(made)
+            let faults = &mut findings.faults;
+            arrow(alloc, &findings.structs, s, word, head.operand, faults)
         }
         Postfix::Increment(span) => {
-            let how = Stepping {
-                back: false,
-                postfix: true,
-            };
             let s = joined(s, *span);
-            let made = stepped(alloc, structs, s, how, head.span, head.operand, faults)?;
-            Ok(made)
+            let faults = &mut findings.faults;
+            stepped(alloc, &findings.structs, s, INCREMENT, head.operand, faults)
         }
         Postfix::Decrement(span) => {
-            let how = Stepping {
-                back: true,
-                postfix: true,
-            };
             let s = joined(s, *span);
-            let made = stepped(alloc, structs, s, how, head.span, head.operand, faults)?;
-            Ok(made)
+            let faults = &mut findings.faults;
+            stepped(alloc, &findings.structs, s, DECREMENT, head.operand, faults)
         }
     }
 }
+
+/// `++` behind its operand.
+const INCREMENT: Stepping = Stepping {
+    back: false,
+    postfix: true,
+};
+
+/// `--` behind its operand.
+const DECREMENT: Stepping = Stepping {
+    back: true,
+    postfix: true,
+};
 
 /// The arguments of a call, each as a value of its parameter's type.
 #[cycle(expressions)]
@@ -259,17 +284,17 @@ fn postfix(
 fn arguments(
     alloc: Global,
     names: &Names,
-    structs: &mut Structs,
+    findings: &mut Findings,
     params: &[Type],
     args: &[Expr],
-    faults: &mut Vec<TypeFault>,
 ) -> Result<Vec<TypedExpr>, AllocError>
-    ensures { GivesArguments result structs.new faults.old.items faults.new.items (is.judge_arguments (env_of names.now) structs.old params.now 0 (parsed.expr_trees (map parsed.view_expr args.now))) }
+    ensures { GivesArguments result findings.old findings.new (is.judge_arguments (env_of names.now) findings.old.structs params.now 0 (parsed.expr_trees (map parsed.view_expr args.now))) }
 {
     let mut trees = Vec::new(alloc);
     for (n, a) in args.iter().enumerate() {
-        let operand = expression(alloc, names, structs, a, faults)?;
+        let operand = expression(alloc, names, findings, a)?;
         let param = param_at(params, n);
+        let faults = &mut findings.faults;
         trees.push(argument(alloc, param, span_of(a), operand, faults)?)?;
     }
     Ok(trees)
@@ -283,7 +308,7 @@ fn named(
     word: &Word,
     faults: &mut Vec<TypeFault>,
 ) -> Result<Operand, AllocError>
-    ensures { Makes result faults.old.items faults.new.items (is.named (env_of names.now) word.now) }
+    ensures { GivesMade result faults.old.items faults.new.items (is.named (env_of names.now) word.now) }
 {
     match names.find(word.bytes.as_slice()) {
         None => refused(faults, FaultKind::UnknownName, word.span),
@@ -300,7 +325,7 @@ fn meant(
     meaning: Meaning,
     faults: &mut Vec<TypeFault>,
 ) -> Result<Operand, AllocError>
-    ensures { Makes result faults.old.items faults.new.items (is.meant (env_of names.now) s meaning) }
+    ensures { GivesMade result faults.old.items faults.new.items (is.meant (env_of names.now) s meaning) }
 {
     match meaning {
         Meaning::Function(_) => refused(faults, FaultKind::OutOfProfile, s),
@@ -341,16 +366,12 @@ fn literal(constant: Constant) -> Operand
 
 /// The base type of a cast's specifiers, which take no attributes.
 #[tactic(auto, unfolding(crate::specs::Expressions::cast_specified))]
-fn cast_base(
-    alloc: Global,
-    structs: &mut Structs,
-    specs: &[Spec],
-    faults: &mut Vec<TypeFault>,
-) -> Result<Type, AllocError>
-    ensures { GivesBase result structs.new faults.old.items faults.new.items (is.cast_specified structs.old (view_specs specs.now)) }
+fn cast_base(alloc: Global, findings: &mut Findings, specs: &[Spec]) -> Result<Type, AllocError>
+    ensures { GivesCastBase result findings.old findings.new (is.cast_specified findings.old.structs (view_specs specs.now)) }
 {
-    let given = judge_specifiers(alloc, structs, false, specs, faults)?;
-    note_attributes(faults, Carrier::Nothing, given.attributes.as_slice())?;
+    let given = judge_specifiers(alloc, findings, false, specs)?;
+    let attributes = given.attributes.as_slice();
+    note_attributes(&mut findings.faults, Carrier::Nothing, attributes)?;
     Ok(given.base)
 }
 
@@ -393,11 +414,4 @@ fn joined(first: Span, last: Span) -> Span
         from: first.from,
         to: last.to,
     }
-}
-
-fn at(span: Span, operand: Operand) -> Placed
-    ensures span { result.span ≡ span }
-    ensures operand { result.operand ≡ operand }
-{
-    Placed { span, operand }
 }

@@ -2,7 +2,7 @@
 ghost use Rattle.std.specs.Prelude.{◌≡◌, ◌++◌, ◌∷◌, [], IfOk, OnOk, map};
 ghost use Rattle.pt_tree.specs.ExpressionTree as parsed;
 ghost use Rattle.typed_tree.specs.ExpressionTree.{view_expr, view_link, view_operand};
-ghost use Rattle.typed_expressions.specs.Gives.{Makes};
+ghost use Rattle.typed_expressions.specs.Gives.{GivesMade};
 ghost use Rattle.typed_expressions.specs.Links as is;
 ghost use Rattle.typed_expressions.specs.Views.{known, so_far};
 
@@ -23,6 +23,15 @@ pub(crate) struct SoFar {
     pub span: Span,
     pub first: TypedExpr,
     pub links: Vec<TypedLink>,
+}
+
+/// How an operand is linked to all before it: the rule, the operator, and the span of all up to and
+/// with it.
+#[derive(Clone, Copy)]
+pub(crate) struct Joint {
+    pub rule: Rule,
+    pub op: BinaryOp,
+    pub span: Span,
 }
 
 /// A chain before its first link.
@@ -51,20 +60,18 @@ impl Drop for SoFar {
 }
 
 impl SoFar {
-    /// The chain with a link more, whose operand has this value and tree; the span is that of all up
-    /// to and with it.
+    /// The chain with a link more, whose operand has this value and tree.
     #[tactic(auto, unfolding(crate::specs::Links::linked))]
     pub(crate) fn linked(
         self,
         alloc: Global,
-        rule: Rule,
-        op: BinaryOp,
-        span: Span,
+        joint: Joint,
         value: Value,
         tree: TypedExpr,
     ) -> Result<SoFar, AllocError>
-        ensures { IfOk result (λ f. so_far f ≡ is.linked rule op span (so_far self) value (view_expr tree)) }
+        ensures { IfOk result (λ f. so_far f ≡ is.linked joint.rule joint.op joint.span (so_far self) value (view_expr tree)) }
     {
+        let Joint { rule, op, span } = joint;
         let SoFar {
             value: left,
             span: _,
@@ -97,7 +104,7 @@ impl SoFar {
         s: Span,
         faults: &mut Vec<TypeFault>,
     ) -> Result<Operand, AllocError>
-        ensures { Makes result faults.old.items faults.new.items (is.chained sort s (so_far self)) }
+        ensures { GivesMade result faults.old.items faults.new.items (is.chained sort s (so_far self)) }
     {
         let SoFar {
             value,

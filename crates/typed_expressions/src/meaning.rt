@@ -3,7 +3,7 @@ use pt_base::{Bytes, FnId, GlobalId, Listed, Span, VarId};
 use type_rules::Type;
 
 /// What a name means that is no tag, field or label.
-#[derive(Clone, Copy, Debug, PartialEq, Eq, Drop)]
+#[derive(Clone, Copy, Drop)]
 pub enum Meaning {
     Function(FnId),
     Global(GlobalId),
@@ -12,7 +12,7 @@ pub enum Meaning {
 }
 
 /// An object as expressions see it.
-#[derive(Clone, Copy, Debug, PartialEq, Eq, Drop)]
+#[derive(Clone, Copy, Drop)]
 pub struct Object {
     pub ty: Type,
     /// It is const itself; parts of it may be const where it is not.

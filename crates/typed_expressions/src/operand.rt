@@ -33,6 +33,13 @@ impl Drop for Operand {
     }
 }
 
+/// An operand with where it stands.
+#[derive(Drop)]
+pub(crate) struct Placed {
+    pub span: Span,
+    pub operand: Operand,
+}
+
 /// The typed tree of an expression, by what the expression is.
 #[derive(Drop)]
 pub enum Elaborated {

@@ -8,18 +8,17 @@ ghost use Rattle.type_rules.specs.Conversions.{is_wrong, fit_rule};
 ghost use Rattle.typed_tree.specs.ExpressionTree.{view_expr, view_root, view_step};
 ghost use Rattle.typed_expressions.specs.Conversions as to;
 ghost use Rattle.typed_expressions.specs.EnvOf.{env_of};
-ghost use Rattle.typed_expressions.specs.Gives.{Makes};
+ghost use Rattle.typed_expressions.specs.Gives.{GivesMade};
 ghost use Rattle.typed_expressions.specs.Operands.{value_of, value_tree};
 ghost use Rattle.typed_expressions.specs.Postfixes as is;
 ghost use Rattle.typed_expressions.specs.Views.{elaboration, known};
 
 use crate::assignments::is_misfit;
-use crate::choices::Placed;
 use crate::conversions::as_type;
 use crate::links::{link_type, note_rule};
 use crate::meaning::{Callable, Meaning};
 use crate::names::Names;
-use crate::operand::{Elaborated, Operand, pointed_place, var_type};
+use crate::operand::{Elaborated, Operand, Placed, pointed_place, var_type};
 use crate::prefixes::{points_to_const, refuse, refused, valued};
 use declared_types::{FaultKind, FoundField, Structs, TypeFault, field_named, note_if};
 use pt_base::{FnId, Span};
@@ -37,7 +36,7 @@ pub(crate) fn indexed(
     index: Placed,
     faults: &mut Vec<TypeFault>,
 ) -> Result<Operand, AllocError>
-    ensures { Makes result faults.old.items faults.new.items (is.indexed s base.span (known base.operand) index.span (known index.operand)) }
+    ensures { GivesMade result faults.old.items faults.new.items (is.indexed s base.span (known base.operand) index.span (known index.operand)) }
 {
     let rule = index_rule(base.operand.value(), index.operand.value());
     match rule {
@@ -150,12 +149,12 @@ pub(crate) fn dotted(
     alloc: Global,
     structs: &Structs,
     word: &Word,
-    at: Span,
-    operand: Operand,
+    operand: Placed,
     faults: &mut Vec<TypeFault>,
 ) -> Result<Operand, AllocError>
-    ensures { Makes result faults.old.items faults.new.items (is.dotted structs.now word.now at (known operand)) }
+    ensures { GivesMade result faults.old.items faults.new.items (is.dotted structs.now word.now operand.span (known operand.operand)) }
 {
+    let Placed { span: at, operand } = operand;
     match operand.ty {
         Type::Bad => Ok(operand.forgotten()),
         Type::Struct(n) => {
@@ -191,7 +190,7 @@ fn part_by(
     place: Place,
     faults: &mut Vec<TypeFault>,
 ) -> Result<Operand, AllocError>
-    ensures { Makes result faults.old.items faults.new.items (is.part_by field word.now whole.fixed whole.designates (view_root place.root) (map view_step place.steps.items)) }
+    ensures { GivesMade result faults.old.items faults.new.items (is.part_by field word.now whole.fixed whole.designates (view_root place.root) (map view_step place.steps.items)) }
 {
     let Some(field) = field else {
         return refused(faults, FaultKind::UnknownName, word.span);
@@ -214,12 +213,12 @@ pub(crate) fn arrow(
     structs: &Structs,
     s: Span,
     word: &Word,
-    at: Span,
-    operand: Operand,
+    operand: Placed,
     faults: &mut Vec<TypeFault>,
 ) -> Result<Operand, AllocError>
-    ensures { Makes result faults.old.items faults.new.items (is.arrow structs.now s word.now at (known operand)) }
+    ensures { GivesMade result faults.old.items faults.new.items (is.arrow structs.now s word.now operand.span (known operand.operand)) }
 {
+    let Placed { span: at, operand } = operand;
     match operand.value().ty {
         Type::Bad => Ok(operand.forgotten()),
         Type::Pointer {
@@ -394,7 +393,7 @@ pub(crate) fn called(
     trees: Vec<TypedExpr>,
     faults: &mut Vec<TypeFault>,
 ) -> Result<Operand, AllocError>
-    ensures { Makes result faults.old.items faults.new.items (is.called (env_of names.now) callee ty s (map view_expr trees.items)) }
+    ensures { GivesMade result faults.old.items faults.new.items (is.called (env_of names.now) callee ty s (map view_expr trees.items)) }
 {
     let Some(f) = callee else {
         return called_other(ty, s, faults);
@@ -414,7 +413,7 @@ fn called_function(
     trees: Vec<TypedExpr>,
     faults: &mut Vec<TypeFault>,
 ) -> Result<Operand, AllocError>
-    ensures { Makes result faults.old.items faults.new.items (is.call_of function.now s f (map view_expr trees.items)) }
+    ensures { GivesMade result faults.old.items faults.new.items (is.call_of function.now s f (map view_expr trees.items)) }
 {
     if is_main(function.name.as_slice()) {
         return refused(faults, FaultKind::OutOfProfile, s);
@@ -435,7 +434,7 @@ fn is_count(trees: &Vec<TypedExpr>, params: &[Type]) -> bool
 /// What is no function isn't called.
 #[tactic(auto, unfolding(crate::specs::Postfixes::called_other))]
 fn called_other(ty: Type, s: Span, faults: &mut Vec<TypeFault>) -> Result<Operand, AllocError>
-    ensures { Makes result faults.old.items faults.new.items (is.called_other ty s) }
+    ensures { GivesMade result faults.old.items faults.new.items (is.called_other ty s) }
 {
     match ty {
         Type::Bad => Ok(Operand::faulty()),

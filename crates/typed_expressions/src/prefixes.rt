@@ -2,15 +2,15 @@
 // of the operand, whose own faults are there already.
 ghost use Rattle.std.specs.Prelude.{◌≡◌, ◌∷◌, [], IfOk, false};
 ghost use Rattle.declared_types.specs.Faults.{fault_at};
-ghost use Rattle.typed_tree.specs.ExpressionTree.{chain, decay, link, link_trees, typed, view_expr, view_form, view_place};
-ghost use Rattle.typed_expressions.specs.Gives.{Makes};
+ghost use Rattle.typed_tree.specs.ExpressionTree.{chain, link, link_trees, typed, view_expr, view_form};
+ghost use Rattle.typed_expressions.specs.Gives.{GivesMade};
 ghost use Rattle.typed_expressions.specs.Operands as o;
 ghost use Rattle.typed_expressions.specs.Prefixes as is;
 ghost use Rattle.typed_expressions.specs.Views.{elaboration, known};
 
 use crate::conversions::as_type;
 use crate::faults::{note, note_optional, target_fault};
-use crate::operand::{Elaborated, Operand, var_type};
+use crate::operand::{Elaborated, Operand, Placed, var_type};
 use declared_types::{FaultKind, Structs, TypeFault};
 use pt_base::{IntType, Span};
 use pt_int::UnOp;
@@ -19,7 +19,7 @@ use std::alloc::{AllocError, Global};
 use type_rules::{
     CastRule, Type, UnaryRule, cast_rule, deref_rule, not_rule, promoted_rule, step_rule,
 };
-use typed_tree::{Form, LinkStep, Place, TypedExpr, TypedLink, VarTy};
+use typed_tree::{Form, LinkStep, TypedExpr, TypedLink, VarTy};
 
 /// An operator before its operand.
 #[tactic(auto, unfolding(crate::specs::Prefixes::prefixed))]
@@ -28,32 +28,31 @@ pub(crate) fn prefixed(
     structs: &Structs,
     op: PrefixOp,
     s: Span,
-    at: Span,
-    operand: Operand,
+    operand: Placed,
     faults: &mut Vec<TypeFault>,
 ) -> Result<Operand, AllocError>
-    ensures { Makes result faults.old.items faults.new.items (is.prefixed structs.now op s at (known operand)) }
+    ensures { GivesMade result faults.old.items faults.new.items (is.prefixed structs.now op s operand.span (known operand.operand)) }
 {
     match op {
-        PrefixOp::AddressOf => addressed(alloc, s, at, operand, faults),
-        PrefixOp::Dereference => dereferenced(alloc, s, at, operand, faults),
-        PrefixOp::Plus => computed(alloc, UnOp::Plus, s, at, operand, faults),
-        PrefixOp::Minus => computed(alloc, UnOp::Minus, s, at, operand, faults),
-        PrefixOp::Complement => computed(alloc, UnOp::Flip, s, at, operand, faults),
-        PrefixOp::Not => computed(alloc, UnOp::Not, s, at, operand, faults),
+        PrefixOp::AddressOf => addressed(alloc, s, operand, faults),
+        PrefixOp::Dereference => dereferenced(alloc, s, operand, faults),
+        PrefixOp::Plus => computed(alloc, UnOp::Plus, s, operand, faults),
+        PrefixOp::Minus => computed(alloc, UnOp::Minus, s, operand, faults),
+        PrefixOp::Complement => computed(alloc, UnOp::Flip, s, operand, faults),
+        PrefixOp::Not => computed(alloc, UnOp::Not, s, operand, faults),
         PrefixOp::Increment => {
             let how = Stepping {
                 back: false,
                 postfix: false,
             };
-            stepped(alloc, structs, s, how, at, operand, faults)
+            stepped(alloc, structs, s, how, operand, faults)
         }
         PrefixOp::Decrement => {
             let how = Stepping {
                 back: true,
                 postfix: false,
             };
-            stepped(alloc, structs, s, how, at, operand, faults)
+            stepped(alloc, structs, s, how, operand, faults)
         }
     }
 }
@@ -64,12 +63,12 @@ fn computed(
     alloc: Global,
     op: UnOp,
     s: Span,
-    at: Span,
-    operand: Operand,
+    operand: Placed,
     faults: &mut Vec<TypeFault>,
 ) -> Result<Operand, AllocError>
-    ensures { Makes result faults.old.items faults.new.items (is.computed op s at (known operand)) }
+    ensures { GivesMade result faults.old.items faults.new.items (is.computed op s operand.span (known operand.operand)) }
 {
+    let Placed { span: at, operand } = operand;
     match unary_rule(op, operand.value().ty) {
         UnaryRule::Unknown => Ok(operand.forgotten()),
         UnaryRule::Wrong => refuse(operand, faults, FaultKind::WrongType, at),
@@ -127,12 +126,12 @@ fn unary_operand(
 fn dereferenced(
     alloc: Global,
     s: Span,
-    at: Span,
-    operand: Operand,
+    operand: Placed,
     faults: &mut Vec<TypeFault>,
 ) -> Result<Operand, AllocError>
-    ensures { Makes result faults.old.items faults.new.items (is.dereferenced s at (known operand)) }
+    ensures { GivesMade result faults.old.items faults.new.items (is.dereferenced s operand.span (known operand.operand)) }
 {
+    let Placed { span: at, operand } = operand;
     let value = operand.value();
     match deref_rule(value.ty) {
         UnaryRule::Unknown => Ok(operand.forgotten()),
@@ -161,12 +160,12 @@ pub(crate) fn points_to_const(ty: Type) -> bool
 fn addressed(
     alloc: Global,
     s: Span,
-    at: Span,
-    operand: Operand,
+    operand: Placed,
     faults: &mut Vec<TypeFault>,
 ) -> Result<Operand, AllocError>
-    ensures { Makes result faults.old.items faults.new.items (is.addressed s at (known operand)) }
+    ensures { GivesMade result faults.old.items faults.new.items (is.addressed s operand.span (known operand.operand)) }
 {
+    let Placed { span: at, operand } = operand;
     match operand.ty {
         Type::Bad => Ok(operand.forgotten()),
         Type::Void => refuse(operand, faults, FaultKind::NotLvalue, at),
@@ -189,7 +188,7 @@ pub(crate) fn refused(
     kind: FaultKind,
     at: Span,
 ) -> Result<Operand, AllocError>
-    ensures { Makes result faults.old.items faults.new.items (o.refused (fault_at kind at ∷ [])) }
+    ensures { GivesMade result faults.old.items faults.new.items (o.refused (fault_at kind at ∷ [])) }
 {
     note(faults, kind, at)?;
     Ok(Operand::faulty())
@@ -202,7 +201,7 @@ pub(crate) fn refuse(
     kind: FaultKind,
     at: Span,
 ) -> Result<Operand, AllocError>
-    ensures { Makes result faults.old.items faults.new.items (o.refused (fault_at kind at ∷ [])) }
+    ensures { GivesMade result faults.old.items faults.new.items (o.refused (fault_at kind at ∷ [])) }
 {
     let faulty = operand.forgotten();
     note(faults, kind, at)?;
@@ -219,7 +218,7 @@ fn address_of(
     operand: Operand,
     faults: &mut Vec<TypeFault>,
 ) -> Result<Operand, AllocError>
-    ensures { Makes result faults.old.items faults.new.items (is.address_of s at elem (known operand)) }
+    ensures { GivesMade result faults.old.items faults.new.items (is.address_of s at elem (known operand)) }
 {
     if !operand.designates {
         return refuse(operand, faults, FaultKind::NotLvalue, at);
@@ -255,7 +254,8 @@ fn address_tree(
             form: pointer.form,
         }),
         Elaborated::Item(array, at, index, span) => {
-            moved_array(alloc, s, ty, array, at, index, span)
+            let first = pointer_value(at, ty, Form::decay(array));
+            moved(alloc, s, ty, first, index, span)
         }
     }
 }
@@ -270,19 +270,17 @@ fn pointer_value(span: Span, ty: VarTy, form: Form) -> TypedExpr
     }
 }
 
-/// An array, decayed to a pointer of this type, and moved by an index.
-fn moved_array(
+/// A pointer, moved by an index, as one of this type.
+fn moved(
     alloc: Global,
     s: Span,
     ty: VarTy,
-    array: Place,
-    at: Span,
+    pointer: TypedExpr,
     index: TypedExpr,
     span: Span,
 ) -> Result<TypedExpr, AllocError>
-    ensures { IfOk result (λ x. view_expr x ≡ typed s (Some ty) (chain (typed at (Some ty) (decay (view_place array))) (link_trees (link span ty (LinkStep.Move false) (view_expr index) ∷ [])))) }
+    ensures { IfOk result (λ x. view_expr x ≡ typed s (Some ty) (chain (view_expr pointer) (link_trees (link span ty (LinkStep.Move false) (view_expr index) ∷ [])))) }
 {
-    let first = pointer_value(at, ty, Form::decay(array));
     let mut links = Vec::new(alloc);
     links.push(TypedLink {
         span,
@@ -290,7 +288,7 @@ fn moved_array(
         step: LinkStep::Move { back: false },
         operand: index,
     })?;
-    Ok(pointer_value(s, ty, Form::chain(alloc, first, links)?))
+    Ok(pointer_value(s, ty, Form::chain(alloc, pointer, links)?))
 }
 
 /// Whether it is `--`, and whether it stands behind its operand.
@@ -307,12 +305,12 @@ pub(crate) fn stepped(
     structs: &Structs,
     s: Span,
     how: Stepping,
-    at: Span,
-    operand: Operand,
+    operand: Placed,
     faults: &mut Vec<TypeFault>,
 ) -> Result<Operand, AllocError>
-    ensures { Makes result faults.old.items faults.new.items (is.stepped structs.now s how.back how.postfix at (known operand)) }
+    ensures { GivesMade result faults.old.items faults.new.items (is.stepped structs.now s how.back how.postfix operand.span (known operand.operand)) }
 {
+    let Placed { span: at, operand } = operand;
     let target = target_fault(structs, &operand);
     note_optional(faults, target, at)?;
     match step_rule(operand.ty) {
@@ -338,12 +336,12 @@ pub(crate) fn cast_to(
     pointer: bool,
     base: Type,
     s: Span,
-    at: Span,
-    operand: Operand,
+    operand: Placed,
     faults: &mut Vec<TypeFault>,
 ) -> Result<Operand, AllocError>
-    ensures { Makes result faults.old.items faults.new.items (is.cast_to pointer base s at (known operand)) }
+    ensures { GivesMade result faults.old.items faults.new.items (is.cast_to pointer base s operand.span (known operand.operand)) }
 {
+    let Placed { span: at, operand } = operand;
     match cast_rule(cast_target(pointer, base), operand.value()) {
         CastRule::Unknown => Ok(operand.forgotten()),
         CastRule::Wrong => refuse(operand, faults, FaultKind::WrongType, at),

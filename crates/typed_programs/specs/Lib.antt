@@ -8,3 +8,4 @@ pub mod Globals
 pub mod ProgressOf
 pub mod Programs
 pub mod Answers
+pub mod Gives

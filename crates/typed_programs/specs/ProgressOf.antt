@@ -9,10 +9,10 @@ use Rattle.typed_programs.specs.Progress.{Progress}
 abbrev pub progress_of : code.Progress → Progress
 progress_of p = record {
   env = env_of p.names;
-  structs = p.structs;
+  structs = p.walk.findings.structs;
   functions = map view_function p.functions.items;
   globals = p.globals.items;
   cells = p.cells;
-  exprs = map view_expr p.exprs.items;
+  exprs = map view_expr p.walk.exprs.items;
   has_main = p.has_main;
 }

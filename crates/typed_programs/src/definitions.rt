@@ -1,10 +1,15 @@
 // Function definitions (C99 6.9.1), and whole items that are functions.
-ghost use Rattle.std.specs.Prelude.{◌≡◌, ◌++◌, map, option_map, IfOk, OnOk};
+ghost use Rattle.std.specs.Prelude.{◌≡◌, ◌||◌, length, map, option_map};
+ghost use Rattle.pt_base.specs.Gives.{GivesWith};
 ghost use Rattle.pt_tree.specs.ProgramTree as parsed;
-ghost use Rattle.pt_tree.specs.StatementTree.{view_block};
+ghost use Rattle.pt_tree.specs.StatementTree.{view_block, view_stmt};
 ghost use Rattle.typed_tree.specs.StatementTree.{view_body};
 ghost use Rattle.typed_tree.specs.TypedTree.{view_function};
+ghost use Rattle.typed_expressions.specs.EnvOf.{env_of};
+ghost use Rattle.typed_statements.specs.Gives.{progress_of as walk_of};
+ghost use Rattle.typed_programs.specs.Blocks.{block_in};
 ghost use Rattle.typed_programs.specs.Functions as is;
+ghost use Rattle.typed_programs.specs.Gives.{GivesBlock, GivesChecked, Reaches};
 ghost use Rattle.typed_programs.specs.ProgressOf.{progress_of};
 
 use crate::entries::vars_of;
@@ -13,13 +18,13 @@ use crate::functions::{
     are_too_large, declare, is_definition, is_redeclared, is_start, judge_head,
 };
 use crate::progress::Progress;
-use crate::statements::check_block;
-use declared_types::{FaultKind, TypeFault, note_if};
+use declared_types::{FaultKind, note_if};
 use pt_base::{Listed, Span};
-use pt_tree::{Block, Function};
+use pt_tree::{Block, Function, Stmt};
 use std::alloc::{AllocError, Global};
 use type_rules::Type;
-use typed_expressions::Callable;
+use typed_expressions::{Callable, Names};
+use typed_statements::Walk;
 use typed_tree::{TypedBody, TypedFn, Var};
 
 /// Gives a function the place of its name in its definition, its variables and its body.
@@ -41,6 +46,21 @@ fn set_body(functions: &mut [TypedFn], number: usize, at: Span, vars: Vec<Var>, 
     }
 }
 
+/// Judges the outermost block of a function with this result type, whose parameters' scope is open.
+#[tactic(auto, unfolding(crate::specs::Blocks::block_in))]
+fn check_block(
+    alloc: Global,
+    names: &mut Names,
+    walk: &mut Walk,
+    ty: Type,
+    items: &[Stmt],
+) -> Result<Vec<TypedBody>, AllocError>
+    ensures { GivesBlock result (walk_of names.old walk.old) (walk_of names.new walk.new) (block_in ty (env_of names.old) walk.old.findings.structs (length walk.old.exprs.items) (map view_stmt items.now)) }
+{
+    let bodies = typed_statements::check_block(alloc, names, walk, ty, items)?;
+    Ok(bodies)
+}
+
 /// Judges the body of the function of this number, whose name stands at `at`.
 fn define(
     alloc: Global,
@@ -49,21 +69,14 @@ fn define(
     ty: Type,
     at: Span,
     body: &Block,
-    faults: &mut Vec<TypeFault>,
 ) -> Result<(), AllocError>
-    ensures progress { OnOk result (progress_of progress.new ≡ (is.defined (progress_of progress.old) number ty at (view_block body.now)).progress) }
-    ensures faults { OnOk result (faults.new.items ≡ faults.old.items ++ (is.defined (progress_of progress.old) number ty at (view_block body.now)).faults) }
+    ensures { GivesChecked result progress.old progress.new (is.defined (progress_of progress.old) number ty at (view_block body.now)) }
 {
-    let statements = check_block(
-        alloc,
-        &mut progress.names,
-        &mut progress.structs,
-        &mut progress.exprs,
-        faults,
-        ty,
-        &body.items,
-    )?;
-    let too_large = are_too_large(&progress.structs, &progress.names.variables);
+    let names = &mut progress.names;
+    let walk = &mut progress.walk;
+    let statements = check_block(alloc, names, walk, ty, &body.items)?;
+    let too_large = are_too_large(&walk.findings.structs, &names.variables);
+    let faults = &mut walk.findings.faults;
     note_if(faults, too_large, FaultKind::TooLarge, at)?;
     let vars = vars_of(alloc, &progress.names.variables)?;
     let _ = progress.names.take_variables(alloc);
@@ -80,27 +93,23 @@ fn complete(
     ty: Type,
     at: Span,
     body: &Option<Block>,
-    faults: &mut Vec<TypeFault>,
 ) -> Result<(), AllocError>
-    ensures progress { OnOk result (progress_of progress.new ≡ (is.with_definition (progress_of progress.old) number ty at (option_map view_block body.now)).progress) }
-    ensures faults { OnOk result (faults.new.items ≡ faults.old.items ++ (is.with_definition (progress_of progress.old) number ty at (option_map view_block body.now)).faults) }
+    ensures { GivesChecked result progress.old progress.new (is.with_definition (progress_of progress.old) number ty at (option_map view_block body.now)) }
 {
     match body {
         None => {
             let _ = progress.names.take_variables(alloc);
             Ok(())
         }
-        Some(block) => define(alloc, progress, number, ty, at, block, faults),
+        Some(block) => define(alloc, progress, number, ty, at, block),
     }
 }
 
-/// Keeps in mind that a program can begin with this function, if it can.
-fn note_start(progress: &mut Progress, callable: &Callable, defines: bool)
-    ensures { progress_of progress.new ≡ is.with_start (progress_of progress.old) callable.now defines }
+/// Whether a program can begin with this function, or could before it.
+fn has_start(has_main: bool, callable: &Callable, defines: bool) -> bool
+    ensures { result ≡ (is.is_start callable.now defines || has_main) }
 {
-    if is_start(callable, defines) {
-        progress.has_main = true;
-    }
+    is_start(callable, defines) || has_main
 }
 
 /// Judges a function's declarator, opens the scope of its parameters, and declares them there.
@@ -109,14 +118,12 @@ fn begin(
     marks: &FunctionMarks,
     progress: &mut Progress,
     function: &Function,
-    faults: &mut Vec<TypeFault>,
 ) -> Result<Callable, AllocError>
-    ensures callable { IfOk result (λ c. c ≡ (is.head_of marks.now (progress_of progress.old).env progress.old.structs (parsed.view_function function.now)).callable) }
-    ensures progress { OnOk result (progress_of progress.new ≡ is.with_head (progress_of progress.old) (is.head_of marks.now (progress_of progress.old).env progress.old.structs (parsed.view_function function.now))) }
-    ensures faults { OnOk result (faults.new.items ≡ faults.old.items ++ (is.head_of marks.now (progress_of progress.old).env progress.old.structs (parsed.view_function function.now)).faults) }
+    ensures { let before = progress_of progress.old in let h = is.head_of marks.now before.env before.structs (parsed.view_function function.now) in GivesWith (λ c. c) result h.callable (Reaches progress.old progress.new (is.with_head before h) h.faults) }
 {
-    let names = &mut progress.names;
-    judge_head(alloc, marks, names, &mut progress.structs, function, faults)
+    let findings = &mut progress.walk.findings;
+    let callable = judge_head(alloc, marks, &mut progress.names, findings, function)?;
+    Ok(callable)
 }
 
 /// Judges a function behind its declarator.
@@ -127,17 +134,17 @@ fn end(
     progress: &mut Progress,
     callable: Callable,
     function: &Function,
-    faults: &mut Vec<TypeFault>,
 ) -> Result<(), AllocError>
-    ensures progress { OnOk result (progress_of progress.new ≡ (is.completed marks.now (progress_of progress.old) callable (parsed.view_function function.now)).progress) }
-    ensures faults { OnOk result (faults.new.items ≡ faults.old.items ++ (is.completed marks.now (progress_of progress.old) callable (parsed.view_function function.now)).faults) }
+    ensures { GivesChecked result progress.old progress.new (is.completed marks.now (progress_of progress.old) callable (parsed.view_function function.now)) }
 {
     let at = function.declarator.name.span;
     let redeclared = is_redeclared(progress, &callable, is_definition(function));
+    let faults = &mut progress.walk.findings.faults;
     note_if(faults, redeclared, FaultKind::Redeclared, at)?;
     let ty = callable.result;
     let number = declare(alloc, marks, progress, callable, at)?;
-    complete(alloc, progress, number, ty, at, &function.body, faults)
+    complete(alloc, progress, number, ty, at, &function.body)?;
+    Ok(())
 }
 
 /// Judges the declaration or definition of a function, by what all its declarations say of it.
@@ -146,12 +153,12 @@ pub(crate) fn check_function(
     marks: &FunctionMarks,
     progress: &mut Progress,
     function: &Function,
-    faults: &mut Vec<TypeFault>,
 ) -> Result<(), AllocError>
-    ensures progress { OnOk result (progress_of progress.new ≡ (is.checked_function marks.now (progress_of progress.old) (parsed.view_function function.now)).progress) }
-    ensures faults { OnOk result (faults.new.items ≡ faults.old.items ++ (is.checked_function marks.now (progress_of progress.old) (parsed.view_function function.now)).faults) }
+    ensures { GivesChecked result progress.old progress.new (is.checked_function marks.now (progress_of progress.old) (parsed.view_function function.now)) }
 {
-    let callable = begin(alloc, marks, progress, function, faults)?;
-    note_start(progress, &callable, is_definition(function));
-    end(alloc, marks, progress, callable, function, faults)
+    let callable = begin(alloc, marks, progress, function)?;
+    let defines = is_definition(function);
+    progress.has_main = has_start(progress.has_main, &callable, defines);
+    end(alloc, marks, progress, callable, function)?;
+    Ok(())
 }

@@ -1,10 +1,11 @@
 // Functions: declarations and definitions (C99 6.7.5.3, 6.9.1).
-ghost use Rattle.std.specs.Prelude.{◌≡◌, ◌++◌, map, is_some, IfOk, OnOk};
+ghost use Rattle.std.specs.Prelude.{◌≡◌, map, is_some, IfOk, OnOk};
 ghost use Rattle.pt_tree.specs.ProgramTree.{view_function};
 ghost use Rattle.typed_tree.specs.TypedTree as typed;
 ghost use Rattle.typed_expressions.specs.Environment.{find_in};
 ghost use Rattle.typed_expressions.specs.EnvOf.{env_of};
 ghost use Rattle.typed_programs.specs.Functions as is;
+ghost use Rattle.typed_programs.specs.Gives.{GivesDeclared, GivesHead, GivesJudged};
 ghost use Rattle.typed_programs.specs.ProgressOf.{progress_of};
 
 use crate::agreement::differ;
@@ -13,7 +14,7 @@ use crate::function_marks::FunctionMarks;
 use crate::parameters::{declare_params, parameters_of};
 use crate::progress::Progress;
 use declared_types::{
-    Carrier, NameTable, Structs, TypeFault, cells_of, judge_specifiers, note_attributes,
+    Carrier, Findings, NameTable, Structs, cells_of, judge_specifiers, note_attributes,
     note_result, result_type,
 };
 use pt_base::{Bytes, FnId, IntType, Listed, Span};
@@ -36,47 +37,40 @@ pub(crate) fn is_definition(function: &Function) -> bool
     }
 }
 
-/// Judges what stands before a function's name, and adds the faults; gives the type of its result.
+/// Judges what stands before a function's name; gives the type of its result.
 fn judge_result(
     alloc: Global,
     privileged: bool,
-    structs: &mut Structs,
+    findings: &mut Findings,
     function: &Function,
-    faults: &mut Vec<TypeFault>,
 ) -> Result<Type, AllocError>
-    ensures result { IfOk result (λ t. t ≡ (is.result_of privileged structs.old (view_function function.now)).ty) }
-    ensures structs { OnOk result (structs.new ≡ (is.result_of privileged structs.old (view_function function.now)).structs) }
-    ensures faults { OnOk result (faults.new.items ≡ faults.old.items ++ (is.result_of privileged structs.old (view_function function.now)).faults) }
+    ensures { GivesJudged result findings.old findings.new (is.result_of privileged findings.old.structs (view_function function.now)) }
 {
     let declarator = &function.declarator;
-    let at = declarator.name.span;
-    let given = judge_specifiers(alloc, structs, true, &function.specs, faults)?;
-    note_result(faults, &given, declarator.pointer, declarator.suffix, at)?;
-    note_attributes(
-        faults,
-        Carrier::Function { privileged },
-        given.attributes.as_slice(),
-    )?;
-    Ok(result_type(&given, declarator.pointer, declarator.suffix))
+    let (pointer, suffix) = (declarator.pointer, declarator.suffix);
+    let given = judge_specifiers(alloc, findings, true, &function.specs)?;
+    let faults = &mut findings.faults;
+    note_result(faults, &given, pointer, suffix, declarator.name.span)?;
+    let carrier = Carrier::Function { privileged };
+    note_attributes(faults, carrier, given.attributes.as_slice())?;
+    Ok(result_type(&given, pointer, suffix))
 }
 
-/// Opens the scope of a function's parameters, declares them there, and adds their faults.
+/// Opens the scope of a function's parameters, and declares them there.
 fn judge_params(
     alloc: Global,
     marks: &FunctionMarks,
     names: &mut Names,
-    structs: &mut Structs,
+    findings: &mut Findings,
     function: &Function,
-    faults: &mut Vec<TypeFault>,
 ) -> Result<(), AllocError>
-    ensures env { OnOk result (env_of names.new ≡ (is.params_of_function marks.now (env_of names.old) structs.old (view_function function.now)).env) }
-    ensures structs { OnOk result (structs.new ≡ (is.params_of_function marks.now (env_of names.old) structs.old (view_function function.now)).structs) }
-    ensures faults { OnOk result (faults.new.items ≡ faults.old.items ++ (is.params_of_function marks.now (env_of names.old) structs.old (view_function function.now)).faults) }
+    ensures { GivesDeclared result names.new findings.old findings.new (is.params_of_function marks.now (env_of names.old) findings.old.structs (view_function function.now)) }
 {
     let defines = is_definition(function);
     let params = parameters_of(&function.params);
     names.open_scope(alloc)?;
-    declare_params(alloc, marks, defines, names, structs, params, faults)
+    declare_params(alloc, marks, defines, names, findings, params)?;
+    Ok(())
 }
 
 /// What a function of this name and result is called with, whose parameters are the variables.
@@ -96,30 +90,23 @@ fn callable(
     })
 }
 
-/// Judges a function's declarator, opens the scope of its parameters, and declares them there. Adds
-/// the faults, and gives what the function is called with.
+/// Judges a function's declarator, opens the scope of its parameters, and declares them there. Gives
+/// what the function is called with.
 #[tactic(auto, unfolding(crate::specs::Functions::head_of))]
 pub(crate) fn judge_head(
     alloc: Global,
     marks: &FunctionMarks,
     names: &mut Names,
-    structs: &mut Structs,
+    findings: &mut Findings,
     function: &Function,
-    faults: &mut Vec<TypeFault>,
 ) -> Result<Callable, AllocError>
-    ensures callable { IfOk result (λ c. c ≡ (is.head_of marks.now (env_of names.old) structs.old (view_function function.now)).callable) }
-    ensures env { OnOk result (env_of names.new ≡ (is.head_of marks.now (env_of names.old) structs.old (view_function function.now)).env) }
-    ensures structs { OnOk result (structs.new ≡ (is.head_of marks.now (env_of names.old) structs.old (view_function function.now)).structs) }
-    ensures faults { OnOk result (faults.new.items ≡ faults.old.items ++ (is.head_of marks.now (env_of names.old) structs.old (view_function function.now)).faults) }
+    ensures { GivesHead result names.new findings.old findings.new (is.head_of marks.now (env_of names.old) findings.old.structs (view_function function.now)) }
 {
-    let result_ty = judge_result(alloc, marks.privileged, structs, function, faults)?;
-    judge_params(alloc, marks, names, structs, function, faults)?;
-    callable(
-        alloc,
-        names,
-        function.declarator.name.bytes.as_slice(),
-        result_ty,
-    )
+    let result_ty = judge_result(alloc, marks.privileged, findings, function)?;
+    judge_params(alloc, marks, names, findings, function)?;
+    let name = function.declarator.name.bytes.as_slice();
+    let callable = callable(alloc, names, name, result_ty)?;
+    Ok(callable)
 }
 
 /// What the file says that a name means.
@@ -194,6 +181,7 @@ pub(crate) fn declare(
 ) -> Result<usize, AllocError>
     ensures number { IfOk result (λ k. k ≡ is.number_in (progress_of progress.old) (is.earlier (progress_of progress.old) function)) }
     ensures progress { OnOk result (progress_of progress.new ≡ is.declared marks.now (progress_of progress.old) function at) }
+    ensures walk { OnOk result (progress.new.walk ≡ progress.old.walk) }
 {
     if let Some(k) = earlier(progress, &function) {
         return Ok(k.0 as usize);

@@ -2,12 +2,12 @@
 ghost use Rattle.std.specs.Prelude.{◌≡◌, ◌++◌, map, IfOk, OnOk};
 ghost use Rattle.pt_tree.specs.StatementTree.{view_init_declarator, view_declaration};
 ghost use Rattle.typed_statements.specs.Declarations.{carrier_of};
+ghost use Rattle.typed_programs.specs.Gives.{GivesChecked};
 ghost use Rattle.typed_programs.specs.Globals as is;
 ghost use Rattle.typed_programs.specs.ProgressOf.{progress_of};
 
 use crate::entries::object_type_of;
 use crate::progress::Progress;
-use crate::statements::global_values;
 use declared_types::{
     Carrier, FaultKind, ObjectKind, Specified, Structs, TypeFault, cells_of, is_fixed,
     judge_specifiers, marks_among, note_attributes, note_if, note_object, note_size, object_type,
@@ -17,6 +17,7 @@ use pt_tree::{Declaration, Declarator, InitDeclarator};
 use std::alloc::{AllocError, Global};
 use type_rules::Type;
 use typed_expressions::Object;
+use typed_statements::global_values;
 use typed_tree::{TypedGlobal, Var};
 
 /// The most cells that all globals may have together.
@@ -148,44 +149,30 @@ fn note_global(
     note_if(faults, over, FaultKind::TooLarge, at)
 }
 
-/// Declares a global, and adds its faults.
+/// Declares a global.
 fn declare_global(
     alloc: Global,
     progress: &mut Progress,
     given: &Specified,
     global: &InitDeclarator,
-    faults: &mut Vec<TypeFault>,
 ) -> Result<(), AllocError>
-    ensures progress { OnOk result (progress_of progress.new ≡ (is.declared_one given.now (progress_of progress.old) (view_init_declarator global.now)).progress) }
-    ensures faults { OnOk result (faults.new.items ≡ faults.old.items ++ (is.declared_one given.now (progress_of progress.old) (view_init_declarator global.now)).faults) }
+    ensures { GivesChecked result progress.old progress.new (is.declared_one given.now (progress_of progress.old) (view_init_declarator global.now)) }
 {
     let declarator = &global.declarator;
     let object = object_of(given, declarator);
-    let count = cells_of(&progress.structs, object.ty);
+    let findings = &mut progress.walk.findings;
+    let count = cells_of(&findings.structs, object.ty);
     let total = progress.cells;
     let name = declarator.name.bytes.as_slice();
     let is_new = progress.names.add_global(alloc, name, object)?;
-    note_global(
-        faults,
-        &progress.structs,
-        given,
-        declarator,
-        !is_new,
-        brings_over(total, count),
-    )?;
-    let structs = &mut progress.structs;
-    let values = global_values(
-        alloc,
-        &progress.names,
-        structs,
-        faults,
-        object.ty,
-        &global.init,
-    )?;
+    let over = brings_over(total, count);
+    let faults = &mut findings.faults;
+    note_global(faults, &findings.structs, given, declarator, !is_new, over)?;
+    let names = &progress.names;
+    let values = global_values(alloc, names, findings, object.ty, &global.init)?;
     let cells = start_cells(alloc, total, count, values)?;
-    progress
-        .globals
-        .push(typed_global(alloc, given, declarator, cells)?)?;
+    let global = typed_global(alloc, given, declarator, cells)?;
+    progress.globals.push(global)?;
     progress.cells = cells_with(total, count);
     Ok(())
 }
@@ -195,13 +182,11 @@ fn declare_globals(
     progress: &mut Progress,
     given: &Specified,
     globals: &[InitDeclarator],
-    faults: &mut Vec<TypeFault>,
 ) -> Result<(), AllocError>
-    ensures progress { OnOk result (progress_of progress.new ≡ (is.declared_all given.now (progress_of progress.old) (map view_init_declarator globals.now)).progress) }
-    ensures faults { OnOk result (faults.new.items ≡ faults.old.items ++ (is.declared_all given.now (progress_of progress.old) (map view_init_declarator globals.now)).faults) }
+    ensures { GivesChecked result progress.old progress.new (is.declared_all given.now (progress_of progress.old) (map view_init_declarator globals.now)) }
 {
     for global in globals {
-        declare_global(alloc, progress, given, global, faults)?;
+        declare_global(alloc, progress, given, global)?;
     }
     Ok(())
 }
@@ -221,14 +206,14 @@ pub(crate) fn check_declaration(
     alloc: Global,
     progress: &mut Progress,
     declaration: &Declaration,
-    faults: &mut Vec<TypeFault>,
 ) -> Result<(), AllocError>
-    ensures progress { OnOk result (progress_of progress.new ≡ (is.checked_declaration (progress_of progress.old) (view_declaration declaration.now)).progress) }
-    ensures faults { OnOk result (faults.new.items ≡ faults.old.items ++ (is.checked_declaration (progress_of progress.old) (view_declaration declaration.now)).faults) }
+    ensures { GivesChecked result progress.old progress.new (is.checked_declaration (progress_of progress.old) (view_declaration declaration.now)) }
 {
     let globals = declaration.declarators.as_slice();
-    let structs = &mut progress.structs;
-    let given = judge_specifiers(alloc, structs, true, &declaration.specs, faults)?;
-    note_attributes(faults, carrier(globals), given.attributes.as_slice())?;
-    declare_globals(alloc, progress, &given, globals, faults)
+    let findings = &mut progress.walk.findings;
+    let given = judge_specifiers(alloc, findings, true, &declaration.specs)?;
+    let attributes = given.attributes.as_slice();
+    note_attributes(&mut findings.faults, carrier(globals), attributes)?;
+    declare_globals(alloc, progress, &given, globals)?;
+    Ok(())
 }

@@ -12,7 +12,6 @@ mod mark_table;
 mod parameters;
 mod programs;
 mod progress;
-mod statements;
 mod structs;
 
 pub use answer::{Elaborated, TypeError};

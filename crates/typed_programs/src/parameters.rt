@@ -3,11 +3,12 @@ ghost use Rattle.std.specs.Prelude.{◌≡◌, ◌++◌, map, length, is_some, I
 ghost use Rattle.pt_tree.specs.SpecifierTree.{view_spec, view_specs};
 ghost use Rattle.pt_tree.specs.ProgramTree.{view_param};
 ghost use Rattle.typed_expressions.specs.EnvOf.{env_of};
+ghost use Rattle.typed_programs.specs.Gives.{GivesDeclared};
 ghost use Rattle.typed_programs.specs.Parameters as is;
 
 use crate::function_marks::{FunctionMarks, marks_at};
 use declared_types::{
-    Carrier, FaultKind, ObjectKind, Specified, Structs, TypeFault, is_fixed, is_mutable_pointer,
+    Carrier, FaultKind, Findings, ObjectKind, Specified, TypeFault, is_fixed, is_mutable_pointer,
     judge_specifiers, note_attributes, note_if, note_object, object_type,
 };
 use pt_base::{Bytes, Span};
@@ -221,44 +222,40 @@ fn add_variable(
     Ok(!is_new)
 }
 
-/// Declares a parameter of a function in the scope that is open, and adds its faults.
+/// Declares a parameter of a function in the scope that is open.
 fn declare_param(
     alloc: Global,
     marks: &FunctionMarks,
     defines: bool,
     names: &mut Names,
-    structs: &mut Structs,
+    findings: &mut Findings,
     param: &ParamDecl,
-    faults: &mut Vec<TypeFault>,
 ) -> Result<(), AllocError>
-    ensures env { OnOk result (env_of names.new ≡ (is.declared_one marks.now defines (env_of names.old) structs.old (view_param param.now)).env) }
-    ensures structs { OnOk result (structs.new ≡ (is.declared_one marks.now defines (env_of names.old) structs.old (view_param param.now)).structs) }
-    ensures faults { OnOk result (faults.new.items ≡ faults.old.items ++ (is.declared_one marks.now defines (env_of names.old) structs.old (view_param param.now)).faults) }
+    ensures { GivesDeclared result names.new findings.old findings.new (is.declared_one marks.now defines (env_of names.old) findings.old.structs (view_param param.now)) }
 {
     let number = names.variables.len();
-    let given = judge_specifiers(alloc, structs, false, &param.specs, faults)?;
+    let given = judge_specifiers(alloc, findings, false, &param.specs)?;
     let variable = param_variable(alloc, marks, defines, number, param, &given)?;
     let repeated = add_variable(alloc, names, param.name.is_some(), variable)?;
-    note_param(faults, marks, defines, number, param, &given, repeated)
+    let faults = &mut findings.faults;
+    note_param(faults, marks, defines, number, param, &given, repeated)?;
+    Ok(())
 }
 
-/// Declares the parameters of a function in the scope that is open, and adds their faults.
-/// `defines` says that the declaration is a definition. They are the first variables.
+/// Declares the parameters of a function in the scope that is open. `defines` says that the
+/// declaration is a definition. They are the first variables.
 pub(crate) fn declare_params(
     alloc: Global,
     marks: &FunctionMarks,
     defines: bool,
     names: &mut Names,
-    structs: &mut Structs,
+    findings: &mut Findings,
     params: &[ParamDecl],
-    faults: &mut Vec<TypeFault>,
 ) -> Result<(), AllocError>
-    ensures env { OnOk result (env_of names.new ≡ (is.declared_all marks.now defines (env_of names.old) structs.old (map view_param params.now)).env) }
-    ensures structs { OnOk result (structs.new ≡ (is.declared_all marks.now defines (env_of names.old) structs.old (map view_param params.now)).structs) }
-    ensures faults { OnOk result (faults.new.items ≡ faults.old.items ++ (is.declared_all marks.now defines (env_of names.old) structs.old (map view_param params.now)).faults) }
+    ensures { GivesDeclared result names.new findings.old findings.new (is.declared_all marks.now defines (env_of names.old) findings.old.structs (map view_param params.now)) }
 {
     for param in params {
-        declare_param(alloc, marks, defines, names, structs, param, faults)?;
+        declare_param(alloc, marks, defines, names, findings, param)?;
     }
     Ok(())
 }

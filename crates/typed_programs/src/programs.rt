@@ -1,7 +1,8 @@
 // Whole programs (C99 6.9).
-ghost use Rattle.std.specs.Prelude.{◌≡◌, ◌++◌, map, IfOk, OnOk};
+ghost use Rattle.std.specs.Prelude.{◌≡◌, ◌++◌, [], map, IfOk, OnOk};
 ghost use Rattle.pt_tree.specs.ProgramTree.{view_item};
 ghost use Rattle.typed_programs.specs.Answers.{AnswersWith, IsAnswer, view_elaborated};
+ghost use Rattle.typed_programs.specs.Gives.{GivesChecked};
 ghost use Rattle.typed_programs.specs.MarkTables.{marks_in};
 ghost use Rattle.typed_programs.specs.Progress as start;
 ghost use Rattle.typed_programs.specs.Programs as is;
@@ -14,11 +15,12 @@ use crate::globals::check_declaration;
 use crate::mark_table::{MarkTable, mark_table, undeclared};
 use crate::progress::Progress;
 use crate::structs::struct_infos;
-use declared_types::{FaultKind, NameTable, TypeFault, arrange, note_if};
+use declared_types::{FaultKind, Findings, TypeFault, arrange, note_if};
 use pt_base::{Listed, Span};
 use pt_tree::{Item, Program};
 use std::alloc::{AllocError, Global};
 use typed_expressions::Names;
+use typed_statements::Walk;
 
 /// Adds the fault of a program that can't begin.
 fn note_main(faults: &mut Vec<TypeFault>, has_main: bool) -> Result<(), AllocError>
@@ -34,14 +36,12 @@ fn check_item(
     marks: &FunctionMarks,
     progress: &mut Progress,
     item: &Item,
-    faults: &mut Vec<TypeFault>,
 ) -> Result<(), AllocError>
-    ensures progress { OnOk result (progress_of progress.new ≡ (is.checked_item marks.now (progress_of progress.old) (view_item item.now)).progress) }
-    ensures faults { OnOk result (faults.new.items ≡ faults.old.items ++ (is.checked_item marks.now (progress_of progress.old) (view_item item.now)).faults) }
+    ensures { GivesChecked result progress.old progress.new (is.checked_item marks.now (progress_of progress.old) (view_item item.now)) }
 {
     match item {
-        Item::Declare(declaration) => check_declaration(alloc, progress, declaration, faults),
-        Item::Function(function) => check_function(alloc, marks, progress, function, faults),
+        Item::Declare(declaration) => check_declaration(alloc, progress, declaration),
+        Item::Function(function) => check_function(alloc, marks, progress, function),
     }
 }
 
@@ -61,14 +61,12 @@ fn check_known(
     table: &MarkTable,
     progress: &mut Progress,
     item: &Item,
-    faults: &mut Vec<TypeFault>,
 ) -> Result<(), AllocError>
-    ensures progress { OnOk result (progress_of progress.new ≡ (is.checked_item (marks_in table.now.entries (is.function_name (view_item item.now))) (progress_of progress.old) (view_item item.now)).progress) }
-    ensures faults { OnOk result (faults.new.items ≡ faults.old.items ++ (is.checked_item (marks_in table.now.entries (is.function_name (view_item item.now))) (progress_of progress.old) (view_item item.now)).faults) }
+    ensures { GivesChecked result progress.old progress.new (is.checked_item (marks_in table.now.entries (is.function_name (view_item item.now))) (progress_of progress.old) (view_item item.now)) }
 {
     match table.get(function_name(item)) {
-        Some(marks) => check_item(alloc, marks, progress, item, faults),
-        None => check_item(alloc, &undeclared(alloc), progress, item, faults),
+        Some(marks) => check_item(alloc, marks, progress, item),
+        None => check_item(alloc, &undeclared(alloc), progress, item),
     }
 }
 
@@ -78,59 +76,57 @@ fn check_items(
     table: &MarkTable,
     progress: &mut Progress,
     items: &[Item],
-    faults: &mut Vec<TypeFault>,
 ) -> Result<(), AllocError>
-    ensures progress { OnOk result (progress_of progress.new ≡ (is.checked_items (marks_in table.now.entries) (progress_of progress.old) (map view_item items.now)).progress) }
-    ensures faults { OnOk result (faults.new.items ≡ faults.old.items ++ (is.checked_items (marks_in table.now.entries) (progress_of progress.old) (map view_item items.now)).faults) }
+    ensures { GivesChecked result progress.old progress.new (is.checked_items (marks_in table.now.entries) (progress_of progress.old) (map view_item items.now)) }
 {
     for item in items {
-        check_known(alloc, table, progress, item, faults)?;
+        check_known(alloc, table, progress, item)?;
     }
     Ok(())
 }
 
 /// Before the first item.
 fn begin(alloc: Global) -> Progress
-    ensures { progress_of result ≡ start.at_start }
+    ensures progress { progress_of result ≡ start.at_start }
+    ensures faults { result.walk.findings.faults.items ≡ [] }
 {
     Progress {
         names: Names::new(alloc),
-        structs: NameTable::new(alloc),
+        walk: Walk {
+            findings: Findings::none(alloc),
+            exprs: Vec::new(alloc),
+        },
         functions: Vec::new(alloc),
         globals: Vec::new(alloc),
         cells: 0,
-        exprs: Vec::new(alloc),
         has_main: false,
     }
 }
 
-/// Judges the items of a program, and adds the faults.
-fn check_program(
-    alloc: Global,
-    items: &[Item],
-    faults: &mut Vec<TypeFault>,
-) -> Result<Progress, AllocError>
+/// Judges the items of a program.
+fn check_program(alloc: Global, items: &[Item]) -> Result<Progress, AllocError>
     ensures tree { IfOk result (λ p. is.tree_of (progress_of p) ≡ (is.checked_program (map view_item items.now)).tree) }
-    ensures faults { OnOk result (faults.new.items ≡ faults.old.items ++ (is.checked_program (map view_item items.now)).faults) }
+    ensures faults { IfOk result (λ p. p.walk.findings.faults.items ≡ (is.checked_program (map view_item items.now)).faults) }
 {
     let table = mark_table(alloc, items)?;
     let mut progress = begin(alloc);
-    check_items(alloc, &table, &mut progress, items, faults)?;
-    note_main(faults, progress.has_main)?;
+    check_items(alloc, &table, &mut progress, items)?;
+    note_main(&mut progress.walk.findings.faults, progress.has_main)?;
     Ok(progress)
 }
 
-/// The parts of the typed tree.
-fn elaborated(alloc: Global, progress: Progress) -> Result<Elaborated, AllocError>
-    ensures { IfOk result (λ e. view_elaborated e ≡ is.tree_of (progress_of progress)) }
+/// The parts of the typed tree, and the faults.
+fn parts(alloc: Global, progress: Progress) -> Result<(Elaborated, Vec<TypeFault>), AllocError>
+    ensures { IfOk result (λ p. (view_elaborated p.0 ≡ is.tree_of (progress_of progress)) × (p.1.items ≡ progress.walk.findings.faults.items)) }
 {
-    let structs = struct_infos(alloc, &progress.structs)?;
-    Ok(Elaborated {
+    let structs = struct_infos(alloc, &progress.walk.findings.structs)?;
+    let parts = Elaborated {
         structs: Listed::new(structs),
         globals: Listed::new(progress.globals),
         functions: progress.functions,
-        exprs: progress.exprs,
-    })
+        exprs: progress.walk.exprs,
+    };
+    Ok((parts, progress.walk.findings.faults))
 }
 
 /// The answer with these parts and these faults.
@@ -148,8 +144,7 @@ fn answer(parts: Elaborated, mut faults: Vec<TypeFault>) -> Result<Elaborated, T
 pub fn elaborate(alloc: Global, program: &Program) -> Result<Elaborated, TypeError>
     ensures { IsAnswer result (map view_item program.now.items.items) }
 {
-    let mut faults = Vec::new(alloc);
-    let progress = check_program(alloc, &program.items, &mut faults)?;
-    let parts = elaborated(alloc, progress)?;
+    let progress = check_program(alloc, &program.items)?;
+    let (parts, faults) = parts(alloc, progress)?;
     answer(parts, faults)
 }

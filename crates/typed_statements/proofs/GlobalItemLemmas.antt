@@ -2,8 +2,8 @@
 use Rattle.std.proofs.Common.{◌≡◌, ℕ, List, [], ◌∷◌, ◌++◌, ◌<◌, ◌+◌, Bool, ◌&&◌, Option, is_some, slice_get, length, refl, ap, subst, ◌∙◌, arith, Vec, Result, ℤ}
 use Rattle.std.specs.declared.alloc.AllocError.{AllocError}
 use Rattle.std.specs.declared.alloc.Global.{Global}
-use Rattle.declared_types.specs.declared.fault.TypeFault.{TypeFault}
-use Rattle.typed_statements.specs.Gives.{IsGlobal}
+use Rattle.declared_types.specs.declared.findings.Findings.{Findings}
+use Rattle.typed_statements.specs.Gives.{GivesGlobal}
 use Rattle.pt_tree.specs.ExpressionTree.{ExprTree, expr_trees}
 use Rattle.type_rules.specs.declared.types.Type.{«Type»}
 use Rattle.declared_types.specs.Structs.{Structs}
@@ -28,7 +28,7 @@ same_items (a ∷ es) env structs ls ls' c n h =
 pub global_items_alike : (es : List ExprTree) (env : Env) (structs : Structs) (w : ℕ) (ls ls' : List «Type») (c : Bool) → w ≡ length es → AreAlike w ls ls' → global_items env structs ls c 0 (expr_trees es) ≡ global_items env structs ls' c 0 (expr_trees es)
 global_items_alike es env structs w ls ls' c e h = same_items es env structs ls ls' c 0 (λ k lt. alike_at w k ls ls' h (omega (arith, e, lt)))
 
-pub globals_alike : (r : Result (Vec ℤ Global) AllocError) (after : Structs) (fs fs' : List TypeFault) (env : Env) (structs : Structs) (es : List ExprTree) (w : ℕ) (given ls ls' : List «Type») (c c' : Bool) → IsGlobal r after fs fs' (global_items env structs given c 0 (expr_trees es)) → given ≡ ls → c ≡ c' → w ≡ length es → AreAlike w ls ls' → IsGlobal r after fs fs' (global_items env structs ls' c' 0 (expr_trees es))
-globals_alike r after fs fs' env structs es w given ls ls' c c' h is same e alike =
-    subst (λ (all : GlobalInit). IsGlobal r after fs fs' all)
+pub globals_alike : (r : Result (Vec ℤ Global) AllocError) (before after : Findings) (env : Env) (structs : Structs) (es : List ExprTree) (w : ℕ) (given ls ls' : List «Type») (c c' : Bool) → GivesGlobal r before after (global_items env structs given c 0 (expr_trees es)) → given ≡ ls → c ≡ c' → w ≡ length es → AreAlike w ls ls' → GivesGlobal r before after (global_items env structs ls' c' 0 (expr_trees es))
+globals_alike r before after env structs es w given ls ls' c c' h is same e alike =
+    subst (λ (all : GlobalInit). GivesGlobal r before after all)
     (ap (λ l. global_items env structs l c 0 (expr_trees es)) is ∙ global_items_alike es env structs w ls ls' c e alike ∙ ap (λ b. global_items env structs ls' b 0 (expr_trees es)) same) h

@@ -6,7 +6,7 @@ use Rattle.std.proofs.Common.{subst, Vec, Result}
 use Rattle.std.specs.declared.alloc.AllocError.{AllocError}
 use Rattle.std.specs.declared.alloc.Global.{Global}
 use Rattle.typed_tree.specs.declared.ids.ExprId.{ExprId}
-use Rattle.typed_statements.specs.Gives.{Lists, Progress}
+use Rattle.typed_statements.specs.Gives.{GivesListing, Progress}
 use Rattle.typed_statements.specs.Outermost.{State}
 use Rattle.typed_statements.specs.Initialisers.{Listing, item, items}
 use Rattle.typed_statements.proofs.LeafLemmas.{AreAlike, alike_at}
@@ -28,7 +28,7 @@ same_items (a ∷ es) st ls ls' c n h =
 pub items_alike : (es : List ExprTree) (st : State) (w : ℕ) (ls ls' : List «Type») (c : Bool) → w ≡ length es → AreAlike w ls ls' → items st ls c 0 (expr_trees es) ≡ items st ls' c 0 (expr_trees es)
 items_alike es st w ls ls' c e h = same_items es st ls ls' c 0 (λ k lt. alike_at w k ls ls' h (omega (arith, e, lt)))
 
-pub lists_alike : (r : Result (Vec ExprId Global) AllocError) (before after : Progress) (st : State) (es : List ExprTree) (w : ℕ) (given ls ls' : List «Type») (c c' : Bool) → Lists r before after (items st given c 0 (expr_trees es)) → given ≡ ls → c ≡ c' → w ≡ length es → AreAlike w ls ls' → Lists r before after (items st ls' c' 0 (expr_trees es))
+pub lists_alike : (r : Result (Vec ExprId Global) AllocError) (before after : Progress) (st : State) (es : List ExprTree) (w : ℕ) (given ls ls' : List «Type») (c c' : Bool) → GivesListing r before after (items st given c 0 (expr_trees es)) → given ≡ ls → c ≡ c' → w ≡ length es → AreAlike w ls ls' → GivesListing r before after (items st ls' c' 0 (expr_trees es))
 lists_alike r before after st es w given ls ls' c c' h is same e alike =
-    subst (λ (all : Listing). Lists r before after all)
+    subst (λ (all : Listing). GivesListing r before after all)
     (ap (λ l. items st l c 0 (expr_trees es)) is ∙ items_alike es st w ls ls' c e alike ∙ ap (λ b. items st ls' b 0 (expr_trees es)) same) h

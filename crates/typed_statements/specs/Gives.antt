@@ -1,29 +1,33 @@
--- What the judging functions answer.
-use Rattle.std.specs.Prelude.{◌≡◌, ℤ, List, [], ◌∷◌, ◌++◌, length, map, Option, Result, Ok, Err, Vec}
+-- What the judging functions answer: a judgment's value, with the state behind it, and with its outermost
+-- expressions and its faults at the end.
+use Rattle.std.specs.Prelude.{◌≡◌, ℤ, List, [], ◌∷◌, ◌++◌, length, map, Option, Result, OnOk, Vec}
 use Rattle.std.specs.declared.alloc.AllocError.{AllocError}
 use Rattle.std.specs.declared.alloc.Global.{Global}
+use Rattle.pt_base.specs.Gives.{GivesWith}
 use Rattle.typed_tree.specs.declared.ids.ExprId.{ExprId}
-use Rattle.typed_tree.specs.declared.expression.TypedExpr.{TypedExpr}
 use Rattle.typed_tree.specs.declared.statement.TypedBody.{TypedBody}
 use Rattle.typed_tree.specs.declared.statement.TypedSection.{TypedSection}
 use Rattle.typed_tree.specs.declared.statement.TypedDeclaration.{TypedDeclaration}
 use Rattle.typed_tree.specs.declared.statement.TypedDeclarator.{TypedDeclarator}
 use Rattle.typed_tree.specs.declared.statement.TypedForInit.{TypedForInit}
 use Rattle.typed_tree.specs.declared.statement.TypedInit.{TypedInit}
+use Rattle.typed_tree.specs.declared.statement.TypedLabel.{TypedLabel}
 use Rattle.typed_tree.specs.ExpressionTree.{ExprTree, view_expr}
 use Rattle.typed_tree.specs.StatementTree.{view_body, view_section}
 use Rattle.declared_types.specs.declared.fault.TypeFault.{TypeFault}
-use Rattle.declared_types.specs.Structs.{Structs}
+use Rattle.declared_types.specs.declared.findings.Findings.{Findings}
+use Rattle.declared_types.specs.Gives as findings
 use Rattle.typed_expressions.specs.declared.names.Names.{Names}
 use Rattle.typed_expressions.specs.EnvOf.{env_of}
+use Rattle.typed_statements.specs.declared.switches.Controlling.{Controlling}
+use Rattle.typed_statements.specs.declared.switches.Kind.{Kind}
+use Rattle.typed_statements.specs.declared.walk.Walk.{Walk}
 use Rattle.typed_statements.specs.Outermost.{State, Placed, Maybe}
 use Rattle.typed_statements.specs.Initialisers.{Listing, Initialised}
 use Rattle.typed_statements.specs.Declarations.{Declared, DeclaredAll, Declaring}
-use Rattle.typed_statements.specs.declared.switches.Controlling.{Controlling}
 use Rattle.typed_statements.specs.GlobalInitialisers.{GlobalInit}
 use Rattle.typed_statements.specs.Labels.{Seen, Labelled}
 use Rattle.typed_statements.specs.Statements.{Begun, Chosen, Checked, CheckedAll, CheckedSection, CheckedSections}
-use Rattle.typed_tree.specs.declared.statement.TypedLabel.{TypedLabel}
 
 -- the state, the outermost expressions and the faults so far
 pub record Progress : Type 0 where
@@ -31,11 +35,11 @@ pub record Progress : Type 0 where
   pub trees : List ExprTree
   pub faults : List TypeFault
 
-abbrev pub state_of : Names → Structs → Vec TypedExpr Global → State
-state_of names structs exprs = record { env = env_of names; structs = structs; next = length exprs.items }
+abbrev pub state_of : Names → Walk → State
+state_of names walk = record { env = env_of names; structs = walk.findings.structs; next = length walk.exprs.items }
 
-abbrev pub progress_of : Names → Structs → Vec TypedExpr Global → Vec TypeFault Global → Progress
-progress_of names structs exprs faults = record { state = state_of names structs exprs; trees = map view_expr exprs.items; faults = faults.items }
+abbrev pub progress_of : Names → Walk → Progress
+progress_of names walk = record { state = state_of names walk; trees = map view_expr walk.exprs.items; faults = walk.findings.faults.items }
 
 -- this state was reached, and these expressions and faults were added
 pub record Reaches (before after : Progress) (state : State) (trees : List ExprTree) (faults : List TypeFault) : Type 0 where
@@ -43,86 +47,62 @@ pub record Reaches (before after : Progress) (state : State) (trees : List ExprT
   pub trees_are : after.trees ≡ before.trees ++ trees
   pub faults_are : after.faults ≡ before.faults ++ faults
 
-abbrev pub Places : Result ExprId AllocError → Progress → Progress → Placed → Type 0
-Places (Ok id) before after p = (id ≡ p.id) × Reaches before after p.state (p.tree ∷ []) p.faults
-Places (Err e) before after p = Unit {0}
+-- ---- outermost expressions
 
-abbrev pub PlacesMaybe : Result (Option ExprId) AllocError → Progress → Progress → Maybe → Type 0
-PlacesMaybe (Ok id) before after p = (id ≡ p.id) × Reaches before after p.state p.trees p.faults
-PlacesMaybe (Err e) before after p = Unit {0}
+abbrev pub GivesPlaced : Result ExprId AllocError → Progress → Progress → Placed → Type 0
+GivesPlaced r before after p = GivesWith (λ id. id) r p.id (Reaches before after p.state (p.tree ∷ []) p.faults)
 
-abbrev pub Lists : Result (Vec ExprId Global) AllocError → Progress → Progress → Listing → Type 0
-Lists (Ok ids) before after p = (ids.items ≡ p.ids) × Reaches before after p.state p.trees p.faults
-Lists (Err e) before after p = Unit {0}
+abbrev pub GivesMaybe : Result (Option ExprId) AllocError → Progress → Progress → Maybe → Type 0
+GivesMaybe r before after p = GivesWith (λ id. id) r p.id (Reaches before after p.state p.trees p.faults)
 
-abbrev pub Initialises : Result TypedInit AllocError → Progress → Progress → Initialised → Type 0
-Initialises (Ok init) before after p = (init ≡ p.init) × Reaches before after p.state p.trees p.faults
-Initialises (Err e) before after p = Unit {0}
+-- ---- initialisers and declarations
 
-abbrev pub Declares : Result TypedDeclarator AllocError → Progress → Progress → Declared → Type 0
-Declares (Ok d) before after p = (d ≡ p.declarator) × Reaches before after p.state p.trees p.faults
-Declares (Err e) before after p = Unit {0}
+abbrev pub GivesListing : Result (Vec ExprId Global) AllocError → Progress → Progress → Listing → Type 0
+GivesListing r before after p = GivesWith (λ ids. ids.items) r p.ids (Reaches before after p.state p.trees p.faults)
 
-abbrev pub DeclaresAll : Result (Vec TypedDeclarator Global) AllocError → Progress → Progress → DeclaredAll → Type 0
-DeclaresAll (Ok ds) before after p = (ds.items ≡ p.declarators) × Reaches before after p.state p.trees p.faults
-DeclaresAll (Err e) before after p = Unit {0}
+abbrev pub GivesInitialised : Result TypedInit AllocError → Progress → Progress → Initialised → Type 0
+GivesInitialised r before after p = GivesWith (λ init. init) r p.init (Reaches before after p.state p.trees p.faults)
 
-abbrev pub IsDeclaration : Result TypedDeclaration AllocError → Progress → Progress → Declaring → Type 0
-IsDeclaration (Ok d) before after p = (d ≡ p.declaration) × Reaches before after p.state p.trees p.faults
-IsDeclaration (Err e) before after p = Unit {0}
+abbrev pub GivesDeclared : Result TypedDeclarator AllocError → Progress → Progress → Declared → Type 0
+GivesDeclared r before after p = GivesWith (λ d. d) r p.declarator (Reaches before after p.state p.trees p.faults)
 
-abbrev pub Switches : Result Controlling AllocError → Progress → Progress → Chosen → Type 0
-Switches (Ok c) before after p = (c.id ≡ p.id) × (c.kind ≡ p.kind) × Reaches before after p.state (p.tree ∷ []) p.faults
-Switches (Err e) before after p = Unit {0}
+abbrev pub GivesDeclaredAll : Result (Vec TypedDeclarator Global) AllocError → Progress → Progress → DeclaredAll → Type 0
+GivesDeclaredAll r before after p = GivesWith (λ ds. ds.items) r p.declarators (Reaches before after p.state p.trees p.faults)
 
--- a label of a switch, with the structs and the labels behind it
-pub record IsLabel (label : TypedLabel) (structs : Structs) (seen : Seen) (before after : List TypeFault) (l : Labelled) : Type 0 where
-  pub label_is : label ≡ l.label
-  pub structs_are : structs ≡ l.structs
-  pub seen_are : seen ≡ l.seen
-  pub faults_are : after ≡ before ++ l.faults
-
-abbrev pub Labels : Result TypedLabel AllocError → Structs → Seen → List TypeFault → List TypeFault → Labelled → Type 0
-Labels (Ok label) structs seen before after l = IsLabel label structs seen before after l
-Labels (Err e) structs seen before after l = Unit {0}
-
-abbrev pub Begins : Result TypedForInit AllocError → Progress → Progress → Begun → Type 0
-Begins (Ok init) before after p = (init ≡ p.init) × Reaches before after p.state p.trees p.faults
-Begins (Err e) before after p = Unit {0}
-
-abbrev pub Checks : Result TypedBody AllocError → Progress → Progress → Checked → Type 0
-Checks (Ok body) before after c = (view_body body ≡ c.tree) × Reaches before after c.state c.trees c.faults
-Checks (Err e) before after c = Unit {0}
-
-abbrev pub ChecksAll : Result (Vec TypedBody Global) AllocError → Progress → Progress → CheckedAll → Type 0
-ChecksAll (Ok bodies) before after c = (map view_body bodies.items ≡ c.bodies) × Reaches before after c.state c.trees c.faults
-ChecksAll (Err e) before after c = Unit {0}
-
--- a section of a switch, with the labels behind it
-abbrev pub ChecksSection : Result TypedSection AllocError → Progress → Progress → Seen → CheckedSection → Type 0
-ChecksSection (Ok part) before after seen c = (view_section part ≡ c.section) × (seen ≡ c.seen) × Reaches before after c.state c.trees c.faults
-ChecksSection (Err e) before after seen c = Unit {0}
-
-abbrev pub ChecksSections : Result (Vec TypedSection Global) AllocError → Progress → Progress → CheckedSections → Type 0
-ChecksSections (Ok parts) before after c = (map view_section parts.items ≡ c.sections) × Reaches before after c.state c.trees c.faults
-ChecksSections (Err e) before after c = Unit {0}
+abbrev pub GivesDeclaring : Result TypedDeclaration AllocError → Progress → Progress → Declaring → Type 0
+GivesDeclaring r before after p = GivesWith (λ d. d) r p.declaration (Reaches before after p.state p.trees p.faults)
 
 -- the values that a global starts with
-pub record AreGlobal (values : List ℤ) (structs : Structs) (before after : List TypeFault) (g : GlobalInit) : Type 0 where
-  pub values_are : values ≡ g.values
-  pub structs_are : structs ≡ g.structs
-  pub faults_are : after ≡ before ++ g.faults
+abbrev pub GivesGlobal : Result (Vec ℤ Global) AllocError → Findings → Findings → GlobalInit → Type 0
+GivesGlobal r before after g = GivesWith (λ values. values.items) r g.values (findings.Reaches before after g.structs g.faults)
 
-abbrev pub IsGlobal : Result (Vec ℤ Global) AllocError → Structs → List TypeFault → List TypeFault → GlobalInit → Type 0
-IsGlobal (Ok values) structs before after g = AreGlobal values.items structs before after g
-IsGlobal (Err e) structs before after g = Unit {0}
+-- an item's values were added
+abbrev pub AddsValues : Result (Unit {0}) AllocError → List ℤ → List ℤ → Findings → Findings → GlobalInit → Type 0
+AddsValues r values values' before after g = OnOk r ((values' ≡ values ++ g.values) × findings.Reaches before after g.structs g.faults)
 
--- an item's values and faults were added
-pub record AreAdded (structs : Structs) (values values' : List ℤ) (before after : List TypeFault) (g : GlobalInit) : Type 0 where
-  pub values_are : values' ≡ values ++ g.values
-  pub structs_are : structs ≡ g.structs
-  pub faults_are : after ≡ before ++ g.faults
+-- ---- statements
 
-abbrev pub AddsValues : Result (Unit {0}) AllocError → Structs → List ℤ → List ℤ → List TypeFault → List TypeFault → GlobalInit → Type 0
-AddsValues (Ok u) structs values values' before after g = AreAdded structs values values' before after g
-AddsValues (Err e) structs values values' before after g = Unit {0}
+abbrev pub GivesBegun : Result TypedForInit AllocError → Progress → Progress → Begun → Type 0
+GivesBegun r before after p = GivesWith (λ init. init) r p.init (Reaches before after p.state p.trees p.faults)
+
+abbrev pub GivesChecked : Result TypedBody AllocError → Progress → Progress → Checked → Type 0
+GivesChecked r before after c = GivesWith view_body r c.tree (Reaches before after c.state c.trees c.faults)
+
+abbrev pub GivesCheckedAll : Result (Vec TypedBody Global) AllocError → Progress → Progress → CheckedAll → Type 0
+GivesCheckedAll r before after c = GivesWith (λ bodies. map view_body bodies.items) r c.bodies (Reaches before after c.state c.trees c.faults)
+
+-- ---- switches
+
+abbrev pub GivesChosen : Result Controlling AllocError → Progress → Progress → Chosen → Type 0
+GivesChosen r before after p = GivesWith {B = ExprId × Kind} (λ c. (c.id, c.kind)) r (p.id, p.kind) (Reaches before after p.state (p.tree ∷ []) p.faults)
+
+-- a label, with the labels behind it
+abbrev pub GivesLabelled : Result TypedLabel AllocError → Findings → Findings → Seen → Labelled → Type 0
+GivesLabelled r before after seen l = GivesWith (λ label. label) r l.label ((seen ≡ l.seen) × findings.Reaches before after l.structs l.faults)
+
+-- a section, with the labels behind it
+abbrev pub GivesCheckedSection : Result TypedSection AllocError → Progress → Progress → Seen → CheckedSection → Type 0
+GivesCheckedSection r before after seen c = GivesWith view_section r c.section ((seen ≡ c.seen) × Reaches before after c.state c.trees c.faults)
+
+abbrev pub GivesCheckedSections : Result (Vec TypedSection Global) AllocError → Progress → Progress → CheckedSections → Type 0
+GivesCheckedSections r before after c = GivesWith (λ parts. map view_section parts.items) r c.sections (Reaches before after c.state c.trees c.faults)

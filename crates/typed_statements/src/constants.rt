@@ -11,7 +11,7 @@ use pt_int::{convert, promote};
 use pt_tree::{Constant, Expr, PrefixOp};
 
 /// The value of a constant with at most one `-` before it.
-#[derive(Clone, Copy, Debug, PartialEq, Eq)]
+#[derive(Clone, Copy)]
 pub struct Number {
     pub ty: IntType,
     pub value: i128,

@@ -2,7 +2,7 @@
 use type_rules::Type;
 
 /// What stands round a statement.
-#[derive(Clone, Copy, Debug, PartialEq, Eq)]
+#[derive(Clone, Copy)]
 pub struct Context {
     /// The type of the function's result.
     pub result: Type,

@@ -4,10 +4,11 @@ ghost use Rattle.typed_expressions.specs.EnvOf.{env_of};
 ghost use Rattle.typed_expressions.specs.Environment.{with_variable};
 ghost use Rattle.pt_tree.specs.StatementTree.{view_declaration, view_init_declarator};
 ghost use Rattle.typed_statements.specs.Declarations as is;
-ghost use Rattle.typed_statements.specs.Gives.{Declares, DeclaresAll, IsDeclaration, progress_of, state_of};
+ghost use Rattle.typed_statements.specs.Gives.{GivesDeclared, GivesDeclaredAll, GivesDeclaring, progress_of, state_of};
 
 use crate::initialisers::initialised;
 use crate::outermost::as_number;
+use crate::walk::Walk;
 use declared_types::{
     Carrier, FaultKind, ObjectKind, Specified, Structs, TypeFault, is_fixed, judge_specifiers,
     marks_among, note_attributes, note_if, note_object, note_size, object_type,
@@ -17,26 +18,24 @@ use pt_tree::{Declaration, Declarator, InitDeclarator};
 use std::alloc::{AllocError, Global};
 use type_rules::Type;
 use typed_expressions::{Names, Variable};
-use typed_tree::{TypedDeclaration, TypedDeclarator, TypedExpr};
+use typed_tree::{TypedDeclaration, TypedDeclarator};
 
 /// A declaration in a function.
 pub(crate) fn declared(
     alloc: Global,
     names: &mut Names,
-    structs: &mut Structs,
-    exprs: &mut Vec<TypedExpr>,
-    faults: &mut Vec<TypeFault>,
+    walk: &mut Walk,
     d: &Declaration,
 ) -> Result<TypedDeclaration, AllocError>
-    ensures { IsDeclaration result (progress_of names.old structs.old exprs.old faults.old) (progress_of names.new structs.new exprs.new faults.new) (is.declared (state_of names.old structs.old exprs.old) (view_declaration d.now)) }
+    ensures { GivesDeclaring result (progress_of names.old walk.old) (progress_of names.new walk.new) (is.declared (state_of names.old walk.old) (view_declaration d.now)) }
 {
-    let given = judge_specifiers(alloc, structs, false, &d.specs, faults)?;
+    let given = judge_specifiers(alloc, &mut walk.findings, false, &d.specs)?;
     note_attributes(
-        faults,
+        &mut walk.findings.faults,
         carrier_of(&d.declarators),
         given.attributes.as_slice(),
     )?;
-    let ds = declared_all(alloc, names, structs, exprs, faults, &given, &d.declarators)?;
+    let ds = declared_all(alloc, names, walk, &given, &d.declarators)?;
     Ok(TypedDeclaration {
         span: d.span,
         declarators: Listed::new(ds),
@@ -57,17 +56,15 @@ fn carrier_of(ds: &[InitDeclarator]) -> Carrier
 fn declared_all(
     alloc: Global,
     names: &mut Names,
-    structs: &mut Structs,
-    exprs: &mut Vec<TypedExpr>,
-    faults: &mut Vec<TypeFault>,
+    walk: &mut Walk,
     given: &Specified,
     ds: &[InitDeclarator],
 ) -> Result<Vec<TypedDeclarator>, AllocError>
-    ensures { DeclaresAll result (progress_of names.old structs.old exprs.old faults.old) (progress_of names.new structs.new exprs.new faults.new) (is.declared_all given.now (state_of names.old structs.old exprs.old) (map view_init_declarator ds.now)) }
+    ensures { GivesDeclaredAll result (progress_of names.old walk.old) (progress_of names.new walk.new) (is.declared_all given.now (state_of names.old walk.old) (map view_init_declarator ds.now)) }
 {
     let mut declarators = Vec::new(alloc);
     for d in ds {
-        declarators.push(declared_one(alloc, names, structs, exprs, faults, given, d)?)?;
+        declarators.push(declared_one(alloc, names, walk, given, d)?)?;
     }
     Ok(declarators)
 }
@@ -76,17 +73,17 @@ fn declared_all(
 fn declared_one(
     alloc: Global,
     names: &mut Names,
-    structs: &mut Structs,
-    exprs: &mut Vec<TypedExpr>,
-    faults: &mut Vec<TypeFault>,
+    walk: &mut Walk,
     given: &Specified,
     d: &InitDeclarator,
 ) -> Result<TypedDeclarator, AllocError>
-    ensures { Declares result (progress_of names.old structs.old exprs.old faults.old) (progress_of names.new structs.new exprs.new faults.new) (is.declared_one given.now (state_of names.old structs.old exprs.old) (view_init_declarator d.now)) }
+    ensures { GivesDeclared result (progress_of names.old walk.old) (progress_of names.new walk.new) (is.declared_one given.now (state_of names.old walk.old) (view_init_declarator d.now)) }
 {
+    let faults = &mut walk.findings.faults;
+    let structs = &walk.findings.structs;
     let var = add_variable(alloc, names, structs, faults, given, &d.declarator)?;
     let ty = local_type(given, &d.declarator);
-    let init = initialised(alloc, names, structs, exprs, faults, ty, &d.init)?;
+    let init = initialised(alloc, names, walk, ty, &d.init)?;
     Ok(TypedDeclarator { var, init })
 }
 

@@ -5,56 +5,53 @@ ghost use Rattle.pt_tree.specs.ExpressionTree.{view_expr, expr_trees};
 ghost use Rattle.pt_tree.specs.StatementTree.{view_init, single, braces};
 ghost use Rattle.typed_expressions.specs.EnvOf.{env_of};
 ghost use Rattle.typed_statements.specs.Constants.{number_of as number};
-ghost use Rattle.typed_statements.specs.Gives.{IsGlobal, AddsValues};
+ghost use Rattle.typed_statements.specs.Gives.{AddsValues, GivesGlobal};
 ghost use Rattle.typed_statements.specs.GlobalInitialisers as is;
 ghost use Rattle.typed_statements.specs.Leaves.{leaves_of};
 
 use crate::constants::{Number, number_of};
-use crate::initialisers::{is_sound, is_still_counted};
+use crate::initialisers::{is_sound, is_still_counted, leaf_at};
 use crate::leaves::first_leaves;
-use crate::outermost::is_misfit;
-use declared_types::{FaultKind, Structs, TypeFault, note_if};
+use declared_types::{FaultKind, Findings, TypeFault, note_if};
 use pt_int::convert;
 use pt_tree::{Expr, Initializer};
 use std::alloc::{AllocError, Global};
-use type_rules::{Type, Value, fit_rule};
-use typed_expressions::{Names, expression, span_of};
+use type_rules::{Type, Value};
+use typed_expressions::{Names, expression, is_misfit, span_of};
 
 /// What a global of this type starts with: the values of its first leaves in order, as many as the
 /// initialiser gives. Its further leaves start with 0.
 pub fn global_values(
     alloc: Global,
     names: &Names,
-    structs: &mut Structs,
-    faults: &mut Vec<TypeFault>,
+    findings: &mut Findings,
     ty: Type,
     init: &Option<Initializer>,
 ) -> Result<Vec<i128>, AllocError>
-    ensures { IsGlobal result structs.new faults.old.items faults.new.items (is.global_initialised (env_of names.now) structs.old ty (view_init init.now)) }
+    ensures { GivesGlobal result findings.old findings.new (is.global_initialised (env_of names.now) findings.old.structs ty (view_init init.now)) }
 {
     match init {
         None => Ok(Vec::new(alloc)),
-        Some(init) => given_values(alloc, names, structs, faults, ty, init),
+        Some(init) => given_values(alloc, names, findings, ty, init),
     }
 }
 
 fn given_values(
     alloc: Global,
     names: &Names,
-    structs: &mut Structs,
-    faults: &mut Vec<TypeFault>,
+    findings: &mut Findings,
     ty: Type,
     init: &Initializer,
 ) -> Result<Vec<i128>, AllocError>
-    ensures { IsGlobal result structs.new faults.old.items faults.new.items (is.global_initialised (env_of names.now) structs.old ty (view_init (Some init.now))) }
+    ensures { GivesGlobal result findings.old findings.new (is.global_initialised (env_of names.now) findings.old.structs ty (view_init (Some init.now))) }
 {
     match init {
         Initializer::Single(e) => {
             let mut values = Vec::new(alloc);
-            add_item(alloc, names, structs, faults, Some(ty), e, &mut values)?;
+            add_item(alloc, names, findings, Some(ty), e, &mut values)?;
             Ok(values)
         }
-        Initializer::Braces(_, es) => { filled_values(alloc, names, structs, faults, ty, es) }
+        Initializer::Braces(_, es) => { filled_values(alloc, names, findings, ty, es) }
     }
 }
 
@@ -62,15 +59,14 @@ fn given_values(
 fn filled_values(
     alloc: Global,
     names: &Names,
-    structs: &mut Structs,
-    faults: &mut Vec<TypeFault>,
+    findings: &mut Findings,
     ty: Type,
     es: &[Expr],
 ) -> Result<Vec<i128>, AllocError>
-    ensures { IsGlobal result structs.new faults.old.items faults.new.items (is.global_items (env_of names.now) structs.old (leaves_of structs.old ty) (not (is_bad ty)) 0 (expr_trees (map view_expr es.now))) }
+    ensures { GivesGlobal result findings.old findings.new (is.global_items (env_of names.now) findings.old.structs (leaves_of findings.old.structs ty) (not (is_bad ty)) 0 (expr_trees (map view_expr es.now))) }
 {
-    let leaves = first_leaves(alloc, structs, ty, es.len())?;
-    item_values(alloc, names, structs, faults, &leaves, is_sound(ty), es)
+    let leaves = first_leaves(alloc, &findings.structs, ty, es.len())?;
+    item_values(alloc, names, findings, &leaves, is_sound(ty), es)
 }
 
 /// The values of the items of a brace list, each for the leaf with its number. The first item past the
@@ -78,20 +74,20 @@ fn filled_values(
 fn item_values(
     alloc: Global,
     names: &Names,
-    structs: &mut Structs,
-    faults: &mut Vec<TypeFault>,
+    findings: &mut Findings,
     leaves: &[Type],
     is_counted: bool,
     es: &[Expr],
 ) -> Result<Vec<i128>, AllocError>
-    ensures { IsGlobal result structs.new faults.old.items faults.new.items (is.global_items (env_of names.now) structs.old leaves.now is_counted 0 (expr_trees (map view_expr es.now))) }
+    ensures { GivesGlobal result findings.old findings.new (is.global_items (env_of names.now) findings.old.structs leaves.now is_counted 0 (expr_trees (map view_expr es.now))) }
 {
     let mut values = Vec::new(alloc);
     let mut counts = is_counted;
     let mut n = 0;
     for e in es {
-        add_item_at(alloc, names, structs, faults, leaves, n, e, &mut values)?;
-        note_excess(faults, counts, leaves, n, e)?;
+        let leaf = leaf_at(leaves, n);
+        add_item(alloc, names, findings, leaf, e, &mut values)?;
+        note_excess(&mut findings.faults, counts, leaves, n, e)?;
         counts = is_still_counted(counts, leaves, n);
         n += 1;
     }
@@ -112,51 +108,32 @@ fn note_excess(
     note_if(faults, wrong, FaultKind::WrongType, span_of(e))
 }
 
-/// Adds the value of the item with this number.
-fn add_item_at(
-    alloc: Global,
-    names: &Names,
-    structs: &mut Structs,
-    faults: &mut Vec<TypeFault>,
-    leaves: &[Type],
-    n: usize,
-    e: &Expr,
-    values: &mut Vec<i128>,
-) -> Result<(), AllocError>
-    ensures { AddsValues result structs.new values.old.items values.new.items faults.old.items faults.new.items (is.global_item (env_of names.now) structs.old (slice_get leaves.now n) (view_expr e.now)) }
-{
-    add_item(
-        alloc,
-        names,
-        structs,
-        faults,
-        leaves.get(n).copied(),
-        e,
-        values,
-    )
-}
-
 /// Adds the value of an item for this leaf: of a constant with at most one `-` before it, else 0. What
 /// is no such constant is judged, and is out of the profile.
 fn add_item(
     alloc: Global,
     names: &Names,
-    structs: &mut Structs,
-    faults: &mut Vec<TypeFault>,
+    findings: &mut Findings,
     leaf: Option<Type>,
     e: &Expr,
     values: &mut Vec<i128>,
 ) -> Result<(), AllocError>
-    ensures { AddsValues result structs.new values.old.items values.new.items faults.old.items faults.new.items (is.item_of (env_of names.now) structs.old leaf (view_expr e.now) (number (view_expr e.now))) }
+    ensures { AddsValues result values.old.items values.new.items findings.old findings.new (is.item_of (env_of names.now) findings.old.structs leaf (view_expr e.now) (number (view_expr e.now))) }
 {
     match number_of(e) {
         Some(n) => {
+            let faults = &mut findings.faults;
             note_if(faults, misfit(leaf, n), FaultKind::WrongType, span_of(e))?;
             add_stored(values, leaf, n.value)
         }
         None => {
-            let _ = expression(alloc, names, structs, e, faults)?;
-            note_if(faults, true, FaultKind::OutOfProfile, span_of(e))?;
+            let _ = expression(alloc, names, findings, e)?;
+            note_if(
+                &mut findings.faults,
+                true,
+                FaultKind::OutOfProfile,
+                span_of(e),
+            )?;
             add_stored(values, leaf, 0)
         }
     }
@@ -173,7 +150,7 @@ fn misfit(leaf: Option<Type>, n: Number) -> bool
                 ty: Type::Int(n.ty),
                 null: false,
             };
-            is_misfit(fit_rule(ty, value))
+            is_misfit(ty, value)
         }
     }
 }

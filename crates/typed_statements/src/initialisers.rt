@@ -3,57 +3,52 @@ ghost use Rattle.std.specs.Prelude.{◌≡◌, ◌&&◌, is_some, slice_get, map
 ghost use Rattle.type_rules.specs.Types.{is_bad};
 ghost use Rattle.pt_tree.specs.ExpressionTree.{view_expr, expr_trees};
 ghost use Rattle.pt_tree.specs.StatementTree.{view_init, braces as braces_tree};
-ghost use Rattle.typed_statements.specs.Gives.{Places, Lists, Initialises, progress_of, state_of};
+ghost use Rattle.typed_statements.specs.Gives.{GivesInitialised, GivesListing, GivesPlaced, progress_of, state_of};
 ghost use Rattle.typed_statements.specs.Initialisers as is;
 ghost use Rattle.typed_statements.specs.Leaves.{leaves_of};
 
 use crate::leaves::first_leaves;
 use crate::outermost::{evaluated, fitted};
-use declared_types::{FaultKind, Structs, TypeFault, note_if};
+use crate::walk::Walk;
+use declared_types::{FaultKind, note_if};
 use pt_base::{Listed, Span};
 use pt_tree::{Expr, Initializer};
 use std::alloc::{AllocError, Global};
 use type_rules::Type;
 use typed_expressions::{Names, span_of};
-use typed_tree::{ExprId, TypedExpr, TypedInit};
+use typed_tree::{ExprId, TypedInit};
 
 /// What a variable of this type starts with.
 pub(crate) fn initialised(
     alloc: Global,
     names: &Names,
-    structs: &mut Structs,
-    exprs: &mut Vec<TypedExpr>,
-    faults: &mut Vec<TypeFault>,
+    walk: &mut Walk,
     ty: Type,
     init: &Option<Initializer>,
 ) -> Result<TypedInit, AllocError>
-    ensures { Initialises result (progress_of names.now structs.old exprs.old faults.old) (progress_of names.now structs.new exprs.new faults.new) (is.initialised (state_of names.now structs.old exprs.old) ty (view_init init.now)) }
+    ensures { GivesInitialised result (progress_of names.now walk.old) (progress_of names.now walk.new) (is.initialised (state_of names.now walk.old) ty (view_init init.now)) }
 {
     match init {
         None => Ok(TypedInit::Nothing),
-        Some(init) => given(alloc, names, structs, exprs, faults, ty, init),
+        Some(init) => given(alloc, names, walk, ty, init),
     }
 }
 
 fn given(
     alloc: Global,
     names: &Names,
-    structs: &mut Structs,
-    exprs: &mut Vec<TypedExpr>,
-    faults: &mut Vec<TypeFault>,
+    walk: &mut Walk,
     ty: Type,
     init: &Initializer,
 ) -> Result<TypedInit, AllocError>
-    ensures { Initialises result (progress_of names.now structs.old exprs.old faults.old) (progress_of names.now structs.new exprs.new faults.new) (is.initialised (state_of names.now structs.old exprs.old) ty (view_init (Some init.now))) }
+    ensures { GivesInitialised result (progress_of names.now walk.old) (progress_of names.now walk.new) (is.initialised (state_of names.now walk.old) ty (view_init (Some init.now))) }
 {
     match init {
         Initializer::Single(e) => {
-            let id = fitted(alloc, names, structs, exprs, faults, ty, e)?;
+            let id = fitted(alloc, names, walk, ty, e)?;
             Ok(TypedInit::Value(id))
         }
-        Initializer::Braces(span, es) => braces(
-            alloc, names, structs, exprs, faults, ty, *span, es,
-        ),
+        Initializer::Braces(span, es) => braces(alloc, names, walk, ty, *span, es),
     }
 }
 
@@ -61,16 +56,14 @@ fn given(
 fn braces(
     alloc: Global,
     names: &Names,
-    structs: &mut Structs,
-    exprs: &mut Vec<TypedExpr>,
-    faults: &mut Vec<TypeFault>,
+    walk: &mut Walk,
     ty: Type,
     span: Span,
     es: &[Expr],
 ) -> Result<TypedInit, AllocError>
-    ensures { Initialises result (progress_of names.now structs.old exprs.old faults.old) (progress_of names.now structs.new exprs.new faults.new) (is.initialised (state_of names.now structs.old exprs.old) ty (braces_tree span (expr_trees (map view_expr es.now)))) }
+    ensures { GivesInitialised result (progress_of names.now walk.old) (progress_of names.now walk.new) (is.initialised (state_of names.now walk.old) ty (braces_tree span (expr_trees (map view_expr es.now)))) }
 {
-    let ids = filled(alloc, names, structs, exprs, faults, ty, es)?;
+    let ids = filled(alloc, names, walk, ty, es)?;
     Ok(TypedInit::Items(span, Listed::new(ids)))
 }
 
@@ -78,25 +71,14 @@ fn braces(
 fn filled(
     alloc: Global,
     names: &Names,
-    structs: &mut Structs,
-    exprs: &mut Vec<TypedExpr>,
-    faults: &mut Vec<TypeFault>,
+    walk: &mut Walk,
     ty: Type,
     es: &[Expr],
 ) -> Result<Vec<ExprId>, AllocError>
-    ensures { Lists result (progress_of names.now structs.old exprs.old faults.old) (progress_of names.now structs.new exprs.new faults.new) (is.items (state_of names.now structs.old exprs.old) (leaves_of structs.old ty) (not (is_bad ty)) 0 (expr_trees (map view_expr es.now))) }
+    ensures { GivesListing result (progress_of names.now walk.old) (progress_of names.now walk.new) (is.items (state_of names.now walk.old) (leaves_of walk.old.findings.structs ty) (not (is_bad ty)) 0 (expr_trees (map view_expr es.now))) }
 {
-    let leaves = first_leaves(alloc, structs, ty, es.len())?;
-    items(
-        alloc,
-        names,
-        structs,
-        exprs,
-        faults,
-        &leaves,
-        is_sound(ty),
-        es,
-    )
+    let leaves = first_leaves(alloc, &walk.findings.structs, ty, es.len())?;
+    items(alloc, names, walk, &leaves, is_sound(ty), es)
 }
 
 /// Whether the type isn't Bad.
@@ -111,20 +93,18 @@ pub(crate) fn is_sound(ty: Type) -> bool
 fn items(
     alloc: Global,
     names: &Names,
-    structs: &mut Structs,
-    exprs: &mut Vec<TypedExpr>,
-    faults: &mut Vec<TypeFault>,
+    walk: &mut Walk,
     leaves: &[Type],
     is_counted: bool,
     es: &[Expr],
 ) -> Result<Vec<ExprId>, AllocError>
-    ensures { Lists result (progress_of names.now structs.old exprs.old faults.old) (progress_of names.now structs.new exprs.new faults.new) (is.items (state_of names.now structs.old exprs.old) leaves.now is_counted 0 (expr_trees (map view_expr es.now))) }
+    ensures { GivesListing result (progress_of names.now walk.old) (progress_of names.now walk.new) (is.items (state_of names.now walk.old) leaves.now is_counted 0 (expr_trees (map view_expr es.now))) }
 {
     let mut ids = Vec::new(alloc);
     let mut counts = is_counted;
     let mut n = 0;
     for e in es {
-        ids.push(item_at(alloc, names, structs, exprs, faults, leaves, n, counts, e)?)?;
+        ids.push(item(alloc, names, walk, leaf_at(leaves, n), counts, e)?)?;
         counts = is_still_counted(counts, leaves, n);
         n += 1;
     }
@@ -139,30 +119,11 @@ pub(crate) fn is_still_counted(is_counted: bool, leaves: &[Type], n: usize) -> b
     is_counted && leaves.get(n).is_some()
 }
 
-/// The item with this number.
-fn item_at(
-    alloc: Global,
-    names: &Names,
-    structs: &mut Structs,
-    exprs: &mut Vec<TypedExpr>,
-    faults: &mut Vec<TypeFault>,
-    leaves: &[Type],
-    n: usize,
-    is_excess: bool,
-    e: &Expr,
-) -> Result<ExprId, AllocError>
-    ensures { Places result (progress_of names.now structs.old exprs.old faults.old) (progress_of names.now structs.new exprs.new faults.new) (is.item (state_of names.now structs.old exprs.old) (slice_get leaves.now n) is_excess (view_expr e.now)) }
+/// The leaf with this number, where there is one.
+pub(crate) fn leaf_at(leaves: &[Type], n: usize) -> Option<Type>
+    ensures { result ≡ slice_get leaves.now n }
 {
-    item(
-        alloc,
-        names,
-        structs,
-        exprs,
-        faults,
-        leaves.get(n).copied(),
-        is_excess,
-        e,
-    )
+    leaves.get(n).copied()
 }
 
 /// An item for this leaf. An item without a leaf is judged, and is one too many where `is_excess`
@@ -170,20 +131,23 @@ fn item_at(
 fn item(
     alloc: Global,
     names: &Names,
-    structs: &mut Structs,
-    exprs: &mut Vec<TypedExpr>,
-    faults: &mut Vec<TypeFault>,
+    walk: &mut Walk,
     leaf: Option<Type>,
     is_excess: bool,
     e: &Expr,
 ) -> Result<ExprId, AllocError>
-    ensures { Places result (progress_of names.now structs.old exprs.old faults.old) (progress_of names.now structs.new exprs.new faults.new) (is.item (state_of names.now structs.old exprs.old) leaf is_excess (view_expr e.now)) }
+    ensures { GivesPlaced result (progress_of names.now walk.old) (progress_of names.now walk.new) (is.item (state_of names.now walk.old) leaf is_excess (view_expr e.now)) }
 {
     match leaf {
-        Some(ty) => fitted(alloc, names, structs, exprs, faults, ty, e),
+        Some(ty) => fitted(alloc, names, walk, ty, e),
         None => {
-            let id = evaluated(alloc, names, structs, exprs, faults, e)?;
-            note_if(faults, is_excess, FaultKind::WrongType, span_of(e))?;
+            let id = evaluated(alloc, names, walk, e)?;
+            note_if(
+                &mut walk.findings.faults,
+                is_excess,
+                FaultKind::WrongType,
+                span_of(e),
+            )?;
             Ok(id)
         }
     }

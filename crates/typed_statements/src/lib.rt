@@ -12,6 +12,8 @@ mod outermost;
 mod seen;
 mod statements;
 mod switches;
+mod walk;
 
 pub use global_initialisers::global_values;
 pub use statements::check_block;
+pub use walk::Walk;

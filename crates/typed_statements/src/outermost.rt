@@ -1,15 +1,15 @@
 // The outermost expressions of a function's body, those that stand in no other.
 ghost use Rattle.std.specs.Prelude.{◌≡◌, ◌++◌, ◌∷◌, [], IfOk, OnOk, length, option_map};
-ghost use Rattle.type_rules.specs.Conversions.{is_wrong};
 ghost use Rattle.pt_tree.specs.ExpressionTree.{view_expr};
-ghost use Rattle.typed_statements.specs.Gives.{Places, PlacesMaybe, progress_of, state_of};
+ghost use Rattle.typed_statements.specs.Gives.{GivesMaybe, GivesPlaced, progress_of, state_of};
 ghost use Rattle.typed_statements.specs.Outermost as is;
 
-use declared_types::{FaultKind, Structs, TypeFault, note_if};
+use crate::walk::Walk;
+use declared_types::{FaultKind, note_if};
 use pt_tree::Expr;
 use std::alloc::{AllocError, Global};
-use type_rules::{ConditionRule, Fit, Type, condition_rule, fit_rule};
-use typed_expressions::{Names, as_type, expression, span_of};
+use type_rules::{ConditionRule, Type, condition_rule};
+use typed_expressions::{Names, as_type, expression, is_misfit, span_of};
 use typed_tree::{ExprId, TypedExpr};
 
 /// How many there are, as the number of the next one.
@@ -36,32 +36,33 @@ pub(crate) fn place(exprs: &mut Vec<TypedExpr>, tree: TypedExpr) -> Result<ExprI
 pub(crate) fn evaluated(
     alloc: Global,
     names: &Names,
-    structs: &mut Structs,
-    exprs: &mut Vec<TypedExpr>,
-    faults: &mut Vec<TypeFault>,
+    walk: &mut Walk,
     e: &Expr,
 ) -> Result<ExprId, AllocError>
-    ensures { Places result (progress_of names.now structs.old exprs.old faults.old) (progress_of names.now structs.new exprs.new faults.new) (is.evaluated (state_of names.now structs.old exprs.old) (view_expr e.now)) }
+    ensures { GivesPlaced result (progress_of names.now walk.old) (progress_of names.now walk.new) (is.evaluated (state_of names.now walk.old) (view_expr e.now)) }
 {
-    let operand = expression(alloc, names, structs, e, faults)?;
-    place(exprs, operand.into_tree(alloc, span_of(e))?)
+    let operand = expression(alloc, names, &mut walk.findings, e)?;
+    place(&mut walk.exprs, operand.into_tree(alloc, span_of(e))?)
 }
 
 /// A condition (C99 6.8.4.1p1, 6.8.5p2): an integer or a pointer.
 pub(crate) fn tested(
     alloc: Global,
     names: &Names,
-    structs: &mut Structs,
-    exprs: &mut Vec<TypedExpr>,
-    faults: &mut Vec<TypeFault>,
+    walk: &mut Walk,
     e: &Expr,
 ) -> Result<ExprId, AllocError>
-    ensures { Places result (progress_of names.now structs.old exprs.old faults.old) (progress_of names.now structs.new exprs.new faults.new) (is.tested (state_of names.now structs.old exprs.old) (view_expr e.now)) }
+    ensures { GivesPlaced result (progress_of names.now walk.old) (progress_of names.now walk.new) (is.tested (state_of names.now walk.old) (view_expr e.now)) }
 {
-    let operand = expression(alloc, names, structs, e, faults)?;
+    let operand = expression(alloc, names, &mut walk.findings, e)?;
     let wrong = is_no_condition(condition_rule(operand.value()));
-    note_if(faults, wrong, FaultKind::WrongType, span_of(e))?;
-    place(exprs, operand.into_tree(alloc, span_of(e))?)
+    note_if(
+        &mut walk.findings.faults,
+        wrong,
+        FaultKind::WrongType,
+        span_of(e),
+    )?;
+    place(&mut walk.exprs, operand.into_tree(alloc, span_of(e))?)
 }
 
 fn is_no_condition(rule: ConditionRule) -> bool
@@ -77,46 +78,37 @@ fn is_no_condition(rule: ConditionRule) -> bool
 pub(crate) fn fitted(
     alloc: Global,
     names: &Names,
-    structs: &mut Structs,
-    exprs: &mut Vec<TypedExpr>,
-    faults: &mut Vec<TypeFault>,
+    walk: &mut Walk,
     ty: Type,
     e: &Expr,
 ) -> Result<ExprId, AllocError>
-    ensures { Places result (progress_of names.now structs.old exprs.old faults.old) (progress_of names.now structs.new exprs.new faults.new) (is.fitted (state_of names.now structs.old exprs.old) ty (view_expr e.now)) }
+    ensures { GivesPlaced result (progress_of names.now walk.old) (progress_of names.now walk.new) (is.fitted (state_of names.now walk.old) ty (view_expr e.now)) }
 {
-    let operand = expression(alloc, names, structs, e, faults)?;
+    let operand = expression(alloc, names, &mut walk.findings, e)?;
     let value = operand.value();
-    let wrong = is_misfit(fit_rule(ty, value));
-    note_if(faults, wrong, FaultKind::WrongType, span_of(e))?;
+    let wrong = is_misfit(ty, value);
+    note_if(
+        &mut walk.findings.faults,
+        wrong,
+        FaultKind::WrongType,
+        span_of(e),
+    )?;
     let tree = operand.into_tree(alloc, span_of(e))?;
-    place(exprs, as_type(alloc, ty, value.null, tree)?)
-}
-
-/// Whether a value doesn't fit.
-pub(crate) fn is_misfit(fit: Fit) -> bool
-    ensures { result ≡ is_wrong fit }
-{
-    match fit {
-        Fit::Wrong => true,
-        Fit::Unknown | Fit::Converts(_) | Fit::Points | Fit::Null | Fit::Copies => false,
-    }
+    place(&mut walk.exprs, as_type(alloc, ty, value.null, tree)?)
 }
 
 /// An expression that may be left out, and that is evaluated alone.
 pub(crate) fn maybe_evaluated(
     alloc: Global,
     names: &Names,
-    structs: &mut Structs,
-    exprs: &mut Vec<TypedExpr>,
-    faults: &mut Vec<TypeFault>,
+    walk: &mut Walk,
     e: &Option<Expr>,
 ) -> Result<Option<ExprId>, AllocError>
-    ensures { PlacesMaybe result (progress_of names.now structs.old exprs.old faults.old) (progress_of names.now structs.new exprs.new faults.new) (is.maybe_evaluated (state_of names.now structs.old exprs.old) (option_map view_expr e.now)) }
+    ensures { GivesMaybe result (progress_of names.now walk.old) (progress_of names.now walk.new) (is.maybe_evaluated (state_of names.now walk.old) (option_map view_expr e.now)) }
 {
     match e {
         None => Ok(None),
-        Some(e) => Ok(Some(evaluated(alloc, names, structs, exprs, faults, e)?)),
+        Some(e) => Ok(Some(evaluated(alloc, names, walk, e)?)),
     }
 }
 
@@ -124,15 +116,13 @@ pub(crate) fn maybe_evaluated(
 pub(crate) fn maybe_tested(
     alloc: Global,
     names: &Names,
-    structs: &mut Structs,
-    exprs: &mut Vec<TypedExpr>,
-    faults: &mut Vec<TypeFault>,
+    walk: &mut Walk,
     e: &Option<Expr>,
 ) -> Result<Option<ExprId>, AllocError>
-    ensures { PlacesMaybe result (progress_of names.now structs.old exprs.old faults.old) (progress_of names.now structs.new exprs.new faults.new) (is.maybe_tested (state_of names.now structs.old exprs.old) (option_map view_expr e.now)) }
+    ensures { GivesMaybe result (progress_of names.now walk.old) (progress_of names.now walk.new) (is.maybe_tested (state_of names.now walk.old) (option_map view_expr e.now)) }
 {
     match e {
         None => Ok(None),
-        Some(e) => Ok(Some(tested(alloc, names, structs, exprs, faults, e)?)),
+        Some(e) => Ok(Some(tested(alloc, names, walk, e)?)),
     }
 }

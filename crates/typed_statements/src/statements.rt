@@ -2,7 +2,7 @@
 ghost use Rattle.std.specs.Prelude.{◌≡◌, map, option_map};
 ghost use Rattle.pt_tree.specs.ExpressionTree.{view_expr};
 ghost use Rattle.pt_tree.specs.StatementTree.{switch as switch_tree, view_stmt, view_section, view_for_init, stmt_trees, section_trees};
-ghost use Rattle.typed_statements.specs.Gives.{Checks, ChecksAll, ChecksSection, ChecksSections, Begins, PlacesMaybe, progress_of, state_of};
+ghost use Rattle.typed_statements.specs.Gives.{GivesBegun, GivesChecked, GivesCheckedAll, GivesCheckedSection, GivesCheckedSections, GivesMaybe, progress_of, state_of};
 ghost use Rattle.typed_statements.specs.Seen.{seen_of};
 ghost use Rattle.typed_statements.specs.Labels.{none_seen};
 ghost use Rattle.typed_statements.specs.Statements as is;
@@ -12,33 +12,32 @@ use crate::declarations::declared;
 use crate::outermost::{evaluated, fitted, maybe_evaluated, maybe_tested, tested};
 use crate::seen::SeenLabels;
 use crate::switches::{Kind, control, labelled};
-use declared_types::{FaultKind, Structs, TypeFault, note_if};
+use crate::walk::Walk;
+use declared_types::{FaultKind, note_if};
 use pt_base::Span;
 use pt_tree::{Expr, ForInit, Section, Stmt};
 use std::alloc::{AllocError, Global};
 use type_rules::Type;
-use typed_expressions::{Names, span_of};
-use typed_tree::{ExprId, TypedBody, TypedExpr, TypedForInit, TypedSection};
+use typed_expressions::Names;
+use typed_tree::{ExprId, TypedBody, TypedForInit, TypedSection};
 
 /// The items of a function's outermost block, for a result of this type. They stand in the innermost
 /// scope that is open, that of the parameters.
 pub fn check_block(
     alloc: Global,
     names: &mut Names,
-    structs: &mut Structs,
-    exprs: &mut Vec<TypedExpr>,
-    faults: &mut Vec<TypeFault>,
+    walk: &mut Walk,
     ty: Type,
     items: &[Stmt],
 ) -> Result<Vec<TypedBody>, AllocError>
-    ensures { ChecksAll result (progress_of names.old structs.old exprs.old faults.old) (progress_of names.new structs.new exprs.new faults.new) (is.checked_block ty (state_of names.old structs.old exprs.old) (map view_stmt items.now)) }
+    ensures { GivesCheckedAll result (progress_of names.old walk.old) (progress_of names.new walk.new) (is.checked_block ty (state_of names.old walk.old) (map view_stmt items.now)) }
 {
     let context = Context {
         result: ty,
         in_loop: false,
         in_switch: false,
     };
-    statements(alloc, items, names, structs, exprs, faults, context)
+    statements(alloc, items, names, walk, context)
 }
 
 /// A statement. Its outermost expressions go to the end of `exprs`, its faults to the end of `faults`.
@@ -48,88 +47,83 @@ fn statement(
     alloc: Global,
     s: &Stmt,
     names: &mut Names,
-    structs: &mut Structs,
-    exprs: &mut Vec<TypedExpr>,
-    faults: &mut Vec<TypeFault>,
+    walk: &mut Walk,
     context: Context,
 ) -> Result<TypedBody, AllocError>
-    ensures { Checks result (progress_of names.old structs.old exprs.old faults.old) (progress_of names.new structs.new exprs.new faults.new) (is.checked context (state_of names.old structs.old exprs.old) (view_stmt s.now)) }
+    ensures { GivesChecked result (progress_of names.old walk.old) (progress_of names.new walk.new) (is.checked context (state_of names.old walk.old) (view_stmt s.now)) }
 {
     match s {
         Stmt::Declare(d) => {
-            let declaration = declared(alloc, names, structs, exprs, faults, d)?;
+            let declaration = declared(alloc, names, walk, d)?;
             Ok(TypedBody::Declare(declaration))
         }
         Stmt::Block(block) => {
             let span = block.span;
-            let items = inner_block(alloc, &block.items, names, structs, exprs, faults, context)?;
+            let items = inner_block(alloc, &block.items, names, walk, context)?;
             Ok(TypedBody::block(span, items))
         }
         Stmt::Empty(span) => Ok(TypedBody::Empty(*span)),
         Stmt::Expr(span, e) => {
-            let id = evaluated(alloc, names, structs, exprs, faults, e)?;
+            let id = evaluated(alloc, names, walk, e)?;
             Ok(TypedBody::Evaluate(*span, id))
         }
         Stmt::If(span, test, yes, no) => {
-            let id = tested(alloc, names, structs, exprs, faults, test)?;
-            let yes = statement(alloc, yes, names, structs, exprs, faults, context)?;
+            let id = tested(alloc, names, walk, test)?;
+            let yes = statement(alloc, yes, names, walk, context)?;
             match no {
                 None => TypedBody::when(alloc, *span, id, yes),
                 Some(no) => {
-                    let no = statement(alloc, no, names, structs, exprs, faults, context)?;
+                    let no = statement(alloc, no, names, walk, context)?;
                     TypedBody::choice(alloc, *span, id, yes, no)
                 }
             }
         }
         Stmt::While(span, test, body) => {
-            let id = tested(alloc, names, structs, exprs, faults, test)?;
+            let id = tested(alloc, names, walk, test)?;
             let inner = looping(context);
-            let body = statement(alloc, body, names, structs, exprs, faults, inner)?;
+            let body = statement(alloc, body, names, walk, inner)?;
             TypedBody::while_true(alloc, *span, id, body)
         }
         Stmt::Do(span, body, test) => {
             let inner = looping(context);
-            let body = statement(alloc, body, names, structs, exprs, faults, inner)?;
-            let id = tested(alloc, names, structs, exprs, faults, test)?;
+            let body = statement(alloc, body, names, walk, inner)?;
+            let id = tested(alloc, names, walk, test)?;
             TypedBody::do_while(alloc, *span, body, id)
         }
         Stmt::For(span, init, test, step, body) => {
             names.open_scope(alloc)?;
-            let init = for_begun(alloc, names, structs, exprs, faults, init)?;
-            let test = maybe_tested(alloc, names, structs, exprs, faults, test)?;
-            let step = maybe_evaluated(alloc, names, structs, exprs, faults, step)?;
+            let init = for_begun(alloc, names, walk, init)?;
+            let test = maybe_tested(alloc, names, walk, test)?;
+            let step = maybe_evaluated(alloc, names, walk, step)?;
             let inner = looping(context);
-            let body = statement(alloc, body, names, structs, exprs, faults, inner)?;
+            let body = statement(alloc, body, names, walk, inner)?;
             names.close_scope();
             TypedBody::for_each(alloc, *span, init, test, step, body)
         }
         Stmt::Return(span, value) => {
-            let id = given_back(
-                alloc,
-                names,
-                structs,
-                exprs,
-                faults,
-                context.result,
-                *span,
-                value,
-            )?;
+            let id = given_back(alloc, names, walk, context.result, *span, value)?;
             Ok(TypedBody::Return(*span, id))
         }
         Stmt::Break(span) => {
             let wrong = !(context.in_loop || context.in_switch);
-            note_if(faults, wrong, FaultKind::OutOfProfile, *span)?;
+            note_if(
+                &mut walk.findings.faults,
+                wrong,
+                FaultKind::OutOfProfile,
+                *span,
+            )?;
             Ok(TypedBody::Break(*span))
         }
         Stmt::Continue(span) => {
-            note_if(faults, !context.in_loop, FaultKind::OutOfProfile, *span)?;
+            note_if(
+                &mut walk.findings.faults,
+                !context.in_loop,
+                FaultKind::OutOfProfile,
+                *span,
+            )?;
             Ok(TypedBody::Continue(*span))
         }
-        Stmt::Switch(span, on, parts) => {
-            switch(
-                alloc, parts, names, structs, exprs, faults, context, *span, on,
-            )
-        }
+        Stmt::Switch(span, on, parts) => { switch(alloc, parts, names, walk, context, *span, on) }
     }
 }
 
@@ -139,15 +133,13 @@ fn inner_block(
     alloc: Global,
     items: &[Stmt],
     names: &mut Names,
-    structs: &mut Structs,
-    exprs: &mut Vec<TypedExpr>,
-    faults: &mut Vec<TypeFault>,
+    walk: &mut Walk,
     context: Context,
 ) -> Result<Vec<TypedBody>, AllocError>
-    ensures { ChecksAll result (progress_of names.old structs.old exprs.old faults.old) (progress_of names.new structs.new exprs.new faults.new) (is.checked_inner context (state_of names.old structs.old exprs.old) (stmt_trees (map view_stmt items.now))) }
+    ensures { GivesCheckedAll result (progress_of names.old walk.old) (progress_of names.new walk.new) (is.checked_inner context (state_of names.old walk.old) (stmt_trees (map view_stmt items.now))) }
 {
     names.open_scope(alloc)?;
-    let bodies = statements(alloc, items, names, structs, exprs, faults, context)?;
+    let bodies = statements(alloc, items, names, walk, context)?;
     names.close_scope();
     Ok(bodies)
 }
@@ -158,16 +150,14 @@ fn statements(
     alloc: Global,
     items: &[Stmt],
     names: &mut Names,
-    structs: &mut Structs,
-    exprs: &mut Vec<TypedExpr>,
-    faults: &mut Vec<TypeFault>,
+    walk: &mut Walk,
     context: Context,
 ) -> Result<Vec<TypedBody>, AllocError>
-    ensures { ChecksAll result (progress_of names.old structs.old exprs.old faults.old) (progress_of names.new structs.new exprs.new faults.new) (is.checked_all context (state_of names.old structs.old exprs.old) (stmt_trees (map view_stmt items.now))) }
+    ensures { GivesCheckedAll result (progress_of names.old walk.old) (progress_of names.new walk.new) (is.checked_all context (state_of names.old walk.old) (stmt_trees (map view_stmt items.now))) }
 {
     let mut bodies = Vec::new(alloc);
     for s in items {
-        bodies.push(statement(alloc, s, names, structs, exprs, faults, context)?)?;
+        bodies.push(statement(alloc, s, names, walk, context)?)?;
     }
     Ok(bodies)
 }
@@ -178,19 +168,17 @@ fn switch(
     alloc: Global,
     parts: &[Section],
     names: &mut Names,
-    structs: &mut Structs,
-    exprs: &mut Vec<TypedExpr>,
-    faults: &mut Vec<TypeFault>,
+    walk: &mut Walk,
     context: Context,
     span: Span,
     on: &Expr,
 ) -> Result<TypedBody, AllocError>
-    ensures { Checks result (progress_of names.old structs.old exprs.old faults.old) (progress_of names.new structs.new exprs.new faults.new) (is.checked context (state_of names.old structs.old exprs.old) (switch_tree span (view_expr on.now) (section_trees (map view_section parts.now)))) }
+    ensures { GivesChecked result (progress_of names.old walk.old) (progress_of names.new walk.new) (is.checked context (state_of names.old walk.old) (switch_tree span (view_expr on.now) (section_trees (map view_section parts.now)))) }
 {
-    let chosen = control(alloc, names, structs, exprs, faults, on)?;
+    let chosen = control(alloc, names, walk, on)?;
     let inner = switching(context);
     let kind = chosen.kind;
-    let typed = sections(alloc, parts, names, structs, exprs, faults, inner, kind)?;
+    let typed = sections(alloc, parts, names, walk, inner, kind)?;
     Ok(TypedBody::switch(span, chosen.id, kind.ty, typed))
 }
 
@@ -200,20 +188,16 @@ fn sections(
     alloc: Global,
     parts: &[Section],
     names: &mut Names,
-    structs: &mut Structs,
-    exprs: &mut Vec<TypedExpr>,
-    faults: &mut Vec<TypeFault>,
+    walk: &mut Walk,
     context: Context,
     kind: Kind,
 ) -> Result<Vec<TypedSection>, AllocError>
-    ensures { ChecksSections result (progress_of names.old structs.old exprs.old faults.old) (progress_of names.new structs.new exprs.new faults.new) (is.checked_sections context kind none_seen (state_of names.old structs.old exprs.old) (section_trees (map view_section parts.now))) }
+    ensures { GivesCheckedSections result (progress_of names.old walk.old) (progress_of names.new walk.new) (is.checked_sections context kind none_seen (state_of names.old walk.old) (section_trees (map view_section parts.now))) }
 {
     let mut seen = SeenLabels::none(alloc);
     let mut typed = Vec::new(alloc);
     for part in parts {
-        typed.push(section(
-            alloc, part, names, structs, exprs, faults, context, kind, &mut seen,
-        )?)?;
+        typed.push(section(alloc, part, names, walk, context, kind, &mut seen)?)?;
     }
     Ok(typed)
 }
@@ -224,25 +208,15 @@ fn section(
     alloc: Global,
     part: &Section,
     names: &mut Names,
-    structs: &mut Structs,
-    exprs: &mut Vec<TypedExpr>,
-    faults: &mut Vec<TypeFault>,
+    walk: &mut Walk,
     context: Context,
     kind: Kind,
     seen: &mut SeenLabels,
 ) -> Result<TypedSection, AllocError>
-    ensures { ChecksSection result (progress_of names.old structs.old exprs.old faults.old) (progress_of names.new structs.new exprs.new faults.new) (seen_of seen.new) (is.checked_section context kind (seen_of seen.old) (state_of names.old structs.old exprs.old) (view_section part.now)) }
+    ensures { GivesCheckedSection result (progress_of names.old walk.old) (progress_of names.new walk.new) (seen_of seen.new) (is.checked_section context kind (seen_of seen.old) (state_of names.old walk.old) (view_section part.now)) }
 {
-    let label = labelled(alloc, names, structs, faults, kind, seen, &part.label)?;
-    let statements = statements(
-        alloc,
-        &part.statements,
-        names,
-        structs,
-        exprs,
-        faults,
-        context,
-    )?;
+    let label = labelled(alloc, names, &mut walk.findings, kind, seen, &part.label)?;
+    let statements = statements(alloc, &part.statements, names, walk, context)?;
     Ok(TypedSection {
         span: part.span,
         label,
@@ -254,21 +228,19 @@ fn section(
 fn for_begun(
     alloc: Global,
     names: &mut Names,
-    structs: &mut Structs,
-    exprs: &mut Vec<TypedExpr>,
-    faults: &mut Vec<TypeFault>,
+    walk: &mut Walk,
     init: &ForInit,
 ) -> Result<TypedForInit, AllocError>
-    ensures { Begins result (progress_of names.old structs.old exprs.old faults.old) (progress_of names.new structs.new exprs.new faults.new) (is.for_begun (state_of names.old structs.old exprs.old) (view_for_init init.now)) }
+    ensures { GivesBegun result (progress_of names.old walk.old) (progress_of names.new walk.new) (is.for_begun (state_of names.old walk.old) (view_for_init init.now)) }
 {
     match init {
         ForInit::Declare(d) => {
-            let declaration = declared(alloc, names, structs, exprs, faults, d)?;
+            let declaration = declared(alloc, names, walk, d)?;
             Ok(TypedForInit::Declare(declaration))
         }
         ForInit::Nothing => Ok(TypedForInit::Nothing),
         ForInit::Expr(e) => {
-            let id = evaluated(alloc, names, structs, exprs, faults, e)?;
+            let id = evaluated(alloc, names, walk, e)?;
             Ok(TypedForInit::Evaluate(id))
         }
     }
@@ -278,21 +250,24 @@ fn for_begun(
 fn given_back(
     alloc: Global,
     names: &Names,
-    structs: &mut Structs,
-    exprs: &mut Vec<TypedExpr>,
-    faults: &mut Vec<TypeFault>,
+    walk: &mut Walk,
     ty: Type,
     span: Span,
     value: &Option<Expr>,
 ) -> Result<Option<ExprId>, AllocError>
-    ensures { PlacesMaybe result (progress_of names.now structs.old exprs.old faults.old) (progress_of names.now structs.new exprs.new faults.new) (is.given_back (state_of names.now structs.old exprs.old) ty span (option_map view_expr value.now)) }
+    ensures { GivesMaybe result (progress_of names.now walk.old) (progress_of names.now walk.new) (is.given_back (state_of names.now walk.old) ty span (option_map view_expr value.now)) }
 {
     match value {
         None => {
-            note_if(faults, wants_value(ty), FaultKind::WrongType, span)?;
+            note_if(
+                &mut walk.findings.faults,
+                wants_value(ty),
+                FaultKind::WrongType,
+                span,
+            )?;
             Ok(None)
         }
-        Some(e) => Ok(Some(fitted(alloc, names, structs, exprs, faults, ty, e)?)),
+        Some(e) => Ok(Some(fitted(alloc, names, walk, ty, e)?)),
     }
 }
 

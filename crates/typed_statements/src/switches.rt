@@ -6,24 +6,25 @@ ghost use Rattle.pt_tree.specs.StatementTree.{view_label};
 ghost use Rattle.pt_tree.specs.ExpressionTree.{view_expr};
 ghost use Rattle.typed_expressions.specs.EnvOf.{env_of};
 ghost use Rattle.typed_statements.specs.Seen.{seen_of};
-ghost use Rattle.typed_statements.specs.Gives.{Labels, Switches, progress_of, state_of};
+ghost use Rattle.typed_statements.specs.Gives.{GivesChosen, GivesLabelled, progress_of, state_of};
 ghost use Rattle.typed_statements.specs.Labels as is;
 ghost use Rattle.typed_statements.specs.Statements.{switched};
 
 use crate::constants::{Number, number_of};
 use crate::outermost::place;
 use crate::seen::SeenLabels;
-use declared_types::{FaultKind, Structs, TypeFault, note_if};
+use crate::walk::Walk;
+use declared_types::{FaultKind, Findings, TypeFault, note_if};
 use pt_base::{IntType, Span};
 use pt_int::{convert, promote};
 use pt_tree::{Expr, Label};
 use std::alloc::{AllocError, Global};
 use type_rules::Type;
 use typed_expressions::{Names, expression, span_of};
-use typed_tree::{ExprId, TypedExpr, TypedLabel};
+use typed_tree::{ExprId, TypedLabel};
 
 /// How the cases of a switch are compared.
-#[derive(Clone, Copy, Debug, PartialEq, Eq)]
+#[derive(Clone, Copy)]
 pub struct Kind {
     /// The type to which their values are converted.
     pub ty: IntType,
@@ -42,17 +43,16 @@ pub(crate) struct Controlling {
 pub(crate) fn control(
     alloc: Global,
     names: &Names,
-    structs: &mut Structs,
-    exprs: &mut Vec<TypedExpr>,
-    faults: &mut Vec<TypeFault>,
+    walk: &mut Walk,
     e: &Expr,
 ) -> Result<Controlling, AllocError>
-    ensures { Switches result (progress_of names.now structs.old exprs.old faults.old) (progress_of names.now structs.new exprs.new faults.new) (switched (state_of names.now structs.old exprs.old) (view_expr e.now)) }
+    ensures { GivesChosen result (progress_of names.now walk.old) (progress_of names.now walk.new) (switched (state_of names.now walk.old) (view_expr e.now)) }
 {
-    let operand = expression(alloc, names, structs, e, faults)?;
+    let operand = expression(alloc, names, &mut walk.findings, e)?;
     let ty = operand.value().ty;
+    let faults = &mut walk.findings.faults;
     note_if(faults, is_no_integer(ty), FaultKind::WrongType, span_of(e))?;
-    let id = place(exprs, operand.into_tree(alloc, span_of(e))?)?;
+    let id = place(&mut walk.exprs, operand.into_tree(alloc, span_of(e))?)?;
     Ok(Controlling {
         id,
         kind: kind_of(ty),
@@ -89,23 +89,19 @@ fn is_no_integer(ty: Type) -> bool
 pub(crate) fn labelled(
     alloc: Global,
     names: &Names,
-    structs: &mut Structs,
-    faults: &mut Vec<TypeFault>,
+    findings: &mut Findings,
     kind: Kind,
     seen: &mut SeenLabels,
     label: &Label,
 ) -> Result<TypedLabel, AllocError>
-    ensures { Labels result structs.new (seen_of seen.new) faults.old.items faults.new.items (is.labelled (env_of names.now) kind structs.old (seen_of seen.old) (view_label label.now)) }
+    ensures { GivesLabelled result findings.old findings.new (seen_of seen.new) (is.labelled (env_of names.now) kind findings.old.structs (seen_of seen.old) (view_label label.now)) }
 {
     match label {
-        Label::Case(span, e) => case(alloc, names, structs, faults, kind, seen, *span, e),
+        Label::Case(span, e) => case(alloc, names, findings, kind, seen, *span, e),
         Label::Default(span) => {
-            note_if(
-                faults,
-                seen.has_default,
-                FaultKind::Redeclared,
-                default_word(*span),
-            )?;
+            let faults = &mut findings.faults;
+            let at = default_word(*span);
+            note_if(faults, seen.has_default, FaultKind::Redeclared, at)?;
             seen.has_default = true;
             Ok(TypedLabel::Default(*span))
         }
@@ -126,35 +122,42 @@ fn default_word(span: Span) -> Span
 fn case(
     alloc: Global,
     names: &Names,
-    structs: &mut Structs,
-    faults: &mut Vec<TypeFault>,
+    findings: &mut Findings,
     kind: Kind,
     seen: &mut SeenLabels,
     span: Span,
     e: &Expr,
 ) -> Result<TypedLabel, AllocError>
-    ensures { Labels result structs.new (seen_of seen.new) faults.old.items faults.new.items (is.case_by (env_of names.now) kind structs.old (seen_of seen.old) span (view_expr e.now) (number (view_expr e.now))) }
+    ensures { GivesLabelled result findings.old findings.new (seen_of seen.new) (is.case_by (env_of names.now) kind findings.old.structs (seen_of seen.old) span (view_expr e.now) (number (view_expr e.now))) }
 {
     match number_of(e) {
-        Some(number) => number_case(faults, kind, seen, span, span_of(e), number),
+        Some(number) => {
+            let faults = &mut findings.faults;
+            let value = number_case(faults, kind, seen, span_of(e), number)?;
+            Ok(TypedLabel::Case(span, value))
+        }
         None => {
-            let _ = expression(alloc, names, structs, e, faults)?;
-            note_if(faults, true, FaultKind::OutOfProfile, span_of(e))?;
+            let _ = expression(alloc, names, findings, e)?;
+            note_if(
+                &mut findings.faults,
+                true,
+                FaultKind::OutOfProfile,
+                span_of(e),
+            )?;
             Ok(TypedLabel::Case(span, 0))
         }
     }
 }
 
-/// A case of this value; the second one of a value is a fault, where cases are compared.
+/// The value of a case of this number; the second one of a value is a fault, where cases are compared.
 fn number_case(
     faults: &mut Vec<TypeFault>,
     kind: Kind,
     seen: &mut SeenLabels,
-    span: Span,
     at: Span,
     number: Number,
-) -> Result<TypedLabel, AllocError>
-    ensures label { IfOk result (λ l. l ≡ TypedLabel.Case span (conv kind.ty number.value)) }
+) -> Result<i128, AllocError>
+    ensures value { IfOk result (λ v. v ≡ conv kind.ty number.value) }
     ensures seen { OnOk result (seen_of seen.new ≡ is.case_seen kind (seen_of seen.old) (conv kind.ty number.value)) }
     ensures faults { OnOk result (faults.new.items ≡ faults.old.items ++ is.case_faults kind (seen_of seen.old) at (conv kind.ty number.value)) }
 {
@@ -163,5 +166,5 @@ fn number_case(
         let is_new = seen.add_case(value)?;
         note_if(faults, !is_new, FaultKind::Redeclared, at)?;
     }
-    Ok(TypedLabel::Case(span, value))
+    Ok(value)
 }

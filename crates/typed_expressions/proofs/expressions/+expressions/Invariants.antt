@@ -8,30 +8,30 @@ use Rattle.typed_expressions.proofs.expressions.+expressions.Given as goal
 
 abbrev pub invariant-more_links-loop-link : goal.invariant-more_links-loop-link
 invariant-more_links-loop-link l =
-    let rest = judge_links (env_of l.names) l.structs l.chain.span l.chain.is_logical (so_far l.far) (parsed.link_trees (map parsed.view_link (drop l.link-index l.links))) in
-    let all = judge_links (env_of l.names) l.fn.structs l.chain.span l.chain.is_logical (so_far l.fn.far) (parsed.link_trees (map parsed.view_link l.fn.links)) in
+    let rest = judge_links (env_of l.names) l.findings.structs l.whole.span l.whole.is_logical (so_far l.far) (parsed.link_trees (map parsed.view_link (drop l.link-index l.links))) in
+    let all = judge_links (env_of l.names) l.fn.findings.structs l.whole.span l.whole.is_logical (so_far l.fn.far) (parsed.link_trees (map parsed.view_link l.fn.links)) in
     record {
       far : rest.far ≡ all.far;
       structs : rest.structs ≡ all.structs;
-      faults : l.faults.items ++ rest.faults ≡ l.fn.faults.items ++ all.faults;
+      faults : l.findings.faults.items ++ rest.faults ≡ l.fn.findings.faults.items ++ all.faults;
     }
 
-abbrev pub invariant-behind-loop-p : goal.invariant-behind-loop-p
-invariant-behind-loop-p l =
-    let rest = judge_postfixes (env_of l.names) l.structs l.s l.head.callee l.head.span (known l.head.operand) (parsed.postfix_trees (map parsed.view_postfix (drop l.p-index l.postfixes))) in
-    let all = judge_postfixes (env_of l.names) l.fn.structs l.s l.fn.head.callee l.fn.head.span (known l.fn.head.operand) (parsed.postfix_trees (map parsed.view_postfix l.fn.postfixes)) in
+abbrev pub invariant-more_postfixes-loop-p : goal.invariant-more_postfixes-loop-p
+invariant-more_postfixes-loop-p l =
+    let rest = judge_postfixes (env_of l.names) l.findings.structs l.s l.head.callee l.head.operand.span (known l.head.operand.operand) (parsed.postfix_trees (map parsed.view_postfix (drop l.p-index l.postfixes))) in
+    let all = judge_postfixes (env_of l.names) l.fn.findings.structs l.s l.fn.head.callee l.fn.head.operand.span (known l.fn.head.operand.operand) (parsed.postfix_trees (map parsed.view_postfix l.fn.postfixes)) in
     record {
       operand : rest.operand ≡ all.operand;
       structs : rest.structs ≡ all.structs;
-      faults : l.faults.items ++ rest.faults ≡ l.fn.faults.items ++ all.faults;
+      faults : l.findings.faults.items ++ rest.faults ≡ l.fn.findings.faults.items ++ all.faults;
     }
 
 abbrev pub invariant-arguments-loop-n : goal.invariant-arguments-loop-n
 invariant-arguments-loop-n l =
-    let rest = judge_arguments (env_of l.names) l.structs l.params l.n (parsed.expr_trees (map parsed.view_expr (drop l.n l.args))) in
-    let all = judge_arguments (env_of l.names) l.fn.structs l.params 0 (parsed.expr_trees (map parsed.view_expr l.fn.args)) in
+    let rest = judge_arguments (env_of l.names) l.findings.structs l.params l.n (parsed.expr_trees (map parsed.view_expr (drop l.n l.args))) in
+    let all = judge_arguments (env_of l.names) l.fn.findings.structs l.params 0 (parsed.expr_trees (map parsed.view_expr l.fn.args)) in
     record {
       trees : map view_expr l.trees.items ++ rest.trees ≡ all.trees;
       structs : rest.structs ≡ all.structs;
-      faults : l.faults.items ++ rest.faults ≡ l.fn.faults.items ++ all.faults;
+      faults : l.findings.faults.items ++ rest.faults ≡ l.fn.findings.faults.items ++ all.faults;
     }

@@ -10,5 +10,5 @@ invariant-loop-global l =
     let all = is.declared_all l.fn.given (progress_of l.fn.progress) (map view_init_declarator l.fn.globals) in
     record {
       progress : rest.progress ≡ all.progress;
-      faults : l.faults.items ++ rest.faults ≡ l.fn.faults.items ++ all.faults;
+      faults : l.progress.walk.findings.faults.items ++ rest.faults ≡ l.fn.progress.walk.findings.faults.items ++ all.faults;
     }

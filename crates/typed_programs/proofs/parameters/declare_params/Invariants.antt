@@ -6,10 +6,10 @@ use Rattle.typed_programs.proofs.parameters.declare_params.Given as goal
 
 abbrev pub invariant-loop-param : goal.invariant-loop-param
 invariant-loop-param l =
-    let rest = is.declared_all l.marks l.defines (env_of l.names) l.structs (map view_param (drop l.param-index l.params)) in
-    let all = is.declared_all l.fn.marks l.fn.defines (env_of l.fn.names) l.fn.structs (map view_param l.fn.params) in
+    let rest = is.declared_all l.marks l.defines (env_of l.names) l.findings.structs (map view_param (drop l.param-index l.params)) in
+    let all = is.declared_all l.fn.marks l.fn.defines (env_of l.fn.names) l.fn.findings.structs (map view_param l.fn.params) in
     record {
       env : rest.env ≡ all.env;
       structs : rest.structs ≡ all.structs;
-      faults : l.faults.items ++ rest.faults ≡ l.fn.faults.items ++ all.faults;
+      faults : l.findings.faults.items ++ rest.faults ≡ l.fn.findings.faults.items ++ all.faults;
     }

@@ -11,5 +11,5 @@ invariant-loop-item l =
     let all = is.checked_items (marks_in l.fn.table.entries) (progress_of l.fn.progress) (map view_item l.fn.items) in
     record {
       progress : rest.progress ≡ all.progress;
-      faults : l.faults.items ++ rest.faults ≡ l.fn.faults.items ++ all.faults;
+      faults : l.progress.walk.findings.faults.items ++ rest.faults ≡ l.fn.progress.walk.findings.faults.items ++ all.faults;
     }

@@ -8,4 +8,4 @@ use Rattle.typed_statements.proofs.global_initialisers.filled_values.Goals as go
 
 pub returns : goal.returns
 returns c =
-    globals_alike c.item_values.result c.item_values.new.structs c.args.faults.now.items c.item_values.new.faults.items (env_of c.args.names.now) c.args.structs.now (map view_expr c.args.es.now) _ c.deref.result.now _ _ c.is_sound.result _ c.item_values.ensures (grind arith) (grind arith) (grind (arith, length-map)) c.in_ok-leaves.ensures
+    globals_alike c.item_values.result c.args.findings.now c.item_values.new.findings (env_of c.args.names.now) c.args.findings.now.structs (map view_expr c.args.es.now) _ c.deref.result.now _ _ c.is_sound.result _ c.item_values.ensures (grind arith) (grind arith) (grind (arith, length-map)) c.in_ok-leaves.ensures

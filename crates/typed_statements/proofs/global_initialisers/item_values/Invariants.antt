@@ -6,11 +6,11 @@ use Rattle.typed_statements.proofs.global_initialisers.item_values.Given as goal
 
 abbrev pub invariant-loop-e : goal.invariant-loop-e
 invariant-loop-e l =
-    let rest = is.global_items (env_of l.names) l.structs l.leaves l.counts l.n (expr_trees (map view_expr (drop l.e-index l.es))) in
-    let all = is.global_items (env_of l.names) l.fn.structs l.leaves l.is_counted 0 (expr_trees (map view_expr l.fn.es)) in
+    let rest = is.global_items (env_of l.names) l.findings.structs l.leaves l.counts l.n (expr_trees (map view_expr (drop l.e-index l.es))) in
+    let all = is.global_items (env_of l.names) l.fn.findings.structs l.leaves l.is_counted 0 (expr_trees (map view_expr l.fn.es)) in
     record {
       number : l.n ≡ l.e-index;
       values : l.values.items ++ rest.values ≡ all.values;
       structs : rest.structs ≡ all.structs;
-      faults : l.faults.items ++ rest.faults ≡ l.fn.faults.items ++ all.faults;
+      faults : l.findings.faults.items ++ rest.faults ≡ l.fn.findings.faults.items ++ all.faults;
     }

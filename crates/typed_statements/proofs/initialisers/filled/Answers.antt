@@ -8,7 +8,7 @@ use Rattle.typed_statements.proofs.initialisers.filled.Goals as goal
 
 pub returns : goal.returns
 returns c =
-    let before = progress_of c.args.names.now c.args.structs.now c.args.exprs.now c.args.faults.now in
-    let after = progress_of c.args.names.now c.items.new.structs c.items.new.exprs c.items.new.faults in
-    let st = state_of c.args.names.now c.args.structs.now c.args.exprs.now in
+    let before = progress_of c.args.names.now c.args.walk.now in
+    let after = progress_of c.args.names.now c.items.new.walk in
+    let st = state_of c.args.names.now c.args.walk.now in
     lists_alike c.items.result before after st (map view_expr c.args.es.now) _ c.deref.result.now _ _ c.is_sound.result _ c.items.ensures (grind arith) (grind arith) (grind (arith, length-map)) c.in_ok-leaves.ensures
