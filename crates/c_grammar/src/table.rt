@@ -326,17 +326,3 @@ fn expression_alternatives(symbol: Symbol) -> &'static [u8]
         _ => &[],
     }
 }
-
-#[cfg(test)]
-mod tests {
-    use super::*;
-
-    #[test]
-    fn rows_are_numbered_by_the_grammar(rt: HostRuntime) {
-        assert!(rt; row(Symbol::Statement, TokenKind::While) == Some(72));
-        assert!(rt; row(Symbol::ElsePart, TokenKind::Else) == Some(78));
-        assert!(rt; row(Symbol::ElsePart, TokenKind::CloseBrace) == Some(79));
-        assert!(rt; row(Symbol::Statement, TokenKind::Switch) == Some(169));
-        assert!(rt; row(Symbol::Sections, TokenKind::While) == None);
-    }
-}

@@ -20,8 +20,6 @@ mod rest;
 mod specifiers;
 mod statement_rule;
 mod statements;
-#[cfg(test)]
-mod tests;
 mod text;
 
 pub use error::ParseError;
