@@ -1,1 +1,2 @@
+mod Traps
 pub mod WorkedCore

@@ -5,3 +5,4 @@ pub mod Lowered
 pub mod Operators
 pub mod Purity
 pub mod Statements
+pub mod Worked

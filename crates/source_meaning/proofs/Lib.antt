@@ -6,4 +6,3 @@ pub mod RunLaws
 pub mod SizeLemmas
 pub mod StatementBudgets
 pub mod WorkedRuns
-pub mod WorkedTrees

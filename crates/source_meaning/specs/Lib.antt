@@ -6,3 +6,4 @@ pub mod State
 pub mod Statements
 pub mod Values
 pub mod WholeRun
+pub mod WorkedTrees
