@@ -119,14 +119,24 @@ fn check_program(alloc: Global, items: &[Item]) -> Result<Progress, AllocError>
 fn parts(alloc: Global, progress: Progress) -> Result<(Elaborated, Vec<TypeFault>), AllocError>
     ensures { IfOk result (λ p. (view_elaborated p.0 ≡ is.tree_of (progress_of progress)) × (p.1.items ≡ progress.walk.findings.faults.items)) }
 {
-    let structs = struct_infos(alloc, &progress.walk.findings.structs)?;
+    let Progress {
+        names: _,
+        walk,
+        functions,
+        globals,
+        cells: _,
+        has_main: _,
+    } = progress;
+    let Walk { findings, exprs } = walk;
+    let Findings { structs, faults } = findings;
+    let structs = struct_infos(alloc, &structs)?;
     let parts = Elaborated {
         structs: Listed::new(structs),
-        globals: Listed::new(progress.globals),
-        functions: progress.functions,
-        exprs: progress.walk.exprs,
+        globals: Listed::new(globals),
+        functions,
+        exprs,
     };
-    Ok((parts, progress.walk.findings.faults))
+    Ok((parts, faults))
 }
 
 /// The answer with these parts and these faults.
