@@ -3,10 +3,10 @@ use Rattle.std.specs.Prelude.{◌≡◌, List, [], Result, Ok, Err}
 use Rattle.pt_tree.specs.ProgramTree.{ItemTree}
 use Rattle.typed_tree.specs.declared.typed.Typed.{Typed}
 use Rattle.typed_tree.specs.TypedView.{view_typed}
-use Rattle.typed_programs.specs.declared.answer.TypeError.{TypeError}
-use Rattle.typed_programs.specs.declared.answer.TypeError.TheVariants.{Faults, Memory}
-use Rattle.typed_programs.specs.Answers.{AreFaults}
-use Rattle.typed_programs.specs.Programs.{CheckedProgram, checked_program}
+use Rattle.check_programs.specs.declared.answer.TypeError.{TypeError}
+use Rattle.check_programs.specs.declared.answer.TypeError.TheVariants.{Faults, Memory}
+use Rattle.check_programs.specs.Answers.{AreFaults}
+use Rattle.check_programs.specs.Programs.{CheckedProgram, checked_program}
 
 -- without a fault the typed tree, else all faults
 abbrev pub Answers : Result Typed TypeError → CheckedProgram → Type 0

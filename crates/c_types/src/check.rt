@@ -7,7 +7,7 @@ ghost use Rattle.c_types.specs.Answers.{IsAnswer};
 
 use pt_tree::Program;
 use std::alloc::Global;
-use typed_programs::{TypeError, elaborate};
+use check_programs::{TypeError, elaborate};
 use typed_tree::Typed;
 
 /// The typed tree of a program, which has fewer than 16,777,216 nodes, or all its type faults.

@@ -4,4 +4,4 @@
 mod check;
 
 pub use check::check_types;
-pub use typed_programs::TypeError;
+pub use check_programs::TypeError;

@@ -5,8 +5,8 @@ use Rattle.std.specs.Prelude.{slice_get}
 use Rattle.std.specs.List.{Contains}
 use Rattle.pt_tree.specs.ProgramTree.{ItemTree}
 use Rattle.typed_tree.specs.TypedTree.{TypedTree}
-use Rattle.declared_types.specs.declared.fault.TypeFault.{TypeFault}
-use Rattle.declared_types.specs.Faults.{fault_cmp}
+use Rattle.check_declarations.specs.declared.fault.TypeFault.{TypeFault}
+use Rattle.check_declarations.specs.Faults.{fault_cmp}
 use Rattle.c_lexer.specs.declared.TheConstants.{TEXT_LIMIT}
 use Rattle.c_lexer.specs.declared.token.Token.{Token}
 use Rattle.c_lexer.specs.declared.error.LexFault.{LexFault}
@@ -17,8 +17,8 @@ use Rattle.c_grammar.specs.Machine.{Outcome, done, fault_at, too_deep, unfinishe
 use Rattle.c_parser.specs.Answer.{Gives}
 use Rattle.c_parser.specs.Parses.{deepest}
 use Rattle.c_parser.proofs.Outcomes.{one_outcome}
-use Rattle.typed_programs.specs.Answers.{AreFaults}
-use Rattle.typed_programs.specs.Programs.{checked_program, type_faults}
+use Rattle.check_programs.specs.Answers.{AreFaults}
+use Rattle.check_programs.specs.Programs.{checked_program, type_faults}
 use Rattle.front_end.specs.declared.parse_fault.ParseFault.{ParseFault}
 use Rattle.front_end.specs.declared.parse_fault.ParseFaultKind.{ParseFaultKind}
 use Rattle.front_end.specs.declared.parse_fault.ParseFaultKind.TheVariants.{FaultAt, TooDeep}

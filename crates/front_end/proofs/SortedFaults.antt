@@ -9,8 +9,8 @@ use Rattle.std.specs.List.Sorted.{IsStrictlySortedBy}
 use Rattle.std.proofs.lemmas.List.Elements.{All-contains, Contains-append_left, Contains-append_right, Contains-append_cases, Contains-push, Contains-push_cases}
 use Rattle.std.proofs.lemmas.Map.Keys.{sorted_tail}
 use Rattle.std.proofs.lemmas.Map.Views.{All-after_first}
-use Rattle.declared_types.specs.declared.fault.TypeFault.{TypeFault}
-use Rattle.declared_types.specs.Faults.{fault_cmp, fault_number}
+use Rattle.check_declarations.specs.declared.fault.TypeFault.{TypeFault}
+use Rattle.check_declarations.specs.Faults.{fault_cmp, fault_number}
 
 -- of two elements each one is not below the other
 abbrev pub IsOneWay : {X : Type 0} → (X → X → Ordering) → Type 0

@@ -1,8 +1,8 @@
 -- The error of a stage as the front end hands it on.
 use Rattle.c_lexer.specs.declared.error.LexError.{LexError}
 use Rattle.c_lexer.specs.declared.error.LexError.TheVariants as lex
-use Rattle.typed_programs.specs.declared.answer.TypeError.{TypeError}
-use Rattle.typed_programs.specs.declared.answer.TypeError.TheVariants as types
+use Rattle.check_programs.specs.declared.answer.TypeError.{TypeError}
+use Rattle.check_programs.specs.declared.answer.TypeError.TheVariants as types
 use Rattle.front_end.specs.declared.error.FrontError.{FrontError}
 use Rattle.front_end.specs.declared.error.FrontError.TheVariants.{Lex, Types, Memory}
 

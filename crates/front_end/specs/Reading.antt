@@ -13,9 +13,9 @@ use Rattle.pt_tree.specs.ProgramTree.{ItemTree, view_item}
 use Rattle.typed_tree.specs.declared.typed.Typed.{Typed}
 use Rattle.typed_tree.specs.TypedTree.{TypedTree}
 use Rattle.typed_tree.specs.TypedView.{view_typed}
-use Rattle.declared_types.specs.declared.fault.TypeFault.{TypeFault}
-use Rattle.typed_programs.specs.Answers.{AreFaults}
-use Rattle.typed_programs.specs.Programs.{checked_program, type_faults}
+use Rattle.check_declarations.specs.declared.fault.TypeFault.{TypeFault}
+use Rattle.check_programs.specs.Answers.{AreFaults}
+use Rattle.check_programs.specs.Programs.{checked_program, type_faults}
 use Rattle.front_end.specs.declared.error.FrontError.{FrontError}
 use Rattle.front_end.specs.declared.error.FrontError.TheVariants.{Lex, Parse, Types, Memory}
 use Rattle.front_end.specs.declared.parse_fault.ParseFault.{ParseFault}

@@ -1,8 +1,8 @@
 // Why a text has no typed tree: the faults of the first stage that finds one.
 use crate::parse_fault::ParseFault;
 use c_lexer::{LexError, LexFault};
-use declared_types::TypeFault;
-use typed_programs::TypeError;
+use check_declarations::TypeFault;
+use check_programs::TypeError;
 
 /// Why a text has no typed tree.
 #[derive(Drop)]

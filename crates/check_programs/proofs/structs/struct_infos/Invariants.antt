@@ -1,0 +1,6 @@
+use Rattle.std.proofs.Common.{◌≡◌, ◌++◌, drop, map}
+use Rattle.check_expressions.specs.StructInfos as is
+use Rattle.check_programs.proofs.structs.struct_infos.Given as goal
+
+abbrev pub invariant-loop-number : goal.invariant-loop-number
+invariant-loop-number l = l.infos.items ++ map is.struct_info (drop l.number l.structs) ≡ map is.struct_info l.structs

@@ -1,6 +1,0 @@
-use Rattle.std.proofs.Common.{◌∙◌, ap, map}
-use Rattle.declared_types.proofs.NameTableLemmas.{values_named}
-use Rattle.declared_types.proofs.name_table.NameTable.values.Goals as goal
-
-pub returns : goal.returns
-returns g c = c.values.ensures.rest ∙ values_named _ ∙ ap (map (λ e. e.1)) c.self.view_is

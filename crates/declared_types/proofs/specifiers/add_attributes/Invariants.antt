@@ -1,6 +1,0 @@
-use Rattle.std.proofs.Common.{◌≡◌, ◌++◌, drop, map}
-use Rattle.declared_types.specs.Marks.{attribute_of}
-use Rattle.declared_types.proofs.specifiers.add_attributes.Given as goal
-
-abbrev pub invariant-loop-name : goal.invariant-loop-name
-invariant-loop-name l = l.attributes.items ++ map attribute_of (drop l.name-index l.names) ≡ l.fn.attributes.items ++ map attribute_of l.fn.names

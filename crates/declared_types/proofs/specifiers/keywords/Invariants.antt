@@ -1,7 +1,0 @@
-use Rattle.std.proofs.Common.{◌≡◌, ◌++◌, drop}
-use Rattle.pt_tree.specs.SpecifierTree.{view_specs}
-use Rattle.declared_types.specs.Specifiers as is
-use Rattle.declared_types.proofs.specifiers.keywords.Given as goal
-
-abbrev pub invariant-loop-spec : goal.invariant-loop-spec
-invariant-loop-spec l = l.words.items ++ is.keywords (view_specs (drop l.spec-index l.specs)) ≡ is.keywords (view_specs l.fn.specs)

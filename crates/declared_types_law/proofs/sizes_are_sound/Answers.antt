@@ -1,5 +1,0 @@
-use Rattle.declared_types_law.proofs.SizeLemmas.{sizes_are_sound}
-use Rattle.declared_types_law.proofs.sizes_are_sound.Goals as goal
-
-pub returns : goal.returns
-returns c = sizes_are_sound

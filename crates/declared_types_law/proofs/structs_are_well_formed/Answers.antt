@@ -1,5 +1,0 @@
-use Rattle.declared_types_law.proofs.StructLemmas.{structs_are_well_formed}
-use Rattle.declared_types_law.proofs.structs_are_well_formed.Goals as goal
-
-pub returns : goal.returns
-returns c = structs_are_well_formed

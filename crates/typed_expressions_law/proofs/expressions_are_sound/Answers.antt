@@ -1,6 +1,0 @@
-use Rattle.declared_types_law.proofs.SpecifierLemmas.{specifiers_are_sound}
-use Rattle.typed_expressions_law.proofs.Judgments.{expressions_by}
-use Rattle.typed_expressions_law.proofs.expressions_are_sound.Goals as goal
-
-pub returns : goal.returns
-returns c = expressions_by specifiers_are_sound

@@ -1,6 +1,0 @@
--- The table of labels as a list.
-use Rattle.typed_statements.specs.declared.seen.SeenLabels.{SeenLabels}
-use Rattle.typed_statements.specs.Labels.{Seen}
-
-abbrev pub seen_of : SeenLabels → Seen
-seen_of s = record { cases = s.cases.keys; has_default = s.has_default }

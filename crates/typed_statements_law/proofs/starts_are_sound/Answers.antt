@@ -1,6 +1,0 @@
-use Rattle.declared_types_law.proofs.LeavesLemmas.{leaves_are_sound}
-use Rattle.typed_statements_law.proofs.GlobalStarts.{starts_sound}
-use Rattle.typed_statements_law.proofs.starts_are_sound.Goals as goal
-
-pub returns : goal.returns
-returns c = starts_sound leaves_are_sound
