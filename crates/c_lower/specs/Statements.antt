@@ -149,8 +149,8 @@ switch_temps ty = counting (Int ty) ∷ counting int ∷ counting int ∷ []
 abbrev pub switched : Span → IntType → VarTy → ℕ → Onward → SectionTrees → Lowered → Effects → Effects
 switched s ty from k mode sections v body = record {
   stmts = v.stmts
-    ++ hold k (as_int from ty v.value) ∷ hold (k + 1) (number (otherwise_of sections)) ∷ cases_from s ty k 0 sections
-    ++ hold (k + 2) (number 0) ∷ repeat (stmt_trees (body.stmts ++ break_out ∷ [])) s ∷ behind_switch mode (k + 2);
+      ++ hold k (as_int from ty v.value) ∷ hold (k + 1) (number (otherwise_of sections)) ∷ cases_from s ty k 0 sections
+      ++ hold (k + 2) (number 0) ∷ repeat (stmt_trees (body.stmts ++ break_out ∷ [])) s ∷ behind_switch mode (k + 2);
   temps = v.temps ++ switch_temps ty ++ body.temps;
 }
 

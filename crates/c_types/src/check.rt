@@ -5,9 +5,9 @@ ghost use Rattle.typed_tree.specs.Nodes.{nodes_of};
 ghost use Rattle.typed_tree.specs.TypedView.{view_typed};
 ghost use Rattle.c_types.specs.Answers.{IsAnswer};
 
+use check_programs::{TypeError, elaborate};
 use pt_tree::Program;
 use std::alloc::Global;
-use check_programs::{TypeError, elaborate};
 use typed_tree::Typed;
 
 /// The typed tree of a program, which has fewer than 16,777,216 nodes, or all its type faults.

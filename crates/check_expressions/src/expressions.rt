@@ -19,7 +19,9 @@ use crate::postfixes::{
     argument, arrow, called, dotted, function_called, indexed, param_at, params_for,
 };
 use crate::prefixes::{Stepping, cast_to, prefixed, refused, stepped};
-use check_declarations::{Carrier, FaultKind, Findings, TypeFault, judge_specifiers, note_attributes};
+use check_declarations::{
+    Carrier, FaultKind, Findings, TypeFault, judge_specifiers, note_attributes,
+};
 use pt_base::{FnId, Span};
 use pt_tree::{Constant, Expr, Link, Postfix, Spec, Word};
 use std::alloc::{AllocError, Global};

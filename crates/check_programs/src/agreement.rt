@@ -3,10 +3,10 @@ ghost use Rattle.std.specs.Prelude.{◌≡◌};
 ghost use Rattle.type_rules.specs.Types.{is_same_int, is_same_elem};
 ghost use Rattle.check_programs.specs.Functions as is;
 
+use check_expressions::Callable;
 use pt_base::IntType;
 use pt_tree::Elem;
 use type_rules::Type;
-use check_expressions::Callable;
 
 /// Whether the types of two declarations are one. What is faulty agrees with everything.
 pub(crate) fn agree(a: Type, b: Type) -> bool

@@ -19,12 +19,12 @@ use crate::functions::{
 };
 use crate::progress::Progress;
 use check_declarations::{FaultKind, note_if};
+use check_expressions::{Callable, Names};
+use check_statements::Walk;
 use pt_base::{Listed, Span};
 use pt_tree::{Block, Function, Stmt};
 use std::alloc::{AllocError, Global};
 use type_rules::Type;
-use check_expressions::{Callable, Names};
-use check_statements::Walk;
 use typed_tree::{TypedBody, TypedFn, Var};
 
 /// Gives a function the place of its name in its definition, its variables and its body.

@@ -7,11 +7,11 @@ ghost use Rattle.check_programs.specs.Functions as is;
 
 use crate::function_marks::{FunctionMarks, marks_at};
 use check_declarations::Marks;
+use check_expressions::{Callable, Variable};
 use pt_base::{IntType, Listed, Span};
 use pt_tree::{Param, ParamKind, Signature};
 use std::alloc::{AllocError, Global};
 use type_rules::Type;
-use check_expressions::{Callable, Variable};
 use typed_tree::{TypedFn, Var, VarTy};
 
 /// The type of an object; that of a faulty one is any.

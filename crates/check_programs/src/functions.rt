@@ -17,11 +17,11 @@ use check_declarations::{
     Carrier, Findings, NameTable, Structs, cells_of, judge_specifiers, note_attributes,
     note_result, result_type,
 };
+use check_expressions::{Callable, Meaning, Names, Variable};
 use pt_base::{Bytes, FnId, IntType, Listed, Span};
 use pt_tree::Function;
 use std::alloc::{AllocError, Global};
 use type_rules::Type;
-use check_expressions::{Callable, Meaning, Names, Variable};
 use typed_tree::TypedFn;
 
 /// The most cells that the variables of a function may have together.

@@ -12,12 +12,12 @@ use check_declarations::{
     Carrier, FaultKind, ObjectKind, Specified, Structs, TypeFault, cells_of, is_fixed,
     judge_specifiers, marks_among, note_attributes, note_if, note_object, note_size, object_type,
 };
+use check_expressions::Object;
+use check_statements::global_values;
 use pt_base::Listed;
 use pt_tree::{Declaration, Declarator, InitDeclarator};
 use std::alloc::{AllocError, Global};
 use type_rules::Type;
-use check_expressions::Object;
-use check_statements::global_values;
 use typed_tree::{TypedGlobal, Var};
 
 /// The most cells that all globals may have together.

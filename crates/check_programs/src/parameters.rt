@@ -11,11 +11,11 @@ use check_declarations::{
     Carrier, FaultKind, Findings, ObjectKind, Specified, TypeFault, is_fixed, is_mutable_pointer,
     judge_specifiers, note_attributes, note_if, note_object, object_type,
 };
+use check_expressions::{Names, Variable};
 use pt_base::{Bytes, Span};
 use pt_tree::{ParamDecl, Spec, SpecWord, Suffix, Word};
 use std::alloc::{AllocError, Global};
 use type_rules::Type;
-use check_expressions::{Names, Variable};
 
 /// How many parameters a function may have.
 const MOST_PARAMS: usize = 8;

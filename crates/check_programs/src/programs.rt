@@ -16,11 +16,11 @@ use crate::mark_table::{MarkTable, mark_table, undeclared};
 use crate::progress::Progress;
 use crate::structs::struct_infos;
 use check_declarations::{FaultKind, Findings, TypeFault, arrange, note_if};
+use check_expressions::Names;
+use check_statements::Walk;
 use pt_base::{Listed, Span};
 use pt_tree::{Item, Program};
 use std::alloc::{AllocError, Global};
-use check_expressions::Names;
-use check_statements::Walk;
 
 /// Adds the fault of a program that can't begin.
 fn note_main(faults: &mut Vec<TypeFault>, has_main: bool) -> Result<(), AllocError>

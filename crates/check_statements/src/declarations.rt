@@ -13,11 +13,11 @@ use check_declarations::{
     Carrier, FaultKind, ObjectKind, Specified, Structs, TypeFault, is_fixed, judge_specifiers,
     marks_among, note_attributes, note_if, note_object, note_size, object_type,
 };
+use check_expressions::{Names, Variable};
 use pt_base::{Listed, VarId};
 use pt_tree::{Declaration, Declarator, InitDeclarator};
 use std::alloc::{AllocError, Global};
 use type_rules::Type;
-use check_expressions::{Names, Variable};
 use typed_tree::{TypedDeclaration, TypedDeclarator};
 
 /// A declaration in a function.

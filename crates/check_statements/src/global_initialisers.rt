@@ -13,11 +13,11 @@ use crate::constants::{Number, number_of};
 use crate::initialisers::{is_sound, is_still_counted, leaf_at};
 use crate::leaves::first_leaves;
 use check_declarations::{FaultKind, Findings, TypeFault, note_if};
+use check_expressions::{Names, expression, is_misfit, span_of};
 use pt_int::convert;
 use pt_tree::{Expr, Initializer};
 use std::alloc::{AllocError, Global};
 use type_rules::{Type, Value};
-use check_expressions::{Names, expression, is_misfit, span_of};
 
 /// What a global of this type starts with: the values of its first leaves in order, as many as the
 /// initialiser gives. Its further leaves start with 0.

@@ -11,11 +11,11 @@ use crate::leaves::first_leaves;
 use crate::outermost::{evaluated, fitted};
 use crate::walk::Walk;
 use check_declarations::{FaultKind, note_if};
+use check_expressions::{Names, span_of};
 use pt_base::{Listed, Span};
 use pt_tree::{Expr, Initializer};
 use std::alloc::{AllocError, Global};
 use type_rules::Type;
-use check_expressions::{Names, span_of};
 use typed_tree::{ExprId, TypedInit};
 
 /// What a variable of this type starts with.

@@ -6,10 +6,10 @@ ghost use Rattle.check_statements.specs.Outermost as is;
 
 use crate::walk::Walk;
 use check_declarations::{FaultKind, note_if};
+use check_expressions::{Names, as_type, expression, is_misfit, span_of};
 use pt_tree::Expr;
 use std::alloc::{AllocError, Global};
 use type_rules::{ConditionRule, Type, condition_rule};
-use check_expressions::{Names, as_type, expression, is_misfit, span_of};
 use typed_tree::{ExprId, TypedExpr};
 
 /// How many there are, as the number of the next one.

@@ -14,11 +14,11 @@ use crate::seen::SeenLabels;
 use crate::switches::{Kind, control, labelled};
 use crate::walk::Walk;
 use check_declarations::{FaultKind, note_if};
+use check_expressions::Names;
 use pt_base::Span;
 use pt_tree::{Expr, ForInit, Section, Stmt};
 use std::alloc::{AllocError, Global};
 use type_rules::Type;
-use check_expressions::Names;
 use typed_tree::{ExprId, TypedBody, TypedForInit, TypedSection};
 
 /// The items of a function's outermost block, for a result of this type. They stand in the innermost

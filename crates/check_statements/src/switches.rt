@@ -15,12 +15,12 @@ use crate::outermost::place;
 use crate::seen::SeenLabels;
 use crate::walk::Walk;
 use check_declarations::{FaultKind, Findings, TypeFault, note_if};
+use check_expressions::{Names, expression, span_of};
 use pt_base::{IntType, Span};
 use pt_int::{convert, promote};
 use pt_tree::{Expr, Label};
 use std::alloc::{AllocError, Global};
 use type_rules::Type;
-use check_expressions::{Names, expression, span_of};
 use typed_tree::{ExprId, TypedLabel};
 
 /// How the cases of a switch are compared.
