@@ -4,11 +4,11 @@
 
 mod lines;
 mod rows;
-mod runs;
+mod stages;
 
 use anyhow::{Context, Result, bail};
 use rows::Rows;
-use runs::shown;
+use stages::shown;
 use std::rt::Runtime;
 use std::thread::Builder;
 use std::{env, fs};
