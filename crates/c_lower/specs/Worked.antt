@@ -1,4 +1,5 @@
--- Programs that trap, in the normal form: each ends as it does in C, at the same place of the text.
+-- Five programs that trap, and one that doesn't, in the normal form: each ends as it does in C, at the same
+-- place of the text.
 use Rattle.std.specs.Prelude.{◌≡◌, ℕ, false, pos, List, [], ◌∷◌, Some, codes}
 use Rattle.pt_base.specs.declared.end.End.{End}
 use Rattle.pt_base.specs.declared.end.End.TheVariants.{Exit, Trapped}

@@ -3,7 +3,8 @@
 
 ghost use Rattle.c_lower.specs.Worked.{TrapsAreKept};
 
-/// Programs that trap end in the normal form with the trap and at the place that they have in C.
+/// Five small programs that trap, and one that doesn't, end in the normal form as in C: with the same
+/// trap, at the same place.
 pub fn traps_are_kept()
     ensures { TrapsAreKept }
 {}

@@ -32,7 +32,7 @@ abbrev pub begun : ProgramTree → Hosts → List ℕ → ℕ → State
 begun program hosts input turns =
     record { memory = with_globals program.structs no_blocks program.globals; hosts = hosts; input = input; events = []; left = turns }
 
--- main runs at depth 1, and entering it takes no turn
+-- main has depth 1, and to enter it takes no turn
 abbrev pub main_frame : ProgramTree → Frame
 main_frame program = record { context = context_in program (main_in program); depth = 1; privileged = false }
 

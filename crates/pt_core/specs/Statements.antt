@@ -86,7 +86,7 @@ after_round more continues st = more st
 after_round more broke st = gives goes_on st
 after_round more (returned v) st = gives (returned v) st
 
--- a loop takes a turn when it is entered and each time that control goes back to its head; with as many
+-- each round of a loop, the first and those that control comes back for, takes a turn; with as many
 -- rounds as turns are left, none is missed
 abbrev pub looped : ℕ → (State → Outcome Flow) → State → Outcome Flow
 looped zero round st = spent st

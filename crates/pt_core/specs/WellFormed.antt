@@ -37,7 +37,7 @@ are_in_order p = are_rising 0 (map (λ s. s.0) p.signatures) && (are_rising 0 (m
 
 -- ---- globals and signatures
 
--- a global is no pointer, and has the cells of its type, each in its range
+-- a global is no pointer, and has one number in range for each integer of its type
 abbrev pub global_fits : List StructInfo → GlobalTree → Bool
 global_fits structs g =
     (is_plain_type (length structs) g.var.ty && is_small structs g.var.ty) && cells_fit (leaves_of structs g.var.ty) g.cells
@@ -80,11 +80,11 @@ called_signature monitor p f = option_map (with_own monitor (function_at p f)) (
 abbrev pub scope_of : Bool → ProgramTree → FunctionTree → Signature → Scope
 scope_of monitor p f s = record { context = context_of p f.vars; result = s.result; called = called_signature monitor p }
 
--- a function's own parameters are all those of its signature, but in the monitor's program the first ones
+-- a function has all parameters of its signature, or, in the monitor's program, the first ones
 abbrev pub counts_fit : Bool → ℕ → ℕ → Bool
 counts_fit monitor own all = if monitor then nat_le own all else nat_eq own all
 
--- a function is no host, and agrees with its signature in its own parameters and its result
+-- a function is no host, and has the parameters and the result that its signature says
 abbrev pub function_by : Bool → ProgramTree → FunctionTree → Option Signature → Bool
 function_by monitor p f None = false
 function_by monitor p f (Some s) =
@@ -125,7 +125,7 @@ is_only_start p [] = false
 is_only_start p (f ∷ []) = starts_by (signature_at p f.id)
 is_only_start p (f ∷ (g ∷ rest)) = false
 
--- exactly one of the functions is named main, and may be started
+-- one function, and no second, has the name main, and it may be started
 abbrev pub has_main : ProgramTree → Bool
 has_main p = is_only_start p (filter (λ f. is_main_by (signature_at p f.id)) p.functions)
 
@@ -172,7 +172,7 @@ is_plain_host (Some s) = s.host && not s.privileged
 abbrev pub is_answered : ProgramTree → List ℕ → ℕ → Bool
 is_answered p hosts f = not (is_plain_host (signature_at p f)) || list_any (nat_eq f) hosts
 
--- the hosts are in order, each model fits, and every called host that isn't privileged is among them
+-- the hosts are in order, each model fits, and none is wanting that is called and isn't privileged
 abbrev pub hosts_fit : Fits → ProgramTree → List (ℕ × HostModel) → Bool
 hosts_fit fits p hosts =
     (are_rising 0 (map (λ h. h.0) hosts) && list_all (host_fits fits p) hosts)
@@ -190,7 +190,7 @@ is_well_formed_boot fits b = is_well_formed (boot_program b) && hosts_fit fits (
 abbrev pub shared_elem : VarTy → Option Elem
 shared_elem ty = if is_some (item_of (Some ty)) then item_of (Some ty) else element_of (Some ty)
 
--- the parameter is a pointer to the global's elements
+-- the parameter points to what the global consists of
 abbrev pub bind_by : Param → Option GlobalTree → Bool
 bind_by x None = false
 bind_by x (Some g) = both_elem (pointee_of (Some (param_type x.kind))) (shared_elem g.var.ty)
@@ -212,7 +212,7 @@ abbrev pub bound_by : ProgramTree → List Bind → Signature → Option Functio
 bound_by p shared s None = false
 bound_by p shared s (Some f) = binds_fit p f.params (drop f.params s.params) shared && are_different (map (λ b. b.global.0) shared)
 
--- an entry that is a host binds no global
+-- a host among the entries binds nothing
 abbrev pub entry_by : ProgramTree → Entry → Option Signature → Bool
 entry_by p e None = false
 entry_by p e (Some s) = if s.host then nat_eq (length e.shared) 0 else bound_by p e.shared s (function_at p e.function.0)

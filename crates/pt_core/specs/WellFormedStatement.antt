@@ -1,5 +1,5 @@
 -- Which statements are well formed: what is stored, passed and returned has the type of what it goes to,
--- and `break` and `continue` stand in a loop.
+-- and no `break` and no `continue` stands outside of loops.
 use Rattle.std.specs.Prelude.{ℕ, List, [], ◌∷◌, ◌++◌, Option, Some, None, Bool, true, false, ◌&&◌, not, nat_lt, length, is_none, option_map}
 use Rattle.pt_base.specs.declared.int_type.IntType.{IntType}
 use Rattle.pt_tree.specs.declared.signature.Param.{Param}

@@ -99,8 +99,8 @@ fn copied(alloc: Global, statements: &[Stmt]) -> Result<Vec<Stmt>, AllocError>
 }
 
 impl CoreFn {
-    /// A function that is equal to this one. However long a chain of operators to the left is, it
-    /// takes no stack.
+    /// A function that is equal to this one. A chain of operators to the left takes
+    /// no stack for its links.
     pub fn copy(&self, alloc: Global) -> Result<CoreFn, AllocError>
         ensures { IfOk result (λ f. view_function f ≡ view_function self.now) }
     {

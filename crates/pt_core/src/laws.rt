@@ -2,14 +2,15 @@
 ghost use Rattle.pt_core.specs.BootLaw.{BootsAddHosts};
 ghost use Rattle.pt_core.specs.ServingLaw.{WholeMayServe};
 
-/// A boot is well formed exactly where the slave's program is and its hosts have models that fit
-/// them.
+/// A boot is well formed exactly where the slave's program is and its list of hosts is: in order, each
+/// with a model that fits, and none wanting that is called and isn't privileged. It holds of any test
+/// of what fits.
 pub fn boots_add_hosts()
     ensures { BootsAddHosts }
 {}
 
-/// A program whose functions have all parameters of their signatures may be the monitor's, where
-/// the privileged functions that it calls are among its functions.
+/// A program whose functions have all parameters of their signatures may be the monitor's, its
+/// entries aside, where the privileged functions that it calls are among its functions.
 pub fn whole_programs_may_serve()
     ensures { WholeMayServe }
 {}

@@ -8,7 +8,7 @@ use typed_tree::StructInfo;
 /// What functions are called with, each with the function's number.
 pub type Signatures = Listed<(FnId, Signature)>;
 
-/// A whole program: its functions, and the signatures of these and of all that they call. Each
+/// A whole program: its functions, and signatures for them and for what they call. Each
 /// list is in the order of the numbers.
 #[derive(Drop)]
 pub struct CoreProgram {

@@ -40,7 +40,7 @@ pub enum Stmt {
         yes: Vec<Stmt>,
         no: Vec<Stmt>,
     },
-    /// A turn begins on entry and on each return to the head.
+    /// A turn begins each time that control comes to the head.
     Loop {
         body: Vec<Stmt>,
         span: Span,

@@ -1,5 +1,5 @@
 //! What a well formed program computes: its values are of the kinds that its types say, and its pointers
-//! point to live objects.
+//! are null or name live objects.
 #![tactic(auto)]
 
 ghost use Rattle.source_soundness.specs.Laws.{CallsKeepTypes, PlacesAreLive, ProgramsBeginFitting, StatementsKeepTypes, ValuesHaveTheirTypes};
@@ -9,7 +9,7 @@ pub fn values_have_their_types()
     ensures { ValuesHaveTheirTypes }
 {}
 
-/// A place lies in a live object, and is of its type.
+/// A place names a live object, and has its type. That its cells lie inside the object isn't said.
 pub fn places_are_live()
     ensures { PlacesAreLive }
 {}
