@@ -15,6 +15,7 @@ use Rattle.typed_tree.specs.declared.link.LogicalOp.{LogicalOp}
 use Rattle.typed_tree.specs.declared.link.LogicalOp.TheVariants.{And, Or}
 use Rattle.typed_tree.specs.ExpressionTree as t
 use Rattle.typed_tree.specs.ExpressionTree.{typed, FormTree, ExprTrees, no_exprs, expr_and, LinkTree, LinkTrees, no_links, link_and, link, link_trees, OperandTree, OperandTrees, no_operands, operand_and, operand, RootTree, StepTree, StepTrees, no_steps, step_and, step_trees}
+use Rattle.typed_tree.specs.TypeTests.{points_to_const}
 use Rattle.pt_core.specs.CodeTree.{local, global, deref, PlaceTree, place, ExprTree, constant, read, null, address, decay, move, StmtTree, check, assign, copy, call, choose, expr_trees, stmt_trees}
 use Rattle.pt_core.specs.Types.{field_type, pointee_type, element_of, type_at}
 use Rattle.source_meaning.specs.Expressions.{type_or_int, type_of}
@@ -45,11 +46,18 @@ is_struct _ = false
 -- ---- places
 
 abbrev pub named_place : RootTree → VarTy → PlaceTree → LoweredPlace
-named_place root ty p = record { stmts = []; place = p; ty = ty; through = None; temps = [] }
+named_place root ty p = record { stmts = []; place = p; ty = ty; fixed = false; through = None; temps = [] }
 
 -- what the value of a pointer points to
 abbrev pub behind : Span → t.ExprTree → Lowered → LoweredPlace
-behind s e v = record { stmts = v.stmts; place = place (deref v.value s) []; ty = pointee_type (type_of e); through = Some (holding (type_of e) e); temps = v.temps }
+behind s e v = record {
+  stmts = v.stmts;
+  place = place (deref v.value s) [];
+  ty = pointee_type (type_of e);
+  fixed = points_to_const (Some (type_of e));
+  through = Some (holding (type_of e) e);
+  temps = v.temps;
+}
 
 abbrev pub with_field : List ℕ → ℕ → List ℕ
 with_field path k = path ++ k ∷ []
@@ -61,12 +69,12 @@ place_with_field (place root path) k = place root (with_field path k)
 abbrev pub field_in : Scope → ℕ → LoweredPlace → LoweredPlace
 field_in c k p = record p { place = place_with_field p.place k; ty = field_type c.structs p.ty k }
 
--- a pointer to the first element of an array
-abbrev pub decayed_type : VarTy → VarTy
-decayed_type ty = Pointer (element_of ty) false
+-- a pointer to the first element of an array, which is const where the array is
+abbrev pub decayed_type : Bool → VarTy → VarTy
+decayed_type fixed ty = Pointer (element_of ty) fixed
 
 abbrev pub decayed : Span → t.PlaceTree → LoweredPlace → t.ExprTree
-decayed s source p = typed s (Some (decayed_type p.ty)) (t.decay source)
+decayed s source p = typed s (Some (decayed_type p.fixed p.ty)) (t.decay source)
 
 -- an array's element, as what a moved pointer points to
 abbrev pub moved_to : Span → t.ExprTree → t.ExprTree → VarTy → t.ExprTree
@@ -77,6 +85,7 @@ element_place s first index ty base v = record {
   stmts = base.stmts ++ v.stmts;
   place = place (deref (move base.value v.value false s) s) [];
   ty = pointee_type ty;
+  fixed = points_to_const (Some ty);
   through = Some (holding ty (moved_to s first index ty));
   temps = base.temps ++ v.temps;
 }
@@ -307,6 +316,6 @@ abbrev mutual
   steps_in c (step_and (t.field k) rest) root before far n = steps_in c rest root (before ++ t.field k ∷ []) (field_in c k far) n
   steps_in c (step_and (t.item e s) rest) root before far n =
       let first = decayed s (t.place root (step_trees before)) far in
-      let ty = decayed_type far.ty in
+      let ty = decayed_type far.fixed far.ty in
       let base = held_if (not (is_pure e)) n (holding ty first) (record { stmts = far.stmts; value = decay far.place; temps = far.temps }) in
       steps_in c rest root (before ++ t.item e s ∷ []) (element_place s first e ty base (value_in c e (past n base.temps))) n

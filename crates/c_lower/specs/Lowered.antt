@@ -24,11 +24,12 @@ pub record Lowered : Type 0 where
   pub temps : List Temp
 
 -- statements, behind which a place designates the object. Where it leads through a pointer, what a
--- temporary would hold that keeps the pointer.
+-- temporary would hold that keeps the pointer, and whether it points to const.
 pub record LoweredPlace : Type 0 where
   pub stmts : List StmtTree
   pub place : PlaceTree
   pub ty : VarTy
+  pub fixed : Bool
   pub through : Option Temp
   pub temps : List Temp
 

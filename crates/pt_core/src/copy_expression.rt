@@ -11,7 +11,7 @@ use std::alloc::{AllocError, Global};
 
 impl Place {
     /// A place that is equal to this one.
-    pub(crate) fn copy(&self, alloc: Global) -> Result<Place, AllocError>
+    pub fn copy(&self, alloc: Global) -> Result<Place, AllocError>
         ensures { IfOk result (λ p. view_place p ≡ view_place self.now) }
     {
         let pointer = match self.pointer() {
@@ -51,7 +51,7 @@ impl Expr {
     /// An expression that is equal to this one. However long a chain of operators is to the left,
     /// it takes no stack.
     #[cycle(copies)]
-    pub(crate) fn copy(&self, alloc: Global) -> Result<Expr, AllocError>
+    pub fn copy(&self, alloc: Global) -> Result<Expr, AllocError>
         ensures { IfOk result (λ e. view_expr e ≡ view_expr self.now) }
     {
         let mut above: Vec<&Expr> = Vec::new(alloc);
