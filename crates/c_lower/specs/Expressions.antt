@@ -218,10 +218,10 @@ abbrev mutual
   form_in c (t.convert a) s ty n = let v = value_in c a n in record v { value = converted (type_or_int ty) v.value }
   form_in c (t.discard a) s ty n = valued (effects_in c a n) (constant i.Int (pos 0))
   form_in c (t.chain a links) s ty n = links_in c links a [] s (type_of a) (value_in c a n) n
-  form_in c (t.logical op a operands) s ty n =
+  form_in c (t.logical op a others) s ty n =
       let first = value_in c a n in
       let k = past n first.temps in
-      valued (operands_in c operands op k (started (typed s ty (t.logical op a operands)) k (type_of a) s first) n) (temp k)
+      valued (operands_in c others op k (started (typed s ty (t.logical op a others)) k (type_of a) s first) n) (temp k)
   form_in c (t.choice a b d) s ty n =
       let test = value_in c a n in
       let k = past n test.temps in
@@ -254,7 +254,7 @@ abbrev mutual
   form_effects c (t.convert a) s ty n v = effects_in c a n
   form_effects c (t.discard a) s ty n v = effects_in c a n
   form_effects c (t.chain a links) s ty n v = effects_of (held n (holding (type_or_int ty) (typed s ty (t.chain a links))) v)
-  form_effects c (t.logical op a operands) s ty n v = effects_of v
+  form_effects c (t.logical op a others) s ty n v = effects_of v
   form_effects c (t.choice a b d) s ty n v =
       let test = value_in c a n in
       let first = effects_in c b (past n test.temps) in

@@ -633,7 +633,7 @@ mutual
   assigned_keeps (typed s ty (t.convert b)) w n c st a k h is m = cc
   assigned_keeps (typed s ty (t.discard b)) w n c st a k h is m = cc
   assigned_keeps (typed s ty (t.chain b links)) w n c st a k h is m = cc
-  assigned_keeps (typed s ty (t.logical op b operands)) w n c st a k h is m = cc
+  assigned_keeps (typed s ty (t.logical op b others)) w n c st a k h is m = cc
   assigned_keeps (typed s ty (t.choice b d e)) w n c st a k h is m = cc
   assigned_keeps (typed s ty (t.compound p at step b)) w n c st a k h is m = cc
   assigned_keeps (typed s ty (t.step p at back postfix)) w n c st a k h is m = cc
