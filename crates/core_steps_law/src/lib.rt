@@ -1,0 +1,21 @@
+//! The single steps of the normal form follow its meaning by recursion.
+#![tactic(auto)]
+
+ghost use Rattle.core_steps_law.specs.Laws.{StepsAreTheRun, StepsFollowStatements, StepsTakeATurn};
+
+/// The steps of a whole program come to the run that the recursion gives, with its events, its end
+/// and its turns, and no smaller number of steps ends it.
+pub fn steps_are_the_run()
+    ensures { StepsAreTheRun }
+{}
+
+/// From any machine whose innermost function begins with a list of statements, the steps come to
+/// where the recursion of that list ends.
+pub fn steps_follow_statements()
+    ensures { StepsFollowStatements }
+{}
+
+/// A step takes at most one turn, and none that the budget doesn't have.
+pub fn steps_take_a_turn<G>()
+    ensures { StepsTakeATurn G }
+{}
