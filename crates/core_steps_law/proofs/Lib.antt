@@ -1,1 +1,6 @@
+pub mod Leads
+pub mod Spots
+pub mod StatementSteps
+pub mod CallSteps
+pub mod WholeSteps
 pub mod TurnBounds
