@@ -1,10 +1,10 @@
 -- Calls, step by step, at each depth.
-use Rattle.std.proofs.Common.{◌≡◌, ℕ, zero, suc, ◌+◌, ◌-◌, ◌≤◌, ◌<◌, List, [], ◌∷◌, Option, Some, None, Bool, true, false, refl, sym, ap, ◌∙◌, subst, arith}
+use Rattle.std.proofs.Common.{◌≡◌, ℕ, zero, suc, ◌+◌, ◌-◌, ◌≤◌, ◌<◌, List, [], ◌∷◌, Option, Some, None, Bool, true, false, refl, ap, ◌∙◌, subst, arith}
 use Rattle.std.specs.Prelude.{if◌then◌else◌, ◌||◌, nat_le, map}
 use Rattle.std.proofs.lemmas.Bool.{le-leb, lt-leb}
 use Rattle.pt_base.specs.declared.int_type.IntType.{IntType}
 use Rattle.pt_base.specs.declared.span.Span.{Span}
-use Rattle.pt_base.specs.declared.trap.Trap.TheVariants.{Depth, NoReturn}
+use Rattle.pt_base.specs.declared.trap.Trap.TheVariants.{Depth}
 use Rattle.pt_tree.specs.HostStep.{host_step}
 use Rattle.block_memory.specs.declared.cell.Cell.{Cell}
 use Rattle.block_memory.specs.Blocks.{without_frames}
@@ -18,7 +18,7 @@ use Rattle.pt_core.specs.Calls as c
 use Rattle.pt_core.specs.Calls.{signature_in, function_in, entered, left_at, returned_from, noted_call, number_cell, host_call, inner_frame, body_run, function_call, calls_within}
 use Rattle.pt_core.specs.Steps as s
 use Rattle.pt_core.specs.Steps.{Work, run, Active, Machine, moved, Step, answers, settled, turned, is_active, enters_at, made, made_here, by_way, enters, here}
-use Rattle.core_steps_law.specs.WholeRun.{Outside, whole_gate, whole_way, whole_noted, answered}
+use Rattle.core_steps_law.specs.WholeRun.{Outside, whole_gate, whole_noted, answered}
 use Rattle.core_steps_law.specs.Laws.{machine_at, outside_of}
 use Rattle.core_steps_law.proofs.Leads.{Leads, leads_is, leads_on}
 use Rattle.core_steps_law.proofs.Spots.{Spot, active_in, stack, frame_in, with_work, step_of, Runs, runs_from, at_most, reached, with_left, turn_runs}

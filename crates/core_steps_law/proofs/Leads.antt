@@ -1,6 +1,5 @@
 -- Steps that lead from one answer to another, and the first step that doesn't move.
-use Rattle.std.proofs.Common.{◌≡◌, ℕ, zero, suc, ◌<◌, List, Option, Some, None, refl, ap, ◌∙◌, arith}
-use Rattle.block_memory.specs.declared.cell.Cell.{Cell}
+use Rattle.std.proofs.Common.{◌≡◌, ℕ, zero, suc, ◌<◌, Some, None, refl, ap, ◌∙◌, arith}
 use Rattle.runs.specs.Run.{Run}
 use Rattle.pt_core.specs.CodeTree.{ProgramTree}
 use Rattle.pt_core.specs.Steps.{Machine, Answer, moved, asked, ended, trapped, spent, idle, Step, answers, step}

@@ -4,3 +4,4 @@ pub mod StatementSteps
 pub mod CallSteps
 pub mod WholeSteps
 pub mod TurnBounds
+pub mod Sums

@@ -2,8 +2,8 @@
 use Rattle.std.proofs.Common.{◌≡◌, ℕ, zero, suc, ◌-◌, ◌≤◌, List, [], ◌∷◌, Option, Bool, true, false, refl, sym, ap, ◌∙◌, subst, arith}
 use Rattle.std.specs.Prelude.{Result, Ok, Err, if◌then◌else◌, nat_lt}
 use Rattle.std.proofs.lemmas.Bool.{lt-ltb, le-ltb}
-use Rattle.runs.specs.State.{gives, trapped, spent, ◌>>=◌, take_turn}
-use Rattle.pt_core.specs.CodeTree.{StmtTree, StmtTrees, stmt_and, ProgramTree}
+use Rattle.runs.specs.State.{gives, trapped, spent, take_turn}
+use Rattle.pt_core.specs.CodeTree.{ProgramTree}
 use Rattle.pt_core.specs.Values.{Stop}
 use Rattle.pt_core.specs.Statements.{State, Outcome, Frame, Flow, goes_on, broke, continues, returned, evaluated}
 use Rattle.pt_core.specs.Calls.{context_in}

@@ -1,6 +1,6 @@
 -- What a step takes of the budget.
-use Rattle.std.proofs.Common.{◌≡◌, ℕ, suc, ◌+◌, ◌≤◌, ◌<◌, List, [], ◌∷◌, Option, Some, None, Bool, true, false, refl, arith}
-use Rattle.std.specs.Prelude.{Result, Ok, Err, if◌then◌else◌, nat_lt, nat_le, map, ℤ}
+use Rattle.std.proofs.Common.{◌≡◌, ℕ, suc, ◌+◌, ◌<◌, List, [], ◌∷◌, Option, Some, None, Bool, true, false, refl, arith}
+use Rattle.std.specs.Prelude.{Result, Ok, Err, if◌then◌else◌, nat_lt, nat_le, map}
 use Rattle.std.proofs.lemmas.Bool.{ltb-true}
 use Rattle.pt_base.specs.declared.int_type.IntType.{IntType}
 use Rattle.pt_base.specs.declared.span.Span.{Span}
@@ -9,9 +9,9 @@ use Rattle.runs.specs.Run.{deepest}
 use Rattle.block_memory.specs.declared.cell.Cell.{Cell}
 use Rattle.pt_core.specs.CodeTree.{StmtTree, clear, check, assign, copy, call, choose, repeat, break_out, continue_on, give_back, StmtTrees, no_stmts, stmt_and, ProgramTree}
 use Rattle.pt_core.specs.Values.{Stop, holds_in, number_in, value_of, values_of, location_of}
-use Rattle.pt_core.specs.Statements.{assigned, copied, kept, returned_value}
+use Rattle.pt_core.specs.Statements.{assigned, copied, returned_value}
 use Rattle.pt_core.specs.Calls.{signature_in, function_in, context_in, entered}
-use Rattle.pt_core.specs.Steps.{Work, run, head, Active, Machine, Way, enters, here, away, Gate, asked, moved, spent, trapped, Step, answers, settled, working, with_blocks, with_turn, turned, on_value, returned, at_end, is_active, begins, enters_at, made, made_here, goes_away, by_way, act, works, stepped, step}
+use Rattle.pt_core.specs.Steps.{Work, run, head, Active, Machine, Way, enters, here, away, Gate, asked, moved, spent, trapped, Step, answers, settled, working, with_blocks, with_turn, turned, on_value, returned, at_end, is_active, begins, made, by_way, act, works, stepped}
 use Rattle.core_steps_law.specs.Laws.{TakesATurn, StepsTakeATurn}
 
 still : {G : Type 0} (turns budget : ℕ) (s : Step G) → s.machine.turns ≡ turns → s.machine.budget ≡ budget → TakesATurn turns budget s

@@ -1,12 +1,11 @@
 -- Lists of statements in any machine, and whole programs.
-use Rattle.std.proofs.Common.{◌≡◌, ℕ, zero, suc, ◌-◌, ◌≤◌, List, [], ◌∷◌, Option, Some, None, Bool, true, false, refl, sym, ap, ◌∙◌, subst, arith}
+use Rattle.std.proofs.Common.{◌≡◌, ℕ, ◌-◌, ◌≤◌, List, [], ◌∷◌, Option, Some, None, false, refl, ap, ◌∙◌, arith}
 use Rattle.pt_base.specs.declared.int_type.IntType.{IntType}
 use Rattle.pt_base.specs.declared.span.Span.{Span}
 use Rattle.pt_base.specs.declared.trap.Trap.TheVariants.{NoReturn}
 use Rattle.block_memory.specs.declared.cell.Cell.{Cell}
-use Rattle.block_memory.specs.Blocks.{without_frames}
 use Rattle.runs.specs.State.{Hosts, gives, trapped, spent, ◌>>=◌}
-use Rattle.runs.specs.Run.{Run, deepest}
+use Rattle.runs.specs.Run.{deepest}
 use Rattle.pt_core.specs.CodeTree.{ProgramTree, StmtTrees}
 use Rattle.pt_core.specs.Statements as t
 use Rattle.pt_core.specs.Statements.{State, Outcome, Calls, Flow, goes_on, broke, continues, returned, do_all}
@@ -15,10 +14,10 @@ use Rattle.pt_core.specs.Calls.{signature_in, function_in, entered, returned_fro
 use Rattle.pt_core.specs.CoreRun.{main_in, begun, main_frame, run_of, core_run}
 use Rattle.pt_core.specs.Steps as s
 use Rattle.pt_core.specs.Steps.{Work, run, Active, Machine, Answer, moved, Step, answers, settled, past_loop, at_head, is_active, step}
-use Rattle.core_steps_law.specs.WholeRun.{Outside, whole_gate, begun_machine, begun_outside, steps_run, run_seen}
+use Rattle.core_steps_law.specs.WholeRun.{Outside, begun_machine, begun_outside, run_seen}
 use Rattle.core_steps_law.specs.Laws.{state_of, machine_at, outside_of, frame_of, Comes, Continues, Stops, Follows, StepsFollowStatements, StepsAreTheRun}
 use Rattle.core_steps_law.proofs.Leads.{Leads, leads_is, leads_on, comes_by, first_end}
-use Rattle.core_steps_law.proofs.Spots.{Spot, active_in, stack, frame_in, with_work, step_of, Reaches, Halts, Runs, runs_from, at_most}
+use Rattle.core_steps_law.proofs.Spots.{Spot, active_in, stack, with_work, step_of, Reaches, Halts, Runs, runs_from, at_most}
 use Rattle.core_steps_law.proofs.StatementSteps.{all_run}
 use Rattle.core_steps_law.proofs.CallSteps.{calls_follow}
 

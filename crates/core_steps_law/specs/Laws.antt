@@ -1,5 +1,5 @@
 -- Single steps and the meaning by recursion.
-use Rattle.std.specs.Prelude.{◌≡◌, ◌≤◌, ◌<◌, ◌-◌, ℕ, suc, List, [], ◌∷◌, Some}
+use Rattle.std.specs.Prelude.{◌≡◌, ◌≤◌, ◌<◌, ◌+◌, ◌-◌, ℕ, suc, List, [], ◌∷◌, Some}
 use Rattle.runs.specs.State.{Hosts, gives}
 use Rattle.runs.specs.State as r
 use Rattle.runs.specs.Run.{deepest}
@@ -9,7 +9,7 @@ use Rattle.pt_core.specs.Calls.{context_in, calls_within}
 use Rattle.pt_core.specs.CoreRun.{core_run}
 use Rattle.pt_core.specs.Steps as s
 use Rattle.pt_core.specs.Steps.{Work, run, Active, Machine, Gate, Answer, moved, Step, answers, settled, past_loop, at_head, is_active, step}
-use Rattle.core_steps_law.specs.WholeRun.{Outside, whole_gate, steps_run, after_steps, run_seen}
+use Rattle.core_steps_law.specs.WholeRun.{Outside, whole_gate, further, steps_run, after_steps, run_seen}
 
 -- ---- a whole run
 
@@ -80,3 +80,11 @@ pub record TakesATurn {G : Type 0} (turns budget : ℕ) (to : Step G) : Type 0 w
 -- under any gate
 abbrev pub StepsTakeATurn : Type 0 → Type 0
 StepsTakeATurn G = (program : ProgramTree) (gate : Gate G) (m : Machine) (g : G) → TakesATurn m.turns m.budget (step program gate m g)
+
+-- ---- numbers of steps
+
+-- So many steps and then some more are what follows the first of them: where these moved the machine, the
+-- others from there, and else nothing. Under any gate.
+abbrev pub StepsAdd : Type 0 → Type 0
+StepsAdd G = (program : ProgramTree) (gate : Gate G) (n k : ℕ) (m : Machine) (g : G) →
+    steps_run program gate (n + k) m g ≡ further (steps_run program gate n m g) (steps_run program gate k)

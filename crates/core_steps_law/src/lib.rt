@@ -1,7 +1,7 @@
 //! The single steps of the normal form follow its meaning by recursion.
 #![tactic(auto)]
 
-ghost use Rattle.core_steps_law.specs.Laws.{StepsAreTheRun, StepsFollowStatements, StepsTakeATurn};
+ghost use Rattle.core_steps_law.specs.Laws.{StepsAreTheRun, StepsFollowStatements, StepsTakeATurn, StepsAdd};
 
 /// The steps of a whole program come to the run that the recursion gives, with its events, its end
 /// and its turns, and no smaller number of steps ends it.
@@ -18,4 +18,10 @@ pub fn steps_follow_statements()
 /// A step takes at most one turn, and none that the budget doesn't have.
 pub fn steps_take_a_turn<G>()
     ensures { StepsTakeATurn G }
+{}
+
+/// Steps add up: where so many have moved the machine, more go on from there, and where they
+/// haven't, more change nothing.
+pub fn steps_add<G>()
+    ensures { StepsAdd G }
 {}
