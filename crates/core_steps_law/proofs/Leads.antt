@@ -57,7 +57,7 @@ one_later program m g run f = (suc f.0, f.1, before)
     before zero less = refl
     before (suc k) less = f.2 k (omega arith)
 
-none_yet : {A : Type 0} (run : Run) → None ≡ Some run → A
+pub none_yet : {A : Type 0} (run : Run) → None ≡ Some run → A
 none_yet run e = cc
 
 pub first_end : (program : ProgramTree) (n : ℕ) (m : Machine) (g : Outside) (run : Run) → run_seen (steps_run program (whole_gate program) n m g) ≡ Some run → First (λ i. steps_run program (whole_gate program) i m g) run

@@ -5,3 +5,4 @@ pub mod CallSteps
 pub mod WholeSteps
 pub mod TurnBounds
 pub mod Sums
+pub mod OneRun

@@ -2,7 +2,7 @@
 use Rattle.std.specs.Prelude.{◌≡◌, ◌≤◌, ◌<◌, ◌+◌, ◌-◌, ℕ, suc, List, [], ◌∷◌, Some}
 use Rattle.runs.specs.State.{Hosts, gives}
 use Rattle.runs.specs.State as r
-use Rattle.runs.specs.Run.{deepest}
+use Rattle.runs.specs.Run.{Run, deepest}
 use Rattle.pt_core.specs.CodeTree.{StmtTrees, ProgramTree}
 use Rattle.pt_core.specs.Statements.{State, Outcome, Frame, Flow, goes_on, broke, continues, returned, do_all}
 use Rattle.pt_core.specs.Calls.{context_in, calls_within}
@@ -19,6 +19,11 @@ abbrev pub StepsAreTheRun : Type 0
 StepsAreTheRun = (program : ProgramTree) (hosts : Hosts) (input : List ℕ) (turns : ℕ) →
     (n : ℕ) × (run_seen (after_steps program hosts input turns n) ≡ Some (core_run program hosts input turns))
     × ((k : ℕ) → k < n → (after_steps program hosts input turns k).answer ≡ moved)
+
+-- Whatever number of steps a run is seen after, it is that one.
+abbrev pub OnlyTheRunIsSeen : Type 0
+OnlyTheRunIsSeen = (program : ProgramTree) (hosts : Hosts) (input : List ℕ) (turns n : ℕ) (seen : Run) →
+    run_seen (after_steps program hosts input turns n) ≡ Some seen → seen ≡ core_run program hosts input turns
 
 -- ---- a list of statements
 

@@ -1,12 +1,17 @@
 //! The single steps of the normal form follow its meaning by recursion.
 #![tactic(auto)]
 
-ghost use Rattle.core_steps_law.specs.Laws.{StepsAreTheRun, StepsFollowStatements, StepsTakeATurn, StepsAdd};
+ghost use Rattle.core_steps_law.specs.Laws.{StepsAreTheRun, OnlyTheRunIsSeen, StepsFollowStatements, StepsTakeATurn, StepsAdd};
 
 /// The steps of a whole program come to the run that the recursion gives, with its events, its end
 /// and its turns, and no smaller number of steps ends it.
 pub fn steps_are_the_run()
     ensures { StepsAreTheRun }
+{}
+
+/// A run that is seen after any number of steps is that run.
+pub fn only_the_run_is_seen()
+    ensures { OnlyTheRunIsSeen }
 {}
 
 /// From any machine whose innermost function begins with a list of statements, the steps come to
