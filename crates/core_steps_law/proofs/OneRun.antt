@@ -1,10 +1,8 @@
 -- A run is seen once, whatever the number of steps.
-use Rattle.std.proofs.Common.{◌≡◌, ℕ, ◌+◌, ◌-◌, ◌<◌, ◌≤◌, List, Option, Some, None, Bool, true, false, refl, sym, ap, ◌∙◌, arith}
+use Rattle.std.proofs.Common.{◌≡◌, ℕ, ◌+◌, ◌-◌, ◌<◌, ◌≤◌, Some, Bool, true, false, refl, sym, ap, ◌∙◌, arith}
 use Rattle.std.specs.Prelude.{nat_lt}
 use Rattle.std.proofs.lemmas.Bool.{ltb-true, ltb-false}
-use Rattle.runs.specs.State.{Hosts}
 use Rattle.runs.specs.Run.{Run}
-use Rattle.pt_core.specs.CodeTree.{ProgramTree}
 use Rattle.pt_core.specs.CoreRun.{core_run}
 use Rattle.pt_core.specs.Steps.{Machine, Answer, moved, asked, ended, trapped, spent, idle, Step, answers}
 use Rattle.core_steps_law.specs.WholeRun.{Outside, whole_gate, begun_machine, begun_outside, further, steps_run, after_steps, run_seen}
@@ -40,7 +38,7 @@ only_the_run_is_seen program hosts input turns n seen h = by_order (nat_lt n fir
         let less : first.0 ≤ n = ltb-false n first.0 e in
         let sum : n ≡ first.0 + (n - first.0) = omega arith in
         let more : after_steps program hosts input turns n ≡ s =
-            ap (λ k. after_steps program hosts input turns k) sum
-            ∙ steps_add Outside program (whole_gate program) first.0 (n - first.0) (begun_machine program turns) (begun_outside hosts input)
-            ∙ stays (core_run program hosts input turns) s.answer s.machine s.gate (steps_run program (whole_gate program) (n - first.0)) first.1 in
+        ap (λ k. after_steps program hosts input turns k) sum
+        ∙ steps_add Outside program (whole_gate program) first.0 (n - first.0) (begun_machine program turns) (begun_outside hosts input)
+        ∙ stays (core_run program hosts input turns) s.answer s.machine s.gate (steps_run program (whole_gate program) (n - first.0)) first.1 in
         same_run seen (core_run program hosts input turns) (sym h ∙ ap run_seen more ∙ first.1)

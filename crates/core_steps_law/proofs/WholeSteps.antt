@@ -140,7 +140,7 @@ main_seen deeper program hosts input turns e =
 pub steps_are_the_run : StepsAreTheRun
 steps_are_the_run program hosts input turns =
     let seen : IsSeen program turns (answers moved (begun_machine program turns) (begun_outside hosts input))
-        (do_all (function_in program (main_in program)).body (main_frame program) (calls_within program (deepest - 1)) (main_state program hosts input turns)
-        >>= returned_from (signature_in program (main_in program)).result (function_in program (main_in program)).end 1) = main_seen (deepest - 1) program hosts input turns refl in
+    (do_all (function_in program (main_in program)).body (main_frame program) (calls_within program (deepest - 1)) (main_state program hosts input turns)
+    >>= returned_from (signature_in program (main_in program)).result (function_in program (main_in program)).end 1) = main_seen (deepest - 1) program hosts input turns refl in
     let comes : Comes program (begun_machine program turns) (begun_outside hosts input) seen.0 = comes_by program (begun_machine program turns) (begun_outside hosts input) seen.0 seen.1 in
     first_end program comes.0 (begun_machine program turns) (begun_outside hosts input) (core_run program hosts input turns) (ap run_seen comes.1 ∙ seen.2)
