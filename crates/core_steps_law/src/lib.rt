@@ -1,0 +1,32 @@
+//! The single steps of the normal form follow its meaning by recursion.
+#![tactic(auto)]
+
+ghost use Rattle.core_steps_law.specs.Laws.{StepsAreTheRun, OnlyTheRunIsSeen, StepsFollowStatements, StepsTakeATurn, StepsAdd};
+
+/// The steps of a whole program come to the run that the recursion gives, with its events, its end
+/// and its turns, and no smaller number of steps ends it.
+pub fn steps_are_the_run()
+    ensures { StepsAreTheRun }
+{}
+
+/// A run that is seen after any number of steps is that run.
+pub fn only_the_run_is_seen()
+    ensures { OnlyTheRunIsSeen }
+{}
+
+/// From any machine whose innermost function begins with a list of statements, the steps come to
+/// where the recursion of that list ends.
+pub fn steps_follow_statements()
+    ensures { StepsFollowStatements }
+{}
+
+/// A step takes at most one turn, and none that the budget doesn't have.
+pub fn steps_take_a_turn<G>()
+    ensures { StepsTakeATurn G }
+{}
+
+/// Steps add up: where so many have moved the machine, more go on from there, and where they
+/// haven't, more change nothing.
+pub fn steps_add<G>()
+    ensures { StepsAdd G }
+{}
