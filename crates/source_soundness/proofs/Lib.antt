@@ -1,9 +1,12 @@
 mod CallSoundness
+mod Layouts
 mod Memories
 mod Objects
 mod Operators
 mod ProgramFacts
 mod Programs
+mod SizedObjects
+mod SizedSteps
 mod Soundness
 mod StatementSoundness
 mod Steps
