@@ -106,6 +106,9 @@ no_struct = record { name = []; fields = [] }
 abbrev fields_in : StructInfo → List Field
 fields_in s = s.fields
 
+from_none : (n : ℕ) → n ≡ 0 + n
+from_none n = omega arith
+
 pub field_within : (structs : List StructInfo) (n k : ℕ) (ty : VarTy) → structs_sound structs 0 structs ≡ true → field_type structs (Some (Struct n)) k ≡ Some ty → offset_of structs n k + object_cells (sizes_of structs) ty ≤ cells_by (sizes_of structs) (Struct n)
 field_within structs n k ty sound is = at_struct (slice_get structs n) refl is
   where
@@ -117,7 +120,7 @@ field_within structs n k ty sound is = at_struct (slice_get structs n) refl is
     at_field s (Some x) e e' is =
         let fs_is : fields_of structs n ≡ s.fields = ap fields_in (got_or structs n s no_struct e) in
         let offset : offset_of structs n k ≡ fields_cells (sizes_of structs) (take k s.fields) = ap (λ fs. fields_cells (sizes_of structs) (take k fs)) fs_is in
-        let all : get_or (sizes_of structs) n 0 ≡ fields_cells (sizes_of structs) s.fields = entry_is structs structs [] 0 n s refl sound e in
+        let all : get_or (sizes_of structs) n 0 ≡ fields_cells (sizes_of structs) s.fields = ap (λ j. get_or (sizes_of structs) j 0) (from_none n) ∙ entry_is structs structs [] 0 n s refl sound e in
         let ty_is : cells_by (sizes_of structs) x.ty ≡ cells_by (sizes_of structs) ty = ap (cells_by (sizes_of structs)) (same is) in
         let own : object_cells (sizes_of structs) ty ≡ cells_by (sizes_of structs) ty = plain_cells (sizes_of structs) ty plain in
         let lies : fields_cells (sizes_of structs) (take k s.fields) + cells_by (sizes_of structs) x.ty ≤ fields_cells (sizes_of structs) s.fields = field_within_all (sizes_of structs) s.fields k x e' in

@@ -5,9 +5,11 @@ mod Objects
 mod Operators
 mod ProgramFacts
 mod Programs
+mod SizeSoundness
 mod SizedObjects
 mod SizedSteps
 mod Soundness
+mod StatementSizes
 mod StatementSoundness
 mod Steps
 mod Tests

@@ -31,10 +31,10 @@ set_length (x ∷ xs) (suc k) c = ap suc (set_length xs k c)
 
 -- the first cell, where there is one
 set_read : (cells : List Cell) (k : ℕ) (c : Cell) → length cells ≡ 1 → k ≡ 0 → slice_index_or (slice_set cells k c) 0 (number (pos 0)) ≡ c
-set_read [] k c h e = absurd (none h)
+set_read [] k c h e = absurd (not_one zero h refl)
   where
-    none : 0 ≡ 1 → ⊥
-    none h = omega (arith, h)
+    not_one : (n : ℕ) → n ≡ 1 → n ≡ zero → ⊥
+    not_one n h e = omega (arith, h, e)
 set_read (x ∷ xs) k c h e = ap (λ i. slice_index_or (slice_set (x ∷ xs) i c) 0 (number (pos 0))) e
 
 part_length : (n at : ℕ) (cells : List Cell) → at + n ≤ length cells → length (take n (drop at cells)) ≡ n
@@ -149,7 +149,7 @@ pub loaded_sized : (w : World) (c : Context) (at : Location) (st : State) (ty : 
 loaded_sized w c at st ty l lies z =
     subst (λ t. ValueSized w (sizes c) (Some t) (loaded c at at.ty st)) (sym (some_injective ty at.ty l.has)) (loaded_as w c at st l.in_ at.ty z l.live l.part (lies l.in_ l.live))
 
-plain_stored : (w : World) (ss : List ℕ) (m : Memory) (at : Location) (v : Value) (in_ : VarTy) → Sized w ss m → type_in w at.block ≡ Some in_ → is_pointer in_ ≡ false → Sized w ss (stored_in m at v)
+pub plain_stored : (w : World) (ss : List ℕ) (m : Memory) (at : Location) (v : Value) (in_ : VarTy) → Sized w ss m → type_in w at.block ≡ Some in_ → is_pointer in_ ≡ false → Sized w ss (stored_in m at v)
 plain_stored w ss m at (holds c) in_ z live plain = cell_written w ss m at.block at.cell c in_ z live plain
 plain_stored w ss m at (whole cells) in_ z live plain = cells_written w ss m at.block at.cell cells in_ z live plain
 plain_stored w ss m at nothing in_ z live plain = z

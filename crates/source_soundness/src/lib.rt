@@ -1,8 +1,9 @@
-//! What a well formed program computes: its values are of the kinds that its types say, and its pointers
-//! point to live objects.
+//! What a well formed program computes: its values are of the kinds that its types say, its pointers point
+//! to live objects, and objects keep their sizes.
 #![tactic(auto)]
 
 ghost use Rattle.source_soundness.specs.Laws.{CallsKeepTypes, PlacesAreLive, ProgramsBeginFitting, StatementsKeepTypes, ValuesHaveTheirTypes};
+ghost use Rattle.source_soundness.specs.Sizes.{PlacesLieWithin, StatementsKeepSizes, ValuesKeepSizes};
 
 /// An expression gives a value of its type.
 pub fn values_have_their_types()
@@ -27,4 +28,19 @@ pub fn calls_keep_types()
 /// Where main begins, globals and main's variables fit their types.
 pub fn programs_begin_fitting()
     ensures { ProgramsBeginFitting }
+{}
+
+/// Expressions keep the sizes of objects, and give values of their types' sizes.
+pub fn values_keep_sizes()
+    ensures { ValuesKeepSizes }
+{}
+
+/// An object that a place designates lies in a live one.
+pub fn places_lie_within()
+    ensures { PlacesLieWithin }
+{}
+
+/// Statements keep the sizes of objects.
+pub fn statements_keep_sizes()
+    ensures { StatementsKeepSizes }
 {}
