@@ -1,3 +1,4 @@
+mod CallSizes
 mod CallSoundness
 mod Layouts
 mod Memories

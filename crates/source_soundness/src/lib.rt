@@ -3,7 +3,7 @@
 #![tactic(auto)]
 
 ghost use Rattle.source_soundness.specs.Laws.{CallsKeepTypes, PlacesAreLive, ProgramsBeginFitting, StatementsKeepTypes, ValuesHaveTheirTypes};
-ghost use Rattle.source_soundness.specs.Sizes.{PlacesLieWithin, StatementsKeepSizes, ValuesKeepSizes};
+ghost use Rattle.source_soundness.specs.Sizes.{DeepCallsKeepSizes, PlacesLieWithin, ProgramsBeginSized, StatementsKeepSizes, ValuesKeepSizes};
 
 /// An expression gives a value of its type.
 pub fn values_have_their_types()
@@ -43,4 +43,14 @@ pub fn places_lie_within()
 /// Statements keep the sizes of objects.
 pub fn statements_keep_sizes()
     ensures { StatementsKeepSizes }
+{}
+
+/// Calls keep the sizes of objects, whatever the hosts answer.
+pub fn deep_calls_keep_sizes()
+    ensures { DeepCallsKeepSizes }
+{}
+
+/// Where main begins, globals and main's variables have their sizes.
+pub fn programs_begin_sized()
+    ensures { ProgramsBeginSized }
 {}
