@@ -1,6 +1,6 @@
 -- Calls keep sizes, in a world one deeper and back, and programs begin sized.
 use Rattle.std.proofs.Common.{◌≡◌, ◌∙◌, ◌≤◌, ◌<◌, ℕ, zero, suc, ◌+◌, pos, ℤ, refl, ap, sym, subst, arith, Bool, true, false, Option, Some, None, List, [], ◌∷◌, length, if◌then◌else◌, map, nat_eq, nat_le}
-use Rattle.std.specs.Prelude.{IsTrue, ◌&&◌, slice_get, slice_index_or, get_or, length, is_none}
+use Rattle.std.specs.Prelude.{◌&&◌, slice_get, slice_index_or, get_or, length, is_none}
 use Rattle.std.specs.List.{list_all}
 use Rattle.std.proofs.lemmas.List.{length-map}
 use Rattle.std.proofs.lemmas.Bool.Decides.{nat_tests}
@@ -15,7 +15,7 @@ use Rattle.pt_tree.specs.declared.signature.ParamKind.TheVariants as k
 use Rattle.pt_tree.specs.declared.signature.Signature.{Signature}
 use Rattle.runs.specs.State.{gives, trapped, spent, ◌>>=◌, take_turn, noted, guarded_event, answer_of}
 use Rattle.typed_tree.specs.declared.types.VarTy.{VarTy}
-use Rattle.typed_tree.specs.declared.types.VarTy.TheVariants.{Int, Struct, Array, Pointer}
+use Rattle.typed_tree.specs.declared.types.VarTy.TheVariants.{Pointer}
 use Rattle.typed_tree.specs.declared.types.StructInfo.{StructInfo}
 use Rattle.typed_tree.specs.declared.variable.TypedGlobal.{TypedGlobal}
 use Rattle.typed_tree.specs.Cells.{leaves_of}
@@ -25,7 +25,7 @@ use Rattle.typed_tree.specs.WellFormed.{params_lead, variable_sound, is_plain_ty
 use Rattle.typed_tree.specs.WellFormedExpression.{Names, param_type}
 use Rattle.source_meaning.specs.Memory.{Block, local, global, Cell, number, null, pointer, Memory, put, read, with_frame, nothing_live}
 use Rattle.source_meaning.specs.State.{State, Outcome}
-use Rattle.source_meaning.specs.Values.{Value, cell_of, frame_cells, numbers_of, cleared}
+use Rattle.source_meaning.specs.Values.{Value, cell_of, frame_cells, numbers_of}
 use Rattle.source_meaning.specs.Expressions.{Frame, Calls}
 use Rattle.source_meaning.specs.Statements.{Flow, goes_on, broke, continues, returned, statement}
 use Rattle.source_meaning.specs.Functions.{function_or_none, body_or_none, host_call, answered, opened, brace_of, at_brace, returned_from, frame_in, entered, function_call, calls_within, without_locals}
@@ -38,10 +38,10 @@ use Rattle.source_soundness.proofs.Tests.{left, right, never}
 use Rattle.source_soundness.proofs.Operators.{scoped_of_pointer}
 use Rattle.source_soundness.proofs.CallSoundness.{deeper, still_live, newly_live, live_depth, Leads, leads, entered_fits}
 use Rattle.source_soundness.proofs.ProgramFacts.{Facts, facts, all_at, globals_are_plain}
-use Rattle.source_soundness.proofs.Programs.{code_of, entered_as, types_of, Bodied, bodied, deeper_is, code_fits, body_is, function_is, Named, named, calls_keep, outer_world, outer_fits, with_globals_holds}
+use Rattle.source_soundness.proofs.Programs.{code_of, entered_as, types_of, bodied, deeper_is, code_fits, body_is, function_is, named, calls_keep, outer_world, outer_fits, with_globals_holds}
 use Rattle.source_soundness.proofs.Layouts.{plain_cells}
 use Rattle.source_soundness.proofs.SizedObjects.{within_of_pointer}
-use Rattle.source_soundness.proofs.StatementSizes.{Good, Steady, Ready, cleared_length, cleared_points, statement_good}
+use Rattle.source_soundness.proofs.StatementSizes.{Good, Steady, cleared_length, cleared_points, statement_good}
 
 -- ---- worlds one deeper
 

@@ -6,7 +6,6 @@ use Rattle.pt_base.specs.declared.int_type.IntType.TheVariants as i
 use Rattle.pt_base.specs.declared.ids.FnId.{FnId}
 use Rattle.pt_base.specs.declared.span.Span.{Span}
 use Rattle.pt_base.specs.declared.trap.Trap.{Trap}
-use Rattle.pt_int.specs.declared.operator.UnOp.{UnOp}
 use Rattle.pt_tree.specs.declared.signature.Elem.{Elem}
 use Rattle.pt_tree.specs.declared.signature.Param.{Param}
 use Rattle.pt_tree.specs.declared.signature.Signature.{Signature}
@@ -29,15 +28,14 @@ use Rattle.source_meaning.specs.State.{State, Outcome}
 use Rattle.source_meaning.specs.Values.{Value, holds, nothing, cell_of, number_of, is_true, truth_value, converted_cell, converted, moved_cell, Location, unary_cell, stepped, unit_step}
 use Rattle.source_meaning.specs.Expressions as x
 use Rattle.source_meaning.specs.Expressions.{Context, sizes, or_trap, type_at, field_at, decayed, address_of, dereferenced, indexed, loaded, stored_in, store, compounded, cell_or_trap, step_gives, counted, is_decided, type_or_int, type_of, value_of, form_value, values_of, links_value, link_value, operands_value, location_of, root_location, assigned_location, steps_location, step_location}
-use Rattle.source_soundness.specs.Worlds.{World, type_in, Fits, ValueFits, LocationFits}
+use Rattle.source_soundness.specs.Worlds.{World, Fits, ValueFits, LocationFits}
 use Rattle.source_soundness.specs.Laws.{Keeps, ArgumentsFit, ContextFits}
 use Rattle.source_soundness.specs.Sizes.{PointsWithin, Sized, KeepsSizes, ValueSized, LiesWithin, ArgumentsSized}
 use Rattle.source_soundness.proofs.Tests.{left, right, never, equal_options, got, got_or}
-use Rattle.source_soundness.proofs.Objects.{loaded_fits}
 use Rattle.source_soundness.proofs.Operators.{Gives, FitsAs}
-use Rattle.source_soundness.proofs.Soundness.{keeps_bind, keeps_or_trap, keeps_store, some_of, scalar_value, ArrayOf, array_of, ObjectOf, object_of, read_promoted, Storable, stepped_storable, converts_scalar, unit_storable, names_live, entry_type, field_lies, element_lies, given_struct, steps_none, ElementStep, element_step, PointerTo, pointer_to_type, value_fits, arguments_keep, place_keeps, root_keeps}
+use Rattle.source_soundness.proofs.Soundness.{keeps_bind, keeps_or_trap, some_of, scalar_value, array_of, object_of, read_promoted, Storable, stepped_storable, converts_scalar, unit_storable, names_live, entry_type, field_lies, element_lies, given_struct, steps_none, element_step, PointerTo, pointer_to_type, value_fits, arguments_keep, place_keeps, root_keeps}
 use Rattle.source_soundness.proofs.SizedObjects.{whole_within, moves_within, within_of_pointer, pointee_within, loaded_sized, stored_sized}
-use Rattle.source_soundness.proofs.SizedSteps.{SizedAs, number_sized, null_sized, int_sized, unary_sized, converted_sized, step_sized, StorableSized, stepped_sized, unit_sized, read_sized, array_within, object_within, Setup, field_sized}
+use Rattle.source_soundness.proofs.SizedSteps.{SizedAs, number_sized, null_sized, unary_sized, converted_sized, step_sized, StorableSized, stepped_sized, unit_sized, read_sized, array_within, object_within, Setup, field_sized}
 
 -- ---- parts of a run
 

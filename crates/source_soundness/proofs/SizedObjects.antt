@@ -1,6 +1,6 @@
 -- Objects and pointers keep their sizes: what is read, stored and moved.
-use Rattle.std.proofs.Common.{◌≡◌, ◌∙◌, ◌≤◌, ◌<◌, ℕ, zero, suc, ◌+◌, ◌*◌, ◌-◌, pos, ℤ, refl, ap, sym, subst, arith, Bool, true, false, Option, Some, None, List, [], ◌∷◌, length, length-drop, length-take-le, Result, Ok, Err, if◌then◌else◌, nat_lt}
-use Rattle.std.specs.Prelude.{IsTrue, slice_set, slice_index_or, take, drop}
+use Rattle.std.proofs.Common.{◌≡◌, ◌∙◌, ◌≤◌, ◌<◌, ℕ, zero, suc, ◌+◌, ◌*◌, pos, ℤ, refl, ap, sym, subst, arith, Bool, true, false, Option, Some, None, List, [], ◌∷◌, length, length-drop, length-take-le, Ok, Err, if◌then◌else◌, nat_lt}
+use Rattle.std.specs.Prelude.{slice_set, slice_index_or, take, drop}
 use Rattle.std.proofs.Math.Nat.{mul-le-mul_right, suc-mul}
 use Rattle.std.proofs.lemmas.Bool.Decides.{nat_tests}
 use Rattle.pt_base.specs.declared.trap.Trap.TheVariants.{Bounds}
@@ -14,12 +14,12 @@ use Rattle.typed_tree.specs.TypeTests.{type_of_elem}
 use Rattle.source_meaning.specs.Memory.{Block, same_block, Cell, number, null, pointer, Memory, put, write, read}
 use Rattle.source_meaning.specs.State.{State}
 use Rattle.source_meaning.specs.Values.{Value, holds, whole, nothing, cell_of, pointer_to, moved_cell, Location}
-use Rattle.source_meaning.specs.Expressions.{Context, sizes, dereferenced, object_at, loaded, cells_at, write_all, stored_in}
+use Rattle.source_meaning.specs.Expressions.{Context, sizes, dereferenced, object_at, loaded, write_all, stored_in}
 use Rattle.source_soundness.specs.Worlds.{World, type_in, is_pointer, ValueFits, PartFits, LocationFits}
 use Rattle.source_soundness.specs.Sizes.{object_cells, PointsWithin, Sized, ValueSized, LiesWithin}
 use Rattle.source_soundness.proofs.Tests.{never}
 use Rattle.source_soundness.proofs.Memories.{equal_blocks}
-use Rattle.source_soundness.proofs.Objects.{plain_part, PointerPart, pointer_part}
+use Rattle.source_soundness.proofs.Objects.{plain_part, pointer_part}
 use Rattle.source_soundness.proofs.Operators.{Gives}
 
 -- ---- lists of cells

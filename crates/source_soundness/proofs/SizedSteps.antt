@@ -1,5 +1,5 @@
 -- Operators and steps of places give values of their sizes, and parts that lie within.
-use Rattle.std.proofs.Common.{◌≡◌, ◌∙◌, ◌≤◌, ℕ, ◌+◌, ◌*◌, pos, ℤ, refl, ap, sym, subst, arith, Bool, true, false, Option, Some, None, List, [], ◌∷◌, Result, Ok, Err, if◌then◌else◌}
+use Rattle.std.proofs.Common.{◌≡◌, ◌∙◌, ◌≤◌, ℕ, ◌+◌, pos, ℤ, refl, ap, sym, subst, arith, Bool, true, Option, Some, None, List, Result, Ok, Err}
 use Rattle.std.specs.Prelude.{IsTrue, ◌&&◌, ◌||◌, not}
 use Rattle.pt_base.specs.declared.int_type.IntType.{IntType}
 use Rattle.pt_base.specs.declared.int_type.IntType.TheVariants as i
@@ -21,7 +21,7 @@ use Rattle.typed_tree.specs.TypeRules.{unary_fits, converts, promoted_value, is_
 use Rattle.typed_tree.specs.WellFormedExpression as f
 use Rattle.typed_tree.specs.WellFormedExpression.{Names}
 use Rattle.typed_tree.specs.WellFormed.{structs_sound}
-use Rattle.source_meaning.specs.Memory.{same_block, Cell, number, null, pointer, read}
+use Rattle.source_meaning.specs.Memory.{same_block, Cell, number, null, read}
 use Rattle.source_meaning.specs.State.{State}
 use Rattle.source_meaning.specs.Values.{Value, holds, cell_of, number_in, target_of, moved_cell, shift_of, pointee_cells, promoted_of, stepped, converted_cell, converted, unit_step, Location}
 use Rattle.source_meaning.specs.Expressions as x
@@ -31,7 +31,7 @@ use Rattle.source_soundness.specs.Laws.{ContextFits}
 use Rattle.source_soundness.specs.Sizes.{object_cells, PointsWithin, Sized, ValueSized, LiesWithin, CallsKeepSizes}
 use Rattle.source_soundness.proofs.Tests.{left, right, never, equal_options, equal_elems}
 use Rattle.source_soundness.proofs.Operators.{Gives, same_promoted_is}
-use Rattle.source_soundness.proofs.Steps.{when, IsInt, arithmetic_int, shift_int, Moved, moved_is, field_is}
+use Rattle.source_soundness.proofs.Steps.{when, IsInt, arithmetic_int, shift_int, moved_is, field_is}
 use Rattle.source_soundness.proofs.Layouts.{field_within}
 use Rattle.source_soundness.proofs.SizedObjects.{elem_object, moves_within, within_of_pointer, loaded_sized}
 

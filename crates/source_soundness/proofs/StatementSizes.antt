@@ -26,7 +26,7 @@ use Rattle.typed_tree.specs.TypeTests.{same_types, both_int, integer_of, is_scal
 use Rattle.typed_tree.specs.WellFormed.{structs_sound}
 use Rattle.typed_tree.specs.WellFormedExpression.{is_typed, ty_of}
 use Rattle.typed_tree.specs.WellFormedStatement.{Scope, found_fits, expr_fits, any_type, promotes_to, option_fits, item_types, items_fit, init_fits, declarator_fits, declaration_fits, for_init_fits, labels_of, labels_fit, is_sound, else_sound, all_sound, sections_sound}
-use Rattle.source_meaning.specs.Memory.{local, Cell, number, Memory}
+use Rattle.source_meaning.specs.Memory.{local, number, Memory}
 use Rattle.source_meaning.specs.State.{State, Outcome}
 use Rattle.source_meaning.specs.Values.{Value, number_of, is_true, cleared}
 use Rattle.source_meaning.specs.Expressions.{sizes, type_at, value_of, store, stored_in}
@@ -39,7 +39,6 @@ use Rattle.source_soundness.proofs.Objects.{stored_fits}
 use Rattle.source_soundness.proofs.Soundness.{names_live, entry_type, value_fits}
 use Rattle.source_soundness.proofs.StatementSoundness.{Passed, Entry, lies, clearing, same_as, number_stored}
 use Rattle.source_soundness.proofs.SizedObjects.{put_sized, plain_stored, stored_sized}
-use Rattle.source_soundness.proofs.SizedSteps.{Setup}
 use Rattle.source_soundness.proofs.SizeSoundness.{value_sized}
 
 -- ---- parts of a run
