@@ -1,10 +1,16 @@
+mod CallSizes
 mod CallSoundness
+mod Layouts
 mod Memories
 mod Objects
 mod Operators
 mod ProgramFacts
 mod Programs
+mod SizeSoundness
+mod SizedObjects
+mod SizedSteps
 mod Soundness
+mod StatementSizes
 mod StatementSoundness
 mod Steps
 mod Tests

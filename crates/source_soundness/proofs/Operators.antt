@@ -78,7 +78,7 @@ at_type : (w : World) (a t : Option VarTy) (r : Result Cell Trap) → a ≡ t �
 at_type w a t r e h = subst (λ x. Gives (FitsAs w x) r) e h
 
 -- both are of one type
-same_promoted_is : (a t : Option VarTy) → r.is_same_promoted a t ≡ true → (x : IntType) × (y : IntType) × (a ≡ Some (Int x)) × (t ≡ Some (Int y))
+pub same_promoted_is : (a t : Option VarTy) → r.is_same_promoted a t ≡ true → (x : IntType) × (y : IntType) × (a ≡ Some (Int x)) × (t ≡ Some (Int y))
 same_promoted_is (Some (Int a)) (Some (Int b)) h = (a, b, refl, refl)
 same_promoted_is None t h = never h
 same_promoted_is (Some (Struct n)) t h = never h

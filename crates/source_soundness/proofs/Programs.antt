@@ -54,7 +54,7 @@ host_keeps program w frame f vs st result m =
 -- ---- functions
 
 -- the code of a function, and what its call comes to, by its entry
-abbrev code_of : TypedTree → FunctionTree → Frame → Calls → Code
+abbrev pub code_of : TypedTree → FunctionTree → Frame → Calls → Code
 code_of program g frame calls = record {
   context = record {
     structs = program.structs;
@@ -66,7 +66,7 @@ code_of program g frame calls = record {
   exprs = program.exprs;
 }
 
-abbrev entered_as : TypedTree → Calls → Frame → FunctionTree → List Value → State → Outcome Value
+abbrev pub entered_as : TypedTree → Calls → Frame → FunctionTree → List Value → State → Outcome Value
 entered_as program calls frame g vs st =
     let code = code_of program g (frame_in frame g.signature) calls in
     statement (body_or_none g.body) code (opened code vs st) >>= returned_from g.signature.result (brace_of (body_or_none g.body)) (frame.depth + 1)
@@ -89,26 +89,26 @@ left_keeps w types result s depth flow st e q m = subst (λ d. Keeps w (ValueFit
     go o (returned x) q = (result_same w (deeper w types) o x q, left_fits w st.memory types m)
 
 -- what is kept of a function that has a body
-record Bodied (program : TypedTree) (g : FunctionTree) : Type 0 where
-  body : BodyTree
-  is : g.body ≡ Some body
-  sound : is_sound (scope_in program g) false false body ≡ true
+pub record Bodied (program : TypedTree) (g : FunctionTree) : Type 0 where
+  pub body : BodyTree
+  pub is : g.body ≡ Some body
+  pub sound : is_sound (scope_in program g) false false body ≡ true
 
-bodied : (program : TypedTree) (g : FunctionTree) → function_sound program g ≡ true → g.signature.host ≡ false → Bodied program g
+pub bodied : (program : TypedTree) (g : FunctionTree) → function_sound program g ≡ true → g.signature.host ≡ false → Bodied program g
 bodied program g h no_host = go g.body refl (right (list_all (variable_sound program.structs) g.vars) (body_sound program g g.body) (right (nat_le (length g.signature.params) 8 && params_lead g.signature.params g.vars) (list_all (variable_sound program.structs) g.vars && body_sound program g g.body) h))
   where
     go : (o : Option BodyTree) → g.body ≡ o → body_sound program g o ≡ true → Bodied program g
     go None e h = never (sym no_host ∙ left g.signature.host (list_all is_integer_param g.signature.params && nat_eq (length g.vars) (length g.signature.params)) h)
     go (Some body) e h = record { body = body; is = e; sound = right (is_block body) (is_sound (scope_in program g) false false body) (right (not g.signature.host) (is_block body && is_sound (scope_in program g) false false body) h) }
 
-abbrev types_of : FunctionTree → List VarTy
+abbrev pub types_of : FunctionTree → List VarTy
 types_of g = map (λ x. x.ty) g.vars
 
-deeper_is : (w : World) (frame : Frame) → frame.depth ≡ w.depth → frame.depth + 1 ≡ suc w.depth
+pub deeper_is : (w : World) (frame : Frame) → frame.depth ≡ w.depth → frame.depth + 1 ≡ suc w.depth
 deeper_is w frame at = ap (λ d. d + 1) at ∙ omega arith
 
 -- the code of a function fits the world one deeper
-code_fits : (program : TypedTree) (w : World) (frame : Frame) (g : FunctionTree) (calls : Calls) → Facts program → IsWorldOf program w → frame.depth ≡ w.depth →
+pub code_fits : (program : TypedTree) (w : World) (frame : Frame) (g : FunctionTree) (calls : Calls) → Facts program → IsWorldOf program w → frame.depth ≡ w.depth →
     CallsFit (deeper w (types_of g)) (names_in program g) (frame_in frame g.signature) calls → CodeFits (deeper w (types_of g)) (scope_in program g) (code_of program g (frame_in frame g.signature) calls)
 code_fits program w frame g calls k world at calls_fit = record {
   context = record {
@@ -130,7 +130,7 @@ code_fits program w frame g calls k world at calls_fit = record {
     own_is true e = refl
     own_is false e = cc
 
-body_is : (o : Option BodyTree) (body : BodyTree) → o ≡ Some body → body_or_none o ≡ body
+pub body_is : (o : Option BodyTree) (body : BodyTree) → o ≡ Some body → body_or_none o ≡ body
 body_is o body h = ap body_or_none h
 
 entered_keeps : (program : TypedTree) (w : World) (frame : Frame) (g : FunctionTree) (calls : Calls) (vs : List Value) (st : State) → Facts program → IsWorldOf program w → frame.depth ≡ w.depth → function_sound program g ≡ true → g.signature.host ≡ false →
@@ -150,16 +150,16 @@ entered_keeps program w frame g calls vs st k world at sound no_host calls_fit a
 
 -- ---- calls
 
-function_is : (program : TypedTree) (f : ℕ) (o : Option FunctionTree) → slice_get program.functions f ≡ o → function_or_none program f ≡ unwrap_or o no_function
+pub function_is : (program : TypedTree) (f : ℕ) (o : Option FunctionTree) → slice_get program.functions f ≡ o → function_or_none program f ≡ unwrap_or o no_function
 function_is program f o h = ap (λ z. unwrap_or z no_function) h
 
 -- the function whose signature a number names
-record Named (program : TypedTree) (f : ℕ) (signature : Signature) : Type 0 where
-  entry : FunctionTree
-  is : slice_get program.functions f ≡ Some entry
-  has : entry.signature ≡ signature
+pub record Named (program : TypedTree) (f : ℕ) (signature : Signature) : Type 0 where
+  pub entry : FunctionTree
+  pub is : slice_get program.functions f ≡ Some entry
+  pub has : entry.signature ≡ signature
 
-named : (program : TypedTree) (f : ℕ) (signature : Signature) → slice_get (signatures_of program) f ≡ Some signature → Named program f signature
+pub named : (program : TypedTree) (f : ℕ) (signature : Signature) → slice_get (signatures_of program) f ≡ Some signature → Named program f signature
 named program f signature h = go (slice_get program.functions f) refl (sym (got (λ (g : FunctionTree). g.signature) program.functions f) ∙ h)
   where
     go : (o : Option FunctionTree) → slice_get program.functions f ≡ o → option_map (λ (g : FunctionTree). g.signature) o ≡ Some signature → Named program f signature
@@ -215,7 +215,7 @@ global_cells (x ∷ xs) = (tt, global_cells xs)
 abbrev GlobalsHoldNumbers : Memory → Type 0
 GlobalsHoldNumbers m = (g : ℕ) → AreNumbers (m (global g))
 
-with_globals_holds : (globals : List TypedGlobal) (m : Memory) (k : ℕ) → GlobalsHoldNumbers m → GlobalsHoldNumbers (with_globals m k globals)
+pub with_globals_holds : (globals : List TypedGlobal) (m : Memory) (k : ℕ) → GlobalsHoldNumbers m → GlobalsHoldNumbers (with_globals m k globals)
 with_globals_holds [] m k h = h
 with_globals_holds (x ∷ xs) m k h = with_globals_holds xs (put m (global k) (map number x.cells)) (k + 1) (λ g. go g (nat_eq g k))
   where
@@ -224,10 +224,10 @@ with_globals_holds (x ∷ xs) m k h = with_globals_holds xs (put m (global k) (m
     go g false = h g
 
 -- the world of the globals alone
-abbrev outer_world : TypedTree → World
+abbrev pub outer_world : TypedTree → World
 outer_world program = record { globals = map (λ x. x.var.ty) program.globals; frames = λ d. []; depth = 0 }
 
-outer_fits : (program : TypedTree) (m : Memory) → Facts program → GlobalsHoldNumbers m → Fits (outer_world program) m
+pub outer_fits : (program : TypedTree) (m : Memory) → Facts program → GlobalsHoldNumbers m → Fits (outer_world program) m
 outer_fits program m k h (global g) ty is = numbers_fit (outer_world program) 0 ty (m (global g)) (globals_are_plain program.structs program.globals g ty k.globals is) (h g)
 outer_fits program m k h (local d x) ty is = none_live (nat_le 1 d) (nat_le d 0) is
   where

@@ -51,7 +51,7 @@ keeps_bind w Q R (gives a st) next h k = k a st h.0 h.1
 keeps_bind w Q R (trapped trap s st) next h k = tt
 keeps_bind w Q R (spent st) next h k = tt
 
-keeps_or_trap : {A : Type 0} (w : World) (Q : A → Type 0) (s : Span) (o : Result A Trap) (st : State) → Gives Q o → Fits w st.memory → Keeps w Q (or_trap s o st)
+pub keeps_or_trap : {A : Type 0} (w : World) (Q : A → Type 0) (s : Span) (o : Result A Trap) (st : State) → Gives Q o → Fits w st.memory → Keeps w Q (or_trap s o st)
 keeps_or_trap w Q s (Ok a) st h m = (h, m)
 keeps_or_trap w Q s (Err trap) st h m = tt
 
@@ -70,25 +70,25 @@ keeps_branch w Q false first second h k = k
 -- ---- types
 
 -- a type that is there
-some_of : (t : Option VarTy) → IsTrue (is_value t) → (ty : VarTy) × (t ≡ Some ty)
+pub some_of : (t : Option VarTy) → IsTrue (is_value t) → (ty : VarTy) × (t ≡ Some ty)
 some_of None h = never h
 some_of (Some ty) h = (ty, refl)
 
-scalar_value : (t : Option VarTy) → IsTrue (is_scalar t) → IsTrue (is_value t)
+pub scalar_value : (t : Option VarTy) → IsTrue (is_scalar t) → IsTrue (is_value t)
 scalar_value (Some (Int t)) h = refl
 scalar_value (Some (Pointer elem fixed)) h = refl
 scalar_value None h = cc
 scalar_value (Some (Struct n)) h = cc
 scalar_value (Some (Array elem count)) h = cc
 
-record ArrayOf (p t : Option VarTy) : Type 0 where
-  elem : Elem
-  count : ℕ
-  fixed : Bool
-  from : p ≡ Some (Array elem count)
-  to : t ≡ Some (Pointer elem fixed)
+pub record ArrayOf (p t : Option VarTy) : Type 0 where
+  pub elem : Elem
+  pub count : ℕ
+  pub fixed : Bool
+  pub from : p ≡ Some (Array elem count)
+  pub to : t ≡ Some (Pointer elem fixed)
 
-array_of : (p t : Option VarTy) → IsTrue (both_elem (item_of p) (pointee_of t)) → ArrayOf p t
+pub array_of : (p t : Option VarTy) → IsTrue (both_elem (item_of p) (pointee_of t)) → ArrayOf p t
 array_of (Some (Array a count)) (Some (Pointer b fixed)) h =
     record { elem = a; count = count; fixed = fixed; from = refl; to = ap (λ z. Some (Pointer z fixed)) (sym (equal_elems a b h)) }
 array_of None t h = never h
@@ -100,13 +100,13 @@ array_of (Some (Array a count)) (Some (Int b)) h = never h
 array_of (Some (Array a count)) (Some (Struct n)) h = never h
 array_of (Some (Array a count)) (Some (Array b n)) h = never h
 
-record ObjectOf (p t : Option VarTy) : Type 0 where
-  elem : Elem
-  fixed : Bool
-  from : p ≡ Some (type_of_elem elem)
-  to : t ≡ Some (Pointer elem fixed)
+pub record ObjectOf (p t : Option VarTy) : Type 0 where
+  pub elem : Elem
+  pub fixed : Bool
+  pub from : p ≡ Some (type_of_elem elem)
+  pub to : t ≡ Some (Pointer elem fixed)
 
-object_of : (p t : Option VarTy) → IsTrue (both_elem (element_of p) (pointee_of t)) → ObjectOf p t
+pub object_of : (p t : Option VarTy) → IsTrue (both_elem (element_of p) (pointee_of t)) → ObjectOf p t
 object_of (Some (Int a)) (Some (Pointer b fixed)) h = record { elem = e.Int a; fixed = fixed; from = refl; to = ap (λ z. Some (Pointer z fixed)) (sym (equal_elems (e.Int a) b h)) }
 object_of (Some (Struct a)) (Some (Pointer b fixed)) h = record { elem = e.Struct a; fixed = fixed; from = refl; to = ap (λ z. Some (Pointer z fixed)) (sym (equal_elems (e.Struct a) b h)) }
 object_of None t h = never h
@@ -159,7 +159,7 @@ pub keeps_store : (w : World) (at : Location) (v : Value) (ty : VarTy) (st : Sta
 keeps_store w at v ty st l fit m = (fit, stored_fits w st.memory at v ty l fit m)
 
 -- what is read of an integer or a pointer, as its promoted type
-read_promoted : (w : World) (c : Context) (at : Location) (st : State) (ty : VarTy) → LocationFits w (Some ty) at → IsTrue (is_scalar (Some ty)) → Fits w st.memory → FitsAs w (promoted_value (Some ty)) (read st.memory at.block at.cell)
+pub read_promoted : (w : World) (c : Context) (at : Location) (st : State) (ty : VarTy) → LocationFits w (Some ty) at → IsTrue (is_scalar (Some ty)) → Fits w st.memory → FitsAs w (promoted_value (Some ty)) (read st.memory at.block at.cell)
 read_promoted w c at st (Int t) l h m = let fit = loaded_fits w c at st (Int t) l refl m in number_is (at.ty) (type_is (Int t) at.ty l.has) fit
   where
     type_is : (a b : VarTy) → Some a ≡ Some b → a ≡ b
@@ -178,7 +178,7 @@ read_promoted w c at st (Struct n) l h m = never h
 read_promoted w c at st (Array elem n) l h m = never h
 
 -- what a compound assignment stores
-abbrev Storable : World → VarTy → Cell → Type 0
+abbrev pub Storable : World → VarTy → Cell → Type 0
 Storable w ty cell = FitsAs w (Some ty) (converted_cell ty cell)
 
 keeps_compounded : (w : World) (c : Context) (s : Span) (at : Location) (step : LinkStep) (v : Value) (ty : VarTy) (st : State) → LocationFits w (Some ty) at → Gives (Storable w ty) (stepped (sizes c) ty step (read st.memory at.block at.cell) (cell_of v)) → Fits w st.memory → Keeps w (ValueFits w (Some ty)) (compounded c s at step v st)
@@ -191,7 +191,7 @@ keeps_compounded w c s at step v ty st l h m =
     type_is a b h = cc
 
 -- a step whose result is converted to the type of the place
-stepped_storable : (w : World) (ss : List ℕ) (ty : VarTy) (b : Option VarTy) (step : LinkStep) (old : Cell) (v : Value) → IsTrue (converts (r.stepped (promoted_value (Some ty)) step b) (Some ty)) → FitsAs w (promoted_value (Some ty)) old → ValueFits w b v → Gives (Storable w ty) (stepped ss ty step old (cell_of v))
+pub stepped_storable : (w : World) (ss : List ℕ) (ty : VarTy) (b : Option VarTy) (step : LinkStep) (old : Cell) (v : Value) → IsTrue (converts (r.stepped (promoted_value (Some ty)) step b) (Some ty)) → FitsAs w (promoted_value (Some ty)) old → ValueFits w b v → Gives (Storable w ty) (stepped ss ty step old (cell_of v))
 stepped_storable w ss ty b step old v h fit fit' = go (r.stepped (promoted_value (Some ty)) step b) refl h
   where
     each : (u : VarTy) (o : Result Cell Trap) → IsTrue (converts (Some u) (Some ty)) → Gives (FitsAs w (Some u)) o → Gives (Storable w ty) o
@@ -202,7 +202,7 @@ stepped_storable w ss ty b step old v h fit fit' = go (r.stepped (promoted_value
     go None is h = never h
     go (Some u) is h = each u (stepped ss ty step old (cell_of v)) h (step_fits w ss ty (promoted_value (Some ty)) b u step (holds old) v is fit fit')
 
-converts_scalar : (u : Option VarTy) (ty : VarTy) → IsTrue (converts u (Some ty)) → IsTrue (is_scalar (Some ty))
+pub converts_scalar : (u : Option VarTy) (ty : VarTy) → IsTrue (converts u (Some ty)) → IsTrue (is_scalar (Some ty))
 converts_scalar (Some (Int a)) (Int b) h = refl
 converts_scalar (Some (Pointer a g)) (Pointer b k) h = refl
 converts_scalar None ty h = never h
@@ -222,7 +222,7 @@ pointer_of_step : (w : World) (ss : List ℕ) (elem : Elem) (fixed back : Bool) 
 pointer_of_step w ss elem fixed back old fit = moves w w.depth (directed back (pos 1)) old (scoped_of_pointer w elem fixed (holds old) fit)
 
 -- 1 is added or subtracted
-unit_storable : (w : World) (ss : List ℕ) (ty : VarTy) (back : Bool) (old : Cell) → IsTrue (is_scalar (Some ty)) → FitsAs w (promoted_value (Some ty)) old → Gives (Storable w ty) (stepped ss ty (unit_step ty back) old (number (pos 1)))
+pub unit_storable : (w : World) (ss : List ℕ) (ty : VarTy) (back : Bool) (old : Cell) → IsTrue (is_scalar (Some ty)) → FitsAs w (promoted_value (Some ty)) old → Gives (Storable w ty) (stepped ss ty (unit_step ty back) old (number (pos 1)))
 unit_storable w ss (Int t) back old h fit = each (stepped ss (Int t) (unit_step (Int t) back) old (number (pos 1))) (number_of_step w ss t back old)
   where
     each : (o : Result Cell Trap) → Gives IsNumber o → Gives (Storable w (Int t)) o
@@ -284,7 +284,7 @@ names_global w n c g ty k is =
     }
 
 -- a field of a struct that is live
-field_lies : (w : World) (n : Names) (c : Context) (k : ℕ) (a : VarTy) (at : Location) (ty : VarTy) → ContextFits w n c → LocationFits w (Some a) at → f.field_type n.structs (Some a) k ≡ Some ty → LocationFits w (Some ty) (field_at c k at)
+pub field_lies : (w : World) (n : Names) (c : Context) (k : ℕ) (a : VarTy) (at : Location) (ty : VarTy) → ContextFits w n c → LocationFits w (Some a) at → f.field_type n.structs (Some a) k ≡ Some ty → LocationFits w (Some ty) (field_at c k at)
 field_lies w n c k (Struct m) at ty fit l h = go at.ty (type_is (Struct m) at.ty l.has) l.part
   where
     type_is : (a b : VarTy) → Some a ≡ Some b → a ≡ b
@@ -320,7 +320,7 @@ field_lies w n c k (Array elem count) at ty fit l h = cc
 field_lies w n c k (Pointer elem fixed) at ty fit l h = cc
 
 -- an element of an array that is live
-element_lies : (w : World) (c : Context) (s : Span) (at : Location) (elem : Elem) (count : ℕ) (index : Value) (st : State) → LocationFits w (Some (Array elem count)) at → Fits w st.memory → Keeps w (LocationFits w (Some (type_of_elem elem))) (indexed c s at index st)
+pub element_lies : (w : World) (c : Context) (s : Span) (at : Location) (elem : Elem) (count : ℕ) (index : Value) (st : State) → LocationFits w (Some (Array elem count)) at → Fits w st.memory → Keeps w (LocationFits w (Some (type_of_elem elem))) (indexed c s at index st)
 element_lies w c s at elem count index st l m = subst (λ z. Keeps w (LocationFits w (Some (type_of_elem elem))) (or_trap s (moved_cell (number_of index) (decayed at z)) st >>= λ cell. or_trap s (dereferenced c (x.element_of z) cell))) (type_is (Array elem count) at.ty l.has)
     (keeps_bind w (IsScoped w w.depth) (LocationFits w (Some (type_of_elem elem))) (or_trap s (moved_cell (number_of index) (decayed at (Array elem count))) st) (λ cell. or_trap s (dereferenced c (Pointer elem false) cell))
     (keeps_or_trap w (IsScoped w w.depth) s (moved_cell (number_of index) (decayed at (Array elem count))) st (moves w w.depth (number_of index) (decayed at (Array elem count)) (subst (λ z. IsScoped w w.depth (decayed at z)) (sym (type_is (Array elem count) at.ty l.has)) (array_decays w at elem count l))) m)
@@ -349,14 +349,14 @@ counted_keeps w c s back postfix at ty st l h m =
 abbrev TakesAll : World → List Param → List Value → Type 0
 TakesAll w ps vs = ArgumentsFit w ps vs
 
-given_struct : (ty : Option VarTy) (a : VarTy) → (if is_assign (t.assign (place (t.local (record { 0 = 0 })) no_steps) (typed (record { from = 0; to = 0 }) None t.null)) && is_struct ty then ty else None) ≡ Some a → ty ≡ Some a
+pub given_struct : (ty : Option VarTy) (a : VarTy) → (if is_assign (t.assign (place (t.local (record { 0 = 0 })) no_steps) (typed (record { from = 0; to = 0 }) None t.null)) && is_struct ty then ty else None) ≡ Some a → ty ≡ Some a
 given_struct (Some (Struct n)) a h = h
 given_struct None a h = cc
 given_struct (Some (Int z)) a h = cc
 given_struct (Some (Array elem count)) a h = cc
 given_struct (Some (Pointer elem fixed)) a h = cc
 
-steps_none : (ss : _) (steps : StepTrees) → steps_type ss None steps ≡ None
+pub steps_none : (ss : _) (steps : StepTrees) → steps_type ss None steps ≡ None
 steps_none ss no_steps = refl
 steps_none ss (step_and (t.field k) rest) = steps_none ss rest
 steps_none ss (step_and (t.item a s) rest) = go (integer_of (ty_of a)) (steps_none ss rest)
@@ -365,13 +365,13 @@ steps_none ss (step_and (t.item a s) rest) = go (integer_of (ty_of a)) (steps_no
     go None h = h
     go (Some u) h = h
 
-record ElementStep (a b : Option VarTy) : Type 0 where
-  elem : Elem
-  count : ℕ
-  from : a ≡ Some (Array elem count)
-  to : b ≡ Some (type_of_elem elem)
+pub record ElementStep (a b : Option VarTy) : Type 0 where
+  pub elem : Elem
+  pub count : ℕ
+  pub from : a ≡ Some (Array elem count)
+  pub to : b ≡ Some (type_of_elem elem)
 
-element_step : (a : Option VarTy) (index : Option IntType) (b : VarTy) → item_type a index ≡ Some b → ElementStep a (Some b)
+pub element_step : (a : Option VarTy) (index : Option IntType) (b : VarTy) → item_type a index ≡ Some b → ElementStep a (Some b)
 element_step (Some (Array elem count)) (Some u) b h = record { elem = elem; count = count; from = refl; to = sym h }
 element_step a None b h = cc
 element_step None (Some u) b h = cc
@@ -379,13 +379,13 @@ element_step (Some (Int z)) (Some u) b h = cc
 element_step (Some (Struct n)) (Some u) b h = cc
 element_step (Some (Pointer elem fixed)) (Some u) b h = cc
 
-record PointerTo (a : Option VarTy) (b : VarTy) : Type 0 where
-  elem : Elem
-  fixed : Bool
-  from : a ≡ Some (Pointer elem fixed)
-  to : type_of_elem elem ≡ b
+pub record PointerTo (a : Option VarTy) (b : VarTy) : Type 0 where
+  pub elem : Elem
+  pub fixed : Bool
+  pub from : a ≡ Some (Pointer elem fixed)
+  pub to : type_of_elem elem ≡ b
 
-pointer_to_type : (a : Option VarTy) (b : VarTy) → option_map type_of_elem (pointee_of a) ≡ Some b → PointerTo a b
+pub pointer_to_type : (a : Option VarTy) (b : VarTy) → option_map type_of_elem (pointee_of a) ≡ Some b → PointerTo a b
 pointer_to_type (Some (Pointer elem fixed)) b h = record { elem = elem; fixed = fixed; from = refl; to = cc }
 pointer_to_type None b h = cc
 pointer_to_type (Some (Int z)) b h = cc
@@ -560,7 +560,7 @@ mutual
       call_from g arguments s ty w n c st k (λ ps fit. arguments_keep arguments ps w n c st k (left (all_typed n arguments) (call_fits (slice_get n.signatures g.0) arguments ty) h) fit m)
       (slice_get n.signatures g.0) refl (right (all_typed n arguments) (call_fits (slice_get n.signatures g.0) arguments ty) h)
 
-  arguments_keep : (arguments : ExprTrees) (ps : List Param) (w : World) (n : Names) (c : Context) (st : State) → ContextFits w n c → IsTrue (all_typed n arguments) → IsTrue (arguments_fit ps arguments) → Fits w st.memory → Keeps w (ArgumentsFit w ps) (values_of arguments c st)
+  pub arguments_keep : (arguments : ExprTrees) (ps : List Param) (w : World) (n : Names) (c : Context) (st : State) → ContextFits w n c → IsTrue (all_typed n arguments) → IsTrue (arguments_fit ps arguments) → Fits w st.memory → Keeps w (ArgumentsFit w ps) (values_of arguments c st)
   arguments_keep no_exprs [] w n c st k all h m = (tt, m)
   arguments_keep no_exprs (p ∷ ps) w n c st k all h m = never h
   arguments_keep (expr_and a rest) [] w n c st k all h m = never h
@@ -596,7 +596,7 @@ mutual
       leads_on w n c root steps st ty (λ a e. root_keeps root w n c st a k (left (root_fits n root) (steps_fit n steps) h) e m)
       (λ a at st1 e l m1. steps_keep steps a at w n c st1 ty k (right (root_fits n root) (steps_fit n steps) h) e l m1) is
 
-  root_keeps : (root : RootTree) (w : World) (n : Names) (c : Context) (st : State) (a : VarTy) → ContextFits w n c → IsTrue (root_fits n root) → root_type n root ≡ Some a → Fits w st.memory → Keeps w (LocationFits w (Some a)) (root_location root c st)
+  pub root_keeps : (root : RootTree) (w : World) (n : Names) (c : Context) (st : State) (a : VarTy) → ContextFits w n c → IsTrue (root_fits n root) → root_type n root ≡ Some a → Fits w st.memory → Keeps w (LocationFits w (Some a)) (root_location root c st)
   root_keeps (t.local v) w n c st a k h is m = (names_variable w n c v.0 a k is, m)
   root_keeps (t.global g) w n c st a k h is m = (names_global w n c g.0 a k is, m)
   root_keeps (t.deref b s) w n c st a k h is m =

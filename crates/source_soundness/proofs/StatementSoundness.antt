@@ -71,14 +71,14 @@ cleared_fit w d ss (Array elem count) = zeros (cells_by ss (Array elem count))
 cleared_fit w d ss (Pointer elem fixed) = (null, refl, tt)
 
 -- the variable's entry
-record Entry (scope : Scope) (x : ℕ) (ty : VarTy) : Type 0 where
-  is : option_map (λ (y : Var). y.ty) (slice_get scope.names.vars x) ≡ Some ty
+pub record Entry (scope : Scope) (x : ℕ) (ty : VarTy) : Type 0 where
+  pub is : option_map (λ (y : Var). y.ty) (slice_get scope.names.vars x) ≡ Some ty
 
 -- a variable lies where its name says
-lies : (w : World) (scope : Scope) (code : Code) (x : ℕ) (ty : VarTy) → CodeFits w scope code → Entry scope x ty → LocationFits w (Some ty) (variable_at code x 0)
+pub lies : (w : World) (scope : Scope) (code : Code) (x : ℕ) (ty : VarTy) → CodeFits w scope code → Entry scope x ty → LocationFits w (Some ty) (variable_at code x 0)
 lies w scope code x ty k en = names_variable w scope.names code.context x ty k.context en.is
 
-clearing : (w : World) (scope : Scope) (code : Code) (x : ℕ) (ty : VarTy) (st : State) → CodeFits w scope code → Entry scope x ty → Fits w st.memory → Fits w (cleared_at code x st).memory
+pub clearing : (w : World) (scope : Scope) (code : Code) (x : ℕ) (ty : VarTy) (st : State) → CodeFits w scope code → Entry scope x ty → Fits w st.memory → Fits w (cleared_at code x st).memory
 clearing w scope code x ty st k en m =
     put_fits w st.memory (local code.context.frame.depth x) (cleared (sizes code.context) (type_at code.context.variables x)) m
     (λ u is. subst (λ z. CellsFit w code.context.frame.depth z (cleared (sizes code.context) (type_at code.context.variables x))) (same (type_at code.context.variables x) ty u (got_or code.context.variables x ty (Int i.Int) (entry_type w scope.names code.context x ty k.context en.is)) (names_live w scope.names code.context x ty k.context en.is) is)
@@ -91,11 +91,11 @@ clearing w scope code x ty st k en m =
 store_whole : (w : World) (scope : Scope) (code : Code) (x : ℕ) (ty : VarTy) (v : Value) (st : State) → CodeFits w scope code → Entry scope x ty → ValueFits w (Some ty) v → Fits w st.memory → Keeps w (ValueFits w (Some ty)) (store (variable_at code x 0) v st)
 store_whole w scope code x ty v st k en fit m = keeps_store w (variable_at code x 0) v ty st (lies w scope code x ty k en) fit m
 
-same_as : (w : World) (ty : VarTy) (v : Value) → Passed w (same_types (Some ty)) v → ValueFits w (Some ty) v
+pub same_as : (w : World) (ty : VarTy) (v : Value) → Passed w (same_types (Some ty)) v → ValueFits w (Some ty) v
 same_as w ty v p = subst (λ z. ValueFits w z v) (sym (equal_options (Some ty) p.ty p.passes)) p.fit
 
 -- a number is stored in a cell of a variable that is no pointer
-number_stored : (w : World) (scope : Scope) (code : Code) (x cell : ℕ) (ty : VarTy) (t : IntType) (v : Value) (st : State) → CodeFits w scope code → Entry scope x ty → is_pointer ty ≡ false → ValueFits w (Some (Int t)) v → Fits w st.memory → Fits w (stored_in st.memory (variable_at code x cell) v)
+pub number_stored : (w : World) (scope : Scope) (code : Code) (x cell : ℕ) (ty : VarTy) (t : IntType) (v : Value) (st : State) → CodeFits w scope code → Entry scope x ty → is_pointer ty ≡ false → ValueFits w (Some (Int t)) v → Fits w st.memory → Fits w (stored_in st.memory (variable_at code x cell) v)
 number_stored w scope code x cell ty t (holds c) st k en plain fit m = number_written w st.memory (local code.context.frame.depth x) cell c ty m (names_live w scope.names code.context x ty k.context en.is) plain fit
 number_stored w scope code x cell ty t (whole cells) st k en plain fit m = absurd fit
 number_stored w scope code x cell ty t nothing st k en plain fit m = m

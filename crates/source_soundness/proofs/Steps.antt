@@ -32,7 +32,7 @@ use Rattle.source_soundness.proofs.Operators.{Gives, FitsAs, gives_number, moves
 
 -- ---- chains
 
-when : (c : Bool) (x y : VarTy) → (if c then Some x else None) ≡ Some y → x ≡ y
+pub when : (c : Bool) (x y : VarTy) → (if c then Some x else None) ≡ Some y → x ≡ y
 when true x y h = cc
 when false x y h = cc
 
@@ -45,31 +45,31 @@ given_when true x y h = h
 given_when false x y h = cc
 
 -- a result that is a number, of an integer type
-abbrev IsInt : VarTy → Type 0
+abbrev pub IsInt : VarTy → Type 0
 IsInt ty = (t : IntType) × (Int t ≡ ty)
 
 number_fits : (w : World) (ty : VarTy) (r : Result Cell Trap) → IsInt ty → Gives IsNumber r → Gives (FitsAs w (Some ty)) r
 number_fits w ty (Ok c) is h = subst (λ t. FitsAs w (Some t) c) is.1 h
 number_fits w ty (Err trap) is h = tt
 
-arithmetic_int : (op : BinOp) (t : IntType) (a b : Option IntType) (ty : VarTy) → arithmetic_type op t a b ≡ Some ty → IsInt ty
+pub arithmetic_int : (op : BinOp) (t : IntType) (a b : Option IntType) (ty : VarTy) → arithmetic_type op t a b ≡ Some ty → IsInt ty
 arithmetic_int op t None b ty h = cc
 arithmetic_int op t (Some a) None ty h = cc
 arithmetic_int op t (Some a) (Some b) ty h = (binary_type op t, when (not (is_shift op) && (same_int (usual a t) t && same_int b t)) (Int (binary_type op t)) ty h)
 
-shift_int : (a b : Option IntType) (ty : VarTy) → shift_type a b ≡ Some ty → IsInt ty
+pub shift_int : (a b : Option IntType) (ty : VarTy) → shift_type a b ≡ Some ty → IsInt ty
 shift_int None b ty h = cc
 shift_int (Some a) None ty h = cc
 shift_int (Some a) (Some b) ty h = (a, when (r.is_promoted a && r.is_promoted b) (Int a) ty h)
 
 -- the pointer that is moved
-record Moved (a : Option VarTy) (ty : VarTy) : Type 0 where
-  elem : Elem
-  fixed : Bool
-  is : a ≡ Some (Pointer elem fixed)
-  gives : Pointer elem fixed ≡ ty
+pub record Moved (a : Option VarTy) (ty : VarTy) : Type 0 where
+  pub elem : Elem
+  pub fixed : Bool
+  pub is : a ≡ Some (Pointer elem fixed)
+  pub gives : Pointer elem fixed ≡ ty
 
-moved_is : (a b : Option VarTy) (ty : VarTy) → moved_type a b ≡ Some ty → Moved a ty
+pub moved_is : (a b : Option VarTy) (ty : VarTy) → moved_type a b ≡ Some ty → Moved a ty
 moved_is (Some (Pointer elem fixed)) b ty h = record { elem = elem; fixed = fixed; is = refl; gives = when (is_some (integer_of b)) (Pointer elem fixed) ty h }
 moved_is None b ty h = cc
 moved_is (Some (Int t)) b ty h = cc

@@ -1,8 +1,14 @@
+<<<<<<< HEAD
 //! What a well formed program computes: its values are of the kinds that its types say, and its pointers
 //! are null or name live objects.
+=======
+//! What a well formed program computes: its values are of the kinds that its types say, its pointers point
+//! to live objects, and objects keep their sizes.
+>>>>>>> bc5ecaa1b82a51887ab1252815eefe0002d2f4be
 #![tactic(auto)]
 
 ghost use Rattle.source_soundness.specs.Laws.{CallsKeepTypes, PlacesAreLive, ProgramsBeginFitting, StatementsKeepTypes, ValuesHaveTheirTypes};
+ghost use Rattle.source_soundness.specs.Sizes.{DeepCallsKeepSizes, PlacesLieWithin, ProgramsBeginSized, StatementsKeepSizes, ValuesKeepSizes};
 
 /// An expression gives a value of its type.
 pub fn values_have_their_types()
@@ -27,4 +33,29 @@ pub fn calls_keep_types()
 /// Where main begins, globals and main's variables fit their types.
 pub fn programs_begin_fitting()
     ensures { ProgramsBeginFitting }
+{}
+
+/// Expressions keep the sizes of objects, and give values of their types' sizes.
+pub fn values_keep_sizes()
+    ensures { ValuesKeepSizes }
+{}
+
+/// An object that a place designates lies in a live one.
+pub fn places_lie_within()
+    ensures { PlacesLieWithin }
+{}
+
+/// Statements keep the sizes of objects.
+pub fn statements_keep_sizes()
+    ensures { StatementsKeepSizes }
+{}
+
+/// Calls keep the sizes of objects, whatever the hosts answer.
+pub fn deep_calls_keep_sizes()
+    ensures { DeepCallsKeepSizes }
+{}
+
+/// Where main begins, globals and main's variables have their sizes.
+pub fn programs_begin_sized()
+    ensures { ProgramsBeginSized }
 {}
