@@ -282,13 +282,13 @@ mutual
       let first = left (is_typed n a) (has_links links && links_fit n (ty_of a) links ty) h in
       sizes_bind w (sizes c) (ValueFits w (ty_of a)) (ValueSized w (sizes c) (ty_of a)) (ValueSized w (sizes c) ty) (value_of a c st) (λ v. links_value links (type_of a) v c) (value_fits a w n c st u.fits first m) (value_sized a w n c st u first m z)
       (λ v st1 q p m1 z1. links_sized links (type_of a) (ty_of a) v ty w n c st1 u (right (has_links links) (links_fit n (ty_of a) links ty) is) p m1 z1)
-  form_sized (t.logical op a operands) s ty w n c st u h m z =
-      let first = left (is_typed n a) (is_scalar (ty_of a)) (left (is_typed n a && is_scalar (ty_of a)) ((has_operands operands && operands_fit n operands) && same_types ty r.int) h) in
-      let rest = right (is_typed n a && is_scalar (ty_of a)) ((has_operands operands && operands_fit n operands) && same_types ty r.int) h in
-      let all = left (has_operands operands && operands_fit n operands) (same_types ty r.int) rest in
-      let is = equal_options ty r.int (right (has_operands operands && operands_fit n operands) (same_types ty r.int) rest) in
-      sizes_bind w (sizes c) (ValueFits w (ty_of a)) (ValueSized w (sizes c) (ty_of a)) (ValueSized w (sizes c) ty) (value_of a c st) (λ v. operands_value operands op (is_true v) c) (value_fits a w n c st u.fits first m) (value_sized a w n c st u first m z)
-      (λ v st1 q p m1 z1. subst (λ y. KeepsSizes w (sizes c) (ValueSized w (sizes c) y) (operands_value operands op (is_true v) c st1)) (sym is) (operands_sized operands op (is_true v) w n c st1 u (right (has_operands operands) (operands_fit n operands) all) m1 z1))
+  form_sized (t.logical op a others) s ty w n c st u h m z =
+      let first = left (is_typed n a) (is_scalar (ty_of a)) (left (is_typed n a && is_scalar (ty_of a)) ((has_operands others && operands_fit n others) && same_types ty r.int) h) in
+      let rest = right (is_typed n a && is_scalar (ty_of a)) ((has_operands others && operands_fit n others) && same_types ty r.int) h in
+      let all = left (has_operands others && operands_fit n others) (same_types ty r.int) rest in
+      let is = equal_options ty r.int (right (has_operands others && operands_fit n others) (same_types ty r.int) rest) in
+      sizes_bind w (sizes c) (ValueFits w (ty_of a)) (ValueSized w (sizes c) (ty_of a)) (ValueSized w (sizes c) ty) (value_of a c st) (λ v. operands_value others op (is_true v) c) (value_fits a w n c st u.fits first m) (value_sized a w n c st u first m z)
+      (λ v st1 q p m1 z1. subst (λ y. KeepsSizes w (sizes c) (ValueSized w (sizes c) y) (operands_value others op (is_true v) c st1)) (sym is) (operands_sized others op (is_true v) w n c st1 u (right (has_operands others) (operands_fit n others) all) m1 z1))
   form_sized (t.choice a b d) s ty w n c st u h m z =
       let test = left (is_typed n a) (is_scalar (ty_of a)) (left (is_typed n a && is_scalar (ty_of a)) ((is_typed n b && same_types (ty_of b) ty) && ((is_typed n d && same_types (ty_of d) ty) && is_arm ty)) h) in
       let arms = right (is_typed n a && is_scalar (ty_of a)) ((is_typed n b && same_types (ty_of b) ty) && ((is_typed n d && same_types (ty_of d) ty) && is_arm ty)) h in
@@ -353,7 +353,7 @@ mutual
       link_leads s to step b rest so_far a ty v w c st is p (value_fits b w n c st u.fits first m) (value_sized b w n c st u first m z)
       (λ y st1 p1 m1 z1. links_sized rest to (Some to) y ty w n c st1 u (right (same_types (r.stepped a step (ty_of b)) (Some to)) (links_fit n (Some to) rest ty) more) p1 m1 z1)
 
-  operands_sized : (operands : OperandTrees) (op : LogicalOp) (b : Bool) (w : World) (n : Names) (c : Context) (st : State) → Setup w n c → IsTrue (operands_fit n operands) → Fits w st.memory → Sized w (sizes c) st.memory → KeepsSizes w (sizes c) (ValueSized w (sizes c) r.int) (operands_value operands op b c st)
+  operands_sized : (others : OperandTrees) (op : LogicalOp) (b : Bool) (w : World) (n : Names) (c : Context) (st : State) → Setup w n c → IsTrue (operands_fit n others) → Fits w st.memory → Sized w (sizes c) st.memory → KeepsSizes w (sizes c) (ValueSized w (sizes c) r.int) (operands_value others op b c st)
   operands_sized no_operands op b w n c st u h m z = (tt, z)
   operands_sized (operand_and (operand s a) rest) op b w n c st u h m z =
       let first = left (is_typed n a) (is_scalar (ty_of a)) (left (is_typed n a && is_scalar (ty_of a)) (operands_fit n rest) h) in
@@ -404,7 +404,7 @@ mutual
   assigned_sized (typed s ty (t.convert b)) w n c st a u h is m z = cc
   assigned_sized (typed s ty (t.discard b)) w n c st a u h is m z = cc
   assigned_sized (typed s ty (t.chain b links)) w n c st a u h is m z = cc
-  assigned_sized (typed s ty (t.logical op b operands)) w n c st a u h is m z = cc
+  assigned_sized (typed s ty (t.logical op b others)) w n c st a u h is m z = cc
   assigned_sized (typed s ty (t.choice b d e)) w n c st a u h is m z = cc
   assigned_sized (typed s ty (t.compound p at step b)) w n c st a u h is m z = cc
   assigned_sized (typed s ty (t.step p at back postfix)) w n c st a u h is m z = cc
