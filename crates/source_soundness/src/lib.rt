@@ -1,10 +1,5 @@
-<<<<<<< HEAD
-//! What a well formed program computes: its values are of the kinds that its types say, and its pointers
-//! are null or name live objects.
-=======
-//! What a well formed program computes: its values are of the kinds that its types say, its pointers point
-//! to live objects, and objects keep their sizes.
->>>>>>> bc5ecaa1b82a51887ab1252815eefe0002d2f4be
+//! What a well formed program computes: its values are of the kinds that its types say, its pointers
+//! are null or point to live objects, and objects keep their sizes.
 #![tactic(auto)]
 
 ghost use Rattle.source_soundness.specs.Laws.{CallsKeepTypes, PlacesAreLive, ProgramsBeginFitting, StatementsKeepTypes, ValuesHaveTheirTypes};
@@ -15,7 +10,7 @@ pub fn values_have_their_types()
     ensures { ValuesHaveTheirTypes }
 {}
 
-/// A place names a live object, and has its type. That its cells lie inside the object isn't said.
+/// A place names a live object, and has its type.
 pub fn places_are_live()
     ensures { PlacesAreLive }
 {}
