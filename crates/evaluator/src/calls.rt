@@ -86,13 +86,13 @@ fn asked(
     state.hosts.call(f, numbers, out)
 }
 
-// a result as a value
+// a result as a value, 0 where there is none
 fn value_of(answer: Option<i128>) -> Value
     ensures { view_value result ≡ meaning.result_value answer }
 {
     match answer {
         Some(n) => Value::Holds(Cell::Number(n)),
-        None => Value::Nothing,
+        None => Value::Holds(Cell::Number(0)),
     }
 }
 

@@ -1,6 +1,6 @@
 -- The pair's halves, with handles revealed, go as the program does.
 use Rattle.std.proofs.Common.{◌≡◌, ◌<◌, ◌+◌, ℕ, zero, suc, ℤ, pos, List, [], ◌∷◌, ◌++◌, length, map, get_or, refl, sym, ◌∙◌, ap, subst, arith, Bool, true, false, not, ◌&&◌, ◌||◌, if◌then◌else◌, nat_eq, nat_lt, Option, Some, None, append_assoc, length-append}
-use Rattle.std.specs.Prelude.{⊤, slice_get}
+use Rattle.std.specs.Prelude.{⊤, slice_get, unwrap_or}
 use Rattle.std.specs.Str.{bytes_eq}
 use Rattle.std.proofs.lemmas.List.{get_or_push}
 use Rattle.std.proofs.Math.ListN.{get_or-append}
@@ -15,7 +15,7 @@ use Rattle.typed_tree.specs.declared.types.VarTy.{VarTy}
 use Rattle.typed_tree.specs.HostProgram.{nowhere}
 use Rattle.source_meaning.specs.Memory.{number, local, read}
 use Rattle.source_meaning.specs.State.{State, Outcome}
-use Rattle.source_meaning.specs.Values.{Value, holds, whole, nothing, numbers_of}
+use Rattle.source_meaning.specs.Values.{Value, holds, numbers_of}
 use Rattle.source_meaning.specs.Expressions.{Calls, Context, type_at, loaded, value_of, values_of}
 use Rattle.source_meaning.specs.Functions.{result_value, answered}
 use Rattle.source_meaning.specs.WholeRun.{main_frame}
@@ -269,12 +269,11 @@ numbers_fit names T hosts models pair st agrees false ps rest is same good keeps
 
 -- ---- what a call leaves
 
--- a result's value is what is held, with handles revealed; a handle is held only of a sealed result
+-- a result's value is what is held, with handles revealed, 0 where nothing is given; a handle is held
+-- only of a sealed result
 abbrev pub ResultIs : Option Held → List ℤ → Value → Bool → Type 0
-ResultIs None kept nothing sealed = ⊤
-ResultIs None kept (holds cell) sealed = ⊥
-ResultIs None kept (whole cells) sealed = ⊥
-ResultIs (Some h) kept value sealed = (value ≡ holds (number (revealed kept h))) × HandleFits (length kept) (sealed ≡ true) h
+ResultIs given kept value sealed =
+    (value ≡ holds (number (revealed kept (unwrap_or given no_number)))) × HandleFits (length kept) (sealed ≡ true) (unwrap_or given no_number)
 
 revealed_more : (kept : List ℤ) (v : ℤ) (May : Type 0) (h : Held) → HandleFits (length kept) May h → revealed (kept ++ v ∷ []) h ≡ revealed kept h
 revealed_more kept v May (Plain w) fits = refl
@@ -342,7 +341,7 @@ reply_agrees count T hosts models pair st true (Some v) agrees = more_stored cou
 reply_agrees count T hosts models pair st false (Some v) agrees = agrees
 
 reply_is : (sealed : Bool) (result : Option ℤ) (pair : Pair) → ResultIs (replied sealed result pair).result (replied sealed result pair).pair.stored (result_value result) sealed
-reply_is sealed None pair = tt
+reply_is sealed None pair = (refl, tt)
 reply_is true (Some v) pair = (ap (λ w. holds (number w)) (sym (get_or_push pair.stored v (pos 0) (length pair.stored) refl)), (omega (arith, length-append pair.stored (v ∷ [])), refl))
 reply_is false (Some v) pair = (refl, tt)
 

@@ -1,6 +1,6 @@
 -- Whole early programs: their statements, their declarations, and what is expected of them.
 use Rattle.std.proofs.Common.{◌≡◌, ◌≢◌, ◌<◌, ◌≤◌, ◌+◌, ◌-◌, ℕ, zero, suc, pos, List, [], ◌∷◌, ◌++◌, length, map, get_or, set, refl, sym, ◌∙◌, ap, subst, arith, Bool, true, false, ◌&&◌, if◌then◌else◌, nat_eq, Option, Some, None, append_assoc}
-use Rattle.std.specs.Prelude.{⊤, slice_get, replicate}
+use Rattle.std.specs.Prelude.{⊤, slice_get, replicate, unwrap_or}
 use Rattle.std.proofs.lemmas.Int.{ints}
 use Rattle.std.proofs.lemmas.List.{get_or-set_same, get_or-set_other, length-set}
 use Rattle.pt_base.specs.declared.end.End.{End}
@@ -18,7 +18,7 @@ use Rattle.typed_tree.specs.TypedTree.{FunctionTree}
 use Rattle.typed_tree.specs.HostProgram.{nowhere}
 use Rattle.source_meaning.specs.Memory.{Memory, Cell, number, local, put, with_frame, read, write, nothing_live}
 use Rattle.source_meaning.specs.State.{State, Outcome}
-use Rattle.source_meaning.specs.Values.{Value, holds, whole, nothing, Location, cleared, frame_cells}
+use Rattle.source_meaning.specs.Values.{Value, holds, Location, cleared, frame_cells}
 use Rattle.source_meaning.specs.Expressions.{Calls, type_at, sizes, store, value_of}
 use Rattle.source_meaning.specs.Statements.{Code, Flow, goes_on, returned, after_flow, statement, all_of, no_expr}
 use Rattle.source_meaning.specs.Functions.{body_or_none, calls_within}
@@ -130,15 +130,14 @@ record Kept (names : List (List ℕ)) (T : ℕ → Type 0) (hosts : List Host) (
 keeps_result : (names : List (List ℕ)) (T : ℕ → Type 0) (hosts : List Host) (models : List HostModel) (types : List VarTy) (pair : Pair) (st : State) (at : ℕ) (sealed : Bool) (o : Option Held) (value : Value)
     → Agrees (length names) T hosts models pair st → at < length names → (sealed ≡ true → T at) → ResultIs o pair.stored value sealed
     → Kept names T hosts models types (holds_from_now at o pair) st at value
-keeps_result names T hosts models types pair st at sealed None nothing agrees within taints is = record { after = st; does = refl; agrees = agrees; left = refl }
-keeps_result names T hosts models types pair st at sealed None (holds cell) agrees within taints is = absurd is
-keeps_result names T hosts models types pair st at sealed None (whole cells) agrees within taints is = absurd is
-keeps_result names T hosts models types pair st at sealed (Some h) value agrees within taints is = record {
-  after = record st { memory = write st.memory (local 1 at) 0 (number (revealed pair.stored h)) };
-  does = subst (λ w. store (target types at) w st ≡ gives w (record st { memory = write st.memory (local 1 at) 0 (number (revealed pair.stored h)) })) (sym is.0) refl;
-  agrees = stores names T hosts models pair st at h (number (revealed pair.stored h)) agrees within refl (fits_move (length pair.stored) (sealed ≡ true) (T at) h is.1 taints);
-  left = refl;
-}
+keeps_result names T hosts models types pair st at sealed o value agrees within taints is =
+    let h : Held = unwrap_or o no_number in
+    record {
+      after = record st { memory = write st.memory (local 1 at) 0 (number (revealed pair.stored h)) };
+      does = subst (λ w. store (target types at) w st ≡ gives w (record st { memory = write st.memory (local 1 at) 0 (number (revealed pair.stored h)) })) (sym is.0) refl;
+      agrees = stores names T hosts models pair st at h (number (revealed pair.stored h)) agrees within refl (fits_move (length pair.stored) (sealed ≡ true) (T at) h is.1 taints);
+      left = refl;
+    }
 
 statement_steps : (names : List (List ℕ)) (T : ℕ → Type 0) (hosts : List Host) (models : List HostModel) (types : List VarTy) (calls : Calls) (pair : Pair) (st : State) (s : Statement)
     → AreInts types → ReachHosts hosts calls → Agrees (length names) T hosts models pair st → AreSteady models → hosts_are_good hosts ≡ true → statement_is_good hosts names s ≡ true

@@ -1,6 +1,6 @@
 -- The two halves at work on an early program: the slave's variables hold numbers or handles, the
 -- monitor keeps the values of handles.
-use Rattle.std.specs.Prelude.{ℕ, ℤ, pos, Bool, true, false, not, ◌&&◌, List, [], ◌∷◌, ◌++◌, Option, Some, None, map, length, slice_index_or, slice_set, replicate}
+use Rattle.std.specs.Prelude.{ℕ, ℤ, pos, Bool, true, false, not, ◌&&◌, List, [], ◌∷◌, ◌++◌, Option, Some, None, map, length, slice_index_or, slice_set, replicate, unwrap_or}
 use Rattle.pt_tree.specs.declared.host_model.HostModel.{HostModel}
 use Rattle.pt_tree.specs.declared.host_model.HostModel.TheVariants.{Line}
 use Rattle.pt_tree.specs.HostStep.{host_step}
@@ -97,10 +97,9 @@ abbrev pub call_made : List Host → List HostModel → List (List ℕ) → Call
 call_made hosts models names c pair =
     called_of (host_of hosts c.callee) (model_at models (place_in (names_of hosts) c.callee)) (args_held names pair.variables c.args) pair
 
--- a variable holds this from now on
+-- a variable holds this from now on, 0 where a call gives nothing
 abbrev pub holds_from_now : ℕ → Option Held → Pair → Pair
-holds_from_now at None pair = pair
-holds_from_now at (Some held) pair = record pair { variables = slice_set pair.variables at held }
+holds_from_now at held pair = record pair { variables = slice_set pair.variables at (unwrap_or held (Plain (pos 0))) }
 
 -- what a statement stores, and what is left by it
 abbrev pub source_done : List Host → List HostModel → List (List ℕ) → Source → Pair → Called

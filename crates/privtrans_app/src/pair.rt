@@ -103,14 +103,12 @@ impl Pair {
         }
     }
 
-    // A variable holds this from now on.
+    // A variable holds this from now on, 0 where a call gives nothing.
     fn hold(&mut self, place: usize, held: Option<Held>)
         ensures { pair_of self.new ≡ holds_from_now place held (pair_of self.old) }
     {
-        if let Some(held) = held {
-            if place < self.variables.len() {
-                self.variables[place] = held;
-            }
+        if place < self.variables.len() {
+            self.variables[place] = held.unwrap_or(Held::Plain(0));
         }
     }
 

@@ -1,5 +1,5 @@
 -- The meaning of calls (C99 6.5.2.2), within a depth and a budget of turns.
-use Rattle.std.specs.Prelude.{ℕ, zero, suc, ◌+◌, ◌-◌, ℤ, Bool, true, false, ◌||◌, List, [], Option, Some, None, map, unwrap_or, if◌then◌else◌, nat_eq}
+use Rattle.std.specs.Prelude.{ℕ, zero, suc, ◌+◌, ◌-◌, ℤ, pos, Bool, true, false, ◌||◌, List, [], Option, Some, None, map, unwrap_or, if◌then◌else◌, nat_eq}
 use Rattle.pt_base.specs.declared.int_type.IntType.{IntType}
 use Rattle.pt_base.specs.declared.span.Span.{Span}
 use Rattle.pt_base.specs.declared.trap.Trap.TheVariants.{Depth, NoReturn}
@@ -52,8 +52,9 @@ code_at program f frame calls = record {
 
 -- ---- hosts
 
+-- what a call of a host gives: a host that gives nothing gives 0, which a void host's caller doesn't use
 abbrev pub result_value : Option ℤ → Value
-result_value None = v.nothing
+result_value None = holds (number (pos 0))
 result_value (Some n) = holds (number n)
 
 abbrev pub answered : ℕ → Answer → State → Outcome Value

@@ -78,7 +78,7 @@ loaded_fits w c at st ty l v h =
 stored_as : (w : World) (m : Memory) (at : Location) (v : Value) (in_ ty : VarTy) → Fits w m → type_in w at.block ≡ Some in_ → PartFits at.cell in_ ty → (is_pointer ty ≡ true → depth_of at.block ≡ w.depth) → ValueFits w (Some ty) v → Fits w (stored_in m at v)
 stored_as w m at (holds c) in_ (Int t) h live part own fit = number_written w m at.block at.cell c in_ h live (plain_part at.cell in_ (Int t) part refl) fit
 stored_as w m at (whole cells) in_ (Int t) h live part own fit = absurd fit
-stored_as w m at nothing in_ (Int t) h live part own fit = h
+stored_as w m at nothing in_ (Int t) h live part own fit = absurd fit
 stored_as w m at v in_ (Struct n) h live part own fit =
     subst (λ x. Fits w (stored_in m at x)) (sym fit.1) (numbers_written w m at.block at.cell fit.0 in_ h live (plain_part at.cell in_ (Struct n) part refl) fit.2)
 stored_as w m at v in_ (Array elem count) h live part own fit = absurd fit

@@ -43,7 +43,7 @@ moves w d amount (pointer block base count index) h = go (moved_index count inde
 pub number_of_int : (w : World) (t : IntType) (v : Value) → ValueFits w (Some (Int t)) v → IsNumber (cell_of v)
 number_of_int w t (holds c) h = h
 number_of_int w t (whole cells) h = absurd h
-number_of_int w t nothing h = tt
+number_of_int w t nothing h = absurd h
 
 pub scoped_of_pointer : (w : World) (e : Elem) (f : Bool) (v : Value) → ValueFits w (Some (Pointer e f)) v → IsScoped w w.depth (cell_of v)
 scoped_of_pointer w e f v h = subst (λ x. IsScoped w w.depth (cell_of x)) (sym h.1) h.2

@@ -98,7 +98,7 @@ same_as w ty v p = subst (λ z. ValueFits w z v) (sym (equal_options (Some ty) p
 pub number_stored : (w : World) (scope : Scope) (code : Code) (x cell : ℕ) (ty : VarTy) (t : IntType) (v : Value) (st : State) → CodeFits w scope code → Entry scope x ty → is_pointer ty ≡ false → ValueFits w (Some (Int t)) v → Fits w st.memory → Fits w (stored_in st.memory (variable_at code x cell) v)
 number_stored w scope code x cell ty t (holds c) st k en plain fit m = number_written w st.memory (local code.context.frame.depth x) cell c ty m (names_live w scope.names code.context x ty k.context en.is) plain fit
 number_stored w scope code x cell ty t (whole cells) st k en plain fit m = absurd fit
-number_stored w scope code x cell ty t nothing st k en plain fit m = m
+number_stored w scope code x cell ty t nothing st k en plain fit m = absurd fit
 
 -- the items of a brace list of an object without pointers
 numbers_stored : (es : List ExprId) (ts : List IntType) (w : World) (scope : Scope) (code : Code) (x cell : ℕ) (ty : VarTy) (result : Option IntType) (st : State) → CodeFits w scope code → Entry scope x ty → is_pointer ty ≡ false → IsTrue (items_fit scope (map Int ts) es) → Fits w st.memory → Keeps w (FlowFits w result) (items_stored es x cell code st)

@@ -54,11 +54,11 @@ CellsFit w d (Pointer elem fixed) cells = (c : Cell) × (cells ≡ c ∷ []) × 
 abbrev pub Fits : World → Memory → Type 0
 Fits w memory = (b : Block) (ty : VarTy) → type_in w b ≡ Some ty → CellsFit w (depth_of b) ty (memory b)
 
--- a number; where a host gives none, it counts as 0
+-- a number
 abbrev pub IsInteger : Value → Type 0
 IsInteger (holds c) = IsNumber c
 IsInteger (whole cells) = ⊥
-IsInteger nothing = Unit {0}
+IsInteger nothing = ⊥
 
 -- a value of this type, None being void
 abbrev pub ValueFits : World → Option VarTy → Value → Type 0
