@@ -1,0 +1,2 @@
+//! The lowering keeps the meaning of programs.
+#![tactic(auto)]
