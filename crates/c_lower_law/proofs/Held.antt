@@ -7,6 +7,7 @@ use Rattle.typed_tree.specs.declared.types.VarTy.{VarTy}
 use Rattle.block_memory.specs.declared.cell.Cell as core
 use Rattle.block_memory.specs.declared.cell.Cell.TheVariants.{Int}
 use Rattle.block_memory.specs.declared.cell.BlockName.TheVariants.{Local}
+use Rattle.block_memory.specs.Block as b
 use Rattle.block_memory.specs.Blocks.{Blocks}
 use Rattle.source_meaning.specs.State.{State, Outcome}
 use Rattle.source_meaning.specs.Values.{Value}
@@ -78,15 +79,15 @@ temp_given s k x ty st st' fits far is a =
 pub temp_read : (s : Scene) (k : ℕ) (x : core.Cell) (blocks : Blocks) → (blocks (Local s.frame.depth k)).cells ≡ x ∷ [] → cell_asked s (temp k) blocks ≡ Ok x
 temp_read s k x blocks e = ap (λ cells. Ok (slice_index_or cells 0 (Int (pos 0)))) e
 
--- the statement that holds a value
-pub hold_ok : (s : Scene) (k : ℕ) (e : t.ExprTree) (rest : c.State → c.Outcome Flow) (x : core.Cell) (st : c.State) → cell_asked s e st.memory ≡ Ok x → (run_all s (hold k e ∷ []) st >>= after_flow rest) ≡ rest (with_temp s k x st)
-hold_ok s k e rest x st is =
-    ap (λ r. ((evaluated (r >>? λ v. Ok (written st.memory (Local s.frame.depth k) 0 v)) st (λ blocks st1. gives goes_on (with_blocks blocks st1))) >>= after_flow (λ st2. gives goes_on st2)) >>= after_flow rest) is
+-- what a statement that holds a value does, and what follows it
+abbrev holding_then : Scene → ℕ → List StmtTree → c.State → Result core.Cell Stop → c.Outcome Flow
+holding_then s k stmts st r = (evaluated (r >>? λ v. Ok (written st.memory (Local s.frame.depth k) 0 v)) st (λ blocks st1. gives goes_on (with_blocks blocks st1))) >>= after_flow (run_all s stmts)
 
-pub hold_stops : (s : Scene) (k : ℕ) (e : t.ExprTree) (rest : c.State → c.Outcome Flow) (stop : Stop) (st : c.State) → cell_asked s e st.memory ≡ Err stop → Stops stop st (run_all s (hold k e ∷ []) st >>= after_flow rest)
-hold_stops s k e rest stop st is =
-    stops_at stop st (run_all s (hold k e ∷ []) st >>= after_flow rest)
-    (ap (λ r. ((evaluated (r >>? λ v. Ok (written st.memory (Local s.frame.depth k) 0 v)) st (λ blocks st1. gives goes_on (with_blocks blocks st1))) >>= after_flow (λ st2. gives goes_on st2)) >>= after_flow rest) is)
+pub hold_then : (s : Scene) (k : ℕ) (e : t.ExprTree) (stmts : List StmtTree) (x : core.Cell) (st : c.State) → cell_asked s e st.memory ≡ Ok x → run_all s (hold k e ∷ stmts) st ≡ run_all s stmts (with_temp s k x st)
+hold_then s k e stmts x st is = ap (holding_then s k stmts st) is
+
+pub hold_then_stops : (s : Scene) (k : ℕ) (e : t.ExprTree) (stmts : List StmtTree) (stop : Stop) (st : c.State) → cell_asked s e st.memory ≡ Err stop → Stops stop st (run_all s (hold k e ∷ stmts) st)
+hold_then_stops s k e stmts stop st is = stops_at stop st (run_all s (hold k e ∷ stmts) st) (ap (holding_then s k stmts st) is)
 
 -- ---- a value of the source, lowered
 
@@ -110,35 +111,42 @@ same_made Q R (trapped trap span st) f g (Err stop) st' q on = q
 same_made Q R (spent st) f g (Ok x) st' q on = absurd q
 same_made Q R (spent st) f g (Err stop) st' q on = absurd q
 
-pub asked_made : {A B X Y : Type 0} (Q : A → State → X → c.State → Type 0) (R : B → State → Y → c.State → Type 0) (ask : Blocks → Result X Stop) (o : Outcome A) (o' : c.Outcome Flow) (f : A → B) (g : X → Y) →
-    SameAsked Q ask o o' → ((a : A) (st : State) (x : X) (st' : c.State) → Q a st x st' → R (f a) st (g x) st') → SameAsked R (λ blocks. ask blocks >>? λ x. Ok (g x)) (o >>= λ a. gives (f a)) o'
-asked_made Q R ask o (gives flow st') f g h on = (h.0, same_made Q R o f g (ask st'.memory) st' h.1 (λ a st x q. on a st x st' q))
-asked_made Q R ask (gives a st) (trapped trap span st') f g h on = h
-asked_made Q R ask (trapped trap1 span1 st) (trapped trap span st') f g h on = h
-asked_made Q R ask (spent st) (trapped trap span st') f g h on = h
-asked_made Q R ask (gives a st) (spent st') f g h on = h
-asked_made Q R ask (trapped trap1 span1 st) (spent st') f g h on = h
-asked_made Q R ask (spent st) (spent st') f g h on = h
+pub asked_made : {A B X Y : Type 0} (P : Blocks → Type 0) (Q : A → State → X → c.State → Type 0) (R : B → State → Y → c.State → Type 0) (ask : Blocks → Result X Stop) (o : Outcome A) (o' : c.Outcome Flow) (f : A → B) (g : X → Y) →
+    SameAsked P Q ask o o' → ((a : A) (st : State) (x : X) (st' : c.State) → Q a st x st' → R (f a) st (g x) st') → SameAsked P R (λ blocks. ask blocks >>? λ x. Ok (g x)) (o >>= λ a. gives (f a)) o'
+asked_made P Q R ask o (gives flow st') f g h on = (h.0, h.1, same_made Q R o f g (ask st'.memory) st' h.2 (λ a st x q. on a st x st' q))
+asked_made P Q R ask (gives a st) (trapped trap span st') f g h on = h
+asked_made P Q R ask (trapped trap1 span1 st) (trapped trap span st') f g h on = h
+asked_made P Q R ask (spent st) (trapped trap span st') f g h on = h
+asked_made P Q R ask (gives a st) (spent st') f g h on = h
+asked_made P Q R ask (trapped trap1 span1 st) (spent st') f g h on = h
+asked_made P Q R ask (spent st) (spent st') f g h on = h
+
+-- what is given is made into something else, and what is asked stays
+pub asked_kept : {A B X : Type 0} (P : Blocks → Type 0) (Q : A → State → X → c.State → Type 0) (R : B → State → X → c.State → Type 0) (ask : Blocks → Result X Stop) (o : Outcome A) (o' : c.Outcome Flow) (f : A → B) →
+    SameAsked P Q ask o o' → ((a : A) (st : State) (x : X) (st' : c.State) → Q a st x st' → R (f a) st x st') → SameAsked P R ask (o >>= λ a. gives (f a)) o'
+asked_kept P Q R ask o o' f h on =
+    asked_else P P Q R ask ask o o' (λ a. gives (f a)) h (λ blocks p. p) (λ stop blocks p e. e) (λ a st x st' q e. subst (λ r. Same R (gives (f a) st) (evaluated r st' (λ y. gives y))) (sym e) (on a st x st' q))
 
 -- less is known
-pub asked_weaken : {A X : Type 0} (Q R : A → State → X → c.State → Type 0) (ask : Blocks → Result X Stop) (o : Outcome A) (o' : c.Outcome Flow) → SameAsked Q ask o o' → ((a : A) (st : State) (x : X) (st' : c.State) → Q a st x st' → R a st x st') → SameAsked R ask o o'
-asked_weaken Q R ask o (gives flow st') h on = (h.0, same_weaken Q R o (asked ask st') h.1 on)
-asked_weaken Q R ask o (trapped trap span st') h on = same_weaken Q R o (trapped trap span st') h on
-asked_weaken Q R ask o (spent st') h on = same_weaken Q R o (spent st') h on
+pub asked_weaken : {A X : Type 0} (P P1 : Blocks → Type 0) (Q R : A → State → X → c.State → Type 0) (ask : Blocks → Result X Stop) (o : Outcome A) (o' : c.Outcome Flow) → SameAsked P Q ask o o' → ((blocks : Blocks) → P blocks → P1 blocks) →
+    ((a : A) (st : State) (x : X) (st' : c.State) → Q a st x st' → R a st x st') → SameAsked P1 R ask o o'
+asked_weaken P P1 Q R ask o (gives flow st') h up on = (h.0, up st'.memory h.1, same_weaken Q R o (asked ask st') h.2 on)
+asked_weaken P P1 Q R ask o (trapped trap span st') h up on = same_weaken Q R o (trapped trap span st') h on
+asked_weaken P P1 Q R ask o (spent st') h up on = same_weaken Q R o (spent st') h on
 
 -- what is asked doesn't count by how it is written
-pub asked_as : {A X : Type 0} (Q : A → State → X → c.State → Type 0) (ask ask1 : Blocks → Result X Stop) (o : Outcome A) (o' : c.Outcome Flow) → SameAsked Q ask o o' → ((blocks : Blocks) → ask1 blocks ≡ ask blocks) → SameAsked Q ask1 o o'
-asked_as Q ask ask1 o (gives flow st') h e = (h.0, subst (λ r. Same Q o (evaluated r st' (λ x. gives x))) (sym (e st'.memory)) h.1)
-asked_as Q ask ask1 o (trapped trap span st') h e = h
-asked_as Q ask ask1 o (spent st') h e = h
+pub asked_as : {A X : Type 0} (P : Blocks → Type 0) (Q : A → State → X → c.State → Type 0) (ask ask1 : Blocks → Result X Stop) (o : Outcome A) (o' : c.Outcome Flow) → SameAsked P Q ask o o' → ((blocks : Blocks) → ask1 blocks ≡ ask blocks) → SameAsked P Q ask1 o o'
+asked_as P Q ask ask1 o (gives flow st') h e = (h.0, h.1, subst (λ r. Same Q o (evaluated r st' (λ x. gives x))) (sym (e st'.memory)) h.2)
+asked_as P Q ask ask1 o (trapped trap span st') h e = h
+asked_as P Q ask ask1 o (spent st') h e = h
 
--- an expression of the source, lowered with temporaries from n on
-abbrev pub IsLowered : Scene → Option VarTy → ℕ → (State → Outcome Value) → Lowered → Type 0
-IsLowered s ty n source l = (st : State) (st' : c.State) → Alike s st st' → SameAsked (Gives s (below n) st'.memory (IsValue s ty)) (cell_asked s l.value) (source st) (run_all s l.stmts st')
-
--- anything of the source, lowered
+-- a part of the source, lowered with temporaries from n on: statements, behind which something is evaluated
 abbrev pub IsNext : {A X : Type 0} → Scene → (A → X → Type 0) → ℕ → (State → Outcome A) → List StmtTree → (Blocks → Result X Stop) → Type 0
-IsNext s F n source stmts ask = (st : State) (st' : c.State) → Alike s st st' → SameAsked (Gives s (below n) st'.memory F) ask (source st) (run_all s stmts st')
+IsNext s F n source stmts ask = (st : State) (st' : c.State) → Alike s st st' → SameAsked (Kept s (below n) st'.memory) (Gives s (below n) st'.memory F) ask (source st) (run_all s stmts st')
+
+-- an expression of the source
+abbrev pub IsLowered : Scene → Option VarTy → ℕ → (State → Outcome Value) → Lowered → Type 0
+IsLowered s ty n source l = IsNext s (IsValue s ty) n source l.stmts (cell_asked s l.value)
 
 abbrev pub Both : {A B X Y : Type 0} → (A → X → Type 0) → (B → Y → Type 0) → (A × B) → (X × Y) → Type 0
 Both F G p q = F p.0 q.0 × G p.1 q.1
@@ -147,74 +155,84 @@ Both F G p q = F p.0 q.0 × G p.1 q.1
 abbrev pub pair_of : {A B : Type 0} → (State → Outcome A) → (State → Outcome B) → State → Outcome (A × B)
 pair_of first second st = first st >>= λ a st1. second st1 >>= λ b. gives (a, b)
 
-
-
-
 -- what comes first, and nothing is run after it
-first_pure : {B Y : Type 0} (s : Scene) (n : ℕ) (far : Lowered) (ty : Option VarTy) (F : B → Y → Type 0) (m : ℕ) (source : State → Outcome Value) (next : State → Outcome B) (ask : Blocks → Result Y Stop) → n ≤ m →
-    IsLowered s ty n source far → IsNext s F m next [] ask → IsNext s (Both (IsValue s ty) F) n (pair_of source next) far.stmts (both (cell_asked s far.value) ask)
-first_pure s n far ty F m source next ask le first second st st' a =
-    asked_else (Gives s (below n) st'.memory (IsValue s ty)) (Gives s (below n) st'.memory (Both (IsValue s ty) F)) (cell_asked s far.value) (both (cell_asked s far.value) ask) (source st) (run_all s far.stmts st') (λ v st1. next st1 >>= λ b. gives (v, b))
-    (first st st' a) (λ stop blocks e. both_err (cell_asked s far.value) ask blocks stop e)
+pub first_pure : {A B X Y : Type 0} (s : Scene) (n m : ℕ) (F : A → X → Type 0) (G : B → Y → Type 0) (source : State → Outcome A) (next : State → Outcome B) (stmts : List StmtTree) (first : Blocks → Result X Stop) (ask : Blocks → Result Y Stop) → n ≤ m →
+    IsNext s F n source stmts first → IsNext s G m next [] ask → IsNext s (Both F G) n (pair_of source next) stmts (both first ask)
+first_pure s n m F G source next stmts first ask le one two st st' a =
+    asked_else (Kept s (below n) st'.memory) (Kept s (below n) st'.memory) (Gives s (below n) st'.memory F) (Gives s (below n) st'.memory (Both F G)) first (both first ask) (source st) (run_all s stmts st') (λ v st1. next st1 >>= λ b. gives (v, b))
+    (one st st' a) (λ blocks p. p) (λ stop blocks p e. both_err first ask blocks stop e)
     (λ v st1 x st1' q e.
-    subst (λ r. Same (Gives s (below n) st'.memory (Both (IsValue s ty) F)) (next st1 >>= λ b. gives (v, b)) (evaluated r st1' (λ y. gives y))) (sym (both_ok (cell_asked s far.value) ask st1'.memory x e))
-    (same_made (Gives s (below m) st1'.memory F) (Gives s (below n) st'.memory (Both (IsValue s ty) F)) (next st1) (λ b. (v, b)) (λ y. (x, y)) (ask st1'.memory) st1' (second st1 st1' q.after.alike).1
+    subst (λ r. Same (Gives s (below n) st'.memory (Both F G)) (next st1 >>= λ b. gives (v, b)) (evaluated r st1' (λ y. gives y))) (sym (both_ok first ask st1'.memory x e))
+    (same_made (Gives s (below m) st1'.memory G) (Gives s (below n) st'.memory (Both F G)) (next st1) (λ b. (v, b)) (λ y. (x, y)) (ask st1'.memory) st1' (two st1 st1' q.after.alike).2
     (λ b st2 y z. record {
       after = record { alike = z.after.alike; kept = kept_then s (below n) (below m) (below n) st'.memory st1'.memory st1'.memory q.after.kept z.after.kept (λ k h. h) (λ k h. omega (arith, le, h)) };
       facts = (q.facts, z.facts);
     })))
 
--- what comes first is held
-first_held : {B Y : Type 0} (s : Scene) (n : ℕ) (far : Lowered) (x : Temp) (ty : Option VarTy) (F : B → Y → Type 0) (source : State → Outcome Value) (next : State → Outcome B) (stmts : List StmtTree) (ask : Blocks → Result Y Stop) →
-    SceneFits s → length s.names.vars ≤ n → slice_get s.core_variables (past n far.temps) ≡ Some x.ty → IsLowered s ty n source far → IsNext s F (suc (past n far.temps)) next stmts ask →
-    IsNext s (Both (IsValue s ty) F) n (pair_of source next) ((held n x far).stmts ++ stmts) (both (cell_asked s (held n x far).value) ask)
-first_held s n far x ty F source next stmts ask fits from there first second st st' a =
-    let k : ℕ = past n far.temps in
-    subst (λ z. SameAsked (Gives s (below n) st'.memory (Both (IsValue s ty) F)) (both (cell_asked s (temp k)) ask) (pair_of source next st) z)
-    (sym (ap (λ xs. run_all s xs st') (append_assoc far.stmts (hold k far.value ∷ []) stmts) ∙ run_append s far.stmts (hold k far.value ∷ stmts) st'))
-    (asked_asked (Gives s (below n) st'.memory (IsValue s ty)) (Gives s (below n) st'.memory (Both (IsValue s ty) F)) (cell_asked s far.value) (both (cell_asked s (temp k)) ask) (source st) (run_all s far.stmts st') (λ v st1. next st1 >>= λ b. gives (v, b)) (run_all s (hold k far.value ∷ stmts))
-    (first st st' a)
-    (λ stop st1' e. stops_at stop st1' (run_all s (hold k far.value ∷ stmts) st1') (ap (λ r. (evaluated (r >>? λ v. Ok (written st1'.memory (Local s.frame.depth k) 0 v)) st1' (λ blocks st2. gives goes_on (with_blocks blocks st2))) >>= after_flow (run_all s stmts)) e))
+-- a cell comes first, and is held
+pub first_held : {A B Y : Type 0} (s : Scene) (n : ℕ) (far : Lowered) (x : Temp) (F : A → core.Cell → Type 0) (G : B → Y → Type 0) (source : State → Outcome A) (next : State → Outcome B) (stmts : List StmtTree) (ask : Blocks → Result Y Stop) →
+    SceneFits s → length s.names.vars ≤ n → slice_get s.core_variables (past n far.temps) ≡ Some x.ty → IsNext s F n source far.stmts (cell_asked s far.value) → IsNext s G (suc (past n far.temps)) next stmts ask →
+    IsNext s (Both F G) n (pair_of source next) ((held n x far).stmts ++ stmts) (both (cell_asked s (held n x far).value) ask)
+first_held {A} {B} {Y} s n far x F G source next stmts ask fits from there one two st st' a =
+    subst (λ z. SameAsked (Kept s (below n) st'.memory) (Gives s (below n) st'.memory (Both F G)) (both (cell_asked s (temp (past n far.temps))) ask) (pair_of source next st) z)
+    (sym (ap (λ xs. run_all s xs st') (append_assoc far.stmts (hold (past n far.temps) far.value ∷ []) stmts) ∙ run_append s far.stmts (hold (past n far.temps) far.value ∷ stmts) st'))
+    (asked_asked (Kept s (below n) st'.memory) (Kept s (below n) st'.memory) (Gives s (below n) st'.memory F) (Gives s (below n) st'.memory (Both F G)) (cell_asked s far.value) (both (cell_asked s (temp (past n far.temps))) ask) (source st) (run_all s far.stmts st') (λ v st1. next st1 >>= λ b. gives (v, b)) (run_all s (hold (past n far.temps) far.value ∷ stmts))
+    (one st st' a)
+    (λ stop st1' p e. hold_then_stops s (past n far.temps) far.value stmts stop st1' e)
     (λ v st1 y st1' q e.
-    subst (λ z. SameAsked (Gives s (below n) st'.memory (Both (IsValue s ty) F)) (both (cell_asked s (temp k)) ask) (next st1 >>= λ b. gives (v, b)) z)
-    (sym (ap (λ r. (evaluated (r >>? λ v. Ok (written st1'.memory (Local s.frame.depth k) 0 v)) st1' (λ blocks st2. gives goes_on (with_blocks blocks st2))) >>= after_flow (run_all s stmts)) e))
-    (behind v st1 y st1' q (temp_given s k y x.ty st1 st1' fits (omega (arith, from)) there q.after.alike))))
+    subst (λ z. SameAsked (Kept s (below n) st'.memory) (Gives s (below n) st'.memory (Both F G)) (both (cell_asked s (temp (past n far.temps))) ask) (next st1 >>= λ b. gives (v, b)) z)
+    (sym (hold_then s (past n far.temps) far.value stmts y st1' e))
+    (behind v st1 y st1' q (temp_given s (past n far.temps) y x.ty st1 st1' fits (omega (arith, from)) there q.after.alike))))
   where
-    behind : (v : Value) (st1 : State) (y : core.Cell) (st1' : c.State) → Gives s (below n) st'.memory (IsValue s ty) v st1 y st1' → Holds s (past n far.temps) y st1'.memory st1 (with_temp s (past n far.temps) y st1') →
-        SameAsked (Gives s (below n) st'.memory (Both (IsValue s ty) F)) (both (cell_asked s (temp (past n far.temps))) ask) (next st1 >>= λ b. gives (v, b)) (run_all s stmts (with_temp s (past n far.temps) y st1'))
+    far_enough : length (s.frames s.frame.depth) ≤ past n far.temps
+    far_enough = let own = own_length s fits in omega (arith, own, from)
+
+    behind : (v : A) (st1 : State) (y : core.Cell) (st1' : c.State) → Gives s (below n) st'.memory F v st1 y st1' → Holds s (past n far.temps) y st1'.memory st1 (with_temp s (past n far.temps) y st1') →
+        SameAsked (Kept s (below n) st'.memory) (Gives s (below n) st'.memory (Both F G)) (both (cell_asked s (temp (past n far.temps))) ask) (next st1 >>= λ b. gives (v, b)) (run_all s stmts (with_temp s (past n far.temps) y st1'))
     behind v st1 y st1' q h =
-        asked_else (Gives s (below (suc (past n far.temps))) (with_temp s (past n far.temps) y st1').memory F) (Gives s (below n) st'.memory (Both (IsValue s ty) F)) ask (both (cell_asked s (temp (past n far.temps))) ask) (next st1) (run_all s stmts (with_temp s (past n far.temps) y st1')) (λ b. gives (v, b))
-        (second st1 (with_temp s (past n far.temps) y st1') h.alike)
-        (λ stop blocks e. ap (λ r. r >>? λ z. Ok (slice_index_or (blocks (Local s.frame.depth (past n far.temps))).cells 0 (Int (pos 0)), z)) e)
+        asked_else (Kept s (below (suc (past n far.temps))) (with_temp s (past n far.temps) y st1').memory) (Kept s (below n) st'.memory) (Gives s (below (suc (past n far.temps))) (with_temp s (past n far.temps) y st1').memory G) (Gives s (below n) st'.memory (Both F G)) ask (both (cell_asked s (temp (past n far.temps))) ask) (next st1) (run_all s stmts (with_temp s (past n far.temps) y st1')) (λ b. gives (v, b))
+        (two st1 (with_temp s (past n far.temps) y st1') h.alike)
+        (λ blocks p. all_kept blocks p)
+        (λ stop blocks p e. ap (λ r. r >>? λ z. Ok (slice_index_or (blocks (Local s.frame.depth (past n far.temps))).cells 0 (Int (pos 0)), z)) e)
         (λ b st2 z st2' w e.
-        subst (λ r. Same (Gives s (below n) st'.memory (Both (IsValue s ty) F)) (gives (v, b) st2) (evaluated r st2' (λ p. gives p)))
-        (sym (both_ok (cell_asked s (temp (past n far.temps))) ask st2'.memory y (temp_read s (past n far.temps) y st2'.memory (ap (λ bl. bl.cells) (w.after.kept s.frame.depth (past n far.temps) (own_far far) (inr (refl, below_next))) ∙ h.cell)) ∙ ap (λ r. r >>? λ z. Ok (y, z)) e))
+        subst (λ r. Same (Gives s (below n) st'.memory (Both F G)) (gives (v, b) st2) (evaluated r st2' (λ p. gives p)))
+        (sym (both_ok (cell_asked s (temp (past n far.temps))) ask st2'.memory y (temp_read s (past n far.temps) y st2'.memory (still st2'.memory w.after.kept)) ∙ ap (λ r. r >>? λ z. Ok (y, z)) e))
         (record {
           after = record {
             alike = w.after.alike;
-            kept = kept_then s (below n) (below n) (below n) st'.memory st1'.memory st2'.memory q.after.kept
-                (kept_then s (below (past n far.temps)) (below (suc (past n far.temps))) (below n) st1'.memory (with_temp s (past n far.temps) y st1').memory st2'.memory h.kept w.after.kept (λ k h. omega (arith, h)) (λ k h. omega (arith, h))) (λ k h. h) (λ k h. h);
+            kept = all_kept st2'.memory w.after.kept;
           };
           facts = (q.facts, w.facts);
         }))
       where
-        below_next : past n far.temps < suc (past n far.temps)
-        below_next = omega arith
+        all_kept : (blocks : Blocks) → Kept s (below (suc (past n far.temps))) (with_temp s (past n far.temps) y st1').memory blocks → Kept s (below n) st'.memory blocks
+        all_kept blocks kept = kept_then s (below n) (below n) (below n) st'.memory st1'.memory blocks q.after.kept
+            (kept_then s (below (past n far.temps)) (below (suc (past n far.temps))) (below n) st1'.memory (with_temp s (past n far.temps) y st1').memory blocks h.kept kept (λ k h. omega (arith, h)) (λ k h. omega (arith, h))) (λ k h. h) (λ k h. h)
 
-        own_far : (far : Lowered) → length (s.frames s.frame.depth) ≤ past n far.temps
-        own_far far = let own = own_length s fits in omega (arith, own, from)
+        still : (blocks : Blocks) → Kept s (below (suc (past n far.temps))) (with_temp s (past n far.temps) y st1').memory blocks → (blocks (Local s.frame.depth (past n far.temps))).cells ≡ y ∷ []
+        still blocks kept = ap (λ (bl : b.Block). bl.cells) (kept s.frame.depth (past n far.temps) far_enough (inr (refl, omega arith))) ∙ h.cell
 
 -- either way
-pub first_then : {B Y : Type 0} (s : Scene) (n : ℕ) (far : Lowered) (b : Bool) (x : Temp) (ty : Option VarTy) (F : B → Y → Type 0) (source : State → Outcome Value) (next : State → Outcome B) (stmts : List StmtTree) (ask : Blocks → Result Y Stop) →
-    SceneFits s → length s.names.vars ≤ n → HasTemps s.core_variables n (held_if b n x far).temps → IsLowered s ty n source far → IsNext s F (past n (held_if b n x far).temps) next stmts ask → (b ≡ false → stmts ≡ []) →
-    IsNext s (Both (IsValue s ty) F) n (pair_of source next) ((held_if b n x far).stmts ++ stmts) (both (cell_asked s (held_if b n x far).value) ask)
-first_then s n far true x ty F source next stmts ask fits from temps first second pure =
-    first_held s n far x ty F source next stmts ask fits from (temp_there s.core_variables n far.temps x [] temps) first
-    (subst (λ m. IsNext s F m next stmts ask) (past_append n far.temps (x ∷ []) ∙ next_number (past n far.temps)) second)
+pub first_then : {A B Y : Type 0} (s : Scene) (n : ℕ) (far : Lowered) (t : Bool) (x : Temp) (F : A → core.Cell → Type 0) (G : B → Y → Type 0) (source : State → Outcome A) (next : State → Outcome B) (stmts : List StmtTree) (ask : Blocks → Result Y Stop) →
+    SceneFits s → length s.names.vars ≤ n → HasTemps s.core_variables n (held_if t n x far).temps → IsNext s F n source far.stmts (cell_asked s far.value) → IsNext s G (past n (held_if t n x far).temps) next stmts ask → (t ≡ false → stmts ≡ []) →
+    IsNext s (Both F G) n (pair_of source next) ((held_if t n x far).stmts ++ stmts) (both (cell_asked s (held_if t n x far).value) ask)
+first_then s n far true x F G source next stmts ask fits from temps one two pure =
+    first_held s n far x F G source next stmts ask fits from (temp_there s.core_variables n far.temps x [] temps) one
+    (subst (λ m. IsNext s G m next stmts ask) (past_append n far.temps (x ∷ []) ∙ next_number (past n far.temps)) two)
   where
     next_number : (m : ℕ) → past m (x ∷ []) ≡ suc m
     next_number m = omega arith
-first_then s n far false x ty F source next stmts ask fits from temps first second pure =
-    subst (λ xs. IsNext s (Both (IsValue s ty) F) n (pair_of source next) (far.stmts ++ xs) (both (cell_asked s far.value) ask)) (sym (pure refl))
-    (subst (λ xs. IsNext s (Both (IsValue s ty) F) n (pair_of source next) xs (both (cell_asked s far.value) ask)) (sym (append_nothing far.stmts))
-    (first_pure s n far ty F (past n far.temps) source next ask (omega arith) first (subst (λ xs. IsNext s F (past n far.temps) next xs ask) (pure refl) second)))
+first_then s n far false x F G source next stmts ask fits from temps one two pure =
+    subst (λ xs. IsNext s (Both F G) n (pair_of source next) (far.stmts ++ xs) (both (cell_asked s far.value) ask)) (sym (pure refl))
+    (subst (λ xs. IsNext s (Both F G) n (pair_of source next) xs (both (cell_asked s far.value) ask)) (sym (append_nothing far.stmts))
+    (first_pure s n (past n far.temps) F G source next far.stmts (cell_asked s far.value) ask (omega arith) one (subst (λ xs. IsNext s G (past n far.temps) next xs ask) (pure refl) two)))
+
+-- what is kept from a later memory on is kept from the first
+pub asked_up : {A X : Type 0} (s : Scene) (n m : ℕ) (x y : Blocks) (F : A → X → Type 0) (ask : Blocks → Result X Stop) (o : Outcome A) (o' : c.Outcome Flow) → n ≤ m → Kept s (below n) x y →
+    SameAsked (Kept s (below m) y) (Gives s (below m) y F) ask o o' → SameAsked (Kept s (below n) x) (Gives s (below n) x F) ask o o'
+asked_up s n m x y F ask o o' le before h =
+    asked_weaken (Kept s (below m) y) (Kept s (below n) x) (Gives s (below m) y F) (Gives s (below n) x F) ask o o' h (λ blocks k. up blocks k)
+    (λ a st z st' q. record { after = record { alike = q.after.alike; kept = up st'.memory q.after.kept }; facts = q.facts })
+  where
+    up : (blocks : Blocks) → Kept s (below m) y blocks → Kept s (below n) x blocks
+    up blocks k = kept_then s (below n) (below m) (below n) x y blocks before k (λ j h. h) (λ j h. omega (arith, le, h))

@@ -183,7 +183,7 @@ kept_temp s blocks t x d k far own = put_apart blocks (Local s.frame.depth t) (L
 
 -- ---- room
 
-room_object : (s : Scene) (blocks : Blocks) (o : Block) (x : b.Block) (ty : VarTy) → length (s.frames s.frame.depth) ≡ length s.names.vars → type_in (world_of s) o ≡ Some ty → HasRoom s blocks → HasRoom s (bs.put blocks (name_of o) x)
+pub room_object : (s : Scene) (blocks : Blocks) (o : Block) (x : b.Block) (ty : VarTy) → length (s.frames s.frame.depth) ≡ length s.names.vars → type_in (world_of s) o ≡ Some ty → HasRoom s blocks → HasRoom s (bs.put blocks (name_of o) x)
 room_object s blocks o x ty own live room k far near =
     let h = room k far near in
     (h.0, ap (λ (z : b.Block). z.cells) (put_apart blocks (name_of o) (Local s.frame.depth k) x (no_temp s o s.frame.depth k ty (omega (arith, own, far)) live)) ∙ h.1)
@@ -223,7 +223,7 @@ alike_written s st st' o at x ty own a live fits sized =
     alike_object s st st' o (write st.memory o at x) (written st'.memory (name_of o) at (core_cell x)) ty own a live (objects_written (world_of s) st.memory st'.memory o at x ty a.objects live)
     (room_object s st'.memory o (with_cell (st'.memory (name_of o)) at (core_cell x)) ty own live a.room) fits sized
 
-room_all : (s : Scene) (xs : List core.Cell) (blocks : Blocks) (o : Block) (at : ℕ) (ty : VarTy) → length (s.frames s.frame.depth) ≡ length s.names.vars → type_in (world_of s) o ≡ Some ty → HasRoom s blocks → HasRoom s (all_written blocks (name_of o) at xs)
+pub room_all : (s : Scene) (xs : List core.Cell) (blocks : Blocks) (o : Block) (at : ℕ) (ty : VarTy) → length (s.frames s.frame.depth) ≡ length s.names.vars → type_in (world_of s) o ≡ Some ty → HasRoom s blocks → HasRoom s (all_written blocks (name_of o) at xs)
 room_all s [] blocks o at ty own live room = room
 room_all s (x ∷ xs) blocks o at ty own live room = room_all s xs (written blocks (name_of o) at x) o (at + 1) ty own live (room_object s blocks o (with_cell (blocks (name_of o)) at x) ty own live room)
 

@@ -30,7 +30,7 @@ use Rattle.pt_core.specs.Statements as c
 use Rattle.pt_core.specs.Statements.{Flow, goes_on, evaluated, do_all}
 use Rattle.c_lower.specs.Lowered.{Temp, Effects, Lowered, LoweredPlace, Arguments}
 use Rattle.c_lower.specs.Expressions.{value_in, effects_in, place_in, object_in, arguments_in}
-use Rattle.c_lower_law.specs.Relations.{core_cell, name_of, Scene, variable_types, global_types, world_of, context_of, frame_of, scope_of, sizes_in, HasTemps, Alike, Same, After, below, all}
+use Rattle.c_lower_law.specs.Relations.{core_cell, name_of, Scene, variable_types, global_types, world_of, context_of, frame_of, scope_of, sizes_in, HasTemps, Kept, Alike, Same, After, below, all}
 
 -- ---- the normal form's side
 
@@ -48,15 +48,19 @@ cell_asked s e blocks = v.value_of (frame_of s).context s.frame.depth e blocks
 abbrev pub place_asked : Scene → t.PlaceTree → Blocks → Result v.Location Stop
 place_asked s p blocks = v.location_of (frame_of s).context s.frame.depth p blocks
 
+-- the cells of an object of this struct
+abbrev pub object_asked : Scene → t.PlaceTree → ℕ → Blocks → Result (List core.Cell) Stop
+object_asked s p n blocks = place_asked s p blocks >>? λ at. Ok (cells_at blocks at (cells_by (sizes_in s) (Struct n)))
+
 abbrev pub cells_asked : Scene → List t.ExprTree → Blocks → Result (List core.Cell) Stop
 cells_asked s es blocks = v.values_of (frame_of s).context s.frame.depth (expr_trees es) blocks
 
--- Statements go on, and behind them something is evaluated: both come to something of which this holds, or
--- both end alike, in the statements or where it is evaluated.
-abbrev pub SameAsked : {A B : Type 0} → (A → State → B → c.State → Type 0) → (Blocks → Result B Stop) → Outcome A → c.Outcome Flow → Type 0
-SameAsked Q ask o (gives flow st') = (flow ≡ goes_on) × Same Q o (asked ask st')
-SameAsked Q ask o (trapped trap span st') = Same Q o (trapped trap span st')
-SameAsked Q ask o (spent st') = Same Q o (spent st')
+-- Statements go on, and behind them something is evaluated: both come to something of which Q holds, or
+-- both end alike, in the statements or where it is evaluated. The statements leave a memory of which P holds.
+abbrev pub SameAsked : {A B : Type 0} → (Blocks → Type 0) → (A → State → B → c.State → Type 0) → (Blocks → Result B Stop) → Outcome A → c.Outcome Flow → Type 0
+SameAsked P Q ask o (gives flow st') = (flow ≡ goes_on) × P st'.memory × Same Q o (asked ask st')
+SameAsked P Q ask o (trapped trap span st') = Same Q o (trapped trap span st')
+SameAsked P Q ask o (spent st') = Same Q o (spent st')
 
 -- ---- what holds after a part of a run
 
@@ -88,15 +92,13 @@ pub record IsPlace (s : Scene) (ty : VarTy) (at : Location) (at' : v.Location) :
   pub cell : at'.cell ≡ at.cell
   pub ty : at'.ty ≡ ty
 
--- a place of a struct's type whose cells are those of the value
-pub record GivesObject (s : Scene) (Keeps : ℕ → Type 0) (before : Blocks) (n : ℕ) (v : Value) (st : State) (at' : v.Location) (st' : c.State) : Type 0 where
-  pub after : After s Keeps before st st'
+-- the value of a struct, and the cells of its object
+pub record IsObject (s : Scene) (n : ℕ) (v : Value) (xs : List core.Cell) : Type 0 where
   pub fits : ValueFits (world_of s) (Some (Struct n)) v
   pub sized : ValueSized (world_of s) (sizes_in s) (Some (Struct n)) v
-  pub ty : at'.ty ≡ Struct n
   pub cells : List Cell
   pub is : v ≡ whole cells
-  pub same : cells_at st'.memory at' (cells_by (sizes_in s) (Struct n)) ≡ map core_cell cells
+  pub same : xs ≡ map core_cell cells
 
 -- the cells of arguments
 abbrev pub SameCells : List Value → List core.Cell → Type 0
@@ -137,7 +139,7 @@ pub record SceneFits (s : Scene) : Type 0 where
 abbrev pub ValuesAgree : Type 0
 ValuesAgree = (s : Scene) (e : ExprTree) (n : ℕ) (st : State) (st' : c.State) → SceneFits s → IsTrue (is_typed s.names e) → is_struct (ty_of e) ≡ false →
     length s.names.vars ≤ n → HasTemps s.core_variables n (value_in (scope_of s) e n).temps → Alike s st st' →
-    (let l = value_in (scope_of s) e n in SameAsked (Gives s (below n) st'.memory (IsValue s (ty_of e))) (cell_asked s l.value) (value_of e (context_of s) st) (run_all s l.stmts st'))
+    (let l = value_in (scope_of s) e n in SameAsked (Kept s (below n) st'.memory) (Gives s (below n) st'.memory (IsValue s (ty_of e))) (cell_asked s l.value) (value_of e (context_of s) st) (run_all s l.stmts st'))
 
 -- an expression whose value is dropped
 abbrev pub EffectsAgree : Type 0
@@ -149,14 +151,14 @@ EffectsAgree = (s : Scene) (e : ExprTree) (n : ℕ) (st : State) (st' : c.State)
 abbrev pub ObjectsAgree : Type 0
 ObjectsAgree = (s : Scene) (e : ExprTree) (n k : ℕ) (st : State) (st' : c.State) → SceneFits s → IsTrue (is_typed s.names e) → ty_of e ≡ Some (Struct k) →
     length s.names.vars ≤ n → HasTemps s.core_variables n (object_in (scope_of s) e n).temps → Alike s st st' →
-    (let p = object_in (scope_of s) e n in SameAsked (GivesObject s (below n) st'.memory k) (place_asked s p.place) (value_of e (context_of s) st) (run_all s p.stmts st'))
+    (let p = object_in (scope_of s) e n in SameAsked (Kept s (below n) st'.memory) (Gives s (below n) st'.memory (IsObject s k)) (object_asked s p.place k) (value_of e (context_of s) st) (run_all s p.stmts st'))
 
 abbrev pub PlacesAgree : Type 0
 PlacesAgree = (s : Scene) (p : PlaceTree) (n : ℕ) (ty : VarTy) (st : State) (st' : c.State) → SceneFits s → IsTrue (place_fits s.names p) → place_type s.names p ≡ Some ty →
     length s.names.vars ≤ n → HasTemps s.core_variables n (place_in (scope_of s) p n).temps → Alike s st st' →
-    (let l = place_in (scope_of s) p n in SameAsked (Gives s (below n) st'.memory (IsPlace s ty)) (place_asked s l.place) (location_of p (context_of s) st) (run_all s l.stmts st'))
+    (let l = place_in (scope_of s) p n in SameAsked (Kept s (below n) st'.memory) (Gives s (below n) st'.memory (IsPlace s ty)) (place_asked s l.place) (location_of p (context_of s) st) (run_all s l.stmts st'))
 
 abbrev pub ArgumentsAgree : Type 0
 ArgumentsAgree = (s : Scene) (es : ExprTrees) (n : ℕ) (params : List Param) (st : State) (st' : c.State) → SceneFits s → IsTrue (all_typed s.names es) → IsTrue (arguments_fit params es) →
     length s.names.vars ≤ n → HasTemps s.core_variables n (arguments_in (scope_of s) es n).temps → Alike s st st' →
-    (let a = arguments_in (scope_of s) es n in SameAsked (Gives s (below n) st'.memory (AreArguments s params)) (cells_asked s a.values) (values_of es (context_of s) st) (run_all s a.stmts st'))
+    (let a = arguments_in (scope_of s) es n in SameAsked (Kept s (below n) st'.memory) (Gives s (below n) st'.memory (AreArguments s params)) (cells_asked s a.values) (values_of es (context_of s) st) (run_all s a.stmts st'))
