@@ -1,6 +1,6 @@
 -- What is held behind statements, and choices between statements: `&&`, `||` and `?:`.
 use Rattle.std.proofs.Common.{◌≡◌, ◌∙◌, ◌≤◌, ◌<◌, ℕ, zero, suc, ◌+◌, pos, refl, ap, sym, subst, arith, Bool, true, false, not, Option, Some, None, List, [], ◌∷◌, ◌++◌, length, Result, Ok, Err, if◌then◌else◌}
-use Rattle.std.specs.Prelude.{slice_get}
+use Rattle.std.specs.Prelude.{slice_get, slice_index_or}
 use Rattle.std.specs.Ordering.{int_eq}
 use Rattle.pt_base.specs.declared.int_type.IntType.TheVariants as i
 use Rattle.pt_base.specs.declared.span.Span.{Span}
@@ -33,7 +33,7 @@ use Rattle.c_lower_law.specs.Relations.{core_cell, Scene, world_of, context_of, 
 use Rattle.c_lower_law.specs.Expressions.{run_all, cell_asked, SameAsked, SameCell, Gives, IsValue, SceneFits}
 use Rattle.c_lower_law.proofs.Runs.{bind_bind, run_append, Stops, stops_at, asked_run, asked_asked}
 use Rattle.c_lower_law.proofs.Memories.{kept_then}
-use Rattle.c_lower_law.proofs.Held.{Holds, with_temp, temp_given, temp_read, hold_then, hold_then_stops, asked_kept, asked_up, IsNext}
+use Rattle.c_lower_law.proofs.Held.{Holds, with_temp, temp_given, temp_read, hold_then, hold_then_stops, asked_kept, asked_up, not_both, IsNext}
 use Rattle.c_lower_law.proofs.Operators.{holds_same, truth_same, truth_stops}
 use Rattle.c_lower_law.proofs.Values.{IsNear, GivesNear, Scalar, scalar_cell}
 
@@ -144,11 +144,8 @@ pub operand_near : (s : Scene) (n k : ℕ) (op : LogicalOp) (source next : State
 operand_near s n k op source next stmts inner le h h1 st st' al =
     subst (λ z. SameAsked (Kept s (below n) st'.memory) (Gives s (below n) st'.memory IsTruth) (cell_asked s (temp k)) (source st >>= next_truth op next) z) (sym (run_append s stmts (where_open op k inner ∷ []) st'))
     (asked_asked (Kept s (below n) st'.memory) (Kept s (below n) st'.memory) (Gives s (below n) st'.memory IsTruth) (Gives s (below n) st'.memory IsTruth) (cell_asked s (temp k)) (cell_asked s (temp k)) (source st) (run_all s stmts st') (next_truth op next) (run_all s (where_open op k inner ∷ []))
-    (h st st' al) (λ stop st1' p no. absurd (never_stops no)) (λ z st1 x st1' q is. step op z st1 x st1' q is))
+    (h st st' al) (λ stop st1' p no. not_both (cell_asked s (temp k) st1'.memory) (slice_index_or (st1'.memory (Local s.frame.depth k)).cells 0 (cell.Int (pos 0))) stop refl no) (λ z st1 x st1' q is. step op z st1 x st1' q is))
   where
-    never_stops : {x : core.Cell} {stop : Stop} → Ok x ≡ Err stop → ⊥
-    never_stops e = cc
-
     stays : (z : Bool) (st1 : State) (x : core.Cell) (st1' : c.State) → Gives s (below n) st'.memory IsTruth z st1 x st1' → cell_asked s (temp k) st1'.memory ≡ Ok x →
         SameAsked (Kept s (below n) st'.memory) (Gives s (below n) st'.memory IsTruth) (cell_asked s (temp k)) (gives z st1) (gives goes_on st1')
     stays z st1 x st1' q is = (refl, q.after.kept, subst (λ r. Same (Gives s (below n) st'.memory IsTruth) (gives z st1) (evaluated r st1' (λ y. gives y))) (sym is) q)

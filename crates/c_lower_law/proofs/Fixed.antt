@@ -19,7 +19,7 @@ use Rattle.source_meaning.specs.Expressions.{or_trap, dereferenced}
 use Rattle.source_soundness.proofs.Tests.{got_or}
 use Rattle.pt_core.specs.CodeTree as t
 use Rattle.pt_core.specs.CodeTree.{StmtTree, PlaceTree, place, deref, check}
-use Rattle.pt_core.specs.Types.{type_of, type_at, global_type}
+use Rattle.pt_core.specs.Types.{type_of, type_at, global_type, place_type, path_type, pointee_type}
 use Rattle.pt_core.specs.Values as v
 use Rattle.pt_core.specs.Values.{Stop, ◌>>?◌, along, pointee}
 use Rattle.pt_core.specs.Statements as c
@@ -29,8 +29,8 @@ use Rattle.c_lower.specs.Expressions.{fixed_root, fixed_through, fixed_if}
 use Rattle.c_lower_law.specs.Relations.{Scene, context_of, frame_of, HasTemps, Kept, Alike, Same, After, below}
 use Rattle.c_lower_law.specs.Expressions.{run_all, cell_asked, place_asked, SameAsked, Gives, IsPlace, SceneFits}
 use Rattle.c_lower_law.proofs.Runs.{bind_bind, run_append, append_nothing, ok_then, err_as, asked_asked, asked_else}
-use Rattle.c_lower_law.proofs.Memories.{kept_then}
-use Rattle.c_lower_law.proofs.Held.{own_length, past_append, temp_there, Holds, with_temp, temp_given, temp_read, hold_then, hold_then_stops, both, both_err, both_ok, IsNext, Both, pair_of, first_pure}
+use Rattle.c_lower_law.proofs.Memories.{kept_then, kept_same}
+use Rattle.c_lower_law.proofs.Held.{own_length, past_append, temp_there, Holds, with_temp, temp_given, temp_read, hold_then, hold_then_stops, same_ok, same_err, not_both, joined, both, both_err, both_ok, IsNext, Both, pair_of, first_pure}
 use Rattle.c_lower_law.proofs.Places.{led, IsPointer, Stage, StageOf, PlaceLowered, pointee_asked, stage_same}
 
 -- ---- a place that memory doesn't move
@@ -41,15 +41,9 @@ steady_then : {B Y : Type 0} (s : Scene) (n m : ℕ) (ty : VarTy) (G : B → Y �
 steady_then {B} {Y} s n m ty G source next first stmts p at ask le steady one two st st' a =
     subst (λ z. SameAsked (Kept s (below n) st'.memory) (Gives s (below n) st'.memory (Both (IsPlace s ty) G)) (both (place_asked s p) ask) (pair_of source next st) z) (sym (run_append s first stmts st'))
     (asked_asked (Kept s (below n) st'.memory) (Kept s (below n) st'.memory) (Gives s (below n) st'.memory (IsPlace s ty)) (Gives s (below n) st'.memory (Both (IsPlace s ty) G)) (place_asked s p) (both (place_asked s p) ask) (source st) (run_all s first st') (λ l st1. next st1 >>= λ z. gives (l, z)) (run_all s stmts)
-    (one st st' a) (λ stop st1' q e. absurd (no_stop (sym (steady st1'.memory) ∙ e)))
-    (λ l st1 l' st1' q e. behind l st1 l' st1' q (same_ok (sym (steady st1'.memory) ∙ e))))
+    (one st st' a) (λ stop st1' q e. not_both (place_asked s p st1'.memory) at stop (steady st1'.memory) e)
+    (λ l st1 l' st1' q e. behind l st1 l' st1' q (same_ok (place_asked s p st1'.memory) at l' (steady st1'.memory) e)))
   where
-    no_stop : {stop : Stop} → Ok at ≡ Err stop → ⊥
-    no_stop e = cc
-
-    same_ok : {l' : v.Location} → Ok at ≡ Ok l' → at ≡ l'
-    same_ok e = cc
-
     behind : (l : Location) (st1 : State) (l' : v.Location) (st1' : c.State) → Gives s (below n) st'.memory (IsPlace s ty) l st1 l' st1' → at ≡ l' →
         SameAsked (Kept s (below n) st'.memory) (Gives s (below n) st'.memory (Both (IsPlace s ty) G)) (both (place_asked s p) ask) (next st1 >>= λ z. gives (l, z)) (run_all s stmts st1')
     behind l st1 l' st1' q same =
@@ -71,7 +65,7 @@ deref_then : {B Y : Type 0} (s : Scene) (n k : ℕ) (ty : VarTy) (G : B → Y �
     IsNext s (Both (IsPlace s ty) G) n (pair_of source next) ((first ++ (hold k p ∷ check (place (deref (temp k) at) path) ∷ [])) ++ stmts) (both (place_asked s (place (deref (temp k) at) path)) ask)
 deref_then {B} {Y} s n k ty G source keeps first p at path next stmts ask fits far le there g two st st' a =
     subst (λ o. SameAsked (Kept s (below n) st'.memory) (Gives s (below n) st'.memory (Both (IsPlace s ty) G)) (both (place_asked s (place (deref (temp k) at) path)) ask) o (run_all s ((first ++ (hold k p ∷ check (place (deref (temp k) at) path) ∷ [])) ++ stmts) st'))
-    (sym (ap (λ o. o >>= λ l st1. next st1 >>= λ z. gives (l, z)) (g.is st) ∙ bind_bind (g.from st) (λ y st1. or_trap at (dereferenced (context_of s) (Pointer g.elem g.fixed) y) st1 >>= λ l. gives (led (context_of s) path l)) (λ l st1. next st1 >>= λ z. gives (l, z))))
+    (sym (ap (λ o. o >>= λ l st1. next st1 >>= λ z. gives (l, z)) (g.is st a.fits) ∙ bind_bind (g.from st) (λ y st1. or_trap at (dereferenced (context_of s) (Pointer g.elem g.fixed) y) st1 >>= λ l. gives (led (context_of s) path l)) (λ l st1. next st1 >>= λ z. gives (l, z))))
     (subst (λ z. SameAsked (Kept s (below n) st'.memory) (Gives s (below n) st'.memory (Both (IsPlace s ty) G)) (both (place_asked s (place (deref (temp k) at) path)) ask) (g.from st >>= λ y st1. (or_trap at (dereferenced (context_of s) (Pointer g.elem g.fixed) y) st1 >>= λ l. gives (led (context_of s) path l)) >>= λ l st2. next st2 >>= λ z. gives (l, z)) z)
     (sym (ap (λ xs. run_all s xs st') (append_assoc first (hold k p ∷ check (place (deref (temp k) at) path) ∷ []) stmts) ∙ run_append s first (hold k p ∷ check (place (deref (temp k) at) path) ∷ stmts) st'))
     (asked_asked (Kept s (below n) st'.memory) (Kept s (below n) st'.memory) (Gives s (below n) st'.memory (IsPointer s g.elem)) (Gives s (below n) st'.memory (Both (IsPlace s ty) G)) (cell_asked s p) (both (place_asked s (place (deref (temp k) at) path)) ask) (g.from st) (run_all s first st')
@@ -166,3 +160,43 @@ place_then s n ty can false p G source next stmts ask fits from temps ok h two p
     subst (λ xs. IsNext s (Both (IsPlace s ty) G) n (pair_of source next) (p.stmts ++ xs) (both (place_asked s p.place) ask)) (sym (pure refl))
     (subst (λ xs. IsNext s (Both (IsPlace s ty) G) n (pair_of source next) xs (both (place_asked s p.place) ask)) (sym (append_nothing p.stmts))
     (first_pure s n (past n p.temps) (IsPlace s ty) G source next p.stmts (place_asked s p.place) ask (omega arith) h.runs (subst (λ xs. IsNext s G (past n p.temps) next xs ask) (pure refl) two)))
+
+-- ---- the type of a place that is fixed
+
+fixed_types : (s : Scene) (n : ℕ) (u ty : VarTy) (source : State → Outcome Location) (p : LoweredPlace) (o : Option Temp) (q : PlaceTree) → p.place ≡ q → StageOf s ty n source o p.stmts q → HasTemps s.core_variables n (fixed_through n o p).temps → place_type (frame_of s).context p.place ≡ u →
+    place_type (frame_of s).context (fixed_through n o p).place ≡ u
+fixed_types s n u ty source p None q is g temps h = h
+fixed_types s n u ty source p (Some keeps) (place (t.local k) path) is g temps h = subst (λ z. place_type (frame_of s).context (fixed_root n keeps p z).place ≡ u) (sym is) h
+fixed_types s n u ty source p (Some keeps) (place (t.global k) path) is g temps h = subst (λ z. place_type (frame_of s).context (fixed_root n keeps p z).place ≡ u) (sym is) h
+fixed_types s n u ty source p (Some keeps) (place (deref e1 at) path) is g temps h =
+    subst (λ z. HasTemps s.core_variables n (fixed_root n keeps p z).temps → place_type (frame_of s).context (fixed_root n keeps p z).place ≡ u) (sym is)
+    (λ temps1. ap (λ w. path_type s.names.structs (pointee_type w) path) (got_or s.core_variables (past n p.temps) keeps.ty (Int i.Int) (temp_there s.core_variables n p.temps keeps [] temps1) ∙ g.keeps_type)
+    ∙ sym (ap (λ w. path_type s.names.structs (pointee_type w) path) g.type) ∙ sym (ap (λ z. place_type (frame_of s).context z) is) ∙ h) temps
+
+pub fixed_place_type : (s : Scene) (n : ℕ) (u ty : VarTy) (p : LoweredPlace) (source : State → Outcome Location) → HasTemps s.core_variables n (fixed_if true n p).temps → place_type (frame_of s).context p.place ≡ u → StageOf s ty n source p.through p.stmts p.place →
+    place_type (frame_of s).context (fixed_if true n p).place ≡ u
+fixed_place_type s n u ty p source temps h g = fixed_types s n u ty source p p.through p.place refl g temps h
+
+-- a place that is fixed, with nothing behind it
+pub fixed_runs : (s : Scene) (n : ℕ) (u : VarTy) (can fix : Bool) (p : LoweredPlace) (source : State → Outcome Location) → SceneFits s → length s.names.vars ≤ n → HasTemps s.core_variables n (fixed_if fix n p).temps → IsTrue can → PlaceLowered s u n can source p →
+    IsNext s (IsPlace s u) n source (fixed_if fix n p).stmts (place_asked s (fixed_if fix n p).place)
+fixed_runs s n u can fix p source fits from temps ok h st st' al =
+    subst (λ o. SameAsked (Kept s (below n) st'.memory) (Gives s (below n) st'.memory (IsPlace s u)) (place_asked s (fixed_if fix n p).place) o (run_all s (fixed_if fix n p).stmts st')) (first_only (source st))
+    (asked_else (Kept s (below n) st'.memory) (Kept s (below n) st'.memory) (Gives s (below n) st'.memory (Both (IsPlace s u) (λ (a : ℕ) (z : ℕ). Unit {0}))) (Gives s (below n) st'.memory (IsPlace s u)) (both (place_asked s (fixed_if fix n p).place) (λ blocks. Ok 0)) (place_asked s (fixed_if fix n p).place) (pair_of source (λ st1. gives 0 st1) st) (run_all s (fixed_if fix n p).stmts st') (λ q. gives q.0)
+    (subst (λ xs. SameAsked (Kept s (below n) st'.memory) (Gives s (below n) st'.memory (Both (IsPlace s u) (λ (a : ℕ) (z : ℕ). Unit {0}))) (both (place_asked s (fixed_if fix n p).place) (λ blocks. Ok 0)) (pair_of source (λ st1. gives 0 st1) st) (run_all s xs st')) (append_nothing (fixed_if fix n p).stmts)
+    (place_then s n u can fix p (λ (a : ℕ) (z : ℕ). Unit {0}) source (λ st1. gives 0 st1) [] (λ blocks. Ok 0) fits from temps ok h (λ st1 st1' a1. (refl, kept_same s (below (past n (fixed_if fix n p).temps)) st1'.memory, record { after = record { alike = a1; kept = kept_same s (below (past n (fixed_if fix n p).temps)) st1'.memory }; facts = tt })) (λ e1. refl) st st' al))
+    (λ blocks k. k) (λ stop blocks k no. first_no (place_asked s (fixed_if fix n p).place blocks) stop no)
+    (λ q st1 z st1' g is. subst (λ r. Same (Gives s (below n) st'.memory (IsPlace s u)) (gives q.0 st1) (evaluated r st1' (λ l. gives l))) (sym (first_yes (place_asked s (fixed_if fix n p).place st1'.memory) z is)) (record { after = g.after; facts = g.facts.0 })))
+  where
+    first_only : (o : Outcome Location) → ((o >>= λ l st1. gives 0 st1 >>= λ z. gives (l, z)) >>= λ q. gives q.0) ≡ o
+    first_only (gives l st1) = refl
+    first_only (trapped trap span st1) = refl
+    first_only (spent st1) = refl
+
+    first_no : (r : Result v.Location Stop) (stop : Stop) → joined r (Ok 0) ≡ Err stop → r ≡ Err stop
+    first_no (Ok l) stop e1 = not_both (joined (Ok l) (Ok 0)) (l, 0) stop refl e1
+    first_no (Err stop1) stop e1 = ap (λ z. Err z) (same_err (joined (Err stop1) (Ok 0)) stop1 stop refl e1)
+
+    first_yes : (r : Result v.Location Stop) (z : v.Location × ℕ) → joined r (Ok 0) ≡ Ok z → r ≡ Ok z.0
+    first_yes (Ok l) z e1 = ap (λ q. Ok q) (ap (λ (w : v.Location × ℕ). w.0) (same_ok (joined (Ok l) (Ok 0)) (l, 0) z refl e1))
+    first_yes (Err stop1) z e1 = not_both (joined (Err stop1) (Ok 0)) z stop1 e1 refl

@@ -89,17 +89,34 @@ hold_then s k e stmts x st is = ap (holding_then s k stmts st) is
 pub hold_then_stops : (s : Scene) (k : ℕ) (e : t.ExprTree) (stmts : List StmtTree) (stop : Stop) (st : c.State) → cell_asked s e st.memory ≡ Err stop → Stops stop st (run_all s (hold k e ∷ stmts) st)
 hold_then_stops s k e stmts stop st is = stops_at stop st (run_all s (hold k e ∷ stmts) st) (ap (holding_then s k stmts st) is)
 
+-- ---- results
+
+pub same_ok : {X : Type 0} (r : Result X Stop) (x y : X) → r ≡ Ok x → r ≡ Ok y → x ≡ y
+same_ok r x y p q = cc
+
+pub same_err : {X : Type 0} (r : Result X Stop) (a z : Stop) → r ≡ Err a → r ≡ Err z → a ≡ z
+same_err r a z p q = cc
+
+pub not_both : {X A : Type 0} (r : Result X Stop) (x : X) (stop : Stop) → r ≡ Ok x → r ≡ Err stop → A
+not_both r x stop p q = absurd (clash (sym p ∙ q))
+  where
+    clash : Ok x ≡ Err stop → ⊥
+    clash h = cc
+
 -- ---- a value of the source, lowered
 
 -- what is asked first, and then what is asked next
+abbrev pub joined : {X Y : Type 0} → Result X Stop → Result Y Stop → Result (X × Y) Stop
+joined r1 r2 = r1 >>? λ x. r2 >>? λ y. Ok (x, y)
+
 abbrev pub both : {X Y : Type 0} → (Blocks → Result X Stop) → (Blocks → Result Y Stop) → Blocks → Result (X × Y) Stop
-both first second blocks = first blocks >>? λ x. second blocks >>? λ y. Ok (x, y)
+both first second blocks = joined (first blocks) (second blocks)
 
 pub both_err : {X Y : Type 0} (first : Blocks → Result X Stop) (second : Blocks → Result Y Stop) (blocks : Blocks) (stop : Stop) → first blocks ≡ Err stop → both first second blocks ≡ Err stop
-both_err first second blocks stop e = ap (λ r. r >>? λ x. second blocks >>? λ y. Ok (x, y)) e
+both_err first second blocks stop e = ap (λ r. joined r (second blocks)) e
 
 pub both_ok : {X Y : Type 0} (first : Blocks → Result X Stop) (second : Blocks → Result Y Stop) (blocks : Blocks) (x : X) → first blocks ≡ Ok x → both first second blocks ≡ (second blocks >>? λ y. Ok (x, y))
-both_ok first second blocks x e = ap (λ r. r >>? λ x. second blocks >>? λ y. Ok (x, y)) e
+both_ok first second blocks x e = ap (λ r. joined r (second blocks)) e
 
 -- an evaluation behind which something is made of what it gives
 pub same_made : {A B X Y : Type 0} (Q : A → State → X → c.State → Type 0) (R : B → State → Y → c.State → Type 0) (o : Outcome A) (f : A → B) (g : X → Y) (r : Result X Stop) (st' : c.State) →

@@ -42,7 +42,7 @@ use Rattle.c_lower.specs.Operators as l
 use Rattle.c_lower.specs.Operators.{as_int, prefixed, truth_of, stepped, stored}
 use Rattle.c_lower_law.specs.Relations.{name_of, core_cell, Scene, frame_of}
 use Rattle.c_lower_law.specs.Expressions.{cell_asked}
-use Rattle.c_lower_law.proofs.Held.{both}
+use Rattle.c_lower_law.proofs.Held.{joined, both}
 
 -- ---- cells
 
@@ -165,12 +165,12 @@ converted_same same to (pointer b base count index) h = absurd h
 abbrev pub PointerType : Scene → Option VarTy → t.ExprTree → Type 0
 PointerType s ty e = (elem : Elem) (fixed : Bool) → ty ≡ Some (Pointer elem fixed) → (g : Bool) × (type_of (frame_of s).context e ≡ Pointer elem g)
 
-pair_step : {X Y Z : Type 0} (r1 : Result X Stop) (r2 : Result Y Stop) (f : X → Y → Result Z Stop) → (r1 >>? λ x. r2 >>? λ y. f x y) ≡ ((r1 >>? λ x. r2 >>? λ y. Ok (x, y)) >>? λ q. f q.0 q.1)
+pair_step : {X Y Z : Type 0} (r1 : Result X Stop) (r2 : Result Y Stop) (f : X → Y → Result Z Stop) → (r1 >>? λ x. r2 >>? λ y. f x y) ≡ (joined r1 r2 >>? λ q. f q.0 q.1)
 pair_step (Ok x) (Ok y) f = refl
 pair_step (Ok x) (Err stop) f = refl
 pair_step (Err stop) r2 f = refl
 
-pair_made : {X W Y Z : Type 0} (r1 : Result X Stop) (r2 : Result Y Stop) (g : X → W) (f : W → Y → Result Z Stop) → ((r1 >>? λ x. Ok (g x)) >>? λ w. r2 >>? λ y. f w y) ≡ ((r1 >>? λ x. r2 >>? λ y. Ok (x, y)) >>? λ q. f (g q.0) q.1)
+pair_made : {X W Y Z : Type 0} (r1 : Result X Stop) (r2 : Result Y Stop) (g : X → W) (f : W → Y → Result Z Stop) → ((r1 >>? λ x. Ok (g x)) >>? λ w. r2 >>? λ y. f w y) ≡ (joined r1 r2 >>? λ q. f (g q.0) q.1)
 pair_made (Ok x) (Ok y) g f = refl
 pair_made (Ok x) (Err stop) g f = refl
 pair_made (Err stop) r2 g f = refl
@@ -306,10 +306,10 @@ pub step_stops : (s : Scene) (u : VarTy) (step : LinkStep) (a e : t.ExprTree) (a
 step_stops s u step a e at blocks stop first is = step_made s u step a e at blocks first ∙ ap (λ r. r >>? λ q. made s u step a at q.0 q.1) is
 
 -- a pointer that is added to an integer is evaluated first
-moved_by : (r1 r2 : Result core.Cell Stop) (x : core.Cell) (f : core.Cell → core.Cell → Result core.Cell Stop) → r1 ≡ Ok x → (r2 >>? λ y. r1 >>? λ z. f z y) ≡ ((r1 >>? λ z. r2 >>? λ y. Ok (z, y)) >>? λ q. f q.0 q.1)
-moved_by r1 r2 x f e = subst (λ r. (r2 >>? λ y. r >>? λ z. f z y) ≡ ((r >>? λ z. r2 >>? λ y. Ok (z, y)) >>? λ q. f q.0 q.1)) (sym e) (go r2)
+moved_by : (r1 r2 : Result core.Cell Stop) (x : core.Cell) (f : core.Cell → core.Cell → Result core.Cell Stop) → r1 ≡ Ok x → (r2 >>? λ y. r1 >>? λ z. f z y) ≡ (joined r1 r2 >>? λ q. f q.0 q.1)
+moved_by r1 r2 x f e = subst (λ r. (r2 >>? λ y. r >>? λ z. f z y) ≡ (joined r r2 >>? λ q. f q.0 q.1)) (sym e) (go r2)
   where
-    go : (r : Result core.Cell Stop) → (r >>? λ y. f x y) ≡ ((r >>? λ y. Ok (x, y)) >>? λ q. f q.0 q.1)
+    go : (r : Result core.Cell Stop) → (r >>? λ y. f x y) ≡ (joined (Ok x) r >>? λ q. f q.0 q.1)
     go (Ok y) = refl
     go (Err stop) = refl
 
@@ -466,10 +466,10 @@ Computes u step = ⊥
 in_range_number : (from to : IntType) (same : Bool) (at : Span) (r : Result ℤ Trap) → IfOk r (InRange from) → (same_int from to ≡ true → from ≡ to) →
     (told_as at (if_ok r number) >>? λ y. Ok (as_cell (Int from) to same y)) ≡ told_as at (if_ok (if_ok r number) (m.converted_cell (Int to)))
 in_range_number from to same at (Err trap) range equal = refl
-in_range_number from to same at (Ok n) range equal = go (same_int from to) refl
+in_range_number from to same at (Ok n) range equal = ap (λ z. Ok z) (go (same_int from to) refl)
   where
-    go : (b : Bool) → same_int from to ≡ b → Ok (if b then cell.Int n else cell.Int (conv to n)) ≡ Ok (cell.Int (conv to n))
-    go true e = ap (λ z. Ok (cell.Int z)) (sym (ap (λ z. conv z n) (sym (equal e)) ∙ conv-same from n range))
+    go : (b : Bool) → same_int from to ≡ b → (if b then cell.Int n else cell.Int (conv to n)) ≡ cell.Int (conv to n)
+    go true e = ap (λ z. cell.Int z) (sym (ap (λ z. conv z n) (sym (equal e)) ∙ conv-same from n range))
     go false e = refl
 
 shift_type : (back : Bool) (to : IntType) → binary_type (shift_of back) to ≡ to

@@ -31,8 +31,9 @@ use Rattle.source_meaning.specs.Values as m
 use Rattle.source_meaning.specs.Values.{Value, holds, cell_of, number_of, moved_cell, Location}
 use Rattle.source_meaning.specs.Expressions as e
 use Rattle.source_meaning.specs.Expressions.{sizes, or_trap, field_at, dereferenced, object_at, indexed}
-use Rattle.source_soundness.specs.Worlds.{World, is_pointer, IsScoped, ValueFits, LocationFits}
+use Rattle.source_soundness.specs.Worlds.{World, Fits, is_pointer, IsScoped, ValueFits, LocationFits}
 use Rattle.source_soundness.specs.Sizes.{PointsWithin, LiesWithin}
+use Rattle.source_soundness.specs.Laws.{Keeps}
 use Rattle.source_soundness.proofs.Objects.{plain_part}
 use Rattle.source_soundness.proofs.Operators as so
 use Rattle.source_soundness.proofs.Operators.{moves, scoped_of_pointer}
@@ -49,7 +50,7 @@ use Rattle.pt_core.specs.Values.{Stop, ◌>>?◌, at_span, pointed, along, point
 use Rattle.pt_core.specs.Statements as c
 use Rattle.pt_core.specs.Statements.{Flow, goes_on, after_flow, evaluated, with_blocks}
 use Rattle.c_lower.specs.Lowered.{Temp, Lowered, LoweredPlace, past, temp, hold, holding, held_if}
-use Rattle.c_lower.specs.Expressions.{behind, field_in, with_field, place_with_field, decayed_type, element_place, fixed_root, fixed_through, fixed_if}
+use Rattle.c_lower.specs.Expressions.{behind, field_in, with_field, place_with_field, decayed_type, moved_to, element_place, fixed_root, fixed_through, fixed_if}
 use Rattle.c_lower_law.specs.Relations.{name_of, core_cell, Scene, world_of, context_of, frame_of, sizes_in, HasTemps, Kept, Alike, Same, SameSeen, After, below}
 use Rattle.c_lower_law.specs.Expressions.{run_all, asked, cell_asked, place_asked, SameAsked, SameCell, Gives, IsValue, IsPlace, SceneFits}
 use Rattle.c_lower_law.proofs.Runs.{bind_bind, bind_gives, run_append, append_nothing, Stops, stops_at, asked_asked, asked_else}
@@ -83,7 +84,7 @@ pub record Stage (s : Scene) (ty : VarTy) (n : ℕ) (source : State → Outcome 
   pub held : Bool
   pub other : Bool
   pub from : State → Outcome Cell
-  pub is : (st : State) → source st ≡ (from st >>= λ y st1. or_trap at (dereferenced (context_of s) (Pointer elem fixed) y) st1 >>= λ l. gives (led (context_of s) path l))
+  pub is : (st : State) → Fits (world_of s) st.memory → source st ≡ (from st >>= λ y st1. or_trap at (dereferenced (context_of s) (Pointer elem fixed) y) st1 >>= λ l. gives (led (context_of s) path l))
   pub runs : IsNext s (IsPointer s elem) n from stmts (cell_asked s p)
   pub leads : (l : Location) (l' : v.Location) → IsPlace s (type_of_elem elem) l l' → IsPlace s ty (led (context_of s) path l) (along (frame_of s).context path l')
   pub keeps_type : keeps.ty ≡ Pointer elem held
@@ -144,7 +145,7 @@ stage_same s ty n before source keeps stmts p at path g other y z st st' a q =
 pub stage_runs : (s : Scene) (ty : VarTy) (n : ℕ) (source : State → Outcome Location) (keeps : Temp) (stmts : List StmtTree) (p : t.ExprTree) (at : Span) (path : List ℕ) → Stage s ty n source keeps stmts p at path →
     IsNext s (IsPlace s ty) n source stmts (place_asked s (place (deref p at) path))
 stage_runs s ty n source keeps stmts p at path g st st' a =
-    subst (λ o. SameAsked (Kept s (below n) st'.memory) (Gives s (below n) st'.memory (IsPlace s ty)) (place_asked s (place (deref p at) path)) o (run_all s stmts st')) (sym (g.is st))
+    subst (λ o. SameAsked (Kept s (below n) st'.memory) (Gives s (below n) st'.memory (IsPlace s ty)) (place_asked s (place (deref p at) path)) o (run_all s stmts st')) (sym (g.is st a.fits))
     (asked_else (Kept s (below n) st'.memory) (Kept s (below n) st'.memory) (Gives s (below n) st'.memory (IsPointer s g.elem)) (Gives s (below n) st'.memory (IsPlace s ty)) (cell_asked s p) (place_asked s (place (deref p at) path)) (g.from st) (run_all s stmts st')
     (λ y st1. or_trap at (dereferenced (context_of s) (Pointer g.elem g.fixed) y) st1 >>= λ l. gives (led (context_of s) path l)) (g.runs st st' a) (λ blocks p. p)
     (λ stop blocks p no. ap (λ r. (r >>? pointee (frame_of s).context at (type_of (frame_of s).context p)) >>? λ l. Ok (along (frame_of s).context path l)) no)
@@ -167,7 +168,7 @@ behind_stage s n elem fixed at ex source l is k = record {
   held = fixed;
   other = (k.type elem fixed refl).0;
   from = λ st. source st >>= λ w. gives (cell_of w);
-  is = λ st. value_then (source st) (λ y. or_trap at (dereferenced (context_of s) (Pointer elem fixed) y));
+  is = λ st fit. value_then (source st) (λ y. or_trap at (dereferenced (context_of s) (Pointer elem fixed) y));
   runs = λ st st' a. asked_kept (Kept s (below n) st'.memory) (Gives s (below n) st'.memory (IsValue s (Some (Pointer elem fixed)))) (Gives s (below n) st'.memory (IsPointer s elem)) (cell_asked s l.value) (source st) (run_all s l.stmts st') cell_of (k.runs st st' a)
       (λ w st1 z st1' q. record {
         after = q.after;
@@ -272,7 +273,7 @@ field_stage s n a ty k source (Some keeps) stmts (place (deref p at) path) fits 
   held = g.held;
   other = g.other;
   from = g.from;
-  is = λ st. ap (λ o. o >>= λ l. gives (field_at (context_of s) k l)) (g.is st) ∙ led_more (context_of s) path k (g.from st) (λ y. or_trap at (dereferenced (context_of s) (Pointer g.elem g.fixed) y));
+  is = λ st fit. ap (λ o. o >>= λ l. gives (field_at (context_of s) k l)) (g.is st fit) ∙ led_more (context_of s) path k (g.from st) (λ y. or_trap at (dereferenced (context_of s) (Pointer g.elem g.fixed) y));
   runs = g.runs;
   leads = λ l l' h.
       subst (λ z. IsPlace s ty z (along (frame_of s).context (with_field path k) l')) (sym (led_append (context_of s) path k l))
@@ -360,3 +361,46 @@ element_runs s n elem count ity sp source index stmts base value h u is st st' a
 
     index_same : (w : Value) (z : core.Cell) → ity ≡ Some u → SameCell ity w z → z ≡ core_cell (cell_of w)
     index_same w z e q = subst (λ o. SameCell o w z) e q
+
+-- the source of an element, by the pointer to it
+element_is : (s : Scene) (elem : Elem) (count : ℕ) (sp : Span) (o : Outcome Location) (index : State → Outcome Value) → Keeps (world_of s) (LocationFits (world_of s) (Some (Array elem count))) o →
+    (o >>= λ at st1. index st1 >>= indexed (context_of s) sp at) ≡ ((o >>= λ at st1. index st1 >>= element_from s sp count at) >>= λ y st1. or_trap sp (dereferenced (context_of s) (Pointer elem false) y) st1 >>= λ l. gives l)
+element_is s elem count sp (gives at st) index k = go (index st) (some_same (Array elem count) at.ty k.0.has)
+  where
+    last : (r : Outcome Cell) → (r >>= λ y. or_trap sp (dereferenced (context_of s) (Pointer elem false) y)) ≡ (r >>= λ y st1. or_trap sp (dereferenced (context_of s) (Pointer elem false) y) st1 >>= λ l. gives l)
+    last (gives y st1) = sym (bind_gives (or_trap sp (dereferenced (context_of s) (Pointer elem false) y) st1))
+    last (trapped trap span st1) = refl
+    last (spent st1) = refl
+
+    go : (r : Outcome Value) → Array elem count ≡ at.ty → (r >>= indexed (context_of s) sp at) ≡ ((r >>= element_from s sp count at) >>= λ y st1. or_trap sp (dereferenced (context_of s) (Pointer elem false) y) st1 >>= λ l. gives l)
+    go (gives w st1) same =
+        ap (λ u. or_trap sp (moved_cell (number_of w) (e.decayed at u)) st1 >>= λ y. or_trap sp (dereferenced (context_of s) (e.element_of u) y)) (sym same)
+        ∙ last (or_trap sp (moved_cell (number_of w) (pointer at.block at.cell count 0)) st1)
+    go (trapped trap span st1) same = refl
+    go (spent st1) same = refl
+element_is s elem count sp (trapped trap span st) index k = refl
+element_is s elem count sp (spent st) index k = refl
+
+pub element_lowered : (s : Scene) (n : ℕ) (elem : Elem) (count : ℕ) (ity : Option VarTy) (iu : VarTy) (fixed : Bool) (sp : Span) (first index : x.ExprTree) (source : State → Outcome Location) (next : State → Outcome Value) (base value : Lowered) → ity ≡ Some iu →
+    ((st : State) → Fits (world_of s) st.memory → Keeps (world_of s) (LocationFits (world_of s) (Some (Array elem count))) (source st)) → PointerType s (Some (Pointer elem fixed)) base.value →
+    IsNext s (Both (IsArray s elem count) (IsValue s ity)) n (pair_of source next) (base.stmts ++ value.stmts) (both (cell_asked s base.value) (cell_asked s value.value)) →
+    PlaceLowered s (type_of_elem elem) n true (λ st. source st >>= λ at st1. next st1 >>= indexed (context_of s) sp at) (element_place sp first index (Pointer elem fixed) base value)
+element_lowered s n elem count ity iu fixed sp first index source next base value is keeps type pair =
+    let g : Stage s (type_of_elem elem) n (λ st. source st >>= λ at st1. next st1 >>= indexed (context_of s) sp at) (holding (Pointer elem fixed) (moved_to sp first index (Pointer elem fixed))) (base.stmts ++ value.stmts) (move base.value value.value false sp) sp [] = record {
+      elem = elem;
+      fixed = false;
+      held = fixed;
+      other = (type elem fixed refl).0;
+      from = λ st. source st >>= λ at st1. next st1 >>= element_from s sp count at;
+      is = λ st fit. element_is s elem count sp (source st) next (keeps st fit);
+      runs = element_runs s n elem count ity sp source next (base.stmts ++ value.stmts) base.value value.value pair iu is;
+      leads = λ l1 l2 h. h;
+      keeps_type = refl;
+      type = (type elem fixed refl).1;
+    } in
+    record {
+      named = refl;
+      type = ap tys.pointee_type (type elem fixed refl).1;
+      runs = stage_runs s (type_of_elem elem) n (λ st. source st >>= λ at st1. next st1 >>= indexed (context_of s) sp at) (holding (Pointer elem fixed) (moved_to sp first index (Pointer elem fixed))) (base.stmts ++ value.stmts) (move base.value value.value false sp) sp [] g;
+      stage = λ can. g;
+    }

@@ -158,10 +158,10 @@ no_return : {X : Type 0} (v : Option core.Cell) → returned v ≡ goes_on → X
 no_return v e = cc
 
 -- a run of statements
-pub asked_run : {A B X Y : Type 0} (P : Blocks → Type 0) (Q : A → State → X → c.State → Type 0) (R : B → State → Flow → c.State → Type 0) (ask : Blocks → Result X Stop) (o : Outcome A) (o' : c.Outcome Flow) (k : A → State → Outcome B) (k' : c.State → c.Outcome Flow) →
+pub asked_run : {A B X : Type 0} (P : Blocks → Type 0) (Q : A → State → X → c.State → Type 0) (R : B → State → Flow → c.State → Type 0) (ask : Blocks → Result X Stop) (o : Outcome A) (o' : c.Outcome Flow) (k : A → State → Outcome B) (k' : c.State → c.Outcome Flow) →
     SameAsked P Q ask o o' → ((stop : Stop) (st' : c.State) → P st'.memory → ask st'.memory ≡ Err stop → Stops stop st' (k' st')) →
     ((a : A) (st : State) (x : X) (st' : c.State) → Q a st x st' → ask st'.memory ≡ Ok x → Same R (k a st) (k' st')) → Same R (o >>= k) (o' >>= after_flow k')
-asked_run {A} {B} {X} {Y} P Q R ask o (gives goes_on st') k k' h strict on = go (ask st'.memory) refl h.2
+asked_run {A} {B} {X} P Q R ask o (gives goes_on st') k k' h strict on = go (ask st'.memory) refl h.2
   where
     go : (z : Result X Stop) → ask st'.memory ≡ z → Same Q o (evaluated z st' (λ b. gives b)) → Same R (o >>= k) (k' st')
     go (Ok x) e q = ok_then Q (λ z. Same R z (k' st')) o k x st' q (λ a st h1. on a st x st' h1 e)
@@ -202,18 +202,18 @@ asked_else P P1 Q R ask ask1 o (spent st') k h up strict on = spent_as Q R o k s
 -- ---- statements, and more statements
 
 -- after statements that go on
-pub ran_run : {A B Y : Type 0} (Q : A → State → Flow → c.State → Type 0) (R : B → State → Flow → c.State → Type 0) (o : Outcome A) (o' : c.Outcome Flow) (k : A → State → Outcome B) (k' : c.State → c.Outcome Flow) →
+pub ran_run : {A B : Type 0} (Q : A → State → Flow → c.State → Type 0) (R : B → State → Flow → c.State → Type 0) (o : Outcome A) (o' : c.Outcome Flow) (k : A → State → Outcome B) (k' : c.State → c.Outcome Flow) →
     Same Q o o' → ((a : A) (st : State) (flow : Flow) (st' : c.State) → Q a st flow st' → flow ≡ goes_on) →
     ((a : A) (st : State) (st' : c.State) → Q a st goes_on st' → Same R (k a st) (k' st')) → Same R (o >>= k) (o' >>= after_flow k')
-ran_run {A} {B} {Y} Q R o (gives flow st') k k' h goes on = ok_then Q (λ z. Same R z (after_flow k' flow st')) o k flow st' h (λ a st q. go flow (goes a st flow st' q) a st q)
+ran_run {A} {B} Q R o (gives flow st') k k' h goes on = ok_then Q (λ z. Same R z (after_flow k' flow st')) o k flow st' h (λ a st q. go flow (goes a st flow st' q) a st q)
   where
     go : (flow : Flow) → flow ≡ goes_on → (a : A) (st : State) → Q a st flow st' → Same R (k a st) (after_flow k' flow st')
     go goes_on e a st q = on a st st' q
     go broke e a st q = no_break e
     go continues e a st q = no_continue e
     go (returned v) e a st q = no_return v e
-ran_run {A} {B} {Y} Q R o (trapped trap span st') k k' h goes on = err_as Q R o k trap span st' h
-ran_run {A} {B} {Y} Q R o (spent st') k k' h goes on = spent_as Q R o k st' h
+ran_run {A} {B} Q R o (trapped trap span st') k k' h goes on = err_as Q R o k trap span st' h
+ran_run {A} {B} Q R o (spent st') k k' h goes on = spent_as Q R o k st' h
 
 -- and behind them something is evaluated
 pub ran_asked : {A B X : Type 0} (P : Blocks → Type 0) (Q : A → State → Flow → c.State → Type 0) (R : B → State → X → c.State → Type 0) (ask : Blocks → Result X Stop) (o : Outcome A) (o' : c.Outcome Flow) (k : A → State → Outcome B) (k' : c.State → c.Outcome Flow) →

@@ -42,7 +42,7 @@ use Rattle.c_lower_law.specs.Relations.{name_of, core_cell, Scene, world_of, con
 use Rattle.c_lower_law.specs.Expressions.{run_all, cell_asked, place_asked, SameAsked, SameCell, Gives, IsValue, IsPlace, IsDropped, SceneFits}
 use Rattle.c_lower_law.proofs.Runs.{bind_bind, bind_gives, run_append, Stops, stops_at, stops_same, stops_same_asked, asked_run, asked_asked}
 use Rattle.c_lower_law.proofs.Memories.{put_there, objects_written, room_object, kept_then, kept_object, kept_less}
-use Rattle.c_lower_law.proofs.Held.{own_length, Holds, with_temp, temp_given, temp_read, hold_then, hold_then_stops, both, both_ok, both_err, IsNext, Both, pair_of}
+use Rattle.c_lower_law.proofs.Held.{own_length, Holds, with_temp, temp_given, temp_read, hold_then, hold_then_stops, same_ok, same_err, not_both, joined, both, both_ok, both_err, IsNext, Both, pair_of}
 use Rattle.c_lower_law.proofs.Operators.{PointerType, told_as, Computes, TakesLeft, PlainStep, PointsTo, step_same, step_stops, stored_same, stored_stops}
 use Rattle.c_lower_law.proofs.Places.{some_same, Stage, StageOf, pair_then}
 use Rattle.c_lower_law.proofs.Values.{Near, near, GivesNear, IsNear, Scalar, read_same, same_cell, pair_same}
@@ -120,7 +120,7 @@ fixed_on_temps s n ty source p far g = on_temps s n ty source p p.through p.plac
 
 -- ---- what an assignment stores
 
-assigned_pair : (r1 : Result v.Location Stop) (r2 : Result core.Cell Stop) (f : v.Location → core.Cell → Blocks) → (r1 >>? λ at. r2 >>? λ x. Ok (f at x)) ≡ ((r1 >>? λ at. r2 >>? λ x. Ok (at, x)) >>? λ q. Ok (f q.0 q.1))
+assigned_pair : (r1 : Result v.Location Stop) (r2 : Result core.Cell Stop) (f : v.Location → core.Cell → Blocks) → (r1 >>? λ at. r2 >>? λ x. Ok (f at x)) ≡ (joined r1 r2 >>? λ q. Ok (f q.0 q.1))
 assigned_pair (Ok at) (Ok x) f = refl
 assigned_pair (Ok at) (Err stop) f = refl
 assigned_pair (Err stop) r2 f = refl
@@ -197,19 +197,10 @@ found_again s k u at at' p blocks x on q there = on blocks (written blocks at'.b
 pub both_parts : {X Y : Type 0} (first : Blocks → Result X Stop) (second : Blocks → Result Y Stop) (blocks : Blocks) (q : X × Y) → both first second blocks ≡ Ok q → (first blocks ≡ Ok q.0) × (second blocks ≡ Ok q.1)
 both_parts {X} {Y} first second blocks q h = go (first blocks) (second blocks) h
   where
-    go : (r1 : Result X Stop) (r2 : Result Y Stop) → (r1 >>? λ x. r2 >>? λ y. Ok (x, y)) ≡ Ok q → (r1 ≡ Ok q.0) × (r2 ≡ Ok q.1)
-    go (Ok x) (Ok y) e1 = (ap (λ z. Ok z) (first_same x y e1), ap (λ z. Ok z) (second_same x y e1))
-      where
-        pair_is : (x : X) (y : Y) → Ok (x, y) ≡ Ok q → (x, y) ≡ q
-        pair_is x y e1 = cc
-
-        first_same : (x : X) (y : Y) → Ok (x, y) ≡ Ok q → x ≡ q.0
-        first_same x y e1 = ap (λ (z : X × Y). z.0) (pair_is x y e1)
-
-        second_same : (x : X) (y : Y) → Ok (x, y) ≡ Ok q → y ≡ q.1
-        second_same x y e1 = ap (λ (z : X × Y). z.1) (pair_is x y e1)
-    go (Ok x) (Err stop) e1 = cc
-    go (Err stop) r2 e1 = cc
+    go : (r1 : Result X Stop) (r2 : Result Y Stop) → joined r1 r2 ≡ Ok q → (r1 ≡ Ok q.0) × (r2 ≡ Ok q.1)
+    go (Ok x) (Ok y) e1 = let h1 = same_ok (joined (Ok x) (Ok y)) (x, y) q refl e1 in (ap (λ z. Ok z) (ap (λ (z : X × Y). z.0) h1), ap (λ z. Ok z) (ap (λ (z : X × Y). z.1) h1))
+    go (Ok x) (Err stop) e1 = not_both (joined (Ok x) (Err stop)) q stop e1 refl
+    go (Err stop) r2 e1 = not_both (joined (Err stop) r2) q stop e1 refl
 
 pub data Stopped (X Y : Type 0) (r1 : Result X Stop) (r2 : Result Y Stop) (stop : Stop) : Type 0 where
   at_first : r1 ≡ Err stop → Stopped X Y r1 r2 stop
@@ -218,10 +209,10 @@ pub data Stopped (X Y : Type 0) (r1 : Result X Stop) (r2 : Result Y Stop) (stop 
 pub both_stop : {X Y : Type 0} (first : Blocks → Result X Stop) (second : Blocks → Result Y Stop) (blocks : Blocks) (stop : Stop) → both first second blocks ≡ Err stop → Stopped X Y (first blocks) (second blocks) stop
 both_stop {X} {Y} first second blocks stop h = go (first blocks) (second blocks) refl refl h
   where
-    go : (r1 : Result X Stop) (r2 : Result Y Stop) → first blocks ≡ r1 → second blocks ≡ r2 → (r1 >>? λ x. r2 >>? λ y. Ok (x, y)) ≡ Err stop → Stopped X Y (first blocks) (second blocks) stop
-    go (Ok x) (Ok y) e1 e2 e3 = cc
-    go (Ok x) (Err stop1) e1 e2 e3 = at_second x e1 (e2 ∙ e3)
-    go (Err stop1) r2 e1 e2 e3 = at_first (e1 ∙ e3)
+    go : (r1 : Result X Stop) (r2 : Result Y Stop) → first blocks ≡ r1 → second blocks ≡ r2 → joined r1 r2 ≡ Err stop → Stopped X Y (first blocks) (second blocks) stop
+    go (Ok x) (Ok y) e1 e2 e3 = not_both (joined (Ok x) (Ok y)) (x, y) stop refl e3
+    go (Ok x) (Err stop1) e1 e2 e3 = at_second x e1 (e2 ∙ ap (λ z. Err z) (same_err (joined (Ok x) (Err stop1)) stop1 stop refl e3))
+    go (Err stop1) r2 e1 e2 e3 = at_first (e1 ∙ ap (λ z. Err z) (same_err (joined (Err stop1) r2) stop1 stop refl e3))
 
 -- ---- `=`
 

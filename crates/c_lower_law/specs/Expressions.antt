@@ -1,5 +1,5 @@
 -- What the lowering keeps of expressions, places, dropped values, objects, arguments and calls.
-use Rattle.std.specs.Prelude.{◌≡◌, ◌≤◌, ℕ, pos, Bool, true, false, not, List, Option, Some, None, Result, IsTrue, map, length, slice_get, take, drop, unwrap_or}
+use Rattle.std.specs.Prelude.{◌≡◌, ◌≤◌, ℕ, pos, Bool, true, false, not, List, Option, Some, None, Result, Ok, IsTrue, map, length, slice_get, take, drop, unwrap_or}
 use Rattle.pt_base.specs.declared.int_type.IntType.{IntType}
 use Rattle.pt_base.specs.declared.span.Span.{Span}
 use Rattle.pt_tree.specs.declared.signature.Param.{Param}
@@ -85,12 +85,12 @@ abbrev pub IsDropped : Value → Flow → Type 0
 IsDropped v flow = flow ≡ goes_on
 
 -- the same place, of this type
-pub record IsPlace (s : Scene) (ty : VarTy) (at : Location) (at' : v.Location) : Type 0 where
-  pub fits : LocationFits (world_of s) (Some ty) at
+pub record IsPlace (s : Scene) (u : VarTy) (at : Location) (at' : v.Location) : Type 0 where
+  pub fits : LocationFits (world_of s) (Some u) at
   pub within : LiesWithin (world_of s) (sizes_in s) at
   pub block : at'.block ≡ name_of at.block
   pub cell : at'.cell ≡ at.cell
-  pub ty : at'.ty ≡ ty
+  pub ty : at'.ty ≡ u
 
 -- the value of a struct, and the cells of its object
 pub record IsObject (s : Scene) (n : ℕ) (v : Value) (xs : List core.Cell) : Type 0 where
