@@ -97,7 +97,7 @@ copy_ok s k to of at xs st ty there f =
     ∙ ap (λ ys. copying st (Ok (all_written st.memory at.block at.cell ys))) f.2
 
 copy_stops : (s : Scene) (k : ℕ) (to of : PlaceTree) (stop : Stop) (st : c.State) → both (place_asked s to) (object_asked s of k) st.memory ≡ Err stop → Stops stop st (run_all s (copy to of ∷ []) st)
-copy_stops s k to of stop st no = go (both_stop (place_asked s to) (object_asked s of k) st.memory stop no)
+copy_stops s k to of stop st nope = go (both_stop (place_asked s to) (object_asked s of k) st.memory stop nope)
   where
     go : Stopped v.Location (List core.Cell) (place_asked s to st.memory) (object_asked s of k st.memory) stop → Stops stop st (run_all s (copy to of ∷ []) st)
     go (at_first e1) =

@@ -28,7 +28,7 @@ use Rattle.c_lower.specs.Lowered.{Temp, LoweredPlace, past, temp, hold}
 use Rattle.c_lower.specs.Expressions.{fixed_root, fixed_through, fixed_if}
 use Rattle.c_lower_law.specs.Relations.{Scene, context_of, frame_of, HasTemps, Kept, Alike, Same, After, below}
 use Rattle.c_lower_law.specs.Expressions.{run_all, cell_asked, place_asked, SameAsked, Gives, IsPlace, SceneFits}
-use Rattle.c_lower_law.proofs.Runs.{bind_bind, run_append, append_nothing, ok_then, err_as, asked_asked, asked_else}
+use Rattle.c_lower_law.proofs.Runs.{pair, bind_bind, run_append, append_nothing, ok_then, err_as, asked_asked, asked_else}
 use Rattle.c_lower_law.proofs.Memories.{kept_then, kept_same}
 use Rattle.c_lower_law.proofs.Held.{own_length, past_append, temp_there, Holds, with_temp, temp_given, temp_read, hold_then, hold_then_stops, same_ok, same_err, not_both, joined, both, both_err, both_ok, IsNext, Both, pair_of, first_pure}
 use Rattle.c_lower_law.proofs.Places.{led, IsPointer, Stage, StageOf, PlaceLowered, pointee_asked, stage_same}
@@ -177,26 +177,36 @@ pub fixed_place_type : (s : Scene) (n : ℕ) (u ty : VarTy) (p : LoweredPlace) (
     place_type (frame_of s).context (fixed_if true n p).place ≡ u
 fixed_place_type s n u ty p source temps h g = fixed_types s n u ty source p p.through p.place refl g temps h
 
+-- nothing comes behind
+abbrev nothing_next : State → Outcome ℕ
+nothing_next st = gives 0 st
+
+abbrev zero_result : Result ℕ Stop
+zero_result = Ok 0
+
+abbrev nothing_asked : Blocks → Result ℕ Stop
+nothing_asked blocks = zero_result
+
 -- a place that is fixed, with nothing behind it
 pub fixed_runs : (s : Scene) (n : ℕ) (u : VarTy) (can fix : Bool) (p : LoweredPlace) (source : State → Outcome Location) → SceneFits s → length s.names.vars ≤ n → HasTemps s.core_variables n (fixed_if fix n p).temps → IsTrue can → PlaceLowered s u n can source p →
     IsNext s (IsPlace s u) n source (fixed_if fix n p).stmts (place_asked s (fixed_if fix n p).place)
 fixed_runs s n u can fix p source fits from temps ok h st st' al =
     subst (λ o. SameAsked (Kept s (below n) st'.memory) (Gives s (below n) st'.memory (IsPlace s u)) (place_asked s (fixed_if fix n p).place) o (run_all s (fixed_if fix n p).stmts st')) (first_only (source st))
-    (asked_else (Kept s (below n) st'.memory) (Kept s (below n) st'.memory) (Gives s (below n) st'.memory (Both (IsPlace s u) (λ (a : ℕ) (z : ℕ). Unit {0}))) (Gives s (below n) st'.memory (IsPlace s u)) (both (place_asked s (fixed_if fix n p).place) (λ blocks. Ok 0)) (place_asked s (fixed_if fix n p).place) (pair_of source (λ st1. gives 0 st1) st) (run_all s (fixed_if fix n p).stmts st') (λ q. gives q.0)
-    (subst (λ xs. SameAsked (Kept s (below n) st'.memory) (Gives s (below n) st'.memory (Both (IsPlace s u) (λ (a : ℕ) (z : ℕ). Unit {0}))) (both (place_asked s (fixed_if fix n p).place) (λ blocks. Ok 0)) (pair_of source (λ st1. gives 0 st1) st) (run_all s xs st')) (append_nothing (fixed_if fix n p).stmts)
-    (place_then s n u can fix p (λ (a : ℕ) (z : ℕ). Unit {0}) source (λ st1. gives 0 st1) [] (λ blocks. Ok 0) fits from temps ok h (λ st1 st1' a1. (refl, kept_same s (below (past n (fixed_if fix n p).temps)) st1'.memory, record { after = record { alike = a1; kept = kept_same s (below (past n (fixed_if fix n p).temps)) st1'.memory }; facts = tt })) (λ e1. refl) st st' al))
+    (asked_else (Kept s (below n) st'.memory) (Kept s (below n) st'.memory) (Gives s (below n) st'.memory (Both (IsPlace s u) (λ (a : ℕ) (z : ℕ). Unit {0}))) (Gives s (below n) st'.memory (IsPlace s u)) (both (place_asked s (fixed_if fix n p).place) nothing_asked) (place_asked s (fixed_if fix n p).place) (pair_of source nothing_next st) (run_all s (fixed_if fix n p).stmts st') (λ q. gives q.0)
+    (subst (λ xs. SameAsked (Kept s (below n) st'.memory) (Gives s (below n) st'.memory (Both (IsPlace s u) (λ (a : ℕ) (z : ℕ). Unit {0}))) (both (place_asked s (fixed_if fix n p).place) nothing_asked) (pair_of source nothing_next st) (run_all s xs st')) (append_nothing (fixed_if fix n p).stmts)
+    (place_then s n u can fix p (λ (a : ℕ) (z : ℕ). Unit {0}) source nothing_next [] nothing_asked fits from temps ok h (λ st1 st1' a1. (refl, kept_same s (below (past n (fixed_if fix n p).temps)) st1'.memory, record { after = record { alike = a1; kept = kept_same s (below (past n (fixed_if fix n p).temps)) st1'.memory }; facts = tt })) (λ e1. refl) st st' al))
     (λ blocks k. k) (λ stop blocks k no. first_no (place_asked s (fixed_if fix n p).place blocks) stop no)
     (λ q st1 z st1' g is. subst (λ r. Same (Gives s (below n) st'.memory (IsPlace s u)) (gives q.0 st1) (evaluated r st1' (λ l. gives l))) (sym (first_yes (place_asked s (fixed_if fix n p).place st1'.memory) z is)) (record { after = g.after; facts = g.facts.0 })))
   where
-    first_only : (o : Outcome Location) → ((o >>= λ l st1. gives 0 st1 >>= λ z. gives (l, z)) >>= λ q. gives q.0) ≡ o
+    first_only : (o : Outcome Location) → ((o >>= λ l st1. nothing_next st1 >>= λ z. gives (pair l z)) >>= λ q. gives q.0) ≡ o
     first_only (gives l st1) = refl
     first_only (trapped trap span st1) = refl
     first_only (spent st1) = refl
 
-    first_no : (r : Result v.Location Stop) (stop : Stop) → joined r (Ok 0) ≡ Err stop → r ≡ Err stop
-    first_no (Ok l) stop e1 = not_both (joined (Ok l) (Ok 0)) (l, 0) stop refl e1
-    first_no (Err stop1) stop e1 = ap (λ z. Err z) (same_err (joined (Err stop1) (Ok 0)) stop1 stop refl e1)
+    first_no : (r : Result v.Location Stop) (stop : Stop) → joined r zero_result ≡ Err stop → r ≡ Err stop
+    first_no (Ok l) stop e1 = not_both (joined (Ok l) zero_result) (l, 0) stop refl e1
+    first_no (Err stop1) stop e1 = ap (λ z. Err z) (same_err (joined (Err stop1) zero_result) stop1 stop refl e1)
 
-    first_yes : (r : Result v.Location Stop) (z : v.Location × ℕ) → joined r (Ok 0) ≡ Ok z → r ≡ Ok z.0
-    first_yes (Ok l) z e1 = ap (λ q. Ok q) (ap (λ (w : v.Location × ℕ). w.0) (same_ok (joined (Ok l) (Ok 0)) (l, 0) z refl e1))
-    first_yes (Err stop1) z e1 = not_both (joined (Err stop1) (Ok 0)) z stop1 e1 refl
+    first_yes : (r : Result v.Location Stop) (z : v.Location × ℕ) → joined r zero_result ≡ Ok z → r ≡ Ok z.0
+    first_yes (Ok l) z e1 = ap (λ q. Ok q) (ap (λ (w : v.Location × ℕ). w.0) (same_ok (joined (Ok l) zero_result) (l, 0) z refl e1))
+    first_yes (Err stop1) z e1 = not_both (joined (Err stop1) zero_result) z stop1 e1 refl

@@ -51,7 +51,7 @@ use Rattle.c_lower_law.proofs.Operators.{PointerType}
 use Rattle.c_lower_law.proofs.Places.{some_same, PlaceLowered, ValueLowered, array_runs}
 use Rattle.c_lower_law.proofs.Values.{near, GivesNear, IsNear, nearly, value_settled, Scalar, cell_same, read_runs, place_pointer, decay_near, decay_pointer, address_near, address_pointer, unary_near, convert_near, held_pointer}
 use Rattle.c_lower_law.proofs.Choices.{hold_value, choice_near, IsTruth, truth_held, operand_near, next_truth, operands_split, truth_value_near}
-use Rattle.c_lower_law.proofs.Kinds.{ScalarType, scalar_value_type, scalar_type, not_struct, type_is, unary_type, unary_number, convert_type, convert_pointer, link_operand, link_plain, link_points, link_pointer}
+use Rattle.c_lower_law.proofs.OperandTypes.{ScalarType, scalar_value_type, scalar_type, not_struct, type_is, unary_type, unary_number, convert_type, convert_pointer, link_operand, link_plain, link_points, link_pointer}
 use Rattle.c_lower_law.proofs.Shapes.{links_first, operands_first, steps_first, held_first, link_ready, link_next, item_base, item_next, pure_value}
 use Rattle.c_lower_law.proofs.Forms.{next_as, near_as, next_weaken, value_typed, value_cell, settled_as, Runs, RunsNear, effects_settled, runs_then_nothing, runs_near, runs_give, runs_as, near_runs, fixed_first, fixed_type, past_from, past_one, was_pure, was_true, ready_by, link_step, link_first, scalar_expr}
 

@@ -43,7 +43,7 @@ use Rattle.c_lower_law.proofs.Held.{temps_first, asked_weaken, both, IsNext, Bot
 use Rattle.c_lower_law.proofs.Operators.{PointerType, TakesLeft, PlainStep, PointsTo}
 use Rattle.c_lower_law.proofs.Places.{setup, PlaceLowered, ValueLowered}
 use Rattle.c_lower_law.proofs.Values.{Near, near, GivesNear, IsNear, nearly, asked_settled, same_settled, value_settled, Scalar, link_near, link_by}
-use Rattle.c_lower_law.proofs.Kinds.{ScalarType}
+use Rattle.c_lower_law.proofs.OperandTypes.{ScalarType}
 use Rattle.c_lower_law.proofs.Shapes.{link_ready}
 
 -- ---- by equal sources

@@ -53,7 +53,7 @@ use Rattle.c_lower.specs.Lowered.{Temp, Lowered, LoweredPlace, past, temp, hold,
 use Rattle.c_lower.specs.Expressions.{behind, field_in, with_field, place_with_field, decayed_type, moved_to, element_place, fixed_root, fixed_through, fixed_if}
 use Rattle.c_lower_law.specs.Relations.{name_of, core_cell, Scene, world_of, context_of, frame_of, sizes_in, HasTemps, Kept, Alike, Same, SameSeen, After, below}
 use Rattle.c_lower_law.specs.Expressions.{run_all, asked, cell_asked, place_asked, SameAsked, SameCell, Gives, IsValue, IsPlace, SceneFits}
-use Rattle.c_lower_law.proofs.Runs.{bind_bind, bind_gives, run_append, append_nothing, Stops, stops_at, asked_asked, asked_else}
+use Rattle.c_lower_law.proofs.Runs.{pair, bind_bind, bind_gives, run_append, append_nothing, Stops, stops_at, asked_asked, asked_else}
 use Rattle.c_lower_law.proofs.Memories.{kept_then}
 use Rattle.c_lower_law.proofs.Held.{own_length, past_append, temp_there, Holds, with_temp, temp_given, temp_read, hold_then, hold_then_stops, both, both_err, both_ok, same_made, asked_made, asked_kept, asked_as, IsNext, IsLowered, Both, pair_of, first_pure, first_then}
 use Rattle.c_lower_law.proofs.Operators.{PointerType, told_as, step_same, step_stops}
@@ -61,7 +61,7 @@ use Rattle.c_lower_law.proofs.Operators.{PointerType, told_as, step_same, step_s
 pub setup : (s : Scene) → SceneFits s → Setup (world_of s) s.names (context_of s)
 setup s k = record { fits = k.fits; sound = k.structs; calls = k.sized }
 
-some_same : (a z : VarTy) → Some a ≡ Some z → a ≡ z
+pub some_same : (a z : VarTy) → Some a ≡ Some z → a ≡ z
 some_same a z h = cc
 
 -- ---- a part of a place
@@ -117,22 +117,22 @@ deref_same s n before elem fixed other at null st st' a scoped within = (refl, r
 deref_same s n before elem fixed other at (pointer bl base count index) st st' a scoped within =
     go (nat_lt index count) (pointee_fits (world_of s) (context_of s) elem fixed (pointer bl base count index) scoped) (pointee_within (world_of s) (context_of s) elem fixed (pointer bl base count index) within)
   where
-    go : (z : Bool) → so.Gives (LocationFits (world_of s) (Some (type_of_elem elem))) (if_ok (if z then Ok (bl, cell_at (elem_cells (sizes_in s) elem) base index) else Err Bounds) (object_at (type_of_elem elem))) →
-        so.Gives (LiesWithin (world_of s) (sizes_in s)) (if_ok (if z then Ok (bl, cell_at (elem_cells (sizes_in s) elem) base index) else Err Bounds) (object_at (type_of_elem elem))) →
-        Same (Gives s (below n) before (IsPlace s (type_of_elem elem))) (or_trap at (if_ok (if z then Ok (bl, cell_at (elem_cells (sizes_in s) elem) base index) else Err Bounds) (object_at (type_of_elem elem))) st)
-        (evaluated (at_span at (if z then Ok (name_of bl, cell_at (elem_cells (sizes_in s) elem) base index) else Err Bounds) >>? λ q. Ok (record { block = q.0; cell = q.1; ty = type_of_elem elem })) st' (λ z. gives z))
+    go : (z : Bool) → so.Gives (LocationFits (world_of s) (Some (type_of_elem elem))) (if_ok (if z then Ok (pair bl (cell_at (elem_cells (sizes_in s) elem) base index)) else Err Bounds) (object_at (type_of_elem elem))) →
+        so.Gives (LiesWithin (world_of s) (sizes_in s)) (if_ok (if z then Ok (pair bl (cell_at (elem_cells (sizes_in s) elem) base index)) else Err Bounds) (object_at (type_of_elem elem))) →
+        Same (Gives s (below n) before (IsPlace s (type_of_elem elem))) (or_trap at (if_ok (if z then Ok (pair bl (cell_at (elem_cells (sizes_in s) elem) base index)) else Err Bounds) (object_at (type_of_elem elem))) st)
+        (evaluated (at_span at (if z then Ok (pair (name_of bl) (cell_at (elem_cells (sizes_in s) elem) base index)) else Err Bounds) >>? λ q. Ok (record { block = q.0; cell = q.1; ty = type_of_elem elem })) st' (λ z. gives z))
     go true fits lies = record { after = a; facts = record { fits = fits; within = lies; block = refl; cell = refl; ty = refl } }
     go false fits lies = (refl, refl, a.alike.seen)
 
 -- a place behind a pointer
-pointee_asked : (s : Scene) (p : t.ExprTree) (at : Span) (path : List ℕ) (blocks : Blocks) (elem : Elem) (g : Bool) (z : core.Cell) → type_of (frame_of s).context p ≡ Pointer elem g → cell_asked s p blocks ≡ Ok z →
+pub pointee_asked : (s : Scene) (p : t.ExprTree) (at : Span) (path : List ℕ) (blocks : Blocks) (elem : Elem) (g : Bool) (z : core.Cell) → type_of (frame_of s).context p ≡ Pointer elem g → cell_asked s p blocks ≡ Ok z →
     place_asked s (place (deref p at) path) blocks ≡ (pointee (frame_of s).context at (Pointer elem g) z >>? λ l. Ok (along (frame_of s).context path l))
 pointee_asked s p at path blocks elem g z type is =
     ap (λ r. (r >>? pointee (frame_of s).context at (type_of (frame_of s).context p)) >>? λ l. Ok (along (frame_of s).context path l)) is
     ∙ ap (λ u. pointee (frame_of s).context at u z >>? λ l. Ok (along (frame_of s).context path l)) type
 
 -- where a pointer points, and fields behind that
-stage_same : (s : Scene) (ty : VarTy) (n : ℕ) (before : Blocks) (source : State → Outcome Location) (keeps : Temp) (stmts : List StmtTree) (p : t.ExprTree) (at : Span) (path : List ℕ) (g : Stage s ty n source keeps stmts p at path) (other : Bool) (y : Cell) (z : core.Cell) (st : State) (st' : c.State) →
+pub stage_same : (s : Scene) (ty : VarTy) (n : ℕ) (before : Blocks) (source : State → Outcome Location) (keeps : Temp) (stmts : List StmtTree) (p : t.ExprTree) (at : Span) (path : List ℕ) (g : Stage s ty n source keeps stmts p at path) (other : Bool) (y : Cell) (z : core.Cell) (st : State) (st' : c.State) →
     After s (below n) before st st' → IsPointer s g.elem y z →
     Same (Gives s (below n) before (IsPlace s ty)) (or_trap at (dereferenced (context_of s) (Pointer g.elem g.fixed) y) st >>= λ l. gives (led (context_of s) path l))
     (evaluated (pointee (frame_of s).context at (Pointer g.elem other) z >>? λ l. Ok (along (frame_of s).context path l)) st' (λ l. gives l))
@@ -147,8 +147,8 @@ pub stage_runs : (s : Scene) (ty : VarTy) (n : ℕ) (source : State → Outcome 
 stage_runs s ty n source keeps stmts p at path g st st' a =
     subst (λ o. SameAsked (Kept s (below n) st'.memory) (Gives s (below n) st'.memory (IsPlace s ty)) (place_asked s (place (deref p at) path)) o (run_all s stmts st')) (sym (g.is st a.fits))
     (asked_else (Kept s (below n) st'.memory) (Kept s (below n) st'.memory) (Gives s (below n) st'.memory (IsPointer s g.elem)) (Gives s (below n) st'.memory (IsPlace s ty)) (cell_asked s p) (place_asked s (place (deref p at) path)) (g.from st) (run_all s stmts st')
-    (λ y st1. or_trap at (dereferenced (context_of s) (Pointer g.elem g.fixed) y) st1 >>= λ l. gives (led (context_of s) path l)) (g.runs st st' a) (λ blocks p. p)
-    (λ stop blocks p no. ap (λ r. (r >>? pointee (frame_of s).context at (type_of (frame_of s).context p)) >>? λ l. Ok (along (frame_of s).context path l)) no)
+    (λ y st1. or_trap at (dereferenced (context_of s) (Pointer g.elem g.fixed) y) st1 >>= λ l. gives (led (context_of s) path l)) (g.runs st st' a) (λ blocks kk. kk)
+    (λ stop blocks kk no. ap (λ r. (r >>? pointee (frame_of s).context at (type_of (frame_of s).context p)) >>? λ l. Ok (along (frame_of s).context path l)) no)
     (λ y st1 z st1' q there.
     subst (λ r. Same (Gives s (below n) st'.memory (IsPlace s ty)) (or_trap at (dereferenced (context_of s) (Pointer g.elem g.fixed) y) st1 >>= λ l. gives (led (context_of s) path l)) (evaluated r st1' (λ l. gives l)))
     (sym (pointee_asked s p at path st1'.memory g.elem g.other z g.type there))
@@ -327,8 +327,8 @@ array_points : (s : Scene) (at : Location) (elem : Elem) (count : ℕ) → Locat
 array_points s at elem count l lies = subst (λ u. PointsWithin (world_of s) (sizes_in s) elem (e.decayed at u)) (sym (some_same (Array elem count) at.ty l.has)) (array_within (world_of s) (sizes_in s) at elem count l lies)
 
 -- first one part and then the other, and something with both
-pub pair_then : {A B D : Type 0} (o : Outcome A) (next : State → Outcome B) (k : A → B → State → Outcome D) → ((o >>= λ a st1. next st1 >>= λ z. gives (a, z)) >>= λ q. k q.0 q.1) ≡ (o >>= λ a st1. next st1 >>= k a)
-pair_then (gives a st) next k = bind_bind (next st) (λ z. gives (a, z)) (λ q. k q.0 q.1)
+pub pair_then : {A B D : Type 0} (o : Outcome A) (next : State → Outcome B) (k : A → B → State → Outcome D) → ((o >>= λ a st1. next st1 >>= λ z. gives (pair a z)) >>= λ q. k q.0 q.1) ≡ (o >>= λ a st1. next st1 >>= k a)
+pair_then (gives a st) next k = bind_bind (next st) (λ z. gives (pair a z)) (λ q. k q.0 q.1)
 pair_then (trapped trap span st) next k = refl
 pair_then (spent st) next k = refl
 
@@ -356,8 +356,8 @@ element_runs s n elem count ity sp source index stmts base value h u is st st' a
     (sym (step_same s (Pointer elem false) (Move false) base value sp st1'.memory (pointer q.0.block q.0.cell count 0) (cell_of q.1) tt tt tt (there ∙ ap (λ p. Ok p) (both_are (core_cell (pointer q.0.block q.0.cell count 0)) (core_cell (cell_of q.1)) z.0 z.1 k.facts.0.same (index_same q.1 z.1 is k.facts.1.same)))))
     (moved_same s n st'.memory elem sp (pointer q.0.block q.0.cell count 0) (number_of q.1) st1 st1' k.after (array_scoped (world_of s) q.0 elem count k.facts.0.fits) (array_points s q.0 elem count k.facts.0.fits k.facts.0.within))))
   where
-    both_are : (a1 b1 a2 b2 : core.Cell) → a2 ≡ a1 → b2 ≡ b1 → (a2, b2) ≡ (a1, b1)
-    both_are a1 b1 a2 b2 p q = ap (λ z. (z, b2)) p ∙ ap (λ z. (a1, z)) q
+    both_are : (a1 b1 a2 b2 : core.Cell) → a2 ≡ a1 → b2 ≡ b1 → pair a2 b2 ≡ pair a1 b1
+    both_are a1 b1 a2 b2 p q = ap (λ z. pair z b2) p ∙ ap (λ z. pair a1 z) q
 
     index_same : (w : Value) (z : core.Cell) → ity ≡ Some u → SameCell ity w z → z ≡ core_cell (cell_of w)
     index_same w z e q = subst (λ o. SameCell o w z) e q

@@ -14,6 +14,9 @@ use Rattle.pt_core.specs.Statements.{Flow, goes_on, broke, continues, returned, 
 use Rattle.c_lower_law.specs.Relations.{Scene, frame_of, SameSeen, Same}
 use Rattle.c_lower_law.specs.Expressions.{run_all, asked, SameAsked}
 
+abbrev pub pair : {A B : Type 0} → A → B → A × B
+pair a b = (a, b)
+
 -- ---- equations
 
 pub bind_bind : {M A B D : Type 0} (o : r.Outcome M A) (f : A → r.State M → r.Outcome M B) (g : B → r.State M → r.Outcome M D) → ((o >>= f) >>= g) ≡ (o >>= λ a st. f a st >>= g)

@@ -51,7 +51,7 @@ use Rattle.c_lower_law.proofs.Places.{some_same, PlaceLowered, ValueLowered}
 use Rattle.c_lower_law.proofs.Fixed.{place_then, fixed_place_type, fixed_runs}
 use Rattle.c_lower_law.proofs.Values.{GivesNear, IsNear, nearly, value_settled, Scalar, place_pointer}
 use Rattle.c_lower_law.proofs.Choices.{hold_value, choice_near, IsTruth, truth_held, operand_near, next_truth}
-use Rattle.c_lower_law.proofs.Kinds.{ComputeType, ScalarType, scalar_value_type, scalar_type, not_struct, type_is, compute_type, unit_computes}
+use Rattle.c_lower_law.proofs.OperandTypes.{ComputeType, ScalarType, scalar_value_type, scalar_type, not_struct, type_is, compute_type, unit_computes}
 use Rattle.c_lower_law.proofs.Shapes.{pure_value, pure_arguments, operands_first}
 use Rattle.c_lower_law.proofs.Stores.{OnTemps, step_facts, fixed_on_temps, given_read, given_dropped, computed, computed_read, computed_dropped}
 use Rattle.c_lower_law.proofs.Steps.{one, one_runs, bind_same, postfix_near, unit_same}
@@ -118,16 +118,16 @@ choice_law a b d la lb ld at ty s n k h ns from temps =
 
 -- ---- assignments
 
-written_object : (s : Scene) (p : PlaceTree) → IsTrue (is_written s.names p) → IsTrue (is_object p)
+pub written_object : (s : Scene) (p : PlaceTree) → IsTrue (is_written s.names p) → IsTrue (is_object p)
 written_object s p h = left (is_object p) (not (place_const s.names p)) h
 
-no_fix : {X : Type 0} → true ≡ false → X
+pub no_fix : {X : Type 0} → true ≡ false → X
 no_fix h = cc
 
-own_from : (s : Scene) (n : ℕ) → SceneFits s → length s.names.vars ≤ n → length (s.frames s.frame.depth) ≤ n
+pub own_from : (s : Scene) (n : ℕ) → SceneFits s → length s.names.vars ≤ n → length (s.frames s.frame.depth) ≤ n
 own_from s n k from = let own = own_length s k in omega (arith, own, from)
 
-lower_plain : (u : VarTy) (ty : Option VarTy) → ty ≡ Some u → Scalar u → l.is_struct ty ≡ false
+pub lower_plain : (u : VarTy) (ty : Option VarTy) → ty ≡ Some u → Scalar u → l.is_struct ty ≡ false
 lower_plain u ty is h = ap l.is_struct is ∙ of_scalar u h
   where
     of_scalar : (u : VarTy) → Scalar u → l.is_struct (Some u) ≡ false
@@ -153,7 +153,7 @@ paired s n u fix p a k from fixes can h ns temps pl law =
     place_then s n u (is_object p) fix (place_in (scope_of s) p n) (IsValue s (ty_of a)) (location_of p (context_of s)) (value_of a (context_of s)) (value_in (scope_of s) a (past n (fixed_if fix n (place_in (scope_of s) p n)).temps)).stmts (cell_asked s (value_in (scope_of s) a (past n (fixed_if fix n (place_in (scope_of s) p n)).temps)).value)
     k from tt1 can pl v.runs (λ e1. (pure_value a (scope_of s) (past n (fixed_if fix n (place_in (scope_of s) p n)).temps) (fixes e1)).stmts_none)
 
-second_typed : (s : Scene) (n : ℕ) (u : VarTy) (a z : Option VarTy) (source : State → Outcome (Location × Value)) (stmts : List StmtTree) (ask : _) → a ≡ z → IsNext s (Both (IsPlace s u) (IsValue s a)) n source stmts ask → IsNext s (Both (IsPlace s u) (IsValue s z)) n source stmts ask
+pub second_typed : (s : Scene) (n : ℕ) (u : VarTy) (a z : Option VarTy) (source : State → Outcome (Location × Value)) (stmts : List StmtTree) (ask : _) → a ≡ z → IsNext s (Both (IsPlace s u) (IsValue s a)) n source stmts ask → IsNext s (Both (IsPlace s u) (IsValue s z)) n source stmts ask
 second_typed s n u a z source stmts ask is h = subst (λ q. IsNext s (Both (IsPlace s u) (IsValue s q)) n source stmts ask) is h
 
 pub assign_law : (p : PlaceTree) (a : ExprTree) → PlaceLaw p → ValueLaw a → FormLaw (x.assign p a)

@@ -105,12 +105,14 @@ on_temps : (s : Scene) (n : ℕ) (ty : VarTy) (source : State → Outcome Locati
 on_temps s n ty source p None (place (t.local k) path) far is g x y same = ap (λ z. place_asked s z y) is ∙ sym (ap (λ z. place_asked s z x) is)
 on_temps s n ty source p None (place (t.global k) path) far is g x y same = ap (λ z. place_asked s z y) is ∙ sym (ap (λ z. place_asked s z x) is)
 on_temps s n ty source p None (place (deref e1 at) path) far is g x y same = absurd g
-on_temps s n ty source p (Some keeps) (place (t.local k) path) far is g = subst (λ z. OnTemps s (past n (fixed_root n keeps p z).temps) (fixed_root n keeps p z).place) (sym is) (λ x y same. ap (λ z. place_asked s z y) is ∙ sym (ap (λ z. place_asked s z x) is))
-on_temps s n ty source p (Some keeps) (place (t.global k) path) far is g = subst (λ z. OnTemps s (past n (fixed_root n keeps p z).temps) (fixed_root n keeps p z).place) (sym is) (λ x y same. ap (λ z. place_asked s z y) is ∙ sym (ap (λ z. place_asked s z x) is))
-on_temps s n ty source p (Some keeps) (place (deref e1 at) path) far is g =
+on_temps s n ty source p (Some keeps) (place (t.local k) path) far is g x y same =
+    subst (λ z. OnTemps s (past n (fixed_root n keeps p z).temps) (fixed_root n keeps p z).place) (sym is) (λ x1 y1 same1. ap (λ z. place_asked s z y1) is ∙ sym (ap (λ z. place_asked s z x1) is)) x y same
+on_temps s n ty source p (Some keeps) (place (t.global k) path) far is g x y same =
+    subst (λ z. OnTemps s (past n (fixed_root n keeps p z).temps) (fixed_root n keeps p z).place) (sym is) (λ x1 y1 same1. ap (λ z. place_asked s z y1) is ∙ sym (ap (λ z. place_asked s z x1) is)) x y same
+on_temps s n ty source p (Some keeps) (place (deref e1 at) path) far is g x y same =
     subst (λ z. OnTemps s (past n (fixed_root n keeps p z).temps) (fixed_root n keeps p z).place) (sym is)
-    (λ x y same. ap (λ (bl : b.Block). (Ok (slice_index_or bl.cells 0 (cell.Int (pos 0))) >>? v.pointee (frame_of s).context at (type_of (frame_of s).context (temp (past n p.temps)))) >>? λ l1. Ok (v.along (frame_of s).context path l1))
-    (same (past n p.temps) (omega (arith, far)) (last_one n p.temps keeps)))
+    (λ x1 y1 same1. ap (λ (bl : b.Block). (Ok (slice_index_or bl.cells 0 (cell.Int (pos 0))) >>? v.pointee (frame_of s).context at (type_of (frame_of s).context (temp (past n p.temps)))) >>? λ l1. Ok (v.along (frame_of s).context path l1))
+    (same1 (past n p.temps) (omega (arith, far)) (last_one n p.temps keeps))) x y same
   where
     last_one : (n : ℕ) (xs : List Temp) (x : Temp) → past n xs < past n (xs ++ x ∷ [])
     last_one n xs x = let e1 = length-append xs (x ∷ []) in omega (arith, e1)
@@ -150,12 +152,12 @@ value_holds w (Array elem count) w1 h fit = absurd h
 pub store_dropped : {A : Type 0} (s : Scene) (n : ℕ) (before : Blocks) (u : VarTy) (sp : Span) (at : Location) (at' : v.Location) (r : Result Cell Trap) (f : Value → A) (p : PlaceTree) (e1 : t.ExprTree) (st : State) (st' : c.State) → SceneFits s → After s (below n) before st st' → IsPlace s u at at' →
     place_asked s p st'.memory ≡ Ok at' → cell_asked s e1 st'.memory ≡ told_as sp r →
     Same (GivesNear s (below n) before (λ a flow. flow ≡ goes_on)) ((or_trap sp r st >>= λ y. store at (holds y)) >>= λ w. gives (f w)) (run_all s (assign p e1 ∷ []) st')
-store_dropped s n before u sp at at' (Ok y) f p e1 st st' fits a q there is =
+store_dropped {A} s n before u sp at at' (Ok y) f p e1 st st' fits a q there is =
     subst (λ o. Same (GivesNear s (below n) before (λ a flow. flow ≡ goes_on)) (gives (f (holds y)) (record st { memory = write st.memory at.block at.cell y })) o)
     (sym (assign_ok s p e1 at' (core_cell y) st' (both_ok (place_asked s p) (cell_asked s e1) st'.memory at' there ∙ ap (λ z. z >>? λ x. Ok (at', x)) is)))
     (record { near = near_written s u at at' y st st' fits a.alike q; kept = kept_after s n u at at' before st'.memory (core_cell y) q a.kept; facts = refl })
-store_dropped s n before u sp at at' (Err trap) f p e1 st st' fits a q there is =
-    stops_same (GivesNear s (below n) before (λ a flow. flow ≡ goes_on)) trap sp st st' (run_all s (assign p e1 ∷ []) st') a.alike.seen
+store_dropped {A} s n before u sp at at' (Err trap) f p e1 st st' fits a q there is =
+    stops_same (GivesNear s (below n) before (λ (w : A) (flow : Flow). flow ≡ goes_on)) trap sp st st' (run_all s (assign p e1 ∷ []) st') a.alike.seen
     (assign_stops s p e1 (record { trap = trap; span = sp }) st' (both_ok (place_asked s p) (cell_asked s e1) st'.memory at' there ∙ ap (λ z. z >>? λ x. Ok (at', x)) is))
 
 -- what was written is read
@@ -277,7 +279,7 @@ computed_cell s u step p e1 sp at at' y st st' h a q there is =
     (both_ok (cell_asked s (t.read p)) (cell_asked s e1) st'.memory (core_cell (read st.memory at.block at.cell)) (ap (λ r. r >>? λ l1. Ok (v.cell_in st'.memory l1)) there ∙ ap (λ z. Ok z) (read_same s u at at' st st' a q)) ∙ ap (λ r. r >>? λ x. Ok (core_cell (read st.memory at.block at.cell), x)) is))
 
 pub computed_stops : (s : Scene) (u : VarTy) (step : LinkStep) (p : PlaceTree) (e1 : t.ExprTree) (sp : Span) (stop : Stop) (blocks : Blocks) → Computes u step → both (place_asked s p) (cell_asked s e1) blocks ≡ Err stop → both (place_asked s p) (cell_asked s (computed u step p e1 sp)) blocks ≡ Err stop
-computed_stops s u step p e1 sp stop blocks h no = go (both_stop (place_asked s p) (cell_asked s e1) blocks stop no)
+computed_stops s u step p e1 sp stop blocks h nope = go (both_stop (place_asked s p) (cell_asked s e1) blocks stop nope)
   where
     go : Stopped v.Location core.Cell (place_asked s p blocks) (cell_asked s e1 blocks) stop → both (place_asked s p) (cell_asked s (computed u step p e1 sp)) blocks ≡ Err stop
     go (at_first e2) = both_err (place_asked s p) (cell_asked s (computed u step p e1 sp)) blocks stop e2

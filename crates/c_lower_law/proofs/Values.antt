@@ -50,7 +50,7 @@ use Rattle.c_lower.specs.Operators.{stepped, prefixed}
 use Rattle.c_lower_law.specs.Relations.{name_of, core_cell, SameObjects, Scene, world_of, context_of, frame_of, sizes_in, HasTemps, HasRoom, Kept, Alike, Same, SameSeen, After, below}
 use Rattle.c_lower_law.specs.Expressions.{run_all, asked, cell_asked, place_asked, SameAsked, SameCell, Gives, IsValue, IsPlace, SceneFits}
 use Rattle.source_soundness.proofs.Tests.{got_or}
-use Rattle.c_lower_law.proofs.Runs.{bind_gives, asked_else}
+use Rattle.c_lower_law.proofs.Runs.{pair, bind_gives, asked_else}
 use Rattle.c_lower_law.proofs.Memories.{map_get}
 use Rattle.c_lower_law.proofs.Held.{temp_there, both, asked_weaken, asked_made, asked_kept, IsNext, Both, pair_of, first_then, temp_read}
 use Rattle.c_lower_law.proofs.Operators.{PointerType, told_as, Prefixes, prefixed_same, prefixed_stops, IsScalarCell, IsPointerCell, converted_value, converted_stops, TakesLeft, PlainStep, PointsTo, step_same, step_stops, by_same, by_stops}
@@ -256,8 +256,8 @@ pub held_pointer : (s : Scene) (n : ℕ) (far : Lowered) (t : Bool) (x : Temp) (
 held_pointer s n far true x u is temps h elem fixed e = (fixed, got_or s.core_variables (past n far.temps) x.ty (Int i.Int) (temp_there s.core_variables n far.temps x [] temps) ∙ is ∙ some_same u (Pointer elem fixed) e)
 held_pointer s n far false x u is temps h elem fixed e = h elem fixed e
 
-pub pair_same : (a1 b1 a2 b2 : core.Cell) → a2 ≡ a1 → b2 ≡ b1 → (a2, b2) ≡ (a1, b1)
-pair_same a1 b1 a2 b2 p q = ap (λ z. (z, b2)) p ∙ ap (λ z. (a1, z)) q
+pub pair_same : (a1 b1 a2 b2 : core.Cell) → a2 ≡ a1 → b2 ≡ b1 → pair a2 b2 ≡ pair a1 b1
+pair_same a1 b1 a2 b2 p q = ap (λ z. pair z b2) p ∙ ap (λ z. pair a1 z) q
 
 -- a step that takes its left operand first
 pub link_near : (s : Scene) (n : ℕ) (u to : VarTy) (ity : Option VarTy) (step : LinkStep) (at : Span) (source index : State → Outcome Value) (stmts : List StmtTree) (a e1 : t.ExprTree) → TakesLeft step → PlainStep step → PointsTo s u step a → (iu : VarTy) → ity ≡ Some iu →

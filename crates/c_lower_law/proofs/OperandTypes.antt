@@ -26,7 +26,7 @@ use Rattle.source_soundness.proofs.Tests.{left, right, never, equal_options, equ
 use Rattle.source_soundness.proofs.Operators.{same_promoted_is}
 use Rattle.source_soundness.proofs.Steps.{IsInt, arithmetic_int, shift_int, when, moved_is}
 use Rattle.source_soundness.proofs.Soundness.{converts_scalar}
-use Rattle.pt_core.specs.CodeTree as t
+use Rattle.pt_core.specs.CodeTree as ct
 use Rattle.pt_core.specs.Types.{type_of}
 use Rattle.c_lower.specs.Operators as l
 use Rattle.c_lower_law.specs.Relations.{Scene, frame_of}
@@ -127,7 +127,7 @@ convert_type (Some (Pointer a f)) (Some (Int z)) h = never h
 convert_type (Some (Pointer a f)) (Some (Struct n)) h = never h
 convert_type (Some (Pointer a f)) (Some (Array elem n)) h = never h
 
-pub convert_pointer : (s : Scene) (a t : Option VarTy) (value : t.ExprTree) → converts a t ≡ true → PointerType s a value → PointerType s t (l.converted (e.type_or_int t) value)
+pub convert_pointer : (s : Scene) (a t : Option VarTy) (value : ct.ExprTree) → converts a t ≡ true → PointerType s a value → PointerType s t (l.converted (e.type_or_int t) value)
 convert_pointer s (Some (Pointer a f)) (Some (Pointer z g)) value h k elem fixed is = k elem f (ap (λ q. Some (Pointer q f)) (equal_elems a z (left (same_elem a z) (not f || g) h) ∙ same_pointee z elem g fixed is))
   where
     same_pointee : (x y : Elem) (p q : Bool) → Some (Pointer x p) ≡ Some (Pointer y q) → x ≡ y
@@ -229,13 +229,13 @@ link_plain a z MoveBy to h = tt
 link_plain a z Difference to h = tt
 link_plain a z (Compare op) to h = tt
 
-compares : (s : Scene) (u : VarTy) (value : t.ExprTree) → is_some (pointee_of (Some u)) ≡ true → PointerType s (Some u) value → (elem : Elem) × (f : Bool) × (g : Bool) × (u ≡ Pointer elem f) × (type_of (frame_of s).context value ≡ Pointer elem g)
+compares : (s : Scene) (u : VarTy) (value : ct.ExprTree) → is_some (pointee_of (Some u)) ≡ true → PointerType s (Some u) value → (elem : Elem) × (f : Bool) × (g : Bool) × (u ≡ Pointer elem f) × (type_of (frame_of s).context value ≡ Pointer elem g)
 compares s (Pointer elem f) value h k = let p = k elem f refl in (elem, f, p.0, refl, p.1)
 compares s (Int u) value h k = never h
 compares s (Struct n) value h k = never h
 compares s (Array elem n) value h k = never h
 
-pub link_points : (s : Scene) (u : VarTy) (z : Option VarTy) (step : LinkStep) (to : VarTy) (value : t.ExprTree) → r.stepped (Some u) step z ≡ Some to → PointerType s (Some u) value → PointsTo s u step value
+pub link_points : (s : Scene) (u : VarTy) (z : Option VarTy) (step : LinkStep) (to : VarTy) (value : ct.ExprTree) → r.stepped (Some u) step z ≡ Some to → PointerType s (Some u) value → PointsTo s u step value
 link_points s u z (Arithmetic op t) to value h k = tt
 link_points s u z (Shift back) to value h k = tt
 link_points s u z (Move back) to value h k = tt
@@ -245,7 +245,7 @@ link_points s u z (Compare op) to value h k =
     compares s u value (both_some (pointee_of (Some u)) (pointee_of z) (right (is_comparison op) (both_elem (pointee_of (Some u)) (pointee_of z)) (holds_when (is_comparison op && both_elem (pointee_of (Some u)) (pointee_of z)) r.int to h))).0 k
 
 -- which pointer a step gives
-pub link_pointer : (s : Scene) (u : VarTy) (z : Option VarTy) (step : LinkStep) (to : VarTy) (a e1 : t.ExprTree) (at : Span) → r.stepped (Some u) step z ≡ Some to → PointerType s (Some u) a → PointerType s z e1 → PointerType s (Some to) (l.stepped u step a e1 at)
+pub link_pointer : (s : Scene) (u : VarTy) (z : Option VarTy) (step : LinkStep) (to : VarTy) (a e1 : ct.ExprTree) (at : Span) → r.stepped (Some u) step z ≡ Some to → PointerType s (Some u) a → PointerType s z e1 → PointerType s (Some to) (l.stepped u step a e1 at)
 link_pointer s u z (Arithmetic op t) to a e1 at h k k1 elem fixed is = absurd (number_type (arithmetic_int op t (integer_of (Some u)) (integer_of z) to h) elem fixed is)
 link_pointer s u z (Shift back) to a e1 at h k k1 elem fixed is = absurd (number_type (shift_int (integer_of (Some u)) (integer_of z) to h) elem fixed is)
 link_pointer s u z (Move back) to a e1 at h k k1 elem fixed is = let m = moved_is (Some u) z to h in k elem m.fixed (m.is ∙ ap (λ q. Some (Pointer q m.fixed)) (same_pointee m.elem elem m.fixed fixed (ap (λ q. Some q) m.gives ∙ is)))
