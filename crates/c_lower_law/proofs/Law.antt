@@ -93,16 +93,16 @@ mutual
   form_effects_law (x.address p) at ty s n k h from temps = address_runs_law p (place_law p) at ty s n k h from temps
   form_effects_law (x.unary op a) at ty s n k h from temps =
       held_runs s n (typed at ty (x.unary op a)) (holding (type_or_int ty) (typed at ty (x.unary op a))) (form_in (scope_of s) (x.unary op a) at ty n) k from temps
-      (form_law (x.unary op a) at ty s n k h (unary_struct op a ty s h) from (temps_first s.core_variables n (form_in (scope_of s) (x.unary op a) at ty n).temps (holding (type_or_int ty) (typed at ty (x.unary op a)) ∷ []) temps))
+      (unary_law op a (value_law a) at ty s n k h (unary_struct op a ty s h) from (temps_first s.core_variables n (form_in (scope_of s) (x.unary op a) at ty n).temps (holding (type_or_int ty) (typed at ty (x.unary op a)) ∷ []) temps))
   form_effects_law (x.convert a) at ty s n k h from temps =
       runs_give s n (value_of a (context_of s)) (effects_in (scope_of s) a n).stmts (m.converted (type_or_int ty)) (runs_near s n (value_of a (context_of s)) (effects_in (scope_of s) a n).stmts (effects_law a s n k (left (is_typed s.names a) (converts (ty_of a) ty) h) from temps))
   form_effects_law (x.discard a) at ty s n k h from temps =
       runs_give s n (value_of a (context_of s)) (effects_in (scope_of s) a n).stmts (λ w. m.nothing) (runs_near s n (value_of a (context_of s)) (effects_in (scope_of s) a n).stmts (effects_law a s n k (left (is_typed s.names a) (is_none ty) h) from temps))
   form_effects_law (x.chain a links) at ty s n k h from temps =
       held_runs s n (typed at ty (x.chain a links)) (holding (type_or_int ty) (typed at ty (x.chain a links))) (form_in (scope_of s) (x.chain a links) at ty n) k from temps
-      (form_law (x.chain a links) at ty s n k h (chain_struct a links ty s h) from (temps_first s.core_variables n (form_in (scope_of s) (x.chain a links) at ty n).temps (holding (type_or_int ty) (typed at ty (x.chain a links)) ∷ []) temps))
+      (chain_law a links (value_law a) (links_law links) at ty s n k h (chain_struct a links ty s h) from (temps_first s.core_variables n (form_in (scope_of s) (x.chain a links) at ty n).temps (holding (type_or_int ty) (typed at ty (x.chain a links)) ∷ []) temps))
   form_effects_law (x.logical op a others) at ty s n k h from temps =
-      logical_runs op a others at ty s n (form_law (x.logical op a others) at ty s n k h (logical_struct op a others ty s h) from temps)
+      logical_runs op a others at ty s n (logical_law op a others (value_law a) (operands_law others) at ty s n k h (logical_struct op a others ty s h) from temps)
   form_effects_law (x.choice a b d) at ty s n k h from temps = choice_runs_law a b d (value_law a) (effects_law b) (effects_law d) at ty s n k h from temps
   form_effects_law (x.assign p a) at ty s n k h from temps = assign_runs_law p a (place_law p) (value_law a) (object_law a) at ty s n k h from temps
   form_effects_law (x.compound p sp step a) at ty s n k h from temps = compound_runs p sp step a (place_law p) (value_law a) at ty s n k h from temps
