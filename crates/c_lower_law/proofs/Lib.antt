@@ -1,6 +1,7 @@
 pub mod Calls
 pub mod Choices
 pub mod Copies
+pub mod CorePrograms
 pub mod EffectLaws
 pub mod ExpressionsAgree
 pub mod Fixed
@@ -9,6 +10,7 @@ pub mod Forms
 pub mod Held
 pub mod Law
 pub mod Memories
+pub mod NoBreaks
 pub mod OperandTypes
 pub mod Operators
 pub mod Parts
