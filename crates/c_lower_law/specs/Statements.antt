@@ -1,5 +1,5 @@
 -- What the lowering keeps of statements, calls and whole programs.
-use Rattle.std.specs.Prelude.{◌≡◌, ◌≤◌, ◌<◌, ℕ, pos, Bool, true, false, List, [], ◌∷◌, Option, Some, None, IsTrue, map, length, nat_eq}
+use Rattle.std.specs.Prelude.{◌≡◌, ◌≤◌, ◌<◌, ◌^◌, ℕ, pos, Bool, true, false, List, [], ◌∷◌, Option, Some, None, IsTrue, map, length, nat_eq}
 use Rattle.pt_base.specs.declared.int_type.IntType.{IntType}
 use Rattle.runs.specs.State.{Hosts}
 use Rattle.typed_tree.specs.declared.types.VarTy.{VarTy}
@@ -8,6 +8,7 @@ use Rattle.typed_tree.specs.declared.statement.TypedDeclarator.{TypedDeclarator}
 use Rattle.typed_tree.specs.ExpressionTree.{ExprTree}
 use Rattle.typed_tree.specs.StatementTree.{BodyTree}
 use Rattle.typed_tree.specs.TypedTree.{TypedTree, signatures_of}
+use Rattle.typed_tree.specs.Nodes.{body_nodes}
 use Rattle.typed_tree.specs.WellFormed.{is_well_formed}
 use Rattle.typed_tree.specs.WellFormedStatement as w
 use Rattle.typed_tree.specs.WellFormedStatement.{is_sound, declaration_fits}
@@ -100,7 +101,7 @@ pub record GivesFlow (s : Scene) (result : Option IntType) (mode : Onward) (n : 
 
 abbrev pub StatementsAgree : Type 0
 StatementsAgree = (s : Scene) (exprs : List ExprTree) (result : Option IntType) (body : BodyTree) (out again : Bool) (mode : Onward) (n : ℕ) (st : State) (st' : c.State) → SceneFits s →
-    IsTrue (is_sound (tests_of s exprs result) out again body) → LeadsOn mode again → length s.names.vars ≤ n →
+    IsTrue (is_sound (tests_of s exprs result) out again body) → body_nodes body ≤ 2 ^ 28 → LeadsOn mode again → length s.names.vars ≤ n →
     HasTemps s.core_variables n (statement_in (lowered_with s exprs) body mode n).temps → FlagIs s mode n 0 st'.memory → Alike s st st' →
     Same (GivesFlow s result mode n st'.memory) (statement body (code_of s exprs) st) (run_all s (statement_in (lowered_with s exprs) body mode n).stmts st')
 
