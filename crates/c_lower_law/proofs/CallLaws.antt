@@ -257,7 +257,7 @@ abbrev pub opened_in : TypedTree → FunctionTree → Frame → ℕ → List Val
 opened_in program g frame deep vs st = opened (code_of program g (frame_in frame g.signature) (f.calls_within program deep)) vs st
 
 -- the states in which a function's body begins
-entered_alike : (program : TypedTree) (vars : List Var) (core_variables : List VarTy) (deep0 : ℕ) (g : FunctionTree) (body : BodyTree) (frames : ℕ → List VarTy) (frame : Frame) (deep : ℕ) (vs : List Value) (st : State) (st' : c.State) → AreScalar (temps_of program g body) → Leads g.signature.params (types_of g) →
+pub entered_alike : (program : TypedTree) (vars : List Var) (core_variables : List VarTy) (deep0 : ℕ) (g : FunctionTree) (body : BodyTree) (frames : ℕ → List VarTy) (frame : Frame) (deep : ℕ) (vs : List Value) (st : State) (st' : c.State) → AreScalar (temps_of program g body) → Leads g.signature.params (types_of g) →
     ArgumentsFit (caller program frames frame) g.signature.params vs → ArgumentsSized (caller program frames frame) (sizes_of program.structs) g.signature.params vs → Alike (scene_in program vars frames frame core_variables deep0) st st' →
     Alike (inner program g body frames frame deep) (opened_in program g frame deep vs st) (with_blocks (entered_blocks program g body frame vs st'.memory) st')
 entered_alike program vars core_variables deep0 g body frames frame deep vs st st' scalar lead args size al =
@@ -275,7 +275,7 @@ entered_alike program vars core_variables deep0 g body frames frame deep vs st s
     }
 
 -- the body of a called function, and its return
-function_runs : (program : TypedTree) (vars : List Var) (core_variables : List VarTy) (deep0 : ℕ) (n : ℕ) (g : FunctionTree) (body : BodyTree) (frames : ℕ → List VarTy) (frame : Frame) (deep : ℕ) (vs : List Value) (st : State) (st' : c.State) → StatementsAgree → Scalars program → IsTrue (is_well_formed program) → frames frame.depth ≡ map (λ (x : Var). x.ty) vars →
+pub function_runs : (program : TypedTree) (vars : List Var) (core_variables : List VarTy) (deep0 : ℕ) (n : ℕ) (g : FunctionTree) (body : BodyTree) (frames : ℕ → List VarTy) (frame : Frame) (deep : ℕ) (vs : List Value) (st : State) (st' : c.State) → StatementsAgree → Scalars program → IsTrue (is_well_formed program) → frames frame.depth ≡ map (λ (x : Var). x.ty) vars →
     slice_get program.functions n ≡ Some g → g.body ≡ Some body → IsTrue (is_sound (scope_in program g) false false body) → IsTrue (not (is_main g.signature)) → Leads g.signature.params (types_of g) →
     ArgumentsFit (caller program frames frame) g.signature.params vs → ArgumentsSized (caller program frames frame) (sizes_of program.structs) g.signature.params vs → CallsAlike (inner program g body frames frame deep) → Alike (scene_in program vars frames frame core_variables deep0) st st' →
     Same (Gives (scene_in program vars frames frame core_variables deep0) all st'.memory (SameResult g.signature.result)) (entered_as program (f.calls_within program deep) frame g vs st)
@@ -293,7 +293,7 @@ function_runs program vars core_variables deep0 n g body frames frame deep vs st
     (leave program vars core_variables deep0 g body frames frame deep vs (brace_of body) g.signature.result (length g.vars) st st' (statement body (code_of program g (frame_in frame g.signature) (f.calls_within program deep)) (opened_in program g frame deep vs st)) (run_all i (lowered_body program g body).stmts begins) own al r))
 
 -- a call of a function
-function_alike : (program : TypedTree) (vars : List Var) (core_variables : List VarTy) (deep0 : ℕ) (n : ℕ) (g : FunctionTree) (body : BodyTree) (frames : ℕ → List VarTy) (frame : Frame) (deep : ℕ) (vs : List Value) (st : State) (st' : c.State) → StatementsAgree → Scalars program → IsTrue (is_well_formed program) → frames frame.depth ≡ map (λ (x : Var). x.ty) vars →
+pub function_alike : (program : TypedTree) (vars : List Var) (core_variables : List VarTy) (deep0 : ℕ) (n : ℕ) (g : FunctionTree) (body : BodyTree) (frames : ℕ → List VarTy) (frame : Frame) (deep : ℕ) (vs : List Value) (st : State) (st' : c.State) → StatementsAgree → Scalars program → IsTrue (is_well_formed program) → frames frame.depth ≡ map (λ (x : Var). x.ty) vars →
     slice_get program.functions n ≡ Some g → g.body ≡ Some body → IsTrue (is_sound (scope_in program g) false false body) → IsTrue (not (is_main g.signature)) → Leads g.signature.params (types_of g) →
     ArgumentsFit (caller program frames frame) g.signature.params vs → ArgumentsSized (caller program frames frame) (sizes_of program.structs) g.signature.params vs → CallsAlike (inner program g body frames frame deep) → Alike (scene_in program vars frames frame core_variables deep0) st st' →
     Same (Gives (scene_in program vars frames frame core_variables deep0) all st'.memory (SameResult g.signature.result))
