@@ -33,6 +33,7 @@ use Rattle.pt_core.specs.Calls.{with_arguments}
 use Rattle.c_lower.specs.Lowered.{Temp}
 use Rattle.c_lower.specs.Functions.{variable_of}
 use Rattle.c_lower_law.specs.Relations.{name_of, core_cell, SameObjects}
+use Rattle.c_lower_law.proofs.Values.{Scalar}
 use Rattle.c_lower_law.proofs.Memories.{same_number, is_same, is_other, put_there, put_apart}
 
 -- ---- fresh objects
@@ -62,10 +63,7 @@ fresh_at structs (x ∷ vars) others (suc j) ty is = fresh_at structs vars other
 
 -- a type whose objects have one cell
 abbrev pub IsScalar : VarTy → Type 0
-IsScalar (Int t) = Unit {0}
-IsScalar (Struct n) = ⊥
-IsScalar (Array elem count) = ⊥
-IsScalar (Pointer elem fixed) = Unit {0}
+IsScalar ty = Scalar ty
 
 abbrev pub AreScalar : List Temp → Type 0
 AreScalar [] = Unit {0}
