@@ -27,8 +27,10 @@ pub mod Outermost
 pub mod Parts
 pub mod Places
 pub mod Runs
+pub mod RunsAgree
 pub mod Sections
 pub mod Shapes
+pub mod StatementTemps
 pub mod Steps
 pub mod StoreLaws
 pub mod Stores
