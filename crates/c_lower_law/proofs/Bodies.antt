@@ -232,7 +232,7 @@ mutual
       let behind = subst (λ k. HasTemps s.core_variables k (test.temps ++ body.temps)) (next_is n) temps.1 in
       let above : length s.names.vars ≤ n + 1 = omega (arith, from) in
       let runs = body_rounds s result (past (n + 1) test.temps) (statement x (code_of s exprs)) body.stmts
-          (statement_runs x s exprs result u true true to_head (past (n + 1) test.temps) (left (is_sound (tests_of s exprs result) true true x) (expr_fits (tests_of s exprs result) is_scalar e) ok) (omega (arith, small)) tt (low (length s.names.vars) (n + 1) test.temps above) (temps_rest s.core_variables (n + 1) test.temps body.temps behind)) in
+      (statement_runs x s exprs result u true true to_head (past (n + 1) test.temps) (left (is_sound (tests_of s exprs result) true true x) (expr_fits (tests_of s exprs result) is_scalar e) ok) (omega (arith, small)) tt (low (length s.names.vars) (n + 1) test.temps above) (temps_rest s.core_variables (n + 1) test.temps body.temps behind)) in
       any_mode s result mode n (statement (b.do_while sp x e) (code_of s exprs)) (statement_in (lowered_with s exprs) (b.do_while sp x e) mode n).stmts u.fits
       (flagged_loop s result n (λ first. src.tested_later first e (code_of s exprs) (λ st1. statement x (code_of s exprs) st1 >>= body_round)) test.stmts body.stmts sp u.fits from temps.0
       (rounds_up s result (n + 1) (past (n + 1) test.temps) (λ st1. statement x (code_of s exprs) st1 >>= body_round) body.stmts (omega arith) runs)
@@ -246,8 +246,8 @@ mutual
       let rest = right (for_init_fits (tests_of s exprs result) begin) (option_fits (tests_of s exprs result) is_scalar test && (true && is_sound (tests_of s exprs result) true true x)) ok in
       let above = low (length s.names.vars) n first.temps from in
       let rounds = tested_rounds u.laws s exprs result test k (λ st1. statement x (code_of s exprs) st1 >>= body_round) body.stmts u.fits (left (option_fits (tests_of s exprs result) is_scalar test) (true && is_sound (tests_of s exprs result) true true x) rest) above (temps_first s.core_variables k t1.temps body.temps behind)
-          (body_rounds s result (past k t1.temps) (statement x (code_of s exprs)) body.stmts
-          (statement_runs x s exprs result u true true to_head (past k t1.temps) (right true (is_sound (tests_of s exprs result) true true x) (right (option_fits (tests_of s exprs result) is_scalar test) (true && is_sound (tests_of s exprs result) true true x) rest)) (omega (arith, small)) tt (low (length s.names.vars) k t1.temps above) (temps_rest s.core_variables k t1.temps body.temps behind))) in
+      (body_rounds s result (past k t1.temps) (statement x (code_of s exprs)) body.stmts
+      (statement_runs x s exprs result u true true to_head (past k t1.temps) (right true (is_sound (tests_of s exprs result) true true x) (right (option_fits (tests_of s exprs result) is_scalar test) (true && is_sound (tests_of s exprs result) true true x) rest)) (omega (arith, small)) tt (low (length s.names.vars) k t1.temps above) (temps_rest s.core_variables k t1.temps body.temps behind))) in
       any_mode s result mode n (statement (b.for_each sp begin test None x) (code_of s exprs)) (statement_in (lowered_with s exprs) (b.for_each sp begin test None x) mode n).stmts u.fits
       (passes_then s result n k (src.for_begins begin (code_of s exprs)) (λ st1. src.looped st1.left (λ first. src.stepped_first first None (code_of s exprs) (src.tested test (code_of s exprs) (λ st2. statement x (code_of s exprs) st2 >>= body_round))) true st1)
       first.stmts (repeat (stmt_trees (t1.stmts ++ body.stmts)) sp ∷ []) (omega arith)
@@ -269,8 +269,8 @@ mutual
       let above1 : length s.names.vars ≤ k + 1 = omega (arith, above) in
       let above2 = low (length s.names.vars) (k + 1) back.temps above1 in
       let rounds = tested_rounds u.laws s exprs result test (past (k + 1) back.temps) (λ st1. statement x (code_of s exprs) st1 >>= body_round) body.stmts u.fits (left (option_fits (tests_of s exprs result) is_scalar test) (expr_fits (tests_of s exprs result) any_type step && is_sound (tests_of s exprs result) true true x) rest) above2 (temps_first s.core_variables (past (k + 1) back.temps) t1.temps body.temps behind)
-          (body_rounds s result (past (past (k + 1) back.temps) t1.temps) (statement x (code_of s exprs)) body.stmts
-          (statement_runs x s exprs result u true true to_head (past (past (k + 1) back.temps) t1.temps) (right (expr_fits (tests_of s exprs result) any_type step) (is_sound (tests_of s exprs result) true true x) last) (omega (arith, small)) tt (low (length s.names.vars) (past (k + 1) back.temps) t1.temps above2) (temps_rest s.core_variables (past (k + 1) back.temps) t1.temps body.temps behind))) in
+      (body_rounds s result (past (past (k + 1) back.temps) t1.temps) (statement x (code_of s exprs)) body.stmts
+      (statement_runs x s exprs result u true true to_head (past (past (k + 1) back.temps) t1.temps) (right (expr_fits (tests_of s exprs result) any_type step) (is_sound (tests_of s exprs result) true true x) last) (omega (arith, small)) tt (low (length s.names.vars) (past (k + 1) back.temps) t1.temps above2) (temps_rest s.core_variables (past (k + 1) back.temps) t1.temps body.temps behind))) in
       any_mode s result mode n (statement (b.for_each sp begin test (Some step) x) (code_of s exprs)) (statement_in (lowered_with s exprs) (b.for_each sp begin test (Some step) x) mode n).stmts u.fits
       (passes_then s result n k (src.for_begins begin (code_of s exprs)) (λ st1. src.looped st1.left (λ first. src.stepped_first first (Some step) (code_of s exprs) (src.tested test (code_of s exprs) (λ st2. statement x (code_of s exprs) st2 >>= body_round))) true st1)
       first.stmts (hold k (number 1) ∷ repeat (stmt_trees (laps k back.stmts (t1.stmts ++ body.stmts))) sp ∷ []) (omega arith)

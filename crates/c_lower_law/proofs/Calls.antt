@@ -118,10 +118,13 @@ held_result s n k before at ty u (gives w st) (gives x st') fits far le there kb
         SameAsked (Kept s (below n) before) (GivesNear s (below n) before (SameCell (Some (Int u)))) (cell_asked s (temp k)) (gives w st) (gives goes_on (with_temp s k (unwrap_or x (cell.Int (pos 0))) st'))
     holding_it h =
         let all_kept : Kept s (below n) before (with_temp s k (unwrap_or x (cell.Int (pos 0))) st').memory =
-            kept_then s (below n) (below k) (below n) before st'.memory (with_temp s k (unwrap_or x (cell.Int (pos 0))) st').memory (kept_then s (below n) all (below n) before at st'.memory kb q.after.kept (λ j g. g) (λ j g. tt)) h.kept (λ j g. g) (λ j g. omega (arith, le, g)) in
-        (refl, all_kept, subst (λ r. Same (GivesNear s (below n) before (SameCell (Some (Int u)))) (gives w st) (evaluated r (with_temp s k (unwrap_or x (cell.Int (pos 0))) st') (λ z. gives z)))
-        (sym (temp_read s k (unwrap_or x (cell.Int (pos 0))) (with_temp s k (unwrap_or x (cell.Int (pos 0))) st').memory h.cell))
-        (record { near = near s st (with_temp s k (unwrap_or x (cell.Int (pos 0))) st') h.alike; kept = all_kept; facts = q.facts.3 ∙ ap (λ z. core_cell (cell_of z)) (sym q.facts.1) }))
+        kept_then s (below n) (below k) (below n) before st'.memory (with_temp s k (unwrap_or x (cell.Int (pos 0))) st').memory (kept_then s (below n) all (below n) before at st'.memory kb q.after.kept (λ j g. g) (λ j g. tt)) h.kept (λ j g. g) (λ j g. omega (arith, le, g)) in (
+          refl,
+          all_kept,
+          subst (λ r. Same (GivesNear s (below n) before (SameCell (Some (Int u)))) (gives w st) (evaluated r (with_temp s k (unwrap_or x (cell.Int (pos 0))) st') (λ z. gives z)))
+              (sym (temp_read s k (unwrap_or x (cell.Int (pos 0))) (with_temp s k (unwrap_or x (cell.Int (pos 0))) st').memory h.cell))
+              (record { near = near s st (with_temp s k (unwrap_or x (cell.Int (pos 0))) st') h.alike; kept = all_kept; facts = q.facts.3 ∙ ap (λ z. core_cell (cell_of z)) (sym q.facts.1) }),
+        )
 held_result s n k before at ty u (gives w st) (trapped trap span st') fits far le there kb q = absurd q
 held_result s n k before at ty u (gives w st) (spent st') fits far le there kb q = absurd q
 held_result s n k before at ty u (trapped trap span st) (gives x st') fits far le there kb q = absurd q

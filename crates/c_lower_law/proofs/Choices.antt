@@ -54,9 +54,12 @@ hold_after {A} {B} {X} s n l k ty F G source stmts ask e1 f fits far le le1 ther
     held a st1 st1' q made =
         let w : Holds s k made.0 st1'.memory st1 (with_temp s k made.0 st1') = temp_given s k made.0 ty st1 st1' fits far there q.alike in
         let kept : Kept s (below l) st'.memory (with_temp s k made.0 st1').memory = kept_then s (below n) (below k) (below l) st'.memory st1'.memory (with_temp s k made.0 st1').memory q.kept w.kept (λ j h. omega (arith, le, h)) (λ j h. omega (arith, le1, h)) in
-        subst (λ o. SameAsked (Kept s (below l) st'.memory) (Gives s (below l) st'.memory G) (cell_asked s (temp k)) (gives (f a) st1) o) (sym (hold_then s k e1 [] made.0 st1' made.1))
-        (refl, kept, subst (λ r. Same (Gives s (below l) st'.memory G) (gives (f a) st1) (evaluated r (with_temp s k made.0 st1') (λ z. gives z))) (sym (temp_read s k made.0 (with_temp s k made.0 st1').memory w.cell))
-        (record { after = record { alike = w.alike; kept = kept }; facts = made.2 }))
+        subst (λ o. SameAsked (Kept s (below l) st'.memory) (Gives s (below l) st'.memory G) (cell_asked s (temp k)) (gives (f a) st1) o) (sym (hold_then s k e1 [] made.0 st1' made.1)) (
+          refl,
+          kept,
+          subst (λ r. Same (Gives s (below l) st'.memory G) (gives (f a) st1) (evaluated r (with_temp s k made.0 st1') (λ z. gives z))) (sym (temp_read s k made.0 (with_temp s k made.0 st1').memory w.cell))
+              (record { after = record { alike = w.alike; kept = kept }; facts = made.2 }),
+        )
 
 -- the same behind an expression that stays as it is
 pub hold_value : {A : Type 0} (s : Scene) (n l k : ℕ) (ty : VarTy) (F : A → core.Cell → Type 0) (source : State → Outcome A) (stmts : List StmtTree) (e1 : t.ExprTree) →

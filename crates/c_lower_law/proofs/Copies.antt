@@ -227,10 +227,12 @@ copied_to {A} {X} s n k F ask f locs vals xs to of fits h made st st' al =
         SameAsked (Kept s (below n) st'.memory) (GivesNear s (below n) st'.memory F) ask (store at w st1 >>= λ u. gives (f at u)) (run_all s (copy to of ∷ []) st1')
     copied_on at w st1 at' zs st1' a q hc there is m1 =
         subst (λ w1. SameAsked (Kept s (below n) st'.memory) (GivesNear s (below n) st'.memory F) ask (store at w1 st1 >>= λ u. gives (f at u)) (run_all s (copy to of ∷ []) st1')) (sym hc.is)
-        (subst (λ o. SameAsked (Kept s (below n) st'.memory) (GivesNear s (below n) st'.memory F) ask (store at (whole hc.cells) st1 >>= λ u. gives (f at u)) o) (sym (copy_ok s k to of at' (map core_cell hc.cells) st1' q.ty there (asked_from s k of (map core_cell hc.cells) st1'.memory (is ∙ ap (λ ys. Ok ys) hc.same))))
-        (refl, kept_copied s n (Struct k) at at' st'.memory st1'.memory (map core_cell hc.cells) q a.kept,
-        subst (λ r. Same (GivesNear s (below n) st'.memory F) (gives (f at (whole hc.cells)) (record st1 { memory = write_all st1.memory at.block at.cell hc.cells })) (evaluated r (with_copied at' (map core_cell hc.cells) st1') (λ z. gives z))) (sym m1.1)
-        (record { near = near_copied s (Struct k) at at' hc.cells st1 st1' fits a.alike q; kept = kept_copied s n (Struct k) at at' st'.memory st1'.memory (map core_cell hc.cells) q a.kept; facts = m1.2 })))
+        (subst (λ o. SameAsked (Kept s (below n) st'.memory) (GivesNear s (below n) st'.memory F) ask (store at (whole hc.cells) st1 >>= λ u. gives (f at u)) o) (sym (copy_ok s k to of at' (map core_cell hc.cells) st1' q.ty there (asked_from s k of (map core_cell hc.cells) st1'.memory (is ∙ ap (λ ys. Ok ys) hc.same)))) (
+          refl,
+          kept_copied s n (Struct k) at at' st'.memory st1'.memory (map core_cell hc.cells) q a.kept,
+          subst (λ r. Same (GivesNear s (below n) st'.memory F) (gives (f at (whole hc.cells)) (record st1 { memory = write_all st1.memory at.block at.cell hc.cells })) (evaluated r (with_copied at' (map core_cell hc.cells) st1') (λ z. gives z))) (sym m1.1)
+              (record { near = near_copied s (Struct k) at at' hc.cells st1 st1' fits a.alike q; kept = kept_copied s n (Struct k) at at' st'.memory st1'.memory (map core_cell hc.cells) q a.kept; facts = m1.2 }),
+        ))
 
 -- as a place
 pub copied_place : (s : Scene) (n j k : ℕ) (locs : State → Outcome Location) (vals : State → Outcome Value) (xs : List StmtTree) (to of : PlaceTree) → SceneFits s → OnTemps s j to → IsNext s (Both (IsPlace s (Struct k)) (IsObject s k)) n (pair_of locs vals) xs (both (place_asked s to) (object_asked s of k)) →
@@ -244,6 +246,8 @@ pub copied_object : (s : Scene) (n j k : ℕ) (locs : State → Outcome Location
     IsNear s HasCells n (λ st. locs st >>= λ at st1. vals st1 >>= λ w st2. store at w st2 >>= λ u. gives u) (xs ++ copy to of ∷ []) (object_asked s to k)
 copied_object s n j k locs vals xs to of fits on h =
     copied_to s n k HasCells (object_asked s to k) (λ at u. u) locs vals xs to of fits h
-    (λ at w at' zs st1 st1' q a p there. (map core_cell q.cells,
-    ap (λ r. r >>? λ l1. Ok (cells_at (with_copied at' (map core_cell q.cells) st1').memory l1 (cells_by (sizes_in s) (Struct k)))) (copied_again s j (Struct k) at at' to st1'.memory (map core_cell q.cells) on p there) ∙ ap (λ ys. Ok ys) (copied_cells s k at at' q.cells st1 st1' a p (whole_length s k w zs q)),
-    record { cells = q.cells; is = refl; same = refl }))
+    (λ at w at' zs st1 st1' q a p there. (
+      map core_cell q.cells,
+      ap (λ r. r >>? λ l1. Ok (cells_at (with_copied at' (map core_cell q.cells) st1').memory l1 (cells_by (sizes_in s) (Struct k)))) (copied_again s j (Struct k) at at' to st1'.memory (map core_cell q.cells) on p there) ∙ ap (λ ys. Ok ys) (copied_cells s k at at' q.cells st1 st1' a p (whole_length s k w zs q)),
+      record { cells = q.cells; is = refl; same = refl },
+    ))

@@ -93,9 +93,10 @@ own_types (x ∷ xs) temps (suc k) ty h = own_types xs temps k ty h
 
 pub temps_there : (before : List VarTy) (temps : List Temp) (types : List VarTy) (n : ℕ) → n ≡ length before → types ≡ before ++ map (λ (y : Var). y.ty) (map variable_of temps) → HasTemps types n temps
 temps_there before [] types n e is = tt
-temps_there before (x ∷ xs) types n e is =
-    (ap (λ z. slice_get z n) is ∙ at_end before x.ty (map (λ (y : Var). y.ty) (map variable_of xs)) n e,
-    temps_there (before ++ x.ty ∷ []) xs types (suc n) (next before x.ty n e) (is ∙ shifted before x.ty (map (λ (y : Var). y.ty) (map variable_of xs))))
+temps_there before (x ∷ xs) types n e is = (
+  ap (λ z. slice_get z n) is ∙ at_end before x.ty (map (λ (y : Var). y.ty) (map variable_of xs)) n e,
+  temps_there (before ++ x.ty ∷ []) xs types (suc n) (next before x.ty n e) (is ∙ shifted before x.ty (map (λ (y : Var). y.ty) (map variable_of xs))),
+)
   where
     at_end : (before : List VarTy) (u : VarTy) (rest : List VarTy) (n : ℕ) → n ≡ length before → slice_get (before ++ u ∷ rest) n ≡ Some u
     at_end [] u rest n e = ap (λ z. slice_get (u ∷ rest) z) e

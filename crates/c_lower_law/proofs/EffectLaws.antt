@@ -211,8 +211,8 @@ assign_scalar_runs p a lp la at ty s n u k h is scalar from temps =
     let ts = subst (λ z. HasTemps s.core_variables n (l.assigned z (fixed_if (not (is_pure a)) n (place_in (scope_of s) p n)) (object_in (scope_of s) a (past n (fixed_if (not (is_pure a)) n (place_in (scope_of s) p n)).temps)) (value_in (scope_of s) a (past n (fixed_if (not (is_pure a)) n (place_in (scope_of s) p n)).temps))).temps) plain temps in
     let pl = lp s n u k q.there (q.place_is ∙ is) from (fixed_first s.core_variables n (not (is_pure a)) (place_in (scope_of s) p n) (temps_first s.core_variables n (fixed_if (not (is_pure a)) n (place_in (scope_of s) p n)).temps (value_in (scope_of s) a (past n (fixed_if (not (is_pure a)) n (place_in (scope_of s) p n)).temps)).temps ts)) in
     let pr = second_typed s n u (ty_of a) (Some u) (pair_of (location_of p (context_of s)) (value_of a (context_of s))) ((fixed_if (not (is_pure a)) n (place_in (scope_of s) p n)).stmts ++ (value_in (scope_of s) a (past n (fixed_if (not (is_pure a)) n (place_in (scope_of s) p n)).temps)).stmts)
-        (both (place_asked s (fixed_if (not (is_pure a)) n (place_in (scope_of s) p n)).place) (cell_asked s (value_in (scope_of s) a (past n (fixed_if (not (is_pure a)) n (place_in (scope_of s) p n)).temps)).value)) (q.a_is ∙ is)
-        (paired s n u (not (is_pure a)) p a k from (was_true (is_pure a)) q.can q.typed_a (ap is_struct (q.a_is ∙ is) ∙ scalar_struct u scalar) ts pl la) in
+    (both (place_asked s (fixed_if (not (is_pure a)) n (place_in (scope_of s) p n)).place) (cell_asked s (value_in (scope_of s) a (past n (fixed_if (not (is_pure a)) n (place_in (scope_of s) p n)).temps)).value)) (q.a_is ∙ is)
+    (paired s n u (not (is_pure a)) p a k from (was_true (is_pure a)) q.can q.typed_a (ap is_struct (q.a_is ∙ is) ∙ scalar_struct u scalar) ts pl la) in
     subst (λ z. RunsNear s n (value_of (typed at ty (x.assign p a)) (context_of s)) (l.assigned z (fixed_if (not (is_pure a)) n (place_in (scope_of s) p n)) (object_in (scope_of s) a (past n (fixed_if (not (is_pure a)) n (place_in (scope_of s) p n)).temps)) (value_in (scope_of s) a (past n (fixed_if (not (is_pure a)) n (place_in (scope_of s) p n)).temps))).stmts) (sym plain)
     (given_dropped s n u (location_of p (context_of s)) (value_of a (context_of s)) ((fixed_if (not (is_pure a)) n (place_in (scope_of s) p n)).stmts ++ (value_in (scope_of s) a (past n (fixed_if (not (is_pure a)) n (place_in (scope_of s) p n)).temps)).stmts) (fixed_if (not (is_pure a)) n (place_in (scope_of s) p n)).place (value_in (scope_of s) a (past n (fixed_if (not (is_pure a)) n (place_in (scope_of s) p n)).temps)).value k scalar pr)
 

@@ -207,9 +207,11 @@ pub entering_room : (w : World) (structs : List StructInfo) (vars : List Var) (t
 entering_room w structs vars temps d ps vs blocks n lead args scalar far small =
     let h = fresh_room structs vars temps n scalar far small in
     let few = arguments_few w (map (λ (y : Var). y.ty) vars) ps vs lead args in
-    let count = length_of_types vars in
-    (h.0, ap (λ (z : b.Block). z.cells) (arguments_apart (argument_cells vs) (bs.with_frame blocks d (shapes_of structs (vars ++ map variable_of temps))) d 0 (Local d n) (λ j from to. other_variable d j n (is_other j n (λ q. no_argument j (length (argument_cells vs)) (length (map (λ (y : Var). y.ty) vars)) to few count q)))
-    ∙ framed blocks d n (shapes_of structs (vars ++ map variable_of temps))) ∙ h.1)
+    let count = length_of_types vars in (
+      h.0,
+      ap (λ (z : b.Block). z.cells) (arguments_apart (argument_cells vs) (bs.with_frame blocks d (shapes_of structs (vars ++ map variable_of temps))) d 0 (Local d n) (λ j from to. other_variable d j n (is_other j n (λ q. no_argument j (length (argument_cells vs)) (length (map (λ (y : Var). y.ty) vars)) to few count q)))
+          ∙ framed blocks d n (shapes_of structs (vars ++ map variable_of temps))) ∙ h.1,
+    )
   where
     no_argument : (j a t : ℕ) → j < 0 + a → a ≤ t → t ≡ length vars → j ≡ n → ⊥
     no_argument j a t to few count q = omega (arith, to, few, count, q, far)

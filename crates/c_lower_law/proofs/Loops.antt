@@ -230,9 +230,10 @@ flagged_loop s result k source back xs sp fits from there at_first later st st' 
         subst (λ o. Same (Lap s result k st'.memory (Tells s k)) (source true st1) o)
         (sym (choose_yes s (temp k) (hold k (number 0) ∷ []) back xs (Int (pos 1)) st1' (temp_read s k (Int (pos 1)) st1'.memory told) refl ∙ hold_then s k (number 0) xs (Int (pos 0)) st1' refl))
         (same_weaken (GivesRound s result (k + 1) (with_temp s k (Int (pos 0)) st1').memory) (Lap s result k st'.memory (Tells s k)) (source true st1) (run_all s xs (with_temp s k (Int (pos 0)) st1')) (at_first st1 (with_temp s k (Int (pos 0)) st1') given.alike)
-        (λ round st2 flow' st2' g.
-        (round_up s result k (k + 1) st'.memory (with_temp s k (Int (pos 0)) st1').memory round st2 flow' st2' (omega arith) (kept_then s (below k) (below k) (below k) st'.memory st1'.memory (with_temp s k (Int (pos 0)) st1').memory h.kept given.kept (λ j less. less) (λ j less. less)) g,
-        temp_kept s (k + 1) k (with_temp s k (Int (pos 0)) st1').memory st2'.memory (Int (pos 0)) fits g.after.kept from (omega arith) given.cell)))
+        (λ round st2 flow' st2' g. (
+          round_up s result k (k + 1) st'.memory (with_temp s k (Int (pos 0)) st1').memory round st2 flow' st2' (omega arith) (kept_then s (below k) (below k) (below k) st'.memory st1'.memory (with_temp s k (Int (pos 0)) st1').memory h.kept given.kept (λ j less. less) (λ j less. less)) g,
+          temp_kept s (k + 1) k (with_temp s k (Int (pos 0)) st1').memory st2'.memory (Int (pos 0)) fits g.after.kept from (omega arith) given.cell,
+        )))
     each false st1 st1' h told =
         subst (λ o. Same (Lap s result k st'.memory (Tells s k)) (source false st1) o) (sym (choose_no s (temp k) (hold k (number 0) ∷ []) back xs (Int (pos 0)) st1' (temp_read s k (Int (pos 0)) st1'.memory told) refl))
         (same_weaken (GivesRound s result (k + 1) st1'.memory) (Lap s result k st'.memory (Tells s k)) (source false st1) (run_all s (back ++ xs) st1') (later st1 st1' h.alike)

@@ -276,7 +276,7 @@ main_runs program n g deep hosts input turns agree scalar h is has main int no_p
     let code = code_of program g main_frame (f.calls_within program deep) in
     let stmts = (lowered_body program g has.body).stmts in
     let same = agree s program.exprs g.signature.result has.body false false nowhere (length g.vars) (source_begins program g deep hosts input turns) begins (main_fits program g has.body deep agree scalar h) has.sound (small_body program n g has.body h is has.is) tt (omega arith) (has_temps g.vars (temps_of program g has.body)) tt
-        (main_alike program n g has.body deep hosts input turns (scalar n g has.body is has.is) h is no_params) in
+    (main_alike program n g has.body deep hosts input turns (scalar n g has.body is has.is) h is no_params) in
     ap (λ e. r.run_of turns (run_all s (stmts ++ e) begins >>= calls.returned_from g.signature.result (brace_of has.body) 1)) (end_of_main g.signature main)
     ∙ ap (λ o. r.run_of turns (o >>= calls.returned_from g.signature.result (brace_of has.body) 1)) (run_append s stmts zero_given begins)
     ∙ ap (λ z. r.run_of turns ((run_all s stmts begins >>= after_flow (run_all s zero_given)) >>= calls.returned_from z (brace_of has.body) 1)) int
@@ -296,7 +296,7 @@ run_kept agree scalar program hosts input turns h =
     let named = main_named program h n g main.is is_named in
     let sound = all_at (function_sound program) program.functions n g (facts program h).functions main.is in
     let has = body_given program g g.body refl (left (is_some g.body) (is_int_result g.signature.result && nat_eq (length g.signature.params) 0) second)
-        (right (list_all (variable_sound program.structs) g.vars) (body_sound program g g.body) (right (nat_le (length g.signature.params) 8 && params_lead g.signature.params g.vars) (list_all (variable_sound program.structs) g.vars && body_sound program g g.body) sound)) in
+    (right (list_all (variable_sound program.structs) g.vars) (body_sound program g g.body) (right (nat_le (length g.signature.params) 8 && params_lead g.signature.params g.vars) (list_all (variable_sound program.structs) g.vars && body_sound program g g.body) sound)) in
     ap (core_main_at program (deepest - 1) hosts input turns) (core_main program n named)
     ∙ ap (λ e. core_main_as program (deepest - 1) hosts input turns e (signature_in (core_program program) n)) (function_found program n g has.body main.is has.is)
     ∙ ap (core_main_as program (deepest - 1) hosts input turns (core_of program n g has.body)) (signature_is program n g main.is)

@@ -129,9 +129,12 @@ pub named_runs : (s : Scene) (n : ℕ) (u : VarTy) (root : RootTree) (at : Locat
 named_runs s n u root at at' p k h is e1 e2 asks same_block same_cell same_ty st st' al =
     let fit = subst (λ o. Keeps (world_of s) (LocationFits (world_of s) (Some u)) o) (e1 st) (root_keeps root (world_of s) s.names (context_of s) st u k.fits h is al.fits) in
     let lies = subst (λ o. KeepsSizes (world_of s) (sizes_in s) (LiesWithin (world_of s) (sizes_in s)) o) (e2 st) (place_sized (place root no_steps) (world_of s) s.names (context_of s) st u (setup s k) (and_true (root_fits s.names root) h) is al.fits al.sized) in
-    subst (λ o. SameAsked (Kept s (below n) st'.memory) (Gives s (below n) st'.memory (IsPlace s u)) (place_asked s p) o (gives goes_on st')) (sym (e1 st))
-    (refl, kept_same s (below n) st'.memory, subst (λ r1. Same (Gives s (below n) st'.memory (IsPlace s u)) (gives at st) (evaluated r1 st' (λ l1. gives l1))) (sym (asks st'.memory))
-    (record { after = record { alike = al; kept = kept_same s (below n) st'.memory }; facts = record { fits = fit.0; within = lies.0; block = same_block; cell = same_cell; ty = same_ty } }))
+    subst (λ o. SameAsked (Kept s (below n) st'.memory) (Gives s (below n) st'.memory (IsPlace s u)) (place_asked s p) o (gives goes_on st')) (sym (e1 st)) (
+      refl,
+      kept_same s (below n) st'.memory,
+      subst (λ r1. Same (Gives s (below n) st'.memory (IsPlace s u)) (gives at st) (evaluated r1 st' (λ l1. gives l1))) (sym (asks st'.memory))
+          (record { after = record { alike = al; kept = kept_same s (below n) st'.memory }; facts = record { fits = fit.0; within = lies.0; block = same_block; cell = same_cell; ty = same_ty } }),
+    )
   where
     and_true : (b : Bool) → b ≡ true → (b && true) ≡ true
     and_true true h = refl
@@ -199,11 +202,11 @@ item_found s n can a w ex sp root before source far fits from law h is temps g =
     let fty : far.ty ≡ Array el.elem el.count = g.lowered.named ∙ ais in
     let tyis : decayed_type far.fixed far.ty ≡ Pointer el.elem far.fixed = ap (decayed_type far.fixed) fty in
     let bp : PointerType s (Some (Pointer el.elem far.fixed)) (item_base sp root before far ex n).value =
-        held_pointer s n (record { stmts = far.stmts; value = t.decay far.place; temps = far.temps }) (not (is_pure ex)) (holding (decayed_type far.fixed far.ty) (decayed sp (x.place root (x.step_trees before)) far)) (Pointer el.elem far.fixed) tyis bt
-        (decay_pointer s el.elem el.count (Some (Pointer el.elem far.fixed)) far.fixed far.place place1.lowered.type refl) in
+    held_pointer s n (record { stmts = far.stmts; value = t.decay far.place; temps = far.temps }) (not (is_pure ex)) (holding (decayed_type far.fixed far.ty) (decayed sp (x.place root (x.step_trees before)) far)) (Pointer el.elem far.fixed) tyis bt
+    (decay_pointer s el.elem el.count (Some (Pointer el.elem far.fixed)) far.fixed far.place place1.lowered.type refl) in
     let pair = first_then s n (record { stmts = far.stmts; value = t.decay far.place; temps = far.temps }) (not (is_pure ex)) (holding (decayed_type far.fixed far.ty) (decayed sp (x.place root (x.step_trees before)) far)) (IsArray s el.elem el.count) (IsValue s (ty_of ex)) source (value_of ex (context_of s))
-        (value_in (scope_of s) ex (past n (item_base sp root before far ex n).temps)).stmts (cell_asked s (value_in (scope_of s) ex (past n (item_base sp root before far ex n).temps)).value) fits from bt (array_runs s n el.elem el.count source far.stmts far.place place1.lowered.runs) v1.runs
-        (λ e1. (pure_value ex (scope_of s) (past n (item_base sp root before far ex n).temps) (was_true (is_pure ex) e1)).stmts_none) in
+    (value_in (scope_of s) ex (past n (item_base sp root before far ex n).temps)).stmts (cell_asked s (value_in (scope_of s) ex (past n (item_base sp root before far ex n).temps)).value) fits from bt (array_runs s n el.elem el.count source far.stmts far.place place1.lowered.runs) v1.runs
+    (λ e1. (pure_value ex (scope_of s) (past n (item_base sp root before far ex n).temps) (was_true (is_pure ex) e1)).stmts_none) in
     found_typed s (type_of_elem el.elem) w n true (λ st. source st >>= step_location_of s ex sp) (item_next (scope_of s) sp root before far ex n) (sym (some_same w (type_of_elem el.elem) el.to))
     (record {
       lowered = subst (λ z. PlaceLowered s (type_of_elem el.elem) n true (λ st. source st >>= step_location_of s ex sp) (l.element_place sp (decayed sp (x.place root (x.step_trees before)) far) ex z (item_base sp root before far ex n) (value_in (scope_of s) ex (past n (item_base sp root before far ex n).temps)))) (sym tyis)
@@ -307,7 +310,7 @@ chain_law a links la ll at ty s n k h ns from temps =
     let ta = links_first links (scope_of s) s.core_variables a [] at (e.type_of a) (value_in (scope_of s) a n) n temps in
     let va = la s n k (left (is_typed s.names a) (has_links links && links_fit s.names (ty_of a) links ty) h) (not_struct (ty_of a) st) from ta in
     let c0 = ll s n a [] at (e.type_of a) ty (value_in (scope_of s) a n) (value_of a (context_of s)) k from (subst (λ z. IsTrue (links_fit s.names z links ty)) sc.is fit) temps
-        (record { type = subst (λ z. PointerType s z (value_in (scope_of s) a n).value) sc.is va.type; runs = value_cell s n (ty_of a) (Some (e.type_of a)) (value_of a (context_of s)) (value_in (scope_of s) a n).stmts (cell_asked s (value_in (scope_of s) a n).value) sc.is va.runs }) in
+    (record { type = subst (λ z. PointerType s z (value_in (scope_of s) a n).value) sc.is va.type; runs = value_cell s n (ty_of a) (Some (e.type_of a)) (value_of a (context_of s)) (value_in (scope_of s) a n).stmts (cell_asked s (value_in (scope_of s) a n).value) sc.is va.runs }) in
     record {
       type = c0.type;
       runs = value_settled s (typed at ty (x.chain a links)) n (form_in (scope_of s) (x.chain a links) at ty n).stmts (cell_asked s (form_in (scope_of s) (x.chain a links) at ty n).value) k h
@@ -336,7 +339,7 @@ logical_law op a others la lo1 at ty s n k h ns from temps =
     let there = temp_there s.core_variables n (value_in (scope_of s) a n).temps (holding int (typed at ty (x.logical op a others))) [] ts in
     let va = la s n k (left (is_typed s.names a) (is_scalar (ty_of a)) first) (not_struct (ty_of a) st) from (temps_first s.core_variables n (value_in (scope_of s) a n).temps (holding int (typed at ty (x.logical op a others)) ∷ []) ts) in
     let held = truth_held s n n (past n (value_in (scope_of s) a n).temps) (e.type_of a) int at (value_of a (context_of s)) (value_in (scope_of s) a n).stmts (value_in (scope_of s) a n).value k (past_from (length s.names.vars) n (value_in (scope_of s) a n).temps from) (omega arith) (omega arith) there sc.scalar
-        (value_typed s n (ty_of a) (Some (e.type_of a)) (value_of a (context_of s)) (value_in (scope_of s) a n).stmts (cell_asked s (value_in (scope_of s) a n).value) sc.is va.runs) in
+    (value_typed s n (ty_of a) (Some (e.type_of a)) (value_of a (context_of s)) (value_in (scope_of s) a n).stmts (cell_asked s (value_in (scope_of s) a n).value) sc.is va.runs) in
     let c0 = lo1 s n op (past n (value_in (scope_of s) a n).temps) (started (typed at ty (x.logical op a others)) (past n (value_in (scope_of s) a n).temps) (e.type_of a) at (value_in (scope_of s) a n)) (λ st1. value_of a (context_of s) st1 >>= λ w. gives (is_true w)) k from (omega arith) (later n (past n (value_in (scope_of s) a n).temps) (value_in (scope_of s) a n).temps (holding int (typed at ty (x.logical op a others)) ∷ []) (omega arith)) there all1 temps held in
     record {
       type = λ elem fixed e1. int_pointer ty elem fixed is e1;
@@ -407,7 +410,6 @@ of_arm (Some (Struct n)) h = never h
 of_result : (o : Option IntType) → is_struct (option_map Int o) ≡ false
 of_result None = refl
 of_result (Some u) = refl
-
 
 pub unary_struct : (op : UnOp) (a : ExprTree) (ty : Option VarTy) (s : Scene) → IsTrue (form_fits s.names (x.unary op a) ty) → is_struct ty ≡ false
 unary_struct op a ty s h = of_unary op (ty_of a) ty (right (is_typed s.names a) (unary_fits op (ty_of a) ty) h)
@@ -480,8 +482,8 @@ choice_runs_law a b d la lb ld at ty s n k h from temps =
     let t1 = temps_first s.core_variables n (value_in (scope_of s) a n).temps [] t2 in
     let tb = subst (λ z. HasTemps s.core_variables z (effects_in (scope_of s) b (past n (value_in (scope_of s) a n).temps)).temps) (ap (past n) (append_nothing (value_in (scope_of s) a n).temps)) (temps_rest s.core_variables n ((value_in (scope_of s) a n).temps ++ []) (effects_in (scope_of s) b (past n (value_in (scope_of s) a n).temps)).temps t3) in
     let td = subst (λ z. HasTemps s.core_variables z (effects_in (scope_of s) d (past (past n (value_in (scope_of s) a n).temps) (effects_in (scope_of s) b (past n (value_in (scope_of s) a n).temps)).temps)).temps)
-        (ap (λ xs. past n (xs ++ (effects_in (scope_of s) b (past n (value_in (scope_of s) a n).temps)).temps)) (append_nothing (value_in (scope_of s) a n).temps) ∙ past_append n (value_in (scope_of s) a n).temps (effects_in (scope_of s) b (past n (value_in (scope_of s) a n).temps)).temps)
-        (temps_rest s.core_variables n (((value_in (scope_of s) a n).temps ++ []) ++ (effects_in (scope_of s) b (past n (value_in (scope_of s) a n).temps)).temps) (effects_in (scope_of s) d (past (past n (value_in (scope_of s) a n).temps) (effects_in (scope_of s) b (past n (value_in (scope_of s) a n).temps)).temps)).temps temps) in
+    (ap (λ xs. past n (xs ++ (effects_in (scope_of s) b (past n (value_in (scope_of s) a n).temps)).temps)) (append_nothing (value_in (scope_of s) a n).temps) ∙ past_append n (value_in (scope_of s) a n).temps (effects_in (scope_of s) b (past n (value_in (scope_of s) a n).temps)).temps)
+    (temps_rest s.core_variables n (((value_in (scope_of s) a n).temps ++ []) ++ (effects_in (scope_of s) b (past n (value_in (scope_of s) a n).temps)).temps) (effects_in (scope_of s) d (past (past n (value_in (scope_of s) a n).temps) (effects_in (scope_of s) b (past n (value_in (scope_of s) a n).temps)).temps)).temps temps) in
     let va = la s n k (left (is_typed s.names a) (is_scalar (ty_of a)) test) (not_struct (ty_of a) st) from t1 in
     choice_runs s n (past n (value_in (scope_of s) a n).temps) (past (past n (value_in (scope_of s) a n).temps) (effects_in (scope_of s) b (past n (value_in (scope_of s) a n).temps)).temps) (e.type_of a) (value_of a (context_of s)) (value_of b (context_of s)) (value_of d (context_of s)) (value_in (scope_of s) a n).stmts
     (effects_in (scope_of s) b (past n (value_in (scope_of s) a n).temps)).stmts (effects_in (scope_of s) d (past (past n (value_in (scope_of s) a n).temps) (effects_in (scope_of s) b (past n (value_in (scope_of s) a n).temps)).temps)).stmts (value_in (scope_of s) a n).value sc.scalar (omega arith) (omega arith)

@@ -122,4 +122,3 @@ section_run s result mode n n' k m ch sp first second body xs fits from near oth
   where
     more : (a c : ℕ) → a ≤ c → int_le (pos a) (pos c) ≡ true
     more a c h = grind (arith, nat_tests, ints)
-

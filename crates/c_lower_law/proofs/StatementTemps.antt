@@ -138,9 +138,11 @@ mutual
       let back = stepped (code_for c) (Some u) (j + 1) in
       let t = tested (code_for c) test (past (j + 1) back.temps) in
       let body = statement_in (code_for c) a to_head (past (past (j + 1) back.temps) t.temps) in
-      scalar_both first.temps (counting int ∷ (back.temps ++ (t.temps ++ body.temps))) (begun_scalar c i k (left (for_init_fits c i) (option_fits c is_scalar test && (option_fits c any_type (Some u) && is_sound c true true a)) h))
-      (tt, scalar_both back.temps (t.temps ++ body.temps) (stepped_scalar c any_type (Some u) (j + 1) (left (option_fits c any_type (Some u)) (is_sound c true true a) more))
-      (scalar_both t.temps body.temps (tested_scalar c is_scalar test (past (j + 1) back.temps) (left (option_fits c is_scalar test) (option_fits c any_type (Some u) && is_sound c true true a) rest)) (statement_scalar a c true true to_head (past (past (j + 1) back.temps) t.temps) (right (option_fits c any_type (Some u)) (is_sound c true true a) more))))
+      scalar_both first.temps (counting int ∷ (back.temps ++ (t.temps ++ body.temps))) (begun_scalar c i k (left (for_init_fits c i) (option_fits c is_scalar test && (option_fits c any_type (Some u) && is_sound c true true a)) h)) (
+        tt,
+        scalar_both back.temps (t.temps ++ body.temps) (stepped_scalar c any_type (Some u) (j + 1) (left (option_fits c any_type (Some u)) (is_sound c true true a) more))
+            (scalar_both t.temps body.temps (tested_scalar c is_scalar test (past (j + 1) back.temps) (left (option_fits c is_scalar test) (option_fits c any_type (Some u) && is_sound c true true a) rest)) (statement_scalar a c true true to_head (past (past (j + 1) back.temps) t.temps) (right (option_fits c any_type (Some u)) (is_sound c true true a) more))),
+      )
   statement_scalar (give_back at None) c out again mode k h = tt
   statement_scalar (give_back at (Some e)) c out again mode k h = outer_value c (λ t. both_int (integer_of t) c.result) e k h
   statement_scalar (stop_loop at) c out again mode k h = tt

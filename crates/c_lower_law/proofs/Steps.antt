@@ -59,9 +59,12 @@ unit_value s (Struct n) blocks h = absurd h
 unit_value s (Array elem count) blocks h = absurd h
 
 pub one_runs : (s : Scene) (n : ℕ) (u : VarTy) → Scalar u → IsNext s (IsValue s (Some (Int i.Int))) n one [] (cell_asked s (unit_of u))
-one_runs s n u scalar st st' a =
-    (refl, (λ d k far own. refl), subst (λ r. Same (Gives s (below n) st'.memory (IsValue s (Some (Int i.Int)))) (one st) (evaluated r st' (λ x. gives x))) (sym (unit_value s u st'.memory scalar))
-    (record { after = record { alike = a; kept = λ d k far own. refl }; facts = record { fits = tt; sized = tt; same = refl } }))
+one_runs s n u scalar st st' a = (
+  refl,
+  (λ d k far own. refl),
+  subst (λ r. Same (Gives s (below n) st'.memory (IsValue s (Some (Int i.Int)))) (one st) (evaluated r st' (λ x. gives x))) (sym (unit_value s u st'.memory scalar))
+      (record { after = record { alike = a; kept = λ d k far own. refl }; facts = record { fits = tt; sized = tt; same = refl } }),
+)
 
 -- pointwise equal continuations
 pub bind_same : {A B : Type 0} (o : Outcome A) (f g : A → State → Outcome B) → ((a : A) (st : State) → f a st ≡ g a st) → (o >>= f) ≡ (o >>= g)
@@ -77,11 +80,13 @@ keep_old : (s : Scene) (n k : ℕ) (before : Blocks) (u : VarTy) (sp : Span) (at
     SameAsked (Kept s (below n) before) (GivesNear s (below n) before (SameCell (Some u))) (cell_asked s (temp k)) ((or_trap sp r st >>= λ y. store at (holds y)) >>= λ w. gives (holds old)) (run_all s (assign p e1 ∷ []) st')
 keep_old s n k before u sp at at' old (Ok y) p e1 st st' fits far a q there is held =
     subst (λ o. SameAsked (Kept s (below n) before) (GivesNear s (below n) before (SameCell (Some u))) (cell_asked s (temp k)) (gives (holds old) (record st { memory = write st.memory at.block at.cell y })) o)
-    (sym (assign_ok s p e1 at' (core_cell y) st' (both_ok (place_asked s p) (cell_asked s e1) st'.memory at' there ∙ ap (λ z. z >>? λ x. Ok (at', x)) is)))
-    (refl, kept_after s n u at at' before st'.memory (core_cell y) q a.kept,
-    subst (λ z. Same (GivesNear s (below n) before (SameCell (Some u))) (gives (holds old) (record st { memory = write st.memory at.block at.cell y })) (evaluated z (with_written at' (core_cell y) st') (λ x. gives x)))
-    (sym (temp_read s k (core_cell old) (written st'.memory at'.block at'.cell (core_cell y)) (ap (λ (bl : b.Block). bl.cells) (kept_after s (suc k) u at at' st'.memory st'.memory (core_cell y) q (λ d j f1 o. refl) s.frame.depth k (own_far k far) (inr (refl, omega arith))) ∙ held)))
-    (record { near = near_written s u at at' y st st' fits a.alike q; kept = kept_after s n u at at' before st'.memory (core_cell y) q a.kept; facts = refl }))
+    (sym (assign_ok s p e1 at' (core_cell y) st' (both_ok (place_asked s p) (cell_asked s e1) st'.memory at' there ∙ ap (λ z. z >>? λ x. Ok (at', x)) is))) (
+      refl,
+      kept_after s n u at at' before st'.memory (core_cell y) q a.kept,
+      subst (λ z. Same (GivesNear s (below n) before (SameCell (Some u))) (gives (holds old) (record st { memory = write st.memory at.block at.cell y })) (evaluated z (with_written at' (core_cell y) st') (λ x. gives x)))
+          (sym (temp_read s k (core_cell old) (written st'.memory at'.block at'.cell (core_cell y)) (ap (λ (bl : b.Block). bl.cells) (kept_after s (suc k) u at at' st'.memory st'.memory (core_cell y) q (λ d j f1 o. refl) s.frame.depth k (own_far k far) (inr (refl, omega arith))) ∙ held)))
+          (record { near = near_written s u at at' y st st' fits a.alike q; kept = kept_after s n u at at' before st'.memory (core_cell y) q a.kept; facts = refl }),
+    )
   where
     own_far : (k : ℕ) → length s.names.vars ≤ k → length (s.frames s.frame.depth) ≤ k
     own_far k far = let own = own_length s fits in omega (arith, own, far)

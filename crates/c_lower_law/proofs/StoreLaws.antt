@@ -97,10 +97,10 @@ choice_law a b d la lb ld at ty s n k h ns from temps =
     let t1 = temps_first s.core_variables n (value_in (scope_of s) a n).temps (holding (type_or_int ty) (typed at ty (x.choice a b d)) ∷ []) t2 in
     let there : slice_get s.core_variables (past n (value_in (scope_of s) a n).temps) ≡ Some (type_or_int ty) = temp_there s.core_variables n (value_in (scope_of s) a n).temps (holding (type_or_int ty) (typed at ty (x.choice a b d))) [] t2 in
     let tb = subst (λ q. HasTemps s.core_variables q (value_in (scope_of s) b (past n (value_in (scope_of s) a n).temps + 1)).temps) (past_one n (value_in (scope_of s) a n).temps (holding (type_or_int ty) (typed at ty (x.choice a b d))))
-        (temps_rest s.core_variables n ((value_in (scope_of s) a n).temps ++ holding (type_or_int ty) (typed at ty (x.choice a b d)) ∷ []) (value_in (scope_of s) b (past n (value_in (scope_of s) a n).temps + 1)).temps t3) in
+    (temps_rest s.core_variables n ((value_in (scope_of s) a n).temps ++ holding (type_or_int ty) (typed at ty (x.choice a b d)) ∷ []) (value_in (scope_of s) b (past n (value_in (scope_of s) a n).temps + 1)).temps t3) in
     let td = subst (λ q. HasTemps s.core_variables q (value_in (scope_of s) d (past (past n (value_in (scope_of s) a n).temps + 1) (value_in (scope_of s) b (past n (value_in (scope_of s) a n).temps + 1)).temps)).temps)
-        (choice_temps n (value_in (scope_of s) a n).temps (value_in (scope_of s) b (past n (value_in (scope_of s) a n).temps + 1)).temps (holding (type_or_int ty) (typed at ty (x.choice a b d))))
-        (temps_rest s.core_variables n (((value_in (scope_of s) a n).temps ++ holding (type_or_int ty) (typed at ty (x.choice a b d)) ∷ []) ++ (value_in (scope_of s) b (past n (value_in (scope_of s) a n).temps + 1)).temps) (value_in (scope_of s) d (past (past n (value_in (scope_of s) a n).temps + 1) (value_in (scope_of s) b (past n (value_in (scope_of s) a n).temps + 1)).temps)).temps temps) in
+    (choice_temps n (value_in (scope_of s) a n).temps (value_in (scope_of s) b (past n (value_in (scope_of s) a n).temps + 1)).temps (holding (type_or_int ty) (typed at ty (x.choice a b d))))
+    (temps_rest s.core_variables n (((value_in (scope_of s) a n).temps ++ holding (type_or_int ty) (typed at ty (x.choice a b d)) ∷ []) ++ (value_in (scope_of s) b (past n (value_in (scope_of s) a n).temps + 1)).temps) (value_in (scope_of s) d (past (past n (value_in (scope_of s) a n).temps + 1) (value_in (scope_of s) b (past n (value_in (scope_of s) a n).temps + 1)).temps)).temps temps) in
     let wa = la s n k (left (is_typed s.names a) (is_scalar (ty_of a)) test) (not_struct (ty_of a) st) from t1 in
     let wb = lb s (past n (value_in (scope_of s) a n).temps + 1) k (left (is_typed s.names b) (same_types (ty_of b) ty) first) (ap is_struct bis ∙ ns) (omega (arith, from)) tb in
     let wd = ld s (past (past n (value_in (scope_of s) a n).temps + 1) (value_in (scope_of s) b (past n (value_in (scope_of s) a n).temps + 1)).temps) k (left (is_typed s.names d) (same_types (ty_of d) ty) second) (ap is_struct dis ∙ ns) (omega (arith, from)) td in
@@ -169,10 +169,10 @@ assign_law p a lp la at ty s n k h ns from temps =
     let to = fixed_if true n (place_in (scope_of s) p n) in
     let ts = subst (λ z. HasTemps s.core_variables n (l.assigned z (fixed_if true n (place_in (scope_of s) p n)) (object_in (scope_of s) a (past n (fixed_if true n (place_in (scope_of s) p n)).temps)) (value_in (scope_of s) a (past n (fixed_if true n (place_in (scope_of s) p n)).temps))).temps) plain temps in
     let pl = lp s n u.u k there (equal_options (place_type s.names p) ty (left (same_types (place_type s.names p) ty) (is_value ty) own) ∙ u.is) from
-        (fixed_first s.core_variables n true (place_in (scope_of s) p n) (temps_first s.core_variables n (fixed_if true n (place_in (scope_of s) p n)).temps (value_in (scope_of s) a (past n (fixed_if true n (place_in (scope_of s) p n)).temps)).temps ts)) in
+    (fixed_first s.core_variables n true (place_in (scope_of s) p n) (temps_first s.core_variables n (fixed_if true n (place_in (scope_of s) p n)).temps (value_in (scope_of s) a (past n (fixed_if true n (place_in (scope_of s) p n)).temps)).temps ts)) in
     let pair = second_typed s n u.u (ty_of a) (Some u.u) (pair_of (location_of p (context_of s)) (value_of a (context_of s))) ((fixed_if true n (place_in (scope_of s) p n)).stmts ++ (value_in (scope_of s) a (past n (fixed_if true n (place_in (scope_of s) p n)).temps)).stmts)
-        (both (place_asked s (fixed_if true n (place_in (scope_of s) p n)).place) (cell_asked s (value_in (scope_of s) a (past n (fixed_if true n (place_in (scope_of s) p n)).temps)).value)) (ais ∙ u.is)
-        (paired s n u.u true p a k from no_fix can (left (is_typed s.names a) (same_types (ty_of a) ty) of) (ap is_struct ais ∙ ns) ts pl la) in
+    (both (place_asked s (fixed_if true n (place_in (scope_of s) p n)).place) (cell_asked s (value_in (scope_of s) a (past n (fixed_if true n (place_in (scope_of s) p n)).temps)).value)) (ais ∙ u.is)
+    (paired s n u.u true p a k from no_fix can (left (is_typed s.names a) (same_types (ty_of a) ty) of) (ap is_struct ais ∙ ns) ts pl la) in
     subst (λ z. ValueLowered s ty n (value_of (typed at ty (x.assign p a)) (context_of s)) (value_at (l.assigned z (fixed_if true n (place_in (scope_of s) p n)) (object_in (scope_of s) a (past n (fixed_if true n (place_in (scope_of s) p n)).temps)) (value_in (scope_of s) a (past n (fixed_if true n (place_in (scope_of s) p n)).temps))))) (sym plain)
     (record {
       type = λ elem fixed e1. place_pointer s u.u (fixed_if true n (place_in (scope_of s) p n)).place (fixed_place_type s n u.u u.u (place_in (scope_of s) p n) (location_of p (context_of s)) (temps_first s.core_variables n (fixed_if true n (place_in (scope_of s) p n)).temps (value_in (scope_of s) a (past n (fixed_if true n (place_in (scope_of s) p n)).temps)).temps ts) pl.type (pl.stage can)) elem fixed (sym u.is ∙ e1);
@@ -231,7 +231,7 @@ pub compound_law : (p : PlaceTree) (sp : Span) (step : LinkStep) (a : ExprTree) 
 compound_law p sp step a lp la at ty s n k h ns from temps =
     let q = compound_facts s p sp step a ty h in
     let pl = lp s n q.u k q.there (q.place_is ∙ q.is) from
-        (fixed_first s.core_variables n true (place_in (scope_of s) p n) (temps_first s.core_variables n (fixed_if true n (place_in (scope_of s) p n)).temps (value_in (scope_of s) a (past n (fixed_if true n (place_in (scope_of s) p n)).temps)).temps temps)) in
+    (fixed_first s.core_variables n true (place_in (scope_of s) p n) (temps_first s.core_variables n (fixed_if true n (place_in (scope_of s) p n)).temps (value_in (scope_of s) a (past n (fixed_if true n (place_in (scope_of s) p n)).temps)).temps temps)) in
     let pair = paired s n q.u true p a k from no_fix q.can q.typed_a (not_struct (ty_of a) q.operand) temps pl la in
     let same_ty : (fixed_if true n (place_in (scope_of s) p n)).ty ≡ q.u = fixed_type n true (place_in (scope_of s) p n) ∙ pl.named in
     record {

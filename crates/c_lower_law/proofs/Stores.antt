@@ -181,11 +181,13 @@ pub store_read : (s : Scene) (n : ℕ) (before : Blocks) (u : VarTy) (sp : Span)
     SameAsked (Kept s (below n) before) (GivesNear s (below n) before (SameCell (Some u))) (cell_asked s (t.read p)) (or_trap sp r st >>= λ y. store at (holds y)) (run_all s (assign p e1 ∷ []) st')
 store_read s n before u sp at at' (Ok y) p e1 st st' fits a q scalar there again is =
     subst (λ o. SameAsked (Kept s (below n) before) (GivesNear s (below n) before (SameCell (Some u))) (cell_asked s (t.read p)) (gives (holds y) (record st { memory = write st.memory at.block at.cell y })) o)
-    (sym (assign_ok s p e1 at' (core_cell y) st' (both_ok (place_asked s p) (cell_asked s e1) st'.memory at' there ∙ ap (λ z. z >>? λ x. Ok (at', x)) is)))
-    (refl, kept_after s n u at at' before st'.memory (core_cell y) q a.kept,
-    subst (λ z. Same (GivesNear s (below n) before (SameCell (Some u))) (gives (holds y) (record st { memory = write st.memory at.block at.cell y })) (evaluated z (with_written at' (core_cell y) st') (λ x. gives x)))
-    (sym (ap (λ z. z >>? λ l1. Ok (v.cell_in (written st'.memory at'.block at'.cell (core_cell y)) l1)) (again (core_cell y)) ∙ ap (λ z. Ok z) (read_back s u at at' (core_cell y) st st' a.alike q scalar)))
-    (record { near = near_written s u at at' y st st' fits a.alike q; kept = kept_after s n u at at' before st'.memory (core_cell y) q a.kept; facts = refl }))
+    (sym (assign_ok s p e1 at' (core_cell y) st' (both_ok (place_asked s p) (cell_asked s e1) st'.memory at' there ∙ ap (λ z. z >>? λ x. Ok (at', x)) is))) (
+      refl,
+      kept_after s n u at at' before st'.memory (core_cell y) q a.kept,
+      subst (λ z. Same (GivesNear s (below n) before (SameCell (Some u))) (gives (holds y) (record st { memory = write st.memory at.block at.cell y })) (evaluated z (with_written at' (core_cell y) st') (λ x. gives x)))
+          (sym (ap (λ z. z >>? λ l1. Ok (v.cell_in (written st'.memory at'.block at'.cell (core_cell y)) l1)) (again (core_cell y)) ∙ ap (λ z. Ok z) (read_back s u at at' (core_cell y) st st' a.alike q scalar)))
+          (record { near = near_written s u at at' y st st' fits a.alike q; kept = kept_after s n u at at' before st'.memory (core_cell y) q a.kept; facts = refl }),
+    )
 store_read s n before u sp at at' (Err trap) p e1 st st' fits a q scalar there again is =
     stops_same_asked (Kept s (below n) before) (GivesNear s (below n) before (SameCell (Some u))) (cell_asked s (t.read p)) trap sp st st' (run_all s (assign p e1 ∷ []) st') a.alike.seen
     (assign_stops s p e1 (record { trap = trap; span = sp }) st' (both_ok (place_asked s p) (cell_asked s e1) st'.memory at' there ∙ ap (λ z. z >>? λ x. Ok (at', x)) is))

@@ -209,7 +209,7 @@ flagged_end : (s : Scene) (result : Option IntType) (mode : Onward) (n k ch : �
 flagged_end s result mode n k ch sp source body before fits from le there one flag st st' h picks =
     let given = temp_given s (k + 2) (Int (pos 0)) int st st' fits (omega (arith, from, le)) there h.alike in
     let kept : Kept s (below n) before (with_temp s (k + 2) (Int (pos 0)) st').memory =
-        kept_then s (below n) (below (k + 2)) (below n) before st'.memory (with_temp s (k + 2) (Int (pos 0)) st').memory h.kept given.kept (λ j less. less) (λ j less. omega (arith, le, less)) in
+    kept_then s (below n) (below (k + 2)) (below n) before st'.memory (with_temp s (k + 2) (Int (pos 0)) st').memory h.kept given.kept (λ j less. less) (λ j less. omega (arith, le, less)) in
     subst (λ o. Same (GivesFlow s result mode n before) (take_turn st.left st (λ st1. source st1 >>= past_switch)) o) (sym (hold_then s (k + 2) (number 0) (repeat (stmt_trees (body ++ break_out ∷ [])) sp ∷ behind_switch mode (k + 2)) (Int (pos 0)) st' refl))
     (same_weaken (GivesFlow s result mode n (with_temp s (k + 2) (Int (pos 0)) st').memory) (GivesFlow s result mode n before) (take_turn st.left st (λ st1. source st1 >>= past_switch)) (run_all s (repeat (stmt_trees (body ++ break_out ∷ [])) sp ∷ behind_switch mode (k + 2)) (with_temp s (k + 2) (Int (pos 0)) st'))
     (switch_ends s result mode n k ch sp source body fits le one st (with_temp s (k + 2) (Int (pos 0)) st') (flag_kept s mode n 0 before (with_temp s (k + 2) (Int (pos 0)) st').memory fits kept flag)
@@ -226,7 +226,7 @@ cases_end : (s : Scene) (result : Option IntType) (mode : Onward) (n k : ℕ) (y
     (run_all s (cases_from sp u k 0 sections ++ (behind_cases sp k mode body)) st')
 cases_end s result mode n k y value u sections sp source body before fits from le there1 there2 labels is one flag st st' h at_k picks =
     let done = cases_run sections s sp u k 0 (otherwise_of sections) y (behind_cases sp k mode body) st st' fits (omega (arith, from, le)) there1
-        (left (list_all (label_fits u) (labels_of sections)) (labels_distinct (labels_of sections)) labels) h.alike at_k picks in
+    (left (list_all (label_fits u) (labels_of sections)) (labels_distinct (labels_of sections)) labels) h.alike at_k picks in
     subst (λ o. Same (GivesFlow s result mode n before) (take_turn st.left st (λ st1. source st1 >>= past_switch)) o) (sym done.runs)
     (flagged_end s result mode n k (src.chosen sections value) sp source body before fits from le there2 one flag st done.later
     (record { alike = done.alike; kept = kept_then s (below n) (below k) (below n) before st'.memory done.later.memory h.kept done.kept (λ j less. less) (λ j less. omega (arith, le, less)) })
@@ -287,4 +287,3 @@ switch_runs laws s result a u mode n sections sp source body fits found labels f
 
     two_more : (k : ℕ) → suc (suc k) ≡ k + 2
     two_more k = omega arith
-

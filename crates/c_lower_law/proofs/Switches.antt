@@ -220,7 +220,7 @@ cases_run (section_and (section at (Case d z) stmts) more) s sp u k m ch y rest 
     go true e up =
         let given = temp_given s (k + 1) (Int (pos m)) int st st' fits (omega (arith, from)) there al in
         let h = up m (with_temp s (k + 1) (Int (pos m)) st') given.alike
-            (temp_kept s (k + 1) k st'.memory (with_temp s (k + 1) (Int (pos m)) st').memory (Int y) fits given.kept from (omega arith) at_k) given.cell in
+        (temp_kept s (k + 1) k st'.memory (with_temp s (k + 1) (Int (pos m)) st').memory (Int y) fits given.kept from (omega arith) at_k) given.cell in
         record {
           later = h.later;
           runs = choose_yes s (binary Eq u (temp k) (constant u z) sp) (hold (k + 1) (number m) ∷ []) [] (cases_from sp u k (m + 1) more ++ rest) (Int (truth (int_eq (conv u y) (conv u z)))) st' (eq_asked s u k z y sp st'.memory at_k) (truth_holds (int_eq (conv u y) (conv u z)) ∙ same_test ∙ e)
