@@ -1,16 +1,16 @@
-mod CallSizes
-mod CallSoundness
-mod Layouts
-mod Memories
-mod Objects
-mod Operators
-mod ProgramFacts
-mod Programs
-mod SizeSoundness
-mod SizedObjects
-mod SizedSteps
-mod Soundness
-mod StatementSizes
-mod StatementSoundness
-mod Steps
-mod Tests
+pub mod CallSizes
+pub mod CallSoundness
+pub mod Layouts
+pub mod Memories
+pub mod Objects
+pub mod Operators
+pub mod ProgramFacts
+pub mod Programs
+pub mod SizeSoundness
+pub mod SizedObjects
+pub mod SizedSteps
+pub mod Soundness
+pub mod StatementSizes
+pub mod StatementSoundness
+pub mod Steps
+pub mod Tests
