@@ -1,6 +1,6 @@
--- The derivation: a stack of what is still wanted, which begins as a program. A symbol on top gives
--- way to the rule that its row names, and a token on top must be the next one. What a rule builds
--- has the span from the rule's first to past its last token.
+-- The derivation: a stack of what is still wanted, which begins as a program. For a symbol on
+-- top comes a rule, the one in its row of the table; a token on top has to come next in the text. What a
+-- rule builds has the span from the rule's first to past its last token.
 use Rattle.std.specs.Prelude.{ℕ, zero, suc, ◌+◌, ◌-◌, List, [], ◌∷◌, ◌++◌, Option, Some, None, Bool, true, nat_eq, nat_lt, get_or, map, slice_get, if◌then◌else◌}
 use Rattle.pt_base.specs.declared.span.Span.{Span}
 use Rattle.c_lexer.specs.declared.token.Token.{Token}

@@ -23,7 +23,7 @@ pub record StandsIn (text : List ℕ) (t : Token) : Type 0 where
   pub ends : t.span.to ≡ t.span.from + size
   pub token : StartsToken (drop t.span.from text) size t.kind t.value
 
--- from one place to the other the text is these tokens in order, with space and comments before, between and after them
+-- from one place to the other the text is these tokens one after another, and around them space and comments alone
 abbrev pub Reads : List ℕ → ℕ → List Token → ℕ → Type 0
 Reads text from [] to = IsGap text from to
 Reads text from (t ∷ ts) to = IsGap text from t.span.from × StandsIn text t × Reads text t.span.to ts to
@@ -36,7 +36,7 @@ Lexes text tokens = Reads text 0 tokens (length text)
 abbrev pub NoLexeme : List ℕ → Type 0
 NoLexeme bs = (n : ℕ) → n ≤ length bs → IsLexeme (take n bs) → ⊥
 
--- no token, no space and no whole comment begins there, and why
+-- neither a token nor space nor a complete comment starts there, and why
 pub data IsFault (bs : List ℕ) : LexFaultKind → Type 0 where
   bad_byte : 0 < length bs → is_space (slice_index bs 0) ≡ false → slice_index bs 0 ≢ 39 → opens_comment bs ≡ false
       → NoLexeme bs → IsFault bs BadByte

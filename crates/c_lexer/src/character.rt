@@ -111,7 +111,7 @@ pub fn character(word: &[u8]) -> Option<u8>
     }
 }
 
-/// The value of a byte converted to `char` and then to `int`.
+/// The `int` that a byte stands for: its value as a `char`.
 pub fn char_value(byte: u8) -> i128
     ensures { result ≡ char_value byte }
 {

@@ -2,7 +2,7 @@
 use std::alloc::{AllocError, AllocFailed};
 use thiserror::Error;
 
-/// What begins at a place where no token, no space and no whole comment begins.
+/// What stands at a place where neither a token nor space nor a complete comment starts.
 #[derive(Clone, Copy, Debug, PartialEq, Eq, Drop)]
 pub enum LexFaultKind {
     /// A byte with which nothing begins.

@@ -15,7 +15,7 @@ use std::alloc::Global;
 /// # Errors
 ///
 /// `Memory`, or the text's fault: [`LexFaultKind::TooLong`] at the limit where the text is longer,
-/// and otherwise the first place where no token, no space and no whole comment begins.
+/// and otherwise the first place where neither a token nor space nor a complete comment starts.
 pub fn lex(alloc: Global, text: &[u8]) -> Result<Vec<Token>, LexError>
     ensures tokens { MatchResult result (λ tokens. Lexes text.now tokens.items) (IsLexError text.now) }
     ensures limit { IsOk result → length text.now ≤ TEXT_LIMIT }

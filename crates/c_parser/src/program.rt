@@ -25,8 +25,8 @@ use std::alloc::Global;
 /// or the end, that has no rule for the symbol wanted or isn't the token wanted. Nesting goes too
 /// deep where a 201st counted symbol would open.
 ///
-/// There are at most 1,048,576 tokens, the value of each constant is in the range of its type, and
-/// each name has at most 1,048,576 bytes. The tokens of `lex` are so.
+/// The tokens are 1,048,576 or fewer, the value of each constant is in the range of its type, and no
+/// name is longer than 1,048,576 bytes. The tokens of `lex` are so.
 ///
 /// # Errors
 /// `FaultAt`, `TooDeep`, whichever comes first, or want of memory.

@@ -2,6 +2,8 @@
 //! them, in lines.
 #![tactic(auto)]
 
+mod calls;
+mod copies;
 mod faults;
 mod frames;
 mod hosts;
@@ -22,14 +24,18 @@ mod types;
 use anyhow::{Context, Result, bail};
 use session::Session;
 use std::rt::Runtime;
-use std::thread::Builder;
+use std::thread::{Builder, Threads};
 use std::{env, fs};
 
 /// The front end goes as deep as a text nests, so it gets this many bytes of stack.
 const STACK: usize = 1 << 30;
 
 // Runs each case of the list in the folder, in order. Titles and blank lines are printed as they are.
-fn run_list<R: Runtime + AllocGlobal>(rt: &R, folder: &str, list: &str) -> Result<()> {
+fn run_list<R: Runtime + AllocGlobal + Threads + Sync>(
+    rt: &R,
+    folder: &str,
+    list: &str,
+) -> Result<()> {
     let alloc = rt.alloc();
     let path = format!(in alloc; "{folder}/{list}")?;
     let text = fs::read_to_string(rt, path.as_str()).context(format_args!("reading {path}"))?;
@@ -39,7 +45,7 @@ fn run_list<R: Runtime + AllocGlobal>(rt: &R, folder: &str, list: &str) -> Resul
             println!(rt; "{line}")?;
         } else {
             let shown = session
-                .shown(alloc, line)
+                .shown(rt, alloc, line)
                 .context(format_args!("at {line}"))?;
             println!(rt; "{shown}")?;
         }
@@ -47,7 +53,7 @@ fn run_list<R: Runtime + AllocGlobal>(rt: &R, folder: &str, list: &str) -> Resul
     Ok(())
 }
 
-fn run_words<R: Runtime + AllocGlobal>(rt: &R) -> Result<()> {
+fn run_words<R: Runtime + AllocGlobal + Threads + Sync>(rt: &R) -> Result<()> {
     let mut words = env::args(rt)?.skip(1);
     let Some(folder) = words.next() else {
         bail!("the words are a folder and the names of lists in it");

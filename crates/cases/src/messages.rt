@@ -1,5 +1,5 @@
 // Messages in words, and bytes in hexadecimal.
-use crate::types::{int_name, trap_name};
+use crate::types::int_name;
 use anyhow::{Context, Result};
 use pt_base::IntType;
 use std::alloc::{AllocError, Global};
@@ -75,7 +75,7 @@ pub fn push_message(text: &mut String, message: &Message) -> Result<(), AllocErr
         }
         Message::Exit { turns, status } => write!(text, "Exit turns {turns} status {status}"),
         Message::Trap { turns, kind, span } => {
-            let (name, from, to) = (trap_name(*kind), span.from, span.to);
+            let (name, from, to) = (kind.name(), span.from, span.to);
             write!(text, "Trap turns {turns} {name} {from}..{to}")
         }
         Message::Park { turns } => write!(text, "Park turns {turns}"),

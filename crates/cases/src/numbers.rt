@@ -1,5 +1,5 @@
 // Arithmetic at the edges of the integer types.
-use crate::types::{int_name, int_type, trap_name};
+use crate::types::{int_name, int_type};
 use anyhow::{Context, Result, bail};
 use pt_base::{IntType, Trap};
 use pt_int::{BinOp, UnOp, binary, convert, in_range, promote, unary, usual};
@@ -80,7 +80,7 @@ fn binary_operator(op: &str) -> Result<BinOp> {
 fn shown_result(alloc: Global, row: &str, given: Result<i128, Trap>) -> Result<String> {
     Ok(match given {
         Ok(number) => format!(in alloc; "{row} => {number}")?,
-        Err(trap) => format!(in alloc; "{row} => {}", trap_name(trap))?,
+        Err(trap) => format!(in alloc; "{row} => {}", trap.name())?,
     })
 }
 

@@ -1,4 +1,6 @@
 // What the rows of a list have set so far, and what each row shows.
+use crate::calls::Files;
+use crate::copies::copied;
 use crate::frames::{cuts, frames, payload};
 use crate::hosts::{called, given, parted, read_table};
 use crate::numbers::reckoned;
@@ -15,15 +17,17 @@ use front_end::read_program;
 use host_table::Host;
 use policy::Policy;
 use std::alloc::Global;
+use std::thread::Threads;
 use typed_tree::Typed;
 
-/// What rows have set: what stands before a body, and the program, policy and hosts that were read last.
+/// What rows have set: what stands before a body, the program, policy and hosts that were read last, and files.
 #[derive(Drop)]
 pub struct Session {
     before: String,
     program: Option<Typed>,
     policy: Option<Policy>,
     host: Option<Host>,
+    files: Files,
 }
 
 impl Session {
@@ -34,6 +38,7 @@ impl Session {
             program: None,
             policy: None,
             host: None,
+            files: Files::new(alloc),
         }
     }
 
@@ -42,7 +47,7 @@ impl Session {
     /// # Errors
     ///
     /// A row of no such form, and want of memory.
-    pub fn shown(&mut self, alloc: Global, row: &str) -> Result<String> {
+    pub fn shown<R: Threads + Sync>(&mut self, rt: &R, alloc: Global, row: &str) -> Result<String> {
         let (word, rest) = first_word(row);
         match word {
             "lex" => told(alloc, rest),
@@ -60,6 +65,10 @@ impl Session {
             "names" => names(alloc),
             "store" => store(alloc),
             "memory" => memory(alloc),
+            "copied" => copied(alloc, rest),
+            "file" => self.files.set(alloc, rest),
+            "failing" => self.files.fail(alloc, rest),
+            "run" => self.files.call(rt, alloc, rest),
             "before" | "program" | "item" | "body" => self.judge(alloc, word, rest),
             _ => self.ask(alloc, row, word, rest),
         }

@@ -1,6 +1,6 @@
-// The names of integer types and of traps.
+// The names of integer types.
 use anyhow::{Result, bail};
-use pt_base::{IntType, Trap};
+use pt_base::IntType;
 
 /// The name of the type in C.
 pub fn int_name(ty: IntType) -> &'static str {
@@ -35,19 +35,4 @@ pub fn int_type(word: &str) -> Result<IntType> {
         "unsigned-long" => IntType::ULong,
         _ => bail!("no type: {word}"),
     })
-}
-
-/// The name of the trap.
-pub fn trap_name(trap: Trap) -> &'static str {
-    match trap {
-        Trap::Overflow => "Overflow",
-        Trap::DivZero => "DivZero",
-        Trap::Shift => "Shift",
-        Trap::Bounds => "Bounds",
-        Trap::Null => "Null",
-        Trap::PtrRange => "PtrRange",
-        Trap::PtrCompare => "PtrCompare",
-        Trap::Depth => "Depth",
-        Trap::NoReturn => "NoReturn",
-    }
 }

@@ -13,16 +13,16 @@ use std::alloc::AllocError;
 pub enum FaultKind {
     /// A name, a tag or a field that isn't declared there.
     UnknownName,
-    /// A second declaration of a name in one scope, of a tag, a field or a parameter; a function
-    /// that is declared again with other types, or defined twice.
+    /// What was declared before: a name in the same scope, a tag, a field, a parameter. Or a function
+    /// whose types differ from its earlier declaration's, or that has a second body.
     Redeclared,
     /// The operand of an assignment, of `++`, `--` or `&` designates no object.
     NotLvalue,
-    /// Operands, conditions, conversions, returns or initialisers outside the rules.
+    /// A type that doesn't fit where it stands: an operand's, a condition's, a returned value's and the like.
     WrongType,
-    /// A call with another number of arguments.
+    /// A call with too few or too many arguments.
     ArgCount,
-    /// A change of an object that is const, or has a const part.
+    /// A const object, or one with a const part, would be changed.
     ConstWrite,
     /// What this profile of C leaves out.
     OutOfProfile,

@@ -1,5 +1,5 @@
 -- The type judgments of expressions (C99 6.5): what is known of each, its typed tree, and its faults. An
--- operand of type Bad gives no fault of the operator's own.
+-- operator finds no fault in an operand of type Bad.
 use Rattle.std.specs.Prelude.{ℕ, ◌+◌, pos, List, [], ◌∷◌, ◌++◌, Bool, true, false, Option, Some, None, is_some, slice_get}
 use Rattle.std.specs.Ordering.{int_eq}
 use Rattle.pt_base.specs.declared.ids.FnId.{FnId}

@@ -48,7 +48,7 @@ var_of given d = record {
 abbrev pub cells_with : ℕ → ℕ → ℕ
 cells_with total count = counted (total + count)
 
--- the first one that brings all globals over the limit
+-- with this one, and not before, the sum goes over the limit
 abbrev pub brings_over : ℕ → ℕ → Bool
 brings_over total count = nat_le total globals_limit && nat_lt globals_limit (cells_with total count)
 

@@ -30,7 +30,7 @@ fn cells_with(total: u32, count: u32) -> u32
     (u64::from(total) + u64::from(count)).min(u64::from(GLOBALS_LIMIT) + 1) as u32
 }
 
-/// Whether a global is the first one that brings all globals over the limit.
+/// Whether it is with this global, and not before, that the sum goes over the limit.
 fn brings_over(total: u32, count: u32) -> bool
     ensures { result ≡ is.brings_over total count }
 {

@@ -1,4 +1,4 @@
--- The expressions that may be the values of cases and of globals: a constant with at most one `-` before it.
+-- The expressions that may be the values of cases and of globals: constants and negated constants.
 use Rattle.std.specs.Prelude.{neg_ℤ, Option, Some, None}
 use Rattle.pt_base.specs.IntTypes.{promoted}
 use Rattle.pt_int.specs.Conversion.{conv}

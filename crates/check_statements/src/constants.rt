@@ -1,5 +1,4 @@
-// The expressions that may be the values of cases and of globals: a constant with at most one `-` before
-// it.
+// The expressions that may be the values of cases and of globals: constants and negated constants.
 ghost use Rattle.std.specs.Prelude.{◌≡◌, neg_ℤ};
 ghost use Rattle.pt_base.specs.IntTypes.{InRange};
 ghost use Rattle.pt_int.specs.Conversion.{conv};
@@ -10,14 +9,14 @@ use pt_base::IntType;
 use pt_int::{convert, promote};
 use pt_tree::{Constant, Expr, PrefixOp};
 
-/// The value of a constant with at most one `-` before it.
+/// The value of a constant, negated or not.
 #[derive(Clone, Copy)]
 pub struct Number {
     pub ty: IntType,
     pub value: i128,
 }
 
-/// The number that the expression is: a constant with at most one `-` before it. None is what else.
+/// The number that the expression spells: a constant, negated or not. None for any other expression.
 pub(crate) fn number_of(e: &Expr) -> Option<Number>
     ensures { result ≡ is.number_of (view_expr e.now) }
 {

@@ -108,8 +108,8 @@ fn note_excess(
     note_if(faults, wrong, FaultKind::WrongType, span_of(e))
 }
 
-/// Adds the value of an item for this leaf: of a constant with at most one `-` before it, else 0. What
-/// is no such constant is judged, and is out of the profile.
+/// Adds the value of an item for this leaf: that of a constant, negated or not, else 0. Any other
+/// expression is judged, and is out of the profile.
 fn add_item(
     alloc: Global,
     names: &Names,

@@ -118,7 +118,7 @@ fn default_word(span: Span) -> Span
     }
 }
 
-/// A case: a constant with at most one `-` before it.
+/// A case, whose value is a constant, negated or not.
 fn case(
     alloc: Global,
     names: &Names,

@@ -1,5 +1,5 @@
 -- Calls, step by step, at each depth.
-use Rattle.std.proofs.Common.{◌≡◌, ℕ, zero, suc, ◌+◌, ◌-◌, ◌≤◌, ◌<◌, List, [], ◌∷◌, Option, Some, None, Bool, true, false, refl, ap, ◌∙◌, subst, arith}
+use Rattle.std.proofs.Common.{◌≡◌, ℕ, zero, suc, ◌+◌, ◌-◌, ◌≤◌, ◌<◌, List, [], ◌∷◌, Option, Some, None, Bool, true, false, refl, ap, subst, arith}
 use Rattle.std.specs.Prelude.{if◌then◌else◌, ◌||◌, nat_le, map}
 use Rattle.std.proofs.lemmas.Bool.{le-leb, lt-leb}
 use Rattle.pt_base.specs.declared.int_type.IntType.{IntType}
@@ -17,19 +17,19 @@ use Rattle.pt_core.specs.Statements.{State, Outcome, Flow, goes_on, broke, conti
 use Rattle.pt_core.specs.Calls as c
 use Rattle.pt_core.specs.Calls.{signature_in, function_in, entered, left_at, returned_from, noted_call, number_cell, host_call, inner_frame, body_run, function_call, calls_within}
 use Rattle.pt_core.specs.Steps as s
-use Rattle.pt_core.specs.Steps.{Work, run, Active, Machine, moved, Step, answers, settled, turned, is_active, enters_at, made, made_here, by_way, enters, here}
+use Rattle.pt_core.specs.Steps.{Work, run, Active, Machine, moved, Step, answers, settled, turned, just_entered, enters_at, made, made_here, by_way, enters, here}
 use Rattle.core_steps_law.specs.WholeRun.{Outside, whole_gate, whole_noted, answered}
 use Rattle.core_steps_law.specs.Laws.{machine_at, outside_of}
-use Rattle.core_steps_law.proofs.Leads.{Leads, leads_is, leads_on}
+use Rattle.core_steps_law.proofs.Leads.{Leads, leads_same, leads_is, leads_on}
 use Rattle.core_steps_law.proofs.Spots.{Spot, active_in, stack, frame_in, with_work, step_of, Runs, runs_from, at_most, reached, with_left, turn_runs}
 use Rattle.core_steps_law.proofs.StatementSteps.{CallsFollow, all_run}
 
 -- ---- hosts
 
--- what the machine does with a host's answer, where a privileged function is active or not
-abbrev host_answer : Spot → List Active → State → ℕ → List Cell → Option ℕ → Bool → Step Outside
-host_answer p active st f args result privileged =
-    let g = whole_noted p.program privileged f args (outside_of st) in
+-- what the machine does with a host's answer
+abbrev host_answer : Spot → List Active → State → ℕ → List Cell → Option ℕ → Step Outside
+host_answer p active st f args result =
+    let g = whole_noted p.program p.privileged f args (outside_of st) in
     made (machine_at p.machine active st) p.depth result (answered f (host_step g.input (g.hosts f) (map number_in args)) g)
 
 -- the state after it
@@ -44,23 +44,17 @@ host_runs : (p : Spot) (f : ℕ) (args : List Cell) (result : Option ℕ) (work 
     Runs p st.left (made_here p.program (whole_gate p.program) (machine_at p.machine (stack p work) st) (outside_of st) f args result p.depth) work (host_call p.program (frame_in p) f args st >>= kept_in (frame_in p) result)
 host_runs p f args result work st le =
     turn_runs p (stack p work) st (λ o. o >>= kept_in (frame_in p) result)
-    (λ m1. made m1 p.depth result ((whole_gate p.program).answer f (map number_in args) ((whole_gate p.program).noted (is_active p.program (stack p work)) f args (outside_of st))))
+    (λ m1. made m1 p.depth result ((whole_gate p.program).answer f (map number_in args) ((whole_gate p.program).noted p.privileged f args (outside_of st))))
     (λ st1.
     let st2 = noted_call p.program (frame_in p) f args st1 in
     let answer = answer_of f (map number_in args) st2 in
     gives (number_cell answer.result) (after_answer f answer st2))
     work st.left refl le (λ st1. refl)
     (λ l room e.
-    reached p l (host_answer p (stack p work) (with_left l st) f args result (is_active p.program (stack p work))) work (answered_state p (with_left l st) f args result) (at_most l)
-    (leads_is p.program _ _ (ap (host_answer p (stack p work) (with_left l st) f args result) (p.is_so work))))
+    reached p l (host_answer p (stack p work) (with_left l st) f args result) work (answered_state p (with_left l st) f args result) (at_most l)
+    (leads_same p.program (host_answer p (stack p work) (with_left l st) f args result)))
 
 -- ---- functions
-
-or_turned : (a b : Bool) → (a || b) ≡ (b || a)
-or_turned true true = refl
-or_turned true false = refl
-or_turned false true = refl
-or_turned false false = refl
 
 -- the function that a call enters
 abbrev inner : Spot → ℕ → Option ℕ → List Work → Spot
@@ -72,7 +66,6 @@ inner p f result work = record {
   result = result;
   rest = stack p work;
   privileged = p.privileged || (signature_in p.program f).privileged;
-  is_so = λ now. ap (λ b. (signature_in p.program f).privileged || b) (p.is_so work) ∙ or_turned (signature_in p.program f).privileged p.privileged;
 }
 
 -- at the end of its code
@@ -108,15 +101,15 @@ body_runs p f result work n from (gives (returned v) st) r = reached p n from wo
 body_runs p f result work n from (trapped trap span st) r = record { active = r.active; by = r.by }
 body_runs p f result work n from (spent st) r = record { active = r.active; by = r.by }
 
--- the machine that has entered the function, where a privileged function was active or not
-abbrev entering : Spot → ℕ → List Cell → Option ℕ → List Work → State → Bool → Machine → Step Outside
-entering p f args result work st privileged m1 =
+-- the machine that has entered the function
+abbrev entering : Spot → ℕ → List Cell → Option ℕ → List Work → State → Machine → Step Outside
+entering p f args result work st m1 =
     answers moved
     (record m1 {
-      active = record { function = f; depth = p.depth + 1; result = result; work = run (function_in p.program f).body ∷ [] } ∷ m1.active;
+      active = just_entered p.program (p.privileged || (signature_in p.program f).privileged) f (p.depth + 1) result ∷ m1.active;
       blocks = entered p.program f (p.depth + 1) args m1.blocks;
     })
-    (whole_noted p.program privileged f args (outside_of st))
+    (whole_noted p.program p.privileged f args (outside_of st))
 
 abbrev entered_state : Spot → ℕ → List Cell → State → State
 entered_state p f args st =
@@ -138,20 +131,20 @@ function_runs p calls follow deep span f args result work st le =
     let q : Spot = inner p f result work in
     runs_from p st.left st.left
     (enters_at p.program (whole_gate p.program) (machine_at p.machine (stack p work) st) (outside_of st) span f args result (p.depth + 1))
-    (turned (machine_at p.machine (stack p work) st) (outside_of st) (entering p f args result work st (is_active p.program (stack p work)))) work
+    (turned (machine_at p.machine (stack p work) st) (outside_of st) (entering p f args result work st)) work
     (function_call p.program calls (frame_in p) f args st >>= kept_in (frame_in p) result) (at_most st.left)
     (leads_is p.program _ _
     (if_true (nat_le (p.depth + 1) deepest)
-    (turned (machine_at p.machine (stack p work) st) (outside_of st) (entering p f args result work st (is_active p.program (stack p work))))
+    (turned (machine_at p.machine (stack p work) st) (outside_of st) (entering p f args result work st))
     (answers (s.trapped Depth span) (machine_at p.machine (stack p work) st) (outside_of st)) test))
-    (turn_runs p (stack p work) st (λ o. o >>= kept_in (frame_in p) result) (entering p f args result work st (is_active p.program (stack p work)))
+    (turn_runs p (stack p work) st (λ o. o >>= kept_in (frame_in p) result) (entering p f args result work st)
     (λ st1. body_run p.program calls (inner_frame p.program (frame_in p) f) f args (noted_call p.program (frame_in p) f args st1))
     work st.left refl le (λ st1. refl)
     (λ l room e.
-    runs_from p l l (entering p f args result work st (is_active p.program (stack p work)) (machine_at p.machine (stack p work) (with_left l st)))
+    runs_from p l l (entering p f args result work st (machine_at p.machine (stack p work) (with_left l st)))
     (with_work q (run (function_in p.program f).body ∷ []) (entered_state p f args (with_left l st))) work
     (body_run p.program calls (inner_frame p.program (frame_in p) f) f args (noted_call p.program (frame_in p) f args (with_left l st)) >>= kept_in (frame_in p) result) (at_most l)
-    (leads_is p.program _ _ (ap (λ b. entering p f args result work st b (machine_at p.machine (stack p work) (with_left l st))) (p.is_so work)))
+    (leads_same p.program (entering p f args result work st (machine_at p.machine (stack p work) (with_left l st))))
     (body_runs p f result work l (with_work q (run (function_in p.program f).body ∷ []) (entered_state p f args (with_left l st)))
     (do_all (function_in p.program f).body (frame_in q) calls (entered_state p f args (with_left l st)))
     (all_run q calls (follow q refl refl) (function_in p.program f).body [] (run (function_in p.program f).body ∷ []) (entered_state p f args (with_left l st)) (omega arith) refl))))
@@ -165,7 +158,7 @@ too_deep p deep span f args result work st =
       active = stack p work;
       by = leads_is p.program _ _
           (if_false (nat_le (p.depth + 1) deepest)
-          (turned (machine_at p.machine (stack p work) st) (outside_of st) (entering p f args result work st (is_active p.program (stack p work))))
+          (turned (machine_at p.machine (stack p work) st) (outside_of st) (entering p f args result work st))
           (answers (s.trapped Depth span) (machine_at p.machine (stack p work) st) (outside_of st)) test);
     }
 

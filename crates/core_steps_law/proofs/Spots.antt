@@ -8,7 +8,7 @@ use Rattle.pt_core.specs.Values.{Stop}
 use Rattle.pt_core.specs.Statements.{State, Outcome, Frame, Flow, goes_on, broke, continues, returned, evaluated}
 use Rattle.pt_core.specs.Calls.{context_in}
 use Rattle.pt_core.specs.Steps as s
-use Rattle.pt_core.specs.Steps.{Work, run, head, Active, Machine, Answer, moved, Step, answers, settled, past_loop, at_head, with_turn, turned, on_value, is_active, begins, act, works}
+use Rattle.pt_core.specs.Steps.{Work, run, head, Active, Machine, Answer, moved, Step, answers, settled, past_loop, at_head, with_turn, turned, on_value, begins, act, works}
 use Rattle.core_steps_law.specs.WholeRun.{Outside, whole_gate}
 use Rattle.core_steps_law.specs.Laws.{machine_at, outside_of}
 use Rattle.core_steps_law.proofs.Leads.{Leads, leads_is, leads_on, one_step}
@@ -22,10 +22,9 @@ pub record Spot : Type 0 where
   pub result : Option ℕ
   pub rest : List Active
   pub privileged : Bool
-  pub is_so : (work : List Work) → is_active program (record { function = function; depth = depth; result = result; work = work } ∷ rest) ≡ privileged
 
 abbrev pub active_in : Spot → List Work → Active
-active_in p work = record { function = p.function; depth = p.depth; result = p.result; work = work }
+active_in p work = record { function = p.function; depth = p.depth; privileged = p.privileged; result = p.result; work = work }
 
 abbrev pub stack : Spot → List Work → List Active
 stack p work = active_in p work ∷ p.rest

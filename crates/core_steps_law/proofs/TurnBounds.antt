@@ -1,6 +1,6 @@
 -- What a step takes of the budget.
 use Rattle.std.proofs.Common.{◌≡◌, ℕ, suc, ◌+◌, ◌<◌, List, [], ◌∷◌, Option, Some, None, Bool, true, false, refl, arith}
-use Rattle.std.specs.Prelude.{Result, Ok, Err, if◌then◌else◌, nat_lt, nat_le, map}
+use Rattle.std.specs.Prelude.{Result, Ok, Err, if◌then◌else◌, ◌||◌, nat_lt, nat_le, map}
 use Rattle.std.proofs.lemmas.Bool.{ltb-true}
 use Rattle.pt_base.specs.declared.int_type.IntType.{IntType}
 use Rattle.pt_base.specs.declared.span.Span.{Span}
@@ -11,7 +11,7 @@ use Rattle.pt_core.specs.CodeTree.{StmtTree, clear, check, assign, copy, call, c
 use Rattle.pt_core.specs.Values.{Stop, holds_in, number_in, value_of, values_of, location_of}
 use Rattle.pt_core.specs.Statements.{assigned, copied, returned_value}
 use Rattle.pt_core.specs.Calls.{signature_in, function_in, context_in, entered}
-use Rattle.pt_core.specs.Steps.{Work, run, head, Active, Machine, Way, enters, here, away, Gate, asked, moved, spent, trapped, Step, answers, settled, working, with_blocks, with_turn, turned, on_value, returned, at_end, is_active, begins, made, by_way, act, works, stepped}
+use Rattle.pt_core.specs.Steps.{Work, run, head, Active, Machine, Way, enters, here, away, Gate, asked, moved, spent, trapped, Step, answers, settled, working, with_blocks, with_turn, turned, on_value, returned, at_end, is_active, just_entered, awaiting, begins, made, by_way, act, works, stepped}
 use Rattle.core_steps_law.specs.Laws.{TakesATurn, StepsTakeATurn}
 
 still : {G : Type 0} (turns budget : ℕ) (s : Step G) → s.machine.turns ≡ turns → s.machine.budget ≡ budget → TakesATurn turns budget s
@@ -57,19 +57,19 @@ takes_way program gate m g s f args result depth enters =
     (takes_turned m g
     (λ m1. answers moved
     (record m1 {
-      active = record { function = f; depth = depth + 1; result = result; work = run (function_in program f).body ∷ [] } ∷ m1.active;
+      active = just_entered program (is_active m.active || (signature_in program f).privileged) f (depth + 1) result ∷ m1.active;
       blocks = entered program f (depth + 1) args m1.blocks;
     })
-    (gate.noted (is_active program m.active) f args g))
+    (gate.noted (is_active m.active) f args g))
     (λ m1. record { turns = refl; budget = refl }))
     (still m.turns m.budget (answers (trapped Depth s) m g) refl refl)
 takes_way program gate m g s f args result depth here =
-    takes_turned m g (λ m1. made m1 depth result (gate.answer f (map number_in args) (gate.noted (is_active program m.active) f args g))) (λ m1. record { turns = refl; budget = refl })
+    takes_turned m g (λ m1. made m1 depth result (gate.answer f (map number_in args) (gate.noted (is_active m.active) f args g))) (λ m1. record { turns = refl; budget = refl })
 takes_way program gate m g s f args result depth away =
     on_either m.turns m.budget (signature_in program f).host _ _
-    (still m.turns m.budget (answers (asked f args 0) (record m { awaits = Some result }) g) refl refl)
+    (still m.turns m.budget (answers (asked f args 0) (awaiting f result m) g) refl refl)
     (on_either m.turns m.budget (nat_le (depth + 1) deepest) _ _
-    (still m.turns m.budget (answers (asked f args (depth + 1)) (record m { awaits = Some result }) g) refl refl)
+    (still m.turns m.budget (answers (asked f args (depth + 1)) (awaiting f result m) g) refl refl)
     (still m.turns m.budget (answers (trapped Depth s) m g) refl refl))
 
 takes_act : {G : Type 0} (program : ProgramTree) (gate : Gate G) (m : Machine) (g : G) (a : Active) (rest : List Active) (work : List Work) (s : StmtTree) → TakesATurn m.turns m.budget (act program gate m g a rest work s)

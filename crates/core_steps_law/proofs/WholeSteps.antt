@@ -13,7 +13,7 @@ use Rattle.pt_core.specs.Calls as c
 use Rattle.pt_core.specs.Calls.{signature_in, function_in, entered, returned_from, calls_within}
 use Rattle.pt_core.specs.CoreRun.{main_in, begun, main_frame, run_of, core_run}
 use Rattle.pt_core.specs.Steps as s
-use Rattle.pt_core.specs.Steps.{Work, run, Active, Machine, Answer, moved, Step, answers, settled, past_loop, at_head, is_active, step}
+use Rattle.pt_core.specs.Steps.{Work, run, Active, Machine, Answer, moved, Step, answers, settled, past_loop, at_head, step}
 use Rattle.core_steps_law.specs.WholeRun.{Outside, begun_machine, begun_outside, run_seen}
 use Rattle.core_steps_law.specs.Laws.{state_of, machine_at, outside_of, frame_of, Comes, Continues, Stops, Follows, StepsFollowStatements, StepsAreTheRun}
 use Rattle.core_steps_law.proofs.Leads.{Leads, leads_is, leads_on, comes_by, first_end}
@@ -23,10 +23,6 @@ use Rattle.core_steps_law.proofs.CallSteps.{calls_follow}
 
 -- ---- statements in any machine
 
-any_work : (program : ProgramTree) (a : Active) (rest : List Active) (work : List Work) → is_active program (record a { work = work } ∷ rest) ≡ is_active program (a ∷ rest)
-any_work program a [] work = refl
-any_work program a (b ∷ rest) work = refl
-
 abbrev spot_of : ProgramTree → Machine → Active → List Active → Spot
 spot_of program m a rest = record {
   program = program;
@@ -35,8 +31,7 @@ spot_of program m a rest = record {
   depth = a.depth;
   result = a.result;
   rest = rest;
-  privileged = is_active program (a ∷ rest);
-  is_so = λ work. any_work program a rest work;
+  privileged = a.privileged;
 }
 
 continues_by : (program : ProgramTree) (m : Machine) (g : Outside) (a : Active) (rest : List Active) (work : List Work) (st : State) → Reaches (spot_of program m a rest) (answers moved m g) work st → Continues program m g a rest work st
@@ -73,7 +68,7 @@ pub steps_follow_statements : StepsFollowStatements
 steps_follow_statements program m g a rest stmts work e same le =
     let p : Spot = spot_of program m a rest in
     let calls : Calls = calls_within program (deepest - a.depth) in
-    let o : Outcome Flow = do_all stmts (frame_of program a rest) calls (state_of m g) in
+    let o : Outcome Flow = do_all stmts (frame_of program a) calls (state_of m g) in
     follows_by program m g a rest work (m.budget - m.turns) o
     (runs_from p (m.budget - m.turns) (m.budget - m.turns) (answers moved m g) (with_work p a.work (state_of m g)) work o (at_most (m.budget - m.turns))
     (leads_is program _ _ (as_it_is m g a rest e le))
@@ -90,7 +85,6 @@ main_spot program turns = record {
   result = None;
   rest = [];
   privileged = false;
-  is_so = λ work. refl;
 }
 
 -- the run of an outcome of main's is seen

@@ -8,7 +8,7 @@ use Rattle.pt_core.specs.Statements.{State, Outcome, Frame, Flow, goes_on, broke
 use Rattle.pt_core.specs.Calls.{context_in, calls_within}
 use Rattle.pt_core.specs.CoreRun.{core_run}
 use Rattle.pt_core.specs.Steps as s
-use Rattle.pt_core.specs.Steps.{Work, run, Active, Machine, Gate, Answer, moved, Step, answers, settled, past_loop, at_head, is_active, step}
+use Rattle.pt_core.specs.Steps.{Work, run, Active, Machine, Gate, Answer, moved, Step, answers, settled, past_loop, at_head, step}
 use Rattle.core_steps_law.specs.WholeRun.{Outside, whole_gate, further, steps_run, after_steps, run_seen}
 
 -- ---- a whole run
@@ -38,8 +38,8 @@ machine_at m active st = record m { active = active; blocks = st.memory; turns =
 abbrev pub outside_of : State → Outside
 outside_of st = record { hosts = st.hosts; input = st.input; events = st.events }
 
-abbrev pub frame_of : ProgramTree → Active → List Active → Frame
-frame_of program a rest = record { context = context_in program a.function; depth = a.depth; privileged = is_active program (a ∷ rest) }
+abbrev pub frame_of : ProgramTree → Active → Frame
+frame_of program a = record { context = context_in program a.function; depth = a.depth; privileged = a.privileged }
 
 -- in some number of steps
 abbrev pub Comes : ProgramTree → Machine → Outside → Step Outside → Type 0
@@ -71,7 +71,7 @@ Follows program m g a rest work (r.spent st) = Stops program m g s.spent st
 abbrev pub StepsFollowStatements : Type 0
 StepsFollowStatements = (program : ProgramTree) (m : Machine) (g : Outside) (a : Active) (rest : List Active) (stmts : StmtTrees) (work : List Work) →
     m.active ≡ a ∷ rest → settled a.work ≡ settled (run stmts ∷ work) → m.turns ≤ m.budget →
-    Follows program m g a rest work (do_all stmts (frame_of program a rest) (calls_within program (deepest - a.depth)) (state_of m g))
+    Follows program m g a rest work (do_all stmts (frame_of program a) (calls_within program (deepest - a.depth)) (state_of m g))
 
 -- ---- turns
 

@@ -1,18 +1,17 @@
 -- The run of a whole program by single steps: what its calls go through, so many steps, where it begins,
 -- and what is seen of its end.
-use Rattle.std.specs.Prelude.{ℕ, zero, suc, ℤ, Bool, List, [], ◌∷◌, ◌++◌, Option, Some, None, map, if◌then◌else◌, option_map}
+use Rattle.std.specs.Prelude.{ℕ, zero, suc, ℤ, Bool, false, List, [], ◌++◌, Option, Some, None, map, if◌then◌else◌, option_map}
 use Rattle.pt_base.specs.declared.end.End.{End}
 use Rattle.pt_base.specs.declared.end.End.TheVariants as e
 use Rattle.pt_tree.specs.HostStep as h
 use Rattle.runs.specs.State.{Event, Hosts, put_host, guarded_event, out_event}
 use Rattle.runs.specs.Run.{Run}
 use Rattle.block_memory.specs.declared.cell.Cell.{Cell}
-use Rattle.block_memory.specs.Blocks.{no_blocks}
 use Rattle.pt_core.specs.CodeTree.{ProgramTree}
 use Rattle.pt_core.specs.Values.{number_in}
-use Rattle.pt_core.specs.Calls.{signature_in, function_in, entered}
-use Rattle.pt_core.specs.CoreRun.{main_in, with_globals, status_of}
-use Rattle.pt_core.specs.Steps.{run, Machine, Way, enters, here, Gate, Answer, moved, asked, ended, trapped, spent, idle, Step, answers, step}
+use Rattle.pt_core.specs.Calls.{signature_in}
+use Rattle.pt_core.specs.CoreRun.{main_in, status_of}
+use Rattle.pt_core.specs.Steps.{Machine, Way, enters, here, Gate, Answer, moved, asked, ended, trapped, spent, idle, Step, answers, step, at_rest, started}
 
 -- ---- the gate of a whole run
 
@@ -67,13 +66,7 @@ steps_run program gate (suc n) m g = further (step program gate m g) (steps_run 
 
 -- main is active at depth 1, and no turn is taken
 abbrev pub begun_machine : ProgramTree → ℕ → Machine
-begun_machine program turns = record {
-  active = record { function = main_in program; depth = 1; result = None; work = run (function_in program (main_in program)).body ∷ [] } ∷ [];
-  blocks = entered program (main_in program) 1 [] (with_globals program.structs no_blocks program.globals);
-  turns = 0;
-  budget = turns;
-  awaits = None;
-}
+begun_machine program turns = started program false (main_in program) 1 [] (at_rest program turns)
 
 abbrev pub begun_outside : Hosts → List ℕ → Outside
 begun_outside hosts input = record { hosts = hosts; input = input; events = [] }

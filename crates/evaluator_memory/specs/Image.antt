@@ -33,7 +33,7 @@ SetsFrame old new depth frame = (d y : ℕ) → local_at new d y ≡ (if nat_eq 
 
 -- ---- all blocks
 
--- a local's cells stand by its depth and variable, a global's by its number
+-- depth and variable tell where a local's cells are, its number where those of a global are
 unfoldable pub memory_of : Memory → m.Memory
 memory_of memory (m.local depth x) = map view_cell (local_at memory.frames depth x)
 memory_of memory (m.global g) = map view_cell (get_or memory.globals g [])

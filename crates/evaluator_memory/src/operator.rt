@@ -43,8 +43,7 @@ pub fn stepped(layout: &Layout, ty: VarTy, step: LinkStep, a: Cell, b: Cell) -> 
     }
 }
 
-/// The step by which `++` and `--` add or subtract 1, as a compound assignment does (C99 6.5.2.4,
-/// 6.5.3.1).
+/// The step of `++` and `--`, which is that of `+= 1` and `-= 1` (C99 6.5.2.4, 6.5.3.1).
 pub(crate) fn unit_step(ty: VarTy, back: bool) -> LinkStep
     ensures { result ≡ unit_step_of ty back }
 {

@@ -11,8 +11,8 @@ use typed_tree::Typed;
 pub enum HostFault {
     /// The text is no JSON in UTF-8, or one that the reader refuses.
     NotJson,
-    /// The entry of the function is none of the five kinds; without a function, the text is no
-    /// object.
+    /// The function's entry has none of the five forms; where no function is given, the whole text
+    /// isn't an object.
     Shape(Option<FnId>),
     /// The host has no entry.
     Missing(FnId),

@@ -14,7 +14,7 @@ use std::rt::Runtime;
 ///
 /// # Errors
 ///
-/// A file that can't be read, and want of memory.
+/// An unreadable file, and want of memory.
 pub fn shown<R: Runtime + AllocGlobal>(rt: &R, folder: &str, row: &Row<'_>) -> Result<String> {
     let alloc = rt.alloc();
     let text = match row.program {

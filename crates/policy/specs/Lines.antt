@@ -2,7 +2,7 @@
 use Rattle.std.specs.Prelude.{ℕ, Bool, true, false, ◌||◌, ◌==◌, List, [], ◌∷◌, filter, if◌then◌else◌}
 use Rattle.std.specs.List.{slice_split, onto_first}
 
--- the lines of a text: each ends with a line feed, the last one optionally
+-- the lines of a text: a line feed ends each, and may be missing at the last
 abbrev pub lines_of : List ℕ → List (List ℕ)
 lines_of [] = []
 lines_of (b ∷ bs) = if b == 10 then [] ∷ lines_of bs else onto_first b (lines_of bs)

@@ -59,7 +59,7 @@ used s k (Some rule) = record {
   uses = slice_set s.uses k (one_more rule.most (slice_index s.uses k));
 }
 
--- the standing after a verdict: the rule that allowed the call is used, and its `to` is the state
+-- the standing after a verdict: the rule that allowed the call counts one use more, and names the new state
 abbrev pub after : Standing → Verdict → Standing
 after s (Allow k) = used s k (slice_get s.rules k)
 after s Deny = s

@@ -55,7 +55,7 @@ impl Policy {
         })
     }
 
-    /// The verdict on a call of a privileged function or host, by the plain numbers that it gives.
+    /// The verdict on a privileged call, by the plain numbers that it gives.
     /// The first rule that fits allows the call and is used; after `Deny` nothing is changed.
     pub fn decide(&mut self, f: FnId, plain: &[i128]) -> Verdict
         ensures verdict { result ≡ verdict_on self.old f plain.now }

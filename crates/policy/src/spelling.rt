@@ -194,7 +194,7 @@ fn first_state(line: &[u8]) -> Option<(&[u8], &[u8])>
     }
 }
 
-// Whether these are 1 to 64 letters, digits and `_`.
+// Whether these are letters, digits and `_`, 1 to 64 in all.
 fn is_state(word: &[u8]) -> bool
     ensures { result ≡ is_state word.now }
 {

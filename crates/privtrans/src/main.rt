@@ -21,7 +21,7 @@ impl Watch for Silent {
     fn begin(&self, _f: FnId) {}
 }
 
-// The words after the program's name.
+// The words that follow the program's name.
 fn words<R: Env + AllocGlobal>(rt: &R, alloc: Global) -> Result<Vec<String>, io::Error> {
     let mut words = Vec::new(alloc);
     for word in env::args(rt)?.skip(1) {

@@ -28,7 +28,7 @@ abbrev pub has_marked : List HostParam → Bool
 has_marked [] = false
 has_marked (p ∷ ps) = p.marked || has_marked ps
 
--- a host has at most 8 parameters, of different names, and marked ones only where it is privileged
+-- a host's parameters are 8 or fewer, no two of one name, and only a privileged host has marked ones
 abbrev pub host_is_good : Host → Bool
 host_is_good h = nat_lt (length h.params) 9 && all_differ (param_names h.params) && (is_privileged h.mark || not (has_marked h.params))
 
@@ -45,7 +45,7 @@ abbrev pub args_are_good : List (List ℕ) → List Arg → Bool
 args_are_good names [] = true
 args_are_good names (a ∷ rest) = arg_is_good names a && args_are_good names rest
 
--- a called name is a host with that number of parameters, and gives a result where one is used
+-- what is called is a host, takes as many arguments, and has a result if one is used
 abbrev pub callee_is_good : Option Host → ℕ → Bool → Bool
 callee_is_good None count used = false
 callee_is_good (Some h) count used = nat_eq (length h.params) count && (not used || h.gives)
@@ -67,7 +67,7 @@ abbrev pub statements_are_good : List Host → List (List ℕ) → List Statemen
 statements_are_good hosts names [] = true
 statements_are_good hosts names (s ∷ ss) = statement_is_good hosts names s && statements_are_good hosts names ss
 
--- the names of hosts and variables are distinct, hosts are good, and so are statements
+-- no two hosts or variables share a name, and hosts and statements are good
 abbrev pub names_are_good : Program → Bool
 names_are_good p = all_differ (names_of p.hosts ++ p.variables)
     && hosts_are_good p.hosts && statements_are_good p.hosts p.variables p.statements

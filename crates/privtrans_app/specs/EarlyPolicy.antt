@@ -12,7 +12,7 @@ use Rattle.privtrans_app.specs.declared.early.Host.{Host}
 abbrev pub is_state_byte : ℕ → Bool
 is_state_byte c = is_ascii_alphanumeric c || c == 95
 
--- the name of a state: 1 to 64 letters, digits and `_`
+-- the name of a state: letters, digits and `_`, 1 to 64 in all
 abbrev pub is_state : List ℕ → Bool
 is_state word = (nat_le 1 (length word) && nat_le (length word) 64) && list_all is_state_byte word
 

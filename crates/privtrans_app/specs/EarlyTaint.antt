@@ -87,7 +87,7 @@ abbrev pub StatementsKeep : (List ℕ → Type 0) → List Host → List Stateme
 StatementsKeep Tainted hosts [] = ⊤
 StatementsKeep Tainted hosts (s ∷ ss) = StatementKeeps Tainted hosts s × StatementsKeep Tainted hosts ss
 
--- no tainted variable is an argument for an unmarked parameter
+-- tainted variables go to marked parameters alone
 abbrev pub KeepsTaint : Program → Type 0
 KeepsTaint p = StatementsKeep (IsTainted p) p.hosts p.statements
 

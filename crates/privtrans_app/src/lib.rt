@@ -21,8 +21,6 @@ mod pair;
 mod rules;
 mod sending;
 mod taint;
-#[cfg(test)]
-mod tests;
 mod top;
 mod words;
 

@@ -35,7 +35,7 @@ fn read_text<'a, F: Folder>(
     }
 }
 
-// The texts of the words' files, in the order of the words.
+// The text of each word's file, one after another.
 fn read_texts<'a, F: Folder>(
     alloc: Global,
     folder: &mut F,

@@ -87,7 +87,7 @@ fn first_state(text: &[u8]) -> Option<&[u8]>
     if is_state(word) { Some(word) } else { None }
 }
 
-// Whether these are 1 to 64 letters, digits and `_`.
+// Whether these are letters, digits and `_`, 1 to 64 in all.
 fn is_state(word: &[u8]) -> bool
     ensures { result ≡ is_state word.now }
 {

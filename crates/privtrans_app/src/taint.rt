@@ -200,7 +200,7 @@ fn keeps_statements(marks: &Marks, names: &Names, hosts: &[Host], statements: &[
     true
 }
 
-/// Whether no tainted variable of the program is an argument for an unmarked parameter.
+/// Whether the tainted variables of the program go to marked parameters alone.
 pub(crate) fn keeps_taint(
     alloc: Global,
     names: &Names,

@@ -55,7 +55,7 @@ high_of ULong = pos 0xffff_ffff_ffff_ffff
 abbrev pub InRange : IntType → ℤ → Type 0
 InRange t v = (low_of t ≤ℤ v) × (v ≤ℤ high_of t)
 
--- a type of fewer than 32 bits is promoted to int, which has all its numbers (C99 6.3.1.1p2)
+-- a type narrower than 32 bits becomes int, which has all its numbers (C99 6.3.1.1p2)
 abbrev pub promoted : IntType → IntType
 promoted t = if nat_lt (width_of t) 32 then Int else t
 
@@ -63,7 +63,7 @@ promoted t = if nat_lt (width_of t) 32 then Int else t
 abbrev pub wider : IntType → IntType → IntType
 wider a b = if nat_lt (width_of a) (width_of b) then b else a
 
--- of a signed and an unsigned type, the unsigned one where it is at least as wide, else the signed
+-- of a signed and an unsigned type, the signed one if it is wider, else the unsigned
 abbrev pub mixed : IntType → IntType → IntType
 mixed signed unsigned = if nat_lt (width_of unsigned) (width_of signed) then signed else unsigned
 

@@ -49,7 +49,7 @@ pub trait Folder {
     /// How many writes failed.
     ghost write_faults: { Self → ℕ };
 
-    /// The first `limit` bytes of the file, or the whole file where it is shorter. Missing comes
+    /// The bytes of the file, but none behind the first `limit`. Missing comes
     /// only where no such file is held or the count of failed reads rose, Failed only where it rose.
     fn read(&mut self, alloc: Global, name: &str, limit: usize) -> Result<Vec<u8>, FolderFault>
         ensures content { IfOk result (λ v. GivesFirst (files self.old) name.now limit v.items) }

@@ -41,8 +41,7 @@ pub trait Link {
     /// It may be used.
     ghost ready: { Self → Type 0 };
 
-    /// What it gives is what this peer says after it was sent a list of bytes, as long as what is
-    /// sent has this form.
+    /// What it gives is this peer's answer to the bytes sent so far, as long as those have this form.
     ghost honest: { Self → (List ℕ → List ℕ) → (List ℕ → Bool) → Type 0 };
 
     /// Appends the bytes to what is sent. After a refusal a first part of them was sent, maybe

@@ -57,7 +57,7 @@ impl Pieces {
         }
     }
 
-    // The next piece that isn't empty, or its first `max` bytes; none past the last.
+    // Up to `max` bytes of the next piece that has any; none past the last.
     pub(crate) fn next(&mut self, alloc: Global, max: usize) -> Result<Vec<u8>, AllocError>
         requires { 1 ≤ max }
         ensures given { IfOk result (λ v. given self.new.pieces.items self.new.at self.new.from ≡

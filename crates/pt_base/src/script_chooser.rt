@@ -37,7 +37,7 @@ impl Chooser for ScriptChooser {
     }
 }
 
-/// A chooser that gives Slave and Parent in turn, Slave first.
+/// A chooser that alternates: Slave, Parent, Slave and so on.
 #[derive(Drop)]
 pub struct Alternate {
     slave_next: bool,

@@ -5,19 +5,19 @@
 pub enum Trap {
     /// A signed result doesn't fit its type.
     Overflow,
-    /// The right operand of `/` or `%` is 0.
+    /// Division by 0, with `/` or `%`.
     DivZero,
-    /// A shift amount is negative, or at least the width of the promoted left operand.
+    /// A shift by less than 0, or by as many bits as its promoted left operand has, or more.
     Shift,
     /// A pointer past the last element is dereferenced.
     Bounds,
-    /// A null pointer is dereferenced or moved.
+    /// Access through a null pointer, or a move of one.
     Null,
-    /// A pointer would be moved out of its array.
+    /// A move would take a pointer out of its array.
     PtrRange,
     /// Pointers that aren't into one array are ordered or subtracted.
     PtrCompare,
-    /// A function would be entered at depth 201.
+    /// A call would go deeper than 200.
     Depth,
     /// The closing brace of a function that owes a result is reached.
     NoReturn,

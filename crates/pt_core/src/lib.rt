@@ -19,12 +19,9 @@ pub use boot::Boot;
 pub use expression::Expr;
 pub use function::CoreFn;
 pub use global::GlobalVar;
-pub use laws::{boots_add_hosts, whole_programs_may_serve};
+pub use laws::{boots_add_hosts, programs_are_shared, whole_programs_may_serve};
 pub use monitor::{Bind, Entry, MonitorProgram};
 pub use place::{Place, Root};
 pub use program::{CoreProgram, Signatures};
 pub use slave::SlaveProgram;
 pub use statement::Stmt;
-
-#[cfg(test)]
-mod tests;

@@ -24,7 +24,7 @@ pub enum HostModel {
     Input {
         next: u64,
     },
-    /// It has no result, and writes the low 8 bits of each argument.
+    /// It has no result, and writes a byte for each argument: its low 8 bits.
     Bytes,
     /// It has no result, and writes its name, each argument in decimal with a space before it, and
     /// a line feed.

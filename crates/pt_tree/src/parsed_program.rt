@@ -7,8 +7,8 @@ ghost use Rattle.pt_tree.specs.Facts.{items_sound};
 use crate::program::Item;
 
 /// A parsed program. It has fewer than 4,194,304 nodes, where a node is each part with a span of its
-/// own, the value of each constant in it is in the range of the constant's type, and each word in it
-/// has at most 1,048,576 bytes.
+/// own, the value of each constant in it is in the range of the constant's type, and no word in it
+/// is longer than 1,048,576 bytes.
 #[derive(Drop)]
 pub struct Program {
     pub items: Vec<Item>,

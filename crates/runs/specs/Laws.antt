@@ -39,7 +39,7 @@ pub record Denies {S : Type 0} (policy : Answers S) (s : S) (events : List Event
   pub denied : policy.next state function values ≡ None
 
 -- Where the policy denies a call, the bytes written before it are expected, and its refusal: its
--- number from 1, its function and the policy's state there.
+-- number from 1, the called function, and which state the policy was in.
 abbrev pub DeniedRunsStop : Type 0 → Type 0
 DeniedRunsStop S = (policy : Answers S) (run : Run) (d : Denies policy policy.first run.events) →
     expected policy run ≡ record { bytes = written d.before; end = Refused (call_count d.before + 1) (record { 0 = d.function }) (policy.name d.state) }

@@ -11,8 +11,8 @@ use Rattle.source_meaning.specs.WholeRun.{whole_run}
 
 -- ---- budgets
 
--- A run that ended before its budget was spent is the same with every budget from the turns that it
--- used on, and with every smaller budget the program's run ends Spent.
+-- A run that ended before its budget was spent doesn't change with a budget that covers the turns it
+-- used, and with any smaller one the program's run ends Spent.
 abbrev pub EndedRunsStay : Type 0
 EndedRunsStay = (program : TypedTree) (hosts : Hosts) (input : List ℕ) (n : ℕ) →
     (whole_run program hosts input n).end ≢ Spent →

@@ -1,8 +1,8 @@
 -- The memory of the original program: which cells lie in which block.
 use Rattle.std.specs.Prelude.{ℕ, ℤ, pos, Bool, false, ◌&&◌, List, [], if◌then◌else◌, nat_eq, get_or, slice_index_or, slice_set}
 
--- An object is a block of cells. A local is named by the depth of its function's call and by its
--- variable, a global by its number.
+-- Objects are blocks of cells. A local's is known by its variable and by how deep its function's call
+-- is, a global's by number.
 pub data Block : Type 0 where
   local : ℕ → ℕ → Block
   global : ℕ → Block

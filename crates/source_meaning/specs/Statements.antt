@@ -91,8 +91,8 @@ abbrev pub after_round : (State → Outcome Flow) → Round → State → Outcom
 after_round more again st = more st
 after_round more (leaves flow) st = gives flow st
 
--- a loop takes a turn when it is entered and each time that control goes back to its head; a round is
--- told whether it is the first. With as many rounds as turns are left, none is missed.
+-- a loop takes one turn at its entry and one for each return to its head; a round is told whether it is
+-- the first. With as many rounds as turns are left, none is missed.
 abbrev pub looped : ℕ → (Bool → State → Outcome Round) → Bool → State → Outcome Flow
 looped zero round first st = spent st
 looped (suc rounds) round first st = take_turn st.left st (λ st1. round first st1 >>= after_round (looped rounds round false))
@@ -145,7 +145,7 @@ abbrev pub chosen : SectionTrees → ℤ → ℕ
 chosen sections value =
     unwrap_or (section_with (λ label. has_label label value) sections) (unwrap_or (section_with is_default sections) (count_of sections))
 
--- `break` ends the switch; `continue` goes on with the loop that it stands in
+-- after `break` the switch is over; `continue` is left to the loop around it
 abbrev pub past_switch : Flow → State → Outcome Flow
 past_switch goes_on st = gives goes_on st
 past_switch broke st = gives goes_on st

@@ -47,8 +47,8 @@ abbrev pub main_run : TypedTree → Option FnId → State → Outcome Flow
 main_run program None st = gives goes_on st
 main_run program (Some f) st = statement (body_at program f.0) (main_code program f) (opened (main_code program f) [] st)
 
--- the run of a program with these hosts and this input within a budget of turns; main runs at depth 1,
--- and entering it takes no turn
+-- the run of a program with these hosts and this input within a budget of turns; the depth of main
+-- is 1, and its entry takes no turn
 abbrev pub whole_run : TypedTree → Hosts → List ℕ → ℕ → Run
 whole_run program hosts input turns =
     run_of turns (main_run program (function_named program (codes "main")) (begun program hosts input turns))

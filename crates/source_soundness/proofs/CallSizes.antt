@@ -281,7 +281,7 @@ laid_out (y ∷ xs) m k zero j x e is = earlier_stay xs (put m (global k) (map n
     go false e = cc
 laid_out (y ∷ xs) m k (suc i) j x e is = laid_out xs (put m (global k) (map number y.cells)) (k + 1) i j x (omega (arith, e)) is
 
--- a global has the cells of its type
+-- a global's cells are as many as its type has
 global_size : (structs : List StructInfo) (x : TypedGlobal) → global_sound structs x ≡ true → length (map number x.cells) ≡ cells_by (sizes_of structs) x.var.ty
 unfolding leaves_of
 global_size structs x h =

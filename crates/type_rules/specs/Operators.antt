@@ -17,7 +17,7 @@ use Rattle.type_rules.specs.Types.{is_same_elem, is_bad, is_integer, is_scalar, 
 abbrev pub at_right : Rule
 at_right = Wrong false true
 
--- an operand of type Bad gives no fault of its own, and one that isn't taken is wrong whatever the other is
+-- an operand of type Bad brings no fault, and one that isn't taken is wrong whatever the other is
 abbrev pub judged : (bad takes_left takes_right : Bool) → Rule → Rule
 judged true left right rule = Unknown
 judged false true true rule = rule

@@ -106,8 +106,8 @@ pub fn compound_rule(op: BinaryOp, target: Type, value: Value) -> Rule
     }
 }
 
-/// What the arms of a `?:` give (C99 6.5.15): two integers, pointers to one pointee, a pointer and
-/// a null constant, or two voids.
+/// What the arms of a `?:` give (C99 6.5.15). Both are integers, or void, or pointers with the
+/// same pointee; or a null constant goes with a pointer.
 pub fn choice_rule(first: Value, last: Value) -> ChoiceRule
     ensures { result ≡ is.choice_rule first last }
 {
@@ -132,7 +132,7 @@ pub fn choice_rule(first: Value, last: Value) -> ChoiceRule
     }
 }
 
-/// Whether the value is a condition of `if`, of a loop or of `?:`: an integer or a pointer.
+/// Whether the value can decide an `if`, a loop or a `?:`, as integers and pointers can.
 pub fn condition_rule(value: Value) -> ConditionRule
     ensures { result ≡ is.condition_rule value }
 {

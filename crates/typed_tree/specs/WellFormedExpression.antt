@@ -109,7 +109,7 @@ ends_in_field start no_steps = start
 ends_in_field start (step_and (field k) rest) = ends_in_field true rest
 ends_in_field start (step_and (item i s) rest) = ends_in_field false rest
 
--- what & may stand before here: &*E is E and &E1[E2] is E1 + E2 (C99 6.5.3.2p3)
+-- what & may stand before here: not *E or E1[E2], whose addresses are E and E1 + E2 (C99 6.5.3.2p3)
 abbrev pub is_addressed : PlaceTree → Bool
 is_addressed (place r ss) = is_object (place r ss) && ends_in_field (is_named r) ss
 

@@ -1,4 +1,4 @@
-//! The typed tree: a program with types, explicit conversions and numbered names.
+//! The typed tree: a program whose types and conversions are written out and whose names are numbers.
 #![tactic(auto)]
 
 mod expression;

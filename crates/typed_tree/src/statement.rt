@@ -21,8 +21,8 @@ pub enum TypedBody {
     Return(Span, Option<ExprId>),
     Break(Span),
     Continue(Span),
-    /// The controlling expression as it stands, its promoted type, to which the case values are
-    /// converted, and the sections.
+    /// What is switched on, unconverted; its promoted type, to which the case values are converted;
+    /// and the sections.
     Switch(Span, ExprId, IntType, Vec<TypedSection>),
 }
 

@@ -4,7 +4,7 @@ use Rattle.wire.specs.declared.message.Message.{Message}
 use Rattle.wire.specs.Spelling.{four_bytes, spelling}
 use Rattle.wire.specs.Limits.{longest_payload, Spells}
 
--- the bytes end inside a frame whose length is in range
+-- the bytes break off within a frame, and its length is no longer than the limit
 pub record EndsInside (bytes : List ℕ) : Type 0 where
   pub size : ℕ
   pub part : List ℕ

@@ -11,7 +11,7 @@ use Rattle.wire.specs.Frames.{IsUnfinished, Ending, open_end, bad_frame_at, too_
 use Rattle.wire.specs.View.{ReaderView, fresh}
 use Rattle.wire.specs.Steps.{Answers, Step, Runs, all_fed, all_given}
 
--- a message that keeps all limits has one spelling, any other has none
+-- a message within all limits is spelled in exactly one way, any other in none
 pub record OneSpelling (m : Message) : Type 0 where
   pub some : FitsTypes m → KeepsLimits m → (bytes : List ℕ) × Spells m bytes
   pub only : (a b : List ℕ) → Spells m a → Spells m b → a ≡ b

@@ -1,7 +1,7 @@
 // The laws of spellings, streams and readers, each on a function with nothing to do.
 ghost use Rattle.wire.specs.Laws.{EachHasOneSpelling, CountsSuffice, EachHasOneReading, NoneBeginsAnother, EachHasOneStream, OneAnswer, AnyCutting};
 
-/// A message that keeps all limits has one spelling, any other has none.
+/// A message within all limits is spelled in exactly one way, any other in none.
 pub fn one_spelling()
     ensures { EachHasOneSpelling }
 {}

@@ -17,7 +17,7 @@ pub struct ReplyBody {
     pub cells: Cells,
 }
 
-/// A message. `turns` are the slave's turns so far.
+/// A message. `turns` counts what the slave has taken by then.
 #[derive(Drop)]
 pub enum Message {
     /// A piece of the slave's boot; an empty piece ends it.

@@ -73,7 +73,7 @@ impl Reader {
     ///
     /// # Errors
     ///
-    /// `BadFrame` where a whole frame spells no message, `TooLong` where a length is over the limit: each
+    /// `BadFrame` where a complete frame is no message's, `TooLong` where a length is over the limit: each
     /// call from then on answers the same. After `Memory` the reader is as before.
     pub fn next(&mut self, alloc: Global) -> Result<Option<(Message, u64)>, WireError>
         ensures { Answers self.old result self.new }

@@ -1,0 +1,13 @@
+mod Settings
+mod SameTypes
+mod Standing
+mod Steps
+mod Places
+mod Rules
+mod Forms
+mod Parts
+mod Expressions
+mod Leaves
+mod Statements
+mod Lists
+mod Programs

@@ -1,0 +1,200 @@
+-- What tests of types say, and what they say together.
+use Rattle.std.proofs.Common.{◌≡◌, ◌∙◌, ℕ, zero, suc, nat_eq, refl, ap, sym, arith, Bool, true, false, Option, Some, None}
+use Rattle.std.specs.Prelude.{◌||◌, not}
+use Rattle.std.proofs.lemmas.Bool.Decides.{nat_tests}
+use Rattle.pt_base.specs.IntTypes.{promoted, usual}
+use Rattle.pt_base.specs.declared.int_type.IntType.{IntType}
+use Rattle.pt_base.specs.declared.int_type.IntType.TheVariants.{Char, SChar, UChar, Short, UShort, Int, UInt, Long, ULong}
+use Rattle.pt_tree.specs.declared.signature.Elem.{Elem}
+use Rattle.pt_tree.specs.declared.signature.Elem.TheVariants as elem
+use Rattle.typed_tree.specs.declared.types.VarTy.{VarTy}
+use Rattle.typed_tree.specs.declared.types.VarTy.TheVariants as v
+use Rattle.typed_tree.specs.TypeTests.{place_of, same_int, same_elem, same_bool, same_type, same_types, is_scalar}
+use Rattle.typed_tree.specs.TypeRules.{is_promoted}
+use Rattle.typed_tree.proofs.WellFormedLemmas.{and_left, and_right, and_both}
+use Rattle.pt_core.specs.WellFormedExpression.{stands_for}
+
+pub never : {X : Type 0} → false ≡ true → X
+never h = cc
+
+pub number_self : (a : ℕ) → nat_eq a a ≡ true
+number_self a = grind (arith, nat_tests)
+
+pub same_number : (a b : ℕ) → nat_eq a b ≡ true → a ≡ b
+same_number a b h = grind (arith, nat_tests)
+
+-- ---- equal types
+
+abbrev int_at : ℕ → IntType
+int_at zero = Char
+int_at (suc zero) = SChar
+int_at (suc (suc zero)) = UChar
+int_at (suc (suc (suc zero))) = Short
+int_at (suc (suc (suc (suc zero)))) = UShort
+int_at (suc (suc (suc (suc (suc zero))))) = Int
+int_at (suc (suc (suc (suc (suc (suc zero)))))) = UInt
+int_at (suc (suc (suc (suc (suc (suc (suc zero))))))) = Long
+int_at (suc (suc (suc (suc (suc (suc (suc (suc n)))))))) = ULong
+
+int_there : (t : IntType) → int_at (place_of t) ≡ t
+int_there Char = refl
+int_there SChar = refl
+int_there UChar = refl
+int_there Short = refl
+int_there UShort = refl
+int_there Int = refl
+int_there UInt = refl
+int_there Long = refl
+int_there ULong = refl
+
+pub equal_ints : (a b : IntType) → same_int a b ≡ true → a ≡ b
+equal_ints a b h = sym (int_there a) ∙ ap int_at (same_number (place_of a) (place_of b) h) ∙ int_there b
+
+equal_bools : (a b : Bool) → same_bool a b ≡ true → a ≡ b
+equal_bools true b h = sym h
+equal_bools false true h = cc
+equal_bools false false h = refl
+
+pub equal_elems : (a b : Elem) → same_elem a b ≡ true → a ≡ b
+equal_elems (elem.Int a) (elem.Int b) h = ap elem.Int (equal_ints a b h)
+equal_elems (elem.Int a) (elem.Struct n) h = cc
+equal_elems (elem.Struct m) (elem.Int b) h = cc
+equal_elems (elem.Struct m) (elem.Struct n) h = ap elem.Struct (same_number m n h)
+
+pub equal_types : (a b : VarTy) → same_type a b ≡ true → a ≡ b
+equal_types (v.Int a) (v.Int b) h = ap v.Int (equal_ints a b h)
+equal_types (v.Struct m) (v.Struct n) h = ap v.Struct (same_number m n h)
+equal_types (v.Array a m) (v.Array b n) h =
+    ap (λ x. v.Array x m) (equal_elems a b (and_left (same_elem a b) (nat_eq m n) h)) ∙ ap (v.Array b) (same_number m n (and_right (same_elem a b) (nat_eq m n) h))
+equal_types (v.Pointer a f) (v.Pointer b g) h =
+    ap (λ x. v.Pointer x f) (equal_elems a b (and_left (same_elem a b) (same_bool f g) h)) ∙ ap (v.Pointer b) (equal_bools f g (and_right (same_elem a b) (same_bool f g) h))
+equal_types (v.Int a) (v.Struct n) h = cc
+equal_types (v.Int a) (v.Array b n) h = cc
+equal_types (v.Int a) (v.Pointer b g) h = cc
+equal_types (v.Struct m) (v.Int b) h = cc
+equal_types (v.Struct m) (v.Array b n) h = cc
+equal_types (v.Struct m) (v.Pointer b g) h = cc
+equal_types (v.Array a m) (v.Int b) h = cc
+equal_types (v.Array a m) (v.Struct n) h = cc
+equal_types (v.Array a m) (v.Pointer b g) h = cc
+equal_types (v.Pointer a f) (v.Int b) h = cc
+equal_types (v.Pointer a f) (v.Struct n) h = cc
+equal_types (v.Pointer a f) (v.Array b n) h = cc
+
+pub equal_options : (a b : Option VarTy) → same_types a b ≡ true → a ≡ b
+equal_options None None h = refl
+equal_options None (Some b) h = cc
+equal_options (Some a) None h = cc
+equal_options (Some a) (Some b) h = ap Some (equal_types a b h)
+
+-- ---- a type is the same as itself
+
+pub int_self : (a : IntType) → same_int a a ≡ true
+int_self a = number_self (place_of a)
+
+pub elem_self : (a : Elem) → same_elem a a ≡ true
+elem_self (elem.Int a) = int_self a
+elem_self (elem.Struct n) = number_self n
+
+pub keeps_self : (f : Bool) → (not f || f) ≡ true
+keeps_self true = refl
+keeps_self false = refl
+
+bool_self : (f : Bool) → same_bool f f ≡ true
+bool_self true = refl
+bool_self false = refl
+
+pub type_self : (a : VarTy) → same_type a a ≡ true
+type_self (v.Int t) = int_self t
+type_self (v.Struct n) = number_self n
+type_self (v.Array e count) = and_both (same_elem e e) (nat_eq count count) (elem_self e) (number_self count)
+type_self (v.Pointer e fixed) = and_both (same_elem e e) (same_bool fixed fixed) (elem_self e) (bool_self fixed)
+
+pub stands_self : (a : VarTy) → stands_for a a ≡ true
+stands_self (v.Int t) = int_self t
+stands_self (v.Struct n) = number_self n
+stands_self (v.Array e count) = type_self (v.Array e count)
+stands_self (v.Pointer e fixed) = and_both (same_elem e e) (not fixed || fixed) (elem_self e) (keeps_self fixed)
+
+-- ---- what may stand where another is wanted
+
+pub stands_int : (a : VarTy) (t : IntType) → stands_for a (v.Int t) ≡ true → a ≡ v.Int t
+stands_int (v.Int a) t h = equal_types (v.Int a) (v.Int t) h
+stands_int (v.Struct n) t h = cc
+stands_int (v.Array e n) t h = cc
+stands_int (v.Pointer e f) t h = cc
+
+pub record PointsTo (a : VarTy) (elem : Elem) (fixed : Bool) : Type 0 where
+  pub own : Bool
+  pub is : a ≡ v.Pointer elem own
+  pub keeps : (not own || fixed) ≡ true
+
+pub stands_pointer : (a : VarTy) (e : Elem) (f : Bool) → stands_for a (v.Pointer e f) ≡ true → PointsTo a e f
+stands_pointer (v.Pointer a g) e f h =
+    record { own = g; is = ap (λ x. v.Pointer x g) (equal_elems a e (and_left (same_elem a e) (not g || f) h)); keeps = and_right (same_elem a e) (not g || f) h }
+stands_pointer (v.Int a) e f h = cc
+stands_pointer (v.Struct n) e f h = cc
+stands_pointer (v.Array a n) e f h = cc
+
+pub points : (e : Elem) (f g : Bool) → (not f || g) ≡ true → stands_for (v.Pointer e f) (v.Pointer e g) ≡ true
+points e f g h = and_both (same_elem e e) (not f || g) (elem_self e) h
+
+pub keeps_both : (f g h : Bool) → (not f || g) ≡ true → (not g || h) ≡ true → (not f || h) ≡ true
+keeps_both false g h p q = refl
+keeps_both true true h p q = q
+keeps_both true false h p q = never p
+
+pub stands_scalar : (a b : VarTy) → stands_for a b ≡ true → is_scalar (Some b) ≡ true → is_scalar (Some a) ≡ true
+stands_scalar (v.Int t) b h k = refl
+stands_scalar (v.Pointer e f) b h k = refl
+stands_scalar (v.Struct m) (v.Int t) h k = cc
+stands_scalar (v.Struct m) (v.Struct n) h k = k
+stands_scalar (v.Struct m) (v.Array e n) h k = k
+stands_scalar (v.Struct m) (v.Pointer e f) h k = cc
+stands_scalar (v.Array e m) (v.Int t) h k = cc
+stands_scalar (v.Array e m) (v.Struct n) h k = k
+stands_scalar (v.Array e m) (v.Array d n) h k = k
+stands_scalar (v.Array e m) (v.Pointer d f) h k = cc
+
+-- ---- integer types
+
+pub promoted_promoted : (a : IntType) → is_promoted (promoted a) ≡ true
+promoted_promoted Char = refl
+promoted_promoted SChar = refl
+promoted_promoted UChar = refl
+promoted_promoted Short = refl
+promoted_promoted UShort = refl
+promoted_promoted Int = refl
+promoted_promoted UInt = refl
+promoted_promoted Long = refl
+promoted_promoted ULong = refl
+
+pub promoted_same : (a : IntType) → is_promoted a ≡ true → promoted a ≡ a
+promoted_same a h = equal_ints (promoted a) a h
+
+pub usual_both : (a b : IntType) → same_int (usual (usual a b) (usual a b)) (usual a b) ≡ true
+usual_both Char Char = refl
+usual_both SChar SChar = refl
+usual_both UChar UChar = refl
+usual_both Short Short = refl
+usual_both UShort UShort = refl
+usual_both Int Int = refl
+usual_both UInt UInt = refl
+usual_both Long Long = refl
+usual_both ULong ULong = refl
+usual_both a b = refl
+
+-- the common type of two types is its own with itself
+pub usual_same : (a t : IntType) → same_int (usual a t) t ≡ true → same_int (usual t t) t ≡ true
+usual_same a t h = rw (equal_ints (usual a t) t h) at (usual_both a t)
+
+pub usual_promoted : (t : IntType) → is_promoted t ≡ true → same_int (usual t t) t ≡ true
+usual_promoted Char h = cc
+usual_promoted SChar h = cc
+usual_promoted UChar h = cc
+usual_promoted Short h = cc
+usual_promoted UShort h = cc
+usual_promoted Int h = refl
+usual_promoted UInt h = refl
+usual_promoted Long h = refl
+usual_promoted ULong h = refl
