@@ -1,0 +1,3 @@
+mod FlatSteps
+mod FlatValues
+mod ResolveLemmas
