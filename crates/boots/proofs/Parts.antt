@@ -94,13 +94,13 @@ pub both_part : {A B : Type 0} {Fits Short : A → Type 0} {bytes_of : A → Lis
     → IsPart (λ (p : A × B). Fits p.0 × Fits' p.1) (λ (p : A × B). Short p.0 × Short' p.1) (λ (p : A × B). bytes_of p.0 ++ bytes_of' p.1) (both first second)
 both_part {A} {B} {Fits} {Short} {bytes_of} {first} {Fits'} {Short'} {bytes_of'} {second} p q = record {
   takes = λ bytes found fits e.
-    let a = bind_ok (first bytes) (λ x. second x.1 >>= λ y. Ok ((x.0, y.0), y.1)) found e in
-    let b = bind_ok (second a.0.1) (λ y. Ok ((a.0.0, y.0), y.1)) found a.2 in
-    let t = p.takes bytes a.0 fits a.1 in
-    let u = q.takes a.0.1 b.0 t.0.rest_fits b.1 in
-    let made : (A × B) × List ℕ = ((a.0.0, b.0.0), b.0.1) in
-    subst (λ (x : (A × B) × List ℕ). Takes bytes (bytes_of x.0.0 ++ bytes_of' x.0.1) x.1 × (Fits x.0.0 × Fits' x.0.1)) (ok_is made found b.2)
-    (Takes-then bytes (bytes_of a.0.0) a.0.1 (bytes_of' b.0.0) b.0.1 t.0 u.0, (t.1, u.1));
+      let a = bind_ok (first bytes) (λ x. second x.1 >>= λ y. Ok ((x.0, y.0), y.1)) found e in
+      let b = bind_ok (second a.0.1) (λ y. Ok ((a.0.0, y.0), y.1)) found a.2 in
+      let t = p.takes bytes a.0 fits a.1 in
+      let u = q.takes a.0.1 b.0 t.0.rest_fits b.1 in
+      let made : (A × B) × List ℕ = ((a.0.0, b.0.0), b.0.1) in
+      subst (λ (x : (A × B) × List ℕ). Takes bytes (bytes_of x.0.0 ++ bytes_of' x.0.1) x.1 × (Fits x.0.0 × Fits' x.0.1)) (ok_is made found b.2)
+      (Takes-then bytes (bytes_of a.0.0) a.0.1 (bytes_of' b.0.0) b.0.1 t.0 u.0, (t.1, u.1));
   again = λ x rest fits. both_again p q x.0 x.1 rest fits.0 fits.1;
 }
 
@@ -110,14 +110,14 @@ pub mapped_part : {A B : Type 0} {Fits Short : A → Type 0} {bytes_of : A → L
     → IsPart Fits Short bytes_of part → IsPart (λ y. Fits (unmade y)) (λ y. Short (unmade y)) (λ y. bytes_of (unmade y)) (mapped made part)
 mapped_part {A} {B} {Fits} {Short} {bytes_of} {part} made unmade there back p = record {
   takes = λ bytes found fits e.
-    let a = bind_ok (part bytes) (λ x. Ok (made x.0, x.1)) found e in
-    let t = p.takes bytes a.0 fits a.1 in
-    let same = sym (there a.0.0) in
-    let result : B × List ℕ = (made a.0.0, a.0.1) in
-    subst (λ (y : B × List ℕ). Takes bytes (bytes_of (unmade y.0)) y.1 × Fits (unmade y.0)) (ok_is result found a.2)
-    (subst (λ (x : A). Takes bytes (bytes_of x) a.0.1 × Fits x) same t);
+      let a = bind_ok (part bytes) (λ x. Ok (made x.0, x.1)) found e in
+      let t = p.takes bytes a.0 fits a.1 in
+      let same = sym (there a.0.0) in
+      let result : B × List ℕ = (made a.0.0, a.0.1) in
+      subst (λ (y : B × List ℕ). Takes bytes (bytes_of (unmade y.0)) y.1 × Fits (unmade y.0)) (ok_is result found a.2)
+      (subst (λ (x : A). Takes bytes (bytes_of x) a.0.1 × Fits x) same t);
   again = λ y rest fits.
-    again_bind Short (λ z. Short (unmade z)) (unmade y) rest y rest (part (bytes_of (unmade y) ++ rest)) (λ x. Ok (made x.0, x.1)) (p.again (unmade y) rest fits) (λ h. h) (inl (ap (λ (z : B). ok (z, rest)) (back y)));
+      again_bind Short (λ z. Short (unmade z)) (unmade y) rest y rest (part (bytes_of (unmade y) ++ rest)) (λ x. Ok (made x.0, x.1)) (p.again (unmade y) rest fits) (λ h. h) (inl (ap (λ (z : B). ok (z, rest)) (back y)));
 }
 
 -- ---- a part behind the tag of a variant
@@ -267,15 +267,15 @@ pub list_part : {A : Type 0} {Fits Short : A → Type 0} {bytes_of : A → List 
 unfolding list_at
 list_part {A} {Fits} {Short} {bytes_of} {part} p = record {
   takes = λ bytes found fits e.
-    let a = bind_ok (number64_at bytes) (λ n. many part n.0 n.1) found e in
-    let t = number64_part.takes bytes a.0 fits a.1 in
-    let items = many_takes p a.0.0 a.0.1 found t.0.rest_fits a.2 in
-    let whole = Takes-then bytes (eight_bytes a.0.0) a.0.1 (flat_map bytes_of found.0) found.1 t.0 items.0 in
-    (subst (λ n. Takes bytes (eight_bytes n ++ flat_map bytes_of found.0) found.1) (sym items.1) whole, (subst (λ n. n < 2 ^ 64) (sym items.1) t.1, items.2));
+      let a = bind_ok (number64_at bytes) (λ n. many part n.0 n.1) found e in
+      let t = number64_part.takes bytes a.0 fits a.1 in
+      let items = many_takes p a.0.0 a.0.1 found t.0.rest_fits a.2 in
+      let whole = Takes-then bytes (eight_bytes a.0.0) a.0.1 (flat_map bytes_of found.0) found.1 t.0 items.0 in
+      (subst (λ n. Takes bytes (eight_bytes n ++ flat_map bytes_of found.0) found.1) (sym items.1) whole, (subst (λ n. n < 2 ^ 64) (sym items.1) t.1, items.2));
   again = λ xs rest fits.
-    subst (λ bytes. Again (AllByRecursion Short) xs rest (number64_at bytes >>= λ n. many part n.0 n.1)) (sym (append_assoc (eight_bytes (length xs)) (flat_map bytes_of xs) rest))
-    (again_bind (Flat {A = ℕ}) (AllByRecursion Short) (length xs) (flat_map bytes_of xs ++ rest) xs rest (number64_at (eight_bytes (length xs) ++ (flat_map bytes_of xs ++ rest))) (λ n. many part n.0 n.1)
-    (number64_part.again (length xs) (flat_map bytes_of xs ++ rest) fits.0) (λ h. tt {0}) (many_again p xs rest fits.1));
+      subst (λ bytes. Again (AllByRecursion Short) xs rest (number64_at bytes >>= λ n. many part n.0 n.1)) (sym (append_assoc (eight_bytes (length xs)) (flat_map bytes_of xs) rest))
+      (again_bind (Flat {A = ℕ}) (AllByRecursion Short) (length xs) (flat_map bytes_of xs ++ rest) xs rest (number64_at (eight_bytes (length xs) ++ (flat_map bytes_of xs ++ rest))) (λ n. many part n.0 n.1)
+      (number64_part.again (length xs) (flat_map bytes_of xs ++ rest) fits.0) (λ h. tt {0}) (many_again p xs rest fits.1));
 }
 
 pub all_flat : {A : Type 0} (xs : List A) → AllByRecursion (Flat {A = A}) xs
