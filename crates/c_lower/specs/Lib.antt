@@ -1,8 +1,11 @@
+pub mod ExpressionParts
 pub mod Expressions
 pub mod Functions
 pub mod Leaves
 pub mod Lowered
+pub mod Names
 pub mod Operators
+pub mod Output
 pub mod Purity
 pub mod Statements
 pub mod Worked

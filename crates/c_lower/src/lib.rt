@@ -1,10 +1,16 @@
-//! The lowering of typed functions into the normal form: its definitions, one equation a form.
+//! The lowering of typed functions into the normal form, equal to its definitions, one equation a
+//! form.
 #![tactic(auto)]
 
-ghost use Rattle.c_lower.specs.Worked.{TrapsAreKept};
+mod assignments;
+mod expressions;
+mod laws;
+mod lowering;
+mod names;
+mod operators;
+mod place;
+mod purity;
+mod temporary;
+mod types;
 
-/// Five small programs that trap, and one that doesn't, end in the normal form as in C: with the same
-/// trap, at the same place.
-pub fn traps_are_kept()
-    ensures { TrapsAreKept }
-{}
+pub use laws::traps_are_kept;
