@@ -11,6 +11,11 @@ use Rattle.c_lower.specs.Lowered.{Effects, Lowered, LoweredPlace, past, holding,
 use Rattle.c_lower.specs.Purity.{takes_left_first, is_pure}
 use Rattle.c_lower.specs.Expressions.{Scope, decayed, decayed_type, element_place, field_in, fixed_if, value_at, linked, with_operand, arm, assigned, left_place, counted, counted_after, value_in, object_in, place_in}
 
+-- a step that needs no statement
+abbrev pub is_pure_step : StepTree → Bool
+is_pure_step (t.field k) = true
+is_pure_step (t.item e s) = is_pure e
+
 -- a link behind the chain so far, which is this expression
 abbrev pub link_in : Scope → LinkTree → t.ExprTree → VarTy → Lowered → ℕ → Lowered
 link_in c (link at to step e) whole ty far n =

@@ -1,6 +1,6 @@
 -- What the code has made so far, and what its calls add to that, as the definitions speak of it. Where memory
 -- is wanting nothing is said.
-use Rattle.std.specs.Prelude.{◌≡◌, ℕ, ◌+◌, Bool, List, [], ◌∷◌, ◌++◌, map, length, Option, option_map, Result, Ok, Err, Vec}
+use Rattle.std.specs.Prelude.{◌≡◌, ℕ, ◌+◌, Bool, List, [], ◌∷◌, ◌++◌, map, length, Option, option_map, Result, Vec, IfOk, OnOk}
 use Rattle.std.specs.declared.alloc.AllocError.{AllocError}
 use Rattle.std.specs.declared.alloc.Global.{Global}
 use Rattle.typed_tree.specs.declared.types.VarTy.{VarTy}
@@ -82,21 +82,16 @@ pub record Collects (before : Output) (low : Effects) (after : Output) (stmts : 
 -- ---- the answers of calls, whose definitions take the first free number
 
 abbrev pub Values : Result Expr AllocError → Output → (ℕ → Lowered) → Output → Type 0
-Values (Ok v) before low after = Gives before (low (next before)) after (view_expr v)
-Values (Err e) before low after = Unit {0}
+Values result before low after = IfOk result (λ v. Gives before (low (next before)) after (view_expr v))
 
 abbrev pub Arguing : Result (Vec Expr Global) AllocError → Output → (ℕ → Arguments) → Output → Type 0
-Arguing (Ok all) before low after = GivesAll before (low (next before)) after (map view_expr all.items)
-Arguing (Err e) before low after = Unit {0}
+Arguing result before low after = IfOk result (λ all. GivesAll before (low (next before)) after (map view_expr all.items))
 
 abbrev pub Places : Result FoundPlace AllocError → Output → (ℕ → LoweredPlace) → Output → Type 0
-Places (Ok p) before low after = Finds before (low (next before)) after (view_found p)
-Places (Err e) before low after = Unit {0}
+Places result before low after = IfOk result (λ p. Finds before (low (next before)) after (view_found p))
 
 abbrev pub Doing : {U : Type 0} → Result U AllocError → Output → (ℕ → Effects) → Output → Type 0
-Doing (Ok u) before low after = Does before (low (next before)) after
-Doing (Err e) before low after = Unit {0}
+Doing result before low after = OnOk result (Does before (low (next before)) after)
 
 abbrev pub Collecting : Result (Vec Stmt Global) AllocError → Output → (ℕ → Effects) → Output → Type 0
-Collecting (Ok stmts) before low after = Collects before (low (next before)) after (map view_stmt stmts.items)
-Collecting (Err e) before low after = Unit {0}
+Collecting result before low after = IfOk result (λ stmts. Collects before (low (next before)) after (map view_stmt stmts.items))

@@ -1,8 +1,6 @@
 // The lowering of expressions, from left to right.
 ghost use Rattle.std.specs.Prelude.{◌≡◌, ℕ, Bool, [], List, Option, Some, IfOk, OnOk, map};
 ghost use Rattle.typed_tree.specs.ExpressionTree as t;
-ghost use Rattle.source_meaning.specs.Expressions as meaning;
-ghost use Rattle.pt_core.specs.CodeTree as core;
 ghost use Rattle.pt_core.specs.CodeTree.{view_expr};
 ghost use Rattle.c_lower.specs.Lowered.{Effects, Lowered, LoweredPlace};
 ghost use Rattle.c_lower.specs.Expressions as is;
@@ -14,18 +12,19 @@ ghost use Rattle.c_lower.specs.Output.{Output, output_of, next, view_found, Give
 use crate::assignments::{
     call_alone, called, compounded, copied, count, counted, given, zero,
 };
+use crate::logical::{started, where_open};
 use crate::lowering::{Lowering, held_if, temp};
 use crate::names::Names;
 use crate::operators::{converted, prefixed, stepped, truth_of};
 use crate::place::{FoundPlace, behind, element, field, fixed_if, global, no_object, variable};
-use crate::purity::{is_pure, pure_from, takes_left_first};
+use crate::purity::{fixes_left, holds_left, is_pure, pure_from};
 use crate::temporary::Temporary;
 use crate::types::{decayed_type, elem_of, int_of, is_struct, type_of, type_or_int};
-use pt_base::{IntType, Span, VarId};
+use pt_base::{Span, VarId};
 use pt_core::{Expr, Stmt};
 use std::alloc::{AllocError, Global};
 use typed_tree::{
-    Form, LogicalOp, Place, PlaceStep, Root, TypedExpr, TypedLink, TypedOperand, VarTy,
+    Form, LogicalOp, Place, PlaceStep, Root, TypedExpr, TypedLink, TypedOperand,
 };
 
 /// The value of an expression, behind the statements that it needs.
@@ -70,16 +69,28 @@ pub(crate) fn value(
             effects(alloc, names, a, lowering)?;
             Ok(zero())
         }
-        Form::Chain(a, links) => chain(alloc, names, a, links, lowering),
-        Form::Logical(op, a, operands) => {
-            logical(alloc, names, e.span, *op, a, operands, lowering)
+        Form::Chain(a, links) => {
+            let first = value(alloc, names, a, lowering)?;
+            let keeper = Temporary::holding(type_of(a), a.span);
+            chained(alloc, names, links, keeper, first, lowering)
+        }
+        Form::Logical(op, a, others) => {
+            let first = value(alloc, names, a, lowering)?;
+            let k = started(alloc, e.span, type_of(a), first, lowering)?;
+            operands(alloc, names, others, *op, k, lowering)?;
+            Ok(temp(alloc, k))
         }
         Form::Choice(test, yes, no) => {
+            let cond = value(alloc, names, test, lowering)?;
             let whole = Temporary::holding(type_or_int(e.ty), e.span);
-            choice(alloc, names, whole, test, yes, no, lowering)
+            let k = lowering.claim(whole)?;
+            let first = arm(alloc, names, yes, k, lowering)?;
+            let second = arm(alloc, names, no, k, lowering)?;
+            lowering.add(Stmt::choose(cond, first, second))?;
+            Ok(temp(alloc, k))
         }
         Form::Assign(p, a) => {
-            let to = assignment(alloc, names, true, p, a, is_struct(e.ty), lowering)?;
+            let to = assignment(alloc, names, p, a, true, is_struct(e.ty), lowering)?;
             Ok(Expr::read(to.place))
         }
         Form::Compound {
@@ -88,7 +99,7 @@ pub(crate) fn value(
             operand,
             ..
         } => {
-            let to = left(alloc, names, true, p, operand, lowering)?;
+            let to = target(alloc, names, p, fixes_left(true, operand), lowering)?;
             let v = value(alloc, names, operand, lowering)?;
             let after = compounded(alloc, e.span, *step, to, v, lowering)?;
             Ok(Expr::read(after.place))
@@ -134,9 +145,14 @@ pub(crate) fn effects(
             let _v = value(alloc, names, e, lowering)?;
             Ok(())
         }
-        Form::Choice(test, yes, no) => choice_alone(alloc, names, test, yes, no, lowering),
+        Form::Choice(test, yes, no) => {
+            let cond = value(alloc, names, test, lowering)?;
+            let first = effects_apart(alloc, names, yes, lowering)?;
+            let second = effects_apart(alloc, names, no, lowering)?;
+            lowering.add(Stmt::choose(cond, first, second))
+        }
         Form::Assign(p, a) => {
-            let _to = assignment(alloc, names, false, p, a, is_struct(e.ty), lowering)?;
+            let _to = assignment(alloc, names, p, a, false, is_struct(e.ty), lowering)?;
             Ok(())
         }
         Form::Compound {
@@ -145,7 +161,7 @@ pub(crate) fn effects(
             operand,
             ..
         } => {
-            let to = left(alloc, names, false, p, operand, lowering)?;
+            let to = target(alloc, names, p, fixes_left(false, operand), lowering)?;
             let v = value(alloc, names, operand, lowering)?;
             let _to = compounded(alloc, e.span, *step, to, v, lowering)?;
             Ok(())
@@ -174,7 +190,7 @@ pub(crate) fn object(
 {
     match &e.form {
         Form::Read(p) => place(alloc, names, p, lowering),
-        Form::Assign(p, a) => assignment(alloc, names, true, p, a, is_struct(e.ty), lowering),
+        Form::Assign(p, a) => assignment(alloc, names, p, a, true, is_struct(e.ty), lowering),
         Form::Constant(_)
         | Form::Null
         | Form::Decay(_)
@@ -220,24 +236,23 @@ fn held(
     Ok(())
 }
 
-// a first operand and the links behind it
+// the links behind a first operand, which this temporary would hold
 #[cycle(expressions)]
-fn chain(
+fn chained(
     alloc: Global,
     names: &Names<'_>,
-    first: &TypedExpr,
     links: &[TypedLink],
+    first: Temporary,
+    value: Expr,
     lowering: &mut Lowering,
 ) -> Result<Expr, AllocError>
-    ensures { (s : Span) (ty : Option VarTy) → Values result (output_of lowering.old) (is.form_in (scope_of names.now) (t.chain (t.view_expr first.now) (t.link_trees (map t.view_link links.now))) s ty) (output_of lowering.new) }
+    ensures { (o : Output) (whole : t.ExprTree) (far : Lowered) (s : Span) → Gives o far (output_of lowering.old) (view_expr value) → first.holds ≡ Some (span_of whole) → IfOk result (λ v. Gives o (is.links_in (scope_of names.now) (t.link_trees (map t.view_link links.now)) whole [] s first.ty far (next o)) (output_of lowering.new) (view_expr v)) }
 {
-    let mut so_far = value(alloc, names, first, lowering)?;
-    let mut ty = type_of(first);
-    let mut span = first.span;
+    let mut so_far = value;
+    let mut keeper = first;
     for link in links {
-        so_far = linked(alloc, names, Temporary::holding(ty, span), link, so_far, lowering)?;
-        ty = link.ty;
-        span = link.span;
+        so_far = linked(alloc, names, link, keeper, so_far, lowering)?;
+        keeper = Temporary::holding(link.ty, link.span);
     }
     Ok(so_far)
 }
@@ -247,40 +262,34 @@ fn chain(
 fn linked(
     alloc: Global,
     names: &Names<'_>,
-    keeper: Temporary,
     link: &TypedLink,
+    keeper: Temporary,
     so_far: Expr,
     lowering: &mut Lowering,
 ) -> Result<Expr, AllocError>
     ensures { (o : Output) (whole : t.ExprTree) (far : Lowered) → Gives o far (output_of lowering.old) (view_expr so_far) → keeper.holds ≡ Some (span_of whole) → IfOk result (λ v. Gives o (link_in (scope_of names.now) (t.view_link link.now) whole keeper.ty far (next o)) (output_of lowering.new) (view_expr v)) }
 {
-    let is_held = !takes_left_first(link.step) || !is_pure(&link.operand);
-    let left = held_if(alloc, is_held, keeper, so_far, lowering)?;
+    let left = held_if(alloc, holds_left(link), keeper, so_far, lowering)?;
     let right = value(alloc, names, &link.operand, lowering)?;
     stepped(alloc, keeper.ty, link.step, left, right, link.span)
 }
 
-// `&&` or `||`
+// the operands of `&&` or `||` behind the first, with the value so far in a temporary
 #[cycle(expressions)]
-fn logical(
+fn operands(
     alloc: Global,
     names: &Names<'_>,
-    span: Span,
+    all: &[TypedOperand],
     op: LogicalOp,
-    first: &TypedExpr,
-    operands: &[TypedOperand],
+    k: VarId,
     lowering: &mut Lowering,
-) -> Result<Expr, AllocError>
-    ensures { (ty : Option VarTy) → Values result (output_of lowering.old) (is.form_in (scope_of names.now) (t.logical op (t.view_expr first.now) (t.operand_trees (map t.view_operand operands.now))) span ty) (output_of lowering.new) }
+) -> Result<(), AllocError>
+    ensures { (o : Output) (far : Effects) → Does o far (output_of lowering.old) → OnOk result (Does o (is.operands_in (scope_of names.now) (t.operand_trees (map t.view_operand all.now)) op k.0 far (next o)) (output_of lowering.new)) }
 {
-    let v = value(alloc, names, first, lowering)?;
-    let truth = truth_of(alloc, type_of(first), v, span)?;
-    let whole = Temporary::holding(VarTy::Int(IntType::Int), span);
-    let k = lowering.hold(alloc, whole, truth)?;
-    for operand in operands {
-        operand_of(alloc, names, op, k, operand, lowering)?;
+    for operand in all {
+        operand_of(alloc, names, operand, op, k, lowering)?;
     }
-    Ok(temp(alloc, k))
+    Ok(())
 }
 
 // an operand of `&&` or `||`, where the value so far, in a temporary, leaves it open
@@ -288,9 +297,9 @@ fn logical(
 fn operand_of(
     alloc: Global,
     names: &Names<'_>,
+    operand: &TypedOperand,
     op: LogicalOp,
     k: VarId,
-    operand: &TypedOperand,
     lowering: &mut Lowering,
 ) -> Result<(), AllocError>
     ensures { (o : Output) (far : Effects) → Does o far (output_of lowering.old) → OnOk result (Does o (operand_in (scope_of names.now) (t.view_operand operand.now) op k.0 far (next o)) (output_of lowering.new)) }
@@ -303,34 +312,13 @@ fn operand_of(
     lowering.add(where_open(alloc, op, k, inner))
 }
 
-// `?:`, whose value this temporary holds
-#[cycle(expressions)]
-fn choice(
-    alloc: Global,
-    names: &Names<'_>,
-    whole: Temporary,
-    test: &TypedExpr,
-    yes: &TypedExpr,
-    no: &TypedExpr,
-    lowering: &mut Lowering,
-) -> Result<Expr, AllocError>
-    ensures { (s : Span) (ty : Option VarTy) → whole ≡ record { ty = meaning.type_or_int ty; holds = Some s } → Values result (output_of lowering.old) (is.form_in (scope_of names.now) (t.choice (t.view_expr test.now) (t.view_expr yes.now) (t.view_expr no.now)) s ty) (output_of lowering.new) }
-{
-    let cond = value(alloc, names, test, lowering)?;
-    let k = lowering.claim(whole)?;
-    let first = arm(alloc, names, k, yes, lowering)?;
-    let second = arm(alloc, names, k, no, lowering)?;
-    lowering.add(Stmt::choose(cond, first, second))?;
-    Ok(temp(alloc, k))
-}
-
 // an arm of `?:`, whose value a temporary is given
 #[cycle(expressions)]
 fn arm(
     alloc: Global,
     names: &Names<'_>,
-    k: VarId,
     e: &TypedExpr,
+    k: VarId,
     lowering: &mut Lowering,
 ) -> Result<Vec<Stmt>, AllocError>
     ensures { Collecting result (output_of lowering.old) (arm_in (scope_of names.now) k.0 (t.view_expr e.now)) (output_of lowering.new) }
@@ -339,24 +327,6 @@ fn arm(
     let v = value(alloc, names, e, lowering)?;
     lowering.give(alloc, k, v)?;
     Ok(lowering.end(outer))
-}
-
-// `?:`, whose value is dropped
-#[cycle(expressions)]
-fn choice_alone(
-    alloc: Global,
-    names: &Names<'_>,
-    test: &TypedExpr,
-    yes: &TypedExpr,
-    no: &TypedExpr,
-    lowering: &mut Lowering,
-) -> Result<(), AllocError>
-    ensures { (s : Span) (ty : Option VarTy) → Doing result (output_of lowering.old) (is.effects_in (scope_of names.now) (t.typed s ty (t.choice (t.view_expr test.now) (t.view_expr yes.now) (t.view_expr no.now)))) (output_of lowering.new) }
-{
-    let cond = value(alloc, names, test, lowering)?;
-    let first = effects_apart(alloc, names, yes, lowering)?;
-    let second = effects_apart(alloc, names, no, lowering)?;
-    lowering.add(Stmt::choose(cond, first, second))
 }
 
 // what an expression does, in a list of its own
@@ -379,15 +349,15 @@ fn effects_apart(
 fn assignment(
     alloc: Global,
     names: &Names<'_>,
-    used: bool,
     p: &Place,
     a: &TypedExpr,
+    used: bool,
     whole: bool,
     lowering: &mut Lowering,
 ) -> Result<FoundPlace, AllocError>
     ensures { Places result (output_of lowering.old) (assignment_in (scope_of names.now) used (t.view_place p.now) (t.view_expr a.now) whole) (output_of lowering.new) }
 {
-    let to = left(alloc, names, used, p, a, lowering)?;
+    let to = target(alloc, names, p, fixes_left(used, a), lowering)?;
     if whole {
         let of = object(alloc, names, a, lowering)?;
         copied(alloc, to, of, lowering)
@@ -397,21 +367,18 @@ fn assignment(
     }
 }
 
-// the left place of an assignment, which is fixed where statements come between, and where it is
-// used once more
+// the left place of an assignment, which is fixed where this says so
 #[cycle(expressions)]
-fn left(
+fn target(
     alloc: Global,
     names: &Names<'_>,
-    used: bool,
     p: &Place,
-    a: &TypedExpr,
+    is_fixed: bool,
     lowering: &mut Lowering,
 ) -> Result<FoundPlace, AllocError>
-    ensures { Places result (output_of lowering.old) (λ n. is.left_place used (t.view_expr a.now) n (is.place_in (scope_of names.now) (t.view_place p.now) n)) (output_of lowering.new) }
+    ensures { Places result (output_of lowering.old) (λ n. is.fixed_if is_fixed n (is.place_in (scope_of names.now) (t.view_place p.now) n)) (output_of lowering.new) }
 {
     let to = place(alloc, names, p, lowering)?;
-    let is_fixed = used || !is_pure(a);
     fixed_if(alloc, is_fixed, to, lowering)
 }
 
@@ -428,7 +395,7 @@ fn arguments(
     let from = pure_from(all);
     let mut values = Vec::new(alloc);
     for (i, e) in all.iter().enumerate() {
-        values.push(argument(alloc, names, i + 1 < from, e, lowering)?)?;
+        values.push(argument(alloc, names, e, i + 1 < from, lowering)?)?;
     }
     Ok(values)
 }
@@ -438,8 +405,8 @@ fn arguments(
 fn argument(
     alloc: Global,
     names: &Names<'_>,
-    is_held: bool,
     e: &TypedExpr,
+    is_held: bool,
     lowering: &mut Lowering,
 ) -> Result<Expr, AllocError>
     ensures { Values result (output_of lowering.old) (argument_in (scope_of names.now) is_held (t.view_expr e.now)) (output_of lowering.new) }
@@ -535,15 +502,5 @@ fn root(
             behind(alloc, *span, pointer, v)
         }
         Root::Assigned(e) => object(alloc, names, e, lowering),
-    }
-}
-
-// what an operand does where the value so far leaves it open
-fn where_open(alloc: Global, op: LogicalOp, k: VarId, stmts: Vec<Stmt>) -> Stmt
-    ensures { core.view_stmt result ≡ is.where_open op k.0 (map core.view_stmt stmts.items) }
-{
-    match op {
-        LogicalOp::And => Stmt::choose(temp(alloc, k), stmts, Vec::new(alloc)),
-        LogicalOp::Or => Stmt::choose(temp(alloc, k), Vec::new(alloc), stmts),
     }
 }

@@ -5,6 +5,7 @@
 mod assignments;
 mod expressions;
 mod laws;
+mod logical;
 mod lowering;
 mod names;
 mod operators;

@@ -106,7 +106,7 @@ pub(crate) fn field(
 
 // the field of a place
 fn with_field(place: Place, field: u32) -> Result<Place, AllocError>
-    ensures { IfOk result (λ p. core.view_place p ≡ is.place_with_field (core.view_place place.now) field) }
+    ensures { IfOk result (λ p. core.view_place p ≡ is.place_with_field (core.view_place place) field) }
 {
     let mut path = place.path;
     path.push(field)?;

@@ -1,7 +1,8 @@
 // Which expressions need no statement before their value.
-ghost use Rattle.std.specs.Prelude.{◌≡◌, ℕ, drop, map, not, nat_lt};
+ghost use Rattle.std.specs.Prelude.{◌≡◌, ℕ, ◌&&◌, ◌||◌, drop, map, not, nat_lt};
 ghost use Rattle.typed_tree.specs.ExpressionTree as t;
 ghost use Rattle.c_lower.specs.Purity as is;
+ghost use Rattle.c_lower.specs.ExpressionParts.{is_pure_step};
 
 use typed_tree::{Form, LinkStep, Place, PlaceStep, Root, TypedExpr, TypedLink};
 
@@ -48,11 +49,18 @@ fn are_pure_links(links: &[TypedLink]) -> bool
     ensures { result ≡ is.are_pure_links (t.link_trees (map t.view_link links.now)) }
 {
     for link in links {
-        if !takes_left_first(link.step) || !is_pure(&link.operand) {
+        if !is_pure_link(link) {
             return false;
         }
     }
     true
+}
+
+#[cycle(purity)]
+fn is_pure_link(link: &TypedLink) -> bool
+    ensures { result ≡ (is.takes_left_first link.now.step && is.is_pure (t.view_expr link.now.operand)) }
+{
+    takes_left_first(link.step) && is_pure(&link.operand)
 }
 
 // the same of a place
@@ -88,7 +96,7 @@ fn are_pure_steps(steps: &[PlaceStep]) -> bool
 
 #[cycle(purity)]
 fn is_pure_step(step: &PlaceStep) -> bool
-    ensures { result ≡ is.are_pure_steps (t.step_and (t.view_step step.now) t.no_steps) }
+    ensures { result ≡ is_pure_step (t.view_step step.now) }
 {
     match step {
         PlaceStep::Field(_) => true,
@@ -96,13 +104,32 @@ fn is_pure_step(step: &PlaceStep) -> bool
     }
 }
 
+/// Whether the value before a link has to be held: where it is moved by, or statements come
+/// between.
+pub(crate) fn holds_left(link: &TypedLink) -> bool
+    ensures { result ≡ (not (is.takes_left_first link.now.step) || not (is.is_pure (t.view_expr link.now.operand))) }
+{
+    !takes_left_first(link.step) || !is_pure(&link.operand)
+}
+
+/// Whether the left place of an assignment of this value is fixed: where statements come between,
+/// and where it is used once more.
+pub(crate) fn fixes_left(used: bool, value: &TypedExpr) -> bool
+    ensures { result ≡ (used || not (is.is_pure (t.view_expr value.now))) }
+{
+    used || !is_pure(value)
+}
+
 /// From which argument on all are pure: none that stands before the last impure one.
 pub(crate) fn pure_from(arguments: &[TypedExpr]) -> usize
     ensures { (k : ℕ) → is.are_pure (t.expr_trees (map t.view_expr (drop k arguments.now))) ≡ not (nat_lt k result) }
 {
     let mut from = arguments.len();
-    while from > 0 && is_pure(&arguments[from - 1]) {
+    while from > 0 {
+        if !is_pure(&arguments[from - 1]) {
+            return from;
+        }
         from -= 1;
     }
-    from
+    0
 }
