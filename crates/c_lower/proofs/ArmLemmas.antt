@@ -1,7 +1,7 @@
 -- What arms of the code come to, whose parts stand behind references.
-use Rattle.std.proofs.Common.{◌≡◌, ℕ, Bool, true, false, not, ◌||◌, List, [], Option, Some, pos, refl, sym, ap, ◌∙◌, subst}
+use Rattle.std.proofs.Common.{◌≡◌, ℕ, Bool, true, false, not, ◌||◌, List, [], ◌∷◌, ◌++◌, Option, Some, pos, refl, sym, ap, ◌∙◌, subst}
 use Rattle.std.proofs.lemmas.Result.{IfOk-weaker}
-use Rattle.std.specs.Prelude.{Result, IfOk}
+use Rattle.std.specs.Prelude.{Result, IfOk, OnOk}
 use Rattle.std.specs.declared.alloc.AllocError.{AllocError}
 use Rattle.pt_base.specs.declared.int_type.IntType.TheVariants as i
 use Rattle.pt_base.specs.declared.span.Span.{Span}
@@ -10,22 +10,22 @@ use Rattle.typed_tree.specs.declared.types.VarTy.{VarTy}
 use Rattle.typed_tree.specs.declared.link.LinkStep.{LinkStep}
 use Rattle.typed_tree.specs.declared.link.LogicalOp.{LogicalOp}
 use Rattle.typed_tree.specs.ExpressionTree as t
-use Rattle.typed_tree.specs.ExpressionTree.{typed, LinkTrees, OperandTrees, step_trees}
+use Rattle.typed_tree.specs.ExpressionTree.{typed, link, LinkTrees, OperandTrees, step_trees}
 use Rattle.pt_core.specs.declared.expression.Expr.{Expr}
 use Rattle.pt_core.specs.CodeTree as core
 use Rattle.pt_core.specs.CodeTree.{ExprTree, constant, read, view_expr}
 use Rattle.source_meaning.specs.Expressions.{type_or_int, type_of}
 use Rattle.c_lower.specs.declared.place.FoundPlace.{FoundPlace}
 use Rattle.c_lower.specs.declared.temporary.Temporary.{Temporary}
-use Rattle.c_lower.specs.Lowered.{Temp, Effects, Lowered, LoweredPlace, pure, past, temp, holding, held_if}
-use Rattle.c_lower.specs.Purity.{is_pure}
-use Rattle.c_lower.specs.Operators.{prefixed, converted}
+use Rattle.c_lower.specs.Lowered.{Temp, Effects, Lowered, LoweredPlace, pure, past, temp, hold, holding, held_if}
+use Rattle.c_lower.specs.Purity.{takes_left_first, is_pure}
+use Rattle.c_lower.specs.Operators.{prefixed, converted, stepped}
 use Rattle.c_lower.specs.Expressions.{Scope, is_struct, started, valued, behind, field_in, decayed, decayed_type, element_place, fixed_if, compounded, counted, value_in, form_in, effects_in, form_object, place_in, root_in, links_in, operands_in}
-use Rattle.c_lower.specs.ExpressionParts.{assignment_in, step_in}
+use Rattle.c_lower.specs.ExpressionParts.{assignment_in, held_in, link_in, step_in}
 use Rattle.c_lower.specs.Functions.{span_of}
-use Rattle.c_lower.specs.Output.{Output, next, temporary_of, more, Found, found, view_found, Gives, Finds, Does}
-use Rattle.c_lower.proofs.OutputLemmas.{next_after, nothing_made, then}
-use Rattle.c_lower.proofs.FormLemmas.{whole_is, read_is, decay_is, address_is, compounded_to}
+use Rattle.c_lower.specs.Output.{Output, next, temporary_of, added, more, Found, found, view_found, Gives, Finds, Does}
+use Rattle.c_lower.proofs.OutputLemmas.{next_after, nothing_made, then, then_held}
+use Rattle.c_lower.proofs.FormLemmas.{whole_is, read_is, decay_is, address_is, compounded_to, linked_is}
 
 pub chain_is : (c : Scope) (r : Result Expr AllocError) (o o1 o2 : Output) (a a' : t.ExprTree) (links links' : LinkTrees) (keeper : Temporary) (ty : VarTy) (s : Span) (v : ExprTree) →
     Gives o (value_in c a' (next o)) o1 v → a' ≡ a → keeper ≡ record { ty = ty; holds = Some (span_of a) } → ty ≡ type_of a → links' ≡ links →
@@ -172,3 +172,37 @@ item_is c r o o0 o1 o2 s e root before low f held ty x y first t h eh ety et ef 
 pub flip : (b p : Bool) → p ≡ not b → b ≡ not p
 flip true p h = sym (ap not h)
 flip false p h = sym (ap not h)
+
+-- ---- values that are dropped
+
+pub unary_dropped : {U : Type 0} (c : Scope) (r : Result U AllocError) (o o1 : Output) (form : t.FormTree) (op : UnOp) (a : t.ExprTree) (s : Span) (tyo : Option VarTy) → form ≡ t.unary op a → OnOk r (Does o (held_in c (typed s tyo form) (next o)) o1) → OnOk r (Does o (effects_in c (typed s tyo form) (next o)) o1)
+unary_dropped c r o o1 form op a s tyo e = subst (λ f. OnOk r (Does o (held_in c (typed s tyo f) (next o)) o1) → OnOk r (Does o (effects_in c (typed s tyo f) (next o)) o1)) (sym e) (λ h. h)
+
+pub chain_dropped : {U : Type 0} (c : Scope) (r : Result U AllocError) (o o1 : Output) (form : t.FormTree) (a : t.ExprTree) (links : LinkTrees) (s : Span) (tyo : Option VarTy) → form ≡ t.chain a links → OnOk r (Does o (held_in c (typed s tyo form) (next o)) o1) → OnOk r (Does o (effects_in c (typed s tyo form) (next o)) o1)
+chain_dropped c r o o1 form a links s tyo e = subst (λ f. OnOk r (Does o (held_in c (typed s tyo f) (next o)) o1) → OnOk r (Does o (effects_in c (typed s tyo f) (next o)) o1)) (sym e) (λ h. h)
+
+pub logical_dropped : (c : Scope) (o o1 : Output) (form : t.FormTree) (op : LogicalOp) (a : t.ExprTree) (others : OperandTrees) (s : Span) (tyo : Option VarTy) (v : ExprTree) → form ≡ t.logical op a others → Gives o (value_in c (typed s tyo form) (next o)) o1 v → Does o (effects_in c (typed s tyo form) (next o)) o1
+logical_dropped c o o1 form op a others s tyo v e =
+    subst (λ f. Gives o (value_in c (typed s tyo f) (next o)) o1 v → Does o (effects_in c (typed s tyo f) (next o)) o1) (sym e) (λ g. record { made = g.made })
+
+-- a value is held and dropped
+pub held_dropped : (c : Scope) (o o1 o2 : Output) (e : t.ExprTree) (ty : VarTy) (x : Temporary) (v : ExprTree) → Gives o (value_in c e (next o)) o1 v → ty ≡ type_of e → x ≡ record { ty = ty; holds = Some (span_of e) } → o2 ≡ added o1 (hold (next o1) v ∷ []) (x ∷ []) → Does o (held_in c e (next o)) o2
+held_dropped c o o1 o2 e ty x v g et ex e2 = record {
+  made = then_held o o1 o2 _ _ (holding (type_of e) e) x v _ g.made (ap (λ z. record { ty = z; holds = Some (span_of e) }) (sym et) ∙ sym ex) g.is e2;
+}
+
+-- ---- parts of arms
+
+-- what holds after a success, and what follows from it
+pub also : {U : Type 0} (r : Result U AllocError) (P Q : Type 0) → (P → Q) → OnOk r P → OnOk r Q
+also r P Q f go = IfOk-weaker r (λ _. P) (λ _. Q) (λ _ h. f h) go
+
+pub link_is : (c : Scope) (r : Result Expr AllocError) (o o0 o1 o2 : Output) (at : Span) (to : VarTy) (step : LinkStep) (e whole : t.ExprTree) (keeper : Temporary) (far : Lowered) (b : Bool) (v u w : ExprTree) →
+    Gives o far o0 v → keeper.holds ≡ Some (span_of whole) → b ≡ (not (takes_left_first step) || not (is_pure e)) →
+    ((z : Temp) (low : Lowered) → Gives o low o0 v → temporary_of z ≡ keeper → Gives o (held_if b (next o) z low) o1 u) → Gives o1 (value_in c e (next o1)) o2 w → IfOk r (λ z. view_expr z ≡ stepped keeper.ty step u w at) →
+    IfOk r (λ z. Gives o (link_in c (link at to step e) whole keeper.ty far (next o)) o2 (view_expr z))
+link_is c r o o0 o1 o2 at to step e whole keeper far b v u w g eh eb keep g2 go =
+    let x : Temp = holding keeper.ty whole in
+    let kept : Gives o (held_if (not (takes_left_first step) || not (is_pure e)) (next o) x far) o1 u =
+        subst (λ z. Gives o (held_if z (next o) x far) o1 u) eb (keep x far g (ap (λ z. record { ty = keeper.ty; holds = z }) (sym eh))) in
+    linked_is c r o o1 o2 at to keeper.ty step e (held_if (not (takes_left_first step) || not (is_pure e)) (next o) x far) u w kept g2 go

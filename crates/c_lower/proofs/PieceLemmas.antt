@@ -1,7 +1,7 @@
 -- What one step of the code makes, behind what was made before it.
 use Rattle.std.proofs.Common.{◌≡◌, ℕ, ◌+◌, Bool, true, false, List, [], ◌∷◌, ◌++◌, length, map, Option, Some, None, option_map, refl, sym, ap, ◌∙◌, subst, append_assoc, length-append, arith}
 use Rattle.std.proofs.lemmas.List.{append-nil}
-use Rattle.std.specs.Prelude.{Result, IfOk}
+use Rattle.std.specs.Prelude.{Result, IfOk, unwrap_or}
 use Rattle.std.specs.declared.alloc.AllocError.{AllocError}
 use Rattle.pt_base.specs.declared.span.Span.{Span}
 use Rattle.typed_tree.specs.declared.types.VarTy.{VarTy}
@@ -16,7 +16,7 @@ use Rattle.c_lower.specs.declared.temporary.Temporary.{Temporary}
 use Rattle.c_lower.specs.declared.place.FoundPlace.{FoundPlace}
 use Rattle.c_lower.specs.Lowered.{Temp, Effects, Lowered, LoweredPlace, Arguments, pure, past, temp, hold, holding, int}
 use Rattle.c_lower.specs.Operators.{truth_of, stepped, stored, unit_step, unit_of}
-use Rattle.c_lower.specs.Expressions.{Scope, behind, element_place, place_with_field, field_in, fixed_root, copied, given, compounded, counted, counted_after, call_effects, called, started}
+use Rattle.c_lower.specs.Expressions.{Scope, behind, element_place, place_with_field, field_in, fixed_root, fixed_through, copied, given, compounded, counted, counted_after, call_effects, called, started}
 use Rattle.c_lower.specs.Functions.{span_of}
 use Rattle.c_lower.specs.Output.{Output, next, temporary_of, added, more, Found, found, view_found, Gives, GivesAll, Finds, Does, Collects}
 use Rattle.c_lower.proofs.OutputLemmas.{next_after, nothing_made, then, then_stmts, then_temps, then_held}
@@ -33,20 +33,26 @@ field_is c k f low p ty h hp ht =
     ∙ ap (λ (g : Found). found_at (place_with_field g.place k) (field_type c.structs g.ty k) g.fixed g.through) h
 
 -- a pointer is held, and the place behind it found
-pub fixed_is : (o o1 o2 o3 : Output) (x : Temp) (t : Temporary) (low : LoweredPlace) (f : Found) (pointer : ExprTree) (s : Span) (path : List ℕ) (k : ℕ) → Finds o low o1 f → place (deref pointer s) path ≡ f.place → temporary_of x ≡ t → k ≡ next o1 → o2 ≡ added o1 (hold (next o1) pointer ∷ []) (t ∷ []) → o3 ≡ added o2 (check (place (deref (temp k) s) path) ∷ []) [] → Finds o (fixed_root (next o) x low low.place) o3 (found_at (place (deref (temp k) s) path) f.ty f.fixed f.through)
-fixed_is o o1 o2 o3 x t low f pointer s path k h e et ek e2 e3 =
-    let n : k ≡ past (next o) low.temps = ek ∙ next_after o o1 low.stmts low.temps h.made in
+pub dereferenced_is : (o1 o2 o3 : Output) (t : Temporary) (pointer : ExprTree) (s : Span) (path : List ℕ) (k : ℕ) (p : PlaceTree) → k ≡ next o1 → o2 ≡ added o1 (hold (next o1) pointer ∷ []) (t ∷ []) → p ≡ place (deref (temp k) s) path → o3 ≡ added o2 (check p ∷ []) [] →
+    o3 ≡ added o1 (hold (next o1) pointer ∷ check (place (deref (temp (next o1)) s) path) ∷ []) (t ∷ [])
+dereferenced_is o1 o2 o3 t pointer s path k p ek e2 ep e3 =
+    e3 ∙ ap (λ z. added z (check p ∷ []) []) e2
+    ∙ ap (λ z. record { first = o1.first; stmts = (o1.stmts ++ hold (next o1) pointer ∷ []) ++ check z ∷ []; temps = (o1.temps ++ t ∷ []) ++ [] }) (ep ∙ ap (λ j. place (deref (temp j) s) path) ek)
+    ∙ ap (λ z. record { first = o1.first; stmts = z; temps = (o1.temps ++ t ∷ []) ++ [] }) (append_assoc o1.stmts (hold (next o1) pointer ∷ []) (check (place (deref (temp (next o1)) s) path) ∷ []))
+    ∙ ap (λ z. record { first = o1.first; stmts = o1.stmts ++ hold (next o1) pointer ∷ check (place (deref (temp (next o1)) s) path) ∷ []; temps = z }) (append-nil (o1.temps ++ t ∷ []))
+
+pub fixed_is : (o o1 o2 : Output) (x : Temp) (t : Temporary) (low : LoweredPlace) (f : Found) (pointer : ExprTree) (s : Span) (path : List ℕ) (p : PlaceTree) → Finds o low o1 f → place (deref pointer s) path ≡ f.place → temporary_of x ≡ t →
+    p ≡ place (deref (temp (next o1)) s) path → o2 ≡ added o1 (hold (next o1) pointer ∷ check (place (deref (temp (next o1)) s) path) ∷ []) (t ∷ []) → Finds o (fixed_root (next o) x low low.place) o2 (found_at p f.ty f.fixed f.through)
+fixed_is o o1 o2 x t low f pointer s path p h e et ep e2 =
     let m = past (next o) low.temps in
+    let n : next o1 ≡ m = next_after o o1 low.stmts low.temps h.made in
     let at : place (deref pointer s) path ≡ low.place = e ∙ ap (λ (g : Found). g.place) h.is in
-    let there : place (deref (temp k) s) path ≡ place (deref (temp m) s) path = ap (λ j. place (deref (temp j) s) path) n in
-    subst (λ p. Finds o (fixed_root (next o) x low p) o3 (found_at (place (deref (temp k) s) path) f.ty f.fixed f.through)) at
+    subst (λ z. Finds o (fixed_root (next o) x low z) o2 (found_at p f.ty f.fixed f.through)) at
     (record {
       made =
-          then_stmts o o2 o3 (low.stmts ++ hold m pointer ∷ []) (check (place (deref (temp m) s) path) ∷ []) (low.temps ++ x ∷ [])
-          (then_held o o1 o2 low.stmts low.temps x t pointer pointer h.made et refl e2)
-          (e3 ∙ ap (λ p. added o2 (check p ∷ []) []) there)
-          ∙ ap (λ z. more o z (low.temps ++ x ∷ [])) (append_assoc low.stmts (hold m pointer ∷ []) (check (place (deref (temp m) s) path) ∷ []));
-      is = ap (λ p. found_at p f.ty f.fixed f.through) there ∙ ap (λ (g : Found). found_at (place (deref (temp m) s) path) g.ty g.fixed g.through) h.is;
+          then o o1 o2 low.stmts (hold m pointer ∷ check (place (deref (temp m) s) path) ∷ []) low.temps (x ∷ []) h.made
+          (e2 ∙ ap (λ j. added o1 (hold j pointer ∷ check (place (deref (temp j) s) path) ∷ []) (t ∷ [])) n ∙ ap (λ z. added o1 (hold m pointer ∷ check (place (deref (temp m) s) path) ∷ []) (z ∷ [])) (sym et));
+      is = ap (λ z. found_at z f.ty f.fixed f.through) (ep ∙ ap (λ j. place (deref (temp j) s) path) n) ∙ ap (λ (g : Found). found_at (place (deref (temp m) s) path) g.ty g.fixed g.through) h.is;
     })
 
 -- where no pointer leads there
@@ -107,6 +113,11 @@ kept_is o o1 o2 x t to f h et e = record {
   made = then_held o o1 o2 to.stmts to.temps x t (read f.place) (read to.place) h.made et (ap (λ (z : Found). read z.place) h.is) e;
   is = h.is;
 }
+
+pub kept_at : (o o1 o2 : Output) (x : Temp) (t : Temporary) (at : Span) (to : LoweredPlace) (f : Found) (v : ExprTree) → Finds o to o1 f → temporary_of x ≡ record { ty = to.ty; holds = Some at } → t ≡ record { ty = f.ty; holds = Some at } → v ≡ read f.place → o2 ≡ added o1 (hold (next o1) v ∷ []) (t ∷ []) →
+    Finds o (record to { stmts = to.stmts ++ hold (past (next o) to.temps) (read to.place) ∷ []; temps = to.temps ++ x ∷ [] }) o2 f
+kept_at o o1 o2 x t at to f v h ex et ev e =
+    kept_is o o1 o2 x t to f h (ex ∙ ap (λ (z : Found). record { ty = z.ty; holds = Some at }) (sym h.is) ∙ sym et) (e ∙ ap (λ z. added o1 (hold (next o1) z ∷ []) (t ∷ [])) ev)
 
 pub counted_after_is : (o o1 o3 : Output) (s : Span) (back : Bool) (x : Temp) (to : LoweredPlace) (f g : Found) (k : ℕ) → Finds o to o1 f → k ≡ next o1 →
     Finds o (counted s back (record to { stmts = to.stmts ++ hold (past (next o) to.temps) (read to.place) ∷ []; temps = to.temps ++ x ∷ [] })) o3 g →
@@ -193,3 +204,19 @@ element_found s first e ty b v root pointer x y pointee fixed keeper er em ex ey
     ∙ ap (λ z. found_at (place (deref (core.move b.value v.value false s) s) []) z fixed (Some keeper)) ep
     ∙ ap (λ z. found_at (place (deref (core.move b.value v.value false s) s) []) (pointee_type ty) z (Some keeper)) ef
     ∙ ap (λ z. found_at (place (deref (core.move b.value v.value false s) s) []) (pointee_type ty) (points_to_const (Some ty)) (Some z)) ek
+
+-- a place through which a pointer leads, or none
+pub fixed_some : (r : Result FoundPlace AllocError) (o o1 o2 : Output) (low : LoweredPlace) (f : Found) (t : Temporary) → Finds o low o1 f → f.through ≡ Some t →
+    ((x : Temp) → temporary_of x ≡ t → IfOk r (λ p. Finds o (fixed_root (next o) x low low.place) o2 (view_found p))) → IfOk r (λ p. Finds o (fixed_through (next o) low.through low) o2 (view_found p))
+fixed_some r o o1 o2 low f t h e go = by_case low.through (sym (ap (λ (g : Found). g.through) h.is) ∙ e) go
+  where
+    by_case : (m : Option Temp) → option_map temporary_of m ≡ Some t → ((x : Temp) → temporary_of x ≡ t → IfOk r (λ p. Finds o (fixed_root (next o) x low low.place) o2 (view_found p))) → IfOk r (λ p. Finds o (fixed_through (next o) m low) o2 (view_found p))
+    by_case None k go = absurd (grind arith)
+    by_case (Some x) k go = go x (ap (λ (m : Option Temporary). unwrap_or m t) k)
+
+pub fixed_none : (o o1 : Output) (low : LoweredPlace) (f : Found) → Finds o low o1 f → f.through ≡ None → Finds o (fixed_through (next o) low.through low) o1 f
+fixed_none o o1 low f h e = by_case low.through (sym (ap (λ (g : Found). g.through) h.is) ∙ e) h
+  where
+    by_case : (m : Option Temp) → option_map temporary_of m ≡ None → Finds o low o1 f → Finds o (fixed_through (next o) m low) o1 f
+    by_case None k h = h
+    by_case (Some x) k h = absurd (grind arith)

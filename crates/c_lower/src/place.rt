@@ -1,12 +1,13 @@
 // Places of the normal form at which objects of the source lie.
-ghost use Rattle.std.specs.Prelude.{◌≡◌, ℕ, IfOk};
+ghost use Rattle.std.specs.Prelude.{◌≡◌, ℕ, [], ◌∷◌, IfOk, OnOk};
 ghost use Rattle.typed_tree.specs.ExpressionTree as t;
 ghost use Rattle.pt_core.specs.CodeTree as core;
 ghost use Rattle.pt_core.specs.CodeTree.{view_expr};
-ghost use Rattle.c_lower.specs.Lowered.{Temp, Lowered, LoweredPlace, temp_place};
+ghost use Rattle.c_lower.specs.Lowered as lowered;
+ghost use Rattle.c_lower.specs.Lowered.{Temp, Lowered, LoweredPlace, hold, temp_place};
 ghost use Rattle.c_lower.specs.Expressions as is;
 ghost use Rattle.c_lower.specs.Names.{scope_of};
-ghost use Rattle.c_lower.specs.Output.{Output, output_of, next, temporary_of, found, view_found, Finds};
+ghost use Rattle.c_lower.specs.Output.{Output, output_of, next, added, temporary_of, found, view_found, Finds};
 
 use crate::lowering::{Lowering, local, temp};
 use crate::names::Names;
@@ -185,24 +186,57 @@ fn fixed_root(
         through,
     } = place;
     let Place { root, path } = at;
-    let root = match root {
+    match root {
         Root::Deref { pointer, span } => {
-            let k = lowering.hold(alloc, temporary, Box::into_inner(pointer))?;
-            let there = Root::deref(alloc, temp(alloc, k), span)?;
-            let checked = Place {
-                root: Root::deref(alloc, temp(alloc, k), span)?,
-                path: Vec::from_slice(alloc, &path)?,
-            };
-            lowering.add(Stmt::Check { place: checked })?;
-            there
+            let pointer = Box::into_inner(pointer);
+            let there = dereferenced(alloc, temporary, pointer, span, path, lowering)?;
+            Ok(FoundPlace {
+                place: there,
+                ty,
+                fixed,
+                through,
+            })
         }
-        Root::Local(v) => Root::Local(v),
-        Root::Global(g) => Root::Global(g),
+        Root::Local(v) => Ok(FoundPlace {
+            place: Place {
+                root: Root::Local(v),
+                path,
+            },
+            ty,
+            fixed,
+            through,
+        }),
+        Root::Global(g) => Ok(FoundPlace {
+            place: Place {
+                root: Root::Global(g),
+                path,
+            },
+            ty,
+            fixed,
+            through,
+        }),
+    }
+}
+
+// holds a pointer in a temporary, and finds what is behind it
+fn dereferenced(
+    alloc: Global,
+    temporary: Temporary,
+    pointer: Expr,
+    span: Span,
+    path: Vec<u32>,
+    lowering: &mut Lowering,
+) -> Result<Place, AllocError>
+    ensures place { IfOk result (λ p. core.view_place p ≡ core.place (core.deref (lowered.temp (next (output_of lowering.old))) span) path.items) }
+    ensures output { OnOk result (output_of lowering.new ≡ added (output_of lowering.old) (hold (next (output_of lowering.old)) (view_expr pointer) ∷ core.check (core.place (core.deref (lowered.temp (next (output_of lowering.old))) span) path.items) ∷ []) (temporary ∷ [])) }
+{
+    let k = lowering.hold(alloc, temporary, pointer)?;
+    let there = Place {
+        root: Root::deref(alloc, temp(alloc, k), span)?,
+        path,
     };
-    Ok(FoundPlace {
-        place: Place { root, path },
-        ty,
-        fixed,
-        through,
-    })
+    lowering.add(Stmt::Check {
+        place: there.copy(alloc)?,
+    })?;
+    Ok(there)
 }
