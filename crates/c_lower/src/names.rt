@@ -1,10 +1,11 @@
 // What the expressions and statements of a function name.
-ghost use Rattle.std.specs.Prelude.{◌≡◌};
+ghost use Rattle.std.specs.Prelude.{◌≡◌, length, IfOk};
 ghost use Rattle.pt_core.specs.Types.{type_at, field_type as type_of_field};
 ghost use Rattle.typed_tree.specs.Sizes.{fields_of};
 ghost use Rattle.c_lower.specs.Names.{scope_of};
 
 use pt_base::{GlobalId, IntType, VarId};
+use std::alloc::AllocError;
 use typed_tree::{Field, Typed, Var, VarTy};
 
 /// The program, and the variables of the function that is lowered.
@@ -56,8 +57,19 @@ impl<'a> Names<'a> {
         }
     }
 
-    // the fields of a struct, none where there is none of this number
-    fn fields(&self, structure: u32) -> &[Field]
+    /// How many structs there are. 2^32 of them don't fit into memory.
+    pub fn count_of_structs(&self) -> Result<u32, AllocError>
+        ensures { IfOk result (λ n. n ≡ length (scope_of self.now).structs) }
+    {
+        let count = self.program.structs.as_slice().len();
+        if count > u32::MAX as usize {
+            return Err(AllocError);
+        }
+        Ok(count as u32)
+    }
+
+    /// The fields of a struct, none where there is none of this number.
+    pub fn fields(&self, structure: u32) -> &[Field]
         ensures { result.now ≡ fields_of (scope_of self.now).structs structure }
     {
         match self.program.structs.as_slice().get(structure as usize) {
