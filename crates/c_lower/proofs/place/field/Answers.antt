@@ -2,4 +2,4 @@ use Rattle.c_lower.proofs.PieceLemmas.{field_is}
 use Rattle.c_lower.proofs.place.field.Goals as goal
 
 pub returns : goal.returns
-returns c = λ low h. field_is _ _ _ low _ _ h c.in_ok-with_field.ensures c.field_type.ensures
+returns c = λ low h. field_is _ _ _ low _ _ h c.in_ok-with_field.ensures c.field_type-ty.ensures
