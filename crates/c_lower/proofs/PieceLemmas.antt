@@ -187,20 +187,22 @@ next_claimed o o2 xs ys x h =
 
 -- ---- what places are seen as
 
-pub behind_found : (s : Span) (a : tree.ExprTree) (low : Lowered) (root : core.RootTree) (v : ExprTree) (ty pointee : VarTy) (fixed : Bool) (keeper : Temporary) →
+pub behind_found : (s : Span) (a : tree.ExprTree) (low : Lowered) (root : core.RootTree) (v : ExprTree) (ty pointee : VarTy) (fixed : Bool) (keeper : Temporary) (path : List ℕ) → path ≡ [] →
     root ≡ deref v s → v ≡ low.value → ty ≡ type_of a → pointee ≡ pointee_type ty → fixed ≡ points_to_const (Some ty) → keeper ≡ record { ty = ty; holds = Some (span_of a) } →
-    found_at (place root []) pointee fixed (Some keeper) ≡ found (behind s a low)
-behind_found s a low root v ty pointee fixed keeper er ev et ep ef ek =
-    ap (λ z. found_at (place z []) pointee fixed (Some keeper)) (er ∙ ap (λ w. deref w s) ev)
+    found_at (place root path) pointee fixed (Some keeper) ≡ found (behind s a low)
+behind_found s a low root v ty pointee fixed keeper path ex er ev et ep ef ek =
+    ap (λ z. found_at (place root z) pointee fixed (Some keeper)) ex
+    ∙ ap (λ z. found_at (place z []) pointee fixed (Some keeper)) (er ∙ ap (λ w. deref w s) ev)
     ∙ ap (λ z. found_at (place (deref low.value s) []) z fixed (Some keeper)) (ep ∙ ap pointee_type et)
     ∙ ap (λ z. found_at (place (deref low.value s) []) (pointee_type (type_of a)) z (Some keeper)) (ef ∙ ap (λ z. points_to_const (Some z)) et)
     ∙ ap (λ z. found_at (place (deref low.value s) []) (pointee_type (type_of a)) (points_to_const (Some (type_of a))) (Some z)) (ek ∙ ap (λ z. record { ty = z; holds = Some (span_of a) }) et)
 
-pub element_found : (s : Span) (first e : tree.ExprTree) (ty : VarTy) (b v : Lowered) (root : core.RootTree) (pointer x y : ExprTree) (pointee : VarTy) (fixed : Bool) (keeper : Temporary) →
+pub element_found : (s : Span) (first e : tree.ExprTree) (ty : VarTy) (b v : Lowered) (root : core.RootTree) (pointer x y : ExprTree) (pointee : VarTy) (fixed : Bool) (keeper : Temporary) (path : List ℕ) → path ≡ [] →
     root ≡ deref pointer s → pointer ≡ core.move x y false s → x ≡ b.value → y ≡ v.value → pointee ≡ pointee_type ty → fixed ≡ points_to_const (Some ty) → keeper ≡ record { ty = ty; holds = Some s } →
-    found_at (place root []) pointee fixed (Some keeper) ≡ found (element_place s first e ty b v)
-element_found s first e ty b v root pointer x y pointee fixed keeper er em ex ey ep ef ek =
-    ap (λ z. found_at (place z []) pointee fixed (Some keeper)) (er ∙ ap (λ w. deref w s) (em ∙ ap (λ w. core.move w y false s) ex ∙ ap (λ w. core.move b.value w false s) ey))
+    found_at (place root path) pointee fixed (Some keeper) ≡ found (element_place s first e ty b v)
+element_found s first e ty b v root pointer x y pointee fixed keeper path eq er em ex ey ep ef ek =
+    ap (λ z. found_at (place root z) pointee fixed (Some keeper)) eq
+    ∙ ap (λ z. found_at (place z []) pointee fixed (Some keeper)) (er ∙ ap (λ w. deref w s) (em ∙ ap (λ w. core.move w y false s) ex ∙ ap (λ w. core.move b.value w false s) ey))
     ∙ ap (λ z. found_at (place (deref (core.move b.value v.value false s) s) []) z fixed (Some keeper)) ep
     ∙ ap (λ z. found_at (place (deref (core.move b.value v.value false s) s) []) (pointee_type ty) z (Some keeper)) ef
     ∙ ap (λ z. found_at (place (deref (core.move b.value v.value false s) s) []) (pointee_type ty) (points_to_const (Some ty)) (Some z)) ek

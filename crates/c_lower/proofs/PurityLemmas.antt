@@ -44,7 +44,7 @@ impure_before es i k x d le below is h = go (all_pure (drop k es)) refl
     go false e = e
     go true e = e ∙ sym (pure_behind es k i le e) ∙ impure_at es i x d below is h
 
-pub pure_from_start : (es : List TypedExpr) (from k : ℕ) → all_pure (drop from es) ≡ true → from ≡ 0 → all_pure (drop k es) ≡ not (nat_lt k 0)
+pub pure_from_start : (es : List TypedExpr) (from k : ℕ) → all_pure (drop from es) ≡ true → from ≤ 0 → all_pure (drop k es) ≡ not (nat_lt k 0)
 pure_from_start es from k h e =
     let le : from ≤ k = omega arith in
     pure_behind es from k le h ∙ sym (ap not (le-ltb k 0 (omega arith)))
