@@ -8,7 +8,7 @@ use Rattle.pt_base.specs.declared.span.Span.{Span}
 use Rattle.typed_tree.specs.declared.types.VarTy.{VarTy}
 use Rattle.typed_tree.specs.declared.link.LinkStep.{LinkStep}
 use Rattle.typed_tree.specs.declared.link.LogicalOp.{LogicalOp}
-use Rattle.typed_tree.specs.ExpressionTree as t
+use Rattle.typed_tree.specs.ExpressionTree as tree
 use Rattle.typed_tree.specs.ExpressionTree.{typed, FormTree, LinkTree, link, LinkTrees, link_and, OperandTree, operand, OperandTrees, PlaceTree, RootTree, StepTree, StepTrees, step_and}
 use Rattle.pt_core.specs.declared.expression.Expr.{Expr}
 use Rattle.pt_core.specs.CodeTree as core
@@ -22,7 +22,7 @@ use Rattle.c_lower.specs.Operators.{truth_of, stepped}
 use Rattle.c_lower.specs.Expressions.{Scope, checked, value_at, place_effects, fixed_if, left_place, assigned, copied, given, compounded, counted, linked, where_open, with_operand, arm, chosen, valued, value_in, form_in, effects_in, form_effects, object_in, place_in, steps_in, root_in, operands_in, behind}
 use Rattle.c_lower.specs.ExpressionParts.{link_in, operand_in, arm_in, step_in, assignment_in, count_at}
 use Rattle.c_lower.specs.Output.{Output, next, temporary_of, added, more, opened, closed, Found, found, view_found, Gives, GivesAll, Finds, Does, Collects}
-use Rattle.c_lower.proofs.OutputLemmas.{next_after, then, then_stmts, then_temps, then_held, apart, next_opened}
+use Rattle.c_lower.proofs.OutputLemmas.{next_after, both, then_stmts, then_temps, then_held, apart, next_opened}
 use Rattle.c_lower.proofs.PieceLemmas.{chosen_is, then_claimed, next_claimed}
 
 -- ---- values
@@ -51,7 +51,7 @@ pub whole_is : (o o1 : Output) (low : ℕ → Effects) (k n : ℕ) → k ≡ n �
 whole_is o o1 low k n e d = record { made = subst (λ j. o1 ≡ more o (low j).stmts (low j).temps) e d.made; is = ap temp e }
 
 -- `?:`; the temporary k is claimed behind the condition
-pub choice_is : (c : Scope) (o o1 o2 o3 o4 o5 : Output) (test : Lowered) (v : ExprTree) (k : ℕ) (x : Temp) (t : Temporary) (a b : t.ExprTree) (us vs : List StmtTree) →
+pub choice_is : (c : Scope) (o o1 o2 o3 o4 o5 : Output) (test : Lowered) (v : ExprTree) (k : ℕ) (x : Temp) (t : Temporary) (a b : tree.ExprTree) (us vs : List StmtTree) →
     Gives o test o1 v → temporary_of x ≡ t → k ≡ next o1 → o2 ≡ added o1 [] (t ∷ []) → Collects o2 (arm_in c k a (next o2)) o3 us → Collects o3 (arm_in c k b (next o3)) o4 vs → o5 ≡ added o4 (choose v (stmt_trees us) (stmt_trees vs) ∷ []) [] →
     Gives o
     (valued (chosen test (x ∷ []) (arm (past (next o) test.temps) (value_in c a (past (next o) test.temps + 1))) (value_in c a (past (next o) test.temps + 1)).temps
@@ -72,7 +72,7 @@ choice_is c o o1 o2 o3 o4 o5 test v k x t a b us vs g et ek e2 f s e5 =
     }
 
 -- `?:` whose value is dropped
-pub choice_dropped : (c : Scope) (o o1 o3 o4 o5 : Output) (test : Lowered) (v : ExprTree) (a b : t.ExprTree) (us vs : List StmtTree) →
+pub choice_dropped : (c : Scope) (o o1 o3 o4 o5 : Output) (test : Lowered) (v : ExprTree) (a b : tree.ExprTree) (us vs : List StmtTree) →
     Gives o test o1 v → Collects o1 (effects_in c a (next o1)) o3 us → Collects o3 (effects_in c b (next o3)) o4 vs → o5 ≡ added o4 (choose v (stmt_trees us) (stmt_trees vs) ∷ []) [] →
     Does o
     (chosen test [] (effects_in c a (past (next o) test.temps)).stmts (effects_in c a (past (next o) test.temps)).temps
@@ -91,41 +91,41 @@ choice_dropped c o o1 o3 o4 o5 test v a b us vs g f s e5 =
 
 -- ---- assignments
 
-pub copied_to : (c : Scope) (r : Result FoundPlace AllocError) (o o1 o3 : Output) (to : LoweredPlace) (f : Found) (a : t.ExprTree) (whole : Bool) → Finds o to o1 f → whole ≡ true → IfOk r (λ p. Finds o (copied to (object_in c a (next o1))) o3 (view_found p)) →
+pub copied_to : (c : Scope) (r : Result FoundPlace AllocError) (o o1 o3 : Output) (to : LoweredPlace) (f : Found) (a : tree.ExprTree) (whole : Bool) → Finds o to o1 f → whole ≡ true → IfOk r (λ p. Finds o (copied to (object_in c a (next o1))) o3 (view_found p)) →
     IfOk r (λ p. Finds o (assigned whole to (object_in c a (past (next o) to.temps)) (value_in c a (past (next o) to.temps))) o3 (view_found p))
 copied_to c r o o1 o3 to f a whole h ew go =
     subst (λ b. IfOk r (λ p. Finds o (assigned b to (object_in c a (past (next o) to.temps)) (value_in c a (past (next o) to.temps))) o3 (view_found p))) (sym ew)
     (subst (λ j. IfOk r (λ p. Finds o (copied to (object_in c a j)) o3 (view_found p))) (next_after o o1 to.stmts to.temps h.made) go)
 
-pub given_to : (c : Scope) (r : Result FoundPlace AllocError) (o o1 o3 : Output) (to : LoweredPlace) (f : Found) (a : t.ExprTree) (whole : Bool) → Finds o to o1 f → whole ≡ false → IfOk r (λ p. Finds o (given to (value_in c a (next o1))) o3 (view_found p)) →
+pub given_to : (c : Scope) (r : Result FoundPlace AllocError) (o o1 o3 : Output) (to : LoweredPlace) (f : Found) (a : tree.ExprTree) (whole : Bool) → Finds o to o1 f → whole ≡ false → IfOk r (λ p. Finds o (given to (value_in c a (next o1))) o3 (view_found p)) →
     IfOk r (λ p. Finds o (assigned whole to (object_in c a (past (next o) to.temps)) (value_in c a (past (next o) to.temps))) o3 (view_found p))
 given_to c r o o1 o3 to f a whole h ew go =
     subst (λ b. IfOk r (λ p. Finds o (assigned b to (object_in c a (past (next o) to.temps)) (value_in c a (past (next o) to.temps))) o3 (view_found p))) (sym ew)
     (subst (λ j. IfOk r (λ p. Finds o (given to (value_in c a j)) o3 (view_found p))) (next_after o o1 to.stmts to.temps h.made) go)
 
-pub compounded_to : (c : Scope) (o o1 o3 : Output) (s : Span) (step : LinkStep) (to : LoweredPlace) (f g : Found) (a : t.ExprTree) → Finds o to o1 f → Finds o (compounded s step to (value_in c a (next o1))) o3 g →
+pub compounded_to : (c : Scope) (o o1 o3 : Output) (s : Span) (step : LinkStep) (to : LoweredPlace) (f g : Found) (a : tree.ExprTree) → Finds o to o1 f → Finds o (compounded s step to (value_in c a (next o1))) o3 g →
     Finds o (compounded s step to (value_in c a (past (next o) to.temps))) o3 g
 compounded_to c o o1 o3 s step to f g a h k = subst (λ j. Finds o (compounded s step to (value_in c a j)) o3 g) (next_after o o1 to.stmts to.temps h.made) k
 
-pub count_is : (c : Scope) (p : PlaceTree) (at : Span) (back postfix : Bool) (s : Span) (ty : Option VarTy) (n : ℕ) → count_at s p at back postfix (place_in c p n) n ≡ form_in c (t.step p at back postfix) s ty n
+pub count_is : (c : Scope) (p : PlaceTree) (at : Span) (back postfix : Bool) (s : Span) (ty : Option VarTy) (n : ℕ) → count_at s p at back postfix (place_in c p n) n ≡ form_in c (tree.step p at back postfix) s ty n
 count_is c p at back true s ty n = refl
 count_is c p at back false s ty n = refl
 
 -- ---- chains
 
-pub linked_is : (c : Scope) (r : Result Expr AllocError) (o o1 o2 : Output) (at : Span) (to ty : VarTy) (step : LinkStep) (e : t.ExprTree) (ready : Lowered) (v w : ExprTree) → Gives o ready o1 v → Gives o1 (value_in c e (next o1)) o2 w → IfOk r (λ z. view_expr z ≡ stepped ty step v w at) →
+pub linked_is : (c : Scope) (r : Result Expr AllocError) (o o1 o2 : Output) (at : Span) (to ty : VarTy) (step : LinkStep) (e : tree.ExprTree) (ready : Lowered) (v w : ExprTree) → Gives o ready o1 v → Gives o1 (value_in c e (next o1)) o2 w → IfOk r (λ z. view_expr z ≡ stepped ty step v w at) →
     IfOk r (λ z. Gives o (linked ty step at ready (value_in c e (past (next o) ready.temps))) o2 (view_expr z))
 linked_is c r o o1 o2 at to ty step e ready v w g h go =
     let h1 : Gives o1 (value_in c e (past (next o) ready.temps)) o2 w = subst (λ j. Gives o1 (value_in c e j) o2 w) (next_after o o1 ready.stmts ready.temps g.made) h in
     IfOk-weaker r (λ z. view_expr z ≡ stepped ty step v w at) (λ z. Gives o (linked ty step at ready (value_in c e (past (next o) ready.temps))) o2 (view_expr z))
     (λ z k. record {
-      made = then o o1 o2 ready.stmts _ ready.temps _ g.made h1.made;
+      made = both o o1 o2 ready.stmts _ ready.temps _ g.made h1.made;
       is = k ∙ ap (λ x. stepped ty step x w at) g.is ∙ ap (λ x. stepped ty step ready.value x at) h1.is;
     }) go
 
 -- ---- `&&` and `||`
 
-pub operand_is : (c : Scope) (o o1 ob o2 o3 o4 o5 : Output) (op : LogicalOp) (k : ℕ) (s : Span) (e : t.ExprTree) (far : Effects) (outer inner : List StmtTree) (v truth : ExprTree) →
+pub operand_is : (c : Scope) (o o1 ob o2 o3 o4 o5 : Output) (op : LogicalOp) (k : ℕ) (s : Span) (e : tree.ExprTree) (far : Effects) (outer inner : List StmtTree) (v truth : ExprTree) →
     Does o far o1 → outer ≡ o1.stmts → ob ≡ opened o1 → Gives ob (value_in c e (next ob)) o2 v → truth ≡ truth_of (type_of e) v s → o3 ≡ added o2 (hold k truth ∷ []) [] → inner ≡ o3.stmts → o4 ≡ closed o3 outer → o5 ≡ added o4 (where_open op k inner ∷ []) [] →
     Does o (with_operand op k (type_of e) s far (value_in c e (past (next o) far.temps))) o5
 operand_is c o o1 ob o2 o3 o4 o5 op k s e far outer inner v truth d eo eb g et e3 ei e4 e5 =
@@ -142,7 +142,7 @@ operand_is c o o1 ob o2 o3 o4 o5 op k s e far outer inner v truth d eo eb g et e
     }
 
 -- an arm of `?:`
-pub arm_is : (c : Scope) (o ob o2 o3 o4 : Output) (k : ℕ) (e : t.ExprTree) (outer inner : List StmtTree) (v : ExprTree) →
+pub arm_is : (c : Scope) (o ob o2 o3 o4 : Output) (k : ℕ) (e : tree.ExprTree) (outer inner : List StmtTree) (v : ExprTree) →
     outer ≡ o.stmts → ob ≡ opened o → Gives ob (value_in c e (next ob)) o2 v → o3 ≡ added o2 (hold k v ∷ []) [] → inner ≡ o3.stmts → o4 ≡ closed o3 outer → Collects o (arm_in c k e (next o)) o4 inner
 arm_is c o ob o2 o3 o4 k e outer inner v eo eb g e3 ei e4 =
     let g1 : Gives ob (value_in c e (next o)) o2 v = subst (λ j. Gives ob (value_in c e j) o2 v) (next_opened o ob eb) g in
@@ -150,6 +150,6 @@ arm_is c o ob o2 o3 o4 k e outer inner v eo eb g e3 ei e4 =
     apart o ob o3 o4 outer inner (arm k low) low.temps eo eb (then_stmts ob o2 o3 low.stmts (hold k low.value ∷ []) low.temps g1.made (e3 ∙ ap (λ z. added o2 (hold k z ∷ []) []) g1.is)) ei e4
 
 -- what an expression does, in a list of its own
-pub apart_is : (c : Scope) (o ob o3 o4 : Output) (e : t.ExprTree) (outer inner : List StmtTree) → outer ≡ o.stmts → ob ≡ opened o → Does ob (effects_in c e (next ob)) o3 → inner ≡ o3.stmts → o4 ≡ closed o3 outer → Collects o (effects_in c e (next o)) o4 inner
+pub apart_is : (c : Scope) (o ob o3 o4 : Output) (e : tree.ExprTree) (outer inner : List StmtTree) → outer ≡ o.stmts → ob ≡ opened o → Does ob (effects_in c e (next ob)) o3 → inner ≡ o3.stmts → o4 ≡ closed o3 outer → Collects o (effects_in c e (next o)) o4 inner
 apart_is c o ob o3 o4 e outer inner eo eb d ei e4 =
     apart o ob o3 o4 outer inner (effects_in c e (next o)).stmts (effects_in c e (next o)).temps eo eb (subst (λ j. o3 ≡ more ob (effects_in c e j).stmts (effects_in c e j).temps) (next_opened o ob eb) d.made) ei e4

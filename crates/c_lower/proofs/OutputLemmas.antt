@@ -23,23 +23,23 @@ pub nothing_made : (o : Output) → o ≡ more o [] []
 nothing_made o = same o.first _ _ _ _ (sym (append-nil o.stmts)) (sym (append-nil o.temps))
 
 -- one part behind another
-pub then : (o o1 o2 : Output) (xs us : List StmtTree) (ys vs : List Temp) → o1 ≡ more o xs ys → o2 ≡ more o1 us vs → o2 ≡ more o (xs ++ us) (ys ++ vs)
-then o o1 o2 xs us ys vs h k =
+pub both : (o o1 o2 : Output) (xs us : List StmtTree) (ys vs : List Temp) → o1 ≡ more o xs ys → o2 ≡ more o1 us vs → o2 ≡ more o (xs ++ us) (ys ++ vs)
+both o o1 o2 xs us ys vs h k =
     k ∙ ap (λ z. more z us vs) h
     ∙ same o.first _ _ _ _ (append_assoc o.stmts xs us) (append_assoc o.temps (map temporary_of ys) (map temporary_of vs) ∙ ap (λ z. o.temps ++ z) (sym (map-append temporary_of ys vs)))
 
 -- statements alone behind a part
 pub then_stmts : (o o1 o2 : Output) (xs us : List StmtTree) (ys : List Temp) → o1 ≡ more o xs ys → o2 ≡ added o1 us [] → o2 ≡ more o (xs ++ us) ys
-then_stmts o o1 o2 xs us ys h k = then o o1 o2 xs us ys [] h k ∙ ap (λ z. more o (xs ++ us) z) (append-nil ys)
+then_stmts o o1 o2 xs us ys h k = both o o1 o2 xs us ys [] h k ∙ ap (λ z. more o (xs ++ us) z) (append-nil ys)
 
 -- temporaries alone behind a part
 pub then_temps : (o o1 o2 : Output) (xs : List StmtTree) (ys vs : List Temp) → o1 ≡ more o xs ys → o2 ≡ more o1 [] vs → o2 ≡ more o xs (ys ++ vs)
-then_temps o o1 o2 xs ys vs h k = then o o1 o2 xs [] ys vs h k ∙ ap (λ z. more o z (ys ++ vs)) (append-nil xs)
+then_temps o o1 o2 xs ys vs h k = both o o1 o2 xs [] ys vs h k ∙ ap (λ z. more o z (ys ++ vs)) (append-nil xs)
 
 -- a value is held behind a part
 pub then_held : (o o1 o2 : Output) (xs : List StmtTree) (ys : List Temp) (x : Temp) (t : Temporary) (v w : ExprTree) → o1 ≡ more o xs ys → temporary_of x ≡ t → v ≡ w → o2 ≡ added o1 (hold (next o1) v ∷ []) (t ∷ []) → o2 ≡ more o (xs ++ hold (past (next o) ys) w ∷ []) (ys ++ x ∷ [])
 then_held o o1 o2 xs ys x t v w h e f k =
-    then o o1 o2 xs (hold (past (next o) ys) w ∷ []) ys (x ∷ []) h
+    both o o1 o2 xs (hold (past (next o) ys) w ∷ []) ys (x ∷ []) h
     (k ∙ ap (λ n. added o1 (hold n v ∷ []) (t ∷ [])) (next_after o o1 xs ys h)
     ∙ ap (λ z. added o1 (hold (past (next o) ys) z ∷ []) (t ∷ [])) f
     ∙ ap (λ z. added o1 (hold (past (next o) ys) w ∷ []) (z ∷ [])) (sym e))
@@ -62,3 +62,10 @@ apart o ob o1 o2 outer inner xs ys a b c d e =
 -- the first number of a list of its own
 pub next_opened : (o ob : Output) → ob ≡ opened o → next ob ≡ next o
 next_opened o ob b = ap next b
+
+-- equal statements, and equal temporaries
+pub same_stmt : (o o1 : Output) (x y : StmtTree) → x ≡ y → o1 ≡ added o (x ∷ []) [] → o1 ≡ added o (y ∷ []) []
+same_stmt o o1 x y e h = h ∙ ap (λ z. added o (z ∷ []) []) e
+
+pub same_temp : (o o1 : Output) (x y : Temporary) → x ≡ y → o1 ≡ added o [] (x ∷ []) → o1 ≡ added o [] (y ∷ [])
+same_temp o o1 x y e h = h ∙ ap (λ z. added o [] (z ∷ [])) e

@@ -6,7 +6,7 @@ use Rattle.std.specs.declared.alloc.AllocError.{AllocError}
 use Rattle.pt_base.specs.declared.span.Span.{Span}
 use Rattle.typed_tree.specs.declared.types.VarTy.{VarTy}
 use Rattle.typed_tree.specs.declared.link.LinkStep.{LinkStep}
-use Rattle.typed_tree.specs.ExpressionTree as t
+use Rattle.typed_tree.specs.ExpressionTree as tree
 use Rattle.typed_tree.specs.TypeTests.{points_to_const}
 use Rattle.source_meaning.specs.Expressions.{type_of}
 use Rattle.pt_core.specs.Types.{field_type, pointee_type}
@@ -19,11 +19,11 @@ use Rattle.c_lower.specs.Operators.{truth_of, stepped, stored, unit_step, unit_o
 use Rattle.c_lower.specs.Expressions.{Scope, behind, element_place, place_with_field, field_in, fixed_root, fixed_through, copied, given, compounded, counted, counted_after, call_effects, called, started}
 use Rattle.c_lower.specs.Functions.{span_of}
 use Rattle.c_lower.specs.Output.{Output, next, temporary_of, added, more, Found, found, view_found, Gives, GivesAll, Finds, Does, Collects}
-use Rattle.c_lower.proofs.OutputLemmas.{next_after, nothing_made, then, then_stmts, then_temps, then_held}
+use Rattle.c_lower.proofs.OutputLemmas.{next_after, nothing_made, both, then_stmts, then_temps, then_held}
 
 -- ---- places
 
-abbrev found_at : PlaceTree → VarTy → Bool → Option Temporary → Found
+abbrev pub found_at : PlaceTree → VarTy → Bool → Option Temporary → Found
 found_at p ty fixed through = record { place = p; ty = ty; fixed = fixed; through = through }
 
 pub field_is : (c : Scope) (k : ℕ) (f : Found) (low : LoweredPlace) (p : PlaceTree) (ty : VarTy) → f ≡ found low → p ≡ place_with_field f.place k → ty ≡ field_type c.structs f.ty k → found_at p ty f.fixed f.through ≡ found (field_in c k low)
@@ -50,7 +50,7 @@ fixed_is o o1 o2 x t low f pointer s path p h e et ep e2 =
     subst (λ z. Finds o (fixed_root (next o) x low z) o2 (found_at p f.ty f.fixed f.through)) at
     (record {
       made =
-          then o o1 o2 low.stmts (hold m pointer ∷ check (place (deref (temp m) s) path) ∷ []) low.temps (x ∷ []) h.made
+          both o o1 o2 low.stmts (hold m pointer ∷ check (place (deref (temp m) s) path) ∷ []) low.temps (x ∷ []) h.made
           (e2 ∙ ap (λ j. added o1 (hold j pointer ∷ check (place (deref (temp j) s) path) ∷ []) (t ∷ [])) n ∙ ap (λ z. added o1 (hold m pointer ∷ check (place (deref (temp m) s) path) ∷ []) (z ∷ [])) (sym et));
       is = ap (λ z. found_at z f.ty f.fixed f.through) (ep ∙ ap (λ j. place (deref (temp j) s) path) n) ∙ ap (λ (g : Found). found_at (place (deref (temp m) s) path) g.ty g.fixed g.through) h.is;
     })
@@ -70,7 +70,7 @@ pub copied_is : (o o1 o2 o3 : Output) (to of : LoweredPlace) (f g : Found) → F
 copied_is o o1 o2 o3 to of f g h i e = record {
   made =
       then_stmts o o2 o3 (to.stmts ++ of.stmts) (copy to.place of.place ∷ []) (to.temps ++ of.temps)
-      (then o o1 o2 to.stmts of.stmts to.temps of.temps h.made i.made)
+      (both o o1 o2 to.stmts of.stmts to.temps of.temps h.made i.made)
       (e ∙ ap (λ (z : Found). added o2 (copy z.place g.place ∷ []) []) h.is ∙ ap (λ (z : Found). added o2 (copy to.place z.place ∷ []) []) i.is);
   is = h.is;
 }
@@ -79,7 +79,7 @@ pub given_is : (o o1 o2 o3 : Output) (to : LoweredPlace) (v : Lowered) (f : Foun
 given_is o o1 o2 o3 to v f w h i e = record {
   made =
       then_stmts o o2 o3 (to.stmts ++ v.stmts) (assign to.place v.value ∷ []) (to.temps ++ v.temps)
-      (then o o1 o2 to.stmts v.stmts to.temps v.temps h.made i.made)
+      (both o o1 o2 to.stmts v.stmts to.temps v.temps h.made i.made)
       (e ∙ ap (λ (z : Found). added o2 (assign z.place w ∷ []) []) h.is ∙ ap (λ z. added o2 (assign to.place z ∷ []) []) i.is);
   is = h.is;
 }
@@ -92,7 +92,7 @@ pub compounded_is : (o o1 o2 o3 : Output) (s : Span) (step : LinkStep) (to : Low
 compounded_is o o1 o2 o3 s step to v f w h i e = record {
   made =
       then_stmts o o2 o3 (to.stmts ++ v.stmts) (assign to.place (result_in s step (found to) v.value) ∷ []) (to.temps ++ v.temps)
-      (then o o1 o2 to.stmts v.stmts to.temps v.temps h.made i.made)
+      (both o o1 o2 to.stmts v.stmts to.temps v.temps h.made i.made)
       (e ∙ ap (λ (z : Found). added o2 (assign z.place (result_in s step z w) ∷ []) []) h.is ∙ ap (λ z. added o2 (assign to.place (result_in s step (found to) z) ∷ []) []) i.is);
   is = h.is;
 }
@@ -128,26 +128,26 @@ counted_after_is o o1 o3 s back x to f g k h ek c = record { made = c.made; is =
 
 pub call_is : (o o1 o2 : Output) (f : ℕ) (s : Span) (a : Arguments) (vs : List ExprTree) → GivesAll o a o1 vs → o2 ≡ added o1 (call f (expr_trees vs) None s ∷ []) [] → Does o (call_effects f s None [] a) o2
 call_is o o1 o2 f s a vs g e = record {
-  made = then o o1 o2 a.stmts (call f (expr_trees a.values) None s ∷ []) a.temps [] g.made (e ∙ ap (λ z. added o1 (call f (expr_trees z) None s ∷ []) []) g.are);
+  made = both o o1 o2 a.stmts (call f (expr_trees a.values) None s ∷ []) a.temps [] g.made (e ∙ ap (λ z. added o1 (call f (expr_trees z) None s ∷ []) []) g.are);
 }
 
-pub call_dropped : (o o1 : Output) (f : ℕ) (s : Span) (e : t.ExprTree) (a : Arguments) (v : ExprTree) → Does o (call_effects f s None [] a) o1 → v ≡ (called f s None e (next o) a).value → Gives o (called f s None e (next o) a) o1 v
+pub call_dropped : (o o1 : Output) (f : ℕ) (s : Span) (e : tree.ExprTree) (a : Arguments) (v : ExprTree) → Does o (call_effects f s None [] a) o1 → v ≡ (called f s None e (next o) a).value → Gives o (called f s None e (next o) a) o1 v
 call_dropped o o1 f s e a v d h = record { made = d.made; is = h }
 
--- a temporary is claimed, and then a statement added
+-- a temporary is claimed, and a statement added
 claimed : (o1 o2 o3 : Output) (us : List StmtTree) (ts : List Temporary) → o2 ≡ added o1 [] ts → o3 ≡ added o2 us [] → o3 ≡ added o1 us ts
 claimed o1 o2 o3 us ts e f =
     f ∙ ap (λ z. added z us []) e
     ∙ ap (λ z. record { first = o1.first; stmts = z ++ us; temps = (o1.temps ++ ts) ++ [] }) (append-nil o1.stmts)
     ∙ ap (λ z. record { first = o1.first; stmts = o1.stmts ++ us; temps = z }) (append-nil (o1.temps ++ ts))
 
-pub call_held : (o o1 o2 o3 : Output) (f : ℕ) (s : Span) (ty : VarTy) (e : t.ExprTree) (a : Arguments) (vs : List ExprTree) (k : ℕ) → GivesAll o a o1 vs → span_of e ≡ s → k ≡ next o1 → o2 ≡ added o1 [] (record { ty = ty; holds = Some s } ∷ []) → o3 ≡ added o2 (call f (expr_trees vs) (Some k) s ∷ []) [] →
+pub call_held : (o o1 o2 o3 : Output) (f : ℕ) (s : Span) (ty : VarTy) (e : tree.ExprTree) (a : Arguments) (vs : List ExprTree) (k : ℕ) → GivesAll o a o1 vs → span_of e ≡ s → k ≡ next o1 → o2 ≡ added o1 [] (record { ty = ty; holds = Some s } ∷ []) → o3 ≡ added o2 (call f (expr_trees vs) (Some k) s ∷ []) [] →
     Gives o (called f s (Some ty) e (next o) a) o3 (temp k)
 call_held o o1 o2 o3 f s ty e a vs k g es ek e2 e3 =
     let n : k ≡ past (next o) a.temps = ek ∙ next_after o o1 a.stmts a.temps g.made in
     record {
       made =
-          then o o1 o3 a.stmts (call f (expr_trees a.values) (Some (past (next o) a.temps)) s ∷ []) a.temps (holding ty e ∷ []) g.made
+          both o o1 o3 a.stmts (call f (expr_trees a.values) (Some (past (next o) a.temps)) s ∷ []) a.temps (holding ty e ∷ []) g.made
           (claimed o1 o2 o3 _ _ e2 e3
           ∙ ap (λ z. added o1 (call f (expr_trees z) (Some k) s ∷ []) (record { ty = ty; holds = Some s } ∷ [])) g.are
           ∙ ap (λ z. added o1 (call f (expr_trees a.values) (Some z) s ∷ []) (record { ty = ty; holds = Some s } ∷ [])) n
@@ -157,7 +157,7 @@ call_held o o1 o2 o3 f s ty e a vs k g es ek e2 e3 =
 
 -- ---- `&&`, `||` and `?:`
 
-pub started_is : (o o1 o2 : Output) (whole : t.ExprTree) (ty : VarTy) (s : Span) (low : Lowered) (v truth : ExprTree) → Gives o low o1 v → span_of whole ≡ s → truth ≡ truth_of ty v s → o2 ≡ added o1 (hold (next o1) truth ∷ []) (record { ty = int; holds = Some s } ∷ []) →
+pub started_is : (o o1 o2 : Output) (whole : tree.ExprTree) (ty : VarTy) (s : Span) (low : Lowered) (v truth : ExprTree) → Gives o low o1 v → span_of whole ≡ s → truth ≡ truth_of ty v s → o2 ≡ added o1 (hold (next o1) truth ∷ []) (record { ty = int; holds = Some s } ∷ []) →
     Does o (started whole (past (next o) low.temps) ty s low) o2
 started_is o o1 o2 whole ty s low v truth g es et e = record {
   made = then_held o o1 o2 low.stmts low.temps (holding int whole) (record { ty = int; holds = Some s }) truth (truth_of ty low.value s) g.made (ap (λ z. record { ty = int; holds = Some z }) es) (et ∙ ap (λ z. truth_of ty z s) g.is) e;
@@ -187,20 +187,22 @@ next_claimed o o2 xs ys x h =
 
 -- ---- what places are seen as
 
-pub behind_found : (s : Span) (a : t.ExprTree) (low : Lowered) (root : core.RootTree) (v : ExprTree) (ty pointee : VarTy) (fixed : Bool) (keeper : Temporary) →
+pub behind_found : (s : Span) (a : tree.ExprTree) (low : Lowered) (root : core.RootTree) (v : ExprTree) (ty pointee : VarTy) (fixed : Bool) (keeper : Temporary) (path : List ℕ) → path ≡ [] →
     root ≡ deref v s → v ≡ low.value → ty ≡ type_of a → pointee ≡ pointee_type ty → fixed ≡ points_to_const (Some ty) → keeper ≡ record { ty = ty; holds = Some (span_of a) } →
-    found_at (place root []) pointee fixed (Some keeper) ≡ found (behind s a low)
-behind_found s a low root v ty pointee fixed keeper er ev et ep ef ek =
-    ap (λ z. found_at (place z []) pointee fixed (Some keeper)) (er ∙ ap (λ w. deref w s) ev)
+    found_at (place root path) pointee fixed (Some keeper) ≡ found (behind s a low)
+behind_found s a low root v ty pointee fixed keeper path ex er ev et ep ef ek =
+    ap (λ z. found_at (place root z) pointee fixed (Some keeper)) ex
+    ∙ ap (λ z. found_at (place z []) pointee fixed (Some keeper)) (er ∙ ap (λ w. deref w s) ev)
     ∙ ap (λ z. found_at (place (deref low.value s) []) z fixed (Some keeper)) (ep ∙ ap pointee_type et)
     ∙ ap (λ z. found_at (place (deref low.value s) []) (pointee_type (type_of a)) z (Some keeper)) (ef ∙ ap (λ z. points_to_const (Some z)) et)
     ∙ ap (λ z. found_at (place (deref low.value s) []) (pointee_type (type_of a)) (points_to_const (Some (type_of a))) (Some z)) (ek ∙ ap (λ z. record { ty = z; holds = Some (span_of a) }) et)
 
-pub element_found : (s : Span) (first e : t.ExprTree) (ty : VarTy) (b v : Lowered) (root : core.RootTree) (pointer x y : ExprTree) (pointee : VarTy) (fixed : Bool) (keeper : Temporary) →
+pub element_found : (s : Span) (first e : tree.ExprTree) (ty : VarTy) (b v : Lowered) (root : core.RootTree) (pointer x y : ExprTree) (pointee : VarTy) (fixed : Bool) (keeper : Temporary) (path : List ℕ) → path ≡ [] →
     root ≡ deref pointer s → pointer ≡ core.move x y false s → x ≡ b.value → y ≡ v.value → pointee ≡ pointee_type ty → fixed ≡ points_to_const (Some ty) → keeper ≡ record { ty = ty; holds = Some s } →
-    found_at (place root []) pointee fixed (Some keeper) ≡ found (element_place s first e ty b v)
-element_found s first e ty b v root pointer x y pointee fixed keeper er em ex ey ep ef ek =
-    ap (λ z. found_at (place z []) pointee fixed (Some keeper)) (er ∙ ap (λ w. deref w s) (em ∙ ap (λ w. core.move w y false s) ex ∙ ap (λ w. core.move b.value w false s) ey))
+    found_at (place root path) pointee fixed (Some keeper) ≡ found (element_place s first e ty b v)
+element_found s first e ty b v root pointer x y pointee fixed keeper path eq er em ex ey ep ef ek =
+    ap (λ z. found_at (place root z) pointee fixed (Some keeper)) eq
+    ∙ ap (λ z. found_at (place z []) pointee fixed (Some keeper)) (er ∙ ap (λ w. deref w s) (em ∙ ap (λ w. core.move w y false s) ex ∙ ap (λ w. core.move b.value w false s) ey))
     ∙ ap (λ z. found_at (place (deref (core.move b.value v.value false s) s) []) z fixed (Some keeper)) ep
     ∙ ap (λ z. found_at (place (deref (core.move b.value v.value false s) s) []) (pointee_type ty) z (Some keeper)) ef
     ∙ ap (λ z. found_at (place (deref (core.move b.value v.value false s) s) []) (pointee_type ty) (points_to_const (Some ty)) (Some z)) ek

@@ -4,14 +4,14 @@ use Rattle.std.specs.Prelude.{nat_lt}
 use Rattle.std.proofs.lemmas.List.{drop-drop}
 use Rattle.std.proofs.lemmas.Bool.{ltb-false, ltb-true, le-ltb}
 use Rattle.typed_tree.specs.declared.expression.TypedExpr.{TypedExpr}
-use Rattle.typed_tree.specs.ExpressionTree as t
+use Rattle.typed_tree.specs.ExpressionTree as tree
 use Rattle.typed_tree.specs.ExpressionTree.{StepTree, StepTrees, step_and, expr_trees, view_expr}
 use Rattle.c_lower.specs.Purity.{is_pure, are_pure, are_pure_steps}
 use Rattle.c_lower.specs.ExpressionParts.{is_pure_step}
 
 pub pure_steps : (x : StepTree) (rest : StepTrees) → are_pure_steps (step_and x rest) ≡ (is_pure_step x && are_pure_steps rest)
-pure_steps (t.field k) rest = refl
-pure_steps (t.item e s) rest = refl
+pure_steps (tree.field k) rest = refl
+pure_steps (tree.item e s) rest = refl
 
 abbrev pub all_pure : List TypedExpr → Bool
 all_pure es = are_pure (expr_trees (map view_expr es))
@@ -44,7 +44,7 @@ impure_before es i k x d le below is h = go (all_pure (drop k es)) refl
     go false e = e
     go true e = e ∙ sym (pure_behind es k i le e) ∙ impure_at es i x d below is h
 
-pub pure_from_start : (es : List TypedExpr) (from k : ℕ) → all_pure (drop from es) ≡ true → from ≡ 0 → all_pure (drop k es) ≡ not (nat_lt k 0)
+pub pure_from_start : (es : List TypedExpr) (from k : ℕ) → all_pure (drop from es) ≡ true → from ≤ 0 → all_pure (drop k es) ≡ not (nat_lt k 0)
 pure_from_start es from k h e =
     let le : from ≤ k = omega arith in
     pure_behind es from k le h ∙ sym (ap not (le-ltb k 0 (omega arith)))

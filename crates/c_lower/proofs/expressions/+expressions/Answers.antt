@@ -7,7 +7,8 @@ use Rattle.c_lower.specs.Names.{scope_of}
 use Rattle.source_meaning.specs.Expressions.{type_of}
 use Rattle.c_lower.specs.Operators.{truth_of}
 use Rattle.c_lower.specs.Expressions.{fixed_if}
-use Rattle.c_lower.specs.Output.{added, Finds}
+use Rattle.c_lower.specs.Output.{Finds}
+use Rattle.c_lower.proofs.OutputLemmas.{same_stmt}
 use Rattle.c_lower.proofs.FormLemmas.{checked_is, choice_is, choice_dropped, copied_to, given_to, count_is, linked_is, operand_is, arm_is, apart_is}
 use Rattle.c_lower.proofs.ArmLemmas.{pure_is, chain_is, logical_is, unary_is, convert_is, discard_is, compound_is, compound_dropped, assign_is, assign_dropped, assign_object, counted_dropped, unary_dropped, chain_dropped, logical_dropped, held_dropped, also, link_is, read_of, decay_of, address_of, behind_is, standing_is, field_step, item_is, flip}
 use Rattle.c_lower.proofs.WalkLemmas.{split_at, links_begin, links_step, links_end, operands_begin, operands_step, operands_end, steps_begin, steps_step, steps_end, arguments_step, arguments_end}
@@ -43,7 +44,7 @@ value-returns-in-Discard t c =
 pub value-returns-in-Chain : goal.value-returns-in-Chain
 value-returns-in-Chain t c =
     rw (ap tree.view_form c.in-Chain.is ∙ view_chain c.in-Chain.a.value c.in-Chain.links c.in-Chain.a refl)
-    (chain_is _ _ _ _ _ _ _ _ _ _ _ _ _ c.in_ok-first-in-Chain.ensures (ap tree.view_expr c.deref-in-Chain.ensures) c.holding.ensures
+    (chain_is _ _ _ _ _ _ _ _ _ _ _ _ _ c.in_ok-first-in-Chain.ensures (ap tree.view_expr c.deref-in-Chain.ensures) c.holding-keeper.ensures
         (c.type_of-in-Chain.ensures ∙ ap (λ x. type_of (tree.view_expr x)) c.deref-in-Chain-2.ensures)
         (ap (λ xs. tree.link_trees (map tree.view_link xs)) c.deref-in-Chain-3.ensures.value)
         (c.chained.ensures _))
@@ -59,9 +60,9 @@ value-returns-in-Logical t c =
 pub value-returns-in-Choice : goal.value-returns-in-Choice
 value-returns-in-Choice t c =
     rw (c.in-Choice.is, ← c.deref-in-Choice.ensures, ← c.deref-in-Choice-2.ensures, ← c.deref-in-Choice-3.ensures, c.temp-in-Choice.ensures)
-    (choice_is _ _ _ _ _ _ _ _ _ _ _ _ _ _ _ _ c.in_ok-cond-in-Choice.ensures (sym (c.holding-in-Choice.ensures ∙ ap (λ z. record { ty = z; holds = Some _ }) c.type_or_int-in-Choice.ensures))
+    (choice_is _ _ _ _ _ _ _ _ _ _ _ _ _ _ _ _ c.in_ok-cond-in-Choice.ensures (sym (c.holding-whole.ensures ∙ ap (λ z. record { ty = z; holds = Some _ }) c.type_or_int-in-Choice.ensures))
         c.in_ok-k-in-Choice.ensures.number c.in_ok-k-in-Choice.ensures.output c.in_ok-first-in-Choice.ensures c.in_ok-second-in-Choice.ensures
-        (c.in_ok-add-in-Choice.ensures ∙ ap (λ z. added _ (z ∷ []) []) c.choose.ensures))
+        (same_stmt _ _ _ _ c.choose.ensures c.in_ok-add.ensures))
 
 pub value-returns-in-Assign : goal.value-returns-in-Assign
 value-returns-in-Assign t c =
@@ -109,7 +110,7 @@ pub effects-returns-in-Choice : goal.effects-returns-in-Choice
 effects-returns-in-Choice t c =
     rw (c.in-Choice.is, ← c.deref-in-Choice.ensures, ← c.deref-in-Choice-2.ensures, ← c.deref-in-Choice-3.ensures)
     (also _ _ _
-        (λ e. choice_dropped _ _ _ _ _ _ _ _ _ _ _ _ c.in_ok-cond.ensures c.in_ok-first.ensures c.in_ok-second.ensures (e ∙ ap (λ z. added _ (z ∷ []) []) c.choose.ensures))
+        (λ e. choice_dropped _ _ _ _ _ _ _ _ _ _ _ _ c.in_ok-cond.ensures c.in_ok-first.ensures c.in_ok-second.ensures (same_stmt _ _ _ _ c.choose.ensures e))
         c.add.ensures)
 
 pub effects-returns-in-Assign : goal.effects-returns-in-Assign
@@ -157,15 +158,15 @@ linked-returns t c = λ o whole far g h. link_is _ _ o _ _ _ _ _ _ _ whole _ far
 pub operand_of-returns : goal.operand_of-returns
 operand_of-returns t c = λ o far d.
     also _ _ _
-    (λ e. operand_is _ o _ _ _ _ _ _ _ _ _ _ far _ _ _ _ d c.begin.ensures.outer c.begin.ensures.output c.in_ok-v.ensures (c.in_ok-truth.ensures ∙ ap (λ z. truth_of z _ _) c.type_of.ensures)
-        c.in_ok-give.ensures c.end.ensures.inner c.end.ensures.output (e ∙ ap (λ z. added _ (z ∷ []) []) c.where_open.ensures))
+    (λ e. operand_is _ o _ _ _ _ _ _ _ _ _ _ far _ _ _ _ d c.begin-outer.ensures.outer c.begin-outer.ensures.output c.in_ok-v.ensures (c.in_ok-truth.ensures ∙ ap (λ z. truth_of z _ _) c.type_of.ensures)
+        c.in_ok-give.ensures c.end-inner.ensures.inner c.end-inner.ensures.output (same_stmt _ _ _ _ c.where_open.ensures e))
     c.add.ensures
 
 pub arm-returns-in_ok-give : goal.arm-returns-in_ok-give
-arm-returns-in_ok-give t c = arm_is _ _ _ _ _ _ _ _ _ _ _ c.begin.ensures.outer c.begin.ensures.output c.in_ok-v.ensures c.in_ok-give.ensures c.end.ensures.inner c.end.ensures.output
+arm-returns-in_ok-give t c = arm_is _ _ _ _ _ _ _ _ _ _ _ c.begin-outer.ensures.outer c.begin-outer.ensures.output c.in_ok-v.ensures c.in_ok-give.ensures c.end.ensures.inner c.end.ensures.output
 
 pub effects_apart-returns-in_ok-effects : goal.effects_apart-returns-in_ok-effects
-effects_apart-returns-in_ok-effects t c = apart_is _ _ _ _ _ _ _ _ c.begin.ensures.outer c.begin.ensures.output c.in_ok-effects.ensures c.end.ensures.inner c.end.ensures.output
+effects_apart-returns-in_ok-effects t c = apart_is _ _ _ _ _ _ _ _ c.begin-outer.ensures.outer c.begin-outer.ensures.output c.in_ok-effects.ensures c.end.ensures.inner c.end.ensures.output
 
 pub assignment-returns-then-whole : goal.assignment-returns-then-whole
 assignment-returns-then-whole t c =
@@ -196,7 +197,7 @@ stepped_to-returns t c = λ o root before low h. rw c.in-Item.is (c.item.ensures
 
 pub item-returns : goal.item-returns
 item-returns t c = λ o root before low h.
-    item_is _ _ o _ _ _ _ _ root before low _ _ _ _ _ _ _ h c.is_pure.ensures c.decayed_type.ensures c.holding.ensures c.decay.ensures (λ z far k e. c.in_ok-base.ensures o z far k e) c.in_ok-v.ensures c.element.ensures
+    item_is _ _ o _ _ _ _ _ root before low _ _ _ _ _ _ _ h c.is_pure-is_held.ensures c.decayed_type-ty.ensures c.holding.ensures c.decay-first.ensures (λ z far k e. c.in_ok-base.ensures o z far k e) c.in_ok-v.ensures c.element.ensures
 
 pub root-returns-in-Local : goal.root-returns-in-Local
 root-returns-in-Local t c = rw c.in-Local.is (standing_is _ _ _ refl refl (c.variable.ensures _))

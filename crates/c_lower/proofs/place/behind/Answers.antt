@@ -1,5 +1,5 @@
 use Rattle.c_lower.proofs.PieceLemmas.{behind_found}
 use Rattle.c_lower.proofs.place.behind.Goals as goal
 
-pub returns-in_ok-deref : goal.returns-in_ok-deref
-returns-in_ok-deref c = λ low h. behind_found _ _ low _ _ _ _ _ _ c.in_ok-deref.ensures h c.type_of.ensures c.pointee_type.ensures c.points_to_const.ensures c.holding.ensures
+pub returns : goal.returns
+returns c = λ low h. behind_found _ _ low _ _ _ _ _ _ _ c.new.ensures.items c.in_ok-deref.ensures h c.type_of-ty.ensures c.pointee_type.ensures c.points_to_const.ensures c.holding.ensures
