@@ -8,13 +8,14 @@ use Rattle.pt_tree.specs.declared.signature.Elem.{Elem}
 use Rattle.typed_tree.specs.declared.ids.ExprId.{ExprId}
 use Rattle.typed_tree.specs.declared.types.VarTy.{VarTy}
 use Rattle.typed_tree.specs.declared.types.Field.{Field}
-use Rattle.typed_tree.specs.StatementTree.{BodyTree, SectionTree, section}
-use Rattle.pt_core.specs.CodeTree.{StmtTree, PlaceTree, binary, choose, stmt_trees}
+use Rattle.typed_tree.specs.StatementTree.{BodyTree, ElseTree, SectionTree, section}
+use Rattle.pt_core.specs.CodeTree.{StmtTree, PlaceTree, binary, choose, give_back, stmt_trees}
 use Rattle.source_meaning.specs.Expressions.{type_of}
+use Rattle.c_lower.specs.Expressions.{value_in}
 use Rattle.c_lower.specs.Lowered.{Effects, nothing, past, hold, temp, counting, int, followed}
 use Rattle.c_lower.specs.Output.{Output, next, Does}
 use Rattle.c_lower.specs.Leaves.{Step, Ways, ways_from, object_ways, elem_ways, field_ways, element_ways, at_end_of}
-use Rattle.c_lower.specs.Statements.{Code, Onward, to_head, outermost, items_in, number, tested, stepped, looped, first_told, on_the_way_back, case_of, section_by, statement_in, all_in}
+use Rattle.c_lower.specs.Statements.{Code, Onward, to_head, outermost, items_in, number, tested, stepped, looped, first_told, on_the_way_back, case_of, section_by, chosen, returned, stmts_of, statement_in, otherwise_in, all_in}
 
 abbrev pub type_of_outermost : Code → ExprId → VarTy
 type_of_outermost c e = type_of (outermost c e)
@@ -39,6 +40,18 @@ section_case s ty k m (section at label statements) = case_of s ty k m label
 pub record StoresItems (c : Code) (places : List PlaceTree) (items : List ExprId) (before : Output) (rest : List ExprId) (after : Output) : Type 0 where
   pub left : rest ≡ drop (length places) items
   pub does : Does before (items_in c places items (next before)) after
+
+-- ---- choices and returns
+
+abbrev pub choice_in : Code → ExprId → BodyTree → ElseTree → Onward → ℕ → Effects
+choice_in c e x y mode n =
+    let v = value_in c.scope (outermost c e) n in
+    let first = statement_in c x mode (past n v.temps) in
+    chosen v first (otherwise_in c y mode (past (past n v.temps) first.temps))
+
+abbrev pub returned_in : Code → Option ExprId → ℕ → Effects
+returned_in c None n = stmts_of (give_back None ∷ [])
+returned_in c (Some e) n = returned (value_in c.scope (outermost c e) n)
 
 -- ---- loops
 

@@ -1,14 +1,19 @@
 // How control goes on in loops and switches.
-ghost use Rattle.std.specs.Prelude.{◌≡◌, [], OnOk};
+ghost use Rattle.std.specs.Prelude.{◌≡◌, [], Some, OnOk};
 ghost use Rattle.pt_core.specs.CodeTree.{view_expr};
 ghost use Rattle.c_lower.specs.Statements as is;
 ghost use Rattle.c_lower.specs.Onwards.{view_onward, set_where};
-ghost use Rattle.c_lower.specs.Output.{output_of, added};
+ghost use Rattle.c_lower.specs.Names.{code_in};
+ghost use Rattle.c_lower.specs.Output.{output_of, next, added, Does, Doing};
+ghost use Rattle.c_lower.specs.StatementParts.{returned_in};
 
 use crate::lowering::{Lowering, temp};
+use crate::names::Names;
+use crate::outermost::value_of;
 use pt_base::{IntType, VarId};
 use pt_core::{Expr, Stmt};
 use std::alloc::{AllocError, Global};
+use typed_tree::ExprId;
 
 /// What `continue` does: it stands in no loop; it goes on to the head of one; or in a switch it
 /// leaves that, with a flag for what comes behind.
@@ -89,4 +94,32 @@ fn go_on_where(
     go_on(alloc, mode, lowering)?;
     let stmts = lowering.end(outer);
     lowering.add(Stmt::choose(temp(alloc, flag), stmts, Vec::new(alloc)))
+}
+
+/// A `return`, with the value of an expression or without one.
+pub(crate) fn give_back(
+    alloc: Global,
+    names: &Names<'_>,
+    e: Option<ExprId>,
+    lowering: &mut Lowering,
+) -> Result<(), AllocError>
+    ensures { Doing result (output_of lowering.old) (returned_in (code_in names.now) e) (output_of lowering.new) }
+{
+    match e {
+        Some(e) => give_value(alloc, names, e, lowering),
+        None => lowering.add(Stmt::Return { value: None }),
+    }
+}
+
+// the same with one
+fn give_value(
+    alloc: Global,
+    names: &Names<'_>,
+    e: ExprId,
+    lowering: &mut Lowering,
+) -> Result<(), AllocError>
+    ensures { Doing result (output_of lowering.old) (returned_in (code_in names.now) (Some e)) (output_of lowering.new) }
+{
+    let value = value_of(alloc, names, e, lowering)?;
+    lowering.add(Stmt::Return { value: Some(value) })
 }

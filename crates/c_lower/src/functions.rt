@@ -3,13 +3,14 @@ ghost use Rattle.std.specs.Prelude.{◌≡◌, [], ◌++◌, Some, IfOk, OnOk, m
 ghost use Rattle.typed_tree.specs.Lookup.{function_at};
 ghost use Rattle.typed_tree.specs.StatementTree as tree;
 ghost use Rattle.typed_tree.specs.StatementTree.{BodyTree};
-ghost use Rattle.typed_tree.specs.TypedTree.{FunctionTree};
+ghost use Rattle.typed_tree.specs.TypedTree.{FunctionTree, view_function};
 ghost use Rattle.typed_tree.specs.TypedView.{view_typed};
 ghost use Rattle.typed_tree.specs.WellFormedExpression as well;
 ghost use Rattle.source_meaning.specs.Functions as meaning;
 ghost use Rattle.pt_core.specs.CodeTree as core;
 ghost use Rattle.c_lower.specs.Functions as is;
-ghost use Rattle.c_lower.specs.FunctionParts.{IsDefined, variable_for, variables_of};
+ghost use Rattle.c_lower.specs.FunctionParts.{IsDefined, MakesBody, variable_for, variables_of};
+ghost use Rattle.c_lower.specs.Names.{code_in};
 ghost use Rattle.c_lower.specs.Output.{output_of, added};
 
 use crate::flow::{Onward, number};
@@ -52,26 +53,57 @@ pub(crate) fn lower_body(
     ensures { IfOk result (λ c. core.view_function c ≡ is.core_of (view_typed program.now) f.0 (view_function function.now) (tree.view_body body.now)) }
 {
     let variables = function.vars.as_slice();
-    let names = Names { program, variables };
+    let names = names_of(program, function);
     let params = function.signature.params.as_slice().len();
-    // a function has at most 8 parameters, and 2^32 variables don't fit into memory
-    if params > u8::MAX as usize || variables.len() > u32::MAX as usize {
+    // a function has at most 8 parameters
+    if params > u8::MAX as usize {
         return Err(AllocError);
     }
-    let mut lowering = Lowering {
-        first: variables.len() as u32,
-        stmts: Vec::new(alloc),
-        temps: Vec::new(alloc),
-    };
-    statement(alloc, &names, body, Onward::Nowhere, &mut lowering)?;
-    end_main(&function.signature, &mut lowering)?;
+    let made = lowered(alloc, &names, &function.signature, body)?;
+    let vars = with_temporaries(alloc, variables, &made.temps)?;
     Ok(CoreFn {
         id: f,
         params: params as u8,
-        vars: with_temporaries(alloc, variables, &lowering.temps)?,
-        body: lowering.stmts,
+        vars,
+        body: made.stmts,
         end: brace_of(body),
     })
+}
+
+// what the code of a function names
+#[tactic(auto, unfolding(crate::specs::Names::scope_of))]
+fn names_of<'a>(program: &'a Typed, function: &'a TypedFn) -> Names<'a>
+    ensures code { code_in result ≡ is.code_of (view_typed program.now) (view_function function.now) }
+    ensures variables { result.variables.now ≡ function.now.vars }
+{
+    Names {
+        program,
+        variables: function.vars.as_slice(),
+    }
+}
+
+// the statements and the temporaries of a body
+fn lowered(
+    alloc: Global,
+    names: &Names<'_>,
+    signature: &Signature,
+    body: &TypedBody,
+) -> Result<Lowering, AllocError>
+    ensures { IfOk result (λ l. MakesBody (code_in names.now) (tree.view_body body.now) (length names.now.variables.now) (is.main_end signature.now) l) }
+{
+    let first = names.variables.len();
+    // 2^32 variables don't fit into memory
+    if first > u32::MAX as usize {
+        return Err(AllocError);
+    }
+    let mut lowering = Lowering {
+        first: first as u32,
+        stmts: Vec::new(alloc),
+        temps: Vec::new(alloc),
+    };
+    statement(alloc, names, body, Onward::Nowhere, &mut lowering)?;
+    end_main(signature, &mut lowering)?;
+    Ok(lowering)
 }
 
 // reaching the closing brace of main returns 0 (C99 5.1.2.2.3)

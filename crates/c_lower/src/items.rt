@@ -1,16 +1,15 @@
 // The items of a brace list, each evaluated and stored before the next: the first goes to an
 // object's first integer, and so on.
-ghost use Rattle.std.specs.Prelude.{◌≡◌, ◌+◌, drop, length, IfOk, OnOk, map};
-ghost use Rattle.typed_tree.specs.Sizes.{fields_of};
+ghost use Rattle.std.specs.Prelude.{◌≡◌, [], ◌∷◌, IfOk};
 ghost use Rattle.pt_core.specs.CodeTree.{view_place};
-ghost use Rattle.c_lower.specs.Leaves.{object_ways, elem_ways, element_ways, field_ways, stepped_to, to_field, to_element};
-ghost use Rattle.c_lower.specs.Names.{scope_of, code_in};
-ghost use Rattle.c_lower.specs.Output.{output_of, next, Does};
-ghost use Rattle.c_lower.specs.Statements.{items_in};
+ghost use Rattle.c_lower.specs.Leaves.{object_ways, elem_ways, element_ways, stepped_to, to_field, to_element};
+ghost use Rattle.c_lower.specs.Names.{code_in};
+ghost use Rattle.c_lower.specs.Output.{output_of};
 ghost use Rattle.c_lower.specs.StatementParts.{ways_below, ends, StoresItems};
 
 use crate::lowering::Lowering;
 use crate::names::Names;
+use crate::numbers::next_number;
 use crate::outermost::value_of;
 use pt_base::{IntType, Span};
 use pt_core::{Expr, Place, Root, Stmt};
@@ -68,17 +67,35 @@ pub(crate) fn store<'a>(
         VarTy::Pointer { .. } => store_first(alloc, names, object, items, lowering),
         VarTy::Struct(n) => store_fields(alloc, names, span, n, bound, object, items, lowering),
         VarTy::Array { elem, count } => {
-            let mut rest = items;
-            for index in 0..count {
-                if rest.is_empty() {
-                    break;
-                }
-                let element = element_place(alloc, span, &object, index)?;
-                rest = store_element(alloc, names, span, elem, bound, element, rest, lowering)?;
-            }
-            Ok(rest)
+            store_elements(alloc, names, span, elem, count, bound, object, items, lowering)
         }
     }
+}
+
+// the same in the elements of an array
+#[cycle(items)]
+fn store_elements<'a>(
+    alloc: Global,
+    names: &Names<'_>,
+    span: Span,
+    elem: Elem,
+    count: u32,
+    bound: u32,
+    array: Place,
+    items: &'a [ExprId],
+    lowering: &mut Lowering,
+) -> Result<&'a [ExprId], AllocError>
+    ensures { IfOk result (λ rest. StoresItems (code_in names.now) (ends span (view_place array) (element_ways count 0 (elem_ways (ways_below (code_in names.now) bound) elem))) items.now (output_of lowering.old) rest.now (output_of lowering.new)) }
+{
+    let mut rest = items;
+    for index in 0..count {
+        if rest.is_empty() {
+            return Ok(rest);
+        }
+        let element = element_place(alloc, span, &array, index)?;
+        rest = store_element(alloc, names, span, elem, bound, element, rest, lowering)?;
+    }
+    Ok(rest)
 }
 
 // the same in an element of an array
@@ -119,12 +136,15 @@ fn store_fields<'a>(
     if structure >= bound {
         return Ok(rest);
     }
-    for (k, field) in names.fields(structure).iter().enumerate() {
+    let mut number: u32 = 0;
+    let fields = names.fields(structure);
+    for field in fields {
         if rest.is_empty() {
-            break;
+            return Ok(rest);
         }
-        let part = field_place(alloc, &object, k as u32)?;
+        let part = field_place(alloc, &object, number)?;
         rest = store(alloc, names, span, field.ty, structure, part, rest, lowering)?;
+        number = next_number(number)?;
     }
     Ok(rest)
 }
@@ -139,10 +159,12 @@ fn store_first<'a>(
 ) -> Result<&'a [ExprId], AllocError>
     ensures { IfOk result (λ rest. StoresItems (code_in names.now) (view_place place ∷ []) items.now (output_of lowering.old) rest.now (output_of lowering.new)) }
 {
-    let [first, rest @ ..] = items else {
-        return Ok(items);
-    };
-    let value = value_of(alloc, names, *first, lowering)?;
-    lowering.add(Stmt::Assign { place, value })?;
-    Ok(rest)
+    match items.split_first() {
+        Some((first, rest)) => {
+            let value = value_of(alloc, names, *first, lowering)?;
+            lowering.add(Stmt::Assign { place, value })?;
+            Ok(rest)
+        }
+        None => Ok(items),
+    }
 }

@@ -13,6 +13,7 @@ mod logical;
 mod loops;
 mod lowering;
 mod names;
+mod numbers;
 mod operators;
 mod outermost;
 mod place;

@@ -8,6 +8,7 @@ ghost use Rattle.c_lower.specs.Functions.{core_program};
 ghost use Rattle.c_lower.specs.FunctionParts.{program_of};
 
 use crate::functions::lower_body;
+use crate::numbers::next_number;
 use pt_base::{FnId, GlobalId, Listed};
 use pt_core::{CoreFn, CoreProgram, GlobalVar, Signatures};
 use std::alloc::{AllocError, Global};
@@ -53,12 +54,13 @@ fn functions(alloc: Global, program: &Typed) -> Result<Vec<CoreFn>, AllocError>
 {
     let mut lowered = Vec::new(alloc);
     let mut number: u32 = 0;
-    for function in &program.functions {
+    let functions = program.functions.as_slice();
+    for function in functions {
         if let Some(body) = &function.body {
             let f = FnId(number);
             lowered.push(lower_body(alloc, program, f, function, body)?)?;
         }
-        number = number.checked_add(1).ok_or(AllocError)?;
+        number = next_number(number)?;
     }
     Ok(lowered)
 }
@@ -67,7 +69,8 @@ fn structs_of(alloc: Global, program: &Typed) -> Result<Listed<StructInfo>, Allo
     ensures { IfOk result (λ structs. structs ≡ (view_typed program.now).structs) }
 {
     let mut all = Vec::new(alloc);
-    for info in program.structs.as_slice() {
+    let structs = program.structs.as_slice();
+    for info in structs {
         all.push(info.copy(alloc)?)?;
     }
     Ok(Listed::new(all))
@@ -79,9 +82,10 @@ fn signatures(alloc: Global, program: &Typed) -> Result<Signatures, AllocError>
 {
     let mut all = Vec::new(alloc);
     let mut number: u32 = 0;
-    for function in &program.functions {
+    let functions = program.functions.as_slice();
+    for function in functions {
         all.push((FnId(number), function.signature.copy(alloc)?))?;
-        number = number.checked_add(1).ok_or(AllocError)?;
+        number = next_number(number)?;
     }
     Ok(Listed::new(all))
 }
@@ -92,13 +96,14 @@ fn globals(alloc: Global, program: &Typed) -> Result<Listed<GlobalVar>, AllocErr
 {
     let mut all = Vec::new(alloc);
     let mut number: u32 = 0;
-    for global in program.globals.as_slice() {
+    let globals = program.globals.as_slice();
+    for global in globals {
         all.push(GlobalVar {
             id: GlobalId(number),
             var: global.var.copy(alloc)?,
             cells: Listed::new(Vec::from_slice(alloc, global.cells.as_slice())?),
         })?;
-        number = number.checked_add(1).ok_or(AllocError)?;
+        number = next_number(number)?;
     }
     Ok(Listed::new(all))
 }

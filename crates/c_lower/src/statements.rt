@@ -4,11 +4,11 @@ ghost use Rattle.typed_tree.specs.StatementTree as tree;
 ghost use Rattle.c_lower.specs.Names.{code_in};
 ghost use Rattle.c_lower.specs.Onwards.{view_onward};
 ghost use Rattle.c_lower.specs.Output.{output_of, Doing, Collecting};
-ghost use Rattle.c_lower.specs.StatementParts.{for_from, section_in};
+ghost use Rattle.c_lower.specs.StatementParts.{choice_in, for_from, section_in};
 ghost use Rattle.c_lower.specs.Statements as is;
 
 use crate::declarations::{begin_for, declare};
-use crate::flow::{Onward, go_on, go_on_behind, number};
+use crate::flow::{Onward, give_back, go_on, go_on_behind, number};
 use crate::loops::{on_the_way_back, step_apart, tell_first, test, test_apart};
 use crate::lowering::Lowering;
 use crate::names::Names;
@@ -19,7 +19,7 @@ use crate::temporary::Temporary;
 use pt_base::{IntType, Span};
 use pt_core::Stmt;
 use std::alloc::{AllocError, Global};
-use typed_tree::{ExprId, TypedBody, TypedSection, VarTy};
+use typed_tree::{ExprId, TypedBody, TypedForInit, TypedSection, VarTy};
 
 /// A statement, in which `continue` does this.
 #[cycle(statements)]
@@ -37,41 +37,63 @@ pub(crate) fn statement(
         TypedBody::Empty(_) => Ok(()),
         TypedBody::Evaluate(_, e) => effects_of(alloc, names, *e, lowering),
         TypedBody::Declare(d) => declare(alloc, names, d.declarators.as_slice(), lowering),
-        TypedBody::If(_, e, yes, no) => {
-            let cond = value_of(alloc, names, *e, lowering)?;
-            let first = statement_apart(alloc, names, yes, mode, lowering)?;
-            let second = match no {
-                Some(no) => statement_apart(alloc, names, no, mode, lowering)?,
-                None => Vec::new(alloc),
-            };
-            lowering.add(Stmt::choose(cond, first, second))
-        }
+        TypedBody::If(_, e, yes, no) => match no {
+            Some(no) => choose(alloc, names, *e, yes, no, mode, lowering),
+            None => choose_alone(alloc, names, *e, yes, mode, lowering),
+        },
         TypedBody::While(span, e, body) => {
-            let outer = lowering.begin(alloc);
-            test(alloc, names, Some(*e), lowering)?;
-            statement(alloc, names, body, Onward::ToHead, lowering)?;
-            let inner = lowering.end(outer);
-            lowering.add(Stmt::repeat(inner, *span))
+            loop_while(alloc, names, *span, Some(*e), body, lowering)
         }
         TypedBody::Do(span, body, e) => do_while(alloc, names, *span, body, *e, lowering),
-        TypedBody::For(span, init, test, step, body) => {
-            begin_for(alloc, names, init, lowering)?;
-            match step {
-                Some(step) => for_step(alloc, names, *span, *test, *step, body, lowering),
-                None => for_test(alloc, names, *span, *test, body, lowering),
+        TypedBody::For(span, init, test, step, body) => match step {
+            Some(step) => {
+                for_step(alloc, names, *span, init, *test, *step, body, lowering)
             }
-        }
-        TypedBody::Return(_, None) => lowering.add(Stmt::Return { value: None }),
-        TypedBody::Return(_, Some(e)) => {
-            let value = value_of(alloc, names, *e, lowering)?;
-            lowering.add(Stmt::Return { value: Some(value) })
-        }
+            None => for_test(alloc, names, *span, init, *test, body, lowering),
+        },
+        TypedBody::Return(_, e) => give_back(alloc, names, *e, lowering),
         TypedBody::Break(_) => lowering.add(Stmt::Break),
         TypedBody::Continue(_) => go_on(alloc, mode, lowering),
         TypedBody::Switch(span, e, ty, all) => {
             switch(alloc, names, *span, *e, *ty, all, mode, lowering)
         }
     }
+}
+
+// an `if` with an `else`
+#[cycle(statements)]
+fn choose(
+    alloc: Global,
+    names: &Names<'_>,
+    e: ExprId,
+    yes: &TypedBody,
+    no: &TypedBody,
+    mode: Onward,
+    lowering: &mut Lowering,
+) -> Result<(), AllocError>
+    ensures { Doing result (output_of lowering.old) (choice_in (code_in names.now) e (tree.view_body yes.now) (tree.otherwise (tree.view_body no.now)) (view_onward mode)) (output_of lowering.new) }
+{
+    let cond = value_of(alloc, names, e, lowering)?;
+    let first = statement_apart(alloc, names, yes, mode, lowering)?;
+    let second = statement_apart(alloc, names, no, mode, lowering)?;
+    lowering.add(Stmt::choose(cond, first, second))
+}
+
+// an `if` without one
+#[cycle(statements)]
+fn choose_alone(
+    alloc: Global,
+    names: &Names<'_>,
+    e: ExprId,
+    yes: &TypedBody,
+    mode: Onward,
+    lowering: &mut Lowering,
+) -> Result<(), AllocError>
+    ensures { Doing result (output_of lowering.old) (choice_in (code_in names.now) e (tree.view_body yes.now) tree.no_else (view_onward mode)) (output_of lowering.new) }
+{
+    let cond = value_of(alloc, names, e, lowering)?;
+    let first = statement_apart(alloc, names, yes, mode, lowering)?;
+    lowering.add(Stmt::choose(cond, first, Vec::new(alloc)))
 }
 
 // statements in a list of their own
@@ -128,9 +150,27 @@ fn do_while(
     lowering.add(Stmt::repeat(inner, span))
 }
 
-// a `for` with a step, behind what stands first in it
+// a `for` with a step
 #[cycle(statements)]
 fn for_step(
+    alloc: Global,
+    names: &Names<'_>,
+    span: Span,
+    init: &TypedForInit,
+    e: Option<ExprId>,
+    step: ExprId,
+    body: &TypedBody,
+    lowering: &mut Lowering,
+) -> Result<(), AllocError>
+    ensures { Doing result (output_of lowering.old) (is.statement_in (code_in names.now) (tree.for_each span init.now e (Some step) (tree.view_body body.now)) is.nowhere) (output_of lowering.new) }
+{
+    begin_for(alloc, names, init, lowering)?;
+    loop_step(alloc, names, span, e, step, body, lowering)
+}
+
+// the same behind what stands first in it
+#[cycle(statements)]
+fn loop_step(
     alloc: Global,
     names: &Names<'_>,
     span: Span,
@@ -151,9 +191,26 @@ fn for_step(
     lowering.add(Stmt::repeat(inner, span))
 }
 
-// a `for` without a step, behind what stands first in it
+// a `for` without a step
 #[cycle(statements)]
 fn for_test(
+    alloc: Global,
+    names: &Names<'_>,
+    span: Span,
+    init: &TypedForInit,
+    e: Option<ExprId>,
+    body: &TypedBody,
+    lowering: &mut Lowering,
+) -> Result<(), AllocError>
+    ensures { Doing result (output_of lowering.old) (is.statement_in (code_in names.now) (tree.for_each span init.now e None (tree.view_body body.now)) is.nowhere) (output_of lowering.new) }
+{
+    begin_for(alloc, names, init, lowering)?;
+    loop_while(alloc, names, span, e, body, lowering)
+}
+
+// a `while`, and a `for` without a step behind what stands first in it
+#[cycle(statements)]
+fn loop_while(
     alloc: Global,
     names: &Names<'_>,
     span: Span,

@@ -30,17 +30,27 @@ pub(crate) struct Choosing {
 pub(crate) fn otherwise(sections: &[TypedSection]) -> usize
     ensures { result ≡ is.otherwise_of (section_trees (map view_section sections.now)) }
 {
+    match default_place(sections) {
+        Some(m) => m,
+        None => sections.len(),
+    }
+}
+
+// the number of the first section whose label is `default`
+fn default_place(sections: &[TypedSection]) -> Option<usize>
+    ensures { result ≡ meaning.section_with meaning.is_default (section_trees (map view_section sections.now)) }
+{
     for (m, section) in sections.iter().enumerate() {
-        if is_default(&section.label) {
-            return m;
+        if is_default(section.label) {
+            return Some(m);
         }
     }
-    sections.len()
+    None
 }
 
 // whether a label is `default`
-fn is_default(label: &TypedLabel) -> bool
-    ensures { result ≡ meaning.is_default label.now }
+fn is_default(label: TypedLabel) -> bool
+    ensures { result ≡ meaning.is_default label }
 {
     match label {
         TypedLabel::Case(_, _) => false,
