@@ -9,6 +9,7 @@ use Rattle.source_meaning.specs.Functions.{brace_of}
 use Rattle.pt_core.specs.CodeTree as core
 use Rattle.pt_core.specs.CodeTree.{StmtTree, view_stmt, stmt_trees}
 use Rattle.c_lower.specs.declared.lowering.Lowering.{Lowering}
+use Rattle.c_lower.specs.declared.temporary.Temporary.{Temporary}
 use Rattle.c_lower.specs.Lowered.{Temp}
 use Rattle.c_lower.specs.Functions.{variable_of, code_of, lowered_body, main_end, core_of}
 use Rattle.c_lower.specs.FunctionParts.{variables_of, MakesBody}
@@ -25,9 +26,9 @@ pub made_from : (c : Code) (body : BodyTree) (n : ℕ) (end : List StmtTree) (l0
 unfolding output_of
 made_from c body n end l0 l1 l2 en es et d e2 =
     let e0 : output_of l0 ≡ record { first = n; stmts = []; temps = [] } =
-        ap (λ j. record { first = j; stmts = map view_stmt l0.stmts.items; temps = l0.temps.items }) en
-        ∙ ap (λ xs. record { first = n; stmts = map view_stmt xs; temps = l0.temps.items }) es
-        ∙ ap (λ ys. record { first = n; stmts = []; temps = ys }) et in
+    ap (λ j. record { first = j; stmts = map view_stmt l0.stmts.items; temps = l0.temps.items }) en
+    ∙ ap (λ xs. record { first = n; stmts = map view_stmt xs; temps = l0.temps.items }) es
+    ∙ ap (λ ys. record { first = n; stmts = []; temps = ys }) et in
     let low = statement_in c body nowhere n in
     let m : next (output_of l0) ≡ n = ap next e0 ∙ omega arith in
     let d1 : Does (output_of l0) low (output_of l1) = subst (λ j. Does (output_of l0) (statement_in c body nowhere j) (output_of l1)) m d in
@@ -37,14 +38,14 @@ made_from c body n end l0 l1 l2 en es et d e2 =
       temps = ap (λ (o : Output). variables_of o.temps) h ∙ ap variables_of (append-nil (map temporary_of low.temps)) ∙ as_variables low.temps;
     }
 
-pub function_is : (program : TypedTree) (f : FunctionTree) (c : Code) (body : BodyTree) (k n : ℕ) (params : ℕ) (variables vars : List Var) (l : Lowering) (end : Span) →
-    c ≡ code_of program f → variables ≡ f.vars → n ≡ length f.vars → MakesBody c body n (main_end f.signature) l → vars ≡ variables ++ variables_of l.temps.items → params ≡ length f.signature.params → end ≡ brace_of body →
+pub function_is : (program : TypedTree) (f : FunctionTree) (c : Code) (body : BodyTree) (k n : ℕ) (params : ℕ) (variables vars : List Var) (temps : List Temporary) (l : Lowering) (end : Span) →
+    c ≡ code_of program f → variables ≡ f.vars → n ≡ length f.vars → MakesBody c body n (main_end f.signature) l → vars ≡ variables ++ variables_of temps → temps ≡ l.temps.items → params ≡ length f.signature.params → end ≡ brace_of body →
     record { id = k; params = params; vars = vars; body = stmt_trees (map view_stmt l.stmts.items); end = end } ≡ core_of program k f body
-function_is program f c body k n params variables vars l end ec ev en m evs ep ee =
+function_is program f c body k n params variables vars temps l end ec ev en m evs et ep ee =
     let m1 : MakesBody (code_of program f) body (length f.vars) (main_end f.signature) l = subst (λ z. MakesBody z body (length f.vars) (main_end f.signature) l) ec (subst (λ j. MakesBody c body j (main_end f.signature) l) en m) in
     let low = lowered_body program f body in
     let function : ℕ → List Var → List StmtTree → Span → core.FunctionTree = λ p vs xs e. record { id = k; params = p; vars = vs; body = stmt_trees xs; end = e } in
     ap (λ p. function p vars (map view_stmt l.stmts.items) end) ep
-    ∙ ap (λ vs. function (length f.signature.params) vs (map view_stmt l.stmts.items) end) (evs ∙ ap (λ vs. vs ++ variables_of l.temps.items) ev ∙ ap (λ vs. f.vars ++ vs) m1.temps)
+    ∙ ap (λ vs. function (length f.signature.params) vs (map view_stmt l.stmts.items) end) (evs ∙ ap (λ vs. vs ++ variables_of temps) ev ∙ ap (λ ts. f.vars ++ variables_of ts) et ∙ ap (λ vs. f.vars ++ vs) m1.temps)
     ∙ ap (λ xs. function (length f.signature.params) (f.vars ++ map variable_of low.temps) xs end) m1.stmts
     ∙ ap (λ e. function (length f.signature.params) (f.vars ++ map variable_of low.temps) (low.stmts ++ main_end f.signature) e) ee

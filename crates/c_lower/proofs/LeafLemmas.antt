@@ -185,7 +185,7 @@ fields_step c s known all object part items o number f others others' rest rest'
   completes = λ last end k.
       sf.completes last end
       (subst (λ z. StoresItems c (ends s object (field_ways known number z)) rest now last end) (sym split)
-          (part_then c s object part (to_field number) (object_ways known f.ty) (field_ways known (number + 1) others') rest rest' last now now' end ep h k));
+      (part_then c s object part (to_field number) (object_ways known f.ty) (field_ways known (number + 1) others') rest rest' last now now' end ep h k));
 }
 
 pub fields_end : (c : Code) (s : Span) (known : List Ways) (all : List Field) (object : PlaceTree) (items : List ExprId) (o : Output) (number : ℕ) (others : List Field) (rest : List ExprId) (now : Output) → others ≡ [] → FieldsSoFar c s known all object items o number others rest now → StoresItems c (ends s object (field_ways known 0 all)) items o rest now

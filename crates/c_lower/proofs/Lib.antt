@@ -5,6 +5,7 @@ pub mod LeafLemmas
 pub mod LoopLemmas
 pub mod OutputLemmas
 pub mod PieceLemmas
+pub mod ProgramLemmas
 pub mod PurityLemmas
 pub mod SwitchLemmas
 pub mod WalkLemmas

@@ -51,7 +51,7 @@ pub way_back_makes : (o o0 ob o1 o2 o4 o5 o6 : Output) (s : Span) (k : ℕ) (out
 way_back_makes o o0 ob o1 o2 o4 o5 o6 s k outer inner back f g ek d eo eb col e2 dg ei e5 e6 =
     told_makes o o0 o6 k (λ j n. looped s (one_then (λ m. on_the_way_back j (f m)) g n)) ek d
     (looped_makes o0 ob o4 o5 o6 s outer inner (one_then (λ m. on_the_way_back k (f m)) g) eo eb
-        (then_makes ob o2 o4 (λ m. on_the_way_back k (f m)) g (back_makes ob o1 o2 k back f col e2) dg) ei e5 e6)
+    (then_makes ob o2 o4 (λ m. on_the_way_back k (f m)) g (back_makes ob o1 o2 k back f col e2) dg) ei e5 e6)
 
 -- ---- choices and returns
 

@@ -52,7 +52,7 @@ begun_switch s ty sections o o2 o3 o4 o5 k value flag promoted w other none t1 t
     let b1 = held_at o2 o3 (k + 1) (counting int) t2 other (number (otherwise_of sections)) m2 et2 eo e3 in
     let b : o3 ≡ more o (hold k w ∷ hold (k + 1) (number (otherwise_of sections)) ∷ []) (counting (Int ty) ∷ counting int ∷ []) = both o o2 o3 (hold k w ∷ []) (hold (k + 1) (number (otherwise_of sections)) ∷ []) (counting (Int ty) ∷ []) (counting int ∷ []) a b1 in
     let c : o4 ≡ more o (hold k w ∷ hold (k + 1) (number (otherwise_of sections)) ∷ cases_from s ty k 0 sections) (counting (Int ty) ∷ counting int ∷ []) =
-        then_stmts o o3 o4 (hold k w ∷ hold (k + 1) (number (otherwise_of sections)) ∷ []) (cases_from s ty k 0 sections) (counting (Int ty) ∷ counting int ∷ []) b (e4 ∙ ap (λ j. added o3 (cases_from s ty j 0 sections) []) (ev ∙ ek)) in
+    then_stmts o o3 o4 (hold k w ∷ hold (k + 1) (number (otherwise_of sections)) ∷ []) (cases_from s ty k 0 sections) (counting (Int ty) ∷ counting int ∷ []) b (e4 ∙ ap (λ j. added o3 (cases_from s ty j 0 sections) []) (ev ∙ ek)) in
     let n4 : next o4 ≡ next o + 2 = next_after o o4 (hold k w ∷ hold (k + 1) (number (otherwise_of sections)) ∷ cases_from s ty k 0 sections) (counting (Int ty) ∷ counting int ∷ []) c in
     let m4 : next o4 ≡ k + 2 = n4 ∙ ap (λ j. j + 2) ek in
     let d1 = held_at o4 o5 (k + 2) (counting int) t2 none (number 0) m4 et2 en e5 in
@@ -66,7 +66,7 @@ run_switch s mode o5 o6 o7 o8 o9 o10 o11 flag outer inner body eo e6 d e8 ei e9 
     let a : o8 ≡ more o6 (body.stmts ++ break_out ∷ []) body.temps = then_stmts o6 o7 o8 body.stmts (break_out ∷ []) body.temps d.made e8 in
     let col = apart o5 o6 o8 o9 outer inner (body.stmts ++ break_out ∷ []) body.temps eo e6 a ei e9 in
     let b : o10 ≡ more o5 (repeat (stmt_trees (body.stmts ++ break_out ∷ [])) s ∷ []) body.temps =
-        then_stmts o5 o9 o10 [] (repeat (stmt_trees (body.stmts ++ break_out ∷ [])) s ∷ []) body.temps col.made (e10 ∙ ap (λ z. added o9 (repeat (stmt_trees z) s ∷ []) []) col.are) in
+    then_stmts o5 o9 o10 [] (repeat (stmt_trees (body.stmts ++ break_out ∷ [])) s ∷ []) body.temps col.made (e10 ∙ ap (λ z. added o9 (repeat (stmt_trees z) s ∷ []) []) col.are) in
     then_stmts o5 o10 o11 (repeat (stmt_trees (body.stmts ++ break_out ∷ [])) s ∷ []) (behind_switch mode flag) body.temps b e11
 
 -- how many temporaries are added
@@ -98,12 +98,12 @@ switched_does c s ty from mode inner_mode sections o o1 o2 o3 o4 o5 o6 o7 o8 o9 
     let f : flag ≡ k + 2 = flag_is s ty sections o1 o2 o3 o4 k value flag promoted other t1 t2 n1 ef e2 e3 e4 in
     let vk : value ≡ k = ev ∙ n1 in
     let d1 : Does o6 (sections_in c s sections (inside mode (k + 2)) k 0 (k + 3)) o7 =
-        subst (λ j. Does o6 (sections_in c s sections (inside mode j) k 0 (k + 3)) o7) f
-        (subst (λ z. Does o6 (sections_in c s sections z k 0 (k + 3)) o7) em
-        (subst (λ j. Does o6 (sections_in c s sections inner_mode j 0 (k + 3)) o7) vk (subst (λ j. Does o6 (sections_in c s sections inner_mode value 0 j) o7) m6 d))) in
+    subst (λ j. Does o6 (sections_in c s sections (inside mode j) k 0 (k + 3)) o7) f
+    (subst (λ z. Does o6 (sections_in c s sections z k 0 (k + 3)) o7) em
+    (subst (λ j. Does o6 (sections_in c s sections inner_mode j 0 (k + 3)) o7) vk (subst (λ j. Does o6 (sections_in c s sections inner_mode value 0 j) o7) m6 d))) in
     let body = sections_in c s sections (inside mode (k + 2)) k 0 (k + 3) in
     let b : o11 ≡ more o5 (repeat (stmt_trees (body.stmts ++ break_out ∷ [])) s ∷ behind_switch mode (k + 2)) body.temps =
-        run_switch s mode o5 o6 o7 o8 o9 o10 o11 (k + 2) outer inner body eu e6 d1 e8 ei e9 e10 (e11 ∙ ap (λ j. added o10 (behind_switch mode j) []) f) in
+    run_switch s mode o5 o6 o7 o8 o9 o10 o11 (k + 2) outer inner body eu e6 d1 e8 ei e9 e10 (e11 ∙ ap (λ j. added o10 (behind_switch mode j) []) f) in
     let head = hold k w ∷ hold (k + 1) (number (otherwise_of sections)) ∷ cases_from s ty k 0 sections in
     let tail = repeat (stmt_trees (body.stmts ++ break_out ∷ [])) s ∷ behind_switch mode (k + 2) in
     let ab : o11 ≡ more o1 (head ++ hold (k + 2) (number 0) ∷ tail) (three ty ++ body.temps) = both o1 o5 o11 (first_part s ty k sections w) tail (three ty) body.temps a b ∙ ap (λ xs. more o1 xs (three ty ++ body.temps)) (append_assoc head (hold (k + 2) (number 0) ∷ []) tail) in

@@ -48,11 +48,7 @@ pub(crate) fn number(n: usize) -> Expr
 }
 
 /// A `continue`.
-pub(crate) fn go_on(
-    alloc: Global,
-    mode: Onward,
-    lowering: &mut Lowering,
-) -> Result<(), AllocError>
+pub(crate) fn go_on(alloc: Global, mode: Onward, lowering: &mut Lowering) -> Result<(), AllocError>
     ensures { OnOk result (output_of lowering.new ≡ added (output_of lowering.old) (is.onwards (view_onward mode)) []) }
 {
     match mode {

@@ -27,12 +27,7 @@ fn field_place(alloc: Global, object: &Place, field: u32) -> Result<Place, Alloc
 }
 
 /// An element of an array.
-fn element_place(
-    alloc: Global,
-    span: Span,
-    array: &Place,
-    index: u32,
-) -> Result<Place, AllocError>
+fn element_place(alloc: Global, span: Span, array: &Place, index: u32) -> Result<Place, AllocError>
     ensures { IfOk result (λ p. view_place p ≡ stepped_to span (view_place array.now) (to_element index)) }
 {
     let first = Expr::decay(array.copy(alloc)?);
@@ -67,7 +62,9 @@ pub(crate) fn store<'a>(
         VarTy::Pointer { .. } => store_first(alloc, names, object, items, lowering),
         VarTy::Struct(n) => store_fields(alloc, names, span, n, bound, object, items, lowering),
         VarTy::Array { elem, count } => {
-            store_elements(alloc, names, span, elem, count, bound, object, items, lowering)
+            store_elements(
+                alloc, names, span, elem, count, bound, object, items, lowering,
+            )
         }
     }
 }
@@ -143,7 +140,9 @@ fn store_fields<'a>(
             return Ok(rest);
         }
         let part = field_place(alloc, &object, number)?;
-        rest = store(alloc, names, span, field.ty, structure, part, rest, lowering)?;
+        rest = store(
+            alloc, names, span, field.ty, structure, part, rest, lowering,
+        )?;
         number = next_number(number)?;
     }
     Ok(rest)

@@ -1,5 +1,6 @@
 // The lowering of whole programs.
-ghost use Rattle.std.specs.Prelude.{◌≡◌, IfOk, map};
+ghost use Rattle.std.specs.Prelude.{◌≡◌, ◌++◌, IfOk, OnOk, map};
+ghost use Rattle.typed_tree.specs.TypedTree as typed;
 ghost use Rattle.typed_tree.specs.TypedTree.{signatures_of};
 ghost use Rattle.typed_tree.specs.TypedView.{view_typed};
 ghost use Rattle.pt_core.specs.CodeTree.{view_program, view_function, view_global, numbered};
@@ -12,7 +13,7 @@ use crate::numbers::next_number;
 use pt_base::{FnId, GlobalId, Listed};
 use pt_core::{CoreFn, CoreProgram, GlobalVar, Signatures};
 use std::alloc::{AllocError, Global};
-use typed_tree::{StructInfo, Typed};
+use typed_tree::{StructInfo, Typed, TypedFn};
 
 /// Joins functions in the normal form with the structs, signatures and globals of a program.
 ///
@@ -56,13 +57,30 @@ fn functions(alloc: Global, program: &Typed) -> Result<Vec<CoreFn>, AllocError>
     let mut number: u32 = 0;
     let functions = program.functions.as_slice();
     for function in functions {
-        if let Some(body) = &function.body {
-            let f = FnId(number);
-            lowered.push(lower_body(alloc, program, f, function, body)?)?;
-        }
+        add_lowered(alloc, program, FnId(number), function, &mut lowered)?;
         number = next_number(number)?;
     }
     Ok(lowered)
+}
+
+// a function is lowered where it has a body
+fn add_lowered(
+    alloc: Global,
+    program: &Typed,
+    f: FnId,
+    function: &TypedFn,
+    lowered: &mut Vec<CoreFn>,
+) -> Result<(), AllocError>
+    ensures { OnOk result (map view_function lowered.new.items ≡ map view_function lowered.old.items ++ is.code_if (view_typed program.now) f.0 (typed.view_function function.now) (typed.view_function function.now).body) }
+{
+    match &function.body {
+        Some(body) => {
+            let code = lower_body(alloc, program, f, function, body)?;
+            lowered.push(code)?;
+            Ok(())
+        }
+        None => Ok(()),
+    }
 }
 
 fn structs_of(alloc: Global, program: &Typed) -> Result<Listed<StructInfo>, AllocError>

@@ -46,9 +46,7 @@ pub(crate) fn statement(
         }
         TypedBody::Do(span, body, e) => do_while(alloc, names, *span, body, *e, lowering),
         TypedBody::For(span, init, test, step, body) => match step {
-            Some(step) => {
-                for_step(alloc, names, *span, init, *test, *step, body, lowering)
-            }
+            Some(step) => { for_step(alloc, names, *span, init, *test, *step, body, lowering) }
             None => for_test(alloc, names, *span, init, *test, body, lowering),
         },
         TypedBody::Return(_, e) => give_back(alloc, names, *e, lowering),

@@ -8,5 +8,5 @@ use Rattle.c_lower.proofs.functions.lower_body.Goals as goal
 
 pub returns : goal.returns
 returns c =
-    function_is (view_typed c.args.program.now) (view_function c.args.function.now) (code_in c.names_of-names.result) (view_body c.args.body.now) _ _ _ _ _ _ _ c.names_of-names.ensures.code refl (ap length c.names_of-names.ensures.variables) c.in_ok-made.ensures
-    c.in_ok-vars.ensures refl c.brace_of.ensures
+    function_is (view_typed c.args.program.now) (view_function c.args.function.now) (code_in c.names_of-names.result) (view_body c.args.body.now) _ _ _ _ _ _ _ _ c.names_of-names.ensures.code c.as_slice-variables.ensures (ap length c.names_of-names.ensures.variables) c.in_ok-made.ensures
+    c.in_ok-vars.ensures c.deref.ensures.value refl c.brace_of.ensures

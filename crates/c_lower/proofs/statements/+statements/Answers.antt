@@ -32,7 +32,7 @@ choose-returns t c =
     let code = code_in c.args.names.now in
     also _ _ _
     (λ e. chosen_makes (output_of c.args.lowering.now) _ _ _ _ (value_in code.scope (is.outermost code c.args.e) (next (output_of c.args.lowering.now))) _ (is.statement_in code (tree.view_body c.args.yes.now) (view_onward c.args.mode)) (is.statement_in code (tree.view_body c.args.no.now) (view_onward c.args.mode)) _ _
-        c.in_ok-cond.ensures c.in_ok-first.ensures c.in_ok-second.ensures (same_stmt _ _ _ _ c.choose.ensures e))
+    c.in_ok-cond.ensures c.in_ok-first.ensures c.in_ok-second.ensures (same_stmt _ _ _ _ c.choose.ensures e))
     c.add.ensures
 
 pub choose_alone-returns : goal.choose_alone-returns
@@ -40,7 +40,7 @@ choose_alone-returns t c =
     let code = code_in c.args.names.now in
     also _ _ _
     (λ e. chosen_alone (output_of c.args.lowering.now) _ _ _ (value_in code.scope (is.outermost code c.args.e) (next (output_of c.args.lowering.now))) _ (is.statement_in code (tree.view_body c.args.yes.now) (view_onward c.args.mode)) _ _
-        c.in_ok-cond.ensures c.in_ok-first.ensures (ap (map view_stmt) c.new.ensures.items) (same_stmt _ _ _ _ c.choose.ensures e))
+    c.in_ok-cond.ensures c.in_ok-first.ensures (ap (map view_stmt) c.new.ensures.items) (same_stmt _ _ _ _ c.choose.ensures e))
     c.add.ensures
 
 pub for_step-returns : goal.for_step-returns
@@ -58,8 +58,8 @@ do_while-returns t c =
     let code = code_in c.args.names.now in
     also _ _ _
     (λ e. way_back_makes _ _ _ _ _ _ _ _ _ _ _ _ _ (is.tested code (Some c.args.e)) (is.statement_in code (tree.view_body c.args.body.now) is.to_head)
-        c.in_ok-first.ensures.number c.in_ok-first.ensures.output c.begin-outer.ensures.outer c.begin-outer.ensures.output c.in_ok-back.ensures c.in_ok-on_the_way_back.ensures c.in_ok-statement.ensures c.end-inner.ensures.inner c.end-inner.ensures.output
-        (same_stmt _ _ _ _ c.repeat.ensures e))
+    c.in_ok-first.ensures.number c.in_ok-first.ensures.output c.begin-outer.ensures.outer c.begin-outer.ensures.output c.in_ok-back.ensures c.in_ok-on_the_way_back.ensures c.in_ok-statement.ensures c.end-inner.ensures.inner c.end-inner.ensures.output
+    (same_stmt _ _ _ _ c.repeat.ensures e))
     c.add.ensures
 
 pub loop_step-returns : goal.loop_step-returns
@@ -68,8 +68,8 @@ loop_step-returns t c =
     let body = is.statement_in code (tree.view_body c.args.body.now) is.to_head in
     also _ _ _
     (λ e. way_back_makes _ _ _ _ _ _ _ _ _ _ _ _ _ (is.stepped code (Some c.args.step)) (one_then (is.tested code c.args.e) body)
-        c.in_ok-first.ensures.number c.in_ok-first.ensures.output c.begin-outer.ensures.outer c.begin-outer.ensures.output c.in_ok-back.ensures c.in_ok-on_the_way_back.ensures
-        (then_makes _ _ _ (is.tested code c.args.e) body c.in_ok-test.ensures c.in_ok-statement.ensures) c.end-inner.ensures.inner c.end-inner.ensures.output (same_stmt _ _ _ _ c.repeat.ensures e))
+    c.in_ok-first.ensures.number c.in_ok-first.ensures.output c.begin-outer.ensures.outer c.begin-outer.ensures.output c.in_ok-back.ensures c.in_ok-on_the_way_back.ensures
+    (then_makes _ _ _ (is.tested code c.args.e) body c.in_ok-test.ensures c.in_ok-statement.ensures) c.end-inner.ensures.inner c.end-inner.ensures.output (same_stmt _ _ _ _ c.repeat.ensures e))
     c.add.ensures
 
 pub loop_while-returns : goal.loop_while-returns
@@ -78,7 +78,7 @@ loop_while-returns t c =
     let body = is.statement_in code (tree.view_body c.args.body.now) is.to_head in
     also _ _ _
     (λ e. looped_makes _ _ _ _ _ _ _ _ (one_then (is.tested code c.args.e) body) c.begin-outer.ensures.outer c.begin-outer.ensures.output
-        (then_makes _ _ _ (is.tested code c.args.e) body c.in_ok-test.ensures c.in_ok-statement.ensures) c.end-inner.ensures.inner c.end-inner.ensures.output (same_stmt _ _ _ _ c.repeat.ensures e))
+    (then_makes _ _ _ (is.tested code c.args.e) body c.in_ok-test.ensures c.in_ok-statement.ensures) c.end-inner.ensures.inner c.end-inner.ensures.output (same_stmt _ _ _ _ c.repeat.ensures e))
     c.add.ensures
 
 pub switch-returns : goal.switch-returns
@@ -86,8 +86,8 @@ switch-returns t c =
     let code = code_in c.args.names.now in
     also _ _ _
     (λ e. switched_does code _ _ _ (view_onward c.args.mode) (view_onward c.inside.result) (tree.section_trees (map tree.view_section c.args.all.now)) (output_of c.args.lowering.now) _ _ _ _ _ _ _ _ _ _ _ (value_in code.scope (is.outermost code c.args.e) (next (output_of c.args.lowering.now))) _ _ _ _ _ _ _ _ _ _ c.in_ok-v.ensures (c.in_ok-promoted.ensures ∙ ap (λ z. as_int z _ _) c.type_of_numbered-from.ensures) c.counting.ensures c.counting-counting.ensures
-        c.in_ok-value.ensures.number c.in_ok-value.ensures.output c.number.ensures c.in_ok-chosen.ensures.output c.in_ok-choose_sections.ensures c.number-2.ensures c.in_ok-flag.ensures.number c.in_ok-flag.ensures.output
-        c.begin-outer.ensures.outer c.begin-outer.ensures.output c.inside.ensures c.in_ok-sections.ensures c.in_ok-add.ensures c.end-inner.ensures.inner c.end-inner.ensures.output (same_stmt _ _ _ _ c.repeat.ensures c.in_ok-add-2.ensures) e)
+    c.in_ok-value.ensures.number c.in_ok-value.ensures.output c.number.ensures c.in_ok-chosen.ensures.output c.in_ok-choose_sections.ensures c.number-2.ensures c.in_ok-flag.ensures.number c.in_ok-flag.ensures.output
+    c.begin-outer.ensures.outer c.begin-outer.ensures.output c.inside.ensures c.in_ok-sections.ensures c.in_ok-add.ensures c.end-inner.ensures.inner c.end-inner.ensures.output (same_stmt _ _ _ _ c.repeat.ensures c.in_ok-add-2.ensures) e)
     c.go_on_behind.ensures
 
 -- ---- loops
