@@ -125,15 +125,15 @@ linked_is c r o o1 o2 at to ty step e ready v w g h go =
 
 -- ---- `&&` and `||`
 
-pub operand_is : (c : Scope) (o o1 ob o2 o3 o4 o5 : Output) (op : LogicalOp) (k : ℕ) (s : Span) (e : tree.ExprTree) (far : Effects) (outer inner : List StmtTree) (v truth : ExprTree) (st : StmtTree) →
-    Does o far o1 → outer ≡ o1.stmts → ob ≡ opened o1 → Gives ob (value_in c e (next ob)) o2 v → truth ≡ truth_of (type_of e) v s → o3 ≡ added o2 (hold k truth ∷ []) [] → inner ≡ o3.stmts → o4 ≡ closed o3 outer → st ≡ where_open op k inner → o5 ≡ added o4 (st ∷ []) [] →
+pub operand_is : (c : Scope) (o o1 ob o2 o3 o4 o5 : Output) (op : LogicalOp) (k : ℕ) (s : Span) (e : tree.ExprTree) (far : Effects) (outer inner : List StmtTree) (v truth : ExprTree) (st : StmtTree) (ty : VarTy) →
+    Does o far o1 → outer ≡ o1.stmts → ob ≡ opened o1 → Gives ob (value_in c e (next ob)) o2 v → ty ≡ type_of e → truth ≡ truth_of ty v s → o3 ≡ added o2 (hold k truth ∷ []) [] → inner ≡ o3.stmts → o4 ≡ closed o3 outer → st ≡ where_open op k inner → o5 ≡ added o4 (st ∷ []) [] →
     Does o (with_operand op k (type_of e) s far (value_in c e (past (next o) far.temps))) o5
-operand_is c o o1 ob o2 o3 o4 o5 op k s e far outer inner v truth st d eo eb g et e3 ei e4 es e5 =
+operand_is c o o1 ob o2 o3 o4 o5 op k s e far outer inner v truth st ty d eo eb g ey et e3 ei e4 es e5 =
     let n : next ob ≡ past (next o) far.temps = next_opened o1 ob eb ∙ next_after o o1 far.stmts far.temps d.made in
     let low = value_in c e (past (next o) far.temps) in
     let g1 : Gives ob low o2 v = subst (λ j. Gives ob (value_in c e j) o2 v) n g in
     let m : o3 ≡ more ob (low.stmts ++ hold k (truth_of (type_of e) low.value s) ∷ []) low.temps =
-        then_stmts ob o2 o3 low.stmts (hold k (truth_of (type_of e) low.value s) ∷ []) low.temps g1.made (e3 ∙ ap (λ z. added o2 (hold k z ∷ []) []) (et ∙ ap (λ z. truth_of (type_of e) z s) g1.is)) in
+        then_stmts ob o2 o3 low.stmts (hold k (truth_of (type_of e) low.value s) ∷ []) low.temps g1.made (e3 ∙ ap (λ z. added o2 (hold k z ∷ []) []) (et ∙ ap (λ z. truth_of z v s) ey ∙ ap (λ z. truth_of (type_of e) z s) g1.is)) in
     let a = apart o1 ob o3 o4 outer inner (low.stmts ++ hold k (truth_of (type_of e) low.value s) ∷ []) low.temps eo eb m ei e4 in
     record {
       made = then_stmts o o4 o5 far.stmts (where_open op k (low.stmts ++ hold k (truth_of (type_of e) low.value s) ∷ []) ∷ []) (far.temps ++ low.temps)

@@ -1,16 +1,15 @@
-use Rattle.std.proofs.Common.{◌∙◌, ◌+◌, ◌∷◌, [], ap, sym, refl, subst, map, drop, not, Some}
+use Rattle.std.proofs.Common.{◌∙◌, ◌+◌, ◌∷◌, [], ap, sym, refl, map, drop, false, not, Some}
 use Rattle.std.proofs.lemmas.List.{map-append, drop_all}
+use Rattle.typed_tree.specs.declared.expression.TypedExpr.{TypedExpr}
 use Rattle.typed_tree.specs.ExpressionTree as tree
 use Rattle.typed_tree.proofs.Rows.{view_read, view_decay, view_address, view_chain, view_logical, view_assign, view_compound, view_increment, view_call}
 use Rattle.pt_core.specs.CodeTree.{view_expr}
 use Rattle.source_meaning.specs.Expressions.{type_of}
-use Rattle.c_lower.specs.Operators.{truth_of}
-use Rattle.c_lower.specs.Expressions.{fixed_if}
 use Rattle.c_lower.specs.Names.{scope_of}
-use Rattle.c_lower.specs.Output.{Finds, output_of, next}
+use Rattle.c_lower.specs.Output.{output_of, next}
 use Rattle.c_lower.proofs.OutputLemmas.{same_stmt}
-use Rattle.c_lower.proofs.FormLemmas.{checked_is, choice_is, choice_dropped, copied_to, given_to, count_is, operand_is}
-use Rattle.c_lower.proofs.ArmLemmas.{chain_is, logical_is, compound_is, compound_dropped, assign_is, assign_dropped, assign_object, counted_dropped, unary_dropped, chain_dropped, held_dropped, also, link_is, read_of, decay_of, address_of, behind_is, standing_is, field_step, item_is, flip}
+use Rattle.c_lower.proofs.FormLemmas.{checked_is, choice_is, choice_dropped, count_is, operand_is}
+use Rattle.c_lower.proofs.ArmLemmas.{chain_is, logical_is, compound_is, compound_dropped, copied_in, given_in, assign_is, assign_dropped, assign_object, counted_dropped, unary_dropped, chain_dropped, held_dropped, also, link_is, read_of, decay_of, address_of, behind_is, standing_is, field_step, item_is, flip}
 use Rattle.c_lower.proofs.WalkLemmas.{split_at, links_begin, links_step, links_end, operands_begin, operands_step, operands_end, steps_begin, steps_step, steps_end, arguments_step, arguments_end}
 use Rattle.c_lower.proofs.expressions.+expressions.Goals as goal
 
@@ -31,9 +30,9 @@ value-returns-in_ok-at-in-Address t c =
 pub value-returns-in_ok-first-in-Chain : goal.value-returns-in_ok-first-in-Chain
 value-returns-in_ok-first-in-Chain t c =
     rw (ap tree.view_form c.in-Chain.is ∙ view_chain c.in-Chain.a.value c.in-Chain.links c.in-Chain.a refl)
-    (chain_is (scope_of c.args.names.now) c.chained.result (output_of c.args.lowering.now) _ _ (tree.view_expr c.in-Chain.a.value) _ _ _ _ _ c.args.e.now.span _ c.in_ok-first-in-Chain.ensures (ap tree.view_expr c.deref-in-Chain.ensures) c.holding-keeper.ensures
+    (chain_is (scope_of c.args.names.now) c.chained.result (output_of c.args.lowering.now) _ _ (tree.view_expr c.in-Chain.a.value) _ _ _ _ _ c.args.e.now.span _ c.in_ok-first-in-Chain.ensures (ap tree.view_expr c.deref-in-Chain.ensures) (c.holding-keeper.ensures ∙ ap (λ (x : TypedExpr). record { ty = c.type_of-in-Chain.result; holds = Some x.span }) c.deref-in-Chain-3.ensures)
         (c.type_of-in-Chain.ensures ∙ ap (λ x. type_of (tree.view_expr x)) c.deref-in-Chain-2.ensures)
-        (ap (λ xs. tree.link_trees (map tree.view_link xs)) c.deref-in-Chain-3.ensures.value)
+        (ap (λ xs. tree.link_trees (map tree.view_link xs)) c.deref-in-Chain-4.ensures.value)
         c.chained.ensures)
 
 pub value-returns-in_ok-operands-in-Logical : goal.value-returns-in_ok-operands-in-Logical
@@ -47,7 +46,7 @@ value-returns-in_ok-operands-in-Logical t c =
 pub value-returns-in_ok-add-in-Choice : goal.value-returns-in_ok-add-in-Choice
 value-returns-in_ok-add-in-Choice t c =
     rw (c.in-Choice.is, ← c.deref-in-Choice.ensures, ← c.deref-in-Choice-2.ensures, ← c.deref-in-Choice-3.ensures, c.temp-in-Choice.ensures)
-    (choice_is (scope_of c.args.names.now) (output_of c.args.lowering.now) _ _ _ _ _ _ _ _ _ _ _ _ _ _ c.in_ok-cond-in-Choice.ensures (sym (c.holding-whole.ensures ∙ ap (λ z. record { ty = z; holds = Some c.args.e.now.span }) c.type_or_int-in-Choice.ensures))
+    (choice_is (scope_of c.args.names.now) (output_of c.args.lowering.now) _ _ _ _ _ _ _ _ _ _ (tree.view_expr c.deref-in-Choice-2.result.now) (tree.view_expr c.deref-in-Choice-3.result.now) _ _ c.in_ok-cond-in-Choice.ensures (sym (c.holding-whole.ensures ∙ ap (λ z. record { ty = z; holds = Some c.args.e.now.span }) c.type_or_int-in-Choice.ensures))
         c.in_ok-k-in-Choice.ensures.number c.in_ok-k-in-Choice.ensures.output c.in_ok-first-in-Choice.ensures c.in_ok-second-in-Choice.ensures
         (same_stmt _ _ _ _ c.choose.ensures c.in_ok-add-in-Choice.ensures))
 
@@ -59,7 +58,7 @@ value-returns-in_ok-to-in-Assign t c =
 pub value-returns-in_ok-after-in-Compound : goal.value-returns-in_ok-after-in-Compound
 value-returns-in_ok-after-in-Compound t c =
     rw (ap tree.view_form c.in-Compound.is ∙ view_compound c.in-Compound.p _ c.in-Compound.step c.in-Compound.operand.value c.in-Compound.operand refl)
-    (compound_is (scope_of c.args.names.now) (output_of c.args.lowering.now) _ _ _ (tree.view_place c.in-Compound.p) _ c.in-Compound.step (tree.view_expr c.in-Compound.operand.value) _ _ c.args.e.now.span c.args.e.now.ty _ _ _ _ _ c.in_ok-to-in-Compound.ensures c.fixes_left.ensures (ap tree.view_expr c.deref-in-Compound.ensures)
+    (compound_is (scope_of c.args.names.now) (output_of c.args.lowering.now) _ _ _ (tree.view_place c.in-Compound.p) c.args.e.now.span c.in-Compound.step (tree.view_expr c.in-Compound.operand.value) _ _ c.args.e.now.span c.args.e.now.ty _ _ _ _ _ c.in_ok-to-in-Compound.ensures c.fixes_left.ensures (ap tree.view_expr c.deref-in-Compound.ensures)
         c.in_ok-v-in-Compound.ensures (ap tree.view_expr c.deref-in-Compound-2.ensures) (c.in_ok-after-in-Compound.ensures (output_of c.args.lowering.now) _) c.read-in-Compound.ensures)
 
 pub value-returns-in_ok-to-in-Step : goal.value-returns-in_ok-to-in-Step
@@ -92,7 +91,7 @@ effects-returns-in-Chain t c = chain_dropped (scope_of c.args.names.now) c.held-
 pub effects-returns-in_ok-second-in-Choice : goal.effects-returns-in_ok-second-in-Choice
 effects-returns-in_ok-second-in-Choice t c =
     rw (c.in-Choice.is, ← c.deref-in-Choice.ensures, ← c.deref-in-Choice-2.ensures, ← c.deref-in-Choice-3.ensures)
-    (also c.add.result _ _ (choice_dropped (scope_of c.args.names.now) (output_of c.args.lowering.now) _ _ _ _ _ _ _ _ _ _ _ c.in_ok-cond-in-Choice.ensures c.in_ok-first-in-Choice.ensures c.in_ok-second-in-Choice.ensures c.choose.ensures) c.add.ensures)
+    (also c.add.result _ _ (choice_dropped (scope_of c.args.names.now) (output_of c.args.lowering.now) _ _ _ _ _ _ (tree.view_expr c.deref-in-Choice-2.result.now) (tree.view_expr c.deref-in-Choice-3.result.now) _ _ _ c.in_ok-cond-in-Choice.ensures c.in_ok-first-in-Choice.ensures c.in_ok-second-in-Choice.ensures c.choose.ensures) c.add.ensures)
 
 pub effects-returns-in_ok-_to-in-Assign : goal.effects-returns-in_ok-_to-in-Assign
 effects-returns-in_ok-_to-in-Assign t c =
@@ -102,13 +101,13 @@ effects-returns-in_ok-_to-in-Assign t c =
 pub effects-returns-in_ok-_to-in-Compound : goal.effects-returns-in_ok-_to-in-Compound
 effects-returns-in_ok-_to-in-Compound t c =
     rw (ap tree.view_form c.in-Compound.is ∙ view_compound c.in-Compound.p _ c.in-Compound.step c.in-Compound.operand.value c.in-Compound.operand refl)
-    (compound_dropped (scope_of c.args.names.now) (output_of c.args.lowering.now) _ _ _ (tree.view_place c.in-Compound.p) _ c.in-Compound.step (tree.view_expr c.in-Compound.operand.value) _ _ c.args.e.now.span c.args.e.now.ty _ _ _ _ c.in_ok-to-in-Compound.ensures c.fixes_left.ensures (ap tree.view_expr c.deref-in-Compound.ensures)
+    (compound_dropped (scope_of c.args.names.now) (output_of c.args.lowering.now) _ _ _ (tree.view_place c.in-Compound.p) c.args.e.now.span c.in-Compound.step (tree.view_expr c.in-Compound.operand.value) _ _ c.args.e.now.span c.args.e.now.ty _ _ _ _ c.in_ok-to-in-Compound.ensures c.fixes_left.ensures (ap tree.view_expr c.deref-in-Compound.ensures)
         c.in_ok-v-in-Compound.ensures (ap tree.view_expr c.deref-in-Compound-2.ensures) (c.in_ok-_to-in-Compound.ensures (output_of c.args.lowering.now) _))
 
 pub effects-returns-in_ok-_to-in-Step : goal.effects-returns-in_ok-_to-in-Step
 effects-returns-in_ok-_to-in-Step t c =
     rw (ap tree.view_form c.in-Step.is ∙ view_increment c.in-Step.p _ c.in-Step.back _)
-    (counted_dropped (scope_of c.args.names.now) (output_of c.args.lowering.now) _ (tree.view_place c.in-Step.p) _ c.in-Step.back _ c.args.e.now.span c.args.e.now.ty _ (c.in_ok-_to-in-Step.ensures (output_of c.args.lowering.now) _ c.in_ok-to-in-Step.ensures))
+    (counted_dropped (scope_of c.args.names.now) (output_of c.args.lowering.now) _ (tree.view_place c.in-Step.p) c.args.e.now.span c.in-Step.back false c.args.e.now.span c.args.e.now.ty _ (c.in_ok-_to-in-Step.ensures (output_of c.args.lowering.now) _ c.in_ok-to-in-Step.ensures))
 
 pub effects-returns-in_ok-values-in-Call : goal.effects-returns-in_ok-values-in-Call
 effects-returns-in_ok-values-in-Call t c =
@@ -138,19 +137,19 @@ linked-returns t c = λ o whole far g h.
 pub operand_of-returns : goal.operand_of-returns
 operand_of-returns t c = λ o far d.
     also c.add.result _ _
-    (operand_is (scope_of c.args.names.now) o _ _ _ _ _ _ c.args.op c.args.k.0 c.args.operand.now.span (tree.view_expr c.args.operand.now.operand) far _ _ _ _ _ d c.begin-outer.ensures.outer c.begin-outer.ensures.output c.in_ok-v.ensures
-        (c.in_ok-truth.ensures ∙ ap (λ z. truth_of z _ _) c.type_of.ensures) c.in_ok-give.ensures c.end-inner.ensures.inner c.end-inner.ensures.output c.where_open.ensures)
+    (operand_is (scope_of c.args.names.now) o _ _ _ _ _ _ c.args.op c.args.k.0 c.args.operand.now.span (tree.view_expr c.args.operand.now.operand) far _ _ _ _ _ _ d c.begin-outer.ensures.outer c.begin-outer.ensures.output c.in_ok-v.ensures
+        c.type_of.ensures c.in_ok-truth.ensures c.in_ok-give.ensures c.end-inner.ensures.inner c.end-inner.ensures.output c.where_open.ensures)
     c.add.ensures
 
 pub assignment-returns-in_ok-of : goal.assignment-returns-in_ok-of
 assignment-returns-in_ok-of t c =
-    let h = subst (λ b. Finds _ (fixed_if b _ _) _ _) c.fixes_left.ensures c.in_ok-to.ensures in
-    copied_to (scope_of c.args.names.now) c.copied.result (output_of c.args.lowering.now) _ _ _ _ (tree.view_expr c.args.a.now) c.args.whole h c.if-whole.true (c.copied.ensures (output_of c.args.lowering.now) _ _ _ h c.in_ok-of.ensures)
+    copied_in (scope_of c.args.names.now) c.copied.result (output_of c.args.lowering.now) _ _ _ (tree.view_place c.args.p.now) (tree.view_expr c.args.a.now) c.args.used _ c.args.whole _ _
+    c.in_ok-to.ensures c.fixes_left.ensures c.if-whole.true c.in_ok-of.ensures (c.copied.ensures (output_of c.args.lowering.now) _)
 
 pub assignment-returns-in_ok-v : goal.assignment-returns-in_ok-v
 assignment-returns-in_ok-v t c =
-    let h = subst (λ b. Finds _ (fixed_if b _ _) _ _) c.fixes_left.ensures c.in_ok-to.ensures in
-    given_to (scope_of c.args.names.now) c.given.result (output_of c.args.lowering.now) _ _ _ _ (tree.view_expr c.args.a.now) c.args.whole h c.if-whole.false (c.given.ensures (output_of c.args.lowering.now) _ _ _ h c.in_ok-v.ensures)
+    given_in (scope_of c.args.names.now) c.given.result (output_of c.args.lowering.now) _ _ _ (tree.view_place c.args.p.now) (tree.view_expr c.args.a.now) c.args.used _ c.args.whole _ _
+    c.in_ok-to.ensures c.fixes_left.ensures c.if-whole.false c.in_ok-v.ensures (c.given.ensures (output_of c.args.lowering.now) _)
 
 pub target-returns : goal.target-returns
 target-returns t c = c.fixed_if.ensures (output_of c.args.lowering.now) _ c.in_ok-to.ensures
@@ -179,7 +178,7 @@ root-returns-in-Global t c = rw c.in-Global.is (standing_is _ _ _ refl refl (c.g
 
 pub root-returns-in_ok-v-in-Deref : goal.root-returns-in_ok-v-in-Deref
 root-returns-in_ok-v-in-Deref t c =
-    rw c.in-Deref.is (behind_is (scope_of c.args.names.now) c.behind.result (output_of c.args.lowering.now) _ c.in-Deref.span (tree.view_expr c.in-Deref.pointer.value) _ _ _ c.in_ok-v-in-Deref.ensures (ap tree.view_expr c.deref.ensures) (ap tree.view_expr c.deref-2.ensures) c.behind.ensures)
+    rw c.in-Deref.is (behind_is (scope_of c.args.names.now) c.behind.result (output_of c.args.lowering.now) _ c.in-Deref.span (tree.view_expr c.in-Deref.pointer.value) _ _ _ c.in_ok-v-in-Deref.ensures (ap tree.view_expr c.deref.ensures) (ap tree.view_expr c.deref-in-Deref.ensures) c.behind.ensures)
 
 -- ---- loops
 
