@@ -35,7 +35,7 @@ chain_is c r o o1 o2 a a' links links' keeper ty s v g ea ek et el go =
     let g1 : Gives o (value_in c a (next o)) o1 v = subst (λ x. Gives o (value_in c x (next o)) o1 v) ea g in
     subst (λ x. IfOk r (λ z. Gives o (links_in c x a [] s (type_of a) (value_in c a (next o)) (next o)) o2 (view_expr z))) el
     (subst (λ x. IfOk r (λ z. Gives o (links_in c links' a [] s x (value_in c a (next o)) (next o)) o2 (view_expr z))) (ap (λ (k : Temporary). k.ty) ek ∙ et)
-        (go a (value_in c a (next o)) s g1 (ap (λ (k : Temporary). k.holds) ek)))
+    (go a (value_in c a (next o)) s g1 (ap (λ (k : Temporary). k.holds) ek)))
 
 pub logical_is : (c : Scope) (o o1 o2 o3 : Output) (op : LogicalOp) (a a' whole : tree.ExprTree) (others others' : OperandTrees) (ty : VarTy) (s : Span) (k : ℕ) (v : ExprTree) →
     Gives o (value_in c a' (next o)) o1 v → a' ≡ a → ty ≡ type_of a → others' ≡ others → span_of whole ≡ s →
@@ -221,5 +221,5 @@ pub link_is : (c : Scope) (r : Result Expr AllocError) (o o0 o1 o2 : Output) (at
 link_is c r o o0 o1 o2 at to step e whole keeper far b v u w g eh eb keep g2 go =
     let x : Temp = holding keeper.ty whole in
     let kept : Gives o (held_if (not (takes_left_first step) || not (is_pure e)) (next o) x far) o1 u =
-        subst (λ z. Gives o (held_if z (next o) x far) o1 u) eb (keep x far g (ap (λ z. record { ty = keeper.ty; holds = z }) (sym eh))) in
+    subst (λ z. Gives o (held_if z (next o) x far) o1 u) eb (keep x far g (ap (λ z. record { ty = keeper.ty; holds = z }) (sym eh))) in
     linked_is c r o o1 o2 at to keeper.ty step e (held_if (not (takes_left_first step) || not (is_pure e)) (next o) x far) u w kept g2 go

@@ -55,8 +55,8 @@ pub choice_is : (c : Scope) (o o1 o2 o3 o4 o5 : Output) (test : Lowered) (v : Ex
     Gives o test o1 v → temporary_of x ≡ t → k ≡ next o1 → o2 ≡ added o1 [] (t ∷ []) → Collects o2 (arm_in c k a (next o2)) o3 us → Collects o3 (arm_in c k b (next o3)) o4 vs → o5 ≡ added o4 (choose v (stmt_trees us) (stmt_trees vs) ∷ []) [] →
     Gives o
     (valued (chosen test (x ∷ []) (arm (past (next o) test.temps) (value_in c a (past (next o) test.temps + 1))) (value_in c a (past (next o) test.temps + 1)).temps
-        (arm (past (next o) test.temps) (value_in c b (past (past (next o) test.temps + 1) (value_in c a (past (next o) test.temps + 1)).temps)))
-        (value_in c b (past (past (next o) test.temps + 1) (value_in c a (past (next o) test.temps + 1)).temps)).temps) (temp (past (next o) test.temps)))
+    (arm (past (next o) test.temps) (value_in c b (past (past (next o) test.temps + 1) (value_in c a (past (next o) test.temps + 1)).temps)))
+    (value_in c b (past (past (next o) test.temps + 1) (value_in c a (past (next o) test.temps + 1)).temps)).temps) (temp (past (next o) test.temps)))
     o5 (temp k)
 choice_is c o o1 o2 o3 o4 o5 test v k x t a b us vs g et ek e2 f s e5 =
     let n : k ≡ past (next o) test.temps = ek ∙ next_after o o1 test.stmts test.temps g.made in
@@ -76,8 +76,8 @@ pub choice_dropped : (c : Scope) (o o1 o3 o4 o5 : Output) (test : Lowered) (v : 
     Gives o test o1 v → Collects o1 (effects_in c a (next o1)) o3 us → Collects o3 (effects_in c b (next o3)) o4 vs → st ≡ choose v (stmt_trees us) (stmt_trees vs) → o5 ≡ added o4 (st ∷ []) [] →
     Does o
     (chosen test [] (effects_in c a (past (next o) test.temps)).stmts (effects_in c a (past (next o) test.temps)).temps
-        (effects_in c b (past (past (next o) test.temps) (effects_in c a (past (next o) test.temps)).temps)).stmts
-        (effects_in c b (past (past (next o) test.temps) (effects_in c a (past (next o) test.temps)).temps)).temps)
+    (effects_in c b (past (past (next o) test.temps) (effects_in c a (past (next o) test.temps)).temps)).stmts
+    (effects_in c b (past (past (next o) test.temps) (effects_in c a (past (next o) test.temps)).temps)).temps)
     o5
 choice_dropped c o o1 o3 o4 o5 test v a b us vs st g f s es e5 =
     let m = past (next o) test.temps in
@@ -133,7 +133,7 @@ operand_is c o o1 ob o2 o3 o4 o5 op k s e far outer inner v truth st ty d eo eb 
     let low = value_in c e (past (next o) far.temps) in
     let g1 : Gives ob low o2 v = subst (λ j. Gives ob (value_in c e j) o2 v) n g in
     let m : o3 ≡ more ob (low.stmts ++ hold k (truth_of (type_of e) low.value s) ∷ []) low.temps =
-        then_stmts ob o2 o3 low.stmts (hold k (truth_of (type_of e) low.value s) ∷ []) low.temps g1.made (e3 ∙ ap (λ z. added o2 (hold k z ∷ []) []) (et ∙ ap (λ z. truth_of z v s) ey ∙ ap (λ z. truth_of (type_of e) z s) g1.is)) in
+    then_stmts ob o2 o3 low.stmts (hold k (truth_of (type_of e) low.value s) ∷ []) low.temps g1.made (e3 ∙ ap (λ z. added o2 (hold k z ∷ []) []) (et ∙ ap (λ z. truth_of z v s) ey ∙ ap (λ z. truth_of (type_of e) z s) g1.is)) in
     let a = apart o1 ob o3 o4 outer inner (low.stmts ++ hold k (truth_of (type_of e) low.value s) ∷ []) low.temps eo eb m ei e4 in
     record {
       made = then_stmts o o4 o5 far.stmts (where_open op k (low.stmts ++ hold k (truth_of (type_of e) low.value s) ∷ []) ∷ []) (far.temps ++ low.temps)

@@ -31,24 +31,24 @@ pub value-returns-in_ok-first-in-Chain : goal.value-returns-in_ok-first-in-Chain
 value-returns-in_ok-first-in-Chain t c =
     rw (ap tree.view_form c.in-Chain.is ∙ view_chain c.in-Chain.a.value c.in-Chain.links c.in-Chain.a refl)
     (chain_is (scope_of c.args.names.now) c.chained.result (output_of c.args.lowering.now) _ _ (tree.view_expr c.in-Chain.a.value) _ _ _ _ _ c.args.e.now.span _ c.in_ok-first-in-Chain.ensures (ap tree.view_expr c.deref-in-Chain.ensures) (c.holding-keeper.ensures ∙ ap (λ (x : TypedExpr). record { ty = c.type_of-in-Chain.result; holds = Some x.span }) c.deref-in-Chain-3.ensures)
-        (c.type_of-in-Chain.ensures ∙ ap (λ x. type_of (tree.view_expr x)) c.deref-in-Chain-2.ensures)
-        (ap (λ xs. tree.link_trees (map tree.view_link xs)) c.deref-in-Chain-4.ensures.value)
-        c.chained.ensures)
+    (c.type_of-in-Chain.ensures ∙ ap (λ x. type_of (tree.view_expr x)) c.deref-in-Chain-2.ensures)
+    (ap (λ xs. tree.link_trees (map tree.view_link xs)) c.deref-in-Chain-4.ensures.value)
+    c.chained.ensures)
 
 pub value-returns-in_ok-operands-in-Logical : goal.value-returns-in_ok-operands-in-Logical
 value-returns-in_ok-operands-in-Logical t c =
     rw (ap tree.view_form c.in-Logical.is ∙ view_logical c.in-Logical.op c.in-Logical.a.value c.in-Logical.others c.in-Logical.a refl, c.temp.ensures)
     (logical_is (scope_of c.args.names.now) (output_of c.args.lowering.now) _ _ _ c.in-Logical.op (tree.view_expr c.in-Logical.a.value) _ _ _ _ _ c.args.e.now.span _ _ c.in_ok-first-in-Logical.ensures (ap tree.view_expr c.deref-in-Logical.ensures)
-        (c.type_of-in-Logical.ensures ∙ ap (λ x. type_of (tree.view_expr x)) c.deref-in-Logical-2.ensures)
-        (ap (λ xs. tree.operand_trees (map tree.view_operand xs)) c.deref-in-Logical-3.ensures.value) refl
-        (c.in_ok-k-in-Logical.ensures.number (output_of c.args.lowering.now)) (c.in_ok-k-in-Logical.ensures.output (output_of c.args.lowering.now) _) (c.in_ok-operands-in-Logical.ensures (output_of c.args.lowering.now)))
+    (c.type_of-in-Logical.ensures ∙ ap (λ x. type_of (tree.view_expr x)) c.deref-in-Logical-2.ensures)
+    (ap (λ xs. tree.operand_trees (map tree.view_operand xs)) c.deref-in-Logical-3.ensures.value) refl
+    (c.in_ok-k-in-Logical.ensures.number (output_of c.args.lowering.now)) (c.in_ok-k-in-Logical.ensures.output (output_of c.args.lowering.now) _) (c.in_ok-operands-in-Logical.ensures (output_of c.args.lowering.now)))
 
 pub value-returns-in_ok-add-in-Choice : goal.value-returns-in_ok-add-in-Choice
 value-returns-in_ok-add-in-Choice t c =
     rw (c.in-Choice.is, ← c.deref-in-Choice.ensures, ← c.deref-in-Choice-2.ensures, ← c.deref-in-Choice-3.ensures, c.temp-in-Choice.ensures)
     (choice_is (scope_of c.args.names.now) (output_of c.args.lowering.now) _ _ _ _ _ _ _ _ _ _ (tree.view_expr c.deref-in-Choice-2.result.now) (tree.view_expr c.deref-in-Choice-3.result.now) _ _ c.in_ok-cond-in-Choice.ensures (sym (c.holding-whole.ensures ∙ ap (λ z. record { ty = z; holds = Some c.args.e.now.span }) c.type_or_int-in-Choice.ensures))
-        c.in_ok-k-in-Choice.ensures.number c.in_ok-k-in-Choice.ensures.output c.in_ok-first-in-Choice.ensures c.in_ok-second-in-Choice.ensures
-        (same_stmt _ _ _ _ c.choose.ensures c.in_ok-add-in-Choice.ensures))
+    c.in_ok-k-in-Choice.ensures.number c.in_ok-k-in-Choice.ensures.output c.in_ok-first-in-Choice.ensures c.in_ok-second-in-Choice.ensures
+    (same_stmt _ _ _ _ c.choose.ensures c.in_ok-add-in-Choice.ensures))
 
 pub value-returns-in_ok-to-in-Assign : goal.value-returns-in_ok-to-in-Assign
 value-returns-in_ok-to-in-Assign t c =
@@ -59,7 +59,7 @@ pub value-returns-in_ok-after-in-Compound : goal.value-returns-in_ok-after-in-Co
 value-returns-in_ok-after-in-Compound t c =
     rw (ap tree.view_form c.in-Compound.is ∙ view_compound c.in-Compound.p _ c.in-Compound.step c.in-Compound.operand.value c.in-Compound.operand refl)
     (compound_is (scope_of c.args.names.now) (output_of c.args.lowering.now) _ _ _ (tree.view_place c.in-Compound.p) c.args.e.now.span c.in-Compound.step (tree.view_expr c.in-Compound.operand.value) _ _ c.args.e.now.span c.args.e.now.ty _ _ _ _ _ c.in_ok-to-in-Compound.ensures c.fixes_left.ensures (ap tree.view_expr c.deref-in-Compound.ensures)
-        c.in_ok-v-in-Compound.ensures (ap tree.view_expr c.deref-in-Compound-2.ensures) (c.in_ok-after-in-Compound.ensures (output_of c.args.lowering.now) _) c.read-in-Compound.ensures)
+    c.in_ok-v-in-Compound.ensures (ap tree.view_expr c.deref-in-Compound-2.ensures) (c.in_ok-after-in-Compound.ensures (output_of c.args.lowering.now) _) c.read-in-Compound.ensures)
 
 pub value-returns-in_ok-to-in-Step : goal.value-returns-in_ok-to-in-Step
 value-returns-in_ok-to-in-Step t c =
@@ -102,7 +102,7 @@ pub effects-returns-in_ok-_to-in-Compound : goal.effects-returns-in_ok-_to-in-Co
 effects-returns-in_ok-_to-in-Compound t c =
     rw (ap tree.view_form c.in-Compound.is ∙ view_compound c.in-Compound.p _ c.in-Compound.step c.in-Compound.operand.value c.in-Compound.operand refl)
     (compound_dropped (scope_of c.args.names.now) (output_of c.args.lowering.now) _ _ _ (tree.view_place c.in-Compound.p) c.args.e.now.span c.in-Compound.step (tree.view_expr c.in-Compound.operand.value) _ _ c.args.e.now.span c.args.e.now.ty _ _ _ _ c.in_ok-to-in-Compound.ensures c.fixes_left.ensures (ap tree.view_expr c.deref-in-Compound.ensures)
-        c.in_ok-v-in-Compound.ensures (ap tree.view_expr c.deref-in-Compound-2.ensures) (c.in_ok-_to-in-Compound.ensures (output_of c.args.lowering.now) _))
+    c.in_ok-v-in-Compound.ensures (ap tree.view_expr c.deref-in-Compound-2.ensures) (c.in_ok-_to-in-Compound.ensures (output_of c.args.lowering.now) _))
 
 pub effects-returns-in_ok-_to-in-Step : goal.effects-returns-in_ok-_to-in-Step
 effects-returns-in_ok-_to-in-Step t c =
@@ -138,7 +138,7 @@ pub operand_of-returns : goal.operand_of-returns
 operand_of-returns t c = λ o far d.
     also c.add.result _ _
     (operand_is (scope_of c.args.names.now) o _ _ _ _ _ _ c.args.op c.args.k.0 c.args.operand.now.span (tree.view_expr c.args.operand.now.operand) far _ _ _ _ _ _ d c.begin-outer.ensures.outer c.begin-outer.ensures.output c.in_ok-v.ensures
-        c.type_of.ensures c.in_ok-truth.ensures c.in_ok-give.ensures c.end-inner.ensures.inner c.end-inner.ensures.output c.where_open.ensures)
+    c.type_of.ensures c.in_ok-truth.ensures c.in_ok-give.ensures c.end-inner.ensures.inner c.end-inner.ensures.output c.where_open.ensures)
     c.add.ensures
 
 pub assignment-returns-in_ok-of : goal.assignment-returns-in_ok-of
