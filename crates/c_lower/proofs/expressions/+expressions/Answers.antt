@@ -33,7 +33,7 @@ value-returns-in_ok-first-in-Chain t c =
     (chain_is (scope_of c.args.names.now) c.chained.result (output_of c.args.lowering.now) _ _ (tree.view_expr c.in-Chain.a.value) _ _ _ _ _ c.args.e.now.span _ c.in_ok-first-in-Chain.ensures (ap tree.view_expr c.deref-in-Chain.ensures) (c.holding-keeper.ensures ∙ ap (λ (x : TypedExpr). record { ty = c.type_of-in-Chain.result; holds = Some x.span }) c.deref-in-Chain-3.ensures)
     (c.type_of-in-Chain.ensures ∙ ap (λ x. type_of (tree.view_expr x)) c.deref-in-Chain-2.ensures)
     (ap (λ xs. tree.link_trees (map tree.view_link xs)) c.deref-in-Chain-4.ensures.value)
-    c.chained.ensures)
+    (c.chained.ensures (output_of c.args.lowering.now)))
 
 pub value-returns-in_ok-operands-in-Logical : goal.value-returns-in_ok-operands-in-Logical
 value-returns-in_ok-operands-in-Logical t c =
