@@ -1,5 +1,5 @@
 -- What the forms of an expression come to, after their parts.
-use Rattle.std.proofs.Common.{◌≡◌, ℕ, ◌+◌, Bool, true, false, not, ◌||◌, List, [], ◌∷◌, ◌++◌, Option, Some, refl, sym, ap, ◌∙◌, subst, append_assoc}
+use Rattle.std.proofs.Common.{◌≡◌, ℕ, ◌+◌, Bool, true, false, List, [], ◌∷◌, ◌++◌, Option, refl, sym, ap, ◌∙◌, subst}
 use Rattle.std.proofs.lemmas.List.{append-nil}
 use Rattle.std.proofs.lemmas.Result.{IfOk-weaker}
 use Rattle.std.specs.Prelude.{Result, IfOk}
@@ -13,16 +13,15 @@ use Rattle.typed_tree.specs.ExpressionTree.{typed, FormTree, LinkTree, link, Lin
 use Rattle.pt_core.specs.declared.expression.Expr.{Expr}
 use Rattle.pt_core.specs.CodeTree as core
 use Rattle.pt_core.specs.CodeTree.{ExprTree, StmtTree, read, choose, view_expr, expr_trees, stmt_trees}
-use Rattle.source_meaning.specs.Expressions.{type_or_int, type_of}
+use Rattle.source_meaning.specs.Expressions.{type_of}
 use Rattle.c_lower.specs.declared.temporary.Temporary.{Temporary}
 use Rattle.c_lower.specs.declared.place.FoundPlace.{FoundPlace}
-use Rattle.c_lower.specs.Lowered.{Temp, Effects, Lowered, LoweredPlace, past, temp, hold, holding, effects_of}
-use Rattle.c_lower.specs.Purity.{takes_left_first, is_pure}
+use Rattle.c_lower.specs.Lowered.{Temp, Effects, Lowered, LoweredPlace, past, temp, hold}
 use Rattle.c_lower.specs.Operators.{truth_of, stepped}
-use Rattle.c_lower.specs.Expressions.{Scope, checked, value_at, place_effects, fixed_if, left_place, assigned, copied, given, compounded, counted, linked, where_open, with_operand, arm, chosen, valued, value_in, form_in, effects_in, form_effects, object_in, place_in, steps_in, root_in, operands_in, behind}
-use Rattle.c_lower.specs.ExpressionParts.{link_in, operand_in, arm_in, step_in, assignment_in, count_at}
-use Rattle.c_lower.specs.Output.{Output, next, temporary_of, added, more, opened, closed, Found, found, view_found, Gives, GivesAll, Finds, Does, Collects}
-use Rattle.c_lower.proofs.OutputLemmas.{next_after, same_stmt, both, then_stmts, then_temps, then_held, apart, next_opened}
+use Rattle.c_lower.specs.Expressions.{Scope, checked, value_at, assigned, copied, given, compounded, linked, where_open, with_operand, arm, chosen, valued, value_in, form_in, effects_in, object_in, place_in}
+use Rattle.c_lower.specs.ExpressionParts.{arm_in, count_at}
+use Rattle.c_lower.specs.Output.{Output, next, temporary_of, added, more, opened, closed, Found, view_found, Gives, Finds, Does, Collects}
+use Rattle.c_lower.proofs.OutputLemmas.{next_after, same_stmt, both, then_stmts, then_temps, apart, next_opened}
 use Rattle.c_lower.proofs.PieceLemmas.{chosen_is, then_claimed, next_claimed}
 
 -- ---- values
