@@ -1,5 +1,5 @@
 -- What arms of the code come to, whose parts stand behind references.
-use Rattle.std.proofs.Common.{◌≡◌, ℕ, Bool, true, false, not, ◌||◌, List, [], ◌∷◌, ◌++◌, Option, Some, pos, refl, sym, ap, ◌∙◌, subst}
+use Rattle.std.proofs.Common.{◌≡◌, ℕ, Bool, true, false, not, ◌||◌, List, [], ◌∷◌, Option, Some, pos, sym, ap, ◌∙◌, subst}
 use Rattle.std.proofs.lemmas.Result.{IfOk-weaker}
 use Rattle.std.specs.Prelude.{Result, IfOk, OnOk}
 use Rattle.std.specs.declared.alloc.AllocError.{AllocError}
@@ -20,12 +20,12 @@ use Rattle.c_lower.specs.declared.temporary.Temporary.{Temporary}
 use Rattle.c_lower.specs.Lowered.{Temp, Effects, Lowered, LoweredPlace, pure, past, temp, hold, holding, held_if}
 use Rattle.c_lower.specs.Purity.{takes_left_first, is_pure}
 use Rattle.c_lower.specs.Operators.{prefixed, converted, stepped}
-use Rattle.c_lower.specs.Expressions.{Scope, is_struct, started, valued, behind, field_in, decayed, decayed_type, element_place, fixed_if, compounded, counted, value_in, form_in, effects_in, form_object, place_in, root_in, links_in, operands_in}
+use Rattle.c_lower.specs.Expressions.{Scope, is_struct, started, valued, behind, field_in, decayed, decayed_type, element_place, fixed_if, copied, given, compounded, counted, value_in, form_in, effects_in, object_in, form_object, place_in, root_in, links_in, operands_in}
 use Rattle.c_lower.specs.ExpressionParts.{assignment_in, held_in, link_in, step_in}
 use Rattle.c_lower.specs.Functions.{span_of}
 use Rattle.c_lower.specs.Output.{Output, next, temporary_of, added, more, Found, found, view_found, Gives, Finds, Does}
 use Rattle.c_lower.proofs.OutputLemmas.{next_after, nothing_made, both, then_held}
-use Rattle.c_lower.proofs.FormLemmas.{whole_is, read_is, decay_is, address_is, compounded_to, linked_is}
+use Rattle.c_lower.proofs.FormLemmas.{whole_is, read_is, decay_is, address_is, copied_to, given_to, compounded_to, linked_is}
 
 pub chain_is : (c : Scope) (r : Result Expr AllocError) (o o1 o2 : Output) (a a' : tree.ExprTree) (links links' : LinkTrees) (keeper : Temporary) (ty : VarTy) (s : Span) (v : ExprTree) →
     Gives o (value_in c a' (next o)) o1 v → a' ≡ a → keeper ≡ record { ty = ty; holds = Some (span_of a) } → ty ≡ type_of a → links' ≡ links →
@@ -35,7 +35,7 @@ chain_is c r o o1 o2 a a' links links' keeper ty s v g ea ek et el go =
     let g1 : Gives o (value_in c a (next o)) o1 v = subst (λ x. Gives o (value_in c x (next o)) o1 v) ea g in
     subst (λ x. IfOk r (λ z. Gives o (links_in c x a [] s (type_of a) (value_in c a (next o)) (next o)) o2 (view_expr z))) el
     (subst (λ x. IfOk r (λ z. Gives o (links_in c links' a [] s x (value_in c a (next o)) (next o)) o2 (view_expr z))) (ap (λ (k : Temporary). k.ty) ek ∙ et)
-        (go a (value_in c a (next o)) s g1 (ap (λ (k : Temporary). k.holds) ek)))
+    (go a (value_in c a (next o)) s g1 (ap (λ (k : Temporary). k.holds) ek)))
 
 pub logical_is : (c : Scope) (o o1 o2 o3 : Output) (op : LogicalOp) (a a' whole : tree.ExprTree) (others others' : OperandTrees) (ty : VarTy) (s : Span) (k : ℕ) (v : ExprTree) →
     Gives o (value_in c a' (next o)) o1 v → a' ≡ a → ty ≡ type_of a → others' ≡ others → span_of whole ≡ s →
@@ -94,6 +94,23 @@ compound_dropped c o o1 o2 o3 p at step a a' a'' s tyo f g w b h eb ea k ea2 go 
     let k1 : Gives o1 (value_in c a (next o1)) o2 w = subst (λ x. Gives o1 (value_in c x (next o1)) o2 w) ea2 k in
     let r = compounded_to c o o1 o3 s step to f g a h1 (go to (value_in c a (next o1)) h1 k1) in
     record { made = r.made }
+
+-- an assignment of an object, and of a value
+pub copied_in : (c : Scope) (r : Result FoundPlace AllocError) (o o1 o2 o3 : Output) (p : tree.PlaceTree) (a : tree.ExprTree) (used b whole : Bool) (f g : Found) →
+    Finds o (fixed_if b (next o) (place_in c p (next o))) o1 f → b ≡ (used || not (is_pure a)) → whole ≡ true → Finds o1 (object_in c a (next o1)) o2 g →
+    ((to from : LoweredPlace) → Finds o to o1 f → Finds o1 from o2 g → IfOk r (λ z. Finds o (copied to from) o3 (view_found z))) → IfOk r (λ z. Finds o (assignment_in c used p a whole (next o)) o3 (view_found z))
+copied_in c r o o1 o2 o3 p a used b whole f g h eb ew k go =
+    let to = fixed_if (used || not (is_pure a)) (next o) (place_in c p (next o)) in
+    let h1 : Finds o to o1 f = subst (λ x. Finds o (fixed_if x (next o) (place_in c p (next o))) o1 f) eb h in
+    copied_to c r o o1 o3 to f a whole h1 ew (go to (object_in c a (next o1)) h1 k)
+
+pub given_in : (c : Scope) (r : Result FoundPlace AllocError) (o o1 o2 o3 : Output) (p : tree.PlaceTree) (a : tree.ExprTree) (used b whole : Bool) (f : Found) (w : ExprTree) →
+    Finds o (fixed_if b (next o) (place_in c p (next o))) o1 f → b ≡ (used || not (is_pure a)) → whole ≡ false → Gives o1 (value_in c a (next o1)) o2 w →
+    ((to : LoweredPlace) (v : Lowered) → Finds o to o1 f → Gives o1 v o2 w → IfOk r (λ z. Finds o (given to v) o3 (view_found z))) → IfOk r (λ z. Finds o (assignment_in c used p a whole (next o)) o3 (view_found z))
+given_in c r o o1 o2 o3 p a used b whole f w h eb ew k go =
+    let to = fixed_if (used || not (is_pure a)) (next o) (place_in c p (next o)) in
+    let h1 : Finds o to o1 f = subst (λ x. Finds o (fixed_if x (next o) (place_in c p (next o))) o1 f) eb h in
+    given_to c r o o1 o3 to f a whole h1 ew (go to (value_in c a (next o1)) h1 k)
 
 -- an assignment, behind references
 pub assign_is : (c : Scope) (o o1 : Output) (p : tree.PlaceTree) (a a' : tree.ExprTree) (whole : Bool) (s : Span) (tyo : Option VarTy) (f : Found) (v : ExprTree) → Finds o (assignment_in c true p a' whole (next o)) o1 f → a' ≡ a → whole ≡ is_struct tyo → v ≡ read f.place → Gives o (form_in c (tree.assign p a) s tyo (next o)) o1 v
@@ -204,5 +221,5 @@ pub link_is : (c : Scope) (r : Result Expr AllocError) (o o0 o1 o2 : Output) (at
 link_is c r o o0 o1 o2 at to step e whole keeper far b v u w g eh eb keep g2 go =
     let x : Temp = holding keeper.ty whole in
     let kept : Gives o (held_if (not (takes_left_first step) || not (is_pure e)) (next o) x far) o1 u =
-        subst (λ z. Gives o (held_if z (next o) x far) o1 u) eb (keep x far g (ap (λ z. record { ty = keeper.ty; holds = z }) (sym eh))) in
+    subst (λ z. Gives o (held_if z (next o) x far) o1 u) eb (keep x far g (ap (λ z. record { ty = keeper.ty; holds = z }) (sym eh))) in
     linked_is c r o o1 o2 at to keeper.ty step e (held_if (not (takes_left_first step) || not (is_pure e)) (next o) x far) u w kept g2 go

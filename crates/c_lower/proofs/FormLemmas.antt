@@ -1,5 +1,5 @@
 -- What the forms of an expression come to, after their parts.
-use Rattle.std.proofs.Common.{◌≡◌, ℕ, ◌+◌, Bool, true, false, not, ◌||◌, List, [], ◌∷◌, ◌++◌, Option, Some, refl, sym, ap, ◌∙◌, subst, append_assoc}
+use Rattle.std.proofs.Common.{◌≡◌, ℕ, ◌+◌, Bool, true, false, List, [], ◌∷◌, ◌++◌, Option, refl, sym, ap, ◌∙◌, subst}
 use Rattle.std.proofs.lemmas.List.{append-nil}
 use Rattle.std.proofs.lemmas.Result.{IfOk-weaker}
 use Rattle.std.specs.Prelude.{Result, IfOk}
@@ -13,16 +13,15 @@ use Rattle.typed_tree.specs.ExpressionTree.{typed, FormTree, LinkTree, link, Lin
 use Rattle.pt_core.specs.declared.expression.Expr.{Expr}
 use Rattle.pt_core.specs.CodeTree as core
 use Rattle.pt_core.specs.CodeTree.{ExprTree, StmtTree, read, choose, view_expr, expr_trees, stmt_trees}
-use Rattle.source_meaning.specs.Expressions.{type_or_int, type_of}
+use Rattle.source_meaning.specs.Expressions.{type_of}
 use Rattle.c_lower.specs.declared.temporary.Temporary.{Temporary}
 use Rattle.c_lower.specs.declared.place.FoundPlace.{FoundPlace}
-use Rattle.c_lower.specs.Lowered.{Temp, Effects, Lowered, LoweredPlace, past, temp, hold, holding, effects_of}
-use Rattle.c_lower.specs.Purity.{takes_left_first, is_pure}
+use Rattle.c_lower.specs.Lowered.{Temp, Effects, Lowered, LoweredPlace, past, temp, hold}
 use Rattle.c_lower.specs.Operators.{truth_of, stepped}
-use Rattle.c_lower.specs.Expressions.{Scope, checked, value_at, place_effects, fixed_if, left_place, assigned, copied, given, compounded, counted, linked, where_open, with_operand, arm, chosen, valued, value_in, form_in, effects_in, form_effects, object_in, place_in, steps_in, root_in, operands_in, behind}
-use Rattle.c_lower.specs.ExpressionParts.{link_in, operand_in, arm_in, step_in, assignment_in, count_at}
-use Rattle.c_lower.specs.Output.{Output, next, temporary_of, added, more, opened, closed, Found, found, view_found, Gives, GivesAll, Finds, Does, Collects}
-use Rattle.c_lower.proofs.OutputLemmas.{next_after, both, then_stmts, then_temps, then_held, apart, next_opened}
+use Rattle.c_lower.specs.Expressions.{Scope, checked, value_at, assigned, copied, given, compounded, linked, where_open, with_operand, arm, chosen, valued, value_in, form_in, effects_in, object_in, place_in}
+use Rattle.c_lower.specs.ExpressionParts.{arm_in, count_at}
+use Rattle.c_lower.specs.Output.{Output, next, temporary_of, added, more, opened, closed, Found, view_found, Gives, Finds, Does, Collects}
+use Rattle.c_lower.proofs.OutputLemmas.{next_after, same_stmt, both, then_stmts, then_temps, apart, next_opened}
 use Rattle.c_lower.proofs.PieceLemmas.{chosen_is, then_claimed, next_claimed}
 
 -- ---- values
@@ -55,8 +54,8 @@ pub choice_is : (c : Scope) (o o1 o2 o3 o4 o5 : Output) (test : Lowered) (v : Ex
     Gives o test o1 v → temporary_of x ≡ t → k ≡ next o1 → o2 ≡ added o1 [] (t ∷ []) → Collects o2 (arm_in c k a (next o2)) o3 us → Collects o3 (arm_in c k b (next o3)) o4 vs → o5 ≡ added o4 (choose v (stmt_trees us) (stmt_trees vs) ∷ []) [] →
     Gives o
     (valued (chosen test (x ∷ []) (arm (past (next o) test.temps) (value_in c a (past (next o) test.temps + 1))) (value_in c a (past (next o) test.temps + 1)).temps
-        (arm (past (next o) test.temps) (value_in c b (past (past (next o) test.temps + 1) (value_in c a (past (next o) test.temps + 1)).temps)))
-        (value_in c b (past (past (next o) test.temps + 1) (value_in c a (past (next o) test.temps + 1)).temps)).temps) (temp (past (next o) test.temps)))
+    (arm (past (next o) test.temps) (value_in c b (past (past (next o) test.temps + 1) (value_in c a (past (next o) test.temps + 1)).temps)))
+    (value_in c b (past (past (next o) test.temps + 1) (value_in c a (past (next o) test.temps + 1)).temps)).temps) (temp (past (next o) test.temps)))
     o5 (temp k)
 choice_is c o o1 o2 o3 o4 o5 test v k x t a b us vs g et ek e2 f s e5 =
     let n : k ≡ past (next o) test.temps = ek ∙ next_after o o1 test.stmts test.temps g.made in
@@ -72,21 +71,21 @@ choice_is c o o1 o2 o3 o4 o5 test v k x t a b us vs g et ek e2 f s e5 =
     }
 
 -- `?:` whose value is dropped
-pub choice_dropped : (c : Scope) (o o1 o3 o4 o5 : Output) (test : Lowered) (v : ExprTree) (a b : tree.ExprTree) (us vs : List StmtTree) →
-    Gives o test o1 v → Collects o1 (effects_in c a (next o1)) o3 us → Collects o3 (effects_in c b (next o3)) o4 vs → o5 ≡ added o4 (choose v (stmt_trees us) (stmt_trees vs) ∷ []) [] →
+pub choice_dropped : (c : Scope) (o o1 o3 o4 o5 : Output) (test : Lowered) (v : ExprTree) (a b : tree.ExprTree) (us vs : List StmtTree) (st : StmtTree) →
+    Gives o test o1 v → Collects o1 (effects_in c a (next o1)) o3 us → Collects o3 (effects_in c b (next o3)) o4 vs → st ≡ choose v (stmt_trees us) (stmt_trees vs) → o5 ≡ added o4 (st ∷ []) [] →
     Does o
     (chosen test [] (effects_in c a (past (next o) test.temps)).stmts (effects_in c a (past (next o) test.temps)).temps
-        (effects_in c b (past (past (next o) test.temps) (effects_in c a (past (next o) test.temps)).temps)).stmts
-        (effects_in c b (past (past (next o) test.temps) (effects_in c a (past (next o) test.temps)).temps)).temps)
+    (effects_in c b (past (past (next o) test.temps) (effects_in c a (past (next o) test.temps)).temps)).stmts
+    (effects_in c b (past (past (next o) test.temps) (effects_in c a (past (next o) test.temps)).temps)).temps)
     o5
-choice_dropped c o o1 o3 o4 o5 test v a b us vs g f s e5 =
+choice_dropped c o o1 o3 o4 o5 test v a b us vs st g f s es e5 =
     let m = past (next o) test.temps in
     let n : next o1 ≡ m = next_after o o1 test.stmts test.temps g.made in
     let f1 : Collects o1 (effects_in c a m) o3 us = subst (λ j. Collects o1 (effects_in c a j) o3 us) n f in
     let n3 : next o3 ≡ past m (effects_in c a m).temps = next_after o1 o3 [] _ f1.made ∙ ap (λ j. past j (effects_in c a m).temps) n in
     let s1 : Collects o3 (effects_in c b (past m (effects_in c a m).temps)) o4 vs = subst (λ j. Collects o3 (effects_in c b j) o4 vs) n3 s in
     record {
-      made = chosen_is o o1 o3 o4 o5 test.stmts (test.temps ++ []) v test.value _ _ us vs (g.made ∙ ap (λ z. more o test.stmts z) (sym (append-nil test.temps))) g.is f1 s1 e5;
+      made = chosen_is o o1 o3 o4 o5 test.stmts (test.temps ++ []) v test.value _ _ us vs (g.made ∙ ap (λ z. more o test.stmts z) (sym (append-nil test.temps))) g.is f1 s1 (same_stmt o4 o5 st _ es e5);
     }
 
 -- ---- assignments
@@ -125,20 +124,20 @@ linked_is c r o o1 o2 at to ty step e ready v w g h go =
 
 -- ---- `&&` and `||`
 
-pub operand_is : (c : Scope) (o o1 ob o2 o3 o4 o5 : Output) (op : LogicalOp) (k : ℕ) (s : Span) (e : tree.ExprTree) (far : Effects) (outer inner : List StmtTree) (v truth : ExprTree) →
-    Does o far o1 → outer ≡ o1.stmts → ob ≡ opened o1 → Gives ob (value_in c e (next ob)) o2 v → truth ≡ truth_of (type_of e) v s → o3 ≡ added o2 (hold k truth ∷ []) [] → inner ≡ o3.stmts → o4 ≡ closed o3 outer → o5 ≡ added o4 (where_open op k inner ∷ []) [] →
+pub operand_is : (c : Scope) (o o1 ob o2 o3 o4 o5 : Output) (op : LogicalOp) (k : ℕ) (s : Span) (e : tree.ExprTree) (far : Effects) (outer inner : List StmtTree) (v truth : ExprTree) (st : StmtTree) (ty : VarTy) →
+    Does o far o1 → outer ≡ o1.stmts → ob ≡ opened o1 → Gives ob (value_in c e (next ob)) o2 v → ty ≡ type_of e → truth ≡ truth_of ty v s → o3 ≡ added o2 (hold k truth ∷ []) [] → inner ≡ o3.stmts → o4 ≡ closed o3 outer → st ≡ where_open op k inner → o5 ≡ added o4 (st ∷ []) [] →
     Does o (with_operand op k (type_of e) s far (value_in c e (past (next o) far.temps))) o5
-operand_is c o o1 ob o2 o3 o4 o5 op k s e far outer inner v truth d eo eb g et e3 ei e4 e5 =
+operand_is c o o1 ob o2 o3 o4 o5 op k s e far outer inner v truth st ty d eo eb g ey et e3 ei e4 es e5 =
     let n : next ob ≡ past (next o) far.temps = next_opened o1 ob eb ∙ next_after o o1 far.stmts far.temps d.made in
     let low = value_in c e (past (next o) far.temps) in
     let g1 : Gives ob low o2 v = subst (λ j. Gives ob (value_in c e j) o2 v) n g in
     let m : o3 ≡ more ob (low.stmts ++ hold k (truth_of (type_of e) low.value s) ∷ []) low.temps =
-        then_stmts ob o2 o3 low.stmts (hold k (truth_of (type_of e) low.value s) ∷ []) low.temps g1.made (e3 ∙ ap (λ z. added o2 (hold k z ∷ []) []) (et ∙ ap (λ z. truth_of (type_of e) z s) g1.is)) in
+    then_stmts ob o2 o3 low.stmts (hold k (truth_of (type_of e) low.value s) ∷ []) low.temps g1.made (e3 ∙ ap (λ z. added o2 (hold k z ∷ []) []) (et ∙ ap (λ z. truth_of z v s) ey ∙ ap (λ z. truth_of (type_of e) z s) g1.is)) in
     let a = apart o1 ob o3 o4 outer inner (low.stmts ++ hold k (truth_of (type_of e) low.value s) ∷ []) low.temps eo eb m ei e4 in
     record {
       made = then_stmts o o4 o5 far.stmts (where_open op k (low.stmts ++ hold k (truth_of (type_of e) low.value s) ∷ []) ∷ []) (far.temps ++ low.temps)
           (then_temps o o1 o4 far.stmts far.temps low.temps d.made a.made)
-          (e5 ∙ ap (λ z. added o4 (where_open op k z ∷ []) []) a.are);
+          (same_stmt o4 o5 st _ (es ∙ ap (λ z. where_open op k z) a.are) e5);
     }
 
 -- an arm of `?:`

@@ -1,10 +1,10 @@
 -- Parts of what is made, one after the other.
-use Rattle.std.proofs.Common.{◌≡◌, ℕ, ◌+◌, List, [], ◌∷◌, ◌++◌, length, map, refl, sym, ap, ◌∙◌, subst, append_assoc, length-append, arith}
+use Rattle.std.proofs.Common.{◌≡◌, ℕ, ◌+◌, List, [], ◌∷◌, ◌++◌, length, map, refl, sym, ap, ◌∙◌, append_assoc, length-append, arith}
 use Rattle.std.proofs.lemmas.List.{map-append, length-map, append-nil}
 use Rattle.pt_core.specs.CodeTree.{ExprTree, StmtTree}
 use Rattle.c_lower.specs.declared.temporary.Temporary.{Temporary}
-use Rattle.c_lower.specs.Lowered.{Temp, Effects, Lowered, past, temp, hold, held}
-use Rattle.c_lower.specs.Output.{Output, next, temporary_of, added, more, opened, closed, Gives, Does, Collects}
+use Rattle.c_lower.specs.Lowered.{Temp, Lowered, past, temp, hold, held}
+use Rattle.c_lower.specs.Output.{Output, next, temporary_of, added, more, opened, closed, Gives, Collects}
 
 abbrev output : ℕ → List StmtTree → List Temporary → Output
 output n stmts temps = record { first = n; stmts = stmts; temps = temps }

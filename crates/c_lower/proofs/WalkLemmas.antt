@@ -1,5 +1,5 @@
 -- Walks over links, operands, arguments and steps, one behind the other.
-use Rattle.std.proofs.Common.{◌≡◌, ℕ, ◌+◌, ◌<◌, Bool, true, false, not, List, [], ◌∷◌, ◌++◌, length, get_or, drop, drop-cons, add-one, suc, map, Option, Some, refl, sym, ap, ◌∙◌, subst, append_assoc}
+use Rattle.std.proofs.Common.{◌≡◌, ℕ, ◌+◌, ◌<◌, Bool, not, List, [], ◌∷◌, ◌++◌, length, get_or, drop, drop-cons, add-one, suc, Some, refl, sym, ap, ◌∙◌, subst, append_assoc}
 use Rattle.std.proofs.lemmas.List.{append-nil}
 use Rattle.pt_base.specs.declared.span.Span.{Span}
 use Rattle.typed_tree.specs.declared.types.VarTy.{VarTy}
@@ -9,8 +9,8 @@ use Rattle.typed_tree.specs.ExpressionTree as tree
 use Rattle.typed_tree.specs.ExpressionTree.{LinkTree, link, LinkTrees, link_and, no_links, OperandTree, operand, OperandTrees, operand_and, no_operands, ExprTrees, expr_and, no_exprs, RootTree, StepTree, StepTrees, step_and, no_steps}
 use Rattle.pt_core.specs.CodeTree.{ExprTree}
 use Rattle.c_lower.specs.declared.temporary.Temporary.{Temporary}
-use Rattle.c_lower.specs.Lowered.{Temp, Effects, Lowered, LoweredPlace, Arguments, past}
-use Rattle.c_lower.specs.Purity.{are_pure, are_pure_steps}
+use Rattle.c_lower.specs.Lowered.{Effects, Lowered, LoweredPlace, Arguments, past}
+use Rattle.c_lower.specs.Purity.{are_pure}
 use Rattle.c_lower.specs.Expressions.{Scope, chain_so_far, links_in, operands_in, arguments_in, steps_in}
 use Rattle.c_lower.specs.ExpressionParts.{link_in, operand_in, argument_in, step_in}
 use Rattle.c_lower.specs.Functions.{span_of}

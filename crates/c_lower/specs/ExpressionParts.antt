@@ -1,5 +1,5 @@
 -- The parts of the lowering of expressions that the code has functions for: one link, one operand, one step.
-use Rattle.std.specs.Prelude.{ℕ, Bool, true, false, not, ◌||◌, List, [], ◌∷◌, ◌++◌, Option, Some}
+use Rattle.std.specs.Prelude.{ℕ, Bool, true, false, not, ◌||◌, List, Some}
 use Rattle.pt_base.specs.declared.span.Span.{Span}
 use Rattle.typed_tree.specs.declared.types.VarTy.{VarTy}
 use Rattle.typed_tree.specs.declared.link.LogicalOp.{LogicalOp}

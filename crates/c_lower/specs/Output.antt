@@ -1,6 +1,6 @@
 -- What the code has made so far, and what its calls add to that, as the definitions speak of it. Where memory
 -- is wanting nothing is said.
-use Rattle.std.specs.Prelude.{◌≡◌, ℕ, ◌+◌, Bool, List, [], ◌∷◌, ◌++◌, map, length, Option, option_map, Result, Vec, IfOk, OnOk}
+use Rattle.std.specs.Prelude.{◌≡◌, ℕ, ◌+◌, Bool, List, [], ◌++◌, map, length, Option, option_map, Result, Vec, IfOk, OnOk}
 use Rattle.std.specs.declared.alloc.AllocError.{AllocError}
 use Rattle.std.specs.declared.alloc.Global.{Global}
 use Rattle.typed_tree.specs.declared.types.VarTy.{VarTy}

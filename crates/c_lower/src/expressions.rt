@@ -9,9 +9,7 @@ ghost use Rattle.c_lower.specs.Functions.{span_of};
 ghost use Rattle.c_lower.specs.Names.{scope_of};
 ghost use Rattle.c_lower.specs.Output.{Output, output_of, next, view_found, Gives, Finds, Does, Values, Arguing, Places, Doing, Collecting};
 
-use crate::assignments::{
-    call_alone, called, compounded, copied, count, counted, given, zero,
-};
+use crate::assignments::{call_alone, called, compounded, copied, count, counted, given, zero};
 use crate::logical::{started, where_open};
 use crate::lowering::{Lowering, held_if, temp};
 use crate::names::Names;
@@ -23,9 +21,7 @@ use crate::types::{decayed_type, elem_of, int_of, is_struct, type_of, type_or_in
 use pt_base::{Span, VarId};
 use pt_core::{Expr, Stmt};
 use std::alloc::{AllocError, Global};
-use typed_tree::{
-    Form, LogicalOp, Place, PlaceStep, Root, TypedExpr, TypedLink, TypedOperand,
-};
+use typed_tree::{Form, LogicalOp, Place, PlaceStep, Root, TypedExpr, TypedLink, TypedOperand};
 
 /// The value of an expression, behind the statements that it needs.
 #[cycle(expressions)]
@@ -412,7 +408,13 @@ fn argument(
     ensures { Values result (output_of lowering.old) (argument_in (scope_of names.now) is_held (t.view_expr e.now)) (output_of lowering.new) }
 {
     let v = value(alloc, names, e, lowering)?;
-    held_if(alloc, is_held, Temporary::holding(type_of(e), e.span), v, lowering)
+    held_if(
+        alloc,
+        is_held,
+        Temporary::holding(type_of(e), e.span),
+        v,
+        lowering,
+    )
 }
 
 /// The place at which an object lies, behind the statements that it needs.
@@ -479,7 +481,13 @@ fn item(
     let ty = decayed_type(at.fixed, at.ty);
     let is_held = !is_pure(index);
     let first = Expr::decay(at.place);
-    let base = held_if(alloc, is_held, Temporary::holding(ty, span), first, lowering)?;
+    let base = held_if(
+        alloc,
+        is_held,
+        Temporary::holding(ty, span),
+        first,
+        lowering,
+    )?;
     let v = value(alloc, names, index, lowering)?;
     element(alloc, span, ty, base, v)
 }

@@ -36,12 +36,7 @@ fn same_int(a: IntType, b: IntType) -> bool
 }
 
 /// A number converted to the type, where it isn't of it.
-pub(crate) fn as_int(
-    alloc: Global,
-    ty: VarTy,
-    to: IntType,
-    a: Expr,
-) -> Result<Expr, AllocError>
+pub(crate) fn as_int(alloc: Global, ty: VarTy, to: IntType, a: Expr) -> Result<Expr, AllocError>
     ensures { IfOk result (λ e. view_expr e ≡ is.as_int ty to (view_expr a)) }
 {
     match ty {
@@ -162,12 +157,7 @@ pub(crate) fn stepped(
 
 /// What a compound assignment stores in a place of this type, from what its step gives
 /// (C99 6.5.16.2p3).
-pub(crate) fn stored(
-    alloc: Global,
-    ty: VarTy,
-    step: LinkStep,
-    a: Expr,
-) -> Result<Expr, AllocError>
+pub(crate) fn stored(alloc: Global, ty: VarTy, step: LinkStep, a: Expr) -> Result<Expr, AllocError>
     ensures { IfOk result (λ e. view_expr e ≡ is.stored ty step (view_expr a)) }
 {
     match ty {
@@ -177,21 +167,14 @@ pub(crate) fn stored(
 }
 
 // the same in an integer
-fn stored_int(
-    alloc: Global,
-    to: IntType,
-    step: LinkStep,
-    a: Expr,
-) -> Result<Expr, AllocError>
+fn stored_int(alloc: Global, to: IntType, step: LinkStep, a: Expr) -> Result<Expr, AllocError>
     ensures { IfOk result (λ e. view_expr e ≡ is.stored (VarTy.Int to) step (view_expr a)) }
 {
     match step {
         LinkStep::Arithmetic(_, t) => as_int(alloc, VarTy::Int(t), to, a),
         LinkStep::Shift { .. } => as_int(alloc, VarTy::Int(promote(to)), to, a),
-        LinkStep::Move { .. }
-        | LinkStep::MoveBy
-        | LinkStep::Difference
-        | LinkStep::Compare(_) => Ok(a),
+        LinkStep::Move { .. } | LinkStep::MoveBy | LinkStep::Difference | LinkStep::Compare(_) =>
+            Ok(a),
     }
 }
 

@@ -1,4 +1,4 @@
-use Rattle.std.proofs.Common.{◌≡◌, ℕ, ◌+◌, ◌*◌, max, List, [], map, drop, Some}
+use Rattle.std.proofs.Common.{◌≡◌, ◌+◌, ◌*◌, max, map, drop, Some}
 use Rattle.pt_base.specs.declared.span.Span.{Span}
 use Rattle.typed_tree.specs.declared.expression.TypedExpr.{size-TypedExpr}
 use Rattle.typed_tree.specs.declared.place.Place.{size-Place}

@@ -17,4 +17,4 @@ pub is_pure-returns-then-is_pure : goal.is_pure-returns-then-is_pure
 is_pure-returns-then-is_pure t c =
     rw (ap tree.view_form c.in-Chain.is ∙ view_chain c.in-Chain.a.value c.in-Chain.links c.in-Chain.a refl)
     (c.are_pure_links.ensures ∙ ap (λ xs. are_pure_links (tree.link_trees (map tree.view_link xs))) c.deref-then-is_pure.ensures.value
-        ∙ ap (λ b. b && are_pure_links (tree.link_trees (map tree.view_link c.in-Chain.links.items))) (sym c.if-is_pure.true ∙ c.is_pure-in-Chain.ensures ∙ ap (λ x. is_pure (tree.view_expr x)) c.deref-in-Chain.ensures))
+    ∙ ap (λ b. b && are_pure_links (tree.link_trees (map tree.view_link c.in-Chain.links.items))) (sym c.if-is_pure.true ∙ c.is_pure-in-Chain.ensures ∙ ap (λ x. is_pure (tree.view_expr x)) c.deref-in-Chain.ensures))
