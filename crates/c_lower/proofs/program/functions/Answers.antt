@@ -12,4 +12,4 @@ loop-function-preserved c =
     functions_step (view_typed c.args.program.now) _ _ (typed.view_function c.function-item.result) _ _ _ _ _ split c.in_ok-add_lowered.ensures c.in_ok-number.ensures c.loop-function.invariant
 
 pub returns : goal.returns
-returns c = functions_end (view_typed c.args.program.now) _ _ _ _ (ap (map typed.view_function) (drop_all c.loop-function.function-index _ c.loop-function-test.false)) c.loop-function.invariant
+returns c = rw (← c.as_slice-functions.ensures.value) (functions_end (view_typed c.args.program.now) _ _ _ _ (ap (map typed.view_function) (drop_all c.loop-function.function-index _ c.loop-function-test.false)) c.loop-function.invariant)

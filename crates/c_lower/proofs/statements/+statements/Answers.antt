@@ -86,7 +86,7 @@ switch-returns t c =
     let code = code_in c.args.names.now in
     also _ _ _
     (λ e. switched_does code _ _ _ (view_onward c.args.mode) (view_onward c.inside.result) (tree.section_trees (map tree.view_section c.args.all.now)) (output_of c.args.lowering.now) _ _ _ _ _ _ _ _ _ _ _ (value_in code.scope (is.outermost code c.args.e) (next (output_of c.args.lowering.now))) _ _ _ _ _ _ _ _ _ _ c.in_ok-v.ensures (c.in_ok-promoted.ensures ∙ ap (λ z. as_int z _ _) c.type_of_numbered-from.ensures) c.counting.ensures c.counting-counting.ensures
-    c.in_ok-value.ensures.number c.in_ok-value.ensures.output c.number.ensures c.in_ok-chosen.ensures.output c.in_ok-choose_sections.ensures c.number-2.ensures c.in_ok-flag.ensures.number c.in_ok-flag.ensures.output
+    c.in_ok-value.ensures.number c.in_ok-value.ensures.output (c.number.ensures ∙ ap is.number c.otherwise.ensures) c.in_ok-chosen.ensures.output c.in_ok-choose_sections.ensures c.number-2.ensures c.in_ok-flag.ensures.number c.in_ok-flag.ensures.output
     c.begin-outer.ensures.outer c.begin-outer.ensures.output c.inside.ensures c.in_ok-sections.ensures c.in_ok-add.ensures c.end-inner.ensures.inner c.end-inner.ensures.output (same_stmt _ _ _ _ c.repeat.ensures c.in_ok-add-2.ensures) e)
     c.go_on_behind.ensures
 
@@ -95,21 +95,49 @@ switch-returns t c =
 pub statements-loop-body-preserved : goal.statements-loop-body-preserved
 statements-loop-body-preserved t c =
     let code = code_in c.args.names.now in
-    let split = ap (λ xs. is.all_in code (tree.body_trees (map tree.view_body xs)) (view_onward c.args.mode) _) (split_at c.args.all.now c.loop-body.body-index c.body-item.result c.loop-body-test.true c.body-item.is) in
-    leads_step _ _ _ _ _ _ (is.all_in code (tree.body_trees (map tree.view_body (drop (c.loop-body.body-index + 1) c.args.all.now))) (view_onward c.args.mode)) split c.in_ok-statement.ensures c.loop-body.invariant
+    let mode = view_onward c.args.mode in
+    let all = c.args.all.now in
+    let i = c.loop-body.body-index in
+    let first = output_of c.args.lowering.now in
+    let now = output_of c.loop-body.lowering in
+    let split = ap (λ xs. is.all_in code (tree.body_trees (map tree.view_body xs)) mode (next now)) (split_at all i c.body-item.result c.loop-body-test.true c.body-item.is) in
+    leads_step now _ first (is.all_in code (tree.body_trees (map tree.view_body all)) mode (next first)) (is.statement_in code (tree.view_body c.body-item.result) mode (next now)) (is.all_in code (tree.body_trees (map tree.view_body (drop i all))) mode (next now))
+    (is.all_in code (tree.body_trees (map tree.view_body (drop (i + 1) all))) mode) split c.in_ok-statement.ensures c.loop-body.invariant
 
 pub statements-returns : goal.statements-returns
 statements-returns t c =
-    leads_end _ _ _ _ (ap (λ xs. is.all_in (code_in c.args.names.now) (tree.body_trees (map tree.view_body xs)) (view_onward c.args.mode) _) (drop_all c.loop-body.body-index c.args.all.now c.loop-body-test.false)) c.loop-body.invariant
+    let code = code_in c.args.names.now in
+    let mode = view_onward c.args.mode in
+    let all = c.args.all.now in
+    let i = c.loop-body.body-index in
+    let first = output_of c.args.lowering.now in
+    let now = output_of c.loop-body.lowering in
+    leads_end now first (is.all_in code (tree.body_trees (map tree.view_body all)) mode (next first)) (is.all_in code (tree.body_trees (map tree.view_body (drop i all))) mode (next now))
+    (ap (λ xs. is.all_in code (tree.body_trees (map tree.view_body xs)) mode (next now)) (drop_all i all c.loop-body-test.false)) c.loop-body.invariant
 
 pub sections-loop-m-preserved : goal.sections-loop-m-preserved
 sections-loop-m-preserved t c =
     let code = code_in c.args.names.now in
+    let mode = view_onward c.args.mode in
     let s = c.args.choosing.span in
     let k = c.args.choosing.value.0 in
-    let split = ap (λ xs. is.sections_in code s (tree.section_trees (map tree.view_section xs)) (view_onward c.args.mode) k c.loop-m.m _) (split_at c.args.all.now c.loop-m.m c.index-all-m.result c.loop-m-test.true c.index-all-m.is) in
-    leads_step _ _ _ _ _ _ (is.sections_in code s (tree.section_trees (map tree.view_section (drop (c.loop-m.m + 1) c.args.all.now))) (view_onward c.args.mode) k (c.loop-m.m + 1)) split c.in_ok-section_at.ensures c.loop-m.invariant
+    let all = c.args.all.now in
+    let m = c.loop-m.m in
+    let first = output_of c.args.lowering.now in
+    let now = output_of c.loop-m.lowering in
+    let split = ap (λ xs. is.sections_in code s (tree.section_trees (map tree.view_section xs)) mode k m (next now)) (split_at all m c.index-all-m.result c.loop-m-test.true c.index-all-m.is) in
+    leads_step now _ first (is.sections_in code s (tree.section_trees (map tree.view_section all)) mode k 0 (next first)) (section_in code s (tree.view_section c.index-all-m.result) mode k m (next now))
+    (is.sections_in code s (tree.section_trees (map tree.view_section (drop m all))) mode k m (next now)) (is.sections_in code s (tree.section_trees (map tree.view_section (drop (m + 1) all))) mode k (m + 1)) split c.in_ok-section_at.ensures c.loop-m.invariant
 
 pub sections-returns : goal.sections-returns
 sections-returns t c =
-    leads_end _ _ _ _ (ap (λ xs. is.sections_in (code_in c.args.names.now) c.args.choosing.span (tree.section_trees (map tree.view_section xs)) (view_onward c.args.mode) c.args.choosing.value.0 c.loop-m.m _) (drop_all c.loop-m.m c.args.all.now c.loop-m-test.false)) c.loop-m.invariant
+    let code = code_in c.args.names.now in
+    let mode = view_onward c.args.mode in
+    let s = c.args.choosing.span in
+    let k = c.args.choosing.value.0 in
+    let all = c.args.all.now in
+    let m = c.loop-m.m in
+    let first = output_of c.args.lowering.now in
+    let now = output_of c.loop-m.lowering in
+    leads_end now first (is.sections_in code s (tree.section_trees (map tree.view_section all)) mode k 0 (next first)) (is.sections_in code s (tree.section_trees (map tree.view_section (drop m all))) mode k m (next now))
+    (ap (λ xs. is.sections_in code s (tree.section_trees (map tree.view_section xs)) mode k m (next now)) (drop_all m all c.loop-m-test.false)) c.loop-m.invariant
