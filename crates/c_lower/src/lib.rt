@@ -1,10 +1,29 @@
-//! The lowering of typed functions into the normal form: its definitions, one equation a form.
+//! The lowering of typed functions into the normal form, equal to its definitions, one equation a
+//! form.
 #![tactic(auto)]
 
-ghost use Rattle.c_lower.specs.Worked.{TrapsAreKept};
+mod assignments;
+mod declarations;
+mod expressions;
+mod flow;
+mod functions;
+mod items;
+mod laws;
+mod logical;
+mod loops;
+mod lowering;
+mod names;
+mod numbers;
+mod operators;
+mod outermost;
+mod place;
+mod program;
+mod purity;
+mod statements;
+mod switches;
+mod temporary;
+mod types;
 
-/// Five small programs that trap, and one that doesn't, end in the normal form as in C: with the same
-/// trap, at the same place.
-pub fn traps_are_kept()
-    ensures { TrapsAreKept }
-{}
+pub use functions::lower_function;
+pub use laws::traps_are_kept;
+pub use program::{lower_program, whole_program};
