@@ -2,7 +2,7 @@ use Rattle.std.proofs.Common.{◌≡◌, ◌∙◌, ◌+◌, [], map, ap, refl, 
 use Rattle.std.proofs.lemmas.List.{drop_all}
 use Rattle.typed_tree.specs.StatementTree as tree
 use Rattle.typed_tree.proofs.Rows.{view_block, view_switch}
-use Rattle.pt_core.specs.CodeTree.{view_stmt}
+use Rattle.pt_core.specs.CodeTree.{view_expr, view_stmt}
 use Rattle.c_lower.specs.Names.{code_in}
 use Rattle.c_lower.specs.Onwards.{view_onward}
 use Rattle.c_lower.specs.Output.{next, output_of, Does}
@@ -85,7 +85,7 @@ pub switch-returns : goal.switch-returns
 switch-returns t c =
     let code = code_in c.args.names.now in
     also _ _ _
-    (λ e. switched_does code _ _ _ (view_onward c.args.mode) (view_onward c.inside.result) (tree.section_trees (map tree.view_section c.args.all.now)) (output_of c.args.lowering.now) _ _ _ _ _ _ _ _ _ _ _ (value_in code.scope (is.outermost code c.args.e) (next (output_of c.args.lowering.now))) _ _ _ _ _ _ _ _ _ _ c.in_ok-v.ensures (c.in_ok-promoted.ensures ∙ ap (λ z. as_int z _ _) c.type_of_numbered-from.ensures) c.counting.ensures c.counting-counting.ensures
+    (λ e. switched_does code _ _ _ (view_onward c.args.mode) (view_onward c.inside.result) (tree.section_trees (map tree.view_section c.args.all.now)) (output_of c.args.lowering.now) _ _ _ _ _ _ _ _ _ _ _ (value_in code.scope (is.outermost code c.args.e) (next (output_of c.args.lowering.now))) _ _ _ _ _ _ _ _ _ _ c.in_ok-v.ensures (c.in_ok-promoted.ensures ∙ ap (λ z. as_int z c.args.ty (view_expr c.in_ok-v.v)) c.type_of_numbered-from.ensures) c.counting.ensures c.counting-counting.ensures
     c.in_ok-value.ensures.number c.in_ok-value.ensures.output (c.number.ensures ∙ ap is.number c.otherwise.ensures) c.in_ok-chosen.ensures.output c.in_ok-choose_sections.ensures c.number-2.ensures c.in_ok-flag.ensures.number c.in_ok-flag.ensures.output
     c.begin-outer.ensures.outer c.begin-outer.ensures.output c.inside.ensures c.in_ok-sections.ensures c.in_ok-add.ensures c.end-inner.ensures.inner c.end-inner.ensures.output (same_stmt _ _ _ _ c.repeat.ensures c.in_ok-add-2.ensures) e)
     c.go_on_behind.ensures
