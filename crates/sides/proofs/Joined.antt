@@ -1,0 +1,17 @@
+-- What was added in several steps.
+use Rattle.std.proofs.Common.{◌≡◌, ◌∙◌, ap, sym, List, ◌++◌, append_assoc, Result, Ok, Err}
+use Rattle.std.specs.Result.{OnOk}
+
+-- what follows from what holds after a success holds too
+pub on_ok : {T E : Type 0} (r : Result T E) (P Q : Type 0) → (P → Q) → OnOk r P → OnOk r Q
+on_ok (Ok x) P Q f h = f h
+on_ok (Err e) P Q f h = h
+
+pub one : {X : Type 0} (new old xs whole : List X) → whole ≡ xs → new ≡ old ++ xs → new ≡ old ++ whole
+one new old xs whole w h = h ∙ ap (λ ys. old ++ ys) (sym w)
+
+pub two : {X : Type 0} (new mid old xs ys whole : List X) → whole ≡ xs ++ ys → mid ≡ old ++ xs → new ≡ mid ++ ys → new ≡ old ++ whole
+two new mid old xs ys whole w h k = k ∙ ap (λ zs. zs ++ ys) h ∙ append_assoc old xs ys ∙ ap (λ zs. old ++ zs) (sym w)
+
+pub three : {X : Type 0} (new late mid old xs ys zs whole : List X) → whole ≡ xs ++ (ys ++ zs) → mid ≡ old ++ xs → late ≡ mid ++ ys → new ≡ late ++ zs → new ≡ old ++ whole
+three new late mid old xs ys zs whole w h k l = two new mid old xs (ys ++ zs) whole w h (l ∙ ap (λ us. us ++ zs) k ∙ append_assoc mid ys zs)

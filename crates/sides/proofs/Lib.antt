@@ -1,0 +1,10 @@
+pub mod CallLemmas
+pub mod CarriedLemmas
+pub mod Joined
+pub mod LeafLemmas
+pub mod ListLemmas
+pub mod MovedLemmas
+pub mod PlaceLemmas
+pub mod TableLemmas
+pub mod UsageLemmas
+pub mod Worked

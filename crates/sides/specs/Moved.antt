@@ -1,0 +1,12 @@
+-- Slots so far behind others.
+use Rattle.std.specs.Prelude.{ℕ, ◌+◌, List, map}
+use Rattle.typed_tree.specs.ExpressionTree.{LinkTrees, link, no_links, link_and}
+use Rattle.sides.specs.Carried.{Scope, carried, linked_slots}
+
+abbrev pub moved : ℕ → List ℕ → List ℕ
+moved by slots = map (λ s. s + by) slots
+
+-- the links from a value that carries these, where what their operands carry is so far behind
+abbrev pub links_moved : Scope → ℕ → List ℕ → LinkTrees → List ℕ
+links_moved c by left no_links = left
+links_moved c by left (link_and (link s ty op a) rest) = links_moved c by (linked_slots left op (moved by (carried c a))) rest

@@ -1,0 +1,28 @@
+-- Parameters through which something comes back, as code sees them.
+use Rattle.std.specs.Prelude.{ℕ, ◌+◌, List, [], Option, None, Some, Bool, ◌||◌, if◌then◌else◌, map, slice_get, slice_index_or}
+use Rattle.std.specs.List.{filter, flat_map, range_with_len}
+use Rattle.pt_base.specs.declared.ids.FnId.{FnId}
+use Rattle.typed_tree.specs.TypedTree.{TypedTree}
+use Rattle.typed_tree.specs.Lookup.{function_at}
+use Rattle.sides.specs.declared.objects.Object.{Object}
+use Rattle.sides.specs.declared.seeds.Out.{Out}
+use Rattle.sides.specs.declared.slots.SlotInfo.{SlotInfo}
+use Rattle.sides.specs.Leaves.{leaf_count}
+use Rattle.sides.specs.Objects.{variable_objects}
+use Rattle.sides.specs.Seeds.{gives_back, seals_all}
+use Rattle.sides.specs.Slots.{no_slot}
+
+-- the leaf j comes back secret
+abbrev pub is_back : Bool → ℕ → List SlotInfo → ℕ → Bool
+is_back all first slots j = all || (slice_index_or slots (first + j) no_slot).marked
+
+abbrev pub out_at : TypedTree → Bool → Option Object → Option Out
+out_at t all None = None
+out_at t all (Some x) = Some (record { first = x.start; count = leaf_count t.structs x.ty; all = all })
+
+abbrev pub out_param : TypedTree → FnId → ℕ → Option Out
+out_param t g k = if gives_back (function_at t g) k then out_at t (seals_all (function_at t g) k) (slice_get (variable_objects t g.0) k) else None
+
+abbrev pub behind_out : List SlotInfo → Option Out → List ℕ → List ℕ
+behind_out slots None starts = []
+behind_out slots (Some out) starts = flat_map (λ start. map (λ j. start + j) (filter (is_back out.all out.first slots) (range_with_len 0 out.count))) starts

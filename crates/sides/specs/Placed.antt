@@ -1,0 +1,22 @@
+-- What `place` tells of a program.
+use Rattle.std.specs.Prelude.{◌≡◌}
+use Rattle.typed_tree.specs.TypedTree.{TypedTree}
+use Rattle.sides.specs.declared.calls.Half.TheVariants.{Slave}
+use Rattle.sides.specs.declared.halves.Sides.{Sides}
+use Rattle.sides.specs.Contexts.{InMonitor, InSlave, IsOwned}
+use Rattle.sides.specs.Layouts.{IsLayout}
+use Rattle.sides.specs.Reached.{IsReached}
+use Rattle.sides.specs.Seeds.{IsSeed}
+use Rattle.sides.specs.Slots.{slots_of}
+use Rattle.sides.specs.Sorted.{Lists}
+
+-- the halves of a program, its slots and its seeds
+pub record AreSides (t : TypedTree) (s : Sides) : Type 0 where
+  pub monitor : Lists (λ f. f.0) (InMonitor t) s.monitor
+  pub slave : Lists (λ f. f.0) (InSlave t) s.slave
+  pub owned : Lists (λ g. g.0) (IsOwned t) s.owned
+  pub slots : s.slots ≡ slots_of t
+  pub seeds : Lists (λ x. x.0) (IsSeed t) s.seeds
+  -- what makes both quick to ask
+  pub layout : IsLayout t s.layout
+  pub table : IsReached t Slave s.in_slave.items

@@ -1,0 +1,8 @@
+// The halves of a program.
+
+/// A half.
+#[derive(Clone, Copy)]
+pub enum Half {
+    Monitor,
+    Slave,
+}
