@@ -1,20 +1,20 @@
 -- The next step computes with no handle.
-use Rattle.std.proofs.Common.{◌≡◌, ◌∙◌, ℕ, zero, suc, refl, sym, subst, Bool, true, false, ◌||◌, ◌&&◌, not, List, [], ◌∷◌, Option, Some, None, Result, Ok, Err, inl, inr}
+use Rattle.std.proofs.Common.{◌≡◌, ◌∙◌, ℕ, suc, refl, sym, Bool, true, false, ◌&&◌, not, List, [], ◌∷◌, Option, Some, None, Result, Ok, Err, inl, inr}
 use Rattle.std.specs.Prelude.{◌⊎◌}
 use Rattle.block_memory.specs.declared.cell.Cell.{Cell}
 use Rattle.block_memory.specs.declared.cell.Cell.TheVariants as cell
 use Rattle.block_memory.specs.Blocks.{Blocks}
-use Rattle.pt_core.specs.CodeTree.{ExprTree, ExprTrees, no_exprs, expr_and, StmtTree, clear, check, assign, copy, call, choose, repeat, break_out, continue_on, give_back, StmtTrees, no_stmts, stmt_and, ProgramTree}
+use Rattle.pt_core.specs.CodeTree.{ExprTree, ExprTrees, no_exprs, expr_and, StmtTree, clear, check, assign, copy, call, choose, repeat, break_out, continue_on, give_back, no_stmts, stmt_and, ProgramTree}
 use Rattle.pt_core.specs.Values.{Stop, ◌>>?◌, value_of, values_of}
 use Rattle.pt_core.specs.Calls.{context_in}
-use Rattle.pt_core.specs.Steps.{Work, run, head, Active, Machine, Gate, Way, enters, here, away, settled}
+use Rattle.pt_core.specs.Steps.{Work, run, head, Active, Gate, Way, enters, here, away, settled}
 use Rattle.handle_classes.specs.Classes.{Class, World, scope_in, integer_class, class_of}
 use Rattle.handle_classes.specs.Judgment.{Flows, AreFineArguments, IsFineResult, IsFineStatement, IsFineProgram}
-use Rattle.handle_classes.specs.Invariant.{Fits, MemoryFits, IsFineWork, ResultFits, Fine, ActiveFit}
-use Rattle.handle_classes.specs.Computes.{is_sealed, is_handle, needs, meets, meet_any, has_handle, has_unmarked, computes_call, if_given, computes_status, computes_return, computes, computes_work, computes_in}
+use Rattle.handle_classes.specs.Invariant.{Fits, MemoryFits, IsFineWork, ResultFits, ActiveFit}
+use Rattle.handle_classes.specs.Computes.{is_sealed, is_handle, meet_any, has_handle, has_unmarked, computes_call, if_given, computes_return, computes, computes_work, computes_in}
 use Rattle.handle_classes.specs.Laws.{FitsIf, ValueFits, FitsGate, NoHandleIsComputedWith}
 use Rattle.handle_classes.proofs.Places.{or_false}
-use Rattle.handle_classes.proofs.Values.{Here, PlaceLies, values, places, plain_is_no_handle, pointer_is_no_handle}
+use Rattle.handle_classes.proofs.Values.{Here, values, places, plain_is_no_handle, pointer_is_no_handle}
 
 sealed_flows : (w : World) (active : List Active) (v k : Class) (c : Cell) → Flows v k → Fits w active v c → is_sealed c ≡ true → k.may 0 ≡ true
 sealed_flows w active v k (cell.Int n) flows f h = cc

@@ -1,10 +1,5 @@
 -- Parts of objects, and what pointers to them agree with.
-use Rattle.std.proofs.Common.{◌≡◌, ◌∙◌, ◌≤◌, ◌<◌, ℕ, zero, suc, ◌+◌, ◌*◌, pos, refl, ap, sym, subst, arith, Bool, true, false, ◌||◌, List, [], ◌∷◌, Result, Ok, Err, if◌then◌else◌, zero-add, add-zero, add_assoc}
-use Rattle.std.specs.Prelude.{nat_lt, nat_eq}
-use Rattle.std.proofs.lemmas.Bool.{ltb-true}
-use Rattle.typed_tree.specs.declared.types.VarTy.{VarTy}
-use Rattle.typed_tree.specs.declared.types.VarTy.TheVariants.{Int, Struct, Array, Pointer}
-use Rattle.typed_tree.specs.declared.types.StructInfo.{StructInfo}
+use Rattle.std.proofs.Common.{◌≡◌, ◌∙◌, ◌≤◌, ◌<◌, ℕ, zero, suc, ◌+◌, ◌*◌, refl, ap, sym, subst, arith, Bool, true, false, ◌||◌, List, [], ◌∷◌, zero-add, add-zero, add_assoc}
 use Rattle.pt_core.specs.Types.{Context, field_type, path_type}
 use Rattle.pt_core.specs.Values.{Location, along, field_at, offset_in}
 use Rattle.runs.specs.Pointers.{cell_at}

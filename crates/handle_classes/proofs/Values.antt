@@ -1,5 +1,5 @@
 -- The value of a fine expression is of its class, and nothing within it computes with a handle.
-use Rattle.std.proofs.Common.{◌≡◌, ◌∙◌, ◌≤◌, ◌<◌, ℕ, zero, suc, ◌+◌, ℤ, pos, refl, ap, sym, subst, arith, Bool, true, false, ◌||◌, ◌&&◌, not, List, [], ◌∷◌, Option, Some, None, Result, Ok, Err, if◌then◌else◌, add-zero}
+use Rattle.std.proofs.Common.{◌≡◌, ◌∙◌, ◌≤◌, ◌<◌, ℕ, ◌+◌, ℤ, refl, ap, sym, subst, Bool, true, false, ◌&&◌, not, List, [], ◌∷◌, Option, Some, None, Result, Ok, Err, if◌then◌else◌, add-zero}
 use Rattle.std.specs.Prelude.{nat_lt, nat_eq}
 use Rattle.std.proofs.lemmas.Bool.{ltb-true, eq-eqb}
 use Rattle.pt_base.specs.declared.span.Span.{Span}
@@ -9,22 +9,22 @@ use Rattle.pt_base.specs.declared.trap.Trap.TheVariants.{Bounds}
 use Rattle.typed_tree.specs.declared.types.VarTy.{VarTy}
 use Rattle.typed_tree.specs.declared.types.VarTy.TheVariants.{Int, Struct, Array, Pointer}
 use Rattle.typed_tree.specs.Sizes.{sizes_of, elem_cells, cells_by}
-use Rattle.runs.specs.Pointers.{Target, cell_at, reached, moved_index, at_index, moved, directed}
+use Rattle.runs.specs.Pointers.{cell_at, moved_index, at_index, moved, directed}
 use Rattle.block_memory.specs.declared.cell.Cell.{Cell}
 use Rattle.block_memory.specs.declared.cell.Cell.TheVariants as cell
 use Rattle.block_memory.specs.declared.cell.Pointer.TheVariants.{Null, At}
 use Rattle.block_memory.specs.declared.cell.BlockName.{BlockName}
-use Rattle.block_memory.specs.declared.cell.BlockName.TheVariants.{Local, Global, Received}
+use Rattle.block_memory.specs.declared.cell.BlockName.TheVariants.{Local, Global}
 use Rattle.block_memory.specs.Blocks.{Blocks}
 use Rattle.pt_core.specs.CodeTree.{RootTree, local, global, deref, PlaceTree, place, ExprTree, constant, read, unary, binary, convert, null, address, decay, move, compare, difference, ProgramTree}
 use Rattle.pt_core.specs.Types.{Context, type_of, place_type, root_type, element_of, path_type, pointee_type}
 use Rattle.pt_core.specs.Values.{Stop, ◌>>?◌, at_span, number_in, target_of, converted, is_type, numbered, pointed, told, Location, along, pointee, decayed, cell_in, value_of, location_of, root_location}
 use Rattle.pt_core.specs.Calls.{context_in}
 use Rattle.pt_core.specs.Steps.{Active}
-use Rattle.handle_classes.specs.Classes.{Class, World, Scope, scope_in, integer_class, part, pointer_to, pointed_to, converted_class, path_offset, along_class, element_cells, class_of, place_class, root_class}
+use Rattle.handle_classes.specs.Classes.{Class, World, scope_in, part, pointer_to, pointed_to, converted_class, path_offset, along_class, class_of, place_class, root_class}
 use Rattle.handle_classes.specs.Judgment.{IsPlain, HasElements, IsAnArray, IsWithin, IsFine, IsFinePlace, IsFineRoot, IsFineProgram}
 use Rattle.handle_classes.specs.Invariant.{Agrees, Fits, MayLie, MemoryFits, block_class, local_class}
-use Rattle.handle_classes.specs.Computes.{is_handle, meets, meets_at, meets_root, needs}
+use Rattle.handle_classes.specs.Computes.{is_handle, meets_at, meets_root, needs}
 use Rattle.handle_classes.specs.Laws.{FitsIf, ValueFits, ValuesFit}
 use Rattle.handle_classes.proofs.Places.{or_false, IsPart, whole_part, part_of_part, element_part, address_agrees, decay_agrees, Led, led}
 
@@ -108,7 +108,7 @@ local_lies program w a rest blocks fine mem v ty =
     record {
       typed = refl;
       object = λ h. subst (λ k. IsPart (w.variable a.function v) k 0) (sym (same_depth a.depth (w.variable a.function v) (local_class w rest a.depth v)))
-      (whole_part (w.variable a.function v) h (λ n must. fine.variables a.function v n h must));
+          (whole_part (w.variable a.function v) h (λ n must. fine.variables a.function v n h must));
       pointer = mem.pointers.0 v;
     }
 
@@ -162,7 +162,7 @@ inner_lies w active blocks context c ty (k ∷ ks) at room lies =
     record {
       typed = way.ty ∙ ap (λ t. path_type context.structs t (k ∷ ks)) lies.typed;
       object = λ h. subst (λ b. IsPart (part off size c) (block_class w active b) (along context (k ∷ ks) at).cell) (sym way.block)
-      (subst (λ n. IsPart (part off size c) (block_class w active at.block) n) (sym (way.cell ∙ ap (λ t. at.cell + path_offset context.structs t (k ∷ ks)) lies.typed)) inside);
+          (subst (λ n. IsPart (part off size c) (block_class w active at.block) n) (sym (way.cell ∙ ap (λ t. at.cell + path_offset context.structs t (k ∷ ks)) lies.typed)) inside);
       pointer = λ h. cc;
     }
 
@@ -256,7 +256,7 @@ mutual
       let right : ValueFits program w a rest blocks y = values program w a rest blocks here y fine.1 in
       record {
         fits = bound_cell w (a ∷ rest) (class_of (scope_in program w a.function) x) _ (value_of (context_in program a.function) a.depth x blocks) _ left.fits
-        (λ v f. bound w (a ∷ rest) _ (value_of (context_in program a.function) a.depth y blocks) _ (λ u. moved_fits w (a ∷ rest) (class_of (scope_in program w a.function) x) span (directed back (number_in u)) v f));
+            (λ v f. bound w (a ∷ rest) _ (value_of (context_in program a.function) a.depth y blocks) _ (λ u. moved_fits w (a ∷ rest) (class_of (scope_in program w a.function) x) span (directed back (number_in u)) v f));
         unmet = or_false _ _ (pointer_unneeded program w a rest blocks x fine.2 left) (unneeded program w a rest blocks y fine.3 right);
       }
   values program w a rest blocks here (compare op x y span) fine =
@@ -289,7 +289,7 @@ mutual
       let of : ValueFits program w a rest blocks p = values program w a rest blocks here p fine.0 in
       record {
         lies = bound_lies w (a ∷ rest) blocks (class_of (scope_in program w a.function) p) _ _ (value_of (context_in program a.function) a.depth p blocks) _ of.fits
-        (λ v f. pointee_lies w (a ∷ rest) blocks (context_in program a.function) (class_of (scope_in program w a.function) p) span (type_of (context_in program a.function) p) v fine.1 fine.2 f);
+            (λ v f. pointee_lies w (a ∷ rest) blocks (context_in program a.function) (class_of (scope_in program w a.function) p) span (type_of (context_in program a.function) p) v fine.1 fine.2 f);
         unmet = pointer_unneeded program w a rest blocks p fine.1 of;
       }
 

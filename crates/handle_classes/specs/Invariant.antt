@@ -1,6 +1,6 @@
 -- What one step keeps: each handle lies where the classes say that one may, each pointer points to what
 -- its class says, and what is left to do is fine.
-use Rattle.std.specs.Prelude.{◌≡◌, ◌<◌, ◌+◌, ℕ, pos, Bool, true, false, List, [], ◌∷◌, Option, Some, None, if◌then◌else◌, nat_eq, slice_index_or}
+use Rattle.std.specs.Prelude.{◌≡◌, ◌<◌, ◌+◌, ℕ, pos, true, false, List, [], ◌∷◌, Option, Some, None, if◌then◌else◌, nat_eq, slice_index_or}
 use Rattle.block_memory.specs.declared.cell.Cell.{Cell}
 use Rattle.block_memory.specs.declared.cell.Cell.TheVariants.{Int, Ptr, Sealed}
 use Rattle.block_memory.specs.declared.cell.Pointer.TheVariants.{Null, At}
