@@ -1,6 +1,5 @@
 -- The definitions tried: one local holds a handle, and another a number.
-use Rattle.std.proofs.Common.{◌≡◌, ℕ, pos, refl, true, false, List, [], ◌∷◌}
-use Rattle.pt_base.specs.declared.span.Span.{Span}
+use Rattle.std.proofs.Common.{◌≡◌, ℕ, pos, refl, true, false, [], ◌∷◌}
 use Rattle.pt_base.specs.declared.int_type.IntType.TheVariants as i
 use Rattle.pt_int.specs.declared.operator.UnOp.TheVariants.{Minus}
 use Rattle.typed_tree.specs.declared.types.VarTy.TheVariants as ty
