@@ -1,19 +1,20 @@
 -- What comes from outside keeps the invariant.
-use Rattle.std.proofs.Common.{◌≡◌, ℕ, zero, suc, ℤ, pos, refl, sym, subst, Bool, false, List, [], ◌∷◌, Option, Some, None, map, get_or}
+use Rattle.std.proofs.Common.{◌≡◌, ◌<◌, ◌+◌, ℕ, zero, suc, ℤ, pos, refl, subst, true, List, [], ◌∷◌, Option, Some, None, map, get_or}
 use Rattle.typed_tree.specs.declared.types.StructInfo.{StructInfo}
 use Rattle.typed_tree.specs.Cells.{leaves_of}
 use Rattle.block_memory.specs.declared.cell.Cell.{Cell}
-use Rattle.block_memory.specs.declared.cell.Cell.TheVariants.{Int}
-use Rattle.block_memory.specs.declared.cell.BlockName.TheVariants.{Local, Global, Received}
-use Rattle.block_memory.specs.declared.cell.BlockName.{BlockName}
+use Rattle.block_memory.specs.declared.cell.Cell.TheVariants.{Int, Ptr, Sealed}
+use Rattle.block_memory.specs.declared.cell.BlockName.TheVariants.{Global}
 use Rattle.block_memory.specs.Block.{Block}
 use Rattle.block_memory.specs.Blocks.{Blocks, no_blocks, put}
+use Rattle.runs.specs.Pointers.{cell_at}
 use Rattle.pt_core.specs.CodeTree.{GlobalTree, ProgramTree}
 use Rattle.pt_core.specs.CoreRun.{with_globals}
-use Rattle.pt_core.specs.Steps.{Active, Awaited, Machine, just_entered, resumed_in}
-use Rattle.handle_classes.specs.Classes.{World}
-use Rattle.handle_classes.specs.Invariant.{MemoryFits, ActiveFit, AwaitedFits, Fine}
-use Rattle.handle_classes.specs.Laws.{MayResume, RestIsFine, StartsKeepFine, ResumesKeepFine, WritesKeepFine}
+use Rattle.pt_core.specs.Steps.{Active, Awaited, just_entered, resumed_in}
+use Rattle.handle_classes.specs.Classes.{Class, World, pointed_to}
+use Rattle.handle_classes.specs.Invariant.{block_class, Agrees, MayLie, cell_of, MemoryFits, ActiveFit, AwaitedFits}
+use Rattle.handle_classes.specs.Computes.{is_sealed}
+use Rattle.handle_classes.specs.Laws.{MayResume, RestIsFine, StartsKeepFine, ResumesKeepFine, WritesKeepFine, CellsBehindFit}
 use Rattle.handle_classes.proofs.Memory.{IsFresh, fresh_put, takes_object, memory_written, entered_fits}
 use Rattle.handle_classes.proofs.StepKeeps.{descends, none_awaited, kept_fits}
 
@@ -62,3 +63,24 @@ writes_keep_fine program w block n v m fine object may = record {
   active = fine.active;
   awaited = fine.awaited;
 }
+
+-- ---- behind a pointer
+
+behind_lies : (c of : Class) (base count i n : ℕ) (v : Cell) → Agrees c of base count → i < count → n < c.size → MayLie of (cell_at c.size base i + n) v → MayLie (pointed_to c) n v
+behind_lies c of base count i n (Int z) agrees less small m = tt {0}
+behind_lies c of base count i n (Ptr p) agrees less small m = tt {0}
+behind_lies c of base count i n (Sealed h) agrees less small m = (refl, agrees.may i n less small m.1)
+
+behind_takes : (c of : Class) (base count i n : ℕ) (v : Cell) → Agrees c of base count → i < count → n < c.size → (is_sealed v ≡ true → c.must n ≡ true) → MayLie of (cell_at c.size base i + n) v
+behind_takes c of base count i n (Int z) agrees less small must = tt {0}
+behind_takes c of base count i n (Ptr p) agrees less small must = tt {0}
+behind_takes c of base count i n (Sealed h) agrees less small must = (agrees.object, agrees.must i n less small (must refl))
+
+pub cells_behind_fit : CellsBehindFit
+cells_behind_fit program w m c block base count index i n fine fits p less small =
+    let of : Class = block_class w m.active block in
+    let agrees : Agrees c of base count = fits p in
+    record {
+      lies = behind_lies c of base count i n (cell_of m.blocks block (cell_at c.size base i + n)) agrees less small (fine.memory.handles block (cell_at c.size base i + n));
+      takes = λ v must. writes_keep_fine program w block (cell_at c.size base i + n) v m fine agrees.object (behind_takes c of base count i n v agrees less small must);
+    }

@@ -1,16 +1,19 @@
 -- Code that is fine never computes with a handle: it holds of the next step where the invariant does, and
 -- a step keeps the invariant, as does what comes from outside.
-use Rattle.std.specs.Prelude.{◌≡◌, ℕ, Bool, true, false, List, [], ◌∷◌, Option, Some, None, Result, Ok, Err, ◌⊎◌}
+use Rattle.std.specs.Prelude.{◌≡◌, ◌<◌, ◌+◌, ℕ, Bool, true, false, List, [], ◌∷◌, Option, Some, None, Result, Ok, Err, ◌⊎◌}
 use Rattle.block_memory.specs.declared.cell.Cell.{Cell}
+use Rattle.block_memory.specs.declared.cell.Cell.TheVariants.{Ptr}
+use Rattle.block_memory.specs.declared.cell.Pointer.TheVariants.{At}
 use Rattle.block_memory.specs.declared.cell.BlockName.{BlockName}
 use Rattle.block_memory.specs.Blocks.{Blocks}
+use Rattle.runs.specs.Pointers.{cell_at}
 use Rattle.pt_core.specs.CodeTree.{ExprTree, ProgramTree}
 use Rattle.pt_core.specs.Values.{Stop, value_of, written}
 use Rattle.pt_core.specs.Calls.{context_in}
 use Rattle.pt_core.specs.Steps.{Active, Awaited, Machine, Gate, enters, here, Answer, moved, asked, ended, trapped, spent, idle, Step, with_blocks, step, at_rest, started, resumed}
-use Rattle.handle_classes.specs.Classes.{Class, World, scope_in, class_of}
+use Rattle.handle_classes.specs.Classes.{Class, World, scope_in, pointed_to, class_of}
 use Rattle.handle_classes.specs.Judgment.{IsFine, Flows, IsFineProgram}
-use Rattle.handle_classes.specs.Invariant.{block_class, Fits, AllFit, MayLie, MemoryFits, Fine}
+use Rattle.handle_classes.specs.Invariant.{block_class, Fits, AllFit, MayLie, cell_of, MemoryFits, Fine}
 use Rattle.handle_classes.specs.Computes.{is_sealed, has_handle, meets, computes_next}
 
 -- ---- expressions and places
@@ -98,3 +101,15 @@ abbrev pub WritesKeepFine : Type 0
 WritesKeepFine = (program : ProgramTree) (w : World) (block : BlockName) (n : ℕ) (v : Cell) (m : Machine) →
     Fine program w m → (block_class w m.active block).pointer ≡ false → MayLie (block_class w m.active block) n v →
     Fine program w (with_blocks (written m.blocks block n v) m)
+
+-- A cell of an element to which a pointer of this class points: a handle lies there only where one may by the
+-- class, and one may be written where one must be able to lie.
+pub record BehindFits (program : ProgramTree) (w : World) (m : Machine) (c : Class) (block : BlockName) (at n : ℕ) : Type 0 where
+  pub lies : MayLie (pointed_to c) n (cell_of m.blocks block at)
+  pub takes : (v : Cell) → (is_sealed v ≡ true → c.must n ≡ true) → Fine program w (with_blocks (written m.blocks block at v) m)
+
+-- so it is with what goes along with a call and comes back, behind each argument
+abbrev pub CellsBehindFit : Type 0
+CellsBehindFit = (program : ProgramTree) (w : World) (m : Machine) (c : Class) (block : BlockName) (base count index i n : ℕ) →
+    Fine program w m → Fits w m.active c (Ptr (At block base count index)) → c.pointer ≡ true → i < count → n < c.size →
+    BehindFits program w m c block (cell_at c.size base i + n) n

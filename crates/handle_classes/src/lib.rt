@@ -3,7 +3,7 @@
 //! a machine's state, which a step keeps.
 #![tactic(auto)]
 
-ghost use Rattle.handle_classes.specs.Laws.{ValuesFit, NoHandleIsComputedWith, StepsKeepFine, RestIsFine, StartsKeepFine, ResumesKeepFine, WritesKeepFine};
+ghost use Rattle.handle_classes.specs.Laws.{ValuesFit, NoHandleIsComputedWith, StepsKeepFine, RestIsFine, StartsKeepFine, ResumesKeepFine, WritesKeepFine, CellsBehindFit};
 
 /// Where the invariant holds of memory, a fine expression has a value of its class, and nothing
 /// within it computes with a handle.
@@ -43,4 +43,10 @@ pub fn resumes_keep_fine()
 /// may lie.
 pub fn writes_keep_fine()
     ensures { WritesKeepFine }
+{}
+
+/// Behind a pointer a handle lies only where one may by the pointer's class, and a handle that is
+/// written where one must be able to lie keeps the invariant.
+pub fn cells_behind_fit()
+    ensures { CellsBehindFit }
 {}
