@@ -158,6 +158,7 @@ entered_class w a rest below (Local d v) h = go (nat_eq d a.depth) refl
   where
     none : nat_eq d a.depth ≡ true → true ≡ false
     none e = sym (ap (λ (c : Class). c.pointer) (not_live w rest a.depth d v below (same_at_least d a.depth e))) ∙ h
+
     go : (b : Bool) → nat_eq d a.depth ≡ b → (if b then w.variable a.function v else local_class w rest d v) ≡ local_class w rest d v
     go true e = let no : true ≡ false = none e in cc
     go false e = refl
@@ -183,6 +184,7 @@ written_keeps P blocks block n v here others other k = go (is_same_name block ot
     in_it : ((n ≡ k) × (get_or (set (blocks block).cells n v) k (Int (pos 0)) ≡ v)) ⊎ (get_or (set (blocks block).cells n v) k (Int (pos 0)) ≡ cell_of blocks block k) → P block k (get_or (set (blocks block).cells n v) k (Int (pos 0)))
     in_it (inl h) = subst (P block k) (sym h.1) (subst (λ i. P block i v) h.0 here)
     in_it (inr h) = subst (P block k) (sym h) (others block k)
+
     go : (b : Bool) → is_same_name block other ≡ b → P other k (get_or (if b then with_cell (blocks block) n v else blocks other).cells k (Int (pos 0)))
     go true e = subst (λ o. P o k (get_or (set (blocks block).cells n v) k (Int (pos 0)))) (same_name block other e) (in_it (set_or_not (blocks block).cells n k v (Int (pos 0))))
     go false e = others other k
@@ -198,6 +200,7 @@ pointers_written w (a ∷ rest) blocks block n v takes fit = (head, pointers_wri
   where
     old : (x : ℕ) → (w.variable a.function x).pointer ≡ true → (other : BlockName) (k : ℕ) → other ≡ Local a.depth x → k ≡ 0 → Fits w (a ∷ rest) (w.variable a.function x) (cell_of blocks other k)
     old x p other k same first = subst (λ i. Fits w (a ∷ rest) (w.variable a.function x) (cell_of blocks other i)) (sym first) (subst (λ o. Fits w (a ∷ rest) (w.variable a.function x) (cell_of blocks o 0)) (sym same) (fit.0 x p))
+
     head : (x : ℕ) → (w.variable a.function x).pointer ≡ true → Fits w (a ∷ rest) (w.variable a.function x) (cell_of (written blocks block n v) (Local a.depth x) 0)
     head x p = written_keeps (λ other k c. other ≡ Local a.depth x → k ≡ 0 → Fits w (a ∷ rest) (w.variable a.function x) c) blocks block n v (λ same first. takes.0 x p same) (old x p) (Local a.depth x) 0 refl refl
 
@@ -304,12 +307,15 @@ frame_fits w a rest blocks shapes below mem = record {
     lie_in : (d v n : ℕ) (b : Bool) → MayLie (if b then w.variable a.function v else local_class w rest d v) n (get_or (if b then get_or (map fresh shapes) v no_block else blocks (Local d v)).cells n (Int (pos 0)))
     lie_in d v n true = fresh_lies (w.variable a.function v) n _ (fresh_frame shapes v n)
     lie_in d v n false = mem.handles (Local d v) n
+
     lie : (block : BlockName) (n : ℕ) → MayLie (block_class w (a ∷ rest) block) n (cell_of (with_frame blocks a.depth shapes) block n)
     lie (Local d v) n = lie_in d v n (nat_eq d a.depth)
     lie (Global g) n = mem.handles (Global g) n
     lie (Received g) n = mem.handles (Received g) n
+
     frame_here : (v : ℕ) → with_frame blocks a.depth shapes (Local a.depth v) ≡ get_or (map fresh shapes) v no_block
     frame_here v = ap (λ (b : Bool). if b then get_or (map fresh shapes) v no_block else blocks (Local a.depth v)) (eq-eqb a.depth a.depth refl)
+
     frame_below : (d v : ℕ) → d < a.depth → with_frame blocks a.depth shapes (Local d v) ≡ blocks (Local d v)
     frame_below d v less = ap (λ (b : Bool). if b then get_or (map fresh shapes) v no_block else blocks (Local d v)) (below_apart d a.depth less)
 
@@ -335,9 +341,11 @@ left_fits w a rest blocks below mem = record { handles = lie; pointers = pointer
     lie_in : (d v n : ℕ) (b : Bool) → nat_lt d a.depth ≡ b → MayLie (local_class w rest d v) n (get_or (if b then blocks (Local d v) else no_block).cells n (Int (pos 0)))
     lie_in d v n true e = subst (λ (b : Bool). MayLie (if b then w.variable a.function v else local_class w rest d v) n (cell_of blocks (Local d v) n)) (less_apart d a.depth e) (mem.handles (Local d v) n)
     lie_in d v n false e = tt {0}
+
     lie : (block : BlockName) (n : ℕ) → MayLie (block_class w rest block) n (cell_of (without_frames blocks a.depth) block n)
     lie (Local d v) n = lie_in d v n (nat_lt d a.depth) refl
     lie (Global g) n = mem.handles (Global g) n
     lie (Received g) n = mem.handles (Received g) n
+
     kept_below : (d v : ℕ) → d < a.depth → without_frames blocks a.depth (Local d v) ≡ blocks (Local d v)
     kept_below d v less = ap (λ (b : Bool). if b then blocks (Local d v) else no_block) (less_is d a.depth less)

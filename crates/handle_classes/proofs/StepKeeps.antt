@@ -1,10 +1,9 @@
 -- A step keeps the invariant.
-use Rattle.std.proofs.Common.{◌≡◌, ◌∙◌, ◌+◌, ◌<◌, ◌≤◌, ℕ, ℤ, pos, refl, sym, subst, arith, Bool, true, false, List, [], ◌∷◌, Option, Some, None, Result, Ok, Err, map, if◌then◌else◌, nat_lt, nat_le, ◌||◌}
+use Rattle.std.proofs.Common.{◌≡◌, ◌∙◌, ◌+◌, ◌<◌, ℕ, ℤ, pos, refl, sym, subst, arith, Bool, true, false, List, [], ◌∷◌, Option, Some, None, Result, Ok, Err, map, if◌then◌else◌, nat_lt, nat_le, ◌||◌}
 use Rattle.pt_base.specs.declared.int_type.IntType.{IntType}
 use Rattle.pt_base.specs.declared.span.Span.{Span}
 use Rattle.pt_base.specs.declared.trap.Trap.TheVariants.{Depth}
 use Rattle.runs.specs.Run.{deepest}
-use Rattle.typed_tree.specs.Sizes.{sizes_of, cells_by}
 use Rattle.block_memory.specs.declared.cell.Cell.{Cell}
 use Rattle.block_memory.specs.declared.cell.Cell.TheVariants as cell
 use Rattle.block_memory.specs.declared.cell.Pointer.TheVariants.{Null, At}
@@ -16,7 +15,7 @@ use Rattle.pt_core.specs.Types.{type_at, shape_of}
 use Rattle.pt_core.specs.Values.{Stop, ◌>>?◌, holds_in, number_in, value_of, values_of, location_of}
 use Rattle.pt_core.specs.Statements.{cleared, kept, assigned, copied, returned_value}
 use Rattle.pt_core.specs.Calls.{signature_in, function_in, context_in, entered, number_cell}
-use Rattle.pt_core.specs.Steps.{Work, run, head, Active, Awaited, Machine, Gate, Way, enters, here, away, moved, asked, trapped, spent, Step, answers, settled, past_loop, at_head, working, with_blocks, with_turn, turned, on_value, returned, at_end, is_active, just_entered, begins, enters_at, made, made_here, awaiting, goes_away, by_way, act, works, stepped}
+use Rattle.pt_core.specs.Steps.{Work, run, head, Active, Awaited, Machine, Gate, Way, enters, here, away, moved, asked, trapped, spent, Step, answers, settled, past_loop, at_head, working, with_blocks, with_turn, turned, on_value, returned, at_end, just_entered, begins, enters_at, made, made_here, awaiting, goes_away, by_way, act, works, stepped}
 use Rattle.handle_classes.specs.Classes.{Class, World, scope_in, integer_class, class_of}
 use Rattle.handle_classes.specs.Judgment.{Flows, TakesResult, IsFineResult, IsFineStatement, AreFineStatements, IsFineProgram}
 use Rattle.handle_classes.specs.Invariant.{Fits, AllFit, MemoryFits, IsFineWork, ResultFits, AreBelow, ActiveFit, AwaitedFits, Fine}
@@ -192,8 +191,8 @@ enters_keeps : {G : Type 0} (program : ProgramTree) (w : World) (gate : Gate G) 
 enters_keeps {G} program w gate m g a rest s f vs result work c params = go (nat_le (a.depth + 1) deepest)
   where
     go : (b : Bool) → StaysFine program w (if b then
-      turned (working m a rest work) g (λ m1. answers moved (entry program (a.privileged || (signature_in program f).privileged) f vs result (a.depth + 1) m1) (gate.noted a.privileged f vs g))
-      else answers (trapped Depth s) (working m a rest work) g)
+        turned (working m a rest work) g (λ m1. answers moved (entry program (a.privileged || (signature_in program f).privileged) f vs result (a.depth + 1) m1) (gate.noted a.privileged f vs g))
+        else answers (trapped Depth s) (working m a rest work) g)
     go true = turn_keeps program w (working m a rest work) g (λ m1. answers moved (entry program (a.privileged || (signature_in program f).privileged) f vs result (a.depth + 1) m1) (gate.noted a.privileged f vs g))
         (calling_fine program w m a rest f vs result work c) c.before.none
         (entry_keeps program w m (gate.noted a.privileged f vs g) a rest f vs result work (a.privileged || (signature_in program f).privileged) c params)
@@ -227,8 +226,8 @@ away_keeps : {G : Type 0} (program : ProgramTree) (w : World) (m : Machine) (g :
 away_keeps program w m g a rest s f vs result work c = go (signature_in program f).host (nat_le (a.depth + 1) deepest)
   where
     go : (host fits : Bool) → StaysFine program w (if host then answers (asked f vs 0) (awaiting f result (working m a rest work)) g
-      else (if fits then answers (asked f vs (a.depth + 1)) (awaiting f result (working m a rest work)) g
-      else answers (trapped Depth s) (working m a rest work) g))
+        else (if fits then answers (asked f vs (a.depth + 1)) (awaiting f result (working m a rest work)) g
+        else answers (trapped Depth s) (working m a rest work) g))
     go true fits = asked_keeps program w m g a rest f 0 vs result work c
     go false true = asked_keeps program w m g a rest f (a.depth + 1) vs result work c
     go false false = record { fine = calling_fine program w m a rest f vs result work c; answer = c.before.none }

@@ -1,5 +1,5 @@
 -- What an assignment and a copy store keeps the memory fitting.
-use Rattle.std.proofs.Common.{◌≡◌, ◌∙◌, ◌+◌, ◌≤◌, ◌<◌, ℕ, zero, suc, pos, refl, ap, sym, subst, arith, Bool, true, false, List, [], ◌∷◌, Result, Ok, Err, take, drop, get_or, add-zero}
+use Rattle.std.proofs.Common.{◌≡◌, ◌∙◌, ◌+◌, ◌<◌, ℕ, zero, suc, pos, refl, sym, subst, arith, Bool, true, false, List, [], ◌∷◌, Result, Ok, Err, take, drop, get_or, add-zero}
 use Rattle.std.proofs.lemmas.List.{get_or-drop}
 use Rattle.typed_tree.specs.declared.types.VarTy.{VarTy}
 use Rattle.typed_tree.specs.Sizes.{sizes_of, cells_by}
@@ -15,10 +15,10 @@ use Rattle.pt_core.specs.Calls.{context_in}
 use Rattle.pt_core.specs.Steps.{Active}
 use Rattle.handle_classes.specs.Classes.{Class, World, scope_in, class_of, place_class}
 use Rattle.handle_classes.specs.Judgment.{Flows, Goes, Copies, IsFine, IsFinePlace, IsFineProgram}
-use Rattle.handle_classes.specs.Invariant.{block_class, Fits, MayLie, cell_of, MemoryFits}
+use Rattle.handle_classes.specs.Invariant.{block_class, Fits, MayLie, MemoryFits}
 use Rattle.handle_classes.specs.Laws.{FitsIf, ValueFits}
 use Rattle.handle_classes.proofs.Places.{IsPart, less_trans}
-use Rattle.handle_classes.proofs.Values.{Lies, LiesIf, PlaceLies, Here, values, places}
+use Rattle.handle_classes.proofs.Values.{LiesIf, Here, values, places}
 use Rattle.handle_classes.proofs.Memory.{count_on, flows_fit, AreDescending, takes_object, memory_written, local_written, AllLie, object_written}
 
 abbrev pub MemoryFitsIf : World → List Active → Result Blocks Stop → Type 0
@@ -60,9 +60,11 @@ assigned_fits program w a rest blocks at down p e fine judged goes = go (place_c
   where
     known : ValueFits program w a rest blocks e
     known = values program w a rest blocks at e judged
+
     to_local : (x : ℕ) → p ≡ place (local x) [] → Flows (class_of (scope_in program w a.function) e) (place_class (scope_in program w a.function) p) → MemoryFitsIf w (a ∷ rest) (assigned (context_in program a.function) a.depth p e blocks)
     to_local x same flows = subst (λ q. MemoryFitsIf w (a ∷ rest) (assigned (context_in program a.function) a.depth q e blocks)) (sym same)
         (pointer_assigned w a rest blocks (class_of (scope_in program w a.function) e) x (value_of (context_in program a.function) a.depth e blocks) down at.1 (subst (λ q. Flows (class_of (scope_in program w a.function) e) (place_class (scope_in program w a.function) q)) same flows) known.fits)
+
     go : (b : Bool) → (place_class (scope_in program w a.function) p).pointer ≡ b → MemoryFitsIf w (a ∷ rest) (assigned (context_in program a.function) a.depth p e blocks)
     go true h = let found : (x : ℕ) × (p ≡ place (local x) []) = pointer_place program w a.function p at.0 h in to_local found.0 found.1 (goes.flows h)
     go false h = object_assigned w (a ∷ rest) blocks (class_of (scope_in program w a.function) e) (place_class (scope_in program w a.function) p) (place_type (context_in program a.function) p) (location_of (context_in program a.function) a.depth p blocks)

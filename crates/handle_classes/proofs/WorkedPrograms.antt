@@ -13,11 +13,10 @@ use Rattle.pt_tree.specs.declared.signature.ParamKind.TheVariants as k
 use Rattle.pt_tree.specs.declared.signature.Signature.{Signature}
 use Rattle.typed_tree.specs.declared.types.VarTy.{VarTy}
 use Rattle.typed_tree.specs.declared.types.VarTy.TheVariants as ty
-use Rattle.typed_tree.specs.declared.types.Field.{Field}
 use Rattle.typed_tree.specs.declared.types.StructInfo.{StructInfo}
 use Rattle.typed_tree.specs.declared.variable.Var.{Var}
 use Rattle.typed_tree.specs.Cells as cells
-use Rattle.pt_core.specs.CodeTree.{local, deref, PlaceTree, place, ExprTree, constant, read, binary, address, no_exprs, expr_and, StmtTree, assign, call, choose, give_back, no_stmts, stmt_and, stmt_trees, FunctionTree, ProgramTree}
+use Rattle.pt_core.specs.CodeTree.{local, deref, PlaceTree, place, ExprTree, constant, read, binary, address, no_exprs, expr_and, StmtTree, assign, call, choose, give_back, no_stmts, stmt_trees, FunctionTree, ProgramTree}
 use Rattle.pt_core.specs.Calls.{no_function, function_in}
 use Rattle.pt_core.specs.WellFormed.{is_well_formed}
 use Rattle.handle_classes.specs.Classes.{Class, World, scope_in, integer_class}
@@ -108,9 +107,12 @@ signer_world = record { variable = λ f v. integer (nat_eq v 0); global = λ g. 
 
 signer_main_fine : AreFineStatements signer_world (scope_in signer signer_world 3) 3 signer_main.body
 signer_main_fine = (
-  (tt {0}, integers_flow _ _ refl refl (λ h. refl)), (
-    ((((tt {0}, tt {0}), λ h. one_cell), integers_flow _ _ refl refl (λ h. refl), tt {0}), integers_flow _ _ refl refl (λ h. cc)), (
-      (((((tt {0}, tt {0}), λ h. one_cell), tt {0}, record { integer = refl; number = refl }, record { integer = refl; number = refl }), integers_flow _ _ refl refl (λ h. cc), tt {0}), tt {0}), (
+  (tt {0}, integers_flow _ _ refl refl (λ h. refl)),
+  (
+    ((((tt {0}, tt {0}), λ h. one_cell), integers_flow _ _ refl refl (λ h. refl), tt {0}), integers_flow _ _ refl refl (λ h. cc)),
+    (
+      (((((tt {0}, tt {0}), λ h. one_cell), tt {0}, record { integer = refl; number = refl }, record { integer = refl; number = refl }), integers_flow _ _ refl refl (λ h. cc), tt {0}), tt {0}),
+      (
         (tt {0}, integers_flow _ _ refl refl (λ h. cc)),
         tt {0},
       ),
@@ -186,7 +188,8 @@ whole_pair = omega arith
 
 use_fine : AreFineStatements pair_world (scope_in paired pair_world 2) 2 use_code.body
 use_fine = (
-  (((((((tt {0}, tt {0}), λ h. two_cells), refl, refl), (refl, within_pair)), λ h. one_cell), integers_flow _ _ refl refl (λ h. refl), tt {0}), integers_flow _ _ refl refl (λ h. cc)), (
+  (((((((tt {0}, tt {0}), λ h. two_cells), refl, refl), (refl, within_pair)), λ h. one_cell), integers_flow _ _ refl refl (λ h. refl), tt {0}), integers_flow _ _ refl refl (λ h. cc)),
+  (
     (((tt {0}, tt {0}), λ h. one_cell), integers_flow _ _ refl refl (λ h. cc)),
     tt {0},
   ),
@@ -194,10 +197,14 @@ use_fine = (
 
 pair_main_fine : AreFineStatements pair_world (scope_in paired pair_world 3) 3 pair_main.body
 pair_main_fine = (
-  (tt {0}, integers_flow _ _ refl refl (λ h. refl)), (
-    ((tt {0}, (refl, within_pair)), ((tt {0}, tt {0}), λ h. one_cell), integer_goes _ _ refl refl one_cell (λ h. refl)), (
-      ((tt {0}, (refl, first_in_pair)), tt {0}, integer_goes _ _ refl refl one_cell (λ h. cc)), (
-        ((((tt {0}, tt {0}), refl, whole_pair), record { kind = refl; first = λ h p. p; size = λ h. refl; may = λ h n less m. m; must = λ h n less m. m }, tt {0}), integers_flow _ _ refl refl (λ h. cc)), (
+  (tt {0}, integers_flow _ _ refl refl (λ h. refl)),
+  (
+    ((tt {0}, (refl, within_pair)), ((tt {0}, tt {0}), λ h. one_cell), integer_goes _ _ refl refl one_cell (λ h. refl)),
+    (
+      ((tt {0}, (refl, first_in_pair)), tt {0}, integer_goes _ _ refl refl one_cell (λ h. cc)),
+      (
+        ((((tt {0}, tt {0}), refl, whole_pair), record { kind = refl; first = λ h p. p; size = λ h. refl; may = λ h n less m. m; must = λ h n less m. m }, tt {0}), integers_flow _ _ refl refl (λ h. cc)),
+        (
           (((tt {0}, tt {0}), λ h. one_cell), integers_flow _ _ refl refl (λ h. cc)),
           tt {0},
         ),
