@@ -23,7 +23,8 @@ fresh_cells [] n = tt {0}
 fresh_cells (v ∷ vs) zero = tt {0}
 fresh_cells (v ∷ vs) (suc n) = fresh_cells vs n
 
-globals_fit : (w : World) (active : List Active) (structs : List StructInfo) (blocks : Blocks) (gs : List GlobalTree) → MemoryFits w active blocks → MemoryFits w active (with_globals structs blocks gs)
+globals_fit : (w : World) (active : List Active) (structs : List StructInfo) (blocks : Blocks) (gs : List GlobalTree) → MemoryFits w active blocks →
+    MemoryFits w active (with_globals structs blocks gs)
 globals_fit w active structs blocks [] mem = mem
 globals_fit w active structs blocks (g ∷ gs) mem =
     let block : Block = record { types = leaves_of structs g.var.ty; cells = map Int g.cells } in
@@ -33,7 +34,11 @@ nothing_fits : (w : World) → MemoryFits w [] no_blocks
 nothing_fits w = record { handles = λ block n. tt {0}; pointers = tt {0} }
 
 pub rest_is_fine : RestIsFine
-rest_is_fine program w budget = record { memory = globals_fit w [] program.structs no_blocks program.globals (nothing_fits w); active = tt {0}; awaited = none_awaited program w [] None refl }
+rest_is_fine program w budget = record {
+  memory = globals_fit w [] program.structs no_blocks program.globals (nothing_fits w);
+  active = tt {0};
+  awaited = none_awaited program w [] None refl;
+}
 
 pub starts_keep_fine : StartsKeepFine
 starts_keep_fine program w privileged f depth args m code fine idle none plain fit =
@@ -44,11 +49,13 @@ starts_keep_fine program w privileged f depth args m code fine idle none plain f
       awaited = none_awaited program w (a ∷ []) m.awaits none;
     }
 
-resumed_fits : (program : ProgramTree) (w : World) (v : Option Cell) (awaits : Option Awaited) (active : List Active) (blocks : Blocks) → ActiveFit program w active → AwaitedFits program w active awaits → MayResume w v awaits → MemoryFits w active blocks →
+resumed_fits : (program : ProgramTree) (w : World) (v : Option Cell) (awaits : Option Awaited) (active : List Active) (blocks : Blocks) →
+    ActiveFit program w active → AwaitedFits program w active awaits → MayResume w v awaits → MemoryFits w active blocks →
     MemoryFits w active (resumed_in v awaits active blocks)
 resumed_fits program w v None active blocks fit awaited may mem = mem
 resumed_fits program w v (Some awaited) [] blocks fit takes may mem = mem
-resumed_fits program w v (Some awaited) (a ∷ rest) blocks fit takes may mem = kept_fits program w a rest blocks awaited.callee awaited.result v fit.2 takes may mem
+resumed_fits program w v (Some awaited) (a ∷ rest) blocks fit takes may mem =
+    kept_fits program w a rest blocks awaited.callee awaited.result v fit.2 takes may mem
 
 pub resumes_keep_fine : ResumesKeepFine
 resumes_keep_fine program w v m fine may = record {
@@ -59,19 +66,22 @@ resumes_keep_fine program w v m fine may = record {
 
 pub writes_keep_fine : WritesKeepFine
 writes_keep_fine program w block n v m fine object may = record {
-  memory = memory_written w m.active m.blocks block n v may (takes_object w m.active block v (descends program w m.active fine.active) object) fine.memory;
+  memory = memory_written w m.active m.blocks block n v may (takes_object w m.active block v (descends program w m.active fine.active) object)
+      fine.memory;
   active = fine.active;
   awaited = fine.awaited;
 }
 
 -- ---- behind a pointer
 
-behind_lies : (c of : Class) (base count i n : ℕ) (v : Cell) → Agrees c of base count → i < count → n < c.size → MayLie of (cell_at c.size base i + n) v → MayLie (pointed_to c) n v
+behind_lies : (c of : Class) (base count i n : ℕ) (v : Cell) → Agrees c of base count → i < count → n < c.size →
+    MayLie of (cell_at c.size base i + n) v → MayLie (pointed_to c) n v
 behind_lies c of base count i n (Int z) agrees less small m = tt {0}
 behind_lies c of base count i n (Ptr p) agrees less small m = tt {0}
 behind_lies c of base count i n (Sealed h) agrees less small m = (refl, agrees.may i n less small m.1)
 
-behind_takes : (c of : Class) (base count i n : ℕ) (v : Cell) → Agrees c of base count → i < count → n < c.size → (is_sealed v ≡ true → c.must n ≡ true) → MayLie of (cell_at c.size base i + n) v
+behind_takes : (c of : Class) (base count i n : ℕ) (v : Cell) → Agrees c of base count → i < count → n < c.size →
+    (is_sealed v ≡ true → c.must n ≡ true) → MayLie of (cell_at c.size base i + n) v
 behind_takes c of base count i n (Int z) agrees less small must = tt {0}
 behind_takes c of base count i n (Ptr p) agrees less small must = tt {0}
 behind_takes c of base count i n (Sealed h) agrees less small must = (agrees.object, agrees.must i n less small (must refl))
@@ -81,6 +91,8 @@ cells_behind_fit program w m c block base count index i n fine fits p less small
     let of : Class = block_class w m.active block in
     let agrees : Agrees c of base count = fits p in
     record {
-      lies = behind_lies c of base count i n (cell_of m.blocks block (cell_at c.size base i + n)) agrees less small (fine.memory.handles block (cell_at c.size base i + n));
-      takes = λ v must. writes_keep_fine program w block (cell_at c.size base i + n) v m fine agrees.object (behind_takes c of base count i n v agrees less small must);
+      lies = behind_lies c of base count i n (cell_of m.blocks block (cell_at c.size base i + n)) agrees less small
+          (fine.memory.handles block (cell_at c.size base i + n));
+      takes = λ v must. writes_keep_fine program w block (cell_at c.size base i + n) v m fine agrees.object
+          (behind_takes c of base count i n v agrees less small must);
     }

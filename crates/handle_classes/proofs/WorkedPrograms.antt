@@ -37,7 +37,14 @@ abbrev taking : ParamKind → Bool → Param
 taking kind marked = record { kind = kind; marked = marked; declassify = false }
 
 abbrev signature : List ℕ → Option IntType → List Param → Bool → Bool → Signature
-signature name result params host privileged = record { name = name; result = result; params = params; host = host; privileged = privileged; declassify = false }
+signature name result params host privileged = record {
+  name = name;
+  result = result;
+  params = params;
+  host = host;
+  privileged = privileged;
+  declassify = false;
+}
 
 -- priv int load(void); int sign(priv int key); void print(int n);
 abbrev load : Signature
@@ -81,7 +88,12 @@ integers_flow v k p q first = record {
 }
 
 integer_goes : (v k : Class) → v.pointer ≡ false → k.pointer ≡ false → 0 < k.size → (v.may 0 ≡ true → k.must 0 ≡ true) → Goes v k
-integer_goes v k p q room sealed = record { kind = p ∙ sym q; room = λ h. room; sealed = λ h. sealed; flows = λ h. let no : true ≡ false = sym h ∙ q in cc }
+integer_goes v k p q room sealed = record {
+  kind = p ∙ sym q;
+  room = λ h. room;
+  sealed = λ h. sealed;
+  flows = λ h. let no : true ≡ false = sym h ∙ q in cc;
+}
 
 one_cell : 0 < 1
 one_cell = omega arith
@@ -95,7 +107,12 @@ signer_main = function_of 3 0 (of_type true int ∷ of_type false int ∷ [])
     ∷ call 2 (expr_and (binary Add i.Int (value 1) (number 1) anywhere) no_exprs) None anywhere ∷ give_back (Some (number 0)) ∷ [])
 
 abbrev signer : ProgramTree
-signer = record { structs = []; signatures = (0, load) ∷ (1, sign) ∷ (2, print) ∷ (3, main_signature) ∷ []; functions = signer_main ∷ []; globals = [] }
+signer = record {
+  structs = [];
+  signatures = (0, load) ∷ (1, sign) ∷ (2, print) ∷ (3, main_signature) ∷ [];
+  functions = signer_main ∷ [];
+  globals = [];
+}
 
 signer_is_a_program : is_well_formed signer ≡ true
 unfolding is_well_formed cells.leaves_of
@@ -103,7 +120,13 @@ signer_is_a_program = refl
 
 -- the key, the parameter of `sign` and the result of `load` may be handles
 abbrev signer_world : World
-signer_world = record { variable = λ f v. integer (nat_eq v 0); global = λ g. integer false; received = λ n. integer false; param = λ f n. integer (nat_eq f 1); result = λ f. nat_eq f 0 }
+signer_world = record {
+  variable = λ f v. integer (nat_eq v 0);
+  global = λ g. integer false;
+  received = λ n. integer false;
+  param = λ f n. integer (nat_eq f 1);
+  result = λ f. nat_eq f 0;
+}
 
 signer_main_fine : AreFineStatements signer_world (scope_in signer signer_world 3) 3 signer_main.body
 signer_main_fine = (
@@ -111,7 +134,14 @@ signer_main_fine = (
   (
     ((((tt {0}, tt {0}), λ h. one_cell), integers_flow _ _ refl refl (λ h. refl), tt {0}), integers_flow _ _ refl refl (λ h. cc)),
     (
-      (((((tt {0}, tt {0}), λ h. one_cell), tt {0}, record { integer = refl; number = refl }, record { integer = refl; number = refl }), integers_flow _ _ refl refl (λ h. cc), tt {0}), tt {0}),
+      (
+        (
+          (((tt {0}, tt {0}), λ h. one_cell), tt {0}, record { integer = refl; number = refl }, record { integer = refl; number = refl }),
+          integers_flow _ _ refl refl (λ h. cc),
+          tt {0},
+        ),
+        tt {0},
+      ),
       (
         (tt {0}, integers_flow _ _ refl refl (λ h. cc)),
         tt {0},
@@ -127,15 +157,20 @@ signer_fine = record { code = code; variables = λ f v n p h. h; objects = λ g.
     code : (f : ℕ) → AreFineStatements signer_world (scope_in signer signer_world f) f (function_in signer f).body
     code f = go (nat_eq f 3) refl
       where
-        go : (b : Bool) → nat_eq f 3 ≡ b → AreFineStatements signer_world (scope_in signer signer_world f) f (unwrap_or (if b then Some signer_main else None) no_function).body
-        go true e = subst (λ n. AreFineStatements signer_world (scope_in signer signer_world n) n signer_main.body) (sym (eqb-true f 3 e)) signer_main_fine
+        go : (b : Bool) → nat_eq f 3 ≡ b → AreFineStatements signer_world (scope_in signer signer_world f) f
+            (unwrap_or (if b then Some signer_main else None) no_function).body
+        go true e = subst (λ n. AreFineStatements signer_world (scope_in signer signer_world n) n signer_main.body) (sym (eqb-true f 3 e))
+            signer_main_fine
         go false e = tt {0}
 
 -- ---- a handle in a field, behind a pointer
 
 -- struct pair { int id; priv int key; };
 abbrev pair : StructInfo
-pair = record { name = codes "pair"; fields = record { name = codes "id"; ty = int; marked = false } ∷ record { name = codes "key"; ty = int; marked = true } ∷ [] }
+pair = record {
+  name = codes "pair";
+  fields = record { name = codes "id"; ty = int; marked = false } ∷ record { name = codes "key"; ty = int; marked = true } ∷ [];
+}
 
 abbrev key_of : PlaceTree
 key_of = place (deref (value 0) anywhere) (1 ∷ [])
@@ -155,7 +190,12 @@ abbrev use_signature : Signature
 use_signature = signature (codes "use") (Some i.Int) (taking (k.Ptr (e.Struct 0) false) false ∷ []) false false
 
 abbrev paired : ProgramTree
-paired = record { structs = pair ∷ []; signatures = (0, load) ∷ (1, sign) ∷ (2, use_signature) ∷ (3, main_signature) ∷ []; functions = use_code ∷ pair_main ∷ []; globals = [] }
+paired = record {
+  structs = pair ∷ [];
+  signatures = (0, load) ∷ (1, sign) ∷ (2, use_signature) ∷ (3, main_signature) ∷ [];
+  functions = use_code ∷ pair_main ∷ [];
+  globals = [];
+}
 
 pairs_are_a_program : is_well_formed paired ≡ true
 unfolding is_well_formed cells.leaves_of
@@ -172,7 +212,13 @@ abbrev pair_param : ℕ → ℕ → Class
 pair_param f n = if nat_eq f 2 then pair_variable 2 n else integer (nat_eq f 1)
 
 abbrev pair_world : World
-pair_world = record { variable = pair_variable; global = λ g. integer false; received = λ n. integer false; param = pair_param; result = λ f. nat_eq f 0 }
+pair_world = record {
+  variable = pair_variable;
+  global = λ g. integer false;
+  received = λ n. integer false;
+  param = pair_param;
+  result = λ f. nat_eq f 0;
+}
 
 within_pair : 1 + 0 + 1 ≤ 2
 within_pair = omega arith
@@ -188,7 +234,10 @@ whole_pair = omega arith
 
 use_fine : AreFineStatements pair_world (scope_in paired pair_world 2) 2 use_code.body
 use_fine = (
-  (((((((tt {0}, tt {0}), λ h. two_cells), refl, refl), (refl, within_pair)), λ h. one_cell), integers_flow _ _ refl refl (λ h. refl), tt {0}), integers_flow _ _ refl refl (λ h. cc)),
+  (
+    ((((((tt {0}, tt {0}), λ h. two_cells), refl, refl), (refl, within_pair)), λ h. one_cell), integers_flow _ _ refl refl (λ h. refl), tt {0}),
+    integers_flow _ _ refl refl (λ h. cc),
+  ),
   (
     (((tt {0}, tt {0}), λ h. one_cell), integers_flow _ _ refl refl (λ h. cc)),
     tt {0},
@@ -203,7 +252,20 @@ pair_main_fine = (
     (
       ((tt {0}, (refl, first_in_pair)), tt {0}, integer_goes _ _ refl refl one_cell (λ h. cc)),
       (
-        ((((tt {0}, tt {0}), refl, whole_pair), record { kind = refl; first = λ h p. p; size = λ h. refl; may = λ h n less m. m; must = λ h n less m. m }, tt {0}), integers_flow _ _ refl refl (λ h. cc)),
+        (
+          (
+            ((tt {0}, tt {0}), refl, whole_pair),
+            record {
+              kind = refl;
+              first = λ h p. p;
+              size = λ h. refl;
+              may = λ h n less m. m;
+              must = λ h n less m. m;
+            },
+            tt {0},
+          ),
+          integers_flow _ _ refl refl (λ h. cc),
+        ),
         (
           (((tt {0}, tt {0}), λ h. one_cell), integers_flow _ _ refl refl (λ h. cc)),
           tt {0},
@@ -219,20 +281,49 @@ paired_fine = record { code = code; variables = λ f v n p h. h; objects = λ g.
     code : (f : ℕ) → AreFineStatements pair_world (scope_in paired pair_world f) f (function_in paired f).body
     code f = go (nat_eq f 2) (nat_eq f 3) refl refl
       where
-        go : (b c : Bool) → nat_eq f 2 ≡ b → nat_eq f 3 ≡ c → AreFineStatements pair_world (scope_in paired pair_world f) f (unwrap_or (if b then Some use_code else (if c then Some pair_main else None)) no_function).body
+        go : (b c : Bool) → nat_eq f 2 ≡ b → nat_eq f 3 ≡ c →
+            AreFineStatements pair_world (scope_in paired pair_world f) f
+            (unwrap_or (if b then Some use_code else (if c then Some pair_main else None)) no_function).body
         go true c e d = subst (λ n. AreFineStatements pair_world (scope_in paired pair_world n) n use_code.body) (sym (eqb-true f 2 e)) use_fine
-        go false true e d = subst (λ n. AreFineStatements pair_world (scope_in paired pair_world n) n pair_main.body) (sym (eqb-true f 3 d)) pair_main_fine
+        go false true e d = subst (λ n. AreFineStatements pair_world (scope_in paired pair_world n) n pair_main.body) (sym (eqb-true f 3 d))
+            pair_main_fine
         go false false e d = tt {0}
 
 -- ---- a handle is computed with
 
 -- with this body of main, and one variable for the handle and one for a number
 abbrev with_body : List StmtTree → ProgramTree
-with_body body = record signer { functions = function_of 3 0 (of_type true int ∷ of_type false int ∷ []) (call 0 no_exprs (Some 0) anywhere ∷ body) ∷ [] }
+with_body body = record signer {
+  functions = function_of 3 0 (of_type true int ∷ of_type false int ∷ []) (call 0 no_exprs (Some 0) anywhere ∷ body) ∷ [];
+}
 
 -- whatever may be a handle beside what `load` gives, the program isn't fine
 abbrev IsNeverFine : List StmtTree → Type 0
 IsNeverFine body = (w : World) → w.result 0 ≡ true → (w.param 2 0).may 0 ≡ false → IsFineProgram (with_body body) w → ⊥
+
+-- s = key + 1;
+abbrev adding : List StmtTree
+adding = assign (var 1) (binary Add i.Int (value 0) (number 1) anywhere) ∷ []
+
+-- print(key);
+abbrev printing : List StmtTree
+printing = call 2 (expr_and (value 0) no_exprs) None anywhere ∷ []
+
+-- if (key) ;
+abbrev branching : List StmtTree
+branching = choose (value 0) no_stmts no_stmts ∷ []
+
+adding_is_a_program : is_well_formed (with_body adding) ≡ true
+unfolding is_well_formed cells.leaves_of
+adding_is_a_program = refl
+
+printing_is_a_program : is_well_formed (with_body printing) ≡ true
+unfolding is_well_formed cells.leaves_of
+printing_is_a_program = refl
+
+branching_is_a_program : is_well_formed (with_body branching) ≡ true
+unfolding is_well_formed cells.leaves_of
+branching_is_a_program = refl
 
 never_both : (b : Bool) → b ≡ true → b ≡ false → ⊥
 never_both true p q = let no : true ≡ false = q in cc
@@ -242,17 +333,17 @@ never_both false p q = let no : false ≡ true = p in cc
 first_variable : (w : World) → w.result 0 ≡ true → Flows (integer_class (w.result 0)) (w.variable 3 0) → (w.variable 3 0).may 0 ≡ true
 first_variable w h flows = flows.first (sym flows.kind) h
 
-one_is_added : IsNeverFine (assign (var 1) (binary Add i.Int (value 0) (number 1) anywhere) ∷ [])
-one_is_added w h plain fine = never_both ((w.variable 3 0).may 0) (first_variable w h (fine.code 3).0.1) (fine.code 3).1.0.1.2.number
+adding_is_never_fine : IsNeverFine adding
+adding_is_never_fine w h plain fine = never_both ((w.variable 3 0).may 0) (first_variable w h (fine.code 3).0.1) (fine.code 3).1.0.1.2.number
 
-it_is_printed : IsNeverFine (call 2 (expr_and (value 0) no_exprs) None anywhere ∷ [])
-it_is_printed w h plain fine = passed (fine.code 3).0.1 (fine.code 3).1.0.0.1
+printing_is_never_fine : IsNeverFine printing
+printing_is_never_fine w h plain fine = passed (fine.code 3).0.1 (fine.code 3).1.0.0.1
   where
     passed : Flows (integer_class (w.result 0)) (w.variable 3 0) → Flows (w.variable 3 0) (w.param 2 0) → ⊥
     passed given to = never_both ((w.param 2 0).may 0) (to.first (sym to.kind ∙ sym given.kind) (first_variable w h given)) plain
 
-it_is_a_condition : IsNeverFine (choose (value 0) no_stmts no_stmts ∷ [])
-it_is_a_condition w h plain fine = chosen (fine.code 3).0.1 (fine.code 3).1.0.1
+branching_is_never_fine : IsNeverFine branching
+branching_is_never_fine w h plain fine = chosen (fine.code 3).0.1 (fine.code 3).1.0.1
   where
     chosen : Flows (integer_class (w.result 0)) (w.variable 3 0) → ((w.variable 3 0).pointer ≡ false → (w.variable 3 0).may 0 ≡ false) → ⊥
     chosen given none = never_both ((w.variable 3 0).may 0) (first_variable w h given) (none (sym given.kind))
