@@ -189,7 +189,7 @@ pair_main = function_of 3 0 (of_type false (ty.Struct 0) ∷ of_type true int �
 abbrev use_signature : Signature
 use_signature = signature (codes "use") (Some i.Int) (taking (k.Ptr (e.Struct 0) false) false ∷ []) false false
 
-abbrev paired : ProgramTree
+abbrev pub paired : ProgramTree
 paired = record {
   structs = pair ∷ [];
   signatures = (0, load) ∷ (1, sign) ∷ (2, use_signature) ∷ (3, main_signature) ∷ [];
@@ -205,13 +205,13 @@ pairs_are_a_program = refl
 abbrev pair_marks : ℕ → ℕ → ℕ → Bool
 pair_marks f v n = if nat_eq v 0 then nat_eq n 1 else (nat_eq f 3 && nat_eq v 1)
 
-abbrev pair_variable : ℕ → ℕ → Class
+abbrev pub pair_variable : ℕ → ℕ → Class
 pair_variable f v = class_by (nat_eq f 2 && nat_eq v 0) (if nat_eq v 0 then 2 else 1) (pair_marks f v)
 
-abbrev pair_param : ℕ → ℕ → Class
+abbrev pub pair_param : ℕ → ℕ → Class
 pair_param f n = if nat_eq f 2 then pair_variable 2 n else integer (nat_eq f 1)
 
-abbrev pair_world : World
+abbrev pub pair_world : World
 pair_world = record {
   variable = pair_variable;
   global = λ g. integer false;
@@ -275,7 +275,7 @@ pair_main_fine = (
   ),
 )
 
-paired_fine : IsFineProgram paired pair_world
+pub paired_fine : IsFineProgram paired pair_world
 paired_fine = record { code = code; variables = λ f v n p h. h; objects = λ g. refl; globals = λ g n h. h }
   where
     code : (f : ℕ) → AreFineStatements pair_world (scope_in paired pair_world f) f (function_in paired f).body
