@@ -41,7 +41,7 @@ element_part c of base count index agrees less = record {
   must = λ n small h. agrees.must index n less small h;
 }
 
-less_trans : (n a b : ℕ) → n < a → a ≤ b → n < b
+pub less_trans : (n a b : ℕ) → n < a → a ≤ b → n < b
 less_trans n a b h k = omega (arith, h, k)
 
 only_zero : (i : ℕ) → i < 1 → i ≡ 0

@@ -99,7 +99,7 @@ LiesIf w active blocks c ty (Err stop) = Unit {0}
 absurd_pointer : {A : Type 0} (c : Class) → c.pointer ≡ false → c.pointer ≡ true → A
 absurd_pointer c p q = let no : true ≡ false = sym q ∙ p in cc
 
-same_depth : (n : ℕ) (x y : Class) → (if nat_eq n n then x else y) ≡ x
+pub same_depth : (n : ℕ) (x y : Class) → (if nat_eq n n then x else y) ≡ x
 same_depth n x y = subst (λ b. (if b then x else y) ≡ x) (sym (eq-eqb n n refl)) refl
 
 local_lies : (program : ProgramTree) (w : World) (a : Active) (rest : List Active) (blocks : Blocks) → IsFineProgram program w → MemoryFits w (a ∷ rest) blocks → (v : ℕ) (ty : VarTy) →

@@ -1,6 +1,6 @@
 -- What one step keeps: each handle lies where the classes say that one may, each pointer points to what
 -- its class says, and what is left to do is fine.
-use Rattle.std.specs.Prelude.{◌≡◌, ◌<◌, ◌+◌, ℕ, pos, true, false, List, [], ◌∷◌, Option, Some, None, if◌then◌else◌, nat_eq, slice_index_or}
+use Rattle.std.specs.Prelude.{◌≡◌, ◌<◌, ◌+◌, ℕ, suc, pos, true, false, List, [], ◌∷◌, Option, Some, None, if◌then◌else◌, nat_eq, slice_index_or}
 use Rattle.block_memory.specs.declared.cell.Cell.{Cell}
 use Rattle.block_memory.specs.declared.cell.Cell.TheVariants.{Int, Ptr, Sealed}
 use Rattle.block_memory.specs.declared.cell.Pointer.TheVariants.{Null, At}
@@ -42,6 +42,11 @@ Fits w active c (Int v) = Unit {0}
 Fits w active c (Ptr Null) = Unit {0}
 Fits w active c (Ptr (At block base count index)) = c.pointer ≡ true → Agrees c (block_class w active block) base count
 Fits w active c (Sealed h) = (c.pointer ≡ false) × (c.may 0 ≡ true)
+
+-- cells, each of its class
+abbrev pub AllFit : World → List Active → (ℕ → Class) → List Cell → Type 0
+AllFit w active into [] = Unit {0}
+AllFit w active into (v ∷ vs) = Fits w active (into 0) v × AllFit w active (λ n. into (suc n)) vs
 
 -- a handle lies in this cell of an object only where one may
 abbrev pub MayLie : Class → ℕ → Cell → Type 0

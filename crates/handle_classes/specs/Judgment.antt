@@ -124,8 +124,8 @@ abbrev mutual
 
 -- ---- programs
 
--- Every function's code is fine, and a function's parameters are its first variables. A handle that a
--- variable or a global must be able to hold is one that it may hold, and no global is a pointer.
+-- Every function's code is fine. A handle that a variable or a global must be able to hold is one that it
+-- may hold, and no global is a pointer.
 pub record IsFineProgram (program : ProgramTree) (w : World) : Type 0 where
   pub code : (f : ℕ) → AreFineStatements w (scope_in program w f) f (function_in program f).body
   pub variables : (f v n : ℕ) → (w.variable f v).pointer ≡ false → (w.variable f v).must n ≡ true → (w.variable f v).may n ≡ true
