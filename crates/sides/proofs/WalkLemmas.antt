@@ -111,7 +111,7 @@ numbers_on number parts xs rest x table table' all split e h =
     sets_on table table' all (map number (parts x)) (map number (flat_map parts rest)) e
     (ap (set_all table) (sym (map-append number (parts x) (flat_map parts rest))) ∙ ap (λ ys. set_all table (map number (flat_map parts ys))) (sym split) ∙ h)
 
-long_all : (table : List Bool) (ks : List ℕ) → length (set_all table ks) ≡ length table
+pub long_all : (table : List Bool) (ks : List ℕ) → length (set_all table ks) ≡ length table
 long_all table [] = refl
 long_all table (k ∷ ks) = long_all (set table k true) ks ∙ length-set table k true
 
