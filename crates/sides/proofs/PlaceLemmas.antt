@@ -1,5 +1,5 @@
 -- The lists that `place` gives have exactly the members that the definitions say.
-use Rattle.std.proofs.Common.{◌≡◌, ◌∙◌, ◌<◌, ◌↔◌, ℕ, zero, suc, ◌+◌, refl, ap, sym, subst, arith, ◌⊎◌, inl, inr, Bool, true, false, IsTrue, List, [], ◌∷◌, length, map, get_or}
+use Rattle.std.proofs.Common.{◌≡◌, ◌∙◌, ◌<◌, ◌↔◌, ℕ, zero, suc, refl, ap, sym, subst, arith, ◌⊎◌, inl, inr, Bool, true, false, List, [], ◌∷◌, length, map, get_or}
 use Rattle.std.specs.Prelude.{◌&&◌, ◌||◌, replicate}
 use Rattle.std.specs.List.{Contains, flat_map}
 use Rattle.std.proofs.lemmas.List.{length-map, length-replicate}
@@ -8,17 +8,17 @@ use Rattle.pt_base.specs.declared.ids.GlobalId.{GlobalId}
 use Rattle.pt_base.specs.declared.slot.Slot.{Slot}
 use Rattle.typed_tree.specs.TypedTree.{TypedTree}
 use Rattle.sides.specs.declared.calls.Half.{Half}
-use Rattle.sides.specs.declared.calls.Half.TheVariants.{Monitor, Slave}
+use Rattle.sides.specs.declared.calls.Half.TheVariants.{Slave}
 use Rattle.sides.specs.declared.slots.Owner.{Owner}
 use Rattle.sides.specs.declared.slots.Owner.TheVariants.{Variable, Global, Result}
 use Rattle.sides.specs.declared.slots.SlotInfo.{SlotInfo}
 use Rattle.sides.specs.Contexts.{InSlave, IsOwned, globals_in}
 use Rattle.sides.specs.Marking.{global_numbers, owned_table, stands_in, is_marked_slot, seed_table}
 use Rattle.sides.specs.Reached.{InHalf, IsReached}
-use Rattle.sides.specs.Seeds.{StandsInSlave, owner_marked, IsMarkedSlot, IsSeed, sealed_in}
+use Rattle.sides.specs.Seeds.{StandsInSlave, owner_marked, IsSeed, sealed_in}
 use Rattle.sides.specs.Slots.{slots_of, slot_at, no_slot}
 use Rattle.sides.specs.Sorted.{Lists}
-use Rattle.sides.specs.Tables.{places_true, set_all, function_id, function_ids, global_id, global_ids, slot_number, slot_numbers}
+use Rattle.sides.specs.Tables.{places_true, function_id, function_ids, global_id, global_ids, slot_number, slot_numbers}
 use Rattle.sides.proofs.ListLemmas.{contains_map, from_map, contains_flat, from_flat}
 use Rattle.sides.proofs.TableLemmas.{table_lists, set_all_keeps, set_all_has, set_all_from, none_true}
 
@@ -104,3 +104,19 @@ module _ (t : TypedTree) (table : List Bool) (r : IsReached t Slave table) (fs :
 
   pub seed_lists : Lists (λ (s : Slot). s.0) (IsSeed t) (slot_numbers (places_true 0 (seed_table t table (slots_of t) fs)))
   seed_lists = table_lists slot_number (λ (s : Slot). s.0) (λ n. refl) (λ s. refl) (IsSeed t) (seed_table t table (slots_of t) fs) (λ s. (seed_is s, is_seed s))
+
+-- ---- lists as code makes them
+
+pub half_listed : (t : TypedTree) (half : Half) (table slice : List Bool) (list : List FnId) → IsReached t half table → slice ≡ table → list ≡ function_ids (places_true 0 slice) → Lists (λ (f : FnId). f.0) (InHalf t half) list
+half_listed t half table slice list r es el =
+    subst (λ (xs : List FnId). Lists (λ (f : FnId). f.0) (InHalf t half) xs) (sym (el ∙ ap (λ bs. function_ids (places_true 0 bs)) es)) (half_lists t half table r)
+
+pub owned_listed : (t : TypedTree) (fs fs' : List FnId) (named slice : List Bool) (list : List GlobalId) → Lists (λ (f : FnId). f.0) (InSlave t) fs → fs' ≡ fs → named ≡ owned_table t fs' → slice ≡ named →
+    list ≡ global_ids (places_true 0 slice) → Lists (λ (g : GlobalId). g.0) (IsOwned t) list
+owned_listed t fs fs' named slice list are ef en es el =
+    subst (λ (xs : List GlobalId). Lists (λ (g : GlobalId). g.0) (IsOwned t) xs) (sym (el ∙ ap (λ bs. global_ids (places_true 0 bs)) (es ∙ en ∙ ap (owned_table t) ef))) (owned_lists t fs are)
+
+pub seeds_listed : (t : TypedTree) (table table' : List Bool) (slots : List SlotInfo) (fs fs' : List FnId) (marked slice : List Bool) (list : List Slot) → IsReached t Slave table → Lists (λ (f : FnId). f.0) (InSlave t) fs →
+    table' ≡ table → slots ≡ slots_of t → fs' ≡ fs → marked ≡ seed_table t table' slots fs' → slice ≡ marked → list ≡ slot_numbers (places_true 0 slice) → Lists (λ (s : Slot). s.0) (IsSeed t) list
+seeds_listed t table table' slots fs fs' marked slice list r are et eo ef em es el =
+    subst (λ (xs : List Slot). Lists (λ (s : Slot). s.0) (IsSeed t) xs) (sym (el ∙ ap (λ bs. slot_numbers (places_true 0 bs)) (es ∙ em ∙ (λ i. seed_table t (et i) (eo i) (ef i))))) (seed_lists t table r fs are)
