@@ -2,3 +2,6 @@ pub mod Parts
 pub mod Values
 pub mod Trees
 pub mod BootLaws
+pub mod Chains
+pub mod TreeLists
+mod WorkedBoots

@@ -1,4 +1,5 @@
 pub mod Spelling
 pub mod Limits
+pub mod LeftParts
 pub mod Reading
 pub mod Laws
