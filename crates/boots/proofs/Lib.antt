@@ -4,4 +4,6 @@ pub mod Trees
 pub mod BootLaws
 pub mod Chains
 pub mod TreeLists
+pub mod Loop
+pub mod Starts
 mod WorkedBoots
