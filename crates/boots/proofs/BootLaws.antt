@@ -1,18 +1,18 @@
 -- A boot has one spelling, none begins another, and what is read of bytes is what they spell.
-use Rattle.std.proofs.Common.{◌≡◌, ◌≢◌, ℕ, zero, suc, ◌+◌, ◌≤◌, List, [], ◌∷◌, ◌++◌, length, Option, Some, None, inl, inr, refl, sym, ap, subst, ◌∙◌, arith}
-use Rattle.std.specs.Prelude.{Result, Ok, Err}
+use Rattle.std.proofs.Common.{◌≡◌, ◌≢◌, ◌==◌, ℕ, zero, suc, ◌+◌, ◌≤◌, true, false, List, [], ◌∷◌, ◌++◌, length, Option, Some, None, inl, inr, refl, sym, ap, ◌∙◌, arith}
+use Rattle.std.specs.Prelude.{Ok, Err}
 use Rattle.std.specs.List.{AllByRecursion}
+use Rattle.std.proofs.lemmas.Bool.Decides.{nat_tests}
 use Rattle.std.proofs.lemmas.List.{append-nil}
 use Rattle.wire.specs.Limits.{IsBytes}
 use Rattle.wire.proofs.Bytes.{AreBytes-from}
 use Rattle.pt_core.specs.CodeTree.{RootTree, local, global, deref, PlaceTree, place, ExprTree, constant, read, unary, binary, convert, null, address, decay, move, compare, difference, ExprTrees, no_exprs, expr_and, StmtTree, clear, check, assign, copy, call, choose, repeat, break_out, continue_on, give_back, StmtTrees, no_stmts, stmt_and, FunctionTree, BootTree}
-use Rattle.boots.specs.declared.fault.ReadError.{ReadError}
 use Rattle.boots.specs.declared.fault.ReadError.TheVariants.{Bad, Memory}
-use Rattle.boots.specs.Spelling.{exprs_of, function_bytes, spelled}
+use Rattle.boots.specs.Spelling.{function_bytes, spelled}
 use Rattle.boots.specs.Limits.{FitsFunction, FitsTypes, Spells}
 use Rattle.boots.specs.Reading.{Reading, function_at, boot_at}
 use Rattle.boots.specs.Laws.{OneSpelling}
-use Rattle.boots.proofs.Parts.{IsPart, ok, ok_is, failed, part_fits, both_part, mapped_part, byte_part, number32_part, text_part, list_part, flat_list, numbered_part}
+use Rattle.boots.proofs.Parts.{IsPart, ok_is, part_fits, both_part, mapped_part, byte_part, number32_part, text_part, list_part, flat_list, numbered_part}
 use Rattle.boots.proofs.Values.{span_part, variable_part, struct_part, signature_part, model_part, global_part}
 use Rattle.boots.proofs.Trees.{ShortPlace, ShortExpr, ShortExprs, stmts_of, ShortStmts, ShortStmt, stmts_part, stmt_part}
 
@@ -225,3 +225,16 @@ only_read d bytes rest a b e s =
     let r : Reading BootTree = Ok found in
     let same : found ≡ whole = ok_is found whole (spelled_is_read d bytes b r s e (λ g. cc)) in
     (ap (λ p. p.0) same, ap (λ p. p.1) same)
+
+-- ---- whether bytes are left
+
+pub none_left : (rest : List ℕ) → (length rest == 0) ≡ true → rest ≡ []
+none_left [] h = refl
+none_left (x ∷ rest) h = let none : suc (length rest) ≡ 0 = grind (arith, nat_tests, h) in absurd (omega (arith, none))
+
+pub some_left : (rest : List ℕ) → (length rest == 0) ≡ false → rest ≢ []
+some_left [] h e = cc
+some_left (x ∷ rest) h e = cc
+
+pub read_alone : (d : ℕ) (bytes rest : List ℕ) (b : BootTree) → IsBytes bytes → boot_at d bytes ≡ Ok (b, rest) → rest ≡ [] → Spells b bytes
+read_alone d bytes rest b fits e none = read_whole d bytes b fits (e ∙ ap (λ x. Ok (b, x)) none)

@@ -1,13 +1,13 @@
 -- A part that is read is the part that was written, and what was written is read again unless it goes
 -- too deep: for numbers, lists, options, and parts made of others.
-use Rattle.std.proofs.Common.{◌≡◌, ℕ, zero, suc, ℤ, ◌+◌, ◌^◌, ◌<◌, ◌≤◌, Bool, true, false, cond, ltb, List, [], ◌∷◌, ◌++◌, length, take, drop, Option, Some, None, ◌⊎◌, inl, inr, refl, sym, ap, subst, ◌∙◌, append_assoc, arith}
+use Rattle.std.proofs.Common.{◌≡◌, ℕ, zero, suc, ◌^◌, ◌<◌, ◌≤◌, Bool, true, false, cond, ltb, List, [], ◌∷◌, ◌++◌, length, take, drop, Option, Some, None, ◌⊎◌, inl, inr, refl, sym, ap, subst, ◌∙◌, append_assoc, arith}
 use Rattle.std.specs.Prelude.{IfSome, FitsSigned, Result, Ok, Err, slice_get}
 use Rattle.std.specs.Int.{w128}
 use Rattle.std.specs.List.{flat_map, AllByRecursion}
 use Rattle.std.proofs.lemmas.Bool.{ltb-false, le-ltb}
 use Rattle.std.proofs.lemmas.List.{take_at, drop_at, take-append-drop, length-append, length-take}
 use Rattle.wire.specs.Spelling.{four_bytes, eight_bytes, sixteen_signed_bytes, truth_byte}
-use Rattle.wire.proofs.Bytes.{AreBytes, AreBytes-drop, AreBytes-take, AreBytes-rest, AreBytes-from, IsBytes-from}
+use Rattle.wire.proofs.Bytes.{AreBytes, AreBytes-drop, AreBytes-take, AreBytes-rest, IsBytes-from}
 use Rattle.wire.proofs.Fields.{Takes, Takes-then, Takes-tag, field32, field64, field_signed128}
 use Rattle.wire.proofs.Fields.{IsField}
 use Rattle.boots.specs.declared.fault.ReadError.{ReadError}

@@ -1,9 +1,7 @@
 -- Types, objects, signatures and hosts are read as they were written.
-use Rattle.std.proofs.Common.{◌≡◌, ℕ, zero, suc, ℤ, ◌^◌, ◌<◌, Bool, List, [], ◌∷◌, ◌++◌, Option, Some, None, inl, inr, refl, sym, ap}
-use Rattle.std.specs.Prelude.{IfSome, FitsSigned, Result, Ok, Err, slice_get}
-use Rattle.std.specs.Int.{w128}
+use Rattle.std.proofs.Common.{◌≡◌, ℕ, zero, suc, List, [], ◌∷◌, ◌++◌, Option, Some, None, inl, refl, sym, ap}
+use Rattle.std.specs.Prelude.{IfSome, Ok, slice_get}
 use Rattle.pt_base.specs.declared.span.Span.{Span}
-use Rattle.pt_base.specs.declared.int_type.IntType.{IntType}
 use Rattle.pt_int.specs.declared.operator.BinOp.{BinOp}
 use Rattle.pt_int.specs.declared.operator.BinOp.TheVariants as binary
 use Rattle.pt_int.specs.declared.operator.UnOp.{UnOp}
@@ -29,8 +27,8 @@ use Rattle.wire.proofs.Bytes.{AreBytes}
 use Rattle.wire.proofs.Fields.{Takes, type_is, type_again}
 use Rattle.boots.specs.Spelling.{int_type_bytes, span_bytes, elem_bytes, type_bytes, field_bytes, struct_bytes, variable_bytes, param_kind_bytes, param_bytes, signature_bytes, numbers_bytes, row_bytes, model_bytes, unary_byte, binary_byte, global_bytes}
 use Rattle.boots.specs.Limits.{FitsSpan, FitsElem, FitsVarTy, FitsField, FitsStruct, FitsVar, FitsParamKind, FitsParam, FitsSignature, FitsNumbers, FitsRow, FitsModel, FitsGlobal}
-use Rattle.boots.specs.Reading.{int_type_at, span_at, elem_at, type_at, field_at, struct_at, variable_at, param_kind_at, param_at, signature_at, numbers_at, row_at, model_at, unary_op_at, binary_op_at, global_at}
-use Rattle.boots.proofs.Parts.{Again, IsPart, Flat, Same, some_is, part_fits, both_part, mapped_part, variant_takes, variant_again, bare_takes, number32_part, number64_part, signed128_part, truth_part, text_part, list_part, flat_list, flat_option, one_of_part}
+use Rattle.boots.specs.Reading.{int_type_at, span_at, elem_at, type_at, field_at, struct_at, variable_at, param_kind_at, param_at, signature_at, numbers_at, row_at, model_at, unary_ops, binary_ops, unary_op_at, binary_op_at, global_at}
+use Rattle.boots.proofs.Parts.{Again, IsPart, Flat, Same, some_is, part_fits, both_part, mapped_part, variant_takes, variant_again, bare_takes, number32_part, number64_part, signed128_part, truth_part, text_part, flat_list, flat_option, one_of_part}
 
 pub int_type_part : IsPart Same Flat int_type_bytes int_type_at
 unfolding int_type_at type_of
@@ -176,9 +174,6 @@ global_part =
 
 -- ---- operators
 
-abbrev unary_ops : List UnOp
-unary_ops = unary.Minus ∷ unary.Plus ∷ unary.Flip ∷ unary.Not ∷ []
-
 unary_is : (n : ℕ) (op : UnOp) → slice_get unary_ops n ≡ Some op → unary_byte op ≡ n
 unary_is zero op e = ap unary_byte (sym (some_is unary.Minus op e))
 unary_is (suc zero) op e = ap unary_byte (sym (some_is unary.Plus op e))
@@ -195,10 +190,6 @@ unary_back unary.Not = refl
 pub unary_part : IsPart Same Flat (λ op. unary_byte op ∷ []) unary_op_at
 unfolding unary_op_at
 unary_part = one_of_part unary_ops unary_byte unary_is unary_back
-
-abbrev binary_ops : List BinOp
-binary_ops =
-    binary.Mul ∷ binary.Div ∷ binary.Rem ∷ binary.Add ∷ binary.Sub ∷ binary.Shl ∷ binary.Shr ∷ binary.Lt ∷ binary.Gt ∷ binary.Le ∷ binary.Ge ∷ binary.Eq ∷ binary.Ne ∷ binary.And ∷ binary.Xor ∷ binary.Or ∷ []
 
 binary_is : (n : ℕ) (op : BinOp) → slice_get binary_ops n ≡ Some op → binary_byte op ≡ n
 binary_is zero op e = ap binary_byte (sym (some_is binary.Mul op e))

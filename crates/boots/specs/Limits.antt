@@ -1,6 +1,6 @@
 -- Which values have a spelling: their numbers are those of the fields' types, and a list has fewer than
 -- 2 to the 64 items.
-use Rattle.std.specs.Prelude.{◌≡◌, ℕ, ℤ, ◌<◌, ◌^◌, List, [], ◌∷◌, length, FitsSigned, IfSome}
+use Rattle.std.specs.Prelude.{◌≡◌, ℕ, ℤ, ◌<◌, ◌^◌, List, length, FitsSigned, IfSome}
 use Rattle.std.specs.List.{AllByRecursion}
 use Rattle.std.specs.Int.{w128}
 use Rattle.pt_base.specs.declared.span.Span.{Span}

@@ -173,11 +173,18 @@ model_at (suc (suc (suc (suc (suc b)))) ∷ rest) = Err Bad
 
 -- ---- expressions, by how those inside them are read
 
+-- the operators in order
+abbrev pub unary_ops : List UnOp
+unary_ops = Minus ∷ Plus ∷ Flip ∷ Not ∷ []
+
+abbrev pub binary_ops : List BinOp
+binary_ops = Mul ∷ Div ∷ Rem ∷ Add ∷ Sub ∷ Shl ∷ Shr ∷ Lt ∷ Gt ∷ Le ∷ Ge ∷ Eq ∷ Ne ∷ And ∷ Xor ∷ Or ∷ []
+
 unfoldable pub unary_op_at : List ℕ → Reading UnOp
-unary_op_at bytes = one_of (Minus ∷ Plus ∷ Flip ∷ Not ∷ []) bytes
+unary_op_at bytes = one_of unary_ops bytes
 
 unfoldable pub binary_op_at : List ℕ → Reading BinOp
-binary_op_at bytes = one_of (Mul ∷ Div ∷ Rem ∷ Add ∷ Sub ∷ Shl ∷ Shr ∷ Lt ∷ Gt ∷ Le ∷ Ge ∷ Eq ∷ Ne ∷ And ∷ Xor ∷ Or ∷ []) bytes
+binary_op_at bytes = one_of binary_ops bytes
 
 unfoldable pub root_at : (List ℕ → Reading ExprTree) → List ℕ → Reading RootTree
 root_at expr [] = Err Bad
@@ -193,9 +200,12 @@ place_at expr bytes = mapped (λ p. place p.0 p.1) (both (root_at expr) (list_at
 unfoldable pub operands_at : (List ℕ → Reading ExprTree) → List ℕ → Reading (ExprTree × (ExprTree × Span))
 operands_at expr bytes = both expr (both expr span_at) bytes
 
+abbrev pub constant_at : List ℕ → Reading ExprTree
+constant_at bytes = mapped (λ p. constant p.0 p.1) (both int_type_at signed128_at) bytes
+
 unfoldable pub node_at : (List ℕ → Reading ExprTree) → List ℕ → Reading ExprTree
 node_at expr [] = Err Bad
-node_at expr (zero ∷ rest) = mapped (λ p. constant p.0 p.1) (both int_type_at signed128_at) rest
+node_at expr (zero ∷ rest) = constant_at rest
 node_at expr (suc zero ∷ rest) = mapped read (place_at expr) rest
 node_at expr (suc (suc zero) ∷ rest) = mapped (λ p. unary p.0 p.1.0 p.1.1.0 p.1.1.1) (both unary_op_at (both int_type_at (both expr span_at))) rest
 node_at expr (suc (suc (suc zero)) ∷ rest) = mapped (λ p. binary p.0 p.1.0 p.1.1.0 p.1.1.1.0 p.1.1.1.1) (both binary_op_at (both int_type_at (operands_at expr))) rest
@@ -221,15 +231,30 @@ exprs_at expr bytes = mapped expr_trees (list_at expr) bytes
 unfoldable pub stmts_at : (List ℕ → Reading StmtTree) → List ℕ → Reading StmtTrees
 stmts_at stmt bytes = mapped stmt_trees (list_at stmt) bytes
 
+abbrev pub assign_at : (List ℕ → Reading ExprTree) → List ℕ → Reading StmtTree
+assign_at expr bytes = mapped (λ p. assign p.0 p.1) (both (place_at expr) expr) bytes
+
+abbrev pub copy_at : (List ℕ → Reading ExprTree) → List ℕ → Reading StmtTree
+copy_at expr bytes = mapped (λ p. copy p.0 p.1) (both (place_at expr) (place_at expr)) bytes
+
+abbrev pub call_at : (List ℕ → Reading ExprTree) → List ℕ → Reading StmtTree
+call_at expr bytes = mapped (λ p. call p.0 p.1.0 p.1.1.0 p.1.1.1) (both number32_at (both (exprs_at expr) (both (option_at number32_at) span_at))) bytes
+
+abbrev pub choose_at : (List ℕ → Reading ExprTree) → (List ℕ → Reading StmtTree) → List ℕ → Reading StmtTree
+choose_at expr stmt bytes = mapped (λ p. choose p.0 p.1.0 p.1.1) (both expr (both (stmts_at stmt) (stmts_at stmt))) bytes
+
+abbrev pub repeat_at : (List ℕ → Reading StmtTree) → List ℕ → Reading StmtTree
+repeat_at stmt bytes = mapped (λ p. repeat p.0 p.1) (both (stmts_at stmt) span_at) bytes
+
 unfoldable pub step_at : (List ℕ → Reading ExprTree) → (List ℕ → Reading StmtTree) → List ℕ → Reading StmtTree
 step_at expr stmt [] = Err Bad
 step_at expr stmt (zero ∷ rest) = mapped clear number32_at rest
 step_at expr stmt (suc zero ∷ rest) = mapped check (place_at expr) rest
-step_at expr stmt (suc (suc zero) ∷ rest) = mapped (λ p. assign p.0 p.1) (both (place_at expr) expr) rest
-step_at expr stmt (suc (suc (suc zero)) ∷ rest) = mapped (λ p. copy p.0 p.1) (both (place_at expr) (place_at expr)) rest
-step_at expr stmt (suc (suc (suc (suc zero))) ∷ rest) = mapped (λ p. call p.0 p.1.0 p.1.1.0 p.1.1.1) (both number32_at (both (exprs_at expr) (both (option_at number32_at) span_at))) rest
-step_at expr stmt (suc (suc (suc (suc (suc zero)))) ∷ rest) = mapped (λ p. choose p.0 p.1.0 p.1.1) (both expr (both (stmts_at stmt) (stmts_at stmt))) rest
-step_at expr stmt (suc (suc (suc (suc (suc (suc zero))))) ∷ rest) = mapped (λ p. repeat p.0 p.1) (both (stmts_at stmt) span_at) rest
+step_at expr stmt (suc (suc zero) ∷ rest) = assign_at expr rest
+step_at expr stmt (suc (suc (suc zero)) ∷ rest) = copy_at expr rest
+step_at expr stmt (suc (suc (suc (suc zero))) ∷ rest) = call_at expr rest
+step_at expr stmt (suc (suc (suc (suc (suc zero)))) ∷ rest) = choose_at expr stmt rest
+step_at expr stmt (suc (suc (suc (suc (suc (suc zero))))) ∷ rest) = repeat_at stmt rest
 step_at expr stmt (suc (suc (suc (suc (suc (suc (suc zero)))))) ∷ rest) = Ok (break_out, rest)
 step_at expr stmt (suc (suc (suc (suc (suc (suc (suc (suc zero))))))) ∷ rest) = Ok (continue_on, rest)
 step_at expr stmt (suc (suc (suc (suc (suc (suc (suc (suc (suc zero)))))))) ∷ rest) = mapped give_back (option_at expr) rest

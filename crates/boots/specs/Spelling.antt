@@ -1,6 +1,6 @@
 -- How a boot is spelled: a struct as its fields in order, a variant as its place in its enum and then
 -- its fields, a list as its length and then its items, an option as 0, or as 1 and its value.
-use Rattle.std.specs.Prelude.{ℕ, ℤ, suc, Bool, List, [], ◌∷◌, ◌++◌, length, Option, Some, None}
+use Rattle.std.specs.Prelude.{ℕ, ℤ, suc, List, [], ◌∷◌, ◌++◌, length, Option, Some, None}
 use Rattle.std.specs.List.{flat_map}
 use Rattle.pt_base.specs.declared.span.Span.{Span}
 use Rattle.pt_base.specs.declared.int_type.IntType.{IntType}

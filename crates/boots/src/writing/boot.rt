@@ -1,0 +1,32 @@
+// Writing a whole boot.
+ghost use Rattle.std.specs.Prelude.{IfOk};
+ghost use Rattle.pt_core.specs.CodeTree.{view_boot};
+ghost use Rattle.boots.specs.Limits.{Spells};
+
+use super::code::{put_functions, put_globals};
+use super::fields::{put_text, put_u32};
+use super::hosts::put_hosts;
+use super::objects::{put_signatures, put_structs};
+use pt_core::Boot;
+use std::alloc::{AllocError, Global};
+
+/// The spelling of a boot, in time linear in its length. However long a chain of operators is to
+/// the left, it takes no stack; other nesting of expressions and of statements does.
+///
+/// # Errors
+///
+/// Memory ran out.
+#[tactic(auto, using(std::proofs::Common::append_assoc), unfolding(crate::specs::Limits::Spells))]
+pub fn boot_bytes(alloc: Global, boot: &Boot) -> Result<Vec<u8>, AllocError>
+    ensures { IfOk result (λ bytes. Spells (view_boot boot.now) bytes.items) }
+{
+    let mut out = Vec::new(alloc);
+    put_structs(&mut out, boot.structs.as_slice())?;
+    put_signatures(&mut out, boot.signatures.as_slice())?;
+    put_functions(alloc, &mut out, &boot.functions)?;
+    put_globals(&mut out, boot.globals.as_slice())?;
+    put_hosts(&mut out, boot.hosts.as_slice())?;
+    put_text(&mut out, &boot.input)?;
+    put_u32(&mut out, boot.turns)?;
+    Ok(out)
+}
