@@ -1,0 +1,7 @@
+pub mod Leaves
+pub mod Packing
+pub mod Crossings
+pub mod Shape
+pub mod Handles
+pub mod Replies
+pub mod Taking

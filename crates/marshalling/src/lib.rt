@@ -1,0 +1,18 @@
+//! What crosses between the two halves of a program at a call, and how it comes back.
+#![tactic(auto)]
+
+mod crossing;
+mod fault;
+mod inputs;
+mod leaf;
+mod leaves;
+mod packing;
+mod shape;
+mod unpacking;
+
+pub use crossing::Crossing;
+pub use fault::BadCall;
+pub use inputs::Inputs;
+pub use leaf::Leaf;
+pub use packing::pack_args;
+pub use unpacking::unpack_args;
