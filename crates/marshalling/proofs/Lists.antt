@@ -2,7 +2,7 @@
 use Rattle.std.proofs.Common.{◌≡◌, ◌<◌, ◌+◌, ◌∙◌, sym, ap, refl, ℕ, zero, suc, Bool, true, false, List, [], ◌∷◌, length, drop, get_or, arith, Some}
 use Rattle.std.specs.Prelude.{◌&&◌, slice_get}
 use Rattle.std.specs.List.{list_all}
-use Rattle.std.proofs.lemmas.List.{drop_more}
+use Rattle.std.proofs.lemmas.List.{drop_more, get_or_default}
 
 pub first : (a b : Bool) → (a && b) ≡ true → a ≡ true
 first true b h = refl
@@ -36,3 +36,11 @@ pub get_at : {X : Type 0} (xs : List X) (i : ℕ) (x : X) → i < length xs → 
 get_at [] i x lt e = absurd (omega arith)
 get_at (y ∷ xs) zero x lt e = ap Some (sym e)
 get_at (y ∷ xs) (suc i) x lt e = get_at xs i x (omega arith) e
+
+-- a list from a place on
+pub drops : {X : Type 0} (xs : List X) (i : ℕ) (x : X) → i < length xs → x ≡ get_or xs i x → drop i xs ≡ x ∷ drop (i + 1) xs
+drops xs i x lt e = drop_more xs i x lt ∙ ap (λ y. y ∷ drop (i + 1) xs) (sym e)
+
+-- what is read at a place is there
+pub self_read : {X : Type 0} (xs : List X) (i : ℕ) (d : X) → i < length xs → get_or xs i d ≡ get_or xs i (get_or xs i d)
+self_read xs i d lt = get_or_default xs i d (get_or xs i d) lt

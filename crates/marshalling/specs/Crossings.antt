@@ -25,26 +25,30 @@ stronger Stays other = other
 abbrev pub sealed_if : Bool → Crossing
 sealed_if secret = if secret then Sealed else Plain
 
--- a cell of the parameter's range
-abbrev pub leaf_crossing : Param → Option Leaf → Crossing
-leaf_crossing p None = Stays
-leaf_crossing p (Some leaf) = sealed_if (leaf.marked || (p.marked && not p.declassify))
+-- the parameter's range comes back as handles
+abbrev pub is_secret : Param → Bool
+is_secret p = p.marked && not p.declassify
 
--- the cell i of a block of which the parameter's range has these leaves from the base on
-abbrev pub range_crossing : Param → List Leaf → ℕ → ℕ → Crossing
-range_crossing p leaves base i = if nat_le base i then leaf_crossing p (slice_get leaves (i - base)) else Stays
+-- a cell of a range
+abbrev pub leaf_crossing : Bool → Option Leaf → Crossing
+leaf_crossing secret None = Stays
+leaf_crossing secret (Some leaf) = sealed_if (leaf.marked || secret)
+
+-- the cell i of a block in which a range has these leaves from the base on
+abbrev pub range_crossing : Bool → List Leaf → ℕ → ℕ → Crossing
+range_crossing secret leaves base i = if nat_le base i then leaf_crossing secret (slice_get leaves (i - base)) else Stays
 
 -- the cell i of block k by one parameter's argument
-abbrev pub crossing_by : List StructInfo → Param → ParamKind → Arg → ℕ → ℕ → Crossing
-crossing_by structs p (kind.Ptr elem false) (argument.At block base count index) k i =
-    if nat_eq block k then range_crossing p (range_leaves structs elem count) base i else Stays
-crossing_by structs p of a k i = Stays
+abbrev pub crossing_by : List StructInfo → Bool → ParamKind → Arg → ℕ → ℕ → Crossing
+crossing_by structs secret (kind.Ptr elem false) (argument.At block base count index) k i =
+    if nat_eq block k then range_crossing secret (range_leaves structs elem count) base i else Stays
+crossing_by structs secret of a k i = Stays
 
 -- how the cell i of block k comes back: by all arguments
 abbrev pub crossing_of : List StructInfo → List Param → List Arg → ℕ → ℕ → Crossing
 crossing_of structs [] args k i = Stays
 crossing_of structs (p ∷ params) [] k i = Stays
-crossing_of structs (p ∷ params) (a ∷ args) k i = stronger (crossing_by structs p p.kind a k i) (crossing_of structs params args k i)
+crossing_of structs (p ∷ params) (a ∷ args) k i = stronger (crossing_by structs (is_secret p) p.kind a k i) (crossing_of structs params args k i)
 
 -- how a result comes back
 abbrev pub result_crossing : Signature → Crossing

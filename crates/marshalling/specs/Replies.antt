@@ -1,16 +1,15 @@
 -- The reply to a call: the result, and then the cells that come back, by block and by position. Each sealed one has the
 -- next handle, whether it was changed or not.
-use Rattle.std.specs.Prelude.{ℕ, suc, ℤ, pos, List, [], ◌∷◌, ◌++◌, Bool, true, false, map, Option, Some, None, option_to_list, slice_get}
+use Rattle.std.specs.Prelude.{ℕ, suc, ◌<◌, ℤ, pos, List, [], ◌∷◌, ◌++◌, Bool, true, false, map, Option, Some, None, option_to_list, slice_get}
 use Rattle.std.specs.List.{list_any}
 use Rattle.pt_base.specs.declared.int_type.IntType.{IntType}
-use Rattle.pt_tree.specs.declared.signature.Param.{Param}
+use Rattle.pt_base.specs.IntTypes.{InRange}
 use Rattle.pt_tree.specs.declared.signature.Signature.{Signature}
 use Rattle.typed_tree.specs.declared.types.StructInfo.{StructInfo}
 use Rattle.block_memory.specs.declared.cell.Cell.{Cell}
 use Rattle.block_memory.specs.declared.cell.Cell.TheVariants as cell
 use Rattle.block_memory.specs.declared.cell.BlockName.TheVariants.{Received}
 use Rattle.block_memory.specs.Blocks.{Blocks}
-use Rattle.wire.specs.declared.cell.Arg.{Arg}
 use Rattle.wire.specs.declared.cell.WireCell.{WireCell}
 use Rattle.wire.specs.declared.cell.WireCell.TheVariants as wire
 use Rattle.wire.specs.declared.message.CallBody.{CallBody}
@@ -28,16 +27,14 @@ pub record Place : Type 0 where
   pub ty : IntType
 
 -- the cells of block k that have these types, from cell i on
-abbrev pub places_from : List StructInfo → List Param → List Arg → ℕ → ℕ → List IntType → List Place
-places_from structs params args k i [] = []
-places_from structs params args k i (t ∷ types) =
-    record { way = crossing_of structs params args k i; ty = t } ∷ places_from structs params args k (suc i) types
+abbrev pub places_from : (ℕ → ℕ → Crossing) → ℕ → ℕ → List IntType → List Place
+places_from crossing k i [] = []
+places_from crossing k i (t ∷ types) = record { way = crossing k i; ty = t } ∷ places_from crossing k (suc i) types
 
 -- the cells of all blocks, of which the first has the number k
-abbrev pub places_of : List StructInfo → List Param → List Arg → ℕ → List (List IntType) → List Place
-places_of structs params args k [] = []
-places_of structs params args k (types ∷ blocks) =
-    places_from structs params args k 0 types ++ places_of structs params args (suc k) blocks
+abbrev pub places_of : (ℕ → ℕ → Crossing) → ℕ → List (List IntType) → List Place
+places_of crossing k [] = []
+places_of crossing k (types ∷ blocks) = places_from crossing k 0 types ++ places_of crossing (suc k) blocks
 
 -- the result, if there is one
 abbrev pub result_places : Signature → Option IntType → List Place
@@ -108,16 +105,51 @@ abbrev pub received : Blocks → ℕ → List (List IntType) → List ℤ
 received blocks k [] = []
 received blocks k (types ∷ rest) = map number_in (blocks (Received k)).cells ++ received blocks (suc k) rest
 
--- the types of the cells of a body's blocks
+-- the types of a block's cells, as a body has them
+abbrev pub block_types : List (IntType × WireCell) → List IntType
+block_types cells = map (λ typed. typed.0) cells
+
+abbrev pub types_of : List (List (IntType × WireCell)) → List (List IntType)
+types_of blocks = map block_types blocks
+
 abbrev pub types_in : CallBody → List (List IntType)
-types_in body = map (map (λ typed. typed.0)) body.blocks
+types_in body = types_of body.blocks
+
+-- ---- what the monitor has to have
+
+-- a number of the type
+abbrev pub HoldsNumber : IntType → Cell → Type 0
+HoldsNumber t (cell.Int v) = InRange t v
+HoldsNumber t (cell.Ptr p) = ⊥
+HoldsNumber t (cell.Sealed handle) = ⊥
+
+-- a number of each type
+abbrev pub HoldNumbers : List IntType → List Cell → Type 0
+HoldNumbers [] [] = Unit {0}
+HoldNumbers [] (c ∷ cells) = ⊥
+HoldNumbers (t ∷ types) [] = ⊥
+HoldNumbers (t ∷ types) (c ∷ cells) = HoldsNumber t c × HoldNumbers types cells
+
+-- the blocks that a call sent are there, of which the first has the number k, with a number in each cell
+abbrev pub AreServed : Blocks → ℕ → List (List IntType) → Type 0
+AreServed blocks k [] = Unit {0}
+AreServed blocks k (types ∷ rest) = (k < 256) × HoldNumbers types (blocks (Received k)).cells × AreServed blocks (suc k) rest
+
+-- a number of the result's type, where there is one
+abbrev pub IsResult : Option IntType → Option ℤ → Type 0
+IsResult None None = Unit {0}
+IsResult None (Some v) = ⊥
+IsResult (Some t) None = ⊥
+IsResult (Some t) (Some v) = InRange t v
+
+-- ---- the answer
 
 -- what the monitor answers after a call with this body, where its store has so many values
 abbrev pub packed_results : ℕ → List StructInfo → Signature → CallBody → Blocks → Option ℤ → ReplyBody
 packed_results handle structs sig body blocks result =
-    reply_of handle (result_places sig sig.result) (option_to_list result) (places_of structs sig.params body.args 0 (types_in body)) (received blocks 0 (types_in body))
+    reply_of handle (result_places sig sig.result) (option_to_list result) (places_of (crossing_of structs sig.params body.args) 0 (types_in body)) (received blocks 0 (types_in body))
 
 -- what its store gets
 abbrev pub kept_results : List StructInfo → Signature → CallBody → Blocks → Option ℤ → Entries
 kept_results structs sig body blocks result =
-    kept (result_places sig sig.result) (option_to_list result) ++ kept (places_of structs sig.params body.args 0 (types_in body)) (received blocks 0 (types_in body))
+    kept (result_places sig sig.result) (option_to_list result) ++ kept (places_of (crossing_of structs sig.params body.args) 0 (types_in body)) (received blocks 0 (types_in body))

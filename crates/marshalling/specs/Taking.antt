@@ -10,12 +10,12 @@ use Rattle.block_memory.specs.declared.cell.Cell.{Cell}
 use Rattle.block_memory.specs.declared.cell.Cell.TheVariants as cell
 use Rattle.block_memory.specs.declared.cell.BlockName.{BlockName}
 use Rattle.block_memory.specs.Blocks.{Blocks, put}
-use Rattle.wire.specs.declared.cell.Arg.{Arg}
 use Rattle.wire.specs.declared.cell.WireCell.{WireCell}
 use Rattle.wire.specs.declared.cell.WireCell.TheVariants as wire
 use Rattle.wire.specs.declared.message.ReplyBody.{ReplyBody}
 use Rattle.marshalling.specs.declared.crossing.Crossing.{Crossing}
 use Rattle.marshalling.specs.declared.crossing.Crossing.TheVariants.{Stays, Plain, Sealed}
+use Rattle.marshalling.specs.Crossings.{crossing_of}
 use Rattle.marshalling.specs.Packing.{names_of, packed_arguments}
 use Rattle.marshalling.specs.Replies.{Place, places_from, places_of, result_places, next_by, next_after, reply_of}
 
@@ -65,22 +65,22 @@ left (p ∷ places) [] = []
 left (p ∷ places) (s ∷ sent) = if comes_back p.way then left places sent else left places (s ∷ sent)
 
 -- the blocks of these names, of which the first has the number k, each with what is sent of it
-abbrev pub taken_blocks : List StructInfo → List Param → List Arg → ℕ → List BlockName → List WireCell → Blocks → Blocks
-taken_blocks structs params args k [] sent blocks = blocks
-taken_blocks structs params args k (name ∷ names) sent blocks =
-    let places = places_from structs params args k 0 (blocks name).types in
-    taken_blocks structs params args (suc k) names (left places sent)
+abbrev pub taken_blocks : (ℕ → ℕ → Crossing) → ℕ → List BlockName → List WireCell → Blocks → Blocks
+taken_blocks crossing k [] sent blocks = blocks
+taken_blocks crossing k (name ∷ names) sent blocks =
+    let places = places_from crossing k 0 (blocks name).types in
+    taken_blocks crossing (suc k) names (left places sent)
     (put blocks name (record { types = (blocks name).types; cells = taken places sent (blocks name).cells }))
 
 -- ---- a call seen by the caller
 
--- the arguments as they were sent
-abbrev pub sent_arguments : List Param → List Cell → List Arg
-sent_arguments params args = packed_arguments (names_of args) params args
+-- how the cell i of block k comes back
+abbrev pub call_crossing : List StructInfo → List Param → List Cell → ℕ → ℕ → Crossing
+call_crossing structs params args = crossing_of structs params (packed_arguments (names_of args) params args)
 
 -- the places of the cells of a call's blocks
 abbrev pub call_places : Blocks → List StructInfo → List Param → List Cell → List Place
-call_places blocks structs params args = places_of structs params (sent_arguments params args) 0 (map (λ name. (blocks name).types) (names_of args))
+call_places blocks structs params args = places_of (call_crossing structs params args) 0 (map (λ name. (blocks name).types) (names_of args))
 
 -- the reply is one that the signature and the arguments give, where the next handle is this one
 abbrev pub is_reply : ℕ → Blocks → List StructInfo → Signature → List Cell → ReplyBody → Bool
@@ -99,7 +99,7 @@ abbrev pub after_reply : ℕ → Blocks → List StructInfo → Signature → Li
 after_reply handle blocks structs sig args reply = record {
   result = option_map arrived reply.result;
   next = next_after (next_after handle (result_places sig sig.result)) (call_places blocks structs sig.params args);
-  blocks = taken_blocks structs sig.params (sent_arguments sig.params args) 0 (names_of args) reply.cells blocks;
+  blocks = taken_blocks (call_crossing structs sig.params args) 0 (names_of args) reply.cells blocks;
 }
 
 -- ---- without waiting

@@ -7,6 +7,9 @@ mod inputs;
 mod leaf;
 mod leaves;
 mod packing;
+mod range;
+mod ranges;
+mod replies;
 mod shape;
 mod unpacking;
 
@@ -15,4 +18,5 @@ pub use fault::BadCall;
 pub use inputs::Inputs;
 pub use leaf::Leaf;
 pub use packing::pack_args;
+pub use replies::pack_results;
 pub use unpacking::unpack_args;
