@@ -3,5 +3,7 @@ pub mod Lists
 pub mod RangeLemmas
 pub mod ReplyLemmas
 pub mod ShapeLemmas
+pub mod TakingLemmas
 pub mod UnpackingLemmas
+pub mod WalkLemmas
 pub mod Worked

@@ -1,5 +1,5 @@
 -- Ranges say together what the arguments say.
-use Rattle.std.proofs.Common.{◌≡◌, ◌<◌, ◌≤◌, ◌+◌, ◌-◌, ◌++◌, ◌∙◌, append_assoc, pos, sym, ap, refl, ℕ, Bool, true, false, List, [], ◌∷◌, length, drop, get_or, Option, Some, None}
+use Rattle.std.proofs.Common.{◌≡◌, ◌<◌, ◌≤◌, ◌+◌, ◌-◌, ◌++◌, ◌∙◌, append_assoc, pos, sym, ap, refl, ℕ, false, List, [], ◌∷◌, length, drop, get_or}
 use Rattle.std.proofs.lemmas.List.{drop_all}
 use Rattle.pt_base.specs.declared.int_type.IntType.TheVariants as i
 use Rattle.pt_tree.specs.declared.signature.Param.{Param}
@@ -13,7 +13,7 @@ use Rattle.marshalling.specs.declared.crossing.Crossing.TheVariants.{Stays, Plai
 use Rattle.marshalling.specs.declared.leaf.Leaf.{Leaf}
 use Rattle.marshalling.specs.declared.range.Range.{Range}
 use Rattle.marshalling.specs.Crossings.{crossing_by, crossing_of, is_secret, stronger}
-use Rattle.marshalling.specs.Ranges.{IsRange, crossing_among, crossing_in}
+use Rattle.marshalling.specs.Ranges.{crossing_among, crossing_in}
 use Rattle.marshalling.proofs.Lists.{at_drop, at_drops}
 use Rattle.marshalling.proofs.ShapeLemmas.{repeated_more}
 

@@ -1,11 +1,10 @@
 -- Steps of the walk over what comes back.
-use Rattle.std.proofs.Common.{◌≡◌, ◌≤◌, ◌+◌, ◌++◌, ◌∙◌, sym, ap, refl, ℕ, ℤ, zero, suc, List, [], ◌∷◌, length, drop, get_or, map, arith, add-one, append_assoc, length-append, subst, Option, Some, None}
+use Rattle.std.proofs.Common.{◌≡◌, ◌+◌, ◌++◌, ◌∙◌, sym, ap, refl, ℕ, ℤ, zero, suc, List, [], ◌∷◌, length, drop, get_or, map, arith, add-one, append_assoc, length-append, subst, Option, Some, None}
 use Rattle.std.specs.Prelude.{◌<◌, option_to_list, slice_get}
 use Rattle.std.proofs.lemmas.List.{append-nil, length-map}
 use Rattle.pt_base.specs.declared.int_type.IntType.{IntType}
 use Rattle.pt_tree.specs.declared.signature.Signature.{Signature}
 use Rattle.block_memory.specs.declared.cell.Cell.{Cell}
-use Rattle.block_memory.specs.declared.cell.Cell.TheVariants as cell
 use Rattle.block_memory.specs.declared.cell.BlockName.TheVariants.{Received}
 use Rattle.block_memory.specs.Blocks.{Blocks}
 use Rattle.wire.specs.declared.cell.WireCell.{WireCell}
@@ -156,7 +155,7 @@ sent_block crossing memory k blocks block items cells store store' before after 
     ∙ ap (λ xs. xs ++ sent (next_after (length store) places) rest others) added
     ∙ append_assoc before (sent (length store) places values) (sent (next_after (length store) places) rest others)
     ∙ ap (λ xs. before ++ xs) (sym (sent-append (length store) places rest values others count) ∙ ap (λ cs. sent (length store) (places ++ rest) (map number_in cs ++ others)) there
-        ∙ sym (block_more (sent (length store)) crossing memory k blocks items lt here))
+    ∙ sym (block_more (sent (length store)) crossing memory k blocks items lt here))
     ∙ so_far
 
 pub kept_block : (crossing : ℕ → ℕ → Crossing) (memory : Blocks) (k : ℕ) (blocks : List (List (IntType × WireCell))) (block items : List (IntType × WireCell)) (cells : List Cell) (store store' whole : Entries)
@@ -173,7 +172,7 @@ kept_block crossing memory k blocks block items cells store store' whole lt e sa
     let here = same ∙ e ∙ ap (get_or blocks k) (sym same) in
     ap (λ xs. xs ++ kept rest others) grown ∙ append_assoc store (kept places values) (kept rest others)
     ∙ ap (λ xs. store ++ xs) (sym (kept-append places rest values others count) ∙ ap (λ cs. kept (places ++ rest) (map number_in cs ++ others)) there
-        ∙ sym (block_more kept crossing memory k blocks items lt here))
+    ∙ sym (block_more kept crossing memory k blocks items lt here))
     ∙ so_far
 
 -- ---- the whole reply
@@ -195,8 +194,8 @@ reply_is sig value store store' crossing crossing' types values result before af
     let here = ap length grown ∙ length-kept results (option_to_list value) store (result_count sig sig.result value right) in
     ap (λ r. reply_with r after) is
     ∙ ap (reply_with (slice_get (sent (length store) results (option_to_list value)) 0))
-        (added ∙ ap (λ xs. xs ++ sent (length store') (places_of crossing 0 types) values) none
-        ∙ ap (λ n. sent n (places_of crossing 0 types) values) here ∙ ap (λ f. sent (next_after (length store) results) (places_of f 0 types) values) same)
+    (added ∙ ap (λ xs. xs ++ sent (length store') (places_of crossing 0 types) values) none
+    ∙ ap (λ n. sent n (places_of crossing 0 types) values) here ∙ ap (λ f. sent (next_after (length store) results) (places_of f 0 types) values) same)
 
 pub keeps_are : (crossing crossing' : ℕ → ℕ → Crossing) (results : List Place) (vs : List ℤ) (types : List (List IntType)) (values : List ℤ) (store store' store'' : Entries) → crossing ≡ crossing'
     → store' ≡ store ++ kept results vs → store'' ≡ store' ++ kept (places_of crossing 0 types) values

@@ -6,3 +6,4 @@ pub mod Handles
 pub mod Ranges
 pub mod Replies
 pub mod Taking
+pub mod Walks

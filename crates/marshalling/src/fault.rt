@@ -35,3 +35,23 @@ impl<T: Drop> From<AllocFailed<T>> for BadCall {
         BadCall::Memory
     }
 }
+
+/// Why a reply isn't taken.
+#[derive(Clone, Copy)]
+pub enum BadReply {
+    /// It isn't one that the signature and the arguments give with the next handles.
+    Shape,
+    /// Memory ran out.
+    Memory,
+}
+
+impl From<AllocError> for BadReply {
+    ghost use Rattle.std.specs.Prelude.{◌≡◌};
+    ghost use Rattle.marshalling.specs.declared.fault.BadReply.TheVariants.{Memory};
+
+    ghost from_gives = { λ _ e. e ≡ Memory };
+
+    fn from(_: AllocError) -> Self {
+        BadReply::Memory
+    }
+}

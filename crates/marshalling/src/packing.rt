@@ -31,8 +31,8 @@ pub fn pack_args(
     })
 }
 
-// The blocks into which the arguments point, by first use.
-fn target_names(alloc: Global, args: &[Cell]) -> Result<Vec<BlockName>, AllocError>
+/// The blocks into which the arguments point, by first use.
+pub(crate) fn target_names(alloc: Global, args: &[Cell]) -> Result<Vec<BlockName>, AllocError>
     ensures names { IfOk result (λ names. names.items ≡ names_of args.now) }
     ensures few { IfOk result (λ names. vec_len names ≤ length args.now) }
 {
@@ -104,7 +104,8 @@ fn place_among(names: &[BlockName], name: BlockName) -> u8
     names.len() as u8
 }
 
-fn arguments(
+/// The arguments as they are sent, where these are the blocks' names by number.
+pub(crate) fn arguments(
     alloc: Global,
     names: &[BlockName],
     params: &[Param],

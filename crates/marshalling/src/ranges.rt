@@ -79,7 +79,10 @@ fn pointed_range(
     match arg {
         Arg::Number(_) | Arg::Sealed(_) | Arg::Null => Ok(None),
         Arg::At {
-            block, base, count, ..
+            block,
+            base,
+            count,
+            ..
         } => Ok(Some(Range {
             block,
             base,

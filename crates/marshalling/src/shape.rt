@@ -228,8 +228,8 @@ fn is_number(ty: IntType, cell: WireCell) -> bool
     }
 }
 
-// Whether the number is one of the type.
-fn is_of(ty: IntType, number: i128) -> bool
+/// Whether the number is one of the type.
+pub(crate) fn is_of(ty: IntType, number: i128) -> bool
     ensures { result ≡ is_in_range ty number }
 {
     in_range(ty, number)

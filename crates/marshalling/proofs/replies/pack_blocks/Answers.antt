@@ -1,4 +1,4 @@
-use Rattle.std.proofs.Common.{◌∙◌, ap, subst, sym}
+use Rattle.std.proofs.Common.{subst, sym}
 use Rattle.block_memory.specs.Memory.{blocks_of}
 use Rattle.marshalling.specs.Ranges.{crossing_among}
 use Rattle.marshalling.specs.Replies.{HoldNumbers, block_types}

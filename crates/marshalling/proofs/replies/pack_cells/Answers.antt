@@ -1,4 +1,4 @@
-use Rattle.std.proofs.Common.{◌≡◌, ◌<◌, arith, get_or, length, pos}
+use Rattle.std.proofs.Common.{◌<◌, arith, get_or, length, pos}
 use Rattle.pt_base.specs.declared.int_type.IntType.TheVariants.{Char}
 use Rattle.wire.specs.declared.cell.WireCell.TheVariants.{Number}
 use Rattle.marshalling.specs.Ranges.{crossing_among}

@@ -10,5 +10,5 @@ invariant-loop-i l = record {
   sent : l.cells.items ++ sent (length l.store) (rest_places (crossing_among l.ranges) l.k l.i l.block) (map number_in (drop l.i l.numbers))
       ≡ l.fn.cells.items ++ sent (length l.fn.store) (places_from (crossing_among l.ranges) l.k 0 (block_types l.block)) (map number_in l.numbers);
   kept : l.store ++ kept (rest_places (crossing_among l.ranges) l.k l.i l.block) (map number_in (drop l.i l.numbers))
-      ≡ l.fn.store ++ kept (places_from (crossing_among l.ranges) l.k 0 (block_types l.block)) (map number_in l.numbers)
+      ≡ l.fn.store ++ kept (places_from (crossing_among l.ranges) l.k 0 (block_types l.block)) (map number_in l.numbers);
 }
