@@ -1,5 +1,6 @@
 pub mod LeafLemmas
 pub mod Lists
+pub mod PostingLemmas
 pub mod RangeLemmas
 pub mod ReplyLemmas
 pub mod ShapeLemmas

@@ -177,7 +177,7 @@ kept_block crossing memory k blocks block items cells store store' whole lt e sa
 
 -- ---- the whole reply
 
-result_count : (sig : Signature) (t : Option IntType) (value : Option ℤ) → IsResult t value → length (result_places sig t) ≡ length (option_to_list value)
+pub result_count : (sig : Signature) (t : Option IntType) (value : Option ℤ) → IsResult t value → length (result_places sig t) ≡ length (option_to_list value)
 result_count sig None None h = refl
 result_count sig None (Some v) h = absurd h
 result_count sig (Some t) None h = absurd h

@@ -7,3 +7,4 @@ pub mod Ranges
 pub mod Replies
 pub mod Taking
 pub mod Walks
+pub mod Laws

@@ -4,6 +4,7 @@
 mod crossing;
 mod fault;
 mod inputs;
+mod laws;
 mod leaf;
 mod leaves;
 mod packing;
@@ -20,6 +21,7 @@ mod walk;
 pub use crossing::Crossing;
 pub use fault::{BadCall, BadReply};
 pub use inputs::Inputs;
+pub use laws::posting_is_taking;
 pub use leaf::Leaf;
 pub use packing::pack_args;
 pub use replies::pack_results;

@@ -1,0 +1,18 @@
+-- The laws of calls and their replies.
+use Rattle.std.specs.Prelude.{◌≡◌, ℕ, ℤ, true, false, List, Option}
+use Rattle.pt_tree.specs.declared.signature.Signature.{Signature}
+use Rattle.typed_tree.specs.declared.types.StructInfo.{StructInfo}
+use Rattle.block_memory.specs.declared.cell.Cell.{Cell}
+use Rattle.block_memory.specs.Blocks.{Blocks}
+use Rattle.marshalling.specs.Packing.{packed}
+use Rattle.marshalling.specs.Replies.{AreServed, IsResult, has_plain, packed_results, result_places, types_in}
+use Rattle.marshalling.specs.Taking.{after_posting, after_reply, are_whole, call_places}
+
+-- Where neither the result nor a cell comes back as a number, posting a call leaves what taking the reply does that
+-- serving gives, whatever the monitor computed.
+abbrev pub PostingIsTaking : Type 0
+PostingIsTaking =
+    (handle : ℕ) (structs : List StructInfo) (sig : Signature) (blocks : Blocks) (args : List Cell) (served : Blocks) (result : Option ℤ)
+    → are_whole blocks args ≡ true → has_plain (result_places sig sig.result) ≡ false → has_plain (call_places blocks structs sig.params args) ≡ false
+    → AreServed served 0 (types_in (packed blocks sig.params args)) → IsResult sig.result result
+    → after_reply handle blocks structs sig args (packed_results handle structs sig (packed blocks sig.params args) served result) ≡ after_posting handle blocks structs sig args
