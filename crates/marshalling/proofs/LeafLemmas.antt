@@ -62,7 +62,8 @@ kept known (s ∷ ss) k h =
     kept (known ++ struct_leaves known s ∷ []) ss k (omega (arith, h, more)) ∙ get_before known (struct_leaves known s ∷ []) k h
 
 -- what names earlier structs only has the same leaves
-same_object : (known : List (List Leaf)) (ss : List StructInfo) (ty : VarTy) → is_object (length known) ty ≡ true → object_leaves (leaves_from known ss) ty ≡ object_leaves known ty
+same_object : (known : List (List Leaf)) (ss : List StructInfo) (ty : VarTy) → is_object (length known) ty ≡ true
+    → object_leaves (leaves_from known ss) ty ≡ object_leaves known ty
 same_object known ss (Int t) h = refl
 same_object known ss (Struct n) h = ap (λ o. unwrap_or o []) (kept known ss n (grind (arith, nat_tests, h)))
 same_object known ss (Array (e.Int t) count) h = refl
@@ -87,12 +88,15 @@ struct_at known (s' ∷ ss) zero s n k is at h e =
     let fields' : list_all (λ f. is_object (length known) f.ty) s'.fields ≡ true = rw (← is) fields in
     let more = longer known (struct_leaves known s') in
     let here : slice_get (leaves_from (known ++ struct_leaves known s' ∷ []) ss) k ≡ Some (struct_leaves known s') =
-    kept (known ++ struct_leaves known s' ∷ []) ss k (omega (arith, is, at, more)) ∙ get_last known (struct_leaves known s') k (omega (arith, is, at)) in
+    kept (known ++ struct_leaves known s' ∷ []) ss k (omega (arith, is, at, more))
+    ∙ get_last known (struct_leaves known s') k (omega (arith, is, at)) in
     let one : s' ≡ s = cc in
-    ap (λ o. unwrap_or o []) here ∙ same_fields known (s' ∷ ss) s'.fields fields' ∙ ap (λ x. flat_map (field_leaves (leaves_from known (s' ∷ ss))) x.fields) one
+    ap (λ o. unwrap_or o []) here ∙ same_fields known (s' ∷ ss) s'.fields fields'
+    ∙ ap (λ x. flat_map (field_leaves (leaves_from known (s' ∷ ss))) x.fields) one
 struct_at known (s' ∷ ss) (suc i) s n k is at h e =
     let more = longer known (struct_leaves known s') in
-    struct_at (known ++ struct_leaves known s' ∷ []) ss i s (suc n) k (omega (arith, is, more)) (omega (arith, at)) (second (list_all (λ f. is_object n f.ty) s'.fields) (name_earlier (suc n) ss) h) e
+    struct_at (known ++ struct_leaves known s' ∷ []) ss i s (suc n) k (omega (arith, is, more)) (omega (arith, at))
+    (second (list_all (λ f. is_object n f.ty) s'.fields) (name_earlier (suc n) ss) h) e
 
 -- ---- parts
 
@@ -119,12 +123,14 @@ unfolding leaves_of
 struct_from structs n s h e = struct_at [] structs n s 0 n refl (omega arith) h e
 
 -- a struct's cells are those of its fields, one after the other
-pub leaves_of_struct : (structs : List StructInfo) (n : ℕ) (s : StructInfo) → name_earlier 0 structs ≡ true → n < length structs → s ≡ get_or structs n s
+pub leaves_of_struct : (structs : List StructInfo) (n : ℕ) (s : StructInfo) → name_earlier 0 structs ≡ true → n < length structs
+    → s ≡ get_or structs n s
     → leaves_of structs (e.Struct n) ≡ flat_map (field_cells structs) s.fields
 leaves_of_struct structs n s h lt e = struct_from structs n s h (get_at structs n s lt e) ∙ same_cells structs s.fields
 
 -- its fields name earlier structs only
-pub fields_earlier : (structs : List StructInfo) (from n : ℕ) (s : StructInfo) (k : ℕ) → k ≡ from + n → name_earlier from structs ≡ true → n < length structs → s ≡ get_or structs n s
+pub fields_earlier : (structs : List StructInfo) (from n : ℕ) (s : StructInfo) (k : ℕ) → k ≡ from + n → name_earlier from structs ≡ true
+    → n < length structs → s ≡ get_or structs n s
     → list_all (λ f. is_object k f.ty) s.fields ≡ true
 fields_earlier [] from n s k at h lt e = absurd (omega arith)
 fields_earlier (s' ∷ ss) from zero s k at h lt e =
@@ -132,25 +138,31 @@ fields_earlier (s' ∷ ss) from zero s k at h lt e =
     let same : k ≡ from = omega arith in
     rw (same, e) here
 fields_earlier (s' ∷ ss) from (suc n) s k at h lt e =
-    fields_earlier ss (suc from) n s k (omega arith) (second (list_all (λ f. is_object from f.ty) s'.fields) (name_earlier (suc from) ss) h) (omega arith) e
+    fields_earlier ss (suc from) n s k (omega arith) (second (list_all (λ f. is_object from f.ty) s'.fields) (name_earlier (suc from) ss) h)
+    (omega arith) e
 
 -- ---- steps of the walk
 
 -- a struct's fields are its cells
-pub struct_starts : (structs : List StructInfo) (m : Bool) (n : ℕ) (elem : Elem) (s : StructInfo) (items : List Field) (before : List Leaf) → name_earlier 0 structs ≡ true → n < length structs
+pub struct_starts : (structs : List StructInfo) (m : Bool) (n : ℕ) (elem : Elem) (s : StructInfo) (items : List Field) (before : List Leaf)
+    → name_earlier 0 structs ≡ true → n < length structs
     → s ≡ get_or structs n s → elem ≡ e.Struct n → items ≡ s.fields
     → before ++ map (under m) (flat_map (field_cells structs) items) ≡ before ++ map (under m) (leaves_of structs elem)
 struct_starts structs m n elem s items before h lt e is same =
-    ap (λ xs. before ++ map (under m) xs) (ap (flat_map (field_cells structs)) same ∙ sym (leaves_of_struct structs n s h lt e) ∙ ap (leaves_of structs) (sym is))
+    ap (λ xs. before ++ map (under m) xs) (ap (flat_map (field_cells structs)) same ∙ sym (leaves_of_struct structs n s h lt e) ∙ ap
+    (leaves_of structs) (sym is))
 
 -- a field names earlier structs only
-pub field_object : (structs : List StructInfo) (n : ℕ) (s : StructInfo) (items : List Field) (i : ℕ) (f : Field) → name_earlier 0 structs ≡ true → n < length structs → s ≡ get_or structs n s
+pub field_object : (structs : List StructInfo) (n : ℕ) (s : StructInfo) (items : List Field) (i : ℕ) (f : Field) → name_earlier 0 structs ≡ true
+    → n < length structs → s ≡ get_or structs n s
     → items ≡ s.fields → i < length items → f ≡ get_or items i f → is_object n f.ty ≡ true
 field_object structs n s items i f h lt e same below item =
-    all_at (λ f. is_object n f.ty) items i f (ap (list_all (λ f. is_object n f.ty)) same ∙ fields_earlier structs 0 n s n (omega arith) h lt e) below item
+    all_at (λ f. is_object n f.ty) items i f
+    (ap (list_all (λ f. is_object n f.ty)) same ∙ fields_earlier structs 0 n s n (omega arith) h lt e) below item
 
 -- one field more
-pub field_more : (structs : List StructInfo) (m : Bool) (fields : List Field) (i : ℕ) (f : Field) (secret : Bool) (before after whole : List Leaf) → i < length fields → f ≡ get_or fields i f
+pub field_more : (structs : List StructInfo) (m : Bool) (fields : List Field) (i : ℕ) (f : Field) (secret : Bool)
+    (before after whole : List Leaf) → i < length fields → f ≡ get_or fields i f
     → before ++ map (under m) (flat_map (field_cells structs) (drop i fields)) ≡ whole
     → secret ≡ (m || f.marked) → after ≡ before ++ map (under secret) (object_cells structs f.ty)
     → after ++ map (under m) (flat_map (field_cells structs) (drop (i + 1) fields)) ≡ whole
@@ -171,7 +183,8 @@ or_false : (b : Bool) → b ≡ (b || false)
 or_false true = refl
 or_false false = refl
 
-pub int_cells : (structs : List StructInfo) (m : Bool) (t : IntType) (elem : Elem) → elem ≡ e.Int t → leaf_at t m ∷ [] ≡ map (under m) (leaves_of structs elem)
+pub int_cells : (structs : List StructInfo) (m : Bool) (t : IntType) (elem : Elem) → elem ≡ e.Int t
+    → leaf_at t m ∷ [] ≡ map (under m) (leaves_of structs elem)
 int_cells structs m t elem is =
     ap (λ b. leaf_at t b ∷ []) (or_false m) ∙ sym (ap (λ x. map (under m) (leaves_of structs x)) is ∙ ap (map (under m)) (leaves_of_int structs t))
 

@@ -1,3 +1,4 @@
+pub mod CountLemmas
 pub mod LeafLemmas
 pub mod Lists
 pub mod PostingLemmas

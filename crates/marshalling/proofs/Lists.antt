@@ -23,11 +23,13 @@ all_at test (y ∷ xs) zero x h lt e = ap test e ∙ first (test y) (list_all te
 all_at test (y ∷ xs) (suc i) x h lt e = all_at test xs i x (second (test y) (list_all test xs) h) (omega arith) e
 
 -- a function of what is left of a list, one step on
-pub at_drop : {X Y : Type 0} (F : List X → Y) (xs : List X) (i : ℕ) (x : X) → i < length xs → x ≡ get_or xs i x → F (drop i xs) ≡ F (x ∷ drop (i + 1) xs)
+pub at_drop : {X Y : Type 0} (F : List X → Y) (xs : List X) (i : ℕ) (x : X) → i < length xs → x ≡ get_or xs i x
+    → F (drop i xs) ≡ F (x ∷ drop (i + 1) xs)
 at_drop F xs i x lt e = ap F (drop_more xs i x lt ∙ ap (λ y. y ∷ drop (i + 1) xs) (sym e))
 
 -- the same of two lists
-pub at_drops : {X Y Z : Type 0} (F : List X → List Y → Z) (xs : List X) (ys : List Y) (i : ℕ) (x : X) (y : Y) → i < length xs → i < length ys → x ≡ get_or xs i x → y ≡ get_or ys i y
+pub at_drops : {X Y Z : Type 0} (F : List X → List Y → Z) (xs : List X) (ys : List Y) (i : ℕ) (x : X) (y : Y) → i < length xs → i < length ys
+    → x ≡ get_or xs i x → y ≡ get_or ys i y
     → F (drop i xs) (drop i ys) ≡ F (x ∷ drop (i + 1) xs) (y ∷ drop (i + 1) ys)
 at_drops F xs ys i x y lx ly ex ey = at_drop (λ zs. F zs (drop i ys)) xs i x lx ex ∙ at_drop (F (x ∷ drop (i + 1) xs)) ys i y ly ey
 

@@ -32,7 +32,8 @@ same_sent Plain handle v w h = cc
 same_sent Sealed handle v w h = refl
 
 -- the numbers don't matter
-sent_known : (handle : ℕ) (places : List Place) (vs ws : List ℤ) → has_plain places ≡ false → length places ≡ length vs → length places ≡ length ws → sent handle places vs ≡ sent handle places ws
+sent_known : (handle : ℕ) (places : List Place) (vs ws : List ℤ) → has_plain places ≡ false → length places ≡ length vs
+    → length places ≡ length ws → sent handle places vs ≡ sent handle places ws
 sent_known handle [] vs ws h lv lw = refl
 sent_known handle (p ∷ places) [] ws h lv lw = absurd (omega arith)
 sent_known handle (p ∷ places) (v ∷ vs) [] h lv lw = absurd (omega arith)
@@ -43,7 +44,8 @@ sent_known handle (p ∷ places) (v ∷ vs) (w ∷ ws) h lv lw =
 
 -- ---- counts
 
-places_served : (crossing : ℕ → ℕ → Crossing) (served : Blocks) (k : ℕ) (types : List (List IntType)) → AreServed served k types → length (places_of crossing k types) ≡ length (received served k types)
+places_served : (crossing : ℕ → ℕ → Crossing) (served : Blocks) (k : ℕ) (types : List (List IntType)) → AreServed served k types
+    → length (places_of crossing k types) ≡ length (received served k types)
 places_served crossing served k [] h = refl
 places_served crossing served k (t ∷ types) h =
     let cells = (served (Received k)).cells in
@@ -68,23 +70,30 @@ packed_types blocks [] h = refl
 packed_types blocks (name ∷ names) h =
     let here = whole_count (blocks name) (first (is_whole (blocks name)) (list_all (λ name. is_whole (blocks name)) names) h) in
     let rest = packed_types blocks names (second (is_whole (blocks name)) (list_all (λ name. is_whole (blocks name)) names) h) in
-    ap (λ ts. ts ∷ map block_types (map (λ name. packed_block (blocks name)) names)) (zip_types (blocks name).types (blocks name).cells here) ∙ ap (λ ts. (blocks name).types ∷ ts) rest
+    ap (λ ts. ts ∷ map block_types (map (λ name. packed_block (blocks name)) names)) (zip_types (blocks name).types (blocks name).cells here)
+    ∙ ap (λ ts. (blocks name).types ∷ ts) rest
 
 -- ---- the law
 
 -- a reply that holds no number is known
-known : (handle : ℕ) (results : List Place) (vs : List ℤ) (places : List Place) (values : List ℤ) → has_plain results ≡ false → has_plain places ≡ false → length results ≡ length vs
+known : (handle : ℕ) (results : List Place) (vs : List ℤ) (places : List Place) (values : List ℤ) → has_plain results ≡ false
+    → has_plain places ≡ false → length results ≡ length vs
     → length places ≡ length values → reply_of handle results vs places values ≡ reply_of handle results (zeros results) places (zeros places)
 known handle results vs places values no_result no_cell lr lp =
-    ap (λ xs. reply_with (slice_get xs 0) (sent (next_after handle results) places values)) (sent_known handle results vs (zeros results) no_result lr (zeros_count results))
-    ∙ ap (reply_with (slice_get (sent handle results (zeros results)) 0)) (sent_known (next_after handle results) places values (zeros places) no_cell lp (zeros_count places))
+    ap (λ xs. reply_with (slice_get xs 0) (sent (next_after handle results) places values))
+    (sent_known handle results vs (zeros results) no_result lr (zeros_count results))
+    ∙ ap (reply_with (slice_get (sent handle results (zeros results)) 0))
+    (sent_known (next_after handle results) places values (zeros places) no_cell lp (zeros_count places))
 
 -- the monitor's reply, by the types that the caller's blocks have
-served_reply : (handle : ℕ) (structs : List StructInfo) (sig : Signature) (blocks : Blocks) (args : List Cell) (served : Blocks) (result : Option ℤ) → are_whole blocks args ≡ true
+served_reply : (handle : ℕ) (structs : List StructInfo) (sig : Signature) (blocks : Blocks) (args : List Cell) (served : Blocks)
+    (result : Option ℤ) → are_whole blocks args ≡ true
     → packed_results handle structs sig (packed blocks sig.params args) served result
-    ≡ reply_of handle (result_places sig sig.result) (option_to_list result) (call_places blocks structs sig.params args) (received served 0 (map (λ name. (blocks name).types) (names_of args)))
+    ≡ reply_of handle (result_places sig sig.result) (option_to_list result) (call_places blocks structs sig.params args)
+    (received served 0 (map (λ name. (blocks name).types) (names_of args)))
 served_reply handle structs sig blocks args served result whole =
-    ap (λ types. reply_of handle (result_places sig sig.result) (option_to_list result) (places_of (call_crossing structs sig.params args) 0 types) (received served 0 types)) (packed_types blocks (names_of args) whole)
+    ap (λ types. reply_of handle (result_places sig sig.result) (option_to_list result) (places_of (call_crossing structs sig.params args) 0 types)
+    (received served 0 types)) (packed_types blocks (names_of args) whole)
 
 pub posting_takes : PostingIsTaking
 posting_takes handle structs sig blocks args served result whole no_result no_cell serves right =
@@ -93,4 +102,5 @@ posting_takes handle structs sig blocks args served result whole no_result no_ce
     let count = places_served (call_crossing structs sig.params args) served 0 types here in
     ap (after_reply handle blocks structs sig args)
     (served_reply handle structs sig blocks args served result whole
-    ∙ known handle (result_places sig sig.result) (option_to_list result) (call_places blocks structs sig.params args) (received served 0 types) no_result no_cell (result_count sig sig.result result right) count)
+    ∙ known handle (result_places sig sig.result) (option_to_list result) (call_places blocks structs sig.params args)
+    (received served 0 types) no_result no_cell (result_count sig sig.result result right) count)

@@ -41,23 +41,28 @@ same_crossings f g h = λ i k n. h k n i
 
 -- ---- one range more
 
-pub among_more : (ranges : List Range) (r : Range) (k n : ℕ) → crossing_among (ranges ++ r ∷ []) k n ≡ stronger (crossing_among ranges k n) (crossing_in r k n)
+pub among_more : (ranges : List Range) (r : Range) (k n : ℕ)
+    → crossing_among (ranges ++ r ∷ []) k n ≡ stronger (crossing_among ranges k n) (crossing_in r k n)
 among_more [] r k n = stronger_stays (crossing_in r k n)
 among_more (s ∷ ranges) r k n =
-    ap (stronger (crossing_in s k n)) (among_more ranges r k n) ∙ sym (stronger_assoc (crossing_in s k n) (crossing_among ranges k n) (crossing_in r k n))
+    ap (stronger (crossing_in s k n)) (among_more ranges r k n)
+    ∙ sym (stronger_assoc (crossing_in s k n) (crossing_among ranges k n) (crossing_in r k n))
 
 -- no range
-pub among_none : (ranges : List Range) (crossing : ℕ → ℕ → Crossing) (k n : ℕ) → Stays ≡ crossing k n → crossing_among ranges k n ≡ stronger (crossing_among ranges k n) (crossing k n)
+pub among_none : (ranges : List Range) (crossing : ℕ → ℕ → Crossing) (k n : ℕ) → Stays ≡ crossing k n
+    → crossing_among ranges k n ≡ stronger (crossing_among ranges k n) (crossing k n)
 among_none ranges crossing k n h = sym (stronger_stays (crossing_among ranges k n)) ∙ ap (stronger (crossing_among ranges k n)) h
 
-pub among_some : (ranges more : List Range) (r : Range) (crossing : ℕ → ℕ → Crossing) (k n : ℕ) → more ≡ ranges ++ r ∷ [] → crossing_in r k n ≡ crossing k n
+pub among_some : (ranges more : List Range) (r : Range) (crossing : ℕ → ℕ → Crossing) (k n : ℕ) → more ≡ ranges ++ r ∷ []
+    → crossing_in r k n ≡ crossing k n
     → crossing_among more k n ≡ stronger (crossing_among ranges k n) (crossing k n)
 among_some ranges more r crossing k n is h =
     ap (λ rs. crossing_among rs k n) is ∙ among_more ranges r k n ∙ ap (stronger (crossing_among ranges k n)) h
 
 -- ---- the walk over arguments
 
-pub ranges_more : (structs : List StructInfo) (params : List Param) (args : List Arg) (i : ℕ) (p : Param) (a : Arg) (before after : List Range) (k n : ℕ) (whole : Crossing)
+pub ranges_more : (structs : List StructInfo) (params : List Param) (args : List Arg) (i : ℕ) (p : Param) (a : Arg) (before after : List Range)
+    (k n : ℕ) (whole : Crossing)
     → i < length params → i < length args → p ≡ get_or params i p → a ≡ get_or args i a
     → crossing_among after k n ≡ stronger (crossing_among before k n) (crossing_by structs (is_secret p) p.kind a k n)
     → stronger (crossing_among before k n) (crossing_of structs (drop i params) (drop i args) k n) ≡ whole
@@ -72,23 +77,30 @@ none_left : (structs : List StructInfo) (params : List Param) (k n : ℕ) → cr
 none_left structs [] k n = refl
 none_left structs (p ∷ params) k n = refl
 
-pub ranges_end : (structs : List StructInfo) (params : List Param) (args : List Arg) (i : ℕ) (ranges : List Range) (k n : ℕ) (whole : Crossing) → length args ≤ i
+pub ranges_end : (structs : List StructInfo) (params : List Param) (args : List Arg) (i : ℕ) (ranges : List Range) (k n : ℕ) (whole : Crossing)
+    → length args ≤ i
     → stronger (crossing_among ranges k n) (crossing_of structs params (drop i args) k n) ≡ whole → crossing_among ranges k n ≡ whole
 ranges_end structs params args i ranges k n whole past so_far =
-    sym (stronger_stays (crossing_among ranges k n)) ∙ ap (stronger (crossing_among ranges k n)) (sym (none_left structs params k n) ∙ ap (λ as'. crossing_of structs params as' k n) (sym (drop_all i args past))) ∙ so_far
+    sym (stronger_stays (crossing_among ranges k n))
+    ∙ ap (stronger (crossing_among ranges k n))
+    (sym (none_left structs params k n) ∙ ap (λ as'. crossing_of structs params as' k n) (sym (drop_all i args past))) ∙ so_far
 
-pub ranges_done : (structs : List StructInfo) (params : List Param) (args : List Arg) (i : ℕ) (ranges : List Range) (k n : ℕ) (whole : Crossing) → length params ≤ i
+pub ranges_done : (structs : List StructInfo) (params : List Param) (args : List Arg) (i : ℕ) (ranges : List Range) (k n : ℕ) (whole : Crossing)
+    → length params ≤ i
     → stronger (crossing_among ranges k n) (crossing_of structs (drop i params) args k n) ≡ whole → crossing_among ranges k n ≡ whole
 ranges_done structs params args i ranges k n whole past so_far =
-    sym (stronger_stays (crossing_among ranges k n)) ∙ ap (λ ps. stronger (crossing_among ranges k n) (crossing_of structs ps args k n)) (sym (drop_all i params past)) ∙ so_far
+    sym (stronger_stays (crossing_among ranges k n))
+    ∙ ap (λ ps. stronger (crossing_among ranges k n) (crossing_of structs ps args k n)) (sym (drop_all i params past)) ∙ so_far
 
 -- ---- the walk over ranges
 
 pub crossing_more : (ranges : List Range) (i : ℕ) (r : Range) (k n : ℕ) (before after whole : Crossing) → i < length ranges → r ≡ get_or ranges i r
-    → after ≡ stronger before (crossing_in r k n) → stronger before (crossing_among (drop i ranges) k n) ≡ whole → stronger after (crossing_among (drop (i + 1) ranges) k n) ≡ whole
+    → after ≡ stronger before (crossing_in r k n) → stronger before (crossing_among (drop i ranges) k n) ≡ whole
+    → stronger after (crossing_among (drop (i + 1) ranges) k n) ≡ whole
 crossing_more ranges i r k n before after whole lt e is so_far =
     let rest = crossing_among (drop (i + 1) ranges) k n in
-    ap (λ x. stronger x rest) is ∙ stronger_assoc before (crossing_in r k n) rest ∙ ap (stronger before) (sym (at_drop (λ rs. crossing_among rs k n) ranges i r lt e)) ∙ so_far
+    ap (λ x. stronger x rest) is ∙ stronger_assoc before (crossing_in r k n) rest
+    ∙ ap (stronger before) (sym (at_drop (λ rs. crossing_among rs k n) ranges i r lt e)) ∙ so_far
 
 -- ---- the leaves of a range
 

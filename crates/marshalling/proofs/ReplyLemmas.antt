@@ -27,16 +27,19 @@ length-kept_by Stays t v store = ap length (append-nil store)
 length-kept_by Plain t v store = ap length (append-nil store)
 length-kept_by Sealed t v store = length-append store ((t, v) ∷ []) ∙ add-one (length store)
 
-length-kept : (places : List Place) (values : List ℤ) (store : Entries) → length places ≡ length values → length (store ++ kept places values) ≡ next_after (length store) places
+length-kept : (places : List Place) (values : List ℤ) (store : Entries) → length places ≡ length values
+    → length (store ++ kept places values) ≡ next_after (length store) places
 length-kept [] values store h = ap length (append-nil store)
 length-kept (p ∷ places) [] store h = absurd (omega arith)
 length-kept (p ∷ places) (v ∷ values) store h =
-    ap length (sym (append_assoc store (kept_by p.way p.ty v) (kept places values))) ∙ length-kept places values (store ++ kept_by p.way p.ty v) (omega arith)
+    ap length (sym (append_assoc store (kept_by p.way p.ty v) (kept places values)))
+    ∙ length-kept places values (store ++ kept_by p.way p.ty v) (omega arith)
     ∙ ap (λ n. next_after n places) (length-kept_by p.way p.ty v store)
 
 -- ---- one part after another
 
-sent-append : (handle : ℕ) (ps qs : List Place) (vs ws : List ℤ) → length ps ≡ length vs → sent handle (ps ++ qs) (vs ++ ws) ≡ sent handle ps vs ++ sent (next_after handle ps) qs ws
+sent-append : (handle : ℕ) (ps qs : List Place) (vs ws : List ℤ) → length ps ≡ length vs
+    → sent handle (ps ++ qs) (vs ++ ws) ≡ sent handle ps vs ++ sent (next_after handle ps) qs ws
 sent-append handle [] qs [] ws h = refl
 sent-append handle [] qs (v ∷ vs) ws h = absurd (omega arith)
 sent-append handle (p ∷ ps) qs [] ws h = absurd (omega arith)
@@ -66,7 +69,8 @@ holds_length (t ∷ types) (c ∷ cells) h = ap suc (holds_length types cells h.
 pub holds_count : (block : List (IntType × WireCell)) (cells : List Cell) → HoldNumbers (block_types block) cells → length block ≡ length cells
 holds_count block cells h = sym (length-map block (λ typed. typed.0)) ∙ holds_length (block_types block) cells h
 
-pub holds_at : (block : List (IntType × WireCell)) (cells : List Cell) (i : ℕ) (typed : IntType × WireCell) (c : Cell) → HoldNumbers (block_types block) cells
+pub holds_at : (block : List (IntType × WireCell)) (cells : List Cell) (i : ℕ) (typed : IntType × WireCell) (c : Cell)
+    → HoldNumbers (block_types block) cells
     → i < length block → typed ≡ get_or block i typed → c ≡ get_or cells i c → HoldsNumber typed.0 c
 holds_at [] cells i typed c h lt e f = absurd (omega arith)
 holds_at (b ∷ block) [] i typed c h lt e f = absurd h
@@ -78,15 +82,18 @@ holds_at (b ∷ block) (d ∷ cells) (suc i) typed c h lt e f = holds_at block c
 abbrev pub rest_places : (ℕ → ℕ → Crossing) → ℕ → ℕ → List (IntType × WireCell) → List Place
 rest_places crossing k i block = places_from crossing k i (block_types (drop i block))
 
-place_more : {X : Type 0} (F : List Place → List ℤ → X) (crossing : ℕ → ℕ → Crossing) (k i : ℕ) (block : List (IntType × WireCell)) (cells : List Cell) (typed : IntType × WireCell) (c : Cell)
+place_more : {X : Type 0} (F : List Place → List ℤ → X) (crossing : ℕ → ℕ → Crossing) (k i : ℕ) (block : List (IntType × WireCell))
+    (cells : List Cell) (typed : IntType × WireCell) (c : Cell)
     → i < length block → i < length cells → typed ≡ get_or block i typed → c ≡ get_or cells i c
     → F (rest_places crossing k i block) (map number_in (drop i cells))
     ≡ F (record { way = crossing k i; ty = typed.0 } ∷ rest_places crossing k (i + 1) block) (number_in c ∷ map number_in (drop (i + 1) cells))
 place_more F crossing k i block cells typed c lb lc eb ec =
     at_drops (λ bs cs. F (places_from crossing k i (block_types bs)) (map number_in cs)) block cells i typed c lb lc eb ec
-    ∙ ap (λ j. F (record { way = crossing k i; ty = typed.0 } ∷ places_from crossing k j (block_types (drop (i + 1) block))) (number_in c ∷ map number_in (drop (i + 1) cells))) (sym (add-one i))
+    ∙ ap (λ j. F (record { way = crossing k i; ty = typed.0 } ∷ places_from crossing k j (block_types (drop (i + 1) block)))
+    (number_in c ∷ map number_in (drop (i + 1) cells))) (sym (add-one i))
 
-pub sent_more : (crossing : ℕ → ℕ → Crossing) (w : Crossing) (k i : ℕ) (block : List (IntType × WireCell)) (cells : List Cell) (typed : IntType × WireCell) (c : Cell) (store store' : Entries)
+pub sent_more : (crossing : ℕ → ℕ → Crossing) (w : Crossing) (k i : ℕ) (block : List (IntType × WireCell)) (cells : List Cell)
+    (typed : IntType × WireCell) (c : Cell) (store store' : Entries)
     (before after whole : List WireCell) → i < length block → i < length cells → typed ≡ get_or block i typed → c ≡ get_or cells i c
     → w ≡ crossing k i → after ≡ before ++ sent_by w (length store) (number_in c) → store' ≡ store ++ kept_by w typed.0 (number_in c)
     → before ++ sent (length store) (rest_places crossing k i block) (map number_in (drop i cells)) ≡ whole
@@ -100,7 +107,8 @@ sent_more crossing w k i block cells typed c store store' before after whole lb 
     ∙ ap (λ x. before ++ (sent_by x (length store) (number_in c) ++ sent (next_by x (length store)) rest values)) is
     ∙ ap (λ xs. before ++ xs) (sym (place_more (sent (length store)) crossing k i block cells typed c lb lc eb ec)) ∙ so_far
 
-pub kept_more : (crossing : ℕ → ℕ → Crossing) (w : Crossing) (k i : ℕ) (block : List (IntType × WireCell)) (cells : List Cell) (typed : IntType × WireCell) (c : Cell) (store store' whole : Entries)
+pub kept_more : (crossing : ℕ → ℕ → Crossing) (w : Crossing) (k i : ℕ) (block : List (IntType × WireCell)) (cells : List Cell)
+    (typed : IntType × WireCell) (c : Cell) (store store' whole : Entries)
     → i < length block → i < length cells → typed ≡ get_or block i typed → c ≡ get_or cells i c
     → w ≡ crossing k i → store' ≡ store ++ kept_by w typed.0 (number_in c)
     → store ++ kept (rest_places crossing k i block) (map number_in (drop i cells)) ≡ whole
@@ -119,27 +127,35 @@ rest_blocks crossing k blocks = places_of crossing k (types_of (drop k blocks))
 abbrev pub rest_numbers : Blocks → ℕ → List (List (IntType × WireCell)) → List ℤ
 rest_numbers memory k blocks = received memory k (types_of (drop k blocks))
 
-block_more : {X : Type 0} (F : List Place → List ℤ → X) (crossing : ℕ → ℕ → Crossing) (memory : Blocks) (k : ℕ) (blocks : List (List (IntType × WireCell))) (block : List (IntType × WireCell))
+block_more : {X : Type 0} (F : List Place → List ℤ → X) (crossing : ℕ → ℕ → Crossing) (memory : Blocks) (k : ℕ)
+    (blocks : List (List (IntType × WireCell))) (block : List (IntType × WireCell))
     → k < length blocks → block ≡ get_or blocks k block
     → F (rest_blocks crossing k blocks) (rest_numbers memory k blocks)
-    ≡ F (places_from crossing k 0 (block_types block) ++ rest_blocks crossing (k + 1) blocks) (map number_in (memory (Received k)).cells ++ rest_numbers memory (k + 1) blocks)
+    ≡ F (places_from crossing k 0 (block_types block) ++ rest_blocks crossing (k + 1) blocks)
+    (map number_in (memory (Received k)).cells ++ rest_numbers memory (k + 1) blocks)
 block_more F crossing memory k blocks block lt e =
     at_drop (λ bs. F (places_of crossing k (types_of bs)) (received memory k (types_of bs))) blocks k block lt e
-    ∙ ap (λ j. F (places_from crossing k 0 (block_types block) ++ places_of crossing j (types_of (drop (k + 1) blocks))) (map number_in (memory (Received k)).cells ++ received memory j (types_of (drop (k + 1) blocks)))) (sym (add-one k))
+    ∙ ap (λ j. F (places_from crossing k 0 (block_types block) ++ places_of crossing j (types_of (drop (k + 1) blocks)))
+    (map number_in (memory (Received k)).cells ++ received memory j (types_of (drop (k + 1) blocks)))) (sym (add-one k))
 
 -- what is served of the blocks from this one on
-pub served_here : (memory : Blocks) (k : ℕ) (blocks : List (List (IntType × WireCell))) (block : List (IntType × WireCell)) → k < length blocks → block ≡ get_or blocks k block
-    → AreServed memory k (types_of (drop k blocks)) → (k < 256) × HoldNumbers (block_types block) (memory (Received k)).cells × AreServed memory (k + 1) (types_of (drop (k + 1) blocks))
+pub served_here : (memory : Blocks) (k : ℕ) (blocks : List (List (IntType × WireCell))) (block : List (IntType × WireCell)) → k < length blocks
+    → block ≡ get_or blocks k block
+    → AreServed memory k (types_of (drop k blocks))
+    → (k < 256) × HoldNumbers (block_types block) (memory (Received k)).cells × AreServed memory (k + 1) (types_of (drop (k + 1) blocks))
 served_here memory k blocks block lt e h =
     let here = subst (λ bs. AreServed memory k (types_of bs)) (drops blocks k block lt e) h in
     (here.0, here.1, subst (λ j. AreServed memory j (types_of (drop (k + 1) blocks))) (sym (add-one k)) here.2)
 
 places_count : (crossing : ℕ → ℕ → Crossing) (k : ℕ) (block : List (IntType × WireCell)) (cells : List Cell) → HoldNumbers (block_types block) cells
     → length (places_from crossing k 0 (block_types block)) ≡ length (map number_in cells)
-places_count crossing k block cells h = length-places_from crossing k 0 (block_types block) ∙ holds_length (block_types block) cells h ∙ sym (length-map cells number_in)
+places_count crossing k block cells h = length-places_from crossing k 0 (block_types block) ∙ holds_length (block_types block) cells h
+    ∙ sym (length-map cells number_in)
 
-pub sent_block : (crossing : ℕ → ℕ → Crossing) (memory : Blocks) (k : ℕ) (blocks : List (List (IntType × WireCell))) (block items : List (IntType × WireCell)) (cells : List Cell) (store store' : Entries)
-    (before after whole : List WireCell) → k < length blocks → block ≡ get_or blocks k block → items ≡ block → cells ≡ (memory (Received k)).cells → HoldNumbers (block_types items) cells
+pub sent_block : (crossing : ℕ → ℕ → Crossing) (memory : Blocks) (k : ℕ) (blocks : List (List (IntType × WireCell)))
+    (block items : List (IntType × WireCell)) (cells : List Cell) (store store' : Entries)
+    (before after whole : List WireCell) → k < length blocks → block ≡ get_or blocks k block → items ≡ block
+    → cells ≡ (memory (Received k)).cells → HoldNumbers (block_types items) cells
     → after ≡ before ++ sent (length store) (places_from crossing k 0 (block_types items)) (map number_in cells)
     → store' ≡ store ++ kept (places_from crossing k 0 (block_types items)) (map number_in cells)
     → before ++ sent (length store) (rest_blocks crossing k blocks) (rest_numbers memory k blocks) ≡ whole
@@ -154,11 +170,13 @@ sent_block crossing memory k blocks block items cells store store' before after 
     ap (λ n. after ++ sent n rest others) (ap length grown ∙ length-kept places values store count)
     ∙ ap (λ xs. xs ++ sent (next_after (length store) places) rest others) added
     ∙ append_assoc before (sent (length store) places values) (sent (next_after (length store) places) rest others)
-    ∙ ap (λ xs. before ++ xs) (sym (sent-append (length store) places rest values others count) ∙ ap (λ cs. sent (length store) (places ++ rest) (map number_in cs ++ others)) there
+    ∙ ap (λ xs. before ++ xs) (sym (sent-append (length store) places rest values others count) ∙ ap
+    (λ cs. sent (length store) (places ++ rest) (map number_in cs ++ others)) there
     ∙ sym (block_more (sent (length store)) crossing memory k blocks items lt here))
     ∙ so_far
 
-pub kept_block : (crossing : ℕ → ℕ → Crossing) (memory : Blocks) (k : ℕ) (blocks : List (List (IntType × WireCell))) (block items : List (IntType × WireCell)) (cells : List Cell) (store store' whole : Entries)
+pub kept_block : (crossing : ℕ → ℕ → Crossing) (memory : Blocks) (k : ℕ) (blocks : List (List (IntType × WireCell)))
+    (block items : List (IntType × WireCell)) (cells : List Cell) (store store' whole : Entries)
     → k < length blocks → block ≡ get_or blocks k block → items ≡ block → cells ≡ (memory (Received k)).cells → HoldNumbers (block_types items) cells
     → store' ≡ store ++ kept (places_from crossing k 0 (block_types items)) (map number_in cells)
     → store ++ kept (rest_blocks crossing k blocks) (rest_numbers memory k blocks) ≡ whole
@@ -177,13 +195,15 @@ kept_block crossing memory k blocks block items cells store store' whole lt e sa
 
 -- ---- the whole reply
 
-pub result_count : (sig : Signature) (t : Option IntType) (value : Option ℤ) → IsResult t value → length (result_places sig t) ≡ length (option_to_list value)
+pub result_count : (sig : Signature) (t : Option IntType) (value : Option ℤ) → IsResult t value
+    → length (result_places sig t) ≡ length (option_to_list value)
 result_count sig None None h = refl
 result_count sig None (Some v) h = absurd h
 result_count sig (Some t) None h = absurd h
 result_count sig (Some t) (Some v) h = refl
 
-pub reply_is : (sig : Signature) (value : Option ℤ) (store store' : Entries) (crossing crossing' : ℕ → ℕ → Crossing) (types : List (List IntType)) (values : List ℤ) (result : Option WireCell)
+pub reply_is : (sig : Signature) (value : Option ℤ) (store store' : Entries) (crossing crossing' : ℕ → ℕ → Crossing) (types : List (List IntType))
+    (values : List ℤ) (result : Option WireCell)
     (before after : List WireCell) → IsResult sig.result value → crossing ≡ crossing' → before ≡ []
     → result ≡ slice_get (sent (length store) (result_places sig sig.result) (option_to_list value)) 0
     → store' ≡ store ++ kept (result_places sig sig.result) (option_to_list value)
@@ -197,9 +217,11 @@ reply_is sig value store store' crossing crossing' types values result before af
     (added ∙ ap (λ xs. xs ++ sent (length store') (places_of crossing 0 types) values) none
     ∙ ap (λ n. sent n (places_of crossing 0 types) values) here ∙ ap (λ f. sent (next_after (length store) results) (places_of f 0 types) values) same)
 
-pub keeps_are : (crossing crossing' : ℕ → ℕ → Crossing) (results : List Place) (vs : List ℤ) (types : List (List IntType)) (values : List ℤ) (store store' store'' : Entries) → crossing ≡ crossing'
+pub keeps_are : (crossing crossing' : ℕ → ℕ → Crossing) (results : List Place) (vs : List ℤ) (types : List (List IntType)) (values : List ℤ)
+    (store store' store'' : Entries) → crossing ≡ crossing'
     → store' ≡ store ++ kept results vs → store'' ≡ store' ++ kept (places_of crossing 0 types) values
     → store'' ≡ store ++ (kept results vs ++ kept (places_of crossing' 0 types) values)
 keeps_are crossing crossing' results vs types values store store' store'' same grown more =
-    more ∙ ap (λ xs. xs ++ kept (places_of crossing 0 types) values) grown ∙ append_assoc store (kept results vs) (kept (places_of crossing 0 types) values)
+    more ∙ ap (λ xs. xs ++ kept (places_of crossing 0 types) values) grown
+    ∙ append_assoc store (kept results vs) (kept (places_of crossing 0 types) values)
     ∙ ap (λ f. store ++ (kept results vs ++ kept (places_of f 0 types) values)) same

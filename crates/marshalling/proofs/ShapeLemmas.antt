@@ -14,11 +14,13 @@ use Rattle.marshalling.specs.Shape.{are_named, fit_all, fits_kind, fits_leaf, fi
 use Rattle.marshalling.proofs.Lists.{and_assoc}
 
 -- bodies with more or fewer arguments than parameters are refused
-pub unequal : (structs : List StructInfo) (blocks : List (List (IntType × WireCell))) (params : List Param) (args : List Arg) → length params ≢ length args → fit_all structs blocks params args ≡ false
+pub unequal : (structs : List StructInfo) (blocks : List (List (IntType × WireCell))) (params : List Param) (args : List Arg)
+    → length params ≢ length args → fit_all structs blocks params args ≡ false
 unequal structs blocks [] [] h = absurd (h refl)
 unequal structs blocks [] (a ∷ args) h = refl
 unequal structs blocks (p ∷ params) [] h = refl
-unequal structs blocks (p ∷ params) (a ∷ args) h = go (fits_kind structs blocks p.marked p.kind a) (unequal structs blocks params args (λ e. h (ap suc e)))
+unequal structs blocks (p ∷ params) (a ∷ args) h = go (fits_kind structs blocks p.marked p.kind a)
+    (unequal structs blocks params args (λ e. h (ap suc e)))
   where
     go : (b : Bool) {c : Bool} → c ≡ false → (b && c) ≡ false
     go true h = h
@@ -28,7 +30,8 @@ unequal structs blocks (p ∷ params) (a ∷ args) h = go (fits_kind structs blo
 
 -- the leaves of one element, and then others
 pub range_parts : (marked : Bool) (leaves more : List Leaf) (cells rest : List (IntType × WireCell)) → length leaves ≡ length cells
-    → fits_range marked (leaves ++ more) (cells ++ rest) ≡ (list_all (λ given. fits_leaf marked given.0 given.1) (zip leaves cells) && fits_range marked more rest)
+    → fits_range marked (leaves ++ more) (cells ++ rest) ≡
+    (list_all (λ given. fits_leaf marked given.0 given.1) (zip leaves cells) && fits_range marked more rest)
 range_parts marked [] more [] rest h = refl
 range_parts marked [] more (c ∷ cells) rest h = absurd (omega arith)
 range_parts marked (leaf ∷ leaves) more [] rest h = absurd (omega arith)
@@ -37,7 +40,8 @@ range_parts marked (leaf ∷ leaves) more (c ∷ cells) rest h =
     ∙ sym (and_assoc (fits_leaf marked leaf c) (list_all (λ given. fits_leaf marked given.0 given.1) (zip leaves cells)) (fits_range marked more rest))
 
 -- fewer cells than leaves
-pub range_short : (marked : Bool) (leaves more : List Leaf) (cells : List (IntType × WireCell)) → length cells < length leaves → fits_range marked (leaves ++ more) cells ≡ false
+pub range_short : (marked : Bool) (leaves more : List Leaf) (cells : List (IntType × WireCell)) → length cells < length leaves
+    → fits_range marked (leaves ++ more) cells ≡ false
 range_short marked [] more cells h = absurd (omega arith)
 range_short marked (leaf ∷ leaves) more [] h = refl
 range_short marked (leaf ∷ leaves) more (c ∷ cells) h = go (fits_leaf marked leaf c) (range_short marked leaves more cells (omega arith))
@@ -70,9 +74,11 @@ named_more args blocks k lt = rw (add-one) (named_from args blocks k k lt)
 abbrev pub element_test : Bool → List Leaf → List (IntType × WireCell) → Bool
 element_test marked leaves cells = list_all (λ given. fits_leaf marked given.0 given.1) (zip leaves cells)
 
-range_more : (marked : Bool) (leaves : List Leaf) (count i : ℕ) (rest element others : List (IntType × WireCell)) → i < count → length leaves ≤ length rest
+range_more : (marked : Bool) (leaves : List Leaf) (count i : ℕ) (rest element others : List (IntType × WireCell)) → i < count
+    → length leaves ≤ length rest
     → element ≡ take (length leaves) rest → others ≡ drop (length leaves) rest
-    → fits_range marked (repeated (count - i) leaves) rest ≡ (element_test marked leaves element && fits_range marked (repeated (count - (i + 1)) leaves) others)
+    → fits_range marked (repeated (count - i) leaves) rest ≡
+    (element_test marked leaves element && fits_range marked (repeated (count - (i + 1)) leaves) others)
 range_more marked leaves count i rest element others lt room front back =
     let more = repeated (count - (i + 1)) leaves in
     ap (λ ls. fits_range marked ls rest) (repeated_more leaves count i lt)
@@ -82,32 +88,42 @@ range_more marked leaves count i rest element others lt room front back =
     ∙ ap (λ cells. element_test marked leaves element && fits_range marked more cells) (sym back)
 
 -- too few cells are left
-pub range_ends : (marked : Bool) (leaves : List Leaf) (count i : ℕ) (rest : List (IntType × WireCell)) (whole : Bool) → i < count → length rest < length leaves
+pub range_ends : (marked : Bool) (leaves : List Leaf) (count i : ℕ) (rest : List (IntType × WireCell)) (whole : Bool) → i < count
+    → length rest < length leaves
     → fits_range marked (repeated (count - i) leaves) rest ≡ whole → false ≡ whole
 range_ends marked leaves count i rest whole lt short so_far =
-    sym (range_short marked leaves (repeated (count - (i + 1)) leaves) rest short) ∙ ap (λ ls. fits_range marked ls rest) (sym (repeated_more leaves count i lt)) ∙ so_far
+    sym (range_short marked leaves (repeated (count - (i + 1)) leaves) rest short)
+    ∙ ap (λ ls. fits_range marked ls rest) (sym (repeated_more leaves count i lt)) ∙ so_far
 
 -- an element doesn't fit
-pub range_fails : (marked : Bool) (leaves : List Leaf) (count i : ℕ) (rest element others : List (IntType × WireCell)) (fits whole : Bool) → i < count → length leaves ≤ length rest
+pub range_fails : (marked : Bool) (leaves : List Leaf) (count i : ℕ) (rest element others : List (IntType × WireCell)) (fits whole : Bool)
+    → i < count → length leaves ≤ length rest
     → element ≡ take (length leaves) rest → others ≡ drop (length leaves) rest → fits ≡ element_test marked leaves element → fits ≡ false
     → fits_range marked (repeated (count - i) leaves) rest ≡ whole → false ≡ whole
 range_fails marked leaves count i rest element others fits whole lt room front back is fails so_far =
-    ap (λ b. b && fits_range marked (repeated (count - (i + 1)) leaves) others) (sym fails ∙ is) ∙ sym (range_more marked leaves count i rest element others lt room front back) ∙ so_far
+    ap (λ b. b && fits_range marked (repeated (count - (i + 1)) leaves) others) (sym fails ∙ is)
+    ∙ sym (range_more marked leaves count i rest element others lt room front back) ∙ so_far
 
 -- an element fits
-pub range_goes : (marked : Bool) (leaves : List Leaf) (count i : ℕ) (rest element others : List (IntType × WireCell)) (fits whole : Bool) → i < count → length leaves ≤ length rest
+pub range_goes : (marked : Bool) (leaves : List Leaf) (count i : ℕ) (rest element others : List (IntType × WireCell)) (fits whole : Bool)
+    → i < count → length leaves ≤ length rest
     → element ≡ take (length leaves) rest → others ≡ drop (length leaves) rest → fits ≡ element_test marked leaves element → fits ≡ true
     → fits_range marked (repeated (count - i) leaves) rest ≡ whole → fits_range marked (repeated (count - (i + 1)) leaves) others ≡ whole
 range_goes marked leaves count i rest element others fits whole lt room front back is goes so_far =
-    ap (λ b. b && fits_range marked (repeated (count - (i + 1)) leaves) others) (sym goes ∙ is) ∙ sym (range_more marked leaves count i rest element others lt room front back) ∙ so_far
+    ap (λ b. b && fits_range marked (repeated (count - (i + 1)) leaves) others) (sym goes ∙ is)
+    ∙ sym (range_more marked leaves count i rest element others lt room front back) ∙ so_far
 
 -- ---- a walk over blocks
 
 -- no argument points into a block
-pub named_fails : (args : List Arg) (blocks : List (List (IntType × WireCell))) (k : ℕ) (found whole : Bool) → k < length blocks → found ≡ list_any (points_into k) args → found ≡ false
+pub named_fails : (args : List Arg) (blocks : List (List (IntType × WireCell))) (k : ℕ) (found whole : Bool) → k < length blocks
+    → found ≡ list_any (points_into k) args → found ≡ false
     → are_named args k (drop k blocks) ≡ whole → false ≡ whole
-named_fails args blocks k found whole lt is fails so_far = ap (λ b. b && are_named args (k + 1) (drop (k + 1) blocks)) (sym fails ∙ is) ∙ sym (named_more args blocks k lt) ∙ so_far
+named_fails args blocks k found whole lt is fails so_far = ap (λ b. b && are_named args (k + 1) (drop (k + 1) blocks)) (sym fails ∙ is)
+    ∙ sym (named_more args blocks k lt) ∙ so_far
 
-pub named_goes : (args : List Arg) (blocks : List (List (IntType × WireCell))) (k : ℕ) (found whole : Bool) → k < length blocks → found ≡ list_any (points_into k) args → found ≡ true
+pub named_goes : (args : List Arg) (blocks : List (List (IntType × WireCell))) (k : ℕ) (found whole : Bool) → k < length blocks
+    → found ≡ list_any (points_into k) args → found ≡ true
     → are_named args k (drop k blocks) ≡ whole → are_named args (k + 1) (drop (k + 1) blocks) ≡ whole
-named_goes args blocks k found whole lt is goes so_far = ap (λ b. b && are_named args (k + 1) (drop (k + 1) blocks)) (sym goes ∙ is) ∙ sym (named_more args blocks k lt) ∙ so_far
+named_goes args blocks k found whole lt is goes so_far = ap (λ b. b && are_named args (k + 1) (drop (k + 1) blocks)) (sym goes ∙ is)
+    ∙ sym (named_more args blocks k lt) ∙ so_far

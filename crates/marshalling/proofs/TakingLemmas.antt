@@ -14,9 +14,6 @@ use Rattle.marshalling.specs.Replies.{Place, next_after, next_by}
 use Rattle.marshalling.specs.Taking.{Part, is_whole, taken_blocks, taken_cell, taken_cells, with_number}
 use Rattle.marshalling.proofs.Lists.{drops, first, second}
 
-abbrev pub part : List WireCell → ℕ → Blocks → Part
-part sent next blocks = record { sent = sent; next = next; blocks = blocks }
-
 -- ---- what writing keeps
 
 -- each block has the types and the number of cells that it had
@@ -30,7 +27,8 @@ same_shape blocks = record { types = λ name. refl; count = λ name. refl }
 pub shape-then : (a b c : Blocks) → SameShape a b → SameShape b c → SameShape a c
 shape-then a b c h k = record { types = λ name. k.types name ∙ h.types name; count = λ name. k.count name ∙ h.count name }
 
-number_shape : (name : BlockName) (i : ℕ) (sent : List WireCell) (next : ℕ) (blocks : Blocks) → SameShape blocks (with_number name i sent next blocks).blocks
+number_shape : (name : BlockName) (i : ℕ) (sent : List WireCell) (next : ℕ) (blocks : Blocks)
+    → SameShape blocks (with_number name i sent next blocks).blocks
 number_shape name i [] next blocks = same_shape blocks
 number_shape name i (s ∷ sent) next blocks = record { types = types-write blocks name i _; count = length-write blocks name i _ }
 
@@ -39,7 +37,8 @@ cell_shape Stays name i p = same_shape p.blocks
 cell_shape Plain name i p = number_shape name i p.sent p.next p.blocks
 cell_shape Sealed name i p = record { types = types-write p.blocks name i _; count = length-write p.blocks name i _ }
 
-pub cells_shape : (crossing : ℕ → ℕ → Crossing) (name : BlockName) (k i : ℕ) (types : List IntType) (p : Part) → SameShape p.blocks (taken_cells crossing name k i types p).blocks
+pub cells_shape : (crossing : ℕ → ℕ → Crossing) (name : BlockName) (k i : ℕ) (types : List IntType) (p : Part)
+    → SameShape p.blocks (taken_cells crossing name k i types p).blocks
 cells_shape crossing name k i [] p = same_shape p.blocks
 cells_shape crossing name k i (t ∷ types) p =
     shape-then _ _ _ (cell_shape (crossing k i) name i p) (cells_shape crossing name k (suc i) types (taken_cell (crossing k i) name i p))
@@ -60,7 +59,8 @@ next_grows Stays n = omega arith
 next_grows Plain n = omega arith
 next_grows Sealed n = omega arith
 
-pub cells_grow : (crossing : ℕ → ℕ → Crossing) (name : BlockName) (k i : ℕ) (types : List IntType) (p : Part) → p.next ≤ (taken_cells crossing name k i types p).next
+pub cells_grow : (crossing : ℕ → ℕ → Crossing) (name : BlockName) (k i : ℕ) (types : List IntType) (p : Part)
+    → p.next ≤ (taken_cells crossing name k i types p).next
 cells_grow crossing name k i [] p = omega arith
 cells_grow crossing name k i (t ∷ types) p =
     let here = next_grows (crossing k i) p.next in
@@ -83,21 +83,28 @@ cells_rest crossing name k i j [] p lt = absurd (omega arith)
 cells_rest crossing name k i zero (t ∷ types) p lt = refl
 cells_rest crossing name k i (suc j) (t ∷ types) p lt = cells_rest crossing name k i j types p (omega arith)
 
-pub cell_more : (crossing : ℕ → ℕ → Crossing) (name : BlockName) (k i : ℕ) (types : List IntType) (w : Crossing) (before after whole : Part) → i < length types → w ≡ crossing k i
-    → after ≡ taken_cell w name i before → taken_cells crossing name k i (drop i types) before ≡ whole → taken_cells crossing name k (i + 1) (drop (i + 1) types) after ≡ whole
+pub cell_more : (crossing : ℕ → ℕ → Crossing) (name : BlockName) (k i : ℕ) (types : List IntType) (w : Crossing) (before after whole : Part)
+    → i < length types → w ≡ crossing k i
+    → after ≡ taken_cell w name i before → taken_cells crossing name k i (drop i types) before ≡ whole
+    → taken_cells crossing name k (i + 1) (drop (i + 1) types) after ≡ whole
 cell_more crossing name k i types w before after whole lt is one so_far =
     rw (add-one i)
-    (ap (taken_cells crossing name k (suc i) (drop (suc i) types)) (one ∙ ap (λ x. taken_cell x name i before) is) ∙ sym (cells_rest crossing name k i i types before lt) ∙ so_far)
+    (ap (taken_cells crossing name k (suc i) (drop (suc i) types)) (one ∙ ap (λ x. taken_cell x name i before) is) ∙ sym
+    (cells_rest crossing name k i i types before lt) ∙ so_far)
 
 -- a cell that is taken keeps the shape of all blocks, and so do several
-pub cell_keeps : (w : Crossing) (name : BlockName) (i : ℕ) (before after : Part) → after ≡ taken_cell w name i before → SameShape before.blocks after.blocks
+pub cell_keeps : (w : Crossing) (name : BlockName) (i : ℕ) (before after : Part) → after ≡ taken_cell w name i before
+    → SameShape before.blocks after.blocks
 cell_keeps w name i before after one = subst (SameShape before.blocks) (sym (ap (λ p. p.blocks) one)) (cell_shape w name i before)
 
-pub cells_keep : (crossing : ℕ → ℕ → Crossing) (name : BlockName) (k : ℕ) (types : List IntType) (before after : Part) → after ≡ taken_cells crossing name k 0 types before → SameShape before.blocks after.blocks
-cells_keep crossing name k types before after one = subst (SameShape before.blocks) (sym (ap (λ p. p.blocks) one)) (cells_shape crossing name k 0 types before)
+pub cells_keep : (crossing : ℕ → ℕ → Crossing) (name : BlockName) (k : ℕ) (types : List IntType) (before after : Part)
+    → after ≡ taken_cells crossing name k 0 types before → SameShape before.blocks after.blocks
+cells_keep crossing name k types before after one = subst (SameShape before.blocks) (sym (ap (λ p. p.blocks) one))
+    (cells_shape crossing name k 0 types before)
 
 -- there is room for the handle of the next cell
-pub cell_room : (crossing : ℕ → ℕ → Crossing) (name : BlockName) (k i : ℕ) (types : List IntType) (w : Crossing) (before whole : Part) (limit : ℕ) → i < length types → w ≡ crossing k i
+pub cell_room : (crossing : ℕ → ℕ → Crossing) (name : BlockName) (k i : ℕ) (types : List IntType) (w : Crossing) (before whole : Part)
+    (limit : ℕ) → i < length types → w ≡ crossing k i
     → taken_cells crossing name k i (drop i types) before ≡ whole → whole.next ≤ limit → next_by w before.next ≤ limit
 cell_room crossing name k i types w before whole limit lt is so_far room =
     let after = taken_cell w name i before in
@@ -109,14 +116,19 @@ cell_room crossing name k i types w before whole limit lt is so_far room =
 
 -- ---- one block more
 
-pub block_goes : (crossing : ℕ → ℕ → Crossing) (k : ℕ) (names : List BlockName) (name : BlockName) (before after whole : Part) → k < length names → name ≡ get_or names k name
-    → after ≡ taken_cells crossing name k 0 (before.blocks name).types before → taken_blocks crossing k (drop k names) before ≡ whole → taken_blocks crossing (k + 1) (drop (k + 1) names) after ≡ whole
+pub block_goes : (crossing : ℕ → ℕ → Crossing) (k : ℕ) (names : List BlockName) (name : BlockName) (before after whole : Part) → k < length names
+    → name ≡ get_or names k name
+    → after ≡ taken_cells crossing name k 0 (before.blocks name).types before → taken_blocks crossing k (drop k names) before ≡ whole
+    → taken_blocks crossing (k + 1) (drop (k + 1) names) after ≡ whole
 block_goes crossing k names name before after whole lt e one so_far =
-    ap (taken_blocks crossing (k + 1) (drop (k + 1) names)) one ∙ ap (λ j. taken_blocks crossing j (drop (k + 1) names) (taken_cells crossing name k 0 (before.blocks name).types before)) (add-one k)
+    ap (taken_blocks crossing (k + 1) (drop (k + 1) names)) one
+    ∙ ap (λ j. taken_blocks crossing j (drop (k + 1) names) (taken_cells crossing name k 0 (before.blocks name).types before)) (add-one k)
     ∙ sym (ap (λ ns. taken_blocks crossing k ns before) (drops names k name lt e)) ∙ so_far
 
-pub block_room : (crossing : ℕ → ℕ → Crossing) (k : ℕ) (names : List BlockName) (name : BlockName) (before whole : Part) (limit : ℕ) → k < length names → name ≡ get_or names k name
-    → taken_blocks crossing k (drop k names) before ≡ whole → whole.next ≤ limit → (taken_cells crossing name k 0 (before.blocks name).types before).next ≤ limit
+pub block_room : (crossing : ℕ → ℕ → Crossing) (k : ℕ) (names : List BlockName) (name : BlockName) (before whole : Part) (limit : ℕ)
+    → k < length names → name ≡ get_or names k name
+    → taken_blocks crossing k (drop k names) before ≡ whole → whole.next ≤ limit
+    → (taken_cells crossing name k 0 (before.blocks name).types before).next ≤ limit
 block_room crossing k names name before whole limit lt e so_far room =
     let after = taken_cells crossing name k 0 (before.blocks name).types before in
     let more = block_goes crossing k names name before after whole lt e refl so_far in

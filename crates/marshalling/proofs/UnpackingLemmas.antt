@@ -21,4 +21,5 @@ none_left store (p ∷ params) = refl
 
 pub faults_end : (store : Entries) (params : List Param) (args : List Arg) (i : ℕ) (whole : Option BadCall) → length args ≤ i
     → arguments_fault store params (drop i args) ≡ whole → None ≡ whole
-faults_end store params args i whole past so_far = sym (none_left store params) ∙ ap (arguments_fault store params) (sym (drop_all i args past)) ∙ so_far
+faults_end store params args i whole past so_far = sym (none_left store params) ∙ ap (arguments_fault store params) (sym (drop_all i args past))
+    ∙ so_far

@@ -31,19 +31,26 @@ some_sent : (handle : ℕ) (p : Place) (places : List Place) (c : WireCell) (cel
 some_sent handle p places c cells h =
     ap (λ b. if b then is_sent_by p.way p.ty handle c && are_sent (next_by p.way handle) places cells else are_sent handle places (c ∷ cells)) h
 
-pub walk_past : (crossing : Crossing) (t : IntType) (w : Walk) (cells : List WireCell) → comes_back crossing ≡ true → length cells ≤ w.at → Walks None (place_by crossing t ∷ []) w cells
-walk_past crossing t w cells h past rest = ap (are_sent w.next (place_by crossing t ∷ rest)) (drop_all w.at cells past) ∙ none_sent w.next (place_by crossing t) rest h
+pub walk_past : (crossing : Crossing) (t : IntType) (w : Walk) (cells : List WireCell) → comes_back crossing ≡ true → length cells ≤ w.at
+    → Walks None (place_by crossing t ∷ []) w cells
+walk_past crossing t w cells h past rest = ap (are_sent w.next (place_by crossing t ∷ rest)) (drop_all w.at cells past)
+    ∙ none_sent w.next (place_by crossing t) rest h
 
-pub walk_wrong : (crossing : Crossing) (t : IntType) (w : Walk) (cells : List WireCell) (c : WireCell) (fits : Bool) → comes_back crossing ≡ true → w.at < length cells → c ≡ get_or cells w.at c
+pub walk_wrong : (crossing : Crossing) (t : IntType) (w : Walk) (cells : List WireCell) (c : WireCell) (fits : Bool) → comes_back crossing ≡ true
+    → w.at < length cells → c ≡ get_or cells w.at c
     → fits ≡ is_sent_by crossing t w.next c → fits ≡ false → Walks None (place_by crossing t ∷ []) w cells
 walk_wrong crossing t w cells c fits h lt e is wrong rest =
-    ap (are_sent w.next (place_by crossing t ∷ rest)) (drops cells w.at c lt e) ∙ some_sent w.next (place_by crossing t) rest c (drop (w.at + 1) cells) h
+    ap (are_sent w.next (place_by crossing t ∷ rest)) (drops cells w.at c lt e)
+    ∙ some_sent w.next (place_by crossing t) rest c (drop (w.at + 1) cells) h
     ∙ ap (λ b. b && are_sent (next_by crossing w.next) rest (drop (w.at + 1) cells)) (sym is ∙ wrong)
 
-pub walk_right : (crossing : Crossing) (t : IntType) (w v : Walk) (cells : List WireCell) (c : WireCell) (fits : Bool) → comes_back crossing ≡ true → w.at < length cells → c ≡ get_or cells w.at c
-    → fits ≡ is_sent_by crossing t w.next c → fits ≡ true → v.at ≡ w.at + 1 → v.next ≡ next_by crossing w.next → Walks (Some v) (place_by crossing t ∷ []) w cells
+pub walk_right : (crossing : Crossing) (t : IntType) (w v : Walk) (cells : List WireCell) (c : WireCell) (fits : Bool)
+    → comes_back crossing ≡ true → w.at < length cells → c ≡ get_or cells w.at c
+    → fits ≡ is_sent_by crossing t w.next c → fits ≡ true → v.at ≡ w.at + 1 → v.next ≡ next_by crossing w.next
+    → Walks (Some v) (place_by crossing t ∷ []) w cells
 walk_right crossing t w v cells c fits h lt e is right at next rest =
-    ap (are_sent w.next (place_by crossing t ∷ rest)) (drops cells w.at c lt e) ∙ some_sent w.next (place_by crossing t) rest c (drop (w.at + 1) cells) h
+    ap (are_sent w.next (place_by crossing t ∷ rest)) (drops cells w.at c lt e)
+    ∙ some_sent w.next (place_by crossing t) rest c (drop (w.at + 1) cells) h
     ∙ ap (λ b. b && are_sent (next_by crossing w.next) rest (drop (w.at + 1) cells)) (sym is ∙ right)
     ∙ ap (λ n. are_sent n rest (drop (w.at + 1) cells)) (sym next) ∙ ap (λ n. are_sent v.next rest (drop n cells)) (sym at)
 
@@ -54,14 +61,18 @@ pub record Left (all left : List Place) (w v : Walk) (cells : List WireCell) : T
   pub same : (rest : List Place) → are_sent w.next (all ++ rest) (drop w.at cells) ≡ are_sent v.next (left ++ rest) (drop v.at cells)
 
 -- the next part of what is left is walked through
-pub left_goes : (all part more left : List Place) (w v u : Walk) (cells : List WireCell) → left ≡ part ++ more → Left all left w v cells → Walks (Some u) part v cells → Left all more w u cells
+pub left_goes : (all part more left : List Place) (w v u : Walk) (cells : List WireCell) → left ≡ part ++ more → Left all left w v cells
+    → Walks (Some u) part v cells → Left all more w u cells
 left_goes all part more left w v u cells is so_far step = record {
-  same = λ rest. so_far.same rest ∙ ap (λ ps. are_sent v.next ps (drop v.at cells)) (ap (λ ps. ps ++ rest) is ∙ append_assoc part more rest) ∙ step (more ++ rest);
+  same = λ rest. so_far.same rest ∙ ap (λ ps. are_sent v.next ps (drop v.at cells)) (ap (λ ps. ps ++ rest) is ∙ append_assoc part more rest)
+      ∙ step (more ++ rest);
 }
 
-pub left_fails : (all part more left : List Place) (w v : Walk) (cells : List WireCell) → left ≡ part ++ more → Left all left w v cells → Walks None part v cells → Walks None all w cells
+pub left_fails : (all part more left : List Place) (w v : Walk) (cells : List WireCell) → left ≡ part ++ more → Left all left w v cells
+    → Walks None part v cells → Walks None all w cells
 left_fails all part more left w v cells is so_far step =
-    λ rest. so_far.same rest ∙ ap (λ ps. are_sent v.next ps (drop v.at cells)) (ap (λ ps. ps ++ rest) is ∙ append_assoc part more rest) ∙ step (more ++ rest)
+    λ rest. so_far.same rest ∙ ap (λ ps. are_sent v.next ps (drop v.at cells)) (ap (λ ps. ps ++ rest) is ∙ append_assoc part more rest)
+    ∙ step (more ++ rest)
 
 pub left_ends : (all left : List Place) (w v : Walk) (cells : List WireCell) → left ≡ [] → Left all left w v cells → Walks (Some v) all w cells
 left_ends all left w v cells none so_far = λ rest. so_far.same rest ∙ ap (λ ps. are_sent v.next (ps ++ rest) (drop v.at cells)) none
@@ -73,12 +84,16 @@ left_all all w cells = record { same = λ rest. refl }
 pub places_rest : (crossing : ℕ → ℕ → Crossing) (k i : ℕ) (types : List IntType) (t : IntType) → i < length types → t ≡ get_or types i t
     → places_from crossing k i (drop i types) ≡ place_at crossing k i t ∷ places_from crossing k (i + 1) (drop (i + 1) types)
 places_rest crossing k i types t lt e =
-    ap (places_from crossing k i) (drops types i t lt e) ∙ ap (λ j. place_at crossing k i t ∷ places_from crossing k j (drop (i + 1) types)) (sym (add-one i))
+    ap (places_from crossing k i) (drops types i t lt e)
+    ∙ ap (λ j. place_at crossing k i t ∷ places_from crossing k j (drop (i + 1) types)) (sym (add-one i))
 
-pub blocks_rest : (crossing : ℕ → ℕ → Crossing) (types : BlockName → List IntType) (k : ℕ) (names : List BlockName) (name : BlockName) → k < length names → name ≡ get_or names k name
-    → places_of crossing k (map types (drop k names)) ≡ places_from crossing k 0 (types name) ++ places_of crossing (k + 1) (map types (drop (k + 1) names))
+pub blocks_rest : (crossing : ℕ → ℕ → Crossing) (types : BlockName → List IntType) (k : ℕ) (names : List BlockName) (name : BlockName)
+    → k < length names → name ≡ get_or names k name
+    → places_of crossing k (map types (drop k names)) ≡ places_from crossing k 0 (types name) ++ places_of crossing (k + 1)
+    (map types (drop (k + 1) names))
 blocks_rest crossing types k names name lt e =
-    ap (λ ns. places_of crossing k (map types ns)) (drops names k name lt e) ∙ ap (λ j. places_from crossing k 0 (types name) ++ places_of crossing j (map types (drop (k + 1) names))) (sym (add-one k))
+    ap (λ ns. places_of crossing k (map types ns)) (drops names k name lt e)
+    ∙ ap (λ j. places_from crossing k 0 (types name) ++ places_of crossing j (map types (drop (k + 1) names))) (sym (add-one k))
 
 -- ---- the end of the cells
 

@@ -109,7 +109,8 @@ packs_once = refl
 
 -- blocks are numbered by the first arguments that point into them
 packs_by_first_use :
-    (packed memory (number i.Int false ∷ pointer true ∷ pointer true ∷ pointer true ∷ pointer true ∷ []) (cell.Int (pos 1) ∷ cell.Ptr Null ∷ to (Global 3) 0 1 ∷ to (Local 1 0) 1 1 ∷ to (Global 3) 0 1 ∷ [])).args
+    (packed memory (number i.Int false ∷ pointer true ∷ pointer true ∷ pointer true ∷ pointer true ∷ [])
+    (cell.Int (pos 1) ∷ cell.Ptr Null ∷ to (Global 3) 0 1 ∷ to (Local 1 0) 1 1 ∷ to (Global 3) 0 1 ∷ [])).args
     ≡ argument.Number (pos 1) ∷ argument.Null ∷ at 0 0 1 ∷ at 1 1 1 ∷ at 0 0 1 ∷ []
 packs_by_first_use = refl
 
@@ -237,7 +238,8 @@ handle_twice = refl
 unnamed : is_shaped structs takes_pair (body (argument.Sealed 0 ∷ argument.Null ∷ []) (pair ∷ [])) ≡ false
 unnamed = refl
 
-number_out_of_range : is_shaped structs (pointer false ∷ []) (body (at 0 0 1 ∷ []) (((i.Int, wire.Number (pos 5)) ∷ (i.UChar, wire.Number (pos 256)) ∷ []) ∷ [])) ≡ false
+number_out_of_range : is_shaped structs (pointer false ∷ [])
+    (body (at 0 0 1 ∷ []) (((i.Int, wire.Number (pos 5)) ∷ (i.UChar, wire.Number (pos 256)) ∷ []) ∷ [])) ≡ false
 unfolding leaves_of
 number_out_of_range = refl
 
@@ -250,7 +252,8 @@ store = (i.Char, pos 9) ∷ (i.Int, pos 40) ∷ []
 first_by_arguments : handle_fault store takes_pair (body (argument.Sealed 1 ∷ at 0 0 1 ∷ []) (((i.Int, wire.Sealed 7) ∷ []) ∷ [])) ≡ Some (WrongType 1)
 first_by_arguments = refl
 
-then_by_blocks : handle_fault store takes_pair (body (argument.Sealed 0 ∷ at 0 0 1 ∷ []) (((i.Int, wire.Sealed 7) ∷ (i.Int, wire.Sealed 0) ∷ []) ∷ [])) ≡ Some (BadHandle 7)
+then_by_blocks : handle_fault store takes_pair
+    (body (argument.Sealed 0 ∷ at 0 0 1 ∷ []) (((i.Int, wire.Sealed 7) ∷ (i.Int, wire.Sealed 0) ∷ []) ∷ [])) ≡ Some (BadHandle 7)
 then_by_blocks = refl
 
 shape_first : unpacking store structs takes_pair (body (argument.Sealed 7 ∷ []) []) ≡ Err Shape
@@ -273,7 +276,8 @@ asked = body (at 0 0 1 ∷ at 0 0 3 ∷ []) (((i.Int, wire.Number (pos 1)) ∷ (
 
 -- the monitor's blocks after the call
 abbrev pub served_blocks : Blocks
-served_blocks = put no_blocks (Received 0) (record { types = i.Int ∷ i.Int ∷ i.Int ∷ []; cells = cell.Int (pos 11) ∷ cell.Int (pos 12) ∷ cell.Int (pos 13) ∷ [] })
+served_blocks = put no_blocks (Received 0)
+    (record { types = i.Int ∷ i.Int ∷ i.Int ∷ []; cells = cell.Int (pos 11) ∷ cell.Int (pos 12) ∷ cell.Int (pos 13) ∷ [] })
 
 abbrev pub answered : ReplyBody
 answered = record { result = Some (wire.Sealed 6); cells = wire.Number (pos 11) ∷ wire.Sealed 7 ∷ [] }
@@ -301,7 +305,8 @@ accepts = refl
 other_handle : is_reply 5 calling structs asks passed answered ≡ false
 other_handle = refl
 
-cell_more : is_reply 6 calling structs asks passed (record { result = Some (wire.Sealed 6); cells = wire.Number (pos 11) ∷ wire.Sealed 7 ∷ wire.Number (pos 3) ∷ [] }) ≡ false
+cell_more : is_reply 6 calling structs asks passed
+    (record { result = Some (wire.Sealed 6); cells = wire.Number (pos 11) ∷ wire.Sealed 7 ∷ wire.Number (pos 3) ∷ [] }) ≡ false
 unfolding leaves_of
 cell_more = refl
 
@@ -315,7 +320,8 @@ next : (after_reply 6 calling structs asks passed answered).next ≡ 8
 unfolding leaves_of
 next = refl
 
-leaves_cells : ((after_reply 6 calling structs asks passed answered).blocks (Local 2 1)).cells ≡ cell.Int (pos 11) ∷ cell.Sealed 7 ∷ cell.Int (pos 3) ∷ []
+leaves_cells : ((after_reply 6 calling structs asks passed answered).blocks (Local 2 1)).cells ≡ cell.Int (pos 11) ∷ cell.Sealed 7 ∷ cell.Int
+    (pos 3) ∷ []
 unfolding leaves_of
 leaves_cells = refl
 

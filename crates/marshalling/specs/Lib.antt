@@ -8,3 +8,4 @@ pub mod Replies
 pub mod Taking
 pub mod Walks
 pub mod Laws
+pub mod Plans

@@ -147,9 +147,11 @@ IsResult (Some t) (Some v) = InRange t v
 -- what the monitor answers after a call with this body, where its store has so many values
 abbrev pub packed_results : ℕ → List StructInfo → Signature → CallBody → Blocks → Option ℤ → ReplyBody
 packed_results handle structs sig body blocks result =
-    reply_of handle (result_places sig sig.result) (option_to_list result) (places_of (crossing_of structs sig.params body.args) 0 (types_in body)) (received blocks 0 (types_in body))
+    reply_of handle (result_places sig sig.result) (option_to_list result) (places_of (crossing_of structs sig.params body.args) 0 (types_in body))
+    (received blocks 0 (types_in body))
 
 -- what its store gets
 abbrev pub kept_results : List StructInfo → Signature → CallBody → Blocks → Option ℤ → Entries
 kept_results structs sig body blocks result =
-    kept (result_places sig sig.result) (option_to_list result) ++ kept (places_of (crossing_of structs sig.params body.args) 0 (types_in body)) (received blocks 0 (types_in body))
+    kept (result_places sig sig.result) (option_to_list result) ++ kept (places_of (crossing_of structs sig.params body.args) 0 (types_in body))
+    (received blocks 0 (types_in body))

@@ -62,10 +62,12 @@ pub record Part : Type 0 where
 
 abbrev pub with_number : BlockName → ℕ → List WireCell → ℕ → Blocks → Part
 with_number name i [] next blocks = record { sent = []; next = next; blocks = blocks }
-with_number name i (s ∷ sent) next blocks = record { sent = sent; next = next; blocks = put blocks name (with_cell (blocks name) i (cell.Int (number_of s))) }
+with_number name i (s ∷ sent) next blocks = record
+    { sent = sent; next = next; blocks = put blocks name (with_cell (blocks name) i (cell.Int (number_of s))) }
 
 abbrev pub with_handle : BlockName → ℕ → List WireCell → ℕ → Blocks → Part
-with_handle name i sent next blocks = record { sent = drop 1 sent; next = suc next; blocks = put blocks name (with_cell (blocks name) i (cell.Sealed next)) }
+with_handle name i sent next blocks = record
+    { sent = drop 1 sent; next = suc next; blocks = put blocks name (with_cell (blocks name) i (cell.Sealed next)) }
 
 -- The cell i of a block, as it comes back. A number is what the reply has, a handle the next one, which the reply has too.
 abbrev pub taken_cell : Crossing → BlockName → ℕ → Part → Part
@@ -109,7 +111,8 @@ call_places blocks structs params args = block_places (call_crossing structs par
 
 -- the reply has a result and cells for these places, where the next handle is this one
 abbrev pub is_reply_for : ℕ → List Place → List Place → ReplyBody → Bool
-is_reply_for handle results places reply = are_sent handle results (option_to_list reply.result) && are_sent (next_after handle results) places reply.cells
+is_reply_for handle results places reply = are_sent handle results (option_to_list reply.result) && are_sent
+    (next_after handle results) places reply.cells
 
 -- the reply is one that the signature and the arguments give
 abbrev pub is_reply : ℕ → Blocks → List StructInfo → Signature → List Cell → ReplyBody → Bool
@@ -126,10 +129,12 @@ ended result part = record { result = result; next = part.next; blocks = part.bl
 
 abbrev pub after_reply_for : ℕ → Blocks → (ℕ → ℕ → Crossing) → List BlockName → List Place → ReplyBody → Taken
 after_reply_for handle blocks crossing names results reply =
-    ended (taken_result results handle reply.result) (taken_blocks crossing 0 names (record { sent = reply.cells; next = next_after handle results; blocks = blocks }))
+    ended (taken_result results handle reply.result)
+    (taken_blocks crossing 0 names (record { sent = reply.cells; next = next_after handle results; blocks = blocks }))
 
 abbrev pub after_reply : ℕ → Blocks → List StructInfo → Signature → List Cell → ReplyBody → Taken
-after_reply handle blocks structs sig args reply = after_reply_for handle blocks (call_crossing structs sig.params args) (names_of args) (result_places sig sig.result) reply
+after_reply handle blocks structs sig args reply = after_reply_for handle blocks (call_crossing structs sig.params args) (names_of args)
+    (result_places sig sig.result) reply
 
 -- ---- without waiting
 

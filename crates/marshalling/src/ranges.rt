@@ -35,7 +35,8 @@ pub(crate) fn ranges_of(
 }
 
 fn add_range(ranges: &mut Vec<Range>, range: Option<Range>) -> Result<(), AllocError>
-    ensures { OnOk result ((crossing : ℕ → ℕ → Crossing) → IsRange range crossing → (k i : ℕ) → crossing_among ranges.new.items k i ≡ stronger (crossing_among ranges.old.items k i) (crossing k i)) }
+    ensures { OnOk result ((crossing : ℕ → ℕ → Crossing) → IsRange range crossing → (k i : ℕ) → crossing_among ranges.new.items k i
+        ≡ stronger (crossing_among ranges.old.items k i) (crossing k i)) }
 {
     if let Some(range) = range {
         ranges.push(range)?;

@@ -145,8 +145,12 @@ fn pack_blocks(
     cells: &mut Vec<WireCell>,
 ) -> Result<(), AllocError>
     requires { AreServed (blocks_of memory.now) 0 (types_of blocks.now) }
-    ensures sent { OnOk result (cells.new.items ≡ cells.old.items ++ sent (length store.old) (places_of (crossing_among ranges.now) 0 (types_of blocks.now)) (received (blocks_of memory.now) 0 (types_of blocks.now))) }
-    ensures kept { OnOk result (store.new ≡ store.old ++ kept (places_of (crossing_among ranges.now) 0 (types_of blocks.now)) (received (blocks_of memory.now) 0 (types_of blocks.now))) }
+    ensures sent { OnOk result (cells.new.items ≡ cells.old.items
+        ++ sent (length store.old) (places_of (crossing_among ranges.now) 0 (types_of blocks.now))
+        (received (blocks_of memory.now) 0 (types_of blocks.now))) }
+    ensures kept { OnOk result (store.new ≡ store.old
+        ++ kept (places_of (crossing_among ranges.now) 0 (types_of blocks.now))
+        (received (blocks_of memory.now) 0 (types_of blocks.now))) }
 {
     for (k, block) in blocks.iter().enumerate() {
         let numbers = memory.block(BlockName::Received(k as u8));
@@ -165,8 +169,11 @@ fn pack_cells(
     cells: &mut Vec<WireCell>,
 ) -> Result<(), AllocError>
     requires { HoldNumbers (block_types block.now) numbers.now }
-    ensures sent { OnOk result (cells.new.items ≡ cells.old.items ++ sent (length store.old) (places_from (crossing_among ranges.now) k 0 (block_types block.now)) (map number_in numbers.now)) }
-    ensures kept { OnOk result (store.new ≡ store.old ++ kept (places_from (crossing_among ranges.now) k 0 (block_types block.now)) (map number_in numbers.now)) }
+    ensures sent { OnOk result (cells.new.items ≡ cells.old.items
+        ++ sent (length store.old) (places_from (crossing_among ranges.now) k 0 (block_types block.now))
+        (map number_in numbers.now)) }
+    ensures kept { OnOk result (store.new ≡ store.old
+        ++ kept (places_from (crossing_among ranges.now) k 0 (block_types block.now)) (map number_in numbers.now)) }
 {
     for (i, typed) in block.iter().enumerate() {
         let crossing = crossing_at(ranges, k, i);

@@ -6,7 +6,8 @@ ghost use Rattle.marshalling.specs.Leaves.{has_structs};
 ghost use Rattle.marshalling.specs.Packing.{names_of};
 ghost use Rattle.marshalling.specs.Ranges.{crossing_among};
 ghost use Rattle.marshalling.specs.Replies.{next_after, next_by, result_places};
-ghost use Rattle.marshalling.specs.Taking.{Takes, after_reply, after_reply_for, are_whole, block_places, call_crossing, is_reply, is_reply_for, is_whole, number_of, result_by, taken_blocks, taken_cell, taken_cells, taken_result};
+ghost use Rattle.marshalling.specs.Plans.{after_planned, behind_block, behind_blocks, is_planned_reply, part};
+ghost use Rattle.marshalling.specs.Taking.{Takes, after_reply, are_whole, call_crossing, is_reply, is_whole, number_of, result_by, taken_cell, taken_result};
 
 use crate::crossing::Crossing;
 use crate::fault::BadReply;
@@ -41,7 +42,9 @@ pub fn unpack_results(
     requires few { length args.now ≤ 8 }
     requires whole { IsTrue (are_whole (blocks_of memory.old) args.now) }
     requires room { (after_reply names.old (blocks_of memory.old) structs.now sig.now args.now reply.now).next ≤ 2 ^ 63 }
-    ensures { Takes result (is_reply names.old (blocks_of memory.old) structs.now sig.now args.now reply.now) (after_reply names.old (blocks_of memory.old) structs.now sig.now args.now reply.now) names.old names.new (blocks_of memory.old) (blocks_of memory.new) }
+    ensures { Takes result (is_reply names.old (blocks_of memory.old) structs.now sig.now args.now reply.now)
+        (after_reply names.old (blocks_of memory.old) structs.now sig.now args.now reply.now) names.old names.new
+        (blocks_of memory.old) (blocks_of memory.new) }
 {
     match plan_of(alloc, structs, sig.params.as_slice(), args) {
         Ok(plan) => take_planned(names, memory, &plan, sig, reply),
@@ -57,8 +60,10 @@ fn take_planned(
     reply: &ReplyBody,
 ) -> Result<Option<Cell>, BadReply>
     requires whole { IsTrue (list_all (λ name. is_whole (blocks_of memory.old name)) plan.now.targets.items) }
-    requires room { (after_reply_for names.old (blocks_of memory.old) (crossing_among plan.now.ranges.items) plan.now.targets.items (result_places sig.now sig.now.result) reply.now).next ≤ 2 ^ 63 }
-    ensures { Takes result (is_reply_for names.old (result_places sig.now sig.now.result) (block_places (crossing_among plan.now.ranges.items) plan.now.targets.items (blocks_of memory.old)) reply.now) (after_reply_for names.old (blocks_of memory.old) (crossing_among plan.now.ranges.items) plan.now.targets.items (result_places sig.now sig.now.result) reply.now) names.old names.new (blocks_of memory.old) (blocks_of memory.new) }
+    requires room { (after_planned names.old (blocks_of memory.old) plan.now sig.now reply.now).next ≤ 2 ^ 63 }
+    ensures { Takes result (is_planned_reply names.old (blocks_of memory.old) plan.now sig.now reply.now)
+        (after_planned names.old (blocks_of memory.old) plan.now sig.now reply.now) names.old names.new
+        (blocks_of memory.old) (blocks_of memory.new) }
 {
     if !planned_fits(names.count(), memory, plan, sig, reply) {
         return Err(BadReply::Shape);
@@ -82,7 +87,7 @@ fn planned_fits(
     reply: &ReplyBody,
 ) -> bool
     requires { next_after handle (result_places sig.now sig.now.result) ≤ 2 ^ 63 }
-    ensures { result ≡ is_reply_for handle (result_places sig.now sig.now.result) (block_places (crossing_among plan.now.ranges.items) plan.now.targets.items (blocks_of memory.now)) reply.now }
+    ensures { result ≡ is_planned_reply handle (blocks_of memory.now) plan.now sig.now reply.now }
 {
     if !result_fits(sig, handle, reply.result) {
         return false;
@@ -158,9 +163,9 @@ fn take_blocks(
     cells: &[WireCell],
 )
     requires whole { IsTrue (list_all (λ name. is_whole (blocks_of memory.old name)) targets.now) }
-    requires room { (taken_blocks (crossing_among ranges.now) 0 targets.now (record { sent = cells.now; next = names.old; blocks = blocks_of memory.old })).next ≤ 2 ^ 63 }
-    ensures names { names.new ≡ (taken_blocks (crossing_among ranges.now) 0 targets.now (record { sent = cells.now; next = names.old; blocks = blocks_of memory.old })).next }
-    ensures blocks { blocks_of memory.new ≡ (taken_blocks (crossing_among ranges.now) 0 targets.now (record { sent = cells.now; next = names.old; blocks = blocks_of memory.old })).blocks }
+    requires room { (behind_blocks ranges.now targets.now (part cells.now names.old (blocks_of memory.old))).next ≤ 2 ^ 63 }
+    ensures names { names.new ≡ (behind_blocks ranges.now targets.now (part cells.now names.old (blocks_of memory.old))).next }
+    ensures blocks { blocks_of memory.new ≡ (behind_blocks ranges.now targets.now (part cells.now names.old (blocks_of memory.old))).blocks }
 {
     let mut at = 0;
     for (k, name) in targets.iter().enumerate() {
@@ -179,8 +184,9 @@ fn take_block(
     start: usize,
 ) -> usize
     requires whole { IsTrue (is_whole (blocks_of memory.old name)) }
-    requires room { (taken_cells (crossing_among ranges.now) name k 0 (blocks_of memory.old name).types (record { sent = drop start cells.now; next = names.old; blocks = blocks_of memory.old })).next ≤ 2 ^ 63 }
-    ensures { record { sent = drop result cells.now; next = names.new; blocks = blocks_of memory.new } ≡ taken_cells (crossing_among ranges.now) name k 0 (blocks_of memory.old name).types (record { sent = drop start cells.now; next = names.old; blocks = blocks_of memory.old }) }
+    requires room { (behind_block ranges.now name k (part (drop start cells.now) names.old (blocks_of memory.old))).next ≤ 2 ^ 63 }
+    ensures { part (drop result cells.now) names.new (blocks_of memory.new)
+        ≡ behind_block ranges.now name k (part (drop start cells.now) names.old (blocks_of memory.old)) }
 {
     let count = memory.types(name).len();
     let mut at = start;
@@ -210,7 +216,8 @@ fn take_cell(
 ) -> usize
     requires cell { i < length (blocks_of memory.old name).cells }
     requires room { next_by crossing names.old ≤ 2 ^ 63 }
-    ensures { record { sent = drop result cells.now; next = names.new; blocks = blocks_of memory.new } ≡ taken_cell crossing name i (record { sent = drop at cells.now; next = names.old; blocks = blocks_of memory.old }) }
+    ensures { part (drop result cells.now) names.new (blocks_of memory.new)
+        ≡ taken_cell crossing name i (part (drop at cells.now) names.old (blocks_of memory.old)) }
 {
     let place = CellAt {
         block: name,

@@ -8,12 +8,14 @@ use Rattle.marshalling.proofs.ranges.ranges_of.Goals as goal
 
 pub returns-then-i-args : goal.returns-then-i-args
 returns-then-i-args c =
-    same_crossings _ _ (λ k n. ranges_end c.args.structs.now (drop c.loop-i.i c.args.params.now) c.args.args.now c.loop-i.i c.loop-i.ranges.items k n _ c.if-i-args.true (c.loop-i.invariant k n))
+    same_crossings _ _ (λ k n. ranges_end c.args.structs.now (drop c.loop-i.i c.args.params.now) c.args.args.now c.loop-i.i
+    c.loop-i.ranges.items k n _ c.if-i-args.true (c.loop-i.invariant k n))
 
 pub range_of-requires-clause-known : goal.range_of-requires-clause-known
 range_of-requires-clause-known c =
     all_at (λ p. is_pointee (length c.args.structs.now) p.kind) c.args.params.now c.loop-i.i (get_or c.args.params.now c.loop-i.i no_param)
-    (second (name_earlier 0 c.args.structs.now) (list_all (λ p. is_pointee (length c.args.structs.now) p.kind) c.args.params.now) c.requires) c.loop-i-test.true
+    (second (name_earlier 0 c.args.structs.now) (list_all (λ p. is_pointee (length c.args.structs.now) p.kind) c.args.params.now) c.requires)
+    c.loop-i-test.true
     (self_read c.args.params.now c.loop-i.i no_param c.loop-i-test.true)
 
 pub loop-i-preserved : goal.loop-i-preserved

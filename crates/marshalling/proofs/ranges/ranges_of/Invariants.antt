@@ -5,4 +5,6 @@ use Rattle.marshalling.proofs.ranges.ranges_of.Given as goal
 
 -- the ranges so far and the arguments that are left
 abbrev pub invariant-loop-i : goal.invariant-loop-i
-invariant-loop-i l = (k n : ℕ) → stronger (crossing_among l.ranges.items k n) (crossing_of l.structs (drop l.i l.params) (drop l.i l.args) k n) ≡ crossing_of l.structs l.params l.args k n
+invariant-loop-i l = (k n : ℕ)
+    → stronger (crossing_among l.ranges.items k n)
+    (crossing_of l.structs (drop l.i l.params) (drop l.i l.args) k n) ≡ crossing_of l.structs l.params l.args k n

@@ -9,7 +9,8 @@ use Rattle.marshalling.proofs.replies.pack_blocks.Given as goal
 abbrev pub invariant-loop-k : goal.invariant-loop-k
 invariant-loop-k l = record {
   sent : l.cells.items ++ sent (length l.store) (rest_blocks (crossing_among l.ranges) l.k l.blocks) (rest_numbers (blocks_of l.memory) l.k l.blocks)
-      ≡ l.fn.cells.items ++ sent (length l.fn.store) (places_of (crossing_among l.ranges) 0 (types_of l.blocks)) (received (blocks_of l.memory) 0 (types_of l.blocks));
+      ≡ l.fn.cells.items ++ sent (length l.fn.store) (places_of (crossing_among l.ranges) 0 (types_of l.blocks))
+      (received (blocks_of l.memory) 0 (types_of l.blocks));
   kept : l.store ++ kept (rest_blocks (crossing_among l.ranges) l.k l.blocks) (rest_numbers (blocks_of l.memory) l.k l.blocks)
       ≡ l.fn.store ++ kept (places_of (crossing_among l.ranges) 0 (types_of l.blocks)) (received (blocks_of l.memory) 0 (types_of l.blocks));
   served : AreServed (blocks_of l.memory) l.k (types_of (drop l.k l.blocks));

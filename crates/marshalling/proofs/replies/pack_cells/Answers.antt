@@ -11,7 +11,8 @@ bounds-numbers-i c = let count = holds_count c.args.block.now c.args.numbers.now
 
 pub add_cell-requires : goal.add_cell-requires
 add_cell-requires c =
-    holds_at c.args.block.now c.args.numbers.now c.loop-i.i (get_or c.args.block.now c.loop-i.i (Char, Number (pos 0))) c.index-numbers-i.result c.requires c.loop-i-test.true
+    holds_at c.args.block.now c.args.numbers.now c.loop-i.i (get_or c.args.block.now c.loop-i.i (Char, Number (pos 0))) c.index-numbers-i.result
+    c.requires c.loop-i-test.true
     (self_read c.args.block.now c.loop-i.i (Char, Number (pos 0)) c.loop-i-test.true) c.index-numbers-i.is
 
 pub loop-i-preserved : goal.loop-i-preserved
@@ -21,8 +22,11 @@ loop-i-preserved c =
     let count = holds_count c.args.block.now c.args.numbers.now c.requires in
     let within : c.loop-i.i < length c.args.numbers.now = omega (arith, count) in
     record {
-      sent = sent_more (crossing_among c.args.ranges.now) c.crossing_at-crossing.result c.args.k c.loop-i.i c.args.block.now c.args.numbers.now typed c.index-numbers-i.result c.loop-i.store _
-          c.loop-i.cells.items _ _ c.loop-i-test.true within read c.index-numbers-i.is c.crossing_at-crossing.ensures c.in_ok-add_cell.ensures.sent c.in_ok-add_cell.ensures.kept c.loop-i.invariant.sent;
-      kept = kept_more (crossing_among c.args.ranges.now) c.crossing_at-crossing.result c.args.k c.loop-i.i c.args.block.now c.args.numbers.now typed c.index-numbers-i.result c.loop-i.store _
+      sent = sent_more (crossing_among c.args.ranges.now) c.crossing_at-crossing.result c.args.k c.loop-i.i c.args.block.now
+          c.args.numbers.now typed c.index-numbers-i.result c.loop-i.store _
+          c.loop-i.cells.items _ _ c.loop-i-test.true within read c.index-numbers-i.is c.crossing_at-crossing.ensures c.in_ok-add_cell.ensures.sent
+          c.in_ok-add_cell.ensures.kept c.loop-i.invariant.sent;
+      kept = kept_more (crossing_among c.args.ranges.now) c.crossing_at-crossing.result c.args.k c.loop-i.i c.args.block.now
+          c.args.numbers.now typed c.index-numbers-i.result c.loop-i.store _
           _ c.loop-i-test.true within read c.index-numbers-i.is c.crossing_at-crossing.ensures c.in_ok-add_cell.ensures.kept c.loop-i.invariant.kept;
     }

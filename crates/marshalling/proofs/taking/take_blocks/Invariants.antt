@@ -2,7 +2,8 @@ use Rattle.std.proofs.Common.{◌≡◌, drop}
 use Rattle.block_memory.specs.Memory.{blocks_of}
 use Rattle.marshalling.specs.Ranges.{crossing_among}
 use Rattle.marshalling.specs.Taking.{taken_blocks}
-use Rattle.marshalling.proofs.TakingLemmas.{SameShape, part}
+use Rattle.marshalling.specs.Plans.{part}
+use Rattle.marshalling.proofs.TakingLemmas.{SameShape}
 use Rattle.marshalling.proofs.taking.take_blocks.Given as goal
 
 abbrev pub invariant-loop-k : goal.invariant-loop-k
