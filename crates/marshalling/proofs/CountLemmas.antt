@@ -1,23 +1,21 @@
 -- The counts of a call's body.
-use Rattle.std.proofs.Common.{◌≡◌, ◌≤◌, ◌+◌, ◌∙◌, refl, ap, sym, ℕ, suc, Bool, true, false, List, [], ◌∷◌, ◌++◌, length, map, arith, length-append, if◌then◌else◌}
-use Rattle.std.specs.Prelude.{◌&&◌, nat_eq, nat_le}
+use Rattle.std.proofs.Common.{◌≡◌, ◌≤◌, ◌+◌, ◌∙◌, refl, ap, suc, Bool, true, false, List, [], ◌∷◌, ◌++◌, length, map, arith, length-append, if◌then◌else◌}
+use Rattle.std.specs.Prelude.{nat_le}
 use Rattle.std.specs.List.{AllByRecursion, list_all, zip}
 use Rattle.std.proofs.lemmas.Bool.Decides.{nat_tests}
 use Rattle.std.proofs.lemmas.List.{length-map}
-use Rattle.pt_base.specs.declared.int_type.IntType.{IntType}
-use Rattle.pt_tree.specs.declared.signature.Param.{Param}
 use Rattle.block_memory.specs.declared.cell.BlockName.{BlockName}
 use Rattle.block_memory.specs.declared.cell.Cell.{Cell}
 use Rattle.block_memory.specs.declared.cell.Cell.TheVariants.{Int, Ptr, Sealed}
 use Rattle.block_memory.specs.declared.cell.Pointer.TheVariants.{Null, At}
 use Rattle.block_memory.specs.Block.{Block}
 use Rattle.block_memory.specs.Blocks.{Blocks}
-use Rattle.wire.specs.Limits.{IsBlock, IsCall}
+use Rattle.wire.specs.Limits.{IsBlock}
 use Rattle.marshalling.specs.Laws.{BodiesKeepCounts}
 use Rattle.marshalling.specs.Packing.{is_among, names_from, names_of, packed, packed_block, packed_typed, with_name, with_target}
 use Rattle.marshalling.specs.Taking.{is_whole}
 use Rattle.marshalling.proofs.Lists.{first, second}
-use Rattle.marshalling.proofs.TakingLemmas.{whole_count, whole_small, within}
+use Rattle.marshalling.proofs.TakingLemmas.{whole_count, whole_small}
 
 -- ---- lengths
 
@@ -56,19 +54,21 @@ names_more names (c ∷ args) =
 
 block_keeps : (b : Block) → is_whole b ≡ true → nat_le 1 (length b.cells) ≡ true → IsBlock (packed_block b)
 block_keeps b whole some =
-    let count : length (packed_block b) ≡ length b.cells = length-map (zip b.types b.cells) packed_typed ∙ zip_same b.types b.cells (whole_count b whole) in
+    let count : length (packed_block b) ≡ length b.cells = length-map (zip b.types b.cells) packed_typed
+    ∙ zip_same b.types b.cells (whole_count b whole) in
     let small = whole_small b whole in
     let one : 1 ≤ length b.cells = grind (arith, nat_tests, some) in
     (omega (arith, count, one), omega (arith, count, small))
 
-blocks_keep : (blocks : Blocks) (names : List BlockName) → list_all (λ name. is_whole (blocks name)) names ≡ true → list_all (λ name. nat_le 1 (length (blocks name).cells)) names ≡ true
+blocks_keep : (blocks : Blocks) (names : List BlockName) → list_all (λ name. is_whole (blocks name)) names ≡ true
+    → list_all (λ name. nat_le 1 (length (blocks name).cells)) names ≡ true
     → AllByRecursion IsBlock (map (λ name. packed_block (blocks name)) names)
 blocks_keep blocks [] whole some = tt
 blocks_keep blocks (name ∷ names) whole some =
     let here = block_keeps (blocks name) (first (is_whole (blocks name)) (list_all (λ name. is_whole (blocks name)) names) whole)
-        (first (nat_le 1 (length (blocks name).cells)) (list_all (λ name. nat_le 1 (length (blocks name).cells)) names) some) in
+    (first (nat_le 1 (length (blocks name).cells)) (list_all (λ name. nat_le 1 (length (blocks name).cells)) names) some) in
     let rest = blocks_keep blocks names (second (is_whole (blocks name)) (list_all (λ name. is_whole (blocks name)) names) whole)
-        (second (nat_le 1 (length (blocks name).cells)) (list_all (λ name. nat_le 1 (length (blocks name).cells)) names) some) in
+    (second (nat_le 1 (length (blocks name).cells)) (list_all (λ name. nat_le 1 (length (blocks name).cells)) names) some) in
     (here, rest)
 
 pub counts_kept : BodiesKeepCounts

@@ -30,6 +30,7 @@ use Rattle.marshalling.specs.Packing.{packed}
 use Rattle.marshalling.specs.Crossings.{crossing_of}
 use Rattle.marshalling.specs.Shape.{is_shaped}
 use Rattle.marshalling.specs.Handles.{Entries, handle_fault, unpacking}
+use Rattle.marshalling.specs.Sendable.{is_sendable}
 use Rattle.marshalling.specs.Replies.{packed_results, kept_results, has_plain}
 use Rattle.marshalling.specs.Taking.{is_reply, after_reply, after_posting, call_places}
 
@@ -336,3 +337,23 @@ all_sealed = refl
 posted : ((after_posting 6 calling structs seals passed).blocks (Local 2 1)).cells ≡ cell.Sealed 7 ∷ cell.Sealed 0 ∷ cell.Int (pos 3) ∷ []
 unfolding leaves_of
 posted = refl
+
+-- ---- what may be sent
+
+abbrev pub four : Entries
+four = (i.Int, pos 40) ∷ (i.Int, pos 41) ∷ (i.Int, pos 42) ∷ (i.Int, pos 43) ∷ []
+
+-- a pair whose key is a handle
+sendable : is_sendable four structs (pointer_to_struct 0 ∷ []) memory (to (Local 1 0) 0 1 ∷ []) ≡ true
+unfolding leaves_of
+sendable = refl
+
+-- its key alone, for a pointer without a mark
+unmarked : is_sendable four structs (pointer false ∷ []) memory (to (Local 1 0) 1 1 ∷ []) ≡ false
+unfolding leaves_of
+unmarked = refl
+
+-- a handle that the store doesn't have yet
+unknown : is_sendable store structs (pointer_to_struct 0 ∷ []) memory (to (Local 1 0) 0 1 ∷ []) ≡ false
+unfolding leaves_of
+unknown = refl

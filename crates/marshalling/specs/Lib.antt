@@ -9,3 +9,4 @@ pub mod Taking
 pub mod Walks
 pub mod Laws
 pub mod Plans
+pub mod Sendable

@@ -21,7 +21,7 @@ mod walk;
 pub use crossing::Crossing;
 pub use fault::{BadCall, BadReply};
 pub use inputs::Inputs;
-pub use laws::{bodies_keep_counts, posting_is_taking};
+pub use laws::{bodies_keep_counts, never_refused, posting_is_taking};
 pub use leaf::Leaf;
 pub use packing::pack_args;
 pub use replies::pack_results;
