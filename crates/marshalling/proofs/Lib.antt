@@ -1,0 +1,13 @@
+pub mod CountLemmas
+pub mod LeafLemmas
+pub mod Lists
+pub mod NameLemmas
+pub mod PostingLemmas
+pub mod RangeLemmas
+pub mod ReplyLemmas
+pub mod SendableLemmas
+pub mod ShapeLemmas
+pub mod TakingLemmas
+pub mod UnpackingLemmas
+pub mod WalkLemmas
+pub mod Worked

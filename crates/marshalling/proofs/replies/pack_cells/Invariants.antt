@@ -1,0 +1,14 @@
+use Rattle.std.proofs.Common.{◌≡◌, ◌++◌, drop, length, map}
+use Rattle.marshalling.specs.Ranges.{crossing_among}
+use Rattle.marshalling.specs.Replies.{block_types, kept, number_in, places_from, sent}
+use Rattle.marshalling.proofs.ReplyLemmas.{rest_places}
+use Rattle.marshalling.proofs.replies.pack_cells.Given as goal
+
+-- what was sent and kept so far, and what is of the cells that are left
+abbrev pub invariant-loop-i : goal.invariant-loop-i
+invariant-loop-i l = record {
+  sent : l.cells.items ++ sent (length l.store) (rest_places (crossing_among l.ranges) l.k l.i l.block) (map number_in (drop l.i l.numbers))
+      ≡ l.fn.cells.items ++ sent (length l.fn.store) (places_from (crossing_among l.ranges) l.k 0 (block_types l.block)) (map number_in l.numbers);
+  kept : l.store ++ kept (rest_places (crossing_among l.ranges) l.k l.i l.block) (map number_in (drop l.i l.numbers))
+      ≡ l.fn.store ++ kept (places_from (crossing_among l.ranges) l.k 0 (block_types l.block)) (map number_in l.numbers);
+}

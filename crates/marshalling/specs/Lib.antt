@@ -1,0 +1,12 @@
+pub mod Leaves
+pub mod Packing
+pub mod Crossings
+pub mod Shape
+pub mod Handles
+pub mod Ranges
+pub mod Replies
+pub mod Taking
+pub mod Walks
+pub mod Laws
+pub mod Plans
+pub mod Sendable
