@@ -1,0 +1,7 @@
+pub mod Assignments
+pub mod Edges
+pub mod Items
+pub mod KeptItems
+pub mod MoveView
+pub mod Moves
+pub mod Targets
