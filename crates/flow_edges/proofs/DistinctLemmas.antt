@@ -1,7 +1,8 @@
 -- Numbers, each once, as code finds them: those that are kept, and of the others the new ones.
-use Rattle.std.proofs.Common.{◌≡◌, ◌∙◌, ℕ, refl, ap, sym, subst, arith, Bool, true, false, cond, List, [], ◌∷◌, ◌++◌, append_assoc, append-nil, nat_eq}
+use Rattle.std.proofs.Common.{◌≡◌, ◌∙◌, ◌<◌, ◌+◌, ℕ, suc, refl, ap, sym, arith, Bool, true, false, cond, List, [], ◌∷◌, ◌++◌, append_assoc, length, drop, drop-cons, add-one, get_or, nat_eq}
 use Rattle.std.specs.Prelude.{not, ◌&&◌, ◌||◌}
 use Rattle.std.specs.List.{filter, list_any}
+use Rattle.flow_edges.specs.Distinct.{with_new}
 use Rattle.flow_edges.specs.Moves.{first_of_each}
 
 -- it is none of these
@@ -70,3 +71,22 @@ fresh_new kept x xs h =
 
     same : (y : ℕ) → is_new (kept ++ x ∷ []) y ≡ (not (nat_eq y x) && is_new kept y)
     same y = ap not (any_append (nat_eq y) kept (x ∷ [])) ∙ parts (list_any (nat_eq y) kept) (nat_eq y x)
+
+-- one more
+keeps : (kept : List ℕ) (x : ℕ) (xs : List ℕ) (b : Bool) → list_any (nat_eq x) kept ≡ b → cond b kept (kept ++ x ∷ []) ++ fresh (cond b kept (kept ++ x ∷ [])) xs ≡ kept ++ fresh kept (x ∷ xs)
+keeps kept x xs true e = ap (λ ys. kept ++ ys) (sym (fresh_old kept x xs e))
+keeps kept x xs false e = append_assoc kept (x ∷ []) (fresh (kept ++ x ∷ []) xs) ∙ ap (λ ys. kept ++ ys) (sym (fresh_new kept x xs e))
+
+pub next_kept : (l : List ℕ) (i x : ℕ) (kept new whole : List ℕ) → i < length l → x ≡ get_or l i x → new ≡ with_new kept x → kept ++ fresh kept (drop i l) ≡ whole → new ++ fresh new (drop (i + 1) l) ≡ whole
+next_kept l i x kept new whole lt is added e =
+    ap (λ ys. ys ++ fresh ys (drop (i + 1) l)) added
+    ∙ keeps kept x (drop (i + 1) l) (list_any (nat_eq x) kept) refl
+    ∙ ap (λ ys. kept ++ fresh kept ys) (sym (split_at l i x lt is))
+    ∙ e
+  where
+    split_at : (l : List ℕ) (i d : ℕ) → i < length l → d ≡ get_or l i d → drop i l ≡ d ∷ drop (i + 1) l
+    split_at l i d below is = drop-cons l i d below ∙ rw add-one (ap (λ y. y ∷ drop (suc i) l) (sym is))
+
+-- at the beginning
+pub none_kept : (l kept : List ℕ) → kept ≡ [] → kept ++ fresh kept l ≡ first_of_each l
+none_kept l kept e = ap (λ ys. ys ++ fresh ys l) e ∙ all_fresh l

@@ -115,7 +115,10 @@ module _ {A : Type 0} where
 pub struct_begun : (structs : List StructInfo) (depth start n : ℕ) (info : StructInfo) → 0 < depth → slice_get structs n ≡ Some info →
     struct_items structs depth start n ≡ fields_items (leaf_count structs) (struct_items structs (depth - 1)) start info.fields
 struct_begun structs zero start n info lt e = absurd (omega arith)
-struct_begun structs (suc depth) start n info lt e = ap (λ s. fields_items (leaf_count structs) (struct_items structs depth) start s.fields) (found_at structs n (record { name = []; fields = [] }) info e)
+struct_begun structs (suc depth) start n info lt e =
+    let back : suc depth - 1 ≡ depth = omega arith in
+    ap (λ s. fields_items (leaf_count structs) (struct_items structs depth) start s.fields) (found_at structs n (record { name = []; fields = [] }) info e)
+    ∙ ap (λ d. fields_items (leaf_count structs) (struct_items structs d) start info.fields) (sym back)
 
 -- and a struct that isn't there has none
 pub struct_missing : (structs : List StructInfo) (depth start n : ℕ) → slice_get structs n ≡ None → struct_items structs depth start n ≡ []

@@ -5,10 +5,12 @@ use Rattle.pt_base.specs.declared.slot.Edge.{Edge}
 use Rattle.flow_edges.specs.Moves.{Move, edges_between, edges_from, leaf_edges, move_edges}
 
 -- one more leaf of several
-pub step_leaf : (m : Move) (xs whole : List Edge) (n j : ℕ) → j < n → xs ++ flat_map (leaf_edges m) (range_with_len j (n - j)) ≡ whole → (xs ++ leaf_edges m j) ++ flat_map (leaf_edges m) (range_with_len (j + 1) (n - (j + 1))) ≡ whole
-step_leaf m xs whole n j lt e =
+pub next_leaf : (m : Move) (xs new whole : List Edge) (n j : ℕ) → j < n → new ≡ xs ++ leaf_edges m j → xs ++ flat_map (leaf_edges m) (range_with_len j (n - j)) ≡ whole →
+    new ++ flat_map (leaf_edges m) (range_with_len (j + 1) (n - (j + 1))) ≡ whole
+next_leaf m xs new whole n j lt added e =
     let is : n - j ≡ suc (n - (j + 1)) = omega (arith, lt) in
-    append_assoc xs (leaf_edges m j) (flat_map (leaf_edges m) (range_with_len (j + 1) (n - (j + 1))))
+    ap (λ ys. ys ++ flat_map (leaf_edges m) (range_with_len (j + 1) (n - (j + 1)))) added
+    ∙ append_assoc xs (leaf_edges m j) (flat_map (leaf_edges m) (range_with_len (j + 1) (n - (j + 1))))
     ∙ ap (λ k. xs ++ flat_map (leaf_edges m) (range_with_len j k)) (sym is) ∙ e
 
 -- all of them

@@ -1,4 +1,5 @@
 pub mod Assignments
+pub mod Distinct
 pub mod Edges
 pub mod Items
 pub mod KeptItems

@@ -135,14 +135,14 @@ fn add_usage(
     layout: &Layout,
     scope: &Scope<'_>,
     f: FnId,
-    usage: Usage<'_>,
+    usage: &Usage<'_>,
     items: &mut KeptItems,
     edges: &mut EdgeList,
 ) -> Result<(), AllocError>
     requires layout { IsLayout (view_typed t.now) layout.now }
     requires scope { view_scope scope.now ≡ scope_of (view_typed t.now) f.0 }
     requires items { AreItems scope.now.structs.now items.old }
-    ensures edges { OnOk result (edges.new.edges.items ≡ edges.old.edges.items ++ usage_edges (view_typed t.now) f.0 (view_usage usage)) }
+    ensures edges { OnOk result (edges.new.edges.items ≡ edges.old.edges.items ++ usage_edges (view_typed t.now) f.0 (view_usage usage.now)) }
     ensures items { OnOk result (AreItems scope.now.structs.now items.new) }
 {
     add_form(alloc, scope, usage.value, edges)?;
@@ -166,7 +166,7 @@ fn body_edges(
     let mut items = KeptItems::none(alloc);
     let mut edges = EdgeList::new(alloc);
     for usage in &usages {
-        add_usage(alloc, t, layout, &scope, f, *usage, &mut items, &mut edges)?;
+        add_usage(alloc, t, layout, &scope, f, usage, &mut items, &mut edges)?;
     }
     Ok(edges.into_list())
 }

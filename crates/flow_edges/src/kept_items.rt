@@ -1,5 +1,5 @@
 // The slots of a brace list's items, kept from one item to the next.
-ghost use Rattle.std.specs.Prelude.{◌≡◌, Some, IfOk, IsTrue, OnOk, get_or};
+ghost use Rattle.std.specs.Prelude.{◌≡◌, ◌<◌, IfOk, IsTrue, OnOk, get_or};
 ghost use Rattle.flow_edges.specs.Items.{items_of};
 ghost use Rattle.flow_edges.specs.KeptItems.{AreItems, IsFor};
 

@@ -111,13 +111,13 @@ pub(crate) fn target_slot(
     layout: &Layout,
     scope: &Scope<'_>,
     f: FnId,
-    usage: Usage<'_>,
+    usage: &Usage<'_>,
     items: &mut KeptItems,
 ) -> Result<Option<u64>, AllocError>
     requires layout { IsLayout (view_typed t.now) layout.now }
     requires scope { view_scope scope.now ≡ scope_of (view_typed t.now) f.0 }
     requires items { AreItems scope.now.structs.now items.old }
-    ensures slot { IfOk result (λ s. slots_in s ≡ is.target_slots (view_typed t.now) f.0 usage.how (ty_of (view_expr usage.value.now))) }
+    ensures slot { IfOk result (λ s. slots_in s ≡ is.target_slots (view_typed t.now) f.0 usage.now.how (ty_of (view_expr usage.now.value.now))) }
     ensures items { OnOk result (AreItems scope.now.structs.now items.new) }
 {
     match usage.how {
