@@ -1,11 +1,11 @@
 -- Lists that begin with the same items, and the items of structs.
-use Rattle.std.proofs.Common.{◌≡◌, ◌∙◌, ◌≤◌, ◌<◌, ◌-◌, ◌+◌, ℕ, zero, suc, refl, ap, sym, arith, List, [], ◌∷◌, ◌++◌, Option, Some, None, length, take, append_assoc, append-nil, slice_get, get_or}
+use Rattle.std.proofs.Common.{◌≡◌, ◌∙◌, ◌≤◌, ◌<◌, ◌-◌, ◌+◌, ℕ, zero, suc, refl, ap, sym, arith, List, [], ◌∷◌, ◌++◌, Option, Some, None, length, take, drop, drop-cons, add-one, append_assoc, append-nil, slice_get, get_or}
 use Rattle.std.proofs.lemmas.List.{take-append-le}
 use Rattle.sides.specs.Leaves.{leaf_count}
 use Rattle.typed_tree.specs.declared.types.Field.{Field}
 use Rattle.typed_tree.specs.declared.types.StructInfo.{StructInfo}
 use Rattle.typed_tree.specs.Cells.{repeated}
-use Rattle.flow_edges.specs.Items.{fields_items, struct_items}
+use Rattle.flow_edges.specs.Items.{fields_items, struct_items, type_items}
 
 abbrev pub AreAlike : {A : Type 0} → ℕ → List A → List A → Type 0
 AreAlike w xs ys = take w xs ≡ take w ys
@@ -104,27 +104,15 @@ module _ {A : Type 0} where
   pub step_items : (w : ℕ) (slots new items rest whole : List A) → AreAlike w new (slots ++ items) → AreAlike w (slots ++ (items ++ rest)) whole → AreAlike w (new ++ rest) whole
   step_items w slots new items rest whole h e = alike_before w new (slots ++ items) rest h ∙ ap (take w) (append_assoc slots items rest) ∙ e
 
-  -- enough is there, or nothing more is to come
-  pub enough_items : (w : ℕ) (slots rest whole : List A) → w ≤ length slots → AreAlike w (slots ++ rest) whole → AreAlike w slots whole
-  enough_items w slots rest whole le e = alike_full w slots rest le ∙ e
-
-  pub last_items : (w : ℕ) (slots whole : List A) → AreAlike w (slots ++ []) whole → AreAlike w slots whole
-  last_items w slots whole e = ap (take w) (sym (append-nil slots)) ∙ e
-
--- the items of a struct are those of its fields
-pub struct_begun : (structs : List StructInfo) (depth start n : ℕ) (info : StructInfo) → 0 < depth → slice_get structs n ≡ Some info →
-    struct_items structs depth start n ≡ fields_items (leaf_count structs) (struct_items structs (depth - 1)) start info.fields
-struct_begun structs zero start n info lt e = absurd (omega arith)
-struct_begun structs (suc depth) start n info lt e =
-    let back : suc depth - 1 ≡ depth = omega arith in
-    ap (λ s. fields_items (leaf_count structs) (struct_items structs depth) start s.fields) (found_at structs n (record { name = []; fields = [] }) info e)
-    ∙ ap (λ d. fields_items (leaf_count structs) (struct_items structs d) start info.fields) (sym back)
-
--- and a struct that isn't there has none
-pub struct_missing : (structs : List StructInfo) (depth start n : ℕ) → slice_get structs n ≡ None → struct_items structs depth start n ≡ []
-struct_missing structs zero start n e = refl
-struct_missing structs (suc depth) start n e = ap (λ s. fields_items (leaf_count structs) (struct_items structs depth) start s.fields) (nothing_at structs n (record { name = []; fields = [] }) e)
-
--- adding nothing
-pub adds_none : (w : ℕ) (old items : List ℕ) → items ≡ [] → AreAlike w old (old ++ items)
-adds_none w old items e = ap (take w) (sym (append-nil old) ∙ ap (λ xs. old ++ xs) (sym e))
+-- one more field
+pub field_on : (structs : List StructInfo) (depth w at next i : ℕ) (fields : List Field) (f : Field) (slots new whole : List ℕ) → i < length fields → f ≡ get_or fields i f → next ≡ at + leaf_count structs f.ty →
+    AreAlike w new (slots ++ type_items (struct_items structs depth) at f.ty) →
+    AreAlike w (slots ++ fields_items (leaf_count structs) (struct_items structs depth) at (drop i fields)) whole →
+    AreAlike w (new ++ fields_items (leaf_count structs) (struct_items structs depth) next (drop (i + 1) fields)) whole
+field_on structs depth w at next i fields f slots new whole lt is behind added e =
+    ap (λ a. take w (new ++ fields_items (leaf_count structs) (struct_items structs depth) a (drop (i + 1) fields))) behind
+    ∙ step_items w slots new (type_items (struct_items structs depth) at f.ty) (fields_items (leaf_count structs) (struct_items structs depth) (at + leaf_count structs f.ty) (drop (i + 1) fields)) whole added
+        (ap (λ fs. take w (slots ++ fields_items (leaf_count structs) (struct_items structs depth) at fs)) (sym (split_at fields i f lt is)) ∙ e)
+  where
+    split_at : (l : List Field) (i : ℕ) (d : Field) → i < length l → d ≡ get_or l i d → drop i l ≡ d ∷ drop (i + 1) l
+    split_at l i d below is = drop-cons l i d below ∙ rw add-one (ap (λ x. x ∷ drop (suc i) l) (sym is))

@@ -17,5 +17,5 @@ decreases-add_struct l = 4 * l.depth
 
 abbrev pub invariant-add_struct-loop-field : goal.invariant-add_struct-loop-field
 invariant-add_struct-loop-field l =
-    take l.wanted (l.slots.items ++ fields_items (leaf_count l.scope.structs.now) (struct_items l.scope.structs.now (l.depth - 1)) l.at (drop l.field-index l.info.fields))
+    take l.wanted (l.slots.items ++ fields_items (leaf_count l.scope.structs.now) (struct_items l.scope.structs.now (l.depth - 1)) l.at (drop l.field-index l.field-items))
     ≡ take l.wanted (l.fn.slots.items ++ struct_items l.scope.structs.now l.depth l.start l.n)
