@@ -151,6 +151,7 @@ fn add_usage(
 }
 
 // the edges that the body of a function gives
+#[tactic(auto, unfolding(crate::specs::Edges::edges_in))]
 fn body_edges(
     alloc: Global,
     t: &Typed,
