@@ -1,5 +1,5 @@
 -- Lists that begin with the same items, and the items of structs.
-use Rattle.std.proofs.Common.{◌≡◌, ◌∙◌, ◌≤◌, ◌<◌, ◌-◌, ◌+◌, ℕ, zero, suc, refl, ap, sym, arith, List, [], ◌∷◌, ◌++◌, Option, Some, None, length, take, drop, drop-cons, add-one, append_assoc, append-nil, slice_get, get_or}
+use Rattle.std.proofs.Common.{◌≡◌, ◌∙◌, ◌≤◌, ◌<◌, ◌-◌, ◌+◌, ℕ, zero, suc, refl, ap, sym, arith, List, [], ◌∷◌, ◌++◌, Some, None, length, take, drop, drop-cons, add-one, append_assoc, append-nil, slice_get, get_or}
 use Rattle.std.proofs.lemmas.List.{take-append-le}
 use Rattle.sides.specs.Leaves.{leaf_count}
 use Rattle.typed_tree.specs.declared.types.Field.{Field}
@@ -112,7 +112,7 @@ pub field_on : (structs : List StructInfo) (depth w at next i : ℕ) (fields : L
 field_on structs depth w at next i fields f slots new whole lt is behind added e =
     ap (λ a. take w (new ++ fields_items (leaf_count structs) (struct_items structs depth) a (drop (i + 1) fields))) behind
     ∙ step_items w slots new (type_items (struct_items structs depth) at f.ty) (fields_items (leaf_count structs) (struct_items structs depth) (at + leaf_count structs f.ty) (drop (i + 1) fields)) whole added
-        (ap (λ fs. take w (slots ++ fields_items (leaf_count structs) (struct_items structs depth) at fs)) (sym (split_at fields i f lt is)) ∙ e)
+    (ap (λ fs. take w (slots ++ fields_items (leaf_count structs) (struct_items structs depth) at fs)) (sym (split_at fields i f lt is)) ∙ e)
   where
     split_at : (l : List Field) (i : ℕ) (d : Field) → i < length l → d ≡ get_or l i d → drop i l ≡ d ∷ drop (i + 1) l
     split_at l i d below is = drop-cons l i d below ∙ rw add-one (ap (λ x. x ∷ drop (suc i) l) (sym is))

@@ -2,11 +2,10 @@
 use Rattle.std.proofs.Common.{◌≡◌, ℕ, refl, Bool, true, false, Some, None, List, [], ◌∷◌, codes}
 use Rattle.pt_base.specs.declared.int_type.IntType.TheVariants as i
 use Rattle.pt_base.specs.declared.slot.Edge.{Edge}
-use Rattle.pt_base.specs.declared.span.Span.{Span}
 use Rattle.pt_tree.specs.declared.signature.Elem.TheVariants as el
 use Rattle.pt_tree.specs.declared.signature.Param.{Param}
 use Rattle.pt_tree.specs.declared.signature.ParamKind.TheVariants as p
-use Rattle.sides.proofs.Worked.{span, int, var, local, value, number, assign, call, takes, function, host, does, returns, body}
+use Rattle.sides.proofs.Worked.{span, int, var, local, number, assign, call, takes, function, host, does, returns, body}
 use Rattle.sides.specs.Leaves.{leaves_of}
 use Rattle.sides.specs.Usages.{usages_in}
 use Rattle.typed_tree.specs.declared.statement.TypedDeclarator.{TypedDeclarator}
@@ -178,8 +177,8 @@ lists = record {
   functions = function (codes "main") (Some i.Int) [] false false
       (var int false ∷ var (ty.Struct 1) false ∷ var (ty.Struct 1) false ∷ var plain false ∷ var (ty.Array (el.Int i.Int) 2) false ∷ [])
       (body (declares (begins 0 n.Nothing ∷ []) ∷ declares (begins 1 (n.Items (span 0 0) (record { 0 = 0 } ∷ record { 0 = 1 } ∷ record { 0 = 2 } ∷ record { 0 = 3 } ∷ [])) ∷ [])
-          ∷ declares (begins 2 (n.Value (record { 0 = 4 })) ∷ []) ∷ declares (begins 3 (n.Items (span 0 0) (record { 0 = 5 } ∷ [])) ∷ [])
-          ∷ declares (begins 4 (n.Items (span 0 0) (record { 0 = 6 } ∷ record { 0 = 7 } ∷ [])) ∷ []) ∷ returns 8 ∷ [])) ∷ [];
+      ∷ declares (begins 2 (n.Value (record { 0 = 4 })) ∷ []) ∷ declares (begins 3 (n.Items (span 0 0) (record { 0 = 5 } ∷ [])) ∷ [])
+      ∷ declares (begins 4 (n.Items (span 0 0) (record { 0 = 6 } ∷ record { 0 = 7 } ∷ [])) ∷ []) ∷ returns 8 ∷ [])) ∷ [];
   exprs = named int 10 11 0 ∷ number 1 ∷ named int 14 15 0 ∷ named int 16 17 0 ∷ named (ty.Struct 1) 20 21 1 ∷ address plain 30 32 0 ∷ number 1 ∷ named int 40 41 0 ∷ number 0 ∷ [];
 }
 

@@ -25,6 +25,14 @@ impl EdgeList {
         }
     }
 
+    /// Whether there may be so many more. None is more than 64 bits can say.
+    pub fn has_room(&self, more: Option<u64>) -> bool {
+        match more {
+            Some(more) => more <= (MOST_EDGES - self.edges.len()) as u64,
+            None => false,
+        }
+    }
+
     /// An edge at the end, if there may be one more.
     pub fn add(&mut self, span: Span, from: u64, to: u64) -> Result<(), AllocError>
         ensures { OnOk result (self.new.edges.items ≡ self.old.edges.items ++ edge_between span from to ∷ []) }

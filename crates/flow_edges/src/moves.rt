@@ -63,12 +63,27 @@ impl Move {
         Ok(())
     }
 
-    /// Adds its edges. A value that carries nothing has none, however many leaves it has.
+    // how many edges it has, if 64 bits can say it
+    fn count(&self) -> Option<u64> {
+        let pairs = (self.from.len() as u64).checked_mul(self.to.len() as u64)?;
+        let ways = pairs.checked_mul(self.leaves)?;
+        if self.back {
+            ways.checked_mul(2)
+        } else {
+            Some(ways)
+        }
+    }
+
+    /// Adds its edges, if there is room for them all. A value that carries nothing has none, however
+    /// many leaves it has.
     pub fn add_to(&self, edges: &mut EdgeList) -> Result<(), AllocError>
         ensures { OnOk result (edges.new.edges.items ≡ edges.old.edges.items ++ move_edges (view_move self.now)) }
     {
         if self.from.is_empty() || self.to.is_empty() {
             return Ok(());
+        }
+        if !edges.has_room(self.count()) {
+            return Err(AllocError);
         }
         self.add_leaves(edges)
     }

@@ -1,5 +1,5 @@
 // Where the value of an expression goes.
-ghost use Rattle.std.specs.Prelude.{◌≡◌, false, IfOk, OnOk, slice_get};
+ghost use Rattle.std.specs.Prelude.{◌≡◌, ◌+◌, [], ◌∷◌, false, IfOk, OnOk, slice_get};
 ghost use Rattle.std.specs.Option.{option_map_or};
 ghost use Rattle.sides.specs.Carried.{scope_of, start_of};
 ghost use Rattle.sides.specs.Contexts as contexts;
@@ -53,6 +53,14 @@ fn mixes(f: &TypedFn, k: usize) -> bool
     f.body.is_none() && !f.signature.privileged && f.signature.result.is_some() && is_marked(f, k)
 }
 
+// the slot of what a function or host returns
+fn result_slot(layout: &Layout, f: FnId) -> Result<Option<u64>, AllocError>
+    ensures { IfOk result (λ s. slots_in s ≡ (layout.now.results + f.0) ∷ []) }
+{
+    let slot = behind(layout.results, u64::from(f.0))?;
+    Ok(Some(slot))
+}
+
 // where the argument of this number of a call goes
 fn passed_slot(t: &Typed, layout: &Layout, g: FnId, k: usize) -> Result<Option<u64>, AllocError>
     requires { IsLayout (view_typed t.now) layout.now }
@@ -67,8 +75,7 @@ fn passed_slot(t: &Typed, layout: &Layout, g: FnId, k: usize) -> Result<Option<u
     if !mixes(function, k) {
         return Ok(None);
     }
-    let slot = behind(layout.results, u64::from(g.0))?;
-    Ok(Some(slot))
+    result_slot(layout, g)
 }
 
 // whether it is a struct
@@ -77,7 +84,8 @@ fn is_struct(ty: Option<VarTy>) -> bool
 {
     match ty {
         Some(VarTy::Struct(_)) => true,
-        Some(VarTy::Int(_)) | Some(VarTy::Array { .. }) | Some(VarTy::Pointer { .. }) | None => false,
+        Some(VarTy::Int(_)) | Some(VarTy::Array { .. }) | Some(VarTy::Pointer { .. }) | None =>
+            false,
     }
 }
 
@@ -124,9 +132,6 @@ pub(crate) fn target_slot(
         How::Kept | How::Operated => Ok(None),
         How::Passed(g, k) => passed_slot(t, layout, g, k),
         How::Begins(v, k) => begun_slot(alloc, scope, v.0 as usize, k, usage.value.ty, items),
-        How::Returned => {
-            let slot = behind(layout.results, u64::from(f.0))?;
-            Ok(Some(slot))
-        }
+        How::Returned => result_slot(layout, f),
     }
 }

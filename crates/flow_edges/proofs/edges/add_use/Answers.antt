@@ -11,4 +11,4 @@ use Rattle.flow_edges.proofs.edges.add_use.Goals as goal
 pub returns-in-None : goal.returns-in-None
 returns-in-None c =
     adds_nothing_to c.args.edges.now.edges.items (moved_to (view_scope c.args.scope.now) (view_expr c.args.value.now) (slots_in c.args.to))
-        (ap (λ o. length (first_of_each (slots_in o))) c.in-None.is)
+    (ap (λ o. length (first_of_each (slots_in o))) c.in-None.is)

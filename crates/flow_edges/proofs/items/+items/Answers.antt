@@ -10,4 +10,4 @@ pub add_struct-loop-field-preserved : goal.add_struct-loop-field-preserved
 add_struct-loop-field-preserved t c =
     let behind = c.in_ok-at.ensures ∙ ap (λ k. c.loop-field.at + k) (c.count.ensures c.args.scope.now.structs.now c.args.scope.now.known) in
     field_on c.args.scope.now.structs.now (c.args.depth - 1) c.args.wanted c.loop-field.at _ c.loop-field.field-index c.as_slice-field-items.result.now c.field-item.result c.loop-field.slots.items _ _
-        (grind arith) (search rules) behind c.in_ok-add_object.ensures c.loop-field.invariant
+    (grind arith) (search rules) behind c.in_ok-add_object.ensures c.loop-field.invariant

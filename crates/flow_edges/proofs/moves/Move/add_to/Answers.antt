@@ -7,6 +7,6 @@ use Rattle.flow_edges.proofs.moves.Move.add_to.Goals.{then-is_empty-via-then-is_
 
 pub returns-then-is_empty : goal.returns-then-is_empty
 returns-then-is_empty c = elim c.then-is_empty.branch [
-  then-is_empty-via-then-is_empty w ↦ adds_nothing_from c.args.edges.now.edges.items (view_move c.args.self.now) (grind (arith, w.if-is_empty))
+  | then-is_empty-via-then-is_empty w ↦ adds_nothing_from c.args.edges.now.edges.items (view_move c.args.self.now) (grind (arith, w.if-is_empty))
   | then-is_empty-via-else-is_empty+then-is_empty-2 w ↦ adds_nothing_to c.args.edges.now.edges.items (view_move c.args.self.now) (grind (arith, w.if-is_empty-2))
 ]
