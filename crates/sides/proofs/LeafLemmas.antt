@@ -1,9 +1,10 @@
 -- The leaves of structs, as they are counted and gone over.
-use Rattle.std.proofs.Common.{◌≡◌, ◌∙◌, ◌≤◌, ◌<◌, ℕ, zero, suc, ◌+◌, refl, ap, sym, subst, arith, Bool, true, false, Option, Some, None, List, [], ◌∷◌, ◌++◌, length, length-append, map, append_assoc}
+use Rattle.std.proofs.Common.{◌≡◌, ◌∙◌, ◌≤◌, ◌<◌, ℕ, zero, suc, ◌+◌, ◌-◌, refl, ap, sym, subst, arith, Bool, true, false, Option, Some, None, List, [], ◌∷◌, ◌++◌, length, length-append, map, append_assoc}
 use Rattle.std.specs.Prelude.{◌||◌, slice_get, get_or, take}
 use Rattle.std.proofs.Math.ListN.{get_or-append}
 use Rattle.std.proofs.Math.Seq.{get_or-append_seam}
-use Rattle.std.proofs.lemmas.List.{length-map, map-append, take_all, get_or_past}
+use Rattle.std.proofs.lemmas.List.{append-nil, length-map, map-append, take_all, get_or_past}
+use Rattle.std.proofs.lemmas.Option.{get_or_from_slice_get}
 use Rattle.pt_tree.specs.declared.signature.Elem.{Elem}
 use Rattle.pt_tree.specs.declared.signature.Elem.TheVariants as e
 use Rattle.typed_tree.specs.declared.types.VarTy.{VarTy}
@@ -13,8 +14,9 @@ use Rattle.typed_tree.specs.declared.types.StructInfo.{StructInfo}
 use Rattle.typed_tree.specs.Sizes.{fields_of}
 use Rattle.sides.specs.declared.slots.Owner.{Owner}
 use Rattle.sides.specs.declared.slots.SlotInfo.{SlotInfo}
-use Rattle.sides.specs.Leaves.{Leaf, leaf_of_field, elem_leaves, type_leaves, fields_leaves, leaves_after, leaves_of, leaf_count, field_starts, field_start}
-use Rattle.sides.specs.LeafTables.{leaves_below, slot_behind, elem_count, type_count, fields_count, counts_after, counts_of}
+use Rattle.sides.specs.Leaves.{Leaf, whole, leaf_of_field, elem_leaves, type_leaves, fields_leaves, leaves_after, leaves_of, leaf_count, field_starts, field_start}
+use Rattle.sides.specs.Slots.{slot_of}
+use Rattle.sides.specs.LeafTables.{leaves_below, slot_behind, named_struct, named_leaves, elem_count, type_count, fields_count, counts_after, counts_of}
 
 -- ---- counting
 
@@ -116,6 +118,19 @@ no_entry structs n limit is =
     past (x ∷ xs) zero (suc limit) is = cc
     past (x ∷ xs) (suc n) (suc limit) is = omega (arith, past xs n limit is)
 
+none_at : (structs : List StructInfo) (n : ℕ) (d : StructInfo) → slice_get structs n ≡ None → get_or structs n d ≡ d
+none_at [] n d h = refl
+none_at (s ∷ ss) zero d h = cc
+none_at (s ∷ ss) (suc n) d h = none_at ss n d h
+
+-- the same of any number; a struct that isn't there has no fields
+pub entry_of : (structs : List StructInfo) (n limit : ℕ) → n < limit → get_or (leaves_below structs limit) n [] ≡ fields_leaves (leaves_below structs n) 0 (fields_of structs n)
+entry_of structs n limit lt = go (slice_get structs n) refl
+  where
+    go : (o : Option StructInfo) → slice_get structs n ≡ o → get_or (leaves_below structs limit) n [] ≡ fields_leaves (leaves_below structs n) 0 (fields_of structs n)
+    go None e = no_entry structs n limit e ∙ ap (λ (s : StructInfo). fields_leaves (leaves_below structs n) 0 s.fields) (sym (none_at structs n (record { name = []; fields = [] }) e))
+    go (Some s) e = entry_is structs n limit s e lt ∙ ap (λ (s : StructInfo). fields_leaves (leaves_below structs n) 0 s.fields) (sym (get_or_from_slice_get structs n s (record { name = []; fields = [] }) e))
+
 -- all structs
 pub all_below : (structs : List StructInfo) (ty : VarTy) → type_leaves (leaves_below structs (length structs)) ty ≡ leaves_of structs ty
 unfolding leaves_of
@@ -139,6 +154,37 @@ behind_fields owner path marked k field (l ∷ ls) =
     ap (λ x. x ∷ map (slot_behind owner path marked) (map (leaf_of_field k field) ls)) (behind_field owner path marked k field l)
     ∙ ap (λ xs. slot_behind owner (path ++ k ∷ []) (marked || field) l ∷ xs) (behind_fields owner path marked k field ls)
 
+or_false : (a : Bool) → (a || false) ≡ a
+or_false true = refl
+or_false false = refl
+
+-- the slot of a leaf that is all of an object
+pub leaf_is : (owner : Owner) (path : List ℕ) (marked : Bool) → slot_behind owner path marked whole ≡ record { owner = owner; path = path; marked = marked }
+leaf_is owner path marked =
+    let paths = append-nil path in
+    let marks = or_false marked in
+    λ i. record { owner = owner; path = paths i; marked = marks i }
+
+pub named_is : (known : List (List Leaf)) (ty : VarTy) → named_leaves known (named_struct ty) ≡ type_leaves known ty
+named_is known (Int t) = refl
+named_is known (Struct n) = refl
+named_is known (Array (e.Int t) count) = refl
+named_is known (Array (e.Struct n) count) = refl
+named_is known (Pointer (e.Int t) fixed) = refl
+named_is known (Pointer (e.Struct n) fixed) = refl
+
+-- after the slots of one more field
+pub field_behind : (owner : Owner) (path : List ℕ) (marked : Bool) (known : List (List Leaf)) (k : ℕ) (f : Field) (fs : List Field) (s s' all : List SlotInfo) →
+    s' ≡ s ++ map (slot_behind owner (path ++ k ∷ []) (marked || f.marked)) (named_leaves known (named_struct f.ty)) →
+    s ++ map (slot_behind owner path marked) (fields_leaves known k (f ∷ fs)) ≡ all → s' ++ map (slot_behind owner path marked) (fields_leaves known (suc k) fs) ≡ all
+field_behind owner path marked known k f fs s s' all e h =
+    ap (λ xs. xs ++ map (slot_behind owner path marked) (fields_leaves known (suc k) fs)) e
+    ∙ append_assoc s (map (slot_behind owner (path ++ k ∷ []) (marked || f.marked)) (named_leaves known (named_struct f.ty))) (map (slot_behind owner path marked) (fields_leaves known (suc k) fs))
+    ∙ ap (λ ls. s ++ (map (slot_behind owner (path ++ k ∷ []) (marked || f.marked)) ls ++ map (slot_behind owner path marked) (fields_leaves known (suc k) fs))) (named_is known f.ty)
+    ∙ ap (λ xs. s ++ (xs ++ map (slot_behind owner path marked) (fields_leaves known (suc k) fs))) (sym (behind_fields owner path marked k f.marked (type_leaves known f.ty)))
+    ∙ ap (λ xs. s ++ xs) (sym (map-append (slot_behind owner path marked) (map (leaf_of_field k f.marked) (type_leaves known f.ty)) (fields_leaves known (suc k) fs)))
+    ∙ h
+
 -- ---- counts by the table
 
 -- types have as many leaves by the table as there are
@@ -152,3 +198,41 @@ start_is structs starts n k e = ap (λ xs. get_or (get_or xs n []) k 0) e ∙ ap
     at [] n = refl
     at (s ∷ ss) zero = refl
     at (s ∷ ss) (suc n) = at ss n
+
+-- ---- whole objects
+
+pub object_is : (structs : List StructInfo) (owner : Owner) (ty : VarTy) (path : List ℕ) (bound : ℕ) (of : Option ℕ) → path ≡ [] → bound ≡ length structs → of ≡ named_struct ty →
+    map (slot_behind owner path false) (named_leaves (leaves_below structs bound) of) ≡ map (slot_of owner) (leaves_of structs ty)
+object_is structs owner ty path bound of ep eb eo =
+    (λ i. map (slot_behind owner (ep i) false) (named_leaves (leaves_below structs (eb i)) (eo i)))
+    ∙ ap (map (slot_of owner)) (named_is (leaves_below structs (length structs)) ty ∙ all_below structs ty)
+
+-- ---- the walk over fields
+
+-- no struct is behind the bound
+pub none_behind : (structs : List StructInfo) (owner : Owner) (path : List ℕ) (marked : Bool) (n bound : ℕ) (of : Option ℕ) (s : List SlotInfo) → of ≡ Some n → bound ≤ n →
+    s ≡ s ++ map (slot_behind owner path marked) (named_leaves (leaves_below structs bound) of)
+none_behind structs owner path marked n bound of s e le =
+    sym (ap (λ ls. s ++ map (slot_behind owner path marked) ls) (ap (named_leaves (leaves_below structs bound)) e ∙ no_entry_past structs n bound le) ∙ append-nil s)
+
+-- after the last field
+pub fields_done : (structs : List StructInfo) (owner : Owner) (path : List ℕ) (marked : Bool) (n bound k : ℕ) (of : Option ℕ) (fs rest : List Field) (s s' : List SlotInfo) → of ≡ Some n → n < bound → fs ≡ fields_of structs n → rest ≡ [] →
+    s' ++ map (slot_behind owner path marked) (fields_leaves (leaves_below structs n) k rest) ≡ s ++ map (slot_behind owner path marked) (fields_leaves (leaves_below structs n) 0 fs) →
+    s' ≡ s ++ map (slot_behind owner path marked) (named_leaves (leaves_below structs bound) of)
+fields_done structs owner path marked n bound k of fs rest s s' eo lt ef er h =
+    sym (append-nil s')
+    ∙ ap (λ xs. s' ++ map (slot_behind owner path marked) (fields_leaves (leaves_below structs n) k xs)) (sym er)
+    ∙ h
+    ∙ ap (λ ls. s ++ map (slot_behind owner path marked) ls) (ap (fields_leaves (leaves_below structs n) 0) ef ∙ sym (entry_of structs n bound lt) ∙ ap (named_leaves (leaves_below structs bound)) (sym eo))
+
+-- what is taken off is what was put on
+pub popped : (xs all less : List ℕ) (n long : ℕ) → all ≡ xs ++ n ∷ [] → long ≡ length all → less ≡ take (long - 1) all → less ≡ xs
+popped xs all less n long e el h =
+    let more = length-append xs (n ∷ []) in
+    let same = ap length e in
+    let k : long - 1 ≡ length xs = omega (arith, more, same, el) in
+    h ∙ ap (λ j. take j all) k ∙ ap (take (length xs)) e ∙ left xs
+  where
+    left : (ys : List ℕ) → take (length ys) (ys ++ n ∷ []) ≡ ys
+    left [] = refl
+    left (y ∷ ys) = ap (λ zs. y ∷ zs) (left ys)

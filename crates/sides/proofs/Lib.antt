@@ -1,10 +1,14 @@
 pub mod CallLemmas
 pub mod CarriedLemmas
 pub mod Joined
+pub mod LayoutLemmas
 pub mod LeafLemmas
 pub mod ListLemmas
 pub mod MovedLemmas
 pub mod PlaceLemmas
+pub mod ReachLemmas
+pub mod SeedLemmas
 pub mod TableLemmas
 pub mod UsageLemmas
+pub mod WalkLemmas
 pub mod Worked

@@ -104,3 +104,19 @@ module _ (t : TypedTree) (table : List Bool) (r : IsReached t Slave table) (fs :
 
   pub seed_lists : Lists (λ (s : Slot). s.0) (IsSeed t) (slot_numbers (places_true 0 (seed_table t table (slots_of t) fs)))
   seed_lists = table_lists slot_number (λ (s : Slot). s.0) (λ n. refl) (λ s. refl) (IsSeed t) (seed_table t table (slots_of t) fs) (λ s. (seed_is s, is_seed s))
+
+-- ---- lists as code makes them
+
+pub half_listed : (t : TypedTree) (half : Half) (table slice : List Bool) (list : List FnId) → IsReached t half table → slice ≡ table → list ≡ function_ids (places_true 0 slice) → Lists (λ (f : FnId). f.0) (InHalf t half) list
+half_listed t half table slice list r es el =
+    subst (λ (xs : List FnId). Lists (λ (f : FnId). f.0) (InHalf t half) xs) (sym (el ∙ ap (λ bs. function_ids (places_true 0 bs)) es)) (half_lists t half table r)
+
+pub owned_listed : (t : TypedTree) (fs fs' : List FnId) (named slice : List Bool) (list : List GlobalId) → Lists (λ (f : FnId). f.0) (InSlave t) fs → fs' ≡ fs → named ≡ owned_table t fs' → slice ≡ named →
+    list ≡ global_ids (places_true 0 slice) → Lists (λ (g : GlobalId). g.0) (IsOwned t) list
+owned_listed t fs fs' named slice list are ef en es el =
+    subst (λ (xs : List GlobalId). Lists (λ (g : GlobalId). g.0) (IsOwned t) xs) (sym (el ∙ ap (λ bs. global_ids (places_true 0 bs)) (es ∙ en ∙ ap (owned_table t) ef))) (owned_lists t fs are)
+
+pub seeds_listed : (t : TypedTree) (table table' : List Bool) (slots : List SlotInfo) (fs fs' : List FnId) (marked slice : List Bool) (list : List Slot) → IsReached t Slave table → Lists (λ (f : FnId). f.0) (InSlave t) fs →
+    table' ≡ table → slots ≡ slots_of t → fs' ≡ fs → marked ≡ seed_table t table' slots fs' → slice ≡ marked → list ≡ slot_numbers (places_true 0 slice) → Lists (λ (s : Slot). s.0) (IsSeed t) list
+seeds_listed t table table' slots fs fs' marked slice list r are et eo ef em es el =
+    subst (λ (xs : List Slot). Lists (λ (s : Slot). s.0) (IsSeed t) xs) (sym (el ∙ ap (λ bs. slot_numbers (places_true 0 bs)) (es ∙ em ∙ (λ i. seed_table t (et i) (eo i) (ef i))))) (seed_lists t table r fs are)

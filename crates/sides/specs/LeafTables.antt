@@ -1,5 +1,5 @@
 -- The leaves of structs, as code goes over them and counts them.
-use Rattle.std.specs.Prelude.{◌≡◌, ℕ, ◌+◌, List, [], ◌∷◌, ◌++◌, Bool, ◌||◌, length, map, get_or, take}
+use Rattle.std.specs.Prelude.{◌≡◌, ℕ, ◌+◌, List, [], ◌∷◌, ◌++◌, Option, None, Some, Bool, ◌||◌, length, map, get_or, take}
 use Rattle.pt_tree.specs.declared.signature.Elem.{Elem}
 use Rattle.pt_tree.specs.declared.signature.Elem.TheVariants as e
 use Rattle.typed_tree.specs.declared.types.VarTy.{VarTy}
@@ -10,7 +10,7 @@ use Rattle.typed_tree.specs.Sizes.{sizes_of}
 use Rattle.sides.specs.declared.leaf_table.LeafTable.{LeafTable}
 use Rattle.sides.specs.declared.slots.Owner.{Owner}
 use Rattle.sides.specs.declared.slots.SlotInfo.{SlotInfo}
-use Rattle.sides.specs.Leaves.{Leaf, leaves_after, leaf_count, field_starts}
+use Rattle.sides.specs.Leaves.{Leaf, whole, leaves_after, leaf_count, field_starts}
 
 -- the leaves of the first so many structs
 abbrev pub leaves_below : List StructInfo → ℕ → List (List Leaf)
@@ -19,6 +19,23 @@ leaves_below structs n = leaves_after [] (take n structs)
 -- the slot of a leaf, behind this path, which has a marked field where `marked` holds
 abbrev pub slot_behind : Owner → List ℕ → Bool → Leaf → SlotInfo
 slot_behind owner path marked leaf = record { owner = owner; path = path ++ leaf.path; marked = marked || leaf.marked }
+
+-- the struct whose leaves an element has, if it is none itself
+abbrev pub elem_struct : Elem → Option ℕ
+elem_struct (e.Int t) = None
+elem_struct (e.Struct n) = Some n
+
+-- the struct whose leaves an object has, if it is none itself
+abbrev pub named_struct : VarTy → Option ℕ
+named_struct (Int t) = None
+named_struct (Struct n) = Some n
+named_struct (Array elem count) = elem_struct elem
+named_struct (Pointer elem fixed) = elem_struct elem
+
+-- the leaves of what has those of this struct, by those of each struct
+abbrev pub named_leaves : List (List Leaf) → Option ℕ → List Leaf
+named_leaves known None = whole ∷ []
+named_leaves known (Some n) = get_or known n []
 
 -- how many leaves an element has, by how many each struct has
 abbrev pub elem_count : List ℕ → Elem → ℕ

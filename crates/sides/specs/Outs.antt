@@ -5,7 +5,7 @@ use Rattle.pt_base.specs.declared.ids.FnId.{FnId}
 use Rattle.typed_tree.specs.TypedTree.{TypedTree}
 use Rattle.typed_tree.specs.Lookup.{function_at}
 use Rattle.sides.specs.declared.objects.Object.{Object}
-use Rattle.sides.specs.declared.seeds.Out.{Out}
+use Rattle.sides.specs.declared.outs.Out.{Out}
 use Rattle.sides.specs.declared.slots.SlotInfo.{SlotInfo}
 use Rattle.sides.specs.Leaves.{leaf_count}
 use Rattle.sides.specs.Objects.{variable_objects}
@@ -23,6 +23,10 @@ out_at t all (Some x) = Some (record { first = x.start; count = leaf_count t.str
 abbrev pub out_param : TypedTree → FnId → ℕ → Option Out
 out_param t g k = if gives_back (function_at t g) k then out_at t (seals_all (function_at t g) k) (slice_get (variable_objects t g.0) k) else None
 
+-- the slots behind a start that come back secret
+abbrev pub behind_start : List SlotInfo → Out → ℕ → List ℕ
+behind_start slots out start = map (λ j. start + j) (filter (is_back out.all out.first slots) (range_with_len 0 out.count))
+
 abbrev pub behind_out : List SlotInfo → Option Out → List ℕ → List ℕ
 behind_out slots None starts = []
-behind_out slots (Some out) starts = flat_map (λ start. map (λ j. start + j) (filter (is_back out.all out.first slots) (range_with_len 0 out.count))) starts
+behind_out slots (Some out) starts = flat_map (behind_start slots out) starts

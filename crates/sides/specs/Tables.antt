@@ -1,5 +1,5 @@
 -- Sets of numbers, as code keeps them: a truth for each number.
-use Rattle.std.specs.Prelude.{ℕ, suc, List, [], ◌∷◌, Bool, true, if◌then◌else◌, map, slice_set}
+use Rattle.std.specs.Prelude.{ℕ, suc, List, [], ◌∷◌, Option, None, Some, Bool, true, false, if◌then◌else◌, map, slice_set}
 use Rattle.pt_base.specs.declared.ids.FnId.{FnId}
 use Rattle.pt_base.specs.declared.ids.GlobalId.{GlobalId}
 use Rattle.pt_base.specs.declared.slot.Slot.{Slot}
@@ -31,3 +31,13 @@ global_ids ks = map global_id ks
 
 abbrev pub slot_numbers : List ℕ → List Slot
 slot_numbers ks = map slot_number ks
+
+-- the item, where the truth holds
+abbrev pub item_if : {X : Type 0} → Bool → X → List X
+item_if true x = x ∷ []
+item_if false x = []
+
+-- the one item, or none
+abbrev pub items_of : {X : Type 0} → Option X → List X
+items_of None = []
+items_of (Some x) = x ∷ []

@@ -1,8 +1,143 @@
-// The halves of a program.
+// The halves of a program, and the functions in each: those that its calls reach.
+ghost use Rattle.std.specs.Prelude.{◌≡◌, ◌++◌, IfOk, OnOk, codes, is_some, length, map};
+ghost use Rattle.std.specs.List.{filter};
+ghost use Rattle.typed_tree.specs.ExpressionTree.{view_expr};
+ghost use Rattle.typed_tree.specs.Lookup.{function_named};
+ghost use Rattle.typed_tree.specs.TypedView.{view_typed};
+ghost use Rattle.sides.specs.CallGraph as is;
+ghost use Rattle.sides.specs.Contexts.{expr_callees, test_function};
+ghost use Rattle.sides.specs.Reached.{IsReached};
+
+use crate::bodies::usages_in;
+use crate::functions::{is_privileged, stays};
+use crate::numbers::{next_number, sum};
+use crate::tables::add_if;
+use pt_base::{Edge, FnId, Slot, Span};
+use propagation::{Marks, propagate};
+use std::alloc::{AllocError, Global};
+use typed_tree::{Form, Typed, TypedExpr};
 
 /// A half.
 #[derive(Clone, Copy)]
 pub enum Half {
     Monitor,
     Slave,
+}
+
+// appends the edge of a call, where this is one that stays in the half
+fn add_call(
+    t: &Typed,
+    half: Half,
+    caller: u32,
+    e: &TypedExpr,
+    edges: &mut Vec<Edge>,
+) -> Result<(), AllocError>
+    ensures { OnOk result (edges.new.items ≡ edges.old.items ++ map (is.call_edge caller) (filter (test_function (is.is_entered half) (view_typed t.now)) (expr_callees (view_expr e.now)))) }
+{
+    if let Form::Call(callee, _) = &e.form
+        && stays(t, half, *callee)
+    {
+        edges.push(Edge {
+            from: Slot(u64::from(caller)),
+            to: Slot(u64::from(callee.0)),
+            span: Span { from: 0, to: 0 },
+        })?;
+    }
+    Ok(())
+}
+
+// appends the calls in the body of a function that stay in the half
+fn add_calls(
+    alloc: Global,
+    t: &Typed,
+    half: Half,
+    caller: u32,
+    edges: &mut Vec<Edge>,
+) -> Result<(), AllocError>
+    ensures { OnOk result (edges.new.items ≡ edges.old.items ++ is.calls_of (view_typed t.now) half caller) }
+{
+    let usages = usages_in(alloc, t, FnId(caller))?;
+    let list = usages.as_slice();
+    for usage in list {
+        add_call(t, half, caller, usage.value, edges)?;
+    }
+    Ok(())
+}
+
+// the calls that stay in the half, as edges
+fn call_edges(alloc: Global, t: &Typed, half: Half) -> Result<Vec<Edge>, AllocError>
+    ensures { IfOk result (λ v. v.items ≡ is.call_edges (view_typed t.now) half) }
+{
+    let mut edges = Vec::new(alloc);
+    let mut caller: u32 = 0;
+    for _function in &t.functions {
+        add_calls(alloc, t, half, caller, &mut edges)?;
+        caller = next_number(caller)?;
+    }
+    Ok(edges)
+}
+
+// the privileged functions
+fn privileged(alloc: Global, t: &Typed) -> Result<Vec<Slot>, AllocError>
+    ensures { IfOk result (λ v. v.items ≡ is.privileged_from 0 (view_typed t.now).functions) }
+{
+    let mut list = Vec::new(alloc);
+    let mut number: u64 = 0;
+    for function in &t.functions {
+        add_if(is_privileged(function), Slot(number), &mut list)?;
+        number = sum(number, 1)?;
+    }
+    Ok(list)
+}
+
+// the main function, where there is one
+fn main_start(alloc: Global, main: Option<FnId>) -> Result<Vec<Slot>, AllocError>
+    ensures { IfOk result (λ v. v.items ≡ is.main_start main) }
+{
+    let mut list = Vec::new(alloc);
+    if let Some(f) = main {
+        list.push(Slot(u64::from(f.0)))?;
+    }
+    Ok(list)
+}
+
+// where the code of a half begins
+fn half_starts(
+    alloc: Global,
+    t: &Typed,
+    half: Half,
+    main: Option<FnId>,
+) -> Result<Vec<Slot>, AllocError>
+    requires { main ≡ function_named (view_typed t.now) (codes "main") }
+    ensures { IfOk result (λ v. v.items ≡ is.half_starts (view_typed t.now) half) }
+{
+    match half {
+        Half::Monitor => privileged(alloc, t),
+        Half::Slave => main_start(alloc, main),
+    }
+}
+
+// for each of so many functions, whether it is marked
+fn table_of(alloc: Global, marks: &Marks, functions: usize) -> Result<Vec<bool>, AllocError>
+    requires { length marks.now ≡ functions }
+    ensures { IfOk result (λ v. v.items ≡ map is_some marks.now) }
+{
+    let mut table = Vec::new(alloc);
+    for number in 0..functions {
+        table.push(marks.is_priv(Slot(number as u64)))?;
+    }
+    Ok(table)
+}
+
+/// For each function, whether it is in the half: its calls are followed from where the half begins.
+pub(crate) fn reached(alloc: Global, t: &Typed, half: Half) -> Result<Vec<bool>, AllocError>
+    ensures { IfOk result (λ v. IsReached (view_typed t.now) half v.items) }
+{
+    let main = t.function_of(b"main");
+    let starts = half_starts(alloc, t, half, main)?;
+    let edges = call_edges(alloc, t, half)?;
+    let functions = t.functions.len();
+    let marks = propagate(alloc, &starts, &edges, functions as u64)?;
+    let table = table_of(alloc, &marks, functions)?;
+    Ok(table)
 }

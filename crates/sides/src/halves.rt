@@ -1,7 +1,17 @@
-// Which half a program's functions, globals and slots belong to.
-use crate::layout::Layout;
+// What each half of a program has.
+ghost use Rattle.std.specs.Prelude.{IfOk};
+ghost use Rattle.typed_tree.specs.TypedView.{view_typed};
+ghost use Rattle.sides.specs.Placed.{AreSides};
+
+use crate::calls::{Half, reached};
+use crate::layout::{Layout, lay_out};
+use crate::owned::named_by;
+use crate::seeds::seed_table;
 use crate::slots::SlotInfo;
+use crate::tables::{functions_in, globals_in, slots_in};
 use pt_base::{FnId, GlobalId, Listed, Slot};
+use std::alloc::{AllocError, Global};
+use typed_tree::Typed;
 
 /// What each half of a program has, the slots that values lie in, and where secrets begin. The lists of
 /// numbers are ascending, and have each number once.
@@ -21,4 +31,30 @@ pub struct Sides {
     pub layout: Layout,
     /// For each function, whether it is the slave's.
     pub in_slave: Vec<bool>,
+}
+
+/// The halves of a program, its slots and where secrets begin. Time and memory are linear in the
+/// program, in its slots, and in the leaves that come back from calls of privileged functions. The
+/// only error is want of memory.
+pub fn place(alloc: Global, t: &Typed) -> Result<Sides, AllocError>
+    ensures { IfOk result (λ s. AreSides (view_typed t.now) s) }
+{
+    let (layout, slots) = lay_out(alloc, t)?;
+    let in_monitor = reached(alloc, t, Half::Monitor)?;
+    let in_slave = reached(alloc, t, Half::Slave)?;
+    let monitor = functions_in(alloc, &in_monitor)?;
+    let slave = functions_in(alloc, &in_slave)?;
+    let named = named_by(alloc, t, &slave)?;
+    let owned = globals_in(alloc, &named)?;
+    let marked = seed_table(alloc, t, &layout, &slots, &in_slave, &slave)?;
+    let seeds = slots_in(alloc, &marked)?;
+    Ok(Sides {
+        monitor: Listed::new(monitor),
+        slave: Listed::new(slave),
+        owned: Listed::new(owned),
+        slots: Listed::new(slots),
+        seeds: Listed::new(seeds),
+        layout,
+        in_slave,
+    })
 }

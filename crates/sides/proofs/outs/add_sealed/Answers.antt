@@ -1,0 +1,8 @@
+use Rattle.sides.specs.Outs.{behind_start}
+use Rattle.sides.proofs.LayoutLemmas.{split_or}
+use Rattle.sides.proofs.WalkLemmas.{item_on}
+use Rattle.sides.proofs.outs.add_sealed.Goals as goal
+
+pub loop-start-preserved : goal.loop-start-preserved
+loop-start-preserved c =
+    item_on (behind_start c.args.slots.now c.args.out) _ _ _ _ _ _ (split_or c.args.starts.now c.loop-start.start-index 0 c.loop-start-test.true) c.in_ok-add_behind.ensures c.loop-start.invariant

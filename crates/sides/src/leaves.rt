@@ -1,0 +1,120 @@
+// The slots of an object, leaf by leaf.
+ghost use Rattle.std.specs.Prelude.{◌≡◌, ◌++◌, ◌||◌, [], ◌∷◌, OnOk, map};
+ghost use Rattle.typed_tree.specs.Sizes.{fields_of};
+ghost use Rattle.sides.specs.Leaves.{leaves_of, whole};
+ghost use Rattle.sides.specs.LeafTables.{leaves_below, slot_behind, named_leaves, named_struct};
+ghost use Rattle.sides.specs.Slots.{slot_of};
+
+use crate::numbers::next_number;
+use crate::slots::{Owner, SlotInfo};
+use pt_base::Listed;
+use pt_tree::Elem;
+use std::alloc::{AllocError, Global};
+use typed_tree::{Field, StructInfo, VarTy};
+
+// the struct whose leaves an element has
+fn struct_of_elem(elem: Elem) -> Option<u32>
+    ensures { result ≡ named_struct (VarTy.Array elem 0) }
+{
+    match elem {
+        Elem::Int(_) => None,
+        Elem::Struct(n) => Some(n),
+    }
+}
+
+// the struct whose leaves an object has, None where it has one
+fn struct_of(ty: VarTy) -> Option<u32>
+    ensures { result ≡ named_struct ty }
+{
+    match ty {
+        VarTy::Int(_) => None,
+        VarTy::Struct(n) => Some(n),
+        VarTy::Array { elem, .. } => struct_of_elem(elem),
+        VarTy::Pointer { elem, .. } => struct_of_elem(elem),
+    }
+}
+
+// the fields of a struct, none where there is none of this number
+fn fields_of(structs: &[StructInfo], structure: u32) -> &[Field]
+    ensures { result.now ≡ fields_of structs.now structure }
+{
+    match structs.get(structure as usize) {
+        Some(info) => info.fields.as_slice(),
+        None => &[],
+    }
+}
+
+// whether a field lies under a marked one, or is marked
+fn is_under(marked: bool, field: &Field) -> bool
+    ensures { result ≡ (marked || field.now.marked) }
+{
+    marked || field.marked
+}
+
+// appends the slot of one leaf
+fn add_leaf(
+    alloc: Global,
+    owner: Owner,
+    path: &[u32],
+    marked: bool,
+    slots: &mut Vec<SlotInfo>,
+) -> Result<(), AllocError>
+    ensures { OnOk result (slots.new.items ≡ slots.old.items ++ slot_behind owner path.now marked whole ∷ []) }
+{
+    let path = Listed::new(path.to_vec(alloc)?);
+    slots.push(SlotInfo {
+        owner,
+        path,
+        marked,
+    })?;
+    Ok(())
+}
+
+// Appends the slots of an object behind this path, which has a marked field where `marked` holds.
+// The leaves are those of the struct of this number, if it is below `bound`, else there is one.
+fn add_behind(
+    alloc: Global,
+    structs: &[StructInfo],
+    owner: Owner,
+    of: Option<u32>,
+    bound: usize,
+    marked: bool,
+    path: &mut Vec<u32>,
+    slots: &mut Vec<SlotInfo>,
+) -> Result<(), AllocError>
+    ensures path { OnOk result (path.new.items ≡ path.old.items) }
+    ensures slots { OnOk result (slots.new.items ≡ slots.old.items ++ map (slot_behind owner path.old.items marked) (named_leaves (leaves_below structs.now bound) of)) }
+{
+    let Some(n) = of else {
+        return add_leaf(alloc, owner, path.as_slice(), marked, slots);
+    };
+    let inner = n as usize;
+    if inner >= bound {
+        return Ok(());
+    }
+    let mut number: u32 = 0;
+    let fields = fields_of(structs, n);
+    for field in fields {
+        path.push(number)?;
+        let under = is_under(marked, field);
+        add_behind(alloc, structs, owner, struct_of(field.ty), inner, under, path, slots)?;
+        path.pop();
+        number = next_number(number)?;
+    }
+    Ok(())
+}
+
+/// Appends the slots of an object of this type.
+pub(crate) fn add_leaves(
+    alloc: Global,
+    structs: &[StructInfo],
+    owner: Owner,
+    ty: VarTy,
+    slots: &mut Vec<SlotInfo>,
+) -> Result<(), AllocError>
+    ensures { OnOk result (slots.new.items ≡ slots.old.items ++ map (slot_of owner) (leaves_of structs.now ty)) }
+{
+    let mut path = Vec::new(alloc);
+    let bound = structs.len();
+    add_behind(alloc, structs, owner, struct_of(ty), bound, false, &mut path, slots)
+}

@@ -1,0 +1,132 @@
+// What the types of expressions and parts of objects are.
+ghost use Rattle.std.specs.Prelude.{◌≡◌, Some, is_some, option_map};
+ghost use Rattle.typed_tree.specs.ExpressionTree.{view_expr, view_form};
+ghost use Rattle.typed_tree.specs.TypeTests as tests;
+ghost use Rattle.typed_tree.specs.WellFormedExpression as typed;
+ghost use Rattle.sides.specs.Usages as is;
+
+use pt_base::IntType;
+use pt_tree::Elem;
+use typed_tree::{Form, StructInfo, TypedExpr, VarTy};
+
+// the number of a type in the list of all
+fn place_of(t: IntType) -> u8
+    ensures { result ≡ tests.place_of t }
+{
+    match t {
+        IntType::Char => 0,
+        IntType::SChar => 1,
+        IntType::UChar => 2,
+        IntType::Short => 3,
+        IntType::UShort => 4,
+        IntType::Int => 5,
+        IntType::UInt => 6,
+        IntType::Long => 7,
+        IntType::ULong => 8,
+    }
+}
+
+// whether they are one type
+fn same_int(a: IntType, b: IntType) -> bool
+    ensures { result ≡ tests.same_int a b }
+{
+    place_of(a) == place_of(b)
+}
+
+/// Whether a conversion from one type to the other gives the value as it was.
+pub(crate) fn keeps_value(from: Option<VarTy>, to: Option<VarTy>) -> bool
+    ensures { result ≡ is.keeps_value from to }
+{
+    match (from, to) {
+        (Some(VarTy::Int(a)), Some(VarTy::Int(b))) => same_int(a, b),
+        (_, Some(VarTy::Pointer { .. })) => true,
+        (_, _) => false,
+    }
+}
+
+/// Whether this is the type of a pointer.
+pub(crate) fn is_pointer(ty: Option<VarTy>) -> bool
+    ensures { result ≡ is_some (tests.pointee_of ty) }
+{
+    match ty {
+        Some(VarTy::Pointer { .. }) => true,
+        Some(VarTy::Int(_)) | Some(VarTy::Struct(_)) | Some(VarTy::Array { .. }) | None => false,
+    }
+}
+
+// an element as an object
+fn type_of_elem(elem: Elem) -> VarTy
+    ensures { result ≡ tests.type_of_elem elem }
+{
+    match elem {
+        Elem::Int(t) => VarTy::Int(t),
+        Elem::Struct(n) => VarTy::Struct(n),
+    }
+}
+
+/// What a pointer points to, as an object.
+pub(crate) fn pointee(ty: Option<VarTy>) -> Option<VarTy>
+    ensures { result ≡ option_map tests.type_of_elem (tests.pointee_of ty) }
+{
+    match ty {
+        Some(VarTy::Pointer { elem, .. }) => Some(type_of_elem(elem)),
+        Some(VarTy::Int(_)) | Some(VarTy::Struct(_)) | Some(VarTy::Array { .. }) | None => None,
+    }
+}
+
+/// An element of an array, as an object.
+pub(crate) fn item(ty: Option<VarTy>) -> Option<VarTy>
+    ensures { result ≡ option_map tests.type_of_elem (tests.item_of ty) }
+{
+    match ty {
+        Some(VarTy::Array { elem, .. }) => Some(type_of_elem(elem)),
+        Some(VarTy::Int(_)) | Some(VarTy::Struct(_)) | Some(VarTy::Pointer { .. }) | None => None,
+    }
+}
+
+/// The type of a field.
+pub(crate) fn field(structs: &[StructInfo], ty: Option<VarTy>, field: u32) -> Option<VarTy>
+    ensures { result ≡ typed.field_type structs.now ty field }
+{
+    match ty {
+        Some(VarTy::Struct(n)) => field_of(structs, n, field),
+        Some(VarTy::Int(_)) | Some(VarTy::Array { .. }) | Some(VarTy::Pointer { .. }) | None => None,
+    }
+}
+
+// the type of a field of the struct of this number
+fn field_of(structs: &[StructInfo], structure: u32, field: u32) -> Option<VarTy>
+    ensures { result ≡ typed.field_type structs.now (Some (VarTy.Struct structure)) field }
+{
+    let info = structs.get(structure as usize)?;
+    let field = info.fields.as_slice().get(field as usize)?;
+    Some(field.ty)
+}
+
+// whether an expression is an assignment
+fn is_assign(form: &Form) -> bool
+    ensures { result ≡ typed.is_assign (view_form form.now) }
+{
+    matches!(form, Form::Assign(_, _))
+}
+
+// whether this is the type of a struct
+fn is_struct(ty: Option<VarTy>) -> bool
+    ensures { result ≡ typed.is_struct ty }
+{
+    match ty {
+        Some(VarTy::Struct(_)) => true,
+        Some(VarTy::Int(_)) | Some(VarTy::Array { .. }) | Some(VarTy::Pointer { .. }) | None => false,
+    }
+}
+
+/// The type of an assignment of structs, None of any other expression.
+pub(crate) fn assigned(e: &TypedExpr) -> Option<VarTy>
+    ensures { result ≡ typed.assigned_type (view_expr e.now) }
+{
+    if is_assign(&e.form) && is_struct(e.ty) {
+        e.ty
+    } else {
+        None
+    }
+}
