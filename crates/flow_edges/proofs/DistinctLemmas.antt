@@ -20,7 +20,8 @@ filter_twice : (p q r : ℕ → Bool) → ((y : ℕ) → r y ≡ (q y && p y)) �
 filter_twice p q r same [] = refl
 filter_twice p q r same (x ∷ xs) = go (q x) refl (p x) refl (filter_twice p q r same xs)
   where
-    go : (b : Bool) → q x ≡ b → (c : Bool) → p x ≡ c → filter p (filter q xs) ≡ filter r xs → filter p (cond b (x ∷ filter q xs) (filter q xs)) ≡ filter r (x ∷ xs)
+    go : (b : Bool) → q x ≡ b → (c : Bool) → p x ≡ c → filter p (filter q xs) ≡ filter r xs →
+        filter p (cond b (x ∷ filter q xs) (filter q xs)) ≡ filter r (x ∷ xs)
     go true eq true ep rest =
         let is : r x ≡ true = same x ∙ ap (λ b. b && p x) eq ∙ ep in
         first_kept p x (filter q xs) true ep ∙ ap (λ ys. x ∷ ys) rest ∙ sym (first_kept r x xs true is)
@@ -73,11 +74,13 @@ fresh_new kept x xs h =
     same y = ap not (any_append (nat_eq y) kept (x ∷ [])) ∙ parts (list_any (nat_eq y) kept) (nat_eq y x)
 
 -- one more
-keeps : (kept : List ℕ) (x : ℕ) (xs : List ℕ) (b : Bool) → list_any (nat_eq x) kept ≡ b → cond b kept (kept ++ x ∷ []) ++ fresh (cond b kept (kept ++ x ∷ [])) xs ≡ kept ++ fresh kept (x ∷ xs)
+keeps : (kept : List ℕ) (x : ℕ) (xs : List ℕ) (b : Bool) → list_any (nat_eq x) kept ≡ b →
+    cond b kept (kept ++ x ∷ []) ++ fresh (cond b kept (kept ++ x ∷ [])) xs ≡ kept ++ fresh kept (x ∷ xs)
 keeps kept x xs true e = ap (λ ys. kept ++ ys) (sym (fresh_old kept x xs e))
 keeps kept x xs false e = append_assoc kept (x ∷ []) (fresh (kept ++ x ∷ []) xs) ∙ ap (λ ys. kept ++ ys) (sym (fresh_new kept x xs e))
 
-pub next_kept : (l : List ℕ) (i x : ℕ) (kept new whole : List ℕ) → i < length l → x ≡ get_or l i x → new ≡ with_new kept x → kept ++ fresh kept (drop i l) ≡ whole → new ++ fresh new (drop (i + 1) l) ≡ whole
+pub next_kept : (l : List ℕ) (i x : ℕ) (kept new whole : List ℕ) → i < length l → x ≡ get_or l i x → new ≡ with_new kept x →
+    kept ++ fresh kept (drop i l) ≡ whole → new ++ fresh new (drop (i + 1) l) ≡ whole
 next_kept l i x kept new whole lt is added e =
     ap (λ ys. ys ++ fresh ys (drop (i + 1) l)) added
     ∙ keeps kept x (drop (i + 1) l) (list_any (nat_eq x) kept) refl

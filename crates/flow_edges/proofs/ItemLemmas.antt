@@ -42,7 +42,8 @@ module _ {A : Type 0} where
 
   pub alike_repeated : (w n : ℕ) (xs ys : List A) → AreAlike w xs ys → AreAlike w (repeated n xs) (repeated n ys)
   alike_repeated w zero xs ys h = refl
-  alike_repeated w (suc n) xs ys h = alike_before w xs ys (repeated n xs) h ∙ alike_behind w ys (repeated n xs) (repeated n ys) (alike_repeated w n xs ys h)
+  alike_repeated w (suc n) xs ys h =
+      alike_before w xs ys (repeated n xs) h ∙ alike_behind w ys (repeated n xs) (repeated n ys) (alike_repeated w n xs ys h)
 
   repeated_nothing : (n : ℕ) (zs : List A) → length zs ≡ 0 → repeated n zs ≡ []
   repeated_nothing zero zs h = refl
@@ -70,7 +71,8 @@ module _ {A : Type 0} where
       ap (take w) (sym (append-nil xs) ∙ ap (λ m. xs ++ repeated m zs) (sym is) ∙ e)
 
   -- the elements may be known only as far as they are wanted
-  pub repeated_alike : (w n : ℕ) (old new xs xs' none ys : List A) → AreAlike w new (old ++ repeated n xs) → AreAlike w xs' (none ++ ys) → xs ≡ xs' → none ≡ [] → AreAlike w new (old ++ repeated n ys)
+  pub repeated_alike : (w n : ℕ) (old new xs xs' none ys : List A) → AreAlike w new (old ++ repeated n xs) → AreAlike w xs' (none ++ ys) →
+      xs ≡ xs' → none ≡ [] → AreAlike w new (old ++ repeated n ys)
   repeated_alike w n old new xs xs' none ys h same is e =
       h ∙ alike_behind w old (repeated n xs) (repeated n ys) (alike_repeated w n xs ys (ap (take w) is ∙ same ∙ ap (λ l. take w (l ++ ys)) e))
 
@@ -105,13 +107,15 @@ module _ {A : Type 0} where
   step_items w slots new items rest whole h e = alike_before w new (slots ++ items) rest h ∙ ap (take w) (append_assoc slots items rest) ∙ e
 
 -- one more field
-pub field_on : (structs : List StructInfo) (depth w at next i : ℕ) (fields : List Field) (f : Field) (slots new whole : List ℕ) → i < length fields → f ≡ get_or fields i f → next ≡ at + leaf_count structs f.ty →
+pub field_on : (structs : List StructInfo) (depth w at next i : ℕ) (fields : List Field) (f : Field) (slots new whole : List ℕ) →
+    i < length fields → f ≡ get_or fields i f → next ≡ at + leaf_count structs f.ty →
     AreAlike w new (slots ++ type_items (struct_items structs depth) at f.ty) →
     AreAlike w (slots ++ fields_items (leaf_count structs) (struct_items structs depth) at (drop i fields)) whole →
     AreAlike w (new ++ fields_items (leaf_count structs) (struct_items structs depth) next (drop (i + 1) fields)) whole
 field_on structs depth w at next i fields f slots new whole lt is behind added e =
     ap (λ a. take w (new ++ fields_items (leaf_count structs) (struct_items structs depth) a (drop (i + 1) fields))) behind
-    ∙ step_items w slots new (type_items (struct_items structs depth) at f.ty) (fields_items (leaf_count structs) (struct_items structs depth) (at + leaf_count structs f.ty) (drop (i + 1) fields)) whole added
+    ∙ step_items w slots new (type_items (struct_items structs depth) at f.ty)
+    (fields_items (leaf_count structs) (struct_items structs depth) (at + leaf_count structs f.ty) (drop (i + 1) fields)) whole added
     (ap (λ fs. take w (slots ++ fields_items (leaf_count structs) (struct_items structs depth) at fs)) (sym (split_at fields i f lt is)) ∙ e)
   where
     split_at : (l : List Field) (i : ℕ) (d : Field) → i < length l → d ≡ get_or l i d → drop i l ≡ d ∷ drop (i + 1) l

@@ -5,7 +5,8 @@ use Rattle.pt_base.specs.declared.slot.Edge.{Edge}
 use Rattle.flow_edges.specs.Moves.{Move, edges_between, edges_from, leaf_edges, move_edges}
 
 -- one more leaf of several
-pub next_leaf : (m : Move) (xs new whole : List Edge) (n j : ℕ) → j < n → new ≡ xs ++ leaf_edges m j → xs ++ flat_map (leaf_edges m) (range_with_len j (n - j)) ≡ whole →
+pub next_leaf : (m : Move) (xs new whole : List Edge) (n j : ℕ) → j < n → new ≡ xs ++ leaf_edges m j →
+    xs ++ flat_map (leaf_edges m) (range_with_len j (n - j)) ≡ whole →
     new ++ flat_map (leaf_edges m) (range_with_len (j + 1) (n - (j + 1))) ≡ whole
 next_leaf m xs new whole n j lt added e =
     let is : n - j ≡ suc (n - (j + 1)) = omega (arith, lt) in
@@ -29,7 +30,8 @@ nothing_from m e = nothing_each (leaf_edges m) (λ j. ap (flat_map (edges_from m
 
 -- nor what goes nowhere
 pub nothing_to : (m : Move) → m.to ≡ [] → move_edges m ≡ []
-nothing_to m e = nothing_each (leaf_edges m) (λ j. nothing_each (edges_from m j) (λ a. ap (flat_map (λ b. edges_between m (a + j) (b + j))) e) m.from) (range_with_len 0 m.leaves)
+nothing_to m e =
+    nothing_each (leaf_edges m) (λ j. nothing_each (edges_from m j) (λ a. ap (flat_map (λ b. edges_between m (a + j) (b + j))) e) m.from) (range_with_len 0 m.leaves)
 
 no_items : (xs : List ℕ) → length xs ≡ 0 → xs ≡ []
 no_items [] h = refl

@@ -93,15 +93,18 @@ abbrev follows : TypedTree
 follows = record {
   structs = [];
   globals = [];
-  functions = function (codes "main") (Some i.Int) [] false false (var int false ∷ var int false ∷ var int false ∷ var int false ∷ var plain false ∷ var plain false ∷ [])
+  functions = function (codes "main") (Some i.Int) [] false false
+      (var int false ∷ var int false ∷ var int false ∷ var int false ∷ var plain false ∷ var plain false ∷ [])
       (body (does 0 ∷ does 1 ∷ does 2 ∷ does 3 ∷ returns 4 ∷ [])) ∷ [];
   exprs = set plain (local 4) (address plain 10 12 0) ∷ set plain (local 5) (address plain 20 22 1)
       ∷ assign (behind (choice plain 30 39 (named int 31 32 2) (named plain 33 34 4) (named plain 35 36 5))) (named int 40 41 3)
-      ∷ assign (behind (choice plain 50 59 (named int 51 52 2) (named plain 53 54 4) (named plain 55 56 4))) (choice int 60 69 (named int 61 62 2) (named int 63 64 3) (named int 65 66 3))
+      ∷ assign (behind (choice plain 50 59 (named int 51 52 2) (named plain 53 54 4) (named plain 55 56 4)))
+      (choice int 60 69 (named int 61 62 2) (named int 63 64 3) (named int 65 66 3))
       ∷ number 0 ∷ [];
 }
 
-follows_main : edges_in follows (record { 0 = 0 }) ≡ edge 10 12 0 4 ∷ edge 10 12 4 0 ∷ edge 20 22 1 5 ∷ edge 20 22 5 1 ∷ edge 40 41 3 4 ∷ edge 40 41 3 5 ∷ edge 60 69 3 4 ∷ []
+follows_main : edges_in follows (record { 0 = 0 })
+    ≡ edge 10 12 0 4 ∷ edge 10 12 4 0 ∷ edge 20 22 1 5 ∷ edge 20 22 5 1 ∷ edge 40 41 3 4 ∷ edge 40 41 3 5 ∷ edge 60 69 3 4 ∷ []
 unfolding edges_in usages_in leaves_of
 follows_main = refl
 
@@ -122,7 +125,8 @@ abbrev copies : TypedTree
 copies = record {
   structs = pairs ∷ holder ∷ [];
   globals = [];
-  functions = function (codes "main") (Some i.Int) [] false false (var (ty.Struct 1) false ∷ var (ty.Struct 1) false ∷ var to_holder false ∷ []) (body (does 0 ∷ does 1 ∷ returns 2 ∷ [])) ∷ [];
+  functions = function (codes "main") (Some i.Int) [] false false
+      (var (ty.Struct 1) false ∷ var (ty.Struct 1) false ∷ var to_holder false ∷ []) (body (does 0 ∷ does 1 ∷ returns 2 ∷ [])) ∷ [];
   exprs = set (ty.Struct 1) (local 0) (named (ty.Struct 1) 10 11 1)
       ∷ set to_holder (local 2) (choice to_holder 20 29 (number 1) (address to_holder 22 24 0) (address to_holder 26 28 1)) ∷ number 0 ∷ [];
 }
@@ -176,10 +180,12 @@ lists = record {
   globals = [];
   functions = function (codes "main") (Some i.Int) [] false false
       (var int false ∷ var (ty.Struct 1) false ∷ var (ty.Struct 1) false ∷ var plain false ∷ var (ty.Array (el.Int i.Int) 2) false ∷ [])
-      (body (declares (begins 0 n.Nothing ∷ []) ∷ declares (begins 1 (n.Items (span 0 0) (record { 0 = 0 } ∷ record { 0 = 1 } ∷ record { 0 = 2 } ∷ record { 0 = 3 } ∷ [])) ∷ [])
+      (body (declares (begins 0 n.Nothing ∷ [])
+      ∷ declares (begins 1 (n.Items (span 0 0) (record { 0 = 0 } ∷ record { 0 = 1 } ∷ record { 0 = 2 } ∷ record { 0 = 3 } ∷ [])) ∷ [])
       ∷ declares (begins 2 (n.Value (record { 0 = 4 })) ∷ []) ∷ declares (begins 3 (n.Items (span 0 0) (record { 0 = 5 } ∷ [])) ∷ [])
       ∷ declares (begins 4 (n.Items (span 0 0) (record { 0 = 6 } ∷ record { 0 = 7 } ∷ [])) ∷ []) ∷ returns 8 ∷ [])) ∷ [];
-  exprs = named int 10 11 0 ∷ number 1 ∷ named int 14 15 0 ∷ named int 16 17 0 ∷ named (ty.Struct 1) 20 21 1 ∷ address plain 30 32 0 ∷ number 1 ∷ named int 40 41 0 ∷ number 0 ∷ [];
+  exprs = named int 10 11 0 ∷ number 1 ∷ named int 14 15 0 ∷ named int 16 17 0
+      ∷ named (ty.Struct 1) 20 21 1 ∷ address plain 30 32 0 ∷ number 1 ∷ named int 40 41 0 ∷ number 0 ∷ [];
 }
 
 lists_main : edges_in lists (record { 0 = 0 }) ≡ edge 10 11 0 1 ∷ edge 14 15 0 3 ∷ edge 16 17 0 2

@@ -1,10 +1,9 @@
 -- Small programs, on which the definitions are tried by computing. What each shows was found by hand first;
 -- the spans are those of the text that stands above it.
-use Rattle.std.proofs.Common.{◌≡◌, ℕ, refl, Bool, true, false, Option, Some, None, List, [], ◌∷◌, codes, get_or}
+use Rattle.std.proofs.Common.{◌≡◌, ℕ, refl, Bool, true, false, Some, None, List, [], ◌∷◌, codes, get_or}
 use Rattle.std.specs.List.{flat_map}
 use Rattle.pt_base.specs.declared.ids.FnId.{FnId}
 use Rattle.pt_base.specs.declared.int_type.IntType.TheVariants as i
-use Rattle.pt_base.specs.declared.span.Span.{Span}
 use Rattle.pt_int.specs.declared.operator.BinOp.TheVariants as o
 use Rattle.pt_tree.specs.declared.signature.Elem.TheVariants as el
 use Rattle.pt_tree.specs.declared.signature.Param.{Param}
@@ -20,7 +19,7 @@ use Rattle.typed_tree.specs.declared.variable.Var.{Var}
 use Rattle.typed_tree.specs.ExpressionTree as t
 use Rattle.typed_tree.specs.ExpressionTree.{ExprTree, typed, place, no_steps, step_and}
 use Rattle.typed_tree.specs.StatementTree.{BodyTree, choose, no_else}
-use Rattle.typed_tree.specs.TypedTree.{FunctionTree, TypedTree}
+use Rattle.typed_tree.specs.TypedTree.{TypedTree}
 use Rattle.flow_edges.proofs.Worked.{address, behind, edge, field, named, plain, set, struct}
 use Rattle.flow_edges.specs.Edges.{edges_in}
 use Rattle.flow_rules.specs.declared.rule.Rule.TheVariants.{OperationOnPriv, PrivToHost, PrivIntoUnpriv, SharedGlobal, UnmarkedOut, HostInMonitor, PrivToPlainParam, PrivStatus, PrivMain}
@@ -55,7 +54,8 @@ abbrev with_main : List Var → List BodyTree → List ExprTree → TypedTree
 with_main vars statements exprs = record {
   structs = [];
   globals = [];
-  functions = host (codes "load") (Some i.Int) (takes false ∷ []) true false ∷ host (codes "sign") (Some i.Int) (takes true ∷ takes false ∷ []) true true ∷ host (codes "put") None (takes false ∷ []) false false
+  functions = host (codes "load") (Some i.Int) (takes false ∷ []) true false ∷ host (codes "sign") (Some i.Int) (takes true ∷ takes false ∷ []) true true
+      ∷ host (codes "put") None (takes false ∷ []) false false
       ∷ function (codes "main") (Some i.Int) [] false false vars (body statements) ∷ [];
   exprs = exprs;
 }
@@ -74,7 +74,8 @@ condition_edges : edges_in condition (fn 3) ≡ edge 164 171 5 4 ∷ []
 unfolding edges_in usages_in leaves_of
 condition_edges = refl
 
-condition_faults : findings_of (flows condition (fn 3 ∷ []) [] (false ∷ false ∷ false ∷ false ∷ true ∷ true ∷ [])) ≡ finding OperationOnPriv (span 177 178) (4 ∷ []) ∷ []
+condition_faults : findings_of (flows condition (fn 3 ∷ []) [] (false ∷ false ∷ false ∷ false ∷ true ∷ true ∷ []))
+    ≡ finding OperationOnPriv (span 177 178) (4 ∷ []) ∷ []
 unfolding findings_of usages_in leaves_of
 condition_faults = refl
 
@@ -102,7 +103,8 @@ unpriv_edges : edges_in unpriv (fn 3) ≡ edge 188 195 5 4 ∷ []
 unfolding edges_in usages_in leaves_of
 unpriv_edges = refl
 
-unpriv_faults : findings_of (flows unpriv (fn 3 ∷ []) [] (false ∷ false ∷ false ∷ false ∷ true ∷ true ∷ [])) ≡ finding PrivIntoUnpriv (span 181 182) (4 ∷ []) ∷ []
+unpriv_faults : findings_of (flows unpriv (fn 3 ∷ []) [] (false ∷ false ∷ false ∷ false ∷ true ∷ true ∷ []))
+    ≡ finding PrivIntoUnpriv (span 181 182) (4 ∷ []) ∷ []
 unfolding findings_of usages_in leaves_of
 unpriv_faults = refl
 
@@ -117,7 +119,8 @@ widened_edges : edges_in widened (fn 3) ≡ []
 unfolding edges_in usages_in leaves_of
 widened_edges = refl
 
-widened_faults : findings_of (flows widened (fn 3 ∷ []) [] (false ∷ false ∷ false ∷ false ∷ false ∷ true ∷ [])) ≡ finding OperationOnPriv (span 165 172) (5 ∷ []) ∷ []
+widened_faults : findings_of (flows widened (fn 3 ∷ []) [] (false ∷ false ∷ false ∷ false ∷ false ∷ true ∷ []))
+    ≡ finding OperationOnPriv (span 165 172) (5 ∷ []) ∷ []
 unfolding findings_of usages_in leaves_of
 widened_faults = refl
 
@@ -148,7 +151,8 @@ status = record {
   functions = host (codes "load") (Some i.Int) (takes false ∷ []) true false
       ∷ function (codes "get") None (points false ∷ []) false false (in_place plain ∷ []) (body (does 0 ∷ []))
       ∷ function (codes "main") (Some i.Int) [] false false (in_place int ∷ []) (body (does 1 ∷ returns 2 ∷ [])) ∷ [];
-  exprs = assign (behind (named plain 59 60 0)) (call (span 63 70) (Some int) 0 (number 1 ∷ [])) ∷ call (span 98 105) None 1 (address plain 102 104 0 ∷ []) ∷ named int 114 115 0 ∷ [];
+  exprs = assign (behind (named plain 59 60 0)) (call (span 63 70) (Some int) 0 (number 1 ∷ []))
+      ∷ call (span 98 105) None 1 (address plain 102 104 0 ∷ []) ∷ named int 114 115 0 ∷ [];
 }
 
 -- a secret comes to a by the first and the third
@@ -156,7 +160,8 @@ status_edges : flat_map (edges_in status) (fn 1 ∷ fn 2 ∷ []) ≡ edge 63 70 
 unfolding edges_in usages_in leaves_of
 status_edges = refl
 
-status_faults : findings_of (flows status (fn 1 ∷ fn 2 ∷ []) [] (false ∷ true ∷ true ∷ true ∷ false ∷ true ∷ [])) ≡ finding PrivStatus (span 114 115) (2 ∷ []) ∷ []
+status_faults : findings_of (flows status (fn 1 ∷ fn 2 ∷ []) [] (false ∷ true ∷ true ∷ true ∷ false ∷ true ∷ []))
+    ≡ finding PrivStatus (span 114 115) (2 ∷ []) ∷ []
 unfolding findings_of usages_in leaves_of
 status_faults = refl
 
@@ -172,7 +177,8 @@ shared = record {
       ∷ assign (place (t.global (record { 0 = 0 })) no_steps) (number 2) ∷ number 0 ∷ [];
 }
 
-shared_faults : findings_of (flows shared (fn 2 ∷ []) (fn 1 ∷ fn 2 ∷ []) []) ≡ finding HostInMonitor (span 60 66) [] ∷ finding SharedGlobal (span 4 5) [] ∷ finding PrivMain (span 0 0) [] ∷ []
+shared_faults : findings_of (flows shared (fn 2 ∷ []) (fn 1 ∷ fn 2 ∷ []) [])
+    ≡ finding HostInMonitor (span 60 66) [] ∷ finding SharedGlobal (span 4 5) [] ∷ finding PrivMain (span 0 0) [] ∷ []
 unfolding findings_of usages_in leaves_of
 shared_faults = refl
 
@@ -196,9 +202,11 @@ keys = record {
       ∷ function (codes "main") (Some i.Int) [] false false (in_place (ty.Struct 0) ∷ []) (body (does 0 ∷ does 1 ∷ does 2 ∷ returns 3 ∷ [])) ∷ [];
   exprs = call (span 10 22) None 0 (typed (span 15 21) (Some plain) (t.address (place (t.local (record { 0 = 0 })) (step_and (t.field 1) no_steps))) ∷ [])
       ∷ call (span 30 38) None 1 (address to_keyed 35 37 0 ∷ [])
-      ∷ typed (span 40 50) (Some int) (t.compound (place (t.local (record { 0 = 0 })) (step_and (t.field 1) no_steps)) (span 40 45) (l.Arithmetic o.Add i.Int) (number 1)) ∷ number 0 ∷ [];
+      ∷ typed (span 40 50) (Some int) (t.compound (place (t.local (record { 0 = 0 })) (step_and (t.field 1) no_steps)) (span 40 45) (l.Arithmetic o.Add i.Int) (number 1))
+      ∷ number 0 ∷ [];
 }
 
-keys_faults : findings_of (flows keys (fn 2 ∷ []) (fn 0 ∷ fn 1 ∷ []) (false ∷ false ∷ false ∷ false ∷ true ∷ [])) ≡ finding PrivToPlainParam (span 15 21) (4 ∷ []) ∷ finding OperationOnPriv (span 40 45) (4 ∷ []) ∷ []
+keys_faults : findings_of (flows keys (fn 2 ∷ []) (fn 0 ∷ fn 1 ∷ []) (false ∷ false ∷ false ∷ false ∷ true ∷ []))
+    ≡ finding PrivToPlainParam (span 15 21) (4 ∷ []) ∷ finding OperationOnPriv (span 40 45) (4 ∷ []) ∷ []
 unfolding findings_of usages_in leaves_of
 keys_faults = refl

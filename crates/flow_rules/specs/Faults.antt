@@ -1,6 +1,6 @@
 -- The faults of a program: each place once where it breaks a rule, in the order of the text, with a way by
 -- which a secret comes there.
-use Rattle.std.specs.Prelude.{◌≡◌, ◌↔◌, ◌<◌, ℕ, List, [], ◌∷◌, Bool, true, is_some, length, map, slice_index_or, All, Result, Ok, Err}
+use Rattle.std.specs.Prelude.{◌≡◌, ◌↔◌, ◌<◌, ℕ, List, [], ◌∷◌, true, is_some, length, map, slice_index_or, All, Result, Ok, Err}
 use Rattle.std.specs.List.{Contains, flat_map}
 use Rattle.std.specs.List.Sorted.{IsStrictlySortedBy}
 use Rattle.std.specs.declared.cmp.Ordering.{Ordering}
@@ -23,7 +23,6 @@ use Rattle.flow_rules.specs.declared.accepted.Accepted.{Accepted}
 use Rattle.flow_rules.specs.declared.fault.FlowError.{FlowError}
 use Rattle.flow_rules.specs.declared.fault.FlowError.TheVariants.{Faults, Memory}
 use Rattle.flow_rules.specs.declared.fault.FlowFault.{FlowFault}
-use Rattle.flow_rules.specs.declared.rule.Rule.{Rule}
 use Rattle.flow_rules.specs.Findings.{Finding, findings_of}
 use Rattle.flow_rules.specs.Numbers.{rule_number}
 use Rattle.flow_rules.specs.Secrets.{Flows}
@@ -67,7 +66,8 @@ spans_of edges path = map (λ k. (slice_index_or edges k no_edge).span) path
 -- how a secret comes to one of these slots: along edges from a seed, to no slot twice; nothing where there are none
 abbrev pub ShowsWay : List Slot → List Edge → List Span → List ℕ → Type 0
 ShowsWay seeds edges spans [] = spans ≡ []
-ShowsWay seeds edges spans (s ∷ ss) = (n : ℕ) × (path : List ℕ) × Contains (s ∷ ss) n × IsSimplePath seeds edges path (slot_number n) × (spans ≡ spans_of edges path)
+ShowsWay seeds edges spans (s ∷ ss) =
+    (n : ℕ) × (path : List ℕ) × Contains (s ∷ ss) n × IsSimplePath seeds edges path (slot_number n) × (spans ≡ spans_of edges path)
 
 -- a fault tells of something that was found, and how a secret came there
 abbrev pub IsFault : Flows → List Slot → List Edge → FlowFault → Type 0

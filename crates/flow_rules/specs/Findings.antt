@@ -1,5 +1,5 @@
 -- The nine rules: what each finds in a program.
-use Rattle.std.specs.Prelude.{ℕ, suc, List, [], ◌∷◌, ◌++◌, Option, None, Some, Bool, true, false, not, ◌&&◌, ◌||◌, if◌then◌else◌, is_none, map, nat_eq, slice_get}
+use Rattle.std.specs.Prelude.{ℕ, suc, List, [], ◌∷◌, ◌++◌, Option, Bool, false, not, ◌&&◌, ◌||◌, if◌then◌else◌, is_none, map, nat_eq, slice_get}
 use Rattle.std.specs.List.{flat_map, list_any, range_with_len}
 use Rattle.std.specs.Option.{option_map_or}
 use Rattle.pt_base.specs.declared.ids.FnId.{FnId}
@@ -7,9 +7,9 @@ use Rattle.pt_base.specs.declared.span.Span.{Span}
 use Rattle.pt_tree.specs.declared.signature.Param.{Param}
 use Rattle.sides.specs.declared.objects.Object.{Object}
 use Rattle.sides.specs.declared.usage.How.{How}
-use Rattle.sides.specs.declared.usage.How.TheVariants.{Kept, Operated, Passed, Begins, Returned}
+use Rattle.sides.specs.declared.usage.How.TheVariants.{Operated, Passed, Returned}
 use Rattle.sides.specs.Carried.{carried, place_slots, scope_of}
-use Rattle.sides.specs.Contexts.{expr_callees, globals_in, test_function}
+use Rattle.sides.specs.Contexts.{expr_callees, globals_in}
 use Rattle.sides.specs.Leaves.{leaf_count}
 use Rattle.sides.specs.Objects.{global_objects, variable_objects}
 use Rattle.sides.specs.Seeds.{is_out}
@@ -26,7 +26,8 @@ use Rattle.flow_rules.specs.declared.rule.Rule.{Rule}
 use Rattle.flow_rules.specs.declared.rule.Rule.TheVariants.{OperationOnPriv, PrivToHost, PrivIntoUnpriv, SharedGlobal, UnmarkedOut, HostInMonitor, PrivToPlainParam, PrivStatus, PrivMain}
 use Rattle.flow_rules.specs.Secrets.{Flows, secret_slots, secrets_of, unmarked_leaves, value_leaves}
 
--- a broken rule, where it shows, and the privileged slots that make it one; none where the rule speaks of no secret
+-- A broken rule, where it shows, and the privileged slots that make it one; none where the rule speaks of no
+-- secret.
 pub record Finding : Type 0 where
   pub rule : Rule
   pub span : Span
@@ -67,10 +68,14 @@ function_is test t g = option_map_or test (function_at t g) false
 
 -- ---- rules on the value of an expression, in the body of a function of the slave
 
--- what ++, -- and a compound assignment look at before they change it
+-- an operator looks at what is in this place, an object of this type
+abbrev pub looked_at : Flows → FnId → Option VarTy → Span → PlaceTree → List Finding
+looked_at p f ty at pl = found OperationOnPriv at (secret_slots p (place_slots (scope_of p.tree f.0) pl) (value_leaves p.tree.structs ty))
+
+-- ++, -- and a compound assignment look at what they change
 abbrev pub changed_operand : Flows → FnId → Option VarTy → FormTree → List Finding
-changed_operand p f ty (compound pl at op a) = found OperationOnPriv at (secret_slots p (place_slots (scope_of p.tree f.0) pl) (value_leaves p.tree.structs ty))
-changed_operand p f ty (step pl at back postfix) = found OperationOnPriv at (secret_slots p (place_slots (scope_of p.tree f.0) pl) (value_leaves p.tree.structs ty))
+changed_operand p f ty (compound pl at op a) = looked_at p f ty at pl
+changed_operand p f ty (step pl at back postfix) = looked_at p f ty at pl
 changed_operand p f ty _ = []
 
 abbrev pub changed_operands : Flows → FnId → ExprTree → List Finding
@@ -109,7 +114,8 @@ usage_findings p f u =
 
 -- PrivIntoUnpriv: an object or parameter that is marked `unpriv` has a privileged slot.
 abbrev pub priv_into_unpriv : Flows → Var → Object → List Finding
-priv_into_unpriv p x o = if x.unpriv then found PrivIntoUnpriv x.span (secret_slots p (o.start ∷ []) (range_with_len 0 (leaf_count p.tree.structs o.ty))) else []
+priv_into_unpriv p x o =
+    if x.unpriv then found PrivIntoUnpriv x.span (secret_slots p (o.start ∷ []) (range_with_len 0 (leaf_count p.tree.structs o.ty))) else []
 
 abbrev pub objects_findings : Flows → List Var → List Object → List Finding
 objects_findings p (x ∷ xs) (o ∷ os) = priv_into_unpriv p x o ++ objects_findings p xs os
@@ -126,7 +132,8 @@ is_named_in t g fs = list_any (λ f. list_any (λ h. nat_eq h.0 g) (globals_in t
 -- SharedGlobal: code of both halves names the global, of which the first of these has the number g.
 abbrev pub shared_globals : Flows → ℕ → List TypedGlobal → List Finding
 shared_globals p g [] = []
-shared_globals p g (x ∷ xs) = found_if (is_named_in p.tree g p.slave && is_named_in p.tree g p.monitor) SharedGlobal x.var.span ++ shared_globals p (suc g) xs
+shared_globals p g (x ∷ xs) =
+    found_if (is_named_in p.tree g p.slave && is_named_in p.tree g p.monitor) SharedGlobal x.var.span ++ shared_globals p (suc g) xs
 
 -- ---- rules on functions
 
@@ -163,4 +170,6 @@ function_findings f = unmarked_out f ++ priv_main f
 
 -- every place where the program breaks a rule; a function of neither half is looked at for its marks alone
 unfoldable pub findings_of : Flows → List Finding
-findings_of p = (flat_map (slave_findings p) p.slave ++ flat_map (monitor_findings p) p.monitor) ++ (global_findings p ++ flat_map function_findings p.tree.functions)
+findings_of p =
+    (flat_map (slave_findings p) p.slave ++ flat_map (monitor_findings p) p.monitor)
+    ++ (global_findings p ++ flat_map function_findings p.tree.functions)

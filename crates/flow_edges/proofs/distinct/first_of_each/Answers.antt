@@ -13,5 +13,6 @@ loop-number-init c = record {
 pub loop-number-preserved : goal.loop-number-preserved
 loop-number-preserved c = record {
   same = c.in_ok-keep.ensures.same;
-  all = next_kept c.deref-number-items.result.now c.loop-number.number-index _ c.loop-number.kept.items _ _ (grind arith) (search rules) c.in_ok-keep.ensures.kept c.loop-number.invariant.all;
+  all =
+      next_kept c.deref-number-items.result.now c.loop-number.number-index _ c.loop-number.kept.items _ _ (grind arith) (search rules) c.in_ok-keep.ensures.kept c.loop-number.invariant.all;
 }
