@@ -1,5 +1,6 @@
 // The list of edges that is being made.
-ghost use Rattle.std.specs.Prelude.{◌≡◌, ◌≤◌, ◌++◌, [], ◌∷◌, ◌^◌, OnOk, length};
+ghost use Rattle.std.specs.Prelude.{◌≡◌, ◌≤◌, ◌-◌, ◌++◌, [], ◌∷◌, ◌^◌, false, OnOk, length, nat_le};
+ghost use Rattle.std.specs.Option.{option_map_or};
 ghost use Rattle.flow_edges.specs.Moves.{edge_between};
 
 use pt_base::{Edge, Listed, Slot, Span};
@@ -26,7 +27,9 @@ impl EdgeList {
     }
 
     /// Whether there may be so many more. None is more than 64 bits can say.
-    pub fn has_room(&self, more: Option<u64>) -> bool {
+    pub fn has_room(&self, more: Option<u64>) -> bool
+        ensures { result ≡ option_map_or (λ n. nat_le n (2 ^ 26 - length self.now.edges.items)) more false }
+    {
         match more {
             Some(more) => more <= (MOST_EDGES - self.edges.len()) as u64,
             None => false,

@@ -1,5 +1,5 @@
 // The edges of a value that moves.
-ghost use Rattle.std.specs.Prelude.{◌≡◌, ◌++◌, OnOk};
+ghost use Rattle.std.specs.Prelude.{◌≡◌, ◌*◌, ◌++◌, IfSome, OnOk, if◌then◌else◌, length};
 ghost use Rattle.flow_edges.specs.MoveView.{view_move};
 ghost use Rattle.flow_edges.specs.Moves.{edges_between, edges_from, leaf_edges, move_edges};
 
@@ -64,7 +64,9 @@ impl Move {
     }
 
     // how many edges it has, if 64 bits can say it
-    fn count(&self) -> Option<u64> {
+    fn count(&self) -> Option<u64>
+        ensures { IfSome result (λ n. n ≡ length self.now.from.items * length self.now.to.items * self.now.leaves * (if self.now.back then 2 else 1)) }
+    {
         let pairs = (self.from.len() as u64).checked_mul(self.to.len() as u64)?;
         let ways = pairs.checked_mul(self.leaves)?;
         if self.back {
