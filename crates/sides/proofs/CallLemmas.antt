@@ -1,15 +1,15 @@
 -- What `propagation` tells of calls is what the definitions of the halves say.
-use Rattle.std.proofs.Common.{◌≡◌, ◌∙◌, ◌≤◌, ◌<◌, ◌↔◌, ℕ, zero, suc, ◌+◌, refl, ap, sym, subst, arith, ◌⊎◌, inl, inr, Bool, true, false, Option, Some, None, IsTrue, List, [], ◌∷◌, ◌++◌, length, map, get_or, codes}
-use Rattle.std.specs.Prelude.{if◌then◌else◌, is_some, ◌&&◌, slice_get, option_map}
+use Rattle.std.proofs.Common.{◌≡◌, ◌∙◌, ◌<◌, ◌↔◌, ℕ, zero, suc, ◌+◌, refl, ap, sym, subst, arith, ◌⊎◌, inl, inr, Bool, true, false, Option, Some, None, IsTrue, List, [], ◌∷◌, ◌++◌, length, get_or, codes}
+use Rattle.std.specs.Prelude.{if◌then◌else◌, slice_get, option_map}
 use Rattle.std.specs.List.{All, Contains, filter}
 use Rattle.std.specs.Option.{option_map_or}
 use Rattle.std.proofs.lemmas.List.{get_or_default}
-use Rattle.std.proofs.lemmas.List.Elements.{Contains-append_left, Contains-append_right, Contains-append_cases, All-nil, All-cons, All-append, All-contains}
+use Rattle.std.proofs.lemmas.List.Elements.{Contains-append_left, Contains-append_right, Contains-append_cases, All-nil, All-cons}
 use Rattle.pt_base.specs.declared.ids.FnId.{FnId}
 use Rattle.pt_base.specs.declared.slot.Slot.{Slot}
 use Rattle.pt_base.specs.declared.slot.Edge.{Edge}
 use Rattle.typed_tree.specs.TypedTree.{FunctionTree, TypedTree}
-use Rattle.typed_tree.specs.Lookup.{function_at, function_named, HasName}
+use Rattle.typed_tree.specs.Lookup.{function_named, HasName}
 use Rattle.propagation.specs.Paths.{no_edge, from_of, to_of, Leads, IsPriv}
 use Rattle.sides.specs.declared.calls.Half.{Half}
 use Rattle.sides.specs.declared.calls.Half.TheVariants.{Monitor, Slave}

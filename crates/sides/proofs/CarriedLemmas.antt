@@ -1,10 +1,10 @@
 -- What the forms of an expression carry, in code's steps.
-use Rattle.std.proofs.Common.{◌≡◌, ◌∙◌, ◌≤◌, ℕ, zero, suc, ◌+◌, refl, ap, sym, subst, arith, Option, List, [], ◌∷◌, ◌++◌, length, map, take, drop}
+use Rattle.std.proofs.Common.{◌≡◌, ◌∙◌, ◌≤◌, ℕ, zero, suc, ◌+◌, refl, ap, sym, arith, Option, List, [], ◌∷◌, ◌++◌, length, take, drop}
 use Rattle.pt_base.specs.declared.ids.FnId.{FnId}
 use Rattle.typed_tree.specs.declared.types.VarTy.{VarTy}
 use Rattle.typed_tree.specs.ExpressionTree as t
 use Rattle.typed_tree.specs.ExpressionTree.{ExprTree, FormTree, ExprTrees, LinkTrees, RootTree, StepTrees, place}
-use Rattle.sides.specs.Carried.{Scope, carried, form_slots, links_slots, place_slots, root_slots, root_type, steps_offset}
+use Rattle.sides.specs.Carried.{Scope, carried, form_slots, place_slots, root_slots, root_type, steps_offset}
 use Rattle.sides.specs.Moved.{moved, links_moved}
 use Rattle.sides.proofs.MovedLemmas.{moved_twice, links_are}
 

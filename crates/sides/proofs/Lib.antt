@@ -1,6 +1,7 @@
 pub mod CallLemmas
 pub mod CarriedLemmas
 pub mod Joined
+pub mod LastLemmas
 pub mod LayoutLemmas
 pub mod LeafLemmas
 pub mod ListLemmas

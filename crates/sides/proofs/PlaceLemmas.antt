@@ -1,5 +1,5 @@
 -- The lists that `place` gives have exactly the members that the definitions say.
-use Rattle.std.proofs.Common.{◌≡◌, ◌∙◌, ◌<◌, ◌↔◌, ℕ, zero, suc, ◌+◌, refl, ap, sym, subst, arith, ◌⊎◌, inl, inr, Bool, true, false, IsTrue, List, [], ◌∷◌, length, map, get_or}
+use Rattle.std.proofs.Common.{◌≡◌, ◌∙◌, ◌<◌, ◌↔◌, ℕ, zero, suc, refl, ap, sym, subst, arith, ◌⊎◌, inl, inr, Bool, true, false, List, [], ◌∷◌, length, map, get_or}
 use Rattle.std.specs.Prelude.{◌&&◌, ◌||◌, replicate}
 use Rattle.std.specs.List.{Contains, flat_map}
 use Rattle.std.proofs.lemmas.List.{length-map, length-replicate}
@@ -8,17 +8,17 @@ use Rattle.pt_base.specs.declared.ids.GlobalId.{GlobalId}
 use Rattle.pt_base.specs.declared.slot.Slot.{Slot}
 use Rattle.typed_tree.specs.TypedTree.{TypedTree}
 use Rattle.sides.specs.declared.calls.Half.{Half}
-use Rattle.sides.specs.declared.calls.Half.TheVariants.{Monitor, Slave}
+use Rattle.sides.specs.declared.calls.Half.TheVariants.{Slave}
 use Rattle.sides.specs.declared.slots.Owner.{Owner}
 use Rattle.sides.specs.declared.slots.Owner.TheVariants.{Variable, Global, Result}
 use Rattle.sides.specs.declared.slots.SlotInfo.{SlotInfo}
 use Rattle.sides.specs.Contexts.{InSlave, IsOwned, globals_in}
 use Rattle.sides.specs.Marking.{global_numbers, owned_table, stands_in, is_marked_slot, seed_table}
 use Rattle.sides.specs.Reached.{InHalf, IsReached}
-use Rattle.sides.specs.Seeds.{StandsInSlave, owner_marked, IsMarkedSlot, IsSeed, sealed_in}
+use Rattle.sides.specs.Seeds.{StandsInSlave, owner_marked, IsSeed, sealed_in}
 use Rattle.sides.specs.Slots.{slots_of, slot_at, no_slot}
 use Rattle.sides.specs.Sorted.{Lists}
-use Rattle.sides.specs.Tables.{places_true, set_all, function_id, function_ids, global_id, global_ids, slot_number, slot_numbers}
+use Rattle.sides.specs.Tables.{places_true, function_id, function_ids, global_id, global_ids, slot_number, slot_numbers}
 use Rattle.sides.proofs.ListLemmas.{contains_map, from_map, contains_flat, from_flat}
 use Rattle.sides.proofs.TableLemmas.{table_lists, set_all_keeps, set_all_has, set_all_from, none_true}
 

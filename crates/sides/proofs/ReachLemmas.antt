@@ -28,6 +28,6 @@ module _ (t : TypedTree) (half : Half) (slots : ℕ) (size : slots ≡ length t.
       AreMarks seeds edges slots marks → table ≡ map is_some marks → IsReached t half table
   reached_in names seeds edges marks table es ee are et =
       reached_is t half names table (ap length et ∙ length-map marks is_some ∙ are.size ∙ size) (λ k lt.
-        let h : (get_or table k false ≡ true) ↔ IsPriv seeds edges (record { 0 = k }) = told seeds edges slots marks table et are k (subst (λ n. k < n) (sym size) lt) in
-        subst (λ (xs : List Slot). (get_or table k false ≡ true) ↔ IsPriv xs (call_edges t half) (record { 0 = k })) es
-        (subst (λ (xs : List Edge). (get_or table k false ≡ true) ↔ IsPriv seeds xs (record { 0 = k })) ee h))
+      let h : (get_or table k false ≡ true) ↔ IsPriv seeds edges (record { 0 = k }) = told seeds edges slots marks table et are k (subst (λ n. k < n) (sym size) lt) in
+      subst (λ (xs : List Slot). (get_or table k false ≡ true) ↔ IsPriv xs (call_edges t half) (record { 0 = k })) es
+      (subst (λ (xs : List Edge). (get_or table k false ≡ true) ↔ IsPriv seeds xs (record { 0 = k })) ee h))

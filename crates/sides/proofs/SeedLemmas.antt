@@ -1,12 +1,11 @@
 -- What comes back through parameters, as code finds it.
-use Rattle.std.proofs.Common.{◌≡◌, ◌∙◌, ℕ, ◌+◌, refl, ap, Bool, true, false, Option, Some, None, List, [], map}
+use Rattle.std.proofs.Common.{◌≡◌, ℕ, refl, Bool, true, false, Option, Some, None, List, []}
 use Rattle.std.specs.Prelude.{if◌then◌else◌, slice_get}
 use Rattle.pt_base.specs.declared.ids.FnId.{FnId}
 use Rattle.typed_tree.specs.ExpressionTree.{ExprTree}
 use Rattle.typed_tree.specs.TypedTree.{TypedTree}
 use Rattle.typed_tree.specs.Lookup.{function_at}
 use Rattle.sides.specs.declared.objects.Object.{Object}
-use Rattle.sides.specs.declared.slots.SlotInfo.{SlotInfo}
 use Rattle.sides.specs.declared.usage.How.TheVariants.{Passed}
 use Rattle.sides.specs.Carried.{carried, scope_of}
 use Rattle.sides.specs.Objects.{variable_objects}

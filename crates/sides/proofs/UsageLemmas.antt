@@ -1,5 +1,5 @@
 -- What the forms of an expression evaluate, one part after the other.
-use Rattle.std.proofs.Common.{◌≡◌, ◌∙◌, ap, sym, List, ◌++◌, Option, Bool}
+use Rattle.std.proofs.Common.{◌≡◌, ◌∙◌, ap, sym, ◌++◌, Option}
 use Rattle.pt_base.specs.declared.ids.FnId.{FnId}
 use Rattle.pt_base.specs.declared.span.Span.{Span}
 use Rattle.typed_tree.specs.declared.link.LinkStep.{LinkStep}

@@ -1,11 +1,11 @@
 -- Lists that code gathers one by one.
-use Rattle.std.proofs.Common.{◌≡◌, ◌∙◌, ◌≤◌, ◌<◌, ◌↔◌, ℕ, zero, suc, ◌+◌, ◌-◌, refl, ap, sym, subst, arith, ◌⊎◌, inl, inr, Bool, true, false, Option, Some, None, List, [], ◌∷◌, ◌++◌, length, map, get_or, cond, append_assoc, drop, drop-cons, add-one}
+use Rattle.std.proofs.Common.{◌≡◌, ◌∙◌, ◌<◌, ◌↔◌, ℕ, zero, suc, ◌+◌, ◌-◌, refl, ap, sym, arith, Bool, true, false, Option, Some, None, List, [], ◌∷◌, ◌++◌, length, map, get_or, cond}
 use Rattle.std.specs.Prelude.{Vec, if◌then◌else◌, is_some, MatchOption, vec_len}
 use Rattle.std.specs.declared.alloc.Global.{Global}
 use Rattle.std.specs.Vec.{with_items}
 use Rattle.std.specs.List.{filter, flat_map, range_with_len}
 use Rattle.std.proofs.Math.ListN.{set, length-set}
-use Rattle.std.proofs.lemmas.List.{length-map, map-append, with_items_is}
+use Rattle.std.proofs.lemmas.List.{map-append, with_items_is}
 use Rattle.pt_base.specs.declared.slot.Slot.{Slot}
 use Rattle.pt_base.specs.declared.slot.Edge.{Edge}
 use Rattle.typed_tree.specs.TypedTree.{FunctionTree, TypedTree}
@@ -111,7 +111,7 @@ numbers_on number parts xs rest x table table' all split e h =
     sets_on table table' all (map number (parts x)) (map number (flat_map parts rest)) e
     (ap (set_all table) (sym (map-append number (parts x) (flat_map parts rest))) ∙ ap (λ ys. set_all table (map number (flat_map parts ys))) (sym split) ∙ h)
 
-long_all : (table : List Bool) (ks : List ℕ) → length (set_all table ks) ≡ length table
+pub long_all : (table : List Bool) (ks : List ℕ) → length (set_all table ks) ≡ length table
 long_all table [] = refl
 long_all table (k ∷ ks) = long_all (set table k true) ks ∙ length-set table k true
 

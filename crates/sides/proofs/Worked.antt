@@ -1,6 +1,5 @@
 -- Small programs, on which the definitions are tried by computing.
 use Rattle.std.proofs.Common.{◌≡◌, ℕ, pos, refl, Bool, true, false, Option, Some, None, List, [], ◌∷◌, codes, map}
-use Rattle.pt_base.specs.declared.ids.FnId.{FnId}
 use Rattle.pt_base.specs.declared.int_type.IntType.{IntType}
 use Rattle.pt_base.specs.declared.int_type.IntType.TheVariants as i
 use Rattle.pt_base.specs.declared.span.Span.{Span}
@@ -11,7 +10,6 @@ use Rattle.typed_tree.specs.declared.types.VarTy.{VarTy}
 use Rattle.typed_tree.specs.declared.types.VarTy.TheVariants as ty
 use Rattle.typed_tree.specs.declared.types.StructInfo.{StructInfo}
 use Rattle.typed_tree.specs.declared.variable.Var.{Var}
-use Rattle.typed_tree.specs.declared.variable.TypedGlobal.{TypedGlobal}
 use Rattle.typed_tree.specs.ExpressionTree as t
 use Rattle.typed_tree.specs.ExpressionTree.{ExprTree, PlaceTree, typed, place, no_steps, step_and, expr_trees}
 use Rattle.typed_tree.specs.StatementTree.{BodyTree, block, evaluate, give_back, body_trees}
@@ -19,7 +17,7 @@ use Rattle.typed_tree.specs.TypedTree.{FunctionTree, TypedTree}
 use Rattle.sides.specs.declared.slots.Owner.TheVariants.{Variable, Global, Result}
 use Rattle.sides.specs.declared.usage.How.TheVariants as h
 use Rattle.sides.specs.Carried.{carried, scope_of}
-use Rattle.sides.specs.Contexts.{callees_in, globals_in, InSlave, main, slave_calls}
+use Rattle.sides.specs.Contexts.{callees_in, globals_in, InSlave, main}
 use Rattle.sides.specs.Leaves.{leaves_of}
 use Rattle.sides.specs.Objects.{function_starts, result_start}
 use Rattle.sides.specs.Seeds.{sealed_in}

@@ -1,5 +1,5 @@
 -- Calls as edges between functions, by which `propagation` tells what they reach.
-use Rattle.std.specs.Prelude.{ℕ, suc, zero, List, [], ◌∷◌, ◌++◌, Option, None, Some, Bool, true, false, if◌then◌else◌, codes, length, map}
+use Rattle.std.specs.Prelude.{ℕ, suc, zero, List, [], ◌∷◌, ◌++◌, Option, None, Some, Bool, if◌then◌else◌, codes, length, map}
 use Rattle.std.specs.List.{filter}
 use Rattle.pt_base.specs.declared.ids.FnId.{FnId}
 use Rattle.pt_base.specs.declared.slot.Slot.{Slot}

@@ -1,6 +1,6 @@
 -- The slots that an expression carries: the values of which its value may be, without a change. Where a
 -- value has several leaves, the slot of the first one stands for all, since the others follow it.
-use Rattle.std.specs.Prelude.{ℕ, ◌+◌, List, [], ◌∷◌, ◌++◌, Option, None, Some, Bool, if◌then◌else◌, map, slice_get, option_map, is_some}
+use Rattle.std.specs.Prelude.{ℕ, ◌+◌, List, [], ◌∷◌, ◌++◌, Option, None, Some, if◌then◌else◌, map, slice_get, option_map, is_some}
 use Rattle.typed_tree.specs.declared.types.VarTy.{VarTy}
 use Rattle.typed_tree.specs.declared.types.VarTy.TheVariants.{Struct}
 use Rattle.typed_tree.specs.declared.types.StructInfo.{StructInfo}

@@ -7,7 +7,7 @@ use Rattle.pt_base.specs.declared.ids.GlobalId.{GlobalId}
 use Rattle.typed_tree.specs.ExpressionTree.{ExprTree, FormTree, PlaceTree, RootTree, typed, read, decay, address, assign, compound, step, call, place, global}
 use Rattle.typed_tree.specs.TypedTree.{FunctionTree, TypedTree}
 use Rattle.typed_tree.specs.Lookup.{function_at, HasName}
-use Rattle.sides.specs.Usages.{UsageTree, usages_in}
+use Rattle.sides.specs.Usages.{usages_in}
 
 -- ---- what a body calls and names
 

@@ -1,5 +1,5 @@
 -- Where the slots of each object begin: behind those of the objects before it.
-use Rattle.std.specs.Prelude.{ℕ, ◌+◌, List, [], ◌∷◌, ◌++◌, map, get_or, slice_get}
+use Rattle.std.specs.Prelude.{ℕ, ◌+◌, List, [], ◌∷◌, map, get_or, slice_get}
 use Rattle.std.specs.Option.{option_map_or}
 use Rattle.typed_tree.specs.declared.types.VarTy.{VarTy}
 use Rattle.typed_tree.specs.TypedTree.{FunctionTree, TypedTree}

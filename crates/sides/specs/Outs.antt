@@ -1,5 +1,5 @@
 -- Parameters through which something comes back, as code sees them.
-use Rattle.std.specs.Prelude.{ℕ, ◌+◌, List, [], Option, None, Some, Bool, ◌||◌, if◌then◌else◌, map, slice_get, slice_index_or}
+use Rattle.std.specs.Prelude.{◌≡◌, ℕ, ◌+◌, List, [], Option, None, Some, Bool, ◌||◌, if◌then◌else◌, get_or, map, slice_get, slice_index_or}
 use Rattle.std.specs.List.{filter, flat_map, range_with_len}
 use Rattle.pt_base.specs.declared.ids.FnId.{FnId}
 use Rattle.typed_tree.specs.TypedTree.{TypedTree}
@@ -11,6 +11,7 @@ use Rattle.sides.specs.Leaves.{leaf_count}
 use Rattle.sides.specs.Objects.{variable_objects}
 use Rattle.sides.specs.Seeds.{gives_back, seals_all}
 use Rattle.sides.specs.Slots.{no_slot}
+use Rattle.sides.specs.Tables.{set_all}
 
 -- the leaf j comes back secret
 abbrev pub is_back : Bool → ℕ → List SlotInfo → ℕ → Bool
@@ -30,3 +31,7 @@ behind_start slots out start = map (λ j. start + j) (filter (is_back out.all ou
 abbrev pub behind_out : List SlotInfo → Option Out → List ℕ → List ℕ
 behind_out slots None starts = []
 behind_out slots (Some out) starts = flat_map (behind_start slots out) starts
+
+-- what is remembered of each slot is added already: of which parameter slots were added behind it last
+abbrev pub Remembers : List SlotInfo → List Bool → List (Option Out) → Type 0
+Remembers slots table last = (s : ℕ) (out : Out) → get_or last s None ≡ Some out → set_all table (behind_start slots out s) ≡ table

@@ -1,5 +1,5 @@
 -- Which functions are in a half, as code keeps it.
-use Rattle.std.specs.Prelude.{◌≡◌, ◌↔◌, ◌<◌, ℕ, List, Bool, true, false, length, get_or}
+use Rattle.std.specs.Prelude.{◌≡◌, ◌↔◌, List, Bool, true, false, length, get_or}
 use Rattle.pt_base.specs.declared.ids.FnId.{FnId}
 use Rattle.typed_tree.specs.TypedTree.{TypedTree}
 use Rattle.sides.specs.declared.calls.Half.{Half}

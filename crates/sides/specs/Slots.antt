@@ -1,10 +1,6 @@
 -- The slots of a program: for each global, then for each variable, function by function, the leaves of
 -- the object, and then one for what each function returns. A slot's number is its place in this list.
 use Rattle.std.specs.Prelude.{ℕ, suc, List, [], ◌∷◌, ◌++◌, false, map, slice_index_or}
-use Rattle.pt_base.specs.declared.ids.FnId.{FnId}
-use Rattle.pt_base.specs.declared.ids.VarId.{VarId}
-use Rattle.pt_base.specs.declared.ids.GlobalId.{GlobalId}
-use Rattle.pt_base.specs.declared.slot.Slot.{Slot}
 use Rattle.typed_tree.specs.declared.types.StructInfo.{StructInfo}
 use Rattle.typed_tree.specs.declared.variable.Var.{Var}
 use Rattle.typed_tree.specs.declared.variable.TypedGlobal.{TypedGlobal}

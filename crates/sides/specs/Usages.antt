@@ -2,7 +2,6 @@
 -- Everything that the flow rules say of a body goes over this list.
 use Rattle.std.specs.Prelude.{ℕ, suc, List, [], ◌∷◌, ◌++◌, Option, None, Some, Bool, true, false, nat_eq, if◌then◌else◌, slice_get}
 use Rattle.pt_base.specs.declared.ids.FnId.{FnId}
-use Rattle.pt_base.specs.declared.ids.VarId.{VarId}
 use Rattle.typed_tree.specs.declared.part.Part.{Part}
 use Rattle.typed_tree.specs.declared.part.Role.{Role}
 use Rattle.typed_tree.specs.declared.part.Role.TheVariants as r

@@ -46,11 +46,7 @@ fn item_number(before: Role, number: usize, now: Role) -> Result<usize, AllocErr
 
 /// All expressions that the body of a function evaluates, in the order of evaluation, each with what
 /// its value is used for; none of a host.
-pub fn usages_in<'a>(
-    alloc: Global,
-    t: &'a Typed,
-    f: FnId,
-) -> Result<Vec<Usage<'a>>, AllocError>
+pub fn usages_in<'a>(alloc: Global, t: &'a Typed, f: FnId) -> Result<Vec<Usage<'a>>, AllocError>
     ensures { IfOk result (λ v. map view_usage v.items ≡ is.usages_in (view_typed t.now) f) }
 {
     let mut all = Vec::new(alloc);

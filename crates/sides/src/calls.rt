@@ -12,8 +12,8 @@ use crate::bodies::usages_in;
 use crate::functions::{is_privileged, stays};
 use crate::numbers::{next_number, sum};
 use crate::tables::add_if;
-use pt_base::{Edge, FnId, Slot, Span};
 use propagation::{Marks, propagate};
+use pt_base::{Edge, FnId, Slot, Span};
 use std::alloc::{AllocError, Global};
 use typed_tree::{Form, Typed, TypedExpr};
 

@@ -10,6 +10,7 @@ use crate::numbers::sum;
 use crate::objects::Object;
 use crate::scope::Scope;
 use crate::types::{assigned, field, is_pointer, item, keeps_value, pointee};
+use pt_base::FnId;
 use std::alloc::{AllocError, Global};
 use typed_tree::{Form, LinkStep, Place, PlaceStep, Root, TypedExpr, TypedLink, VarTy};
 
@@ -103,6 +104,19 @@ fn add_start(
     }
 }
 
+// the slot so far behind that of what a function returns
+fn add_result(
+    scope: &Scope<'_>,
+    callee: FnId,
+    behind: u64,
+    slots: &mut Vec<u64>,
+) -> Result<(), AllocError>
+    ensures { OnOk result (slots.new.items ≡ slots.old.items ++ moved behind ((scope.now.results + callee.0) ∷ [])) }
+{
+    let slot = sum(scope.results, u64::from(callee.0))?;
+    add_slot(slot, behind, slots)
+}
+
 // appends the slots so far behind those that an expression carries
 #[cycle(carried)]
 fn add_carried(
@@ -144,10 +158,7 @@ fn add_carried(
                 Ok(())
             }
         }
-        Form::Call(callee, _) => {
-            let slot = sum(scope.results, u64::from(callee.0))?;
-            add_slot(slot, behind, slots)
-        }
+        Form::Call(callee, _) => add_result(scope, *callee, behind, slots),
     }
 }
 

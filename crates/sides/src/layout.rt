@@ -65,10 +65,7 @@ impl Layout {
 }
 
 /// A program's slots, and where those of each object begin.
-pub(crate) fn lay_out(
-    alloc: Global,
-    t: &Typed,
-) -> Result<(Layout, Vec<SlotInfo>), AllocError>
+pub(crate) fn lay_out(alloc: Global, t: &Typed) -> Result<(Layout, Vec<SlotInfo>), AllocError>
     ensures layout { IfOk result (λ p. IsLayout (view_typed t.now) p.0) }
     ensures slots { IfOk result (λ p. p.1.items ≡ slots_of (view_typed t.now)) }
 {

@@ -97,7 +97,16 @@ fn add_behind(
     for field in fields {
         path.push(number)?;
         let under = is_under(marked, field);
-        add_behind(alloc, structs, owner, struct_of(field.ty), inner, under, path, slots)?;
+        add_behind(
+            alloc,
+            structs,
+            owner,
+            struct_of(field.ty),
+            inner,
+            under,
+            path,
+            slots,
+        )?;
         path.pop();
         number = next_number(number)?;
     }
@@ -116,5 +125,14 @@ pub(crate) fn add_leaves(
 {
     let mut path = Vec::new(alloc);
     let bound = structs.len();
-    add_behind(alloc, structs, owner, struct_of(ty), bound, false, &mut path, slots)
+    add_behind(
+        alloc,
+        structs,
+        owner,
+        struct_of(ty),
+        bound,
+        false,
+        &mut path,
+        slots,
+    )
 }

@@ -30,7 +30,6 @@ pub use halves::{Sides, place};
 pub use layout::Layout;
 pub use leaf_table::LeafTable;
 pub use objects::Object;
-pub use outs::Out;
 pub use scope::Scope;
 pub use slots::{Owner, SlotInfo};
 pub use usage::{How, Usage};

@@ -1,5 +1,5 @@
 // What comes back from privileged functions through their parameters.
-ghost use Rattle.std.specs.Prelude.{◌≡◌, ◌+◌, [], ◌∷◌, Some, IfOk, OnOk, map, slice_get};
+ghost use Rattle.std.specs.Prelude.{◌≡◌, ◌+◌, [], ◌∷◌, None, Some, IfOk, IsTrue, OnOk, get_or, map, slice_get, slice_set};
 ghost use Rattle.std.specs.List.{filter, range_with_len};
 ghost use Rattle.typed_tree.specs.TypedTree.{view_function};
 ghost use Rattle.typed_tree.specs.TypedView.{view_typed};
@@ -115,12 +115,7 @@ fn add_leaf(
 }
 
 // adds the slots behind a start that come back secret to a set
-fn add_behind(
-    out: Out,
-    slots: &[SlotInfo],
-    start: u64,
-    table: &mut [bool],
-) -> Result<(), AllocError>
+fn add_all(out: Out, slots: &[SlotInfo], start: u64, table: &mut [bool]) -> Result<(), AllocError>
     ensures { OnOk result (table.new ≡ set_all table.old (outs.behind_start slots.now out start)) }
 {
     for leaf in 0..out.count {
@@ -129,17 +124,69 @@ fn add_behind(
     Ok(())
 }
 
-/// Adds the slots behind these starts that come back secret to a set.
+// whether they are the same parameter
+fn is_same(a: Out, b: Out) -> bool
+    ensures { IsTrue result → a ≡ b }
+{
+    a.first == b.first && a.count == b.count && a.all == b.all
+}
+
+// whether this parameter is the last one of which slots behind a start were added
+fn is_last(last: &[Option<Out>], start: u64, out: Out) -> bool
+    ensures { IsTrue result → get_or last.now start None ≡ Some out }
+{
+    match last.get(start as usize) {
+        Some(Some(known)) => is_same(*known, out),
+        Some(None) | None => false,
+    }
+}
+
+// this parameter is the last one of which slots behind a start were added
+fn set_last(last: &mut Vec<Option<Out>>, start: u64, out: Out)
+    ensures { last.new.items ≡ slice_set last.old.items start (Some out) }
+{
+    let index = start as usize;
+    if index < last.len() {
+        last[index] = Some(out);
+    }
+}
+
+// the same, if they weren't the last ones that were added there
+fn add_behind(
+    out: Out,
+    slots: &[SlotInfo],
+    start: u64,
+    table: &mut [bool],
+    last: &mut Vec<Option<Out>>,
+) -> Result<(), AllocError>
+    requires { outs.Remembers slots.now table.old last.old.items }
+    ensures table { OnOk result (table.new ≡ set_all table.old (outs.behind_start slots.now out start)) }
+    ensures last { OnOk result (outs.Remembers slots.now table.new last.new.items) }
+{
+    if is_last(last, start, out) {
+        return Ok(());
+    }
+    add_all(out, slots, start, table)?;
+    set_last(last, start, out);
+    Ok(())
+}
+
+/// Adds the slots behind these starts that come back secret to a set. `last` remembers for each slot
+/// of which parameter slots were added behind it last, so that calls with the same argument cost no more
+/// than the first.
 pub(crate) fn add_sealed(
     out: Out,
     slots: &[SlotInfo],
     starts: &[u64],
     table: &mut [bool],
+    last: &mut Vec<Option<Out>>,
 ) -> Result<(), AllocError>
-    ensures { OnOk result (table.new ≡ set_all table.old (outs.behind_out slots.now (Some out) starts.now)) }
+    requires { outs.Remembers slots.now table.old last.old.items }
+    ensures table { OnOk result (table.new ≡ set_all table.old (outs.behind_out slots.now (Some out) starts.now)) }
+    ensures last { OnOk result (outs.Remembers slots.now table.new last.new.items) }
 {
     for start in starts {
-        add_behind(out, slots, *start, table)?;
+        add_behind(out, slots, *start, table, last)?;
     }
     Ok(())
 }

@@ -55,12 +55,7 @@ fn add_named(e: &TypedExpr, table: &mut [bool])
 }
 
 // adds the globals that the body of a function names to a set
-fn add_globals(
-    alloc: Global,
-    t: &Typed,
-    f: FnId,
-    table: &mut [bool],
-) -> Result<(), AllocError>
+fn add_globals(alloc: Global, t: &Typed, f: FnId, table: &mut [bool]) -> Result<(), AllocError>
     ensures { OnOk result (table.new ≡ set_all table.old (marking.global_numbers (view_typed t.now) f)) }
 {
     let usages = usages_in(alloc, t, f)?;

@@ -1,11 +1,12 @@
 // Where secrets begin in the slave's code.
-ghost use Rattle.std.specs.Prelude.{◌≡◌, IfOk, OnOk};
+ghost use Rattle.std.specs.Prelude.{◌≡◌, None, IfOk, OnOk, replicate};
 ghost use Rattle.pt_base.specs.declared.ids.FnId.{FnId};
 ghost use Rattle.typed_tree.specs.ExpressionTree.{view_expr};
 ghost use Rattle.typed_tree.specs.TypedView.{view_typed};
 ghost use Rattle.sides.specs.Carried.{scope_of};
 ghost use Rattle.sides.specs.Layouts.{IsLayout};
 ghost use Rattle.sides.specs.Marking as marking;
+ghost use Rattle.sides.specs.Outs.{Remembers};
 ghost use Rattle.sides.specs.ScopeView.{view_scope};
 ghost use Rattle.sides.specs.Seeds as is;
 ghost use Rattle.sides.specs.Slots.{slots_of};
@@ -15,7 +16,7 @@ use crate::bodies::usages_in;
 use crate::carried::carried_slots;
 use crate::layout::Layout;
 use crate::marks::marked_slots;
-use crate::outs::{add_sealed, out_param};
+use crate::outs::{Out, add_sealed, out_param};
 use crate::scope::Scope;
 use crate::slots::SlotInfo;
 use crate::usage::{How, Usage};
@@ -33,17 +34,20 @@ fn add_usage(
     scope: &Scope<'_>,
     usage: &Usage<'_>,
     table: &mut [bool],
+    last: &mut Vec<Option<Out>>,
 ) -> Result<(), AllocError>
     requires layout { IsLayout (view_typed t.now) layout.now }
     requires slots { slots.now ≡ slots_of (view_typed t.now) }
-    ensures { (f : FnId) → view_scope scope.now ≡ scope_of (view_typed t.now) f.0 →
+    requires last { Remembers slots.now table.old last.old.items }
+    ensures last { OnOk result (Remembers slots.now table.new last.new.items) }
+    ensures table { (f : FnId) → view_scope scope.now ≡ scope_of (view_typed t.now) f.0 →
         OnOk result (table.new ≡ set_all table.old (is.usage_sealed (view_typed t.now) f usage.now.how (view_expr usage.now.value.now))) }
 {
     if let How::Passed(callee, number) = usage.how
         && let Some(out) = out_param(t, layout, callee, number)
     {
         let starts = carried_slots(alloc, scope, usage.value)?;
-        add_sealed(out, slots, &starts, table)?;
+        add_sealed(out, slots, &starts, table, last)?;
     }
     Ok(())
 }
@@ -56,18 +60,29 @@ fn add_body(
     slots: &[SlotInfo],
     f: FnId,
     table: &mut [bool],
+    last: &mut Vec<Option<Out>>,
 ) -> Result<(), AllocError>
     requires layout { IsLayout (view_typed t.now) layout.now }
     requires slots { slots.now ≡ slots_of (view_typed t.now) }
-    ensures { OnOk result (table.new ≡ set_all table.old (is.sealed_in (view_typed t.now) f)) }
+    requires last { Remembers slots.now table.old last.old.items }
+    ensures last { OnOk result (Remembers slots.now table.new last.new.items) }
+    ensures table { OnOk result (table.new ≡ set_all table.old (is.sealed_in (view_typed t.now) f)) }
 {
     let scope = layout.scope(t, f);
     let usages = usages_in(alloc, t, f)?;
     let list = usages.as_slice();
     for usage in list {
-        add_usage(alloc, t, layout, slots, &scope, usage, table)?;
+        add_usage(alloc, t, layout, slots, &scope, usage, table, last)?;
     }
     Ok(())
+}
+
+// behind none of so many slots anything was added yet
+fn nothing_added(alloc: Global, slots: usize) -> Result<Vec<Option<Out>>, AllocError>
+    ensures { IfOk result (λ v. v.items ≡ replicate slots None) }
+{
+    let last = vec![in alloc; None; slots]?;
+    Ok(last)
 }
 
 /// For each slot, whether secrets begin there, where these are the slave's functions.
@@ -84,8 +99,9 @@ pub(crate) fn seed_table(
     ensures { IfOk result (λ v. v.items ≡ marking.seed_table (view_typed t.now) in_slave.now slots.now functions.now) }
 {
     let mut table = marked_slots(alloc, t, in_slave, slots)?;
+    let mut last = nothing_added(alloc, slots.len())?;
     for f in functions {
-        add_body(alloc, t, layout, slots, *f, &mut table)?;
+        add_body(alloc, t, layout, slots, *f, &mut table, &mut last)?;
     }
     Ok(table)
 }

@@ -16,7 +16,11 @@ pub(crate) fn set_true(table: &mut [bool], number: usize)
 }
 
 /// Appends the item where the truth holds.
-pub(crate) fn add_if<T: Copy + Drop>(truth: bool, item: T, list: &mut Vec<T>) -> Result<(), AllocError>
+pub(crate) fn add_if<T: Copy + Drop>(
+    truth: bool,
+    item: T,
+    list: &mut Vec<T>,
+) -> Result<(), AllocError>
     ensures { OnOk result (list.new.items ≡ list.old.items ++ item_if truth item) }
 {
     if truth {

@@ -90,7 +90,8 @@ pub(crate) fn field(structs: &[StructInfo], ty: Option<VarTy>, field: u32) -> Op
 {
     match ty {
         Some(VarTy::Struct(n)) => field_of(structs, n, field),
-        Some(VarTy::Int(_)) | Some(VarTy::Array { .. }) | Some(VarTy::Pointer { .. }) | None => None,
+        Some(VarTy::Int(_)) | Some(VarTy::Array { .. }) | Some(VarTy::Pointer { .. }) | None =>
+            None,
     }
 }
 
@@ -116,7 +117,8 @@ fn is_struct(ty: Option<VarTy>) -> bool
 {
     match ty {
         Some(VarTy::Struct(_)) => true,
-        Some(VarTy::Int(_)) | Some(VarTy::Array { .. }) | Some(VarTy::Pointer { .. }) | None => false,
+        Some(VarTy::Int(_)) | Some(VarTy::Array { .. }) | Some(VarTy::Pointer { .. }) | None =>
+            false,
     }
 }
 

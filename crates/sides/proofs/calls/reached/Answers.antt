@@ -1,4 +1,4 @@
-use Rattle.std.proofs.Common.{◌≡◌, ◌∙◌, ◌↔◌, ℕ, Option, Some, arith, codes, length, subst}
+use Rattle.std.proofs.Common.{◌≡◌, ◌∙◌, ◌↔◌, Option, Some, arith, codes, length, subst}
 use Rattle.std.proofs.lemmas.List.{length-map}
 use Rattle.pt_base.specs.declared.ids.FnId.{FnId}
 use Rattle.typed_tree.specs.Lookup.{HasName}

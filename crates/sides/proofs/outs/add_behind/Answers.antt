@@ -1,6 +1,9 @@
-use Rattle.sides.specs.Outs.{is_back}
-use Rattle.sides.proofs.WalkLemmas.{leaf_on}
+use Rattle.std.proofs.Common.{◌∙◌, None, ap, get_or, sym}
+use Rattle.sides.proofs.LastLemmas.{remembers_on}
 use Rattle.sides.proofs.outs.add_behind.Goals as goal
 
-pub loop-leaf-preserved : goal.loop-leaf-preserved
-loop-leaf-preserved c = leaf_on (is_back c.args.out.all c.args.out.first c.args.slots.now) c.args.start _ c.args.out.count _ _ _ c.loop-leaf-test.true c.in_ok-add_leaf.ensures c.loop-leaf.invariant
+pub returns-then-is_last-clause-table : goal.returns-then-is_last-clause-table
+returns-then-is_last-clause-table c = sym (c.requires c.args.start c.args.out (ap (λ xs. get_or xs c.args.start None) (sym c.deref.ensures.value) ∙ c.is_last.ensures c.if-is_last.true))
+
+pub returns-clause-last : goal.returns-clause-last
+returns-clause-last c = remembers_on c.args.slots.now c.args.out c.args.start _ _ _ _ c.requires c.in_ok-add_all.ensures c.set_last.ensures

@@ -1,5 +1,4 @@
 use Rattle.std.proofs.Common.{◌∙◌, ap}
-use Rattle.typed_tree.specs.declared.types.VarTy.{VarTy}
 use Rattle.sides.specs.LeafTables.{type_count}
 use Rattle.sides.proofs.LeafLemmas.{counts_alike}
 use Rattle.sides.proofs.leaf_table.LeafTable.count.Goals as goal
