@@ -6,3 +6,4 @@ pub mod KeptItems
 pub mod MoveView
 pub mod Moves
 pub mod Targets
+pub mod Within

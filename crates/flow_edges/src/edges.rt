@@ -1,11 +1,12 @@
 // The edges of a function.
-ghost use Rattle.std.specs.Prelude.{◌≡◌, ◌≤◌, ◌^◌, ◌<◌, ◌++◌, IfOk, MatchOption, OnOk, is_some, length};
+ghost use Rattle.std.specs.Prelude.{◌≡◌, ◌≤◌, ◌^◌, ◌<◌, ◌++◌, All, IfOk, MatchOption, OnOk, is_some, length};
 ghost use Rattle.sides.specs.Carried.{scope_of};
 ghost use Rattle.sides.specs.Layouts.{IsLayout};
 ghost use Rattle.sides.specs.Leaves.{leaf_count};
 ghost use Rattle.sides.specs.Leaves as leaves;
 ghost use Rattle.sides.specs.Placed.{AreSides};
 ghost use Rattle.sides.specs.ScopeView.{view_scope};
+ghost use Rattle.sides.specs.Slots.{slots_of};
 ghost use Rattle.sides.specs.UsageView.{view_usage};
 ghost use Rattle.typed_tree.specs.ExpressionTree.{view_expr};
 ghost use Rattle.typed_tree.specs.TypeTests.{pointee_of};
@@ -21,6 +22,7 @@ use crate::kept_items::KeptItems;
 use crate::list::EdgeList;
 use crate::moves::Move;
 use crate::targets::target_slot;
+use crate::within::are_within;
 use pt_base::{Edge, FnId, Listed};
 use sides::{Layout, Scope, Sides, Usage, carried_slots, usages_in};
 use std::alloc::{AllocError, Global};
@@ -175,7 +177,8 @@ fn body_edges(
 /// The edges of a function, in the order of the text and, in an expression, of evaluation: of each value
 /// that moves leaf by leaf, from each slot that it carries to its target, and back where it is a pointer.
 /// None of a function that the slave doesn't run. More than [`MOST_EDGES`](crate::MOST_EDGES) edges of this
-/// function are want of memory; those of all functions together are the caller's to count.
+/// function are want of memory; those of all functions together are the caller's to count. A typed program
+/// carries its own slots alone, which no clause says: an edge to any other would be want of memory too.
 ///
 /// Time and memory are linear in what the body evaluates and in the edges.
 pub fn edges_of(
@@ -188,9 +191,15 @@ pub fn edges_of(
     requires sides { AreSides (view_typed t.now) sides.now }
     ensures edges { IfOk result (λ es. AreEdges (view_typed t.now) f es) }
     ensures few { IfOk result (λ es. length es ≤ 2 ^ 26) }
+    ensures froms { IfOk result (λ es. All (λ e. e.from.0 < length (slots_of (view_typed t.now))) es) }
+    ensures tos { IfOk result (λ es. All (λ e. e.to.0 < length (slots_of (view_typed t.now))) es) }
 {
     if !sides.in_slave[f.0 as usize] {
         return Ok(Listed::new(Vec::new(alloc)));
     }
-    body_edges(alloc, t, &sides.layout, f)
+    let edges = body_edges(alloc, t, &sides.layout, f)?;
+    if !are_within(edges.as_slice(), sides.slots.as_slice().len() as u64) {
+        return Err(AllocError);
+    }
+    Ok(edges)
 }

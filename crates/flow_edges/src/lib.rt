@@ -9,6 +9,7 @@ mod list;
 mod moves;
 mod slot_numbers;
 mod targets;
+mod within;
 
 pub use edges::edges_of;
 pub use list::MOST_EDGES;
