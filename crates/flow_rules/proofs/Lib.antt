@@ -1,2 +1,3 @@
 mod FlowLemmas
-mod Worked
+mod Ways
+pub mod Worked

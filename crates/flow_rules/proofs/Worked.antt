@@ -28,7 +28,7 @@ use Rattle.flow_rules.specs.Secrets.{Flows}
 
 -- ---- short ways to write programs
 
-abbrev fn : ℕ → FnId
+abbrev pub fn : ℕ → FnId
 fn f = record { 0 = f }
 
 -- a variable whose name stands here
@@ -42,7 +42,7 @@ abbrev points : Bool → Param
 points declassify = record { kind = k.Ptr (el.Int i.Int) false; marked = false; declassify = declassify }
 
 -- the slots that are true here are privileged
-abbrev flows : TypedTree → List FnId → List FnId → List Bool → Flows
+abbrev pub flows : TypedTree → List FnId → List FnId → List Bool → Flows
 flows tree slave monitor secret = record { tree = tree; slave = slave; monitor = monitor; is_priv = λ n. get_or secret n false }
 
 -- ---- __attribute__((priv)) int load(int n);
@@ -144,7 +144,7 @@ unmarked_faults = refl
 -- int main(void) { int a; get(&a); return a; }
 -- n 0, p 1, a 2; the results of load 3, of get 4, of main 5
 
-abbrev status : TypedTree
+abbrev pub status : TypedTree
 status = record {
   structs = [];
   globals = [];
@@ -160,7 +160,7 @@ status_edges : flat_map (edges_in status) (fn 1 ∷ fn 2 ∷ []) ≡ edge 63 70 
 unfolding edges_in usages_in leaves_of
 status_edges = refl
 
-status_faults : findings_of (flows status (fn 1 ∷ fn 2 ∷ []) [] (false ∷ true ∷ true ∷ true ∷ false ∷ true ∷ []))
+pub status_faults : findings_of (flows status (fn 1 ∷ fn 2 ∷ []) [] (false ∷ true ∷ true ∷ true ∷ false ∷ true ∷ []))
     ≡ finding PrivStatus (span 114 115) (2 ∷ []) ∷ []
 unfolding findings_of usages_in leaves_of
 status_faults = refl
