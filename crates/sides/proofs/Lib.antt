@@ -9,6 +9,7 @@ pub mod MovedLemmas
 pub mod PlaceLemmas
 pub mod ReachLemmas
 pub mod SeedLemmas
+pub mod StandLemmas
 pub mod TableLemmas
 pub mod UsageLemmas
 pub mod WalkLemmas

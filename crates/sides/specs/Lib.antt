@@ -1,6 +1,7 @@
 pub mod CallGraph
 pub mod Carried
 pub mod Contexts
+pub mod Laws
 pub mod Layouts
 pub mod LeafTables
 pub mod Leaves
