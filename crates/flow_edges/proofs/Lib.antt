@@ -1,0 +1,4 @@
+mod DistinctLemmas
+mod ItemLemmas
+mod MoveLemmas
+pub mod Worked

@@ -1,0 +1,92 @@
+// The edges of a value that moves.
+ghost use Rattle.std.specs.Prelude.{◌≡◌, ◌*◌, ◌++◌, IfSome, OnOk, if◌then◌else◌, length};
+ghost use Rattle.flow_edges.specs.MoveView.{view_move};
+ghost use Rattle.flow_edges.specs.Moves.{edges_between, edges_from, leaf_edges, move_edges};
+
+use crate::list::EdgeList;
+use crate::slot_numbers::behind;
+use pt_base::Span;
+use std::alloc::AllocError;
+
+/// A value that moves: from the slots that it carries to others, each by that of its first leaf.
+#[derive(Drop)]
+pub(crate) struct Move {
+    pub from: Vec<u64>,
+    pub to: Vec<u64>,
+    pub leaves: u64,
+    /// It is a pointer: what it points to may move back too.
+    pub back: bool,
+    pub span: Span,
+}
+
+impl Move {
+    // from one slot to another, and then back
+    fn add_between(&self, from: u64, to: u64, edges: &mut EdgeList) -> Result<(), AllocError>
+        ensures { OnOk result (edges.new.edges.items ≡ edges.old.edges.items ++ edges_between (view_move self.now) from to) }
+    {
+        edges.add(self.span, from, to)?;
+        if self.back {
+            edges.add(self.span, to, from)?;
+        }
+        Ok(())
+    }
+
+    // from a leaf of what begins at this slot
+    fn add_from(&self, leaf: u64, from: u64, edges: &mut EdgeList) -> Result<(), AllocError>
+        ensures { OnOk result (edges.new.edges.items ≡ edges.old.edges.items ++ edges_from (view_move self.now) leaf from) }
+    {
+        let source = behind(from, leaf)?;
+        for to in &self.to {
+            let target = behind(*to, leaf)?;
+            self.add_between(source, target, edges)?;
+        }
+        Ok(())
+    }
+
+    // of one leaf
+    fn add_leaf(&self, leaf: u64, edges: &mut EdgeList) -> Result<(), AllocError>
+        ensures { OnOk result (edges.new.edges.items ≡ edges.old.edges.items ++ leaf_edges (view_move self.now) leaf) }
+    {
+        for from in &self.from {
+            self.add_from(leaf, *from, edges)?;
+        }
+        Ok(())
+    }
+
+    // leaf by leaf
+    fn add_leaves(&self, edges: &mut EdgeList) -> Result<(), AllocError>
+        ensures { OnOk result (edges.new.edges.items ≡ edges.old.edges.items ++ move_edges (view_move self.now)) }
+    {
+        for leaf in 0..self.leaves {
+            self.add_leaf(leaf, edges)?;
+        }
+        Ok(())
+    }
+
+    // how many edges it has, if 64 bits can say it
+    fn count(&self) -> Option<u64>
+        ensures { IfSome result (λ n. n ≡ length self.now.from.items * length self.now.to.items * self.now.leaves * (if self.now.back then 2 else 1)) }
+    {
+        let pairs = (self.from.len() as u64).checked_mul(self.to.len() as u64)?;
+        let ways = pairs.checked_mul(self.leaves)?;
+        if self.back {
+            ways.checked_mul(2)
+        } else {
+            Some(ways)
+        }
+    }
+
+    /// Adds its edges, if there is room for them all. A value that carries nothing has none, however
+    /// many leaves it has.
+    pub fn add_to(&self, edges: &mut EdgeList) -> Result<(), AllocError>
+        ensures { OnOk result (edges.new.edges.items ≡ edges.old.edges.items ++ move_edges (view_move self.now)) }
+    {
+        if self.from.is_empty() || self.to.is_empty() {
+            return Ok(());
+        }
+        if !edges.has_room(self.count()) {
+            return Err(AllocError);
+        }
+        self.add_leaves(edges)
+    }
+}

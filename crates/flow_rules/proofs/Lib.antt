@@ -1,0 +1,3 @@
+mod FlowLemmas
+mod Ways
+pub mod Worked

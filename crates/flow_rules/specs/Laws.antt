@@ -1,0 +1,15 @@
+-- What holds of faults.
+use Rattle.std.specs.Prelude.{length}
+use Rattle.propagation.specs.Marks.{AreMarks, Shown}
+use Rattle.sides.specs.declared.halves.Sides.{Sides}
+use Rattle.sides.specs.Placed.{AreSides}
+use Rattle.sides.specs.Slots.{slots_of}
+use Rattle.typed_tree.specs.TypedTree.{TypedTree}
+use Rattle.flow_rules.specs.Faults.{AreFlows, edges_of_all, flows_of}
+
+-- What the rules look at is the program's own: the functions that calls reach, and the slots to which a path
+-- of edges leads from a seed.
+abbrev pub FlowsAreOwn : Type 0
+FlowsAreOwn = (t : TypedTree) (s : Sides) (marks : Shown) →
+    AreSides t s → AreMarks s.seeds (edges_of_all t s) (length (slots_of t)) marks →
+    AreFlows t s.seeds (edges_of_all t s) (flows_of t s marks)
