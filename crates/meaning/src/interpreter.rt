@@ -166,7 +166,7 @@ impl<'a> Machine<'a> {
             }
             Stmt::Loop { body, .. } => return begin(body, active, state),
             Stmt::Break => past_loop(&mut active.work),
-            Stmt::Continue => to_head(&mut active.work)?,
+            Stmt::Continue => to_head(&mut active.work),
             Stmt::Return { value } => return returned(value, active.code, &state.memory),
         }
         Ok(Next::Goes)
@@ -348,24 +348,17 @@ fn begin<'a>(
     Ok(Next::Goes)
 }
 
-// Control goes on behind the innermost loop.
-fn past_loop(work: &mut Vec<Work<'_>>) {
-    while let Some(last) = work.pop() {
-        if let Work::Head(_) = last {
-            return;
-        }
+// Control goes to the head of the innermost loop.
+fn to_head(work: &mut Vec<Work<'_>>) {
+    while let Some(Work::Run(_)) = work.last() {
+        let _done = work.pop();
     }
 }
 
-// Control goes back to the head of the innermost loop.
-fn to_head(work: &mut Vec<Work<'_>>) -> Result<(), Stop> {
-    while let Some(last) = work.pop() {
-        if let Work::Head(body) = last {
-            work.push(Work::Head(body))?;
-            return Ok(());
-        }
-    }
-    Ok(())
+// Control goes on behind the innermost loop.
+fn past_loop(work: &mut Vec<Work<'_>>) {
+    to_head(work);
+    let _head = work.pop();
 }
 
 // The place is found, then the value goes there.
