@@ -350,7 +350,10 @@ fn begin<'a>(
 
 // Control goes to the head of the innermost loop.
 fn to_head(work: &mut Vec<Work<'_>>) {
-    while let Some(Work::Run(_)) = work.last() {
+    for _ in 0..work.len() {
+        let Some(Work::Run(_)) = work.last() else {
+            return;
+        };
         let _done = work.pop();
     }
 }
