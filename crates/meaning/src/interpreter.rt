@@ -98,7 +98,8 @@ fn status(given: Option<Cell>) -> i32 {
 }
 
 impl<'a> Machine<'a> {
-    // Main is entered, and steps are made until it has returned: what it gives.
+    // Main is entered, and steps are made until it has returned: what it gives. Main counts as no
+    // privileged function.
     fn main_result(self, state: &mut State) -> Result<Option<Cell>, Stop> {
         let mut active = Vec::new(self.alloc);
         active.push(self.entered(self.main()?, 1, false, None, &[], state)?)?;
@@ -233,7 +234,8 @@ impl<'a> Machine<'a> {
             store(into, active.code, answer.map(Cell::Int), state);
             return Ok(Next::Goes);
         }
-        let callee = self.entered(f, depth, active.privileged, into, values, state)?;
+        let privileged = active.privileged || signature.privileged;
+        let callee = self.entered(f, depth, privileged, into, values, state)?;
         Ok(Next::Enters(callee))
     }
 
@@ -271,7 +273,7 @@ impl<'a> Machine<'a> {
                 depth,
             },
             signature,
-            privileged: privileged || signature.privileged,
+            privileged,
             into,
             work,
         })
