@@ -1,6 +1,6 @@
 -- Texts of which only the first bytes were read, one more than a text may have, come to what the whole
 -- texts come to.
-use Rattle.std.proofs.Common.{◌≡◌, ◌≢◌, ◌≤◌, ◌<◌, ◌⊎◌, ℕ, Bool, true, false, List, [], ◌∷◌, length, min, nat_lt, take, refl, sym, ◌∙◌, ap, subst, inl, inr, arith, true≢false}
+use Rattle.std.proofs.Common.{◌≡◌, ◌≢◌, ◌≤◌, ◌<◌, ℕ, Bool, true, false, List, [], length, min, nat_lt, take, refl, ◌∙◌, ap, subst, inl, inr, arith}
 use Rattle.std.proofs.lemmas.List.{length-take, take_all}
 use Rattle.std.proofs.lemmas.Bool.Decides.{nat_tests}
 use Rattle.pt_tree.specs.declared.signature.Signature.{Signature}
@@ -12,7 +12,7 @@ use Rattle.host_table.specs.HostFaults.{host_faults}
 use Rattle.host_table.specs.Hosts.{Hosts}
 use Rattle.host_table.specs.RunHosts.{models_of}
 use Rattle.source_meaning.specs.WholeRun.{whole_run}
-use Rattle.original.specs.Original.{Texts, most, Refusal, lex, parse, types, host, input, GivesHosts, AreRead, Outcome, refused, ran, ComesTo, AreCut, CutsAreEnough}
+use Rattle.original.specs.Original.{Texts, most, lex, parse, types, host, input, GivesHosts, AreRead, refused, ran, AreCut, CutsAreEnough}
 
 -- a text that is short where it is cut is whole
 short_cut : (whole cut : List ℕ) → cut ≡ take 1048577 whole → length cut ≤ most → cut ≡ whole
@@ -72,11 +72,15 @@ cut_whole whole cut turns (refused input) is comes =
     (comes.0, comes.1, read_whole whole cut comes.0 comes.1 is comes.2, long_cut whole.input cut.input is.input comes.3)
 cut_whole whole cut turns (ran bytes end) is comes =
     let run = comes.1 in
-    let same : cut.input ≡ whole.input = short_cut whole.input cut.input is.input run.short in
-    (comes.0, record {
-      tree = run.tree;
-      hosts = run.hosts;
-      read = read_whole whole cut run.tree run.hosts is run.read;
-      short = subst (λ xs. length xs ≤ most) same run.short;
-      is = run.is ∙ ap (λ xs. whole_run run.tree (models_of run.hosts.models) xs turns) same;
-    }, comes.2, comes.3)
+    let same : cut.input ≡ whole.input = short_cut whole.input cut.input is.input run.short in (
+      comes.0,
+      record {
+        tree = run.tree;
+        hosts = run.hosts;
+        read = read_whole whole cut run.tree run.hosts is run.read;
+        short = subst (λ xs. length xs ≤ most) same run.short;
+        is = run.is ∙ ap (λ xs. whole_run run.tree (models_of run.hosts.models) xs turns) same;
+      },
+      comes.2,
+      comes.3,
+    )

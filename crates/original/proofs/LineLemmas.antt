@@ -1,5 +1,5 @@
 -- The lines that answers hold are those of the texts' faults.
-use Rattle.std.proofs.Common.{◌≡◌, ◌≢◌, ℕ, List, [], Option, Some, None, Result, Err, refl, ◌∙◌, ap, subst}
+use Rattle.std.proofs.Common.{◌≡◌, ◌≢◌, ℕ, List, [], Some, None, Result, Err, ◌∙◌, ap, subst}
 use Rattle.pt_tree.specs.declared.signature.Signature.{Signature}
 use Rattle.typed_tree.specs.TypedTree.{TypedTree, signatures_of}
 use Rattle.front_end.specs.declared.error.FrontError.{FrontError}

@@ -1,5 +1,5 @@
 -- Texts come to one outcome at most.
-use Rattle.std.proofs.Common.{◌≡◌, ◌≢◌, ◌≤◌, ◌<◌, ◌⊎◌, ℕ, List, [], length, Option, Some, refl, sym, ◌∙◌, ap, subst, inl, inr, arith}
+use Rattle.std.proofs.Common.{◌≡◌, ◌≢◌, ◌≤◌, ◌<◌, ◌⊎◌, ℕ, [], length, Some, refl, sym, ◌∙◌, ap, subst, inl, inr, arith}
 use Rattle.typed_tree.specs.TypedTree.{TypedTree, signatures_of}
 use Rattle.front_end.specs.Reading.{Reading, typed_tree, lex_fault, parse_fault, type_faults_of, ComesTo as ReadsAs}
 use Rattle.front_end.proofs.OneReading.{reading_is_one}
@@ -8,7 +8,7 @@ use Rattle.host_table.specs.Hosts.{Hosts}
 use Rattle.host_table.specs.RunHosts.{models_of}
 use Rattle.runs.specs.Run.{Run, written}
 use Rattle.source_meaning.specs.WholeRun.{whole_run}
-use Rattle.original.specs.Original.{Texts, most, Refusal, lex, parse, types, host, input, GivesHosts, Outcome, refused, ran, ComesTo, OutcomeIsOne}
+use Rattle.original.specs.Original.{Texts, most, lex, parse, types, host, input, GivesHosts, Outcome, refused, ran, ComesTo, OutcomeIsOne}
 
 abbrev seen_of : Run → Outcome
 seen_of run = ran (written run.events) run.end
@@ -50,8 +50,11 @@ read t turns (refused input) is =
     record { reading = typed_tree is.0; is = is.2.program; after = inr (is.1, is.2.table, inl (is.3, refl)) }
 read t turns (ran bytes end) is =
     let run = is.0 in
-    record { reading = typed_tree is.1.tree; is = is.1.read.program;
-      after = inr (is.1.hosts, is.1.read.table, inr (is.1.short, (λ k. ran (is.2 k) (is.3 k)) ∙ ap seen_of is.1.is)) }
+    record {
+      reading = typed_tree is.1.tree;
+      is = is.1.read.program;
+      after = inr (is.1.hosts, is.1.read.table, inr (is.1.short, (λ k. ran (is.2 k) (is.3 k)) ∙ ap seen_of is.1.is));
+    }
 
 some_is : (a b : Hosts) → Some a ≡ Some b → a ≡ b
 some_is a b e = cc

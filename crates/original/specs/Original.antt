@@ -1,5 +1,5 @@
 -- What a program comes to with its host table and its input, within a budget of turns.
-use Rattle.std.specs.Prelude.{◌≡◌, ◌≢◌, ◌≤◌, ◌<◌, ℕ, List, [], length, take, Option, Some, option_map}
+use Rattle.std.specs.Prelude.{◌≡◌, ◌≢◌, ◌≤◌, ◌<◌, ℕ, List, [], length, take, Some, option_map}
 use Rattle.pt_base.specs.declared.end.End.{End}
 use Rattle.c_lexer.specs.declared.error.LexFault.{LexFault}
 use Rattle.check_declarations.specs.declared.fault.TypeFault.{TypeFault}

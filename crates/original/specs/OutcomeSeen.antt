@@ -1,5 +1,5 @@
 -- What contracts see of an answer.
-use Rattle.std.specs.Prelude.{◌≡◌, ℕ, List, ⊤}
+use Rattle.std.specs.Prelude.{◌≡◌, ℕ, List}
 use Rattle.pt_base.specs.declared.end.End.{End}
 use Rattle.pt_base.specs.declared.end.End.TheVariants as e
 use Rattle.runs.specs.Run.{Run, written}

@@ -1,11 +1,11 @@
 -- What a call comes to that writes a text of its own, or that can't read a file.
-use Rattle.std.proofs.Common.{◌≡◌, ◌⊎◌, ℕ, List, [], false, refl, sym, subst, Option, Some, None, inl, inr}
+use Rattle.std.proofs.Common.{◌⊎◌, ℕ, List, refl, sym, subst, Option, Some, None, inl, inr}
 use Rattle.std.specs.Io.KnownBytes.{Appends, Keeps}
 use Rattle.pt_base.specs.Faults.{Rose}
 use Rattle.pt_base.specs.Files.{Files, Lacks}
 use Rattle.pt_base.specs.Told.{AppendsPart}
 use Rattle.privtrans_app.specs.Words.{IsRun}
-use Rattle.privtrans_app.specs.Ending.{Ending, help, version, exit, usage, missing, read_fault, write_fault, not_built, faults, trapped, spent, memory, is_silent, Puts}
+use Rattle.privtrans_app.specs.Ending.{Ending, help, version, exit, usage, missing, read_fault, write_fault, not_built, faults, trapped, spent, memory, Puts}
 use Rattle.privtrans_app.specs.Held.{IsReached}
 use Rattle.privtrans_app.specs.Causes.{Expects, WritesPart, ComesTo}
 use Rattle.privtrans_app.specs.Reading.{IsReadRefusal, IsRefusal}
@@ -59,9 +59,3 @@ pub run_comes : (given : List (List ℕ)) (files : Option Files) (reads reads' :
     → Expects given files bytes done → Puts o o' writes writes' bytes done came → ComesTo given files reads reads' o o' writes writes' came
 run_comes given files reads reads' o o' writes writes' bytes done came whole expects puts =
     put_comes given files reads reads' o o' writes writes' bytes done came whole (λ part. inr (inr (inr (bytes, done, expects, part)))) puts
-
--- who writes isn't silent
-pub put_is_loud : (o o' : Option (List ℕ)) (writes writes' : ℕ) (text : List ℕ) (done came : Ending) → is_silent done ≡ false → Puts o o' writes writes' text done came → is_silent came ≡ false
-put_is_loud o o' writes writes' text done came loud (inl is) = subst (λ e. is_silent e ≡ false) (sym is.0) loud
-put_is_loud o o' writes writes' text done came loud (inr (inl is)) = subst (λ e. is_silent e ≡ false) (sym is.0) refl
-put_is_loud o o' writes writes' text done came loud (inr (inr is)) = subst (λ e. is_silent e ≡ false) (sym is.0) refl

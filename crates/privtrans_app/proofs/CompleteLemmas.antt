@@ -1,5 +1,5 @@
 -- Where no count of faults rose, a call has the status of its words and files.
-use Rattle.std.proofs.Common.{◌≡◌, ◌⊎◌, ℕ, List, [], ◌∷◌, ◌++◌, length, get_or, refl, sym, ◌∙◌, ap, subst, arith, Option, Some, None, inl, inr}
+use Rattle.std.proofs.Common.{◌≡◌, ◌⊎◌, ℕ, List, [], ◌∷◌, ◌++◌, length, get_or, sym, ◌∙◌, ap, subst, arith, Option, Some, None, inl, inr}
 use Rattle.pt_base.specs.Faults.{Rose}
 use Rattle.pt_base.specs.Files.{Files, Lacks}
 use Rattle.original.specs.Original as original
@@ -9,7 +9,6 @@ use Rattle.privtrans_app.specs.EarlyInput.{Texts, IsBuilt, IsNotBuilt}
 use Rattle.privtrans_app.specs.Ending.{Ending, help, version, exit, usage, missing, read_fault, write_fault, not_built, faults, trapped, spent, memory, status_of, Reports, StaysDown, EndsWith}
 use Rattle.privtrans_app.specs.Held.{IsHeld, AllHeld, IsReached}
 use Rattle.privtrans_app.specs.LocalRun.{AreHeld, Refuses}
-use Rattle.privtrans_app.specs.LocalRun as local
 use Rattle.privtrans_app.specs.OrigRun as orig
 use Rattle.privtrans_app.specs.Causes.{Expects, ComesTo, IsByForm, IsByFiles}
 use Rattle.privtrans_app.proofs.LocalLemmas.{same_held}

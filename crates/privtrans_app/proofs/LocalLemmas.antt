@@ -1,8 +1,7 @@
 -- What the files of a run of both halves come to.
-use Rattle.std.proofs.Common.{◌≡◌, ◌≤◌, ℕ, List, [], ◌∷◌, get_or, refl, sym, ◌∙◌, ap, subst, arith, Option, Some, None, inl, pos}
+use Rattle.std.proofs.Common.{◌≡◌, ◌≤◌, ℕ, List, [], ◌∷◌, get_or, refl, sym, ◌∙◌, ap, arith, Option, Some, None, inl, pos}
 use Rattle.std.specs.Prelude.{codes}
 use Rattle.std.specs.Fmt.{decimal}
-use Rattle.std.specs.Io.KnownBytes.{Appends}
 use Rattle.std.proofs.lemmas.Fmt.{decimal_injective}
 use Rattle.pt_base.specs.Files.{Files}
 use Rattle.privtrans_app.specs.Words.{IsLocal, IsRun, of_local}
@@ -10,9 +9,9 @@ use Rattle.privtrans_app.specs.EarlyInput.{Texts, IsBuilt, IsNotBuilt}
 use Rattle.privtrans_app.specs.Ending.{Ending, exit, Puts}
 use Rattle.privtrans_app.specs.LocalRun.{AreHeld, Expects, Refuses}
 use Rattle.privtrans_app.specs.Causes.{ComesTo}
-use Rattle.privtrans_app.specs.Reading.{IsRefusal, AreFirst, local_names}
+use Rattle.privtrans_app.specs.Reading.{AreFirst, local_names}
 use Rattle.privtrans_app.specs.declared.words.LocalWords.{LocalWords}
-use Rattle.privtrans_app.proofs.CauseLemmas.{refusal_comes, run_comes}
+use Rattle.privtrans_app.proofs.CauseLemmas.{run_comes}
 use Rattle.privtrans_app.proofs.EarlyInputLemmas.{CutOf, built_whole, not_built_whole}
 
 -- the words name these files

@@ -12,8 +12,8 @@ use Rattle.original.specs.Original.{Texts, Outcome, refused, ran, AreCut}
 use Rattle.original.specs.OutcomeSeen.{AreLinesOf}
 use Rattle.original.proofs.Cuts.{cut_whole}
 use Rattle.privtrans_app.specs.Words.{IsOrig, IsRun, of_orig}
-use Rattle.privtrans_app.specs.Ending.{Ending, exit, faults, trapped, spent, Puts}
-use Rattle.privtrans_app.specs.OrigRun.{AreHeld, EndsAs, IsEnding, ComesTo, Gives}
+use Rattle.privtrans_app.specs.Ending.{Ending, faults, Puts}
+use Rattle.privtrans_app.specs.OrigRun.{AreHeld, EndsAs, IsEnding, ComesTo}
 use Rattle.privtrans_app.specs.Causes as causes
 use Rattle.privtrans_app.specs.Reading.{AreOrigFirst, orig_names}
 use Rattle.privtrans_app.specs.declared.words.OrigWords.{OrigWords}

@@ -172,12 +172,7 @@ fn local_form<'a>(
     }))
 }
 
-fn orig_form<'a>(
-    program: &'a str,
-    host: &'a str,
-    input: &'a str,
-    turns: &str,
-) -> Option<Form<'a>>
+fn orig_form<'a>(program: &'a str, host: &'a str, input: &'a str, turns: &str) -> Option<Form<'a>>
     ensures { MatchOption result
         (IsNoForm (codes "orig" ∷ program.now ∷ host.now ∷ input.now ∷ turns.now ∷ []))
         (IsForm (codes "orig" ∷ program.now ∷ host.now ∷ input.now ∷ turns.now ∷ [])) }

@@ -1,11 +1,9 @@
-use Rattle.std.proofs.Common.{◌≡◌, ℕ, ap, subst, sym, ◌∙◌, IfOk}
-use Rattle.pt_base.specs.declared.end.End.{End}
+use Rattle.std.proofs.Common.{ap, subst, sym, ◌∙◌, IfOk}
 use Rattle.runs.specs.Run.{Run}
 use Rattle.runs.specs.State.{Hosts}
 use Rattle.host_table.specs.Hosts.{hosts_of}
 use Rattle.source_meaning.specs.WholeRun.{whole_run}
 use Rattle.typed_tree.specs.TypedView.{view_typed}
-use Rattle.evaluator.specs.Seen.{view_run}
 use Rattle.original.specs.OutcomeSeen.{IsUnrefused, IsSeen}
 use Rattle.original.proofs.RunLemmas.{never_refused, same_models}
 use Rattle.original.proofs.running.run.Goals as goal

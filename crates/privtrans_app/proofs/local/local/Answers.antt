@@ -29,4 +29,4 @@ returns-clause-ending g c = λ given form.
     built_comes given c.args.words.now (g.F.Folder.files c.args.folder.now) cut (g.F.Folder.read_faults c.args.folder.now) (g.F.Folder.read_faults c.read_texts.new.folder)
     o o' (g.K.Sink.faults c.args.out.now) (g.K.Sink.faults c.put.new.out) bytes c.in-Exits.status (ending_seen c.put.result) form c.in-Ok.ensures.texts built
     (subst (λ (e : Ending). Puts o o' (g.K.Sink.faults c.args.out.now) (g.K.Sink.faults c.put.new.out) bytes e (ending_seen c.put.result)) c.exit_of.ensures
-      (subst (λ (bs : List ℕ). Puts o o' (g.K.Sink.faults c.args.out.now) (g.K.Sink.faults c.put.new.out) bs (ending_seen c.exit_of.result) (ending_seen c.put.result)) c.deref.ensures.value c.put.ensures.ending))
+    (subst (λ (bs : List ℕ). Puts o o' (g.K.Sink.faults c.args.out.now) (g.K.Sink.faults c.put.new.out) bs (ending_seen c.exit_of.result) (ending_seen c.put.result)) c.deref.ensures.value c.put.ensures.ending))

@@ -30,7 +30,10 @@ returns-in_err-host-clause-refusal g c =
     let f0 : Option Files = g.F.Folder.files c.args.folder.now in
     let f1 : Option Files = g.F.Folder.files c.read_text.new.folder in
     rw is (record {
-      before = c.args.words.now.program.now ∷ []; name = c.args.words.now.host.now; after = _; are = refl;
+      before = c.args.words.now.program.now ∷ [];
+      name = c.args.words.now.host.now;
+      after = _;
+      are = refl;
       held = (gives_held f0 c.args.words.now.program.now 1048577 c.in_ok-program.program.items c.in_ok-program.ensures.content, tt);
       is = refusal_since f0 f1 c.args.words.now.host.now _ _ _ _ c.in_ok-program.ensures.same c.in_ok-program.ensures.later c.in_err-host.ensures.later c.in_err-host.ensures.refusal;
     })
@@ -44,11 +47,16 @@ returns-in_err-policy-clause-refusal g c =
     let one : SameFiles f0 f1 = c.in_ok-program.ensures.same in
     let two : SameFiles f0 f2 = same_trans f0 f1 f2 one c.in_ok-host.ensures.same in
     rw is (record {
-      before = c.args.words.now.program.now ∷ c.args.words.now.host.now ∷ []; name = c.args.words.now.policy.now; after = _; are = refl;
+      before = c.args.words.now.program.now ∷ c.args.words.now.host.now ∷ [];
+      name = c.args.words.now.policy.now;
+      after = _;
+      are = refl;
       held = (
         gives_held f0 c.args.words.now.program.now 1048577 c.in_ok-program.program.items c.in_ok-program.ensures.content,
-        (gives_held f0 c.args.words.now.host.now 1048577 c.in_ok-host.host.items (gives_same f0 f1 c.args.words.now.host.now 1048577 c.in_ok-host.host.items one c.in_ok-host.ensures.content),
-        tt),
+        (
+          gives_held f0 c.args.words.now.host.now 1048577 c.in_ok-host.host.items (gives_same f0 f1 c.args.words.now.host.now 1048577 c.in_ok-host.host.items one c.in_ok-host.ensures.content),
+          tt,
+        ),
       );
       is = refusal_since f0 f2 c.args.words.now.policy.now _ _ _ _ two (omega (arith, c.in_ok-program.ensures.later, c.in_ok-host.ensures.later)) c.in_err-policy.ensures.later c.in_err-policy.ensures.refusal;
     })
@@ -64,12 +72,19 @@ returns-in_err-input-clause-refusal g c =
     let two : SameFiles f0 f2 = same_trans f0 f1 f2 one c.in_ok-host.ensures.same in
     let three : SameFiles f0 f3 = same_trans f0 f2 f3 two c.in_ok-policy.ensures.same in
     rw is (record {
-      before = c.args.words.now.program.now ∷ c.args.words.now.host.now ∷ c.args.words.now.policy.now ∷ []; name = c.args.words.now.input.now; after = []; are = refl;
+      before = c.args.words.now.program.now ∷ c.args.words.now.host.now ∷ c.args.words.now.policy.now ∷ [];
+      name = c.args.words.now.input.now;
+      after = [];
+      are = refl;
       held = (
         gives_held f0 c.args.words.now.program.now 1048577 c.in_ok-program.program.items c.in_ok-program.ensures.content,
-        (gives_held f0 c.args.words.now.host.now 1048577 c.in_ok-host.host.items (gives_same f0 f1 c.args.words.now.host.now 1048577 c.in_ok-host.host.items one c.in_ok-host.ensures.content),
-        (gives_held f0 c.args.words.now.policy.now 1048577 c.in_ok-policy.policy.items (gives_same f0 f2 c.args.words.now.policy.now 1048577 c.in_ok-policy.policy.items two c.in_ok-policy.ensures.content),
-        tt)),
+        (
+          gives_held f0 c.args.words.now.host.now 1048577 c.in_ok-host.host.items (gives_same f0 f1 c.args.words.now.host.now 1048577 c.in_ok-host.host.items one c.in_ok-host.ensures.content),
+          (
+            gives_held f0 c.args.words.now.policy.now 1048577 c.in_ok-policy.policy.items (gives_same f0 f2 c.args.words.now.policy.now 1048577 c.in_ok-policy.policy.items two c.in_ok-policy.ensures.content),
+            tt,
+          ),
+        ),
       );
       is = refusal_since f0 f3 c.args.words.now.input.now _ _ _ _ three (omega (arith, c.in_ok-program.ensures.later, c.in_ok-host.ensures.later, c.in_ok-policy.ensures.later)) c.in_err-input.ensures.later c.in_err-input.ensures.refusal;
     })
