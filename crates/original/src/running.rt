@@ -22,7 +22,8 @@ pub(crate) fn run(
     hosts: Host,
     turns: u32,
 ) -> Result<Outcome, AllocError>
-    ensures { IfOk result (IsSeen (whole_run (view_typed program.now) (models_of (hosts_of hosts).models) (hosts_of hosts).input turns)) }
+    ensures { IfOk result
+        (IsSeen (whole_run (view_typed program.now) (models_of (hosts_of hosts).models) (hosts_of hosts).input turns)) }
 {
     seen(alloc, evaluator::run(alloc, program, hosts, turns)?)
 }

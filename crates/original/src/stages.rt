@@ -64,7 +64,9 @@ fn with_hosts(
     input: &[u8],
     turns: u32,
 ) -> Result<Outcome, AllocError>
-    ensures { (t : Texts) → HasTypedTree t.program (view_typed program.now) → GivesHosts t.host (view_typed program.now) (hosts_of hosts) → t.input ≡ input.now → IfOk result (IsOutcome t turns) }
+    ensures { (t : Texts) → HasTypedTree t.program (view_typed program.now)
+        → GivesHosts t.host (view_typed program.now) (hosts_of hosts) → t.input ≡ input.now
+        → IfOk result (IsOutcome t turns) }
 {
     if input.len() > INPUT_LIMIT {
         return Ok(Outcome::Refused(Vec::from_slice(alloc, b"input 1 TooLong\n")?));

@@ -59,6 +59,8 @@ pub record IsByForm (words : List (List ℕ)) (status : ℕ) : Type 0 where
 -- texts come to.
 pub record IsByFiles (words : List (List ℕ)) (files : Files) (status : ℕ) : Type 0 where
   pub missing : (name : List ℕ) → IsReached words (Some files) name → files name ≡ None → EndsWith status 2
-  pub built : (t : early.Texts) (turns window : ℕ) (bytes : List ℕ) (s : ℕ) → local.AreHeld words (Some files) t turns window → IsBuilt t turns bytes s → EndsWith status 0
+  pub built : (t : early.Texts) (turns window : ℕ) (bytes : List ℕ) (s : ℕ)
+      → local.AreHeld words (Some files) t turns window → IsBuilt t turns bytes s → EndsWith status 0
   pub not_built : (t : early.Texts) (turns window : ℕ) → local.AreHeld words (Some files) t turns window → IsNotBuilt t turns → EndsWith status 5
-  pub original : (t : original.Texts) (turns : ℕ) (o : original.Outcome) (e : Ending) → orig.AreHeld words (Some files) t turns → original.ComesTo t turns o → orig.IsEnding o e → EndsWith status (status_of e)
+  pub original : (t : original.Texts) (turns : ℕ) (o : original.Outcome) (e : Ending)
+      → orig.AreHeld words (Some files) t turns → original.ComesTo t turns o → orig.IsEnding o e → EndsWith status (status_of e)

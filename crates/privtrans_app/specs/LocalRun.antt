@@ -20,7 +20,8 @@ pub record AreHeld (words : List (List ℕ)) (files : Option Files) (t : Texts) 
 -- the files hold texts of which these bytes and this ending are expected
 abbrev pub Expects : List (List ℕ) → Option Files → List ℕ → Ending → Type 0
 Expects words files bytes e =
-    (t : Texts) × (turns : ℕ) × (window : ℕ) × (status : ℕ) × AreHeld words files t turns window × IsBuilt t turns bytes status × (e ≡ exit (pos status))
+    (t : Texts) × (turns : ℕ) × (window : ℕ) × (status : ℕ)
+    × AreHeld words files t turns window × IsBuilt t turns bytes status × (e ≡ exit (pos status))
 
 -- the files hold texts that aren't early
 abbrev pub Refuses : List (List ℕ) → Option Files → Type 0
