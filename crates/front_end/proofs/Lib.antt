@@ -1,2 +1,2 @@
 mod SortedFaults
-mod OneReading
+pub mod OneReading

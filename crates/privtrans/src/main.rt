@@ -9,10 +9,14 @@ use privtrans_app::privtrans;
 use pt_base::{Alternate, FnId, ScriptLink, Sink, SinkFault, Watch};
 use sink::RealSink;
 use std::alloc::{AllocError, Global};
-use std::io::ErrorKind;
+use std::io::{ErrorKind, Write};
 use std::process::ExitCode;
-use std::rt::Env;
+use std::rt::{Env, Files};
+use std::thread::{Builder, Threads};
 use std::{env, io};
+
+/// Work goes as deep as trees and calls do, so it gets this many bytes of stack.
+const STACK: usize = 1 << 30;
 
 // Is told of the front end's work, and does nothing.
 struct Silent;
@@ -52,22 +56,27 @@ fn no_words<E: Sink>(alloc: Global, report: &mut E, fault: &io::Error) -> u8 {
     }
 }
 
-fn main(rt: HostRuntime) -> ExitCode {
+// Does what the words ask for, and gives the status that the program ends with.
+fn work<R: Env + Files + Threads + AllocGlobal + Sync, O: Write + Drop, E: Write + Drop>(
+    rt: &R,
+    out: O,
+    report: E,
+) -> u8 {
     let alloc = rt.alloc();
-    let mut report = RealSink::new(rt.stderr());
-    let words = match words(&rt, alloc) {
+    let mut report = RealSink::new(report);
+    let words = match words(rt, alloc) {
         Ok(words) => words,
-        Err(fault) => return ExitCode::from(no_words(alloc, &mut report, &fault)),
+        Err(fault) => return no_words(alloc, &mut report, &fault),
     };
     let Ok(texts) = texts(alloc, &words) else {
-        return ExitCode::from(12);
+        return 12;
     };
-    let mut folder = RealFolder::new(&rt);
-    let mut out = RealSink::new(rt.stdout());
+    let mut folder = RealFolder::new(rt);
+    let mut out = RealSink::new(out);
     let mut spawner = ScriptLink::new(alloc, Vec::new(alloc), Vec::new(alloc));
     let mut chooser = Alternate::new();
-    ExitCode::from(privtrans(
-        &rt,
+    privtrans(
+        rt,
         alloc,
         &texts,
         &mut folder,
@@ -76,5 +85,16 @@ fn main(rt: HostRuntime) -> ExitCode {
         &mut spawner,
         &mut chooser,
         &Silent,
-    ))
+    )
+}
+
+// The work is done in a thread with room for it, or here where none can be started.
+fn main(rt: HostRuntime) -> ExitCode {
+    let started = Builder::new()
+        .stack_size(STACK)
+        .spawn(&rt, move || work(&rt, rt.stdout(), rt.stderr()));
+    ExitCode::from(match started {
+        Ok(thread) => thread.join(&rt),
+        Err(_) => work(&rt, rt.stdout(), rt.stderr()),
+    })
 }

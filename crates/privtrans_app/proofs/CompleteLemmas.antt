@@ -1,17 +1,24 @@
 -- Where no count of faults rose, a call has the status of its words and files.
-use Rattle.std.proofs.Common.{◌≡◌, ◌⊎◌, ℕ, List, [], length, get_or, sym, ◌∙◌, ap, subst, arith, Option, Some, None, inl, inr}
+use Rattle.std.proofs.Common.{◌≡◌, ◌⊎◌, ℕ, List, [], ◌∷◌, ◌++◌, length, get_or, sym, ◌∙◌, ap, subst, arith, Option, Some, None, inl, inr}
 use Rattle.pt_base.specs.Faults.{Rose}
 use Rattle.pt_base.specs.Files.{Files, Lacks}
-use Rattle.privtrans_app.specs.Words.{IsHelp, IsVersion, IsLocal, IsNoForm}
+use Rattle.original.specs.Original as original
+use Rattle.original.proofs.OneOutcome.{outcome_is_one}
+use Rattle.privtrans_app.specs.Words.{IsHelp, IsVersion, IsLocal, IsOrig, IsNoForm, IsRun, of_local, of_orig}
 use Rattle.privtrans_app.specs.EarlyInput.{Texts, IsBuilt, IsNotBuilt}
-use Rattle.privtrans_app.specs.Ending.{Ending, help, version, exit, usage, missing, read_fault, write_fault, not_built, memory, status_of, IsHeld, IsReached, AreHeld, Expects, Refuses, ComesTo, Reports, StaysDown, EndsWith, IsByForm, IsByFiles}
+use Rattle.privtrans_app.specs.Ending.{Ending, help, version, exit, usage, missing, read_fault, write_fault, not_built, faults, trapped, spent, memory, status_of, Reports, StaysDown, EndsWith}
+use Rattle.privtrans_app.specs.Held.{IsHeld, AllHeld, IsReached}
+use Rattle.privtrans_app.specs.LocalRun.{AreHeld, Refuses}
+use Rattle.privtrans_app.specs.OrigRun as orig
+use Rattle.privtrans_app.specs.Causes.{Expects, ComesTo, IsByForm, IsByFiles}
 use Rattle.privtrans_app.proofs.LocalLemmas.{same_held}
+use Rattle.privtrans_app.proofs.OrigLemmas.{same_orig, same_ending}
 
 -- a call whose report was written has the status of its ending, or 12
-told : (e : Ending) (report report' : Option (List ℕ)) (faults faults' status : ℕ) → Reports e report report' faults faults' status → StaysDown faults faults' → EndsWith status (status_of e)
-told e report report' faults faults' status (inl is) down = inl is.0
-told e report report' faults faults' status (inr (inl is)) down = absurd (down is.2)
-told e report report' faults faults' status (inr (inr is)) down = inr is.0
+told : (e : Ending) (report report' : Option (List ℕ)) (failed failed' status : ℕ) → Reports e report report' failed failed' status → StaysDown failed failed' → EndsWith status (status_of e)
+told e report report' failed failed' status (inl is) down = inl is.0
+told e report report' failed failed' status (inr (inl is)) down = absurd (down is.2)
+told e report report' failed failed' status (inr (inr is)) down = inr is.0
 
 -- want of memory is one of two statuses anywhere
 memory_of : (status n : ℕ) → EndsWith status 12 → EndsWith status n
@@ -20,46 +27,113 @@ memory_of status n (inr is) = inr is
 
 -- ---- words of two forms
 
-seven : (words : List (List ℕ)) (p h q i : List ℕ) (m w : ℕ) → IsLocal words p h q i m w → length words ≡ 7
-seven words p h q i m w form = ap length form.are
-
 one_of_help : (words : List (List ℕ)) → IsHelp words → length words ≡ 1
 one_of_help words (inl is) = ap length is
 one_of_help words (inr is) = ap length is
 
+one_or_five : (n : ℕ) → n ≡ 1 → n ≡ 5 → ⊥
+one_or_five n a b = omega arith
+
 one_or_seven : (n : ℕ) → n ≡ 1 → n ≡ 7 → ⊥
 one_or_seven n a b = omega arith
 
-no_help : (words : List (List ℕ)) (p h q i : List ℕ) (m w : ℕ) → IsLocal words p h q i m w → IsHelp words → ⊥
-no_help words p h q i m w form is = one_or_seven (length words) (one_of_help words is) (seven words p h q i m w form)
+five_or_seven : (n : ℕ) → n ≡ 5 → n ≡ 7 → ⊥
+five_or_seven n a b = omega arith
 
-no_version : (words : List (List ℕ)) (p h q i : List ℕ) (m w : ℕ) → IsLocal words p h q i m w → IsVersion words → ⊥
-no_version words p h q i m w form is = one_or_seven (length words) (ap length is) (seven words p h q i m w form)
+-- the words of a run aren't one
+more_than_one : (words names : List (List ℕ)) → IsRun words names → length words ≡ 1 → ⊥
+more_than_one words _ (of_local p h q i m w form) one = one_or_seven (length words) one (ap length form.are)
+more_than_one words _ (of_orig p h i m form) one = one_or_five (length words) one (ap length form.are)
+
+no_help : (words names : List (List ℕ)) → IsRun words names → IsHelp words → ⊥
+no_help words names run is = more_than_one words names run (one_of_help words is)
+
+no_version : (words names : List (List ℕ)) → IsRun words names → IsVersion words → ⊥
+no_version words names run is = more_than_one words names run (ap length is)
+
+two_runs : {p h q i p' h' i' : List ℕ} {m w m' : ℕ} (words : List (List ℕ)) → IsLocal words p h q i m w → IsOrig words p' h' i' m' → ⊥
+two_runs words a b = five_or_seven (length words) (ap length b.are) (ap length a.are)
+
+form_runs : (words names : List (List ℕ)) → IsNoForm words → IsRun words names → ⊥
+form_runs words _ none (of_local p h q i m w form) = none.no_local p h q i m w form
+form_runs words _ none (of_orig p h i m form) = none.no_orig p h i m form
+
+-- the words name one list of files
+abbrev four : List ℕ → List ℕ → List ℕ → List ℕ → List (List ℕ)
+four p h q i = p ∷ h ∷ q ∷ i ∷ []
+
+abbrev three : List ℕ → List ℕ → List ℕ → List (List ℕ)
+three p h i = p ∷ h ∷ i ∷ []
+
+word : (words words' : List (List ℕ)) (n : ℕ) → words ≡ words' → get_or words n [] ≡ get_or words' n []
+word words words' n same = ap (λ xs. get_or xs n []) same
+
+same_names : (words names names' : List (List ℕ)) → IsRun words names → IsRun words names' → names ≡ names'
+same_names words _ _ (of_local p h q i m w a) (of_local p' h' q' i' m' w' b) =
+    let same = sym a.are ∙ b.are in λ k. four (word _ _ 1 same k) (word _ _ 2 same k) (word _ _ 3 same k) (word _ _ 4 same k)
+same_names words _ _ (of_local p h q i m w a) (of_orig p' h' i' m' b) = absurd (two_runs words a b)
+same_names words _ _ (of_orig p h i m a) (of_local p' h' q' i' m' w' b) = absurd (two_runs words b a)
+same_names words _ _ (of_orig p h i m a) (of_orig p' h' i' m' b) =
+    let same = sym a.are ∙ b.are in λ k. three (word _ _ 1 same k) (word _ _ 2 same k) (word _ _ 3 same k)
 
 -- ---- files that are held
 
 some_none : (x : List ℕ) (o : Option (List ℕ)) → o ≡ Some x → o ≡ None → ⊥
 some_none x o a b = cc
 
+held_within : (files : Option Files) (before after : List (List ℕ)) (name : List ℕ) → AllHeld files (before ++ name ∷ after) → IsHeld files name
+held_within files [] after name all = all.0
+held_within files (other ∷ before) after name all = held_within files before after name all.1
+
+-- the words are a run of files that are all held
+record RunsHeld (words : List (List ℕ)) (files : Files) : Type 0 where
+  pub names : List (List ℕ)
+  pub form : IsRun words names
+  pub held : AllHeld (Some files) names
+
 -- a file that the words name is held
-not_lacking : (words : List (List ℕ)) (files : Files) (t : Texts) (turns window : ℕ) (name : List ℕ) → AreHeld words (Some files) t turns window → IsReached words (Some files) name → files name ≡ None → ⊥
-not_lacking words files t turns window name held reached lacks = go reached.is
-  where
-    is_held : (there at file : List ℕ) → name ≡ there → there ≡ at → files at ≡ Some file → ⊥
-    is_held there at file is same has = some_none file (files name) (ap files (is ∙ same) ∙ has) lacks
+not_lacking : (words : List (List ℕ)) (files : Files) (name : List ℕ) → RunsHeld words files → IsReached words (Some files) name → files name ≡ None → ⊥
+not_lacking words files name runs reached lacks =
+    let there : IsHeld (Some files) name = held_within (Some files) reached.before reached.after name
+    (subst (AllHeld (Some files)) (same_names words runs.names (reached.before ++ name ∷ reached.after) runs.form reached.form) runs.held) in
+    some_none there.0 (files name) there.1 lacks
 
-    go : (name ≡ reached.program) ⊎ ((name ≡ reached.host) × IsHeld (Some files) reached.program)
-        ⊎ ((name ≡ reached.policy) × IsHeld (Some files) reached.program × IsHeld (Some files) reached.host)
-        ⊎ ((name ≡ reached.input) × IsHeld (Some files) reached.program × IsHeld (Some files) reached.host × IsHeld (Some files) reached.policy) → ⊥
-    go (inl is) = is_held reached.program held.program_name t.program is (ap (λ xs. get_or xs 1 []) (sym reached.form.are ∙ held.form.are)) held.program
-    go (inr (inl is)) = is_held reached.host held.host_name t.host is.0 (ap (λ xs. get_or xs 2 []) (sym reached.form.are ∙ held.form.are)) held.host
-    go (inr (inr (inl is))) = is_held reached.policy held.policy_name t.policy is.0 (ap (λ xs. get_or xs 3 []) (sym reached.form.are ∙ held.form.are)) held.policy
-    go (inr (inr (inr is))) = is_held reached.input held.input_name t.input is.0 (ap (λ xs. get_or xs 4 []) (sym reached.form.are ∙ held.form.are)) held.input
+local_held : (words : List (List ℕ)) (files : Files) (t : Texts) (turns window : ℕ) → AreHeld words (Some files) t turns window → RunsHeld words files
+local_held words files t turns window held = record {
+  names = four held.program_name held.host_name held.policy_name held.input_name;
+  form = of_local _ _ _ _ _ _ held.form;
+  held = ((t.program, held.program), ((t.host, held.host), ((t.policy, held.policy), ((t.input, held.input), tt))));
+}
 
-built_there : (words : List (List ℕ)) (files : Files) (t : Texts) (turns window : ℕ) (bytes : List ℕ) (s : ℕ) → AreHeld words (Some files) t turns window → Expects words (Some files) bytes s → IsBuilt t turns bytes s
-built_there words files t turns window bytes s held expects =
-    let same = same_held words files expects.0 t expects.1 expects.2 turns window expects.3 held in
-    subst (λ m. IsBuilt t m bytes s) same.1 (subst (λ x. IsBuilt x expects.1 bytes s) same.0 expects.4)
+orig_held : (words : List (List ℕ)) (files : Files) (t : original.Texts) (turns : ℕ) → orig.AreHeld words (Some files) t turns → RunsHeld words files
+orig_held words files t turns held = record {
+  names = three held.program_name held.host_name held.input_name;
+  form = of_orig _ _ _ _ held.form;
+  held = ((t.program, held.program), ((t.host, held.host), ((t.input, held.input), tt)));
+}
+
+-- files of which something is expected
+expected_held : (words : List (List ℕ)) (files : Files) (bytes : List ℕ) (e : Ending) → Expects words (Some files) bytes e → RunsHeld words files
+expected_held words files bytes e (inl is) = local_held words files is.0 is.1 is.2 is.4
+expected_held words files bytes e (inr is) = orig_held words files is.1.0 is.1.1 is.1.2
+
+-- words whose files come to something are a run
+expects_run : (words : List (List ℕ)) (files : Option Files) (bytes : List ℕ) (e : Ending) → Expects words files bytes e → (names : List (List ℕ)) × IsRun words names
+expects_run words files bytes e (inl is) = (_, of_local _ _ _ _ _ _ is.4.form)
+expects_run words files bytes e (inr is) = (_, of_orig _ _ _ _ is.1.2.form)
+
+refuses_run : (words : List (List ℕ)) (files : Option Files) → Refuses words files → (names : List (List ℕ)) × IsRun words names
+refuses_run words files is = (_, of_local _ _ _ _ _ _ is.3.form)
+
+-- ---- what the files hold is one
+
+-- early texts of which something is expected
+built_status : (words : List (List ℕ)) (files : Files) (t : Texts) (turns window : ℕ) (bytes : List ℕ) (e : Ending) → AreHeld words (Some files) t turns window
+    → Expects words (Some files) bytes e → ((s : ℕ) × IsBuilt t turns bytes s) × (status_of e ≡ 0)
+built_status words files t turns window bytes e held (inl is) =
+    let same = same_held words files is.0 t is.1 is.2 turns window is.4 held in
+    ((is.3, subst (λ m. IsBuilt t m bytes is.3) same.1 (subst (λ x. IsBuilt x is.1 bytes is.3) same.0 is.5)), ap status_of is.6)
+built_status words files t turns window bytes e held (inr is) = absurd (two_runs words held.form is.1.2.form)
 
 refused_there : (words : List (List ℕ)) (files : Files) (t : Texts) (turns window : ℕ) → AreHeld words (Some files) t turns window → Refuses words (Some files) → IsNotBuilt t turns
 refused_there words files t turns window held refuses =
@@ -69,98 +143,156 @@ refused_there words files t turns window held refuses =
 not_both : (t : Texts) (turns : ℕ) (bytes : List ℕ) (s : ℕ) → IsBuilt t turns bytes s → IsNotBuilt t turns → ⊥
 not_both t turns bytes s built none = none built.program built.models built.state built.allowed built.early
 
+-- texts of the original have one ending
+original_there : (words : List (List ℕ)) (files : Files) (t : original.Texts) (turns : ℕ) (o : original.Outcome) (e e' : Ending) (bytes : List ℕ) → orig.AreHeld words (Some files) t turns
+    → original.ComesTo t turns o → orig.IsEnding o e → orig.Gives words (Some files) bytes e' → status_of e' ≡ status_of e
+original_there words files t turns o e e' bytes held comes ends gives =
+    let same = same_orig words files gives.1.0 t gives.1.1 turns gives.1.2 held in
+    let there : original.ComesTo t turns gives.0 = subst (λ m. original.ComesTo t m gives.0) same.1 (subst (λ x. original.ComesTo x gives.1.1 gives.0) same.0 gives.1.3) in
+    let one : gives.0 ≡ o = outcome_is_one t turns gives.0 o there comes in
+    ap status_of (same_ending o e' e (subst (λ x. orig.IsEnding x e') one gives.2) ends)
+
+expected_there : (words : List (List ℕ)) (files : Files) (t : original.Texts) (turns : ℕ) (o : original.Outcome) (e e' : Ending) (bytes : List ℕ) → orig.AreHeld words (Some files) t turns
+    → original.ComesTo t turns o → orig.IsEnding o e → Expects words (Some files) bytes e' → status_of e' ≡ status_of e
+expected_there words files t turns o e e' bytes held comes ends (inl is) = absurd (two_runs words is.4.form held.form)
+expected_there words files t turns o e e' bytes held comes ends (inr gives) = original_there words files t turns o e e' bytes held comes ends gives
+
 -- ---- the status of each ending
 
-module _ (words : List (List ℕ)) (reads reads' : ℕ) (o o' : Option (List ℕ)) (writes writes' : ℕ) (report report' : Option (List ℕ)) (faults faults' status : ℕ)
-    (w : StaysDown writes writes') (f : StaysDown faults faults') where
-  ends : (e : Ending) → Reports e report report' faults faults' status → EndsWith status (status_of e)
-  ends e tells = told e report report' faults faults' status tells f
+module _ (words : List (List ℕ)) (reads reads' : ℕ) (o o' : Option (List ℕ)) (writes writes' : ℕ) (report report' : Option (List ℕ)) (failed failed' status : ℕ)
+    (w : StaysDown writes writes') (f : StaysDown failed failed') where
+  abbrev Comes : Option Files → Ending → Type 0
+  Comes files e = ComesTo words files reads reads' o o' writes writes' e
 
-  wants : (n : ℕ) → Reports memory report report' faults faults' status → EndsWith status n
+  abbrev Tells : Ending → Type 0
+  Tells e = Reports e report report' failed failed' status
+
+  ends : (e : Ending) → Tells e → EndsWith status (status_of e)
+  ends e tells = told e report report' failed failed' status tells f
+
+  ends_as : (e : Ending) (n : ℕ) → status_of e ≡ n → Tells e → EndsWith status n
+  ends_as e n is tells = subst (EndsWith status) is (ends e tells)
+
+  wants : (n : ℕ) → Tells memory → EndsWith status n
   wants n tells = memory_of status n (ends memory tells)
 
   -- the help text and the version
-  by_text : (files : Option Files) (e : Ending) → (IsNoForm words → ⊥) → ((p h q i : List ℕ) (m n : ℕ) → IsLocal words p h q i m n → ⊥)
-      → ComesTo words files reads reads' o o' writes writes' e → Reports e report report' faults faults' status → EndsWith status 0
+  by_text : (files : Option Files) (e : Ending) → (IsNoForm words → ⊥) → ((names : List (List ℕ)) → IsRun words names → ⊥) → Comes files e → Tells e → EndsWith status 0
   by_text files help formed no_run comes tells = ends help tells
   by_text files version formed no_run comes tells = ends version tells
   by_text files (exit s) formed no_run comes tells = ends (exit s) tells
   by_text files usage formed no_run comes tells = absurd (formed comes.0)
-  by_text files (missing name) formed no_run comes tells = absurd (no_run _ _ _ _ _ _ comes.0.form)
-  by_text files (read_fault name) formed no_run comes tells = absurd (no_run _ _ _ _ _ _ comes.0.form)
+  by_text files (missing name) formed no_run comes tells = absurd (no_run _ comes.0.form)
+  by_text files (read_fault name) formed no_run comes tells = absurd (no_run _ comes.0.form)
   by_text files write_fault formed no_run comes tells = absurd (w comes.0)
-  by_text files not_built formed no_run comes tells = absurd (no_run _ _ _ _ _ _ comes.0.3.form)
+  by_text files not_built formed no_run comes tells = absurd (let run = refuses_run words files comes.0 in no_run run.0 run.1)
+  by_text files (faults lines) formed no_run comes tells = absurd (let run = expects_run words files [] (faults lines) (inr comes.0) in no_run run.0 run.1)
+  by_text files (trapped trap span) formed no_run comes tells = absurd (let run = expects_run words files comes.0 (trapped trap span) comes.1 in no_run run.0 run.1)
+  by_text files spent formed no_run comes tells = absurd (let run = expects_run words files comes.0 spent comes.1 in no_run run.0 run.1)
   by_text files memory formed no_run comes tells = wants 0 tells
 
   -- words of no form
-  by_usage : (files : Option Files) (e : Ending) → IsNoForm words
-      → ComesTo words files reads reads' o o' writes writes' e → Reports e report report' faults faults' status → EndsWith status 1
-  by_usage files help none comes tells = absurd (none.no_help comes.0)
-  by_usage files version none comes tells = absurd (none.no_version comes.0)
-  by_usage files (exit s) none comes tells = absurd (none.no_local _ _ _ _ _ _ comes.1.3.form)
-  by_usage files usage none comes tells = ends usage tells
-  by_usage files (missing name) none comes tells = absurd (none.no_local _ _ _ _ _ _ comes.0.form)
-  by_usage files (read_fault name) none comes tells = absurd (none.no_local _ _ _ _ _ _ comes.0.form)
-  by_usage files write_fault none comes tells = absurd (w comes.0)
-  by_usage files not_built none comes tells = absurd (none.no_local _ _ _ _ _ _ comes.0.3.form)
-  by_usage files memory none comes tells = wants 1 tells
+  by_usage : (files : Option Files) (e : Ending) → IsNoForm words → ((names : List (List ℕ)) → IsRun words names → ⊥) → Comes files e → Tells e → EndsWith status 1
+  by_usage files help none no_run comes tells = absurd (none.no_help comes.0)
+  by_usage files version none no_run comes tells = absurd (none.no_version comes.0)
+  by_usage files (exit s) none no_run comes tells = absurd (let run = expects_run words files comes.0 (exit s) comes.1 in no_run run.0 run.1)
+  by_usage files usage none no_run comes tells = ends usage tells
+  by_usage files (missing name) none no_run comes tells = absurd (no_run _ comes.0.form)
+  by_usage files (read_fault name) none no_run comes tells = absurd (no_run _ comes.0.form)
+  by_usage files write_fault none no_run comes tells = absurd (w comes.0)
+  by_usage files not_built none no_run comes tells = absurd (let run = refuses_run words files comes.0 in no_run run.0 run.1)
+  by_usage files (faults lines) none no_run comes tells = absurd (let run = expects_run words files [] (faults lines) (inr comes.0) in no_run run.0 run.1)
+  by_usage files (trapped trap span) none no_run comes tells = absurd (let run = expects_run words files comes.0 (trapped trap span) comes.1 in no_run run.0 run.1)
+  by_usage files spent none no_run comes tells = absurd (let run = expects_run words files comes.0 spent comes.1 in no_run run.0 run.1)
+  by_usage files memory none no_run comes tells = wants 1 tells
 
-  pub by_form : (files : Option Files) (e : Ending) → ComesTo words files reads reads' o o' writes writes' e → Reports e report report' faults faults' status → IsByForm words status
+  pub by_form : (files : Option Files) (e : Ending) → Comes files e → Tells e → IsByForm words status
   by_form files e comes tells = record {
-    help = λ is. by_text files e (λ none. none.no_help is) (λ p h q i m n form. no_help words p h q i m n form is) comes tells;
-    version = λ is. by_text files e (λ none. none.no_version is) (λ p h q i m n form. no_version words p h q i m n form is) comes tells;
-    usage = λ none. by_usage files e none comes tells;
+    help = λ is. by_text files e (λ none. none.no_help is) (λ names run. no_help words names run is) comes tells;
+    version = λ is. by_text files e (λ none. none.no_version is) (λ names run. no_version words names run is) comes tells;
+    usage = λ none. by_usage files e none (λ names run. form_runs words names none run) comes tells;
   }
 
   -- a file that isn't held
-  by_lack : (files : Files) (e : Ending) → StaysDown reads reads' → (name : List ℕ) → IsReached words (Some files) name → files name ≡ None
-      → ComesTo words (Some files) reads reads' o o' writes writes' e → Reports e report report' faults faults' status → EndsWith status 2
-  by_lack files help r name reached lacks comes tells = absurd (no_help words _ _ _ _ _ _ reached.form comes.0)
-  by_lack files version r name reached lacks comes tells = absurd (no_version words _ _ _ _ _ _ reached.form comes.0)
-  by_lack files (exit s) r name reached lacks comes tells = absurd (not_lacking words files _ _ _ name comes.1.3 reached lacks)
-  by_lack files usage r name reached lacks comes tells = absurd (comes.0.no_local _ _ _ _ _ _ reached.form)
+  by_lack : (files : Files) (e : Ending) → StaysDown reads reads' → (name : List ℕ) → IsReached words (Some files) name → files name ≡ None → Comes (Some files) e → Tells e → EndsWith status 2
+  by_lack files help r name reached lacks comes tells = absurd (no_help words _ reached.form comes.0)
+  by_lack files version r name reached lacks comes tells = absurd (no_version words _ reached.form comes.0)
+  by_lack files (exit s) r name reached lacks comes tells = absurd (not_lacking words files name (expected_held words files comes.0 (exit s) comes.1) reached lacks)
+  by_lack files usage r name reached lacks comes tells = absurd (form_runs words _ comes.0 reached.form)
   by_lack files (missing n) r name reached lacks comes tells = ends (missing n) tells
   by_lack files (read_fault n) r name reached lacks comes tells = absurd (r comes.1)
   by_lack files write_fault r name reached lacks comes tells = absurd (w comes.0)
-  by_lack files not_built r name reached lacks comes tells = absurd (not_lacking words files _ _ _ name comes.0.3 reached lacks)
+  by_lack files not_built r name reached lacks comes tells = absurd (not_lacking words files name (local_held words files _ _ _ comes.0.3) reached lacks)
+  by_lack files (faults lines) r name reached lacks comes tells = absurd (not_lacking words files name (expected_held words files [] (faults lines) (inr comes.0)) reached lacks)
+  by_lack files (trapped trap span) r name reached lacks comes tells = absurd (not_lacking words files name (expected_held words files comes.0 (trapped trap span) comes.1) reached lacks)
+  by_lack files spent r name reached lacks comes tells = absurd (not_lacking words files name (expected_held words files comes.0 spent comes.1) reached lacks)
   by_lack files memory r name reached lacks comes tells = wants 2 tells
 
   -- files that are held, which is told: none is missing
-  none_missing : (files : Files) (t : Texts) (turns window : ℕ) (name : List ℕ) → StaysDown reads reads' → AreHeld words (Some files) t turns window → IsReached words (Some files) name
-      → Lacks (Some files) name ⊎ Rose reads reads' → ⊥
-  none_missing files t turns window name r held reached (inl lacks) = not_lacking words files t turns window name held reached lacks
-  none_missing files t turns window name r held reached (inr rose) = r rose
+  none_missing : (files : Files) (name : List ℕ) → StaysDown reads reads' → RunsHeld words files → IsReached words (Some files) name → Lacks (Some files) name ⊎ Rose reads reads' → ⊥
+  none_missing files name r held reached (inl lacks) = not_lacking words files name held reached lacks
+  none_missing files name r held reached (inr rose) = r rose
 
-  -- texts of which something is expected
+  -- early texts of which something is expected
   by_built : (files : Files) (e : Ending) → StaysDown reads reads' → (t : Texts) (turns window : ℕ) (bytes : List ℕ) (s : ℕ) → AreHeld words (Some files) t turns window → IsBuilt t turns bytes s
-      → ComesTo words (Some files) reads reads' o o' writes writes' e → Reports e report report' faults faults' status → EndsWith status 0
+      → Comes (Some files) e → Tells e → EndsWith status 0
   by_built files help r t turns window bytes s held built comes tells = ends help tells
   by_built files version r t turns window bytes s held built comes tells = ends version tells
   by_built files (exit k) r t turns window bytes s held built comes tells = ends (exit k) tells
   by_built files usage r t turns window bytes s held built comes tells = absurd (comes.0.no_local _ _ _ _ _ _ held.form)
-  by_built files (missing name) r t turns window bytes s held built comes tells = absurd (none_missing files t turns window name r held comes.0 comes.1)
+  by_built files (missing name) r t turns window bytes s held built comes tells = absurd (none_missing files name r (local_held words files t turns window held) comes.0 comes.1)
   by_built files (read_fault name) r t turns window bytes s held built comes tells = absurd (r comes.1)
   by_built files write_fault r t turns window bytes s held built comes tells = absurd (w comes.0)
   by_built files not_built r t turns window bytes s held built comes tells = absurd (not_both t turns bytes s built (refused_there words files t turns window held comes.0))
+  by_built files (faults lines) r t turns window bytes s held built comes tells = absurd (two_runs words held.form comes.0.1.2.form)
+  by_built files (trapped trap span) r t turns window bytes s held built comes tells =
+      ends_as (trapped trap span) 0 (built_status words files t turns window comes.0 (trapped trap span) held comes.1).1 tells
+  by_built files spent r t turns window bytes s held built comes tells = ends_as spent 0 (built_status words files t turns window comes.0 spent held comes.1).1 tells
   by_built files memory r t turns window bytes s held built comes tells = wants 0 tells
+
+  -- a run of texts that aren't early
+  never_runs : (files : Files) (e : Ending) (t : Texts) (turns window : ℕ) (bytes : List ℕ) → AreHeld words (Some files) t turns window → IsNotBuilt t turns → Expects words (Some files) bytes e → ⊥
+  never_runs files e t turns window bytes held none expects =
+      let built = (built_status words files t turns window bytes e held expects).0 in not_both t turns bytes built.0 built.1 none
 
   -- texts that aren't early
   by_refused : (files : Files) (e : Ending) → StaysDown reads reads' → (t : Texts) (turns window : ℕ) → AreHeld words (Some files) t turns window → IsNotBuilt t turns
-      → ComesTo words (Some files) reads reads' o o' writes writes' e → Reports e report report' faults faults' status → EndsWith status 5
-  by_refused files help r t turns window held none comes tells = absurd (no_help words _ _ _ _ _ _ held.form comes.0)
-  by_refused files version r t turns window held none comes tells = absurd (no_version words _ _ _ _ _ _ held.form comes.0)
-  by_refused files (exit s) r t turns window held none comes tells = absurd (not_both t turns comes.0 s (built_there words files t turns window comes.0 s held comes.1) none)
+      → Comes (Some files) e → Tells e → EndsWith status 5
+  by_refused files help r t turns window held none comes tells = absurd (no_help words _ (of_local _ _ _ _ _ _ held.form) comes.0)
+  by_refused files version r t turns window held none comes tells = absurd (no_version words _ (of_local _ _ _ _ _ _ held.form) comes.0)
+  by_refused files (exit s) r t turns window held none comes tells = absurd (never_runs files (exit s) t turns window comes.0 held none comes.1)
   by_refused files usage r t turns window held none comes tells = absurd (comes.0.no_local _ _ _ _ _ _ held.form)
-  by_refused files (missing name) r t turns window held none comes tells = absurd (none_missing files t turns window name r held comes.0 comes.1)
+  by_refused files (missing name) r t turns window held none comes tells = absurd (none_missing files name r (local_held words files t turns window held) comes.0 comes.1)
   by_refused files (read_fault name) r t turns window held none comes tells = absurd (r comes.1)
   by_refused files write_fault r t turns window held none comes tells = absurd (w comes.0)
   by_refused files not_built r t turns window held none comes tells = ends not_built tells
+  by_refused files (faults lines) r t turns window held none comes tells = ends (faults lines) tells
+  by_refused files (trapped trap span) r t turns window held none comes tells = absurd (never_runs files (trapped trap span) t turns window comes.0 held none comes.1)
+  by_refused files spent r t turns window held none comes tells = absurd (never_runs files spent t turns window comes.0 held none comes.1)
   by_refused files memory r t turns window held none comes tells = wants 5 tells
 
-  pub by_files : (files : Files) (e : Ending) → StaysDown reads reads'
-      → ComesTo words (Some files) reads reads' o o' writes writes' e → Reports e report report' faults faults' status → IsByFiles words files status
+  -- texts of the original
+  by_original : (files : Files) (e : Ending) → StaysDown reads reads' → (t : original.Texts) (turns : ℕ) (out : original.Outcome) (due : Ending) → orig.AreHeld words (Some files) t turns
+      → original.ComesTo t turns out → orig.IsEnding out due → Comes (Some files) e → Tells e → EndsWith status (status_of due)
+  by_original files help r t turns out due held comes is came tells = absurd (no_help words _ (of_orig _ _ _ _ held.form) came.0)
+  by_original files version r t turns out due held comes is came tells = absurd (no_version words _ (of_orig _ _ _ _ held.form) came.0)
+  by_original files (exit s) r t turns out due held comes is came tells = ends_as (exit s) (status_of due) (expected_there words files t turns out due (exit s) came.0 held comes is came.1) tells
+  by_original files usage r t turns out due held comes is came tells = absurd (came.0.no_orig _ _ _ _ held.form)
+  by_original files (missing name) r t turns out due held comes is came tells = absurd (none_missing files name r (orig_held words files t turns held) came.0 came.1)
+  by_original files (read_fault name) r t turns out due held comes is came tells = absurd (r came.1)
+  by_original files write_fault r t turns out due held comes is came tells = absurd (w came.0)
+  by_original files not_built r t turns out due held comes is came tells = absurd (two_runs words came.0.3.form held.form)
+  by_original files (faults lines) r t turns out due held comes is came tells =
+      ends_as (faults lines) (status_of due) (original_there words files t turns out due (faults lines) [] held comes is came.0) tells
+  by_original files (trapped trap span) r t turns out due held comes is came tells =
+      ends_as (trapped trap span) (status_of due) (expected_there words files t turns out due (trapped trap span) came.0 held comes is came.1) tells
+  by_original files spent r t turns out due held comes is came tells = ends_as spent (status_of due) (expected_there words files t turns out due spent came.0 held comes is came.1) tells
+  by_original files memory r t turns out due held comes is came tells = wants (status_of due) tells
+
+  pub by_files : (files : Files) (e : Ending) → StaysDown reads reads' → Comes (Some files) e → Tells e → IsByFiles words files status
   by_files files e r comes tells = record {
     missing = λ name reached lacks. by_lack files e r name reached lacks comes tells;
     built = λ t turns window bytes s held built. by_built files e r t turns window bytes s held built comes tells;
     not_built = λ t turns window held none. by_refused files e r t turns window held none comes tells;
+    original = λ t turns out due held is ends_so. by_original files e r t turns out due held is ends_so comes tells;
   }

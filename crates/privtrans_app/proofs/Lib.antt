@@ -1,3 +1,4 @@
+pub mod CauseLemmas
 pub mod CompleteLemmas
 pub mod EarlyHostLemmas
 pub mod EarlyInputLemmas
@@ -13,6 +14,7 @@ pub mod GrammarLemmas
 pub mod IndexLemmas
 pub mod LocalLemmas
 pub mod LookupLemmas
+pub mod OrigLemmas
 pub mod PairLemmas
 pub mod ReadingLemmas
 pub mod RunLemmas

@@ -1,85 +1,25 @@
--- What the run of files comes to.
-use Rattle.std.proofs.Common.{◌≡◌, ◌⊎◌, ◌≤◌, ℕ, List, [], ◌∷◌, get_or, refl, sym, ◌∙◌, ap, subst, arith, Option, Some, None, inl, inr}
-use Rattle.std.specs.Io.KnownBytes.{Appends, Keeps}
+-- What the files of a run of both halves come to.
+use Rattle.std.proofs.Common.{◌≡◌, ◌≤◌, ℕ, List, [], ◌∷◌, get_or, refl, sym, ◌∙◌, ap, arith, Option, Some, None, inl, pos}
 use Rattle.std.specs.Prelude.{codes}
 use Rattle.std.specs.Fmt.{decimal}
 use Rattle.std.proofs.lemmas.Fmt.{decimal_injective}
-use Rattle.pt_base.specs.Faults.{Rose}
-use Rattle.pt_base.specs.Files.{Files, Lacks}
-use Rattle.pt_base.specs.Told.{AppendsPart}
-use Rattle.privtrans_app.specs.Words.{IsLocal}
+use Rattle.pt_base.specs.Files.{Files}
+use Rattle.privtrans_app.specs.Words.{IsLocal, IsRun, of_local}
 use Rattle.privtrans_app.specs.EarlyInput.{Texts, IsBuilt, IsNotBuilt}
-use Rattle.privtrans_app.specs.Ending.{Ending, help, version, exit, usage, missing, read_fault, write_fault, not_built, memory, IsHeld, IsReached, AreHeld, Expects, Refuses, WritesPart, Puts, ComesTo}
-use Rattle.privtrans_app.specs.Reading.{IsReadRefusal, IsRefusal, AreFirst}
+use Rattle.privtrans_app.specs.Ending.{Ending, exit, Puts}
+use Rattle.privtrans_app.specs.LocalRun.{AreHeld, Expects, Refuses}
+use Rattle.privtrans_app.specs.Causes.{ComesTo}
+use Rattle.privtrans_app.specs.Reading.{AreFirst, local_names}
 use Rattle.privtrans_app.specs.declared.words.LocalWords.{LocalWords}
+use Rattle.privtrans_app.proofs.CauseLemmas.{run_comes}
 use Rattle.privtrans_app.proofs.EarlyInputLemmas.{CutOf, built_whole, not_built_whole}
-
-pub keeps_same : (o : Option (List ℕ)) → Keeps o o
-keeps_same None = tt
-keeps_same (Some xs) = refl
-
--- ---- texts of the tool's own
-
--- what writing a text comes to, where the words ask for that text
-pub put_comes : (words : List (List ℕ)) (files : Option Files) (reads reads' : ℕ) (o o' : Option (List ℕ)) (writes writes' : ℕ) (text : List ℕ) (done came : Ending)
-    → (Appends o o' text → ComesTo words files reads reads' o o' writes writes' done)
-    → (AppendsPart o o' text → WritesPart words files o o')
-    → Puts o o' writes writes' text done came → ComesTo words files reads reads' o o' writes writes' came
-put_comes words files reads reads' o o' writes writes' text done came whole part (inl is) =
-    subst (ComesTo words files reads reads' o o' writes writes') (sym is.0) (whole is.1)
-put_comes words files reads reads' o o' writes writes' text done came whole part (inr (inl is)) =
-    subst (ComesTo words files reads reads' o o' writes writes') (sym is.0) (is.1, part is.2)
-put_comes words files reads reads' o o' writes writes' text done came whole part (inr (inr is)) =
-    subst (ComesTo words files reads reads' o o' writes writes') (sym is.0) (part is.1)
-
--- ---- refusals
-
-read_refusal_comes : (given : List (List ℕ)) (files : Option Files) (reads reads' writes : ℕ) (o : Option (List ℕ)) (name : List ℕ) (e : Ending)
-    → IsReached given files name → IsReadRefusal name files reads reads' e → ComesTo given files reads reads' o o writes writes e
-read_refusal_comes given files reads reads' writes o name help reached is = absurd is
-read_refusal_comes given files reads reads' writes o name version reached is = absurd is
-read_refusal_comes given files reads reads' writes o name (exit status) reached is = absurd is
-read_refusal_comes given files reads reads' writes o name usage reached is = absurd is
-read_refusal_comes given files reads reads' writes o name (missing n) reached is = (subst (IsReached given files) (sym is.0) reached, subst (λ m. Lacks files m ⊎ Rose reads reads') (sym is.0) is.1, keeps_same o)
-read_refusal_comes given files reads reads' writes o name (read_fault n) reached is = (subst (IsReached given files) (sym is.0) reached, is.1, keeps_same o)
-read_refusal_comes given files reads reads' writes o name write_fault reached is = absurd is
-read_refusal_comes given files reads reads' writes o name not_built reached is = absurd is
-read_refusal_comes given files reads reads' writes o name memory reached is = inl (keeps_same o)
 
 -- the words name these files
 abbrev pub Gives : List (List ℕ) → LocalWords → Type 0
 Gives given words = IsLocal given words.program.now words.host.now words.policy.now words.input.now words.turns words.window
 
--- the name is that of one of the files, and those before it are held
-abbrev Comes : Option Files → LocalWords → List ℕ → Type 0
-Comes files words name =
-    (name ≡ words.program.now)
-    ⊎ ((name ≡ words.host.now) × IsHeld files words.program.now)
-    ⊎ ((name ≡ words.policy.now) × IsHeld files words.program.now × IsHeld files words.host.now)
-    ⊎ ((name ≡ words.input.now) × IsHeld files words.program.now × IsHeld files words.host.now × IsHeld files words.policy.now)
-
-reached : (given : List (List ℕ)) (words : LocalWords) (files : Option Files) → Gives given words → (name : List ℕ) → Comes files words name → IsReached given files name
-reached given words files form name is = record {
-  program = words.program.now;
-  host = words.host.now;
-  policy = words.policy.now;
-  input = words.input.now;
-  turns = words.turns;
-  window = words.window;
-  form = form;
-  is = is;
-}
-
-pub refusal_comes : (given : List (List ℕ)) (words : LocalWords) (files : Option Files) (reads reads' writes : ℕ) (o : Option (List ℕ)) (e : Ending)
-    → Gives given words → IsRefusal words files reads reads' e → ComesTo given files reads reads' o o writes writes e
-refusal_comes given words files reads reads' writes o e form (inl is) =
-    read_refusal_comes given files reads reads' writes o words.program.now e (reached given words files form words.program.now (inl refl)) is
-refusal_comes given words files reads reads' writes o e form (inr (inl is)) =
-    read_refusal_comes given files reads reads' writes o words.host.now e (reached given words files form words.host.now (inr (inl (refl, is.0)))) is.1
-refusal_comes given words files reads reads' writes o e form (inr (inr (inl is))) =
-    read_refusal_comes given files reads reads' writes o words.policy.now e (reached given words files form words.policy.now (inr (inr (inl (refl, is.0, is.1))))) is.2
-refusal_comes given words files reads reads' writes o e form (inr (inr (inr is))) =
-    read_refusal_comes given files reads reads' writes o words.input.now e (reached given words files form words.input.now (inr (inr (inr (refl, is.0, is.1, is.2))))) is.3
+pub local_run : (given : List (List ℕ)) (words : LocalWords) → Gives given words → IsRun given (local_names words)
+local_run given words form = of_local _ _ _ _ _ _ form
 
 -- ---- texts that were read
 
@@ -121,11 +61,11 @@ untold given words t form = record {
 }
 
 pub expects_of : (given : List (List ℕ)) (words : LocalWords) (files : Option Files) (cut : Texts) (bytes : List ℕ) (status : ℕ) → Gives given words → AreFirst words files cut
-    → IsBuilt cut words.turns bytes status → Expects given files bytes status
-expects_of given words None cut bytes status form first built = (cut, words.turns, words.window, untold given words cut form, built)
+    → IsBuilt cut words.turns bytes status → Expects given files bytes (exit (pos status))
+expects_of given words None cut bytes status form first built = (cut, words.turns, words.window, status, untold given words cut form, built, refl)
 expects_of given words (Some files) cut bytes status form first built =
     let w = whole_of given words files cut form first in
-    (w.texts, words.turns, words.window, w.held, built_whole w.texts cut words.turns bytes status w.cuts built)
+    (w.texts, words.turns, words.window, status, w.held, built_whole w.texts cut words.turns bytes status w.cuts built, refl)
 
 pub refuses_of : (given : List (List ℕ)) (words : LocalWords) (files : Option Files) (cut : Texts) → Gives given words → AreFirst words files cut → IsNotBuilt cut words.turns → Refuses given files
 refuses_of given words None cut form first never = (cut, words.turns, words.window, untold given words cut form, never)
@@ -159,8 +99,10 @@ same_held given files t t' m w m' w' a b =
     let n : t.input ≡ t'.input = held_at files a.input_name b.input_name t.input t'.input (ap (λ xs. get_or xs 4 []) words) a.input b.input in
     (λ k. record { program = p k; host = h k; policy = q k; input = n k }, same_turns given _ _ _ _ _ _ _ _ m w m' w' a.form b.form)
 
--- a first part of what is expected was written
-pub part_written : (given : List (List ℕ)) (words : LocalWords) (files : Option Files) (cut : Texts) (bytes : List ℕ) (status : ℕ) (o o' : Option (List ℕ)) → Gives given words → AreFirst words files cut
-    → IsBuilt cut words.turns bytes status → AppendsPart o o' bytes → WritesPart given files o o'
-part_written given words files cut bytes status o o' form first built part =
-    inr (inr (inr (bytes, status, expects_of given words files cut bytes status form first built, part)))
+-- what writing the bytes comes to that are expected of texts that were read
+pub built_comes : (given : List (List ℕ)) (words : LocalWords) (files : Option Files) (cut : Texts) (reads reads' : ℕ) (o o' : Option (List ℕ)) (writes writes' : ℕ) (bytes : List ℕ) (status : ℕ) (came : Ending)
+    → Gives given words → AreFirst words files cut → IsBuilt cut words.turns bytes status → Puts o o' writes writes' bytes (exit (pos status)) came
+    → ComesTo given files reads reads' o o' writes writes' came
+built_comes given words files cut reads reads' o o' writes writes' bytes status came form first built puts =
+    let expects = inl (expects_of given words files cut bytes status form first built) in
+    run_comes given files reads reads' o o' writes writes' bytes (exit (pos status)) came (λ whole. (bytes, expects, whole)) expects puts

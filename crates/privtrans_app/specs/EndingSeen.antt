@@ -1,7 +1,7 @@
 -- What a call comes to, as the definitions name it.
-use Rattle.privtrans_app.specs.Ending.{Ending as Seen, help, version, exit, usage, missing, read_fault, write_fault, not_built, memory}
+use Rattle.privtrans_app.specs.Ending.{Ending as Seen, help, version, exit, usage, missing, read_fault, write_fault, not_built, faults, trapped, spent, memory}
 use Rattle.privtrans_app.specs.declared.ending.Ending.{Ending}
-use Rattle.privtrans_app.specs.declared.ending.Ending.TheVariants.{Help, Version, Exit, Usage, Missing, ReadFault, WriteFault, NotBuilt, Memory}
+use Rattle.privtrans_app.specs.declared.ending.Ending.TheVariants.{Help, Version, Exit, Usage, Missing, ReadFault, WriteFault, NotBuilt, Faults, Trapped, Spent, Memory}
 
 abbrev pub ending_seen : Ending → Seen
 ending_seen Help = help
@@ -12,4 +12,7 @@ ending_seen (Missing name) = missing name.now
 ending_seen (ReadFault name) = read_fault name.now
 ending_seen WriteFault = write_fault
 ending_seen NotBuilt = not_built
+ending_seen (Faults lines) = faults lines.items
+ending_seen (Trapped trap span) = trapped trap span
+ending_seen Spent = spent
 ending_seen Memory = memory

@@ -1,3 +1,4 @@
+pub mod Causes
 pub mod EarlyConditions
 pub mod EarlyHosts
 pub mod EarlyInput
@@ -14,11 +15,15 @@ pub mod EarlyTokens
 pub mod EarlyTree
 pub mod Ending
 pub mod EndingSeen
+pub mod Held
 pub mod Help
 pub mod Index
+pub mod LocalRun
 pub mod Lookup
 pub mod Marks
 pub mod Names
+pub mod OrigRun
+pub mod OrigTexts
 pub mod PairView
 pub mod Reading
 pub mod Words

@@ -1,10 +1,13 @@
 -- The files of the words as they are read.
-use Rattle.std.specs.Prelude.{◌≡◌, ◌⊎◌, ℕ, List, ⊤, Option}
+use Rattle.std.specs.Prelude.{◌≡◌, ◌⊎◌, ℕ, List, [], ◌∷◌, ◌++◌, ⊤, Option}
 use Rattle.pt_base.specs.Faults.{Rose}
 use Rattle.pt_base.specs.Files.{Files, Lacks, GivesFirst}
-use Rattle.privtrans_app.specs.Ending.{Ending, help, version, exit, usage, missing, read_fault, write_fault, not_built, memory, IsHeld}
+use Rattle.privtrans_app.specs.Ending.{Ending, help, version, exit, usage, missing, read_fault, write_fault, not_built, faults, trapped, spent, memory}
+use Rattle.privtrans_app.specs.Held.{AllHeld}
 use Rattle.privtrans_app.specs.EarlyInput.{Texts}
+use Rattle.original.specs.Original as original
 use Rattle.privtrans_app.specs.declared.words.LocalWords.{LocalWords}
+use Rattle.privtrans_app.specs.declared.words.OrigWords.{OrigWords}
 
 -- why the file of this name wasn't read
 abbrev pub IsReadRefusal : List ℕ → Option Files → ℕ → ℕ → Ending → Type 0
@@ -16,19 +19,39 @@ IsReadRefusal name files reads reads' (missing n) = (n ≡ name) × (Lacks files
 IsReadRefusal name files reads reads' (read_fault n) = (n ≡ name) × Rose reads reads'
 IsReadRefusal name files reads reads' write_fault = ⊥
 IsReadRefusal name files reads reads' not_built = ⊥
+IsReadRefusal name files reads reads' (faults lines) = ⊥
+IsReadRefusal name files reads reads' (trapped trap span) = ⊥
+IsReadRefusal name files reads reads' spent = ⊥
 IsReadRefusal name files reads reads' memory = ⊤
 
--- why one of the files wasn't read, where those before it are held
-abbrev pub IsRefusal : LocalWords → Option Files → ℕ → ℕ → Ending → Type 0
-IsRefusal words files reads reads' e =
-    IsReadRefusal words.program.now files reads reads' e
-    ⊎ (IsHeld files words.program.now × IsReadRefusal words.host.now files reads reads' e)
-    ⊎ (IsHeld files words.program.now × IsHeld files words.host.now × IsReadRefusal words.policy.now files reads reads' e)
-    ⊎ (IsHeld files words.program.now × IsHeld files words.host.now × IsHeld files words.policy.now × IsReadRefusal words.input.now files reads reads' e)
+-- why one of the files of these names wasn't read, where those before it are held
+pub record IsRefusal (names : List (List ℕ)) (files : Option Files) (reads reads' : ℕ) (e : Ending) : Type 0 where
+  pub before : List (List ℕ)
+  pub name : List ℕ
+  pub after : List (List ℕ)
+  pub are : names ≡ before ++ name ∷ after
+  pub held : AllHeld files before
+  pub is : IsReadRefusal name files reads reads' e
+
+-- ---- both halves in one process
+
+-- the names of the files
+abbrev pub local_names : LocalWords → List (List ℕ)
+local_names words = words.program.now ∷ words.host.now ∷ words.policy.now ∷ words.input.now ∷ []
 
 -- these are the first bytes of each file
 pub record AreFirst (words : LocalWords) (files : Option Files) (t : Texts) : Type 0 where
   pub program : GivesFirst files words.program.now 1048577 t.program
   pub host : GivesFirst files words.host.now 1048577 t.host
   pub policy : GivesFirst files words.policy.now 1048577 t.policy
+  pub input : GivesFirst files words.input.now 1048577 t.input
+
+-- ---- the original
+
+abbrev pub orig_names : OrigWords → List (List ℕ)
+orig_names words = words.program.now ∷ words.host.now ∷ words.input.now ∷ []
+
+pub record AreOrigFirst (words : OrigWords) (files : Option Files) (t : original.Texts) : Type 0 where
+  pub program : GivesFirst files words.program.now 1048577 t.program
+  pub host : GivesFirst files words.host.now 1048577 t.host
   pub input : GivesFirst files words.input.now 1048577 t.input

@@ -1,18 +1,22 @@
 // What a call comes to, its status and its report.
 ghost use Rattle.std.specs.Prelude.{◌≡◌, ◌++◌, IfOk, codes};
+ghost use Rattle.pt_base.specs.Traps.{trap_name};
+ghost use Rattle.original.specs.FaultLines.{place_text};
 ghost use Rattle.privtrans_app.specs.Ending.{status_of, report_of};
 ghost use Rattle.privtrans_app.specs.EndingSeen.{ending_seen};
 
 use itoa::Buffer;
+use original::push_span;
+use pt_base::{Span, Trap};
 use std::alloc::{AllocError, Global};
 
 /// What a call comes to.
-#[derive(Clone, Copy)]
+#[derive(Drop)]
 pub(crate) enum Ending<'a> {
     Help,
     Version,
     /// main returned this number.
-    Exit(u32),
+    Exit(i64),
     Usage,
     /// No file of this name is held.
     Missing(&'a str),
@@ -20,12 +24,18 @@ pub(crate) enum Ending<'a> {
     ReadFault(&'a str),
     WriteFault,
     NotBuilt,
+    /// A stage has faults: the lines that report them.
+    Faults(Vec<u8>),
+    /// The run broke off, at this place of the program's text.
+    Trapped(Trap, Span),
+    /// The run needed one more turn than its budget has.
+    Spent,
     Memory,
 }
 
 /// The status that a call ends with.
-pub(crate) fn status(ending: Ending<'_>) -> u8
-    ensures { result ≡ status_of (ending_seen ending.entry) }
+pub(crate) fn status(ending: &Ending<'_>) -> u8
+    ensures { result ≡ status_of (ending_seen ending.now) }
 {
     match ending {
         Ending::Help => 0,
@@ -36,6 +46,9 @@ pub(crate) fn status(ending: Ending<'_>) -> u8
         Ending::ReadFault(_) => 3,
         Ending::WriteFault => 4,
         Ending::NotBuilt => 5,
+        Ending::Faults(_) => 5,
+        Ending::Trapped(..) => 6,
+        Ending::Spent => 8,
         Ending::Memory => 12,
     }
 }
@@ -47,6 +60,18 @@ fn named_line(alloc: Global, text: &[u8], name: &str) -> Result<Vec<u8>, AllocEr
     let mut line = Vec::from_slice(alloc, text)?;
     line.extend_from_slice(name.as_bytes())?;
     line.extend_from_slice(b"\n")?;
+    Ok(line)
+}
+
+// The line of a run that broke off.
+fn trap_line(alloc: Global, trap: Trap, span: Span) -> Result<Vec<u8>, AllocError>
+    ensures { IfOk result (λ line. line.items ≡ codes "trap " ++ trap_name trap ++ codes " " ++ place_text span ++ codes "\n") }
+{
+    let mut line = Vec::from_slice(alloc, b"trap ")?;
+    line.extend_from_slice(trap.name().as_bytes())?;
+    line.push(b' ')?;
+    push_span(span, &mut line)?;
+    line.push(b'\n')?;
     Ok(line)
 }
 
@@ -66,6 +91,9 @@ pub(crate) fn report(alloc: Global, ending: Ending<'_>) -> Result<Vec<u8>, Alloc
         Ending::ReadFault(name) => named_line(alloc, b"read fault ", name),
         Ending::WriteFault => Vec::from_slice(alloc, b"write fault\n"),
         Ending::NotBuilt => Vec::from_slice(alloc, b"early 1 NotBuilt\n"),
+        Ending::Faults(lines) => Ok(lines),
+        Ending::Trapped(trap, span) => trap_line(alloc, trap, span),
+        Ending::Spent => Vec::from_slice(alloc, b"spent\n"),
         Ending::Memory => Vec::from_slice(alloc, b"memory\n"),
     }
 }

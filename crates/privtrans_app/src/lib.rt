@@ -17,12 +17,15 @@ mod index;
 mod local;
 mod lookup;
 mod models;
+mod orig;
 mod pair;
+mod reading;
 mod rules;
 mod sending;
 mod taint;
 mod top;
 mod words;
+mod writing;
 
 pub use early_input::{one_outcome, trees_are_well_formed};
 pub use early_reader::one_tree;

@@ -1,39 +1,21 @@
 // Both halves in one process: the files are read, early texts are run, and what they write goes to
 // out.
-ghost use Rattle.std.specs.Prelude.{◌≡◌, ◌≤◌, ◌+◌, ℕ, true, List, IfOk, IfErr};
-ghost use Rattle.pt_base.specs.Files.{SameFiles, GivesFirst};
+ghost use Rattle.std.specs.Prelude.{◌≡◌, ◌≤◌, ℕ, pos, true, List, IfOk, IfErr};
+ghost use Rattle.pt_base.specs.Files.{SameFiles};
 ghost use Rattle.privtrans_app.specs.Words.{IsLocal};
-ghost use Rattle.privtrans_app.specs.Ending.{ComesTo, is_silent};
+ghost use Rattle.privtrans_app.specs.Causes.{ComesTo};
+ghost use Rattle.privtrans_app.specs.Ending.{exit, is_silent};
 ghost use Rattle.privtrans_app.specs.EndingSeen.{ending_seen};
-ghost use Rattle.privtrans_app.specs.Reading.{IsReadRefusal, IsRefusal, AreFirst};
+ghost use Rattle.privtrans_app.specs.Reading.{IsRefusal, AreFirst, local_names};
 ghost use Rattle.privtrans_app.specs.EarlyTexts.{texts_of};
 
-use crate::early_input::{MOST_BYTES, Outcome, Texts, outcome_of};
+use crate::early_input::{Outcome, Texts, outcome_of};
 use crate::ending::Ending;
+use crate::reading::read_text;
 use crate::words::LocalWords;
-use pt_base::{Folder, FolderFault, Sink, SinkFault};
+use crate::writing::put;
+use pt_base::{Folder, Sink};
 use std::alloc::Global;
-
-// The first bytes of a file, one more than a text may have.
-fn read_text<'a, F: Folder>(
-    alloc: Global,
-    folder: &mut F,
-    name: &'a str,
-) -> Result<Vec<u8>, Ending<'a>>
-    ensures content { IfOk result (λ v. GivesFirst (F.files folder.old) name.entry.now 1048577 v.items) }
-    ensures refusal { IfErr result (λ e. IsReadRefusal name.entry.now (F.files folder.old)
-        (F.read_faults folder.old) (F.read_faults folder.new) (ending_seen e)) }
-    ensures same { SameFiles (F.files folder.old) (F.files folder.new) }
-    ensures writes { F.write_faults folder.new ≡ F.write_faults folder.old }
-    ensures later { F.read_faults folder.old ≤ F.read_faults folder.new }
-{
-    match folder.read(alloc, name, MOST_BYTES + 1) {
-        Ok(bytes) => Ok(bytes),
-        Err(FolderFault::Missing) => Err(Ending::Missing(name)),
-        Err(FolderFault::Failed) => Err(Ending::ReadFault(name)),
-        Err(FolderFault::Memory) => Err(Ending::Memory),
-    }
-}
 
 // The text of each word's file, one after another.
 fn read_texts<'a, F: Folder>(
@@ -42,7 +24,7 @@ fn read_texts<'a, F: Folder>(
     words: &LocalWords<'a>,
 ) -> Result<Texts, Ending<'a>>
     ensures texts { IfOk result (λ t. AreFirst words.now (F.files folder.old) (texts_of t)) }
-    ensures refusal { IfErr result (λ e. IsRefusal words.now (F.files folder.old)
+    ensures refusal { IfErr result (λ e. IsRefusal (local_names words.now) (F.files folder.old)
         (F.read_faults folder.old) (F.read_faults folder.new) (ending_seen e)) }
     ensures same { SameFiles (F.files folder.old) (F.files folder.new) }
     ensures writes { F.write_faults folder.new ≡ F.write_faults folder.old }
@@ -58,6 +40,13 @@ fn read_texts<'a, F: Folder>(
         policy,
         input,
     })
+}
+
+// main returned this number.
+fn exit_of<'a>(status: u32) -> Ending<'a>
+    ensures { ending_seen result ≡ exit (pos status) }
+{
+    Ending::Exit(i64::from(status))
 }
 
 /// Runs the files that the words name.
@@ -85,10 +74,6 @@ pub(crate) fn local<'a, F: Folder, K: Sink>(
     };
     match outcome {
         Outcome::NotBuilt => Ending::NotBuilt,
-        Outcome::Exits { out: bytes, status } => match out.write(alloc, &bytes) {
-            Ok(()) => Ending::Exit(status),
-            Err(SinkFault::Failed) => Ending::WriteFault,
-            Err(SinkFault::Memory) => Ending::Memory,
-        },
+        Outcome::Exits { out: bytes, status } => put(alloc, out, &bytes, exit_of(status)),
     }
 }

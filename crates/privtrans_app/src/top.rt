@@ -1,29 +1,20 @@
 // The top call.
 ghost use Rattle.std.specs.Prelude.{◌≡◌, ◌≤◌, true, Some, map};
 ghost use Rattle.pt_base.specs.Files.{Files, SameFiles};
-ghost use Rattle.privtrans_app.specs.Ending.{Ending, ComesTo, Puts, Reports, StaysDown, IsByForm, IsByFiles, is_silent};
+ghost use Rattle.privtrans_app.specs.Causes.{ComesTo, IsByForm, IsByFiles};
+ghost use Rattle.privtrans_app.specs.Ending.{Ending, Reports, StaysDown, is_silent};
 ghost use Rattle.privtrans_app.specs.EndingSeen.{ending_seen};
 ghost use Rattle.privtrans_app.specs.Words.{IsNoRun};
 
 use crate::ending::{Ending as Came, report, status};
 use crate::help::{HELP, VERSION};
 use crate::local::local;
+use crate::orig::orig;
 use crate::words::{Form, form_of};
+use crate::writing::put;
 use pt_base::{Chooser, Folder, Sink, SinkFault, Spawner, Watch};
 use std::alloc::Global;
 use std::thread::Threads;
-
-// Writes a text to out, and says what that comes to.
-fn put<'a, K: Sink>(alloc: Global, out: &mut K, text: &[u8], done: Came<'a>) -> Came<'a>
-    ensures ending { Puts (K.taken out.old) (K.taken out.new) (K.faults out.old) (K.faults out.new) text.now (ending_seen done.entry) (ending_seen result) }
-    ensures later { K.faults out.old ≤ K.faults out.new }
-{
-    match out.write(alloc, text) {
-        Ok(()) => done,
-        Err(SinkFault::Failed) => Came::WriteFault,
-        Err(SinkFault::Memory) => Came::Memory,
-    }
-}
 
 // What the words come to. No file is written.
 fn came_to<'a, F: Folder, K: Sink>(
@@ -45,6 +36,7 @@ fn came_to<'a, F: Folder, K: Sink>(
         Some(Form::Help) => put(alloc, out, HELP, Came::Help),
         Some(Form::Version) => put(alloc, out, VERSION, Came::Version),
         Some(Form::Local(words)) => local(alloc, &words, folder, out),
+        Some(Form::Orig(words)) => orig(alloc, &words, folder, out),
     }
 }
 
@@ -53,23 +45,25 @@ fn tell<E: Sink>(alloc: Global, sink: &mut E, ending: Came<'_>) -> u8
     ensures report { Reports (ending_seen ending.entry) (E.taken sink.old) (E.taken sink.new) (E.faults sink.old) (E.faults sink.new) result }
     ensures later { E.faults sink.old ≤ E.faults sink.new }
 {
+    let status = status(&ending);
     let Ok(line) = report(alloc, ending) else {
         return 12;
     };
     if line.is_empty() {
-        return status(ending);
+        return status;
     }
     match sink.write(alloc, &line) {
-        Ok(()) => status(ending),
-        Err(SinkFault::Failed) => { if status(ending) == 12 { 12 } else { 4 } }
+        Ok(()) => status,
+        Err(SinkFault::Failed) => { if status == 12 { 12 } else { 4 } }
         Err(SinkFault::Memory) => 12,
     }
 }
 
 /// Does what the words ask for, and gives the status that the program ends with: 0 where it was
 /// done, 1 where the words are of no form, 2 where a file is missing, 3 where one can't be read, 4
-/// where out or report can't be written, 5 where the texts aren't early, 12 for want of memory. One
-/// line in `report` says how it ended; help and version have none.
+/// where out or report can't be written, 5 where the texts have faults or aren't early, 6 where the
+/// run broke off, 8 where its budget of turns was spent, 12 for want of memory. Lines in `report`,
+/// mostly one, say how it ended; help and version have none.
 pub fn privtrans<R: Threads + Sync, F: Folder, K: Sink, E: Sink, S: Spawner, C: Chooser, W: Watch>(
     _rt: &R,
     alloc: Global,

@@ -16,12 +16,22 @@ pub(crate) struct LocalWords<'a> {
     pub window: u32,
 }
 
+/// The words of a run of the original.
+#[derive(Clone, Copy)]
+pub(crate) struct OrigWords<'a> {
+    pub program: &'a str,
+    pub host: &'a str,
+    pub input: &'a str,
+    pub turns: u32,
+}
+
 /// What the words ask for.
 #[derive(Clone, Copy)]
 pub(crate) enum Form<'a> {
     Help,
     Version,
     Local(LocalWords<'a>),
+    Orig(OrigWords<'a>),
 }
 
 // The number of a word in digits without a leading zero, if it is at most `most`.
@@ -64,6 +74,8 @@ fn form_after<'a>(word: &str, rest: &[&'a str]) -> Option<Form<'a>>
         one_word(word)
     } else if word == "local" {
         local_words(rest)
+    } else if word == "orig" {
+        orig_words(rest)
     } else {
         None
     }
@@ -93,6 +105,29 @@ fn local_words<'a>(words: &[&'a str]) -> Option<Form<'a>>
     };
     if words.is_empty() {
         local_form(program, host, policy, input, turns, window)
+    } else {
+        None
+    }
+}
+
+// The words after `orig`.
+fn orig_words<'a>(words: &[&'a str]) -> Option<Form<'a>>
+    ensures { MatchOption result (IsNoForm (codes "orig" ∷ map (λ w. w.now) words.now)) (IsForm (codes "orig" ∷ map (λ w. w.now) words.now)) }
+{
+    let [program, words @ ..] = words else {
+        return None;
+    };
+    let [host, words @ ..] = words else {
+        return None;
+    };
+    let [input, words @ ..] = words else {
+        return None;
+    };
+    let [turns, words @ ..] = words else {
+        return None;
+    };
+    if words.is_empty() {
+        orig_form(program, host, input, turns)
     } else {
         None
     }
@@ -134,5 +169,19 @@ fn local_form<'a>(
         input,
         turns,
         window,
+    }))
+}
+
+fn orig_form<'a>(program: &'a str, host: &'a str, input: &'a str, turns: &str) -> Option<Form<'a>>
+    ensures { MatchOption result
+        (IsNoForm (codes "orig" ∷ program.now ∷ host.now ∷ input.now ∷ turns.now ∷ []))
+        (IsForm (codes "orig" ∷ program.now ∷ host.now ∷ input.now ∷ turns.now ∷ [])) }
+{
+    let turns = number(turns, u32::MAX)?;
+    Some(Form::Orig(OrigWords {
+        program,
+        host,
+        input,
+        turns,
     }))
 }

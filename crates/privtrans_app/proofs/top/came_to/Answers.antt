@@ -5,7 +5,7 @@ use Rattle.privtrans_app.specs.EndingSeen.{ending_seen}
 use Rattle.privtrans_app.specs.Help.{version_text}
 use Rattle.privtrans_app.specs.Words.{IsForm, IsNoForm, IsVersion}
 use Rattle.privtrans_app.specs.declared.words.Form.{Form}
-use Rattle.privtrans_app.proofs.LocalLemmas.{put_comes}
+use Rattle.privtrans_app.proofs.CauseLemmas.{put_comes}
 use Rattle.privtrans_app.proofs.top.came_to.Goals as goal
 
 pub returns-in-Some-Version-clause-ending : goal.returns-in-Some-Version-clause-ending
@@ -21,3 +21,9 @@ returns-in-Some-Local-clause-ending g c =
     let given : List (List ℕ) = map (λ w. w.now) c.args.words.now in
     let form = subst (IsForm given) c.in-Some-Local.field-0-is (subst (λ (o : Option Form). MatchOption o (IsNoForm given) (IsForm given)) c.in-Some-Local.is c.form_of.ensures) in
     c.local.ensures.ending given form
+
+pub returns-in-Some-Orig-clause-ending : goal.returns-in-Some-Orig-clause-ending
+returns-in-Some-Orig-clause-ending g c =
+    let given : List (List ℕ) = map (λ w. w.now) c.args.words.now in
+    let form = subst (IsForm given) c.in-Some-Orig.field-0-is (subst (λ (o : Option Form). MatchOption o (IsNoForm given) (IsForm given)) c.in-Some-Orig.is c.form_of.ensures) in
+    c.orig.ensures.ending given form

@@ -1,6 +1,6 @@
 use Rattle.std.proofs.Common.{map, Option, subst}
 use Rattle.pt_base.specs.Files.{Files}
-use Rattle.privtrans_app.specs.Ending.{ComesTo}
+use Rattle.privtrans_app.specs.Causes.{ComesTo}
 use Rattle.privtrans_app.specs.EndingSeen.{ending_seen}
 use Rattle.privtrans_app.proofs.CompleteLemmas.{by_form, by_files}
 use Rattle.privtrans_app.proofs.top.privtrans.Goals as goal

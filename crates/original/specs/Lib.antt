@@ -1,0 +1,4 @@
+pub mod FaultLines
+pub mod FrontLines
+pub mod Original
+pub mod OutcomeSeen

@@ -1,0 +1,77 @@
+// The stages that texts go through: lexer, parser, types, host table, input, and the run.
+ghost use Rattle.std.specs.Prelude.{◌≡◌, ℕ, List, IfOk};
+ghost use Rattle.front_end.specs.Reading.{HasTypedTree};
+ghost use Rattle.host_table.specs.Hosts.{hosts_of};
+ghost use Rattle.typed_tree.specs.TypedView.{view_typed};
+ghost use Rattle.original.specs.Original.{Texts, GivesHosts};
+ghost use Rattle.original.specs.OutcomeSeen.{IsOutcome};
+
+use crate::INPUT_LIMIT;
+use crate::fault_lines::{front_lines, host_lines};
+use crate::outcome::Outcome;
+use crate::running::run;
+use front_end::read_program;
+use host_table::{Host, HostError, read_host};
+use std::alloc::{AllocError, Global};
+use typed_tree::Typed;
+
+/// What a program comes to with this host table and input within this budget of turns: the bytes
+/// that its hosts write and its end, or the lines of the first stage's faults that has one.
+///
+/// # Errors
+///
+/// Want of memory alone.
+pub fn outcome_of(
+    alloc: Global,
+    program: &[u8],
+    host: &[u8],
+    input: &[u8],
+    turns: u32,
+) -> Result<Outcome, AllocError>
+    ensures { IfOk result (IsOutcome (record { program = program.now; host = host.now; input = input.now }) turns) }
+{
+    match read_program(alloc, program) {
+        Ok(typed) => with_program(alloc, &typed, host, input, turns),
+        Err(error) => Ok(Outcome::Refused(front_lines(alloc, error)?)),
+    }
+}
+
+// What a program without faults comes to.
+fn with_program(
+    alloc: Global,
+    program: &Typed,
+    host: &[u8],
+    input: &[u8],
+    turns: u32,
+) -> Result<Outcome, AllocError>
+    ensures { (text : List ℕ) → HasTypedTree text (view_typed program.now)
+        → IfOk result (IsOutcome (record { program = text; host = host.now; input = input.now }) turns) }
+{
+    match read_host(alloc, host, program) {
+        Ok(hosts) => with_hosts(alloc, program, hosts, input, turns),
+        Err(HostError::Faults(faults)) => {
+            Ok(Outcome::Refused(host_lines(alloc, program, faults.as_slice())?))
+        }
+        Err(HostError::Memory) => Err(AllocError),
+    }
+}
+
+// What a program comes to whose host table has no faults.
+fn with_hosts(
+    alloc: Global,
+    program: &Typed,
+    hosts: Host,
+    input: &[u8],
+    turns: u32,
+) -> Result<Outcome, AllocError>
+    ensures { (t : Texts) → HasTypedTree t.program (view_typed program.now)
+        → GivesHosts t.host (view_typed program.now) (hosts_of hosts) → t.input ≡ input.now
+        → IfOk result (IsOutcome t turns) }
+{
+    if input.len() > INPUT_LIMIT {
+        return Ok(Outcome::Refused(Vec::from_slice(alloc, b"input 1 TooLong\n")?));
+    }
+    let mut hosts = hosts;
+    hosts.give(alloc, input)?;
+    run(alloc, program, hosts, turns)
+}

@@ -1,0 +1,66 @@
+-- When a call comes to each ending, and the status that its words and files lead to.
+use Rattle.std.specs.Prelude.{◌≡◌, ◌⊎◌, ℕ, List, [], Option, Some, None}
+use Rattle.std.specs.Io.KnownBytes.{Appends, Keeps}
+use Rattle.pt_base.specs.Faults.{Rose}
+use Rattle.pt_base.specs.Files.{Files, Lacks}
+use Rattle.pt_base.specs.Told.{AppendsPart}
+use Rattle.original.specs.Original as original
+use Rattle.privtrans_app.specs.Words.{IsHelp, IsVersion, IsNoForm}
+use Rattle.privtrans_app.specs.EarlyInput as early
+use Rattle.privtrans_app.specs.EarlyInput.{IsBuilt, IsNotBuilt}
+use Rattle.privtrans_app.specs.Help.{help_text, version_text}
+use Rattle.privtrans_app.specs.Ending.{Ending, help, version, exit, usage, missing, read_fault, write_fault, not_built, faults, trapped, spent, memory, status_of, EndsWith}
+use Rattle.privtrans_app.specs.Held.{IsReached}
+use Rattle.privtrans_app.specs.LocalRun as local
+use Rattle.privtrans_app.specs.OrigRun as orig
+
+-- the files hold texts of which these bytes and this ending are expected
+abbrev pub Expects : List (List ℕ) → Option Files → List ℕ → Ending → Type 0
+Expects words files bytes e = local.Expects words files bytes e ⊎ orig.Gives words files bytes e
+
+-- what a call broke off writing: nothing came to out, or a first part of the text that the words ask
+-- for or of the bytes that are expected
+abbrev pub WritesPart : List (List ℕ) → Option Files → Option (List ℕ) → Option (List ℕ) → Type 0
+WritesPart words files out out' =
+    Keeps out out'
+    ⊎ (IsHelp words × AppendsPart out out' help_text)
+    ⊎ (IsVersion words × AppendsPart out out' version_text)
+    ⊎ ((bytes : List ℕ) × (e : Ending) × Expects words files bytes e × AppendsPart out out' bytes)
+
+-- the run came to this ending, and all its bytes are written
+abbrev pub Runs : List (List ℕ) → Option Files → Option (List ℕ) → Option (List ℕ) → Ending → Type 0
+Runs words files out out' e = (bytes : List ℕ) × Expects words files bytes e × Appends out out' bytes
+
+-- When a call comes to each ending, and what out has then: `reads` and `writes` are the counts of
+-- failed reads and of failed writes to out, before and after.
+abbrev pub ComesTo : List (List ℕ) → Option Files → ℕ → ℕ → Option (List ℕ) → Option (List ℕ) → ℕ → ℕ → Ending → Type 0
+ComesTo words files reads reads' out out' writes writes' help = IsHelp words × Appends out out' help_text
+ComesTo words files reads reads' out out' writes writes' version = IsVersion words × Appends out out' version_text
+ComesTo words files reads reads' out out' writes writes' (exit status) = Runs words files out out' (exit status)
+ComesTo words files reads reads' out out' writes writes' usage = IsNoForm words × Keeps out out'
+ComesTo words files reads reads' out out' writes writes' (missing name) =
+    IsReached words files name × (Lacks files name ⊎ Rose reads reads') × Keeps out out'
+ComesTo words files reads reads' out out' writes writes' (read_fault name) = IsReached words files name × Rose reads reads' × Keeps out out'
+ComesTo words files reads reads' out out' writes writes' write_fault = Rose writes writes' × WritesPart words files out out'
+ComesTo words files reads reads' out out' writes writes' not_built = local.Refuses words files × Keeps out out'
+ComesTo words files reads reads' out out' writes writes' (faults lines) = orig.Gives words files [] (faults lines) × Keeps out out'
+ComesTo words files reads reads' out out' writes writes' (trapped trap span) = Runs words files out out' (trapped trap span)
+ComesTo words files reads reads' out out' writes writes' spent = Runs words files out out' spent
+ComesTo words files reads reads' out out' writes writes' memory = WritesPart words files out out'
+
+-- the status by the form of the words: 0 for the help text and the version, 1 for words of no form
+pub record IsByForm (words : List (List ℕ)) (status : ℕ) : Type 0 where
+  pub help : IsHelp words → EndsWith status 0
+  pub version : IsVersion words → EndsWith status 0
+  pub usage : IsNoForm words → EndsWith status 1
+
+-- The status of a run of files that are held as told: 2 where one isn't. Of both halves, 0 for texts of
+-- which something is expected, and 5 for texts that aren't early; of the original, that of what its
+-- texts come to.
+pub record IsByFiles (words : List (List ℕ)) (files : Files) (status : ℕ) : Type 0 where
+  pub missing : (name : List ℕ) → IsReached words (Some files) name → files name ≡ None → EndsWith status 2
+  pub built : (t : early.Texts) (turns window : ℕ) (bytes : List ℕ) (s : ℕ)
+      → local.AreHeld words (Some files) t turns window → IsBuilt t turns bytes s → EndsWith status 0
+  pub not_built : (t : early.Texts) (turns window : ℕ) → local.AreHeld words (Some files) t turns window → IsNotBuilt t turns → EndsWith status 5
+  pub original : (t : original.Texts) (turns : ℕ) (o : original.Outcome) (e : Ending)
+      → orig.AreHeld words (Some files) t turns → original.ComesTo t turns o → orig.IsEnding o e → EndsWith status (status_of e)

@@ -1,0 +1,31 @@
+// The text of a file.
+ghost use Rattle.std.specs.Prelude.{◌≡◌, ◌≤◌, IfOk, IfErr};
+ghost use Rattle.pt_base.specs.Files.{SameFiles, GivesFirst};
+ghost use Rattle.privtrans_app.specs.EndingSeen.{ending_seen};
+ghost use Rattle.privtrans_app.specs.Reading.{IsReadRefusal};
+
+use crate::early_input::MOST_BYTES;
+use crate::ending::Ending;
+use pt_base::{Folder, FolderFault};
+use std::alloc::Global;
+
+/// The first bytes of a file, one more than a text may have.
+pub(crate) fn read_text<'a, F: Folder>(
+    alloc: Global,
+    folder: &mut F,
+    name: &'a str,
+) -> Result<Vec<u8>, Ending<'a>>
+    ensures content { IfOk result (λ v. GivesFirst (F.files folder.old) name.entry.now 1048577 v.items) }
+    ensures refusal { IfErr result (λ e. IsReadRefusal name.entry.now (F.files folder.old)
+        (F.read_faults folder.old) (F.read_faults folder.new) (ending_seen e)) }
+    ensures same { SameFiles (F.files folder.old) (F.files folder.new) }
+    ensures writes { F.write_faults folder.new ≡ F.write_faults folder.old }
+    ensures later { F.read_faults folder.old ≤ F.read_faults folder.new }
+{
+    match folder.read(alloc, name, MOST_BYTES + 1) {
+        Ok(bytes) => Ok(bytes),
+        Err(FolderFault::Missing) => Err(Ending::Missing(name)),
+        Err(FolderFault::Failed) => Err(Ending::ReadFault(name)),
+        Err(FolderFault::Memory) => Err(Ending::Memory),
+    }
+}
