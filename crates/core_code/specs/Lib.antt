@@ -1,0 +1,5 @@
+pub mod Answers
+pub mod Code
+pub mod Lies
+pub mod Paths
+pub mod Resolved
