@@ -1,3 +1,2 @@
 mod FlatSteps
 mod FlatValues
-mod ResolveLemmas

@@ -1,26 +1,6 @@
 //! The step machine of the normal form.
-//!
-//! What types say of an expression or a place is settled once: its code has offsets, sizes and
-//! counts in their place. To evaluate the code gives what the normal form's meaning gives.
 #![tactic(auto)]
 
-mod arithmetic;
-mod cells;
-mod code;
-mod evaluation;
-mod fault;
-mod instruction;
 mod laws;
-mod layout;
-mod names;
-mod pointers;
-mod resolution;
 
-pub use code::{PlaceCode, ValueCode};
-pub use evaluation::{location, value};
-pub use fault::Fault;
-pub use instruction::Instruction;
 pub use laws::flat_steps_agree;
-pub use layout::Layout;
-pub use names::Names;
-pub use resolution::{resolve_place, resolve_value};

@@ -1,0 +1,3 @@
+pub mod LayLemmas
+mod ResolveLemmas
+mod StartLemmas

@@ -1,0 +1,7 @@
+pub mod Answers
+pub mod Code
+pub mod Laid
+pub mod Lies
+pub mod Paths
+pub mod Resolved
+pub mod Starts
