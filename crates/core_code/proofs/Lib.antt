@@ -1,1 +1,2 @@
+pub mod LayLemmas
 mod ResolveLemmas
