@@ -1,2 +1,9 @@
-mod FlatSteps
-mod FlatValues
+pub mod FlatOutside
+pub mod FlatSteps
+pub mod FlatValues
+pub mod LiveLemmas
+pub mod MachineLemmas
+pub mod PlaceLemmas
+pub mod RunLemmas
+pub mod StackLemmas
+pub mod StateLemmas

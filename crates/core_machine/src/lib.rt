@@ -1,6 +1,22 @@
 //! The step machine of the normal form.
 #![tactic(auto)]
 
+mod acting;
+mod call;
+mod calls;
+mod frame;
+mod frames;
+mod gate;
+mod held;
 mod laws;
+mod machine;
+mod memory;
+mod state;
+mod statements;
+mod stepped;
+mod table;
 
-pub use laws::flat_steps_agree;
+pub use gate::{Gate, Way};
+pub use laws::{flat_begins, flat_rests, flat_resumes, flat_steps_agree};
+pub use machine::Machine;
+pub use stepped::Stepped;

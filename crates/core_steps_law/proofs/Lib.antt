@@ -1,8 +1,9 @@
+mod Silence
+pub mod CallSteps
 pub mod Leads
+pub mod OneRun
 pub mod Spots
 pub mod StatementSteps
-pub mod CallSteps
-pub mod WholeSteps
-pub mod TurnBounds
 pub mod Sums
-pub mod OneRun
+pub mod TurnBounds
+pub mod WholeSteps

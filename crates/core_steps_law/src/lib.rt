@@ -2,6 +2,7 @@
 #![tactic(auto)]
 
 ghost use Rattle.core_steps_law.specs.Laws.{StepsAreTheRun, OnlyTheRunIsSeen, StepsFollowStatements, StepsTakeATurn, StepsAdd};
+ghost use Rattle.core_steps_law.specs.Silent.{SilentRunsAgree};
 
 /// The steps of a whole program come to the run that the recursion gives, with its events, its end
 /// and its turns, and no smaller number of steps ends it.
@@ -29,4 +30,10 @@ pub fn steps_take_a_turn<G>()
 /// haven't, more change nothing.
 pub fn steps_add<G>()
     ensures { StepsAdd G }
+{}
+
+/// So many steps under the gate that notes nothing are those of the whole run: the same answer and
+/// machine, and of the events what hosts write.
+pub fn silent_runs_agree()
+    ensures { SilentRunsAgree }
 {}
