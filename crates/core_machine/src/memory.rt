@@ -65,12 +65,7 @@ pub(crate) fn copy(
 }
 
 // So many cells from one on, as far as they are there.
-fn some_cells(
-    alloc: Global,
-    cells: &[Cell],
-    from: u32,
-    count: u64,
-) -> Result<Vec<Cell>, AllocError>
+fn some_cells(alloc: Global, cells: &[Cell], from: u32, count: u64) -> Result<Vec<Cell>, AllocError>
     ensures { IfOk result (λ some. some.items ≡ take count (drop from cells.now)) }
 {
     let from = (from as usize).min(cells.len());
@@ -80,11 +75,7 @@ fn some_cells(
 }
 
 /// The arguments go to the first variables of the function that was entered at this depth.
-pub(crate) fn pass(
-    memory: &mut BlockMemory,
-    depth: u32,
-    args: &[Cell],
-) -> Result<(), AllocError>
+pub(crate) fn pass(memory: &mut BlockMemory, depth: u32, args: &[Cell]) -> Result<(), AllocError>
     ensures passed { OnOk result (blocks_of memory.new ≡ with_arguments (blocks_of memory.old) depth 0 args.now) }
     ensures no_more { HasNoMore (blocks_of memory.old) (blocks_of memory.new) }
 {
