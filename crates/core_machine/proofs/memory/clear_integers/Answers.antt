@@ -22,3 +22,10 @@ put_block-requires-clause-room c =
       sym c.types.ensures ∙ (slice_eq-Decides decides c.types.result.now c.args.types.now true (sym same)).0 refl,
       ap length (sym c.block.ensures) ∙ c.if-block-types.false ∙ sym (ap length (c.as_slice.ensures.value ∙ c.in_ok-cells.ensures) ∙ length-replicate (length c.args.types.now) _),
     )
+
+pub put_zero-requires-clause-room : goal.put_zero-requires-clause-room
+put_zero-requires-clause-room c =
+    let same : pointwise same.TheImpl.eq-value.it c.types.result.now c.args.types.now ≡ true = not_not _ c.ne.result c.ne.ensures c.if-ne.false in (
+      sym c.types.ensures ∙ (slice_eq-Decides decides c.types.result.now c.args.types.now true (sym same)).0 refl,
+      ap length (sym c.block.ensures) ∙ c.if-block-types.false ∙ c.if-types-eq1.true,
+    )
