@@ -1,9 +1,11 @@
 pub mod FlatOutside
 pub mod FlatSteps
 pub mod FlatValues
+pub mod HeldLemmas
 pub mod LiveLemmas
 pub mod MachineLemmas
 pub mod PlaceLemmas
+pub mod RiseLemmas
 pub mod RunLemmas
 pub mod StackLemmas
 pub mod StateLemmas

@@ -1,5 +1,6 @@
 pub mod Flat
 pub mod Gates
+pub mod Held
 pub mod Live
 pub mod Machines
 pub mod Outside

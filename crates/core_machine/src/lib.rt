@@ -2,6 +2,7 @@
 #![tactic(auto)]
 
 mod acting;
+mod building;
 mod call;
 mod calls;
 mod frame;
@@ -9,6 +10,7 @@ mod frames;
 mod gate;
 mod held;
 mod laws;
+mod leaves;
 mod machine;
 mod memory;
 mod state;

@@ -1,7 +1,7 @@
 // What statements do to a memory.
-ghost use Rattle.std.specs.Prelude.{◌≡◌, [], drop, IfOk, map, OnOk, pos, replicate, take};
+ghost use Rattle.std.specs.Prelude.{◌≡◌, [], drop, IfOk, length, map, OnOk, pos, replicate, take};
 ghost use Rattle.block_memory.specs.Block.{fresh};
-ghost use Rattle.block_memory.specs.Blocks.{put};
+ghost use Rattle.block_memory.specs.Blocks.{HasRoom, put};
 ghost use Rattle.block_memory.specs.declared.cell.BlockName.TheVariants.{Local};
 ghost use Rattle.block_memory.specs.declared.cell.Cell.TheVariants as cell;
 ghost use Rattle.block_memory.specs.declared.shape.BlockShape.TheVariants.{Ints, OnePointer};
@@ -65,12 +65,7 @@ pub(crate) fn copy(
 }
 
 // So many cells from one on, as far as they are there.
-fn some_cells(
-    alloc: Global,
-    cells: &[Cell],
-    from: u32,
-    count: u64,
-) -> Result<Vec<Cell>, AllocError>
+fn some_cells(alloc: Global, cells: &[Cell], from: u32, count: u64) -> Result<Vec<Cell>, AllocError>
     ensures { IfOk result (λ some. some.items ≡ take count (drop from cells.now)) }
 {
     let from = (from as usize).min(cells.len());
@@ -80,11 +75,7 @@ fn some_cells(
 }
 
 /// The arguments go to the first variables of the function that was entered at this depth.
-pub(crate) fn pass(
-    memory: &mut BlockMemory,
-    depth: u32,
-    args: &[Cell],
-) -> Result<(), AllocError>
+pub(crate) fn pass(memory: &mut BlockMemory, depth: u32, args: &[Cell]) -> Result<(), AllocError>
     ensures passed { OnOk result (blocks_of memory.new ≡ with_arguments (blocks_of memory.old) depth 0 args.now) }
     ensures no_more { HasNoMore (blocks_of memory.old) (blocks_of memory.new) }
 {
@@ -156,8 +147,27 @@ fn clear_integers(
     if memory.types(block) != types || memory.block(block).len() != types.len() {
         return Err(AllocError);
     }
+    if types.len() == 1 {
+        return put_zero(memory, depth, var, types);
+    }
     let cells = zeros(alloc, types.len())?;
     memory.put_block(block, types, cells.as_slice())
+}
+
+// A variable of one integer becomes 0.
+fn put_zero(
+    memory: &mut BlockMemory,
+    depth: u32,
+    var: u32,
+    types: &[IntType],
+) -> Result<(), AllocError>
+    requires one { length types.now ≡ 1 }
+    requires room { HasRoom (blocks_of memory.old) (Local depth var) types.now 1 }
+    ensures cleared { OnOk result (blocks_of memory.new ≡ put (blocks_of memory.old) (Local depth var) (fresh (Ints types.now))) }
+    ensures no_more { HasNoMore (blocks_of memory.old) (blocks_of memory.new) }
+{
+    let block = BlockName::Local { depth, var };
+    memory.put_block(block, types, &[Cell::Int(0)])
 }
 
 // So many cells that are 0.

@@ -4,8 +4,6 @@ use Rattle.std.proofs.lemmas.List.{length-replicate}
 use Rattle.std.proofs.lemmas.Slice.Eq.{slice_eq-Decides}
 use Rattle.std.specs.Bool.{Decides}
 use Rattle.std.specs.Cmp.Lexicographic.{pointwise}
-use Rattle.block_memory.specs.declared.cell.BlockName.TheVariants.{Local}
-use Rattle.block_memory.specs.Memory.{blocks_of}
 use Rattle.pt_base.specs.contracts.int_type.IntType.{the_type}
 use Rattle.pt_base.specs.contracts.int_type.IntTypePartialEq as same
 use Rattle.pt_base.specs.declared.int_type.IntType.{IntType}
@@ -20,8 +18,14 @@ not_not false r e f = cc
 
 pub put_block-requires-clause-room : goal.put_block-requires-clause-room
 put_block-requires-clause-room c =
-    let same : pointwise same.TheImpl.eq-value.it c.types.result.now c.args.types.now ≡ true = not_not _ c.ne.result c.ne.ensures c.if-ne.false in
-    (
+    let same : pointwise same.TheImpl.eq-value.it c.types.result.now c.args.types.now ≡ true = not_not _ c.ne.result c.ne.ensures c.if-ne.false in (
       sym c.types.ensures ∙ (slice_eq-Decides decides c.types.result.now c.args.types.now true (sym same)).0 refl,
       ap length (sym c.block.ensures) ∙ c.if-block-types.false ∙ sym (ap length (c.as_slice.ensures.value ∙ c.in_ok-cells.ensures) ∙ length-replicate (length c.args.types.now) _),
+    )
+
+pub put_zero-requires-clause-room : goal.put_zero-requires-clause-room
+put_zero-requires-clause-room c =
+    let same : pointwise same.TheImpl.eq-value.it c.types.result.now c.args.types.now ≡ true = not_not _ c.ne.result c.ne.ensures c.if-ne.false in (
+      sym c.types.ensures ∙ (slice_eq-Decides decides c.types.result.now c.args.types.now true (sym same)).0 refl,
+      ap length (sym c.block.ensures) ∙ c.if-block-types.false ∙ c.if-types-eq1.true,
     )
