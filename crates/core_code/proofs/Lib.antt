@@ -1,2 +1,3 @@
 pub mod LayLemmas
 mod ResolveLemmas
+mod StartLemmas

@@ -4,3 +4,4 @@ pub mod Laid
 pub mod Lies
 pub mod Paths
 pub mod Resolved
+pub mod Starts

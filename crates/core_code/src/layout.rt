@@ -1,19 +1,23 @@
 // How objects are laid out in cells.
-ghost use Rattle.std.specs.Prelude.{◌≡◌, IfOk, get_or};
+ghost use Rattle.std.specs.Prelude.{◌≡◌, IfOk, get_or, map};
 ghost use Rattle.typed_tree.specs.Sizes.{cells_by, elem_cells, fields_cells, sizes_of};
+ghost use Rattle.core_code.specs.Starts.{start_in, starts_from};
 
 use crate::arithmetic::{product, sum};
-use pt_base::IntType;
+use pt_base::{IntType, Listed};
 use pt_tree::Elem;
 use std::alloc::{AllocError, Global};
 use std::marker::Model;
 use typed_tree::{Field, StructInfo, VarTy};
 
-/// The structs of a program, and how many cells each has. Contracts see it as the structs.
+/// The structs of a program, how many cells each has, and where its fields begin. Contracts see it
+/// as the structs.
 #[derive(Drop)]
 pub struct Layout<'a> {
     structs: &'a [StructInfo],
     sizes: Vec<u64>,
+    // for each struct where its fields begin, and then where it ends
+    starts: Vec<Listed<u64>>,
 }
 
 impl<'a> Model for Layout<'a> {
@@ -22,12 +26,13 @@ impl<'a> Model for Layout<'a> {
 
     ghost Value = { List StructInfo };
 
-    ghost use Rattle.std.specs.Prelude.{◌≡◌};
+    ghost use Rattle.std.specs.Prelude.{◌≡◌, map};
     ghost use Rattle.typed_tree.specs.Sizes.{sizes_of};
+    ghost use Rattle.core_code.specs.Starts.{starts_in};
 
     ghost view = { λ l. l.structs.now };
 
-    ghost invariant = { λ l. l.sizes.items ≡ sizes_of l.structs.now };
+    ghost invariant = { λ l. (l.sizes.items ≡ sizes_of l.structs.now) × (l.starts.items ≡ map (starts_in l.structs.now) l.structs.now) };
 }
 
 impl<'a> Layout<'a> {
@@ -36,17 +41,19 @@ impl<'a> Layout<'a> {
     ghost use Rattle.pt_core.specs.Types.{field_type, path_type};
     ghost use Rattle.pt_core.specs.Values.{offset_in};
     ghost use Rattle.core_code.specs.Paths.{path_offset};
+    ghost use Rattle.core_code.specs.Starts.{starts_from};
 
     /// The layout by these structs.
     pub fn new(alloc: Global, structs: &'a [StructInfo]) -> Result<Layout<'a>, AllocError>
         ensures { IfOk result (λ l. l ≡ structs.now) }
     {
-        let mut sizes = Vec::new(alloc);
-        for info in structs {
-            let cells = cells_of_fields(sizes.as_slice(), info.fields.as_slice())?;
-            sizes.push(cells)?;
-        }
-        Ok(Layout { structs, sizes })
+        let sizes = sizes_of_structs(alloc, structs)?;
+        let starts = starts_of_structs(alloc, sizes.as_slice(), structs)?;
+        Ok(Layout {
+            structs,
+            sizes,
+            starts,
+        })
     }
 
     /// How many cells an element has.
@@ -71,23 +78,29 @@ impl<'a> Layout<'a> {
         let mut cells = 0;
         let mut ty = whole;
         for field in path {
-            cells = sum(cells, self.offset(ty, *field)?)?;
+            cells = sum(cells, self.offset(ty, *field))?;
             ty = self.type_of_field(ty, *field);
         }
         Ok((cells, ty))
     }
 
     // At which cell of an object a field begins.
-    fn offset(&self, ty: VarTy, field: u32) -> Result<u64, AllocError>
-        ensures { IfOk result (λ n. n ≡ offset_in self.now ty field) }
+    fn offset(&self, ty: VarTy, field: u32) -> u64
+        ensures { result ≡ offset_in self.now ty field }
     {
         match ty {
-            VarTy::Struct(structure) => {
-                let fields = self.fields(structure);
-                let before = (field as usize).min(fields.len());
-                cells_of_fields(self.sizes.as_slice(), &fields[..before])
-            }
-            VarTy::Int(_) | VarTy::Array { .. } | VarTy::Pointer { .. } => Ok(0),
+            VarTy::Struct(structure) => start_at(self.starts(structure), field),
+            VarTy::Int(_) | VarTy::Array { .. } | VarTy::Pointer { .. } => 0,
+        }
+    }
+
+    // Where the fields of a struct begin, and where it ends.
+    fn starts(&self, structure: u32) -> &[u64]
+        ensures { result.now ≡ starts_from (sizes_of self.now) 0 (fields_of self.now structure) }
+    {
+        match self.starts.get(structure as usize) {
+            Some(starts) => starts.as_slice(),
+            None => &[0],
         }
     }
 
@@ -112,6 +125,64 @@ impl<'a> Layout<'a> {
             Some(info) => info.fields.as_slice(),
             None => &[],
         }
+    }
+}
+
+// How many cells each struct has.
+fn sizes_of_structs(alloc: Global, structs: &[StructInfo]) -> Result<Vec<u64>, AllocError>
+    ensures { IfOk result (λ v. v.items ≡ sizes_of structs.now) }
+{
+    let mut sizes = Vec::with_capacity(alloc, structs.len())?;
+    for info in structs {
+        let cells = cells_of_fields(sizes.as_slice(), info.fields.as_slice())?;
+        sizes.push(cells)?;
+    }
+    Ok(sizes)
+}
+
+// For each struct where its fields begin, and where it ends.
+fn starts_of_structs(
+    alloc: Global,
+    sizes: &[u64],
+    structs: &[StructInfo],
+) -> Result<Vec<Listed<u64>>, AllocError>
+    ensures { IfOk result (λ v. v.items ≡ map (λ s. starts_from sizes.now 0 s.fields) structs.now) }
+{
+    let mut starts = Vec::with_capacity(alloc, structs.len())?;
+    for info in structs {
+        starts.push(starts_of_fields(alloc, sizes, info.fields.as_slice())?)?;
+    }
+    Ok(starts)
+}
+
+// Where these fields begin, one behind the other, and where the last ends.
+fn starts_of_fields(
+    alloc: Global,
+    sizes: &[u64],
+    fields: &[Field],
+) -> Result<Listed<u64>, AllocError>
+    ensures { IfOk result (λ l. l ≡ starts_from sizes.now 0 fields.now) }
+{
+    let mut starts = Vec::new(alloc);
+    let mut cells = 0;
+    for field in fields {
+        starts.push(cells)?;
+        cells = sum(cells, cells_of_object(sizes, field.ty)?)?;
+    }
+    starts.push(cells)?;
+    Ok(Listed::new(starts))
+}
+
+// The start of this number; the last one where there are fewer.
+fn start_at(starts: &[u64], field: u32) -> u64
+    ensures { result ≡ start_in starts.now field }
+{
+    match starts.get(field as usize) {
+        Some(start) => *start,
+        None => match starts.last() {
+            Some(end) => *end,
+            None => 0,
+        },
     }
 }
 

@@ -1,7 +1,8 @@
 //! What the step machine of the normal form evaluates.
 //!
 //! What types say of an expression or a place is settled once: its code has offsets, sizes and
-//! counts in their place. To evaluate the code gives what the normal form's meaning gives.
+//! counts in their place. To evaluate the code gives what the normal form's meaning gives. A
+//! function's statements are laid out in one array, each with where control goes on.
 #![tactic(auto)]
 
 mod arithmetic;
