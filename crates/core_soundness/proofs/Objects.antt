@@ -107,7 +107,7 @@ path_fits c depth blocks s (k ∷ ks) (Struct n) at h fits =
     (and_right (is_field c.structs (Struct n) k) (is_path c.structs (field_type c.structs (Struct n) k) ks) h)
     (field_fits c depth blocks s n k at (and_left (is_field c.structs (Struct n) k) (is_path c.structs (field_type c.structs (Struct n) k) ks) h) fits)
 
-plain_variable : (n : ℕ) (ty : VarTy) → IsTrue (is_plain_type n ty) → IsTrue (is_variable_type n ty)
+pub plain_variable : (n : ℕ) (ty : VarTy) → IsTrue (is_plain_type n ty) → IsTrue (is_variable_type n ty)
 plain_variable n (Int t) h = h
 plain_variable n (Struct m) h = h
 plain_variable n (Array elem count) h = h
