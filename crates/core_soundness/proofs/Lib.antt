@@ -1,8 +1,10 @@
 pub mod Integers
 pub mod Leaves
+pub mod Memory
 pub mod Numbers
 pub mod Objects
 pub mod Programs
 pub mod SameTypes
 pub mod Settings
+pub mod Stores
 pub mod Values

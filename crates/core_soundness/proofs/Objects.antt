@@ -31,7 +31,7 @@ use Rattle.block_memory.specs.declared.cell.BlockName.{BlockName}
 use Rattle.block_memory.specs.declared.cell.BlockName.TheVariants.{Local, Global}
 use Rattle.block_memory.specs.Block.{Block}
 use Rattle.block_memory.specs.Blocks.{Blocks}
-use Rattle.pt_core.specs.Types as c
+use Rattle.pt_core.specs.Types as type
 use Rattle.pt_core.specs.Types.{Context, field_type, path_type, pointee_type}
 use Rattle.pt_core.specs.Values.{Stop, ◌>>?◌, at_span, pointed, target_of, Location, offset_in, field_at, along, pointee, decayed, cell_in}
 use Rattle.pt_core.specs.WellFormedExpression.{is_field, is_path}
@@ -51,11 +51,11 @@ pub record Setting (c : Context) (depth : ℕ) (blocks : Blocks) : Type 0 where
 -- ---- objects
 
 -- a part of no pointer's type
-pub part_lies : (structs : List StructInfo) (blocks : Blocks) (depth m : ℕ) (ty : VarTy) (at : Location) → IsTrue (is_plain_type m ty) → depth_of at.block ≤ depth → LieAt (blocks at.block).types at.cell (leaves_of structs ty) → ObjectLies structs blocks depth ty at
-part_lies structs blocks depth m (Int t) at h near lies = (near, lies)
-part_lies structs blocks depth m (Struct n) at h near lies = (near, lies)
-part_lies structs blocks depth m (Array elem count) at h near lies = (near, lies)
-part_lies structs blocks depth m (Pointer elem fixed) at h near lies = never h
+pub part_lies : (c : Context) (blocks : Blocks) (depth m : ℕ) (ty : VarTy) (at : Location) → IsTrue (is_plain_type m ty) → depth_of at.block ≤ depth → LieAt (blocks at.block).types at.cell (leaves_of c.structs ty) → ObjectLies c blocks depth ty at
+part_lies c blocks depth m (Int t) at h near lies = (near, lies)
+part_lies c blocks depth m (Struct n) at h near lies = (near, lies)
+part_lies c blocks depth m (Array elem count) at h near lies = (near, lies)
+part_lies c blocks depth m (Pointer elem fixed) at h near lies = never h
 
 whole_lies : (structs : List StructInfo) (blocks : Blocks) (b : BlockName) (ty : VarTy) → (blocks b).types ≡ leaves_of structs ty → LieAt (blocks b).types 0 (leaves_of structs ty)
 whole_lies structs blocks b ty is = subst (λ ts. BeginsWith ts (leaves_of structs ty)) (sym is) (begins_self (leaves_of structs ty))
@@ -66,24 +66,24 @@ same_depth n = omega arith
 no_depth : (n : ℕ) → 0 ≤ n
 no_depth n = omega arith
 
-variable_lies : (structs : List StructInfo) (blocks : Blocks) (depth v : ℕ) (ty : VarTy) → BlockFits structs blocks depth ty (blocks (Local depth v)) → ObjectLies structs blocks depth ty (record { block = Local depth v; cell = 0; ty = ty })
-variable_lies structs blocks depth v (Int t) h = (same_depth depth, whole_lies structs blocks (Local depth v) (Int t) h.types_are)
-variable_lies structs blocks depth v (Struct n) h = (same_depth depth, whole_lies structs blocks (Local depth v) (Struct n) h.types_are)
-variable_lies structs blocks depth v (Array elem count) h = (same_depth depth, whole_lies structs blocks (Local depth v) (Array elem count) h.types_are)
-variable_lies structs blocks depth v (Pointer elem fixed) h = (v, refl, refl, h)
+variable_lies : (c : Context) (blocks : Blocks) (depth v : ℕ) (ty : VarTy) → slice_get c.variables v ≡ Some ty → BlockFits c.structs blocks depth ty (blocks (Local depth v)) → ObjectLies c blocks depth ty (record { block = Local depth v; cell = 0; ty = ty })
+variable_lies c blocks depth v (Int t) is h = (same_depth depth, whole_lies c.structs blocks (Local depth v) (Int t) h.types_are)
+variable_lies c blocks depth v (Struct n) is h = (same_depth depth, whole_lies c.structs blocks (Local depth v) (Struct n) h.types_are)
+variable_lies c blocks depth v (Array elem count) is h = (same_depth depth, whole_lies c.structs blocks (Local depth v) (Array elem count) h.types_are)
+variable_lies c blocks depth v (Pointer elem fixed) is h = (v, is, refl, refl)
 
-pub local_fits : (c : Context) (depth : ℕ) (blocks : Blocks) → Setting c depth blocks → (v : ℕ) (ty : VarTy) → slice_get c.variables v ≡ Some ty → LocationFits c.structs blocks depth ty (record { block = Local depth v; cell = 0; ty = ty })
-local_fits c depth blocks s v ty is = record { typed = refl; lies = variable_lies c.structs blocks depth v ty (s.variables v ty is).0 }
+pub local_fits : (c : Context) (depth : ℕ) (blocks : Blocks) → Setting c depth blocks → (v : ℕ) (ty : VarTy) → slice_get c.variables v ≡ Some ty → LocationFits c blocks depth ty (record { block = Local depth v; cell = 0; ty = ty })
+local_fits c depth blocks s v ty is = record { typed = refl; lies = variable_lies c blocks depth v ty is (s.variables v ty is).0 }
 
-pub global_fits : (c : Context) (depth : ℕ) (blocks : Blocks) → Setting c depth blocks → (g : ℕ) (ty : VarTy) → lookup (nat_eq g) c.globals ≡ Some ty → LocationFits c.structs blocks depth ty (record { block = Global g; cell = 0; ty = ty })
+pub global_fits : (c : Context) (depth : ℕ) (blocks : Blocks) → Setting c depth blocks → (g : ℕ) (ty : VarTy) → lookup (nat_eq g) c.globals ≡ Some ty → LocationFits c blocks depth ty (record { block = Global g; cell = 0; ty = ty })
 global_fits c depth blocks s g ty is =
     let of = s.globals g ty is in
-    record { typed = refl; lies = part_lies c.structs blocks depth (length c.structs) ty (record { block = Global g; cell = 0; ty = ty }) of.1 (no_depth depth) (whole_lies c.structs blocks (Global g) ty of.0) }
+    record { typed = refl; lies = part_lies c blocks depth (length c.structs) ty (record { block = Global g; cell = 0; ty = ty }) of.1 (no_depth depth) (whole_lies c.structs blocks (Global g) ty of.0) }
 
 -- ---- along a path
 
-field_fits : (c : Context) (depth : ℕ) (blocks : Blocks) → Setting c depth blocks → (n k : ℕ) (at : Location) → IsTrue (is_field c.structs (Struct n) k) → LocationFits c.structs blocks depth (Struct n) at →
-    LocationFits c.structs blocks depth (field_type c.structs (Struct n) k) (field_at c k at)
+field_fits : (c : Context) (depth : ℕ) (blocks : Blocks) → Setting c depth blocks → (n k : ℕ) (at : Location) → IsTrue (is_field c.structs (Struct n) k) → LocationFits c blocks depth (Struct n) at →
+    LocationFits c blocks depth (field_type c.structs (Struct n) k) (field_at c k at)
 field_fits c depth blocks s n k at h fits =
     let of : FieldOf c.structs n k = field_of c.structs n k h in
     let sound = sound_at c.structs n of.struct_ s.sound of.is_struct in
@@ -91,13 +91,13 @@ field_fits c depth blocks s n k at h fits =
     and_left (is_plain_type n of.field.ty) (is_small c.structs of.field.ty) (all_at (field_sound c.structs n) of.struct_.fields k of.field of.is_field (and_right (nat_le 1 (length of.struct_.fields)) (list_all (field_sound c.structs n) of.struct_.fields) sound)) in
     record {
       typed = ap (λ u. field_type c.structs u k) fits.typed;
-      lies = part_lies c.structs blocks depth n (field_type c.structs (Struct n) k) (field_at c k at) (subst (λ u. IsTrue (is_plain_type n u)) (sym of.typed) plain) fits.lies.0
+      lies = part_lies c blocks depth n (field_type c.structs (Struct n) k) (field_at c k at) (subst (λ u. IsTrue (is_plain_type n u)) (sym of.typed) plain) fits.lies.0
           (subst (λ u. LieAt (blocks at.block).types (at.cell + offset_in c.structs u k) (leaves_of c.structs (field_type c.structs (Struct n) k))) (sym fits.typed)
           (lies_in (blocks at.block).types at.cell (leaves_of c.structs (Struct n)) (offset_in c.structs (Struct n) k) (leaves_of c.structs (field_type c.structs (Struct n) k)) fits.lies.1 (field_in c.structs n k s.sound h)));
     }
 
-pub path_fits : (c : Context) (depth : ℕ) (blocks : Blocks) → Setting c depth blocks → (path : List ℕ) (ty : VarTy) (at : Location) → IsTrue (is_path c.structs ty path) → LocationFits c.structs blocks depth ty at →
-    LocationFits c.structs blocks depth (path_type c.structs ty path) (along c path at)
+pub path_fits : (c : Context) (depth : ℕ) (blocks : Blocks) → Setting c depth blocks → (path : List ℕ) (ty : VarTy) (at : Location) → IsTrue (is_path c.structs ty path) → LocationFits c blocks depth ty at →
+    LocationFits c blocks depth (path_type c.structs ty path) (along c path at)
 path_fits c depth blocks s [] ty at h fits = fits
 path_fits c depth blocks s (k ∷ ks) (Int t) at h fits = never h
 path_fits c depth blocks s (k ∷ ks) (Array elem count) at h fits = never h
@@ -145,23 +145,23 @@ element_size structs (e.Struct n) = sizes structs (Struct n)
 abbrev if_within : Bool → BlockName → ℕ → Result (BlockName × ℕ) Trap
 if_within b block n = if b then Ok (block, n) else Err Bounds
 
-element_object : (structs : List StructInfo) (blocks : Blocks) (depth : ℕ) (elem : Elem) (at : Location) → depth_of at.block ≤ depth → LieAt (blocks at.block).types at.cell (leaves_of structs (type_of_elem elem)) → ObjectLies structs blocks depth (type_of_elem elem) at
-element_object structs blocks depth (e.Int t) at near lies = (near, lies)
-element_object structs blocks depth (e.Struct n) at near lies = (near, lies)
+element_object : (c : Context) (blocks : Blocks) (depth : ℕ) (elem : Elem) (at : Location) → depth_of at.block ≤ depth → LieAt (blocks at.block).types at.cell (leaves_of c.structs (type_of_elem elem)) → ObjectLies c blocks depth (type_of_elem elem) at
+element_object c blocks depth (e.Int t) at near lies = (near, lies)
+element_object c blocks depth (e.Struct n) at near lies = (near, lies)
 
-reached_fits : (structs : List StructInfo) (blocks : Blocks) (depth : ℕ) (elem : Elem) (s : Span) (p : Target BlockName) → Points structs blocks depth elem p → (b : Bool) → nat_lt p.index p.count ≡ b →
-    IfOk (at_span s (if_within b p.block (cell_at (elem_cells (sizes_of structs) elem) p.base p.index)) >>? λ at. Ok (record { block = at.0; cell = at.1; ty = type_of_elem elem })) (LocationFits structs blocks depth (type_of_elem elem))
-reached_fits structs blocks depth elem s p points false less = tt {0}
-reached_fits structs blocks depth elem s p points true less = record {
+reached_fits : (c : Context) (blocks : Blocks) (depth : ℕ) (elem : Elem) (s : Span) (p : Target BlockName) → Points c.structs blocks depth elem p → (b : Bool) → nat_lt p.index p.count ≡ b →
+    IfOk (at_span s (if_within b p.block (cell_at (elem_cells (sizes_of c.structs) elem) p.base p.index)) >>? λ at. Ok (record { block = at.0; cell = at.1; ty = type_of_elem elem })) (LocationFits c blocks depth (type_of_elem elem))
+reached_fits c blocks depth elem s p points false less = tt {0}
+reached_fits c blocks depth elem s p points true less = record {
   typed = refl;
-  lies = element_object structs blocks depth elem (record { block = p.block; cell = cell_at (elem_cells (sizes_of structs) elem) p.base p.index; ty = type_of_elem elem }) points.near
-      (subst (λ k. LieAt (blocks p.block).types (p.base + p.index * k) (leaves_of structs (type_of_elem elem))) (sym (element_size structs elem))
-      (lies_in (blocks p.block).types p.base (repeated p.count (leaves_of structs (type_of_elem elem))) (p.index * length (leaves_of structs (type_of_elem elem))) (leaves_of structs (type_of_elem elem)) points.types
-      (element_lies p.count p.index (leaves_of structs (type_of_elem elem)) (ltb-true p.index p.count less))));
+  lies = element_object c blocks depth elem (record { block = p.block; cell = cell_at (elem_cells (sizes_of c.structs) elem) p.base p.index; ty = type_of_elem elem }) points.near
+      (subst (λ k. LieAt (blocks p.block).types (p.base + p.index * k) (leaves_of c.structs (type_of_elem elem))) (sym (element_size c.structs elem))
+      (lies_in (blocks p.block).types p.base (repeated p.count (leaves_of c.structs (type_of_elem elem))) (p.index * length (leaves_of c.structs (type_of_elem elem))) (leaves_of c.structs (type_of_elem elem)) points.types
+      (element_lies p.count p.index (leaves_of c.structs (type_of_elem elem)) (ltb-true p.index p.count less))));
 }
 
 pub pointee_fits : (c : Context) (blocks : Blocks) (depth : ℕ) (s : Span) (ty : VarTy) (v : Cell) → IsTrue (is_some (pointee_of (Some ty))) → ValueFits c.structs blocks depth ty v →
-    IfOk (pointee c s ty v) (LocationFits c.structs blocks depth (pointee_type ty))
+    IfOk (pointee c s ty v) (LocationFits c blocks depth (pointee_type ty))
 pointee_fits c blocks depth s (Int t) v h f = never h
 pointee_fits c blocks depth s (Struct n) v h f = never h
 pointee_fits c blocks depth s (Array elem count) v h f = never h
@@ -169,18 +169,18 @@ pointee_fits c blocks depth s (Pointer elem fixed) (cell.Int v) h f = elim f [ ]
 pointee_fits c blocks depth s (Pointer elem fixed) (cell.Sealed v) h f = elim f [ ]
 pointee_fits c blocks depth s (Pointer elem fixed) (cell.Ptr pointer.Null) h f = tt {0}
 pointee_fits c blocks depth s (Pointer elem fixed) (cell.Ptr (pointer.At block base count index)) h f =
-    reached_fits c.structs blocks depth elem s (record { block = block; base = base; count = count; index = index }) f (nat_lt index count) refl
+    reached_fits c blocks depth elem s (record { block = block; base = base; count = count; index = index }) f (nat_lt index count) refl
 
 -- ---- what is read and pointed to
 
-pub read_fits : (c : Context) (depth : ℕ) (blocks : Blocks) → Setting c depth blocks → (ty : VarTy) (at : Location) → IsTrue (is_scalar (Some ty)) → LocationFits c.structs blocks depth ty at → ValueFits c.structs blocks depth ty (cell_in blocks at)
+pub read_fits : (c : Context) (depth : ℕ) (blocks : Blocks) → Setting c depth blocks → (ty : VarTy) (at : Location) → IsTrue (is_scalar (Some ty)) → LocationFits c blocks depth ty at → ValueFits c.structs blocks depth ty (cell_in blocks at)
 read_fits c depth blocks s (Int t) at h fits = s.integers at.block at.cell t (subst (λ ts. LieAt (blocks at.block).types at.cell ts) (leaves_of_int c.structs t) fits.lies.1)
 read_fits c depth blocks s (Struct n) at h fits = never h
 read_fits c depth blocks s (Array elem count) at h fits = never h
 read_fits c depth blocks s (Pointer elem fixed) at h fits =
-    let own : HasPointer c.structs blocks depth elem (blocks (Local depth fits.lies.0)) = fits.lies.3 in
-    subst (λ b. PointerFits c.structs blocks depth elem (slice_index_or (blocks b).cells at.cell (cell.Int (pos 0)))) (sym fits.lies.1)
-    (subst (λ n. PointerFits c.structs blocks depth elem (slice_index_or (blocks (Local depth fits.lies.0)).cells n (cell.Int (pos 0)))) (sym fits.lies.2)
+    let own : HasPointer c.structs blocks depth elem (blocks (Local depth fits.lies.0)) = (s.variables fits.lies.0 (Pointer elem fixed) fits.lies.1).0 in
+    subst (λ b. PointerFits c.structs blocks depth elem (slice_index_or (blocks b).cells at.cell (cell.Int (pos 0)))) (sym fits.lies.2)
+    (subst (λ n. PointerFits c.structs blocks depth elem (slice_index_or (blocks (Local depth fits.lies.0)).cells n (cell.Int (pos 0)))) (sym fits.lies.3)
     (subst (λ cells. PointerFits c.structs blocks depth elem (slice_index_or cells 0 (cell.Int (pos 0)))) (sym own.cells) own.fits))
 
 with_none : {A : Type 0} (xs : List A) → xs ≡ xs ++ []
@@ -197,26 +197,26 @@ one_element structs blocks depth elem at near lies = record {
   types = subst (λ ts. LieAt (blocks at.block).types at.cell ts) (with_none (leaves_of structs (type_of_elem elem))) lies;
 }
 
-pub address_fits : (structs : List StructInfo) (blocks : Blocks) (depth : ℕ) (ty : VarTy) (at : Location) → IsTrue (is_some (element_of (Some ty))) → LocationFits structs blocks depth ty at →
-    ValueFits structs blocks depth (Pointer (c.element_of ty) false) (cell.Ptr (pointer.At at.block at.cell 1 0))
-address_fits structs blocks depth (Int t) at h fits = one_element structs blocks depth (e.Int t) at fits.lies.0 fits.lies.1
-address_fits structs blocks depth (Struct n) at h fits = one_element structs blocks depth (e.Struct n) at fits.lies.0 fits.lies.1
-address_fits structs blocks depth (Array elem count) at h fits = never h
-address_fits structs blocks depth (Pointer elem fixed) at h fits = never h
+pub address_fits : (c : Context) (blocks : Blocks) (depth : ℕ) (ty : VarTy) (at : Location) → IsTrue (is_some (element_of (Some ty))) → LocationFits c blocks depth ty at →
+    ValueFits c.structs blocks depth (Pointer (type.element_of ty) false) (cell.Ptr (pointer.At at.block at.cell 1 0))
+address_fits c blocks depth (Int t) at h fits = one_element c.structs blocks depth (e.Int t) at fits.lies.0 fits.lies.1
+address_fits c blocks depth (Struct n) at h fits = one_element c.structs blocks depth (e.Struct n) at fits.lies.0 fits.lies.1
+address_fits c blocks depth (Array elem count) at h fits = never h
+address_fits c blocks depth (Pointer elem fixed) at h fits = never h
 
-pub decay_fits : (structs : List StructInfo) (blocks : Blocks) (depth : ℕ) (ty : VarTy) (at : Location) → IsTrue (is_some (item_of (Some ty))) → IsCounted ty → LocationFits structs blocks depth ty at →
-    ValueFits structs blocks depth (Pointer (c.element_of ty) false) (decayed at at.ty)
-decay_fits structs blocks depth (Int t) at h k fits = never h
-decay_fits structs blocks depth (Struct n) at h k fits = never h
-decay_fits structs blocks depth (Pointer elem fixed) at h k fits = never h
-decay_fits structs blocks depth (Array elem count) at h k fits =
-    subst (λ u. PointerFits structs blocks depth elem (decayed at u)) (sym fits.typed)
+pub decay_fits : (c : Context) (blocks : Blocks) (depth : ℕ) (ty : VarTy) (at : Location) → IsTrue (is_some (item_of (Some ty))) → IsCounted ty → LocationFits c blocks depth ty at →
+    ValueFits c.structs blocks depth (Pointer (type.element_of ty) false) (decayed at at.ty)
+decay_fits c blocks depth (Int t) at h k fits = never h
+decay_fits c blocks depth (Struct n) at h k fits = never h
+decay_fits c blocks depth (Pointer elem fixed) at h k fits = never h
+decay_fits c blocks depth (Array elem count) at h k fits =
+    subst (λ u. PointerFits c.structs blocks depth elem (decayed at u)) (sym fits.typed)
     (record {
       near = fits.lies.0;
       some = k.0;
       few = k.1;
       within = omega arith;
-      types = subst (λ ts. LieAt (blocks at.block).types at.cell ts) (leaves_of_array structs elem count) fits.lies.1;
+      types = subst (λ ts. LieAt (blocks at.block).types at.cell ts) (leaves_of_array c.structs elem count) fits.lies.1;
     })
 
 -- ---- moved pointers

@@ -44,7 +44,7 @@ known_global c g h = go (lookup (nat_eq g) c.globals) h
     go None h = never h
     go (Some ty) h = refl
 
-known_variable : (c : Context) (v : ℕ) → IsTrue (nat_lt v (length c.variables)) → slice_get c.variables v ≡ Some (type_at c.variables v)
+pub known_variable : (c : Context) (v : ℕ) → IsTrue (nat_lt v (length c.variables)) → slice_get c.variables v ≡ Some (type_at c.variables v)
 known_variable c v h = got_below c.variables v (Int i.Int) (below v (length c.variables) h)
 
 element_counted : (ty : VarTy) → IsTrue (is_some (pointee_of (Some ty))) → IsCounted (pointee_type ty)
@@ -70,7 +70,7 @@ mutual
   pub values : (c : Context) (depth : ℕ) (blocks : Blocks) → Setting c depth blocks → (e : ExprTree) → IsTrue (expr_fits c e) → IfOk (value_of c depth e blocks) (ValueFits c.structs blocks depth (type_of c e))
   values c depth blocks s (constant t v) h = h
   values c depth blocks s (read p) h =
-      bound (LocationFits c.structs blocks depth (place_type c p)) (ValueFits c.structs blocks depth (place_type c p)) (location_of c depth p blocks) _
+      bound (LocationFits c blocks depth (place_type c p)) (ValueFits c.structs blocks depth (place_type c p)) (location_of c depth p blocks) _
       (places c depth blocks s p (and_left (place_fits c p) (is_scalar (Some (place_type c p))) h))
       (λ at fits. read_fits c depth blocks s (place_type c p) at (and_right (place_fits c p) (is_scalar (Some (place_type c p))) h) fits)
   values c depth blocks s (unary op t a span) h =
@@ -91,13 +91,13 @@ mutual
   values c depth blocks s (null elem) h = tt {0}
   values c depth blocks s (address p) h =
       let rest : IsTrue (is_addressed p && is_some (t.element_of (Some (place_type c p)))) = and_right (place_fits c p) (is_addressed p && is_some (t.element_of (Some (place_type c p)))) h in
-      bound (LocationFits c.structs blocks depth (place_type c p)) (ValueFits c.structs blocks depth (type_of c (address p))) (location_of c depth p blocks) _
+      bound (LocationFits c blocks depth (place_type c p)) (ValueFits c.structs blocks depth (type_of c (address p))) (location_of c depth p blocks) _
       (places c depth blocks s p (and_left (place_fits c p) (is_addressed p && is_some (t.element_of (Some (place_type c p)))) h))
-      (λ at fits. address_fits c.structs blocks depth (place_type c p) at (and_right (is_addressed p) (is_some (t.element_of (Some (place_type c p)))) rest) fits)
+      (λ at fits. address_fits c blocks depth (place_type c p) at (and_right (is_addressed p) (is_some (t.element_of (Some (place_type c p)))) rest) fits)
   values c depth blocks s (decay p) h =
       let lies : IsTrue (place_fits c p) = and_left (place_fits c p) (is_some (item_of (Some (place_type c p)))) h in
-      bound (LocationFits c.structs blocks depth (place_type c p)) (ValueFits c.structs blocks depth (type_of c (decay p))) (location_of c depth p blocks) _ (places c depth blocks s p lies)
-      (λ at fits. decay_fits c.structs blocks depth (place_type c p) at (and_right (place_fits c p) (is_some (item_of (Some (place_type c p)))) h) (place_counted c depth blocks s p lies) fits)
+      bound (LocationFits c blocks depth (place_type c p)) (ValueFits c.structs blocks depth (type_of c (decay p))) (location_of c depth p blocks) _ (places c depth blocks s p lies)
+      (λ at fits. decay_fits c blocks depth (place_type c p) at (and_right (place_fits c p) (is_some (item_of (Some (place_type c p)))) h) (place_counted c depth blocks s p lies) fits)
   values c depth blocks s (move a b back span) h =
       let both : IsTrue (expr_fits c a && expr_fits c b) = and_left (expr_fits c a && expr_fits c b) (is_some (stepped (Some (type_of c a)) (Move back) (Some (type_of c b)))) h in
       bound (ValueFits c.structs blocks depth (type_of c a)) (ValueFits c.structs blocks depth (type_of c a)) (value_of c depth a blocks) _ (values c depth blocks s a (and_left (expr_fits c a) (expr_fits c b) both))
@@ -114,16 +114,16 @@ mutual
       (λ v first. bound (ValueFits c.structs blocks depth (type_of c b)) (IntegerFits i.Long) (value_of c depth b blocks) _ (values c depth blocks s b (and_right (expr_fits c a) (expr_fits c b) both))
       (λ w second. difference_fits c.structs blocks depth span (type_of c a) (type_of c b) v w first second))
 
-  pub places : (c : Context) (depth : ℕ) (blocks : Blocks) → Setting c depth blocks → (p : PlaceTree) → IsTrue (place_fits c p) → IfOk (location_of c depth p blocks) (LocationFits c.structs blocks depth (place_type c p))
+  pub places : (c : Context) (depth : ℕ) (blocks : Blocks) → Setting c depth blocks → (p : PlaceTree) → IsTrue (place_fits c p) → IfOk (location_of c depth p blocks) (LocationFits c blocks depth (place_type c p))
   places c depth blocks s (place root path) h =
-      bound (LocationFits c.structs blocks depth (root_type c root)) (LocationFits c.structs blocks depth (place_type c (place root path))) (root_location c depth root blocks) _
+      bound (LocationFits c blocks depth (root_type c root)) (LocationFits c blocks depth (place_type c (place root path))) (root_location c depth root blocks) _
       (roots c depth blocks s root (and_left (root_fits c root) (is_path c.structs (root_type c root) path) h))
       (λ at fits. path_fits c depth blocks s path (root_type c root) at (and_right (root_fits c root) (is_path c.structs (root_type c root) path) h) fits)
 
-  pub roots : (c : Context) (depth : ℕ) (blocks : Blocks) → Setting c depth blocks → (r : RootTree) → IsTrue (root_fits c r) → IfOk (root_location c depth r blocks) (LocationFits c.structs blocks depth (root_type c r))
+  pub roots : (c : Context) (depth : ℕ) (blocks : Blocks) → Setting c depth blocks → (r : RootTree) → IsTrue (root_fits c r) → IfOk (root_location c depth r blocks) (LocationFits c blocks depth (root_type c r))
   roots c depth blocks s (local v) h = local_fits c depth blocks s v (type_at c.variables v) (known_variable c v h)
   roots c depth blocks s (global g) h = global_fits c depth blocks s g (global_type c g) (known_global c g h)
   roots c depth blocks s (deref a span) h =
-      bound (ValueFits c.structs blocks depth (type_of c a)) (LocationFits c.structs blocks depth (pointee_type (type_of c a))) (value_of c depth a blocks) _
+      bound (ValueFits c.structs blocks depth (type_of c a)) (LocationFits c blocks depth (pointee_type (type_of c a))) (value_of c depth a blocks) _
       (values c depth blocks s a (and_left (expr_fits c a) (is_some (pointee_of (Some (type_of c a)))) h))
       (λ v fits. pointee_fits c blocks depth span (type_of c a) v (and_right (expr_fits c a) (is_some (pointee_of (Some (type_of c a)))) h) fits)
