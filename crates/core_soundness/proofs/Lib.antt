@@ -1,3 +1,4 @@
+pub mod Frames
 pub mod Integers
 pub mod Leaves
 pub mod Memory

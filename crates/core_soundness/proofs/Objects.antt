@@ -66,7 +66,7 @@ same_depth n = omega arith
 no_depth : (n : ℕ) → 0 ≤ n
 no_depth n = omega arith
 
-variable_lies : (c : Context) (blocks : Blocks) (depth v : ℕ) (ty : VarTy) → slice_get c.variables v ≡ Some ty → BlockFits c.structs blocks depth ty (blocks (Local depth v)) → ObjectLies c blocks depth ty (record { block = Local depth v; cell = 0; ty = ty })
+pub variable_lies : (c : Context) (blocks : Blocks) (depth v : ℕ) (ty : VarTy) → slice_get c.variables v ≡ Some ty → BlockFits c.structs blocks depth ty (blocks (Local depth v)) → ObjectLies c blocks depth ty (record { block = Local depth v; cell = 0; ty = ty })
 variable_lies c blocks depth v (Int t) is h = (same_depth depth, whole_lies c.structs blocks (Local depth v) (Int t) h.types_are)
 variable_lies c blocks depth v (Struct n) is h = (same_depth depth, whole_lies c.structs blocks (Local depth v) (Struct n) h.types_are)
 variable_lies c blocks depth v (Array elem count) is h = (same_depth depth, whole_lies c.structs blocks (Local depth v) (Array elem count) h.types_are)
