@@ -1,3 +1,3 @@
 pub mod Fits
 pub mod Laws
-pub mod StepLaws
+pub mod Outside

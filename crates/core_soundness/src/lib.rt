@@ -1,8 +1,9 @@
-//! A step of a well formed program in the normal form keeps that the machine fits: what is live has
-//! its types, numbers are in range, pointers point to live objects, and code fits its scope.
+//! A machine of the normal form fits its program where what is live has its types, numbers are in
+//! range, pointers point to live objects, and what the active functions have still to do fits.
 #![tactic(auto)]
 
 ghost use Rattle.core_soundness.specs.Laws.{ValuesFit, PlacesFit};
+ghost use Rattle.core_soundness.specs.Outside.{ResumedFits, BudgetedFits};
 
 /// Where the memory fits, an expression that fits gives a cell that fits its type, or traps.
 pub fn values_fit()
@@ -12,4 +13,14 @@ pub fn values_fit()
 /// Where the memory fits, a place that fits designates an object of its type, or traps.
 pub fn places_fit()
     ensures { PlacesFit }
+{}
+
+/// A machine that fits goes on fitting with the result of the call that it awaited.
+pub fn resumed_fits()
+    ensures { ResumedFits }
+{}
+
+/// A machine that fits does so whatever its budget.
+pub fn budgeted_fits()
+    ensures { BudgetedFits }
 {}

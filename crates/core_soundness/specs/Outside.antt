@@ -1,0 +1,42 @@
+-- What comes to a machine from outside leaves it fitting.
+use Rattle.std.specs.Prelude.{◌≡◌, ◌≤◌, ℕ, Bool, List, [], ◌∷◌, Option, Some, None, IsTrue, is_some}
+use Rattle.pt_base.specs.declared.int_type.IntType.{IntType}
+use Rattle.pt_tree.specs.declared.signature.Param.{Param}
+use Rattle.pt_tree.specs.declared.signature.Signature.{Signature}
+use Rattle.runs.specs.Run.{deepest}
+use Rattle.typed_tree.specs.declared.types.StructInfo.{StructInfo}
+use Rattle.typed_tree.specs.WellFormedExpression.{param_type}
+use Rattle.block_memory.specs.declared.cell.Cell.{Cell}
+use Rattle.block_memory.specs.Blocks.{Blocks}
+use Rattle.pt_core.specs.CodeTree.{ProgramTree}
+use Rattle.pt_core.specs.Calls.{signature_in}
+use Rattle.pt_core.specs.Steps.{Awaited, Machine, with_budget, resumed}
+use Rattle.pt_core.specs.WellFormed.{called_signature, is_sound}
+use Rattle.core_soundness.specs.Fits.{IntegerFits, ValueFits, Fits}
+
+-- ---- arguments and results
+
+-- one value for each parameter, which a function of this depth may hold
+abbrev pub ArgumentsFit : List StructInfo → Blocks → ℕ → List Param → List Cell → Type 0
+ArgumentsFit structs blocks depth [] [] = Unit {0}
+ArgumentsFit structs blocks depth [] (v ∷ vs) = ⊥
+ArgumentsFit structs blocks depth (p ∷ ps) [] = ⊥
+ArgumentsFit structs blocks depth (p ∷ ps) (v ∷ vs) = ValueFits structs blocks depth (param_type p.kind) v × ArgumentsFit structs blocks depth ps vs
+
+-- what a function gives is of its result
+abbrev pub GivenFits : Option IntType → Option Cell → Type 0
+GivenFits None None = Unit {0}
+GivenFits None (Some v) = ⊥
+GivenFits (Some t) None = ⊥
+GivenFits (Some t) (Some v) = IntegerFits t v
+
+-- ---- laws
+
+-- a machine goes on with what the awaited call gave
+abbrev pub ResumedFits : Type 0
+ResumedFits = (monitor : Bool) (program : ProgramTree) (m : Machine) (awaited : Awaited) (v : Option Cell) → IsTrue (is_sound monitor program) → Fits monitor program m → m.awaits ≡ Some awaited →
+    GivenFits (signature_in program awaited.callee).result v → Fits monitor program (resumed v m)
+
+-- how many turns may be taken makes no difference
+abbrev pub BudgetedFits : Type 0
+BudgetedFits = (monitor : Bool) (program : ProgramTree) (m : Machine) (budget : ℕ) → Fits monitor program m → Fits monitor program (with_budget budget m)
