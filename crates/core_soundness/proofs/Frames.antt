@@ -38,7 +38,7 @@ no_variables program (a ∷ rest) depth d v below h = go (no_variables program r
 
 -- ---- a function is left
 
-other_depth : {X : Type 0} (d depth : ℕ) (x y : X) → d < depth → (if nat_eq d depth then x else y) ≡ y
+pub other_depth : {X : Type 0} (d depth : ℕ) (x y : X) → d < depth → (if nat_eq d depth then x else y) ≡ y
 other_depth {X} d depth x y h = go (nat_eq d depth) refl
   where
     not_same : nat_eq d depth ≡ true → ⊥

@@ -9,5 +9,6 @@ pub mod Outside
 pub mod Programs
 pub mod SameTypes
 pub mod Settings
+pub mod Starting
 pub mod Stores
 pub mod Values

@@ -1,5 +1,5 @@
 -- What comes to a machine from outside leaves it fitting.
-use Rattle.std.specs.Prelude.{◌≡◌, ◌≤◌, ℕ, Bool, List, [], ◌∷◌, Option, Some, None, IsTrue, is_some}
+use Rattle.std.specs.Prelude.{◌≡◌, ◌≤◌, ℕ, Bool, List, [], ◌∷◌, Option, Some, None, IsTrue, take, is_some}
 use Rattle.pt_base.specs.declared.int_type.IntType.{IntType}
 use Rattle.pt_tree.specs.declared.signature.Param.{Param}
 use Rattle.pt_tree.specs.declared.signature.Signature.{Signature}
@@ -9,9 +9,9 @@ use Rattle.typed_tree.specs.WellFormedExpression.{param_type}
 use Rattle.block_memory.specs.declared.cell.Cell.{Cell}
 use Rattle.block_memory.specs.Blocks.{Blocks}
 use Rattle.pt_core.specs.CodeTree.{ProgramTree}
-use Rattle.pt_core.specs.Calls.{signature_in}
-use Rattle.pt_core.specs.Steps.{Awaited, Machine, with_budget, resumed}
-use Rattle.pt_core.specs.WellFormed.{called_signature, is_sound}
+use Rattle.pt_core.specs.Calls.{signature_in, function_in}
+use Rattle.pt_core.specs.Steps.{Awaited, Machine, started, with_budget, resumed}
+use Rattle.pt_core.specs.WellFormed.{function_at, is_sound}
 use Rattle.core_soundness.specs.Fits.{IntegerFits, ValueFits, Fits}
 
 -- ---- arguments and results
@@ -30,7 +30,17 @@ GivenFits None (Some v) = ⊥
 GivenFits (Some t) None = ⊥
 GivenFits (Some t) (Some v) = IntegerFits t v
 
+-- the parameters that the function's code has: in the monitor's program the first ones of its signature
+abbrev pub own_params : ProgramTree → ℕ → List Param
+own_params program f = take (function_in program f).params (signature_in program f).params
+
 -- ---- laws
+
+-- A function of the program is entered at a depth from 1 to the deepest, where none is active, with arguments
+-- of its own parameters; its pointers point to no local.
+abbrev pub StartedFits : Type 0
+StartedFits = (monitor : Bool) (program : ProgramTree) (m : Machine) (privileged : Bool) (f depth : ℕ) (args : List Cell) → IsTrue (is_sound monitor program) → Fits monitor program m → m.active ≡ [] → m.awaits ≡ None →
+    IsTrue (is_some (function_at program f)) → 1 ≤ depth → depth ≤ deepest → ArgumentsFit program.structs m.blocks 0 (own_params program f) args → Fits monitor program (started program privileged f depth args m)
 
 -- a machine goes on with what the awaited call gave
 abbrev pub ResumedFits : Type 0

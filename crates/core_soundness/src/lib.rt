@@ -3,7 +3,7 @@
 #![tactic(auto)]
 
 ghost use Rattle.core_soundness.specs.Laws.{ValuesFit, PlacesFit};
-ghost use Rattle.core_soundness.specs.Outside.{ResumedFits, BudgetedFits};
+ghost use Rattle.core_soundness.specs.Outside.{StartedFits, ResumedFits, BudgetedFits};
 
 /// Where the memory fits, an expression that fits gives a cell that fits its type, or traps.
 pub fn values_fit()
@@ -13,6 +13,12 @@ pub fn values_fit()
 /// Where the memory fits, a place that fits designates an object of its type, or traps.
 pub fn places_fit()
     ensures { PlacesFit }
+{}
+
+/// A machine that fits, with no function active, does so when a function of the program is entered
+/// with arguments that fit.
+pub fn started_fits()
+    ensures { StartedFits }
 {}
 
 /// A machine that fits goes on fitting with the result of the call that it awaited.
