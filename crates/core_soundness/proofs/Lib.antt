@@ -10,5 +10,6 @@ pub mod Programs
 pub mod SameTypes
 pub mod Settings
 pub mod Starting
+pub mod Steps
 pub mod Stores
 pub mod Values

@@ -1,9 +1,10 @@
-//! A machine of the normal form fits its program where what is live has its types, numbers are in
+//! A step of a well formed program in the normal form keeps that the machine fits: what is live has its types, numbers are in
 //! range, pointers point to live objects, and what the active functions have still to do fits.
 #![tactic(auto)]
 
 ghost use Rattle.core_soundness.specs.Laws.{ValuesFit, PlacesFit};
 ghost use Rattle.core_soundness.specs.Outside.{StartedFits, ResumedFits, BudgetedFits};
+ghost use Rattle.core_soundness.specs.StepLaws.{StepKeeps};
 
 /// Where the memory fits, an expression that fits gives a cell that fits its type, or traps.
 pub fn values_fit()
@@ -13,6 +14,11 @@ pub fn values_fit()
 /// Where the memory fits, a place that fits designates an object of its type, or traps.
 pub fn places_fit()
     ensures { PlacesFit }
+{}
+
+/// A step of a machine that fits, and awaits nothing, leaves it fitting, and its answer fits.
+pub fn step_keeps<G>()
+    ensures { StepKeeps G }
 {}
 
 /// A machine that fits, with no function active, does so when a function of the program is entered
