@@ -1,0 +1,15 @@
+pub mod Entering
+pub mod Frames
+pub mod Integers
+pub mod Leaves
+pub mod Memory
+pub mod Numbers
+pub mod Objects
+pub mod Outside
+pub mod Programs
+pub mod SameTypes
+pub mod Settings
+pub mod Starting
+pub mod Steps
+pub mod Stores
+pub mod Values
