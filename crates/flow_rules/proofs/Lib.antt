@@ -1,3 +1,4 @@
 mod FlowLemmas
+mod SecretLemmas
 mod Ways
 pub mod Worked

@@ -4,8 +4,13 @@
 
 mod accepted;
 mod fault;
+mod flows;
+mod found;
+mod functions;
 mod laws;
 mod rule;
+mod secrets;
+mod usage_rules;
 
 pub use accepted::Accepted;
 pub use fault::{FlowError, FlowFault};
