@@ -1,5 +1,6 @@
 // What functions and parameters are.
 ghost use Rattle.std.specs.Prelude.{◌≡◌, ◌&&◌, false, option_map};
+ghost use Rattle.std.specs.List.{list_any};
 ghost use Rattle.std.specs.Option.{option_map_or};
 ghost use Rattle.typed_tree.specs.Lookup.{function_at};
 ghost use Rattle.typed_tree.specs.TypedTree.{view_function};
@@ -8,11 +9,11 @@ ghost use Rattle.typed_tree.specs.WellFormedExpression as well;
 ghost use Rattle.flow_rules.specs.Findings as is;
 
 use pt_base::FnId;
-use pt_tree::Signature;
+use pt_tree::{Param, Signature};
 use typed_tree::{Typed, TypedFn};
 
-// the function of this number, None where there is none
-fn function_at(t: &Typed, f: FnId) -> Option<&TypedFn>
+/// The function of this number, None where there is none.
+pub(crate) fn function_at(t: &Typed, f: FnId) -> Option<&TypedFn>
     ensures { option_map (λ g. view_function g.now) result ≡ function_at (view_typed t.now) f }
 {
     t.functions.get(f.0 as usize)
@@ -89,6 +90,35 @@ pub(crate) fn is_main_number(t: &Typed, f: FnId) -> bool
 {
     match function_at(t, f) {
         Some(function) => is_main_function(function),
+        None => false,
+    }
+}
+
+// whether one of these parameters is marked
+fn has_marked(params: &[Param]) -> bool
+    ensures { result ≡ list_any (λ q. q.marked) params.now }
+{
+    for param in params {
+        if param.marked {
+            return true;
+        }
+    }
+    false
+}
+
+// a host of the slave that no parameter makes a mixed one
+fn is_plain_host(f: &TypedFn) -> bool
+    ensures { result ≡ is.is_plain_host (view_function f.now) }
+{
+    is_slave_host(f) && !has_marked(f.signature.params.as_slice())
+}
+
+/// Whether this is the number of a host of the slave that no parameter makes a mixed one.
+pub(crate) fn is_plain_host_number(t: &Typed, g: FnId) -> bool
+    ensures { result ≡ is.function_is is.is_plain_host (view_typed t.now) g }
+{
+    match function_at(t, g) {
+        Some(function) => is_plain_host(function),
         None => false,
     }
 }

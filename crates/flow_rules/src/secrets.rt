@@ -28,8 +28,8 @@ fn is_priv(flows: &Flows<'_>, slot: u64) -> bool
     slot < flows.sides.slots.as_slice().len() as u64 && flows.marks.is_priv(Slot(slot))
 }
 
-// the slot so far behind this one; 2^64 slots don't fit into memory
-fn behind(slot: u64, by: u64) -> Result<u64, AllocError>
+/// The slot so far behind this one. 2^64 slots don't fit into memory.
+pub(crate) fn behind(slot: u64, by: u64) -> Result<u64, AllocError>
     ensures { IfOk result (λ s. s ≡ slot + by) }
 {
     match slot.checked_add(by) {
@@ -39,11 +39,7 @@ fn behind(slot: u64, by: u64) -> Result<u64, AllocError>
 }
 
 // the first privileged slot among these leaves of what begins at this slot
-fn secret_from(
-    flows: &Flows<'_>,
-    start: u64,
-    leaves: &[u64],
-) -> Result<Option<u64>, AllocError>
+fn secret_from(flows: &Flows<'_>, start: u64, leaves: &[u64]) -> Result<Option<u64>, AllocError>
     ensures { IfOk result (λ s. s ≡ first_of (secrets_from (view_flows flows.now) leaves.now start)) }
 {
     for leaf in leaves {
@@ -124,11 +120,7 @@ pub(crate) fn all_leaves(alloc: Global, count: u64) -> Result<Vec<u64>, AllocErr
 }
 
 // how many leaves the value of this type has; a pointer by itself is no secret
-fn value_leaves(
-    alloc: Global,
-    scope: &Scope<'_>,
-    ty: Option<VarTy>,
-) -> Result<Vec<u64>, AllocError>
+fn value_leaves(alloc: Global, scope: &Scope<'_>, ty: Option<VarTy>) -> Result<Vec<u64>, AllocError>
     ensures { IfOk result (λ v. v.items ≡ is.value_leaves scope.now.structs.now ty) }
 {
     match ty {
@@ -171,5 +163,14 @@ pub(crate) fn add_expression(
     ensures { OnOk result (list.new.items ≡ list.old.items ++ map kept (found rule (span_of (view_expr e.now)) (secrets_in (view_flows flows.now) (view_scope scope.now) (view_expr e.now)))) }
 {
     let starts = carried_slots(alloc, scope, e)?;
-    add_value(alloc, flows, scope, starts.as_slice(), e.ty, rule, e.span, list)
+    add_value(
+        alloc,
+        flows,
+        scope,
+        starts.as_slice(),
+        e.ty,
+        rule,
+        e.span,
+        list,
+    )
 }

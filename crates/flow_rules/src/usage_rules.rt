@@ -15,7 +15,7 @@ use crate::functions::{is_main_number, is_shown_parameter};
 use crate::rule::Rule;
 use crate::secrets::{add_expression, add_value};
 use pt_base::{FnId, Span};
-use sides::{How, Scope, Usage, place_slots};
+use sides::{How, Scope, place_slots};
 use std::alloc::{AllocError, Global};
 use typed_tree::{Form, Place, TypedExpr, VarTy};
 
@@ -34,7 +34,16 @@ fn add_looked_at(
     ensures { OnOk result (list.new.items ≡ list.old.items ++ map kept (is.looked_at (view_flows flows.now) f ty at (view_place place.now))) }
 {
     let starts = place_slots(alloc, scope, place)?;
-    add_value(alloc, flows, scope, starts.as_slice(), ty, Rule::OperationOnPriv, at, list)
+    add_value(
+        alloc,
+        flows,
+        scope,
+        starts.as_slice(),
+        ty,
+        Rule::OperationOnPriv,
+        at,
+        list,
+    )
 }
 
 // what `++`, `--` and a compound assignment change
