@@ -3,9 +3,18 @@
 #![tactic(auto)]
 
 mod accepted;
+mod bodies;
 mod fault;
+mod flows;
+mod found;
+mod function_rules;
+mod functions;
 mod laws;
+mod object_rules;
+mod plain_rule;
 mod rule;
+mod secrets;
+mod usage_rules;
 
 pub use accepted::Accepted;
 pub use fault::{FlowError, FlowFault};

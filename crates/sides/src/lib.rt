@@ -26,12 +26,13 @@ mod usages;
 
 pub use bodies::usages_in;
 pub use calls::Half;
-pub use carried::carried_slots;
+pub use carried::{carried_slots, place_slots};
 pub use halves::{Sides, place};
 pub use laws::objects_have_their_slots;
 pub use layout::Layout;
 pub use leaf_table::LeafTable;
 pub use objects::Object;
+pub use owned::named_by;
 pub use scope::Scope;
 pub use slots::{Owner, SlotInfo};
 pub use usage::{How, Usage};

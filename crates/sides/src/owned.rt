@@ -67,7 +67,7 @@ fn add_globals(alloc: Global, t: &Typed, f: FnId, table: &mut [bool]) -> Result<
 }
 
 /// For each global, whether one of these functions names it.
-pub(crate) fn named_by(
+pub fn named_by(
     alloc: Global,
     t: &Typed,
     functions: &[FnId],
