@@ -261,11 +261,7 @@ pub fn carried_slots(
 
 /// The slots that a place in the body of a function carries: for each object that it may be, that of its
 /// first leaf.
-pub fn place_slots(
-    alloc: Global,
-    scope: &Scope<'_>,
-    place: &Place,
-) -> Result<Vec<u64>, AllocError>
+pub fn place_slots(alloc: Global, scope: &Scope<'_>, place: &Place) -> Result<Vec<u64>, AllocError>
     ensures { IfOk result (λ v. v.items ≡ is.place_slots (view_scope scope.now) (view_place place.now)) }
 {
     let mut slots = Vec::new(alloc);

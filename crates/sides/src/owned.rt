@@ -67,11 +67,7 @@ fn add_globals(alloc: Global, t: &Typed, f: FnId, table: &mut [bool]) -> Result<
 }
 
 /// For each global, whether one of these functions names it.
-pub fn named_by(
-    alloc: Global,
-    t: &Typed,
-    functions: &[FnId],
-) -> Result<Vec<bool>, AllocError>
+pub fn named_by(alloc: Global, t: &Typed, functions: &[FnId]) -> Result<Vec<bool>, AllocError>
     ensures { IfOk result (λ v. v.items ≡ marking.owned_table (view_typed t.now) functions.now) }
 {
     let mut table = vec![in alloc; false; t.globals.as_slice().len()]?;
