@@ -1,0 +1,7 @@
+mod Naming
+mod Usages
+mod Forms
+mod Expressions
+mod Statements
+mod Listed
+pub mod Bodies
