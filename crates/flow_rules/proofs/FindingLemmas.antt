@@ -1,6 +1,5 @@
 -- What is found, one after the other.
-use Rattle.std.proofs.Common.{◌≡◌, ◌∙◌, ◌≤◌, ◌<◌, ◌-◌, ◌+◌, ℕ, zero, suc, refl, ap, sym, arith, List, [], ◌∷◌, ◌++◌, map, append_assoc}
-use Rattle.std.specs.List.{flat_map}
+use Rattle.std.proofs.Common.{◌≡◌, ◌∙◌, refl, ap, sym, List, [], ◌∷◌, ◌++◌, map, append_assoc, append-nil}
 use Rattle.flow_rules.specs.declared.found.Found.{Found}
 use Rattle.flow_rules.specs.Findings.{Finding}
 use Rattle.flow_rules.specs.Kept.{kept}
@@ -23,3 +22,12 @@ pub five_kept : (list a b d f new : List Found) (xs ys zs us vs : List Finding) 
     new ≡ list ++ map kept ((xs ++ ys) ++ (zs ++ (us ++ vs)))
 five_kept list a b d f new xs ys zs us vs h i j k l =
     two_kept list b new (xs ++ ys) (zs ++ (us ++ vs)) (two_kept list a b xs ys h i) (two_kept b d new zs (us ++ vs) j (two_kept d f new us vs k l))
+
+pub four_kept : (list a b d new : List Found) (xs ys zs us : List Finding) → list ≡ [] →
+    a ≡ list ++ map kept xs → b ≡ a ++ map kept ys → d ≡ b ++ map kept zs → new ≡ d ++ map kept us → new ≡ map kept ((xs ++ ys) ++ (zs ++ us))
+four_kept list a b d new xs ys zs us none h i j k =
+    two_kept list b new (xs ++ ys) (zs ++ us) (two_kept list a b xs ys h i) (two_kept b d new zs us j k) ∙ ap (λ fs. fs ++ map kept ((xs ++ ys) ++ (zs ++ us))) none
+
+-- where nothing is found
+pub none_kept : (list : List Found) (xs : List Finding) → xs ≡ [] → list ≡ list ++ map kept xs
+none_kept list xs none = sym (append-nil list) ∙ ap (λ ys. list ++ map kept ys) (sym none)

@@ -1,15 +1,17 @@
 -- What is kept of what was found: the first of its privileged slots, to which a way is shown.
-use Rattle.std.specs.Prelude.{ℕ, ◌+◌, List, [], ◌∷◌, Option, None, Some, Bool, true, false, map, not, slice_index_or}
+use Rattle.std.specs.Prelude.{ℕ, suc, ◌+◌, List, [], ◌∷◌, ◌++◌, Option, None, Some, Bool, true, false, map, not, ◌&&◌, get_or, slice_index_or}
 use Rattle.std.specs.List.{filter, range_with_len}
 use Rattle.pt_base.specs.declared.span.Span.{Span}
 use Rattle.sides.specs.declared.slots.SlotInfo.{SlotInfo}
 use Rattle.sides.specs.Carried.{Scope, carried}
 use Rattle.sides.specs.Slots.{no_slot}
+use Rattle.typed_tree.specs.declared.variable.TypedGlobal.{TypedGlobal}
 use Rattle.typed_tree.specs.ExpressionTree.{ExprTree}
 use Rattle.typed_tree.specs.WellFormedExpression.{ty_of}
 use Rattle.flow_rules.specs.declared.found.Found.{Found}
 use Rattle.flow_rules.specs.declared.rule.Rule.{Rule}
-use Rattle.flow_rules.specs.Findings.{Finding}
+use Rattle.flow_rules.specs.declared.rule.Rule.TheVariants.{SharedGlobal}
+use Rattle.flow_rules.specs.Findings.{Finding, found_if}
 use Rattle.flow_rules.specs.Secrets.{Flows, secret_slots, value_leaves}
 
 abbrev pub first_of : List ℕ → Option ℕ
@@ -45,3 +47,10 @@ is_unmarked_at slots start j = not (slice_index_or slots (start + j) no_slot).ma
 -- such leaves among so many
 abbrev pub unmarked_slots : List SlotInfo → ℕ → ℕ → List ℕ
 unmarked_slots slots start count = filter (is_unmarked_at slots start) (range_with_len 0 count)
+
+-- ---- shared globals
+
+-- globals that are in both of these sets, of which the first has the number g
+abbrev pub shared_in : List Bool → List Bool → ℕ → List TypedGlobal → List Finding
+shared_in slave monitor g [] = []
+shared_in slave monitor g (x ∷ xs) = found_if (get_or slave g false && get_or monitor g false) SharedGlobal x.var.span ++ shared_in slave monitor (suc g) xs

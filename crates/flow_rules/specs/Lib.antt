@@ -5,3 +5,4 @@ pub mod Kept
 pub mod Laws
 pub mod Numbers
 pub mod Secrets
+pub mod Told

@@ -10,12 +10,60 @@ ghost use Rattle.flow_rules.specs.Kept.{kept};
 use crate::flows::Flows;
 use crate::found::Found;
 use crate::function_rules::add_call;
+use crate::object_rules::add_variables;
+use crate::usage_rules::add_usage;
 use pt_base::FnId;
 use sides::usages_in;
 use std::alloc::{AllocError, Global};
 
-/// Adds what the body of a function of the monitor breaks.
-pub(crate) fn add_monitor_usages(
+// what the expressions of a function of the slave break
+fn add_slave_usages(
+    alloc: Global,
+    flows: &Flows<'_>,
+    f: FnId,
+    list: &mut Vec<Found>,
+) -> Result<(), AllocError>
+    ensures { OnOk result (list.new.items ≡ list.old.items ++ map kept (flat_map (is.usage_findings (view_flows flows.now) f) (usages.usages_in (view_typed flows.now.t.now) f))) }
+{
+    let usages = usages_in(alloc, flows.t, f)?;
+    let scope = flows.sides.layout.scope(flows.t, f);
+    for usage in &usages {
+        add_usage(alloc, flows, &scope, f, usage, list)?;
+    }
+    Ok(())
+}
+
+// what a function of the slave breaks
+fn add_slave_function(
+    alloc: Global,
+    flows: &Flows<'_>,
+    f: FnId,
+    list: &mut Vec<Found>,
+) -> Result<(), AllocError>
+    ensures { OnOk result (list.new.items ≡ list.old.items ++ map kept (is.slave_findings (view_flows flows.now) f)) }
+{
+    add_slave_usages(alloc, flows, f, list)?;
+    add_variables(alloc, flows, f, list)?;
+    Ok(())
+}
+
+/// Adds what the functions of the slave break.
+pub(crate) fn add_slave(
+    alloc: Global,
+    flows: &Flows<'_>,
+    list: &mut Vec<Found>,
+) -> Result<(), AllocError>
+    ensures { OnOk result (list.new.items ≡ list.old.items ++ map kept (flat_map (is.slave_findings (view_flows flows.now)) flows.now.sides.now.slave)) }
+{
+    let functions = flows.sides.slave.as_slice();
+    for f in functions {
+        add_slave_function(alloc, flows, *f, list)?;
+    }
+    Ok(())
+}
+
+// what the body of a function of the monitor breaks
+fn add_monitor_usages(
     alloc: Global,
     flows: &Flows<'_>,
     f: FnId,
@@ -26,6 +74,21 @@ pub(crate) fn add_monitor_usages(
     let usages = usages_in(alloc, flows.t, f)?;
     for usage in &usages {
         add_call(flows, usage, list)?;
+    }
+    Ok(())
+}
+
+/// Adds what the functions of the monitor break.
+pub(crate) fn add_monitor(
+    alloc: Global,
+    flows: &Flows<'_>,
+    list: &mut Vec<Found>,
+) -> Result<(), AllocError>
+    ensures { OnOk result (list.new.items ≡ list.old.items ++ map kept (flat_map (is.monitor_findings (view_flows flows.now)) flows.now.sides.now.monitor)) }
+{
+    let functions = flows.sides.monitor.as_slice();
+    for f in functions {
+        add_monitor_usages(alloc, flows, *f, list)?;
     }
     Ok(())
 }

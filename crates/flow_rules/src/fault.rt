@@ -1,6 +1,9 @@
 // Where a program breaks a rule, and by which way a secret comes there.
+ghost use Rattle.std.specs.Prelude.{◌≡◌};
+
 use crate::rule::Rule;
 use pt_base::{Listed, Span};
+use std::alloc::{AllocError, AllocFailed};
 
 /// A place where a rule is broken.
 #[derive(Drop)]
@@ -17,5 +20,26 @@ pub struct FlowFault {
 pub enum FlowError {
     /// All its faults, by where they begin, then by where they end, then by the number of the rule.
     Faults(Listed<FlowFault>),
+    /// Memory is wanting.
     Memory,
+}
+
+impl From<AllocError> for FlowError {
+    ghost use Rattle.flow_rules.specs.declared.fault.FlowError.TheVariants.{Memory};
+
+    ghost from_gives = { λ _ e. e ≡ Memory };
+
+    fn from(_: AllocError) -> Self {
+        FlowError::Memory
+    }
+}
+
+impl<T: Drop> From<AllocFailed<T>> for FlowError {
+    ghost use Rattle.flow_rules.specs.declared.fault.FlowError.TheVariants.{Memory};
+
+    ghost from_gives = { λ _ e. e ≡ Memory };
+
+    fn from(_: AllocFailed<T>) -> Self {
+        FlowError::Memory
+    }
 }

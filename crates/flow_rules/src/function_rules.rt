@@ -1,7 +1,8 @@
 // The rules on functions.
-ghost use Rattle.std.specs.Prelude.{◌≡◌, ◌++◌, OnOk, map};
-ghost use Rattle.std.specs.List.{list_any};
+ghost use Rattle.std.specs.Prelude.{◌≡◌, ◌++◌, ◌&&◌, ◌||◌, not, OnOk, map, option_map, slice_get};
+ghost use Rattle.std.specs.List.{flat_map, list_any};
 ghost use Rattle.sides.specs.Contexts.{expr_callees};
+ghost use Rattle.sides.specs.Seeds as seeds;
 ghost use Rattle.sides.specs.UsageView.{view_usage};
 ghost use Rattle.typed_tree.specs.ExpressionTree.{view_expr};
 ghost use Rattle.typed_tree.specs.TypedTree.{view_function};
@@ -15,9 +16,10 @@ use crate::found::Found;
 use crate::functions::{is_main_function, is_plain_host_number};
 use crate::rule::Rule;
 use pt_base::Span;
+use pt_tree::{Param, ParamKind};
 use sides::Usage;
 use std::alloc::AllocError;
-use typed_tree::{Form, Typed, TypedExpr, TypedFn};
+use typed_tree::{Form, Typed, TypedExpr, TypedFn, Var};
 
 /// Adds that the rule is broken, where something is wrong.
 pub(crate) fn add_if(
@@ -73,10 +75,79 @@ pub(crate) fn add_call(
     add_if(wrong, Rule::HostInMonitor, usage.value.span, list)
 }
 
-/// Adds main, where it is marked.
-pub(crate) fn add_main(f: &TypedFn, list: &mut Vec<Found>) -> Result<(), AllocError>
+// main, where it is marked
+fn add_main(f: &TypedFn, list: &mut Vec<Found>) -> Result<(), AllocError>
     ensures { OnOk result (list.new.items ≡ list.old.items ++ map kept (is.priv_main (view_function f.now))) }
 {
     let wrong = is_main_function(f) && f.signature.privileged;
     add_if(wrong, Rule::PrivMain, f.name, list)
+}
+
+// whether something comes back through a parameter that takes this
+fn is_out(kind: ParamKind) -> bool
+    ensures { result ≡ seeds.is_out kind }
+{
+    match kind {
+        ParamKind::Int(_) => false,
+        ParamKind::Ptr { fixed, .. } => !fixed,
+    }
+}
+
+// whether something comes back through it, and it doesn't say how
+fn is_unmarked_out(param: Param) -> bool
+    ensures { result ≡ (seeds.is_out param.kind && not (param.marked || param.declassify)) }
+{
+    is_out(param.kind) && !(param.marked || param.declassify)
+}
+
+// where the variable of this number is declared
+fn span_at(vars: &[Var], number: usize) -> Option<Span>
+    ensures { result ≡ option_map (λ x. x.span) (slice_get vars.now number) }
+{
+    let var = vars.get(number)?;
+    Some(var.span)
+}
+
+// parameters through which something comes back and that don't say how, with their variables
+fn add_outs(params: &[Param], vars: &[Var], list: &mut Vec<Found>) -> Result<(), AllocError>
+    ensures { OnOk result (list.new.items ≡ list.old.items ++ map kept (is.unmarked_outs params.now vars.now)) }
+{
+    for (number, param) in params.iter().enumerate() {
+        let Some(span) = span_at(vars, number) else {
+            return Ok(());
+        };
+        let wrong = is_unmarked_out(*param);
+        add_if(wrong, Rule::UnmarkedOut, span, list)?;
+    }
+    Ok(())
+}
+
+// such parameters of a privileged function
+fn add_unmarked_outs(f: &TypedFn, list: &mut Vec<Found>) -> Result<(), AllocError>
+    ensures { OnOk result (list.new.items ≡ list.old.items ++ map kept (is.unmarked_out (view_function f.now))) }
+{
+    if f.signature.privileged {
+        add_outs(f.signature.params.as_slice(), f.vars.as_slice(), list)
+    } else {
+        Ok(())
+    }
+}
+
+// what the marks of a function break
+fn add_function(f: &TypedFn, list: &mut Vec<Found>) -> Result<(), AllocError>
+    ensures { OnOk result (list.new.items ≡ list.old.items ++ map kept (is.function_findings (view_function f.now))) }
+{
+    add_unmarked_outs(f, list)?;
+    add_main(f, list)?;
+    Ok(())
+}
+
+/// Adds what the marks of all functions break.
+pub(crate) fn add_functions(t: &Typed, list: &mut Vec<Found>) -> Result<(), AllocError>
+    ensures { OnOk result (list.new.items ≡ list.old.items ++ map kept (flat_map is.function_findings (view_typed t.now).functions)) }
+{
+    for function in &t.functions {
+        add_function(function, list)?;
+    }
+    Ok(())
 }

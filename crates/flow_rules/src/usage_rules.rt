@@ -2,6 +2,7 @@
 ghost use Rattle.std.specs.Prelude.{◌≡◌, ◌++◌, OnOk, map};
 ghost use Rattle.sides.specs.Carried.{scope_of};
 ghost use Rattle.sides.specs.ScopeView.{view_scope};
+ghost use Rattle.sides.specs.UsageView.{view_usage};
 ghost use Rattle.sides.specs.declared.usage.How.TheVariants.{Passed, Returned};
 ghost use Rattle.typed_tree.specs.ExpressionTree.{view_expr, view_place};
 ghost use Rattle.typed_tree.specs.TypedView.{view_typed};
@@ -11,11 +12,12 @@ ghost use Rattle.flow_rules.specs.Kept.{kept};
 
 use crate::flows::Flows;
 use crate::found::Found;
-use crate::functions::{is_main_number, is_shown_parameter};
+use crate::functions::{is_main_number, is_plain_parameter, is_shown_parameter};
+use crate::plain_rule::add_unmarked_secret;
 use crate::rule::Rule;
 use crate::secrets::{add_expression, add_value};
 use pt_base::{FnId, Span};
-use sides::{How, Scope, place_slots};
+use sides::{How, Scope, Usage, place_slots};
 use std::alloc::{AllocError, Global};
 use typed_tree::{Form, Place, TypedExpr, VarTy};
 
@@ -140,6 +142,46 @@ fn add_to_host(
     }
 }
 
+// an argument of a privileged function or host
+fn add_sent(
+    alloc: Global,
+    flows: &Flows<'_>,
+    scope: &Scope<'_>,
+    f: FnId,
+    g: FnId,
+    k: usize,
+    e: &TypedExpr,
+    list: &mut Vec<Found>,
+) -> Result<(), AllocError>
+    requires { view_scope scope.now ≡ scope_of (view_typed flows.now.t.now) f.0 }
+    ensures { OnOk result (list.new.items ≡ list.old.items ++ map kept (is.priv_to_plain_param (view_flows flows.now) f (Passed g k) (view_expr e.now))) }
+{
+    if is_plain_parameter(flows.t, g, k) {
+        add_unmarked_secret(alloc, flows, scope, g, k, e, list)
+    } else {
+        Ok(())
+    }
+}
+
+// PrivToPlainParam
+fn add_to_plain(
+    alloc: Global,
+    flows: &Flows<'_>,
+    scope: &Scope<'_>,
+    f: FnId,
+    how: How,
+    e: &TypedExpr,
+    list: &mut Vec<Found>,
+) -> Result<(), AllocError>
+    requires { view_scope scope.now ≡ scope_of (view_typed flows.now.t.now) f.0 }
+    ensures { OnOk result (list.new.items ≡ list.old.items ++ map kept (is.priv_to_plain_param (view_flows flows.now) f how (view_expr e.now))) }
+{
+    match how {
+        How::Passed(g, k) => add_sent(alloc, flows, scope, f, g, k, e, list),
+        How::Kept | How::Operated | How::Begins(_, _) | How::Returned => Ok(()),
+    }
+}
+
 // what a function returns
 fn add_returned(
     alloc: Global,
@@ -176,4 +218,25 @@ fn add_status(
         How::Returned => add_returned(alloc, flows, scope, f, e, list),
         How::Kept | How::Operated | How::Passed(_, _) | How::Begins(_, _) => Ok(()),
     }
+}
+
+/// Adds what is broken by an expression that the body of a function of the slave evaluates.
+pub(crate) fn add_usage(
+    alloc: Global,
+    flows: &Flows<'_>,
+    scope: &Scope<'_>,
+    f: FnId,
+    usage: &Usage<'_>,
+    list: &mut Vec<Found>,
+) -> Result<(), AllocError>
+    requires { view_scope scope.now ≡ scope_of (view_typed flows.now.t.now) f.0 }
+    ensures { OnOk result (list.new.items ≡ list.old.items ++ map kept (is.usage_findings (view_flows flows.now) f (view_usage usage.now))) }
+{
+    let value = usage.value;
+    add_operated(alloc, flows, scope, f, usage.how, value, list)?;
+    add_changed(alloc, flows, scope, f, value, list)?;
+    add_to_host(alloc, flows, scope, f, usage.how, value, list)?;
+    add_to_plain(alloc, flows, scope, f, usage.how, value, list)?;
+    add_status(alloc, flows, scope, f, usage.how, value, list)?;
+    Ok(())
 }
