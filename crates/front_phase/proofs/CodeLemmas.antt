@@ -1,0 +1,36 @@
+-- Normal forms, one more and all together.
+use Rattle.std.proofs.Common.{◌≡◌, ◌∙◌, ℕ, ◌<◌, refl, sym, ap, List, [], ◌∷◌, ◌++◌, length, map, get_or, Result, Vec, Some, IfOk}
+use Rattle.std.specs.List.{flat_map}
+use Rattle.std.specs.declared.alloc.Global.{Global}
+use Rattle.std.specs.declared.alloc.AllocError.{AllocError}
+use Rattle.std.proofs.lemmas.List.{map_push, map-append}
+use Rattle.pt_base.specs.declared.ids.FnId.{FnId}
+use Rattle.typed_tree.specs.Lookup.{function_at}
+use Rattle.typed_tree.specs.StatementTree.{BodyTree}
+use Rattle.typed_tree.specs.TypedTree.{FunctionTree, TypedTree}
+use Rattle.pt_core.specs.CodeTree.{view_function}
+use Rattle.pt_core.specs.declared.function.CoreFn.{CoreFn}
+use Rattle.c_lower.specs.FunctionParts.{IsDefined}
+use Rattle.c_lower.specs.Functions.{code_if, core_of, functions_from}
+use Rattle.front_phase.specs.declared.neighbours.Run.{Run}
+use Rattle.front_phase.specs.Defined.{code_at, code_of_found, defined}
+use Rattle.front_phase.specs.Parts.{joined}
+use Rattle.front_phase.specs.Runs.{AreRuns, part}
+use Rattle.front_phase.proofs.DefinedLemmas.{code_of_all}
+use Rattle.front_phase.proofs.JoinLemmas.{joined-gives}
+
+pub code_added : (t : TypedTree) (f : FnId) (code code' : List CoreFn) (c : CoreFn) → IsDefined t f → ((g : FunctionTree) (b : BodyTree) → function_at t f ≡ Some g → g.body ≡ Some b → view_function c ≡ core_of t f.0 g b) → code' ≡ code ++ c ∷ [] → map view_function code' ≡ map view_function code ++ code_at t f
+code_added t f code code' c (g, b, at, is) lowered added =
+    ap (map view_function) added
+    ∙ map_push view_function code c
+    ∙ ap (λ x. map view_function code ++ x ∷ []) (lowered g b at is)
+    ∙ ap (λ xs. map view_function code ++ xs) (sym (ap (code_of_found t f.0) at ∙ ap (code_if t f.0 g) is))
+
+pub all_code : (t : TypedTree) (fs : List FnId) (runs : List Run) (parts : List (Result (Vec CoreFn Global) AllocError)) (all : List CoreFn) → fs ≡ defined t → AreRuns (length fs) runs → length parts ≡ length runs →
+    ((i : ℕ) (d : Result (Vec CoreFn Global) AllocError) (e : Run) → i < length runs → IfOk (get_or parts i d) (λ w. map view_function w.items ≡ flat_map (code_at t) (part fs (get_or runs i e)))) →
+    joined parts ≡ Some all → map view_function all ≡ functions_from t 0 t.functions
+all_code t fs runs parts all these are long each came =
+    joined-gives (map view_function) refl (map-append view_function) (code_at t) fs runs parts all long each came
+    ∙ ap (flat_map (code_at t)) (are fs refl)
+    ∙ ap (flat_map (code_at t)) these
+    ∙ code_of_all t

@@ -1,0 +1,4 @@
+pub mod Defined
+pub mod OwnEdges
+pub mod Parts
+pub mod Runs

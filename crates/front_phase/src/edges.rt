@@ -1,0 +1,114 @@
+// The edges of all functions.
+ghost use Rattle.std.specs.Prelude.{◌≡◌, ◌≤◌, ◌<◌, ◌++◌, ◌^◌, ℕ, All, IfOk, OnOk, length, slice_index_or, vec_len};
+ghost use Rattle.std.specs.List.{flat_map};
+ghost use Rattle.typed_tree.specs.TypedView.{view_typed};
+ghost use Rattle.sides.specs.Placed.{AreSides};
+ghost use Rattle.sides.specs.Slots.{slots_of};
+ghost use Rattle.c_lower.specs.FunctionParts.{IsDefined};
+ghost use Rattle.flow_edges.specs.Edges.{edges_in};
+ghost use Rattle.front_phase.specs.OwnEdges.{AreOwn, JoinsSlots, own_edges};
+ghost use Rattle.front_phase.specs.Runs.{IsWithin, part};
+ghost use Rattle.front_phase.specs.declared.neighbours.Run.{Run};
+
+use crate::defined::defined_functions;
+use crate::joining::{append_within, joined_within};
+use crate::neighbours::{Run, runs_of};
+use flow_edges::{MOST_EDGES, edges_of};
+use pt_base::{Edge, FnId, Listed, Watch};
+use sides::Sides;
+use std::alloc::{AllocError, Global};
+use std::thread;
+use std::thread::Threads;
+use typed_tree::Typed;
+
+// adds the edges of a function
+fn add_edges(
+    alloc: Global,
+    t: &Typed,
+    sides: &Sides,
+    f: FnId,
+    edges: &mut Vec<Edge>,
+) -> Result<(), AllocError>
+    requires sides { AreSides (view_typed t.now) sides.now }
+    requires function { IsDefined (view_typed t.now) f }
+    ensures edges { OnOk result (edges.new.items ≡ edges.old.items ++ own_edges (view_typed t.now) sides.now f) }
+    ensures within { OnOk result (All (JoinsSlots (length (slots_of (view_typed t.now)))) edges.old.items → All (JoinsSlots (length (slots_of (view_typed t.now)))) edges.new.items) }
+{
+    let own = edges_of(alloc, t, f, sides)?;
+    append_within(edges, own.into_vec(), MOST_EDGES)?;
+    Ok(())
+}
+
+// the edges of these functions, of each of which the watch is told as the work begins
+fn edges_of_run<W: Watch>(
+    alloc: Global,
+    t: &Typed,
+    sides: &Sides,
+    functions: &[FnId],
+    watch: &W,
+) -> Result<Vec<Edge>, AllocError>
+    requires sides { AreSides (view_typed t.now) sides.now }
+    requires functions { All (IsDefined (view_typed t.now)) functions.now }
+    ensures { IfOk result (λ v. AreOwn (view_typed t.now) sides.now functions.now v.items) }
+{
+    let mut edges = Vec::new(alloc);
+    for f in functions {
+        watch.begin(*f);
+        add_edges(alloc, t, sides, *f, &mut edges)?;
+    }
+    Ok(edges)
+}
+
+// what each run of the functions gives, in threads
+fn edge_parts<R: Threads + Sync, W: Watch>(
+    rt: &R,
+    alloc: Global,
+    t: &Typed,
+    sides: &Sides,
+    functions: &[FnId],
+    runs: Vec<Run>,
+    watch: &W,
+) -> Result<Vec<Result<Vec<Edge>, AllocError>>, AllocError>
+    requires sides { AreSides (view_typed t.now) sides.now }
+    requires defined { All (IsDefined (view_typed t.now)) functions.now }
+    requires within { All (IsWithin (length functions.now)) runs.items }
+    ensures len { IfOk result (λ v. vec_len v ≡ vec_len runs) }
+    ensures each { IfOk result (λ v. (i : ℕ) (d : _) (e : Run) → i < vec_len runs →
+        IfOk (slice_index_or v.items i d) (λ w. AreOwn (view_typed t.now) sides.now (part functions.now (slice_index_or runs.items i e)) w.items)) }
+{
+    thread::map_vec(
+        rt,
+        runs,
+        &|run: Run| -> Result<Vec<Edge>, AllocError>
+            requires { IsWithin (length functions.now) run × All (IsDefined (view_typed t.now)) functions.now × AreSides (view_typed t.now) sides.now }
+            ensures { IfOk result (λ v. AreOwn (view_typed t.entry.now) sides.entry.now (part functions.entry.now run) v.items) }
+        { edges_of_run(alloc, t, sides, &functions[run.from..run.to], watch) },
+    )
+}
+
+/// The edges of all functions that the slave runs, in the order of the functions, made by at most eight threads
+/// at once; where a thread can't be started, its work is done by the caller. The watch is told of each function
+/// that has a body as the work on it begins, and whatever it does, the answer is the same.
+///
+/// # Errors
+///
+/// Want of memory; more than [`MOST_EDGES`](flow_edges::MOST_EDGES) edges in all are that too.
+pub fn edges_all<R: Threads + Sync, W: Watch>(
+    rt: &R,
+    alloc: Global,
+    t: &Typed,
+    sides: &Sides,
+    watch: &W,
+) -> Result<Listed<Edge>, AllocError>
+    requires { AreSides (view_typed t.now) sides.now }
+    ensures edges { IfOk result (λ es. es ≡ flat_map (edges_in (view_typed t.now)) sides.now.slave) }
+    ensures few { IfOk result (λ es. length es ≤ 2 ^ 26) }
+    ensures froms { IfOk result (λ es. All (λ e. e.from.0 < length (slots_of (view_typed t.now))) es) }
+    ensures tos { IfOk result (λ es. All (λ e. e.to.0 < length (slots_of (view_typed t.now))) es) }
+{
+    let functions = defined_functions(alloc, t)?;
+    let runs = runs_of(alloc, functions.len())?;
+    let parts = edge_parts(rt, alloc, t, sides, functions.as_slice(), runs, watch)?;
+    let edges = joined_within(alloc, parts, MOST_EDGES)?;
+    Ok(Listed::new(edges))
+}
