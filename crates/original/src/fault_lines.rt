@@ -60,7 +60,7 @@ fn type_lines(alloc: Global, faults: &[TypeFault]) -> Result<Vec<u8>, AllocError
 /// # Errors
 ///
 /// Want of memory, here or there.
-pub(crate) fn front_lines(alloc: Global, error: FrontError) -> Result<Vec<u8>, AllocError>
+pub fn front_lines(alloc: Global, error: FrontError) -> Result<Vec<u8>, AllocError>
     ensures { IfOk result (λ lines. front_lines error ≡ Some lines.items) }
 {
     match error {

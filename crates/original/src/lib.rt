@@ -9,9 +9,10 @@ mod running;
 mod spelling;
 mod stages;
 
+pub use fault_lines::front_lines;
 pub use laws::{first_bytes_are_enough, texts_have_one_outcome};
 pub use outcome::{Ended, Outcome};
-pub use spelling::push_span;
+pub use spelling::{push_numbered, push_span};
 pub use stages::outcome_of;
 
 /// An input may have this many bytes.

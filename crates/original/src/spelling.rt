@@ -16,8 +16,8 @@ pub(crate) fn push_number(number: u32, line: &mut Vec<u8>) -> Result<(), AllocEr
     Ok(())
 }
 
-/// Appends the number of a fault and its name.
-pub(crate) fn push_numbered(number: u8, name: &str, line: &mut Vec<u8>) -> Result<(), AllocError>
+/// Appends the number of a fault and its name. Where memory is wanting, a first part of it may stand there.
+pub fn push_numbered(number: u8, name: &str, line: &mut Vec<u8>) -> Result<(), AllocError>
     ensures { OnOk result (line.new.items ≡ line.old.items ++ numbered number name.now) }
 {
     push_number(u32::from(number), line)?;

@@ -5,7 +5,7 @@ use Rattle.pt_base.specs.Faults.{Rose}
 use Rattle.pt_base.specs.Files.{Files, Lacks}
 use Rattle.pt_base.specs.Told.{AppendsPart}
 use Rattle.privtrans_app.specs.Words.{IsRun}
-use Rattle.privtrans_app.specs.Ending.{Ending, help, version, exit, usage, missing, read_fault, write_fault, not_built, faults, trapped, spent, memory, Puts}
+use Rattle.privtrans_app.specs.Ending.{Ending, help, version, exit, accepted, usage, missing, read_fault, write_fault, not_built, faults, trapped, spent, memory, Puts}
 use Rattle.privtrans_app.specs.Held.{IsReached}
 use Rattle.privtrans_app.specs.Causes.{Expects, WritesPart, ComesTo}
 use Rattle.privtrans_app.specs.Reading.{IsReadRefusal, IsRefusal}
@@ -30,11 +30,12 @@ put_comes words files reads reads' o o' writes writes' text done came whole part
 
 -- ---- refusals
 
-read_refusal_comes : (given : List (List ℕ)) (files : Option Files) (reads reads' writes : ℕ) (o : Option (List ℕ)) (name : List ℕ) (e : Ending)
+pub read_refusal_comes : (given : List (List ℕ)) (files : Option Files) (reads reads' writes : ℕ) (o : Option (List ℕ)) (name : List ℕ) (e : Ending)
     → IsReached given files name → IsReadRefusal name files reads reads' e → ComesTo given files reads reads' o o writes writes e
 read_refusal_comes given files reads reads' writes o name help reached is = absurd is
 read_refusal_comes given files reads reads' writes o name version reached is = absurd is
 read_refusal_comes given files reads reads' writes o name (exit status) reached is = absurd is
+read_refusal_comes given files reads reads' writes o name accepted reached is = absurd is
 read_refusal_comes given files reads reads' writes o name usage reached is = absurd is
 read_refusal_comes given files reads reads' writes o name (missing n) reached is = (subst (IsReached given files) (sym is.0) reached, subst (λ m. Lacks files m ⊎ Rose reads reads') (sym is.0) is.1, keeps_same o)
 read_refusal_comes given files reads reads' writes o name (read_fault n) reached is = (subst (IsReached given files) (sym is.0) reached, is.1, keeps_same o)

@@ -4,13 +4,18 @@ use Rattle.pt_base.specs.Faults.{Rose}
 use Rattle.pt_base.specs.Files.{Files, Lacks}
 use Rattle.original.specs.Original as original
 use Rattle.original.proofs.OneOutcome.{outcome_is_one}
-use Rattle.privtrans_app.specs.Words.{IsHelp, IsVersion, IsLocal, IsOrig, IsNoForm, IsRun, of_local, of_orig}
+use Rattle.flow_check.specs.Checked as flows
+use Rattle.flow_check.specs.Laws.{without_ways}
+use Rattle.flow_check.proofs.OneOutcome as flow_outcomes
+use Rattle.privtrans_app.specs.Words.{IsHelp, IsVersion, IsLocal, IsOrig, IsCheck, IsNoForm, IsRun, of_local, of_orig, of_check}
 use Rattle.privtrans_app.specs.EarlyInput.{Texts, IsBuilt, IsNotBuilt}
-use Rattle.privtrans_app.specs.Ending.{Ending, help, version, exit, usage, missing, read_fault, write_fault, not_built, faults, trapped, spent, memory, status_of, Reports, StaysDown, EndsWith}
+use Rattle.privtrans_app.specs.Ending.{Ending, help, version, exit, accepted, usage, missing, read_fault, write_fault, not_built, faults, trapped, spent, memory, status_of, Reports, StaysDown, EndsWith}
 use Rattle.privtrans_app.specs.Held.{IsHeld, AllHeld, IsReached}
 use Rattle.privtrans_app.specs.LocalRun.{AreHeld, Refuses}
+use Rattle.privtrans_app.specs.CheckRun as check
 use Rattle.privtrans_app.specs.OrigRun as orig
-use Rattle.privtrans_app.specs.Causes.{Expects, ComesTo, IsByForm, IsByFiles}
+use Rattle.privtrans_app.specs.Causes.{Expects, HaveFaults, ComesTo, IsByForm, IsByFiles}
+use Rattle.privtrans_app.proofs.CheckLemmas.{same_check, same_status}
 use Rattle.privtrans_app.proofs.LocalLemmas.{same_held}
 use Rattle.privtrans_app.proofs.OrigLemmas.{same_orig, same_ending}
 
@@ -31,6 +36,9 @@ one_of_help : (words : List (List ℕ)) → IsHelp words → length words ≡ 1
 one_of_help words (inl is) = ap length is
 one_of_help words (inr is) = ap length is
 
+one_or_two : (n : ℕ) → n ≡ 1 → n ≡ 2 → ⊥
+one_or_two n a b = omega arith
+
 one_or_five : (n : ℕ) → n ≡ 1 → n ≡ 5 → ⊥
 one_or_five n a b = omega arith
 
@@ -40,10 +48,17 @@ one_or_seven n a b = omega arith
 five_or_seven : (n : ℕ) → n ≡ 5 → n ≡ 7 → ⊥
 five_or_seven n a b = omega arith
 
+two_or_five : (n : ℕ) → n ≡ 2 → n ≡ 5 → ⊥
+two_or_five n a b = omega arith
+
+two_or_seven : (n : ℕ) → n ≡ 2 → n ≡ 7 → ⊥
+two_or_seven n a b = omega arith
+
 -- the words of a run aren't one
 more_than_one : (words names : List (List ℕ)) → IsRun words names → length words ≡ 1 → ⊥
 more_than_one words _ (of_local p h q i m w form) one = one_or_seven (length words) one (ap length form.are)
 more_than_one words _ (of_orig p h i m form) one = one_or_five (length words) one (ap length form.are)
+more_than_one words _ (of_check p form) one = one_or_two (length words) one (ap length form.are)
 
 no_help : (words names : List (List ℕ)) → IsRun words names → IsHelp words → ⊥
 no_help words names run is = more_than_one words names run (one_of_help words is)
@@ -54,9 +69,16 @@ no_version words names run is = more_than_one words names run (ap length is)
 two_runs : {p h q i p' h' i' : List ℕ} {m w m' : ℕ} (words : List (List ℕ)) → IsLocal words p h q i m w → IsOrig words p' h' i' m' → ⊥
 two_runs words a b = five_or_seven (length words) (ap length b.are) (ap length a.are)
 
+local_check : {p h q i p' : List ℕ} {m w : ℕ} (words : List (List ℕ)) → IsLocal words p h q i m w → IsCheck words p' → ⊥
+local_check words a b = two_or_seven (length words) (ap length b.are) (ap length a.are)
+
+orig_check : {p h i p' : List ℕ} {m : ℕ} (words : List (List ℕ)) → IsOrig words p h i m → IsCheck words p' → ⊥
+orig_check words a b = two_or_five (length words) (ap length b.are) (ap length a.are)
+
 form_runs : (words names : List (List ℕ)) → IsNoForm words → IsRun words names → ⊥
 form_runs words _ none (of_local p h q i m w form) = none.no_local p h q i m w form
 form_runs words _ none (of_orig p h i m form) = none.no_orig p h i m form
+form_runs words _ none (of_check p form) = none.no_check p form
 
 -- the words name one list of files
 abbrev four : List ℕ → List ℕ → List ℕ → List ℕ → List (List ℕ)
@@ -65,6 +87,9 @@ four p h q i = p ∷ h ∷ q ∷ i ∷ []
 abbrev three : List ℕ → List ℕ → List ℕ → List (List ℕ)
 three p h i = p ∷ h ∷ i ∷ []
 
+abbrev one_name : List ℕ → List (List ℕ)
+one_name p = p ∷ []
+
 word : (words words' : List (List ℕ)) (n : ℕ) → words ≡ words' → get_or words n [] ≡ get_or words' n []
 word words words' n same = ap (λ xs. get_or xs n []) same
 
@@ -72,9 +97,14 @@ same_names : (words names names' : List (List ℕ)) → IsRun words names → Is
 same_names words _ _ (of_local p h q i m w a) (of_local p' h' q' i' m' w' b) =
     let same = sym a.are ∙ b.are in λ k. four (word _ _ 1 same k) (word _ _ 2 same k) (word _ _ 3 same k) (word _ _ 4 same k)
 same_names words _ _ (of_local p h q i m w a) (of_orig p' h' i' m' b) = absurd (two_runs words a b)
+same_names words _ _ (of_local p h q i m w a) (of_check p' b) = absurd (local_check words a b)
 same_names words _ _ (of_orig p h i m a) (of_local p' h' q' i' m' w' b) = absurd (two_runs words b a)
 same_names words _ _ (of_orig p h i m a) (of_orig p' h' i' m' b) =
     let same = sym a.are ∙ b.are in λ k. three (word _ _ 1 same k) (word _ _ 2 same k) (word _ _ 3 same k)
+same_names words _ _ (of_orig p h i m a) (of_check p' b) = absurd (orig_check words a b)
+same_names words _ _ (of_check p a) (of_local p' h' q' i' m' w' b) = absurd (local_check words b a)
+same_names words _ _ (of_check p a) (of_orig p' h' i' m' b) = absurd (orig_check words b a)
+same_names words _ _ (of_check p a) (of_check p' b) = let same = sym a.are ∙ b.are in λ k. one_name (word _ _ 1 same k)
 
 -- ---- files that are held
 
@@ -112,15 +142,20 @@ orig_held words files t turns held = record {
   held = ((t.program, held.program), ((t.host, held.host), ((t.input, held.input), tt)));
 }
 
+check_held : (words : List (List ℕ)) (files : Files) (text : List ℕ) → check.AreHeld words (Some files) text → RunsHeld words files
+check_held words files text held = record { names = one_name held.program_name; form = of_check _ held.form; held = ((text, held.program), tt) }
+
 -- files of which something is expected
 expected_held : (words : List (List ℕ)) (files : Files) (bytes : List ℕ) (e : Ending) → Expects words (Some files) bytes e → RunsHeld words files
 expected_held words files bytes e (inl is) = local_held words files is.0 is.1 is.2 is.4
-expected_held words files bytes e (inr is) = orig_held words files is.1.0 is.1.1 is.1.2
+expected_held words files bytes e (inr (inl is)) = orig_held words files is.1.0 is.1.1 is.1.2
+expected_held words files bytes e (inr (inr is)) = check_held words files is.1.0 is.1.1
 
 -- words whose files come to something are a run
 expects_run : (words : List (List ℕ)) (files : Option Files) (bytes : List ℕ) (e : Ending) → Expects words files bytes e → (names : List (List ℕ)) × IsRun words names
 expects_run words files bytes e (inl is) = (_, of_local _ _ _ _ _ _ is.4.form)
-expects_run words files bytes e (inr is) = (_, of_orig _ _ _ _ is.1.2.form)
+expects_run words files bytes e (inr (inl is)) = (_, of_orig _ _ _ _ is.1.2.form)
+expects_run words files bytes e (inr (inr is)) = (_, of_check _ is.1.1.form)
 
 refuses_run : (words : List (List ℕ)) (files : Option Files) → Refuses words files → (names : List (List ℕ)) × IsRun words names
 refuses_run words files is = (_, of_local _ _ _ _ _ _ is.3.form)
@@ -133,7 +168,13 @@ built_status : (words : List (List ℕ)) (files : Files) (t : Texts) (turns wind
 built_status words files t turns window bytes e held (inl is) =
     let same = same_held words files is.0 t is.1 is.2 turns window is.4 held in
     ((is.3, subst (λ m. IsBuilt t m bytes is.3) same.1 (subst (λ x. IsBuilt x is.1 bytes is.3) same.0 is.5)), ap status_of is.6)
-built_status words files t turns window bytes e held (inr is) = absurd (two_runs words held.form is.1.2.form)
+built_status words files t turns window bytes e held (inr (inl is)) = absurd (two_runs words held.form is.1.2.form)
+built_status words files t turns window bytes e held (inr (inr is)) = absurd (local_check words held.form is.1.1.form)
+
+-- a run of both halves has no faults
+never_faults : (words : List (List ℕ)) (files : Files) (t : Texts) (turns window : ℕ) (lines : List ℕ) → AreHeld words (Some files) t turns window → HaveFaults words (Some files) lines → ⊥
+never_faults words files t turns window lines held (inl is) = two_runs words held.form is.1.2.form
+never_faults words files t turns window lines held (inr is) = local_check words held.form is.1.1.form
 
 refused_there : (words : List (List ℕ)) (files : Files) (t : Texts) (turns window : ℕ) → AreHeld words (Some files) t turns window → Refuses words (Some files) → IsNotBuilt t turns
 refused_there words files t turns window held refuses =
@@ -155,7 +196,23 @@ original_there words files t turns o e e' bytes held comes ends gives =
 expected_there : (words : List (List ℕ)) (files : Files) (t : original.Texts) (turns : ℕ) (o : original.Outcome) (e e' : Ending) (bytes : List ℕ) → orig.AreHeld words (Some files) t turns
     → original.ComesTo t turns o → orig.IsEnding o e → Expects words (Some files) bytes e' → status_of e' ≡ status_of e
 expected_there words files t turns o e e' bytes held comes ends (inl is) = absurd (two_runs words is.4.form held.form)
-expected_there words files t turns o e e' bytes held comes ends (inr gives) = original_there words files t turns o e e' bytes held comes ends gives
+expected_there words files t turns o e e' bytes held comes ends (inr (inl gives)) = original_there words files t turns o e e' bytes held comes ends gives
+expected_there words files t turns o e e' bytes held comes ends (inr (inr is)) = absurd (orig_check words held.form is.1.1.form)
+
+-- a text that is checked has one status
+check_there : (words : List (List ℕ)) (files : Files) (text : List ℕ) (o : flows.Outcome) (e e' : Ending) (bytes : List ℕ) → check.AreHeld words (Some files) text
+    → flows.ComesTo text o → check.IsEnding o e → check.Gives words (Some files) bytes e' → status_of e' ≡ status_of e
+check_there words files text o e e' bytes held comes ends gives =
+    let same : gives.1.0 ≡ text = same_check words files gives.1.0 text gives.1.1 held in
+    let there : flows.ComesTo text gives.0 = subst (λ x. flows.ComesTo x gives.0) same gives.1.2 in
+    let one : without_ways gives.0 ≡ without_ways o = flow_outcomes.outcome_is_one text gives.0 o there comes in
+    same_status gives.0 o e' e one gives.2 ends
+
+checked_there : (words : List (List ℕ)) (files : Files) (text : List ℕ) (o : flows.Outcome) (e e' : Ending) (bytes : List ℕ) → check.AreHeld words (Some files) text
+    → flows.ComesTo text o → check.IsEnding o e → Expects words (Some files) bytes e' → status_of e' ≡ status_of e
+checked_there words files text o e e' bytes held comes ends (inl is) = absurd (local_check words is.4.form held.form)
+checked_there words files text o e e' bytes held comes ends (inr (inl is)) = absurd (orig_check words is.1.2.form held.form)
+checked_there words files text o e e' bytes held comes ends (inr (inr gives)) = check_there words files text o e e' bytes held comes ends gives
 
 -- ---- the status of each ending
 
@@ -181,6 +238,7 @@ module _ (words : List (List ℕ)) (reads reads' : ℕ) (o o' : Option (List ℕ
   by_text files help formed no_run comes tells = ends help tells
   by_text files version formed no_run comes tells = ends version tells
   by_text files (exit s) formed no_run comes tells = ends (exit s) tells
+  by_text files accepted formed no_run comes tells = ends accepted tells
   by_text files usage formed no_run comes tells = absurd (formed comes.0)
   by_text files (missing name) formed no_run comes tells = absurd (no_run _ comes.0.form)
   by_text files (read_fault name) formed no_run comes tells = absurd (no_run _ comes.0.form)
@@ -196,6 +254,7 @@ module _ (words : List (List ℕ)) (reads reads' : ℕ) (o o' : Option (List ℕ
   by_usage files help none no_run comes tells = absurd (none.no_help comes.0)
   by_usage files version none no_run comes tells = absurd (none.no_version comes.0)
   by_usage files (exit s) none no_run comes tells = absurd (let run = expects_run words files comes.0 (exit s) comes.1 in no_run run.0 run.1)
+  by_usage files accepted none no_run comes tells = absurd (let run = expects_run words files comes.0 accepted comes.1 in no_run run.0 run.1)
   by_usage files usage none no_run comes tells = ends usage tells
   by_usage files (missing name) none no_run comes tells = absurd (no_run _ comes.0.form)
   by_usage files (read_fault name) none no_run comes tells = absurd (no_run _ comes.0.form)
@@ -218,6 +277,7 @@ module _ (words : List (List ℕ)) (reads reads' : ℕ) (o o' : Option (List ℕ
   by_lack files help r name reached lacks comes tells = absurd (no_help words _ reached.form comes.0)
   by_lack files version r name reached lacks comes tells = absurd (no_version words _ reached.form comes.0)
   by_lack files (exit s) r name reached lacks comes tells = absurd (not_lacking words files name (expected_held words files comes.0 (exit s) comes.1) reached lacks)
+  by_lack files accepted r name reached lacks comes tells = absurd (not_lacking words files name (expected_held words files comes.0 accepted comes.1) reached lacks)
   by_lack files usage r name reached lacks comes tells = absurd (form_runs words _ comes.0 reached.form)
   by_lack files (missing n) r name reached lacks comes tells = ends (missing n) tells
   by_lack files (read_fault n) r name reached lacks comes tells = absurd (r comes.1)
@@ -239,12 +299,13 @@ module _ (words : List (List ℕ)) (reads reads' : ℕ) (o o' : Option (List ℕ
   by_built files help r t turns window bytes s held built comes tells = ends help tells
   by_built files version r t turns window bytes s held built comes tells = ends version tells
   by_built files (exit k) r t turns window bytes s held built comes tells = ends (exit k) tells
+  by_built files accepted r t turns window bytes s held built comes tells = ends accepted tells
   by_built files usage r t turns window bytes s held built comes tells = absurd (comes.0.no_local _ _ _ _ _ _ held.form)
   by_built files (missing name) r t turns window bytes s held built comes tells = absurd (none_missing files name r (local_held words files t turns window held) comes.0 comes.1)
   by_built files (read_fault name) r t turns window bytes s held built comes tells = absurd (r comes.1)
   by_built files write_fault r t turns window bytes s held built comes tells = absurd (w comes.0)
   by_built files not_built r t turns window bytes s held built comes tells = absurd (not_both t turns bytes s built (refused_there words files t turns window held comes.0))
-  by_built files (faults lines) r t turns window bytes s held built comes tells = absurd (two_runs words held.form comes.0.1.2.form)
+  by_built files (faults lines) r t turns window bytes s held built comes tells = absurd (never_faults words files t turns window lines held comes.0)
   by_built files (trapped trap span) r t turns window bytes s held built comes tells =
       ends_as (trapped trap span) 0 (built_status words files t turns window comes.0 (trapped trap span) held comes.1).1 tells
   by_built files spent r t turns window bytes s held built comes tells = ends_as spent 0 (built_status words files t turns window comes.0 spent held comes.1).1 tells
@@ -261,6 +322,7 @@ module _ (words : List (List ℕ)) (reads reads' : ℕ) (o o' : Option (List ℕ
   by_refused files help r t turns window held none comes tells = absurd (no_help words _ (of_local _ _ _ _ _ _ held.form) comes.0)
   by_refused files version r t turns window held none comes tells = absurd (no_version words _ (of_local _ _ _ _ _ _ held.form) comes.0)
   by_refused files (exit s) r t turns window held none comes tells = absurd (never_runs files (exit s) t turns window comes.0 held none comes.1)
+  by_refused files accepted r t turns window held none comes tells = absurd (never_runs files accepted t turns window comes.0 held none comes.1)
   by_refused files usage r t turns window held none comes tells = absurd (comes.0.no_local _ _ _ _ _ _ held.form)
   by_refused files (missing name) r t turns window held none comes tells = absurd (none_missing files name r (local_held words files t turns window held) comes.0 comes.1)
   by_refused files (read_fault name) r t turns window held none comes tells = absurd (r comes.1)
@@ -277,17 +339,37 @@ module _ (words : List (List ℕ)) (reads reads' : ℕ) (o o' : Option (List ℕ
   by_original files help r t turns out due held comes is came tells = absurd (no_help words _ (of_orig _ _ _ _ held.form) came.0)
   by_original files version r t turns out due held comes is came tells = absurd (no_version words _ (of_orig _ _ _ _ held.form) came.0)
   by_original files (exit s) r t turns out due held comes is came tells = ends_as (exit s) (status_of due) (expected_there words files t turns out due (exit s) came.0 held comes is came.1) tells
+  by_original files accepted r t turns out due held comes is came tells = ends_as accepted (status_of due) (expected_there words files t turns out due accepted came.0 held comes is came.1) tells
   by_original files usage r t turns out due held comes is came tells = absurd (came.0.no_orig _ _ _ _ held.form)
   by_original files (missing name) r t turns out due held comes is came tells = absurd (none_missing files name r (orig_held words files t turns held) came.0 came.1)
   by_original files (read_fault name) r t turns out due held comes is came tells = absurd (r came.1)
   by_original files write_fault r t turns out due held comes is came tells = absurd (w came.0)
   by_original files not_built r t turns out due held comes is came tells = absurd (two_runs words came.0.3.form held.form)
   by_original files (faults lines) r t turns out due held comes is came tells =
-      ends_as (faults lines) (status_of due) (original_there words files t turns out due (faults lines) [] held comes is came.0) tells
+      ends_as (faults lines) (status_of due) (expected_there words files t turns out due (faults lines) [] held comes is (inr came.0)) tells
   by_original files (trapped trap span) r t turns out due held comes is came tells =
       ends_as (trapped trap span) (status_of due) (expected_there words files t turns out due (trapped trap span) came.0 held comes is came.1) tells
   by_original files spent r t turns out due held comes is came tells = ends_as spent (status_of due) (expected_there words files t turns out due spent came.0 held comes is came.1) tells
   by_original files memory r t turns out due held comes is came tells = wants (status_of due) tells
+
+  -- a text that is checked
+  by_checked : (files : Files) (e : Ending) → StaysDown reads reads' → (text : List ℕ) (out : flows.Outcome) (due : Ending) → check.AreHeld words (Some files) text
+      → flows.ComesTo text out → check.IsEnding out due → Comes (Some files) e → Tells e → EndsWith status (status_of due)
+  by_checked files help r text out due held comes is came tells = absurd (no_help words _ (of_check _ held.form) came.0)
+  by_checked files version r text out due held comes is came tells = absurd (no_version words _ (of_check _ held.form) came.0)
+  by_checked files (exit s) r text out due held comes is came tells = ends_as (exit s) (status_of due) (checked_there words files text out due (exit s) came.0 held comes is came.1) tells
+  by_checked files accepted r text out due held comes is came tells = ends_as accepted (status_of due) (checked_there words files text out due accepted came.0 held comes is came.1) tells
+  by_checked files usage r text out due held comes is came tells = absurd (came.0.no_check _ held.form)
+  by_checked files (missing name) r text out due held comes is came tells = absurd (none_missing files name r (check_held words files text held) came.0 came.1)
+  by_checked files (read_fault name) r text out due held comes is came tells = absurd (r came.1)
+  by_checked files write_fault r text out due held comes is came tells = absurd (w came.0)
+  by_checked files not_built r text out due held comes is came tells = absurd (local_check words came.0.3.form held.form)
+  by_checked files (faults lines) r text out due held comes is came tells =
+      ends_as (faults lines) (status_of due) (checked_there words files text out due (faults lines) [] held comes is (inr came.0)) tells
+  by_checked files (trapped trap span) r text out due held comes is came tells =
+      ends_as (trapped trap span) (status_of due) (checked_there words files text out due (trapped trap span) came.0 held comes is came.1) tells
+  by_checked files spent r text out due held comes is came tells = ends_as spent (status_of due) (checked_there words files text out due spent came.0 held comes is came.1) tells
+  by_checked files memory r text out due held comes is came tells = wants (status_of due) tells
 
   pub by_files : (files : Files) (e : Ending) → StaysDown reads reads' → Comes (Some files) e → Tells e → IsByFiles words files status
   by_files files e r comes tells = record {
@@ -295,4 +377,5 @@ module _ (words : List (List ℕ)) (reads reads' : ℕ) (o o' : Option (List ℕ
     built = λ t turns window bytes s held built. by_built files e r t turns window bytes s held built comes tells;
     not_built = λ t turns window held none. by_refused files e r t turns window held none comes tells;
     original = λ t turns out due held is ends_so. by_original files e r t turns out due held is ends_so comes tells;
+    checked = λ text out due held is ends_so. by_checked files e r text out due held is ends_so comes tells;
   }

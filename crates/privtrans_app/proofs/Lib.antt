@@ -1,4 +1,5 @@
 pub mod CauseLemmas
+pub mod CheckLemmas
 pub mod CompleteLemmas
 pub mod EarlyHostLemmas
 pub mod EarlyInputLemmas

@@ -1,5 +1,5 @@
 -- What the files of a run of the original come to.
-use Rattle.std.proofs.Common.{◌≡◌, ◌≤◌, ℕ, List, [], ◌∷◌, get_or, refl, sym, ◌∙◌, ap, subst, arith, Option, Some, None, inr}
+use Rattle.std.proofs.Common.{◌≡◌, ◌≤◌, ℕ, List, [], ◌∷◌, get_or, refl, sym, ◌∙◌, ap, subst, arith, Option, Some, None, inl, inr}
 use Rattle.std.specs.Prelude.{codes}
 use Rattle.std.specs.Fmt.{decimal}
 use Rattle.std.specs.Io.KnownBytes.{Appends}
@@ -72,7 +72,7 @@ comes_of given words (Some files) cut o form first comes =
 pub faults_come : (given : List (List ℕ)) (words : OrigWords) (files : Option Files) (cut : Texts) (reads reads' writes : ℕ) (o : Option (List ℕ)) (lines : List ℕ)
     → Names given words → AreOrigFirst words files cut → AreLinesOf cut lines → causes.ComesTo given files reads reads' o o writes writes (faults lines)
 faults_come given words files cut reads reads' writes o lines form first are =
-    ((refused are.refusal, comes_of given words files cut (refused are.refusal) form first are.is, ap faults are.lines_are, refl), keeps_same o)
+    (inl (refused are.refusal, comes_of given words files cut (refused are.refusal) form first are.is, ap faults are.lines_are, refl), keeps_same o)
 
 -- ---- runs
 
@@ -92,7 +92,7 @@ pub ran_comes : (given : List (List ℕ)) (words : OrigWords) (files : Option Fi
     → Names given words → AreOrigFirst words files cut → original.ComesTo cut words.turns (ran bytes end) → EndsAs end done → Puts o o' writes writes' bytes done came
     → causes.ComesTo given files reads reads' o o' writes writes' came
 ran_comes given words files cut reads reads' o o' writes writes' bytes end done came form first comes is puts =
-    let expects : causes.Expects given files bytes done = inr (ran bytes end, comes_of given words files cut (ran bytes end) form first comes, is, refl) in
+    let expects : causes.Expects given files bytes done = inr (inl (ran bytes end, comes_of given words files cut (ran bytes end) form first comes, is, refl)) in
     run_comes given files reads reads' o o' writes writes' bytes done came (whole_comes given files reads reads' o o' writes writes' bytes end done is expects) expects puts
 
 -- ---- the words and files determine the texts

@@ -5,18 +5,24 @@ use Rattle.pt_base.specs.Faults.{Rose}
 use Rattle.pt_base.specs.Files.{Files, Lacks}
 use Rattle.pt_base.specs.Told.{AppendsPart}
 use Rattle.original.specs.Original as original
+use Rattle.flow_check.specs.Checked as flows
 use Rattle.privtrans_app.specs.Words.{IsHelp, IsVersion, IsNoForm}
 use Rattle.privtrans_app.specs.EarlyInput as early
 use Rattle.privtrans_app.specs.EarlyInput.{IsBuilt, IsNotBuilt}
 use Rattle.privtrans_app.specs.Help.{help_text, version_text}
-use Rattle.privtrans_app.specs.Ending.{Ending, help, version, exit, usage, missing, read_fault, write_fault, not_built, faults, trapped, spent, memory, status_of, EndsWith}
+use Rattle.privtrans_app.specs.Ending.{Ending, help, version, exit, accepted, usage, missing, read_fault, write_fault, not_built, faults, trapped, spent, memory, status_of, EndsWith}
 use Rattle.privtrans_app.specs.Held.{IsReached}
+use Rattle.privtrans_app.specs.CheckRun as check
 use Rattle.privtrans_app.specs.LocalRun as local
 use Rattle.privtrans_app.specs.OrigRun as orig
 
 -- the files hold texts of which these bytes and this ending are expected
 abbrev pub Expects : List (List ℕ) → Option Files → List ℕ → Ending → Type 0
-Expects words files bytes e = local.Expects words files bytes e ⊎ orig.Gives words files bytes e
+Expects words files bytes e = local.Expects words files bytes e ⊎ orig.Gives words files bytes e ⊎ check.Gives words files bytes e
+
+-- the files hold texts of which a stage has faults, and these lines report them
+abbrev pub HaveFaults : List (List ℕ) → Option Files → List ℕ → Type 0
+HaveFaults words files lines = orig.Gives words files [] (faults lines) ⊎ check.Gives words files [] (faults lines)
 
 -- what a call broke off writing: nothing came to out, or a first part of the text that the words ask
 -- for or of the bytes that are expected
@@ -27,7 +33,7 @@ WritesPart words files out out' =
     ⊎ (IsVersion words × AppendsPart out out' version_text)
     ⊎ ((bytes : List ℕ) × (e : Ending) × Expects words files bytes e × AppendsPart out out' bytes)
 
--- the run came to this ending, and all its bytes are written
+-- the run or the check came to this ending, and all its bytes are written
 abbrev pub Runs : List (List ℕ) → Option Files → Option (List ℕ) → Option (List ℕ) → Ending → Type 0
 Runs words files out out' e = (bytes : List ℕ) × Expects words files bytes e × Appends out out' bytes
 
@@ -37,13 +43,14 @@ abbrev pub ComesTo : List (List ℕ) → Option Files → ℕ → ℕ → Option
 ComesTo words files reads reads' out out' writes writes' help = IsHelp words × Appends out out' help_text
 ComesTo words files reads reads' out out' writes writes' version = IsVersion words × Appends out out' version_text
 ComesTo words files reads reads' out out' writes writes' (exit status) = Runs words files out out' (exit status)
+ComesTo words files reads reads' out out' writes writes' accepted = Runs words files out out' accepted
 ComesTo words files reads reads' out out' writes writes' usage = IsNoForm words × Keeps out out'
 ComesTo words files reads reads' out out' writes writes' (missing name) =
     IsReached words files name × (Lacks files name ⊎ Rose reads reads') × Keeps out out'
 ComesTo words files reads reads' out out' writes writes' (read_fault name) = IsReached words files name × Rose reads reads' × Keeps out out'
 ComesTo words files reads reads' out out' writes writes' write_fault = Rose writes writes' × WritesPart words files out out'
 ComesTo words files reads reads' out out' writes writes' not_built = local.Refuses words files × Keeps out out'
-ComesTo words files reads reads' out out' writes writes' (faults lines) = orig.Gives words files [] (faults lines) × Keeps out out'
+ComesTo words files reads reads' out out' writes writes' (faults lines) = HaveFaults words files lines × Keeps out out'
 ComesTo words files reads reads' out out' writes writes' (trapped trap span) = Runs words files out out' (trapped trap span)
 ComesTo words files reads reads' out out' writes writes' spent = Runs words files out out' spent
 ComesTo words files reads reads' out out' writes writes' memory = WritesPart words files out out'
@@ -55,8 +62,8 @@ pub record IsByForm (words : List (List ℕ)) (status : ℕ) : Type 0 where
   pub usage : IsNoForm words → EndsWith status 1
 
 -- The status of a run of files that are held as told: 2 where one isn't. Of both halves, 0 for texts of
--- which something is expected, and 5 for texts that aren't early; of the original, that of what its
--- texts come to.
+-- which something is expected, and 5 for texts that aren't early; of the original and of a check, that of
+-- what the texts come to.
 pub record IsByFiles (words : List (List ℕ)) (files : Files) (status : ℕ) : Type 0 where
   pub missing : (name : List ℕ) → IsReached words (Some files) name → files name ≡ None → EndsWith status 2
   pub built : (t : early.Texts) (turns window : ℕ) (bytes : List ℕ) (s : ℕ)
@@ -64,3 +71,5 @@ pub record IsByFiles (words : List (List ℕ)) (files : Files) (status : ℕ) : 
   pub not_built : (t : early.Texts) (turns window : ℕ) → local.AreHeld words (Some files) t turns window → IsNotBuilt t turns → EndsWith status 5
   pub original : (t : original.Texts) (turns : ℕ) (o : original.Outcome) (e : Ending)
       → orig.AreHeld words (Some files) t turns → original.ComesTo t turns o → orig.IsEnding o e → EndsWith status (status_of e)
+  pub checked : (text : List ℕ) (o : flows.Outcome) (e : Ending)
+      → check.AreHeld words (Some files) text → flows.ComesTo text o → check.IsEnding o e → EndsWith status (status_of e)

@@ -16,6 +16,8 @@ pub data Ending : Type 0 where
   version : Ending
   -- main returned this number
   exit : ℤ → Ending
+  -- the program that was checked breaks no rule
+  accepted : Ending
   -- the words are of no form
   usage : Ending
   -- no file of this name is held
@@ -40,6 +42,7 @@ abbrev pub status_of : Ending → ℕ
 status_of help = 0
 status_of version = 0
 status_of (exit status) = 0
+status_of accepted = 0
 status_of usage = 1
 status_of (missing name) = 2
 status_of (read_fault name) = 3
@@ -55,6 +58,7 @@ abbrev pub is_silent : Ending → Bool
 is_silent help = false
 is_silent version = false
 is_silent (exit status) = false
+is_silent accepted = false
 is_silent usage = true
 is_silent (missing name) = true
 is_silent (read_fault name) = true
@@ -70,6 +74,7 @@ abbrev pub report_of : Ending → List ℕ
 report_of help = []
 report_of version = []
 report_of (exit status) = codes "exit " ++ signed_decimal status ++ codes "\n"
+report_of accepted = codes "accepted\n"
 report_of usage = codes "usage\n"
 report_of (missing name) = codes "missing " ++ name ++ codes "\n"
 report_of (read_fault name) = codes "read fault " ++ name ++ codes "\n"

@@ -10,6 +10,8 @@ help_text = codes "privtrans runs an annotated C program as a privileged monitor
     ++ codes "privtrans orig PROG HOST INPUT TURNS\n"
     ++ codes "    runs the program as it was written, with this host table and input, within TURNS\n"
     ++ codes "    turns (0 to 4294967295), where no policy is asked\n"
+    ++ codes "privtrans check PROG\n"
+    ++ codes "    says which variables of the program may hold secrets, or which rules it breaks\n"
     ++ codes "privtrans --help, privtrans -h\n"
     ++ codes "    writes this text\n"
     ++ codes "privtrans --version\n"

@@ -1,4 +1,5 @@
 pub mod Causes
+pub mod CheckRun
 pub mod EarlyConditions
 pub mod EarlyHosts
 pub mod EarlyInput

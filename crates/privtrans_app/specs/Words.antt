@@ -2,7 +2,7 @@
 use Rattle.std.specs.Prelude.{◌≡◌, ◌⊎◌, ◌≤◌, ℕ, List, [], ◌∷◌, codes}
 use Rattle.std.specs.Fmt.{decimal}
 use Rattle.privtrans_app.specs.declared.words.Form.{Form}
-use Rattle.privtrans_app.specs.declared.words.Form.TheVariants.{Help, Version, Local, Orig}
+use Rattle.privtrans_app.specs.declared.words.Form.TheVariants.{Help, Version, Local, Orig, Check}
 
 abbrev pub IsHelp : List (List ℕ) → Type 0
 IsHelp words = (words ≡ codes "--help" ∷ []) ⊎ (words ≡ codes "-h" ∷ [])
@@ -22,15 +22,22 @@ pub record IsOrig (words : List (List ℕ)) (program host input : List ℕ) (tur
   pub are : words ≡ codes "orig" ∷ program ∷ host ∷ input ∷ decimal turns ∷ []
   pub turns_most : turns ≤ 4294967295
 
+-- `check` and the name of a file
+pub record IsCheck (words : List (List ℕ)) (program : List ℕ) : Type 0 where
+  pub are : words ≡ codes "check" ∷ program ∷ []
+
 abbrev pub IsNoLocal : List (List ℕ) → Type 0
 IsNoLocal words = (program host policy input : List ℕ) (turns window : ℕ) → IsLocal words program host policy input turns window → ⊥
 
 abbrev pub IsNoOrig : List (List ℕ) → Type 0
 IsNoOrig words = (program host input : List ℕ) (turns : ℕ) → IsOrig words program host input turns → ⊥
 
--- the words name no files to run
+abbrev pub IsNoCheck : List (List ℕ) → Type 0
+IsNoCheck words = (program : List ℕ) → IsCheck words program → ⊥
+
+-- the words name no files to run or to check
 abbrev pub IsNoRun : List (List ℕ) → Type 0
-IsNoRun words = IsNoLocal words × IsNoOrig words
+IsNoRun words = IsNoLocal words × IsNoOrig words × IsNoCheck words
 
 -- the words are of no form
 pub record IsNoForm (words : List (List ℕ)) : Type 0 where
@@ -38,12 +45,14 @@ pub record IsNoForm (words : List (List ℕ)) : Type 0 where
   pub no_version : IsVersion words → ⊥
   pub no_local : IsNoLocal words
   pub no_orig : IsNoOrig words
+  pub no_check : IsNoCheck words
 
--- the words are a run of the files of these names, which are read in this order
+-- the words are a run or a check of the files of these names, which are read in this order
 pub data IsRun (words : List (List ℕ)) : List (List ℕ) → Type 0 where
   of_local : (program host policy input : List ℕ) (turns window : ℕ) → IsLocal words program host policy input turns window
       → IsRun words (program ∷ host ∷ policy ∷ input ∷ [])
   of_orig : (program host input : List ℕ) (turns : ℕ) → IsOrig words program host input turns → IsRun words (program ∷ host ∷ input ∷ [])
+  of_check : (program : List ℕ) → IsCheck words program → IsRun words (program ∷ [])
 
 -- the words are of this form
 abbrev pub IsForm : List (List ℕ) → Form → Type 0
@@ -51,3 +60,4 @@ IsForm words Help = IsHelp words
 IsForm words Version = IsVersion words
 IsForm words (Local l) = IsLocal words l.program.now l.host.now l.policy.now l.input.now l.turns l.window
 IsForm words (Orig o) = IsOrig words o.program.now o.host.now o.input.now o.turns
+IsForm words (Check program) = IsCheck words program.now

@@ -17,6 +17,8 @@ pub(crate) enum Ending<'a> {
     Version,
     /// main returned this number.
     Exit(i64),
+    /// The program that was checked breaks no rule.
+    Accepted,
     Usage,
     /// No file of this name is held.
     Missing(&'a str),
@@ -41,6 +43,7 @@ pub(crate) fn status(ending: &Ending<'_>) -> u8
         Ending::Help => 0,
         Ending::Version => 0,
         Ending::Exit(_) => 0,
+        Ending::Accepted => 0,
         Ending::Usage => 1,
         Ending::Missing(_) => 2,
         Ending::ReadFault(_) => 3,
@@ -86,6 +89,7 @@ pub(crate) fn report(alloc: Global, ending: Ending<'_>) -> Result<Vec<u8>, Alloc
             let mut buffer = Buffer::new();
             named_line(alloc, b"exit ", buffer.format(status))
         }
+        Ending::Accepted => Vec::from_slice(alloc, b"accepted\n"),
         Ending::Usage => Vec::from_slice(alloc, b"usage\n"),
         Ending::Missing(name) => named_line(alloc, b"missing ", name),
         Ending::ReadFault(name) => named_line(alloc, b"read fault ", name),

@@ -6,6 +6,7 @@ ghost use Rattle.privtrans_app.specs.Ending.{Ending, Reports, StaysDown, is_sile
 ghost use Rattle.privtrans_app.specs.EndingSeen.{ending_seen};
 ghost use Rattle.privtrans_app.specs.Words.{IsNoRun};
 
+use crate::check::check;
 use crate::ending::{Ending as Came, report, status};
 use crate::help::{HELP, VERSION};
 use crate::local::local;
@@ -17,11 +18,13 @@ use std::alloc::Global;
 use std::thread::Threads;
 
 // What the words come to. No file is written.
-fn came_to<'a, F: Folder, K: Sink>(
+fn came_to<'a, R: Threads + Sync, F: Folder, K: Sink, W: Watch>(
+    rt: &R,
     alloc: Global,
     words: &[&'a str],
     folder: &mut F,
     out: &mut K,
+    watch: &W,
 ) -> Came<'a>
     ensures ending { ComesTo (map (λ w. w.now) words.now) (F.files folder.old) (F.read_faults folder.old) (F.read_faults folder.new)
         (K.taken out.old) (K.taken out.new) (K.faults out.old) (K.faults out.new) (ending_seen result) }
@@ -37,6 +40,7 @@ fn came_to<'a, F: Folder, K: Sink>(
         Some(Form::Version) => put(alloc, out, VERSION, Came::Version),
         Some(Form::Local(words)) => local(alloc, &words, folder, out),
         Some(Form::Orig(words)) => orig(alloc, &words, folder, out),
+        Some(Form::Check(program)) => check(rt, alloc, program, folder, out, watch),
     }
 }
 
@@ -63,9 +67,10 @@ fn tell<E: Sink>(alloc: Global, sink: &mut E, ending: Came<'_>) -> u8
 /// done, 1 where the words are of no form, 2 where a file is missing, 3 where one can't be read, 4
 /// where out or report can't be written, 5 where the texts have faults or aren't early, 6 where the
 /// run broke off, 8 where its budget of turns was spent, 12 for want of memory. Lines in `report`,
-/// mostly one, say how it ended; help and version have none.
+/// mostly one, say how it ended; help and version have none. The watch is told of each function that
+/// the front end works on, and changes nothing.
 pub fn privtrans<R: Threads + Sync, F: Folder, K: Sink, E: Sink, S: Spawner, C: Chooser, W: Watch>(
-    _rt: &R,
+    rt: &R,
     alloc: Global,
     words: &[&str],
     folder: &mut F,
@@ -73,7 +78,7 @@ pub fn privtrans<R: Threads + Sync, F: Folder, K: Sink, E: Sink, S: Spawner, C: 
     report: &mut E,
     spawner: &mut S,
     chooser: &mut C,
-    _watch: &W,
+    watch: &W,
 ) -> u8
     // the call comes to an ending, each only where the words, the files and the outside have its
     // cause, and reports it; where it writes nothing to out, out isn't touched
@@ -102,6 +107,6 @@ pub fn privtrans<R: Threads + Sync, F: Folder, K: Sink, E: Sink, S: Spawner, C: 
     ensures counts { (F.read_faults folder.old ≤ F.read_faults folder.new)
         × (K.faults out.old ≤ K.faults out.new) × (E.faults report.old ≤ E.faults report.new) }
 {
-    let ending = came_to(alloc, words, folder, out);
+    let ending = came_to(rt, alloc, words, folder, out, watch);
     tell(alloc, report, ending)
 }

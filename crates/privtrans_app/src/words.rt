@@ -32,6 +32,8 @@ pub(crate) enum Form<'a> {
     Version,
     Local(LocalWords<'a>),
     Orig(OrigWords<'a>),
+    /// A check of the program of this name.
+    Check(&'a str),
 }
 
 // The number of a word in digits without a leading zero, if it is at most `most`.
@@ -76,6 +78,8 @@ fn form_after<'a>(word: &str, rest: &[&'a str]) -> Option<Form<'a>>
         local_words(rest)
     } else if word == "orig" {
         orig_words(rest)
+    } else if word == "check" {
+        check_words(rest)
     } else {
         None
     }
@@ -128,6 +132,20 @@ fn orig_words<'a>(words: &[&'a str]) -> Option<Form<'a>>
     };
     if words.is_empty() {
         orig_form(program, host, input, turns)
+    } else {
+        None
+    }
+}
+
+// The words after `check`.
+fn check_words<'a>(words: &[&'a str]) -> Option<Form<'a>>
+    ensures { MatchOption result (IsNoForm (codes "check" ∷ map (λ w. w.now) words.now)) (IsForm (codes "check" ∷ map (λ w. w.now) words.now)) }
+{
+    let [program, words @ ..] = words else {
+        return None;
+    };
+    if words.is_empty() {
+        Some(Form::Check(program))
     } else {
         None
     }

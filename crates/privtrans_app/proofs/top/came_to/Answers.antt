@@ -27,3 +27,9 @@ returns-in-Some-Orig-clause-ending g c =
     let given : List (List ℕ) = map (λ w. w.now) c.args.words.now in
     let form = subst (IsForm given) c.in-Some-Orig.field-0-is (subst (λ (o : Option Form). MatchOption o (IsNoForm given) (IsForm given)) c.in-Some-Orig.is c.form_of.ensures) in
     c.orig.ensures.ending given form
+
+pub returns-in-Some-Check-clause-ending : goal.returns-in-Some-Check-clause-ending
+returns-in-Some-Check-clause-ending g c =
+    let given : List (List ℕ) = map (λ w. w.now) c.args.words.now in
+    let form = subst (IsForm given) c.in-Some-Check.field-0-is (subst (λ (o : Option Form). MatchOption o (IsNoForm given) (IsForm given)) c.in-Some-Check.is c.form_of.ensures) in
+    c.check.ensures.ending given form

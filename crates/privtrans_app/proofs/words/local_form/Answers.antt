@@ -10,6 +10,7 @@ no_window word program host policy input turns window zero = record {
   no_help = λ help. grind arith;
   no_version = λ version. grind arith;
   no_orig = λ p h i t form. grind arith;
+  no_check = λ p form. grind arith;
   no_local = λ p h q i t w form.
       let spelled : window ≡ decimal w = ap (λ xs. get_or xs 6 []) form.are in
       let most : w ≤ 1024 = form.window_most in

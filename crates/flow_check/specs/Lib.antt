@@ -1,0 +1,7 @@
+pub mod Checked
+pub mod FlowLines
+pub mod Kept
+pub mod Laws
+pub mod OutcomeSeen
+pub mod Shown
+pub mod SlotLines

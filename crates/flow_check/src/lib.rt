@@ -1,0 +1,17 @@
+//! What a program comes to when its flows are checked: from its text to its privileged variables, or to
+//! the faults of the first stage that has one, of lexer, parser, types and flows.
+#![tactic(auto)]
+
+mod flow_lines;
+mod judging;
+mod laws;
+mod outcome;
+mod shown;
+mod slot_lines;
+mod stages;
+mod variables;
+
+pub use judging::judge;
+pub use laws::{first_bytes_are_enough, texts_have_one_outcome};
+pub use outcome::Outcome;
+pub use stages::outcome_of;
