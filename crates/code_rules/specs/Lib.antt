@@ -1,0 +1,4 @@
+pub mod Links
+pub mod Parts
+pub mod Scopes
+pub mod Typing
