@@ -1,0 +1,12 @@
+pub mod BoolLemmas
+pub mod SizeLemmas
+pub mod StructLemmas
+pub mod WholeLemmas
+pub mod WalkLemmas
+pub mod RiseLemmas
+pub mod CallLemmas
+pub mod CodeLemmas
+pub mod FunctionLemmas
+pub mod StartLemmas
+pub mod TestLemmas
+pub mod ReadLemmas
