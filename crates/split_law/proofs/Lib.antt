@@ -1,0 +1,7 @@
+mod Accepted
+mod Agreeing
+mod Chosen
+mod LoweredCode
+mod Monitors
+mod Parts
+mod Slaves

@@ -1,0 +1,3 @@
+pub mod ProgramLemmas
+pub mod SetLemmas
+pub mod WalkLemmas
