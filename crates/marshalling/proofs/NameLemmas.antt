@@ -216,3 +216,30 @@ from_new names (c ∷ args) x h =
     go true e k = or_assoc (is_among names x) (points_to x c) (list_any (points_to x) args)
         ∙ or_left (is_among names x || points_to x c) (list_any (points_to x) args) (target_new names c x e)
     go false e k = or_true (is_among names x) (points_to x c || list_any (points_to x) args) (or_true (points_to x c) (list_any (points_to x) args) k)
+
+-- ---- one name more
+
+pub name_there : (names : List BlockName) (name : BlockName) (test : Bool) → test ≡ is_among names name → test ≡ true → names ≡ with_name names name
+name_there names name test is h = sym (ap (λ b. if b then names else names ++ name ∷ []) (sym is ∙ h))
+
+pub name_new : (names : List BlockName) (name : BlockName) (test : Bool) → test ≡ is_among names name → test ≡ false
+    → with_name names name ≡ names ++ name ∷ []
+name_new names name test is h = ap (λ b. if b then names else names ++ name ∷ []) (sym is ∙ h)
+
+-- ---- names with one number
+
+name_at-step : (names : List BlockName) (n b d : BlockName) (t : Bool) → is_same_name n b ≡ t
+    → (is_among names b ≡ true → get_or names (number_of names b) d ≡ b) → (t || is_among names b) ≡ true
+    → get_or (n ∷ names) (if t then 0 else suc (number_of names b)) d ≡ b
+name_at-step names n b d true e ih h = same_name n b e
+name_at-step names n b d false e ih h = ih h
+
+-- the name at a name's number is that name
+pub name_at : (names : List BlockName) (b d : BlockName) → is_among names b ≡ true → get_or names (number_of names b) d ≡ b
+name_at [] b d h = cc
+name_at (n ∷ names) b d h = name_at-step names n b d (is_same_name n b) refl (name_at names b d) h
+
+-- names among these that have one number are one
+pub one_number : (names : List BlockName) (a b : BlockName) → is_among names a ≡ true → is_among names b ≡ true
+    → number_of names a ≡ number_of names b → a ≡ b
+one_number names a b h k same = sym (name_at names a a h) ∙ ap (λ i. get_or names i a) same ∙ name_at names b a k

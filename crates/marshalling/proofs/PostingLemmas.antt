@@ -44,7 +44,7 @@ sent_known handle (p ∷ places) (v ∷ vs) (w ∷ ws) h lv lw =
 
 -- ---- counts
 
-places_served : (crossing : ℕ → ℕ → Crossing) (served : Blocks) (k : ℕ) (types : List (List IntType)) → AreServed served k types
+pub places_served : (crossing : ℕ → ℕ → Crossing) (served : Blocks) (k : ℕ) (types : List (List IntType)) → AreServed served k types
     → length (places_of crossing k types) ≡ length (received served k types)
 places_served crossing served k [] h = refl
 places_served crossing served k (t ∷ types) h =
@@ -64,7 +64,7 @@ zip_types [] cells h = refl
 zip_types (t ∷ types) [] h = absurd (omega arith)
 zip_types (t ∷ types) (c ∷ cells) h = ap (λ ts. t ∷ ts) (zip_types types cells (omega arith))
 
-packed_types : (blocks : Blocks) (names : List BlockName) → list_all (λ name. is_whole (blocks name)) names ≡ true
+pub packed_types : (blocks : Blocks) (names : List BlockName) → list_all (λ name. is_whole (blocks name)) names ≡ true
     → map block_types (map (λ name. packed_block (blocks name)) names) ≡ map (λ name. (blocks name).types) names
 packed_types blocks [] h = refl
 packed_types blocks (name ∷ names) h =

@@ -27,7 +27,7 @@ length-kept_by Stays t v store = ap length (append-nil store)
 length-kept_by Plain t v store = ap length (append-nil store)
 length-kept_by Sealed t v store = length-append store ((t, v) ∷ []) ∙ add-one (length store)
 
-length-kept : (places : List Place) (values : List ℤ) (store : Entries) → length places ≡ length values
+pub length-kept : (places : List Place) (values : List ℤ) (store : Entries) → length places ≡ length values
     → length (store ++ kept places values) ≡ next_after (length store) places
 length-kept [] values store h = ap length (append-nil store)
 length-kept (p ∷ places) [] store h = absurd (omega arith)
@@ -38,7 +38,7 @@ length-kept (p ∷ places) (v ∷ values) store h =
 
 -- ---- one part after another
 
-sent-append : (handle : ℕ) (ps qs : List Place) (vs ws : List ℤ) → length ps ≡ length vs
+pub sent-append : (handle : ℕ) (ps qs : List Place) (vs ws : List ℤ) → length ps ≡ length vs
     → sent handle (ps ++ qs) (vs ++ ws) ≡ sent handle ps vs ++ sent (next_after handle ps) qs ws
 sent-append handle [] qs [] ws h = refl
 sent-append handle [] qs (v ∷ vs) ws h = absurd (omega arith)
@@ -47,7 +47,7 @@ sent-append handle (p ∷ ps) qs (v ∷ vs) ws h =
     ap (λ xs. sent_by p.way handle v ++ xs) (sent-append (next_by p.way handle) ps qs vs ws (omega arith))
     ∙ sym (append_assoc (sent_by p.way handle v) (sent (next_by p.way handle) ps vs) (sent (next_after (next_by p.way handle) ps) qs ws))
 
-kept-append : (ps qs : List Place) (vs ws : List ℤ) → length ps ≡ length vs → kept (ps ++ qs) (vs ++ ws) ≡ kept ps vs ++ kept qs ws
+pub kept-append : (ps qs : List Place) (vs ws : List ℤ) → length ps ≡ length vs → kept (ps ++ qs) (vs ++ ws) ≡ kept ps vs ++ kept qs ws
 kept-append [] qs [] ws h = refl
 kept-append [] qs (v ∷ vs) ws h = absurd (omega arith)
 kept-append (p ∷ ps) qs [] ws h = absurd (omega arith)

@@ -1,5 +1,5 @@
 -- Small calls, on which the definitions are tried by computing.
-use Rattle.std.proofs.Common.{◌≡◌, ℕ, pos, refl, Bool, true, false, Option, Some, None, Ok, Err, List, [], ◌∷◌}
+use Rattle.std.proofs.Common.{◌≡◌, ℕ, pos, refl, Bool, true, false, Option, Some, None, Ok, Err, List, [], ◌∷◌, ◌++◌}
 use Rattle.pt_base.specs.declared.int_type.IntType.{IntType}
 use Rattle.pt_base.specs.declared.int_type.IntType.TheVariants as i
 use Rattle.pt_tree.specs.declared.signature.Elem.TheVariants as el
@@ -33,6 +33,7 @@ use Rattle.marshalling.specs.Handles.{Entries, handle_fault, unpacking}
 use Rattle.marshalling.specs.Sendable.{is_sendable}
 use Rattle.marshalling.specs.Replies.{packed_results, kept_results, has_plain}
 use Rattle.marshalling.specs.Taking.{is_reply, after_reply, after_posting, call_places}
+use Rattle.marshalling.specs.HonestCalls.{for_callee, grown, returned, revealed_blocks}
 
 -- ---- short ways to write them
 
@@ -357,3 +358,41 @@ unmarked = refl
 unknown : is_sendable store structs (pointer_to_struct 0 ∷ []) memory (to (Local 1 0) 0 1 ∷ []) ≡ false
 unfolding leaves_of
 unknown = refl
+
+-- ---- a call that is served
+
+abbrev pub six : Entries
+six = four ++ (i.Int, pos 44) ∷ (i.Int, pos 45) ∷ []
+
+-- both pointers into one block, the second to its last cell alone
+abbrev pub aliases : List Cell
+aliases = to (Local 2 1) 0 1 ∷ to (Local 2 1) 2 1 ∷ []
+
+may_be_called : is_sendable six structs asks.params calling aliases ≡ true
+unfolding leaves_of
+may_be_called = refl
+
+-- both point into one received block
+callee_gets : unpacking six structs asks.params (packed calling asks.params aliases) ≡ Ok (for_callee six calling aliases)
+unfolding leaves_of
+callee_gets = refl
+
+that_is : for_callee six calling aliases ≡
+    record { args = to (Received 0) 0 1 ∷ to (Received 0) 2 1 ∷ []; blocks = (cell.Int (pos 1) ∷ cell.Int (pos 40) ∷ cell.Int (pos 3) ∷ []) ∷ [] }
+that_is = refl
+
+store_has : grown six structs asks calling aliases served_blocks (Some (pos 10)) ≡ six ++ (i.Int, pos 10) ∷ (i.Int, pos 12) ∷ []
+unfolding leaves_of
+store_has = refl
+
+caller_has : ((returned six structs asks calling aliases served_blocks (Some (pos 10))).blocks (Local 2 1)).cells
+    ≡ cell.Int (pos 11) ∷ cell.Sealed 7 ∷ cell.Int (pos 3) ∷ []
+unfolding leaves_of
+caller_has = refl
+
+that_stands_for :
+    (revealed_blocks (grown six structs asks calling aliases served_blocks (Some (pos 10)))
+    (returned six structs asks calling aliases served_blocks (Some (pos 10))).blocks (Local 2 1)).cells
+    ≡ cell.Int (pos 11) ∷ cell.Int (pos 12) ∷ cell.Int (pos 3) ∷ []
+unfolding leaves_of
+that_stands_for = refl

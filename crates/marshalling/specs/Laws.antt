@@ -4,10 +4,13 @@ use Rattle.std.specs.List.{list_all}
 use Rattle.pt_tree.specs.declared.signature.Param.{Param}
 use Rattle.pt_tree.specs.declared.signature.Signature.{Signature}
 use Rattle.typed_tree.specs.declared.types.StructInfo.{StructInfo}
+use Rattle.typed_tree.specs.WellFormed.{is_variable_type, structs_sound}
+use Rattle.typed_tree.specs.WellFormedExpression.{param_type}
 use Rattle.block_memory.specs.declared.cell.Cell.{Cell}
 use Rattle.block_memory.specs.Blocks.{Blocks}
 use Rattle.wire.specs.Limits.{IsCall, most_in_a_call}
 use Rattle.marshalling.specs.Handles.{Entries, unpacked, unpacking}
+use Rattle.marshalling.specs.Leaves.{has_structs}
 use Rattle.marshalling.specs.Packing.{names_of, packed}
 use Rattle.marshalling.specs.Replies.{AreServed, IsResult, has_plain, packed_results, result_places, types_in}
 use Rattle.marshalling.specs.Sendable.{is_sendable}
@@ -37,3 +40,9 @@ NeverRefused =
     (store : Entries) (structs : List StructInfo) (params : List Param) (blocks : Blocks) (args : List Cell)
     → is_sendable store structs params blocks args ≡ true
     → unpacking store structs params (packed blocks params args) ≡ Ok (unpacked store (packed blocks params args))
+
+-- The structs of a program that is well formed are there for each of its signatures.
+abbrev pub StructsStand : Type 0
+StructsStand =
+    (structs : List StructInfo) (params : List Param) → structs_sound structs 0 structs ≡ true
+    → list_all (λ p. is_variable_type (length structs) (param_type p.kind)) params ≡ true → has_structs structs params ≡ true

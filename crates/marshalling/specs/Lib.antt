@@ -10,3 +10,6 @@ pub mod Walks
 pub mod Laws
 pub mod Plans
 pub mod Sendable
+pub mod Reaches
+pub mod HonestCalls
+pub mod TakenReplies

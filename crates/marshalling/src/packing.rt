@@ -66,7 +66,8 @@ fn add_name(names: &mut Vec<BlockName>, name: BlockName) -> Result<(), AllocErro
     Ok(())
 }
 
-fn stands_among(names: &[BlockName], name: BlockName) -> bool
+/// Whether the name is one of these.
+pub(crate) fn stands_among(names: &[BlockName], name: BlockName) -> bool
     ensures { result ≡ is_among names.now name }
 {
     names.iter().any(|n| same_name(*n, name))
@@ -121,7 +122,8 @@ pub(crate) fn arguments(
         .collect(alloc)
 }
 
-fn argument(names: &[BlockName], param: &Param, cell: Cell) -> Arg
+/// An argument as it is sent, where these are the blocks' names by number.
+pub(crate) fn argument(names: &[BlockName], param: &Param, cell: Cell) -> Arg
     requires { length names.now ≤ 8 }
     ensures { result ≡ packed_argument names.now param.now cell }
 {

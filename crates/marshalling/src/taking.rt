@@ -119,7 +119,12 @@ fn plan_of(
     Ok(Plan { targets, ranges })
 }
 
-fn take_result(names: &mut Names, sig: &Signature, sent: Option<WireCell>) -> Option<Cell>
+/// The result as it comes back, and the next handle behind it.
+pub(crate) fn take_result(
+    names: &mut Names,
+    sig: &Signature,
+    sent: Option<WireCell>,
+) -> Option<Cell>
     requires { next_after names.old (result_places sig.now sig.now.result) ≤ 2 ^ 63 }
     ensures value { result ≡ taken_result (result_places sig.now sig.now.result) names.old sent }
     ensures names { names.new ≡ next_after names.old (result_places sig.now sig.now.result) }
