@@ -1,0 +1,3 @@
+mod GateLemmas
+mod MachineRun
+mod MarkLemmas

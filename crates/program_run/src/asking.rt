@@ -1,0 +1,29 @@
+// Calls of hosts.
+ghost use Rattle.std.specs.Prelude.{◌≡◌, IfOk};
+ghost use Rattle.host_table.specs.Hosts.{hosts_of};
+ghost use Rattle.program_run.specs.HostGates.{heard_answer, heard_of};
+
+use host_table::Host;
+use pt_base::FnId;
+use std::alloc::AllocError;
+
+/// A host answers, and what it writes is appended. A number without a model answers 0 and writes nothing.
+pub(crate) fn asked(
+    hosts: &mut Host,
+    is_host: &[bool],
+    f: FnId,
+    args: &[i128],
+    written: &mut Vec<u8>,
+) -> Result<Option<i128>, AllocError>
+    ensures { IfOk result (λ answer. heard_answer f.0 args.now (heard_of (hosts_of hosts.old) written.old.items is_host.now) ≡ (answer, heard_of (hosts_of hosts.new) written.new.items is_host.now)) }
+{
+    // no call of a typed program goes to a number that it doesn't have
+    if f.0 as usize >= is_host.len() {
+        return Err(AllocError);
+    }
+    if hosts.model(f).is_none() {
+        return Ok(Some(0));
+    }
+    let answer = hosts.call(f, args, written)?;
+    Ok(answer)
+}
