@@ -2,6 +2,7 @@
 use crate::calls::Files;
 use crate::copies::copied;
 use crate::frames::{cuts, frames, payload};
+use crate::halves::{boot, halves};
 use crate::hosts::{called, given, parted, read_table};
 use crate::numbers::reckoned;
 use crate::objects::{choosers, folder, link, sink};
@@ -10,6 +11,7 @@ use crate::policies::{decided, read_text};
 use crate::programs::{Around, judged};
 use crate::stores::{memory, names, store};
 use crate::text::{first_word, spelled};
+use crate::threads::{at_once, checked};
 use crate::tokens::{strange_bytes, told};
 use crate::typed::typed;
 use anyhow::{Context, Result, bail};
@@ -66,9 +68,13 @@ impl Session {
             "store" => store(alloc),
             "memory" => memory(alloc),
             "copied" => copied(alloc, rest),
+            "boot" => boot(alloc, rest),
+            "halves" => halves(rt, alloc, rest),
             "file" => self.files.set(alloc, rest),
             "failing" => self.files.fail(alloc, rest),
             "run" => self.files.call(rt, alloc, rest),
+            "threads" => at_once(rt, alloc, rest),
+            "checked" => checked(rt, alloc, rest),
             "before" | "program" | "item" | "body" => self.judge(alloc, word, rest),
             _ => self.ask(alloc, row, word, rest),
         }
