@@ -191,6 +191,7 @@ static LEADING: [u128; 177] = [
 /// The rule, numbered from 1, by which the symbol gives way at a token of this kind: the first of
 /// its alternatives that the kind can begin, or that is empty where the kind can follow the symbol.
 /// `None` where the grammar has no such rule.
+#[inline(always)]
 pub fn row(symbol: Symbol, next: TokenKind) -> Option<u8>
     ensures { result ≡ row_of symbol next }
 {
@@ -206,18 +207,21 @@ pub fn table_is_the_grammars()
     ensures { TableIsTheGrammars }
 {}
 
+#[inline(always)]
 fn is_led_to(rule: u8, next: TokenKind) -> bool
     ensures { result ≡ leads_to next rule }
 {
     (leading_to(rule) >> number(next)) % 2 == 1
 }
 
+#[inline(always)]
 fn leading_to(rule: u8) -> u128
     ensures { result ≡ get_or leading rule 0 }
 {
     LEADING.get(rule as usize).copied().unwrap_or(0)
 }
 
+#[inline(always)]
 fn number(kind: TokenKind) -> u8
     ensures { result ≡ kind_number kind }
 {
@@ -225,6 +229,7 @@ fn number(kind: TokenKind) -> u8
 }
 
 /// The numbers of the symbol's rules, ascending.
+#[inline(always)]
 pub fn alternatives(symbol: Symbol) -> &'static [u8]
     ensures { result.now ≡ alternatives_of symbol }
 {
@@ -262,6 +267,7 @@ pub fn alternatives(symbol: Symbol) -> &'static [u8]
 }
 
 // Those of a symbol that stands in the body of a function.
+#[inline(always)]
 fn inner_alternatives(symbol: Symbol) -> &'static [u8]
     requires { 28 ≤ symbol_number symbol }
     ensures { result.now ≡ alternatives_of symbol }
@@ -286,6 +292,7 @@ fn inner_alternatives(symbol: Symbol) -> &'static [u8]
 }
 
 // Those of a symbol that stands in an expression.
+#[inline(always)]
 fn expression_alternatives(symbol: Symbol) -> &'static [u8]
     requires { (38 ≤ symbol_number symbol) × (symbol_number symbol < 70) }
     ensures { result.now ≡ alternatives_of symbol }

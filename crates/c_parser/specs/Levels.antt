@@ -9,7 +9,7 @@ use Rattle.pt_tree.specs.declared.operator.BinaryOp.TheVariants as b
 use Rattle.c_grammar.specs.declared.symbol.Symbol.{Symbol}
 use Rattle.c_grammar.specs.declared.symbol.Symbol.TheVariants as s
 use Rattle.c_grammar.specs.Part.{Part}
-use Rattle.c_grammar.specs.Builds.{no_links, add_link, chain_of}
+use Rattle.c_grammar.specs.Builds.{add_link}
 use Rattle.c_grammar.specs.Machine.{Entry, takes, gives, builds, Outcome}
 use Rattle.c_parser.specs.declared.operators.Level.{Level}
 use Rattle.c_parser.specs.declared.operators.Level.TheVariants as l
@@ -93,10 +93,6 @@ operators = (132, b.LogicalOr) ∷ (135, b.LogicalAnd) ∷ (138, b.BitOr) ∷ (1
 -- the operator of a rule
 abbrev pub operator_at : ℕ → Option BinaryOp
 operator_at n = option_map (λ p. p.1) (find (λ p. nat_eq n p.0) operators)
-
--- the symbol of the level gives way to its rule
-pub record EntersLevel (tokens : List Token) (level : Level) (at : ℕ) : Type 0 where
-  pub from : (depth : ℕ) (rest : List Entry) (parts : List Part) (o : Outcome) → Comes tokens (gives (tighter_of level) ∷ builds at no_links ∷ gives (tail_of level) ∷ builds at chain_of ∷ rest) at depth parts o → Comes tokens (gives (symbol_of level) ∷ rest) at depth parts o
 
 -- the tail of the level gives way to the rule of the operator, or to nothing
 pub record EntersMore (tokens : List Token) (level : Level) (at : ℕ) (op : BinaryOp) : Type 0 where

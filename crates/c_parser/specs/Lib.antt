@@ -1,5 +1,6 @@
 pub mod Answer
 pub mod Blocks
+pub mod Climbing
 pub mod Heads
 pub mod Levels
 pub mod Nesting

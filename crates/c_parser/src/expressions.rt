@@ -3,7 +3,7 @@ ghost use Rattle.std.specs.Prelude.{◌≡◌, ◌+◌, ◌<◌, ◌≤◌, ◌^
 ghost use Rattle.c_grammar.specs.Machine.{takes, gives, opens, builds, wanted};
 ghost use Rattle.std.specs.Prelude.{map, IfSome};
 ghost use Rattle.pt_tree.specs.ExpressionTree.{view_expr, view_link};
-ghost use Rattle.c_grammar.specs.Builds.{chained, stepped};
+ghost use Rattle.c_grammar.specs.Builds.{chained, stepped, no_links, chain_of};
 ghost use Rattle.c_parser.specs.Levels.{symbol_of, tail_of, tighter_of};
 ghost use Rattle.c_parser.specs.OperandNames.{unary_number, postfix_number};
 ghost use Rattle.c_parser.specs.Parses.{Parses, is_fixed};
@@ -11,15 +11,16 @@ ghost use Rattle.c_parser.specs.Parts.{of_expr, of_exprs, of_links, of_postfixes
 
 use crate::declarators::star;
 use crate::error::ParseError;
+use crate::levels::{begin_operand, level_at, levels_ended, levels_within};
 use crate::operand_rule::{PostfixRule, UnaryRule, postfix_rule, unary_rule};
 use crate::operators::{
-    Level, assignment_operator, begin_level, kind_by, link_operator, prefix_operator, tighter,
+    Level, assignment_operator, kind_by, link_operator, prefix_operator, tighter,
 };
 use crate::parsed::Parsed;
 use crate::postfixes::{arrow, decrement, dot, increment, put_behind};
 use crate::primaries::primary;
 use crate::specifiers::specifiers;
-use crate::text::{DEEPEST, begin, expect, one, push, span_of, takes_first};
+use crate::text::{DEEPEST, begin, expect, one, push_few, span_of, takes_first};
 use c_grammar::Symbol;
 use c_lexer::{Token, TokenKind};
 use pt_base::Span;
@@ -126,7 +127,8 @@ fn nested_conditional(
     conditional(alloc, tokens, at, depth + 1)
 }
 
-// The operands of one level.
+// The operands of one level: an operand of none, and what stands behind it at each level from the
+// tightest to this one.
 #[cycle(expressions)]
 fn level_chain(
     alloc: Global,
@@ -141,12 +143,43 @@ fn level_chain(
     ensures parses { Parses [] of_expr tokens.now (gives (symbol_of level) ∷ []) at depth result }
     ensures goes_on { IfOk result (λ p. (at < p.next) × (p.next ≤ length tokens.now)) }
 {
-    begin_level(tokens, at, level)?;
-    let first = operand(alloc, tokens, at, depth, level)?;
+    begin_operand(tokens, at, level)?;
+    let first = unary(alloc, tokens, at, depth)?;
+    let count = levels_within(level);
+    let mut ends = levels_ended(tokens, first.next);
+    let mut left = first;
+    for position in 0..count {
+        if position < ends {
+            continue;
+        }
+        let here = level_at(position);
+        left = at_level(alloc, tokens, at, depth, here, left)?;
+        let there = levels_ended(tokens, left.next);
+        ends = there;
+    }
+    Ok(left)
+}
+
+// What stands behind an operand at one level, if anything does.
+#[cycle(expressions)]
+fn at_level(
+    alloc: Global,
+    tokens: &[Token],
+    from: usize,
+    depth: u32,
+    level: Level,
+    left: Parsed<Expr>,
+) -> Result<Parsed<Expr>, ParseError>
+    requires within { left.next ≤ length tokens.now }
+    requires few { length tokens.now < 2 ^ 32 }
+    requires shallow { depth ≤ 200 }
+    ensures parses { Parses (of_expr left.tree) of_expr tokens.now (builds from no_links ∷ gives (tail_of level) ∷ builds from chain_of ∷ []) left.next depth result }
+    ensures goes_on { IfOk result (λ p. (left.next ≤ p.next) × (p.next ≤ length tokens.now)) }
+{
     let none = Vec::new(alloc);
-    let links = more_operands(alloc, tokens, first.next, depth, level, none)?;
-    let span = span_of(tokens, at, links.next);
-    let tree = chain_up(alloc, span, first.tree, links.tree)?;
+    let links = more_operands(alloc, tokens, left.next, depth, level, none)?;
+    let span = span_of(tokens, from, links.next);
+    let tree = chain_up(alloc, span, left.tree, links.tree)?;
     Ok(Parsed {
         tree,
         next: links.next,
@@ -212,7 +245,7 @@ fn more_operands(
                     op,
                     operand: one.tree,
                 };
-                push(&mut links, link)?;
+                push_few(&mut links, link)?;
                 next = one.next;
             }
         }
@@ -410,7 +443,7 @@ fn more_postfixes(
                 });
             }
             Some(one) => {
-                push(&mut postfixes, one.tree)?;
+                push_few(&mut postfixes, one.tree)?;
                 next = one.next;
             }
         }
@@ -537,7 +570,7 @@ fn more_arguments(
         }
         let after = expect(tokens, next, TokenKind::Comma)?;
         let one = expression(alloc, tokens, after, depth)?;
-        push(&mut values, one.tree)?;
+        push_few(&mut values, one.tree)?;
         next = one.next;
     }
 }

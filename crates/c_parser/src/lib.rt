@@ -9,6 +9,7 @@ mod expressions;
 mod heads;
 mod labels;
 mod laws;
+mod levels;
 mod operand_rule;
 mod operators;
 mod parsed;

@@ -3,13 +3,13 @@ ghost use Rattle.std.specs.Prelude.{◌≡◌, ◌+◌, ◌<◌, ◌≤◌, ◌^
 ghost use Rattle.c_grammar.specs.Machine.{takes, gives, opens, builds, wanted};
 ghost use Rattle.std.specs.Prelude.{IfSome, IfErr};
 ghost use Rattle.c_grammar.specs.Builds.{assigning, operator, no_links, chain_of};
-ghost use Rattle.c_parser.specs.Levels.{symbol_of, tail_of, tighter_of, tighter_symbol, number_of, kind_of, operator_at, EntersLevel, EntersLink};
+ghost use Rattle.c_parser.specs.Levels.{tail_of, tighter_of, tighter_symbol, number_of, kind_of, operator_at, EntersLink};
 ghost use Rattle.c_parser.specs.Parses.{Parses, Fails, is_fixed};
 ghost use Rattle.c_parser.specs.Parts.{of_assign_op, of_prefix_op};
 
 use crate::error::ParseError;
 use crate::parsed::Parsed;
-use crate::text::{begin, choose, expect};
+use crate::text::{choose, expect};
 use c_grammar::Symbol;
 use c_lexer::{Token, TokenKind};
 use pt_tree::{BinaryOp, PrefixOp};
@@ -27,23 +27,6 @@ pub(crate) enum Level {
     Shift,
     Additive,
     Multiplicative,
-}
-
-fn symbol(level: Level) -> Symbol
-    ensures { result ≡ symbol_of level }
-{
-    match level {
-        Level::LogicalOr => Symbol::LogicalOr,
-        Level::LogicalAnd => Symbol::LogicalAnd,
-        Level::BitOr => Symbol::BitOr,
-        Level::BitXor => Symbol::BitXor,
-        Level::BitAnd => Symbol::BitAnd,
-        Level::Equality => Symbol::Equality,
-        Level::Relational => Symbol::Relational,
-        Level::Shift => Symbol::Shift,
-        Level::Additive => Symbol::Additive,
-        Level::Multiplicative => Symbol::Multiplicative,
-    }
 }
 
 fn tail(level: Level) -> Symbol
@@ -80,17 +63,6 @@ pub(crate) fn tighter(level: Level) -> Option<Level>
         Level::Additive => Some(Level::Multiplicative),
         Level::Multiplicative => None,
     }
-}
-
-/// Goes on by the rule of the level.
-pub(crate) fn begin_level(tokens: &[Token], at: usize, level: Level) -> Result<(), ParseError>
-    requires within { at ≤ length tokens.now }
-    requires few { length tokens.now < 2 ^ 32 }
-    ensures enters { IfOk result (λ _. EntersLevel tokens.now level at) }
-    ensures fails { IfErr result (λ e. (depth : ℕ) → Fails tokens.now (gives (symbol_of level) ∷ []) at depth [] e) }
-{
-    begin(tokens, at, symbol(level))?;
-    Ok(())
 }
 
 /// The operator of the level that goes on there; none where the operands end.

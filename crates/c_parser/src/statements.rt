@@ -16,7 +16,7 @@ use crate::plain_statements::{
     break_statement, continue_statement, empty_statement, expression_statement, return_statement,
 };
 use crate::statement_rule::{StatementRule, statement_rule};
-use crate::text::{DEEPEST, begin, expect, push, span_of, takes_first};
+use crate::text::{DEEPEST, begin, expect, push_few, span_of, takes_first};
 use c_grammar::Symbol;
 use c_lexer::{Token, TokenKind};
 use pt_tree::{Block, Section, Stmt};
@@ -111,7 +111,7 @@ fn more_items(
             return Ok(Parsed { tree: items, next });
         }
         let one = item(alloc, tokens, next, depth)?;
-        push(&mut items, one.tree)?;
+        push_few(&mut items, one.tree)?;
         next = one.next;
     }
 }
@@ -296,7 +296,7 @@ fn more_sections(
             });
         }
         let one = section(alloc, tokens, next, depth)?;
-        push(&mut sections, one.tree)?;
+        push_few(&mut sections, one.tree)?;
         next = one.next;
     }
 }
@@ -350,7 +350,7 @@ fn section_items(
             return Ok(Parsed { tree: items, next });
         }
         let one = statement(alloc, tokens, next, depth)?;
-        push(&mut items, one.tree)?;
+        push_few(&mut items, one.tree)?;
         next = one.next;
     }
 }

@@ -17,6 +17,7 @@ use std::alloc::{AllocError, Global};
 pub const DEEPEST: u32 = 200;
 
 /// Whether a token of that kind stands there.
+#[inline(always)]
 pub(crate) fn stands(tokens: &[Token], at: usize, kind: TokenKind) -> bool
     ensures kind { result ≡ is_kind kind (slice_get tokens.now at) }
     ensures within { IsTrue result → at < length tokens.now }
@@ -27,6 +28,7 @@ pub(crate) fn stands(tokens: &[Token], at: usize, kind: TokenKind) -> bool
     }
 }
 
+#[inline(always)]
 fn number(kind: TokenKind) -> u8
     ensures { result ≡ kind_number kind }
 {
@@ -34,6 +36,7 @@ fn number(kind: TokenKind) -> u8
 }
 
 /// The place after a keyword or punctuator that must stand there.
+#[inline(always)]
 pub(crate) fn expect(tokens: &[Token], at: usize, kind: TokenKind) -> Result<usize, ParseError>
     requires within { at ≤ length tokens.now }
     requires few { length tokens.now < 2 ^ 32 }
@@ -49,7 +52,8 @@ pub(crate) fn expect(tokens: &[Token], at: usize, kind: TokenKind) -> Result<usi
 }
 
 /// The rule by which the symbol goes on there.
-fn rule_at(tokens: &[Token], at: usize, symbol: Symbol) -> Option<u8>
+#[inline(always)]
+pub(crate) fn rule_at(tokens: &[Token], at: usize, symbol: Symbol) -> Option<u8>
     ensures { result ≡ row_at tokens.now symbol at }
 {
     match tokens.get(at) {
@@ -61,6 +65,7 @@ fn rule_at(tokens: &[Token], at: usize, symbol: Symbol) -> Option<u8>
     }
 }
 
+#[inline(always)]
 fn first_rule(symbol: Symbol) -> u8
     ensures { result ≡ get_or (alternatives_of symbol) 0 0 }
 {
@@ -68,6 +73,7 @@ fn first_rule(symbol: Symbol) -> u8
 }
 
 /// Goes on by the only rule of the symbol.
+#[inline(always)]
 pub(crate) fn begin(tokens: &[Token], at: usize, symbol: Symbol) -> Result<(), ParseError>
     requires within { at ≤ length tokens.now }
     requires few { length tokens.now < 2 ^ 32 }
@@ -81,6 +87,7 @@ pub(crate) fn begin(tokens: &[Token], at: usize, symbol: Symbol) -> Result<(), P
 }
 
 /// Whether a symbol with two rules goes on by the first.
+#[inline(always)]
 pub(crate) fn takes_first(tokens: &[Token], at: usize, symbol: Symbol) -> Result<bool, ParseError>
     requires within { at ≤ length tokens.now }
     requires few { length tokens.now < 2 ^ 32 }
@@ -95,6 +102,7 @@ pub(crate) fn takes_first(tokens: &[Token], at: usize, symbol: Symbol) -> Result
 }
 
 /// The rule by which the symbol goes on.
+#[inline(always)]
 pub(crate) fn choose(tokens: &[Token], at: usize, symbol: Symbol) -> Result<u8, ParseError>
     requires within { at ≤ length tokens.now }
     requires few { length tokens.now < 2 ^ 32 }
@@ -109,6 +117,7 @@ pub(crate) fn choose(tokens: &[Token], at: usize, symbol: Symbol) -> Result<u8, 
 }
 
 /// From the token at one place to past the last one before another.
+#[inline(always)]
 pub(crate) fn span_of(tokens: &[Token], from: usize, next: usize) -> Span
     ensures { result ≡ stretch tokens.now from next }
 {
@@ -118,6 +127,7 @@ pub(crate) fn span_of(tokens: &[Token], from: usize, next: usize) -> Span
     }
 }
 
+#[inline(always)]
 fn start(tokens: &[Token], at: usize) -> u32
     ensures { result ≡ start_of (slice_get tokens.now at) }
 {
@@ -127,6 +137,7 @@ fn start(tokens: &[Token], at: usize) -> u32
     }
 }
 
+#[inline(always)]
 fn end(tokens: &[Token], at: usize) -> u32
     ensures { result ≡ end_of (slice_get tokens.now at) }
 {
@@ -187,15 +198,18 @@ pub(crate) fn constant(tokens: &[Token], at: usize, kind: TokenKind) -> Result<C
 pub(crate) fn one<T: Drop>(alloc: Global, item: T) -> Result<Vec<T>, AllocError>
     ensures { IfOk result (λ v. v.items ≡ item ∷ []) }
 {
-    let mut items = Vec::new(alloc);
+    let mut items = Vec::with_capacity(alloc, 1)?;
     items.push(item)?;
     Ok(items)
 }
 
-/// Puts one more behind a list.
-pub(crate) fn push<T: Drop>(items: &mut Vec<T>, item: T) -> Result<(), AllocError>
+/// Puts one more behind a list that mostly has one, with room for no more at first.
+pub(crate) fn push_few<T: Drop>(items: &mut Vec<T>, item: T) -> Result<(), AllocError>
     ensures items { IfOk result (λ _. items.new.items ≡ items.old.items ++ item ∷ []) }
 {
+    if items.is_empty() {
+        items.reserve_exact(1)?;
+    }
     items.push(item)?;
     Ok(())
 }

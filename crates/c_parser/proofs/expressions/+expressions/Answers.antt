@@ -7,6 +7,7 @@ use Rattle.pt_tree.specs.ExpressionTree.{link}
 use Rattle.c_grammar.specs.Machine.{takes, gives}
 use Rattle.c_parser.specs.Parses.{Comes, Turns, Fails, Parses, Enters}
 use Rattle.c_parser.specs.OperandNames.{unary_number, postfix_number}
+use Rattle.c_parser.proofs.Climbing.{climbs_begin, climbs_skip, climbs_level, climbs_fail, climbs_end}
 use Rattle.c_parser.proofs.Steps.{built, builds_on, same_top, pushed, by_rule, adds_by_rule, ends_by_rule, opened}
 use Rattle.c_parser.specs.Parts.{of_expr, Adds}
 use Rattle.c_parser.specs.Levels.{EntersLink}
@@ -60,17 +61,50 @@ conditional-returns-clause-parses t c = record { from = λ rest parts o k. c.in_
 pub nested_conditional-returns-clause-parses : goal.nested_conditional-returns-clause-parses
 nested_conditional-returns-clause-parses t c = opened of_expr c.args.tokens.now s.Cond c.args.at c.args.depth _ (omega arith) c.conditional.ensures.parses
 
-pub level_chain-returns-in_err-begin_level-clause-parses : goal.level_chain-returns-in_err-begin_level-clause-parses
-level_chain-returns-in_err-begin_level-clause-parses t c = let is : c.from_residual.result ≡ Err c.in_err-begin_level.field-0.0 = search rules in rw is (record { from = λ o e rest parts. (c.in_err-begin_level.ensures.fails c.args.depth).from o e _ _ })
+pub level_chain-returns-in_err-begin_operand-clause-parses : goal.level_chain-returns-in_err-begin_operand-clause-parses
+level_chain-returns-in_err-begin_operand-clause-parses t c = let is : c.from_residual.result ≡ Err c.in_err-begin_operand.field-0.0 = search rules in rw is (record { from = λ o e rest parts. (c.in_err-begin_operand.ensures.fails c.args.depth).from o e _ _ })
 
 pub level_chain-returns-in_err-first-clause-parses : goal.level_chain-returns-in_err-first-clause-parses
-level_chain-returns-in_err-first-clause-parses t c = let is : c.from_residual-in_err-first.result ≡ Err c.in_err-first.field-0.0 = search rules in rw is (record { from = λ o e rest parts. c.in_ok-begin_level.ensures.enters.from _ _ _ _ (c.in_err-first.ensures.parses.from o e _ _) })
+level_chain-returns-in_err-first-clause-parses t c = let is : c.from_residual-in_err-first.result ≡ Err c.in_err-first.field-0.0 = search rules in rw is (record { from = λ o e rest parts. c.in_ok-begin_operand.ensures.enters.from _ _ _ _ (c.in_err-first.ensures.parses.from o e _ _) })
 
-pub level_chain-returns-in_err-links-clause-parses : goal.level_chain-returns-in_err-links-clause-parses
-level_chain-returns-in_err-links-clause-parses t c = let is : c.from_residual-in_err-links.result ≡ Err c.in_err-links.field-0.0 = search rules in rw is (record { from = λ o e rest parts. c.in_ok-begin_level.ensures.enters.from _ _ _ _ (c.in_ok-first.ensures.parses.from _ _ _ (built _ _ _ _ _ _ _ _ _ (same_top (λ xs. q.links (map view_link xs)) _ _ _ (sym c.new-none.ensures.items)) (c.in_err-links.ensures.parses.from o e _ _))) })
+pub level_chain-loop-position-init : goal.level_chain-loop-position-init
+level_chain-loop-position-init t c = record {
+  total = c.levels_within-count.ensures;
+  climbs = climbs_begin _ _ _ _ _ _ _ c.in_ok-begin_operand.ensures.enters c.levels_within-count.ensures c.in_ok-first.ensures.parses;
+  ends = c.levels_ended-ends.ensures;
+  after = c.in_ok-first.ensures.goes_on.0;
+  within = c.in_ok-first.ensures.goes_on.1;
+}
+
+pub level_chain-loop-position-preserved-then-position-ends : goal.level_chain-loop-position-preserved-then-position-ends
+level_chain-loop-position-preserved-then-position-ends t c = record {
+  total = c.loop-position.invariant.total;
+  climbs = climbs_skip _ _ _ _ _ _ _ _ _ c.loop-position-test.true (omega arith) (c.loop-position.invariant.ends _ (omega arith)) c.loop-position.invariant.climbs;
+  ends = c.loop-position.invariant.ends;
+  after = c.loop-position.invariant.after;
+  within = c.loop-position.invariant.within;
+}
+
+pub level_chain-returns-in_err-left-clause-parses : goal.level_chain-returns-in_err-left-clause-parses
+level_chain-returns-in_err-left-clause-parses t c = let is : c.from_residual-in_err-left.result ≡ Err c.in_err-left.field-0.0 = search rules in rw is (climbs_fail _ _ _ _ _ _ _ _ _ _ c.level_at-here.ensures.level c.loop-position-test.true c.in_err-left.ensures.parses c.loop-position.invariant.climbs)
+
+pub level_chain-loop-position-preserved : goal.level_chain-loop-position-preserved
+level_chain-loop-position-preserved t c = record {
+  total = c.loop-position.invariant.total;
+  climbs = climbs_level _ _ _ _ _ _ _ _ _ _ _ _ c.level_at-here.ensures.level c.loop-position-test.true (omega arith) c.in_ok-left.ensures.parses c.loop-position.invariant.climbs;
+  ends = c.levels_ended-there.ensures;
+  after = omega (arith, c.loop-position.invariant.after, c.in_ok-left.ensures.goes_on.0);
+  within = c.in_ok-left.ensures.goes_on.1;
+}
 
 pub level_chain-returns-clause-parses : goal.level_chain-returns-clause-parses
-level_chain-returns-clause-parses t c = record { from = λ rest parts o k. c.in_ok-begin_level.ensures.enters.from _ _ _ _ (c.in_ok-first.ensures.parses.from _ _ _ (built _ _ _ _ _ _ _ _ _ (same_top (λ xs. q.links (map view_link xs)) _ _ _ (sym c.new-none.ensures.items)) (c.in_ok-links.ensures.parses.from _ _ _ (built _ _ _ _ _ _ _ _ _ (search rules) (k))))) }
+level_chain-returns-clause-parses t c = climbs_end _ _ _ _ _ _ _ _ (omega arith) c.loop-position.invariant.climbs
+
+pub at_level-returns-in_err-links-clause-parses : goal.at_level-returns-in_err-links-clause-parses
+at_level-returns-in_err-links-clause-parses t c = let is : c.from_residual.result ≡ Err c.in_err-links.field-0.0 = search rules in rw is (record { from = λ o e rest parts. built _ _ _ _ _ _ _ _ _ (same_top (λ xs. q.links (map view_link xs)) _ _ _ (sym c.new-none.ensures.items)) (c.in_err-links.ensures.parses.from o e _ _) })
+
+pub at_level-returns-clause-parses : goal.at_level-returns-clause-parses
+at_level-returns-clause-parses t c = record { from = λ rest parts o k. built _ _ _ _ _ _ _ _ _ (same_top (λ xs. q.links (map view_link xs)) _ _ _ (sym c.new-none.ensures.items)) (c.in_ok-links.ensures.parses.from _ _ _ (built _ _ _ _ _ _ _ _ _ (search rules) (k))) }
 
 pub operand-returns-in-Some-clause-parses : goal.operand-returns-in-Some-clause-parses
 operand-returns-in-Some-clause-parses t c = subst (λ x. Parses [] of_expr c.args.tokens.now (gives x ∷ []) c.args.at c.args.depth c.level_chain.result) c.in-Some.ensures.symbol c.level_chain.ensures.parses
@@ -94,7 +128,7 @@ pub more_operands-returns-in_err-one-in-Some-clause-parses : goal.more_operands-
 more_operands-returns-in_err-one-in-Some-clause-parses t c = let is : c.from_residual-in_err-one-in-Some.result ≡ Err c.in_err-one-in-Some.field-0.0 = search rules in rw is (record { from = λ o e rest parts. c.loop-links.invariant.repeats.from _ _ _ ((subst (EntersLink c.args.tokens.now c.args.level c.loop-links.next) c.in-Some.is c.in_ok-operator.ensures.enters).from _ _ _ _ ((subst (λ x. Turns c.args.tokens.now (takes x ∷ []) c.loop-links.next c.args.depth [] [] c.in_ok-after-in-Some.after) c.kind_by-kind.ensures.kind (c.in_ok-after-in-Some.ensures.expects c.args.depth)).from _ _ _ (c.in_err-one-in-Some.ensures.parses.from o e _ _))) })
 
 pub more_operands-loop-links-preserved : goal.more_operands-loop-links-preserved
-more_operands-loop-links-preserved t c = record { repeats = record { from = λ rest parts o k. c.loop-links.invariant.repeats.from _ _ _ ((subst (EntersLink c.args.tokens.now c.args.level c.loop-links.next) c.in-Some.is c.in_ok-operator.ensures.enters).from _ _ _ _ ((subst (λ x. Turns c.args.tokens.now (takes x ∷ []) c.loop-links.next c.args.depth [] [] c.in_ok-after-in-Some.after) c.kind_by-kind.ensures.kind (c.in_ok-after-in-Some.ensures.expects c.args.depth)).from _ _ _ (c.in_ok-one-in-Some.ensures.parses.from _ _ _ (built _ _ _ _ _ _ _ _ _ (ap (λ z. q.links (map view_link c.loop-links.links.items ++ z ∷ []) ∷ parts) (ap (λ z. link z c.in-Some.op (view_expr c.in_ok-one-in-Some.one.tree)) (sym c.span_of-span.ensures)) ∙ pushed q.links view_link _ _ _ _ c.in_ok-push-in-Some.ensures.items) k)))) }; after = omega (arith, c.loop-links.invariant.after, c.loop-links.invariant.within, c.in_ok-after-in-Some.ensures.goes_on.0, c.in_ok-after-in-Some.ensures.goes_on.1, c.in_ok-one-in-Some.ensures.goes_on.0, c.in_ok-one-in-Some.ensures.goes_on.1); within = omega (arith, c.loop-links.invariant.after, c.loop-links.invariant.within, c.in_ok-after-in-Some.ensures.goes_on.0, c.in_ok-after-in-Some.ensures.goes_on.1, c.in_ok-one-in-Some.ensures.goes_on.0, c.in_ok-one-in-Some.ensures.goes_on.1) }
+more_operands-loop-links-preserved t c = record { repeats = record { from = λ rest parts o k. c.loop-links.invariant.repeats.from _ _ _ ((subst (EntersLink c.args.tokens.now c.args.level c.loop-links.next) c.in-Some.is c.in_ok-operator.ensures.enters).from _ _ _ _ ((subst (λ x. Turns c.args.tokens.now (takes x ∷ []) c.loop-links.next c.args.depth [] [] c.in_ok-after-in-Some.after) c.kind_by-kind.ensures.kind (c.in_ok-after-in-Some.ensures.expects c.args.depth)).from _ _ _ (c.in_ok-one-in-Some.ensures.parses.from _ _ _ (built _ _ _ _ _ _ _ _ _ (ap (λ z. q.links (map view_link c.loop-links.links.items ++ z ∷ []) ∷ parts) (ap (λ z. link z c.in-Some.op (view_expr c.in_ok-one-in-Some.one.tree)) (sym c.span_of-span.ensures)) ∙ pushed q.links view_link _ _ _ _ c.in_ok-push_few-in-Some.ensures.items) k)))) }; after = omega (arith, c.loop-links.invariant.after, c.loop-links.invariant.within, c.in_ok-after-in-Some.ensures.goes_on.0, c.in_ok-after-in-Some.ensures.goes_on.1, c.in_ok-one-in-Some.ensures.goes_on.0, c.in_ok-one-in-Some.ensures.goes_on.1); within = omega (arith, c.loop-links.invariant.after, c.loop-links.invariant.within, c.in_ok-after-in-Some.ensures.goes_on.0, c.in_ok-after-in-Some.ensures.goes_on.1, c.in_ok-one-in-Some.ensures.goes_on.0, c.in_ok-one-in-Some.ensures.goes_on.1) }
 
 pub unary-returns-in-Parenthesised-clause-parses : goal.unary-returns-in-Parenthesised-clause-parses
 unary-returns-in-Parenthesised-clause-parses t c = by_rule [] of_expr c.args.tokens.now s.Unary c.args.at c.args.depth 93 _ (subst (λ r. Enters c.args.tokens.now s.Unary c.args.at (unary_number r)) c.in-Parenthesised.is c.in_ok-rule.ensures.enters) c.parenthesised.ensures.parses
@@ -184,7 +218,7 @@ pub more_postfixes-returns-in-None-clause-parses : goal.more_postfixes-returns-i
 more_postfixes-returns-in-None-clause-parses t c = record { from = λ rest parts o k. c.loop-postfixes.invariant.repeats.from _ _ _ ((subst (λ z. Adds c.args.tokens.now (gives s.Postfixes ∷ []) c.loop-postfixes.next c.args.depth (Ok z)) c.in-None.is c.in_ok-found.ensures.parses).from _ _ _ k) }
 
 pub more_postfixes-loop-postfixes-preserved : goal.more_postfixes-loop-postfixes-preserved
-more_postfixes-loop-postfixes-preserved t c = record { repeats = record { from = λ rest parts o k. c.loop-postfixes.invariant.repeats.from _ _ _ ((subst (λ z. Adds c.args.tokens.now (gives s.Postfixes ∷ []) c.loop-postfixes.next c.args.depth (Ok z)) c.in-Some.is c.in_ok-found.ensures.parses).from _ _ _ _ (subst (λ z. Comes c.args.tokens.now (gives s.Postfixes ∷ rest) c.in-Some.one.next c.args.depth z o) (sym (pushed q.postfixes view_postfix _ _ _ parts c.in_ok-push-in-Some.ensures.items)) k)) }; after = omega (arith, c.loop-postfixes.invariant.after, c.loop-postfixes.invariant.within, subst (λ z. IfSome z (λ p. (c.loop-postfixes.next < p.next) × (p.next ≤ length c.args.tokens.now))) c.in-Some.is c.in_ok-found.ensures.goes_on); within = omega (arith, c.loop-postfixes.invariant.after, c.loop-postfixes.invariant.within, subst (λ z. IfSome z (λ p. (c.loop-postfixes.next < p.next) × (p.next ≤ length c.args.tokens.now))) c.in-Some.is c.in_ok-found.ensures.goes_on) }
+more_postfixes-loop-postfixes-preserved t c = record { repeats = record { from = λ rest parts o k. c.loop-postfixes.invariant.repeats.from _ _ _ ((subst (λ z. Adds c.args.tokens.now (gives s.Postfixes ∷ []) c.loop-postfixes.next c.args.depth (Ok z)) c.in-Some.is c.in_ok-found.ensures.parses).from _ _ _ _ (subst (λ z. Comes c.args.tokens.now (gives s.Postfixes ∷ rest) c.in-Some.one.next c.args.depth z o) (sym (pushed q.postfixes view_postfix _ _ _ parts c.in_ok-push_few-in-Some.ensures.items)) k)) }; after = omega (arith, c.loop-postfixes.invariant.after, c.loop-postfixes.invariant.within, subst (λ z. IfSome z (λ p. (c.loop-postfixes.next < p.next) × (p.next ≤ length c.args.tokens.now))) c.in-Some.is c.in_ok-found.ensures.goes_on); within = omega (arith, c.loop-postfixes.invariant.after, c.loop-postfixes.invariant.within, subst (λ z. IfSome z (λ p. (c.loop-postfixes.next < p.next) × (p.next ≤ length c.args.tokens.now))) c.in-Some.is c.in_ok-found.ensures.goes_on) }
 
 pub postfix-returns-in-Index-clause-parses : goal.postfix-returns-in-Index-clause-parses
 postfix-returns-in-Index-clause-parses t c = adds_by_rule c.args.tokens.now c.args.at c.args.depth 100 _ (subst (λ r. Enters c.args.tokens.now s.Postfixes c.args.at (postfix_number r)) c.in-Index.is c.in_ok-rule.ensures.enters) c.index.ensures.parses
@@ -265,4 +299,4 @@ pub more_arguments-returns-in_err-one-clause-parses : goal.more_arguments-return
 more_arguments-returns-in_err-one-clause-parses t c = let is : c.from_residual-in_err-one.result ≡ Err c.in_err-one.field-0.0 = search rules in rw is (record { from = λ o e rest parts. c.loop-values.invariant.repeats.from _ _ _ ((c.in_ok-more.ensures.goes.first c.if-not-more.false).from _ _ _ _ ((c.in_ok-after.ensures.expects c.args.depth).from _ _ _ (c.in_err-one.ensures.parses.from o e _ _))) })
 
 pub more_arguments-loop-values-preserved : goal.more_arguments-loop-values-preserved
-more_arguments-loop-values-preserved t c = record { repeats = record { from = λ rest parts o k. c.loop-values.invariant.repeats.from _ _ _ ((c.in_ok-more.ensures.goes.first c.if-not-more.false).from _ _ _ _ ((c.in_ok-after.ensures.expects c.args.depth).from _ _ _ (c.in_ok-one.ensures.parses.from _ _ _ (built _ _ _ _ _ _ _ _ _ (pushed q.exprs view_expr _ _ _ _ c.in_ok-push.ensures.items) (k))))) }; after = omega (arith, c.loop-values.invariant.after, c.loop-values.invariant.within, c.in_ok-after.ensures.goes_on.0, c.in_ok-after.ensures.goes_on.1, c.in_ok-one.ensures.goes_on.0, c.in_ok-one.ensures.goes_on.1); within = omega (arith, c.loop-values.invariant.after, c.loop-values.invariant.within, c.in_ok-after.ensures.goes_on.0, c.in_ok-after.ensures.goes_on.1, c.in_ok-one.ensures.goes_on.0, c.in_ok-one.ensures.goes_on.1) }
+more_arguments-loop-values-preserved t c = record { repeats = record { from = λ rest parts o k. c.loop-values.invariant.repeats.from _ _ _ ((c.in_ok-more.ensures.goes.first c.if-not-more.false).from _ _ _ _ ((c.in_ok-after.ensures.expects c.args.depth).from _ _ _ (c.in_ok-one.ensures.parses.from _ _ _ (built _ _ _ _ _ _ _ _ _ (pushed q.exprs view_expr _ _ _ _ c.in_ok-push_few.ensures.items) (k))))) }; after = omega (arith, c.loop-values.invariant.after, c.loop-values.invariant.within, c.in_ok-after.ensures.goes_on.0, c.in_ok-after.ensures.goes_on.1, c.in_ok-one.ensures.goes_on.0, c.in_ok-one.ensures.goes_on.1); within = omega (arith, c.loop-values.invariant.after, c.loop-values.invariant.within, c.in_ok-after.ensures.goes_on.0, c.in_ok-after.ensures.goes_on.1, c.in_ok-one.ensures.goes_on.0, c.in_ok-one.ensures.goes_on.1) }

@@ -1,9 +1,12 @@
-use Rattle.std.proofs.Common.{◌+◌, ◌-◌, ◌*◌, ◌≤◌, length}
+use Rattle.std.proofs.Common.{◌≡◌, ◌+◌, ◌-◌, ◌*◌, ◌<◌, ◌≤◌, length}
 use Rattle.c_grammar.specs.declared.symbol.Symbol.TheVariants as s
 use Rattle.c_grammar.specs.Machine.{gives}
 use Rattle.c_parser.specs.Parses.{Repeats}
 use Rattle.c_parser.specs.Parts.{of_exprs, of_links, of_postfixes}
 use Rattle.c_parser.specs.Levels.{tail_of, number_of}
+use Rattle.c_parser.specs.Climbing.{EndsBelow}
+use Rattle.c_parser.proofs.Climbing.{Climbs}
+use Rattle.pt_tree.specs.ExpressionTree.{view_expr}
 use Rattle.c_parser.proofs.expressions.+expressions.Given as goal
 
 abbrev pub decreases-expression : goal.decreases-expression
@@ -19,7 +22,19 @@ abbrev pub decreases-nested_conditional : goal.decreases-nested_conditional
 decreases-nested_conditional l = 64 * (200 - l.depth) + 0
 
 abbrev pub decreases-level_chain : goal.decreases-level_chain
-decreases-level_chain l = 64 * (200 - l.depth) + (4 * (10 - number_of l.level) + 13)
+decreases-level_chain l = 64 * (200 - l.depth) + (4 * (10 - number_of l.level) + 14)
+
+abbrev pub invariant-level_chain-loop-position : goal.invariant-level_chain-loop-position
+invariant-level_chain-loop-position l = record {
+  total : l.count ≡ 10 - number_of l.fn.level;
+  climbs : Climbs l.tokens l.fn.level l.at l.depth l.count l.position l.left.next (view_expr l.left.tree);
+  ends : EndsBelow l.tokens l.left.next l.ends;
+  after : l.at < l.left.next;
+  within : l.left.next ≤ length l.tokens;
+}
+
+abbrev pub decreases-at_level : goal.decreases-at_level
+decreases-at_level l = 64 * (200 - l.depth) + (4 * (10 - number_of l.level) + 13)
 
 abbrev pub decreases-operand : goal.decreases-operand
 decreases-operand l = 64 * (200 - l.depth) + (4 * (10 - number_of l.level) + 11)

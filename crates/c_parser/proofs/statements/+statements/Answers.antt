@@ -71,7 +71,7 @@ pub more_items-returns-in_err-one-clause-parses : goal.more_items-returns-in_err
 more_items-returns-in_err-one-clause-parses t c = let is : c.from_residual-in_err-one.result ≡ Err c.in_err-one.field-0.0 = search rules in rw is (record { from = λ o e rest parts. c.loop-items.invariant.repeats.from _ _ _ ((c.in_ok-more.ensures.goes.first c.if-not-more.false).from _ _ _ _ (c.in_err-one.ensures.parses.from o e _ _)) })
 
 pub more_items-loop-items-preserved : goal.more_items-loop-items-preserved
-more_items-loop-items-preserved t c = record { repeats = record { from = λ rest parts o k. c.loop-items.invariant.repeats.from _ _ _ ((c.in_ok-more.ensures.goes.first c.if-not-more.false).from _ _ _ _ (c.in_ok-one.ensures.parses.from _ _ _ (built _ _ _ _ _ _ _ _ _ (pushed q.stmts view_stmt _ _ _ _ c.in_ok-push.ensures.items) (k)))) }; after = omega (arith, c.loop-items.invariant.after, c.loop-items.invariant.within, c.in_ok-one.ensures.goes_on.0, c.in_ok-one.ensures.goes_on.1); within = omega (arith, c.loop-items.invariant.after, c.loop-items.invariant.within, c.in_ok-one.ensures.goes_on.0, c.in_ok-one.ensures.goes_on.1) }
+more_items-loop-items-preserved t c = record { repeats = record { from = λ rest parts o k. c.loop-items.invariant.repeats.from _ _ _ ((c.in_ok-more.ensures.goes.first c.if-not-more.false).from _ _ _ _ (c.in_ok-one.ensures.parses.from _ _ _ (built _ _ _ _ _ _ _ _ _ (pushed q.stmts view_stmt _ _ _ _ c.in_ok-push_few.ensures.items) (k)))) }; after = omega (arith, c.loop-items.invariant.after, c.loop-items.invariant.within, c.in_ok-one.ensures.goes_on.0, c.in_ok-one.ensures.goes_on.1); within = omega (arith, c.loop-items.invariant.after, c.loop-items.invariant.within, c.in_ok-one.ensures.goes_on.0, c.in_ok-one.ensures.goes_on.1) }
 
 pub item-returns-in_err-declares-clause-parses : goal.item-returns-in_err-declares-clause-parses
 item-returns-in_err-declares-clause-parses t c = let is : c.from_residual.result ≡ Err c.in_err-declares.field-0.0 = search rules in rw is (record { from = λ o e rest parts. (c.in_err-declares.ensures.fails c.args.depth).from o e _ _ })
@@ -179,7 +179,7 @@ pub more_sections-returns-in_err-one-clause-parses : goal.more_sections-returns-
 more_sections-returns-in_err-one-clause-parses t c = let is : c.from_residual-in_err-one.result ≡ Err c.in_err-one.field-0.0 = search rules in rw is (record { from = λ o e rest parts. c.loop-sections.invariant.repeats.from _ _ _ ((c.in_ok-more.ensures.goes.first c.if-not-more.false).from _ _ _ _ (c.in_err-one.ensures.parses.from o e _ _)) })
 
 pub more_sections-loop-sections-preserved : goal.more_sections-loop-sections-preserved
-more_sections-loop-sections-preserved t c = record { repeats = record { from = λ rest parts o k. c.loop-sections.invariant.repeats.from _ _ _ ((c.in_ok-more.ensures.goes.first c.if-not-more.false).from _ _ _ _ (c.in_ok-one.ensures.parses.from _ _ _ (built _ _ _ _ _ _ _ _ _ (pushed q.sections view_section _ _ _ _ c.in_ok-push.ensures.items) (k)))) }; after = omega (arith, c.loop-sections.invariant.after, c.loop-sections.invariant.within, c.in_ok-one.ensures.goes_on.0, c.in_ok-one.ensures.goes_on.1); within = omega (arith, c.loop-sections.invariant.after, c.loop-sections.invariant.within, c.in_ok-one.ensures.goes_on.0, c.in_ok-one.ensures.goes_on.1) }
+more_sections-loop-sections-preserved t c = record { repeats = record { from = λ rest parts o k. c.loop-sections.invariant.repeats.from _ _ _ ((c.in_ok-more.ensures.goes.first c.if-not-more.false).from _ _ _ _ (c.in_ok-one.ensures.parses.from _ _ _ (built _ _ _ _ _ _ _ _ _ (pushed q.sections view_section _ _ _ _ c.in_ok-push_few.ensures.items) (k)))) }; after = omega (arith, c.loop-sections.invariant.after, c.loop-sections.invariant.within, c.in_ok-one.ensures.goes_on.0, c.in_ok-one.ensures.goes_on.1); within = omega (arith, c.loop-sections.invariant.after, c.loop-sections.invariant.within, c.in_ok-one.ensures.goes_on.0, c.in_ok-one.ensures.goes_on.1) }
 
 pub section-returns-in_err-label-clause-parses : goal.section-returns-in_err-label-clause-parses
 section-returns-in_err-label-clause-parses t c = let is : c.from_residual-in_err-label.result ≡ Err c.in_err-label.field-0.0 = search rules in rw is (record { from = λ o e rest parts. c.in_ok-begin.ensures.from _ _ _ _ (c.in_err-label.ensures.parses.from o e _ _) })
@@ -203,4 +203,4 @@ pub section_items-returns-in_err-one-clause-parses : goal.section_items-returns-
 section_items-returns-in_err-one-clause-parses t c = let is : c.from_residual-in_err-one.result ≡ Err c.in_err-one.field-0.0 = search rules in rw is (record { from = λ o e rest parts. c.loop-items.invariant.repeats.from _ _ _ ((c.in_ok-more.ensures.goes.first c.if-not-more.false).from _ _ _ _ (c.in_err-one.ensures.parses.from o e _ _)) })
 
 pub section_items-loop-items-preserved : goal.section_items-loop-items-preserved
-section_items-loop-items-preserved t c = record { repeats = record { from = λ rest parts o k. c.loop-items.invariant.repeats.from _ _ _ ((c.in_ok-more.ensures.goes.first c.if-not-more.false).from _ _ _ _ (c.in_ok-one.ensures.parses.from _ _ _ (built _ _ _ _ _ _ _ _ _ (pushed q.stmts view_stmt _ _ _ _ c.in_ok-push.ensures.items) (k)))) }; after = omega (arith, c.loop-items.invariant.after, c.loop-items.invariant.within, c.in_ok-one.ensures.goes_on.0, c.in_ok-one.ensures.goes_on.1); within = omega (arith, c.loop-items.invariant.after, c.loop-items.invariant.within, c.in_ok-one.ensures.goes_on.0, c.in_ok-one.ensures.goes_on.1) }
+section_items-loop-items-preserved t c = record { repeats = record { from = λ rest parts o k. c.loop-items.invariant.repeats.from _ _ _ ((c.in_ok-more.ensures.goes.first c.if-not-more.false).from _ _ _ _ (c.in_ok-one.ensures.parses.from _ _ _ (built _ _ _ _ _ _ _ _ _ (pushed q.stmts view_stmt _ _ _ _ c.in_ok-push_few.ensures.items) (k)))) }; after = omega (arith, c.loop-items.invariant.after, c.loop-items.invariant.within, c.in_ok-one.ensures.goes_on.0, c.in_ok-one.ensures.goes_on.1); within = omega (arith, c.loop-items.invariant.after, c.loop-items.invariant.within, c.in_ok-one.ensures.goes_on.0, c.in_ok-one.ensures.goes_on.1) }
