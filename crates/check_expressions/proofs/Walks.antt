@@ -1,5 +1,5 @@
 -- How the walks over links and arguments go on, and what the parts of an expression give together.
-use Rattle.std.proofs.Common.{◌≡◌, ℕ, suc, ◌+◌, ◌<◌, List, [], ◌∷◌, ◌++◌, Bool, length, get_or, drop, drop-cons, add-one, slice_get, is_some, sym, ap, ◌∙◌, append_assoc, subst, refl, Result, Ok, Err, Option, Vec}
+use Rattle.std.proofs.Common.{append-nil, IfOk, ◌≡◌, ℕ, suc, ◌+◌, ◌<◌, List, [], ◌∷◌, ◌++◌, Bool, length, get_or, drop, drop-cons, add-one, slice_get, is_some, sym, ap, ◌∙◌, append_assoc, subst, refl, Result, Ok, Err, Option, Vec}
 use Rattle.std.specs.declared.alloc.AllocError.{AllocError}
 use Rattle.std.specs.declared.alloc.Global.{Global}
 use Rattle.pt_base.specs.declared.ids.FnId.{FnId}
@@ -21,9 +21,10 @@ use Rattle.check_expressions.specs.Choices.{Placed, chosen}
 use Rattle.check_expressions.specs.Expressions.{Judged, Arguments, Linked, alone, over, judge, judge_links, judge_link, judge_postfixes, judge_postfix, judge_arguments, headed, cast_specified}
 use Rattle.check_expressions.specs.Gives.{GivesJudged, GivesMade, HeadIs, at}
 use Rattle.check_expressions.specs.Links.{SoFar, begun, chained, sort_of}
-use Rattle.check_expressions.specs.Operands.{Known, Made, joined, span_of, value_of, value_tree}
+use Rattle.check_expressions.specs.Operands.{Known, Made, fine, joined, span_of, value_of, value_tree}
 use Rattle.check_expressions.specs.Prefixes.{cast_to}
 use Rattle.check_expressions.specs.Postfixes.{argument_tree, argument_faults, function_called}
+use Rattle.check_expressions.specs.Views.{known}
 
 -- the item at a place stands before the rest
 pub split_at : {A : Type 0} (l : List A) (i : ℕ) (d : A) → i < length l → d ≡ get_or l i d → drop i l ≡ d ∷ drop (i + 1) l
@@ -41,6 +42,11 @@ faults_of m = m.faults
 pub made_alone : (r : Result Operand AllocError) (before : Findings) (faults : Vec TypeFault Global) (m : Made) → GivesMade r before.faults.items faults.items m → GivesJudged r before (record { structs = before.structs; faults = faults }) (alone before.structs m)
 made_alone (Ok o) before faults m h = (h.0, record { structs_are = refl; faults_are = h.1 })
 made_alone (Err e) before faults m h = tt {0}
+
+-- what has no fault
+pub made_fine : (r : Result Operand AllocError) (before : Findings) (k : Known) → IfOk r (λ o. known o ≡ k) → GivesJudged r before before (alone before.structs (fine k))
+made_fine (Ok o) before k h = (h, record { structs_are = refl; faults_are = sym (append-nil before.faults.items) })
+made_fine (Err e) before k h = tt {0}
 
 -- what an operator makes of judged operands
 pub made_over : {V : Type 0} (r : Result Operand AllocError) (before middle : Findings) (faults : Vec TypeFault Global) (found judged : V) (structs : Structs) (own : List TypeFault) (F : Structs → V → Made) → found ≡ judged → Reaches before middle structs own → GivesMade r middle.faults.items faults.items (F middle.structs found) → GivesJudged r before (record { structs = middle.structs; faults = faults }) (over own structs (F structs judged))

@@ -22,9 +22,9 @@ use typed_tree::{Form, TypedExpr};
 
 /// The sides of an assignment.
 #[derive(Drop)]
-pub(crate) struct Sides {
-    pub left: Placed,
-    pub right: Placed,
+struct Sides {
+    left: Placed,
+    right: Placed,
 }
 
 /// An assignment, by an operator where it is a compound one.
@@ -34,11 +34,13 @@ pub(crate) fn assigned(
     structs: &Structs,
     op: Option<BinaryOp>,
     s: Span,
-    sides: Sides,
+    left: Placed,
+    right: Placed,
     faults: &mut Vec<TypeFault>,
 ) -> Result<Operand, AllocError>
-    ensures { GivesMade result faults.old.items faults.new.items (is.assigned structs.now op s sides.left.span (known sides.left.operand) sides.right.span (known sides.right.operand)) }
+    ensures { GivesMade result faults.old.items faults.new.items (is.assigned structs.now op s left.span (known left.operand) right.span (known right.operand)) }
 {
+    let sides = Sides { left, right };
     match op {
         None => stored(alloc, structs, s, sides, faults),
         Some(op) => compounded(alloc, structs, op, s, sides, faults),

@@ -17,10 +17,10 @@ use typed_tree::{Form, TypedExpr};
 
 /// The operands of a choice.
 #[derive(Drop)]
-pub(crate) struct Branches {
-    pub test: Placed,
-    pub first: Placed,
-    pub last: Placed,
+struct Branches {
+    test: Placed,
+    first: Placed,
+    last: Placed,
 }
 
 /// A choice with the span `s`.
@@ -28,11 +28,14 @@ pub(crate) struct Branches {
 pub(crate) fn chosen(
     alloc: Global,
     s: Span,
-    branches: Branches,
+    test: Placed,
+    first: Placed,
+    last: Placed,
     faults: &mut Vec<TypeFault>,
 ) -> Result<Operand, AllocError>
-    ensures { GivesMade result faults.old.items faults.new.items (is.chosen s (placed branches.test) (placed branches.first) (placed branches.last)) }
+    ensures { GivesMade result faults.old.items faults.new.items (is.chosen s (placed test) (placed first) (placed last)) }
 {
+    let branches = Branches { test, first, last };
     let rule = choice_rule(
         branches.first.operand.value(),
         branches.last.operand.value(),

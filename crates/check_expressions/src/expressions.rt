@@ -1,5 +1,5 @@
 // The types of expressions.
-ghost use Rattle.std.specs.Prelude.{◌≡◌, map};
+ghost use Rattle.std.specs.Prelude.{◌≡◌, IfOk, map};
 ghost use Rattle.pt_tree.specs.ExpressionTree as parsed;
 ghost use Rattle.pt_tree.specs.SpecifierTree.{view_specs};
 ghost use Rattle.typed_tree.specs.ExpressionTree.{view_root};
@@ -9,8 +9,8 @@ ghost use Rattle.check_expressions.specs.Gives.{GivesArguments, GivesCastBase, G
 ghost use Rattle.check_expressions.specs.Operands as o;
 ghost use Rattle.check_expressions.specs.Views.{known, so_far};
 
-use crate::assignments::{Sides, assigned};
-use crate::choices::{Branches, chosen};
+use crate::assignments::assigned;
+use crate::choices::chosen;
 use crate::links::{Joint, SoFar, begun, link_rule, note_rule, sort_of};
 use crate::meaning::{Meaning, Object};
 use crate::names::Names;
@@ -42,7 +42,26 @@ pub fn expression(
 {
     match e {
         Expr::Name(word) => named(alloc, names, word, &mut findings.faults),
-        Expr::Constant(constant) => Ok(literal(*constant)),
+        Expr::Constant(constant) => literal(constant),
+        _ => operation(alloc, names, findings, e),
+    }
+}
+
+/// The same of any expression. A function pays at its entry for all its locals, so names and constants,
+/// which most expressions are, have none of those that judged parts need.
+#[cycle(expressions)]
+#[inline(never)]
+fn operation(
+    alloc: Global,
+    names: &Names,
+    findings: &mut Findings,
+    e: &Expr,
+) -> Result<Operand, AllocError>
+    ensures { GivesJudged result findings.old findings.new (is.judge (env_of names.now) findings.old.structs (parsed.view_expr e.now)) }
+{
+    match e {
+        Expr::Name(word) => named(alloc, names, word, &mut findings.faults),
+        Expr::Constant(constant) => literal(constant),
         Expr::Prefix(s, op, a) => {
             let operand = placed(alloc, names, findings, a)?;
             let faults = &mut findings.faults;
@@ -59,7 +78,7 @@ pub fn expression(
         }
         Expr::Chain(s, a, links) => {
             let first = placed(alloc, names, findings, a)?;
-            let start = begun(alloc, first.span, first.operand)?;
+            let start = begun(alloc, first.span, first.operand, links.len())?;
             let sort = sort_of(links);
             let whole = Whole {
                 span: *s,
@@ -72,15 +91,13 @@ pub fn expression(
             let test = placed(alloc, names, findings, a)?;
             let first = placed(alloc, names, findings, b)?;
             let last = placed(alloc, names, findings, c)?;
-            let branches = Branches { test, first, last };
-            chosen(alloc, *s, branches, &mut findings.faults)
+            chosen(alloc, *s, test, first, last, &mut findings.faults)
         }
         Expr::Assign(s, op, a, b) => {
             let left = placed(alloc, names, findings, a)?;
             let right = placed(alloc, names, findings, b)?;
-            let sides = Sides { left, right };
             let faults = &mut findings.faults;
-            assigned(alloc, &findings.structs, *op, *s, sides, faults)
+            assigned(alloc, &findings.structs, *op, *s, left, right, faults)
         }
     }
 }
@@ -292,7 +309,7 @@ fn arguments(
 ) -> Result<Vec<TypedExpr>, AllocError>
     ensures { GivesArguments result findings.old findings.new (is.judge_arguments (env_of names.now) findings.old.structs params.now 0 (parsed.expr_trees (map parsed.view_expr args.now))) }
 {
-    let mut trees = Vec::new(alloc);
+    let mut trees = Vec::with_capacity(alloc, args.len())?;
     for (n, a) in args.iter().enumerate() {
         let operand = expression(alloc, names, findings, a)?;
         let param = param_at(params, n);
@@ -349,21 +366,21 @@ fn an_object(alloc: Global, object: Object, root: Root) -> Operand
 
 /// A constant as an expression.
 #[tactic(auto, unfolding(crate::specs::Expressions::literal, crate::specs::Views::elaboration))]
-fn literal(constant: Constant) -> Operand
-    ensures { known result ≡ is.literal constant }
+fn literal(constant: &Constant) -> Result<Operand, AllocError>
+    ensures { IfOk result (λ operand. known operand ≡ is.literal constant.now) }
 {
     let tree = TypedExpr {
         span: constant.span,
         ty: Some(VarTy::Int(constant.ty)),
         form: Form::Constant(constant.value),
     };
-    Operand {
+    Ok(Operand {
         ty: Type::Int(constant.ty),
         fixed: false,
         designates: false,
         null: constant.value == 0,
         tree: Elaborated::Value(tree),
-    }
+    })
 }
 
 /// The base type of a cast's specifiers, which take no attributes.

@@ -34,9 +34,14 @@ pub(crate) struct Joint {
     pub span: Span,
 }
 
-/// A chain before its first link.
+/// A chain of so many links before its first one.
 #[tactic(auto, unfolding(crate::specs::Links::begun))]
-pub(crate) fn begun(alloc: Global, at: Span, operand: Operand) -> Result<SoFar, AllocError>
+pub(crate) fn begun(
+    alloc: Global,
+    at: Span,
+    operand: Operand,
+    count: usize,
+) -> Result<SoFar, AllocError>
     ensures { IfOk result (λ far. so_far far ≡ is.begun at (known operand)) }
 {
     let value = operand.value();
@@ -44,7 +49,7 @@ pub(crate) fn begun(alloc: Global, at: Span, operand: Operand) -> Result<SoFar, 
         value,
         span: at,
         first: operand.into_tree(alloc, at)?,
-        links: Vec::new(alloc),
+        links: Vec::with_capacity(alloc, count)?,
     })
 }
 
@@ -189,7 +194,7 @@ fn links_tree(
 fn operands(alloc: Global, links: Vec<TypedLink>) -> Result<Vec<TypedOperand>, AllocError>
     ensures { IfOk result (λ os. map view_operand os.items ≡ map is.operand_of (map view_link links.items)) }
 {
-    let mut operands = Vec::new(alloc);
+    let mut operands = Vec::with_capacity(alloc, links.len())?;
     for link in links {
         operands.push(TypedOperand {
             span: link.span,

@@ -159,13 +159,11 @@ impl Elaborated {
             Elaborated::Value(value) => Ok(value),
             Elaborated::Place(place) => Ok(read_object(at, ty, fixed, place)),
             Elaborated::Pointed(pointer, span) => {
-                let place = pointed_place(alloc, pointer, span)?;
-                Ok(read_object(at, ty, fixed, place))
+                read_pointed(alloc, at, ty, fixed, pointer, span)
             }
             Elaborated::Moved(pointer) => {
                 let span = pointer.span;
-                let place = pointed_place(alloc, pointer, span)?;
-                Ok(read_object(at, ty, fixed, place))
+                read_pointed(alloc, at, ty, fixed, pointer, span)
             }
             Elaborated::Item(array, _, index, span) => {
                 let place = item_place(array, index, span)?;
@@ -212,12 +210,31 @@ pub(crate) fn pointed_place(
     })
 }
 
-/// An element of an array; the expression that designates it has the span.
+/// The value of what a pointer points to; the expression that designates it has the span.
+#[inline(never)]
+#[tactic(auto, unfolding(crate::specs::Operands::read_tree, crate::specs::Operands::root_of, crate::specs::Operands::steps_of))]
+fn read_pointed(
+    alloc: Global,
+    at: Span,
+    ty: Type,
+    fixed: bool,
+    pointer: TypedExpr,
+    span: Span,
+) -> Result<TypedExpr, AllocError>
+    ensures { IfOk result (λ x. view_expr x ≡ is.read_tree at ty fixed (is.pointed (view_expr pointer) span)) }
+{
+    let place = pointed_place(alloc, pointer, span)?;
+    Ok(read_object(at, ty, fixed, place))
+}
+
+/// An element of an array; the expression that designates it has the span. Most places have few steps.
+#[inline(never)]
 fn item_place(array: Place, index: TypedExpr, span: Span) -> Result<Place, AllocError>
     ensures root { IfOk result (λ p. p.root ≡ array.root) }
     ensures steps { IfOk result (λ p. map view_step p.steps.items ≡ map view_step array.steps.items ++ item (view_expr index) span ∷ []) }
 {
     let Place { root, mut steps } = array;
+    steps.reserve_exact(1)?;
     steps.push(PlaceStep::item(index, span))?;
     Ok(Place { root, steps })
 }

@@ -129,7 +129,7 @@ fn moved_tree(
 ) -> Result<TypedExpr, AllocError>
     ensures { IfOk result (λ x. view_expr x ≡ is.moved_tree s ty step (view_expr first) (view_expr operand)) }
 {
-    let mut links = Vec::new(alloc);
+    let mut links = Vec::with_capacity(alloc, 1)?;
     links.push(TypedLink {
         span: s,
         ty: link_type(ty),
@@ -196,6 +196,7 @@ fn part_by(
         return refused(faults, FaultKind::UnknownName, word.span);
     };
     let Place { root, mut steps } = place;
+    steps.reserve_exact(1)?;
     steps.push(PlaceStep::Field(field.number))?;
     Ok(Operand {
         ty: field.entry.ty,

@@ -281,7 +281,7 @@ fn moved(
 ) -> Result<TypedExpr, AllocError>
     ensures { IfOk result (λ x. view_expr x ≡ typed s (Some ty) (chain (view_expr pointer) (link_trees (link span ty (LinkStep.Move false) (view_expr index) ∷ [])))) }
 {
-    let mut links = Vec::new(alloc);
+    let mut links = Vec::with_capacity(alloc, 1)?;
     links.push(TypedLink {
         span,
         ty,

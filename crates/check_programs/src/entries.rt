@@ -57,7 +57,7 @@ fn var_of(alloc: Global, variable: &Variable) -> Result<Var, AllocError>
 pub(crate) fn vars_of(alloc: Global, variables: &[Variable]) -> Result<Vec<Var>, AllocError>
     ensures { IfOk result (λ vars. vars.items ≡ map is.var_of variables.now) }
 {
-    let mut vars = Vec::new(alloc);
+    let mut vars = Vec::with_capacity(alloc, variables.len())?;
     for variable in variables {
         vars.push(var_of(alloc, variable)?)?;
     }
@@ -68,7 +68,7 @@ pub(crate) fn vars_of(alloc: Global, variables: &[Variable]) -> Result<Vec<Var>,
 pub(crate) fn types_of(alloc: Global, variables: &[Variable]) -> Result<Vec<Type>, AllocError>
     ensures { IfOk result (λ types. types.items ≡ map (λ v. v.ty) variables.now) }
 {
-    let mut types = Vec::new(alloc);
+    let mut types = Vec::with_capacity(alloc, variables.len())?;
     for variable in variables {
         types.push(variable.ty)?;
     }
@@ -102,7 +102,7 @@ fn param_of(marks: Marks, ty: Type) -> Param
 fn params_of(alloc: Global, marks: &[Marks], types: &[Type]) -> Result<Vec<Param>, AllocError>
     ensures { IfOk result (λ ps. ps.items ≡ is.params_of marks.now 0 types.now) }
 {
-    let mut params = Vec::new(alloc);
+    let mut params = Vec::with_capacity(alloc, types.len())?;
     for ty in types {
         let own = marks_at(marks, params.len());
         params.push(param_of(own, *ty))?;

@@ -62,7 +62,7 @@ fn declared_all(
 ) -> Result<Vec<TypedDeclarator>, AllocError>
     ensures { GivesDeclaredAll result (progress_of names.old walk.old) (progress_of names.new walk.new) (is.declared_all given.now (state_of names.old walk.old) (map view_init_declarator ds.now)) }
 {
-    let mut declarators = Vec::new(alloc);
+    let mut declarators = Vec::with_capacity(alloc, ds.len())?;
     for d in ds {
         declarators.push(declared_one(alloc, names, walk, given, d)?)?;
     }

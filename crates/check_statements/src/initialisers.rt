@@ -100,7 +100,7 @@ fn items(
 ) -> Result<Vec<ExprId>, AllocError>
     ensures { GivesListing result (progress_of names.now walk.old) (progress_of names.now walk.new) (is.items (state_of names.now walk.old) leaves.now is_counted 0 (expr_trees (map view_expr es.now))) }
 {
-    let mut ids = Vec::new(alloc);
+    let mut ids = Vec::with_capacity(alloc, es.len())?;
     let mut counts = is_counted;
     let mut n = 0;
     for e in es {

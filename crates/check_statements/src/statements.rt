@@ -155,7 +155,7 @@ fn statements(
 ) -> Result<Vec<TypedBody>, AllocError>
     ensures { GivesCheckedAll result (progress_of names.old walk.old) (progress_of names.new walk.new) (is.checked_all context (state_of names.old walk.old) (stmt_trees (map view_stmt items.now))) }
 {
-    let mut bodies = Vec::new(alloc);
+    let mut bodies = Vec::with_capacity(alloc, items.len())?;
     for s in items {
         bodies.push(statement(alloc, s, names, walk, context)?)?;
     }
@@ -195,7 +195,7 @@ fn sections(
     ensures { GivesCheckedSections result (progress_of names.old walk.old) (progress_of names.new walk.new) (is.checked_sections context kind none_seen (state_of names.old walk.old) (section_trees (map view_section parts.now))) }
 {
     let mut seen = SeenLabels::none(alloc);
-    let mut typed = Vec::new(alloc);
+    let mut typed = Vec::with_capacity(alloc, parts.len())?;
     for part in parts {
         typed.push(section(alloc, part, names, walk, context, kind, &mut seen)?)?;
     }

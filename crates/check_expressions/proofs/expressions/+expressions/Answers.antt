@@ -13,7 +13,7 @@ use Rattle.check_expressions.specs.Postfixes.{argument_tree, argument_faults, in
 use Rattle.check_expressions.specs.Prefixes.{prefixed, stepped}
 use Rattle.check_expressions.specs.Views.{known, placed, so_far}
 use Rattle.check_expressions.proofs.Rows.{view_call, view_chain, view_postfixes}
-use Rattle.check_expressions.proofs.Walks.{split_at, LinksStep, links_step, ArgumentsStep, arguments_step, made_alone, made_over, judge_at, cast_gives, assign_gives, choice_gives, chain_gives, head_is, postfix_gives, postfix_at}
+use Rattle.check_expressions.proofs.Walks.{split_at, LinksStep, links_step, ArgumentsStep, arguments_step, made_alone, made_fine, made_over, judge_at, cast_gives, assign_gives, choice_gives, chain_gives, head_is, postfix_gives, postfix_at}
 use Rattle.check_expressions.proofs.expressions.+expressions.Goals as goal
 
 pub more_links-loop-link-preserved : goal.more_links-loop-link-preserved
@@ -64,12 +64,21 @@ expression-returns-in-Name t c =
 pub expression-returns-in-Constant : goal.expression-returns-in-Constant
 unfolding judge
 expression-returns-in-Constant t c =
-    judge_at (Ok c.literal.result) c.args.findings.now _ (env_of c.args.names.now) _ _ (ap parsed.view_expr c.in-Constant.is)
-    (made_alone (Ok c.literal.result) c.args.findings.now c.args.findings.now.faults (fine (literal c.in-Constant.constant)) (c.literal.ensures, sym (append-nil c.args.findings.now.faults.items)))
+    judge_at c.literal.result c.args.findings.now _ (env_of c.args.names.now) _ _ (ap parsed.view_expr c.in-Constant.is) (made_fine c.literal.result c.args.findings.now _ c.literal.ensures)
 
-pub expression-returns-in_ok-operand-in-Prefix : goal.expression-returns-in_ok-operand-in-Prefix
+pub operation-returns-in-Name : goal.operation-returns-in-Name
 unfolding judge
-expression-returns-in_ok-operand-in-Prefix t c =
+operation-returns-in-Name t c =
+    judge_at c.named.result c.args.findings.now _ (env_of c.args.names.now) _ _ (ap parsed.view_expr c.in-Name.is) (made_alone c.named.result c.args.findings.now c.named.new.faults _ c.named.ensures)
+
+pub operation-returns-in-Constant : goal.operation-returns-in-Constant
+unfolding judge
+operation-returns-in-Constant t c =
+    judge_at c.literal.result c.args.findings.now _ (env_of c.args.names.now) _ _ (ap parsed.view_expr c.in-Constant.is) (made_fine c.literal.result c.args.findings.now _ c.literal.ensures)
+
+pub operation-returns-in_ok-operand-in-Prefix : goal.operation-returns-in_ok-operand-in-Prefix
+unfolding judge
+operation-returns-in_ok-operand-in-Prefix t c =
     let env = env_of c.args.names.now in
     let a = parsed.view_expr c.deref.result.now in
     let s = c.in-Prefix.s in
@@ -79,8 +88,8 @@ expression-returns-in_ok-operand-in-Prefix t c =
     judge_at c.prefixed.result c.args.findings.now _ env _ _ shape
     (made_over c.prefixed.result c.args.findings.now c.placed.new.findings c.prefixed.new.faults (placed c.in_ok-operand-in-Prefix.operand) (at a (judge env c.args.findings.now.structs a)) _ _ (λ st (x : Placed). prefixed st op s x.span x.known) p.0 p.1 c.prefixed.ensures)
 
-pub expression-returns-in_ok-operand-in-Cast : goal.expression-returns-in_ok-operand-in-Cast
-expression-returns-in_ok-operand-in-Cast t c =
+pub operation-returns-in_ok-operand-in-Cast : goal.operation-returns-in_ok-operand-in-Cast
+operation-returns-in_ok-operand-in-Cast t c =
     let env = env_of c.args.names.now in
     let s = c.in-Cast.s in
     let pointer = c.in-Cast.pointer in
@@ -95,8 +104,8 @@ expression-returns-in_ok-operand-in-Cast t c =
     judge_at c.cast_to.result c.args.findings.now _ env _ _ shape
     (cast_gives c.cast_to.result env c.args.findings.now c.cast_base.new.findings c.placed-in-Cast.new.findings c.cast_to.new.faults s specs pointer a _ _ b.0 b.1 p.0 p.1 c.cast_to.ensures)
 
-pub expression-returns-in_ok-head-in-Postfix : goal.expression-returns-in_ok-head-in-Postfix
-expression-returns-in_ok-head-in-Postfix t c =
+pub operation-returns-in_ok-head-in-Postfix : goal.operation-returns-in_ok-head-in-Postfix
+operation-returns-in_ok-head-in-Postfix t c =
     let env = env_of c.args.names.now in
     let s = c.in-Postfix.s in
     let a = parsed.view_expr c.deref-in-Postfix.result.now in
@@ -113,8 +122,8 @@ expression-returns-in_ok-head-in-Postfix t c =
     judge_at c.more_postfixes.result c.args.findings.now _ env _ _ shape
     (postfix_gives c.more_postfixes.result env c.args.findings.now middle c.more_postfixes.new.findings s a ps callee head c.in_ok-head-in-Postfix.ensures rest)
 
-pub expression-returns-in_ok-far-in-Chain : goal.expression-returns-in_ok-far-in-Chain
-expression-returns-in_ok-far-in-Chain t c =
+pub operation-returns-in_ok-far-in-Chain : goal.operation-returns-in_ok-far-in-Chain
+operation-returns-in_ok-far-in-Chain t c =
     let env = env_of c.args.names.now in
     let s = c.in-Chain.s in
     let a = parsed.view_expr c.deref-in-Chain.result.now in
@@ -135,8 +144,8 @@ expression-returns-in_ok-far-in-Chain t c =
     judge_at c.chained.result c.args.findings.now _ env _ _ shape
     (chain_gives c.chained.result env c.args.findings.now middle linked c.chained.new.faults s a ls c.sort_of-sort.result (placed c.in_ok-first-in-Chain.first) start (so_far c.in_ok-far-in-Chain.far) p.0 p.1 c.in_ok-start-in-Chain.ensures c.sort_of-sort.ensures (q.0 ∙ ap (λ (y : Linked). y.far) same) (subst (λ (y : Linked). Reaches middle linked y.structs y.faults) same q.1) c.chained.ensures)
 
-pub expression-returns-in_ok-last-in-Choice : goal.expression-returns-in_ok-last-in-Choice
-expression-returns-in_ok-last-in-Choice t c =
+pub operation-returns-in_ok-last-in-Choice : goal.operation-returns-in_ok-last-in-Choice
+operation-returns-in_ok-last-in-Choice t c =
     let env = env_of c.args.names.now in
     let s = c.in-Choice.s in
     let i = parsed.view_expr c.deref-in-Choice.result.now in
@@ -153,8 +162,8 @@ expression-returns-in_ok-last-in-Choice t c =
     judge_at c.chosen.result c.args.findings.now _ env _ _ shape
     (choice_gives c.chosen.result env c.args.findings.now c.placed-in-Choice.new.findings c.placed-in-Choice-2.new.findings c.placed-in-Choice-3.new.findings c.chosen.new.faults s i j k _ _ _ p.0 p.1 q.0 q.1 r.0 r.1 c.chosen.ensures)
 
-pub expression-returns-in_ok-right-in-Assign : goal.expression-returns-in_ok-right-in-Assign
-expression-returns-in_ok-right-in-Assign t c =
+pub operation-returns-in_ok-right-in-Assign : goal.operation-returns-in_ok-right-in-Assign
+operation-returns-in_ok-right-in-Assign t c =
     let env = env_of c.args.names.now in
     let s = c.in-Assign.s in
     let op = c.in-Assign.op in
