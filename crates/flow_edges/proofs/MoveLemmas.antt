@@ -1,8 +1,10 @@
 -- The edges of a value that moves, leaf by leaf.
-use Rattle.std.proofs.Common.{◌≡◌, ◌∙◌, ◌≤◌, ◌<◌, ◌-◌, ◌+◌, ℕ, zero, suc, refl, ap, sym, arith, List, [], ◌∷◌, ◌++◌, length, append_assoc, append-nil}
+use Rattle.std.proofs.Common.{◌≡◌, ◌∙◌, ◌≤◌, ◌<◌, ◌-◌, ◌+◌, ◌*◌, ◌^◌, ℕ, zero, suc, refl, ap, sym, subst, arith, Bool, true, false, List, [], ◌∷◌, ◌++◌, length, length-append, append_assoc, append-nil, mul_assoc}
+use native.Mathlib.Nat.{mul_comm, suc-mul, zero-mul}
+use Rattle.std.specs.Prelude.{if◌then◌else◌}
 use Rattle.std.specs.List.{flat_map, range_with_len}
 use Rattle.pt_base.specs.declared.slot.Edge.{Edge}
-use Rattle.flow_edges.specs.Moves.{Move, edges_between, edges_from, leaf_edges, move_edges}
+use Rattle.flow_edges.specs.Moves.{Move, edge_between, edges_between, edges_from, leaf_edges, move_edges}
 
 -- one more leaf of several
 pub next_leaf : (m : Move) (xs new whole : List Edge) (n j : ℕ) → j < n → new ≡ xs ++ leaf_edges m j →
@@ -42,3 +44,47 @@ adds_nothing_from old m h = sym (append-nil old) ∙ ap (λ ys. old ++ ys) (sym 
 
 pub adds_nothing_to : (old : List Edge) (m : Move) → length m.to ≡ 0 → old ≡ old ++ move_edges m
 adds_nothing_to old m h = sym (append-nil old) ∙ ap (λ ys. old ++ ys) (sym (nothing_to m (no_items m.to h)))
+
+-- ---- how many edges a value that moves has
+
+-- there and back
+abbrev ways : Move → ℕ
+ways m = if m.back then 2 else 1
+
+between_count : (m : Move) (a b : ℕ) → length (edges_between m a b) ≡ ways m
+between_count m a b = go m.back
+  where
+    go : (back : Bool) → length (edge_between m.span a b ∷ (if back then edge_between m.span b a ∷ [] else [])) ≡ (if back then 2 else 1)
+    go true = refl
+    go false = refl
+
+-- each gives as many
+each_count : {X : Type 0} (f : X → List Edge) (k : ℕ) → ((x : X) → length (f x) ≡ k) → (xs : List X) → length (flat_map f xs) ≡ length xs * k
+each_count f k all [] = sym (zero-mul k)
+each_count f k all (x ∷ xs) =
+    let rest : length (flat_map f xs) ≡ length xs * k = each_count f k all xs in
+    let first : length (f x) ≡ k = all x in
+    let both : length (f x ++ flat_map f xs) ≡ length xs * k + k = omega (arith, length-append (f x) (flat_map f xs), rest, first) in
+    both ∙ sym (suc-mul (length xs) k)
+
+range_count : (n from : ℕ) → length (range_with_len from n) ≡ n
+range_count zero from = refl
+range_count (suc n) from = ap suc (range_count n (from + 1))
+
+pub count_is : (m : Move) → length (move_edges m) ≡ m.leaves * (length m.from * (length m.to * ways m))
+count_is m =
+    each_count (leaf_edges m) (length m.from * (length m.to * ways m))
+    (λ j. each_count (edges_from m j) (length m.to * ways m) (λ a. each_count (λ b. edges_between m (a + j) (b + j)) (ways m) (λ b. between_count m (a + j) (b + j)) m.to) m.from)
+    (range_with_len 0 m.leaves)
+    ∙ ap (λ n. n * (length m.from * (length m.to * ways m))) (range_count m.leaves 0)
+
+-- where there is room for so many more, there still are few
+pub stay_few : (m : Move) (old new : List Edge) (more : ℕ) → more ≡ length m.from * length m.to * m.leaves * (if m.back then 2 else 1) → more ≤ 2 ^ 26 - length old → length old ≤ 2 ^ 26 → new ≡ old ++ move_edges m → length new ≤ 2 ^ 26
+stay_few m old new more is room few added =
+    let same : more ≡ m.leaves * (length m.from * (length m.to * ways m)) =
+    is
+    ∙ ap (λ n. n * ways m) (mul_comm (length m.from * length m.to) m.leaves)
+    ∙ mul_assoc m.leaves (length m.from * length m.to) (ways m)
+    ∙ ap (λ n. m.leaves * n) (mul_assoc (length m.from) (length m.to) (ways m)) in
+    let long : length new ≡ length old + more = ap length added ∙ length-append old (move_edges m) ∙ ap (λ n. length old + n) (count_is m ∙ sym same) in
+    omega (arith, room, few, long)

@@ -66,7 +66,7 @@ fn add_moved(
         back: is_pointer(value.ty),
         span: value.span,
     };
-    moving.add_to(edges)
+    moving.add_to(alloc, edges)
 }
 
 // the value that a plain assignment moves

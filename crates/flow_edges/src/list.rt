@@ -1,10 +1,12 @@
 // The list of edges that is being made.
-ghost use Rattle.std.specs.Prelude.{◌≡◌, ◌≤◌, ◌-◌, ◌++◌, [], ◌∷◌, ◌^◌, false, OnOk, length, nat_le};
-ghost use Rattle.std.specs.Option.{option_map_or};
-ghost use Rattle.flow_edges.specs.Moves.{edge_between};
+ghost use Rattle.std.specs.Prelude.{◌≡◌, ◌≤◌, ◌++◌, [], ◌^◌, OnOk, length};
+ghost use Rattle.flow_edges.specs.MoveView.{view_move};
+ghost use Rattle.flow_edges.specs.Moves.{move_edges};
 
-use pt_base::{Edge, Listed, Slot, Span};
+use crate::moves::Move;
+use pt_base::{Edge, Listed};
 use std::alloc::{AllocError, Global};
+use std::mem::replace;
 
 /// The most edges of one function. What has more is answered as want of memory.
 pub const MOST_EDGES: usize = 67_108_864;
@@ -26,28 +28,21 @@ impl EdgeList {
         }
     }
 
-    /// Whether there may be so many more. None is more than 64 bits can say.
-    pub fn has_room(&self, more: Option<u64>) -> bool
-        ensures { result ≡ option_map_or (λ n. nat_le n (2 ^ 26 - length self.now.edges.items)) more false }
+    /// The edges of a value that moves, at the end, if there is room for them all: room is asked for once.
+    /// Where it is wanting, no edges are left.
+    pub fn add(&mut self, alloc: Global, moving: &Move) -> Result<(), AllocError>
+        ensures { OnOk result (self.new.edges.items ≡ self.old.edges.items ++ move_edges (view_move moving.now)) }
     {
-        match more {
-            Some(more) => more <= (MOST_EDGES - self.edges.len()) as u64,
-            None => false,
-        }
-    }
-
-    /// An edge at the end, if there may be one more.
-    pub fn add(&mut self, span: Span, from: u64, to: u64) -> Result<(), AllocError>
-        ensures { OnOk result (self.new.edges.items ≡ self.old.edges.items ++ edge_between span from to ∷ []) }
-    {
-        if self.edges.len() >= MOST_EDGES {
+        let Some(more) = moving.count() else {
+            return Err(AllocError);
+        };
+        if more > (MOST_EDGES - self.edges.len()) as u64 {
             return Err(AllocError);
         }
-        self.edges.push(Edge {
-            from: Slot(from),
-            to: Slot(to),
-            span,
-        })?;
+        let mut edges = replace(&mut self.edges, Vec::new(alloc));
+        edges.reserve(more as usize)?;
+        moving.add_leaves(&mut edges)?;
+        self.edges = edges;
         Ok(())
     }
 

@@ -1,12 +1,12 @@
 // The edges of a value that moves.
-ghost use Rattle.std.specs.Prelude.{◌≡◌, ◌*◌, ◌++◌, IfSome, OnOk, if◌then◌else◌, length};
+ghost use Rattle.std.specs.Prelude.{◌≡◌, ◌*◌, ◌++◌, [], ◌∷◌, IfSome, OnOk, if◌then◌else◌, length};
 ghost use Rattle.flow_edges.specs.MoveView.{view_move};
-ghost use Rattle.flow_edges.specs.Moves.{edges_between, edges_from, leaf_edges, move_edges};
+ghost use Rattle.flow_edges.specs.Moves.{edge_between, edges_between, edges_from, leaf_edges, move_edges};
 
 use crate::list::EdgeList;
 use crate::slot_numbers::behind;
-use pt_base::Span;
-use std::alloc::AllocError;
+use pt_base::{Edge, Slot, Span};
+use std::alloc::{AllocError, Global};
 
 /// A value that moves: from the slots that it carries to others, each by that of its first leaf.
 #[derive(Drop)]
@@ -19,21 +19,32 @@ pub(crate) struct Move {
     pub span: Span,
 }
 
+// from one slot to another
+fn edge_between(span: Span, from: u64, to: u64) -> Edge
+    ensures { result ≡ edge_between span from to }
+{
+    Edge {
+        from: Slot(from),
+        to: Slot(to),
+        span,
+    }
+}
+
 impl Move {
     // from one slot to another, and then back
-    fn add_between(&self, from: u64, to: u64, edges: &mut EdgeList) -> Result<(), AllocError>
-        ensures { OnOk result (edges.new.edges.items ≡ edges.old.edges.items ++ edges_between (view_move self.now) from to) }
+    fn add_between(&self, from: u64, to: u64, edges: &mut Vec<Edge>) -> Result<(), AllocError>
+        ensures { OnOk result (edges.new.items ≡ edges.old.items ++ edges_between (view_move self.now) from to) }
     {
-        edges.add(self.span, from, to)?;
+        edges.push(edge_between(self.span, from, to))?;
         if self.back {
-            edges.add(self.span, to, from)?;
+            edges.push(edge_between(self.span, to, from))?;
         }
         Ok(())
     }
 
     // from a leaf of what begins at this slot
-    fn add_from(&self, leaf: u64, from: u64, edges: &mut EdgeList) -> Result<(), AllocError>
-        ensures { OnOk result (edges.new.edges.items ≡ edges.old.edges.items ++ edges_from (view_move self.now) leaf from) }
+    fn add_from(&self, leaf: u64, from: u64, edges: &mut Vec<Edge>) -> Result<(), AllocError>
+        ensures { OnOk result (edges.new.items ≡ edges.old.items ++ edges_from (view_move self.now) leaf from) }
     {
         let source = behind(from, leaf)?;
         for to in &self.to {
@@ -44,8 +55,8 @@ impl Move {
     }
 
     // of one leaf
-    fn add_leaf(&self, leaf: u64, edges: &mut EdgeList) -> Result<(), AllocError>
-        ensures { OnOk result (edges.new.edges.items ≡ edges.old.edges.items ++ leaf_edges (view_move self.now) leaf) }
+    fn add_leaf(&self, leaf: u64, edges: &mut Vec<Edge>) -> Result<(), AllocError>
+        ensures { OnOk result (edges.new.items ≡ edges.old.items ++ leaf_edges (view_move self.now) leaf) }
     {
         for from in &self.from {
             self.add_from(leaf, *from, edges)?;
@@ -53,9 +64,9 @@ impl Move {
         Ok(())
     }
 
-    // leaf by leaf
-    fn add_leaves(&self, edges: &mut EdgeList) -> Result<(), AllocError>
-        ensures { OnOk result (edges.new.edges.items ≡ edges.old.edges.items ++ move_edges (view_move self.now)) }
+    /// Adds its edges, leaf by leaf.
+    pub fn add_leaves(&self, edges: &mut Vec<Edge>) -> Result<(), AllocError>
+        ensures { OnOk result (edges.new.items ≡ edges.old.items ++ move_edges (view_move self.now)) }
     {
         for leaf in 0..self.leaves {
             self.add_leaf(leaf, edges)?;
@@ -63,8 +74,8 @@ impl Move {
         Ok(())
     }
 
-    // how many edges it has, if 64 bits can say it
-    fn count(&self) -> Option<u64>
+    /// How many edges it has, if 64 bits can say it.
+    pub fn count(&self) -> Option<u64>
         ensures { IfSome result (λ n. n ≡ length self.now.from.items * length self.now.to.items * self.now.leaves * (if self.now.back then 2 else 1)) }
     {
         let pairs = (self.from.len() as u64).checked_mul(self.to.len() as u64)?;
@@ -78,15 +89,12 @@ impl Move {
 
     /// Adds its edges, if there is room for them all. A value that carries nothing has none, however
     /// many leaves it has.
-    pub fn add_to(&self, edges: &mut EdgeList) -> Result<(), AllocError>
+    pub fn add_to(&self, alloc: Global, edges: &mut EdgeList) -> Result<(), AllocError>
         ensures { OnOk result (edges.new.edges.items ≡ edges.old.edges.items ++ move_edges (view_move self.now)) }
     {
         if self.from.is_empty() || self.to.is_empty() {
             return Ok(());
         }
-        if !edges.has_room(self.count()) {
-            return Err(AllocError);
-        }
-        self.add_leaves(edges)
+        edges.add(alloc, self)
     }
 }

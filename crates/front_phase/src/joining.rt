@@ -4,7 +4,8 @@ ghost use Rattle.front_phase.specs.Parts.{joined};
 
 use std::alloc::{AllocError, Global};
 
-/// Moves the items of a list to the end of another; beyond so many items memory is wanting.
+/// Moves the items of a list to the end of another; beyond so many items memory is wanting. An empty list
+/// takes the other as it is, without a copy.
 pub(crate) fn append_within<X: Drop>(
     list: &mut Vec<X>,
     more: Vec<X>,
@@ -19,6 +20,10 @@ pub(crate) fn append_within<X: Drop>(
     };
     if all > most {
         return Err(AllocError);
+    }
+    if list.is_empty() {
+        *list = more;
+        return Ok(());
     }
     list.append(&mut more)
 }

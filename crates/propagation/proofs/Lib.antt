@@ -1,6 +1,7 @@
-pub mod ChainLemmas
+pub mod AheadLemmas
 pub mod LawLemmas
 pub mod MarkLemmas
 pub mod PathLemmas
+pub mod PlaceLemmas
 pub mod SlotLemmas
 pub mod VisitLemmas

@@ -1,12 +1,13 @@
 -- What a mark keeps.
 use Rattle.std.proofs.Common.{◌≡◌, ◌<◌, ◌≤◌, ◌+◌, ℕ, zero, suc, List, [], ◌∷◌, ◌++◌, length, get_or, refl, sym, ◌∙◌, ap, subst, arith, ◌⊎◌, inl, inr, get_or-set_same, get_or-set_other, below_more, length-append, Option, Some, None}
+use Rattle.std.specs.Prelude.{Bool, false, map, is_some}
 use Rattle.std.proofs.Math.ListN.{set, length-set, replicate}
 use Rattle.std.proofs.lemmas.List.{get_or_append_left, get_or_at, length-replicate}
 use Rattle.pt_base.specs.declared.slot.Slot.{Slot}
 use Rattle.pt_base.specs.declared.slot.Edge.{Edge}
 use Rattle.propagation.specs.declared.reached.Found.{Found}
 use Rattle.propagation.specs.declared.reached.Step.{Step}
-use Rattle.propagation.specs.Reached.{no_slot, slot_at, by_at, place_of, HasPlace, IsParent, AreEarlier, set_if_none, marked_places, push_if_none, marked_order, empty, Comes, AreSound, Keeps}
+use Rattle.propagation.specs.Reached.{no_slot, slot_of, slot_at, by_at, place_of, HasPlace, IsParent, AreEarlier, set_if_none, marked_places, push_if_none, marked_order, empty, Comes, AreSound, Keeps}
 use Rattle.propagation.proofs.SlotLemmas.{slot_cases}
 
 -- ---- slots without a place
@@ -22,10 +23,17 @@ pub empty-replicate : (n : ℕ) → empty (replicate n None) ≡ n
 empty-replicate zero = refl
 empty-replicate (suc n) = omega (arith, empty-replicate n)
 
+pub none_marked : (n : ℕ) (places : List (Option ℕ)) (marked : List Bool) → places ≡ replicate n None → marked ≡ replicate n false → marked ≡ map is_some places
+none_marked n places marked p m = m ∙ go n ∙ sym (ap (map is_some) p)
+  where
+    go : (n : ℕ) → replicate n false ≡ map is_some (replicate n (let d : Option ℕ = None in d))
+    go zero = refl
+    go (suc n) = ap (λ bs. false ∷ bs) (go n)
+
 -- ---- the order with one more at its end
 
 slot_push : (order : List Found) (f : Found) (p : ℕ) → p < length order → slot_at (order ++ f ∷ []) p ≡ slot_at order p
-slot_push order f p lt = ap (λ (x : Found). x.slot) (get_or_append_left order (f ∷ []) no_slot p lt)
+slot_push order f p lt = ap slot_of (get_or_append_left order (f ∷ []) no_slot p lt)
 
 by_push : (order : List Found) (f : Found) (p : ℕ) → p < length order → by_at (order ++ f ∷ []) p ≡ by_at order p
 by_push order f p lt = ap (λ (x : Found). x.by) (get_or_append_left order (f ∷ []) no_slot p lt)
@@ -56,7 +64,7 @@ marks seeds edges slots places order s by lt inside comes sound = go (place_of p
     go : (o : Option ℕ) → place_of places s ≡ o → AreEarlier (set_if_none o places s (length order)) (push_if_none o order s by) → Marked seeds edges slots places order s (set_if_none o places s (length order)) (push_if_none o order s by)
     go (Some q) e early = record { sound = sound; keeps = keeps_refl places order; has = (q, e) }
     go None e early =
-        let f : Found = record { slot = s; by = by } in
+        let f : Found = record { slot = s.0; by = by } in
         let there : place_of (set places s.0 (Some (length order))) s ≡ Some (length order) = get_or-set_same places s.0 (Some (length order)) None lt in
         let other : (t : Slot) → (t.0 ≡ s.0 → ⊥) → place_of (set places s.0 (Some (length order))) t ≡ place_of places t = λ t ne. get_or-set_other places s.0 t.0 (Some (length order)) None ne in
         record {
@@ -77,31 +85,31 @@ marks seeds edges slots places order s by lt inside comes sound = go (place_of p
           has = (length order, there);
         }
       where
-        placed : (t : Slot) (p : ℕ) → place_of (set places s.0 (Some (length order))) t ≡ Some p → place_of (set places s.0 (Some (length order))) s ≡ Some (length order) → ((u : Slot) → (u.0 ≡ s.0 → ⊥) → place_of (set places s.0 (Some (length order))) u ≡ place_of places u) → (t ≡ s) ⊎ (t.0 ≡ s.0 → ⊥) → slot_at (order ++ record { slot = s; by = by } ∷ []) p ≡ t
+        placed : (t : Slot) (p : ℕ) → place_of (set places s.0 (Some (length order))) t ≡ Some p → place_of (set places s.0 (Some (length order))) s ≡ Some (length order) → ((u : Slot) → (u.0 ≡ s.0 → ⊥) → place_of (set places s.0 (Some (length order))) u ≡ place_of places u) → (t ≡ s) ⊎ (t.0 ≡ s.0 → ⊥) → slot_at (order ++ record { slot = s.0; by = by } ∷ []) p ≡ t
         placed t p h there other (inl same) =
-            let f : Found = record { slot = s; by = by } in
+            let f : Found = record { slot = s.0; by = by } in
             let h' : place_of (set places s.0 (Some (length order))) s ≡ Some p = subst (λ u. place_of (set places s.0 (Some (length order))) u ≡ Some p) same h in
             let n : p ≡ length order = cc in
-            subst (λ q. slot_at (order ++ f ∷ []) q ≡ t) (sym n) (ap (λ (x : Found). x.slot) (last_push order f) ∙ sym same)
+            subst (λ q. slot_at (order ++ f ∷ []) q ≡ t) (sym n) (ap slot_of (last_push order f) ∙ sym same)
         placed t p h there other (inr ne) =
             let h' : place_of places t ≡ Some p = sym (other t ne) ∙ h in
-            slot_push order (record { slot = s; by = by }) p (sound.earlier.within t p h') ∙ sound.placed t p h'
+            slot_push order (record { slot = s.0; by = by }) p (sound.earlier.within t p h') ∙ sound.placed t p h'
 
         kept : (t : Slot) → HasPlace places t → place_of (set places s.0 (Some (length order))) s ≡ Some (length order) → ((u : Slot) → (u.0 ≡ s.0 → ⊥) → place_of (set places s.0 (Some (length order))) u ≡ place_of places u) → (t ≡ s) ⊎ (t.0 ≡ s.0 → ⊥) → HasPlace (set places s.0 (Some (length order))) t
         kept t h there other (inl same) = (length order, subst (λ u. place_of (set places s.0 (Some (length order))) u ≡ Some (length order)) (sym same) there)
         kept t h there other (inr ne) = (h.0, other t ne ∙ h.1)
 
-        listed : (p : ℕ) → p < length order + 1 → place_of (set places s.0 (Some (length order))) s ≡ Some (length order) → ((t : Slot) → (t.0 ≡ s.0 → ⊥) → place_of (set places s.0 (Some (length order))) t ≡ place_of places t) → place_of (set places s.0 (Some (length order))) (slot_at (order ++ record { slot = s; by = by } ∷ []) p) ≡ Some p
+        listed : (p : ℕ) → p < length order + 1 → place_of (set places s.0 (Some (length order))) s ≡ Some (length order) → ((t : Slot) → (t.0 ≡ s.0 → ⊥) → place_of (set places s.0 (Some (length order))) t ≡ place_of places t) → place_of (set places s.0 (Some (length order))) (slot_at (order ++ record { slot = s.0; by = by } ∷ []) p) ≡ Some p
         listed p below there other =
-            let f : Found = record { slot = s; by = by } in
+            let f : Found = record { slot = s.0; by = by } in
             below_more (λ p. place_of (set places s.0 (Some (length order))) (slot_at (order ++ f ∷ []) p) ≡ Some p) (length order)
             (λ p lt. subst (λ u. place_of (set places s.0 (Some (length order))) u ≡ Some p) (sym (slot_push order f p lt)) (other (slot_at order p) (λ same. let a : place_of places (slot_at order p) ≡ Some p = sound.listed p lt in let b : place_of places (slot_at order p) ≡ None = subst (λ n. get_or places n None ≡ None) (sym same) e in cc) ∙ sound.listed p lt))
-            (subst (λ u. place_of (set places s.0 (Some (length order))) u ≡ Some (length order)) (sym (ap (λ (x : Found). x.slot) (last_push order f))) there) p below
+            (subst (λ u. place_of (set places s.0 (Some (length order))) u ≡ Some (length order)) (sym (ap slot_of (last_push order f))) there) p below
 
-        came : (p : ℕ) → p < length order + 1 → Comes seeds edges (order ++ record { slot = s; by = by } ∷ []) (slot_at (order ++ record { slot = s; by = by } ∷ []) p) (by_at (order ++ record { slot = s; by = by } ∷ []) p)
+        came : (p : ℕ) → p < length order + 1 → Comes seeds edges (order ++ record { slot = s.0; by = by } ∷ []) (slot_at (order ++ record { slot = s.0; by = by } ∷ []) p) (by_at (order ++ record { slot = s.0; by = by } ∷ []) p)
         came p below =
-            let f : Found = record { slot = s; by = by } in
-            let P : Found → Type 0 = λ x. Comes seeds edges (order ++ f ∷ []) x.slot x.by in
+            let f : Found = record { slot = s.0; by = by } in
+            let P : Found → Type 0 = λ x. Comes seeds edges (order ++ f ∷ []) (slot_of x) x.by in
             below_more (λ p. P (get_or (order ++ f ∷ []) p no_slot)) (length order)
             (λ p lt. subst P (sym (get_or_append_left order (f ∷ []) no_slot p lt)) (comes_push seeds edges order f (slot_at order p) (by_at order p) (λ step is. let k : step.parent < p = sound.earlier.parents p lt step is in omega arith) (sound.comes p lt)))
             (subst P (sym (last_push order f)) (comes_push seeds edges order f s by inside comes)) p below

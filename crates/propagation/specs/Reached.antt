@@ -7,10 +7,13 @@ use Rattle.propagation.specs.declared.reached.Step.{Step}
 use Rattle.propagation.specs.Paths.{from_of, to_of}
 
 abbrev pub no_slot : Found
-no_slot = record { slot = record { 0 = 0 }; by = None }
+no_slot = record { slot = 0; by = None }
+
+abbrev pub slot_of : Found → Slot
+slot_of f = record { 0 = f.slot }
 
 abbrev pub slot_at : List Found → ℕ → Slot
-slot_at order p = (slice_index_or order p no_slot).slot
+slot_at order p = slot_of (slice_index_or order p no_slot)
 
 abbrev pub by_at : List Found → ℕ → Option Step
 by_at order p = (slice_index_or order p no_slot).by
@@ -39,7 +42,7 @@ abbrev pub marked_places : List (Option ℕ) → Slot → ℕ → List (Option �
 marked_places places s p = set_if_none (place_of places s) places s p
 
 abbrev pub push_if_none : Option ℕ → List Found → Slot → Option Step → List Found
-push_if_none None order s by = order ++ record { slot = s; by = by } ∷ []
+push_if_none None order s by = order ++ record { slot = s.0; by = by } ∷ []
 push_if_none (Some q) order s by = order
 
 abbrev pub marked_order : List (Option ℕ) → List Found → Slot → Option Step → List Found

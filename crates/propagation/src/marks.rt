@@ -6,7 +6,7 @@ ghost use Rattle.pt_base.specs.declared.slot.Edge.{Edge};
 ghost use Rattle.propagation.specs.Paths.{IsPriv, IsSimplePath};
 ghost use Rattle.propagation.specs.Marks.{AreMarks, path_shown};
 
-use crate::adjacent::chains_of;
+use crate::adjacent::adjacent_of;
 use crate::reached::Reached;
 use pt_base::{Edge, Slot};
 use std::alloc::{AllocError, Global};
@@ -57,7 +57,8 @@ impl Marks {
 }
 
 /// Marks every slot to which a path of edges leads from a seed. The slots are numbered from 0 and
-/// below `slots`. Time and memory are linear in the slots, the seeds and the edges.
+/// below `slots`. Time and memory are linear in the slots, the seeds and the edges: 29 bytes for each
+/// slot and eight for each edge. More than 2^32 - 1 slots or edges are want of memory.
 pub fn propagate(
     alloc: Global,
     seeds: &[Slot],
@@ -69,12 +70,15 @@ pub fn propagate(
     requires tos { All (λ e. e.to.0 < slots) edges.now }
     ensures { IfOk result (λ m. AreMarks seeds.now edges.now slots m) }
 {
-    let chains = chains_of(alloc, edges, slots as usize)?;
+    if slots > u64::from(u32::MAX) {
+        return Err(AllocError);
+    }
+    let adjacent = adjacent_of(alloc, edges, slots as usize)?;
     let mut reached = Reached::new(alloc, slots as usize)?;
     reached.seed(seeds)?;
-    let mut next = 0;
-    while next < reached.order.len() {
-        reached.visit(&chains, next)?;
+    let mut next: u32 = 0;
+    while (next as usize) < reached.order.len() {
+        reached.visit(&adjacent, next)?;
         next += 1;
     }
     Ok(Marks { reached })

@@ -2,15 +2,25 @@
 ghost use Rattle.std.specs.Prelude.{◌≡◌, ◌<◌, List, IfOk, OnOk, length, All};
 ghost use Rattle.pt_base.specs.declared.slot.Slot.{Slot};
 ghost use Rattle.pt_base.specs.declared.slot.Edge.{Edge};
-ghost use Rattle.propagation.specs.Adjacent.{AreChains};
+ghost use Rattle.propagation.specs.Adjacent.{AreAdjacent};
 ghost use Rattle.propagation.specs.Reached.{IsParent, marked_order, marked_places, place_of, slot_at};
 ghost use Rattle.propagation.specs.Shown.{path_of};
 ghost use Rattle.propagation.specs.Walk.{GoesOn, HasReached, IsSound, KeepsReached, slots_of};
 
-use crate::adjacent::Chains;
+use crate::adjacent::Adjacent;
 use crate::reached::{Found, Reached, Step};
 use pt_base::{Edge, Slot};
 use std::alloc::{AllocError, Global};
+
+// this number in four bytes, which places and reached slots have
+fn number_of(index: usize) -> Result<u32, AllocError>
+    ensures { IfOk result (λ n. n ≡ index) }
+{
+    match u32::try_from(index) {
+        Ok(number) => Ok(number),
+        Err(_) => Err(AllocError),
+    }
+}
 
 impl Reached {
     /// Nothing is reached yet.
@@ -19,8 +29,13 @@ impl Reached {
             IsSound seeds edges slots r) }
     {
         let places = vec![in alloc; None; slots]?;
-        let order = Vec::new(alloc);
-        Ok(Reached { places, order })
+        let marked = vec![in alloc; false; slots]?;
+        let order = Vec::with_capacity(alloc, slots)?;
+        Ok(Reached {
+            marked,
+            places,
+            order,
+        })
     }
 
     /// Adds a slot to the reached ones, if it isn't one of them.
@@ -33,10 +48,12 @@ impl Reached {
             marked_order self.old.places.items self.old.order.items slot by) }
     {
         let index = slot.0 as usize;
-        if self.places[index].is_none() {
-            let place = self.order.len();
+        if !self.marked[index] {
+            let place = number_of(self.order.len())?;
+            let slot = number_of(index)?;
             self.order.push(Found { slot, by })?;
             self.places[index] = Some(place);
+            self.marked[index] = true;
         }
         Ok(())
     }
@@ -57,34 +74,41 @@ impl Reached {
         Ok(())
     }
 
+    // the slot that was reached at this place in the order
+    fn slot(&self, place: u32) -> Slot
+        requires { place < length self.now.order.items }
+        ensures { result ≡ slot_at self.now.order.items place }
+    {
+        Slot(self.order[place as usize].slot as u64)
+    }
+
     /// Marks the slots to which the edges from a reached slot lead.
-    pub fn visit(&mut self, chains: &Chains, parent: usize) -> Result<(), AllocError>
+    pub fn visit(&mut self, adjacent: &Adjacent, parent: u32) -> Result<(), AllocError>
         requires sound { (seeds : List Slot) × (edges : List Edge) ×
-            AreChains edges (slots_of self.old) chains.now ×
+            AreAdjacent edges (slots_of self.old) adjacent.now ×
             IsSound seeds edges (slots_of self.old) self.old }
         requires parent { parent < length self.old.order.items }
         ensures sound { OnOk result ((seeds : List Slot) (edges : List Edge) →
-            AreChains edges (slots_of self.old) chains.now →
+            AreAdjacent edges (slots_of self.old) adjacent.now →
             IsSound seeds edges (slots_of self.old) self.old →
             IsSound seeds edges (slots_of self.old) self.new) }
         ensures keeps { OnOk result (KeepsReached self.old self.new) }
         ensures done { OnOk result ((edges : List Edge) →
-            AreChains edges (slots_of self.old) chains.now →
+            AreAdjacent edges (slots_of self.old) adjacent.now →
             GoesOn edges (slot_at self.old.order.items parent) self.new) }
     {
-        let slot = self.order[parent].slot;
-        let mut bound = chains.below[slot.0 as usize];
-        while bound > 0 {
-            let edge = bound - 1;
-            let link = chains.links[edge];
-            self.mark(link.to, Some(Step { edge, parent }))?;
-            bound = link.before;
+        let slot = self.slot(parent);
+        for at in adjacent.start(slot)..adjacent.end(slot) {
+            let link = adjacent.link(at);
+            let edge = link.edge;
+            let to = Slot(link.to as u64);
+            self.mark(to, Some(Step { edge, parent }))?;
         }
         Ok(())
     }
 
     /// The slot's place in the order, if it was reached.
-    pub fn place(&self, s: Slot) -> Option<usize>
+    pub fn place(&self, s: Slot) -> Option<u32>
         requires { s.0 < slots_of self.now }
         ensures { result ≡ place_of self.now.places.items s }
     {
@@ -92,13 +116,13 @@ impl Reached {
     }
 
     /// The edges by which the walk came to the slot at this place, from a seed on.
-    pub fn path(&self, alloc: Global, place: usize) -> Result<Vec<u64>, AllocError>
+    pub fn path(&self, alloc: Global, place: u32) -> Result<Vec<u64>, AllocError>
         requires { place < length self.now.order.items }
         ensures { IfOk result (λ path. path.items ≡ path_of self.now.order.items place) }
     {
         let mut path = Vec::new(alloc);
         let mut at = place;
-        while let Some(step) = self.order[at].by {
+        while let Some(step) = self.order[at as usize].by {
             path.push(step.edge as u64)?;
             at = step.parent;
         }

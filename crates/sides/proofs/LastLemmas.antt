@@ -69,3 +69,6 @@ none_at (suc n) (suc s) out h = none_at n s out h
 -- at the beginning
 pub remembers_none : (slots : List SlotInfo) (table : List Bool) (last : List (Option Out)) (n : ℕ) → last ≡ replicate n None → Remembers slots table last
 remembers_none slots table last n el = λ s out e. absurd (none_at n s out (ap (λ xs. get_or xs s None) (sym el) ∙ e))
+
+pub remembers_nothing : (slots : List SlotInfo) (table : List Bool) (last : List (Option Out)) → last ≡ [] → Remembers slots table last
+remembers_nothing slots table last el = λ s out e. absurd (let none : get_or [] s None ≡ Some out = ap (λ (xs : List (Option Out)). get_or xs s None) (sym el) ∙ e in cc)

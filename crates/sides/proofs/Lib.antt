@@ -6,6 +6,7 @@ pub mod LayoutLemmas
 pub mod LeafLemmas
 pub mod ListLemmas
 pub mod MovedLemmas
+pub mod PatternLemmas
 pub mod PlaceLemmas
 pub mod ReachLemmas
 pub mod SeedLemmas

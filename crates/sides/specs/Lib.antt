@@ -9,6 +9,8 @@ pub mod Marking
 pub mod Moved
 pub mod Objects
 pub mod Outs
+pub mod Paths
+pub mod Patterns
 pub mod Placed
 pub mod Reached
 pub mod ScopeView

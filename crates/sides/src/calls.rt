@@ -46,35 +46,39 @@ fn add_call(
     Ok(())
 }
 
-// appends the calls in the body of a function that stay in the half
+// appends the calls in the body of a function that stay in a half, for each half
 fn add_calls(
     alloc: Global,
     t: &Typed,
-    half: Half,
     caller: u32,
-    edges: &mut Vec<Edge>,
+    monitor: &mut Vec<Edge>,
+    slave: &mut Vec<Edge>,
 ) -> Result<(), AllocError>
-    ensures { OnOk result (edges.new.items ≡ edges.old.items ++ is.calls_of (view_typed t.now) half caller) }
+    ensures monitor { OnOk result (monitor.new.items ≡ monitor.old.items ++ is.calls_of (view_typed t.now) Half.Monitor caller) }
+    ensures slave { OnOk result (slave.new.items ≡ slave.old.items ++ is.calls_of (view_typed t.now) Half.Slave caller) }
 {
     let usages = usages_in(alloc, t, FnId(caller))?;
     let list = usages.as_slice();
     for usage in list {
-        add_call(t, half, caller, usage.value, edges)?;
+        add_call(t, Half::Monitor, caller, usage.value, monitor)?;
+        add_call(t, Half::Slave, caller, usage.value, slave)?;
     }
     Ok(())
 }
 
-// the calls that stay in the half, as edges
-fn call_edges(alloc: Global, t: &Typed, half: Half) -> Result<Vec<Edge>, AllocError>
-    ensures { IfOk result (λ v. v.items ≡ is.call_edges (view_typed t.now) half) }
+/// The calls that stay in the monitor and those that stay in the slave, as edges.
+pub(crate) fn call_edges(alloc: Global, t: &Typed) -> Result<(Vec<Edge>, Vec<Edge>), AllocError>
+    ensures monitor { IfOk result (λ p. p.0.items ≡ is.call_edges (view_typed t.now) Half.Monitor) }
+    ensures slave { IfOk result (λ p. p.1.items ≡ is.call_edges (view_typed t.now) Half.Slave) }
 {
-    let mut edges = Vec::new(alloc);
+    let mut monitor = Vec::new(alloc);
+    let mut slave = Vec::new(alloc);
     let mut caller: u32 = 0;
     for _function in &t.functions {
-        add_calls(alloc, t, half, caller, &mut edges)?;
+        add_calls(alloc, t, caller, &mut monitor, &mut slave)?;
         caller = next_number(caller)?;
     }
-    Ok(edges)
+    Ok((monitor, slave))
 }
 
 // the privileged functions
@@ -129,15 +133,21 @@ fn table_of(alloc: Global, marks: &Marks, functions: usize) -> Result<Vec<bool>,
     Ok(table)
 }
 
-/// For each function, whether it is in the half: its calls are followed from where the half begins.
-pub(crate) fn reached(alloc: Global, t: &Typed, half: Half) -> Result<Vec<bool>, AllocError>
+/// For each function, whether it is in the half: the calls that stay there are followed from where the half
+/// begins.
+pub(crate) fn reached(
+    alloc: Global,
+    t: &Typed,
+    half: Half,
+    calls: &[Edge],
+) -> Result<Vec<bool>, AllocError>
+    requires { calls.now ≡ is.call_edges (view_typed t.now) half }
     ensures { IfOk result (λ v. IsReached (view_typed t.now) half v.items) }
 {
     let main = t.function_of(b"main");
     let starts = half_starts(alloc, t, half, main)?;
-    let edges = call_edges(alloc, t, half)?;
     let functions = t.functions.len();
-    let marks = propagate(alloc, &starts, &edges, functions as u64)?;
+    let marks = propagate(alloc, &starts, calls, functions as u64)?;
     let table = table_of(alloc, &marks, functions)?;
     Ok(table)
 }

@@ -3,7 +3,7 @@ ghost use Rattle.std.specs.Prelude.{IfOk};
 ghost use Rattle.typed_tree.specs.TypedView.{view_typed};
 ghost use Rattle.sides.specs.Placed.{AreSides};
 
-use crate::calls::{Half, reached};
+use crate::calls::{Half, call_edges, reached};
 use crate::layout::{Layout, lay_out};
 use crate::owned::named_by;
 use crate::seeds::seed_table;
@@ -40,8 +40,9 @@ pub fn place(alloc: Global, t: &Typed) -> Result<Sides, AllocError>
     ensures { IfOk result (λ s. AreSides (view_typed t.now) s) }
 {
     let (layout, slots) = lay_out(alloc, t)?;
-    let in_monitor = reached(alloc, t, Half::Monitor)?;
-    let in_slave = reached(alloc, t, Half::Slave)?;
+    let (to_monitor, to_slave) = call_edges(alloc, t)?;
+    let in_monitor = reached(alloc, t, Half::Monitor, &to_monitor)?;
+    let in_slave = reached(alloc, t, Half::Slave, &to_slave)?;
     let monitor = functions_in(alloc, &in_monitor)?;
     let slave = functions_in(alloc, &in_slave)?;
     let named = named_by(alloc, t, &slave)?;

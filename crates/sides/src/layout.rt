@@ -6,6 +6,7 @@ ghost use Rattle.sides.specs.Slots.{slots_of};
 
 use crate::leaf_table::LeafTable;
 use crate::objects::{Object, add_functions, add_globals, add_results};
+use crate::patterns::patterns;
 use crate::scope::Scope;
 use crate::slots::SlotInfo;
 use pt_base::{FnId, Listed};
@@ -72,8 +73,10 @@ pub(crate) fn lay_out(alloc: Global, t: &Typed) -> Result<(Layout, Vec<SlotInfo>
     let structs = t.structs.as_slice();
     let table = LeafTable::new(alloc, structs)?;
     let mut slots = Vec::new(alloc);
-    let globals = add_globals(alloc, structs, t.globals.as_slice(), &mut slots)?;
-    let variables = add_functions(alloc, structs, &t.functions, &mut slots)?;
+    let patterns = patterns(alloc, t, structs)?;
+    let like = patterns.as_slice();
+    let globals = add_globals(alloc, structs, like, t.globals.as_slice(), &mut slots)?;
+    let variables = add_functions(alloc, structs, like, &t.functions, &mut slots)?;
     let results = slots.len() as u64;
     add_results(alloc, &t.functions, &mut slots)?;
     let layout = Layout {

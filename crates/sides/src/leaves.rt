@@ -6,8 +6,8 @@ ghost use Rattle.sides.specs.LeafTables.{leaves_below, slot_behind, named_leaves
 ghost use Rattle.sides.specs.Slots.{slot_of};
 
 use crate::numbers::next_number;
+use crate::path::Path;
 use crate::slots::{Owner, SlotInfo};
-use pt_base::Listed;
 use pt_tree::Elem;
 use std::alloc::{AllocError, Global};
 use typed_tree::{Field, StructInfo, VarTy};
@@ -22,8 +22,8 @@ fn struct_of_elem(elem: Elem) -> Option<u32>
     }
 }
 
-// the struct whose leaves an object has, None where it has one
-fn struct_of(ty: VarTy) -> Option<u32>
+/// The struct whose leaves an object has, None where it has one.
+pub(crate) fn struct_of(ty: VarTy) -> Option<u32>
     ensures { result ≡ named_struct ty }
 {
     match ty {
@@ -61,7 +61,7 @@ fn add_leaf(
 ) -> Result<(), AllocError>
     ensures { OnOk result (slots.new.items ≡ slots.old.items ++ slot_behind owner path.now marked whole ∷ []) }
 {
-    let path = Listed::new(path.to_vec(alloc)?);
+    let path = Path::new(alloc, path)?;
     slots.push(SlotInfo {
         owner,
         path,

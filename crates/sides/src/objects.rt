@@ -4,10 +4,13 @@ ghost use Rattle.typed_tree.specs.TypedTree.{view_function};
 ghost use Rattle.sides.specs.Leaves as is;
 ghost use Rattle.sides.specs.Layouts.{functions_objects};
 ghost use Rattle.sides.specs.Objects.{objects_from};
+ghost use Rattle.sides.specs.Patterns.{ArePatterns};
 ghost use Rattle.sides.specs.Slots.{slot_of, globals_slots, variables_slots, functions_slots, results_slots};
 
 use crate::leaves::add_leaves;
 use crate::numbers::next_number;
+use crate::path::Path;
+use crate::patterns::{add_alike, pattern_at};
 use crate::slots::{Owner, SlotInfo};
 use pt_base::{FnId, GlobalId, Listed, VarId};
 use std::alloc::{AllocError, Global};
@@ -21,19 +24,40 @@ pub struct Object {
     pub start: u64,
 }
 
+// appends the slots of an object, like those of its pattern where it has one
+fn add_slots(
+    alloc: Global,
+    structs: &[StructInfo],
+    patterns: &[Listed<SlotInfo>],
+    owner: Owner,
+    ty: VarTy,
+    slots: &mut Vec<SlotInfo>,
+) -> Result<(), AllocError>
+    requires { ArePatterns structs.now patterns.now }
+    ensures { OnOk result (slots.new.items ≡ slots.old.items ++ map (slot_of owner) (is.leaves_of structs.now ty)) }
+{
+    let pattern = pattern_at(patterns, ty);
+    if pattern.is_empty() {
+        return add_leaves(alloc, structs, owner, ty, slots);
+    }
+    add_alike(pattern, owner, slots)
+}
+
 // appends the slots of an object: where they begin
 fn add_object(
     alloc: Global,
     structs: &[StructInfo],
+    patterns: &[Listed<SlotInfo>],
     owner: Owner,
     ty: VarTy,
     slots: &mut Vec<SlotInfo>,
 ) -> Result<Object, AllocError>
+    requires { ArePatterns structs.now patterns.now }
     ensures object { IfOk result (λ o. o ≡ record { ty = ty; start = length slots.old.items }) }
     ensures slots { OnOk result (slots.new.items ≡ slots.old.items ++ map (slot_of owner) (is.leaves_of structs.now ty)) }
 {
     let start = slots.len() as u64;
-    add_leaves(alloc, structs, owner, ty, slots)?;
+    add_slots(alloc, structs, patterns, owner, ty, slots)?;
     Ok(Object { ty, start })
 }
 
@@ -41,9 +65,11 @@ fn add_object(
 pub(crate) fn add_globals(
     alloc: Global,
     structs: &[StructInfo],
+    patterns: &[Listed<SlotInfo>],
     globals: &[TypedGlobal],
     slots: &mut Vec<SlotInfo>,
 ) -> Result<Vec<Object>, AllocError>
+    requires { ArePatterns structs.now patterns.now }
     ensures objects { IfOk result (λ os. os.items ≡ objects_from (is.leaf_count structs.now) (length slots.old.items) (map (λ g. g.var.ty) globals.now)) }
     ensures slots { OnOk result (slots.new.items ≡ slots.old.items ++ globals_slots structs.now 0 globals.now) }
 {
@@ -51,7 +77,8 @@ pub(crate) fn add_globals(
     let mut number: u32 = 0;
     for global in globals {
         let owner = Owner::Global(GlobalId(number));
-        objects.push(add_object(alloc, structs, owner, global.var.ty, slots)?)?;
+        let ty = global.var.ty;
+        objects.push(add_object(alloc, structs, patterns, owner, ty, slots)?)?;
         number = next_number(number)?;
     }
     Ok(objects)
@@ -61,10 +88,12 @@ pub(crate) fn add_globals(
 fn add_variables(
     alloc: Global,
     structs: &[StructInfo],
+    patterns: &[Listed<SlotInfo>],
     function: u32,
     vars: &[Var],
     slots: &mut Vec<SlotInfo>,
 ) -> Result<Vec<Object>, AllocError>
+    requires { ArePatterns structs.now patterns.now }
     ensures objects { IfOk result (λ os. os.items ≡ objects_from (is.leaf_count structs.now) (length slots.old.items) (map (λ x. x.ty) vars.now)) }
     ensures slots { OnOk result (slots.new.items ≡ slots.old.items ++ variables_slots structs.now function 0 vars.now) }
 {
@@ -75,7 +104,7 @@ fn add_variables(
             function: FnId(function),
             var: VarId(number),
         };
-        objects.push(add_object(alloc, structs, owner, var.ty, slots)?)?;
+        objects.push(add_object(alloc, structs, patterns, owner, var.ty, slots)?)?;
         number = next_number(number)?;
     }
     Ok(objects)
@@ -85,9 +114,11 @@ fn add_variables(
 pub(crate) fn add_functions(
     alloc: Global,
     structs: &[StructInfo],
+    patterns: &[Listed<SlotInfo>],
     functions: &[TypedFn],
     slots: &mut Vec<SlotInfo>,
 ) -> Result<Vec<Listed<Object>>, AllocError>
+    requires { ArePatterns structs.now patterns.now }
     ensures objects { IfOk result (λ os. os.items ≡ functions_objects (is.leaf_count structs.now) (length slots.old.items) (map view_function functions.now)) }
     ensures slots { OnOk result (slots.new.items ≡ slots.old.items ++ functions_slots structs.now 0 (map view_function functions.now)) }
 {
@@ -95,7 +126,7 @@ pub(crate) fn add_functions(
     let mut number: u32 = 0;
     for function in functions {
         let vars = function.vars.as_slice();
-        let own = add_variables(alloc, structs, number, vars, slots)?;
+        let own = add_variables(alloc, structs, patterns, number, vars, slots)?;
         objects.push(Listed::new(own))?;
         number = next_number(number)?;
     }
@@ -114,7 +145,7 @@ pub(crate) fn add_results(
     for _function in functions {
         slots.push(SlotInfo {
             owner: Owner::Result(FnId(number)),
-            path: Listed::new(Vec::new(alloc)),
+            path: Path::none(),
             marked: false,
         })?;
         number = next_number(number)?;

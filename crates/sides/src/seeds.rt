@@ -1,5 +1,6 @@
 // Where secrets begin in the slave's code.
-ghost use Rattle.std.specs.Prelude.{◌≡◌, None, IfOk, OnOk, replicate};
+ghost use Rattle.std.specs.Prelude.{◌≡◌, None, IfOk, OnOk, List, Bool, replicate};
+ghost use Rattle.sides.specs.declared.slots.SlotInfo.{SlotInfo};
 ghost use Rattle.pt_base.specs.declared.ids.FnId.{FnId};
 ghost use Rattle.typed_tree.specs.ExpressionTree.{view_expr};
 ghost use Rattle.typed_tree.specs.TypedView.{view_typed};
@@ -24,6 +25,25 @@ use pt_base::FnId;
 use std::alloc::{AllocError, Global};
 use typed_tree::Typed;
 
+// behind none of so many slots anything was added yet
+fn nothing_added(alloc: Global, slots: usize) -> Result<Vec<Option<Out>>, AllocError>
+    ensures { IfOk result (λ v. v.items ≡ replicate slots None) }
+{
+    let last = vec![in alloc; None; slots]?;
+    Ok(last)
+}
+
+// Makes room to remember what is added behind so many slots, the first time that something is.
+fn make_room(alloc: Global, slots: usize, last: &mut Vec<Option<Out>>) -> Result<(), AllocError>
+    ensures { (infos : List SlotInfo) (table : List Bool) →
+        Remembers infos table last.old.items → OnOk result (Remembers infos table last.new.items) }
+{
+    if last.is_empty() {
+        *last = nothing_added(alloc, slots)?;
+    }
+    Ok(())
+}
+
 // adds the slots behind an expression that come back secret to a set, where it is the argument of a
 // privileged function
 fn add_usage(
@@ -47,6 +67,7 @@ fn add_usage(
         && let Some(out) = out_param(t, layout, callee, number)
     {
         let starts = carried_slots(alloc, scope, usage.value)?;
+        make_room(alloc, slots.len(), last)?;
         add_sealed(out, slots, &starts, table, last)?;
     }
     Ok(())
@@ -77,14 +98,6 @@ fn add_body(
     Ok(())
 }
 
-// behind none of so many slots anything was added yet
-fn nothing_added(alloc: Global, slots: usize) -> Result<Vec<Option<Out>>, AllocError>
-    ensures { IfOk result (λ v. v.items ≡ replicate slots None) }
-{
-    let last = vec![in alloc; None; slots]?;
-    Ok(last)
-}
-
 /// For each slot, whether secrets begin there, where these are the slave's functions.
 pub(crate) fn seed_table(
     alloc: Global,
@@ -99,7 +112,7 @@ pub(crate) fn seed_table(
     ensures { IfOk result (λ v. v.items ≡ marking.seed_table (view_typed t.now) in_slave.now slots.now functions.now) }
 {
     let mut table = marked_slots(alloc, t, in_slave, slots)?;
-    let mut last = nothing_added(alloc, slots.len())?;
+    let mut last = Vec::new(alloc);
     for f in functions {
         add_body(alloc, t, layout, slots, *f, &mut table, &mut last)?;
     }

@@ -1,5 +1,6 @@
 // The slots that values lie in.
-use pt_base::{FnId, GlobalId, Listed, VarId};
+use crate::path::Path;
+use pt_base::{FnId, GlobalId, VarId};
 
 /// What a slot is a part of.
 #[derive(Clone, Copy)]
@@ -17,7 +18,7 @@ pub enum Owner {
 pub struct SlotInfo {
     pub owner: Owner,
     /// The numbers of the fields that lead to it.
-    pub path: Listed<u32>,
+    pub path: Path,
     /// One of these fields is marked `priv`.
     pub marked: bool,
 }

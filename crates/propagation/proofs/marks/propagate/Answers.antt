@@ -1,6 +1,6 @@
 use Rattle.std.proofs.Common.{◌≡◌, length, arith}
 use Rattle.propagation.proofs.PathLemmas.{shows}
-use Rattle.propagation.proofs.VisitLemmas.{at_length, chains_at, walking_start, walking_step, walked}
+use Rattle.propagation.proofs.VisitLemmas.{at_length, adjacent_at, walking_start, walking_step, walked}
 use Rattle.propagation.proofs.marks.propagate.Goals as goal
 
 pub seed-requires-clause-sound : goal.seed-requires-clause-sound
@@ -17,12 +17,12 @@ loop-next-init c =
 pub visit-requires-clause-sound : goal.visit-requires-clause-sound
 visit-requires-clause-sound c =
     let w = c.loop-next.invariant in
-    (c.args.seeds.now, c.args.edges.now, chains_at _ _ _ _ _ _ _ w c.in_ok-chains.ensures, at_length _ _ _ _ _ w.sound)
+    (c.args.seeds.now, c.args.edges.now, adjacent_at _ _ _ _ _ _ _ w c.in_ok-adjacent.ensures, at_length _ _ _ _ _ w.sound)
 
 pub loop-next-preserved : goal.loop-next-preserved
 loop-next-preserved c =
     let w = c.loop-next.invariant in
-    let are = chains_at _ _ _ _ _ _ _ w c.in_ok-chains.ensures in
+    let are = adjacent_at _ _ _ _ _ _ _ w c.in_ok-adjacent.ensures in
     walking_step _ _ _ _ _ _ _ _ w (grind arith) (λ seeds sound. c.in_ok-visit.ensures.sound seeds c.args.edges.now are sound) c.in_ok-visit.ensures.keeps (c.in_ok-visit.ensures.done c.args.edges.now are)
 
 pub returns : goal.returns

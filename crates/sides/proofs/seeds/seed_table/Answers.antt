@@ -5,7 +5,7 @@ use Rattle.typed_tree.specs.TypedView.{view_typed}
 use Rattle.sides.specs.Outs.{Remembers}
 use Rattle.sides.specs.Seeds.{sealed_in}
 use Rattle.sides.specs.Tables.{set_all}
-use Rattle.sides.proofs.LastLemmas.{remembers_none}
+use Rattle.sides.proofs.LastLemmas.{remembers_nothing}
 use Rattle.sides.proofs.LayoutLemmas.{split_or}
 use Rattle.sides.proofs.WalkLemmas.{item_on, kept_items, long_all}
 use Rattle.sides.proofs.seeds.seed_table.Goals as goal
@@ -13,7 +13,7 @@ use Rattle.sides.proofs.seeds.seed_table.Goals as goal
 pub loop-f-init : goal.loop-f-init
 loop-f-init c = record {
   table = ap (λ xs. set_all xs (flat_map (sealed_in (view_typed c.args.t.now)) c.args.functions.now)) c.in_ok-table.ensures;
-  last = remembers_none c.args.slots.now c.in_ok-table.table.items c.in_ok-last.last.items _ c.in_ok-last.ensures;
+  last = remembers_nothing c.args.slots.now c.in_ok-table.table.items c.new-last.result.items c.new-last.ensures.items;
 }
 
 pub loop-f-preserved : goal.loop-f-preserved

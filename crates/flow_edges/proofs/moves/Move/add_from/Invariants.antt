@@ -6,5 +6,5 @@ use Rattle.flow_edges.proofs.moves.Move.add_from.Given as goal
 
 abbrev pub invariant-loop-to : goal.invariant-loop-to
 invariant-loop-to l =
-    l.edges.edges.items ++ flat_map (λ b. edges_between (view_move l.self) (l.from + l.leaf) (b + l.leaf)) (drop l.to-index l.self.to.items)
-    ≡ l.fn.edges.edges.items ++ edges_from (view_move l.self) l.leaf l.from
+    l.edges.items ++ flat_map (λ b. edges_between (view_move l.self) (l.from + l.leaf) (b + l.leaf)) (drop l.to-index l.self.to.items)
+    ≡ l.fn.edges.items ++ edges_from (view_move l.self) l.leaf l.from

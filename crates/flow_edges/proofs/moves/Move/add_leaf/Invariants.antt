@@ -6,5 +6,5 @@ use Rattle.flow_edges.proofs.moves.Move.add_leaf.Given as goal
 
 abbrev pub invariant-loop-from : goal.invariant-loop-from
 invariant-loop-from l =
-    l.edges.edges.items ++ flat_map (edges_from (view_move l.self) l.leaf) (drop l.from-index l.self.from.items)
-    ≡ l.fn.edges.edges.items ++ leaf_edges (view_move l.self) l.leaf
+    l.edges.items ++ flat_map (edges_from (view_move l.self) l.leaf) (drop l.from-index l.self.from.items)
+    ≡ l.fn.edges.items ++ leaf_edges (view_move l.self) l.leaf

@@ -6,5 +6,5 @@ use Rattle.flow_edges.proofs.moves.Move.add_leaves.Goals as goal
 
 pub loop-leaf-preserved : goal.loop-leaf-preserved
 loop-leaf-preserved c =
-    next_leaf (view_move c.args.self.now) c.loop-leaf.edges.edges.items _ _ c.args.self.now.leaves c.loop-leaf.leaf
+    next_leaf (view_move c.args.self.now) c.loop-leaf.edges.items _ _ c.args.self.now.leaves c.loop-leaf.leaf
     (grind arith) c.in_ok-add_leaf.ensures c.loop-leaf.invariant

@@ -6,5 +6,5 @@ use Rattle.flow_edges.proofs.moves.Move.add_leaves.Given as goal
 
 abbrev pub invariant-loop-leaf : goal.invariant-loop-leaf
 invariant-loop-leaf l =
-    l.edges.edges.items ++ flat_map (leaf_edges (view_move l.self)) (range_with_len l.leaf (l.self.leaves - l.leaf))
-    ≡ l.fn.edges.edges.items ++ move_edges (view_move l.self)
+    l.edges.items ++ flat_map (leaf_edges (view_move l.self)) (range_with_len l.leaf (l.self.leaves - l.leaf))
+    ≡ l.fn.edges.items ++ move_edges (view_move l.self)

@@ -1,6 +1,9 @@
 use Rattle.std.proofs.Common.{rules}
-use Rattle.propagation.proofs.MarkLemmas.{new_sound}
+use Rattle.propagation.proofs.MarkLemmas.{new_sound, none_marked}
 use Rattle.propagation.proofs.reached.Reached.new.Goals as goal
 
+pub invariant_of-result-clause-agreed : goal.invariant_of-result-clause-agreed
+invariant_of-result-clause-agreed c = none_marked c.args.slots _ _ (c.in_ok-places.ensures.items_if_clones_equal (λ y k. search rules)) (c.in_ok-marked.ensures.items_if_clones_equal (λ y k. search rules))
+
 pub returns : goal.returns
-returns c = λ seeds edges. new_sound seeds edges c.args.slots _ _ (c.in_ok-places.ensures.items_if_clones_equal (λ y k. search rules)) c.new-order.ensures.items
+returns c = λ seeds edges. new_sound seeds edges c.args.slots _ _ (c.in_ok-places.ensures.items_if_clones_equal (λ y k. search rules)) c.in_ok-order.ensures.items
