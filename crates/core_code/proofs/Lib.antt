@@ -1,3 +1,4 @@
-pub mod LayLemmas
+mod QuickLemmas
 mod ResolveLemmas
 mod StartLemmas
+pub mod LayLemmas

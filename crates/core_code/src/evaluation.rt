@@ -8,39 +8,60 @@ use crate::cells::{cell_at, converted, first, number, number_at, of_one, of_two,
 use crate::code::{PlaceCode, ValueCode};
 use crate::fault::Fault;
 use crate::pointers::{behind, compared, difference, moved};
+use crate::quick::{quick_place, quick_value};
 use block_memory::{BlockMemory, BlockName, Cell, CellAt, Pointer};
 
 /// The value of an expression of the function that was entered at this depth.
-#[cycle(evaluation)]
 pub fn value(code: &ValueCode, memory: &BlockMemory, depth: u32) -> Result<Cell, Fault>
+    ensures { IsAnswer result (code_value code.now depth (blocks_of memory.now)) }
+{
+    match quick_value(code, memory, depth) {
+        Some(cell) => Ok(cell),
+        None => full_value(code, memory, depth),
+    }
+}
+
+/// The first cell of an object.
+pub fn location(code: &PlaceCode, memory: &BlockMemory, depth: u32) -> Result<CellAt, Fault>
+    ensures { IsAnswer result (code_place code.now depth (blocks_of memory.now)) }
+{
+    match quick_place(code, memory, depth) {
+        Some(at) => Ok(at),
+        None => full_location(code, memory, depth),
+    }
+}
+
+// The value of an expression, whatever it is.
+#[cycle(evaluation)]
+fn full_value(code: &ValueCode, memory: &BlockMemory, depth: u32) -> Result<Cell, Fault>
     ensures { IsAnswer result (code_value code.now depth (blocks_of memory.now)) }
 {
     match code {
         ValueCode::Const { value } => Ok(Cell::Int(*value)),
         ValueCode::Read { place } => {
-            let at = location(place, memory, depth)?;
+            let at = full_location(place, memory, depth)?;
             Ok(cell_at(memory, at))
         }
         ValueCode::Unary { op, ty, a, span } => {
-            let x = value(a, memory, depth)?;
+            let x = full_value(a, memory, depth)?;
             number_at(*span, of_one(*op, *ty, x))
         }
         ValueCode::Binary { op, ty, a, b, span } => {
-            let x = value(a, memory, depth)?;
-            let y = value(b, memory, depth)?;
+            let x = full_value(a, memory, depth)?;
+            let y = full_value(b, memory, depth)?;
             number_at(*span, of_two(*op, *ty, x, y))
         }
         ValueCode::Convert { same, to, a } => {
-            let x = value(a, memory, depth)?;
+            let x = full_value(a, memory, depth)?;
             Ok(converted(*same, *to, x))
         }
         ValueCode::Null => Ok(Cell::Ptr(Pointer::Null)),
         ValueCode::Addr { place } => {
-            let at = location(place, memory, depth)?;
+            let at = full_location(place, memory, depth)?;
             Ok(first(Some(1), at))
         }
         ValueCode::Decay { place, count } => {
-            let at = location(place, memory, depth)?;
+            let at = full_location(place, memory, depth)?;
             Ok(first(*count, at))
         }
         ValueCode::Move {
@@ -49,8 +70,8 @@ pub fn value(code: &ValueCode, memory: &BlockMemory, depth: u32) -> Result<Cell,
             back,
             span,
         } => {
-            let x = value(pointer, memory, depth)?;
-            let y = value(by, memory, depth)?;
+            let x = full_value(pointer, memory, depth)?;
+            let y = full_value(by, memory, depth)?;
             moved(*span, *back, number(y), x)
         }
         ValueCode::Compare {
@@ -60,21 +81,21 @@ pub fn value(code: &ValueCode, memory: &BlockMemory, depth: u32) -> Result<Cell,
             b,
             span,
         } => {
-            let x = value(a, memory, depth)?;
-            let y = value(b, memory, depth)?;
+            let x = full_value(a, memory, depth)?;
+            let y = full_value(b, memory, depth)?;
             truth_at(*span, compared(*op, *size, x, y))
         }
         ValueCode::Diff { a, b, span } => {
-            let x = value(a, memory, depth)?;
-            let y = value(b, memory, depth)?;
+            let x = full_value(a, memory, depth)?;
+            let y = full_value(b, memory, depth)?;
             number_at(*span, difference(x, y))
         }
     }
 }
 
-/// The first cell of an object.
+// The first cell of an object, whatever it is.
 #[cycle(evaluation)]
-pub fn location(code: &PlaceCode, memory: &BlockMemory, depth: u32) -> Result<CellAt, Fault>
+fn full_location(code: &PlaceCode, memory: &BlockMemory, depth: u32) -> Result<CellAt, Fault>
     ensures { IsAnswer result (code_place code.now depth (blocks_of memory.now)) }
 {
     match code {
@@ -92,7 +113,7 @@ pub fn location(code: &PlaceCode, memory: &BlockMemory, depth: u32) -> Result<Ce
             offset,
             span,
         } => {
-            let x = value(pointer, memory, depth)?;
+            let x = full_value(pointer, memory, depth)?;
             behind(*span, *size, *offset, x)
         }
     }

@@ -15,6 +15,7 @@ mod laying;
 mod layout;
 mod names;
 mod pointers;
+mod quick;
 mod resolution;
 
 pub use code::{PlaceCode, ValueCode};
@@ -24,4 +25,5 @@ pub use instruction::Instruction;
 pub use laying::{LaidFunction, lay};
 pub use layout::Layout;
 pub use names::Names;
+pub use quick::{quick_number, quick_place};
 pub use resolution::{resolve_place, resolve_value};

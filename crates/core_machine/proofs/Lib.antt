@@ -5,6 +5,7 @@ pub mod HeldLemmas
 pub mod LiveLemmas
 pub mod MachineLemmas
 pub mod PlaceLemmas
+mod QuickLemmas
 pub mod RiseLemmas
 pub mod RunLemmas
 pub mod StackLemmas

@@ -4,6 +4,8 @@ pub mod Held
 pub mod Live
 pub mod Machines
 pub mod Outside
+pub mod Quick
+pub mod QuickStates
 pub mod Shows
 pub mod States
 pub mod Tables

@@ -13,6 +13,7 @@ mod laws;
 mod leaves;
 mod machine;
 mod memory;
+mod quick;
 mod state;
 mod statements;
 mod stepped;

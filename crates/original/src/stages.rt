@@ -3,6 +3,7 @@ ghost use Rattle.std.specs.Prelude.{◌≡◌, ℕ, List, IfOk};
 ghost use Rattle.front_end.specs.Reading.{HasTypedTree};
 ghost use Rattle.host_table.specs.Hosts.{hosts_of};
 ghost use Rattle.typed_tree.specs.TypedView.{view_typed};
+ghost use Rattle.program_run.specs.HostGates.{AreOf};
 ghost use Rattle.original.specs.Original.{Texts, GivesHosts};
 ghost use Rattle.original.specs.OutcomeSeen.{IsOutcome};
 
@@ -64,6 +65,7 @@ fn with_hosts(
     input: &[u8],
     turns: u32,
 ) -> Result<Outcome, AllocError>
+    requires { AreOf (view_typed program.now) (hosts_of hosts) }
     ensures { (t : Texts) → HasTypedTree t.program (view_typed program.now)
         → GivesHosts t.host (view_typed program.now) (hosts_of hosts) → t.input ≡ input.now
         → IfOk result (IsOutcome t turns) }
