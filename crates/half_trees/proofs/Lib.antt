@@ -1,0 +1,5 @@
+mod ChainLemmas
+mod ClearingLemmas
+pub mod PlaceLemmas
+mod StatementLemmas
+mod Worked

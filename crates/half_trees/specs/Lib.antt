@@ -1,0 +1,11 @@
+pub mod Built
+pub mod Clearing
+pub mod Declarations
+pub mod Expressions
+pub mod Functions
+pub mod Halves
+pub mod Leaves
+pub mod Names
+pub mod Places
+pub mod Statements
+pub mod Views
