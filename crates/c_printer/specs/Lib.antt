@@ -1,0 +1,11 @@
+pub mod Expressions
+pub mod Gaps
+pub mod Items
+pub mod Kinds
+pub mod Pieces
+pub mod Plain
+pub mod ReadsBack
+pub mod Sheets
+pub mod Specifiers
+pub mod Statements
+pub mod Unplaced

@@ -1,0 +1,14 @@
+//! Any parsed tree as text, laid out for people: the inverse of the lexer and the parser.
+#![tactic(auto)]
+
+mod expressions;
+mod gap;
+mod items;
+mod sheet;
+mod specifiers;
+mod spelling;
+mod statements;
+mod tightness;
+
+pub use items::print;
+pub use sheet::Sheet;

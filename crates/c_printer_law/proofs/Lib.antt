@@ -1,0 +1,14 @@
+mod AllKinds
+mod Classes
+mod Declarators
+mod Expressions
+mod Forms
+mod Functions
+mod Initialisers
+mod Levels
+mod Operands
+mod Operators
+mod Program
+mod Specifiers
+mod Statements
+mod Steps
