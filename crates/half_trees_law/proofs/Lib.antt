@@ -1,0 +1,9 @@
+mod Tests
+mod Names
+mod Specifiers
+mod Counts
+mod Expressions
+mod Leaves
+mod Statements
+mod Items
+mod Programs
