@@ -27,7 +27,7 @@ lex_whole : (text : List ℕ) (fault : LexFault) → IsLexFault (first text) fau
 lex_whole text fault (inl over) = inl (long_cut text over.0, over.1)
 lex_whole text fault (inr stops) = subst (λ xs. IsLexFault xs fault) (short_cut text stops.0) (inr stops)
 
-tree_whole : (text : List ℕ) (tree : TypedTree) → HasTypedTree (first text) tree → HasTypedTree text tree
+pub tree_whole : (text : List ℕ) (tree : TypedTree) → HasTypedTree (first text) tree → HasTypedTree text tree
 tree_whole text tree has = subst (λ xs. HasTypedTree xs tree) (short_cut text has.reads.lexed.short) has
 
 pub cut_whole : FirstBytesAreEnough

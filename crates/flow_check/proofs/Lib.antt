@@ -1,6 +1,6 @@
 pub mod Cuts
 mod JudgeLemmas
-mod LineLemmas
+pub mod LineLemmas
 mod NumberLemmas
 mod OneList
 pub mod OneOutcome

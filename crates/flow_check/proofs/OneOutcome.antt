@@ -12,6 +12,7 @@ use Rattle.std.proofs.lemmas.Map.Keys.{Less-from_sorted}
 use Rattle.front_end.proofs.OneReading.{reading_is_one}
 use Rattle.front_end.specs.Reading.{Reading, typed_tree, lex_fault, parse_fault, type_faults_of, ComesTo as ReadsAs}
 use Rattle.pt_base.specs.declared.ids.FnId.{FnId}
+use Rattle.pt_base.specs.declared.ids.GlobalId.{GlobalId}
 use Rattle.pt_base.specs.declared.slot.Edge.{Edge}
 use Rattle.pt_base.specs.declared.slot.Slot.{Slot}
 use Rattle.propagation.specs.Marks.{AreMarks, Shown, path_shown}
@@ -24,8 +25,9 @@ use Rattle.sides.specs.Sorted.{Lists}
 use Rattle.sides.specs.Tables.{slot_number}
 use Rattle.typed_tree.specs.TypedTree.{TypedTree}
 use Rattle.flow_edges.specs.Edges.{edges_in}
+use Rattle.flow_rules.specs.declared.accepted.Accepted.{Accepted}
 use Rattle.flow_rules.specs.declared.fault.FlowFault.{FlowFault}
-use Rattle.flow_rules.specs.Faults.{AreFaults, IsFault, edges_of_all, fault_cmp, flows_of}
+use Rattle.flow_rules.specs.Faults.{AreFaults, IsAccepted, IsFault, edges_of_all, fault_cmp, flows_of}
 use Rattle.flow_rules.specs.Findings.{Finding, findings_of}
 use Rattle.flow_rules.specs.Numbers.{rule_number}
 use Rattle.flow_rules.specs.Secrets.{Flows}
@@ -62,11 +64,14 @@ unmarked : (seeds : List Slot) (edges : List Edge) (slots : ℕ) (marks : Shown)
 unmarked seeds edges slots marks are n past = get_or_past marks n None (subst (λ k. k ≤ n) (sym are.size) past)
 
 module _ (t : TypedTree) (s s' : Sides) (are : AreSides t s) (are' : AreSides t s') where
-  same_slave : s.slave ≡ s'.slave
+  pub same_slave : s.slave ≡ s'.slave
   same_slave = same_lists (λ (f : FnId). f.0) _ s.slave s'.slave are.slave are'.slave
 
-  same_monitor : s.monitor ≡ s'.monitor
+  pub same_monitor : s.monitor ≡ s'.monitor
   same_monitor = same_lists (λ (f : FnId). f.0) _ s.monitor s'.monitor are.monitor are'.monitor
+
+  pub same_owned : s.owned ≡ s'.owned
+  same_owned = same_lists (λ (g : GlobalId). g.0) _ s.owned s'.owned are.owned are'.owned
 
   same_seeds : s.seeds ≡ s'.seeds
   same_seeds = same_lists (λ (x : Slot). x.0) _ s.seeds s'.seeds are.seeds are'.seeds
@@ -121,7 +126,7 @@ same_faults p q seeds seeds' edges edges' fs gs same a b =
     (λ i j d lt within. Less-from_sorted fault_cmp fs i j d a.sorted lt within) (λ i j d lt within. Less-from_sorted fault_cmp gs i j d b.sorted lt within)
     (told_there p q seeds seeds' edges edges' fs gs same a b) (told_there q p seeds' seeds edges' edges gs fs (sym same) b a)
 
-faults_differ_in_ways : (t : TypedTree) (fs gs : List FlowFault) → HasFlowFaults t fs → HasFlowFaults t gs → map without_way fs ≡ map without_way gs
+pub faults_differ_in_ways : (t : TypedTree) (fs gs : List FlowFault) → HasFlowFaults t fs → HasFlowFaults t gs → map without_way fs ≡ map without_way gs
 faults_differ_in_ways t fs gs a b =
     same_faults (flows_of t a.sides a.marks) (flows_of t b.sides b.marks) a.sides.seeds b.sides.seeds (edges_of_all t a.sides) (edges_of_all t b.sides) fs gs
     (ap findings_of (same_flows t a.sides b.sides a.marks b.marks a.placed b.placed a.marked b.marked)) a.all b.all
@@ -134,10 +139,11 @@ nothing_found p seeds edges (f ∷ fs) none are some =
     let is : IsFault p seeds edges f = All-head (IsFault p seeds edges) f fs are.true_ones in
     contains_nothing is.0 (subst (λ (xs : List Finding). Contains xs is.0) none is.1)
 
-not_both : (t : TypedTree) (lines : List ℕ) (fs : List FlowFault) → HasSlotLines t lines → HasFlowFaults t fs → ⊥
-not_both t lines fs a b =
+-- a program that is accepted has no fault
+pub accepted_or_faulty : (t : TypedTree) (a : Accepted) (fs : List FlowFault) → IsAccepted t a → HasFlowFaults t fs → ⊥
+accepted_or_faulty t a fs is b =
     nothing_found (flows_of t b.sides b.marks) b.sides.seeds (edges_of_all t b.sides) fs
-    (ap findings_of (same_flows t b.sides a.accepted.sides b.marks a.accepted.marks b.placed a.is.sides b.marked a.is.marks) ∙ a.is.faultless) b.all b.some
+    (ap findings_of (same_flows t b.sides a.sides b.marks a.marks b.placed is.sides b.marked is.marks) ∙ is.faultless) b.all b.some
 
 shown_there : (t : TypedTree) (s s' : Sides) → AreSides t s → AreSides t s' → (n : ℕ) → IsShown t s n → IsShown t s' n
 shown_there t s s' are are' n shown = record { within = shown.within; slaves = shown.slaves; privileged = same_priv t s s' are are' n shown.privileged }
@@ -183,8 +189,8 @@ read text (checked lines) is = record { reading = typed_tree is.0; is = is.1; af
 
 one_tree : (t : TypedTree) (a b : Outcome) → AfterTree t a → AfterTree t b → without_ways a ≡ without_ways b
 one_tree t a b (inl x) (inl y) = ap without_ways x.2 ∙ ap (λ (fs : List FlowFault). refused (flow fs)) (faults_differ_in_ways t x.0 y.0 x.1 y.1) ∙ sym (ap without_ways y.2)
-one_tree t a b (inl x) (inr y) = absurd (not_both t y.0 x.0 y.1 x.1)
-one_tree t a b (inr x) (inl y) = absurd (not_both t x.0 y.0 x.1 y.1)
+one_tree t a b (inl x) (inr y) = absurd (accepted_or_faulty t y.1.accepted x.0 y.1.is x.1)
+one_tree t a b (inr x) (inl y) = absurd (accepted_or_faulty t x.1.accepted y.0 x.1.is y.1)
 one_tree t a b (inr x) (inr y) = ap without_ways x.2 ∙ ap checked (same_lines t x.0 y.0 x.1 y.1) ∙ sym (ap without_ways y.2)
 
 one_after : (a b : Outcome) (r : Reading) → After a r → After b r → without_ways a ≡ without_ways b

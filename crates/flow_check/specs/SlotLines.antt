@@ -3,6 +3,7 @@
 use Rattle.std.specs.Prelude.{ℕ, List, [], ◌∷◌, ◌++◌, Option, codes, option_and_then, slice_get}
 use Rattle.std.specs.Option.{option_map_or}
 use Rattle.original.specs.FaultLines.{place_text}
+use Rattle.pt_base.specs.declared.span.Span.{Span}
 use Rattle.sides.specs.declared.slots.SlotInfo.{SlotInfo}
 use Rattle.sides.specs.LeafTables.{named_struct}
 use Rattle.sides.specs.Slots.{slot_at}
@@ -22,9 +23,13 @@ abbrev pub fields_text : List StructInfo → VarTy → List ℕ → List ℕ
 fields_text structs ty [] = []
 fields_text structs ty (k ∷ path) = option_map_or (λ f. codes "." ++ f.name ++ fields_text structs f.ty path) (field_of structs ty k) []
 
+-- ` FROM..TO`, and the line's end
+abbrev pub end_text : Span → List ℕ
+end_text span = codes " " ++ place_text span ++ codes "\n"
+
 -- `priv NAME FROM..TO`
 abbrev pub variable_line : List StructInfo → List ℕ → Var → List ℕ
-variable_line structs path x = codes "priv " ++ x.name ++ fields_text structs x.ty path ++ codes " " ++ place_text x.span ++ codes "\n"
+variable_line structs path x = codes "priv " ++ x.name ++ fields_text structs x.ty path ++ end_text x.span
 
 abbrev pub info_line : TypedTree → SlotInfo → List ℕ
 info_line t s = option_map_or (variable_line t.structs s.path) (variable_of t s.owner) []

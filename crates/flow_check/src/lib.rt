@@ -2,15 +2,17 @@
 //! the faults of the first stage that has one, of lexer, parser, types and flows.
 #![tactic(auto)]
 
-mod flow_lines;
+mod fault_lines;
 mod judging;
 mod laws;
+mod line_end;
 mod outcome;
 mod shown;
 mod slot_lines;
 mod stages;
 mod variables;
 
+pub use fault_lines::flow_lines;
 pub use judging::judge;
 pub use laws::{first_bytes_are_enough, texts_have_one_outcome};
 pub use outcome::Outcome;

@@ -8,10 +8,11 @@ ghost use Rattle.flow_check.specs.Checked.{HasSlotLines};
 ghost use Rattle.flow_check.specs.Kept.{kept_lines};
 ghost use Rattle.flow_check.specs.SlotLines as is;
 
+use crate::line_end::LineEnd;
 use crate::shown::{ShownSlot, shown_slots};
 use crate::variables::variable_of;
 use flow_rules::Accepted;
-use original::push_span;
+use pt_base::Span;
 use pt_tree::Elem;
 use sides::SlotInfo;
 use std::alloc::{AllocError, Global};
@@ -71,9 +72,11 @@ fn push_fields(
 
 // appends the line of a leaf of a variable
 fn push_variable(
+    alloc: Global,
     structs: &[StructInfo],
     path: &[u32],
     variable: &Var,
+    end: &mut LineEnd,
     lines: &mut Vec<u8>,
 ) -> Result<(), AllocError>
     ensures { OnOk result (lines.new.items ≡ lines.old.items ++ is.variable_line structs.now path.now variable.now) }
@@ -81,19 +84,23 @@ fn push_variable(
     lines.extend_from_slice(b"priv ")?;
     lines.extend_from_slice(variable.name.as_slice())?;
     push_fields(structs, variable.ty, path, lines)?;
-    lines.push(b' ')?;
-    push_span(variable.span, lines)?;
-    lines.push(b'\n')?;
-    Ok(())
+    end.push(alloc, variable.span, lines)
 }
 
 // appends the line of a slot
-fn push_info(t: &Typed, info: &SlotInfo, lines: &mut Vec<u8>) -> Result<(), AllocError>
+fn push_info(
+    alloc: Global,
+    t: &Typed,
+    info: &SlotInfo,
+    end: &mut LineEnd,
+    lines: &mut Vec<u8>,
+) -> Result<(), AllocError>
     ensures { OnOk result (lines.new.items ≡ lines.old.items ++ is.info_line (view_typed t.now) info.now) }
 {
     match variable_of(t, info.owner) {
         Some(variable) => {
-            push_variable(t.structs.as_slice(), info.path.as_slice(), variable, lines)
+            let structs = t.structs.as_slice();
+            push_variable(alloc, structs, info.path.as_slice(), variable, end, lines)
         }
         None => Ok(()),
     }
@@ -101,15 +108,17 @@ fn push_info(t: &Typed, info: &SlotInfo, lines: &mut Vec<u8>) -> Result<(), Allo
 
 // appends the line of the slot of this number
 fn push_slot(
+    alloc: Global,
     t: &Typed,
     slots: &[SlotInfo],
     slot: u64,
+    end: &mut LineEnd,
     lines: &mut Vec<u8>,
 ) -> Result<(), AllocError>
     ensures { OnOk result (lines.new.items ≡ lines.old.items ++ is.info_line (view_typed t.now) (slice_index_or slots.now slot no_slot)) }
 {
     match slots.get(slot as usize) {
-        Some(info) => push_info(t, info, lines),
+        Some(info) => push_info(alloc, t, info, end, lines),
         None => Ok(()),
     }
 }
@@ -124,8 +133,9 @@ fn lines_of(
     ensures { IfOk result (λ lines. lines.items ≡ kept_lines (view_typed t.now) slots.now shown.now) }
 {
     let mut lines = Vec::new(alloc);
+    let mut end = LineEnd::new(alloc, Span { from: 0, to: 0 })?;
     for slot in shown {
-        push_slot(t, slots, slot.slot, &mut lines)?;
+        push_slot(alloc, t, slots, slot.slot, &mut end, &mut lines)?;
     }
     Ok(lines)
 }

@@ -4,7 +4,7 @@ ghost use Rattle.front_end.specs.Reading.{HasTypedTree};
 ghost use Rattle.typed_tree.specs.TypedView.{view_typed};
 ghost use Rattle.flow_check.specs.OutcomeSeen.{IsOutcome};
 
-use crate::flow_lines::flow_lines;
+use crate::fault_lines::flow_lines;
 use crate::judging::judge;
 use crate::outcome::Outcome;
 use crate::slot_lines::slot_lines;

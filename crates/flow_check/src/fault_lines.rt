@@ -67,8 +67,12 @@ fn push_fault(fault: &FlowFault, lines: &mut Vec<u8>) -> Result<(), AllocError>
     Ok(())
 }
 
-/// The lines of the faults of a program's flows.
-pub(crate) fn flow_lines(alloc: Global, faults: &[FlowFault]) -> Result<Vec<u8>, AllocError>
+/// The lines of the faults of a program's flows. Time is linear in what is written.
+///
+/// # Errors
+///
+/// Want of memory.
+pub fn flow_lines(alloc: Global, faults: &[FlowFault]) -> Result<Vec<u8>, AllocError>
     ensures { IfOk result (λ lines. lines.items ≡ is.flow_lines faults.now) }
 {
     let mut lines = Vec::new(alloc);
