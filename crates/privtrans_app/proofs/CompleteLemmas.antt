@@ -9,7 +9,7 @@ use Rattle.flow_check.specs.Laws.{without_ways}
 use Rattle.flow_check.proofs.OneOutcome as flow_outcomes
 use Rattle.privtrans_app.specs.Words.{IsHelp, IsVersion, IsLocal, IsOrig, IsCheck, IsNoForm, IsRun, of_local, of_orig, of_check}
 use Rattle.privtrans_app.specs.EarlyInput.{Texts, IsBuilt, IsNotBuilt}
-use Rattle.privtrans_app.specs.Ending.{Ending, help, version, exit, accepted, usage, missing, read_fault, write_fault, not_built, faults, trapped, spent, memory, status_of, Reports, StaysDown, EndsWith}
+use Rattle.privtrans_app.specs.Ending.{Ending, help, version, exit, accepted, split, usage, missing, read_fault, write_fault, not_built, faults, trapped, spent, memory, status_of, Reports, StaysDown, EndsWith}
 use Rattle.privtrans_app.specs.Held.{IsHeld, AllHeld, IsReached}
 use Rattle.privtrans_app.specs.LocalRun.{AreHeld, Refuses}
 use Rattle.privtrans_app.specs.CheckRun as check
@@ -20,19 +20,19 @@ use Rattle.privtrans_app.proofs.LocalLemmas.{same_held}
 use Rattle.privtrans_app.proofs.OrigLemmas.{same_orig, same_ending}
 
 -- a call whose report was written has the status of its ending, or 12
-told : (e : Ending) (report report' : Option (List ℕ)) (failed failed' status : ℕ) → Reports e report report' failed failed' status → StaysDown failed failed' → EndsWith status (status_of e)
+pub told : (e : Ending) (report report' : Option (List ℕ)) (failed failed' status : ℕ) → Reports e report report' failed failed' status → StaysDown failed failed' → EndsWith status (status_of e)
 told e report report' failed failed' status (inl is) down = inl is.0
 told e report report' failed failed' status (inr (inl is)) down = absurd (down is.2)
 told e report report' failed failed' status (inr (inr is)) down = inr is.0
 
 -- want of memory is one of two statuses anywhere
-memory_of : (status n : ℕ) → EndsWith status 12 → EndsWith status n
+pub memory_of : (status n : ℕ) → EndsWith status 12 → EndsWith status n
 memory_of status n (inl is) = inr is
 memory_of status n (inr is) = inr is
 
 -- ---- words of two forms
 
-one_of_help : (words : List (List ℕ)) → IsHelp words → length words ≡ 1
+pub one_of_help : (words : List (List ℕ)) → IsHelp words → length words ≡ 1
 one_of_help words (inl is) = ap length is
 one_of_help words (inr is) = ap length is
 
@@ -239,6 +239,7 @@ module _ (words : List (List ℕ)) (reads reads' : ℕ) (o o' : Option (List ℕ
   by_text files version formed no_run comes tells = ends version tells
   by_text files (exit s) formed no_run comes tells = ends (exit s) tells
   by_text files accepted formed no_run comes tells = ends accepted tells
+  by_text files split formed no_run comes tells = absurd comes
   by_text files usage formed no_run comes tells = absurd (formed comes.0)
   by_text files (missing name) formed no_run comes tells = absurd (no_run _ comes.0.form)
   by_text files (read_fault name) formed no_run comes tells = absurd (no_run _ comes.0.form)
@@ -255,6 +256,7 @@ module _ (words : List (List ℕ)) (reads reads' : ℕ) (o o' : Option (List ℕ
   by_usage files version none no_run comes tells = absurd (none.no_version comes.0)
   by_usage files (exit s) none no_run comes tells = absurd (let run = expects_run words files comes.0 (exit s) comes.1 in no_run run.0 run.1)
   by_usage files accepted none no_run comes tells = absurd (let run = expects_run words files comes.0 accepted comes.1 in no_run run.0 run.1)
+  by_usage files split none no_run comes tells = absurd comes
   by_usage files usage none no_run comes tells = ends usage tells
   by_usage files (missing name) none no_run comes tells = absurd (no_run _ comes.0.form)
   by_usage files (read_fault name) none no_run comes tells = absurd (no_run _ comes.0.form)
@@ -269,7 +271,7 @@ module _ (words : List (List ℕ)) (reads reads' : ℕ) (o o' : Option (List ℕ
   by_form files e comes tells = record {
     help = λ is. by_text files e (λ none. none.no_help is) (λ names run. no_help words names run is) comes tells;
     version = λ is. by_text files e (λ none. none.no_version is) (λ names run. no_version words names run is) comes tells;
-    usage = λ none. by_usage files e none (λ names run. form_runs words names none run) comes tells;
+    usage = λ none no_split. by_usage files e none (λ names run. form_runs words names none run) comes tells;
   }
 
   -- a file that isn't held
@@ -278,6 +280,7 @@ module _ (words : List (List ℕ)) (reads reads' : ℕ) (o o' : Option (List ℕ
   by_lack files version r name reached lacks comes tells = absurd (no_version words _ reached.form comes.0)
   by_lack files (exit s) r name reached lacks comes tells = absurd (not_lacking words files name (expected_held words files comes.0 (exit s) comes.1) reached lacks)
   by_lack files accepted r name reached lacks comes tells = absurd (not_lacking words files name (expected_held words files comes.0 accepted comes.1) reached lacks)
+  by_lack files split r name reached lacks comes tells = absurd comes
   by_lack files usage r name reached lacks comes tells = absurd (form_runs words _ comes.0 reached.form)
   by_lack files (missing n) r name reached lacks comes tells = ends (missing n) tells
   by_lack files (read_fault n) r name reached lacks comes tells = absurd (r comes.1)
@@ -300,6 +303,7 @@ module _ (words : List (List ℕ)) (reads reads' : ℕ) (o o' : Option (List ℕ
   by_built files version r t turns window bytes s held built comes tells = ends version tells
   by_built files (exit k) r t turns window bytes s held built comes tells = ends (exit k) tells
   by_built files accepted r t turns window bytes s held built comes tells = ends accepted tells
+  by_built files split r t turns window bytes s held built comes tells = absurd comes
   by_built files usage r t turns window bytes s held built comes tells = absurd (comes.0.no_local _ _ _ _ _ _ held.form)
   by_built files (missing name) r t turns window bytes s held built comes tells = absurd (none_missing files name r (local_held words files t turns window held) comes.0 comes.1)
   by_built files (read_fault name) r t turns window bytes s held built comes tells = absurd (r comes.1)
@@ -323,6 +327,7 @@ module _ (words : List (List ℕ)) (reads reads' : ℕ) (o o' : Option (List ℕ
   by_refused files version r t turns window held none comes tells = absurd (no_version words _ (of_local _ _ _ _ _ _ held.form) comes.0)
   by_refused files (exit s) r t turns window held none comes tells = absurd (never_runs files (exit s) t turns window comes.0 held none comes.1)
   by_refused files accepted r t turns window held none comes tells = absurd (never_runs files accepted t turns window comes.0 held none comes.1)
+  by_refused files split r t turns window held none comes tells = absurd comes
   by_refused files usage r t turns window held none comes tells = absurd (comes.0.no_local _ _ _ _ _ _ held.form)
   by_refused files (missing name) r t turns window held none comes tells = absurd (none_missing files name r (local_held words files t turns window held) comes.0 comes.1)
   by_refused files (read_fault name) r t turns window held none comes tells = absurd (r comes.1)
@@ -340,6 +345,7 @@ module _ (words : List (List ℕ)) (reads reads' : ℕ) (o o' : Option (List ℕ
   by_original files version r t turns out due held comes is came tells = absurd (no_version words _ (of_orig _ _ _ _ held.form) came.0)
   by_original files (exit s) r t turns out due held comes is came tells = ends_as (exit s) (status_of due) (expected_there words files t turns out due (exit s) came.0 held comes is came.1) tells
   by_original files accepted r t turns out due held comes is came tells = ends_as accepted (status_of due) (expected_there words files t turns out due accepted came.0 held comes is came.1) tells
+  by_original files split r t turns out due held comes is came tells = absurd came
   by_original files usage r t turns out due held comes is came tells = absurd (came.0.no_orig _ _ _ _ held.form)
   by_original files (missing name) r t turns out due held comes is came tells = absurd (none_missing files name r (orig_held words files t turns held) came.0 came.1)
   by_original files (read_fault name) r t turns out due held comes is came tells = absurd (r came.1)
@@ -359,6 +365,7 @@ module _ (words : List (List ℕ)) (reads reads' : ℕ) (o o' : Option (List ℕ
   by_checked files version r text out due held comes is came tells = absurd (no_version words _ (of_check _ held.form) came.0)
   by_checked files (exit s) r text out due held comes is came tells = ends_as (exit s) (status_of due) (checked_there words files text out due (exit s) came.0 held comes is came.1) tells
   by_checked files accepted r text out due held comes is came tells = ends_as accepted (status_of due) (checked_there words files text out due accepted came.0 held comes is came.1) tells
+  by_checked files split r text out due held comes is came tells = absurd came
   by_checked files usage r text out due held comes is came tells = absurd (came.0.no_check _ held.form)
   by_checked files (missing name) r text out due held comes is came tells = absurd (none_missing files name r (check_held words files text held) came.0 came.1)
   by_checked files (read_fault name) r text out due held comes is came tells = absurd (r came.1)

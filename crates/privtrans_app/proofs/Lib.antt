@@ -1,3 +1,4 @@
+mod CallLemmas
 pub mod CauseLemmas
 pub mod CheckLemmas
 pub mod CompleteLemmas
@@ -19,6 +20,7 @@ pub mod OrigLemmas
 pub mod PairLemmas
 pub mod ReadingLemmas
 pub mod RunLemmas
+mod SplitLemmas
 pub mod StepLemmas
 pub mod TableAndPolicy
 pub mod TaintLemmas

@@ -2,7 +2,7 @@
 use Rattle.std.proofs.Common.{◌≤◌, ◌⊎◌, ℕ, List, Option, Some, None, refl, sym, ◌∙◌, inl, inr, arith}
 use Rattle.pt_base.specs.Faults.{Rose}
 use Rattle.pt_base.specs.Files.{Files, SameFiles, GivesFirst, Lacks}
-use Rattle.privtrans_app.specs.Ending.{Ending, help, version, exit, accepted, usage, missing, read_fault, write_fault, not_built, faults, trapped, spent, memory}
+use Rattle.privtrans_app.specs.Ending.{Ending, help, version, exit, accepted, split, usage, missing, read_fault, write_fault, not_built, faults, trapped, spent, memory}
 use Rattle.privtrans_app.specs.Held.{IsHeld}
 use Rattle.privtrans_app.specs.Reading.{IsReadRefusal}
 
@@ -42,6 +42,7 @@ refusal_since a b name r0 r1 r2 help same x y is = absurd is
 refusal_since a b name r0 r1 r2 version same x y is = absurd is
 refusal_since a b name r0 r1 r2 (exit s) same x y is = absurd is
 refusal_since a b name r0 r1 r2 accepted same x y is = absurd is
+refusal_since a b name r0 r1 r2 split same x y is = absurd is
 refusal_since a b name r0 r1 r2 usage same x y is = absurd is
 refusal_since a b name r0 r1 r2 (missing n) same x y is = (is.0, either is.1)
   where

@@ -6,11 +6,11 @@ use Rattle.pt_base.specs.Files.{Files, Lacks}
 use Rattle.pt_base.specs.Told.{AppendsPart}
 use Rattle.original.specs.Original as original
 use Rattle.flow_check.specs.Checked as flows
-use Rattle.privtrans_app.specs.Words.{IsHelp, IsVersion, IsNoForm}
+use Rattle.privtrans_app.specs.Words.{IsHelp, IsVersion, IsNoForm, IsNoSplit}
 use Rattle.privtrans_app.specs.EarlyInput as early
 use Rattle.privtrans_app.specs.EarlyInput.{IsBuilt, IsNotBuilt}
 use Rattle.privtrans_app.specs.Help.{help_text, version_text}
-use Rattle.privtrans_app.specs.Ending.{Ending, help, version, exit, accepted, usage, missing, read_fault, write_fault, not_built, faults, trapped, spent, memory, status_of, EndsWith}
+use Rattle.privtrans_app.specs.Ending.{Ending, help, version, exit, accepted, split, usage, missing, read_fault, write_fault, not_built, faults, trapped, spent, memory, status_of, EndsWith}
 use Rattle.privtrans_app.specs.Held.{IsReached}
 use Rattle.privtrans_app.specs.CheckRun as check
 use Rattle.privtrans_app.specs.LocalRun as local
@@ -37,13 +37,14 @@ WritesPart words files out out' =
 abbrev pub Runs : List (List ℕ) → Option Files → Option (List ℕ) → Option (List ℕ) → Ending → Type 0
 Runs words files out out' e = (bytes : List ℕ) × Expects words files bytes e × Appends out out' bytes
 
--- When a call comes to each ending, and what out has then: `reads` and `writes` are the counts of
+-- When a call of words that are no split comes to each ending, and what out has then: `reads` and `writes` are the counts of
 -- failed reads and of failed writes to out, before and after.
 abbrev pub ComesTo : List (List ℕ) → Option Files → ℕ → ℕ → Option (List ℕ) → Option (List ℕ) → ℕ → ℕ → Ending → Type 0
 ComesTo words files reads reads' out out' writes writes' help = IsHelp words × Appends out out' help_text
 ComesTo words files reads reads' out out' writes writes' version = IsVersion words × Appends out out' version_text
 ComesTo words files reads reads' out out' writes writes' (exit status) = Runs words files out out' (exit status)
 ComesTo words files reads reads' out out' writes writes' accepted = Runs words files out out' accepted
+ComesTo words files reads reads' out out' writes writes' split = ⊥
 ComesTo words files reads reads' out out' writes writes' usage = IsNoForm words × Keeps out out'
 ComesTo words files reads reads' out out' writes writes' (missing name) =
     IsReached words files name × (Lacks files name ⊎ Rose reads reads') × Keeps out out'
@@ -59,7 +60,7 @@ ComesTo words files reads reads' out out' writes writes' memory = WritesPart wor
 pub record IsByForm (words : List (List ℕ)) (status : ℕ) : Type 0 where
   pub help : IsHelp words → EndsWith status 0
   pub version : IsVersion words → EndsWith status 0
-  pub usage : IsNoForm words → EndsWith status 1
+  pub usage : IsNoForm words → IsNoSplit words → EndsWith status 1
 
 -- The status of a run of files that are held as told: 2 where one isn't. Of both halves, 0 for texts of
 -- which something is expected, and 5 for texts that aren't early; of the original and of a check, that of

@@ -18,6 +18,8 @@ pub data Ending : Type 0 where
   exit : ℤ → Ending
   -- the program that was checked breaks no rule
   accepted : Ending
+  -- the two halves of the program are written
+  split : Ending
   -- the words are of no form
   usage : Ending
   -- no file of this name is held
@@ -43,6 +45,7 @@ status_of help = 0
 status_of version = 0
 status_of (exit status) = 0
 status_of accepted = 0
+status_of split = 0
 status_of usage = 1
 status_of (missing name) = 2
 status_of (read_fault name) = 3
@@ -59,6 +62,7 @@ is_silent help = false
 is_silent version = false
 is_silent (exit status) = false
 is_silent accepted = false
+is_silent split = true
 is_silent usage = true
 is_silent (missing name) = true
 is_silent (read_fault name) = true
@@ -75,6 +79,7 @@ report_of help = []
 report_of version = []
 report_of (exit status) = codes "exit " ++ signed_decimal status ++ codes "\n"
 report_of accepted = codes "accepted\n"
+report_of split = codes "split\n"
 report_of usage = codes "usage\n"
 report_of (missing name) = codes "missing " ++ name ++ codes "\n"
 report_of (read_fault name) = codes "read fault " ++ name ++ codes "\n"

@@ -1,13 +1,14 @@
 -- What a call comes to, as the definitions name it.
-use Rattle.privtrans_app.specs.Ending.{Ending as Seen, help, version, exit, accepted, usage, missing, read_fault, write_fault, not_built, faults, trapped, spent, memory}
+use Rattle.privtrans_app.specs.Ending.{Ending as Seen, help, version, exit, accepted, split, usage, missing, read_fault, write_fault, not_built, faults, trapped, spent, memory}
 use Rattle.privtrans_app.specs.declared.ending.Ending.{Ending}
-use Rattle.privtrans_app.specs.declared.ending.Ending.TheVariants.{Help, Version, Exit, Accepted, Usage, Missing, ReadFault, WriteFault, NotBuilt, Faults, Trapped, Spent, Memory}
+use Rattle.privtrans_app.specs.declared.ending.Ending.TheVariants.{Help, Version, Exit, Accepted, Split, Usage, Missing, ReadFault, WriteFault, NotBuilt, Faults, Trapped, Spent, Memory}
 
 abbrev pub ending_seen : Ending → Seen
 ending_seen Help = help
 ending_seen Version = version
 ending_seen (Exit status) = exit status
 ending_seen Accepted = accepted
+ending_seen Split = split
 ending_seen Usage = usage
 ending_seen (Missing name) = missing name.now
 ending_seen (ReadFault name) = read_fault name.now

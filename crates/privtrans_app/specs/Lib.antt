@@ -1,3 +1,4 @@
+pub mod Calls
 pub mod Causes
 pub mod CheckRun
 pub mod EarlyConditions
@@ -27,4 +28,6 @@ pub mod OrigRun
 pub mod OrigTexts
 pub mod PairView
 pub mod Reading
+pub mod SplitRun
+pub mod SplitWriting
 pub mod Words

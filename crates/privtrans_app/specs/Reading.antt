@@ -2,7 +2,7 @@
 use Rattle.std.specs.Prelude.{◌≡◌, ◌⊎◌, ℕ, List, [], ◌∷◌, ◌++◌, ⊤, Option}
 use Rattle.pt_base.specs.Faults.{Rose}
 use Rattle.pt_base.specs.Files.{Files, Lacks, GivesFirst}
-use Rattle.privtrans_app.specs.Ending.{Ending, help, version, exit, accepted, usage, missing, read_fault, write_fault, not_built, faults, trapped, spent, memory}
+use Rattle.privtrans_app.specs.Ending.{Ending, help, version, exit, accepted, split, usage, missing, read_fault, write_fault, not_built, faults, trapped, spent, memory}
 use Rattle.privtrans_app.specs.Held.{AllHeld}
 use Rattle.privtrans_app.specs.EarlyInput.{Texts}
 use Rattle.original.specs.Original as original
@@ -15,6 +15,7 @@ IsReadRefusal name files reads reads' help = ⊥
 IsReadRefusal name files reads reads' version = ⊥
 IsReadRefusal name files reads reads' (exit status) = ⊥
 IsReadRefusal name files reads reads' accepted = ⊥
+IsReadRefusal name files reads reads' split = ⊥
 IsReadRefusal name files reads reads' usage = ⊥
 IsReadRefusal name files reads reads' (missing n) = (n ≡ name) × (Lacks files name ⊎ Rose reads reads')
 IsReadRefusal name files reads reads' (read_fault n) = (n ≡ name) × Rose reads reads'

@@ -1,5 +1,5 @@
 -- What the words may be.
-use Rattle.std.specs.Prelude.{◌≡◌, ◌⊎◌, ◌≤◌, ℕ, List, [], ◌∷◌, codes}
+use Rattle.std.specs.Prelude.{◌≡◌, ◌≢◌, ◌⊎◌, ◌≤◌, ℕ, List, [], ◌∷◌, codes}
 use Rattle.std.specs.Fmt.{decimal}
 use Rattle.privtrans_app.specs.declared.words.Form.{Form}
 use Rattle.privtrans_app.specs.declared.words.Form.TheVariants.{Help, Version, Local, Orig, Check}
@@ -26,6 +26,16 @@ pub record IsOrig (words : List (List ℕ)) (program host input : List ℕ) (tur
 pub record IsCheck (words : List (List ℕ)) (program : List ℕ) : Type 0 where
   pub are : words ≡ codes "check" ∷ program ∷ []
 
+-- `split` and the names of three files, no two of them equal
+pub record IsSplit (words : List (List ℕ)) (program slave monitor : List ℕ) : Type 0 where
+  pub are : words ≡ codes "split" ∷ program ∷ slave ∷ monitor ∷ []
+  pub slave_apart : program ≢ slave
+  pub monitor_apart : program ≢ monitor
+  pub halves_apart : slave ≢ monitor
+
+abbrev pub IsNoSplit : List (List ℕ) → Type 0
+IsNoSplit words = (program slave monitor : List ℕ) → IsSplit words program slave monitor → ⊥
+
 abbrev pub IsNoLocal : List (List ℕ) → Type 0
 IsNoLocal words = (program host policy input : List ℕ) (turns window : ℕ) → IsLocal words program host policy input turns window → ⊥
 
@@ -39,7 +49,7 @@ IsNoCheck words = (program : List ℕ) → IsCheck words program → ⊥
 abbrev pub IsNoRun : List (List ℕ) → Type 0
 IsNoRun words = IsNoLocal words × IsNoOrig words × IsNoCheck words
 
--- the words are of no form
+-- the words are of no form, but for a split
 pub record IsNoForm (words : List (List ℕ)) : Type 0 where
   pub no_help : IsHelp words → ⊥
   pub no_version : IsVersion words → ⊥

@@ -19,6 +19,8 @@ pub(crate) enum Ending<'a> {
     Exit(i64),
     /// The program that was checked breaks no rule.
     Accepted,
+    /// The two halves of the program are written.
+    Split,
     Usage,
     /// No file of this name is held.
     Missing(&'a str),
@@ -44,6 +46,7 @@ pub(crate) fn status(ending: &Ending<'_>) -> u8
         Ending::Version => 0,
         Ending::Exit(_) => 0,
         Ending::Accepted => 0,
+        Ending::Split => 0,
         Ending::Usage => 1,
         Ending::Missing(_) => 2,
         Ending::ReadFault(_) => 3,
@@ -90,6 +93,7 @@ pub(crate) fn report(alloc: Global, ending: Ending<'_>) -> Result<Vec<u8>, Alloc
             named_line(alloc, b"exit ", buffer.format(status))
         }
         Ending::Accepted => Vec::from_slice(alloc, b"accepted\n"),
+        Ending::Split => Vec::from_slice(alloc, b"split\n"),
         Ending::Usage => Vec::from_slice(alloc, b"usage\n"),
         Ending::Missing(name) => named_line(alloc, b"missing ", name),
         Ending::ReadFault(name) => named_line(alloc, b"read fault ", name),

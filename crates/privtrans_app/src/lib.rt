@@ -23,6 +23,7 @@ mod pair;
 mod reading;
 mod rules;
 mod sending;
+mod split;
 mod taint;
 mod top;
 mod words;

@@ -1,23 +1,26 @@
 // The top call.
 ghost use Rattle.std.specs.Prelude.{◌≡◌, ◌≤◌, true, Some, map};
 ghost use Rattle.pt_base.specs.Files.{Files, SameFiles};
+ghost use Rattle.privtrans_app.specs.Calls as calls;
+ghost use Rattle.privtrans_app.specs.Calls.{IsBySplit};
 ghost use Rattle.privtrans_app.specs.Causes.{ComesTo, IsByForm, IsByFiles};
 ghost use Rattle.privtrans_app.specs.Ending.{Ending, Reports, StaysDown, is_silent};
 ghost use Rattle.privtrans_app.specs.EndingSeen.{ending_seen};
-ghost use Rattle.privtrans_app.specs.Words.{IsNoRun};
+ghost use Rattle.privtrans_app.specs.Words.{IsNoRun, IsNoSplit};
 
 use crate::check::check;
 use crate::ending::{Ending as Came, report, status};
 use crate::help::{HELP, VERSION};
 use crate::local::local;
 use crate::orig::orig;
-use crate::words::{Form, form_of};
+use crate::split::split;
+use crate::words::{Form, form_of, split_of};
 use crate::writing::put;
 use pt_base::{Chooser, Folder, Sink, SinkFault, Spawner, Watch};
 use std::alloc::Global;
 use std::thread::Threads;
 
-// What the words come to. No file is written.
+// What words that are no split come to. No file is written.
 fn came_to<'a, R: Threads + Sync, F: Folder, K: Sink, W: Watch>(
     rt: &R,
     alloc: Global,
@@ -44,6 +47,28 @@ fn came_to<'a, R: Threads + Sync, F: Folder, K: Sink, W: Watch>(
     }
 }
 
+// What the words come to. Files are written by a split alone.
+fn ended<'a, R: Threads + Sync, F: Folder, K: Sink, W: Watch>(
+    rt: &R,
+    alloc: Global,
+    words: &[&'a str],
+    folder: &mut F,
+    out: &mut K,
+    watch: &W,
+) -> Came<'a>
+    ensures ending { calls.ComesTo (map (λ w. w.now) words.now) (F.files folder.old) (F.files folder.new) (F.read_faults folder.old) (F.read_faults folder.new)
+        (F.write_faults folder.old) (F.write_faults folder.new) (K.taken out.old) (K.taken out.new) (K.faults out.old) (K.faults out.new) (ending_seen result) }
+    ensures silent { is_silent (ending_seen result) ≡ true → out.new ≡ out.old }
+    ensures unread { IsNoRun (map (λ w. w.now) words.now) → IsNoSplit (map (λ w. w.now) words.now) → folder.new ≡ folder.old }
+    ensures same { IsNoSplit (map (λ w. w.now) words.now) → SameFiles (F.files folder.old) (F.files folder.new) × (F.write_faults folder.new ≡ F.write_faults folder.old) }
+    ensures later { (F.read_faults folder.old ≤ F.read_faults folder.new) × (F.write_faults folder.old ≤ F.write_faults folder.new) × (K.faults out.old ≤ K.faults out.new) }
+{
+    match split_of(words) {
+        Some(words) => split(rt, alloc, &words, folder, watch),
+        None => came_to(rt, alloc, words, folder, out, watch),
+    }
+}
+
 // Reports an ending, and gives the status of the call.
 fn tell<E: Sink>(alloc: Global, sink: &mut E, ending: Came<'_>) -> u8
     ensures report { Reports (ending_seen ending.entry) (E.taken sink.old) (E.taken sink.new) (E.faults sink.old) (E.faults sink.new) result }
@@ -65,7 +90,7 @@ fn tell<E: Sink>(alloc: Global, sink: &mut E, ending: Came<'_>) -> u8
 
 /// Does what the words ask for, and gives the status that the program ends with: 0 where it was
 /// done, 1 where the words are of no form, 2 where a file is missing, 3 where one can't be read, 4
-/// where out or report can't be written, 5 where the texts have faults or aren't early, 6 where the
+/// where out, the report or a half can't be written, 5 where the texts have faults or aren't early, 6 where the
 /// run broke off, 8 where its budget of turns was spent, 12 for want of memory. Lines in `report`,
 /// mostly one, say how it ended; help and version have none. The watch is told of each function that
 /// the front end works on, and changes nothing.
@@ -83,8 +108,8 @@ pub fn privtrans<R: Threads + Sync, F: Folder, K: Sink, E: Sink, S: Spawner, C: 
     // the call comes to an ending, each only where the words, the files and the outside have its
     // cause, and reports it; where it writes nothing to out, out isn't touched
     ensures answer { (e : Ending)
-        × ComesTo (map (λ w. w.now) words.now) (F.files folder.old) (F.read_faults folder.old) (F.read_faults folder.new)
-        (K.taken out.old) (K.taken out.new) (K.faults out.old) (K.faults out.new) e
+        × calls.ComesTo (map (λ w. w.now) words.now) (F.files folder.old) (F.files folder.new) (F.read_faults folder.old) (F.read_faults folder.new)
+        (F.write_faults folder.old) (F.write_faults folder.new) (K.taken out.old) (K.taken out.new) (K.faults out.old) (K.faults out.new) e
         × Reports e (E.taken report.old) (E.taken report.new) (E.faults report.old) (E.faults report.new) result
         × (is_silent e ≡ true → out.new ≡ out.old) }
     // where no write failed, words that are no run have the status of their form
@@ -97,16 +122,21 @@ pub fn privtrans<R: Threads + Sync, F: Folder, K: Sink, E: Sink, S: Spawner, C: 
         → StaysDown (K.faults out.old) (K.faults out.new)
         → StaysDown (E.faults report.old) (E.faults report.new)
         → IsByFiles (map (λ w. w.now) words.now) files result }
-    // no file is written, and none is read where the words name none to run; the spawner isn't used and
-    // the chooser isn't asked
-    ensures untouched { SameFiles (F.files folder.old) (F.files folder.new)
-        × (F.write_faults folder.new ≡ F.write_faults folder.old)
-        × (IsNoRun (map (λ w. w.now) words.now) → folder.new ≡ folder.old)
+    // so has a split, where no write of the folder failed either
+    ensures split { (files : Files) → F.files folder.old ≡ Some files
+        → StaysDown (F.read_faults folder.old) (F.read_faults folder.new)
+        → StaysDown (F.write_faults folder.old) (F.write_faults folder.new)
+        → StaysDown (E.faults report.old) (E.faults report.new)
+        → IsBySplit (map (λ w. w.now) words.now) files result }
+    // no file is written but by a split, and none is read where the words name none; the spawner isn't used
+    // and the chooser isn't asked
+    ensures untouched { (IsNoSplit (map (λ w. w.now) words.now) → SameFiles (F.files folder.old) (F.files folder.new) × (F.write_faults folder.new ≡ F.write_faults folder.old))
+        × (IsNoRun (map (λ w. w.now) words.now) → IsNoSplit (map (λ w. w.now) words.now) → folder.new ≡ folder.old)
         × (spawner.new ≡ spawner.old) × (chooser.new ≡ chooser.old) }
     // no count of faults falls
-    ensures counts { (F.read_faults folder.old ≤ F.read_faults folder.new)
+    ensures counts { (F.read_faults folder.old ≤ F.read_faults folder.new) × (F.write_faults folder.old ≤ F.write_faults folder.new)
         × (K.faults out.old ≤ K.faults out.new) × (E.faults report.old ≤ E.faults report.new) }
 {
-    let ending = came_to(rt, alloc, words, folder, out, watch);
+    let ending = ended(rt, alloc, words, folder, out, watch);
     tell(alloc, report, ending)
 }

@@ -1,7 +1,7 @@
 // The words of a call, read by hand.
 ghost use Rattle.std.specs.Prelude.{◌≡◌, ◌≤◌, ◌≢◌, ◌∷◌, [], ℕ, MatchOption, IsTrue, false, map, codes};
 ghost use Rattle.std.specs.Fmt.{decimal};
-ghost use Rattle.privtrans_app.specs.Words.{IsForm, IsNoForm};
+ghost use Rattle.privtrans_app.specs.Words.{IsForm, IsNoForm, IsNoSplit, IsSplit};
 
 use itoa::Buffer;
 
@@ -25,7 +25,15 @@ pub(crate) struct OrigWords<'a> {
     pub turns: u32,
 }
 
-/// What the words ask for.
+/// The words of a split: the names of the program and of the files that its halves go to.
+#[derive(Clone, Copy)]
+pub(crate) struct SplitWords<'a> {
+    pub program: &'a str,
+    pub slave: &'a str,
+    pub monitor: &'a str,
+}
+
+/// What the words ask for, but for a split.
 #[derive(Clone, Copy)]
 pub(crate) enum Form<'a> {
     Help,
@@ -58,7 +66,7 @@ fn is_spelling(n: u32, word: &str) -> bool
     buffer.format(n) == word
 }
 
-/// What the words ask for; none where they are of no form.
+/// What the words ask for; none where they are of no form, or a split.
 pub(crate) fn form_of<'a>(words: &[&'a str]) -> Option<Form<'a>>
     ensures { MatchOption result (IsNoForm (map (λ w. w.now) words.now)) (IsForm (map (λ w. w.now) words.now)) }
 {
@@ -202,4 +210,66 @@ fn orig_form<'a>(program: &'a str, host: &'a str, input: &'a str, turns: &str) -
         input,
         turns,
     }))
+}
+
+/// The words of a split; none where they are none.
+pub(crate) fn split_of<'a>(words: &[&'a str]) -> Option<SplitWords<'a>>
+    ensures { MatchOption result (IsNoSplit (map (λ w. w.now) words.now)) (λ s. IsSplit (map (λ w. w.now) words.now) s.program.now s.slave.now s.monitor.now) }
+{
+    match words {
+        [] => None,
+        [word, rest @ ..] => split_after(word, rest),
+    }
+}
+
+// The words of a split, of a word and those after it.
+fn split_after<'a>(word: &str, rest: &[&'a str]) -> Option<SplitWords<'a>>
+    ensures { MatchOption result
+        (IsNoSplit (word.now ∷ map (λ w. w.now) rest.now))
+        (λ s. IsSplit (word.now ∷ map (λ w. w.now) rest.now) s.program.now s.slave.now s.monitor.now) }
+{
+    if word == "split" {
+        split_words(rest)
+    } else {
+        None
+    }
+}
+
+// The words after `split`.
+fn split_words<'a>(words: &[&'a str]) -> Option<SplitWords<'a>>
+    ensures { MatchOption result
+        (IsNoSplit (codes "split" ∷ map (λ w. w.now) words.now))
+        (λ s. IsSplit (codes "split" ∷ map (λ w. w.now) words.now) s.program.now s.slave.now s.monitor.now) }
+{
+    let [program, words @ ..] = words else {
+        return None;
+    };
+    let [slave, words @ ..] = words else {
+        return None;
+    };
+    let [monitor, words @ ..] = words else {
+        return None;
+    };
+    if words.is_empty() {
+        apart(program, slave, monitor)
+    } else {
+        None
+    }
+}
+
+// The names of a split, where no two are equal.
+fn apart<'a>(program: &'a str, slave: &'a str, monitor: &'a str) -> Option<SplitWords<'a>>
+    ensures { MatchOption result
+        (IsNoSplit (codes "split" ∷ program.now ∷ slave.now ∷ monitor.now ∷ []))
+        (λ s. IsSplit (codes "split" ∷ program.now ∷ slave.now ∷ monitor.now ∷ []) s.program.now s.slave.now s.monitor.now) }
+{
+    if program == slave || program == monitor || slave == monitor {
+        None
+    } else {
+        Some(SplitWords {
+            program,
+            slave,
+            monitor,
+        })
+    }
 }

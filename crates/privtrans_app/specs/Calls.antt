@@ -1,0 +1,37 @@
+-- What a call comes to, whatever its words ask for.
+use Rattle.std.specs.Prelude.{◌≡◌, ◌⊎◌, ℕ, List, Option, Some, None}
+use Rattle.std.specs.Io.KnownBytes.{Keeps}
+use Rattle.pt_base.specs.Files.{Files}
+use Rattle.program_split.specs.Split as halves
+use Rattle.program_split.specs.Split.{Outcome}
+use Rattle.privtrans_app.specs.Words.{IsSplit, IsNoSplit}
+use Rattle.privtrans_app.specs.Ending.{Ending, status_of, EndsWith}
+use Rattle.privtrans_app.specs.Causes as causes
+use Rattle.privtrans_app.specs.SplitRun as split
+use Rattle.privtrans_app.specs.SplitRun.{Names, SameBut, ending_of}
+
+-- the words are a split of files of these names
+abbrev pub AreSplit : List (List ℕ) → Names → Type 0
+AreSplit words names = IsSplit words names.program names.slave names.monitor
+
+-- What a split comes to: nothing comes to out, and files but the two halves stay as they are.
+pub record SplitComes (words : List (List ℕ)) (files files' : Option Files) (reads reads' fwrites fwrites' : ℕ) (out out' : Option (List ℕ)) (e : Ending) : Type 0 where
+  pub names : Names
+  pub form : AreSplit words names
+  pub comes : split.ComesTo names files files' reads reads' fwrites fwrites' e
+  pub same : SameBut files files' names
+  pub keeps : Keeps out out'
+
+-- Words that are a split come to what the split does, others to what they ask for. `fwrites` are the counts of
+-- failed writes of the folder, `writes` those of out.
+abbrev pub ComesTo : List (List ℕ) → Option Files → Option Files → ℕ → ℕ → ℕ → ℕ → Option (List ℕ) → Option (List ℕ) → ℕ → ℕ → Ending → Type 0
+ComesTo words files files' reads reads' fwrites fwrites' out out' writes writes' e =
+    (IsNoSplit words × causes.ComesTo words files reads reads' out out' writes writes' e)
+    ⊎ SplitComes words files files' reads reads' fwrites fwrites' out out' e
+
+-- The status of a split of files that are held as told: 2 where the program isn't held, else that of what it
+-- comes to.
+pub record IsBySplit (words : List (List ℕ)) (files : Files) (status : ℕ) : Type 0 where
+  pub missing : (names : Names) → AreSplit words names → files names.program ≡ None → EndsWith status 2
+  pub split : (names : Names) (text : List ℕ) (o : Outcome) → AreSplit words names → files names.program ≡ Some text
+      → halves.ComesTo text o → EndsWith status (status_of (ending_of o))
