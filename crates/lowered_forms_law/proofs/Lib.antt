@@ -1,13 +1,13 @@
-mod Settings
-mod SameTypes
-mod Standing
-mod Steps
-mod Places
-mod Rules
-mod Forms
-mod Parts
-mod Expressions
-mod Leaves
-mod Statements
-mod Lists
-mod Programs
+pub mod Settings
+pub mod SameTypes
+pub mod Standing
+pub mod Steps
+pub mod Places
+pub mod Rules
+pub mod Forms
+pub mod Parts
+pub mod Expressions
+pub mod Leaves
+pub mod Statements
+pub mod Lists
+pub mod Programs

@@ -63,7 +63,7 @@ signature_of_function t n f is = signature_here t n ∙ got (λ (f : FunctionTre
 
 -- ---- a function's code
 
-abbrev setting : TypedTree → FunctionTree → List Temp → Setting
+abbrev pub setting : TypedTree → FunctionTree → List Temp → Setting
 setting t f temps = record {
   names = names_in t f;
   globals = map (λ (g : GlobalTree). (g.id, g.var.ty)) (globals_from 0 t.globals);
@@ -72,7 +72,7 @@ setting t f temps = record {
   called = called_signature false (core_program t);
 }
 
-agrees : (t : TypedTree) (f : FunctionTree) (temps : List Temp) → Facts t → list_all (variable_sound t.structs) f.vars ≡ true → Agrees (setting t f temps)
+pub agrees : (t : TypedTree) (f : FunctionTree) (temps : List Temp) → Facts t → list_all (variable_sound t.structs) f.vars ≡ true → Agrees (setting t f temps)
 agrees t f temps facts sound = record {
   variables = λ x ty h. variable_front f.vars (map variable_of temps) x ty h;
   globals = λ g ty h. found_global g 0 g t.globals (plain g) ∙ h;
@@ -118,7 +118,7 @@ lead_more (p ∷ ps) (x ∷ xs) ys h =
     (lead_more ps xs ys (and_right (same_type (param_type p.kind) x.ty && same_bool p.marked x.marked) (params_lead ps xs) h))
 
 -- the closing brace of main
-main_end_fits : (k : Scope) (s : Signature) → k.result ≡ s.result → (is_main s ≡ true → is_int_result s.result ≡ true) → Fit k false (main_end s)
+pub main_end_fits : (k : Scope) (s : Signature) → k.result ≡ s.result → (is_main s ≡ true → is_int_result s.result ≡ true) → Fit k false (main_end s)
 main_end_fits k s is main = go (is_main s) refl
   where
     both : (o : Option IntType) → is_int_result o ≡ true → both_int (Some i.Int) o ≡ true
@@ -130,13 +130,13 @@ main_end_fits k s is main = go (is_main s) refl
     go false e = tt
 
 -- what is known of a function that has a body
-record Sound (t : TypedTree) (f : FunctionTree) (b : BodyTree) : Type 0 where
-  no_host : not f.signature.host ≡ true
-  lead : params_lead f.signature.params f.vars ≡ true
-  vars : list_all (variable_sound t.structs) f.vars ≡ true
-  body : statement.is_sound (scope_in t f) false false b ≡ true
-  few : body_nodes b ≤ few_nodes
-  main : is_main f.signature ≡ true → is_int_result f.signature.result ≡ true
+pub record Sound (t : TypedTree) (f : FunctionTree) (b : BodyTree) : Type 0 where
+  pub no_host : not f.signature.host ≡ true
+  pub lead : params_lead f.signature.params f.vars ≡ true
+  pub vars : list_all (variable_sound t.structs) f.vars ≡ true
+  pub body : statement.is_sound (scope_in t f) false false b ≡ true
+  pub few : body_nodes b ≤ few_nodes
+  pub main : is_main f.signature ≡ true → is_int_result f.signature.result ≡ true
 
 body_lowers : (t : TypedTree) (f : FunctionTree) (b : BodyTree) → Facts t → Sound t f b → EffectsFit (setting t f (lowered_body t f b).temps) false (lowered_body t f b).stmts (lowered_body t f b).temps
 body_lowers t f b facts s =
@@ -415,7 +415,7 @@ globals_fit structs n (g ∷ gs) h =
 -- ---- functions
 
 -- a function that has a body
-sound_at : (t : TypedTree) (k : ℕ) (f : FunctionTree) (b : BodyTree) → Facts t → slice_get t.functions k ≡ Some f → f.body ≡ Some b → Sound t f b
+pub sound_at : (t : TypedTree) (k : ℕ) (f : FunctionTree) (b : BodyTree) → Facts t → slice_get t.functions k ≡ Some f → f.body ≡ Some b → Sound t f b
 sound_at t k f b facts is body =
     let one = all_at (function_sound t) t.functions k f facts.functions is in
     let first = and_left (nat_le (length f.signature.params) 8 && params_lead f.signature.params f.vars) (list_all (variable_sound t.structs) f.vars && body_sound t f f.body) one in

@@ -1,0 +1,7 @@
+pub mod Said
+pub mod Operators
+pub mod Places
+pub mod Forms
+pub mod Expressions
+pub mod Statements
+pub mod Programs

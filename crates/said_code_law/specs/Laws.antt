@@ -1,0 +1,21 @@
+-- Lowered code can be said in C.
+use Rattle.std.specs.Prelude.{◌≡◌, ℕ, Some, IsTrue, false, slice_get}
+use Rattle.typed_tree.specs.StatementTree.{BodyTree}
+use Rattle.typed_tree.specs.TypedTree as source
+use Rattle.typed_tree.specs.TypedTree.{TypedTree}
+use Rattle.typed_tree.specs.WellFormed.{is_well_formed}
+use Rattle.pt_core.specs.CodeTree.{FunctionTree}
+use Rattle.pt_core.specs.WellFormed.{context_of, called_signature}
+use Rattle.c_lower.specs.Functions.{core_of, core_program}
+use Rattle.half_meaning_law.specs.CForms.{are_said}
+use Rattle.said_code_law.specs.Nulls.{nulls_stand}
+
+-- the code of each function that has a body, in what the whole program's numbers name
+abbrev pub LoweredFunctionsAreSaid : Type 0
+LoweredFunctionsAreSaid = (t : TypedTree) (n : ℕ) (f : source.FunctionTree) (body : BodyTree) → IsTrue (is_well_formed t) → IsTrue (nulls_stand t) → slice_get t.functions n ≡ Some f → f.body ≡ Some body →
+    IsTrue (are_said (context_of (core_program t) (core_of t n f body).vars) (called_signature false (core_program t)) (core_of t n f body).body)
+
+-- each function of the lowered program
+abbrev pub LoweredProgramsAreSaid : Type 0
+LoweredProgramsAreSaid = (t : TypedTree) (k : ℕ) (f : FunctionTree) → IsTrue (is_well_formed t) → IsTrue (nulls_stand t) → slice_get (core_program t).functions k ≡ Some f →
+    IsTrue (are_said (context_of (core_program t) f.vars) (called_signature false (core_program t)) f.body)
