@@ -6,3 +6,4 @@ pub mod Expressions
 pub mod Statements
 pub mod Programs
 pub mod Conversions
+pub mod Chains
