@@ -7,3 +7,4 @@ pub mod Statements
 pub mod Programs
 pub mod Conversions
 pub mod Chains
+pub mod Judged
