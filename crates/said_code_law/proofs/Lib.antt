@@ -8,3 +8,6 @@ pub mod Programs
 pub mod Conversions
 pub mod Chains
 pub mod Judged
+pub mod Judgments
+pub mod Checked
+pub mod CheckedCode
