@@ -30,19 +30,19 @@ types structs vars gs = record { structs = structs; globals = gs; variables = va
 abbrev pub Agree : List (ℕ × VarTy) → List (ℕ × VarTy) → List ℕ → Type 0
 Agree gs hs ns = (n : ℕ) → Contains ns n → lookup (nat_eq n) gs ≡ lookup (nat_eq n) hs
 
-first : (gs hs : List (ℕ × VarTy)) (ms ns : List ℕ) → Agree gs hs (ms ++ ns) → Agree gs hs ms
+pub first : (gs hs : List (ℕ × VarTy)) (ms ns : List ℕ) → Agree gs hs (ms ++ ns) → Agree gs hs ms
 first gs hs ms ns h n c = h n (Contains-append_left ms ns n c)
 
-second : (gs hs : List (ℕ × VarTy)) (ms ns : List ℕ) → Agree gs hs (ms ++ ns) → Agree gs hs ns
+pub second : (gs hs : List (ℕ × VarTy)) (ms ns : List ℕ) → Agree gs hs (ms ++ ns) → Agree gs hs ns
 second gs hs ms ns h n c = h n (Contains-append_right ms ns n c)
 
-both_same : {a b c d : Bool} → a ≡ b → c ≡ d → (a && c) ≡ (b && d)
+pub both_same : {a b c d : Bool} → a ≡ b → c ≡ d → (a && c) ≡ (b && d)
 both_same e f = λ i. e i && f i
 
 -- ---- types
 
 mutual
-  expr_type : (a : ExprTree) (ss : List StructInfo) (vs : List VarTy) (gs hs : List (ℕ × VarTy)) → Agree gs hs (expr_globals a) → type_of (types ss vs gs) a ≡ type_of (types ss vs hs) a
+  pub expr_type : (a : ExprTree) (ss : List StructInfo) (vs : List VarTy) (gs hs : List (ℕ × VarTy)) → Agree gs hs (expr_globals a) → type_of (types ss vs gs) a ≡ type_of (types ss vs hs) a
   expr_type (constant t v) ss vs gs hs h = refl
   expr_type (read p) ss vs gs hs h = object_type p ss vs gs hs h
   expr_type (unary op t a s) ss vs gs hs h = refl
@@ -55,10 +55,10 @@ mutual
   expr_type (compare op a b s) ss vs gs hs h = refl
   expr_type (difference a b s) ss vs gs hs h = refl
 
-  object_type : (p : PlaceTree) (ss : List StructInfo) (vs : List VarTy) (gs hs : List (ℕ × VarTy)) → Agree gs hs (place_globals p) → place_type (types ss vs gs) p ≡ place_type (types ss vs hs) p
+  pub object_type : (p : PlaceTree) (ss : List StructInfo) (vs : List VarTy) (gs hs : List (ℕ × VarTy)) → Agree gs hs (place_globals p) → place_type (types ss vs gs) p ≡ place_type (types ss vs hs) p
   object_type (place root path) ss vs gs hs h = ap (λ (ty : VarTy). path_type ss ty path) (start_type root ss vs gs hs h)
 
-  start_type : (r : RootTree) (ss : List StructInfo) (vs : List VarTy) (gs hs : List (ℕ × VarTy)) → Agree gs hs (root_globals r) → root_type (types ss vs gs) r ≡ root_type (types ss vs hs) r
+  pub start_type : (r : RootTree) (ss : List StructInfo) (vs : List VarTy) (gs hs : List (ℕ × VarTy)) → Agree gs hs (root_globals r) → root_type (types ss vs gs) r ≡ root_type (types ss vs hs) r
   start_type (local v) ss vs gs hs h = refl
   start_type (global g) ss vs gs hs h = ap (λ (o : Option VarTy). unwrap_or o (Int int.Int)) (h g (contains_first g []))
   start_type (deref a s) ss vs gs hs h = ap pointee_type (expr_type a ss vs gs hs h)
@@ -126,10 +126,10 @@ scope ss vs r gs called = record { context = types ss vs gs; result = r; called 
 abbrev pub Call : (ℕ → Option Signature) → (ℕ → Option Signature) → List ℕ → Type 0
 Call c d ns = (n : ℕ) → Contains ns n → c n ≡ d n
 
-calls_first : (c d : ℕ → Option Signature) (ms ns : List ℕ) → Call c d (ms ++ ns) → Call c d ms
+pub calls_first : (c d : ℕ → Option Signature) (ms ns : List ℕ) → Call c d (ms ++ ns) → Call c d ms
 calls_first c d ms ns h n i = h n (Contains-append_left ms ns n i)
 
-calls_second : (c d : ℕ → Option Signature) (ms ns : List ℕ) → Call c d (ms ++ ns) → Call c d ns
+pub calls_second : (c d : ℕ → Option Signature) (ms ns : List ℕ) → Call c d (ms ++ ns) → Call c d ns
 calls_second c d ms ns h n i = h n (Contains-append_right ms ns n i)
 
 mutual

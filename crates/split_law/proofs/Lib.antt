@@ -1,7 +1,7 @@
-mod Accepted
-mod Agreeing
-mod Chosen
-mod LoweredCode
-mod Monitors
-mod Parts
-mod Slaves
+pub mod Accepted
+pub mod Agreeing
+pub mod Chosen
+pub mod LoweredCode
+pub mod Monitors
+pub mod Parts
+pub mod Slaves

@@ -29,19 +29,19 @@ use Rattle.split_law.proofs.Chosen.{chosen_find, chosen_lookup, chosen_rise, eac
 use Rattle.split_law.proofs.LoweredCode.{Keeps, all_hold, all_signatures, body_there, code_found, signature_listed, signature_of_function, sound_at}
 use Rattle.split_law.proofs.Parts.{AllHold, Holds, calls_kept, part, part_sound}
 
-abbrev code : TypedTree → List core.FunctionTree
+abbrev pub code : TypedTree → List core.FunctionTree
 code t = functions_from t 0 t.functions
 
-abbrev needed : TypedTree → Halves → List ℕ
+abbrev pub needed : TypedTree → Halves → List ℕ
 needed t h = called_by (monitor_code h (code t)) ++ h.monitor ++ entry_numbers (monitor_entries t h (code t))
 
-abbrev signed : TypedTree → Halves → ℕ → Bool
+abbrev pub signed : TypedTree → Halves → ℕ → Bool
 signed t h = is_among (needed t h)
 
-abbrev owned : Halves → ℕ → Bool
+abbrev pub owned : Halves → ℕ → Bool
 owned h n = not (is_among h.owned n)
 
-abbrev half : TypedTree → Halves → core.ProgramTree
+abbrev pub half : TypedTree → Halves → core.ProgramTree
 half t h = part (signed t h) (is_among h.monitor) (owned h) (core_program t)
 
 test_there : (test : FunctionTree → Bool) (t : TypedTree) (n : ℕ) (f : FunctionTree) → slice_get t.functions n ≡ Some f → IsTrue (test f) → IsTrue (test_function test t (record { 0 = n }))
@@ -49,7 +49,7 @@ test_there test t n f is h = subst (λ (o : Option FunctionTree). IsTrue (option
 
 -- ---- what the monitor keeps
 
-keeps : (t : TypedTree) (h : Halves) → AreHalves t h → SharesNothing t → Keeps true t (signed t h) (is_among h.monitor) (owned h)
+pub keeps : (t : TypedTree) (h : Halves) → AreHalves t h → SharesNothing t → Keeps true t (signed t h) (is_among h.monitor) (owned h)
 keeps t h are apart = record {
   own = λ n here. among_has (needed t h) n
       (Contains-append_left (called_by (monitor_code h (code t)) ++ h.monitor) (entry_numbers (monitor_entries t h (code t))) n (Contains-append_right (called_by (monitor_code h (code t))) h.monitor n (among_from h.monitor n here)));
@@ -65,7 +65,7 @@ keeps t h are apart = record {
     not_listed n false e deny = refl
 
 -- what holds of a half that has privileged functions holds of it without them
-plainly : (p : core.ProgramTree) (s k o : ℕ → Bool) (fs : List core.FunctionTree) → AllHold true p s k o fs → AllHold false p s k o fs
+pub plainly : (p : core.ProgramTree) (s k o : ℕ → Bool) (fs : List core.FunctionTree) → AllHold true p s k o fs → AllHold false p s k o fs
 plainly p s k o fs h =
     each (λ (f : core.FunctionTree). k f.id ≡ true → Holds true p s k o f) (λ (f : core.FunctionTree). k f.id ≡ true → Holds false p s k o f)
     (λ f holds here. record { own = (holds here).own; names = (holds here).names; called = (holds here).called; calls = λ n g c at host own. (holds here).calls n g c at host (none g.privileged) }) fs h

@@ -55,7 +55,7 @@ entries_chosen owned (g ∷ gs) = go (entries_chosen owned gs) (owned g.id)
     go rest true = ap (λ (xs : List (ℕ × VarTy)). entry g ∷ xs) rest
     go rest false = rest
 
-same_global : (p : ProgramTree) (owned : ℕ → Bool) (n : ℕ) → (is_some (lookup (nat_eq n) (map entry p.globals)) ≡ true → owned n ≡ true) →
+pub same_global : (p : ProgramTree) (owned : ℕ → Bool) (n : ℕ) → (is_some (lookup (nat_eq n) (map entry p.globals)) ≡ true → owned n ≡ true) →
     lookup (nat_eq n) (map entry (filter (λ (g : GlobalTree). owned g.id) p.globals)) ≡ lookup (nat_eq n) (map entry p.globals)
 same_global p owned n h = ap (λ (xs : List (ℕ × VarTy)). lookup (nat_eq n) xs) (entries_chosen owned p.globals) ∙ chosen_lookup owned n (map entry p.globals) h
 
@@ -64,7 +64,7 @@ own_all o None = refl
 own_all None (Some s) = refl
 own_all (Some f) (Some s) = refl
 
-same_called : (p : ProgramTree) (signed kept owned : ℕ → Bool) (n : ℕ) → signed n ≡ true → called_signature false p n ≡ called_signature false (part signed kept owned p) n
+pub same_called : (p : ProgramTree) (signed kept owned : ℕ → Bool) (n : ℕ) → signed n ≡ true → called_signature false p n ≡ called_signature false (part signed kept owned p) n
 same_called p signed kept owned n h =
     own_all (function_at p n) (signature_at p n) ∙ sym (same_signature p signed kept owned n h) ∙ sym (own_all (function_at (part signed kept owned p) n) (signature_at (part signed kept owned p) n))
 

@@ -22,7 +22,7 @@ use Rattle.split_law.specs.Laws.{AreHalves, SlavesAreWellFormed}
 use Rattle.split_law.proofs.LoweredCode.{Keeps, all_code, all_hold, signature_of_function}
 use Rattle.split_law.proofs.Parts.{HasMain, part, part_sound, part_starts}
 
-abbrev signed : TypedTree → Halves → ℕ → Bool
+abbrev pub signed : TypedTree → Halves → ℕ → Bool
 signed t h = is_among (asked h (functions_from t 0 t.functions) ++ h.slave)
 
 plain_there : (t : TypedTree) (n : ℕ) (f : FunctionTree) → slice_get t.functions n ≡ Some f → IsTrue (is_plain f) → IsTrue (test_function is_plain t (record { 0 = n }))
@@ -35,7 +35,7 @@ unmarked false e = refl
 plain : (f : FunctionTree) → is_some f.body ≡ true → (f.signature.privileged && true) ≡ false → IsTrue (is_plain f)
 plain f body own = and_both (is_some f.body) (not f.signature.privileged) body (unmarked f.signature.privileged own)
 
-keeps : (t : TypedTree) (h : Halves) → AreHalves t h → Keeps false t (signed t h) (is_among h.slave) (is_among h.owned)
+pub keeps : (t : TypedTree) (h : Halves) → AreHalves t h → Keeps false t (signed t h) (is_among h.slave) (is_among h.owned)
 keeps t h are = record {
   own = λ n here. among_has (asked h (functions_from t 0 t.functions) ++ h.slave) n (Contains-append_right (asked h (functions_from t 0 t.functions)) h.slave n (among_from h.slave n here));
   called = λ n c. among_has (asked h (functions_from t 0 t.functions) ++ h.slave) n (Contains-append_left (asked h (functions_from t 0 t.functions)) h.slave n c);
