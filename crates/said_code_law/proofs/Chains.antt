@@ -1,33 +1,28 @@
 -- What the type judgments make of chains of operators: one side of a comparison may be null.
-use Rattle.std.proofs.Common.{◌≡◌, ◌∙◌, ℕ, refl, ap, sym, subst, List, [], ◌∷◌, ◌++◌, Bool, true, false, Option, Some, None, length, map, is_some, if◌then◌else◌, arith}
+use Rattle.std.proofs.Common.{◌≡◌, refl, ap, sym, subst, List, [], ◌∷◌, ◌++◌, Bool, true, false, Option, Some, None, map, is_some, if◌then◌else◌, arith}
 use Rattle.std.specs.Prelude.{◌&&◌, ◌||◌, not}
 use Rattle.std.proofs.lemmas.Bool.Decides.{nat_tests}
-use Rattle.std.proofs.Math.Bool.{beq}
 use Rattle.pt_base.specs.declared.span.Span.{Span}
 use Rattle.pt_int.specs.declared.operator.BinOp.{BinOp}
 use Rattle.pt_tree.specs.declared.operator.BinaryOp.{BinaryOp}
-use Rattle.pt_tree.specs.declared.operator.BinaryOp.TheVariants.{LogicalOr, LogicalAnd, BitOr, BitXor, BitAnd, Equal, NotEqual, Less, Greater, LessEqual, GreaterEqual, ShiftLeft, ShiftRight, Add, Subtract, Multiply, Divide, Remainder}
+use Rattle.pt_tree.specs.declared.operator.BinaryOp.TheVariants.{LogicalOr, LogicalAnd}
 use Rattle.type_rules.specs.declared.types.Type.{«Type»}
-use Rattle.type_rules.specs.declared.types.Type.TheVariants.{Bad, Void, Int, Struct, Array, Pointer}
 use Rattle.type_rules.specs.declared.types.Value.{Value}
 use Rattle.type_rules.specs.declared.operators.Rule.{Rule}
 use Rattle.type_rules.specs.declared.operators.Rule.TheVariants as rule
 use Rattle.type_rules.specs.Types.{is_integer, is_bad}
-use Rattle.type_rules.specs.Operators.{judged, takes, arithmetic, shift, sum, difference, pair_rule, binary_rule, rule_type, at_right}
-use Rattle.type_rules.specs.Conversions.{compound_rule, fit_rule, is_wrong}
-use Rattle.typed_tree.specs.declared.link.LinkStep.{LinkStep}
+use Rattle.type_rules.specs.Operators.{judged, takes, binary_rule, rule_type}
 use Rattle.typed_tree.specs.declared.link.LogicalOp.{LogicalOp}
 use Rattle.typed_tree.specs.declared.types.VarTy.{VarTy}
-use Rattle.typed_tree.specs.ExpressionTree.{ExprTree, LinkTree, link, LinkTrees, no_links, link_and, link_trees, operand_trees}
+use Rattle.typed_tree.specs.ExpressionTree.{ExprTree, LinkTree, link, no_links, link_and, link_trees, operand_trees}
 use Rattle.typed_tree.proofs.WellFormedLemmas.{and_left, and_right, and_both}
 use Rattle.check_expressions.specs.Conversions.{as_type}
 use Rattle.check_expressions.specs.Links.{SoFar, integer_op, logical_of, step_of, converted_by, link_rule, begun, link_type, has_none, first_by, linked, operand_of, links_tree, chained}
 use Rattle.check_declarations.specs.declared.fault.FaultKind.TheVariants.{WrongType}
 use Rattle.check_declarations.specs.Faults.{fault_at}
-use Rattle.check_expressions.specs.Operands.{Known, Made, var_type, value_of, value_tree, plain, fine, refused}
+use Rattle.check_expressions.specs.Operands.{Known, Made, var_type, value_tree, plain, fine, refused}
 use Rattle.lowered_forms_law.proofs.SameTypes.{never}
 use Rattle.said_code_law.specs.Nulls.{is_null, is_compared, stands, links_stand, operands_stand, is_placed}
-use Rattle.said_code_law.proofs.Said.{or_so}
 use Rattle.said_code_law.proofs.Conversions.{not_null, placed_of, integer_stands, as_type_placed, is_pointers, converted_stands, KnownStands, faulty_stands, plain_stands, value_stands, value_null}
 
 -- ---- one link

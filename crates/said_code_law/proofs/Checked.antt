@@ -1,6 +1,6 @@
 -- The outermost expressions of judged statements and programs have null only where it may stand.
 use Rattle.std.proofs.Common.{◌≡◌, ℕ, ◌+◌, refl, List, [], ◌∷◌, ◌++◌, Bool, true, false, Option, Some, None, is_some, length}
-use Rattle.std.specs.Prelude.{IsTrue, ◌&&◌, not, slice_get}
+use Rattle.std.specs.Prelude.{◌&&◌, not, slice_get}
 use Rattle.std.specs.List.{list_all}
 use Rattle.pt_base.specs.declared.ids.FnId.{FnId}
 use Rattle.pt_base.specs.declared.span.Span.{Span}
@@ -28,15 +28,15 @@ use Rattle.check_statements.specs.Initialisers.{item, items, initialised}
 use Rattle.check_statements.specs.Declarations as d
 use Rattle.check_statements.specs.Declarations.{known_variable, local_type}
 use Rattle.check_statements.specs.Labels.{Seen, none_seen, labelled}
-use Rattle.check_statements.specs.Statements.{looping, switching, inside, with_structs, for_begun, given_back, switched, checked, checked_else, checked_all, checked_sections, checked_section, checked_block}
+use Rattle.check_statements.specs.Statements.{looping, switching, inside, with_structs, for_begun, given_back, switched, checked, checked_else, checked_all, checked_sections, checked_section}
 use Rattle.check_programs.specs.declared.function_marks.FunctionMarks.{FunctionMarks}
 use Rattle.check_programs.specs.Blocks.{block_in}
 use Rattle.check_programs.specs.Functions.{Head, head_of, earlier, number_in, declared, declared_as, with_definition, with_head, with_start, completed, checked_function}
 use Rattle.check_programs.specs.Globals as g
 use Rattle.check_programs.specs.Progress.{Progress, at_start}
-use Rattle.check_programs.specs.Programs.{checked_item, checked_items, function_name, checked_program}
+use Rattle.check_programs.specs.Programs.{checked_item, checked_items, function_name}
 use Rattle.check_programs.specs.Unions.{function_marks}
-use Rattle.said_code_law.specs.Nulls.{is_placed, nulls_stand}
+use Rattle.said_code_law.specs.Nulls.{is_placed}
 use Rattle.said_code_law.specs.Laws.{CheckedProgramsPlaceNulls}
 use Rattle.said_code_law.proofs.Conversions.{placed_of, as_type_placed, value_stands}
 use Rattle.said_code_law.proofs.Judgments.{judged_stands}

@@ -1,6 +1,5 @@
 -- What the type judgments convert: null comes only where it may stand.
-use Rattle.std.proofs.Common.{◌≡◌, ◌∙◌, refl, ap, sym, subst, List, [], ◌∷◌, ◌++◌, Bool, true, false, Option, Some, None, if◌then◌else◌}
-use Rattle.std.specs.Prelude.{◌&&◌, ◌||◌, not}
+use Rattle.std.proofs.Common.{◌≡◌, refl, sym, List, [], ◌∷◌, ◌++◌, Bool, true, false, if◌then◌else◌}
 use Rattle.pt_base.specs.declared.int_type.IntType.{IntType}
 use Rattle.pt_base.specs.declared.span.Span.{Span}
 use Rattle.pt_base.specs.IntTypes.{promoted}
@@ -11,16 +10,14 @@ use Rattle.type_rules.specs.declared.types.Value.{Value}
 use Rattle.type_rules.specs.declared.operators.Rule.{Rule}
 use Rattle.type_rules.specs.declared.operators.Rule.TheVariants as rule
 use Rattle.type_rules.specs.Types.{is_integer, value_type}
-use Rattle.typed_tree.specs.declared.link.LinkStep.{LinkStep}
-use Rattle.typed_tree.specs.declared.types.VarTy.{VarTy}
 use Rattle.typed_tree.specs.declared.types.VarTy.TheVariants as v
-use Rattle.typed_tree.specs.ExpressionTree.{ExprTree, typed, null, FormTree, RootTree, StepTree, StepTrees, no_steps, step_and, step_trees, field, item, local, global, deref, assigned, PlaceTree, LinkTree, link, link_trees}
+use Rattle.typed_tree.specs.ExpressionTree.{ExprTree, typed, null, StepTree, step_trees, field, item, PlaceTree}
 use Rattle.typed_tree.proofs.WellFormedLemmas.{and_left, and_right, and_both}
 use Rattle.check_expressions.specs.Conversions.{is_of_int, is_of_pointer, converted, to_int, to_pointer, to_null, as_type, as_promoted}
 use Rattle.check_expressions.specs.Links.{converted_by}
-use Rattle.check_expressions.specs.Operands.{Elaboration, value, object, pointed, moved, element, Known, Made, var_type, root_of, steps_of, place_of, read_form, read_object, read_tree, value_tree, value_of, fine, refused, faulty, plain, designated, no_tree}
+use Rattle.check_expressions.specs.Operands.{Elaboration, value, object, pointed, moved, element, Known, root_of, steps_of, place_of, read_form, read_object, read_tree, value_tree, value_of, faulty, plain, designated}
 use Rattle.lowered_forms_law.proofs.SameTypes.{never}
-use Rattle.said_code_law.specs.Nulls.{is_null, is_null_form, stands, form_stands, links_stand, place_stands, root_stands, steps_stand, is_placed}
+use Rattle.said_code_law.specs.Nulls.{is_null, stands, place_stands, root_stands, steps_stand, is_placed}
 use Rattle.said_code_law.proofs.Said.{or_so}
 
 -- ---- null

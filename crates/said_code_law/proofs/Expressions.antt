@@ -6,7 +6,7 @@ use Rattle.pt_base.specs.declared.span.Span.{Span}
 use Rattle.pt_tree.specs.declared.signature.Param.{Param}
 use Rattle.typed_tree.specs.declared.types.StructInfo.{StructInfo}
 use Rattle.typed_tree.specs.declared.types.VarTy.{VarTy}
-use Rattle.typed_tree.specs.declared.types.VarTy.TheVariants.{Array, Pointer}
+use Rattle.typed_tree.specs.declared.types.VarTy.TheVariants.{Array}
 use Rattle.typed_tree.specs.declared.link.LinkStep.{LinkStep}
 use Rattle.typed_tree.specs.declared.link.LogicalOp.{LogicalOp}
 use Rattle.typed_tree.specs.ExpressionTree as src
@@ -22,17 +22,16 @@ use Rattle.source_meaning.specs.Expressions.{type_or_int, type_of}
 use Rattle.c_lower.specs.Lowered.{Temp, Effects, Lowered, LoweredPlace, past, holding, held_if}
 use Rattle.c_lower.specs.Purity.{takes_left_first, is_pure, are_pure}
 use Rattle.c_lower.specs.Expressions.{is_struct, field_in, decayed, decayed_type, element_place, left_place, fixed_if, linked, chain_so_far, started, with_operand, counted_after, assigned, compounded, counted, value_at, value_in, form_in, effects_in, form_effects, links_in, operands_in, arguments_in, object_in, form_object, place_in, root_in, steps_in}
-use Rattle.lowered_forms_law.proofs.Settings.{Agrees, PlaceFits, Setting, Stand, context, source}
+use Rattle.lowered_forms_law.proofs.Settings.{Agrees, Setting, Stand, context, source}
 use Rattle.lowered_forms_law.proofs.SameTypes.{equal_options, never}
 use Rattle.lowered_forms_law.proofs.Standing.{stand_first}
 use Rattle.lowered_forms_law.proofs.Places.{fixed_if_fits}
-use Rattle.lowered_forms_law.proofs.Rules.{AssignRules, CompoundRules, CountRules, array_of, assign_rules, chain_scalar, compound_rules, count_rules, object_of, some_type, value_type}
-use Rattle.lowered_forms_law.proofs.Forms.{Called, called_is}
+use Rattle.lowered_forms_law.proofs.Rules.{array_of, assign_rules, chain_scalar, compound_rules, count_rules, object_of, some_type, value_type}
+use Rattle.lowered_forms_law.proofs.Forms.{called_is}
 use Rattle.lowered_forms_law.proofs.Parts.{array_value, placed}
 use Rattle.lowered_forms_law.proofs.Expressions.{place_lowers}
-use Rattle.said_code_law.specs.Nulls as s
 use Rattle.said_code_law.specs.Nulls.{is_null, is_null_form, is_compared, stands, form_stands, arguments_stand, links_stand, operands_stand, place_stands, root_stands, steps_stand}
-use Rattle.said_code_law.proofs.Said.{AreSaid, LoweredSaid, PlaceSaid, ArgumentsSaid, or_so, or_twice, one_more, hold_said, weaker, said_as, held_said, held_if_said}
+use Rattle.said_code_law.proofs.Said.{AreSaid, LoweredSaid, PlaceSaid, ArgumentsSaid, or_so, or_twice, weaker, said_as, held_said, held_if_said}
 use Rattle.said_code_law.proofs.Places.{field_said, behind_said, element_said, fixed_if_said, value_at_said, checked_said}
 use Rattle.said_code_law.proofs.Forms.{TruthSaid, prefixed_said, converted_said, linked_said, started_said, operand_said, truth_said, choice_said, choice_drops, assigned_said, assigned_type as place_assigned, compounded_said, counted_said, counted_after_said, argued_said, call_drops, called_said}
 

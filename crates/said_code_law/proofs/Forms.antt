@@ -1,7 +1,6 @@
 -- The forms of expressions, each by what is known of its parts.
-use Rattle.std.proofs.Common.{◌≡◌, ◌∙◌, ℕ, ◌+◌, pos, refl, ap, sym, subst, Bool, true, false, Option, None, Some, List, [], ◌∷◌, ◌++◌, if◌then◌else◌}
+use Rattle.std.proofs.Common.{◌≡◌, ◌∙◌, ℕ, ◌+◌, refl, ap, sym, subst, Bool, true, false, Option, None, Some, List, [], ◌∷◌, ◌++◌}
 use Rattle.std.specs.Prelude.{◌&&◌, ◌||◌, not, slice_get}
-use Rattle.pt_base.specs.declared.int_type.IntType.TheVariants as i
 use Rattle.pt_base.specs.declared.span.Span.{Span}
 use Rattle.pt_int.specs.declared.operator.UnOp.{UnOp}
 use Rattle.pt_tree.specs.declared.signature.Param.{Param}
@@ -15,27 +14,26 @@ use Rattle.typed_tree.specs.ExpressionTree.{typed, ExprTrees}
 use Rattle.typed_tree.specs.TypeTests.{same_types, points_to_const, is_scalar}
 use Rattle.typed_tree.specs.TypeRules as r
 use Rattle.typed_tree.specs.TypeRules.{unary_fits, converts}
-use Rattle.typed_tree.specs.WellFormedExpression as f
-use Rattle.typed_tree.specs.WellFormedExpression.{Names, ty_of, param_type, place_const, is_written, is_object}
-use Rattle.typed_tree.proofs.WellFormedLemmas.{and_left, and_right, and_both}
-use Rattle.pt_core.specs.CodeTree.{PlaceTree, ExprTree, StmtTree, constant, read, assign, copy, call, choose, expr_trees, stmt_trees}
-use Rattle.pt_core.specs.Types.{Context, place_type}
+use Rattle.typed_tree.specs.WellFormedExpression.{ty_of, param_type}
+use Rattle.typed_tree.proofs.WellFormedLemmas.{and_both}
+use Rattle.pt_core.specs.CodeTree.{ExprTree, StmtTree, read, assign, copy, call, choose, expr_trees, stmt_trees}
+use Rattle.pt_core.specs.Types.{place_type}
 use Rattle.source_meaning.specs.Expressions as x
 use Rattle.source_meaning.specs.Expressions.{type_or_int}
-use Rattle.c_lower.specs.Lowered.{Temp, Effects, Lowered, LoweredPlace, Arguments, past, temp, hold, holding, held, int, pure}
+use Rattle.c_lower.specs.Lowered.{Temp, Effects, Lowered, LoweredPlace, Arguments, past, temp, hold, holding, int, pure}
 use Rattle.c_lower.specs.Operators.{converted, prefixed, truth_of, stepped, stored, unit_step, unit_of}
-use Rattle.c_lower.specs.Expressions.{is_struct, value_at, linked, started, valued, where_open, with_operand, arm, chosen, copied, given, assigned, compounded, counted, counted_after, argued, call_effects, called}
-use Rattle.lowered_forms_law.proofs.Settings.{Agrees, PlaceFits, Setting, Stand, context}
+use Rattle.c_lower.specs.Expressions.{is_struct, linked, started, valued, where_open, with_operand, arm, chosen, copied, given, assigned, compounded, counted, counted_after, argued, call_effects, called}
+use Rattle.lowered_forms_law.proofs.Settings.{Setting, Stand, context}
 use Rattle.lowered_forms_law.proofs.SameTypes.{equal_options, never}
-use Rattle.lowered_forms_law.proofs.Standing.{got_or, stand_first, stand_rest, stand_three}
+use Rattle.lowered_forms_law.proofs.Standing.{stand_first, stand_rest, stand_three}
 use Rattle.lowered_forms_law.proofs.Steps.{convert_known, step_operands, unary_operand}
 use Rattle.lowered_forms_law.proofs.Rules.{scalar_type, type_is}
-use Rattle.lowered_forms_law.proofs.Forms.{Called, arm_scalar, arm_type}
+use Rattle.lowered_forms_law.proofs.Forms.{Called, arm_type}
 use Rattle.half_meaning_law.specs.CForms as c
 use Rattle.half_meaning_law.specs.CForms.{is_null, stands, place_stands, points_const, is_const, is_stored, are_passed, params_of, is_said}
 use Rattle.said_code_law.specs.Nulls.{is_compared}
-use Rattle.said_code_law.proofs.Said.{AreSaid, Keeps, LoweredSaid, PlaceSaid, ArgumentsSaid, said_both, one_more, trees_said, choose_said, stored_said, assign_said, temp_keeps, hold_said, not_const, weaker, said_as}
-use Rattle.said_code_law.proofs.Operators.{free_keeps, prefixed_stands, prefixed_keeps, truth_stands, truth_free, converted_stands, converted_keeps, stepped_stands, stepped_keeps, stored_stands, compound_keeps, not_compared, unit_compound, unit_stands}
+use Rattle.said_code_law.proofs.Said.{AreSaid, Keeps, LoweredSaid, PlaceSaid, ArgumentsSaid, said_both, one_more, choose_said, stored_said, assign_said, temp_keeps, hold_said, not_const, said_as}
+use Rattle.said_code_law.proofs.Operators.{free_keeps, prefixed_stands, prefixed_keeps, truth_stands, truth_free, converted_stands, converted_keeps, stepped_stands, stepped_keeps, stored_stands, compound_keeps, unit_compound, unit_stands}
 
 -- ---- operators before an operand, and conversions
 

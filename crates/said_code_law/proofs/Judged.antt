@@ -1,7 +1,6 @@
 -- What the type judgments make of operators, names and calls: null stands only where it may.
-use Rattle.std.proofs.Common.{◌≡◌, ◌∙◌, ℕ, pos, refl, ap, sym, subst, List, [], ◌∷◌, ◌++◌, Bool, true, false, Option, Some, None, length, is_some, if◌then◌else◌}
+use Rattle.std.proofs.Common.{◌≡◌, refl, sym, subst, List, [], Bool, true, false, Option, Some, None, length, is_some, if◌then◌else◌}
 use Rattle.std.specs.Prelude.{◌&&◌, ◌||◌, not, nat_eq}
-use Rattle.std.specs.Ordering.{int_eq}
 use Rattle.pt_base.specs.declared.ids.FnId.{FnId}
 use Rattle.pt_base.specs.declared.span.Span.{Span}
 use Rattle.pt_int.specs.declared.operator.UnOp.{UnOp}
@@ -27,35 +26,31 @@ use Rattle.type_rules.specs.declared.conversions.ChoiceRule.{ChoiceRule}
 use Rattle.type_rules.specs.declared.conversions.ChoiceRule.TheVariants as arms
 use Rattle.type_rules.specs.declared.conversions.ConditionRule.{ConditionRule}
 use Rattle.type_rules.specs.declared.conversions.ConditionRule.TheVariants as condition
-use Rattle.type_rules.specs.Types.{is_integer, is_bad, is_same_elem}
-use Rattle.type_rules.specs.Operators.{judged, takes, arithmetic, shift, sum, difference, pair_rule, binary_rule, rule_type, index_rule, step_rule, deref_rule, at_right}
+use Rattle.type_rules.specs.Types.{is_bad, is_same_elem}
+use Rattle.type_rules.specs.Operators.{judged, takes, arithmetic, shift, sum, difference, binary_rule, rule_type, index_rule, step_rule, deref_rule, at_right}
 use Rattle.type_rules.specs.Conversions.{compound_rule, fit_rule, is_wrong, choice_rule, condition_rule, cast_rule}
 use Rattle.typed_tree.specs.declared.link.LinkStep.{LinkStep}
 use Rattle.typed_tree.specs.declared.link.LinkStep.TheVariants as link_step
-use Rattle.typed_tree.specs.ExpressionTree.{ExprTree, typed, ExprTrees, no_exprs, expr_and, expr_trees, RootTree, deref, StepTree, step_trees, field, item}
-use Rattle.typed_tree.proofs.WellFormedLemmas.{and_left, and_right, and_both}
+use Rattle.typed_tree.specs.ExpressionTree.{ExprTree, typed, expr_trees, RootTree, deref, StepTree, step_trees, field}
+use Rattle.typed_tree.proofs.WellFormedLemmas.{and_both}
 use Rattle.check_declarations.specs.declared.fault.FaultKind.{FaultKind}
-use Rattle.check_declarations.specs.declared.fault.TypeFault.{TypeFault}
 use Rattle.check_declarations.specs.declared.structs.FoundField.{FoundField}
 use Rattle.check_declarations.specs.Structs.{Structs, field_named}
 use Rattle.check_expressions.specs.declared.meaning.Callable.{Callable}
 use Rattle.check_expressions.specs.declared.meaning.Meaning.{Meaning}
 use Rattle.check_expressions.specs.declared.meaning.Meaning.TheVariants.{Function, Global, Local}
-use Rattle.check_expressions.specs.Assignments as a
 use Rattle.check_expressions.specs.Assignments.{misfits, stored_tree, stored_by, stored, is_compounding, operator_rule, step_rule_of, is_refused, object_value, compound_tree, compounded_by, compounded, assigned}
 use Rattle.check_expressions.specs.Choices.{Placed, value_at, tree_at, arm_tree, choice_tree, chosen_by, chosen_when, chosen}
-use Rattle.check_expressions.specs.Conversions.{as_type}
 use Rattle.check_expressions.specs.Environment.{Env, find, function_at}
 use Rattle.check_expressions.specs.Expressions.{meant, named_as, named, literal}
-use Rattle.check_expressions.specs.Links.{converted_by, integer_op, step_of}
-use Rattle.check_expressions.specs.Operands.{Elaboration, value, object, pointed, moved, element, Known, Made, var_type, root_of, steps_of, place_of, value_tree, value_of, fine, refused, faulty, plain, designated}
-use Rattle.check_expressions.specs.Postfixes.{moved_tree, element_tree, index_tree, indexed_by, indexed, pointee, part_by, dotted_as, dotted, arrow_as, arrow, argument_tree, call_tree, call_of, called_function, called_other, called, is_main}
+use Rattle.check_expressions.specs.Operands.{Elaboration, value, object, pointed, moved, element, Known, Made, root_of, steps_of, value_tree, value_of, faulty, plain}
+use Rattle.check_expressions.specs.Postfixes.{moved_tree, element_tree, index_tree, indexed_by, indexed, part_by, dotted_as, dotted, arrow_as, arrow, argument_tree, call_tree, call_of, called_function, called_other, called, is_main}
 use Rattle.check_expressions.specs.Prefixes as p
 use Rattle.check_expressions.specs.Prefixes.{unary_operand, unary_rule_of, computed_by, computed, dereferenced_by, dereferenced, address_tree, address_of, address_of_pointer, addressed_as, addressed, stepped_by, stepped, prefixed, cast_target, cast_by, cast_to}
 use Rattle.check_expressions.specs.Targets.{target_fault}
 use Rattle.lowered_forms_law.proofs.SameTypes.{never}
-use Rattle.said_code_law.specs.Nulls.{is_null, is_compared, stands, arguments_stand, links_stand, root_stands, steps_stand, is_placed}
-use Rattle.said_code_law.proofs.Conversions.{Stands, KnownStands, not_null, placed_of, as_type_stands, as_type_placed, is_pointers, converted_stands, faulty_stands, plain_stands, designated_stands, root_of_stands, steps_of_stand, steps_more, place_of_stands, value_stands, value_null}
+use Rattle.said_code_law.specs.Nulls.{is_null, is_compared, stands, arguments_stand, root_stands, steps_stand, is_placed}
+use Rattle.said_code_law.proofs.Conversions.{Stands, KnownStands, not_null, placed_of, as_type_stands, as_type_placed, is_pointers, converted_stands, faulty_stands, plain_stands, root_of_stands, steps_of_stand, steps_more, place_of_stands, value_stands}
 
 -- ---- names and constants
 

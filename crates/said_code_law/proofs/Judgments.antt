@@ -1,6 +1,6 @@
 -- Each expression that is judged has null only where it may stand: one case for each form.
-use Rattle.std.proofs.Common.{◌≡◌, ℕ, ◌+◌, refl, List, [], ◌∷◌, ◌++◌, Bool, true, false, Option, Some, None, is_some}
-use Rattle.std.specs.Prelude.{◌&&◌, slice_get}
+use Rattle.std.proofs.Common.{◌≡◌, ℕ, ◌+◌, refl, List, Bool, true, false, Option, Some, None, is_some}
+use Rattle.std.specs.Prelude.{slice_get}
 use Rattle.pt_base.specs.declared.ids.FnId.{FnId}
 use Rattle.pt_base.specs.declared.span.Span.{Span}
 use Rattle.pt_tree.specs.ExpressionTree as e

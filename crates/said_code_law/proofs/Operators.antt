@@ -2,12 +2,10 @@
 use Rattle.std.proofs.Common.{◌≡◌, ◌∙◌, refl, sym, subst, Bool, true, false, Option, None, Some, if◌then◌else◌}
 use Rattle.std.specs.Prelude.{◌&&◌, ◌||◌, not, is_some}
 use Rattle.pt_base.specs.declared.int_type.IntType.{IntType}
-use Rattle.pt_base.specs.declared.int_type.IntType.TheVariants as i
 use Rattle.pt_base.specs.declared.span.Span.{Span}
-use Rattle.pt_base.specs.IntTypes.{promoted, usual}
+use Rattle.pt_base.specs.IntTypes.{promoted}
 use Rattle.pt_int.specs.declared.operator.UnOp.{UnOp}
 use Rattle.pt_int.specs.declared.operator.UnOp.TheVariants.{Minus, Plus, Flip, Not}
-use Rattle.pt_int.specs.declared.operator.BinOp.TheVariants.{Add, Sub}
 use Rattle.typed_tree.specs.declared.types.VarTy.{VarTy}
 use Rattle.typed_tree.specs.declared.types.VarTy.TheVariants.{Int, Struct, Array, Pointer}
 use Rattle.typed_tree.specs.declared.link.LinkStep.{LinkStep}
@@ -15,7 +13,7 @@ use Rattle.typed_tree.specs.declared.link.LinkStep.TheVariants.{Arithmetic, Shif
 use Rattle.typed_tree.specs.TypeTests.{same_int, integer_of, pointee_of, points_to_const, is_scalar, same_elem}
 use Rattle.typed_tree.specs.TypeRules as r
 use Rattle.typed_tree.specs.TypeRules.{unary_fits, converts}
-use Rattle.typed_tree.proofs.WellFormedLemmas.{and_left, and_right, and_both}
+use Rattle.typed_tree.proofs.WellFormedLemmas.{and_right, and_both}
 use Rattle.pt_core.specs.CodeTree.{ExprTree, convert}
 use Rattle.pt_core.specs.Types.{Context}
 use Rattle.c_lower.specs.Operators.{as_int, converted, prefixed, truth_of, promoted_of, stepped, stored, unit_step, unit_of}

@@ -1,23 +1,19 @@
 -- Places, lowered: what is known of their parts is known of them.
-use Rattle.std.proofs.Common.{◌≡◌, ◌∙◌, ℕ, ◌+◌, refl, ap, sym, subst, Bool, true, false, Option, None, Some, List, [], ◌∷◌, ◌++◌, if◌then◌else◌}
-use Rattle.std.specs.Prelude.{◌&&◌, ◌||◌, not, slice_get}
-use Rattle.pt_base.specs.declared.int_type.IntType.TheVariants as i
+use Rattle.std.proofs.Common.{◌≡◌, ◌∙◌, ℕ, refl, sym, subst, Bool, true, false, Option, None, Some, List, [], ◌∷◌, ◌++◌}
 use Rattle.pt_base.specs.declared.span.Span.{Span}
 use Rattle.typed_tree.specs.declared.types.VarTy.{VarTy}
-use Rattle.typed_tree.specs.declared.types.VarTy.TheVariants.{Int}
 use Rattle.typed_tree.specs.ExpressionTree as src
 use Rattle.typed_tree.specs.TypeTests.{points_to_const}
-use Rattle.typed_tree.proofs.WellFormedLemmas.{and_left, and_right, and_both}
-use Rattle.pt_core.specs.CodeTree.{local, global, deref, PlaceTree, place, ExprTree, read, check, decay, StmtTree}
+use Rattle.typed_tree.proofs.WellFormedLemmas.{and_both}
+use Rattle.pt_core.specs.CodeTree.{local, global, deref, PlaceTree, place, ExprTree, check, decay}
 use Rattle.pt_core.specs.Types.{Context, place_type}
 use Rattle.source_meaning.specs.Expressions as x
-use Rattle.c_lower.specs.Lowered.{Temp, Effects, Lowered, LoweredPlace, past, temp, hold, holding, held, held_if}
-use Rattle.c_lower.specs.Expressions.{Scope, place_with_field, field_in, behind, decayed_type, element_place, fixed_root, fixed_through, fixed_if, named_place, value_at, checked}
+use Rattle.c_lower.specs.Lowered.{Temp, Lowered, LoweredPlace, past, temp, hold, holding, held_if}
+use Rattle.c_lower.specs.Expressions.{Scope, place_with_field, field_in, behind, decayed_type, element_place, fixed_root, fixed_through, fixed_if, value_at, checked}
 use Rattle.lowered_forms_law.proofs.Settings.{Setting, Stand, context}
-use Rattle.lowered_forms_law.proofs.SameTypes.{never}
-use Rattle.lowered_forms_law.proofs.Standing.{got_or, stand_first, stand_rest}
-use Rattle.half_meaning_law.specs.CForms.{is_null, stands, place_stands, points_const, is_const, is_said}
-use Rattle.said_code_law.proofs.Said.{AreSaid, Keeps, LoweredSaid, Through, PlaceSaid, said_both, one_more, temp_keeps, hold_said, held_if_said}
+use Rattle.lowered_forms_law.proofs.Standing.{stand_first, stand_rest}
+use Rattle.half_meaning_law.specs.CForms.{stands, place_stands, is_const}
+use Rattle.said_code_law.proofs.Said.{AreSaid, LoweredSaid, Through, PlaceSaid, said_both, one_more, temp_keeps, hold_said, held_if_said}
 
 -- ---- fields
 

@@ -1,24 +1,21 @@
 -- Whole programs, lowered, can be said: function by function.
-use Rattle.std.proofs.Common.{◌≡◌, ◌∙◌, ℕ, pos, zero, suc, ◌+◌, refl, ap, sym, subst, arith, Bool, true, false, Option, None, Some, List, [], ◌∷◌, ◌++◌, length, map, if◌then◌else◌}
-use Rattle.std.specs.Prelude.{IsTrue, ◌&&◌, not, slice_get}
+use Rattle.std.proofs.Common.{◌≡◌, ℕ, pos, zero, suc, ◌+◌, refl, subst, arith, Bool, true, false, Option, None, Some, List, [], ◌∷◌, ◌++◌, length, if◌then◌else◌}
+use Rattle.std.specs.Prelude.{IsTrue, slice_get}
 use Rattle.pt_base.specs.declared.int_type.IntType.TheVariants as i
 use Rattle.pt_tree.specs.declared.signature.Signature.{Signature}
 use Rattle.typed_tree.specs.StatementTree.{BodyTree}
 use Rattle.typed_tree.specs.TypedTree as source
 use Rattle.typed_tree.specs.TypedTree.{TypedTree}
 use Rattle.typed_tree.specs.WellFormedExpression.{is_main}
-use Rattle.typed_tree.specs.WellFormed.{is_well_formed}
 use Rattle.typed_tree.proofs.WellFormedLemmas.{facts_of}
-use Rattle.pt_core.specs.CodeTree.{FunctionTree, StmtTree, constant, give_back}
+use Rattle.pt_core.specs.CodeTree.{FunctionTree, constant, give_back}
 use Rattle.pt_core.specs.WellFormed.{context_of, called_signature}
 use Rattle.c_lower.specs.Functions.{core_of, core_program, lowered_body, main_end, code_if, functions_from}
 use Rattle.c_lower.specs.Statements.{nowhere}
 use Rattle.lowered_forms_law.proofs.Settings.{Setting}
-use Rattle.lowered_forms_law.proofs.SameTypes.{never}
 use Rattle.lowered_forms_law.proofs.Lists.{stand_behind}
 use Rattle.lowered_forms_law.proofs.Programs.{setting, agrees, sound_at}
 use Rattle.half_meaning_law.specs.CForms.{are_said}
-use Rattle.said_code_law.specs.Nulls.{nulls_stand}
 use Rattle.said_code_law.specs.Laws.{LoweredFunctionsAreSaid, LoweredProgramsAreSaid}
 use Rattle.said_code_law.proofs.Said.{AreSaid, said_both, trees_said}
 use Rattle.said_code_law.proofs.Statements.{statement_said}

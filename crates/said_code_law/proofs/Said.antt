@@ -1,16 +1,16 @@
 -- What is said of lowered code: each statement can be said in C, and where a value points to const its type
 -- says so.
-use Rattle.std.proofs.Common.{◌≡◌, ◌∙◌, ℕ, suc, ◌+◌, refl, ap, sym, subst, Bool, true, false, Option, None, Some, List, [], ◌∷◌, ◌++◌}
+use Rattle.std.proofs.Common.{◌≡◌, ◌∙◌, ℕ, refl, ap, sym, subst, Bool, true, false, Option, None, Some, List, [], ◌∷◌, ◌++◌}
 use Rattle.std.specs.Prelude.{◌&&◌, ◌||◌, not, slice_get}
 use Rattle.pt_base.specs.declared.int_type.IntType.TheVariants as i
 use Rattle.pt_tree.specs.declared.signature.Param.{Param}
 use Rattle.typed_tree.specs.declared.types.VarTy.{VarTy}
 use Rattle.typed_tree.specs.declared.types.VarTy.TheVariants.{Int, Struct, Array, Pointer}
 use Rattle.typed_tree.specs.TypeTests.{points_to_const}
-use Rattle.typed_tree.proofs.WellFormedLemmas.{and_left, and_right, and_both}
-use Rattle.pt_core.specs.CodeTree.{PlaceTree, ExprTree, StmtTree, assign, read, choose, expr_trees, stmt_trees}
-use Rattle.pt_core.specs.Types.{Context, type_of, type_at, place_type}
-use Rattle.c_lower.specs.Lowered.{Temp, Effects, Lowered, LoweredPlace, Arguments, past, temp, temp_place, hold, held, held_if}
+use Rattle.typed_tree.proofs.WellFormedLemmas.{and_both}
+use Rattle.pt_core.specs.CodeTree.{PlaceTree, ExprTree, StmtTree, assign, choose, expr_trees, stmt_trees}
+use Rattle.pt_core.specs.Types.{Context, type_of, place_type}
+use Rattle.c_lower.specs.Lowered.{Temp, Lowered, LoweredPlace, Arguments, past, temp, temp_place, hold, held, held_if}
 use Rattle.lowered_forms_law.proofs.Settings.{Setting, Stand, context}
 use Rattle.lowered_forms_law.proofs.SameTypes.{never}
 use Rattle.lowered_forms_law.proofs.Standing.{got_or, stand_first, stand_rest}

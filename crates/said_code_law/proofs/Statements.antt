@@ -1,6 +1,6 @@
 -- Statements, lowered, can be said: by induction on the tree.
-use Rattle.std.proofs.Common.{◌≡◌, ◌∙◌, ℕ, zero, suc, ◌+◌, pos, refl, ap, sym, subst, arith, Bool, true, false, Option, None, Some, List, [], ◌∷◌, ◌++◌, length, map, if◌then◌else◌}
-use Rattle.std.specs.Prelude.{◌&&◌, ◌||◌, not, slice_get, get_or, option_map}
+use Rattle.std.proofs.Common.{◌≡◌, ◌∙◌, ℕ, zero, suc, ◌+◌, refl, sym, subst, arith, Bool, true, false, Option, None, Some, List, [], ◌∷◌, ◌++◌, length, map, if◌then◌else◌}
+use Rattle.std.specs.Prelude.{◌&&◌, slice_get, get_or, option_map}
 use Rattle.std.specs.List.{list_all}
 use Rattle.pt_base.specs.declared.int_type.IntType.{IntType}
 use Rattle.pt_base.specs.declared.int_type.IntType.TheVariants as i
@@ -21,12 +21,12 @@ use Rattle.typed_tree.specs.ExpressionTree as t
 use Rattle.typed_tree.specs.ExpressionTree.{typed}
 use Rattle.typed_tree.specs.StatementTree as b
 use Rattle.typed_tree.specs.StatementTree.{BodyTree, ElseTree, no_else, otherwise, BodyTrees, no_bodies, body_and, SectionTree, section, SectionTrees, no_sections, section_and}
-use Rattle.typed_tree.specs.TypeTests.{both_int, same_types, integer_of, points_to_const, is_scalar, is_value}
+use Rattle.typed_tree.specs.TypeTests.{both_int, same_types, integer_of, is_scalar, is_value}
 use Rattle.typed_tree.specs.WellFormedExpression.{Names, ty_of, is_typed}
 use Rattle.typed_tree.specs.WellFormedStatement as s
 use Rattle.typed_tree.specs.WellFormedStatement.{any_type, promotes_to, option_fits, item_types, items_fit, init_fits, declarator_fits, declaration_fits, for_init_fits, labels_of, labels_fit, is_sound, else_sound, all_sound, sections_sound}
 use Rattle.typed_tree.specs.WellFormed.{is_variable_type, is_small}
-use Rattle.typed_tree.proofs.WellFormedLemmas.{and_left, and_right, and_both}
+use Rattle.typed_tree.proofs.WellFormedLemmas.{and_left, and_right}
 use Rattle.pt_core.specs.CodeTree.{PlaceTree, place, local, constant, binary, clear, assign, choose, repeat, break_out, give_back, stmt_trees}
 use Rattle.pt_core.specs.Types.{place_type, type_at}
 use Rattle.source_meaning.specs.Expressions as x
@@ -35,17 +35,15 @@ use Rattle.c_lower.specs.Lowered.{Temp, Effects, Lowered, past, temp, hold, int,
 use Rattle.c_lower.specs.Operators.{as_int}
 use Rattle.c_lower.specs.Expressions.{is_struct, value_in, effects_in, object_in, copied, given, place_effects}
 use Rattle.c_lower.specs.Leaves.{Step, to_field, to_element, Ways, ways_of, stepped_to, at_end_of, leaf_places}
-use Rattle.c_lower.specs.Statements.{Code, outermost, Onward, nowhere, to_head, past_flag, number, onwards, inside, behind_switch, variable_place, items_in, value_stored, initialised, declared, tested, stepped, looped, on_the_way_back, first_told, case_of, cases_from, otherwise_of, section_by, switch_temps, switched, chosen, returned, begun, statement_in, otherwise_in, all_in, sections_in}
+use Rattle.c_lower.specs.Statements.{outermost, Onward, nowhere, to_head, past_flag, number, onwards, inside, behind_switch, variable_place, items_in, value_stored, initialised, declared, tested, stepped, looped, on_the_way_back, first_told, case_of, cases_from, otherwise_of, section_by, switch_temps, switched, chosen, returned, begun, statement_in, otherwise_in, all_in, sections_in}
 use Rattle.lowered_forms_law.proofs.Settings.{Agrees, Setting, Stand, context, source}
 use Rattle.lowered_forms_law.proofs.SameTypes.{equal_options, never}
 use Rattle.lowered_forms_law.proofs.Standing.{got, got_or, stand_first, stand_rest, stand_three}
 use Rattle.lowered_forms_law.proofs.Places.{variable_fits, variable_known}
-use Rattle.lowered_forms_law.proofs.Rules.{type_is}
 use Rattle.lowered_forms_law.proofs.Leaves.{PlacesFit, leaves_fit}
 use Rattle.lowered_forms_law.proofs.Statements.{tests, code, found}
-use Rattle.half_meaning_law.specs.CForms as c
-use Rattle.half_meaning_law.specs.CForms.{place_stands, points_const, is_const, is_said}
-use Rattle.said_code_law.specs.Nulls.{is_null, stands, is_placed}
+use Rattle.half_meaning_law.specs.CForms.{place_stands, is_const, is_said}
+use Rattle.said_code_law.specs.Nulls.{stands, is_placed}
 use Rattle.said_code_law.proofs.Said.{AreSaid, Keeps, LoweredSaid, PlaceSaid, said_both, one_more, trees_said, choose_said, assign_said, hold_said, said_as}
 use Rattle.said_code_law.proofs.Operators.{as_int_stands, as_int_free, free_keeps, int_free}
 use Rattle.said_code_law.proofs.Forms.{copied_said, given_said}

@@ -1,22 +1,20 @@
 -- What can be said of a whole program's code can be said of a half's, which has all that its code names.
 use Rattle.std.proofs.Common.{◌≡◌, ◌∙◌, ℕ, zero, suc, refl, ap, sym, subst, arith, Bool, true, false, not, Option, Some, None, List, [], ◌∷◌, length, map, if◌then◌else◌, take}
-use Rattle.std.specs.Prelude.{IsTrue, ◌&&◌, nat_eq, slice_get, option_map}
+use Rattle.std.specs.Prelude.{IsTrue, nat_eq, slice_get, option_map}
 use Rattle.std.specs.List.{filter, AllByRecursion}
 use Rattle.std.proofs.Math.Seq.{take-length}
 use Rattle.std.proofs.lemmas.Bool.Decides.{nat_tests}
 use Rattle.pt_tree.specs.declared.signature.Signature.{Signature}
-use Rattle.typed_tree.specs.declared.types.VarTy.{VarTy}
 use Rattle.typed_tree.specs.declared.variable.Var.{Var}
-use Rattle.typed_tree.specs.StatementTree.{BodyTree}
 use Rattle.typed_tree.specs.TypedTree.{TypedTree}
 use Rattle.typed_tree.specs.WellFormed.{is_well_formed}
-use Rattle.typed_tree.proofs.WellFormedLemmas.{and_left, and_right, and_both, facts_of}
+use Rattle.typed_tree.proofs.WellFormedLemmas.{and_left, and_right, facts_of}
 use Rattle.pt_core.specs.CodeTree.{FunctionTree, ProgramTree, GlobalTree}
 use Rattle.pt_core.specs.WellFormed as well
 use Rattle.pt_core.specs.WellFormed.{signature_at, function_at, with_own, called_signature, context_of, function_by, has_main, is_sound}
 use Rattle.pt_core.specs.WellFormedStatement.{callees_of}
 use Rattle.pt_core.proofs.WellFormedLemmas.{function_is_sound}
-use Rattle.c_lower.specs.Functions.{core_of, core_program, functions_from}
+use Rattle.c_lower.specs.Functions.{core_program, functions_from}
 use Rattle.lowered_forms_law.proofs.Programs.{programs_are_well_formed}
 use Rattle.lowered_names_law.specs.Named.{globals_of}
 use Rattle.lowered_names_law.proofs.Bodies.{lowered_names}

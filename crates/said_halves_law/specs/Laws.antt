@@ -1,11 +1,15 @@
 -- The code of both halves can be said in C.
-use Rattle.std.specs.Prelude.{◌≡◌, ℕ, Bool, true, false, Some, IsTrue, slice_get}
+use Rattle.std.specs.Prelude.{◌≡◌, ℕ, List, Bool, true, false, Some, IsTrue, slice_get}
+use Rattle.pt_tree.specs.ProgramTree.{ItemTree}
 use Rattle.typed_tree.specs.TypedTree.{TypedTree}
 use Rattle.typed_tree.specs.WellFormed.{is_well_formed}
+use Rattle.check_programs.specs.Programs.{checked_program}
+use Rattle.flow_rules.specs.declared.accepted.Accepted.{Accepted}
+use Rattle.flow_rules.specs.Faults.{IsAccepted}
 use Rattle.pt_core.specs.CodeTree.{FunctionTree, ProgramTree}
 use Rattle.pt_core.specs.WellFormed.{context_of, called_signature, monitor_program, slave_program}
 use Rattle.c_lower.specs.Functions.{functions_from}
-use Rattle.splitter.specs.Halves.{Halves, monitor_of, slave_of}
+use Rattle.splitter.specs.Halves.{Halves, halves_of, monitor_of, slave_of}
 use Rattle.split_law.specs.Laws.{AreHalves, SharesNothing}
 use Rattle.half_meaning_law.specs.CForms.{are_said}
 use Rattle.said_code_law.specs.Nulls.{nulls_stand}
@@ -19,3 +23,9 @@ SlavesAreSaid = (t : TypedTree) (h : Halves) → IsTrue (is_well_formed t) → I
 
 abbrev pub MonitorsAreSaid : Type 0
 MonitorsAreSaid = (t : TypedTree) (h : Halves) → IsTrue (is_well_formed t) → IsTrue (nulls_stand t) → AreHalves t h → SharesNothing t → CodeIsSaid true (monitor_program (monitor_of t h (functions_from t 0 t.functions)))
+
+-- both halves of a checked program that breaks no rule
+abbrev pub AcceptedHalvesAreSaid : Type 0
+AcceptedHalvesAreSaid = (items : List ItemTree) (a : Accepted) → let t : TypedTree = (checked_program items).tree in
+    IsTrue (is_well_formed t) → IsAccepted t a →
+    CodeIsSaid false (slave_program (slave_of t (halves_of a.sides) (functions_from t 0 t.functions))) × CodeIsSaid true (monitor_program (monitor_of t (halves_of a.sides) (functions_from t 0 t.functions)))
