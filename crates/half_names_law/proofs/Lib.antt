@@ -1,0 +1,13 @@
+pub mod Tables
+pub mod Specifiers
+pub mod Objects
+pub mod Structs
+pub mod Sizes
+pub mod Table
+pub mod Parameters
+pub mod Heads
+pub mod TextNames
+pub mod Prototypes
+pub mod Globals
+pub mod Locals
+pub mod Definitions

@@ -1,0 +1,2 @@
+pub mod Declarable
+pub mod Standing
