@@ -11,3 +11,4 @@ pub mod Prototypes
 pub mod Globals
 pub mod Locals
 pub mod Definitions
+pub mod Integers

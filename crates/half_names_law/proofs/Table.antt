@@ -19,10 +19,13 @@ use Rattle.typed_tree.specs.WellFormedExpression.{is_elem}
 use Rattle.typed_tree.proofs.LeavesLemmas.{get_before, leaves_of_struct}
 use Rattle.check_declarations.specs.declared.structs.FieldEntry.{FieldEntry}
 use Rattle.check_declarations.specs.declared.structs.StructEntry.{StructEntry}
-use Rattle.check_declarations.specs.Cells.{cells_of, cells_of_elem}
+use Rattle.check_declarations.specs.Cells.{cells_of, cells_of_elem, object_limit}
 use Rattle.check_declarations.specs.NameTables.{number_of, is_new, value_at, values}
 use Rattle.check_declarations.specs.Structs.{Structs, Fields, struct_of, has_const_field, has_const_part, has_const}
-use Rattle.check_declarations_law.proofs.TableLemmas.{elem_cells_before}
+use Rattle.check_declarations_law.specs.Types.{is_plain}
+use Rattle.check_declarations_law.specs.Sound as law
+use Rattle.check_declarations_law.specs.Sound.{SoundStructs}
+use Rattle.check_declarations_law.proofs.TableLemmas.{elem_cells_before, sound_push}
 use Rattle.check_programs.specs.Functions.{Checked}
 use Rattle.check_programs.specs.Programs.{checked_items}
 use Rattle.check_programs.specs.Progress.{Progress}
@@ -33,10 +36,10 @@ use Rattle.half_trees.specs.Declarations.{is_pointer, struct_item}
 use Rattle.half_trees_law.proofs.Counts.{typed_counted, variable_from_plain}
 use Rattle.half_meaning_law.specs.Known.{type_as}
 use Rattle.half_names_law.specs.Standing.{Marks}
-use Rattle.half_names_law.proofs.Tables.{Differ, pushed, get_end, listed, found, sought_first, is_new_where}
+use Rattle.half_names_law.proofs.Tables.{Differ, pushed, get_end, listed, listed_length, found, sought_first, is_new_where}
 use Rattle.half_names_law.proofs.Specifiers.{IsNamed}
 use Rattle.half_names_law.proofs.Objects.{Fits, is_dense, both_hold}
-use Rattle.half_names_law.proofs.Structs.{entry_of, fields_as, AllFit, FieldFits, behind, struct_added}
+use Rattle.half_names_law.proofs.Structs.{entry_of, field_entry, fields_as, AllFit, FieldFits, behind, struct_added}
 use Rattle.half_names_law.proofs.Sizes.{CellsFew, object_few, struct_few}
 
 -- ---- the table of so many structs
@@ -51,6 +54,7 @@ pub record IsTable (structs : Structs) (infos : List StructInfo) (n : ℕ) : Typ
   pub long : length structs ≡ n
   pub entries : (j : ℕ) (x : List ℕ × StructEntry) → slice_get structs j ≡ Some x → IsEntry infos j x
   pub cells : CellsFew structs infos n
+  pub sound : SoundStructs structs
 
 pub get_below : {A : Type 0} (xs : List A) (j : ℕ) (y : A) → slice_get xs j ≡ Some y → j < length xs
 get_below [] j y h = cc
@@ -188,6 +192,40 @@ cells_pushed structs infos n sound low table m near = go (nat_lt m n) refl
         let few = table.cells m less in omega (arith, same, few)
     go false is = last (grind (arith, nat_tests, is, near))
 
+pub plain_as : (n : ℕ) (u : VarTy) → is_plain_type n u ≡ true → is_plain n (type_as u) ≡ true
+plain_as n (Int t) h = h
+plain_as n (Struct m) h = h
+plain_as n (Array el count) h = h
+plain_as n (Pointer el fixed) h = h
+
+both_so : (a b : Bool) → a ≡ true → b ≡ true → (a && b) ≡ true
+both_so a b p q = λ i. p i && q i
+
+fields_stay_sound : (structs : Structs) (infos : List StructInfo) (n : ℕ) (all : List Field) (k : ℕ) (fs : List Field) → length structs ≡ n → CellsFew structs infos n → list_all (field_sound infos n) fs ≡ true
+    → list_all (law.field_sound structs) (values (listed (entry_of all) k fs)) ≡ true
+fields_stay_sound structs infos n all k [] long few h = refl
+fields_stay_sound structs infos n all k (f ∷ fs) long few h =
+    let parts = both_hold (field_sound infos n f) (list_all (field_sound infos n) fs) h in
+    let own = both_hold (is_plain_type n f.ty) (is_small infos f.ty) parts.0 in
+    let less = object_few structs infos n f.ty few own.0 in
+    let most = small_is (length (leaves_of infos f.ty)) own.1 in
+    both_so (law.field_sound structs (field_entry f)) (list_all (law.field_sound structs) (values (listed (entry_of all) (suc k) fs)))
+    (both_so (is_plain (length structs) (type_as f.ty)) (nat_le (cells_of structs (type_as f.ty)) object_limit)
+    (subst (λ m. is_plain m (type_as f.ty) ≡ true) (sym long) (plain_as n f.ty own.0)) (few_is (cells_of structs (type_as f.ty)) (omega (arith, less, most))))
+    (fields_stay_sound structs infos n all (suc k) fs long few parts.1)
+  where
+    few_is : (c : ℕ) → c ≤ 65536 → nat_le c 65536 ≡ true
+    few_is c h = grind (arith, nat_tests, h)
+
+sound_pushed : (structs : Structs) (infos : List StructInfo) (n : ℕ) → structs_sound infos 0 infos ≡ true → n < length infos → IsTable structs infos n → SoundStructs (structs ++ struct_entry structs infos n ∷ [])
+sound_pushed structs infos n sound low table =
+    let own = fields_sound infos n sound low in
+    sound_push structs (struct_entry structs infos n) table.sound
+    (record { some = filled (fields_of infos n) own.0; fields = fields_stay_sound structs infos n (fields_of infos n) 0 (fields_of infos n) table.long table.cells own.1; cells = refl })
+  where
+    filled : (fs : List Field) → nat_le 1 (length fs) ≡ true → 1 ≤ length (fields_as fs)
+    filled fs h = let long = listed_length (entry_of fs) 0 fs in let some : 1 ≤ length fs = grind (arith, nat_tests, h) in omega (arith, long, some)
+
 pub table_pushed : (structs : Structs) (infos : List StructInfo) (n : ℕ) → structs_sound infos 0 infos ≡ true → n < length infos → Differ (struct_name infos) n → IsTable structs infos n
     → IsTable (behind structs (struct_name infos n) (fields_of infos n)) infos (n + 1)
 table_pushed structs infos n sound low differ table =
@@ -197,6 +235,7 @@ table_pushed structs infos n sound low differ table =
       long = omega (arith, long, more);
       entries = pushed (IsEntry infos) structs (struct_entry structs infos n) table.entries (subst (λ k. IsEntry infos k (struct_entry structs infos n)) (sym table.long) (entry_is structs infos n sound low differ table));
       cells = cells_pushed structs infos n sound low table;
+      sound = sound_pushed structs infos n sound low table;
     }
 
 -- ---- all struct declarations
