@@ -12,3 +12,5 @@ pub mod Globals
 pub mod Locals
 pub mod Definitions
 pub mod Integers
+pub mod Numbers
+pub mod Names
