@@ -14,3 +14,4 @@ pub mod Definitions
 pub mod Integers
 pub mod Numbers
 pub mod Names
+pub mod Known
