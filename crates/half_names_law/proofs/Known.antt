@@ -1,6 +1,6 @@
 -- In what a half declares, all its names are known as its code has them.
 use Rattle.std.proofs.Common.{◌≡◌, ◌++◌, ◌∙◌, ◌<◌, ◌≤◌, ◌+◌, ◌^◌, sym, ap, refl, subst, ℕ, zero, suc, Bool, true, false, List, [], ◌∷◌, length, map, Option, Some, None, arith}
-use Rattle.std.specs.Prelude.{◌&&◌, nat_eq, nat_le, nat_lt, not, slice_get, get_or, option_map, option_and_then}
+use Rattle.std.specs.Prelude.{◌&&◌, nat_eq, nat_le, nat_lt, not, slice_get, get_or, option_map, option_and_then, take, if◌then◌else◌}
 use Rattle.std.specs.Option.{option_map_or}
 use Rattle.std.specs.List.{list_all}
 use Rattle.std.specs.Map.{lookup}
@@ -99,7 +99,7 @@ types_same (v.Struct n) = refl
 types_same (v.Array elem count) = refl
 types_same (v.Pointer elem fixed) = refl
 
-plain_none : (n : ℕ) (u : VarTy) → is_plain_type n u ≡ true → is_pointer u ≡ false
+pub plain_none : (n : ℕ) (u : VarTy) → is_plain_type n u ≡ true → is_pointer u ≡ false
 plain_none n (v.Int t) h = refl
 plain_none n (v.Struct m) h = refl
 plain_none n (v.Array el count) h = refl
@@ -123,12 +123,12 @@ field_there fields all k f is differ there =
         let low = get_below all k f there in
         let equal = differ k j low (omega (arith, less, low)) (same ∙ ap (λ z. z.0) back.2 ∙ ap (field_by all) zero_j) in omega (arith, less, equal))
 
-get_is : {A : Type 0} (xs : List A) (k : ℕ) (x d : A) → slice_get xs k ≡ Some x → get_or xs k d ≡ x
+pub get_is : {A : Type 0} (xs : List A) (k : ℕ) (x d : A) → slice_get xs k ≡ Some x → get_or xs k d ≡ x
 get_is [] k x d h = cc
 get_is (y ∷ ys) zero x d h = cc
 get_is (y ∷ ys) (suc k) x d h = get_is ys k x d h
 
-all_there : {A : Type 0} (q : A → Bool) (xs : List A) (k : ℕ) (x : A) → list_all q xs ≡ true → slice_get xs k ≡ Some x → q x ≡ true
+pub all_there : {A : Type 0} (q : A → Bool) (xs : List A) (k : ℕ) (x : A) → list_all q xs ≡ true → slice_get xs k ≡ Some x → q x ≡ true
 all_there q [] k x h is = cc
 all_there q (y ∷ ys) zero x h is = ap q (sym (same is)) ∙ (both_hold (q y) (list_all q ys) h).0
   where
@@ -168,3 +168,128 @@ field_known s structs n k table differ sound low =
       changes = refl;
       plain = ap is_pointer is ∙ plain_none n there.0.ty (both_hold (is_plain_type n there.0.ty) (is_small infos there.0.ty) plain).0;
     }
+
+-- ---- all of a half
+
+-- what is asked of a half for its names to be known
+pub record NamesApart (p : ProgramTree) : Type 0 where
+  pub structs : NamesDiffer p.structs
+  pub functions : FunctionsApart p.signatures
+  pub globals : GlobalsApart p.globals
+
+variable_known : (monitor : Bool) (p : ProgramTree) (f : FunctionTree) (frames : ℕ → List VarTy) (frame : sm.Frame) (calls : sm.Calls) (core_calls : c.Calls) (ys : List Variable) (n : ℕ)
+    → AreVariables ys f.vars → length f.vars ≤ 2 ^ 64 → Differ local_name (2 ^ 64) → n < length f.vars
+    → VariableKnown (scene_of p f frames frame calls core_calls) (standing monitor p f.vars ys) n
+variable_known monitor p f frames frame calls core_calls ys n are small differ low = record {
+  named = ap (λ o. or_else o (find_in (half_file p) (local_name n))) (local_found f.vars n low small differ);
+  object = objects_at ys f.vars n are low;
+}
+
+-- a global's number and type
+abbrev pub numbered : GlobalTree → ℕ × VarTy
+numbered g = (g.id, g.var.ty)
+
+-- what a list of pairs says of a number
+global_pair : (gs : List GlobalTree) (n : ℕ) (u : VarTy) (k : ℕ) → slice_get (map numbered gs) k ≡ Some (n, u) → (g : GlobalTree) × (slice_get gs k ≡ Some g) × (g.id ≡ n) × (g.var.ty ≡ u)
+global_pair gs n u k h = let back = mapped_back numbered gs k (n, u) h in (back.0, back.1, ap (λ z. z.0) back.2, ap (λ z. z.1) back.2)
+
+global_known : (monitor : Bool) (p : ProgramTree) (f : FunctionTree) (frames : ℕ → List VarTy) (frame : sm.Frame) (calls : sm.Calls) (core_calls : c.Calls) (ys : List Variable) (n : ℕ) (u : VarTy)
+    → NamesApart p → ((k : ℕ) (g : GlobalTree) → slice_get p.globals k ≡ Some g → is_pointer g.var.ty ≡ false)
+    → lookup (nat_eq n) (map numbered p.globals) ≡ Some u
+    → GlobalKnown (scene_of p f frames frame calls core_calls) (standing monitor p f.vars ys) n u
+global_known monitor p f frames frame calls core_calls ys n u apart plain h =
+    let at = lookup_place (map numbered p.globals) n u h in
+    let g = global_pair p.globals n u at.place at.there in
+    record {
+      place = at.place;
+      number = number_at 0 (map (λ g. g.id) p.globals) at.place n (mapped_there (λ g. g.id) p.globals at.place g.0 g.1 ∙ ap Some g.2);
+      named =
+          no_variable f.vars (global_name n) (half_file p) (λ v. global_no_local n v)
+          ∙ ap (find_in (half_file p)) (ap global_name (sym g.2))
+          ∙ ap (meaning_at (half_file p)) (global_found p.signatures p.globals at.place g.0 apart.globals g.1)
+          ∙ global_meant p.signatures p.globals at.place g.0 g.1;
+      object = ap (λ o. option_map_or (λ x. x) o no_object) (mapped_there global_object p.globals at.place g.0 g.1) ∙ ap object_as g.3;
+      typed = get_is (map (λ g. g.var.ty) p.globals) at.place u (v.Int int.Int) (mapped_there (λ g. g.var.ty) p.globals at.place g.0 g.1 ∙ ap Some g.3);
+      plain = ap is_pointer (sym g.3) ∙ plain at.place g.0 g.1;
+    }
+
+pub all_known : (monitor : Bool) (p : ProgramTree) (f : FunctionTree) (frames : ℕ → List VarTy) (frame : sm.Frame) (calls : sm.Calls) (core_calls : c.Calls) (ys : List Variable) (structs : Structs)
+    → AreVariables ys f.vars → length f.vars ≤ 2 ^ 64 → Differ local_name (2 ^ 64) → NamesApart p → ((k : ℕ) (g : GlobalTree) → slice_get p.globals k ≡ Some g → is_pointer g.var.ty ≡ false)
+    → IsTable structs p.structs (length p.structs) → structs_sound p.structs 0 p.structs ≡ true
+    → Known (scene_of p f frames frame calls core_calls) (standing monitor p f.vars ys) structs
+all_known monitor p f frames frame calls core_calls ys structs are small differ apart plain table sound = record {
+  variables = λ n low. variable_known monitor p f frames frame calls core_calls ys n are small differ (variable_low n low);
+  globals = λ n u h. global_known monitor p f frames frame calls core_calls ys n u apart plain h;
+  fields = λ n k low. field_known (scene_of p f frames frame calls core_calls) structs n k table apart.structs sound low;
+  no_const = λ n. none_const structs p.structs (length p.structs) n table;
+}
+  where
+    length_types : (xs : List Var) → length (map (λ x. x.ty) xs) ≡ length xs
+    length_types [] = refl
+    length_types (x ∷ xs) = ap suc (length_types xs)
+
+    variable_low : (n : ℕ) → n < length (map (λ x. x.ty) f.vars) → n < length f.vars
+    variable_low n low = let same = length_types f.vars in omega (arith, low, same)
+
+-- ---- functions
+
+pub own_name : (monitor : Bool) (o : Option FunctionTree) (s : Signature) (f : ℕ) → function_by f (Some (with_own monitor o s)) ≡ function_by f (Some s)
+own_name monitor None s f = refl
+own_name monitor (Some g) s f = go (monitor && not s.host)
+  where
+    go : (b : Bool) → function_by f (Some (if b then record s { params = take g.params s.params } else s)) ≡ function_by f (Some s)
+    go true = refl
+    go false = refl
+
+pub own_main : (monitor : Bool) (o : Option FunctionTree) (s : Signature) → m.is_main (with_own monitor o s) ≡ m.is_main s
+own_main monitor None s = refl
+own_main monitor (Some g) s = go (monitor && not s.host)
+  where
+    go : (b : Bool) → m.is_main (if b then record s { params = take g.params s.params } else s) ≡ m.is_main s
+    go true = refl
+    go false = refl
+
+called_from : (monitor : Bool) (p : ProgramTree) (f : ℕ) (signature : Signature) → called_signature monitor p f ≡ Some signature → (s : Signature) × (signature_at p f ≡ Some s) × (with_own monitor (function_at p f) s ≡ signature)
+called_from monitor p f signature h = go (signature_at p f) refl h
+  where
+    go : (o : Option Signature) → signature_at p f ≡ o → option_map (with_own monitor (function_at p f)) o ≡ Some signature → (s : Signature) × (signature_at p f ≡ Some s) × (with_own monitor (function_at p f) s ≡ signature)
+    go None is e = cc
+    go (Some s) is e = (s, is, same e)
+      where
+        same : Some (with_own monitor (function_at p f) s) ≡ Some signature → with_own monitor (function_at p f) s ≡ signature
+        same e = cc
+
+params_fused : (ps : List Param) → map (λ q. type_as q.ty) (map marked_param ps) ≡ map (λ x. type_as (param_type x.kind)) ps
+params_fused [] = refl
+params_fused (x ∷ ps) = ap (λ ts. type_as (param_type x.kind) ∷ ts) (params_fused ps)
+
+not_main : (b : Bool) → not b ≡ true → b ≡ false
+not_main true h = cc
+not_main false h = refl
+
+function_known : (monitor : Bool) (p : ProgramTree) (f : FunctionTree) (frames : ℕ → List VarTy) (frame : sm.Frame) (calls : sm.Calls) (core_calls : c.Calls) (ys : List Variable) (n : ℕ) (s : Signature)
+    → NamesApart p → signature_at p n ≡ Some s → not (m.is_main (with_own monitor (function_at p n) s)) ≡ true
+    → FunctionKnown (scene_of p f frames frame calls core_calls) p.signatures (standing monitor p f.vars ys) n (with_own monitor (function_at p n) s)
+function_known monitor p f frames frame calls core_calls ys n s apart there other =
+    let at = lookup_place p.signatures n s there in
+    record {
+      place = at.place;
+      number = number_at 0 (map (λ x. x.0) p.signatures) at.place n (mapped_there (λ x. x.0) p.signatures at.place (n, s) at.there);
+      named =
+          ap (λ o. find (standing monitor p f.vars ys) (function_by n o)) there
+          ∙ no_variable f.vars (function_by n (Some s)) (half_file p) (λ v. no_local n s v)
+          ∙ ap (meaning_at (half_file p)) (function_found p.signatures p.globals at.place (n, s) apart.functions at.there)
+          ∙ function_meant p.signatures p.globals at.place (n, s) at.there;
+      callable = callable_in monitor p (n, s);
+      known = mapped_there (callable_in monitor p) p.signatures at.place (n, s) at.there;
+      no_main = no_main n s (sym (own_main monitor (function_at p n) s) ∙ not_main (m.is_main (with_own monitor (function_at p n) s)) other);
+      params = params_fused (with_own monitor (function_at p n) s).params;
+      result = refl;
+    }
+
+pub functions_known : (monitor : Bool) (p : ProgramTree) (f : FunctionTree) (frames : ℕ → List VarTy) (frame : sm.Frame) (calls : sm.Calls) (core_calls : c.Calls) (ys : List Variable)
+    → NamesApart p → FunctionsKnown (scene_of p f frames frame calls core_calls) p.signatures (called_signature monitor p) (standing monitor p f.vars ys)
+functions_known monitor p f frames frame calls core_calls ys apart n signature h other =
+    let from = called_from monitor p n signature h in
+    subst (FunctionKnown (scene_of p f frames frame calls core_calls) p.signatures (standing monitor p f.vars ys) n) from.2
+    (function_known monitor p f frames frame calls core_calls ys n from.0 apart from.1 (subst (λ z. not (m.is_main z) ≡ true) (sym from.2) other))

@@ -15,3 +15,4 @@ pub mod Integers
 pub mod Numbers
 pub mod Names
 pub mod Known
+pub mod Walk
