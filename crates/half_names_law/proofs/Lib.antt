@@ -16,3 +16,4 @@ pub mod Numbers
 pub mod Names
 pub mod Known
 pub mod Walk
+pub mod Parts
