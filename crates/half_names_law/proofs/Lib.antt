@@ -17,3 +17,4 @@ pub mod Names
 pub mod Known
 pub mod Walk
 pub mod Parts
+pub mod Bodies
