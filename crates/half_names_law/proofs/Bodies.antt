@@ -110,7 +110,7 @@ quiet_calls = λ frame at f vs st. spent st
 abbrev quiet_core_calls : c.Calls
 quiet_core_calls = λ frame at f xs st. spent st
 
-abbrev statements_of : ProgramTree → FunctionTree → List StmtTree
+abbrev pub statements_of : ProgramTree → FunctionTree → List StmtTree
 statements_of p f = statements_trees p.signatures (context_of p f.vars) f.body
 
 pub statements_quiet : (bodies : BodiesKeepTheirMeaning) (marks : Marks) (monitor : Bool) (p : ProgramTree) (structs : Structs) (n : ℕ) (f : FunctionTree) (s : Signature) (next : ℕ) (ys : List Variable)

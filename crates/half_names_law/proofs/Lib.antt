@@ -18,3 +18,4 @@ pub mod Known
 pub mod Walk
 pub mod Parts
 pub mod Bodies
+pub mod Functions
