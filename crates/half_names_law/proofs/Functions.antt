@@ -156,3 +156,112 @@ function_added bodies marks monitor p structs r n f s k half fits there place fr
     fits.declassify fits.parameters (few_in f fits.few) eight (function_found p.signatures p.globals k (f.id, s) half.apart.functions place) (function_meant p.signatures p.globals k (f.id, s) place)
     (callable_there monitor p marks structs f s k fits place) fresh
     ∙ ap (by_body marks monitor p structs r f s k) (body_is bodies marks monitor p structs n f s (length r.exprs) half fits there)
+
+-- ---- bodies that are still to come
+
+-- none of these functions has its body yet
+abbrev pub Fresh : ProgramTree → Rest → List FunctionTree → Type 0
+Fresh p r fs = (n : ℕ) (f : FunctionTree) (k : ℕ) (s : Signature) → slice_get fs n ≡ Some f → slice_get p.signatures k ≡ Some (f.id, s) → has_body r.functions (function_id k) ≡ false
+
+set_other : (fs : List typed.FunctionTree) (k j : ℕ) (x : typed.FunctionTree) → (j ≡ k → ⊥) → slice_get (slice_set fs k x) j ≡ slice_get fs j
+set_other [] k j x other = refl
+set_other (f ∷ fs) zero zero x other = absurd (other refl)
+set_other (f ∷ fs) zero (suc j) x other = refl
+set_other (f ∷ fs) (suc k) zero x other = refl
+set_other (f ∷ fs) (suc k) (suc j) x other = set_other fs k j x (λ e. other (ap suc e))
+
+body_other : (fs : List typed.FunctionTree) (k j : ℕ) (vars : List Var) (b : BodyTree) → (j ≡ k → ⊥) → has_body (with_body fs k nowhere vars b) (function_id j) ≡ has_body fs (function_id j)
+body_other fs k j vars b other = go (slice_get fs k)
+  where
+    go : (o : Option typed.FunctionTree) → has_body (option_map_or (λ f. slice_set fs k (with_parts f nowhere vars b)) o fs) (function_id j) ≡ has_body fs (function_id j)
+    go None = refl
+    go (Some f) = ap (λ o. option_map_or (λ g. is_some g.body) o false) (set_other fs k j (with_parts f nowhere vars b) other)
+
+same_first : (x y : ℕ × Signature) → Some x ≡ Some y → x.0 ≡ y.0
+same_first x y e = ap (λ z. z.0) (same e)
+  where
+    same : Some x ≡ Some y → x ≡ y
+    same e = cc
+
+pub still_fresh : (marks : Marks) (monitor : Bool) (p : ProgramTree) (structs : Structs) (r : Rest) (f : FunctionTree) (fs : List FunctionTree) (s : Signature) (k first : ℕ) → are_rising first (map (λ g. g.id) (f ∷ fs)) ≡ true → slice_get p.signatures k ≡ Some (f.id, s) → Fresh p r (f ∷ fs)
+    → Fresh p (with_function marks monitor p structs r f s k) fs
+still_fresh marks monitor p structs r f fs s k first rise place fresh n g j t there named =
+    body_other r.functions k j _ _ apart ∙ fresh (suc n) g j t there named
+  where
+    apart : j ≡ k → ⊥
+    apart e =
+        let same : g.id ≡ f.id = same_first (g.id, t) (f.id, s) (sym named ∙ ap (slice_get p.signatures) e ∙ place) in
+        let places = once_there first (map (λ x. x.id) (f ∷ fs)) 0 (suc n) f.id rise refl (mapped_there (λ x. x.id) fs n g there ∙ ap Some same) in omega (arith, places)
+
+-- ---- all functions
+
+-- the walk gets there, without a fault where this holds
+pub record Passes (c : Checked) (env : Env) (structs : Structs) (fine : Type 0) (P : Rest → Type 0) : Type 0 where
+  pub rest : Rest
+  pub is : c.progress ≡ at env structs rest
+  pub faults : fine → c.faults ≡ []
+  pub holds : P rest
+
+-- what is asked of each function, with its signature
+pub record Fitting (marks : Marks) (monitor : Bool) (p : ProgramTree) (structs : Structs) (f : FunctionTree) : Type 0 where
+  pub signature : Signature
+  pub fits : FunctionFits marks monitor p structs f signature
+
+abbrev pub FunctionsFit : Marks → Bool → ProgramTree → Structs → Type 0
+FunctionsFit marks monitor p structs = (n : ℕ) (f : FunctionTree) → slice_get p.functions n ≡ Some f → Fitting marks monitor p structs f
+
+types_of : (m : FunctionMarks) (f : FunctionTree) → map (λ v. v.ty) (half_variables m f) ≡ map (λ x. type_as x.ty) f.vars
+types_of m f = sym (fused (half_variables m f)) ∙ ap (map (λ o. o.ty)) (variables_are m f) ∙ again f.vars
+  where
+    fused : (ys : List Variable) → map (λ o. o.ty) (map object_of ys) ≡ map (λ v. v.ty) ys
+    fused [] = refl
+    fused (y ∷ ys) = ap (λ ts. y.ty ∷ ts) (fused ys)
+
+    again : (xs : List Var) → map (λ o. o.ty) (map (λ x. object_as x.ty) xs) ≡ map (λ x. type_as x.ty) xs
+    again [] = refl
+    again (x ∷ xs) = ap (λ ts. type_as x.ty ∷ ts) (again xs)
+
+sum_types : (structs : Structs) (ys : List Variable) → sum_by (λ v. cells_of structs v.ty) ys ≡ sum_by (cells_of structs) (map (λ v. v.ty) ys)
+sum_types structs [] = refl
+sum_types structs (y ∷ ys) = sum_by-cons (λ (v : Variable). cells_of structs v.ty) y ys ∙ ap (λ n. cells_of structs y.ty + n) (sum_types structs ys) ∙ sym (sum_by-cons (cells_of structs) y.ty (map (λ v. v.ty) ys))
+
+sum_vars : (structs : Structs) (xs : List Var) → sum_by (λ x. cells_of structs (type_as x.ty)) xs ≡ sum_by (cells_of structs) (map (λ x. type_as x.ty) xs)
+sum_vars structs [] = refl
+sum_vars structs (x ∷ xs) = sum_by-cons (λ (y : Var). cells_of structs (type_as y.ty)) x xs ∙ ap (λ n. cells_of structs (type_as x.ty) + n) (sum_vars structs xs) ∙ sym (sum_by-cons (cells_of structs) (type_as x.ty) (map (λ y. type_as y.ty) xs))
+
+pub small_frame : (marks : Marks) (monitor : Bool) (p : ProgramTree) (structs : Structs) (f : FunctionTree) (s : Signature) → FunctionFits marks monitor p structs f s → has_small_frame p f ≡ true → frame_faults marks structs f s ≡ []
+small_frame marks monitor p structs f s fits small =
+    let m = marks (text_name (f.id, s)) in
+    let same : sum_by (λ v. cells_of structs v.ty) (half_variables m f) ≡ sum_by (λ x. cells_of structs (type_as x.ty)) f.vars =
+    sum_types structs (half_variables m f) ∙ ap (sum_by (cells_of structs)) (types_of m f) ∙ sym (sum_vars structs f.vars) in
+    ap (λ b. fault_if b TooLarge nowhere) (not_large (sum_by (λ v. cells_of structs v.ty) (half_variables m f)) (sum_by (λ x. cells_of structs (type_as x.ty)) f.vars) (sum_by (λ x. variable_cells p.structs x.ty) f.vars) same fits.cells small)
+  where
+    not_large : (a b c : ℕ) → a ≡ b → b ≤ c → nat_le c 16384 ≡ true → nat_lt 16384 a ≡ false
+    not_large a b c same less few = let most : c ≤ 16384 = grind (arith, nat_tests, few) in let low : a ≤ 16384 = omega (arith, same, less, most) in grind (arith, nat_tests, low)
+
+pub functions_added : (bodies : BodiesKeepTheirMeaning) (marks : Marks) (monitor : Bool) (p : ProgramTree) (structs : Structs) (r : Rest) (first start : ℕ) (fs later : List FunctionTree) → HalfFits monitor p structs → FunctionsFit marks monitor p structs
+    → ((n : ℕ) (f : FunctionTree) → slice_get (fs ++ later) n ≡ Some f → slice_get p.functions (start + n) ≡ Some f) → are_rising first (map (λ g. g.id) (fs ++ later)) ≡ true → Fresh p r (fs ++ later)
+    → Passes (checked_items marks (at (half_env monitor p) structs r) (map (function_item p) fs)) (half_env monitor p) structs (list_all (has_small_frame p) fs ≡ true) (λ r'. Fresh p r' later)
+functions_added bodies marks monitor p structs r first start [] later half fit among rise fresh = record { rest = r; is = refl; faults = λ h. refl; holds = fresh }
+functions_added bodies marks monitor p structs r first start (f ∷ fs) later half fit among rise fresh =
+    let there : slice_get p.functions start ≡ Some f = ap (slice_get p.functions) (omega arith) ∙ among 0 f refl in
+    let own = fit start f there in
+    let s = own.signature in
+    let place = lookup_place p.signatures f.id s own.fits.named in
+    let k = place.place in
+    let one = function_added bodies marks monitor p structs r start f s k half own.fits there place.there (fresh 0 f k s refl place.there) in
+    let again = functions_added bodies marks monitor p structs (with_function marks monitor p structs r f s k) (suc f.id) (suc start) fs later half fit
+    (λ n g e. ap (slice_get p.functions) (next start n) ∙ among (suc n) g e) (both_hold (nat_le first f.id) (are_rising (suc f.id) (map (λ g. g.id) (fs ++ later))) rise).1
+    (still_fresh marks monitor p structs r f (fs ++ later) s k first rise place.there fresh) in
+    let whole = ap (then_rest marks (map (function_item p) fs)) one in
+    record {
+      rest = again.rest;
+      is = ap (λ c. c.progress) whole ∙ again.is;
+      faults = λ small.
+          let parts = both_hold (has_small_frame p f) (list_all (has_small_frame p) fs) small in
+          ap (λ c. c.faults) whole ∙ (λ i. small_frame marks monitor p structs f s own.fits parts.0 i ++ again.faults parts.1 i);
+      holds = again.holds;
+    }
+  where
+    next : (a b : ℕ) → suc a + b ≡ a + suc b
+    next a b = omega arith
