@@ -19,3 +19,4 @@ pub mod Walk
 pub mod Parts
 pub mod Bodies
 pub mod Functions
+pub mod Premises

@@ -82,7 +82,7 @@ struct_new structs infos n table differ =
     (λ j x there same. let long = table.long in let near = get_below structs j x there in
     let equal = differ n j (omega arith) (omega (arith, near, long)) (same ∙ (table.entries j x there).named) in omega (arith, near, long, equal))
 
-named_elem : (structs : Structs) (infos : List StructInfo) (n : ℕ) (el : Elem) → IsTable structs infos n → Differ (struct_name infos) n → is_elem n (Some el) ≡ true → IsNamed structs infos el
+pub named_elem : (structs : Structs) (infos : List StructInfo) (n : ℕ) (el : Elem) → IsTable structs infos n → Differ (struct_name infos) n → is_elem n (Some el) ≡ true → IsNamed structs infos el
 named_elem structs infos n (elem.Int t) table differ h = tt {0}
 named_elem structs infos n (elem.Struct m) table differ h = struct_found structs infos n m table differ (grind (arith, nat_tests, h))
 
@@ -104,7 +104,7 @@ plain_dense infos n (Array el count) sound low h small =
     both_so a b p q = λ i. p i && q i
 plain_dense infos n (Pointer el fixed) sound low h small = cc
 
-small_is : (k : ℕ) → nat_le k 65_536 ≡ true → k ≤ 65536
+pub small_is : (k : ℕ) → nat_le k 65_536 ≡ true → k ≤ 65536
 small_is k h = grind (arith, nat_tests, h)
 
 pub plain_fits : (structs : Structs) (infos : List StructInfo) (n : ℕ) (u : VarTy) → structs_sound infos 0 infos ≡ true → n ≤ length infos → IsTable structs infos n → Differ (struct_name infos) n → is_plain_type n u ≡ true → is_small infos u ≡ true → Fits structs infos u
@@ -113,7 +113,7 @@ plain_fits structs infos n u sound low table differ h small =
     let most = small_is (length (leaves_of infos u)) small in
     record { named = plain_named structs infos n u table differ h; dense = plain_dense infos n u sound low h small; small = omega (arith, few, most) }
 
-plain_is_none : (n : ℕ) (u : VarTy) → is_plain_type n u ≡ true → is_pointer u ≡ false
+pub plain_is_none : (n : ℕ) (u : VarTy) → is_plain_type n u ≡ true → is_pointer u ≡ false
 plain_is_none n (Int t) h = refl
 plain_is_none n (Struct m) h = refl
 plain_is_none n (Array el count) h = refl
@@ -198,7 +198,7 @@ plain_as n (Struct m) h = h
 plain_as n (Array el count) h = h
 plain_as n (Pointer el fixed) h = h
 
-both_so : (a b : Bool) → a ≡ true → b ≡ true → (a && b) ≡ true
+pub both_so : (a b : Bool) → a ≡ true → b ≡ true → (a && b) ≡ true
 both_so a b p q = λ i. p i && q i
 
 fields_stay_sound : (structs : Structs) (infos : List StructInfo) (n : ℕ) (all : List Field) (k : ℕ) (fs : List Field) → length structs ≡ n → CellsFew structs infos n → list_all (field_sound infos n) fs ≡ true
