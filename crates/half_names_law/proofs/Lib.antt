@@ -20,3 +20,4 @@ pub mod Parts
 pub mod Bodies
 pub mod Functions
 pub mod Premises
+pub mod Halves

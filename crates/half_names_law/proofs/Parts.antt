@@ -114,7 +114,7 @@ pub own_params : (monitor : Bool) (f : FunctionTree) (s : Signature) → not s.h
 own_params true f s host count = ap (λ b. (if b then record s { params = take f.params s.params } else s).params) host
 own_params false f s host count = sym (take_all s.params f.params (same_number f.params (length s.params) count))
 
-own_long : (monitor : Bool) (n all : ℕ) → counts_fit monitor n all ≡ true → n ≤ all
+pub own_long : (monitor : Bool) (n all : ℕ) → counts_fit monitor n all ≡ true → n ≤ all
 own_long true n all h = grind (arith, nat_tests, h)
 own_long false n all h = let same = same_number n all h in omega (arith, same)
 

@@ -93,7 +93,7 @@ frame_less structs infos (x ∷ xs) whole h =
 
 -- ---- tests of two
 
-implied : (a b : Bool) → (not a || b) ≡ true → a ≡ true → b ≡ true
+pub implied : (a b : Bool) → (not a || b) ≡ true → a ≡ true → b ≡ true
 implied true b h e = h
 implied false b h e = cc
 
@@ -237,3 +237,56 @@ locals_fit structs infos (x ∷ xs) whole fits stands =
 param_may : (x : ParamKind) → may_be kind.Parameter (param_type x) ≡ true
 param_may (k.Int t) = refl
 param_may (k.Ptr el fixed) = refl
+
+-- a parameter of a definition
+definition_param : (m : FunctionMarks) (structs : Structs) (infos : List StructInfo) (s : Signature) (y : Param) (x : Var) → Whole structs infos → m.privileged ≡ s.privileged → m.defined ≡ true → param_type y.kind ≡ x.ty
+    → variable_fits infos x ≡ true → variable_marked x ≡ true → (not s.privileged || not x.unpriv) ≡ true → ParameterFits m structs infos (marked_var x)
+definition_param m structs infos s y x whole same defined is fits stands plain =
+    let typed = both_hold (is_variable_type (length infos) x.ty) (is_small infos x.ty) fits in
+    record {
+      fits = variable_fit structs infos x.ty whole typed.0 typed.1;
+      may = subst (λ u. may_be kind.Parameter u ≡ true) is (param_may y.kind);
+      hosts = (λ i. not (defined i) && (is_pointer x.ty || false));
+      unpriv = λ e.
+          let unmarked = not_both x.marked x.unpriv stands e in
+          let other = not_private s.privileged x.unpriv plain e in
+          (λ i. not (x.marked || ((same ∙ other) i || not (defined i)))) ∙ (λ i. not (not_true x.marked unmarked i || false));
+      declassify = λ e. cc;
+    }
+  where
+    not_private : (a b : Bool) → (not a || not b) ≡ true → b ≡ true → a ≡ false
+    not_private true true h e = cc
+    not_private true false h e = cc
+    not_private false b h e = refl
+
+    not_true : (a : Bool) → not a ≡ true → a ≡ false
+    not_true true h = cc
+    not_true false h = refl
+
+pub definition_params : (m : FunctionMarks) (structs : Structs) (infos : List StructInfo) (s : Signature) (ps : List Param) (n : ℕ) (xs : List Var) → length ps ≡ n → Whole structs infos → m.privileged ≡ s.privileged → m.defined ≡ true
+    → params_lead ps xs ≡ true → list_all (variable_fits infos) xs ≡ true → list_all variable_marked xs ≡ true → (not s.privileged || not (list_any (λ x. x.unpriv) (take n xs))) ≡ true → ParametersFit m structs infos (map marked_var (take n xs))
+definition_params m structs infos s ps zero xs long whole same defined lead fits stands plain = tt {0}
+definition_params m structs infos s [] (suc n) xs long whole same defined lead fits stands plain = absurd (omega (arith, long))
+definition_params m structs infos s (y ∷ ps) (suc n) [] long whole same defined lead fits stands plain = tt {0}
+definition_params m structs infos s (y ∷ ps) (suc n) (x ∷ xs) long whole same defined lead fits stands plain =
+    let leads = both_hold (same_type (param_type y.kind) x.ty && same_bool y.marked x.marked) (params_lead ps xs) lead in
+    let is = equal_types (param_type y.kind) x.ty (both_hold (same_type (param_type y.kind) x.ty) (same_bool y.marked x.marked) leads.0).0 in
+    let parts = both_hold (variable_fits infos x) (list_all (variable_fits infos) xs) fits in
+    let marks = both_hold (variable_marked x) (list_all variable_marked xs) stands in
+    (definition_param m structs infos s y x whole same defined is parts.0 marks.0 (first_plain s.privileged x.unpriv (list_any (λ z. z.unpriv) (take n xs)) plain),
+    definition_params m structs infos s ps n xs (omega (arith, long)) whole same defined leads.1 parts.1 marks.1 (rest_plain s.privileged x.unpriv (list_any (λ z. z.unpriv) (take n xs)) plain))
+  where
+    first_plain : (a b c : Bool) → (not a || not (b || c)) ≡ true → (not a || not b) ≡ true
+    first_plain true true c h = h
+    first_plain true false c h = refl
+    first_plain false b c h = refl
+
+    rest_plain : (a b c : Bool) → (not a || not (b || c)) ≡ true → (not a || not c) ≡ true
+    rest_plain true true c h = cc
+    rest_plain true false c h = h
+    rest_plain false b c h = refl
+
+pub dropped_all : (q : Var → Bool) (n : ℕ) (xs : List Var) → list_all q xs ≡ true → list_all q (drop n xs) ≡ true
+dropped_all q zero xs h = h
+dropped_all q (suc n) [] h = refl
+dropped_all q (suc n) (x ∷ xs) h = dropped_all q n xs (both_hold (q x) (list_all q xs) h).1
