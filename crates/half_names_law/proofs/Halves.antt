@@ -93,7 +93,7 @@ half_fits monitor p h d =
 
 -- ---- functions
 
-signature_there : (monitor : Bool) (p : ProgramTree) (f : FunctionTree) → function_fits monitor p f ≡ true → (s : Signature) × (signature_at p f.id ≡ Some s)
+pub signature_there : (monitor : Bool) (p : ProgramTree) (f : FunctionTree) → function_fits monitor p f ≡ true → (s : Signature) × (signature_at p f.id ≡ Some s)
 signature_there monitor p f h = go (signature_at p f.id) refl h
   where
     go : (o : Option Signature) → signature_at p f.id ≡ o → function_by monitor p f o ≡ true → (s : Signature) × (signature_at p f.id ≡ Some s)

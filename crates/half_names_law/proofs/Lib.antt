@@ -21,3 +21,4 @@ pub mod Bodies
 pub mod Functions
 pub mod Premises
 pub mod Halves
+pub mod Marks
