@@ -140,10 +140,10 @@ few_taken zero xs = omega arith
 few_taken (suc n) [] = omega arith
 few_taken (suc n) (x ∷ xs) = let again = few_taken n xs in omega (arith, again)
 
-few_in : (f : FunctionTree) → f.params ≤ 8 → length (parameters_in f) ≤ 8
+pub few_in : (f : FunctionTree) → f.params ≤ 8 → length (parameters_in f) ≤ 8
 few_in f low = let less = few_taken f.params f.vars in omega (arith, less, low)
 
-eight : Differ local_name 8
+pub eight : Differ local_name 8
 eight = locals_differ 8 (omega arith)
 
 pub function_added : (bodies : BodiesKeepTheirMeaning) (marks : Marks) (monitor : Bool) (p : ProgramTree) (structs : Structs) (r : Rest) (n : ℕ) (f : FunctionTree) (s : Signature) (k : ℕ)

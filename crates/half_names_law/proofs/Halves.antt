@@ -65,7 +65,7 @@ soundness monitor p h =
 abbrev pub half_structs : ProgramTree → Structs
 half_structs p = table_to p.structs [] 0 (length p.structs)
 
-no_table : (p : ProgramTree) → IsTable [] p.structs 0
+pub no_table : (p : ProgramTree) → IsTable [] p.structs 0
 no_table p = record { long = refl; entries = λ j x h. cc; cells = λ m low. absurd (omega (arith, low)); sound = tt {0} }
 
 pub whole_table : (monitor : Bool) (p : ProgramTree) → Sound monitor p → Declarable p → Whole (half_structs p) p.structs

@@ -22,3 +22,4 @@ pub mod Functions
 pub mod Premises
 pub mod Halves
 pub mod Marks
+pub mod Law

@@ -100,3 +100,153 @@ own_privileged monitor (Some f) s = go (monitor && not s.host)
     go : (b : Bool) → (if b then record s { params = take f.params s.params } else s).privileged ≡ s.privileged
     go true = refl
     go false = refl
+
+inner : (g f : parsed.FunctionTree) → function g ≡ function f → g ≡ f
+inner g f e = cc
+
+-- at each item with this name the function is marked as this one is
+abbrev MarkedAs : List ℕ → Bool → ItemTree → Type 0
+MarkedAs name b x = (f : parsed.FunctionTree) → x ≡ function f → named_as name f ≡ true → (u.own_marks f.specs).marked ≡ b
+
+same_entry : (x y : ℕ × Signature) → Some x ≡ Some y → x ≡ y
+same_entry x y e = cc
+
+prototypes_marked : (monitor : Bool) (p : ProgramTree) (n : ℕ) (s : ℕ × Signature) → FunctionsApart p.signatures → slice_get p.signatures n ≡ Some s → (j : ℕ) (x : ItemTree) → slice_get (map (prototype_of monitor p) p.signatures) j ≡ Some x → MarkedAs (text_name s) s.1.privileged x
+prototypes_marked monitor p n s apart there j x at f is named =
+    let back = mapped_back (prototype_of monitor p) p.signatures j x at in
+    let t = back.0 in
+    let tree = inner _ f (back.2 ∙ is) in
+    let name : text_name t ≡ text_name s = sym (own_name monitor (function_at p t.0) t.1 t.0) ∙ ap (λ g. g.declarator.name.bytes) tree ∙ name_same f.declarator.name.bytes (text_name s) named in
+    let place = apart j n t s back.1 there name in
+    let same = same_entry t s (sym back.1 ∙ ap (slice_get p.signatures) place ∙ there) in
+    ap (λ g. (u.own_marks g.specs).marked) (sym tree) ∙ head_marked (own monitor p t) ∙ own_privileged monitor (function_at p t.0) t.1 ∙ ap (λ z. z.1.privileged) same
+
+definitions_marked : (monitor : Bool) (p : ProgramTree) (n : ℕ) (s : ℕ × Signature) → Sound monitor p → FunctionsApart p.signatures → slice_get p.signatures n ≡ Some s → (j : ℕ) (x : ItemTree) → slice_get (map (function_item p) p.functions) j ≡ Some x → MarkedAs (text_name s) s.1.privileged x
+definitions_marked monitor p n s sound apart there j x at f is named =
+    let back = mapped_back (function_item p) p.functions j x at in
+    let g = back.0 in
+    let signature = signature_there monitor p g (all_there (function_fits monitor p) p.functions j g sound.functions back.1) in
+    let place = lookup_place p.signatures g.id signature.0 signature.1 in
+    let tree = inner _ f (back.2 ∙ is) in
+    let name : text_name (g.id, signature.0) ≡ text_name s = ap (function_by g.id) (sym signature.1) ∙ ap (λ d. d.declarator.name.bytes) tree ∙ name_same f.declarator.name.bytes (text_name s) named in
+    let where_it_is = apart place.place n (g.id, signature.0) s place.there there name in
+    let same = same_entry (g.id, signature.0) s (sym place.there ∙ ap (slice_get p.signatures) where_it_is ∙ there) in
+    ap (λ d. (u.own_marks d.specs).marked) (sym tree) ∙ ap (λ o. (u.own_marks (spec_trees (head_specs o))).marked) signature.1 ∙ head_marked signature.0 ∙ ap (λ z. z.1.privileged) same
+
+structs_unmarked : (p : ProgramTree) (ns : List ℕ) (name : List ℕ) (b : Bool) (j : ℕ) (x : ItemTree) → slice_get (map (struct_item p.structs) ns) j ≡ Some x → MarkedAs name b x
+structs_unmarked p ns name b j x at f is named = let back = mapped_back (struct_item p.structs) ns j x at in absurd (other (back.2 ∙ is))
+  where
+    other : {d : _} → declares d ≡ function f → ⊥
+    other e = cc
+
+globals_unmarked : (p : ProgramTree) (gs : List GlobalTree) (name : List ℕ) (b : Bool) (j : ℕ) (x : ItemTree) → slice_get (map (global_item p.structs) gs) j ≡ Some x → MarkedAs name b x
+globals_unmarked p gs name b j x at f is named = let back = mapped_back (global_item p.structs) gs j x at in absurd (other (back.2 ∙ is))
+  where
+    other : {d : _} → declares d ≡ function f → ⊥
+    other e = cc
+
+items_marked : (monitor : Bool) (p : ProgramTree) (n : ℕ) (s : ℕ × Signature) → Sound monitor p → FunctionsApart p.signatures → slice_get p.signatures n ≡ Some s → (j : ℕ) (x : ItemTree) → slice_get (half_tree monitor p) j ≡ Some x → MarkedAs (text_name s) s.1.privileged x
+items_marked monitor p n s sound apart there =
+    let name = text_name s in
+    let b = s.1.privileged in
+    joined_each (MarkedAs name b) (map (struct_item p.structs) (range_with_len 0 (length p.structs))) (map (prototype_of monitor p) p.signatures ++ (map (global_item p.structs) p.globals ++ map (function_item p) p.functions))
+    (structs_unmarked p (range_with_len 0 (length p.structs)) name b)
+    (joined_each (MarkedAs name b) (map (prototype_of monitor p) p.signatures) (map (global_item p.structs) p.globals ++ map (function_item p) p.functions) (prototypes_marked monitor p n s apart there)
+    (joined_each (MarkedAs name b) (map (global_item p.structs) p.globals) (map (function_item p) p.functions) (globals_unmarked p p.globals name b) (definitions_marked monitor p n s sound apart there)))
+
+-- ---- where an item stands
+
+got_behind : {A : Type 0} (xs ys : List A) (k : ℕ) (y : A) → slice_get ys k ≡ Some y → slice_get (xs ++ ys) (length xs + k) ≡ Some y
+got_behind [] ys k y h = ap (slice_get ys) (omega arith) ∙ h
+got_behind (x ∷ xs) ys k y h = let same : suc (length xs) + k ≡ suc (length xs + k) = omega arith in ap (slice_get (x ∷ (xs ++ ys))) same ∙ got_behind xs ys k y h
+
+got_before : {A : Type 0} (xs ys : List A) (k : ℕ) (y : A) → slice_get xs k ≡ Some y → slice_get (xs ++ ys) k ≡ Some y
+got_before [] ys k y h = cc
+got_before (x ∷ xs) ys zero y h = h
+got_before (x ∷ xs) ys (suc k) y h = got_before xs ys k y h
+
+prototype_there : (monitor : Bool) (p : ProgramTree) (n : ℕ) (s : ℕ × Signature) → slice_get p.signatures n ≡ Some s → slice_get (half_tree monitor p) (length (map (struct_item p.structs) (range_with_len 0 (length p.structs))) + n) ≡ Some (prototype_of monitor p s)
+prototype_there monitor p n s there =
+    got_behind (map (struct_item p.structs) (range_with_len 0 (length p.structs))) (map (prototype_of monitor p) p.signatures ++ (map (global_item p.structs) p.globals ++ map (function_item p) p.functions)) n (prototype_of monitor p s)
+    (got_before (map (prototype_of monitor p) p.signatures) (map (global_item p.structs) p.globals ++ map (function_item p) p.functions) n (prototype_of monitor p s) (mapped_there (prototype_of monitor p) p.signatures n s there))
+
+definition_there : (monitor : Bool) (p : ProgramTree) (n : ℕ) (f : FunctionTree) → slice_get p.functions n ≡ Some f → (j : ℕ) × (slice_get (half_tree monitor p) j ≡ Some (function_item p f))
+definition_there monitor p n f there =
+    (length (map (struct_item p.structs) (range_with_len 0 (length p.structs))) + (length (map (prototype_of monitor p) p.signatures) + (length (map (global_item p.structs) p.globals) + n)),
+    got_behind (map (struct_item p.structs) (range_with_len 0 (length p.structs))) (map (prototype_of monitor p) p.signatures ++ (map (global_item p.structs) p.globals ++ map (function_item p) p.functions)) _ (function_item p f)
+    (got_behind (map (prototype_of monitor p) p.signatures) (map (global_item p.structs) p.globals ++ map (function_item p) p.functions) _ (function_item p f)
+    (got_behind (map (global_item p.structs) p.globals) (map (function_item p) p.functions) n (function_item p f) (mapped_there (function_item p) p.functions n f there))))
+
+-- ---- together
+
+or_right : (a b : Bool) → b ≡ true → (a || b) ≡ true
+or_right true b h = refl
+or_right false b h = h
+
+or_left : (a b : Bool) → a ≡ true → (a || b) ≡ true
+or_left a b h = λ i. h i || b
+
+privileged_is : (monitor : Bool) (p : ProgramTree) (n : ℕ) (s : ℕ × Signature) → Sound monitor p → FunctionsApart p.signatures → slice_get p.signatures n ≡ Some s → (own_marks monitor p (text_name s)).privileged ≡ s.1.privileged
+privileged_is monitor p n s sound apart there = go s.1.privileged refl
+  where
+    each : (j : ℕ) (d : parsed.FunctionTree) → slice_get (declarations_of (half_tree monitor p) (text_name s)) j ≡ Some d → (u.own_marks d.specs).marked ≡ s.1.privileged
+    each = only_declared (λ d. (u.own_marks d.specs).marked ≡ s.1.privileged) (half_tree monitor p) (text_name s) (λ k f at named. items_marked monitor p n s sound apart there k (function f) at f refl named)
+
+    first : (j : ℕ) × (d : parsed.FunctionTree) × (slice_get (declarations_of (half_tree monitor p) (text_name s)) j ≡ Some d)
+    first =
+        let found = declared_in (half_tree monitor p) (text_name s) _ _ (prototype_there monitor p n s there) (ap (λ name. bytes_eq name (text_name s)) (own_name monitor (function_at p s.0) s.1 s.0) ∙ name_self (text_name s)) in
+        (found.0, _, found.1)
+
+    go : (b : Bool) → s.1.privileged ≡ b → (own_marks monitor p (text_name s)).privileged ≡ s.1.privileged
+    go false is = never_rises (declarations_of (half_tree monitor p) (text_name s)) undeclared refl (λ k d at. each k d at ∙ is) ∙ sym is
+    go true is =
+        reached (λ m. m.privileged) (λ m d h. or_left m.privileged (u.own_marks d.specs).marked h) (declarations_of (half_tree monitor p) (text_name s)) undeclared first.0 first.1 first.2
+        (λ m. or_right m.privileged (u.own_marks first.1.specs).marked (each first.0 first.1 first.2 ∙ is))
+        ∙ sym is
+
+find_back : (fs : List FunctionTree) (n : ℕ) (f : FunctionTree) → find (λ g. nat_eq n g.id) fs ≡ Some f → (k : ℕ) × (slice_get fs k ≡ Some f) × (n ≡ f.id)
+find_back [] n f h = cc
+find_back (g ∷ gs) n f h = go (nat_eq n g.id) refl h (find_back gs n f)
+  where
+    same : Some g ≡ Some f → g ≡ f
+    same e = cc
+
+    go : (b : Bool) → nat_eq n g.id ≡ b → cond b (Some g) (find (λ x. nat_eq n x.id) gs) ≡ Some f → (find (λ x. nat_eq n x.id) gs ≡ Some f → (k : ℕ) × (slice_get gs k ≡ Some f) × (n ≡ f.id)) → (k : ℕ) × (slice_get (g ∷ gs) k ≡ Some f) × (n ≡ f.id)
+    go true is e again = (0, e, same_number n g.id is ∙ ap (λ x. x.id) (same e))
+    go false is e again = let behind = again e in (suc behind.0, behind.1, behind.2)
+
+defined_is : (monitor : Bool) (p : ProgramTree) (n : ℕ) (s : ℕ × Signature) → Sound monitor p → slice_get p.signatures n ≡ Some s → is_some (function_at p s.0) ≡ true → (own_marks monitor p (text_name s)).defined ≡ true
+defined_is monitor p n s sound there some = go (function_at p s.0) refl some
+  where
+    with_body : (f : FunctionTree) → function_at p s.0 ≡ Some f → (own_marks monitor p (text_name s)).defined ≡ true
+    with_body f found =
+        let back = find_back p.functions s.0 f found in
+        let signature = signature_there monitor p f (all_there (function_fits monitor p) p.functions back.0 f sound.functions back.1) in
+        let place = lookup_place p.signatures f.id signature.0 signature.1 in
+        let where_it_is = once_there 0 (map (λ x. x.0) p.signatures) place.place n s.0 sound.order.0 (mapped_there (λ x. x.0) p.signatures place.place (f.id, signature.0) place.there ∙ ap Some (sym back.2)) (mapped_there (λ x. x.0) p.signatures n s there) in
+        let same = same_entry (f.id, signature.0) s (sym place.there ∙ ap (slice_get p.signatures) where_it_is ∙ there) in
+        let item = definition_there monitor p back.0 f back.1 in
+        let found_in = declared_in (half_tree monitor p) (text_name s) item.0 (definition p f) item.1 (ap (λ name. bytes_eq name (text_name s)) (ap (function_by f.id) signature.1 ∙ ap text_name same) ∙ name_self (text_name s)) in
+        reached (λ m. m.defined) (λ m d h. or_left m.defined (is_some d.body) h) (declarations_of (half_tree monitor p) (text_name s)) undeclared found_in.0 (definition p f) found_in.1 (λ m. or_right m.defined true refl)
+
+    go : (o : Option FunctionTree) → function_at p s.0 ≡ o → is_some o ≡ true → (own_marks monitor p (text_name s)).defined ≡ true
+    go None is e = cc
+    go (Some f) is e = with_body f is
+
+pub whole_say : (monitor : Bool) (p : ProgramTree) → Sound monitor p → FunctionsApart p.signatures → MarksSay (whole_marks monitor p) p
+whole_say monitor p sound apart = record {
+  privileged = λ n s there. privileged_is monitor p n s sound apart there;
+  bodies = λ n s there some. refl;
+  pointers = λ n s there some. refl;
+}
+
+pub own_say : (monitor : Bool) (p : ProgramTree) → Sound monitor p → FunctionsApart p.signatures → prototypes_take_no_pointers p ≡ true → MarksSay (own_marks monitor p) p
+own_say monitor p sound apart plain = record {
+  privileged = λ n s there. privileged_is monitor p n s sound apart there;
+  bodies = λ n s there some. defined_is monitor p n s sound there some;
+  pointers = λ n s there some. defined_is monitor p n s sound there (left_so (is_some (function_at p s.0)) (takes_no_pointer s.1) (all_there (λ t. is_some (function_at p t.0) || takes_no_pointer t.1) p.signatures n s plain there) some);
+}
+  where
+    left_so : (a b : Bool) → (a || b) ≡ true → b ≡ false → a ≡ true
+    left_so true b h e = refl
+    left_so false b h e = cc
