@@ -10,11 +10,11 @@ use Rattle.pt_tree.specs.ProgramTree.{ItemTree}
 use Rattle.typed_tree.specs.declared.types.VarTy.{VarTy}
 use Rattle.typed_tree.specs.WellFormed.{are_rising}
 use Rattle.check_declarations.specs.Structs.{Structs}
-use Rattle.check_expressions.specs.Environment.{Env}
+use Rattle.check_expressions.specs.Environment.{Env, meaning_at}
 use Rattle.check_statements.specs.Outermost as o
 use Rattle.check_statements.specs.Statements.{CheckedAll, checked_all}
 use Rattle.check_programs.specs.Blocks.{block_in}
-use Rattle.check_programs.specs.Functions.{Checked, Head, has_body, head_of}
+use Rattle.check_programs.specs.Functions.{Checked, Head, has_body, head_of, declared, declared_as, function_in, with_start, with_head}
 use Rattle.check_programs.specs.Programs.{checked_items}
 use Rattle.check_programs.specs.Progress.{Progress, at_start}
 use Rattle.source_meaning.specs.Expressions as sm
@@ -25,7 +25,9 @@ use Rattle.pt_core.specs.WellFormed.{is_sound, signature_at, signature_fits, cal
 use Rattle.half_trees.specs.Names.{nowhere, local_name, function_by}
 use Rattle.half_trees.specs.Declarations.{struct_item, global_item}
 use Rattle.half_trees.specs.Functions.{locals_from, body_tree, function_item}
+use Rattle.half_trees.specs.Statements.{statements_trees}
 use Rattle.half_trees.specs.Halves.{prototype_of, half_tree}
+use Rattle.half_meaning_law.specs.CForms.{are_said}
 use Rattle.half_meaning_law.specs.Known.{function_id, result_as}
 use Rattle.half_meaning_law.specs.Statements.{BodiesKeepTheirMeaning}
 use Rattle.half_names_law.specs.Declarable.{Declarable, signature_marked, has_small_frame, prototypes_take_no_pointers}
@@ -41,7 +43,7 @@ use Rattle.half_names_law.proofs.Prototypes.{Rest, at}
 use Rattle.half_names_law.proofs.Locals.{declaration_trees}
 use Rattle.half_names_law.proofs.Definitions.{at_body, trees_joined}
 use Rattle.half_names_law.proofs.Walk.{Reaches, SignaturesFit, SignatureFits, Declared, Filled, items_joined, prototypes_added, globals_added}
-use Rattle.half_names_law.proofs.Names.{text_name, callable_in, half_file, half_env, global_object, functions_file, globals_file, function_found, function_meant}
+use Rattle.half_names_law.proofs.Names.{FunctionsApart, text_name, callable_in, half_file, half_env, global_object, functions_file, globals_file, function_found, function_meant}
 use Rattle.half_names_law.proofs.Known.{local_names, standing, all_known, functions_known, all_there}
 use Rattle.half_names_law.proofs.Parts.{parameters_in, definition_is, half_variables, variables_are, locals_declared}
 use Rattle.half_names_law.proofs.Premises.{Whole, MarksSay, signature_fit, globals_fit}
@@ -125,3 +127,125 @@ passes_before bodies marks monitor p n h d said say =
   where
     none_before : (k : ℕ) → 0 + k ≡ k
     none_before k = omega arith
+
+-- ---- at a function
+
+-- what is known where the walk stands before a function
+record KnownAt (marks : Marks) (monitor : Bool) (p : ProgramTree) (f : FunctionTree) (s : Signature) (st : Progress) : Type 0 where
+  head_fine : (head_at marks st p f).faults ≡ []
+  result : (head_at marks st p f).callable.result ≡ result_as s.result
+  locals_fine : (locals_at marks st p f).faults ≡ []
+  body : (let within = behind_head marks st p f in block_in (result_as s.result) within.env within.structs (length within.exprs) (body_tree p f).items)
+      ≡ one_behind (locals_at marks st p f) (statements_checked p f s (locals_at marks st p f).state)
+  known : (frames : ℕ → List VarTy) (frame : sm.Frame) (calls : sm.Calls) (core_calls : c.Calls) → frames frame.depth ≡ map (λ x. x.ty) f.vars → KnownIn monitor p (scene_of p f frames frame calls core_calls) (locals_at marks st p f).state
+
+head_there : (marks : Marks) (monitor : Bool) (p : ProgramTree) (f : FunctionTree) (s : Signature) (r : Rest) → HalfFits monitor p (half_structs p) → FunctionFits marks monitor p (half_structs p) f s
+    → head_at marks (at (half_env monitor p) (half_structs p) r) p f ≡ head_as (half_env monitor p) (half_structs p) (marks (text_name (f.id, s))) (text_name (f.id, s)) s.result (parameters_in f)
+head_there marks monitor p f s r half fits =
+    ap (λ d. head_of (marks d.declarator.name.bytes) (half_env monitor p) (half_structs p) d) (definition_is p f s fits.named)
+    ∙ head_is (marks (text_name (f.id, s))) (half_file p) (map (callable_in monitor p) p.signatures) (map global_object p.globals) (half_structs p) p.structs (text_name (f.id, s)) s (parameters_in f) (Some (body_tree p f))
+    fits.declassify fits.parameters (few_in f fits.few) eight
+
+-- the head is that of a function which was declared before
+behind_there : (marks : Marks) (monitor : Bool) (p : ProgramTree) (f : FunctionTree) (s : Signature) (r : Rest) (k : ℕ) → HalfFits monitor p (half_structs p) → FunctionFits marks monitor p (half_structs p) f s → slice_get p.signatures k ≡ Some (f.id, s)
+    → behind_head marks (at (half_env monitor p) (half_structs p) r) p f
+    ≡ at_body (marks (text_name (f.id, s))) (half_file p) (map (callable_in monitor p) p.signatures) (map global_object p.globals) (half_structs p) r (text_name (f.id, s)) s (parameters_in f)
+behind_there marks monitor p f s r k half fits place =
+    let m = marks (text_name (f.id, s)) in
+    let head = head_there marks monitor p f s r half fits in
+    let within = at_body m (half_file p) (map (callable_in monitor p) p.signatures) (map global_object p.globals) (half_structs p) r (text_name (f.id, s)) s (parameters_in f) in
+    (λ i. declared (marks (function_by f.id (fits.named i))) (with_start (with_head (at (half_env monitor p) (half_structs p) r) (head i)) (head i).callable true) (head i).callable nowhere)
+    ∙ ap (λ meaning. declared_as m within (callable_as (text_name (f.id, s)) s.result (parameters_in f)) nowhere (function_in meaning))
+    (ap (meaning_at (half_file p)) (function_found p.signatures p.globals k (f.id, s) half.apart.functions place) ∙ function_meant p.signatures p.globals k (f.id, s) place)
+
+locals_there : (marks : Marks) (monitor : Bool) (p : ProgramTree) (f : FunctionTree) (s : Signature) (r : Rest) (k : ℕ) → HalfFits monitor p (half_structs p) → FunctionFits marks monitor p (half_structs p) f s → slice_get p.signatures k ≡ Some (f.id, s)
+    → locals_at marks (at (half_env monitor p) (half_structs p) r) p f
+    ≡ record { state = statements_state monitor p f (variables_at marks f s) (half_structs p) (length r.exprs); bodies = declaration_trees f.params (drop f.params f.vars); trees = []; faults = [] }
+locals_there marks monitor p f s r k half fits place =
+    let head = head_there marks monitor p f s r half fits in
+    let behind = behind_there marks monitor p f s r k half fits place in
+    (λ i. checked_all (body_context (head i).callable.result) (body_state (behind i)) (stmt_trees (locals_from p.structs f.params (drop f.params f.vars))))
+    ∙ locals_declared (body_context (result_as s.result)) (half_env monitor p) (marks (text_name (f.id, s))) (half_structs p) p.structs (length r.exprs) f fits.locals fits.enough fits.small half.differ
+
+-- a body is judged in its two parts
+body_parts : (marks : Marks) (p : ProgramTree) (f : FunctionTree) (s : Signature) (st : Progress) → (head_at marks st p f).callable.result ≡ result_as s.result
+    → (let within = behind_head marks st p f in block_in (result_as s.result) within.env within.structs (length within.exprs) (body_tree p f).items)
+    ≡ one_behind (locals_at marks st p f) (statements_checked p f s (locals_at marks st p f).state)
+unfolding block_in
+body_parts marks p f s st same =
+    let locals = locals_from p.structs f.params (drop f.params f.vars) in
+    trees_joined locals (statements_trees p.signatures (context_of p f.vars) f.body) (body_context (result_as s.result)) (body_state (behind_head marks st p f))
+    ∙ (λ i. one_behind (checked_all (body_context (sym same i)) (body_state (behind_head marks st p f)) (stmt_trees locals))
+    (statements_checked p f s (checked_all (body_context (sym same i)) (body_state (behind_head marks st p f)) (stmt_trees locals)).state))
+
+known_at : (marks : Marks) (monitor : Bool) (p : ProgramTree) (f : FunctionTree) (s : Signature) (r : Rest) → HalfFits monitor p (half_structs p) → FunctionFits marks monitor p (half_structs p) f s → KnownAt marks monitor p f s (at (half_env monitor p) (half_structs p) r)
+known_at marks monitor p f s r half fits =
+    let place = lookup_place p.signatures f.id s fits.named in
+    let head = head_there marks monitor p f s r half fits in
+    let locals = locals_there marks monitor p f s r place.place half fits place.there in
+    let result : (head_at marks (at (half_env monitor p) (half_structs p) r) p f).callable.result ≡ result_as s.result = ap (λ h. h.callable.result) head in
+    record {
+      head_fine = ap (λ h. h.faults) head;
+      result = result;
+      locals_fine = ap (λ l. l.faults) locals;
+      body = body_parts marks p f s (at (half_env monitor p) (half_structs p) r) result;
+      known = λ frames frame calls core_calls same.
+          subst (KnownIn monitor p (scene_of p f frames frame calls core_calls)) (sym (ap (λ l. l.state) locals))
+          (record {
+            fits = scene_fits monitor p (half_structs p) f frames frame calls core_calls half same;
+            known = all_known monitor p f frames frame calls core_calls (variables_at marks f s) (half_structs p) (variables_are (marks (text_name (f.id, s))) f) fits.small half.differ half.apart half.plain half.table half.structs_fit;
+            functions = functions_known monitor p f frames frame calls core_calls (variables_at marks f s) half.apart;
+          });
+    }
+
+names_known : (bodies : BodiesKeepTheirMeaning) (marks : Marks) (monitor : Bool) (p : ProgramTree) (n : ℕ) (f : FunctionTree) (s : Signature) → is_sound monitor p ≡ true → Declarable p → all_said monitor p ≡ true → MarksSay marks p
+    → slice_get p.functions n ≡ Some f → signature_at p f.id ≡ Some s → NamesKnown marks monitor p n f s
+names_known bodies marks monitor p n f s h d said say there named =
+    let passes = passes_before bodies marks monitor p n h d said say in
+    let known = subst (KnownAt marks monitor p f s) (sym passes.is) (known_at marks monitor p f s passes.rest (half_fits monitor p h d) (function_fit marks monitor p n f s h d said say there named)) in
+    record { before_fine = passes.faults; head_fine = known.head_fine; result = known.result; locals_fine = known.locals_fine; body = known.body; known = known.known }
+
+-- ---- the laws
+
+functions_differ : (monitor : Bool) (p : ProgramTree) → is_sound monitor p ≡ true → Declarable p → FunctionsApart p.signatures
+functions_differ monitor p h d = (half_fits monitor p h d).apart.functions
+
+pub half_names : BodiesKeepTheirMeaning → HalfNamesAreKnown
+half_names bodies monitor p n f s h d said there named =
+    names_known bodies (whole_marks monitor p) monitor p n f s h d said (whole_say monitor p (soundness monitor p h) (functions_differ monitor p h d)) there named
+
+pub own_names : BodiesKeepTheirMeaning → OwnNamesAreKnown
+own_names bodies monitor p n f s h d said plain there named =
+    names_known bodies (own_marks monitor p) monitor p n f s h d said (own_say monitor p (soundness monitor p h) (functions_differ monitor p h d) plain) there named
+
+-- the walk over the whole half
+no_fault : (bodies : BodiesKeepTheirMeaning) (marks : Marks) (monitor : Bool) (p : ProgramTree) → is_sound monitor p ≡ true → Declarable p → all_said monitor p ≡ true → MarksSay marks p → list_all (has_small_frame p) p.functions ≡ true
+    → (checked_items marks at_start (half_tree monitor p)).faults ≡ []
+no_fault bodies marks monitor p h d said say small =
+    let passes = passes_before bodies marks monitor p (length p.functions) h d said say in
+    let all = take_all p.functions in
+    subst (λ fs. (checked_items marks at_start (map (struct_item p.structs) (range_with_len 0 (length p.structs)) ++ (map (prototype_of monitor p) p.signatures ++ (map (global_item p.structs) p.globals ++ map (function_item p) fs)))).faults ≡ []) all
+    (passes.faults (subst (λ fs. list_all (has_small_frame p) fs ≡ true) (sym all) small))
+  where
+    take_all : {A : Type 0} (xs : List A) → take (length xs) xs ≡ xs
+    take_all [] = refl
+    take_all (x ∷ xs) = ap (λ ys. x ∷ ys) (take_all xs)
+
+pub no_faults : BodiesKeepTheirMeaning → HalvesHaveNoFault
+no_faults bodies monitor p h d said small =
+    let sound = soundness monitor p h in
+    let apart = functions_differ monitor p h d in
+    (no_fault bodies (whole_marks monitor p) monitor p h d said (whole_say monitor p sound apart) small,
+    λ plain. no_fault bodies (own_marks monitor p) monitor p h d said (own_say monitor p sound apart plain) small)
+
+meaning_kept : (bodies : BodiesKeepTheirMeaning) (marks : Marks) (monitor : Bool) (p : ProgramTree) (n : ℕ) (f : FunctionTree) (s : Signature) → is_sound monitor p ≡ true → all_said monitor p ≡ true → slice_get p.functions n ≡ Some f → signature_at p f.id ≡ Some s
+    → NamesKnown marks monitor p n f s → MeaningKept marks monitor p n f s
+meaning_kept bodies marks monitor p n f s h said there named known frames frame calls core_calls same alike =
+    let here = known.known frames frame calls core_calls same in
+    bodies monitor p n f s (scene_of p f frames frame calls core_calls) (body_context (result_as s.result)) (statements_at marks monitor p n f) h there named here.fits refl alike here.known here.functions refl
+    (all_there (λ g. are_said (context_of p g.vars) (called_signature monitor p) g.body) p.functions n f said there)
+
+pub meanings : BodiesKeepTheirMeaning → HalvesKeepTheirMeaning
+meanings bodies monitor p n f s h d said there named =
+    (meaning_kept bodies (whole_marks monitor p) monitor p n f s h said there named (half_names bodies monitor p n f s h d said there named),
+    λ plain. meaning_kept bodies (own_marks monitor p) monitor p n f s h said there named (own_names bodies monitor p n f s h d said plain there named))
