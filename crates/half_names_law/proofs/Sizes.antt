@@ -14,9 +14,10 @@ use Rattle.typed_tree.specs.declared.types.VarTy.{VarTy}
 use Rattle.typed_tree.specs.declared.types.VarTy.TheVariants.{Int, Struct, Array, Pointer}
 use Rattle.typed_tree.specs.Cells.{leaves_of, repeated}
 use Rattle.typed_tree.specs.TypeTests.{type_of_elem}
-use Rattle.typed_tree.specs.WellFormed.{is_plain_type, is_small, field_sound}
+use Rattle.typed_tree.specs.WellFormed.{is_plain_type, is_small, field_sound, structs_sound}
 use Rattle.typed_tree.specs.WellFormedExpression.{is_elem}
 use Rattle.typed_tree.proofs.LeavesLemmas.{leaves_of_int, leaves_of_array}
+use Rattle.core_soundness.proofs.Leaves.{struct_leaf}
 use Rattle.check_declarations.specs.Cells.{counted, cells_of, cells_of_elem}
 use Rattle.check_declarations.specs.NameTables.{values}
 use Rattle.check_declarations.specs.Structs.{Structs}
@@ -74,3 +75,29 @@ struct_few structs infos n all few h =
     let sum = fields_few structs infos n all 0 all few h in
     let less = counted_less (sum_by (λ f. cells_of structs f.ty) (values (listed (entry_of all) 0 all))) in
     omega (arith, sum, less)
+
+-- ---- an array that isn't too large has no more elements than an object may have cells
+
+one_leaf : (infos : List StructInfo) → structs_sound infos 0 infos ≡ true → (n : ℕ) → n ≤ length infos → (el : Elem) → is_elem n (Some el) ≡ true → 1 ≤ length (leaves_of infos (type_of_elem el))
+one_leaf infos sound n low (elem.Int t) h = let one : length (leaves_of infos (Int t)) ≡ 1 = ap length (leaves_of_int infos t) in omega (arith, one)
+one_leaf infos sound n low (elem.Struct m) h = struct_leaf infos sound m (below m n (length infos) h low)
+  where
+    below : (m n all : ℕ) → nat_lt m n ≡ true → n ≤ all → m < all
+    below m n all h low = let less : m < n = grind (arith, nat_tests, h) in omega (arith, less, low)
+
+repeated_long : (count : ℕ) (ts : List IntType) → 1 ≤ length ts → count ≤ length (repeated count ts)
+repeated_long zero ts h = omega arith
+repeated_long (suc count) ts h = let long = length-append ts (repeated count ts) in let rest = repeated_long count ts h in omega (arith, long, rest, h)
+
+pub array_few : (infos : List StructInfo) → structs_sound infos 0 infos ≡ true → (n : ℕ) → n ≤ length infos → (el : Elem) (count : ℕ) → is_elem n (Some el) ≡ true → is_small infos (Array el count) ≡ true → nat_le count 65_536 ≡ true
+array_few infos sound n low el count h small =
+    let all : length (leaves_of infos (Array el count)) ≡ length (repeated count (leaves_of infos (type_of_elem el))) = ap length (leaves_of_array infos el count) in
+    let long = repeated_long count (leaves_of infos (type_of_elem el)) (one_leaf infos sound n low el h) in
+    let most = at_most (length (leaves_of infos (Array el count))) small in
+    fewer count (omega (arith, all, long, most))
+  where
+    at_most : (k : ℕ) → nat_le k 65_536 ≡ true → k ≤ 65536
+    at_most k h = grind (arith, nat_tests, h)
+
+    fewer : (k : ℕ) → k ≤ 65536 → nat_le k 65_536 ≡ true
+    fewer k h = grind (arith, nat_tests, h)

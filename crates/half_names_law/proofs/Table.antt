@@ -33,14 +33,13 @@ use Rattle.core_soundness.proofs.Leaves.{sound_at, got_below}
 use Rattle.pt_core.specs.Types.{element_of}
 use Rattle.half_trees.specs.Names.{struct_name, field_by}
 use Rattle.half_trees.specs.Declarations.{is_pointer, struct_item}
-use Rattle.half_trees_law.proofs.Counts.{typed_counted, variable_from_plain}
 use Rattle.half_meaning_law.specs.Known.{type_as}
 use Rattle.half_names_law.specs.Standing.{Marks}
 use Rattle.half_names_law.proofs.Tables.{Differ, pushed, get_end, listed, listed_length, found, sought_first, is_new_where}
 use Rattle.half_names_law.proofs.Specifiers.{IsNamed}
 use Rattle.half_names_law.proofs.Objects.{Fits, is_dense, both_hold}
 use Rattle.half_names_law.proofs.Structs.{entry_of, field_entry, fields_as, AllFit, FieldFits, behind, struct_added}
-use Rattle.half_names_law.proofs.Sizes.{CellsFew, object_few, struct_few}
+use Rattle.half_names_law.proofs.Sizes.{CellsFew, object_few, struct_few, array_few}
 
 -- ---- the table of so many structs
 
@@ -98,7 +97,7 @@ plain_dense : (infos : List StructInfo) (n : ℕ) (u : VarTy) → structs_sound 
 plain_dense infos n (Int t) sound low h small = refl
 plain_dense infos n (Struct m) sound low h small = refl
 plain_dense infos n (Array el count) sound low h small =
-    both_so (nat_le 1 count) (nat_le count 65_536) (both_hold (is_elem n (Some el)) (nat_le 1 count) h).1 (typed_counted infos sound n low (Array el count) h small)
+    both_so (nat_le 1 count) (nat_le count 65_536) (both_hold (is_elem n (Some el)) (nat_le 1 count) h).1 (array_few infos sound n low el count (both_hold (is_elem n (Some el)) (nat_le 1 count) h).0 small)
   where
     both_so : (a b : Bool) → a ≡ true → b ≡ true → (a && b) ≡ true
     both_so a b p q = λ i. p i && q i
