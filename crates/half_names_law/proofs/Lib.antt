@@ -23,3 +23,4 @@ pub mod Premises
 pub mod Halves
 pub mod Marks
 pub mod Law
+mod Worked
