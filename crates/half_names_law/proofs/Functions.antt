@@ -135,7 +135,7 @@ by_body marks monitor p structs r f s k all = record {
   faults = all.faults ++ fault_if (are_too_large all.state.structs all.state.env.variables) TooLarge nowhere;
 }
 
-few_taken : (n : ℕ) (xs : List Var) → length (map marked_var (take n xs)) ≤ n
+pub few_taken : (n : ℕ) (xs : List Var) → length (map marked_var (take n xs)) ≤ n
 few_taken zero xs = omega arith
 few_taken (suc n) [] = omega arith
 few_taken (suc n) (x ∷ xs) = let again = few_taken n xs in omega (arith, again)
@@ -239,10 +239,28 @@ small_frame marks monitor p structs f s fits small =
     not_large : (a b c : ℕ) → a ≡ b → b ≤ c → nat_le c 16384 ≡ true → nat_lt 16384 a ≡ false
     not_large a b c same less few = let most : c ≤ 16384 = grind (arith, nat_tests, few) in let low : a ≤ 16384 = omega (arith, same, less, most) in grind (arith, nat_tests, low)
 
+-- the function with this signature is one that a program begins with
+abbrev pub starts_by : FunctionTree → Option Signature → Bool
+starts_by f None = false
+starts_by f (Some s) = is_start (callable_as (text_name (f.id, s)) s.result (parameters_in f)) true
+
+abbrev pub starts : ProgramTree → FunctionTree → Bool
+starts p f = starts_by f (signature_at p f.id)
+
+-- whether main was there, or is one of these
+abbrev pub main_after : ProgramTree → Bool → List FunctionTree → Bool
+main_after p b [] = b
+main_after p b (f ∷ fs) = main_after p (starts p f || b) fs
+
+-- what holds behind these functions
+pub record Behind (p : ProgramTree) (before : Bool) (fs later : List FunctionTree) (r : Rest) : Type 0 where
+  pub fresh : Fresh p r later
+  pub main : r.has_main ≡ main_after p before fs
+
 pub functions_added : (bodies : BodiesKeepTheirMeaning) (marks : Marks) (monitor : Bool) (p : ProgramTree) (structs : Structs) (r : Rest) (first start : ℕ) (fs later : List FunctionTree) → HalfFits monitor p structs → FunctionsFit marks monitor p structs
     → ((n : ℕ) (f : FunctionTree) → slice_get (fs ++ later) n ≡ Some f → slice_get p.functions (start + n) ≡ Some f) → are_rising first (map (λ g. g.id) (fs ++ later)) ≡ true → Fresh p r (fs ++ later)
-    → Passes (checked_items marks (at (half_env monitor p) structs r) (map (function_item p) fs)) (half_env monitor p) structs (list_all (has_small_frame p) fs ≡ true) (λ r'. Fresh p r' later)
-functions_added bodies marks monitor p structs r first start [] later half fit among rise fresh = record { rest = r; is = refl; faults = λ h. refl; holds = fresh }
+    → Passes (checked_items marks (at (half_env monitor p) structs r) (map (function_item p) fs)) (half_env monitor p) structs (list_all (has_small_frame p) fs ≡ true) (Behind p r.has_main fs later)
+functions_added bodies marks monitor p structs r first start [] later half fit among rise fresh = record { rest = r; is = refl; faults = λ h. refl; holds = record { fresh = fresh; main = refl } }
 functions_added bodies marks monitor p structs r first start (f ∷ fs) later half fit among rise fresh =
     let there : slice_get p.functions start ≡ Some f = ap (slice_get p.functions) (omega arith) ∙ among 0 f refl in
     let own = fit start f there in
@@ -260,7 +278,7 @@ functions_added bodies marks monitor p structs r first start (f ∷ fs) later ha
       faults = λ small.
           let parts = both_hold (has_small_frame p f) (list_all (has_small_frame p) fs) small in
           ap (λ c. c.faults) whole ∙ (λ i. small_frame marks monitor p structs f s own.fits parts.0 i ++ again.faults parts.1 i);
-      holds = again.holds;
+      holds = record { fresh = again.holds.fresh; main = again.holds.main ∙ ap (λ o. main_after p (starts_by f o || r.has_main) fs) (sym own.fits.named) };
     }
   where
     next : (a b : ℕ) → suc a + b ≡ a + suc b

@@ -7,16 +7,16 @@ use Rattle.typed_tree.specs.declared.types.VarTy.{VarTy}
 use Rattle.check_statements.specs.Outermost as o
 use Rattle.check_statements.specs.Statements.{CheckedAll, checked_all}
 use Rattle.check_programs.specs.Blocks.{block_in}
-use Rattle.check_programs.specs.Programs.{checked_items}
+use Rattle.check_programs.specs.Programs.{checked_items, with_main, type_faults}
 use Rattle.check_programs.specs.Progress.{Progress, at_start}
 use Rattle.source_meaning.specs.Expressions as m
-use Rattle.pt_core.specs.CodeTree.{FunctionTree, ProgramTree}
+use Rattle.pt_core.specs.CodeTree.{FunctionTree, ProgramTree, SlaveTree}
 use Rattle.pt_core.specs.Statements as c
 use Rattle.pt_core.specs.Statements.{do_all}
-use Rattle.pt_core.specs.WellFormed.{is_sound, signature_at, called_signature, context_of}
+use Rattle.pt_core.specs.WellFormed.{is_sound, signature_at, called_signature, context_of, is_well_formed_slave, slave_program}
 use Rattle.half_trees.specs.Functions.{body_tree}
 use Rattle.half_trees.specs.Statements.{statements_trees}
-use Rattle.half_trees.specs.Halves.{half_tree}
+use Rattle.half_trees.specs.Halves.{half_tree, slave_tree}
 use Rattle.half_meaning_law.specs.Relations.{Scene, frame_of}
 use Rattle.half_meaning_law.specs.Known.{Known, FunctionsKnown, result_as}
 use Rattle.half_meaning_law.specs.Expressions.{SceneFits}
@@ -69,6 +69,12 @@ abbrev pub HalvesHaveNoFault : Type 0
 HalvesHaveNoFault = (monitor : Bool) (p : ProgramTree) → IsTrue (is_sound monitor p) → Declarable p → IsTrue (all_said monitor p) → IsTrue (list_all (has_small_frame p) p.functions) →
     ((checked_items (whole_marks monitor p) at_start (half_tree monitor p)).faults ≡ []) ×
     (IsTrue (prototypes_take_no_pointers p) → (checked_items (own_marks monitor p) at_start (half_tree monitor p)).faults ≡ [])
+
+-- The tree of a slave's half has no type fault: there is a main that it begins with.
+abbrev pub SlavesHaveNoTypeFault : Type 0
+SlavesHaveNoTypeFault = (s : SlaveTree) → IsTrue (is_well_formed_slave s) → Declarable (slave_program s) → IsTrue (all_said false (slave_program s)) → IsTrue (list_all (has_small_frame (slave_program s)) s.functions) →
+    ((with_main (checked_items (whole_marks false (slave_program s)) at_start (slave_tree s))).faults ≡ []) ×
+    (IsTrue (prototypes_take_no_pointers (slave_program s)) → type_faults (slave_tree s) ≡ [])
 
 -- The statements of each function, judged where they stand in the half's own tree, have no fault and mean what
 -- the half's do, whatever frames there are, if calls do.

@@ -5,7 +5,7 @@
 //! with that rule too.
 #![tactic(auto)]
 
-ghost use Rattle.half_names_law.specs.Laws.{HalfNamesAreKnown, HalvesHaveNoFault, HalvesKeepTheirMeaning, OwnNamesAreKnown};
+ghost use Rattle.half_names_law.specs.Laws.{HalfNamesAreKnown, HalvesHaveNoFault, HalvesKeepTheirMeaning, OwnNamesAreKnown, SlavesHaveNoTypeFault};
 
 /// At each function with a body all names are known, where each function counts as one that has a body.
 pub fn half_names_are_known()
@@ -20,6 +20,11 @@ pub fn own_names_are_known()
 /// No item of a half has a fault, where the variables of no function are too large together.
 pub fn halves_have_no_fault()
     ensures { HalvesHaveNoFault }
+{}
+
+/// The tree of a slave's half has no type fault at all.
+pub fn slaves_have_no_type_fault()
+    ensures { SlavesHaveNoTypeFault }
 {}
 
 /// The statements of each function, judged where they stand in the half's own tree, have no fault and mean
