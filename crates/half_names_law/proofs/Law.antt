@@ -34,7 +34,7 @@ use Rattle.half_trees.specs.Functions.{locals_from, body_tree, function_item}
 use Rattle.half_trees.specs.Statements.{statements_trees}
 use Rattle.half_trees.specs.Halves.{prototype_of, half_tree, slave_tree}
 use Rattle.half_meaning_law.specs.CForms.{are_said}
-use Rattle.half_meaning_law.specs.Known.{function_id, result_as}
+use Rattle.half_meaning_law.specs.Known.{type_as, function_id, result_as}
 use Rattle.half_meaning_law.specs.Statements.{BodiesKeepTheirMeaning}
 use Rattle.half_names_law.specs.Declarable.{Declarable, signature_marked, has_small_frame, prototypes_take_no_pointers}
 use Rattle.half_names_law.specs.Standing.{Marks, own_marks, whole_marks, items_before, before, definition, head_at, behind_head, body_state, body_context, locals_at, statements_at, scene_of, all_said}

@@ -1,5 +1,5 @@
 -- What is proved of the names in a half's text, and with it of the half's statements.
-use Rattle.std.specs.Prelude.{◌≡◌, ◌++◌, ℕ, List, [], Bool, Some, IsTrue, length, map, slice_get, take}
+use Rattle.std.specs.Prelude.{◌≡◌, ◌++◌, ℕ, List, [], Bool, false, Some, IsTrue, length, map, slice_get, take}
 use Rattle.std.specs.List.{list_all}
 use Rattle.pt_tree.specs.declared.signature.Signature.{Signature}
 use Rattle.pt_tree.specs.StatementTree.{stmt_trees}
