@@ -1,63 +1,39 @@
 -- The walk over the functions with bodies of a half: it adds no name, and where their statements stand all is known.
-use Rattle.std.proofs.Common.{◌≡◌, ◌++◌, ◌∙◌, ◌<◌, ◌≤◌, ◌+◌, ◌^◌, sym, ap, refl, subst, ℕ, zero, suc, Bool, true, false, List, [], ◌∷◌, length, map, take, drop, Option, Some, None, arith}
-use Rattle.std.specs.Prelude.{IsTrue, ◌&&◌, ◌||◌, nat_eq, nat_le, nat_lt, not, is_some, slice_get, slice_set, sum_by, if◌then◌else◌}
-use Rattle.std.specs.Option.{option_map_or}
-use Rattle.std.specs.List.{list_all}
-use Rattle.std.proofs.lemmas.Bool.Decides.{nat_tests}
-use Rattle.std.proofs.lemmas.List.Sums.{sum_by-cons}
-use Rattle.pt_base.specs.declared.span.Span.{Span}
+use Rattle.std.proofs.Common.{◌≡◌, ◌≤◌, ◌^◌, refl, ℕ, Bool, true, false, List, [], length, map, drop, Some}
+use Rattle.std.specs.Prelude.{slice_get, sum_by}
 use Rattle.pt_tree.specs.declared.signature.Signature.{Signature}
 use Rattle.pt_tree.specs.StatementTree.{StmtTree, stmt_trees}
-use Rattle.pt_tree.specs.ProgramTree as parsed
-use Rattle.pt_tree.specs.ProgramTree.{ItemTree}
 use Rattle.runs.specs.State.{spent}
-use Rattle.type_rules.specs.declared.types.Type.{«Type»}
 use Rattle.typed_tree.specs.declared.types.VarTy.{VarTy}
 use Rattle.typed_tree.specs.declared.variable.Var.{Var}
-use Rattle.typed_tree.specs.StatementTree.{BodyTree, block, body_trees}
-use Rattle.typed_tree.specs.TypedTree as typed_program
 use Rattle.typed_tree.specs.WellFormed.{are_rising, structs_sound}
-use Rattle.check_declarations.specs.declared.fault.FaultKind.TheVariants.{TooLarge}
-use Rattle.check_declarations.specs.declared.fault.TypeFault.{TypeFault}
 use Rattle.check_declarations.specs.Cells.{cells_of}
-use Rattle.check_declarations.specs.Faults.{fault_if}
 use Rattle.check_declarations.specs.Structs.{Structs}
-use Rattle.check_expressions.specs.declared.meaning.Object.{Object}
 use Rattle.check_expressions.specs.declared.meaning.Variable.{Variable}
-use Rattle.check_expressions.specs.Environment.{Env, object_of}
-use Rattle.check_statements.specs.declared.context.Context as k
 use Rattle.check_statements.specs.Outermost as o
 use Rattle.check_statements.specs.Statements.{CheckedAll, checked_all}
-use Rattle.check_programs.specs.declared.function_marks.FunctionMarks.{FunctionMarks}
-use Rattle.check_programs.specs.Blocks.{block_in}
-use Rattle.check_programs.specs.Functions as fn
-use Rattle.check_programs.specs.Functions.{Checked, has_body, with_body, behind_body, are_too_large, is_start, checked_function}
-use Rattle.check_programs.specs.Programs.{checked_item, checked_items, function_name}
 use Rattle.source_meaning.specs.Expressions as sm
 use Rattle.pt_core.specs.Statements as c
 use Rattle.pt_core.specs.CodeTree.{GlobalTree, FunctionTree, ProgramTree}
 use Rattle.pt_core.specs.WellFormed.{is_sound, signature_at, function_at, with_own, called_signature, context_of}
-use Rattle.half_trees.specs.Names.{nowhere, local_name, function_by}
-use Rattle.half_trees.specs.Functions.{locals_from, body_tree, function_item}
+use Rattle.half_trees.specs.Names.{local_name}
 use Rattle.half_trees.specs.Statements.{statements_trees}
 use Rattle.half_meaning_law.specs.CForms.{are_said}
 use Rattle.half_meaning_law.specs.Relations.{is_pointer}
 use Rattle.half_meaning_law.specs.Expressions.{SceneFits}
-use Rattle.half_meaning_law.specs.Known.{type_as, object_as, function_id, result_as}
+use Rattle.half_meaning_law.specs.Known.{type_as, result_as}
 use Rattle.half_meaning_law.specs.Statements.{BodiesKeepTheirMeaning, advanced}
-use Rattle.half_names_law.specs.Declarable.{variable_cells, has_small_frame}
-use Rattle.half_names_law.specs.Standing.{Marks, definition, body_context, scene_of}
+use Rattle.half_names_law.specs.Declarable.{variable_cells}
+use Rattle.half_names_law.specs.Standing.{Marks, body_context, scene_of}
 use Rattle.half_names_law.proofs.Tables.{Differ}
-use Rattle.half_names_law.proofs.Parameters.{Marked, ParametersFit, names_of, variables_of, scoped}
-use Rattle.half_names_law.proofs.Heads.{declaration_by, callable_as, file_env}
-use Rattle.half_names_law.proofs.Prototypes.{Rest, at, marked_param}
-use Rattle.half_names_law.proofs.Locals.{LocalsFit, declaration_trees}
-use Rattle.half_names_law.proofs.Definitions.{at_body, definition_added, trees_joined}
-use Rattle.half_names_law.proofs.Numbers.{lookup_place, mapped_there, number_once, once_there}
-use Rattle.half_names_law.proofs.Table.{IsTable, then_rest}
-use Rattle.half_names_law.proofs.Names.{own, text_name, callable_in, half_file, half_env, global_object, function_found, function_meant}
-use Rattle.half_names_law.proofs.Known.{NamesApart, local_names, AreVariables, standing, all_known, functions_known}
-use Rattle.half_names_law.proofs.Parts.{parameters_in, definition_is, half_variables, variables_are, locals_declared}
+use Rattle.half_names_law.proofs.Parameters.{ParametersFit}
+use Rattle.half_names_law.proofs.Prototypes.{marked_param}
+use Rattle.half_names_law.proofs.Locals.{LocalsFit}
+use Rattle.half_names_law.proofs.Numbers.{number_once}
+use Rattle.half_names_law.proofs.Table.{IsTable}
+use Rattle.half_names_law.proofs.Names.{text_name}
+use Rattle.half_names_law.proofs.Known.{NamesApart, AreVariables, standing, all_known, functions_known}
+use Rattle.half_names_law.proofs.Parts.{parameters_in}
 
 -- ---- what is asked of a function
 

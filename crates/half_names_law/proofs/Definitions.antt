@@ -1,6 +1,6 @@
 -- What the definition of a function adds that was declared before: its body, and no name.
-use Rattle.std.proofs.Common.{◌≡◌, ◌++◌, ◌∙◌, ◌<◌, ◌≤◌, ◌+◌, sym, ap, refl, subst, ℕ, zero, suc, Bool, true, false, List, [], ◌∷◌, length, map, Option, Some, None, is_some, arith}
-use Rattle.std.specs.Prelude.{not, ◌&&◌, ◌||◌, nat_eq, slice_get, if◌then◌else◌}
+use Rattle.std.proofs.Common.{◌≡◌, ◌++◌, ◌∙◌, ◌≤◌, sym, ap, refl, ℕ, Bool, true, false, List, [], ◌∷◌, length, Option, Some, arith}
+use Rattle.std.specs.Prelude.{not, ◌&&◌, ◌||◌, nat_eq, slice_get}
 use Rattle.std.specs.Option.{option_map_or}
 use Rattle.std.proofs.lemmas.Bool.Decides.{nat_tests}
 use Rattle.std.proofs.lemmas.List.{append_assoc}
@@ -9,16 +9,13 @@ use Rattle.pt_base.specs.declared.int_type.IntType.TheVariants as t
 use Rattle.pt_tree.specs.declared.signature.Elem.{Elem}
 use Rattle.pt_tree.specs.declared.signature.Elem.TheVariants as e
 use Rattle.pt_tree.specs.declared.signature.Signature.{Signature}
-use Rattle.pt_tree.specs.StatementTree as s
 use Rattle.pt_tree.specs.StatementTree.{BlockTree, StmtTree, stmt_trees}
 use Rattle.type_rules.specs.declared.types.Type.{«Type»}
 use Rattle.type_rules.specs.declared.types.Type.TheVariants.{Bad, Void, Int, Struct, Array, Pointer}
 use Rattle.type_rules.specs.Types.{is_same_int, is_same_elem}
 use Rattle.typed_tree.specs.declared.types.StructInfo.{StructInfo}
-use Rattle.typed_tree.specs.StatementTree.{BodyTree, block, body_trees}
 use Rattle.typed_tree.specs.TypeTests.{same_bool}
 use Rattle.check_declarations.specs.declared.fault.FaultKind.TheVariants.{Redeclared, TooLarge}
-use Rattle.check_declarations.specs.declared.fault.TypeFault.{TypeFault}
 use Rattle.check_declarations.specs.Faults.{fault_if}
 use Rattle.check_declarations.specs.NameTables.{number_of, value_at}
 use Rattle.check_declarations.specs.Structs.{Structs}
@@ -26,14 +23,14 @@ use Rattle.check_expressions.specs.declared.meaning.Callable.{Callable}
 use Rattle.check_expressions.specs.declared.meaning.Meaning.{Meaning}
 use Rattle.check_expressions.specs.declared.meaning.Meaning.TheVariants.{Function}
 use Rattle.check_expressions.specs.declared.meaning.Object.{Object}
-use Rattle.check_expressions.specs.Environment.{Env, Scope, find_in, meaning_at, function_at}
+use Rattle.check_expressions.specs.Environment.{Scope, meaning_at}
 use Rattle.check_statements.specs.declared.context.Context as k
 use Rattle.check_statements.specs.Outermost as o
 use Rattle.check_statements.specs.Statements as w
 use Rattle.check_statements.specs.Statements.{CheckedAll, checked, checked_all}
 use Rattle.check_programs.specs.declared.function_marks.FunctionMarks.{FunctionMarks}
 use Rattle.check_programs.specs.Blocks.{block_in}
-use Rattle.check_programs.specs.Functions.{Checked, Head, agree, all_agree, differ, has_body, clashes, checked_function, completed, function_in, number_in, declared_as, with_start, with_head, with_definition, behind_body, are_too_large, is_start}
+use Rattle.check_programs.specs.Functions.{Checked, Head, agree, all_agree, differ, has_body, clashes, checked_function, completed, function_in, number_in, declared_as, with_start, with_head, with_definition, behind_body, are_too_large}
 use Rattle.check_programs.specs.Progress.{Progress}
 use Rattle.half_trees.specs.Names.{nowhere, local_name}
 use Rattle.half_meaning_law.specs.Known.{function_id, result_as}

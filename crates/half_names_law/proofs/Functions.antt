@@ -1,18 +1,12 @@
 -- The walk over the functions with bodies of a half.
-use Rattle.std.proofs.Common.{◌≡◌, ◌++◌, ◌∙◌, ◌<◌, ◌≤◌, ◌+◌, ◌^◌, sym, ap, refl, subst, ℕ, zero, suc, Bool, true, false, List, [], ◌∷◌, length, map, take, drop, Option, Some, None, arith}
-use Rattle.std.specs.Prelude.{IsTrue, ◌&&◌, ◌||◌, nat_eq, nat_le, nat_lt, not, is_some, slice_get, slice_set, sum_by, if◌then◌else◌}
+use Rattle.std.proofs.Common.{◌≡◌, ◌++◌, ◌∙◌, ◌≤◌, ◌+◌, sym, ap, refl, ℕ, zero, suc, Bool, true, false, List, [], ◌∷◌, length, map, take, drop, Option, Some, None, arith}
+use Rattle.std.specs.Prelude.{◌&&◌, ◌||◌, nat_le, nat_lt, not, is_some, slice_get, slice_set, sum_by, if◌then◌else◌}
 use Rattle.std.specs.Option.{option_map_or}
 use Rattle.std.specs.List.{list_all}
 use Rattle.std.proofs.lemmas.Bool.Decides.{nat_tests}
-use Rattle.std.proofs.lemmas.List.{append_assoc, map-append}
 use Rattle.std.proofs.lemmas.List.Sums.{sum_by-cons}
 use Rattle.pt_tree.specs.declared.signature.Signature.{Signature}
-use Rattle.pt_tree.specs.StatementTree.{StmtTree, StmtTrees, stmt_trees}
-use Rattle.pt_tree.specs.ProgramTree as parsed
-use Rattle.pt_tree.specs.ProgramTree.{ItemTree}
-use Rattle.type_rules.specs.declared.types.Type.{«Type»}
-use Rattle.typed_tree.specs.declared.types.StructInfo.{StructInfo}
-use Rattle.typed_tree.specs.declared.types.VarTy.{VarTy}
+use Rattle.pt_tree.specs.StatementTree.{StmtTrees, stmt_trees}
 use Rattle.typed_tree.specs.declared.variable.Var.{Var}
 use Rattle.typed_tree.specs.StatementTree.{BodyTree, block, body_trees}
 use Rattle.typed_tree.specs.TypedTree as typed
@@ -22,8 +16,6 @@ use Rattle.check_declarations.specs.declared.fault.TypeFault.{TypeFault}
 use Rattle.check_declarations.specs.Cells.{cells_of}
 use Rattle.check_declarations.specs.Faults.{fault_if}
 use Rattle.check_declarations.specs.Structs.{Structs}
-use Rattle.check_expressions.specs.declared.meaning.Callable.{Callable}
-use Rattle.check_expressions.specs.declared.meaning.Object.{Object}
 use Rattle.check_expressions.specs.declared.meaning.Variable.{Variable}
 use Rattle.check_expressions.specs.Environment.{Env, object_of}
 use Rattle.check_statements.specs.declared.context.Context as k
@@ -36,27 +28,26 @@ use Rattle.check_programs.specs.Functions.{Checked, has_body, with_parts, with_b
 use Rattle.check_programs.specs.Progress.{Progress}
 use Rattle.check_programs.specs.Programs.{checked_item, checked_items, function_name}
 use Rattle.pt_core.specs.CodeTree.{FunctionTree, ProgramTree}
-use Rattle.pt_core.specs.WellFormed.{signature_at, function_at, with_own, context_of}
-use Rattle.half_trees.specs.Names.{nowhere, local_name, function_by}
+use Rattle.pt_core.specs.WellFormed.{signature_at, with_own}
+use Rattle.half_trees.specs.Names.{nowhere, local_name}
 use Rattle.half_trees.specs.Functions.{locals_from, body_tree, function_item}
 use Rattle.half_meaning_law.specs.Known.{type_as, object_as, function_id, result_as}
 use Rattle.half_meaning_law.specs.Statements.{BodiesKeepTheirMeaning, advanced}
 use Rattle.half_names_law.specs.Declarable.{variable_cells, has_small_frame}
-use Rattle.half_names_law.specs.Standing.{Marks, definition, body_context}
+use Rattle.half_names_law.specs.Standing.{Marks, body_context}
 use Rattle.half_names_law.proofs.Tables.{Differ}
 use Rattle.half_names_law.proofs.TextNames.{locals_differ}
 use Rattle.half_names_law.proofs.Objects.{both_hold}
-use Rattle.half_names_law.proofs.Parameters.{Marked, ParametersFit, names_of, variables_of, scoped}
-use Rattle.half_names_law.proofs.Heads.{declaration_by, callable_as, file_env}
+use Rattle.half_names_law.proofs.Parameters.{names_of, variables_of, scoped}
+use Rattle.half_names_law.proofs.Heads.{callable_as}
 use Rattle.half_names_law.proofs.Prototypes.{Rest, at, marked_param}
-use Rattle.half_names_law.proofs.Locals.{LocalsFit, declaration_trees}
+use Rattle.half_names_law.proofs.Locals.{declaration_trees}
 use Rattle.half_names_law.proofs.Definitions.{at_body, definition_added, trees_joined}
-use Rattle.half_names_law.proofs.Numbers.{Place, lookup_place, mapped_there, once_there}
+use Rattle.half_names_law.proofs.Numbers.{lookup_place, mapped_there, once_there}
 use Rattle.half_names_law.proofs.Table.{then_rest}
-use Rattle.half_names_law.proofs.Names.{own, text_name, callable_in, half_file, half_env, global_object, function_found, function_meant}
-use Rattle.half_names_law.proofs.Known.{AreVariables, local_names, standing}
+use Rattle.half_names_law.proofs.Names.{text_name, callable_in, half_file, half_env, global_object, function_found, function_meant}
 use Rattle.half_names_law.proofs.Parts.{marked_var, parameters_in, definition_is, half_variables, variables_are, locals_declared}
-use Rattle.half_names_law.proofs.Bodies.{FunctionFits, HalfFits, Quiet, statements_state, statements_of, statements_quiet}
+use Rattle.half_names_law.proofs.Bodies.{FunctionFits, HalfFits, statements_state, statements_of, statements_quiet}
 
 -- ---- one function
 

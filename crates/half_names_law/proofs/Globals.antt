@@ -1,6 +1,6 @@
 -- What the declaration of a global in a half's text adds to the names of the file.
-use Rattle.std.proofs.Common.{◌≡◌, ◌++◌, ◌∙◌, ◌<◌, ◌≤◌, ◌+◌, sym, ap, refl, subst, ℕ, zero, suc, ℤ, pos, negsuc, Bool, true, false, List, [], ◌∷◌, length, map, Option, Some, None, is_none, is_some, arith}
-use Rattle.std.specs.Prelude.{not, ◌&&◌, ◌||◌, nat_le, nat_lt, slice_get, if◌then◌else◌}
+use Rattle.std.proofs.Common.{◌≡◌, ◌++◌, ◌∙◌, ◌<◌, ◌≤◌, ◌+◌, sym, ap, refl, subst, ℕ, suc, ℤ, pos, negsuc, Bool, true, false, List, [], ◌∷◌, length, map, Option, Some, None, is_none, is_some, arith}
+use Rattle.std.specs.Prelude.{not, ◌&&◌, slice_get, if◌then◌else◌}
 use Rattle.std.proofs.lemmas.Bool.Decides.{nat_tests}
 use Rattle.pt_base.specs.declared.int_type.IntType.{IntType}
 use Rattle.pt_base.specs.declared.int_type.IntType.TheVariants as i
@@ -15,16 +15,13 @@ use Rattle.typed_tree.specs.declared.types.VarTy.TheVariants.{Int, Struct, Array
 use Rattle.typed_tree.specs.declared.variable.TypedGlobal.{TypedGlobal}
 use Rattle.check_declarations.specs.declared.fault.FaultKind.TheVariants.{Redeclared, TooLarge, WrongType}
 use Rattle.check_declarations.specs.declared.fault.TypeFault.{TypeFault}
-use Rattle.check_declarations.specs.declared.marks.Attribute.{Attribute}
 use Rattle.check_declarations.specs.declared.marks.Carrier.TheVariants as carrier
-use Rattle.check_declarations.specs.declared.marks.Mark.TheVariants.{Unpriv}
 use Rattle.check_declarations.specs.declared.objects.ObjectKind.TheVariants as kind
-use Rattle.check_declarations.specs.declared.specifiers.Specified.{Specified}
 use Rattle.check_declarations.specs.Cells.{cells_of}
 use Rattle.check_declarations.specs.Faults.{fault_if}
 use Rattle.check_declarations.specs.Marks.{mark_faults}
 use Rattle.check_declarations.specs.NameTables.{number_of, is_new}
-use Rattle.check_declarations.specs.Objects.{object_faults, object_type, is_fixed, size_faults}
+use Rattle.check_declarations.specs.Objects.{object_type, is_fixed}
 use Rattle.check_declarations.specs.Specifiers as spec
 use Rattle.check_declarations.specs.Structs.{Structs}
 use Rattle.check_expressions.specs.declared.meaning.Callable.{Callable}
@@ -38,11 +35,11 @@ use Rattle.check_statements.specs.Leaves.{leaves_of}
 use Rattle.check_programs.specs.Functions.{Checked}
 use Rattle.check_programs.specs.Globals.{checked_declaration, declared_all, typed_global, start_cells, cells_with, brings_over}
 use Rattle.check_programs.specs.Progress.{Progress}
-use Rattle.half_trees.specs.Names.{nowhere, word, global_name}
+use Rattle.half_trees.specs.Names.{nowhere, global_name}
 use Rattle.half_trees.specs.Declarations.{is_pointer, suffix_of, declarator_of, mark_specs, object, cell_tree, initial}
 use Rattle.half_meaning_law.specs.Known.{type_as, object_as, global_id}
-use Rattle.half_names_law.proofs.Specifiers.{says, marks_list, object_says, marks_stand}
-use Rattle.half_names_law.proofs.Objects.{may_be, Fits, Declares, declares, given_as, sized}
+use Rattle.half_names_law.proofs.Specifiers.{marks_list, object_says, marks_stand}
+use Rattle.half_names_law.proofs.Objects.{may_be, Fits, declares, given_as, sized}
 use Rattle.half_names_law.proofs.Heads.{file_env}
 use Rattle.half_names_law.proofs.Prototypes.{Rest, at}
 
@@ -166,13 +163,14 @@ global_added file functions globals structs r infos g u marked unpriv cells fits
     let behind = known_by file functions globals g (type_as u) false true in
     let tree = typed_global given (declarator_of u (global_name g))
     (start_cells r.cells (cells_of structs typed) (global_initialised (known_by file functions globals g typed fixed (is_new file (global_name g))) structs typed (initial u cells)).values) in
-    let over : brings_over r.cells (cells_of structs typed) ≡ false = ap (λ t. brings_over r.cells (cells_of structs t)) d.typed ∙ not_over r.cells (cells_of structs (type_as u)) few in
-    (tree,
-    ap (by_specs (at (file_env file functions globals) structs r) (global_tree infos g u marked unpriv cells)) (object_says true structs infos marked unpriv false u fits.fits.named)
-    ∙ (λ i. by_parts file functions globals r g (cells_of structs (d.typed i)) tree (d.typed i) (d.changes i) (is_none (new i)) (over i) (d.fine i) (sized structs typed u d.typed fits.fits.small i) (marks_stand carrier.Object marked unpriv false (λ e. refl) fits.unmarked (λ e. cc) i)
-    (global_initialised (known_by file functions globals g (d.typed i) (d.changes i) (is_none (new i))) structs (d.typed i) (initial u cells)))
-    ∙ ap (by_parts file functions globals r g (cells_of structs (type_as u)) tree (type_as u) false true false [] [] [])
-    (fine_is structs (global_initialised behind structs (type_as u) (initial u cells)) (initial_fine behind structs u cells fits.cells_there fits.plain)))
+    let over : brings_over r.cells (cells_of structs typed) ≡ false = ap (λ t. brings_over r.cells (cells_of structs t)) d.typed ∙ not_over r.cells (cells_of structs (type_as u)) few in (
+      tree,
+      ap (by_specs (at (file_env file functions globals) structs r) (global_tree infos g u marked unpriv cells)) (object_says true structs infos marked unpriv false u fits.fits.named)
+          ∙ (λ i. by_parts file functions globals r g (cells_of structs (d.typed i)) tree (d.typed i) (d.changes i) (is_none (new i)) (over i) (d.fine i) (sized structs typed u d.typed fits.fits.small i) (marks_stand carrier.Object marked unpriv false (λ e. refl) fits.unmarked (λ e. cc) i)
+          (global_initialised (known_by file functions globals g (d.typed i) (d.changes i) (is_none (new i))) structs (d.typed i) (initial u cells)))
+          ∙ ap (by_parts file functions globals r g (cells_of structs (type_as u)) tree (type_as u) false true false [] [] [])
+          (fine_is structs (global_initialised behind structs (type_as u) (initial u cells)) (initial_fine behind structs u cells fits.cells_there fits.plain)),
+    )
   where
     may : (u : VarTy) → is_pointer u ≡ false → may_be kind.Global u ≡ true
     may (Int t) h = refl

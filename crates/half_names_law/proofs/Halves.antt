@@ -1,42 +1,29 @@
 -- The walk over a whole sound half.
-use Rattle.std.proofs.Common.{◌≡◌, ◌++◌, ◌∙◌, ◌<◌, ◌≤◌, ◌+◌, ◌^◌, sym, ap, refl, subst, ℕ, zero, suc, Bool, true, false, List, [], ◌∷◌, length, map, take, drop, Option, Some, None, arith}
-use Rattle.std.specs.Prelude.{IsTrue, ◌&&◌, ◌||◌, nat_eq, nat_le, nat_lt, not, is_some, slice_get, get_or, sum_by, if◌then◌else◌}
-use Rattle.std.specs.List.{list_all, list_any, range_with_len}
+use Rattle.std.proofs.Common.{◌≡◌, ◌∙◌, ◌≤◌, ◌+◌, ◌^◌, sym, ap, refl, subst, ℕ, Bool, true, false, [], length, map, take, drop, Option, Some, None, arith}
+use Rattle.std.specs.Prelude.{◌&&◌, ◌||◌, nat_le, not, is_some, slice_get}
+use Rattle.std.specs.List.{list_all}
 use Rattle.std.proofs.lemmas.Bool.Decides.{nat_tests}
-use Rattle.std.proofs.lemmas.List.{length-take-le, take-append-drop}
+use Rattle.std.proofs.lemmas.List.{length-take-le}
 use Rattle.pt_tree.specs.declared.signature.Signature.{Signature}
-use Rattle.pt_tree.specs.ProgramTree.{ItemTree}
-use Rattle.typed_tree.specs.WellFormed.{are_rising, structs_sound, params_lead, are_distinct}
+use Rattle.typed_tree.specs.WellFormed.{are_rising, structs_sound, params_lead}
 use Rattle.check_declarations.specs.Structs.{Structs}
-use Rattle.check_expressions.specs.declared.meaning.Variable.{Variable}
-use Rattle.check_programs.specs.Functions.{Checked, has_body}
-use Rattle.check_programs.specs.Programs.{checked_items}
-use Rattle.check_programs.specs.Progress.{Progress, at_start}
 use Rattle.pt_core.specs.CodeTree.{GlobalTree, FunctionTree, ProgramTree}
-use Rattle.pt_core.specs.WellFormed.{are_in_order, global_fits, are_small, signature_fits, variable_fits, function_at, signature_at, with_own, counts_fit, function_by, function_fits, callee_fits, callees, is_sound, scope_of, called_signature, context_of}
+use Rattle.pt_core.specs.WellFormed.{are_in_order, global_fits, are_small, signature_fits, variable_fits, signature_at, counts_fit, function_by, function_fits, is_sound, scope_of, called_signature, context_of}
 use Rattle.pt_core.specs.WellFormedStatement.{stmts_fit}
-use Rattle.half_trees.specs.Names.{local_name, struct_name}
-use Rattle.half_trees.specs.Declarations.{struct_item, global_item}
-use Rattle.half_trees.specs.Functions.{function_item}
-use Rattle.half_trees.specs.Halves.{prototype_of, half_tree}
 use Rattle.half_meaning_law.specs.CForms.{are_said}
 use Rattle.half_meaning_law.specs.Relations.{is_pointer}
-use Rattle.half_meaning_law.specs.Known.{function_id}
-use Rattle.half_meaning_law.specs.Statements.{BodiesKeepTheirMeaning}
-use Rattle.half_names_law.specs.Declarable.{Declarable, signature_marked, function_marked, variable_marked, parameters_marked, has_small_frame}
-use Rattle.half_names_law.specs.Standing.{Marks, items_before, before, all_said}
+use Rattle.half_names_law.specs.Declarable.{Declarable, signature_marked, function_marked, variable_marked, parameters_marked}
+use Rattle.half_names_law.specs.Standing.{Marks, all_said}
 use Rattle.half_names_law.proofs.TextNames.{locals_differ}
 use Rattle.half_names_law.proofs.Objects.{both_hold}
-use Rattle.half_names_law.proofs.Numbers.{lookup_place, Place}
-use Rattle.half_names_law.proofs.Table.{IsTable, NamesDiffer, table_to, table_grown, structs_added, then_rest}
-use Rattle.half_names_law.proofs.Prototypes.{Rest, at}
-use Rattle.half_names_law.proofs.Walk.{Reaches, SignaturesFit, GlobalsFit, Declared, Filled, items_joined, prototypes_added, globals_added}
-use Rattle.half_names_law.proofs.Names.{text_name, half_env, functions_file, globals_file, functions_apart, globals_apart}
-use Rattle.half_names_law.proofs.Known.{NamesApart, all_there, plain_none}
+use Rattle.half_names_law.proofs.Numbers.{lookup_place}
+use Rattle.half_names_law.proofs.Table.{IsTable, table_to, table_grown}
+use Rattle.half_names_law.proofs.Names.{text_name, functions_apart, globals_apart}
+use Rattle.half_names_law.proofs.Known.{all_there, plain_none}
 use Rattle.half_names_law.proofs.Parts.{function_there, own_long, own_types, enough, few_params}
-use Rattle.half_names_law.proofs.Premises.{implied, Whole, MarksSay, names_differ, frame_less, signature_fit, globals_fit, locals_fit, definition_params, dropped_all}
+use Rattle.half_names_law.proofs.Premises.{implied, Whole, MarksSay, names_differ, frame_less, locals_fit, definition_params, dropped_all}
 use Rattle.half_names_law.proofs.Bodies.{FunctionFits, HalfFits}
-use Rattle.half_names_law.proofs.Functions.{Fresh, Passes, Fitting, FunctionsFit, functions_added}
+use Rattle.half_names_law.proofs.Functions.{FunctionsFit}
 
 -- ---- what soundness says
 

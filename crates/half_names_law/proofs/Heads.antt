@@ -1,6 +1,6 @@
 -- What the head of a function in a half's text says: what it calls for, and its parameters.
-use Rattle.std.proofs.Common.{◌≡◌, ◌++◌, ◌∙◌, ◌<◌, ◌≤◌, ◌+◌, sym, ap, refl, subst, ℕ, zero, suc, Bool, true, false, List, [], ◌∷◌, length, map, Option, Some, None, is_some, arith}
-use Rattle.std.specs.Prelude.{not, ◌&&◌, ◌||◌, if◌then◌else◌}
+use Rattle.std.proofs.Common.{◌≡◌, ◌++◌, ◌∙◌, ◌≤◌, ap, refl, ℕ, suc, Bool, true, false, List, [], ◌∷◌, length, map, Option, Some, None, is_some, arith}
+use Rattle.std.specs.Prelude.{if◌then◌else◌}
 use Rattle.pt_base.specs.declared.int_type.IntType.{IntType}
 use Rattle.pt_tree.specs.declared.signature.Signature.{Signature}
 use Rattle.pt_tree.specs.declared.specifier.Suffix.TheVariants.{Plain}
@@ -14,15 +14,13 @@ use Rattle.check_declarations.specs.declared.fault.FaultKind.TheVariants.{OutOfP
 use Rattle.check_declarations.specs.declared.fault.TypeFault.{TypeFault}
 use Rattle.check_declarations.specs.declared.marks.Carrier.TheVariants as carrier
 use Rattle.check_declarations.specs.Faults.{fault_if}
-use Rattle.check_declarations.specs.Marks.{mark_faults, may_stand}
-use Rattle.check_declarations.specs.declared.marks.Mark.TheVariants.{Priv, Declassify}
+use Rattle.check_declarations.specs.Marks.{mark_faults}
 use Rattle.check_declarations.specs.Objects.{is_wrong_result, result_type, result_faults}
 use Rattle.check_declarations.specs.Specifiers as spec
 use Rattle.check_declarations.specs.Specifiers.{specified}
 use Rattle.check_declarations.specs.Structs.{Structs}
 use Rattle.check_expressions.specs.declared.meaning.Callable.{Callable}
 use Rattle.check_expressions.specs.declared.meaning.Object.{Object}
-use Rattle.check_expressions.specs.declared.meaning.Variable.{Variable}
 use Rattle.check_expressions.specs.Environment.{Env, Scope}
 use Rattle.check_programs.specs.declared.function_marks.FunctionMarks.{FunctionMarks}
 use Rattle.check_programs.specs.Functions.{Judged, Head, head_of, result_of, callable_of}
@@ -31,7 +29,7 @@ use Rattle.half_trees.specs.Names.{nowhere, local_name}
 use Rattle.half_trees.specs.Declarations.{function_specs, function_declarator, parameters_or_void}
 use Rattle.half_meaning_law.specs.Known.{type_as, result_as}
 use Rattle.half_names_law.proofs.Tables.{Differ, listed}
-use Rattle.half_names_law.proofs.Specifiers.{says, marks_list, function_says, marks_stand}
+use Rattle.half_names_law.proofs.Specifiers.{function_says, marks_stand}
 use Rattle.half_names_law.proofs.Parameters.{Marked, parameter_as, scoped, ParametersFit, names_of, variables_of, parameters_by, parameters_added, parameters_are}
 
 -- ---- the result

@@ -1,11 +1,9 @@
 -- A global's starting values have an integer each in the table of a half's structs.
-use Rattle.std.proofs.Common.{◌≡◌, ◌++◌, ◌∙◌, ◌<◌, ◌≤◌, ◌+◌, sym, ap, refl, subst, ℕ, zero, suc, ℤ, Bool, true, false, List, [], ◌∷◌, length, map, Some, arith}
-use Rattle.std.specs.Prelude.{◌&&◌, nat_le, nat_lt, slice_get, get_or, unwrap_or}
+use Rattle.std.proofs.Common.{◌≡◌, ◌++◌, ◌∙◌, ◌<◌, ◌+◌, sym, ap, refl, subst, ℕ, zero, suc, ℤ, true, List, [], ◌∷◌, length, map, Some, arith}
+use Rattle.std.specs.Prelude.{slice_get}
 use Rattle.std.specs.List.{flat_map}
-use Rattle.std.proofs.lemmas.Bool.Decides.{nat_tests}
 use Rattle.pt_base.specs.declared.int_type.IntType.{IntType}
 use Rattle.pt_int.specs.Conversion.{is_in_range}
-use Rattle.type_rules.specs.declared.types.Type.{«Type»}
 use Rattle.type_rules.specs.declared.types.Type.TheVariants as ty
 use Rattle.typed_tree.specs.declared.types.Field.{Field}
 use Rattle.typed_tree.specs.declared.types.StructInfo.{StructInfo}
@@ -13,7 +11,7 @@ use Rattle.typed_tree.specs.declared.types.VarTy.{VarTy}
 use Rattle.typed_tree.specs.declared.types.VarTy.TheVariants.{Int, Struct, Array, Pointer}
 use Rattle.typed_tree.specs.Cells as typed
 use Rattle.typed_tree.specs.Sizes.{fields_of}
-use Rattle.typed_tree.specs.WellFormed.{is_plain_type, is_small, structs_sound, cells_fit}
+use Rattle.typed_tree.specs.WellFormed.{is_plain_type, cells_fit}
 use Rattle.check_declarations.specs.declared.structs.StructEntry.{StructEntry}
 use Rattle.check_declarations.specs.Structs.{Structs}
 use Rattle.check_expressions.specs.Operands.{var_type}
@@ -27,7 +25,7 @@ use Rattle.half_meaning_law.specs.Known.{type_as}
 use Rattle.half_names_law.proofs.Tables.{listed}
 use Rattle.half_names_law.proofs.Objects.{both_hold, Fits, sized}
 use Rattle.half_names_law.proofs.Structs.{entry_of, fields_as}
-use Rattle.half_names_law.proofs.Table.{IsTable, plain_as, get_there}
+use Rattle.half_names_law.proofs.Table.{IsTable, plain_as}
 use Rattle.half_names_law.proofs.Globals.{HasCells}
 
 pub object_type_is : (u : VarTy) → object_type_of (type_as u) ≡ u

@@ -1,6 +1,6 @@
 -- In what a half declares, all its names are known as its code has them.
-use Rattle.std.proofs.Common.{◌≡◌, ◌++◌, ◌∙◌, ◌<◌, ◌≤◌, ◌+◌, ◌^◌, sym, ap, refl, subst, ℕ, zero, suc, Bool, true, false, List, [], ◌∷◌, length, map, Option, Some, None, arith}
-use Rattle.std.specs.Prelude.{◌&&◌, nat_eq, nat_le, nat_lt, not, slice_get, get_or, option_map, option_and_then, take, if◌then◌else◌}
+use Rattle.std.proofs.Common.{◌≡◌, ◌∙◌, ◌<◌, ◌≤◌, ◌+◌, ◌^◌, sym, ap, refl, subst, ℕ, zero, suc, Bool, true, false, List, [], ◌∷◌, length, map, Option, Some, None, arith}
+use Rattle.std.specs.Prelude.{◌&&◌, nat_eq, nat_lt, not, slice_get, get_or, option_map, option_and_then, take, if◌then◌else◌}
 use Rattle.std.specs.Option.{option_map_or}
 use Rattle.std.specs.List.{list_all}
 use Rattle.std.specs.Map.{lookup}
@@ -17,34 +17,31 @@ use Rattle.typed_tree.specs.Sizes.{fields_of}
 use Rattle.typed_tree.specs.WellFormed.{is_plain_type, is_small, field_sound, structs_sound}
 use Rattle.typed_tree.specs.WellFormedExpression as m
 use Rattle.typed_tree.specs.WellFormedExpression.{param_type}
-use Rattle.check_declarations.specs.declared.structs.FieldEntry.{FieldEntry}
-use Rattle.check_declarations.specs.declared.structs.FoundField.{FoundField}
 use Rattle.check_declarations.specs.NameTables.{number_of, value_at}
-use Rattle.check_declarations.specs.Structs.{Structs, Fields, found_in, field_named}
-use Rattle.check_expressions.specs.declared.meaning.Meaning.{Meaning}
-use Rattle.check_expressions.specs.declared.meaning.Meaning.TheVariants.{Function, Global, Local}
+use Rattle.check_declarations.specs.Structs.{Structs, Fields, found_in}
+use Rattle.check_expressions.specs.declared.meaning.Meaning.TheVariants.{Local}
 use Rattle.check_expressions.specs.declared.meaning.Object.{Object}
 use Rattle.check_expressions.specs.declared.meaning.Variable.{Variable}
-use Rattle.check_expressions.specs.Environment.{Env, Scope, meaning_at, find_in, or_else, find, no_object, object_of, variable_at, global_at}
+use Rattle.check_expressions.specs.Environment.{Env, Scope, meaning_at, find_in, or_else, find, no_object, object_of}
 use Rattle.source_meaning.specs.Expressions as sm
 use Rattle.pt_core.specs.CodeTree.{GlobalTree, FunctionTree, ProgramTree}
 use Rattle.pt_core.specs.Statements as c
 use Rattle.pt_core.specs.Types.{type_at, field_type}
 use Rattle.pt_core.specs.WellFormed.{function_at, signature_at, with_own, called_signature}
-use Rattle.half_trees.specs.Names.{local_name, global_name, function_name, function_by, field_by}
+use Rattle.half_trees.specs.Names.{local_name, global_name, function_by, field_by}
 use Rattle.half_trees.specs.Declarations as trees
 use Rattle.half_meaning_law.specs.Relations.{Scene, is_pointer}
-use Rattle.half_meaning_law.specs.Known.{type_as, object_as, local_id, global_id, function_id, result_as, VariableKnown, GlobalKnown, FieldKnown, Known, FunctionKnown, FunctionsKnown}
-use Rattle.half_names_law.specs.Standing.{number_in, scene_of}
-use Rattle.half_names_law.proofs.Tables.{Differ, sought, listed, listed_at, listed_back, found, sought_first, sought_none}
-use Rattle.half_names_law.proofs.TextNames.{no_global, no_local, global_no_local, no_main}
-use Rattle.half_names_law.proofs.Numbers.{Place, lookup_place, number_at, mapped_there, mapped_back}
+use Rattle.half_meaning_law.specs.Known.{type_as, object_as, local_id, VariableKnown, GlobalKnown, FieldKnown, Known, FunctionKnown, FunctionsKnown}
+use Rattle.half_names_law.specs.Standing.{scene_of}
+use Rattle.half_names_law.proofs.Tables.{Differ, listed, listed_at, listed_back, found, sought_first, sought_none}
+use Rattle.half_names_law.proofs.TextNames.{no_local, global_no_local, no_main}
+use Rattle.half_names_law.proofs.Numbers.{lookup_place, number_at, mapped_there, mapped_back}
 use Rattle.half_names_law.proofs.Objects.{both_hold}
 use Rattle.half_names_law.proofs.Structs.{entry_of, field_entry, fields_as}
 use Rattle.half_names_law.proofs.Table.{IsTable, NamesDiffer, fields_sound, none_const, get_below, get_there}
 use Rattle.half_names_law.proofs.Parameters.{local_entry, scoped}
 use Rattle.half_names_law.proofs.Prototypes.{marked_param}
-use Rattle.half_names_law.proofs.Names.{own, text_name, callable_in, function_entry, global_object, functions_file, globals_file, half_file, half_env, FunctionsApart, GlobalsApart, function_found, function_meant, global_found, global_meant}
+use Rattle.half_names_law.proofs.Names.{callable_in, global_object, half_file, half_env, FunctionsApart, GlobalsApart, function_found, function_meant, global_found, global_meant}
 
 -- ---- variables
 

@@ -1,6 +1,6 @@
 -- The laws, from the walk over a half.
-use Rattle.std.proofs.Common.{◌≡◌, ◌++◌, ◌∙◌, ◌<◌, ◌≤◌, ◌+◌, ◌^◌, sym, ap, refl, subst, ℕ, zero, suc, Bool, true, false, List, [], ◌∷◌, codes, length, map, take, drop, if◌then◌else◌, Option, Some, None, arith}
-use Rattle.std.specs.Prelude.{IsTrue, ◌&&◌, ◌||◌, nat_eq, nat_le, nat_lt, not, slice_get, sum_by}
+use Rattle.std.proofs.Common.{◌≡◌, ◌++◌, ◌∙◌, ◌≤◌, ◌+◌, sym, ap, refl, subst, ℕ, zero, suc, Bool, true, false, List, [], ◌∷◌, codes, length, map, take, drop, if◌then◌else◌, Option, Some, None, arith}
+use Rattle.std.specs.Prelude.{◌&&◌, ◌||◌, nat_eq, nat_le, not, slice_get, sum_by}
 use Rattle.std.specs.Str.{bytes_eq}
 use Rattle.std.specs.List.{list_all, filter, range_with_len}
 use Rattle.std.proofs.lemmas.Bool.Decides.{nat_tests}
@@ -15,11 +15,10 @@ use Rattle.typed_tree.specs.declared.types.VarTy.{VarTy}
 use Rattle.typed_tree.specs.WellFormed.{are_rising, params_lead, is_int_result}
 use Rattle.typed_tree.specs.WellFormedExpression as m
 use Rattle.check_declarations.specs.Structs.{Structs}
-use Rattle.check_expressions.specs.Environment.{Env, meaning_at}
-use Rattle.check_statements.specs.Outermost as o
-use Rattle.check_statements.specs.Statements.{CheckedAll, checked_all}
+use Rattle.check_expressions.specs.Environment.{meaning_at}
+use Rattle.check_statements.specs.Statements.{checked_all}
 use Rattle.check_programs.specs.Blocks.{block_in}
-use Rattle.check_programs.specs.Functions.{Checked, Head, has_body, head_of, declared, declared_as, function_in, with_start, with_head}
+use Rattle.check_programs.specs.Functions.{has_body, head_of, declared, declared_as, function_in, with_start, with_head}
 use Rattle.check_programs.specs.Functions.{is_int}
 use Rattle.check_programs.specs.Programs.{checked_items, main_faults, with_main}
 use Rattle.check_programs.specs.Progress.{Progress, at_start}
@@ -28,7 +27,7 @@ use Rattle.pt_core.specs.CodeTree.{GlobalTree, FunctionTree, ProgramTree}
 use Rattle.pt_core.specs.Statements as c
 use Rattle.pt_core.specs.WellFormed as core
 use Rattle.pt_core.specs.WellFormed.{is_sound, signature_at, signature_fits, called_signature, context_of, has_main, is_main_by, is_only_start, function_by, function_fits, counts_fit, is_well_formed, is_well_formed_slave, slave_program}
-use Rattle.half_trees.specs.Names.{nowhere, local_name, named, function_by as name_by}
+use Rattle.half_trees.specs.Names.{nowhere, named, function_by as name_by}
 use Rattle.half_trees.specs.Declarations.{struct_item, global_item}
 use Rattle.half_trees.specs.Functions.{locals_from, body_tree, function_item}
 use Rattle.half_trees.specs.Statements.{statements_trees}
@@ -36,27 +35,26 @@ use Rattle.half_trees.specs.Halves.{prototype_of, half_tree, slave_tree}
 use Rattle.half_meaning_law.specs.CForms.{are_said}
 use Rattle.half_meaning_law.specs.Known.{type_as, function_id, result_as}
 use Rattle.half_meaning_law.specs.Statements.{BodiesKeepTheirMeaning}
-use Rattle.half_names_law.specs.Declarable.{Declarable, signature_marked, has_small_frame, prototypes_take_no_pointers}
-use Rattle.half_names_law.specs.Standing.{Marks, own_marks, whole_marks, items_before, before, definition, head_at, behind_head, body_state, body_context, locals_at, statements_at, scene_of, all_said}
+use Rattle.half_names_law.specs.Declarable.{Declarable, signature_marked, has_small_frame}
+use Rattle.half_names_law.specs.Standing.{Marks, own_marks, whole_marks, before, head_at, behind_head, body_state, body_context, locals_at, statements_at, scene_of, all_said}
 use Rattle.half_names_law.specs.Laws.{statements_checked, one_behind, KnownIn, NamesKnown, HalfNamesAreKnown, OwnNamesAreKnown, HalvesHaveNoFault, SlavesHaveNoTypeFault, MeaningKept, HalvesKeepTheirMeaning}
-use Rattle.half_names_law.proofs.TextNames.{locals_differ}
 use Rattle.half_names_law.proofs.Objects.{both_hold}
 use Rattle.half_meaning_law.proofs.Types.{equal_ints}
-use Rattle.half_names_law.proofs.Numbers.{Place, same_number, lookup_place}
-use Rattle.half_names_law.proofs.Table.{table_to, structs_added, then_rest}
-use Rattle.half_names_law.proofs.Parameters.{Marked, names_of, variables_of, scoped}
+use Rattle.half_names_law.proofs.Numbers.{same_number, lookup_place}
+use Rattle.half_names_law.proofs.Table.{structs_added, then_rest}
+use Rattle.half_names_law.proofs.Parameters.{Marked}
 use Rattle.half_names_law.proofs.Heads.{callable_as, file_env, head_as, head_is}
 use Rattle.half_names_law.proofs.Prototypes.{Rest, at}
 use Rattle.half_names_law.proofs.Locals.{declaration_trees}
 use Rattle.half_names_law.proofs.Definitions.{at_body, trees_joined}
-use Rattle.half_names_law.proofs.Walk.{Reaches, SignaturesFit, SignatureFits, Declared, Filled, items_joined, prototypes_added, globals_added}
-use Rattle.half_names_law.proofs.Names.{FunctionsApart, text_name, callable_in, half_file, half_env, global_object, functions_file, globals_file, function_found, function_meant}
-use Rattle.half_names_law.proofs.Known.{local_names, standing, all_known, functions_known, all_there}
-use Rattle.half_names_law.proofs.Parts.{parameters_in, definition_is, half_variables, variables_are, locals_declared}
-use Rattle.half_names_law.proofs.Premises.{Whole, MarksSay, signature_fit, globals_fit}
+use Rattle.half_names_law.proofs.Walk.{SignaturesFit, SignatureFits, items_joined, prototypes_added, globals_added}
+use Rattle.half_names_law.proofs.Names.{FunctionsApart, text_name, callable_in, half_file, half_env, global_object, functions_file, function_found, function_meant}
+use Rattle.half_names_law.proofs.Known.{all_known, functions_known, all_there}
+use Rattle.half_names_law.proofs.Parts.{parameters_in, definition_is, variables_are, locals_declared}
+use Rattle.half_names_law.proofs.Premises.{MarksSay, signature_fit, globals_fit}
 use Rattle.half_names_law.proofs.Bodies.{FunctionFits, HalfFits, statements_state, scene_fits}
-use Rattle.half_names_law.proofs.Functions.{Fresh, Behind, Passes, FunctionsFit, functions_added, starts_by, starts, main_after, variables_at, few_taken, few_in, eight}
-use Rattle.half_names_law.proofs.Halves.{Sound, soundness, signature_there, no_table, half_structs, whole_table, half_fits, function_fit, functions_fit}
+use Rattle.half_names_law.proofs.Functions.{Fresh, Behind, Passes, functions_added, starts_by, starts, main_after, variables_at, few_taken, few_in, eight}
+use Rattle.half_names_law.proofs.Halves.{soundness, signature_there, no_table, half_structs, whole_table, half_fits, function_fit, functions_fit}
 use Rattle.half_names_law.proofs.Marks.{whole_say, own_say}
 
 -- ---- all that is declared outside of functions with bodies
@@ -241,9 +239,10 @@ no_fault bodies marks monitor p h d said say small =
 pub no_faults : BodiesKeepTheirMeaning → HalvesHaveNoFault
 no_faults bodies monitor p h d said small =
     let sound = soundness monitor p h in
-    let apart = functions_differ monitor p h d in
-    (no_fault bodies (whole_marks monitor p) monitor p h d said (whole_say monitor p sound apart) small,
-    λ plain. no_fault bodies (own_marks monitor p) monitor p h d said (own_say monitor p sound apart plain) small)
+    let apart = functions_differ monitor p h d in (
+      no_fault bodies (whole_marks monitor p) monitor p h d said (whole_say monitor p sound apart) small,
+      λ plain. no_fault bodies (own_marks monitor p) monitor p h d said (own_say monitor p sound apart plain) small,
+    )
 
 meaning_kept : (bodies : BodiesKeepTheirMeaning) (marks : Marks) (monitor : Bool) (p : ProgramTree) (n : ℕ) (f : FunctionTree) (s : Signature) → is_sound monitor p ≡ true → all_said monitor p ≡ true → slice_get p.functions n ≡ Some f → signature_at p f.id ≡ Some s
     → NamesKnown marks monitor p n f s → MeaningKept marks monitor p n f s
@@ -339,11 +338,13 @@ slaves_fine bodies s h d said small =
     let p = slave_program s in
     let parts = both_hold (is_sound false p) (has_main p) h in
     let sound = soundness false p parts.0 in
-    let apart = functions_differ false p parts.0 d in
-    (with_main_fine bodies (whole_marks false p) p parts.0 parts.1 d said (whole_say false p sound apart) small,
-    λ plain. with_main_fine bodies (own_marks false p) p parts.0 parts.1 d said (own_say false p sound apart plain) small)
+    let apart = functions_differ false p parts.0 d in (
+      with_main_fine bodies (whole_marks false p) p parts.0 parts.1 d said (whole_say false p sound apart) small,
+      λ plain. with_main_fine bodies (own_marks false p) p parts.0 parts.1 d said (own_say false p sound apart plain) small,
+    )
 
 pub meanings : BodiesKeepTheirMeaning → HalvesKeepTheirMeaning
-meanings bodies monitor p n f s h d said there named =
-    (meaning_kept bodies (whole_marks monitor p) monitor p n f s h said there named (half_names bodies monitor p n f s h d said there named),
-    λ plain. meaning_kept bodies (own_marks monitor p) monitor p n f s h said there named (own_names bodies monitor p n f s h d said plain there named))
+meanings bodies monitor p n f s h d said there named = (
+  meaning_kept bodies (whole_marks monitor p) monitor p n f s h said there named (half_names bodies monitor p n f s h d said there named),
+  λ plain. meaning_kept bodies (own_marks monitor p) monitor p n f s h said there named (own_names bodies monitor p n f s h d said plain there named),
+)

@@ -1,6 +1,6 @@
 -- What the declarations of a function's variables in a half's text add, behind its parameters.
-use Rattle.std.proofs.Common.{◌≡◌, ◌^◌, ◌++◌, ◌∙◌, ◌<◌, ◌≤◌, ◌+◌, sym, ap, refl, subst, ℕ, zero, suc, Bool, true, false, List, [], ◌∷◌, length, map, Option, Some, None, is_some, arith}
-use Rattle.std.specs.Prelude.{not, ◌&&◌, ◌||◌, slice_get, if◌then◌else◌}
+use Rattle.std.proofs.Common.{◌≡◌, ◌^◌, ◌++◌, ◌∙◌, ◌≤◌, ◌+◌, sym, ap, refl, ℕ, suc, Bool, true, false, List, [], ◌∷◌, length, arith}
+use Rattle.std.specs.Prelude.{not, if◌then◌else◌}
 use Rattle.std.proofs.lemmas.List.{append_assoc, length-append}
 use Rattle.pt_tree.specs.StatementTree as s
 use Rattle.pt_tree.specs.StatementTree.{DeclarationTree, StmtTree, no_init, stmt_trees}
@@ -14,32 +14,29 @@ use Rattle.typed_tree.specs.StatementTree as t
 use Rattle.typed_tree.specs.StatementTree.{BodyTree}
 use Rattle.check_declarations.specs.declared.fault.FaultKind.TheVariants.{Redeclared}
 use Rattle.check_declarations.specs.declared.fault.TypeFault.{TypeFault}
-use Rattle.check_declarations.specs.declared.marks.Attribute.{Attribute}
 use Rattle.check_declarations.specs.declared.marks.Carrier.TheVariants as carrier
 use Rattle.check_declarations.specs.declared.marks.Marks.{Marks}
 use Rattle.check_declarations.specs.declared.objects.ObjectKind.TheVariants as kind
-use Rattle.check_declarations.specs.declared.specifiers.Specified.{Specified}
 use Rattle.check_declarations.specs.Faults.{fault_if}
-use Rattle.check_declarations.specs.Marks.{marks_of, mark_faults}
+use Rattle.check_declarations.specs.Marks.{mark_faults}
 use Rattle.check_declarations.specs.NameTables.{is_new}
-use Rattle.check_declarations.specs.Objects.{object_faults, object_type, is_fixed, size_faults}
+use Rattle.check_declarations.specs.Objects.{object_type}
 use Rattle.check_declarations.specs.Specifiers as spec
 use Rattle.check_declarations.specs.Structs.{Structs}
-use Rattle.check_expressions.specs.declared.meaning.Meaning.{Meaning}
 use Rattle.check_expressions.specs.declared.meaning.Meaning.TheVariants.{Local}
 use Rattle.check_expressions.specs.declared.meaning.Variable.{Variable}
 use Rattle.check_expressions.specs.Environment.{Env, Scope}
 use Rattle.check_statements.specs.declared.context.Context as k
-use Rattle.check_statements.specs.Declarations.{Declaring, declared, declared_all, carrier_of}
+use Rattle.check_statements.specs.Declarations.{Declaring, declared_all, carrier_of}
 use Rattle.check_statements.specs.Outermost.{State}
 use Rattle.check_statements.specs.Statements.{Checked, CheckedAll, checked, checked_all}
 use Rattle.half_trees.specs.Names.{nowhere, local_name}
-use Rattle.half_trees.specs.Declarations.{is_pointer, suffix_of, declarator_of, mark_specs, object}
+use Rattle.half_trees.specs.Declarations.{is_pointer, suffix_of, object}
 use Rattle.half_trees.specs.Functions.{variable_marks, locals_from}
-use Rattle.half_meaning_law.specs.Known.{type_as, local_id}
+use Rattle.half_meaning_law.specs.Known.{type_as}
 use Rattle.half_names_law.proofs.Tables.{Differ, listed, listed_more}
-use Rattle.half_names_law.proofs.Specifiers.{says, marks_list, object_says, marks_are, marks_stand}
-use Rattle.half_names_law.proofs.Objects.{may_be, Fits, Declares, declares, given_as, sized}
+use Rattle.half_names_law.proofs.Specifiers.{marks_list, object_says, marks_are, marks_stand}
+use Rattle.half_names_law.proofs.Objects.{may_be, Fits, declares, given_as, sized}
 use Rattle.half_names_law.proofs.Parameters.{local_entry, local_new, scoped}
 
 -- a variable as the judgments have it

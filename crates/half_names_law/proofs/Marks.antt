@@ -1,33 +1,31 @@
 -- What the items of a half's tree say of its functions together.
-use Rattle.std.proofs.Common.{◌≡◌, ◌++◌, ◌∙◌, ◌<◌, ◌≤◌, ◌+◌, sym, ap, refl, subst, ℕ, zero, suc, Bool, true, false, List, [], ◌∷◌, length, map, take, Option, Some, None, arith, cond}
+use Rattle.std.proofs.Common.{◌≡◌, ◌++◌, ◌∙◌, ◌+◌, sym, ap, refl, subst, ℕ, zero, suc, Bool, true, false, List, [], ◌∷◌, length, map, take, Option, Some, None, arith, cond}
 use Rattle.std.specs.Prelude.{◌&&◌, ◌||◌, nat_eq, not, is_some, fold, slice_get, if◌then◌else◌}
-use Rattle.std.specs.List.{find, list_all, range_with_len}
+use Rattle.std.specs.List.{find, range_with_len}
 use Rattle.std.specs.Str.{bytes_eq}
 use Rattle.pt_tree.specs.declared.signature.Signature.{Signature}
 use Rattle.pt_tree.specs.SpecifierTree.{spec_trees}
 use Rattle.pt_tree.specs.ProgramTree as parsed
 use Rattle.pt_tree.specs.ProgramTree.{ItemTree, declares, function}
-use Rattle.typed_tree.specs.WellFormed.{are_rising}
 use Rattle.check_declarations.specs.Marks.{marks_of}
 use Rattle.check_programs.specs.declared.function_marks.FunctionMarks.{FunctionMarks}
 use Rattle.check_programs.specs.Unions as u
 use Rattle.check_programs.specs.Unions.{declarations_of, with_declaration, undeclared, function_marks}
 use Rattle.pt_core.specs.CodeTree.{GlobalTree, FunctionTree, ProgramTree}
-use Rattle.pt_core.specs.WellFormed.{function_at, signature_at, with_own, is_sound, function_fits}
+use Rattle.pt_core.specs.WellFormed.{function_at, with_own, function_fits}
 use Rattle.half_trees.specs.Names.{function_by}
-use Rattle.half_trees.specs.Declarations.{struct_item, global_item, function_specs, prototype_item}
+use Rattle.half_trees.specs.Declarations.{struct_item, global_item, function_specs}
 use Rattle.half_trees.specs.Functions.{head_specs, function_item}
 use Rattle.half_trees.specs.Halves.{prototype_of, half_tree}
-use Rattle.half_names_law.specs.Declarable.{Declarable, takes_no_pointer, prototypes_take_no_pointers}
-use Rattle.half_names_law.specs.Standing.{Marks, own_marks, whole_marks, definition}
+use Rattle.half_names_law.specs.Declarable.{takes_no_pointer, prototypes_take_no_pointers}
+use Rattle.half_names_law.specs.Standing.{own_marks, whole_marks, definition}
 use Rattle.half_names_law.proofs.Tables.{name_self, name_same}
-use Rattle.half_names_law.proofs.Objects.{both_hold}
-use Rattle.half_names_law.proofs.Specifiers.{marks_list, marks_are, function_says}
-use Rattle.half_names_law.proofs.Numbers.{same_number, lookup_place, Place, mapped_there, mapped_back, once_there}
-use Rattle.half_names_law.proofs.Names.{own, text_name, FunctionsApart, functions_apart, joined_each}
+use Rattle.half_names_law.proofs.Specifiers.{marks_are, function_says}
+use Rattle.half_names_law.proofs.Numbers.{same_number, lookup_place, mapped_there, mapped_back, once_there}
+use Rattle.half_names_law.proofs.Names.{own, text_name, FunctionsApart, joined_each}
 use Rattle.half_names_law.proofs.Known.{own_name, all_there}
 use Rattle.half_names_law.proofs.Premises.{MarksSay}
-use Rattle.half_names_law.proofs.Halves.{Sound, soundness, signature_there}
+use Rattle.half_names_law.proofs.Halves.{Sound, signature_there}
 
 -- ---- lists of declarations
 
@@ -171,11 +169,12 @@ prototype_there monitor p n s there =
     (got_before (map (prototype_of monitor p) p.signatures) (map (global_item p.structs) p.globals ++ map (function_item p) p.functions) n (prototype_of monitor p s) (mapped_there (prototype_of monitor p) p.signatures n s there))
 
 definition_there : (monitor : Bool) (p : ProgramTree) (n : ℕ) (f : FunctionTree) → slice_get p.functions n ≡ Some f → (j : ℕ) × (slice_get (half_tree monitor p) j ≡ Some (function_item p f))
-definition_there monitor p n f there =
-    (length (map (struct_item p.structs) (range_with_len 0 (length p.structs))) + (length (map (prototype_of monitor p) p.signatures) + (length (map (global_item p.structs) p.globals) + n)),
-    got_behind (map (struct_item p.structs) (range_with_len 0 (length p.structs))) (map (prototype_of monitor p) p.signatures ++ (map (global_item p.structs) p.globals ++ map (function_item p) p.functions)) _ (function_item p f)
-    (got_behind (map (prototype_of monitor p) p.signatures) (map (global_item p.structs) p.globals ++ map (function_item p) p.functions) _ (function_item p f)
-    (got_behind (map (global_item p.structs) p.globals) (map (function_item p) p.functions) n (function_item p f) (mapped_there (function_item p) p.functions n f there))))
+definition_there monitor p n f there = (
+  length (map (struct_item p.structs) (range_with_len 0 (length p.structs))) + (length (map (prototype_of monitor p) p.signatures) + (length (map (global_item p.structs) p.globals) + n)),
+  got_behind (map (struct_item p.structs) (range_with_len 0 (length p.structs))) (map (prototype_of monitor p) p.signatures ++ (map (global_item p.structs) p.globals ++ map (function_item p) p.functions)) _ (function_item p f)
+      (got_behind (map (prototype_of monitor p) p.signatures) (map (global_item p.structs) p.globals ++ map (function_item p) p.functions) _ (function_item p f)
+      (got_behind (map (global_item p.structs) p.globals) (map (function_item p) p.functions) n (function_item p f) (mapped_there (function_item p) p.functions n f there))),
+)
 
 -- ---- together
 

@@ -1,11 +1,8 @@
 -- All names of a half's text, and what each means.
-use Rattle.std.proofs.Common.{◌≡◌, ◌++◌, ◌∙◌, ◌<◌, ◌≤◌, ◌+◌, ◌^◌, sym, ap, refl, subst, ℕ, zero, suc, Bool, true, false, List, [], ◌∷◌, length, map, Option, Some, None, arith}
-use Rattle.std.specs.Prelude.{◌&&◌, nat_eq, nat_lt, not, slice_get, option_map, if◌then◌else◌}
-use Rattle.std.specs.Option.{option_map_or}
+use Rattle.std.proofs.Common.{◌≡◌, ◌++◌, ◌∙◌, ◌<◌, ◌+◌, ◌^◌, sym, ap, refl, ℕ, zero, suc, Bool, true, false, List, [], ◌∷◌, length, map, Option, Some, None, arith}
+use Rattle.std.specs.Prelude.{nat_lt, slice_get, option_map, if◌then◌else◌}
 use Rattle.std.specs.List.{list_all}
-use Rattle.pt_tree.specs.declared.signature.Param.{Param}
 use Rattle.pt_tree.specs.declared.signature.Signature.{Signature}
-use Rattle.typed_tree.specs.declared.variable.Var.{Var}
 use Rattle.typed_tree.specs.WellFormed.{are_distinct, are_rising}
 use Rattle.check_declarations.specs.NameTables.{number_of, value_at}
 use Rattle.check_expressions.specs.declared.meaning.Callable.{Callable}
@@ -13,16 +10,15 @@ use Rattle.check_expressions.specs.declared.meaning.Meaning.{Meaning}
 use Rattle.check_expressions.specs.declared.meaning.Meaning.TheVariants.{Function, Global}
 use Rattle.check_expressions.specs.declared.meaning.Object.{Object}
 use Rattle.check_expressions.specs.Environment.{Env, Scope}
-use Rattle.pt_core.specs.CodeTree.{GlobalTree, FunctionTree, ProgramTree}
+use Rattle.pt_core.specs.CodeTree.{GlobalTree, ProgramTree}
 use Rattle.pt_core.specs.WellFormed.{function_at, with_own}
-use Rattle.half_trees.specs.Names.{local_name, global_name, function_by}
+use Rattle.half_trees.specs.Names.{global_name, function_by}
 use Rattle.half_meaning_law.specs.Known.{function_id, global_id, object_as}
-use Rattle.half_names_law.specs.Declarable.{function_names}
 use Rattle.std.specs.Str.{bytes_eq}
 use Rattle.std.proofs.lemmas.Bool.Decides.{nat_tests}
 use Rattle.half_names_law.proofs.Objects.{both_hold}
 use Rattle.half_names_law.proofs.Tables.{name_same, sought, one_place, listed, listed_at, listed_back, listed_length, found, sought_first, sought_none}
-use Rattle.half_names_law.proofs.TextNames.{no_global, no_local, global_no_local, same_global}
+use Rattle.half_names_law.proofs.TextNames.{no_global, same_global}
 use Rattle.half_names_law.proofs.Table.{get_below}
 use Rattle.typed_tree.proofs.LeavesLemmas.{get_before}
 use Rattle.half_names_law.proofs.Numbers.{mapped_there, once_there}

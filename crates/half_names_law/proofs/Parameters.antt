@@ -1,9 +1,8 @@
 -- What the parameters in a half's text declare: variables under their names, of the types that are written.
-use Rattle.std.proofs.Common.{◌≡◌, ◌++◌, ◌∙◌, ◌<◌, ◌≤◌, ◌+◌, sym, ap, refl, subst, ℕ, zero, suc, Bool, true, false, List, [], ◌∷◌, length, map, Option, Some, None, is_none, is_some, arith}
-use Rattle.std.specs.Prelude.{not, ◌&&◌, ◌||◌, nat_eq, nat_le, slice_get, if◌then◌else◌}
+use Rattle.std.proofs.Common.{◌≡◌, ◌++◌, ◌∙◌, ◌<◌, ◌≤◌, ◌+◌, sym, ap, refl, subst, ℕ, zero, suc, Bool, true, false, List, [], ◌∷◌, length, Some, arith}
+use Rattle.std.specs.Prelude.{not, ◌&&◌, ◌||◌, nat_eq, slice_get, if◌then◌else◌}
 use Rattle.std.proofs.lemmas.Bool.Decides.{nat_tests}
 use Rattle.std.proofs.lemmas.List.{append_assoc, length-append}
-use Rattle.pt_tree.specs.declared.specifier.Suffix.{Suffix}
 use Rattle.pt_tree.specs.declared.specifier.Suffix.TheVariants.{Plain}
 use Rattle.pt_tree.specs.SpecifierTree.{spec_trees}
 use Rattle.pt_tree.specs.ProgramTree.{ParamTree}
@@ -17,11 +16,11 @@ use Rattle.check_declarations.specs.declared.fault.TypeFault.{TypeFault}
 use Rattle.check_declarations.specs.declared.marks.Attribute.{Attribute}
 use Rattle.check_declarations.specs.declared.marks.Carrier.{Carrier}
 use Rattle.check_declarations.specs.declared.marks.Carrier.TheVariants as carrier
-use Rattle.check_declarations.specs.declared.marks.Mark.TheVariants.{Priv, Unpriv, Declassify}
+use Rattle.check_declarations.specs.declared.marks.Mark.TheVariants.{Unpriv, Declassify}
 use Rattle.check_declarations.specs.declared.objects.ObjectKind.TheVariants as kind
 use Rattle.check_declarations.specs.Faults.{fault_if}
 use Rattle.check_declarations.specs.Marks.{mark_faults, may_stand}
-use Rattle.check_declarations.specs.NameTables.{Named, is_new}
+use Rattle.check_declarations.specs.NameTables.{is_new}
 use Rattle.check_declarations.specs.Objects.{object_faults, object_type, is_fixed}
 use Rattle.check_declarations.specs.Specifiers as spec
 use Rattle.check_declarations.specs.Structs.{Structs}
@@ -32,12 +31,11 @@ use Rattle.check_expressions.specs.Environment.{Env, Scope}
 use Rattle.check_programs.specs.declared.function_marks.FunctionMarks.{FunctionMarks}
 use Rattle.check_programs.specs.Parameters.{are_void_alone, parameters_of, Declared, declared_one, declared_all, param_variable, param_faults, is_repeated, with_param}
 use Rattle.check_programs.specs.Unions.{marks_at}
-use Rattle.pt_core.specs.Types.{element_of}
-use Rattle.half_trees.specs.Names.{nowhere, word, local_name}
-use Rattle.half_trees.specs.Declarations.{is_pointer, suffix_of, mark_specs, object_specs, parameter, parameters_or_void}
+use Rattle.half_trees.specs.Names.{nowhere, local_name}
+use Rattle.half_trees.specs.Declarations.{is_pointer, mark_specs, object_specs, parameter, parameters_or_void}
 use Rattle.half_meaning_law.specs.Known.{type_as, local_id}
 use Rattle.half_names_law.proofs.Tables.{Differ, listed, listed_more, listed_back, listed_length, is_new_where}
-use Rattle.half_names_law.proofs.Specifiers.{says, elem_type, marks_list, object_says, marks_stand}
+use Rattle.half_names_law.proofs.Specifiers.{marks_list, object_says, marks_stand}
 use Rattle.half_names_law.proofs.Objects.{may_be, Fits, Declares, declares, given_as, plain_parameter}
 
 -- ---- variables of a half

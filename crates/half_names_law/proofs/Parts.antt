@@ -1,7 +1,7 @@
 -- The parts of a function of a half: its parameters, which its prototype has too, and the variables behind them.
-use Rattle.std.proofs.Common.{◌≡◌, ◌++◌, ◌∙◌, ◌<◌, ◌≤◌, ◌+◌, ◌^◌, sym, ap, refl, subst, ℕ, zero, suc, Bool, true, false, List, [], ◌∷◌, length, map, take, drop, Option, Some, None, arith, cond}
-use Rattle.std.specs.Prelude.{IsTrue, ◌&&◌, nat_eq, nat_le, not, slice_get, if◌then◌else◌}
-use Rattle.std.specs.List.{find, list_all}
+use Rattle.std.proofs.Common.{◌≡◌, ◌++◌, ◌∙◌, ◌≤◌, ◌+◌, ◌^◌, sym, ap, refl, ℕ, zero, suc, Bool, true, false, List, [], ◌∷◌, length, map, take, drop, Option, Some, arith, cond}
+use Rattle.std.specs.Prelude.{◌&&◌, nat_eq, nat_le, not, slice_get, if◌then◌else◌}
+use Rattle.std.specs.List.{find}
 use Rattle.std.proofs.lemmas.Bool.Decides.{nat_tests}
 use Rattle.std.proofs.lemmas.List.{length-take-le, map-append, take-append-drop}
 use Rattle.pt_tree.specs.declared.signature.Param.{Param}
@@ -9,37 +9,34 @@ use Rattle.pt_tree.specs.declared.signature.Signature.{Signature}
 use Rattle.pt_tree.specs.SpecifierTree.{spec_trees}
 use Rattle.pt_tree.specs.ProgramTree as parsed
 use Rattle.pt_tree.specs.StatementTree.{stmt_trees}
-use Rattle.type_rules.specs.declared.types.Type.{«Type»}
 use Rattle.typed_tree.specs.declared.types.StructInfo.{StructInfo}
-use Rattle.typed_tree.specs.declared.types.VarTy.{VarTy}
 use Rattle.typed_tree.specs.declared.variable.Var.{Var}
 use Rattle.typed_tree.specs.TypeTests.{same_type, same_bool}
 use Rattle.typed_tree.specs.WellFormed.{params_lead, are_rising}
 use Rattle.typed_tree.specs.WellFormedExpression.{param_type}
 use Rattle.check_declarations.specs.Structs.{Structs}
-use Rattle.check_expressions.specs.declared.meaning.Object.{Object}
 use Rattle.check_expressions.specs.declared.meaning.Variable.{Variable}
 use Rattle.check_expressions.specs.Environment.{Env, object_of}
 use Rattle.check_statements.specs.declared.context.Context as k
-use Rattle.check_statements.specs.Statements.{CheckedAll, checked_all}
+use Rattle.check_statements.specs.Statements.{checked_all}
 use Rattle.check_programs.specs.declared.function_marks.FunctionMarks.{FunctionMarks}
 use Rattle.pt_core.specs.CodeTree.{FunctionTree, ProgramTree}
-use Rattle.pt_core.specs.WellFormed.{signature_at, function_at, with_own, counts_fit}
+use Rattle.pt_core.specs.WellFormed.{signature_at, with_own, counts_fit}
 use Rattle.half_trees.specs.Names.{nowhere, local_name, function_by}
 use Rattle.half_trees.specs.Declarations.{parameters_or_void, function_declarator}
 use Rattle.half_trees.specs.Functions.{parameters_from, locals_from, head_specs, body_tree}
 use Rattle.half_meaning_law.specs.Known.{type_as, object_as}
 use Rattle.half_meaning_law.proofs.Types.{equal_types}
-use Rattle.half_names_law.specs.Standing.{definition, body_context}
-use Rattle.half_names_law.proofs.Tables.{Differ, listed, listed_more}
+use Rattle.half_names_law.specs.Standing.{definition}
+use Rattle.half_names_law.proofs.Tables.{Differ, listed}
 use Rattle.half_names_law.proofs.Objects.{both_hold}
 use Rattle.half_names_law.proofs.Parameters.{Marked, parameter_of, parameter_as, local_entry, names_of, variables_of, parameters_by, scoped}
 use Rattle.half_names_law.proofs.Heads.{declaration_by}
 use Rattle.half_names_law.proofs.Prototypes.{marked_param}
 use Rattle.half_names_law.proofs.Locals.{local_as, LocalsFit, declaration_trees, locals_added}
 use Rattle.half_names_law.proofs.Numbers.{same_number, mapped_there, once_there}
-use Rattle.half_names_law.proofs.Names.{own, text_name, half_env}
-use Rattle.half_names_law.proofs.Known.{local_names, AreVariables, standing}
+use Rattle.half_names_law.proofs.Names.{text_name}
+use Rattle.half_names_law.proofs.Known.{local_names, AreVariables}
 
 -- ---- the definition
 

@@ -1,7 +1,7 @@
 -- What a sound half has whose text can declare it: its types, parameters and variables fit.
-use Rattle.std.proofs.Common.{◌≡◌, ◌++◌, ◌∙◌, ◌<◌, ◌≤◌, ◌+◌, ◌^◌, sym, ap, refl, subst, ℕ, zero, suc, Bool, true, false, List, [], ◌∷◌, length, map, take, drop, Option, Some, None, arith}
-use Rattle.std.specs.Prelude.{IsTrue, ◌&&◌, ◌||◌, nat_eq, nat_le, nat_lt, not, is_some, slice_get, get_or, sum_by, if◌then◌else◌}
-use Rattle.std.specs.List.{list_all, list_any, range_with_len}
+use Rattle.std.proofs.Common.{◌≡◌, ◌∙◌, ◌≤◌, sym, ap, refl, subst, ℕ, zero, suc, Bool, true, false, List, [], ◌∷◌, length, map, take, drop, Option, Some, None, arith}
+use Rattle.std.specs.Prelude.{◌&&◌, ◌||◌, nat_le, not, is_some, slice_get, get_or, sum_by, if◌then◌else◌}
+use Rattle.std.specs.List.{list_all, list_any}
 use Rattle.std.proofs.lemmas.Bool.Decides.{nat_tests}
 use Rattle.std.proofs.lemmas.List.Sums.{sum_by-cons}
 use Rattle.pt_tree.specs.declared.signature.Param.{Param}
@@ -18,10 +18,8 @@ use Rattle.typed_tree.specs.Sizes.{fields_of}
 use Rattle.typed_tree.specs.TypeTests.{same_type, same_bool}
 use Rattle.typed_tree.specs.WellFormed.{are_distinct, is_plain_type, is_variable_type, is_small, structs_sound, params_lead, cells_fit}
 use Rattle.typed_tree.specs.WellFormedExpression.{is_elem, param_type}
-use Rattle.check_declarations.specs.declared.marks.Mark.TheVariants.{Unpriv, Declassify}
 use Rattle.check_declarations.specs.declared.objects.ObjectKind.TheVariants as kind
 use Rattle.check_declarations.specs.Cells.{cells_of}
-use Rattle.check_declarations.specs.Marks.{may_stand}
 use Rattle.check_declarations.specs.Structs.{Structs}
 use Rattle.check_programs.specs.declared.function_marks.FunctionMarks.{FunctionMarks}
 use Rattle.core_soundness.proofs.Leaves.{got_below}
@@ -37,13 +35,12 @@ use Rattle.half_names_law.proofs.Tables.{Differ, differ_from}
 use Rattle.half_names_law.proofs.Objects.{Fits, may_be, both_hold}
 use Rattle.half_names_law.proofs.Sizes.{object_few}
 use Rattle.half_names_law.proofs.Table.{IsTable, NamesDiffer, plain_fits, plain_is_none, named_elem}
-use Rattle.half_names_law.proofs.Parameters.{Marked, carrier_at, ParameterFits, ParametersFit}
+use Rattle.half_names_law.proofs.Parameters.{ParameterFits, ParametersFit}
 use Rattle.half_names_law.proofs.Prototypes.{marked_param}
-use Rattle.half_names_law.proofs.Locals.{LocalFits, LocalsFit}
+use Rattle.half_names_law.proofs.Locals.{LocalsFit}
 use Rattle.half_names_law.proofs.Integers.{cells_there, cells_exact}
-use Rattle.half_names_law.proofs.Globals.{GlobalFits}
-use Rattle.half_names_law.proofs.Walk.{SignatureFits, GlobalFitsIn, GlobalsFit}
-use Rattle.half_names_law.proofs.Names.{own, text_name}
+use Rattle.half_names_law.proofs.Walk.{SignatureFits, GlobalsFit}
+use Rattle.half_names_law.proofs.Names.{text_name}
 use Rattle.half_names_law.proofs.Known.{all_there}
 use Rattle.half_names_law.proofs.Parts.{marked_var}
 
@@ -135,9 +132,10 @@ pub params_fit : (m : FunctionMarks) (structs : Structs) (infos : List StructInf
 params_fit m structs infos s [] whole same defined h stands = tt {0}
 params_fit m structs infos s (x ∷ ps) whole same defined h stands =
     let parts = both_hold (param_fits (length infos) x) (list_all (param_fits (length infos)) ps) h in
-    let marks = both_hold (param_marked s x) (list_all (param_marked s) ps) stands in
-    (param_fit m structs infos s x.kind x.marked x.declassify whole same (λ e. defined (λ i. not (e i) && list_all (λ y. not (is_pointer_kind y.kind)) ps)) parts.0 marks.0,
-    params_fit m structs infos s ps whole same (λ e. defined ((λ i. not (is_pointer_kind x.kind) && e i) ∙ and_none (not (is_pointer_kind x.kind)))) parts.1 marks.1)
+    let marks = both_hold (param_marked s x) (list_all (param_marked s) ps) stands in (
+      param_fit m structs infos s x.kind x.marked x.declassify whole same (λ e. defined (λ i. not (e i) && list_all (λ y. not (is_pointer_kind y.kind)) ps)) parts.0 marks.0,
+      params_fit m structs infos s ps whole same (λ e. defined ((λ i. not (is_pointer_kind x.kind) && e i) ∙ and_none (not (is_pointer_kind x.kind)))) parts.1 marks.1,
+    )
 
 pub first_fit : (m : FunctionMarks) (structs : Structs) (infos : List StructInfo) (n : ℕ) (ps : List Param) → ParametersFit m structs infos (map marked_param ps) → ParametersFit m structs infos (map marked_param (take n ps))
 first_fit m structs infos zero ps fit = tt {0}
@@ -216,13 +214,18 @@ globals_fit p structs (g ∷ gs) whole fits stands =
     let typed = both_hold (is_plain_type (length p.structs) g.var.ty) (is_small p.structs g.var.ty) own_parts.0 in
     let fit = plain_fits structs p.structs (length p.structs) g.var.ty whole.sound (omega arith) whole.table whole.differ typed.0 typed.1 in
     let less = object_few structs p.structs (length p.structs) g.var.ty whole.table.cells typed.0 in
-    let long = cells_exact (leaves_of p.structs g.var.ty) g.cells own_parts.1 in
-    ((record {
-      fits = fit;
-      plain = plain_is_none (length p.structs) g.var.ty typed.0;
-      unmarked = not_both g.var.marked g.var.unpriv marks.0;
-      cells_there = cells_there structs p.structs g.var.ty g.cells whole.table fit typed.0 own_parts.1;
-    }, omega (arith, less, long)), globals_fit p structs gs whole parts.1 marks.1)
+    let long = cells_exact (leaves_of p.structs g.var.ty) g.cells own_parts.1 in (
+      (
+        record {
+          fits = fit;
+          plain = plain_is_none (length p.structs) g.var.ty typed.0;
+          unmarked = not_both g.var.marked g.var.unpriv marks.0;
+          cells_there = cells_there structs p.structs g.var.ty g.cells whole.table fit typed.0 own_parts.1;
+        },
+        omega (arith, less, long),
+      ),
+      globals_fit p structs gs whole parts.1 marks.1,
+    )
 
 -- ---- variables of functions
 
@@ -272,9 +275,10 @@ definition_params m structs infos s (y ∷ ps) (suc n) (x ∷ xs) long whole sam
     let leads = both_hold (same_type (param_type y.kind) x.ty && same_bool y.marked x.marked) (params_lead ps xs) lead in
     let is = equal_types (param_type y.kind) x.ty (both_hold (same_type (param_type y.kind) x.ty) (same_bool y.marked x.marked) leads.0).0 in
     let parts = both_hold (variable_fits infos x) (list_all (variable_fits infos) xs) fits in
-    let marks = both_hold (variable_marked x) (list_all variable_marked xs) stands in
-    (definition_param m structs infos s y x whole same defined is parts.0 marks.0 (first_plain s.privileged x.unpriv (list_any (λ z. z.unpriv) (take n xs)) plain),
-    definition_params m structs infos s ps n xs (omega (arith, long)) whole same defined leads.1 parts.1 marks.1 (rest_plain s.privileged x.unpriv (list_any (λ z. z.unpriv) (take n xs)) plain))
+    let marks = both_hold (variable_marked x) (list_all variable_marked xs) stands in (
+      definition_param m structs infos s y x whole same defined is parts.0 marks.0 (first_plain s.privileged x.unpriv (list_any (λ z. z.unpriv) (take n xs)) plain),
+      definition_params m structs infos s ps n xs (omega (arith, long)) whole same defined leads.1 parts.1 marks.1 (rest_plain s.privileged x.unpriv (list_any (λ z. z.unpriv) (take n xs)) plain),
+    )
   where
     first_plain : (a b c : Bool) → (not a || not (b || c)) ≡ true → (not a || not b) ≡ true
     first_plain true true c h = h

@@ -1,6 +1,6 @@
 -- What the declaration of a function without a body adds to the names of the file.
-use Rattle.std.proofs.Common.{◌≡◌, ◌++◌, ◌∙◌, ◌<◌, ◌≤◌, ◌+◌, sym, ap, refl, subst, ℕ, zero, suc, Bool, true, false, List, [], ◌∷◌, length, map, Option, Some, None, is_none, is_some, arith}
-use Rattle.std.specs.Prelude.{not, ◌&&◌, ◌||◌, if◌then◌else◌}
+use Rattle.std.proofs.Common.{◌≡◌, ◌++◌, ◌∙◌, ◌≤◌, ap, refl, ℕ, suc, Bool, true, false, List, [], ◌∷◌, length, map, Option, Some, None, is_none}
+use Rattle.std.specs.Prelude.{◌||◌, if◌then◌else◌}
 use Rattle.pt_tree.specs.declared.signature.Param.{Param}
 use Rattle.pt_tree.specs.declared.signature.Signature.{Signature}
 use Rattle.pt_tree.specs.SpecifierTree.{spec_trees}
@@ -12,7 +12,7 @@ use Rattle.typed_tree.specs.TypedTree.{FunctionTree}
 use Rattle.typed_tree.specs.WellFormedExpression.{param_type}
 use Rattle.check_declarations.specs.declared.fault.FaultKind.TheVariants.{Redeclared}
 use Rattle.check_declarations.specs.Faults.{fault_if}
-use Rattle.check_declarations.specs.NameTables.{number_of, is_new}
+use Rattle.check_declarations.specs.NameTables.{number_of}
 use Rattle.check_declarations.specs.Structs.{Structs}
 use Rattle.check_expressions.specs.declared.meaning.Callable.{Callable}
 use Rattle.check_expressions.specs.declared.meaning.Meaning.{Meaning}

@@ -1,5 +1,5 @@
 -- What the specifiers in a half's text say.
-use Rattle.std.proofs.Common.{◌≡◌, ◌++◌, ◌∙◌, ◌<◌, sym, ap, refl, subst, ℕ, zero, suc, Bool, true, false, List, [], ◌∷◌, map, codes, Option, Some, None, is_none}
+use Rattle.std.proofs.Common.{◌≡◌, ◌++◌, ◌∙◌, sym, ap, refl, ℕ, Bool, true, false, List, [], ◌∷◌, map, codes, Option, Some, None, is_none}
 use Rattle.std.specs.Prelude.{not}
 use Rattle.std.specs.Option.{option_map_or}
 use Rattle.std.specs.List.{list_any}
@@ -10,7 +10,7 @@ use Rattle.pt_tree.specs.declared.signature.Elem.{Elem}
 use Rattle.pt_tree.specs.declared.signature.Elem.TheVariants as e
 use Rattle.pt_tree.specs.declared.signature.Signature.{Signature}
 use Rattle.pt_tree.specs.declared.word.Word.{Word}
-use Rattle.pt_tree.specs.SpecifierTree.{SpecTree, SpecTrees, attribute, keyword, structure, no_specs, spec_and, spec_trees}
+use Rattle.pt_tree.specs.SpecifierTree.{SpecTree, SpecTrees, attribute, spec_and, spec_trees}
 use Rattle.type_rules.specs.declared.types.Type.{«Type»}
 use Rattle.type_rules.specs.declared.types.Type.TheVariants as ty
 use Rattle.typed_tree.specs.declared.types.StructInfo.{StructInfo}
@@ -20,9 +20,6 @@ use Rattle.pt_core.specs.Types.{element_of}
 use Rattle.check_declarations.specs.declared.marks.Attribute.{Attribute}
 use Rattle.check_declarations.specs.declared.fault.TypeFault.{TypeFault}
 use Rattle.check_declarations.specs.declared.marks.Carrier.{Carrier}
-use Rattle.check_declarations.specs.declared.marks.Carrier.TheVariants as carrier
-use Rattle.check_declarations.specs.declared.marks.Marks.{Marks}
-use Rattle.check_declarations.specs.declared.specifiers.Specified.{Specified}
 use Rattle.check_declarations.specs.declared.fault.FaultKind.TheVariants.{UnknownName, OutOfProfile, BadAttribute}
 use Rattle.check_declarations.specs.declared.marks.Mark.TheVariants.{Priv, Unpriv, Declassify}
 use Rattle.check_declarations.specs.Faults.{fault_if}

@@ -1,9 +1,9 @@
 -- What the struct declarations of a half add to the table of structs, and that they have no fault.
-use Rattle.std.proofs.Common.{◌≡◌, ◌++◌, ◌∙◌, ◌<◌, ◌≤◌, ◌+◌, sym, ap, refl, subst, ℕ, zero, suc, Bool, true, false, List, [], ◌∷◌, length, Option, Some, None, is_none, arith}
-use Rattle.std.specs.Prelude.{IsTrue, not, ◌&&◌, ◌||◌, nat_eq, nat_le, slice_get, if◌then◌else◌}
+use Rattle.std.proofs.Common.{◌≡◌, ◌++◌, ◌∙◌, ◌<◌, ◌≤◌, ◌+◌, sym, ap, refl, subst, ℕ, zero, suc, Bool, true, false, List, [], ◌∷◌, length, Some, arith}
+use Rattle.std.specs.Prelude.{not, ◌||◌, nat_eq, slice_get, if◌then◌else◌}
 use Rattle.std.proofs.lemmas.Bool.Decides.{nat_tests}
 use Rattle.std.proofs.lemmas.List.{append_assoc, length-append}
-use Rattle.pt_tree.specs.SpecifierTree.{FieldTree, FieldTrees, field_trees, structure, no_specs, spec_and, spec_trees}
+use Rattle.pt_tree.specs.SpecifierTree.{FieldTrees, field_trees, structure, no_specs, spec_and, spec_trees}
 use Rattle.pt_tree.specs.ProgramTree as parsed
 use Rattle.pt_tree.specs.ProgramTree.{ItemTree}
 use Rattle.type_rules.specs.declared.types.Type.{«Type»}
@@ -18,28 +18,25 @@ use Rattle.check_declarations.specs.declared.marks.Carrier.TheVariants as carrie
 use Rattle.check_declarations.specs.declared.marks.Marks.{Marks}
 use Rattle.check_declarations.specs.declared.objects.ObjectKind.TheVariants as kind
 use Rattle.check_declarations.specs.declared.structs.FieldEntry.{FieldEntry}
-use Rattle.check_declarations.specs.declared.structs.StructEntry.{StructEntry}
 use Rattle.check_declarations.specs.Faults.{fault_if}
 use Rattle.check_declarations.specs.Fields.{declared}
-use Rattle.check_declarations.specs.Marks.{marks_of, mark_faults}
-use Rattle.check_declarations.specs.NameTables.{Named, number_of, is_new}
-use Rattle.check_declarations.specs.Objects.{object_faults, object_type, is_fixed, size_faults}
+use Rattle.check_declarations.specs.Marks.{mark_faults}
+use Rattle.check_declarations.specs.NameTables.{is_new}
+use Rattle.check_declarations.specs.Objects.{object_type}
 use Rattle.check_declarations.specs.Specifiers as spec
 use Rattle.check_declarations.specs.Specifiers.{Body, body_of, with_field, judged, defined, defined_by, specified}
 use Rattle.check_declarations.specs.Structs.{Fields, Structs, struct_of}
 use Rattle.check_declarations.specs.Words.{same_words}
-use Rattle.check_expressions.specs.Environment.{Env}
 use Rattle.check_programs.specs.Functions.{Checked}
 use Rattle.check_programs.specs.declared.function_marks.FunctionMarks.{FunctionMarks}
 use Rattle.check_programs.specs.Programs.{checked_item}
 use Rattle.check_programs.specs.Progress.{Progress}
-use Rattle.pt_core.specs.Types.{element_of}
 use Rattle.half_trees.specs.Names.{nowhere, word, struct_name, field_by}
 use Rattle.half_trees.specs.Declarations.{is_pointer, suffix_of, field_tree, fields_from, struct_item, declarator_of}
 use Rattle.half_meaning_law.specs.Known.{type_as}
-use Rattle.half_names_law.proofs.Tables.{Differ, listed, listed_more, listed_back, listed_length, with_new, is_new_where}
-use Rattle.half_names_law.proofs.Specifiers.{says, elem_type, marks_list, object_says, marks_are, marks_stand}
-use Rattle.half_names_law.proofs.Objects.{may_be, Fits, Declares, declares, given_as, sized}
+use Rattle.half_names_law.proofs.Tables.{Differ, listed, listed_more, listed_back, listed_length, is_new_where}
+use Rattle.half_names_law.proofs.Specifiers.{marks_list, object_says, marks_are, marks_stand}
+use Rattle.half_names_law.proofs.Objects.{may_be, Fits, declares, given_as, sized}
 
 -- ---- fields
 

@@ -1,8 +1,8 @@
 -- The table of a half's structs: all of them, under their names, and nothing in them is const.
 use Rattle.std.proofs.Common.{◌≡◌, ◌++◌, ◌∙◌, ◌<◌, ◌≤◌, ◌+◌, sym, ap, refl, subst, ℕ, zero, suc, Bool, true, false, List, [], ◌∷◌, length, map, Option, Some, None, arith}
-use Rattle.std.specs.Prelude.{IsTrue, ◌&&◌, ◌||◌, nat_le, nat_lt, slice_get, get_or, sum_by, option_map}
+use Rattle.std.specs.Prelude.{◌&&◌, ◌||◌, nat_le, nat_lt, slice_get, get_or, option_map}
 use Rattle.std.specs.Option.{option_map_or}
-use Rattle.std.specs.List.{list_all, list_any, range_with_len}
+use Rattle.std.specs.List.{list_all, range_with_len}
 use Rattle.std.proofs.lemmas.Bool.Decides.{nat_tests}
 use Rattle.std.proofs.lemmas.List.{length-append}
 use Rattle.pt_tree.specs.declared.signature.Elem.{Elem}
@@ -14,14 +14,13 @@ use Rattle.typed_tree.specs.declared.types.VarTy.{VarTy}
 use Rattle.typed_tree.specs.declared.types.VarTy.TheVariants.{Int, Struct, Array, Pointer}
 use Rattle.typed_tree.specs.Cells.{leaves_of}
 use Rattle.typed_tree.specs.Sizes.{fields_of}
-use Rattle.typed_tree.specs.WellFormed.{is_plain_type, is_small, field_sound, struct_sound, structs_sound}
+use Rattle.typed_tree.specs.WellFormed.{is_plain_type, is_small, field_sound, structs_sound}
 use Rattle.typed_tree.specs.WellFormedExpression.{is_elem}
-use Rattle.typed_tree.proofs.LeavesLemmas.{get_before, leaves_of_struct}
-use Rattle.check_declarations.specs.declared.structs.FieldEntry.{FieldEntry}
+use Rattle.typed_tree.proofs.LeavesLemmas.{leaves_of_struct}
 use Rattle.check_declarations.specs.declared.structs.StructEntry.{StructEntry}
 use Rattle.check_declarations.specs.Cells.{cells_of, cells_of_elem, object_limit}
-use Rattle.check_declarations.specs.NameTables.{number_of, is_new, value_at, values}
-use Rattle.check_declarations.specs.Structs.{Structs, Fields, struct_of, has_const_field, has_const_part, has_const}
+use Rattle.check_declarations.specs.NameTables.{number_of, is_new, values}
+use Rattle.check_declarations.specs.Structs.{Structs, struct_of, has_const_field, has_const_part, has_const}
 use Rattle.check_declarations_law.specs.Types.{is_plain}
 use Rattle.check_declarations_law.specs.Sound as law
 use Rattle.check_declarations_law.specs.Sound.{SoundStructs}
@@ -38,7 +37,7 @@ use Rattle.half_names_law.specs.Standing.{Marks}
 use Rattle.half_names_law.proofs.Tables.{Differ, pushed, get_end, listed, listed_length, found, sought_first, is_new_where}
 use Rattle.half_names_law.proofs.Specifiers.{IsNamed}
 use Rattle.half_names_law.proofs.Objects.{Fits, is_dense, both_hold}
-use Rattle.half_names_law.proofs.Structs.{entry_of, field_entry, fields_as, AllFit, FieldFits, behind, struct_added}
+use Rattle.half_names_law.proofs.Structs.{entry_of, field_entry, fields_as, AllFit, behind, struct_added}
 use Rattle.half_names_law.proofs.Sizes.{CellsFew, object_few, struct_few, array_few}
 
 -- ---- the table of so many structs
@@ -164,7 +163,7 @@ entry_is structs infos n sound low differ table = record {
   named = refl;
   fields = refl;
   changes = no_const_field structs (fields_of infos n) 0 (fields_of infos n) infos (λ m. none_const structs infos n m table)
-    (all_fit structs infos n (fields_of infos n) sound (omega (arith, low)) table differ (fields_sound infos n sound low).1);
+      (all_fit structs infos n (fields_of infos n) sound (omega (arith, low)) table differ (fields_sound infos n sound low).1);
 }
 
 cells_pushed : (structs : Structs) (infos : List StructInfo) (n : ℕ) → structs_sound infos 0 infos ≡ true → n < length infos → IsTable structs infos n → CellsFew (structs ++ struct_entry structs infos n ∷ []) infos (n + 1)

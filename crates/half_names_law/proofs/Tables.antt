@@ -1,12 +1,12 @@
 -- Tables of names in which no name stands twice.
-use Rattle.std.proofs.Common.{◌≡◌, ◌<◌, ◌≤◌, ◌+◌, ◌++◌, ◌∙◌, sym, ap, refl, subst, ℕ, zero, suc, Bool, true, false, List, [], ◌∷◌, length, map, arith, cond, nat_lt, not, Option, Some, None, if◌then◌else◌, is_none}
+use Rattle.std.proofs.Common.{◌≡◌, ◌<◌, ◌+◌, ◌++◌, ◌∙◌, sym, ap, refl, subst, ℕ, zero, suc, Bool, true, false, List, [], ◌∷◌, length, map, arith, cond, nat_lt, not, Option, Some, None, if◌then◌else◌, is_none}
 use Rattle.std.specs.Prelude.{◌&&◌, ◌||◌, slice_get, option_map}
 use Rattle.std.specs.List.{prefix_len, list_any, range_with_len}
 use Rattle.std.specs.Str.{bytes_eq}
 use Rattle.std.proofs.lemmas.Bool.Decides.{nat_tests}
 use Rattle.std.proofs.lemmas.Slice.Eq.{bytes_eq-Decides}
 use Rattle.typed_tree.specs.WellFormed.{are_distinct}
-use Rattle.check_declarations.specs.NameTables.{Named, number_of, value_at, is_new, with_name}
+use Rattle.check_declarations.specs.NameTables.{Named, number_of, is_new, with_name}
 
 pub name_self : (n : List ℕ) → bytes_eq n n ≡ true
 name_self n = (bytes_eq-Decides n n).1 refl

@@ -1,6 +1,5 @@
 -- The names that a half's text gives variables, globals and functions are different.
-use Rattle.std.proofs.Common.{◌≡◌, ◌++◌, ◌∙◌, ◌<◌, ◌≤◌, ◌^◌, sym, ap, refl, subst, ℕ, zero, suc, Bool, true, false, List, [], ◌∷◌, codes, Some, arith, if◌then◌else◌}
-use Rattle.std.specs.Prelude.{not}
+use Rattle.std.proofs.Common.{◌≡◌, ◌∙◌, ◌<◌, ◌≤◌, ◌^◌, sym, ap, refl, ℕ, Bool, true, false, List, [], ◌∷◌, codes, Some, arith, if◌then◌else◌}
 use Rattle.std.specs.Str.{bytes_eq}
 use Rattle.std.proofs.lemmas.Fmt.{decimal_injective}
 use Rattle.pt_tree.specs.declared.signature.Signature.{Signature}

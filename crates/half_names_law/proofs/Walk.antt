@@ -1,35 +1,29 @@
 -- The walk over what a half declares outside of functions with bodies: it adds these names and no fault.
-use Rattle.std.proofs.Common.{◌≡◌, ◌++◌, ◌∙◌, ◌<◌, ◌≤◌, ◌+◌, ◌^◌, sym, ap, refl, subst, ℕ, zero, suc, Bool, true, false, List, [], ◌∷◌, length, map, Option, Some, None, arith}
-use Rattle.std.specs.Prelude.{◌&&◌, ◌||◌, nat_eq, nat_le, nat_lt, not, is_some, min, slice_get, sum_by, option_map, if◌then◌else◌}
-use Rattle.std.specs.Option.{option_map_or}
-use Rattle.std.proofs.lemmas.Bool.Decides.{nat_tests}
-use Rattle.std.proofs.lemmas.List.{append_assoc, length-append, map-append}
+use Rattle.std.proofs.Common.{◌≡◌, ◌++◌, ◌∙◌, ◌≤◌, ◌+◌, sym, ap, refl, ℕ, zero, suc, Bool, true, false, List, [], ◌∷◌, length, map, Some, None, arith}
+use Rattle.std.specs.Prelude.{is_some, slice_get, sum_by}
+use Rattle.std.proofs.lemmas.List.{append_assoc, map-append}
 use Rattle.std.proofs.lemmas.List.Sums.{sum_by-cons}
 use Rattle.pt_tree.specs.declared.signature.Signature.{Signature}
 use Rattle.pt_tree.specs.ProgramTree as parsed
 use Rattle.pt_tree.specs.ProgramTree.{ItemTree}
 use Rattle.typed_tree.specs.declared.types.StructInfo.{StructInfo}
-use Rattle.typed_tree.specs.declared.variable.TypedGlobal.{TypedGlobal}
 use Rattle.typed_tree.specs.TypedTree.{FunctionTree}
 use Rattle.typed_tree.proofs.LeavesLemmas.{get_before}
 use Rattle.check_declarations.specs.Cells.{counted, cells_of}
-use Rattle.check_declarations.specs.NameTables.{number_of}
 use Rattle.check_declarations.specs.Structs.{Structs}
 use Rattle.check_expressions.specs.declared.meaning.Callable.{Callable}
-use Rattle.check_expressions.specs.declared.meaning.Object.{Object}
-use Rattle.check_expressions.specs.Environment.{Env, Scope}
-use Rattle.check_programs.specs.declared.function_marks.FunctionMarks.{FunctionMarks}
-use Rattle.check_programs.specs.Functions.{Checked, has_body, checked_function}
+use Rattle.check_expressions.specs.Environment.{Env}
+use Rattle.check_programs.specs.Functions.{Checked, has_body}
 use Rattle.check_programs.specs.Programs.{checked_item, checked_items, function_name}
 use Rattle.check_programs.specs.Progress.{Progress}
 use Rattle.pt_core.specs.CodeTree.{GlobalTree, ProgramTree}
 use Rattle.pt_core.specs.WellFormed.{function_at}
-use Rattle.half_trees.specs.Names.{local_name, global_name, function_by}
-use Rattle.half_trees.specs.Declarations.{prototype_item, global_item}
+use Rattle.half_trees.specs.Names.{local_name, global_name}
+use Rattle.half_trees.specs.Declarations.{global_item}
 use Rattle.half_trees.specs.Halves.{prototype_of}
 use Rattle.half_meaning_law.specs.Known.{type_as, function_id}
 use Rattle.half_names_law.specs.Standing.{Marks}
-use Rattle.half_names_law.proofs.Tables.{Differ, listed, listed_more}
+use Rattle.half_names_law.proofs.Tables.{Differ, listed_more}
 use Rattle.half_names_law.proofs.Parameters.{ParametersFit}
 use Rattle.half_names_law.proofs.Heads.{declaration_by, file_env}
 use Rattle.half_names_law.proofs.Prototypes.{Rest, at, marked_param, prototype_as, with_prototype, prototype_added}

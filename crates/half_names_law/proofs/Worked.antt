@@ -1,6 +1,6 @@
 -- A small half that meets all that the laws ask for: a struct with an array, a host, a function with a pointer and a
 -- local struct, and a global whose number isn't its place.
-use Rattle.std.proofs.Common.{◌≡◌, refl, true, false, Some, None, List, [], ◌∷◌, pos, codes}
+use Rattle.std.proofs.Common.{refl, true, false, Some, None, [], ◌∷◌, pos, codes}
 use Rattle.std.specs.Fmt.{digits}
 use Rattle.pt_base.specs.declared.int_type.IntType.TheVariants as i
 use Rattle.pt_tree.specs.declared.signature.Elem.TheVariants as el
@@ -11,8 +11,7 @@ use Rattle.typed_tree.specs.declared.types.VarTy.{VarTy}
 use Rattle.typed_tree.specs.declared.types.VarTy.TheVariants as v
 use Rattle.typed_tree.specs.declared.variable.Var.{Var}
 use Rattle.typed_tree.specs.Cells.{leaves_of}
-use Rattle.pt_core.specs.CodeTree.{FunctionTree, ProgramTree, local, global, deref, place, read, stmt_and, no_stmts, assign, give_back}
-use Rattle.pt_core.specs.WellFormed.{is_sound}
+use Rattle.pt_core.specs.CodeTree.{FunctionTree, ProgramTree, local, deref, place, read, stmt_and, no_stmts, assign, give_back}
 use Rattle.half_trees.specs.Names.{nowhere}
 use Rattle.half_meaning_law.specs.Statements.{BodiesKeepTheirMeaning}
 use Rattle.half_names_law.specs.Declarable.{Declarable}

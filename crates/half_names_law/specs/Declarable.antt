@@ -1,6 +1,6 @@
 -- What a half of a checked program has besides being sound, so that its text declares what the half has: names
 -- that differ in the text, numbers that are printed whole, and marks where they may stand.
-use Rattle.std.specs.Prelude.{ℕ, ◌≤◌, ◌^◌, Bool, true, false, ◌&&◌, ◌||◌, not, List, Option, None, Some, IsTrue, length, map, take, nat_le, nat_lt, sum_by, is_some}
+use Rattle.std.specs.Prelude.{ℕ, ◌^◌, Bool, true, false, ◌&&◌, ◌||◌, not, List, Option, None, Some, IsTrue, length, map, take, nat_le, nat_lt, sum_by, is_some}
 use Rattle.std.specs.List.{list_all, list_any, range_with_len}
 use Rattle.pt_tree.specs.declared.signature.Param.{Param}
 use Rattle.pt_tree.specs.declared.signature.ParamKind.{ParamKind}
@@ -13,7 +13,7 @@ use Rattle.typed_tree.specs.declared.variable.Var.{Var}
 use Rattle.typed_tree.specs.Cells.{cells_of}
 use Rattle.typed_tree.specs.WellFormed.{are_distinct}
 use Rattle.pt_core.specs.CodeTree.{GlobalTree, FunctionTree, ProgramTree}
-use Rattle.pt_core.specs.WellFormed.{signature_at, function_at, with_own}
+use Rattle.pt_core.specs.WellFormed.{signature_at, function_at}
 use Rattle.half_trees.specs.Names.{struct_name, field_by, function_by}
 
 -- ---- names

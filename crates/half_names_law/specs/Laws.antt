@@ -8,7 +8,7 @@ use Rattle.check_statements.specs.Outermost as o
 use Rattle.check_statements.specs.Statements.{CheckedAll, checked_all}
 use Rattle.check_programs.specs.Blocks.{block_in}
 use Rattle.check_programs.specs.Programs.{checked_items, with_main, type_faults}
-use Rattle.check_programs.specs.Progress.{Progress, at_start}
+use Rattle.check_programs.specs.Progress.{at_start}
 use Rattle.source_meaning.specs.Expressions as m
 use Rattle.pt_core.specs.CodeTree.{FunctionTree, ProgramTree, SlaveTree}
 use Rattle.pt_core.specs.Statements as c

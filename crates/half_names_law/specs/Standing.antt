@@ -1,6 +1,6 @@
 -- Where the type judgments stand in the C tree of a half: before a function, in its body, and behind the
 -- declarations of its variables.
-use Rattle.std.specs.Prelude.{ℕ, zero, suc, List, [], ◌∷◌, ◌++◌, Bool, true, false, Some, IsTrue, length, map, take, drop}
+use Rattle.std.specs.Prelude.{ℕ, zero, suc, List, [], ◌∷◌, ◌++◌, Bool, true, false, Some, length, map, take, drop}
 use Rattle.std.specs.List.{range_with_len, list_all}
 use Rattle.pt_tree.specs.SpecifierTree.{spec_trees}
 use Rattle.pt_tree.specs.StatementTree.{stmt_trees}
