@@ -4,11 +4,13 @@ use Rattle.std.specs.Prelude.{◌&&◌, ◌||◌, nat_le, nat_lt, not, is_some, 
 use Rattle.std.specs.Option.{option_map_or}
 use Rattle.std.specs.List.{list_all}
 use Rattle.std.proofs.lemmas.Bool.Decides.{nat_tests}
+use Rattle.std.proofs.lemmas.List.{append_assoc}
 use Rattle.std.proofs.lemmas.List.Sums.{sum_by-cons}
 use Rattle.pt_tree.specs.declared.signature.Signature.{Signature}
 use Rattle.pt_tree.specs.StatementTree.{StmtTrees, stmt_trees}
 use Rattle.typed_tree.specs.declared.variable.Var.{Var}
 use Rattle.typed_tree.specs.StatementTree.{BodyTree, block, body_trees}
+use Rattle.typed_tree.specs.ExpressionTree.{ExprTree}
 use Rattle.typed_tree.specs.TypedTree as typed
 use Rattle.typed_tree.specs.WellFormed.{are_rising}
 use Rattle.check_declarations.specs.declared.fault.FaultKind.TheVariants.{TooLarge}
@@ -243,15 +245,34 @@ abbrev pub main_after : ProgramTree → Bool → List FunctionTree → Bool
 main_after p b [] = b
 main_after p b (f ∷ fs) = main_after p (starts p f || b) fs
 
--- what holds behind these functions
-pub record Behind (p : ProgramTree) (before : Bool) (fs later : List FunctionTree) (r : Rest) : Type 0 where
+-- a function at this place isn't among these
+abbrev pub NotAmong : ProgramTree → List FunctionTree → ℕ → Type 0
+NotAmong p fs k = (n : ℕ) (f : FunctionTree) (s : Signature) → slice_get fs n ≡ Some f → slice_get p.signatures k ≡ Some (f.id, s) → ⊥
+
+-- what holds behind these functions, of what there was before
+pub record Behind (p : ProgramTree) (fs later : List FunctionTree) (old r : Rest) : Type 0 where
   pub fresh : Fresh p r later
-  pub main : r.has_main ≡ main_after p before fs
+  pub main : r.has_main ≡ main_after p old.has_main fs
+  pub globals : r.globals ≡ old.globals
+  pub more : List ExprTree
+  pub grown : r.exprs ≡ old.exprs ++ more
+  pub kept : (k : ℕ) → NotAmong p fs k → slice_get r.functions k ≡ slice_get old.functions k
+
+entry_other : (fs : List typed.FunctionTree) (k j : ℕ) (vars : List Var) (b : BodyTree) → (j ≡ k → ⊥) → slice_get (with_body fs k nowhere vars b) j ≡ slice_get fs j
+entry_other fs k j vars b other = go (slice_get fs k)
+  where
+    go : (o : Option typed.FunctionTree) → slice_get (option_map_or (λ f. slice_set fs k (with_parts f nowhere vars b)) o fs) j ≡ slice_get fs j
+    go None = refl
+    go (Some f) = set_other fs k j (with_parts f nowhere vars b) other
+
+nothing_more : {A : Type 0} (xs : List A) → xs ++ [] ≡ xs
+nothing_more [] = refl
+nothing_more (x ∷ xs) = ap (λ ys. x ∷ ys) (nothing_more xs)
 
 pub functions_added : (bodies : BodiesKeepTheirMeaning) (marks : Marks) (monitor : Bool) (p : ProgramTree) (structs : Structs) (r : Rest) (first start : ℕ) (fs later : List FunctionTree) → HalfFits monitor p structs → FunctionsFit marks monitor p structs
     → ((n : ℕ) (f : FunctionTree) → slice_get (fs ++ later) n ≡ Some f → slice_get p.functions (start + n) ≡ Some f) → are_rising first (map (λ g. g.id) (fs ++ later)) ≡ true → Fresh p r (fs ++ later)
-    → Passes (checked_items marks (at (half_env monitor p) structs r) (map (function_item p) fs)) (half_env monitor p) structs (list_all (has_small_frame p) fs ≡ true) (Behind p r.has_main fs later)
-functions_added bodies marks monitor p structs r first start [] later half fit among rise fresh = record { rest = r; is = refl; faults = λ h. refl; holds = record { fresh = fresh; main = refl } }
+    → Passes (checked_items marks (at (half_env monitor p) structs r) (map (function_item p) fs)) (half_env monitor p) structs (list_all (has_small_frame p) fs ≡ true) (Behind p fs later r)
+functions_added bodies marks monitor p structs r first start [] later half fit among rise fresh = record { rest = r; is = refl; faults = λ h. refl; holds = record { fresh = fresh; main = refl; globals = refl; more = []; grown = sym (nothing_more r.exprs); kept = λ k none. refl } }
 functions_added bodies marks monitor p structs r first start (f ∷ fs) later half fit among rise fresh =
     let there : slice_get p.functions start ≡ Some f = ap (slice_get p.functions) (omega arith) ∙ among 0 f refl in
     let own = fit start f there in
@@ -269,7 +290,16 @@ functions_added bodies marks monitor p structs r first start (f ∷ fs) later ha
       faults = λ small.
           let parts = both_hold (has_small_frame p f) (list_all (has_small_frame p) fs) small in
           ap (λ c. c.faults) whole ∙ (λ i. small_frame marks monitor p structs f s own.fits parts.0 i ++ again.faults parts.1 i);
-      holds = record { fresh = again.holds.fresh; main = again.holds.main ∙ ap (λ o. main_after p (starts_by f o || r.has_main) fs) (sym own.fits.named) };
+      holds = record {
+        fresh = again.holds.fresh;
+        main = again.holds.main ∙ ap (λ o. main_after p (starts_by f o || r.has_main) fs) (sym own.fits.named);
+        globals = again.holds.globals;
+        more = (checked_statements marks monitor p structs (length r.exprs) f s).trees ++ again.holds.more;
+        grown = again.holds.grown ∙ append_assoc r.exprs (checked_statements marks monitor p structs (length r.exprs) f s).trees again.holds.more;
+        kept = λ j none.
+            again.holds.kept j (λ n g t e. none (suc n) g t e)
+            ∙ entry_other r.functions k j _ _ (λ same. none 0 f s refl (ap (slice_get p.signatures) same ∙ place.there));
+      };
     }
   where
     next : (a b : ℕ) → suc a + b ≡ a + suc b

@@ -39,7 +39,8 @@ use Rattle.half_trees.specs.Names.{nowhere, global_name}
 use Rattle.half_trees.specs.Declarations.{is_pointer, suffix_of, declarator_of, mark_specs, object, cell_tree, initial}
 use Rattle.half_meaning_law.specs.Known.{type_as, object_as, global_id}
 use Rattle.half_names_law.proofs.Specifiers.{marks_list, object_says, marks_stand}
-use Rattle.half_names_law.proofs.Objects.{may_be, Fits, declares, given_as, sized}
+use Rattle.check_expressions.specs.StructInfos.{object_type_of}
+use Rattle.half_names_law.proofs.Objects.{object_type_is, may_be, Fits, declares, given_as, sized}
 use Rattle.half_names_law.proofs.Heads.{file_env}
 use Rattle.half_names_law.proofs.Prototypes.{Rest, at}
 
@@ -153,7 +154,7 @@ not_over total count few = grind (arith, nat_tests, few)
 pub global_added : (file : Scope) (functions : List Callable) (globals : List Object) (structs : Structs) (r : Rest) (infos : List StructInfo) (g : ℕ) (u : VarTy) (marked unpriv : Bool) (cells : List ℤ)
     → GlobalFits structs infos u marked unpriv cells → number_of file (global_name g) ≡ None → r.cells + cells_of structs (type_as u) ≤ 1048576
     → (tree : TypedGlobal) × (checked_declaration (at (file_env file functions globals) structs r) (global_tree infos g u marked unpriv cells)
-    ≡ record { progress = at (file_env (file ++ (global_name g, Global (global_id (length globals))) ∷ []) functions (globals ++ object_as u ∷ [])) structs (with_global_tree r tree (cells_of structs (type_as u))); faults = [] })
+    ≡ record { progress = at (file_env (file ++ (global_name g, Global (global_id (length globals))) ∷ []) functions (globals ++ object_as u ∷ [])) structs (with_global_tree r tree (cells_of structs (type_as u))); faults = [] }) × (tree.var.ty ≡ u)
 global_added file functions globals structs r infos g u marked unpriv cells fits new few =
     let marks = marks_list marked unpriv false in
     let given = given_as u marks in
@@ -170,6 +171,7 @@ global_added file functions globals structs r infos g u marked unpriv cells fits
           (global_initialised (known_by file functions globals g (d.typed i) (d.changes i) (is_none (new i))) structs (d.typed i) (initial u cells)))
           ∙ ap (by_parts file functions globals r g (cells_of structs (type_as u)) tree (type_as u) false true false [] [] [])
           (fine_is structs (global_initialised behind structs (type_as u) (initial u cells)) (initial_fine behind structs u cells fits.cells_there fits.plain)),
+      ap object_type_of d.typed ∙ object_type_is u,
     )
   where
     may : (u : VarTy) → is_pointer u ≡ false → may_be kind.Global u ≡ true

@@ -23,17 +23,10 @@ use Rattle.check_declarations_law.proofs.LeavesLemmas.{leaves_are_sound}
 use Rattle.half_trees.specs.Names.{nowhere}
 use Rattle.half_meaning_law.specs.Known.{type_as}
 use Rattle.half_names_law.proofs.Tables.{listed}
-use Rattle.half_names_law.proofs.Objects.{both_hold, Fits, sized}
+use Rattle.half_names_law.proofs.Objects.{object_type_is, both_hold, Fits, sized}
 use Rattle.half_names_law.proofs.Structs.{entry_of, fields_as}
 use Rattle.half_names_law.proofs.Table.{IsTable, plain_as}
 use Rattle.half_names_law.proofs.Globals.{HasCells}
-
-pub object_type_is : (u : VarTy) → object_type_of (type_as u) ≡ u
-unfolding var_type
-object_type_is (Int t) = refl
-object_type_is (Struct n) = refl
-object_type_is (Array el count) = refl
-object_type_is (Pointer el fixed) = refl
 
 -- ---- leaves don't ask for names
 

@@ -47,7 +47,7 @@ use Rattle.half_names_law.proofs.Heads.{callable_as, file_env, head_as, head_is}
 use Rattle.half_names_law.proofs.Prototypes.{Rest, at}
 use Rattle.half_names_law.proofs.Locals.{declaration_trees}
 use Rattle.half_names_law.proofs.Definitions.{at_body, trees_joined}
-use Rattle.half_names_law.proofs.Walk.{SignaturesFit, SignatureFits, items_joined, prototypes_added, globals_added}
+use Rattle.half_names_law.proofs.Walk.{Entry, SignaturesFit, SignatureFits, items_joined, prototypes_added, globals_added}
 use Rattle.half_names_law.proofs.Names.{FunctionsApart, text_name, callable_in, half_file, half_env, global_object, functions_file, function_found, function_meant}
 use Rattle.half_names_law.proofs.Known.{all_known, functions_known, all_there}
 use Rattle.half_names_law.proofs.Parts.{parameters_in, definition_is, variables_are, locals_declared}
@@ -76,6 +76,8 @@ pub record DeclaredHalf (marks : Marks) (monitor : Bool) (p : ProgramTree) : Typ
   pub walk : (items : List ItemTree) → checked_items marks at_start (map (struct_item p.structs) (range_with_len 0 (length p.structs)) ++ (map (prototype_of monitor p) p.signatures ++ (map (global_item p.structs) p.globals ++ items)))
       ≡ checked_items marks (at (half_env monitor p) (half_structs p) rest) items
   pub bodiless : (k : ℕ) → has_body rest.functions (function_id k) ≡ false
+  pub entries : (k : ℕ) (s : ℕ × Signature) → slice_get p.signatures k ≡ Some s → Entry marks monitor p rest.functions k s
+  pub globals : map (λ g. g.var.ty) rest.globals ≡ map (λ g. g.var.ty) p.globals
 
 declared_half : (marks : Marks) (monitor : Bool) (p : ProgramTree) → is_sound monitor p ≡ true → Declarable p → MarksSay marks p → DeclaredHalf marks monitor p
 declared_half marks monitor p h d say =
@@ -83,13 +85,13 @@ declared_half marks monitor p h d say =
     let whole = whole_table monitor p sound d in
     let half = half_fits monitor p h d in
     let one = structs_added marks p.structs at_start 0 (length p.structs) sound.structs (omega arith) half.apart.structs (no_table p) in
-    let two = prototypes_added marks monitor p (half_structs p) p.signatures [] p.signatures 0 nothing_yet refl half.apart.functions
+    let two = prototypes_added marks monitor p (half_structs p) p.signatures [] p.signatures nothing_yet refl half.apart.functions
     (signatures_fit marks monitor p (half_structs p) p.signatures
     (λ n s there. signature_fit marks monitor p (half_structs p) n s whole say there (all_there (λ t. signature_fits p.structs t.1) p.signatures n s sound.signatures there) (all_there (λ t. signature_marked t.1) p.signatures n s d.signature_marks there)))
-    eight (record { bodiless = λ k. refl; same = refl }) in
-    let none = two.holds.same in
+    eight (record { bodiless = λ k. refl; none = refl; no_globals = refl; long = refl; entries = λ k s e. cc }) in
+    let none = two.holds.none in
     let three = globals_added marks p p.signatures (map (callable_in monitor p) p.signatures) (half_structs p) p.globals [] p.globals two.rest.functions two.rest refl half.apart.globals (globals_fit p (half_structs p) p.globals whole sound.globals d.global_marks)
-    (few (sum_by (λ (g : GlobalTree). length g.cells) p.globals) two.rest.cells sound.small none) refl in
+    (few (sum_by (λ (g : GlobalTree). length g.cells) p.globals) two.rest.cells sound.small none) (record { same = refl; types = ap (map (λ g. g.var.ty)) two.holds.no_globals }) in
     record {
       rest = three.rest;
       walk = λ items.
@@ -99,6 +101,8 @@ declared_half marks monitor p h d say =
           ∙ (λ i. checked_items marks (at (file_env (sym (nothing_more (functions_file p.signatures)) i) (map (callable_in monitor p) p.signatures) []) (half_structs p) two.rest) (map (global_item p.structs) p.globals ++ items))
           ∙ behind_items marks (map (global_item p.structs) p.globals) items (at (file_env (functions_file p.signatures ++ []) (map (callable_in monitor p) p.signatures) []) (half_structs p) two.rest) (at (half_env monitor p) (half_structs p) three.rest) three.is;
       bodiless = λ k. ap (λ fs. has_body fs (function_id k)) three.holds.same ∙ two.holds.bodiless k;
+      entries = λ k s there. subst (λ fs. Entry marks monitor p fs k s) (sym three.holds.same) (two.holds.entries k s there);
+      globals = three.holds.types;
     }
   where
     few : (all cells : ℕ) → nat_le all 1048576 ≡ true → cells ≡ 0 → cells + all ≤ 1048576
@@ -113,8 +117,8 @@ declared_half marks monitor p h d say =
 fresh_half : (marks : Marks) (monitor : Bool) (p : ProgramTree) (d : DeclaredHalf marks monitor p) (fs : List FunctionTree) → Fresh p d.rest fs
 fresh_half marks monitor p d fs n f k s there at = d.bodiless k
 
-passes_before : (bodies : BodiesKeepTheirMeaning) (marks : Marks) (monitor : Bool) (p : ProgramTree) (n : ℕ) → is_sound monitor p ≡ true → Declarable p → all_said monitor p ≡ true → MarksSay marks p
-    → Passes (before marks monitor p n) (half_env monitor p) (half_structs p) (list_all (has_small_frame p) (take n p.functions) ≡ true) (λ r. (b : Bool) × Behind p b (take n p.functions) (drop n p.functions) r)
+passes_before : (bodies : BodiesKeepTheirMeaning) (marks : Marks) (monitor : Bool) (p : ProgramTree) (n : ℕ) (h : is_sound monitor p ≡ true) (d : Declarable p) → all_said monitor p ≡ true → (say : MarksSay marks p)
+    → Passes (before marks monitor p n) (half_env monitor p) (half_structs p) (list_all (has_small_frame p) (take n p.functions) ≡ true) (Behind p (take n p.functions) (drop n p.functions) (declared_half marks monitor p h d say).rest)
 passes_before bodies marks monitor p n h d said say =
     let sound = soundness monitor p h in
     let declared = declared_half marks monitor p h d say in
@@ -127,7 +131,7 @@ passes_before bodies marks monitor p n h d said say =
       rest = walk.rest;
       is = ap (λ c. c.progress) same ∙ walk.is;
       faults = λ small. ap (λ c. c.faults) same ∙ walk.faults small;
-      holds = (declared.rest.has_main, walk.holds);
+      holds = walk.holds;
     }
   where
     none_before : (k : ℕ) → 0 + k ≡ k
@@ -330,7 +334,7 @@ with_main_fine bodies marks p h main d said say small =
     let all = take_all p.functions in
     subst (λ fs. (with_main (checked_items marks at_start (map (struct_item p.structs) (range_with_len 0 (length p.structs)) ++ (map (prototype_of false p) p.signatures ++ (map (global_item p.structs) p.globals ++ map (function_item p) fs))))).faults ≡ []) all
     (λ i. passes.faults (subst (λ fs. list_all (has_small_frame p) fs ≡ true) (sym all) small) i
-    ++ main_faults ((ap (λ st. st.has_main) passes.is ∙ passes.holds.1.main ∙ subst (λ fs. main_after p passes.holds.0 fs ≡ true) (sym all) (slave_starts p passes.holds.0 h main)) i))
+    ++ main_faults ((ap (λ st. st.has_main) passes.is ∙ passes.holds.main ∙ subst (λ fs. main_after p (declared_half marks false p h d say).rest.has_main fs ≡ true) (sym all) (slave_starts p (declared_half marks false p h d say).rest.has_main h main)) i))
 
 pub slaves_fine : BodiesKeepTheirMeaning → SlavesHaveNoTypeFault
 unfolding is_well_formed_slave is_well_formed slave_tree

@@ -22,6 +22,8 @@ use Rattle.check_declarations.specs.Cells.{counted, cells_of, object_limit}
 use Rattle.check_declarations.specs.Faults.{fault_if}
 use Rattle.check_declarations.specs.Objects.{object_faults, object_type, is_fixed, size_faults, array_of, is_parameter, may_be_pointer}
 use Rattle.check_declarations.specs.Structs.{Structs}
+use Rattle.check_expressions.specs.Operands.{var_type}
+use Rattle.check_expressions.specs.StructInfos.{object_type_of}
 use Rattle.pt_core.specs.Types.{element_of}
 use Rattle.half_trees.specs.Names.{nowhere}
 use Rattle.half_trees.specs.Declarations.{is_pointer, suffix_of}
@@ -134,3 +136,12 @@ pub record Fits (structs : Structs) (infos : List StructInfo) (u : VarTy) : Type
   pub named : IsNamed structs infos (element_of u)
   pub dense : is_dense u ≡ true
   pub small : cells_of structs (type_as u) ≤ 65536
+
+-- ---- types in the typed tree
+
+pub object_type_is : (u : VarTy) → object_type_of (type_as u) ≡ u
+unfolding var_type
+object_type_is (Int t) = refl
+object_type_is (Struct n) = refl
+object_type_is (Array el count) = refl
+object_type_is (Pointer el fixed) = refl

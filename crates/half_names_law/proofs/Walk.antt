@@ -1,19 +1,20 @@
 -- The walk over what a half declares outside of functions with bodies: it adds these names and no fault.
-use Rattle.std.proofs.Common.{◌≡◌, ◌++◌, ◌∙◌, ◌≤◌, ◌+◌, sym, ap, refl, ℕ, zero, suc, Bool, true, false, List, [], ◌∷◌, length, map, Some, None, arith}
+use Rattle.std.proofs.Common.{◌≡◌, ◌++◌, ◌∙◌, ◌≤◌, ◌+◌, sym, ap, refl, subst, ℕ, zero, suc, Bool, true, false, List, [], ◌∷◌, length, map, Some, None, arith}
 use Rattle.std.specs.Prelude.{is_some, slice_get, sum_by}
-use Rattle.std.proofs.lemmas.List.{append_assoc, map-append}
+use Rattle.std.proofs.lemmas.List.{append_assoc, length-append, map-append}
 use Rattle.std.proofs.lemmas.List.Sums.{sum_by-cons}
 use Rattle.pt_tree.specs.declared.signature.Signature.{Signature}
 use Rattle.pt_tree.specs.ProgramTree as parsed
 use Rattle.pt_tree.specs.ProgramTree.{ItemTree}
 use Rattle.typed_tree.specs.declared.types.StructInfo.{StructInfo}
+use Rattle.typed_tree.specs.declared.variable.TypedGlobal.{TypedGlobal}
 use Rattle.typed_tree.specs.TypedTree.{FunctionTree}
 use Rattle.typed_tree.proofs.LeavesLemmas.{get_before}
 use Rattle.check_declarations.specs.Cells.{counted, cells_of}
 use Rattle.check_declarations.specs.Structs.{Structs}
 use Rattle.check_expressions.specs.declared.meaning.Callable.{Callable}
 use Rattle.check_expressions.specs.Environment.{Env}
-use Rattle.check_programs.specs.Functions.{Checked, has_body}
+use Rattle.check_programs.specs.Functions.{Checked, has_body, signature_of}
 use Rattle.check_programs.specs.Programs.{checked_item, checked_items, function_name}
 use Rattle.check_programs.specs.Progress.{Progress}
 use Rattle.pt_core.specs.CodeTree.{GlobalTree, ProgramTree}
@@ -23,7 +24,7 @@ use Rattle.half_trees.specs.Declarations.{global_item}
 use Rattle.half_trees.specs.Halves.{prototype_of}
 use Rattle.half_meaning_law.specs.Known.{type_as, function_id}
 use Rattle.half_names_law.specs.Standing.{Marks}
-use Rattle.half_names_law.proofs.Tables.{Differ, listed_more}
+use Rattle.half_names_law.proofs.Tables.{Differ, listed_more, pushed, get_end}
 use Rattle.half_names_law.proofs.Parameters.{ParametersFit}
 use Rattle.half_names_law.proofs.Heads.{declaration_by, file_env}
 use Rattle.half_names_law.proofs.Prototypes.{Rest, at, marked_param, prototype_as, with_prototype, prototype_added}
@@ -85,10 +86,26 @@ abbrev pub SignaturesFit : Marks → Bool → ProgramTree → Structs → List (
 SignaturesFit marks monitor p structs [] = Unit {0}
 SignaturesFit marks monitor p structs (s ∷ ss) = SignatureFits marks monitor p structs s × SignaturesFit marks monitor p structs ss
 
--- no function has a body yet, and the globals' cells are as before
-pub record Declared (cells : ℕ) (r : Rest) : Type 0 where
+-- a function stands at its place, as its prototype has it
+pub record Entry (marks : Marks) (monitor : Bool) (p : ProgramTree) (fs : List FunctionTree) (k : ℕ) (s : ℕ × Signature) : Type 0 where
+  pub entry : FunctionTree
+  pub there : slice_get fs k ≡ Some entry
+  pub signature : entry.signature ≡ signature_of (marks (text_name s)) (callable_in monitor p s)
+
+-- the functions so far have no bodies yet, and there are no globals
+pub record Declared (marks : Marks) (monitor : Bool) (p : ProgramTree) (done : List (ℕ × Signature)) (r : Rest) : Type 0 where
   pub bodiless : (k : ℕ) → has_body r.functions (function_id k) ≡ false
-  pub same : r.cells ≡ cells
+  pub none : r.cells ≡ 0
+  pub no_globals : r.globals ≡ []
+  pub long : length r.functions ≡ length done
+  pub entries : (k : ℕ) (s : ℕ × Signature) → slice_get done k ≡ Some s → Entry marks monitor p r.functions k s
+
+one_more_entry : (marks : Marks) (monitor : Bool) (p : ProgramTree) (done : List (ℕ × Signature)) (s : ℕ × Signature) (fs : List FunctionTree) (e : FunctionTree) → length fs ≡ length done → e.signature ≡ signature_of (marks (text_name s)) (callable_in monitor p s)
+    → ((k : ℕ) (a : ℕ × Signature) → slice_get done k ≡ Some a → Entry marks monitor p fs k a) → (k : ℕ) (a : ℕ × Signature) → slice_get (done ++ s ∷ []) k ≡ Some a → Entry marks monitor p (fs ++ e ∷ []) k a
+one_more_entry marks monitor p done s fs e long is entries =
+    pushed (Entry marks monitor p (fs ++ e ∷ [])) done s
+    (λ k a at. let old = entries k a at in let low = get_below done k a at in record { entry = old.entry; there = get_before fs (e ∷ []) k (omega (arith, low, long)) ∙ old.there; signature = old.signature })
+    (record { entry = e; there = ap (slice_get (fs ++ e ∷ [])) (sym long) ∙ get_end fs e; signature = is })
 
 item_is : (monitor : Bool) (p : ProgramTree) (s : ℕ × Signature) → prototype_of monitor p s ≡ parsed.function (declaration_by p.structs (text_name s) (own monitor p s) (map marked_param (own monitor p s).params) None)
 item_is monitor p s =
@@ -120,12 +137,12 @@ one_prototype marks monitor p structs r done s fits differ new =
     file_grown : functions_file done ++ function_entry (length (map (callable_in monitor p) done)) s ∷ [] ≡ functions_file (done ++ s ∷ [])
     file_grown = ap (λ n. functions_file done ++ function_entry n s ∷ []) count ∙ sym (listed_more function_entry 0 (length done) done (s ∷ []) (omega arith))
 
-pub prototypes_added : (marks : Marks) (monitor : Bool) (p : ProgramTree) (structs : Structs) (all done ss : List (ℕ × Signature)) (cells : ℕ) (r : Rest) → done ++ ss ≡ all → FunctionsApart all → SignaturesFit marks monitor p structs ss → Differ local_name 8 → Declared cells r
-    → Reaches (checked_items marks (at (file_env (functions_file done) (map (callable_in monitor p) done) []) structs r) (map (prototype_of monitor p) ss)) (file_env (functions_file all) (map (callable_in monitor p) all) []) structs (Declared cells)
-prototypes_added marks monitor p structs all done [] cells r whole apart fit differ before = record {
+pub prototypes_added : (marks : Marks) (monitor : Bool) (p : ProgramTree) (structs : Structs) (all done ss : List (ℕ × Signature)) (r : Rest) → done ++ ss ≡ all → FunctionsApart all → SignaturesFit marks monitor p structs ss → Differ local_name 8 → Declared marks monitor p done r
+    → Reaches (checked_items marks (at (file_env (functions_file done) (map (callable_in monitor p) done) []) structs r) (map (prototype_of monitor p) ss)) (file_env (functions_file all) (map (callable_in monitor p) all) []) structs (Declared marks monitor p all)
+prototypes_added marks monitor p structs all done [] r whole apart fit differ before = record {
   rest = r;
   is = λ i. record { progress = at (file_env (functions_file (there i)) (map (callable_in monitor p) (there i)) []) structs r; faults = [] };
-  holds = before;
+  holds = subst (λ xs. Declared marks monitor p xs r) there before;
 }
   where
     nothing_more : {A : Type 0} (xs : List A) → xs ++ [] ≡ xs
@@ -134,16 +151,25 @@ prototypes_added marks monitor p structs all done [] cells r whole apart fit dif
 
     there : done ≡ all
     there = sym (nothing_more done) ∙ whole
-prototypes_added marks monitor p structs all done (s ∷ ss) cells r whole apart fit differ before =
-    let again = prototypes_added marks monitor p structs all (done ++ s ∷ []) ss cells
+prototypes_added marks monitor p structs all done (s ∷ ss) r whole apart fit differ before =
+    let again = prototypes_added marks monitor p structs all (done ++ s ∷ []) ss
     (with_prototype r (marks (text_name s)) (callable_in monitor p s) (map marked_param (own monitor p s).params)) (append_assoc done (s ∷ []) ss ∙ whole) apart fit.1 differ
-    (record { bodiless = still_bodiless r.functions _ refl before.bodiless; same = before.same }) in
+    (record {
+      bodiless = still_bodiless r.functions _ refl before.bodiless;
+      none = before.none;
+      no_globals = before.no_globals;
+      long = longer r.functions done _ s before.long;
+      entries = one_more_entry marks monitor p done s r.functions _ before.long refl before.entries;
+    }) in
     record {
       rest = again.rest;
       is = ap (then_rest marks (map (prototype_of monitor p) ss)) (one_prototype marks monitor p structs r done s fit.0 differ (new_name whole apart)) ∙ again.is;
       holds = again.holds;
     }
   where
+    longer : {A B : Type 0} (xs : List A) (ys : List B) (x : A) (y : B) → length xs ≡ length ys → length (xs ++ x ∷ []) ≡ length (ys ++ y ∷ [])
+    longer xs ys x y h = let left = length-append xs (x ∷ []) in let right = length-append ys (y ∷ []) in omega (arith, h, left, right)
+
     new_name : done ++ s ∷ ss ≡ all → FunctionsApart all → (j : ℕ) (a : ℕ × Signature) → slice_get done j ≡ Some a → text_name s ≡ text_name a → ⊥
     new_name whole apart j a here same =
         let low = get_below done j a here in
@@ -164,17 +190,18 @@ GlobalsFit structs infos (g ∷ gs) = GlobalFitsIn structs infos g × GlobalsFit
 abbrev pub cells_together : List GlobalTree → ℕ
 cells_together gs = sum_by (λ g. length g.cells) gs
 
--- the functions stay
-pub record Filled (fs : List FunctionTree) (r : Rest) : Type 0 where
+-- the functions stay, and the globals have these types
+pub record Filled (fs : List FunctionTree) (gs : List GlobalTree) (r : Rest) : Type 0 where
   pub same : r.functions ≡ fs
+  pub types : map (λ g. g.var.ty) r.globals ≡ map (λ g. g.var.ty) gs
 
 pub globals_added : (marks : Marks) (p : ProgramTree) (fs : List (ℕ × Signature)) (callables : List Callable) (structs : Structs) (all done gs : List GlobalTree) (trees : List FunctionTree) (r : Rest) → done ++ gs ≡ all → GlobalsApart all → GlobalsFit structs p.structs gs
-    → r.cells + cells_together gs ≤ 1048576 → r.functions ≡ trees
-    → Reaches (checked_items marks (at (file_env (functions_file fs ++ globals_file done) callables (map global_object done)) structs r) (map (global_item p.structs) gs)) (file_env (functions_file fs ++ globals_file all) callables (map global_object all)) structs (Filled trees)
+    → r.cells + cells_together gs ≤ 1048576 → Filled trees done r
+    → Reaches (checked_items marks (at (file_env (functions_file fs ++ globals_file done) callables (map global_object done)) structs r) (map (global_item p.structs) gs)) (file_env (functions_file fs ++ globals_file all) callables (map global_object all)) structs (Filled trees all)
 globals_added marks p fs callables structs all done [] trees r whole apart fit few same = record {
   rest = r;
   is = λ i. record { progress = at (file_env (functions_file fs ++ globals_file (there i)) callables (map global_object (there i))) structs r; faults = [] };
-  holds = record { same = same };
+  holds = subst (λ xs. Filled trees xs r) there same;
 }
   where
     nothing_more : {A : Type 0} (xs : List A) → xs ++ [] ≡ xs
@@ -190,7 +217,8 @@ globals_added marks p fs callables structs all done (g ∷ gs) trees r whole apa
     (global_new fs done g.id (new_name whole apart)) (omega (arith, few, sums, own)) in
     let less = counted_less (r.cells + cells_of structs (type_as g.var.ty)) in
     let again = globals_added marks p fs callables structs all (done ++ g ∷ []) gs trees (with_global_tree r one.0 (cells_of structs (type_as g.var.ty))) (append_assoc done (g ∷ []) gs ∙ whole) apart fit.1
-    (omega (arith, few, sums, own, less)) same in
+    (omega (arith, few, sums, own, less))
+    (record { same = same.same; types = map-append (λ (x : TypedGlobal). x.var.ty) r.globals (one.0 ∷ []) ∙ (λ i. same.types i ++ one.2 i ∷ []) ∙ sym (map-append (λ (x : GlobalTree). x.var.ty) done (g ∷ [])) }) in
     record {
       rest = again.rest;
       is =
