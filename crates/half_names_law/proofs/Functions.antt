@@ -170,7 +170,7 @@ body_other fs k j vars b other = go (slice_get fs k)
     go None = refl
     go (Some f) = ap (λ o. option_map_or (λ g. is_some g.body) o false) (set_other fs k j (with_parts f nowhere vars b) other)
 
-same_first : (x y : ℕ × Signature) → Some x ≡ Some y → x.0 ≡ y.0
+pub same_first : (x y : ℕ × Signature) → Some x ≡ Some y → x.0 ≡ y.0
 same_first x y e = ap (λ z. z.0) (same e)
   where
     same : Some x ≡ Some y → x ≡ y
@@ -203,7 +203,7 @@ pub record Fitting (marks : Marks) (monitor : Bool) (p : ProgramTree) (structs :
 abbrev pub FunctionsFit : Marks → Bool → ProgramTree → Structs → Type 0
 FunctionsFit marks monitor p structs = (n : ℕ) (f : FunctionTree) → slice_get p.functions n ≡ Some f → Fitting marks monitor p structs f
 
-types_of : (m : FunctionMarks) (f : FunctionTree) → map (λ v. v.ty) (half_variables m f) ≡ map (λ x. type_as x.ty) f.vars
+pub types_of : (m : FunctionMarks) (f : FunctionTree) → map (λ v. v.ty) (half_variables m f) ≡ map (λ x. type_as x.ty) f.vars
 types_of m f = sym (fused (half_variables m f)) ∙ ap (map (λ o. o.ty)) (variables_are m f) ∙ again f.vars
   where
     fused : (ys : List Variable) → map (λ o. o.ty) (map object_of ys) ≡ map (λ v. v.ty) ys

@@ -49,7 +49,7 @@ same_leaves known (x ∷ xs) (s ∷ ss) h =
     ap (λ leaves. typed.leaves_from (known ++ leaves ∷ []) (infos_of xs)) (ap (λ fs. flat_map (λ f. typed.object_leaves known f.ty) (map field_info fs)) h.0 ∙ field_leaves known s.fields 0 s.fields)
     ∙ same_leaves (known ++ typed.struct_leaves known s ∷ []) xs ss h.1
 
-same_fields : (xs : Structs) (ss : List StructInfo) → length xs ≡ length ss → ((j : ℕ) (x : List ℕ × StructEntry) → slice_get xs j ≡ Some x → x.1.fields ≡ fields_as (fields_of ss j)) → SameFields xs ss
+pub same_fields : (xs : Structs) (ss : List StructInfo) → length xs ≡ length ss → ((j : ℕ) (x : List ℕ × StructEntry) → slice_get xs j ≡ Some x → x.1.fields ≡ fields_as (fields_of ss j)) → SameFields xs ss
 same_fields [] [] long each = tt {0}
 same_fields [] (s ∷ ss) long each = absurd (omega (arith, long))
 same_fields (x ∷ xs) [] long each = absurd (omega (arith, long))

@@ -79,7 +79,7 @@ pub record DeclaredHalf (marks : Marks) (monitor : Bool) (p : ProgramTree) : Typ
   pub entries : (k : ℕ) (s : ℕ × Signature) → slice_get p.signatures k ≡ Some s → Entry marks monitor p rest.functions k s
   pub globals : map (λ g. g.var.ty) rest.globals ≡ map (λ g. g.var.ty) p.globals
 
-declared_half : (marks : Marks) (monitor : Bool) (p : ProgramTree) → is_sound monitor p ≡ true → Declarable p → MarksSay marks p → DeclaredHalf marks monitor p
+pub declared_half : (marks : Marks) (monitor : Bool) (p : ProgramTree) → is_sound monitor p ≡ true → Declarable p → MarksSay marks p → DeclaredHalf marks monitor p
 declared_half marks monitor p h d say =
     let sound = soundness monitor p h in
     let whole = whole_table monitor p sound d in
@@ -117,7 +117,7 @@ declared_half marks monitor p h d say =
 fresh_half : (marks : Marks) (monitor : Bool) (p : ProgramTree) (d : DeclaredHalf marks monitor p) (fs : List FunctionTree) → Fresh p d.rest fs
 fresh_half marks monitor p d fs n f k s there at = d.bodiless k
 
-passes_before : (bodies : BodiesKeepTheirMeaning) (marks : Marks) (monitor : Bool) (p : ProgramTree) (n : ℕ) (h : is_sound monitor p ≡ true) (d : Declarable p) → all_said monitor p ≡ true → (say : MarksSay marks p)
+pub passes_before : (bodies : BodiesKeepTheirMeaning) (marks : Marks) (monitor : Bool) (p : ProgramTree) (n : ℕ) (h : is_sound monitor p ≡ true) (d : Declarable p) → all_said monitor p ≡ true → (say : MarksSay marks p)
     → Passes (before marks monitor p n) (half_env monitor p) (half_structs p) (list_all (has_small_frame p) (take n p.functions) ≡ true) (Behind p (take n p.functions) (drop n p.functions) (declared_half marks monitor p h d say).rest)
 passes_before bodies marks monitor p n h d said say =
     let sound = soundness monitor p h in
@@ -167,7 +167,7 @@ behind_there marks monitor p f s r k half fits place =
     ∙ ap (λ meaning. declared_as m within (callable_as (text_name (f.id, s)) s.result (parameters_in f)) nowhere (function_in meaning))
     (ap (meaning_at (half_file p)) (function_found p.signatures p.globals k (f.id, s) half.apart.functions place) ∙ function_meant p.signatures p.globals k (f.id, s) place)
 
-locals_there : (marks : Marks) (monitor : Bool) (p : ProgramTree) (f : FunctionTree) (s : Signature) (r : Rest) (k : ℕ) → HalfFits monitor p (half_structs p) → FunctionFits marks monitor p (half_structs p) f s → slice_get p.signatures k ≡ Some (f.id, s)
+pub locals_there : (marks : Marks) (monitor : Bool) (p : ProgramTree) (f : FunctionTree) (s : Signature) (r : Rest) (k : ℕ) → HalfFits monitor p (half_structs p) → FunctionFits marks monitor p (half_structs p) f s → slice_get p.signatures k ≡ Some (f.id, s)
     → locals_at marks (at (half_env monitor p) (half_structs p) r) p f
     ≡ record { state = statements_state monitor p f (variables_at marks f s) (half_structs p) (length r.exprs); bodies = declaration_trees f.params (drop f.params f.vars); trees = []; faults = [] }
 locals_there marks monitor p f s r k half fits place =
@@ -216,7 +216,7 @@ names_known bodies marks monitor p n f s h d said say there named =
 
 -- ---- the laws
 
-functions_differ : (monitor : Bool) (p : ProgramTree) → is_sound monitor p ≡ true → Declarable p → FunctionsApart p.signatures
+pub functions_differ : (monitor : Bool) (p : ProgramTree) → is_sound monitor p ≡ true → Declarable p → FunctionsApart p.signatures
 functions_differ monitor p h d = (half_fits monitor p h d).apart.functions
 
 pub half_names : BodiesKeepTheirMeaning → HalfNamesAreKnown

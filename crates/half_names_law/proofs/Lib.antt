@@ -24,3 +24,4 @@ pub mod Halves
 pub mod Marks
 pub mod Law
 mod Worked
+pub mod Trees

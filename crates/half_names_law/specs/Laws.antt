@@ -4,25 +4,30 @@ use Rattle.std.specs.List.{list_all}
 use Rattle.pt_tree.specs.declared.signature.Signature.{Signature}
 use Rattle.pt_tree.specs.StatementTree.{stmt_trees}
 use Rattle.typed_tree.specs.declared.types.VarTy.{VarTy}
+use Rattle.typed_tree.specs.declared.types.StructInfo.{StructInfo}
+use Rattle.typed_tree.specs.StatementTree.{block, body_trees}
+use Rattle.typed_tree.specs.TypedTree as t
+use Rattle.typed_tree.specs.TypedTree.{TypedTree}
 use Rattle.check_statements.specs.Outermost as o
 use Rattle.check_statements.specs.Statements.{CheckedAll, checked_all}
 use Rattle.check_programs.specs.Blocks.{block_in}
-use Rattle.check_programs.specs.Programs.{checked_items, with_main, type_faults}
+use Rattle.check_programs.specs.Programs.{checked_items, tree_of, with_main, type_faults}
 use Rattle.check_programs.specs.Progress.{at_start}
 use Rattle.source_meaning.specs.Expressions as m
 use Rattle.pt_core.specs.CodeTree.{FunctionTree, ProgramTree, SlaveTree}
 use Rattle.pt_core.specs.Statements as c
 use Rattle.pt_core.specs.Statements.{do_all}
-use Rattle.pt_core.specs.WellFormed.{is_sound, signature_at, called_signature, context_of, is_well_formed_slave, slave_program}
+use Rattle.pt_core.specs.WellFormed.{is_sound, signature_at, called_signature, context_of, with_own, is_well_formed_slave, slave_program}
+use Rattle.half_trees.specs.Names.{nowhere}
 use Rattle.half_trees.specs.Functions.{body_tree}
 use Rattle.half_trees.specs.Statements.{statements_trees}
 use Rattle.half_trees.specs.Halves.{half_tree, slave_tree}
 use Rattle.half_meaning_law.specs.Relations.{Scene, frame_of}
 use Rattle.half_meaning_law.specs.Known.{Known, FunctionsKnown, result_as}
 use Rattle.half_meaning_law.specs.Expressions.{SceneFits}
-use Rattle.half_meaning_law.specs.Statements.{CallsAlike, StatementsMean}
+use Rattle.half_meaning_law.specs.Statements.{ListedFrom, CallsAlike, StatementsMean}
 use Rattle.half_names_law.specs.Declarable.{Declarable, has_small_frame, prototypes_take_no_pointers}
-use Rattle.half_names_law.specs.Standing.{Marks, own_marks, whole_marks, before, head_at, behind_head, body_context, locals_at, statements_at, scene_of, all_said}
+use Rattle.half_names_law.specs.Standing.{Marks, own_marks, whole_marks, before, head_at, behind_head, body_context, locals_at, statements_at, number_in, scene_of, all_said}
 
 -- ---- what is known at a body
 
@@ -51,6 +56,30 @@ pub record NamesKnown (marks : Marks) (monitor : Bool) (p : ProgramTree) (n : �
   pub body : (let st = behind_head marks (before marks monitor p n).progress p f in block_in (result_as s.result) st.env st.structs (length st.exprs) (body_tree p f).items)
       ≡ one_behind (locals_at marks (before marks monitor p n).progress p f) (statements_checked p f s (statements_at marks monitor p n f))
   pub known : (frames : ℕ → List VarTy) (frame : m.Frame) (calls : m.Calls) (core_calls : c.Calls) → frames frame.depth ≡ map (λ x. x.ty) f.vars → KnownIn monitor p (scene_of p f frames frame calls core_calls) (statements_at marks monitor p n f)
+
+-- ---- the typed tree of a half
+
+abbrev pub judged_tree : Marks → Bool → ProgramTree → TypedTree
+judged_tree marks monitor p = tree_of (checked_items marks at_start (half_tree monitor p)).progress
+
+-- the types of all fields
+abbrev pub field_types : List StructInfo → List (List VarTy)
+field_types structs = map (λ s. map (λ f. f.ty) s.fields) structs
+
+-- Function number n of the half stands in the typed tree at its place: with its result, its parameters and its
+-- variables, and its body is what was judged of it, whose outermost expressions the tree lists.
+pub record BodyStands (marks : Marks) (monitor : Bool) (p : ProgramTree) (n : ℕ) (f : FunctionTree) (s : Signature) : Type 0 where
+  pub structs : field_types (judged_tree marks monitor p).structs ≡ field_types p.structs
+  pub globals : map (λ g. g.var.ty) (judged_tree marks monitor p).globals ≡ map (λ g. g.var.ty) p.globals
+  pub place : ℕ
+  pub number : number_in 0 (map (λ x. x.0) p.signatures) place ≡ f.id
+  pub entry : t.FunctionTree
+  pub there : slice_get (judged_tree marks monitor p).functions place ≡ Some entry
+  pub result : entry.signature.result ≡ s.result
+  pub params : map (λ x. x.kind) entry.signature.params ≡ map (λ x. x.kind) (with_own monitor (Some f) s).params
+  pub vars : map (λ x. x.ty) entry.vars ≡ map (λ x. x.ty) f.vars
+  pub body : entry.body ≡ Some (block nowhere (body_trees ((locals_at marks (before marks monitor p n).progress p f).bodies ++ (statements_checked p f s (statements_at marks monitor p n f)).bodies)))
+  pub exprs : ListedFrom (judged_tree marks monitor p).exprs (statements_at marks monitor p n f).next (statements_checked p f s (statements_at marks monitor p n f)).trees
 
 -- ---- laws
 
@@ -86,3 +115,8 @@ MeaningKept marks monitor p n f s = (frames : ℕ → List VarTy) (frame : m.Fra
 abbrev pub HalvesKeepTheirMeaning : Type 0
 HalvesKeepTheirMeaning = (monitor : Bool) (p : ProgramTree) (n : ℕ) (f : FunctionTree) (s : Signature) → IsTrue (is_sound monitor p) → Declarable p → IsTrue (all_said monitor p) → slice_get p.functions n ≡ Some f → signature_at p f.id ≡ Some s →
     MeaningKept (whole_marks monitor p) monitor p n f s × (IsTrue (prototypes_take_no_pointers p) → MeaningKept (own_marks monitor p) monitor p n f s)
+
+-- the typed tree that the judgments make of a half has all this
+abbrev pub HalfBodiesStand : Type 0
+HalfBodiesStand = (monitor : Bool) (p : ProgramTree) (n : ℕ) (f : FunctionTree) (s : Signature) → IsTrue (is_sound monitor p) → Declarable p → IsTrue (all_said monitor p) → slice_get p.functions n ≡ Some f → signature_at p f.id ≡ Some s →
+    BodyStands (whole_marks monitor p) monitor p n f s × (IsTrue (prototypes_take_no_pointers p) → BodyStands (own_marks monitor p) monitor p n f s)
