@@ -140,3 +140,126 @@ structs_same [] [] h = refl
 structs_same [] (s ∷ ss) h = absurd h
 structs_same (x ∷ xs) [] h = absurd h
 structs_same (x ∷ xs) (s ∷ ss) h = λ i. (ap (λ fs. map (λ (f : Field). f.ty) (map field_info fs)) h.0 ∙ types_in s.fields 0 s.fields) i ∷ structs_same xs ss h.1 i
+
+-- ---- other functions have other places
+
+other_before : (p : ProgramTree) (n k : ℕ) (f : FunctionTree) (s : Signature) → are_rising 0 (map (λ g. g.id) p.functions) ≡ true → slice_get p.functions n ≡ Some f → slice_get p.signatures k ≡ Some (f.id, s) → NotAmong p (take n p.functions) k
+other_before p n k f s rise there place j g t at named =
+    let before = take_there n j p.functions g at in
+    let low = before.1 in
+    let same : g.id ≡ f.id = same_first (g.id, t) (f.id, s) (sym named ∙ place) in
+    let equal = once_there 0 (map (λ x. x.id) p.functions) j n f.id rise (mapped_there (λ x. x.id) p.functions j g before.0 ∙ ap Some same) (mapped_there (λ x. x.id) p.functions n f there) in omega (arith, low, equal)
+
+other_behind : (p : ProgramTree) (n k : ℕ) (f : FunctionTree) (s : Signature) → are_rising 0 (map (λ g. g.id) p.functions) ≡ true → slice_get p.functions n ≡ Some f → slice_get p.signatures k ≡ Some (f.id, s) → NotAmong p (drop (suc n) p.functions) k
+other_behind p n k f s rise there place j g t at named =
+    let behind = drop_there (suc n) j p.functions g at in
+    let same : g.id ≡ f.id = same_first (g.id, t) (f.id, s) (sym named ∙ place) in
+    let equal = once_there 0 (map (λ x. x.id) p.functions) (suc n + j) n f.id rise (mapped_there (λ x. x.id) p.functions (suc n + j) g behind ∙ ap Some same) (mapped_there (λ x. x.id) p.functions n f there) in omega (arith, equal)
+
+rising_behind : (n first : ℕ) (fs : List FunctionTree) → are_rising first (map (λ g. g.id) fs) ≡ true → (m : ℕ) × (are_rising m (map (λ g. g.id) (drop n fs)) ≡ true)
+rising_behind zero first fs h = (first, h)
+rising_behind (suc n) first [] h = (first, h)
+rising_behind (suc n) first (f ∷ fs) h = rising_behind n (suc f.id) fs (both_hold (nat_le first f.id) (are_rising (suc f.id) (map (λ g. g.id) fs)) h).1
+
+-- ---- the walk behind a function
+
+-- where the whole walk ends, and what it keeps of this function
+record Ends (marks : Marks) (monitor : Bool) (p : ProgramTree) (n : ℕ) (f : FunctionTree) (s : Signature) (k : ℕ) (r : Rest) : Type 0 where
+  last : Rest
+  is : (checked_items marks at_start (half_tree monitor p)).progress ≡ at (half_env monitor p) (half_structs p) last
+  kept : slice_get last.functions k ≡ slice_get (with_function marks monitor p (half_structs p) r f s k).functions k
+  globals : last.globals ≡ r.globals
+  more : List ExprTree
+  grown : last.exprs ≡ (with_function marks monitor p (half_structs p) r f s k).exprs ++ more
+
+-- the walk over all functions, in three parts
+walk_parts : (bodies : BodiesKeepTheirMeaning) (marks : Marks) (monitor : Bool) (p : ProgramTree) (n : ℕ) (f : FunctionTree) (s : Signature) (k : ℕ) (start r : Rest) → HalfFits monitor p (half_structs p) → FunctionFits marks monitor p (half_structs p) f s
+    → slice_get p.functions n ≡ Some f → slice_get p.signatures k ≡ Some (f.id, s) → Fresh p r (f ∷ drop (suc n) p.functions)
+    → (checked_items marks (at (half_env monitor p) (half_structs p) start) (map (function_item p) (take n p.functions))).progress ≡ at (half_env monitor p) (half_structs p) r
+    → (checked_items marks (at (half_env monitor p) (half_structs p) start) (map (function_item p) p.functions)).progress
+    ≡ (checked_items marks (at (half_env monitor p) (half_structs p) (with_function marks monitor p (half_structs p) r f s k)) (map (function_item p) (drop (suc n) p.functions))).progress
+walk_parts bodies marks monitor p n f s k start r half fits there place fresh first =
+    let st = at (half_env monitor p) (half_structs p) start in
+    let later = drop (suc n) p.functions in
+    let whole : p.functions ≡ take n p.functions ++ f ∷ later = sym (take-append-drop n p.functions) ∙ ap (λ fs. take n p.functions ++ fs) (split_at n p.functions f there) in
+    ap (λ fs. (checked_items marks st (map (function_item p) fs)).progress) whole
+    ∙ ap (λ items. (checked_items marks st items).progress) (map-append (function_item p) (take n p.functions) (f ∷ later))
+    ∙ ap (λ c. c.progress) (items_joined marks (map (function_item p) (take n p.functions)) (map (function_item p) (f ∷ later)) st)
+    ∙ ap (λ now. (checked_items marks now (map (function_item p) (f ∷ later))).progress) first
+    ∙ ap (λ c. (checked_items marks c.progress (map (function_item p) later)).progress) (function_added bodies marks monitor p (half_structs p) r n f s k half fits there place (fresh 0 f k s refl place))
+
+ends : (bodies : BodiesKeepTheirMeaning) (marks : Marks) (monitor : Bool) (p : ProgramTree) (n : ℕ) (f : FunctionTree) (s : Signature) (k : ℕ) (r : Rest) (h : is_sound monitor p ≡ true) (d : Declarable p) → all_said monitor p ≡ true → (say : MarksSay marks p) → FunctionFits marks monitor p (half_structs p) f s
+    → slice_get p.functions n ≡ Some f → slice_get p.signatures k ≡ Some (f.id, s) → Fresh p r (drop n p.functions)
+    → (before marks monitor p n).progress ≡ at (half_env monitor p) (half_structs p) r → Ends marks monitor p n f s k r
+ends bodies marks monitor p n f s k r h d said say fits there place fresh first =
+    let sound = soundness monitor p h in
+    let half = half_fits monitor p h d in
+    let declared = declared_half marks monitor p h d say in
+    let later = drop (suc n) p.functions in
+    let split = split_at n p.functions f there in
+    let fresh' = subst (Fresh p r) split fresh in
+    let rise = rising_behind n 0 p.functions sound.order.1 in
+    let rise' : are_rising rise.0 (map (λ g. g.id) (f ∷ later)) ≡ true = subst (λ fs. are_rising rise.0 (map (λ g. g.id) fs) ≡ true) split rise.1 in
+    let rest = functions_added bodies marks monitor p (half_structs p) (with_function marks monitor p (half_structs p) r f s k) (suc f.id) (suc n) later [] half (functions_fit marks monitor p h d said say)
+    (λ j g e. drop_there (suc n) j p.functions g (sym (ap (λ fs. slice_get fs j) (nothing_more later)) ∙ e))
+    (subst (λ fs. are_rising (suc f.id) (map (λ g. g.id) fs) ≡ true) (sym (nothing_more later)) (both_hold (nat_le rise.0 f.id) (are_rising (suc f.id) (map (λ g. g.id) later)) rise').1)
+    (subst (Fresh p (with_function marks monitor p (half_structs p) r f s k)) (sym (nothing_more later)) (still_fresh marks monitor p (half_structs p) r f later s k rise.0 rise' place fresh')) in
+    record {
+      last = rest.rest;
+      is =
+          ap (λ c. c.progress) (declared.walk (map (function_item p) p.functions))
+          ∙ walk_parts bodies marks monitor p n f s k declared.rest r half fits there place fresh' (sym (ap (λ c. c.progress) (declared.walk (map (function_item p) (take n p.functions)))) ∙ first)
+          ∙ rest.is;
+      kept = rest.holds.kept k (other_behind p n k f s sound.order.1 there place);
+      globals = rest.holds.globals;
+      more = rest.holds.more;
+      grown = rest.holds.grown;
+    }
+  where
+    nothing_more : {A : Type 0} (xs : List A) → xs ++ [] ≡ xs
+    nothing_more [] = refl
+    nothing_more (x ∷ xs) = ap (λ ys. x ∷ ys) (nothing_more xs)
+
+-- ---- the function in the tree
+
+entry_with : (fs : List t.FunctionTree) (k : ℕ) (g : t.FunctionTree) (vars : List Var) (b : BodyTree) → slice_get fs k ≡ Some g → slice_get (with_body fs k nowhere vars b) k ≡ Some (with_parts g nowhere vars b)
+entry_with fs k g vars b there = ap (λ o. slice_get (option_map_or (λ f. slice_set fs k (with_parts f nowhere vars b)) o fs) k) there ∙ set_same fs k g (with_parts g nowhere vars b) there
+
+body_stands : (bodies : BodiesKeepTheirMeaning) (marks : Marks) (monitor : Bool) (p : ProgramTree) (n : ℕ) (f : FunctionTree) (s : Signature) → is_sound monitor p ≡ true → Declarable p → all_said monitor p ≡ true → MarksSay marks p
+    → slice_get p.functions n ≡ Some f → signature_at p f.id ≡ Some s → BodyStands marks monitor p n f s
+body_stands bodies marks monitor p n f s h d said say there named =
+    let sound = soundness monitor p h in
+    let half = half_fits monitor p h d in
+    let fits = function_fit marks monitor p n f s h d said say there named in
+    let place = lookup_place p.signatures f.id s named in
+    let k = place.place in
+    let passes = passes_before bodies marks monitor p n h d said say in
+    let r = passes.rest in
+    let end = ends bodies marks monitor p n f s k r h d said say fits there place.there passes.holds.fresh passes.is in
+    let declared = declared_half marks monitor p h d say in
+    let entry = declared.entries k (f.id, s) place.there in
+    let locals = ap (λ st. locals_at marks st p f) passes.is ∙ locals_there marks monitor p f s r k half fits place.there in
+    let all = checked_statements marks monitor p (half_structs p) (length r.exprs) f s in
+    let vars = map fn.var_of (variables_at marks f s) in
+    let b = block nowhere (body_trees (declaration_trees f.params (drop f.params f.vars) ++ all.bodies)) in
+    record {
+      structs = ap (λ st. field_types (tree_of st).structs) end.is ∙ structs_same (half_structs p) p.structs (same_fields (half_structs p) p.structs half.table.long (λ j x e. (half.table.entries j x e).fields));
+      globals = ap (λ st. map (λ g. g.var.ty) (tree_of st).globals) end.is ∙ ap (map (λ g. g.var.ty)) (end.globals ∙ passes.holds.globals) ∙ declared.globals;
+      place = k;
+      number = number_at 0 (map (λ x. x.0) p.signatures) k f.id (mapped_there (λ x. x.0) p.signatures k (f.id, s) place.there);
+      entry = with_parts entry.entry nowhere vars b;
+      there = ap (λ st. slice_get (tree_of st).functions k) end.is ∙ end.kept ∙ entry_with r.functions k entry.entry vars b (passes.holds.kept k (other_before p n k f s sound.order.1 there place.there) ∙ entry.there);
+      result = ap (λ g. g.result) entry.signature ∙ result_is (own monitor p (f.id, s)).result ∙ ap (λ o. (with_own monitor o s).result) fits.found ∙ own_result monitor f s;
+      params = ap (λ g. map (λ x. x.kind) g.params) entry.signature ∙ kinds_are (marks (text_name (f.id, s))).params 0 (own monitor p (f.id, s)).params ∙ ap (λ o. map (λ x. x.kind) (with_own monitor o s).params) fits.found;
+      vars = var_types (variables_at marks f s) f.vars (types_of (marks (text_name (f.id, s))) f);
+      body = ap (λ l. Some (block nowhere (body_trees (l.bodies ++ (statements_checked p f s l.state).bodies)))) (sym locals);
+      exprs = subst (λ l. ListedFrom (judged_tree marks monitor p).exprs l.state.next (statements_checked p f s l.state).trees) (sym locals)
+          (listed_from (judged_tree marks monitor p).exprs r.exprs all.trees end.more (length r.exprs) (ap (λ st. (tree_of st).exprs) end.is ∙ end.grown ∙ append_assoc r.exprs all.trees end.more) refl);
+    }
+
+pub bodies_stand : BodiesKeepTheirMeaning → HalfBodiesStand
+bodies_stand bodies monitor p n f s h d said there named =
+    let sound = soundness monitor p h in
+    let apart = functions_differ monitor p h d in
+    (body_stands bodies (whole_marks monitor p) monitor p n f s h d said (whole_say monitor p sound apart) there named,
+    λ plain. body_stands bodies (own_marks monitor p) monitor p n f s h d said (own_say monitor p sound apart plain) there named)

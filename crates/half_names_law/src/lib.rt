@@ -5,7 +5,7 @@
 //! with that rule too.
 #![tactic(auto)]
 
-ghost use Rattle.half_names_law.specs.Laws.{HalfNamesAreKnown, HalvesHaveNoFault, HalvesKeepTheirMeaning, OwnNamesAreKnown, SlavesHaveNoTypeFault};
+ghost use Rattle.half_names_law.specs.Laws.{HalfBodiesStand, HalfNamesAreKnown, HalvesHaveNoFault, HalvesKeepTheirMeaning, OwnNamesAreKnown, SlavesHaveNoTypeFault};
 
 /// At each function with a body all names are known, where each function counts as one that has a body.
 pub fn half_names_are_known()
@@ -31,4 +31,10 @@ pub fn slaves_have_no_type_fault()
 /// what the half's do, if calls do.
 pub fn halves_keep_their_meaning()
     ensures { HalvesKeepTheirMeaning }
+{}
+
+/// The typed tree that the judgments make of a half has each function at its place, with the half's types, and
+/// its body is what they make of its statements.
+pub fn half_bodies_stand()
+    ensures { HalfBodiesStand }
 {}
