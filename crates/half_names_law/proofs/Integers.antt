@@ -8,14 +8,12 @@ use Rattle.type_rules.specs.declared.types.Type.TheVariants as ty
 use Rattle.typed_tree.specs.declared.types.Field.{Field}
 use Rattle.typed_tree.specs.declared.types.StructInfo.{StructInfo}
 use Rattle.typed_tree.specs.declared.types.VarTy.{VarTy}
-use Rattle.typed_tree.specs.declared.types.VarTy.TheVariants.{Int, Struct, Array, Pointer}
 use Rattle.typed_tree.specs.Cells as typed
 use Rattle.typed_tree.specs.Sizes.{fields_of}
 use Rattle.typed_tree.specs.WellFormed.{is_plain_type, cells_fit}
 use Rattle.check_declarations.specs.declared.structs.StructEntry.{StructEntry}
 use Rattle.check_declarations.specs.Structs.{Structs}
-use Rattle.check_expressions.specs.Operands.{var_type}
-use Rattle.check_expressions.specs.StructInfos.{object_type_of, field_info, infos_of}
+use Rattle.check_expressions.specs.StructInfos.{field_info, infos_of}
 use Rattle.check_statements.specs.Leaves.{leaves_of}
 use Rattle.check_declarations_law.specs.Types.{is_plain}
 use Rattle.check_declarations_law.specs.Sound.{SoundStructs}

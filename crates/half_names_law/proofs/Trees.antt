@@ -1,5 +1,5 @@
 -- The typed tree that the judgments make of a half has the half's functions at their places.
-use Rattle.std.proofs.Common.{◌≡◌, ◌++◌, ◌∙◌, ◌<◌, ◌≤◌, ◌+◌, sym, ap, refl, subst, ℕ, zero, suc, Bool, true, false, List, [], ◌∷◌, length, map, take, drop, Option, Some, None, arith, length-append}
+use Rattle.std.proofs.Common.{◌≡◌, ◌++◌, ◌∙◌, ◌<◌, ◌+◌, sym, ap, refl, subst, ℕ, zero, suc, Bool, true, false, List, [], ◌∷◌, length, map, take, drop, Option, Some, None, arith, length-append}
 use Rattle.std.specs.Prelude.{◌&&◌, not, slice_get, slice_set, get_or, nat_le, if◌then◌else◌}
 use Rattle.std.specs.Option.{option_map_or}
 use Rattle.std.proofs.lemmas.List.{append_assoc, map-append, take-append-drop}
@@ -8,11 +8,8 @@ use Rattle.pt_tree.specs.declared.signature.Param.{Param}
 use Rattle.pt_tree.specs.declared.signature.ParamKind.{ParamKind}
 use Rattle.pt_tree.specs.declared.signature.ParamKind.TheVariants as k
 use Rattle.pt_tree.specs.declared.signature.Signature.{Signature}
-use Rattle.pt_tree.specs.ProgramTree.{ItemTree}
-use Rattle.type_rules.specs.declared.types.Type.{«Type»}
 use Rattle.typed_tree.specs.declared.types.Field.{Field}
 use Rattle.typed_tree.specs.declared.types.StructInfo.{StructInfo}
-use Rattle.typed_tree.specs.declared.types.VarTy.{VarTy}
 use Rattle.typed_tree.specs.declared.variable.Var.{Var}
 use Rattle.typed_tree.specs.ExpressionTree.{ExprTree}
 use Rattle.typed_tree.specs.StatementTree.{BodyTree, block, body_trees}
@@ -23,40 +20,36 @@ use Rattle.check_declarations.specs.declared.marks.Marks as m
 use Rattle.check_declarations.specs.Structs.{Structs}
 use Rattle.check_expressions.specs.declared.meaning.Variable.{Variable}
 use Rattle.check_expressions.specs.StructInfos.{object_type_of, field_info, infos_of}
-use Rattle.check_statements.specs.Outermost as o
 use Rattle.check_programs.specs.Functions as fn
 use Rattle.check_programs.specs.Functions.{with_parts, with_body, kind_of, params_of, signature_of}
 use Rattle.check_programs.specs.Programs.{checked_items, tree_of}
-use Rattle.check_programs.specs.Progress.{Progress, at_start, result_type_of}
+use Rattle.check_programs.specs.Progress.{at_start, result_type_of}
 use Rattle.source_meaning.specs.Statements.{no_expr}
 use Rattle.pt_core.specs.CodeTree.{FunctionTree, ProgramTree}
-use Rattle.pt_core.specs.WellFormed.{is_sound, signature_at, function_at, with_own}
+use Rattle.pt_core.specs.WellFormed.{is_sound, signature_at, with_own}
 use Rattle.half_trees.specs.Names.{nowhere}
-use Rattle.half_trees.specs.Declarations.{struct_item, global_item}
 use Rattle.half_trees.specs.Functions.{function_item}
-use Rattle.half_trees.specs.Halves.{prototype_of, half_tree}
-use Rattle.half_meaning_law.specs.Known.{type_as, function_id, result_as}
+use Rattle.half_trees.specs.Halves.{half_tree}
+use Rattle.half_meaning_law.specs.Known.{type_as, result_as}
 use Rattle.half_meaning_law.specs.Statements.{BodiesKeepTheirMeaning, ListedFrom}
-use Rattle.half_names_law.specs.Declarable.{Declarable, prototypes_take_no_pointers}
-use Rattle.half_names_law.specs.Standing.{Marks, own_marks, whole_marks, before, locals_at, number_in, all_said}
+use Rattle.half_names_law.specs.Declarable.{Declarable}
+use Rattle.half_names_law.specs.Standing.{Marks, own_marks, whole_marks, before, locals_at, all_said}
 use Rattle.half_names_law.specs.Laws.{statements_checked, judged_tree, field_types, BodyStands, HalfBodiesStand}
 use Rattle.half_names_law.proofs.Tables.{listed}
 use Rattle.half_names_law.proofs.Objects.{both_hold, object_type_is}
-use Rattle.half_names_law.proofs.Numbers.{Place, lookup_place, number_at, mapped_there, once_there}
-use Rattle.half_names_law.proofs.Structs.{entry_of, fields_as}
+use Rattle.half_names_law.proofs.Numbers.{lookup_place, number_at, mapped_there, once_there}
+use Rattle.half_names_law.proofs.Structs.{entry_of}
 use Rattle.half_names_law.proofs.Integers.{SameFields, same_fields}
 use Rattle.half_names_law.proofs.Prototypes.{Rest, at, marked_param}
 use Rattle.half_names_law.proofs.Locals.{declaration_trees}
-use Rattle.half_names_law.proofs.Walk.{Entry, items_joined}
-use Rattle.half_names_law.proofs.Names.{own, text_name, callable_in, half_env}
-use Rattle.half_names_law.proofs.Table.{then_rest}
+use Rattle.half_names_law.proofs.Walk.{items_joined}
+use Rattle.half_names_law.proofs.Names.{own, text_name, half_env}
 use Rattle.half_names_law.proofs.Premises.{MarksSay}
-use Rattle.half_names_law.proofs.Parts.{half_variables}
-use Rattle.half_names_law.proofs.Bodies.{FunctionFits, HalfFits, statements_state}
-use Rattle.half_names_law.proofs.Functions.{Fresh, NotAmong, Passes, types_of, same_first, with_function, variables_at, checked_statements, function_added, functions_added, still_fresh}
-use Rattle.half_names_law.proofs.Halves.{Sound, soundness, half_structs, half_fits, function_fit, functions_fit}
+use Rattle.half_names_law.proofs.Bodies.{FunctionFits, HalfFits}
+use Rattle.half_names_law.proofs.Functions.{Fresh, NotAmong, types_of, same_first, with_function, variables_at, checked_statements, function_added, functions_added, still_fresh}
+use Rattle.half_names_law.proofs.Halves.{soundness, half_structs, half_fits, function_fit, functions_fit}
 use Rattle.half_names_law.proofs.Marks.{whole_say, own_say}
-use Rattle.half_names_law.proofs.Law.{DeclaredHalf, declared_half, passes_before, locals_there, functions_differ}
+use Rattle.half_names_law.proofs.Law.{declared_half, passes_before, locals_there, functions_differ}
 
 -- ---- lists
 
@@ -90,9 +83,10 @@ got_at (x ∷ xs) y ys = got_at xs y ys
 
 listed_from : (all xs ys zs : List ExprTree) (n : ℕ) → all ≡ xs ++ (ys ++ zs) → n ≡ length xs → ListedFrom all n ys
 listed_from all xs [] zs n is at = tt {0}
-listed_from all xs (y ∷ ys) zs n is at =
-    ((λ i. get_or (is i) (at i) no_expr) ∙ got_at xs y (ys ++ zs),
-    listed_from all (xs ++ y ∷ []) ys zs (n + 1) (is ∙ sym (append_assoc xs (y ∷ []) (ys ++ zs))) (one_more xs at))
+listed_from all xs (y ∷ ys) zs n is at = (
+  (λ i. get_or (is i) (at i) no_expr) ∙ got_at xs y (ys ++ zs),
+  listed_from all (xs ++ y ∷ []) ys zs (n + 1) (is ∙ sym (append_assoc xs (y ∷ []) (ys ++ zs))) (one_more xs at),
+)
   where
     one_more : (xs : List ExprTree) → n ≡ length xs → n + 1 ≡ length (xs ++ y ∷ [])
     one_more xs h = let long = length-append xs (y ∷ []) in omega (arith, h, long)
@@ -260,6 +254,7 @@ body_stands bodies marks monitor p n f s h d said say there named =
 pub bodies_stand : BodiesKeepTheirMeaning → HalfBodiesStand
 bodies_stand bodies monitor p n f s h d said there named =
     let sound = soundness monitor p h in
-    let apart = functions_differ monitor p h d in
-    (body_stands bodies (whole_marks monitor p) monitor p n f s h d said (whole_say monitor p sound apart) there named,
-    λ plain. body_stands bodies (own_marks monitor p) monitor p n f s h d said (own_say monitor p sound apart plain) there named)
+    let apart = functions_differ monitor p h d in (
+      body_stands bodies (whole_marks monitor p) monitor p n f s h d said (whole_say monitor p sound apart) there named,
+      λ plain. body_stands bodies (own_marks monitor p) monitor p n f s h d said (own_say monitor p sound apart plain) there named,
+    )
