@@ -25,3 +25,4 @@ pub mod Marks
 pub mod Law
 mod Worked
 pub mod Trees
+pub mod Cells
