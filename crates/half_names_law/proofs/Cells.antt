@@ -1,13 +1,12 @@
 -- A global's starting values are those of the half: each is read back from its constant.
-use Rattle.std.proofs.Common.{◌≡◌, ◌++◌, ◌∙◌, ◌<◌, ◌≤◌, ◌+◌, ◌*◌, ◌%◌, ◌^◌, sym, ap, refl, subst, ℕ, zero, suc, ℤ, pos, negsuc, ◌+ℤ◌, ◌*ℤ◌, neg_ℤ, ◌≤ℤ◌, Bool, true, false, List, [], ◌∷◌, length, map, Some, arith}
-use Rattle.std.specs.Prelude.{◌&&◌, int_le, nat_le}
+use Rattle.std.proofs.Common.{◌≡◌, ◌∙◌, ◌<◌, ◌%◌, ◌^◌, sym, ap, ℕ, suc, ℤ, pos, negsuc, ◌*ℤ◌, neg_ℤ, ◌≤ℤ◌, true, arith}
+use Rattle.std.specs.Prelude.{int_le}
 use Rattle.std.proofs.lemmas.Int.{ints}
-use Rattle.std.proofs.lemmas.Bool.Decides.{nat_tests}
 use Rattle.std.proofs.Math.Nat.{mod-eq_of_lt}
 use Rattle.pt_base.specs.declared.int_type.IntType.{IntType}
 use Rattle.pt_base.specs.declared.int_type.IntType.TheVariants.{Char, SChar, UChar, Short, UShort, Int, UInt, Long, ULong}
 use Rattle.pt_base.specs.IntTypes.{InRange, low_of, high_of, width_of}
-use Rattle.pt_int.specs.Conversion.{conv, is_in_range, IsConversion, SameModulo}
+use Rattle.pt_int.specs.Conversion.{conv, is_in_range, SameModulo}
 use Rattle.pt_int.proofs.Conversions.{conversion, conv-same}
 use Rattle.pt_int.proofs.OneConversion.{one-conversion}
 use Rattle.half_names_law.proofs.Objects.{both_hold}

@@ -17,6 +17,8 @@ use Rattle.check_expressions.specs.StructInfos.{field_info, infos_of}
 use Rattle.check_statements.specs.Leaves.{leaves_of}
 use Rattle.check_declarations_law.specs.Types.{is_plain}
 use Rattle.check_declarations_law.specs.Sound.{SoundStructs}
+use Rattle.check_declarations.specs.Cells.{cells_of}
+use Rattle.check_declarations_law.proofs.SizeLemmas.{sizes_are_sound}
 use Rattle.check_declarations_law.proofs.LeavesLemmas.{leaves_are_sound}
 use Rattle.half_trees.specs.Names.{nowhere}
 use Rattle.half_meaning_law.specs.Known.{type_as}
@@ -24,7 +26,7 @@ use Rattle.half_names_law.proofs.Tables.{listed}
 use Rattle.half_names_law.proofs.Objects.{object_type_is, both_hold, Fits, sized}
 use Rattle.half_names_law.proofs.Structs.{entry_of, fields_as}
 use Rattle.half_names_law.proofs.Table.{IsTable, plain_as}
-use Rattle.half_names_law.proofs.Globals.{HasCells}
+use Rattle.half_names_law.proofs.Globals.{HasCells, HasNumbers}
 
 -- ---- leaves don't ask for names
 
@@ -90,3 +92,30 @@ cells_there structs infos u cells table fits plain fit j low =
 
 pub cells_exact : (ts : List IntType) (vs : List ℤ) → cells_fit ts vs ≡ true → length vs ≡ length ts
 cells_exact = fit_length
+
+numbers_in : (ts : List IntType) (cells : List ℤ) → cells_fit ts cells ≡ true → (j : ℕ) (v : ℤ) → slice_get cells j ≡ Some v → (t : IntType) × (slice_get (map ty.Int ts) j ≡ Some (ty.Int t)) × (is_in_range t v ≡ true)
+numbers_in [] [] h j v e = cc
+numbers_in [] (w ∷ ws) h j v e = cc
+numbers_in (t ∷ ts) [] h j v e = cc
+numbers_in (t ∷ ts) (w ∷ ws) h zero v e = (t, refl, ap (is_in_range t) (sym (same e)) ∙ (both_hold (is_in_range t w) (cells_fit ts ws) h).0)
+  where
+    same : Some w ≡ Some v → w ≡ v
+    same e = cc
+numbers_in (t ∷ ts) (w ∷ ws) h (suc j) v e = numbers_in ts ws (both_hold (is_in_range t w) (cells_fit ts ws) h).1 j v e
+
+pub numbers_there : (structs : Structs) (infos : List StructInfo) (u : VarTy) (cells : List ℤ) → IsTable structs infos (length infos) → Fits structs infos u → is_plain_type (length infos) u ≡ true → cells_fit (typed.leaves_of infos u) cells ≡ true
+    → HasNumbers (leaves_of structs (type_as u)) 0 cells
+numbers_there structs infos u cells table fits plain fit j v e =
+    let there = numbers_in (typed.leaves_of infos u) cells fit j v e in
+    let same : 0 + j ≡ j = omega arith in
+    (there.0, ap (slice_get (leaves_of structs (type_as u))) same ∙ ap (λ ts. slice_get ts j) (table_leaves structs infos u table fits plain) ∙ there.1, there.2)
+
+-- the table counts the same cells
+pub cells_same : (structs : Structs) (infos : List StructInfo) (u : VarTy) (cells : List ℤ) → IsTable structs infos (length infos) → Fits structs infos u → is_plain_type (length infos) u ≡ true → cells_fit (typed.leaves_of infos u) cells ≡ true
+    → cells_of structs (type_as u) ≡ length cells
+cells_same structs infos u cells table fits plain fit =
+    let counts = sizes_are_sound structs [] (type_as u) nowhere (subst SoundStructs (sym (nothing_more structs)) table.sound) (subst (λ n. is_plain n (type_as u) ≡ true) (sym table.long) (plain_as (length infos) u plain)) (sized structs (type_as u) u refl fits.small) in
+    sym counts.0
+    ∙ (λ i. length (typed.leaves_of (infos_of (nothing_more structs i)) (object_type_is u i)))
+    ∙ ap length (leaves_stay structs infos u table)
+    ∙ sym (fit_length (typed.leaves_of infos u) cells fit)

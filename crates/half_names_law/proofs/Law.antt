@@ -78,6 +78,7 @@ pub record DeclaredHalf (marks : Marks) (monitor : Bool) (p : ProgramTree) : Typ
   pub bodiless : (k : ℕ) → has_body rest.functions (function_id k) ≡ false
   pub entries : (k : ℕ) (s : ℕ × Signature) → slice_get p.signatures k ≡ Some s → Entry marks monitor p rest.functions k s
   pub globals : map (λ g. g.var.ty) rest.globals ≡ map (λ g. g.var.ty) p.globals
+  pub cells : map (λ g. g.cells) rest.globals ≡ map (λ g. g.cells) p.globals
 
 pub declared_half : (marks : Marks) (monitor : Bool) (p : ProgramTree) → is_sound monitor p ≡ true → Declarable p → MarksSay marks p → DeclaredHalf marks monitor p
 declared_half marks monitor p h d say =
@@ -91,7 +92,7 @@ declared_half marks monitor p h d say =
     eight (record { bodiless = λ k. refl; none = refl; no_globals = refl; long = refl; entries = λ k s e. cc }) in
     let none = two.holds.none in
     let three = globals_added marks p p.signatures (map (callable_in monitor p) p.signatures) (half_structs p) p.globals [] p.globals two.rest.functions two.rest refl half.apart.globals (globals_fit p (half_structs p) p.globals whole sound.globals d.global_marks)
-    (few (sum_by (λ (g : GlobalTree). length g.cells) p.globals) two.rest.cells sound.small none) (record { same = refl; types = ap (map (λ g. g.var.ty)) two.holds.no_globals }) in
+    (few (sum_by (λ (g : GlobalTree). length g.cells) p.globals) two.rest.cells sound.small none) (record { same = refl; types = ap (map (λ g. g.var.ty)) two.holds.no_globals; cells = ap (map (λ g. g.cells)) two.holds.no_globals }) in
     record {
       rest = three.rest;
       walk = λ items.
@@ -103,6 +104,7 @@ declared_half marks monitor p h d say =
       bodiless = λ k. ap (λ fs. has_body fs (function_id k)) three.holds.same ∙ two.holds.bodiless k;
       entries = λ k s there. subst (λ fs. Entry marks monitor p fs k s) (sym three.holds.same) (two.holds.entries k s there);
       globals = three.holds.types;
+      cells = three.holds.cells;
     }
   where
     few : (all cells : ℕ) → nat_le all 1048576 ≡ true → cells ≡ 0 → cells + all ≤ 1048576

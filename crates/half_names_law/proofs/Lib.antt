@@ -1,4 +1,5 @@
 pub mod Tables
+pub mod Cells
 pub mod Specifiers
 pub mod Objects
 pub mod Structs
@@ -25,4 +26,3 @@ pub mod Marks
 pub mod Law
 mod Worked
 pub mod Trees
-pub mod Cells

@@ -38,7 +38,7 @@ use Rattle.half_names_law.proofs.Table.{IsTable, NamesDiffer, plain_fits, plain_
 use Rattle.half_names_law.proofs.Parameters.{ParameterFits, ParametersFit}
 use Rattle.half_names_law.proofs.Prototypes.{marked_param}
 use Rattle.half_names_law.proofs.Locals.{LocalsFit}
-use Rattle.half_names_law.proofs.Integers.{cells_there, cells_exact}
+use Rattle.half_names_law.proofs.Integers.{cells_same, numbers_there, cells_there, cells_exact}
 use Rattle.half_names_law.proofs.Walk.{SignatureFits, GlobalsFit}
 use Rattle.half_names_law.proofs.Names.{text_name}
 use Rattle.half_names_law.proofs.Known.{all_there}
@@ -221,6 +221,8 @@ globals_fit p structs (g ∷ gs) whole fits stands =
           plain = plain_is_none (length p.structs) g.var.ty typed.0;
           unmarked = not_both g.var.marked g.var.unpriv marks.0;
           cells_there = cells_there structs p.structs g.var.ty g.cells whole.table fit typed.0 own_parts.1;
+          numbers = numbers_there structs p.structs g.var.ty g.cells whole.table fit typed.0 own_parts.1;
+          exact = cells_same structs p.structs g.var.ty g.cells whole.table fit typed.0 own_parts.1;
         },
         omega (arith, less, long),
       ),

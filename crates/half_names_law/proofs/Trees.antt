@@ -239,6 +239,7 @@ body_stands bodies marks monitor p n f s h d said say there named =
     record {
       structs = ap (λ st. field_types (tree_of st).structs) end.is ∙ structs_same (half_structs p) p.structs (same_fields (half_structs p) p.structs half.table.long (λ j x e. (half.table.entries j x e).fields));
       globals = ap (λ st. map (λ g. g.var.ty) (tree_of st).globals) end.is ∙ ap (map (λ g. g.var.ty)) (end.globals ∙ passes.holds.globals) ∙ declared.globals;
+      cells = ap (λ st. map (λ g. g.cells) (tree_of st).globals) end.is ∙ ap (map (λ g. g.cells)) (end.globals ∙ passes.holds.globals) ∙ declared.cells;
       place = k;
       number = number_at 0 (map (λ x. x.0) p.signatures) k f.id (mapped_there (λ x. x.0) p.signatures k (f.id, s) place.there);
       entry = with_parts entry.entry nowhere vars b;

@@ -190,10 +190,11 @@ GlobalsFit structs infos (g ∷ gs) = GlobalFitsIn structs infos g × GlobalsFit
 abbrev pub cells_together : List GlobalTree → ℕ
 cells_together gs = sum_by (λ g. length g.cells) gs
 
--- the functions stay, and the globals have these types
+-- the functions stay, and the globals have these types and start with these cells
 pub record Filled (fs : List FunctionTree) (gs : List GlobalTree) (r : Rest) : Type 0 where
   pub same : r.functions ≡ fs
   pub types : map (λ g. g.var.ty) r.globals ≡ map (λ g. g.var.ty) gs
+  pub cells : map (λ g. g.cells) r.globals ≡ map (λ g. g.cells) gs
 
 pub globals_added : (marks : Marks) (p : ProgramTree) (fs : List (ℕ × Signature)) (callables : List Callable) (structs : Structs) (all done gs : List GlobalTree) (trees : List FunctionTree) (r : Rest) → done ++ gs ≡ all → GlobalsApart all → GlobalsFit structs p.structs gs
     → r.cells + cells_together gs ≤ 1048576 → Filled trees done r
@@ -218,7 +219,7 @@ globals_added marks p fs callables structs all done (g ∷ gs) trees r whole apa
     let less = counted_less (r.cells + cells_of structs (type_as g.var.ty)) in
     let again = globals_added marks p fs callables structs all (done ++ g ∷ []) gs trees (with_global_tree r one.0 (cells_of structs (type_as g.var.ty))) (append_assoc done (g ∷ []) gs ∙ whole) apart fit.1
     (omega (arith, few, sums, own, less))
-    (record { same = same.same; types = map-append (λ (x : TypedGlobal). x.var.ty) r.globals (one.0 ∷ []) ∙ (λ i. same.types i ++ one.2 i ∷ []) ∙ sym (map-append (λ (x : GlobalTree). x.var.ty) done (g ∷ [])) }) in
+    (record { same = same.same; types = map-append (λ (x : TypedGlobal). x.var.ty) r.globals (one.0 ∷ []) ∙ (λ i. same.types i ++ one.2 i ∷ []) ∙ sym (map-append (λ (x : GlobalTree). x.var.ty) done (g ∷ [])); cells = map-append (λ (x : TypedGlobal). x.cells) r.globals (one.0 ∷ []) ∙ (λ i. same.cells i ++ one.3 i ∷ []) ∙ sym (map-append (λ (x : GlobalTree). x.cells) done (g ∷ [])) }) in
     record {
       rest = again.rest;
       is =

@@ -66,11 +66,13 @@ judged_tree marks monitor p = tree_of (checked_items marks at_start (half_tree m
 abbrev pub field_types : List StructInfo → List (List VarTy)
 field_types structs = map (λ s. map (λ f. f.ty) s.fields) structs
 
--- Function number n of the half stands in the typed tree at its place: with its result, its parameters and its
--- variables, and its body is what was judged of it, whose outermost expressions the tree lists.
+-- The typed tree has the half's fields and globals, and these start with the half's numbers. Function number n
+-- stands in it at its place, with its result, its parameters and its variables, and its body is what was judged of
+-- it, whose outermost expressions the tree lists.
 pub record BodyStands (marks : Marks) (monitor : Bool) (p : ProgramTree) (n : ℕ) (f : FunctionTree) (s : Signature) : Type 0 where
   pub structs : field_types (judged_tree marks monitor p).structs ≡ field_types p.structs
   pub globals : map (λ g. g.var.ty) (judged_tree marks monitor p).globals ≡ map (λ g. g.var.ty) p.globals
+  pub cells : map (λ g. g.cells) (judged_tree marks monitor p).globals ≡ map (λ g. g.cells) p.globals
   pub place : ℕ
   pub number : number_in 0 (map (λ x. x.0) p.signatures) place ≡ f.id
   pub entry : t.FunctionTree
