@@ -1,0 +1,3 @@
+pub mod Declarable
+pub mod Standing
+pub mod Laws
