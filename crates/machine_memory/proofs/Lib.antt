@@ -1,0 +1,12 @@
+mod BeginLemmas
+mod ClearLemmas
+mod FrameLemmas
+mod HeldLemmas
+mod LayoutLemmas
+mod LocalsLemmas
+mod MemoryLemmas
+mod OpenLemmas
+mod PutLemmas
+mod ShapeLemmas
+mod VariableLemmas
+mod WordLemmas

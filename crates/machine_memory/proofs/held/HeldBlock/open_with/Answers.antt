@@ -1,0 +1,14 @@
+use Rattle.std.proofs.Common.{◌∙◌, ap, length, length-set, List, sym}
+use Rattle.block_memory.specs.declared.cell.Cell.{Cell}
+use Rattle.machine_memory.proofs.HeldLemmas.{held_len}
+use Rattle.machine_memory.proofs.held.HeldBlock.open_with.Goals as goal
+
+pub invariant_of-self : goal.invariant_of-self
+invariant_of-self c = record {
+  words_count = c.self.invariant.words_count;
+  cells_count = λ e.
+      ap (λ (cells : List Cell). length cells) c.write.ensures
+      ∙ length-set c.args.cells c.args.at c.args.c
+      ∙ ap (λ (cells : List Cell). length cells) c.requires
+      ∙ sym (held_len _ _ _ _ _ c.self.view_is c.self.invariant);
+}

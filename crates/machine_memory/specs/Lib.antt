@@ -1,0 +1,9 @@
+pub mod Frames
+pub mod Held
+pub mod Laws
+pub mod Layouts
+pub mod Memory
+pub mod Places
+pub mod Puts
+pub mod Tables
+pub mod Words

@@ -1,0 +1,180 @@
+// A block of integers that stands by itself.
+use crate::cells::Cells;
+use crate::packing::{cell_at, is_wide, packed, unpacked, word_for};
+use block_memory::Cell;
+use pt_base::IntType;
+use std::alloc::{AllocError, Global};
+use std::marker::Model;
+
+/// A block of integers. Each is a word; once something was written that a word can't hold, the
+/// block is open: then it is its cells. Contracts see the block.
+#[derive(Drop)]
+pub(crate) struct HeldBlock {
+    types: Vec<IntType>,
+    words: Vec<i64>,
+    opened: bool,
+    cells: Cells,
+}
+
+impl Model for HeldBlock {
+    ghost use Rattle.block_memory.specs.Block.{Block};
+
+    ghost Value = { Block };
+
+    ghost use Rattle.machine_memory.specs.Held.{held_cells, IsHeld};
+
+    ghost view = { λ b. record { types = b.types.items; cells = held_cells b.types.items b.words.items b.opened b.cells } };
+
+    ghost invariant = { λ b. IsHeld b.types.items b.words.items b.opened b.cells };
+}
+
+impl HeldBlock {
+    ghost use Rattle.std.specs.Prelude.{◌≡◌, length, IfOk, IfSome, OnErr, OnOk, pos, slice_get, slice_index_or, Some};
+    ghost use Rattle.block_memory.specs.declared.cell.Cell.TheVariants.{Int};
+    ghost use Rattle.block_memory.specs.Block.{no_block, with_cell};
+    ghost use Rattle.word_arithmetic.specs.Words.{number_of};
+    ghost use Rattle.machine_memory.specs.Held.{Writes};
+
+    /// A block of no cells.
+    pub(crate) fn new(alloc: Global) -> HeldBlock
+        ensures { result ≡ no_block }
+    {
+        HeldBlock {
+            types: Vec::new(alloc),
+            words: Vec::new(alloc),
+            opened: false,
+            cells: Cells::new(Vec::new(alloc)),
+        }
+    }
+
+    /// The block with these types and cells.
+    pub(crate) fn of(
+        alloc: Global,
+        types: &[IntType],
+        cells: &[Cell],
+    ) -> Result<HeldBlock, AllocError>
+        requires { length types.now ≡ length cells.now }
+        ensures { IfOk result (λ b. b ≡ record { types = types.now; cells = cells.now }) }
+    {
+        let own = Vec::from_slice(alloc, types)?;
+        match packed(alloc, types, cells)? {
+            Some(words) => Ok(HeldBlock {
+                types: own,
+                words,
+                opened: false,
+                cells: Cells::new(Vec::new(alloc)),
+            }),
+            None => Ok(HeldBlock {
+                types: own,
+                words: vec![in alloc; 0i64; types.len()]?,
+                opened: true,
+                cells: Cells::new(Vec::from_slice(alloc, cells)?),
+            }),
+        }
+    }
+
+    pub(crate) fn types(&self) -> &[IntType]
+        ensures { result.now ≡ self.now.types }
+    {
+        self.types.as_slice()
+    }
+
+    /// How many cells it has.
+    pub(crate) fn len(&self) -> usize
+        ensures { result ≡ length self.now.cells }
+    {
+        self.types.len()
+    }
+
+    /// A cell, 0 where it isn't there.
+    pub(crate) fn cell(&self, at: usize) -> Cell
+        ensures { result ≡ slice_index_or self.now.cells at (Int (pos 0)) }
+    {
+        if at >= self.types.len() {
+            Cell::Int(0)
+        } else if self.opened {
+            self.cells.as_slice()[at]
+        } else {
+            cell_at(self.types[at], &self.words, at)
+        }
+    }
+
+    /// The word of an integer, if it is there and read so.
+    #[inline]
+    pub(crate) fn word(&self, at: usize, wide: bool) -> Option<i64>
+        ensures { IfSome result (λ w. slice_get self.now.cells at ≡ Some (Int (number_of wide w))) }
+    {
+        if at < self.types.len() && !self.opened && is_wide(self.types[at]) == wide {
+            Some(self.words[at])
+        } else {
+            None
+        }
+    }
+
+    /// Replaces the word of an integer, if it is there and read so.
+    #[inline]
+    pub(crate) fn put_word(&mut self, at: usize, w: i64, wide: bool) -> bool
+        ensures { Writes result self.old self.new at (Int (number_of wide w)) }
+    {
+        if at < self.types.len() && !self.opened && is_wide(self.types[at]) == wide {
+            self.words[at] = w;
+            true
+        } else {
+            false
+        }
+    }
+
+    /// Replaces a cell, if it is there.
+    pub(crate) fn write(&mut self, alloc: Global, at: usize, c: Cell) -> Result<(), AllocError>
+        ensures ok { OnOk result (self.new ≡ with_cell self.old at c) }
+        ensures err { OnErr result (self.new ≡ self.old) }
+    {
+        if self.write_in_place(at, &c) {
+            return Ok(());
+        }
+        let cells = self.copied(alloc)?;
+        self.open_with(cells, at, c);
+        Ok(())
+    }
+
+    // Replaces a cell, if it can stand where it is to.
+    fn write_in_place(&mut self, at: usize, c: &Cell) -> bool
+        ensures { Writes result self.old self.new at c.now }
+    {
+        if at >= self.types.len() {
+            return true;
+        }
+        if self.opened {
+            self.cells.write(at, *c);
+            return true;
+        }
+        match word_for(self.types[at], *c) {
+            Some(w) => {
+                self.words[at] = w;
+                true
+            }
+            None => false,
+        }
+    }
+
+    // Its cells, once more.
+    fn copied(&self, alloc: Global) -> Result<Cells, AllocError>
+        ensures { IfOk result (λ cells. cells ≡ self.now.cells) }
+    {
+        if self.opened {
+            Ok(Cells::new(Vec::from_slice(alloc, self.cells.as_slice())?))
+        } else {
+            Ok(Cells::new(unpacked(alloc, &self.types, &self.words, 0)?))
+        }
+    }
+
+    // Opens it: it is these cells, but for one.
+    fn open_with(&mut self, cells: Cells, at: usize, c: Cell)
+        requires { cells ≡ self.old.cells }
+        ensures { self.new ≡ with_cell self.old at c }
+    {
+        self.opened = true;
+        self.cells = cells;
+        self.cells.write(at, c);
+    }
+}

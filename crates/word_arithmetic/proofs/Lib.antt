@@ -1,0 +1,4 @@
+pub mod OperandLemmas
+pub mod PrefixLemmas
+pub mod SignedLemmas
+pub mod WordLemmas
