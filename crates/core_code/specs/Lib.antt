@@ -1,5 +1,6 @@
 pub mod Answers
 pub mod Code
+pub mod Effects
 pub mod Laid
 pub mod Lies
 pub mod Paths

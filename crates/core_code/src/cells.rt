@@ -3,13 +3,14 @@ ghost use Rattle.std.specs.Prelude.{◌≡◌, ◌&&◌, nat_eq};
 ghost use Rattle.pt_int.specs.Conversion.{conv};
 ghost use Rattle.pt_int.specs.Operator.{binary_of, unary_of};
 ghost use Rattle.block_memory.specs.Blocks.{is_same_name as are_same};
-ghost use Rattle.block_memory.specs.Memory.{blocks_of};
+ghost use Rattle.machine_memory.specs.Memory.{blocks_of};
 ghost use Rattle.pt_core.specs.Values.{at_span, converted as converted_cell, holds_in, number_in, numbered, right_operand, told, unary_operand};
 ghost use Rattle.core_code.specs.Answers.{IsAnswer};
 ghost use Rattle.core_code.specs.Code.{cell_of, first_of};
 
 use crate::fault::Fault;
-use block_memory::{BlockMemory, BlockName, Cell, CellAt, Pointer};
+use block_memory::{BlockName, Cell, CellAt, Pointer};
+use machine_memory::MachineMemory;
 use pt_base::{IntType, Span, Trap};
 use pt_int::{BinOp, UnOp, binary, convert, unary};
 
@@ -93,13 +94,10 @@ pub fn is_same_name(a: BlockName, b: BlockName) -> bool
 
 /// What stands in a cell; 0 where none is there.
 #[inline]
-pub fn cell_at(memory: &BlockMemory, at: CellAt) -> Cell
+pub fn cell_at(memory: &MachineMemory, at: CellAt) -> Cell
     ensures { result ≡ cell_of (blocks_of memory.now) at }
 {
-    match memory.block(at.block).get(at.cell as usize) {
-        Some(cell) => *cell,
-        None => Cell::Int(0),
-    }
+    memory.cell(at)
 }
 
 /// An array as a pointer to its first element; null where it is no array.

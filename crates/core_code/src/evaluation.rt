@@ -1,6 +1,6 @@
 // The values of expressions and the cells of places, from code whose types are settled.
 ghost use Rattle.std.specs.Prelude.{◌≡◌};
-ghost use Rattle.block_memory.specs.Memory.{blocks_of};
+ghost use Rattle.machine_memory.specs.Memory.{blocks_of};
 ghost use Rattle.core_code.specs.Answers.{IsAnswer};
 ghost use Rattle.core_code.specs.Code.{code_value, code_place};
 
@@ -9,10 +9,11 @@ use crate::code::{PlaceCode, ValueCode};
 use crate::fault::Fault;
 use crate::pointers::{behind, compared, difference, moved};
 use crate::quick::{quick_place, quick_value};
-use block_memory::{BlockMemory, BlockName, Cell, CellAt, Pointer};
+use block_memory::{BlockName, Cell, CellAt, Pointer};
+use machine_memory::MachineMemory;
 
 /// The value of an expression of the function that was entered at this depth.
-pub fn value(code: &ValueCode, memory: &BlockMemory, depth: u32) -> Result<Cell, Fault>
+pub fn value(code: &ValueCode, memory: &MachineMemory, depth: u32) -> Result<Cell, Fault>
     ensures { IsAnswer result (code_value code.now depth (blocks_of memory.now)) }
 {
     match quick_value(code, memory, depth) {
@@ -22,7 +23,7 @@ pub fn value(code: &ValueCode, memory: &BlockMemory, depth: u32) -> Result<Cell,
 }
 
 /// The first cell of an object.
-pub fn location(code: &PlaceCode, memory: &BlockMemory, depth: u32) -> Result<CellAt, Fault>
+pub fn location(code: &PlaceCode, memory: &MachineMemory, depth: u32) -> Result<CellAt, Fault>
     ensures { IsAnswer result (code_place code.now depth (blocks_of memory.now)) }
 {
     match quick_place(code, memory, depth) {
@@ -33,7 +34,7 @@ pub fn location(code: &PlaceCode, memory: &BlockMemory, depth: u32) -> Result<Ce
 
 // The value of an expression, whatever it is.
 #[cycle(evaluation)]
-fn full_value(code: &ValueCode, memory: &BlockMemory, depth: u32) -> Result<Cell, Fault>
+fn full_value(code: &ValueCode, memory: &MachineMemory, depth: u32) -> Result<Cell, Fault>
     ensures { IsAnswer result (code_value code.now depth (blocks_of memory.now)) }
 {
     match code {
@@ -95,7 +96,7 @@ fn full_value(code: &ValueCode, memory: &BlockMemory, depth: u32) -> Result<Cell
 
 // The first cell of an object, whatever it is.
 #[cycle(evaluation)]
-fn full_location(code: &PlaceCode, memory: &BlockMemory, depth: u32) -> Result<CellAt, Fault>
+fn full_location(code: &PlaceCode, memory: &MachineMemory, depth: u32) -> Result<CellAt, Fault>
     ensures { IsAnswer result (code_place code.now depth (blocks_of memory.now)) }
 {
     match code {

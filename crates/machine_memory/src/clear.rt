@@ -6,7 +6,7 @@ use block_memory::Pointer;
 
 #[tactic(auto, unfolding(crate::specs::Memory::blocks_of, crate::specs::Memory::layouts_of, crate::specs::Memory::frame_at, crate::specs::Memory::live_count))]
 impl MachineMemory {
-    ghost use Rattle.std.specs.Prelude.{◌≡◌, ◌<◌, ℕ, length, map, slice_index_or};
+    ghost use Rattle.std.specs.Prelude.{◌≡◌, ◌<◌, ℕ, true, length, map, slice_index_or};
     ghost use Rattle.block_memory.specs.declared.cell.BlockName.TheVariants.{Local};
     ghost use Rattle.block_memory.specs.Block.{fresh, no_block};
     ghost use Rattle.block_memory.specs.Blocks.{put};
@@ -20,6 +20,7 @@ impl MachineMemory {
     pub fn clear(&mut self, depth: u32, layout: u32, var: u32) -> bool
         ensures cleared { Clears result (blocks_of self.old) (blocks_of self.new) (Local depth var) (slice_index_or (map fresh (layout_at self.old layout).shapes) var no_block) }
         ensures stands { (d l : ℕ) → Stands self.old d l → Stands self.new d l }
+        ensures done { Stands self.old depth layout → layout < length (layouts_of self.old) → result ≡ true }
         ensures layouts { layouts_of self.new ≡ layouts_of self.old }
     {
         if depth as usize >= self.live {
@@ -44,6 +45,7 @@ impl MachineMemory {
         requires known { number < length (layouts_of self.old) }
         ensures cleared { Clears result (blocks_of self.old) (blocks_of self.new) (Local depth var) (slice_index_or (map fresh (layout_at self.old number).shapes) var no_block) }
         ensures stands { (d l : ℕ) → Stands self.old d l → Stands self.new d l }
+        ensures done { result ≡ true }
         ensures layouts { layouts_of self.new ≡ layouts_of self.old }
     {
         match find_in(&self.layouts, number, var, 0) {
@@ -56,7 +58,8 @@ impl MachineMemory {
                 self.set_pointer_in(depth, number, at, Pointer::Null);
                 true
             }
-            Found::Missing => false,
+            // It has no cells, so there is nothing to do.
+            Found::Missing => true,
         }
     }
 

@@ -1,4 +1,4 @@
-use Rattle.std.proofs.Common.{◌≡◌, ◌∙◌, ap, FitsSigned, pos, rules, Some, subst, sym, w64, ℤ}
+use Rattle.std.proofs.Common.{◌∙◌, ap, FitsSigned, pos, rules, Some, subst, sym, w64, ℤ}
 use Rattle.std.proofs.lemmas.Int.{to_z-of_z}
 use Rattle.std.proofs.lemmas.Option.{get_or_from_slice_get}
 use Rattle.block_memory.specs.declared.cell.Cell.TheVariants.{Int}

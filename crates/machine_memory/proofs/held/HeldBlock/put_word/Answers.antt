@@ -1,4 +1,4 @@
-use Rattle.std.proofs.Common.{◌≡◌, ◌∙◌, ap, arith, FitsSigned, rules, set, sym, w64, ℤ}
+use Rattle.std.proofs.Common.{◌∙◌, ap, arith, FitsSigned, set, w64, ℤ}
 use Rattle.std.proofs.lemmas.Int.{to_z-of_z}
 use Rattle.block_memory.specs.Block.{with_cell}
 use Rattle.machine_memory.specs.Held.{held_cells}

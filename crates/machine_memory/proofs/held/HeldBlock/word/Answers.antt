@@ -1,4 +1,4 @@
-use Rattle.std.proofs.Common.{◌≡◌, ◌∙◌, ap, arith, FitsSigned, rules, Some, sym, w64, ℤ}
+use Rattle.std.proofs.Common.{◌∙◌, ap, arith, FitsSigned, rules, Some, sym, w64, ℤ}
 use Rattle.std.proofs.lemmas.Int.{to_z-of_z}
 use Rattle.block_memory.specs.declared.cell.Cell.TheVariants.{Int}
 use Rattle.word_arithmetic.specs.Words.{number_of}

@@ -1,4 +1,4 @@
-use Rattle.std.proofs.Common.{◌≡◌, ◌∙◌, ap, arith, FitsSigned, rules, set, sym, w64, ℤ, List}
+use Rattle.std.proofs.Common.{◌∙◌, ap, arith, FitsSigned, rules, set, sym, w64, ℤ, List}
 use Rattle.std.proofs.lemmas.Int.{to_z-of_z}
 use Rattle.block_memory.specs.declared.cell.Cell.{Cell}
 use Rattle.block_memory.specs.Block.{with_cell}

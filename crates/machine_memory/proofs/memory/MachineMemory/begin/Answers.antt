@@ -1,7 +1,7 @@
-use Rattle.std.proofs.Common.{◌≡◌, ◌∙◌, ap, arith, List, refl}
+use Rattle.std.proofs.Common.{◌∙◌, ap, arith, List, refl}
 use Rattle.machine_memory.specs.Layouts.{FrameLayout}
 use Rattle.machine_memory.specs.Frames.{layout_in, started}
-use Rattle.machine_memory.proofs.LocalsLemmas.{Begins, blocks_of-begun}
+use Rattle.machine_memory.proofs.LocalsLemmas.{blocks_of-begun}
 use Rattle.machine_memory.proofs.memory.MachineMemory.begin.Goals as goal
 
 pub returns-clause-ok : goal.returns-clause-ok

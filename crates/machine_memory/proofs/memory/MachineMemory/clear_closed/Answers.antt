@@ -1,4 +1,4 @@
-use Rattle.std.proofs.Common.{◌≡◌, ◌∙◌, ◌<◌, ap, get_or, length, List, map, subst, sym}
+use Rattle.std.proofs.Common.{◌≡◌, ◌∙◌, ◌≤◌, ap, get_or, length, List, map, subst, sym}
 use Rattle.std.proofs.lemmas.List.{get_or_default}
 use Rattle.block_memory.specs.declared.cell.BlockName.TheVariants.{Local}
 use Rattle.block_memory.specs.Block.{fresh, no_block}
@@ -6,7 +6,7 @@ use Rattle.block_memory.specs.Blocks.{put}
 use Rattle.machine_memory.specs.Layouts.{FrameLayout, IsInteger, IsPointer, no_layout}
 use Rattle.machine_memory.specs.Frames.{layout_in}
 use Rattle.machine_memory.specs.Memory.{blocks_of, layouts_of}
-use Rattle.machine_memory.proofs.ClearLemmas.{integers-of, pointer-fresh}
+use Rattle.machine_memory.proofs.ClearLemmas.{integers-of, missing-put, pointer-fresh}
 use Rattle.machine_memory.proofs.VariableLemmas.{pointer_below}
 use Rattle.machine_memory.proofs.memory.MachineMemory.clear_closed.Goals as goal
 
@@ -33,3 +33,9 @@ returns-in-Pointer-clause-cleared c =
     let is = subst (λ (ls : List FrameLayout). IsPointer (layout_in ls c.args.number).shapes c.args.var c.in-Pointer.at) c.deref.ensures.value c.in-Pointer.ensures.0 in
     c.set_pointer_in.ensures.pointer c.args.var is
     ∙ ap (put (blocks_of m) (Local c.args.depth c.args.var)) (pointer-fresh m c.args.depth c.args.number c.args.var c.in-Pointer.at c.requires.stands is)
+
+pub returns-in-Missing-clause-cleared : goal.returns-in-Missing-clause-cleared
+unfolding layouts_of
+returns-in-Missing-clause-cleared c =
+    let none = subst (λ (ls : List FrameLayout). length (get_or (map fresh (layout_in ls c.args.number).shapes) c.args.var no_block).cells ≤ 0) c.deref.ensures.value c.in-Missing.ensures in
+    missing-put c.args.self.now c.args.depth c.args.number c.args.var c.requires.stands none

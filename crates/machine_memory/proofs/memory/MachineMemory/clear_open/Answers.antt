@@ -6,7 +6,7 @@ use Rattle.machine_memory.specs.Layouts.{FrameLayout, no_layout}
 use Rattle.machine_memory.specs.Frames.{FrameState, layout_in}
 use Rattle.machine_memory.specs.Memory.{layouts_of, live_count}
 use Rattle.machine_memory.proofs.ClearLemmas.{fill-put}
-use Rattle.machine_memory.proofs.MemoryLemmas.{frame_read, Rewrites}
+use Rattle.machine_memory.proofs.MemoryLemmas.{frame_read}
 use Rattle.machine_memory.proofs.memory.MachineMemory.clear_open.Goals as goal
 
 pub returns-clause-cleared : goal.returns-clause-cleared

@@ -1,5 +1,5 @@
-use Rattle.std.proofs.Common.{refl, ◌≤◌, arith}
-use Rattle.machine_memory.proofs.LocalsLemmas.{blocks_of-left, blocks_of-short, Leaves}
+use Rattle.std.proofs.Common.{refl, arith}
+use Rattle.machine_memory.proofs.LocalsLemmas.{blocks_of-left}
 use Rattle.machine_memory.proofs.memory.MachineMemory.leave.Goals as goal
 
 pub returns-then-depth-self-clause-blocks : goal.returns-then-depth-self-clause-blocks

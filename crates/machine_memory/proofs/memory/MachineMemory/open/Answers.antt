@@ -5,7 +5,7 @@ use Rattle.machine_memory.specs.Layouts.{FrameLayout}
 use Rattle.machine_memory.specs.Frames.{blocks_in, FrameState, IsSized, layout_in}
 use Rattle.machine_memory.specs.Words.{local_blocks}
 use Rattle.machine_memory.proofs.FrameLemmas.{AreSized-set, IsSized-read}
-use Rattle.machine_memory.proofs.MemoryLemmas.{blocks_of-same, Rewrites}
+use Rattle.machine_memory.proofs.MemoryLemmas.{blocks_of-same}
 use Rattle.machine_memory.proofs.OpenLemmas.{IsSized-opened, open-same}
 use Rattle.machine_memory.proofs.memory.MachineMemory.open.Goals as goal
 

@@ -1,7 +1,7 @@
-use Rattle.std.proofs.Common.{◌≡◌, ◌≤◌, ◌∙◌, ap, arith, refl, sym, true}
+use Rattle.std.proofs.Common.{◌≡◌, ◌∙◌, ap, refl, sym, true}
 use Rattle.machine_memory.specs.Frames.{blocks_in, FrameState, layout_in}
 use Rattle.machine_memory.specs.Memory.{live_count}
-use Rattle.machine_memory.proofs.MemoryLemmas.{frame_read, Rewrites}
+use Rattle.machine_memory.proofs.MemoryLemmas.{frame_read}
 use Rattle.machine_memory.proofs.PutLemmas.{blocks_of-put_cells, open-put, put-none}
 use Rattle.machine_memory.proofs.memory.MachineMemory.put_opened.Goals as goal
 

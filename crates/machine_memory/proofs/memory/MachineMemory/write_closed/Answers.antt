@@ -1,4 +1,4 @@
-use Rattle.std.proofs.Common.{◌≡◌, ◌∙◌, ap, arith, FitsSigned, List, rules, subst, sym, w64, ℤ, ℕ}
+use Rattle.std.proofs.Common.{◌∙◌, ap, arith, FitsSigned, List, rules, subst, sym, w64, ℤ, ℕ}
 use Rattle.std.proofs.lemmas.Int.{to_z-of_z}
 use Rattle.block_memory.specs.declared.cell.BlockName.TheVariants.{Local}
 use Rattle.block_memory.specs.declared.cell.Cell.{Cell}

@@ -1,7 +1,7 @@
 use Rattle.std.proofs.Common.{◌≡◌, ◌∙◌, ap, refl, sym, true}
 use Rattle.machine_memory.specs.Frames.{blocks_in, FrameState, layout_in}
 use Rattle.machine_memory.specs.Memory.{live_count}
-use Rattle.machine_memory.proofs.MemoryLemmas.{blocks_of-put, frame_read, Rewrites}
+use Rattle.machine_memory.proofs.MemoryLemmas.{blocks_of-put, frame_read}
 use Rattle.machine_memory.proofs.OpenLemmas.{open-written}
 use Rattle.machine_memory.proofs.memory.MachineMemory.write_opened.Goals as goal
 

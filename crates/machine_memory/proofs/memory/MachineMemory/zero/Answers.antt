@@ -1,7 +1,6 @@
 use Rattle.std.proofs.Common.{refl}
 use Rattle.machine_memory.specs.Memory.{live_count}
 use Rattle.machine_memory.proofs.ClearLemmas.{zero-put, zero-sized, zero-within}
-use Rattle.machine_memory.proofs.MemoryLemmas.{Rewrites}
 use Rattle.machine_memory.proofs.memory.MachineMemory.zero.Goals as goal
 
 pub zero-requires : goal.zero-requires
