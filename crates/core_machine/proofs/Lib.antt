@@ -1,10 +1,18 @@
+pub mod CopyLemmas
+pub mod FarLemmas
+pub mod FastCallLemmas
+pub mod FastLemmas
 pub mod FlatOutside
 pub mod FlatSteps
 pub mod FlatValues
 pub mod HeldLemmas
+pub mod HopLemmas
+pub mod LaidLemmas
 pub mod LiveLemmas
+pub mod LocalLaw
 pub mod MachineLemmas
 pub mod PlaceLemmas
+pub mod MovesLemmas
 mod QuickLemmas
 pub mod RiseLemmas
 pub mod RunLemmas

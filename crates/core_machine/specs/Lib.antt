@@ -1,8 +1,13 @@
+pub mod Awaiting
+pub mod Fast
+pub mod FastCalls
 pub mod Flat
 pub mod Gates
 pub mod Held
+pub mod Laid
 pub mod Live
 pub mod Machines
+pub mod Moves
 pub mod Outside
 pub mod Quick
 pub mod QuickStates

@@ -22,7 +22,7 @@ impl Model for Frames {
 }
 
 impl Frames {
-    ghost use Rattle.std.specs.Prelude.{◌≡◌, [], ◌∷◌, MatchOption, OnErr, OnOk};
+    ghost use Rattle.std.specs.Prelude.{◌≡◌, [], ◌∷◌, length, MatchOption, OnErr, OnOk};
     ghost use Rattle.core_machine.specs.Live.{rest_of, standing};
 
     /// No function is active.
@@ -39,6 +39,13 @@ impl Frames {
         ensures { MatchOption result (self.now ≡ []) (λ frame. self.now ≡ frame ∷ rest_of self.now) }
     {
         self.frames.as_slice().last().copied()
+    }
+
+    /// How many there are.
+    pub(crate) fn count(&self) -> usize
+        ensures { result ≡ length self.now }
+    {
+        self.frames.len()
     }
 
     /// Adds one that is the innermost from now on.

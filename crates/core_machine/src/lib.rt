@@ -5,6 +5,8 @@ mod acting;
 mod building;
 mod call;
 mod calls;
+mod fast;
+mod fast_calls;
 mod frame;
 mod frames;
 mod gate;

@@ -1,39 +1,45 @@
 // What statements do to a memory.
-ghost use Rattle.std.specs.Prelude.{◌≡◌, [], drop, IfOk, length, map, OnOk, pos, replicate, take};
+ghost use Rattle.std.specs.Prelude.{◌≡◌, ◌<◌, IfOk, length, map, OnErr, OnOk, pos, unwrap_or};
 ghost use Rattle.block_memory.specs.Block.{fresh};
-ghost use Rattle.block_memory.specs.Blocks.{HasRoom, put};
+ghost use Rattle.block_memory.specs.Blocks.{put};
 ghost use Rattle.block_memory.specs.declared.cell.BlockName.TheVariants.{Local};
 ghost use Rattle.block_memory.specs.declared.cell.Cell.TheVariants as cell;
-ghost use Rattle.block_memory.specs.declared.shape.BlockShape.TheVariants.{Ints, OnePointer};
-ghost use Rattle.block_memory.specs.Memory.{blocks_of};
+ghost use Rattle.machine_memory.specs.Memory.{blocks_of, IsOpen, layout_at, layouts_of};
 ghost use Rattle.core_code.specs.Code.{cells_from};
+ghost use Rattle.core_code.specs.Effects.{shape_at};
 ghost use Rattle.pt_core.specs.Calls.{with_arguments};
 ghost use Rattle.pt_core.specs.Statements.{kept};
 ghost use Rattle.pt_core.specs.Values.{written, all_written, number_in};
 ghost use Rattle.core_machine.specs.Live.{HasNoMore};
 
-use block_memory::{BlockMemory, BlockName, BlockShape, Cell, CellAt, Pointer};
-use pt_base::IntType;
+use block_memory::{BlockName, Cell, CellAt};
+use machine_memory::MachineMemory;
 use std::alloc::{AllocError, Global};
 
 /// Writes a cell, if it is there.
 #[inline]
-pub(crate) fn write(memory: &mut BlockMemory, at: CellAt, c: Cell)
-    ensures written { blocks_of memory.new ≡ written (blocks_of memory.old) at.block at.cell c }
+pub(crate) fn write(
+    memory: &mut MachineMemory,
+    alloc: Global,
+    at: CellAt,
+    c: Cell,
+) -> Result<(), AllocError>
+    ensures written { OnOk result (blocks_of memory.new ≡ written (blocks_of memory.old) at.block at.cell c) }
+    ensures layouts { layouts_of memory.new ≡ layouts_of memory.old }
     ensures no_more { HasNoMore (blocks_of memory.old) (blocks_of memory.new) }
 {
-    if (at.cell as usize) < memory.block(at.block).len() {
-        memory.write(at, c);
-    }
+    memory.write(alloc, at, c)
 }
 
 /// Writes cells from one on, one after the other, as far as they are there.
 pub(crate) fn write_all(
-    memory: &mut BlockMemory,
+    memory: &mut MachineMemory,
+    alloc: Global,
     at: CellAt,
     cells: &[Cell],
 ) -> Result<(), AllocError>
     ensures written { OnOk result (blocks_of memory.new ≡ all_written (blocks_of memory.old) at.block at.cell cells.now) }
+    ensures layouts { layouts_of memory.new ≡ layouts_of memory.old }
     ensures no_more { HasNoMore (blocks_of memory.old) (blocks_of memory.new) }
 {
     let mut cell = at.cell;
@@ -42,7 +48,7 @@ pub(crate) fn write_all(
             block: at.block,
             cell,
         };
-        write(memory, here, *c);
+        write(memory, alloc, here, *c)?;
         cell = cell.checked_add(1).ok_or(AllocError)?;
     }
     Ok(())
@@ -51,132 +57,131 @@ pub(crate) fn write_all(
 /// So many cells go from one place to another, as they are before. A cell that isn't there is
 /// neither read nor written.
 pub(crate) fn copy(
-    memory: &mut BlockMemory,
+    memory: &mut MachineMemory,
     alloc: Global,
     to: CellAt,
     of: CellAt,
     count: u64,
 ) -> Result<(), AllocError>
     ensures written { OnOk result (blocks_of memory.new ≡ all_written (blocks_of memory.old) to.block to.cell (cells_from (blocks_of memory.old) of count)) }
+    ensures layouts { layouts_of memory.new ≡ layouts_of memory.old }
     ensures no_more { HasNoMore (blocks_of memory.old) (blocks_of memory.new) }
 {
-    let cells = some_cells(alloc, memory.block(of.block), of.cell, count)?;
-    write_all(memory, to, cells.as_slice())
+    let cells = some_cells(alloc, memory, of, count)?;
+    write_all(memory, alloc, to, cells.as_slice())
 }
 
 // So many cells from one on, as far as they are there.
-fn some_cells(alloc: Global, cells: &[Cell], from: u32, count: u64) -> Result<Vec<Cell>, AllocError>
-    ensures { IfOk result (λ some. some.items ≡ take count (drop from cells.now)) }
+fn some_cells(
+    alloc: Global,
+    memory: &MachineMemory,
+    of: CellAt,
+    count: u64,
+) -> Result<Vec<Cell>, AllocError>
+    ensures { IfOk result (λ some. some.items ≡ cells_from (blocks_of memory.now) of count) }
 {
-    let from = (from as usize).min(cells.len());
-    let rest = &cells[from..];
-    let count = (count as usize).min(rest.len());
-    Vec::from_slice(alloc, &rest[..count])
+    let mut cells = Vec::new(alloc);
+    let there = memory.count(of.block);
+    let mut at = of.cell;
+    let mut left = count;
+    while left > 0 && (at as usize) < there {
+        let here = CellAt {
+            block: of.block,
+            cell: at,
+        };
+        cells.push(memory.cell(here))?;
+        at = at.checked_add(1).ok_or(AllocError)?;
+        left -= 1;
+    }
+    Ok(cells)
 }
 
 /// The arguments go to the first variables of the function that was entered at this depth.
-pub(crate) fn pass(memory: &mut BlockMemory, depth: u32, args: &[Cell]) -> Result<(), AllocError>
+pub(crate) fn pass(
+    memory: &mut MachineMemory,
+    alloc: Global,
+    depth: u32,
+    args: &[Cell],
+) -> Result<(), AllocError>
     ensures passed { OnOk result (blocks_of memory.new ≡ with_arguments (blocks_of memory.old) depth 0 args.now) }
+    ensures layouts { layouts_of memory.new ≡ layouts_of memory.old }
     ensures no_more { HasNoMore (blocks_of memory.old) (blocks_of memory.new) }
 {
     let mut var = 0u32;
     for arg in args {
         let block = BlockName::Local { depth, var };
-        write(memory, CellAt { block, cell: 0 }, *arg);
+        write(memory, alloc, CellAt { block, cell: 0 }, *arg)?;
         var = var.checked_add(1).ok_or(AllocError)?;
     }
     Ok(())
 }
 
 /// What a call gave goes to a variable, if there is one for it; 0 where the call gave nothing.
-pub(crate) fn keep(memory: &mut BlockMemory, depth: u32, place: Option<u32>, value: Option<Cell>)
+pub(crate) fn keep(
+    memory: &mut MachineMemory,
+    alloc: Global,
+    depth: u32,
+    place: Option<u32>,
+    value: Option<Cell>,
+) -> Result<(), AllocError>
+    ensures kept { OnOk result (blocks_of memory.new ≡ kept depth place value (blocks_of memory.old)) }
+    ensures layouts { layouts_of memory.new ≡ layouts_of memory.old }
+    ensures no_more { HasNoMore (blocks_of memory.old) (blocks_of memory.new) }
+{
+    match place {
+        Some(var) => {
+            let block = BlockName::Local { depth, var };
+            write(memory, alloc, CellAt { block, cell: 0 }, given(value))
+        }
+        None => Ok(()),
+    }
+}
+
+/// The same in an open frame, which takes no memory.
+pub(crate) fn keep_open(
+    memory: &mut MachineMemory,
+    depth: u32,
+    place: Option<u32>,
+    value: Option<Cell>,
+)
+    requires { IsOpen memory.old depth }
     ensures kept { blocks_of memory.new ≡ kept depth place value (blocks_of memory.old) }
+    ensures layouts { layouts_of memory.new ≡ layouts_of memory.old }
     ensures no_more { HasNoMore (blocks_of memory.old) (blocks_of memory.new) }
 {
     if let Some(var) = place {
-        let block = BlockName::Local { depth, var };
-        let cell = match value {
-            Some(cell) => cell,
-            None => Cell::Int(0),
-        };
-        write(memory, CellAt { block, cell: 0 }, cell);
+        memory.write_open(depth, var, given(value));
     }
 }
 
-/// Makes a variable as it is when its declaration is reached. A variable that isn't of this shape,
-/// as no variable of a well-formed program is, counts as want of memory.
+// What a call gave, 0 if it gave nothing.
+fn given(value: Option<Cell>) -> Cell
+    ensures { result ≡ unwrap_or value (cell.Int (pos 0)) }
+{
+    match value {
+        Some(cell) => cell,
+        None => Cell::Int(0),
+    }
+}
+
+/// Makes a variable as it is when its declaration is reached. A variable that can't be so, as no
+/// variable of a well-formed program is, counts as want of memory.
 pub(crate) fn clear(
-    memory: &mut BlockMemory,
-    alloc: Global,
+    memory: &mut MachineMemory,
     depth: u32,
+    layout: u32,
     var: u32,
-    shape: &BlockShape,
 ) -> Result<(), AllocError>
-    ensures cleared { OnOk result (blocks_of memory.new ≡ put (blocks_of memory.old) (Local depth var) (fresh shape.now)) }
-    ensures no_more { HasNoMore (blocks_of memory.old) (blocks_of memory.new) }
+    requires there { var < length (layout_at memory.old layout).shapes }
+    ensures cleared { OnOk result (blocks_of memory.new ≡ put (blocks_of memory.old) (Local depth var) (fresh (shape_at (layout_at memory.old layout).shapes var))) }
+    ensures same { OnErr result (blocks_of memory.new ≡ blocks_of memory.old) }
+    ensures layouts { layouts_of memory.new ≡ layouts_of memory.old }
 {
-    match shape {
-        BlockShape::OnePointer => clear_pointer(memory, depth, var),
-        BlockShape::Ints(types) => clear_integers(memory, alloc, depth, var, types.as_slice()),
+    if memory.clear(depth, layout, var) {
+        Ok(())
+    } else {
+        Err(AllocError)
     }
-}
-
-fn clear_pointer(memory: &mut BlockMemory, depth: u32, var: u32) -> Result<(), AllocError>
-    ensures cleared { OnOk result (blocks_of memory.new ≡ put (blocks_of memory.old) (Local depth var) (fresh OnePointer)) }
-    ensures no_more { HasNoMore (blocks_of memory.old) (blocks_of memory.new) }
-{
-    let block = BlockName::Local { depth, var };
-    if memory.types(block).len() != 0 || memory.block(block).len() != 1 {
-        return Err(AllocError);
-    }
-    write(memory, CellAt { block, cell: 0 }, Cell::Ptr(Pointer::Null));
-    Ok(())
-}
-
-fn clear_integers(
-    memory: &mut BlockMemory,
-    alloc: Global,
-    depth: u32,
-    var: u32,
-    types: &[IntType],
-) -> Result<(), AllocError>
-    ensures cleared { OnOk result (blocks_of memory.new ≡ put (blocks_of memory.old) (Local depth var) (fresh (Ints types.now))) }
-    ensures no_more { HasNoMore (blocks_of memory.old) (blocks_of memory.new) }
-{
-    let block = BlockName::Local { depth, var };
-    if memory.types(block) != types || memory.block(block).len() != types.len() {
-        return Err(AllocError);
-    }
-    if types.len() == 1 {
-        return put_zero(memory, depth, var, types);
-    }
-    let cells = zeros(alloc, types.len())?;
-    memory.put_block(block, types, cells.as_slice())
-}
-
-// A variable of one integer becomes 0.
-fn put_zero(
-    memory: &mut BlockMemory,
-    depth: u32,
-    var: u32,
-    types: &[IntType],
-) -> Result<(), AllocError>
-    requires one { length types.now ≡ 1 }
-    requires room { HasRoom (blocks_of memory.old) (Local depth var) types.now 1 }
-    ensures cleared { OnOk result (blocks_of memory.new ≡ put (blocks_of memory.old) (Local depth var) (fresh (Ints types.now))) }
-    ensures no_more { HasNoMore (blocks_of memory.old) (blocks_of memory.new) }
-{
-    let block = BlockName::Local { depth, var };
-    memory.put_block(block, types, &[Cell::Int(0)])
-}
-
-// So many cells that are 0.
-fn zeros(alloc: Global, count: usize) -> Result<Vec<Cell>, AllocError>
-    ensures { IfOk result (λ cells. cells.items ≡ replicate count (cell.Int (pos 0))) }
-{
-    let mut cells = Vec::new(alloc);
-    cells.resize(count, Cell::Int(0))?;
-    Ok(cells)
 }
 
 /// The numbers that cells stand for.
