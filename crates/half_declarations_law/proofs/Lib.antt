@@ -7,3 +7,4 @@ mod Parameters
 mod Functions
 mod Programs
 mod Accepted
+mod TreesAreMarked

@@ -86,5 +86,5 @@ pub by_place : {X Y : Type 0} (whole : List X) (p : X → Bool) (f : ℕ → Opt
     → ((j : ℕ) → slice_get whole (j + k) ≡ slice_get xs j) → map (λ n. f n (slice_get whole n)) (range_with_len k (length xs)) ≡ map g xs
 by_place whole p f g same [] k all at = refl
 by_place whole p f g same (x ∷ xs) k all at =
-    ap (λ y. y ∷ map (λ n. f n (slice_get whole n)) (range_with_len (suc k) (length xs))) (ap (f k) (at 0) ∙ same k x (and_left (p x) (list_all p xs) all))
-    ∙ ap (λ ys. g x ∷ ys) (by_place whole p f g same xs (suc k) (and_right (p x) (list_all p xs) all) (λ j. let e : j + suc k ≡ suc j + k = omega arith in ap (slice_get whole) e ∙ at (suc j)))
+    ap (λ y. y ∷ map (λ n. f n (slice_get whole n)) (range_with_len (k + 1) (length xs))) (ap (f k) (let e : k ≡ 0 + k = omega arith in ap (slice_get whole) e ∙ at 0) ∙ same k x (and_left (p x) (list_all p xs) all))
+    ∙ ap (λ ys. g x ∷ ys) (by_place whole p f g same xs (k + 1) (and_right (p x) (list_all p xs) all) (λ j. let e : j + (k + 1) ≡ suc j + k = omega arith in ap (slice_get whole) e ∙ at (suc j)))
