@@ -15,7 +15,7 @@ use Rattle.splitter.specs.Halves.{halves_of, monitor_of, slave_of}
 use Rattle.half_names_law.specs.Declarable.{Declarable, prototypes_take_no_pointers}
 use Rattle.half_names_law.specs.Laws.{MeaningKept}
 use Rattle.half_names_law.specs.Standing.{own_marks, whole_marks}
-use Rattle.half_declarations_law.specs.Trees.{names_written, Marked, variables_marked, variables_few}
+use Rattle.half_declarations_law.specs.Trees.{names_written, Marked, variables_few}
 
 -- ---- the tree
 
@@ -31,9 +31,9 @@ slave_half t a = slave_program (slave_of t (halves_of a.sides) (functions_from t
 abbrev pub monitor_half : TypedTree → Accepted → ProgramTree
 monitor_half t a = monitor_program (monitor_of t (halves_of a.sides) (functions_from t 0 t.functions))
 
--- apart from what the variables of each function are called for: none is marked twice, and there aren't too many
+-- where no function has too many variables
 abbrev pub IsDeclarable : ProgramTree → Type 0
-IsDeclarable p = IsTrue (variables_marked p) → IsTrue (variables_few p) → Declarable p
+IsDeclarable p = IsTrue (variables_few p) → Declarable p
 
 -- A parsed program's nodes are few, its constants in range, its words short and made of letters, digits and `_`.
 abbrev pub HalvesAreDeclarable : Type 0
@@ -48,7 +48,7 @@ MeansTheSame monitor p = (n : ℕ) (f : FunctionTree) (s : Signature) → slice_
     MeaningKept (whole_marks monitor p) monitor p n f s × (IsTrue (prototypes_take_no_pointers p) → MeaningKept (own_marks monitor p) monitor p n f s)
 
 abbrev pub HalfMeans : Bool → ProgramTree → Type 0
-HalfMeans monitor p = IsTrue (variables_marked p) → IsTrue (variables_few p) → MeansTheSame monitor p
+HalfMeans monitor p = IsTrue (variables_few p) → MeansTheSame monitor p
 
 -- both halves of a checked program that breaks no rule
 abbrev pub AcceptedHalvesKeepTheirMeaning : Type 0

@@ -35,10 +35,6 @@ pub record Marked (t : TypedTree) : Type 0 where
 
 -- ---- what is said of a half apart
 
--- no variable is marked `priv` and `unpriv`
-abbrev pub variables_marked : ProgramTree → Bool
-variables_marked p = list_all (λ f. list_all variable_marked f.vars) p.functions
-
 -- each function's variables are numbered below 2^64
 abbrev pub variables_few : ProgramTree → Bool
 variables_few p = list_all (λ f. nat_le (length f.vars) (2 ^ 64)) p.functions

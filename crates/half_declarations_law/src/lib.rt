@@ -1,7 +1,6 @@
 //! Both halves of a checked program can be declared in C: the names of their texts differ, and all marks stand
 //! where they may. So the statements of each function, as the judgments meet them in the half's text, mean what
-//! the half's do. Two things are left to be said of a half's variables: that none is marked both `priv` and
-//! `unpriv`, and that a function doesn't have more than 2^64 of them.
+//! the half's do. What is left to be said is that no function of a half has more than 2^64 variables.
 #![tactic(auto)]
 
 ghost use Rattle.half_declarations_law.specs.Laws.{AcceptedHalvesKeepTheirMeaning, HalvesAreDeclarable, TreesAreMarked};
