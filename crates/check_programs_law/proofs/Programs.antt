@@ -74,7 +74,7 @@ marks_defined (function f ∷ items) m n = go (bytes_eq f.declarator.name.bytes 
 
 -- ---- the walk
 
-begun : (items : List ItemTree) → SoundProgress (function_marks items) items at_start
+pub begun : (items : List ItemTree) → SoundProgress (function_marks items) items at_start
 begun items = record {
   tables = record {
     structs = tt;
@@ -96,7 +96,7 @@ begun items = record {
   start = λ h. cc;
 }
 
-item_step : Laws → (marks : List ℕ → FunctionMarks) (item : ItemTree) (rest : List ItemTree) (st : Progress) → SoundProgress marks (item ∷ rest) st → IsTrue (item_sound item)
+pub item_step : Laws → (marks : List ℕ → FunctionMarks) (item : ItemTree) (rest : List ItemTree) (st : Progress) → SoundProgress marks (item ∷ rest) st → IsTrue (item_sound item)
     → (checked_item (marks (function_name item)) st item).faults ≡ [] → SoundProgress marks rest (checked_item (marks (function_name item)) st item).progress
 item_step laws marks (declares d) rest st s constants none = declaration_step laws.specifiers laws.objects laws.sizes laws.leaves marks rest st d s none
 item_step laws marks (function f) rest st s constants none =

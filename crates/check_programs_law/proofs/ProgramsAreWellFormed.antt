@@ -10,7 +10,7 @@ use Rattle.check_statements_law.specs.Laws.{BodiesAreSound}
 use Rattle.check_statements_law.proofs.Bodies.{blocks_kept, bodies_sound}
 use Rattle.check_sizes_law.proofs.ProgramSizes.{typed_trees_are_small}
 use Rattle.check_programs_law.specs.Laws.{ProgramsAreWellFormed}
-use Rattle.check_programs_law.proofs.Programs.{programs_well_formed}
+use Rattle.check_programs_law.proofs.Programs.{Laws, programs_well_formed}
 
 bodies_are_sound : BodiesAreSound
 bodies_are_sound = bodies_sound (record {
@@ -22,8 +22,9 @@ bodies_are_sound = bodies_sound (record {
   leaves = leaves_are_sound;
 })
 
-pub programs_are_well_formed : ProgramsAreWellFormed
-programs_are_well_formed = programs_well_formed (record {
+-- the laws of the parts
+pub laws : Laws
+laws = record {
   specifiers = specifiers_are_sound;
   objects = objects_are_sound;
   results = results_are_sound;
@@ -33,4 +34,7 @@ programs_are_well_formed = programs_well_formed (record {
   bodies = bodies_are_sound;
   kept = blocks_kept;
   small = typed_trees_are_small;
-})
+}
+
+pub programs_are_well_formed : ProgramsAreWellFormed
+programs_are_well_formed = programs_well_formed laws

@@ -12,7 +12,7 @@ use Rattle.pt_core.specs.WellFormed.{are_in_order, global_fits, are_small, signa
 use Rattle.pt_core.specs.WellFormedStatement.{stmts_fit}
 use Rattle.half_meaning_law.specs.CForms.{are_said}
 use Rattle.half_meaning_law.specs.Relations.{is_pointer}
-use Rattle.half_names_law.specs.Declarable.{Declarable, signature_marked, function_marked, variable_marked, parameters_marked}
+use Rattle.half_names_law.specs.Declarable.{Declarable, signature_marked, function_marked, parameters_marked}
 use Rattle.half_names_law.specs.Standing.{Marks, all_said}
 use Rattle.half_names_law.proofs.TextNames.{locals_differ}
 use Rattle.half_names_law.proofs.Objects.{both_hold}
@@ -100,8 +100,7 @@ function_fit marks monitor p n f s h d said say there named =
     let vars = both_hold (list_all (variable_fits p.structs) f.vars) (stmts_fit (scope_of monitor p f s) false f.body) first.1 in
     let own = all_there (λ x. signature_fits p.structs x.1) p.signatures place.place (f.id, s) sound.signatures place.there in
     let few = at_most (length s.params) (both_hold (nat_le (length s.params) 8) _ (both_hold _ _ own).0).0 in
-    let marked = both_hold (list_all variable_marked f.vars) (parameters_marked (take f.params f.vars) (signature_at p f.id)) (all_there (function_marked p) p.functions n f d.function_marks there) in
-    let plain = ap (parameters_marked (take f.params f.vars)) (sym named) ∙ marked.1 in
+    let plain = ap (parameters_marked (take f.params f.vars)) (sym named) ∙ all_there (function_marked p) p.functions n f d.function_marks there in
     let found = function_there 0 p.functions n f sound.order.1 there in
     let long = enough monitor f s lead.0 lead.1 in
     let signature_marks = all_there (λ x. signature_marked x.1) p.signatures place.place (f.id, s) d.signature_marks place.there in
@@ -111,9 +110,9 @@ function_fit marks monitor p n f s h d said say there named =
       found = found;
       declassify = λ e. same ∙ implied s.declassify s.privileged (both_hold (not s.declassify || s.privileged) _ signature_marks).0 e;
       parameters = definition_params (marks (text_name (f.id, s))) (half_structs p) p.structs s (take f.params s.params) f.params f.vars (length-take-le f.params s.params (own_long monitor f.params (length s.params) lead.0)) whole same
-          (say.bodies place.place (f.id, s) place.there (ap is_some found)) lead.1 vars.0 marked.0 plain;
+          (say.bodies place.place (f.id, s) place.there (ap is_some found)) lead.1 vars.0 plain;
       few = few_params monitor f s lead.0 few;
-      locals = locals_fit (half_structs p) p.structs (drop f.params f.vars) whole (dropped_all (variable_fits p.structs) f.params f.vars vars.0) (dropped_all variable_marked f.params f.vars marked.0);
+      locals = locals_fit (half_structs p) p.structs (drop f.params f.vars) whole (dropped_all (variable_fits p.structs) f.params f.vars vars.0);
       enough = long;
       small = at_most_64 (length f.vars) (all_there (λ g. nat_le (length g.vars) (2 ^ 64)) p.functions n f d.variables there);
       types = own_types monitor f s head.0 lead.0 lead.1;

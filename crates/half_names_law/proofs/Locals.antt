@@ -1,6 +1,6 @@
 -- What the declarations of a function's variables in a half's text add, behind its parameters.
 use Rattle.std.proofs.Common.{◌≡◌, ◌^◌, ◌++◌, ◌∙◌, ◌≤◌, ◌+◌, sym, ap, refl, ℕ, suc, Bool, true, false, List, [], ◌∷◌, length, arith}
-use Rattle.std.specs.Prelude.{not, if◌then◌else◌}
+use Rattle.std.specs.Prelude.{not, ◌&&◌, if◌then◌else◌}
 use Rattle.std.proofs.lemmas.List.{append_assoc, length-append}
 use Rattle.pt_tree.specs.StatementTree as s
 use Rattle.pt_tree.specs.StatementTree.{DeclarationTree, StmtTree, no_init, stmt_trees}
@@ -32,20 +32,23 @@ use Rattle.check_statements.specs.Outermost.{State}
 use Rattle.check_statements.specs.Statements.{Checked, CheckedAll, checked, checked_all}
 use Rattle.half_trees.specs.Names.{nowhere, local_name}
 use Rattle.half_trees.specs.Declarations.{is_pointer, suffix_of, object}
-use Rattle.half_trees.specs.Functions.{variable_marks, locals_from}
+use Rattle.half_trees.specs.Functions.{is_only_unpriv, variable_marks, locals_from}
 use Rattle.half_meaning_law.specs.Known.{type_as}
 use Rattle.half_names_law.proofs.Tables.{Differ, listed, listed_more}
 use Rattle.half_names_law.proofs.Specifiers.{marks_list, object_says, marks_are, marks_stand}
 use Rattle.half_names_law.proofs.Objects.{may_be, Fits, declares, given_as, sized}
 use Rattle.half_names_law.proofs.Parameters.{local_entry, local_new, scoped}
 
+pub only_unmarked : (a b : Bool) → (a && not b) ≡ true → not b ≡ true
+only_unmarked true b h = h
+only_unmarked false b h = cc
+
 -- a variable as the judgments have it
 abbrev pub local_as : ℕ → Var → Variable
-local_as k x = record { name = local_name k; span = nowhere; ty = type_as x.ty; fixed = false; marked = x.marked; unpriv = x.unpriv }
+local_as k x = record { name = local_name k; span = nowhere; ty = type_as x.ty; fixed = false; marked = x.marked; unpriv = is_only_unpriv x }
 
 pub record LocalFits (structs : Structs) (infos : List StructInfo) (x : Var) : Type 0 where
   pub fits : Fits structs infos x.ty
-  pub unmarked : x.unpriv ≡ true → not x.marked ≡ true
 
 abbrev pub LocalsFit : Structs → List StructInfo → List Var → Type 0
 LocalsFit structs infos [] = Unit {0}
@@ -94,12 +97,12 @@ pub local_added : (c : k.Context) (env : Env) (names : Scope) (variables : List 
       faults = [];
     }
 local_added c env names variables structs infos next n x fits long new =
-    let attributes = marks_list x.marked x.unpriv false in
+    let attributes = marks_list x.marked (is_only_unpriv x) false in
     let d = declares kind.Local x.ty attributes (local_may x.ty) fits.fits.dense in
-    ap (λ j. by_declaring (by_specs (record { env = scoped env names variables; structs = structs; next = next }) (local_tree infos n x) j)) (object_says false structs infos x.marked x.unpriv false x.ty fits.fits.named)
-    ∙ (λ i. by_parts env names variables structs next n (long i) (d.typed i) (d.changes i) (marks_are x.marked x.unpriv false i) (new i) (d.fine i)
+    ap (λ j. by_declaring (by_specs (record { env = scoped env names variables; structs = structs; next = next }) (local_tree infos n x) j)) (object_says false structs infos x.marked (is_only_unpriv x) false x.ty fits.fits.named)
+    ∙ (λ i. by_parts env names variables structs next n (long i) (d.typed i) (d.changes i) (marks_are x.marked (is_only_unpriv x) false i) (new i) (d.fine i)
     (sized structs (object_type kind.Local (given_as x.ty attributes) (is_pointer x.ty) (suffix_of x.ty)) x.ty d.typed fits.fits.small i)
-    (marks_stand carrier.Object x.marked x.unpriv false (λ e. refl) fits.unmarked (λ e. cc) i))
+    (marks_stand carrier.Object x.marked (is_only_unpriv x) false (λ e. refl) (only_unmarked x.unpriv x.marked) (λ e. cc) i))
 
 -- ---- all of them
 

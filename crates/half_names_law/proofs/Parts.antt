@@ -24,7 +24,7 @@ use Rattle.pt_core.specs.CodeTree.{FunctionTree, ProgramTree}
 use Rattle.pt_core.specs.WellFormed.{signature_at, with_own, counts_fit}
 use Rattle.half_trees.specs.Names.{nowhere, local_name, function_by}
 use Rattle.half_trees.specs.Declarations.{parameters_or_void, function_declarator}
-use Rattle.half_trees.specs.Functions.{parameters_from, locals_from, head_specs, body_tree}
+use Rattle.half_trees.specs.Functions.{is_only_unpriv, parameters_from, locals_from, head_specs, body_tree}
 use Rattle.half_meaning_law.specs.Known.{type_as, object_as}
 use Rattle.half_meaning_law.proofs.Types.{equal_types}
 use Rattle.half_names_law.specs.Standing.{definition}
@@ -41,7 +41,7 @@ use Rattle.half_names_law.proofs.Known.{local_names, AreVariables}
 -- ---- the definition
 
 abbrev pub marked_var : Var → Marked
-marked_var x = record { ty = x.ty; marked = x.marked; unpriv = x.unpriv; declassify = false }
+marked_var x = record { ty = x.ty; marked = x.marked; unpriv = is_only_unpriv x; declassify = false }
 
 -- the parameters of a function, and the variables behind them
 abbrev pub parameters_in : FunctionTree → List Marked

@@ -37,7 +37,7 @@ use Rattle.half_names_law.proofs.Sizes.{object_few}
 use Rattle.half_names_law.proofs.Table.{IsTable, NamesDiffer, plain_fits, plain_is_none, named_elem}
 use Rattle.half_names_law.proofs.Parameters.{ParameterFits, ParametersFit}
 use Rattle.half_names_law.proofs.Prototypes.{marked_param}
-use Rattle.half_names_law.proofs.Locals.{LocalsFit}
+use Rattle.half_names_law.proofs.Locals.{LocalsFit, only_unmarked}
 use Rattle.half_names_law.proofs.Integers.{cells_same, numbers_there, cells_there, cells_exact}
 use Rattle.half_names_law.proofs.Walk.{SignatureFits, GlobalsFit}
 use Rattle.half_names_law.proofs.Names.{text_name}
@@ -231,13 +231,12 @@ globals_fit p structs (g ∷ gs) whole fits stands =
 
 -- ---- variables of functions
 
-pub locals_fit : (structs : Structs) (infos : List StructInfo) (xs : List Var) → Whole structs infos → list_all (variable_fits infos) xs ≡ true → list_all variable_marked xs ≡ true → LocalsFit structs infos xs
-locals_fit structs infos [] whole fits stands = tt {0}
-locals_fit structs infos (x ∷ xs) whole fits stands =
+pub locals_fit : (structs : Structs) (infos : List StructInfo) (xs : List Var) → Whole structs infos → list_all (variable_fits infos) xs ≡ true → LocalsFit structs infos xs
+locals_fit structs infos [] whole fits = tt {0}
+locals_fit structs infos (x ∷ xs) whole fits =
     let parts = both_hold (variable_fits infos x) (list_all (variable_fits infos) xs) fits in
-    let marks = both_hold (variable_marked x) (list_all variable_marked xs) stands in
     let typed = both_hold (is_variable_type (length infos) x.ty) (is_small infos x.ty) parts.0 in
-    (record { fits = variable_fit structs infos x.ty whole typed.0 typed.1; unmarked = not_both x.marked x.unpriv marks.0 }, locals_fit structs infos xs whole parts.1 marks.1)
+    (record { fits = variable_fit structs infos x.ty whole typed.0 typed.1 }, locals_fit structs infos xs whole parts.1)
 
 param_may : (x : ParamKind) → may_be kind.Parameter (param_type x) ≡ true
 param_may (k.Int t) = refl
@@ -245,20 +244,24 @@ param_may (k.Ptr el fixed) = refl
 
 -- a parameter of a definition
 definition_param : (m : FunctionMarks) (structs : Structs) (infos : List StructInfo) (s : Signature) (y : Param) (x : Var) → Whole structs infos → m.privileged ≡ s.privileged → m.defined ≡ true → param_type y.kind ≡ x.ty
-    → variable_fits infos x ≡ true → variable_marked x ≡ true → (not s.privileged || not x.unpriv) ≡ true → ParameterFits m structs infos (marked_var x)
-definition_param m structs infos s y x whole same defined is fits stands plain =
+    → variable_fits infos x ≡ true → (not s.privileged || not x.unpriv) ≡ true → ParameterFits m structs infos (marked_var x)
+definition_param m structs infos s y x whole same defined is fits plain =
     let typed = both_hold (is_variable_type (length infos) x.ty) (is_small infos x.ty) fits in
     record {
       fits = variable_fit structs infos x.ty whole typed.0 typed.1;
       may = subst (λ u. may_be kind.Parameter u ≡ true) is (param_may y.kind);
       hosts = (λ i. not (defined i) && (is_pointer x.ty || false));
       unpriv = λ e.
-          let unmarked = not_both x.marked x.unpriv stands e in
-          let other = not_private s.privileged x.unpriv plain e in
+          let unmarked = only_unmarked x.unpriv x.marked e in
+          let other = not_private s.privileged x.unpriv plain (first_so x.unpriv (not x.marked) e) in
           (λ i. not (x.marked || ((same ∙ other) i || not (defined i)))) ∙ (λ i. not (not_true x.marked unmarked i || false));
       declassify = λ e. cc;
     }
   where
+    first_so : (a b : Bool) → (a && b) ≡ true → a ≡ true
+    first_so true b h = refl
+    first_so false b h = cc
+
     not_private : (a b : Bool) → (not a || not b) ≡ true → b ≡ true → a ≡ false
     not_private true true h e = cc
     not_private true false h e = cc
@@ -269,17 +272,16 @@ definition_param m structs infos s y x whole same defined is fits stands plain =
     not_true false h = refl
 
 pub definition_params : (m : FunctionMarks) (structs : Structs) (infos : List StructInfo) (s : Signature) (ps : List Param) (n : ℕ) (xs : List Var) → length ps ≡ n → Whole structs infos → m.privileged ≡ s.privileged → m.defined ≡ true
-    → params_lead ps xs ≡ true → list_all (variable_fits infos) xs ≡ true → list_all variable_marked xs ≡ true → (not s.privileged || not (list_any (λ x. x.unpriv) (take n xs))) ≡ true → ParametersFit m structs infos (map marked_var (take n xs))
-definition_params m structs infos s ps zero xs long whole same defined lead fits stands plain = tt {0}
-definition_params m structs infos s [] (suc n) xs long whole same defined lead fits stands plain = absurd (omega (arith, long))
-definition_params m structs infos s (y ∷ ps) (suc n) [] long whole same defined lead fits stands plain = tt {0}
-definition_params m structs infos s (y ∷ ps) (suc n) (x ∷ xs) long whole same defined lead fits stands plain =
+    → params_lead ps xs ≡ true → list_all (variable_fits infos) xs ≡ true → (not s.privileged || not (list_any (λ x. x.unpriv) (take n xs))) ≡ true → ParametersFit m structs infos (map marked_var (take n xs))
+definition_params m structs infos s ps zero xs long whole same defined lead fits plain = tt {0}
+definition_params m structs infos s [] (suc n) xs long whole same defined lead fits plain = absurd (omega (arith, long))
+definition_params m structs infos s (y ∷ ps) (suc n) [] long whole same defined lead fits plain = tt {0}
+definition_params m structs infos s (y ∷ ps) (suc n) (x ∷ xs) long whole same defined lead fits plain =
     let leads = both_hold (same_type (param_type y.kind) x.ty && same_bool y.marked x.marked) (params_lead ps xs) lead in
     let is = equal_types (param_type y.kind) x.ty (both_hold (same_type (param_type y.kind) x.ty) (same_bool y.marked x.marked) leads.0).0 in
-    let parts = both_hold (variable_fits infos x) (list_all (variable_fits infos) xs) fits in
-    let marks = both_hold (variable_marked x) (list_all variable_marked xs) stands in (
-      definition_param m structs infos s y x whole same defined is parts.0 marks.0 (first_plain s.privileged x.unpriv (list_any (λ z. z.unpriv) (take n xs)) plain),
-      definition_params m structs infos s ps n xs (omega (arith, long)) whole same defined leads.1 parts.1 marks.1 (rest_plain s.privileged x.unpriv (list_any (λ z. z.unpriv) (take n xs)) plain),
+    let parts = both_hold (variable_fits infos x) (list_all (variable_fits infos) xs) fits in (
+      definition_param m structs infos s y x whole same defined is parts.0 (first_plain s.privileged x.unpriv (list_any (λ z. z.unpriv) (take n xs)) plain),
+      definition_params m structs infos s ps n xs (omega (arith, long)) whole same defined leads.1 parts.1 (rest_plain s.privileged x.unpriv (list_any (λ z. z.unpriv) (take n xs)) plain),
     )
   where
     first_plain : (a b c : Bool) → (not a || not (b || c)) ≡ true → (not a || not b) ≡ true

@@ -42,7 +42,7 @@ param_marked s x = not x.declassify || (s.privileged && is_mutable x.kind)
 abbrev pub signature_marked : Signature → Bool
 signature_marked s = (not s.declassify || s.privileged) && list_all (param_marked s) s.params
 
--- `priv` and `unpriv` do not stand together
+-- a global isn't marked both `priv` and `unpriv`
 abbrev pub variable_marked : Var → Bool
 variable_marked x = not (x.marked && x.unpriv)
 
@@ -52,7 +52,7 @@ parameters_marked vars None = true
 parameters_marked vars (Some s) = not s.privileged || not (list_any (λ x. x.unpriv) vars)
 
 abbrev pub function_marked : ProgramTree → FunctionTree → Bool
-function_marked p f = list_all variable_marked f.vars && parameters_marked (take f.params f.vars) (signature_at p f.id)
+function_marked p f = parameters_marked (take f.params f.vars) (signature_at p f.id)
 
 abbrev pub global_marked : GlobalTree → Bool
 global_marked g = variable_marked g.var

@@ -1,5 +1,5 @@
 -- The C trees of functions with bodies.
-use Rattle.std.specs.Prelude.{ℕ, suc, List, [], ◌∷◌, ◌++◌, Option, None, Some, false, take, drop, nat_eq}
+use Rattle.std.specs.Prelude.{ℕ, suc, List, [], ◌∷◌, ◌++◌, Option, None, Some, Bool, false, not, ◌&&◌, take, drop, nat_eq}
 use Rattle.std.specs.Map.{lookup}
 use Rattle.pt_tree.specs.declared.signature.Signature.{Signature}
 use Rattle.pt_tree.specs.SpecifierTree.{SpecTree, spec_trees}
@@ -13,8 +13,13 @@ use Rattle.half_trees.specs.Names.{nowhere, local_name, function_by}
 use Rattle.half_trees.specs.Declarations.{mark_specs, result_specs, object, parameter, parameters_or_void, function_specs, function_declarator}
 use Rattle.half_trees.specs.Statements.{statements_trees}
 
+-- A parameter may be marked both `priv` and `unpriv`, each by another declaration of its function. One declaration
+-- can't say both, and `priv` is the one that tells something.
+abbrev pub is_only_unpriv : Var → Bool
+is_only_unpriv x = x.unpriv && not x.marked
+
 abbrev pub variable_marks : Var → List SpecTree
-variable_marks x = mark_specs x.marked x.unpriv false
+variable_marks x = mark_specs x.marked (is_only_unpriv x) false
 
 -- the variables from this number on, as parameters
 abbrev pub parameters_from : List StructInfo → ℕ → List Var → List ParamTree

@@ -20,13 +20,13 @@ use pt_tree::{Block, Function, Item, ParamDecl, Signature, Spec, Stmt};
 use std::alloc::{AllocError, Global};
 use typed_tree::{StructInfo, Var};
 
-// How a variable is marked.
+// How a variable is marked: not both `priv` and `unpriv`.
 fn variable_marks(var: &Var) -> Marks
-    ensures { result ≡ record { private = var.now.marked; unpriv = var.now.unpriv; declassify = false } }
+    ensures { result ≡ record { private = var.now.marked; unpriv = functions.is_only_unpriv var.now; declassify = false } }
 {
     Marks {
         private: var.marked,
-        unpriv: var.unpriv,
+        unpriv: var.unpriv && !var.marked,
         declassify: false,
     }
 }

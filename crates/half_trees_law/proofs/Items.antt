@@ -27,7 +27,7 @@ use Rattle.pt_core.specs.WellFormedStatement.{stmts_fit}
 use Rattle.c_printer.specs.Plain.{is_name, spec_plain, suffix_plain, declarator_plain, fields_plain, field_plain, expr_plain, exprs_plain, has_exprs, init_plain, declaration_plain, stmt_plain, param_plain, item_plain}
 use Rattle.half_trees.specs.Names.{local_name, global_name, field_by}
 use Rattle.half_trees.specs.Declarations.{mark_specs, suffix_of, declarator_of, object, field_tree, fields_from, struct_item, parameter, parameters_or_void, declared_from, prototype_item, large, cell_tree, cells_init, integer_init, initial, global_item}
-use Rattle.half_trees.specs.Functions.{variable_marks, parameters_from, locals_from, function_item}
+use Rattle.half_trees.specs.Functions.{is_only_unpriv, variable_marks, parameters_from, locals_from, function_item}
 use Rattle.half_trees.specs.Statements.{statements_trees}
 use Rattle.half_trees_law.proofs.Tests.{both, all_joined, all_mapped_where, all_dropped}
 use Rattle.half_trees_law.proofs.Names.{local_is_name, global_is_name, function_by_is_name, struct_is_name, field_by_is_name}
@@ -134,13 +134,13 @@ global_plain structs sound g h =
 
 parameters_plain : (structs : List StructInfo) (n : ℕ) (xs : List Var) → list_all param_plain (parameters_from structs n xs) ≡ true
 parameters_plain structs n [] = refl
-parameters_plain structs n (x ∷ xs) = both (parameter_plain structs (variable_marks x) x.ty n (marks_plain x.marked x.unpriv false)) (parameters_plain structs (suc n) xs)
+parameters_plain structs n (x ∷ xs) = both (parameter_plain structs (variable_marks x) x.ty n (marks_plain x.marked (is_only_unpriv x) false)) (parameters_plain structs (suc n) xs)
 
 locals_plain : (structs : List StructInfo) (n : ℕ) (xs : List Var) → list_all (λ x. is_counted x.ty) xs ≡ true → list_all stmt_plain (locals_from structs n xs) ≡ true
 locals_plain structs n [] h = refl
 locals_plain structs n (x ∷ xs) h =
     let parts = and_parts (is_counted x.ty) (list_all (λ (y : Var). is_counted y.ty) xs) h in
-    both (object_plain structs (variable_marks x) x.ty (local_name n) no_init (marks_plain x.marked x.unpriv false) parts.0 (local_is_name n) refl) (locals_plain structs (suc n) xs parts.1)
+    both (object_plain structs (variable_marks x) x.ty (local_name n) no_init (marks_plain x.marked (is_only_unpriv x) false) parts.0 (local_is_name n) refl) (locals_plain structs (suc n) xs parts.1)
 
 variables_counted : (structs : List StructInfo) → IsTrue (structs_sound structs 0 structs) → (xs : List Var) → IsTrue (list_all (variable_fits structs) xs) → list_all (λ x. is_counted x.ty) xs ≡ true
 variables_counted structs sound [] h = refl

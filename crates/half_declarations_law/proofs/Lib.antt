@@ -1,0 +1,10 @@
+mod Names
+mod Halves
+mod Stands
+mod Tags
+mod Unions
+mod Parameters
+mod Functions
+mod Programs
+mod Accepted
+mod TreesAreMarked
