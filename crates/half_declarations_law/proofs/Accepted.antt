@@ -26,9 +26,10 @@ halves_declarable trees programs items a few constants none written =
     let code = functions_from t 0 t.functions in
     let h : Halves = halves_of a.sides in
     let marked = trees items constants none in
-    let well = programs items few constants none in
-    (part_declarable t (is_among (asked h code ++ h.slave)) (is_among h.slave) (is_among h.owned) well written marked,
-    part_declarable t (is_among (called_by (monitor_code h code) ++ h.monitor ++ entry_numbers (monitor_entries t h code))) (is_among h.monitor) (λ n. not (is_among h.owned n)) well written marked)
+    let well = programs items few constants none in (
+      part_declarable t (is_among (asked h code ++ h.slave)) (is_among h.slave) (is_among h.owned) well written marked,
+      part_declarable t (is_among (called_by (monitor_code h code) ++ h.monitor ++ entry_numbers (monitor_entries t h code))) (is_among h.monitor) (λ n. not (is_among h.owned n)) well written marked,
+    )
 
 slave_sound : (s : SlaveTree) → IsTrue (is_well_formed_slave s) → IsTrue (is_sound false (slave_program s))
 unfolding is_well_formed_slave is_well_formed
@@ -55,6 +56,7 @@ accepted_halves_mean trees programs slaves monitors apart said means items a few
     let both = said items a well is in
     let can = halves_declarable trees programs items a few constants none written in
     let slave = slave_sound (slave_of t h code) (slaves t h well halves.0) in
-    let monitor = monitor_sound (monitor_of t h code) (monitors t h well halves.0 halves.1) in
-    ((λ count n f s at there. means false (slave_half t a) n f s slave (can.0 count) (said_all false (slave_half t a) both.0) at there),
-    (λ count n f s at there. means true (monitor_half t a) n f s monitor (can.1 count) (said_all true (monitor_half t a) both.1) at there))
+    let monitor = monitor_sound (monitor_of t h code) (monitors t h well halves.0 halves.1) in (
+      (λ count n f s at there. means false (slave_half t a) n f s slave (can.0 count) (said_all false (slave_half t a) both.0) at there),
+      (λ count n f s at there. means true (monitor_half t a) n f s monitor (can.1 count) (said_all true (monitor_half t a) both.1) at there),
+    )

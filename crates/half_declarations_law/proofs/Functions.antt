@@ -115,8 +115,8 @@ head_marked own st f n variables none types =
       unpriv = params_unpriv own (is_some f.body) (opened st.env) j.structs (parameters_of f.params) (λ i x h. let none = ap (λ xs. slice_get xs i) variables in cc);
       declassify = function_declassified own.privileged j.given.attributes none_marks;
       params_are = λ i m h.
-      let at : length st.env.variables + i ≡ i = let e = ap length variables in omega (arith, e) in
-      subst (λ k. May own.privileged (MutableVariable ps.env.variables k) m) at (params_may own (is_some f.body) n (opened st.env) j.structs (parameters_of f.params) none_ps types i m h);
+          let at : length st.env.variables + i ≡ i = let e = ap length variables in omega (arith, e) in
+          subst (λ k. May own.privileged (MutableVariable ps.env.variables k) m) at (params_may own (is_some f.body) n (opened st.env) j.structs (parameters_of f.params) none_ps types i m h);
     }
 
 -- ---- a function whose scope is open
@@ -145,8 +145,8 @@ good_declaration : (own : FunctionMarks) (st : Progress) (f : parsed.FunctionTre
 good_declaration own st f h params types m takes are = record {
   own = m.declassify;
   params_may = written_may own.privileged (MutableAt params) f.params (λ j z i.
-  let may = m.params_are j z i in
-  record { declassify = λ d. let both = may.declassify d in (both.0, params_mutable params types h.env.variables takes are j both.1); unpriv = may.unpriv });
+      let may = m.params_are j z i in
+      record { declassify = λ d. let both = may.declassify d in (both.0, params_mutable params types h.env.variables takes are j both.1); unpriv = may.unpriv });
 }
 
 params_declassified : (ms : List Marks) (n : ℕ) (xs : List «Type») (j : ℕ) (q : Param) → slice_get (params_of ms n xs) j ≡ Some q → q.declassify ≡ (marks_at ms (n + j)).declassify
@@ -188,8 +188,8 @@ module _ (bodies : BodiesAreSound) (keep : BlocksAreKept) (marks : List ℕ → 
     declassify = ap (λ m. m.declassify) (sym own_is);
     params_declassify = λ j q h. params_declassified own.params 0 c.params j q h ∙ ap (λ i. (marks_at own.params i).declassify) (let e : 0 + j ≡ j = omega arith in e) ∙ ap (λ m. (marks_at m.params j).declassify) (sym own_is);
     params_unpriv = λ j x less h.
-    let one = get_unmapped var_of st.env.variables j x h in
-    ap (λ (z : Var). z.unpriv) one.2 ∙ placed j one.0 one.1 ∙ ap (λ m. (marks_at m.params j).unpriv) (sym own_is);
+        let one = get_unmapped var_of st.env.variables j x h in
+        ap (λ (z : Var). z.unpriv) one.2 ∙ placed j one.0 one.1 ∙ ap (λ m. (marks_at m.params j).unpriv) (sym own_is);
   }
 
   stage : (o : Option Meaning) → sought st.env.file c.name ≡ o → clashes st c (is_some f.body) o ≡ false
@@ -262,14 +262,14 @@ module _ (bodies : BodiesAreSound) (keep : BlocksAreKept) (marks : List ℕ → 
         declassify = e.declassify;
         params_declassify = e.params_declassify;
         params_unpriv = λ j x less h.
-        first_unpriv own st'.env.variables kept.new placed' j x (let i : j < length o.entry.signature.params = less in omega (arith, i, count)) (ap (λ xs. slice_get (map var_of xs) j) (sym kept.variables) ∙ h)
-        ∙ ap (λ m. (marks_at m.params j).unpriv) (sym own_marks');
+            first_unpriv own st'.env.variables kept.new placed' j x (let i : j < length o.entry.signature.params = less in omega (arith, i, count)) (ap (λ xs. slice_get (map var_of xs) j) (sym kept.variables) ∙ h)
+            ∙ ap (λ m. (marks_at m.params j).unpriv) (sym own_marks');
       } in
       record {
         kept = λ j x h. ap (λ ss. slice_get ss j) same ∙ s.kept j x h;
         entries = λ before j e h.
-        let now = s.entries before in
-        elim (get_set st'.functions k j given e (ap (λ fs. slice_get fs j) (sym set) ∙ h)) [ inl i ↦ now j e i.is | inr i ↦ subst (λ z. EntryMarked marks z) (sym i.is) (given_marked (now k o.entry o.is)) ];
+            let now = s.entries before in
+            elim (get_set st'.functions k j given e (ap (λ fs. slice_get fs j) (sym set) ∙ h)) [ inl i ↦ now j e i.is | inr i ↦ subst (λ z. EntryMarked marks z) (sym i.is) (given_marked (now k o.entry o.is)) ];
         structs = body.structs ∙ s.structs;
         globals = s.globals;
         signature = o.called.signature;
@@ -283,9 +283,11 @@ module _ (bodies : BodiesAreSound) (keep : BlocksAreKept) (marks : List ℕ → 
       → (k : ℕ) × Ended (with_definition (declared_as own st c at (function_in o)) (number_in st (function_in o)) c.result at f.body).progress k
   by_meaning o is none =
       let own_faults = fault_if (clashes st c (is_some f.body) o) Redeclared at in
-      let others = (with_definition (declared_as own st c at (function_in o)) (number_in st (function_in o)) c.result at f.body).faults in
-      (number_in st (function_in o), ended (declared_as own st c at (function_in o)) (number_in st (function_in o))
-      (stage o is (no_fault (clashes st c (is_some f.body) o) Redeclared at (none_left own_faults others none))) f.body refl (none_right own_faults others none))
+      let others = (with_definition (declared_as own st c at (function_in o)) (number_in st (function_in o)) c.result at f.body).faults in (
+        number_in st (function_in o),
+        ended (declared_as own st c at (function_in o)) (number_in st (function_in o))
+            (stage o is (no_fault (clashes st c (is_some f.body) o) Redeclared at (none_left own_faults others none))) f.body refl (none_right own_faults others none),
+      )
 
   pub completed_ends : (completed own st c f).faults ≡ [] → (k : ℕ) × Ended (completed own st c f).progress k
   unfolding completed

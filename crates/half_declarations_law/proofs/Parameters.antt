@@ -91,8 +91,8 @@ one_may own defines n k p given repeated same none good =
     let right : IsTrue (is_parameter n (object_type kind.Parameter given p.pointer p.suffix)) = subst (λ x. IsTrue (is_parameter n x)) is good in
     subst (λ as'. May own.privileged (is_mutable_type (param_variable own defines k p given).ty ≡ true) (marks_of as')) same (record {
       declassify = λ h.
-      let both = parameter_declassified own.privileged (not own.defined) (is_mutable_pointer given p.pointer p.suffix) given.attributes marks h in
-      (both.0, ap is_mutable_type is ∙ mutable n given p.pointer p.suffix both.1 right);
+          let both = parameter_declassified own.privileged (not own.defined) (is_mutable_pointer given p.pointer p.suffix) given.attributes marks h in
+          (both.0, ap is_mutable_type is ∙ mutable n given p.pointer p.suffix both.1 right);
       unpriv = λ h. parameter_unprivileged own.privileged (not own.defined) (is_mutable_pointer given p.pointer p.suffix) given.attributes marks h;
     })
 
@@ -124,8 +124,8 @@ params_may own defines n env structs (p ∷ ps) none good zero m h =
     let zero_on : k + 0 ≡ k = omega arith in
     subst (λ z. May own.privileged (MutableVariable rest.env.variables (k + 0)) z) is (record {
       declassify = λ i.
-      let both = may.declassify i in
-      (both.0, λ v at. let same : x ≡ v = one_value there (ap (slice_get rest.env.variables) (sym zero_on) ∙ at) in subst (λ (z : Variable). is_mutable_type z.ty ≡ true) same both.1);
+          let both = may.declassify i in
+          (both.0, λ v at. let same : x ≡ v = one_value there (ap (slice_get rest.env.variables) (sym zero_on) ∙ at) in subst (λ (z : Variable). is_mutable_type z.ty ≡ true) same both.1);
       unpriv = may.unpriv;
     })
   where

@@ -159,8 +159,8 @@ all_through laws marks (item ∷ items) st s constants none =
         walked = λ w. rest.progressed.walked (step.walked w);
         kept = λ k x h. rest.progressed.kept k x (step.kept k x h);
         declared = λ name. first_and_rest marks more.progress.functions name item items
-        (declared_kept marks one.progress.functions more.progress.functions name (declarations_of (item ∷ []) name) rest.progressed.kept (step.declared name))
-        (rest.progressed.declared name);
+            (declared_kept marks one.progress.functions more.progress.functions name (declarations_of (item ∷ []) name) rest.progressed.kept (step.declared name))
+            (rest.progressed.declared name);
       };
       sound = rest.sound;
     }

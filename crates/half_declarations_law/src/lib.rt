@@ -8,7 +8,9 @@ ghost use Rattle.half_declarations_law.specs.Laws.{AcceptedHalvesKeepTheirMeanin
 use check_programs_law::programs_are_well_formed;
 use half_names_law::halves_keep_their_meaning;
 use said_halves_law::accepted_halves_are_said;
-use split_law::{accepted_programs_share_nothing, monitors_are_well_formed, slaves_are_well_formed};
+use split_law::{
+    accepted_programs_share_nothing, monitors_are_well_formed, slaves_are_well_formed,
+};
 
 /// In the tree of a program without a fault, what is declared apart has names apart, and all marks stand where they
 /// may.
