@@ -28,6 +28,13 @@ pub(crate) fn write(
     ensures layouts { layouts_of memory.new ≡ layouts_of memory.old }
     ensures no_more { HasNoMore (blocks_of memory.old) (blocks_of memory.new) }
 {
+    if let Cell::Int(v) = c {
+        if let Ok(w) = i64::try_from(v) {
+            if memory.put_word(at, w, false) {
+                return Ok(());
+            }
+        }
+    }
     memory.write(alloc, at, c)
 }
 
