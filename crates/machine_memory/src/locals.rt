@@ -43,6 +43,7 @@ impl MachineMemory {
     }
 
     // Adds frames without variables up to this depth.
+    #[inline]
     fn skip_to(&mut self, depth: usize) -> Result<(), AllocError>
         requires { live_count self.old ≤ depth }
         ensures blocks { blocks_of self.new ≡ blocks_of self.old }
