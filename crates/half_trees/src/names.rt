@@ -1,7 +1,6 @@
 // The names in a half's text.
 ghost use Rattle.std.specs.Prelude.{◌≡◌, ◌++◌, IfOk, None, Some};
 ghost use Rattle.std.specs.Fmt.{decimal};
-ghost use Rattle.std.specs.List.{list_all};
 ghost use Rattle.std.specs.Option.{option_copied};
 ghost use Rattle.typed_tree.specs.WellFormedExpression as typed;
 ghost use Rattle.half_trees.specs.Names as names;
@@ -41,26 +40,35 @@ fn is_between(low: u8, high: u8, b: u8) -> bool
     low <= b && b <= high
 }
 
+// Whether it is a letter or `_`.
+fn is_name_start(b: u8) -> bool
+    ensures { result ≡ names.is_name_start b }
+{
+    is_between(b'A', b'Z', b) || (is_between(b'a', b'z', b) || b == b'_')
+}
+
 // Whether it is a letter, a digit or `_`.
 fn is_name_byte(b: u8) -> bool
     ensures { result ≡ names.is_name_byte b }
 {
-    (is_between(b'0', b'9', b) || is_between(b'A', b'Z', b))
-        || (is_between(b'a', b'z', b) || b == b'_')
+    is_between(b'0', b'9', b) || is_name_start(b)
 }
 
-// Whether all bytes may stand in an identifier.
-fn is_made_of_name_bytes(name: &[u8]) -> bool
-    ensures { result ≡ list_all names.is_name_byte name.now }
+// Whether it is made of letters, digits and `_`, and first of them no digit.
+fn is_identifier(name: &[u8]) -> bool
+    ensures { result ≡ names.is_identifier name.now }
 {
-    name.iter().all(|b| is_name_byte(*b))
+    match name {
+        [] => false,
+        [first, rest @ ..] => is_name_start(*first) && rest.iter().all(|b| is_name_byte(*b)),
+    }
 }
 
-// A prefix and the name, or the number where the name may not stand there.
+// A prefix and the name, or the number where the name is no identifier.
 fn named_by(alloc: Global, prefix: &[u8], n: usize, name: &[u8]) -> Result<Vec<u8>, AllocError>
     ensures { IfOk result (λ v. v.items ≡ names.named prefix.now n (Some name.now)) }
 {
-    if !is_made_of_name_bytes(name) {
+    if !is_identifier(name) {
         return numbered(alloc, prefix, n);
     }
     let mut bytes = Vec::from_slice(alloc, prefix)?;
