@@ -1,6 +1,7 @@
 // The names in a half's text.
 ghost use Rattle.std.specs.Prelude.{◌≡◌, ◌++◌, IfOk, None, Some};
 ghost use Rattle.std.specs.Fmt.{decimal};
+ghost use Rattle.std.specs.List.{list_all};
 ghost use Rattle.std.specs.Option.{option_copied};
 ghost use Rattle.typed_tree.specs.WellFormedExpression as typed;
 ghost use Rattle.half_trees.specs.Names as names;
@@ -54,13 +55,20 @@ fn is_name_byte(b: u8) -> bool
     is_between(b'0', b'9', b) || is_name_start(b)
 }
 
-// Whether it is made of letters, digits and `_`, and first of them no digit.
+// Whether all are letters, digits and `_`.
+fn are_name_bytes(bytes: &[u8]) -> bool
+    ensures { result ≡ list_all names.is_name_byte bytes.now }
+{
+    bytes.iter().all(|b| is_name_byte(*b))
+}
+
+// Whether it is made of letters, digits and `_`, and begins with no digit.
 fn is_identifier(name: &[u8]) -> bool
     ensures { result ≡ names.is_identifier name.now }
 {
     match name {
         [] => false,
-        [first, rest @ ..] => is_name_start(*first) && rest.iter().all(|b| is_name_byte(*b)),
+        [first, rest @ ..] => is_name_start(*first) && are_name_bytes(rest),
     }
 }
 
