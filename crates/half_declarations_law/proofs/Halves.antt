@@ -1,10 +1,8 @@
 -- Both halves of a tree whose names differ and whose marks stand where they may can be declared.
-use Rattle.std.proofs.Common.{◌≡◌, ◌∙◌, ◌≤◌, ◌<◌, ◌^◌, sym, ap, subst, refl, ℕ, zero, suc, Bool, true, false, List, [], ◌∷◌, ◌++◌, map, arith, ◌+◌, cond, if◌then◌else◌, not, length, Option, Some, None, take}
-use Rattle.std.specs.Prelude.{IsTrue, ◌&&◌, ◌||◌, codes, slice_get, nat_eq, nat_le, nat_lt, option_map, sum_by}
-use Rattle.std.specs.Fmt.{decimal}
-use Rattle.std.specs.List.{list_all, list_any, filter, range_with_len}
+use Rattle.std.proofs.Common.{◌≡◌, ◌∙◌, ◌≤◌, ◌<◌, ◌^◌, sym, ap, subst, refl, ℕ, zero, suc, Bool, true, false, List, [], ◌∷◌, ◌++◌, map, arith, ◌+◌, cond, not, length, Option, Some, None, take}
+use Rattle.std.specs.Prelude.{IsTrue, ◌&&◌, ◌||◌, codes, slice_get, nat_eq, nat_lt, sum_by}
+use Rattle.std.specs.List.{list_all, list_any, filter}
 use Rattle.std.specs.Map.{lookup}
-use Rattle.std.specs.Str.{bytes_eq}
 use Rattle.std.proofs.lemmas.Bool.Decides.{nat_tests}
 use Rattle.std.proofs.lemmas.List.{length-map}
 use Rattle.std.proofs.lemmas.List.Sums.{sum_by-cons}
@@ -17,17 +15,15 @@ use Rattle.typed_tree.specs.StatementTree.{BodyTree}
 use Rattle.typed_tree.specs.TypedTree as t
 use Rattle.typed_tree.specs.TypedTree.{TypedTree, signatures_of}
 use Rattle.typed_tree.specs.Nodes.{nodes_of, function_nodes, expr_nodes}
-use Rattle.typed_tree.specs.WellFormed.{structs_sound, global_sound, globals_small, function_sound, is_start, names_sound, numbers_sound, are_distinct, name_of, is_well_formed}
-use Rattle.pt_base.specs.Names.{is_short}
+use Rattle.typed_tree.specs.WellFormed.{are_distinct, name_of, is_well_formed}
 use Rattle.typed_tree.proofs.WellFormedLemmas.{and_left, and_right, and_both, facts_of, functions_few}
-use Rattle.typed_tree.specs.WellFormedExpression.{is_main}
-use Rattle.pt_core.specs.CodeTree.{FunctionTree, GlobalTree, ProgramTree}
+use Rattle.pt_core.specs.CodeTree.{FunctionTree, ProgramTree}
 use Rattle.pt_core.specs.WellFormed.{signature_at}
 use Rattle.c_lower.specs.Lowered.{Temp}
 use Rattle.c_lower.specs.Functions.{variable_of, lowered_body, core_of, code_if, functions_from, signatures_from, globals_from}
 use Rattle.splitter.specs.Halves.{chosen_functions, chosen_signatures, chosen_globals}
 use Rattle.half_trees.specs.Names.{named, function_by}
-use Rattle.half_names_law.specs.Declarable.{Declarable, struct_names, field_names, function_names, signature_marked, variable_marked, parameters_marked, function_marked, global_marked}
+use Rattle.half_names_law.specs.Declarable.{Declarable, struct_names, field_names, signature_marked, variable_marked, parameters_marked, global_marked}
 use Rattle.half_declarations_law.specs.Trees.{parameters_plain, Marked, variables_few}
 use Rattle.half_declarations_law.proofs.Names.{made_from, made_distinct, chosen_distinct, by_place}
 use Rattle.half_declarations_law.proofs.TextNames.{struct_apart, field_apart, called_as, called_apart}
@@ -57,7 +53,7 @@ at_none xs j = let e : j + 0 ≡ j = omega arith in ap (slice_get xs) e
 
 -- numbers from 0 on are below 2 ^ 64
 small : {X : Type 0} (name : X → List ℕ) (xs : List X) → length xs < 2 ^ 28 → 0 + length (map name xs) ≤ 2 ^ 64
-small name xs few = omega (arith, few, length-map name xs)
+small name xs few = omega (arith, few, length-map xs name)
 
 -- ---- names
 

@@ -1,7 +1,7 @@
 -- Names of a text differ where the tree's names do.
-use Rattle.std.proofs.Common.{◌≡◌, ◌∙◌, ◌<◌, ◌≤◌, ◌^◌, sym, ap, subst, refl, ℕ, zero, suc, Bool, true, false, List, [], ◌∷◌, ◌++◌, map, arith, ◌+◌, cond, if◌then◌else◌, not, length, Option, Some, None}
-use Rattle.std.specs.Prelude.{IsTrue, ◌&&◌, ◌||◌, slice_get, option_map}
-use Rattle.std.specs.List.{list_all, list_any, filter, range_with_len}
+use Rattle.std.proofs.Common.{◌≡◌, ◌∙◌, ◌<◌, ◌≤◌, ◌^◌, sym, ap, refl, ℕ, suc, Bool, true, false, List, [], ◌∷◌, map, arith, ◌+◌, cond, not, length, Option, Some}
+use Rattle.std.specs.Prelude.{IsTrue, ◌||◌, slice_get, option_map}
+use Rattle.std.specs.List.{list_any, filter, range_with_len}
 use Rattle.std.specs.Str.{bytes_eq}
 use Rattle.std.proofs.lemmas.Slice.Eq.{bytes_eq-Decides}
 use Rattle.typed_tree.specs.WellFormed.{are_distinct}

@@ -1,5 +1,5 @@
 -- The names that a text takes from a tree, or in their place numbers: different names stay different.
-use Rattle.std.proofs.Common.{◌≡◌, ◌∙◌, ◌<◌, ◌^◌, sym, ap, refl, ℕ, Bool, true, false, List, [], ◌∷◌, codes, arith, if◌then◌else◌, Some}
+use Rattle.std.proofs.Common.{◌≡◌, ◌∙◌, ◌<◌, ◌≤◌, ◌^◌, sym, ap, refl, ℕ, Bool, true, false, List, [], ◌∷◌, codes, arith, if◌then◌else◌, Some}
 use Rattle.std.specs.Prelude.{◌&&◌}
 use Rattle.std.specs.Fmt.{decimal}
 use Rattle.std.specs.List.{list_all}
