@@ -38,16 +38,6 @@ chosen_all {X} q has (x ∷ xs) h = go (chosen_all q has xs (and_right (q x) (li
     go rest true = and_both (q x) (list_all q (filter has xs)) (and_left (q x) (list_all q xs) h) rest
     go rest false = rest
 
-pub each_all : {X : Type 0} (p q : X → Bool) → ((x : X) → IsTrue (p x) → IsTrue (q x)) → (xs : List X) → IsTrue (list_all p xs) → IsTrue (list_all q xs)
-each_all p q f [] h = refl
-each_all p q f (x ∷ xs) h = and_both (q x) (list_all q xs) (f x (and_left (p x) (list_all p xs) h)) (each_all p q f xs (and_right (p x) (list_all p xs) h))
-
-pub both_all : {X : Type 0} (p q : X → Bool) (xs : List X) → IsTrue (list_all p xs) → IsTrue (list_all q xs) → IsTrue (list_all (λ x. p x && q x) xs)
-both_all p q [] h i = refl
-both_all p q (x ∷ xs) h i =
-    and_both (p x && q x) (list_all (λ x. p x && q x) xs) (and_both (p x) (q x) (and_left (p x) (list_all p xs) h) (and_left (q x) (list_all q xs) i))
-    (both_all p q xs (and_right (p x) (list_all p xs) h) (and_right (q x) (list_all q xs) i))
-
 at_none : {X : Type 0} (xs : List X) (j : ℕ) → slice_get xs (j + 0) ≡ slice_get xs j
 at_none xs j = let e : j + 0 ≡ j = omega arith in ap (slice_get xs) e
 
