@@ -1,4 +1,5 @@
 mod Names
+mod TextNames
 mod Halves
 mod Stands
 mod Tags

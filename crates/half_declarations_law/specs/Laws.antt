@@ -15,7 +15,7 @@ use Rattle.splitter.specs.Halves.{halves_of, monitor_of, slave_of}
 use Rattle.half_names_law.specs.Declarable.{Declarable, prototypes_take_no_pointers}
 use Rattle.half_names_law.specs.Laws.{MeaningKept}
 use Rattle.half_names_law.specs.Standing.{own_marks, whole_marks}
-use Rattle.half_declarations_law.specs.Trees.{names_written, Marked, variables_few}
+use Rattle.half_declarations_law.specs.Trees.{Marked, variables_few}
 
 -- ---- the tree
 
@@ -35,10 +35,10 @@ monitor_half t a = monitor_program (monitor_of t (halves_of a.sides) (functions_
 abbrev pub IsDeclarable : ProgramTree → Type 0
 IsDeclarable p = IsTrue (variables_few p) → Declarable p
 
--- A parsed program's nodes are few, its constants in range, its words short and made of letters, digits and `_`.
+-- A parsed program's nodes are few, its constants in range and its words short.
 abbrev pub HalvesAreDeclarable : Type 0
 HalvesAreDeclarable = (items : List ItemTree) (a : Accepted) → parsed.nodes_of items < 2 ^ 22 → IsTrue (items_sound items) → type_faults items ≡ [] → let t : TypedTree = (checked_program items).tree in
-    IsTrue (names_written t) → IsDeclarable (slave_half t a) × IsDeclarable (monitor_half t a)
+    IsDeclarable (slave_half t a) × IsDeclarable (monitor_half t a)
 
 -- ---- with all that is known of halves
 
@@ -53,4 +53,4 @@ HalfMeans monitor p = IsTrue (variables_few p) → MeansTheSame monitor p
 -- both halves of a checked program that breaks no rule
 abbrev pub AcceptedHalvesKeepTheirMeaning : Type 0
 AcceptedHalvesKeepTheirMeaning = (items : List ItemTree) (a : Accepted) → parsed.nodes_of items < 2 ^ 22 → IsTrue (items_sound items) → type_faults items ≡ [] → let t : TypedTree = (checked_program items).tree in
-    IsTrue (names_written t) → IsAccepted t a → HalfMeans false (slave_half t a) × HalfMeans true (monitor_half t a)
+    IsAccepted t a → HalfMeans false (slave_half t a) × HalfMeans true (monitor_half t a)

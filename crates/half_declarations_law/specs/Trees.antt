@@ -1,24 +1,10 @@
 -- What a typed tree has, so that both halves of it can be declared.
-use Rattle.std.specs.Prelude.{ℕ, ◌^◌, List, Bool, ◌&&◌, ◌||◌, not, IsTrue, length, map, take, nat_le}
+use Rattle.std.specs.Prelude.{◌^◌, Bool, ◌||◌, not, IsTrue, length, map, take, nat_le}
 use Rattle.std.specs.List.{list_all, list_any}
-use Rattle.typed_tree.specs.declared.types.StructInfo.{StructInfo}
 use Rattle.typed_tree.specs.TypedTree.{FunctionTree, TypedTree}
-use Rattle.typed_tree.specs.WellFormed.{are_distinct, name_of}
+use Rattle.typed_tree.specs.WellFormed.{are_distinct}
 use Rattle.pt_core.specs.CodeTree.{ProgramTree}
-use Rattle.half_trees.specs.Names.{is_name_byte}
 use Rattle.half_names_law.specs.Declarable.{signature_marked, variable_marked}
-
--- ---- names
-
--- made of letters, digits and `_`, as all words of a text are
-abbrev pub is_written : List ℕ → Bool
-is_written name = list_all is_name_byte name
-
-abbrev pub struct_written : StructInfo → Bool
-struct_written s = is_written s.name && list_all (λ f. is_written f.name) s.fields
-
-abbrev pub names_written : TypedTree → Bool
-names_written t = list_all struct_written t.structs && list_all (λ f. is_written (name_of f)) t.functions
 
 -- ---- what the judgments say of a tree without a fault
 
