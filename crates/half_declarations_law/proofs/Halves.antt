@@ -26,7 +26,8 @@ use Rattle.c_lower.specs.Functions.{variable_of, lowered_body, core_of, code_if,
 use Rattle.splitter.specs.Halves.{chosen_functions, chosen_signatures, chosen_globals}
 use Rattle.half_trees.specs.Names.{is_name_byte, named, struct_name, field_by, function_by}
 use Rattle.half_names_law.specs.Declarable.{Declarable, struct_names, field_names, function_names, signature_marked, variable_marked, parameters_marked, function_marked, global_marked}
-use Rattle.half_declarations_law.specs.Trees.{is_written, struct_written, names_written, parameters_plain, Marked, variables_few}
+use Rattle.half_declarations_law.specs.Trees.{is_written, struct_written, names_written, parameters_plain, Marked}
+use Rattle.half_declarations_law.proofs.FewVariables.{lowered_few}
 use Rattle.half_declarations_law.proofs.Names.{name_self, name_same, name_other, made_distinct, before_both, chosen_distinct, by_place}
 
 -- ---- lists
@@ -260,8 +261,8 @@ few_globals p h = go (sum_by (λ (s : StructInfo). 1 + length s.fields) p.struct
     go : (a g b : ℕ) → a + (g + b) < 2 ^ 28 → g ≤ 2 ^ 64
     go a g b h = let i : g < 268435456 = omega (arith, h) in omega (arith, i)
 
-pub part_declarable : (p : TypedTree) (signed kept owned : ℕ → Bool) → IsTrue (is_well_formed p) → IsTrue (names_written p) → Marked p → IsTrue (variables_few (part_of p signed kept owned)) → Declarable (part_of p signed kept owned)
-part_declarable p signed kept owned well written marked few =
+pub part_declarable : (p : TypedTree) (signed kept owned : ℕ → Bool) → IsTrue (is_well_formed p) → IsTrue (names_written p) → Marked p → Declarable (part_of p signed kept owned)
+part_declarable p signed kept owned well written marked =
     let half : ProgramTree = part_of p signed kept owned in
     let known = known_of p well in
     let written_structs = and_left (list_all struct_written p.structs) (list_all (λ f. is_written (name_of f)) p.functions) written in
@@ -273,7 +274,7 @@ part_declarable p signed kept owned well written marked few =
       fields = all_fields_differ p.structs written_structs marked.fields;
       functions = functions_differ signed p written_functions known.names;
       globals = chosen_all (λ g. nat_lt g.id (2 ^ 64)) (λ g. owned g.id) (globals_from 0 p.globals) (globals_below (2 ^ 64) 0 p.globals (let few' = few_globals p known.nodes in omega (arith, few')));
-      variables = few;
+      variables = chosen_all (λ f. nat_le (length f.vars) (2 ^ 64)) (λ f. kept f.id) (functions_from p 0 p.functions) (lowered_few p well);
       signature_marks = chosen_all (λ s. signature_marked s.1) (λ s. signed s.0) (signatures_from 0 (signatures_of p)) (numbered_signatures signature_marked 0 (signatures_of p) (signatures_all signature_marked p.functions marked.signatures));
       global_marks = chosen_all global_marked (λ g. owned g.id) (globals_from 0 p.globals) (numbered_globals variable_marked 0 p.globals marked.globals);
       function_marks = chosen_all (marked_by half) (λ f. kept f.id) (functions_from p 0 p.functions) plain;

@@ -1,4 +1,6 @@
 mod Names
+mod Temporaries
+mod FewVariables
 mod Halves
 mod Stands
 mod Tags
