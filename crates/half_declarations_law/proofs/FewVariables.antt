@@ -49,9 +49,6 @@ both_parts exprs ps qs = sum_by-append (λ p. expr_nodes (get_or exprs p.expr.0 
 one_part : (exprs : List src.ExprTree) (role : Role) (e : ExprId) (ps : List Part) → parts_nodes exprs (part_of role e ∷ ps) ≡ expr_nodes (get_or exprs e.0 no_expr) + parts_nodes exprs ps
 one_part exprs role e ps = sum_by-cons (λ p. expr_nodes (get_or exprs p.expr.0 no_expr)) (part_of role e) ps
 
-no_part : (exprs : List src.ExprTree) → parts_nodes exprs [] ≡ 0
-no_part exprs = refl
-
 -- ---- declarations
 
 items_few : (es : List ExprId) (c : Code) (v : VarId) (places : List PlaceTree) (n : ℕ) → length (items_in c places es n).temps ≤ 3 * parts_nodes c.exprs (map (part_of (Init v)) es)
