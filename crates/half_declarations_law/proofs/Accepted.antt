@@ -57,6 +57,6 @@ accepted_halves_mean trees programs slaves monitors apart said means items a few
     let can = halves_declarable trees programs items a few constants none in
     let slave = slave_sound (slave_of t h code) (slaves t h well halves.0) in
     let monitor = monitor_sound (monitor_of t h code) (monitors t h well halves.0 halves.1) in (
-      (λ count n f s at there. means false (slave_half t a) n f s slave (can.0 count) (said_all false (slave_half t a) both.0) at there),
-      (λ count n f s at there. means true (monitor_half t a) n f s monitor (can.1 count) (said_all true (monitor_half t a) both.1) at there),
+      (λ n f s at there. means false (slave_half t a) n f s slave can.0 (said_all false (slave_half t a) both.0) at there),
+      (λ n f s at there. means true (monitor_half t a) n f s monitor can.1 (said_all true (monitor_half t a) both.1) at there),
     )

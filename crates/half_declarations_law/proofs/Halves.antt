@@ -24,7 +24,8 @@ use Rattle.c_lower.specs.Functions.{variable_of, lowered_body, core_of, code_if,
 use Rattle.splitter.specs.Halves.{chosen_functions, chosen_signatures, chosen_globals}
 use Rattle.half_trees.specs.Names.{named, function_by}
 use Rattle.half_names_law.specs.Declarable.{Declarable, struct_names, field_names, signature_marked, variable_marked, parameters_marked, global_marked}
-use Rattle.half_declarations_law.specs.Trees.{parameters_plain, Marked, variables_few}
+use Rattle.half_declarations_law.specs.Trees.{parameters_plain, Marked}
+use Rattle.half_declarations_law.proofs.FewVariables.{lowered_few}
 use Rattle.half_declarations_law.proofs.Names.{made_from, made_distinct, chosen_distinct, by_place}
 use Rattle.half_declarations_law.proofs.TextNames.{struct_apart, field_apart, called_as, called_apart}
 
@@ -215,8 +216,8 @@ few_of p h =
     go : (a g b : ℕ) → a + (g + b) < 2 ^ 28 → (a < 2 ^ 28) × (g ≤ 2 ^ 64)
     go a g b h = let i : g < 268435456 = omega (arith, h) in (omega (arith, h), omega (arith, i))
 
-pub part_declarable : (p : TypedTree) (signed kept owned : ℕ → Bool) → IsTrue (is_well_formed p) → Marked p → IsTrue (variables_few (part_of p signed kept owned)) → Declarable (part_of p signed kept owned)
-part_declarable p signed kept owned well marked variables =
+pub part_declarable : (p : TypedTree) (signed kept owned : ℕ → Bool) → IsTrue (is_well_formed p) → Marked p → Declarable (part_of p signed kept owned)
+part_declarable p signed kept owned well marked =
     let half : ProgramTree = part_of p signed kept owned in
     let known = facts_of p well in
     let few = few_of p known.few in
@@ -227,7 +228,7 @@ part_declarable p signed kept owned well marked variables =
       fields = all_fields_differ p.structs few.fields marked.fields;
       functions = functions_differ signed p (functions_few p well) known.names;
       globals = chosen_all (λ g. nat_lt g.id (2 ^ 64)) (λ g. owned g.id) (globals_from 0 p.globals) (globals_below (2 ^ 64) 0 p.globals (let count = few.globals in omega (arith, count)));
-      variables = variables;
+      variables = chosen_all (λ f. nat_le (length f.vars) (2 ^ 64)) (λ f. kept f.id) (functions_from p 0 p.functions) (lowered_few p well);
       signature_marks = chosen_all (λ s. signature_marked s.1) (λ s. signed s.0) (signatures_from 0 (signatures_of p)) (numbered_signatures signature_marked 0 (signatures_of p) (signatures_all signature_marked p.functions marked.signatures));
       global_marks = chosen_all global_marked (λ g. owned g.id) (globals_from 0 p.globals) (numbered_globals variable_marked 0 p.globals marked.globals);
       function_marks = chosen_all (marked_by half) (λ f. kept f.id) (functions_from p 0 p.functions) plain;
