@@ -17,7 +17,7 @@ use Rattle.said_halves_law.specs.Laws.{CodeIsSaid, AcceptedHalvesAreSaid}
 use Rattle.half_meaning_law.specs.CForms.{are_said}
 use Rattle.half_names_law.specs.Laws.{HalvesKeepTheirMeaning}
 use Rattle.half_names_law.specs.Standing.{all_said}
-use Rattle.half_declarations_law.specs.Laws.{TreesAreMarked, slave_half, monitor_half, HalvesAreDeclarable, AcceptedHalvesKeepTheirMeaning}
+use Rattle.half_declarations_law.specs.Laws.{TreesAreMarked, slave_half, monitor_half, HalvesAreDeclarable, IsWritable, AcceptedHalvesAreWritable, AcceptedHalvesKeepTheirMeaning}
 use Rattle.half_declarations_law.proofs.Halves.{part_declarable}
 
 pub halves_declarable : TreesAreMarked → ProgramsAreWellFormed → HalvesAreDeclarable
@@ -46,17 +46,31 @@ each_said q (f ∷ fs) h = and_both (q f) (list_all q fs) (h 0 f refl) (each_sai
 said_all : (monitor : Bool) (p : ProgramTree) → CodeIsSaid monitor p → IsTrue (all_said monitor p)
 said_all monitor p h = each_said (λ f. are_said (context_of p f.vars) (called_signature monitor p) f.body) p.functions h
 
-pub accepted_halves_mean : TreesAreMarked → ProgramsAreWellFormed → SlavesAreWellFormed → MonitorsAreWellFormed → AcceptedShareNothing → AcceptedHalvesAreSaid → HalvesKeepTheirMeaning → AcceptedHalvesKeepTheirMeaning
-accepted_halves_mean trees programs slaves monitors apart said means items a few constants none is =
+pub accepted_halves_writable : TreesAreMarked → ProgramsAreWellFormed → SlavesAreWellFormed → MonitorsAreWellFormed → AcceptedShareNothing → AcceptedHalvesAreSaid → AcceptedHalvesAreWritable
+accepted_halves_writable trees programs slaves monitors apart said items a few constants none is =
     let t : TypedTree = (checked_program items).tree in
     let code = functions_from t 0 t.functions in
     let h : Halves = halves_of a.sides in
     let well = programs items few constants none in
     let halves = apart t a is in
     let both = said items a well is in
-    let can = halves_declarable trees programs items a few constants none in
-    let slave = slave_sound (slave_of t h code) (slaves t h well halves.0) in
-    let monitor = monitor_sound (monitor_of t h code) (monitors t h well halves.0 halves.1) in (
-      (λ n f s at there. means false (slave_half t a) n f s slave can.0 (said_all false (slave_half t a) both.0) at there),
-      (λ n f s at there. means true (monitor_half t a) n f s monitor can.1 (said_all true (monitor_half t a) both.1) at there),
+    let can = halves_declarable trees programs items a few constants none in (
+      record {
+        sound = slave_sound (slave_of t h code) (slaves t h well halves.0);
+        declarable = can.0;
+        said = said_all false (slave_half t a) both.0;
+      },
+      record {
+        sound = monitor_sound (monitor_of t h code) (monitors t h well halves.0 halves.1);
+        declarable = can.1;
+        said = said_all true (monitor_half t a) both.1;
+      },
+    )
+
+pub accepted_halves_mean : AcceptedHalvesAreWritable → HalvesKeepTheirMeaning → AcceptedHalvesKeepTheirMeaning
+accepted_halves_mean writable means items a few constants none is =
+    let t : TypedTree = (checked_program items).tree in
+    let both = writable items a few constants none is in (
+      (λ n f s at there. means false (slave_half t a) n f s both.0.sound both.0.declarable both.0.said at there),
+      (λ n f s at there. means true (monitor_half t a) n f s both.1.sound both.1.declarable both.1.said at there),
     )

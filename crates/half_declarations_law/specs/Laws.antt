@@ -9,12 +9,12 @@ use Rattle.check_programs.specs.Programs.{checked_program, type_faults}
 use Rattle.flow_rules.specs.declared.accepted.Accepted.{Accepted}
 use Rattle.flow_rules.specs.Faults.{IsAccepted}
 use Rattle.pt_core.specs.CodeTree.{FunctionTree, ProgramTree}
-use Rattle.pt_core.specs.WellFormed.{signature_at, monitor_program, slave_program}
+use Rattle.pt_core.specs.WellFormed.{signature_at, is_sound, monitor_program, slave_program}
 use Rattle.c_lower.specs.Functions.{functions_from}
 use Rattle.splitter.specs.Halves.{halves_of, monitor_of, slave_of}
 use Rattle.half_names_law.specs.Declarable.{Declarable, prototypes_take_no_pointers}
 use Rattle.half_names_law.specs.Laws.{MeaningKept}
-use Rattle.half_names_law.specs.Standing.{own_marks, whole_marks}
+use Rattle.half_names_law.specs.Standing.{own_marks, whole_marks, all_said}
 use Rattle.half_declarations_law.specs.Trees.{Marked}
 
 -- ---- the tree
@@ -38,12 +38,23 @@ HalvesAreDeclarable = (items : List ItemTree) (a : Accepted) → parsed.nodes_of
 
 -- ---- with all that is known of halves
 
+-- a half that is sound, that can be declared, and whose code C can say
+pub record IsWritable (monitor : Bool) (p : ProgramTree) : Type 0 where
+  pub sound : IsTrue (is_sound monitor p)
+  pub declarable : Declarable p
+  pub said : IsTrue (all_said monitor p)
+
+-- both halves of a checked program that breaks no rule
+abbrev pub AcceptedHalvesAreWritable : Type 0
+AcceptedHalvesAreWritable = (items : List ItemTree) (a : Accepted) → parsed.nodes_of items < 2 ^ 22 → IsTrue (items_sound items) → type_faults items ≡ [] → let t : TypedTree = (checked_program items).tree in
+    IsAccepted t a → IsWritable false (slave_half t a) × IsWritable true (monitor_half t a)
+
 -- each function's statements, as the text has them, mean what the half's do
 abbrev pub HalfMeans : Bool → ProgramTree → Type 0
 HalfMeans monitor p = (n : ℕ) (f : FunctionTree) (s : Signature) → slice_get p.functions n ≡ Some f → signature_at p f.id ≡ Some s →
     MeaningKept (whole_marks monitor p) monitor p n f s × (IsTrue (prototypes_take_no_pointers p) → MeaningKept (own_marks monitor p) monitor p n f s)
 
--- both halves of a checked program that breaks no rule
+-- those of both halves of such a program
 abbrev pub AcceptedHalvesKeepTheirMeaning : Type 0
 AcceptedHalvesKeepTheirMeaning = (items : List ItemTree) (a : Accepted) → parsed.nodes_of items < 2 ^ 22 → IsTrue (items_sound items) → type_faults items ≡ [] → let t : TypedTree = (checked_program items).tree in
     IsAccepted t a → HalfMeans false (slave_half t a) × HalfMeans true (monitor_half t a)

@@ -3,7 +3,7 @@
 //! meet them in the half's text, mean what the half's do.
 #![tactic(auto)]
 
-ghost use Rattle.half_declarations_law.specs.Laws.{AcceptedHalvesKeepTheirMeaning, HalvesAreDeclarable, TreesAreMarked};
+ghost use Rattle.half_declarations_law.specs.Laws.{AcceptedHalvesAreWritable, AcceptedHalvesKeepTheirMeaning, HalvesAreDeclarable, TreesAreMarked};
 
 use check_programs_law::programs_are_well_formed;
 use half_names_law::halves_keep_their_meaning;
@@ -26,10 +26,9 @@ pub fn halves_are_declarable()
     trees_are_marked();
 }
 
-/// The statements of both halves of a program that breaks no rule, judged where they stand in the halves' own
-/// trees, mean what the halves' do, if calls do.
-pub fn accepted_halves_keep_their_meaning()
-    ensures { AcceptedHalvesKeepTheirMeaning }
+/// Both halves of a program that breaks no rule are sound, can be declared, and their code can be said in C.
+pub fn accepted_halves_are_writable()
+    ensures { AcceptedHalvesAreWritable }
 {
     programs_are_well_formed();
     trees_are_marked();
@@ -37,5 +36,13 @@ pub fn accepted_halves_keep_their_meaning()
     monitors_are_well_formed();
     accepted_programs_share_nothing();
     accepted_halves_are_said();
+}
+
+/// The statements of both halves of such a program, judged where they stand in the halves' own trees, mean what
+/// the halves' do, if calls do.
+pub fn accepted_halves_keep_their_meaning()
+    ensures { AcceptedHalvesKeepTheirMeaning }
+{
+    accepted_halves_are_writable();
     halves_keep_their_meaning();
 }

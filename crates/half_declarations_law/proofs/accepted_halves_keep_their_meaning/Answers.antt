@@ -2,6 +2,4 @@ use Rattle.half_declarations_law.proofs.Accepted.{accepted_halves_mean}
 use Rattle.half_declarations_law.proofs.accepted_halves_keep_their_meaning.Goals as goal
 
 pub returns : goal.returns
-returns c =
-    accepted_halves_mean c.trees_are_marked.ensures c.programs_are_well_formed.ensures c.slaves_are_well_formed.ensures c.monitors_are_well_formed.ensures c.accepted_programs_share_nothing.ensures
-    c.accepted_halves_are_said.ensures c.halves_keep_their_meaning.ensures
+returns c = accepted_halves_mean c.accepted_halves_are_writable.ensures c.halves_keep_their_meaning.ensures
