@@ -4,6 +4,7 @@ use Rattle.std.specs.Prelude.{◌&&◌, ◌||◌, IsTrue, not, is_some, slice_ge
 use Rattle.pt_base.specs.declared.span.Span.{Span}
 use Rattle.pt_base.specs.declared.int_type.IntType.{IntType}
 use Rattle.pt_base.specs.declared.trap.Trap.TheVariants.{Depth}
+use Rattle.pt_tree.specs.declared.signature.Param.{Param}
 use Rattle.pt_tree.specs.declared.signature.Signature.{Signature}
 use Rattle.pt_tree.specs.PlainNumbers.{plain_numbers}
 use Rattle.runs.specs.State.{gives, trapped, spent, ◌>>=◌, take_turn, noted, guarded_event}
@@ -80,7 +81,7 @@ pub record TextIs (marks : Marks) (monitor : Bool) (p : ProgramTree) (t : TypedT
   pub places : (g : ℕ) (s : Signature) → signature_at p (number_of p g) ≡ Some s → EntryStands monitor p t g (number_of p g) s
   pub bodies : (g : ℕ) (f : FunctionTree) (s : Signature) → signature_at p (number_of p g) ≡ Some s → function_at p (number_of p g) ≡ Some f → (n : ℕ) × (number_of p g ≡ f.id) × BodyIs marks monitor p t g n f s
 
-called_from : (monitor : Bool) (p : ProgramTree) (f : ℕ) (signature : Signature) → called_signature monitor p f ≡ Some signature → (s : Signature) × (signature_at p f ≡ Some s) × (with_own monitor (function_at p f) s ≡ signature)
+pub called_from : (monitor : Bool) (p : ProgramTree) (f : ℕ) (signature : Signature) → called_signature monitor p f ≡ Some signature → (s : Signature) × (signature_at p f ≡ Some s) × (with_own monitor (function_at p f) s ≡ signature)
 called_from monitor p f signature h = go (signature_at p f) refl h
   where
     go : (o : Option Signature) → signature_at p f ≡ o → option_map (with_own monitor (function_at p f)) o ≡ Some signature → (s : Signature) × (signature_at p f ≡ Some s) × (with_own monitor (function_at p f) s ≡ signature)
@@ -116,6 +117,22 @@ half_is : (p : ProgramTree) (outside : c.Calls) (depth : ℕ) (frame : c.Frame) 
 unfolding half_inside
 half_is p outside zero frame at f xs st = refl
 half_is p outside (suc deeper) frame at f xs st = refl
+
+-- ---- what is seen of a call
+
+numbers_counted : (us : List Value) → length (numbers_of us) ≡ length us
+numbers_counted [] = refl
+numbers_counted (u ∷ us) = ap suc (numbers_counted us)
+
+-- the same is seen of a call in both
+pub shown : (monitor : Bool) (p : ProgramTree) (t : TypedTree) (g : ℕ) (s : Signature) (f : FunctionTree) (frames : ℕ → List VarTy) (frame : m.Frame) (a : m.Calls) (a' : c.Calls) (vs : List Value) (xs : List core.Cell) (ps : List Param) → EntryStands monitor p t g (number_of p g) s → signature_at p (number_of p g) ≡ Some s →
+    AreArguments (scene_of p f frames frame a a') ps vs xs → length vs ≡ length (with_own monitor (function_at p (number_of p g)) s).params →
+    guarded_event frame.privileged (cc_.signature_in p (number_of p g)) (number_of p g) (map cv.number_in xs) ≡ map (core_event (scene_of p f frames frame a a')) (guarded_event frame.privileged (function_or_none t g).signature g (numbers_of vs))
+shown monitor p t g s f frames frame a a' vs xs ps stands named args long =
+    ap (λ o. guarded_event frame.privileged (unwrap_or o cc_.no_signature) (number_of p g) (map cv.number_in xs)) named
+    ∙ guarded_same (scene_of p f frames frame a a') frame.privileged stands.entry.signature s g (numbers_of vs) (map cv.number_in xs) stands.privileged (numbers_same (scene_of p f frames frame a a') ps vs xs args)
+    (stands.plain (numbers_of vs) (numbers_counted vs ∙ long))
+    ∙ ap (λ o. map (core_event (scene_of p f frames frame a a')) (guarded_event frame.privileged (unwrap_or o mf.no_function).signature g (numbers_of vs))) (sym stands.there)
 
 -- ---- the body of a function
 
@@ -200,30 +217,11 @@ module _ (marks : Marks) (monitor : Bool) (p : ProgramTree) (t : TypedTree) (tex
       subst (λ o. Same r (GivesResult r s.result) o (cc_.body_run p calls' (cc_.inner_frame p (frame_of r) (number_of p g)) (number_of p g) xs now')) (sym (text_entered f h s frames frame calls calls' g n vs now is))
       (subst (λ o. Same r (GivesResult r s.result) (text_run (code_of (inner_of p h frames frame s.privileged calls calls') t.exprs) (text_body marks monitor p n h s) s.result vs now) o) (sym (half_entered h s (frame_of r) calls' g xs now' found named))
       (body_alike f h s frames frame a calls a' calls' g n vs xs now now' is ends (within d refl) args
-      (noted_alike r (record st { left = left }) (record st' { left = left }) text_events half_events events (left_alike r st st' left al)))))
+      (noted_alike r (record st { left = left }) (record st' { left = left }) text_events half_events
+      (shown monitor p t g s f frames frame a a' vs xs (with_own monitor (Some h) s).params stands named args (many.0 ∙ ap (λ o. length (with_own monitor o s).params) (sym found))) (left_alike r st st' left al)))))
     where
-      r0 : Scene
-      r0 = scene_of p f frames frame a a'
-
       many : (length vs ≡ length (with_own monitor (Some h) s).params) × (length xs ≡ length (with_own monitor (Some h) s).params)
-      many = as_many r0 (with_own monitor (Some h) s).params vs xs args
-
-      counted : (us : List Value) → length (numbers_of us) ≡ length us
-      counted [] = refl
-      counted (u ∷ us) = ap suc (counted us)
-
-      entry_is : function_or_none t g ≡ stands.entry
-      entry_is = ap (λ o. unwrap_or o mf.no_function) stands.there
-
-      signature_is : cc_.signature_in p (number_of p g) ≡ s
-      signature_is = ap (λ o. unwrap_or o cc_.no_signature) named
-
-      events : guarded_event frame.privileged (cc_.signature_in p (number_of p g)) (number_of p g) (map cv.number_in xs) ≡ map (core_event r0) (guarded_event frame.privileged (function_or_none t g).signature g (numbers_of vs))
-      events =
-          ap (λ z. guarded_event frame.privileged z (number_of p g) (map cv.number_in xs)) signature_is
-          ∙ guarded_same r0 frame.privileged stands.entry.signature s g (numbers_of vs) (map cv.number_in xs) stands.privileged (numbers_same r0 (with_own monitor (Some h) s).params vs xs args)
-          (stands.plain (numbers_of vs) (counted vs ∙ many.0 ∙ ap (λ o. length (with_own monitor o s).params) (sym found)))
-          ∙ ap (λ (z : t.FunctionTree). map (core_event r0) (guarded_event frame.privileged z.signature g (numbers_of vs))) (sym entry_is)
+      many = as_many (scene_of p f frames frame a a') (with_own monitor (Some h) s).params vs xs args
 
   -- calls of every function, with what is known of calls that go less deep
   one_call : (depth : ℕ) (outside : m.Calls) (outside' : c.Calls) (n : ℕ) (f : FunctionTree) (frames : ℕ → List VarTy) (frame : m.Frame) → OutsideAlike monitor p outside outside' → IsActive p n f frames frame.depth →

@@ -8,6 +8,7 @@ use Rattle.pt_tree.specs.declared.signature.ParamKind.TheVariants as k
 use Rattle.typed_tree.specs.declared.types.VarTy.{VarTy}
 use Rattle.typed_tree.specs.declared.types.VarTy.TheVariants.{Int, Struct, Array, Pointer}
 use Rattle.typed_tree.specs.declared.types.StructInfo.{StructInfo}
+use Rattle.typed_tree.specs.Cells.{cells_of}
 use Rattle.typed_tree.specs.Sizes.{sizes_of}
 use Rattle.typed_tree.specs.WellFormedExpression.{param_type}
 use Rattle.block_memory.specs.declared.cell.Cell as core
@@ -120,8 +121,8 @@ entering_fits s i types m ss ps vs xs en lead args fits live (local e x) k = go 
 same_room : (s i : Scene) (o : Option VarTy) → i.context.structs ≡ s.context.structs → room_of s o ≡ room_of i o
 same_room s i None same = refl
 same_room s i (Some (Int t)) same = refl
-same_room s i (Some (Struct n)) same = ap (λ z. cells_in (record s { context = record s.context { structs = z } }) (Struct n)) (sym same)
-same_room s i (Some (Array elem count)) same = ap (λ z. cells_in (record s { context = record s.context { structs = z } }) (Array elem count)) (sym same)
+same_room s i (Some (Struct n)) same = ap (λ z. cells_of z (Struct n)) (sym same)
+same_room s i (Some (Array elem count)) same = ap (λ z. cells_of z (Array elem count)) (sym same)
 same_room s i (Some (Pointer elem fixed)) same = refl
 
 pub entering_live : (s i : Scene) (types : List VarTy) (m : Memory) (structs : List StructInfo) (ps : List Param) (vs : List Value) → Enters s i types → structs ≡ i.context.structs → Leads ps types → length vs ≡ length ps → VariablesLive s m →

@@ -5,3 +5,8 @@ pub mod Locals
 pub mod Scenes
 pub mod Depths
 pub mod Structs
+pub mod Marked
+pub mod Entries
+pub mod Law
+pub mod Hosts
+pub mod HostLaw

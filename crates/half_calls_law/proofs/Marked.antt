@@ -3,35 +3,40 @@ use Rattle.std.proofs.Common.{◌≡◌, ◌++◌, ◌∙◌, ◌≤◌, sym, ap
 use Rattle.std.specs.Prelude.{◌&&◌, ◌||◌, not, is_some, fold, slice_get, nat_eq, if◌then◌else◌}
 use Rattle.std.specs.List.{range_with_len, list_all}
 use Rattle.std.specs.Str.{bytes_eq}
+use Rattle.std.proofs.lemmas.List.{append_assoc}
 use Rattle.pt_tree.specs.declared.signature.Param.{Param}
 use Rattle.pt_tree.specs.declared.signature.Signature.{Signature}
 use Rattle.pt_tree.specs.PlainNumbers.{plain_numbers, is_plain}
-use Rattle.pt_tree.specs.SpecifierTree.{SpecTree, spec_trees}
+use Rattle.pt_tree.specs.declared.signature.Elem.{Elem}
+use Rattle.pt_tree.specs.declared.signature.Elem.TheVariants as el
+use Rattle.pt_tree.specs.declared.specifier.SpecWord.{SpecWord}
+use Rattle.pt_tree.specs.SpecifierTree.{SpecTree, keyword, spec_trees}
 use Rattle.pt_tree.specs.ProgramTree as parsed
 use Rattle.pt_tree.specs.ProgramTree.{ItemTree, function}
 use Rattle.type_rules.specs.declared.types.Type.{«Type»}
 use Rattle.typed_tree.specs.declared.types.StructInfo.{StructInfo}
 use Rattle.typed_tree.specs.declared.variable.Var.{Var}
-use Rattle.typed_tree.specs.TypeTests.{same_bool, same_type}
+use Rattle.typed_tree.specs.TypeTests.{same_bool, same_type, points_to_const}
 use Rattle.typed_tree.specs.WellFormed.{params_lead}
 use Rattle.typed_tree.specs.WellFormedExpression.{param_type}
 use Rattle.check_declarations.specs.declared.marks.Marks as d
-use Rattle.check_declarations.specs.Marks.{marks_of}
-use Rattle.check_declarations.specs.Specifiers.{specified}
+use Rattle.check_declarations.specs.Marks.{attribute_of, marks_of}
+use Rattle.check_declarations.specs.declared.marks.Attribute.{Attribute}
+use Rattle.check_declarations.specs.Specifiers.{attributes, names_of}
 use Rattle.check_programs.specs.declared.function_marks.FunctionMarks.{FunctionMarks}
 use Rattle.check_programs.specs.Functions as fn
 use Rattle.check_programs.specs.Unions as u
 use Rattle.check_programs.specs.Unions.{declarations_of, with_declaration, undeclared}
-use Rattle.pt_core.specs.CodeTree.{FunctionTree, GlobalTree, ProgramTree}
+use Rattle.pt_core.specs.CodeTree.{FunctionTree, ProgramTree}
+use Rattle.pt_core.specs.Types.{element_of}
 use Rattle.pt_core.specs.WellFormed.{function_at, with_own, function_fits, signature_at}
 use Rattle.half_trees.specs.Names.{nowhere, function_by, local_name}
-use Rattle.half_trees.specs.Declarations.{struct_item, global_item, mark_specs, object_specs, parameters_or_void}
+use Rattle.half_trees.specs.Declarations.{struct_item, global_item, type_words, elem_specs, const_specs, mark_specs, object_specs, parameters_or_void}
 use Rattle.half_trees.specs.Functions.{function_item}
 use Rattle.half_trees.specs.Halves.{prototype_of, half_tree}
 use Rattle.half_meaning_law.specs.Known.{type_as}
 use Rattle.half_names_law.specs.Standing.{own_marks, definition}
 use Rattle.half_names_law.proofs.Tables.{listed, name_same, name_self}
-use Rattle.half_names_law.proofs.Specifiers.{object_says, marks_are}
 use Rattle.half_names_law.proofs.Objects.{both_hold}
 use Rattle.half_names_law.proofs.Numbers.{lookup_place, mapped_back}
 use Rattle.half_names_law.proofs.Parameters.{Marked, ParametersFit, parameter_of, parameters_by}
@@ -73,9 +78,40 @@ or_right false b h = h
 
 -- ---- the parameters of one declaration
 
+attributes_joined : (xs ys : List SpecTree) → attributes (spec_trees (xs ++ ys)) ≡ attributes (spec_trees xs) ++ attributes (spec_trees ys)
+attributes_joined [] ys = refl
+attributes_joined (x ∷ xs) ys = ap (λ zs. map attribute_of (names_of x) ++ zs) (attributes_joined xs ys) ∙ sym (append_assoc (map attribute_of (names_of x)) (attributes (spec_trees xs)) (attributes (spec_trees ys)))
+
+keywords_plain : (ws : List SpecWord) → attributes (spec_trees (map (keyword nowhere) ws)) ≡ []
+keywords_plain [] = refl
+keywords_plain (w ∷ ws) = keywords_plain ws
+
+element_plain : (infos : List StructInfo) (e : Elem) → attributes (spec_trees (elem_specs infos e)) ≡ []
+element_plain infos (el.Int t) = keywords_plain (type_words t)
+element_plain infos (el.Struct n) = refl
+
+const_plain : (fixed : Bool) (ys : List SpecTree) → attributes (spec_trees (const_specs fixed ++ ys)) ≡ attributes (spec_trees ys)
+const_plain true ys = refl
+const_plain false ys = refl
+
+marks_first : (a b c : Bool) (zs : List Attribute) → zs ≡ [] → (marks_of (attributes (spec_trees (mark_specs a b c)) ++ zs)).marked ≡ a
+marks_first a b c zs h = ap (λ ys. (marks_of (attributes (spec_trees (mark_specs a b c)) ++ ys)).marked) h ∙ go a b c
+  where
+    go : (a b c : Bool) → (marks_of (attributes (spec_trees (mark_specs a b c)) ++ [])).marked ≡ a
+    go true true true = refl
+    go true true false = refl
+    go true false true = refl
+    go true false false = refl
+    go false true true = refl
+    go false true false = refl
+    go false false true = refl
+    go false false false = refl
+
 -- the marks among the specifiers of an object
 param_says : (infos : List StructInfo) (k : ℕ) (q : Marked) → (u.own_marks (parameter_of infos k q).specs).marked ≡ q.marked
-param_says infos k q = ?
+param_says infos k q =
+    ap (λ zs. (marks_of zs).marked) (attributes_joined (mark_specs q.marked q.unpriv q.declassify) (object_specs infos q.ty))
+    ∙ marks_first q.marked q.unpriv q.declassify (attributes (spec_trees (object_specs infos q.ty))) (const_plain (points_to_const (Some q.ty)) (elem_specs infos (element_of q.ty)) ∙ element_plain infos (element_of q.ty))
 
 listed_says : (infos : List StructInfo) (n : ℕ) (qs : List Marked) (k : ℕ) (q : Marked) → slice_get qs k ≡ Some q → (u.marks_at (u.params_marks (parameters_by infos n qs)) k).marked ≡ q.marked
 listed_says infos n [] k q h = cc

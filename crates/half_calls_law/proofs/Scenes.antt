@@ -17,7 +17,7 @@ use Rattle.typed_tree.specs.ExpressionTree.{ExprTree}
 use Rattle.block_memory.specs.declared.cell.Cell as core
 use Rattle.block_memory.specs.declared.cell.Cell.TheVariants.{Int}
 use Rattle.source_meaning.specs.State.{State, Outcome}
-use Rattle.source_meaning.specs.Values.{Value, holds, numbers_of}
+use Rattle.source_meaning.specs.Values.{Value, number_of, numbers_of}
 use Rattle.source_meaning.specs.Expressions as m
 use Rattle.source_meaning.specs.Statements as ms
 use Rattle.source_meaning.specs.Functions as mf
@@ -103,7 +103,7 @@ numbers_same s [] (v ∷ vs) xs args = absurd args
 numbers_same s (q ∷ ps) [] xs args = absurd args
 numbers_same s (q ∷ ps) (v ∷ vs) [] args = absurd args
 numbers_same s (q ∷ ps) (v ∷ vs) (x ∷ xs) args =
-    (λ i. (ap cv.number_in args.0.same ∙ number_same s args.0.cell ∙ sym (ap (λ u. numbers_of (u ∷ [])) args.0.is) ) i ∷ numbers_same s ps vs xs args.1 i)
+    (λ i. (ap cv.number_in args.0.same ∙ number_same s args.0.cell ∙ sym (ap number_of args.0.is)) i ∷ numbers_same s ps vs xs args.1 i)
 
 -- ---- entering
 

@@ -214,7 +214,7 @@ find_back (g ∷ gs) n f h = go (nat_eq n g.id) refl h (find_back gs n f)
     go true is e again = (0, e, same_number n g.id is ∙ ap (λ x. x.id) (same e))
     go false is e again = let behind = again e in (suc behind.0, behind.1, behind.2)
 
-defined_is : (monitor : Bool) (p : ProgramTree) (n : ℕ) (s : ℕ × Signature) → Sound monitor p → slice_get p.signatures n ≡ Some s → is_some (function_at p s.0) ≡ true → (own_marks monitor p (text_name s)).defined ≡ true
+pub defined_is : (monitor : Bool) (p : ProgramTree) (n : ℕ) (s : ℕ × Signature) → Sound monitor p → slice_get p.signatures n ≡ Some s → is_some (function_at p s.0) ≡ true → (own_marks monitor p (text_name s)).defined ≡ true
 defined_is monitor p n s sound there some = go (function_at p s.0) refl some
   where
     with_body : (f : FunctionTree) → function_at p s.0 ≡ Some f → (own_marks monitor p (text_name s)).defined ≡ true
