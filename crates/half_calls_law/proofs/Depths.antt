@@ -11,7 +11,7 @@ use Rattle.runs.specs.State.{gives, trapped, spent, ◌>>=◌, take_turn, noted,
 use Rattle.typed_tree.specs.declared.types.VarTy.{VarTy}
 use Rattle.typed_tree.specs.declared.types.StructInfo.{StructInfo}
 use Rattle.typed_tree.specs.StatementTree.{BodyTree, block, body_trees}
-use Rattle.typed_tree.specs.TypedTree as t
+use Rattle.typed_tree.specs.TypedTree as trees
 use Rattle.typed_tree.specs.TypedTree.{TypedTree}
 use Rattle.typed_tree.specs.WellFormedExpression.{is_main}
 use Rattle.block_memory.specs.declared.cell.Cell as core
@@ -50,7 +50,7 @@ number_of p g = number_in 0 (map (λ x. x.0) p.signatures) g
 
 -- what the tree has at the place of a signature
 pub record EntryStands (monitor : Bool) (p : ProgramTree) (t : TypedTree) (k : ℕ) (f : ℕ) (s : Signature) : Type 0 where
-  pub entry : t.FunctionTree
+  pub entry : trees.FunctionTree
   pub there : slice_get t.functions k ≡ Some entry
   pub privileged : entry.signature.privileged ≡ s.privileged
   pub plain : (numbers : List ℤ) → length numbers ≡ length (with_own monitor (function_at p f) s).params → plain_numbers entry.signature.params numbers ≡ plain_numbers s.params numbers
@@ -59,7 +59,7 @@ pub record EntryStands (monitor : Bool) (p : ProgramTree) (t : TypedTree) (k : �
 -- what it has of a function with a body
 pub record BodyIs (marks : Marks) (monitor : Bool) (p : ProgramTree) (t : TypedTree) (k n : ℕ) (f : FunctionTree) (s : Signature) : Type 0 where
   pub there : slice_get p.functions n ≡ Some f
-  pub entry : t.FunctionTree
+  pub entry : trees.FunctionTree
   pub entry_there : slice_get t.functions k ≡ Some entry
   pub privileged : entry.signature.privileged ≡ s.privileged
   pub result : entry.signature.result ≡ s.result
@@ -140,7 +140,7 @@ shown monitor p t g s f frames frame a a' vs xs ps stands named args long =
 abbrev text_run : ms.Code → BodyTree → Option IntType → List Value → State → Outcome Value
 text_run code body result vs st = statement body code (opened code vs st) >>= mf.returned_from result (brace_of body) code.context.frame.depth
 
-abbrev entered_as : TypedTree → m.Calls → m.Frame → t.FunctionTree → List Value → State → Outcome Value
+abbrev entered_as : TypedTree → m.Calls → m.Frame → trees.FunctionTree → List Value → State → Outcome Value
 entered_as t calls frame g vs st =
     text_run (record { context = record { structs = t.structs; globals = map (λ x. x.var.ty) t.globals; variables = map (λ x. x.ty) g.vars; frame = frame_in frame g.signature; calls = calls }; exprs = t.exprs }) (body_or_none g.body) g.signature.result vs st
 
@@ -231,7 +231,7 @@ module _ (marks : Marks) (monitor : Bool) (p : ProgramTree) (t : TypedTree) (tex
       subst (λ o. Same r (GivesResult r signature.result) o (half_calls p outside' depth (frame_of r) at' (number_of p g) xs st')) (sym (text_is t outside depth frame at g vs st))
       (subst (λ o. Same r (GivesResult r signature.result) (if is_some (function_or_none t g).body then text_inside t outside depth frame at g vs st else outside frame at g vs st) o) (sym (half_is p outside' depth (frame_of r) at' (number_of p g) xs st'))
       (subst (λ b. Same r (GivesResult r signature.result) (if b then text_inside t outside depth frame at g vs st else outside frame at g vs st) (if is_some (function_at p (number_of p g)) then half_inside p outside' depth (frame_of r) at' (number_of p g) xs st' else outside' (frame_of r) at' (number_of p g) xs st'))
-      (sym (ap (λ (z : t.FunctionTree). is_some z.body) entry_is ∙ stands.body)) (go (function_at p (number_of p g)) refl)))
+      (sym (ap (λ (z : trees.FunctionTree). is_some z.body) entry_is ∙ stands.body)) (go (function_at p (number_of p g)) refl)))
     where
       r : Scene
       r = scene_of p f frames frame (text_calls t outside depth) (half_calls p outside' depth)

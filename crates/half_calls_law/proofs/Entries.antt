@@ -11,7 +11,7 @@ use Rattle.pt_tree.specs.ProgramTree.{ItemTree}
 use Rattle.typed_tree.specs.declared.types.VarTy.{VarTy}
 use Rattle.typed_tree.specs.declared.variable.Var.{Var}
 use Rattle.typed_tree.specs.StatementTree.{block, body_trees}
-use Rattle.typed_tree.specs.TypedTree as t
+use Rattle.typed_tree.specs.TypedTree as trees
 use Rattle.typed_tree.specs.TypedTree.{TypedTree}
 use Rattle.typed_tree.specs.TypeTests.{same_type, same_bool}
 use Rattle.typed_tree.specs.WellFormed.{params_lead}
@@ -122,7 +122,7 @@ items_with monitor p fs = map (struct_item p.structs) (range_with_len 0 (length 
 
 -- a function stands at its place with what its prototype says, and it has a body if the half's function has one
 pub record Standing (marks : Marks) (monitor : Bool) (p : ProgramTree) (k : ℕ) (s : ℕ × Signature) : Type 0 where
-  pub entry : t.FunctionTree
+  pub entry : trees.FunctionTree
   pub there : slice_get (judged_tree marks monitor p).functions k ≡ Some entry
   pub signature : entry.signature ≡ signature_of (marks (text_name s)) (callable_in monitor p s)
   pub body : is_some entry.body ≡ is_some (function_at p s.0)
@@ -171,7 +171,7 @@ module _ (bodies : BodiesKeepTheirMeaning) (marks : Marks) (monitor : Bool) (p :
             ap (λ fs. slice_get (tree_of (checked_items marks at_start (items_with monitor p fs)).progress).functions k) (sym whole)
             ∙ ap (λ st. slice_get (tree_of st).functions k) passes.is ∙ passes.holds.kept k not_among ∙ entry.there;
         signature = entry.signature;
-        body = ap (λ o. option_map_or (λ (g : t.FunctionTree). is_some g.body) o false) (sym entry.there) ∙ declared.bodiless k ∙ sym (ap is_some none);
+        body = ap (λ o. option_map_or (λ (g : trees.FunctionTree). is_some g.body) o false) (sym entry.there) ∙ declared.bodiless k ∙ sym (ap is_some none);
       }
     where
       no_function : (x : FunctionTree) → Some x ≡ None → ⊥
@@ -227,7 +227,7 @@ module _ (bodies : BodiesKeepTheirMeaning) (marks : Marks) (monitor : Bool) (p :
         (ap (λ ps. params_lead ps g.vars) params ∙ fits.lead, ap length params ∙ fits.long)
 
     -- the plain numbers of a call, by the text and by the half
-    plain_numbers_same : (N : ℕ) (s : Signature) (k : ℕ) (entry : t.FunctionTree) → slice_get p.signatures k ≡ Some (N, s) → entry.signature ≡ signature_of (marks (text_name (N, s))) (callable_in monitor p (N, s)) →
+    plain_numbers_same : (N : ℕ) (s : Signature) (k : ℕ) (entry : trees.FunctionTree) → slice_get p.signatures k ≡ Some (N, s) → entry.signature ≡ signature_of (marks (text_name (N, s))) (callable_in monitor p (N, s)) →
         (numbers : List ℤ) → length numbers ≡ length (with_own monitor (function_at p N) s).params → plain_numbers entry.signature.params numbers ≡ plain_numbers s.params numbers
     plain_numbers_same N s k entry place signature numbers long =
         ap (λ (z : Signature). plain_numbers z.params numbers) signature
@@ -250,7 +250,7 @@ module _ (bodies : BodiesKeepTheirMeaning) (marks : Marks) (monitor : Bool) (p :
             go true many = let few = short f.params s.params in plain_first f.params s.params numbers (omega (arith, many, few))
             go false many = refl
 
-    privileged_same : (N : ℕ) (s : Signature) (k : ℕ) (entry : t.FunctionTree) → slice_get p.signatures k ≡ Some (N, s) → entry.signature ≡ signature_of (marks (text_name (N, s))) (callable_in monitor p (N, s)) → entry.signature.privileged ≡ s.privileged
+    privileged_same : (N : ℕ) (s : Signature) (k : ℕ) (entry : trees.FunctionTree) → slice_get p.signatures k ≡ Some (N, s) → entry.signature ≡ signature_of (marks (text_name (N, s))) (callable_in monitor p (N, s)) → entry.signature.privileged ≡ s.privileged
     privileged_same N s k entry place signature = ap (λ (z : Signature). z.privileged) signature ∙ say.privileged k (N, s) place
 
     place_at : (g : ℕ) (s : Signature) → signature_at p (number_of p g) ≡ Some s → slice_get p.signatures g ≡ Some (number_of p g, s)
@@ -287,7 +287,7 @@ module _ (bodies : BodiesKeepTheirMeaning) (marks : Marks) (monitor : Bool) (p :
           there = there;
           entry = stands.entry;
           entry_there = entry_there;
-          privileged = ap (λ (z : t.FunctionTree). z.signature.privileged) (sym equal) ∙ privileged_same (number_of p g) s g entry.entry place entry.signature;
+          privileged = ap (λ (z : trees.FunctionTree). z.signature.privileged) (sym equal) ∙ privileged_same (number_of p g) s g entry.entry place entry.signature;
           result = stands.result;
           vars = stands.vars;
           body = stands.body ∙ ap (λ l. Some (block nowhere (body_trees (l.bodies ++ (statements_checked p f s (statements_at marks monitor p n f)).bodies)))) locals;

@@ -8,7 +8,7 @@ use Rattle.pt_tree.specs.declared.signature.Param.{Param}
 use Rattle.pt_tree.specs.declared.signature.ParamKind.{ParamKind}
 use Rattle.pt_tree.specs.declared.signature.ParamKind.TheVariants as k
 use Rattle.pt_tree.specs.declared.signature.Signature.{Signature}
-use Rattle.typed_tree.specs.TypedTree as t
+use Rattle.typed_tree.specs.TypedTree as trees
 use Rattle.typed_tree.specs.TypedTree.{TypedTree}
 use Rattle.typed_tree.specs.WellFormed.{are_rising, is_integer_kind, is_integer_param}
 use Rattle.typed_tree.specs.WellFormedExpression.{param_type}

@@ -1,5 +1,5 @@
 -- A function with a result returns with a value.
-use Rattle.std.proofs.Common.{◌≡◌, ℕ, zero, suc, Bool, true, false, Option, Some, None, is_none, Result, Ok, Err, if◌then◌else◌}
+use Rattle.std.proofs.Common.{◌≡◌, refl, ℕ, zero, suc, Bool, true, false, Option, Some, None, is_none, Result, Ok, Err, if◌then◌else◌}
 use Rattle.std.specs.Prelude.{◌&&◌}
 use Rattle.pt_base.specs.declared.int_type.IntType.{IntType}
 use Rattle.runs.specs.State.{gives, trapped, spent, ◌>>=◌, take_turn}
@@ -28,7 +28,7 @@ RunFits result (trapped trap span st) = Unit {0}
 RunFits result (spent st) = Unit {0}
 
 both_hold : (a o : Bool) → (a && o) ≡ true → (a ≡ true) × (o ≡ true)
-both_hold true o h = cc
+both_hold true o h = (refl, h)
 both_hold false o h = cc
 
 -- what goes on with what was evaluated
