@@ -234,7 +234,7 @@ module _ (bodies : BodiesKeepTheirMeaning) (marks : Marks) (monitor : Bool) (p :
         ∙ plain_same (marks (text_name (N, s))).params 0 (own monitor p (N, s)).params numbers
         (λ j q at. let zero_j : 0 + j ≡ j = omega arith in
         ap (λ z. (u.marks_at (marks (text_name (N, s))).params z).marked) zero_j ∙ ap (λ ms. (u.marks_at ms j).marked) (same (text_name (N, s)))
-        ∙ marked_said monitor p k (N, s) j q sound (functions_differ monitor p h d) place (own_leads N s) at) kind_is
+        ∙ marked_said monitor p k (N, s) j q sound (functions_differ monitor p h d) place (own_leads N s) at) (λ q. kind_is q.kind)
         ∙ first (function_at p N) long
       where
         first : (o : Option FunctionTree) → length numbers ≡ length (with_own monitor o s).params → plain_numbers (with_own monitor o s).params numbers ≡ plain_numbers s.params numbers

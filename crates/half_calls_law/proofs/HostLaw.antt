@@ -182,8 +182,9 @@ module _ (bodies : BodiesKeepTheirMeaning) (monitor : Bool) (p : ProgramTree) (h
       let say = own_say monitor p (soundness monitor p h) apart plain in
       let none = without (function_at p (number_of p g)) refl named in
       let from = called_from monitor p (number_of p g) signature none.1 in
-      let stands = entry_at bodies (own_marks monitor p) monitor p h d' said_all say (λ name. refl)
+      let known = entry_at bodies (own_marks monitor p) monitor p h d' said_all say (λ name. refl)
       (λ n f s there known. (bodies_stand bodies monitor p n f s h d' said_all there known).1 plain) (λ n f s there known. (meanings bodies monitor p n f s h d' said_all there known).1 plain) g from.0 from.1 in
+      let stands : EntryStands monitor p text_tree g (number_of p g) from.0 = record { entry = known.entry; there = known.there; privileged = known.privileged; plain = known.plain; body = known.body } in
       let scene = scene_of p f frames frame (text_hosts text_tree) (half_hosts p) in
       let many = as_many scene signature.params vs xs args in
       host_alike scene signature.result (function_or_none text_tree g).signature (d.signature_in p (number_of p g)) g (numbers_of vs) (map cv.number_in xs) st st'

@@ -12,7 +12,7 @@ use Rattle.pt_tree.specs.declared.signature.Elem.TheVariants as el
 use Rattle.pt_tree.specs.declared.specifier.SpecWord.{SpecWord}
 use Rattle.pt_tree.specs.SpecifierTree.{SpecTree, keyword, spec_trees}
 use Rattle.pt_tree.specs.ProgramTree as parsed
-use Rattle.pt_tree.specs.ProgramTree.{ItemTree, function}
+use Rattle.pt_tree.specs.ProgramTree.{ItemTree, declares, function}
 use Rattle.type_rules.specs.declared.types.Type.{«Type»}
 use Rattle.typed_tree.specs.declared.types.StructInfo.{StructInfo}
 use Rattle.typed_tree.specs.declared.variable.Var.{Var}
@@ -159,6 +159,9 @@ lead_says (p ∷ ps) (x ∷ xs) (suc n) (suc k) q lead long h =
 abbrev EachIs : (parsed.FunctionTree → Type 0) → List ℕ → ItemTree → Type 0
 EachIs Q name x = (f : parsed.FunctionTree) → x ≡ function f → named_as name f ≡ true → Q f
 
+no_function : {x : _} {f : _} → declares x ≡ function f → ⊥
+no_function e = cc
+
 others : {A : Type 0} (Q : parsed.FunctionTree → Type 0) (item : A → ItemTree) (name : List ℕ) → ((a : A) (f : parsed.FunctionTree) → item a ≡ function f → ⊥) → (xs : List A) (j : ℕ) (x : ItemTree) → slice_get (map item xs) j ≡ Some x → EachIs Q name x
 others Q item name never xs j x at f is named = let back = mapped_back item xs j x at in absurd (never back.0 f (back.2 ∙ is))
 
@@ -167,9 +170,9 @@ items_each : (Q : parsed.FunctionTree → Type 0) (monitor : Bool) (p : ProgramT
     (j : ℕ) (x : ItemTree) → slice_get (half_tree monitor p) j ≡ Some x → EachIs Q (text_name s) x
 items_each Q monitor p n s sound apart there prototypes definitions =
     joined_each (EachIs Q (text_name s)) (map (struct_item p.structs) (range_with_len 0 (length p.structs))) (map (prototype_of monitor p) p.signatures ++ (map (global_item p.structs) p.globals ++ map (function_item p) p.functions))
-    (others Q (struct_item p.structs) (text_name s) (λ a f e. cc) (range_with_len 0 (length p.structs)))
+    (others Q (struct_item p.structs) (text_name s) (λ a f e. no_function e) (range_with_len 0 (length p.structs)))
     (joined_each (EachIs Q (text_name s)) (map (prototype_of monitor p) p.signatures) (map (global_item p.structs) p.globals ++ map (function_item p) p.functions) own_prototype
-    (joined_each (EachIs Q (text_name s)) (map (global_item p.structs) p.globals) (map (function_item p) p.functions) (others Q (global_item p.structs) (text_name s) (λ a f e. cc) p.globals) own_definition))
+    (joined_each (EachIs Q (text_name s)) (map (global_item p.structs) p.globals) (map (function_item p) p.functions) (others Q (global_item p.structs) (text_name s) (λ a f e. no_function e) p.globals) own_definition))
   where
     own_prototype : (j : ℕ) (x : ItemTree) → slice_get (map (prototype_of monitor p) p.signatures) j ≡ Some x → EachIs Q (text_name s) x
     own_prototype j x at f is named =
