@@ -1,19 +1,17 @@
 -- Calls come to the same, however deep they go.
-use Rattle.std.proofs.Common.{◌≡◌, ◌∙◌, ◌≤◌, ◌<◌, ℕ, zero, suc, ◌+◌, ℤ, refl, ap, sym, subst, arith, Bool, true, false, Option, Some, None, List, [], ◌∷◌, ◌++◌, map, length, drop, if◌then◌else◌}
-use Rattle.std.specs.Prelude.{◌&&◌, ◌||◌, IsTrue, not, is_some, slice_get, take, option_map, unwrap_or}
+use Rattle.std.proofs.Common.{◌≡◌, ◌∙◌, ◌≤◌, ℕ, zero, suc, ◌+◌, ℤ, refl, ap, sym, subst, arith, Bool, true, false, Option, Some, None, List, [], ◌∷◌, ◌++◌, map, length, drop, if◌then◌else◌}
+use Rattle.std.specs.Prelude.{◌&&◌, ◌||◌, not, is_some, slice_get, take, option_map, unwrap_or}
 use Rattle.pt_base.specs.declared.span.Span.{Span}
 use Rattle.pt_base.specs.declared.int_type.IntType.{IntType}
 use Rattle.pt_base.specs.declared.trap.Trap.TheVariants.{Depth}
 use Rattle.pt_tree.specs.declared.signature.Param.{Param}
 use Rattle.pt_tree.specs.declared.signature.Signature.{Signature}
 use Rattle.pt_tree.specs.PlainNumbers.{plain_numbers}
-use Rattle.runs.specs.State.{gives, trapped, spent, ◌>>=◌, take_turn, noted, guarded_event}
+use Rattle.runs.specs.State.{trapped, ◌>>=◌, noted, guarded_event}
 use Rattle.typed_tree.specs.declared.types.VarTy.{VarTy}
-use Rattle.typed_tree.specs.declared.types.StructInfo.{StructInfo}
 use Rattle.typed_tree.specs.StatementTree.{BodyTree, block, body_trees}
 use Rattle.typed_tree.specs.TypedTree as trees
 use Rattle.typed_tree.specs.TypedTree.{TypedTree}
-use Rattle.typed_tree.specs.WellFormedExpression.{is_main}
 use Rattle.block_memory.specs.declared.cell.Cell as core
 use Rattle.source_meaning.specs.State.{State, Outcome}
 use Rattle.source_meaning.specs.Values.{Value, numbers_of}
@@ -35,7 +33,7 @@ use Rattle.half_meaning_law.specs.Statements.{AreArguments, GoesOn, GivesResult,
 use Rattle.half_names_law.specs.Standing.{Marks, statements_at, number_in, scene_of}
 use Rattle.half_names_law.specs.Laws.{statements_checked, MeaningKept}
 use Rattle.half_names_law.proofs.Locals.{declaration_trees}
-use Rattle.half_calls_law.specs.Calls.{text_calls, half_calls, FramesEnd, IsActive, outside_signature, OutsideAlike}
+use Rattle.half_calls_law.specs.Calls.{text_calls, half_calls, FramesEnd, IsActive, OutsideAlike}
 use Rattle.half_calls_law.proofs.Frames.{Leads, types_in, entering}
 use Rattle.half_calls_law.proofs.Entering.{as_many}
 use Rattle.half_calls_law.proofs.Returns.{all_fit}

@@ -12,17 +12,16 @@ use Rattle.typed_tree.specs.Cells.{cells_of}
 use Rattle.typed_tree.specs.Sizes.{sizes_of}
 use Rattle.typed_tree.specs.WellFormedExpression.{param_type}
 use Rattle.block_memory.specs.declared.cell.Cell as core
-use Rattle.block_memory.specs.declared.cell.BlockName.TheVariants.{Local, Global}
-use Rattle.block_memory.specs.Block as b
+use Rattle.block_memory.specs.declared.cell.BlockName.TheVariants.{Local}
 use Rattle.block_memory.specs.Block.{no_block}
 use Rattle.block_memory.specs.Blocks.{Blocks, without_frames}
-use Rattle.source_meaning.specs.Memory.{Block, local, global, Cell, number, read, Memory, with_frame}
-use Rattle.source_meaning.specs.Values.{Value, holds, cell_of, cleared, frame_cells}
+use Rattle.source_meaning.specs.Memory.{local, global, Cell, number, read, Memory, with_frame}
+use Rattle.source_meaning.specs.Values.{Value, holds, cell_of, frame_cells}
 use Rattle.source_meaning.specs.Functions.{without_locals}
 use Rattle.pt_core.specs.Types.{type_at}
-use Rattle.half_meaning_law.specs.Relations.{Scene, core_cell, name_of, SameBlocks, reach_by, reach_of, reach_in, CellFits, MemoryFits, cells_in, room_of, VariablesLive}
+use Rattle.half_meaning_law.specs.Relations.{Scene, core_cell, SameBlocks, reach_by, reach_of, CellFits, MemoryFits, cells_in, room_of, VariablesLive}
 use Rattle.half_meaning_law.specs.Statements.{AreArguments}
-use Rattle.half_meaning_law.proofs.Memories.{same_number, is_same}
+use Rattle.half_meaning_law.proofs.Memories.{same_number}
 use Rattle.half_calls_law.proofs.Frames.{Enters, Leads, none_read, none_left, cell_moves, cell_passed, cleared_fits, cleared_room, within_by}
 
 -- ---- the cells of the new frame

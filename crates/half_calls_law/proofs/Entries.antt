@@ -1,14 +1,13 @@
 -- What the typed tree of a half has at the place of each function.
-use Rattle.std.proofs.Common.{◌≡◌, ◌++◌, ◌∙◌, ◌≤◌, ◌<◌, ◌+◌, sym, ap, refl, subst, ℕ, zero, suc, ℤ, Bool, true, false, List, [], ◌∷◌, length, map, take, drop, Option, Some, None, arith}
-use Rattle.std.specs.Prelude.{◌&&◌, not, is_some, slice_get, nat_eq, nat_le, if◌then◌else◌}
+use Rattle.std.proofs.Common.{◌≡◌, ◌++◌, ◌∙◌, ◌≤◌, ◌+◌, sym, ap, refl, subst, ℕ, zero, suc, ℤ, Bool, true, false, List, [], ◌∷◌, length, map, take, drop, Option, Some, None, arith}
+use Rattle.std.specs.Prelude.{◌&&◌, not, is_some, slice_get, if◌then◌else◌}
 use Rattle.std.specs.Option.{option_map_or}
 use Rattle.std.specs.List.{list_all, range_with_len}
-use Rattle.std.proofs.lemmas.List.{length-take-le, take-append-drop}
+use Rattle.std.proofs.lemmas.List.{length-take-le}
 use Rattle.pt_tree.specs.declared.signature.Param.{Param}
 use Rattle.pt_tree.specs.declared.signature.Signature.{Signature}
 use Rattle.pt_tree.specs.PlainNumbers.{plain_numbers}
 use Rattle.pt_tree.specs.ProgramTree.{ItemTree}
-use Rattle.typed_tree.specs.declared.types.VarTy.{VarTy}
 use Rattle.typed_tree.specs.declared.variable.Var.{Var}
 use Rattle.typed_tree.specs.StatementTree.{block, body_trees}
 use Rattle.typed_tree.specs.TypedTree as trees
@@ -27,30 +26,28 @@ use Rattle.pt_core.specs.WellFormedStatement.{stmts_fit}
 use Rattle.half_trees.specs.Names.{nowhere}
 use Rattle.half_trees.specs.Declarations.{struct_item, global_item}
 use Rattle.half_trees.specs.Functions.{function_item}
-use Rattle.half_trees.specs.Halves.{prototype_of, half_tree}
-use Rattle.half_meaning_law.specs.Known.{function_id}
+use Rattle.half_trees.specs.Halves.{prototype_of}
 use Rattle.half_meaning_law.specs.Statements.{BodiesKeepTheirMeaning}
 use Rattle.half_meaning_law.proofs.Types.{equal_types}
 use Rattle.half_names_law.specs.Declarable.{Declarable}
-use Rattle.half_names_law.specs.Standing.{Marks, own_marks, before, locals_at, statements_at, all_said}
+use Rattle.half_names_law.specs.Standing.{Marks, own_marks, locals_at, statements_at, all_said}
 use Rattle.half_names_law.specs.Laws.{statements_checked, judged_tree, BodyStands, MeaningKept}
 use Rattle.half_names_law.proofs.Objects.{both_hold}
-use Rattle.half_names_law.proofs.Numbers.{number_at, number_once, once_there, lookup_place, mapped_there}
-use Rattle.half_names_law.proofs.Names.{own, text_name, callable_in, half_env}
+use Rattle.half_names_law.proofs.Numbers.{number_at, number_once, lookup_place, mapped_there}
+use Rattle.half_names_law.proofs.Names.{own, text_name, callable_in}
 use Rattle.half_names_law.proofs.Known.{all_there}
 use Rattle.half_names_law.proofs.Parts.{own_params, own_long, enough, function_there}
 use Rattle.half_names_law.proofs.Premises.{MarksSay}
-use Rattle.half_names_law.proofs.Prototypes.{Rest, at, marked_param}
-use Rattle.half_names_law.proofs.Bodies.{FunctionFits, HalfFits}
-use Rattle.half_names_law.proofs.Functions.{Behind, NotAmong, checked_statements, variables_at}
+use Rattle.half_names_law.proofs.Prototypes.{at}
+use Rattle.half_names_law.proofs.Functions.{NotAmong, checked_statements, variables_at}
 use Rattle.half_names_law.proofs.Locals.{declaration_trees}
 use Rattle.half_names_law.proofs.Halves.{Sound, soundness, half_structs, half_fits, function_fit}
 use Rattle.half_names_law.proofs.Marks.{find_back}
 use Rattle.half_names_law.proofs.Law.{declared_half, passes_before, locals_there, functions_differ}
-use Rattle.half_names_law.proofs.Trees.{kind_is, other_before, Ends, ends, entry_with}
+use Rattle.half_names_law.proofs.Trees.{kind_is, other_before, ends, entry_with}
 use Rattle.half_calls_law.proofs.Frames.{Leads, types_in}
 use Rattle.half_calls_law.proofs.Depths.{number_of, EntryStands, BodyIs, TextIs}
-use Rattle.half_calls_law.proofs.Marked.{said, marked_said, undefined_said, plain_same, plain_first}
+use Rattle.half_calls_law.proofs.Marked.{marked_said, plain_same, plain_first}
 
 -- ---- what a half's function is
 

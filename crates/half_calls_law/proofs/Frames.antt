@@ -1,7 +1,6 @@
 -- The memories where a function of a half is entered and where it is left.
-use Rattle.std.proofs.Common.{◌≡◌, ◌∙◌, ◌≤◌, ◌<◌, ℕ, zero, suc, ◌+◌, pos, nat_eq, nat_lt, refl, ap, sym, subst, arith, Bool, true, false, Option, Some, None, List, [], ◌∷◌, map, length, if◌then◌else◌}
-use Rattle.std.specs.Prelude.{◌&&◌, slice_get, slice_set, slice_index_or, get_or, replicate}
-use Rattle.std.proofs.lemmas.Bool.Decides.{nat_tests}
+use Rattle.std.proofs.Common.{◌≡◌, ◌∙◌, ◌≤◌, ◌<◌, ℕ, zero, suc, ◌+◌, pos, nat_eq, refl, ap, sym, subst, arith, Bool, true, false, Option, Some, None, List, [], ◌∷◌, map, length, if◌then◌else◌}
+use Rattle.std.specs.Prelude.{◌&&◌, slice_set, slice_index_or, get_or, replicate}
 use Rattle.pt_tree.specs.declared.signature.Param.{Param}
 use Rattle.pt_tree.specs.declared.signature.ParamKind.{ParamKind}
 use Rattle.pt_tree.specs.declared.signature.ParamKind.TheVariants as k
@@ -21,16 +20,14 @@ use Rattle.block_memory.specs.Block as b
 use Rattle.block_memory.specs.Block.{with_cell, fresh, no_block}
 use Rattle.block_memory.specs.Blocks.{Blocks, is_same_name, without_frames}
 use Rattle.block_memory.specs.Blocks as bs
-use Rattle.source_meaning.specs.Memory.{Block, local, global, Cell, number, null, pointer, read, Memory, with_frame}
-use Rattle.source_meaning.specs.Values.{Value, holds, cell_of, cleared, frame_cells}
-use Rattle.source_meaning.specs.Functions.{without_locals}
+use Rattle.source_meaning.specs.Memory.{local, global, Cell, number, null, pointer, Memory, with_frame}
+use Rattle.source_meaning.specs.Values.{Value, cell_of, cleared, frame_cells}
 use Rattle.source_meaning.proofs.SizeLemmas.{sizes}
 use Rattle.pt_core.specs.Types.{shape_of, type_at}
 use Rattle.pt_core.specs.Calls.{with_arguments}
-use Rattle.half_meaning_law.specs.Relations.{Scene, core_cell, name_of, SameBlocks, depth_of, reach_by, reach_of, reach_in, CellFits, MemoryFits, cells_in, room_of, VariablesLive}
-use Rattle.half_meaning_law.specs.Expressions.{IsValue}
+use Rattle.half_meaning_law.specs.Relations.{Scene, core_cell, SameBlocks, reach_by, CellFits, cells_in}
 use Rattle.half_meaning_law.specs.Statements.{AreArguments}
-use Rattle.half_meaning_law.proofs.Memories.{same_number, is_same, is_other, AllCells}
+use Rattle.half_meaning_law.proofs.Memories.{same_number, is_same, is_other}
 
 -- ---- scenes
 

@@ -8,17 +8,15 @@ use Rattle.pt_tree.specs.declared.signature.Param.{Param}
 use Rattle.pt_tree.specs.declared.signature.ParamKind.{ParamKind}
 use Rattle.pt_tree.specs.declared.signature.ParamKind.TheVariants as k
 use Rattle.pt_tree.specs.declared.signature.Signature.{Signature}
-use Rattle.typed_tree.specs.TypedTree as trees
 use Rattle.typed_tree.specs.TypedTree.{TypedTree}
 use Rattle.typed_tree.specs.WellFormed.{are_rising, is_integer_kind, is_integer_param}
-use Rattle.typed_tree.specs.WellFormedExpression.{param_type}
 use Rattle.source_meaning.specs.Values.{numbers_of}
 use Rattle.source_meaning.specs.Functions as mf
 use Rattle.source_meaning.specs.Functions.{function_or_none}
 use Rattle.pt_core.specs.CodeTree.{FunctionTree, ProgramTree}
 use Rattle.pt_core.specs.Values as cv
 use Rattle.pt_core.specs.Calls as d
-use Rattle.pt_core.specs.WellFormed.{is_sound, signature_at, function_at, called_signature, with_own, function_by, function_fits, signature_fits, counts_fit, variable_fits, scope_of, param_fits}
+use Rattle.pt_core.specs.WellFormed.{is_sound, signature_at, function_at, called_signature, function_by, function_fits, signature_fits}
 use Rattle.half_meaning_law.specs.Statements.{BodiesKeepTheirMeaning, CallsAlike}
 use Rattle.half_names_law.specs.Declarable.{Declarable, takes_no_pointer, is_pointer_kind, prototypes_take_no_pointers}
 use Rattle.half_names_law.specs.Standing.{own_marks, scene_of, all_said}
@@ -33,13 +31,13 @@ use Rattle.half_names_law.proofs.Halves.{soundness, signature_there}
 use Rattle.half_names_law.proofs.Law.{functions_differ, meanings}
 use Rattle.half_names_law.proofs.Marks.{own_say, find_back, defined_is}
 use Rattle.half_names_law.proofs.Trees.{bodies_stand}
-use Rattle.half_calls_law.specs.Calls.{half_calls, text_calls, prototypes_are_hosts, outside_signature, OutsideAlike}
+use Rattle.half_calls_law.specs.Calls.{text_calls, prototypes_are_hosts, OutsideAlike}
 use Rattle.half_calls_law.specs.Laws.{HalfHostsAgree}
 use Rattle.half_calls_law.proofs.Entering.{as_many}
 use Rattle.half_calls_law.proofs.Scenes.{numbers_same}
 use Rattle.half_calls_law.proofs.Depths.{number_of, EntryStands, called_from, shown}
 use Rattle.half_calls_law.proofs.Marked.{undefined_said}
-use Rattle.half_calls_law.proofs.Entries.{standing, Standing, entry_at, beyond}
+use Rattle.half_calls_law.proofs.Entries.{standing, entry_at, beyond}
 use Rattle.half_calls_law.proofs.Hosts.{text_hosts, half_hosts, text_within, half_within, host_alike}
 use Rattle.half_calls_law.proofs.Law.{half_calls_agree}
 

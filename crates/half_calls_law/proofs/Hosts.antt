@@ -1,39 +1,26 @@
 -- Where all functions without a body are hosts, nothing is given from outside.
-use Rattle.std.proofs.Common.{◌≡◌, ◌∙◌, ◌≤◌, ◌<◌, ℕ, zero, suc, ◌+◌, ℤ, pos, refl, ap, sym, subst, arith, Bool, true, false, Option, Some, None, List, [], ◌∷◌, ◌++◌, map, length, take, if◌then◌else◌}
-use Rattle.std.specs.Prelude.{◌&&◌, ◌||◌, IsTrue, not, is_some, slice_get, nat_eq, unwrap_or}
-use Rattle.std.specs.List.{list_all}
+use Rattle.std.proofs.Common.{◌≡◌, ◌∙◌, ℕ, zero, suc, ℤ, pos, refl, ap, sym, subst, Bool, true, false, Option, Some, None, List, ◌++◌, map, if◌then◌else◌}
+use Rattle.std.specs.Prelude.{not, is_some, nat_eq}
 use Rattle.std.proofs.lemmas.List.{map-append}
 use Rattle.pt_base.specs.declared.int_type.IntType.{IntType}
 use Rattle.pt_base.specs.declared.trap.Trap.TheVariants.{Depth}
 use Rattle.pt_tree.specs.declared.host_model.HostModel.{HostModel}
-use Rattle.pt_tree.specs.declared.signature.Param.{Param}
-use Rattle.pt_tree.specs.declared.signature.ParamKind.{ParamKind}
-use Rattle.pt_tree.specs.declared.signature.ParamKind.TheVariants as k
 use Rattle.pt_tree.specs.declared.signature.Signature.{Signature}
 use Rattle.pt_tree.specs.HostStep.{Answer, host_step}
-use Rattle.runs.specs.State.{Event, Hosts, gives, trapped, spent, take_turn, noted, guarded_event, answer_of, after_answer, put_host, out, out_event}
-use Rattle.typed_tree.specs.declared.types.VarTy.{VarTy}
+use Rattle.runs.specs.State.{Hosts, gives, trapped, take_turn, noted, guarded_event, answer_of, after_answer, put_host, out_event}
 use Rattle.typed_tree.specs.TypedTree.{TypedTree}
-use Rattle.typed_tree.specs.WellFormed.{is_integer_param}
-use Rattle.typed_tree.specs.WellFormedExpression.{is_main}
-use Rattle.block_memory.specs.declared.cell.Cell as core
-use Rattle.block_memory.specs.declared.cell.Cell.TheVariants as cell
-use Rattle.source_meaning.specs.Memory.{number}
-use Rattle.source_meaning.specs.State.{State, Outcome}
-use Rattle.source_meaning.specs.Values.{Value, holds, numbers_of}
+use Rattle.source_meaning.specs.State.{State}
 use Rattle.source_meaning.specs.Expressions as m
-use Rattle.source_meaning.specs.Functions as mf
 use Rattle.source_meaning.specs.Functions.{function_or_none, function_call, host_call, answered, result_value, calls_within}
-use Rattle.pt_core.specs.Values as cv
-use Rattle.pt_core.specs.CodeTree.{FunctionTree, ProgramTree}
+use Rattle.pt_core.specs.CodeTree.{ProgramTree}
 use Rattle.pt_core.specs.Statements as c
 use Rattle.pt_core.specs.Calls as d
 use Rattle.pt_core.specs.WellFormed.{function_at}
 use Rattle.half_meaning_law.proofs.Memories.{differ, same_number, is_same, is_other}
-use Rattle.half_meaning_law.specs.Relations.{Scene, frame_of, core_event, Alike, Same}
-use Rattle.half_meaning_law.specs.Statements.{AreArguments, SameResult, GivesResult}
+use Rattle.half_meaning_law.specs.Relations.{Scene, core_event, Alike, Same}
+use Rattle.half_meaning_law.specs.Statements.{SameResult, GivesResult}
 use Rattle.half_calls_law.specs.Calls.{text_calls, half_calls}
-use Rattle.half_calls_law.proofs.Scenes.{turn_alike, noted_alike, left_alike}
+use Rattle.half_calls_law.proofs.Scenes.{turn_alike}
 
 -- ---- with hosts outside
 

@@ -1,24 +1,19 @@
 -- The laws of calls and of functions.
-use Rattle.std.proofs.Common.{◌≡◌, ◌∙◌, ℕ, zero, suc, refl, ap, sym, subst, Bool, true, false, Some, List, if◌then◌else◌}
+use Rattle.std.proofs.Common.{◌≡◌, ◌∙◌, ℕ, zero, suc, refl, ap, sym, subst, Bool, true, Some, List, if◌then◌else◌}
 use Rattle.std.specs.Prelude.{is_some, slice_get}
-use Rattle.pt_base.specs.declared.span.Span.{Span}
 use Rattle.pt_tree.specs.declared.signature.Signature.{Signature}
-use Rattle.runs.specs.State.{trapped, ◌>>=◌, take_turn, noted, guarded_event}
-use Rattle.pt_base.specs.declared.trap.Trap.TheVariants.{Depth}
+use Rattle.runs.specs.State.{◌>>=◌, take_turn, noted, guarded_event}
 use Rattle.typed_tree.specs.declared.types.StructInfo.{StructInfo}
-use Rattle.typed_tree.specs.declared.types.VarTy.{VarTy}
 use Rattle.typed_tree.specs.TypedTree.{TypedTree}
 use Rattle.source_meaning.specs.Memory.{with_frame}
 use Rattle.source_meaning.specs.State.{State}
 use Rattle.source_meaning.specs.Values.{Value, numbers_of, frame_cells}
 use Rattle.source_meaning.specs.Expressions as m
-use Rattle.source_meaning.specs.Statements.{Code}
 use Rattle.source_meaning.specs.Functions.{function_or_none, function_call, entered, code_at, body_at, brace_of, frame_in, returned_from}
 use Rattle.pt_core.specs.CodeTree.{FunctionTree, ProgramTree}
-use Rattle.pt_core.specs.Statements as c
 use Rattle.pt_core.specs.WellFormed.{is_sound, called_signature, signature_at, function_fits}
 use Rattle.half_meaning_law.specs.Statements.{BodiesKeepTheirMeaning, CallsAlike}
-use Rattle.half_names_law.specs.Declarable.{Declarable, prototypes_take_no_pointers}
+use Rattle.half_names_law.specs.Declarable.{Declarable}
 use Rattle.half_names_law.specs.Standing.{Marks, own_marks, whole_marks, scene_of, all_said}
 use Rattle.half_names_law.specs.Laws.{judged_tree, BodyStands, MeaningKept}
 use Rattle.half_names_law.proofs.Known.{all_there}
@@ -27,10 +22,10 @@ use Rattle.half_names_law.proofs.Halves.{soundness, signature_there}
 use Rattle.half_names_law.proofs.Law.{functions_differ, meanings}
 use Rattle.half_names_law.proofs.Marks.{whole_say, own_say}
 use Rattle.half_names_law.proofs.Trees.{bodies_stand}
-use Rattle.half_calls_law.specs.Calls.{text_calls, half_calls, IsActive, OutsideAlike}
+use Rattle.half_calls_law.specs.Calls.{text_calls, half_calls}
 use Rattle.half_calls_law.specs.Laws.{CallsAgree, FunctionsAgree, HalfCallsAgree, HalfFunctionsAgree}
 use Rattle.half_calls_law.proofs.Structs.{SameTypes, same_types, statement_same}
-use Rattle.half_calls_law.proofs.Depths.{TextIs, calls_alike}
+use Rattle.half_calls_law.proofs.Depths.{calls_alike}
 use Rattle.half_calls_law.proofs.Entries.{tree, text_is}
 
 -- ---- with structs of the same types

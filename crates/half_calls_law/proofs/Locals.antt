@@ -1,15 +1,14 @@
 -- The declarations of a function's variables, where it begins: they clear what is clear.
-use Rattle.std.proofs.Common.{◌≡◌, ◌∙◌, ◌≤◌, ◌<◌, ℕ, zero, suc, ◌+◌, nat_eq, refl, ap, sym, subst, arith, Bool, true, false, Option, Some, None, List, [], ◌∷◌, ◌++◌, map, length, if◌then◌else◌}
+use Rattle.std.proofs.Common.{◌≡◌, ◌∙◌, ◌≤◌, ◌<◌, ℕ, zero, suc, ◌+◌, refl, ap, sym, arith, Bool, true, false, List, [], ◌∷◌, ◌++◌, length, if◌then◌else◌}
 use Rattle.std.specs.Prelude.{get_or}
-use Rattle.runs.specs.State.{gives, ◌>>=◌}
 use Rattle.typed_tree.specs.declared.types.VarTy.{VarTy}
 use Rattle.typed_tree.specs.declared.variable.Var.{Var}
 use Rattle.typed_tree.specs.StatementTree.{BodyTree, body_trees}
-use Rattle.source_meaning.specs.Memory.{Block, local, global, same_block, Cell, Memory, put, with_frame}
-use Rattle.source_meaning.specs.State.{State, Outcome}
+use Rattle.source_meaning.specs.Memory.{Block, local, same_block, Cell, Memory, put, with_frame}
+use Rattle.source_meaning.specs.State.{State}
 use Rattle.source_meaning.specs.Values.{Value, cleared, frame_cells}
 use Rattle.source_meaning.specs.Expressions.{sizes, type_at}
-use Rattle.source_meaning.specs.Statements.{Code, Flow, cleared_at, all_of}
+use Rattle.source_meaning.specs.Statements.{Code, cleared_at, all_of}
 use Rattle.half_meaning_law.proofs.Memories.{block_same, is_same}
 use Rattle.half_names_law.proofs.Locals.{declaration_trees}
 

@@ -1,7 +1,7 @@
 -- Which parameters of a half's functions the items of its tree say are marked.
-use Rattle.std.proofs.Common.{◌≡◌, ◌++◌, ◌∙◌, ◌≤◌, sym, ap, refl, subst, ℕ, zero, suc, ◌+◌, ℤ, Bool, true, false, List, [], ◌∷◌, length, map, take, Option, Some, None, arith}
-use Rattle.std.specs.Prelude.{◌&&◌, ◌||◌, not, is_some, fold, slice_get, nat_eq, if◌then◌else◌}
-use Rattle.std.specs.List.{range_with_len, list_all}
+use Rattle.std.proofs.Common.{◌≡◌, ◌++◌, ◌∙◌, ◌≤◌, sym, ap, refl, subst, ℕ, zero, suc, ◌+◌, ℤ, Bool, true, false, List, [], ◌∷◌, length, map, take, Some, arith}
+use Rattle.std.specs.Prelude.{◌&&◌, ◌||◌, is_some, fold, slice_get, if◌then◌else◌}
+use Rattle.std.specs.List.{range_with_len}
 use Rattle.std.specs.Str.{bytes_eq}
 use Rattle.std.proofs.lemmas.List.{append_assoc}
 use Rattle.pt_tree.specs.declared.signature.Param.{Param}
@@ -13,7 +13,6 @@ use Rattle.pt_tree.specs.declared.specifier.SpecWord.{SpecWord}
 use Rattle.pt_tree.specs.SpecifierTree.{SpecTree, keyword, spec_trees}
 use Rattle.pt_tree.specs.ProgramTree as parsed
 use Rattle.pt_tree.specs.ProgramTree.{ItemTree, declares, function}
-use Rattle.type_rules.specs.declared.types.Type.{«Type»}
 use Rattle.typed_tree.specs.declared.types.StructInfo.{StructInfo}
 use Rattle.typed_tree.specs.declared.variable.Var.{Var}
 use Rattle.typed_tree.specs.TypeTests.{same_bool, same_type, points_to_const}
@@ -29,23 +28,23 @@ use Rattle.check_programs.specs.Unions as u
 use Rattle.check_programs.specs.Unions.{declarations_of, with_declaration, undeclared}
 use Rattle.pt_core.specs.CodeTree.{FunctionTree, ProgramTree}
 use Rattle.pt_core.specs.Types.{element_of}
-use Rattle.pt_core.specs.WellFormed.{function_at, with_own, function_fits, signature_at}
-use Rattle.half_trees.specs.Names.{nowhere, function_by, local_name}
+use Rattle.pt_core.specs.WellFormed.{function_at, function_fits, signature_at}
+use Rattle.half_trees.specs.Names.{nowhere, function_by}
 use Rattle.half_trees.specs.Declarations.{struct_item, global_item, type_words, elem_specs, const_specs, mark_specs, object_specs, parameters_or_void}
 use Rattle.half_trees.specs.Functions.{function_item}
 use Rattle.half_trees.specs.Halves.{prototype_of, half_tree}
 use Rattle.half_meaning_law.specs.Known.{type_as}
 use Rattle.half_names_law.specs.Standing.{own_marks, definition}
-use Rattle.half_names_law.proofs.Tables.{listed, name_same, name_self}
+use Rattle.half_names_law.proofs.Tables.{name_same, name_self}
 use Rattle.half_names_law.proofs.Objects.{both_hold}
 use Rattle.half_names_law.proofs.Numbers.{lookup_place, mapped_back}
-use Rattle.half_names_law.proofs.Parameters.{Marked, ParametersFit, parameter_of, parameters_by}
+use Rattle.half_names_law.proofs.Parameters.{Marked, parameter_of, parameters_by}
 use Rattle.half_names_law.proofs.Prototypes.{marked_param, prototype_as}
 use Rattle.half_names_law.proofs.Names.{own, text_name, FunctionsApart, joined_each}
 use Rattle.half_names_law.proofs.Known.{own_name, all_there}
 use Rattle.half_names_law.proofs.Parts.{marked_var, parameters_in, definition_is}
 use Rattle.half_names_law.proofs.Halves.{Sound, signature_there}
-use Rattle.half_names_law.proofs.Marks.{rises, reached, named_as, declared_in, only_declared, inner, same_entry, prototype_there}
+use Rattle.half_names_law.proofs.Marks.{reached, named_as, declared_in, only_declared, inner, same_entry, prototype_there}
 
 -- ---- what declarations say of a parameter
 

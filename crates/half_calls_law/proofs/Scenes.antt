@@ -1,6 +1,6 @@
 -- What holds in a scene whatever its calls do, and where a function is entered and left.
-use Rattle.std.proofs.Common.{◌≡◌, ◌∙◌, ◌≤◌, ◌<◌, ℕ, zero, suc, ◌+◌, ℤ, nat_eq, refl, ap, sym, subst, arith, Bool, true, false, Option, Some, None, List, [], ◌∷◌, ◌++◌, map, length, if◌then◌else◌}
-use Rattle.std.specs.Prelude.{◌&&◌, ◌||◌, not, unwrap_or}
+use Rattle.std.proofs.Common.{◌≡◌, ◌∙◌, ◌≤◌, ◌<◌, ℕ, zero, suc, ◌+◌, ℤ, nat_eq, refl, ap, sym, subst, arith, Bool, true, false, Option, Some, None, List, [], ◌∷◌, ◌++◌, map, if◌then◌else◌}
+use Rattle.std.specs.Prelude.{◌&&◌, ◌||◌, not}
 use Rattle.std.proofs.lemmas.List.{map-append}
 use Rattle.std.proofs.lemmas.Bool.Decides.{nat_tests}
 use Rattle.pt_base.specs.declared.int_type.IntType.{IntType}
@@ -10,12 +10,9 @@ use Rattle.pt_tree.specs.declared.signature.Signature.{Signature}
 use Rattle.pt_tree.specs.PlainNumbers.{plain_numbers}
 use Rattle.runs.specs.State.{Event, gives, trapped, spent, ◌>>=◌, take_turn, noted, guarded, guarded_event}
 use Rattle.typed_tree.specs.declared.types.VarTy.{VarTy}
-use Rattle.typed_tree.specs.declared.types.StructInfo.{StructInfo}
-use Rattle.typed_tree.specs.declared.variable.Var.{Var}
 use Rattle.typed_tree.specs.Sizes.{sizes_of}
 use Rattle.typed_tree.specs.ExpressionTree.{ExprTree}
 use Rattle.block_memory.specs.declared.cell.Cell as core
-use Rattle.block_memory.specs.declared.cell.Cell.TheVariants.{Int}
 use Rattle.source_meaning.specs.State.{State, Outcome}
 use Rattle.source_meaning.specs.Values.{Value, number_of, numbers_of}
 use Rattle.source_meaning.specs.Expressions as m
@@ -27,8 +24,7 @@ use Rattle.pt_core.specs.CodeTree.{FunctionTree, ProgramTree}
 use Rattle.pt_core.specs.Statements as c
 use Rattle.pt_core.specs.Statements.{with_blocks}
 use Rattle.pt_core.specs.Calls as cc_
-use Rattle.half_meaning_law.specs.Relations.{Scene, core_cell, core_event, SameSeen, Alike, Same}
-use Rattle.half_meaning_law.specs.Expressions.{IsValue}
+use Rattle.half_meaning_law.specs.Relations.{Scene, core_event, Alike, Same}
 use Rattle.half_meaning_law.specs.Statements.{AreArguments, SameReturn, SameFlow, GoesOn, SameResult, GivesResult, code_of}
 use Rattle.half_meaning_law.proofs.Operators.{number_same}
 use Rattle.half_names_law.specs.Standing.{scene_of}

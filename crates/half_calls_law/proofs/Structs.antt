@@ -27,8 +27,8 @@ use Rattle.source_meaning.specs.Memory.{Cell, number, read, local, put}
 use Rattle.source_meaning.specs.State.{State, Outcome}
 use Rattle.source_meaning.specs.Values as v
 use Rattle.source_meaning.specs.Values.{Value, holds, whole, cell_of, number_of, is_true, truth_value, converted, converted_cell, target_of, moved_cell, Location, unary_cell, stepped, unit_step, cleared}
-use Rattle.source_meaning.specs.Expressions.{Context, sizes, or_trap, type_at, field_type, field_of, field_at, decayed, address_of, object_at, dereferenced, element_of, indexed, cells_at, loaded, store, compounded, cell_or_trap, step_gives, counted, is_decided, link_type, type_or_int, type_of, nowhere, value_of, form_value, values_of, links_value, link_value, operands_value, operand_value, location_of, root_location, assigned_location, form_location, steps_location, step_location}
-use Rattle.source_meaning.specs.Statements.{Code, no_expr, outermost, Flow, goes_on, broke, continues, returned, after_flow, variable_at, items_stored, initialised, cleared_at, declared, Round, again, leaves, body_round, after_round, looped, tested, stepped_first, tested_later, for_begins, chosen, past_switch, statement, otherwise_of, all_of, sections_from, section_of}
+use Rattle.source_meaning.specs.Expressions.{Context, or_trap, type_at, field_type, field_of, decayed, address_of, object_at, dereferenced, element_of, indexed, cells_at, loaded, store, compounded, cell_or_trap, step_gives, counted, is_decided, link_type, type_or_int, type_of, value_of, form_value, values_of, links_value, link_value, operands_value, operand_value, location_of, root_location, assigned_location, form_location, steps_location, step_location}
+use Rattle.source_meaning.specs.Statements.{Code, no_expr, outermost, goes_on, returned, after_flow, variable_at, items_stored, initialised, cleared_at, declared, Round, leaves, body_round, looped, tested, stepped_first, tested_later, for_begins, chosen, past_switch, statement, otherwise_of, all_of, sections_from, section_of}
 use Rattle.half_names_law.specs.Laws.{field_types}
 
 -- ---- structs with the same types
@@ -143,7 +143,7 @@ mutual
   form_same (t.convert a) s ty c b h = λ i st. value_same a c b h i st >>= λ u. gives (converted (type_or_int ty) u)
   form_same (t.discard a) s ty c b h = λ i st. value_same a c b h i st >>= λ u. gives v.nothing
   form_same (t.chain a links) s ty c b h = λ i st. value_same a c b h i st >>= λ u. links_same links (type_of a) u c b h i
-  form_same (t.logical op a operands) s ty c b h = λ i st. value_same a c b h i st >>= λ u. operands_same operands op (is_true u) c b h i
+  form_same (t.logical op a others) s ty c b h = λ i st. value_same a c b h i st >>= λ u. operands_same others op (is_true u) c b h i
   form_same (t.choice a x y) s ty c b h = λ i st. value_same a c b h i st >>= λ u. if is_true u then value_same x c b h i else value_same y c b h i
   form_same (t.assign p a) s ty c b h = λ i st. location_same p c b h i st >>= λ at st1. value_same a c b h i st1 >>= store at
   form_same (t.compound p left step a) s ty c b h = λ i st. location_same p c b h i st >>= λ at st1. value_same a c b h i st1 >>= λ u. compounded_same c b h s at step u i
@@ -191,7 +191,7 @@ mutual
   form_location_same (t.convert a) c b h = refl
   form_location_same (t.discard a) c b h = refl
   form_location_same (t.chain a links) c b h = refl
-  form_location_same (t.logical op a operands) c b h = refl
+  form_location_same (t.logical op a others) c b h = refl
   form_location_same (t.choice a x y) c b h = refl
   form_location_same (t.compound p left step a) c b h = refl
   form_location_same (t.step p left back postfix) c b h = refl

@@ -1,5 +1,5 @@
 -- What is proved of calls in both halves' texts.
-use Rattle.std.specs.Prelude.{◌≡◌, ℕ, List, Bool, Some, IsTrue, map}
+use Rattle.std.specs.Prelude.{◌≡◌, ℕ, List, Bool, Some, IsTrue}
 use Rattle.pt_tree.specs.declared.signature.Signature.{Signature}
 use Rattle.typed_tree.specs.declared.types.VarTy.{VarTy}
 use Rattle.source_meaning.specs.Expressions as m
@@ -14,7 +14,7 @@ use Rattle.half_meaning_law.specs.Statements.{CallsAlike, StatementsMean}
 use Rattle.half_names_law.specs.Declarable.{Declarable, prototypes_take_no_pointers}
 use Rattle.half_names_law.specs.Standing.{Marks, own_marks, whole_marks, statements_at, scene_of, all_said}
 use Rattle.half_names_law.specs.Laws.{judged_tree, statements_checked}
-use Rattle.half_calls_law.specs.Calls.{text_calls, half_calls, IsActive, scene_within, OutsideAlike, prototypes_are_hosts}
+use Rattle.half_calls_law.specs.Calls.{half_calls, IsActive, scene_within, OutsideAlike, prototypes_are_hosts}
 
 -- ---- with any functions without a body
 
