@@ -279,3 +279,19 @@ module _ (marks : Marks) (monitor : Bool) (p : ProgramTree) (t : TypedTree) (tex
     where
       less : (e : ℕ) → suc d ≡ suc e → d ≡ e
       less e q = omega (arith, q)
+
+  -- a function that is entered from wherever these frames are
+  pub entered_alike_from : (depth : ℕ) (f h : FunctionTree) (s : Signature) (frames : ℕ → List VarTy) (frame : m.Frame) (outside : m.Calls) (outside' : c.Calls) (a : m.Calls) (a' : c.Calls) (g n : ℕ) (vs : List Value) (xs : List core.Cell) (st : State) (st' : c.State) → OutsideAlike monitor p outside outside' →
+      function_at p (number_of p g) ≡ Some h → signature_at p (number_of p g) ≡ Some s → BodyIs marks monitor p t g n h s → EntryStands monitor p t g (number_of p g) s → FramesEnd frames frame.depth →
+      AreArguments (scene_of p f frames frame a a') (with_own monitor (Some h) s).params vs xs → Alike (scene_of p f frames frame a a') st st' →
+      Same (scene_of p f frames frame a a') (GivesResult (scene_of p f frames frame a a') s.result) (function_call t (text_calls t outside depth) frame g vs st) (cc_.function_call p (half_calls p outside' depth) (frame_of (scene_of p f frames frame a a')) (number_of p g) xs st')
+  unfolding text_inside half_inside
+  entered_alike_from depth f h s frames frame outside outside' a a' g n vs xs st st' others found named is stands ends args al =
+      inside_alike (suc depth) f h s frames frame outside outside' a a' nowhere nowhere g n vs xs st st'
+      (λ e q. subst (λ z. CallsAlike (inner_of p h frames frame s.privileged (text_calls t outside z) (half_calls p outside' z)) (called_signature monitor p)) (less e q)
+      (calls_alike depth outside outside' n h (frames_in frames frame.depth (types_in h.vars)) (record { depth = frame.depth + 1; privileged = frame.privileged || s.privileged }) others
+      (record { there = is.there; own = own_in frames frame.depth (types_in h.vars); ends = ends_in frames frame.depth (types_in h.vars) ends })))
+      found named is stands ends args al
+    where
+      less : (e : ℕ) → suc depth ≡ suc e → depth ≡ e
+      less e q = omega (arith, q)

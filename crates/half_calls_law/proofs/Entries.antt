@@ -108,7 +108,7 @@ placed monitor p g s sound named =
     ap (slice_get p.signatures) (sym same) ∙ place.there
 
 -- what a half's function stands under
-at_number : (p : ProgramTree) (N : ℕ) (f : FunctionTree) → function_at p N ≡ Some f → (n : ℕ) × (slice_get p.functions n ≡ Some f) × (N ≡ f.id)
+pub at_number : (p : ProgramTree) (N : ℕ) (f : FunctionTree) → function_at p N ≡ Some f → (n : ℕ) × (slice_get p.functions n ≡ Some f) × (N ≡ f.id)
 at_number p N f h = find_back p.functions N f h
 
 -- ---- entries of the tree

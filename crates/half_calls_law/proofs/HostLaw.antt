@@ -32,14 +32,14 @@ use Rattle.half_names_law.proofs.Law.{functions_differ, meanings}
 use Rattle.half_names_law.proofs.Marks.{own_say, find_back, defined_is}
 use Rattle.half_names_law.proofs.Trees.{bodies_stand}
 use Rattle.half_calls_law.specs.Calls.{text_calls, prototypes_are_hosts, OutsideAlike}
-use Rattle.half_calls_law.specs.Laws.{HalfHostsAgree}
+use Rattle.half_calls_law.specs.Laws.{StartsAlike, HalfHostsAgree, HalfHostStartsAgree}
 use Rattle.half_calls_law.proofs.Entering.{as_many}
 use Rattle.half_calls_law.proofs.Scenes.{numbers_same}
 use Rattle.half_calls_law.proofs.Depths.{number_of, EntryStands, called_from, shown}
 use Rattle.half_calls_law.proofs.Marked.{undefined_said}
 use Rattle.half_calls_law.proofs.Entries.{standing, entry_at, beyond}
 use Rattle.half_calls_law.proofs.Hosts.{text_hosts, half_hosts, text_within, half_within, host_alike}
-use Rattle.half_calls_law.proofs.Law.{half_calls_agree}
+use Rattle.half_calls_law.proofs.Law.{half_calls_agree, half_starts_agree}
 
 -- ---- a host takes no pointers
 
@@ -202,3 +202,11 @@ half_hosts_agree bodies monitor p h d' said_all hosts depth n f frames frame act
     subst (λ k. CallsAlike (scene_of p f frames frame k (d.calls_within p depth)) (called_signature monitor p)) (sym (text_within text_tree (text_are bodies monitor p h d' said_all hosts) depth))
     (subst (λ k. CallsAlike (scene_of p f frames frame (text_calls text_tree (text_hosts text_tree) depth) k) (called_signature monitor p)) (sym (half_within p (half_are bodies monitor p h d' said_all hosts) depth))
     ((half_calls_agree bodies monitor p h d' said_all).1 fits (text_hosts text_tree) (half_hosts p) (outside_alike bodies monitor p h d' said_all hosts) depth n f frames frame active))
+
+pub half_host_starts_agree : BodiesKeepTheirMeaning → HalfHostStartsAgree
+half_host_starts_agree bodies monitor p h d' said_all hosts depth =
+    let fits = no_pointers p (soundness monitor p h).signatures hosts in
+    let text_tree = judged_tree (own_marks monitor p) monitor p in
+    subst (λ k. StartsAlike monitor p text_tree k (d.calls_within p depth)) (sym (text_within text_tree (text_are bodies monitor p h d' said_all hosts) depth))
+    (subst (λ k. StartsAlike monitor p text_tree (text_calls text_tree (text_hosts text_tree) depth) k) (sym (half_within p (half_are bodies monitor p h d' said_all hosts) depth))
+    ((half_starts_agree bodies monitor p h d' said_all).1 fits (text_hosts text_tree) (half_hosts p) (outside_alike bodies monitor p h d' said_all hosts) depth))

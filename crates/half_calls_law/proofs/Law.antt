@@ -1,5 +1,5 @@
 -- The laws of calls and of functions.
-use Rattle.std.proofs.Common.{◌≡◌, ◌∙◌, ℕ, zero, suc, refl, ap, sym, subst, Bool, true, Some, List, if◌then◌else◌}
+use Rattle.std.proofs.Common.{◌≡◌, ◌∙◌, ℕ, zero, suc, refl, ap, sym, subst, Bool, true, Some, List, [], if◌then◌else◌}
 use Rattle.std.specs.Prelude.{is_some, slice_get}
 use Rattle.pt_tree.specs.declared.signature.Signature.{Signature}
 use Rattle.runs.specs.State.{◌>>=◌, take_turn, noted, guarded_event}
@@ -12,7 +12,9 @@ use Rattle.source_meaning.specs.Expressions as m
 use Rattle.source_meaning.specs.Functions.{function_or_none, function_call, entered, code_at, body_at, brace_of, frame_in, returned_from}
 use Rattle.pt_core.specs.CodeTree.{FunctionTree, ProgramTree}
 use Rattle.pt_core.specs.WellFormed.{is_sound, called_signature, signature_at, function_fits}
-use Rattle.half_meaning_law.specs.Statements.{BodiesKeepTheirMeaning, CallsAlike}
+use Rattle.pt_core.specs.Calls.{no_function, function_call as core_call}
+use Rattle.half_meaning_law.specs.Relations.{frame_of, Same}
+use Rattle.half_meaning_law.specs.Statements.{GivesResult, BodiesKeepTheirMeaning, CallsAlike}
 use Rattle.half_names_law.specs.Declarable.{Declarable}
 use Rattle.half_names_law.specs.Standing.{Marks, own_marks, whole_marks, scene_of, all_said}
 use Rattle.half_names_law.specs.Laws.{judged_tree, BodyStands, MeaningKept}
@@ -23,10 +25,10 @@ use Rattle.half_names_law.proofs.Law.{functions_differ, meanings}
 use Rattle.half_names_law.proofs.Marks.{whole_say, own_say}
 use Rattle.half_names_law.proofs.Trees.{bodies_stand}
 use Rattle.half_calls_law.specs.Calls.{text_calls, half_calls}
-use Rattle.half_calls_law.specs.Laws.{CallsAgree, FunctionsAgree, HalfCallsAgree, HalfFunctionsAgree}
+use Rattle.half_calls_law.specs.Laws.{start_scene, CallsAgree, FunctionsAgree, StartsAgree, HalfCallsAgree, HalfFunctionsAgree, HalfStartsAgree}
 use Rattle.half_calls_law.proofs.Structs.{SameTypes, same_types, statement_same}
-use Rattle.half_calls_law.proofs.Depths.{calls_alike}
-use Rattle.half_calls_law.proofs.Entries.{tree, text_is}
+use Rattle.half_calls_law.proofs.Depths.{number_of, calls_alike, entered_alike_from}
+use Rattle.half_calls_law.proofs.Entries.{at_number, tree, text_is}
 
 -- ---- with structs of the same types
 
@@ -71,6 +73,19 @@ module _ (bodies : BodiesKeepTheirMeaning) (marks : Marks) (monitor : Bool) (p :
   functions outside outside' others depth n f s frames frame active named =
       means n f s active.there named frames frame (text_calls (judged_tree marks monitor p) outside depth) (half_calls p outside' depth) active.own (calls outside outside' others depth n f frames frame active)
 
+  pub starts : StartsAgree marks monitor p
+  starts outside outside' others depth g frame f s vs xs st st' found named args al =
+      let typed = judged_tree marks monitor p in
+      let at = at_number p (number_of p g) f found in
+      let types = types_same at.0 f at.1 in
+      let text = text_is bodies marks monitor p h d said_all say same stand means in
+      let known = text.bodies g f s named found in
+      let start = start_scene p frame (text_calls typed outside depth) (half_calls p outside' depth) in
+      subst (λ k. Same start (GivesResult start s.result) (k frame g vs st) (core_call p (half_calls p outside' depth) (frame_of start) (number_of p g) xs st'))
+      (sym (call_same typed p.structs types (text_calls typed outside depth) (text_calls (with_types typed p.structs) outside depth) (calls_same typed p.structs types outside depth)))
+      (entered_alike_from marks monitor p (tree bodies marks monitor p h d said_all say same stand means) text depth no_function f s (λ e. []) frame outside outside' (text_calls typed outside depth) (half_calls p outside' depth) g known.0 vs xs st st' others found named known.2
+      (text.places g s named) (λ e less. refl) args al)
+
 -- ---- with both marks
 
 pub half_calls_agree : BodiesKeepTheirMeaning → HalfCallsAgree
@@ -87,4 +102,12 @@ half_functions_agree bodies monitor p h d said_all =
     let apart = functions_differ monitor p h d in (
       functions bodies (whole_marks monitor p) monitor p h d said_all (whole_say monitor p sound apart) (λ name. refl) (λ n f s there named. (bodies_stand bodies monitor p n f s h d said_all there named).0) (λ n f s there named. (meanings bodies monitor p n f s h d said_all there named).0),
       λ plain. functions bodies (own_marks monitor p) monitor p h d said_all (own_say monitor p sound apart plain) (λ name. refl) (λ n f s there named. (bodies_stand bodies monitor p n f s h d said_all there named).1 plain) (λ n f s there named. (meanings bodies monitor p n f s h d said_all there named).1 plain),
+    )
+
+pub half_starts_agree : BodiesKeepTheirMeaning → HalfStartsAgree
+half_starts_agree bodies monitor p h d said_all =
+    let sound = soundness monitor p h in
+    let apart = functions_differ monitor p h d in (
+      starts bodies (whole_marks monitor p) monitor p h d said_all (whole_say monitor p sound apart) (λ name. refl) (λ n f s there named. (bodies_stand bodies monitor p n f s h d said_all there named).0) (λ n f s there named. (meanings bodies monitor p n f s h d said_all there named).0),
+      λ plain. starts bodies (own_marks monitor p) monitor p h d said_all (own_say monitor p sound apart plain) (λ name. refl) (λ n f s there named. (bodies_stand bodies monitor p n f s h d said_all there named).1 plain) (λ n f s there named. (meanings bodies monitor p n f s h d said_all there named).1 plain),
     )

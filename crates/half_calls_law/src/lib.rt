@@ -3,7 +3,7 @@
 //! are hosts, nothing is left to be given.
 #![tactic(auto)]
 
-ghost use Rattle.half_calls_law.specs.Laws.{HalfCallsAgree, HalfFunctionsAgree, HalfHostsAgree};
+ghost use Rattle.half_calls_law.specs.Laws.{HalfCallsAgree, HalfFunctionsAgree, HalfHostsAgree, HalfHostStartsAgree, HalfStartsAgree};
 
 /// Calls with the same arguments, in states that are alike, come to the same, if calls of functions without a
 /// body do.
@@ -21,4 +21,16 @@ pub fn half_functions_agree()
 /// meaning and of the normal form's, and come to the same.
 pub fn half_hosts_agree()
     ensures { HalfHostsAgree }
+{}
+
+/// A function that is entered where no function is active, main too, comes to the same in the half's text as in
+/// the half, if calls of functions without a body do.
+pub fn half_starts_agree()
+    ensures { HalfStartsAgree }
+{}
+
+/// And so it does in a half that declares no other functions without a body than hosts, with the calls of both
+/// meanings.
+pub fn half_host_starts_agree()
+    ensures { HalfHostStartsAgree }
 {}
