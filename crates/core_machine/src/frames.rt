@@ -35,6 +35,7 @@ impl Frames {
     }
 
     /// The innermost of them.
+    #[inline(always)]
     pub(crate) fn innermost(&self) -> Option<Frame>
         ensures { MatchOption result (self.now ≡ []) (λ frame. self.now ≡ frame ∷ rest_of self.now) }
     {
@@ -42,6 +43,7 @@ impl Frames {
     }
 
     /// How many there are.
+    #[inline(always)]
     pub(crate) fn count(&self) -> usize
         ensures { result ≡ length self.now }
     {
@@ -49,6 +51,7 @@ impl Frames {
     }
 
     /// Adds one that is the innermost from now on.
+    #[inline(always)]
     pub(crate) fn push(&mut self, frame: Frame) -> Result<(), AllocError>
         ensures ok { OnOk result (self.new ≡ frame ∷ self.old) }
         ensures err { OnErr result (self.new ≡ self.old) }
@@ -58,6 +61,7 @@ impl Frames {
     }
 
     /// Takes the innermost one away.
+    #[inline(always)]
     pub(crate) fn pop(&mut self)
         ensures { self.new ≡ rest_of self.old }
     {
@@ -65,6 +69,7 @@ impl Frames {
     }
 
     /// The innermost one goes on there.
+    #[inline(always)]
     pub(crate) fn go(&mut self, at: usize)
         ensures { self.new ≡ standing at self.old }
     {

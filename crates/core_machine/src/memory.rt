@@ -1,5 +1,5 @@
 // What statements do to a memory.
-ghost use Rattle.std.specs.Prelude.{◌≡◌, ◌<◌, IfOk, length, map, OnErr, OnOk, pos, unwrap_or};
+ghost use Rattle.std.specs.Prelude.{◌≡◌, ◌<◌, IfOk, IfSome, length, map, OnErr, OnOk, pos, unwrap_or};
 ghost use Rattle.block_memory.specs.Block.{fresh};
 ghost use Rattle.block_memory.specs.Blocks.{put};
 ghost use Rattle.block_memory.specs.declared.cell.BlockName.TheVariants.{Local};
@@ -17,7 +17,7 @@ use machine_memory::MachineMemory;
 use std::alloc::{AllocError, Global};
 
 /// Writes a cell, if it is there.
-#[inline]
+#[inline(always)]
 pub(crate) fn write(
     memory: &mut MachineMemory,
     alloc: Global,
@@ -28,7 +28,23 @@ pub(crate) fn write(
     ensures layouts { layouts_of memory.new ≡ layouts_of memory.old }
     ensures no_more { HasNoMore (blocks_of memory.old) (blocks_of memory.new) }
 {
+    if let Some(w) = small(&c) {
+        if memory.put_word(at, w, false) {
+            return Ok(());
+        }
+    }
     memory.write(alloc, at, c)
+}
+
+// The number that a cell is, where 64 bits hold it.
+#[inline(always)]
+fn small(c: &Cell) -> Option<i64>
+    ensures { IfSome result (λ w. c.now ≡ cell.Int w) }
+{
+    match c {
+        Cell::Int(v) => i64::try_from(*v).ok(),
+        Cell::Ptr(_) | Cell::Sealed(_) => None,
+    }
 }
 
 /// Writes cells from one on, one after the other, as far as they are there.
@@ -97,6 +113,7 @@ fn some_cells(
 }
 
 /// The arguments go to the first variables of the function that was entered at this depth.
+#[inline(always)]
 pub(crate) fn pass(
     memory: &mut MachineMemory,
     alloc: Global,
@@ -117,6 +134,7 @@ pub(crate) fn pass(
 }
 
 /// What a call gave goes to a variable, if there is one for it; 0 where the call gave nothing.
+#[inline(always)]
 pub(crate) fn keep(
     memory: &mut MachineMemory,
     alloc: Global,
@@ -155,6 +173,7 @@ pub(crate) fn keep_open(
 }
 
 // What a call gave, 0 if it gave nothing.
+#[inline(always)]
 fn given(value: Option<Cell>) -> Cell
     ensures { result ≡ unwrap_or value (cell.Int (pos 0)) }
 {

@@ -21,14 +21,14 @@ use Rattle.half_declarations_law.specs.Laws.{TreesAreMarked, slave_half, monitor
 use Rattle.half_declarations_law.proofs.Halves.{part_declarable}
 
 pub halves_declarable : TreesAreMarked → ProgramsAreWellFormed → HalvesAreDeclarable
-halves_declarable trees programs items a few constants none written =
+halves_declarable trees programs items a few constants none =
     let t : TypedTree = (checked_program items).tree in
     let code = functions_from t 0 t.functions in
     let h : Halves = halves_of a.sides in
     let marked = trees items constants none in
     let well = programs items few constants none in (
-      part_declarable t (is_among (asked h code ++ h.slave)) (is_among h.slave) (is_among h.owned) well written marked,
-      part_declarable t (is_among (called_by (monitor_code h code) ++ h.monitor ++ entry_numbers (monitor_entries t h code))) (is_among h.monitor) (λ n. not (is_among h.owned n)) well written marked,
+      part_declarable t (is_among (asked h code ++ h.slave)) (is_among h.slave) (is_among h.owned) well marked,
+      part_declarable t (is_among (called_by (monitor_code h code) ++ h.monitor ++ entry_numbers (monitor_entries t h code))) (is_among h.monitor) (λ n. not (is_among h.owned n)) well marked,
     )
 
 slave_sound : (s : SlaveTree) → IsTrue (is_well_formed_slave s) → IsTrue (is_sound false (slave_program s))
@@ -47,16 +47,16 @@ said_all : (monitor : Bool) (p : ProgramTree) → CodeIsSaid monitor p → IsTru
 said_all monitor p h = each_said (λ f. are_said (context_of p f.vars) (called_signature monitor p) f.body) p.functions h
 
 pub accepted_halves_mean : TreesAreMarked → ProgramsAreWellFormed → SlavesAreWellFormed → MonitorsAreWellFormed → AcceptedShareNothing → AcceptedHalvesAreSaid → HalvesKeepTheirMeaning → AcceptedHalvesKeepTheirMeaning
-accepted_halves_mean trees programs slaves monitors apart said means items a few constants none written is =
+accepted_halves_mean trees programs slaves monitors apart said means items a few constants none is =
     let t : TypedTree = (checked_program items).tree in
     let code = functions_from t 0 t.functions in
     let h : Halves = halves_of a.sides in
     let well = programs items few constants none in
     let halves = apart t a is in
     let both = said items a well is in
-    let can = halves_declarable trees programs items a few constants none written in
+    let can = halves_declarable trees programs items a few constants none in
     let slave = slave_sound (slave_of t h code) (slaves t h well halves.0) in
     let monitor = monitor_sound (monitor_of t h code) (monitors t h well halves.0 halves.1) in (
-      (λ count n f s at there. means false (slave_half t a) n f s slave (can.0 count) (said_all false (slave_half t a) both.0) at there),
-      (λ count n f s at there. means true (monitor_half t a) n f s monitor (can.1 count) (said_all true (monitor_half t a) both.1) at there),
+      (λ n f s at there. means false (slave_half t a) n f s slave can.0 (said_all false (slave_half t a) both.0) at there),
+      (λ n f s at there. means true (monitor_half t a) n f s monitor can.1 (said_all true (monitor_half t a) both.1) at there),
     )

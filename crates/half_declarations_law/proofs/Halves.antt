@@ -1,11 +1,11 @@
 -- Both halves of a tree whose names differ and whose marks stand where they may can be declared.
-use Rattle.std.proofs.Common.{◌≡◌, ◌∙◌, ◌≤◌, ◌<◌, ◌^◌, sym, ap, subst, refl, ℕ, zero, suc, Bool, true, false, List, [], ◌∷◌, ◌++◌, map, arith, ◌+◌, cond, if◌then◌else◌, not, length, Option, Some, None, take}
-use Rattle.std.specs.Prelude.{IsTrue, ◌&&◌, ◌||◌, codes, slice_get, nat_eq, nat_le, nat_lt, option_map, sum_by}
-use Rattle.std.specs.Fmt.{decimal}
-use Rattle.std.specs.List.{list_all, list_any, filter, range_with_len}
+use Rattle.std.proofs.Common.{◌≡◌, ◌∙◌, ◌≤◌, ◌<◌, ◌^◌, sym, ap, subst, refl, ℕ, zero, suc, Bool, true, false, List, [], ◌∷◌, ◌++◌, map, arith, ◌+◌, cond, not, length, Option, Some, None, take}
+use Rattle.std.specs.Prelude.{IsTrue, ◌&&◌, ◌||◌, codes, slice_get, nat_eq, nat_lt, sum_by, nat_le}
+use Rattle.std.specs.List.{list_all, list_any, filter}
 use Rattle.std.specs.Map.{lookup}
-use Rattle.std.specs.Str.{bytes_eq}
 use Rattle.std.proofs.lemmas.Bool.Decides.{nat_tests}
+use Rattle.std.proofs.lemmas.List.{length-map}
+use Rattle.std.proofs.lemmas.List.Sums.{sum_by-cons}
 use Rattle.pt_tree.specs.declared.signature.Signature.{Signature}
 use Rattle.typed_tree.specs.declared.types.Field.{Field}
 use Rattle.typed_tree.specs.declared.types.StructInfo.{StructInfo}
@@ -15,19 +15,19 @@ use Rattle.typed_tree.specs.StatementTree.{BodyTree}
 use Rattle.typed_tree.specs.TypedTree as t
 use Rattle.typed_tree.specs.TypedTree.{TypedTree, signatures_of}
 use Rattle.typed_tree.specs.Nodes.{nodes_of, function_nodes, expr_nodes}
-use Rattle.typed_tree.specs.WellFormed.{structs_sound, global_sound, globals_small, function_sound, is_start, names_sound, numbers_sound, are_distinct, name_of, is_well_formed}
-use Rattle.pt_base.specs.Names.{is_short}
-use Rattle.typed_tree.proofs.WellFormedLemmas.{and_left, and_right, and_both}
-use Rattle.typed_tree.specs.WellFormedExpression.{is_main}
-use Rattle.pt_core.specs.CodeTree.{FunctionTree, GlobalTree, ProgramTree}
+use Rattle.typed_tree.specs.WellFormed.{are_distinct, name_of, is_well_formed}
+use Rattle.typed_tree.proofs.WellFormedLemmas.{and_left, and_right, and_both, facts_of, functions_few}
+use Rattle.pt_core.specs.CodeTree.{FunctionTree, ProgramTree}
 use Rattle.pt_core.specs.WellFormed.{signature_at}
 use Rattle.c_lower.specs.Lowered.{Temp}
 use Rattle.c_lower.specs.Functions.{variable_of, lowered_body, core_of, code_if, functions_from, signatures_from, globals_from}
 use Rattle.splitter.specs.Halves.{chosen_functions, chosen_signatures, chosen_globals}
-use Rattle.half_trees.specs.Names.{is_name_byte, named, struct_name, field_by, function_by}
-use Rattle.half_names_law.specs.Declarable.{Declarable, struct_names, field_names, function_names, signature_marked, variable_marked, parameters_marked, function_marked, global_marked}
-use Rattle.half_declarations_law.specs.Trees.{is_written, struct_written, names_written, parameters_plain, Marked, variables_few}
-use Rattle.half_declarations_law.proofs.Names.{name_self, name_same, name_other, made_distinct, before_both, chosen_distinct, by_place}
+use Rattle.half_trees.specs.Names.{named, function_by}
+use Rattle.half_names_law.specs.Declarable.{Declarable, struct_names, field_names, signature_marked, variable_marked, parameters_marked, global_marked}
+use Rattle.half_declarations_law.specs.Trees.{parameters_plain, Marked}
+use Rattle.half_declarations_law.proofs.FewVariables.{lowered_few}
+use Rattle.half_declarations_law.proofs.Names.{made_from, made_distinct, chosen_distinct, by_place}
+use Rattle.half_declarations_law.proofs.TextNames.{struct_apart, field_apart, called_as, called_apart}
 
 -- ---- lists
 
@@ -39,76 +39,36 @@ chosen_all {X} q has (x ∷ xs) h = go (chosen_all q has xs (and_right (q x) (li
     go rest true = and_both (q x) (list_all q (filter has xs)) (and_left (q x) (list_all q xs) h) rest
     go rest false = rest
 
-pub each_all : {X : Type 0} (p q : X → Bool) → ((x : X) → IsTrue (p x) → IsTrue (q x)) → (xs : List X) → IsTrue (list_all p xs) → IsTrue (list_all q xs)
-each_all p q f [] h = refl
-each_all p q f (x ∷ xs) h = and_both (q x) (list_all q xs) (f x (and_left (p x) (list_all p xs) h)) (each_all p q f xs (and_right (p x) (list_all p xs) h))
-
-pub both_all : {X : Type 0} (p q : X → Bool) (xs : List X) → IsTrue (list_all p xs) → IsTrue (list_all q xs) → IsTrue (list_all (λ x. p x && q x) xs)
-both_all p q [] h i = refl
-both_all p q (x ∷ xs) h i =
-    and_both (p x && q x) (list_all (λ x. p x && q x) xs) (and_both (p x) (q x) (and_left (p x) (list_all p xs) h) (and_left (q x) (list_all q xs) i))
-    (both_all p q xs (and_right (p x) (list_all p xs) h) (and_right (q x) (list_all q xs) i))
-
-mapped : {X : Type 0} (made : List ℕ → List ℕ) (name : X → List ℕ) (xs : List X) → map (λ x. made (name x)) xs ≡ map made (map name xs)
-mapped made name [] = refl
-mapped made name (x ∷ xs) = ap (λ ns. made (name x) ∷ ns) (mapped made name xs)
-
 at_none : {X : Type 0} (xs : List X) (j : ℕ) → slice_get xs (j + 0) ≡ slice_get xs j
 at_none xs j = let e : j + 0 ≡ j = omega arith in ap (slice_get xs) e
 
+-- numbers from 0 on are below 2 ^ 64
+small : {X : Type 0} (name : X → List ℕ) (xs : List X) → length xs < 2 ^ 28 → 0 + length (map name xs) ≤ 2 ^ 64
+small name xs few = omega (arith, few, length-map xs name)
+
 -- ---- names
 
-written_as : (prefix : List ℕ) (n : ℕ) (name : List ℕ) → IsTrue (is_written name) → named prefix n (Some name) ≡ prefix ++ name
-written_as prefix n name h = ap (λ b. prefix ++ (if b then name else decimal n)) h
+structs_differ : (structs : List StructInfo) → length structs < 2 ^ 28 → IsTrue (are_distinct (map (λ s. s.name) structs)) → IsTrue (are_distinct (struct_names structs))
+structs_differ structs few tags =
+    subst (λ ns. IsTrue (are_distinct ns)) (sym (by_place structs (λ s. s.name) (named (codes "s_")) structs 0 (at_none structs)))
+    (made_distinct (λ n a. named (codes "s_") n (Some a)) struct_apart 0 (map (λ (s : StructInfo). s.name) structs) (small (λ (s : StructInfo). s.name) structs few) tags)
 
-abbrev after_s : List ℕ → List ℕ
-after_s name = 115 ∷ 95 ∷ name
+fields_differ : (s : StructInfo) → length s.fields < 2 ^ 28 → IsTrue (are_distinct (map (λ f. f.name) s.fields)) → IsTrue (are_distinct (field_names s))
+fields_differ s few apart =
+    subst (λ ns. IsTrue (are_distinct ns)) (sym (by_place s.fields (λ (f : Field). f.name) (named (codes "m_")) s.fields 0 (at_none s.fields)))
+    (made_distinct (λ n a. named (codes "m_") n (Some a)) field_apart 0 (map (λ (f : Field). f.name) s.fields) (small (λ (f : Field). f.name) s.fields few) apart)
 
-abbrev after_m : List ℕ → List ℕ
-after_m name = 109 ∷ 95 ∷ name
+all_fields_differ : (structs : List StructInfo) → sum_by (λ s. 1 + length s.fields) structs < 2 ^ 28 → IsTrue (list_all (λ s. are_distinct (map (λ f. f.name) s.fields)) structs) → IsTrue (list_all (λ s. are_distinct (field_names s)) structs)
+all_fields_differ [] few apart = refl
+all_fields_differ (s ∷ rest) few apart =
+    let sums = sum_by-cons (λ (x : StructInfo). 1 + length x.fields) s rest in
+    and_both (are_distinct (field_names s)) (list_all (λ s. are_distinct (field_names s)) rest)
+    (fields_differ s (omega (arith, sums, few)) (and_left (are_distinct (map (λ f. f.name) s.fields)) (list_all (λ s. are_distinct (map (λ f. f.name) s.fields)) rest) apart))
+    (all_fields_differ rest (omega (arith, sums, few)) (and_right (are_distinct (map (λ f. f.name) s.fields)) (list_all (λ s. are_distinct (map (λ f. f.name) s.fields)) rest) apart))
 
-abbrev after_f : List ℕ → List ℕ
-after_f name = 102 ∷ 95 ∷ name
-
-structs_differ : (structs : List StructInfo) → IsTrue (list_all struct_written structs) → IsTrue (are_distinct (map (λ s. s.name) structs)) → IsTrue (are_distinct (struct_names structs))
-structs_differ structs written tags =
-    let names : struct_names structs ≡ map after_s (map (λ s. s.name) structs) =
-    by_place structs (λ s. is_written s.name) (λ n o. named (codes "s_") n (option_map (λ s. s.name) o)) (λ s. after_s s.name) (λ n s h. written_as (codes "s_") n s.name h) structs 0
-    (each_all struct_written (λ s. is_written s.name) (λ s h. and_left (is_written s.name) (list_all (λ f. is_written f.name) s.fields) h) structs written) (at_none structs)
-    ∙ mapped after_s (λ s. s.name) structs in
-    subst (λ ns. IsTrue (are_distinct ns)) (sym names) (made_distinct after_s (before_both 115 95) (map (λ s. s.name) structs) tags)
-
-fields_differ : (s : StructInfo) → IsTrue (list_all (λ f. is_written f.name) s.fields) → IsTrue (are_distinct (map (λ f. f.name) s.fields)) → IsTrue (are_distinct (field_names s))
-fields_differ s written apart =
-    let names : field_names s ≡ map after_m (map (λ (f : Field). f.name) s.fields) =
-    by_place s.fields (λ f. is_written f.name) (λ n o. named (codes "m_") n (option_map (λ f. f.name) o)) (λ f. after_m f.name) (λ n f h. written_as (codes "m_") n f.name h) s.fields 0 written (at_none s.fields)
-    ∙ mapped after_m (λ (f : Field). f.name) s.fields in
-    subst (λ ns. IsTrue (are_distinct ns)) (sym names) (made_distinct after_m (before_both 109 95) (map (λ (f : Field). f.name) s.fields) apart)
-
-all_fields_differ : (structs : List StructInfo) → IsTrue (list_all struct_written structs) → IsTrue (list_all (λ s. are_distinct (map (λ f. f.name) s.fields)) structs) → IsTrue (list_all (λ s. are_distinct (field_names s)) structs)
-all_fields_differ structs written apart =
-    each_all (λ s. struct_written s && are_distinct (map (λ f. f.name) s.fields)) (λ s. are_distinct (field_names s))
-    (λ s h. fields_differ s (and_right (is_written s.name) (list_all (λ f. is_written f.name) s.fields) (and_left (struct_written s) (are_distinct (map (λ f. f.name) s.fields)) h)) (and_right (struct_written s) (are_distinct (map (λ f. f.name) s.fields)) h))
-    structs (both_all struct_written (λ s. are_distinct (map (λ f. f.name) s.fields)) structs written apart)
-
--- how a function of this name is called in the text
-abbrev called_as : List ℕ → List ℕ
-called_as name = if bytes_eq name (codes "main") then codes "main" else after_f name
-
-called_alike : (a b : List ℕ) → bytes_eq (called_as a) (called_as b) ≡ bytes_eq a b
-called_alike a b = go (bytes_eq a (codes "main")) (bytes_eq b (codes "main")) refl refl
-  where
-    go : (x y : Bool) → bytes_eq a (codes "main") ≡ x → bytes_eq b (codes "main") ≡ y → bytes_eq (if x then codes "main" else after_f a) (if y then codes "main" else after_f b) ≡ bytes_eq a b
-    go true true e i = name_self (codes "main") ∙ sym (ap (bytes_eq a) (name_same b (codes "main") i ∙ sym (name_same a (codes "main") e)) ∙ name_self a)
-    go true false e i = sym (ap (λ c. bytes_eq c b) (name_same a (codes "main") e) ∙ name_other b (codes "main") i)
-    go false true e i = sym (ap (bytes_eq a) (name_same b (codes "main") i) ∙ e)
-    go false false e i = before_both 102 95 a b
-
-numbered_names : (k : ℕ) (ss : List Signature) → IsTrue (list_all (λ s. is_written s.name) ss) → map (λ s. function_by s.0 (Some s.1)) (signatures_from k ss) ≡ map called_as (map (λ s. s.name) ss)
-numbered_names k [] h = refl
-numbered_names k (s ∷ ss) h =
-    ap (λ n. n ∷ map (λ s. function_by s.0 (Some s.1)) (signatures_from (suc k) ss)) (ap (λ n. if is_main s then codes "main" else n) (written_as (codes "f_") k s.name (and_left (is_written s.name) (list_all (λ s. is_written s.name) ss) h)))
-    ∙ ap (λ ns. called_as s.name ∷ ns) (numbered_names (suc k) ss (and_right (is_written s.name) (list_all (λ s. is_written s.name) ss) h))
+function_texts : (k : ℕ) (ss : List Signature) → map (λ s. function_by s.0 (Some s.1)) (signatures_from k ss) ≡ made_from called_as k (map (λ s. s.name) ss)
+function_texts k [] = refl
+function_texts k (s ∷ ss) = ap (λ ns. called_as k s.name ∷ ns) (function_texts (suc k) ss)
 
 signature_names : (fs : List t.FunctionTree) → map (λ s. s.name) (map (λ f. f.signature) fs) ≡ map name_of fs
 signature_names [] = refl
@@ -118,11 +78,11 @@ signatures_all : (q : Signature → Bool) (fs : List t.FunctionTree) → IsTrue 
 signatures_all q [] h = refl
 signatures_all q (f ∷ fs) h = and_both (q f.signature) (list_all q (map (λ f. f.signature) fs)) (and_left (q f.signature) (list_all (λ f. q f.signature) fs) h) (signatures_all q fs (and_right (q f.signature) (list_all (λ f. q f.signature) fs) h))
 
-functions_differ : (has : ℕ → Bool) (p : TypedTree) → IsTrue (list_all (λ f. is_written (name_of f)) p.functions) → IsTrue (are_distinct (map name_of p.functions)) → IsTrue (are_distinct (map (λ s. function_by s.0 (Some s.1)) (chosen_signatures has p)))
-functions_differ has p written apart =
+functions_differ : (has : ℕ → Bool) (p : TypedTree) → length p.functions < 2 ^ 28 → IsTrue (are_distinct (map name_of p.functions)) → IsTrue (are_distinct (map (λ s. function_by s.0 (Some s.1)) (chosen_signatures has p)))
+functions_differ has p few apart =
     chosen_distinct (λ (s : ℕ × Signature). function_by s.0 (Some s.1)) (λ s. has s.0) (signatures_from 0 (signatures_of p))
-    (subst (λ ns. IsTrue (are_distinct ns)) (sym (numbered_names 0 (signatures_of p) (signatures_all (λ s. is_written s.name) p.functions written) ∙ ap (map called_as) (signature_names p.functions)))
-    (made_distinct called_as called_alike (map name_of p.functions) apart))
+    (subst (λ ns. IsTrue (are_distinct ns)) (sym (function_texts 0 (signatures_of p) ∙ ap (made_from called_as 0) (signature_names p.functions)))
+    (made_distinct called_as called_apart 0 (map name_of p.functions) (small name_of p.functions few) apart))
 
 -- ---- numbers and marks of globals and signatures
 
@@ -233,47 +193,42 @@ part_of p signed kept owned = record {
   globals = chosen_globals owned p;
 }
 
--- what is known of the whole tree
-record Known (p : TypedTree) : Type 0 where
-  names : IsTrue (are_distinct (map name_of p.functions))
-  nodes : nodes_of p < 2 ^ 28
+structs_counted : (structs : List StructInfo) → length structs ≤ sum_by (λ s. 1 + length s.fields) structs
+structs_counted [] = omega arith
+structs_counted (s ∷ rest) = let sums = sum_by-cons (λ (x : StructInfo). 1 + length x.fields) s rest in let again = structs_counted rest in omega (arith, sums, again)
 
-known_of : (p : TypedTree) → IsTrue (is_well_formed p) → Known p
-unfolding is_well_formed
-known_of p h =
-    let first = structs_sound p.structs 0 p.structs && (list_all (global_sound p.structs) p.globals && globals_small p.globals) in
-    let second = list_all (function_sound p) p.functions && (names_sound (map name_of p.functions) && list_any is_start p.functions) in
-    let third = list_all (numbers_sound p) p.functions && nat_lt (nodes_of p) (2 ^ 28) in
-    let rest = and_right first (second && third) h in
-    let names = and_left (names_sound (map name_of p.functions)) (list_any is_start p.functions) (and_right (list_all (function_sound p) p.functions) (names_sound (map name_of p.functions) && list_any is_start p.functions) (and_left second third rest)) in
-    record {
-      names = and_left (are_distinct (map name_of p.functions)) (list_all is_short (map name_of p.functions)) names;
-      nodes = less (nodes_of p) (2 ^ 28) (and_right (list_all (numbers_sound p) p.functions) (nat_lt (nodes_of p) (2 ^ 28)) (and_right second third rest));
-    }
+-- how much is declared
+record Few (p : TypedTree) : Type 0 where
+  structs : length p.structs < 2 ^ 28
+  fields : sum_by (λ (s : StructInfo). 1 + length s.fields) p.structs < 2 ^ 28
+  globals : length p.globals ≤ 2 ^ 64
+
+few_of : (p : TypedTree) → IsTrue (nat_lt (nodes_of p) (2 ^ 28)) → Few p
+few_of p h =
+    let all : nodes_of p < 2 ^ 28 = less (nodes_of p) (2 ^ 28) h in
+    let counted = structs_counted p.structs in
+    let parts = go (sum_by (λ (s : StructInfo). 1 + length s.fields) p.structs) (length p.globals) (sum_by function_nodes p.functions + sum_by expr_nodes p.exprs) all in
+    record { structs = omega (arith, parts.0, counted); fields = parts.0; globals = parts.1 }
   where
     less : (m n : ℕ) → IsTrue (nat_lt m n) → m < n
     less m n h = grind (arith, nat_tests)
 
-few_globals : (p : TypedTree) → nodes_of p < 2 ^ 28 → length p.globals ≤ 2 ^ 64
-few_globals p h = go (sum_by (λ (s : StructInfo). 1 + length s.fields) p.structs) (length p.globals) (sum_by function_nodes p.functions + sum_by expr_nodes p.exprs) h
-  where
-    go : (a g b : ℕ) → a + (g + b) < 2 ^ 28 → g ≤ 2 ^ 64
-    go a g b h = let i : g < 268435456 = omega (arith, h) in omega (arith, i)
+    go : (a g b : ℕ) → a + (g + b) < 2 ^ 28 → (a < 2 ^ 28) × (g ≤ 2 ^ 64)
+    go a g b h = let i : g < 268435456 = omega (arith, h) in (omega (arith, h), omega (arith, i))
 
-pub part_declarable : (p : TypedTree) (signed kept owned : ℕ → Bool) → IsTrue (is_well_formed p) → IsTrue (names_written p) → Marked p → IsTrue (variables_few (part_of p signed kept owned)) → Declarable (part_of p signed kept owned)
-part_declarable p signed kept owned well written marked few =
+pub part_declarable : (p : TypedTree) (signed kept owned : ℕ → Bool) → IsTrue (is_well_formed p) → Marked p → Declarable (part_of p signed kept owned)
+part_declarable p signed kept owned well marked =
     let half : ProgramTree = part_of p signed kept owned in
-    let known = known_of p well in
-    let written_structs = and_left (list_all struct_written p.structs) (list_all (λ f. is_written (name_of f)) p.functions) written in
-    let written_functions = and_right (list_all struct_written p.structs) (list_all (λ f. is_written (name_of f)) p.functions) written in
+    let known = facts_of p well in
+    let few = few_of p known.few in
     let plain : IsTrue (list_all (marked_by half) (functions_from p 0 p.functions)) =
     code_all (marked_by half) p p.functions 0 (λ j f b at. function_plain signed p j f b at (at_all parameters_plain p.functions j f marked.parameters at) (signature_at half (j + 0)) refl) in
     record {
-      structs = structs_differ p.structs written_structs marked.tags;
-      fields = all_fields_differ p.structs written_structs marked.fields;
-      functions = functions_differ signed p written_functions known.names;
-      globals = chosen_all (λ g. nat_lt g.id (2 ^ 64)) (λ g. owned g.id) (globals_from 0 p.globals) (globals_below (2 ^ 64) 0 p.globals (let few' = few_globals p known.nodes in omega (arith, few')));
-      variables = few;
+      structs = structs_differ p.structs few.structs marked.tags;
+      fields = all_fields_differ p.structs few.fields marked.fields;
+      functions = functions_differ signed p (functions_few p well) known.names;
+      globals = chosen_all (λ g. nat_lt g.id (2 ^ 64)) (λ g. owned g.id) (globals_from 0 p.globals) (globals_below (2 ^ 64) 0 p.globals (let count = few.globals in omega (arith, count)));
+      variables = chosen_all (λ f. nat_le (length f.vars) (2 ^ 64)) (λ f. kept f.id) (functions_from p 0 p.functions) (lowered_few p well);
       signature_marks = chosen_all (λ s. signature_marked s.1) (λ s. signed s.0) (signatures_from 0 (signatures_of p)) (numbered_signatures signature_marked 0 (signatures_of p) (signatures_all signature_marked p.functions marked.signatures));
       global_marks = chosen_all global_marked (λ g. owned g.id) (globals_from 0 p.globals) (numbered_globals variable_marked 0 p.globals marked.globals);
       function_marks = chosen_all (marked_by half) (λ f. kept f.id) (functions_from p 0 p.functions) plain;

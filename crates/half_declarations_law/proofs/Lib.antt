@@ -1,4 +1,7 @@
 mod Names
+mod TextNames
+mod Temporaries
+mod FewVariables
 mod Halves
 mod Stands
 mod Tags

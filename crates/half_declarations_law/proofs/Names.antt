@@ -1,7 +1,7 @@
 -- Names of a text differ where the tree's names do.
-use Rattle.std.proofs.Common.{◌≡◌, ◌∙◌, sym, ap, subst, refl, ℕ, zero, suc, Bool, true, false, List, [], ◌∷◌, ◌++◌, map, arith, ◌+◌, cond, if◌then◌else◌, not, length, Option, Some, None}
-use Rattle.std.specs.Prelude.{IsTrue, ◌&&◌, ◌||◌, codes, slice_get}
-use Rattle.std.specs.List.{list_all, list_any, filter, range_with_len}
+use Rattle.std.proofs.Common.{◌≡◌, ◌∙◌, ◌<◌, ◌≤◌, ◌^◌, sym, ap, refl, ℕ, suc, Bool, true, false, List, [], ◌∷◌, map, arith, ◌+◌, cond, not, length, Option, Some}
+use Rattle.std.specs.Prelude.{IsTrue, ◌||◌, slice_get, option_map}
+use Rattle.std.specs.List.{list_any, filter, range_with_len}
 use Rattle.std.specs.Str.{bytes_eq}
 use Rattle.std.proofs.lemmas.Slice.Eq.{bytes_eq-Decides}
 use Rattle.typed_tree.specs.WellFormed.{are_distinct}
@@ -20,19 +20,40 @@ name_other m n h = go (bytes_eq n m) refl
     go false e = refl
     go true e = let same = ap (λ x. bytes_eq x n) (sym (name_same n m e)) ∙ name_self n in cc
 
--- ---- names that are made of others
+-- ---- names that are made of others and of their numbers
 
-module _ (made : List ℕ → List ℕ) (alike : (a b : List ℕ) → bytes_eq (made a) (made b) ≡ bytes_eq a b) where
-  none_made : (a : List ℕ) (ns : List (List ℕ)) → list_any (bytes_eq (made a)) (map made ns) ≡ list_any (bytes_eq a) ns
-  none_made a [] = refl
-  none_made a (n ∷ ns) = ap (λ b. b || list_any (bytes_eq (made a)) (map made ns)) (alike a n) ∙ ap (λ b. bytes_eq a n || b) (none_made a ns)
+-- what these names become, the first of them as number k
+abbrev pub made_from : (ℕ → List ℕ → List ℕ) → ℕ → List (List ℕ) → List (List ℕ)
+made_from made k [] = []
+made_from made k (n ∷ ns) = made k n ∷ made_from made (suc k) ns
 
-  pub made_distinct : (ns : List (List ℕ)) → IsTrue (are_distinct ns) → IsTrue (are_distinct (map made ns))
-  made_distinct [] h = refl
-  made_distinct (n ∷ ns) h =
-      and_both (not (list_any (bytes_eq (made n)) (map made ns))) (are_distinct (map made ns))
-      (ap not (none_made n ns) ∙ and_left (not (list_any (bytes_eq n) ns)) (are_distinct ns) h)
-      (made_distinct ns (and_right (not (list_any (bytes_eq n) ns)) (are_distinct ns) h))
+-- different names become different ones
+abbrev pub Apart : (ℕ → List ℕ → List ℕ) → Type 0
+Apart made = (j k : ℕ) (a b : List ℕ) → j < k → k < 2 ^ 64 → bytes_eq a b ≡ false → bytes_eq (made j a) (made k b) ≡ false
+
+neither : (a b : Bool) → (a || b) ≡ false → (a ≡ false) × (b ≡ false)
+neither false b h = (refl, h)
+neither true b h = cc
+
+not_not : (b : Bool) → not b ≡ true → b ≡ false
+not_not false h = refl
+not_not true h = cc
+
+module _ (made : ℕ → List ℕ → List ℕ) (apart : Apart made) where
+  none_made : (j k : ℕ) (a : List ℕ) (ns : List (List ℕ)) → j < k → k + length ns ≤ 2 ^ 64 → list_any (bytes_eq a) ns ≡ false → list_any (bytes_eq (made j a)) (made_from made k ns) ≡ false
+  none_made j k a [] less small h = refl
+  none_made j k a (n ∷ ns) less small h =
+      let parts = neither (bytes_eq a n) (list_any (bytes_eq a) ns) h in
+      ap (λ b. b || list_any (bytes_eq (made j a)) (made_from made (suc k) ns)) (apart j k a n less (omega (arith, small)) parts.0)
+      ∙ none_made j (suc k) a ns (omega (arith, less)) (omega (arith, small)) parts.1
+
+  pub made_distinct : (k : ℕ) (ns : List (List ℕ)) → k + length ns ≤ 2 ^ 64 → IsTrue (are_distinct ns) → IsTrue (are_distinct (made_from made k ns))
+  made_distinct k [] small h = refl
+  made_distinct k (n ∷ ns) small h =
+      let first : list_any (bytes_eq n) ns ≡ false = not_not (list_any (bytes_eq n) ns) (and_left (not (list_any (bytes_eq n) ns)) (are_distinct ns) h) in
+      and_both (not (list_any (bytes_eq (made k n)) (made_from made (suc k) ns))) (are_distinct (made_from made (suc k) ns))
+      (ap not (none_made k (suc k) n ns (omega arith) (omega (arith, small)) first))
+      (made_distinct (suc k) ns (omega (arith, small)) (and_right (not (list_any (bytes_eq n) ns)) (are_distinct ns) h))
 
 -- two bytes before both change nothing
 pub before_both : (p q : ℕ) (a b : List ℕ) → bytes_eq (p ∷ q ∷ a) (p ∷ q ∷ b) ≡ bytes_eq a b
@@ -64,10 +85,6 @@ module _ {X : Type 0} (name : X → List ℕ) (has : X → Bool) where
       go again true false e h = ap (λ d. d || list_any (bytes_eq a) (map name (filter has xs))) e ∙ again h
       go again false false e h = again h
 
-  not_not : (b : Bool) → not b ≡ true → b ≡ false
-  not_not false h = refl
-  not_not true h = cc
-
   pub chosen_distinct : (xs : List X) → IsTrue (are_distinct (map name xs)) → IsTrue (are_distinct (map name (filter has xs)))
   chosen_distinct [] h = refl
   chosen_distinct (x ∷ xs) h = go (chosen_distinct xs (and_right (not (list_any (bytes_eq (name x)) (map name xs))) (are_distinct (map name xs)) h)) (has x)
@@ -81,10 +98,13 @@ module _ {X : Type 0} (name : X → List ℕ) (has : X → Bool) where
 
 -- ---- names by place
 
--- each that stands at its place in the whole list gives the same, so all together do
-pub by_place : {X Y : Type 0} (whole : List X) (p : X → Bool) (f : ℕ → Option X → Y) (g : X → Y) → ((n : ℕ) (x : X) → IsTrue (p x) → f n (Some x) ≡ g x) → (xs : List X) (k : ℕ) → IsTrue (list_all p xs)
-    → ((j : ℕ) → slice_get whole (j + k) ≡ slice_get xs j) → map (λ n. f n (slice_get whole n)) (range_with_len k (length xs)) ≡ map g xs
-by_place whole p f g same [] k all at = refl
-by_place whole p f g same (x ∷ xs) k all at =
-    ap (λ y. y ∷ map (λ n. f n (slice_get whole n)) (range_with_len (k + 1) (length xs))) (ap (f k) (let e : k ≡ 0 + k = omega arith in ap (slice_get whole) e ∙ at 0) ∙ same k x (and_left (p x) (list_all p xs) all))
-    ∙ ap (λ ys. g x ∷ ys) (by_place whole p f g same xs (k + 1) (and_right (p x) (list_all p xs) all) (λ j. let e : j + (k + 1) ≡ suc j + k = omega arith in ap (slice_get whole) e ∙ at (suc j)))
+-- what is made of each at its place in the whole list is made of all from the first on
+pub by_place : {X : Type 0} (whole : List X) (name : X → List ℕ) (made : ℕ → Option (List ℕ) → List ℕ) (xs : List X) (k : ℕ) → ((j : ℕ) → slice_get whole (j + k) ≡ slice_get xs j)
+    → map (λ n. made n (option_map name (slice_get whole n))) (range_with_len k (length xs)) ≡ made_from (λ n a. made n (Some a)) k (map name xs)
+by_place whole name made [] k at = refl
+by_place whole name made (x ∷ xs) k at =
+    let here : k ≡ 0 + k = omega arith in
+    let next : k + 1 ≡ suc k = omega arith in
+    ap (λ m. made k (option_map name (slice_get whole k)) ∷ map (λ n. made n (option_map name (slice_get whole n))) (range_with_len m (length xs))) next
+    ∙ ap (λ o. made k (option_map name o) ∷ map (λ n. made n (option_map name (slice_get whole n))) (range_with_len (suc k) (length xs))) (ap (slice_get whole) here ∙ at 0)
+    ∙ ap (λ ys. made k (Some (name x)) ∷ ys) (by_place whole name made xs (suc k) (λ j. let e : j + suc k ≡ suc j + k = omega arith in ap (slice_get whole) e ∙ at (suc j)))

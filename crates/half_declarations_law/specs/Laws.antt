@@ -15,7 +15,7 @@ use Rattle.splitter.specs.Halves.{halves_of, monitor_of, slave_of}
 use Rattle.half_names_law.specs.Declarable.{Declarable, prototypes_take_no_pointers}
 use Rattle.half_names_law.specs.Laws.{MeaningKept}
 use Rattle.half_names_law.specs.Standing.{own_marks, whole_marks}
-use Rattle.half_declarations_law.specs.Trees.{names_written, Marked, variables_few}
+use Rattle.half_declarations_law.specs.Trees.{Marked}
 
 -- ---- the tree
 
@@ -31,26 +31,19 @@ slave_half t a = slave_program (slave_of t (halves_of a.sides) (functions_from t
 abbrev pub monitor_half : TypedTree → Accepted → ProgramTree
 monitor_half t a = monitor_program (monitor_of t (halves_of a.sides) (functions_from t 0 t.functions))
 
--- where no function has too many variables
-abbrev pub IsDeclarable : ProgramTree → Type 0
-IsDeclarable p = IsTrue (variables_few p) → Declarable p
-
--- A parsed program's nodes are few, its constants in range, its words short and made of letters, digits and `_`.
+-- A parsed program's nodes are few, its constants in range and its words short.
 abbrev pub HalvesAreDeclarable : Type 0
 HalvesAreDeclarable = (items : List ItemTree) (a : Accepted) → parsed.nodes_of items < 2 ^ 22 → IsTrue (items_sound items) → type_faults items ≡ [] → let t : TypedTree = (checked_program items).tree in
-    IsTrue (names_written t) → IsDeclarable (slave_half t a) × IsDeclarable (monitor_half t a)
+    Declarable (slave_half t a) × Declarable (monitor_half t a)
 
 -- ---- with all that is known of halves
 
 -- each function's statements, as the text has them, mean what the half's do
-abbrev pub MeansTheSame : Bool → ProgramTree → Type 0
-MeansTheSame monitor p = (n : ℕ) (f : FunctionTree) (s : Signature) → slice_get p.functions n ≡ Some f → signature_at p f.id ≡ Some s →
-    MeaningKept (whole_marks monitor p) monitor p n f s × (IsTrue (prototypes_take_no_pointers p) → MeaningKept (own_marks monitor p) monitor p n f s)
-
 abbrev pub HalfMeans : Bool → ProgramTree → Type 0
-HalfMeans monitor p = IsTrue (variables_few p) → MeansTheSame monitor p
+HalfMeans monitor p = (n : ℕ) (f : FunctionTree) (s : Signature) → slice_get p.functions n ≡ Some f → signature_at p f.id ≡ Some s →
+    MeaningKept (whole_marks monitor p) monitor p n f s × (IsTrue (prototypes_take_no_pointers p) → MeaningKept (own_marks monitor p) monitor p n f s)
 
 -- both halves of a checked program that breaks no rule
 abbrev pub AcceptedHalvesKeepTheirMeaning : Type 0
 AcceptedHalvesKeepTheirMeaning = (items : List ItemTree) (a : Accepted) → parsed.nodes_of items < 2 ^ 22 → IsTrue (items_sound items) → type_faults items ≡ [] → let t : TypedTree = (checked_program items).tree in
-    IsTrue (names_written t) → IsAccepted t a → HalfMeans false (slave_half t a) × HalfMeans true (monitor_half t a)
+    IsAccepted t a → HalfMeans false (slave_half t a) × HalfMeans true (monitor_half t a)

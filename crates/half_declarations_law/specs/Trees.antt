@@ -1,24 +1,9 @@
 -- What a typed tree has, so that both halves of it can be declared.
-use Rattle.std.specs.Prelude.{ℕ, ◌^◌, List, Bool, ◌&&◌, ◌||◌, not, IsTrue, length, map, take, nat_le}
+use Rattle.std.specs.Prelude.{Bool, ◌||◌, not, IsTrue, length, map, take}
 use Rattle.std.specs.List.{list_all, list_any}
-use Rattle.typed_tree.specs.declared.types.StructInfo.{StructInfo}
 use Rattle.typed_tree.specs.TypedTree.{FunctionTree, TypedTree}
-use Rattle.typed_tree.specs.WellFormed.{are_distinct, name_of}
-use Rattle.pt_core.specs.CodeTree.{ProgramTree}
-use Rattle.half_trees.specs.Names.{is_name_byte}
+use Rattle.typed_tree.specs.WellFormed.{are_distinct}
 use Rattle.half_names_law.specs.Declarable.{signature_marked, variable_marked}
-
--- ---- names
-
--- made of letters, digits and `_`, as all words of a text are
-abbrev pub is_written : List ℕ → Bool
-is_written name = list_all is_name_byte name
-
-abbrev pub struct_written : StructInfo → Bool
-struct_written s = is_written s.name && list_all (λ f. is_written f.name) s.fields
-
-abbrev pub names_written : TypedTree → Bool
-names_written t = list_all struct_written t.structs && list_all (λ f. is_written (name_of f)) t.functions
 
 -- ---- what the judgments say of a tree without a fault
 
@@ -32,9 +17,3 @@ pub record Marked (t : TypedTree) : Type 0 where
   pub signatures : IsTrue (list_all (λ f. signature_marked f.signature) t.functions)
   pub globals : IsTrue (list_all (λ g. variable_marked g.var) t.globals)
   pub parameters : IsTrue (list_all parameters_plain t.functions)
-
--- ---- what is said of a half apart
-
--- each function's variables are numbered below 2^64
-abbrev pub variables_few : ProgramTree → Bool
-variables_few p = list_all (λ f. nat_le (length f.vars) (2 ^ 64)) p.functions

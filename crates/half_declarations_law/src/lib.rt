@@ -1,6 +1,6 @@
-//! Both halves of a checked program can be declared in C: the names of their texts differ, and all marks stand
-//! where they may. So the statements of each function, as the judgments meet them in the half's text, mean what
-//! the half's do. What is left to be said is that no function of a half has more than 2^64 variables.
+//! Both halves of a checked program can be declared in C: the names of their texts differ, no function has more
+//! than 2^64 variables, and all marks stand where they may. So the statements of each function, as the judgments
+//! meet them in the half's text, mean what the half's do.
 #![tactic(auto)]
 
 ghost use Rattle.half_declarations_law.specs.Laws.{AcceptedHalvesKeepTheirMeaning, HalvesAreDeclarable, TreesAreMarked};

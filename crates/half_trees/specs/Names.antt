@@ -1,5 +1,5 @@
 -- The names in a half's text: each is an identifier and no keyword, whatever the program's names are.
-use Rattle.std.specs.Prelude.{ℕ, List, [], ◌∷◌, ◌++◌, Option, None, Some, Bool, ◌&&◌, ◌||◌, if◌then◌else◌, codes, nat_eq, nat_le, slice_get, option_map}
+use Rattle.std.specs.Prelude.{ℕ, List, [], ◌∷◌, ◌++◌, Option, None, Some, Bool, false, ◌&&◌, ◌||◌, if◌then◌else◌, codes, nat_eq, nat_le, slice_get, option_map}
 use Rattle.std.specs.Fmt.{decimal}
 use Rattle.std.specs.List.{list_all}
 use Rattle.std.specs.Map.{lookup}
@@ -23,14 +23,23 @@ word bytes = record { span = nowhere; bytes = bytes }
 abbrev pub is_between : ℕ → ℕ → ℕ → Bool
 is_between low high b = nat_le low b && nat_le b high
 
+-- a letter or `_`
+abbrev pub is_name_start : ℕ → Bool
+is_name_start b = is_between 65 90 b || (is_between 97 122 b || nat_eq b 95)
+
 -- a letter, a digit or `_`
 abbrev pub is_name_byte : ℕ → Bool
-is_name_byte b = (is_between 48 57 b || is_between 65 90 b) || (is_between 97 122 b || nat_eq b 95)
+is_name_byte b = is_between 48 57 b || is_name_start b
 
--- a prefix and the name, or the number, where there is no name or it is not made of letters, digits and `_`
+-- letters, digits and `_`, and first of them no digit (C99 6.4.2.1)
+abbrev pub is_identifier : List ℕ → Bool
+is_identifier [] = false
+is_identifier (b ∷ bs) = is_name_start b && list_all is_name_byte bs
+
+-- a prefix and the name, or the number, where there is no name or it is no identifier
 abbrev pub named : List ℕ → ℕ → Option (List ℕ) → List ℕ
 named prefix n None = prefix ++ decimal n
-named prefix n (Some name) = prefix ++ (if list_all is_name_byte name then name else decimal n)
+named prefix n (Some name) = prefix ++ (if is_identifier name then name else decimal n)
 
 abbrev pub local_name : ℕ → List ℕ
 local_name v = codes "v_" ++ decimal v

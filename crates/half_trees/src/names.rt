@@ -41,26 +41,42 @@ fn is_between(low: u8, high: u8, b: u8) -> bool
     low <= b && b <= high
 }
 
+// Whether it is a letter or `_`.
+fn is_name_start(b: u8) -> bool
+    ensures { result ≡ names.is_name_start b }
+{
+    is_between(b'A', b'Z', b) || (is_between(b'a', b'z', b) || b == b'_')
+}
+
 // Whether it is a letter, a digit or `_`.
 fn is_name_byte(b: u8) -> bool
     ensures { result ≡ names.is_name_byte b }
 {
-    (is_between(b'0', b'9', b) || is_between(b'A', b'Z', b))
-        || (is_between(b'a', b'z', b) || b == b'_')
+    is_between(b'0', b'9', b) || is_name_start(b)
 }
 
-// Whether all bytes may stand in an identifier.
-fn is_made_of_name_bytes(name: &[u8]) -> bool
-    ensures { result ≡ list_all names.is_name_byte name.now }
+// Whether all are letters, digits and `_`.
+fn are_name_bytes(bytes: &[u8]) -> bool
+    ensures { result ≡ list_all names.is_name_byte bytes.now }
 {
-    name.iter().all(|b| is_name_byte(*b))
+    bytes.iter().all(|b| is_name_byte(*b))
 }
 
-// A prefix and the name, or the number where the name may not stand there.
+// Whether it is made of letters, digits and `_`, and begins with no digit.
+fn is_identifier(name: &[u8]) -> bool
+    ensures { result ≡ names.is_identifier name.now }
+{
+    match name {
+        [] => false,
+        [first, rest @ ..] => is_name_start(*first) && are_name_bytes(rest),
+    }
+}
+
+// A prefix and the name, or the number where the name is no identifier.
 fn named_by(alloc: Global, prefix: &[u8], n: usize, name: &[u8]) -> Result<Vec<u8>, AllocError>
     ensures { IfOk result (λ v. v.items ≡ names.named prefix.now n (Some name.now)) }
 {
-    if !is_made_of_name_bytes(name) {
+    if !is_identifier(name) {
         return numbered(alloc, prefix, n);
     }
     let mut bytes = Vec::from_slice(alloc, prefix)?;

@@ -15,7 +15,7 @@ use Rattle.typed_tree.specs.WellFormedExpression.{is_main}
 use Rattle.c_lexer.specs.Bytes.{is_word_byte}
 use Rattle.c_lexer.specs.Spelling.{keyword_of}
 use Rattle.c_printer.specs.Plain.{is_name}
-use Rattle.half_trees.specs.Names.{is_name_byte, named, local_name, global_name, function_by, function_name, struct_name, field_by, field_name}
+use Rattle.half_trees.specs.Names.{is_name_start, is_name_byte, is_identifier, named, local_name, global_name, function_by, function_name, struct_name, field_by, field_name}
 use Rattle.half_trees_law.proofs.Tests.{both}
 
 -- ---- bytes
@@ -34,12 +34,19 @@ decimal_passes : (n : ℕ) → list_all is_word_byte (decimal n) ≡ true
 unfolding digits
 decimal_passes n = digits_pass 64 n [] refl
 
+start_passes : (b : ℕ) → is_name_start b ≡ true → is_word_byte b ≡ true
+start_passes b h = grind (arith, h)
+
 byte_passes : (b : ℕ) → is_name_byte b ≡ true → is_word_byte b ≡ true
 byte_passes b h = grind (arith, h)
 
 bytes_pass : (bs : List ℕ) → list_all is_name_byte bs ≡ true → list_all is_word_byte bs ≡ true
 bytes_pass [] h = refl
 bytes_pass (b ∷ bs) h = let parts = and_parts (is_name_byte b) (list_all is_name_byte bs) h in both (byte_passes b parts.0) (bytes_pass bs parts.1)
+
+identifier_passes : (bs : List ℕ) → is_identifier bs ≡ true → list_all is_word_byte bs ≡ true
+identifier_passes [] h = refl
+identifier_passes (b ∷ bs) h = let parts = and_parts (is_name_start b) (list_all is_name_byte bs) h in both (start_passes b parts.0) (bytes_pass bs parts.1)
 
 -- ---- what names begin with
 
@@ -76,8 +83,8 @@ main_is_name = refl
 named_is_name : (front : List ℕ) → Opens front → (n : ℕ) (o : Option (List ℕ)) → is_name (named front n o) ≡ true
 named_is_name front opens n None = opens (decimal n) (decimal_passes n)
 named_is_name front opens n (Some name) =
-    opens (if list_all is_name_byte name then name else decimal n)
-    (cond_both (list_all is_name_byte name) name (decimal n) (λ bs. list_all is_word_byte bs ≡ true) (bytes_pass name) (λ e. decimal_passes n))
+    opens (if is_identifier name then name else decimal n)
+    (cond_both (is_identifier name) name (decimal n) (λ bs. list_all is_word_byte bs ≡ true) (identifier_passes name) (λ e. decimal_passes n))
 
 pub local_is_name : (v : ℕ) → is_name (local_name v) ≡ true
 local_is_name v = opens_local (decimal v) (decimal_passes v)

@@ -100,7 +100,7 @@ impl HeldBlock {
     }
 
     /// The word of an integer, if it is there and read so.
-    #[inline]
+    #[inline(always)]
     pub(crate) fn word(&self, at: usize, wide: bool) -> Option<i64>
         ensures { IfSome result (λ w. slice_get self.now.cells at ≡ Some (Int (number_of wide w))) }
     {
@@ -112,7 +112,7 @@ impl HeldBlock {
     }
 
     /// Replaces the word of an integer, if it is there and read so.
-    #[inline]
+    #[inline(always)]
     pub(crate) fn put_word(&mut self, at: usize, w: i64, wide: bool) -> bool
         ensures { Writes result self.old self.new at (Int (number_of wide w)) }
     {

@@ -15,7 +15,7 @@ impl MachineMemory {
 
     /// Makes the variables of a function that is entered at this depth, each 0 or null. No local of
     /// this depth or a greater one may be live. Where memory is wanting the blocks stay as they are.
-    #[inline]
+    #[inline(always)]
     pub fn enter(&mut self, depth: u32, layout: u32) -> Result<(), AllocError>
         requires { IsFree (blocks_of self.old) depth }
         ensures ok { OnOk result (blocks_of self.new ≡ with_frame (blocks_of self.old) depth (layout_at self.old layout).shapes) }
@@ -29,7 +29,7 @@ impl MachineMemory {
     }
 
     /// Ends the variables of this depth, and of greater ones if there are any.
-    #[inline]
+    #[inline(always)]
     pub fn leave(&mut self, depth: u32)
         ensures blocks { blocks_of self.new ≡ without_frames (blocks_of self.old) depth }
         ensures live { live_count self.new ≤ depth }
@@ -43,6 +43,7 @@ impl MachineMemory {
     }
 
     // Adds frames without variables up to this depth.
+    #[inline]
     fn skip_to(&mut self, depth: usize) -> Result<(), AllocError>
         requires { live_count self.old ≤ depth }
         ensures blocks { blocks_of self.new ≡ blocks_of self.old }
@@ -56,7 +57,7 @@ impl MachineMemory {
     }
 
     // Adds the frame of a function, or one without variables where the number is no layout's.
-    #[inline]
+    #[inline(always)]
     fn begin(&mut self, number: usize) -> Result<(), AllocError>
         ensures ok { OnOk result (blocks_of self.new ≡ with_frame (blocks_of self.old) (live_count self.old) (layout_at self.old number).shapes) }
         ensures live { OnOk result (live_count self.new ≡ live_count self.old + 1) }
@@ -72,7 +73,7 @@ impl MachineMemory {
     }
 
     // Makes the vectors of one frame more, if those of all are in use.
-    #[inline]
+    #[inline(always)]
     fn make_room(&mut self) -> Result<(), AllocError>
         ensures room { OnOk result (self.new.live < length self.new.frames.items) }
         ensures keeps { Keeps self.old self.new }
@@ -85,7 +86,7 @@ impl MachineMemory {
 }
 
 // Makes it the frame of a function, or one without variables where the number is no layout's.
-#[inline]
+#[inline(always)]
 fn start(frame: &mut Frame, layouts: &[Layout], number: usize) -> Result<(), AllocError>
     ensures { OnOk result (frame.new ≡ started (layout_in layouts.now number) number frame.old.cells) }
 {

@@ -68,7 +68,7 @@ impl Table {
     }
 
     /// The word of an integer, if it is there and read so.
-    #[inline]
+    #[inline(always)]
     pub(crate) fn word(&self, number: usize, at: usize, wide: bool) -> Option<i64>
         ensures { IfSome result (λ w. slice_get (numbered self.now number).cells at ≡ Some (Int (number_of wide w))) }
     {
@@ -80,7 +80,7 @@ impl Table {
     }
 
     /// Replaces the word of an integer, if it is there and read so.
-    #[inline]
+    #[inline(always)]
     pub(crate) fn put_word(&mut self, number: usize, at: usize, w: i64, wide: bool) -> bool
         ensures { WritesIn result self.old self.new number at (Int (number_of wide w)) }
     {

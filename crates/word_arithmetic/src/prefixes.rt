@@ -13,7 +13,7 @@ use pt_base::IntType;
 use pt_int::UnOp;
 
 /// `op a` at a type. Nothing where it traps: where `-` of the least number isn't a number of it.
-#[inline]
+#[inline(always)]
 pub fn prefix(op: UnOp, ty: IntType, a: i64) -> Option<i64>
     ensures { PrefixGivesWord op ty a result }
 {
@@ -26,7 +26,7 @@ pub fn prefix(op: UnOp, ty: IntType, a: i64) -> Option<i64>
 }
 
 // `-a`
-#[inline]
+#[inline(always)]
 fn negated(t: IntType, a: i64) -> Option<i64>
     ensures { (wide : Bool) → IsWord (is_wide t) result (fitted t (neg_ℤ (conv t (number_of wide a)))) }
 {
@@ -38,7 +38,7 @@ fn negated(t: IntType, a: i64) -> Option<i64>
 }
 
 // `~a` of a word of the type.
-#[inline]
+#[inline(always)]
 fn flipped(t: IntType, a: i64) -> i64
     ensures { number_of (is_wide t) result ≡ of_bits t (bit_xor (bits_of t (number_of (is_wide t) a)) (2 ^ width_of t - 1)) }
 {
@@ -46,7 +46,7 @@ fn flipped(t: IntType, a: i64) -> i64
 }
 
 // Whether the type has numbers below 0.
-#[inline]
+#[inline(always)]
 fn has_sign(t: IntType) -> bool
     ensures { result ≡ is_signed t }
 {

@@ -11,7 +11,7 @@ use crate::words::{all_ones, low_bits, of_low_bits, shift_amount};
 use pt_base::IntType;
 
 /// A word's number in the type.
-#[inline]
+#[inline(always)]
 pub(crate) fn natural(t: IntType, w: i64) -> u64
     requires { is_signed t ≡ false }
     ensures value { (wide : Bool) → pos result ≡ conv t (number_of wide w) }
@@ -21,7 +21,7 @@ pub(crate) fn natural(t: IntType, w: i64) -> u64
 }
 
 /// `a + b`
-#[inline]
+#[inline(always)]
 pub(crate) fn sum(t: IntType, a: u64, b: u64) -> i64
     requires { is_signed t ≡ false }
     ensures { fitted t (pos a +ℤ pos b) ≡ Ok (number_of (is_wide t) result) }
@@ -30,7 +30,7 @@ pub(crate) fn sum(t: IntType, a: u64, b: u64) -> i64
 }
 
 /// `a - b`
-#[inline]
+#[inline(always)]
 pub(crate) fn difference(t: IntType, a: u64, b: u64) -> i64
     requires { is_signed t ≡ false }
     ensures { fitted t (pos a -ℤ pos b) ≡ Ok (number_of (is_wide t) result) }
@@ -39,7 +39,7 @@ pub(crate) fn difference(t: IntType, a: u64, b: u64) -> i64
 }
 
 /// `a * b`
-#[inline]
+#[inline(always)]
 pub(crate) fn product(t: IntType, a: u64, b: u64) -> i64
     requires { is_signed t ≡ false }
     ensures { fitted t (pos a *ℤ pos b) ≡ Ok (number_of (is_wide t) result) }
@@ -48,7 +48,7 @@ pub(crate) fn product(t: IntType, a: u64, b: u64) -> i64
 }
 
 /// `a / b`
-#[inline]
+#[inline(always)]
 pub(crate) fn quotient(t: IntType, a: u64, b: u64) -> Option<i64>
     requires { is_signed t ≡ false }
     ensures { IsWord (is_wide t) result (quotient_of t (pos a) (pos b)) }
@@ -61,7 +61,7 @@ pub(crate) fn quotient(t: IntType, a: u64, b: u64) -> Option<i64>
 }
 
 /// `a % b`
-#[inline]
+#[inline(always)]
 pub(crate) fn remainder(t: IntType, a: u64, b: u64) -> Option<i64>
     requires kind { is_signed t ≡ false }
     requires left { InRange t (pos a) }
@@ -75,7 +75,7 @@ pub(crate) fn remainder(t: IntType, a: u64, b: u64) -> Option<i64>
 }
 
 /// `a << b`
-#[inline]
+#[inline(always)]
 pub(crate) fn left_shift(t: IntType, a: u64, b: i64) -> Option<i64>
     requires { is_signed t ≡ false }
     ensures { IsWord (is_wide t) result (left_shift_of t (pos a) b) }
@@ -87,7 +87,7 @@ pub(crate) fn left_shift(t: IntType, a: u64, b: i64) -> Option<i64>
 }
 
 /// `a >> b`
-#[inline]
+#[inline(always)]
 pub(crate) fn right_shift(t: IntType, a: u64, b: i64) -> Option<i64>
     requires kind { is_signed t ≡ false }
     requires left { InRange t (pos a) }
@@ -100,7 +100,7 @@ pub(crate) fn right_shift(t: IntType, a: u64, b: i64) -> Option<i64>
 }
 
 /// `a & b`
-#[inline]
+#[inline(always)]
 pub(crate) fn conjunction(t: IntType, a: u64, b: u64) -> i64
     requires left { InRange t (pos a) }
     requires right { InRange t (pos b) }
@@ -110,7 +110,7 @@ pub(crate) fn conjunction(t: IntType, a: u64, b: u64) -> i64
 }
 
 /// `a | b`
-#[inline]
+#[inline(always)]
 pub(crate) fn disjunction(t: IntType, a: u64, b: u64) -> i64
     requires left { InRange t (pos a) }
     requires right { InRange t (pos b) }
@@ -120,7 +120,7 @@ pub(crate) fn disjunction(t: IntType, a: u64, b: u64) -> i64
 }
 
 /// `a ^ b`
-#[inline]
+#[inline(always)]
 pub(crate) fn exclusion(t: IntType, a: u64, b: u64) -> i64
     requires left { InRange t (pos a) }
     requires right { InRange t (pos b) }
@@ -130,7 +130,7 @@ pub(crate) fn exclusion(t: IntType, a: u64, b: u64) -> i64
 }
 
 // The bits of a number of the type.
-#[inline]
+#[inline(always)]
 fn bits(t: IntType, n: u64) -> u64
     requires { InRange t (pos n) }
     ensures value { result ≡ bits_of t (pos n) }
@@ -140,7 +140,7 @@ fn bits(t: IntType, n: u64) -> u64
 }
 
 // The word for a number of the type.
-#[inline]
+#[inline(always)]
 fn word_of(t: IntType, n: u64) -> i64
     requires kind { is_signed t ≡ false }
     requires range { InRange t (pos n) }
@@ -150,7 +150,7 @@ fn word_of(t: IntType, n: u64) -> i64
 }
 
 // The word for the number modulo 2 to the width, from what 64 bits hold of it.
-#[inline]
+#[inline(always)]
 fn wrapped(t: IntType, bits: u64) -> i64
     requires { is_signed t ≡ false }
     ensures { number_of (is_wide t) result ≡ conv t (pos bits) }

@@ -10,7 +10,7 @@ ghost use Rattle.word_arithmetic.specs.Words.{number_of, is_wide, word_type};
 use pt_base::IntType;
 
 /// The number that a word stands for; `wide` says that it is of type unsigned long.
-#[inline]
+#[inline(always)]
 pub fn number(w: i64, wide: bool) -> i128
     ensures { result ≡ number_of wide w }
 {
@@ -22,7 +22,7 @@ pub fn number(w: i64, wide: bool) -> i128
 }
 
 /// The word that stands for a number, if there is one.
-#[inline]
+#[inline(always)]
 pub fn word(v: i128, wide: bool) -> Option<i64>
     ensures { MatchOption result (InRange (word_type wide) v → ⊥) (λ w. number_of wide w ≡ v) }
 {
@@ -34,7 +34,7 @@ pub fn word(v: i128, wide: bool) -> Option<i64>
 }
 
 // The word of type unsigned long.
-#[inline]
+#[inline(always)]
 fn wide_word(v: i128) -> Option<i64>
     ensures { MatchOption result (InRange (word_type Bool.true) v → ⊥) (λ w. number_of Bool.true w ≡ v) }
 {
@@ -45,7 +45,7 @@ fn wide_word(v: i128) -> Option<i64>
 }
 
 /// A word converted to a type (C99 6.3.1.3): the number of its low bits.
-#[inline]
+#[inline(always)]
 pub fn converted(w: i64, to: IntType) -> i64
     ensures { (from : Bool) → number_of (is_wide to) result ≡ conv to (number_of from w) }
 {
@@ -53,7 +53,7 @@ pub fn converted(w: i64, to: IntType) -> i64
 }
 
 /// The low bits of a word, as many as the type has.
-#[inline]
+#[inline(always)]
 pub(crate) fn low_bits(t: IntType, w: i64) -> u64
     ensures value { (wide : Bool) → result ≡ bits_of t (number_of wide w) }
     ensures range { result < 2 ^ width_of t }
@@ -62,7 +62,7 @@ pub(crate) fn low_bits(t: IntType, w: i64) -> u64
 }
 
 /// The word for the number of the type with these bits.
-#[inline]
+#[inline(always)]
 pub(crate) fn of_low_bits(t: IntType, bits: u64) -> i64
     requires { bits < 2 ^ width_of t }
     ensures { number_of (is_wide t) result ≡ of_bits t bits }
@@ -78,7 +78,7 @@ pub(crate) fn of_low_bits(t: IntType, bits: u64) -> i64
 }
 
 /// 2 to the width, less 1.
-#[inline]
+#[inline(always)]
 pub(crate) fn all_ones(t: IntType) -> u64
     ensures { result ≡ 2 ^ width_of t - 1 }
 {
@@ -91,7 +91,7 @@ pub(crate) fn all_ones(t: IntType) -> u64
 }
 
 /// The number of bits to shift by.
-#[inline]
+#[inline(always)]
 pub(crate) fn shift_amount(t: IntType, b: i64) -> Option<u32>
     ensures amount { SomeIff result (IsTrue (is_amount t b)) (unsigned_abs b) }
     ensures bound { IfSome result (λ n. n < 64) }
