@@ -30,7 +30,7 @@ use Rattle.pt_core.specs.CodeTree.{ExprTree}
 use Rattle.pt_core.specs.Types.{type_of}
 use Rattle.pt_core.specs.Values.{Stop, ◌>>?◌}
 use Rattle.pt_core.specs.Statements as c
-use Rattle.half_meaning_law.specs.Relations.{Scene, context_of, is_pointer, Alike}
+use Rattle.half_meaning_law.specs.Relations.{Scene, context_of, is_pointer, Alike, reach_of}
 use Rattle.half_meaning_law.specs.CForms.{c_type}
 use Rattle.half_meaning_law.specs.Known.{type_as}
 use Rattle.half_meaning_law.specs.Expressions.{Evaluates, IsValue, SameValues, asked, ExpressionMeans}
@@ -130,7 +130,7 @@ run_link : (s : Scene) (a b d : ExprTree) (first : t.ExprTree) (links : List t.L
     SameValues s (type_of s.context b) y (asked s b) →
     ((blocks : Blocks) → asked s d blocks ≡ (asked s a blocks >>? λ p. asked s b blocks >>? λ q. combine p q)) →
     ((v : m.Value) (p : core.Cell) (w : m.Value) (q : core.Cell) → IsValue s (type_of s.context a) v p → IsValue s (type_of s.context b) w q →
-    Told s (is_pointer (type_of s.context d)) (stepped (x.sizes (context_of s)) (last_type (x.type_of first) links) step (cell_of v) (cell_of w)) (combine p q)) →
+    Told s (reach_of s (type_of s.context d)) (stepped (x.sizes (context_of s)) (last_type (x.type_of first) links) step (cell_of v) (cell_of w)) (combine p q)) →
     (st : State) (st' : c.State) → Alike s st st' →
     Evaluates (IsValue s (type_of s.context d)) st (x.value_of first (context_of s) st >>= λ v. x.links_value (link_trees (links ++ link sp to step y ∷ [])) (x.type_of first) v (context_of s)) (asked s d st'.memory)
 run_link s a b d first links sp to step y combine so_far right core_is steps st st' al =
@@ -168,7 +168,7 @@ pub record LinkHolds (s : Scene) (a b d : ExprTree) (op : BinaryOp) (far : SoFar
   pub combine : Combines
   pub asks : (blocks : Blocks) → asked s d blocks ≡ (asked s a blocks >>? λ p. asked s b blocks >>? λ q. combine p q)
   pub steps : (v : m.Value) (p : core.Cell) (u : m.Value) (q : core.Cell) → IsValue s (type_of s.context a) v p → IsValue s (type_of s.context b) u q →
-      Told s (is_pointer (type_of s.context d)) (stepped (x.sizes (context_of s)) left (step_of (integer_op op) rule) (cell_of v) (cell_of u)) (combine p q)
+      Told s (reach_of s (type_of s.context d)) (stepped (x.sizes (context_of s)) left (step_of (integer_op op) rule) (cell_of v) (cell_of u)) (combine p q)
 
 pub link_held : (s : Scene) (a b d : ExprTree) (op : BinaryOp) (far : SoFar) (w : Value) (y : t.ExprTree) (sp : Span) → LinkHolds s a b d op far w y → FarHolds s d (linked (link_rule false op far.value w) op sp far w y)
 unfolding linked
@@ -181,7 +181,7 @@ link_held s a b d op far w y sp l =
       tree = λ none. differ (sym none ∙ some_links far.links new);
       same = subst (λ z. (st : State) (st' : c.State) → Alike s st st' → Evaluates (IsValue s (type_of s.context d)) st (x.value_of z (context_of s) st >>= λ v. x.links_value (link_trees (far.links ++ new ∷ [])) (x.type_of z) v (context_of s)) (asked s d st'.memory)) (sym l.first)
           (run_link s a b d l.first_now far.links sp (link_type (rule_type l.rule far.value w)) (step_of (integer_op op) l.rule) (converted_by l.rule w far.value y) l.combine l.so_far l.right l.asks
-          (λ v p u q is is'. subst (λ z. Told s (is_pointer (type_of s.context d)) (stepped (x.sizes (context_of s)) z (step_of (integer_op op) l.rule) (cell_of v) (cell_of u)) (l.combine p q)) (sym l.last) (l.steps v p u q is is')));
+          (λ v p u q is is'. subst (λ z. Told s (reach_of s (type_of s.context d)) (stepped (x.sizes (context_of s)) z (step_of (integer_op op) l.rule) (cell_of v) (cell_of u)) (l.combine p q)) (sym l.last) (l.steps v p u q is is')));
     })
   where
     new : t.LinkTree

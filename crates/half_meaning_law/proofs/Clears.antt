@@ -37,12 +37,12 @@ use Rattle.pt_core.specs.Statements as c
 use Rattle.pt_core.specs.Statements.{does, evaluated, with_blocks}
 use Rattle.half_trees.specs.Names.{nowhere}
 use Rattle.half_trees.specs.Expressions as h
-use Rattle.half_meaning_law.specs.Relations.{Scene, context_of, frame_of, core_cell, is_pointer, holds_pointer, CellFits, Alike, Same}
+use Rattle.half_meaning_law.specs.Relations.{Scene, context_of, frame_of, core_cell, reach_in, CellFits, Alike, Same, reach_of}
 use Rattle.half_meaning_law.specs.CForms.{stands}
 use Rattle.half_meaning_law.specs.Known.{type_as}
 use Rattle.half_meaning_law.specs.Expressions.{Evaluates, IsPlace, SamePlaces, place_asked, IsFine, SceneFits}
 use Rattle.half_meaning_law.specs.Statements.{GoesOn, SameRuns, StatementsMean}
-use Rattle.half_meaning_law.proofs.Memories.{differ}
+use Rattle.half_meaning_law.proofs.Memories.{differ, own_live}
 use Rattle.half_meaning_law.proofs.Runs.{same_evaluated, bind_assoc}
 use Rattle.half_trees.specs.Statements as hs
 use Rattle.half_meaning_law.specs.Relations.{name_of}
@@ -145,12 +145,12 @@ one_cell (y ∷ []) z h = refl
 one_cell (y ∷ (k ∷ ks)) z h = absurd (omega (arith, h))
 
 -- what a variable of one cell is cleared to
-clear_alike : (s : Scene) (n : ℕ) (z : Cell) (fresh_one : bm.Block) (st : State) (st' : c.State) → OneToOne s.global_number → Alike s st st' → length (st.memory (local s.frame.depth n)) ≡ 1 → fresh_one.cells ≡ core_cell s z ∷ [] → CellFits s (holds_pointer s (local s.frame.depth n)) z →
+clear_alike : (s : Scene) (n : ℕ) (z : Cell) (fresh_one : bm.Block) (st : State) (st' : c.State) → OneToOne s.global_number → Alike s st st' → length (st.memory (local s.frame.depth n)) ≡ 1 → fresh_one.cells ≡ core_cell s z ∷ [] → CellFits s (reach_in s (local s.frame.depth n)) z →
     Alike s (record st { memory = write_cell st.memory (local s.frame.depth n) 0 z }) (with_blocks (bs.put st'.memory (Local s.frame.depth n) fresh_one) st')
 clear_alike s n z fresh_one st st' one al single is fits =
     alike_with s st st' (write_cell st.memory (local s.frame.depth n) 0 z) (bs.put st'.memory (Local s.frame.depth n) fresh_one) al
     (blocks_put s st.memory st'.memory (local s.frame.depth n) (slice_set (st.memory (local s.frame.depth n)) 0 z) fresh_one one al.blocks (is ∙ ap (map (core_cell s)) (sym (one_cell (st.memory (local s.frame.depth n)) z single))))
-    (fits_put s st.memory (local s.frame.depth n) (slice_set (st.memory (local s.frame.depth n)) 0 z) al.fits (all_set (CellFits s (holds_pointer s (local s.frame.depth n))) (st.memory (local s.frame.depth n)) 0 z (al.fits (local s.frame.depth n)) fits))
+    (fits_put s st.memory (local s.frame.depth n) (slice_set (st.memory (local s.frame.depth n)) 0 z) al.fits (all_set (CellFits s (reach_in s (local s.frame.depth n))) (st.memory (local s.frame.depth n)) 0 z (al.fits (local s.frame.depth n)) fits))
     (live_written s st.memory (local s.frame.depth n) 0 z al.live)
 
 -- where a variable lies
@@ -163,11 +163,11 @@ same_given s Q R st (gives a st1) z f o' h on = subst (λ k. Same s R (f a k) o'
 same_given s Q R st (trapped trap span st1) z f o' h on = absurd h
 same_given s Q R st (spent st1) z f o' h on = absurd h
 
-clear_runs : (s : Scene) (n : ℕ) (z : Cell) (y : t.PlaceTree) (g : t.ExprTree) (sp : Span) (o : Option VarTy) → OneToOne s.global_number → n < length s.context.variables → cells_in s (type_at s.context.variables n) ≡ 1 →
-    SamePlaces s (type_at s.context.variables n) y (place_asked s (place (local_root n) [])) → ((st : State) → x.value_of g (context_of s) st ≡ gives (holds z) st) → CellFits s (is_pointer (type_at s.context.variables n)) z →
+clear_runs : (s : Scene) (n : ℕ) (z : Cell) (y : t.PlaceTree) (g : t.ExprTree) (sp : Span) (o : Option VarTy) → OneToOne s.global_number → s.frames s.frame.depth ≡ s.context.variables → n < length s.context.variables → cells_in s (type_at s.context.variables n) ≡ 1 →
+    SamePlaces s (type_at s.context.variables n) y (place_asked s (place (local_root n) [])) → ((st : State) → x.value_of g (context_of s) st ≡ gives (holds z) st) → CellFits s (reach_of s (type_at s.context.variables n)) z →
     (bm.fresh (shape_of s.context.structs (type_at s.context.variables n))).cells ≡ core_cell s z ∷ [] →
     SameRuns s (λ st. x.value_of (typed sp o (t.assign y g)) (context_of s) st >>= λ k. gives m.goes_on) (does (clear n) (frame_of s) s.core_calls)
-clear_runs s n z y g sp o one near single places value fits is st st' al =
+clear_runs s n z y g sp o one own near single places value fits is st st' al =
     subst (λ r. Same s (GoesOn s) r (does (clear n) (frame_of s) s.core_calls st')) (sym (bind_assoc (x.location_of y (context_of s) st) (λ at st1. x.value_of g (context_of s) st1 >>= x.store at) (λ k. gives m.goes_on)))
     (same_given s (IsPlace s (type_at s.context.variables n)) (GoesOn s) st (x.location_of y (context_of s) st) (variable_at s n) (λ at st1. (x.value_of g (context_of s) st1 >>= x.store at) >>= λ k. gives m.goes_on)
     (does (clear n) (frame_of s) s.core_calls st') (places st st' al) found)
@@ -182,7 +182,7 @@ clear_runs s n z y g sp o one near single places value fits is st st' al =
           alike =
               subst (λ b. Alike s (record st { memory = write_cell st.memory b at.cell z }) (with_blocks (bs.put st'.memory (Local s.frame.depth n) fresh_one) st')) (sym there)
               (subst (λ k. Alike s (record st { memory = write_cell st.memory (local s.frame.depth n) k z }) (with_blocks (bs.put st'.memory (Local s.frame.depth n) fresh_one) st')) here.cell
-              (clear_alike s n z fresh_one st st' one al (al.live n near ∙ single) is (subst (λ b. CellFits s b z) (sym (ap (holds_pointer s) (sym there) ∙ here.fits)) fits)));
+              (clear_alike s n z fresh_one st st' one al (own_live s st.memory n own al.live near ∙ single) is (subst (λ b. CellFits s b z) (sym (ap (reach_in s) (sym there) ∙ here.fits)) fits)));
           same = tt;
         })
 
@@ -214,7 +214,7 @@ zero_fits (v.Array el n) ok = differ (sym ok)
 pub record Cleared (s : Scene) (u : VarTy) : Type 0 where
   pub cell : Cell
   pub value : (at : Span) (st : State) → x.value_of (as_type (type_as u) true (value_tree at (literal (record { span = nowhere; value = pos 0; ty = i.Int })))) (context_of s) st ≡ gives (holds cell) st
-  pub fits : CellFits s (is_pointer u) cell
+  pub fits : CellFits s (reach_of s u) cell
   pub fresh : (bm.fresh (shape_of s.context.structs u)).cells ≡ core_cell s cell ∷ []
   pub single : cells_in s u ≡ 1
   pub tree : (n : ℕ) → hs.cleared s.context.structs u (hs.variable n) ≡ hs.evaluated (hs.stored (hs.variable n) h.zero_tree) ∷ []
@@ -250,7 +250,7 @@ clear_means s w st n fits known near ok =
     subst (λ z. StatementsMean s st (checked_all w st (e.stmt_trees z)) (does (clear n) (frame_of s) s.core_calls)) (sym (to.tree n))
     (evaluate_means s w st (hs.stored (hs.variable n) h.zero_tree) (does (clear n) (frame_of s) s.core_calls) judged.0
     (subst (λ z. SameRuns s (λ st1. x.value_of z (context_of s) st1 >>= λ g. gives m.goes_on) (does (clear n) (frame_of s) s.core_calls)) (sym (judged.1 nowhere))
-    (clear_runs s n to.cell (place_of (judge st.env st.structs (hs.variable n)).operand.tree) (as_type (type_as u) true (value_tree nowhere zero)) nowhere (var_type (type_as u)) fits.numbers (is_less n (length s.context.variables) near) to.single held.means.object.same (to.value nowhere) to.fits to.fresh)))
+    (clear_runs s n to.cell (place_of (judge st.env st.structs (hs.variable n)).operand.tree) (as_type (type_as u) true (value_tree nowhere zero)) nowhere (var_type (type_as u)) fits.numbers fits.own (is_less n (length s.context.variables) near) to.single held.means.object.same (to.value nowhere) to.fits to.fresh)))
   where
     u : VarTy
     u = type_at s.context.variables n

@@ -177,11 +177,11 @@ left_null Or elem f n h = cc
 
 -- the cells are compared in the same way
 compare_steps : (s : Scene) (op : BinOp) (a : ExprTree) (sp : Span) (elem : Elem) (f g : Bool) (y z : Cell) → OneToOne s.global_number → type_of s.context a ≡ v.Pointer elem f →
-    Told s false (stepped (x.sizes (context_of s)) (v.Pointer elem g) (step_of (integer_op (operator_of op)) rule.ComparePointers) y z) (told (at_span sp (compared is_same_name op (pointee_cells s.context (type_of s.context a)) (w.target_of (core_cell s y)) (w.target_of (core_cell s z)))))
+    Told s None (stepped (x.sizes (context_of s)) (v.Pointer elem g) (step_of (integer_op (operator_of op)) rule.ComparePointers) y z) (told (at_span sp (compared is_same_name op (pointee_cells s.context (type_of s.context a)) (w.target_of (core_cell s y)) (w.target_of (core_cell s z)))))
 unfolding step_of
 compare_steps s op a sp elem f g y z one is =
-    subst (λ o. Told s false (stepped (x.sizes (context_of s)) (v.Pointer elem g) (link_step.Compare o) y z) (told (at_span sp (compared is_same_name op (pointee_cells s.context (type_of s.context a)) (w.target_of (core_cell s y)) (w.target_of (core_cell s z)))))) (sym (integer_back op))
-    (subst (λ o. Told s false (stepped (x.sizes (context_of s)) (v.Pointer elem g) (link_step.Compare op) y z) (told (at_span sp (compared is_same_name op (pointee_cells s.context o) (w.target_of (core_cell s y)) (w.target_of (core_cell s z)))))) (sym is)
+    subst (λ o. Told s None (stepped (x.sizes (context_of s)) (v.Pointer elem g) (link_step.Compare o) y z) (told (at_span sp (compared is_same_name op (pointee_cells s.context (type_of s.context a)) (w.target_of (core_cell s y)) (w.target_of (core_cell s z)))))) (sym (integer_back op))
+    (subst (λ o. Told s None (stepped (x.sizes (context_of s)) (v.Pointer elem g) (link_step.Compare op) y z) (told (at_span sp (compared is_same_name op (pointee_cells s.context o) (w.target_of (core_cell s y)) (w.target_of (core_cell s z)))))) (sym is)
     (compared_told s one sp op (elem_cells (sizes_of s.context.structs) elem) y z))
 
 -- what the normal form makes of the cells
@@ -200,7 +200,7 @@ compare_fits s op a b sp elem f g one tells is is' = record {
   right = λ own other y p h. ap (λ z. if z then as_type other.ty true y else y) (p.plain (ap is_pointer is'));
   combine = compares s op a sp;
   asks = λ blocks. refl;
-  steps = λ y z p q. subst (λ o. Told s false (stepped (x.sizes (context_of s)) o (step_of (integer_op (operator_of op)) rule.ComparePointers) y z) (compares s op a sp (core_cell s y) (core_cell s z))) (sym (ap (with_const (points_const s.context a)) is))
+  steps = λ y z p q. subst (λ o. Told s None (stepped (x.sizes (context_of s)) o (step_of (integer_op (operator_of op)) rule.ComparePointers) y z) (compares s op a sp (core_cell s y) (core_cell s z))) (sym (ap (with_const (points_const s.context a)) is))
       (compare_steps s op a sp elem f (points_const s.context a) y z one is);
 }
 
@@ -237,8 +237,8 @@ right_null_holds s op a sp elem other f far at one tells is held = record {
   right = subst (λ z. SameValues s (v.Pointer other false) (as_type z true (value_tree at zero)) (asked s (null other))) (sym left_is) (null_same s other elem (points_const s.context a) (value_tree at zero));
   combine = compares s op a sp;
   asks = λ blocks. refl;
-  steps = steps_of s (type_of s.context a) (v.Pointer other false) false (stepped (x.sizes (context_of s)) (c_type s.context a) (step_of (integer_op (operator_of op)) rule.ComparePointers)) (compares s op a sp)
-      (λ y z p q. subst (λ o. Told s false (stepped (x.sizes (context_of s)) o (step_of (integer_op (operator_of op)) rule.ComparePointers) y z) (compares s op a sp (core_cell s y) (core_cell s z))) (sym (ap (with_const (points_const s.context a)) is))
+  steps = steps_of s (type_of s.context a) (v.Pointer other false) None (stepped (x.sizes (context_of s)) (c_type s.context a) (step_of (integer_op (operator_of op)) rule.ComparePointers)) (compares s op a sp)
+      (λ y z p q. subst (λ o. Told s None (stepped (x.sizes (context_of s)) o (step_of (integer_op (operator_of op)) rule.ComparePointers) y z) (compares s op a sp (core_cell s y) (core_cell s z))) (sym (ap (with_const (points_const s.context a)) is))
       (compare_steps s op a sp elem f (points_const s.context a) y z one is));
 }
   where
@@ -275,7 +275,7 @@ left_null_holds s structs op b j sp elem f begin at one tells is right = record 
   right = subst (λ z. SameValues s (type_of s.context b) (if z then as_type (ty.Int i.Int) true (value_tree at j.operand) else value_tree at j.operand) (asked s b)) (sym (right.plain (ap is_pointer is))) (right.same at);
   combine = compares s op (null elem) sp;
   asks = λ blocks. refl;
-  steps = steps_of s (v.Pointer elem false) (type_of s.context b) false (stepped (x.sizes (context_of s)) (v.Pointer elem (points_const s.context b)) (step_of (integer_op (operator_of op)) rule.ComparePointers)) (compares s op (null elem) sp)
+  steps = steps_of s (v.Pointer elem false) (type_of s.context b) None (stepped (x.sizes (context_of s)) (v.Pointer elem (points_const s.context b)) (step_of (integer_op (operator_of op)) rule.ComparePointers)) (compares s op (null elem) sp)
       (λ y z p q. compare_steps s op (null elem) sp elem false (points_const s.context b) y z one refl);
 }
   where

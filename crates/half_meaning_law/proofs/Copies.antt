@@ -1,5 +1,5 @@
 -- Copies of structs, checked places, and variables that are cleared.
-use Rattle.std.proofs.Common.{◌≡◌, ◌∙◌, ℕ, pos, refl, ap, sym, subst, Bool, true, false, not, Option, Some, List, [], ◌∷◌, Result, Ok, if◌then◌else◌}
+use Rattle.std.proofs.Common.{◌≡◌, ◌∙◌, ℕ, pos, refl, ap, sym, subst, Bool, true, false, not, Option, Some, List, [], ◌∷◌, Result, Ok, if◌then◌else◌, None}
 use Rattle.std.specs.Prelude.{IsTrue}
 use Rattle.pt_base.specs.declared.span.Span.{Span}
 use Rattle.runs.specs.State.{gives, ◌>>=◌}
@@ -92,8 +92,8 @@ copied_alike s n st st' at from at' from' one al to of =
         ∙ ap (take count) (sym (map_drop s from.cell (st.memory from.block)))
         ∙ sym (map_take s count (drop from.cell (st.memory from.block)))
 
-    numbers : AllCells (CellFits s false) xs
-    numbers = all_take (CellFits s false) count (drop from.cell (st.memory from.block)) tt (all_drop (CellFits s false) from.cell (st.memory from.block) tt (λ k. subst (λ b. CellFits s b (slice_index_or (st.memory from.block) k (number (pos 0)))) of.fits (al.fits from.block k)))
+    numbers : AllCells (CellFits s None) xs
+    numbers = all_take (CellFits s None) count (drop from.cell (st.memory from.block)) tt (all_drop (CellFits s None) from.cell (st.memory from.block) tt (λ k. subst (λ b. CellFits s b (slice_index_or (st.memory from.block) k (number (pos 0)))) of.fits (al.fits from.block k)))
 
 copy_runs : (s : Scene) (n : ℕ) (to of : PlaceTree) (y z : t.PlaceTree) (sp sp' : Span) (o o' : Option VarTy) → OneToOne s.global_number → SamePlaces s (v.Struct n) y (place_asked s to) → SamePlaces s (v.Struct n) z (place_asked s of) →
     SameRuns s (λ st. x.value_of (typed sp o (t.assign y (typed sp' o' (t.read z)))) (context_of s) st >>= λ g. gives m.goes_on) (does (copy to of) (frame_of s) s.core_calls)

@@ -41,11 +41,11 @@ use Rattle.pt_core.specs.CodeTree.{clear}
 use Rattle.pt_core.specs.Types.{type_at, shape_of}
 use Rattle.pt_core.specs.Statements.{does, evaluated, with_blocks}
 use Rattle.half_trees.specs.Names.{nowhere, word, local_name}
-use Rattle.half_meaning_law.specs.Relations.{Scene, context_of, frame_of, core_cell, holds_pointer, CellFits, Alike, Same, cells_in}
+use Rattle.half_meaning_law.specs.Relations.{Scene, context_of, frame_of, core_cell, reach_in, CellFits, Alike, Same, cells_in}
 use Rattle.half_meaning_law.specs.Known.{Known as AllKnown, local_id, object_as, VariableKnown}
 use Rattle.half_meaning_law.specs.Expressions.{IsFine, SceneFits}
 use Rattle.half_meaning_law.specs.Statements.{code_of, ListedFrom, GoesOn, advanced, StatementsMean}
-use Rattle.half_meaning_law.proofs.Memories.{differ, AllCells, OneToOne, is_same, alike_with, blocks_put, block_same, fits_all_written, live_all_written}
+use Rattle.half_meaning_law.proofs.Memories.{differ, AllCells, OneToOne, is_same, alike_with, blocks_put, block_same, fits_all_written, live_all_written, own_live}
 use Rattle.half_meaning_law.proofs.Judged.{no_faults}
 use Rattle.half_meaning_law.proofs.Paths.{is_less, extended_behind}
 use Rattle.half_meaning_law.proofs.Assigns.{assign_judged}
@@ -238,7 +238,7 @@ filled_alike : (s : Scene) (n count : ℕ) (fresh_one : bm.Block) (st : State) (
 filled_alike s n count fresh_one st st' numbers al same is =
     alike_with s st st' (x.write_all st.memory b 0 (zeros count)) (bs.put st'.memory (Local s.frame.depth n) fresh_one) al
     (λ a. blocks_put s st.memory st'.memory b (zeros count) fresh_one numbers al.blocks (is ∙ zeros_core s count) a ∙ ap (map (core_cell s)) (sym (written_whole (zeros count) st.memory b a (same ∙ sym (zeros_length count)))))
-    (fits_all_written s (zeros count) st.memory b 0 al.fits (zeros_fit (CellFits s (holds_pointer s b)) count tt))
+    (fits_all_written s (zeros count) st.memory b 0 al.fits (zeros_fit (CellFits s (reach_in s b)) count tt))
     (live_all_written s (zeros count) st.memory b 0 al.live)
   where
     b : Block
@@ -267,7 +267,7 @@ fill_means s w st n fits known near ok =
       fine = filled.fine;
       state = filled.state;
       same = λ exprs listed st1 st1' al. subst (λ z. Same s (GoesOn s) z (does (clear n) (frame_of s) s.core_calls st1')) (sym (filled.runs exprs listed st1)) (record {
-        alike = filled_alike s n (length ls) fresh_one st1 st1' fits.numbers al (al.live n (is_less n (length s.context.variables) near) ∙ to.count ∙ sym long) (to.fresh ∙ ap (λ z. replicate z (int_cell (pos 0))) (sym long));
+        alike = filled_alike s n (length ls) fresh_one st1 st1' fits.numbers al (own_live s st1.memory n fits.own al.live (is_less n (length s.context.variables) near) ∙ to.count ∙ sym long) (to.fresh ∙ ap (λ z. replicate z (int_cell (pos 0))) (sym long));
         same = tt;
       });
     })

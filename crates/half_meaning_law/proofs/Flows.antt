@@ -94,7 +94,7 @@ returns_nothing s w st is = one_means s w st (e.give_back nowhere None) (does (g
 returned_same : (s : Scene) (to : IntType) (g : mv.Value) (q : core.Cell) → IsValue s (v.Int to) g q → SameReturn g (Some q)
 returned_same s to g q h = go h.cell h.fits h.is h.same
   where
-    go : (cell : Cell) → CellFits s false cell → g ≡ holds cell → q ≡ core_cell s cell → SameReturn g (Some q)
+    go : (cell : Cell) → CellFits s None cell → g ≡ holds cell → q ≡ core_cell s cell → SameReturn g (Some q)
     go (number n) f is same = (n, is, same)
     go no_cell f is same = absurd f
     go (pointer b base count index) f is same = absurd f

@@ -1,5 +1,5 @@
 -- The operators between two operands, as links of chains.
-use Rattle.std.proofs.Common.{◌≡◌, ◌∙◌, refl, ap, sym, subst, Bool, true, false, Some, None, [], Result}
+use Rattle.std.proofs.Common.{◌≡◌, ◌∙◌, refl, ap, sym, subst, Bool, true, false, Some, None, [], Result, Option, ℕ}
 use Rattle.pt_base.specs.declared.int_type.IntType.{IntType}
 use Rattle.pt_base.specs.declared.int_type.IntType.TheVariants as i
 use Rattle.pt_base.specs.declared.span.Span.{Span}
@@ -38,7 +38,7 @@ use Rattle.pt_core.specs.Types.{type_of}
 use Rattle.pt_core.specs.Values.{◌>>?◌}
 use Rattle.half_trees.specs.Expressions as h
 use Rattle.half_trees.specs.Expressions.{operator_of}
-use Rattle.half_meaning_law.specs.Relations.{Scene, context_of, core_cell, is_pointer, CellFits}
+use Rattle.half_meaning_law.specs.Relations.{Scene, context_of, core_cell, is_pointer, CellFits, reach_of}
 use Rattle.half_meaning_law.specs.CForms.{points_const, with_const, c_type}
 use Rattle.half_meaning_law.specs.Known.{type_as}
 use Rattle.half_meaning_law.specs.Expressions.{IsValue, SameValues, asked, ExpressionMeans}
@@ -64,11 +64,11 @@ pub record OpFits (s : Scene) (a b d : ExprTree) (op : BinaryOp) : Type 0 where
   pub right : (own other : Value) (y : t.ExprTree) → ValueOf s b own → ty_of y ≡ Some (c_type s.context b) → converted_by rule own other y ≡ y
   pub combine : Combines
   pub asks : (blocks : Blocks) → asked s d blocks ≡ (asked s a blocks >>? λ p. asked s b blocks >>? λ q. combine p q)
-  pub steps : (y z : Cell) → CellFits s (is_pointer (type_of s.context a)) y → CellFits s (is_pointer (type_of s.context b)) z →
-      Told s (is_pointer (type_of s.context d)) (stepped (x.sizes (context_of s)) (c_type s.context a) (step_of (integer_op op) rule) y z) (combine (core_cell s y) (core_cell s z))
+  pub steps : (y z : Cell) → CellFits s (reach_of s (type_of s.context a)) y → CellFits s (reach_of s (type_of s.context b)) z →
+      Told s (reach_of s (type_of s.context d)) (stepped (x.sizes (context_of s)) (c_type s.context a) (step_of (integer_op op) rule) y z) (combine (core_cell s y) (core_cell s z))
 
 -- steps of cells as steps of values
-pub steps_of : (s : Scene) (ua ub : VarTy) (p : Bool) (make : Cell → Cell → Result Cell Trap) (combine : Combines) → ((y z : Cell) → CellFits s (is_pointer ua) y → CellFits s (is_pointer ub) z → Told s p (make y z) (combine (core_cell s y) (core_cell s z))) →
+pub steps_of : (s : Scene) (ua ub : VarTy) (p : Option ℕ) (make : Cell → Cell → Result Cell Trap) (combine : Combines) → ((y z : Cell) → CellFits s (reach_of s ua) y → CellFits s (reach_of s ub) z → Told s p (make y z) (combine (core_cell s y) (core_cell s z))) →
     (g : m.Value) (q : core.Cell) (k : m.Value) (r : core.Cell) → IsValue s ua g q → IsValue s ub k r → Told s p (make (cell_of g) (cell_of k)) (combine q r)
 steps_of s ua ub p make combine on g q k r is is' =
     subst (λ z. Told s p (make (cell_of z) (cell_of k)) (combine q r)) (sym is.is)
@@ -98,7 +98,7 @@ link_from s structs a b d op far j at o held right = record {
   right = subst (λ z. SameValues s (type_of s.context b) z (asked s b)) (sym (o.right (value_of j.operand) far.value (value_tree at j.operand) (record { typed = right.typed; plain = right.plain }) (right.tree at))) (right.same at);
   combine = o.combine;
   asks = o.asks;
-  steps = steps_of s (type_of s.context a) (type_of s.context b) (is_pointer (type_of s.context d)) (stepped (x.sizes (context_of s)) (c_type s.context a) (step_of (integer_op op) o.rule)) o.combine o.steps;
+  steps = steps_of s (type_of s.context a) (type_of s.context b) (reach_of s (type_of s.context d)) (stepped (x.sizes (context_of s)) (c_type s.context a) (step_of (integer_op op) o.rule)) o.combine o.steps;
 }
   where
     so_far : ValueOf s a far.value
@@ -177,7 +177,7 @@ numbers_fit s op to a b sp is is' plain result rules = record {
   right = λ own other y p h. to_int_same to y (tree_integer s b to y is' h);
   combine = computed sp op to;
   asks = λ blocks. refl;
-  steps = λ y z p q. subst (λ o. Told s false (stepped (x.sizes (context_of s)) (c_type s.context a) (step_of o (rule.Arithmetic to)) y z) (computed sp op to (core_cell s y) (core_cell s z))) (sym (integer_back op)) (arithmetic_told s (x.sizes (context_of s)) (c_type s.context a) sp op to y z plain);
+  steps = λ y z p q. subst (λ o. Told s None (stepped (x.sizes (context_of s)) (c_type s.context a) (step_of o (rule.Arithmetic to)) y z) (computed sp op to (core_cell s y) (core_cell s z))) (sym (integer_back op)) (arithmetic_told s (x.sizes (context_of s)) (c_type s.context a) sp op to y z plain);
 }
 
 -- a comparison of numbers
@@ -194,7 +194,7 @@ truths_fit s op to a b sp is is' plain result rules = record {
   right = λ own other y p h. to_int_same to y (tree_integer s b to y is' h);
   combine = computed sp op to;
   asks = λ blocks. refl;
-  steps = λ y z p q. subst (λ o. Told s false (stepped (x.sizes (context_of s)) (c_type s.context a) (step_of o (rule.Comparison to)) y z) (computed sp op to (core_cell s y) (core_cell s z))) (sym (integer_back op)) (arithmetic_told s (x.sizes (context_of s)) (c_type s.context a) sp op to y z plain);
+  steps = λ y z p q. subst (λ o. Told s None (stepped (x.sizes (context_of s)) (c_type s.context a) (step_of o (rule.Comparison to)) y z) (computed sp op to (core_cell s y) (core_cell s z))) (sym (integer_back op)) (arithmetic_told s (x.sizes (context_of s)) (c_type s.context a) sp op to y z plain);
 }
 
 -- any operator but a shift

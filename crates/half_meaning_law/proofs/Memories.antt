@@ -1,6 +1,6 @@
 -- What is written on both sides leaves the memories alike.
-use Rattle.std.proofs.Common.{◌≡◌, ◌∙◌, ℕ, zero, suc, pos, List, [], ◌∷◌, refl, ap, sym, subst, Bool, true, false, if◌then◌else◌, map, length, arith}
-use Rattle.std.specs.Prelude.{◌+◌, ◌&&◌, nat_eq, slice_set, slice_index_or, take, drop}
+use Rattle.std.proofs.Common.{◌≡◌, ◌∙◌, ℕ, zero, suc, pos, List, [], ◌∷◌, refl, ap, sym, subst, Bool, true, false, if◌then◌else◌, map, length, arith, ◌<◌}
+use Rattle.std.specs.Prelude.{◌+◌, ◌&&◌, nat_eq, slice_set, slice_index_or, take, drop, slice_get}
 use Rattle.std.proofs.lemmas.Bool.Decides.{nat_tests}
 use Rattle.block_memory.specs.declared.cell.Cell.TheVariants.{Int}
 use Rattle.block_memory.specs.Block as b
@@ -13,8 +13,9 @@ use Rattle.source_meaning.specs.State.{State}
 use Rattle.pt_core.specs.Values.{written, all_written}
 use Rattle.pt_core.specs.Statements as c
 use Rattle.pt_core.specs.Statements.{with_blocks}
-use Rattle.half_meaning_law.specs.Relations.{Scene, name_of, core_cell, SameBlocks, holds_pointer, CellFits, MemoryFits, VariablesLive, cells_in, Alike}
+use Rattle.half_meaning_law.specs.Relations.{Scene, name_of, core_cell, SameBlocks, reach_in, CellFits, MemoryFits, VariablesLive, cells_in, Alike, room_of}
 use Rattle.pt_core.specs.Types.{type_at}
+use Rattle.typed_tree.specs.declared.types.VarTy.{VarTy}
 
 -- ---- numbers
 
@@ -129,11 +130,11 @@ blocks_put s m blocks a cells x one same e o = ap (λ t. (if t then x else block
     go true = e
     go false = same o
 
-pub fits_put : (s : Scene) (m : Memory) (a : Block) (cells : List Cell) → MemoryFits s m → AllCells (CellFits s (holds_pointer s a)) cells → MemoryFits s (put m a cells)
+pub fits_put : (s : Scene) (m : Memory) (a : Block) (cells : List Cell) → MemoryFits s m → AllCells (CellFits s (reach_in s a)) cells → MemoryFits s (put m a cells)
 fits_put s m a cells fits own o k = go (same_block o a) refl
   where
-    go : (t : Bool) → same_block o a ≡ t → CellFits s (holds_pointer s o) (slice_index_or (if t then cells else m o) k (number (pos 0)))
-    go true e = subst (λ z. CellFits s (holds_pointer s z) (slice_index_or cells k (number (pos 0)))) (sym (block_same o a e)) (own k)
+    go : (t : Bool) → same_block o a ≡ t → CellFits s (reach_in s o) (slice_index_or (if t then cells else m o) k (number (pos 0)))
+    go true e = subst (λ z. CellFits s (reach_in s z) (slice_index_or cells k (number (pos 0)))) (sym (block_same o a e)) (own k)
     go false e = fits o k
 
 -- one cell is written on both sides
@@ -143,8 +144,8 @@ blocks_written s m blocks a at x one same =
     blocks_put s m blocks a (slice_set (m a) at x) (with_cell (blocks (name_of s a)) at (core_cell s x)) one same
     (ap (λ cells. slice_set cells at (core_cell s x)) (same a) ∙ sym (map_set s (m a) at x))
 
-pub fits_written : (s : Scene) (m : Memory) (a : Block) (at : ℕ) (x : Cell) → MemoryFits s m → CellFits s (holds_pointer s a) x → MemoryFits s (write m a at x)
-fits_written s m a at x fits own = fits_put s m a (slice_set (m a) at x) fits (all_set (CellFits s (holds_pointer s a)) (m a) at x (fits a) own)
+pub fits_written : (s : Scene) (m : Memory) (a : Block) (at : ℕ) (x : Cell) → MemoryFits s m → CellFits s (reach_in s a) x → MemoryFits s (write m a at x)
+fits_written s m a at x fits own = fits_put s m a (slice_set (m a) at x) fits (all_set (CellFits s (reach_in s a)) (m a) at x (fits a) own)
 
 -- many cells are
 pub blocks_all_written : (s : Scene) (xs : List Cell) (m : Memory) (blocks : Blocks) (a : Block) (at : ℕ) → OneToOne s.global_number → SameBlocks s m blocks →
@@ -153,10 +154,10 @@ blocks_all_written s [] m blocks a at one same = same
 blocks_all_written s (x ∷ xs) m blocks a at one same =
     blocks_all_written s xs (write m a at x) (written blocks (name_of s a) at (core_cell s x)) a (at + 1) one (blocks_written s m blocks a at x one same)
 
-pub fits_all_written : (s : Scene) (xs : List Cell) (m : Memory) (a : Block) (at : ℕ) → MemoryFits s m → AllCells (CellFits s (holds_pointer s a)) xs → MemoryFits s (write_all m a at xs)
+pub fits_all_written : (s : Scene) (xs : List Cell) (m : Memory) (a : Block) (at : ℕ) → MemoryFits s m → AllCells (CellFits s (reach_in s a)) xs → MemoryFits s (write_all m a at xs)
 fits_all_written s [] m a at fits own = fits
 fits_all_written s (x ∷ xs) m a at fits own =
-    fits_all_written s xs (write m a at x) a (at + 1) (fits_written s m a at x fits (own zero)) (tail_cells (CellFits s (holds_pointer s a)) x xs own)
+    fits_all_written s xs (write m a at x) a (at + 1) (fits_written s m a at x fits (own zero)) (tail_cells (CellFits s (reach_in s a)) x xs own)
 
 -- ---- the sizes of variables
 
@@ -166,15 +167,24 @@ length_set (y ∷ ys) zero x = refl
 length_set (y ∷ ys) (suc k) x = ap suc (length_set ys k x)
 
 pub live_written : (s : Scene) (m : Memory) (a : Block) (at : ℕ) (x : Cell) → VariablesLive s m → VariablesLive s (write m a at x)
-live_written s m a at x live n near = go (same_block (local s.frame.depth n) a) refl
+live_written s m a at x live d n = go (same_block (local d n) a) refl
   where
-    go : (t : Bool) → same_block (local s.frame.depth n) a ≡ t → length (if t then slice_set (m a) at x else m (local s.frame.depth n)) ≡ cells_in s (type_at s.context.variables n)
-    go true e = length_set (m a) at x ∙ ap (λ z. length (m z)) (sym (block_same (local s.frame.depth n) a e)) ∙ live n near
-    go false e = live n near
+    go : (t : Bool) → same_block (local d n) a ≡ t → length (if t then slice_set (m a) at x else m (local d n)) ≡ room_of s (slice_get (s.frames d) n)
+    go true e = length_set (m a) at x ∙ ap (λ z. length (m z)) (sym (block_same (local d n) a e)) ∙ live d n
+    go false e = live d n
 
 pub live_all_written : (s : Scene) (xs : List Cell) (m : Memory) (a : Block) (at : ℕ) → VariablesLive s m → VariablesLive s (write_all m a at xs)
 live_all_written s [] m a at live = live
 live_all_written s (x ∷ xs) m a at live = live_all_written s xs (write m a at x) a (at + 1) (live_written s m a at x live)
+
+-- the active function's variables have theirs
+pub own_live : (s : Scene) (m : Memory) (n : ℕ) → s.frames s.frame.depth ≡ s.context.variables → VariablesLive s m → n < length s.context.variables → length (m (local s.frame.depth n)) ≡ cells_in s (type_at s.context.variables n)
+own_live s m n own live near = live s.frame.depth n ∙ ap (λ z. room_of s (slice_get z n)) own ∙ there s.context.variables n near
+  where
+    there : (us : List VarTy) (k : ℕ) → k < length us → room_of s (slice_get us k) ≡ cells_in s (type_at us k)
+    there [] k low = absurd (omega (arith, low))
+    there (u ∷ us) zero low = refl
+    there (u ∷ us) (suc k) low = there us k (omega (arith, low))
 
 -- ---- states
 
@@ -190,12 +200,12 @@ alike_with s st st' m blocks al same fits live = record {
 }
 
 -- one cell is written on both sides
-pub alike_written : (s : Scene) (st : State) (st' : c.State) (a : Block) (at : ℕ) (x : Cell) → OneToOne s.global_number → Alike s st st' → CellFits s (holds_pointer s a) x →
+pub alike_written : (s : Scene) (st : State) (st' : c.State) (a : Block) (at : ℕ) (x : Cell) → OneToOne s.global_number → Alike s st st' → CellFits s (reach_in s a) x →
     Alike s (record st { memory = write st.memory a at x }) (with_blocks (written st'.memory (name_of s a) at (core_cell s x)) st')
 alike_written s st st' a at x one al fits =
     alike_with s st st' (write st.memory a at x) (written st'.memory (name_of s a) at (core_cell s x)) al (blocks_written s st.memory st'.memory a at x one al.blocks) (fits_written s st.memory a at x al.fits fits) (live_written s st.memory a at x al.live)
 
-pub alike_all_written : (s : Scene) (st : State) (st' : c.State) (a : Block) (at : ℕ) (xs : List Cell) → OneToOne s.global_number → Alike s st st' → AllCells (CellFits s (holds_pointer s a)) xs →
+pub alike_all_written : (s : Scene) (st : State) (st' : c.State) (a : Block) (at : ℕ) (xs : List Cell) → OneToOne s.global_number → Alike s st st' → AllCells (CellFits s (reach_in s a)) xs →
     Alike s (record st { memory = write_all st.memory a at xs }) (with_blocks (all_written st'.memory (name_of s a) at (map (core_cell s) xs)) st')
 alike_all_written s st st' a at xs one al fits =
     alike_with s st st' (write_all st.memory a at xs) (all_written st'.memory (name_of s a) at (map (core_cell s) xs)) al (blocks_all_written s xs st.memory st'.memory a at one al.blocks)

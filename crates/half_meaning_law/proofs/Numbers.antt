@@ -1,5 +1,5 @@
 -- Operators before an operand, casts and constants.
-use Rattle.std.proofs.Common.{◌≡◌, ◌∙◌, ℕ, ℤ, pos, negsuc, refl, ap, sym, subst, false, Option, Some, [], ◌++◌, Ok}
+use Rattle.std.proofs.Common.{◌≡◌, ◌∙◌, ℕ, ℤ, pos, negsuc, refl, ap, sym, subst, false, Option, Some, [], ◌++◌, Ok, None}
 use Rattle.std.specs.Prelude.{IsTrue, is_some}
 use Rattle.pt_base.specs.declared.int_type.IntType.{IntType}
 use Rattle.pt_base.specs.declared.int_type.IntType.TheVariants as i
@@ -49,7 +49,7 @@ use Rattle.pt_core.specs.WellFormedExpression.{takes_one}
 use Rattle.half_trees.specs.Names.{nowhere}
 use Rattle.half_trees.specs.Declarations.{int_specs}
 use Rattle.half_trees.specs.Expressions as h
-use Rattle.half_meaning_law.specs.Relations.{Scene, context_of, core_cell, is_pointer, CellFits}
+use Rattle.half_meaning_law.specs.Relations.{Scene, context_of, core_cell, CellFits, reach_of}
 use Rattle.half_meaning_law.specs.CForms.{points_const, with_const, c_type}
 use Rattle.half_meaning_law.specs.Known.{type_as}
 use Rattle.half_meaning_law.specs.Expressions.{Evaluates, IsValue, SameValues, asked, IsFine, ExpressionMeans}
@@ -106,10 +106,10 @@ unary_same s a op to y at sp o is is' same st st' al =
     ev_bind (IsValue s (type_of s.context a)) (IsValue s (v.Int (unary_type op to))) st (x.value_of y (context_of s) st) (asked s a st'.memory) (λ u. x.cell_or_trap at (unary_cell op (x.type_of y) (cell_of u)))
     (λ u. numbered (at_span sp (unary_of op to (w.unary_operand op to u)))) (same st st' al)
     (λ u q h. value_told s (v.Int (unary_type op to)) at st (unary_cell op (x.type_of y) (cell_of u)) (numbered (at_span sp (unary_of op to (w.unary_operand op to q))))
-    (subst (λ z. Told s false (unary_cell op (x.type_of y) (cell_of z)) (numbered (at_span sp (unary_of op to (w.unary_operand op to q))))) (sym h.is)
-    (subst (λ z. Told s false (unary_cell op (x.type_of y) h.cell) (numbered (at_span sp (unary_of op to (w.unary_operand op to z))))) (sym h.same)
-    (subst (λ z. Told s false (unary_cell op z h.cell) (numbered (at_span sp (unary_of op to (w.unary_operand op to (core_cell s h.cell)))))) (sym is')
-    (unary_told s sp op to h.cell (subst (λ z. CellFits s (is_pointer z) h.cell) is h.fits))))))
+    (subst (λ z. Told s None (unary_cell op (x.type_of y) (cell_of z)) (numbered (at_span sp (unary_of op to (w.unary_operand op to q))))) (sym h.is)
+    (subst (λ z. Told s None (unary_cell op (x.type_of y) h.cell) (numbered (at_span sp (unary_of op to (w.unary_operand op to z))))) (sym h.same)
+    (subst (λ z. Told s None (unary_cell op z h.cell) (numbered (at_span sp (unary_of op to (w.unary_operand op to (core_cell s h.cell)))))) (sym is')
+    (unary_told s sp op to h.cell (subst (λ z. CellFits s (reach_of s z) h.cell) is h.fits))))))
 
 pub unary_held : (s : Scene) (env : Env) (structs : Structs) (op : UnOp) (to : IntType) (a : ExprTree) (sp : Span) (tree : e.ExprTree) → IsTrue (takes_one op to (type_of s.context a)) → Held s env structs a tree →
     Held s env structs (unary op to a sp) (e.prefix nowhere (h.prefix_of op) tree)
@@ -170,8 +170,8 @@ convert_same s a to u y at is same st st' al =
       record {
         cell = m.converted_cell (v.Int to) h.cell;
         is = ap (m.converted (v.Int to)) h.is;
-        same = ap (w.converted (is_type (type_of s.context a) to) to) h.same ∙ converted_same s (is_type (type_of s.context a) to) to h.cell (subst (λ z. CellFits s (is_pointer z) h.cell) is h.fits);
-        fits = converted_fits s to h.cell (subst (λ z. CellFits s (is_pointer z) h.cell) is h.fits);
+        same = ap (w.converted (is_type (type_of s.context a) to) to) h.same ∙ converted_same s (is_type (type_of s.context a) to) to h.cell (subst (λ z. CellFits s (reach_of s z) h.cell) is h.fits);
+        fits = converted_fits s to h.cell (subst (λ z. CellFits s (reach_of s z) h.cell) is h.fits);
       },
     ))
 

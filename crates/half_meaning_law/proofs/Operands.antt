@@ -40,7 +40,7 @@ use Rattle.pt_core.specs.Values.{Stop, ◌>>?◌, at_span, numbered, pointed, to
 use Rattle.pt_core.specs.WellFormedExpression.{takes_two}
 use Rattle.half_trees.specs.Expressions as h
 use Rattle.half_trees.specs.Expressions.{operator_of}
-use Rattle.half_meaning_law.specs.Relations.{Scene, context_of, core_cell, is_pointer, CellFits}
+use Rattle.half_meaning_law.specs.Relations.{Scene, context_of, core_cell, CellFits, reach_of}
 use Rattle.half_meaning_law.specs.CForms.{points_const, with_const, c_type}
 use Rattle.half_meaning_law.specs.Known.{type_as}
 use Rattle.half_meaning_law.proofs.Memories.{differ}
@@ -74,9 +74,9 @@ shift_fit s left to u a b sp is is' whole whole' shifts same result rules = reco
   combine = computed sp (m.shift_of left) to;
   asks = λ blocks. refl;
   steps = λ y z p q.
-      subst (λ o. Told s false (stepped (x.sizes (context_of s)) (c_type s.context a) (step_of o (rule.Shift to)) y z) (computed sp (m.shift_of left) to (core_cell s y) (core_cell s z))) (sym (integer_back (m.shift_of left)))
-      (subst (λ o. Told s false (stepped (x.sizes (context_of s)) (c_type s.context a) (link_step.Shift o) y z) (computed sp (m.shift_of left) to (core_cell s y) (core_cell s z))) (sym same)
-      (subst (λ o. Told s false (stepped (x.sizes (context_of s)) o (link_step.Shift left) y z) (computed sp (m.shift_of left) to (core_cell s y) (core_cell s z))) (sym (ap (with_const (points_const s.context a)) is))
+      subst (λ o. Told s None (stepped (x.sizes (context_of s)) (c_type s.context a) (step_of o (rule.Shift to)) y z) (computed sp (m.shift_of left) to (core_cell s y) (core_cell s z))) (sym (integer_back (m.shift_of left)))
+      (subst (λ o. Told s None (stepped (x.sizes (context_of s)) (c_type s.context a) (link_step.Shift o) y z) (computed sp (m.shift_of left) to (core_cell s y) (core_cell s z))) (sym same)
+      (subst (λ o. Told s None (stepped (x.sizes (context_of s)) o (link_step.Shift left) y z) (computed sp (m.shift_of left) to (core_cell s y) (core_cell s z))) (sym (ap (with_const (points_const s.context a)) is))
       (shift_told s (x.sizes (context_of s)) sp left to y z whole shifts)));
 }
 
@@ -173,10 +173,10 @@ move_fits s a b back sp elem g u op is is' same rules = record {
   combine = λ p q. pointed (at_span sp (moved (directed back (w.number_in q)) (w.target_of p)));
   asks = λ blocks. refl;
   steps = λ y z p q.
-      subst (λ o. Told s (is_pointer (type_of s.context a)) (m.moved_cell (directed o (m.number_in z)) y) (pointed (at_span sp (moved (directed back (w.number_in (core_cell s z))) (w.target_of (core_cell s y)))))) (sym same)
-      (subst (λ o. Told s (is_pointer (type_of s.context a)) (m.moved_cell (directed back (m.number_in z)) y) (pointed (at_span sp (moved (directed back o) (w.target_of (core_cell s y)))))) (sym (number_same s z))
-      (subst (λ o. Told s o (m.moved_cell (directed back (m.number_in z)) y) (pointed (at_span sp (moved (directed back (m.number_in z)) (w.target_of (core_cell s y)))))) (sym (ap is_pointer is))
-      (moved_told s sp (directed back (m.number_in z)) y (subst (λ o. CellFits s o y) (ap is_pointer is) p))));
+      subst (λ o. Told s (reach_of s (type_of s.context a)) (m.moved_cell (directed o (m.number_in z)) y) (pointed (at_span sp (moved (directed back (w.number_in (core_cell s z))) (w.target_of (core_cell s y)))))) (sym same)
+      (subst (λ o. Told s (reach_of s (type_of s.context a)) (m.moved_cell (directed back (m.number_in z)) y) (pointed (at_span sp (moved (directed back o) (w.target_of (core_cell s y)))))) (sym (number_same s z))
+      (subst (λ o. Told s o (m.moved_cell (directed back (m.number_in z)) y) (pointed (at_span sp (moved (directed back (m.number_in z)) (w.target_of (core_cell s y)))))) (sym (ap (reach_of s) is))
+      (moved_told s sp (directed back (m.number_in z)) y (subst (λ o. CellFits s o y) (ap (reach_of s) is) p))));
 }
 
 moved_types : (c d : VarTy) → IsTrue (is_some (moved_type (Some c) (Some d))) → IsTrue (is_some (pointee_of (Some c))) × IsTrue (is_some (integer_of (Some d)))

@@ -28,7 +28,7 @@ use Rattle.source_meaning.specs.Values.{moved_cell, unary_cell, pointer_to, step
 use Rattle.source_meaning.specs.Expressions.{cell_or_trap}
 use Rattle.pt_core.specs.Values as v
 use Rattle.pt_core.specs.Values.{Stop, ◌>>?◌, at_span, converted, unary_operand, right_operand, numbered, pointed, told}
-use Rattle.half_meaning_law.specs.Relations.{Scene, name_of, core_cell, is_pointer, CellFits}
+use Rattle.half_meaning_law.specs.Relations.{Scene, name_of, core_cell, CellFits, reach_of}
 use Rattle.half_meaning_law.specs.Expressions.{Evaluates, IsValue}
 use Rattle.half_meaning_law.proofs.Memories.{OneToOne, names_equal}
 
@@ -56,23 +56,23 @@ ev_weaken Q R st (spent st1) (Err stop) h on = absurd h
 -- ---- results
 
 -- the same cell, or the same trap
-abbrev pub Told : Scene → Bool → Result Cell Trap → Result core.Cell Stop → Type 0
-Told s pointers (Ok x) (Ok y) = (y ≡ core_cell s x) × CellFits s pointers x
-Told s pointers (Ok x) (Err stop) = ⊥
-Told s pointers (Err trap) (Ok y) = ⊥
-Told s pointers (Err trap) (Err stop) = stop.trap ≡ trap
+abbrev pub Told : Scene → Option ℕ → Result Cell Trap → Result core.Cell Stop → Type 0
+Told s reach (Ok x) (Ok y) = (y ≡ core_cell s x) × CellFits s reach x
+Told s reach (Ok x) (Err stop) = ⊥
+Told s reach (Err trap) (Ok y) = ⊥
+Told s reach (Err trap) (Err stop) = stop.trap ≡ trap
 
-pub value_told : (s : Scene) (u : VarTy) (sp : Span) (st : State) (r : Result Cell Trap) (r' : Result core.Cell Stop) → Told s (is_pointer u) r r' → Evaluates (IsValue s u) st (cell_or_trap sp r st) r'
+pub value_told : (s : Scene) (u : VarTy) (sp : Span) (st : State) (r : Result Cell Trap) (r' : Result core.Cell Stop) → Told s (reach_of s u) r r' → Evaluates (IsValue s u) st (cell_or_trap sp r st) r'
 value_told s u sp st (Ok x) (Ok y) h = (refl, record { cell = x; is = refl; same = h.0; fits = h.1 })
 value_told s u sp st (Ok x) (Err stop) h = absurd h
 value_told s u sp st (Err trap) (Ok y) h = absurd h
 value_told s u sp st (Err trap) (Err stop) h = (h, refl)
 
-pub numbers_told : (s : Scene) (sp : Span) (r : Result ℤ Trap) → Told s false (if_ok r number) (numbered (at_span sp r))
+pub numbers_told : (s : Scene) (sp : Span) (r : Result ℤ Trap) → Told s None (if_ok r number) (numbered (at_span sp r))
 numbers_told s sp (Ok n) = (refl, tt)
 numbers_told s sp (Err trap) = refl
 
-truths_told : (s : Scene) (sp : Span) (r : Result Bool Trap) → Told s false (if_ok r (λ b. number (truth b))) (told (at_span sp r))
+truths_told : (s : Scene) (sp : Span) (r : Result Bool Trap) → Told s None (if_ok r (λ b. number (truth b))) (told (at_span sp r))
 truths_told s sp (Ok b) = (refl, tt)
 truths_told s sp (Err trap) = refl
 
@@ -102,12 +102,12 @@ target_same s (pointer b base count index) = refl
 
 -- ---- pointers
 
-pub moved_told : (s : Scene) (sp : Span) (amount : ℤ) (x : Cell) → CellFits s true x → Told s true (moved_cell amount x) (pointed (at_span sp (moved amount (v.target_of (core_cell s x)))))
+pub moved_told : (s : Scene) (sp : Span) (amount : ℤ) (x : Cell) → CellFits s (Some s.frame.depth) x → Told s (Some s.frame.depth) (moved_cell amount x) (pointed (at_span sp (moved amount (v.target_of (core_cell s x)))))
 moved_told s sp amount (number n) h = refl
 moved_told s sp amount null h = refl
 moved_told s sp amount (pointer b base count index) h = go (moved_index count index amount)
   where
-    go : (o : Option ℕ) → Told s true (if_ok (at_index (record { block = b; base = base; count = count; index = index }) o) pointer_to) (pointed (at_span sp (at_index (record { block = name_of s b; base = base; count = count; index = index }) o)))
+    go : (o : Option ℕ) → Told s (Some s.frame.depth) (if_ok (at_index (record { block = b; base = base; count = count; index = index }) o) pointer_to) (pointed (at_span sp (at_index (record { block = name_of s b; base = base; count = count; index = index }) o)))
     go None = refl
     go (Some k) = (refl, h)
 
@@ -141,18 +141,18 @@ compared_by s one Xor size a o = refl
 compared_by s one Or size a o = refl
 
 pub compared_told : (s : Scene) → OneToOne s.global_number → (sp : Span) (op : BinOp) (size : ℕ) (x y : Cell) →
-    Told s false (if_ok (compared same_block op size (m.target_of x) (m.target_of y)) (λ holds. number (truth holds))) (told (at_span sp (compared is_same_name op size (v.target_of (core_cell s x)) (v.target_of (core_cell s y)))))
+    Told s None (if_ok (compared same_block op size (m.target_of x) (m.target_of y)) (λ holds. number (truth holds))) (told (at_span sp (compared is_same_name op size (v.target_of (core_cell s x)) (v.target_of (core_cell s y)))))
 compared_told s one sp op size x y =
-    subst (λ r. Told s false (if_ok (compared same_block op size (m.target_of x) (m.target_of y)) (λ holds. number (truth holds))) (told (at_span sp r)))
+    subst (λ r. Told s None (if_ok (compared same_block op size (m.target_of x) (m.target_of y)) (λ holds. number (truth holds))) (told (at_span sp r)))
     (sym (ap (λ q. compared is_same_name op size q (v.target_of (core_cell s y))) (target_same s x)
     ∙ ap (λ q. compared is_same_name op size (all_named s (m.target_of x)) q) (target_same s y)
     ∙ compared_by s one op size (m.target_of x) (m.target_of y)))
     (truths_told s sp (compared same_block op size (m.target_of x) (m.target_of y)))
 
 pub difference_told : (s : Scene) → OneToOne s.global_number → (sp : Span) (x y : Cell) →
-    Told s false (if_ok (difference same_block (m.target_of x) (m.target_of y)) number) (numbered (at_span sp (difference is_same_name (v.target_of (core_cell s x)) (v.target_of (core_cell s y)))))
+    Told s None (if_ok (difference same_block (m.target_of x) (m.target_of y)) number) (numbered (at_span sp (difference is_same_name (v.target_of (core_cell s x)) (v.target_of (core_cell s y)))))
 difference_told s one sp x y =
-    subst (λ r. Told s false (if_ok (difference same_block (m.target_of x) (m.target_of y)) number) (numbered (at_span sp r)))
+    subst (λ r. Told s None (if_ok (difference same_block (m.target_of x) (m.target_of y)) number) (numbered (at_span sp r)))
     (sym (ap (λ q. difference is_same_name q (v.target_of (core_cell s y))) (target_same s x)
     ∙ ap (λ q. difference is_same_name (all_named s (m.target_of x)) q) (target_same s y)
     ∙ ap (λ r. if_ok r (λ ij. ij.0 -ℤ ij.1)) (indices_same s one (m.target_of x) (m.target_of y))))
@@ -164,47 +164,47 @@ difference_told s one sp x y =
 abbrev pub computed : Span → BinOp → IntType → core.Cell → core.Cell → Result core.Cell Stop
 computed sp op t x y = numbered (at_span sp (binary_of op t (conv t (v.number_in x)) (right_operand op t y)))
 
-pub arithmetic_told : (s : Scene) (sizes : List ℕ) (u : VarTy) (sp : Span) (op : BinOp) (t : IntType) (x y : Cell) → is_shift op ≡ false → Told s false (stepped sizes u (Arithmetic op t) x y) (computed sp op t (core_cell s x) (core_cell s y))
+pub arithmetic_told : (s : Scene) (sizes : List ℕ) (u : VarTy) (sp : Span) (op : BinOp) (t : IntType) (x y : Cell) → is_shift op ≡ false → Told s None (stepped sizes u (Arithmetic op t) x y) (computed sp op t (core_cell s x) (core_cell s y))
 arithmetic_told s sizes u sp op t x y plain =
-    subst (λ r. Told s false (stepped sizes u (Arithmetic op t) x y) (numbered (at_span sp r)))
+    subst (λ r. Told s None (stepped sizes u (Arithmetic op t) x y) (numbered (at_span sp r)))
     (sym (ap (λ n. binary_of op t (conv t n) (right_operand op t (core_cell s y))) (number_same s x)
     ∙ ap (λ z. binary_of op t (conv t (m.number_in x)) (if z then v.number_in (core_cell s y) else conv t (v.number_in (core_cell s y)))) plain
     ∙ ap (λ n. binary_of op t (conv t (m.number_in x)) (conv t n)) (number_same s y)))
     (numbers_told s sp (binary_of op t (conv t (m.number_in x)) (conv t (m.number_in y))))
 
 pub shift_told : (s : Scene) (sizes : List ℕ) (sp : Span) (left : Bool) (t : IntType) (x y : Cell) → promoted t ≡ t → is_shift (shift_of left) ≡ true →
-    Told s false (stepped sizes (ty.Int t) (Shift left) x y) (computed sp (shift_of left) t (core_cell s x) (core_cell s y))
+    Told s None (stepped sizes (ty.Int t) (Shift left) x y) (computed sp (shift_of left) t (core_cell s x) (core_cell s y))
 shift_told s sizes sp left t x y whole shifts =
-    subst (λ r. Told s false (stepped sizes (ty.Int t) (Shift left) x y) (numbered (at_span sp r)))
+    subst (λ r. Told s None (stepped sizes (ty.Int t) (Shift left) x y) (numbered (at_span sp r)))
     (sym (ap (λ n. binary_of (shift_of left) t (conv t n) (right_operand (shift_of left) t (core_cell s y))) (number_same s x)
     ∙ ap (λ z. binary_of (shift_of left) t (conv t (m.number_in x)) (if z then v.number_in (core_cell s y) else conv t (v.number_in (core_cell s y)))) shifts
     ∙ ap (λ n. binary_of (shift_of left) t (conv t (m.number_in x)) n) (number_same s y)))
-    (subst (λ u. Told s false (if_ok (binary_of (shift_of left) u (conv u (m.number_in x)) (m.number_in y)) number) (numbered (at_span sp (binary_of (shift_of left) t (conv t (m.number_in x)) (m.number_in y))))) (sym whole)
+    (subst (λ u. Told s None (if_ok (binary_of (shift_of left) u (conv u (m.number_in x)) (m.number_in y)) number) (numbered (at_span sp (binary_of (shift_of left) t (conv t (m.number_in x)) (m.number_in y))))) (sym whole)
     (numbers_told s sp (binary_of (shift_of left) t (conv t (m.number_in x)) (m.number_in y))))
 
 -- ---- operators before an operand
 
-pub unary_told : (s : Scene) (sp : Span) (op : UnOp) (t : IntType) (x : Cell) → CellFits s false x → Told s false (unary_cell op (ty.Int t) x) (numbered (at_span sp (unary_of op t (unary_operand op t (core_cell s x)))))
+pub unary_told : (s : Scene) (sp : Span) (op : UnOp) (t : IntType) (x : Cell) → CellFits s None x → Told s None (unary_cell op (ty.Int t) x) (numbered (at_span sp (unary_of op t (unary_operand op t (core_cell s x)))))
 unfolding unary_of
 unary_told s sp Not t (number n) h = go (int_eq n (pos 0))
   where
-    go : (z : Bool) → Told s false (Ok (number (truth (not (not z))))) (numbered (at_span sp (Ok (truth z))))
+    go : (z : Bool) → Told s None (Ok (number (truth (not (not z))))) (numbered (at_span sp (Ok (truth z))))
     go true = (refl, tt)
     go false = (refl, tt)
 unary_told s sp Not t null h = absurd h
 unary_told s sp Not t (pointer b base count index) h = absurd h
-unary_told s sp Minus t x h = subst (λ n. Told s false (unary_cell Minus (ty.Int t) x) (numbered (at_span sp (unary_of Minus t (conv t n))))) (sym (number_same s x)) (numbers_told s sp (unary_of Minus t (conv t (m.number_in x))))
-unary_told s sp Plus t x h = subst (λ n. Told s false (unary_cell Plus (ty.Int t) x) (numbered (at_span sp (unary_of Plus t (conv t n))))) (sym (number_same s x)) (numbers_told s sp (unary_of Plus t (conv t (m.number_in x))))
-unary_told s sp Flip t x h = subst (λ n. Told s false (unary_cell Flip (ty.Int t) x) (numbered (at_span sp (unary_of Flip t (conv t n))))) (sym (number_same s x)) (numbers_told s sp (unary_of Flip t (conv t (m.number_in x))))
+unary_told s sp Minus t x h = subst (λ n. Told s None (unary_cell Minus (ty.Int t) x) (numbered (at_span sp (unary_of Minus t (conv t n))))) (sym (number_same s x)) (numbers_told s sp (unary_of Minus t (conv t (m.number_in x))))
+unary_told s sp Plus t x h = subst (λ n. Told s None (unary_cell Plus (ty.Int t) x) (numbered (at_span sp (unary_of Plus t (conv t n))))) (sym (number_same s x)) (numbers_told s sp (unary_of Plus t (conv t (m.number_in x))))
+unary_told s sp Flip t x h = subst (λ n. Told s None (unary_cell Flip (ty.Int t) x) (numbered (at_span sp (unary_of Flip t (conv t n))))) (sym (number_same s x)) (numbers_told s sp (unary_of Flip t (conv t (m.number_in x))))
 
 -- ---- conversions
 
-pub converted_same : (s : Scene) (same : Bool) (to : IntType) (x : Cell) → CellFits s false x → converted same to (core_cell s x) ≡ core_cell s (m.converted_cell (ty.Int to) x)
+pub converted_same : (s : Scene) (same : Bool) (to : IntType) (x : Cell) → CellFits s None x → converted same to (core_cell s x) ≡ core_cell s (m.converted_cell (ty.Int to) x)
 converted_same s same to (number n) h = refl
 converted_same s same to null h = absurd h
 converted_same s same to (pointer b base count index) h = absurd h
 
-pub converted_fits : (s : Scene) (to : IntType) (x : Cell) → CellFits s false x → CellFits s false (m.converted_cell (ty.Int to) x)
+pub converted_fits : (s : Scene) (to : IntType) (x : Cell) → CellFits s None x → CellFits s None (m.converted_cell (ty.Int to) x)
 converted_fits s to (number n) h = tt
 converted_fits s to null h = absurd h
 converted_fits s to (pointer b base count index) h = absurd h

@@ -1,5 +1,5 @@
 -- Places are judged without fault, and designate what the normal form's do.
-use Rattle.std.proofs.Common.{◌≡◌, ◌∙◌, ℕ, refl, ap, sym, subst, Bool, true, false, Option, Some, None, List, [], ◌∷◌, ◌++◌, Ok, Err, if◌then◌else◌}
+use Rattle.std.proofs.Common.{◌≡◌, ◌∙◌, ℕ, refl, ap, sym, subst, Bool, true, false, Option, Some, None, List, [], ◌∷◌, ◌++◌, Ok, Err, if◌then◌else◌, arith}
 use Rattle.std.specs.Prelude.{IsTrue, nat_lt, nat_eq, length, is_some, unwrap_or}
 use Rattle.std.specs.Map.{lookup}
 use Rattle.pt_base.specs.declared.span.Span.{Span}
@@ -42,7 +42,7 @@ use Rattle.pt_core.specs.WellFormedExpression.{is_field, is_path, is_addressed}
 use Rattle.half_trees.specs.Names.{nowhere, word, local_name, global_name, field_by, field_name}
 use Rattle.half_trees.specs.Expressions as h
 use Rattle.half_trees.specs.Expressions.{dots, extended, postfixed}
-use Rattle.half_meaning_law.specs.Relations.{Scene, context_of, name_of, core_cell, is_pointer, CellFits}
+use Rattle.half_meaning_law.specs.Relations.{Scene, context_of, name_of, core_cell, is_pointer, CellFits, reach_of}
 use Rattle.half_meaning_law.specs.CForms.{is_const, points_const, with_const, c_type}
 use Rattle.half_meaning_law.specs.Known.{type_as, object_as, local_id, global_id, VariableKnown, GlobalKnown, FieldKnown, Known as AllKnown}
 use Rattle.half_meaning_law.specs.Expressions.{Evaluates, IsValue, IsPlace, SamePlaces, SameValues, asked, place_asked, ExpressionMeans, SceneFits}
@@ -50,7 +50,7 @@ use Rattle.half_meaning_law.proofs.Chains.{bind_gives, type_of_typed}
 use Rattle.half_meaning_law.proofs.Memories.{differ}
 use Rattle.half_meaning_law.proofs.Operators.{ev_bind}
 use Rattle.half_meaning_law.proofs.Judged.{no_faults, NotCalled, IsNoChain, Held}
-use Rattle.half_meaning_law.proofs.Places.{Asks, ObjectMeans, asked_as, with_field, field_means}
+use Rattle.half_meaning_law.proofs.Places.{Asks, ObjectMeans, asked_as, with_field, field_means, no_reach}
 use Rattle.half_meaning_law.proofs.Paths.{JudgedObject, path_means, whole_after, then_along, along_none, along_more, is_less, FineAnd, extended_behind, extended_shape, extended_no_chain}
 
 -- ---- what the induction keeps of each place
@@ -89,7 +89,8 @@ local_means s env structs n fits known =
           cell = refl;
           typed = refl;
           typed' = refl;
-          fits = ap (λ z. is_pointer (type_at z n)) fits.own;
+          fits = ap (λ z. reach_of s (type_at z n)) fits.own;
+          near = omega arith;
         },
       ));
     }))
@@ -111,7 +112,8 @@ global_means s env structs g u is known =
           cell = refl;
           typed = known.typed;
           typed' = is;
-          fits = sym known.plain;
+          fits = sym (no_reach s u known.plain);
+          near = omega arith;
         },
       ));
     }))
@@ -150,7 +152,7 @@ elem_plain (el.Int t) = refl
 elem_plain (el.Struct n) = refl
 
 -- an element that a cell points to
-element_told : (s : Scene) (elem : Elem) (sp sp' : Span) (g : Bool) (cell : Cell) (st : State) → CellFits s true cell →
+element_told : (s : Scene) (elem : Elem) (sp sp' : Span) (g : Bool) (cell : Cell) (st : State) → CellFits s (Some s.frame.depth) cell →
     Evaluates (IsPlace s (type_of_elem elem)) st (x.or_trap sp (x.dereferenced (context_of s) (v.Pointer elem g) cell) st) (w.pointee s.context sp' (v.Pointer elem g) (core_cell s cell))
 element_told s elem sp sp' g (number n) st h = (refl, refl)
 element_told s elem sp sp' g null st h = (refl, refl)
@@ -161,7 +163,7 @@ element_told s elem sp sp' g (pointer b base count index) st h = go (nat_lt inde
 
     go : (z : Bool) → Evaluates (IsPlace s (type_of_elem elem)) st (x.or_trap sp (if_ok {A = Block × ℕ} (if z then Ok (b, cell_at size base index) else Err Bounds) (x.object_at (type_of_elem elem))) st)
         (at_span {A = BlockName × ℕ} sp' (if z then Ok (name_of s b, cell_at size base index) else Err Bounds) >>? λ at. Ok (record { block = at.0; cell = at.1; ty = type_of_elem elem }))
-    go true = (refl, record { block = refl; cell = refl; typed = refl; typed' = refl; fits = h ∙ sym (elem_plain elem) })
+    go true = (refl, record { block = refl; cell = refl; typed = refl; typed' = refl; fits = h.1 ∙ sym (no_reach s (type_of_elem elem) (elem_plain elem)); near = h.0 })
     go false = (refl, refl)
 
 -- the place that a pointer gives
@@ -179,7 +181,7 @@ deref_same s a elem g f y sp sp' is is' same st st' al =
         (subst (λ z. Evaluates (IsPlace s (type_of_elem elem)) st (x.or_trap sp (x.dereferenced (context_of s) (x.type_of y) h.cell) st) (w.pointee s.context sp' (type_of s.context a) z)) (sym h.same)
         (subst (λ z. Evaluates (IsPlace s (type_of_elem elem)) st (x.or_trap sp (x.dereferenced (context_of s) z h.cell) st) (w.pointee s.context sp' (type_of s.context a) (core_cell s h.cell))) (sym is')
         (subst (λ z. Evaluates (IsPlace s (type_of_elem elem)) st (x.or_trap sp (x.dereferenced (context_of s) (v.Pointer elem f) h.cell) st) (w.pointee s.context sp' z (core_cell s h.cell))) (sym is)
-        (element_told s elem sp sp' g h.cell st (subst (λ z. CellFits s (is_pointer z) h.cell) is h.fits)))))
+        (element_told s elem sp sp' g h.cell st (subst (λ z. CellFits s (reach_of s z) h.cell) is h.fits)))))
 
 -- ---- `*` and `->`
 

@@ -1,5 +1,5 @@
 -- Places: names, fields, and what pointers point to.
-use Rattle.std.proofs.Common.{◌≡◌, ◌∙◌, ℕ, refl, ap, sym, subst, Bool, true, false, Some, List, [], ◌∷◌, ◌++◌, Result, Ok}
+use Rattle.std.proofs.Common.{◌≡◌, ◌∙◌, ℕ, refl, ap, sym, subst, Bool, true, false, Some, List, [], ◌∷◌, ◌++◌, Result, Ok, None}
 use Rattle.std.specs.Prelude.{◌+◌, ◌||◌}
 use Rattle.pt_base.specs.declared.span.Span.{Span}
 use Rattle.runs.specs.State as r
@@ -25,11 +25,12 @@ use Rattle.pt_core.specs.Types.{field_type}
 use Rattle.pt_core.specs.Values as w
 use Rattle.pt_core.specs.Values.{Stop, ◌>>?◌, at_span}
 use Rattle.half_trees.specs.Names.{word, field_by}
-use Rattle.half_meaning_law.specs.Relations.{Scene, context_of, is_pointer}
+use Rattle.half_meaning_law.specs.Relations.{Scene, context_of, is_pointer, reach_of}
 use Rattle.half_meaning_law.specs.Known.{type_as, FieldKnown}
 use Rattle.half_meaning_law.specs.Expressions.{Evaluates, IsPlace, SamePlaces}
 use Rattle.half_meaning_law.proofs.Chains.{bind_gives}
 use Rattle.half_meaning_law.proofs.Operators.{ev_bind}
+use Rattle.half_meaning_law.proofs.Memories.{differ}
 
 -- ---- objects
 
@@ -92,6 +93,13 @@ with_field k f = record {
   tree = object (root_of k.tree) (steps_of k.tree ++ field f.number ∷ []);
 }
 
+-- what is no pointer holds none
+pub no_reach : (s : Scene) (u : VarTy) → is_pointer u ≡ false → reach_of s u ≡ None
+no_reach s (v.Int t) h = refl
+no_reach s (v.Struct n) h = refl
+no_reach s (v.Array elem count) h = refl
+no_reach s (v.Pointer elem g) h = differ h
+
 field_is : (s : Scene) (n j : ℕ) (at : Location) (at' : w.Location) → is_pointer (field_type s.context.structs (v.Struct n) j) ≡ false → IsPlace s (v.Struct n) at at' →
     IsPlace s (field_type s.context.structs (v.Struct n) j) (x.field_at (context_of s) j at) (w.field_at s.context j at')
 field_is s n j at at' plain h = subst (λ z. IsPlace s (field_type s.context.structs (v.Struct n) j) (x.field_of (context_of s) j at z) (w.field_at s.context j at')) (sym h.typed) (record {
@@ -99,7 +107,8 @@ field_is s n j at at' plain h = subst (λ z. IsPlace s (field_type s.context.str
   cell = ap (λ z. z + w.offset_in s.context.structs at'.ty j) h.cell ∙ ap (λ z. at.cell + w.offset_in s.context.structs z j) h.typed';
   typed = refl;
   typed' = ap (λ z. field_type s.context.structs z j) h.typed';
-  fits = h.fits ∙ sym plain;
+  fits = h.fits ∙ sym (no_reach s (field_type s.context.structs (v.Struct n) j) plain);
+  near = h.near;
 })
 
 no_more : (a o : Bool) → a ≡ false → (o || a) ≡ o

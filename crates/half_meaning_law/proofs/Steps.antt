@@ -1,5 +1,5 @@
 -- Single statements, and what is stored.
-use Rattle.std.proofs.Common.{◌≡◌, ◌∙◌, ◌+◌, pos, refl, ap, sym, subst, Bool, true, false, not, Some, List, [], ◌∷◌, ◌++◌, length, Result, Ok, Err, if◌then◌else◌}
+use Rattle.std.proofs.Common.{◌≡◌, ◌∙◌, ◌+◌, pos, refl, ap, sym, subst, Bool, true, false, not, Some, List, [], ◌∷◌, ◌++◌, length, Result, Ok, Err, if◌then◌else◌, None}
 use Rattle.std.specs.Prelude.{◌&&◌, ◌||◌}
 use Rattle.pt_base.specs.declared.int_type.IntType.{IntType}
 use Rattle.pt_base.specs.declared.int_type.IntType.TheVariants as i
@@ -40,7 +40,7 @@ use Rattle.pt_core.specs.Values.{Stop, ◌>>?◌}
 use Rattle.pt_core.specs.Statements as c
 use Rattle.pt_core.specs.Statements.{does, evaluated, with_blocks}
 use Rattle.half_trees.specs.Names.{nowhere}
-use Rattle.half_meaning_law.specs.Relations.{Scene, context_of, is_pointer, CellFits, Same}
+use Rattle.half_meaning_law.specs.Relations.{Scene, context_of, is_pointer, reach_of, CellFits, Same}
 use Rattle.half_meaning_law.specs.CForms.{points_const, with_const, c_type}
 use Rattle.half_meaning_law.specs.Known.{type_as}
 use Rattle.half_meaning_law.specs.Expressions.{Evaluates, IsValue, SameValues, asked, IsFine, ExpressionMeans}
@@ -109,9 +109,18 @@ good_value (ty.Struct n) f u h = refl
 good_value (ty.Array el count) f u h = refl
 good_value (ty.Pointer el g) f u h = refl
 
+reach_is : (s : Scene) (u : VarTy) → reach_of s u ≡ (if is_pointer u then Some s.frame.depth else None)
+reach_is s (v.Int t) = refl
+reach_is s (v.Struct n) = refl
+reach_is s (v.Array el count) = refl
+reach_is s (v.Pointer el g) = refl
+
+same_reach : (s : Scene) (z u : VarTy) → is_pointer z ≡ is_pointer u → reach_of s z ≡ reach_of s u
+same_reach s z u same = reach_is s z ∙ ap (λ b. if b then Some s.frame.depth else None) same ∙ sym (reach_is s u)
+
 -- the same value of another type of its kind
 pub value_as : (s : Scene) (u z : VarTy) (g : mv.Value) (q : core.Cell) → is_pointer z ≡ is_pointer u → IsValue s u g q → IsValue s z g q
-value_as s u z g q same h = record { cell = h.cell; is = h.is; same = h.same; fits = subst (λ b. CellFits s b h.cell) (sym same) h.fits }
+value_as s u z g q same h = record { cell = h.cell; is = h.is; same = h.same; fits = subst (λ b. CellFits s b h.cell) (sym (same_reach s z u same)) h.fits }
 
 values_as : (s : Scene) (u z : VarTy) (y : t.ExprTree) (ask : Blocks → Result core.Cell Stop) → is_pointer z ≡ is_pointer u → SameValues s u y ask → SameValues s z y ask
 values_as s u z y ask same h st st' al = ev_weaken (IsValue s u) (IsValue s z) st (x.value_of y (context_of s) st) (ask st'.memory) (h st st' al) (λ g q is. value_as s u z g q same is)

@@ -38,7 +38,7 @@ use Rattle.pt_core.specs.Values.{Stop, ◌>>?◌, at_span, numbered, cell_in}
 use Rattle.pt_core.specs.Statements as c
 use Rattle.pt_core.specs.WellFormedExpression.{is_addressed}
 use Rattle.half_trees.specs.Names.{nowhere}
-use Rattle.half_meaning_law.specs.Relations.{Scene, context_of, name_of, is_pointer, CellFits, Alike}
+use Rattle.half_meaning_law.specs.Relations.{Scene, context_of, name_of, is_pointer, CellFits, Alike, reach_of}
 use Rattle.half_meaning_law.specs.CForms.{is_const, with_const}
 use Rattle.half_meaning_law.specs.Known.{type_as}
 use Rattle.half_meaning_law.specs.Expressions.{IsValue, IsPlace, SamePlaces, SameValues, asked, place_asked, ExpressionMeans}
@@ -46,7 +46,7 @@ use Rattle.half_meaning_law.proofs.Chains.{var_type_as}
 use Rattle.half_meaning_law.proofs.Memories.{differ, map_get}
 use Rattle.half_meaning_law.proofs.Operators.{ev_bind}
 use Rattle.half_meaning_law.proofs.Judged.{no_faults, no_chain, Held}
-use Rattle.half_meaning_law.proofs.Places.{ObjectMeans}
+use Rattle.half_meaning_law.proofs.Places.{ObjectMeans, no_reach}
 use Rattle.half_meaning_law.proofs.PlaceLaw.{PlaceHeld}
 
 -- ---- reading
@@ -150,7 +150,7 @@ decayed_same s u elem count st at at' is h =
       cell = pointer at.block at.cell count 0;
       is = refl;
       same = ap (λ z. Ptr (At z at'.cell count 0)) h.block ∙ ap (λ z. Ptr (At (name_of s at.block) z count 0)) h.cell;
-      fits = h.fits ∙ ap is_pointer is;
+      fits = (h.near, h.fits ∙ ap (reach_of s) is);
     }))
 
 decay_same : (s : Scene) (u : VarTy) (elem : Elem) (count : ℕ) (y : t.PlaceTree) (q : PlaceTree) (at : Span) (o : Option VarTy) → u ≡ v.Array elem count → SamePlaces s u y (place_asked s q) → SameValues s (v.Pointer elem false) (typed at o (t.decay y)) (asked s (decay q))
@@ -205,7 +205,7 @@ address_same s u elem y q at o is same st st' al =
         cell = pointer at.block at.cell 1 0;
         is = refl;
         same = ap (λ z. Ptr (At z at'.cell 1 0)) h.block ∙ ap (λ z. Ptr (At (name_of s at.block) z 1 0)) h.cell;
-        fits = h.fits ∙ is;
+        fits = (h.near, h.fits ∙ no_reach s u is);
       },
     ))
 

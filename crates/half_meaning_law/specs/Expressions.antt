@@ -1,5 +1,5 @@
 -- What the tree of a half keeps of expressions and places.
-use Rattle.std.specs.Prelude.{◌≡◌, ℕ, [], true, false, Some, Result, Ok, Err, IsTrue}
+use Rattle.std.specs.Prelude.{◌≡◌, ◌≤◌, ℕ, [], true, false, Some, Result, Ok, Err, IsTrue}
 use Rattle.pt_base.specs.declared.span.Span.{Span}
 use Rattle.runs.specs.State.{gives, trapped, spent}
 use Rattle.typed_tree.specs.declared.types.VarTy.{VarTy}
@@ -23,7 +23,7 @@ use Rattle.pt_core.specs.Values.{Stop}
 use Rattle.pt_core.specs.Statements as c
 use Rattle.pt_core.specs.WellFormedExpression.{expr_fits, place_fits}
 use Rattle.half_trees.specs.Expressions.{expression_tree, place_tree}
-use Rattle.half_meaning_law.specs.Relations.{Scene, context_of, name_of, core_cell, is_pointer, holds_pointer, CellFits, Alike}
+use Rattle.half_meaning_law.specs.Relations.{Scene, context_of, name_of, core_cell, is_pointer, depth_of, reach_of, reach_in, CellFits, Alike}
 use Rattle.half_meaning_law.specs.CForms.{stands, place_stands, is_const, c_type}
 use Rattle.half_meaning_law.specs.Known.{type_as, Known}
 
@@ -42,7 +42,7 @@ pub record IsValue (s : Scene) (ty : VarTy) (v : Value) (x : core.Cell) : Type 0
   pub cell : Cell
   pub is : v ≡ holds cell
   pub same : x ≡ core_cell s cell
-  pub fits : CellFits s (is_pointer ty) cell
+  pub fits : CellFits s (reach_of s ty) cell
 
 -- the same place, of an object of this type
 pub record IsPlace (s : Scene) (ty : VarTy) (at : Location) (at' : v.Location) : Type 0 where
@@ -50,7 +50,8 @@ pub record IsPlace (s : Scene) (ty : VarTy) (at : Location) (at' : v.Location) :
   pub cell : at'.cell ≡ at.cell
   pub typed : at.ty ≡ ty
   pub typed' : at'.ty ≡ ty
-  pub fits : holds_pointer s at.block ≡ is_pointer ty
+  pub fits : reach_in s at.block ≡ reach_of s ty
+  pub near : depth_of at.block ≤ s.frame.depth
 
 -- in states that are alike, an expression of the source and one of the normal form have the same value
 abbrev pub SameValues : Scene → VarTy → t.ExprTree → (Blocks → Result core.Cell Stop) → Type 0

@@ -1,6 +1,6 @@
 -- How the memories and the states of the two meanings stand to each other: a half's variables have the
 -- same numbers in both, its globals and functions each their number by place.
-use Rattle.std.specs.Prelude.{◌≡◌, ◌<◌, ℕ, Bool, true, false, List, length, map}
+use Rattle.std.specs.Prelude.{◌≡◌, ◌≤◌, ℕ, Bool, true, false, List, Option, Some, None, length, map, slice_get}
 use Rattle.runs.specs.State.{Event, out, guarded, gives, trapped, spent}
 use Rattle.typed_tree.specs.declared.types.VarTy.{VarTy}
 use Rattle.typed_tree.specs.declared.types.VarTy.TheVariants.{Int, Struct, Array, Pointer}
@@ -68,21 +68,38 @@ is_pointer (Struct n) = false
 is_pointer (Array elem count) = false
 is_pointer (Pointer elem fixed) = true
 
--- the block is that of a pointer variable
-abbrev pub holds_pointer : Scene → Block → Bool
-holds_pointer s (local depth x) = is_pointer (type_at (s.frames depth) x)
-holds_pointer s (global g) = false
+-- the depth of the function whose variable it is; 0 of a global
+abbrev pub depth_of : Block → ℕ
+depth_of (local depth x) = depth
+depth_of (global g) = 0
 
--- What is no pointer variable holds numbers alone, and no pointer points to a pointer variable.
-abbrev pub CellFits : Scene → Bool → Cell → Type 0
-CellFits s pointers (number v) = Unit {0}
-CellFits s true null = Unit {0}
-CellFits s false null = ⊥
-CellFits s true (pointer block base count index) = holds_pointer s block ≡ false
-CellFits s false (pointer block base count index) = ⊥
+-- how deep the pointers may lead that an object of the type holds, where it belongs to a function of this depth;
+-- None: it holds no pointers
+abbrev pub reach_by : ℕ → VarTy → Option ℕ
+reach_by depth (Int t) = None
+reach_by depth (Struct n) = None
+reach_by depth (Array elem count) = None
+reach_by depth (Pointer elem fixed) = Some depth
+
+-- what the active function evaluates, and what a block holds
+abbrev pub reach_of : Scene → VarTy → Option ℕ
+reach_of s ty = reach_by s.frame.depth ty
+
+abbrev pub reach_in : Scene → Block → Option ℕ
+reach_in s (local depth x) = reach_by depth (type_at (s.frames depth) x)
+reach_in s (global g) = None
+
+-- What is no pointer variable holds numbers alone. A pointer leads to no pointer variable, and to none of a
+-- function that was called later than the one that holds it.
+abbrev pub CellFits : Scene → Option ℕ → Cell → Type 0
+CellFits s reach (number v) = Unit {0}
+CellFits s (Some depth) null = Unit {0}
+CellFits s None null = ⊥
+CellFits s (Some depth) (pointer block base count index) = (depth_of block ≤ depth) × (reach_in s block ≡ None)
+CellFits s None (pointer block base count index) = ⊥
 
 abbrev pub MemoryFits : Scene → Memory → Type 0
-MemoryFits s memory = (b : Block) (k : ℕ) → CellFits s (holds_pointer s b) (read memory b k)
+MemoryFits s memory = (b : Block) (k : ℕ) → CellFits s (reach_in s b) (read memory b k)
 
 -- ---- states and runs
 
@@ -103,9 +120,14 @@ cells_in s (Struct n) = cells_of s.context.structs (Struct n)
 cells_in s (Array elem count) = cells_of s.context.structs (Array elem count)
 cells_in s (Pointer elem fixed) = 1
 
--- each variable of the function has its cells
+-- how many cells a variable has, and none where there is none
+abbrev pub room_of : Scene → Option VarTy → ℕ
+room_of s None = 0
+room_of s (Some ty) = cells_in s ty
+
+-- the variables of each active function have their cells, and no other local is live
 abbrev pub VariablesLive : Scene → Memory → Type 0
-VariablesLive s memory = (v : ℕ) → v < length s.context.variables → length (memory (local s.frame.depth v)) ≡ cells_in s (type_at s.context.variables v)
+VariablesLive s memory = (depth v : ℕ) → length (memory (local depth v)) ≡ room_of s (slice_get (s.frames depth) v)
 
 -- two states in which the same goes on
 pub record Alike (s : Scene) (st : State) (st' : c.State) : Type 0 where

@@ -76,6 +76,7 @@ pub record DeclaredHalf (marks : Marks) (monitor : Bool) (p : ProgramTree) : Typ
   pub walk : (items : List ItemTree) → checked_items marks at_start (map (struct_item p.structs) (range_with_len 0 (length p.structs)) ++ (map (prototype_of monitor p) p.signatures ++ (map (global_item p.structs) p.globals ++ items)))
       ≡ checked_items marks (at (half_env monitor p) (half_structs p) rest) items
   pub bodiless : (k : ℕ) → has_body rest.functions (function_id k) ≡ false
+  pub long : length rest.functions ≡ length p.signatures
   pub entries : (k : ℕ) (s : ℕ × Signature) → slice_get p.signatures k ≡ Some s → Entry marks monitor p rest.functions k s
   pub globals : map (λ g. g.var.ty) rest.globals ≡ map (λ g. g.var.ty) p.globals
   pub cells : map (λ g. g.cells) rest.globals ≡ map (λ g. g.cells) p.globals
@@ -102,6 +103,7 @@ declared_half marks monitor p h d say =
           ∙ (λ i. checked_items marks (at (file_env (sym (nothing_more (functions_file p.signatures)) i) (map (callable_in monitor p) p.signatures) []) (half_structs p) two.rest) (map (global_item p.structs) p.globals ++ items))
           ∙ behind_items marks (map (global_item p.structs) p.globals) items (at (file_env (functions_file p.signatures ++ []) (map (callable_in monitor p) p.signatures) []) (half_structs p) two.rest) (at (half_env monitor p) (half_structs p) three.rest) three.is;
       bodiless = λ k. ap (λ fs. has_body fs (function_id k)) three.holds.same ∙ two.holds.bodiless k;
+      long = ap length three.holds.same ∙ two.holds.long;
       entries = λ k s there. subst (λ fs. Entry marks monitor p fs k s) (sym three.holds.same) (two.holds.entries k s there);
       globals = three.holds.types;
       cells = three.holds.cells;

@@ -30,11 +30,11 @@ use Rattle.half_names_law.proofs.Halves.{Sound, signature_there}
 -- ---- lists of declarations
 
 -- what one declaration brings stays
-rises : (get : FunctionMarks → Bool) → ((m : FunctionMarks) (d : parsed.FunctionTree) → get m ≡ true → get (with_declaration m d) ≡ true) → (ds : List parsed.FunctionTree) (m : FunctionMarks) → get m ≡ true → get (fold with_declaration m ds) ≡ true
+pub rises : (get : FunctionMarks → Bool) → ((m : FunctionMarks) (d : parsed.FunctionTree) → get m ≡ true → get (with_declaration m d) ≡ true) → (ds : List parsed.FunctionTree) (m : FunctionMarks) → get m ≡ true → get (fold with_declaration m ds) ≡ true
 rises get keeps [] m h = h
 rises get keeps (d ∷ ds) m h = rises get keeps ds (with_declaration m d) (keeps m d h)
 
-reached : (get : FunctionMarks → Bool) → ((m : FunctionMarks) (d : parsed.FunctionTree) → get m ≡ true → get (with_declaration m d) ≡ true) → (ds : List parsed.FunctionTree) (m : FunctionMarks) (k : ℕ) (d : parsed.FunctionTree) → slice_get ds k ≡ Some d
+pub reached : (get : FunctionMarks → Bool) → ((m : FunctionMarks) (d : parsed.FunctionTree) → get m ≡ true → get (with_declaration m d) ≡ true) → (ds : List parsed.FunctionTree) (m : FunctionMarks) (k : ℕ) (d : parsed.FunctionTree) → slice_get ds k ≡ Some d
     → ((m : FunctionMarks) → get (with_declaration m d) ≡ true) → get (fold with_declaration m ds) ≡ true
 reached get keeps [] m k d h brings = cc
 reached get keeps (e ∷ ds) m zero d h brings = rises get keeps ds (with_declaration m e) (subst (λ x. get (with_declaration m x) ≡ true) (same h) (brings m))
@@ -50,11 +50,11 @@ never_rises (d ∷ ds) m h none = never_rises ds (with_declaration m d) (λ i. h
 
 -- ---- declarations among items
 
-abbrev named_as : List ℕ → parsed.FunctionTree → Bool
+abbrev pub named_as : List ℕ → parsed.FunctionTree → Bool
 named_as name f = bytes_eq f.declarator.name.bytes name
 
 -- a declaration of the name is among them
-declared_in : (items : List ItemTree) (name : List ℕ) (k : ℕ) (f : parsed.FunctionTree) → slice_get items k ≡ Some (function f) → named_as name f ≡ true → (j : ℕ) × (slice_get (declarations_of items name) j ≡ Some f)
+pub declared_in : (items : List ItemTree) (name : List ℕ) (k : ℕ) (f : parsed.FunctionTree) → slice_get items k ≡ Some (function f) → named_as name f ≡ true → (j : ℕ) × (slice_get (declarations_of items name) j ≡ Some f)
 declared_in [] name k f there is = cc
 declared_in (declares d ∷ items) name zero f there is = cc
 declared_in (function g ∷ items) name zero f there is = first (named_as name g) (ap (named_as name) (same there) ∙ is)
@@ -73,7 +73,7 @@ declared_in (function g ∷ items) name (suc k) f there is = behind (named_as na
     behind false found = found
 
 -- and nothing else is
-only_declared : (Q : parsed.FunctionTree → Type 0) (items : List ItemTree) (name : List ℕ) → ((k : ℕ) (f : parsed.FunctionTree) → slice_get items k ≡ Some (function f) → named_as name f ≡ true → Q f) → (j : ℕ) (f : parsed.FunctionTree) → slice_get (declarations_of items name) j ≡ Some f → Q f
+pub only_declared : (Q : parsed.FunctionTree → Type 0) (items : List ItemTree) (name : List ℕ) → ((k : ℕ) (f : parsed.FunctionTree) → slice_get items k ≡ Some (function f) → named_as name f ≡ true → Q f) → (j : ℕ) (f : parsed.FunctionTree) → slice_get (declarations_of items name) j ≡ Some f → Q f
 only_declared Q [] name each j f there = cc
 only_declared Q (declares d ∷ items) name each j f there = only_declared Q items name (λ k g e. each (suc k) g e) j f there
 only_declared Q (function g ∷ items) name each j f there = go (named_as name g) refl j there (only_declared Q items name (λ k h e. each (suc k) h e))
@@ -99,14 +99,14 @@ own_privileged monitor (Some f) s = go (monitor && not s.host)
     go true = refl
     go false = refl
 
-inner : (g f : parsed.FunctionTree) → function g ≡ function f → g ≡ f
+pub inner : (g f : parsed.FunctionTree) → function g ≡ function f → g ≡ f
 inner g f e = cc
 
 -- at each item with this name the function is marked as this one is
-abbrev MarkedAs : List ℕ → Bool → ItemTree → Type 0
+abbrev pub MarkedAs : List ℕ → Bool → ItemTree → Type 0
 MarkedAs name b x = (f : parsed.FunctionTree) → x ≡ function f → named_as name f ≡ true → (u.own_marks f.specs).marked ≡ b
 
-same_entry : (x y : ℕ × Signature) → Some x ≡ Some y → x ≡ y
+pub same_entry : (x y : ℕ × Signature) → Some x ≡ Some y → x ≡ y
 same_entry x y e = cc
 
 prototypes_marked : (monitor : Bool) (p : ProgramTree) (n : ℕ) (s : ℕ × Signature) → FunctionsApart p.signatures → slice_get p.signatures n ≡ Some s → (j : ℕ) (x : ItemTree) → slice_get (map (prototype_of monitor p) p.signatures) j ≡ Some x → MarkedAs (text_name s) s.1.privileged x
@@ -131,13 +131,13 @@ definitions_marked monitor p n s sound apart there j x at f is named =
     let same = same_entry (g.id, signature.0) s (sym place.there ∙ ap (slice_get p.signatures) where_it_is ∙ there) in
     ap (λ d. (u.own_marks d.specs).marked) (sym tree) ∙ ap (λ o. (u.own_marks (spec_trees (head_specs o))).marked) signature.1 ∙ head_marked signature.0 ∙ ap (λ z. z.1.privileged) same
 
-structs_unmarked : (p : ProgramTree) (ns : List ℕ) (name : List ℕ) (b : Bool) (j : ℕ) (x : ItemTree) → slice_get (map (struct_item p.structs) ns) j ≡ Some x → MarkedAs name b x
+pub structs_unmarked : (p : ProgramTree) (ns : List ℕ) (name : List ℕ) (b : Bool) (j : ℕ) (x : ItemTree) → slice_get (map (struct_item p.structs) ns) j ≡ Some x → MarkedAs name b x
 structs_unmarked p ns name b j x at f is named = let back = mapped_back (struct_item p.structs) ns j x at in absurd (other (back.2 ∙ is))
   where
     other : {d : _} → declares d ≡ function f → ⊥
     other e = cc
 
-globals_unmarked : (p : ProgramTree) (gs : List GlobalTree) (name : List ℕ) (b : Bool) (j : ℕ) (x : ItemTree) → slice_get (map (global_item p.structs) gs) j ≡ Some x → MarkedAs name b x
+pub globals_unmarked : (p : ProgramTree) (gs : List GlobalTree) (name : List ℕ) (b : Bool) (j : ℕ) (x : ItemTree) → slice_get (map (global_item p.structs) gs) j ≡ Some x → MarkedAs name b x
 globals_unmarked p gs name b j x at f is named = let back = mapped_back (global_item p.structs) gs j x at in absurd (other (back.2 ∙ is))
   where
     other : {d : _} → declares d ≡ function f → ⊥
@@ -163,7 +163,7 @@ got_before [] ys k y h = cc
 got_before (x ∷ xs) ys zero y h = h
 got_before (x ∷ xs) ys (suc k) y h = got_before xs ys k y h
 
-prototype_there : (monitor : Bool) (p : ProgramTree) (n : ℕ) (s : ℕ × Signature) → slice_get p.signatures n ≡ Some s → slice_get (half_tree monitor p) (length (map (struct_item p.structs) (range_with_len 0 (length p.structs))) + n) ≡ Some (prototype_of monitor p s)
+pub prototype_there : (monitor : Bool) (p : ProgramTree) (n : ℕ) (s : ℕ × Signature) → slice_get p.signatures n ≡ Some s → slice_get (half_tree monitor p) (length (map (struct_item p.structs) (range_with_len 0 (length p.structs))) + n) ≡ Some (prototype_of monitor p s)
 prototype_there monitor p n s there =
     got_behind (map (struct_item p.structs) (range_with_len 0 (length p.structs))) (map (prototype_of monitor p) p.signatures ++ (map (global_item p.structs) p.globals ++ map (function_item p) p.functions)) n (prototype_of monitor p s)
     (got_before (map (prototype_of monitor p) p.signatures) (map (global_item p.structs) p.globals ++ map (function_item p) p.functions) n (prototype_of monitor p s) (mapped_there (prototype_of monitor p) p.signatures n s there))
@@ -178,11 +178,11 @@ definition_there monitor p n f there = (
 
 -- ---- together
 
-or_right : (a b : Bool) → b ≡ true → (a || b) ≡ true
+pub or_right : (a b : Bool) → b ≡ true → (a || b) ≡ true
 or_right true b h = refl
 or_right false b h = h
 
-or_left : (a b : Bool) → a ≡ true → (a || b) ≡ true
+pub or_left : (a b : Bool) → a ≡ true → (a || b) ≡ true
 or_left a b h = λ i. h i || b
 
 privileged_is : (monitor : Bool) (p : ProgramTree) (n : ℕ) (s : ℕ × Signature) → Sound monitor p → FunctionsApart p.signatures → slice_get p.signatures n ≡ Some s → (own_marks monitor p (text_name s)).privileged ≡ s.1.privileged
@@ -203,7 +203,7 @@ privileged_is monitor p n s sound apart there = go s.1.privileged refl
         (λ m. or_right m.privileged (u.own_marks first.1.specs).marked (each first.0 first.1 first.2 ∙ is))
         ∙ sym is
 
-find_back : (fs : List FunctionTree) (n : ℕ) (f : FunctionTree) → find (λ g. nat_eq n g.id) fs ≡ Some f → (k : ℕ) × (slice_get fs k ≡ Some f) × (n ≡ f.id)
+pub find_back : (fs : List FunctionTree) (n : ℕ) (f : FunctionTree) → find (λ g. nat_eq n g.id) fs ≡ Some f → (k : ℕ) × (slice_get fs k ≡ Some f) × (n ≡ f.id)
 find_back [] n f h = cc
 find_back (g ∷ gs) n f h = go (nat_eq n g.id) refl h (find_back gs n f)
   where
@@ -214,7 +214,7 @@ find_back (g ∷ gs) n f h = go (nat_eq n g.id) refl h (find_back gs n f)
     go true is e again = (0, e, same_number n g.id is ∙ ap (λ x. x.id) (same e))
     go false is e again = let behind = again e in (suc behind.0, behind.1, behind.2)
 
-defined_is : (monitor : Bool) (p : ProgramTree) (n : ℕ) (s : ℕ × Signature) → Sound monitor p → slice_get p.signatures n ≡ Some s → is_some (function_at p s.0) ≡ true → (own_marks monitor p (text_name s)).defined ≡ true
+pub defined_is : (monitor : Bool) (p : ProgramTree) (n : ℕ) (s : ℕ × Signature) → Sound monitor p → slice_get p.signatures n ≡ Some s → is_some (function_at p s.0) ≡ true → (own_marks monitor p (text_name s)).defined ≡ true
 defined_is monitor p n s sound there some = go (function_at p s.0) refl some
   where
     with_body : (f : FunctionTree) → function_at p s.0 ≡ Some f → (own_marks monitor p (text_name s)).defined ≡ true

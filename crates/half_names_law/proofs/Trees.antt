@@ -53,7 +53,7 @@ use Rattle.half_names_law.proofs.Law.{declared_half, passes_before, locals_there
 
 -- ---- lists
 
-split_at : {A : Type 0} (n : ℕ) (xs : List A) (x : A) → slice_get xs n ≡ Some x → drop n xs ≡ x ∷ drop (suc n) xs
+pub split_at : {A : Type 0} (n : ℕ) (xs : List A) (x : A) → slice_get xs n ≡ Some x → drop n xs ≡ x ∷ drop (suc n) xs
 split_at n [] x h = cc
 split_at zero (y ∷ ys) x h = ap (λ z. z ∷ ys) (same h)
   where
@@ -93,7 +93,7 @@ listed_from all xs (y ∷ ys) zs n is at = (
 
 -- ---- what an entry says
 
-kind_is : (x : ParamKind) → kind_of (type_as (param_type x)) ≡ x
+pub kind_is : (x : ParamKind) → kind_of (type_as (param_type x)) ≡ x
 kind_is (k.Int t) = refl
 kind_is (k.Ptr el fixed) = refl
 
@@ -137,7 +137,7 @@ structs_same (x ∷ xs) (s ∷ ss) h = λ i. (ap (λ fs. map (λ (f : Field). f.
 
 -- ---- other functions have other places
 
-other_before : (p : ProgramTree) (n k : ℕ) (f : FunctionTree) (s : Signature) → are_rising 0 (map (λ g. g.id) p.functions) ≡ true → slice_get p.functions n ≡ Some f → slice_get p.signatures k ≡ Some (f.id, s) → NotAmong p (take n p.functions) k
+pub other_before : (p : ProgramTree) (n k : ℕ) (f : FunctionTree) (s : Signature) → are_rising 0 (map (λ g. g.id) p.functions) ≡ true → slice_get p.functions n ≡ Some f → slice_get p.signatures k ≡ Some (f.id, s) → NotAmong p (take n p.functions) k
 other_before p n k f s rise there place j g t at named =
     let before = take_there n j p.functions g at in
     let low = before.1 in
@@ -158,13 +158,13 @@ rising_behind (suc n) first (f ∷ fs) h = rising_behind n (suc f.id) fs (both_h
 -- ---- the walk behind a function
 
 -- where the whole walk ends, and what it keeps of this function
-record Ends (marks : Marks) (monitor : Bool) (p : ProgramTree) (n : ℕ) (f : FunctionTree) (s : Signature) (k : ℕ) (r : Rest) : Type 0 where
-  last : Rest
-  is : (checked_items marks at_start (half_tree monitor p)).progress ≡ at (half_env monitor p) (half_structs p) last
-  kept : slice_get last.functions k ≡ slice_get (with_function marks monitor p (half_structs p) r f s k).functions k
-  globals : last.globals ≡ r.globals
-  more : List ExprTree
-  grown : last.exprs ≡ (with_function marks monitor p (half_structs p) r f s k).exprs ++ more
+pub record Ends (marks : Marks) (monitor : Bool) (p : ProgramTree) (n : ℕ) (f : FunctionTree) (s : Signature) (k : ℕ) (r : Rest) : Type 0 where
+  pub last : Rest
+  pub is : (checked_items marks at_start (half_tree monitor p)).progress ≡ at (half_env monitor p) (half_structs p) last
+  pub kept : slice_get last.functions k ≡ slice_get (with_function marks monitor p (half_structs p) r f s k).functions k
+  pub globals : last.globals ≡ r.globals
+  pub more : List ExprTree
+  pub grown : last.exprs ≡ (with_function marks monitor p (half_structs p) r f s k).exprs ++ more
 
 -- the walk over all functions, in three parts
 walk_parts : (bodies : BodiesKeepTheirMeaning) (marks : Marks) (monitor : Bool) (p : ProgramTree) (n : ℕ) (f : FunctionTree) (s : Signature) (k : ℕ) (start r : Rest) → HalfFits monitor p (half_structs p) → FunctionFits marks monitor p (half_structs p) f s
@@ -182,7 +182,7 @@ walk_parts bodies marks monitor p n f s k start r half fits there place fresh fi
     ∙ ap (λ now. (checked_items marks now (map (function_item p) (f ∷ later))).progress) first
     ∙ ap (λ c. (checked_items marks c.progress (map (function_item p) later)).progress) (function_added bodies marks monitor p (half_structs p) r n f s k half fits there place (fresh 0 f k s refl place))
 
-ends : (bodies : BodiesKeepTheirMeaning) (marks : Marks) (monitor : Bool) (p : ProgramTree) (n : ℕ) (f : FunctionTree) (s : Signature) (k : ℕ) (r : Rest) (h : is_sound monitor p ≡ true) (d : Declarable p) → all_said monitor p ≡ true → (say : MarksSay marks p) → FunctionFits marks monitor p (half_structs p) f s
+pub ends : (bodies : BodiesKeepTheirMeaning) (marks : Marks) (monitor : Bool) (p : ProgramTree) (n : ℕ) (f : FunctionTree) (s : Signature) (k : ℕ) (r : Rest) (h : is_sound monitor p ≡ true) (d : Declarable p) → all_said monitor p ≡ true → (say : MarksSay marks p) → FunctionFits marks monitor p (half_structs p) f s
     → slice_get p.functions n ≡ Some f → slice_get p.signatures k ≡ Some (f.id, s) → Fresh p r (drop n p.functions)
     → (before marks monitor p n).progress ≡ at (half_env monitor p) (half_structs p) r → Ends marks monitor p n f s k r
 ends bodies marks monitor p n f s k r h d said say fits there place fresh first =
@@ -216,7 +216,7 @@ ends bodies marks monitor p n f s k r h d said say fits there place fresh first 
 
 -- ---- the function in the tree
 
-entry_with : (fs : List t.FunctionTree) (k : ℕ) (g : t.FunctionTree) (vars : List Var) (b : BodyTree) → slice_get fs k ≡ Some g → slice_get (with_body fs k nowhere vars b) k ≡ Some (with_parts g nowhere vars b)
+pub entry_with : (fs : List t.FunctionTree) (k : ℕ) (g : t.FunctionTree) (vars : List Var) (b : BodyTree) → slice_get fs k ≡ Some g → slice_get (with_body fs k nowhere vars b) k ≡ Some (with_parts g nowhere vars b)
 entry_with fs k g vars b there = ap (λ o. slice_get (option_map_or (λ f. slice_set fs k (with_parts f nowhere vars b)) o fs) k) there ∙ set_same fs k g (with_parts g nowhere vars b) there
 
 body_stands : (bodies : BodiesKeepTheirMeaning) (marks : Marks) (monitor : Bool) (p : ProgramTree) (n : ℕ) (f : FunctionTree) (s : Signature) → is_sound monitor p ≡ true → Declarable p → all_said monitor p ≡ true → MarksSay marks p

@@ -1,0 +1,12 @@
+pub mod Frames
+pub mod Entering
+pub mod Returns
+pub mod Locals
+pub mod Scenes
+pub mod Depths
+pub mod Structs
+pub mod Marked
+pub mod Entries
+pub mod Law
+pub mod Hosts
+pub mod HostLaw
