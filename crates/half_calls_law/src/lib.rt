@@ -3,7 +3,10 @@
 //! are hosts, nothing is left to be given.
 #![tactic(auto)]
 
+ghost use Rattle.half_calls_law.specs.Accepted.{AcceptedHalvesRunAlike};
 ghost use Rattle.half_calls_law.specs.Laws.{HalfCallsAgree, HalfFunctionsAgree, HalfHostsAgree, HalfHostStartsAgree, HalfStartsAgree};
+
+use half_declarations_law::accepted_halves_are_writable;
 
 /// Calls with the same arguments, in states that are alike, come to the same, if calls of functions without a
 /// body do.
@@ -34,3 +37,14 @@ pub fn half_starts_agree()
 pub fn half_host_starts_agree()
     ensures { HalfHostStartsAgree }
 {}
+
+/// Both halves of a checked program that breaks no rule do so: the statements of each function, and each function
+/// that is entered where none is active, come to the same in the half's text as in the half, if calls of functions
+/// without a body do.
+pub fn accepted_halves_run_alike()
+    ensures { AcceptedHalvesRunAlike }
+{
+    accepted_halves_are_writable();
+    half_functions_agree();
+    half_starts_agree();
+}
