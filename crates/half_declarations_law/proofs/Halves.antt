@@ -1,6 +1,6 @@
 -- Both halves of a tree whose names differ and whose marks stand where they may can be declared.
 use Rattle.std.proofs.Common.{◌≡◌, ◌∙◌, ◌≤◌, ◌<◌, ◌^◌, sym, ap, subst, refl, ℕ, zero, suc, Bool, true, false, List, [], ◌∷◌, ◌++◌, map, arith, ◌+◌, cond, not, length, Option, Some, None, take}
-use Rattle.std.specs.Prelude.{IsTrue, ◌&&◌, ◌||◌, codes, slice_get, nat_eq, nat_lt, sum_by, nat_le}
+use Rattle.std.specs.Prelude.{IsTrue, ◌||◌, codes, slice_get, nat_eq, nat_lt, sum_by, nat_le}
 use Rattle.std.specs.List.{list_all, list_any, filter}
 use Rattle.std.specs.Map.{lookup}
 use Rattle.std.proofs.lemmas.Bool.Decides.{nat_tests}
