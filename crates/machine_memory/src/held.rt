@@ -1,4 +1,8 @@
 // A block of integers that stands by itself.
+ghost use Rattle.std.specs.Prelude.{◌≡◌, ◌<◌, false, IfSome, length};
+ghost use Rattle.std.specs.Bool.{OnTrue};
+ghost use Rattle.machine_memory.specs.Held.{AreRead, IsRead, IsReading};
+
 use crate::cells::Cells;
 use crate::packing::{cell_at, is_wide, packed, unpacked, word_for};
 use block_memory::Cell;
@@ -13,6 +17,8 @@ pub(crate) struct HeldBlock {
     types: Vec<IntType>,
     words: Vec<i64>,
     opened: bool,
+    // How each of its words is read, where it is closed and all are read alike.
+    reading: Option<bool>,
     cells: Cells,
 }
 
@@ -21,11 +27,11 @@ impl Model for HeldBlock {
 
     ghost Value = { Block };
 
-    ghost use Rattle.machine_memory.specs.Held.{held_cells, IsHeld};
+    ghost use Rattle.machine_memory.specs.Held.{held_cells, IsKept};
 
     ghost view = { λ b. record { types = b.types.items; cells = held_cells b.types.items b.words.items b.opened b.cells } };
 
-    ghost invariant = { λ b. IsHeld b.types.items b.words.items b.opened b.cells };
+    ghost invariant = { λ b. IsKept b.types.items b.words.items b.opened b.reading b.cells };
 }
 
 impl HeldBlock {
@@ -43,6 +49,7 @@ impl HeldBlock {
             types: Vec::new(alloc),
             words: Vec::new(alloc),
             opened: false,
+            reading: None,
             cells: Cells::new(Vec::new(alloc)),
         }
     }
@@ -62,12 +69,14 @@ impl HeldBlock {
                 types: own,
                 words,
                 opened: false,
+                reading: common_reading(types),
                 cells: Cells::new(Vec::new(alloc)),
             }),
             None => Ok(HeldBlock {
                 types: own,
                 words: vec![in alloc; 0i64; types.len()]?,
                 opened: true,
+                reading: None,
                 cells: Cells::new(Vec::from_slice(alloc, cells)?),
             }),
         }
@@ -104,7 +113,7 @@ impl HeldBlock {
     pub(crate) fn word(&self, at: usize, wide: bool) -> Option<i64>
         ensures { IfSome result (λ w. slice_get self.now.cells at ≡ Some (Int (number_of wide w))) }
     {
-        if at < self.types.len() && !self.opened && is_wide(self.types[at]) == wide {
+        if at < self.words.len() && is_read(self.reading, self.opened, &self.types, at, wide) {
             Some(self.words[at])
         } else {
             None
@@ -116,7 +125,7 @@ impl HeldBlock {
     pub(crate) fn put_word(&mut self, at: usize, w: i64, wide: bool) -> bool
         ensures { Writes result self.old self.new at (Int (number_of wide w)) }
     {
-        if at < self.types.len() && !self.opened && is_wide(self.types[at]) == wide {
+        if at < self.words.len() && is_read(self.reading, self.opened, &self.types, at, wide) {
             self.words[at] = w;
             true
         } else {
@@ -174,7 +183,46 @@ impl HeldBlock {
         ensures { self.new ≡ with_cell self.old at c }
     {
         self.opened = true;
+        self.reading = None;
         self.cells = cells;
         self.cells.write(at, c);
     }
+}
+
+// Whether the block is closed and the integer at a place is read so.
+#[inline(always)]
+fn is_read(reading: Option<bool>, opened: bool, types: &[IntType], at: usize, wide: bool) -> bool
+    requires inside { at < length types.now }
+    requires reading { IsReading types.now opened reading }
+    ensures { OnTrue result ((opened ≡ false) × IsRead types.now at wide) }
+{
+    match reading {
+        Some(all) => all == wide,
+        None => is_read_alone(opened, types, at, wide),
+    }
+}
+
+// The same, by the integer's own type.
+#[inline(never)]
+fn is_read_alone(opened: bool, types: &[IntType], at: usize, wide: bool) -> bool
+    requires { at < length types.now }
+    ensures { OnTrue result ((opened ≡ false) × IsRead types.now at wide) }
+{
+    !opened && is_wide(types[at]) == wide
+}
+
+// How the words of all these types are read, if all are read alike.
+fn common_reading(types: &[IntType]) -> Option<bool>
+    ensures { IfSome result (λ wide. AreRead types.now wide) }
+{
+    let wide = match types.first() {
+        Some(t) => is_wide(*t),
+        None => false,
+    };
+    for t in types {
+        if is_wide(*t) != wide {
+            return None;
+        }
+    }
+    Some(wide)
 }

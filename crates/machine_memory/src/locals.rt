@@ -24,7 +24,7 @@ impl MachineMemory {
         ensures layouts { layouts_of self.new ≡ layouts_of self.old }
     {
         self.leave(depth);
-        self.skip_to(depth as usize)?;
+        self.reach(depth as usize)?;
         self.begin(layout as usize)
     }
 
@@ -42,8 +42,23 @@ impl MachineMemory {
         }
     }
 
+    // Adds frames without variables up to this depth, if it lies further on.
+    #[inline(always)]
+    fn reach(&mut self, depth: usize) -> Result<(), AllocError>
+        requires { live_count self.old ≤ depth }
+        ensures blocks { blocks_of self.new ≡ blocks_of self.old }
+        ensures live { OnOk result (live_count self.new ≡ depth) }
+        ensures layouts { layouts_of self.new ≡ layouts_of self.old }
+    {
+        if self.live < depth {
+            self.skip_to(depth)
+        } else {
+            Ok(())
+        }
+    }
+
     // Adds frames without variables up to this depth.
-    #[inline]
+    #[inline(never)]
     fn skip_to(&mut self, depth: usize) -> Result<(), AllocError>
         requires { live_count self.old ≤ depth }
         ensures blocks { blocks_of self.new ≡ blocks_of self.old }

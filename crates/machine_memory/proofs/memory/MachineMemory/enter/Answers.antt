@@ -6,22 +6,22 @@ use Rattle.machine_memory.specs.Memory.{blocks_of, layout_at, live_count}
 use Rattle.machine_memory.proofs.LocalsLemmas.{on_err, on_err-then, on_ok-then, without_frames-free}
 use Rattle.machine_memory.proofs.memory.MachineMemory.enter.Goals as goal
 
-pub returns-in_err-skip_to-clause-err : goal.returns-in_err-skip_to-clause-err
-returns-in_err-skip_to-clause-err c =
-    on_err _ (c.skip_to.ensures.blocks ∙ c.leave.ensures.blocks ∙ without_frames-free (blocks_of c.args.self.now) c.args.depth c.requires)
+pub returns-in_err-reach-clause-err : goal.returns-in_err-reach-clause-err
+returns-in_err-reach-clause-err c =
+    on_err _ (c.reach.ensures.blocks ∙ c.leave.ensures.blocks ∙ without_frames-free (blocks_of c.args.self.now) c.args.depth c.requires)
 
 pub returns-clause-ok : goal.returns-clause-ok
 returns-clause-ok c =
-    let same : blocks_of c.skip_to.new.self ≡ blocks_of c.args.self.now =
-    c.skip_to.ensures.blocks ∙ c.leave.ensures.blocks ∙ without_frames-free (blocks_of c.args.self.now) c.args.depth c.requires
+    let same : blocks_of c.reach.new.self ≡ blocks_of c.args.self.now =
+    c.reach.ensures.blocks ∙ c.leave.ensures.blocks ∙ without_frames-free (blocks_of c.args.self.now) c.args.depth c.requires
     in
     on_ok-then c.begin.result c.begin.ensures.ok (λ begun.
     begun
-    ∙ ap (λ (bs : Blocks). with_frame bs (live_count c.skip_to.new.self) (layout_at c.skip_to.new.self c.args.layout).shapes) same
-    ∙ ap (λ n. with_frame (blocks_of c.args.self.now) n (layout_at c.skip_to.new.self c.args.layout).shapes) c.in_ok-skip_to.ensures.live
-    ∙ ap (λ (ls : List FrameLayout). with_frame (blocks_of c.args.self.now) c.args.depth (layout_in ls c.args.layout).shapes) (c.skip_to.ensures.layouts ∙ c.leave.ensures.layouts))
+    ∙ ap (λ (bs : Blocks). with_frame bs (live_count c.reach.new.self) (layout_at c.reach.new.self c.args.layout).shapes) same
+    ∙ ap (λ n. with_frame (blocks_of c.args.self.now) n (layout_at c.reach.new.self c.args.layout).shapes) c.in_ok-reach.ensures.live
+    ∙ ap (λ (ls : List FrameLayout). with_frame (blocks_of c.args.self.now) c.args.depth (layout_in ls c.args.layout).shapes) (c.reach.ensures.layouts ∙ c.leave.ensures.layouts))
 
 pub returns-clause-err : goal.returns-clause-err
 returns-clause-err c =
     on_err-then c.begin.result c.begin.ensures.err (λ same.
-    same ∙ c.skip_to.ensures.blocks ∙ c.leave.ensures.blocks ∙ without_frames-free (blocks_of c.args.self.now) c.args.depth c.requires)
+    same ∙ c.reach.ensures.blocks ∙ c.leave.ensures.blocks ∙ without_frames-free (blocks_of c.args.self.now) c.args.depth c.requires)
