@@ -56,7 +56,10 @@ impl Frames {
         ensures ok { OnOk result (self.new ≡ frame ∷ self.old) }
         ensures err { OnErr result (self.new ≡ self.old) }
     {
-        self.frames.push(frame)?;
+        if self.frames.len() >= self.frames.capacity() {
+            self.frames.reserve(1)?;
+        }
+        self.frames.push_reserved(frame);
         Ok(())
     }
 

@@ -1,5 +1,5 @@
 // What calls go through.
-ghost use Rattle.std.specs.Prelude.{◌≡◌, ℕ, ℤ, List, Option, IfOk};
+ghost use Rattle.std.specs.Prelude.{◌≡◌, ℕ, ℤ, List, Option, IfOk, true};
 ghost use Rattle.block_memory.specs.declared.cell.Cell.{Cell};
 ghost use Rattle.pt_core.specs.Steps as s;
 ghost use Rattle.core_machine.specs.Gates.{way_of};
@@ -30,6 +30,10 @@ pub trait Gate {
     /// The way of a call.
     fn way(&self, callee: FnId, args: &[Cell]) -> Way
         ensures { way_of result ≡ goes self.now callee.0 args.now };
+
+    /// Whether calls of it enter a function of the machine's code, whatever the arguments.
+    fn enters(&self, callee: FnId) -> bool
+        ensures { result ≡ true → (args : List Cell) → goes self.now callee.0 args ≡ s.enters };
 
     /// Makes the call of a host: its result, if it gives one. Where memory is wanting nothing is
     /// promised of the gate.

@@ -1,5 +1,5 @@
 // What statements do to a memory.
-ghost use Rattle.std.specs.Prelude.{◌≡◌, ◌<◌, IfOk, IfSome, length, map, OnErr, OnOk, pos, unwrap_or};
+ghost use Rattle.std.specs.Prelude.{◌≡◌, ◌<◌, IfOk, IfSome, length, map, OnErr, OnOk, pos, Some, unwrap_or};
 ghost use Rattle.block_memory.specs.Block.{fresh};
 ghost use Rattle.block_memory.specs.Blocks.{put};
 ghost use Rattle.block_memory.specs.declared.cell.BlockName.TheVariants.{Local};
@@ -10,6 +10,7 @@ ghost use Rattle.core_code.specs.Effects.{shape_at};
 ghost use Rattle.pt_core.specs.Calls.{with_arguments};
 ghost use Rattle.pt_core.specs.Statements.{kept};
 ghost use Rattle.pt_core.specs.Values.{written, all_written, number_in};
+ghost use Rattle.core_machine.specs.FastCalls.{numbers_of};
 ghost use Rattle.core_machine.specs.Live.{HasNoMore};
 
 use block_memory::{BlockName, Cell, CellAt};
@@ -131,6 +132,65 @@ pub(crate) fn pass(
         var = var.checked_add(1).ok_or(AllocError)?;
     }
     Ok(())
+}
+
+/// The same of the numbers that words are.
+#[inline(always)]
+pub(crate) fn pass_words(
+    memory: &mut MachineMemory,
+    alloc: Global,
+    depth: u32,
+    args: &[i64],
+) -> Result<(), AllocError>
+    ensures passed { OnOk result (blocks_of memory.new ≡ with_arguments (blocks_of memory.old) depth 0 (numbers_of args.now)) }
+    ensures layouts { layouts_of memory.new ≡ layouts_of memory.old }
+    ensures no_more { HasNoMore (blocks_of memory.old) (blocks_of memory.new) }
+{
+    let mut var = 0u32;
+    for w in args {
+        give(memory, alloc, depth, var, *w)?;
+        var = var.checked_add(1).ok_or(AllocError)?;
+    }
+    Ok(())
+}
+
+// Writes the number that a word is to the first cell of a variable, if it is there.
+#[inline(always)]
+fn give(
+    memory: &mut MachineMemory,
+    alloc: Global,
+    depth: u32,
+    var: u32,
+    w: i64,
+) -> Result<(), AllocError>
+    ensures written { OnOk result (blocks_of memory.new ≡ written (blocks_of memory.old) (Local depth var) 0 (cell.Int w)) }
+    ensures layouts { layouts_of memory.new ≡ layouts_of memory.old }
+    ensures no_more { HasNoMore (blocks_of memory.old) (blocks_of memory.new) }
+{
+    if memory.put_first(depth, var, w) {
+        return Ok(());
+    }
+    let block = BlockName::Local { depth, var };
+    memory.write(alloc, CellAt { block, cell: 0 }, Cell::Int(i128::from(w)))
+}
+
+/// The number that a word is goes to a variable, if there is one for it.
+#[inline(always)]
+pub(crate) fn keep_word(
+    memory: &mut MachineMemory,
+    alloc: Global,
+    depth: u32,
+    place: Option<u32>,
+    w: i64,
+) -> Result<(), AllocError>
+    ensures kept { OnOk result (blocks_of memory.new ≡ kept depth place (Some (cell.Int w)) (blocks_of memory.old)) }
+    ensures layouts { layouts_of memory.new ≡ layouts_of memory.old }
+    ensures no_more { HasNoMore (blocks_of memory.old) (blocks_of memory.new) }
+{
+    match place {
+        Some(var) => give(memory, alloc, depth, var, w),
+        None => Ok(()),
+    }
 }
 
 /// What a call gave goes to a variable, if there is one for it; 0 where the call gave nothing.

@@ -50,7 +50,8 @@ impl HostGate {
         self.written
     }
 
-    // whether a call of this function goes to a host; what the program doesn't have counts as one
+    // Whether a call of this function goes to a host; what the program doesn't have counts as one.
+    #[inline(always)]
     fn is_host(&self, f: FnId) -> bool
         ensures { result ≡ get_or self.now.is_host f.0 true }
     {
@@ -74,6 +75,11 @@ impl Gate for HostGate {
         } else {
             Way::Enters
         }
+    }
+
+    #[inline(always)]
+    fn enters(&self, callee: FnId) -> bool {
+        !self.is_host(callee)
     }
 
     fn here(
