@@ -20,6 +20,8 @@ impl MachineMemory {
         requires { IsFree (blocks_of self.old) depth }
         ensures ok { OnOk result (blocks_of self.new ≡ with_frame (blocks_of self.old) depth (layout_at self.old layout).shapes) }
         ensures stands { OnOk result (Stands self.new depth layout) }
+        ensures below { OnOk result ((d : ℕ) → d < depth → d < live_count self.old → frame_at self.new d ≡ frame_at self.old d) }
+        ensures kept { OnOk result ((d number : ℕ) → d < depth → Stands self.old d number → Stands self.new d number) }
         ensures err { OnErr result (blocks_of self.new ≡ blocks_of self.old) }
         ensures layouts { layouts_of self.new ≡ layouts_of self.old }
     {
@@ -48,6 +50,7 @@ impl MachineMemory {
         requires { live_count self.old ≤ depth }
         ensures blocks { blocks_of self.new ≡ blocks_of self.old }
         ensures live { OnOk result (live_count self.new ≡ depth) }
+        ensures below { (d : ℕ) → d < live_count self.old → frame_at self.new d ≡ frame_at self.old d }
         ensures layouts { layouts_of self.new ≡ layouts_of self.old }
     {
         if self.live < depth {
@@ -63,6 +66,7 @@ impl MachineMemory {
         requires { live_count self.old ≤ depth }
         ensures blocks { blocks_of self.new ≡ blocks_of self.old }
         ensures live { OnOk result (live_count self.new ≡ depth) }
+        ensures below { (d : ℕ) → d < live_count self.old → frame_at self.new d ≡ frame_at self.old d }
         ensures layouts { layouts_of self.new ≡ layouts_of self.old }
     {
         while self.live < depth {
@@ -77,6 +81,7 @@ impl MachineMemory {
         ensures ok { OnOk result (blocks_of self.new ≡ with_frame (blocks_of self.old) (live_count self.old) (layout_at self.old number).shapes) }
         ensures live { OnOk result (live_count self.new ≡ live_count self.old + 1) }
         ensures stands { OnOk result (Stands self.new (live_count self.old) number) }
+        ensures below { (d : ℕ) → d < live_count self.old → frame_at self.new d ≡ frame_at self.old d }
         ensures err { OnErr result (blocks_of self.new ≡ blocks_of self.old) }
         ensures layouts { layouts_of self.new ≡ layouts_of self.old }
     {
@@ -94,8 +99,20 @@ impl MachineMemory {
         ensures keeps { Keeps self.old self.new }
     {
         if self.live == self.frames.len() {
-            self.frames.push(Frame::new(self.alloc))?;
+            self.add_frame()
+        } else {
+            Ok(())
         }
+    }
+
+    // The same where those of all are.
+    #[inline(never)]
+    fn add_frame(&mut self) -> Result<(), AllocError>
+        requires { self.old.live ≡ length self.old.frames.items }
+        ensures room { OnOk result (self.new.live < length self.new.frames.items) }
+        ensures keeps { Keeps self.old self.new }
+    {
+        self.frames.push(Frame::new(self.alloc))?;
         Ok(())
     }
 }

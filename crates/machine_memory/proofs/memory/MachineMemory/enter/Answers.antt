@@ -1,9 +1,9 @@
-use Rattle.std.proofs.Common.{◌≡◌, ◌∙◌, ap, List}
+use Rattle.std.proofs.Common.{◌≡◌, ◌∙◌, ap, arith, List}
 use Rattle.block_memory.specs.Blocks.{Blocks, with_frame}
 use Rattle.machine_memory.specs.Layouts.{FrameLayout}
 use Rattle.machine_memory.specs.Frames.{layout_in}
 use Rattle.machine_memory.specs.Memory.{blocks_of, layout_at, live_count}
-use Rattle.machine_memory.proofs.LocalsLemmas.{on_err, on_err-then, on_ok-then, without_frames-free}
+use Rattle.machine_memory.proofs.LocalsLemmas.{live_same, on_err, on_err-then, on_ok-then, Stands-same, without_frames-free}
 use Rattle.machine_memory.proofs.memory.MachineMemory.enter.Goals as goal
 
 pub returns-in_err-reach-clause-err : goal.returns-in_err-reach-clause-err
@@ -25,3 +25,19 @@ pub returns-clause-err : goal.returns-clause-err
 returns-clause-err c =
     on_err-then c.begin.result c.begin.ensures.err (λ same.
     same ∙ c.reach.ensures.blocks ∙ c.leave.ensures.blocks ∙ without_frames-free (blocks_of c.args.self.now) c.args.depth c.requires)
+
+pub returns-clause-below : goal.returns-clause-below
+returns-clause-below c =
+    on_ok-then c.begin.result c.begin.ensures.ok (λ begun d lt live.
+    let left = c.leave.ensures.below d lt in
+    let reached = c.reach.ensures.below d (live_same c.args.self.now c.leave.new.self d live left) in
+    let added = c.begin.ensures.below d (omega (arith, lt, c.in_ok-reach.ensures.live)) in
+    added ∙ reached ∙ left)
+
+pub returns-clause-kept : goal.returns-clause-kept
+returns-clause-kept c =
+    on_ok-then c.begin.result c.begin.ensures.ok (λ begun d number lt st.
+    let left = c.leave.ensures.below d lt in
+    let reached = c.reach.ensures.below d (live_same c.args.self.now c.leave.new.self d st.is_live left) in
+    let added = c.begin.ensures.below d (omega (arith, lt, c.in_ok-reach.ensures.live)) in
+    Stands-same c.args.self.now c.begin.new.self d number (added ∙ reached ∙ left) st)
