@@ -16,5 +16,7 @@ pub mod MovesLemmas
 mod QuickLemmas
 pub mod RiseLemmas
 pub mod RunLemmas
+pub mod SpotLemmas
 pub mod StackLemmas
 pub mod StateLemmas
+pub mod SwitchLemmas

@@ -16,6 +16,7 @@ mod leaves;
 mod machine;
 mod memory;
 mod quick;
+mod spot;
 mod state;
 mod statements;
 mod stepped;

@@ -1,19 +1,23 @@
 // What statements do to a memory.
-ghost use Rattle.std.specs.Prelude.{◌≡◌, ◌<◌, IfOk, IfSome, length, map, OnErr, OnOk, pos, Some, unwrap_or};
+ghost use Rattle.std.specs.Prelude.{◌≡◌, ◌<◌, ℕ, IfOk, IfSome, IsTrue, length, map, OnErr, OnOk, pos, Some, unwrap_or};
 ghost use Rattle.block_memory.specs.Block.{fresh};
 ghost use Rattle.block_memory.specs.Blocks.{put};
 ghost use Rattle.block_memory.specs.declared.cell.BlockName.TheVariants.{Local};
 ghost use Rattle.block_memory.specs.declared.cell.Cell.TheVariants as cell;
-ghost use Rattle.machine_memory.specs.Memory.{blocks_of, IsOpen, layout_at, layouts_of};
+ghost use Rattle.machine_memory.specs.Memory.{blocks_of, IsOpen, layout_at, layouts_of, Stands};
 ghost use Rattle.core_code.specs.Code.{cells_from};
 ghost use Rattle.core_code.specs.Effects.{shape_at};
 ghost use Rattle.pt_core.specs.Calls.{with_arguments};
 ghost use Rattle.pt_core.specs.Statements.{kept};
 ghost use Rattle.pt_core.specs.Values.{written, all_written, number_in};
-ghost use Rattle.core_machine.specs.FastCalls.{numbers_of};
+ghost use Rattle.core_forms.specs.Fits.{words_fit};
+ghost use Rattle.core_forms.specs.Settings.{setting_of};
+ghost use Rattle.machine_memory.specs.Layouts.{IsFirst};
+ghost use Rattle.core_machine.specs.FastCalls.{arguments_in};
 ghost use Rattle.core_machine.specs.Live.{HasNoMore};
 
 use block_memory::{BlockName, Cell, CellAt};
+use core_forms::{Standing, word};
 use machine_memory::MachineMemory;
 use std::alloc::{AllocError, Global};
 
@@ -134,24 +138,30 @@ pub(crate) fn pass(
     Ok(())
 }
 
-/// The same of the numbers that words are.
+/// The words at these places of a frame go to the first variables of a function that was entered over
+/// it.
 #[inline(always)]
-pub(crate) fn pass_words(
+pub(crate) fn pass_over(
     memory: &mut MachineMemory,
-    alloc: Global,
+    here: Standing,
     depth: u32,
-    args: &[i64],
-) -> Result<(), AllocError>
-    ensures passed { OnOk result (blocks_of memory.new ≡ with_arguments (blocks_of memory.old) depth 0 (numbers_of args.now)) }
+    layout: u32,
+    places: &[u32],
+)
+    requires caller { Stands memory.old here.depth here.layout }
+    requires fits { IsTrue (words_fit (layout_at memory.old here.layout) places.now) }
+    requires callee { Stands memory.old depth layout }
+    requires over { here.depth < depth }
+    requires leads { (var : ℕ) → var < length places.now → IsFirst (layout_at memory.old layout).shapes var var }
+    ensures passed { blocks_of memory.new ≡ with_arguments (blocks_of memory.old) depth 0 (arguments_in (setting_of memory.old here.depth) places.now) }
+    ensures stands { Stands memory.new depth layout }
     ensures layouts { layouts_of memory.new ≡ layouts_of memory.old }
     ensures no_more { HasNoMore (blocks_of memory.old) (blocks_of memory.new) }
 {
-    let mut var = 0u32;
-    for w in args {
-        give(memory, alloc, depth, var, *w)?;
-        var = var.checked_add(1).ok_or(AllocError)?;
+    for var in 0..places.len() {
+        let w = word(memory, here, places[var]);
+        memory.set_leading(depth, layout, var, w);
     }
-    Ok(())
 }
 
 // Writes the number that a word is to the first cell of a variable, if it is there.
