@@ -1,7 +1,7 @@
 // A block of integers that stands by itself.
-ghost use Rattle.std.specs.Prelude.{◌≡◌, ◌<◌, false, IfSome, length};
+ghost use Rattle.std.specs.Prelude.{◌≡◌, ◌<◌, false, length};
 ghost use Rattle.std.specs.Bool.{OnTrue};
-ghost use Rattle.machine_memory.specs.Held.{AreRead, IsRead, IsReading};
+ghost use Rattle.machine_memory.specs.Held.{IsRead, IsReading, ReadsAll};
 
 use crate::cells::Cells;
 use crate::packing::{cell_at, is_wide, packed, unpacked, word_for};
@@ -17,8 +17,7 @@ pub(crate) struct HeldBlock {
     types: Vec<IntType>,
     words: Vec<i64>,
     opened: bool,
-    // How each of its words is read, where it is closed and all are read alike.
-    reading: Option<bool>,
+    reading: Reading,
     cells: Cells,
 }
 
@@ -35,11 +34,12 @@ impl Model for HeldBlock {
 }
 
 impl HeldBlock {
-    ghost use Rattle.std.specs.Prelude.{◌≡◌, length, IfOk, IfSome, OnErr, OnOk, pos, slice_get, slice_index_or, Some};
+    ghost use Rattle.std.specs.Prelude.{◌≡◌, false, length, IfOk, IfSome, OnErr, OnOk, pos, slice_get, slice_index_or, Some};
     ghost use Rattle.block_memory.specs.declared.cell.Cell.TheVariants.{Int};
     ghost use Rattle.block_memory.specs.Block.{no_block, with_cell};
     ghost use Rattle.word_arithmetic.specs.Words.{number_of};
     ghost use Rattle.machine_memory.specs.Held.{Writes};
+    ghost use Rattle.machine_memory.specs.Words.{IsWordOf};
 
     /// A block of no cells.
     pub(crate) fn new(alloc: Global) -> HeldBlock
@@ -49,7 +49,7 @@ impl HeldBlock {
             types: Vec::new(alloc),
             words: Vec::new(alloc),
             opened: false,
-            reading: None,
+            reading: Reading::Each,
             cells: Cells::new(Vec::new(alloc)),
         }
     }
@@ -76,7 +76,7 @@ impl HeldBlock {
                 types: own,
                 words: vec![in alloc; 0i64; types.len()]?,
                 opened: true,
-                reading: None,
+                reading: Reading::Each,
                 cells: Cells::new(Vec::from_slice(alloc, cells)?),
             }),
         }
@@ -126,6 +126,33 @@ impl HeldBlock {
         ensures { Writes result self.old self.new at (Int (number_of wide w)) }
     {
         if at < self.words.len() && is_read(self.reading, self.opened, &self.types, at, wide) {
+            self.words[at] = w;
+            true
+        } else {
+            false
+        }
+    }
+
+    /// The word of an integer, if it is there and the words of the block are all read so, or alike
+    /// where that is all that is asked.
+    #[inline(always)]
+    pub(crate) fn common_word(&self, at: usize, wide: Option<bool>) -> Option<i64>
+        ensures { IfSome result (IsWordOf wide (slice_get self.now.cells at)) }
+    {
+        if at < self.words.len() && reads(self.reading, wide) {
+            Some(self.words[at])
+        } else {
+            None
+        }
+    }
+
+    /// Replaces the word of an integer, if it is there and the words of the block are all read with a
+    /// sign.
+    #[inline(always)]
+    pub(crate) fn put_signed(&mut self, at: usize, w: i64) -> bool
+        ensures { Writes result self.old self.new at (Int (number_of false w)) }
+    {
+        if at < self.words.len() && reads(self.reading, Some(false)) {
             self.words[at] = w;
             true
         } else {
@@ -183,22 +210,52 @@ impl HeldBlock {
         ensures { self.new ≡ with_cell self.old at c }
     {
         self.opened = true;
-        self.reading = None;
+        self.reading = Reading::Each;
         self.cells = cells;
         self.cells.write(at, c);
     }
 }
 
+/// How the words of a block are read.
+#[derive(Clone, Copy)]
+pub(crate) enum Reading {
+    /// It is closed, and each is read with a sign.
+    Signed,
+    /// It is closed, and each is read as `unsigned long`.
+    Wide,
+    /// Each by its own type, if it is closed.
+    Each,
+}
+
+// Whether all words are read so, or alike where that is all that is asked.
+#[inline(always)]
+fn reads(reading: Reading, wide: Option<bool>) -> bool
+    ensures { OnTrue result (ReadsAll reading wide) }
+{
+    match reading {
+        Reading::Signed => match wide {
+            None | Some(false) => true,
+            Some(true) => false,
+        },
+        Reading::Wide => match wide {
+            None | Some(true) => true,
+            Some(false) => false,
+        },
+        Reading::Each => false,
+    }
+}
+
 // Whether the block is closed and the integer at a place is read so.
 #[inline(always)]
-fn is_read(reading: Option<bool>, opened: bool, types: &[IntType], at: usize, wide: bool) -> bool
+fn is_read(reading: Reading, opened: bool, types: &[IntType], at: usize, wide: bool) -> bool
     requires inside { at < length types.now }
     requires reading { IsReading types.now opened reading }
     ensures { OnTrue result ((opened ≡ false) × IsRead types.now at wide) }
 {
     match reading {
-        Some(all) => all == wide,
-        None => is_read_alone(opened, types, at, wide),
+        Reading::Signed => !wide,
+        Reading::Wide => wide,
+        Reading::Each => is_read_alone(opened, types, at, wide),
     }
 }
 
@@ -211,9 +268,9 @@ fn is_read_alone(opened: bool, types: &[IntType], at: usize, wide: bool) -> bool
     !opened && is_wide(types[at]) == wide
 }
 
-// How the words of all these types are read, if all are read alike.
-fn common_reading(types: &[IntType]) -> Option<bool>
-    ensures { IfSome result (λ wide. AreRead types.now wide) }
+// How the words of all these types are read, in a block that is closed.
+fn common_reading(types: &[IntType]) -> Reading
+    ensures { IsReading types.now false result }
 {
     let wide = match types.first() {
         Some(t) => is_wide(*t),
@@ -221,8 +278,8 @@ fn common_reading(types: &[IntType]) -> Option<bool>
     };
     for t in types {
         if is_wide(*t) != wide {
-            return None;
+            return Reading::Each;
         }
     }
-    Some(wide)
+    if wide { Reading::Wide } else { Reading::Signed }
 }

@@ -27,6 +27,7 @@ impl Table {
     ghost use Rattle.block_memory.specs.Table.{numbered, SameBlocks, SetsBlock};
     ghost use Rattle.word_arithmetic.specs.Words.{number_of};
     ghost use Rattle.machine_memory.specs.Tables.{WritesIn};
+    ghost use Rattle.machine_memory.specs.Words.{IsWordOf};
 
     /// No number has a block.
     pub(crate) fn new(alloc: Global) -> Table
@@ -85,6 +86,28 @@ impl Table {
         ensures { WritesIn result self.old self.new number at (Int (number_of wide w)) }
     {
         number < self.blocks.len() && self.blocks[number].put_word(at, w, wide)
+    }
+
+    /// The word of an integer, if it is there and the words of its block are all read so, or alike
+    /// where that is all that is asked.
+    #[inline(always)]
+    pub(crate) fn common_word(&self, number: usize, at: usize, wide: Option<bool>) -> Option<i64>
+        ensures { IfSome result (IsWordOf wide (slice_get (numbered self.now number).cells at)) }
+    {
+        if number < self.blocks.len() {
+            self.blocks[number].common_word(at, wide)
+        } else {
+            None
+        }
+    }
+
+    /// Replaces the word of an integer, if it is there and the words of its block are all read with a
+    /// sign.
+    #[inline(always)]
+    pub(crate) fn put_signed(&mut self, number: usize, at: usize, w: i64) -> bool
+        ensures { WritesIn result self.old self.new number at (Int (number_of false w)) }
+    {
+        number < self.blocks.len() && self.blocks[number].put_signed(at, w)
     }
 
     /// Replaces a cell of a block, if it is there.

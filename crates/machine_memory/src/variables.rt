@@ -142,7 +142,7 @@ fn cell_of_open(cells: &[Cell], at: usize) -> Cell
 }
 
 /// What a cell of a variable is, in the layout of this number.
-#[inline]
+#[inline(always)]
 pub(crate) fn find_in(layouts: &[Layout], number: usize, var: u32, cell: u32) -> Found
     ensures { Finds (layout_in layouts.now number).shapes var cell result }
 {
