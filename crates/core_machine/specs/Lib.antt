@@ -8,6 +8,7 @@ pub mod Laid
 pub mod Live
 pub mod Machines
 pub mod Moves
+pub mod OnWay
 pub mod Outside
 pub mod Quick
 pub mod QuickStates
