@@ -1,3 +1,4 @@
+pub mod ChainLemmas
 pub mod CopyLemmas
 pub mod FarLemmas
 pub mod FastCallLemmas
