@@ -7,9 +7,7 @@ use Rattle.block_memory.specs.declared.cell.Cell.{Cell}
 use Rattle.block_memory.specs.declared.shape.BlockShape.{BlockShape}
 use Rattle.block_memory.specs.Block.{Block, fresh, no_block, with_cell}
 use Rattle.block_memory.specs.Blocks.{Blocks, is_same_name, IsFree, no_blocks, put, with_frame, without_frames}
-
-same_number : (a b : ℕ) → nat_eq a b ≡ true → a ≡ b
-same_number a b h = grind (arith, nat_tests)
+use Rattle.pt_base.proofs.SameNumbers.{same_number}
 
 both : (a b : Bool) → (a && b) ≡ true → (a ≡ true) × (b ≡ true)
 both true b h = (refl, h)

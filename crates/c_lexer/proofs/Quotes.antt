@@ -8,13 +8,11 @@ use Rattle.std.proofs.lemmas.List.{take_more, take_all}
 use Rattle.c_lexer.specs.Characters.{plain_byte, simple_escape, byte_in, escaped_byte, byte_of, character_of}
 use Rattle.c_lexer.specs.Next.{first_close, character_run}
 use Rattle.c_lexer.proofs.CommentLemmas.{mapped}
+use Rattle.pt_base.proofs.SameNumbers.{same_number}
 
 both_true : (p q : Bool) → (p && q) ≡ true → (p ≡ true) × (q ≡ true)
 both_true true q h = (refl, h)
 both_true false q h = absurd (cc)
-
-same_number : (a b : ℕ) → nat_eq a b ≡ true → a ≡ b
-same_number a b h = grind (arith, h)
 
 -- what an `if` gives, by its branch
 taken : (t : Bool) (x : Option ℕ) (v : ℕ) → cond t x None ≡ Some v → (t ≡ true) × (x ≡ Some v)

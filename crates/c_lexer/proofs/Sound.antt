@@ -26,6 +26,7 @@ use Rattle.c_lexer.proofs.Classes.{class_of, word, numeral, quoted, mark, number
 use Rattle.c_lexer.proofs.Marks.{longest_is_mark, mark_within_longest}
 use Rattle.c_lexer.proofs.Quotes.{character_is_run, character_run_within}
 use Rattle.c_lexer.proofs.Runs.{run_passes, word_within_run, run_is_word, number_within_run, run_is_number, number_run_within}
+use Rattle.pt_base.proofs.SameNumbers.{same_number}
 
 contra : (t : Bool) → t ≡ false → t ≡ true → ⊥
 contra t f h = cc
@@ -151,9 +152,6 @@ block_sound bs rest is None e = open_comment rest is (none_is_open rest e)
 and_true : (p q : Bool) → (p && q) ≡ true → (p ≡ true) × (q ≡ true)
 and_true true q h = (refl, h)
 and_true false q h = absurd (cc)
-
-same_number : (a b : ℕ) → nat_eq a b ≡ true → a ≡ b
-same_number a b h = grind (arith, h)
 
 comment_sound_by : (bs : List ℕ) → get_or bs 0 0 ≡ 47 → (r : Bool) → nat_eq (get_or bs 1 0) 47 ≡ r → (r || nat_eq (get_or bs 1 0) 42) ≡ true
     → BeginsWith bs (cond r (Blank (2 + prefix_len is_no_line_feed (drop 2 bs))) (option_map_or (λ n. Blank (2 + n)) (close_of (drop 2 bs)) (Fault OpenComment)))

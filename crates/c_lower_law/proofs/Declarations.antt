@@ -33,7 +33,8 @@ use Rattle.source_meaning.specs.Statements as src
 use Rattle.source_meaning.specs.Statements.{variable_at, items_stored, cleared_at}
 use Rattle.source_soundness.specs.Worlds.{type_in, is_pointer, Fits, ValueFits, IsInteger, LocationFits}
 use Rattle.source_soundness.specs.Sizes.{Sized, ValueSized}
-use Rattle.source_soundness.proofs.Tests.{left, right, never, equal_options}
+use Rattle.typed_tree.proofs.SameTypes.{equal_options}
+use Rattle.source_soundness.proofs.Tests.{left, right, never}
 use Rattle.source_soundness.proofs.Objects.{stored_fits}
 use Rattle.source_soundness.proofs.SizedObjects.{plain_stored, stored_sized}
 use Rattle.source_soundness.proofs.StatementSoundness.{Entry, number_stored}

@@ -26,7 +26,8 @@ use Rattle.source_meaning.specs.Expressions as e
 use Rattle.source_meaning.specs.Expressions.{value_of, values_of, location_of, type_or_int, store, compounded}
 use Rattle.source_soundness.specs.Worlds.{ValueFits}
 use Rattle.source_soundness.specs.Sizes.{ValueSized}
-use Rattle.source_soundness.proofs.Tests.{left, right, never, equal_options}
+use Rattle.typed_tree.proofs.SameTypes.{equal_options}
+use Rattle.source_soundness.proofs.Tests.{left, right, never}
 use Rattle.source_soundness.proofs.Soundness.{value_fits}
 use Rattle.source_soundness.proofs.SizeSoundness.{value_sized}
 use Rattle.pt_core.specs.CodeTree as t

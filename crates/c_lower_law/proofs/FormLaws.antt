@@ -30,7 +30,8 @@ use Rattle.source_meaning.specs.Values as m
 use Rattle.source_meaning.specs.Values.{Value, holds, cell_of, is_true, Location}
 use Rattle.source_meaning.specs.Expressions as e
 use Rattle.source_meaning.specs.Expressions.{value_of, values_of, location_of, root_location, links_value, link_value, operands_value, type_or_int, cell_or_trap}
-use Rattle.source_soundness.proofs.Tests.{left, right, never, equal_options, got_or}
+use Rattle.typed_tree.proofs.SameTypes.{equal_options}
+use Rattle.source_soundness.proofs.Tests.{left, right, never, got_or}
 use Rattle.source_soundness.proofs.Soundness.{array_of, object_of}
 use Rattle.pt_core.specs.CodeTree as t
 use Rattle.pt_core.specs.CodeTree.{StmtTree}

@@ -27,7 +27,8 @@ use Rattle.source_meaning.specs.Expressions.{value_of, values_of, location_of, r
 use Rattle.source_soundness.specs.Worlds.{Fits, LocationFits, ValueFits}
 use Rattle.source_soundness.specs.Laws.{Keeps}
 use Rattle.source_soundness.specs.Sizes.{KeepsSizes, LiesWithin, ValueSized}
-use Rattle.source_soundness.proofs.Tests.{left, right, never, equal_options, got, got_or}
+use Rattle.typed_tree.proofs.SameTypes.{equal_options}
+use Rattle.source_soundness.proofs.Tests.{left, right, never, got, got_or}
 use Rattle.source_soundness.proofs.Soundness.{value_fits, place_keeps, root_keeps, keeps_bind, field_lies, element_lies, pointer_to_type, element_step, steps_none}
 use Rattle.source_soundness.proofs.SizeSoundness.{value_sized, place_sized}
 use Rattle.pt_core.specs.CodeTree as t

@@ -47,7 +47,8 @@ use Rattle.source_meaning.specs.WholeRun.{main_frame, main_code, whole_run}
 use Rattle.source_soundness.specs.Worlds.{World, Fits}
 use Rattle.source_soundness.specs.Sizes.{Sized}
 use Rattle.source_soundness.specs.Laws.{main_world}
-use Rattle.source_soundness.proofs.Tests.{left, right, never, equal_ints}
+use Rattle.typed_tree.proofs.SameTypes.{equal_ints}
+use Rattle.source_soundness.proofs.Tests.{left, right, never}
 use Rattle.source_soundness.proofs.CallSoundness.{deeper, Leads}
 use Rattle.source_soundness.proofs.CallSizes.{calls_keep_sizes, programs_begin_sized}
 use Rattle.source_soundness.proofs.ProgramFacts.{facts, all_at, fields_are_plain, globals_are_plain}

@@ -20,11 +20,9 @@ use Rattle.pt_core.specs.Values.{written, all_written}
 use Rattle.pt_core.specs.Statements as c
 use Rattle.pt_core.specs.Statements.{with_blocks}
 use Rattle.c_lower_law.specs.Relations.{name_of, core_cell, SameObjects, Scene, world_of, sizes_in, HasRoom, Kept, Alike, below, all}
+pub use Rattle.pt_base.proofs.SameNumbers.{same_number}
 
 -- ---- numbers
-
-pub same_number : (a b : ℕ) → nat_eq a b ≡ true → a ≡ b
-same_number a b h = grind (arith, nat_tests)
 
 pub is_same : (a b : ℕ) → a ≡ b → nat_eq a b ≡ true
 is_same a b h = grind (arith, nat_tests)

@@ -22,7 +22,8 @@ use Rattle.typed_tree.specs.TypeRules.{is_comparison, is_compound, unary_fits, c
 use Rattle.typed_tree.specs.WellFormedExpression.{ty_of, is_struct}
 use Rattle.source_meaning.specs.Memory.{Cell}
 use Rattle.source_meaning.specs.Expressions as e
-use Rattle.source_soundness.proofs.Tests.{left, right, never, equal_options, equal_elems}
+use Rattle.typed_tree.proofs.SameTypes.{equal_options, equal_elems}
+use Rattle.source_soundness.proofs.Tests.{left, right, never}
 use Rattle.source_soundness.proofs.Operators.{same_promoted_is}
 use Rattle.source_soundness.proofs.Steps.{IsInt, arithmetic_int, shift_int, when, moved_is}
 use Rattle.source_soundness.proofs.Soundness.{converts_scalar}

@@ -30,7 +30,8 @@ use Rattle.source_meaning.specs.Expressions.{value_of, values_of, location_of, o
 use Rattle.source_soundness.specs.Worlds.{LocationFits}
 use Rattle.source_soundness.specs.Laws.{Keeps}
 use Rattle.source_soundness.proofs.Soundness.{place_keeps}
-use Rattle.source_soundness.proofs.Tests.{left, right, never, equal_options, got_or}
+use Rattle.typed_tree.proofs.SameTypes.{equal_options}
+use Rattle.source_soundness.proofs.Tests.{left, right, never, got_or}
 use Rattle.pt_core.specs.CodeTree as t
 use Rattle.pt_core.specs.CodeTree.{StmtTree, assign, expr_trees, call}
 use Rattle.pt_core.specs.Types.{type_of}

@@ -29,7 +29,8 @@ use Rattle.typed_tree.specs.TypeRules.{is_arm, converts, unary_fits, is_compound
 use Rattle.typed_tree.specs.WellFormedExpression as f
 use Rattle.typed_tree.specs.WellFormedExpression.{Names, is_typed, form_fits, all_typed, links_fit, operands_fit, place_fits, root_fits, steps_fit, ty_of, is_struct, is_assign, assigned_type, root_type, steps_type, place_type, place_const, item_type, has_links, has_operands, is_written, is_addressed, keeps_const, param_type, arguments_fit, call_fits, is_main}
 use Rattle.source_meaning.specs.Expressions.{type_or_int, type_of}
-use Rattle.source_soundness.proofs.Tests.{left, right, never, equal_options, got, got_or}
+use Rattle.typed_tree.proofs.SameTypes.{equal_options}
+use Rattle.source_soundness.proofs.Tests.{left, right, never, got, got_or}
 use Rattle.pt_core.specs.CodeTree as t
 use Rattle.pt_core.specs.CodeTree.{local, global, deref}
 use Rattle.pt_core.specs.Types.{field_type, pointee_type}

@@ -13,12 +13,10 @@ use Rattle.typed_tree.specs.TypeTests.{same_int, same_elem, same_bool, same_type
 use Rattle.typed_tree.specs.TypeRules.{is_promoted}
 use Rattle.typed_tree.specs.WellFormedExpression.{is_elem}
 use Rattle.typed_tree.proofs.WellFormedLemmas.{and_both}
+pub use Rattle.pt_base.proofs.SameNumbers.{same_number}
 
 pub number-self : (a : ℕ) → nat_eq a a ≡ true
 number-self a = grind (arith, nat_tests)
-
-pub same_number : (a b : ℕ) → nat_eq a b ≡ true → a ≡ b
-same_number a b h = grind (arith, nat_tests)
 
 pub same_int-self : (a : IntType) → same_int a a ≡ true
 same_int-self Char = refl

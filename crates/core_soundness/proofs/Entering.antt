@@ -24,7 +24,7 @@ use Rattle.pt_core.specs.Steps.{Active}
 use Rattle.core_soundness.specs.Fits.{ValueFits, BlockFits, LocalFits, variables_at, MemoryFits}
 use Rattle.core_soundness.specs.Laws.{LocationFits}
 use Rattle.core_soundness.specs.Outside.{ArgumentsFit}
-use Rattle.core_soundness.proofs.SameTypes.{equal_types}
+use Rattle.typed_tree.proofs.SameTypes.{equal_types}
 use Rattle.core_soundness.proofs.Leaves.{never}
 use Rattle.core_soundness.proofs.Objects.{variable_lies}
 use Rattle.core_soundness.proofs.Memory.{SameTypes, same_name, pointer_stays, pointer_deeper}

@@ -7,7 +7,6 @@ pub mod Numbers
 pub mod Objects
 pub mod Outside
 pub mod Programs
-pub mod SameTypes
 pub mod Settings
 pub mod Starting
 pub mod Steps

@@ -29,7 +29,7 @@ use Rattle.core_soundness.specs.Fits.{IntegerFits, ValueFits, MemoryFits, scope_
 use Rattle.core_soundness.specs.Laws.{LocationFits}
 use Rattle.core_soundness.specs.Outside.{ArgumentsFit, GivenFits, own_params}
 use Rattle.core_soundness.specs.StepLaws.{NumberFits, GateFits, params_of, called_params, StepFits, StepKeeps}
-use Rattle.core_soundness.proofs.SameTypes.{equal_ints}
+use Rattle.typed_tree.proofs.SameTypes.{equal_ints}
 use Rattle.core_soundness.proofs.Leaves.{never}
 use Rattle.core_soundness.proofs.Objects.{Setting}
 use Rattle.core_soundness.proofs.Numbers.{zero_fits}

@@ -26,7 +26,7 @@ use Rattle.pt_core.specs.WellFormedStatement.{value_fits, is_compound, result_fi
 use Rattle.core_soundness.specs.Fits.{IntegersFit, LieAt, ValueFits, BlockFits, LocalFits, variables_at, MemoryFits}
 use Rattle.core_soundness.specs.Laws.{ObjectLies, LocationFits}
 use Rattle.core_soundness.specs.Outside.{GivenFits}
-use Rattle.core_soundness.proofs.SameTypes.{equal_ints, equal_elems, equal_types}
+use Rattle.typed_tree.proofs.SameTypes.{equal_ints, equal_elems, equal_types}
 use Rattle.core_soundness.proofs.Leaves.{never}
 use Rattle.core_soundness.proofs.Objects.{Setting, local_fits}
 use Rattle.core_soundness.proofs.Values.{bound, known_variable, values, places}

@@ -25,7 +25,7 @@ use Rattle.pt_core.specs.Values.{Stop, ◌>>?◌, number_in, Location, along, va
 use Rattle.pt_core.specs.WellFormedExpression.{is_path, takes_one, takes_two, is_addressed, expr_fits, place_fits, root_fits}
 use Rattle.core_soundness.specs.Fits.{IntegerFits, ValueFits}
 use Rattle.core_soundness.specs.Laws.{LocationFits}
-use Rattle.core_soundness.proofs.SameTypes.{equal_types}
+use Rattle.typed_tree.proofs.SameTypes.{equal_types}
 use Rattle.core_soundness.proofs.Leaves.{never, got_below, below, IsCounted}
 use Rattle.core_soundness.proofs.Objects.{Setting, local_fits, global_fits, path_fits, path_counted, pointee_fits, read_fits, address_fits, decay_fits, moved_fits}
 use Rattle.core_soundness.proofs.Numbers.{unary_fits, binary_fits, converted_fits, told_fits, difference_fits}

@@ -28,7 +28,7 @@ use Rattle.half_trees.specs.Declarations.{struct_item, global_item}
 use Rattle.half_trees.specs.Functions.{function_item}
 use Rattle.half_trees.specs.Halves.{prototype_of}
 use Rattle.half_meaning_law.specs.Statements.{BodiesKeepTheirMeaning}
-use Rattle.half_meaning_law.proofs.Types.{equal_types}
+use Rattle.typed_tree.proofs.SameTypes.{equal_types}
 use Rattle.half_names_law.specs.Declarable.{Declarable}
 use Rattle.half_names_law.specs.Standing.{Marks, own_marks, locals_at, statements_at, all_said}
 use Rattle.half_names_law.specs.Laws.{statements_checked, judged_tree, BodyStands, MeaningKept}

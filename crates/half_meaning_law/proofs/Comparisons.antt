@@ -46,7 +46,8 @@ use Rattle.half_meaning_law.specs.Expressions.{SameValues, asked, ExpressionMean
 use Rattle.half_meaning_law.proofs.Chains.{FarHolds, LinkHolds}
 use Rattle.half_meaning_law.proofs.Memories.{OneToOne}
 use Rattle.half_meaning_law.proofs.Operators.{Told, compared_told, difference_told}
-use Rattle.half_meaning_law.proofs.Types.{equal_elems, elem_self}
+use Rattle.typed_tree.proofs.SameTypes.{equal_elems}
+use Rattle.half_meaning_law.proofs.Types.{elem_self}
 use Rattle.half_meaning_law.proofs.Judged.{Held, linked_held, one_held}
 use Rattle.half_meaning_law.proofs.Operands.{as_pointer}
 use Rattle.half_meaning_law.proofs.Links.{ValueOf, OpFits, steps_of, pair_held, integer_back, no_logical, val, rule_as}

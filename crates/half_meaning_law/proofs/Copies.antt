@@ -42,7 +42,7 @@ use Rattle.half_meaning_law.specs.Known.{type_as}
 use Rattle.half_meaning_law.specs.Expressions.{IsPlace, SamePlaces, place_asked, IsFine, SceneFits}
 use Rattle.half_meaning_law.specs.Statements.{GoesOn, SameRuns, StatementsMean}
 use Rattle.half_meaning_law.proofs.Memories.{differ}
-use Rattle.half_meaning_law.proofs.Types.{equal_types}
+use Rattle.typed_tree.proofs.SameTypes.{equal_types}
 use Rattle.half_meaning_law.proofs.Runs.{same_evaluated, evaluated_both, bind_assoc}
 use Rattle.typed_tree.specs.Sizes.{sizes_of, cells_by}
 use Rattle.half_trees.specs.Statements as hs

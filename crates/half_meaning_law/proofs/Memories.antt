@@ -16,11 +16,9 @@ use Rattle.pt_core.specs.Statements.{with_blocks}
 use Rattle.half_meaning_law.specs.Relations.{Scene, name_of, core_cell, SameBlocks, reach_in, CellFits, MemoryFits, VariablesLive, cells_in, Alike, room_of}
 use Rattle.pt_core.specs.Types.{type_at}
 use Rattle.typed_tree.specs.declared.types.VarTy.{VarTy}
+pub use Rattle.pt_base.proofs.SameNumbers.{same_number}
 
 -- ---- numbers
-
-pub same_number : (a b : ℕ) → nat_eq a b ≡ true → a ≡ b
-same_number a b h = grind (arith, nat_tests)
 
 pub is_same : (a b : ℕ) → a ≡ b → nat_eq a b ≡ true
 is_same a b h = grind (arith, nat_tests)

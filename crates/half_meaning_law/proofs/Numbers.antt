@@ -57,7 +57,8 @@ use Rattle.half_meaning_law.proofs.Chains.{type_of_typed}
 use Rattle.half_meaning_law.proofs.Constants.{in_range, flipped_int, flipped_long, unsigned_int, unsigned_long, narrow_char, narrow_schar, narrow_uchar, narrow_short, narrow_ushort}
 use Rattle.half_meaning_law.proofs.Memories.{differ}
 use Rattle.half_meaning_law.proofs.Operators.{ev_bind, Told, value_told, unary_told, converted_same, converted_fits}
-use Rattle.half_meaning_law.proofs.Types.{equal_types, promoted_is, to_int_same}
+use Rattle.typed_tree.proofs.SameTypes.{equal_types}
+use Rattle.half_meaning_law.proofs.Types.{promoted_is, to_int_same}
 use Rattle.half_meaning_law.proofs.Judged.{no_faults, Held}
 
 -- ---- integers

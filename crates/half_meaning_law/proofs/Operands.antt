@@ -45,7 +45,8 @@ use Rattle.half_meaning_law.specs.CForms.{points_const, with_const, c_type}
 use Rattle.half_meaning_law.specs.Known.{type_as}
 use Rattle.half_meaning_law.proofs.Memories.{differ}
 use Rattle.half_meaning_law.proofs.Operators.{Told, computed, shift_told, moved_told, number_same}
-use Rattle.half_meaning_law.proofs.Types.{equal_types, equal_ints, promoted_is, to_int_same}
+use Rattle.typed_tree.proofs.SameTypes.{equal_types, equal_ints}
+use Rattle.half_meaning_law.proofs.Types.{promoted_is, to_int_same}
 use Rattle.half_meaning_law.proofs.Judged.{Held}
 use Rattle.half_meaning_law.proofs.Links.{ValueOf, OpFits, pair_held, integer_back, no_logical, val, rule_as, as_integer, tree_integer, binary_fits}
 use Rattle.half_meaning_law.proofs.PlaceLaw.{pointer_type}

@@ -51,7 +51,8 @@ use Rattle.half_meaning_law.specs.Known.{type_as, result_as, function_id, Functi
 use Rattle.half_meaning_law.specs.Expressions.{Evaluates, IsPlace, SamePlaces, place_asked, IsFine, SceneFits}
 use Rattle.half_meaning_law.specs.Statements.{GoesOn, SameRuns, AreArguments, GivesResult, CallsAlike, StatementsMean}
 use Rattle.half_meaning_law.proofs.Memories.{differ, alike_written}
-use Rattle.half_meaning_law.proofs.Types.{equal_types, to_int_same}
+use Rattle.typed_tree.proofs.SameTypes.{equal_types}
+use Rattle.half_meaning_law.proofs.Types.{to_int_same}
 use Rattle.half_meaning_law.proofs.Chains.{var_type_as}
 use Rattle.half_meaning_law.proofs.PlaceLaw.{PlaceHeld}
 use Rattle.half_meaning_law.proofs.ExpressionLaw.{place_held}

@@ -25,7 +25,7 @@ use Rattle.half_meaning_law.specs.Known.{Known, FunctionsKnown, result_as}
 use Rattle.half_meaning_law.specs.Expressions.{SceneFits}
 use Rattle.half_meaning_law.specs.Statements.{advanced, StatementsMean, Judging, StatementsKeepTheirMeaning, BlocksKeepTheirMeaning}
 use Rattle.half_meaning_law.proofs.Memories.{differ}
-use Rattle.half_meaning_law.proofs.Types.{equal_ints}
+use Rattle.typed_tree.proofs.SameTypes.{equal_ints}
 use Rattle.half_meaning_law.proofs.Runs.{means_behind}
 use Rattle.half_meaning_law.proofs.Assigns.{assign_means}
 use Rattle.half_meaning_law.proofs.Copies.{copy_means}

@@ -28,7 +28,7 @@ use Rattle.half_meaning_law.specs.CForms.{is_null, stands, is_stored, keeps_cons
 use Rattle.half_meaning_law.specs.Known.{type_as}
 use Rattle.half_meaning_law.specs.Expressions.{asked, IsFine, ExpressionMeans, SceneFits}
 use Rattle.half_meaning_law.proofs.Memories.{differ}
-use Rattle.half_meaning_law.proofs.Types.{equal_types, equal_elems}
+use Rattle.typed_tree.proofs.SameTypes.{equal_types, equal_elems}
 use Rattle.half_meaning_law.specs.Known.{Known as AllKnown}
 use Rattle.half_meaning_law.proofs.ExpressionLaw.{expr_held, null_is}
 use Rattle.half_meaning_law.proofs.Steps.{ValueFor, integer_for, pointer_for, null_for}

@@ -39,7 +39,7 @@ use Rattle.half_names_law.specs.Declarable.{Declarable, signature_marked, has_sm
 use Rattle.half_names_law.specs.Standing.{Marks, own_marks, whole_marks, before, head_at, behind_head, body_state, body_context, locals_at, statements_at, scene_of, all_said}
 use Rattle.half_names_law.specs.Laws.{statements_checked, one_behind, KnownIn, NamesKnown, HalfNamesAreKnown, OwnNamesAreKnown, HalvesHaveNoFault, SlavesHaveNoTypeFault, MeaningKept, HalvesKeepTheirMeaning}
 use Rattle.half_names_law.proofs.Objects.{both_hold}
-use Rattle.half_meaning_law.proofs.Types.{equal_ints}
+use Rattle.typed_tree.proofs.SameTypes.{equal_ints}
 use Rattle.half_names_law.proofs.Numbers.{same_number, lookup_place}
 use Rattle.half_names_law.proofs.Table.{structs_added, then_rest}
 use Rattle.half_names_law.proofs.Parameters.{Marked}

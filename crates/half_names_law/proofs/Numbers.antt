@@ -6,9 +6,7 @@ use Rattle.std.proofs.lemmas.Bool.Decides.{nat_tests}
 use Rattle.typed_tree.specs.WellFormed.{are_rising}
 use Rattle.half_names_law.specs.Standing.{number_in}
 use Rattle.half_names_law.proofs.Objects.{both_hold}
-
-pub same_number : (a b : ℕ) → nat_eq a b ≡ true → a ≡ b
-same_number a b h = grind (arith, nat_tests, h)
+pub use Rattle.pt_base.proofs.SameNumbers.{same_number}
 
 -- ---- numbers by place
 

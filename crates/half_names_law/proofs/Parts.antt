@@ -26,7 +26,7 @@ use Rattle.half_trees.specs.Names.{nowhere, local_name, function_by}
 use Rattle.half_trees.specs.Declarations.{parameters_or_void, function_declarator}
 use Rattle.half_trees.specs.Functions.{is_only_unpriv, parameters_from, locals_from, head_specs, body_tree}
 use Rattle.half_meaning_law.specs.Known.{type_as, object_as}
-use Rattle.half_meaning_law.proofs.Types.{equal_types}
+use Rattle.typed_tree.proofs.SameTypes.{equal_types}
 use Rattle.half_names_law.specs.Standing.{definition}
 use Rattle.half_names_law.proofs.Tables.{Differ, listed}
 use Rattle.half_names_law.proofs.Objects.{both_hold}

@@ -28,7 +28,7 @@ use Rattle.pt_core.specs.WellFormed.{global_fits, variable_fits, param_fits, sig
 use Rattle.half_trees.specs.Names.{struct_name, field_by}
 use Rattle.half_trees.specs.Declarations.{is_pointer}
 use Rattle.half_meaning_law.specs.Known.{type_as}
-use Rattle.half_meaning_law.proofs.Types.{equal_types}
+use Rattle.typed_tree.proofs.SameTypes.{equal_types}
 use Rattle.half_names_law.specs.Declarable.{field_names, struct_names, is_mutable, is_pointer_kind, takes_no_pointer, param_marked, signature_marked, variable_marked, variable_cells, global_marked}
 use Rattle.half_names_law.specs.Standing.{Marks}
 use Rattle.half_names_law.proofs.Tables.{Differ, differ_from}

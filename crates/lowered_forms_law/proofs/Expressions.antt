@@ -19,7 +19,8 @@ use Rattle.c_lower.specs.Lowered.{Effects, Lowered, LoweredPlace, past, holding,
 use Rattle.c_lower.specs.Purity.{takes_left_first, is_pure, are_pure}
 use Rattle.c_lower.specs.Expressions.{is_struct, field_in, decayed, decayed_type, element_place, left_place, fixed_if, linked, chain_so_far, started, with_operand, counted_after, assigned, compounded, counted, value_at, value_in, form_in, effects_in, form_effects, links_in, operands_in, arguments_in, object_in, form_object, place_in, root_in, steps_in}
 use Rattle.lowered_forms_law.proofs.Settings.{Agrees, EffectsFit, LoweredFits, PlaceFits, Setting, Stand, source}
-use Rattle.lowered_forms_law.proofs.SameTypes.{equal_options, never}
+use Rattle.typed_tree.proofs.SameTypes.{equal_options}
+use Rattle.lowered_forms_law.proofs.SameTypes.{never}
 use Rattle.lowered_forms_law.proofs.Standing.{held_if_fits}
 use Rattle.lowered_forms_law.proofs.Steps.{convert_known, one_type, unary_operand}
 use Rattle.lowered_forms_law.proofs.Places.{behind_fits, fixed_if_fits, global_place_fits, variable_place_fits}

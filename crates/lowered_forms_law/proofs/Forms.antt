@@ -34,7 +34,8 @@ use Rattle.c_lower.specs.Lowered.{Temp, Effects, Lowered, LoweredPlace, Argument
 use Rattle.c_lower.specs.Operators.{converted, prefixed, truth_of, stepped, stored, unit_step, unit_of}
 use Rattle.c_lower.specs.Expressions.{int_of, elem_of, is_struct, value_at, checked, linked, started, valued, where_open, with_operand, arm, chosen, copied, given, assigned, compounded, counted, counted_after, argued, call_effects, called}
 use Rattle.lowered_forms_law.proofs.Settings.{Agrees, EffectsFit, Fit, Known, LoweredFits, PlaceFits, Setting, Stand, ValueFits, context, is_known, scope}
-use Rattle.lowered_forms_law.proofs.SameTypes.{equal_options, never, type_self}
+use Rattle.typed_tree.proofs.SameTypes.{equal_options, type_self}
+use Rattle.lowered_forms_law.proofs.SameTypes.{never}
 use Rattle.lowered_forms_law.proofs.Standing.{assign_fits, choose_fits, fit_both, got_or, hold_fits, in_list, known_both, read_fits, stand_first, stand_rest, stand_three, temp_value}
 use Rattle.lowered_forms_law.proofs.Steps.{compound_fits, constant_fits, conversion_known, convert_known, converted_fits, counted_fits, null_fits, one_type, prefixed_fits, step_fits, step_known, step_operands, truth_fits, unary_known, unary_operand}
 use Rattle.lowered_forms_law.proofs.Rules.{no_struct, scalar_type, type_is}

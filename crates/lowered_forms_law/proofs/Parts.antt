@@ -22,7 +22,8 @@ use Rattle.c_lower.specs.Lowered.{Temp, Effects, Lowered, LoweredPlace, past, ho
 use Rattle.c_lower.specs.Purity.{is_pure}
 use Rattle.c_lower.specs.Expressions.{Scope, is_struct, field_in, decayed, decayed_type, element_place, left_place, valued, assigned, compounded, value_at, value_in, place_in, root_in, steps_in}
 use Rattle.lowered_forms_law.proofs.Settings.{Agrees, EffectsFit, LoweredFits, PlaceFits, Setting, Stand, context, source}
-use Rattle.lowered_forms_law.proofs.SameTypes.{equal_options, never}
+use Rattle.typed_tree.proofs.SameTypes.{equal_options}
+use Rattle.lowered_forms_law.proofs.SameTypes.{never}
 use Rattle.lowered_forms_law.proofs.Standing.{held_fits, held_if_fits, stand_first}
 use Rattle.lowered_forms_law.proofs.Steps.{integer_is}
 use Rattle.lowered_forms_law.proofs.Places.{address_fits, decay_fits, element_fits, field_addressed, field_in_fits, field_is, fixed_if_fits}

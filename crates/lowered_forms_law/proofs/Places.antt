@@ -31,7 +31,8 @@ use Rattle.source_meaning.specs.Expressions as x
 use Rattle.c_lower.specs.Lowered.{Temp, Lowered, LoweredPlace, past, temp, hold}
 use Rattle.c_lower.specs.Expressions.{place_with_field, field_in, behind, fixed_root, fixed_through, fixed_if, named_place, element_place}
 use Rattle.lowered_forms_law.proofs.Settings.{Agrees, Leads, LoweredFits, PlaceFits, Setting, Stand, ValueFits, context, is_known, scope, source}
-use Rattle.lowered_forms_law.proofs.SameTypes.{equal_elems, never, points, stands_pointer}
+use Rattle.typed_tree.proofs.SameTypes.{equal_elems}
+use Rattle.lowered_forms_law.proofs.SameTypes.{never, points, stands_pointer}
 use Rattle.lowered_forms_law.proofs.Standing.{fit_both, got, got_or, hold_fits, in_list, known_both, stand_first, stand_rest, temp_value}
 use Rattle.lowered_forms_law.proofs.Steps.{move_fits, one_type}
 

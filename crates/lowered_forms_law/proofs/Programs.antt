@@ -36,7 +36,8 @@ use Rattle.c_lower.specs.Lowered.{Temp, Effects}
 use Rattle.c_lower.specs.Functions.{variable_of, main_end, lowered_body, core_of, code_if, functions_from, signatures_from, globals_from, core_program}
 use Rattle.c_lower.specs.Statements.{nowhere}
 use Rattle.lowered_forms_law.proofs.Settings.{Agrees, EffectsFit, Fit, Known, Setting, scope}
-use Rattle.lowered_forms_law.proofs.SameTypes.{equal_ints, equal_types, never}
+use Rattle.typed_tree.proofs.SameTypes.{equal_ints, equal_types}
+use Rattle.lowered_forms_law.proofs.SameTypes.{never}
 use Rattle.lowered_forms_law.proofs.Standing.{fit_both, fit_trees, got}
 use Rattle.lowered_forms_law.proofs.Places.{all_at}
 use Rattle.lowered_forms_law.proofs.Statements.{few_nodes, statement_lowers}

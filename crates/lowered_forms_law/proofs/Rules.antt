@@ -19,7 +19,8 @@ use Rattle.typed_tree.specs.WellFormedExpression.{Names, is_typed, form_fits, al
 use Rattle.typed_tree.proofs.WellFormedLemmas.{and_left, and_right}
 use Rattle.source_meaning.specs.Expressions.{type_or_int, type_of}
 use Rattle.c_lower.specs.Expressions.{is_struct}
-use Rattle.lowered_forms_law.proofs.SameTypes.{equal_elems, equal_options, never}
+use Rattle.typed_tree.proofs.SameTypes.{equal_elems, equal_options}
+use Rattle.lowered_forms_law.proofs.SameTypes.{never}
 use Rattle.lowered_forms_law.proofs.Steps.{convert_known, one_type, step_operands, step_scalar, unary_operand}
 
 -- ---- types of expressions

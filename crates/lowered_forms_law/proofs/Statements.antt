@@ -40,7 +40,8 @@ use Rattle.c_lower.specs.Expressions.{is_struct, value_in, effects_in, object_in
 use Rattle.c_lower.specs.Leaves.{leaf_places}
 use Rattle.c_lower.specs.Statements.{Code, outermost, Onward, nowhere, to_head, past_flag, number, onwards, inside, behind_switch, variable_place, items_in, value_stored, initialised, declared, tested, stepped, looped, on_the_way_back, first_told, case_of, cases_from, otherwise_of, section_by, switch_temps, switched, chosen, returned, begun, statement_in, otherwise_in, all_in, sections_in}
 use Rattle.lowered_forms_law.proofs.Settings.{Agrees, EffectsFit, Fit, LoweredFits, PlaceFits, Setting, Stand, ValueFits, context, scope, source}
-use Rattle.lowered_forms_law.proofs.SameTypes.{equal_ints, equal_options, never, promoted_promoted, stands_int, usual_promoted}
+use Rattle.typed_tree.proofs.SameTypes.{equal_ints, equal_options}
+use Rattle.lowered_forms_law.proofs.SameTypes.{never, promoted_promoted, stands_int, usual_promoted}
 use Rattle.lowered_forms_law.proofs.Standing.{assign_fits, choose_fits, fit_both, fit_trees, got, got_or, hold_fits, in_list, known_both, stand_first, stand_rest, stand_three, temp_value}
 use Rattle.lowered_forms_law.proofs.Steps.{as_int_fits, binary_fits, constant_fits}
 use Rattle.lowered_forms_law.proofs.Places.{variable_fits, variable_known, variable_place_fits}

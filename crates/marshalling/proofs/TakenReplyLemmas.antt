@@ -30,6 +30,7 @@ use Rattle.marshalling.proofs.NameLemmas.{are_distinct, from_distinct}
 use Rattle.marshalling.proofs.ReplyLemmas.{length-places_from, sent-append}
 use Rattle.marshalling.proofs.TakingLemmas.{cells_shape, whole_count}
 use Rattle.marshalling.proofs.WalkLemmas.{place_by}
+use Rattle.pt_base.proofs.SameNumbers.{same_number}
 
 -- ---- tests
 
@@ -47,9 +48,6 @@ neither false b h = (refl, h)
 from_not : (b : Bool) → not b ≡ true → b ≡ false
 from_not true h = cc
 from_not false h = refl
-
-same_number : (a b : ℕ) → nat_eq a b ≡ true → a ≡ b
-same_number a b h = grind (arith, nat_tests)
 
 -- ---- the numbers of a reply
 

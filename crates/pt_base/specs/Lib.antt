@@ -8,6 +8,7 @@ pub mod Names
 pub mod Objects
 pub mod Pieces
 pub mod Script
+pub mod Talk
 pub mod Told
 pub mod Traps
 pub mod Turns

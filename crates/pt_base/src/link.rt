@@ -1,7 +1,8 @@
 // The way to another process and back.
-ghost use Rattle.std.specs.Prelude.{ℕ, ◌≤◌, List, IfSome, IsTrue, Bool, IfOk, OnOk, OnErr, vec_len, Option};
+ghost use Rattle.std.specs.Prelude.{ℕ, ◌≤◌, List, [], ◌∷◌, ◌++◌, IfSome, IsTrue, Bool, IfOk, OnOk, OnErr, vec_len, Option};
 ghost use Rattle.std.specs.Io.KnownBytes.{Appends, Keeps};
 ghost use Rattle.pt_base.specs.Faults.{HasCause};
+ghost use Rattle.pt_base.specs.Talk.{Event, gave, took};
 ghost use Rattle.pt_base.specs.Told.{AppendsPart, GivesWhatIsSaid};
 
 use std::alloc::{AllocError, Global};
@@ -44,6 +45,9 @@ pub trait Link {
     /// What it gives is this peer's answer to the bytes sent so far, as long as those have this form.
     ghost honest: { Self → (List ℕ → List ℕ) → (List ℕ → Bool) → Type 0 };
 
+    /// It came from that one by this talk.
+    ghost came: { Self → List Event → Self → Type 0 };
+
     /// Appends the bytes to what is sent. After a refusal a first part of them was sent, maybe
     /// none. Failed comes only where the count of faults rose. The link stays honest where what
     /// was sent has the form.
@@ -55,7 +59,8 @@ pub trait Link {
         ensures honest { (says : List ℕ → List ℕ) (form : List ℕ → Bool) → honest self.old says form
             → IfSome (sent self.new) (λ s. IsTrue (form s)) → honest self.new says form }
         ensures ready { ready self.new }
-        ensures cause { HasCause (faults self.old) (faults self.new) result LinkFault.Failed };
+        ensures cause { HasCause (faults self.old) (faults self.new) result LinkFault.Failed }
+        ensures came { OnOk result (came self.old (took bytes.now ∷ []) self.new) };
 
     /// Some bytes that came, at most `max`; none are the end. A refusal gives none. Failed comes
     /// only where the count of faults rose. What an honest link has given so far is a first part
@@ -72,7 +77,14 @@ pub trait Link {
             → IfSome (sent self.old) (λ s. IsTrue (form s))
             → IfOk result (λ v. GivesWhatIsSaid says (sent self.old) (given self.new) v.items) }
         ensures ready { ready self.new }
-        ensures cause { HasCause (faults self.old) (faults self.new) result LinkFault.Failed };
+        ensures cause { HasCause (faults self.old) (faults self.new) result LinkFault.Failed }
+        ensures came { IfOk result (λ v. came self.old (gave v.items ∷ []) self.new) };
+
+    /// No talk leads to the same link.
+    ghost same: { (l : Self) → came l [] l };
+
+    /// A talk goes on.
+    ghost further: { (a b c : Self) (x y : List Event) → came a x b → came b y c → came a (x ++ y) c };
 }
 
 /// A link that is made by starting the peer, or taken over from the parent.

@@ -23,7 +23,8 @@ use Rattle.c_lower.specs.Lowered.{Temp, Effects, Lowered, LoweredPlace, past, ho
 use Rattle.c_lower.specs.Purity.{takes_left_first, is_pure, are_pure}
 use Rattle.c_lower.specs.Expressions.{is_struct, field_in, decayed, decayed_type, element_place, left_place, fixed_if, linked, chain_so_far, started, with_operand, counted_after, assigned, compounded, counted, value_at, value_in, form_in, effects_in, form_effects, links_in, operands_in, arguments_in, object_in, form_object, place_in, root_in, steps_in}
 use Rattle.lowered_forms_law.proofs.Settings.{Agrees, Setting, Stand, context, source}
-use Rattle.lowered_forms_law.proofs.SameTypes.{equal_options, never}
+use Rattle.typed_tree.proofs.SameTypes.{equal_options}
+use Rattle.lowered_forms_law.proofs.SameTypes.{never}
 use Rattle.lowered_forms_law.proofs.Standing.{stand_first}
 use Rattle.lowered_forms_law.proofs.Places.{fixed_if_fits}
 use Rattle.lowered_forms_law.proofs.Rules.{array_of, assign_rules, chain_scalar, compound_rules, count_rules, object_of, some_type, value_type}

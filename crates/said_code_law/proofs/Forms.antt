@@ -24,7 +24,8 @@ use Rattle.c_lower.specs.Lowered.{Temp, Effects, Lowered, LoweredPlace, Argument
 use Rattle.c_lower.specs.Operators.{converted, prefixed, truth_of, stepped, stored, unit_step, unit_of}
 use Rattle.c_lower.specs.Expressions.{is_struct, linked, started, valued, where_open, with_operand, arm, chosen, copied, given, assigned, compounded, counted, counted_after, argued, call_effects, called}
 use Rattle.lowered_forms_law.proofs.Settings.{Setting, Stand, context}
-use Rattle.lowered_forms_law.proofs.SameTypes.{equal_options, never}
+use Rattle.typed_tree.proofs.SameTypes.{equal_options}
+use Rattle.lowered_forms_law.proofs.SameTypes.{never}
 use Rattle.lowered_forms_law.proofs.Standing.{stand_first, stand_rest, stand_three}
 use Rattle.lowered_forms_law.proofs.Steps.{convert_known, step_operands, unary_operand}
 use Rattle.lowered_forms_law.proofs.Rules.{scalar_type, type_is}

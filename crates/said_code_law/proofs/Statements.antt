@@ -37,7 +37,8 @@ use Rattle.c_lower.specs.Expressions.{is_struct, value_in, effects_in, object_in
 use Rattle.c_lower.specs.Leaves.{Step, to_field, to_element, Ways, ways_of, stepped_to, at_end_of, leaf_places}
 use Rattle.c_lower.specs.Statements.{outermost, Onward, nowhere, to_head, past_flag, number, onwards, inside, behind_switch, variable_place, items_in, value_stored, initialised, declared, tested, stepped, looped, on_the_way_back, first_told, case_of, cases_from, otherwise_of, section_by, switch_temps, switched, chosen, returned, begun, statement_in, otherwise_in, all_in, sections_in}
 use Rattle.lowered_forms_law.proofs.Settings.{Agrees, Setting, Stand, context, source}
-use Rattle.lowered_forms_law.proofs.SameTypes.{equal_options, never}
+use Rattle.typed_tree.proofs.SameTypes.{equal_options}
+use Rattle.lowered_forms_law.proofs.SameTypes.{never}
 use Rattle.lowered_forms_law.proofs.Standing.{got, got_or, stand_first, stand_rest, stand_three}
 use Rattle.lowered_forms_law.proofs.Places.{variable_fits, variable_known}
 use Rattle.lowered_forms_law.proofs.Leaves.{PlacesFit, leaves_fit}

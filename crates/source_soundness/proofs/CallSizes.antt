@@ -42,6 +42,7 @@ use Rattle.source_soundness.proofs.Programs.{code_of, entered_as, types_of, bodi
 use Rattle.source_soundness.proofs.Layouts.{plain_cells}
 use Rattle.source_soundness.proofs.SizedObjects.{within_of_pointer}
 use Rattle.source_soundness.proofs.StatementSizes.{Good, Steady, cleared_length, cleared_points, statement_good}
+use Rattle.pt_base.proofs.SameNumbers.{same_number}
 
 -- ---- worlds one deeper
 
@@ -97,9 +98,6 @@ frame_points w all ss (t ∷ types) [] (v ∷ vs) x elem fixed lead args size is
 frame_points w all ss (t ∷ types) (p ∷ ps) [] x elem fixed lead args size is = absurd args
 frame_points w all ss (t ∷ types) (p ∷ ps) (v ∷ vs) zero elem fixed lead args size is = argument_points w all ss p.kind v elem fixed (lead.0 ∙ same_some t (Pointer elem fixed) is) args.0 size.0
 frame_points w all ss (t ∷ types) (p ∷ ps) (v ∷ vs) (suc x) elem fixed lead args size is = frame_points w all ss types ps vs x elem fixed lead.1 args.1 size.1 is
-
-same_number : (a b : ℕ) → nat_eq a b ≡ true → a ≡ b
-same_number a b h = grind (arith, nat_tests)
 
 below : (d n : ℕ) → d ≤ suc n → nat_eq d (suc n) ≡ false → d ≤ n
 below d n le e = grind (arith, nat_tests)

@@ -16,9 +16,11 @@ use Rattle.source_meaning.specs.Values.{Value, cell_of, cleared, frame_cells}
 use Rattle.source_meaning.specs.Functions.{without_locals}
 use Rattle.source_soundness.specs.Worlds.{World, type_in, depth_of, IsScoped, CellsFit, Fits, ValueFits}
 use Rattle.source_soundness.specs.Laws.{ArgumentsFit}
-use Rattle.source_soundness.proofs.Tests.{left, right, never, equal_types}
+use Rattle.typed_tree.proofs.SameTypes.{equal_types}
+use Rattle.source_soundness.proofs.Tests.{left, right, never}
 use Rattle.source_soundness.proofs.Operators.{number_of_int, scoped_of_pointer}
 use Rattle.source_soundness.proofs.StatementSoundness.{cleared_fit}
+use Rattle.pt_base.proofs.SameNumbers.{same_number}
 
 -- ---- worlds one deeper
 
@@ -118,9 +120,6 @@ frame_fits w all ss (t ∷ types) (p ∷ ps) (v ∷ vs) zero ty lead args is = s
     same : Some t ≡ Some ty → t ≡ ty
     same h = cc
 frame_fits w all ss (t ∷ types) (p ∷ ps) (v ∷ vs) (suc x) ty lead args is = frame_fits w all ss types ps vs x ty lead.1 args.1 is
-
-same_number : (a b : ℕ) → nat_eq a b ≡ true → a ≡ b
-same_number a b h = grind (arith, nat_tests)
 
 -- a function is entered
 pub entered_fits : (w : World) (m : Memory) (ss : List ℕ) (types : List VarTy) (ps : List Param) (vs : List Value) → Leads ps types → ArgumentsFit w ps vs → Fits w m → Fits (deeper w types) (with_frame m (suc w.depth) (frame_cells ss types vs))

@@ -8,6 +8,7 @@ use Rattle.source_meaning.specs.Memory.{Block, local, global, same_block, Cell, 
 use Rattle.source_meaning.specs.Expressions.{write_all}
 use Rattle.source_soundness.specs.Worlds.{World, type_in, depth_of, is_pointer, IsNumber, AreNumbers, CellsFit, Fits}
 use Rattle.source_soundness.proofs.Tests.{left, right}
+use Rattle.pt_base.proofs.SameNumbers.{same_number}
 
 -- ---- lists of numbers
 
@@ -32,9 +33,6 @@ numbers_drop (suc n) [] h = tt
 numbers_drop (suc n) (c ∷ cs) h = numbers_drop n cs h.1
 
 -- ---- blocks
-
-same_number : (a b : ℕ) → nat_eq a b ≡ true → a ≡ b
-same_number a b h = grind (arith, nat_tests)
 
 pub equal_blocks : (a b : Block) → same_block a b ≡ true → a ≡ b
 equal_blocks (local d x) (local e y) h =

@@ -17,7 +17,8 @@ use Rattle.source_meaning.specs.Memory.{Cell, number, null, pointer}
 use Rattle.source_meaning.specs.Values.{Value, holds, whole, nothing, cell_of, number_in, converted_cell, converted, pointer_to, moved_cell, unary_cell}
 use Rattle.source_meaning.specs.Expressions.{type_or_int}
 use Rattle.source_soundness.specs.Worlds.{World, IsNumber, IsScoped, ValueFits}
-use Rattle.source_soundness.proofs.Tests.{right, never, equal_options}
+use Rattle.typed_tree.proofs.SameTypes.{equal_options}
+use Rattle.source_soundness.proofs.Tests.{right, never}
 
 -- where there is a result, it is so
 abbrev pub Gives : {A : Type 0} → (A → Type 0) → Result A Trap → Type 0

@@ -31,7 +31,8 @@ use Rattle.source_meaning.specs.Expressions.{Context, sizes, or_trap, type_at, f
 use Rattle.source_soundness.specs.Worlds.{World, Fits, ValueFits, LocationFits}
 use Rattle.source_soundness.specs.Laws.{Keeps, ArgumentsFit, ContextFits}
 use Rattle.source_soundness.specs.Sizes.{PointsWithin, Sized, KeepsSizes, ValueSized, LiesWithin, ArgumentsSized}
-use Rattle.source_soundness.proofs.Tests.{left, right, never, equal_options, got, got_or}
+use Rattle.typed_tree.proofs.SameTypes.{equal_options}
+use Rattle.source_soundness.proofs.Tests.{left, right, never, got, got_or}
 use Rattle.source_soundness.proofs.Operators.{Gives, FitsAs}
 use Rattle.source_soundness.proofs.Soundness.{keeps_bind, keeps_or_trap, some_of, scalar_value, array_of, object_of, read_promoted, Storable, stepped_storable, converts_scalar, unit_storable, names_live, entry_type, field_lies, element_lies, given_struct, steps_none, element_step, PointerTo, pointer_to_type, value_fits, arguments_keep, place_keeps, root_keeps}
 use Rattle.source_soundness.proofs.SizedObjects.{whole_within, moves_within, within_of_pointer, pointee_within, loaded_sized, stored_sized}

@@ -29,7 +29,8 @@ use Rattle.source_meaning.specs.Expressions.{Context, sizes, type_or_int, decaye
 use Rattle.source_soundness.specs.Worlds.{World, type_in, LocationFits}
 use Rattle.source_soundness.specs.Laws.{ContextFits}
 use Rattle.source_soundness.specs.Sizes.{object_cells, PointsWithin, Sized, ValueSized, LiesWithin, CallsKeepSizes}
-use Rattle.source_soundness.proofs.Tests.{left, right, never, equal_options, equal_elems}
+use Rattle.typed_tree.proofs.SameTypes.{equal_options, equal_elems}
+use Rattle.source_soundness.proofs.Tests.{left, right, never}
 use Rattle.source_soundness.proofs.Operators.{Gives, same_promoted_is}
 use Rattle.source_soundness.proofs.Steps.{when, IsInt, arithmetic_int, shift_int, moved_is, field_is}
 use Rattle.source_soundness.proofs.Layouts.{field_within}

@@ -39,7 +39,8 @@ use Rattle.source_meaning.specs.Expressions as x
 use Rattle.source_meaning.specs.Expressions.{Frame, Calls, Context, sizes, or_trap, type_at, field_at, decayed, address_of, dereferenced, indexed, loaded, stored_in, store, compounded, cell_or_trap, step_gives, counted, is_decided, type_or_int, type_of, value_of, form_value, values_of, links_value, link_value, operands_value, operand_value, location_of, root_location, assigned_location, form_location, steps_location, step_location}
 use Rattle.source_soundness.specs.Worlds.{World, type_in, is_pointer, IsNumber, IsScoped, Fits, ValueFits, PartFits, LocationFits}
 use Rattle.source_soundness.specs.Laws.{Keeps, ArgumentsFit, ContextFits}
-use Rattle.source_soundness.proofs.Tests.{left, right, never, equal_options, equal_elems, got, got_or}
+use Rattle.typed_tree.proofs.SameTypes.{equal_options, equal_elems}
+use Rattle.source_soundness.proofs.Tests.{left, right, never, got, got_or}
 use Rattle.source_soundness.proofs.Objects.{plain_part, loaded_fits, stored_fits}
 use Rattle.source_soundness.proofs.Operators.{Gives, FitsAs, gives_number, moves, scoped_of_pointer, unary_gives, converted_fits}
 use Rattle.source_soundness.proofs.Steps.{step_fits, plain_elem, plain_in, whole_part, pointee_fits, field_is}

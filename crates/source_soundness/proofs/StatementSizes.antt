@@ -34,7 +34,8 @@ use Rattle.source_meaning.specs.Statements.{Code, no_expr, outermost, Flow, goes
 use Rattle.source_soundness.specs.Worlds.{World, type_in, is_pointer, Fits, ValueFits}
 use Rattle.source_soundness.specs.Laws.{Keeps, CodeFits}
 use Rattle.source_soundness.specs.Sizes.{object_cells, PointsWithin, Sized, KeepsSizes, ValueSized, CallsKeepSizes}
-use Rattle.source_soundness.proofs.Tests.{left, right, never, equal_options, got_or}
+use Rattle.typed_tree.proofs.SameTypes.{equal_options}
+use Rattle.source_soundness.proofs.Tests.{left, right, never, got_or}
 use Rattle.source_soundness.proofs.Objects.{stored_fits}
 use Rattle.source_soundness.proofs.Soundness.{names_live, entry_type, value_fits}
 use Rattle.source_soundness.proofs.StatementSoundness.{Passed, Entry, lies, clearing, same_as, number_stored}

@@ -30,7 +30,8 @@ use Rattle.source_meaning.specs.Expressions.{sizes, type_at, value_of, store, st
 use Rattle.source_meaning.specs.Statements.{Code, no_expr, outermost, Flow, goes_on, broke, continues, returned, after_flow, variable_at, items_stored, initialised, cleared_at, declared, Round, again, leaves, body_round, after_round, looped, tested, stepped_first, tested_later, for_begins, chosen, past_switch, statement, otherwise_of, all_of, sections_from}
 use Rattle.source_soundness.specs.Worlds.{World, type_in, is_pointer, AreNumbers, CellsFit, Fits, ValueFits, LocationFits}
 use Rattle.source_soundness.specs.Laws.{Keeps, FlowFits, CodeFits}
-use Rattle.source_soundness.proofs.Tests.{left, right, never, equal_options, equal_ints, got_or}
+use Rattle.typed_tree.proofs.SameTypes.{equal_options, equal_ints}
+use Rattle.source_soundness.proofs.Tests.{left, right, never, got_or}
 use Rattle.source_soundness.proofs.Memories.{put_fits, number_written}
 use Rattle.source_soundness.proofs.Soundness.{keeps_bind, keeps_either, keeps_store, names_live, entry_type, names_variable, value_fits}
 

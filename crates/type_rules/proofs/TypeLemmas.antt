@@ -7,9 +7,7 @@ use Rattle.pt_base.specs.declared.int_type.IntType.TheVariants.{Char, SChar, UCh
 use Rattle.pt_tree.specs.declared.signature.Elem.{Elem}
 use Rattle.pt_tree.specs.declared.signature.Elem.TheVariants as elem
 use Rattle.type_rules.specs.Types.{is_same_int, is_same_elem}
-
-same_number : (a b : ℕ) → nat_eq a b ≡ true → a ≡ b
-same_number a b h = grind (arith, nat_tests)
+use Rattle.pt_base.proofs.SameNumbers.{same_number}
 
 number-self : (a : ℕ) → nat_eq a a ≡ true
 number-self a = grind (arith, nat_tests)

@@ -1,14 +1,16 @@
--- Types that a test calls equal are equal.
-use Rattle.std.proofs.Common.{◌≡◌, ◌∙◌, ℕ, zero, suc, nat_eq, refl, ap, sym, arith, Bool, true, false}
-use Rattle.std.proofs.lemmas.Bool.Decides.{nat_tests}
+-- Types that a test calls equal are equal, and each is equal to itself.
+use Rattle.std.proofs.Common.{◌≡◌, ◌∙◌, ℕ, zero, suc, nat_eq, refl, ap, sym, Bool, true, false, Option, Some, None}
 use Rattle.pt_base.specs.declared.int_type.IntType.{IntType}
 use Rattle.pt_base.specs.declared.int_type.IntType.TheVariants.{Char, SChar, UChar, Short, UShort, Int, UInt, Long, ULong}
+use Rattle.pt_base.proofs.SameNumbers.{same_number, number_self}
 use Rattle.pt_tree.specs.declared.signature.Elem.{Elem}
 use Rattle.pt_tree.specs.declared.signature.Elem.TheVariants as elem
 use Rattle.typed_tree.specs.declared.types.VarTy.{VarTy}
 use Rattle.typed_tree.specs.declared.types.VarTy.TheVariants as v
-use Rattle.typed_tree.specs.TypeTests.{place_of, same_int, same_elem, same_bool, same_type}
-use Rattle.typed_tree.proofs.WellFormedLemmas.{and_left, and_right}
+use Rattle.typed_tree.specs.TypeTests.{place_of, same_int, same_elem, same_bool, same_type, same_types}
+use Rattle.typed_tree.proofs.WellFormedLemmas.{and_left, and_right, and_both}
+
+-- ---- equal types
 
 abbrev int_at : ℕ → IntType
 int_at zero = Char
@@ -32,13 +34,10 @@ int_there UInt = refl
 int_there Long = refl
 int_there ULong = refl
 
-same_number : (a b : ℕ) → nat_eq a b ≡ true → a ≡ b
-same_number a b h = grind (arith, nat_tests)
-
 pub equal_ints : (a b : IntType) → same_int a b ≡ true → a ≡ b
 equal_ints a b h = sym (int_there a) ∙ ap int_at (same_number (place_of a) (place_of b) h) ∙ int_there b
 
-equal_bools : (a b : Bool) → same_bool a b ≡ true → a ≡ b
+pub equal_bools : (a b : Bool) → same_bool a b ≡ true → a ≡ b
 equal_bools true b h = sym h
 equal_bools false true h = cc
 equal_bools false false h = refl
@@ -68,3 +67,28 @@ equal_types (v.Array a m) (v.Pointer b g) h = cc
 equal_types (v.Pointer a f) (v.Int b) h = cc
 equal_types (v.Pointer a f) (v.Struct n) h = cc
 equal_types (v.Pointer a f) (v.Array b n) h = cc
+
+pub equal_options : (a b : Option VarTy) → same_types a b ≡ true → a ≡ b
+equal_options None None h = refl
+equal_options None (Some b) h = cc
+equal_options (Some a) None h = cc
+equal_options (Some a) (Some b) h = ap Some (equal_types a b h)
+
+-- ---- a type is the same as itself
+
+pub int_self : (a : IntType) → same_int a a ≡ true
+int_self a = number_self (place_of a)
+
+pub elem_self : (a : Elem) → same_elem a a ≡ true
+elem_self (elem.Int a) = int_self a
+elem_self (elem.Struct n) = number_self n
+
+pub bool_self : (f : Bool) → same_bool f f ≡ true
+bool_self true = refl
+bool_self false = refl
+
+pub type_self : (a : VarTy) → same_type a a ≡ true
+type_self (v.Int t) = int_self t
+type_self (v.Struct n) = number_self n
+type_self (v.Array e count) = and_both (same_elem e e) (nat_eq count count) (elem_self e) (number_self count)
+type_self (v.Pointer e fixed) = and_both (same_elem e e) (same_bool fixed fixed) (elem_self e) (bool_self fixed)
