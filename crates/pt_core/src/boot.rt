@@ -7,7 +7,6 @@ use pt_tree::HostModel;
 use typed_tree::StructInfo;
 
 /// What the slave starts from: its program, what stands for its hosts, the input and the budget.
-#[derive(Drop)]
 pub struct Boot {
     pub structs: Listed<StructInfo>,
     pub signatures: Signatures,
@@ -18,4 +17,18 @@ pub struct Boot {
     pub input: Bytes,
     /// How many turns the run has.
     pub turns: u32,
+}
+
+impl Drop for Boot {
+    fn drop(self) {
+        let Boot {
+            structs: _structs,
+            signatures: _signatures,
+            functions: _functions,
+            globals: _globals,
+            hosts: _hosts,
+            input: _input,
+            turns: _,
+        } = self;
+    }
 }

@@ -7,7 +7,6 @@ use crate::place::Place;
 use pt_base::{FnId, Span, VarId};
 
 /// A statement.
-#[derive(Drop)]
 #[cycle(statements)]
 pub enum Stmt {
     /// The cells of a variable become zero, or a pointer null.
@@ -52,6 +51,39 @@ pub enum Stmt {
     Return {
         value: Option<Expr>,
     },
+}
+
+impl Drop for Stmt {
+    #[cycle(statements)]
+    fn drop(self) {
+        match self {
+            Stmt::Clear { var: _ } => {}
+            Stmt::Check { place: _place } => {}
+            Stmt::Assign {
+                place: _place,
+                value: _value,
+            } => {}
+            Stmt::Copy { to: _to, of: _of } => {}
+            Stmt::Call {
+                callee: _,
+                args: _args,
+                result: _,
+                span: _,
+            } => {}
+            Stmt::If {
+                cond: _cond,
+                yes: _yes,
+                no: _no,
+            } => {}
+            Stmt::Loop {
+                body: _body,
+                span: _,
+            } => {}
+            Stmt::Break => {}
+            Stmt::Continue => {}
+            Stmt::Return { value: _value } => {}
+        }
+    }
 }
 
 impl Stmt {

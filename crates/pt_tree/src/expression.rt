@@ -11,7 +11,6 @@ use std::alloc::{AllocError, Global};
 
 /// An expression (C99 6.5). A span has the first to past the last of its tokens; parentheses round
 /// an expression belong to what it stands in.
-#[derive(Drop)]
 #[cycle(expressions)]
 pub enum Expr {
     Name(Word),
@@ -30,9 +29,24 @@ pub enum Expr {
     Assign(Span, Option<BinaryOp>, Box<Expr>, Box<Expr>),
 }
 
+impl Drop for Expr {
+    #[cycle(expressions)]
+    fn drop(self) {
+        match self {
+            Expr::Name(_inner) => {}
+            Expr::Constant(_) => {}
+            Expr::Prefix(_, _, _inner) => {}
+            Expr::Cast(_, _first, _, _second) => {}
+            Expr::Postfix(_, _first, _second) => {}
+            Expr::Chain(_, _first, _second) => {}
+            Expr::Choice(_, _first, _second, _third) => {}
+            Expr::Assign(_, _, _first, _second) => {}
+        }
+    }
+}
+
 /// An operator and its right operand, whose span is that of both. The left operand is all that the
 /// chain has before.
-#[derive(Drop)]
 #[cycle(expressions)]
 pub struct Link {
     pub span: Span,
@@ -40,8 +54,18 @@ pub struct Link {
     pub operand: Expr,
 }
 
+impl Drop for Link {
+    #[cycle(expressions)]
+    fn drop(self) {
+        let Link {
+            span: _,
+            op: _,
+            operand: _operand,
+        } = self;
+    }
+}
+
 /// What stands behind an operand, with its own span. The operand is all that stands before.
-#[derive(Drop)]
 #[cycle(expressions)]
 pub enum Postfix {
     Index(Span, Expr),
@@ -52,6 +76,20 @@ pub enum Postfix {
     Arrow(Span, Word),
     Increment(Span),
     Decrement(Span),
+}
+
+impl Drop for Postfix {
+    #[cycle(expressions)]
+    fn drop(self) {
+        match self {
+            Postfix::Index(_, _inner) => {}
+            Postfix::Call(_, _inner) => {}
+            Postfix::Field(_, _inner) => {}
+            Postfix::Arrow(_, _inner) => {}
+            Postfix::Increment(_) => {}
+            Postfix::Decrement(_) => {}
+        }
+    }
 }
 
 impl Expr {

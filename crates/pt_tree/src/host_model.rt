@@ -5,7 +5,6 @@ use pt_base::Bytes;
 use std::alloc::{AllocError, Global};
 
 /// How a host answers its calls.
-#[derive(Drop)]
 pub enum HostModel {
     /// By the first row with the call's arguments, else by `other`.
     Table {
@@ -31,6 +30,25 @@ pub enum HostModel {
     Line {
         name: Bytes,
     },
+}
+
+impl Drop for HostModel {
+    fn drop(self) {
+        match self {
+            HostModel::Table {
+                rows: _rows,
+                other: _,
+            } => {}
+            HostModel::Feed {
+                values: _values,
+                other: _,
+                next: _,
+            } => {}
+            HostModel::Input { next: _ } => {}
+            HostModel::Bytes => {}
+            HostModel::Line { name: _name } => {}
+        }
+    }
 }
 
 impl HostModel {

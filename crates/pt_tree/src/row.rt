@@ -6,10 +6,18 @@ use std::alloc::{AllocError, Global};
 pub type Numbers = Listed<i128>;
 
 /// A row of a table: what it answers where a call has these arguments.
-#[derive(Drop)]
 pub struct Row {
     pub args: Numbers,
     pub result: i128,
+}
+
+impl Drop for Row {
+    fn drop(self) {
+        let Row {
+            args: _args,
+            result: _,
+        } = self;
+    }
 }
 
 impl Row {

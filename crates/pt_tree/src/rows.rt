@@ -7,11 +7,19 @@ use std::marker::Model;
 
 /// The rows of a table, in order. Contracts see it as their list. A call's row is found by its
 /// arguments, without a walk over the rows.
-#[derive(Drop)]
 pub struct Rows {
     rows: Vec<Row>,
     // The result of the first row with these arguments.
     first: BTreeMap<Vec<i128>, i128>,
+}
+
+impl Drop for Rows {
+    fn drop(self) {
+        let Rows {
+            rows: _rows,
+            first: _first,
+        } = self;
+    }
 }
 
 impl Model for Rows {

@@ -32,7 +32,6 @@ pub struct Param {
 pub type Params = Listed<Param>;
 
 /// What a function or host is called with, and how it is marked.
-#[derive(Drop)]
 pub struct Signature {
     pub name: Bytes,
     /// The type of its result; None is void.
@@ -44,6 +43,19 @@ pub struct Signature {
     pub privileged: bool,
     /// It is marked `declassify`.
     pub declassify: bool,
+}
+
+impl Drop for Signature {
+    fn drop(self) {
+        let Signature {
+            name: _name,
+            result: _result,
+            params: _params,
+            host: _,
+            privileged: _,
+            declassify: _,
+        } = self;
+    }
 }
 
 impl Signature {

@@ -22,7 +22,6 @@ pub enum SpecWord {
 
 /// One specifier of a declaration (C99 6.7). A struct without a body has no fields here, since the
 /// grammar knows no empty body.
-#[derive(Drop)]
 #[cycle(specifiers)]
 pub enum Spec {
     Attribute(Span, Vec<Word>),
@@ -30,13 +29,34 @@ pub enum Spec {
     Struct(Span, Word, Vec<FieldDecl>),
 }
 
+impl Drop for Spec {
+    #[cycle(specifiers)]
+    fn drop(self) {
+        match self {
+            Spec::Attribute(_, _inner) => {}
+            Spec::Keyword(_, _) => {}
+            Spec::Struct(_, _first, _second) => {}
+        }
+    }
+}
+
 /// A declaration in the body of a struct (C99 6.7.2.1).
-#[derive(Drop)]
 #[cycle(specifiers)]
 pub struct FieldDecl {
     pub span: Span,
     pub specs: Vec<Spec>,
     pub declarators: Vec<Declarator>,
+}
+
+impl Drop for FieldDecl {
+    #[cycle(specifiers)]
+    fn drop(self) {
+        let FieldDecl {
+            span: _,
+            specs: _specs,
+            declarators: _declarators,
+        } = self;
+    }
 }
 
 /// What stands behind a declared name.
@@ -51,12 +71,22 @@ pub enum Suffix {
 }
 
 /// A declared name with what stands round it (C99 6.7.5).
-#[derive(Drop)]
 pub struct Declarator {
     pub span: Span,
     pub pointer: bool,
     pub name: Word,
     pub suffix: Suffix,
+}
+
+impl Drop for Declarator {
+    fn drop(self) {
+        let Declarator {
+            span: _,
+            pointer: _,
+            name: _name,
+            suffix: _,
+        } = self;
+    }
 }
 
 impl Spec {

@@ -9,7 +9,6 @@ use pt_base::Span;
 use std::alloc::{AllocError, Global};
 
 /// A statement (C99 6.8), or a declaration among the items of a block.
-#[derive(Drop)]
 #[cycle(statements)]
 pub enum Stmt {
     Declare(Declaration),
@@ -26,16 +25,44 @@ pub enum Stmt {
     Switch(Span, Expr, Vec<Section>),
 }
 
+impl Drop for Stmt {
+    #[cycle(statements)]
+    fn drop(self) {
+        match self {
+            Stmt::Declare(_inner) => {}
+            Stmt::Block(_inner) => {}
+            Stmt::Empty(_) => {}
+            Stmt::Expr(_, _inner) => {}
+            Stmt::If(_, _first, _second, _third) => {}
+            Stmt::While(_, _first, _second) => {}
+            Stmt::Do(_, _first, _second) => {}
+            Stmt::For(_, _first, _second, _third, _fourth) => {}
+            Stmt::Return(_, _inner) => {}
+            Stmt::Break(_) => {}
+            Stmt::Continue(_) => {}
+            Stmt::Switch(_, _first, _second) => {}
+        }
+    }
+}
+
 /// Braces with the declarations and statements between them (C99 6.8.2).
-#[derive(Drop)]
 #[cycle(statements)]
 pub struct Block {
     pub span: Span,
     pub items: Vec<Stmt>,
 }
 
+impl Drop for Block {
+    #[cycle(statements)]
+    fn drop(self) {
+        let Block {
+            span: _,
+            items: _items,
+        } = self;
+    }
+}
+
 /// A label of a switch and the statements up to the next one.
-#[derive(Drop)]
 #[cycle(statements)]
 pub struct Section {
     pub span: Span,
@@ -43,19 +70,47 @@ pub struct Section {
     pub statements: Vec<Stmt>,
 }
 
+impl Drop for Section {
+    #[cycle(statements)]
+    fn drop(self) {
+        let Section {
+            span: _,
+            label: _label,
+            statements: _statements,
+        } = self;
+    }
+}
+
 /// A label of a switch (C99 6.8.1).
-#[derive(Drop)]
 pub enum Label {
     Case(Span, Expr),
     Default(Span),
 }
 
+impl Drop for Label {
+    fn drop(self) {
+        match self {
+            Label::Case(_, _inner) => {}
+            Label::Default(_) => {}
+        }
+    }
+}
+
 /// What stands first in the parentheses of a `for`.
-#[derive(Drop)]
 pub enum ForInit {
     Declare(Declaration),
     Nothing,
     Expr(Expr),
+}
+
+impl Drop for ForInit {
+    fn drop(self) {
+        match self {
+            ForInit::Declare(_inner) => {}
+            ForInit::Nothing => {}
+            ForInit::Expr(_inner) => {}
+        }
+    }
 }
 
 impl Stmt {

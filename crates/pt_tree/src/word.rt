@@ -2,10 +2,18 @@
 use pt_base::{Bytes, IntType, Span};
 
 /// An identifier.
-#[derive(Drop)]
 pub struct Word {
     pub span: Span,
     pub bytes: Bytes,
+}
+
+impl Drop for Word {
+    fn drop(self) {
+        let Word {
+            span: _,
+            bytes: _bytes,
+        } = self;
+    }
 }
 
 /// An integer or character constant.

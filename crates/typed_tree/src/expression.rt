@@ -12,7 +12,6 @@ use std::alloc::{AllocError, Global};
 /// An expression (C99 6.5) with its type, each conversion being a form of its own. A span has the
 /// first to past the last of its tokens; parentheses round an expression belong to what it stands
 /// in.
-#[derive(Drop)]
 #[cycle(expressions)]
 pub struct TypedExpr {
     pub span: Span,
@@ -21,8 +20,18 @@ pub struct TypedExpr {
     pub form: Form,
 }
 
+impl Drop for TypedExpr {
+    #[cycle(expressions)]
+    fn drop(self) {
+        let TypedExpr {
+            span: _,
+            ty: _,
+            form: _form,
+        } = self;
+    }
+}
+
 /// What an expression does.
-#[derive(Drop)]
 #[cycle(expressions)]
 pub enum Form {
     /// A number in the range of the expression's type.
@@ -69,6 +78,39 @@ pub enum Form {
     },
     /// A call, with one argument for each parameter, converted to its type.
     Call(FnId, Vec<TypedExpr>),
+}
+
+impl Drop for Form {
+    #[cycle(expressions)]
+    fn drop(self) {
+        match self {
+            Form::Constant(_) => {}
+            Form::Null => {}
+            Form::Read(_inner) => {}
+            Form::Decay(_inner) => {}
+            Form::Address(_inner) => {}
+            Form::Unary(_, _inner) => {}
+            Form::Convert(_inner) => {}
+            Form::Discard(_inner) => {}
+            Form::Chain(_first, _second) => {}
+            Form::Logical(_, _first, _second) => {}
+            Form::Choice(_first, _second, _third) => {}
+            Form::Assign(_first, _second) => {}
+            Form::Compound {
+                place: _place,
+                at: _,
+                step: _,
+                operand: _operand,
+            } => {}
+            Form::Step {
+                place: _place,
+                at: _,
+                back: _,
+                postfix: _,
+            } => {}
+            Form::Call(_, _inner) => {}
+        }
+    }
 }
 
 impl Form {

@@ -5,7 +5,6 @@ use pt_base::Span;
 use pt_tree::Signature;
 
 /// A function or host.
-#[derive(Drop)]
 pub struct TypedFn {
     pub signature: Signature,
     /// Where its name stands: in its definition, and of a host in its first declaration.
@@ -14,4 +13,15 @@ pub struct TypedFn {
     pub vars: Vars,
     /// None of a host.
     pub body: Option<TypedBody>,
+}
+
+impl Drop for TypedFn {
+    fn drop(self) {
+        let TypedFn {
+            signature: _signature,
+            name: _,
+            vars: _vars,
+            body: _body,
+        } = self;
+    }
 }

@@ -5,7 +5,6 @@ use pt_base::{IntType, Span};
 use pt_int::BinOp;
 
 /// A step from the value so far, with its right operand.
-#[derive(Drop)]
 #[cycle(expressions)]
 pub struct TypedLink {
     /// All of the chain up to and with this operand.
@@ -16,13 +15,34 @@ pub struct TypedLink {
     pub operand: TypedExpr,
 }
 
+impl Drop for TypedLink {
+    #[cycle(expressions)]
+    fn drop(self) {
+        let TypedLink {
+            span: _,
+            ty: _,
+            step: _,
+            operand: _operand,
+        } = self;
+    }
+}
+
 /// An operand of `&&` or `||` behind the first.
-#[derive(Drop)]
 #[cycle(expressions)]
 pub struct TypedOperand {
     /// All of the chain up to and with this operand.
     pub span: Span,
     pub operand: TypedExpr,
+}
+
+impl Drop for TypedOperand {
+    #[cycle(expressions)]
+    fn drop(self) {
+        let TypedOperand {
+            span: _,
+            operand: _operand,
+        } = self;
+    }
 }
 
 /// How a value is made from the one so far and an operand.

@@ -7,15 +7,23 @@ use pt_base::{GlobalId, Span, VarId};
 use std::alloc::{AllocError, Global};
 
 /// An object (C99 6.3.2.1): where it begins, and the way from there into its parts.
-#[derive(Drop)]
 #[cycle(expressions)]
 pub struct Place {
     pub root: Root,
     pub steps: Vec<PlaceStep>,
 }
 
+impl Drop for Place {
+    #[cycle(expressions)]
+    fn drop(self) {
+        let Place {
+            root: _root,
+            steps: _steps,
+        } = self;
+    }
+}
+
 /// Where a place begins.
-#[derive(Drop)]
 #[cycle(expressions)]
 pub enum Root {
     /// A variable of the function.
@@ -28,8 +36,22 @@ pub enum Root {
     Assigned(Box<TypedExpr>),
 }
 
+impl Drop for Root {
+    #[cycle(expressions)]
+    fn drop(self) {
+        match self {
+            Root::Local(_) => {}
+            Root::Global(_) => {}
+            Root::Deref {
+                pointer: _pointer,
+                span: _,
+            } => {}
+            Root::Assigned(_inner) => {}
+        }
+    }
+}
+
 /// A step into a part of an object.
-#[derive(Drop)]
 #[cycle(expressions)]
 pub enum PlaceStep {
     /// The field of this number of a struct.
@@ -37,6 +59,19 @@ pub enum PlaceStep {
     /// An element of an array: the array decays, the pointer is moved by the index and
     /// dereferenced, all with this span.
     Item { index: TypedExpr, span: Span },
+}
+
+impl Drop for PlaceStep {
+    #[cycle(expressions)]
+    fn drop(self) {
+        match self {
+            PlaceStep::Field(_) => {}
+            PlaceStep::Item {
+                index: _index,
+                span: _,
+            } => {}
+        }
+    }
 }
 
 impl Root {

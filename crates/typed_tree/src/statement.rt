@@ -7,7 +7,6 @@ use pt_base::{IntType, Listed, Span, VarId};
 use std::alloc::{AllocError, Global};
 
 /// A statement (C99 6.8), or a declaration among the items of a block.
-#[derive(Drop)]
 #[cycle(statements)]
 pub enum TypedBody {
     Block(Span, Vec<TypedBody>),
@@ -26,13 +25,43 @@ pub enum TypedBody {
     Switch(Span, ExprId, IntType, Vec<TypedSection>),
 }
 
+impl Drop for TypedBody {
+    #[cycle(statements)]
+    fn drop(self) {
+        match self {
+            TypedBody::Block(_, _inner) => {}
+            TypedBody::Empty(_) => {}
+            TypedBody::Evaluate(_, _) => {}
+            TypedBody::Declare(_inner) => {}
+            TypedBody::If(_, _, _first, _second) => {}
+            TypedBody::While(_, _, _inner) => {}
+            TypedBody::Do(_, _inner, _) => {}
+            TypedBody::For(_, _first, _, _, _second) => {}
+            TypedBody::Return(_, _) => {}
+            TypedBody::Break(_) => {}
+            TypedBody::Continue(_) => {}
+            TypedBody::Switch(_, _, _, _inner) => {}
+        }
+    }
+}
+
 /// A label of a switch and the statements up to the next one.
-#[derive(Drop)]
 #[cycle(statements)]
 pub struct TypedSection {
     pub span: Span,
     pub label: TypedLabel,
     pub statements: Vec<TypedBody>,
+}
+
+impl Drop for TypedSection {
+    #[cycle(statements)]
+    fn drop(self) {
+        let TypedSection {
+            span: _,
+            label: _label,
+            statements: _statements,
+        } = self;
+    }
 }
 
 /// A label of a switch (C99 6.8.1).
@@ -44,24 +73,39 @@ pub enum TypedLabel {
 }
 
 /// A declaration of variables (C99 6.7).
-#[derive(Drop)]
 pub struct TypedDeclaration {
     pub span: Span,
     pub declarators: Listed<TypedDeclarator>,
 }
 
+impl Drop for TypedDeclaration {
+    fn drop(self) {
+        let TypedDeclaration {
+            span: _,
+            declarators: _declarators,
+        } = self;
+    }
+}
+
 /// A declared variable, whose cells become zero each time it is reached, and its initialiser.
-#[derive(Drop)]
 pub struct TypedDeclarator {
     pub var: VarId,
     pub init: TypedInit,
+}
+
+impl Drop for TypedDeclarator {
+    fn drop(self) {
+        let TypedDeclarator {
+            var: _,
+            init: _init,
+        } = self;
+    }
 }
 
 /// The numbers of a brace list's items, in order.
 pub type Items = Listed<ExprId>;
 
 /// What a declared variable starts with (C99 6.7.8).
-#[derive(Drop)]
 pub enum TypedInit {
     Nothing,
     /// A value of its type.
@@ -70,12 +114,31 @@ pub enum TypedInit {
     Items(Span, Items),
 }
 
+impl Drop for TypedInit {
+    fn drop(self) {
+        match self {
+            TypedInit::Nothing => {}
+            TypedInit::Value(_) => {}
+            TypedInit::Items(_, _inner) => {}
+        }
+    }
+}
+
 /// What stands first in the parentheses of a `for`.
-#[derive(Drop)]
 pub enum TypedForInit {
     Nothing,
     Declare(TypedDeclaration),
     Evaluate(ExprId),
+}
+
+impl Drop for TypedForInit {
+    fn drop(self) {
+        match self {
+            TypedForInit::Nothing => {}
+            TypedForInit::Declare(_inner) => {}
+            TypedForInit::Evaluate(_) => {}
+        }
+    }
 }
 
 impl TypedBody {

@@ -16,7 +16,6 @@ pub enum VarTy {
 }
 
 /// A field of a struct.
-#[derive(Drop)]
 pub struct Field {
     pub name: Bytes,
     pub ty: VarTy,
@@ -24,14 +23,32 @@ pub struct Field {
     pub marked: bool,
 }
 
+impl Drop for Field {
+    fn drop(self) {
+        let Field {
+            name: _name,
+            ty: _,
+            marked: _,
+        } = self;
+    }
+}
+
 /// The fields of a struct, in order.
 pub type Fields = Listed<Field>;
 
 /// A struct: its tag and its fields.
-#[derive(Drop)]
 pub struct StructInfo {
     pub name: Bytes,
     pub fields: Fields,
+}
+
+impl Drop for StructInfo {
+    fn drop(self) {
+        let StructInfo {
+            name: _name,
+            fields: _fields,
+        } = self;
+    }
 }
 
 impl Field {

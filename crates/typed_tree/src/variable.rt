@@ -4,7 +4,6 @@ use pt_base::{Bytes, Listed, Span};
 use std::alloc::{AllocError, Global};
 
 /// An object: a variable of a function or a global.
-#[derive(Drop)]
 pub struct Var {
     pub name: Bytes,
     /// Where it is declared.
@@ -18,6 +17,19 @@ pub struct Var {
     pub holds: Option<Span>,
 }
 
+impl Drop for Var {
+    fn drop(self) {
+        let Var {
+            name: _name,
+            span: _,
+            ty: _,
+            marked: _,
+            unpriv: _,
+            holds: _,
+        } = self;
+    }
+}
+
 /// The variables of a function, its parameters first.
 pub type Vars = Listed<Var>;
 
@@ -25,7 +37,6 @@ pub type Vars = Listed<Var>;
 pub type Cells = Listed<i128>;
 
 /// A global with the values that it starts with.
-#[derive(Drop)]
 pub struct TypedGlobal {
     pub var: Var,
     /// It is const.
@@ -33,6 +44,17 @@ pub struct TypedGlobal {
     /// It is marked `declassify`.
     pub declassify: bool,
     pub cells: Cells,
+}
+
+impl Drop for TypedGlobal {
+    fn drop(self) {
+        let TypedGlobal {
+            var: _var,
+            fixed: _,
+            declassify: _,
+            cells: _cells,
+        } = self;
+    }
 }
 
 impl Var {
