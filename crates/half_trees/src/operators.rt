@@ -94,37 +94,21 @@ fn chain_of(alloc: Global, op: BinaryOp, a: Expr, b: Expr) -> Result<Expr, Alloc
     Expr::chained(alloc, NOWHERE, a, links)
 }
 
-// A chain with a link more.
-fn longer(op: BinaryOp, first: Box<Expr>, mut links: Vec<Link>, b: Expr) -> Result<Expr, AllocError>
-    ensures { IfOk result (λ e. view_expr e ≡ chain names.nowhere (view_expr first.value) (trees.with_link (link_trees (map view_link links.items)) (trees.one_link op (view_expr b)))) }
-{
-    links.push(Link {
-        span: NOWHERE,
-        op,
-        operand: b,
-    })?;
-    Ok(Expr::Chain(NOWHERE, first, links))
-}
-
 /// Two operands and the operator between them; a left operand that is a chain of operators that
 /// bind alike is made longer, in constant time on average.
-pub(crate) fn linked(alloc: Global, op: BinaryOp, a: Expr, b: Expr) -> Result<Expr, AllocError>
+pub(crate) fn linked(alloc: Global, op: BinaryOp, mut a: Expr, b: Expr) -> Result<Expr, AllocError>
     ensures { IfOk result (λ e. view_expr e ≡ trees.linked op (view_expr a) (view_expr b)) }
 {
-    match a {
-        Expr::Chain(span, first, links) => {
-            if are_alike(&links, op) {
-                longer(op, first, links, b)
-            } else {
-                chain_of(alloc, op, Expr::Chain(span, first, links), b)
-            }
+    if let Expr::Chain(span, _, links) = &mut a {
+        if are_alike(links, op) {
+            *span = NOWHERE;
+            links.push(Link {
+                span: NOWHERE,
+                op,
+                operand: b,
+            })?;
+            return Ok(a);
         }
-        Expr::Name(_)
-        | Expr::Constant(_)
-        | Expr::Prefix(..)
-        | Expr::Cast(..)
-        | Expr::Postfix(..)
-        | Expr::Choice(..)
-        | Expr::Assign(..) => chain_of(alloc, op, a, b),
     }
+    chain_of(alloc, op, a, b)
 }

@@ -12,33 +12,21 @@ use pt_tree::{Expr, Postfix, PrefixOp};
 use std::alloc::{AllocError, Global};
 use typed_tree::{Field, StructInfo, VarTy};
 
-// The operand's postfixes and more.
-fn longer(
-    operand: Box<Expr>,
-    mut postfixes: Vec<Postfix>,
-    mut more: Vec<Postfix>,
-) -> Result<Expr, AllocError>
-    ensures { IfOk result (λ e. view_expr e ≡ postfix names.nowhere (view_expr operand.value) (trees.with_postfixes (postfix_trees (map view_postfix postfixes.items)) (map view_postfix more.items))) }
-{
-    postfixes.append(&mut more)?;
-    Ok(Expr::Postfix(NOWHERE, operand, postfixes))
-}
-
 /// An operand with what stands behind it, at least one postfix. An operand that has some already is
 /// made longer.
-pub(crate) fn extended(alloc: Global, a: Expr, more: Vec<Postfix>) -> Result<Expr, AllocError>
+pub(crate) fn extended(
+    alloc: Global,
+    mut a: Expr,
+    mut more: Vec<Postfix>,
+) -> Result<Expr, AllocError>
     ensures { IfOk result (λ e. view_expr e ≡ trees.extended (view_expr a) (map view_postfix more.items)) }
 {
-    match a {
-        Expr::Postfix(_, operand, postfixes) => longer(operand, postfixes, more),
-        Expr::Name(_)
-        | Expr::Constant(_)
-        | Expr::Prefix(..)
-        | Expr::Cast(..)
-        | Expr::Chain(..)
-        | Expr::Choice(..)
-        | Expr::Assign(..) => Expr::with_postfixes(alloc, NOWHERE, a, more),
+    if let Expr::Postfix(span, _, postfixes) = &mut a {
+        *span = NOWHERE;
+        postfixes.append(&mut more)?;
+        return Ok(a);
     }
+    Expr::with_postfixes(alloc, NOWHERE, a, more)
 }
 
 /// The same, or the operand alone where nothing stands behind it.

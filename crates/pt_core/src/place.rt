@@ -7,6 +7,7 @@ use pt_base::{GlobalId, Span, VarId};
 use std::alloc::{AllocError, Global};
 
 /// An object: where it begins, and the fields that lead from there into its parts.
+#[derive(Drop)]
 #[cycle(expressions)]
 pub struct Place {
     pub root: Root,
@@ -14,17 +15,8 @@ pub struct Place {
     pub path: Vec<u32>,
 }
 
-impl Drop for Place {
-    #[cycle(expressions)]
-    fn drop(self) {
-        let Place {
-            root: _root,
-            path: _path,
-        } = self;
-    }
-}
-
 /// Where a place begins.
+#[derive(Drop)]
 #[cycle(expressions)]
 pub enum Root {
     /// A variable of the function.
@@ -32,20 +24,6 @@ pub enum Root {
     Global(GlobalId),
     /// What a pointer points to. The span is that of a trap.
     Deref { pointer: Box<Expr>, span: Span },
-}
-
-impl Drop for Root {
-    #[cycle(expressions)]
-    fn drop(self) {
-        match self {
-            Root::Local(_) => {}
-            Root::Global(_) => {}
-            Root::Deref {
-                pointer: _pointer,
-                span: _,
-            } => {}
-        }
-    }
 }
 
 impl Root {
