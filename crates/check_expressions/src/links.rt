@@ -14,6 +14,7 @@ use pt_base::{IntType, Span};
 use pt_int::BinOp;
 use pt_tree::{BinaryOp, Link};
 use std::alloc::{AllocError, Global};
+use std::mem::replace;
 use type_rules::{Rule, Type, Value, binary_rule, rule_type};
 use typed_tree::{Form, LinkStep, LogicalOp, TypedExpr, TypedLink, TypedOperand, VarTy};
 
@@ -195,10 +196,15 @@ fn operands(alloc: Global, links: Vec<TypedLink>) -> Result<Vec<TypedOperand>, A
     ensures { IfOk result (λ os. map view_operand os.items ≡ map is.operand_of (map view_link links.items)) }
 {
     let mut operands = Vec::with_capacity(alloc, links.len())?;
-    for link in links {
+    for mut link in links {
+        let nothing = TypedExpr {
+            span: link.span,
+            ty: None,
+            form: Form::Null,
+        };
         operands.push(TypedOperand {
             span: link.span,
-            operand: link.operand,
+            operand: replace(&mut link.operand, nothing),
         })?;
     }
     Ok(operands)

@@ -229,14 +229,13 @@ fn read_pointed(
 
 /// An element of an array; the expression that designates it has the span. Most places have few steps.
 #[inline(never)]
-fn item_place(array: Place, index: TypedExpr, span: Span) -> Result<Place, AllocError>
+fn item_place(mut array: Place, index: TypedExpr, span: Span) -> Result<Place, AllocError>
     ensures root { IfOk result (λ p. p.root ≡ array.root) }
     ensures steps { IfOk result (λ p. map view_step p.steps.items ≡ map view_step array.steps.items ++ item (view_expr index) span ∷ []) }
 {
-    let Place { root, mut steps } = array;
-    steps.reserve_exact(1)?;
-    steps.push(PlaceStep::item(index, span))?;
-    Ok(Place { root, steps })
+    array.steps.reserve_exact(1)?;
+    array.steps.push(PlaceStep::item(index, span))?;
+    Ok(array)
 }
 
 /// The value of an object. An array decays (C99 6.3.2.1p3).

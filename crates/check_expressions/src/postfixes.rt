@@ -187,7 +187,7 @@ fn part_by(
     field: Option<FoundField>,
     word: &Word,
     whole: Whole,
-    place: Place,
+    mut place: Place,
     faults: &mut Vec<TypeFault>,
 ) -> Result<Operand, AllocError>
     ensures { GivesMade result faults.old.items faults.new.items (is.part_by field word.now whole.fixed whole.designates (view_root place.root) (map view_step place.steps.items)) }
@@ -195,15 +195,14 @@ fn part_by(
     let Some(field) = field else {
         return refused(faults, FaultKind::UnknownName, word.span);
     };
-    let Place { root, mut steps } = place;
-    steps.reserve_exact(1)?;
-    steps.push(PlaceStep::Field(field.number))?;
+    place.steps.reserve_exact(1)?;
+    place.steps.push(PlaceStep::Field(field.number))?;
     Ok(Operand {
         ty: field.entry.ty,
         fixed: whole.fixed || field.entry.fixed,
         designates: whole.designates,
         null: false,
-        tree: Elaborated::Place(Place { root, steps }),
+        tree: Elaborated::Place(place),
     })
 }
 

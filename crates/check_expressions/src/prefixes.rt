@@ -248,11 +248,10 @@ fn address_tree(
         }
         Elaborated::Place(place) => Ok(pointer_value(s, ty, Form::address(place))),
         Elaborated::Pointed(pointer, _) => Ok(pointer_value(s, ty, Form::convert(alloc, pointer)?)),
-        Elaborated::Moved(pointer) => Ok(TypedExpr {
-            span: s,
-            ty: pointer.ty,
-            form: pointer.form,
-        }),
+        Elaborated::Moved(mut pointer) => {
+            pointer.span = s;
+            Ok(pointer)
+        }
         Elaborated::Item(array, at, index, span) => {
             let first = pointer_value(at, ty, Form::decay(array));
             moved(alloc, s, ty, first, index, span)
