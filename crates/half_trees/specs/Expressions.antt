@@ -117,6 +117,17 @@ are_alike c.no_links op = false
 are_alike (c.link_and (c.link s first a) rest) op = binds_alike first op
 
 -- Two operands and the operator between them. A left operand that is a chain of operators that bind alike is
+-- whether an operator makes a chain longer, rather than beginning one
+abbrev pub goes_on : BinaryOp → c.ExprTree → Bool
+goes_on op (c.chain s a links) = are_alike links op
+goes_on op (c.name w) = false
+goes_on op (c.constant n) = false
+goes_on op (c.prefix s q a) = false
+goes_on op (c.cast s specs pointer a) = false
+goes_on op (c.postfix s a ps) = false
+goes_on op (c.choice s x y z) = false
+goes_on op (c.assign s q x y) = false
+
 -- made longer: such operators group to the left.
 abbrev pub linked : BinaryOp → c.ExprTree → c.ExprTree → c.ExprTree
 linked op (c.chain s a links) b = if are_alike links op then c.chain nowhere a (with_link links (one_link op b)) else chain_of op (c.chain s a links) b
@@ -134,6 +145,17 @@ linked op (c.assign s q x y) b = chain_of op (c.assign s q x y) b
 abbrev pub with_postfixes : PostfixTrees → List PostfixTree → PostfixTrees
 with_postfixes c.no_postfixes more = c.postfix_trees more
 with_postfixes (c.postfix_and p rest) more = c.postfix_and p (with_postfixes rest more)
+
+-- whether something stands behind an operand already
+abbrev pub has_postfixes : c.ExprTree → Bool
+has_postfixes (c.postfix s a ps) = true
+has_postfixes (c.name w) = false
+has_postfixes (c.constant n) = false
+has_postfixes (c.prefix s q a) = false
+has_postfixes (c.cast s specs pointer a) = false
+has_postfixes (c.chain s a links) = false
+has_postfixes (c.choice s x y z) = false
+has_postfixes (c.assign s q x y) = false
 
 -- An operand with what stands behind it, at least one postfix. An operand that has some already is made longer.
 abbrev pub extended : c.ExprTree → List PostfixTree → c.ExprTree

@@ -1,10 +1,11 @@
 // Operators as C spells them, and chains of them.
-ghost use Rattle.std.specs.Prelude.{◌≡◌, IfOk, map};
+ghost use Rattle.std.specs.Prelude.{◌≡◌, ◌++◌, ◌∷◌, [], IfOk, OnOk, map, true};
 ghost use Rattle.pt_tree.specs.ExpressionTree.{chain, view_expr, view_link, link_trees};
 ghost use Rattle.half_trees.specs.Expressions as trees;
 ghost use Rattle.half_trees.specs.Names as names;
 
 use crate::names::NOWHERE;
+use pt_base::Span;
 use pt_int::{BinOp, UnOp};
 use pt_tree::{BinaryOp, Expr, Link, PrefixOp};
 use std::alloc::{AllocError, Global};
@@ -94,21 +95,70 @@ fn chain_of(alloc: Global, op: BinaryOp, a: Expr, b: Expr) -> Result<Expr, Alloc
     Expr::chained(alloc, NOWHERE, a, links)
 }
 
-/// Two operands and the operator between them; a left operand that is a chain of operators that
-/// bind alike is made longer, in constant time on average.
-pub(crate) fn linked(alloc: Global, op: BinaryOp, mut a: Expr, b: Expr) -> Result<Expr, AllocError>
+// Whether an operator makes a chain longer.
+fn goes_on(a: &Expr, op: BinaryOp) -> bool
+    ensures { result ≡ trees.goes_on op (view_expr a.now) }
+{
+    match a {
+        Expr::Chain(_, _, links) => are_alike(links, op),
+        Expr::Name(_)
+        | Expr::Constant(_)
+        | Expr::Prefix(..)
+        | Expr::Cast(..)
+        | Expr::Postfix(..)
+        | Expr::Choice(..)
+        | Expr::Assign(..) => false,
+    }
+}
+
+// A link more for the parts of a chain, of which the first stays.
+fn add_link(
+    span: &mut Span,
+    first: &mut Box<Expr>,
+    links: &mut Vec<Link>,
+    link: Link,
+) -> Result<(), AllocError>
+    ensures span { span.new ≡ names.nowhere }
+    ensures first { first.new ≡ first.old }
+    ensures links { OnOk result (links.new.items ≡ links.old.items ++ link ∷ []) }
+{
+    let _first = first;
+    *span = NOWHERE;
+    links.push(link)?;
+    Ok(())
+}
+
+// A chain with a link more.
+fn longer(op: BinaryOp, mut a: Expr, b: Expr) -> Result<Expr, AllocError>
+    requires { trees.goes_on op (view_expr a) ≡ true }
     ensures { IfOk result (λ e. view_expr e ≡ trees.linked op (view_expr a) (view_expr b)) }
 {
-    if let Expr::Chain(span, _, links) = &mut a {
-        if are_alike(links, op) {
-            *span = NOWHERE;
-            links.push(Link {
-                span: NOWHERE,
-                op,
-                operand: b,
-            })?;
-            return Ok(a);
-        }
+    let link = Link {
+        span: NOWHERE,
+        op,
+        operand: b,
+    };
+    match &mut a {
+        Expr::Chain(span, first, links) => add_link(span, first, links, link)?,
+        Expr::Name(_)
+        | Expr::Constant(_)
+        | Expr::Prefix(..)
+        | Expr::Cast(..)
+        | Expr::Postfix(..)
+        | Expr::Choice(..)
+        | Expr::Assign(..) => unreachable!(),
     }
-    chain_of(alloc, op, a, b)
+    Ok(a)
+}
+
+/// Two operands and the operator between them; a left operand that is a chain of operators that
+/// bind alike is made longer, in constant time on average.
+pub(crate) fn linked(alloc: Global, op: BinaryOp, a: Expr, b: Expr) -> Result<Expr, AllocError>
+    ensures { IfOk result (λ e. view_expr e ≡ trees.linked op (view_expr a) (view_expr b)) }
+{
+    if goes_on(&a, op) {
+        longer(op, a, b)
+    } else {
+        chain_of(alloc, op, a, b)
+    }
 }

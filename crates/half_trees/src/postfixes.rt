@@ -1,5 +1,5 @@
 // What stands behind operands: the fields of objects and elements of arrays.
-ghost use Rattle.std.specs.Prelude.{◌≡◌, ◌++◌, ◌∷◌, [], IfOk, OnOk, ℕ, false, get_or, map};
+ghost use Rattle.std.specs.Prelude.{◌≡◌, ◌++◌, ◌∷◌, [], IfOk, OnOk, ℕ, false, true, get_or, map};
 ghost use Rattle.pt_tree.specs.ExpressionTree.{postfix, postfix_trees, view_expr, view_postfix};
 ghost use Rattle.pt_core.specs.Types as types;
 ghost use Rattle.half_trees.specs.Expressions as trees;
@@ -7,26 +7,58 @@ ghost use Rattle.half_trees.specs.Names as names;
 
 use crate::declarations::fields_of;
 use crate::names::{NOWHERE, field_name, word};
-use pt_base::IntType;
+use pt_base::{IntType, Span};
 use pt_tree::{Expr, Postfix, PrefixOp};
 use std::alloc::{AllocError, Global};
 use typed_tree::{Field, StructInfo, VarTy};
 
-/// An operand with what stands behind it, at least one postfix. An operand that has some already is
-/// made longer.
-pub(crate) fn extended(
-    alloc: Global,
-    mut a: Expr,
-    mut more: Vec<Postfix>,
-) -> Result<Expr, AllocError>
+// More postfixes for the parts of an operand with some, of which the operand stays.
+fn add_postfixes(
+    span: &mut Span,
+    operand: &mut Box<Expr>,
+    postfixes: &mut Vec<Postfix>,
+    more: &mut Vec<Postfix>,
+) -> Result<(), AllocError>
+    ensures span { span.new ≡ names.nowhere }
+    ensures operand { operand.new ≡ operand.old }
+    ensures postfixes { OnOk result (postfixes.new.items ≡ postfixes.old.items ++ more.old.items) }
+{
+    let _operand = operand;
+    *span = NOWHERE;
+    postfixes.append(more)?;
+    Ok(())
+}
+
+// The operand's postfixes and more.
+fn longer(mut a: Expr, mut more: Vec<Postfix>) -> Result<Expr, AllocError>
+    requires { trees.has_postfixes (view_expr a) ≡ true }
     ensures { IfOk result (λ e. view_expr e ≡ trees.extended (view_expr a) (map view_postfix more.items)) }
 {
-    if let Expr::Postfix(span, _, postfixes) = &mut a {
-        *span = NOWHERE;
-        postfixes.append(&mut more)?;
-        return Ok(a);
+    match &mut a {
+        Expr::Postfix(span, operand, postfixes) => {
+            add_postfixes(span, operand, postfixes, &mut more)?
+        }
+        Expr::Name(_)
+        | Expr::Constant(_)
+        | Expr::Prefix(..)
+        | Expr::Cast(..)
+        | Expr::Chain(..)
+        | Expr::Choice(..)
+        | Expr::Assign(..) => unreachable!(),
     }
-    Expr::with_postfixes(alloc, NOWHERE, a, more)
+    Ok(a)
+}
+
+/// An operand with what stands behind it, at least one postfix. An operand that has some already is
+/// made longer.
+pub(crate) fn extended(alloc: Global, a: Expr, more: Vec<Postfix>) -> Result<Expr, AllocError>
+    ensures { IfOk result (λ e. view_expr e ≡ trees.extended (view_expr a) (map view_postfix more.items)) }
+{
+    if matches!(&a, Expr::Postfix(..)) {
+        longer(a, more)
+    } else {
+        Expr::with_postfixes(alloc, NOWHERE, a, more)
+    }
 }
 
 /// The same, or the operand alone where nothing stands behind it.
