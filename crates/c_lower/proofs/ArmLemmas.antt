@@ -15,17 +15,17 @@ use Rattle.pt_core.specs.declared.expression.Expr.{Expr}
 use Rattle.pt_core.specs.CodeTree as core
 use Rattle.pt_core.specs.CodeTree.{ExprTree, constant, read, view_expr}
 use Rattle.source_meaning.specs.Expressions.{type_or_int, type_of}
-use Rattle.c_lower.specs.declared.place.FoundPlace.{FoundPlace}
-use Rattle.c_lower.specs.declared.temporary.Temporary.{Temporary}
-use Rattle.c_lower.specs.Lowered.{Temp, Effects, Lowered, LoweredPlace, pure, past, temp, hold, holding, held_if}
-use Rattle.c_lower.specs.Purity.{takes_left_first, is_pure}
-use Rattle.c_lower.specs.Operators.{prefixed, converted, stepped}
-use Rattle.c_lower.specs.Expressions.{Scope, is_struct, started, valued, behind, field_in, decayed, decayed_type, element_place, fixed_if, copied, given, compounded, counted, value_in, form_in, effects_in, object_in, form_object, place_in, root_in, links_in, operands_in}
-use Rattle.c_lower.specs.ExpressionParts.{assignment_in, held_in, link_in, step_in}
-use Rattle.c_lower.specs.Functions.{span_of}
-use Rattle.c_lower.specs.Output.{Output, next, temporary_of, added, more, Found, found, view_found, Gives, Finds, Does}
-use Rattle.c_lower.proofs.OutputLemmas.{next_after, nothing_made, both, then_held}
-use Rattle.c_lower.proofs.FormLemmas.{whole_is, read_is, decay_is, address_is, copied_to, given_to, compounded_to, linked_is}
+use Rattle.lowering.specs.declared.place.FoundPlace.{FoundPlace}
+use Rattle.lowering.specs.declared.temporary.Temporary.{Temporary}
+use Rattle.lowering.specs.Lowered.{Temp, Effects, Lowered, LoweredPlace, pure, past, temp, hold, holding, held_if}
+use Rattle.lowering.specs.Purity.{takes_left_first, is_pure}
+use Rattle.lowering.specs.Operators.{prefixed, converted, stepped}
+use Rattle.lowering.specs.Expressions.{Scope, is_struct, started, valued, behind, field_in, decayed, decayed_type, element_place, fixed_if, copied, given, compounded, counted, value_in, form_in, effects_in, object_in, form_object, place_in, root_in, links_in, operands_in}
+use Rattle.lowering.specs.ExpressionParts.{assignment_in, held_in, link_in, step_in}
+use Rattle.lowering.specs.Functions.{span_of}
+use Rattle.lowering.specs.Output.{Output, next, temporary_of, added, more, Found, found, view_found, Gives, Finds, Does}
+use Rattle.lowering.proofs.OutputLemmas.{next_after, nothing_made, both, then_held}
+use Rattle.lowering.proofs.FormLemmas.{whole_is, read_is, decay_is, address_is, copied_to, given_to, compounded_to, linked_is}
 
 pub chain_is : (c : Scope) (r : Result Expr AllocError) (o o1 o2 : Output) (a a' : tree.ExprTree) (links links' : LinkTrees) (keeper : Temporary) (ty : VarTy) (s : Span) (v : ExprTree) →
     Gives o (value_in c a' (next o)) o1 v → a' ≡ a → keeper ≡ record { ty = ty; holds = Some (span_of a) } → ty ≡ type_of a → links' ≡ links →
@@ -209,10 +209,6 @@ held_dropped c o o1 o2 e ty x v g et ex e2 = record {
 }
 
 -- ---- parts of arms
-
--- what holds after a success, and what follows from it
-pub also : {U : Type 0} (r : Result U AllocError) (P Q : Type 0) → (P → Q) → OnOk r P → OnOk r Q
-also r P Q f go = IfOk-weaker r (λ _. P) (λ _. Q) (λ _ h. f h) go
 
 pub link_is : (c : Scope) (r : Result Expr AllocError) (o o0 o1 o2 : Output) (at : Span) (to : VarTy) (step : LinkStep) (e whole : tree.ExprTree) (keeper : Temporary) (far : Lowered) (b : Bool) (v u w : ExprTree) →
     Gives o far o0 v → keeper.holds ≡ Some (span_of whole) → b ≡ (not (takes_left_first step) || not (is_pure e)) →

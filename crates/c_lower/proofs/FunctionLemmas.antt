@@ -8,13 +8,13 @@ use Rattle.typed_tree.specs.TypedTree.{TypedTree, FunctionTree}
 use Rattle.source_meaning.specs.Functions.{brace_of}
 use Rattle.pt_core.specs.CodeTree as core
 use Rattle.pt_core.specs.CodeTree.{StmtTree, view_stmt, stmt_trees}
-use Rattle.c_lower.specs.declared.lowering.Lowering.{Lowering}
-use Rattle.c_lower.specs.declared.temporary.Temporary.{Temporary}
-use Rattle.c_lower.specs.Lowered.{Temp}
-use Rattle.c_lower.specs.Functions.{variable_of, code_of, lowered_body, main_end, core_of}
-use Rattle.c_lower.specs.FunctionParts.{variables_of, MakesBody}
-use Rattle.c_lower.specs.Output.{Output, output_of, next, temporary_of, added, more, Does}
-use Rattle.c_lower.specs.Statements.{Code, nowhere, statement_in}
+use Rattle.lowering.specs.declared.output.Lowering.{Lowering}
+use Rattle.lowering.specs.declared.temporary.Temporary.{Temporary}
+use Rattle.lowering.specs.Lowered.{Temp}
+use Rattle.lowering.specs.Functions.{variable_of, code_of, lowered_body, main_end, core_of}
+use Rattle.lowering.specs.FunctionParts.{variables_of, MakesBody}
+use Rattle.lowering.specs.Output.{Output, output_of, next, temporary_of, added, more, Does}
+use Rattle.lowering.specs.Statements.{Code, nowhere, statement_in}
 
 -- temporaries as variables, also by what the code keeps of them
 as_variables : (temps : List Temp) → variables_of (map temporary_of temps) ≡ map variable_of temps
@@ -22,13 +22,9 @@ as_variables [] = refl
 as_variables (x ∷ xs) = ap (λ ys. variable_of x ∷ ys) (as_variables xs)
 
 -- what is made from nothing
-pub made_from : (c : Code) (body : BodyTree) (n : ℕ) (end : List StmtTree) (l0 l1 l2 : Lowering) → l0.first ≡ n → l0.stmts.items ≡ [] → l0.temps.items ≡ [] → Does (output_of l0) (statement_in c body nowhere (next (output_of l0))) (output_of l1) → output_of l2 ≡ added (output_of l1) end [] → MakesBody c body n end l2
+pub made_from : (c : Code) (body : BodyTree) (n : ℕ) (end : List StmtTree) (l0 l1 l2 : Lowering) → output_of l0 ≡ record { first = n; stmts = []; temps = [] } → Does (output_of l0) (statement_in c body nowhere (next (output_of l0))) (output_of l1) → output_of l2 ≡ added (output_of l1) end [] → MakesBody c body n end l2
 unfolding output_of
-made_from c body n end l0 l1 l2 en es et d e2 =
-    let e0 : output_of l0 ≡ record { first = n; stmts = []; temps = [] } =
-    ap (λ j. record { first = j; stmts = map view_stmt l0.stmts.items; temps = l0.temps.items }) en
-    ∙ ap (λ xs. record { first = n; stmts = map view_stmt xs; temps = l0.temps.items }) es
-    ∙ ap (λ ys. record { first = n; stmts = []; temps = ys }) et in
+made_from c body n end l0 l1 l2 e0 d e2 =
     let low = statement_in c body nowhere n in
     let m : next (output_of l0) ≡ n = ap next e0 ∙ omega arith in
     let d1 : Does (output_of l0) low (output_of l1) = subst (λ j. Does (output_of l0) (statement_in c body nowhere j) (output_of l1)) m d in

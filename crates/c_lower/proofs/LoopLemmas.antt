@@ -3,12 +3,12 @@ use Rattle.std.proofs.Common.{◌≡◌, ℕ, ◌+◌, List, [], ◌∷◌, ◌+
 use Rattle.pt_base.specs.declared.span.Span.{Span}
 use Rattle.pt_core.specs.CodeTree.{ExprTree, StmtTree, choose, repeat, give_back, stmt_trees}
 use Rattle.std.specs.Prelude.{Some}
-use Rattle.c_lower.specs.Lowered.{Temp, Effects, Lowered, past, temp, hold, nothing, counting, int, followed}
-use Rattle.c_lower.specs.Statements.{looped, on_the_way_back, first_told, number, chosen, returned}
-use Rattle.c_lower.specs.StatementParts.{first_turn, back_only}
-use Rattle.c_lower.specs.Output.{Output, next, added, more, opened, closed, Gives, Does, Collects}
-use Rattle.c_lower.proofs.OutputLemmas.{next_after, nothing_made, both, then_stmts, apart, next_opened}
-use Rattle.c_lower.proofs.PieceLemmas.{chosen_is}
+use Rattle.lowering.specs.Lowered.{Temp, Effects, Lowered, past, temp, hold, nothing, counting, int, followed}
+use Rattle.lowering.specs.Statements.{looped, on_the_way_back, first_told, number, chosen, returned}
+use Rattle.lowering.specs.StatementParts.{first_turn, back_only}
+use Rattle.lowering.specs.Output.{Output, next, added, more, opened, closed, Gives, Does, Collects}
+use Rattle.lowering.proofs.OutputLemmas.{next_after, nothing_made, both, then_stmts, apart, next_opened}
+use Rattle.lowering.proofs.PieceLemmas.{chosen_is}
 
 -- what an effect makes, whose first number is the next one
 abbrev pub Makes : Output → (ℕ → Effects) → Output → Type 0

@@ -3,7 +3,7 @@ use Rattle.std.proofs.Common.{◌≡◌, ℕ, suc, ◌+◌, add-one, List, [], �
 use Rattle.std.proofs.lemmas.List.{append-nil}
 use Rattle.typed_tree.specs.TypedTree.{TypedTree, FunctionTree}
 use Rattle.pt_core.specs.CodeTree as core
-use Rattle.c_lower.specs.Functions.{code_if, functions_from}
+use Rattle.lowering.specs.Functions.{code_if, functions_from}
 
 pub functions_step : (program : TypedTree) (n n' : ℕ) (f : FunctionTree) (rest rest' : List FunctionTree) (made made' all : List core.FunctionTree) → rest ≡ f ∷ rest' → made' ≡ made ++ code_if program n f f.body → n' ≡ n + 1 → made ++ functions_from program n rest ≡ all → made' ++ functions_from program n' rest' ≡ all
 functions_step program n n' f rest rest' made made' all split em en inv =

@@ -1,5 +1,5 @@
 -- Walks over links, operands, arguments and steps, one behind the other.
-use Rattle.std.proofs.Common.{◌≡◌, ℕ, ◌+◌, ◌<◌, Bool, not, List, [], ◌∷◌, ◌++◌, length, get_or, drop, drop-cons, add-one, suc, Some, refl, sym, ap, ◌∙◌, subst, append_assoc}
+use Rattle.std.proofs.Common.{◌≡◌, ℕ, Bool, not, List, [], ◌∷◌, ◌++◌, Some, refl, sym, ap, ◌∙◌, subst, append_assoc}
 use Rattle.std.proofs.lemmas.List.{append-nil}
 use Rattle.pt_base.specs.declared.span.Span.{Span}
 use Rattle.typed_tree.specs.declared.types.VarTy.{VarTy}
@@ -8,17 +8,14 @@ use Rattle.typed_tree.specs.declared.link.LogicalOp.{LogicalOp}
 use Rattle.typed_tree.specs.ExpressionTree as tree
 use Rattle.typed_tree.specs.ExpressionTree.{LinkTree, link, LinkTrees, link_and, no_links, OperandTree, operand, OperandTrees, operand_and, no_operands, ExprTrees, expr_and, no_exprs, RootTree, StepTree, StepTrees, step_and, no_steps}
 use Rattle.pt_core.specs.CodeTree.{ExprTree}
-use Rattle.c_lower.specs.declared.temporary.Temporary.{Temporary}
-use Rattle.c_lower.specs.Lowered.{Effects, Lowered, LoweredPlace, Arguments, past}
-use Rattle.c_lower.specs.Purity.{are_pure}
-use Rattle.c_lower.specs.Expressions.{Scope, chain_so_far, links_in, operands_in, arguments_in, steps_in}
-use Rattle.c_lower.specs.ExpressionParts.{link_in, operand_in, argument_in, step_in}
-use Rattle.c_lower.specs.Functions.{span_of}
-use Rattle.c_lower.specs.Output.{Output, next, more, Found, Gives, GivesAll, Finds, Does}
-use Rattle.c_lower.proofs.OutputLemmas.{next_after, nothing_made, both}
-
-pub split_at : {A : Type 0} (l : List A) (i : ℕ) (d : A) → i < length l → d ≡ get_or l i d → drop i l ≡ d ∷ drop (i + 1) l
-split_at l i d below is = drop-cons l i d below ∙ rw add-one (ap (λ x. x ∷ drop (suc i) l) (sym is))
+use Rattle.lowering.specs.declared.temporary.Temporary.{Temporary}
+use Rattle.lowering.specs.Lowered.{Effects, Lowered, LoweredPlace, Arguments, past}
+use Rattle.lowering.specs.Purity.{are_pure}
+use Rattle.lowering.specs.Expressions.{Scope, chain_so_far, links_in, operands_in, arguments_in, steps_in}
+use Rattle.lowering.specs.ExpressionParts.{link_in, operand_in, argument_in, step_in}
+use Rattle.lowering.specs.Functions.{span_of}
+use Rattle.lowering.specs.Output.{Output, next, more, Found, Gives, GivesAll, Finds, Does}
+use Rattle.lowering.proofs.OutputLemmas.{next_after, nothing_made, both}
 
 -- ---- the links of a chain
 

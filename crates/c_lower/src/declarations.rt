@@ -1,16 +1,16 @@
 // Declarations: each variable's cells become zero, and its initialiser is stored (C99 6.7).
 ghost use Rattle.std.specs.Prelude.{◌≡◌, OnOk};
-ghost use Rattle.c_lower.specs.Names.{code_in};
-ghost use Rattle.c_lower.specs.Output.{output_of, next, Does, Doing};
-ghost use Rattle.c_lower.specs.Statements as is;
+ghost use Rattle.lowering.specs.Names.{code_in};
+ghost use Rattle.lowering.specs.Output.{output_of, next, Does, Doing};
+ghost use Rattle.lowering.specs.Statements as is;
 
-use crate::assignments::{copied, given};
 use crate::items::store;
-use crate::lowering::{Lowering, local};
-use crate::names::Names;
 use crate::outermost::{effects_of, object_of, value_of};
-use crate::place::variable;
-use crate::types::is_struct;
+use lowering::assignments::{copied, given};
+use lowering::names::Names;
+use lowering::output::Lowering;
+use lowering::place::variable;
+use lowering::types::is_struct;
 use pt_base::VarId;
 use pt_core::Stmt;
 use std::alloc::{AllocError, Global};
@@ -48,12 +48,7 @@ fn initialise(
         TypedInit::Nothing => Ok(()),
         TypedInit::Value(e) => store_value(alloc, names, var, *e, lowering),
         TypedInit::Items(span, items) => {
-            let ty = names.variable_type(var);
-            let place = local(alloc, var);
-            let bound = names.count_of_structs()?;
-            let items = items.as_slice();
-            store(alloc, names, *span, ty, bound, place, items, lowering)?;
-            Ok(())
+            store(alloc, names, *span, var, items.as_slice(), lowering)
         }
     }
 }

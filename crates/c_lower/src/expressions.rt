@@ -2,22 +2,22 @@
 ghost use Rattle.std.specs.Prelude.{◌≡◌, ℕ, Bool, [], List, Option, Some, IfOk, OnOk, map};
 ghost use Rattle.typed_tree.specs.ExpressionTree as t;
 ghost use Rattle.pt_core.specs.CodeTree.{view_expr};
-ghost use Rattle.c_lower.specs.Lowered.{Effects, Lowered, LoweredPlace};
-ghost use Rattle.c_lower.specs.Expressions as is;
-ghost use Rattle.c_lower.specs.ExpressionParts.{link_in, operand_in, arm_in, argument_in, held_in, step_in, assignment_in};
-ghost use Rattle.c_lower.specs.Functions.{span_of};
-ghost use Rattle.c_lower.specs.Names.{scope_of};
-ghost use Rattle.c_lower.specs.Output.{Output, output_of, next, view_found, Gives, Finds, Does, Values, Arguing, Places, Doing, Collecting};
+ghost use Rattle.lowering.specs.Lowered.{Effects, Lowered, LoweredPlace};
+ghost use Rattle.lowering.specs.Expressions as is;
+ghost use Rattle.lowering.specs.ExpressionParts.{link_in, operand_in, arm_in, argument_in, held_in, step_in, assignment_in};
+ghost use Rattle.lowering.specs.Functions.{span_of};
+ghost use Rattle.lowering.specs.Names.{scope_of};
+ghost use Rattle.lowering.specs.Output.{Output, output_of, next, view_found, Gives, Finds, Does, Values, Arguing, Places, Doing, Collecting};
 
-use crate::assignments::{call_alone, called, compounded, copied, count, counted, given, zero};
-use crate::logical::{started, where_open};
-use crate::lowering::{Lowering, held_if, temp};
-use crate::names::Names;
-use crate::operators::{converted, prefixed, stepped, truth_of};
-use crate::place::{FoundPlace, behind, element, field, fixed_if, global, no_object, variable};
-use crate::purity::{fixes_left, holds_left, is_pure, pure_from};
-use crate::temporary::Temporary;
-use crate::types::{decayed_type, elem_of, int_of, is_struct, type_of, type_or_int};
+use lowering::assignments::{call_alone, called, compounded, copied, count, counted, given, zero};
+use lowering::logical::{started, with_operand};
+use lowering::names::Names;
+use lowering::operators::{converted, prefixed, stepped};
+use lowering::output::{Lowering, held_if, temp};
+use lowering::place::{FoundPlace, behind, element, field, fixed_if, global, no_object, variable};
+use lowering::purity::{fixes_left, holds_left, is_pure, pure_from};
+use lowering::temporary::Temporary;
+use lowering::types::{decayed_type, elem_of, int_of, is_struct, type_of, type_or_int};
 use pt_base::{Span, VarId};
 use pt_core::{Expr, Stmt};
 use std::alloc::{AllocError, Global};
@@ -302,10 +302,8 @@ fn operand_of(
 {
     let outer = lowering.begin(alloc);
     let v = value(alloc, names, &operand.operand, lowering)?;
-    let truth = truth_of(alloc, type_of(&operand.operand), v, operand.span)?;
-    lowering.give(alloc, k, truth)?;
-    let inner = lowering.end(outer);
-    lowering.add(where_open(alloc, op, k, inner))
+    let ty = type_of(&operand.operand);
+    with_operand(alloc, op, k, ty, operand.span, v, outer, lowering)
 }
 
 // an arm of `?:`, whose value a temporary is given

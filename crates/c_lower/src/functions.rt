@@ -8,16 +8,16 @@ ghost use Rattle.typed_tree.specs.TypedView.{view_typed};
 ghost use Rattle.typed_tree.specs.WellFormedExpression as well;
 ghost use Rattle.source_meaning.specs.Functions as meaning;
 ghost use Rattle.pt_core.specs.CodeTree as core;
-ghost use Rattle.c_lower.specs.Functions as is;
-ghost use Rattle.c_lower.specs.FunctionParts.{IsDefined, MakesBody, variable_for, variables_of};
-ghost use Rattle.c_lower.specs.Names.{code_in};
-ghost use Rattle.c_lower.specs.Output.{output_of, added};
+ghost use Rattle.lowering.specs.Functions as is;
+ghost use Rattle.lowering.specs.FunctionParts.{IsDefined, MakesBody, variable_for, variables_of};
+ghost use Rattle.lowering.specs.Names.{code_in};
+ghost use Rattle.lowering.specs.Output.{output_of, added};
 
-use crate::flow::{Onward, number};
-use crate::lowering::Lowering;
-use crate::names::Names;
 use crate::statements::statement;
-use crate::temporary::Temporary;
+use lowering::flow::{Onward, number};
+use lowering::names::{Names, names_of};
+use lowering::output::Lowering;
+use lowering::temporary::Temporary;
 use pt_base::{Bytes, FnId, Listed, Span};
 use pt_core::{CoreFn, Stmt};
 use pt_tree::Signature;
@@ -34,10 +34,10 @@ pub fn lower_function(alloc: Global, program: &Typed, f: FnId) -> Result<CoreFn,
     ensures { IfOk result (λ c. (g : FunctionTree) (b : BodyTree) → function_at (view_typed program.now) f ≡ Some g → g.body ≡ Some b → core.view_function c ≡ is.core_of (view_typed program.now) f.0 g b) }
 {
     let Some(function) = program.functions.get(f.0 as usize) else {
-        return Err(AllocError);
+        unreachable!()
     };
     let Some(body) = &function.body else {
-        return Err(AllocError);
+        unreachable!()
     };
     lower_body(alloc, program, f, function, body)
 }
@@ -70,18 +70,6 @@ pub(crate) fn lower_body(
     })
 }
 
-// what the code of a function names
-#[tactic(auto, unfolding(crate::specs::Names::scope_of))]
-fn names_of<'a>(program: &'a Typed, function: &'a TypedFn) -> Names<'a>
-    ensures code { code_in result ≡ is.code_of (view_typed program.now) (view_function function.now) }
-    ensures variables { result.variables.now ≡ function.now.vars }
-{
-    Names {
-        program,
-        variables: function.vars.as_slice(),
-    }
-}
-
 // the statements and the temporaries of a body
 fn lowered(
     alloc: Global,
@@ -96,11 +84,7 @@ fn lowered(
     if first > u32::MAX as usize {
         return Err(AllocError);
     }
-    let mut lowering = Lowering {
-        first: first as u32,
-        stmts: Vec::new(alloc),
-        temps: Vec::new(alloc),
-    };
+    let mut lowering = Lowering::starting(alloc, first as u32);
     statement(alloc, names, body, Onward::Nowhere, &mut lowering)?;
     end_main(signature, &mut lowering)?;
     Ok(lowering)

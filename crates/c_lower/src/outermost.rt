@@ -1,16 +1,16 @@
 // Outermost expressions, which statements name by number.
-ghost use Rattle.c_lower.specs.Expressions as is;
-ghost use Rattle.c_lower.specs.Names.{scope_of, code_in};
-ghost use Rattle.c_lower.specs.Output.{output_of, Values, Doing, Places};
-ghost use Rattle.c_lower.specs.Statements.{outermost, stepped};
-ghost use Rattle.c_lower.specs.StatementParts.{type_of_outermost};
+ghost use Rattle.lowering.specs.Expressions as is;
+ghost use Rattle.lowering.specs.Names.{scope_of, code_in};
+ghost use Rattle.lowering.specs.Output.{output_of, Values, Doing, Places};
+ghost use Rattle.lowering.specs.Statements.{outermost, stepped};
+ghost use Rattle.lowering.specs.StatementParts.{type_of_outermost};
 ghost use Rattle.std.specs.Prelude.{◌≡◌};
 
 use crate::expressions::{effects, object, value};
-use crate::lowering::Lowering;
-use crate::names::Names;
-use crate::place::{FoundPlace, no_object};
-use crate::types::type_of;
+use lowering::names::Names;
+use lowering::output::Lowering;
+use lowering::place::{FoundPlace, no_object};
+use lowering::types::type_of;
 use pt_base::IntType;
 use pt_core::Expr;
 use pt_tree::Elem;

@@ -4,12 +4,12 @@ ghost use Rattle.typed_tree.specs.TypedTree as typed;
 ghost use Rattle.typed_tree.specs.TypedTree.{signatures_of};
 ghost use Rattle.typed_tree.specs.TypedView.{view_typed};
 ghost use Rattle.pt_core.specs.CodeTree.{view_program, view_function, view_global, numbered};
-ghost use Rattle.c_lower.specs.Functions as is;
-ghost use Rattle.c_lower.specs.Functions.{core_program};
-ghost use Rattle.c_lower.specs.FunctionParts.{program_of};
+ghost use Rattle.lowering.specs.Functions as is;
+ghost use Rattle.lowering.specs.Functions.{core_program};
+ghost use Rattle.lowering.specs.FunctionParts.{program_of};
 
 use crate::functions::lower_body;
-use crate::numbers::next_number;
+use lowering::numbers::next_number;
 use pt_base::{FnId, GlobalId, Listed};
 use pt_core::{CoreFn, CoreProgram, GlobalVar, Signatures};
 use std::alloc::{AllocError, Global};

@@ -1,21 +1,23 @@
 // The lowering of statements.
 ghost use Rattle.std.specs.Prelude.{◌≡◌, ◌+◌, map, None, Some};
 ghost use Rattle.typed_tree.specs.StatementTree as tree;
-ghost use Rattle.c_lower.specs.Names.{code_in};
-ghost use Rattle.c_lower.specs.Onwards.{view_onward};
-ghost use Rattle.c_lower.specs.Output.{output_of, Doing, Collecting};
-ghost use Rattle.c_lower.specs.StatementParts.{choice_in, for_from, section_in};
-ghost use Rattle.c_lower.specs.Statements as is;
+ghost use Rattle.lowering.specs.Names.{code_in};
+ghost use Rattle.lowering.specs.Onwards.{view_onward};
+ghost use Rattle.lowering.specs.Output.{output_of, Doing, Collecting};
+ghost use Rattle.lowering.specs.StatementParts.{choice_in, for_from, section_in};
+ghost use Rattle.lowering.specs.Statements as is;
 
 use crate::declarations::{begin_for, declare};
-use crate::flow::{Onward, give_back, go_on, go_on_behind, number};
-use crate::loops::{on_the_way_back, step_apart, tell_first, test, test_apart};
-use crate::lowering::Lowering;
-use crate::names::Names;
-use crate::operators::as_int;
+use crate::flow::give_back;
+use crate::loops::{step_apart, test, test_apart};
 use crate::outermost::{effects_of, type_of_numbered, value_of};
-use crate::switches::{Choosing, choose_sections, otherwise, section_of};
-use crate::temporary::Temporary;
+use lowering::flow::{Onward, go_on, go_on_behind, number};
+use lowering::loops::{on_the_way_back, tell_first};
+use lowering::names::Names;
+use lowering::operators::as_int;
+use lowering::output::Lowering;
+use lowering::switches::{Choosing, choose_sections, otherwise, section_of};
+use lowering::temporary::Temporary;
 use pt_base::{IntType, Span};
 use pt_core::Stmt;
 use std::alloc::{AllocError, Global};

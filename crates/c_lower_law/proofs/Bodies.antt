@@ -32,10 +32,10 @@ use Rattle.pt_core.specs.CodeTree.{StmtTree, choose, repeat, give_back, stmt_tre
 use Rattle.pt_core.specs.Values.{Stop, ◌>>?◌}
 use Rattle.pt_core.specs.Statements as c
 use Rattle.pt_core.specs.Statements.{goes_on, broke, continues, returned, after_flow, evaluated}
-use Rattle.c_lower.specs.Lowered.{Temp, Effects, past, hold, counting, int}
-use Rattle.c_lower.specs.Expressions.{is_struct, value_in, effects_in}
-use Rattle.c_lower.specs.Statements as l
-use Rattle.c_lower.specs.Statements.{Onward, nowhere, to_head, past_flag, number, onwards, inside, switch_temps, statement_in, otherwise_in, all_in, sections_in}
+use Rattle.lowering.specs.Lowered.{Temp, Effects, past, hold, counting, int}
+use Rattle.lowering.specs.Expressions.{is_struct, value_in, effects_in}
+use Rattle.lowering.specs.Statements as l
+use Rattle.lowering.specs.Statements.{Onward, nowhere, to_head, past_flag, number, onwards, inside, switch_temps, statement_in, otherwise_in, all_in, sections_in}
 use Rattle.c_lower_law.specs.Relations.{Scene, context_of, frame_of, scope_of, HasTemps, Kept, Alike, Same, After, below}
 use Rattle.c_lower_law.specs.Expressions.{run_all, cell_asked, Gives, IsValue, SameCell, SceneFits, SameResult, ValuesAgree, EffectsAgree, ObjectsAgree}
 use Rattle.c_lower_law.specs.Statements.{code_of, tests_of, lowered_with, is_flag, but_flag, FlagIs, LeadsOn, SameFlow, GivesFlow, StatementsAgree, GoesOn, DeclarationsAgree}

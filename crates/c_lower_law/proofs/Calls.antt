@@ -26,7 +26,7 @@ use Rattle.pt_core.specs.Values as v
 use Rattle.pt_core.specs.Values.{Stop, ◌>>?◌, written}
 use Rattle.pt_core.specs.Statements as c
 use Rattle.pt_core.specs.Statements.{Flow, goes_on, after_flow, evaluated, kept, kept_in, with_blocks}
-use Rattle.c_lower.specs.Lowered.{past, temp}
+use Rattle.lowering.specs.Lowered.{past, temp}
 use Rattle.c_lower_law.specs.Relations.{core_cell, Scene, world_of, frame_of, sizes_in, Kept, Alike, Same, After, below, all}
 use Rattle.c_lower_law.specs.Expressions.{run_all, cell_asked, cells_asked, SameAsked, SameCell, SameCells, SameResult, Gives, IsValue, AreArguments, CallsAlike, SceneFits}
 use Rattle.c_lower_law.proofs.Runs.{run_append, ok_then, err_as, spent_as, Stops, stops_at, asked_run, asked_asked, asked_else}

@@ -26,9 +26,9 @@ use Rattle.pt_core.specs.Values as v
 use Rattle.pt_core.specs.Values.{Stop, ◌>>?◌, holds_in}
 use Rattle.pt_core.specs.Statements as c
 use Rattle.pt_core.specs.Statements.{Flow, goes_on, broke, continues, returned, after_flow, evaluated, do_all}
-use Rattle.c_lower.specs.Lowered.{Temp, Lowered, Effects, past, temp, hold}
-use Rattle.c_lower.specs.Operators.{truth_of}
-use Rattle.c_lower.specs.Expressions.{where_open}
+use Rattle.lowering.specs.Lowered.{Temp, Lowered, Effects, past, temp, hold}
+use Rattle.lowering.specs.Operators.{truth_of}
+use Rattle.lowering.specs.Expressions.{where_open}
 use Rattle.c_lower_law.specs.Relations.{core_cell, Scene, world_of, context_of, frame_of, Kept, Alike, Same, After, below}
 use Rattle.c_lower_law.specs.Expressions.{run_all, cell_asked, SameAsked, SameCell, Gives, IsValue, SceneFits}
 use Rattle.c_lower_law.proofs.Runs.{bind_bind, run_append, Stops, stops_at, asked_run, asked_asked}

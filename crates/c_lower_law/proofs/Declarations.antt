@@ -45,10 +45,10 @@ use Rattle.pt_core.specs.Values as v
 use Rattle.pt_core.specs.Values.{Stop, ◌>>?◌, written, all_written, cells_at}
 use Rattle.pt_core.specs.Statements as c
 use Rattle.pt_core.specs.Statements.{goes_on, after_flow, evaluated, with_blocks}
-use Rattle.c_lower.specs.Lowered.{Effects, past}
-use Rattle.c_lower.specs.Expressions.{is_struct, value_in, object_in, copied, given, place_effects}
-use Rattle.c_lower.specs.Statements as l
-use Rattle.c_lower.specs.Leaves.{leaf_places}
+use Rattle.lowering.specs.Lowered.{Effects, past}
+use Rattle.lowering.specs.Expressions.{is_struct, value_in, object_in, copied, given, place_effects}
+use Rattle.lowering.specs.Statements as l
+use Rattle.lowering.specs.Leaves.{leaf_places}
 use Rattle.c_lower_law.specs.Relations.{core_cell, Scene, world_of, context_of, frame_of, scope_of, sizes_in, variable_types, HasTemps, Kept, Alike, Same, After, below, all}
 use Rattle.c_lower_law.specs.Expressions.{run_all, cell_asked, place_asked, object_asked, Gives, IsValue, IsObject, SceneFits, ValuesAgree, EffectsAgree, ObjectsAgree}
 use Rattle.c_lower_law.specs.Statements.{code_of, tests_of, lowered_with, GoesOn, DeclarationsAgree}

@@ -30,7 +30,7 @@ use Rattle.pt_core.specs.Values.{number_in}
 use Rattle.pt_core.specs.Statements as c
 use Rattle.pt_core.specs.Calls as calls
 use Rattle.pt_core.specs.Calls.{function_in}
-use Rattle.c_lower.specs.Functions.{core_of, core_program}
+use Rattle.lowering.specs.Functions.{core_of, core_program}
 use Rattle.c_lower_law.specs.Relations.{Scene, frame_of, Alike, Same, all}
 use Rattle.c_lower_law.specs.Expressions.{SameResult, SameCells, CallsAlike, Gives}
 use Rattle.c_lower_law.specs.Statements.{StatementsAgree, CallsAgree, scene_in}

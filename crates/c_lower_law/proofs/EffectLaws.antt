@@ -36,10 +36,10 @@ use Rattle.pt_core.specs.Values as v
 use Rattle.pt_core.specs.Values.{Stop}
 use Rattle.pt_core.specs.Statements as c
 use Rattle.pt_core.specs.Statements.{Flow, goes_on, after_flow, evaluated}
-use Rattle.c_lower.specs.Lowered.{Temp, Effects, Lowered, LoweredPlace, past, temp, hold, holding}
-use Rattle.c_lower.specs.Purity.{is_pure}
-use Rattle.c_lower.specs.Expressions as l
-use Rattle.c_lower.specs.Expressions.{value_in, form_in, effects_in, arguments_in, place_in, object_in, fixed_if}
+use Rattle.lowering.specs.Lowered.{Temp, Effects, Lowered, LoweredPlace, past, temp, hold, holding}
+use Rattle.lowering.specs.Purity.{is_pure}
+use Rattle.lowering.specs.Expressions as l
+use Rattle.lowering.specs.Expressions.{value_in, form_in, effects_in, arguments_in, place_in, object_in, fixed_if}
 use Rattle.c_lower_law.specs.Relations.{Scene, world_of, context_of, scope_of, sizes_in, HasTemps, Kept, Alike, Same, After, below}
 use Rattle.c_lower_law.specs.Expressions.{run_all, cell_asked, place_asked, object_asked, SameAsked, SameCell, Gives, IsValue, IsPlace, IsObject, SceneFits}
 use Rattle.c_lower_law.proofs.Runs.{bind_gives, run_append, Stops, stops_at, asked_run, same_weaken}

@@ -1,7 +1,7 @@
 -- The laws of expressions, as they are stated.
 use Rattle.std.proofs.Common.{◌≡◌}
-use Rattle.c_lower_law.specs.Expressions.{ValuesAgree, EffectsAgree, ObjectsAgree, PlacesAgree, ArgumentsAgree}
-use Rattle.c_lower_law.proofs.Law.{value_law, effects_law, object_law, place_law, arguments_law}
+use Rattle.c_lower_law.specs.Expressions.{ValuesAgree, EffectsAgree, ObjectsAgree}
+use Rattle.c_lower_law.proofs.Law.{value_law, effects_law, object_law}
 
 pub values_agree : ValuesAgree
 values_agree s e n st st' k h plain from temps alike = (value_law e s n k h plain from temps).runs st st' alike
@@ -11,9 +11,3 @@ effects_agree s e n st st' k h from temps alike = effects_law e s n k h from tem
 
 pub objects_agree : ObjectsAgree
 objects_agree s e n j st st' k h is from temps alike = object_law e s n j k h is from temps st st' alike
-
-pub places_agree : PlacesAgree
-places_agree s p n u st st' k h is from temps alike = (place_law p s n u k h is from temps).runs st st' alike
-
-pub arguments_agree : ArgumentsAgree
-arguments_agree s es n params st st' k h fit from temps alike = arguments_law es s n params k h fit from temps st st' alike

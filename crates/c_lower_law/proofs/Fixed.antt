@@ -24,8 +24,8 @@ use Rattle.pt_core.specs.Values as v
 use Rattle.pt_core.specs.Values.{Stop, ◌>>?◌, along, pointee}
 use Rattle.pt_core.specs.Statements as c
 use Rattle.pt_core.specs.Statements.{Flow, goes_on, after_flow, evaluated}
-use Rattle.c_lower.specs.Lowered.{Temp, LoweredPlace, past, temp, hold}
-use Rattle.c_lower.specs.Expressions.{fixed_root, fixed_through, fixed_if}
+use Rattle.lowering.specs.Lowered.{Temp, LoweredPlace, past, temp, hold}
+use Rattle.lowering.specs.Expressions.{fixed_root, fixed_through, fixed_if}
 use Rattle.c_lower_law.specs.Relations.{Scene, context_of, frame_of, HasTemps, Kept, Alike, Same, After, below}
 use Rattle.c_lower_law.specs.Expressions.{run_all, cell_asked, place_asked, SameAsked, Gives, IsPlace, SceneFits}
 use Rattle.c_lower_law.proofs.Runs.{pair, bind_bind, run_append, append_nothing, ok_then, err_as, asked_asked, asked_else}

@@ -16,8 +16,8 @@ use Rattle.pt_core.specs.CodeTree.{StmtTree, stmt_trees}
 use Rattle.pt_core.specs.Values.{Stop}
 use Rattle.pt_core.specs.Statements as c
 use Rattle.pt_core.specs.Statements.{goes_on, broke, continues, returned, after_flow, does, evaluated}
-use Rattle.c_lower.specs.Lowered.{hold, temp}
-use Rattle.c_lower.specs.Statements.{Onward, nowhere, to_head, past_flag}
+use Rattle.lowering.specs.Lowered.{hold, temp}
+use Rattle.lowering.specs.Statements.{Onward, nowhere, to_head, past_flag}
 use Rattle.c_lower_law.specs.Relations.{Scene, frame_of, SameSeen, Kept, Alike, Same, After, below}
 use Rattle.c_lower_law.specs.Expressions.{run_all, cell_asked, Gives, SceneFits, SameResult}
 use Rattle.c_lower_law.specs.Statements.{is_flag, but_flag, FlagIs, LeadsOn, Continues, SameFlow, GivesFlow}

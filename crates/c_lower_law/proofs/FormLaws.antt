@@ -37,12 +37,12 @@ use Rattle.pt_core.specs.CodeTree as t
 use Rattle.pt_core.specs.CodeTree.{StmtTree}
 use Rattle.pt_core.specs.Types.{type_of}
 use Rattle.pt_core.specs.Statements as c
-use Rattle.c_lower.specs.Lowered.{Temp, Effects, Lowered, LoweredPlace, past, temp, hold, holding, held_if, int}
-use Rattle.c_lower.specs.Operators as lo
-use Rattle.c_lower.specs.Operators.{prefixed, truth_of}
-use Rattle.c_lower.specs.Purity.{takes_left_first, is_pure}
-use Rattle.c_lower.specs.Expressions as l
-use Rattle.c_lower.specs.Expressions.{Scope, int_of, elem_of, value_in, form_in, effects_in, links_in, operands_in, arguments_in, place_in, root_in, steps_in, object_in, started, with_operand, where_open, arm, fixed_if}
+use Rattle.lowering.specs.Lowered.{Temp, Effects, Lowered, LoweredPlace, past, temp, hold, holding, held_if, int}
+use Rattle.lowering.specs.Operators as lo
+use Rattle.lowering.specs.Operators.{prefixed, truth_of}
+use Rattle.lowering.specs.Purity.{takes_left_first, is_pure}
+use Rattle.lowering.specs.Expressions as l
+use Rattle.lowering.specs.Expressions.{Scope, int_of, elem_of, value_in, form_in, effects_in, links_in, operands_in, arguments_in, place_in, root_in, steps_in, object_in, started, with_operand, where_open, arm, fixed_if}
 use Rattle.c_lower_law.specs.Relations.{core_cell, Scene, world_of, context_of, frame_of, scope_of, sizes_in, HasTemps, Kept, Alike, Same, After, below}
 use Rattle.c_lower_law.specs.Expressions.{run_all, cell_asked, place_asked, SameAsked, SameCell, Gives, IsValue, IsPlace, SceneFits}
 use Rattle.c_lower_law.proofs.Runs.{bind_bind, bind_gives}

@@ -32,10 +32,10 @@ use Rattle.pt_core.specs.CodeTree.{StmtTree, PlaceTree, place, deref}
 use Rattle.pt_core.specs.Values.{Stop}
 use Rattle.pt_core.specs.Statements as c
 use Rattle.pt_core.specs.Statements.{Flow, goes_on, evaluated}
-use Rattle.c_lower.specs.Lowered.{Temp, Lowered, LoweredPlace, past, temp, held_if}
-use Rattle.c_lower.specs.Operators.{stepped}
-use Rattle.c_lower.specs.Purity.{takes_left_first, is_pure}
-use Rattle.c_lower.specs.Expressions.{fixed_root, fixed_through, fixed_if}
+use Rattle.lowering.specs.Lowered.{Temp, Lowered, LoweredPlace, past, temp, held_if}
+use Rattle.lowering.specs.Operators.{stepped}
+use Rattle.lowering.specs.Purity.{takes_left_first, is_pure}
+use Rattle.lowering.specs.Expressions.{fixed_root, fixed_through, fixed_if}
 use Rattle.c_lower_law.specs.Relations.{Scene, world_of, context_of, sizes_in, HasTemps, Kept, Alike, Same, After, below}
 use Rattle.c_lower_law.specs.Expressions.{run_all, cell_asked, SameAsked, SameCell, Gives, IsValue, IsDropped, SceneFits}
 use Rattle.c_lower_law.proofs.Runs.{bind_bind, bind_gives, same_weaken}

@@ -21,10 +21,10 @@ use Rattle.pt_core.specs.CodeTree as t
 use Rattle.pt_core.specs.CodeTree.{StmtTree, choose, repeat, break_out, stmt_trees}
 use Rattle.pt_core.specs.Statements as c
 use Rattle.pt_core.specs.Statements.{goes_on, broke, continues, returned, after_flow, do_all}
-use Rattle.c_lower.specs.Lowered.{past, temp, hold, int}
-use Rattle.c_lower.specs.Expressions.{value_in, effects_in}
-use Rattle.c_lower.specs.Statements as l
-use Rattle.c_lower.specs.Statements.{Onward, nowhere, to_head, past_flag, number}
+use Rattle.lowering.specs.Lowered.{past, temp, hold, int}
+use Rattle.lowering.specs.Expressions.{value_in, effects_in}
+use Rattle.lowering.specs.Statements as l
+use Rattle.lowering.specs.Statements.{Onward, nowhere, to_head, past_flag, number}
 use Rattle.c_lower_law.specs.Relations.{Scene, frame_of, scope_of, HasTemps, Kept, Alike, Same, After, below, all}
 use Rattle.c_lower_law.specs.Expressions.{run_all, Gives, SceneFits, SameResult}
 use Rattle.c_lower_law.specs.Statements.{code_of, tests_of, lowered_with, but_flag, FlagIs, SameFlow, GivesFlow}

@@ -63,8 +63,8 @@ use Rattle.pt_core.specs.Calls as calls
 use Rattle.pt_core.specs.Calls.{signature_in, function_in, with_arguments}
 use Rattle.pt_core.specs.CoreRun as r
 use Rattle.pt_core.specs.CoreRun.{main_in, status_of, core_run}
-use Rattle.c_lower.specs.Statements.{nowhere}
-use Rattle.c_lower.specs.Functions.{lowered_body, core_of, core_program, main_end, signatures_from, globals_from}
+use Rattle.lowering.specs.Statements.{nowhere}
+use Rattle.lowering.specs.Functions.{lowered_body, core_of, core_program, main_end, signatures_from, globals_from}
 use Rattle.c_lower_law.specs.Relations.{core_cell, Scene, world_of, frame_of, SameObjects, Alike, Same}
 use Rattle.c_lower_law.specs.Expressions.{run_all, SameResult, SceneFits}
 use Rattle.c_lower_law.specs.Statements.{but_flag, GivesFlow, SameFlow, StatementsAgree, scene_in, LoweringKeepsTheRun}

@@ -37,10 +37,10 @@ use Rattle.pt_core.specs.CodeTree.{StmtTree}
 use Rattle.pt_core.specs.Statements as c
 use Rattle.pt_core.specs.Values as v
 use Rattle.pt_core.specs.Statements.{goes_on, evaluated}
-use Rattle.c_lower.specs.Lowered.{Temp, Effects, Lowered, LoweredPlace, past, temp, hold, holding, held_if, int}
-use Rattle.c_lower.specs.Purity.{takes_left_first, is_pure, are_pure}
-use Rattle.c_lower.specs.Expressions as l
-use Rattle.c_lower.specs.Expressions.{Scope, value_in, form_in, effects_in, form_effects, links_in, operands_in, arguments_in, place_in, root_in, steps_in, object_in, started, with_operand, fixed_if, named_place, behind, field_in, decayed, decayed_type}
+use Rattle.lowering.specs.Lowered.{Temp, Effects, Lowered, LoweredPlace, past, temp, hold, holding, held_if, int}
+use Rattle.lowering.specs.Purity.{takes_left_first, is_pure, are_pure}
+use Rattle.lowering.specs.Expressions as l
+use Rattle.lowering.specs.Expressions.{Scope, value_in, form_in, effects_in, form_effects, links_in, operands_in, arguments_in, place_in, root_in, steps_in, object_in, started, with_operand, fixed_if, named_place, behind, field_in, decayed, decayed_type}
 use Rattle.c_lower_law.specs.Relations.{name_of, Scene, global_types, variable_types, world_of, context_of, frame_of, scope_of, sizes_in, HasTemps, Kept, Alike, Same, After, below}
 use Rattle.c_lower_law.specs.Expressions.{run_all, cell_asked, place_asked, cells_asked, object_asked, SameAsked, SameCell, Gives, IsValue, IsPlace, IsObject, AreArguments, SceneFits}
 use Rattle.c_lower_law.proofs.Runs.{bind_bind, bind_gives}
@@ -75,7 +75,7 @@ use Rattle.source_soundness.proofs.Operators.{same_promoted_is}
 use Rattle.source_soundness.proofs.Steps.{arithmetic_int, shift_int, moved_is, when}
 use Rattle.source_soundness.proofs.Soundness.{array_of, object_of, some_of, given_struct, converts_scalar}
 use Rattle.pt_core.specs.Types.{type_at, global_type}
-use Rattle.c_lower.specs.Operators as lo
+use Rattle.lowering.specs.Operators as lo
 use Rattle.c_lower_law.proofs.Runs.{append_nothing}
 use Rattle.c_lower_law.proofs.Fixed.{fixed_place_type}
 use Rattle.c_lower_law.proofs.Values.{asked_settled}

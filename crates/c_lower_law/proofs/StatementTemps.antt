@@ -26,12 +26,12 @@ use Rattle.source_soundness.proofs.Tests.{left, right, never, got_or}
 use Rattle.source_soundness.proofs.ProgramFacts.{facts, all_at}
 use Rattle.pt_core.specs.CodeTree.{PlaceTree}
 use Rattle.pt_core.specs.Types.{type_at}
-use Rattle.c_lower.specs.Lowered.{Temp, Effects, past, counting, int}
-use Rattle.c_lower.specs.Expressions.{value_in, effects_in, object_in}
-use Rattle.c_lower.specs.Leaves.{leaf_places}
-use Rattle.c_lower.specs.Expressions as l
-use Rattle.c_lower.specs.Statements as s
-use Rattle.c_lower.specs.Statements.{Code, Onward, to_head, inside, outermost, items_in, value_stored, variable_place, initialised, declared, tested, stepped, begun, switch_temps, section_by, statement_in, otherwise_in, all_in, sections_in}
+use Rattle.lowering.specs.Lowered.{Temp, Effects, past, counting, int}
+use Rattle.lowering.specs.Expressions.{value_in, effects_in, object_in}
+use Rattle.lowering.specs.Leaves.{leaf_places}
+use Rattle.lowering.specs.Expressions as l
+use Rattle.lowering.specs.Statements as s
+use Rattle.lowering.specs.Statements.{Code, Onward, to_head, inside, outermost, items_in, value_stored, variable_place, initialised, declared, tested, stepped, begun, switch_temps, section_by, statement_in, otherwise_in, all_in, sections_in}
 use Rattle.c_lower_law.proofs.Entering.{AreScalar}
 use Rattle.c_lower_law.proofs.CallLaws.{Scalars, temps_of}
 use Rattle.c_lower_law.proofs.TempTypes.{scalar_both, scope_for, value_scalar, effects_scalar, object_scalar}

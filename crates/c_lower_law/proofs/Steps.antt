@@ -28,9 +28,9 @@ use Rattle.pt_core.specs.Values as v
 use Rattle.pt_core.specs.Values.{Stop, ◌>>?◌, written}
 use Rattle.pt_core.specs.Statements as c
 use Rattle.pt_core.specs.Statements.{Flow, goes_on, after_flow, evaluated}
-use Rattle.c_lower.specs.Lowered.{Temp, past, temp, hold}
-use Rattle.c_lower.specs.Operators as l
-use Rattle.c_lower.specs.Operators.{unit_of}
+use Rattle.lowering.specs.Lowered.{Temp, past, temp, hold}
+use Rattle.lowering.specs.Operators as l
+use Rattle.lowering.specs.Operators.{unit_of}
 use Rattle.c_lower_law.specs.Relations.{core_cell, Scene, world_of, context_of, sizes_in, Kept, Alike, Same, After, below, all}
 use Rattle.c_lower_law.specs.Expressions.{run_all, cell_asked, place_asked, SameAsked, SameCell, Gives, IsValue, IsPlace, SceneFits}
 use Rattle.c_lower_law.proofs.Runs.{bind_bind, bind_gives, run_append, stops_same_asked, asked_asked}

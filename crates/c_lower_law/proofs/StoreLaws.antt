@@ -37,12 +37,12 @@ use Rattle.pt_core.specs.CodeTree.{StmtTree, assign, expr_trees, call}
 use Rattle.pt_core.specs.Types.{type_of}
 use Rattle.pt_core.specs.Statements as c
 use Rattle.pt_core.specs.Statements.{goes_on}
-use Rattle.c_lower.specs.Lowered.{Temp, Effects, Lowered, LoweredPlace, Arguments, past, temp, hold, holding, int}
-use Rattle.c_lower.specs.Operators as lo
-use Rattle.c_lower.specs.Operators.{unit_of, unit_step}
-use Rattle.c_lower.specs.Purity.{is_pure}
-use Rattle.c_lower.specs.Expressions as l
-use Rattle.c_lower.specs.Expressions.{value_in, form_in, effects_in, form_effects, operands_in, arguments_in, place_in, object_in, started, arm, fixed_if, left_place, value_at, place_effects, given, compounded as lowered_compound}
+use Rattle.lowering.specs.Lowered.{Temp, Effects, Lowered, LoweredPlace, Arguments, past, temp, hold, holding, int}
+use Rattle.lowering.specs.Operators as lo
+use Rattle.lowering.specs.Operators.{unit_of, unit_step}
+use Rattle.lowering.specs.Purity.{is_pure}
+use Rattle.lowering.specs.Expressions as l
+use Rattle.lowering.specs.Expressions.{value_in, form_in, effects_in, form_effects, operands_in, arguments_in, place_in, object_in, started, arm, fixed_if, left_place, value_at, place_effects, given, compounded as lowered_compound}
 use Rattle.c_lower_law.specs.Relations.{Scene, world_of, context_of, scope_of, sizes_in, HasTemps, Kept, Alike, Same, After, below}
 use Rattle.c_lower_law.specs.Expressions.{run_all, cell_asked, place_asked, cells_asked, SameAsked, SameCell, Gives, IsValue, IsPlace, AreArguments, SceneFits}
 use Rattle.c_lower_law.proofs.Runs.{bind_bind, bind_gives, append_nothing}

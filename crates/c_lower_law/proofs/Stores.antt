@@ -35,10 +35,10 @@ use Rattle.pt_core.specs.Values as v
 use Rattle.pt_core.specs.Values.{Stop, ◌>>?◌, written}
 use Rattle.pt_core.specs.Statements as c
 use Rattle.pt_core.specs.Statements.{Flow, goes_on, after_flow, evaluated, with_blocks}
-use Rattle.c_lower.specs.Lowered.{Temp, LoweredPlace, past, temp, hold}
-use Rattle.c_lower.specs.Operators as l
-use Rattle.c_lower.specs.Operators.{stepped, stored}
-use Rattle.c_lower.specs.Expressions.{fixed_root, fixed_through, fixed_if}
+use Rattle.lowering.specs.Lowered.{Temp, LoweredPlace, past, temp, hold}
+use Rattle.lowering.specs.Operators as l
+use Rattle.lowering.specs.Operators.{stepped, stored}
+use Rattle.lowering.specs.Expressions.{fixed_root, fixed_through, fixed_if}
 use Rattle.c_lower_law.specs.Relations.{name_of, core_cell, Scene, world_of, context_of, frame_of, sizes_in, HasTemps, Kept, Alike, Same, After, below, all}
 use Rattle.c_lower_law.specs.Expressions.{run_all, cell_asked, place_asked, SameAsked, SameCell, Gives, IsValue, IsPlace, IsDropped, SceneFits}
 use Rattle.c_lower_law.proofs.Runs.{bind_bind, bind_gives, run_append, Stops, stops_at, stops_same, stops_same_asked, asked_run, asked_asked}

@@ -40,11 +40,11 @@ use Rattle.pt_core.specs.Values as v
 use Rattle.pt_core.specs.Values.{Stop, ◌>>?◌, converted, is_type}
 use Rattle.pt_core.specs.Statements as c
 use Rattle.pt_core.specs.Statements.{goes_on, broke, continues, returned, after_flow, do_all, with_blocks}
-use Rattle.c_lower.specs.Lowered.{Temp, Effects, Lowered, past, temp, hold, int, counting}
-use Rattle.c_lower.specs.Operators.{as_int}
-use Rattle.c_lower.specs.Expressions.{is_struct, value_in}
-use Rattle.c_lower.specs.Statements as l
-use Rattle.c_lower.specs.Statements.{Onward, nowhere, to_head, past_flag, number, onwards, inside, behind_switch, cases_from, otherwise_of, switch_temps, switched}
+use Rattle.lowering.specs.Lowered.{Temp, Effects, Lowered, past, temp, hold, int, counting}
+use Rattle.lowering.specs.Operators.{as_int}
+use Rattle.lowering.specs.Expressions.{is_struct, value_in}
+use Rattle.lowering.specs.Statements as l
+use Rattle.lowering.specs.Statements.{Onward, nowhere, to_head, past_flag, number, onwards, inside, behind_switch, cases_from, otherwise_of, switch_temps, switched}
 use Rattle.c_lower_law.specs.Relations.{Scene, core_cell, context_of, frame_of, scope_of, HasTemps, Kept, Alike, Same, After, below, all}
 use Rattle.c_lower_law.specs.Expressions.{run_all, cell_asked, Gives, IsValue, SceneFits, SameResult}
 use Rattle.c_lower_law.specs.Statements.{is_flag, but_flag, FlagIs, Continues, SameFlow, GivesFlow}

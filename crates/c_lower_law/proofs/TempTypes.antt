@@ -34,10 +34,10 @@ use Rattle.source_soundness.proofs.Tests.{left, right, never, got, got_or}
 use Rattle.pt_core.specs.CodeTree as t
 use Rattle.pt_core.specs.CodeTree.{local, global, deref}
 use Rattle.pt_core.specs.Types.{field_type, pointee_type}
-use Rattle.c_lower.specs.Lowered.{Temp, Effects, Lowered, LoweredPlace, Arguments, past, holding, held_if, int}
-use Rattle.c_lower.specs.Purity.{takes_left_first, is_pure, are_pure}
-use Rattle.c_lower.specs.Expressions as l
-use Rattle.c_lower.specs.Expressions.{Scope, value_in, form_in, effects_in, form_effects, links_in, operands_in, arguments_in, place_in, root_in, steps_in, object_in, form_object, started, with_operand, fixed_root, fixed_through, fixed_if, left_place, assigned, behind, field_in, decayed, decayed_type, linked, chain_so_far, element_place}
+use Rattle.lowering.specs.Lowered.{Temp, Effects, Lowered, LoweredPlace, Arguments, past, holding, held_if, int}
+use Rattle.lowering.specs.Purity.{takes_left_first, is_pure, are_pure}
+use Rattle.lowering.specs.Expressions as l
+use Rattle.lowering.specs.Expressions.{Scope, value_in, form_in, effects_in, form_effects, links_in, operands_in, arguments_in, place_in, root_in, steps_in, object_in, form_object, started, with_operand, fixed_root, fixed_through, fixed_if, left_place, assigned, behind, field_in, decayed, decayed_type, linked, chain_so_far, element_place}
 use Rattle.c_lower_law.proofs.Places.{some_same, field_of_struct}
 use Rattle.c_lower_law.proofs.Values.{Scalar}
 use Rattle.c_lower_law.proofs.OperandTypes.{ScalarType, scalar_type, convert_type}

@@ -44,9 +44,9 @@ use Rattle.pt_core.specs.Values as v
 use Rattle.pt_core.specs.Values.{Stop, ◌>>?◌}
 use Rattle.pt_core.specs.Statements as c
 use Rattle.pt_core.specs.Statements.{Flow, goes_on, evaluated}
-use Rattle.c_lower.specs.Lowered.{Temp, Lowered, LoweredPlace, past, temp, hold, held_if}
-use Rattle.c_lower.specs.Operators as l
-use Rattle.c_lower.specs.Operators.{stepped, prefixed}
+use Rattle.lowering.specs.Lowered.{Temp, Lowered, LoweredPlace, past, temp, hold, held_if}
+use Rattle.lowering.specs.Operators as l
+use Rattle.lowering.specs.Operators.{stepped, prefixed}
 use Rattle.c_lower_law.specs.Relations.{name_of, core_cell, SameObjects, Scene, world_of, context_of, frame_of, sizes_in, HasTemps, HasRoom, Kept, Alike, Same, SameSeen, After, below}
 use Rattle.c_lower_law.specs.Expressions.{run_all, asked, cell_asked, place_asked, SameAsked, SameCell, Gives, IsValue, IsPlace, SceneFits}
 use Rattle.source_soundness.proofs.Tests.{got_or}

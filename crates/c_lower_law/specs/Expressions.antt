@@ -28,8 +28,8 @@ use Rattle.pt_core.specs.Values as v
 use Rattle.pt_core.specs.Values.{Stop, ◌>>?◌, cells_at}
 use Rattle.pt_core.specs.Statements as c
 use Rattle.pt_core.specs.Statements.{Flow, goes_on, evaluated, do_all}
-use Rattle.c_lower.specs.Lowered.{Temp, Effects, Lowered, LoweredPlace, Arguments}
-use Rattle.c_lower.specs.Expressions.{value_in, effects_in, place_in, object_in, arguments_in}
+use Rattle.lowering.specs.Lowered.{Temp, Effects, Lowered, LoweredPlace, Arguments}
+use Rattle.lowering.specs.Expressions.{value_in, effects_in, place_in, object_in, arguments_in}
 use Rattle.c_lower_law.specs.Relations.{core_cell, name_of, Scene, variable_types, global_types, world_of, context_of, frame_of, scope_of, sizes_in, HasTemps, Kept, Alike, Same, After, below, all}
 
 -- ---- the normal form's side
@@ -133,7 +133,7 @@ pub record SceneFits (s : Scene) : Type 0 where
   pub variables : (x : ℕ) (ty : VarTy) → slice_get (variable_types s) x ≡ Some ty → type_at s.core_variables x ≡ ty
   pub calls : CallsAlike s
 
--- ---- the laws
+-- ---- what is kept of an expression
 
 -- an expression whose value is kept
 abbrev pub ValuesAgree : Type 0
@@ -152,13 +152,3 @@ abbrev pub ObjectsAgree : Type 0
 ObjectsAgree = (s : Scene) (e : ExprTree) (n k : ℕ) (st : State) (st' : c.State) → SceneFits s → IsTrue (is_typed s.names e) → ty_of e ≡ Some (Struct k) →
     length s.names.vars ≤ n → HasTemps s.core_variables n (object_in (scope_of s) e n).temps → Alike s st st' →
     (let p = object_in (scope_of s) e n in SameAsked (Kept s (below n) st'.memory) (Gives s (below n) st'.memory (IsObject s k)) (object_asked s p.place k) (value_of e (context_of s) st) (run_all s p.stmts st'))
-
-abbrev pub PlacesAgree : Type 0
-PlacesAgree = (s : Scene) (p : PlaceTree) (n : ℕ) (ty : VarTy) (st : State) (st' : c.State) → SceneFits s → IsTrue (place_fits s.names p) → place_type s.names p ≡ Some ty →
-    length s.names.vars ≤ n → HasTemps s.core_variables n (place_in (scope_of s) p n).temps → Alike s st st' →
-    (let l = place_in (scope_of s) p n in SameAsked (Kept s (below n) st'.memory) (Gives s (below n) st'.memory (IsPlace s ty)) (place_asked s l.place) (location_of p (context_of s) st) (run_all s l.stmts st'))
-
-abbrev pub ArgumentsAgree : Type 0
-ArgumentsAgree = (s : Scene) (es : ExprTrees) (n : ℕ) (params : List Param) (st : State) (st' : c.State) → SceneFits s → IsTrue (all_typed s.names es) → IsTrue (arguments_fit params es) →
-    length s.names.vars ≤ n → HasTemps s.core_variables n (arguments_in (scope_of s) es n).temps → Alike s st st' →
-    (let a = arguments_in (scope_of s) es n in SameAsked (Kept s (below n) st'.memory) (Gives s (below n) st'.memory (AreArguments s params)) (cells_asked s a.values) (values_of es (context_of s) st) (run_all s a.stmts st'))

@@ -17,8 +17,8 @@ use Rattle.source_meaning.specs.Expressions.{Frame, Calls, Context, sizes}
 use Rattle.source_soundness.specs.Worlds.{World, type_in, Fits}
 use Rattle.source_soundness.specs.Sizes.{Sized}
 use Rattle.pt_core.specs.Statements as c
-use Rattle.c_lower.specs.Expressions.{Scope}
-use Rattle.c_lower.specs.Lowered.{Temp}
+use Rattle.lowering.specs.Expressions.{Scope}
+use Rattle.lowering.specs.Lowered.{Temp}
 
 -- ---- cells and blocks
 

@@ -24,9 +24,9 @@ use Rattle.source_meaning.specs.WholeRun.{whole_run}
 use Rattle.pt_core.specs.Statements as c
 use Rattle.pt_core.specs.Calls as calls
 use Rattle.pt_core.specs.CoreRun.{core_run}
-use Rattle.c_lower.specs.Statements as l
-use Rattle.c_lower.specs.Statements.{Onward, nowhere, to_head, past_flag, statement_in}
-use Rattle.c_lower.specs.Functions.{core_program}
+use Rattle.lowering.specs.Statements as l
+use Rattle.lowering.specs.Statements.{Onward, nowhere, to_head, past_flag, statement_in}
+use Rattle.lowering.specs.Functions.{core_program}
 use Rattle.c_lower_law.specs.Relations.{Scene, context_of, scope_of, HasTemps, Alike, Same, After, below}
 use Rattle.c_lower_law.specs.Expressions.{ValuesAgree, EffectsAgree, ObjectsAgree, SceneFits, CallsAlike, SameResult, run_all}
 

@@ -30,9 +30,9 @@ use Rattle.pt_core.specs.WellFormedStatement as core
 use Rattle.pt_core.specs.WellFormedStatement.{value_fits, stmt_fits, stmts_fit, is_compound, call_fits, result_fits}
 use Rattle.source_meaning.specs.Expressions as x
 use Rattle.source_meaning.specs.Expressions.{type_or_int}
-use Rattle.c_lower.specs.Lowered.{Temp, Effects, Lowered, LoweredPlace, Arguments, past, temp, hold, holding, int, pure}
-use Rattle.c_lower.specs.Operators.{converted, prefixed, truth_of, stepped, stored, unit_step, unit_of}
-use Rattle.c_lower.specs.Expressions.{int_of, elem_of, is_struct, value_at, checked, linked, started, valued, where_open, with_operand, arm, chosen, copied, given, assigned, compounded, counted, counted_after, argued, call_effects, called}
+use Rattle.lowering.specs.Lowered.{Temp, Effects, Lowered, LoweredPlace, Arguments, past, temp, hold, holding, int, pure}
+use Rattle.lowering.specs.Operators.{converted, prefixed, truth_of, stepped, stored, unit_step, unit_of}
+use Rattle.lowering.specs.Expressions.{int_of, elem_of, is_struct, value_at, checked, linked, started, valued, where_open, with_operand, arm, chosen, copied, given, assigned, compounded, counted, counted_after, argued, call_effects, called}
 use Rattle.lowered_forms_law.proofs.Settings.{Agrees, EffectsFit, Fit, Known, LoweredFits, PlaceFits, Setting, Stand, ValueFits, context, is_known, scope}
 use Rattle.typed_tree.proofs.SameTypes.{equal_options, type_self}
 use Rattle.lowered_forms_law.proofs.SameTypes.{never}

@@ -25,7 +25,7 @@ use Rattle.typed_tree.proofs.LeavesLemmas.{get_before, longer}
 use Rattle.pt_core.specs.CodeTree.{PlaceTree, constant, decay, move}
 use Rattle.pt_core.specs.Types.{Context, place_type, field_type}
 use Rattle.pt_core.specs.WellFormedExpression.{is_field, place_fits}
-use Rattle.c_lower.specs.Leaves.{Step, to_field, to_element, Ways, begun_with, element_ways, elem_ways, object_ways, field_ways, ways_from, ways_of, stepped_to, at_end_of, leaf_places}
+use Rattle.lowering.specs.Leaves.{Step, to_field, to_element, Ways, begun_with, element_ways, elem_ways, object_ways, field_ways, ways_from, ways_of, stepped_to, at_end_of, leaf_places}
 use Rattle.lowered_forms_law.proofs.SameTypes.{never}
 use Rattle.lowered_forms_law.proofs.Steps.{constant_fits, move_fits}
 use Rattle.lowered_forms_law.proofs.Places.{FieldIs, decay_fits, deref_fits, deref_type, field_fits, field_in_struct, field_typed}

@@ -15,8 +15,8 @@ use Rattle.typed_tree.specs.WellFormed.{are_rising}
 use Rattle.typed_tree.proofs.WellFormedLemmas.{and_left, and_right, and_both}
 use Rattle.pt_core.specs.CodeTree as core
 use Rattle.pt_core.specs.CodeTree.{GlobalTree}
-use Rattle.c_lower.specs.Lowered.{Temp}
-use Rattle.c_lower.specs.Functions.{variable_of, core_of, code_if, functions_from, signatures_from, globals_from}
+use Rattle.lowering.specs.Lowered.{Temp}
+use Rattle.lowering.specs.Functions.{variable_of, core_of, code_if, functions_from, signatures_from, globals_from}
 use Rattle.lowered_forms_law.proofs.Settings.{Stand}
 
 pub when_true : {A : Type 0} (b : Bool) (x y : A) → b ≡ true → cond b x y ≡ x

@@ -18,9 +18,9 @@ use Rattle.typed_tree.proofs.WellFormedLemmas.{and_left, and_right}
 use Rattle.pt_core.specs.CodeTree.{decay, address, constant}
 use Rattle.pt_core.specs.WellFormedExpression as core
 use Rattle.source_meaning.specs.Expressions.{type_or_int, type_of}
-use Rattle.c_lower.specs.Lowered.{Temp, Effects, Lowered, LoweredPlace, past, holding, held, held_if}
-use Rattle.c_lower.specs.Purity.{is_pure}
-use Rattle.c_lower.specs.Expressions.{Scope, is_struct, field_in, decayed, decayed_type, element_place, left_place, valued, assigned, compounded, value_at, value_in, place_in, root_in, steps_in}
+use Rattle.lowering.specs.Lowered.{Temp, Effects, Lowered, LoweredPlace, past, holding, held, held_if}
+use Rattle.lowering.specs.Purity.{is_pure}
+use Rattle.lowering.specs.Expressions.{Scope, is_struct, field_in, decayed, decayed_type, element_place, left_place, valued, assigned, compounded, value_at, value_in, place_in, root_in, steps_in}
 use Rattle.lowered_forms_law.proofs.Settings.{Agrees, EffectsFit, LoweredFits, PlaceFits, Setting, Stand, context, source}
 use Rattle.typed_tree.proofs.SameTypes.{equal_options}
 use Rattle.lowered_forms_law.proofs.SameTypes.{never}

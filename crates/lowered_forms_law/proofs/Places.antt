@@ -28,8 +28,8 @@ use Rattle.pt_core.specs.Types as core
 use Rattle.pt_core.specs.Types.{Context, type_of, type_at, place_type, root_type, path_type, field_type, pointee_type, global_type}
 use Rattle.pt_core.specs.WellFormedExpression.{stands_for, is_field, is_path, is_addressed, expr_fits, place_fits, root_fits}
 use Rattle.source_meaning.specs.Expressions as x
-use Rattle.c_lower.specs.Lowered.{Temp, Lowered, LoweredPlace, past, temp, hold}
-use Rattle.c_lower.specs.Expressions.{place_with_field, field_in, behind, fixed_root, fixed_through, fixed_if, named_place, element_place}
+use Rattle.lowering.specs.Lowered.{Temp, Lowered, LoweredPlace, past, temp, hold}
+use Rattle.lowering.specs.Expressions.{place_with_field, field_in, behind, fixed_root, fixed_through, fixed_if, named_place, element_place}
 use Rattle.lowered_forms_law.proofs.Settings.{Agrees, Leads, LoweredFits, PlaceFits, Setting, Stand, ValueFits, context, is_known, scope, source}
 use Rattle.typed_tree.proofs.SameTypes.{equal_elems}
 use Rattle.lowered_forms_law.proofs.SameTypes.{never, points, stands_pointer}

@@ -32,9 +32,9 @@ use Rattle.pt_core.specs.WellFormedExpression.{expr_fits}
 use Rattle.pt_core.specs.WellFormedStatement.{Scope, call_fits, stmt_fits, stmts_fit, callees_in, callees_of}
 use Rattle.pt_core.specs.WellFormed as core
 use Rattle.pt_core.specs.WellFormed.{signature_at, function_at, are_in_order, global_fits, are_small, param_fits, signature_fits, variable_fits, with_own, called_signature, scope_of, counts_fit, function_by, function_fits, callees, callee_by, callee_fits, is_main_by, starts_by, is_only_start, has_main}
-use Rattle.c_lower.specs.Lowered.{Temp, Effects}
-use Rattle.c_lower.specs.Functions.{variable_of, main_end, lowered_body, core_of, code_if, functions_from, signatures_from, globals_from, core_program}
-use Rattle.c_lower.specs.Statements.{nowhere}
+use Rattle.lowering.specs.Lowered.{Temp, Effects}
+use Rattle.lowering.specs.Functions.{variable_of, main_end, lowered_body, core_of, code_if, functions_from, signatures_from, globals_from, core_program}
+use Rattle.lowering.specs.Statements.{nowhere}
 use Rattle.lowered_forms_law.proofs.Settings.{Agrees, EffectsFit, Fit, Known, Setting, scope}
 use Rattle.typed_tree.proofs.SameTypes.{equal_ints, equal_types}
 use Rattle.lowered_forms_law.proofs.SameTypes.{never}

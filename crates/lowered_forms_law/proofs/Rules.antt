@@ -18,7 +18,7 @@ use Rattle.typed_tree.specs.WellFormedExpression as f
 use Rattle.typed_tree.specs.WellFormedExpression.{Names, is_typed, form_fits, all_typed, links_fit, operands_fit, place_fits, root_fits, steps_fit, ty_of, root_type, step_type, steps_type, place_type, field_type, item_type, has_links, has_operands, is_addressed, is_written, keeps_const, place_const, is_assign, assigned_type, is_named, ends_in_field, is_object}
 use Rattle.typed_tree.proofs.WellFormedLemmas.{and_left, and_right}
 use Rattle.source_meaning.specs.Expressions.{type_or_int, type_of}
-use Rattle.c_lower.specs.Expressions.{is_struct}
+use Rattle.lowering.specs.Expressions.{is_struct}
 use Rattle.typed_tree.proofs.SameTypes.{equal_elems, equal_options}
 use Rattle.lowered_forms_law.proofs.SameTypes.{never}
 use Rattle.lowered_forms_law.proofs.Steps.{convert_known, one_type, step_operands, step_scalar, unary_operand}

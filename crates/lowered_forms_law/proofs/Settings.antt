@@ -16,8 +16,8 @@ use Rattle.pt_core.specs.CodeTree.{ExprTree, PlaceTree, place, deref, StmtTree}
 use Rattle.pt_core.specs.Types.{Context, type_of, place_type}
 use Rattle.pt_core.specs.WellFormedExpression.{stands_for, expr_fits, place_fits}
 use Rattle.pt_core.specs.WellFormedStatement.{Scope, stmt_fits}
-use Rattle.c_lower.specs.Expressions as lower
-use Rattle.c_lower.specs.Lowered.{Temp, Lowered, LoweredPlace}
+use Rattle.lowering.specs.Expressions as lower
+use Rattle.lowering.specs.Lowered.{Temp, Lowered, LoweredPlace}
 
 pub record Setting : Type 0 where
   -- of the source

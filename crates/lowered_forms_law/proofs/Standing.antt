@@ -13,7 +13,7 @@ use Rattle.pt_core.specs.CodeTree.{ExprTree, PlaceTree, StmtTree, assign, choose
 use Rattle.pt_core.specs.Types.{Context, type_of, place_type}
 use Rattle.pt_core.specs.WellFormedExpression.{stands_for, expr_fits, place_fits}
 use Rattle.pt_core.specs.WellFormedStatement.{Scope, stmt_fits, stmts_fit}
-use Rattle.c_lower.specs.Lowered.{Temp, Lowered, past, temp, temp_place, hold, held, held_if}
+use Rattle.lowering.specs.Lowered.{Temp, Lowered, past, temp, temp_place, hold, held, held_if}
 use Rattle.lowered_forms_law.proofs.Settings.{Fit, Known, LoweredFits, Setting, Stand, ValueFits, context, is_known, scope}
 use Rattle.lowered_forms_law.proofs.SameTypes.{stands_scalar, stands_self}
 

@@ -25,7 +25,7 @@ use Rattle.typed_tree.proofs.WellFormedLemmas.{and_left, and_right, and_both}
 use Rattle.pt_core.specs.CodeTree.{ExprTree, constant, unary, binary, convert, null, move, compare, difference}
 use Rattle.pt_core.specs.Types.{Context, type_of}
 use Rattle.pt_core.specs.WellFormedExpression.{stands_for, expr_fits, takes_one, takes_two}
-use Rattle.c_lower.specs.Operators.{as_int, converted, prefixed, truth_of, shift_of, stepped, stored, unit_step, unit_of}
+use Rattle.lowering.specs.Operators.{as_int, converted, prefixed, truth_of, shift_of, stepped, stored, unit_step, unit_of}
 use Rattle.lowered_forms_law.proofs.Settings.{ValueFits}
 use Rattle.typed_tree.proofs.SameTypes.{elem_self, equal_elems, equal_ints, equal_types, int_self}
 use Rattle.lowered_forms_law.proofs.SameTypes.{keeps_both, never, points, promoted_promoted, promoted_same, stands_int, stands_pointer, usual_both, usual_same}

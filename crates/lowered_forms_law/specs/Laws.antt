@@ -3,7 +3,7 @@ use Rattle.std.specs.Prelude.{IsTrue}
 use Rattle.typed_tree.specs.TypedTree.{TypedTree}
 use Rattle.typed_tree.specs.WellFormed as source
 use Rattle.pt_core.specs.WellFormed as core
-use Rattle.c_lower.specs.Functions.{core_program}
+use Rattle.lowering.specs.Functions.{core_program}
 
 -- of every well formed typed program the lowered one is well formed in the normal form
 abbrev pub LoweredProgramsAreWellFormed : Type 0

@@ -11,8 +11,8 @@ use Rattle.typed_tree.specs.Parts.{function_parts, parts_of}
 use Rattle.typed_tree.specs.Lookup.{function_at, parts_in}
 use Rattle.typed_tree.specs.WellFormedExpression.{is_main}
 use Rattle.pt_core.specs.CodeTree.{constant, give_back}
-use Rattle.c_lower.specs.Functions.{code_of, core_of, lowered_body, main_end}
-use Rattle.c_lower.specs.Statements.{nowhere}
+use Rattle.lowering.specs.Functions.{code_of, core_of, lowered_body, main_end}
+use Rattle.lowering.specs.Statements.{nowhere}
 use Rattle.sides.proofs.ListLemmas.{contains_map}
 use Rattle.lowered_names_law.specs.Laws.{LoweredNames}
 use Rattle.lowered_names_law.proofs.Naming.{Allowed, PartsName, AreWithin, StmtsWithin}

@@ -8,9 +8,9 @@ use Rattle.typed_tree.specs.ExpressionTree as src
 use Rattle.typed_tree.specs.ExpressionTree.{typed, FormTree, ExprTrees, no_exprs, expr_and, LinkTree, LinkTrees, no_links, link_and, link, OperandTrees, no_operands, operand_and, operand, RootTree, StepTree, StepTrees, no_steps, step_and, step_trees}
 use Rattle.pt_core.specs.CodeTree.{decay}
 use Rattle.source_meaning.specs.Expressions.{type_or_int, type_of}
-use Rattle.c_lower.specs.Lowered.{Effects, Lowered, LoweredPlace, past, holding, held_if}
-use Rattle.c_lower.specs.Purity.{takes_left_first, is_pure, are_pure}
-use Rattle.c_lower.specs.Expressions.{Scope, is_struct, field_in, decayed, decayed_type, element_place, left_place, fixed_if, linked, chain_so_far, started, with_operand, arm, value_in, form_in, effects_in, form_effects, links_in, operands_in, arguments_in, object_in, form_object, place_in, root_in, steps_in}
+use Rattle.lowering.specs.Lowered.{Effects, Lowered, LoweredPlace, past, holding, held_if}
+use Rattle.lowering.specs.Purity.{takes_left_first, is_pure, are_pure}
+use Rattle.lowering.specs.Expressions.{Scope, is_struct, field_in, decayed, decayed_type, element_place, left_place, fixed_if, linked, chain_so_far, started, with_operand, arm, value_in, form_in, effects_in, form_effects, links_in, operands_in, arguments_in, object_in, form_object, place_in, root_in, steps_in}
 use Rattle.lowered_names_law.proofs.Naming.{Allowed, ExprNames, FormNames, ExprsName, LinksName, OperandsName, PlaceNames, RootNames, StepsName, EffectsWithin, LoweredWithin, FoundWithin, ArgumentsWithin}
 use Rattle.lowered_names_law.proofs.Forms.{converted_within, prefixed_within, held_within, held_if_within, field_within, element_within, fixed_if_within, checked_within, linked_within, started_within, operand_within, arm_within, chosen_within, assigned_within, compounded_within, counted_within, counted_after_within, argued_within, call_within, called_within}
 

@@ -15,9 +15,9 @@ use Rattle.typed_tree.specs.declared.link.LogicalOp.TheVariants.{And, Or}
 use Rattle.typed_tree.specs.ExpressionTree as src
 use Rattle.typed_tree.specs.TypeTests.{same_int}
 use Rattle.pt_core.specs.CodeTree.{local, global, deref, PlaceTree, place, ExprTree, read, convert, StmtTree, check, assign, copy, call, choose, expr_trees, stmt_trees}
-use Rattle.c_lower.specs.Lowered.{Temp, Effects, Lowered, LoweredPlace, Arguments, pure, past, temp, hold, followed, held, held_if}
-use Rattle.c_lower.specs.Operators.{as_int, converted, prefixed, truth_of, promoted_of, stepped, stored, unit_step, unit_of}
-use Rattle.c_lower.specs.Expressions.{Scope, place_with_field, field_in, element_place, fixed_root, fixed_through, fixed_if, checked, linked, started, where_open, with_operand, arm, chosen, copied, given, assigned, compounded, counted, counted_after, argued, call_effects, called}
+use Rattle.lowering.specs.Lowered.{Temp, Effects, Lowered, LoweredPlace, Arguments, pure, past, temp, hold, followed, held, held_if}
+use Rattle.lowering.specs.Operators.{as_int, converted, prefixed, truth_of, promoted_of, stepped, stored, unit_step, unit_of}
+use Rattle.lowering.specs.Expressions.{Scope, place_with_field, field_in, element_place, fixed_root, fixed_through, fixed_if, checked, linked, started, where_open, with_operand, arm, chosen, copied, given, assigned, compounded, counted, counted_after, argued, call_effects, called}
 use Rattle.lowered_names_law.proofs.Naming.{Allowed, PlaceWithin, ExprWithin, ExprsWithin, StmtWithin, StmtsWithin, AreWithin, ValuesWithin, EffectsWithin, LoweredWithin, FoundWithin, ArgumentsWithin}
 
 -- ---- lists

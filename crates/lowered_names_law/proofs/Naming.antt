@@ -6,7 +6,7 @@ use Rattle.typed_tree.specs.declared.part.Part.{Part}
 use Rattle.typed_tree.specs.ExpressionTree as src
 use Rattle.typed_tree.specs.ExpressionTree.{typed, link, link_and, no_links, operand, operand_and, no_operands, step_and, no_steps}
 use Rattle.pt_core.specs.CodeTree.{RootTree, local, global, deref, PlaceTree, place, ExprTree, constant, read, unary, binary, convert, null, address, decay, move, compare, difference, ExprTrees, no_exprs, expr_and, StmtTree, clear, check, assign, copy, call, choose, repeat, break_out, continue_on, give_back, StmtTrees, no_stmts, stmt_and}
-use Rattle.c_lower.specs.Lowered.{Effects, Lowered, LoweredPlace, Arguments}
+use Rattle.lowering.specs.Lowered.{Effects, Lowered, LoweredPlace, Arguments}
 
 -- the globals that may be named, and the functions and hosts that may be called
 pub record Allowed : Type 0 where

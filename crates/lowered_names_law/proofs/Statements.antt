@@ -22,11 +22,11 @@ use Rattle.typed_tree.specs.Parts.{part_of, optional_part, init_parts, declarato
 use Rattle.pt_core.specs.CodeTree.{PlaceTree, clear, assign, choose, repeat, break_out, give_back, stmt_trees}
 use Rattle.pt_core.specs.Types.{type_at}
 use Rattle.source_meaning.specs.Expressions.{type_of}
-use Rattle.c_lower.specs.Lowered.{Effects, Lowered, past, hold, followed}
-use Rattle.c_lower.specs.Operators.{as_int}
-use Rattle.c_lower.specs.Expressions.{is_struct, value_in, effects_in, object_in, copied, given, place_effects}
-use Rattle.c_lower.specs.Leaves.{Step, to_field, to_element, Ways, ways_of, stepped_to, at_end_of, leaf_places}
-use Rattle.c_lower.specs.Statements.{Code, outermost, Onward, nowhere, to_head, past_flag, number, onwards, inside, behind_switch, variable, variable_place, items_in, value_stored, initialised, declared, tested, stepped, looped, on_the_way_back, first_told, case_of, cases_from, otherwise_of, section_by, switched, begun, statement_in, otherwise_in, all_in, sections_in}
+use Rattle.lowering.specs.Lowered.{Effects, Lowered, past, hold, followed}
+use Rattle.lowering.specs.Operators.{as_int}
+use Rattle.lowering.specs.Expressions.{is_struct, value_in, effects_in, object_in, copied, given, place_effects}
+use Rattle.lowering.specs.Leaves.{Step, to_field, to_element, Ways, ways_of, stepped_to, at_end_of, leaf_places}
+use Rattle.lowering.specs.Statements.{Code, outermost, Onward, nowhere, to_head, past_flag, number, onwards, inside, behind_switch, variable, variable_place, items_in, value_stored, initialised, declared, tested, stepped, looped, on_the_way_back, first_told, case_of, cases_from, otherwise_of, section_by, switched, begun, statement_in, otherwise_in, all_in, sections_in}
 use Rattle.lowered_names_law.proofs.Naming.{Allowed, ExprNames, FoundNames, PartsName, PlaceWithin, AreWithin, PlacesWithin, EffectsWithin, LoweredWithin}
 use Rattle.lowered_names_law.proofs.Usages.{outermost_names}
 use Rattle.lowered_names_law.proofs.Forms.{as_int_within, both_within, copied_within, followed_within, given_within, one_more, trees_within, with_field_within}

@@ -1,11 +1,11 @@
 use Rattle.std.proofs.Common.{ap, drop, ◌+◌, [], ◌∷◌}
 use Rattle.std.proofs.lemmas.List.{drop_all}
 use Rattle.pt_core.specs.CodeTree.{clear}
-use Rattle.c_lower.specs.Lowered.{Effects}
-use Rattle.c_lower.specs.Names.{code_in}
-use Rattle.c_lower.specs.Output.{output_of, next}
-use Rattle.c_lower.specs.Statements.{declared, initialised}
-use Rattle.c_lower.proofs.WalkLemmas.{split_at}
+use Rattle.lowering.specs.Lowered.{Effects}
+use Rattle.lowering.specs.Names.{code_in}
+use Rattle.lowering.specs.Output.{output_of, next}
+use Rattle.lowering.specs.Statements.{declared, initialised}
+use Rattle.lowering.proofs.Lists.{split_at}
 use Rattle.c_lower.proofs.LoopLemmas.{leads_step, leads_end, stmts_then}
 use Rattle.c_lower.proofs.declarations.declare.Goals as goal
 

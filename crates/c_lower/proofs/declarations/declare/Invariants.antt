@@ -1,7 +1,7 @@
 use Rattle.std.proofs.Common.{◌≡◌, drop}
-use Rattle.c_lower.specs.Names.{code_in}
-use Rattle.c_lower.specs.Output.{output_of, next}
-use Rattle.c_lower.specs.Statements.{declared}
+use Rattle.lowering.specs.Names.{code_in}
+use Rattle.lowering.specs.Output.{output_of, next}
+use Rattle.lowering.specs.Statements.{declared}
 use Rattle.c_lower.proofs.LoopLemmas.{Leads}
 use Rattle.c_lower.proofs.declarations.declare.Given as goal
 

@@ -1,6 +1,6 @@
-use Rattle.c_lower.specs.Names.{code_in}
-use Rattle.c_lower.specs.Output.{output_of}
-use Rattle.c_lower.specs.Statements.{outermost}
+use Rattle.lowering.specs.Names.{code_in}
+use Rattle.lowering.specs.Output.{output_of}
+use Rattle.lowering.specs.Statements.{outermost}
 use Rattle.c_lower.proofs.LeafLemmas.{object_stored, value_given}
 use Rattle.c_lower.proofs.declarations.store_value.Goals as goal
 

@@ -5,12 +5,15 @@ use Rattle.typed_tree.specs.ExpressionTree as tree
 use Rattle.typed_tree.proofs.Rows.{view_read, view_decay, view_address, view_chain, view_logical, view_assign, view_compound, view_increment, view_call}
 use Rattle.pt_core.specs.CodeTree.{view_expr}
 use Rattle.source_meaning.specs.Expressions.{type_of}
-use Rattle.c_lower.specs.Names.{scope_of}
-use Rattle.c_lower.specs.Output.{output_of, next}
-use Rattle.c_lower.proofs.OutputLemmas.{same_stmt}
-use Rattle.c_lower.proofs.FormLemmas.{checked_is, choice_is, choice_dropped, count_is, operand_is}
-use Rattle.c_lower.proofs.ArmLemmas.{chain_is, logical_is, compound_is, compound_dropped, copied_in, given_in, assign_is, assign_dropped, assign_object, counted_dropped, unary_dropped, chain_dropped, held_dropped, also, link_is, read_of, decay_of, address_of, behind_is, standing_is, field_step, item_is, flip}
-use Rattle.c_lower.proofs.WalkLemmas.{split_at, links_begin, links_step, links_end, operands_begin, operands_step, operands_end, steps_begin, steps_step, steps_end, arguments_step, arguments_end}
+use Rattle.lowering.specs.Expressions.{value_in}
+use Rattle.lowering.specs.Lowered.{past}
+use Rattle.lowering.specs.Names.{scope_of}
+use Rattle.lowering.specs.Output.{output_of, next}
+use Rattle.lowering.proofs.OutputLemmas.{same_stmt, also}
+use Rattle.lowering.proofs.FormLemmas.{checked_is, choice_is, choice_dropped, count_is, operand_begun, operand_typed}
+use Rattle.c_lower.proofs.ArmLemmas.{chain_is, logical_is, compound_is, compound_dropped, copied_in, given_in, assign_is, assign_dropped, assign_object, counted_dropped, unary_dropped, chain_dropped, held_dropped, link_is, read_of, decay_of, address_of, behind_is, standing_is, field_step, item_is, flip}
+use Rattle.lowering.proofs.Lists.{split_at}
+use Rattle.c_lower.proofs.WalkLemmas.{links_begin, links_step, links_end, operands_begin, operands_step, operands_end, steps_begin, steps_step, steps_end, arguments_step, arguments_end}
 use Rattle.c_lower.proofs.expressions.+expressions.Goals as goal
 
 -- ---- values
@@ -136,10 +139,10 @@ linked-returns t c = λ o whole far g h.
 
 pub operand_of-returns : goal.operand_of-returns
 operand_of-returns t c = λ o far d.
-    also c.add.result _ _
-    (operand_is (scope_of c.args.names.now) o _ _ _ _ _ _ c.args.op c.args.k.0 c.args.operand.now.span (tree.view_expr c.args.operand.now.operand) far _ _ _ _ _ _ d c.begin-outer.ensures.outer c.begin-outer.ensures.output c.in_ok-v.ensures
-    c.type_of.ensures c.in_ok-truth.ensures c.in_ok-give.ensures c.end-inner.ensures.inner c.end-inner.ensures.output c.where_open.ensures)
-    c.add.ensures
+    let low = value_in (scope_of c.args.names.now) (tree.view_expr c.args.operand.now.operand) (past (next o) far.temps) in
+    operand_typed _ o _ _ _ _ _ _ far low c.type_of-ty.ensures
+    (c.with_operand.ensures o (output_of c.args.lowering.now) far low d c.begin-outer.ensures.outer
+    (operand_begun (scope_of c.args.names.now) o (output_of c.args.lowering.now) _ _ (tree.view_expr c.args.operand.now.operand) far _ d c.begin-outer.ensures.output c.in_ok-v.ensures))
 
 pub assignment-returns-in_ok-of : goal.assignment-returns-in_ok-of
 assignment-returns-in_ok-of t c =

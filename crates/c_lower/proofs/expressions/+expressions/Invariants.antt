@@ -4,11 +4,11 @@ use Rattle.typed_tree.specs.declared.expression.TypedExpr.{size-TypedExpr}
 use Rattle.typed_tree.specs.declared.place.Place.{size-Place}
 use Rattle.typed_tree.specs.ExpressionTree as t
 use Rattle.pt_core.specs.CodeTree.{view_expr}
-use Rattle.c_lower.specs.Lowered.{Effects, Lowered, LoweredPlace}
-use Rattle.c_lower.specs.Expressions.{arguments_in}
-use Rattle.c_lower.specs.Functions.{span_of}
-use Rattle.c_lower.specs.Names.{scope_of}
-use Rattle.c_lower.specs.Output.{Output, output_of, next, view_found, Gives, Finds, Does}
+use Rattle.lowering.specs.Lowered.{Effects, Lowered, LoweredPlace}
+use Rattle.lowering.specs.Expressions.{arguments_in}
+use Rattle.lowering.specs.Functions.{span_of}
+use Rattle.lowering.specs.Names.{scope_of}
+use Rattle.lowering.specs.Output.{Output, output_of, next, view_found, Gives, Finds, Does}
 use Rattle.c_lower.proofs.WalkLemmas.{LinksSoFar, OperandsSoFar, StepsSoFar, ArgumentsSoFar}
 use Rattle.c_lower.proofs.expressions.+expressions.Given as goal
 

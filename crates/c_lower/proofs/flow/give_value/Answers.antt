@@ -1,8 +1,8 @@
-use Rattle.c_lower.specs.Expressions.{value_in}
-use Rattle.c_lower.specs.Names.{code_in}
-use Rattle.c_lower.specs.Output.{next, output_of}
-use Rattle.c_lower.specs.Statements.{outermost}
-use Rattle.c_lower.proofs.ArmLemmas.{also}
+use Rattle.lowering.specs.Expressions.{value_in}
+use Rattle.lowering.specs.Names.{code_in}
+use Rattle.lowering.specs.Output.{next, output_of}
+use Rattle.lowering.specs.Statements.{outermost}
+use Rattle.lowering.proofs.OutputLemmas.{also}
 use Rattle.c_lower.proofs.LoopLemmas.{returned_makes}
 use Rattle.c_lower.proofs.flow.give_value.Goals as goal
 

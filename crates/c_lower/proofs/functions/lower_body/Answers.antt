@@ -1,5 +1,5 @@
 use Rattle.std.proofs.Common.{ap, length}
-use Rattle.c_lower.specs.Names.{code_in}
+use Rattle.lowering.specs.Names.{code_in}
 use Rattle.c_lower.proofs.FunctionLemmas.{function_is}
 use Rattle.typed_tree.specs.StatementTree.{view_body}
 use Rattle.typed_tree.specs.TypedTree.{view_function}

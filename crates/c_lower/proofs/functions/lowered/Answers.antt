@@ -1,8 +1,7 @@
-use Rattle.std.proofs.Common.{refl}
 use Rattle.typed_tree.specs.StatementTree.{view_body}
-use Rattle.c_lower.specs.Names.{code_in}
+use Rattle.lowering.specs.Names.{code_in}
 use Rattle.c_lower.proofs.FunctionLemmas.{made_from}
 use Rattle.c_lower.proofs.functions.lowered.Goals as goal
 
 pub returns : goal.returns
-returns c = made_from (code_in c.args.names.now) (view_body c.args.body.now) _ _ _ _ _ refl c.new.ensures.items c.new-2.ensures.items c.in_ok-statement.ensures c.in_ok-end_main.ensures
+returns c = made_from (code_in c.args.names.now) (view_body c.args.body.now) _ _ _ _ _ c.starting-lowering.ensures c.in_ok-statement.ensures c.in_ok-end_main.ensures

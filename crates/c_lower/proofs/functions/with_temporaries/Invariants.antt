@@ -1,5 +1,5 @@
 use Rattle.std.proofs.Common.{◌≡◌, ◌++◌, drop}
-use Rattle.c_lower.specs.FunctionParts.{variables_of}
+use Rattle.lowering.specs.FunctionParts.{variables_of}
 use Rattle.c_lower.proofs.functions.with_temporaries.Given as goal
 
 -- the copies so far, and then the others, are all of them

@@ -3,7 +3,7 @@ use Rattle.std.proofs.lemmas.List.{drop_all}
 use Rattle.typed_tree.specs.TypedTree as typed
 use Rattle.typed_tree.specs.TypedView.{view_typed}
 use Rattle.c_lower.proofs.ProgramLemmas.{functions_step, functions_end}
-use Rattle.c_lower.proofs.WalkLemmas.{split_at}
+use Rattle.lowering.proofs.Lists.{split_at}
 use Rattle.c_lower.proofs.program.functions.Goals as goal
 
 pub loop-function-preserved : goal.loop-function-preserved

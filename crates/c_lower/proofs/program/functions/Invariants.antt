@@ -2,7 +2,7 @@ use Rattle.std.proofs.Common.{◌≡◌, ◌++◌, map, drop}
 use Rattle.typed_tree.specs.TypedTree as typed
 use Rattle.typed_tree.specs.TypedView.{view_typed}
 use Rattle.pt_core.specs.CodeTree.{view_function}
-use Rattle.c_lower.specs.Functions.{functions_from}
+use Rattle.lowering.specs.Functions.{functions_from}
 use Rattle.c_lower.proofs.program.functions.Given as goal
 
 -- those so far, and then the others, are all of them

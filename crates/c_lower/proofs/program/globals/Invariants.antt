@@ -1,6 +1,6 @@
 use Rattle.std.proofs.Common.{◌≡◌, ◌++◌, map, drop}
 use Rattle.pt_core.specs.CodeTree.{view_global}
-use Rattle.c_lower.specs.Functions.{globals_from}
+use Rattle.lowering.specs.Functions.{globals_from}
 use Rattle.c_lower.proofs.program.globals.Given as goal
 
 -- those so far, and then the others, are all of them

@@ -1,7 +1,7 @@
 use Rattle.std.proofs.Common.{◌≡◌, ◌++◌, map, drop}
 use Rattle.typed_tree.specs.TypedTree.{view_function}
 use Rattle.pt_core.specs.CodeTree.{numbered}
-use Rattle.c_lower.specs.Functions.{signatures_from}
+use Rattle.lowering.specs.Functions.{signatures_from}
 use Rattle.c_lower.proofs.program.signatures.Given as goal
 
 -- those so far, and then the others, are all of them

@@ -3,18 +3,17 @@ use Rattle.std.proofs.lemmas.List.{drop_all}
 use Rattle.typed_tree.specs.StatementTree as tree
 use Rattle.typed_tree.proofs.Rows.{view_block, view_switch}
 use Rattle.pt_core.specs.CodeTree.{view_expr, view_stmt}
-use Rattle.c_lower.specs.Names.{code_in}
-use Rattle.c_lower.specs.Onwards.{view_onward}
-use Rattle.c_lower.specs.Output.{next, output_of, Does}
-use Rattle.c_lower.specs.Operators.{as_int}
-use Rattle.c_lower.specs.Expressions.{value_in}
-use Rattle.c_lower.specs.Statements as is
-use Rattle.c_lower.specs.StatementParts.{for_from, section_in}
-use Rattle.c_lower.proofs.OutputLemmas.{same_stmt}
-use Rattle.c_lower.proofs.ArmLemmas.{also}
+use Rattle.lowering.specs.Names.{code_in}
+use Rattle.lowering.specs.Onwards.{view_onward}
+use Rattle.lowering.specs.Output.{next, output_of, Does}
+use Rattle.lowering.specs.Operators.{as_int}
+use Rattle.lowering.specs.Expressions.{value_in}
+use Rattle.lowering.specs.Statements as is
+use Rattle.lowering.specs.StatementParts.{for_from, section_in}
+use Rattle.lowering.proofs.OutputLemmas.{same_stmt, also}
 use Rattle.c_lower.proofs.LoopLemmas.{one_then, then_makes, looped_makes, way_back_makes, chosen_makes, chosen_alone, leads_step, leads_end}
-use Rattle.c_lower.proofs.SwitchLemmas.{switched_does}
-use Rattle.c_lower.proofs.WalkLemmas.{split_at}
+use Rattle.lowering.proofs.SwitchLemmas.{switched_does}
+use Rattle.lowering.proofs.Lists.{split_at}
 use Rattle.c_lower.proofs.statements.+statements.Goals as goal
 
 pub statement-returns-in-Block : goal.statement-returns-in-Block

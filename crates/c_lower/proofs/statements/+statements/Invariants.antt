@@ -1,10 +1,10 @@
 use Rattle.std.proofs.Common.{◌+◌, ◌*◌, max, map, drop}
 use Rattle.typed_tree.specs.declared.statement.TypedBody.{size-TypedBody}
 use Rattle.typed_tree.specs.StatementTree as tree
-use Rattle.c_lower.specs.Names.{code_in}
-use Rattle.c_lower.specs.Onwards.{view_onward}
-use Rattle.c_lower.specs.Output.{output_of, next}
-use Rattle.c_lower.specs.Statements.{all_in, sections_in}
+use Rattle.lowering.specs.Names.{code_in}
+use Rattle.lowering.specs.Onwards.{view_onward}
+use Rattle.lowering.specs.Output.{output_of, next}
+use Rattle.lowering.specs.Statements.{all_in, sections_in}
 use Rattle.c_lower.proofs.LoopLemmas.{Leads}
 use Rattle.c_lower.proofs.statements.+statements.Given as goal
 

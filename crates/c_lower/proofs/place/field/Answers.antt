@@ -1,6 +1,0 @@
-use Rattle.c_lower.specs.Names.{scope_of}
-use Rattle.c_lower.proofs.PieceLemmas.{field_is}
-use Rattle.c_lower.proofs.place.field.Goals as goal
-
-pub returns : goal.returns
-returns c = λ low h. field_is (scope_of c.args.names.now) _ _ low _ _ h c.in_ok-with_field.ensures c.field_type-ty.ensures

@@ -1,0 +1,8 @@
+pub mod FormLemmas
+pub mod Lists
+pub mod OutputLemmas
+pub mod PieceLemmas
+pub mod PurityLemmas
+pub mod SwitchLemmas
+pub mod WaysLemmas
+pub mod WorkedCore

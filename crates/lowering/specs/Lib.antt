@@ -1,0 +1,14 @@
+pub mod ExpressionParts
+pub mod Expressions
+pub mod FunctionParts
+pub mod Functions
+pub mod Leaves
+pub mod Lowered
+pub mod Names
+pub mod Onwards
+pub mod Operators
+pub mod Output
+pub mod Purity
+pub mod StatementParts
+pub mod Statements
+pub mod Walks
