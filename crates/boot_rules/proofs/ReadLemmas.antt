@@ -6,7 +6,7 @@ use Rattle.pt_core.specs.CodeTree.{view_boot}
 use Rattle.pt_core.specs.WellFormed.{is_well_formed_boot}
 use Rattle.boots.specs.declared.fault.BootError.{BootError}
 use Rattle.boots.specs.declared.fault.BootError.TheVariants as error
-use Rattle.boots.specs.Limits.{Spells}
+use Rattle.boot_fields.specs.Limits.{Spells}
 use Rattle.boots.specs.WholeReading.{IsBootOf}
 use Rattle.boots.proofs.BootLaws.{one_reading}
 use Rattle.boot_rules.specs.Answers.{IsGoodBootOf}

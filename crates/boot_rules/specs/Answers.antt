@@ -6,7 +6,7 @@ use Rattle.pt_core.specs.CodeTree.{BootTree, view_boot}
 use Rattle.pt_core.specs.WellFormed.{is_well_formed_boot}
 use Rattle.boots.specs.declared.fault.BootError.{BootError}
 use Rattle.boots.specs.declared.fault.BootError.TheVariants as error
-use Rattle.boots.specs.Limits.{Spells}
+use Rattle.boot_fields.specs.Limits.{Spells}
 
 -- the boot that the bytes spell, which is well formed; a bad one where they spell none that is
 abbrev pub IsGoodBootOf : List ℕ → Result Boot BootError → Type 0

@@ -7,12 +7,12 @@ use Rattle.std.proofs.lemmas.List.{append-nil}
 use Rattle.wire.specs.Limits.{IsBytes}
 use Rattle.wire.proofs.Bytes.{AreBytes-from}
 use Rattle.pt_core.specs.CodeTree.{RootTree, local, global, deref, PlaceTree, place, ExprTree, constant, read, unary, binary, convert, null, address, decay, move, compare, difference, ExprTrees, no_exprs, expr_and, StmtTree, clear, check, assign, copy, call, choose, repeat, break_out, continue_on, give_back, StmtTrees, no_stmts, stmt_and, FunctionTree, BootTree}
-use Rattle.boots.specs.declared.fault.ReadError.TheVariants.{Bad, Memory}
-use Rattle.boots.specs.Spelling.{function_bytes, spelled}
-use Rattle.boots.specs.Limits.{FitsFunction, FitsTypes, Spells}
-use Rattle.boots.specs.Reading.{Reading, function_at, boot_at}
+use Rattle.boot_fields.specs.declared.fault.ReadError.TheVariants.{Bad, Memory}
+use Rattle.boot_fields.specs.Spelling.{function_bytes, spelled}
+use Rattle.boot_fields.specs.Limits.{FitsFunction, FitsTypes, Spells}
+use Rattle.boot_fields.specs.Reading.{Reading, function_at, boot_at}
 use Rattle.boots.specs.Laws.{OneSpelling}
-use Rattle.boots.proofs.Parts.{IsPart, ok_is, part_fits, both_part, mapped_part, byte_part, number32_part, text_part, list_part, flat_list, numbered_part}
+use Rattle.boot_fields.proofs.Parts.{IsPart, ok_is, part_fits, both_part, mapped_part, byte_part, number32_part, text_part, list_part, flat_list, numbered_part}
 use Rattle.boots.proofs.Values.{span_part, variable_part, struct_part, signature_part, model_part, global_part}
 use Rattle.boots.proofs.Trees.{ShortPlace, ShortExpr, ShortExprs, stmts_of, ShortStmts, ShortStmt, stmts_part, stmt_part}
 

@@ -1,9 +1,5 @@
-pub mod Parts
 pub mod Values
 pub mod Trees
 pub mod BootLaws
-pub mod Chains
-pub mod TreeLists
-pub mod Loop
-pub mod Starts
-mod WorkedBoots
+pub mod Written
+pub mod Wholes

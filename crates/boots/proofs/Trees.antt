@@ -7,10 +7,10 @@ use Rattle.wire.specs.Spelling.{four_bytes, eight_bytes}
 use Rattle.wire.proofs.Bytes.{AreBytes}
 use Rattle.wire.proofs.Fields.{Takes}
 use Rattle.pt_core.specs.CodeTree.{RootTree, local, global, deref, PlaceTree, place, ExprTree, constant, read, unary, binary, convert, null, address, decay, move, compare, difference, ExprTrees, no_exprs, expr_and, expr_trees, StmtTree, clear, check, assign, copy, call, choose, repeat, break_out, continue_on, give_back, StmtTrees, no_stmts, stmt_and, stmt_trees}
-use Rattle.boots.specs.Spelling.{list_bytes, span_bytes, expr_bytes, place_bytes, root_bytes, exprs_of, exprs_bytes, count_of, stmt_bytes, stmts_bytes, items_bytes}
-use Rattle.boots.specs.Limits.{Fits32, FitsList, FitsSpan, FitsExpr, FitsPlace, FitsRoot, FitsExprs, FitsStmt, FitsStmts, FitsEach}
-use Rattle.boots.specs.Reading.{Reading, root_at, place_at, operands_at, node_at, expr_at, exprs_at, stmts_at, step_at, stmt_at}
-use Rattle.boots.proofs.Parts.{Again, IsPart, ShortOption, part_fits, part_bytes, both_part, mapped_part, variant_takes, variant_again, bare_takes, number32_part, signed128_part, truth_part, list_part, flat_list, option_part, flat_option}
+use Rattle.boot_fields.specs.Spelling.{list_bytes, span_bytes, expr_bytes, place_bytes, root_bytes, exprs_of, exprs_bytes, count_of, stmt_bytes, stmts_bytes, items_bytes}
+use Rattle.boot_fields.specs.Limits.{Fits32, FitsList, FitsSpan, FitsExpr, FitsPlace, FitsRoot, FitsExprs, FitsStmt, FitsStmts, FitsEach}
+use Rattle.boot_fields.specs.Reading.{Reading, root_at, place_at, operands_at, node_at, expr_at, exprs_at, stmts_at, step_at, stmt_at}
+use Rattle.boot_fields.proofs.Parts.{Again, IsPart, ShortOption, part_fits, part_bytes, both_part, mapped_part, variant_takes, variant_again, bare_takes, number32_part, signed128_part, truth_part, list_part, flat_list, option_part, flat_option}
 use Rattle.boots.proofs.Values.{int_type_part, span_part, elem_part, unary_part, binary_part}
 
 -- ---- what isn't nested too deep

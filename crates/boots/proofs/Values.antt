@@ -25,10 +25,10 @@ use Rattle.wire.specs.Spelling.{type_byte}
 use Rattle.wire.specs.Reading.{types, type_of}
 use Rattle.wire.proofs.Bytes.{AreBytes}
 use Rattle.wire.proofs.Fields.{Takes, type_is, type_again}
-use Rattle.boots.specs.Spelling.{int_type_bytes, span_bytes, elem_bytes, type_bytes, field_bytes, struct_bytes, variable_bytes, param_kind_bytes, param_bytes, signature_bytes, numbers_bytes, row_bytes, model_bytes, unary_byte, binary_byte, global_bytes}
-use Rattle.boots.specs.Limits.{FitsSpan, FitsElem, FitsVarTy, FitsField, FitsStruct, FitsVar, FitsParamKind, FitsParam, FitsSignature, FitsNumbers, FitsRow, FitsModel, FitsGlobal}
-use Rattle.boots.specs.Reading.{int_type_at, span_at, elem_at, type_at, field_at, struct_at, variable_at, param_kind_at, param_at, signature_at, numbers_at, row_at, model_at, unary_ops, binary_ops, unary_op_at, binary_op_at, global_at}
-use Rattle.boots.proofs.Parts.{Again, IsPart, Flat, Same, some_is, part_fits, both_part, mapped_part, variant_takes, variant_again, bare_takes, number32_part, number64_part, signed128_part, truth_part, text_part, flat_list, flat_option, one_of_part}
+use Rattle.boot_fields.specs.Spelling.{int_type_bytes, span_bytes, elem_bytes, type_bytes, field_bytes, struct_bytes, variable_bytes, param_kind_bytes, param_bytes, signature_bytes, numbers_bytes, row_bytes, model_bytes, unary_byte, binary_byte, global_bytes}
+use Rattle.boot_fields.specs.Limits.{FitsSpan, FitsElem, FitsVarTy, FitsField, FitsStruct, FitsVar, FitsParamKind, FitsParam, FitsSignature, FitsNumbers, FitsRow, FitsModel, FitsGlobal}
+use Rattle.boot_fields.specs.Reading.{int_type_at, span_at, elem_at, type_at, field_at, struct_at, variable_at, param_kind_at, param_at, signature_at, numbers_at, row_at, model_at, unary_ops, binary_ops, unary_op_at, binary_op_at, global_at}
+use Rattle.boot_fields.proofs.Parts.{Again, IsPart, Flat, Same, some_is, part_fits, both_part, mapped_part, variant_takes, variant_again, bare_takes, number32_part, number64_part, signed128_part, truth_part, text_part, flat_list, flat_option, one_of_part}
 
 pub int_type_part : IsPart Same Flat int_type_bytes int_type_at
 unfolding int_type_at type_of

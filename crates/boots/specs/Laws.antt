@@ -1,7 +1,7 @@
 -- The laws of spellings.
 use Rattle.std.specs.Prelude.{◌≡◌, List, [], ◌++◌, ℕ}
 use Rattle.pt_core.specs.CodeTree.{BootTree}
-use Rattle.boots.specs.Limits.{FitsTypes, Spells}
+use Rattle.boot_fields.specs.Limits.{FitsTypes, Spells}
 
 -- a boot whose numbers are those of its fields' types is spelled in exactly one way, any other in none
 pub record OneSpelling (b : BootTree) : Type 0 where

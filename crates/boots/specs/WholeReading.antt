@@ -4,11 +4,7 @@ use Rattle.pt_core.specs.declared.boot.Boot.{Boot}
 use Rattle.pt_core.specs.CodeTree.{BootTree, view_boot}
 use Rattle.boots.specs.declared.fault.BootError.{BootError}
 use Rattle.boots.specs.declared.fault.BootError.TheVariants as error
-use Rattle.boots.specs.Limits.{Spells}
-
--- so many nodes of code may stand one inside the other
-abbrev pub deepest : ℕ
-deepest = 1_048_576
+use Rattle.boot_fields.specs.Limits.{Spells}
 
 -- the boot that the bytes spell; a bad one where they spell none
 abbrev pub IsBootOf : List ℕ → Result Boot BootError → Type 0
