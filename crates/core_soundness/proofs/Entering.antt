@@ -1,6 +1,6 @@
 -- A function is entered with arguments that fit its parameters.
-use Rattle.std.proofs.Common.{◌≡◌, ◌∙◌, ◌≤◌, ◌<◌, ℕ, zero, suc, ◌+◌, nat_eq, refl, ap, sym, subst, arith, Bool, true, false, Option, Some, None, List, [], ◌∷◌, map, if◌then◌else◌}
-use Rattle.std.specs.Prelude.{IsTrue, ◌&&◌, slice_get, take}
+use Rattle.std.proofs.Common.{◌≡◌, ◌∙◌, ◌≤◌, ℕ, suc, ◌+◌, refl, ap, sym, subst, arith, Bool, true, false, Some, List, [], ◌∷◌, map, if◌then◌else◌}
+use Rattle.std.specs.Prelude.{IsTrue, ◌&&◌, slice_get}
 use Rattle.pt_tree.specs.declared.signature.Param.{Param}
 use Rattle.pt_tree.specs.declared.signature.ParamKind.{ParamKind}
 use Rattle.pt_tree.specs.declared.signature.ParamKind.TheVariants as kind
@@ -15,12 +15,13 @@ use Rattle.typed_tree.proofs.WellFormedLemmas.{and_left, and_right}
 use Rattle.block_memory.specs.declared.cell.Cell.{Cell}
 use Rattle.block_memory.specs.declared.cell.BlockName.{BlockName}
 use Rattle.block_memory.specs.declared.cell.BlockName.TheVariants.{Local}
-use Rattle.block_memory.specs.Block.{Block, with_cell}
+use Rattle.block_memory.specs.Block.{with_cell}
 use Rattle.block_memory.specs.Blocks.{Blocks, is_same_name}
 use Rattle.pt_core.specs.CodeTree.{ProgramTree}
 use Rattle.pt_core.specs.Values.{written}
 use Rattle.pt_core.specs.Calls.{context_in, with_arguments}
 use Rattle.pt_core.specs.Steps.{Active}
+use Rattle.core_soundness.specs.Kept.{Kept}
 use Rattle.core_soundness.specs.Fits.{ValueFits, BlockFits, LocalFits, variables_at, MemoryFits}
 use Rattle.core_soundness.specs.Laws.{LocationFits}
 use Rattle.core_soundness.specs.Outside.{ArgumentsFit}
@@ -33,29 +34,29 @@ use Rattle.core_soundness.proofs.Stores.{stored}
 
 -- ---- values as memory changes
 
-pub value_stays : (structs : List StructInfo) (blocks others : Blocks) (depth : ℕ) (ty : VarTy) (v : Cell) → SameTypes blocks others depth → ValueFits structs blocks depth ty v → ValueFits structs others depth ty v
-value_stays structs blocks others depth (Int t) v same f = f
-value_stays structs blocks others depth (Struct n) v same f = f
-value_stays structs blocks others depth (Array elem count) v same f = f
-value_stays structs blocks others depth (Pointer elem fixed) v same f = pointer_stays structs blocks others depth elem v same f
+pub value_stays : (kept : Kept) (structs : List StructInfo) (blocks others : Blocks) (depth : ℕ) (ty : VarTy) (v : Cell) → SameTypes blocks others depth → ValueFits kept structs blocks depth ty v → ValueFits kept structs others depth ty v
+value_stays kept structs blocks others depth (Int t) v same f = f
+value_stays kept structs blocks others depth (Struct n) v same f = f
+value_stays kept structs blocks others depth (Array elem count) v same f = f
+value_stays kept structs blocks others depth (Pointer elem fixed) v same f = pointer_stays structs blocks others depth elem v same f
 
-pub value_deeper : (structs : List StructInfo) (blocks : Blocks) (depth deeper : ℕ) (ty : VarTy) (v : Cell) → depth ≤ deeper → ValueFits structs blocks depth ty v → ValueFits structs blocks deeper ty v
-value_deeper structs blocks depth deeper (Int t) v less f = f
-value_deeper structs blocks depth deeper (Struct n) v less f = f
-value_deeper structs blocks depth deeper (Array elem count) v less f = f
-value_deeper structs blocks depth deeper (Pointer elem fixed) v less f = pointer_deeper structs blocks depth deeper elem v less f
+pub value_deeper : (kept : Kept) (structs : List StructInfo) (blocks : Blocks) (depth deeper : ℕ) (ty : VarTy) (v : Cell) → depth ≤ deeper → ValueFits kept structs blocks depth ty v → ValueFits kept structs blocks deeper ty v
+value_deeper kept structs blocks depth deeper (Int t) v less f = f
+value_deeper kept structs blocks depth deeper (Struct n) v less f = f
+value_deeper kept structs blocks depth deeper (Array elem count) v less f = f
+value_deeper kept structs blocks depth deeper (Pointer elem fixed) v less f = pointer_deeper structs blocks depth deeper elem v less f
 
-pub arguments_stay : (structs : List StructInfo) (blocks others : Blocks) (depth : ℕ) (ps : List Param) (vs : List Cell) → SameTypes blocks others depth → ArgumentsFit structs blocks depth ps vs → ArgumentsFit structs others depth ps vs
-arguments_stay structs blocks others depth [] [] same f = f
-arguments_stay structs blocks others depth [] (v ∷ vs) same f = f
-arguments_stay structs blocks others depth (p ∷ ps) [] same f = f
-arguments_stay structs blocks others depth (p ∷ ps) (v ∷ vs) same f = (value_stays structs blocks others depth (param_type p.kind) v same f.0, arguments_stay structs blocks others depth ps vs same f.1)
+pub arguments_stay : (kept : Kept) (structs : List StructInfo) (blocks others : Blocks) (depth : ℕ) (ps : List Param) (vs : List Cell) → SameTypes blocks others depth → ArgumentsFit kept structs blocks depth ps vs → ArgumentsFit kept structs others depth ps vs
+arguments_stay kept structs blocks others depth [] [] same f = f
+arguments_stay kept structs blocks others depth [] (v ∷ vs) same f = f
+arguments_stay kept structs blocks others depth (p ∷ ps) [] same f = f
+arguments_stay kept structs blocks others depth (p ∷ ps) (v ∷ vs) same f = (value_stays kept structs blocks others depth (param_type p.kind) v same f.0, arguments_stay kept structs blocks others depth ps vs same f.1)
 
-pub arguments_deeper : (structs : List StructInfo) (blocks : Blocks) (depth deeper : ℕ) (ps : List Param) (vs : List Cell) → depth ≤ deeper → ArgumentsFit structs blocks depth ps vs → ArgumentsFit structs blocks deeper ps vs
-arguments_deeper structs blocks depth deeper [] [] less f = f
-arguments_deeper structs blocks depth deeper [] (v ∷ vs) less f = f
-arguments_deeper structs blocks depth deeper (p ∷ ps) [] less f = f
-arguments_deeper structs blocks depth deeper (p ∷ ps) (v ∷ vs) less f = (value_deeper structs blocks depth deeper (param_type p.kind) v less f.0, arguments_deeper structs blocks depth deeper ps vs less f.1)
+pub arguments_deeper : (kept : Kept) (structs : List StructInfo) (blocks : Blocks) (depth deeper : ℕ) (ps : List Param) (vs : List Cell) → depth ≤ deeper → ArgumentsFit kept structs blocks depth ps vs → ArgumentsFit kept structs blocks deeper ps vs
+arguments_deeper kept structs blocks depth deeper [] [] less f = f
+arguments_deeper kept structs blocks depth deeper [] (v ∷ vs) less f = f
+arguments_deeper kept structs blocks depth deeper (p ∷ ps) [] less f = f
+arguments_deeper kept structs blocks depth deeper (p ∷ ps) (v ∷ vs) less f = (value_deeper kept structs blocks depth deeper (param_type p.kind) v less f.0, arguments_deeper kept structs blocks depth deeper ps vs less f.1)
 
 same_written : (blocks : Blocks) (name : BlockName) (n : ℕ) (c : Cell) (depth : ℕ) → SameTypes blocks (written blocks name n c) depth
 same_written blocks name n c depth b near = go (is_same_name name b) refl
@@ -78,21 +79,21 @@ scalar_param p = go p.kind
     go (kind.Int t) = refl
     go (kind.Ptr elem fixed) = refl
 
-pub arguments_entered : (program : ProgramTree) (a : Active) (rest : List Active) (blocks : Blocks) (v : ℕ) (ps : List Param) (vs : List Cell) → MemoryFits program (a ∷ rest) blocks → Lead (context_in program a.function).variables v ps →
-    ArgumentsFit program.structs blocks a.depth ps vs → MemoryFits program (a ∷ rest) (with_arguments blocks a.depth v vs)
-arguments_entered program a rest blocks v [] [] mem lead f = mem
-arguments_entered program a rest blocks v [] (x ∷ vs) mem lead f = elim f [ ]
-arguments_entered program a rest blocks v (p ∷ ps) [] mem lead f = elim f [ ]
-arguments_entered program a rest blocks v (p ∷ ps) (x ∷ vs) mem lead f =
+pub arguments_entered : (kept : Kept) (program : ProgramTree) (a : Active) (rest : List Active) (blocks : Blocks) (v : ℕ) (ps : List Param) (vs : List Cell) → MemoryFits kept program (a ∷ rest) blocks → Lead (context_in program a.function).variables v ps →
+    ArgumentsFit kept program.structs blocks a.depth ps vs → MemoryFits kept program (a ∷ rest) (with_arguments blocks a.depth v vs)
+arguments_entered kept program a rest blocks v [] [] mem lead f = mem
+arguments_entered kept program a rest blocks v [] (x ∷ vs) mem lead f = elim f [ ]
+arguments_entered kept program a rest blocks v (p ∷ ps) [] mem lead f = elim f [ ]
+arguments_entered kept program a rest blocks v (p ∷ ps) (x ∷ vs) mem lead f =
     let ty : VarTy = param_type p.kind in
-    let own : BlockFits program.structs blocks a.depth ty (blocks (Local a.depth v)) =
-    subst (λ o. LocalFits program.structs blocks a.depth o (blocks (Local a.depth v)))
+    let own : BlockFits kept program.structs blocks a.depth ty (blocks (Local a.depth v)) =
+    subst (λ o. LocalFits kept program.structs blocks a.depth o (blocks (Local a.depth v)))
     (ap (λ tys. slice_get tys v) (same_depth a.depth (context_in program a.function).variables (variables_at program rest a.depth)) ∙ lead.0) (mem.locals a.depth v) in
     let at : LocationFits (context_in program a.function) blocks a.depth ty (record { block = Local a.depth v; cell = 0; ty = ty }) =
-    record { typed = refl; lies = variable_lies (context_in program a.function) blocks a.depth v ty lead.0 own } in
-    arguments_entered program a rest (written blocks (Local a.depth v) 0 x) (v + 1) ps vs
-    (stored program a rest blocks mem ty (record { block = Local a.depth v; cell = 0; ty = ty }) x (scalar_param p) at f.0) lead.1
-    (arguments_stay program.structs blocks (written blocks (Local a.depth v) 0 x) a.depth ps vs (same_written blocks (Local a.depth v) 0 x a.depth) f.1)
+    record { typed = refl; lies = variable_lies kept (context_in program a.function) blocks a.depth v ty lead.0 own } in
+    arguments_entered kept program a rest (written blocks (Local a.depth v) 0 x) (v + 1) ps vs
+    (stored kept program a rest blocks mem ty (record { block = Local a.depth v; cell = 0; ty = ty }) x (scalar_param p) at f.0) lead.1
+    (arguments_stay kept program.structs blocks (written blocks (Local a.depth v) 0 x) a.depth ps vs (same_written blocks (Local a.depth v) 0 x a.depth) f.1)
 
 -- parameters lead where the code's test says so
 pub leads : (ps : List Param) (xs : List Var) (all : List VarTy) (v : ℕ) → ((k : ℕ) → slice_get (map (λ x. x.ty) xs) k ≡ slice_get all (v + k)) → IsTrue (params_lead ps xs) → Lead all v ps

@@ -1,12 +1,9 @@
 -- Functions are entered and left: what is live then fits.
-use Rattle.std.proofs.Common.{◌≡◌, ◌∙◌, ◌≤◌, ◌<◌, ℕ, zero, suc, ◌+◌, pos, nat_eq, refl, ap, sym, subst, arith, Bool, true, false, Option, Some, None, List, [], ◌∷◌, length, map, if◌then◌else◌}
-use Rattle.std.specs.Prelude.{IsTrue, slice_get, slice_index_or, nat_lt}
+use Rattle.std.proofs.Common.{◌≡◌, ◌≤◌, ◌<◌, ℕ, zero, suc, nat_eq, refl, ap, sym, subst, arith, Bool, true, false, None, List, [], ◌∷◌, map, if◌then◌else◌}
+use Rattle.std.specs.Prelude.{slice_get, slice_index_or, nat_lt}
 use Rattle.std.proofs.lemmas.Bool.Decides.{nat_tests}
-use Rattle.pt_base.specs.declared.int_type.IntType.{IntType}
-use Rattle.typed_tree.specs.declared.types.VarTy.{VarTy}
 use Rattle.typed_tree.specs.declared.types.StructInfo.{StructInfo}
 use Rattle.typed_tree.specs.declared.variable.Var.{Var}
-use Rattle.block_memory.specs.declared.cell.BlockName.{BlockName}
 use Rattle.block_memory.specs.declared.cell.BlockName.TheVariants.{Local, Global, Received}
 use Rattle.block_memory.specs.Block.{Block, no_block, fresh}
 use Rattle.block_memory.specs.Blocks.{Blocks, with_frame, without_frames}
@@ -14,7 +11,8 @@ use Rattle.pt_core.specs.CodeTree.{ProgramTree}
 use Rattle.pt_core.specs.Types.{shape_of}
 use Rattle.pt_core.specs.Calls.{function_in, context_in}
 use Rattle.pt_core.specs.Steps.{Active}
-use Rattle.core_soundness.specs.Fits.{IntegersFit, depth_of, BlockFits, LocalFits, variables_at, MemoryFits}
+use Rattle.core_soundness.specs.Kept.{Kept}
+use Rattle.core_soundness.specs.Fits.{LocalFits, variables_at, MemoryFits}
 use Rattle.core_soundness.proofs.Memory.{SameTypes, local_stays, fresh_fits}
 
 -- ---- depths
@@ -48,12 +46,13 @@ other_depth {X} d depth x y h = go (nat_eq d depth) refl
     go false e = refl
     go true e = absurd (not_same e)
 
-pub left_fits : (program : ProgramTree) (a : Active) (rest : List Active) (blocks : Blocks) → AreBelow a.depth rest → MemoryFits program (a ∷ rest) blocks → MemoryFits program rest (without_frames blocks a.depth)
-left_fits program a rest blocks below mem = record {
+pub left_fits : (kept : Kept) (program : ProgramTree) (a : Active) (rest : List Active) (blocks : Blocks) → AreBelow a.depth rest → MemoryFits kept program (a ∷ rest) blocks → MemoryFits kept program rest (without_frames blocks a.depth)
+left_fits kept program a rest blocks below mem = record {
   locals = λ d v. at_local d v (nat_lt d a.depth) refl;
   globals = λ g ty is. mem.globals g ty is;
   global_cells = λ g. mem.global_cells g;
   received_cells = λ n. mem.received_cells n;
+  beyond = λ g unknown. mem.beyond g unknown;
 }
   where
     further : (d e depth : ℕ) → d < depth → e ≤ d → nat_lt e depth ≡ true
@@ -70,28 +69,29 @@ left_fits program a rest blocks below mem = record {
     same d h (Global g) near = refl
     same d h (Received n) near = refl
 
-    at_local : (d v : ℕ) (t : Bool) → nat_lt d a.depth ≡ t → LocalFits program.structs (without_frames blocks a.depth) d (slice_get (variables_at program rest d) v) (if t then blocks (Local d v) else no_block)
-    at_local d v false e = subst (λ o. LocalFits program.structs (without_frames blocks a.depth) d o no_block) (sym (no_variables program rest a.depth d v below (more d a.depth e))) refl
+    at_local : (d v : ℕ) (t : Bool) → nat_lt d a.depth ≡ t → LocalFits kept program.structs (without_frames blocks a.depth) d (slice_get (variables_at program rest d) v) (if t then blocks (Local d v) else no_block)
+    at_local d v false e = subst (λ o. LocalFits kept program.structs (without_frames blocks a.depth) d o no_block) (sym (no_variables program rest a.depth d v below (more d a.depth e))) refl
     at_local d v true e =
-        local_stays program.structs blocks (without_frames blocks a.depth) d (slice_get (variables_at program rest d) v) (blocks (Local d v)) (same d (less d a.depth e))
-        (subst (λ tys. LocalFits program.structs blocks d (slice_get tys v) (blocks (Local d v))) (other_depth d a.depth (context_in program a.function).variables (variables_at program rest d) (less d a.depth e)) (mem.locals d v))
+        local_stays kept program.structs blocks (without_frames blocks a.depth) d (slice_get (variables_at program rest d) v) (blocks (Local d v)) (same d (less d a.depth e))
+        (subst (λ tys. LocalFits kept program.structs blocks d (slice_get tys v) (blocks (Local d v))) (other_depth d a.depth (context_in program a.function).variables (variables_at program rest d) (less d a.depth e)) (mem.locals d v))
 
 -- ---- a function is entered
 
-frame_fits : (structs : List StructInfo) (blocks : Blocks) (depth : ℕ) (xs : List Var) (v : ℕ) →
-    LocalFits structs blocks depth (slice_get (map (λ x. x.ty) xs) v) (slice_index_or (map fresh (map (λ x. shape_of structs x.ty) xs)) v no_block)
-frame_fits structs blocks depth [] v = refl
-frame_fits structs blocks depth (x ∷ xs) zero = fresh_fits structs blocks depth x.ty
-frame_fits structs blocks depth (x ∷ xs) (suc v) = frame_fits structs blocks depth xs v
+frame_fits : (kept : Kept) (structs : List StructInfo) (blocks : Blocks) (depth : ℕ) (xs : List Var) (v : ℕ) →
+    LocalFits kept structs blocks depth (slice_get (map (λ x. x.ty) xs) v) (slice_index_or (map fresh (map (λ x. shape_of structs x.ty) xs)) v no_block)
+frame_fits kept structs blocks depth [] v = refl
+frame_fits kept structs blocks depth (x ∷ xs) zero = fresh_fits kept structs blocks depth x.ty
+frame_fits kept structs blocks depth (x ∷ xs) (suc v) = frame_fits kept structs blocks depth xs v
 
 -- the function stands above those that are active, and its variables are fresh
-pub frame_entered : (program : ProgramTree) (a : Active) (active : List Active) (blocks : Blocks) → AreBelow a.depth active → MemoryFits program active blocks →
-    MemoryFits program (a ∷ active) (with_frame blocks a.depth (map (λ x. shape_of program.structs x.ty) (function_in program a.function).vars))
-frame_entered program a active blocks below mem = record {
+pub frame_entered : (kept : Kept) (program : ProgramTree) (a : Active) (active : List Active) (blocks : Blocks) → AreBelow a.depth active → MemoryFits kept program active blocks →
+    MemoryFits kept program (a ∷ active) (with_frame blocks a.depth (map (λ x. shape_of program.structs x.ty) (function_in program a.function).vars))
+frame_entered kept program a active blocks below mem = record {
   locals = λ d v. at_local d v (nat_eq d a.depth) refl;
   globals = λ g ty is. mem.globals g ty is;
   global_cells = λ g. mem.global_cells g;
   received_cells = λ n. mem.received_cells n;
+  beyond = λ g unknown. mem.beyond g unknown;
 }
   where
     new : Blocks
@@ -114,16 +114,16 @@ frame_entered program a active blocks below mem = record {
     same d h (Global g) near = refl
     same d h (Received n) near = refl
 
-    dead : (d v : ℕ) → a.depth ≤ d → LocalFits program.structs new d (slice_get (variables_at program active d) v) (blocks (Local d v))
+    dead : (d v : ℕ) → a.depth ≤ d → LocalFits kept program.structs new d (slice_get (variables_at program active d) v) (blocks (Local d v))
     dead d v h =
         let none : slice_get (variables_at program active d) v ≡ None = no_variables program active a.depth d v below h in
-        subst (λ o. LocalFits program.structs new d o (blocks (Local d v))) (sym none) (subst (λ o. LocalFits program.structs blocks d o (blocks (Local d v))) none (mem.locals d v))
+        subst (λ o. LocalFits kept program.structs new d o (blocks (Local d v))) (sym none) (subst (λ o. LocalFits kept program.structs blocks d o (blocks (Local d v))) none (mem.locals d v))
 
-    older : (d v : ℕ) (t : Bool) → nat_lt d a.depth ≡ t → LocalFits program.structs new d (slice_get (variables_at program active d) v) (blocks (Local d v))
-    older d v true e = local_stays program.structs blocks new d (slice_get (variables_at program active d) v) (blocks (Local d v)) (same d (less d a.depth e)) (mem.locals d v)
+    older : (d v : ℕ) (t : Bool) → nat_lt d a.depth ≡ t → LocalFits kept program.structs new d (slice_get (variables_at program active d) v) (blocks (Local d v))
+    older d v true e = local_stays kept program.structs blocks new d (slice_get (variables_at program active d) v) (blocks (Local d v)) (same d (less d a.depth e)) (mem.locals d v)
     older d v false e = dead d v (more d a.depth e)
 
     at_local : (d v : ℕ) (t : Bool) → nat_eq d a.depth ≡ t →
-        LocalFits program.structs new d (slice_get (if t then (context_in program a.function).variables else variables_at program active d) v) (if t then fresh_at v else blocks (Local d v))
-    at_local d v true e = frame_fits program.structs new d (function_in program a.function).vars v
+        LocalFits kept program.structs new d (slice_get (if t then (context_in program a.function).variables else variables_at program active d) v) (if t then fresh_at v else blocks (Local d v))
+    at_local d v true e = frame_fits kept program.structs new d (function_in program a.function).vars v
     at_local d v false e = older d v (nat_lt d a.depth) refl

@@ -1,11 +1,12 @@
 -- Types that lie in a list of types, and the cells that fit them.
-use Rattle.std.proofs.Common.{◌≡◌, ◌∙◌, ◌≤◌, ◌<◌, ℕ, zero, suc, ◌+◌, ◌*◌, pos, refl, ap, sym, subst, arith, List, [], ◌∷◌, ◌++◌, length}
+use Rattle.std.proofs.Common.{◌≡◌, ◌∙◌, ◌<◌, ℕ, zero, suc, ◌+◌, ◌*◌, pos, refl, subst, arith, List, [], ◌∷◌, ◌++◌, length}
 use Rattle.std.proofs.Math.Nat.{suc-mul}
 use Rattle.std.specs.Prelude.{slice_index_or}
 use Rattle.pt_base.specs.declared.int_type.IntType.{IntType}
 use Rattle.block_memory.specs.declared.cell.Cell.{Cell}
 use Rattle.block_memory.specs.declared.cell.Cell.TheVariants as cell
 use Rattle.typed_tree.specs.Cells.{repeated}
+use Rattle.core_soundness.specs.Kept.{Kept}
 use Rattle.core_soundness.specs.Fits.{IntegerFits, IntegersFit, BeginsWith, LieAt}
 
 begins_in : (types ts : List IntType) (k : ℕ) (us : List IntType) → BeginsWith types ts → LieAt ts k us → LieAt types k us
@@ -43,12 +44,12 @@ lies_behind [] ys n zs h = subst (λ m. LieAt ys m zs) (from_zero n) h
 lies_behind (x ∷ xs) ys n zs h = subst (λ m. LieAt (x ∷ (xs ++ ys)) m zs) (from_suc (length xs) n) (lies_behind xs ys n zs h)
 
 -- the cell where an integer lies fits its type
-pub integer_at : (types : List IntType) (cells : List Cell) (n : ℕ) (t : IntType) → IntegersFit types cells → LieAt types n (t ∷ []) → IntegerFits t (slice_index_or cells n (cell.Int (pos 0)))
-integer_at [] cells zero t fit h = elim h [ ]
-integer_at [] cells (suc n) t fit h = elim h [ ]
-integer_at (x ∷ types) [] n t fit h = elim fit [ ]
-integer_at (x ∷ types) (c ∷ cells) zero t fit h = subst (λ u. IntegerFits u c) h.0 fit.0
-integer_at (x ∷ types) (c ∷ cells) (suc n) t fit h = integer_at types cells n t fit.1 h
+pub integer_at : (kept : Kept) (types : List IntType) (cells : List Cell) (n : ℕ) (t : IntType) → IntegersFit kept types cells → LieAt types n (t ∷ []) → IntegerFits kept t (slice_index_or cells n (cell.Int (pos 0)))
+integer_at kept [] cells zero t fit h = elim h [ ]
+integer_at kept [] cells (suc n) t fit h = elim h [ ]
+integer_at kept (x ∷ types) [] n t fit h = elim fit [ ]
+integer_at kept (x ∷ types) (c ∷ cells) zero t fit h = subst (λ u. IntegerFits kept u c) h.0 fit.0
+integer_at kept (x ∷ types) (c ∷ cells) (suc n) t fit h = integer_at kept types cells n t fit.1 h
 
 -- one element of several
 pub element_lies : (count index : ℕ) (ts : List IntType) → index < count → LieAt (repeated count ts) (index * length ts) ts

@@ -3,12 +3,16 @@ pub mod Frames
 pub mod Integers
 pub mod Leaves
 pub mod Memory
+pub mod More
 pub mod Numbers
 pub mod Objects
 pub mod Outside
 pub mod Programs
+pub mod Resting
 pub mod Settings
+pub mod Shapes
 pub mod Starting
 pub mod Steps
 pub mod Stores
 pub mod Values
+pub mod Worked

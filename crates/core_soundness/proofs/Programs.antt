@@ -1,12 +1,11 @@
 -- What is known of a program that is sound, and of each of its functions.
-use Rattle.std.proofs.Common.{◌≡◌, ◌∙◌, ℕ, zero, suc, nat_eq, refl, ap, sym, subst, arith, Bool, true, false, Option, Some, None, List, [], ◌∷◌, length, map, if◌then◌else◌}
+use Rattle.std.proofs.Common.{◌≡◌, ℕ, zero, suc, nat_eq, refl, ap, sym, subst, arith, Bool, true, false, Option, Some, None, List, [], ◌∷◌, length, map, if◌then◌else◌}
 use Rattle.std.specs.Prelude.{IsTrue, ◌&&◌, not, slice_get, is_some, take, unwrap_or}
 use Rattle.std.specs.List.{list_all, find}
 use Rattle.std.specs.Map.{lookup}
 use Rattle.std.proofs.lemmas.Bool.Decides.{nat_tests}
 use Rattle.pt_tree.specs.declared.signature.Signature.{Signature}
 use Rattle.typed_tree.specs.declared.types.VarTy.{VarTy}
-use Rattle.typed_tree.specs.declared.types.StructInfo.{StructInfo}
 use Rattle.typed_tree.specs.declared.variable.Var.{Var}
 use Rattle.typed_tree.specs.WellFormed.{structs_sound, params_lead}
 use Rattle.typed_tree.proofs.WellFormedLemmas.{and_left, and_right}

@@ -1,6 +1,6 @@
 -- What the innermost function sees, where the memory fits.
-use Rattle.std.proofs.Common.{◌≡◌, ◌∙◌, ◌≤◌, ℕ, zero, suc, pos, nat_eq, refl, ap, sym, subst, arith, Bool, true, false, Option, Some, None, List, [], ◌∷◌, length, if◌then◌else◌}
-use Rattle.std.specs.Prelude.{IsTrue, ◌&&◌, slice_get, slice_index_or, is_some}
+use Rattle.std.proofs.Common.{◌≡◌, ◌∙◌, ◌≤◌, ℕ, zero, suc, pos, nat_eq, refl, ap, sym, subst, arith, Bool, Option, Some, None, List, [], ◌∷◌, length, if◌then◌else◌}
+use Rattle.std.specs.Prelude.{IsTrue, ◌&&◌, slice_get, slice_index_or}
 use Rattle.std.specs.List.{list_all}
 use Rattle.std.specs.Map.{lookup}
 use Rattle.std.proofs.lemmas.Bool.{eq-eqb}
@@ -12,18 +12,17 @@ use Rattle.typed_tree.specs.declared.variable.Var.{Var}
 use Rattle.typed_tree.specs.Cells.{leaves_of}
 use Rattle.typed_tree.specs.WellFormed.{is_plain_type, is_variable_type, is_small, cells_fit}
 use Rattle.typed_tree.proofs.WellFormedLemmas.{and_left, and_right}
-use Rattle.block_memory.specs.declared.cell.Cell.{Cell}
 use Rattle.block_memory.specs.declared.cell.Cell.TheVariants as cell
 use Rattle.block_memory.specs.declared.cell.BlockName.{BlockName}
 use Rattle.block_memory.specs.declared.cell.BlockName.TheVariants.{Local, Global, Received}
-use Rattle.block_memory.specs.Block.{Block, no_block}
+use Rattle.block_memory.specs.Block.{Block}
 use Rattle.block_memory.specs.Blocks.{Blocks}
-use Rattle.pt_core.specs.CodeTree.{FunctionTree, GlobalTree, ProgramTree}
-use Rattle.pt_core.specs.Types.{Context}
+use Rattle.pt_core.specs.CodeTree.{FunctionTree, ProgramTree}
 use Rattle.pt_core.specs.Calls.{function_in, context_in}
 use Rattle.pt_core.specs.Steps.{Active}
-use Rattle.pt_core.specs.WellFormed.{function_at, global_fits, variable_fits, is_sound}
-use Rattle.core_soundness.specs.Fits.{IntegerFits, IntegersFit, LieAt, BlockFits, LocalFits, variables_at, MemoryFits}
+use Rattle.pt_core.specs.WellFormed.{global_fits, variable_fits}
+use Rattle.core_soundness.specs.Kept.{Kept}
+use Rattle.core_soundness.specs.Fits.{IntegerFits, LieAt, BlockFits, LocalFits, variables_at, MemoryFits}
 use Rattle.core_soundness.specs.Laws.{ValuesFit, PlacesFit}
 use Rattle.core_soundness.proofs.Integers.{integer_at}
 use Rattle.core_soundness.proofs.Leaves.{IsCounted, counted}
@@ -43,17 +42,17 @@ none_lies block n t X none h = nowhere n t X (subst (λ ts. LieAt ts n (t ∷ []
 abbrev types_in : Block → List IntType
 types_in block = block.types
 
-local_integer : (structs : List StructInfo) (blocks : Blocks) (depth : ℕ) (o : Option VarTy) (block : Block) (n : ℕ) (t : IntType) → LocalFits structs blocks depth o block → LieAt block.types n (t ∷ []) → IntegerFits t (slice_index_or block.cells n (cell.Int (pos 0)))
-local_integer structs blocks depth None block n t fits h = none_lies block n t _ (ap types_in fits) h
-local_integer structs blocks depth (Some (Int u)) block n t fits h = integer_at block.types block.cells n t fits.cells h
-local_integer structs blocks depth (Some (Struct m)) block n t fits h = integer_at block.types block.cells n t fits.cells h
-local_integer structs blocks depth (Some (Array elem count)) block n t fits h = integer_at block.types block.cells n t fits.cells h
-local_integer structs blocks depth (Some (Pointer elem fixed)) block n t fits h = none_lies block n t _ fits.none h
+local_integer : (kept : Kept) (structs : List StructInfo) (blocks : Blocks) (depth : ℕ) (o : Option VarTy) (block : Block) (n : ℕ) (t : IntType) → LocalFits kept structs blocks depth o block → LieAt block.types n (t ∷ []) → IntegerFits kept t (slice_index_or block.cells n (cell.Int (pos 0)))
+local_integer kept structs blocks depth None block n t fits h = none_lies block n t _ (ap types_in fits) h
+local_integer kept structs blocks depth (Some (Int u)) block n t fits h = integer_at kept block.types block.cells n t fits.cells h
+local_integer kept structs blocks depth (Some (Struct m)) block n t fits h = integer_at kept block.types block.cells n t fits.cells h
+local_integer kept structs blocks depth (Some (Array elem count)) block n t fits h = integer_at kept block.types block.cells n t fits.cells h
+local_integer kept structs blocks depth (Some (Pointer elem fixed)) block n t fits h = none_lies block n t _ fits.none h
 
-pub integers_fit : (program : ProgramTree) (active : List Active) (blocks : Blocks) → MemoryFits program active blocks → (b : BlockName) (n : ℕ) (t : IntType) → LieAt (blocks b).types n (t ∷ []) → IntegerFits t (slice_index_or (blocks b).cells n (cell.Int (pos 0)))
-integers_fit program active blocks mem (Local depth v) n t h = local_integer program.structs blocks depth (slice_get (variables_at program active depth) v) (blocks (Local depth v)) n t (mem.locals depth v) h
-integers_fit program active blocks mem (Global g) n t h = integer_at (blocks (Global g)).types (blocks (Global g)).cells n t (mem.global_cells g) h
-integers_fit program active blocks mem (Received k) n t h = integer_at (blocks (Received k)).types (blocks (Received k)).cells n t (mem.received_cells k) h
+pub integers_fit : (kept : Kept) (program : ProgramTree) (active : List Active) (blocks : Blocks) → MemoryFits kept program active blocks → (b : BlockName) (n : ℕ) (t : IntType) → LieAt (blocks b).types n (t ∷ []) → IntegerFits kept t (slice_index_or (blocks b).cells n (cell.Int (pos 0)))
+integers_fit kept program active blocks mem (Local depth v) n t h = local_integer kept program.structs blocks depth (slice_get (variables_at program active depth) v) (blocks (Local depth v)) n t (mem.locals depth v) h
+integers_fit kept program active blocks mem (Global g) n t h = integer_at kept (blocks (Global g)).types (blocks (Global g)).cells n t (mem.global_cells g) h
+integers_fit kept program active blocks mem (Received k) n t h = integer_at kept (blocks (Received k)).types (blocks (Received k)).cells n t (mem.received_cells k) h
 
 -- ---- the innermost function
 
@@ -63,17 +62,17 @@ same_depth {A} n x y = subst (λ b. (if b then x else y) ≡ x) (sym (eq-eqb n n
 no_more : (n : ℕ) → n ≤ n
 no_more n = omega arith
 
-pub setting : (monitor : Bool) (program : ProgramTree) (a : Active) (rest : List Active) (blocks : Blocks) → ProgramFacts monitor program → FunctionFacts monitor program a.function → MemoryFits program (a ∷ rest) blocks → Setting (context_in program a.function) a.depth blocks
-setting monitor program a rest blocks facts function mem = record {
+pub setting : (kept : Kept) (monitor : Bool) (program : ProgramTree) (a : Active) (rest : List Active) (blocks : Blocks) → ProgramFacts monitor program → FunctionFacts monitor program a.function → MemoryFits kept program (a ∷ rest) blocks → Setting kept (context_in program a.function) a.depth blocks
+setting kept monitor program a rest blocks facts function mem = record {
   sound = facts.structs;
   variables = λ v ty is. (own v ty is, own_counted v ty is);
   globals = λ g ty is. let of : IsTrue (is_plain_type (length program.structs) ty) × IsCounted ty = global_known g ty is in (mem.globals g ty is, of.0, of.1);
-  integers = integers_fit program (a ∷ rest) blocks mem;
+  integers = integers_fit kept program (a ∷ rest) blocks mem;
 }
   where
-    own : (v : ℕ) (ty : VarTy) → slice_get (context_in program a.function).variables v ≡ Some ty → BlockFits program.structs blocks a.depth ty (blocks (Local a.depth v))
+    own : (v : ℕ) (ty : VarTy) → slice_get (context_in program a.function).variables v ≡ Some ty → BlockFits kept program.structs blocks a.depth ty (blocks (Local a.depth v))
     own v ty is =
-        subst (λ o. LocalFits program.structs blocks a.depth o (blocks (Local a.depth v)))
+        subst (λ o. LocalFits kept program.structs blocks a.depth o (blocks (Local a.depth v)))
         (ap (λ tys. slice_get tys v) (same_depth a.depth (context_in program a.function).variables (variables_at program rest a.depth)) ∙ is) (mem.locals a.depth v)
 
     own_counted : (v : ℕ) (ty : VarTy) → slice_get (context_in program a.function).variables v ≡ Some ty → IsCounted ty
@@ -96,11 +95,11 @@ setting monitor program a rest blocks facts function mem = record {
 -- ---- the laws
 
 pub values_fit : ValuesFit
-values_fit monitor program a rest blocks e sound known mem fits =
+values_fit kept monitor program a rest blocks e sound known mem fits =
     let facts : ProgramFacts monitor program = facts_of monitor program sound in
-    values (context_in program a.function) a.depth blocks (setting monitor program a rest blocks facts (function_facts monitor program facts a.function known) mem) e fits
+    values kept (context_in program a.function) a.depth blocks (setting kept monitor program a rest blocks facts (function_facts monitor program facts a.function known) mem) e fits
 
 pub places_fit : PlacesFit
-places_fit monitor program a rest blocks p sound known mem fits =
+places_fit kept monitor program a rest blocks p sound known mem fits =
     let facts : ProgramFacts monitor program = facts_of monitor program sound in
-    places (context_in program a.function) a.depth blocks (setting monitor program a rest blocks facts (function_facts monitor program facts a.function known) mem) p fits
+    places kept (context_in program a.function) a.depth blocks (setting kept monitor program a rest blocks facts (function_facts monitor program facts a.function known) mem) p fits

@@ -1,6 +1,6 @@
 -- When a machine fits its program: what is live and of which types, what cells hold, and what the active
--- functions have still to do. A handle fits wherever an integer does.
-use Rattle.std.specs.Prelude.{◌≡◌, ◌≤◌, ◌<◌, ◌^◌, ℕ, zero, suc, Bool, true, false, ◌&&◌, List, [], ◌∷◌, Option, Some, None, IsTrue, if◌then◌else◌, nat_eq, length, slice_get, is_some}
+-- functions have still to do. A handle fits where it stands for a number of the type; which do is a parameter.
+use Rattle.std.specs.Prelude.{◌≡◌, ◌≤◌, ◌<◌, ◌^◌, ℕ, zero, suc, Bool, true, false, ◌&&◌, List, [], ◌∷◌, Option, Some, None, IsTrue, if◌then◌else◌, nat_eq, slice_get, is_some}
 use Rattle.std.specs.Map.{lookup}
 use Rattle.pt_base.specs.declared.int_type.IntType.{IntType}
 use Rattle.pt_int.specs.Conversion.{is_in_range}
@@ -19,26 +19,27 @@ use Rattle.block_memory.specs.declared.cell.BlockName.{BlockName}
 use Rattle.block_memory.specs.declared.cell.BlockName.TheVariants.{Local, Global, Received}
 use Rattle.block_memory.specs.Block.{Block, no_block}
 use Rattle.block_memory.specs.Blocks.{Blocks}
-use Rattle.pt_core.specs.CodeTree.{StmtTrees, ProgramTree}
+use Rattle.pt_core.specs.CodeTree.{ProgramTree}
 use Rattle.pt_core.specs.Calls.{signature_in, function_in, context_in}
 use Rattle.pt_core.specs.Steps.{Work, run, head, Active, Awaited, Machine}
 use Rattle.pt_core.specs.WellFormed.{function_at, scope_of}
 use Rattle.pt_core.specs.WellFormedStatement.{Scope, stmts_fit, result_fits}
+use Rattle.core_soundness.specs.Kept.{Kept}
 
 -- ---- integers
 
--- a number in the range of the type, or a handle
-abbrev pub IntegerFits : IntType → Cell → Type 0
-IntegerFits t (cell.Int v) = IsTrue (is_in_range t v)
-IntegerFits t (cell.Ptr p) = ⊥
-IntegerFits t (cell.Sealed h) = Unit {0}
+-- a number in the range of the type, or a handle that stands for one
+abbrev pub IntegerFits : Kept → IntType → Cell → Type 0
+IntegerFits kept t (cell.Int v) = IsTrue (is_in_range t v)
+IntegerFits kept t (cell.Ptr p) = ⊥
+IntegerFits kept t (cell.Sealed h) = IsTrue (kept t h)
 
 -- one cell for each type
-abbrev pub IntegersFit : List IntType → List Cell → Type 0
-IntegersFit [] [] = Unit {0}
-IntegersFit [] (c ∷ cs) = ⊥
-IntegersFit (t ∷ ts) [] = ⊥
-IntegersFit (t ∷ ts) (c ∷ cs) = IntegerFits t c × IntegersFit ts cs
+abbrev pub IntegersFit : Kept → List IntType → List Cell → Type 0
+IntegersFit kept [] [] = Unit {0}
+IntegersFit kept [] (c ∷ cs) = ⊥
+IntegersFit kept (t ∷ ts) [] = ⊥
+IntegersFit kept (t ∷ ts) (c ∷ cs) = IntegerFits kept t c × IntegersFit kept ts cs
 
 -- ---- where types lie
 
@@ -81,18 +82,18 @@ PointerFits structs blocks depth elem (cell.Ptr (pointer.At block base count ind
 PointerFits structs blocks depth elem (cell.Sealed h) = ⊥
 
 -- a cell as a value of this type, which a function of this depth may hold
-abbrev pub ValueFits : List StructInfo → Blocks → ℕ → VarTy → Cell → Type 0
-ValueFits structs blocks depth (Int t) v = IntegerFits t v
-ValueFits structs blocks depth (Struct n) v = ⊥
-ValueFits structs blocks depth (Array elem count) v = ⊥
-ValueFits structs blocks depth (Pointer elem fixed) v = PointerFits structs blocks depth elem v
+abbrev pub ValueFits : Kept → List StructInfo → Blocks → ℕ → VarTy → Cell → Type 0
+ValueFits kept structs blocks depth (Int t) v = IntegerFits kept t v
+ValueFits kept structs blocks depth (Struct n) v = ⊥
+ValueFits kept structs blocks depth (Array elem count) v = ⊥
+ValueFits kept structs blocks depth (Pointer elem fixed) v = PointerFits structs blocks depth elem v
 
 -- ---- blocks
 
 -- the block of an object with these integers
-pub record HasIntegers (types : List IntType) (block : Block) : Type 0 where
+pub record HasIntegers (kept : Kept) (types : List IntType) (block : Block) : Type 0 where
   pub types_are : block.types ≡ types
-  pub cells : IntegersFit block.types block.cells
+  pub cells : IntegersFit kept block.types block.cells
 
 -- the block of a pointer variable: one cell, and no integers, so no pointer points to it
 pub record HasPointer (structs : List StructInfo) (blocks : Blocks) (depth : ℕ) (elem : Elem) (block : Block) : Type 0 where
@@ -102,29 +103,30 @@ pub record HasPointer (structs : List StructInfo) (blocks : Blocks) (depth : ℕ
   pub fits : PointerFits structs blocks depth elem held
 
 -- the block of a variable of this type of a function of this depth
-abbrev pub BlockFits : List StructInfo → Blocks → ℕ → VarTy → Block → Type 0
-BlockFits structs blocks depth (Int t) block = HasIntegers (leaves_of structs (Int t)) block
-BlockFits structs blocks depth (Struct n) block = HasIntegers (leaves_of structs (Struct n)) block
-BlockFits structs blocks depth (Array elem count) block = HasIntegers (leaves_of structs (Array elem count)) block
-BlockFits structs blocks depth (Pointer elem fixed) block = HasPointer structs blocks depth elem block
+abbrev pub BlockFits : Kept → List StructInfo → Blocks → ℕ → VarTy → Block → Type 0
+BlockFits kept structs blocks depth (Int t) block = HasIntegers kept (leaves_of structs (Int t)) block
+BlockFits kept structs blocks depth (Struct n) block = HasIntegers kept (leaves_of structs (Struct n)) block
+BlockFits kept structs blocks depth (Array elem count) block = HasIntegers kept (leaves_of structs (Array elem count)) block
+BlockFits kept structs blocks depth (Pointer elem fixed) block = HasPointer structs blocks depth elem block
 
 -- a variable that isn't there has no block
-abbrev pub LocalFits : List StructInfo → Blocks → ℕ → Option VarTy → Block → Type 0
-LocalFits structs blocks depth None block = block ≡ no_block
-LocalFits structs blocks depth (Some ty) block = BlockFits structs blocks depth ty block
+abbrev pub LocalFits : Kept → List StructInfo → Blocks → ℕ → Option VarTy → Block → Type 0
+LocalFits kept structs blocks depth None block = block ≡ no_block
+LocalFits kept structs blocks depth (Some ty) block = BlockFits kept structs blocks depth ty block
 
 -- the types of the variables of the active function of this depth; none where no such function is active
 abbrev pub variables_at : ProgramTree → List Active → ℕ → List VarTy
 variables_at program [] depth = []
 variables_at program (a ∷ rest) depth = if nat_eq depth a.depth then (context_in program a.function).variables else variables_at program rest depth
 
--- Live locals are the variables of active functions; each global has the integers of its type, and what is
--- global or received holds integers alone.
-pub record MemoryFits (program : ProgramTree) (active : List Active) (blocks : Blocks) : Type 0 where
-  pub locals : (depth v : ℕ) → LocalFits program.structs blocks depth (slice_get (variables_at program active depth) v) (blocks (Local depth v))
+-- Live locals are the variables of active functions; each global has the integers of its type, no other is
+-- live, and what is global or received holds integers alone.
+pub record MemoryFits (kept : Kept) (program : ProgramTree) (active : List Active) (blocks : Blocks) : Type 0 where
+  pub locals : (depth v : ℕ) → LocalFits kept program.structs blocks depth (slice_get (variables_at program active depth) v) (blocks (Local depth v))
   pub globals : (g : ℕ) (ty : VarTy) → lookup (nat_eq g) (context_in program 0).globals ≡ Some ty → (blocks (Global g)).types ≡ leaves_of program.structs ty
-  pub global_cells : (g : ℕ) → IntegersFit (blocks (Global g)).types (blocks (Global g)).cells
-  pub received_cells : (n : ℕ) → IntegersFit (blocks (Received n)).types (blocks (Received n)).cells
+  pub global_cells : (g : ℕ) → IntegersFit kept (blocks (Global g)).types (blocks (Global g)).cells
+  pub received_cells : (n : ℕ) → IntegersFit kept (blocks (Received n)).types (blocks (Received n)).cells
+  pub beyond : (g : ℕ) → lookup (nat_eq g) (context_in program 0).globals ≡ None → blocks (Global g) ≡ no_block
 
 -- ---- what is active
 
@@ -172,7 +174,7 @@ AwaitedFits program (a ∷ rest) (Some awaited) = TakesResult program a awaited.
 
 -- ---- machines
 
-pub record Fits (monitor : Bool) (program : ProgramTree) (m : Machine) : Type 0 where
-  pub memory : MemoryFits program m.active m.blocks
+pub record Fits (kept : Kept) (monitor : Bool) (program : ProgramTree) (m : Machine) : Type 0 where
+  pub memory : MemoryFits kept program m.active m.blocks
   pub active : AllFit monitor program m.active
   pub awaited : AwaitedFits program m.active m.awaits

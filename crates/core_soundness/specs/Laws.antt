@@ -12,6 +12,7 @@ use Rattle.pt_core.specs.Calls.{context_in}
 use Rattle.pt_core.specs.Steps.{Active}
 use Rattle.pt_core.specs.WellFormed.{function_at, is_sound}
 use Rattle.pt_core.specs.WellFormedExpression.{expr_fits, place_fits}
+use Rattle.core_soundness.specs.Kept.{Kept}
 use Rattle.core_soundness.specs.Fits.{LieAt, depth_of, ValueFits, MemoryFits}
 
 -- ---- values and places
@@ -30,14 +31,14 @@ pub record LocationFits (c : Context) (blocks : Blocks) (depth : ℕ) (ty : VarT
 
 -- an expression that fits gives a cell that fits its type, or traps
 abbrev pub ValuesFit : Type 0
-ValuesFit = (monitor : Bool) (program : ProgramTree) (a : Active) (rest : List Active) (blocks : Blocks) (e : ExprTree) →
-    IsTrue (is_sound monitor program) → IsTrue (is_some (function_at program a.function)) → MemoryFits program (a ∷ rest) blocks →
+ValuesFit = (kept : Kept) (monitor : Bool) (program : ProgramTree) (a : Active) (rest : List Active) (blocks : Blocks) (e : ExprTree) →
+    IsTrue (is_sound monitor program) → IsTrue (is_some (function_at program a.function)) → MemoryFits kept program (a ∷ rest) blocks →
     IsTrue (expr_fits (context_in program a.function) e) →
-    IfOk (value_of (context_in program a.function) a.depth e blocks) (ValueFits program.structs blocks a.depth (type_of (context_in program a.function) e))
+    IfOk (value_of (context_in program a.function) a.depth e blocks) (ValueFits kept program.structs blocks a.depth (type_of (context_in program a.function) e))
 
 -- a place that fits designates an object of its type, or traps
 abbrev pub PlacesFit : Type 0
-PlacesFit = (monitor : Bool) (program : ProgramTree) (a : Active) (rest : List Active) (blocks : Blocks) (p : PlaceTree) →
-    IsTrue (is_sound monitor program) → IsTrue (is_some (function_at program a.function)) → MemoryFits program (a ∷ rest) blocks →
+PlacesFit = (kept : Kept) (monitor : Bool) (program : ProgramTree) (a : Active) (rest : List Active) (blocks : Blocks) (p : PlaceTree) →
+    IsTrue (is_sound monitor program) → IsTrue (is_some (function_at program a.function)) → MemoryFits kept program (a ∷ rest) blocks →
     IsTrue (place_fits (context_in program a.function) p) →
     IfOk (location_of (context_in program a.function) a.depth p blocks) (LocationFits (context_in program a.function) blocks a.depth (place_type (context_in program a.function) p))

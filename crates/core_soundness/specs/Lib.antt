@@ -1,4 +1,5 @@
 pub mod Fits
+pub mod Kept
 pub mod Laws
 pub mod Outside
 pub mod StepLaws

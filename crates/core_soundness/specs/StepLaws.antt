@@ -1,16 +1,19 @@
 -- A step keeps that the machine fits.
-use Rattle.std.specs.Prelude.{◌≡◌, ℕ, ℤ, Bool, List, [], ◌∷◌, Option, Some, None, IsTrue, map, is_some}
+use Rattle.std.specs.Prelude.{◌≡◌, ℕ, ℤ, Bool, List, [], ◌∷◌, Option, Some, None, IsTrue, length, map, is_some}
 use Rattle.pt_base.specs.declared.int_type.IntType.{IntType}
 use Rattle.pt_int.specs.Conversion.{is_in_range}
 use Rattle.pt_tree.specs.declared.signature.Param.{Param}
 use Rattle.pt_tree.specs.declared.signature.Signature.{Signature}
 use Rattle.block_memory.specs.declared.cell.Cell.{Cell}
+use Rattle.block_memory.specs.declared.cell.BlockName.TheVariants.{Received}
+use Rattle.block_memory.specs.Block.{Block}
 use Rattle.block_memory.specs.Blocks.{Blocks}
 use Rattle.pt_core.specs.CodeTree.{ProgramTree}
 use Rattle.pt_core.specs.Values.{number_in}
 use Rattle.pt_core.specs.Calls.{signature_in}
 use Rattle.pt_core.specs.Steps.{Active, Machine, Gate, enters, here, Answer, moved, asked, ended, trapped, spent, idle, Step, step}
 use Rattle.pt_core.specs.WellFormed.{function_at, called_signature, is_sound}
+use Rattle.core_soundness.specs.Kept.{Kept}
 use Rattle.core_soundness.specs.Fits.{Fits}
 use Rattle.core_soundness.specs.Outside.{ArgumentsFit, GivenFits}
 
@@ -43,22 +46,31 @@ called_params monitor program f = params_of (called_signature monitor program f)
 
 -- ---- steps
 
+-- as many cells, of the same types
+pub record IsSameShape (a b : Block) : Type 0 where
+  pub types : a.types ≡ b.types
+  pub count : length a.cells ≡ length b.cells
+
 -- what is asked has arguments of its parameters, which the innermost function holds; what the outermost
 -- function gives is of its result
-abbrev pub AnswerFits : Bool → ProgramTree → List Active → Blocks → Answer → Type 0
-AnswerFits monitor program [] blocks answer = Unit {0}
-AnswerFits monitor program (a ∷ rest) blocks moved = Unit {0}
-AnswerFits monitor program (a ∷ rest) blocks (asked f args depth) = ArgumentsFit program.structs blocks a.depth (called_params monitor program f) args
-AnswerFits monitor program (a ∷ rest) blocks (ended v) = GivenFits (signature_in program a.function).result v
-AnswerFits monitor program (a ∷ rest) blocks (trapped trap s) = Unit {0}
-AnswerFits monitor program (a ∷ rest) blocks spent = Unit {0}
-AnswerFits monitor program (a ∷ rest) blocks idle = Unit {0}
+abbrev pub AnswerFits : Kept → Bool → ProgramTree → List Active → Blocks → Answer → Type 0
+AnswerFits kept monitor program [] blocks answer = Unit {0}
+AnswerFits kept monitor program (a ∷ rest) blocks moved = Unit {0}
+AnswerFits kept monitor program (a ∷ rest) blocks (asked f args depth) = ArgumentsFit kept program.structs blocks a.depth (called_params monitor program f) args
+AnswerFits kept monitor program (a ∷ rest) blocks (ended v) = GivenFits kept (signature_in program a.function).result v
+AnswerFits kept monitor program (a ∷ rest) blocks (trapped trap s) = Unit {0}
+AnswerFits kept monitor program (a ∷ rest) blocks spent = Unit {0}
+AnswerFits kept monitor program (a ∷ rest) blocks idle = Unit {0}
 
 -- the machine fits, whatever the answer, and the answer does
-pub record StepFits (monitor : Bool) (program : ProgramTree) (before : List Active) {G : Type 0} (s : Step G) : Type 0 where
-  pub machine : Fits monitor program s.machine
-  pub answer : AnswerFits monitor program before s.machine.blocks s.answer
+pub record StepFits (kept : Kept) (monitor : Bool) (program : ProgramTree) (before : List Active) {G : Type 0} (s : Step G) : Type 0 where
+  pub machine : Fits kept monitor program s.machine
+  pub answer : AnswerFits kept monitor program before s.machine.blocks s.answer
 
 abbrev pub StepKeeps : Type 0 → Type 0
-StepKeeps G = (monitor : Bool) (program : ProgramTree) (gate : Gate G) (m : Machine) (g : G) → IsTrue (is_sound monitor program) → GateFits program gate g → Fits monitor program m → m.awaits ≡ None →
-    StepFits monitor program m.active (step program gate m g)
+StepKeeps G = (kept : Kept) (monitor : Bool) (program : ProgramTree) (gate : Gate G) (m : Machine) (g : G) → IsTrue (is_sound monitor program) → GateFits program gate g → Fits kept monitor program m → m.awaits ≡ None →
+    StepFits kept monitor program m.active (step program gate m g)
+
+-- A step changes no types of a received block, and not whether there is one, whatever the machine and its program.
+abbrev pub ReceivedStay : Type 0 → Type 0
+ReceivedStay G = (program : ProgramTree) (gate : Gate G) (m : Machine) (g : G) (n : ℕ) → IsSameShape ((step program gate m g).machine.blocks (Received n)) (m.blocks (Received n))

@@ -1,10 +1,10 @@
 //! A step of a well formed program in the normal form keeps that the machine fits: what is live has its types, numbers are in
-//! range, pointers point to live objects, and what the active functions have still to do fits.
+//! range, handles stand for such, pointers point to live objects, and what the active functions have still to do fits.
 #![tactic(auto)]
 
 ghost use Rattle.core_soundness.specs.Laws.{ValuesFit, PlacesFit};
-ghost use Rattle.core_soundness.specs.Outside.{StartedFits, ResumedFits, BudgetedFits};
-ghost use Rattle.core_soundness.specs.StepLaws.{StepKeeps};
+ghost use Rattle.core_soundness.specs.Outside.{RestFits, StartedFits, ResumedFits, BudgetedFits, ReceivedFits, WrittenFits, FilledFits, MoreIsKept, TypesTell};
+ghost use Rattle.core_soundness.specs.StepLaws.{StepKeeps, ReceivedStay};
 
 /// Where the memory fits, an expression that fits gives a cell that fits its type, or traps.
 pub fn values_fit()
@@ -21,6 +21,16 @@ pub fn step_keeps<G>()
     ensures { StepKeeps G }
 {}
 
+/// A step changes no types of a received block, and not whether there is one.
+pub fn received_stay<G>()
+    ensures { ReceivedStay G }
+{}
+
+/// A machine at rest fits.
+pub fn rest_fits()
+    ensures { RestFits }
+{}
+
 /// A machine that fits, with no function active, does so when a function of the program is entered
 /// with arguments that fit.
 pub fn started_fits()
@@ -35,4 +45,29 @@ pub fn resumed_fits()
 /// A machine that fits does so whatever its budget.
 pub fn budgeted_fits()
     ensures { BudgetedFits }
+{}
+
+/// With no function active a machine that fits does so with any received block that fits.
+pub fn received_fits()
+    ensures { ReceivedFits }
+{}
+
+/// A machine that fits does so with a cell that fits where it was written.
+pub fn written_fits()
+    ensures { WrittenFits }
+{}
+
+/// A machine that fits does so with other cells in a block, as many, that fit.
+pub fn filled_fits()
+    ensures { FilledFits }
+{}
+
+/// A machine that fits does so where more handles stand for numbers.
+pub fn more_is_kept()
+    ensures { MoreIsKept }
+{}
+
+/// The types of a store's entries tell which handles stand for numbers of which types.
+pub fn types_tell()
+    ensures { TypesTell }
 {}
