@@ -8,7 +8,7 @@ use Rattle.block_memory.specs.declared.cell.Cell.TheVariants.{Int, Ptr, Sealed}
 use Rattle.block_memory.specs.declared.cell.Pointer.TheVariants.{Null, At}
 use Rattle.block_memory.specs.Blocks.{is_same_name}
 use Rattle.block_memory.proofs.BlocksLemmas.{is_same_name-self, same_name}
-use Rattle.marshalling.specs.Packing.{is_among, names_from, number_of, with_name, with_target}
+use Rattle.marshalling.specs.Packing.{are_distinct, is_among, names_from, number_of, with_name, with_target}
 use Rattle.marshalling.proofs.Lists.{first, second}
 
 -- ---- tests
@@ -114,10 +114,6 @@ all_targets names (c ∷ args) =
     (all_targets (with_target names c) args)
 
 -- ---- names are distinct
-
-abbrev pub are_distinct : List BlockName → Bool
-are_distinct [] = true
-are_distinct (n ∷ names) = not (is_among names n) && are_distinct names
 
 same_back : (a b : BlockName) → is_same_name a b ≡ false → is_same_name b a ≡ false
 same_back a b h = go (is_same_name b a) refl

@@ -54,7 +54,7 @@ cell_next Stays name i p = refl
 cell_next Plain name i p = number_next name i p.sent p.next p.blocks
 cell_next Sealed name i p = refl
 
-next_grows : (way : Crossing) (n : ℕ) → n ≤ next_by way n
+pub next_grows : (way : Crossing) (n : ℕ) → n ≤ next_by way n
 next_grows Stays n = omega arith
 next_grows Plain n = omega arith
 next_grows Sealed n = omega arith

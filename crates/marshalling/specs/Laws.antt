@@ -1,5 +1,5 @@
 -- The laws of calls and their replies.
-use Rattle.std.specs.Prelude.{◌≡◌, ◌≤◌, ℕ, ℤ, true, false, List, length, nat_le, Option, Ok}
+use Rattle.std.specs.Prelude.{◌≡◌, ◌≤◌, ◌||◌, ℕ, ℤ, true, false, List, length, nat_le, Option, Ok}
 use Rattle.std.specs.List.{list_all}
 use Rattle.pt_tree.specs.declared.signature.Param.{Param}
 use Rattle.pt_tree.specs.declared.signature.Signature.{Signature}
@@ -12,7 +12,7 @@ use Rattle.wire.specs.Limits.{IsCall, most_in_a_call}
 use Rattle.marshalling.specs.Handles.{Entries, unpacked, unpacking}
 use Rattle.marshalling.specs.Leaves.{has_structs}
 use Rattle.marshalling.specs.Packing.{names_of, packed}
-use Rattle.marshalling.specs.Replies.{AreServed, IsResult, has_plain, packed_results, result_places, types_in}
+use Rattle.marshalling.specs.Replies.{AreServed, IsResult, has_plain, packed_results, reply_has_plain, result_places, types_in}
 use Rattle.marshalling.specs.Sendable.{is_sendable}
 use Rattle.marshalling.specs.Taking.{after_posting, after_reply, are_whole, call_places}
 
@@ -40,6 +40,13 @@ NeverRefused =
     (store : Entries) (structs : List StructInfo) (params : List Param) (blocks : Blocks) (args : List Cell)
     → is_sendable store structs params blocks args ≡ true
     → unpacking store structs params (packed blocks params args) ≡ Ok (unpacked store (packed blocks params args))
+
+-- A reply holds a number by the body that was sent exactly where it does by the caller's own blocks.
+abbrev pub RepliesHoldNumbers : Type 0
+RepliesHoldNumbers =
+    (structs : List StructInfo) (sig : Signature) (blocks : Blocks) (args : List Cell) → are_whole blocks args ≡ true
+    → reply_has_plain structs sig (packed blocks sig.params args)
+    ≡ (has_plain (result_places sig sig.result) || has_plain (call_places blocks structs sig.params args))
 
 -- The structs of a program that is well formed are there for each of its signatures.
 abbrev pub StructsStand : Type 0

@@ -10,6 +10,6 @@ pub mod Walks
 pub mod Laws
 pub mod Plans
 pub mod Sendable
-pub mod Reaches
+pub mod Returns
 pub mod HonestCalls
 pub mod TakenReplies

@@ -1,5 +1,5 @@
 -- What a call sends: its arguments, and each block that they point into, whole and once.
-use Rattle.std.specs.Prelude.{ℕ, suc, pos, List, [], ◌∷◌, ◌++◌, Bool, map, if◌then◌else◌}
+use Rattle.std.specs.Prelude.{ℕ, suc, pos, List, [], ◌∷◌, ◌++◌, Bool, true, false, not, ◌&&◌, map, if◌then◌else◌}
 use Rattle.std.specs.List.{list_any, zip}
 use Rattle.pt_base.specs.declared.int_type.IntType.{IntType}
 use Rattle.pt_tree.specs.declared.signature.Param.{Param}
@@ -37,6 +37,18 @@ names_from names (c ∷ args) = names_from (with_target names c) args
 -- the blocks into which the arguments point, each once, in the order of the first arguments that do
 abbrev pub names_of : List Cell → List BlockName
 names_of args = names_from [] args
+
+-- no name comes twice
+abbrev pub are_distinct : List BlockName → Bool
+are_distinct [] = true
+are_distinct (n ∷ names) = not (is_among names n) && are_distinct names
+
+-- the argument points into a block
+abbrev pub points : Cell → Bool
+points (Int v) = false
+points (Ptr Null) = false
+points (Ptr (At block base count index)) = true
+points (Sealed handle) = false
 
 -- the place of a name among the names
 abbrev pub number_of : List BlockName → BlockName → ℕ

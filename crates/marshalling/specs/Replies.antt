@@ -1,6 +1,6 @@
 -- The reply to a call: the result, and then the cells that come back, by block and by position. Each sealed one has the
 -- next handle, whether it was changed or not.
-use Rattle.std.specs.Prelude.{ℕ, suc, ◌<◌, ℤ, pos, List, [], ◌∷◌, ◌++◌, Bool, true, false, map, Option, Some, None, option_to_list, slice_get}
+use Rattle.std.specs.Prelude.{ℕ, suc, ◌<◌, ℤ, pos, List, [], ◌∷◌, ◌++◌, Bool, true, false, ◌||◌, map, Option, Some, None, option_to_list, slice_get}
 use Rattle.std.specs.List.{list_any}
 use Rattle.pt_base.specs.declared.int_type.IntType.{IntType}
 use Rattle.pt_base.specs.IntTypes.{InRange}
@@ -93,6 +93,23 @@ reply_of handle results result places values = record {
   cells = sent (next_after handle results) places values;
 }
 
+-- ---- a call's body
+
+-- the types of a block's cells, as a body has them
+abbrev pub block_types : List (IntType × WireCell) → List IntType
+block_types cells = map (λ typed. typed.0) cells
+
+abbrev pub types_of : List (List (IntType × WireCell)) → List (List IntType)
+types_of blocks = map block_types blocks
+
+abbrev pub types_in : CallBody → List (List IntType)
+types_in body = types_of body.blocks
+
+-- the reply to a call with this body holds a number
+abbrev pub reply_has_plain : List StructInfo → Signature → CallBody → Bool
+reply_has_plain structs sig body =
+    has_plain (result_places sig sig.result) || has_plain (places_of (crossing_of structs sig.params body.args) 0 (types_in body))
+
 -- ---- the monitor's reply
 
 abbrev pub number_in : Cell → ℤ
@@ -104,16 +121,6 @@ number_in (cell.Sealed handle) = pos 0
 abbrev pub received : Blocks → ℕ → List (List IntType) → List ℤ
 received blocks k [] = []
 received blocks k (types ∷ rest) = map number_in (blocks (Received k)).cells ++ received blocks (suc k) rest
-
--- the types of a block's cells, as a body has them
-abbrev pub block_types : List (IntType × WireCell) → List IntType
-block_types cells = map (λ typed. typed.0) cells
-
-abbrev pub types_of : List (List (IntType × WireCell)) → List (List IntType)
-types_of blocks = map block_types blocks
-
-abbrev pub types_in : CallBody → List (List IntType)
-types_in body = types_of body.blocks
 
 -- ---- what the monitor has to have
 

@@ -1,5 +1,5 @@
 -- What the caller makes of a reply: cells that stay stay, each other one gets what the reply has for it.
-use Rattle.std.specs.Prelude.{◌≡◌, ℕ, suc, ℤ, pos, List, [], ◌∷◌, Bool, true, false, ◌&&◌, length, drop, map, Option, Some, None, Result, Ok, Err, nat_eq, nat_le, option_to_list, if◌then◌else◌}
+use Rattle.std.specs.Prelude.{ℕ, suc, ℤ, pos, List, [], ◌∷◌, Bool, true, false, ◌&&◌, length, drop, map, Option, Some, None, nat_eq, nat_le, option_to_list, if◌then◌else◌}
 use Rattle.std.specs.List.{list_all}
 use Rattle.std.specs.Option.{option_map}
 use Rattle.pt_base.specs.declared.int_type.IntType.{IntType}
@@ -17,8 +17,6 @@ use Rattle.wire.specs.declared.cell.WireCell.TheVariants as wire
 use Rattle.wire.specs.declared.message.ReplyBody.{ReplyBody}
 use Rattle.marshalling.specs.declared.crossing.Crossing.{Crossing}
 use Rattle.marshalling.specs.declared.crossing.Crossing.TheVariants.{Stays, Plain, Sealed}
-use Rattle.marshalling.specs.declared.fault.BadReply.{BadReply}
-use Rattle.marshalling.specs.declared.fault.BadReply.TheVariants.{Shape, Memory}
 use Rattle.marshalling.specs.Crossings.{crossing_of}
 use Rattle.marshalling.specs.Packing.{names_of, packed_arguments}
 use Rattle.marshalling.specs.Replies.{Place, places_of, result_places, next_by, next_after, reply_of}
@@ -153,7 +151,7 @@ known_reply handle blocks structs sig args =
 abbrev pub after_posting : ℕ → Blocks → List StructInfo → Signature → List Cell → Taken
 after_posting handle blocks structs sig args = after_reply handle blocks structs sig args (known_reply handle blocks structs sig args)
 
--- ---- the answer
+-- ---- what a caller has to have
 
 -- as many types as cells in each block that an argument points into, and no more than an object has
 abbrev pub is_whole : Block → Bool
@@ -161,9 +159,3 @@ is_whole block = nat_eq (length block.types) (length block.cells) && nat_le (len
 
 abbrev pub are_whole : Blocks → List Cell → Bool
 are_whole blocks args = list_all (λ name. is_whole (blocks name)) (names_of args)
-
--- the reply is one that the call can have, and is taken; or nothing is changed
-abbrev pub Takes : Result (Option Cell) BadReply → Bool → Taken → ℕ → ℕ → Blocks → Blocks → Type 0
-Takes (Ok result) good after handle next before blocks = (good ≡ true) × (record { result = result; next = next; blocks = blocks } ≡ after)
-Takes (Err Shape) good after handle next before blocks = (good ≡ false) × (next ≡ handle) × (blocks ≡ before)
-Takes (Err Memory) good after handle next before blocks = (next ≡ handle) × (blocks ≡ before)

@@ -2,7 +2,7 @@
 
 /// How a cell of a block that a call sent comes back.
 #[derive(Clone, Copy)]
-pub(crate) enum Crossing {
+pub enum Crossing {
     /// It doesn't: it stays what it was.
     Stays,
     /// As its number.

@@ -3,7 +3,7 @@ use pt_base::IntType;
 
 /// An integer of what is pointed to: its type, and whether a field marked `priv` leads to it.
 #[derive(Clone, Copy)]
-pub(crate) struct Leaf {
-    pub(crate) ty: IntType,
-    pub(crate) marked: bool,
+pub struct Leaf {
+    pub ty: IntType,
+    pub marked: bool,
 }

@@ -1,25 +1,29 @@
 // What a call sends.
-ghost use Rattle.std.specs.Prelude.{◌≡◌, ◌+◌, ◌≤◌, length, map, vec_len, IfOk, OnOk};
-ghost use Rattle.std.specs.List.{zip};
+ghost use Rattle.std.specs.Prelude.{◌≡◌, ◌+◌, ◌≤◌, length, map, vec_len, IfOk, IsTrue, OnOk};
+ghost use Rattle.std.specs.List.{list_all, list_any};
 ghost use Rattle.block_memory.specs.Blocks.{is_same_name};
-ghost use Rattle.block_memory.specs.Memory.{blocks_of};
-ghost use Rattle.marshalling.specs.Packing.{is_among, names_of, number_of, packed, packed_argument, packed_arguments, packed_block, packed_cell, packed_typed, with_name, with_target};
+ghost use Rattle.machine_memory.specs.Memory.{blocks_of};
+ghost use Rattle.marshalling.specs.Packing.{is_among, names_of, number_of, packed, packed_argument, packed_arguments, packed_block, packed_cell, points, with_name, with_target};
+ghost use Rattle.marshalling.specs.Taking.{are_whole, is_whole};
 
-use block_memory::{BlockMemory, BlockName, Cell, Pointer};
+use block_memory::{BlockName, Cell, CellAt, Pointer};
+use machine_memory::MachineMemory;
 use pt_base::IntType;
 use pt_tree::{Param, Signature};
 use std::alloc::{AllocError, Global};
 use wire::{Arg, Args, Block, Blocks, CallBody, WireCell};
 
 /// The body of a call with these arguments, at most 8: they and the blocks that they point into,
-/// each once, numbered by the first arguments that point into them.
+/// each once, numbered by the first arguments that point into them. Each of these blocks has as many
+/// types as cells, and at most 65,536.
 pub fn pack_args(
     alloc: Global,
-    memory: &BlockMemory,
+    memory: &MachineMemory,
     sig: &Signature,
     args: &[Cell],
 ) -> Result<CallBody, AllocError>
-    requires { length args.now ≤ 8 }
+    requires few { length args.now ≤ 8 }
+    requires whole { IsTrue (are_whole (blocks_of memory.now) args.now) }
     ensures { IfOk result (λ body. body ≡ packed (blocks_of memory.now) sig.now.params args.now) }
 {
     let names = target_names(alloc, args)?;
@@ -153,17 +157,37 @@ pub(crate) fn argument(names: &[BlockName], param: &Param, cell: Cell) -> Arg
     }
 }
 
+/// Whether one of them points into a block.
+pub(crate) fn any_points(args: &[Cell]) -> bool
+    ensures { result ≡ list_any points args.now }
+{
+    args.iter().any(|cell| is_place(*cell))
+}
+
+fn is_place(cell: Cell) -> bool
+    ensures { result ≡ points cell }
+{
+    match cell {
+        Cell::Int(_) | Cell::Sealed(_) => false,
+        Cell::Ptr(pointer) => match pointer {
+            Pointer::Null => false,
+            Pointer::At { .. } => true,
+        },
+    }
+}
+
 // The blocks of these names.
 fn blocks(
     alloc: Global,
-    memory: &BlockMemory,
+    memory: &MachineMemory,
     names: &[BlockName],
 ) -> Result<Vec<Block>, AllocError>
+    requires { IsTrue (list_all (λ name. is_whole (blocks_of memory.now name)) names.now) }
     ensures { IfOk result (λ v. v.items ≡ map (λ name. packed_block (blocks_of memory.now name)) names.now) }
 {
     let mut blocks = Vec::new(alloc);
     for name in names {
-        let cells = typed_cells(alloc, memory.types(*name), memory.block(*name))?;
+        let cells = typed_cells(alloc, memory, *name)?;
         blocks.push(Block::new(cells))?;
     }
     Ok(blocks)
@@ -171,16 +195,22 @@ fn blocks(
 
 fn typed_cells(
     alloc: Global,
-    types: &[IntType],
-    cells: &[Cell],
+    memory: &MachineMemory,
+    name: BlockName,
 ) -> Result<Vec<(IntType, WireCell)>, AllocError>
-    ensures { IfOk result (λ v. v.items ≡ map packed_typed (zip types.now cells.now)) }
+    requires { IsTrue (is_whole (blocks_of memory.now name)) }
+    ensures { IfOk result (λ v. v.items ≡ packed_block (blocks_of memory.now name)) }
 {
-    types
-        .iter()
-        .zip(cells)
-        .map(|(ty, cell)| (*ty, wire_cell(*cell)))
-        .collect(alloc)
+    let types = memory.types(name);
+    let mut cells = Vec::with_capacity(alloc, types.len())?;
+    for (i, ty) in types.iter().enumerate() {
+        let place = CellAt {
+            block: name,
+            cell: i as u32,
+        };
+        cells.push((*ty, wire_cell(memory.cell(place))))?;
+    }
+    Ok(cells)
 }
 
 fn wire_cell(cell: Cell) -> WireCell

@@ -1,7 +1,10 @@
 // What the monitor answers to a call.
-ghost use Rattle.std.specs.Prelude.{◌≡◌, ◌++◌, ◌<◌, ℕ, IsTrue, IfOk, OnOk, length, map, option_to_list, slice_get};
+ghost use Rattle.std.specs.Prelude.{◌≡◌, ◌++◌, ◌≤◌, IsTrue, IfOk, OnOk, length, map, option_to_list, slice_get};
+ghost use Rattle.std.specs.List.{AllByRecursion};
 ghost use Rattle.pt_base.specs.IntTypes.{InRange};
-ghost use Rattle.block_memory.specs.Memory.{blocks_of};
+ghost use Rattle.block_memory.specs.declared.cell.BlockName.TheVariants.{Received};
+ghost use Rattle.machine_memory.specs.Memory.{blocks_of};
+ghost use Rattle.wire.specs.Limits.{IsBlock, IsCall};
 ghost use Rattle.marshalling.specs.Leaves.{has_structs};
 ghost use Rattle.marshalling.specs.Ranges.{crossing_among};
 ghost use Rattle.marshalling.specs.Replies.{AreServed, HoldNumbers, HoldsNumber, IsResult, block_types, kept, kept_by, kept_results, number_in, packed_results, places_from, places_of, received, result_places, sent, sent_by, types_in, types_of};
@@ -9,16 +12,18 @@ ghost use Rattle.marshalling.specs.Replies.{AreServed, HoldNumbers, HoldsNumber,
 use crate::crossing::Crossing;
 use crate::range::Range;
 use crate::ranges::{crossing_at, ranges_of, sealed_or_plain};
-use block_memory::{BlockMemory, BlockName, Cell};
+use block_memory::{BlockName, Cell, CellAt};
 use handle_store::Store;
+use machine_memory::MachineMemory;
 use pt_base::IntType;
 use pt_tree::Signature;
 use std::alloc::{AllocError, Global};
 use typed_tree::StructInfo;
 use wire::{Block, CallBody, Cells, ReplyBody, WireCell};
 
-/// The reply to a call with this body, where `blocks` has the blocks that it sent as they are after
-/// the call, each with a number of its type in each cell, and `value` is the result.
+/// The reply to a call with this body, which keeps the counts of the format, where `blocks` has the
+/// blocks that it sent as they are after the call, each with a number of its type in each cell, and
+/// `value` is the result.
 ///
 /// What comes back as a handle is added to the store, the result first, and then the cells by
 /// block and position. Where memory is wanting, a part of it may have been.
@@ -28,10 +33,11 @@ pub fn pack_results(
     structs: &[StructInfo],
     sig: &Signature,
     body: &CallBody,
-    blocks: &BlockMemory,
+    blocks: &MachineMemory,
     value: Option<i128>,
 ) -> Result<ReplyBody, AllocError>
     requires structs { IsTrue (has_structs structs.now sig.now.params) }
+    requires counts { IsCall body.now }
     requires served { AreServed (blocks_of blocks.now) 0 (types_in body.now) }
     requires value { IsResult sig.now.result value }
     ensures reply { IfOk result (λ reply. reply ≡ packed_results (length store.old) structs.now sig.now body.now (blocks_of blocks.now) value) }
@@ -141,10 +147,11 @@ fn pack_blocks(
     store: &mut Store,
     ranges: &[Range],
     blocks: &[Block],
-    memory: &BlockMemory,
+    memory: &MachineMemory,
     cells: &mut Vec<WireCell>,
 ) -> Result<(), AllocError>
-    requires { AreServed (blocks_of memory.now) 0 (types_of blocks.now) }
+    requires counts { AllByRecursion IsBlock blocks.now }
+    requires served { AreServed (blocks_of memory.now) 0 (types_of blocks.now) }
     ensures sent { OnOk result (cells.new.items ≡ cells.old.items
         ++ sent (length store.old) (places_of (crossing_among ranges.now) 0 (types_of blocks.now))
         (received (blocks_of memory.now) 0 (types_of blocks.now))) }
@@ -153,8 +160,7 @@ fn pack_blocks(
         (received (blocks_of memory.now) 0 (types_of blocks.now))) }
 {
     for (k, block) in blocks.iter().enumerate() {
-        let numbers = memory.block(BlockName::Received(k as u8));
-        pack_cells(store, ranges, k, block.as_slice(), numbers, cells)?;
+        pack_cells(store, ranges, k as u8, block.as_slice(), memory, cells)?;
     }
     Ok(())
 }
@@ -163,21 +169,27 @@ fn pack_blocks(
 fn pack_cells(
     store: &mut Store,
     ranges: &[Range],
-    k: usize,
+    k: u8,
     block: &[(IntType, WireCell)],
-    numbers: &[Cell],
+    memory: &MachineMemory,
     cells: &mut Vec<WireCell>,
 ) -> Result<(), AllocError>
-    requires { HoldNumbers (block_types block.now) numbers.now }
+    requires few { length block.now ≤ 65_536 }
+    requires served { HoldNumbers (block_types block.now) (blocks_of memory.now (Received k)).cells }
     ensures sent { OnOk result (cells.new.items ≡ cells.old.items
         ++ sent (length store.old) (places_from (crossing_among ranges.now) k 0 (block_types block.now))
-        (map number_in numbers.now)) }
+        (map number_in (blocks_of memory.now (Received k)).cells)) }
     ensures kept { OnOk result (store.new ≡ store.old
-        ++ kept (places_from (crossing_among ranges.now) k 0 (block_types block.now)) (map number_in numbers.now)) }
+        ++ kept (places_from (crossing_among ranges.now) k 0 (block_types block.now))
+        (map number_in (blocks_of memory.now (Received k)).cells)) }
 {
     for (i, typed) in block.iter().enumerate() {
-        let crossing = crossing_at(ranges, k, i);
-        add_cell(store, crossing, typed.0, numbers[i], cells)?;
+        let crossing = crossing_at(ranges, k as usize, i);
+        let place = CellAt {
+            block: BlockName::Received(k),
+            cell: i as u32,
+        };
+        add_cell(store, crossing, typed.0, memory.cell(place), cells)?;
     }
     Ok(())
 }

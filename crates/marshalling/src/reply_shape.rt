@@ -1,6 +1,6 @@
 // Whether a reply is one that a call can have.
 ghost use Rattle.std.specs.Prelude.{◌≡◌, ◌+◌, ◌<◌, ◌≤◌, ◌^◌, [], ◌∷◌, map, option_to_list, true};
-ghost use Rattle.block_memory.specs.Memory.{blocks_of};
+ghost use Rattle.machine_memory.specs.Memory.{blocks_of};
 ghost use Rattle.marshalling.specs.Ranges.{crossing_among};
 ghost use Rattle.marshalling.specs.Replies.{next_after, next_by, places_from, places_of, result_places};
 ghost use Rattle.marshalling.specs.Taking.{are_sent, comes_back, is_sent_by};
@@ -11,7 +11,8 @@ use crate::range::Range;
 use crate::ranges::{crossing_at, sealed_or_plain};
 use crate::shape::is_of;
 use crate::walk::Walk;
-use block_memory::{BlockMemory, BlockName};
+use block_memory::BlockName;
+use machine_memory::MachineMemory;
 use pt_base::IntType;
 use pt_tree::Signature;
 use wire::WireCell;
@@ -54,7 +55,7 @@ fn next_handle(crossing: Crossing, handle: u64) -> u64
 pub(crate) fn cells_fit(
     ranges: &[Range],
     names: &[BlockName],
-    memory: &BlockMemory,
+    memory: &MachineMemory,
     handle: u64,
     cells: &[WireCell],
 ) -> bool
@@ -75,7 +76,7 @@ fn walk_blocks(
     start: Walk,
     ranges: &[Range],
     names: &[BlockName],
-    memory: &BlockMemory,
+    memory: &MachineMemory,
     cells: &[WireCell],
 ) -> Option<Walk>
     ensures { Walks result (places_of (crossing_among ranges.now) 0 (map (λ name. (blocks_of memory.now name).types) names.now)) start cells.now }

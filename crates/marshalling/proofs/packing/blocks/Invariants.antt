@@ -1,5 +1,5 @@
 use Rattle.std.proofs.Common.{◌≡◌, map, take}
-use Rattle.block_memory.specs.Memory.{blocks_of}
+use Rattle.machine_memory.specs.Memory.{blocks_of}
 use Rattle.marshalling.specs.Packing.{packed_block}
 use Rattle.marshalling.proofs.packing.blocks.Given as goal
 

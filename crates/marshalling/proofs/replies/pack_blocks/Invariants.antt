@@ -1,5 +1,5 @@
 use Rattle.std.proofs.Common.{◌≡◌, ◌++◌, drop, length}
-use Rattle.block_memory.specs.Memory.{blocks_of}
+use Rattle.machine_memory.specs.Memory.{blocks_of}
 use Rattle.marshalling.specs.Ranges.{crossing_among}
 use Rattle.marshalling.specs.Replies.{AreServed, kept, places_of, received, sent, types_of}
 use Rattle.marshalling.proofs.ReplyLemmas.{rest_blocks, rest_numbers}

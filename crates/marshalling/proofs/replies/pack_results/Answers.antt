@@ -1,6 +1,6 @@
 use Rattle.std.proofs.Common.{◌≡◌, ◌++◌, ◌∙◌, ap, length}
 use Rattle.std.specs.Prelude.{option_to_list}
-use Rattle.block_memory.specs.Memory.{blocks_of}
+use Rattle.machine_memory.specs.Memory.{blocks_of}
 use Rattle.marshalling.specs.Crossings.{crossing_of}
 use Rattle.marshalling.specs.Ranges.{crossing_among}
 use Rattle.marshalling.specs.Replies.{kept, places_of, received, result_places, sent, types_in, types_of}

@@ -1,5 +1,5 @@
 use Rattle.std.proofs.Common.{drop, map}
-use Rattle.block_memory.specs.Memory.{blocks_of}
+use Rattle.machine_memory.specs.Memory.{blocks_of}
 use Rattle.marshalling.specs.Ranges.{crossing_among}
 use Rattle.marshalling.specs.Replies.{places_of}
 use Rattle.marshalling.proofs.WalkLemmas.{Left}

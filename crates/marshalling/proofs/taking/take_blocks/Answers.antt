@@ -1,29 +1,34 @@
-use Rattle.std.proofs.Common.{◌^◌, drop, get_or}
-use Rattle.block_memory.specs.declared.cell.BlockName.TheVariants.{Local}
-use Rattle.block_memory.specs.Memory.{blocks_of}
+use Rattle.std.proofs.Common.{◌<◌, ◌^◌, ◌∙◌, arith, drop, length, length-set}
 use Rattle.marshalling.specs.Ranges.{crossing_among}
-use Rattle.marshalling.specs.Plans.{part}
-use Rattle.marshalling.proofs.Lists.{self_read}
-use Rattle.marshalling.proofs.TakingLemmas.{block_goes, block_room, cells_keep, shape-then}
+use Rattle.marshalling.proofs.ReturnLemmas.{counts_stay, left_more, listed_room, listed_step, midway_at, read_left}
 use Rattle.marshalling.proofs.taking.take_blocks.Goals as goal
 
-pub take_block-at-requires-clause-room : goal.take_block-at-requires-clause-room
-take_block-at-requires-clause-room c =
-    block_room (crossing_among c.args.ranges.now) c.loop-k.k c.args.targets.now (get_or c.args.targets.now c.loop-k.k (Local 0 0))
-    (part (drop c.loop-k.at c.args.cells.now) c.loop-k.names (blocks_of c.loop-k.memory)) _ (2 ^ 63) c.loop-k-test.true
-    (self_read c.args.targets.now c.loop-k.k (Local 0 0) c.loop-k-test.true)
-    c.loop-k.invariant.part c.requires.room
-
-pub loop-k-preserved : goal.loop-k-preserved
-loop-k-preserved c =
-    let name = get_or c.args.targets.now c.loop-k.k (Local 0 0) in
-    let before = part (drop c.loop-k.at c.args.cells.now) c.loop-k.names (blocks_of c.loop-k.memory) in
-    let after = part (drop c.take_block-at.result c.args.cells.now) c.take_block-at.new.names (blocks_of c.take_block-at.new.memory) in
+pub take_block-at-requires : goal.take_block-at-requires
+take_block-at-requires c =
+    let old = c.args.blocks.now.items in
+    let lt : c.loop-j.j < length old = omega (arith, c.len-j-end.ensures) in
     record {
-      part = block_goes (crossing_among c.args.ranges.now) c.loop-k.k c.args.targets.now name before after _ c.loop-k-test.true
-          (self_read c.args.targets.now c.loop-k.k (Local 0 0) c.loop-k-test.true)
-          c.take_block-at.ensures c.loop-k.invariant.part;
-      shape = shape-then _ _ _ c.loop-k.invariant.shape
-          (cells_keep (crossing_among c.args.ranges.now) name c.loop-k.k (blocks_of c.loop-k.memory name).types before after
-          c.take_block-at.ensures);
+      room = listed_room (crossing_among c.args.ranges.now) old c.loop-j.j c.index_mut.result.now c.loop-j.names _ (2 ^ 63) lt
+          (read_left c.loop-j.blocks.items old c.loop-j.j c.index_mut.result.now c.loop-j.invariant.left c.index_mut.ensures.value)
+          c.loop-j.invariant.next c.requires.room;
+    }
+
+pub loop-j-preserved : goal.loop-j-preserved
+loop-j-preserved c =
+    let old = c.args.blocks.now.items in
+    let now = c.loop-j.blocks.items in
+    let b = c.index_mut.result.now in
+    let lt : c.loop-j.j < length old = omega (arith, c.len-j-end.ensures) in
+    let read = read_left now old c.loop-j.j b c.loop-j.invariant.left c.index_mut.ensures.value in
+    record {
+      midway = λ before copies.
+          midway_at (crossing_among c.args.ranges.now) old now c.loop-j.j b c.take_block-at.new.block (drop c.loop-j.at c.args.sent.now)
+          (drop c.take_block-at.result c.args.sent.now) c.loop-j.names c.take_block-at.new.names before _ lt c.loop-j.invariant.count read
+          c.take_block-at.ensures.name c.take_block-at.ensures.cells (c.loop-j.invariant.midway before copies);
+      next = listed_step (crossing_among c.args.ranges.now) old c.loop-j.j b c.loop-j.names c.take_block-at.new.names _ lt read
+          c.take_block-at.ensures.next c.loop-j.invariant.next;
+      left = left_more now old c.loop-j.j c.take_block-at.new.block c.loop-j.invariant.left;
+      counts = counts_stay now old c.loop-j.j b c.take_block-at.new.block (omega (arith, lt, c.loop-j.invariant.count)) c.index_mut.ensures.value
+          c.take_block-at.ensures.name c.take_block-at.ensures.count c.loop-j.invariant.counts;
+      count = length-set now c.loop-j.j c.take_block-at.new.block ∙ c.loop-j.invariant.count;
     }

@@ -1,14 +1,18 @@
-use Rattle.std.proofs.Common.{◌≡◌, drop}
-use Rattle.block_memory.specs.Memory.{blocks_of}
+use Rattle.std.proofs.Common.{◌≡◌, drop, length, map, take}
+use Rattle.block_memory.specs.Blocks.{Blocks}
 use Rattle.marshalling.specs.Ranges.{crossing_among}
-use Rattle.marshalling.specs.Taking.{taken_blocks}
-use Rattle.marshalling.specs.Plans.{part}
-use Rattle.marshalling.proofs.TakingLemmas.{SameShape}
+use Rattle.marshalling.specs.Plans.{AreCopies, next_listed, part, taken_listed}
+use Rattle.marshalling.specs.Returns.{counted}
+use Rattle.marshalling.proofs.ReturnLemmas.{IsMidway}
 use Rattle.marshalling.proofs.taking.take_blocks.Given as goal
 
-abbrev pub invariant-loop-k : goal.invariant-loop-k
-invariant-loop-k l = record {
-  part : taken_blocks (crossing_among l.ranges) l.k (drop l.k l.targets) (part (drop l.at l.cells) l.names (blocks_of l.memory))
-      ≡ taken_blocks (crossing_among l.ranges) 0 l.targets (part l.cells l.fn.names (blocks_of l.fn.memory));
-  shape : SameShape (blocks_of l.fn.memory) (blocks_of l.memory);
+abbrev pub invariant-loop-j : goal.invariant-loop-j
+invariant-loop-j l = record {
+  midway : (before : Blocks) → AreCopies before l.fn.blocks.items
+      → IsMidway (crossing_among l.ranges) (drop l.j l.fn.blocks.items) (take l.j l.blocks.items) (drop l.at l.sent) l.names before
+      (taken_listed (crossing_among l.ranges) l.fn.blocks.items (part l.sent l.fn.names before));
+  next : next_listed (crossing_among l.ranges) (drop l.j l.fn.blocks.items) l.names ≡ next_listed (crossing_among l.ranges) l.fn.blocks.items l.fn.names;
+  left : drop l.j l.blocks.items ≡ drop l.j l.fn.blocks.items;
+  counts : map counted l.blocks.items ≡ map counted l.fn.blocks.items;
+  count : length l.blocks.items ≡ length l.fn.blocks.items;
 }

@@ -1,5 +1,0 @@
-use Rattle.marshalling.proofs.PostingLemmas.{posting_takes}
-use Rattle.marshalling.proofs.laws.posting_is_taking.Goals as goal
-
-pub returns : goal.returns
-returns c = posting_takes
