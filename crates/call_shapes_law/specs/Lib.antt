@@ -1,0 +1,4 @@
+pub mod Packable
+pub mod Sending
+pub mod Served
+pub mod Spelled
