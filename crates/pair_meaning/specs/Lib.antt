@@ -1,0 +1,11 @@
+pub mod Laws
+pub mod LowView
+pub mod Monitors
+pub mod Pair
+pub mod Peer
+pub mod Revealed
+pub mod Rules
+pub mod Serving
+pub mod SlaveRun
+pub mod Start
+pub mod Streams

@@ -1,0 +1,59 @@
+-- A monitor between two messages, and what a slave may know of it.
+use Rattle.std.specs.Prelude.{ℕ, List, map}
+use Rattle.pt_base.specs.declared.int_type.IntType.{IntType}
+use Rattle.pt_tree.specs.declared.signature.Signature.{Signature}
+use Rattle.typed_tree.specs.declared.types.StructInfo.{StructInfo}
+use Rattle.runs.specs.State.{Hosts}
+use Rattle.block_memory.specs.Blocks.{Blocks}
+use Rattle.pt_core.specs.CodeTree.{MonitorTree}
+use Rattle.pt_core.specs.Calls.{signature_in}
+use Rattle.pt_core.specs.WellFormed.{monitor_program}
+use Rattle.marshalling.specs.Handles.{Entries}
+use Rattle.policy.specs.Verdicts.{Standing}
+
+pub record Monitor : Type 0 where
+  pub program : MonitorTree
+  -- what each handle stands for, that of handle 0 first
+  pub store : Entries
+  -- the blocks of its globals, and no others
+  pub globals : Blocks
+  pub hosts : Hosts
+  pub input : List ℕ
+  pub policy : Standing
+  -- the guarded calls that were allowed
+  pub calls : ℕ
+  -- the turns that calls took here, each for itself and for its body
+  pub turns : ℕ
+  -- the turns that the slave had taken by its last message
+  pub last : ℕ
+  -- the turns that both may take together
+  pub budget : ℕ
+
+-- The types of what is stored, and no value; no global, no host, and no turn of the monitor's own.
+pub record Low : Type 0 where
+  pub structs : List StructInfo
+  -- the functions and hosts that may be asked for
+  pub entries : List (ℕ × Signature)
+  pub types : List IntType
+  pub policy : Standing
+  pub calls : ℕ
+  pub last : ℕ
+  pub budget : ℕ
+
+abbrev pub entries_in : MonitorTree → List (ℕ × Signature)
+entries_in p = map (λ e. (e.function.0, signature_in (monitor_program p) e.function.0)) p.entries
+
+abbrev pub types_in : Entries → List IntType
+types_in store = map (λ entry. entry.0) store
+
+-- what a slave may know
+abbrev pub low : Monitor → Low
+low m = record {
+  structs = m.program.structs;
+  entries = entries_in m.program;
+  types = types_in m.store;
+  policy = m.policy;
+  calls = m.calls;
+  last = m.last;
+  budget = m.budget;
+}

@@ -1,0 +1,5 @@
+pub mod Links
+pub mod Pair
+pub mod Serving
+pub mod Sides
+pub mod SlaveRun

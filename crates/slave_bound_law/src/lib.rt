@@ -1,0 +1,10 @@
+//! A slave's steps are bounded by its program and its turns, whatever replies it is given.
+#![tactic(auto)]
+
+ghost use Rattle.slave_bound_law.specs.Longest.{SlavesAreBounded};
+
+/// A slave that keeps a machine makes only so many steps, whatever replies it is given, and then it waits or
+/// is over.
+pub fn slaves_are_bounded<S, M, X, R, E, Q, G>()
+    ensures { SlavesAreBounded S M X R E Q G }
+{}
