@@ -10,8 +10,8 @@ use Rattle.typed_tree.specs.StatementTree.{BodyTree}
 use Rattle.typed_tree.specs.TypedTree.{FunctionTree, TypedTree}
 use Rattle.pt_core.specs.CodeTree.{view_function}
 use Rattle.pt_core.specs.declared.function.CoreFn.{CoreFn}
-use Rattle.c_lower.specs.FunctionParts.{IsDefined}
-use Rattle.c_lower.specs.Functions.{code_if, core_of, functions_from}
+use Rattle.lowering.specs.FunctionParts.{IsDefined}
+use Rattle.lowering.specs.Functions.{code_if, core_of, functions_from}
 use Rattle.front_phase.specs.declared.neighbours.Run.{Run}
 use Rattle.front_phase.specs.Defined.{code_at, code_of_found, defined}
 use Rattle.front_phase.specs.Parts.{joined}

@@ -5,7 +5,7 @@ use Rattle.typed_tree.specs.Lookup.{function_at}
 use Rattle.typed_tree.specs.TypedTree.{FunctionTree, TypedTree}
 use Rattle.sides.specs.Tables.{function_id, item_if}
 use Rattle.pt_core.specs.CodeTree as core
-use Rattle.c_lower.specs.Functions.{code_if}
+use Rattle.lowering.specs.Functions.{code_if}
 
 -- those among functions of which the first has the number n
 abbrev pub defined_from : ℕ → List FunctionTree → List FnId

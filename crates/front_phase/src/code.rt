@@ -3,8 +3,8 @@ ghost use Rattle.std.specs.Prelude.{◌≡◌, ◌<◌, ◌++◌, ℕ, All, IfOk
 ghost use Rattle.std.specs.List.{flat_map};
 ghost use Rattle.typed_tree.specs.TypedView.{view_typed};
 ghost use Rattle.pt_core.specs.CodeTree.{view_function};
-ghost use Rattle.c_lower.specs.FunctionParts.{IsDefined};
-ghost use Rattle.c_lower.specs.Functions.{functions_from};
+ghost use Rattle.lowering.specs.FunctionParts.{IsDefined};
+ghost use Rattle.lowering.specs.Functions.{functions_from};
 ghost use Rattle.front_phase.specs.Defined.{code_at};
 ghost use Rattle.front_phase.specs.Runs.{IsWithin, part};
 ghost use Rattle.front_phase.specs.declared.neighbours.Run.{Run};

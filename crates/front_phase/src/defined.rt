@@ -3,7 +3,7 @@ ghost use Rattle.std.specs.Prelude.{◌≡◌, ◌+◌, ◌++◌, All, IfOk, OnO
 ghost use Rattle.sides.specs.Tables.{item_if};
 ghost use Rattle.typed_tree.specs.TypedTree.{view_function};
 ghost use Rattle.typed_tree.specs.TypedView.{view_typed};
-ghost use Rattle.c_lower.specs.FunctionParts.{IsDefined};
+ghost use Rattle.lowering.specs.FunctionParts.{IsDefined};
 ghost use Rattle.front_phase.specs.Defined.{defined};
 
 use pt_base::FnId;

@@ -4,7 +4,7 @@ ghost use Rattle.std.specs.List.{flat_map};
 ghost use Rattle.typed_tree.specs.TypedView.{view_typed};
 ghost use Rattle.sides.specs.Placed.{AreSides};
 ghost use Rattle.sides.specs.Slots.{slots_of};
-ghost use Rattle.c_lower.specs.FunctionParts.{IsDefined};
+ghost use Rattle.lowering.specs.FunctionParts.{IsDefined};
 ghost use Rattle.flow_edges.specs.Edges.{edges_in};
 ghost use Rattle.front_phase.specs.OwnEdges.{AreOwn, JoinsSlots, own_edges};
 ghost use Rattle.front_phase.specs.Runs.{IsWithin, part};

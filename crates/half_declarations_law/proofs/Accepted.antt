@@ -10,7 +10,7 @@ use Rattle.check_programs.specs.Programs.{checked_program}
 use Rattle.check_programs_law.specs.Laws.{ProgramsAreWellFormed}
 use Rattle.pt_core.specs.CodeTree.{FunctionTree, ProgramTree, SlaveTree, MonitorTree}
 use Rattle.pt_core.specs.WellFormed.{context_of, called_signature, is_sound, has_main, is_well_formed, is_well_formed_slave, is_well_formed_monitor, entries_fit, slave_program, monitor_program}
-use Rattle.c_lower.specs.Functions.{functions_from}
+use Rattle.lowering.specs.Functions.{functions_from}
 use Rattle.splitter.specs.Halves.{Halves, halves_of, slave_of, monitor_of, is_among, asked, called_by, monitor_code, entry_numbers, monitor_entries}
 use Rattle.split_law.specs.Laws.{SlavesAreWellFormed, MonitorsAreWellFormed, AcceptedShareNothing}
 use Rattle.said_halves_law.specs.Laws.{CodeIsSaid, AcceptedHalvesAreSaid}

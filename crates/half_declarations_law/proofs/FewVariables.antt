@@ -30,11 +30,11 @@ use Rattle.typed_tree.proofs.WellFormedLemmas.{and_left, and_right, and_both, fa
 use Rattle.pt_core.specs.CodeTree.{PlaceTree}
 use Rattle.pt_core.specs.Types.{type_at}
 use Rattle.source_meaning.specs.Statements.{no_expr}
-use Rattle.c_lower.specs.Lowered.{counting, int, past}
-use Rattle.c_lower.specs.Expressions.{is_struct, copied, given, place_effects, value_in, object_in}
-use Rattle.c_lower.specs.Leaves.{leaf_places}
-use Rattle.c_lower.specs.Statements.{Code, Onward, outermost, variable_place, nowhere, to_head, inside, items_in, value_stored, initialised, declared, tested, stepped, begun, variable, switch_temps, statement_in, otherwise_in, all_in, sections_in}
-use Rattle.c_lower.specs.Functions.{variable_of, code_of, lowered_body, core_of, code_if, functions_from}
+use Rattle.lowering.specs.Lowered.{counting, int, past}
+use Rattle.lowering.specs.Expressions.{is_struct, copied, given, place_effects, value_in, object_in}
+use Rattle.lowering.specs.Leaves.{leaf_places}
+use Rattle.lowering.specs.Statements.{Code, Onward, outermost, variable_place, nowhere, to_head, inside, items_in, value_stored, initialised, declared, tested, stepped, begun, variable, switch_temps, statement_in, otherwise_in, all_in, sections_in}
+use Rattle.lowering.specs.Functions.{variable_of, code_of, lowered_body, core_of, code_if, functions_from}
 use Rattle.half_declarations_law.proofs.Temporaries.{two, three, value_few, effects_few, object_few}
 
 -- ---- the outermost expressions of a body

@@ -19,8 +19,8 @@ use Rattle.typed_tree.specs.WellFormed.{are_distinct, name_of, is_well_formed}
 use Rattle.typed_tree.proofs.WellFormedLemmas.{and_left, and_right, and_both, facts_of, functions_few}
 use Rattle.pt_core.specs.CodeTree.{FunctionTree, ProgramTree}
 use Rattle.pt_core.specs.WellFormed.{signature_at}
-use Rattle.c_lower.specs.Lowered.{Temp}
-use Rattle.c_lower.specs.Functions.{variable_of, lowered_body, core_of, code_if, functions_from, signatures_from, globals_from}
+use Rattle.lowering.specs.Lowered.{Temp}
+use Rattle.lowering.specs.Functions.{variable_of, lowered_body, core_of, code_if, functions_from, signatures_from, globals_from}
 use Rattle.splitter.specs.Halves.{chosen_functions, chosen_signatures, chosen_globals}
 use Rattle.half_trees.specs.Names.{named, function_by}
 use Rattle.half_names_law.specs.Declarable.{Declarable, struct_names, field_names, signature_marked, variable_marked, parameters_marked, global_marked}

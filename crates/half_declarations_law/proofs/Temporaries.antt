@@ -9,9 +9,9 @@ use Rattle.typed_tree.specs.ExpressionTree.{typed, FormTree, ExprTrees, no_exprs
 use Rattle.typed_tree.specs.Nodes.{expr_nodes, form_nodes, exprs_nodes, link_nodes, operand_nodes, place_nodes, root_nodes, step_nodes}
 use Rattle.pt_core.specs.CodeTree as core
 use Rattle.source_meaning.specs.Expressions.{type_or_int, type_of}
-use Rattle.c_lower.specs.Lowered.{Temp, Effects, Lowered, LoweredPlace, Arguments, past, holding, int, held_if}
-use Rattle.c_lower.specs.Purity.{takes_left_first, is_pure, are_pure}
-use Rattle.c_lower.specs.Expressions.{Scope, is_struct, field_in, decayed, decayed_type, element_place, left_place, fixed_root, fixed_through, fixed_if, linked, chain_so_far, started, with_operand, assigned, called, value_in, form_in, effects_in, form_effects, links_in, operands_in, arguments_in, object_in, form_object, place_in, root_in, steps_in}
+use Rattle.lowering.specs.Lowered.{Temp, Effects, Lowered, LoweredPlace, Arguments, past, holding, int, held_if}
+use Rattle.lowering.specs.Purity.{takes_left_first, is_pure, are_pure}
+use Rattle.lowering.specs.Expressions.{Scope, is_struct, field_in, decayed, decayed_type, element_place, left_place, fixed_root, fixed_through, fixed_if, linked, chain_so_far, started, with_operand, assigned, called, value_in, form_in, effects_in, form_effects, links_in, operands_in, arguments_in, object_in, form_object, place_in, root_in, steps_in}
 
 -- ---- what a form adds of its own
 

@@ -10,7 +10,7 @@ use Rattle.flow_rules.specs.declared.accepted.Accepted.{Accepted}
 use Rattle.flow_rules.specs.Faults.{IsAccepted}
 use Rattle.pt_core.specs.CodeTree.{FunctionTree, ProgramTree}
 use Rattle.pt_core.specs.WellFormed.{signature_at, is_sound, monitor_program, slave_program}
-use Rattle.c_lower.specs.Functions.{functions_from}
+use Rattle.lowering.specs.Functions.{functions_from}
 use Rattle.splitter.specs.Halves.{halves_of, monitor_of, slave_of}
 use Rattle.half_names_law.specs.Declarable.{Declarable, prototypes_take_no_pointers}
 use Rattle.half_names_law.specs.Laws.{MeaningKept}

@@ -14,7 +14,7 @@ use Rattle.host_table.specs.Hosts.{Hosts, bytes_of, call_of, with_model}
 use Rattle.host_table.specs.RunHosts.{model_or_none, models_of, no_model}
 use Rattle.pt_core.specs.Steps.{enters, here}
 use Rattle.core_machine.specs.Gates.{gate_of}
-use Rattle.c_lower.specs.Functions.{core_program}
+use Rattle.lowering.specs.Functions.{core_program}
 use Rattle.gates_agree_law.specs.Shown.{Shows}
 use Rattle.gates_agree_law.specs.Written.{begun_written, bytes_gate}
 use Rattle.c_lower_law.proofs.Memories.{is_same, same_number}

@@ -20,7 +20,7 @@ use Rattle.core_machine.specs.declared.stepped.Stepped.{Stepped}
 use Rattle.core_machine.specs.Gates.{gate_of}
 use Rattle.core_machine.specs.Machines.{Follows, Shown}
 use Rattle.core_machine.specs.States.{answer_of}
-use Rattle.c_lower.specs.Functions.{core_program}
+use Rattle.lowering.specs.Functions.{core_program}
 use Rattle.c_lower_law.specs.Statements.{LoweringKeepsTheRun}
 use Rattle.gates_agree_law.specs.Laws.{BytesAreTheRuns, HasRun}
 use Rattle.gates_agree_law.specs.Shown.{step_shown}

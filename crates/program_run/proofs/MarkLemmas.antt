@@ -8,7 +8,7 @@ use Rattle.typed_tree.specs.Lookup.{function_named, named_from}
 use Rattle.typed_tree.specs.TypedTree.{FunctionTree, TypedTree}
 use Rattle.pt_core.specs.Calls.{no_signature, signature_in}
 use Rattle.pt_core.specs.CoreRun.{main_in}
-use Rattle.c_lower.specs.Functions.{core_program, signatures_from}
+use Rattle.lowering.specs.Functions.{core_program, signatures_from}
 use Rattle.c_lower_law.proofs.Memories.{is_other, is_same}
 use Rattle.program_run.specs.HostGates.{marks_of}
 

@@ -7,7 +7,7 @@ use Rattle.pt_base.specs.declared.ids.GlobalId.{GlobalId}
 use Rattle.sides.specs.declared.halves.Sides.{Sides}
 use Rattle.sides.specs.Placed.{AreSides}
 use Rattle.typed_tree.specs.TypedTree.{TypedTree}
-use Rattle.c_lower.specs.Functions.{functions_from}
+use Rattle.lowering.specs.Functions.{functions_from}
 use Rattle.flow_rules.specs.declared.fault.FlowFault.{FlowFault}
 use Rattle.splitter.specs.Halves.{Halves, halves_of, slave_of, monitor_of}
 use Rattle.split_text.specs.Texts.{slave_text, monitor_text}

@@ -5,7 +5,7 @@ use Rattle.typed_tree.specs.TypedTree.{TypedTree}
 use Rattle.pt_core.specs.declared.monitor.MonitorProgram.{MonitorProgram}
 use Rattle.pt_core.specs.declared.slave.SlaveProgram.{SlaveProgram}
 use Rattle.pt_core.specs.CodeTree.{FunctionTree, SlaveTree, MonitorTree, view_slave, view_monitor}
-use Rattle.c_lower.specs.Functions.{functions_from}
+use Rattle.lowering.specs.Functions.{functions_from}
 use Rattle.flow_rules.specs.declared.accepted.Accepted.{Accepted}
 use Rattle.flow_rules.specs.Faults.{IsAccepted}
 use Rattle.splitter.specs.Halves.{halves_of, slave_of, monitor_of}

@@ -6,7 +6,7 @@ use Rattle.flow_rules.specs.declared.accepted.Accepted.{Accepted}
 use Rattle.flow_rules.specs.Faults.{IsAccepted}
 use Rattle.flow_check.specs.Checked.{Refusal, IsRefused}
 use Rattle.pt_core.specs.CodeTree.{SlaveTree, MonitorTree}
-use Rattle.c_lower.specs.Functions.{functions_from}
+use Rattle.lowering.specs.Functions.{functions_from}
 use Rattle.splitter.specs.Halves.{halves_of, slave_of, monitor_of}
 use Rattle.split_text.specs.Texts.{slave_text, monitor_text}
 

@@ -19,9 +19,9 @@ use Rattle.typed_tree.specs.WellFormedExpression.{Names, is_typed, form_fits, al
 use Rattle.typed_tree.proofs.WellFormedLemmas.{and_left, and_right}
 use Rattle.pt_core.specs.Types as core
 use Rattle.source_meaning.specs.Expressions.{type_or_int, type_of}
-use Rattle.c_lower.specs.Lowered.{Temp, Effects, Lowered, LoweredPlace, past, holding, held_if}
-use Rattle.c_lower.specs.Purity.{takes_left_first, is_pure, are_pure}
-use Rattle.c_lower.specs.Expressions.{is_struct, field_in, decayed, decayed_type, element_place, left_place, fixed_if, linked, chain_so_far, started, with_operand, counted_after, assigned, compounded, counted, value_at, value_in, form_in, effects_in, form_effects, links_in, operands_in, arguments_in, object_in, form_object, place_in, root_in, steps_in}
+use Rattle.lowering.specs.Lowered.{Temp, Effects, Lowered, LoweredPlace, past, holding, held_if}
+use Rattle.lowering.specs.Purity.{takes_left_first, is_pure, are_pure}
+use Rattle.lowering.specs.Expressions.{is_struct, field_in, decayed, decayed_type, element_place, left_place, fixed_if, linked, chain_so_far, started, with_operand, counted_after, assigned, compounded, counted, value_at, value_in, form_in, effects_in, form_effects, links_in, operands_in, arguments_in, object_in, form_object, place_in, root_in, steps_in}
 use Rattle.lowered_forms_law.proofs.Settings.{Agrees, Setting, Stand, context, source}
 use Rattle.typed_tree.proofs.SameTypes.{equal_options}
 use Rattle.lowered_forms_law.proofs.SameTypes.{never}

@@ -20,9 +20,9 @@ use Rattle.pt_core.specs.CodeTree.{ExprTree, StmtTree, read, assign, copy, call,
 use Rattle.pt_core.specs.Types.{place_type}
 use Rattle.source_meaning.specs.Expressions as x
 use Rattle.source_meaning.specs.Expressions.{type_or_int}
-use Rattle.c_lower.specs.Lowered.{Temp, Effects, Lowered, LoweredPlace, Arguments, past, temp, hold, holding, int, pure}
-use Rattle.c_lower.specs.Operators.{converted, prefixed, truth_of, stepped, stored, unit_step, unit_of}
-use Rattle.c_lower.specs.Expressions.{is_struct, linked, started, valued, where_open, with_operand, arm, chosen, copied, given, assigned, compounded, counted, counted_after, argued, call_effects, called}
+use Rattle.lowering.specs.Lowered.{Temp, Effects, Lowered, LoweredPlace, Arguments, past, temp, hold, holding, int, pure}
+use Rattle.lowering.specs.Operators.{converted, prefixed, truth_of, stepped, stored, unit_step, unit_of}
+use Rattle.lowering.specs.Expressions.{is_struct, linked, started, valued, where_open, with_operand, arm, chosen, copied, given, assigned, compounded, counted, counted_after, argued, call_effects, called}
 use Rattle.lowered_forms_law.proofs.Settings.{Setting, Stand, context}
 use Rattle.typed_tree.proofs.SameTypes.{equal_options}
 use Rattle.lowered_forms_law.proofs.SameTypes.{never}

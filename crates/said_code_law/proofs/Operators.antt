@@ -16,7 +16,7 @@ use Rattle.typed_tree.specs.TypeRules.{unary_fits, converts}
 use Rattle.typed_tree.proofs.WellFormedLemmas.{and_right, and_both}
 use Rattle.pt_core.specs.CodeTree.{ExprTree, convert}
 use Rattle.pt_core.specs.Types.{Context}
-use Rattle.c_lower.specs.Operators.{as_int, converted, prefixed, truth_of, promoted_of, stepped, stored, unit_step, unit_of}
+use Rattle.lowering.specs.Operators.{as_int, converted, prefixed, truth_of, promoted_of, stepped, stored, unit_step, unit_of}
 use Rattle.lowered_forms_law.proofs.SameTypes.{never}
 use Rattle.half_meaning_law.specs.CForms.{is_null, stands, points_const}
 use Rattle.said_code_law.specs.Nulls.{is_compared}

@@ -8,8 +8,8 @@ use Rattle.typed_tree.proofs.WellFormedLemmas.{and_both}
 use Rattle.pt_core.specs.CodeTree.{local, global, deref, PlaceTree, place, ExprTree, check, decay}
 use Rattle.pt_core.specs.Types.{Context, place_type}
 use Rattle.source_meaning.specs.Expressions as x
-use Rattle.c_lower.specs.Lowered.{Temp, Lowered, LoweredPlace, past, temp, hold, holding, held_if}
-use Rattle.c_lower.specs.Expressions.{Scope, place_with_field, field_in, behind, decayed_type, element_place, fixed_root, fixed_through, fixed_if, value_at, checked}
+use Rattle.lowering.specs.Lowered.{Temp, Lowered, LoweredPlace, past, temp, hold, holding, held_if}
+use Rattle.lowering.specs.Expressions.{Scope, place_with_field, field_in, behind, decayed_type, element_place, fixed_root, fixed_through, fixed_if, value_at, checked}
 use Rattle.lowered_forms_law.proofs.Settings.{Setting, Stand, context}
 use Rattle.lowered_forms_law.proofs.Standing.{stand_first, stand_rest}
 use Rattle.half_meaning_law.specs.CForms.{stands, place_stands, is_const}

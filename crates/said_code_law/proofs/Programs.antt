@@ -10,8 +10,8 @@ use Rattle.typed_tree.specs.WellFormedExpression.{is_main}
 use Rattle.typed_tree.proofs.WellFormedLemmas.{facts_of}
 use Rattle.pt_core.specs.CodeTree.{FunctionTree, constant, give_back}
 use Rattle.pt_core.specs.WellFormed.{context_of, called_signature}
-use Rattle.c_lower.specs.Functions.{core_of, core_program, lowered_body, main_end, code_if, functions_from}
-use Rattle.c_lower.specs.Statements.{nowhere}
+use Rattle.lowering.specs.Functions.{core_of, core_program, lowered_body, main_end, code_if, functions_from}
+use Rattle.lowering.specs.Statements.{nowhere}
 use Rattle.lowered_forms_law.proofs.Settings.{Setting}
 use Rattle.lowered_forms_law.proofs.Lists.{stand_behind}
 use Rattle.lowered_forms_law.proofs.Programs.{setting, agrees, sound_at}

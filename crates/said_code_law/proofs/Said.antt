@@ -10,7 +10,7 @@ use Rattle.typed_tree.specs.TypeTests.{points_to_const}
 use Rattle.typed_tree.proofs.WellFormedLemmas.{and_both}
 use Rattle.pt_core.specs.CodeTree.{PlaceTree, ExprTree, StmtTree, assign, choose, expr_trees, stmt_trees}
 use Rattle.pt_core.specs.Types.{Context, type_of, place_type}
-use Rattle.c_lower.specs.Lowered.{Temp, Lowered, LoweredPlace, Arguments, past, temp, temp_place, hold, held, held_if}
+use Rattle.lowering.specs.Lowered.{Temp, Lowered, LoweredPlace, Arguments, past, temp, temp_place, hold, held, held_if}
 use Rattle.lowered_forms_law.proofs.Settings.{Setting, Stand, context}
 use Rattle.lowered_forms_law.proofs.SameTypes.{never}
 use Rattle.lowered_forms_law.proofs.Standing.{got_or, stand_first, stand_rest}

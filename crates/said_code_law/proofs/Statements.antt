@@ -31,11 +31,11 @@ use Rattle.pt_core.specs.CodeTree.{PlaceTree, place, local, constant, binary, cl
 use Rattle.pt_core.specs.Types.{place_type, type_at}
 use Rattle.source_meaning.specs.Expressions as x
 use Rattle.source_meaning.specs.Statements.{no_expr}
-use Rattle.c_lower.specs.Lowered.{Temp, Effects, Lowered, past, temp, hold, int, followed}
-use Rattle.c_lower.specs.Operators.{as_int}
-use Rattle.c_lower.specs.Expressions.{is_struct, value_in, effects_in, object_in, copied, given, place_effects}
-use Rattle.c_lower.specs.Leaves.{Step, to_field, to_element, Ways, ways_of, stepped_to, at_end_of, leaf_places}
-use Rattle.c_lower.specs.Statements.{outermost, Onward, nowhere, to_head, past_flag, number, onwards, inside, behind_switch, variable_place, items_in, value_stored, initialised, declared, tested, stepped, looped, on_the_way_back, first_told, case_of, cases_from, otherwise_of, section_by, switch_temps, switched, chosen, returned, begun, statement_in, otherwise_in, all_in, sections_in}
+use Rattle.lowering.specs.Lowered.{Temp, Effects, Lowered, past, temp, hold, int, followed}
+use Rattle.lowering.specs.Operators.{as_int}
+use Rattle.lowering.specs.Expressions.{is_struct, value_in, effects_in, object_in, copied, given, place_effects}
+use Rattle.lowering.specs.Leaves.{Step, to_field, to_element, Ways, ways_of, stepped_to, at_end_of, leaf_places}
+use Rattle.lowering.specs.Statements.{outermost, Onward, nowhere, to_head, past_flag, number, onwards, inside, behind_switch, variable_place, items_in, value_stored, initialised, declared, tested, stepped, looped, on_the_way_back, first_told, case_of, cases_from, otherwise_of, section_by, switch_temps, switched, chosen, returned, begun, statement_in, otherwise_in, all_in, sections_in}
 use Rattle.lowered_forms_law.proofs.Settings.{Agrees, Setting, Stand, context, source}
 use Rattle.typed_tree.proofs.SameTypes.{equal_options}
 use Rattle.lowered_forms_law.proofs.SameTypes.{never}

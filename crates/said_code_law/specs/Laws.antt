@@ -7,7 +7,7 @@ use Rattle.typed_tree.specs.TypedTree.{TypedTree}
 use Rattle.typed_tree.specs.WellFormed.{is_well_formed}
 use Rattle.pt_core.specs.CodeTree.{FunctionTree}
 use Rattle.pt_core.specs.WellFormed.{context_of, called_signature}
-use Rattle.c_lower.specs.Functions.{core_of, core_program}
+use Rattle.lowering.specs.Functions.{core_of, core_program}
 use Rattle.check_programs.specs.Programs.{checked_program}
 use Rattle.half_meaning_law.specs.CForms.{are_said}
 use Rattle.said_code_law.specs.Nulls.{nulls_stand}

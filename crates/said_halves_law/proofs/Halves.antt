@@ -14,7 +14,7 @@ use Rattle.pt_core.specs.WellFormed as well
 use Rattle.pt_core.specs.WellFormed.{signature_at, function_at, with_own, called_signature, context_of, function_by, has_main, is_sound}
 use Rattle.pt_core.specs.WellFormedStatement.{callees_of}
 use Rattle.pt_core.proofs.WellFormedLemmas.{function_is_sound}
-use Rattle.c_lower.specs.Functions.{core_program, functions_from}
+use Rattle.lowering.specs.Functions.{core_program, functions_from}
 use Rattle.lowered_forms_law.proofs.Programs.{programs_are_well_formed}
 use Rattle.lowered_names_law.specs.Named.{globals_of}
 use Rattle.lowered_names_law.proofs.Bodies.{lowered_names}

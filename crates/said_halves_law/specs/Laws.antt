@@ -8,7 +8,7 @@ use Rattle.flow_rules.specs.declared.accepted.Accepted.{Accepted}
 use Rattle.flow_rules.specs.Faults.{IsAccepted}
 use Rattle.pt_core.specs.CodeTree.{FunctionTree, ProgramTree}
 use Rattle.pt_core.specs.WellFormed.{context_of, called_signature, monitor_program, slave_program}
-use Rattle.c_lower.specs.Functions.{functions_from}
+use Rattle.lowering.specs.Functions.{functions_from}
 use Rattle.splitter.specs.Halves.{Halves, halves_of, monitor_of, slave_of}
 use Rattle.split_law.specs.Laws.{AreHalves, SharesNothing}
 use Rattle.half_meaning_law.specs.CForms.{are_said}

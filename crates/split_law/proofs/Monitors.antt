@@ -19,7 +19,7 @@ use Rattle.pt_core.specs.WellFormed as well
 use Rattle.pt_core.specs.WellFormed.{are_in_order, are_different, binds_fit, bound_by, callee_fits, callees, entries_fit, entry_by, entry_fits, function_at, has_main, is_sound, signature_at}
 use Rattle.pt_core.proofs.WellFormedLemmas as core_facts
 use Rattle.pt_core.proofs.ServingLemmas.{whole_may_serve}
-use Rattle.c_lower.specs.Functions.{core_of, core_program, functions_from, signatures_from}
+use Rattle.lowering.specs.Functions.{core_of, core_program, functions_from, signatures_from}
 use Rattle.lowered_forms_law.specs.Laws.{LoweredProgramsAreWellFormed}
 use Rattle.lowered_names_law.specs.Laws.{LoweredNames}
 use Rattle.splitter.specs.Halves.{Halves, asked, called_by, entry_numbers, entry_of, is_among, is_entry, monitor_code, monitor_entries}

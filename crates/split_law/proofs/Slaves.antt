@@ -13,7 +13,7 @@ use Rattle.sides.specs.Contexts.{is_plain, main, slave_calls, test_function}
 use Rattle.pt_core.specs.CodeTree as core
 use Rattle.pt_core.specs.WellFormed as well
 use Rattle.pt_core.specs.WellFormed.{has_main, is_main_by, is_sound, signature_at, slave_program}
-use Rattle.c_lower.specs.Functions.{core_program, functions_from}
+use Rattle.lowering.specs.Functions.{core_program, functions_from}
 use Rattle.lowered_forms_law.specs.Laws.{LoweredProgramsAreWellFormed}
 use Rattle.lowered_names_law.specs.Laws.{LoweredNames}
 use Rattle.splitter.specs.Halves.{Halves, asked, is_among}

@@ -8,7 +8,7 @@ use Rattle.sides.specs.Contexts.{InMonitor, InSlave, IsOwned, globals_in}
 use Rattle.flow_rules.specs.declared.accepted.Accepted.{Accepted}
 use Rattle.flow_rules.specs.Faults.{IsAccepted}
 use Rattle.pt_core.specs.WellFormed.{is_well_formed_monitor, is_well_formed_slave}
-use Rattle.c_lower.specs.Functions.{functions_from}
+use Rattle.lowering.specs.Functions.{functions_from}
 use Rattle.splitter.specs.Halves.{Halves, halves_of, monitor_of, slave_of}
 
 -- the lists are those of the program's halves

@@ -12,7 +12,7 @@ use Rattle.sides.proofs.WalkLemmas.{long_all}
 use Rattle.sides.proofs.TableLemmas.{set_all_append}
 use Rattle.pt_core.specs.declared.monitor.Entry.{Entry}
 use Rattle.pt_core.specs.CodeTree.{FunctionTree, GlobalTree, SlaveTree, MonitorTree}
-use Rattle.c_lower.specs.Functions.{signatures_from, globals_from}
+use Rattle.lowering.specs.Functions.{signatures_from, globals_from}
 use Rattle.splitter.specs.Halves.{Halves, IsWholeCode, asked, called_by, chosen_functions, chosen_globals, chosen_signatures, entries_of, entry_numbers, entry_of, is_among, is_entry, is_slave_host, monitor_code, monitor_entries, monitor_of, slave_code, slave_hosts, slave_of}
 use Rattle.splitter.specs.Sets.{is_set, monitor_with, slave_with}
 use Rattle.splitter.proofs.SetLemmas.{chosen_below, code_below, globals_below, set_tells, signatures_below}

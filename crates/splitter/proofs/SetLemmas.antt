@@ -13,7 +13,7 @@ use Rattle.sides.specs.Tables.{set_all}
 use Rattle.sides.proofs.ListLemmas.{contains_nothing, contains_first, contains_later, contains_cases}
 use Rattle.sides.proofs.TableLemmas.{set_all_has, set_all_from, none_true}
 use Rattle.pt_core.specs.CodeTree.{FunctionTree, GlobalTree}
-use Rattle.c_lower.specs.Functions.{code_if, functions_from, signatures_from, globals_from}
+use Rattle.lowering.specs.Functions.{code_if, functions_from, signatures_from, globals_from}
 use Rattle.splitter.specs.Halves.{IsWholeCode, is_among}
 use Rattle.splitter.specs.Sets.{is_set}
 

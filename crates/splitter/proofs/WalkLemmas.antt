@@ -14,7 +14,7 @@ use Rattle.pt_core.specs.declared.expression.Expr.{Expr}
 use Rattle.pt_core.specs.declared.function.CoreFn.{CoreFn}
 use Rattle.pt_core.specs.CodeTree.{ExprTree, FunctionTree, GlobalTree, StmtTree, choose, repeat, stmt_trees, view_function}
 use Rattle.pt_core.specs.WellFormedStatement.{callees_in, callees_of}
-use Rattle.c_lower.specs.Functions.{signatures_from, globals_from}
+use Rattle.lowering.specs.Functions.{signatures_from, globals_from}
 use Rattle.splitter.specs.Halves.{chosen_functions}
 use Rattle.splitter.specs.Sets.{numbered_global}
 

@@ -9,7 +9,7 @@ use Rattle.sides.specs.declared.halves.Sides.{Sides}
 use Rattle.pt_core.specs.declared.monitor.Entry.{Entry}
 use Rattle.pt_core.specs.CodeTree.{FunctionTree, GlobalTree, SlaveTree, MonitorTree}
 use Rattle.pt_core.specs.WellFormedStatement.{callees_of}
-use Rattle.c_lower.specs.Functions.{functions_from, signatures_from, globals_from}
+use Rattle.lowering.specs.Functions.{functions_from, signatures_from, globals_from}
 
 -- The functions of each half and the globals that the slave owns, by number.
 pub record Halves : Type 0 where

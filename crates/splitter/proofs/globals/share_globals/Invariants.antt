@@ -1,7 +1,7 @@
 use Rattle.std.proofs.Common.{◌≡◌, ◌++◌, drop, map, not}
 use Rattle.std.specs.List.{filter}
 use Rattle.pt_core.specs.CodeTree.{view_global}
-use Rattle.c_lower.specs.Functions.{globals_from}
+use Rattle.lowering.specs.Functions.{globals_from}
 use Rattle.splitter.specs.Sets.{is_set}
 use Rattle.splitter.proofs.globals.share_globals.Given as goal
 

@@ -1,7 +1,7 @@
 use Rattle.std.proofs.Common.{◌≡◌, ◌++◌, drop, map}
 use Rattle.std.specs.List.{filter}
 use Rattle.typed_tree.specs.TypedTree.{view_function}
-use Rattle.c_lower.specs.Functions.{signatures_from}
+use Rattle.lowering.specs.Functions.{signatures_from}
 use Rattle.splitter.specs.Halves.{entry_of, is_entry}
 use Rattle.splitter.specs.Sets.{is_set}
 use Rattle.splitter.proofs.hosts.entries_of.Given as goal

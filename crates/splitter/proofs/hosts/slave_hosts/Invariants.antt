@@ -1,7 +1,7 @@
 use Rattle.std.proofs.Common.{◌≡◌, ◌++◌, drop, map}
 use Rattle.std.specs.List.{filter}
 use Rattle.typed_tree.specs.TypedTree.{view_function}
-use Rattle.c_lower.specs.Functions.{signatures_from}
+use Rattle.lowering.specs.Functions.{signatures_from}
 use Rattle.splitter.specs.Halves.{is_slave_host}
 use Rattle.splitter.specs.Sets.{function_numbers, is_set}
 use Rattle.splitter.proofs.hosts.slave_hosts.Given as goal

@@ -2,7 +2,7 @@ use Rattle.std.proofs.Common.{◌≡◌, ◌++◌, drop, map}
 use Rattle.std.specs.List.{filter}
 use Rattle.typed_tree.specs.TypedTree.{view_function}
 use Rattle.pt_core.specs.CodeTree.{numbered}
-use Rattle.c_lower.specs.Functions.{signatures_from}
+use Rattle.lowering.specs.Functions.{signatures_from}
 use Rattle.splitter.specs.Sets.{is_set}
 use Rattle.splitter.proofs.signatures.signatures_in.Given as goal
 
