@@ -1,4 +1,6 @@
 mod DistinctLemmas
 mod ItemLemmas
 mod MoveLemmas
+pub mod MovedLemmas
+mod PartLemmas
 pub mod Worked

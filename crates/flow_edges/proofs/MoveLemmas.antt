@@ -1,5 +1,5 @@
 -- The edges of a value that moves, leaf by leaf.
-use Rattle.std.proofs.Common.{◌≡◌, ◌∙◌, ◌≤◌, ◌<◌, ◌-◌, ◌+◌, ◌*◌, ◌^◌, ℕ, zero, suc, refl, ap, sym, subst, arith, Bool, true, false, List, [], ◌∷◌, ◌++◌, length, length-append, append_assoc, append-nil, mul_assoc}
+use Rattle.std.proofs.Common.{◌≡◌, ◌∙◌, ◌≤◌, ◌<◌, ◌-◌, ◌+◌, ◌*◌, ℕ, zero, suc, refl, ap, sym, arith, Bool, true, false, List, [], ◌∷◌, ◌++◌, length, length-append, append_assoc, append-nil, mul_assoc}
 use native.Mathlib.Nat.{mul_comm, suc-mul, zero-mul}
 use Rattle.std.specs.Prelude.{if◌then◌else◌}
 use Rattle.std.specs.List.{flat_map, range_with_len}
@@ -78,13 +78,11 @@ count_is m =
     (range_with_len 0 m.leaves)
     ∙ ap (λ n. n * (length m.from * (length m.to * ways m))) (range_count m.leaves 0)
 
--- where there is room for so many more, there still are few
-pub stay_few : (m : Move) (old new : List Edge) (more : ℕ) → more ≡ length m.from * length m.to * m.leaves * (if m.back then 2 else 1) → more ≤ 2 ^ 26 - length old → length old ≤ 2 ^ 26 → new ≡ old ++ move_edges m → length new ≤ 2 ^ 26
-stay_few m old new more is room few added =
-    let same : more ≡ m.leaves * (length m.from * (length m.to * ways m)) =
+-- as they are counted
+pub counted : (m : Move) (n : ℕ) → n ≡ length m.from * length m.to * m.leaves * (if m.back then 2 else 1) → n ≡ length (move_edges m)
+counted m n is =
     is
-    ∙ ap (λ n. n * ways m) (mul_comm (length m.from * length m.to) m.leaves)
+    ∙ ap (λ k. k * ways m) (mul_comm (length m.from * length m.to) m.leaves)
     ∙ mul_assoc m.leaves (length m.from * length m.to) (ways m)
-    ∙ ap (λ n. m.leaves * n) (mul_assoc (length m.from) (length m.to) (ways m)) in
-    let long : length new ≡ length old + more = ap length added ∙ length-append old (move_edges m) ∙ ap (λ n. length old + n) (count_is m ∙ sym same) in
-    omega (arith, room, few, long)
+    ∙ ap (λ k. m.leaves * k) (mul_assoc (length m.from) (length m.to) (ways m))
+    ∙ sym (count_is m)

@@ -7,7 +7,7 @@ use Rattle.pt_tree.specs.declared.signature.Param.{Param}
 use Rattle.pt_tree.specs.declared.signature.ParamKind.TheVariants as p
 use Rattle.sides.proofs.Worked.{span, int, var, local, number, assign, call, takes, function, host, does, returns, body}
 use Rattle.sides.specs.Leaves.{leaves_of}
-use Rattle.sides.specs.Usages.{usages_in}
+use Rattle.usages.specs.Usages.{usages_in}
 use Rattle.typed_tree.specs.declared.statement.TypedDeclarator.{TypedDeclarator}
 use Rattle.typed_tree.specs.declared.statement.TypedForInit.TheVariants as f
 use Rattle.typed_tree.specs.declared.statement.TypedInit.{TypedInit}

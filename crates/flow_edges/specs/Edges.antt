@@ -6,13 +6,13 @@ use Rattle.pt_base.specs.declared.ids.FnId.{FnId}
 use Rattle.pt_base.specs.declared.slot.Edge.{Edge}
 use Rattle.pt_base.specs.declared.span.Span.{Span}
 use Rattle.sides.specs.declared.objects.Object.{Object}
-use Rattle.sides.specs.declared.usage.How.{How}
-use Rattle.sides.specs.declared.usage.How.TheVariants.{Kept, Operated, Passed, Begins, Returned}
+use Rattle.usages.specs.declared.usage.How.{How}
+use Rattle.usages.specs.declared.usage.How.TheVariants.{Kept, Operated, Passed, Begins, Returned}
 use Rattle.sides.specs.Carried.{Scope, carried, place_slots, scope_of, start_of}
-use Rattle.sides.specs.Contexts.{InSlave, is_plain, test_function}
+use Rattle.reach.specs.Contexts.{InSlave, is_plain, test_function}
 use Rattle.sides.specs.Leaves.{leaf_count, value_count}
 use Rattle.sides.specs.Objects.{result_start, variable_objects}
-use Rattle.sides.specs.Usages.{UsageTree, usages_in}
+use Rattle.usages.specs.Usages.{UsageTree, usages_in}
 use Rattle.typed_tree.specs.declared.types.VarTy.{VarTy}
 use Rattle.typed_tree.specs.ExpressionTree.{ExprTree, FormTree, typed, assign}
 use Rattle.typed_tree.specs.Lookup.{function_at}

@@ -1,15 +1,16 @@
-//! The edges of a function: along which the values of its expressions move, from slot to slot.
+//! The values that move in a function, and the edges along which they do: from slot to slot.
 #![tactic(auto)]
 
+mod along;
 mod distinct;
 mod edges;
 mod items;
 mod kept_items;
-mod list;
 mod moves;
 mod slot_numbers;
 mod targets;
 mod within;
 
-pub use edges::edges_of;
-pub use list::MOST_EDGES;
+pub use along::{MOST_EDGES, edges_along};
+pub use edges::moves_of;
+pub use moves::Move;

@@ -1,21 +1,24 @@
 // The edges of a value that moves.
-ghost use Rattle.std.specs.Prelude.{◌≡◌, ◌*◌, ◌++◌, [], ◌∷◌, IfSome, OnOk, if◌then◌else◌, length};
-ghost use Rattle.flow_edges.specs.MoveView.{view_move};
+ghost use Rattle.std.specs.Prelude.{◌≡◌, ◌*◌, ◌++◌, IfOk, IfSome, OnOk, if◌then◌else◌, length};
+ghost use Rattle.flow_edges.specs.MoveView.{moved_edges, view_move};
 ghost use Rattle.flow_edges.specs.Moves.{edge_between, edges_between, edges_from, leaf_edges, move_edges};
 
-use crate::list::EdgeList;
 use crate::slot_numbers::behind;
 use pt_base::{Edge, Slot, Span};
-use std::alloc::{AllocError, Global};
+use std::alloc::AllocError;
 
 /// A value that moves: from the slots that it carries to others, each by that of its first leaf.
 #[derive(Drop)]
-pub(crate) struct Move {
+pub struct Move {
+    /// The slots that it carries.
     pub from: Vec<u64>,
+    /// Where it goes.
     pub to: Vec<u64>,
+    /// How many leaves it has.
     pub leaves: u64,
     /// It is a pointer: what it points to may move back too.
     pub back: bool,
+    /// Where it stands in the text.
     pub span: Span,
 }
 
@@ -65,7 +68,7 @@ impl Move {
     }
 
     /// Adds its edges, leaf by leaf.
-    pub fn add_leaves(&self, edges: &mut Vec<Edge>) -> Result<(), AllocError>
+    pub(crate) fn add_leaves(&self, edges: &mut Vec<Edge>) -> Result<(), AllocError>
         ensures { OnOk result (edges.new.items ≡ edges.old.items ++ move_edges (view_move self.now)) }
     {
         for leaf in 0..self.leaves {
@@ -74,8 +77,18 @@ impl Move {
         Ok(())
     }
 
-    /// How many edges it has, if 64 bits can say it.
-    pub fn count(&self) -> Option<u64>
+    /// How many edges it has; more than 64 bits can say are want of memory.
+    pub(crate) fn count(&self) -> Result<u64, AllocError>
+        ensures { IfOk result (λ n. n ≡ length (move_edges (view_move self.now))) }
+    {
+        match self.product() {
+            Some(count) => Ok(count),
+            None => Err(AllocError),
+        }
+    }
+
+    // how many edges it has, if 64 bits can say it
+    fn product(&self) -> Option<u64>
         ensures { IfSome result (λ n. n ≡ length self.now.from.items * length self.now.to.items * self.now.leaves * (if self.now.back then 2 else 1)) }
     {
         let pairs = (self.from.len() as u64).checked_mul(self.to.len() as u64)?;
@@ -87,14 +100,15 @@ impl Move {
         }
     }
 
-    /// Adds its edges, if there is room for them all. A value that carries nothing has none, however
-    /// many leaves it has.
-    pub fn add_to(&self, alloc: Global, edges: &mut EdgeList) -> Result<(), AllocError>
-        ensures { OnOk result (edges.new.edges.items ≡ edges.old.edges.items ++ move_edges (view_move self.now)) }
+    /// Is put behind others, if it has edges. A value that carries nothing has none, however many leaves it
+    /// has.
+    pub(crate) fn add_to(self, moves: &mut Vec<Move>) -> Result<(), AllocError>
+        ensures { OnOk result (moved_edges moves.new.items ≡ moved_edges moves.old.items ++ move_edges (view_move self)) }
     {
         if self.from.is_empty() || self.to.is_empty() {
             return Ok(());
         }
-        edges.add(alloc, self)
+        moves.push(self)?;
+        Ok(())
     }
 }

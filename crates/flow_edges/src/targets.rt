@@ -2,7 +2,7 @@
 ghost use Rattle.std.specs.Prelude.{◌≡◌, ◌+◌, [], ◌∷◌, false, IfOk, OnOk, slice_get};
 ghost use Rattle.std.specs.Option.{option_map_or};
 ghost use Rattle.sides.specs.Carried.{scope_of, start_of};
-ghost use Rattle.sides.specs.Contexts as contexts;
+ghost use Rattle.reach.specs.Contexts as contexts;
 ghost use Rattle.sides.specs.Layouts.{IsLayout};
 ghost use Rattle.sides.specs.ScopeView.{view_scope};
 ghost use Rattle.typed_tree.specs.ExpressionTree.{view_expr};
@@ -17,9 +17,10 @@ ghost use Rattle.flow_edges.specs.Targets.{slots_in};
 use crate::kept_items::KeptItems;
 use crate::slot_numbers::behind;
 use pt_base::FnId;
-use sides::{How, Layout, Object, Scope, Usage};
+use sides::{Layout, Object, Scope};
 use std::alloc::{AllocError, Global};
 use typed_tree::{Typed, TypedFn, VarTy};
+use usages::{How, Usage};
 
 // where an object begins, if there is one of this number
 fn start_at(objects: &[Object], number: usize) -> Option<u64>

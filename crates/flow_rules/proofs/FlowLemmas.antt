@@ -5,7 +5,7 @@ use Rattle.pt_base.specs.declared.slot.Edge.{Edge}
 use Rattle.pt_base.specs.declared.slot.Slot.{Slot}
 use Rattle.propagation.specs.Marks.{AreMarks, Shown, path_shown}
 use Rattle.propagation.specs.Paths.{IsPriv, IsSimplePath}
-use Rattle.sides.specs.Tables.{slot_number}
+use Rattle.reach.specs.Tables.{slot_number}
 use Rattle.flow_rules.specs.Laws.{FlowsAreOwn}
 
 told : (seeds : List Slot) (edges : List Edge) (s : Slot) (o : Option (List ℕ)) →

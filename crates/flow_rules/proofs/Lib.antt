@@ -1,6 +1,8 @@
 mod FindingLemmas
 mod FlowLemmas
+mod MemoLemmas
 mod ObjectLemmas
+mod PrivLemmas
 mod SecretLemmas
 mod SharedLemmas
 mod ToldLemmas

@@ -6,10 +6,10 @@ use Rattle.std.proofs.lemmas.Cmp.{nat_eq_equiv}
 use Rattle.std.proofs.lemmas.List.{length-replicate}
 use Rattle.pt_base.specs.declared.ids.FnId.{FnId}
 use Rattle.pt_base.specs.declared.ids.GlobalId.{GlobalId}
-use Rattle.sides.proofs.ListLemmas.{contains_nothing, contains_first, contains_later, contains_cases, contains_map, from_map, contains_flat, from_flat}
-use Rattle.sides.proofs.TableLemmas.{set_all_has, set_all_from, none_true}
-use Rattle.sides.specs.Contexts.{globals_in}
-use Rattle.sides.specs.Marking.{global_numbers, owned_table}
+use Rattle.reach.proofs.ListLemmas.{contains_nothing, contains_first, contains_later, contains_cases, contains_map, from_map, contains_flat, from_flat}
+use Rattle.reach.proofs.TableLemmas.{set_all_has, set_all_from, none_true}
+use Rattle.reach.specs.Contexts.{globals_in}
+use Rattle.reach.specs.Owned.{global_numbers, owned_table}
 use Rattle.typed_tree.specs.declared.variable.TypedGlobal.{TypedGlobal}
 use Rattle.typed_tree.specs.TypedTree.{TypedTree}
 use Rattle.flow_rules.specs.declared.found.Found.{Found}

@@ -15,7 +15,7 @@ use Rattle.std.proofs.lemmas.List.Sorted.{Contains-permutation, IsPermutation-sy
 use Rattle.pt_base.specs.declared.slot.Edge.{Edge}
 use Rattle.pt_base.specs.declared.slot.Slot.{Slot}
 use Rattle.pt_base.specs.declared.span.Span.{Span}
-use Rattle.sides.proofs.ListLemmas.{contains_nothing, contains_first, contains_later, contains_cases, contains_map, from_map}
+use Rattle.reach.proofs.ListLemmas.{contains_nothing, contains_first, contains_later, contains_cases, contains_map, from_map}
 use Rattle.flow_rules.specs.contracts.found.FoundOrd.TheImpl as found_ord
 use Rattle.flow_rules.specs.contracts.rule.RuleOrd.TheImpl as rule_ord
 use Rattle.flow_rules.specs.declared.fault.FlowFault.{FlowFault}

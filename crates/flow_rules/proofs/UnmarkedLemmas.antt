@@ -1,13 +1,15 @@
 -- The leaves that lie under no marked field.
-use Rattle.std.proofs.Common.{◌≡◌, ◌∙◌, ◌<◌, ◌+◌, ◌-◌, ℕ, zero, suc, refl, ap, sym, arith, Bool, true, false, Some, List, ◌∷◌, ◌++◌, append_assoc, length, get_or}
+use Rattle.std.proofs.Common.{◌≡◌, ◌∙◌, ◌<◌, ◌+◌, ◌-◌, ℕ, zero, suc, refl, ap, sym, arith, Bool, true, false, Some, List, ◌∷◌, [], ◌++◌, append_assoc, length, get_or, map}
 use Rattle.std.specs.Prelude.{if◌then◌else◌, not, slice_get}
 use Rattle.std.specs.List.{filter, range_with_len}
 use Rattle.sides.proofs.StandLemmas.{objects_stand}
 use Rattle.sides.specs.declared.objects.Object.{Object}
+use Rattle.sides.specs.declared.slots.Owner.{Owner}
 use Rattle.sides.specs.declared.slots.SlotInfo.{SlotInfo}
 use Rattle.sides.specs.Leaves.{Leaf, leaf_count, leaves_of, whole}
 use Rattle.sides.specs.Objects.{variable_objects}
-use Rattle.sides.specs.Slots.{slots_of}
+use Rattle.sides.specs.Slots.{no_slot, slot_of, slots_of}
+use Rattle.typed_tree.specs.declared.types.StructInfo.{StructInfo}
 use Rattle.typed_tree.specs.declared.types.VarTy.{VarTy}
 use Rattle.typed_tree.specs.TypedTree.{TypedTree}
 use Rattle.flow_rules.specs.Kept.{is_unmarked_at, unmarked_leaf, unmarked_slots}
@@ -52,3 +54,15 @@ unmarked_are t g k x ty at same =
     let long : length (leaves_of t.structs x.ty) ≡ length (leaves_of t.structs ty) = ap length alike in
     filter_alike (is_unmarked_at (slots_of t) x.start) (λ j. not (get_or (leaves_of t.structs ty) j whole).marked) (leaf_count t.structs ty) 0
     (λ j lt. ap (λ (s : SlotInfo). not s.marked) ((objects_stand t).variables g k x (sym at) j (omega (arith, lt, long))) ∙ ap (λ (ls : List Leaf). not (get_or ls j whole).marked) alike)
+
+-- ---- as the leaves of its own type tell them
+
+marked_at : (owner : Owner) (ls : List Leaf) (j : ℕ) → (get_or (map (slot_of owner) ls) j no_slot).marked ≡ (get_or ls j whole).marked
+marked_at owner [] j = refl
+marked_at owner (l ∷ ls) zero = refl
+marked_at owner (l ∷ ls) (suc j) = marked_at owner ls j
+
+pub unmarked_made : (structs : List StructInfo) (owner : Owner) (ty : VarTy) → unmarked_slots (map (slot_of owner) (leaves_of structs ty)) 0 (leaf_count structs ty) ≡ unmarked_leaves structs (Some ty)
+unmarked_made structs owner ty =
+    filter_alike (is_unmarked_at (map (slot_of owner) (leaves_of structs ty)) 0) (λ j. not (get_or (leaves_of structs ty) j whole).marked) (leaf_count structs ty) 0
+    (λ j lt. ap (λ k. not (get_or (map (slot_of owner) (leaves_of structs ty)) k no_slot).marked) (let e : 0 + j ≡ j = omega arith in e) ∙ ap not (marked_at owner (leaves_of structs ty) j))

@@ -6,9 +6,9 @@ use Rattle.std.proofs.lemmas.List.Kept.{AllPairs-cons}
 use Rattle.pt_base.specs.declared.slot.Edge.{Edge}
 use Rattle.pt_base.specs.declared.slot.Slot.{Slot}
 use Rattle.propagation.specs.Paths.{IsSimplePath}
-use Rattle.sides.proofs.ListLemmas.{contains_first}
+use Rattle.reach.proofs.ListLemmas.{contains_first}
 use Rattle.sides.proofs.Worked.{span}
-use Rattle.sides.specs.Tables.{slot_number}
+use Rattle.reach.specs.Tables.{slot_number}
 use Rattle.flow_edges.proofs.Worked.{edge}
 use Rattle.flow_rules.proofs.Worked.{flows, fn, status, status_faults}
 use Rattle.flow_rules.specs.declared.fault.FlowFault.{FlowFault}

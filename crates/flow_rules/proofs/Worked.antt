@@ -10,7 +10,7 @@ use Rattle.pt_tree.specs.declared.signature.Param.{Param}
 use Rattle.pt_tree.specs.declared.signature.ParamKind.TheVariants as k
 use Rattle.sides.proofs.Worked.{span, int, local, number, assign, call, takes, function, host, does, returns, body}
 use Rattle.sides.specs.Leaves.{leaves_of}
-use Rattle.sides.specs.Usages.{usages_in}
+use Rattle.usages.specs.Usages.{usages_in}
 use Rattle.typed_tree.specs.declared.link.LinkStep.TheVariants as l
 use Rattle.typed_tree.specs.declared.types.StructInfo.{StructInfo}
 use Rattle.typed_tree.specs.declared.types.VarTy.{VarTy}

@@ -11,12 +11,12 @@ use Rattle.pt_base.specs.declared.span.Span.{Span}
 use Rattle.propagation.specs.Marks.{AreMarks, Shown, path_shown}
 use Rattle.propagation.specs.Paths.{IsPriv, IsSimplePath, no_edge}
 use Rattle.sides.specs.declared.halves.Sides.{Sides}
-use Rattle.sides.specs.Contexts.{InMonitor, InSlave}
+use Rattle.reach.specs.Contexts.{InMonitor, InSlave}
 use Rattle.sides.specs.Placed.{AreSides}
 use Rattle.sides.specs.Seeds.{IsSeed}
 use Rattle.sides.specs.Slots.{slots_of}
-use Rattle.sides.specs.Sorted.{Lists}
-use Rattle.sides.specs.Tables.{slot_number}
+use Rattle.reach.specs.Sorted.{Lists}
+use Rattle.reach.specs.Tables.{slot_number}
 use Rattle.typed_tree.specs.TypedTree.{TypedTree}
 use Rattle.flow_edges.specs.Edges.{edges_in}
 use Rattle.flow_rules.specs.declared.accepted.Accepted.{Accepted}

@@ -6,14 +6,14 @@ use Rattle.pt_base.specs.declared.ids.FnId.{FnId}
 use Rattle.pt_base.specs.declared.span.Span.{Span}
 use Rattle.pt_tree.specs.declared.signature.Param.{Param}
 use Rattle.sides.specs.declared.objects.Object.{Object}
-use Rattle.sides.specs.declared.usage.How.{How}
-use Rattle.sides.specs.declared.usage.How.TheVariants.{Operated, Passed, Returned}
+use Rattle.usages.specs.declared.usage.How.{How}
+use Rattle.usages.specs.declared.usage.How.TheVariants.{Operated, Passed, Returned}
 use Rattle.sides.specs.Carried.{carried, place_slots, scope_of}
-use Rattle.sides.specs.Contexts.{expr_callees, globals_in}
+use Rattle.reach.specs.Contexts.{expr_callees, globals_in}
 use Rattle.sides.specs.Leaves.{leaf_count}
 use Rattle.sides.specs.Objects.{global_objects, variable_objects}
 use Rattle.sides.specs.Seeds.{is_out}
-use Rattle.sides.specs.Usages.{UsageTree, usages_in}
+use Rattle.usages.specs.Usages.{UsageTree, usages_in}
 use Rattle.typed_tree.specs.declared.types.VarTy.{VarTy}
 use Rattle.typed_tree.specs.declared.variable.TypedGlobal.{TypedGlobal}
 use Rattle.typed_tree.specs.declared.variable.Var.{Var}

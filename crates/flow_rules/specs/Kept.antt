@@ -1,4 +1,4 @@
--- What is kept of what was found: the first of its privileged slots, to which a way is shown.
+-- What code keeps of what was found; no public clause speaks of it. It is the first of its privileged slots, to which a way is shown.
 use Rattle.std.specs.Prelude.{ℕ, suc, ◌+◌, List, [], ◌∷◌, ◌++◌, Option, None, Some, Bool, true, false, map, not, ◌&&◌, get_or, slice_index_or}
 use Rattle.std.specs.List.{filter, range_with_len}
 use Rattle.pt_base.specs.declared.span.Span.{Span}

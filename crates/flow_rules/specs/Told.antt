@@ -1,16 +1,18 @@
 -- How what was found is told: each fault once, in order, with a way to the slot that was kept.
-use Rattle.std.specs.Prelude.{◌≡◌, ℕ, List, [], ◌∷◌, Option, None, Some, Bool, ◌&&◌, nat_eq}
+use Rattle.std.specs.Prelude.{◌≡◌, ℕ, List, [], ◌∷◌, Option, None, Some, Bool, true, ◌&&◌, nat_eq}
+use Rattle.std.specs.List.{Contains}
 use Rattle.std.specs.declared.cmp.Ordering.{Ordering}
 use Rattle.std.specs.Ordering.{nat_cmp, ordering_then}
 use Rattle.pt_base.specs.declared.slot.Edge.{Edge}
 use Rattle.pt_base.specs.declared.slot.Slot.{Slot}
 use Rattle.pt_base.specs.declared.span.Span.{Span}
 use Rattle.propagation.specs.Paths.{IsSimplePath}
-use Rattle.sides.specs.Tables.{slot_number}
+use Rattle.reach.specs.Tables.{slot_number}
 use Rattle.flow_rules.specs.declared.fault.FlowFault.{FlowFault}
 use Rattle.flow_rules.specs.declared.found.Found.{Found}
 use Rattle.flow_rules.specs.Faults.{span_cmp, spans_of}
 use Rattle.flow_rules.specs.Numbers.{rule_number}
+use Rattle.flow_rules.specs.Secrets.{Flows}
 
 -- by their places, then by number
 abbrev pub found_cmp : Found → Found → Ordering
@@ -22,6 +24,13 @@ same_fault a b = (nat_eq a.span.from b.span.from && nat_eq a.span.to b.span.to) 
 
 abbrev pub IsSameFault : Found → Found → Type 0
 IsSameFault a b = (a.rule ≡ b.rule) × (a.span ≡ b.span)
+
+-- the slot to which a way is shown is privileged
+abbrev pub IsShownPriv : Flows → Option ℕ → Type 0
+IsShownPriv p slot = (s : ℕ) → slot ≡ Some s → p.is_priv s ≡ true
+
+abbrev pub AllShownPriv : Flows → List Found → Type 0
+AllShownPriv p xs = (x : Found) → Contains xs x → IsShownPriv p x.slot
 
 -- how a secret comes to a slot: along edges from a seed, to no slot twice; nothing where there is none
 abbrev pub ShowsWayTo : List Slot → List Edge → List Span → Option ℕ → Type 0

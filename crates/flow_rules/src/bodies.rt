@@ -1,34 +1,39 @@
 // What the bodies of functions break.
 ghost use Rattle.std.specs.Prelude.{◌≡◌, ◌++◌, OnOk, map};
 ghost use Rattle.std.specs.List.{flat_map};
-ghost use Rattle.sides.specs.Usages as usages;
+ghost use Rattle.usages.specs.Usages as usages;
 ghost use Rattle.typed_tree.specs.TypedView.{view_typed};
 ghost use Rattle.flow_rules.specs.Findings as is;
 ghost use Rattle.flow_rules.specs.FlowsView.{view_flows};
 ghost use Rattle.flow_rules.specs.Kept.{kept};
+ghost use Rattle.flow_rules.specs.Memory.{Knows};
 
 use crate::flows::Flows;
 use crate::found::Found;
 use crate::function_rules::add_call;
+use crate::memo::Memo;
 use crate::object_rules::add_variables;
 use crate::usage_rules::add_usage;
 use pt_base::FnId;
-use sides::usages_in;
 use std::alloc::{AllocError, Global};
+use usages::usages_in;
 
 // what the expressions of a function of the slave break
 fn add_slave_usages(
     alloc: Global,
     flows: &Flows<'_>,
     f: FnId,
+    memo: &mut Memo,
     list: &mut Vec<Found>,
 ) -> Result<(), AllocError>
-    ensures { OnOk result (list.new.items ≡ list.old.items ++ map kept (flat_map (is.usage_findings (view_flows flows.now) f) (usages.usages_in (view_typed flows.now.t.now) f))) }
+    requires memo { Knows (view_flows flows.now) memo.old }
+    ensures found { OnOk result (list.new.items ≡ list.old.items ++ map kept (flat_map (is.usage_findings (view_flows flows.now) f) (usages.usages_in (view_typed flows.now.t.now) f))) }
+    ensures memo { OnOk result (Knows (view_flows flows.now) memo.new) }
 {
     let usages = usages_in(alloc, flows.t, f)?;
     let scope = flows.sides.layout.scope(flows.t, f);
     for usage in &usages {
-        add_usage(alloc, flows, &scope, f, usage, list)?;
+        add_usage(alloc, flows, &scope, f, usage, memo, list)?;
     }
     Ok(())
 }
@@ -38,11 +43,14 @@ fn add_slave_function(
     alloc: Global,
     flows: &Flows<'_>,
     f: FnId,
+    memo: &mut Memo,
     list: &mut Vec<Found>,
 ) -> Result<(), AllocError>
-    ensures { OnOk result (list.new.items ≡ list.old.items ++ map kept (is.slave_findings (view_flows flows.now) f)) }
+    requires memo { Knows (view_flows flows.now) memo.old }
+    ensures found { OnOk result (list.new.items ≡ list.old.items ++ map kept (is.slave_findings (view_flows flows.now) f)) }
+    ensures memo { OnOk result (Knows (view_flows flows.now) memo.new) }
 {
-    add_slave_usages(alloc, flows, f, list)?;
+    add_slave_usages(alloc, flows, f, memo, list)?;
     add_variables(alloc, flows, f, list)?;
     Ok(())
 }
@@ -56,8 +64,9 @@ pub(crate) fn add_slave(
     ensures { OnOk result (list.new.items ≡ list.old.items ++ map kept (flat_map (is.slave_findings (view_flows flows.now)) flows.now.sides.now.slave)) }
 {
     let functions = flows.sides.slave.as_slice();
+    let mut memo = Memo::none(alloc);
     for f in functions {
-        add_slave_function(alloc, flows, *f, list)?;
+        add_slave_function(alloc, flows, *f, &mut memo, list)?;
     }
     Ok(())
 }

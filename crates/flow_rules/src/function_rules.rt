@@ -1,9 +1,9 @@
 // The rules on functions.
 ghost use Rattle.std.specs.Prelude.{◌≡◌, ◌++◌, ◌&&◌, ◌||◌, not, OnOk, map, option_map, slice_get};
 ghost use Rattle.std.specs.List.{flat_map, list_any};
-ghost use Rattle.sides.specs.Contexts.{expr_callees};
+ghost use Rattle.reach.specs.Contexts.{expr_callees};
 ghost use Rattle.sides.specs.Seeds as seeds;
-ghost use Rattle.sides.specs.UsageView.{view_usage};
+ghost use Rattle.usages.specs.UsageView.{view_usage};
 ghost use Rattle.typed_tree.specs.ExpressionTree.{view_expr};
 ghost use Rattle.typed_tree.specs.TypedTree.{view_function};
 ghost use Rattle.typed_tree.specs.TypedView.{view_typed};
@@ -17,9 +17,9 @@ use crate::functions::{is_main_function, is_plain_host_number};
 use crate::rule::Rule;
 use pt_base::Span;
 use pt_tree::{Param, ParamKind};
-use sides::Usage;
 use std::alloc::AllocError;
 use typed_tree::{Form, Typed, TypedExpr, TypedFn, Var};
+use usages::Usage;
 
 /// Adds that the rule is broken, where something is wrong.
 pub(crate) fn add_if(

@@ -12,6 +12,7 @@ mod found;
 mod function_rules;
 mod functions;
 mod laws;
+mod memo;
 mod object_rules;
 mod order;
 mod paths;

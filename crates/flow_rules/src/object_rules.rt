@@ -14,7 +14,8 @@ use crate::plain_rule::object_at;
 use crate::rule::Rule;
 use crate::secrets::{add_secret, all_leaves};
 use pt_base::FnId;
-use sides::{Object, named_by};
+use reach::named_by;
+use sides::Object;
 use std::alloc::{AllocError, Global};
 use typed_tree::{TypedGlobal, Var};
 

@@ -1,9 +1,10 @@
 // What was found as faults, each with a way by which a secret comes there.
-ghost use Rattle.std.specs.Prelude.{◌≡◌, ◌≤◌, Some, IfOk, length, slice_index_or};
+ghost use Rattle.std.specs.Prelude.{◌≡◌, ◌≤◌, true, Some, IfOk, length, slice_index_or};
 ghost use Rattle.propagation.specs.Marks.{AreMarks};
 ghost use Rattle.propagation.specs.Paths.{no_edge};
 ghost use Rattle.flow_rules.specs.Faults.{spans_of};
-ghost use Rattle.flow_rules.specs.Told.{AreTold, ShowsWayTo, TellsKept};
+ghost use Rattle.flow_rules.specs.FlowsView.{view_flows};
+ghost use Rattle.flow_rules.specs.Told.{AllShownPriv, AreTold, IsShownPriv, ShowsWayTo, TellsKept};
 
 use crate::fault::FlowFault;
 use crate::flows::Flows;
@@ -35,7 +36,7 @@ fn spans_at(alloc: Global, edges: &[Edge], path: &[u64]) -> Result<Listed<Span>,
     Ok(Listed::new(spans))
 }
 
-// a way to a slot, if it has no more spans than there is room for
+// a way to a privileged slot, if it has no more spans than there is room for
 fn way_to(
     alloc: Global,
     flows: &Flows<'_>,
@@ -43,17 +44,13 @@ fn way_to(
     slot: u64,
     room: usize,
 ) -> Result<Listed<Span>, AllocError>
-    requires { AreMarks flows.now.sides.now.seeds edges.now (length flows.now.sides.now.slots) flows.now.marks.now }
+    requires marks { AreMarks flows.now.sides.now.seeds edges.now (length flows.now.sides.now.slots) flows.now.marks.now }
+    requires secret { (view_flows flows.now).is_priv slot ≡ true }
     ensures way { IfOk result (λ spans. ShowsWayTo flows.now.sides.now.seeds edges.now spans (Some slot)) }
     ensures few { IfOk result (λ spans. length spans ≤ room) }
 {
-    if slot >= flows.sides.slots.as_slice().len() as u64 {
-        return Err(AllocError);
-    }
     let shown = flows.marks.path_to(alloc, Slot(slot))?;
-    let Some(path) = shown else {
-        return Err(AllocError);
-    };
+    let Some(path) = shown else { unreachable!() };
     if path.len() > room {
         return Err(AllocError);
     }
@@ -70,7 +67,8 @@ fn way_of(
     slot: Option<u64>,
     room: usize,
 ) -> Result<Listed<Span>, AllocError>
-    requires { AreMarks flows.now.sides.now.seeds edges.now (length flows.now.sides.now.slots) flows.now.marks.now }
+    requires marks { AreMarks flows.now.sides.now.seeds edges.now (length flows.now.sides.now.slots) flows.now.marks.now }
+    requires secret { IsShownPriv (view_flows flows.now) slot }
     ensures way { IfOk result (λ spans. ShowsWayTo flows.now.sides.now.seeds edges.now spans slot) }
     ensures few { IfOk result (λ spans. length spans ≤ room) }
 {
@@ -88,7 +86,8 @@ fn fault_of(
     found: Found,
     room: usize,
 ) -> Result<FlowFault, AllocError>
-    requires { AreMarks flows.now.sides.now.seeds edges.now (length flows.now.sides.now.slots) flows.now.marks.now }
+    requires marks { AreMarks flows.now.sides.now.seeds edges.now (length flows.now.sides.now.slots) flows.now.marks.now }
+    requires secret { IsShownPriv (view_flows flows.now) found.slot }
     ensures told { IfOk result (λ x. TellsKept flows.now.sides.now.seeds edges.now found x) }
     ensures few { IfOk result (λ x. length x.path ≤ room) }
 {
@@ -108,7 +107,8 @@ pub(crate) fn faults_of(
     edges: &[Edge],
     list: &[Found],
 ) -> Result<Vec<FlowFault>, AllocError>
-    requires { AreMarks flows.now.sides.now.seeds edges.now (length flows.now.sides.now.slots) flows.now.marks.now }
+    requires marks { AreMarks flows.now.sides.now.seeds edges.now (length flows.now.sides.now.slots) flows.now.marks.now }
+    requires secret { AllShownPriv (view_flows flows.now) list.now }
     ensures { IfOk result (λ v. AreTold flows.now.sides.now.seeds edges.now list.now v.items) }
 {
     let mut faults = Vec::new(alloc);

@@ -38,8 +38,12 @@ pub(crate) fn behind(slot: u64, by: u64) -> Result<u64, AllocError>
     }
 }
 
-// the first privileged slot among these leaves of what begins at this slot
-fn secret_from(flows: &Flows<'_>, start: u64, leaves: &[u64]) -> Result<Option<u64>, AllocError>
+/// The first privileged slot among these leaves of what begins at this slot.
+pub(crate) fn secret_from(
+    flows: &Flows<'_>,
+    start: u64,
+    leaves: &[u64],
+) -> Result<Option<u64>, AllocError>
     ensures { IfOk result (λ s. s ≡ first_of (secrets_from (view_flows flows.now) leaves.now start)) }
 {
     for leaf in leaves {
@@ -51,9 +55,9 @@ fn secret_from(flows: &Flows<'_>, start: u64, leaves: &[u64]) -> Result<Option<u
     Ok(None)
 }
 
-// the same of what begins at one of these slots
+/// The same of what begins at one of these slots.
 #[tactic(auto, using(crate::proofs::SecretLemmas::starts))]
-fn first_secret(
+pub(crate) fn first_secret(
     flows: &Flows<'_>,
     starts: &[u64],
     leaves: &[u64],
@@ -69,8 +73,8 @@ fn first_secret(
     Ok(None)
 }
 
-// adds what is broken where there is a privileged slot
-fn add_at(
+/// Adds what is broken where there is a privileged slot.
+pub(crate) fn add_at(
     rule: Rule,
     span: Span,
     secret: Option<u64>,

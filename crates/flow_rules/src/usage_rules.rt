@@ -2,24 +2,27 @@
 ghost use Rattle.std.specs.Prelude.{◌≡◌, ◌++◌, OnOk, map};
 ghost use Rattle.sides.specs.Carried.{scope_of};
 ghost use Rattle.sides.specs.ScopeView.{view_scope};
-ghost use Rattle.sides.specs.UsageView.{view_usage};
-ghost use Rattle.sides.specs.declared.usage.How.TheVariants.{Passed, Returned};
+ghost use Rattle.usages.specs.UsageView.{view_usage};
+ghost use Rattle.usages.specs.declared.usage.How.TheVariants.{Passed, Returned};
 ghost use Rattle.typed_tree.specs.ExpressionTree.{view_expr, view_place};
 ghost use Rattle.typed_tree.specs.TypedView.{view_typed};
 ghost use Rattle.flow_rules.specs.Findings as is;
 ghost use Rattle.flow_rules.specs.FlowsView.{view_flows};
 ghost use Rattle.flow_rules.specs.Kept.{kept};
+ghost use Rattle.flow_rules.specs.Memory.{Knows};
 
 use crate::flows::Flows;
 use crate::found::Found;
 use crate::functions::{is_main_number, is_plain_parameter, is_shown_parameter};
+use crate::memo::Memo;
 use crate::plain_rule::add_unmarked_secret;
 use crate::rule::Rule;
 use crate::secrets::{add_expression, add_value};
 use pt_base::{FnId, Span};
-use sides::{How, Scope, Usage, place_slots};
+use sides::{Scope, place_slots};
 use std::alloc::{AllocError, Global};
 use typed_tree::{Form, Place, TypedExpr, VarTy};
+use usages::{How, Usage};
 
 // an operator looks at what is in this place, an object of this type
 fn add_looked_at(
@@ -151,13 +154,16 @@ fn add_sent(
     g: FnId,
     k: usize,
     e: &TypedExpr,
+    memo: &mut Memo,
     list: &mut Vec<Found>,
 ) -> Result<(), AllocError>
-    requires { view_scope scope.now ≡ scope_of (view_typed flows.now.t.now) f.0 }
-    ensures { OnOk result (list.new.items ≡ list.old.items ++ map kept (is.priv_to_plain_param (view_flows flows.now) f (Passed g k) (view_expr e.now))) }
+    requires scope { view_scope scope.now ≡ scope_of (view_typed flows.now.t.now) f.0 }
+    requires memo { Knows (view_flows flows.now) memo.old }
+    ensures found { OnOk result (list.new.items ≡ list.old.items ++ map kept (is.priv_to_plain_param (view_flows flows.now) f (Passed g k) (view_expr e.now))) }
+    ensures memo { OnOk result (Knows (view_flows flows.now) memo.new) }
 {
     if is_plain_parameter(flows.t, g, k) {
-        add_unmarked_secret(alloc, flows, scope, g, k, e, list)
+        add_unmarked_secret(alloc, flows, scope, g, k, e, memo, list)
     } else {
         Ok(())
     }
@@ -171,13 +177,16 @@ fn add_to_plain(
     f: FnId,
     how: How,
     e: &TypedExpr,
+    memo: &mut Memo,
     list: &mut Vec<Found>,
 ) -> Result<(), AllocError>
-    requires { view_scope scope.now ≡ scope_of (view_typed flows.now.t.now) f.0 }
-    ensures { OnOk result (list.new.items ≡ list.old.items ++ map kept (is.priv_to_plain_param (view_flows flows.now) f how (view_expr e.now))) }
+    requires scope { view_scope scope.now ≡ scope_of (view_typed flows.now.t.now) f.0 }
+    requires memo { Knows (view_flows flows.now) memo.old }
+    ensures found { OnOk result (list.new.items ≡ list.old.items ++ map kept (is.priv_to_plain_param (view_flows flows.now) f how (view_expr e.now))) }
+    ensures memo { OnOk result (Knows (view_flows flows.now) memo.new) }
 {
     match how {
-        How::Passed(g, k) => add_sent(alloc, flows, scope, f, g, k, e, list),
+        How::Passed(g, k) => add_sent(alloc, flows, scope, f, g, k, e, memo, list),
         How::Kept | How::Operated | How::Begins(_, _) | How::Returned => Ok(()),
     }
 }
@@ -227,16 +236,19 @@ pub(crate) fn add_usage(
     scope: &Scope<'_>,
     f: FnId,
     usage: &Usage<'_>,
+    memo: &mut Memo,
     list: &mut Vec<Found>,
 ) -> Result<(), AllocError>
-    requires { view_scope scope.now ≡ scope_of (view_typed flows.now.t.now) f.0 }
-    ensures { OnOk result (list.new.items ≡ list.old.items ++ map kept (is.usage_findings (view_flows flows.now) f (view_usage usage.now))) }
+    requires scope { view_scope scope.now ≡ scope_of (view_typed flows.now.t.now) f.0 }
+    requires memo { Knows (view_flows flows.now) memo.old }
+    ensures found { OnOk result (list.new.items ≡ list.old.items ++ map kept (is.usage_findings (view_flows flows.now) f (view_usage usage.now))) }
+    ensures memo { OnOk result (Knows (view_flows flows.now) memo.new) }
 {
     let value = usage.value;
     add_operated(alloc, flows, scope, f, usage.how, value, list)?;
     add_changed(alloc, flows, scope, f, value, list)?;
     add_to_host(alloc, flows, scope, f, usage.how, value, list)?;
-    add_to_plain(alloc, flows, scope, f, usage.how, value, list)?;
+    add_to_plain(alloc, flows, scope, f, usage.how, value, memo, list)?;
     add_status(alloc, flows, scope, f, usage.how, value, list)?;
     Ok(())
 }

@@ -1,14 +1,21 @@
 -- What was added to a set already isn't added again.
-use Rattle.std.proofs.Common.{◌≡◌, ◌∙◌, ◌<◌, ℕ, zero, suc, refl, ap, sym, subst, arith, ◌⊎◌, inl, inr, Bool, true, false, Option, Some, None, List, [], ◌∷◌, length, get_or}
-use Rattle.std.specs.List.{Contains}
-use Rattle.std.proofs.Math.ListN.{set, replicate}
+use Rattle.std.proofs.Common.{◌≡◌, ◌∙◌, ◌<◌, ℕ, zero, suc, refl, ap, sym, subst, arith, ◌⊎◌, inl, inr, Bool, true, false, List, [], ◌∷◌, ◌++◌, length, get_or, nat_eq}
+use Rattle.std.specs.Prelude.{◌&&◌, not, if◌then◌else◌}
+use Rattle.std.specs.List.{Contains, list_any}
+use Rattle.std.proofs.Math.ListN.{set}
+use Rattle.std.proofs.lemmas.Bool.Decides.{nat_tests}
+use Rattle.std.proofs.lemmas.List.Elements.{Contains-append_cases}
+use Rattle.indexmap.specs.IndexSet.{insert_key}
+use Rattle.indexmap.proofs.CallerLemmas.{Contains-list_any}
+use Rattle.sides.specs.contracts.outs.SealedPartialEq.TheImpl as sealed_eq
 use Rattle.sides.specs.declared.outs.Out.{Out}
+use Rattle.sides.specs.declared.outs.Sealed.{Sealed}
 use Rattle.sides.specs.declared.slots.SlotInfo.{SlotInfo}
-use Rattle.sides.specs.Outs.{Remembers, behind_start}
-use Rattle.sides.specs.Tables.{set_all}
-use Rattle.sides.proofs.ListLemmas.{contains_first, contains_later}
-use Rattle.sides.proofs.TableLemmas.{set_all_keeps, set_all_has}
-use Rattle.sides.proofs.WalkLemmas.{long_all}
+use Rattle.sides.specs.Outs.{IsNoted, Remembers, behind_start, out_of}
+use Rattle.reach.specs.Tables.{set_all}
+use Rattle.reach.proofs.ListLemmas.{contains_cases, contains_first, contains_later, contains_nothing}
+use Rattle.reach.proofs.TableLemmas.{set_all_keeps, set_all_has}
+use Rattle.reach.proofs.WalkLemmas.{long_all}
 
 -- the numbers are in the set, or past its end
 abbrev AllIn : List Bool → List ℕ → Type 0
@@ -36,39 +43,50 @@ stays_in table js ks e =
 twice : (table : List Bool) (ks : List ℕ) → set_all (set_all table ks) ks ≡ set_all table ks
 twice table ks = all_same (set_all table ks) ks (λ k i lt. let long = long_all table ks in set_all_has table ks k (omega (arith, long, lt)) i)
 
-set_or : (last : List (Option Out)) (k j : ℕ) (v : Option Out) → (get_or (set last k v) j None ≡ get_or last j None) ⊎ ((k ≡ j) × (get_or (set last k v) j None ≡ v))
-set_or [] k j v = inl refl
-set_or (o ∷ os) zero zero v = inr (refl, refl)
-set_or (o ∷ os) zero (suc j) v = inl refl
-set_or (o ∷ os) (suc k) zero v = inl refl
-set_or (o ∷ os) (suc k) (suc j) v = go (set_or os k j v)
+-- ---- what is remembered
+
+sealed_same : (a b : Sealed) → sealed_eq.ghosts.eq a b ≡ true → a ≡ b
+sealed_same a b h = grind (arith, nat_tests)
+
+pub noted : (before after : List Sealed) (x : Sealed) (b : Bool) → after ≡ insert_key sealed_eq.ghosts.eq before x → b ≡ not (list_any (sealed_eq.ghosts.eq x) before) → IsNoted b before after x
+noted before after x b added is = go (list_any (sealed_eq.ghosts.eq x) before) refl b added is
   where
-    go : (get_or (set os k v) j None ≡ get_or os j None) ⊎ ((k ≡ j) × (get_or (set os k v) j None ≡ v)) → (get_or (set os k v) j None ≡ get_or os j None) ⊎ ((suc k ≡ suc j) × (get_or (set os k v) j None ≡ v))
-    go (inl e) = inl e
-    go (inr p) = inr (ap suc p.0, p.1)
+    go : (there : Bool) → list_any (sealed_eq.ghosts.eq x) before ≡ there → (b : Bool) → after ≡ (if there then before else before ++ x ∷ []) → b ≡ not there → IsNoted b before after x
+    go true e true added is = cc
+    go true e false added is = (added, Contains-list_any sealed_eq.ghosts.eq sealed_same before x e)
+    go false e true added is = added
+    go false e false added is = cc
+
+-- what was added before
+pub added_before : (slots : List SlotInfo) (out : Out) (x : Sealed) (table : List Bool) (before after : List Sealed) (b : Bool) → b ≡ false → out_of x ≡ out → Remembers slots table before → IsNoted b before after x →
+    (table ≡ set_all table (behind_start slots out x.start)) × Remembers slots table after
+added_before slots out x table before after b is same h was =
+    let noted : (after ≡ before) × Contains before x = subst (λ (c : Bool). IsNoted c before after x) is was in
+    (sym (ap (λ o. set_all table (behind_start slots o x.start)) (sym same) ∙ h x noted.1), subst (Remembers slots table) (sym noted.0) h)
 
 -- after one more start
-pub remembers_on : (slots : List SlotInfo) (out : Out) (start : ℕ) (table table' : List Bool) (last last' : List (Option Out)) → Remembers slots table last → table' ≡ set_all table (behind_start slots out start) → last' ≡ set last start (Some out) →
-    Remembers slots table' last'
-remembers_on slots out start table table' last last' h et el =
-    subst (λ (t : List Bool). Remembers slots t last') (sym et) (λ s o e. go s o e (set_or last start s (Some out)))
+pub remembers_on : (slots : List SlotInfo) (out : Out) (x : Sealed) (table table' : List Bool) (before after : List Sealed) (b : Bool) → b ≡ true → out_of x ≡ out → Remembers slots table before → IsNoted b before after x → table' ≡ set_all table (behind_start slots out x.start) →
+    Remembers slots table' after
+remembers_on slots out x table table' before after b is same h was added =
+    subst (Remembers slots table') (sym (subst (λ (c : Bool). IsNoted c before after x) is was)) (subst (λ (t : List Bool). Remembers slots t (before ++ x ∷ [])) (sym added) all)
   where
-    go : (s : ℕ) (o : Out) → get_or last' s None ≡ Some o → (get_or (set last start (Some out)) s None ≡ get_or last s None) ⊎ ((start ≡ s) × (get_or (set last start (Some out)) s None ≡ Some out)) →
-        set_all (set_all table (behind_start slots out start)) (behind_start slots o s) ≡ set_all table (behind_start slots out start)
-    go s o e (inl same) = stays_in table (behind_start slots out start) (behind_start slots o s) (h s o (sym same ∙ ap (λ xs. get_or xs s None) (sym el) ∙ e))
-    go s o e (inr p) =
-        let found : Some out ≡ Some o = sym p.1 ∙ ap (λ xs. get_or xs s None) (sym el) ∙ e in
-        let is : out ≡ o = cc in
-        ap (λ ks. set_all (set_all table (behind_start slots out start)) ks) (λ i. behind_start slots (sym is i) (sym p.0 i)) ∙ twice table (behind_start slots out start)
+    one : (y : Sealed) → Contains (x ∷ []) y → set_all (set_all table (behind_start slots out x.start)) (behind_start slots (out_of y) y.start) ≡ set_all table (behind_start slots out x.start)
+    one y c = here (contains_cases x [] y c)
+      where
+        here : (x ≡ y) ⊎ Contains [] y → set_all (set_all table (behind_start slots out x.start)) (behind_start slots (out_of y) y.start) ≡ set_all table (behind_start slots out x.start)
+        here (inl e) =
+            ap (λ (z : Sealed). set_all (set_all table (behind_start slots out x.start)) (behind_start slots (out_of z) z.start)) (sym e)
+            ∙ ap (λ o. set_all (set_all table (behind_start slots out x.start)) (behind_start slots o x.start)) same
+            ∙ twice table (behind_start slots out x.start)
+        here (inr c) = absurd (contains_nothing y c)
 
-none_at : (n s : ℕ) (out : Out) → get_or (replicate n None) s None ≡ Some out → ⊥
-none_at zero s out h = cc
-none_at (suc n) zero out h = cc
-none_at (suc n) (suc s) out h = none_at n s out h
+    all : Remembers slots (set_all table (behind_start slots out x.start)) (before ++ x ∷ [])
+    all y c = go (Contains-append_cases before (x ∷ []) y c)
+      where
+        go : Contains before y ⊎ Contains (x ∷ []) y → set_all (set_all table (behind_start slots out x.start)) (behind_start slots (out_of y) y.start) ≡ set_all table (behind_start slots out x.start)
+        go (inl c) = stays_in table (behind_start slots out x.start) (behind_start slots (out_of y) y.start) (h y c)
+        go (inr c) = one y c
 
 -- at the beginning
-pub remembers_none : (slots : List SlotInfo) (table : List Bool) (last : List (Option Out)) (n : ℕ) → last ≡ replicate n None → Remembers slots table last
-remembers_none slots table last n el = λ s out e. absurd (none_at n s out (ap (λ xs. get_or xs s None) (sym el) ∙ e))
-
-pub remembers_nothing : (slots : List SlotInfo) (table : List Bool) (last : List (Option Out)) → last ≡ [] → Remembers slots table last
-remembers_nothing slots table last el = λ s out e. absurd (let none : get_or [] s None ≡ Some out = ap (λ (xs : List (Option Out)). get_or xs s None) (sym el) ∙ e in cc)
+pub remembers_nothing : (slots : List SlotInfo) (table : List Bool) (seen : List Sealed) → seen ≡ [] → Remembers slots table seen
+remembers_nothing slots table seen none = λ x c. absurd (contains_nothing x (subst (λ (xs : List Sealed). Contains xs x) none c))

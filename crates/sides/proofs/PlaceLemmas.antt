@@ -7,20 +7,21 @@ use Rattle.pt_base.specs.declared.ids.FnId.{FnId}
 use Rattle.pt_base.specs.declared.ids.GlobalId.{GlobalId}
 use Rattle.pt_base.specs.declared.slot.Slot.{Slot}
 use Rattle.typed_tree.specs.TypedTree.{TypedTree}
-use Rattle.sides.specs.declared.calls.Half.{Half}
-use Rattle.sides.specs.declared.calls.Half.TheVariants.{Slave}
+use Rattle.reach.specs.declared.calls.Half.{Half}
+use Rattle.reach.specs.declared.calls.Half.TheVariants.{Slave}
 use Rattle.sides.specs.declared.slots.Owner.{Owner}
 use Rattle.sides.specs.declared.slots.Owner.TheVariants.{Variable, Global, Result}
 use Rattle.sides.specs.declared.slots.SlotInfo.{SlotInfo}
-use Rattle.sides.specs.Contexts.{InSlave, IsOwned, globals_in}
-use Rattle.sides.specs.Marking.{global_numbers, owned_table, stands_in, is_marked_slot, seed_table}
-use Rattle.sides.specs.Reached.{InHalf, IsReached}
+use Rattle.reach.specs.Contexts.{InSlave, IsOwned, globals_in}
+use Rattle.reach.specs.Owned.{global_numbers, owned_table}
+use Rattle.sides.specs.Marking.{stands_in, is_marked_slot, seed_table}
+use Rattle.reach.specs.Reached.{InHalf, IsReached}
 use Rattle.sides.specs.Seeds.{StandsInSlave, owner_marked, IsSeed, sealed_in}
 use Rattle.sides.specs.Slots.{slots_of, slot_at, no_slot}
-use Rattle.sides.specs.Sorted.{Lists}
-use Rattle.sides.specs.Tables.{places_true, function_id, function_ids, global_id, global_ids, slot_number, slot_numbers}
-use Rattle.sides.proofs.ListLemmas.{contains_map, from_map, contains_flat, from_flat}
-use Rattle.sides.proofs.TableLemmas.{table_lists, set_all_keeps, set_all_has, set_all_from, none_true}
+use Rattle.reach.specs.Sorted.{Lists}
+use Rattle.reach.specs.Tables.{places_true, function_id, function_ids, global_id, global_ids, slot_number, slot_numbers}
+use Rattle.reach.proofs.ListLemmas.{contains_map, from_map, contains_flat, from_flat}
+use Rattle.reach.proofs.TableLemmas.{table_lists, set_all_keeps, set_all_has, set_all_from, none_true}
 
 pub half_lists : (t : TypedTree) (half : Half) (table : List Bool) → IsReached t half table → Lists (λ (f : FnId). f.0) (InHalf t half) (function_ids (places_true 0 table))
 half_lists t half table r = table_lists function_id (λ (f : FnId). f.0) (λ n. refl) (λ f. refl) (InHalf t half) table r.same
@@ -52,10 +53,14 @@ owned_lists t fs are = table_lists global_id (λ (g : GlobalId). g.0) (λ n. ref
 
 -- ---- seeds
 
-stands : (t : TypedTree) (table : List Bool) → IsReached t Slave table → (o : Owner) → (stands_in table o ≡ true) ↔ StandsInSlave t o
-stands t table r (Variable f v) = r.same f
-stands t table r (Global g) = (λ h. tt, λ h. refl)
-stands t table r (Result f) = (λ h. tt, λ h. refl)
+-- the globals that the slave owns, as a truth for each
+abbrev pub Owns : TypedTree → List Bool → Type 0
+Owns t owned = (g : GlobalId) → (get_or owned g.0 false ≡ true) ↔ IsOwned t g
+
+stands : (t : TypedTree) (table owned : List Bool) → IsReached t Slave table → Owns t owned → (o : Owner) → (stands_in table owned o ≡ true) ↔ StandsInSlave t o
+stands t table owned r own (Variable f v) = r.same f
+stands t table owned r own (Global g) = own g
+stands t table owned r own (Result f) = (λ h. tt, λ h. refl)
 
 both_left : (a b : Bool) → (a && b) ≡ true → a ≡ true
 both_left true b h = refl
@@ -79,31 +84,31 @@ at_marked test [] k lt h = absurd (omega arith)
 at_marked test (s ∷ ss) zero lt h = h
 at_marked test (s ∷ ss) (suc k) lt h = at_marked test ss k (omega arith) h
 
-module _ (t : TypedTree) (table : List Bool) (r : IsReached t Slave table) (fs : List FnId) (are : Lists (λ (f : FnId). f.0) (InSlave t) fs) where
-  seed_is : (s : Slot) → get_or (seed_table t table (slots_of t) fs) s.0 false ≡ true → IsSeed t s
-  seed_is s h = go (set_all_from (map (is_marked_slot t table) (slots_of t)) (flat_map (sealed_in t) fs) s.0 h)
+module _ (t : TypedTree) (table owned : List Bool) (r : IsReached t Slave table) (own : Owns t owned) (fs : List FnId) (are : Lists (λ (f : FnId). f.0) (InSlave t) fs) where
+  seed_is : (s : Slot) → get_or (seed_table t table owned (slots_of t) fs) s.0 false ≡ true → IsSeed t s
+  seed_is s h = go (set_all_from (map (is_marked_slot t table owned) (slots_of t)) (flat_map (sealed_in t) fs) s.0 h)
     where
-      go : (get_or (map (is_marked_slot t table) (slots_of t)) s.0 false ≡ true) ⊎ ((s.0 < length (map (is_marked_slot t table) (slots_of t))) × Contains (flat_map (sealed_in t) fs) s.0) → IsSeed t s
+      go : (get_or (map (is_marked_slot t table owned) (slots_of t)) s.0 false ≡ true) ⊎ ((s.0 < length (map (is_marked_slot t table owned) (slots_of t))) × Contains (flat_map (sealed_in t) fs) s.0) → IsSeed t s
       go (inl e) =
-          let m = marked_at (is_marked_slot t table) (slots_of t) s.0 e in
+          let m = marked_at (is_marked_slot t table owned) (slots_of t) s.0 e in
           let x : SlotInfo = slot_at t s.0 in
-          (m.0, inl ((stands t table r (slot_at t s.0).owner).0 (both_left (stands_in table (slot_at t s.0).owner) (owner_marked t (slot_at t s.0).owner || (slot_at t s.0).marked) m.1), both_right (stands_in table (slot_at t s.0).owner) (owner_marked t (slot_at t s.0).owner || (slot_at t s.0).marked) m.1))
+          (m.0, inl ((stands t table owned r own (slot_at t s.0).owner).0 (both_left (stands_in table owned (slot_at t s.0).owner) (owner_marked t (slot_at t s.0).owner || (slot_at t s.0).marked) m.1), both_right (stands_in table owned (slot_at t s.0).owner) (owner_marked t (slot_at t s.0).owner || (slot_at t s.0).marked) m.1))
       go (inr i) =
-          let long = length-map (slots_of t) (is_marked_slot t table) in
+          let long = length-map (slots_of t) (is_marked_slot t table owned) in
           let f = from_flat (sealed_in t) fs s.0 i.1 in
-          (let lt : s.0 < length (map (is_marked_slot t table) (slots_of t)) = i.0 in omega (arith, long), inr (f.0, (are.same f.0).0 f.1, f.2))
+          (let lt : s.0 < length (map (is_marked_slot t table owned) (slots_of t)) = i.0 in omega (arith, long), inr (f.0, (are.same f.0).0 f.1, f.2))
 
-  is_seed : (s : Slot) → IsSeed t s → get_or (seed_table t table (slots_of t) fs) s.0 false ≡ true
+  is_seed : (s : Slot) → IsSeed t s → get_or (seed_table t table owned (slots_of t) fs) s.0 false ≡ true
   is_seed s (lt, inl m) =
-      set_all_keeps (map (is_marked_slot t table) (slots_of t)) (flat_map (sealed_in t) fs) s.0
-      (at_marked (is_marked_slot t table) (slots_of t) s.0 lt (both (stands_in table (slot_at t s.0).owner) (owner_marked t (slot_at t s.0).owner || (slot_at t s.0).marked) ((stands t table r (slot_at t s.0).owner).1 m.0) m.1))
+      set_all_keeps (map (is_marked_slot t table owned) (slots_of t)) (flat_map (sealed_in t) fs) s.0
+      (at_marked (is_marked_slot t table owned) (slots_of t) s.0 lt (both (stands_in table owned (slot_at t s.0).owner) (owner_marked t (slot_at t s.0).owner || (slot_at t s.0).marked) ((stands t table owned r own (slot_at t s.0).owner).1 m.0) m.1))
   is_seed s (lt, inr x) =
-      let long = length-map (slots_of t) (is_marked_slot t table) in
-      set_all_has (map (is_marked_slot t table) (slots_of t)) (flat_map (sealed_in t) fs) s.0 (omega (arith, long))
+      let long = length-map (slots_of t) (is_marked_slot t table owned) in
+      set_all_has (map (is_marked_slot t table owned) (slots_of t)) (flat_map (sealed_in t) fs) s.0 (omega (arith, long))
       (contains_flat (sealed_in t) fs x.0 s.0 ((are.same x.0).1 x.1) x.2)
 
-  pub seed_lists : Lists (λ (s : Slot). s.0) (IsSeed t) (slot_numbers (places_true 0 (seed_table t table (slots_of t) fs)))
-  seed_lists = table_lists slot_number (λ (s : Slot). s.0) (λ n. refl) (λ s. refl) (IsSeed t) (seed_table t table (slots_of t) fs) (λ s. (seed_is s, is_seed s))
+  pub seed_lists : Lists (λ (s : Slot). s.0) (IsSeed t) (slot_numbers (places_true 0 (seed_table t table owned (slots_of t) fs)))
+  seed_lists = table_lists slot_number (λ (s : Slot). s.0) (λ n. refl) (λ s. refl) (IsSeed t) (seed_table t table owned (slots_of t) fs) (λ s. (seed_is s, is_seed s))
 
 -- ---- lists as code makes them
 
@@ -116,7 +121,11 @@ pub owned_listed : (t : TypedTree) (fs fs' : List FnId) (named slice : List Bool
 owned_listed t fs fs' named slice list are ef en es el =
     subst (λ (xs : List GlobalId). Lists (λ (g : GlobalId). g.0) (IsOwned t) xs) (sym (el ∙ ap (λ bs. global_ids (places_true 0 bs)) (es ∙ en ∙ ap (owned_table t) ef))) (owned_lists t fs are)
 
-pub seeds_listed : (t : TypedTree) (table table' : List Bool) (slots : List SlotInfo) (fs fs' : List FnId) (marked slice : List Bool) (list : List Slot) → IsReached t Slave table → Lists (λ (f : FnId). f.0) (InSlave t) fs →
-    table' ≡ table → slots ≡ slots_of t → fs' ≡ fs → marked ≡ seed_table t table' slots fs' → slice ≡ marked → list ≡ slot_numbers (places_true 0 slice) → Lists (λ (s : Slot). s.0) (IsSeed t) list
-seeds_listed t table table' slots fs fs' marked slice list r are et eo ef em es el =
-    subst (λ (xs : List Slot). Lists (λ (s : Slot). s.0) (IsSeed t) xs) (sym (el ∙ ap (λ bs. slot_numbers (places_true 0 bs)) (es ∙ em ∙ (λ i. seed_table t (et i) (eo i) (ef i))))) (seed_lists t table r fs are)
+pub owned_told : (t : TypedTree) (fs fs' : List FnId) (named owned : List Bool) → Lists (λ (f : FnId). f.0) (InSlave t) fs → fs' ≡ fs → named ≡ owned_table t fs' → owned ≡ named → Owns t owned
+owned_told t fs fs' named owned are ef en eo =
+    subst (Owns t) (sym (eo ∙ en ∙ ap (owned_table t) ef)) (λ g. (owned_is t fs are g, is_owned t fs are g))
+
+pub seeds_listed : (t : TypedTree) (table table' owned : List Bool) (slots : List SlotInfo) (fs fs' : List FnId) (marked slice : List Bool) (list : List Slot) → IsReached t Slave table → Owns t owned → Lists (λ (f : FnId). f.0) (InSlave t) fs →
+    table' ≡ table → slots ≡ slots_of t → fs' ≡ fs → marked ≡ seed_table t table' owned slots fs' → slice ≡ marked → list ≡ slot_numbers (places_true 0 slice) → Lists (λ (s : Slot). s.0) (IsSeed t) list
+seeds_listed t table table' owned slots fs fs' marked slice list r own are et eo ef em es el =
+    subst (λ (xs : List Slot). Lists (λ (s : Slot). s.0) (IsSeed t) xs) (sym (el ∙ ap (λ bs. slot_numbers (places_true 0 bs)) (es ∙ em ∙ (λ i. seed_table t (et i) owned (eo i) (ef i))))) (seed_lists t table owned r own fs are)

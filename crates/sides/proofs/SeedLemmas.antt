@@ -6,7 +6,7 @@ use Rattle.typed_tree.specs.ExpressionTree.{ExprTree}
 use Rattle.typed_tree.specs.TypedTree.{TypedTree}
 use Rattle.typed_tree.specs.Lookup.{function_at}
 use Rattle.sides.specs.declared.objects.Object.{Object}
-use Rattle.sides.specs.declared.usage.How.TheVariants.{Passed}
+use Rattle.usages.specs.declared.usage.How.TheVariants.{Passed}
 use Rattle.sides.specs.Carried.{carried, scope_of}
 use Rattle.sides.specs.Objects.{variable_objects}
 use Rattle.sides.specs.Outs.{out_at, out_param, behind_out}

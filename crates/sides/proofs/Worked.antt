@@ -15,14 +15,14 @@ use Rattle.typed_tree.specs.ExpressionTree.{ExprTree, PlaceTree, typed, place, n
 use Rattle.typed_tree.specs.StatementTree.{BodyTree, block, evaluate, give_back, body_trees}
 use Rattle.typed_tree.specs.TypedTree.{FunctionTree, TypedTree}
 use Rattle.sides.specs.declared.slots.Owner.TheVariants.{Variable, Global, Result}
-use Rattle.sides.specs.declared.usage.How.TheVariants as h
+use Rattle.usages.specs.declared.usage.How.TheVariants as h
 use Rattle.sides.specs.Carried.{carried, scope_of}
-use Rattle.sides.specs.Contexts.{callees_in, globals_in, InSlave, main}
+use Rattle.reach.specs.Contexts.{callees_in, globals_in, InSlave, main}
 use Rattle.sides.specs.Leaves.{leaves_of}
 use Rattle.sides.specs.Objects.{function_starts, result_start}
 use Rattle.sides.specs.Seeds.{sealed_in}
 use Rattle.sides.specs.Slots.{slots_of}
-use Rattle.sides.specs.Usages.{usages_in}
+use Rattle.usages.specs.Usages.{usages_in}
 
 -- ---- short ways to write trees
 

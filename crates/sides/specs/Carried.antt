@@ -13,7 +13,7 @@ use Rattle.typed_tree.specs.WellFormedExpression.{ty_of, field_type, assigned_ty
 use Rattle.sides.specs.declared.objects.Object.{Object}
 use Rattle.sides.specs.Leaves.{field_start}
 use Rattle.sides.specs.Objects.{global_objects, variable_objects, result_start}
-use Rattle.sides.specs.Usages.{keeps_value}
+use Rattle.usages.specs.Usages.{keeps_value}
 
 -- what the numbers in a body name
 pub record Scope : Type 0 where

@@ -1,22 +1,18 @@
-pub mod CallGraph
+-- What a reader has to believe: leaves, slots, objects, what is carried, seeds, what `place` answers, the laws.
 pub mod Carried
-pub mod Contexts
 pub mod Laws
-pub mod Layouts
-pub mod LeafTables
 pub mod Leaves
-pub mod Marking
-pub mod Moved
 pub mod Objects
-pub mod Outs
-pub mod Paths
-pub mod Patterns
 pub mod Placed
-pub mod Reached
-pub mod ScopeView
 pub mod Seeds
 pub mod Slots
-pub mod Sorted
-pub mod Tables
-pub mod UsageView
-pub mod Usages
+-- Tables that make slots quick to ask, and how code sees what it keeps.
+pub mod Layouts
+pub mod LeafTables
+pub mod Paths
+pub mod ScopeView
+-- What code keeps on the way; no public clause speaks of it.
+pub mod Marking
+pub mod Moved
+pub mod Outs
+pub mod Patterns

@@ -1,5 +1,5 @@
 -- Where the slots of each object begin: behind those of the objects before it.
-use Rattle.std.specs.Prelude.{ℕ, ◌+◌, List, [], ◌∷◌, map, get_or, slice_get}
+use Rattle.std.specs.Prelude.{ℕ, ◌+◌, List, [], ◌∷◌, length, map, get_or, slice_get}
 use Rattle.std.specs.Option.{option_map_or}
 use Rattle.typed_tree.specs.declared.types.VarTy.{VarTy}
 use Rattle.typed_tree.specs.TypedTree.{FunctionTree, TypedTree}
@@ -41,6 +41,10 @@ function_starts t = function_starts_from (leaf_count t.structs) (types_count (le
 -- the slot of what the function 0 returns
 abbrev pub result_start : TypedTree → ℕ
 result_start t = types_count (leaf_count t.structs) (global_types t) + functions_count (leaf_count t.structs) t.functions
+
+-- how many slots a program has: those of its globals, of all variables, and of what functions return
+abbrev pub slot_count : TypedTree → ℕ
+slot_count t = result_start t + length t.functions
 
 -- the variables of the function with this number; none where there is no such function
 abbrev pub variable_objects : TypedTree → ℕ → List Object

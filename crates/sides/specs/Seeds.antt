@@ -13,14 +13,14 @@ use Rattle.typed_tree.specs.Lookup.{function_at}
 use Rattle.sides.specs.declared.slots.Owner.{Owner}
 use Rattle.sides.specs.declared.slots.Owner.TheVariants.{Variable, Global, Result}
 use Rattle.sides.specs.declared.objects.Object.{Object}
-use Rattle.sides.specs.declared.usage.How.TheVariants.{Passed}
+use Rattle.usages.specs.declared.usage.How.TheVariants.{Passed}
 use Rattle.sides.specs.Leaves.{leaf_count}
 use Rattle.sides.specs.Slots.{slots_of, slot_at}
 use Rattle.sides.specs.Objects.{variable_objects}
-use Rattle.sides.specs.declared.usage.How.{How}
-use Rattle.sides.specs.Usages.{usages_in}
+use Rattle.usages.specs.declared.usage.How.{How}
+use Rattle.usages.specs.Usages.{usages_in}
 use Rattle.sides.specs.Carried.{scope_of, carried}
-use Rattle.sides.specs.Contexts.{InSlave}
+use Rattle.reach.specs.Contexts.{InSlave, IsOwned}
 
 -- ---- marked slots
 
@@ -34,10 +34,11 @@ owner_marked t (Variable f v) = option_map_or (λ x. option_map_or (λ y. y.mark
 owner_marked t (Global g) = option_map_or (λ x. x.var.marked) (slice_get t.globals g.0) false
 owner_marked t (Result f) = option_map_or (λ x. is_sealed_result x.signature) (function_at t f) false
 
--- it stands in the slave's code; globals and what functions return belong to no function's code alone
+-- it stands in the slave's code: a variable of one of its functions, a global that it owns, or what a function returns,
+-- which belongs to no half alone
 abbrev pub StandsInSlave : TypedTree → Owner → Type 0
 StandsInSlave t (Variable f v) = InSlave t f
-StandsInSlave t (Global g) = Unit {0}
+StandsInSlave t (Global g) = IsOwned t g
 StandsInSlave t (Result f) = Unit {0}
 
 -- the slot is of an object that is marked, or lies under a marked field

@@ -9,10 +9,11 @@ ghost use Rattle.sides.specs.ScopeView.{view_scope};
 use crate::numbers::sum;
 use crate::objects::Object;
 use crate::scope::Scope;
-use crate::types::{assigned, field, is_pointer, item, keeps_value, pointee};
+use crate::types::{assigned, field, is_pointer, item, pointee};
 use pt_base::FnId;
 use std::alloc::{AllocError, Global};
 use typed_tree::{Form, LinkStep, Place, PlaceStep, Root, TypedExpr, TypedLink, VarTy};
+use usages::keeps_value;
 
 // the type of an object, where there is one
 fn object_type(objects: &[Object], number: u32) -> Option<VarTy>

@@ -3,13 +3,11 @@ ghost use Rattle.std.specs.Prelude.{IfOk};
 ghost use Rattle.typed_tree.specs.TypedView.{view_typed};
 ghost use Rattle.sides.specs.Placed.{AreSides};
 
-use crate::calls::{Half, call_edges, reached};
 use crate::layout::{Layout, lay_out};
-use crate::owned::named_by;
 use crate::seeds::seed_table;
 use crate::slots::SlotInfo;
-use crate::tables::{functions_in, globals_in, slots_in};
 use pt_base::{FnId, GlobalId, Listed, Slot};
+use reach::{Half, call_edges, functions_in, globals_in, named_by, reached, slots_in};
 use std::alloc::{AllocError, Global};
 use typed_tree::Typed;
 
@@ -35,7 +33,8 @@ pub struct Sides {
 
 /// The halves of a program, its slots and where secrets begin. Time and memory are linear in the
 /// program, in its slots, and in the leaves that come back from calls of privileged functions. The
-/// only error is want of memory.
+/// only error is want of memory; more than [`MOST_SLOTS`](crate::MOST_SLOTS) slots are that too, and more than
+/// [`MOST_PATH_NUMBERS`](crate::MOST_PATH_NUMBERS) numbers in the paths of the structs that have objects.
 pub fn place(alloc: Global, t: &Typed) -> Result<Sides, AllocError>
     ensures { IfOk result (λ s. AreSides (view_typed t.now) s) }
 {
@@ -47,7 +46,7 @@ pub fn place(alloc: Global, t: &Typed) -> Result<Sides, AllocError>
     let slave = functions_in(alloc, &in_slave)?;
     let named = named_by(alloc, t, &slave)?;
     let owned = globals_in(alloc, &named)?;
-    let marked = seed_table(alloc, t, &layout, &slots, &in_slave, &slave)?;
+    let marked = seed_table(alloc, t, &layout, &slots, &in_slave, &named, &slave)?;
     let seeds = slots_in(alloc, &marked)?;
     Ok(Sides {
         monitor: Listed::new(monitor),

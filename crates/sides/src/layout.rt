@@ -1,5 +1,5 @@
 // Where the slots of a program's objects begin.
-ghost use Rattle.std.specs.Prelude.{◌≡◌, IfOk};
+ghost use Rattle.std.specs.Prelude.{◌≡◌, ◌≤◌, ◌^◌, IfOk, length};
 ghost use Rattle.typed_tree.specs.TypedView.{view_typed};
 ghost use Rattle.sides.specs.Layouts.{IsLayout};
 ghost use Rattle.sides.specs.Slots.{slots_of};
@@ -7,6 +7,7 @@ ghost use Rattle.sides.specs.Slots.{slots_of};
 use crate::leaf_table::LeafTable;
 use crate::objects::{Object, add_functions, add_globals, add_results};
 use crate::patterns::patterns;
+use crate::room::room_for_slots;
 use crate::scope::Scope;
 use crate::slots::SlotInfo;
 use pt_base::{FnId, Listed};
@@ -69,11 +70,13 @@ impl Layout {
 pub(crate) fn lay_out(alloc: Global, t: &Typed) -> Result<(Layout, Vec<SlotInfo>), AllocError>
     ensures layout { IfOk result (λ p. IsLayout (view_typed t.now) p.0) }
     ensures slots { IfOk result (λ p. p.1.items ≡ slots_of (view_typed t.now)) }
+    ensures few { IfOk result (λ p. length p.1.items ≤ 2 ^ 26) }
 {
     let structs = t.structs.as_slice();
     let table = LeafTable::new(alloc, structs)?;
+    room_for_slots(structs, &table, t)?;
     let mut slots = Vec::new(alloc);
-    let patterns = patterns(alloc, t, structs)?;
+    let patterns = patterns(alloc, t, structs, &table)?;
     let like = patterns.as_slice();
     let globals = add_globals(alloc, structs, like, t.globals.as_slice(), &mut slots)?;
     let variables = add_functions(alloc, structs, like, &t.functions, &mut slots)?;

@@ -1,5 +1,5 @@
 // The slots of an object, leaf by leaf.
-ghost use Rattle.std.specs.Prelude.{◌≡◌, ◌++◌, ◌||◌, [], ◌∷◌, OnOk, map};
+ghost use Rattle.std.specs.Prelude.{◌≡◌, ◌++◌, ◌||◌, [], ◌∷◌, IfOk, OnOk, map};
 ghost use Rattle.typed_tree.specs.Sizes.{fields_of};
 ghost use Rattle.sides.specs.Leaves.{leaves_of, whole};
 ghost use Rattle.sides.specs.LeafTables.{leaves_below, slot_behind, named_leaves, named_struct};
@@ -8,6 +8,7 @@ ghost use Rattle.sides.specs.Slots.{slot_of};
 use crate::numbers::next_number;
 use crate::path::Path;
 use crate::slots::{Owner, SlotInfo};
+use pt_base::FnId;
 use pt_tree::Elem;
 use std::alloc::{AllocError, Global};
 use typed_tree::{Field, StructInfo, VarTy};
@@ -135,4 +136,18 @@ pub(crate) fn add_leaves(
         &mut path,
         slots,
     )
+}
+
+/// The slots of an object of this type, of what owner doesn't matter: for each leaf its path, and whether it lies
+/// under a marked field.
+pub fn leaves_like(
+    alloc: Global,
+    structs: &[StructInfo],
+    ty: VarTy,
+) -> Result<Vec<SlotInfo>, AllocError>
+    ensures { IfOk result (λ v. v.items ≡ map (slot_of (Owner.Result (record { 0 = 0 }))) (leaves_of structs.now ty)) }
+{
+    let mut slots = Vec::new(alloc);
+    add_leaves(alloc, structs, Owner::Result(FnId(0)), ty, &mut slots)?;
+    Ok(slots)
 }

@@ -7,9 +7,9 @@ ghost use Rattle.typed_tree.specs.Lookup.{function_at};
 ghost use Rattle.sides.specs.Marking as marking;
 ghost use Rattle.sides.specs.Seeds as is;
 
-use crate::functions::function_at;
 use crate::slots::{Owner, SlotInfo};
 use pt_base::{FnId, GlobalId, VarId};
+use reach::function_at;
 use std::alloc::{AllocError, Global};
 use typed_tree::{Typed, TypedFn};
 
@@ -64,38 +64,48 @@ fn owner_marked(t: &Typed, owner: Owner) -> bool
     }
 }
 
-// whether an object stands in the code of the functions of a set
-fn stands_in(table: &[bool], owner: Owner) -> bool
-    ensures { result ≡ marking.stands_in table.now owner }
+// whether the number is in a set
+fn is_in(table: &[bool], number: u32) -> bool
+    ensures { result ≡ get_or table.now number false }
 {
-    match owner {
-        Owner::Variable { function, .. } => match table.get(function.0 as usize) {
-            Some(truth) => *truth,
-            None => false,
-        },
-        Owner::Global(_) | Owner::Result(_) => true,
+    match table.get(number as usize) {
+        Some(truth) => *truth,
+        None => false,
     }
 }
 
-// whether a slot is marked, where this set has the slave's functions
-fn is_marked(t: &Typed, table: &[bool], slot: &SlotInfo) -> bool
-    ensures { result ≡ marking.is_marked_slot (view_typed t.now) table.now slot.now }
+// whether an object stands in the code of the functions of a set, or is a global of the other set
+fn stands_in(table: &[bool], owned: &[bool], owner: Owner) -> bool
+    ensures { result ≡ marking.stands_in table.now owned.now owner }
 {
-    stands_in(table, slot.owner) && (owner_marked(t, slot.owner) || slot.marked)
+    match owner {
+        Owner::Variable { function, .. } => is_in(table, function.0),
+        Owner::Global(global) => is_in(owned, global.0),
+        Owner::Result(_) => true,
+    }
 }
 
-/// For each slot, whether it is marked, where `table` tells which functions are the slave's.
+// whether a slot is marked, where these sets have the slave's functions and globals
+fn is_marked(t: &Typed, table: &[bool], owned: &[bool], slot: &SlotInfo) -> bool
+    ensures { result ≡ marking.is_marked_slot (view_typed t.now) table.now owned.now slot.now }
+{
+    stands_in(table, owned, slot.owner) && (owner_marked(t, slot.owner) || slot.marked)
+}
+
+/// For each slot, whether it is marked, where `table` tells which functions are the slave's, and `owned` which
+/// globals are.
 pub(crate) fn marked_slots(
     alloc: Global,
     t: &Typed,
     table: &[bool],
+    owned: &[bool],
     slots: &[SlotInfo],
 ) -> Result<Vec<bool>, AllocError>
-    ensures { IfOk result (λ v. v.items ≡ map (marking.is_marked_slot (view_typed t.now) table.now) slots.now) }
+    ensures { IfOk result (λ v. v.items ≡ map (marking.is_marked_slot (view_typed t.now) table.now owned.now) slots.now) }
 {
     let mut marks = Vec::with_capacity(alloc, slots.len())?;
     for slot in slots {
-        marks.push(is_marked(t, table, slot))?;
+        marks.push(is_marked(t, table, owned, slot))?;
     }
     Ok(marks)
 }

@@ -32,13 +32,3 @@ pub(crate) fn next_number(number: u32) -> Result<u32, AllocError>
         None => Err(AllocError),
     }
 }
-
-/// The index behind this one.
-pub(crate) fn next_index(index: usize) -> Result<usize, AllocError>
-    ensures { IfOk result (λ n. n ≡ index + 1) }
-{
-    match index.checked_add(1) {
-        Some(next) => Ok(next),
-        None => Err(AllocError),
-    }
-}

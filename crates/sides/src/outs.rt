@@ -1,5 +1,5 @@
 // What comes back from privileged functions through their parameters.
-ghost use Rattle.std.specs.Prelude.{◌≡◌, ◌+◌, [], ◌∷◌, None, Some, IfOk, IsTrue, OnOk, get_or, map, slice_get, slice_set};
+ghost use Rattle.std.specs.Prelude.{◌≡◌, ◌+◌, [], ◌∷◌, Some, IfOk, OnOk, map, slice_get};
 ghost use Rattle.std.specs.List.{filter, range_with_len};
 ghost use Rattle.typed_tree.specs.TypedTree.{view_function};
 ghost use Rattle.typed_tree.specs.TypedView.{view_typed};
@@ -7,15 +7,15 @@ ghost use Rattle.sides.specs.Layouts.{IsLayout};
 ghost use Rattle.sides.specs.Objects.{variable_objects};
 ghost use Rattle.sides.specs.Outs as outs;
 ghost use Rattle.sides.specs.Seeds as is;
-ghost use Rattle.sides.specs.Tables.{set_all};
+ghost use Rattle.reach.specs.Tables.{set_all};
 
-use crate::functions::function_at;
 use crate::layout::Layout;
 use crate::numbers::sum;
 use crate::slots::SlotInfo;
-use crate::tables::set_true;
+use indexmap::IndexSet;
 use pt_base::FnId;
 use pt_tree::ParamKind;
+use reach::{function_at, set_true};
 use std::alloc::AllocError;
 use typed_tree::{Typed, TypedFn};
 
@@ -124,69 +124,67 @@ fn add_all(out: Out, slots: &[SlotInfo], start: u64, table: &mut [bool]) -> Resu
     Ok(())
 }
 
-// whether they are the same parameter
-fn is_same(a: Out, b: Out) -> bool
-    ensures { IsTrue result → a ≡ b }
-{
-    a.first == b.first && a.count == b.count && a.all == b.all
+/// Leaves that were added behind a slot: those that come back secret through a parameter.
+#[derive(Clone, Copy, PartialEq, Eq, Hash)]
+pub struct Sealed {
+    /// The slot behind which they were added.
+    pub start: u64,
+    /// The first of the parameter's slots.
+    pub first: u64,
+    /// How many slots it has.
+    pub count: u64,
+    /// All that comes back there is secret.
+    pub all: bool,
 }
 
-// whether this parameter is the last one of which slots behind a start were added
-fn is_last(last: &[Option<Out>], start: u64, out: Out) -> bool
-    ensures { IsTrue result → get_or last.now start None ≡ Some out }
+// whether these leaves were not added before; they count as added from now on
+fn is_new(sealed: Sealed, seen: &mut IndexSet<Sealed>) -> Result<bool, AllocError>
+    ensures { IfOk result (λ b. outs.IsNoted b seen.old.keys seen.new.keys sealed) }
 {
-    match last.get(start as usize) {
-        Some(Some(known)) => is_same(*known, out),
-        Some(None) | None => false,
-    }
+    let is_new = seen.insert(sealed)?;
+    Ok(is_new)
 }
 
-// this parameter is the last one of which slots behind a start were added
-fn set_last(last: &mut Vec<Option<Out>>, start: u64, out: Out)
-    ensures { last.new.items ≡ slice_set last.old.items start (Some out) }
-{
-    let index = start as usize;
-    if index < last.len() {
-        last[index] = Some(out);
-    }
-}
-
-// the same, if they weren't the last ones that were added there
+// adds the slots behind a start that come back secret to a set, if they weren't added before
 fn add_behind(
     out: Out,
     slots: &[SlotInfo],
     start: u64,
     table: &mut [bool],
-    last: &mut Vec<Option<Out>>,
+    seen: &mut IndexSet<Sealed>,
 ) -> Result<(), AllocError>
-    requires { outs.Remembers slots.now table.old last.old.items }
+    requires { outs.Remembers slots.now table.old seen.old.keys }
     ensures table { OnOk result (table.new ≡ set_all table.old (outs.behind_start slots.now out start)) }
-    ensures last { OnOk result (outs.Remembers slots.now table.new last.new.items) }
+    ensures seen { OnOk result (outs.Remembers slots.now table.new seen.new.keys) }
 {
-    if is_last(last, start, out) {
+    let sealed = Sealed {
+        start,
+        first: out.first,
+        count: out.count,
+        all: out.all,
+    };
+    if !is_new(sealed, seen)? {
         return Ok(());
     }
     add_all(out, slots, start, table)?;
-    set_last(last, start, out);
     Ok(())
 }
 
-/// Adds the slots behind these starts that come back secret to a set. `last` remembers for each slot
-/// of which parameter slots were added behind it last, so that calls with the same argument cost no more
-/// than the first.
+/// Adds the slots behind these starts that come back secret to a set. `seen` remembers which were added behind
+/// which slot, so that calls with the same argument cost no more than the first, in whatever turn they come.
 pub(crate) fn add_sealed(
     out: Out,
     slots: &[SlotInfo],
     starts: &[u64],
     table: &mut [bool],
-    last: &mut Vec<Option<Out>>,
+    seen: &mut IndexSet<Sealed>,
 ) -> Result<(), AllocError>
-    requires { outs.Remembers slots.now table.old last.old.items }
+    requires { outs.Remembers slots.now table.old seen.old.keys }
     ensures table { OnOk result (table.new ≡ set_all table.old (outs.behind_out slots.now (Some out) starts.now)) }
-    ensures last { OnOk result (outs.Remembers slots.now table.new last.new.items) }
+    ensures seen { OnOk result (outs.Remembers slots.now table.new seen.new.keys) }
 {
     for start in starts {
-        add_behind(out, slots, *start, table, last)?;
+        add_behind(out, slots, *start, table, seen)?;
     }
     Ok(())
 }

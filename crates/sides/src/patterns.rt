@@ -3,11 +3,13 @@ ghost use Rattle.std.specs.Prelude.{◌≡◌, ◌++◌, IfOk, OnOk, map};
 ghost use Rattle.sides.specs.LeafTables.{named_struct};
 ghost use Rattle.sides.specs.Patterns.{ArePatterns, IsPattern, pattern_of, with_owner};
 
+use crate::leaf_table::LeafTable;
 use crate::leaves::{add_leaves, struct_of};
 use crate::numbers::next_number;
+use crate::room::room_for_paths;
 use crate::slots::{Owner, SlotInfo};
-use crate::tables::set_true;
 use pt_base::{FnId, Listed};
+use reach::set_true;
 use std::alloc::{AllocError, Global};
 use typed_tree::{StructInfo, Typed, VarTy};
 
@@ -73,10 +75,12 @@ pub(crate) fn patterns(
     alloc: Global,
     t: &Typed,
     structs: &[StructInfo],
+    table: &LeafTable,
 ) -> Result<Vec<Listed<SlotInfo>>, AllocError>
     ensures { IfOk result (λ v. ArePatterns structs.now v.items) }
 {
     let needed = structs_of_objects(alloc, t)?;
+    room_for_paths(alloc, structs, table, &needed)?;
     let patterns = patterns_of(alloc, structs, &needed)?;
     Ok(patterns)
 }

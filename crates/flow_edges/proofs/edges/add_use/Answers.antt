@@ -3,6 +3,7 @@ use Rattle.std.proofs.Common.{ap, length}
 use Rattle.sides.specs.ScopeView.{view_scope}
 use Rattle.typed_tree.specs.ExpressionTree.{view_expr}
 use Rattle.flow_edges.specs.Edges.{moved_to}
+use Rattle.flow_edges.specs.MoveView.{moved_edges}
 use Rattle.flow_edges.specs.Moves.{first_of_each}
 use Rattle.flow_edges.specs.Targets.{slots_in}
 use Rattle.flow_edges.proofs.MoveLemmas.{adds_nothing_to}
@@ -10,5 +11,5 @@ use Rattle.flow_edges.proofs.edges.add_use.Goals as goal
 
 pub returns-in-None : goal.returns-in-None
 returns-in-None c =
-    adds_nothing_to c.args.edges.now.edges.items (moved_to (view_scope c.args.scope.now) (view_expr c.args.value.now) (slots_in c.args.to))
+    adds_nothing_to (moved_edges c.args.moves.now.items) (moved_to (view_scope c.args.scope.now) (view_expr c.args.value.now) (slots_in c.args.to))
     (ap (λ o. length (first_of_each (slots_in o))) c.in-None.is)

@@ -1,6 +1,6 @@
 use Rattle.std.proofs.Common.{◌≡◌, ◌++◌, drop, map}
 use Rattle.std.specs.List.{flat_map}
-use Rattle.sides.specs.UsageView.{view_usage}
+use Rattle.usages.specs.UsageView.{view_usage}
 use Rattle.flow_rules.specs.Findings.{host_in_monitor, monitor_findings}
 use Rattle.flow_rules.specs.FlowsView.{view_flows}
 use Rattle.flow_rules.specs.Kept.{kept}

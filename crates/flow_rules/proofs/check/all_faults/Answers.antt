@@ -3,6 +3,7 @@ use Rattle.propagation.specs.Marks.{AreMarks}
 use Rattle.typed_tree.specs.TypedView.{view_typed}
 use Rattle.flow_rules.specs.Faults.{flows_of}
 use Rattle.flow_rules.proofs.ToldLemmas.{faults_are}
+use Rattle.flow_rules.proofs.PrivLemmas.{shown_priv}
 use Rattle.flow_rules.proofs.check.all_faults.Goals as goal
 
 pub invariant_of-flows : goal.invariant_of-flows
@@ -12,8 +13,12 @@ invariant_of-flows c = record {
   sized = c.requires.marks.size ∙ ap length (sym c.requires.sides.slots);
 }
 
-pub faults_of-requires : goal.faults_of-requires
-faults_of-requires c =
+pub faults_of-requires-clause-secret : goal.faults_of-requires-clause-secret
+faults_of-requires-clause-secret c =
+    shown_priv (flows_of (view_typed c.args.t.now) c.args.sides.now c.args.marks.now) _ _ _ c.in_ok-list.ensures c.arrange.ensures.found c.as_slice-places.ensures.value
+
+pub faults_of-requires-clause-marks : goal.faults_of-requires-clause-marks
+faults_of-requires-clause-marks c =
     subst (λ n. AreMarks c.args.sides.now.seeds c.args.edges.now n c.args.marks.now) (ap length (sym c.requires.sides.slots)) c.requires.marks
 
 pub returns : goal.returns

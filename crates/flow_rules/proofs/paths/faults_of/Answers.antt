@@ -4,7 +4,11 @@ use Rattle.flow_rules.specs.declared.fault.FlowFault.{FlowFault}
 use Rattle.flow_rules.specs.declared.found.Found.{Found}
 use Rattle.flow_rules.specs.Told.{AreTold}
 use Rattle.flow_rules.proofs.ToldLemmas.{all_taken, next_told}
+use Rattle.std.proofs.lemmas.List.Elements.{Contains-get_or}
 use Rattle.flow_rules.proofs.paths.faults_of.Goals as goal
+
+pub fault_of-requires-clause-secret : goal.fault_of-requires-clause-secret
+fault_of-requires-clause-secret c = c.requires.secret _ (Contains-get_or c.args.list.now c.loop-found.found-index _ c.loop-found-test.true)
 
 pub loop-found-init : goal.loop-found-init
 loop-found-init c = subst (λ (fs : List FlowFault). AreTold c.args.flows.now.sides.now.seeds c.args.edges.now [] fs) (sym c.new-faults.ensures.items) tt

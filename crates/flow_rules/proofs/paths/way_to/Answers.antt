@@ -3,15 +3,19 @@ use Rattle.std.proofs.Common.{◌≤◌, ◌∙◌, ap, arith, length, subst}
 use Rattle.std.specs.Prelude.{MatchOption, slice_index_or}
 use Rattle.std.proofs.lemmas.List.{length-map}
 use Rattle.propagation.specs.Paths.{IsPriv, IsSimplePath, no_edge}
-use Rattle.sides.specs.Tables.{slot_number}
+use Rattle.reach.specs.Tables.{slot_number}
 use Rattle.flow_rules.specs.Faults.{spans_of}
+use Rattle.flow_rules.proofs.PrivLemmas.{priv_below}
 use Rattle.flow_rules.proofs.paths.way_to.Goals as goal
+
+pub path_to-requires : goal.path_to-requires
+path_to-requires c = priv_below c.args.flows.now.marks.now c.args.slot c.requires.secret
 
 pub returns-clause-way : goal.returns-clause-way
 returns-clause-way c =
     let seeds = c.args.flows.now.sides.now.seeds in
     let edges = c.args.edges.now in
-    let told = c.in_ok-shown.ensures.exact seeds edges _ c.requires in
+    let told = c.in_ok-shown.ensures.exact seeds edges _ c.requires.marks in
     let simple : IsSimplePath seeds edges c.in-Some.path.items (slot_number c.args.slot) =
     subst (λ o. MatchOption o (¬ IsPriv seeds edges (slot_number c.args.slot)) (λ path. IsSimplePath seeds edges path.items (slot_number c.args.slot))) c.in-Some.is told in (
       c.in-Some.path.items,

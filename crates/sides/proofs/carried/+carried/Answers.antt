@@ -3,7 +3,7 @@ use Rattle.typed_tree.specs.ExpressionTree as tree
 use Rattle.typed_tree.proofs.Rows.{view_read, view_decay, view_address, view_chain, view_assign, view_compound, view_increment}
 use Rattle.sides.specs.ScopeView.{view_scope}
 use Rattle.sides.proofs.CarriedLemmas.{chain_done, place_done}
-use Rattle.sides.proofs.Joined.{on_ok}
+use Rattle.usages.proofs.Joined.{on_ok}
 use Rattle.sides.proofs.carried.+carried.Goals as goal
 
 pub add_carried-returns-in-Read : goal.add_carried-returns-in-Read

@@ -2,7 +2,7 @@ use Rattle.std.proofs.Common.{◌≡◌, ◌∙◌, ◌∷◌, ◌++◌, [], add
 use Rattle.std.proofs.lemmas.List.{drop_all}
 use Rattle.sides.specs.Leaves.{fields_leaves}
 use Rattle.sides.specs.LeafTables.{leaves_below, named_leaves, slot_behind}
-use Rattle.sides.proofs.LayoutLemmas.{split_at}
+use Rattle.reach.proofs.MoreLemmas.{split_at}
 use Rattle.sides.proofs.LeafLemmas.{field_behind, none_behind, fields_done, popped}
 use Rattle.sides.proofs.leaves.+add_behind.Goals as goal
 

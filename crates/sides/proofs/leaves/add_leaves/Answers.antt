@@ -1,5 +1,5 @@
 use Rattle.std.proofs.Common.{◌∙◌, ◌++◌, ap, refl}
-use Rattle.sides.proofs.Joined.{on_ok}
+use Rattle.usages.proofs.Joined.{on_ok}
 use Rattle.sides.proofs.LeafLemmas.{object_is}
 use Rattle.sides.proofs.leaves.add_leaves.Goals as goal
 

@@ -4,7 +4,8 @@ use Rattle.sides.specs.Layouts.{functions_objects}
 use Rattle.sides.specs.Leaves.{leaf_count}
 use Rattle.sides.specs.Objects.{objects_from}
 use Rattle.sides.specs.Slots.{variables_slots, functions_slots}
-use Rattle.sides.proofs.LayoutLemmas.{split_at, moved_on, function_on}
+use Rattle.reach.proofs.MoreLemmas.{split_at, moved_on}
+use Rattle.sides.proofs.LayoutLemmas.{function_on}
 use Rattle.sides.proofs.objects.add_functions.Goals as goal
 
 pub loop-function-preserved : goal.loop-function-preserved

@@ -1,5 +1,5 @@
 use Rattle.std.proofs.Common.{◌∙◌, ◌++◌, ap, arith}
-use Rattle.sides.proofs.Joined.{on_ok}
+use Rattle.usages.proofs.Joined.{on_ok}
 use Rattle.sides.proofs.PatternLemmas.{alike_is}
 use Rattle.sides.proofs.objects.add_slots.Goals as goal
 

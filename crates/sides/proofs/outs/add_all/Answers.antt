@@ -1,5 +1,5 @@
 use Rattle.sides.specs.Outs.{is_back}
-use Rattle.sides.proofs.WalkLemmas.{leaf_on}
+use Rattle.reach.proofs.WalkLemmas.{leaf_on}
 use Rattle.sides.proofs.outs.add_all.Goals as goal
 
 pub loop-leaf-preserved : goal.loop-leaf-preserved

@@ -1,7 +1,7 @@
 use Rattle.std.proofs.Common.{◌≡◌, ◌+◌, ◌-◌, map}
 use Rattle.std.specs.List.{filter, range_with_len}
 use Rattle.sides.specs.Outs.{is_back, behind_start}
-use Rattle.sides.specs.Tables.{set_all}
+use Rattle.reach.specs.Tables.{set_all}
 use Rattle.sides.proofs.outs.add_all.Given as goal
 
 abbrev pub invariant-loop-leaf : goal.invariant-loop-leaf

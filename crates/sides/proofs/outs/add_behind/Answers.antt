@@ -1,9 +1,12 @@
-use Rattle.std.proofs.Common.{◌∙◌, None, ap, get_or, sym}
-use Rattle.sides.proofs.LastLemmas.{remembers_on}
+use Rattle.std.proofs.Common.{arith, refl}
+use Rattle.sides.proofs.LastLemmas.{added_before, remembers_on}
 use Rattle.sides.proofs.outs.add_behind.Goals as goal
 
-pub returns-then-is_last-clause-table : goal.returns-then-is_last-clause-table
-returns-then-is_last-clause-table c = sym (c.requires c.args.start c.args.out (ap (λ xs. get_or xs c.args.start None) (sym c.deref.ensures.value) ∙ c.is_last.ensures c.if-is_last.true))
+pub returns-then-not-branch-clause-table : goal.returns-then-not-branch-clause-table
+returns-then-not-branch-clause-table c = (added_before c.args.slots.now c.args.out _ _ _ _ _ (grind arith) refl c.requires c.in_ok-is_new.ensures).0
 
-pub returns-clause-last : goal.returns-clause-last
-returns-clause-last c = remembers_on c.args.slots.now c.args.out c.args.start _ _ _ _ c.requires c.in_ok-add_all.ensures c.set_last.ensures
+pub returns-then-not-branch-clause-seen : goal.returns-then-not-branch-clause-seen
+returns-then-not-branch-clause-seen c = (added_before c.args.slots.now c.args.out _ _ _ _ _ (grind arith) refl c.requires c.in_ok-is_new.ensures).1
+
+pub returns-clause-seen : goal.returns-clause-seen
+returns-clause-seen c = remembers_on c.args.slots.now c.args.out _ _ _ _ _ _ (grind arith) refl c.requires c.in_ok-is_new.ensures c.in_ok-add_all.ensures

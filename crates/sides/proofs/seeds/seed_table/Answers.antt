@@ -1,19 +1,19 @@
-use Rattle.std.proofs.Common.{◌∙◌, Bool, List, ap, get_or, length, subst, sym}
+use Rattle.std.proofs.Common.{◌∙◌, arith, Bool, List, ap, get_or, length, subst, sym}
 use Rattle.std.specs.List.{flat_map}
 use Rattle.std.proofs.lemmas.List.{with_items_is}
 use Rattle.typed_tree.specs.TypedView.{view_typed}
 use Rattle.sides.specs.Outs.{Remembers}
 use Rattle.sides.specs.Seeds.{sealed_in}
-use Rattle.sides.specs.Tables.{set_all}
+use Rattle.reach.specs.Tables.{set_all}
 use Rattle.sides.proofs.LastLemmas.{remembers_nothing}
-use Rattle.sides.proofs.LayoutLemmas.{split_or}
-use Rattle.sides.proofs.WalkLemmas.{item_on, kept_items, long_all}
+use Rattle.reach.proofs.MoreLemmas.{split_or}
+use Rattle.reach.proofs.WalkLemmas.{item_on, kept_items, long_all}
 use Rattle.sides.proofs.seeds.seed_table.Goals as goal
 
 pub loop-f-init : goal.loop-f-init
 loop-f-init c = record {
   table = ap (λ xs. set_all xs (flat_map (sealed_in (view_typed c.args.t.now)) c.args.functions.now)) c.in_ok-table.ensures;
-  last = remembers_nothing c.args.slots.now c.in_ok-table.table.items c.new-last.result.items c.new-last.ensures.items;
+  seen = remembers_nothing c.args.slots.now c.in_ok-table.table.items c.new-seen.result.keys (grind arith);
 }
 
 pub loop-f-preserved : goal.loop-f-preserved
@@ -22,5 +22,5 @@ loop-f-preserved c =
     record {
       table = item_on (sealed_in (view_typed c.args.t.now)) _ _ _ _ _ _ (split_or c.args.functions.now c.loop-f.f-index (record { 0 = 0 }) c.loop-f-test.true)
           (kept_items c.loop-f.table _ _ (sealed_in (view_typed c.args.t.now) (get_or c.args.functions.now c.loop-f.f-index (record { 0 = 0 }))) c.in_ok-add_body.ensures.table c.deref_mut.ensures.value c.deref_mut.ensures.len) c.loop-f.invariant.table;
-      last = subst (λ (xs : List Bool). Remembers c.args.slots.now xs c.add_body.new.last.items) (sym (with_items_is c.loop-f.table c.add_body.new.table long)) c.in_ok-add_body.ensures.last;
+      seen = subst (λ (xs : List Bool). Remembers c.args.slots.now xs c.add_body.new.seen.keys) (sym (with_items_is c.loop-f.table c.add_body.new.table long)) c.in_ok-add_body.ensures.seen;
     }

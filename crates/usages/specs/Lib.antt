@@ -1,0 +1,2 @@
+pub mod UsageView
+pub mod Usages

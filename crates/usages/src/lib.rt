@@ -1,0 +1,12 @@
+//! All that the body of a function evaluates, each expression with what its value is used for.
+#![tactic(auto)]
+
+mod bodies;
+mod conversions;
+mod expressions;
+mod numbers;
+mod usage;
+
+pub use bodies::usages_in;
+pub use conversions::keeps_value;
+pub use usage::{How, Usage};
