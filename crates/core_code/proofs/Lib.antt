@@ -1,3 +1,4 @@
+mod GlobalLemmas
 mod QuickLemmas
 mod ResolveLemmas
 mod StartLemmas

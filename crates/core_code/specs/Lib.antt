@@ -1,6 +1,8 @@
 pub mod Answers
+pub mod Cleared
 pub mod Code
 pub mod Effects
+pub mod Globals
 pub mod Laid
 pub mod Lies
 pub mod Paths

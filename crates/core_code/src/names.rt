@@ -1,13 +1,13 @@
 // What the numbers in a function's code name.
-ghost use Rattle.std.specs.Prelude.{◌≡◌, map};
+ghost use Rattle.std.specs.Prelude.{◌≡◌};
 ghost use Rattle.pt_core.specs.Types.{element_of as element, global_type, pointee_cells, pointee_type as pointed_to, type_at};
 ghost use Rattle.pt_core.specs.Values.{is_type};
 ghost use Rattle.pt_int.specs.Operator.{binary_type, unary_type};
 ghost use Rattle.core_code.specs.Resolved.{context_of, count_of, size_of};
 
+use crate::globals::Globals;
 use crate::layout::Layout;
 use pt_base::{GlobalId, IntType, VarId};
-use pt_core::GlobalVar;
 use pt_int::{BinOp, UnOp};
 use pt_tree::Elem;
 use typed_tree::{Var, VarTy};
@@ -16,7 +16,7 @@ use typed_tree::{Var, VarTy};
 #[derive(Clone, Copy)]
 pub struct Names<'a> {
     pub layout: &'a Layout<'a>,
-    pub globals: &'a [GlobalVar],
+    pub globals: &'a Globals<'a>,
     pub variables: &'a [Var],
 }
 
@@ -34,12 +34,7 @@ pub fn variable_type(names: &Names<'_>, v: VarId) -> VarTy
 pub fn type_of_global(names: &Names<'_>, g: GlobalId) -> VarTy
     ensures { result ≡ global_type (context_of names.now) g.0 }
 {
-    for global in names.globals {
-        if g.0 == global.id.0 {
-            return global.var.ty;
-        }
-    }
-    VarTy::Int(IntType::Int)
+    names.globals.type_of(g)
 }
 
 /// How many cells each element has to which a pointer of this type points.

@@ -7,7 +7,6 @@ pub mod FlatOutside
 pub mod FlatSteps
 pub mod FlatValues
 pub mod HeldLemmas
-pub mod HopLemmas
 pub mod LaidLemmas
 pub mod LiveLemmas
 pub mod LocalLaw
@@ -17,6 +16,7 @@ pub mod MovesLemmas
 mod QuickLemmas
 pub mod RiseLemmas
 pub mod RunLemmas
+pub mod SoundLemmas
 pub mod SpotLemmas
 pub mod StackLemmas
 pub mod StateLemmas

@@ -13,5 +13,7 @@ pub mod Outside
 pub mod Quick
 pub mod QuickStates
 pub mod Shows
+pub mod Sound
 pub mod States
+pub mod Stops
 pub mod Tables

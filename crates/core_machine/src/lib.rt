@@ -11,7 +11,6 @@ mod frame;
 mod frames;
 mod gate;
 mod held;
-mod laws;
 mod leaves;
 mod machine;
 mod memory;
@@ -23,6 +22,5 @@ mod stepped;
 mod table;
 
 pub use gate::{Gate, Way};
-pub use laws::{flat_begins, flat_rests, flat_resumes, flat_steps_agree};
 pub use machine::Machine;
-pub use stepped::Stepped;
+pub use stepped::{Stepped, Went};

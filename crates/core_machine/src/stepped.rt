@@ -23,3 +23,10 @@ pub enum Stepped {
     /// No function is active.
     Idle,
 }
+
+/// What the last of some steps came to, and how many are left of those that were to be made.
+#[derive(Drop)]
+pub struct Went {
+    pub stepped: Stepped,
+    pub left: u64,
+}

@@ -173,6 +173,16 @@ impl HeldBlock {
         Ok(())
     }
 
+    /// Replaces all its cells by as many others.
+    pub(crate) fn put_cells(&mut self, alloc: Global, cells: &[Cell]) -> Result<(), AllocError>
+        requires { length cells.now ≡ length self.old.cells }
+        ensures ok { OnOk result (self.new ≡ record { types = self.old.types; cells = cells.now }) }
+        ensures err { OnErr result (self.new ≡ self.old) }
+    {
+        *self = HeldBlock::of(alloc, &self.types, cells)?;
+        Ok(())
+    }
+
     // Replaces a cell, if it can stand where it is to.
     fn write_in_place(&mut self, at: usize, c: &Cell) -> bool
         ensures { Writes result self.old self.new at c.now }

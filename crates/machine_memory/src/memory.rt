@@ -104,4 +104,25 @@ impl MachineMemory {
             BlockName::Received(number) => self.received.put(alloc, number as usize, types, cells),
         }
     }
+
+    /// Replaces all cells of a block by as many others. All other blocks stay, and all of them where
+    /// memory is wanting.
+    pub fn put_cells(
+        &mut self,
+        alloc: Global,
+        name: BlockName,
+        cells: &[Cell],
+    ) -> Result<(), AllocError>
+        requires { length cells.now ≡ length (blocks_of self.old name).cells }
+        ensures ok { OnOk result (blocks_of self.new ≡ put (blocks_of self.old) name (record { types = (blocks_of self.old name).types; cells = cells.now })) }
+        ensures err { OnErr result (blocks_of self.new ≡ blocks_of self.old) }
+        ensures open { (d : ℕ) → IsOpen self.old d → IsOpen self.new d }
+        ensures layouts { layouts_of self.new ≡ layouts_of self.old }
+    {
+        match name {
+            BlockName::Local { depth, var } => self.put_local(alloc, depth, var, cells),
+            BlockName::Global(number) => self.globals.put_cells(alloc, number as usize, cells),
+            BlockName::Received(number) => self.received.put_cells(alloc, number as usize, cells),
+        }
+    }
 }

@@ -145,6 +145,25 @@ impl Table {
         Ok(())
     }
 
+    /// Replaces all cells of a block by as many others. All blocks stay as they are where memory is
+    /// wanting.
+    pub(crate) fn put_cells(
+        &mut self,
+        alloc: Global,
+        number: usize,
+        cells: &[Cell],
+    ) -> Result<(), AllocError>
+        requires { length cells.now ≡ length (numbered self.old number).cells }
+        ensures ok { OnOk result (SetsBlock self.old self.new number (record { types = (numbered self.old number).types; cells = cells.now })) }
+        ensures err { OnErr result (SameBlocks self.old self.new) }
+    {
+        if number < self.blocks.len() {
+            self.blocks[number].put_cells(alloc, cells)
+        } else {
+            Ok(())
+        }
+    }
+
     // Makes the list longer than this number, by blocks of no cells.
     fn grow(&mut self, alloc: Global, number: usize) -> Result<(), AllocError>
         ensures long { OnOk result (number < length self.new) }
