@@ -6,9 +6,9 @@ use Rattle.std.proofs.lemmas.List.Elements.{Contains-get_or}
 use Rattle.std.proofs.lemmas.List.FromFn.{get_or-range_with_len, length-range_with_len}
 use Rattle.std.proofs.lemmas.List.Kept.{AllPairs-filter}
 use Rattle.std.proofs.lemmas.Map.Keys.{IsDistinct-from_apart}
-use Rattle.sides.proofs.LayoutLemmas.{moved_on}
-use Rattle.sides.proofs.WalkLemmas.{range_on}
-use Rattle.sides.specs.Tables.{item_if}
+use Rattle.reach.proofs.MoreLemmas.{moved_on}
+use Rattle.reach.proofs.WalkLemmas.{range_on}
+use Rattle.reach.specs.Tables.{item_if}
 
 -- ---- the numbers below one
 

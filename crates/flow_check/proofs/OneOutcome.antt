@@ -17,12 +17,12 @@ use Rattle.pt_base.specs.declared.slot.Edge.{Edge}
 use Rattle.pt_base.specs.declared.slot.Slot.{Slot}
 use Rattle.propagation.specs.Marks.{AreMarks, Shown, path_shown}
 use Rattle.propagation.specs.Paths.{IsPriv}
-use Rattle.sides.proofs.ListLemmas.{contains_nothing}
+use Rattle.reach.proofs.ListLemmas.{contains_nothing}
 use Rattle.sides.specs.declared.halves.Sides.{Sides}
 use Rattle.sides.specs.Placed.{AreSides}
 use Rattle.sides.specs.Slots.{slots_of}
-use Rattle.sides.specs.Sorted.{Lists}
-use Rattle.sides.specs.Tables.{slot_number}
+use Rattle.reach.specs.Sorted.{Lists}
+use Rattle.reach.specs.Tables.{slot_number}
 use Rattle.typed_tree.specs.TypedTree.{TypedTree}
 use Rattle.flow_edges.specs.Edges.{edges_in}
 use Rattle.flow_rules.specs.declared.accepted.Accepted.{Accepted}

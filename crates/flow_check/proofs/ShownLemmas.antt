@@ -15,16 +15,16 @@ use Rattle.pt_base.specs.declared.slot.Edge.{Edge}
 use Rattle.pt_base.specs.declared.slot.Slot.{Slot}
 use Rattle.propagation.specs.Marks.{AreMarks, Shown, path_shown}
 use Rattle.propagation.specs.Paths.{IsPriv, IsSimplePath}
-use Rattle.sides.proofs.ListLemmas.{contains_filter, contains_map, from_filter, from_map}
-use Rattle.sides.proofs.TableLemmas.{none_true, set_all_from, set_all_has}
+use Rattle.reach.proofs.ListLemmas.{contains_filter, contains_map, from_filter, from_map}
+use Rattle.reach.proofs.TableLemmas.{none_true, set_all_from, set_all_has}
 use Rattle.sides.specs.declared.halves.Sides.{Sides}
 use Rattle.sides.specs.declared.slots.Owner.{Owner}
 use Rattle.sides.specs.declared.slots.Owner.TheVariants.{Variable, Global, Result}
 use Rattle.sides.specs.declared.slots.SlotInfo.{SlotInfo}
-use Rattle.sides.specs.Contexts.{IsOwned}
+use Rattle.reach.specs.Contexts.{IsOwned}
 use Rattle.sides.specs.Placed.{AreSides}
 use Rattle.sides.specs.Slots.{slot_at, slots_of}
-use Rattle.sides.specs.Tables.{slot_number}
+use Rattle.reach.specs.Tables.{slot_number}
 use Rattle.typed_tree.specs.TypedTree.{TypedTree}
 use Rattle.flow_rules.specs.declared.accepted.Accepted.{Accepted}
 use Rattle.flow_rules.specs.Faults.{IsAccepted, edges_of_all}

@@ -7,7 +7,7 @@ use Rattle.sides.specs.declared.slots.Owner.{Owner}
 use Rattle.sides.specs.declared.slots.Owner.TheVariants.{Variable, Global, Result}
 use Rattle.sides.specs.declared.slots.SlotInfo.{SlotInfo}
 use Rattle.sides.specs.Slots.{no_slot}
-use Rattle.sides.specs.Tables.{set_all, slot_number}
+use Rattle.reach.specs.Tables.{set_all, slot_number}
 use Rattle.typed_tree.specs.TypedTree.{TypedTree}
 use Rattle.flow_rules.specs.declared.accepted.Accepted.{Accepted}
 use Rattle.flow_check.specs.declared.shown.ShownSlot.{ShownSlot}

@@ -3,5 +3,6 @@ pub mod FlowLines
 pub mod Kept
 pub mod Laws
 pub mod OutcomeSeen
+pub mod Seen
 pub mod Shown
 pub mod SlotLines

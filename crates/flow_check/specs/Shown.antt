@@ -8,9 +8,9 @@ use Rattle.propagation.specs.Paths.{IsPriv}
 use Rattle.sides.specs.declared.halves.Sides.{Sides}
 use Rattle.sides.specs.declared.slots.Owner.{Owner}
 use Rattle.sides.specs.declared.slots.Owner.TheVariants.{Variable, Global, Result}
-use Rattle.sides.specs.Contexts.{InSlave, IsOwned}
+use Rattle.reach.specs.Contexts.{InSlave, IsOwned}
 use Rattle.sides.specs.Slots.{slot_at, slots_of}
-use Rattle.sides.specs.Tables.{slot_number}
+use Rattle.reach.specs.Tables.{slot_number}
 use Rattle.typed_tree.specs.declared.variable.Var.{Var}
 use Rattle.typed_tree.specs.Lookup.{function_at}
 use Rattle.typed_tree.specs.TypedTree.{TypedTree}

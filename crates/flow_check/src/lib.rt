@@ -2,7 +2,7 @@
 //! the faults of the first stage that has one, of lexer, parser, types and flows.
 #![tactic(auto)]
 
-mod fault_lines;
+mod flow_faults;
 mod judging;
 mod laws;
 mod line_end;
@@ -12,7 +12,7 @@ mod slot_lines;
 mod stages;
 mod variables;
 
-pub use fault_lines::flow_lines;
+pub use flow_faults::flow_lines;
 pub use judging::judge;
 pub use laws::{first_bytes_are_enough, texts_have_one_outcome};
 pub use outcome::Outcome;

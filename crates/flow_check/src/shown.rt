@@ -1,6 +1,6 @@
 // The privileged slots that are shown of a program that breaks no rule.
 ghost use Rattle.std.specs.Prelude.{◌≡◌, ◌<◌, ◌≤◌, ◌++◌, true, false, IfOk, OnOk, get_or, length, map, slice_set};
-ghost use Rattle.sides.specs.Tables.{item_if};
+ghost use Rattle.reach.specs.Tables.{item_if};
 ghost use Rattle.typed_tree.specs.TypedView.{view_typed};
 ghost use Rattle.flow_rules.specs.Faults.{IsAccepted};
 ghost use Rattle.flow_check.specs.Kept as is;

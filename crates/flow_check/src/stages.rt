@@ -4,13 +4,13 @@ ghost use Rattle.front_end.specs.Reading.{HasTypedTree};
 ghost use Rattle.typed_tree.specs.TypedView.{view_typed};
 ghost use Rattle.flow_check.specs.OutcomeSeen.{IsOutcome};
 
-use crate::fault_lines::flow_lines;
+use crate::flow_faults::flow_lines;
 use crate::judging::judge;
 use crate::outcome::Outcome;
 use crate::slot_lines::slot_lines;
+use fault_lines::front_lines;
 use flow_rules::FlowError;
 use front_end::read_program;
-use original::front_lines;
 use pt_base::Watch;
 use std::alloc::{AllocError, Global};
 use std::thread::Threads;

@@ -7,7 +7,7 @@ use Rattle.pt_base.specs.declared.ids.FnId.{FnId}
 use Rattle.typed_tree.specs.Lookup.{function_at}
 use Rattle.typed_tree.specs.StatementTree.{BodyTree}
 use Rattle.typed_tree.specs.TypedTree.{FunctionTree, TypedTree}
-use Rattle.sides.specs.Tables.{function_id, item_if}
+use Rattle.reach.specs.Tables.{function_id, item_if}
 use Rattle.lowering.specs.FunctionParts.{IsDefined}
 use Rattle.lowering.specs.Functions.{code_if, functions_from}
 use Rattle.front_phase.specs.Defined.{code_at, code_of_found, defined, defined_from}

@@ -1,11 +1,10 @@
 -- What parts that are joined say together.
-use Rattle.std.proofs.Common.{◌≡◌, ◌∙◌, ◌<◌, ℕ, suc, refl, sym, ap, ap₂, subst, arith, List, [], ◌∷◌, ◌++◌, length, get_or, All, append_assoc, append-nil, Result, Ok, Err, Vec, Option, Some, None, IfOk}
+use Rattle.std.proofs.Common.{◌≡◌, ◌∙◌, ◌<◌, ℕ, suc, refl, sym, ap, ap₂, arith, List, [], ◌∷◌, ◌++◌, length, get_or, append_assoc, append-nil, Result, Ok, Err, Vec, Option, Some, None, IfOk}
 use Rattle.std.specs.List.{flat_map}
 use Rattle.std.specs.Option.{option_map}
 use Rattle.std.specs.declared.alloc.Global.{Global}
 use Rattle.std.specs.declared.alloc.AllocError.{AllocError}
 use Rattle.std.proofs.lemmas.List.Concat.{flat_map-append}
-use Rattle.std.proofs.lemmas.List.Elements.{All-nil, All-append}
 use Rattle.front_phase.specs.declared.neighbours.Run.{Run}
 use Rattle.front_phase.specs.Parts.{joined}
 use Rattle.front_phase.specs.Runs.{covered, part}
@@ -20,20 +19,6 @@ joined-more {X} (Ok w ∷ parts) v all h = more_behind (joined parts) (joined (p
     more_behind (Some xs) p ih k =
         let e : w.items ++ xs ≡ all = cc in rw (ih xs refl, ← e) (ap Some (sym (append_assoc w.items xs v.items)))
 joined-more (Err e ∷ parts) v all h = cc
-
--- what holds of each item of each part holds of all
-pub joined-all : {X : Type 0} (P : X → Type 0) (parts : List (Result (Vec X Global) AllocError)) (all : List X) → ((i : ℕ) (d : Result (Vec X Global) AllocError) → i < length parts → IfOk (get_or parts i d) (λ w. All P w.items)) → joined parts ≡ Some all → All P all
-joined-all P [] all each h = let e : [] ≡ all = cc in subst (All P) e (All-nil P)
-joined-all P (Err e ∷ parts) all each h = cc
-joined-all {X} P (Ok v ∷ parts) all each h = behind (joined parts) (λ rest is. joined-all P parts rest (λ i d lt. each (suc i) d (omega arith)) is) h
-  where
-    first : All P v.items
-    first = each 0 (Ok v) (omega arith)
-
-    behind : (o : Option (List X)) → ((rest : List X) → o ≡ Some rest → All P rest) → option_map (λ xs. v.items ++ xs) o ≡ Some all → All P all
-    behind None ih k = cc
-    behind (Some rest) ih k =
-        let e : v.items ++ rest ≡ all = cc in subst (All P) e (All-append P v.items rest (first) (ih rest refl))
 
 -- The parts of all runs say what all places say that the runs have: `seen` is how the items are seen, and
 -- `gives` what a place gives.

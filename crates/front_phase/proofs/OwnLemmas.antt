@@ -9,12 +9,12 @@ use Rattle.typed_tree.specs.Lookup.{function_at}
 use Rattle.typed_tree.specs.Parts.{function_parts}
 use Rattle.typed_tree.specs.StatementTree.{BodyTree}
 use Rattle.typed_tree.specs.TypedTree.{FunctionTree, TypedTree}
-use Rattle.sides.specs.declared.calls.Half.TheVariants.{Slave}
+use Rattle.reach.specs.declared.calls.Half.TheVariants.{Slave}
 use Rattle.sides.specs.declared.halves.Sides.{Sides}
-use Rattle.sides.specs.Contexts.{InSlave}
+use Rattle.reach.specs.Contexts.{InSlave}
 use Rattle.sides.specs.Placed.{AreSides}
-use Rattle.sides.specs.Tables.{function_id, function_ids, item_if, places_true}
-use Rattle.sides.specs.Usages.{parts_usages, usages_in}
+use Rattle.reach.specs.Tables.{function_id, function_ids, item_if, places_true}
+use Rattle.usages.specs.Usages.{parts_usages, usages_in}
 use Rattle.sides.proofs.PlaceLemmas.{half_lists}
 use Rattle.flow_edges.specs.Edges.{AreEdges, edges_in, usage_edges}
 use Rattle.front_phase.specs.Defined.{defined, defined_from}

@@ -2,8 +2,8 @@
 use Rattle.std.proofs.Common.{◌≡◌, ◌<◌, ◌↔◌, ◌⊎◌, inl, inr, ℕ, suc, refl, sym, ap, arith, List, [], ◌∷◌, All}
 use Rattle.std.specs.List.{AllPairs, Contains}
 use Rattle.std.proofs.lemmas.List.Elements.{All-contains}
-use Rattle.sides.specs.Sorted.{Lists}
-use Rattle.sides.proofs.ListLemmas.{contains_nothing, contains_first, contains_later, contains_cases}
+use Rattle.reach.specs.Sorted.{Lists}
+use Rattle.reach.proofs.ListLemmas.{contains_nothing, contains_first, contains_later, contains_cases}
 
 abbrev Ascends : {X : Type 0} → (X → ℕ) → List X → Type 0
 Ascends number xs = AllPairs (λ a b. number a < number b) xs

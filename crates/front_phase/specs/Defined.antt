@@ -3,7 +3,7 @@ use Rattle.std.specs.Prelude.{ℕ, suc, List, [], ◌∷◌, ◌++◌, Option, N
 use Rattle.pt_base.specs.declared.ids.FnId.{FnId}
 use Rattle.typed_tree.specs.Lookup.{function_at}
 use Rattle.typed_tree.specs.TypedTree.{FunctionTree, TypedTree}
-use Rattle.sides.specs.Tables.{function_id, item_if}
+use Rattle.reach.specs.Tables.{function_id, item_if}
 use Rattle.pt_core.specs.CodeTree as core
 use Rattle.lowering.specs.Functions.{code_if}
 

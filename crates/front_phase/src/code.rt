@@ -10,7 +10,7 @@ ghost use Rattle.front_phase.specs.Runs.{IsWithin, part};
 ghost use Rattle.front_phase.specs.declared.neighbours.Run.{Run};
 
 use crate::defined::defined_functions;
-use crate::joining::joined_within;
+use crate::joining::joined;
 use crate::neighbours::{Run, runs_of};
 use c_lower::lower_function;
 use pt_base::{FnId, Watch};
@@ -74,8 +74,9 @@ fn lower_parts<R: Threads + Sync, W: Watch>(
 }
 
 /// The normal forms of all functions that have bodies, in their order, made by at most eight threads at once;
-/// where a thread can't be started, its work is done by the caller. The watch is told of each function as the
-/// work on it begins, and whatever it does, the answer is the same.
+/// where a thread can't be started, its work is done by the caller. The watch is told of each function, by its own
+/// number, as the work on it begins, and whatever it does, the answer is the same. `whole_program` makes the
+/// program of them that one thread would make.
 ///
 /// # Errors
 ///
@@ -91,6 +92,6 @@ pub fn lower_all<R: Threads + Sync, W: Watch>(
     let functions = defined_functions(alloc, t)?;
     let runs = runs_of(alloc, functions.len())?;
     let parts = lower_parts(rt, alloc, t, functions.as_slice(), runs, watch)?;
-    let code = joined_within(alloc, parts, usize::MAX)?;
+    let code = joined(alloc, parts)?;
     Ok(code)
 }

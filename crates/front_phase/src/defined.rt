@@ -1,6 +1,6 @@
 // The functions that have bodies.
 ghost use Rattle.std.specs.Prelude.{◌≡◌, ◌+◌, ◌++◌, All, IfOk, OnOk, is_some};
-ghost use Rattle.sides.specs.Tables.{item_if};
+ghost use Rattle.reach.specs.Tables.{item_if};
 ghost use Rattle.typed_tree.specs.TypedTree.{view_function};
 ghost use Rattle.typed_tree.specs.TypedView.{view_typed};
 ghost use Rattle.lowering.specs.FunctionParts.{IsDefined};

@@ -6,14 +6,15 @@ ghost use Rattle.sides.specs.Placed.{AreSides};
 ghost use Rattle.sides.specs.Slots.{slots_of};
 ghost use Rattle.lowering.specs.FunctionParts.{IsDefined};
 ghost use Rattle.flow_edges.specs.Edges.{edges_in};
-ghost use Rattle.front_phase.specs.OwnEdges.{AreOwn, JoinsSlots, own_edges};
+ghost use Rattle.flow_edges.specs.MoveView.{moved_edges};
+ghost use Rattle.front_phase.specs.OwnEdges.{AreOwn, own_edges};
 ghost use Rattle.front_phase.specs.Runs.{IsWithin, part};
 ghost use Rattle.front_phase.specs.declared.neighbours.Run.{Run};
 
 use crate::defined::defined_functions;
-use crate::joining::{append_within, joined_within};
+use crate::joining::{append, joined};
 use crate::neighbours::{Run, runs_of};
-use flow_edges::{MOST_EDGES, edges_of};
+use flow_edges::{Move, edges_along, moves_of};
 use pt_base::{Edge, FnId, Listed, Watch};
 use sides::Sides;
 use std::alloc::{AllocError, Global};
@@ -21,46 +22,44 @@ use std::thread;
 use std::thread::Threads;
 use typed_tree::Typed;
 
-// adds the edges of a function
-fn add_edges(
+// adds the values that move in a function
+fn add_moves(
     alloc: Global,
     t: &Typed,
     sides: &Sides,
     f: FnId,
-    edges: &mut Vec<Edge>,
+    moves: &mut Vec<Move>,
 ) -> Result<(), AllocError>
     requires sides { AreSides (view_typed t.now) sides.now }
     requires function { IsDefined (view_typed t.now) f }
-    ensures edges { OnOk result (edges.new.items ≡ edges.old.items ++ own_edges (view_typed t.now) sides.now f) }
-    ensures within { OnOk result (All (JoinsSlots (length (slots_of (view_typed t.now)))) edges.old.items → All (JoinsSlots (length (slots_of (view_typed t.now)))) edges.new.items) }
+    ensures { OnOk result (moved_edges moves.new.items ≡ moved_edges moves.old.items ++ own_edges (view_typed t.now) sides.now f) }
 {
-    let own = edges_of(alloc, t, f, sides)?;
-    append_within(edges, own.into_vec(), MOST_EDGES)?;
-    Ok(())
+    let own = moves_of(alloc, t, f, sides)?;
+    append(moves, own)
 }
 
-// the edges of these functions, of each of which the watch is told as the work begins
-fn edges_of_run<W: Watch>(
+// the values that move in these functions, of each of which the watch is told as the work begins
+fn moves_of_run<W: Watch>(
     alloc: Global,
     t: &Typed,
     sides: &Sides,
     functions: &[FnId],
     watch: &W,
-) -> Result<Vec<Edge>, AllocError>
+) -> Result<Vec<Move>, AllocError>
     requires sides { AreSides (view_typed t.now) sides.now }
     requires functions { All (IsDefined (view_typed t.now)) functions.now }
     ensures { IfOk result (λ v. AreOwn (view_typed t.now) sides.now functions.now v.items) }
 {
-    let mut edges = Vec::new(alloc);
+    let mut moves = Vec::new(alloc);
     for f in functions {
         watch.begin(*f);
-        add_edges(alloc, t, sides, *f, &mut edges)?;
+        add_moves(alloc, t, sides, *f, &mut moves)?;
     }
-    Ok(edges)
+    Ok(moves)
 }
 
 // what each run of the functions gives, in threads
-fn edge_parts<R: Threads + Sync, W: Watch>(
+fn move_parts<R: Threads + Sync, W: Watch>(
     rt: &R,
     alloc: Global,
     t: &Typed,
@@ -68,7 +67,7 @@ fn edge_parts<R: Threads + Sync, W: Watch>(
     functions: &[FnId],
     runs: Vec<Run>,
     watch: &W,
-) -> Result<Vec<Result<Vec<Edge>, AllocError>>, AllocError>
+) -> Result<Vec<Result<Vec<Move>, AllocError>>, AllocError>
     requires sides { AreSides (view_typed t.now) sides.now }
     requires defined { All (IsDefined (view_typed t.now)) functions.now }
     requires within { All (IsWithin (length functions.now)) runs.items }
@@ -79,16 +78,35 @@ fn edge_parts<R: Threads + Sync, W: Watch>(
     thread::map_vec(
         rt,
         runs,
-        &|run: Run| -> Result<Vec<Edge>, AllocError>
+        &|run: Run| -> Result<Vec<Move>, AllocError>
             requires { IsWithin (length functions.now) run × All (IsDefined (view_typed t.now)) functions.now × AreSides (view_typed t.now) sides.now }
             ensures { IfOk result (λ v. AreOwn (view_typed t.entry.now) sides.entry.now (part functions.entry.now run) v.items) }
-        { edges_of_run(alloc, t, sides, &functions[run.from..run.to], watch) },
+        { moves_of_run(alloc, t, sides, &functions[run.from..run.to], watch) },
     )
 }
 
-/// The edges of all functions that the slave runs, in the order of the functions, made by at most eight threads
-/// at once; where a thread can't be started, its work is done by the caller. The watch is told of each function
-/// that has a body as the work on it begins, and whatever it does, the answer is the same.
+// the values that move in all functions that the slave runs, in the order of the functions
+fn moves_all<R: Threads + Sync, W: Watch>(
+    rt: &R,
+    alloc: Global,
+    t: &Typed,
+    sides: &Sides,
+    watch: &W,
+) -> Result<Vec<Move>, AllocError>
+    requires { AreSides (view_typed t.now) sides.now }
+    ensures { IfOk result (λ ms. moved_edges ms.items ≡ flat_map (edges_in (view_typed t.now)) sides.now.slave) }
+{
+    let functions = defined_functions(alloc, t)?;
+    let runs = runs_of(alloc, functions.len())?;
+    let parts = move_parts(rt, alloc, t, sides, functions.as_slice(), runs, watch)?;
+    let moves = joined(alloc, parts)?;
+    Ok(moves)
+}
+
+/// The edges of all functions that the slave runs, in the order of the functions. What moves in them is found by
+/// at most eight threads at once; where a thread can't be started, its work is done by the caller. The watch is
+/// told of each function that has a body, by its own number, as the work on it begins, and whatever it does, the
+/// answer is the same. The edges are counted before the first is made, and made in one list.
 ///
 /// # Errors
 ///
@@ -106,9 +124,8 @@ pub fn edges_all<R: Threads + Sync, W: Watch>(
     ensures froms { IfOk result (λ es. All (λ e. e.from.0 < length (slots_of (view_typed t.now))) es) }
     ensures tos { IfOk result (λ es. All (λ e. e.to.0 < length (slots_of (view_typed t.now))) es) }
 {
-    let functions = defined_functions(alloc, t)?;
-    let runs = runs_of(alloc, functions.len())?;
-    let parts = edge_parts(rt, alloc, t, sides, functions.as_slice(), runs, watch)?;
-    let edges = joined_within(alloc, parts, MOST_EDGES)?;
-    Ok(Listed::new(edges))
+    let moves = moves_all(rt, alloc, t, sides, watch)?;
+    let slots = sides.slots.as_slice().len() as u64;
+    let edges = edges_along(alloc, &moves, slots)?;
+    Ok(edges)
 }

@@ -40,3 +40,31 @@ impl Host {
         self.place(f).unwrap()
     }
 }
+
+impl Host {
+    ghost use Rattle.std.specs.Prelude.{◌≡◌, ◌++◌, IsOk, IfOk, OnOk, OnErr, None};
+    ghost use Rattle.host_table.specs.Hosts.{hosts_of, bytes_of};
+    ghost use Rattle.host_table.specs.RunHosts.{answer_in, AreAfter};
+
+    /// Answers a call in a run: as `call` does where a host has the number; a number that no host has answers
+    /// 0, writes nothing and stays so. Where memory is wanting the hosts and `out` stay as they are; what never
+    /// writes takes none.
+    pub fn answer(
+        &mut self,
+        f: FnId,
+        args: &[i128],
+        out: &mut Vec<u8>,
+    ) -> Result<Option<i128>, AllocError>
+        ensures result { IfOk result (λ o. o ≡ (answer_in (hosts_of self.old) f.0 args.now).result) }
+        ensures out { OnOk result (out.new.items ≡ out.old.items ++ bytes_of (answer_in (hosts_of self.old) f.0 args.now).written) }
+        ensures hosts { OnOk result (AreAfter (hosts_of self.old) f.0 (answer_in (hosts_of self.old) f.0 args.now).next (hosts_of self.new)) }
+        ensures same_hosts { OnErr result (hosts_of self.new ≡ hosts_of self.old) }
+        ensures same_out { OnErr result (out.new.items ≡ out.old.items) }
+        ensures takes_none { (answer_in (hosts_of self.old) f.0 args.now).written ≡ None → IsOk result }
+    {
+        match self.model(f) {
+            None => Ok(Some(0)),
+            Some(_) => self.call(f, args, out),
+        }
+    }
+}

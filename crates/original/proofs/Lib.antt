@@ -1,4 +1,5 @@
 pub mod Cuts
 pub mod LineLemmas
 pub mod OneOutcome
+pub mod OneSeen
 pub mod RunLemmas

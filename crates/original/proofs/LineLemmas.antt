@@ -10,8 +10,8 @@ use Rattle.host_table.specs.declared.fault.HostError.{HostError}
 use Rattle.host_table.specs.declared.fault.HostError.TheVariants.{Faults}
 use Rattle.host_table.specs.declared.host.Host.{Host}
 use Rattle.host_table.specs.HostFaults.{host_faults, IsReading}
-use Rattle.original.specs.FaultLines.{host_lines}
-use Rattle.original.specs.FrontLines.{front_lines}
+use Rattle.fault_lines.specs.FrontLines.{front_lines}
+use Rattle.original.specs.HostLines.{host_lines}
 use Rattle.original.specs.Original.{Texts, lex, parse, types, host}
 use Rattle.original.specs.OutcomeSeen.{AreLinesOf}
 

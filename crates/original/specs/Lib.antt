@@ -1,4 +1,4 @@
-pub mod FaultLines
-pub mod FrontLines
+pub mod HostLines
 pub mod Original
 pub mod OutcomeSeen
+pub mod Seen

@@ -12,7 +12,8 @@ use Rattle.host_table.specs.Hosts.{Hosts}
 use Rattle.host_table.specs.RunHosts.{models_of}
 use Rattle.runs.specs.Run.{Run, written}
 use Rattle.source_meaning.specs.WholeRun.{whole_run}
-use Rattle.original.specs.FaultLines.{lex_line, parse_line, type_lines, host_lines, input_line}
+use Rattle.fault_lines.specs.FaultLines.{lex_line, parse_line, type_lines}
+use Rattle.original.specs.HostLines.{host_lines, input_line}
 
 -- The three texts of a run.
 pub record Texts : Type 0 where

@@ -1,5 +1,6 @@
 // What holds of all texts.
 ghost use Rattle.original.specs.Original.{CutsAreEnough, OutcomeIsOne};
+ghost use Rattle.original.specs.Seen.{SeenIsOne};
 
 /// Texts come to one outcome at most within a budget of turns. It does nothing.
 pub fn texts_have_one_outcome()
@@ -10,4 +11,10 @@ pub fn texts_have_one_outcome()
 /// does nothing.
 pub fn first_bytes_are_enough()
     ensures { CutsAreEnough }
+{}
+
+/// Of texts out's bytes, the report and the status of a run of them within a budget of turns are one at most. It
+/// does nothing.
+pub fn seen_is_one()
+    ensures { SeenIsOne }
 {}

@@ -9,22 +9,25 @@ ghost use Rattle.original.specs.OutcomeSeen.{end_of, IsUnrefused, IsSeen};
 
 use crate::outcome::{Ended, Outcome};
 use host_table::Host;
-use pt_base::End;
+use pt_base::{End, Watch};
 use std::alloc::{AllocError, Global};
+use std::thread::Threads;
 use typed_tree::Typed;
 
 /// The run of the program with these hosts within this budget of turns.
-pub(crate) fn run(
+pub(crate) fn run<R: Threads + Sync, W: Watch>(
+    rt: &R,
     alloc: Global,
     program: &Typed,
     hosts: Host,
     turns: u32,
+    watch: &W,
 ) -> Result<Outcome, AllocError>
     requires { AreOf (view_typed program.now) (hosts_of hosts) }
     ensures { IfOk result
         (IsSeen (whole_run (view_typed program.now) (models_of (hosts_of hosts).models) (hosts_of hosts).input turns)) }
 {
-    let ran = program_run::run(alloc, program, hosts, turns)?;
+    let ran = program_run::run(rt, alloc, program, hosts, turns, watch)?;
     Ok(Outcome::Ran {
         written: ran.written,
         end: ended(ran.end),

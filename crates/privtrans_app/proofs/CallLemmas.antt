@@ -29,7 +29,7 @@ four_or_five n a b = omega arith
 four_or_seven : (n : ℕ) → n ≡ 4 → n ≡ 7 → ⊥
 four_or_seven n a b = omega arith
 
-split_or_run : (words names : List (List ℕ)) (n : Names) → AreSplit words n → IsRun words names → ⊥
+pub split_or_run : (words names : List (List ℕ)) (n : Names) → AreSplit words n → IsRun words names → ⊥
 split_or_run words _ n is (of_local p h q i m w form) = four_or_seven (length words) (ap length is.are) (ap length form.are)
 split_or_run words _ n is (of_orig p h i m form) = four_or_five (length words) (ap length is.are) (ap length form.are)
 split_or_run words _ n is (of_check p form) = four_or_two (length words) (ap length is.are) (ap length form.are)
@@ -43,7 +43,7 @@ same_program words n n' a b = ap (λ xs. get_or xs 1 []) (sym a.are ∙ b.are)
 some_none : (x : List ℕ) (o : Option (List ℕ)) → o ≡ Some x → o ≡ None → ⊥
 some_none x o a b = cc
 
-some_is : (x y : List ℕ) (o : Option (List ℕ)) → o ≡ Some x → o ≡ Some y → x ≡ y
+pub some_is : (x y : List ℕ) (o : Option (List ℕ)) → o ≡ Some x → o ≡ Some y → x ≡ y
 some_is x y o a b = cc
 
 -- ---- outcomes that differ in the ways of faults alone have one status

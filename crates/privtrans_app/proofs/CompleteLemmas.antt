@@ -8,7 +8,7 @@ use Rattle.flow_check.specs.Checked as flows
 use Rattle.flow_check.specs.Laws.{without_ways}
 use Rattle.flow_check.proofs.OneOutcome as flow_outcomes
 use Rattle.privtrans_app.specs.Words.{IsHelp, IsVersion, IsLocal, IsOrig, IsCheck, IsNoForm, IsRun, of_local, of_orig, of_check}
-use Rattle.privtrans_app.specs.EarlyInput.{Texts, IsBuilt, IsNotBuilt}
+use Rattle.early_way.specs.EarlyInput.{Texts, IsBuilt, IsNotBuilt}
 use Rattle.privtrans_app.specs.Ending.{Ending, help, version, exit, accepted, split, usage, missing, read_fault, write_fault, not_built, faults, trapped, spent, memory, status_of, Reports, StaysDown, EndsWith}
 use Rattle.privtrans_app.specs.Held.{IsHeld, AllHeld, IsReached}
 use Rattle.privtrans_app.specs.LocalRun.{AreHeld, Refuses}
@@ -60,19 +60,19 @@ more_than_one words _ (of_local p h q i m w form) one = one_or_seven (length wor
 more_than_one words _ (of_orig p h i m form) one = one_or_five (length words) one (ap length form.are)
 more_than_one words _ (of_check p form) one = one_or_two (length words) one (ap length form.are)
 
-no_help : (words names : List (List ℕ)) → IsRun words names → IsHelp words → ⊥
+pub no_help : (words names : List (List ℕ)) → IsRun words names → IsHelp words → ⊥
 no_help words names run is = more_than_one words names run (one_of_help words is)
 
-no_version : (words names : List (List ℕ)) → IsRun words names → IsVersion words → ⊥
+pub no_version : (words names : List (List ℕ)) → IsRun words names → IsVersion words → ⊥
 no_version words names run is = more_than_one words names run (ap length is)
 
-two_runs : {p h q i p' h' i' : List ℕ} {m w m' : ℕ} (words : List (List ℕ)) → IsLocal words p h q i m w → IsOrig words p' h' i' m' → ⊥
+pub two_runs : {p h q i p' h' i' : List ℕ} {m w m' : ℕ} (words : List (List ℕ)) → IsLocal words p h q i m w → IsOrig words p' h' i' m' → ⊥
 two_runs words a b = five_or_seven (length words) (ap length b.are) (ap length a.are)
 
-local_check : {p h q i p' : List ℕ} {m w : ℕ} (words : List (List ℕ)) → IsLocal words p h q i m w → IsCheck words p' → ⊥
+pub local_check : {p h q i p' : List ℕ} {m w : ℕ} (words : List (List ℕ)) → IsLocal words p h q i m w → IsCheck words p' → ⊥
 local_check words a b = two_or_seven (length words) (ap length b.are) (ap length a.are)
 
-orig_check : {p h i p' : List ℕ} {m : ℕ} (words : List (List ℕ)) → IsOrig words p h i m → IsCheck words p' → ⊥
+pub orig_check : {p h i p' : List ℕ} {m : ℕ} (words : List (List ℕ)) → IsOrig words p h i m → IsCheck words p' → ⊥
 orig_check words a b = two_or_five (length words) (ap length b.are) (ap length a.are)
 
 form_runs : (words names : List (List ℕ)) → IsNoForm words → IsRun words names → ⊥
@@ -116,13 +116,13 @@ held_within files [] after name all = all.0
 held_within files (other ∷ before) after name all = held_within files before after name all.1
 
 -- the words are a run of files that are all held
-record RunsHeld (words : List (List ℕ)) (files : Files) : Type 0 where
+pub record RunsHeld (words : List (List ℕ)) (files : Files) : Type 0 where
   pub names : List (List ℕ)
   pub form : IsRun words names
   pub held : AllHeld (Some files) names
 
 -- a file that the words name is held
-not_lacking : (words : List (List ℕ)) (files : Files) (name : List ℕ) → RunsHeld words files → IsReached words (Some files) name → files name ≡ None → ⊥
+pub not_lacking : (words : List (List ℕ)) (files : Files) (name : List ℕ) → RunsHeld words files → IsReached words (Some files) name → files name ≡ None → ⊥
 not_lacking words files name runs reached lacks =
     let there : IsHeld (Some files) name = held_within (Some files) reached.before reached.after name
     (subst (AllHeld (Some files)) (same_names words runs.names (reached.before ++ name ∷ reached.after) runs.form reached.form) runs.held) in
@@ -135,14 +135,14 @@ local_held words files t turns window held = record {
   held = ((t.program, held.program), ((t.host, held.host), ((t.policy, held.policy), ((t.input, held.input), tt))));
 }
 
-orig_held : (words : List (List ℕ)) (files : Files) (t : original.Texts) (turns : ℕ) → orig.AreHeld words (Some files) t turns → RunsHeld words files
+pub orig_held : (words : List (List ℕ)) (files : Files) (t : original.Texts) (turns : ℕ) → orig.AreHeld words (Some files) t turns → RunsHeld words files
 orig_held words files t turns held = record {
   names = three held.program_name held.host_name held.input_name;
   form = of_orig _ _ _ _ held.form;
   held = ((t.program, held.program), ((t.host, held.host), ((t.input, held.input), tt)));
 }
 
-check_held : (words : List (List ℕ)) (files : Files) (text : List ℕ) → check.AreHeld words (Some files) text → RunsHeld words files
+pub check_held : (words : List (List ℕ)) (files : Files) (text : List ℕ) → check.AreHeld words (Some files) text → RunsHeld words files
 check_held words files text held = record { names = one_name held.program_name; form = of_check _ held.form; held = ((text, held.program), tt) }
 
 -- files of which something is expected

@@ -5,14 +5,14 @@ use Rattle.std.specs.Fmt.{decimal}
 use Rattle.std.proofs.lemmas.Fmt.{decimal_injective}
 use Rattle.pt_base.specs.Files.{Files}
 use Rattle.privtrans_app.specs.Words.{IsLocal, IsRun, of_local}
-use Rattle.privtrans_app.specs.EarlyInput.{Texts, IsBuilt, IsNotBuilt}
+use Rattle.early_way.specs.EarlyInput.{Texts, IsBuilt, IsNotBuilt}
 use Rattle.privtrans_app.specs.Ending.{Ending, exit, Puts}
 use Rattle.privtrans_app.specs.LocalRun.{AreHeld, Expects, Refuses}
 use Rattle.privtrans_app.specs.Causes.{ComesTo}
 use Rattle.privtrans_app.specs.Reading.{AreFirst, local_names}
 use Rattle.privtrans_app.specs.declared.words.LocalWords.{LocalWords}
 use Rattle.privtrans_app.proofs.CauseLemmas.{run_comes}
-use Rattle.privtrans_app.proofs.EarlyInputLemmas.{CutOf, built_whole, not_built_whole}
+use Rattle.early_way.proofs.EarlyInputLemmas.{CutOf, built_whole, not_built_whole}
 
 -- the words name these files
 abbrev pub Gives : List (List ℕ) → LocalWords → Type 0

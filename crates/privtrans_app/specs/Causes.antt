@@ -7,8 +7,8 @@ use Rattle.pt_base.specs.Told.{AppendsPart}
 use Rattle.original.specs.Original as original
 use Rattle.flow_check.specs.Checked as flows
 use Rattle.privtrans_app.specs.Words.{IsHelp, IsVersion, IsNoForm, IsNoSplit}
-use Rattle.privtrans_app.specs.EarlyInput as early
-use Rattle.privtrans_app.specs.EarlyInput.{IsBuilt, IsNotBuilt}
+use Rattle.early_way.specs.EarlyInput as early
+use Rattle.early_way.specs.EarlyInput.{IsBuilt, IsNotBuilt}
 use Rattle.privtrans_app.specs.Help.{help_text, version_text}
 use Rattle.privtrans_app.specs.Ending.{Ending, help, version, exit, accepted, split, usage, missing, read_fault, write_fault, not_built, faults, trapped, spent, memory, status_of, EndsWith}
 use Rattle.privtrans_app.specs.Held.{IsReached}

@@ -3,7 +3,7 @@ use Rattle.std.specs.Prelude.{◌≡◌, ℕ, pos, List, Option}
 use Rattle.pt_base.specs.Files.{Files, HoldsAt}
 use Rattle.privtrans_app.specs.Words.{IsLocal}
 use Rattle.privtrans_app.specs.Ending.{Ending, exit}
-use Rattle.privtrans_app.specs.EarlyInput.{Texts, IsBuilt, IsNotBuilt}
+use Rattle.early_way.specs.EarlyInput.{Texts, IsBuilt, IsNotBuilt}
 
 -- the words are a run of files that hold these texts, where that is told
 pub record AreHeld (words : List (List ℕ)) (files : Option Files) (t : Texts) (turns window : ℕ) : Type 0 where

@@ -4,7 +4,7 @@ use Rattle.pt_base.specs.Faults.{Rose}
 use Rattle.pt_base.specs.Files.{Files, Lacks, GivesFirst}
 use Rattle.privtrans_app.specs.Ending.{Ending, help, version, exit, accepted, split, usage, missing, read_fault, write_fault, not_built, faults, trapped, spent, memory}
 use Rattle.privtrans_app.specs.Held.{AllHeld}
-use Rattle.privtrans_app.specs.EarlyInput.{Texts}
+use Rattle.early_way.specs.EarlyInput.{Texts}
 use Rattle.original.specs.Original as original
 use Rattle.privtrans_app.specs.declared.words.LocalWords.{LocalWords}
 use Rattle.privtrans_app.specs.declared.words.OrigWords.{OrigWords}

@@ -1,12 +1,12 @@
 // What a call comes to, its status and its report.
 ghost use Rattle.std.specs.Prelude.{◌≡◌, ◌++◌, IfOk, codes};
 ghost use Rattle.pt_base.specs.Traps.{trap_name};
-ghost use Rattle.original.specs.FaultLines.{place_text};
+ghost use Rattle.fault_lines.specs.FaultLines.{place_text};
 ghost use Rattle.privtrans_app.specs.Ending.{status_of, report_of};
 ghost use Rattle.privtrans_app.specs.EndingSeen.{ending_seen};
 
+use fault_lines::push_span;
 use itoa::Buffer;
-use original::push_span;
 use pt_base::{Span, Trap};
 use std::alloc::{AllocError, Global};
 

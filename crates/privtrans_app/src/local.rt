@@ -7,13 +7,13 @@ ghost use Rattle.privtrans_app.specs.Causes.{ComesTo};
 ghost use Rattle.privtrans_app.specs.Ending.{exit, is_silent};
 ghost use Rattle.privtrans_app.specs.EndingSeen.{ending_seen};
 ghost use Rattle.privtrans_app.specs.Reading.{IsRefusal, AreFirst, local_names};
-ghost use Rattle.privtrans_app.specs.EarlyTexts.{texts_of};
+ghost use Rattle.early_way.specs.EarlyTexts.{texts_of};
 
-use crate::early_input::{Outcome, Texts, outcome_of};
 use crate::ending::Ending;
 use crate::reading::read_text;
 use crate::words::LocalWords;
 use crate::writing::put;
+use early_way::{Outcome, Texts, outcome_of};
 use pt_base::{Folder, Sink};
 use std::alloc::Global;
 

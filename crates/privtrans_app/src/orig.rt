@@ -16,8 +16,9 @@ use crate::reading::read_text;
 use crate::words::OrigWords;
 use crate::writing::put;
 use original::{Ended, Outcome, outcome_of};
-use pt_base::{Folder, Sink};
+use pt_base::{Folder, Sink, Watch};
 use std::alloc::Global;
+use std::thread::Threads;
 
 /// The three texts of a run.
 #[derive(Drop)]
@@ -62,12 +63,15 @@ fn ending_of<'a>(end: Ended) -> Ending<'a>
     }
 }
 
-/// Runs the original of the files that the words name.
-pub(crate) fn orig<'a, F: Folder, K: Sink>(
+/// Runs the original of the files that the words name. The watch is told of each function that has a body, as
+/// it is lowered.
+pub(crate) fn orig<'a, R: Threads + Sync, F: Folder, K: Sink, W: Watch>(
+    rt: &R,
     alloc: Global,
     words: &OrigWords<'a>,
     folder: &mut F,
     out: &mut K,
+    watch: &W,
 ) -> Ending<'a>
     ensures ending { (given : List (List ℕ)) →
         IsOrig given words.now.program.now words.now.host.now words.now.input.now words.now.turns →
@@ -83,11 +87,13 @@ pub(crate) fn orig<'a, F: Folder, K: Sink>(
         Err(ending) => return ending,
     };
     let outcome = outcome_of(
+        rt,
         alloc,
         &texts.program,
         &texts.host,
         &texts.input,
         words.turns,
+        watch,
     );
     match outcome {
         Ok(Outcome::Refused(lines)) => Ending::Faults(lines),

@@ -4,10 +4,12 @@ ghost use Rattle.pt_base.specs.Files.{SameFiles, GivesFirst};
 ghost use Rattle.privtrans_app.specs.EndingSeen.{ending_seen};
 ghost use Rattle.privtrans_app.specs.Reading.{IsReadRefusal};
 
-use crate::early_input::MOST_BYTES;
 use crate::ending::Ending;
 use pt_base::{Folder, FolderFault};
 use std::alloc::Global;
+
+/// The most bytes that a text may have.
+const MOST_BYTES: usize = 1_048_576;
 
 /// The first bytes of a file, one more than a text may have.
 pub(crate) fn read_text<'a, F: Folder>(

@@ -6,6 +6,7 @@ ghost use Rattle.privtrans_app.specs.Calls.{IsBySplit};
 ghost use Rattle.privtrans_app.specs.Causes.{ComesTo, IsByForm, IsByFiles};
 ghost use Rattle.privtrans_app.specs.Ending.{Ending, Reports, StaysDown, is_silent};
 ghost use Rattle.privtrans_app.specs.EndingSeen.{ending_seen};
+ghost use Rattle.privtrans_app.specs.Whole.{AreKept};
 ghost use Rattle.privtrans_app.specs.Words.{IsNoRun, IsNoSplit};
 
 use crate::check::check;
@@ -42,7 +43,7 @@ fn came_to<'a, R: Threads + Sync, F: Folder, K: Sink, W: Watch>(
         Some(Form::Help) => put(alloc, out, HELP, Came::Help),
         Some(Form::Version) => put(alloc, out, VERSION, Came::Version),
         Some(Form::Local(words)) => local(alloc, &words, folder, out),
-        Some(Form::Orig(words)) => orig(alloc, &words, folder, out),
+        Some(Form::Orig(words)) => orig(rt, alloc, &words, folder, out, watch),
         Some(Form::Check(program)) => check(rt, alloc, program, folder, out, watch),
     }
 }
@@ -128,6 +129,14 @@ pub fn privtrans<R: Threads + Sync, F: Folder, K: Sink, E: Sink, S: Spawner, C: 
         → StaysDown (F.write_faults folder.old) (F.write_faults folder.new)
         → StaysDown (E.faults report.old) (E.faults report.new)
         → IsBySplit (map (λ w. w.now) words.now) files result }
+    // of `orig`, `check` and `split` all that is seen: out's bytes, the report, the status and the halves' files are
+    // those of what the told texts come to, where no count of faults rose, or memory was wanting
+    ensures whole { (files : Files) → F.files folder.old ≡ Some files
+        → StaysDown (F.read_faults folder.old) (F.read_faults folder.new)
+        → StaysDown (F.write_faults folder.old) (F.write_faults folder.new)
+        → StaysDown (K.faults out.old) (K.faults out.new)
+        → StaysDown (E.faults report.old) (E.faults report.new)
+        → AreKept (map (λ w. w.now) words.now) files (F.files folder.new) (K.taken out.old) (K.taken out.new) (E.taken report.old) (E.taken report.new) result }
     // no file is written but by a split, and none is read where the words name none; the spawner isn't used
     // and the chooser isn't asked
     ensures untouched { (IsNoSplit (map (λ w. w.now) words.now) → SameFiles (F.files folder.old) (F.files folder.new) × (F.write_faults folder.new ≡ F.write_faults folder.old))

@@ -1,6 +1,6 @@
 -- The gate of a table's hosts shows as the gate that keeps the bytes.
-use Rattle.std.proofs.Common.{◌≡◌, ◌∙◌, ◌≤◌, ◌<◌, ℕ, zero, suc, nat_eq, refl, ap, sym, arith, Bool, true, false, Option, Some, None, List, [], ◌∷◌, ◌++◌, map, get_or, length, set, if◌then◌else◌, append-nil, ◌⊎◌, inl, inr, Bor}
-use Rattle.std.specs.Prelude.{ℤ, pos, IsSomeAnd, is_some, option_copied, option_map}
+use Rattle.std.proofs.Common.{◌≡◌, ◌∙◌, ◌≤◌, ◌<◌, ℕ, zero, suc, nat_eq, refl, ap, sym, arith, Bool, true, false, Option, Some, None, List, [], ◌∷◌, ◌++◌, map, get_or, length, set, if◌then◌else◌, append-nil, ◌⊎◌, inl, inr}
+use Rattle.std.specs.Prelude.{ℤ, pos}
 use Rattle.std.specs.List.{range_with_len}
 use Rattle.std.proofs.lemmas.List.{get_or-set_same, get_or-set_other, get_or_past, set_past, ext_get_or}
 use Rattle.std.proofs.lemmas.List.FromFn.{length-map-range_with_len, get_or-map-range_with_len}
@@ -10,8 +10,8 @@ use Rattle.runs.specs.Run.{written}
 use Rattle.runs.specs.State.{out_event, put_host}
 use Rattle.runs.specs.State as r
 use Rattle.typed_tree.specs.TypedTree.{TypedTree}
-use Rattle.host_table.specs.Hosts.{Hosts, bytes_of, call_of, with_model}
-use Rattle.host_table.specs.RunHosts.{model_or_none, models_of, no_model}
+use Rattle.host_table.specs.Hosts.{Hosts, bytes_of}
+use Rattle.host_table.specs.RunHosts.{answer_in, AreAfter, model_or_none, models_of, no_model}
 use Rattle.pt_core.specs.Steps.{enters, here}
 use Rattle.core_machine.specs.Gates.{gate_of}
 use Rattle.lowering.specs.Functions.{core_program}
@@ -98,71 +98,52 @@ bytes_are None = refl
 bytes_are (Some bytes) = sym (append-nil bytes)
 
 -- the models by number, after one of them has changed
-models_after : (hosts : Hosts) (n f : ℕ) (next : HostModel) → f < n → map (models_of (with_model hosts f next).models) (range_with_len 0 n) ≡ set (map (models_of hosts.models) (range_with_len 0 n)) f next
-models_after hosts n f next lt =
-    let old : List HostModel = map (models_of hosts.models) (range_with_len 0 n) in
-    let new : List HostModel = map (models_of (with_model hosts f next).models) (range_with_len 0 n) in
-    let long : length old ≡ n = length-map-range_with_len (models_of hosts.models) 0 n in
-    let long' : length new ≡ n = length-map-range_with_len (models_of (with_model hosts f next).models) 0 n in
-    ext_get_or no_model new (set old f next) (long' ∙ sym (set_long old f next ∙ long)) (λ g below. at_each g (omega (arith, below, long')) (same_or_other f g))
+models_after : (ms ms' : r.Hosts) (n f : ℕ) (next : HostModel) → f < n → ms' ≡ put_host ms f next → map ms' (range_with_len 0 n) ≡ set (map ms (range_with_len 0 n)) f next
+models_after ms ms' n f next lt is =
+    let old : List HostModel = map ms (range_with_len 0 n) in
+    let new : List HostModel = map ms' (range_with_len 0 n) in
+    let long : length old ≡ n = length-map-range_with_len ms 0 n in
+    let long' : length new ≡ n = length-map-range_with_len ms' 0 n in
+    ext_get_or no_model new (set old f next) (long' ∙ sym (set_long old f next ∙ long)) (λ g below. at_each g (omega (arith, below, long')) (same_or_other g f))
   where
     set_long : (xs : List HostModel) (i : ℕ) (x : HostModel) → length (set xs i x) ≡ length xs
     set_long [] i x = refl
     set_long (y ∷ ys) zero x = refl
     set_long (y ∷ ys) (suc i) x = ap suc (set_long ys i x)
 
-    here_again : (g : ℕ) → g < n → get_or (map (models_of (with_model hosts f next).models) (range_with_len 0 n)) g no_model ≡ models_of (with_model hosts f next).models g
-    here_again g below = get_or-map-range_with_len (models_of (with_model hosts f next).models) 0 n g g no_model below (omega arith)
+    here_again : (g : ℕ) → g < n → get_or (map ms' (range_with_len 0 n)) g no_model ≡ put_host ms f next g
+    here_again g below = get_or-map-range_with_len ms' 0 n g g no_model below (omega arith) ∙ ap (λ (h : r.Hosts). h g) is
 
-    at_each : (g : ℕ) → g < n → SameOrOther f g → get_or (map (models_of (with_model hosts f next).models) (range_with_len 0 n)) g no_model ≡ get_or (set (map (models_of hosts.models) (range_with_len 0 n)) f next) g no_model
+    at_each : (g : ℕ) → g < n → SameOrOther g f → get_or (map ms' (range_with_len 0 n)) g no_model ≡ get_or (set (map ms (range_with_len 0 n)) f next) g no_model
     at_each g below (inl (t, e)) =
         here_again g below
-        ∙ ap (λ b. model_or_none (if b then Some next else hosts.models g)) t
-        ∙ sym (ap (λ k. get_or (set (map (models_of hosts.models) (range_with_len 0 n)) f next) k no_model) (sym e) ∙ get_or-set_same (map (models_of hosts.models) (range_with_len 0 n)) f next no_model (omega (arith, lt, length-map-range_with_len (models_of hosts.models) 0 n)))
+        ∙ ap (λ b. if b then next else ms g) t
+        ∙ sym (ap (λ k. get_or (set (map ms (range_with_len 0 n)) f next) k no_model) e ∙ get_or-set_same (map ms (range_with_len 0 n)) f next no_model (omega (arith, lt, length-map-range_with_len ms 0 n)))
     at_each g below (inr (t, ne)) =
         here_again g below
-        ∙ ap (λ b. model_or_none (if b then Some next else hosts.models g)) t
-        ∙ sym (get_or-set_other (map (models_of hosts.models) (range_with_len 0 n)) f g next no_model (λ e. ne (sym e)) ∙ get_or-map-range_with_len (models_of hosts.models) 0 n g g no_model below (omega arith))
+        ∙ ap (λ b. if b then next else ms g) t
+        ∙ sym (get_or-set_other (map ms (range_with_len 0 n)) f g next no_model ne ∙ get_or-map-range_with_len ms 0 n g g no_model below (omega arith))
 
--- a host with a model was called
-pub called : (hosts hosts' : Hosts) (bytes bytes' : List ℕ) (marks : List Bool) (f : ℕ) (numbers : List ℤ) (m : HostModel) (o : Option ℤ) → f < length marks → hosts.models f ≡ Some m → o ≡ (host_step hosts.input m numbers).result →
-    bytes' ≡ bytes ++ bytes_of (host_step hosts.input m numbers).written → hosts' ≡ with_model hosts f (host_step hosts.input m numbers).next →
-    heard_answer f numbers (heard_of hosts bytes marks) ≡ (o, heard_of hosts' bytes' marks)
-called hosts hosts' bytes bytes' marks f numbers m o lt has gave wrote' left =
+-- a number past the program's functions was called
+pub called_past : (hosts : Hosts) (bytes : List ℕ) (marks : List Bool) (f : ℕ) (numbers : List ℤ) → length marks ≤ f → heard_answer f numbers (heard_of hosts bytes marks) ≡ (Some (pos 0), heard_of hosts bytes marks)
+called_past hosts bytes marks f numbers le =
     let old : List HostModel = map (models_of hosts.models) (range_with_len 0 (length marks)) in
-    let model : get_or old f no_model ≡ m = get_or-map-range_with_len (models_of hosts.models) 0 (length marks) f f no_model lt (omega arith) ∙ ap model_or_none has in
-    let a : Answer = host_step hosts.input m numbers in
-    ap (λ k. heard f (host_step hosts.input k numbers) (heard_of hosts bytes marks)) model
-    ∙ ap (λ (ms : List HostModel). (a.result, record (heard_of hosts bytes marks) { models = ms; bytes = bytes ++ written (out_event a.written) })) (sym (models_after hosts (length marks) f a.next lt))
-    ∙ ap (λ (bs : List ℕ). (a.result, heard_of (with_model hosts f a.next) bs marks)) (ap (λ bs. bytes ++ bs) (sym (bytes_are a.written)) ∙ sym wrote')
-    ∙ ap (λ (hs : Hosts). (a.result, heard_of hs bytes' marks)) (sym left)
-    ∙ ap (λ (r' : Option ℤ). (r', heard_of hosts' bytes' marks)) (sym gave)
-
-set_same : (ms : List HostModel) (f : ℕ) (m : HostModel) → f < length ms → get_or ms f no_model ≡ m → set ms f m ≡ ms
-set_same [] f m lt e = refl
-set_same (x ∷ ms) zero m lt e = ap (λ y. y ∷ ms) (sym e)
-set_same (x ∷ ms) (suc f) m lt e = ap (λ ys. x ∷ ys) (set_same ms f m (omega (arith, lt)) e)
-
--- a number without a model was called
-pub called_none : (hosts : Hosts) (bytes : List ℕ) (marks : List Bool) (f : ℕ) (numbers : List ℤ) → f < length marks → hosts.models f ≡ None → heard_answer f numbers (heard_of hosts bytes marks) ≡ (Some (pos 0), heard_of hosts bytes marks)
-called_none hosts bytes marks f numbers lt none =
-    let old : List HostModel = map (models_of hosts.models) (range_with_len 0 (length marks)) in
-    let model : get_or old f no_model ≡ no_model = get_or-map-range_with_len (models_of hosts.models) 0 (length marks) f f no_model lt (omega arith) ∙ ap model_or_none none in
-    ap (λ k. heard f (host_step hosts.input k numbers) (heard_of hosts bytes marks)) model
-    ∙ ap (λ (ms : List HostModel). (Some (pos 0), record (heard_of hosts bytes marks) { models = ms; bytes = bytes ++ [] })) (set_same old f no_model (omega (arith, lt, length-map-range_with_len (models_of hosts.models) 0 (length marks))) model)
+    let past : length old ≤ f = omega (arith, le, length-map-range_with_len (models_of hosts.models) 0 (length marks)) in
+    ap (λ k. heard f (host_step hosts.input k numbers) (heard_of hosts bytes marks)) (get_or_past old f no_model past)
+    ∙ ap (λ (ms : List HostModel). (Some (pos 0), record (heard_of hosts bytes marks) { models = ms; bytes = bytes ++ [] })) (set_past old f no_model past)
     ∙ ap (λ (bs : List ℕ). (Some (pos 0), heard_of hosts bs marks)) (append-nil bytes)
 
--- what a call says of its answer, if there is a model
-pub asked_is : (hosts hosts' : Hosts) (bytes bytes' : List ℕ) (marks : List Bool) (f : ℕ) (numbers : List ℤ) (o : Option ℤ) → f < length marks →
-    IsSomeAnd (call_of hosts f numbers) (λ a. o ≡ a.result) → IsSomeAnd (call_of hosts f numbers) (λ a. bytes' ≡ bytes ++ bytes_of a.written) → IsSomeAnd (call_of hosts f numbers) (λ a. hosts' ≡ with_model hosts f a.next) →
+-- what a call says of its answer
+pub asked_is : (hosts hosts' : Hosts) (bytes bytes' : List ℕ) (marks : List Bool) (f : ℕ) (numbers : List ℤ) (o : Option ℤ) → f < length marks → o ≡ (answer_in hosts f numbers).result →
+    bytes' ≡ bytes ++ bytes_of (answer_in hosts f numbers).written → AreAfter hosts f (answer_in hosts f numbers).next hosts' →
     heard_answer f numbers (heard_of hosts bytes marks) ≡ (o, heard_of hosts' bytes' marks)
-asked_is hosts hosts' bytes bytes' marks f numbers o lt gave wrote' left = go (hosts.models f) refl gave wrote' left
-  where
-    go : (model : Option HostModel) → hosts.models f ≡ model → IsSomeAnd (option_map (λ m. host_step hosts.input m numbers) model) (λ a. o ≡ a.result) → IsSomeAnd (option_map (λ m. host_step hosts.input m numbers) model) (λ a. bytes' ≡ bytes ++ bytes_of a.written) →
-        IsSomeAnd (option_map (λ m. host_step hosts.input m numbers) model) (λ a. hosts' ≡ with_model hosts f a.next) → heard_answer f numbers (heard_of hosts bytes marks) ≡ (o, heard_of hosts' bytes' marks)
-    go None e a b d = absurd a
-    go (Some m) e a b d = called hosts hosts' bytes bytes' marks f numbers m o lt e a b d
-
-pub none_copied : (o : Option (Bor HostModel)) → is_some o ≡ false → option_copied o ≡ None
-none_copied None h = refl
-none_copied (Some m) h = cc
+asked_is hosts hosts' bytes bytes' marks f numbers o lt gave wrote' after =
+    let old : List HostModel = map (models_of hosts.models) (range_with_len 0 (length marks)) in
+    let new : List HostModel = map (models_of hosts'.models) (range_with_len 0 (length marks)) in
+    let model : get_or old f no_model ≡ models_of hosts.models f = get_or-map-range_with_len (models_of hosts.models) 0 (length marks) f f no_model lt (omega arith) in
+    let a : Answer = answer_in hosts f numbers in
+    ap (λ k. heard f (host_step hosts.input k numbers) (heard_of hosts bytes marks)) model
+    ∙ ap (λ (ms : List HostModel). (a.result, record (heard_of hosts bytes marks) { models = ms; bytes = bytes ++ written (out_event a.written) })) (sym (models_after (models_of hosts.models) (models_of hosts'.models) (length marks) f a.next lt after.models))
+    ∙ ap (λ (i : List ℕ). (a.result, record (heard_of hosts bytes marks) { models = new; input = i; bytes = bytes ++ written (out_event a.written) })) (sym after.input)
+    ∙ ap (λ (bs : List ℕ). (a.result, heard_of hosts' bs marks)) (ap (λ bs. bytes ++ bs) (sym (bytes_are a.written)) ∙ sym wrote')
+    ∙ ap (λ (r' : Option ℤ). (r', heard_of hosts' bytes' marks)) (sym gave)

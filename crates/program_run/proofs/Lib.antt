@@ -1,3 +1,4 @@
+mod EndLemmas
 mod GateLemmas
 mod MachineRun
 mod MarkLemmas

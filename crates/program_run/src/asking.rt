@@ -7,7 +7,8 @@ use host_table::Host;
 use pt_base::FnId;
 use std::alloc::AllocError;
 
-/// A host answers, and what it writes is appended. A number without a model answers 0 and writes nothing.
+/// A host answers, and what it writes is appended. A number past the program's functions answers 0 and writes
+/// nothing, as each does that no host has; no call of a typed program goes to one.
 pub(crate) fn asked(
     hosts: &mut Host,
     is_host: &[bool],
@@ -17,13 +18,10 @@ pub(crate) fn asked(
 ) -> Result<Option<i128>, AllocError>
     ensures { IfOk result (λ answer. heard_answer f.0 args.now (heard_of (hosts_of hosts.old) written.old.items is_host.now) ≡ (answer, heard_of (hosts_of hosts.new) written.new.items is_host.now)) }
 {
-    // no call of a typed program goes to a number that it doesn't have
-    if f.0 as usize >= is_host.len() {
-        return Err(AllocError);
-    }
-    if hosts.model(f).is_none() {
+    let past = f.0 as usize >= is_host.len();
+    if past {
         return Ok(Some(0));
     }
-    let answer = hosts.call(f, args, written)?;
+    let answer = hosts.answer(f, args, written)?;
     Ok(answer)
 }

@@ -69,6 +69,10 @@ impl Gate for HostGate {
 
     ghost answers = { λ f numbers g. heard_answer f numbers g };
 
+    ghost use Rattle.std.specs.Prelude.{false};
+
+    ghost stops = { λ g. false };
+
     fn way(&self, callee: FnId, _args: &[Cell]) -> Way {
         if self.is_host(callee) {
             Way::Here
@@ -80,6 +84,10 @@ impl Gate for HostGate {
     #[inline(always)]
     fn enters(&self, callee: FnId) -> bool {
         !self.is_host(callee)
+    }
+
+    fn stops(&self) -> bool {
+        false
     }
 
     fn here(

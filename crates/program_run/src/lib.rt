@@ -1,9 +1,10 @@
-//! The run of a typed program on the step machine: lowered, entered at main, with the hosts of a table
-//! behind its gate. No policy is asked.
+//! The run of a typed program on the step machine: lowered in threads, entered at main, with the hosts of a
+//! table behind its gate. No policy is asked.
 #![tactic(auto)]
 
 mod asking;
 mod host_gate;
+mod lowered;
 mod marks;
 mod running;
 

@@ -1,4 +1,5 @@
 pub mod Laws
 pub mod OutcomeSeen
 pub mod Programs
+pub mod Seen
 pub mod Split

@@ -9,11 +9,11 @@ ghost use Rattle.program_split.specs.OutcomeSeen.{IsOutcome};
 ghost use Rattle.program_split.specs.Programs.{AreHalves};
 
 use crate::outcome::Outcome;
+use fault_lines::front_lines;
 use flow_check::{flow_lines, judge};
 use flow_rules::{Accepted, FlowError};
 use front_end::read_program;
 use front_phase::lower_all;
-use original::front_lines;
 use pt_base::Watch;
 use pt_core::{MonitorProgram, SlaveProgram};
 use split_text::{print_monitor, print_slave};

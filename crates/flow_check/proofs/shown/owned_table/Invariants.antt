@@ -1,5 +1,5 @@
 use Rattle.std.proofs.Common.{◌≡◌, drop, map}
-use Rattle.sides.specs.Tables.{set_all}
+use Rattle.reach.specs.Tables.{set_all}
 use Rattle.flow_check.specs.Kept.{owned_table}
 use Rattle.flow_check.proofs.shown.owned_table.Given as goal
 

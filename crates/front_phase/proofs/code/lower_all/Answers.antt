@@ -13,4 +13,4 @@ returns g c =
     let long : length parts.items ≡ length runs.items = omega (arith, c.in_ok-parts.ensures.len, parts.ok.0, runs.ok.0) in
     all_code (view_typed c.args.t.now) fs runs.items parts.items _ (c.as_slice.ensures.value ∙ c.in_ok-functions.ensures.these)
     (subst (λ n. AreRuns n runs.items) count c.in_ok-runs.ensures.runs) long
-    (λ i d e lt. c.in_ok-parts.ensures.each i d e (omega (arith, runs.ok.0, lt))) c.in_ok-code.ensures.items
+    (λ i d e lt. c.in_ok-parts.ensures.each i d e (omega (arith, runs.ok.0, lt))) c.in_ok-code.ensures

@@ -5,4 +5,4 @@ use Rattle.original.proofs.RunLemmas.{never_refused}
 use Rattle.original.proofs.running.run.Goals as goal
 
 pub ended-requires : goal.ended-requires
-ended-requires c = never_refused (view_typed c.args.program.now) (models_of (hosts_of c.args.hosts).models) (hosts_of c.args.hosts).input c.args.turns c.in_ok-ran.ran.end c.in_ok-ran.ensures.end_is
+ended-requires g c = never_refused (view_typed c.args.program.now) (models_of (hosts_of c.args.hosts).models) (hosts_of c.args.hosts).input c.args.turns c.in_ok-ran.ran.end c.in_ok-ran.ensures.end_is

@@ -1,7 +1,7 @@
 use Rattle.std.proofs.Common.{ℕ, List, Option, subst}
 use Rattle.privtrans_app.specs.Ending.{Ending, Puts}
-use Rattle.privtrans_app.specs.EarlyInput.{Texts, IsOutcome, IsBuilt, IsNotBuilt}
-use Rattle.privtrans_app.specs.EarlyTexts.{texts_of}
+use Rattle.early_way.specs.EarlyInput.{Texts, IsOutcome, IsBuilt, IsNotBuilt}
+use Rattle.early_way.specs.EarlyTexts.{texts_of}
 use Rattle.privtrans_app.specs.EndingSeen.{ending_seen}
 use Rattle.privtrans_app.specs.Reading.{local_names}
 use Rattle.privtrans_app.proofs.CauseLemmas.{keeps_same, refusal_comes}

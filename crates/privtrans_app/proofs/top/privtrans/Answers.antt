@@ -3,6 +3,7 @@ use Rattle.pt_base.specs.Files.{Files}
 use Rattle.privtrans_app.specs.Calls.{ComesTo}
 use Rattle.privtrans_app.specs.EndingSeen.{ending_seen}
 use Rattle.privtrans_app.proofs.CallLemmas.{calls_by_form, calls_by_files, calls_by_split}
+use Rattle.privtrans_app.proofs.WholeLemmas.{calls_are_kept}
 use Rattle.privtrans_app.proofs.top.privtrans.Goals as goal
 
 pub returns-clause-form : goal.returns-clause-form
@@ -32,6 +33,18 @@ returns-clause-split g c = λ files told reads writes faults.
     (g.K.Sink.taken c.args.out.now) (g.K.Sink.taken c.ended-ending.new.out) (g.K.Sink.faults c.args.out.now) (g.K.Sink.faults c.ended-ending.new.out)
     (g.E.Sink.taken c.args.report.now) (g.E.Sink.taken c.tell.new.sink) (g.E.Sink.faults c.args.report.now) (g.E.Sink.faults c.tell.new.sink) c.tell.result
     files (ending_seen c.ended-ending.result) reads writes faults
+    (subst (λ (fs : Option Files). ComesTo (map (λ w. w.now) c.args.words.now) fs (g.F.Folder.files c.ended-ending.new.folder) (g.F.Folder.read_faults c.args.folder.now) (g.F.Folder.read_faults c.ended-ending.new.folder)
+    (g.F.Folder.write_faults c.args.folder.now) (g.F.Folder.write_faults c.ended-ending.new.folder)
+    (g.K.Sink.taken c.args.out.now) (g.K.Sink.taken c.ended-ending.new.out) (g.K.Sink.faults c.args.out.now) (g.K.Sink.faults c.ended-ending.new.out) (ending_seen c.ended-ending.result)) told c.ended-ending.ensures.ending)
+    c.tell.ensures.report
+
+pub returns-clause-whole : goal.returns-clause-whole
+returns-clause-whole g c = λ files told reads fwrites writes faults.
+    calls_are_kept (map (λ w. w.now) c.args.words.now) files (g.F.Folder.files c.ended-ending.new.folder) (g.F.Folder.read_faults c.args.folder.now) (g.F.Folder.read_faults c.ended-ending.new.folder)
+    (g.F.Folder.write_faults c.args.folder.now) (g.F.Folder.write_faults c.ended-ending.new.folder)
+    (g.K.Sink.taken c.args.out.now) (g.K.Sink.taken c.ended-ending.new.out) (g.K.Sink.faults c.args.out.now) (g.K.Sink.faults c.ended-ending.new.out)
+    (g.E.Sink.taken c.args.report.now) (g.E.Sink.taken c.tell.new.sink) c.tell.result
+    reads fwrites writes (g.E.Sink.faults c.args.report.now) (g.E.Sink.faults c.tell.new.sink) faults (ending_seen c.ended-ending.result)
     (subst (λ (fs : Option Files). ComesTo (map (λ w. w.now) c.args.words.now) fs (g.F.Folder.files c.ended-ending.new.folder) (g.F.Folder.read_faults c.args.folder.now) (g.F.Folder.read_faults c.ended-ending.new.folder)
     (g.F.Folder.write_faults c.args.folder.now) (g.F.Folder.write_faults c.ended-ending.new.folder)
     (g.K.Sink.taken c.args.out.now) (g.K.Sink.taken c.ended-ending.new.out) (g.K.Sink.faults c.args.out.now) (g.K.Sink.faults c.ended-ending.new.out) (ending_seen c.ended-ending.result)) told c.ended-ending.ensures.ending)

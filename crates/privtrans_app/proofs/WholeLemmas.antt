@@ -1,0 +1,222 @@
+-- Of told files, where no count of faults rose, a command tells what its texts give, or memory was wanting.
+use Rattle.std.proofs.Common.{◌≡◌, ◌∙◌, ◌⊎◌, ℕ, List, [], get_or, sym, ap, subst, Option, Some, None, inl, inr}
+use Rattle.std.specs.Io.KnownBytes.{Appends, Keeps}
+use Rattle.std.proofs.lemmas.List.{append-nil}
+use Rattle.pt_base.specs.declared.end.End.{End}
+use Rattle.pt_base.specs.declared.end.End.TheVariants.{Exit, Trapped, Spent, Refused}
+use Rattle.pt_base.specs.Faults.{Rose}
+use Rattle.pt_base.specs.Files.{Files, SameFiles, HoldsAt, Lacks}
+use Rattle.fault_lines.specs.Seen.{Seen}
+use Rattle.original.specs.Original as original
+use Rattle.original.specs.Original.{refused, ran}
+use Rattle.original.specs.Seen as originals
+use Rattle.flow_check.specs.Checked as flows
+use Rattle.flow_check.specs.Seen as checks
+use Rattle.program_split.specs.Split as halves
+use Rattle.program_split.specs.Seen as splits
+use Rattle.privtrans_app.specs.Words.{of_orig, of_check}
+use Rattle.privtrans_app.specs.Ending.{Ending, help, version, exit, accepted, split, usage, missing, read_fault, write_fault, not_built, faults, trapped, spent, memory, status_of, report_of, Reports, StaysDown}
+use Rattle.privtrans_app.specs.CheckRun as check
+use Rattle.privtrans_app.specs.OrigRun as orig
+use Rattle.privtrans_app.specs.Causes.{Expects, ComesTo as ComesByWords}
+use Rattle.privtrans_app.specs.SplitRun.{Names}
+use Rattle.privtrans_app.specs.SplitRun as run
+use Rattle.privtrans_app.specs.Calls.{AreSplit, ComesTo}
+use Rattle.privtrans_app.specs.Whole.{Told, Leaves, AreKept}
+use Rattle.privtrans_app.proofs.CompleteLemmas.{no_help, no_version, two_runs, local_check, orig_check, not_lacking, RunsHeld, orig_held, check_held}
+use Rattle.privtrans_app.proofs.CallLemmas.{split_or_run, some_is}
+use Rattle.privtrans_app.proofs.CheckLemmas.{same_check}
+use Rattle.privtrans_app.proofs.OrigLemmas.{same_orig}
+
+-- the words are a split of files of one list of names
+word : (words words' : List (List ℕ)) (n : ℕ) → words ≡ words' → get_or words n [] ≡ get_or words' n []
+word words words' n same = ap (λ xs. get_or xs n []) same
+
+same_names : (words : List (List ℕ)) (n n' : Names) → AreSplit words n → AreSplit words n' → n ≡ n'
+same_names words n n' a b = let same = sym a.are ∙ b.are in λ k. record { program = word _ _ 1 same k; slave = word _ _ 2 same k; monitor = word _ _ 3 same k }
+
+-- nothing more came
+keeps_appends : (o o' : Option (List ℕ)) → Keeps o o' → Appends o o' []
+keeps_appends None o' k = tt
+keeps_appends (Some xs) None k = absurd k
+keeps_appends (Some xs) (Some ys) k = k ∙ sym (append-nil xs)
+
+-- the ending as it is reported, where the report was written
+abbrev Reported : Ending → Option (List ℕ) → Option (List ℕ) → ℕ → Type 0
+Reported e report report' status = ((status ≡ status_of e) × Appends report report' (report_of e)) ⊎ (status ≡ 12)
+
+reported : (e : Ending) (report report' : Option (List ℕ)) (failed failed' status : ℕ) → Reports e report report' failed failed' status → StaysDown failed failed' → Reported e report report' status
+reported e report report' failed failed' status (inl is) down = inl is
+reported e report report' failed failed' status (inr (inl is)) down = absurd (down is.2)
+reported e report report' failed failed' status (inr (inr is)) down = inr is.0
+
+twelve : (report report' : Option (List ℕ)) (status : ℕ) → Reported memory report report' status → status ≡ 12
+twelve report report' status (inl is) = is.0
+twelve report report' status (inr is) = is
+
+-- ---- what texts give
+
+-- what the texts of a run of the original give
+abbrev OrigTold : original.Texts → ℕ → Option (List ℕ) → Option (List ℕ) → Option (List ℕ) → Option (List ℕ) → ℕ → Type 0
+OrigTold t turns o o' report report' status = (status ≡ 12) ⊎ ((s : Seen) × originals.Gives t turns s × Told s o o' report report' status)
+
+abbrev CheckTold : List ℕ → Option (List ℕ) → Option (List ℕ) → Option (List ℕ) → Option (List ℕ) → ℕ → Type 0
+CheckTold text o o' report report' status = (status ≡ 12) ⊎ ((s : Seen) × checks.Gives text s × Told s o o' report report' status)
+
+abbrev seen : List ℕ → Ending → Seen
+seen bytes e = record { out = bytes; report = report_of e; status = status_of e }
+
+run_seen : (bytes bytes' : List ℕ) (end : End) (e : Ending) → orig.EndsAs end e → bytes ≡ bytes' → originals.ShowsRun bytes' end (seen bytes e)
+run_seen bytes bytes' (Exit status) e is b = λ k. seen (b k) (is k)
+run_seen bytes bytes' (Trapped trap span) e is b = λ k. seen (b k) (is k)
+run_seen bytes bytes' Spent e is b = λ k. seen (b k) (is k)
+run_seen bytes bytes' (Refused call f state) e is b = is
+
+orig_seen : (o : original.Outcome) (bytes : List ℕ) (e : Ending) → orig.IsEnding o e → bytes ≡ orig.bytes_of o → originals.Shows o (seen bytes e)
+orig_seen (refused refusal) bytes e is b = λ k. seen (b k) (is k)
+orig_seen (ran bytes' end) bytes e is b = run_seen bytes bytes' end e is b
+
+check_seen : (o : flows.Outcome) (bytes : List ℕ) (e : Ending) → check.IsEnding o e → bytes ≡ check.bytes_of o → seen bytes e ≡ checks.shown o
+check_seen (flows.refused refusal) bytes e is b = λ k. seen (b k) (is k)
+check_seen (flows.checked lines) bytes e is b = λ k. seen (b k) (is k)
+
+module _ (words : List (List ℕ)) (files : Files) (o o' report report' : Option (List ℕ)) (status : ℕ) where
+  orig_told : (t : original.Texts) (turns : ℕ) → orig.AreHeld words (Some files) t turns → (bytes : List ℕ) (e : Ending) → Expects words (Some files) bytes e → Appends o o' bytes → Reported e report report' status → OrigTold t turns o o' report report' status
+  orig_told t turns held bytes e (inl is) wrote tells = absurd (two_runs words is.4.form held.form)
+  orig_told t turns held bytes e (inr (inr is)) wrote tells = absurd (orig_check words held.form is.1.1.form)
+  orig_told t turns held bytes e (inr (inl gives)) wrote (inr is) = inl is
+  orig_told t turns held bytes e (inr (inl gives)) wrote (inl tells) =
+      let same = same_orig words files gives.1.0 t gives.1.1 turns gives.1.2 held in
+      let there : original.ComesTo t turns gives.0 = subst (λ m. original.ComesTo t m gives.0) same.1 (subst (λ x. original.ComesTo x gives.1.1 gives.0) same.0 gives.1.3) in
+      inr (seen bytes e, (gives.0, there, orig_seen gives.0 bytes e gives.2 gives.3), record { writes = wrote; reports = tells.1; ends = tells.0 })
+
+  check_told : (text : List ℕ) → check.AreHeld words (Some files) text → (bytes : List ℕ) (e : Ending) → Expects words (Some files) bytes e → Appends o o' bytes → Reported e report report' status → CheckTold text o o' report report' status
+  check_told text held bytes e (inl is) wrote tells = absurd (local_check words is.4.form held.form)
+  check_told text held bytes e (inr (inl is)) wrote tells = absurd (orig_check words is.1.2.form held.form)
+  check_told text held bytes e (inr (inr gives)) wrote (inr is) = inl is
+  check_told text held bytes e (inr (inr gives)) wrote (inl tells) =
+      let same : gives.1.0 ≡ text = same_check words files gives.1.0 text gives.1.1 held in
+      let there : flows.ComesTo text gives.0 = subst (λ x. flows.ComesTo x gives.0) same gives.1.2 in
+      inr (seen bytes e, (gives.0, there, check_seen gives.0 bytes e gives.2 gives.3), record { writes = wrote; reports = tells.1; ends = tells.0 })
+
+-- ---- each ending of a run or a check
+
+module _ (words : List (List ℕ)) (files : Files) (reads reads' : ℕ) (o o' : Option (List ℕ)) (writes writes' : ℕ) (report report' : Option (List ℕ)) (status : ℕ)
+    (r : StaysDown reads reads') (w : StaysDown writes writes') where
+  abbrev Comes : Ending → Type 0
+  Comes e = ComesByWords words (Some files) reads reads' o o' writes writes' e
+
+  none_missing : (name : List ℕ) → RunsHeld words files → (came : Comes (missing name)) → ⊥
+  none_missing name held came = by (came.1)
+    where
+      by : Lacks (Some files) name ⊎ Rose reads reads' → ⊥
+      by (inl lacks) = not_lacking words files name held came.0 lacks
+      by (inr rose) = r rose
+
+  by_orig : (t : original.Texts) (turns : ℕ) → orig.AreHeld words (Some files) t turns → (e : Ending) → Comes e → Reported e report report' status → OrigTold t turns o o' report report' status
+  by_orig t turns held help came tells = absurd (no_help words _ (of_orig _ _ _ _ held.form) came.0)
+  by_orig t turns held version came tells = absurd (no_version words _ (of_orig _ _ _ _ held.form) came.0)
+  by_orig t turns held (exit s) came tells = orig_told words files o o' report report' status t turns held came.0 (exit s) came.1 came.2 tells
+  by_orig t turns held accepted came tells = orig_told words files o o' report report' status t turns held came.0 accepted came.1 came.2 tells
+  by_orig t turns held split came tells = absurd came
+  by_orig t turns held usage came tells = absurd (came.0.no_orig _ _ _ _ held.form)
+  by_orig t turns held (missing name) came tells = absurd (none_missing name (orig_held words files t turns held) came)
+  by_orig t turns held (read_fault name) came tells = absurd (r came.1)
+  by_orig t turns held write_fault came tells = absurd (w came.0)
+  by_orig t turns held not_built came tells = absurd (two_runs words came.0.3.form held.form)
+  by_orig t turns held (faults lines) came tells = orig_told words files o o' report report' status t turns held [] (faults lines) (inr came.0) (keeps_appends o o' came.1) tells
+  by_orig t turns held (trapped trap span) came tells = orig_told words files o o' report report' status t turns held came.0 (trapped trap span) came.1 came.2 tells
+  by_orig t turns held spent came tells = orig_told words files o o' report report' status t turns held came.0 spent came.1 came.2 tells
+  by_orig t turns held memory came tells = inl (twelve report report' status tells)
+
+  by_check : (text : List ℕ) → check.AreHeld words (Some files) text → (e : Ending) → Comes e → Reported e report report' status → CheckTold text o o' report report' status
+  by_check text held help came tells = absurd (no_help words _ (of_check _ held.form) came.0)
+  by_check text held version came tells = absurd (no_version words _ (of_check _ held.form) came.0)
+  by_check text held (exit s) came tells = check_told words files o o' report report' status text held came.0 (exit s) came.1 came.2 tells
+  by_check text held accepted came tells = check_told words files o o' report report' status text held came.0 accepted came.1 came.2 tells
+  by_check text held split came tells = absurd came
+  by_check text held usage came tells = absurd (came.0.no_check _ held.form)
+  by_check text held (missing name) came tells = absurd (none_missing name (check_held words files text held) came)
+  by_check text held (read_fault name) came tells = absurd (r came.1)
+  by_check text held write_fault came tells = absurd (w came.0)
+  by_check text held not_built came tells = absurd (local_check words came.0.3.form held.form)
+  by_check text held (faults lines) came tells = check_told words files o o' report report' status text held [] (faults lines) (inr came.0) (keeps_appends o o' came.1) tells
+  by_check text held (trapped trap span) came tells = check_told words files o o' report report' status text held came.0 (trapped trap span) came.1 came.2 tells
+  by_check text held spent came tells = check_told words files o o' report report' status text held came.0 spent came.1 came.2 tells
+  by_check text held memory came tells = inl (twelve report report' status tells)
+
+-- ---- a split
+
+module _ (names : Names) (files : Files) (files' : Option Files) (reads reads' fwrites fwrites' : ℕ) (o o' report report' : Option (List ℕ)) (status : ℕ)
+    (r : StaysDown reads reads') (w : StaysDown fwrites fwrites') (keeps : Keeps o o') where
+  abbrev SplitTold : List ℕ → Type 0
+  SplitTold text = (status ≡ 12) ⊎ ((out : halves.Outcome) × halves.ComesTo text out × Told (splits.shown out) o o' report report' status × Leaves names files files' out)
+
+  told_halves : (text slave monitor : List ℕ) → files names.program ≡ Some text → run.Splits names (Some files) slave monitor → HoldsAt files' names.slave slave → HoldsAt files' names.monitor monitor
+      → Reported split report report' status → SplitTold text
+  told_halves text slave monitor held is s m (inr t) = inl t
+  told_halves text slave monitor held is s m (inl tells) =
+      let same : is.0 ≡ text = some_is is.0 text (files names.program) is.1 held in
+      inr (
+        halves.split slave monitor,
+        subst (λ (x : List ℕ). halves.ComesTo x (halves.split slave monitor)) same is.2,
+        record { writes = keeps_appends o o' keeps; reports = tells.1; ends = tells.0 },
+        (s, m),
+      )
+
+  told_faults : (text lines : List ℕ) → files names.program ≡ Some text → run.HasFaults names (Some files) lines → SameFiles (Some files) files' → Reported (faults lines) report report' status → SplitTold text
+  told_faults text lines held is same_files (inr t) = inl t
+  told_faults text lines held is same_files (inl tells) =
+      let same : is.0 ≡ text = some_is is.0 text (files names.program) is.1 held in
+      inr (
+        halves.refused is.2.0,
+        subst (λ (x : List ℕ). halves.ComesTo x (halves.refused is.2.0)) same is.2.1,
+        record { writes = keeps_appends o o' keeps; reports = subst (Appends report report') is.2.2 tells.1; ends = tells.0 },
+        same_files,
+      )
+
+  lacks_not : (text name : List ℕ) → files names.program ≡ Some text → name ≡ names.program → Lacks (Some files) name ⊎ Rose reads reads' → ⊥
+  lacks_not text name held is (inl lacks) = clash (ap files is ∙ held) lacks
+    where
+      clash : files name ≡ Some text → files name ≡ None → ⊥
+      clash a b = cc
+  lacks_not text name held is (inr rose) = r rose
+
+  by_split : (text : List ℕ) → files names.program ≡ Some text → (e : Ending) → run.ComesTo names (Some files) files' reads reads' fwrites fwrites' e → Reported e report report' status → SplitTold text
+  by_split text held help came tells = absurd came
+  by_split text held version came tells = absurd came
+  by_split text held (exit s) came tells = absurd came
+  by_split text held accepted came tells = absurd came
+  by_split text held split came tells = told_halves text came.0 came.1 held came.2 came.3 came.4 tells
+  by_split text held usage came tells = absurd came
+  by_split text held (missing name) came tells = absurd (lacks_not text name held came.0 came.1)
+  by_split text held (read_fault name) came tells = absurd (r came.1)
+  by_split text held write_fault came tells = absurd (w came.0)
+  by_split text held not_built came tells = absurd came
+  by_split text held (faults lines) came tells = told_faults text lines held came.0 came.1 tells
+  by_split text held (trapped trap span) came tells = absurd came
+  by_split text held spent came tells = absurd came
+  by_split text held memory came tells = inl (twelve report report' status tells)
+
+-- ---- calls
+
+module _ (words : List (List ℕ)) (files : Files) (files' : Option Files) (reads reads' fwrites fwrites' : ℕ) (o o' : Option (List ℕ)) (writes writes' : ℕ) (report report' : Option (List ℕ)) (status : ℕ)
+    (r : StaysDown reads reads') (fw : StaysDown fwrites fwrites') (w : StaysDown writes writes') where
+  kept : (e : Ending) → ComesTo words (Some files) files' reads reads' fwrites fwrites' o o' writes writes' e → Reported e report report' status → AreKept words files files' o o' report report' status
+  kept e (inl is) tells = record {
+    original = λ t turns held. by_orig words files reads reads' o o' writes writes' report report' status r w t turns held e is.1 tells;
+    checked = λ text held. by_check words files reads reads' o o' writes writes' report report' status r w text held e is.1 tells;
+    split = λ names text form held. absurd (is.0 names.program names.slave names.monitor form);
+  }
+  kept e (inr is) tells = record {
+    original = λ t turns held. absurd (split_or_run words _ is.names is.form (of_orig _ _ _ _ held.form));
+    checked = λ text held. absurd (split_or_run words _ is.names is.form (of_check _ held.form));
+    split = λ names text form held.
+        let named : is.names ≡ names = same_names words is.names names is.form form in
+        by_split names files files' reads reads' fwrites fwrites' o o' report report' status r fw is.keeps text held e
+        (subst (λ (n : Names). run.ComesTo n (Some files) files' reads reads' fwrites fwrites' e) named is.comes) tells;
+  }
+
+  pub calls_are_kept : (failed failed' : ℕ) → StaysDown failed failed' → (e : Ending) → ComesTo words (Some files) files' reads reads' fwrites fwrites' o o' writes writes' e → Reports e report report' failed failed' status
+      → AreKept words files files' o o' report report' status
+  calls_are_kept failed failed' f e comes tells = kept e comes (reported e report report' failed failed' status tells f)

@@ -1,0 +1,36 @@
+-- What commands promise, whole: of files that are told, where no count of faults rose.
+use Rattle.std.specs.Prelude.{◌≡◌, ◌⊎◌, ℕ, List, Option, Some}
+use Rattle.std.specs.Io.KnownBytes.{Appends}
+use Rattle.pt_base.specs.Files.{Files, SameFiles, HoldsAt}
+use Rattle.fault_lines.specs.Seen.{Seen}
+use Rattle.original.specs.Original as original
+use Rattle.original.specs.Seen as originals
+use Rattle.flow_check.specs.Seen as checks
+use Rattle.program_split.specs.Split as halves
+use Rattle.program_split.specs.Split.{refused, split}
+use Rattle.program_split.specs.Seen as splits
+use Rattle.privtrans_app.specs.Calls.{AreSplit}
+use Rattle.privtrans_app.specs.CheckRun as check
+use Rattle.privtrans_app.specs.OrigRun as orig
+use Rattle.privtrans_app.specs.SplitRun.{Names}
+
+-- out and report grew by what is seen, and the status is its
+pub record Told (s : Seen) (out out' report report' : Option (List ℕ)) (status : ℕ) : Type 0 where
+  pub writes : Appends out out' s.out
+  pub reports : Appends report report' s.report
+  pub ends : status ≡ s.status
+
+-- so what a text comes to leaves the files: those of the halves hold them
+abbrev pub Leaves : Names → Files → Option Files → halves.Outcome → Type 0
+Leaves names files files' (refused refusal) = SameFiles (Some files) files'
+Leaves names files files' (split slave monitor) = HoldsAt files' names.slave slave × HoldsAt files' names.monitor monitor
+
+-- Memory was wanting, or: of `orig` and `check`, what the files' texts give is told; of `split`, the same, and the
+-- files hold the halves.
+pub record AreKept (words : List (List ℕ)) (files : Files) (files' : Option Files) (out out' report report' : Option (List ℕ)) (status : ℕ) : Type 0 where
+  pub original : (t : original.Texts) (turns : ℕ) → orig.AreHeld words (Some files) t turns
+      → (status ≡ 12) ⊎ ((s : Seen) × originals.Gives t turns s × Told s out out' report report' status)
+  pub checked : (text : List ℕ) → check.AreHeld words (Some files) text
+      → (status ≡ 12) ⊎ ((s : Seen) × checks.Gives text s × Told s out out' report report' status)
+  pub split : (names : Names) (text : List ℕ) → AreSplit words names → files names.program ≡ Some text
+      → (status ≡ 12) ⊎ ((o : halves.Outcome) × halves.ComesTo text o × Told (splits.shown o) out out' report report' status × Leaves names files files' o)
