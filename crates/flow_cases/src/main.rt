@@ -1,0 +1,29 @@
+//! Runs rows of lists against the calls below the flow rules: how far a secret comes in a graph, and the work
+//! on a program's functions in threads.
+#![tactic(auto)]
+
+mod lists;
+mod paths;
+mod session;
+mod threads;
+
+use anyhow::Result;
+use lists::show_lists;
+use session::Session;
+use std::rt::Runtime;
+use std::thread::{Builder, Threads};
+
+/// The front end goes as deep as a text nests, so it gets this many bytes of stack.
+const STACK: usize = 1 << 30;
+
+fn show_rows<R: Runtime + AllocGlobal + Threads + Sync>(rt: &R) -> Result<()> {
+    let mut session = Session;
+    show_lists(rt, &mut session)
+}
+
+fn main(rt: HostRuntime) -> Result<()> {
+    Builder::new()
+        .stack_size(STACK)
+        .spawn(&rt, move || show_rows(&rt))?
+        .join(&rt)
+}

@@ -1,0 +1,34 @@
+//! Runs rows of lists against the calls that take texts: tokens, programs and their types, arithmetic, host
+//! tables and policies.
+#![tactic(auto)]
+
+mod faults;
+mod hosts;
+mod marks;
+mod numbers;
+mod policies;
+mod programs;
+mod session;
+mod tokens;
+mod typed;
+
+use anyhow::Result;
+use case_rows::show_lists;
+use session::Session;
+use std::rt::Runtime;
+use std::thread::{Builder, Threads};
+
+/// The front end goes as deep as a text nests, so it gets this many bytes of stack.
+const STACK: usize = 1 << 30;
+
+fn show_rows<R: Runtime + AllocGlobal + Threads + Sync>(rt: &R) -> Result<()> {
+    let mut session = Session::new(rt.alloc());
+    show_lists(rt, &mut session)
+}
+
+fn main(rt: HostRuntime) -> Result<()> {
+    Builder::new()
+        .stack_size(STACK)
+        .spawn(&rt, move || show_rows(&rt))?
+        .join(&rt)
+}
