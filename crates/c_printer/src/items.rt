@@ -1,6 +1,6 @@
 // Functions and other items of a program.
-ghost use Rattle.std.specs.Prelude.{◌≡◌, IfOk, OnOk, map, option_map};
-ghost use Rattle.pt_tree.specs.ProgramTree.{view_param, view_function, view_item};
+ghost use Rattle.std.specs.Prelude.{◌≡◌, OnOk, map, option_map};
+ghost use Rattle.pt_tree.specs.ProgramTree.{view_param, view_function};
 ghost use Rattle.pt_tree.specs.StatementTree.{view_block};
 ghost use Rattle.c_printer.specs.Gaps.{view_gap};
 ghost use Rattle.c_printer.specs.Sheets.{lay};
@@ -11,19 +11,7 @@ use crate::sheet::Sheet;
 use crate::specifiers::{declarator, specifiers, starred, suffix};
 use crate::statements::{block, declaration};
 use pt_tree::{Block, Function, Item, ParamDecl, Word};
-use std::alloc::{AllocError, Global};
-
-/// The text of a comment and items. It takes time and memory in the size of the text, besides what
-/// growing takes.
-pub fn print(alloc: Global, comment: &[u8], items: &[Item]) -> Result<Vec<u8>, AllocError>
-    ensures { IfOk result (λ text. text.items ≡ words.text_of comment.now (map view_item items.now)) }
-{
-    let mut sheet = Sheet::new(alloc, comment)?;
-    for item in items {
-        sheet.print_item(item)?;
-    }
-    sheet.finish()
-}
+use std::alloc::AllocError;
 
 impl Sheet {
     ghost use Rattle.std.specs.Prelude.{◌≡◌, OnOk};

@@ -10,5 +10,4 @@ mod spelling;
 mod statements;
 mod tightness;
 
-pub use items::print;
 pub use sheet::Sheet;

@@ -13,7 +13,7 @@ use Rattle.pt_core.specs.WellFormed.{context_of, called_signature, is_sound, has
 use Rattle.lowering.specs.Functions.{functions_from}
 use Rattle.splitter.specs.Halves.{Halves, halves_of, slave_of, monitor_of, is_among, asked, called_by, monitor_code, entry_numbers, monitor_entries}
 use Rattle.split_law.specs.Laws.{SlavesAreWellFormed, MonitorsAreWellFormed, AcceptedShareNothing}
-use Rattle.said_halves_law.specs.Laws.{CodeIsSaid, AcceptedHalvesAreSaid}
+use Rattle.half_declarations_law.specs.Said.{CodeIsSaid, AcceptedHalvesAreSaid}
 use Rattle.half_meaning_law.specs.CForms.{are_said}
 use Rattle.half_names_law.specs.Laws.{HalvesKeepTheirMeaning}
 use Rattle.half_names_law.specs.Standing.{all_said}

@@ -9,5 +9,8 @@ mod Unions
 mod Parameters
 mod Functions
 mod Programs
+mod SaidAlike
+mod SaidHalves
+mod SaidAccepted
 mod Accepted
 mod TreesAreMarked

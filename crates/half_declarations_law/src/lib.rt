@@ -1,16 +1,31 @@
 //! Both halves of a checked program can be declared in C: the names of their texts differ, no function has more
-//! than 2^64 variables, and all marks stand where they may. So the statements of each function, as the judgments
-//! meet them in the half's text, mean what the half's do.
+//! than 2^64 variables, all marks stand where they may, and C can say their code. So the statements of each
+//! function, as the judgments meet them in the half's text, mean what the half's do.
 #![tactic(auto)]
 
 ghost use Rattle.half_declarations_law.specs.Laws.{AcceptedHalvesAreWritable, AcceptedHalvesKeepTheirMeaning, HalvesAreDeclarable, TreesAreMarked};
+ghost use Rattle.half_declarations_law.specs.Said.{AcceptedHalvesAreSaid, MonitorsAreSaid, SlavesAreSaid};
 
 use check_programs_law::programs_are_well_formed;
 use half_names_law::halves_keep_their_meaning;
-use said_halves_law::accepted_halves_are_said;
 use split_law::{
     accepted_programs_share_nothing, monitors_are_well_formed, slaves_are_well_formed,
 };
+
+/// C can say the code of each function of the slave's program.
+pub fn slaves_are_said()
+    ensures { SlavesAreSaid }
+{}
+
+/// C can say the code of each function of the monitor's program.
+pub fn monitors_are_said()
+    ensures { MonitorsAreSaid }
+{}
+
+/// C can say the code of both halves of a checked program that breaks no rule.
+pub fn accepted_halves_are_said()
+    ensures { AcceptedHalvesAreSaid }
+{}
 
 /// In the tree of a program without a fault, what is declared apart has names apart, and all marks stand where they
 /// may.

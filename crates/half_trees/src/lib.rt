@@ -8,7 +8,6 @@ mod declarations;
 mod expressions;
 mod functions;
 mod half;
-mod halves;
 mod initials;
 mod items;
 mod lookups;
@@ -23,4 +22,3 @@ mod step;
 mod types;
 
 pub use half::Half;
-pub use halves::{monitor_items, slave_items};

@@ -13,7 +13,7 @@ use Rattle.typed_tree.specs.WellFormedExpression.{is_main}
 use Rattle.pt_core.specs.CodeTree.{constant, give_back}
 use Rattle.lowering.specs.Functions.{code_of, core_of, lowered_body, main_end}
 use Rattle.lowering.specs.Statements.{nowhere}
-use Rattle.sides.proofs.ListLemmas.{contains_map}
+use Rattle.reach.proofs.ListLemmas.{contains_map}
 use Rattle.lowered_names_law.specs.Laws.{LoweredNames}
 use Rattle.lowered_names_law.proofs.Naming.{Allowed, PartsName, AreWithin, StmtsWithin}
 use Rattle.lowered_names_law.proofs.Usages.{named_by, parts_name}

@@ -4,7 +4,7 @@ use Rattle.std.specs.Prelude.{Contains}
 use Rattle.std.proofs.lemmas.List.Elements.{Contains-append_cases}
 use Rattle.pt_core.specs.CodeTree.{RootTree, local, global, deref, PlaceTree, place, ExprTree, constant, read, unary, binary, convert, null, address, decay, move, compare, difference, ExprTrees, no_exprs, expr_and, StmtTree, clear, check, assign, copy, call, choose, repeat, break_out, continue_on, give_back, StmtTrees, no_stmts, stmt_and}
 use Rattle.pt_core.specs.WellFormedStatement.{callees_in, callees_of}
-use Rattle.sides.proofs.ListLemmas.{contains_cases, contains_nothing}
+use Rattle.reach.proofs.ListLemmas.{contains_cases, contains_nothing}
 use Rattle.lowered_names_law.specs.Named.{root_globals, place_globals, expr_globals, argument_globals, returned_globals, stmt_globals, globals_of}
 use Rattle.lowered_names_law.proofs.Naming.{Allowed, RootWithin, PlaceWithin, ExprWithin, ExprsWithin, ReturnWithin, StmtWithin, StmtsWithin}
 

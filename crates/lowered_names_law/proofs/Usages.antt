@@ -13,11 +13,11 @@ use Rattle.typed_tree.specs.WellFormedExpression.{ty_of}
 use Rattle.typed_tree.specs.TypedTree.{TypedTree}
 use Rattle.typed_tree.specs.Lookup.{parts_in}
 use Rattle.source_meaning.specs.Statements.{no_expr}
-use Rattle.sides.specs.declared.usage.How.{How}
-use Rattle.sides.specs.declared.usage.How.TheVariants.{Kept, Operated, Passed}
-use Rattle.sides.specs.Usages.{UsageTree, used, converted, evaluated, form_usages, argument_usages, link_usages, operand_usages, place_usages, root_usages, step_usages, how_of, part_usages, item_number, parts_usages, usages_in}
-use Rattle.sides.specs.Contexts.{form_callees, expr_callees, root_globals, place_globals, form_globals, expr_globals, globals_in, callees_in}
-use Rattle.sides.proofs.ListLemmas.{contains_first, contains_flat}
+use Rattle.usages.specs.declared.usage.How.{How}
+use Rattle.usages.specs.declared.usage.How.TheVariants.{Kept, Operated, Passed}
+use Rattle.usages.specs.Usages.{UsageTree, used, converted, evaluated, form_usages, argument_usages, link_usages, operand_usages, place_usages, root_usages, step_usages, how_of, part_usages, item_number, parts_usages, usages_in}
+use Rattle.reach.specs.Contexts.{form_callees, expr_callees, root_globals, place_globals, form_globals, expr_globals, globals_in, callees_in}
+use Rattle.reach.proofs.ListLemmas.{contains_first, contains_flat}
 use Rattle.lowered_names_law.proofs.Naming.{Allowed, ExprNames, FormNames, ExprsName, LinksName, OperandsName, PlaceNames, RootNames, StepsName, FoundNames, PartsName}
 
 -- ---- lists of what is evaluated

@@ -7,7 +7,7 @@ use Rattle.typed_tree.specs.StatementTree.{BodyTree}
 use Rattle.typed_tree.specs.TypedTree.{TypedTree, FunctionTree}
 use Rattle.pt_core.specs.WellFormedStatement.{callees_of}
 use Rattle.lowering.specs.Functions.{core_of}
-use Rattle.sides.specs.Contexts.{globals_in, callees_in}
+use Rattle.reach.specs.Contexts.{globals_in, callees_in}
 use Rattle.lowered_names_law.specs.Named.{globals_of}
 
 -- Of each function that has a body: the globals that its code names are among those that the body names,

@@ -7,11 +7,11 @@ use Rattle.pt_base.specs.declared.ids.GlobalId.{GlobalId}
 use Rattle.typed_tree.specs.declared.variable.TypedGlobal.{TypedGlobal}
 use Rattle.typed_tree.specs.TypedTree.{TypedTree}
 use Rattle.sides.specs.declared.halves.Sides.{Sides}
-use Rattle.sides.specs.Contexts.{InMonitor, InSlave, IsOwned, globals_in}
+use Rattle.reach.specs.Contexts.{InMonitor, InSlave, IsOwned, globals_in}
 use Rattle.sides.specs.Objects.{global_objects}
 use Rattle.sides.specs.Placed.{AreSides}
-use Rattle.sides.specs.Sorted.{Lists}
-use Rattle.sides.proofs.ListLemmas.{contains_cases, contains_map, contains_nothing, from_map}
+use Rattle.reach.specs.Sorted.{Lists}
+use Rattle.reach.proofs.ListLemmas.{contains_cases, contains_map, contains_nothing, from_map}
 use Rattle.flow_rules.specs.declared.accepted.Accepted.{Accepted}
 use Rattle.flow_rules.specs.declared.rule.Rule.TheVariants.{SharedGlobal}
 use Rattle.flow_rules.specs.Faults.{IsAccepted, flows_of}

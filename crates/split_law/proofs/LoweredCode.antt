@@ -12,8 +12,8 @@ use Rattle.typed_tree.specs.StatementTree.{BodyTree}
 use Rattle.typed_tree.specs.TypedTree.{TypedTree, FunctionTree, signatures_of}
 use Rattle.typed_tree.specs.WellFormed.{body_sound, function_sound, is_integer_param, params_lead, variable_sound}
 use Rattle.typed_tree.proofs.WellFormedLemmas.{and_left, and_right}
-use Rattle.sides.specs.Contexts.{Calls, callees_in, globals_in}
-use Rattle.sides.proofs.ListLemmas.{contains_first, contains_later, contains_filter, contains_flat, from_map}
+use Rattle.reach.specs.Contexts.{Calls, callees_in, globals_in}
+use Rattle.reach.proofs.ListLemmas.{contains_first, contains_later, contains_filter, contains_flat, from_map}
 use Rattle.pt_core.specs.CodeTree as core
 use Rattle.pt_core.specs.CodeTree.{GlobalTree}
 use Rattle.pt_core.specs.WellFormedStatement.{callees_of}

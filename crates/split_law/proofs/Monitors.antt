@@ -11,8 +11,8 @@ use Rattle.typed_tree.specs.StatementTree.{BodyTree}
 use Rattle.typed_tree.specs.TypedTree.{TypedTree, FunctionTree, signatures_of}
 use Rattle.typed_tree.specs.WellFormed.{are_rising, function_sound}
 use Rattle.typed_tree.proofs.WellFormedLemmas.{and_left, and_both, facts_of}
-use Rattle.sides.specs.Contexts.{has_body, is_privileged, monitor_calls, privileged, test_function}
-use Rattle.sides.proofs.ListLemmas.{contains_filter, contains_map}
+use Rattle.reach.specs.Contexts.{has_body, is_privileged, monitor_calls, privileged, test_function}
+use Rattle.reach.proofs.ListLemmas.{contains_filter, contains_map}
 use Rattle.pt_core.specs.declared.monitor.Entry.{Entry}
 use Rattle.pt_core.specs.CodeTree as core
 use Rattle.pt_core.specs.WellFormed as well

@@ -9,7 +9,7 @@ use Rattle.typed_tree.specs.declared.types.VarTy.{VarTy}
 use Rattle.typed_tree.specs.declared.variable.Var.{Var}
 use Rattle.typed_tree.specs.WellFormed.{are_rising, params_lead, structs_sound}
 use Rattle.typed_tree.proofs.WellFormedLemmas.{and_left, and_right, and_both}
-use Rattle.sides.proofs.ListLemmas.{contains_first, contains_later}
+use Rattle.reach.proofs.ListLemmas.{contains_first, contains_later}
 use Rattle.pt_core.specs.CodeTree.{FunctionTree, GlobalTree, ProgramTree}
 use Rattle.pt_core.specs.WellFormedStatement.{callees_of, stmts_fit}
 use Rattle.pt_core.specs.WellFormed.{are_in_order, are_small, called_signature, callee_by, callee_fits, callees, counts_fit, function_at, function_by, function_fits, global_fits, has_main, is_main_by, is_only_start, is_sound, scope_of, signature_at, signature_fits, starts_by, variable_fits, with_own}

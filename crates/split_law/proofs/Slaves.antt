@@ -9,7 +9,7 @@ use Rattle.typed_tree.specs.TypedTree.{TypedTree, FunctionTree}
 use Rattle.typed_tree.specs.Lookup.{HasName}
 use Rattle.typed_tree.specs.WellFormedExpression.{is_main}
 use Rattle.typed_tree.proofs.WellFormedLemmas.{and_left, and_right, and_both, facts_of}
-use Rattle.sides.specs.Contexts.{is_plain, main, slave_calls, test_function}
+use Rattle.reach.specs.Contexts.{is_plain, main, slave_calls, test_function}
 use Rattle.pt_core.specs.CodeTree as core
 use Rattle.pt_core.specs.WellFormed as well
 use Rattle.pt_core.specs.WellFormed.{has_main, is_main_by, is_sound, signature_at, slave_program}

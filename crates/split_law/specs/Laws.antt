@@ -4,7 +4,7 @@ use Rattle.pt_base.specs.declared.ids.FnId.{FnId}
 use Rattle.pt_base.specs.declared.ids.GlobalId.{GlobalId}
 use Rattle.typed_tree.specs.TypedTree.{TypedTree}
 use Rattle.typed_tree.specs.WellFormed.{is_well_formed}
-use Rattle.sides.specs.Contexts.{InMonitor, InSlave, IsOwned, globals_in}
+use Rattle.reach.specs.Contexts.{InMonitor, InSlave, IsOwned, globals_in}
 use Rattle.flow_rules.specs.declared.accepted.Accepted.{Accepted}
 use Rattle.flow_rules.specs.Faults.{IsAccepted}
 use Rattle.pt_core.specs.WellFormed.{is_well_formed_monitor, is_well_formed_slave}

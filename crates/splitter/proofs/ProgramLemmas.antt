@@ -7,9 +7,9 @@ use Rattle.pt_tree.specs.declared.signature.Signature.{Signature}
 use Rattle.typed_tree.specs.declared.types.StructInfo.{StructInfo}
 use Rattle.typed_tree.specs.TypedTree as typed
 use Rattle.typed_tree.specs.TypedTree.{TypedTree, signatures_of}
-use Rattle.sides.specs.Tables.{set_all}
-use Rattle.sides.proofs.WalkLemmas.{long_all}
-use Rattle.sides.proofs.TableLemmas.{set_all_append}
+use Rattle.reach.specs.Tables.{set_all}
+use Rattle.reach.proofs.WalkLemmas.{long_all}
+use Rattle.reach.proofs.TableLemmas.{set_all_append}
 use Rattle.pt_core.specs.declared.monitor.Entry.{Entry}
 use Rattle.pt_core.specs.CodeTree.{FunctionTree, GlobalTree, SlaveTree, MonitorTree}
 use Rattle.lowering.specs.Functions.{signatures_from, globals_from}

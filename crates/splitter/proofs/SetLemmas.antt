@@ -9,9 +9,9 @@ use Rattle.typed_tree.specs.declared.variable.TypedGlobal.{TypedGlobal}
 use Rattle.typed_tree.specs.StatementTree.{BodyTree}
 use Rattle.typed_tree.specs.TypedTree as typed
 use Rattle.typed_tree.specs.TypedTree.{TypedTree}
-use Rattle.sides.specs.Tables.{set_all}
-use Rattle.sides.proofs.ListLemmas.{contains_nothing, contains_first, contains_later, contains_cases}
-use Rattle.sides.proofs.TableLemmas.{set_all_has, set_all_from, none_true}
+use Rattle.reach.specs.Tables.{set_all}
+use Rattle.reach.proofs.ListLemmas.{contains_nothing, contains_first, contains_later, contains_cases}
+use Rattle.reach.proofs.TableLemmas.{set_all_has, set_all_from, none_true}
 use Rattle.pt_core.specs.CodeTree.{FunctionTree, GlobalTree}
 use Rattle.lowering.specs.Functions.{code_if, functions_from, signatures_from, globals_from}
 use Rattle.splitter.specs.Halves.{IsWholeCode, is_among}

@@ -8,8 +8,8 @@ use Rattle.pt_base.specs.declared.span.Span.{Span}
 use Rattle.pt_tree.specs.declared.signature.Signature.{Signature}
 use Rattle.typed_tree.specs.declared.variable.TypedGlobal.{TypedGlobal}
 use Rattle.typed_tree.specs.TypedTree as typed
-use Rattle.sides.specs.Tables.{item_if, set_all}
-use Rattle.sides.proofs.WalkLemmas.{sets_on}
+use Rattle.reach.specs.Tables.{item_if, set_all}
+use Rattle.reach.proofs.WalkLemmas.{sets_on}
 use Rattle.pt_core.specs.declared.expression.Expr.{Expr}
 use Rattle.pt_core.specs.declared.function.CoreFn.{CoreFn}
 use Rattle.pt_core.specs.CodeTree.{ExprTree, FunctionTree, GlobalTree, StmtTree, choose, repeat, stmt_trees, view_function}

@@ -1,6 +1,6 @@
 // What functions call.
 ghost use Rattle.std.specs.Prelude.{◌≡◌, false, IfOk, map, replicate};
-ghost use Rattle.sides.specs.Tables.{set_all};
+ghost use Rattle.reach.specs.Tables.{set_all};
 ghost use Rattle.pt_core.specs.CodeTree.{stmt_trees, view_function, view_stmt};
 ghost use Rattle.pt_core.specs.WellFormedStatement.{callees_in, callees_of};
 ghost use Rattle.splitter.specs.Halves as is;

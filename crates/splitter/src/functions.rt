@@ -1,6 +1,6 @@
 // The functions of each half.
 ghost use Rattle.std.specs.Prelude.{◌≡◌, ◌++◌, false, IfOk, OnOk, map, replicate};
-ghost use Rattle.sides.specs.Tables.{item_if, set_all};
+ghost use Rattle.reach.specs.Tables.{item_if, set_all};
 ghost use Rattle.pt_core.specs.CodeTree.{view_function};
 ghost use Rattle.splitter.specs.Halves.{chosen_functions};
 ghost use Rattle.splitter.specs.Sets.{function_numbers, is_set};

@@ -1,6 +1,6 @@
 // The globals of each half.
 ghost use Rattle.std.specs.Prelude.{◌≡◌, ◌++◌, false, not, IfOk, OnOk, map, replicate};
-ghost use Rattle.sides.specs.Tables.{item_if, set_all};
+ghost use Rattle.reach.specs.Tables.{item_if, set_all};
 ghost use Rattle.typed_tree.specs.TypedView.{view_typed};
 ghost use Rattle.pt_core.specs.CodeTree.{view_global};
 ghost use Rattle.splitter.specs.Halves.{chosen_globals};

@@ -1,6 +1,6 @@
 // The hosts that the slave calls itself, and what it may ask the monitor for.
 ghost use Rattle.std.specs.Prelude.{◌≡◌, ◌++◌, IfOk, OnOk, map};
-ghost use Rattle.sides.specs.Tables.{item_if, set_all};
+ghost use Rattle.reach.specs.Tables.{item_if, set_all};
 ghost use Rattle.typed_tree.specs.TypedView.{view_typed};
 ghost use Rattle.splitter.specs.Halves as is;
 ghost use Rattle.splitter.specs.Sets.{function_numbers, is_set};

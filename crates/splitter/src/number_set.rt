@@ -18,7 +18,7 @@ impl Model for NumberSet {
 
 impl NumberSet {
     ghost use Rattle.std.specs.Prelude.{◌≡◌, false, true, IfOk, map, replicate, slice_set};
-    ghost use Rattle.sides.specs.Tables.{set_all};
+    ghost use Rattle.reach.specs.Tables.{set_all};
     ghost use Rattle.splitter.specs.Sets.{is_set};
 
     /// None of the numbers below this one.

@@ -1,6 +1,6 @@
 // The signatures that each half has.
 ghost use Rattle.std.specs.Prelude.{◌≡◌, ◌++◌, IfOk, OnOk};
-ghost use Rattle.sides.specs.Tables.{item_if};
+ghost use Rattle.reach.specs.Tables.{item_if};
 ghost use Rattle.typed_tree.specs.TypedView.{view_typed};
 ghost use Rattle.pt_core.specs.CodeTree.{numbered};
 ghost use Rattle.splitter.specs.Halves.{chosen_signatures};

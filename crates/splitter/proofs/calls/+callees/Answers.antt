@@ -1,6 +1,6 @@
 use Rattle.std.proofs.Common.{ap, map, ◌∙◌, sym}
-use Rattle.sides.specs.Tables.{set_all}
-use Rattle.sides.proofs.LayoutLemmas.{split_at}
+use Rattle.reach.specs.Tables.{set_all}
+use Rattle.reach.proofs.MoreLemmas.{split_at}
 use Rattle.pt_core.specs.CodeTree.{view_expr, view_stmt}
 use Rattle.pt_core.specs.WellFormedStatement.{callees_in}
 use Rattle.pt_core.proofs.Rows.{view_choose, view_repeat}

@@ -1,5 +1,5 @@
 use Rattle.std.proofs.Common.{◌≡◌, drop, map}
-use Rattle.sides.specs.Tables.{set_all}
+use Rattle.reach.specs.Tables.{set_all}
 use Rattle.pt_core.specs.CodeTree.{stmt_trees, view_stmt}
 use Rattle.pt_core.specs.WellFormedStatement.{callees_of}
 use Rattle.splitter.proofs.calls.+callees.Given as goal

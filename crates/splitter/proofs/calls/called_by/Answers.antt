@@ -1,9 +1,9 @@
 use Rattle.std.proofs.Common.{ap, map, ◌∙◌}
 use Rattle.pt_core.specs.CodeTree.{FunctionTree, stmt_trees, view_function, view_stmt}
 use Rattle.pt_core.specs.WellFormedStatement.{callees_of}
-use Rattle.sides.specs.Tables.{set_all}
-use Rattle.sides.proofs.LayoutLemmas.{split_at}
-use Rattle.sides.proofs.WalkLemmas.{item_on}
+use Rattle.reach.specs.Tables.{set_all}
+use Rattle.reach.proofs.MoreLemmas.{split_at}
+use Rattle.reach.proofs.WalkLemmas.{item_on}
 use Rattle.splitter.proofs.calls.called_by.Goals as goal
 
 pub loop-function-preserved : goal.loop-function-preserved

@@ -1,5 +1,5 @@
 use Rattle.std.proofs.Common.{◌≡◌, false, drop, map, replicate}
-use Rattle.sides.specs.Tables.{set_all}
+use Rattle.reach.specs.Tables.{set_all}
 use Rattle.pt_core.specs.CodeTree.{view_function}
 use Rattle.splitter.specs.Halves.{called_by}
 use Rattle.splitter.proofs.calls.called_by.Given as goal

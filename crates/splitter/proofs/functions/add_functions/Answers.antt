@@ -1,5 +1,5 @@
 use Rattle.pt_base.specs.declared.ids.FnId.{FnId}
-use Rattle.sides.proofs.LayoutLemmas.{split_or}
+use Rattle.reach.proofs.MoreLemmas.{split_or}
 use Rattle.splitter.proofs.WalkLemmas.{number_on}
 use Rattle.splitter.proofs.functions.add_functions.Goals as goal
 

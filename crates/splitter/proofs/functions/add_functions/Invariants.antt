@@ -1,5 +1,5 @@
 use Rattle.std.proofs.Common.{◌≡◌, drop}
-use Rattle.sides.specs.Tables.{set_all}
+use Rattle.reach.specs.Tables.{set_all}
 use Rattle.splitter.specs.Sets.{function_numbers}
 use Rattle.splitter.proofs.functions.add_functions.Given as goal
 

@@ -1,5 +1,5 @@
 use Rattle.pt_base.specs.declared.ids.GlobalId.{GlobalId}
-use Rattle.sides.proofs.LayoutLemmas.{split_or}
+use Rattle.reach.proofs.MoreLemmas.{split_or}
 use Rattle.splitter.proofs.WalkLemmas.{number_on}
 use Rattle.splitter.proofs.globals.globals_set.Goals as goal
 

@@ -1,5 +1,5 @@
 use Rattle.std.proofs.Common.{◌≡◌, false, drop, replicate}
-use Rattle.sides.specs.Tables.{set_all}
+use Rattle.reach.specs.Tables.{set_all}
 use Rattle.splitter.specs.Sets.{global_numbers}
 use Rattle.splitter.proofs.globals.globals_set.Given as goal
 

@@ -1,6 +1,6 @@
 use Rattle.std.proofs.Common.{ap, not}
 use Rattle.pt_core.specs.CodeTree.{GlobalTree}
-use Rattle.sides.proofs.LayoutLemmas.{split_at}
+use Rattle.reach.proofs.MoreLemmas.{split_at}
 use Rattle.splitter.specs.Sets.{is_set}
 use Rattle.splitter.proofs.WalkLemmas.{global_kept}
 use Rattle.splitter.proofs.globals.share_globals.Goals as goal

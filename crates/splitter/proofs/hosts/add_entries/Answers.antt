@@ -1,5 +1,5 @@
 use Rattle.pt_core.specs.declared.monitor.Entry.{Entry}
-use Rattle.sides.proofs.LayoutLemmas.{split_at}
+use Rattle.reach.proofs.MoreLemmas.{split_at}
 use Rattle.splitter.proofs.WalkLemmas.{number_on}
 use Rattle.splitter.proofs.hosts.add_entries.Goals as goal
 

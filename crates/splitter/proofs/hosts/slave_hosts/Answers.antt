@@ -1,7 +1,7 @@
 use Rattle.std.proofs.Common.{ℕ, Bool, ap, map, ◌∙◌}
 use Rattle.pt_tree.specs.declared.signature.Signature.{Signature}
 use Rattle.typed_tree.specs.TypedTree.{view_function}
-use Rattle.sides.proofs.LayoutLemmas.{split_at}
+use Rattle.reach.proofs.MoreLemmas.{split_at}
 use Rattle.splitter.specs.Halves.{is_slave_host}
 use Rattle.splitter.specs.Sets.{is_set}
 use Rattle.splitter.proofs.WalkLemmas.{signature_on}

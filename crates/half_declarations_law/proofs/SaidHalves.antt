@@ -29,8 +29,8 @@ use Rattle.split_law.proofs.Monitors as monitor
 use Rattle.half_meaning_law.specs.CForms.{are_said}
 use Rattle.said_code_law.specs.Nulls.{nulls_stand}
 use Rattle.said_code_law.proofs.Programs.{functions_said}
-use Rattle.said_halves_law.specs.Laws.{CodeIsSaid, SlavesAreSaid, MonitorsAreSaid}
-use Rattle.said_halves_law.proofs.Agreeing.{stmts_same}
+use Rattle.half_declarations_law.specs.Said.{CodeIsSaid, SlavesAreSaid, MonitorsAreSaid}
+use Rattle.half_declarations_law.proofs.SaidAlike.{stmts_same}
 
 -- ---- lists
 

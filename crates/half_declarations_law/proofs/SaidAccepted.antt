@@ -1,8 +1,8 @@
 -- The code of both halves of an accepted program can be said: they share no global.
 use Rattle.check_programs.specs.Programs.{checked_program}
 use Rattle.said_code_law.proofs.Checked.{programs_place_nulls}
-use Rattle.said_halves_law.specs.Laws.{AcceptedHalvesAreSaid}
-use Rattle.said_halves_law.proofs.Halves.{slaves_said, monitors_said}
+use Rattle.half_declarations_law.specs.Said.{AcceptedHalvesAreSaid}
+use Rattle.half_declarations_law.proofs.SaidHalves.{slaves_said, monitors_said}
 use Rattle.split_law.proofs.Accepted.{accepted_shares_nothing}
 use Rattle.splitter.specs.Halves.{halves_of}
 use Rattle.typed_tree.specs.TypedTree.{TypedTree}

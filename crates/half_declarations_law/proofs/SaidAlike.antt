@@ -7,7 +7,7 @@ use Rattle.typed_tree.specs.declared.types.VarTy.{VarTy}
 use Rattle.typed_tree.specs.declared.types.StructInfo.{StructInfo}
 use Rattle.typed_tree.specs.TypeTests.{points_to_const}
 use Rattle.typed_tree.specs.WellFormedExpression.{param_type}
-use Rattle.sides.proofs.ListLemmas.{contains_first}
+use Rattle.reach.proofs.ListLemmas.{contains_first}
 use Rattle.pt_core.specs.CodeTree.{RootTree, local, global, deref, PlaceTree, place, ExprTree, constant, read, unary, binary, convert, null, address, decay, move, compare, difference, ExprTrees, no_exprs, expr_and, StmtTree, clear, check, assign, copy, call, choose, repeat, break_out, continue_on, give_back, StmtTrees, no_stmts, stmt_and}
 use Rattle.pt_core.specs.Types.{place_type}
 use Rattle.pt_core.specs.WellFormedStatement.{callees_in, callees_of}
