@@ -1,0 +1,4 @@
+pub mod Accounts
+pub mod Gates
+pub mod Keeping
+pub mod Steps

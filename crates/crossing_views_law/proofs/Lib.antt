@@ -1,0 +1,10 @@
+pub mod Cells
+pub mod Meeting
+pub mod Beginning
+pub mod Ending
+pub mod Machines
+pub mod Fits
+pub mod Stores
+pub mod Started
+pub mod Returned
+pub mod Worked

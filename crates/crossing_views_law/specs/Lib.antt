@@ -1,0 +1,5 @@
+pub mod Calls
+pub mod Fits
+pub mod Laws
+pub mod Machines
+pub mod Stores

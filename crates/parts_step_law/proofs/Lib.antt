@@ -1,0 +1,11 @@
+pub mod Cells
+pub mod Values
+pub mod Statements
+pub mod Held
+pub mod Steps
+pub mod Called
+pub mod Standing
+pub mod Runs
+pub mod Outward
+pub mod Instances
+pub mod Worked

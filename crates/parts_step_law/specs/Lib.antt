@@ -1,0 +1,5 @@
+pub mod Instances
+pub mod Laws
+pub mod Outward
+pub mod Parts
+pub mod Runs

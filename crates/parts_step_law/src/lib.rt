@@ -1,0 +1,39 @@
+//! A part of a program steps as the whole does: under a view, where the part's blocks lie in the whole and what its handles stand
+//! for, a step of a slave or of a served body is the step of the whole program, or the whole's budget is spent by the turns that
+//! others took.
+#![tactic(auto)]
+
+ghost use Rattle.parts_step_law.specs.Instances.{BodiesStand, SlavesStand};
+ghost use Rattle.parts_step_law.specs.Laws.{PartsStand, PartsStep};
+ghost use Rattle.parts_step_law.specs.Outward.{PartsLead};
+ghost use Rattle.parts_step_law.specs.Runs.{PartsRun};
+
+/// What the whole steps to is what is seen of the part's step.
+pub fn parts_step<H, G, K>()
+    ensures { PartsStep H G K }
+{}
+
+/// A machine of a part that is shown in the whole's stays so.
+pub fn parts_stand<H, G, K>()
+    ensures { PartsStand H G K }
+{}
+
+/// What the whole comes to in so many steps is what is seen of the part's run.
+pub fn parts_run<H, G, K>()
+    ensures { PartsRun H G K }
+{}
+
+/// Where a part asks for a call, the whole makes it, and where its outermost function returns, it returns in the whole.
+pub fn parts_lead<H, G>()
+    ensures { PartsLead H G }
+{}
+
+/// A slave's machine that fits by a store is shown in the whole's.
+pub fn slaves_stand()
+    ensures { SlavesStand }
+{}
+
+/// The machine of a body that a monitor serves is shown in the whole's.
+pub fn bodies_stand()
+    ensures { BodiesStand }
+{}

@@ -1,0 +1,6 @@
+pub mod Asked
+pub mod Called
+pub mod Unmet
+pub mod Marks
+pub mod Taking
+pub mod Runs

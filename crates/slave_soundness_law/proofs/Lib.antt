@@ -1,0 +1,4 @@
+pub mod Beginning
+pub mod Hosts
+pub mod Stepping
+pub mod Taking
