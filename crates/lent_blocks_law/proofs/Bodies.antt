@@ -12,6 +12,7 @@ use Rattle.pt_core.specs.Steps.{Machine, started}
 use Rattle.core_steps_law.specs.WholeRun.{steps_run}
 use Rattle.core_soundness.specs.Fits.{Fits}
 use Rattle.core_soundness.proofs.Starting.{started_fits}
+use Rattle.called_functions_law.proofs.Steps.{started_call_own}
 use Rattle.marshalling.specs.HonestCalls.{IsSameWork}
 use Rattle.marshalling.specs.Packing.{is_among, names_of, number_of}
 use Rattle.marshalling.specs.Taking.{comes_back, call_crossing}
@@ -31,7 +32,7 @@ bodies_keep_what_stays {G} kept monitor program gate m g privileged f depth n st
     let m1 : Machine = started program privileged f depth own m in
     let start : StartIsLent monitor program w m.blocks m1 = starts_are_lent monitor program w m privileged f depth own sound coded known idle (call.owns program) (call.own (function_in program f).params) in
     let fit : Fits kept monitor program m1 = started_fits kept monitor program m privileged f depth own sound fits idle free known deep shallow given in
-    let run : StepIsLent monitor program w m1.blocks (steps_run program gate n m1 g) = lent_blocks_stay_in_runs kept monitor program w gate n m1 g sound coded ok fit free (call.owns program) start.lends in
+    let run : StepIsLent monitor program w m1.blocks (steps_run program gate n m1 g) = lent_blocks_stay_in_runs kept monitor program w gate n m1 g sound coded ok (started_call_own program privileged f depth own m) fit free (call.owns program) start.lends in
     call.stays m.blocks (steps_run program gate n m1 g).machine.blocks (stays_on w m.blocks m1.blocks (steps_run program gate n m1 g).machine.blocks start.stays run.stays) k i back
 
 -- Where a callee's work is seen in the caller's memory, the caller's cells that don't come back stay too.

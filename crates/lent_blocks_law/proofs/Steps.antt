@@ -1,6 +1,7 @@
 -- A step writes only what may be written, and leaves each pointer to no const at what may be.
 use Rattle.std.proofs.Common.{◌≡◌, ℕ, zero, suc, ◌+◌, ℤ, refl, sym, subst, Bool, true, false, Option, Some, None, Result, Ok, Err, IfOk, List, [], ◌∷◌, map, if◌then◌else◌}
-use Rattle.std.specs.Prelude.{IsTrue, ◌&&◌, ◌||◌, not, is_some, nat_lt, nat_le}
+use Rattle.std.specs.List.{list_all}
+use Rattle.std.specs.Prelude.{◌++◌, IsTrue, ◌&&◌, ◌||◌, not, is_some, nat_lt, nat_le}
 use Rattle.pt_base.specs.declared.int_type.IntType.{IntType}
 use Rattle.pt_base.specs.declared.span.Span.{Span}
 use Rattle.pt_base.specs.declared.trap.Trap.TheVariants.{Depth}
@@ -19,18 +20,22 @@ use Rattle.pt_core.specs.Calls.{signature_in, function_in, context_in, number_ce
 use Rattle.pt_core.specs.Steps.{Work, run, head, Active, Machine, Gate, Way, enters, here, away, Answer, Step, moved, asked, ended, trapped, spent, idle, answers, settled, past_loop, at_head, working, with_blocks, with_turn, turned, on_value, returned, at_end, is_active, just_entered, begins, enters_at, made, made_here, awaiting, goes_away, by_way, act, works, stepped, step}
 use Rattle.pt_core.specs.WellFormed.{function_at, called_signature}
 use Rattle.pt_core.specs.WellFormedExpression.{place_fits}
-use Rattle.pt_core.specs.WellFormedStatement.{arguments_fit, call_fits, result_fits, stmt_fits, stmts_fit, is_compound}
+use Rattle.pt_core.specs.WellFormedStatement.{arguments_fit, call_fits, result_fits, stmt_fits, stmts_fit, is_compound, callees_in, callees_of}
 use Rattle.core_soundness.specs.Kept.{Kept}
 use Rattle.core_soundness.specs.Fits.{MemoryFits, scope_in, is_looped, work_fits, AllFit}
 use Rattle.core_soundness.specs.Outside.{own_params}
-use Rattle.core_soundness.specs.StepLaws.{GateFits, StepFits}
+use Rattle.core_soundness.specs.StepLaws.{StepFits}
 use Rattle.core_soundness.specs.StepLaws as sound
 use Rattle.core_soundness.proofs.Leaves.{never}
 use Rattle.core_soundness.proofs.Objects.{Setting}
 use Rattle.core_soundness.proofs.Programs.{ProgramFacts, facts_of, FunctionFacts, function_facts}
 use Rattle.core_soundness.proofs.Settings.{setting}
 use Rattle.core_soundness.proofs.Starting.{own_lead}
-use Rattle.core_soundness.proofs.Steps.{own_called, settled_fits, step_keeps}
+use Rattle.core_soundness.proofs.Steps.{own_called, settled_fits}
+use Rattle.called_functions_law.specs.Called.{is_called, calls_left, CallOwn}
+use Rattle.called_functions_law.specs.Keeping.{FitsCalls}
+use Rattle.called_functions_law.proofs.Steps.{first_holds, settled_calls, steps_call_own}
+use Rattle.called_functions_law.proofs.Keeping.{steps_keep_called}
 use Rattle.core_steps_law.specs.WholeRun.{further_by, steps_run}
 use Rattle.half_meaning_law.specs.CForms.{is_null, stands, place_stands, is_const, is_struct, are_passed, params_of, is_said, are_said}
 use Rattle.lent_blocks_law.specs.Lent.{Writable, Owns, AreLent, PointersAreLent, CodeIsSaid, WorkIsSaid, AllAreSaid, Lends}
@@ -220,23 +225,23 @@ away_lent {G} monitor program w m g a rest work span f args result s said called
     go false true = asks (a.depth + 1)
     go false false = record { stays = stays_self w m.blocks; lends = on; asks = tt {0} }
 
-way_lent : {G : Type 0} {kept : Kept} (monitor : Bool) (program : ProgramTree) (w : Writable) (gate : Gate G) (m : Machine) (g : G) (a : Active) (rest : List Active) (work : List Work) (span : Span) (f : ℕ) (args : List Cell) (result : Option ℕ) → Scene kept monitor program w m a rest → GateFits program gate g →
+way_lent : {G : Type 0} {kept : Kept} (monitor : Bool) (program : ProgramTree) (w : Writable) (gate : Gate G) (m : Machine) (g : G) (a : Active) (rest : List Active) (work : List Work) (span : Span) (f : ℕ) (args : List Cell) (result : Option ℕ) → Scene kept monitor program w m a rest → FitsCalls program gate g → IsTrue (is_called program f) →
     OwnWork monitor program a work → Called monitor program w a f args result → (way : Way) → gate.way g f args ≡ way → StepIsLent monitor program w m.blocks (by_way program gate (working m a rest work) g span f args result a.depth way)
-way_lent monitor program w gate m g a rest work span f args result s ok said called enters e = enters_lent monitor program w gate m g a rest work span f args result s said called (ok.entered f args e)
-way_lent monitor program w gate m g a rest work span f args result s ok said called here e = made_lent monitor program w gate m g a rest work f args result s said called
-way_lent monitor program w gate m g a rest work span f args result s ok said called away e = away_lent monitor program w m g a rest work span f args result s said called
+way_lent monitor program w gate m g a rest work span f args result s ok own said called enters e = enters_lent monitor program w gate m g a rest work span f args result s said called (ok.entered f args own e)
+way_lent monitor program w gate m g a rest work span f args result s ok own said called here e = made_lent monitor program w gate m g a rest work f args result s said called
+way_lent monitor program w gate m g a rest work span f args result s ok own said called away e = away_lent monitor program w m g a rest work span f args result s said called
 
-call_lent : {G : Type 0} {kept : Kept} (monitor : Bool) (program : ProgramTree) (w : Writable) (gate : Gate G) (m : Machine) (g : G) (a : Active) (rest : List Active) (work : List Work) (span : Span) (f : ℕ) (args : ExprTrees) (result : Option ℕ) → Scene kept monitor program w m a rest → GateFits program gate g →
+call_lent : {G : Type 0} {kept : Kept} (monitor : Bool) (program : ProgramTree) (w : Writable) (gate : Gate G) (m : Machine) (g : G) (a : Active) (rest : List Active) (work : List Work) (span : Span) (f : ℕ) (args : ExprTrees) (result : Option ℕ) → Scene kept monitor program w m a rest → FitsCalls program gate g → IsTrue (is_called program f) →
     OwnWork monitor program a work → (o : Option Signature) → called_signature monitor program f ≡ o → IsTrue (call_fits (context_in program a.function) o args result) → IsTrue (are_passed (context_in program a.function) (params_of o) args) →
     StepIsLent monitor program w m.blocks (act program gate m g a rest work (call f args result span))
-call_lent {G} monitor program w gate m g a rest work span f args result s ok said None is h passed = never h
-call_lent {G} monitor program w gate m g a rest work span f args result s ok said (Some t) is h passed =
+call_lent {G} monitor program w gate m g a rest work span f args result s ok own said None is h passed = never h
+call_lent {G} monitor program w gate m g a rest work span f args result s ok own said (Some t) is h passed =
     let c : Context = context_in program a.function in
     let sides : IsTrue (arguments_fit c t.params args && result_fits c t.result result) = and_right (not (is_main t)) (arguments_fit c t.params args && result_fits c t.result result) h in
     value_or_trap monitor program w m g (AreLent w program.structs t.params) (values_of c a.depth args m.blocks)
     (λ vs. by_way program gate (working m a rest work) g span f vs result a.depth (gate.way g f vs)) s.before
     (passed_lent w c a.depth m.blocks (own_setting monitor program w m a rest s) (own_sees monitor program w m a rest s) t.params args (and_left (arguments_fit c t.params args) (result_fits c t.result result) sides) passed)
-    (λ vs lent. way_lent monitor program w gate m g a rest work span f vs result s ok said
+    (λ vs lent. way_lent monitor program w gate m g a rest work span f vs result s ok own said
     (record { signature = t; is = is; lent = lent; gives = t.result; takes = and_right (arguments_fit c t.params args) (result_fits c t.result result) sides }) (gate.way g f vs) refl)
 
 -- ---- statements
@@ -245,19 +250,19 @@ choice_said : (c : Context) (called : ℕ → Option Signature) (b : Bool) (xs y
 choice_said c called true xs ys h k = h
 choice_said c called false xs ys h k = k
 
-act_lent : {G : Type 0} {kept : Kept} (monitor : Bool) (program : ProgramTree) (w : Writable) (gate : Gate G) (m : Machine) (g : G) (a : Active) (rest : List Active) → Scene kept monitor program w m a rest → GateFits program gate g → (work : List Work) → OwnWork monitor program a work →
-    (looped : Bool) (t : StmtTree) → IsTrue (stmt_fits (scope_in monitor program a.function) looped t) → IsTrue (is_said (context_in program a.function) (called_signature monitor program) t) →
+act_lent : {G : Type 0} {kept : Kept} (monitor : Bool) (program : ProgramTree) (w : Writable) (gate : Gate G) (m : Machine) (g : G) (a : Active) (rest : List Active) → Scene kept monitor program w m a rest → FitsCalls program gate g → (work : List Work) → OwnWork monitor program a work →
+    (looped : Bool) (t : StmtTree) → IsTrue (list_all (is_called program) (callees_in t)) → IsTrue (stmt_fits (scope_in monitor program a.function) looped t) → IsTrue (is_said (context_in program a.function) (called_signature monitor program) t) →
     StepIsLent monitor program w m.blocks (act program gate m g a rest work t)
-act_lent monitor program w gate m g a rest s ok work said looped (clear v) h k = goes_on monitor program w m g a rest s work _ said (cleared_lent w program a rest m.blocks s.owns s.pointers v)
-act_lent monitor program w gate m g a rest s ok work said looped (check p) h k =
+act_lent monitor program w gate m g a rest s ok work said looped (clear v) own h k = goes_on monitor program w m g a rest s work _ said (cleared_lent w program a rest m.blocks s.owns s.pointers v)
+act_lent monitor program w gate m g a rest s ok work said looped (check p) own h k =
     value_or_trap monitor program w m g (λ x. Unit {0}) (location_of (context_in program a.function) a.depth p m.blocks) (λ at. answers moved (working m a rest work) g) s.before
     (always (λ x. Unit {0}) (location_of (context_in program a.function) a.depth p m.blocks) (λ x. tt {0}))
     (λ at _. record { stays = stays_self w m.blocks; lends = with_work monitor program w m a rest s work said; asks = s.free })
-act_lent monitor program w gate m g a rest s ok work said looped (assign p e) h k =
+act_lent monitor program w gate m g a rest s ok work said looped (assign p e) own h k =
     value_or_trap monitor program w m g (LentChange w program (a ∷ rest) m.blocks) (assigned (context_in program a.function) a.depth p e m.blocks) (λ blocks. answers moved (with_blocks blocks (working m a rest work)) g) s.before
     (assigned_lent w program a rest m.blocks (own_setting monitor program w m a rest s) (own_sees monitor program w m a rest s) s.owns s.memory s.pointers p e h k)
     (λ blocks change. goes_on monitor program w m g a rest s work blocks said change)
-act_lent monitor program w gate m g a rest s ok work said looped (copy p q) h k =
+act_lent monitor program w gate m g a rest s ok work said looped (copy p q) own h k =
     let c : Context = context_in program a.function in
     let may : IsTrue (not (is_const c p) && is_struct (place_type c p)) = and_right (place_stands p && place_stands q) (not (is_const c p) && is_struct (place_type c p)) k in
     value_or_trap monitor program w m g (LentChange w program (a ∷ rest) m.blocks) (copied c a.depth p q m.blocks) (λ blocks. answers moved (with_blocks blocks (working m a rest work)) g) s.before
@@ -265,8 +270,8 @@ act_lent monitor program w gate m g a rest s ok work said looped (copy p q) h k 
     (and_left (place_fits c p) (place_fits c q) (and_left (place_fits c p && place_fits c q) (is_compound (place_type c p) && same_type (place_type c p) (place_type c q)) h))
     (and_left (not (is_const c p)) (is_struct (place_type c p)) may) (and_right (not (is_const c p)) (is_struct (place_type c p)) may))
     (λ blocks change. goes_on monitor program w m g a rest s work blocks said change)
-act_lent monitor program w gate m g a rest s ok work said looped (call f args result span) h k = call_lent monitor program w gate m g a rest work span f args result s ok said (called_signature monitor program f) refl h k
-act_lent monitor program w gate m g a rest s ok work said looped (choose e xs ys) h k =
+act_lent monitor program w gate m g a rest s ok work said looped (call f args result span) own h k = call_lent monitor program w gate m g a rest work span f args result s ok (and_left (is_called program f) true own) said (called_signature monitor program f) refl h k
+act_lent monitor program w gate m g a rest s ok work said looped (choose e xs ys) own h k =
     let c : Context = context_in program a.function in
     let arms : IsTrue (are_said c (called_signature monitor program) xs && are_said c (called_signature monitor program) ys) =
     and_right (is_null e || stands e) (are_said c (called_signature monitor program) xs && are_said c (called_signature monitor program) ys) k in
@@ -278,34 +283,36 @@ act_lent monitor program w gate m g a rest s ok work said looped (choose e xs ys
           (choice_said c (called_signature monitor program) (holds_in v) xs ys (and_left (are_said c (called_signature monitor program) xs) (are_said c (called_signature monitor program) ys) arms) (and_right (are_said c (called_signature monitor program) xs) (are_said c (called_signature monitor program) ys) arms), said);
       asks = s.free;
     })
-act_lent monitor program w gate m g a rest s ok work said looped (repeat body span) h k = begins_lent monitor program w m g a rest s body work k said
-act_lent monitor program w gate m g a rest s ok work said looped break_out h k =
+act_lent monitor program w gate m g a rest s ok work said looped (repeat body span) own h k = begins_lent monitor program w m g a rest s body work k said
+act_lent monitor program w gate m g a rest s ok work said looped break_out own h k =
     record { stays = stays_self w m.blocks; lends = with_work monitor program w m a rest s (past_loop work) (past_said monitor program a work said); asks = s.free }
-act_lent monitor program w gate m g a rest s ok work said looped continue_on h k =
+act_lent monitor program w gate m g a rest s ok work said looped continue_on own h k =
     record { stays = stays_self w m.blocks; lends = with_work monitor program w m a rest s (at_head work) (head_said monitor program a work said); asks = s.free }
-act_lent monitor program w gate m g a rest s ok work said looped (give_back e) h k =
+act_lent monitor program w gate m g a rest s ok work said looped (give_back e) own h k =
     value_or_trap monitor program w m g (λ x. Unit {0}) (returned_value (context_in program a.function) a.depth e m.blocks) (λ v. returned m g a rest v) s.before
     (always (λ x. Unit {0}) (returned_value (context_in program a.function) a.depth e m.blocks) (λ x. tt {0})) (λ v _. returned_lent monitor program w m g a rest v s)
 
-works_lent : {G : Type 0} {kept : Kept} (monitor : Bool) (program : ProgramTree) (w : Writable) (gate : Gate G) (m : Machine) (g : G) (a : Active) (rest : List Active) → Scene kept monitor program w m a rest → GateFits program gate g → (work : List Work) →
+works_lent : {G : Type 0} {kept : Kept} (monitor : Bool) (program : ProgramTree) (w : Writable) (gate : Gate G) (m : Machine) (g : G) (a : Active) (rest : List Active) → Scene kept monitor program w m a rest → FitsCalls program gate g → (work : List Work) → IsTrue (list_all (is_called program) (calls_left work)) →
     IsTrue (work_fits (scope_in monitor program a.function) work) → OwnWork monitor program a work → StepIsLent monitor program w m.blocks (works program gate m g a rest work)
-works_lent monitor program w gate m g a rest s ok [] h said = at_end_lent monitor program w m g a rest (function_in program a.function).end s (signature_in program a.function).result
-works_lent monitor program w gate m g a rest s ok (run no_stmts ∷ work) h said = record { stays = stays_self w m.blocks; lends = with_work monitor program w m a rest s work said.1; asks = s.free }
-works_lent monitor program w gate m g a rest s ok (run (stmt_and t more) ∷ work) h said =
+works_lent monitor program w gate m g a rest s ok [] own h said = at_end_lent monitor program w m g a rest (function_in program a.function).end s (signature_in program a.function).result
+works_lent monitor program w gate m g a rest s ok (run no_stmts ∷ work) own h said = record { stays = stays_self w m.blocks; lends = with_work monitor program w m a rest s work said.1; asks = s.free }
+works_lent monitor program w gate m g a rest s ok (run (stmt_and t more) ∷ work) own h said =
     let k = scope_in monitor program a.function in
     let c : Context = context_in program a.function in
     let fit : IsTrue (stmt_fits k (is_looped work) t && stmts_fit k (is_looped work) more) = and_left (stmt_fits k (is_looped work) t && stmts_fit k (is_looped work) more) (work_fits k work) h in
     act_lent monitor program w gate m g a rest s ok (run more ∷ work) (and_right (is_said c (called_signature monitor program) t) (are_said c (called_signature monitor program) more) said.0, said.1)
-    (is_looped work) t (and_left (stmt_fits k (is_looped work) t) (stmts_fit k (is_looped work) more) fit) (and_left (is_said c (called_signature monitor program) t) (are_said c (called_signature monitor program) more) said.0)
-works_lent monitor program w gate m g a rest s ok (head body ∷ work) h said = begins_lent monitor program w m g a rest s body work said.0 said.1
+    (is_looped work) t (first_holds (is_called program) (callees_in t) (callees_of more) (first_holds (is_called program) (callees_in t ++ callees_of more) (calls_left work) own))
+    (and_left (stmt_fits k (is_looped work) t) (stmts_fit k (is_looped work) more) fit) (and_left (is_said c (called_signature monitor program) t) (are_said c (called_signature monitor program) more) said.0)
+works_lent monitor program w gate m g a rest s ok (head body ∷ work) own h said = begins_lent monitor program w m g a rest s body work said.0 said.1
 
 pub lent_blocks_stay : {G : Type 0} → LentBlocksStay G
-lent_blocks_stay {G} kept monitor program w gate m g sound coded ok fits free owns lends = go m.active refl
+lent_blocks_stay {G} kept monitor program w gate m g sound coded ok own fits free owns lends = go m.active refl
   where
     go : (active : List Active) → m.active ≡ active → StepIsLent monitor program w m.blocks (stepped program gate m g active)
     go [] e = unchanged monitor program w m g _ lends (tt {0})
     go (a ∷ rest) e =
         let all : AllFit monitor program (a ∷ rest) = subst (λ active. AllFit monitor program active) e fits.active in
+        let called : CallOwn program (a ∷ rest) = subst (λ active. CallOwn program active) e own in
         let code : AllAreSaid monitor program (a ∷ rest) = subst (λ active. AllAreSaid monitor program active) e lends.code in
         works_lent monitor program w gate m g a rest
         (record {
@@ -318,23 +325,23 @@ lent_blocks_stay {G} kept monitor program w gate m g sound coded ok fits free ow
           below = code.1;
           before = lends;
           free = free;
-        }) ok (settled a.work) (settled_fits monitor program a.function a.work all.0.work) (settled_said monitor program a a.work code.0)
+        }) ok (settled a.work) (settled_calls (is_called program) a.work called.0) (settled_fits monitor program a.function a.work all.0.work) (settled_said monitor program a a.work code.0)
 
 -- ---- so many steps
 
 pub lent_blocks_stay_in_runs : {G : Type 0} → LentBlocksStayInRuns G
-lent_blocks_stay_in_runs {G} kept monitor program w gate zero m g sound coded ok fits free owns lends = record { stays = stays_self w m.blocks; lends = lends; asks = free }
-lent_blocks_stay_in_runs {G} kept monitor program w gate (suc n) m g sound coded ok fits free owns lends =
-    go (λ still. lent_blocks_stay_in_runs kept monitor program w gate n first.machine first.gate sound coded ok fit.machine still owns one.lends) first.answer refl
+lent_blocks_stay_in_runs {G} kept monitor program w gate zero m g sound coded ok own fits free owns lends = record { stays = stays_self w m.blocks; lends = lends; asks = free }
+lent_blocks_stay_in_runs {G} kept monitor program w gate (suc n) m g sound coded ok own fits free owns lends =
+    go (λ still. lent_blocks_stay_in_runs kept monitor program w gate n first.machine first.gate sound coded ok (steps_call_own program gate m g own).left fit.machine still owns one.lends) first.answer refl
   where
     first : Step G
     first = step program gate m g
 
     one : StepIsLent monitor program w m.blocks first
-    one = lent_blocks_stay kept monitor program w gate m g sound coded (ok g) fits free owns lends
+    one = lent_blocks_stay kept monitor program w gate m g sound coded (ok g) own fits free owns lends
 
     fit : StepFits kept monitor program m.active first
-    fit = step_keeps kept monitor program gate m g sound (ok g) fits free
+    fit = steps_keep_called kept monitor program gate m g sound (ok g) own fits free
 
     go : (first.machine.awaits ≡ None → StepIsLent monitor program w first.machine.blocks (steps_run program gate n first.machine first.gate)) → (answer : Answer) → first.answer ≡ answer →
         StepIsLent monitor program w m.blocks (further_by answer first (steps_run program gate n))

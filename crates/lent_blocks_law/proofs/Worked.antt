@@ -28,7 +28,8 @@ use Rattle.core_steps_law.specs.WholeRun.{steps_run}
 use Rattle.core_soundness.specs.Kept.{none}
 use Rattle.core_soundness.specs.Fits.{IntegersFit, Fits}
 use Rattle.core_soundness.specs.Outside.{ArgumentsFit}
-use Rattle.core_soundness.specs.StepLaws.{GateFits}
+use Rattle.called_functions_law.specs.Keeping.{FitsCalls}
+use Rattle.called_functions_law.proofs.Steps.{started_call_own}
 use Rattle.core_soundness.proofs.Starting.{started_fits}
 use Rattle.half_meaning_law.specs.CForms.{is_said, are_said}
 use Rattle.lent_blocks_law.specs.Lent.{Writable, Owns, Stays, AreLent, CodeIsSaid}
@@ -176,8 +177,8 @@ entered body = started (with_body body) true 0 1 args idle
 
 -- ---- the law holds of the first body
 
-gate_fits : (program : ProgramTree) (g : ℕ) → GateFits program gate g
-gate_fits program g = record { entered = λ f vs h. cc; made = λ f vs h. cc; answered = λ p f vs h. cc }
+gate_fits : (program : ProgramTree) (g : ℕ) → FitsCalls program gate g
+gate_fits program g = record { entered = λ f vs c h. cc; made = λ f vs c h. cc; answered = λ p f vs c h. cc }
 
 integers_fit : (n : ℕ) → IntegersFit none (received n).types (received n).cells
 integers_fit zero = (refl, (refl, tt {0}))
@@ -223,7 +224,7 @@ first_stays n =
     let start : StartIsLent true (with_body good) writable memory (entered good) = starts_are_lent true (with_body good) writable idle true 0 1 args good_is_sound good_code refl refl (owns (with_body good)) args_lent in
     let fits : Fits none true (with_body good) (entered good) = started_fits none true (with_body good) idle true 0 1 args good_is_sound (idle_fits good) refl refl refl (omega arith) (omega arith) args_fit in
     let run : StepIsLent true (with_body good) writable (entered good).blocks (steps_run (with_body good) gate n (entered good) 0) =
-    lent_blocks_stay_in_runs none true (with_body good) writable gate n (entered good) 0 good_is_sound good_code (λ g. gate_fits (with_body good) g) fits refl (owns (with_body good)) start.lends in
+    lent_blocks_stay_in_runs none true (with_body good) writable gate n (entered good) 0 good_is_sound good_code (λ g. gate_fits (with_body good) g) (started_call_own (with_body good) true 0 1 args idle) fits refl (owns (with_body good)) start.lends in
     stays_on writable memory (entered good).blocks (steps_run (with_body good) gate n (entered good) 0).machine.blocks start.stays run.stays
 
 second_changes : ((steps_run (with_body good) gate 1 (entered good) 0).machine.blocks (Received 1)).cells ≡ cell.Int (pos 2) ∷ cell.Int (pos 4) ∷ []

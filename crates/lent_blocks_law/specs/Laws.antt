@@ -14,7 +14,9 @@ use Rattle.pt_core.specs.WellFormedExpression.{expr_fits, place_fits}
 use Rattle.core_soundness.specs.Kept.{Kept}
 use Rattle.core_soundness.specs.Fits.{MemoryFits, Fits}
 use Rattle.core_soundness.specs.Outside.{own_params}
-use Rattle.core_soundness.specs.StepLaws.{GateFits, called_params}
+use Rattle.core_soundness.specs.StepLaws.{called_params}
+use Rattle.called_functions_law.specs.Called.{CallOwn}
+use Rattle.called_functions_law.specs.Keeping.{FitsCalls}
 use Rattle.half_meaning_law.specs.CForms.{c_type, is_const}
 use Rattle.lent_blocks_law.specs.Lent.{Writable, AreWritable, Owns, Stays, ValueIsLent, AreLent, PointersAreLent, CodeIsSaid, Lends}
 
@@ -53,11 +55,11 @@ pub record StepIsLent (monitor : Bool) (program : ProgramTree) (w : Writable) (b
   pub lends : Lends monitor program w s.machine.active s.machine.blocks
   pub asks : AnswerIsLent monitor program w s.machine.awaits s.answer
 
--- A step of a sound program whose code can be said in C changes no cell that may not be written, and keeps that each
--- pointer to no const points to what may be written.
+-- A step of a sound program whose code can be said in C, under a gate that fits for what the program calls, changes no cell
+-- that may not be written, and keeps that each pointer to no const points to what may be written.
 abbrev pub LentBlocksStay : Type 0 → Type 0
 LentBlocksStay G = (kept : Kept) (monitor : Bool) (program : ProgramTree) (w : Writable) (gate : Gate G) (m : Machine) (g : G) →
-    IsTrue (is_sound monitor program) → CodeIsSaid monitor program → GateFits program gate g → Fits kept monitor program m → m.awaits ≡ None →
+    IsTrue (is_sound monitor program) → CodeIsSaid monitor program → FitsCalls program gate g → CallOwn program m.active → Fits kept monitor program m → m.awaits ≡ None →
     Owns w program → Lends monitor program w m.active m.blocks → StepIsLent monitor program w m.blocks (step program gate m g)
 
 -- ---- so many steps
@@ -65,7 +67,7 @@ LentBlocksStay G = (kept : Kept) (monitor : Bool) (program : ProgramTree) (w : W
 -- under a gate that fits in each of its states
 abbrev pub LentBlocksStayInRuns : Type 0 → Type 0
 LentBlocksStayInRuns G = (kept : Kept) (monitor : Bool) (program : ProgramTree) (w : Writable) (gate : Gate G) (n : ℕ) (m : Machine) (g : G) →
-    IsTrue (is_sound monitor program) → CodeIsSaid monitor program → ((now : G) → GateFits program gate now) → Fits kept monitor program m → m.awaits ≡ None →
+    IsTrue (is_sound monitor program) → CodeIsSaid monitor program → ((now : G) → FitsCalls program gate now) → CallOwn program m.active → Fits kept monitor program m → m.awaits ≡ None →
     Owns w program → Lends monitor program w m.active m.blocks → StepIsLent monitor program w m.blocks (steps_run program gate n m g)
 
 -- ---- what comes from outside

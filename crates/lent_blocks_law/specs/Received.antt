@@ -14,7 +14,7 @@ use Rattle.core_steps_law.specs.WholeRun.{steps_run}
 use Rattle.core_soundness.specs.Kept.{Kept}
 use Rattle.core_soundness.specs.Fits.{Fits}
 use Rattle.core_soundness.specs.Outside.{ArgumentsFit, own_params}
-use Rattle.core_soundness.specs.StepLaws.{GateFits}
+use Rattle.called_functions_law.specs.Keeping.{FitsCalls}
 use Rattle.marshalling.specs.Handles.{Entries}
 use Rattle.marshalling.specs.HonestCalls.{for_callee}
 use Rattle.marshalling.specs.Taking.{comes_back, call_crossing}
@@ -49,7 +49,7 @@ own_arguments program f store blocks args = take (function_in program f).params 
 -- steps each received cell that doesn't come back is as it was.
 abbrev pub BodiesKeepWhatStays : Type 0 → Type 0
 BodiesKeepWhatStays G = (kept : Kept) (monitor : Bool) (program : ProgramTree) (gate : Gate G) (m : Machine) (g : G) (privileged : Bool) (f depth n : ℕ) (store : Entries) (blocks : Blocks) (args : List Cell) →
-    IsTrue (is_sound monitor program) → CodeIsSaid monitor program → ((now : G) → GateFits program gate now) → Fits kept monitor program m → m.active ≡ [] → m.awaits ≡ None →
+    IsTrue (is_sound monitor program) → CodeIsSaid monitor program → ((now : G) → FitsCalls program gate now) → Fits kept monitor program m → m.active ≡ [] → m.awaits ≡ None →
     IsTrue (is_some (function_at program f)) → 1 ≤ depth → depth ≤ deepest → length (signature_in program f).params ≡ length args →
     ArgumentsFit kept program.structs m.blocks 0 (own_params program f) (own_arguments program f store blocks args) →
     (k i : ℕ) → comes_back (call_crossing program.structs (signature_in program f).params args k i) ≡ false →
