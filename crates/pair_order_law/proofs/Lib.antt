@@ -4,7 +4,7 @@ mod Ends
 mod Every
 mod Facts
 mod Folds
-mod LinkFacts
+pub mod LinkFacts
 mod Parents
 pub mod SlaveFacts
 mod Synchronous

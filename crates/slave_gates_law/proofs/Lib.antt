@@ -1,0 +1,5 @@
+pub mod Agreeing
+pub mod Fitting
+pub mod Gathering
+pub mod Hosts
+pub mod Once
