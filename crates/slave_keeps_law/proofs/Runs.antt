@@ -140,11 +140,16 @@ away_still x y (trapped trap span) same out = tt
 away_still x y spent same out = tt
 away_still x y idle same out = tt
 
+-- its machine after the next step
+pub step_stays : (t : TypedTree) (a : Accepted) (x : Slave) → IsKnown t a → Keeps t a x → x.doing ≡ goes → StaysFine (slave_half t a) (world_of t a) (machine_step x)
+step_stays t a x known k is =
+    subst (λ p. StaysFine (slave_half t a) (world_of t a) (step p (slave_gate p) x.machine (heard_by x))) (sym k.program)
+    (steps_keep_fine (slave_half t a) (world_of t a) (slave_gate (slave_half t a)) x.machine (heard_by x) (code_of t a known) (enters_fit t a (slave_world (marks_of t a) t) known.facts known.world) k.fine (subst (λ d. DoesSo t a x.machine d) is k.doing))
+
 step_keeps : (t : TypedTree) (a : Accepted) (x : Slave) → IsKnown t a → Keeps t a x → x.doing ≡ goes → Keeps t a (slave_step x).slave
 step_keeps t a x known k is =
     let s = machine_step x in
-    let stays : StaysFine (slave_half t a) (world_of t a) s = subst (λ p. StaysFine (slave_half t a) (world_of t a) (step p (slave_gate p) x.machine (heard_by x))) (sym k.program)
-    (steps_keep_fine (slave_half t a) (world_of t a) (slave_gate (slave_half t a)) x.machine (heard_by x) (code_of t a known) (enters_fit t a (slave_world (marks_of t a) t) known.facts known.world) k.fine (subst (λ d. DoesSo t a x.machine d) is k.doing)) in
+    let stays : StaysFine (slave_half t a) (world_of t a) s = step_stays t a x known k is in
     after_keeps t a (stepped x s) s.answer s.gate.wrote known (record { program = k.program; fine = stays.fine }) is stays.answer
     (away_still x (stepped x s) s.answer refl (steps_ask_away x.program (slave_gate x.program) x.machine (heard_by x)))
 
@@ -214,7 +219,7 @@ main_gives_none t a known = go (find named_main (slave_half t a).signatures) ref
         let c = found_in (λ (x : ℕ × Signature). IsCalled t a x.0 x.1) named_main (slave_half t a).signatures s (all_called t a) is in
         known.world.ends s.0 c.function c.is (ap is_main c.same ∙ found_passes (slave_half t a).signatures s is)
 
-begin_keeps : (t : TypedTree) (a : Accepted) (hosts : List (ℕ × HostModel)) (input : List ℕ) (turns : ℕ) → IsKnown t a → Keeps t a (slave_of (boot_of t a hosts input turns))
+pub begin_keeps : (t : TypedTree) (a : Accepted) (hosts : List (ℕ × HostModel)) (input : List ℕ) (turns : ℕ) → IsKnown t a → Keeps t a (slave_of (boot_of t a hosts input turns))
 begin_keeps t a hosts input turns known = record {
   program = refl;
   fine = starts_keep_fine (slave_half t a) (world_of t a) false (main_in (slave_half t a)) 1 [] (at_rest (slave_half t a) turns) (code_of t a known) (rest_is_fine (slave_half t a) (world_of t a) turns) refl refl (main_gives_none t a known) tt;

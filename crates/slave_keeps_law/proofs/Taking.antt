@@ -183,7 +183,7 @@ in_range secret leaves base i way m h = go (nat_le base i) refl h
 
 -- ---- parameters
 
-fit_at : (w : World) (active : List Active) (into : ℕ → Class) (vs : List Cell) (n : ℕ) (v : Cell) → AllFit w active into vs → slice_get vs n ≡ Some v → Fits w active (into n) v
+pub fit_at : (w : World) (active : List Active) (into : ℕ → Class) (vs : List Cell) (n : ℕ) (v : Cell) → AllFit w active into vs → slice_get vs n ≡ Some v → Fits w active (into n) v
 fit_at w active into [] n v fit is = cc
 fit_at w active into (x ∷ xs) zero v fit is = subst (λ z. Fits w active (into 0) z) (one x v is) fit.0
   where
@@ -199,7 +199,7 @@ if_false : {A : Type 0} (c : Bool) (x y : A) → c ≡ false → (if c then x el
 if_false false x y h = refl
 if_false true x y h = never (sym h)
 
-entry_at : (t : TypedTree) (m : Marks) (f n : ℕ) (x : FunctionTree) (q : Param) → slice_get t.functions f ≡ Some x → x.signature.privileged ≡ true → slice_get x.signature.params n ≡ Some q → param_class m t f n ≡ entry_class t f n q
+pub entry_at : (t : TypedTree) (m : Marks) (f n : ℕ) (x : FunctionTree) (q : Param) → slice_get t.functions f ≡ Some x → x.signature.privileged ≡ true → slice_get x.signature.params n ≡ Some q → param_class m t f n ≡ entry_class t f n q
 entry_at t m f n x q is free at =
     ap (λ o. option_map_or (λ y. param_in m t f y n) o (integer_class false)) is
     ∙ if_false (is_plain x) (variable_class m t f n) (option_map_or (λ p. if x.signature.privileged then entry_class t f n p else host_class m t f x n p) (slice_get x.signature.params n) (integer_class false)) (no_plain (is_some x.body) x.signature.privileged free)
@@ -229,30 +229,39 @@ host_integers t f x facts is host = go x.body refl (and_right (list_all (variabl
     go (Some b) e s = never (sym (host_body t f x facts is host) ∙ ap is_some e)
 
 -- what goes away with a pointer is privileged
-pointer_free : (t : TypedTree) (a : Accepted) (f n : ℕ) (args : List Cell) (q : Param) (elem : Elem) → Facts t → (c : IsCalled t a f (signature_in (slave_half t a) f)) → way_by (signature_in (slave_half t a) f) args ≡ away →
-    slice_get c.function.signature.params n ≡ Some q → q.kind ≡ kind.Ptr elem false → c.function.signature.privileged ≡ true
-pointer_free t a f n args q elem facts c way at points = go (way_away (signature_in (slave_half t a) f) args way)
+pub pointer_free : (t : TypedTree) (a : Accepted) (f n : ℕ) (args : List Cell) (q : Param) (elem : Elem) (fixed : Bool) → Facts t → (c : IsCalled t a f (signature_in (slave_half t a) f)) → way_by (signature_in (slave_half t a) f) args ≡ away →
+    slice_get c.function.signature.params n ≡ Some q → q.kind ≡ kind.Ptr elem fixed → c.function.signature.privileged ≡ true
+pointer_free t a f n args q elem fixed facts c way at points = go (way_away (signature_in (slave_half t a) f) args way)
   where
     go : ((signature_in (slave_half t a) f).privileged ≡ true) ⊎ Mixes (signature_in (slave_half t a) f) args → c.function.signature.privileged ≡ true
     go (inl p) = ap (λ (s : Signature). s.privileged) c.same ∙ p
     go (inr k) = never (sym (ap is_integer_kind points) ∙ integer_at c.function.signature.params n q (host_integers t f c.function facts c.is (ap (λ (s : Signature). s.host) c.same ∙ k.host)) at)
 
 -- a parameter's element is one of the program's
-param_elem : (ps : List Param) (xs : List Var) (structs : List StructInfo) (n : ℕ) (q : Param) (elem : Elem) → params_lead ps xs ≡ true → list_all (variable_sound structs) xs ≡ true → slice_get ps n ≡ Some q → q.kind ≡ kind.Ptr elem false → is_elem (length structs) (Some elem) ≡ true
-param_elem [] xs structs n q elem lead sound is points = cc
-param_elem (p ∷ ps) [] structs n q elem lead sound is points = never lead
-param_elem (p ∷ ps) (x ∷ xs) structs zero q elem lead sound is points =
+param_elem : (ps : List Param) (xs : List Var) (structs : List StructInfo) (n : ℕ) (q : Param) (elem : Elem) (fixed : Bool) → params_lead ps xs ≡ true → list_all (variable_sound structs) xs ≡ true → slice_get ps n ≡ Some q → q.kind ≡ kind.Ptr elem fixed → is_elem (length structs) (Some elem) ≡ true
+param_elem [] xs structs n q elem fixed lead sound is points = cc
+param_elem (p ∷ ps) [] structs n q elem fixed lead sound is points = never lead
+param_elem (p ∷ ps) (x ∷ xs) structs zero q elem fixed lead sound is points =
     let same : param_type p.kind ≡ x.ty = equal_types (param_type p.kind) x.ty (and_left (same_type (param_type p.kind) x.ty) (same_bool p.marked x.marked) (and_left (same_type (param_type p.kind) x.ty && same_bool p.marked x.marked) (params_lead ps xs) lead)) in
     let known = and_left (is_variable_type (length structs) x.ty) (is_small structs x.ty && is_none x.holds) (and_left (variable_sound structs x) (list_all (variable_sound structs) xs) sound) in
     subst (λ z. is_variable_type (length structs) z ≡ true) (sym same ∙ ap (λ (z : Param). param_type z.kind) (one p q is) ∙ ap param_type points) known
   where
     one : (p q : Param) → Some p ≡ Some q → p ≡ q
     one p q e = cc
-param_elem (p ∷ ps) (x ∷ xs) structs (suc n) q elem lead sound is points =
-    param_elem ps xs structs n q elem (and_right (same_type (param_type p.kind) x.ty && same_bool p.marked x.marked) (params_lead ps xs) lead) (and_right (variable_sound structs x) (list_all (variable_sound structs) xs) sound) is points
+param_elem (p ∷ ps) (x ∷ xs) structs (suc n) q elem fixed lead sound is points =
+    param_elem ps xs structs n q elem fixed (and_right (same_type (param_type p.kind) x.ty && same_bool p.marked x.marked) (params_lead ps xs) lead) (and_right (variable_sound structs x) (list_all (variable_sound structs) xs) sound) is points
+
+pub known_elem : (t : TypedTree) (f n : ℕ) (x : FunctionTree) (q : Param) (elem : Elem) (fixed : Bool) → Facts t → slice_get t.functions f ≡ Some x → slice_get x.signature.params n ≡ Some q → q.kind ≡ kind.Ptr elem fixed → is_elem (length t.structs) (Some elem) ≡ true
+known_elem t f n x q elem fixed facts is at points =
+    let sound = all_at (function_sound t) t.functions f x facts.functions is in
+    let lead = and_right (nat_le (length x.signature.params) 8) (params_lead x.signature.params x.vars)
+    (and_left (nat_le (length x.signature.params) 8 && params_lead x.signature.params x.vars) (list_all (variable_sound t.structs) x.vars && body_sound t x x.body) sound) in
+    let vars = and_left (list_all (variable_sound t.structs) x.vars) (body_sound t x x.body)
+    (and_right (nat_le (length x.signature.params) 8 && params_lead x.signature.params x.vars) (list_all (variable_sound t.structs) x.vars && body_sound t x x.body) sound) in
+    param_elem x.signature.params x.vars t.structs n q elem fixed lead vars at points
 
 -- the cells of a pointer's leaves
-pointer_leaves : (structs : List StructInfo) (elem : Elem) (fixed : Bool) → sides.leaves_of structs (Pointer elem fixed) ≡ sides.leaves_of structs (type_of_elem elem)
+pub pointer_leaves : (structs : List StructInfo) (elem : Elem) (fixed : Bool) → sides.leaves_of structs (Pointer elem fixed) ≡ sides.leaves_of structs (type_of_elem elem)
 unfolding sides.leaves_of
 pointer_leaves structs (e.Int t) fixed = refl
 pointer_leaves structs (e.Struct n) fixed = refl
@@ -288,7 +297,7 @@ call_writes t a m f args facts world asked k name named i way is moves v sealed 
     let c = away_called t a f args asked.way in
     let x = crosses t.structs s.params (names_of args) args k i way moves is in
     let at : slice_get c.function.signature.params x.n ≡ Some x.param = subst (λ (z : Signature). slice_get z.params x.n ≡ Some x.param) (sym c.same) x.at in
-    let free = pointer_free t a f x.n args x.param x.elem facts c asked.way at x.points in
+    let free = pointer_free t a f x.n args x.param x.elem false facts c asked.way at x.points in
     let here : (if has_signature t a f then param_class (marks_of t a) t f x.n else integer_class false) ≡ param_class (marks_of t a) t f x.n = if_true (has_signature t a f) (param_class (marks_of t a) t f x.n) (integer_class false) c.has in
     let entry : param_class (marks_of t a) t f x.n ≡ entry_class t f x.n x.param = entry_at t (marks_of t a) f x.n c.function x.param c.is free at in
     let points : (param_class (marks_of t a) t f x.n).pointer ≡ true = ap (λ (z : Class). z.pointer) entry ∙ ap (λ (z : ParamKind). is_pointer (param_type z)) x.points in
@@ -299,12 +308,7 @@ call_writes t a m f args facts world asked k name named i way is moves v sealed 
     (subst (λ z. Fits (called_world (has_signature t a) w) m.active z (cell.Ptr (At x.block x.base x.count x.index))) here
     (fit_at (called_world (has_signature t a) w) m.active (λ n. if has_signature t a f then param_class (marks_of t a) t f n else integer_class false) args x.n (cell.Ptr (At x.block x.base x.count x.index)) asked.fits x.arg)) in
     let r = in_range (is_secret x.param) (range_leaves t.structs x.elem x.count) x.base i way moves x.cross in
-    let sound = all_at (function_sound t) t.functions f c.function facts.functions c.is in
-    let lead = and_right (nat_le (length c.function.signature.params) 8) (params_lead c.function.signature.params c.function.vars)
-    (and_left (nat_le (length c.function.signature.params) 8 && params_lead c.function.signature.params c.function.vars) (list_all (variable_sound t.structs) c.function.vars && body_sound t c.function c.function.body) sound) in
-    let vars = and_left (list_all (variable_sound t.structs) c.function.vars) (body_sound t c.function c.function.body)
-    (and_right (nat_le (length c.function.signature.params) 8 && params_lead c.function.signature.params c.function.vars) (list_all (variable_sound t.structs) c.function.vars && body_sound t c.function c.function.body) sound) in
-    let known = param_elem c.function.signature.params c.function.vars t.structs x.n x.param x.elem lead vars at x.points in
+    let known = known_elem t f x.n c.function x.param x.elem false facts c.is at x.points in
     let g = range_cell t.structs x.elem x.count (i - x.base) r.leaf facts.structs known r.found in
     let inside : g.1 < (param_class (marks_of t a) t f x.n).size = subst (λ z. g.1 < z) (sym size) g.3 in
     let there : cell_at (param_class (marks_of t a) t f x.n).size x.base g.0 + g.1 ≡ i = ap (λ z. cell_at z x.base g.0 + g.1) size ∙ reach x.base i (g.0 * elem_cells (sizes_of t.structs) x.elem) g.1 r.low g.4 in

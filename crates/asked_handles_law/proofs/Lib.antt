@@ -1,0 +1,3 @@
+pub mod Standing
+pub mod Arguments
+pub mod Asking

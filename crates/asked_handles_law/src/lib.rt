@@ -1,0 +1,11 @@
+//! What a slave of an accepted program asks for has its handles under marks alone: for a marked
+//! parameter, behind one, or under a marked field.
+#![tactic(auto)]
+
+ghost use Rattle.asked_handles_law.specs.Laws.{AskedHandlesStand};
+
+/// Whatever replies a slave of an accepted program is given, what its next step asks for has its
+/// handles under the marks of the signature.
+pub fn asked_handles_stand()
+    ensures { AskedHandlesStand }
+{}
