@@ -1,0 +1,4 @@
+pub mod Gates
+pub mod Models
+pub mod Numbers
+pub mod Plain
