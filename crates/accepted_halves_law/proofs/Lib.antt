@@ -1,0 +1,5 @@
+pub mod Members
+pub mod Parted
+pub mod Rules
+pub mod Entries
+pub mod Halves

@@ -1,0 +1,22 @@
+-- The halves of an accepted program are halves of it.
+use Rattle.std.specs.Prelude.{IsTrue}
+use Rattle.typed_tree.specs.TypedTree.{TypedTree}
+use Rattle.typed_tree.specs.WellFormed.{is_well_formed}
+use Rattle.flow_rules.specs.declared.accepted.Accepted.{Accepted}
+use Rattle.flow_rules.specs.Faults.{IsAccepted}
+use Rattle.pt_core.specs.CodeTree.{MonitorTree, SlaveTree}
+use Rattle.pt_core.specs.WellFormed.{slave_program}
+use Rattle.lowering.specs.Functions.{core_program, functions_from}
+use Rattle.splitter.specs.Halves.{halves_of, monitor_of, slave_of}
+use Rattle.pair_invariant.specs.Halves.{AreHalvesOf}
+
+-- the slave's program, whose code is that of the lowering
+abbrev pub slave_half : TypedTree → Accepted → SlaveTree
+slave_half t a = slave_of t (halves_of a.sides) (functions_from t 0 t.functions)
+
+abbrev pub monitor_half : TypedTree → Accepted → MonitorTree
+monitor_half t a = monitor_of t (halves_of a.sides) (functions_from t 0 t.functions)
+
+-- Of a well-formed program that breaks no rule, they are halves of the whole program in the normal form.
+abbrev pub AcceptedHalves : Type 0
+AcceptedHalves = (t : TypedTree) (a : Accepted) → IsTrue (is_well_formed t) → IsAccepted t a → AreHalvesOf (core_program t) (slave_program (slave_half t a)) (monitor_half t a)

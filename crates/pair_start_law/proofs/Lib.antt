@@ -1,0 +1,4 @@
+pub mod Begun
+pub mod Globals
+pub mod Hosts
+pub mod Pairs
