@@ -1,0 +1,31 @@
+//! The pair of an accepted program does what the program does under its policy: its slave and its monitor write what is expected of
+//! the program and end as it does, whatever window they have, in whatever order their turns are taken, and for a monitor whose peer
+//! is any honest one.
+#![tactic(auto)]
+
+ghost use Rattle.accepted_pairs_law.specs.Laws.{AcceptedPairsAreExpected};
+
+use c_lower_law::lowering_keeps_the_run;
+use check_programs_law::programs_are_well_formed;
+use kept_slaves_law::accepted_slaves_stay;
+use pair_calls_law::calls_keep;
+use pair_start_law::{accepted_pairs_begin, boots_are_well_formed};
+use pair_steps_law::{honest_peers_are_expected, the_pair_ends, the_pair_is_expected};
+use said_code_law::checked_programs_place_nulls;
+
+/// The pair of a checked program that breaks no flow rule comes to what is expected of the program under every policy, with the
+/// hosts of every table without faults, every input and every budget.
+pub fn accepted_pairs_are_expected()
+    ensures { AcceptedPairsAreExpected }
+{
+    programs_are_well_formed();
+    checked_programs_place_nulls();
+    boots_are_well_formed();
+    accepted_slaves_stay();
+    accepted_pairs_begin();
+    calls_keep();
+    the_pair_ends();
+    the_pair_is_expected();
+    honest_peers_are_expected();
+    lowering_keeps_the_run();
+}
