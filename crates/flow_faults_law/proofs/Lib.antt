@@ -1,0 +1,3 @@
+mod PrivFindings
+mod FaultOrder
+pub mod Told

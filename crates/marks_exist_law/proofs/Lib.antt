@@ -1,0 +1,3 @@
+mod Ways
+mod SimpleWays
+pub mod Marks

@@ -1,0 +1,5 @@
+mod Sorts
+mod BuildShapes
+mod RuleShapes
+mod StackShapes
+pub mod Outcomes

@@ -1,0 +1,4 @@
+mod VecLists
+mod Counts
+mod Tables
+pub mod AllSides

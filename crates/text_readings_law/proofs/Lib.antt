@@ -1,0 +1,4 @@
+mod TypeFaultOrder
+mod TextTokens
+pub mod Readings
+pub mod TextTrees

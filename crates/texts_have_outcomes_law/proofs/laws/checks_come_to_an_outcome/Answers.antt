@@ -1,0 +1,5 @@
+use Rattle.texts_have_outcomes_law.proofs.Checks.{checks_come}
+use Rattle.texts_have_outcomes_law.proofs.laws.checks_come_to_an_outcome.Goals as goal
+
+pub returns : goal.returns
+returns c = checks_come
