@@ -1,0 +1,5 @@
+pub mod RuleNames
+pub mod Turns
+pub mod Asking
+pub mod Opening
+pub mod Permitting

@@ -1,0 +1,5 @@
+pub mod Blocks
+pub mod Entries
+pub mod Hosts
+pub mod Stores
+pub mod Serving
