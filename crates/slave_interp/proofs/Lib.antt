@@ -1,0 +1,9 @@
+mod BeginLemmas
+mod CallLemmas
+mod HearingLemmas
+mod MovedLemmas
+mod ReachedLemmas
+mod ReturnLemmas
+mod SignedLemmas
+mod SlaveLemmas
+mod WalkLemmas

@@ -1,0 +1,20 @@
+-- What a slave of code does next, as the definitions say it.
+use Rattle.std.specs.Prelude.{Option, Some, None}
+use Rattle.pair_sides.specs.Sides as side
+use Rattle.pair_meaning.specs.SlaveRun as s
+use Rattle.slave_interp.specs.declared.doing.Doing.{Doing}
+use Rattle.slave_interp.specs.declared.doing.Doing.TheVariants as d
+use Rattle.slave_interp.specs.declared.doing.Mode.{Mode}
+use Rattle.slave_interp.specs.declared.doing.Mode.TheVariants as m
+
+-- nothing is said of what is lost
+abbrev pub doing_of : Doing → Option s.Doing
+doing_of d.Goes = Some s.goes
+doing_of (d.Waits callee args) = Some (s.waits_for callee.0 args.items)
+doing_of d.Over = Some s.is_over
+doing_of d.Lost = None
+
+abbrev pub mode_in : Mode → side.Mode
+mode_in m.Going = side.going
+mode_in m.Waits = side.waits
+mode_in m.Over = side.over
