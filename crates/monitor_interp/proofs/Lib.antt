@@ -1,0 +1,5 @@
+pub mod GateLemmas
+pub mod BlockLemmas
+pub mod WorkLemmas
+pub mod CallLemmas
+pub mod MessageLemmas
