@@ -1,0 +1,4 @@
+mod InputLemmas
+pub mod LineLemmas
+pub mod OneOutcome
+mod Parts

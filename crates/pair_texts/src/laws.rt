@@ -1,0 +1,8 @@
+// What holds of all texts.
+ghost use Rattle.pair_texts.specs.Laws.{OutcomeIsOne};
+
+/// Texts come to one outcome at most within a budget of turns, but for the ways by which faults of flows
+/// show how a secret comes there. It does nothing.
+pub fn texts_have_one_outcome()
+    ensures { OutcomeIsOne }
+{}
