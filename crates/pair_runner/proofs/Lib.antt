@@ -1,0 +1,14 @@
+pub mod Causes
+pub mod Counting
+pub mod Finishing
+pub mod Frames
+pub mod Handled
+pub mod Looping
+pub mod Messages
+pub mod Moving
+pub mod Parts
+pub mod Pieces
+pub mod SoFar
+pub mod Spelled
+pub mod Stuck
+pub mod Turning

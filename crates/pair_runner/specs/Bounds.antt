@@ -1,0 +1,24 @@
+-- How many frames a monitor handles.
+use Rattle.std.specs.Prelude.{ℕ, suc, ◌+◌, ◌≤◌, List, [], ◌∷◌}
+use Rattle.pt_base.specs.declared.end.End.{End}
+use Rattle.wire.specs.declared.message.Message.{Message}
+use Rattle.wire.specs.declared.message.ReplyBody.{ReplyBody}
+use Rattle.pair_sides.specs.Sides.{Served, goes_on, ends, bad}
+use Rattle.pair_meaning.specs.Monitors.{Monitor}
+use Rattle.pair_meaning.specs.Rules.{PeerRule}
+use Rattle.pair_meaning.specs.Serving.{serve}
+
+-- a frame was handled, and those behind it where the monitor goes on
+abbrev pub and_behind : Served Monitor ReplyBody End PeerRule → (Monitor → ℕ) → ℕ
+and_behind (goes_on m reply bytes) rest = suc (rest m)
+and_behind (ends bytes end) rest = 1
+and_behind (bad rule) rest = 1
+
+-- how many of these frames are handled: all up to the first at which the monitor doesn't go on
+abbrev pub handled : Monitor → List (Message × ℕ) → ℕ
+handled m [] = 0
+handled m (x ∷ frames) = and_behind (serve m x.0) (λ m. handled m frames)
+
+-- each frame behind which a monitor goes on takes a turn of its budget
+abbrev pub FewAreHandled : Type 0
+FewAreHandled = (m : Monitor) (frames : List (Message × ℕ)) → handled m frames ≤ m.budget + 1

@@ -1,0 +1,7 @@
+pub mod Bounds
+pub mod Faults
+pub mod Laws
+pub mod Outcomes
+pub mod Serves
+pub mod Sending
+pub mod Turns
