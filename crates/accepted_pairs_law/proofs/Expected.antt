@@ -4,6 +4,7 @@ use Rattle.std.specs.Prelude.{All, IsTrue}
 use Rattle.std.specs.List.{list_any}
 use Rattle.pt_tree.specs.ProgramTree.{ItemTree}
 use Rattle.runs.specs.Run.{Expected, expected}
+use Rattle.runs.specs.State.{Hosts}
 use Rattle.host_table.specs.Hosts as table
 use Rattle.host_table.specs.RunHosts.{models_of}
 use Rattle.policy.specs.Answers.{answers_of}
@@ -25,6 +26,8 @@ use Rattle.pair_invariant.specs.Slaves.{Stays}
 use Rattle.pair_steps_law.specs.Ends.{Begins, HonestPeersAreExpected, ThePairEnds, ThePairIsExpected}
 use Rattle.kept_slaves_law.specs.Laws.{AcceptedSlavesStay}
 use Rattle.pair_start_law.specs.Laws.{AcceptedPairsBegin, BootsAreWellFormed, IsAcceptedWith}
+use Rattle.accepted_halves_law.specs.Laws.{monitor_half}
+use Rattle.pair_start_law.specs.Own.{HostsAre, with_hosts}
 use Rattle.pair_start_law.specs.Start.{boot_at, monitor_at, setting_of, slave_at}
 use Rattle.accepted_pairs_law.specs.Laws.{AcceptedPairsAreExpected, DoesWhatIsExpected, MayRun, expected_of}
 
@@ -38,7 +41,7 @@ does calls ends expects honest w b m begins =
 -- ---- the pair of a program
 
 -- what is expected of the setting's whole is what is expected of the program
-same_expected : LoweringKeepsTheRun → (t : TypedTree) (a : Accepted) (policy : Standing) (hosts : table.Hosts) (input : List ℕ) (turns : ℕ) → IsTrue (is_well_formed t) →
+pub same_expected : LoweringKeepsTheRun → (t : TypedTree) (a : Accepted) (policy : Standing) (hosts : table.Hosts) (input : List ℕ) (turns : ℕ) → IsTrue (is_well_formed t) →
     setting_expected (setting_of t a policy hosts input turns) ≡ expected_of t policy hosts input turns
 same_expected lowers t a policy hosts input turns well = ap (expected (answers_of policy)) (lowers t (models_of hosts.models) input turns well)
 
@@ -53,14 +56,20 @@ stays boots slaves t a hosts input turns ready bytes small =
     let reads = list_any (λ h. reads_input h.1) b.hosts in
     slaves t a b.hosts b.input b.turns ready.well_formed ready.accepted (boots t a hosts input turns ready) (bytes_given reads input bytes) small
 
+-- it begins in the invariant
+pub pairs_begin : ProgramsAreWellFormed → CheckedProgramsPlaceNulls → BootsAreWellFormed → AcceptedSlavesStay → AcceptedPairsBegin → (items : List ItemTree) (a : Accepted) (policy : Standing) (hosts : table.Hosts) (input : List ℕ) (turns : ℕ) (own : Hosts) →
+    MayRun items a hosts input turns → HostsAre (monitor_half (checked_program items).tree a) own (models_of hosts.models) →
+    Begins Stays (setting_of (checked_program items).tree a policy hosts input turns) (boot_at (checked_program items).tree a hosts input turns) (with_hosts own (monitor_at (checked_program items).tree a policy hosts input turns))
+pairs_begin programs nulls boots slaves begin items a policy hosts input turns own may are =
+    let t = (checked_program items).tree in
+    let ready : IsAcceptedWith t a hosts = record { well_formed = programs items may.few may.sound may.checked; accepted = may.accepted; has_hosts = may.table } in
+    begin t a policy hosts input turns own ready are (nulls items) may.bytes may.small (stays boots slaves t a hosts input turns ready may.bytes may.small)
+
 pub pairs_are_expected : ProgramsAreWellFormed → CheckedProgramsPlaceNulls → BootsAreWellFormed → AcceptedSlavesStay → AcceptedPairsBegin → CallsKeep Stays → ThePairEnds Stays → ThePairIsExpected Stays → HonestPeersAreExpected Stays →
     LoweringKeepsTheRun → AcceptedPairsAreExpected
-pairs_are_expected programs nulls boots slaves begin calls ends expects honest lowers items a policy hosts input turns may =
+pairs_are_expected programs nulls boots slaves begin calls ends expects honest lowers items a policy hosts input turns own may are =
     let t = (checked_program items).tree in
-    let well : IsTrue (is_well_formed t) = programs items may.few may.sound may.checked in
-    let ready : IsAcceptedWith t a hosts = record { well_formed = well; accepted = may.accepted; has_hosts = may.table } in
-    let w = setting_of t a policy hosts input turns in
-    let begins : Begins Stays w (boot_at t a hosts input turns) (monitor_at t a policy hosts input turns) =
-    begin t a policy hosts input turns ready (nulls items) may.bytes may.small (stays boots slaves t a hosts input turns ready may.bytes may.small) in
-    subst (λ e. DoesWhatIsExpected e (boot_at t a hosts input turns) (monitor_at t a policy hosts input turns)) (same_expected lowers t a policy hosts input turns well)
-    (does calls ends expects honest w (boot_at t a hosts input turns) (monitor_at t a policy hosts input turns) begins)
+    let b = boot_at t a hosts input turns in
+    let m = with_hosts own (monitor_at t a policy hosts input turns) in
+    subst (λ e. DoesWhatIsExpected e b m) (same_expected lowers t a policy hosts input turns (programs items may.few may.sound may.checked))
+    (does calls ends expects honest (setting_of t a policy hosts input turns) b m (pairs_begin programs nulls boots slaves begin items a policy hosts input turns own may are))

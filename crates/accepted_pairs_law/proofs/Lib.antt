@@ -1,1 +1,1 @@
-mod Expected
+pub mod Expected

@@ -5,6 +5,7 @@ use Rattle.pt_tree.specs.Facts.{items_sound}
 use Rattle.pt_tree.specs.Nodes.{nodes_of}
 use Rattle.pt_tree.specs.ProgramTree.{ItemTree}
 use Rattle.runs.specs.Run.{Expected, expected}
+use Rattle.runs.specs.State.{Hosts}
 use Rattle.host_table.specs.Hosts as table
 use Rattle.host_table.specs.RunHosts.{models_of}
 use Rattle.host_table.specs.Whole.{HasHosts}
@@ -23,6 +24,8 @@ use Rattle.pair_sides.specs.Serving.{IsExpected, IsHonest, ended}
 use Rattle.pair_meaning.specs.Monitors.{Monitor}
 use Rattle.pair_meaning.specs.Pair.{IsWhole, both, serve_all, the_sides}
 use Rattle.pair_meaning.specs.SlaveRun.{Slave, longest, slave_of}
+use Rattle.accepted_halves_law.specs.Laws.{monitor_half}
+use Rattle.pair_start_law.specs.Own.{HostsAre, with_hosts}
 use Rattle.pair_start_law.specs.Start.{boot_at, monitor_at}
 
 -- ---- what is asked
@@ -64,7 +67,9 @@ pub record DoesWhatIsExpected (e : Expected) (b : BootTree) (m : Monitor) : Type
 
 -- ---- the law
 
+-- whatever the monitor has beside its own hosts
 abbrev pub AcceptedPairsAreExpected : Type 0
-AcceptedPairsAreExpected = (items : List ItemTree) (a : Accepted) (policy : Standing) (hosts : table.Hosts) (input : List ℕ) (turns : ℕ) → MayRun items a hosts input turns →
+AcceptedPairsAreExpected = (items : List ItemTree) (a : Accepted) (policy : Standing) (hosts : table.Hosts) (input : List ℕ) (turns : ℕ) (own : Hosts) → MayRun items a hosts input turns →
+    HostsAre (monitor_half (checked_program items).tree a) own (models_of hosts.models) →
     DoesWhatIsExpected (expected_of (checked_program items).tree policy hosts input turns)
-    (boot_at (checked_program items).tree a hosts input turns) (monitor_at (checked_program items).tree a policy hosts input turns)
+    (boot_at (checked_program items).tree a hosts input turns) (with_hosts own (monitor_at (checked_program items).tree a policy hosts input turns))

@@ -14,7 +14,7 @@ use pair_steps_law::{honest_peers_are_expected, the_pair_ends, the_pair_is_expec
 use said_code_law::checked_programs_place_nulls;
 
 /// The pair of a checked program that breaks no flow rule comes to what is expected of the program under every policy, with the
-/// hosts of every table without faults, every input and every budget.
+/// hosts of every table without faults, every input and every budget, whatever its monitor has beside its own hosts.
 pub fn accepted_pairs_are_expected()
     ensures { AcceptedPairsAreExpected }
 {

@@ -22,7 +22,7 @@ use Rattle.flow_rules.specs.declared.accepted.Accepted.{Accepted}
 use Rattle.pt_core.specs.CodeTree.{ProgramTree}
 use Rattle.pt_core.specs.BootLaw.{BootsAddHosts}
 use Rattle.pt_core.specs.Calls.{signature_in}
-use Rattle.pt_core.specs.WellFormed.{callee_by, callee_fits, callees, host_by, host_fits, hosts_fit, is_answered, is_plain_host, is_sound, signature_at}
+use Rattle.pt_core.specs.WellFormed.{callee_by, callee_fits, callees, host_by, host_fits, hosts_fit, is_answered, is_plain_host, is_sound, is_well_formed_monitor, signature_at}
 use Rattle.pt_core.proofs.WellFormedLemmas as core_facts
 use Rattle.lowering.specs.Functions.{core_program, signatures_from}
 use Rattle.lowered_names_law.specs.Laws.{LoweredNames}
@@ -34,16 +34,20 @@ use Rattle.split_law.proofs.LoweredCode.{all_signatures, function_of_signature, 
 use Rattle.split_law.proofs.Parts.{part}
 use Rattle.parts_step_law.specs.Parts.{HasSignature}
 use Rattle.slave_soundness_law.specs.Laws.{SlavesBeginSound}
+use Rattle.called_functions_law.specs.Called.{is_called}
 use Rattle.monitor_soundness_law.specs.Laws.{HostsFit}
+use Rattle.serving_soundness_law.specs.Sound.{AskedFit}
+use Rattle.serving_soundness_law.proofs.Entries.{facts_of_entry}
 use Rattle.pair_meaning.specs.Start.{input_for, models_for, reads_input}
 use Rattle.pair_invariant.specs.Halves.{is_asked_for, is_own_host}
 use Rattle.pair_invariant.specs.Hosts.{AllHostsFit, HostsAgree}
-use Rattle.accepted_halves_law.specs.Laws.{slave_half}
+use Rattle.accepted_halves_law.specs.Laws.{monitor_half, slave_half}
 use Rattle.accepted_halves_law.proofs.Entries.{code, is_asked}
 use Rattle.accepted_halves_law.proofs.Halves.{IsKnown, are_halves, asked_there, halves, kept_monitor, kept_slave, known_of, owned, signed_monitor, signed_slave, slave_named, the_monitor, the_slave}
 use Rattle.accepted_halves_law.proofs.Members.{all_at, each_at, said_of}
 use Rattle.accepted_halves_law.proofs.Parted.{named_in, same_signature}
-use Rattle.pair_start_law.specs.Laws.{BootsAreWellFormed, HostsAgreeAtTheStart, MonitorsHostsFit, SlavesOfBootsAreSound}
+use Rattle.pair_start_law.specs.Laws.{AcceptedMonitorsAreWellFormed, BootsAreWellFormed, HostsAgreeAtTheStart, MonitorsHostsServe, SlavesOfBootsAreSound}
+use Rattle.pair_start_law.specs.Own.{HostsAre}
 use Rattle.pair_start_law.specs.Start.{boot_at, slave_at}
 
 -- ---- lists
@@ -247,21 +251,45 @@ callee_signed monitor q f sound called = go (signature_at q f) refl (all_at (cal
     go None e k = never k
     go (Some s) e k = ap is_some e
 
-pub monitor_fits : (t : TypedTree) (a : Accepted) → IsKnown t a → (hosts : Hosts) → HaveModels t hosts → HostsFit (the_monitor t a) hosts
-monitor_fits t a known hosts have f called host =
-    part_fits t (signed_monitor t a) (kept_monitor a) (λ n. not (owned a n)) hosts have f (callee_signed true (the_monitor t a) f known.monitor_sound (among_from (callees (the_monitor t a)) f called)) host
+call_signed : (t : TypedTree) (a : Accepted) → IsKnown t a → (f : ℕ) → IsTrue (is_called (the_monitor t a) f) → HasSignature (the_monitor t a) f
+call_signed t a known f called = callee_signed true (the_monitor t a) f known.monitor_sound (among_from (callees (the_monitor t a)) f called)
 
-pub monitors_fit : AcceptedShareNothing → SlavesAreWellFormed → MonitorsAreWellFormed → LoweredNames → MonitorsHostsFit
-monitors_fit shares slaves monitors names t a hosts ready =
-    monitor_fits t a (known_of shares slaves monitors names t a ready.well_formed ready.accepted) (models_of hosts.models) (models_fit t hosts ready.has_hosts)
+-- each host that it has a signature for has a model that fits
+monitor_fits : (t : TypedTree) (a : Accepted) (hosts : Hosts) → HaveModels t hosts → AllHostsFit (the_monitor t a) hosts
+monitor_fits t a hosts have = part_fits t (signed_monitor t a) (kept_monitor a) (λ n. not (owned a n)) hosts have
+
+called_fit : (t : TypedTree) (a : Accepted) → IsKnown t a → (hosts : Hosts) → HaveModels t hosts → HostsFit (the_monitor t a) hosts
+called_fit t a known hosts have f called host = monitor_fits t a hosts have f (call_signed t a known f called) host
+
+-- so have its own hosts
+pub own_fit : (t : TypedTree) (a : Accepted) → IsKnown t a → (hosts own : Hosts) → HaveModels t hosts → HostsAre (monitor_half t a) own hosts → HostsFit (the_monitor t a) own
+own_fit t a known hosts own have are f called host =
+    subst (λ (m : HostModel). IsTrue (fits m (signature_in (the_monitor t a) f))) (sym (are f (call_signed t a known f called) host)) (called_fit t a known hosts have f called host)
+
+-- what may be asked for has its signature
+asked_fit : (t : TypedTree) (a : Accepted) → IsTrue (is_well_formed_monitor (monitor_half t a)) → (hosts : Hosts) → HaveModels t hosts → AskedFit (monitor_half t a) hosts
+asked_fit t a well hosts have f s entry host =
+    let facts = facts_of_entry (monitor_half t a) f s well entry in
+    subst (λ (z : Signature). IsTrue (fits (hosts f) z)) facts.signature (monitor_fits t a hosts have f (ap is_some facts.signed) (ap (λ (z : Signature). z.host) facts.signature ∙ host))
+
+pub monitors_well_formed : AcceptedShareNothing → MonitorsAreWellFormed → AcceptedMonitorsAreWellFormed
+monitors_well_formed shares monitors t a hosts ready = let apart = shares t a ready.accepted in monitors t (halves a) ready.well_formed apart.0 apart.1
+
+pub hosts_serve : AcceptedShareNothing → SlavesAreWellFormed → MonitorsAreWellFormed → LoweredNames → MonitorsHostsServe
+hosts_serve shares slaves monitors names t a hosts ready =
+    let have = models_fit t hosts ready.has_hosts in
+    record {
+      called = called_fit t a (known_of shares slaves monitors names t a ready.well_formed ready.accepted) (models_of hosts.models) have;
+      asked = asked_fit t a (monitors_well_formed shares monitors t a hosts ready) (models_of hosts.models) have;
+    }
 
 -- ---- all of them
 
-pub agree_at_start : (t : TypedTree) (a : Accepted) → IsKnown t a → (hosts : table.Hosts) (input : List ℕ) (budget : ℕ) → HaveModels t (models_of hosts.models) →
-    HostsAgree (the_slave t a) (the_monitor t a) (models_of hosts.models) input (slave_at t a hosts input budget).hosts (slave_at t a hosts input budget).input (models_of hosts.models)
-agree_at_start t a known hosts input budget have = record {
+pub agree_at_start : (t : TypedTree) (a : Accepted) → IsKnown t a → (hosts : table.Hosts) (input : List ℕ) (budget : ℕ) (own : Hosts) → HaveModels t (models_of hosts.models) → HostsAre (monitor_half t a) own (models_of hosts.models) →
+    HostsAgree (the_slave t a) (the_monitor t a) (models_of hosts.models) input (slave_at t a hosts input budget).hosts (slave_at t a hosts input budget).input own
+agree_at_start t a known hosts input budget own have are = record {
   slave_has = λ f has own. ap model_or_none (said_of (λ (n : ℕ). n) whole f (own_hosts t a) (contains_map (λ (n : ℕ). n) (own_hosts t a) f (own_there t a known f has own)));
-  monitor_has = λ f has host. refl;
+  monitor_has = are;
   reads = λ f has own read. ap (λ (b : Bool). if b then input else [])
       (some_passes (λ (h : ℕ × HostModel). reads_input h.1) (models_for whole (own_hosts t a)) (f, whole f) (contains_map (λ (n : ℕ). (n, whole n)) (own_hosts t a) f (own_there t a known f has own)) read);
   stays = λ f has own too args. tables_stay input args (whole f) (signature_in (the_slave t a) f) (mixed f has own too) (fit f has own);
@@ -289,5 +317,5 @@ agree_at_start t a known hosts input budget have = record {
         by_marks s.privileged s.host (is_mixed s) own (ap is_asked_for (sym same) ∙ both.hosts f too (ap (λ (z : Signature). z.host) same ∙ and_left s.host (not s.privileged) own))
 
 pub hosts_agree : AcceptedShareNothing → SlavesAreWellFormed → MonitorsAreWellFormed → LoweredNames → HostsAgreeAtTheStart
-hosts_agree shares slaves monitors names t a hosts input budget ready =
-    agree_at_start t a (known_of shares slaves monitors names t a ready.well_formed ready.accepted) hosts input budget (models_fit t hosts ready.has_hosts)
+hosts_agree shares slaves monitors names t a hosts input budget own ready are =
+    agree_at_start t a (known_of shares slaves monitors names t a ready.well_formed ready.accepted) hosts input budget own (models_fit t hosts ready.has_hosts) are

@@ -33,6 +33,6 @@ boot_at t a hosts input budget = boot_of (slave_half t a) (models_of hosts.model
 abbrev pub slave_at : TypedTree → Accepted → table.Hosts → List ℕ → ℕ → Slave
 slave_at t a hosts input budget = slave_of (boot_at t a hosts input budget)
 
--- the monitor has all hosts
+-- the monitor, with all hosts
 abbrev pub monitor_at : TypedTree → Accepted → Standing → table.Hosts → List ℕ → ℕ → Monitor
 monitor_at t a policy hosts input budget = monitor_start (monitor_half t a) (models_of hosts.models) input policy budget

@@ -2,7 +2,7 @@
 //! what both machines show together is where the whole begins.
 #![tactic(auto)]
 
-ghost use Rattle.pair_start_law.specs.Laws.{AcceptedPairsBegin, BootsAreWellFormed, HostsAgreeAtTheStart, MonitorsHostsFit, SlavesOfBootsAreSound};
+ghost use Rattle.pair_start_law.specs.Laws.{AcceptedMonitorsAreWellFormed, AcceptedPairsBegin, BootsAreWellFormed, HostsAgreeAtTheStart, MonitorsHostsServe, SlavesOfBootsAreSound};
 
 use half_declarations_law::monitors_are_said;
 use lowered_names_law::lowered_code_names_what_the_body_names;
@@ -32,9 +32,17 @@ pub fn slaves_of_boots_are_sound()
     slaves_begin_sound();
 }
 
-/// Each host that the monitor of an accepted program calls has a model that fits.
-pub fn monitors_hosts_fit()
-    ensures { MonitorsHostsFit }
+/// The monitor of an accepted program is well formed.
+pub fn accepted_monitors_are_well_formed()
+    ensures { AcceptedMonitorsAreWellFormed }
+{
+    accepted_programs_share_nothing();
+    monitors_are_well_formed();
+}
+
+/// Each host that the monitor of an accepted program calls, or that it may be asked for, has a model that may stand for it.
+pub fn monitors_hosts_serve()
+    ensures { MonitorsHostsServe }
 {
     accepted_programs_share_nothing();
     slaves_are_well_formed();
@@ -42,7 +50,8 @@ pub fn monitors_hosts_fit()
     lowered_code_names_what_the_body_names();
 }
 
-/// The hosts of a table without faults agree for the whole, the slave and the monitor of an accepted program.
+/// The hosts of a table without faults agree for the whole, the slave and the monitor of an accepted program, whatever the monitor
+/// has beside its own.
 pub fn hosts_agree_at_the_start()
     ensures { HostsAgreeAtTheStart }
 {
@@ -52,7 +61,8 @@ pub fn hosts_agree_at_the_start()
     lowered_code_names_what_the_body_names();
 }
 
-/// The slave and the monitor of an accepted program begin live, in a setting of which all is known that the invariant asks.
+/// The slave and the monitor of an accepted program begin live, in a setting of which all is known that the invariant asks, whatever
+/// the monitor has beside its own hosts.
 pub fn accepted_pairs_begin()
     ensures { AcceptedPairsBegin }
 {

@@ -1,9 +1,13 @@
-//! What the slave and the monitor of faultless texts start from is well formed.
+//! What the slave and the monitor of faultless texts start from is well formed, and the pair of both does what is expected of the
+//! program that the texts give.
 #![tactic(auto)]
 
-ghost use Rattle.pair_texts_law.specs.Laws.{BegunBootsAreWellFormed, BegunMonitorsHostsFit};
+ghost use Rattle.pair_texts_law.specs.Laws.{BegunBootsAreWellFormed, BegunMonitorsAreWellFormed, BegunMonitorsHostsServe, BegunPairsAreExpected};
 
-use pair_start_law::{boots_are_well_formed, monitors_hosts_fit};
+use accepted_pairs_law::accepted_pairs_are_expected;
+use pair_start_law::{
+    accepted_monitors_are_well_formed, boots_are_well_formed, monitors_hosts_serve,
+};
 
 /// The boot with which a pair begins is well formed, with a model for each of the slave's own hosts.
 pub fn begun_boots_are_well_formed()
@@ -12,9 +16,24 @@ pub fn begun_boots_are_well_formed()
     boots_are_well_formed();
 }
 
-/// Each host that the monitor of a pair that begins calls has a model that fits.
-pub fn begun_monitors_hosts_fit()
-    ensures { BegunMonitorsHostsFit }
+/// So is the program of its monitor.
+pub fn begun_monitors_are_well_formed()
+    ensures { BegunMonitorsAreWellFormed }
 {
-    monitors_hosts_fit();
+    accepted_monitors_are_well_formed();
+}
+
+/// Each host that the monitor of a pair that begins calls, or that it may be asked for, has a model that may stand for it.
+pub fn begun_monitors_hosts_serve()
+    ensures { BegunMonitorsHostsServe }
+{
+    monitors_hosts_serve();
+}
+
+/// A pair that begins writes and ends as its program does under its policy, with every input of bytes and every budget, whatever its
+/// monitor has beside its own hosts.
+pub fn begun_pairs_are_expected()
+    ensures { BegunPairsAreExpected }
+{
+    accepted_pairs_are_expected();
 }

@@ -13,7 +13,7 @@ use Rattle.front_end.specs.Reading.{IsProgram}
 use Rattle.text_readings_law.specs.Laws.{TreesOfTextsAreWellFormed}
 use Rattle.text_readings_law.proofs.TextTokens.{tokens_few, values_fit}
 
-program_sound : (text : List ℕ) (program : List ItemTree) → IsProgram text program → (parsed.nodes_of program < 2 ^ 22) × IsTrue (items_sound program)
+pub program_sound : (text : List ℕ) (program : List ItemTree) → IsProgram text program → (parsed.nodes_of program < 2 ^ 22) × IsTrue (items_sound program)
 program_sound text program is =
     let short : length text ≤ 1048576 = is.lexed.short in
     let facts = program_facts (Some deepest) is.tokens is.parses.0 program (values_fit text is.tokens short is.lexed.lexes) is.parses.1 in
