@@ -1,0 +1,2 @@
+mod Memories
+mod Revealed
