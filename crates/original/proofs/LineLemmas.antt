@@ -1,17 +1,13 @@
 -- The lines that answers hold are those of the texts' faults.
-use Rattle.std.proofs.Common.{◌≡◌, ◌≢◌, ℕ, List, [], Some, None, Result, Err, ◌∙◌, ap, subst}
-use Rattle.pt_tree.specs.declared.signature.Signature.{Signature}
+use Rattle.std.proofs.Common.{◌≡◌, ◌≢◌, ℕ, List, [], Some, None, Err}
 use Rattle.typed_tree.specs.TypedTree.{TypedTree, signatures_of}
 use Rattle.front_end.specs.declared.error.FrontError.{FrontError}
 use Rattle.front_end.specs.declared.error.FrontError.TheVariants.{Lex, Parse, Types, Memory}
 use Rattle.front_end.specs.Reading.{HasTypedTree, Reads}
 use Rattle.host_table.specs.declared.fault.HostFault.{HostFault}
-use Rattle.host_table.specs.declared.fault.HostError.{HostError}
-use Rattle.host_table.specs.declared.fault.HostError.TheVariants.{Faults}
-use Rattle.host_table.specs.declared.host.Host.{Host}
-use Rattle.host_table.specs.HostFaults.{host_faults, IsReading}
+use Rattle.host_table.specs.HostFaults.{host_faults}
 use Rattle.fault_lines.specs.FrontLines.{front_lines}
-use Rattle.original.specs.HostLines.{host_lines}
+use Rattle.host_lines.specs.HostLines.{host_lines}
 use Rattle.original.specs.Original.{Texts, lex, parse, types, host}
 use Rattle.original.specs.OutcomeSeen.{AreLinesOf}
 
@@ -30,8 +26,3 @@ front_are t Memory lines reads is = absurd (some_none lines is)
 pub host_are : (t : Texts) (tree : TypedTree) (faults : List HostFault) (lines : List ℕ) → HasTypedTree t.program tree
     → faults ≡ host_faults t.host (signatures_of tree) → faults ≢ [] → lines ≡ host_lines tree faults → AreLinesOf t lines
 host_are t tree faults lines has are some is = record { refusal = host tree faults; is = (has, are, some); lines_are = is }
-
--- the faults that reading a table answered
-pub faults_are : (table : List ℕ) (fns : List Signature) (r : Result Host HostError) (e : HostError) (faults : List HostFault) → IsReading table fns r
-    → r ≡ Err e → e ≡ Faults faults → (faults ≡ host_faults table fns) × (faults ≢ [])
-faults_are table fns r e faults reading is same = subst (IsReading table fns) (is ∙ ap Err same) reading

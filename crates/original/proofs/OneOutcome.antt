@@ -8,7 +8,8 @@ use Rattle.host_table.specs.Hosts.{Hosts}
 use Rattle.host_table.specs.RunHosts.{models_of}
 use Rattle.runs.specs.Run.{Run, written}
 use Rattle.source_meaning.specs.WholeRun.{whole_run}
-use Rattle.original.specs.Original.{Texts, most, lex, parse, types, host, input, GivesHosts, Outcome, refused, ran, ComesTo, OutcomeIsOne}
+use Rattle.host_lines.specs.GivenHosts.{most, GivesHosts}
+use Rattle.original.specs.Original.{Texts, lex, parse, types, host, input, Outcome, refused, ran, ComesTo, OutcomeIsOne}
 
 abbrev seen_of : Run → Outcome
 seen_of run = ran (written run.events) run.end

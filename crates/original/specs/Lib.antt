@@ -1,4 +1,3 @@
-pub mod HostLines
 pub mod Original
 pub mod OutcomeSeen
 pub mod Seen

@@ -1,5 +1,5 @@
 -- What a program comes to with its host table and its input, within a budget of turns.
-use Rattle.std.specs.Prelude.{◌≡◌, ◌≢◌, ◌≤◌, ◌<◌, ℕ, List, [], length, take, Some, option_map}
+use Rattle.std.specs.Prelude.{◌≡◌, ◌≢◌, ◌≤◌, ◌<◌, ℕ, List, [], length, take}
 use Rattle.pt_base.specs.declared.end.End.{End}
 use Rattle.c_lexer.specs.declared.error.LexFault.{LexFault}
 use Rattle.check_declarations.specs.declared.fault.TypeFault.{TypeFault}
@@ -7,23 +7,20 @@ use Rattle.typed_tree.specs.TypedTree.{TypedTree, signatures_of}
 use Rattle.front_end.specs.declared.parse_fault.ParseFault.{ParseFault}
 use Rattle.front_end.specs.Reading.{HasTypedTree, ComesTo as ReadsAs, lex_fault, parse_fault, type_faults_of}
 use Rattle.host_table.specs.declared.fault.HostFault.{HostFault}
-use Rattle.host_table.specs.HostFaults.{host_faults, reading_of, table_hosts}
+use Rattle.host_table.specs.HostFaults.{host_faults}
 use Rattle.host_table.specs.Hosts.{Hosts}
 use Rattle.host_table.specs.RunHosts.{models_of}
 use Rattle.runs.specs.Run.{Run, written}
 use Rattle.source_meaning.specs.WholeRun.{whole_run}
 use Rattle.fault_lines.specs.FaultLines.{lex_line, parse_line, type_lines}
-use Rattle.original.specs.HostLines.{host_lines, input_line}
+use Rattle.host_lines.specs.GivenHosts.{most, GivesHosts}
+use Rattle.host_lines.specs.HostLines.{host_lines, input_line}
 
 -- The three texts of a run.
 pub record Texts : Type 0 where
   pub program : List ℕ
   pub host : List ℕ
   pub input : List ℕ
-
--- the most bytes that an input may have
-abbrev pub most : ℕ
-most = 1048576
 
 -- Why texts aren't run: the faults of the first stage that has one.
 pub data Refusal : Type 0 where
@@ -42,11 +39,6 @@ lines_of (parse fault) = parse_line fault
 lines_of (types faults) = type_lines faults
 lines_of (host tree faults) = host_lines tree faults
 lines_of input = input_line
-
--- the table has no faults for the program of this tree, and gives these hosts
-pub record GivesHosts (table : List ℕ) (tree : TypedTree) (hosts : Hosts) : Type 0 where
-  pub faultless : host_faults table (signatures_of tree) ≡ []
-  pub given : option_map (λ value. table_hosts value (signatures_of tree)) (reading_of table) ≡ Some hosts
 
 -- the program has this typed tree, and the table gives these hosts for it
 pub record AreRead (t : Texts) (tree : TypedTree) (hosts : Hosts) : Type 0 where

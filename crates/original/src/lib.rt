@@ -2,7 +2,6 @@
 //! ends, or to the faults of the first stage that has one. No policy is asked.
 #![tactic(auto)]
 
-mod host_lines;
 mod laws;
 mod outcome;
 mod running;
@@ -11,6 +10,3 @@ mod stages;
 pub use laws::{first_bytes_are_enough, seen_is_one, texts_have_one_outcome};
 pub use outcome::{Ended, Outcome};
 pub use stages::outcome_of;
-
-/// An input may have this many bytes.
-pub const INPUT_LIMIT: usize = 1_048_576;

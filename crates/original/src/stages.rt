@@ -4,15 +4,15 @@ ghost use Rattle.front_end.specs.Reading.{HasTypedTree};
 ghost use Rattle.host_table.specs.Hosts.{hosts_of};
 ghost use Rattle.typed_tree.specs.TypedView.{view_typed};
 ghost use Rattle.program_run.specs.HostGates.{AreOf};
-ghost use Rattle.original.specs.Original.{Texts, GivesHosts};
+ghost use Rattle.host_lines.specs.GivenHosts.{GivesHosts};
+ghost use Rattle.original.specs.Original.{Texts};
 ghost use Rattle.original.specs.OutcomeSeen.{IsOutcome};
 
-use crate::INPUT_LIMIT;
-use crate::host_lines::host_lines;
 use crate::outcome::Outcome;
 use crate::running::run;
 use fault_lines::front_lines;
 use front_end::read_program;
+use host_lines::{INPUT_LIMIT, host_lines, input_line};
 use host_table::{Host, HostError, read_host};
 use pt_base::Watch;
 use std::alloc::{AllocError, Global};
@@ -81,7 +81,7 @@ fn with_hosts<R: Threads + Sync, W: Watch>(
         → IfOk result (IsOutcome t turns) }
 {
     if input.len() > INPUT_LIMIT {
-        return Ok(Outcome::Refused(Vec::from_slice(alloc, b"input 1 TooLong\n")?));
+        return Ok(Outcome::Refused(input_line(alloc)?));
     }
     let mut hosts = hosts;
     hosts.give(alloc, input)?;

@@ -19,8 +19,8 @@ use Rattle.flow_rules.specs.Faults.{IsAccepted}
 use Rattle.flow_check.specs.Checked.{HasFlowFaults}
 use Rattle.flow_check.specs.FlowLines.{flow_lines}
 use Rattle.fault_lines.specs.FrontLines.{front_lines}
-use Rattle.original.specs.HostLines.{host_lines, input_line}
-use Rattle.original.specs.Original.{GivesHosts, most}
+use Rattle.host_lines.specs.GivenHosts.{GivesHosts, most}
+use Rattle.host_lines.specs.HostLines.{host_lines, input_line}
 use Rattle.pair_texts.specs.OutcomeSeen.{AreLinesOf}
 use Rattle.pair_texts.specs.Start.{AreRead, Texts, flow, host, input, lex, parse, policy, policy_line, types}
 

@@ -1,7 +1,5 @@
 -- Texts come to one outcome at most, but for the ways that their faults show.
-use Rattle.std.proofs.Common.{◌≡◌, ◌≢◌, ◌≤◌, ◌<◌, ◌⊎◌, ℕ, List, [], length, map, Some, refl, sym, ◌∙◌, ap, subst, inl, inr, arith}
-use Rattle.pt_base.specs.declared.ids.FnId.{FnId}
-use Rattle.pt_base.specs.declared.ids.GlobalId.{GlobalId}
+use Rattle.std.proofs.Common.{◌≡◌, ◌≢◌, ◌≤◌, ◌<◌, ◌⊎◌, ℕ, List, [], length, Some, refl, sym, ◌∙◌, ap, subst, inl, inr, arith}
 use Rattle.typed_tree.specs.TypedTree.{TypedTree, signatures_of}
 use Rattle.front_end.specs.Reading.{Reading, typed_tree, lex_fault, parse_fault, type_faults_of, ComesTo as ReadsAs}
 use Rattle.front_end.proofs.OneReading.{reading_is_one}
@@ -13,28 +11,18 @@ use Rattle.policy.specs.declared.rule.Rule.{Rule}
 use Rattle.policy.specs.PolicyFault.{IsPolicy, IsPolicyFault}
 use Rattle.policy.specs.Verdicts.{start}
 use Rattle.policy.proofs.LawLemmas.{fault_is_one, policy_is_one, policy_or_fault_lem}
-use Rattle.sides.specs.declared.halves.Sides.{Sides}
-use Rattle.sides.specs.Placed.{AreSides}
 use Rattle.lowering.specs.Functions.{functions_from}
 use Rattle.flow_rules.specs.declared.accepted.Accepted.{Accepted}
 use Rattle.flow_rules.specs.declared.fault.FlowFault.{FlowFault}
 use Rattle.flow_rules.specs.Faults.{IsAccepted}
 use Rattle.splitter.specs.Halves.{Halves, halves_of, slave_of, monitor_of}
 use Rattle.flow_check.specs.Checked.{HasFlowFaults}
-use Rattle.flow_check.proofs.OneOutcome.{accepted_or_faulty, faults_differ_in_ways, same_slave, same_monitor, same_owned}
-use Rattle.original.specs.Original.{GivesHosts, most}
+use Rattle.flow_check.proofs.OneOutcome.{accepted_or_faulty, faults_differ_in_ways}
+use Rattle.host_lines.specs.GivenHosts.{GivesHosts, most}
+use Rattle.program_halves.proofs.OneHalves.{same_halves}
 use Rattle.pair_meaning.specs.Start.{boot_of, monitor_start}
 use Rattle.pair_texts.specs.Start.{Texts, flow, host, input, lex, parse, policy, types}
 use Rattle.pair_texts.specs.Laws.{ComesTo, Outcome, OutcomeIsOne, begins, refused, without_ways}
-
--- ---- halves
-
-same_halves : (t : TypedTree) (s s' : Sides) → AreSides t s → AreSides t s' → halves_of s ≡ halves_of s'
-same_halves t s s' are are' = λ i. record {
-  slave = map (λ (f : FnId). f.0) (same_slave t s s' are are' i);
-  monitor = map (λ (f : FnId). f.0) (same_monitor t s s' are are' i);
-  owned = map (λ (g : GlobalId). g.0) (same_owned t s s' are are' i);
-}
 
 -- where both begin of these halves
 abbrev begun_of : Texts → ℕ → TypedTree → Hosts → List Rule → Halves → Outcome

@@ -1,36 +1,21 @@
 -- What the parts of a pair come to together.
-use Rattle.std.proofs.Common.{◌≡◌, ◌≤◌, ◌∙◌, ap, ℕ, List, IfOk, Result, Ok, Err, IsTrue, length}
+use Rattle.std.proofs.Common.{◌≡◌, ◌≤◌, ◌∙◌, ap, ℕ, List, IsTrue, length}
 use Rattle.front_end.specs.Reading.{HasTypedTree}
 use Rattle.typed_tree.specs.TypedTree.{TypedTree, signatures_of}
 use Rattle.typed_tree.specs.WellFormed.{is_well_formed}
 use Rattle.host_table.specs.Hosts.{Hosts}
 use Rattle.host_table.specs.RunHosts.{models_of}
 use Rattle.host_table.specs.Whole.{HasHosts}
-use Rattle.pt_core.specs.declared.monitor.MonitorProgram.{MonitorProgram}
-use Rattle.pt_core.specs.declared.slave.SlaveProgram.{SlaveProgram}
-use Rattle.pt_core.specs.CodeTree.{BootTree, FunctionTree, SlaveTree, MonitorTree, view_slave, view_monitor}
-use Rattle.lowering.specs.Functions.{functions_from}
+use Rattle.pt_core.specs.CodeTree.{BootTree, SlaveTree, MonitorTree}
 use Rattle.flow_rules.specs.declared.accepted.Accepted.{Accepted}
 use Rattle.flow_rules.specs.Faults.{IsAccepted}
 use Rattle.policy.specs.PolicyFault.{IsPolicy}
 use Rattle.policy.specs.Verdicts.{Standing, start}
-use Rattle.splitter.specs.Halves.{halves_of, slave_of, monitor_of}
-use Rattle.original.specs.Original.{GivesHosts, most}
-use Rattle.program_split.specs.Programs.{AreHalves}
-use Rattle.program_split.specs.Split.{monitor_half, slave_half}
+use Rattle.host_lines.specs.GivenHosts.{GivesHosts, most}
+use Rattle.program_halves.specs.ProgramHalves.{AreHalves, monitor_half, slave_half}
 use Rattle.pair_meaning.specs.Start.{boot_of, monitor_start}
 use Rattle.pair_texts.specs.OutcomeSeen.{AreParts, HaveBegun}
-use Rattle.pair_texts.specs.Start.{Texts}
-
-are_halves : (t : TypedTree) (a : Accepted) (code : List FunctionTree) (slave : SlaveTree) (monitor : MonitorTree) → code ≡ functions_from t 0 t.functions
-    → slave ≡ slave_of t (halves_of a.sides) code → monitor ≡ monitor_of t (halves_of a.sides) code → AreHalves t a slave monitor
-are_halves t a code slave monitor is s m = (s ∙ ap (slave_of t (halves_of a.sides)) is, m ∙ ap (monitor_of t (halves_of a.sides)) is)
-
-pub halves_are : {E : Type 0} (t : TypedTree) (a : Accepted) (code : List FunctionTree) (r : Result (SlaveProgram × MonitorProgram) E) → code ≡ functions_from t 0 t.functions
-    → IfOk r (λ x. view_slave x.0 ≡ slave_of t (halves_of a.sides) code) → IfOk r (λ x. view_monitor x.1 ≡ monitor_of t (halves_of a.sides) code)
-    → IfOk r (λ x. AreHalves t a (view_slave x.0) (view_monitor x.1))
-halves_are t a code (Ok x) is s m = are_halves t a code (view_slave x.0) (view_monitor x.1) is s m
-halves_are t a code (Err e) is s m = tt
+use Rattle.pair_texts.specs.Start.{Texts, names_of}
 
 pub parts_are : (t : TypedTree) (a : Accepted) (hosts : Hosts) (input : List ℕ) (turns : ℕ) (slave : SlaveTree) (monitor : MonitorTree) (boot : BootTree)
     → AreHalves t a slave monitor → boot ≡ boot_of slave (models_of hosts.models) input turns → AreParts t a hosts input turns boot monitor
@@ -45,22 +30,25 @@ same_monitor : (input : List ℕ) (turns : ℕ) (half half' : MonitorTree) (give
     → monitor_start half (models_of given.models) given.input policy turns ≡ monitor_start half' (models_of hosts.models) input policy' turns
 same_monitor input turns half half' given hosts policy policy' h g p = λ i. monitor_start (h i) (models_of (g i).models) (g i).input (p i) turns
 
-pub started : (t : Texts) (turns : ℕ) (tree : TypedTree) (a : Accepted) (hosts given : Hosts) (policy : Standing) (boot : BootTree) (monitor : MonitorTree)
+pub started : (t : Texts) (turns : ℕ) (tree : TypedTree) (a : Accepted) (hosts given : Hosts) (policy : Standing) (boot : BootTree) (monitor : MonitorTree) (names : List (List ℕ))
     → HasTypedTree t.program tree → IsTrue (is_well_formed tree) → GivesHosts t.host tree hosts → HasHosts hosts (signatures_of tree) → IsPolicy (signatures_of tree) t.policy policy.rules → policy ≡ start policy.rules
-    → IsAccepted tree a → length t.input ≤ most → given ≡ record hosts { input = t.input } → AreParts tree a given t.input turns boot monitor
-    → HaveBegun t turns boot (monitor_start monitor (models_of given.models) given.input policy turns)
-started t turns tree a hosts given policy boot monitor has well gives fit is begins accepted short same parts = record {
-  well_formed = well;
-  has_hosts = fit;
-  started = record {
-    tree = tree;
-    hosts = hosts;
-    rules = policy.rules;
-    accepted = a;
-    read = record { program = has; table = gives; policy = is };
-    is = accepted;
-    short = short;
-    boot_is = parts.boot_is ∙ (λ i. boot_of (slave_half tree a) (models_of (same i).models) t.input turns);
-    monitor_is = same_monitor t.input turns monitor (monitor_half tree a) given hosts policy (start policy.rules) parts.monitor_is same begins;
-  };
-}
+    → IsAccepted tree a → length t.input ≤ most → given ≡ record hosts { input = t.input } → AreParts tree a given t.input turns boot monitor → names ≡ names_of tree
+    → (b : HaveBegun t turns boot (monitor_start monitor (models_of given.models) given.input policy turns)) × (names ≡ names_of b.started.tree)
+started t turns tree a hosts given policy boot monitor names has well gives fit is begins accepted short same parts named = (
+  record {
+    well_formed = well;
+    has_hosts = fit;
+    started = record {
+      tree = tree;
+      hosts = hosts;
+      rules = policy.rules;
+      accepted = a;
+      read = record { program = has; table = gives; policy = is };
+      is = accepted;
+      short = short;
+      boot_is = parts.boot_is ∙ (λ i. boot_of (slave_half tree a) (models_of (same i).models) t.input turns);
+      monitor_is = same_monitor t.input turns monitor (monitor_half tree a) given hosts policy (start policy.rules) parts.monitor_is same begins;
+    };
+  },
+  named,
+)

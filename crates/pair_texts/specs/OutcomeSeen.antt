@@ -6,7 +6,7 @@ use Rattle.host_table.specs.Hosts.{Hosts, hosts_of}
 use Rattle.host_table.specs.RunHosts.{models_of}
 use Rattle.host_table.specs.Whole.{HasHosts}
 use Rattle.flow_rules.specs.declared.accepted.Accepted.{Accepted}
-use Rattle.program_split.specs.Split.{monitor_half, slave_half}
+use Rattle.program_halves.specs.ProgramHalves.{monitor_half, slave_half}
 use Rattle.pt_core.specs.CodeTree.{BootTree, MonitorTree, view_boot, view_monitor}
 use Rattle.pair_meaning.specs.Monitors.{Monitor}
 use Rattle.pair_meaning.specs.Start.{boot_of, monitor_start}
@@ -14,7 +14,7 @@ use Rattle.pair_texts.specs.declared.outcome.Outcome.{Outcome}
 use Rattle.pair_texts.specs.declared.outcome.Outcome.TheVariants.{Refused, Begins}
 use Rattle.pair_texts.specs.declared.outcome.Pair.{Pair}
 use Rattle.pair_texts.specs.declared.stages.Beside.{Beside}
-use Rattle.pair_texts.specs.Start.{AreStarted, IsRefused, Refusal, Texts, lines_of}
+use Rattle.pair_texts.specs.Start.{AreStarted, IsRefused, Refusal, Texts, lines_of, names_of}
 
 abbrev pub texts_with : List ℕ → Beside → Texts
 texts_with program beside = record { program = program; host = beside.host.now; policy = beside.policy.now; input = beside.input.now }
@@ -43,4 +43,4 @@ pub record HaveBegun (t : Texts) (turns : ℕ) (boot : BootTree) (monitor : Moni
 -- the answer is what the texts come to
 abbrev pub IsOutcome : Texts → ℕ → Outcome → Type 0
 IsOutcome t turns (Refused lines) = AreLinesOf t lines.items
-IsOutcome t turns (Begins pair) = HaveBegun t turns (view_boot pair.boot) (monitor_in pair turns)
+IsOutcome t turns (Begins pair) = (b : HaveBegun t turns (view_boot pair.boot) (monitor_in pair turns)) × (pair.names ≡ names_of b.started.tree)

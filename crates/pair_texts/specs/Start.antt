@@ -1,5 +1,5 @@
 -- What the texts of a pair come to: where its slave and its monitor begin, or why they don't.
-use Rattle.std.specs.Prelude.{◌≡◌, ◌≢◌, ◌<◌, ◌≤◌, ℕ, List, [], ◌++◌, length, codes}
+use Rattle.std.specs.Prelude.{◌≡◌, ◌≢◌, ◌<◌, ◌≤◌, ℕ, List, [], ◌++◌, length, map, codes}
 use Rattle.c_lexer.specs.declared.error.LexFault.{LexFault}
 use Rattle.check_declarations.specs.declared.fault.TypeFault.{TypeFault}
 use Rattle.typed_tree.specs.TypedTree.{TypedTree, signatures_of}
@@ -20,9 +20,9 @@ use Rattle.flow_rules.specs.Faults.{IsAccepted}
 use Rattle.fault_lines.specs.FaultLines.{lex_line, parse_line, type_lines}
 use Rattle.flow_check.specs.Checked.{HasFlowFaults}
 use Rattle.flow_check.specs.FlowLines.{flow_lines}
-use Rattle.original.specs.HostLines.{host_lines, input_line}
-use Rattle.original.specs.Original.{GivesHosts, most}
-use Rattle.program_split.specs.Split.{monitor_half, slave_half}
+use Rattle.host_lines.specs.GivenHosts.{GivesHosts, most}
+use Rattle.host_lines.specs.HostLines.{host_lines, input_line}
+use Rattle.program_halves.specs.ProgramHalves.{monitor_half, slave_half}
 use Rattle.pt_core.specs.CodeTree.{BootTree}
 use Rattle.pair_meaning.specs.Monitors.{Monitor}
 use Rattle.pair_meaning.specs.Start.{boot_of, monitor_start}
@@ -87,3 +87,7 @@ pub record AreStarted (t : Texts) (turns : ℕ) (boot : BootTree) (monitor : Mon
   pub short : length t.input ≤ most
   pub boot_is : boot ≡ boot_of (slave_half tree accepted) (models_of hosts.models) t.input turns
   pub monitor_is : monitor ≡ monitor_start (monitor_half tree accepted) (models_of hosts.models) t.input (start rules) turns
+
+-- the name of each function of a program, by its number
+abbrev pub names_of : TypedTree → List (List ℕ)
+names_of tree = map (λ s. s.name) (signatures_of tree)

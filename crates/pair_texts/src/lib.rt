@@ -6,12 +6,10 @@
 mod fault_text;
 mod laws;
 mod models;
+mod names;
 mod outcome;
 mod stages;
 
-pub use laws::texts_have_one_outcome;
+pub use laws::{first_bytes_are_enough, texts_have_one_outcome};
 pub use outcome::{Outcome, Pair};
 pub use stages::{Beside, outcome_of};
-
-/// An input may have this many bytes.
-pub const INPUT_LIMIT: usize = 1_048_576;

@@ -1,9 +1,11 @@
 // What the texts of a pair come to.
 use host_table::Host;
 use policy::Policy;
+use pt_base::{Bytes, Listed};
 use pt_core::{Boot, MonitorProgram};
 
 /// What a pair starts from.
+#[derive(Drop)]
 pub struct Pair {
     /// What the slave starts from.
     pub boot: Boot,
@@ -12,17 +14,8 @@ pub struct Pair {
     pub hosts: Host,
     /// The policy at its start.
     pub policy: Policy,
-}
-
-impl Drop for Pair {
-    fn drop(self) {
-        let Pair {
-            boot: _boot,
-            monitor: _monitor,
-            hosts: _hosts,
-            policy: _policy,
-        } = self;
-    }
+    /// The name of each function of the program, by its number.
+    pub names: Listed<Bytes>,
 }
 
 /// What the texts come to.

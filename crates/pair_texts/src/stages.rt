@@ -6,30 +6,30 @@ ghost use Rattle.flow_rules.specs.Faults.{IsAccepted};
 ghost use Rattle.host_table.specs.Hosts.{hosts_of};
 ghost use Rattle.host_table.specs.RunHosts.{models_of};
 ghost use Rattle.host_table.specs.Whole.{HasHosts};
-ghost use Rattle.original.specs.Original.{GivesHosts};
+ghost use Rattle.host_lines.specs.GivenHosts.{GivesHosts};
 ghost use Rattle.typed_tree.specs.TypedTree.{signatures_of};
 ghost use Rattle.typed_tree.specs.TypedView.{view_typed};
 ghost use Rattle.policy.specs.PolicyFault.{IsPolicy};
 ghost use Rattle.policy.specs.Verdicts.{start};
-ghost use Rattle.program_split.specs.Programs.{AreHalves};
 ghost use Rattle.pt_core.specs.CodeTree.{view_boot, view_monitor, view_slave};
 ghost use Rattle.pair_meaning.specs.Start.{boot_of};
 ghost use Rattle.pair_texts.specs.OutcomeSeen.{AreParts, IsOutcome, texts_with};
 
-use crate::INPUT_LIMIT;
-use crate::fault_text::{host_text, policy_text};
+use crate::fault_text::policy_text;
 use crate::models::{input_for, models_for};
+use crate::names::names_of;
 use crate::outcome::{Outcome, Pair};
 use fault_lines::front_lines;
 use flow_check::{flow_lines, judge};
 use flow_rules::{Accepted, FlowError};
 use front_end::read_program;
-use front_phase::lower_all;
+use host_lines::{INPUT_LIMIT, host_lines, input_line};
 use host_table::{Host, HostError, read_host};
 use policy::{Policy, PolicyError, read_policy};
+use program_halves::halves;
 use pt_base::Watch;
 use pt_core::{Boot, MonitorProgram, SlaveProgram};
-use splitter::{make_boot, split};
+use splitter::make_boot;
 use std::alloc::{AllocError, Global};
 use std::thread::Threads;
 use typed_tree::Typed;
@@ -79,7 +79,7 @@ fn with_program<R: Threads + Sync, W: Watch>(
     match read_host(alloc, beside.host, program) {
         Ok(hosts) => with_hosts(rt, alloc, program, hosts, beside, watch),
         Err(HostError::Faults(faults)) => {
-            Ok(Outcome::Refused(host_text(alloc, program, faults.as_slice())?))
+            Ok(Outcome::Refused(host_lines(alloc, program, faults.as_slice())?))
         }
         Err(HostError::Memory) => Err(AllocError),
     }
@@ -149,16 +149,18 @@ fn with_input<R: Threads + Sync, W: Watch>(
     ensures { (text : List ℕ) → HasTypedTree text (view_typed program.now) → IfOk result (IsOutcome (texts_with text beside.entry) beside.entry.turns) }
 {
     if beside.input.len() > INPUT_LIMIT {
-        return Ok(Outcome::Refused(Vec::from_slice(alloc, b"input 1 TooLong\n")?));
+        return Ok(Outcome::Refused(input_line(alloc)?));
     }
     let mut hosts = hosts;
     hosts.give(alloc, beside.input)?;
+    let names = names_of(alloc, program)?;
     let (boot, monitor) = parts(rt, alloc, program, accepted, &hosts, beside, watch)?;
     Ok(Outcome::Begins(Pair {
         boot,
         monitor,
         hosts,
         policy,
+        names,
     }))
 }
 
@@ -177,20 +179,6 @@ fn parts<R: Threads + Sync, W: Watch>(
     let (slave, monitor) = halves(rt, alloc, program, accepted, watch)?;
     let boot = boot(alloc, slave, hosts, beside.input, beside.turns)?;
     Ok((boot, monitor))
-}
-
-// The two programs of a program that breaks no rule.
-fn halves<R: Threads + Sync, W: Watch>(
-    rt: &R,
-    alloc: Global,
-    program: &Typed,
-    accepted: &Accepted,
-    watch: &W,
-) -> Result<(SlaveProgram, MonitorProgram), AllocError>
-    ensures { IfOk result (λ r. AreHalves (view_typed program.now) accepted.now (view_slave r.0) (view_monitor r.1)) }
-{
-    let code = lower_all(rt, alloc, program, watch)?;
-    split(alloc, program, accepted, code)
 }
 
 // What the slave starts from.

@@ -1,29 +1,19 @@
 -- A text comes to one outcome at most, but for the ways that its faults show.
-use Rattle.std.proofs.Common.{◌≡◌, ◌∙◌, ◌⊎◌, ℕ, refl, ap, sym, subst, inl, inr, List, map}
+use Rattle.std.proofs.Common.{◌≡◌, ◌∙◌, ◌⊎◌, ℕ, refl, ap, sym, subst, inl, inr, List}
 use Rattle.front_end.proofs.OneReading.{reading_is_one}
 use Rattle.front_end.specs.Reading.{Reading, typed_tree, lex_fault, parse_fault, type_faults_of, ComesTo as ReadsAs}
-use Rattle.pt_base.specs.declared.ids.FnId.{FnId}
-use Rattle.pt_base.specs.declared.ids.GlobalId.{GlobalId}
-use Rattle.sides.specs.declared.halves.Sides.{Sides}
-use Rattle.sides.specs.Placed.{AreSides}
 use Rattle.typed_tree.specs.TypedTree.{TypedTree}
 use Rattle.lowering.specs.Functions.{functions_from}
 use Rattle.flow_rules.specs.declared.fault.FlowFault.{FlowFault}
 use Rattle.splitter.specs.Halves.{Halves, halves_of, slave_of, monitor_of}
 use Rattle.split_text.specs.Texts.{slave_text, monitor_text}
 use Rattle.flow_check.specs.Checked.{HasFlowFaults, lex, parse, types, flow}
-use Rattle.flow_check.proofs.OneOutcome.{accepted_or_faulty, faults_differ_in_ways, same_slave, same_monitor, same_owned}
+use Rattle.flow_check.proofs.OneOutcome.{accepted_or_faulty, faults_differ_in_ways}
+use Rattle.program_halves.proofs.OneHalves.{same_halves}
 use Rattle.program_split.specs.Split.{HasHalves, Outcome, refused, split, ComesTo}
 use Rattle.program_split.specs.Laws.{OutcomeIsOne, without_ways}
 
 -- ---- halves
-
-same_halves : (t : TypedTree) (s s' : Sides) → AreSides t s → AreSides t s' → halves_of s ≡ halves_of s'
-same_halves t s s' are are' = λ i. record {
-  slave = map (λ (f : FnId). f.0) (same_slave t s s' are are' i);
-  monitor = map (λ (f : FnId). f.0) (same_monitor t s s' are are' i);
-  owned = map (λ (g : GlobalId). g.0) (same_owned t s s' are are' i);
-}
 
 same_texts : (t : TypedTree) (slave monitor slave' monitor' : List ℕ) → HasHalves t slave monitor → HasHalves t slave' monitor' → split slave monitor ≡ split slave' monitor'
 same_texts t slave monitor slave' monitor' a b =

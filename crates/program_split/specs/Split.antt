@@ -5,17 +5,8 @@ use Rattle.typed_tree.specs.TypedTree.{TypedTree}
 use Rattle.flow_rules.specs.declared.accepted.Accepted.{Accepted}
 use Rattle.flow_rules.specs.Faults.{IsAccepted}
 use Rattle.flow_check.specs.Checked.{Refusal, IsRefused}
-use Rattle.pt_core.specs.CodeTree.{SlaveTree, MonitorTree}
-use Rattle.lowering.specs.Functions.{functions_from}
-use Rattle.splitter.specs.Halves.{halves_of, slave_of, monitor_of}
+use Rattle.program_halves.specs.ProgramHalves.{monitor_half, slave_half}
 use Rattle.split_text.specs.Texts.{slave_text, monitor_text}
-
--- the two programs of a program that breaks no rule, with the code of its lowering
-abbrev pub slave_half : TypedTree → Accepted → SlaveTree
-slave_half t a = slave_of t (halves_of a.sides) (functions_from t 0 t.functions)
-
-abbrev pub monitor_half : TypedTree → Accepted → MonitorTree
-monitor_half t a = monitor_of t (halves_of a.sides) (functions_from t 0 t.functions)
 
 -- the program breaks no rule, and these are the texts of its halves
 pub record HasHalves (t : TypedTree) (slave monitor : List ℕ) : Type 0 where

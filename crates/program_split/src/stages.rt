@@ -4,20 +4,16 @@ ghost use Rattle.std.specs.Prelude.{ℕ, List, IfOk};
 ghost use Rattle.front_end.specs.Reading.{HasTypedTree};
 ghost use Rattle.typed_tree.specs.TypedView.{view_typed};
 ghost use Rattle.flow_rules.specs.Faults.{IsAccepted};
-ghost use Rattle.pt_core.specs.CodeTree.{view_monitor, view_slave};
 ghost use Rattle.program_split.specs.OutcomeSeen.{IsOutcome};
-ghost use Rattle.program_split.specs.Programs.{AreHalves};
 
 use crate::outcome::Outcome;
 use fault_lines::front_lines;
 use flow_check::{flow_lines, judge};
 use flow_rules::{Accepted, FlowError};
 use front_end::read_program;
-use front_phase::lower_all;
+use program_halves::halves;
 use pt_base::Watch;
-use pt_core::{MonitorProgram, SlaveProgram};
 use split_text::{print_monitor, print_slave};
-use splitter::split;
 use std::alloc::{AllocError, Global};
 use std::thread::Threads;
 use typed_tree::Typed;
@@ -80,18 +76,4 @@ fn printed<R: Threads + Sync, W: Watch>(
     let slave = print_slave(alloc, &slave)?;
     let monitor = print_monitor(alloc, &monitor)?;
     Ok(Outcome::Split { slave, monitor })
-}
-
-// The two programs of a program that breaks no rule.
-fn halves<R: Threads + Sync, W: Watch>(
-    rt: &R,
-    alloc: Global,
-    program: &Typed,
-    accepted: &Accepted,
-    watch: &W,
-) -> Result<(SlaveProgram, MonitorProgram), AllocError>
-    ensures { IfOk result (λ r. AreHalves (view_typed program.now) accepted.now (view_slave r.0) (view_monitor r.1)) }
-{
-    let code = lower_all(rt, alloc, program, watch)?;
-    split(alloc, program, accepted, code)
 }

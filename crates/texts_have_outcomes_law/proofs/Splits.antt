@@ -5,7 +5,8 @@ use Rattle.typed_tree.specs.TypedTree.{TypedTree}
 use Rattle.front_end.specs.Reading.{HasTypedTree, Reading, typed_tree, lex_fault, parse_fault, type_faults_of, ComesTo as ReadsAs}
 use Rattle.sides.specs.Slots.{slots_of}
 use Rattle.flow_check.specs.Checked.{lex, parse, types, flow}
-use Rattle.program_split.specs.Split.{Outcome, refused, split, ComesTo, slave_half, monitor_half}
+use Rattle.program_halves.specs.ProgramHalves.{monitor_half, slave_half}
+use Rattle.program_split.specs.Split.{Outcome, refused, split, ComesTo}
 use Rattle.split_text.specs.Texts.{slave_text, monitor_text}
 use Rattle.text_readings_law.proofs.Readings.{texts_read}
 use Rattle.text_readings_law.proofs.TextTrees.{trees_are_sound}

@@ -2,7 +2,8 @@ use Rattle.std.proofs.Common.{◌≡◌, ◌≢◌, ◌∙◌, List, [], sym, su
 use Rattle.typed_tree.specs.TypedTree.{signatures_of}
 use Rattle.typed_tree.specs.TypedView.{view_typed}
 use Rattle.host_table.specs.declared.fault.HostFault.{HostFault}
-use Rattle.original.proofs.LineLemmas.{host_are, faults_are}
+use Rattle.host_lines.proofs.TableLemmas.{faults_are}
+use Rattle.original.proofs.LineLemmas.{host_are}
 use Rattle.original.proofs.stages.with_program.Goals as goal
 
 pub returns-in_ok-host_lines-in-Err-Faults : goal.returns-in_ok-host_lines-in-Err-Faults

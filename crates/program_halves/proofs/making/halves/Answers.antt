@@ -1,8 +1,8 @@
 use Rattle.std.proofs.Common.{map}
 use Rattle.typed_tree.specs.TypedView.{view_typed}
 use Rattle.pt_core.specs.CodeTree.{view_function}
-use Rattle.pair_texts.proofs.Parts.{halves_are}
-use Rattle.pair_texts.proofs.stages.halves.Goals as goal
+use Rattle.program_halves.proofs.Made.{halves_are}
+use Rattle.program_halves.proofs.making.halves.Goals as goal
 
 pub returns : goal.returns
 returns g c =

@@ -1,0 +1,2 @@
+pub mod GivenHosts
+pub mod HostLines

@@ -1,0 +1,5 @@
+use Rattle.pair_texts.proofs.Cuts.{cut_whole}
+use Rattle.pair_texts.proofs.laws.first_bytes_are_enough.Goals as goal
+
+pub returns : goal.returns
+returns c = cut_whole
