@@ -1,0 +1,10 @@
+mod RunAhead
+mod Steps
+mod Halves
+mod Fronts
+mod Cuts
+mod Readings
+mod Ends
+mod Cames
+mod Counting
+mod Lefts
