@@ -1,0 +1,4 @@
+pub mod Awaited
+mod Facts
+mod Growing
+mod Taking
