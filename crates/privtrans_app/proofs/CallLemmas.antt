@@ -8,7 +8,8 @@ use Rattle.program_split.specs.Split.{Outcome, refused, split as split_in}
 use Rattle.program_split.specs.Laws.{without_ways}
 use Rattle.program_split.proofs.OneOutcome.{outcome_is_one}
 use Rattle.privtrans_app.specs.Words.{IsRun, of_local, of_orig, of_check}
-use Rattle.privtrans_app.specs.Ending.{Ending, help, version, exit, accepted, split, usage, missing, read_fault, write_fault, not_built, faults, trapped, spent, memory, status_of, Reports, StaysDown, EndsWith}
+use Rattle.privtrans_app.specs.Ending as endings
+use Rattle.privtrans_app.specs.Ending.{Ending, help, version, exit, accepted, split, usage, missing, read_fault, write_fault, faults, trapped, spent, memory, status_of, Reports, StaysDown, EndsWith}
 use Rattle.privtrans_app.specs.Causes.{IsByForm, IsByFiles}
 use Rattle.privtrans_app.specs.SplitRun.{Names, ending_of}
 use Rattle.privtrans_app.specs.SplitRun as run
@@ -90,9 +91,9 @@ module _ (names : Names) (files : Files) (files' : Option Files) (reads reads' f
   by_lack (missing n) lacks comes tells = ends (missing n) 2 refl tells
   by_lack (read_fault n) lacks comes tells = absurd (r comes.1)
   by_lack write_fault lacks comes tells = absurd (w comes.0)
-  by_lack not_built lacks comes tells = absurd comes
   by_lack (faults lines) lacks comes tells = absurd (some_none comes.0.0 (files names.program) comes.0.1 lacks)
   by_lack (trapped trap span) lacks comes tells = absurd comes
+  by_lack (endings.refused call function state) lacks comes tells = absurd comes
   by_lack spent lacks comes tells = absurd comes
   by_lack memory lacks comes tells = wants 2 tells
 
@@ -115,12 +116,12 @@ module _ (names : Names) (files : Files) (files' : Option Files) (reads reads' f
   by_text (missing n) text o held is comes tells = absurd (lacks_not text n held comes.0 comes.1)
   by_text (read_fault n) text o held is comes tells = absurd (r comes.1)
   by_text write_fault text o held is comes tells = absurd (w comes.0)
-  by_text not_built text o held is comes tells = absurd comes
   by_text (faults lines) text o held is comes tells =
       let same : comes.0.0 ≡ text = some_is comes.0.0 text (files names.program) comes.0.1 held in
       let there : halves.ComesTo text (refused comes.0.2.0) = subst (λ (t : List ℕ). halves.ComesTo t (refused comes.0.2.0)) same comes.0.2.1 in
       ends (faults lines) (status_of (ending_of o)) (same_status text (refused comes.0.2.0) o there is) tells
   by_text (trapped trap span) text o held is comes tells = absurd comes
+  by_text (endings.refused call function state) text o held is comes tells = absurd comes
   by_text spent text o held is comes tells = absurd comes
   by_text memory text o held is comes tells = wants (status_of (ending_of o)) tells
 
@@ -151,8 +152,7 @@ module _ (words : List (List ℕ)) (files' : Option Files) (reads reads' fwrites
   calls_by_files w f files e r (inl is) tells = by_files words reads reads' o o' writes writes' report report' failed failed' status w f files e r is.1 tells
   calls_by_files w f files e r (inr is) tells = record {
     missing = λ name reached lacks. absurd (no_run (Some files) e is _ reached.form);
-    built = λ t turns window bytes s held built. absurd (no_run (Some files) e is _ (of_local _ _ _ _ _ _ held.form));
-    not_built = λ t turns window held none. absurd (no_run (Some files) e is _ (of_local _ _ _ _ _ _ held.form));
+    paired = λ t turns window out held comes. absurd (no_run (Some files) e is _ (of_local _ _ _ _ _ _ held.form));
     original = λ t turns out due held comes ends_so. absurd (no_run (Some files) e is _ (of_orig _ _ _ _ held.form));
     checked = λ text out due held comes ends_so. absurd (no_run (Some files) e is _ (of_check _ held.form));
   }

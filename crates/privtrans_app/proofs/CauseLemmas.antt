@@ -5,7 +5,7 @@ use Rattle.pt_base.specs.Faults.{Rose}
 use Rattle.pt_base.specs.Files.{Files, Lacks}
 use Rattle.pt_base.specs.Told.{AppendsPart}
 use Rattle.privtrans_app.specs.Words.{IsRun}
-use Rattle.privtrans_app.specs.Ending.{Ending, help, version, exit, accepted, split, usage, missing, read_fault, write_fault, not_built, faults, trapped, spent, memory, Puts}
+use Rattle.privtrans_app.specs.Ending.{Ending, help, version, exit, accepted, split, usage, missing, read_fault, write_fault, faults, trapped, refused, spent, memory, Puts}
 use Rattle.privtrans_app.specs.Held.{IsReached}
 use Rattle.privtrans_app.specs.Causes.{Expects, WritesPart, ComesTo}
 use Rattle.privtrans_app.specs.Reading.{IsReadRefusal, IsRefusal}
@@ -41,9 +41,9 @@ read_refusal_comes given files reads reads' writes o name usage reached is = abs
 read_refusal_comes given files reads reads' writes o name (missing n) reached is = (subst (IsReached given files) (sym is.0) reached, subst (λ m. Lacks files m ⊎ Rose reads reads') (sym is.0) is.1, keeps_same o)
 read_refusal_comes given files reads reads' writes o name (read_fault n) reached is = (subst (IsReached given files) (sym is.0) reached, is.1, keeps_same o)
 read_refusal_comes given files reads reads' writes o name write_fault reached is = absurd is
-read_refusal_comes given files reads reads' writes o name not_built reached is = absurd is
 read_refusal_comes given files reads reads' writes o name (faults lines) reached is = absurd is
 read_refusal_comes given files reads reads' writes o name (trapped trap span) reached is = absurd is
+read_refusal_comes given files reads reads' writes o name (refused call function state) reached is = absurd is
 read_refusal_comes given files reads reads' writes o name spent reached is = absurd is
 read_refusal_comes given files reads reads' writes o name memory reached is = inl (keeps_same o)
 

@@ -1,5 +1,5 @@
 -- What the file of a check comes to.
-use Rattle.std.proofs.Common.{◌≡◌, ℕ, List, [], ◌∷◌, get_or, refl, sym, ◌∙◌, ap, subst, Option, Some, None, inr}
+use Rattle.std.proofs.Common.{◌≡◌, ℕ, List, [], get_or, refl, sym, ◌∙◌, ap, subst, Option, Some, None, inr}
 use Rattle.pt_base.specs.Files.{Files, GivesFirst}
 use Rattle.flow_check.specs.Checked as flows
 use Rattle.flow_check.specs.Checked.{Outcome, refused, checked, lex, parse, types, flow}
@@ -28,7 +28,7 @@ comes_of given program (Some files) cut o form first comes =
 pub faults_come : (given : List (List ℕ)) (program : List ℕ) (files : Option Files) (cut : List ℕ) (reads reads' writes : ℕ) (o : Option (List ℕ)) (lines : List ℕ)
     → IsCheck given program → GivesFirst files program 1048577 cut → AreLinesOf cut lines → causes.ComesTo given files reads reads' o o writes writes (faults lines)
 faults_come given program files cut reads reads' writes o lines form first are =
-    (inr (refused are.refusal, comes_of given program files cut (refused are.refusal) form first are.is, ap faults are.lines_are, refl), keeps_same o)
+    (inr (inr (refused are.refusal, comes_of given program files cut (refused are.refusal) form first are.is, ap faults are.lines_are, refl)), keeps_same o)
 
 -- what writing the lines of privileged variables comes to
 pub checked_come : (given : List (List ℕ)) (program : List ℕ) (files : Option Files) (cut : List ℕ) (reads reads' : ℕ) (o o' : Option (List ℕ)) (writes writes' : ℕ) (lines : List ℕ) (came : Ending)

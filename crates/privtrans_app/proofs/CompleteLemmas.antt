@@ -8,15 +8,18 @@ use Rattle.flow_check.specs.Checked as flows
 use Rattle.flow_check.specs.Laws.{without_ways}
 use Rattle.flow_check.proofs.OneOutcome as flow_outcomes
 use Rattle.privtrans_app.specs.Words.{IsHelp, IsVersion, IsLocal, IsOrig, IsCheck, IsNoForm, IsRun, of_local, of_orig, of_check}
-use Rattle.early_way.specs.EarlyInput.{Texts, IsBuilt, IsNotBuilt}
-use Rattle.privtrans_app.specs.Ending.{Ending, help, version, exit, accepted, split, usage, missing, read_fault, write_fault, not_built, faults, trapped, spent, memory, status_of, Reports, StaysDown, EndsWith}
+use Rattle.pair_texts.specs.Start.{Texts}
+use Rattle.local_pair.specs.Local as pairs
+use Rattle.local_pair.proofs.OneOutcome as pair_outcomes
+use Rattle.privtrans_app.specs.Ending.{Ending, help, version, exit, accepted, split, usage, missing, read_fault, write_fault, faults, trapped, refused, spent, memory, status_of, Reports, StaysDown, EndsWith}
 use Rattle.privtrans_app.specs.Held.{IsHeld, AllHeld, IsReached}
-use Rattle.privtrans_app.specs.LocalRun.{AreHeld, Refuses}
+use Rattle.privtrans_app.specs.LocalRun as local
 use Rattle.privtrans_app.specs.CheckRun as check
 use Rattle.privtrans_app.specs.OrigRun as orig
-use Rattle.privtrans_app.specs.Causes.{Expects, HaveFaults, ComesTo, IsByForm, IsByFiles}
+use Rattle.privtrans_app.specs.Causes.{Expects, ComesTo, IsByForm, IsByFiles}
 use Rattle.privtrans_app.proofs.CheckLemmas.{same_check, same_status}
-use Rattle.privtrans_app.proofs.LocalLemmas.{same_held}
+use Rattle.privtrans_app.proofs.LocalLemmas as pair_runs
+use Rattle.privtrans_app.proofs.LocalLemmas.{same_comes}
 use Rattle.privtrans_app.proofs.OrigLemmas.{same_orig, same_ending}
 
 -- a call whose report was written has the status of its ending, or 12
@@ -128,7 +131,7 @@ not_lacking words files name runs reached lacks =
     (subst (AllHeld (Some files)) (same_names words runs.names (reached.before ++ name ∷ reached.after) runs.form reached.form) runs.held) in
     some_none there.0 (files name) there.1 lacks
 
-local_held : (words : List (List ℕ)) (files : Files) (t : Texts) (turns window : ℕ) → AreHeld words (Some files) t turns window → RunsHeld words files
+pub local_held : (words : List (List ℕ)) (files : Files) (t : Texts) (turns window : ℕ) → local.AreHeld words (Some files) t turns window → RunsHeld words files
 local_held words files t turns window held = record {
   names = four held.program_name held.host_name held.policy_name held.input_name;
   form = of_local _ _ _ _ _ _ held.form;
@@ -147,42 +150,30 @@ check_held words files text held = record { names = one_name held.program_name; 
 
 -- files of which something is expected
 expected_held : (words : List (List ℕ)) (files : Files) (bytes : List ℕ) (e : Ending) → Expects words (Some files) bytes e → RunsHeld words files
-expected_held words files bytes e (inl is) = local_held words files is.0 is.1 is.2 is.4
+expected_held words files bytes e (inl is) = local_held words files is.1.0 is.1.1 is.1.2 is.1.3
 expected_held words files bytes e (inr (inl is)) = orig_held words files is.1.0 is.1.1 is.1.2
 expected_held words files bytes e (inr (inr is)) = check_held words files is.1.0 is.1.1
 
 -- words whose files come to something are a run
 expects_run : (words : List (List ℕ)) (files : Option Files) (bytes : List ℕ) (e : Ending) → Expects words files bytes e → (names : List (List ℕ)) × IsRun words names
-expects_run words files bytes e (inl is) = (_, of_local _ _ _ _ _ _ is.4.form)
+expects_run words files bytes e (inl is) = (_, of_local _ _ _ _ _ _ is.1.3.form)
 expects_run words files bytes e (inr (inl is)) = (_, of_orig _ _ _ _ is.1.2.form)
 expects_run words files bytes e (inr (inr is)) = (_, of_check _ is.1.1.form)
 
-refuses_run : (words : List (List ℕ)) (files : Option Files) → Refuses words files → (names : List (List ℕ)) × IsRun words names
-refuses_run words files is = (_, of_local _ _ _ _ _ _ is.3.form)
-
 -- ---- what the files hold is one
 
--- early texts of which something is expected
-built_status : (words : List (List ℕ)) (files : Files) (t : Texts) (turns window : ℕ) (bytes : List ℕ) (e : Ending) → AreHeld words (Some files) t turns window
-    → Expects words (Some files) bytes e → ((s : ℕ) × IsBuilt t turns bytes s) × (status_of e ≡ 0)
-built_status words files t turns window bytes e held (inl is) =
-    let same = same_held words files is.0 t is.1 is.2 turns window is.4 held in
-    ((is.3, subst (λ m. IsBuilt t m bytes is.3) same.1 (subst (λ x. IsBuilt x is.1 bytes is.3) same.0 is.5)), ap status_of is.6)
-built_status words files t turns window bytes e held (inr (inl is)) = absurd (two_runs words held.form is.1.2.form)
-built_status words files t turns window bytes e held (inr (inr is)) = absurd (local_check words held.form is.1.1.form)
+-- texts of a pair have one status
+pair_there : (words : List (List ℕ)) (files : Files) (t : Texts) (turns window : ℕ) (o : pairs.Outcome) (e : Ending) (bytes : List ℕ) → local.AreHeld words (Some files) t turns window
+    → pairs.ComesTo t turns o → local.Gives words (Some files) bytes e → status_of e ≡ status_of (local.ending_of o)
+pair_there words files t turns window o e bytes held comes gives =
+    let there : pairs.ComesTo t turns gives.0 = same_comes words files gives.1.0 t gives.1.1 gives.1.2 turns window gives.0 gives.1.3 held gives.1.4 in
+    ap status_of gives.2 ∙ pair_runs.same_status gives.0 o (pair_outcomes.outcome_is_one t turns gives.0 o there comes)
 
--- a run of both halves has no faults
-never_faults : (words : List (List ℕ)) (files : Files) (t : Texts) (turns window : ℕ) (lines : List ℕ) → AreHeld words (Some files) t turns window → HaveFaults words (Some files) lines → ⊥
-never_faults words files t turns window lines held (inl is) = two_runs words held.form is.1.2.form
-never_faults words files t turns window lines held (inr is) = local_check words held.form is.1.1.form
-
-refused_there : (words : List (List ℕ)) (files : Files) (t : Texts) (turns window : ℕ) → AreHeld words (Some files) t turns window → Refuses words (Some files) → IsNotBuilt t turns
-refused_there words files t turns window held refuses =
-    let same = same_held words files refuses.0 t refuses.1 refuses.2 turns window refuses.3 held in
-    subst (λ m. IsNotBuilt t m) same.1 (subst (λ x. IsNotBuilt x refuses.1) same.0 refuses.4)
-
-not_both : (t : Texts) (turns : ℕ) (bytes : List ℕ) (s : ℕ) → IsBuilt t turns bytes s → IsNotBuilt t turns → ⊥
-not_both t turns bytes s built none = none built.program built.models built.state built.allowed built.early
+paired_there : (words : List (List ℕ)) (files : Files) (t : Texts) (turns window : ℕ) (o : pairs.Outcome) (e : Ending) (bytes : List ℕ) → local.AreHeld words (Some files) t turns window
+    → pairs.ComesTo t turns o → Expects words (Some files) bytes e → status_of e ≡ status_of (local.ending_of o)
+paired_there words files t turns window o e bytes held comes (inl gives) = pair_there words files t turns window o e bytes held comes gives
+paired_there words files t turns window o e bytes held comes (inr (inl is)) = absurd (two_runs words held.form is.1.2.form)
+paired_there words files t turns window o e bytes held comes (inr (inr is)) = absurd (local_check words held.form is.1.1.form)
 
 -- texts of the original have one ending
 original_there : (words : List (List ℕ)) (files : Files) (t : original.Texts) (turns : ℕ) (o : original.Outcome) (e e' : Ending) (bytes : List ℕ) → orig.AreHeld words (Some files) t turns
@@ -195,7 +186,7 @@ original_there words files t turns o e e' bytes held comes ends gives =
 
 expected_there : (words : List (List ℕ)) (files : Files) (t : original.Texts) (turns : ℕ) (o : original.Outcome) (e e' : Ending) (bytes : List ℕ) → orig.AreHeld words (Some files) t turns
     → original.ComesTo t turns o → orig.IsEnding o e → Expects words (Some files) bytes e' → status_of e' ≡ status_of e
-expected_there words files t turns o e e' bytes held comes ends (inl is) = absurd (two_runs words is.4.form held.form)
+expected_there words files t turns o e e' bytes held comes ends (inl is) = absurd (two_runs words is.1.3.form held.form)
 expected_there words files t turns o e e' bytes held comes ends (inr (inl gives)) = original_there words files t turns o e e' bytes held comes ends gives
 expected_there words files t turns o e e' bytes held comes ends (inr (inr is)) = absurd (orig_check words held.form is.1.1.form)
 
@@ -210,7 +201,7 @@ check_there words files text o e e' bytes held comes ends gives =
 
 checked_there : (words : List (List ℕ)) (files : Files) (text : List ℕ) (o : flows.Outcome) (e e' : Ending) (bytes : List ℕ) → check.AreHeld words (Some files) text
     → flows.ComesTo text o → check.IsEnding o e → Expects words (Some files) bytes e' → status_of e' ≡ status_of e
-checked_there words files text o e e' bytes held comes ends (inl is) = absurd (local_check words is.4.form held.form)
+checked_there words files text o e e' bytes held comes ends (inl is) = absurd (local_check words is.1.3.form held.form)
 checked_there words files text o e e' bytes held comes ends (inr (inl is)) = absurd (orig_check words is.1.2.form held.form)
 checked_there words files text o e e' bytes held comes ends (inr (inr gives)) = check_there words files text o e e' bytes held comes ends gives
 
@@ -244,9 +235,9 @@ module _ (words : List (List ℕ)) (reads reads' : ℕ) (o o' : Option (List ℕ
   by_text files (missing name) formed no_run comes tells = absurd (no_run _ comes.0.form)
   by_text files (read_fault name) formed no_run comes tells = absurd (no_run _ comes.0.form)
   by_text files write_fault formed no_run comes tells = absurd (w comes.0)
-  by_text files not_built formed no_run comes tells = absurd (let run = refuses_run words files comes.0 in no_run run.0 run.1)
-  by_text files (faults lines) formed no_run comes tells = absurd (let run = expects_run words files [] (faults lines) (inr comes.0) in no_run run.0 run.1)
+  by_text files (faults lines) formed no_run comes tells = absurd (let run = expects_run words files [] (faults lines) comes.0 in no_run run.0 run.1)
   by_text files (trapped trap span) formed no_run comes tells = absurd (let run = expects_run words files comes.0 (trapped trap span) comes.1 in no_run run.0 run.1)
+  by_text files (refused call function state) formed no_run comes tells = absurd (let run = expects_run words files comes.0 (refused call function state) comes.1 in no_run run.0 run.1)
   by_text files spent formed no_run comes tells = absurd (let run = expects_run words files comes.0 spent comes.1 in no_run run.0 run.1)
   by_text files memory formed no_run comes tells = wants 0 tells
 
@@ -261,9 +252,9 @@ module _ (words : List (List ℕ)) (reads reads' : ℕ) (o o' : Option (List ℕ
   by_usage files (missing name) none no_run comes tells = absurd (no_run _ comes.0.form)
   by_usage files (read_fault name) none no_run comes tells = absurd (no_run _ comes.0.form)
   by_usage files write_fault none no_run comes tells = absurd (w comes.0)
-  by_usage files not_built none no_run comes tells = absurd (let run = refuses_run words files comes.0 in no_run run.0 run.1)
-  by_usage files (faults lines) none no_run comes tells = absurd (let run = expects_run words files [] (faults lines) (inr comes.0) in no_run run.0 run.1)
+  by_usage files (faults lines) none no_run comes tells = absurd (let run = expects_run words files [] (faults lines) comes.0 in no_run run.0 run.1)
   by_usage files (trapped trap span) none no_run comes tells = absurd (let run = expects_run words files comes.0 (trapped trap span) comes.1 in no_run run.0 run.1)
+  by_usage files (refused call function state) none no_run comes tells = absurd (let run = expects_run words files comes.0 (refused call function state) comes.1 in no_run run.0 run.1)
   by_usage files spent none no_run comes tells = absurd (let run = expects_run words files comes.0 spent comes.1 in no_run run.0 run.1)
   by_usage files memory none no_run comes tells = wants 1 tells
 
@@ -285,9 +276,9 @@ module _ (words : List (List ℕ)) (reads reads' : ℕ) (o o' : Option (List ℕ
   by_lack files (missing n) r name reached lacks comes tells = ends (missing n) tells
   by_lack files (read_fault n) r name reached lacks comes tells = absurd (r comes.1)
   by_lack files write_fault r name reached lacks comes tells = absurd (w comes.0)
-  by_lack files not_built r name reached lacks comes tells = absurd (not_lacking words files name (local_held words files _ _ _ comes.0.3) reached lacks)
-  by_lack files (faults lines) r name reached lacks comes tells = absurd (not_lacking words files name (expected_held words files [] (faults lines) (inr comes.0)) reached lacks)
+  by_lack files (faults lines) r name reached lacks comes tells = absurd (not_lacking words files name (expected_held words files [] (faults lines) comes.0) reached lacks)
   by_lack files (trapped trap span) r name reached lacks comes tells = absurd (not_lacking words files name (expected_held words files comes.0 (trapped trap span) comes.1) reached lacks)
+  by_lack files (refused call function state) r name reached lacks comes tells = absurd (not_lacking words files name (expected_held words files comes.0 (refused call function state) comes.1) reached lacks)
   by_lack files spent r name reached lacks comes tells = absurd (not_lacking words files name (expected_held words files comes.0 spent comes.1) reached lacks)
   by_lack files memory r name reached lacks comes tells = wants 2 tells
 
@@ -296,47 +287,29 @@ module _ (words : List (List ℕ)) (reads reads' : ℕ) (o o' : Option (List ℕ
   none_missing files name r held reached (inl lacks) = not_lacking words files name held reached lacks
   none_missing files name r held reached (inr rose) = r rose
 
-  -- early texts of which something is expected
-  by_built : (files : Files) (e : Ending) → StaysDown reads reads' → (t : Texts) (turns window : ℕ) (bytes : List ℕ) (s : ℕ) → AreHeld words (Some files) t turns window → IsBuilt t turns bytes s
-      → Comes (Some files) e → Tells e → EndsWith status 0
-  by_built files help r t turns window bytes s held built comes tells = ends help tells
-  by_built files version r t turns window bytes s held built comes tells = ends version tells
-  by_built files (exit k) r t turns window bytes s held built comes tells = ends (exit k) tells
-  by_built files accepted r t turns window bytes s held built comes tells = ends accepted tells
-  by_built files split r t turns window bytes s held built comes tells = absurd comes
-  by_built files usage r t turns window bytes s held built comes tells = absurd (comes.0.no_local _ _ _ _ _ _ held.form)
-  by_built files (missing name) r t turns window bytes s held built comes tells = absurd (none_missing files name r (local_held words files t turns window held) comes.0 comes.1)
-  by_built files (read_fault name) r t turns window bytes s held built comes tells = absurd (r comes.1)
-  by_built files write_fault r t turns window bytes s held built comes tells = absurd (w comes.0)
-  by_built files not_built r t turns window bytes s held built comes tells = absurd (not_both t turns bytes s built (refused_there words files t turns window held comes.0))
-  by_built files (faults lines) r t turns window bytes s held built comes tells = absurd (never_faults words files t turns window lines held comes.0)
-  by_built files (trapped trap span) r t turns window bytes s held built comes tells =
-      ends_as (trapped trap span) 0 (built_status words files t turns window comes.0 (trapped trap span) held comes.1).1 tells
-  by_built files spent r t turns window bytes s held built comes tells = ends_as spent 0 (built_status words files t turns window comes.0 spent held comes.1).1 tells
-  by_built files memory r t turns window bytes s held built comes tells = wants 0 tells
-
-  -- a run of texts that aren't early
-  never_runs : (files : Files) (e : Ending) (t : Texts) (turns window : ℕ) (bytes : List ℕ) → AreHeld words (Some files) t turns window → IsNotBuilt t turns → Expects words (Some files) bytes e → ⊥
-  never_runs files e t turns window bytes held none expects =
-      let built = (built_status words files t turns window bytes e held expects).0 in not_both t turns bytes built.0 built.1 none
-
-  -- texts that aren't early
-  by_refused : (files : Files) (e : Ending) → StaysDown reads reads' → (t : Texts) (turns window : ℕ) → AreHeld words (Some files) t turns window → IsNotBuilt t turns
-      → Comes (Some files) e → Tells e → EndsWith status 5
-  by_refused files help r t turns window held none comes tells = absurd (no_help words _ (of_local _ _ _ _ _ _ held.form) comes.0)
-  by_refused files version r t turns window held none comes tells = absurd (no_version words _ (of_local _ _ _ _ _ _ held.form) comes.0)
-  by_refused files (exit s) r t turns window held none comes tells = absurd (never_runs files (exit s) t turns window comes.0 held none comes.1)
-  by_refused files accepted r t turns window held none comes tells = absurd (never_runs files accepted t turns window comes.0 held none comes.1)
-  by_refused files split r t turns window held none comes tells = absurd comes
-  by_refused files usage r t turns window held none comes tells = absurd (comes.0.no_local _ _ _ _ _ _ held.form)
-  by_refused files (missing name) r t turns window held none comes tells = absurd (none_missing files name r (local_held words files t turns window held) comes.0 comes.1)
-  by_refused files (read_fault name) r t turns window held none comes tells = absurd (r comes.1)
-  by_refused files write_fault r t turns window held none comes tells = absurd (w comes.0)
-  by_refused files not_built r t turns window held none comes tells = ends not_built tells
-  by_refused files (faults lines) r t turns window held none comes tells = ends (faults lines) tells
-  by_refused files (trapped trap span) r t turns window held none comes tells = absurd (never_runs files (trapped trap span) t turns window comes.0 held none comes.1)
-  by_refused files spent r t turns window held none comes tells = absurd (never_runs files spent t turns window comes.0 held none comes.1)
-  by_refused files memory r t turns window held none comes tells = wants 5 tells
+  -- texts of a pair
+  by_paired : (files : Files) (e : Ending) → StaysDown reads reads' → (t : Texts) (turns window : ℕ) (out : pairs.Outcome) → local.AreHeld words (Some files) t turns window
+      → pairs.ComesTo t turns out → Comes (Some files) e → Tells e → EndsWith status (status_of (local.ending_of out))
+  by_paired files help r t turns window out held comes came tells = absurd (no_help words _ (of_local _ _ _ _ _ _ held.form) came.0)
+  by_paired files version r t turns window out held comes came tells = absurd (no_version words _ (of_local _ _ _ _ _ _ held.form) came.0)
+  by_paired files (exit s) r t turns window out held comes came tells =
+      ends_as (exit s) (status_of (local.ending_of out)) (paired_there words files t turns window out (exit s) came.0 held comes came.1) tells
+  by_paired files accepted r t turns window out held comes came tells =
+      ends_as accepted (status_of (local.ending_of out)) (paired_there words files t turns window out accepted came.0 held comes came.1) tells
+  by_paired files split r t turns window out held comes came tells = absurd came
+  by_paired files usage r t turns window out held comes came tells = absurd (came.0.no_local _ _ _ _ _ _ held.form)
+  by_paired files (missing name) r t turns window out held comes came tells = absurd (none_missing files name r (local_held words files t turns window held) came.0 came.1)
+  by_paired files (read_fault name) r t turns window out held comes came tells = absurd (r came.1)
+  by_paired files write_fault r t turns window out held comes came tells = absurd (w came.0)
+  by_paired files (faults lines) r t turns window out held comes came tells =
+      ends_as (faults lines) (status_of (local.ending_of out)) (paired_there words files t turns window out (faults lines) [] held comes came.0) tells
+  by_paired files (trapped trap span) r t turns window out held comes came tells =
+      ends_as (trapped trap span) (status_of (local.ending_of out)) (paired_there words files t turns window out (trapped trap span) came.0 held comes came.1) tells
+  by_paired files (refused call function state) r t turns window out held comes came tells =
+      ends_as (refused call function state) (status_of (local.ending_of out)) (paired_there words files t turns window out (refused call function state) came.0 held comes came.1) tells
+  by_paired files spent r t turns window out held comes came tells =
+      ends_as spent (status_of (local.ending_of out)) (paired_there words files t turns window out spent came.0 held comes came.1) tells
+  by_paired files memory r t turns window out held comes came tells = wants (status_of (local.ending_of out)) tells
 
   -- texts of the original
   by_original : (files : Files) (e : Ending) → StaysDown reads reads' → (t : original.Texts) (turns : ℕ) (out : original.Outcome) (due : Ending) → orig.AreHeld words (Some files) t turns
@@ -350,11 +323,12 @@ module _ (words : List (List ℕ)) (reads reads' : ℕ) (o o' : Option (List ℕ
   by_original files (missing name) r t turns out due held comes is came tells = absurd (none_missing files name r (orig_held words files t turns held) came.0 came.1)
   by_original files (read_fault name) r t turns out due held comes is came tells = absurd (r came.1)
   by_original files write_fault r t turns out due held comes is came tells = absurd (w came.0)
-  by_original files not_built r t turns out due held comes is came tells = absurd (two_runs words came.0.3.form held.form)
   by_original files (faults lines) r t turns out due held comes is came tells =
-      ends_as (faults lines) (status_of due) (expected_there words files t turns out due (faults lines) [] held comes is (inr came.0)) tells
+      ends_as (faults lines) (status_of due) (expected_there words files t turns out due (faults lines) [] held comes is came.0) tells
   by_original files (trapped trap span) r t turns out due held comes is came tells =
       ends_as (trapped trap span) (status_of due) (expected_there words files t turns out due (trapped trap span) came.0 held comes is came.1) tells
+  by_original files (refused call function state) r t turns out due held comes is came tells =
+      ends_as (refused call function state) (status_of due) (expected_there words files t turns out due (refused call function state) came.0 held comes is came.1) tells
   by_original files spent r t turns out due held comes is came tells = ends_as spent (status_of due) (expected_there words files t turns out due spent came.0 held comes is came.1) tells
   by_original files memory r t turns out due held comes is came tells = wants (status_of due) tells
 
@@ -370,19 +344,19 @@ module _ (words : List (List ℕ)) (reads reads' : ℕ) (o o' : Option (List ℕ
   by_checked files (missing name) r text out due held comes is came tells = absurd (none_missing files name r (check_held words files text held) came.0 came.1)
   by_checked files (read_fault name) r text out due held comes is came tells = absurd (r came.1)
   by_checked files write_fault r text out due held comes is came tells = absurd (w came.0)
-  by_checked files not_built r text out due held comes is came tells = absurd (local_check words came.0.3.form held.form)
   by_checked files (faults lines) r text out due held comes is came tells =
-      ends_as (faults lines) (status_of due) (checked_there words files text out due (faults lines) [] held comes is (inr came.0)) tells
+      ends_as (faults lines) (status_of due) (checked_there words files text out due (faults lines) [] held comes is came.0) tells
   by_checked files (trapped trap span) r text out due held comes is came tells =
       ends_as (trapped trap span) (status_of due) (checked_there words files text out due (trapped trap span) came.0 held comes is came.1) tells
+  by_checked files (refused call function state) r text out due held comes is came tells =
+      ends_as (refused call function state) (status_of due) (checked_there words files text out due (refused call function state) came.0 held comes is came.1) tells
   by_checked files spent r text out due held comes is came tells = ends_as spent (status_of due) (checked_there words files text out due spent came.0 held comes is came.1) tells
   by_checked files memory r text out due held comes is came tells = wants (status_of due) tells
 
   pub by_files : (files : Files) (e : Ending) → StaysDown reads reads' → Comes (Some files) e → Tells e → IsByFiles words files status
   by_files files e r comes tells = record {
     missing = λ name reached lacks. by_lack files e r name reached lacks comes tells;
-    built = λ t turns window bytes s held built. by_built files e r t turns window bytes s held built comes tells;
-    not_built = λ t turns window held none. by_refused files e r t turns window held none comes tells;
+    paired = λ t turns window out held is. by_paired files e r t turns window out held is comes tells;
     original = λ t turns out due held is ends_so. by_original files e r t turns out due held is ends_so comes tells;
     checked = λ text out due held is ends_so. by_checked files e r text out due held is ends_so comes tells;
   }

@@ -72,7 +72,7 @@ comes_of given words (Some files) cut o form first comes =
 pub faults_come : (given : List (List ℕ)) (words : OrigWords) (files : Option Files) (cut : Texts) (reads reads' writes : ℕ) (o : Option (List ℕ)) (lines : List ℕ)
     → Names given words → AreOrigFirst words files cut → AreLinesOf cut lines → causes.ComesTo given files reads reads' o o writes writes (faults lines)
 faults_come given words files cut reads reads' writes o lines form first are =
-    (inl (refused are.refusal, comes_of given words files cut (refused are.refusal) form first are.is, ap faults are.lines_are, refl), keeps_same o)
+    (inr (inl (refused are.refusal, comes_of given words files cut (refused are.refusal) form first are.is, ap faults are.lines_are, refl)), keeps_same o)
 
 -- ---- runs
 

@@ -1,5 +1,5 @@
 -- Of told files, where no count of faults rose, a command tells what its texts give, or memory was wanting.
-use Rattle.std.proofs.Common.{◌≡◌, ◌∙◌, ◌⊎◌, ℕ, List, [], get_or, sym, ap, subst, Option, Some, None, inl, inr}
+use Rattle.std.proofs.Common.{◌≡◌, ◌∙◌, ◌⊎◌, ℕ, List, [], get_or, refl, sym, ap, subst, Option, Some, None, inl, inr}
 use Rattle.std.specs.Io.KnownBytes.{Appends, Keeps}
 use Rattle.std.proofs.lemmas.List.{append-nil}
 use Rattle.pt_base.specs.declared.end.End.{End}
@@ -14,18 +14,31 @@ use Rattle.flow_check.specs.Checked as flows
 use Rattle.flow_check.specs.Seen as checks
 use Rattle.program_split.specs.Split as halves
 use Rattle.program_split.specs.Seen as splits
-use Rattle.privtrans_app.specs.Words.{of_orig, of_check}
-use Rattle.privtrans_app.specs.Ending.{Ending, help, version, exit, accepted, split, usage, missing, read_fault, write_fault, not_built, faults, trapped, spent, memory, status_of, report_of, Reports, StaysDown}
+use Rattle.runs.specs.Run.{Expected}
+use Rattle.typed_tree.specs.TypedTree.{TypedTree}
+use Rattle.pair_texts.specs.Start.{Texts, Refusal, lex, parse, types, host, policy, flow, input}
+use Rattle.local_pair.specs.Ends as ends
+use Rattle.local_pair.specs.Ends.{ended_as}
+use Rattle.local_pair.specs.Local as pairs
+use Rattle.local_pair.specs.Local.{IsExpected, without_ways}
+use Rattle.local_pair.specs.Seen as pair_views
+use Rattle.local_pair.specs.Seen.{shown_of}
+use Rattle.local_pair.proofs.OneOutcome.{outcome_is_one}
+use Rattle.privtrans_app.specs.Words.{of_local, of_orig, of_check}
+use Rattle.privtrans_app.specs.Ending as endings
+use Rattle.privtrans_app.specs.Ending.{Ending, help, version, exit, accepted, split, usage, missing, read_fault, write_fault, faults, trapped, spent, memory, status_of, report_of, Reports, StaysDown}
 use Rattle.privtrans_app.specs.CheckRun as check
+use Rattle.privtrans_app.specs.LocalRun as local
 use Rattle.privtrans_app.specs.OrigRun as orig
 use Rattle.privtrans_app.specs.Causes.{Expects, ComesTo as ComesByWords}
 use Rattle.privtrans_app.specs.SplitRun.{Names}
 use Rattle.privtrans_app.specs.SplitRun as run
 use Rattle.privtrans_app.specs.Calls.{AreSplit, ComesTo}
 use Rattle.privtrans_app.specs.Whole.{Told, Leaves, AreKept}
-use Rattle.privtrans_app.proofs.CompleteLemmas.{no_help, no_version, two_runs, local_check, orig_check, not_lacking, RunsHeld, orig_held, check_held}
+use Rattle.privtrans_app.proofs.CompleteLemmas.{no_help, no_version, two_runs, local_check, orig_check, not_lacking, RunsHeld, local_held, orig_held, check_held}
 use Rattle.privtrans_app.proofs.CallLemmas.{split_or_run, some_is}
 use Rattle.privtrans_app.proofs.CheckLemmas.{same_check}
+use Rattle.privtrans_app.proofs.LocalLemmas.{same_comes}
 use Rattle.privtrans_app.proofs.OrigLemmas.{same_orig}
 
 -- the words are a split of files of one list of names
@@ -80,9 +93,31 @@ check_seen : (o : flows.Outcome) (bytes : List ℕ) (e : Ending) → check.IsEnd
 check_seen (flows.refused refusal) bytes e is b = λ k. seen (b k) (is k)
 check_seen (flows.checked lines) bytes e is b = λ k. seen (b k) (is k)
 
+-- what the texts of a pair give
+abbrev PairTold : Texts → ℕ → Option (List ℕ) → Option (List ℕ) → Option (List ℕ) → Option (List ℕ) → ℕ → Type 0
+PairTold t turns o o' report report' status = (status ≡ 12) ⊎ ((s : Seen) × pair_views.Gives t turns s × Told s o o' report report' status)
+
+end_seen : (bytes bytes' : List ℕ) (end : ends.Ended) (e : Ending) → e ≡ local.ending_at end → bytes ≡ bytes' → seen bytes e ≡ pair_views.seen_of bytes' end
+end_seen bytes bytes' (ends.exit status) e is b = λ k. seen (b k) (is k)
+end_seen bytes bytes' (ends.trapped trap span) e is b = λ k. seen (b k) (is k)
+end_seen bytes bytes' ends.spent e is b = λ k. seen (b k) (is k)
+end_seen bytes bytes' (ends.refused call function state) e is b = λ k. seen (b k) (is k)
+
+pair_seen : (o : pairs.Outcome) (bytes : List ℕ) (e : Ending) → e ≡ local.ending_of o → bytes ≡ local.bytes_of o → seen bytes e ≡ pair_views.shown o
+pair_seen (pairs.refused refusal) bytes e is b = λ k. seen (b k) (is k)
+pair_seen (pairs.ran bytes' end) bytes e is b = end_seen bytes bytes' end e is b
+
 module _ (words : List (List ℕ)) (files : Files) (o o' report report' : Option (List ℕ)) (status : ℕ) where
+  pair_told : (t : Texts) (turns window : ℕ) → local.AreHeld words (Some files) t turns window → (bytes : List ℕ) (e : Ending) → Expects words (Some files) bytes e → Appends o o' bytes → Reported e report report' status → PairTold t turns o o' report report' status
+  pair_told t turns window held bytes e (inr (inl is)) wrote tells = absurd (two_runs words held.form is.1.2.form)
+  pair_told t turns window held bytes e (inr (inr is)) wrote tells = absurd (local_check words held.form is.1.1.form)
+  pair_told t turns window held bytes e (inl gives) wrote (inr is) = inl is
+  pair_told t turns window held bytes e (inl gives) wrote (inl tells) =
+      let there : pairs.ComesTo t turns gives.0 = same_comes words files gives.1.0 t gives.1.1 gives.1.2 turns window gives.0 gives.1.3 held gives.1.4 in
+      inr (seen bytes e, (gives.0, there, pair_seen gives.0 bytes e gives.2 gives.3), record { writes = wrote; reports = tells.1; ends = tells.0 })
+
   orig_told : (t : original.Texts) (turns : ℕ) → orig.AreHeld words (Some files) t turns → (bytes : List ℕ) (e : Ending) → Expects words (Some files) bytes e → Appends o o' bytes → Reported e report report' status → OrigTold t turns o o' report report' status
-  orig_told t turns held bytes e (inl is) wrote tells = absurd (two_runs words is.4.form held.form)
+  orig_told t turns held bytes e (inl is) wrote tells = absurd (two_runs words is.1.3.form held.form)
   orig_told t turns held bytes e (inr (inr is)) wrote tells = absurd (orig_check words held.form is.1.1.form)
   orig_told t turns held bytes e (inr (inl gives)) wrote (inr is) = inl is
   orig_told t turns held bytes e (inr (inl gives)) wrote (inl tells) =
@@ -91,7 +126,7 @@ module _ (words : List (List ℕ)) (files : Files) (o o' report report' : Option
       inr (seen bytes e, (gives.0, there, orig_seen gives.0 bytes e gives.2 gives.3), record { writes = wrote; reports = tells.1; ends = tells.0 })
 
   check_told : (text : List ℕ) → check.AreHeld words (Some files) text → (bytes : List ℕ) (e : Ending) → Expects words (Some files) bytes e → Appends o o' bytes → Reported e report report' status → CheckTold text o o' report report' status
-  check_told text held bytes e (inl is) wrote tells = absurd (local_check words is.4.form held.form)
+  check_told text held bytes e (inl is) wrote tells = absurd (local_check words is.1.3.form held.form)
   check_told text held bytes e (inr (inl is)) wrote tells = absurd (orig_check words is.1.2.form held.form)
   check_told text held bytes e (inr (inr gives)) wrote (inr is) = inl is
   check_told text held bytes e (inr (inr gives)) wrote (inl tells) =
@@ -113,6 +148,23 @@ module _ (words : List (List ℕ)) (files : Files) (reads reads' : ℕ) (o o' : 
       by (inl lacks) = not_lacking words files name held came.0 lacks
       by (inr rose) = r rose
 
+  by_pair : (t : Texts) (turns window : ℕ) → local.AreHeld words (Some files) t turns window → (e : Ending) → Comes e → Reported e report report' status → PairTold t turns o o' report report' status
+  by_pair t turns window held help came tells = absurd (no_help words _ (of_local _ _ _ _ _ _ held.form) came.0)
+  by_pair t turns window held version came tells = absurd (no_version words _ (of_local _ _ _ _ _ _ held.form) came.0)
+  by_pair t turns window held (exit s) came tells = pair_told words files o o' report report' status t turns window held came.0 (exit s) came.1 came.2 tells
+  by_pair t turns window held accepted came tells = pair_told words files o o' report report' status t turns window held came.0 accepted came.1 came.2 tells
+  by_pair t turns window held split came tells = absurd came
+  by_pair t turns window held usage came tells = absurd (came.0.no_local _ _ _ _ _ _ held.form)
+  by_pair t turns window held (missing name) came tells = absurd (none_missing name (local_held words files t turns window held) came)
+  by_pair t turns window held (read_fault name) came tells = absurd (r came.1)
+  by_pair t turns window held write_fault came tells = absurd (w came.0)
+  by_pair t turns window held (faults lines) came tells = pair_told words files o o' report report' status t turns window held [] (faults lines) came.0 (keeps_appends o o' came.1) tells
+  by_pair t turns window held (trapped trap span) came tells = pair_told words files o o' report report' status t turns window held came.0 (trapped trap span) came.1 came.2 tells
+  by_pair t turns window held (endings.refused call function state) came tells =
+      pair_told words files o o' report report' status t turns window held came.0 (endings.refused call function state) came.1 came.2 tells
+  by_pair t turns window held spent came tells = pair_told words files o o' report report' status t turns window held came.0 spent came.1 came.2 tells
+  by_pair t turns window held memory came tells = inl (twelve report report' status tells)
+
   by_orig : (t : original.Texts) (turns : ℕ) → orig.AreHeld words (Some files) t turns → (e : Ending) → Comes e → Reported e report report' status → OrigTold t turns o o' report report' status
   by_orig t turns held help came tells = absurd (no_help words _ (of_orig _ _ _ _ held.form) came.0)
   by_orig t turns held version came tells = absurd (no_version words _ (of_orig _ _ _ _ held.form) came.0)
@@ -123,9 +175,9 @@ module _ (words : List (List ℕ)) (files : Files) (reads reads' : ℕ) (o o' : 
   by_orig t turns held (missing name) came tells = absurd (none_missing name (orig_held words files t turns held) came)
   by_orig t turns held (read_fault name) came tells = absurd (r came.1)
   by_orig t turns held write_fault came tells = absurd (w came.0)
-  by_orig t turns held not_built came tells = absurd (two_runs words came.0.3.form held.form)
-  by_orig t turns held (faults lines) came tells = orig_told words files o o' report report' status t turns held [] (faults lines) (inr came.0) (keeps_appends o o' came.1) tells
+  by_orig t turns held (faults lines) came tells = orig_told words files o o' report report' status t turns held [] (faults lines) came.0 (keeps_appends o o' came.1) tells
   by_orig t turns held (trapped trap span) came tells = orig_told words files o o' report report' status t turns held came.0 (trapped trap span) came.1 came.2 tells
+  by_orig t turns held (endings.refused call function state) came tells = orig_told words files o o' report report' status t turns held came.0 (endings.refused call function state) came.1 came.2 tells
   by_orig t turns held spent came tells = orig_told words files o o' report report' status t turns held came.0 spent came.1 came.2 tells
   by_orig t turns held memory came tells = inl (twelve report report' status tells)
 
@@ -139,9 +191,9 @@ module _ (words : List (List ℕ)) (files : Files) (reads reads' : ℕ) (o o' : 
   by_check text held (missing name) came tells = absurd (none_missing name (check_held words files text held) came)
   by_check text held (read_fault name) came tells = absurd (r came.1)
   by_check text held write_fault came tells = absurd (w came.0)
-  by_check text held not_built came tells = absurd (local_check words came.0.3.form held.form)
-  by_check text held (faults lines) came tells = check_told words files o o' report report' status text held [] (faults lines) (inr came.0) (keeps_appends o o' came.1) tells
+  by_check text held (faults lines) came tells = check_told words files o o' report report' status text held [] (faults lines) came.0 (keeps_appends o o' came.1) tells
   by_check text held (trapped trap span) came tells = check_told words files o o' report report' status text held came.0 (trapped trap span) came.1 came.2 tells
+  by_check text held (endings.refused call function state) came tells = check_told words files o o' report report' status text held came.0 (endings.refused call function state) came.1 came.2 tells
   by_check text held spent came tells = check_told words files o o' report report' status text held came.0 spent came.1 came.2 tells
   by_check text held memory came tells = inl (twelve report report' status tells)
 
@@ -192,9 +244,9 @@ module _ (names : Names) (files : Files) (files' : Option Files) (reads reads' f
   by_split text held (missing name) came tells = absurd (lacks_not text name held came.0 came.1)
   by_split text held (read_fault name) came tells = absurd (r came.1)
   by_split text held write_fault came tells = absurd (w came.0)
-  by_split text held not_built came tells = absurd came
   by_split text held (faults lines) came tells = told_faults text lines held came.0 came.1 tells
   by_split text held (trapped trap span) came tells = absurd came
+  by_split text held (endings.refused call function state) came tells = absurd came
   by_split text held spent came tells = absurd came
   by_split text held memory came tells = inl (twelve report report' status tells)
 
@@ -204,11 +256,13 @@ module _ (words : List (List ℕ)) (files : Files) (files' : Option Files) (read
     (r : StaysDown reads reads') (fw : StaysDown fwrites fwrites') (w : StaysDown writes writes') where
   kept : (e : Ending) → ComesTo words (Some files) files' reads reads' fwrites fwrites' o o' writes writes' e → Reported e report report' status → AreKept words files files' o o' report report' status
   kept e (inl is) tells = record {
+    paired = λ t turns window held. by_pair words files reads reads' o o' writes writes' report report' status r w t turns window held e is.1 tells;
     original = λ t turns held. by_orig words files reads reads' o o' writes writes' report report' status r w t turns held e is.1 tells;
     checked = λ text held. by_check words files reads reads' o o' writes writes' report report' status r w text held e is.1 tells;
     split = λ names text form held. absurd (is.0 names.program names.slave names.monitor form);
   }
   kept e (inr is) tells = record {
+    paired = λ t turns window held. absurd (split_or_run words _ is.names is.form (of_local _ _ _ _ _ _ held.form));
     original = λ t turns held. absurd (split_or_run words _ is.names is.form (of_orig _ _ _ _ held.form));
     checked = λ text held. absurd (split_or_run words _ is.names is.form (of_check _ held.form));
     split = λ names text form held.
@@ -220,3 +274,46 @@ module _ (words : List (List ℕ)) (files : Files) (files' : Option Files) (read
   pub calls_are_kept : (failed failed' : ℕ) → StaysDown failed failed' → (e : Ending) → ComesTo words (Some files) files' reads reads' fwrites fwrites' o o' writes writes' e → Reports e report report' failed failed' status
       → AreKept words files files' o o' report report' status
   calls_are_kept failed failed' f e comes tells = kept e comes (reported e report report' failed failed' status tells f)
+
+-- ---- the headline
+
+-- faults are no run
+refused_or_ran : (refusal : Refusal) (bytes : List ℕ) (end : ends.Ended) → pairs.refused refusal ≡ pairs.ran bytes end → ⊥
+refused_or_ran refusal bytes end same = cc
+
+never_runs : (refusal : Refusal) (bytes : List ℕ) (end : ends.Ended) → without_ways (pairs.refused refusal) ≡ pairs.ran bytes end → ⊥
+never_runs (lex fault) bytes end same = refused_or_ran _ bytes end same
+never_runs (parse fault) bytes end same = refused_or_ran _ bytes end same
+never_runs (types fs) bytes end same = refused_or_ran _ bytes end same
+never_runs (host tree fs) bytes end same = refused_or_ran _ bytes end same
+never_runs (policy fault) bytes end same = refused_or_ran _ bytes end same
+never_runs (flow fs) bytes end same = refused_or_ran _ bytes end same
+never_runs input bytes end same = refused_or_ran _ bytes end same
+
+-- an outcome that differs in the ways of faults alone from a run is that run
+same_run : (a : pairs.Outcome) (bytes : List ℕ) (end : ends.Ended) → without_ways a ≡ pairs.ran bytes end → a ≡ pairs.ran bytes end
+same_run (pairs.refused refusal) bytes end same = absurd (never_runs refusal bytes end same)
+same_run (pairs.ran bytes' end') bytes end same = same
+
+-- what is expected of the program is what is told
+expected_told : (t : Texts) (turns : ℕ) (tree : TypedTree) (e : Expected) (o o' report report' : Option (List ℕ)) (status : ℕ) → IsExpected t turns tree e
+    → PairTold t turns o o' report report' status → (status ≡ 12) ⊎ Told (shown_of tree e) o o' report report' status
+expected_told t turns tree e o o' report report' status is (inl lacks) = inl lacks
+expected_told t turns tree e o o' report report' status is (inr told) =
+    let due : pairs.Outcome = pairs.ran e.bytes (ended_as tree e.end) in
+    let comes : pairs.ComesTo t turns due = (tree, e, is, refl, refl) in
+    let one : told.1.0 ≡ due = same_run told.1.0 e.bytes (ended_as tree e.end) (outcome_is_one t turns told.1.0 due told.1.1 comes) in
+    inr (subst (λ s. Told s o o' report report' status) (told.1.2 ∙ ap pair_views.shown one) told.2)
+
+module _ (words : List (List ℕ)) (files : Files) (files' : Option Files) (reads reads' fwrites fwrites' : ℕ) (o o' : Option (List ℕ)) (writes writes' : ℕ) (report report' : Option (List ℕ)) (status : ℕ)
+    (r : StaysDown reads reads') (w : StaysDown writes writes') where
+  pair_kept : (t : Texts) (turns window : ℕ) → local.AreHeld words (Some files) t turns window → (e : Ending)
+      → ComesTo words (Some files) files' reads reads' fwrites fwrites' o o' writes writes' e → Reported e report report' status → PairTold t turns o o' report report' status
+  pair_kept t turns window held e (inl is) tells = by_pair words files reads reads' o o' writes writes' report report' status r w t turns window held e is.1 tells
+  pair_kept t turns window held e (inr is) tells = absurd (split_or_run words _ is.names is.form (of_local _ _ _ _ _ _ held.form))
+
+  pub calls_tell_what_is_expected : (failed failed' : ℕ) → StaysDown failed failed' → (came : Ending) → ComesTo words (Some files) files' reads reads' fwrites fwrites' o o' writes writes' came
+      → Reports came report report' failed failed' status → (t : Texts) (turns window : ℕ) (tree : TypedTree) (e : Expected) → local.AreHeld words (Some files) t turns window → IsExpected t turns tree e
+      → (status ≡ 12) ⊎ Told (shown_of tree e) o o' report report' status
+  calls_tell_what_is_expected failed failed' f came comes tells t turns window tree e held is =
+      expected_told t turns tree e o o' report report' status is (pair_kept t turns window held came comes (reported came report report' failed failed' status tells f))

@@ -6,11 +6,11 @@ use Rattle.pt_base.specs.Files.{Files, Lacks}
 use Rattle.pt_base.specs.Told.{AppendsPart}
 use Rattle.original.specs.Original as original
 use Rattle.flow_check.specs.Checked as flows
+use Rattle.pair_texts.specs.Start.{Texts}
+use Rattle.local_pair.specs.Local as pairs
 use Rattle.privtrans_app.specs.Words.{IsHelp, IsVersion, IsNoForm, IsNoSplit}
-use Rattle.early_way.specs.EarlyInput as early
-use Rattle.early_way.specs.EarlyInput.{IsBuilt, IsNotBuilt}
 use Rattle.privtrans_app.specs.Help.{help_text, version_text}
-use Rattle.privtrans_app.specs.Ending.{Ending, help, version, exit, accepted, split, usage, missing, read_fault, write_fault, not_built, faults, trapped, spent, memory, status_of, EndsWith}
+use Rattle.privtrans_app.specs.Ending.{Ending, help, version, exit, accepted, split, usage, missing, read_fault, write_fault, faults, trapped, refused, spent, memory, status_of, EndsWith}
 use Rattle.privtrans_app.specs.Held.{IsReached}
 use Rattle.privtrans_app.specs.CheckRun as check
 use Rattle.privtrans_app.specs.LocalRun as local
@@ -18,11 +18,11 @@ use Rattle.privtrans_app.specs.OrigRun as orig
 
 -- the files hold texts of which these bytes and this ending are expected
 abbrev pub Expects : List (List ℕ) → Option Files → List ℕ → Ending → Type 0
-Expects words files bytes e = local.Expects words files bytes e ⊎ orig.Gives words files bytes e ⊎ check.Gives words files bytes e
+Expects words files bytes e = local.Gives words files bytes e ⊎ orig.Gives words files bytes e ⊎ check.Gives words files bytes e
 
 -- the files hold texts of which a stage has faults, and these lines report them
 abbrev pub HaveFaults : List (List ℕ) → Option Files → List ℕ → Type 0
-HaveFaults words files lines = orig.Gives words files [] (faults lines) ⊎ check.Gives words files [] (faults lines)
+HaveFaults words files lines = Expects words files [] (faults lines)
 
 -- what a call broke off writing: nothing came to out, or a first part of the text that the words ask
 -- for or of the bytes that are expected
@@ -50,9 +50,9 @@ ComesTo words files reads reads' out out' writes writes' (missing name) =
     IsReached words files name × (Lacks files name ⊎ Rose reads reads') × Keeps out out'
 ComesTo words files reads reads' out out' writes writes' (read_fault name) = IsReached words files name × Rose reads reads' × Keeps out out'
 ComesTo words files reads reads' out out' writes writes' write_fault = Rose writes writes' × WritesPart words files out out'
-ComesTo words files reads reads' out out' writes writes' not_built = local.Refuses words files × Keeps out out'
 ComesTo words files reads reads' out out' writes writes' (faults lines) = HaveFaults words files lines × Keeps out out'
 ComesTo words files reads reads' out out' writes writes' (trapped trap span) = Runs words files out out' (trapped trap span)
+ComesTo words files reads reads' out out' writes writes' (refused call function state) = Runs words files out out' (refused call function state)
 ComesTo words files reads reads' out out' writes writes' spent = Runs words files out out' spent
 ComesTo words files reads reads' out out' writes writes' memory = WritesPart words files out out'
 
@@ -62,14 +62,12 @@ pub record IsByForm (words : List (List ℕ)) (status : ℕ) : Type 0 where
   pub version : IsVersion words → EndsWith status 0
   pub usage : IsNoForm words → IsNoSplit words → EndsWith status 1
 
--- The status of a run of files that are held as told: 2 where one isn't. Of both halves, 0 for texts of
--- which something is expected, and 5 for texts that aren't early; of the original and of a check, that of
--- what the texts come to.
+-- The status of a run or a check of files that are held as told: 2 where one isn't, else that of what the texts
+-- come to.
 pub record IsByFiles (words : List (List ℕ)) (files : Files) (status : ℕ) : Type 0 where
   pub missing : (name : List ℕ) → IsReached words (Some files) name → files name ≡ None → EndsWith status 2
-  pub built : (t : early.Texts) (turns window : ℕ) (bytes : List ℕ) (s : ℕ)
-      → local.AreHeld words (Some files) t turns window → IsBuilt t turns bytes s → EndsWith status 0
-  pub not_built : (t : early.Texts) (turns window : ℕ) → local.AreHeld words (Some files) t turns window → IsNotBuilt t turns → EndsWith status 5
+  pub paired : (t : Texts) (turns window : ℕ) (o : pairs.Outcome)
+      → local.AreHeld words (Some files) t turns window → pairs.ComesTo t turns o → EndsWith status (status_of (local.ending_of o))
   pub original : (t : original.Texts) (turns : ℕ) (o : original.Outcome) (e : Ending)
       → orig.AreHeld words (Some files) t turns → original.ComesTo t turns o → orig.IsEnding o e → EndsWith status (status_of e)
   pub checked : (text : List ℕ) (o : flows.Outcome) (e : Ending)

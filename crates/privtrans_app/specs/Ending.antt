@@ -1,6 +1,6 @@
 -- What a call comes to, its status and how it is reported.
 use Rattle.std.specs.Prelude.{◌≡◌, ◌≢◌, ◌⊎◌, ℕ, ℤ, Bool, true, false, List, [], ◌++◌, codes, Option}
-use Rattle.std.specs.Fmt.{signed_decimal}
+use Rattle.std.specs.Fmt.{decimal, signed_decimal}
 use Rattle.std.specs.Io.KnownBytes.{Appends}
 use Rattle.pt_base.specs.Faults.{Rose}
 use Rattle.pt_base.specs.Told.{AppendsPart}
@@ -28,12 +28,12 @@ pub data Ending : Type 0 where
   read_fault : List ℕ → Ending
   -- out or report can't be written
   write_fault : Ending
-  -- the texts aren't early
-  not_built : Ending
   -- a stage has faults, and these lines report them
   faults : List ℕ → Ending
   -- the run broke off, at this place of the program's text
   trapped : Trap → Span → Ending
+  -- the policy denied this guarded call, counted from 1, of the function of this name, in the state of this name
+  refused : ℕ → List ℕ → List ℕ → Ending
   -- the run needed one more turn than its budget has
   spent : Ending
   -- want of memory
@@ -50,9 +50,9 @@ status_of usage = 1
 status_of (missing name) = 2
 status_of (read_fault name) = 3
 status_of write_fault = 4
-status_of not_built = 5
 status_of (faults lines) = 5
 status_of (trapped trap span) = 6
+status_of (refused call function state) = 7
 status_of spent = 8
 status_of memory = 12
 
@@ -67,9 +67,9 @@ is_silent usage = true
 is_silent (missing name) = true
 is_silent (read_fault name) = true
 is_silent write_fault = false
-is_silent not_built = true
 is_silent (faults lines) = true
 is_silent (trapped trap span) = false
+is_silent (refused call function state) = false
 is_silent spent = false
 is_silent memory = false
 
@@ -84,9 +84,9 @@ report_of usage = codes "usage\n"
 report_of (missing name) = codes "missing " ++ name ++ codes "\n"
 report_of (read_fault name) = codes "read fault " ++ name ++ codes "\n"
 report_of write_fault = codes "write fault\n"
-report_of not_built = codes "early 1 NotBuilt\n"
 report_of (faults lines) = lines
 report_of (trapped trap span) = codes "trap " ++ trap_name trap ++ codes " " ++ place_text span ++ codes "\n"
+report_of (refused call function state) = codes "refused " ++ decimal call ++ codes " " ++ function ++ codes " " ++ state ++ codes "\n"
 report_of spent = codes "spent\n"
 report_of memory = codes "memory\n"
 

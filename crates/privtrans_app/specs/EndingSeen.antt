@@ -1,7 +1,7 @@
 -- What a call comes to, as the definitions name it.
-use Rattle.privtrans_app.specs.Ending.{Ending as Seen, help, version, exit, accepted, split, usage, missing, read_fault, write_fault, not_built, faults, trapped, spent, memory}
+use Rattle.privtrans_app.specs.Ending.{Ending as Seen, help, version, exit, accepted, split, usage, missing, read_fault, write_fault, faults, trapped, refused, spent, memory}
 use Rattle.privtrans_app.specs.declared.ending.Ending.{Ending}
-use Rattle.privtrans_app.specs.declared.ending.Ending.TheVariants.{Help, Version, Exit, Accepted, Split, Usage, Missing, ReadFault, WriteFault, NotBuilt, Faults, Trapped, Spent, Memory}
+use Rattle.privtrans_app.specs.declared.ending.Ending.TheVariants.{Help, Version, Exit, Accepted, Split, Usage, Missing, ReadFault, WriteFault, Faults, Trapped, Refused, Spent, Memory}
 
 abbrev pub ending_seen : Ending → Seen
 ending_seen Help = help
@@ -13,8 +13,8 @@ ending_seen Usage = usage
 ending_seen (Missing name) = missing name.now
 ending_seen (ReadFault name) = read_fault name.now
 ending_seen WriteFault = write_fault
-ending_seen NotBuilt = not_built
 ending_seen (Faults lines) = faults lines.items
 ending_seen (Trapped trap span) = trapped trap span
+ending_seen (Refused call function state) = refused call function.items state.items
 ending_seen Spent = spent
 ending_seen Memory = memory

@@ -5,7 +5,9 @@ pub mod Ending
 pub mod EndingSeen
 pub mod Held
 pub mod Help
+pub mod Interleaving
 pub mod LocalRun
+pub mod LocalTexts
 pub mod OrigRun
 pub mod OrigTexts
 pub mod Reading

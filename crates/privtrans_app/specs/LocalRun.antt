@@ -1,9 +1,13 @@
 -- What the files of a run of both halves in one process come to.
-use Rattle.std.specs.Prelude.{◌≡◌, ℕ, pos, List, Option}
+use Rattle.std.specs.Prelude.{◌≡◌, ℕ, List, [], Option}
 use Rattle.pt_base.specs.Files.{Files, HoldsAt}
+use Rattle.pair_texts.specs.Start.{Texts, lines_of}
+use Rattle.local_pair.specs.Ends as ends
+use Rattle.local_pair.specs.Local as pairs
+use Rattle.local_pair.specs.Local.{Outcome, refused, ran}
 use Rattle.privtrans_app.specs.Words.{IsLocal}
-use Rattle.privtrans_app.specs.Ending.{Ending, exit}
-use Rattle.early_way.specs.EarlyInput.{Texts, IsBuilt, IsNotBuilt}
+use Rattle.privtrans_app.specs.Ending as endings
+use Rattle.privtrans_app.specs.Ending.{Ending}
 
 -- the words are a run of files that hold these texts, where that is told
 pub record AreHeld (words : List (List ℕ)) (files : Option Files) (t : Texts) (turns window : ℕ) : Type 0 where
@@ -17,12 +21,27 @@ pub record AreHeld (words : List (List ℕ)) (files : Option Files) (t : Texts) 
   pub policy : HoldsAt files policy_name t.policy
   pub input : HoldsAt files input_name t.input
 
--- the files hold texts of which these bytes and this ending are expected
-abbrev pub Expects : List (List ℕ) → Option Files → List ℕ → Ending → Type 0
-Expects words files bytes e =
-    (t : Texts) × (turns : ℕ) × (window : ℕ) × (status : ℕ)
-    × AreHeld words files t turns window × IsBuilt t turns bytes status × (e ≡ exit (pos status))
+-- a run that ends so ends the call so
+abbrev pub ending_at : ends.Ended → Ending
+ending_at (ends.exit status) = endings.exit status
+ending_at (ends.trapped trap span) = endings.trapped trap span
+ending_at ends.spent = endings.spent
+ending_at (ends.refused call function state) = endings.refused call function state
 
--- the files hold texts that aren't early
-abbrev pub Refuses : List (List ℕ) → Option Files → Type 0
-Refuses words files = (t : Texts) × (turns : ℕ) × (window : ℕ) × AreHeld words files t turns window × IsNotBuilt t turns
+-- what texts come to ends the call so
+abbrev pub ending_of : Outcome → Ending
+ending_of (refused refusal) = endings.faults (lines_of refusal)
+ending_of (ran bytes end) = ending_at end
+
+-- the bytes that are written
+abbrev pub bytes_of : Outcome → List ℕ
+bytes_of (refused refusal) = []
+bytes_of (ran bytes end) = bytes
+
+-- the files hold texts that come to this
+abbrev pub ComesTo : List (List ℕ) → Option Files → Outcome → Type 0
+ComesTo words files o = (t : Texts) × (turns : ℕ) × (window : ℕ) × AreHeld words files t turns window × pairs.ComesTo t turns o
+
+-- the files hold texts that come to these bytes and this ending
+abbrev pub Gives : List (List ℕ) → Option Files → List ℕ → Ending → Type 0
+Gives words files bytes e = (o : Outcome) × ComesTo words files o × (e ≡ ending_of o) × (bytes ≡ bytes_of o)

@@ -2,10 +2,10 @@
 use Rattle.std.specs.Prelude.{◌≡◌, ◌⊎◌, ℕ, List, [], ◌∷◌, ◌++◌, ⊤, Option}
 use Rattle.pt_base.specs.Faults.{Rose}
 use Rattle.pt_base.specs.Files.{Files, Lacks, GivesFirst}
-use Rattle.privtrans_app.specs.Ending.{Ending, help, version, exit, accepted, split, usage, missing, read_fault, write_fault, not_built, faults, trapped, spent, memory}
+use Rattle.privtrans_app.specs.Ending.{Ending, help, version, exit, accepted, split, usage, missing, read_fault, write_fault, faults, trapped, refused, spent, memory}
 use Rattle.privtrans_app.specs.Held.{AllHeld}
-use Rattle.early_way.specs.EarlyInput.{Texts}
 use Rattle.original.specs.Original as original
+use Rattle.pair_texts.specs.Start.{Texts}
 use Rattle.privtrans_app.specs.declared.words.LocalWords.{LocalWords}
 use Rattle.privtrans_app.specs.declared.words.OrigWords.{OrigWords}
 
@@ -20,9 +20,9 @@ IsReadRefusal name files reads reads' usage = ⊥
 IsReadRefusal name files reads reads' (missing n) = (n ≡ name) × (Lacks files name ⊎ Rose reads reads')
 IsReadRefusal name files reads reads' (read_fault n) = (n ≡ name) × Rose reads reads'
 IsReadRefusal name files reads reads' write_fault = ⊥
-IsReadRefusal name files reads reads' not_built = ⊥
 IsReadRefusal name files reads reads' (faults lines) = ⊥
 IsReadRefusal name files reads reads' (trapped trap span) = ⊥
+IsReadRefusal name files reads reads' (refused call function state) = ⊥
 IsReadRefusal name files reads reads' spent = ⊥
 IsReadRefusal name files reads reads' memory = ⊤
 

@@ -54,9 +54,9 @@ ComesTo names files files' reads reads' writes writes' e.usage = ⊥
 ComesTo names files files' reads reads' writes writes' (e.missing name) = (name ≡ names.program) × (Lacks files name ⊎ Rose reads reads') × SameFiles files files'
 ComesTo names files files' reads reads' writes writes' (e.read_fault name) = (name ≡ names.program) × Rose reads reads' × SameFiles files files'
 ComesTo names files files' reads reads' writes writes' e.write_fault = Rose writes writes' × StopsWriting names files files'
-ComesTo names files files' reads reads' writes writes' e.not_built = ⊥
 ComesTo names files files' reads reads' writes writes' (e.faults lines) = HasFaults names files lines × SameFiles files files'
 ComesTo names files files' reads reads' writes writes' (e.trapped trap span) = ⊥
+ComesTo names files files' reads reads' writes writes' (e.refused call function state) = ⊥
 ComesTo names files files' reads reads' writes writes' e.spent = ⊥
 ComesTo names files files' reads reads' writes writes' e.memory = SameFiles files files' ⊎ StopsWriting names files files'
 

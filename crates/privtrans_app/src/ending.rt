@@ -1,5 +1,6 @@
 // What a call comes to, its status and its report.
 ghost use Rattle.std.specs.Prelude.{◌≡◌, ◌++◌, IfOk, codes};
+ghost use Rattle.std.specs.Fmt.{decimal};
 ghost use Rattle.pt_base.specs.Traps.{trap_name};
 ghost use Rattle.fault_lines.specs.FaultLines.{place_text};
 ghost use Rattle.privtrans_app.specs.Ending.{status_of, report_of};
@@ -27,11 +28,19 @@ pub(crate) enum Ending<'a> {
     /// The file of this name can't be read.
     ReadFault(&'a str),
     WriteFault,
-    NotBuilt,
     /// A stage has faults: the lines that report them.
     Faults(Vec<u8>),
     /// The run broke off, at this place of the program's text.
     Trapped(Trap, Span),
+    /// The policy denied a guarded call.
+    Refused {
+        /// The call's number among the guarded calls, from 1.
+        call: u64,
+        /// The function's name.
+        function: Vec<u8>,
+        /// The name of the policy's state.
+        state: Vec<u8>,
+    },
     /// The run needed one more turn than its budget has.
     Spent,
     Memory,
@@ -51,9 +60,9 @@ pub(crate) fn status(ending: &Ending<'_>) -> u8
         Ending::Missing(_) => 2,
         Ending::ReadFault(_) => 3,
         Ending::WriteFault => 4,
-        Ending::NotBuilt => 5,
         Ending::Faults(_) => 5,
         Ending::Trapped(..) => 6,
+        Ending::Refused { .. } => 7,
         Ending::Spent => 8,
         Ending::Memory => 12,
     }
@@ -81,6 +90,26 @@ fn trap_line(alloc: Global, trap: Trap, span: Span) -> Result<Vec<u8>, AllocErro
     Ok(line)
 }
 
+// The line of a run that the policy ended at this call.
+fn refused_line(
+    alloc: Global,
+    call: u64,
+    function: &[u8],
+    state: &[u8],
+) -> Result<Vec<u8>, AllocError>
+    ensures { IfOk result (λ line. line.items ≡ codes "refused " ++ decimal call ++ codes " " ++ function.now ++ codes " " ++ state.now ++ codes "\n") }
+{
+    let mut buffer = Buffer::new();
+    let mut line = Vec::from_slice(alloc, b"refused ")?;
+    line.extend_from_slice(buffer.format(call).as_bytes())?;
+    line.push(b' ')?;
+    line.extend_from_slice(function)?;
+    line.push(b' ')?;
+    line.extend_from_slice(state)?;
+    line.push(b'\n')?;
+    Ok(line)
+}
+
 /// What is reported of an ending.
 pub(crate) fn report(alloc: Global, ending: Ending<'_>) -> Result<Vec<u8>, AllocError>
     ensures { IfOk result (λ line. line.items ≡ report_of (ending_seen ending.entry)) }
@@ -98,9 +127,13 @@ pub(crate) fn report(alloc: Global, ending: Ending<'_>) -> Result<Vec<u8>, Alloc
         Ending::Missing(name) => named_line(alloc, b"missing ", name),
         Ending::ReadFault(name) => named_line(alloc, b"read fault ", name),
         Ending::WriteFault => Vec::from_slice(alloc, b"write fault\n"),
-        Ending::NotBuilt => Vec::from_slice(alloc, b"early 1 NotBuilt\n"),
         Ending::Faults(lines) => Ok(lines),
         Ending::Trapped(trap, span) => trap_line(alloc, trap, span),
+        Ending::Refused {
+            call,
+            function,
+            state,
+        } => refused_line(alloc, call, &function, &state),
         Ending::Spent => Vec::from_slice(alloc, b"spent\n"),
         Ending::Memory => Vec::from_slice(alloc, b"memory\n"),
     }

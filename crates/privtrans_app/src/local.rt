@@ -1,21 +1,36 @@
-// Both halves in one process: the files are read, early texts are run, and what they write goes to
-// out.
-ghost use Rattle.std.specs.Prelude.{◌≡◌, ◌≤◌, ℕ, pos, true, List, IfOk, IfErr};
+// Both halves in one process: the files are read, the pair of their texts is run, and what its hosts write
+// goes to out.
+ghost use Rattle.std.specs.Prelude.{◌≡◌, ◌≤◌, [], ℕ, true, false, List, IfOk, IfErr};
+ghost use Rattle.link_talks.specs.Choosing.{AreTaken};
 ghost use Rattle.pt_base.specs.Files.{SameFiles};
-ghost use Rattle.privtrans_app.specs.Words.{IsLocal};
+ghost use Rattle.local_pair.specs.OutcomeSeen.{ended_seen};
 ghost use Rattle.privtrans_app.specs.Causes.{ComesTo};
-ghost use Rattle.privtrans_app.specs.Ending.{exit, is_silent};
+ghost use Rattle.privtrans_app.specs.Ending.{is_silent};
 ghost use Rattle.privtrans_app.specs.EndingSeen.{ending_seen};
+ghost use Rattle.privtrans_app.specs.Interleaving.{TakesTurns};
+ghost use Rattle.privtrans_app.specs.LocalRun.{ending_at};
+ghost use Rattle.privtrans_app.specs.LocalTexts.{local_texts_of};
 ghost use Rattle.privtrans_app.specs.Reading.{IsRefusal, AreFirst, local_names};
-ghost use Rattle.early_way.specs.EarlyTexts.{texts_of};
+ghost use Rattle.privtrans_app.specs.Words.{IsLocal};
 
 use crate::ending::Ending;
 use crate::reading::read_text;
 use crate::words::LocalWords;
 use crate::writing::put;
-use early_way::{Outcome, Texts, outcome_of};
-use pt_base::{Folder, Sink};
+use local_pair::{Ended, Outcome, outcome_of};
+use pair_texts::Beside;
+use pt_base::{Chooser, Folder, Sink, Watch};
 use std::alloc::Global;
+use std::thread::Threads;
+
+/// The four texts of a pair.
+#[derive(Drop)]
+pub(crate) struct Texts {
+    pub program: Vec<u8>,
+    pub host: Vec<u8>,
+    pub policy: Vec<u8>,
+    pub input: Vec<u8>,
+}
 
 // The text of each word's file, one after another.
 fn read_texts<'a, F: Folder>(
@@ -23,7 +38,7 @@ fn read_texts<'a, F: Folder>(
     folder: &mut F,
     words: &LocalWords<'a>,
 ) -> Result<Texts, Ending<'a>>
-    ensures texts { IfOk result (λ t. AreFirst words.now (F.files folder.old) (texts_of t)) }
+    ensures texts { IfOk result (λ t. AreFirst words.now (F.files folder.old) (local_texts_of t)) }
     ensures refusal { IfErr result (λ e. IsRefusal (local_names words.now) (F.files folder.old)
         (F.read_faults folder.old) (F.read_faults folder.new) (ending_seen e)) }
     ensures same { SameFiles (F.files folder.old) (F.files folder.new) }
@@ -42,24 +57,47 @@ fn read_texts<'a, F: Folder>(
     })
 }
 
-// main returned this number.
-fn exit_of<'a>(status: u32) -> Ending<'a>
-    ensures { ending_seen result ≡ exit (pos status) }
+// How a run's end ends the call.
+fn ending_of<'a>(end: Ended) -> Ending<'a>
+    ensures ending { ending_seen result ≡ ending_at (ended_seen end) }
+    ensures loud { is_silent (ending_seen result) ≡ false }
 {
-    Ending::Exit(i64::from(status))
+    match end {
+        Ended::Exit(status) => Ending::Exit(i64::from(status)),
+        Ended::Trapped(trap, span) => Ending::Trapped(trap, span),
+        Ended::Spent => Ending::Spent,
+        Ended::Refused {
+            call,
+            function,
+            state,
+        } => Ending::Refused {
+            call,
+            function,
+            state,
+        },
+    }
 }
 
-/// Runs the files that the words name.
-pub(crate) fn local<'a, F: Folder, K: Sink>(
+/// Runs the pair of the files that the words name. The chooser says at each step which half goes on, and the
+/// watch is told of each function that has a body, as the front end works on it.
+pub(crate) fn local<'a, R: Threads + Sync, F: Folder, K: Sink, C: Chooser, W: Watch>(
+    rt: &R,
     alloc: Global,
     words: &LocalWords<'a>,
     folder: &mut F,
     out: &mut K,
+    chooser: &mut C,
+    watch: &W,
 ) -> Ending<'a>
+    requires window { 1 ≤ words.now.window }
     ensures ending { (given : List (List ℕ)) →
         IsLocal given words.now.program.now words.now.host.now words.now.policy.now words.now.input.now words.now.turns words.now.window →
         ComesTo given (F.files folder.old) (F.read_faults folder.old) (F.read_faults folder.new)
         (K.taken out.old) (K.taken out.new) (K.faults out.old) (K.faults out.new) (ending_seen result) }
+    ensures turns { (given : List (List ℕ)) →
+        IsLocal given words.now.program.now words.now.host.now words.now.policy.now words.now.input.now words.now.turns words.now.window →
+        TakesTurns given (F.files folder.old) (C.answers chooser.old) (C.answers chooser.new) (K.taken out.old) (K.taken out.new) (ending_seen result) }
+    ensures untaken { is_silent (ending_seen result) ≡ true → AreTaken [] (C.answers chooser.old) (C.answers chooser.new) }
     ensures silent { is_silent (ending_seen result) ≡ true → out.new ≡ out.old }
     ensures same { SameFiles (F.files folder.old) (F.files folder.new) }
     ensures writes { F.write_faults folder.new ≡ F.write_faults folder.old }
@@ -69,11 +107,24 @@ pub(crate) fn local<'a, F: Folder, K: Sink>(
         Ok(texts) => texts,
         Err(ending) => return ending,
     };
-    let Ok(outcome) = outcome_of(alloc, &texts, words.turns) else {
-        return Ending::Memory;
+    let beside = Beside {
+        host: &texts.host,
+        policy: &texts.policy,
+        input: &texts.input,
+        turns: words.turns,
     };
+    let outcome = outcome_of(
+        rt,
+        alloc,
+        &texts.program,
+        beside,
+        words.window,
+        chooser,
+        watch,
+    );
     match outcome {
-        Outcome::NotBuilt => Ending::NotBuilt,
-        Outcome::Exits { out: bytes, status } => put(alloc, out, &bytes, exit_of(status)),
+        Ok(Outcome::Refused(lines)) => Ending::Faults(lines),
+        Ok(Outcome::Ran { written, end }) => put(alloc, out, &written, ending_of(end)),
+        Err(_) => Ending::Memory,
     }
 }

@@ -1,13 +1,21 @@
 // The top call.
-ghost use Rattle.std.specs.Prelude.{◌≡◌, ◌≤◌, true, Some, map};
+ghost use Rattle.std.specs.Prelude.{◌≡◌, ◌≤◌, ◌⊎◌, [], ℕ, true, List, Some, map};
 ghost use Rattle.pt_base.specs.Files.{Files, SameFiles};
+ghost use Rattle.link_talks.specs.Choosing.{AreTaken};
+ghost use Rattle.runs.specs.Run.{Expected};
+ghost use Rattle.typed_tree.specs.TypedTree.{TypedTree};
+ghost use Rattle.pair_texts.specs.Start.{Texts};
+ghost use Rattle.local_pair.specs.Local.{IsExpected};
+ghost use Rattle.local_pair.specs.Seen.{shown_of};
 ghost use Rattle.privtrans_app.specs.Calls as calls;
 ghost use Rattle.privtrans_app.specs.Calls.{IsBySplit};
 ghost use Rattle.privtrans_app.specs.Causes.{ComesTo, IsByForm, IsByFiles};
 ghost use Rattle.privtrans_app.specs.Ending.{Ending, Reports, StaysDown, is_silent};
 ghost use Rattle.privtrans_app.specs.EndingSeen.{ending_seen};
-ghost use Rattle.privtrans_app.specs.Whole.{AreKept};
-ghost use Rattle.privtrans_app.specs.Words.{IsNoRun, IsNoSplit};
+ghost use Rattle.privtrans_app.specs.Interleaving.{IsInterleaved, IsOfNoRun, IsOfRun, TakesTurns};
+ghost use Rattle.privtrans_app.specs.LocalRun as paired;
+ghost use Rattle.privtrans_app.specs.Whole.{AreKept, Told};
+ghost use Rattle.privtrans_app.specs.Words.{IsLocal, IsNoLocal, IsNoRun, IsNoSplit};
 
 use crate::check::check;
 use crate::ending::{Ending as Came, report, status};
@@ -22,16 +30,21 @@ use std::alloc::Global;
 use std::thread::Threads;
 
 // What words that are no split come to. No file is written.
-fn came_to<'a, R: Threads + Sync, F: Folder, K: Sink, W: Watch>(
+fn came_to<'a, R: Threads + Sync, F: Folder, K: Sink, C: Chooser, W: Watch>(
     rt: &R,
     alloc: Global,
     words: &[&'a str],
     folder: &mut F,
     out: &mut K,
+    chooser: &mut C,
     watch: &W,
 ) -> Came<'a>
     ensures ending { ComesTo (map (λ w. w.now) words.now) (F.files folder.old) (F.read_faults folder.old) (F.read_faults folder.new)
         (K.taken out.old) (K.taken out.new) (K.faults out.old) (K.faults out.new) (ending_seen result) }
+    ensures turns { (program host policy input : List ℕ) (turns window : ℕ) → IsLocal (map (λ w. w.now) words.now) program host policy input turns window →
+        TakesTurns (map (λ w. w.now) words.now) (F.files folder.old) (C.answers chooser.old) (C.answers chooser.new) (K.taken out.old) (K.taken out.new) (ending_seen result) }
+    ensures unasked { IsNoLocal (map (λ w. w.now) words.now) → chooser.new ≡ chooser.old }
+    ensures untaken { is_silent (ending_seen result) ≡ true → AreTaken [] (C.answers chooser.old) (C.answers chooser.new) }
     ensures silent { is_silent (ending_seen result) ≡ true → out.new ≡ out.old }
     ensures unread { IsNoRun (map (λ w. w.now) words.now) → folder.new ≡ folder.old }
     ensures same { SameFiles (F.files folder.old) (F.files folder.new) }
@@ -42,23 +55,28 @@ fn came_to<'a, R: Threads + Sync, F: Folder, K: Sink, W: Watch>(
         None => Came::Usage,
         Some(Form::Help) => put(alloc, out, HELP, Came::Help),
         Some(Form::Version) => put(alloc, out, VERSION, Came::Version),
-        Some(Form::Local(words)) => local(alloc, &words, folder, out),
+        Some(Form::Local(words)) => local(rt, alloc, &words, folder, out, chooser, watch),
         Some(Form::Orig(words)) => orig(rt, alloc, &words, folder, out, watch),
         Some(Form::Check(program)) => check(rt, alloc, program, folder, out, watch),
     }
 }
 
 // What the words come to. Files are written by a split alone.
-fn ended<'a, R: Threads + Sync, F: Folder, K: Sink, W: Watch>(
+fn ended<'a, R: Threads + Sync, F: Folder, K: Sink, C: Chooser, W: Watch>(
     rt: &R,
     alloc: Global,
     words: &[&'a str],
     folder: &mut F,
     out: &mut K,
+    chooser: &mut C,
     watch: &W,
 ) -> Came<'a>
     ensures ending { calls.ComesTo (map (λ w. w.now) words.now) (F.files folder.old) (F.files folder.new) (F.read_faults folder.old) (F.read_faults folder.new)
         (F.write_faults folder.old) (F.write_faults folder.new) (K.taken out.old) (K.taken out.new) (K.faults out.old) (K.faults out.new) (ending_seen result) }
+    ensures turns { (program host policy input : List ℕ) (turns window : ℕ) → IsLocal (map (λ w. w.now) words.now) program host policy input turns window →
+        TakesTurns (map (λ w. w.now) words.now) (F.files folder.old) (C.answers chooser.old) (C.answers chooser.new) (K.taken out.old) (K.taken out.new) (ending_seen result) }
+    ensures unasked { IsNoLocal (map (λ w. w.now) words.now) → chooser.new ≡ chooser.old }
+    ensures untaken { is_silent (ending_seen result) ≡ true → AreTaken [] (C.answers chooser.old) (C.answers chooser.new) }
     ensures silent { is_silent (ending_seen result) ≡ true → out.new ≡ out.old }
     ensures unread { IsNoRun (map (λ w. w.now) words.now) → IsNoSplit (map (λ w. w.now) words.now) → folder.new ≡ folder.old }
     ensures same { IsNoSplit (map (λ w. w.now) words.now) → SameFiles (F.files folder.old) (F.files folder.new) × (F.write_faults folder.new ≡ F.write_faults folder.old) }
@@ -66,7 +84,7 @@ fn ended<'a, R: Threads + Sync, F: Folder, K: Sink, W: Watch>(
 {
     match split_of(words) {
         Some(words) => split(rt, alloc, &words, folder, watch),
-        None => came_to(rt, alloc, words, folder, out, watch),
+        None => came_to(rt, alloc, words, folder, out, chooser, watch),
     }
 }
 
@@ -91,10 +109,11 @@ fn tell<E: Sink>(alloc: Global, sink: &mut E, ending: Came<'_>) -> u8
 
 /// Does what the words ask for, and gives the status that the program ends with: 0 where it was
 /// done, 1 where the words are of no form, 2 where a file is missing, 3 where one can't be read, 4
-/// where out, the report or a half can't be written, 5 where the texts have faults or aren't early, 6 where the
-/// run broke off, 8 where its budget of turns was spent, 12 for want of memory. Lines in `report`,
-/// mostly one, say how it ended; help and version have none. The watch is told of each function that
-/// the front end works on, and changes nothing.
+/// where out, the report or a half can't be written, 5 where the texts have faults, 6 where the run broke
+/// off, 7 where the policy denied a call, 8 where its budget of turns was spent, 12 for want of memory.
+/// Lines in `report`, mostly one, say how it ended; help and version have none. Where both halves run, the
+/// chooser says at each step which of them goes on. The watch is told of each function that the front end
+/// works on, and changes nothing.
 pub fn privtrans<R: Threads + Sync, F: Folder, K: Sink, E: Sink, S: Spawner, C: Chooser, W: Watch>(
     rt: &R,
     alloc: Global,
@@ -129,23 +148,42 @@ pub fn privtrans<R: Threads + Sync, F: Folder, K: Sink, E: Sink, S: Spawner, C: 
         → StaysDown (F.write_faults folder.old) (F.write_faults folder.new)
         → StaysDown (E.faults report.old) (E.faults report.new)
         → IsBySplit (map (λ w. w.now) words.now) files result }
-    // of `orig`, `check` and `split` all that is seen: out's bytes, the report, the status and the halves' files are
-    // those of what the told texts come to, where no count of faults rose, or memory was wanting
+    // of each command all that is seen: out's bytes, the report, the status and the halves' files are those of
+    // what the told texts come to, where no count of faults rose, or memory was wanting
     ensures whole { (files : Files) → F.files folder.old ≡ Some files
         → StaysDown (F.read_faults folder.old) (F.read_faults folder.new)
         → StaysDown (F.write_faults folder.old) (F.write_faults folder.new)
         → StaysDown (K.faults out.old) (K.faults out.new)
         → StaysDown (E.faults report.old) (E.faults report.new)
         → AreKept (map (λ w. w.now) words.now) files (F.files folder.new) (K.taken out.old) (K.taken out.new) (E.taken report.old) (E.taken report.new) result }
-    // no file is written but by a split, and none is read where the words name none; the spawner isn't used
-    // and the chooser isn't asked
+    // The headline. Where the folder tells its files and no count of faults rose: of files that hold a program
+    // that breaks no rule of flows, with a host table, a policy and an input, both halves together write what is
+    // expected of the program itself under the policy within the budget, and the report and the status say that
+    // it ended as is expected; or memory was wanting.
+    ensures headline { (files : Files) → F.files folder.old ≡ Some files
+        → StaysDown (F.read_faults folder.old) (F.read_faults folder.new)
+        → StaysDown (K.faults out.old) (K.faults out.new)
+        → StaysDown (E.faults report.old) (E.faults report.new)
+        → (t : Texts) (turns window : ℕ) (tree : TypedTree) (e : Expected)
+        → paired.AreHeld (map (λ w. w.now) words.now) (Some files) t turns window
+        → IsExpected t turns tree e
+        → (result ≡ 12) ⊎ Told (shown_of tree e) (K.taken out.old) (K.taken out.new) (E.taken report.old) (E.taken report.new) result }
+    // whatever failed: where a run of both halves came to its end, out's new bytes are what the steps of a slave and
+    // a monitor write that go on one by one as the answers say that were taken from the chooser, to the last one
+    ensures interleaving { (program host policy input : List ℕ) (turns window : ℕ)
+        → IsLocal (map (λ w. w.now) words.now) program host policy input turns window
+        → IsOfRun result
+        → IsInterleaved (map (λ w. w.now) words.now) (F.files folder.old) (C.answers chooser.old) (C.answers chooser.new) (K.taken out.old) (K.taken out.new) }
+    // no file is written but by a split, and none is read where the words name none; the spawner isn't used, and
+    // the chooser is asked by `local` alone, and there only where both halves run
     ensures untouched { (IsNoSplit (map (λ w. w.now) words.now) → SameFiles (F.files folder.old) (F.files folder.new) × (F.write_faults folder.new ≡ F.write_faults folder.old))
         × (IsNoRun (map (λ w. w.now) words.now) → IsNoSplit (map (λ w. w.now) words.now) → folder.new ≡ folder.old)
-        × (spawner.new ≡ spawner.old) × (chooser.new ≡ chooser.old) }
+        × (spawner.new ≡ spawner.old) × (IsNoLocal (map (λ w. w.now) words.now) → chooser.new ≡ chooser.old)
+        × (IsOfNoRun result → AreTaken [] (C.answers chooser.old) (C.answers chooser.new)) }
     // no count of faults falls
     ensures counts { (F.read_faults folder.old ≤ F.read_faults folder.new) × (F.write_faults folder.old ≤ F.write_faults folder.new)
         × (K.faults out.old ≤ K.faults out.new) × (E.faults report.old ≤ E.faults report.new) }
 {
-    let ending = ended(rt, alloc, words, folder, out, watch);
+    let ending = ended(rt, alloc, words, folder, out, chooser, watch);
     tell(alloc, report, ending)
 }
