@@ -1,5 +1,5 @@
 -- The slave with its queue.
-use Rattle.std.proofs.Common.{◌≡◌, ◌++◌, Bool, true, false, Option, refl, sym, ap, subst, ◌∙◌}
+use Rattle.std.proofs.Common.{◌≡◌, ◌++◌, ℕ, Bool, true, false, Option, refl, sym, ap, subst, ◌∙◌}
 use Rattle.wire.specs.declared.message.Message.{Message}
 use Rattle.pair_sides.specs.Sides.{Mode, Moved, going, over}
 use Rattle.pair_sides.specs.SlaveRun.{listed}
@@ -8,9 +8,9 @@ use Rattle.pair_meaning.specs.Pair.{the_sides}
 use Rattle.pair_meaning.specs.SlaveRun as s
 use Rattle.slave_interp.specs.declared.slave.Slave.{Slave}
 use Rattle.slave_interp.specs.Running.{next_by, next_of}
-use Rattle.slave_interp.specs.Slaves.{IsSlave}
+use Rattle.slave_interp.specs.Slaves.{HasRun, IsSlave}
 use Rattle.memory_link.specs.declared.slave_half.SlaveHalf.{SlaveHalf}
-use Rattle.memory_link.specs.Halves.{IsHalf, IsHeld}
+use Rattle.memory_link.specs.Halves.{HasRunTo, IsHalf, IsHeld}
 
 over_going : {A : Type 0} → over ≡ going → A
 over_going e = cc
@@ -40,4 +40,21 @@ steps_once x end said steps same put h is m =
     record {
       slave = subst (λ (b : Bool). IsHeld b end.slave (s.slave_step h.slave).slave) (sym (same ∙ nothing)) (subst (λ (n : Moved s.Slave Message). IsSlave end.slave n.slave) next stepped.0);
       queue = put ∙ ap (λ q. q ++ listed said) is.queue ∙ ap (λ (o : Option Message). h.queue ++ listed o) (stepped.1 ∙ ap (λ (n : Moved s.Slave Message). n.said) next);
+    }
+
+-- so many steps of it, whose words wait behind the others
+pub runs_so : (x end : SlaveHalf) (made most : ℕ) (said : Option Message) → ((from : s.Slave) → IsSlave x.slave from → HasRun made most from said end.slave) → end.refused ≡ x.refused →
+    end.queue.items ≡ x.queue.items ++ listed said → (h : Half s.Slave Message) → IsHalf x h → s.mode_of h.slave ≡ going → HasRunTo made h end
+runs_so x end made most said runs same put h is m =
+    let nothing : x.refused ≡ false = refused_nothing x.refused x.slave h.slave m is.slave in
+    let ran : HasRun made most h.slave said end.slave = runs h.slave (held_slave x.refused x.slave h.slave nothing is.slave) in
+    record {
+      to = ran.to;
+      said = said;
+      there = record {
+        slave = subst (λ (b : Bool). IsHeld b end.slave ran.to) (sym (same ∙ nothing)) ran.there;
+        queue = put ∙ ap (λ q. q ++ listed said) is.queue;
+      };
+      came_to = ran.came_to;
+      quiet = ran.quiet;
     }
