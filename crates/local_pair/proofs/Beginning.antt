@@ -13,11 +13,11 @@ use Rattle.pt_core.specs.CodeTree.{BootTree, MonitorTree, view_boot, view_monito
 use Rattle.pt_core.specs.WellFormed.{is_well_formed_boot, is_well_formed_monitor}
 use Rattle.pair_meaning.specs.Monitors.{Monitor}
 use Rattle.pair_meaning.specs.SlaveRun.{longest, slave_of}
-use Rattle.serving_soundness_law.specs.Sound.{HostsServe}
+use Rattle.pair_texts_law.specs.Laws.{HostsServe}
 use Rattle.monitor_interp.specs.Gates.{hosts_for}
 use Rattle.memory_talks_law.specs.Laws.{ComesToAnEnd}
-use Rattle.pair_start_law.specs.Own.{HostsAre}
-use Rattle.accepted_pairs_law.specs.Laws.{DoesWhatIsExpected, expected_of}
+use Rattle.pair_texts_law.specs.Laws.{HostsAre}
+use Rattle.pair_texts_law.specs.Laws.{DoesWhatIsExpected, expected_of}
 use Rattle.pair_texts.specs.declared.outcome.Outcome.{Outcome}
 use Rattle.pair_texts.specs.declared.outcome.Outcome.TheVariants.{Begins}
 use Rattle.pair_texts.specs.declared.outcome.Pair.{Pair}

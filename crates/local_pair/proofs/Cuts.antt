@@ -7,7 +7,7 @@ use Rattle.typed_tree.specs.TypedTree.{TypedTree}
 use Rattle.host_lines.specs.GivenHosts.{most}
 use Rattle.host_lines.proofs.Cuts.{short_cut}
 use Rattle.policy.specs.Verdicts.{start}
-use Rattle.accepted_pairs_law.specs.Laws.{expected_of}
+use Rattle.pair_texts_law.specs.Laws.{expected_of}
 use Rattle.pair_texts.specs.Laws as begun
 use Rattle.pair_texts.specs.Laws.{AreCut}
 use Rattle.pair_texts.specs.Start.{Texts}

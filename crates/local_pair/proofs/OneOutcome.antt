@@ -8,7 +8,7 @@ use Rattle.host_table.specs.Hosts.{Hosts}
 use Rattle.host_table.specs.RunHosts.{models_of}
 use Rattle.policy.specs.Verdicts.{start}
 use Rattle.policy.proofs.LawLemmas.{policy_is_one}
-use Rattle.accepted_pairs_law.specs.Laws.{expected_of}
+use Rattle.pair_texts_law.specs.Laws.{expected_of}
 use Rattle.pair_meaning.specs.Start.{boot_of, monitor_start}
 use Rattle.program_halves.specs.ProgramHalves.{monitor_half, slave_half}
 use Rattle.pair_texts.specs.Laws as begun

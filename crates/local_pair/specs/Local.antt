@@ -9,7 +9,7 @@ use Rattle.policy.specs.Verdicts.{start}
 use Rattle.flow_rules.specs.declared.accepted.Accepted.{Accepted}
 use Rattle.flow_rules.specs.Faults.{IsAccepted}
 use Rattle.flow_check.specs.Laws.{without_way}
-use Rattle.accepted_pairs_law.specs.Laws.{expected_of}
+use Rattle.pair_texts_law.specs.Laws.{expected_of}
 pub use Rattle.pair_texts.specs.Laws.{AreCut}
 use Rattle.pair_texts.specs.Start.{AreRead, IsRefused, Refusal, Texts, flow, host, input, lex, parse, policy, types}
 use Rattle.local_pair.specs.Ends.{Ended, ended_as}

@@ -8,7 +8,7 @@ use Rattle.pair_sides.specs.Pair.{Who}
 use Rattle.pair_meaning.specs.Monitors.{Monitor}
 use Rattle.pair_meaning.specs.Pair.{IsWhole}
 use Rattle.monitor_interp.specs.Gates.{hosts_for}
-use Rattle.pair_start_law.specs.Own.{with_hosts}
+use Rattle.pair_texts_law.specs.Laws.{with_hosts}
 use Rattle.pair_texts.specs.Start.{AreStarted, Texts}
 
 -- the monitor with its own hosts alone, which are those that its program has signatures of

@@ -8,8 +8,12 @@ use crate::outcome::Ended;
 use pt_base::{Bytes, End, FnId};
 use std::alloc::{AllocError, Global};
 
-/// The end, of a program whose functions have these names.
-pub(crate) fn ended(alloc: Global, end: End, names: &[Bytes]) -> Result<Ended, AllocError>
+/// The end of a run, of a program whose functions have these names, by their numbers.
+///
+/// # Errors
+///
+/// Want of memory alone.
+pub fn ended(alloc: Global, end: End, names: &[Bytes]) -> Result<Ended, AllocError>
     ensures { IfOk result (λ ended. ended_seen ended ≡ ended_with names.now end) }
 {
     match end {

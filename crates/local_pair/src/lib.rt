@@ -11,6 +11,7 @@ mod outcome;
 mod running;
 mod sink;
 
+pub use ending::ended;
 pub use laws::{first_bytes_are_enough, seen_is_one, texts_have_one_outcome};
 pub use local::outcome_of;
 pub use outcome::{Ended, Outcome};

@@ -10,7 +10,7 @@ ghost use Rattle.pair_runner.specs.declared.fault.RunFault.TheVariants.{Memory};
 ghost use Rattle.pair_texts.specs.Start.{Texts};
 ghost use Rattle.pt_core.specs.CodeTree.{view_boot, view_monitor};
 ghost use Rattle.pt_core.specs.WellFormed.{is_well_formed_boot, is_well_formed_monitor};
-ghost use Rattle.serving_soundness_law.specs.Sound.{HostsServe};
+ghost use Rattle.pair_texts_law.specs.Laws.{HostsServe};
 ghost use Rattle.local_pair.specs.OutcomeSeen.{IsOutcome, IsWholeRun};
 ghost use Rattle.local_pair.specs.Running.{AreTextsOf, BeginsAs, HaveRun, StandAt};
 
