@@ -1,0 +1,8 @@
+pub mod Beginning
+mod Gates
+pub mod Saying
+mod Spans
+pub mod Stepping
+mod Steps
+pub mod Taking
+mod Writing
