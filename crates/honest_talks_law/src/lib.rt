@@ -1,0 +1,34 @@
+//! A monitor over a link whose peer is an honest one comes to what is expected of the pair, and to nothing else: it sends such a peer
+//! nothing that it can't be sent, and no frame of it is a bad one or breaks a rule.
+#![tactic(auto)]
+
+ghost use Rattle.honest_talks_law.specs.Laws.{BegunPairsAreFair, HonestTalksAreExpected};
+
+use awaited_replies_law::{replies_are_awaited, what_is_said_grows};
+use kept_slaves_law::accepted_slaves_stay;
+use pair_calls_law::calls_keep;
+use pair_start_law::accepted_pairs_begin;
+use pair_texts_law::{begun_boots_are_well_formed, begun_pairs_are_expected};
+use said_code_law::checked_programs_place_nulls;
+use spoken_messages_law::spoken_messages_are_spelled;
+
+/// A talk over an honest link is served to the expected end, with the expected bytes.
+pub fn honest_talks_are_expected()
+    ensures { HonestTalksAreExpected }
+{
+    what_is_said_grows();
+}
+
+/// The pair that begins from faultless texts is one whose talks are so.
+pub fn begun_pairs_are_fair()
+    ensures { BegunPairsAreFair }
+{
+    begun_pairs_are_expected();
+    begun_boots_are_well_formed();
+    checked_programs_place_nulls();
+    accepted_slaves_stay();
+    accepted_pairs_begin();
+    calls_keep();
+    replies_are_awaited();
+    spoken_messages_are_spelled();
+}
