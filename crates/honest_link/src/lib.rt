@@ -1,6 +1,6 @@
-//! A link that is used as another one, and tells whoever used it what an honest peer would have said.
+//! Links that tell whoever used them what an honest peer would have said.
 #![tactic(auto)]
 
 mod witness;
 
-pub use witness::Witness;
+pub use witness::{Witness, Witnessed};

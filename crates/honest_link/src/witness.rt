@@ -1,54 +1,51 @@
-// A link that is used as another.
-ghost use Rattle.std.specs.Prelude.{◌≡◌};
+// Links that tell what an honest peer said.
+ghost use Rattle.std.specs.Prelude.{◌≡◌, List};
+ghost use Rattle.pt_base.specs.Talk.{Event};
+ghost use Rattle.honest_link.specs.Came.{Came};
 
-use pt_base::{Link, LinkFault};
+use pt_base::{Link, LinkFault, Spawner};
 use std::alloc::Global;
 
-/// A link that is used as the one that it has. By what it came by, its user learns what that one was sent and gave as long as it was
-/// honest.
-#[derive(Drop)]
-pub struct Witness<'a, L: Link> {
-    link: &'a mut L,
+/// A spawner that tells, by what it came by, what its peer said as long as it was honest.
+pub trait Witnessed: Spawner {
+    /// Where it was honest, the talk went along what its peer says.
+    ghost along: { (a b : Self) (talk : List Event) → Self.came a talk b → Came Self.honest Self.sent Self.given a talk b };
 }
 
-impl<'a, L: Link> Witness<'a, L> {
+/// A link that is used as the one that it has, and tells by what it came by what the peer said as long as that one was honest.
+#[derive(Drop)]
+pub struct Witness<L: Link> {
+    link: L,
+}
+
+impl<L: Link> Witness<L> {
     /// It is used as this link.
-    pub fn new(link: &'a mut L) -> Self
-        ensures same_reference { result.link.ghost_name ≡ link.entry.ghost_name }
-        ensures link { result.link.now ≡ link.old }
+    pub fn new(link: L) -> Self
+        ensures { result.link ≡ link }
     {
         Witness { link }
     }
-
-    /// Gives the link back.
-    pub fn into_link(self) -> &'a mut L
-        ensures same_reference { result.ghost_name ≡ self.entry.link.ghost_name }
-        ensures link { result.now ≡ self.entry.link.now }
-    {
-        let Witness { link } = self;
-        link
-    }
 }
 
-impl<'a, L: Link> Link for Witness<'a, L> {
+impl<L: Link> Link for Witness<L> {
     ghost use Rattle.honest_link.specs.Came.{Came};
     ghost use Rattle.honest_link.specs.CameLaws.{came-further, came-same};
 
-    ghost sent = { λ w. L.sent w.link.now };
+    ghost sent = { λ w. L.sent w.link };
 
-    ghost given = { λ w. L.given w.link.now };
+    ghost given = { λ w. L.given w.link };
 
-    ghost faults = { λ w. L.faults w.link.now };
+    ghost faults = { λ w. L.faults w.link };
 
-    ghost ready = { λ w. L.ready w.link.now };
+    ghost ready = { λ w. L.ready w.link };
 
-    ghost honest = { λ w says form. L.honest w.link.now says form };
+    ghost honest = { λ w says form. L.honest w.link says form };
 
-    ghost came = { Came L.honest L.sent L.given };
+    ghost came = { λ a talk b. Came L.honest L.sent L.given a.link talk b.link };
 
-    ghost same = { came-same L.honest L.sent L.given };
+    ghost same = { λ w. came-same L.honest L.sent L.given w.link };
 
-    ghost further = { came-further L.honest L.sent L.given };
+    ghost further = { λ a b c. came-further L.honest L.sent L.given a.link b.link c.link };
 
     fn send(&mut self, alloc: Global, bytes: &[u8]) -> Result<(), LinkFault> {
         self.link.send(alloc, bytes)?;
@@ -59,4 +56,22 @@ impl<'a, L: Link> Link for Witness<'a, L> {
         let piece = self.link.receive(alloc, max)?;
         Ok(piece)
     }
+}
+
+impl<S: Spawner> Spawner for Witness<S> {
+    fn start(&mut self, alloc: Global) -> Result<(), LinkFault> {
+        self.link.start(alloc)?;
+        Ok(())
+    }
+
+    fn inherit(&mut self, alloc: Global) -> Result<(), LinkFault> {
+        self.link.inherit(alloc)?;
+        Ok(())
+    }
+}
+
+impl<S: Spawner> Witnessed for Witness<S> {
+    ghost use Rattle.honest_link.specs.CameLaws.{along-witness};
+
+    ghost along = { along-witness (λ w. w.link) S.honest S.sent S.given };
 }

@@ -1,0 +1,4 @@
+pub mod Laws
+pub mod OutcomeSeen
+pub mod Running
+pub mod Supervised
