@@ -1,0 +1,4 @@
+pub mod Draws
+pub mod Functions
+pub mod Policies
+pub mod Programs

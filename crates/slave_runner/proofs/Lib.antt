@@ -1,0 +1,11 @@
+pub mod BootLemmas
+pub mod EndLemmas
+pub mod FrontLemmas
+pub mod LinkLemmas
+pub mod RunLemmas
+pub mod SayLemmas
+pub mod SizeLemmas
+pub mod StepLemmas
+pub mod TalkLemmas
+pub mod TurnLemmas
+pub mod WorkLemmas

@@ -1,0 +1,12 @@
+pub mod Comes
+pub mod Faults
+pub mod Fronts
+pub mod Laws
+pub mod Outcomes
+pub mod Reading
+pub mod Replies
+pub mod Rules
+pub mod Saying
+pub mod SoFar
+pub mod Taking
+pub mod Turns
