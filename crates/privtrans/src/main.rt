@@ -1,16 +1,15 @@
-//! The program over the real outside: its words, the files of the system, and its standard streams.
+//! The program over the real outside: its words, the files of the system, its standard streams, and itself as a child or the
+//! parent that started it.
 #![tactic(auto)]
 
-mod folder;
-mod sink;
-
-use folder::RealFolder;
+use honest_link::Witness;
 use privtrans_app::privtrans;
-use pt_base::{Alternate, FnId, ScriptLink, Sink, SinkFault, Watch};
-use sink::RealSink;
+use process_link::{Child, RealFolder, RealSink};
+use pt_base::{Alternate, FnId, Sink, SinkFault, Watch};
 use std::alloc::{AllocError, Global};
-use std::io::{ErrorKind, Write};
-use std::process::ExitCode;
+use std::io::{ErrorKind, Read};
+use std::os::fd::AsFd;
+use std::process::{ExitCode, Processes};
 use std::rt::{Env, Files};
 use std::thread::{Builder, Threads};
 use std::{env, io};
@@ -32,6 +31,14 @@ fn words<R: Env + AllocGlobal>(rt: &R, alloc: Global) -> Result<Vec<String>, io:
         words.push(word)?;
     }
     Ok(words)
+}
+
+// The file of this program, or the empty name where it has none that can be told.
+fn own_file<R: Files + AllocGlobal>(rt: &R, alloc: Global) -> String {
+    match env::current_exe(rt) {
+        Ok(file) => file.into_string(),
+        Err(_) => String::new(alloc),
+    }
 }
 
 fn texts<'a>(alloc: Global, words: &'a [String]) -> Result<Vec<&'a str>, AllocError> {
@@ -57,11 +64,12 @@ fn no_words<E: Sink>(alloc: Global, report: &mut E, fault: &io::Error) -> u8 {
 }
 
 // Does what the words ask for, and gives the status that the program ends with.
-fn work<R: Env + Files + Threads + AllocGlobal + Sync, O: Write + Drop, E: Write + Drop>(
-    rt: &R,
-    out: O,
-    report: E,
-) -> u8 {
+fn work<
+    R: Env + Files + Threads + Processes + AllocGlobal + Sync,
+    I: Read + Drop,
+    O: AsFd + Drop,
+    E: AsFd,
+>(rt: &R, input: I, output: O, report: &E) -> u8 {
     let alloc = rt.alloc();
     let mut report = RealSink::new(report);
     let words = match words(rt, alloc) {
@@ -72,8 +80,9 @@ fn work<R: Env + Files + Threads + AllocGlobal + Sync, O: Write + Drop, E: Write
         return 12;
     };
     let mut folder = RealFolder::new(rt);
-    let mut out = RealSink::new(out);
-    let mut spawner = ScriptLink::new(alloc, Vec::new(alloc), Vec::new(alloc));
+    let mut out = RealSink::new(&output);
+    let child = Child::new(rt, alloc, own_file(rt, alloc), input, output);
+    let mut spawner = Witness::new(child);
     let mut chooser = Alternate::new();
     privtrans(
         rt,
@@ -90,11 +99,12 @@ fn work<R: Env + Files + Threads + AllocGlobal + Sync, O: Write + Drop, E: Write
 
 // The work is done in a thread with room for it, or here where none can be started.
 fn main(rt: HostRuntime) -> ExitCode {
-    let started = Builder::new()
-        .stack_size(STACK)
-        .spawn(&rt, move || work(&rt, rt.stdout(), rt.stderr()));
+    let started = Builder::new().stack_size(STACK).spawn(
+        &rt,
+        move || work(&rt, rt.stdin(), rt.stdout(), &rt.stderr()),
+    );
     ExitCode::from(match started {
         Ok(thread) => thread.join(&rt),
-        Err(_) => work(&rt, rt.stdout(), rt.stderr()),
+        Err(_) => work(&rt, rt.stdin(), rt.stdout(), &rt.stderr()),
     })
 }

@@ -5,7 +5,7 @@ use Rattle.pt_base.specs.Faults.{Rose}
 use Rattle.pt_base.specs.Files.{Files, Lacks}
 use Rattle.pt_base.specs.Told.{AppendsPart}
 use Rattle.privtrans_app.specs.Words.{IsRun}
-use Rattle.privtrans_app.specs.Ending.{Ending, help, version, exit, accepted, split, usage, missing, read_fault, write_fault, faults, trapped, refused, spent, memory, Puts}
+use Rattle.privtrans_app.specs.Ending.{Ending, help, version, exit, accepted, split, worked, usage, missing, read_fault, write_fault, faults, trapped, refused, spent, link_fault, bad_peer, peer_ended, memory, Puts}
 use Rattle.privtrans_app.specs.Held.{IsReached}
 use Rattle.privtrans_app.specs.Causes.{Expects, WritesPart, ComesTo}
 use Rattle.privtrans_app.specs.Reading.{IsReadRefusal, IsRefusal}
@@ -37,6 +37,7 @@ read_refusal_comes given files reads reads' writes o name version reached is = a
 read_refusal_comes given files reads reads' writes o name (exit status) reached is = absurd is
 read_refusal_comes given files reads reads' writes o name accepted reached is = absurd is
 read_refusal_comes given files reads reads' writes o name split reached is = absurd is
+read_refusal_comes given files reads reads' writes o name worked reached is = absurd is
 read_refusal_comes given files reads reads' writes o name usage reached is = absurd is
 read_refusal_comes given files reads reads' writes o name (missing n) reached is = (subst (IsReached given files) (sym is.0) reached, subst (λ m. Lacks files m ⊎ Rose reads reads') (sym is.0) is.1, keeps_same o)
 read_refusal_comes given files reads reads' writes o name (read_fault n) reached is = (subst (IsReached given files) (sym is.0) reached, is.1, keeps_same o)
@@ -45,6 +46,9 @@ read_refusal_comes given files reads reads' writes o name (faults lines) reached
 read_refusal_comes given files reads reads' writes o name (trapped trap span) reached is = absurd is
 read_refusal_comes given files reads reads' writes o name (refused call function state) reached is = absurd is
 read_refusal_comes given files reads reads' writes o name spent reached is = absurd is
+read_refusal_comes given files reads reads' writes o name link_fault reached is = absurd is
+read_refusal_comes given files reads reads' writes o name (bad_peer rule offset) reached is = absurd is
+read_refusal_comes given files reads reads' writes o name peer_ended reached is = absurd is
 read_refusal_comes given files reads reads' writes o name memory reached is = inl (keeps_same o)
 
 pub refusal_comes : (given names : List (List ℕ)) (files : Option Files) (reads reads' writes : ℕ) (o : Option (List ℕ)) (e : Ending)

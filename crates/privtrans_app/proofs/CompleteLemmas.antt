@@ -1,5 +1,5 @@
 -- Where no count of faults rose, a call has the status of its words and files.
-use Rattle.std.proofs.Common.{◌≡◌, ◌⊎◌, ℕ, List, [], ◌∷◌, ◌++◌, length, get_or, sym, ◌∙◌, ap, subst, arith, Option, Some, None, inl, inr}
+use Rattle.std.proofs.Common.{◌≡◌, ◌⊎◌, ℕ, List, [], ◌∷◌, ◌++◌, length, take, drop, nat_le, if◌then◌else◌, sym, ◌∙◌, ap, subst, arith, Option, Some, None, inl, inr}
 use Rattle.pt_base.specs.Faults.{Rose}
 use Rattle.pt_base.specs.Files.{Files, Lacks}
 use Rattle.original.specs.Original as original
@@ -7,11 +7,11 @@ use Rattle.original.proofs.OneOutcome.{outcome_is_one}
 use Rattle.flow_check.specs.Checked as flows
 use Rattle.flow_check.specs.Laws.{without_ways}
 use Rattle.flow_check.proofs.OneOutcome as flow_outcomes
-use Rattle.privtrans_app.specs.Words.{IsHelp, IsVersion, IsLocal, IsOrig, IsCheck, IsNoForm, IsRun, of_local, of_orig, of_check}
+use Rattle.privtrans_app.specs.Words.{IsHelp, IsVersion, IsLocal, IsOrig, IsCheck, IsNoForm, IsPlain, IsRun, of_local, of_process_run, of_orig, of_check}
 use Rattle.pair_texts.specs.Start.{Texts}
 use Rattle.local_pair.specs.Local as pairs
 use Rattle.local_pair.proofs.OneOutcome as pair_outcomes
-use Rattle.privtrans_app.specs.Ending.{Ending, help, version, exit, accepted, split, usage, missing, read_fault, write_fault, faults, trapped, refused, spent, memory, status_of, Reports, StaysDown, EndsWith}
+use Rattle.privtrans_app.specs.Ending.{Ending, help, version, exit, accepted, split, worked, usage, missing, read_fault, write_fault, faults, trapped, refused, spent, link_fault, bad_peer, peer_ended, memory, status_of, Reports, StaysDown, EndsWith}
 use Rattle.privtrans_app.specs.Held.{IsHeld, AllHeld, IsReached}
 use Rattle.privtrans_app.specs.LocalRun as local
 use Rattle.privtrans_app.specs.CheckRun as check
@@ -45,6 +45,9 @@ one_or_two n a b = omega arith
 one_or_five : (n : ℕ) → n ≡ 1 → n ≡ 5 → ⊥
 one_or_five n a b = omega arith
 
+one_or_six : (n : ℕ) → n ≡ 1 → n ≡ 6 → ⊥
+one_or_six n a b = omega arith
+
 one_or_seven : (n : ℕ) → n ≡ 1 → n ≡ 7 → ⊥
 one_or_seven n a b = omega arith
 
@@ -58,8 +61,9 @@ two_or_seven : (n : ℕ) → n ≡ 2 → n ≡ 7 → ⊥
 two_or_seven n a b = omega arith
 
 -- the words of a run aren't one
-more_than_one : (words names : List (List ℕ)) → IsRun words names → length words ≡ 1 → ⊥
+pub more_than_one : (words names : List (List ℕ)) → IsRun words names → length words ≡ 1 → ⊥
 more_than_one words _ (of_local p h q i m w form) one = one_or_seven (length words) one (ap length form.are)
+more_than_one words _ (of_process_run p h q i m form) one = one_or_six (length words) one (ap length form.are)
 more_than_one words _ (of_orig p h i m form) one = one_or_five (length words) one (ap length form.are)
 more_than_one words _ (of_check p form) one = one_or_two (length words) one (ap length form.are)
 
@@ -78,13 +82,14 @@ local_check words a b = two_or_seven (length words) (ap length b.are) (ap length
 pub orig_check : {p h i p' : List ℕ} {m : ℕ} (words : List (List ℕ)) → IsOrig words p h i m → IsCheck words p' → ⊥
 orig_check words a b = two_or_five (length words) (ap length b.are) (ap length a.are)
 
-form_runs : (words names : List (List ℕ)) → IsNoForm words → IsRun words names → ⊥
-form_runs words _ none (of_local p h q i m w form) = none.no_local p h q i m w form
-form_runs words _ none (of_orig p h i m form) = none.no_orig p h i m form
-form_runs words _ none (of_check p form) = none.no_check p form
+form_runs : (words names : List (List ℕ)) → IsNoForm words → IsPlain words → IsRun words names → ⊥
+form_runs words _ none plain (of_local p h q i m w form) = none.no_local p h q i m w form
+form_runs words _ none plain (of_process_run p h q i m form) = plain.no_run p h q i m form
+form_runs words _ none plain (of_orig p h i m form) = none.no_orig p h i m form
+form_runs words _ none plain (of_check p form) = none.no_check p form
 
 -- the words name one list of files
-abbrev four : List ℕ → List ℕ → List ℕ → List ℕ → List (List ℕ)
+abbrev pub four : List ℕ → List ℕ → List ℕ → List ℕ → List (List ℕ)
 four p h q i = p ∷ h ∷ q ∷ i ∷ []
 
 abbrev three : List ℕ → List ℕ → List ℕ → List (List ℕ)
@@ -93,25 +98,25 @@ three p h i = p ∷ h ∷ i ∷ []
 abbrev one_name : List ℕ → List (List ℕ)
 one_name p = p ∷ []
 
-word : (words words' : List (List ℕ)) (n : ℕ) → words ≡ words' → get_or words n [] ≡ get_or words' n []
-word words words' n same = ap (λ xs. get_or xs n []) same
+-- how many files so many words name, and which
+abbrev files_named : ℕ → ℕ
+files_named n = if nat_le 6 n then 4 else (if nat_le 5 n then 3 else 1)
+
+abbrev names_in : List (List ℕ) → List (List ℕ)
+names_in words = take (files_named (length words)) (drop 1 words)
+
+are_in : (words names : List (List ℕ)) → IsRun words names → names ≡ names_in words
+are_in words _ (of_local p h q i m w form) = sym (ap names_in form.are)
+are_in words _ (of_process_run p h q i m form) = sym (ap names_in form.are)
+are_in words _ (of_orig p h i m form) = sym (ap names_in form.are)
+are_in words _ (of_check p form) = sym (ap names_in form.are)
 
 same_names : (words names names' : List (List ℕ)) → IsRun words names → IsRun words names' → names ≡ names'
-same_names words _ _ (of_local p h q i m w a) (of_local p' h' q' i' m' w' b) =
-    let same = sym a.are ∙ b.are in λ k. four (word _ _ 1 same k) (word _ _ 2 same k) (word _ _ 3 same k) (word _ _ 4 same k)
-same_names words _ _ (of_local p h q i m w a) (of_orig p' h' i' m' b) = absurd (two_runs words a b)
-same_names words _ _ (of_local p h q i m w a) (of_check p' b) = absurd (local_check words a b)
-same_names words _ _ (of_orig p h i m a) (of_local p' h' q' i' m' w' b) = absurd (two_runs words b a)
-same_names words _ _ (of_orig p h i m a) (of_orig p' h' i' m' b) =
-    let same = sym a.are ∙ b.are in λ k. three (word _ _ 1 same k) (word _ _ 2 same k) (word _ _ 3 same k)
-same_names words _ _ (of_orig p h i m a) (of_check p' b) = absurd (orig_check words a b)
-same_names words _ _ (of_check p a) (of_local p' h' q' i' m' w' b) = absurd (local_check words b a)
-same_names words _ _ (of_check p a) (of_orig p' h' i' m' b) = absurd (orig_check words b a)
-same_names words _ _ (of_check p a) (of_check p' b) = let same = sym a.are ∙ b.are in λ k. one_name (word _ _ 1 same k)
+same_names words names names' a b = are_in words names a ∙ sym (are_in words names' b)
 
 -- ---- files that are held
 
-some_none : (x : List ℕ) (o : Option (List ℕ)) → o ≡ Some x → o ≡ None → ⊥
+pub some_none : (x : List ℕ) (o : Option (List ℕ)) → o ≡ Some x → o ≡ None → ⊥
 some_none x o a b = cc
 
 held_within : (files : Option Files) (before after : List (List ℕ)) (name : List ℕ) → AllHeld files (before ++ name ∷ after) → IsHeld files name
@@ -208,7 +213,7 @@ checked_there words files text o e e' bytes held comes ends (inr (inr gives)) = 
 -- ---- the status of each ending
 
 module _ (words : List (List ℕ)) (reads reads' : ℕ) (o o' : Option (List ℕ)) (writes writes' : ℕ) (report report' : Option (List ℕ)) (failed failed' status : ℕ)
-    (w : StaysDown writes writes') (f : StaysDown failed failed') where
+    (plain : IsPlain words) (w : StaysDown writes writes') (f : StaysDown failed failed') where
   abbrev Comes : Option Files → Ending → Type 0
   Comes files e = ComesTo words files reads reads' o o' writes writes' e
 
@@ -231,6 +236,7 @@ module _ (words : List (List ℕ)) (reads reads' : ℕ) (o o' : Option (List ℕ
   by_text files (exit s) formed no_run comes tells = ends (exit s) tells
   by_text files accepted formed no_run comes tells = ends accepted tells
   by_text files split formed no_run comes tells = absurd comes
+  by_text files worked formed no_run comes tells = absurd comes
   by_text files usage formed no_run comes tells = absurd (formed comes.0)
   by_text files (missing name) formed no_run comes tells = absurd (no_run _ comes.0.form)
   by_text files (read_fault name) formed no_run comes tells = absurd (no_run _ comes.0.form)
@@ -239,6 +245,9 @@ module _ (words : List (List ℕ)) (reads reads' : ℕ) (o o' : Option (List ℕ
   by_text files (trapped trap span) formed no_run comes tells = absurd (let run = expects_run words files comes.0 (trapped trap span) comes.1 in no_run run.0 run.1)
   by_text files (refused call function state) formed no_run comes tells = absurd (let run = expects_run words files comes.0 (refused call function state) comes.1 in no_run run.0 run.1)
   by_text files spent formed no_run comes tells = absurd (let run = expects_run words files comes.0 spent comes.1 in no_run run.0 run.1)
+  by_text files link_fault formed no_run comes tells = absurd comes
+  by_text files (bad_peer rule offset) formed no_run comes tells = absurd comes
+  by_text files peer_ended formed no_run comes tells = absurd comes
   by_text files memory formed no_run comes tells = wants 0 tells
 
   -- words of no form
@@ -248,6 +257,7 @@ module _ (words : List (List ℕ)) (reads reads' : ℕ) (o o' : Option (List ℕ
   by_usage files (exit s) none no_run comes tells = absurd (let run = expects_run words files comes.0 (exit s) comes.1 in no_run run.0 run.1)
   by_usage files accepted none no_run comes tells = absurd (let run = expects_run words files comes.0 accepted comes.1 in no_run run.0 run.1)
   by_usage files split none no_run comes tells = absurd comes
+  by_usage files worked none no_run comes tells = absurd comes
   by_usage files usage none no_run comes tells = ends usage tells
   by_usage files (missing name) none no_run comes tells = absurd (no_run _ comes.0.form)
   by_usage files (read_fault name) none no_run comes tells = absurd (no_run _ comes.0.form)
@@ -256,13 +266,16 @@ module _ (words : List (List ℕ)) (reads reads' : ℕ) (o o' : Option (List ℕ
   by_usage files (trapped trap span) none no_run comes tells = absurd (let run = expects_run words files comes.0 (trapped trap span) comes.1 in no_run run.0 run.1)
   by_usage files (refused call function state) none no_run comes tells = absurd (let run = expects_run words files comes.0 (refused call function state) comes.1 in no_run run.0 run.1)
   by_usage files spent none no_run comes tells = absurd (let run = expects_run words files comes.0 spent comes.1 in no_run run.0 run.1)
+  by_usage files link_fault none no_run comes tells = absurd comes
+  by_usage files (bad_peer rule offset) none no_run comes tells = absurd comes
+  by_usage files peer_ended none no_run comes tells = absurd comes
   by_usage files memory none no_run comes tells = wants 1 tells
 
   pub by_form : (files : Option Files) (e : Ending) → Comes files e → Tells e → IsByForm words status
   by_form files e comes tells = record {
     help = λ is. by_text files e (λ none. none.no_help is) (λ names run. no_help words names run is) comes tells;
     version = λ is. by_text files e (λ none. none.no_version is) (λ names run. no_version words names run is) comes tells;
-    usage = λ none no_split. by_usage files e none (λ names run. form_runs words names none run) comes tells;
+    usage = λ none again. by_usage files e none (λ names run. form_runs words names none plain run) comes tells;
   }
 
   -- a file that isn't held
@@ -272,7 +285,8 @@ module _ (words : List (List ℕ)) (reads reads' : ℕ) (o o' : Option (List ℕ
   by_lack files (exit s) r name reached lacks comes tells = absurd (not_lacking words files name (expected_held words files comes.0 (exit s) comes.1) reached lacks)
   by_lack files accepted r name reached lacks comes tells = absurd (not_lacking words files name (expected_held words files comes.0 accepted comes.1) reached lacks)
   by_lack files split r name reached lacks comes tells = absurd comes
-  by_lack files usage r name reached lacks comes tells = absurd (form_runs words _ comes.0 reached.form)
+  by_lack files worked r name reached lacks comes tells = absurd comes
+  by_lack files usage r name reached lacks comes tells = absurd (form_runs words _ comes.0 plain reached.form)
   by_lack files (missing n) r name reached lacks comes tells = ends (missing n) tells
   by_lack files (read_fault n) r name reached lacks comes tells = absurd (r comes.1)
   by_lack files write_fault r name reached lacks comes tells = absurd (w comes.0)
@@ -280,6 +294,9 @@ module _ (words : List (List ℕ)) (reads reads' : ℕ) (o o' : Option (List ℕ
   by_lack files (trapped trap span) r name reached lacks comes tells = absurd (not_lacking words files name (expected_held words files comes.0 (trapped trap span) comes.1) reached lacks)
   by_lack files (refused call function state) r name reached lacks comes tells = absurd (not_lacking words files name (expected_held words files comes.0 (refused call function state) comes.1) reached lacks)
   by_lack files spent r name reached lacks comes tells = absurd (not_lacking words files name (expected_held words files comes.0 spent comes.1) reached lacks)
+  by_lack files link_fault r name reached lacks comes tells = absurd comes
+  by_lack files (bad_peer rule offset) r name reached lacks comes tells = absurd comes
+  by_lack files peer_ended r name reached lacks comes tells = absurd comes
   by_lack files memory r name reached lacks comes tells = wants 2 tells
 
   -- files that are held, which is told: none is missing
@@ -297,6 +314,7 @@ module _ (words : List (List ℕ)) (reads reads' : ℕ) (o o' : Option (List ℕ
   by_paired files accepted r t turns window out held comes came tells =
       ends_as accepted (status_of (local.ending_of out)) (paired_there words files t turns window out accepted came.0 held comes came.1) tells
   by_paired files split r t turns window out held comes came tells = absurd came
+  by_paired files worked r t turns window out held comes came tells = absurd came
   by_paired files usage r t turns window out held comes came tells = absurd (came.0.no_local _ _ _ _ _ _ held.form)
   by_paired files (missing name) r t turns window out held comes came tells = absurd (none_missing files name r (local_held words files t turns window held) came.0 came.1)
   by_paired files (read_fault name) r t turns window out held comes came tells = absurd (r came.1)
@@ -309,6 +327,9 @@ module _ (words : List (List ℕ)) (reads reads' : ℕ) (o o' : Option (List ℕ
       ends_as (refused call function state) (status_of (local.ending_of out)) (paired_there words files t turns window out (refused call function state) came.0 held comes came.1) tells
   by_paired files spent r t turns window out held comes came tells =
       ends_as spent (status_of (local.ending_of out)) (paired_there words files t turns window out spent came.0 held comes came.1) tells
+  by_paired files link_fault r t turns window out held comes came tells = absurd came
+  by_paired files (bad_peer rule offset) r t turns window out held comes came tells = absurd came
+  by_paired files peer_ended r t turns window out held comes came tells = absurd came
   by_paired files memory r t turns window out held comes came tells = wants (status_of (local.ending_of out)) tells
 
   -- texts of the original
@@ -319,6 +340,7 @@ module _ (words : List (List ℕ)) (reads reads' : ℕ) (o o' : Option (List ℕ
   by_original files (exit s) r t turns out due held comes is came tells = ends_as (exit s) (status_of due) (expected_there words files t turns out due (exit s) came.0 held comes is came.1) tells
   by_original files accepted r t turns out due held comes is came tells = ends_as accepted (status_of due) (expected_there words files t turns out due accepted came.0 held comes is came.1) tells
   by_original files split r t turns out due held comes is came tells = absurd came
+  by_original files worked r t turns out due held comes is came tells = absurd came
   by_original files usage r t turns out due held comes is came tells = absurd (came.0.no_orig _ _ _ _ held.form)
   by_original files (missing name) r t turns out due held comes is came tells = absurd (none_missing files name r (orig_held words files t turns held) came.0 came.1)
   by_original files (read_fault name) r t turns out due held comes is came tells = absurd (r came.1)
@@ -330,6 +352,9 @@ module _ (words : List (List ℕ)) (reads reads' : ℕ) (o o' : Option (List ℕ
   by_original files (refused call function state) r t turns out due held comes is came tells =
       ends_as (refused call function state) (status_of due) (expected_there words files t turns out due (refused call function state) came.0 held comes is came.1) tells
   by_original files spent r t turns out due held comes is came tells = ends_as spent (status_of due) (expected_there words files t turns out due spent came.0 held comes is came.1) tells
+  by_original files link_fault r t turns out due held comes is came tells = absurd came
+  by_original files (bad_peer rule offset) r t turns out due held comes is came tells = absurd came
+  by_original files peer_ended r t turns out due held comes is came tells = absurd came
   by_original files memory r t turns out due held comes is came tells = wants (status_of due) tells
 
   -- a text that is checked
@@ -340,6 +365,7 @@ module _ (words : List (List ℕ)) (reads reads' : ℕ) (o o' : Option (List ℕ
   by_checked files (exit s) r text out due held comes is came tells = ends_as (exit s) (status_of due) (checked_there words files text out due (exit s) came.0 held comes is came.1) tells
   by_checked files accepted r text out due held comes is came tells = ends_as accepted (status_of due) (checked_there words files text out due accepted came.0 held comes is came.1) tells
   by_checked files split r text out due held comes is came tells = absurd came
+  by_checked files worked r text out due held comes is came tells = absurd came
   by_checked files usage r text out due held comes is came tells = absurd (came.0.no_check _ held.form)
   by_checked files (missing name) r text out due held comes is came tells = absurd (none_missing files name r (check_held words files text held) came.0 came.1)
   by_checked files (read_fault name) r text out due held comes is came tells = absurd (r came.1)
@@ -351,12 +377,16 @@ module _ (words : List (List ℕ)) (reads reads' : ℕ) (o o' : Option (List ℕ
   by_checked files (refused call function state) r text out due held comes is came tells =
       ends_as (refused call function state) (status_of due) (checked_there words files text out due (refused call function state) came.0 held comes is came.1) tells
   by_checked files spent r text out due held comes is came tells = ends_as spent (status_of due) (checked_there words files text out due spent came.0 held comes is came.1) tells
+  by_checked files link_fault r text out due held comes is came tells = absurd came
+  by_checked files (bad_peer rule offset) r text out due held comes is came tells = absurd came
+  by_checked files peer_ended r text out due held comes is came tells = absurd came
   by_checked files memory r text out due held comes is came tells = wants (status_of due) tells
 
   pub by_files : (files : Files) (e : Ending) → StaysDown reads reads' → Comes (Some files) e → Tells e → IsByFiles words files status
   by_files files e r comes tells = record {
     missing = λ name reached lacks. by_lack files e r name reached lacks comes tells;
     paired = λ t turns window out held is. by_paired files e r t turns window out held is comes tells;
+    faulty = λ t turns refusal held is. absurd (plain.no_run _ _ _ _ _ held.form);
     original = λ t turns out due held is ends_so. by_original files e r t turns out due held is ends_so comes tells;
     checked = λ text out due held is ends_so. by_checked files e r text out due held is ends_so comes tells;
   }

@@ -8,7 +8,7 @@ use Rattle.pair_texts.specs.Start.{Texts}
 use Rattle.local_pair.specs.Ends as ends
 use Rattle.local_pair.specs.Whole.{HasWhole}
 use Rattle.local_pair.proofs.Cuts.{cut_run}
-use Rattle.privtrans_app.specs.Ending.{Ending, help, version, exit, accepted, split, usage, missing, read_fault, write_fault, faults, trapped, refused, spent, memory, status_of, is_silent, Puts, Reports}
+use Rattle.privtrans_app.specs.Ending.{Ending, help, version, exit, accepted, split, worked, usage, missing, read_fault, write_fault, faults, trapped, refused, spent, link_fault, bad_peer, peer_ended, memory, status_of, is_silent, Puts, Reports}
 use Rattle.privtrans_app.specs.Interleaving.{IsInterleaved, IsOfNoRun, IsOfRun, TakesTurns}
 use Rattle.privtrans_app.specs.LocalRun.{ending_at}
 use Rattle.privtrans_app.specs.Reading.{AreFirst, IsReadRefusal, IsRefusal}
@@ -26,7 +26,7 @@ none_taken (Some f) = λ k. refl
 
 -- the run of the texts that were read is one of the whole texts
 interleaved : (given : List (List ℕ)) (words : LocalWords) (files : Option Files) (cut : Texts) (told told' : Option (ℕ → Who)) (o o' : Option (List ℕ)) (bytes : List ℕ)
-    → Names given words → AreFirst words files cut → HasWhole cut words.turns words.window told told' bytes → Appends o o' bytes → IsInterleaved given files told told' o o'
+    → Names given words → AreFirst words.names files cut → HasWhole cut words.turns words.window told told' bytes → Appends o o' bytes → IsInterleaved given files told told' o o'
 interleaved given words None cut told told' o o' bytes form first run wrote = record {
   texts = cut;
   turns = words.turns;
@@ -57,7 +57,7 @@ at_end given files told told' o o' (ends.refused call function state) is = is
 
 -- what writing the bytes of the run comes to
 pub run_turns : (given : List (List ℕ)) (words : LocalWords) (files : Option Files) (cut : Texts) (told told' : Option (ℕ → Who)) (o o' : Option (List ℕ)) (writes writes' : ℕ) (bytes : List ℕ) (end : ends.Ended) (came : Ending)
-    → Names given words → AreFirst words files cut → HasWhole cut words.turns words.window told told' bytes → Puts o o' writes writes' bytes (ending_at end) came
+    → Names given words → AreFirst words.names files cut → HasWhole cut words.turns words.window told told' bytes → Puts o o' writes writes' bytes (ending_at end) came
     → TakesTurns given files told told' o o' came
 run_turns given words files cut told told' o o' writes writes' bytes end came form first run (inl is) =
     subst (TakesTurns given files told told' o o') (sym is.0) (at_end given files told told' o o' end (interleaved given words files cut told told' o o' bytes form first run is.1))
@@ -72,6 +72,7 @@ read_refusal_turns given files reads reads' told told' o o' name version is = is
 read_refusal_turns given files reads reads' told told' o o' name (exit status) is = absurd is
 read_refusal_turns given files reads reads' told told' o o' name accepted is = is
 read_refusal_turns given files reads reads' told told' o o' name split is = is
+read_refusal_turns given files reads reads' told told' o o' name worked is = is
 read_refusal_turns given files reads reads' told told' o o' name usage is = is
 read_refusal_turns given files reads reads' told told' o o' name (missing n) is = tt
 read_refusal_turns given files reads reads' told told' o o' name (read_fault n) is = tt
@@ -80,6 +81,9 @@ read_refusal_turns given files reads reads' told told' o o' name (faults lines) 
 read_refusal_turns given files reads reads' told told' o o' name (trapped trap span) is = absurd is
 read_refusal_turns given files reads reads' told told' o o' name (refused call function state) is = absurd is
 read_refusal_turns given files reads reads' told told' o o' name spent is = absurd is
+read_refusal_turns given files reads reads' told told' o o' name link_fault is = is
+read_refusal_turns given files reads reads' told told' o o' name (bad_peer rule offset) is = is
+read_refusal_turns given files reads reads' told told' o o' name peer_ended is = is
 read_refusal_turns given files reads reads' told told' o o' name memory is = tt
 
 pub refusal_turns : (given names : List (List ℕ)) (files : Option Files) (reads reads' : ℕ) (told told' : Option (ℕ → Who)) (o o' : Option (List ℕ)) (e : Ending)
@@ -111,6 +115,7 @@ by_ending words files told told' o o' status version is run turns = absurd turns
 by_ending words files told told' o o' status (exit s) is run turns = turns
 by_ending words files told told' o o' status accepted is run turns = absurd turns
 by_ending words files told told' o o' status split is run turns = absurd turns
+by_ending words files told told' o o' status worked is run turns = absurd turns
 by_ending words files told told' o o' status usage is run turns = absurd turns
 by_ending words files told told' o o' status (missing name) is run turns = absurd (other status 2 is refl run)
 by_ending words files told told' o o' status (read_fault name) is run turns = absurd (other status 3 is refl run)
@@ -119,6 +124,9 @@ by_ending words files told told' o o' status (faults lines) is run turns = absur
 by_ending words files told told' o o' status (trapped trap span) is run turns = turns
 by_ending words files told told' o o' status (refused call function state) is run turns = turns
 by_ending words files told told' o o' status spent is run turns = turns
+by_ending words files told told' o o' status link_fault is run turns = absurd turns
+by_ending words files told told' o o' status (bad_peer rule offset) is run turns = absurd turns
+by_ending words files told told' o o' status peer_ended is run turns = absurd turns
 by_ending words files told told' o o' status memory is run turns = absurd (other status 12 is refl run)
 
 -- a call that is reported so
@@ -149,6 +157,7 @@ is_quiet status version is none = absurd (ran status 0 is refl none)
 is_quiet status (exit s) is none = absurd (ran status 0 is refl none)
 is_quiet status accepted is none = absurd (ran status 0 is refl none)
 is_quiet status split is none = refl
+is_quiet status worked is none = absurd (ran status 0 is refl none)
 is_quiet status usage is none = refl
 is_quiet status (missing name) is none = refl
 is_quiet status (read_fault name) is none = refl
@@ -157,6 +166,9 @@ is_quiet status (faults lines) is none = refl
 is_quiet status (trapped trap span) is none = absurd (ran status 6 is refl none)
 is_quiet status (refused call function state) is none = absurd (ran status 7 is refl none)
 is_quiet status spent is none = absurd (ran status 8 is refl none)
+is_quiet status link_fault is none = absurd (ran status 9 is refl none)
+is_quiet status (bad_peer rule offset) is none = absurd (ran status 10 is refl none)
+is_quiet status peer_ended is none = absurd (ran status 11 is refl none)
 is_quiet status memory is none = absurd (ran status 12 is refl none)
 
 -- a call that is reported so writes nothing

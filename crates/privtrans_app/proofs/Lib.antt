@@ -5,6 +5,9 @@ pub mod CompleteLemmas
 pub mod InterleavingLemmas
 pub mod LocalLemmas
 pub mod OrigLemmas
+pub mod ProcessLemmas
 pub mod ReadingLemmas
+pub mod SlaveLemmas
 mod SplitLemmas
+mod TopLemmas
 mod WholeLemmas

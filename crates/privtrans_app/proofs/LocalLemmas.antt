@@ -15,15 +15,15 @@ use Rattle.privtrans_app.specs.Words.{IsLocal, IsRun, of_local}
 use Rattle.privtrans_app.specs.Ending.{Ending, faults, status_of, Puts}
 use Rattle.privtrans_app.specs.LocalRun.{AreHeld, ComesTo, ending_at, ending_of}
 use Rattle.privtrans_app.specs.Causes as causes
-use Rattle.privtrans_app.specs.Reading.{AreFirst, local_names}
+use Rattle.privtrans_app.specs.Reading.{AreFirst, list_of}
 use Rattle.privtrans_app.specs.declared.words.LocalWords.{LocalWords}
 use Rattle.privtrans_app.proofs.CauseLemmas.{keeps_same, run_comes}
 
 -- the words name these files
 abbrev pub Names : List (List ℕ) → LocalWords → Type 0
-Names given words = IsLocal given words.program.now words.host.now words.policy.now words.input.now words.turns words.window
+Names given words = IsLocal given words.names.program.now words.names.host.now words.names.policy.now words.names.input.now words.turns words.window
 
-pub local_run : (given : List (List ℕ)) (words : LocalWords) → Names given words → IsRun given (local_names words)
+pub local_run : (given : List (List ℕ)) (words : LocalWords) → Names given words → IsRun given (list_of words.names)
 local_run given words form = of_local _ _ _ _ _ _ form
 
 -- ---- texts that were read
@@ -34,14 +34,14 @@ pub record Whole (given : List (List ℕ)) (files : Files) (cut : Texts) (turns 
   pub held : AreHeld given (Some files) texts turns window
   pub cuts : AreCut texts cut
 
-pub whole_of : (given : List (List ℕ)) (words : LocalWords) (files : Files) (cut : Texts) → Names given words → AreFirst words (Some files) cut → Whole given files cut words.turns words.window
+pub whole_of : (given : List (List ℕ)) (words : LocalWords) (files : Files) (cut : Texts) → Names given words → AreFirst words.names (Some files) cut → Whole given files cut words.turns words.window
 whole_of given words files cut form first = record {
   texts = record { program = first.program.0; host = first.host.0; policy = first.policy.0; input = first.input.0 };
   held = record {
-    program_name = words.program.now;
-    host_name = words.host.now;
-    policy_name = words.policy.now;
-    input_name = words.input.now;
+    program_name = words.names.program.now;
+    host_name = words.names.host.now;
+    policy_name = words.names.policy.now;
+    input_name = words.names.input.now;
     form = form;
     program = first.program.1;
     host = first.host.1;
@@ -54,10 +54,10 @@ whole_of given words files cut form first = record {
 -- texts of files that aren't told
 pub untold : (given : List (List ℕ)) (words : LocalWords) (t : Texts) → Names given words → AreHeld given None t words.turns words.window
 untold given words t form = record {
-  program_name = words.program.now;
-  host_name = words.host.now;
-  policy_name = words.policy.now;
-  input_name = words.input.now;
+  program_name = words.names.program.now;
+  host_name = words.names.host.now;
+  policy_name = words.names.policy.now;
+  input_name = words.names.input.now;
   form = form;
   program = tt;
   host = tt;
@@ -65,7 +65,7 @@ untold given words t form = record {
   input = tt;
 }
 
-comes_of : (given : List (List ℕ)) (words : LocalWords) (files : Option Files) (cut : Texts) (o : Outcome) → Names given words → AreFirst words files cut
+comes_of : (given : List (List ℕ)) (words : LocalWords) (files : Option Files) (cut : Texts) (o : Outcome) → Names given words → AreFirst words.names files cut
     → pairs.ComesTo cut words.turns o → ComesTo given files o
 comes_of given words None cut o form first comes = (cut, words.turns, words.window, untold given words cut form, comes)
 comes_of given words (Some files) cut o form first comes =
@@ -74,7 +74,7 @@ comes_of given words (Some files) cut o form first comes =
 
 -- texts with faults end the call by their lines
 pub faults_come : (given : List (List ℕ)) (words : LocalWords) (files : Option Files) (cut : Texts) (reads reads' writes : ℕ) (o : Option (List ℕ)) (lines : List ℕ)
-    → Names given words → AreFirst words files cut → AreLinesOf cut lines → causes.ComesTo given files reads reads' o o writes writes (faults lines)
+    → Names given words → AreFirst words.names files cut → AreLinesOf cut lines → causes.ComesTo given files reads reads' o o writes writes (faults lines)
 faults_come given words files cut reads reads' writes o lines form first are =
     (inl (refused are.refusal, comes_of given words files cut (refused are.refusal) form first are.is, ap faults are.lines_are, refl), keeps_same o)
 
@@ -90,7 +90,7 @@ whole_comes given files reads reads' o o' writes writes' bytes (ends.refused cal
 
 -- what writing the bytes of the run comes to
 pub ran_comes : (given : List (List ℕ)) (words : LocalWords) (files : Option Files) (cut : Texts) (reads reads' : ℕ) (o o' : Option (List ℕ)) (writes writes' : ℕ) (bytes : List ℕ) (end : ends.Ended) (came : Ending)
-    → Names given words → AreFirst words files cut → pairs.ComesTo cut words.turns (ran bytes end) → Puts o o' writes writes' bytes (ending_at end) came
+    → Names given words → AreFirst words.names files cut → pairs.ComesTo cut words.turns (ran bytes end) → Puts o o' writes writes' bytes (ending_at end) came
     → causes.ComesTo given files reads reads' o o' writes writes' came
 ran_comes given words files cut reads reads' o o' writes writes' bytes end came form first comes puts =
     let expects : causes.Expects given files bytes (ending_at end) = inl (ran bytes end, comes_of given words files cut (ran bytes end) form first comes, refl, refl) in

@@ -2,7 +2,7 @@
 use Rattle.std.proofs.Common.{◌≤◌, ◌⊎◌, ℕ, List, Option, Some, None, refl, sym, ◌∙◌, inl, inr, arith}
 use Rattle.pt_base.specs.Faults.{Rose}
 use Rattle.pt_base.specs.Files.{Files, SameFiles, GivesFirst, Lacks}
-use Rattle.privtrans_app.specs.Ending.{Ending, help, version, exit, accepted, split, usage, missing, read_fault, write_fault, faults, trapped, refused, spent, memory}
+use Rattle.privtrans_app.specs.Ending.{Ending, help, version, exit, accepted, split, worked, usage, missing, read_fault, write_fault, faults, trapped, refused, spent, link_fault, bad_peer, peer_ended, memory}
 use Rattle.privtrans_app.specs.Held.{IsHeld}
 use Rattle.privtrans_app.specs.Reading.{IsReadRefusal}
 
@@ -28,7 +28,7 @@ gives_same (Some f) None name n bytes same gives = absurd same
 gives_same (Some f) (Some g) name n bytes same gives = (gives.0, sym (same name) ∙ gives.1, gives.2)
 
 -- a count that rose behind the middle rose in all
-rose_since : (r0 r1 r2 : ℕ) → r0 ≤ r1 → r1 ≤ r2 → Rose r1 r2 → Rose r0 r2
+pub rose_since : (r0 r1 r2 : ℕ) → r0 ≤ r1 → r1 ≤ r2 → Rose r1 r2 → Rose r0 r2
 rose_since r0 r1 r2 a b rose = grind arith
 
 lacks_since : (a b : Option Files) (name : List ℕ) → SameFiles a b → Lacks b name → Lacks a name
@@ -43,6 +43,7 @@ refusal_since a b name r0 r1 r2 version same x y is = absurd is
 refusal_since a b name r0 r1 r2 (exit s) same x y is = absurd is
 refusal_since a b name r0 r1 r2 accepted same x y is = absurd is
 refusal_since a b name r0 r1 r2 split same x y is = absurd is
+refusal_since a b name r0 r1 r2 worked same x y is = absurd is
 refusal_since a b name r0 r1 r2 usage same x y is = absurd is
 refusal_since a b name r0 r1 r2 (missing n) same x y is = (is.0, either is.1)
   where
@@ -55,4 +56,7 @@ refusal_since a b name r0 r1 r2 (faults lines) same x y is = absurd is
 refusal_since a b name r0 r1 r2 (trapped trap span) same x y is = absurd is
 refusal_since a b name r0 r1 r2 (refused call function state) same x y is = absurd is
 refusal_since a b name r0 r1 r2 spent same x y is = absurd is
+refusal_since a b name r0 r1 r2 link_fault same x y is = absurd is
+refusal_since a b name r0 r1 r2 (bad_peer rule offset) same x y is = absurd is
+refusal_since a b name r0 r1 r2 peer_ended same x y is = absurd is
 refusal_since a b name r0 r1 r2 memory same x y is = is

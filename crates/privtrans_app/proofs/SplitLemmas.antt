@@ -7,7 +7,7 @@ use Rattle.flow_check.specs.OutcomeSeen.{AreLinesOf}
 use Rattle.program_split.specs.Split.{refused, split as split_in, IsSplit}
 use Rattle.program_split.proofs.Cuts.{cut_whole}
 use Rattle.privtrans_app.specs.Ending as endings
-use Rattle.privtrans_app.specs.Ending.{Ending, help, version, exit, accepted, split, usage, missing, read_fault, write_fault, faults, trapped, spent, memory}
+use Rattle.privtrans_app.specs.Ending.{Ending, help, version, exit, accepted, split, worked, usage, missing, read_fault, write_fault, faults, trapped, spent, link_fault, bad_peer, peer_ended, memory}
 use Rattle.privtrans_app.specs.SplitRun.{Names, Splits, LeavesAt, ComesTo}
 use Rattle.privtrans_app.specs.SplitWriting.{AreWritten, Stopped}
 
@@ -52,6 +52,7 @@ halves_come names a b c cut slave monitor reads reads' w0 w1 w2 (exit s) first h
 halves_come names a b c cut slave monitor reads reads' w0 w1 w2 accepted first has same w is = is
 halves_come names a b c cut slave monitor reads reads' w0 w1 w2 split first has same w is =
     (slave, monitor, halves_whole names a cut slave monitor first has, leaves_since a b c names.slave slave same is.0, leaves_since a b c names.monitor monitor same is.1)
+halves_come names a b c cut slave monitor reads reads' w0 w1 w2 worked first has same w is = is
 halves_come names a b c cut slave monitor reads reads' w0 w1 w2 usage first has same w is = is
 halves_come names a b c cut slave monitor reads reads' w0 w1 w2 (missing n) first has same w is = absurd is
 halves_come names a b c cut slave monitor reads reads' w0 w1 w2 (read_fault n) first has same w is = absurd is
@@ -61,4 +62,7 @@ halves_come names a b c cut slave monitor reads reads' w0 w1 w2 (faults lines) f
 halves_come names a b c cut slave monitor reads reads' w0 w1 w2 (trapped trap span) first has same w is = is
 halves_come names a b c cut slave monitor reads reads' w0 w1 w2 (endings.refused call function state) first has same w is = absurd is
 halves_come names a b c cut slave monitor reads reads' w0 w1 w2 spent first has same w is = is
+halves_come names a b c cut slave monitor reads reads' w0 w1 w2 link_fault first has same w is = is
+halves_come names a b c cut slave monitor reads reads' w0 w1 w2 (bad_peer rule offset) first has same w is = is
+halves_come names a b c cut slave monitor reads reads' w0 w1 w2 peer_ended first has same w is = is
 halves_come names a b c cut slave monitor reads reads' w0 w1 w2 memory first has same w is = inr (slave, monitor, halves_whole names a cut slave monitor first has, stopped_since names a b c slave same is)

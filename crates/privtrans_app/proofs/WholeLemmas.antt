@@ -1,11 +1,11 @@
 -- Of told files, where no count of faults rose, a command tells what its texts give, or memory was wanting.
-use Rattle.std.proofs.Common.{◌≡◌, ◌∙◌, ◌⊎◌, ℕ, List, [], get_or, refl, sym, ap, subst, Option, Some, None, inl, inr}
+use Rattle.std.proofs.Common.{◌≡◌, ◌∙◌, ◌⊎◌, ℕ, List, [], length, get_or, refl, sym, ap, subst, Option, Some, None, inl, inr}
 use Rattle.std.specs.Io.KnownBytes.{Appends, Keeps}
-use Rattle.std.proofs.lemmas.List.{append-nil}
 use Rattle.pt_base.specs.declared.end.End.{End}
 use Rattle.pt_base.specs.declared.end.End.TheVariants.{Exit, Trapped, Spent, Refused}
 use Rattle.pt_base.specs.Faults.{Rose}
 use Rattle.pt_base.specs.Files.{Files, SameFiles, HoldsAt, Lacks}
+use Rattle.pt_base.specs.Talk.{Event}
 use Rattle.fault_lines.specs.Seen.{Seen}
 use Rattle.original.specs.Original as original
 use Rattle.original.specs.Original.{refused, ran}
@@ -24,22 +24,25 @@ use Rattle.local_pair.specs.Local.{IsExpected, without_ways}
 use Rattle.local_pair.specs.Seen as pair_views
 use Rattle.local_pair.specs.Seen.{shown_of}
 use Rattle.local_pair.proofs.OneOutcome.{outcome_is_one}
-use Rattle.privtrans_app.specs.Words.{of_local, of_orig, of_check}
+use Rattle.privtrans_app.specs.Words.{of_local, of_process_run, of_orig, of_check}
 use Rattle.privtrans_app.specs.Ending as endings
-use Rattle.privtrans_app.specs.Ending.{Ending, help, version, exit, accepted, split, usage, missing, read_fault, write_fault, faults, trapped, spent, memory, status_of, report_of, Reports, StaysDown}
+use Rattle.privtrans_app.specs.Ending.{Ending, help, version, exit, accepted, split, worked, usage, missing, read_fault, write_fault, faults, trapped, spent, link_fault, bad_peer, peer_ended, memory, status_of, report_of, Reports, StaysDown}
 use Rattle.privtrans_app.specs.CheckRun as check
 use Rattle.privtrans_app.specs.LocalRun as local
 use Rattle.privtrans_app.specs.OrigRun as orig
+use Rattle.privtrans_app.specs.ProcessRun as process
+use Rattle.privtrans_app.specs.ProcessRun.{IsRun}
 use Rattle.privtrans_app.specs.Causes.{Expects, ComesTo as ComesByWords}
 use Rattle.privtrans_app.specs.SplitRun.{Names}
 use Rattle.privtrans_app.specs.SplitRun as run
 use Rattle.privtrans_app.specs.Calls.{AreSplit, ComesTo}
 use Rattle.privtrans_app.specs.Whole.{Told, Leaves, AreKept}
-use Rattle.privtrans_app.proofs.CompleteLemmas.{no_help, no_version, two_runs, local_check, orig_check, not_lacking, RunsHeld, local_held, orig_held, check_held}
-use Rattle.privtrans_app.proofs.CallLemmas.{split_or_run, some_is}
+use Rattle.privtrans_app.proofs.CompleteLemmas.{more_than_one, no_help, no_version, two_runs, local_check, orig_check, not_lacking, RunsHeld, local_held, orig_held, check_held}
+use Rattle.privtrans_app.proofs.CallLemmas.{process_or_check, process_or_local, process_or_orig, split_or_run, split_or_slave, some_is}
 use Rattle.privtrans_app.proofs.CheckLemmas.{same_check}
 use Rattle.privtrans_app.proofs.LocalLemmas.{same_comes}
 use Rattle.privtrans_app.proofs.OrigLemmas.{same_orig}
+use Rattle.privtrans_app.proofs.ProcessLemmas.{PairTold, Reported, keeps_appends, process_faults, process_told, reported, twelve}
 
 -- the words are a split of files of one list of names
 word : (words words' : List (List ℕ)) (n : ℕ) → words ≡ words' → get_or words n [] ≡ get_or words' n []
@@ -47,25 +50,6 @@ word words words' n same = ap (λ xs. get_or xs n []) same
 
 same_names : (words : List (List ℕ)) (n n' : Names) → AreSplit words n → AreSplit words n' → n ≡ n'
 same_names words n n' a b = let same = sym a.are ∙ b.are in λ k. record { program = word _ _ 1 same k; slave = word _ _ 2 same k; monitor = word _ _ 3 same k }
-
--- nothing more came
-keeps_appends : (o o' : Option (List ℕ)) → Keeps o o' → Appends o o' []
-keeps_appends None o' k = tt
-keeps_appends (Some xs) None k = absurd k
-keeps_appends (Some xs) (Some ys) k = k ∙ sym (append-nil xs)
-
--- the ending as it is reported, where the report was written
-abbrev Reported : Ending → Option (List ℕ) → Option (List ℕ) → ℕ → Type 0
-Reported e report report' status = ((status ≡ status_of e) × Appends report report' (report_of e)) ⊎ (status ≡ 12)
-
-reported : (e : Ending) (report report' : Option (List ℕ)) (failed failed' status : ℕ) → Reports e report report' failed failed' status → StaysDown failed failed' → Reported e report report' status
-reported e report report' failed failed' status (inl is) down = inl is
-reported e report report' failed failed' status (inr (inl is)) down = absurd (down is.2)
-reported e report report' failed failed' status (inr (inr is)) down = inr is.0
-
-twelve : (report report' : Option (List ℕ)) (status : ℕ) → Reported memory report report' status → status ≡ 12
-twelve report report' status (inl is) = is.0
-twelve report report' status (inr is) = is
 
 -- ---- what texts give
 
@@ -92,10 +76,6 @@ orig_seen (ran bytes' end) bytes e is b = run_seen bytes bytes' end e is b
 check_seen : (o : flows.Outcome) (bytes : List ℕ) (e : Ending) → check.IsEnding o e → bytes ≡ check.bytes_of o → seen bytes e ≡ checks.shown o
 check_seen (flows.refused refusal) bytes e is b = λ k. seen (b k) (is k)
 check_seen (flows.checked lines) bytes e is b = λ k. seen (b k) (is k)
-
--- what the texts of a pair give
-abbrev PairTold : Texts → ℕ → Option (List ℕ) → Option (List ℕ) → Option (List ℕ) → Option (List ℕ) → ℕ → Type 0
-PairTold t turns o o' report report' status = (status ≡ 12) ⊎ ((s : Seen) × pair_views.Gives t turns s × Told s o o' report report' status)
 
 end_seen : (bytes bytes' : List ℕ) (end : ends.Ended) (e : Ending) → e ≡ local.ending_at end → bytes ≡ bytes' → seen bytes e ≡ pair_views.seen_of bytes' end
 end_seen bytes bytes' (ends.exit status) e is b = λ k. seen (b k) (is k)
@@ -154,6 +134,7 @@ module _ (words : List (List ℕ)) (files : Files) (reads reads' : ℕ) (o o' : 
   by_pair t turns window held (exit s) came tells = pair_told words files o o' report report' status t turns window held came.0 (exit s) came.1 came.2 tells
   by_pair t turns window held accepted came tells = pair_told words files o o' report report' status t turns window held came.0 accepted came.1 came.2 tells
   by_pair t turns window held split came tells = absurd came
+  by_pair t turns window held worked came tells = absurd came
   by_pair t turns window held usage came tells = absurd (came.0.no_local _ _ _ _ _ _ held.form)
   by_pair t turns window held (missing name) came tells = absurd (none_missing name (local_held words files t turns window held) came)
   by_pair t turns window held (read_fault name) came tells = absurd (r came.1)
@@ -163,6 +144,9 @@ module _ (words : List (List ℕ)) (files : Files) (reads reads' : ℕ) (o o' : 
   by_pair t turns window held (endings.refused call function state) came tells =
       pair_told words files o o' report report' status t turns window held came.0 (endings.refused call function state) came.1 came.2 tells
   by_pair t turns window held spent came tells = pair_told words files o o' report report' status t turns window held came.0 spent came.1 came.2 tells
+  by_pair t turns window held link_fault came tells = absurd came
+  by_pair t turns window held (bad_peer rule offset) came tells = absurd came
+  by_pair t turns window held peer_ended came tells = absurd came
   by_pair t turns window held memory came tells = inl (twelve report report' status tells)
 
   by_orig : (t : original.Texts) (turns : ℕ) → orig.AreHeld words (Some files) t turns → (e : Ending) → Comes e → Reported e report report' status → OrigTold t turns o o' report report' status
@@ -171,6 +155,7 @@ module _ (words : List (List ℕ)) (files : Files) (reads reads' : ℕ) (o o' : 
   by_orig t turns held (exit s) came tells = orig_told words files o o' report report' status t turns held came.0 (exit s) came.1 came.2 tells
   by_orig t turns held accepted came tells = orig_told words files o o' report report' status t turns held came.0 accepted came.1 came.2 tells
   by_orig t turns held split came tells = absurd came
+  by_orig t turns held worked came tells = absurd came
   by_orig t turns held usage came tells = absurd (came.0.no_orig _ _ _ _ held.form)
   by_orig t turns held (missing name) came tells = absurd (none_missing name (orig_held words files t turns held) came)
   by_orig t turns held (read_fault name) came tells = absurd (r came.1)
@@ -179,6 +164,9 @@ module _ (words : List (List ℕ)) (files : Files) (reads reads' : ℕ) (o o' : 
   by_orig t turns held (trapped trap span) came tells = orig_told words files o o' report report' status t turns held came.0 (trapped trap span) came.1 came.2 tells
   by_orig t turns held (endings.refused call function state) came tells = orig_told words files o o' report report' status t turns held came.0 (endings.refused call function state) came.1 came.2 tells
   by_orig t turns held spent came tells = orig_told words files o o' report report' status t turns held came.0 spent came.1 came.2 tells
+  by_orig t turns held link_fault came tells = absurd came
+  by_orig t turns held (bad_peer rule offset) came tells = absurd came
+  by_orig t turns held peer_ended came tells = absurd came
   by_orig t turns held memory came tells = inl (twelve report report' status tells)
 
   by_check : (text : List ℕ) → check.AreHeld words (Some files) text → (e : Ending) → Comes e → Reported e report report' status → CheckTold text o o' report report' status
@@ -187,6 +175,7 @@ module _ (words : List (List ℕ)) (files : Files) (reads reads' : ℕ) (o o' : 
   by_check text held (exit s) came tells = check_told words files o o' report report' status text held came.0 (exit s) came.1 came.2 tells
   by_check text held accepted came tells = check_told words files o o' report report' status text held came.0 accepted came.1 came.2 tells
   by_check text held split came tells = absurd came
+  by_check text held worked came tells = absurd came
   by_check text held usage came tells = absurd (came.0.no_check _ held.form)
   by_check text held (missing name) came tells = absurd (none_missing name (check_held words files text held) came)
   by_check text held (read_fault name) came tells = absurd (r came.1)
@@ -195,6 +184,9 @@ module _ (words : List (List ℕ)) (files : Files) (reads reads' : ℕ) (o o' : 
   by_check text held (trapped trap span) came tells = check_told words files o o' report report' status text held came.0 (trapped trap span) came.1 came.2 tells
   by_check text held (endings.refused call function state) came tells = check_told words files o o' report report' status text held came.0 (endings.refused call function state) came.1 came.2 tells
   by_check text held spent came tells = check_told words files o o' report report' status text held came.0 spent came.1 came.2 tells
+  by_check text held link_fault came tells = absurd came
+  by_check text held (bad_peer rule offset) came tells = absurd came
+  by_check text held peer_ended came tells = absurd came
   by_check text held memory came tells = inl (twelve report report' status tells)
 
 -- ---- a split
@@ -240,6 +232,7 @@ module _ (names : Names) (files : Files) (files' : Option Files) (reads reads' f
   by_split text held (exit s) came tells = absurd came
   by_split text held accepted came tells = absurd came
   by_split text held split came tells = told_halves text came.0 came.1 held came.2 came.3 came.4 tells
+  by_split text held worked came tells = absurd came
   by_split text held usage came tells = absurd came
   by_split text held (missing name) came tells = absurd (lacks_not text name held came.0 came.1)
   by_split text held (read_fault name) came tells = absurd (r came.1)
@@ -248,21 +241,30 @@ module _ (names : Names) (files : Files) (files' : Option Files) (reads reads' f
   by_split text held (trapped trap span) came tells = absurd came
   by_split text held (endings.refused call function state) came tells = absurd came
   by_split text held spent came tells = absurd came
+  by_split text held link_fault came tells = absurd came
+  by_split text held (bad_peer rule offset) came tells = absurd came
+  by_split text held peer_ended came tells = absurd came
   by_split text held memory came tells = inl (twelve report report' status tells)
 
 -- ---- calls
 
-module _ (words : List (List ℕ)) (files : Files) (files' : Option Files) (reads reads' fwrites fwrites' : ℕ) (o o' : Option (List ℕ)) (writes writes' : ℕ) (report report' : Option (List ℕ)) (status : ℕ)
+module _ (untouched : Type 0) (moves : List Event → List ℕ → Type 0) (breaks : List ℕ → List ℕ → List ℕ → Type 0) (fair : Texts → ℕ → Type 0) (works : ℕ → ℕ → Ending → Type 0)
+    (words : List (List ℕ)) (files : Files) (files' : Option Files) (reads reads' fwrites fwrites' : ℕ) (o o' : Option (List ℕ)) (writes writes' links links' : ℕ) (report report' : Option (List ℕ)) (status : ℕ) (keeps : untouched → Keeps o o')
     (r : StaysDown reads reads') (fw : StaysDown fwrites fwrites') (w : StaysDown writes writes') where
-  kept : (e : Ending) → ComesTo words (Some files) files' reads reads' fwrites fwrites' o o' writes writes' e → Reported e report report' status → AreKept words files files' o o' report report' status
+  abbrev AllComes : Ending → Type 0
+  AllComes e = ComesTo (IsRun untouched moves breaks (λ bytes. Appends o o' bytes) fair) works words (Some files) files' reads reads' fwrites fwrites' o o' writes writes' links links' e
+
+  kept : (e : Ending) → AllComes e → Reported e report report' status → AreKept words files files' o o' report report' status
   kept e (inl is) tells = record {
     paired = λ t turns window held. by_pair words files reads reads' o o' writes writes' report report' status r w t turns window held e is.1 tells;
+    served = λ t turns refusal held faulty. absurd (is.0.no_run _ _ _ _ _ held.form);
     original = λ t turns held. by_orig words files reads reads' o o' writes writes' report report' status r w t turns held e is.1 tells;
     checked = λ text held. by_check words files reads reads' o o' writes writes' report report' status r w text held e is.1 tells;
-    split = λ names text form held. absurd (is.0 names.program names.slave names.monitor form);
+    split = λ names text form held. absurd (is.0.no_split names.program names.slave names.monitor form);
   }
-  kept e (inr is) tells = record {
+  kept e (inr (inl is)) tells = record {
     paired = λ t turns window held. absurd (split_or_run words _ is.names is.form (of_local _ _ _ _ _ _ held.form));
+    served = λ t turns refusal held faulty. absurd (split_or_run words _ is.names is.form (of_process_run _ _ _ _ _ held.form));
     original = λ t turns held. absurd (split_or_run words _ is.names is.form (of_orig _ _ _ _ held.form));
     checked = λ text held. absurd (split_or_run words _ is.names is.form (of_check _ held.form));
     split = λ names text form held.
@@ -270,8 +272,23 @@ module _ (words : List (List ℕ)) (files : Files) (files' : Option Files) (read
         by_split names files files' reads reads' fwrites fwrites' o o' report report' status r fw is.keeps text held e
         (subst (λ (n : Names). run.ComesTo n (Some files) files' reads reads' fwrites fwrites' e) named is.comes) tells;
   }
+  kept e (inr (inr (inl is))) tells = record {
+    paired = λ t turns window held. absurd (process_or_local words is.form held.form);
+    served = λ t turns refusal held faulty.
+        process_faults untouched moves breaks fair o o' report report' status keeps words files reads reads' writes writes' links links' r t turns refusal e held faulty is.comes tells;
+    original = λ t turns held. absurd (process_or_orig words is.form held.form);
+    checked = λ text held. absurd (process_or_check words is.form held.form);
+    split = λ names text form held. absurd (split_or_run words _ names form (of_process_run _ _ _ _ _ is.form));
+  }
+  kept e (inr (inr (inr is))) tells = record {
+    paired = λ t turns window held. absurd (more_than_one words _ (of_local _ _ _ _ _ _ held.form) (ap length is.form));
+    served = λ t turns refusal held faulty. absurd (more_than_one words _ (of_process_run _ _ _ _ _ held.form) (ap length is.form));
+    original = λ t turns held. absurd (more_than_one words _ (of_orig _ _ _ _ held.form) (ap length is.form));
+    checked = λ text held. absurd (more_than_one words _ (of_check _ held.form) (ap length is.form));
+    split = λ names text form held. absurd (split_or_slave words names form is.form);
+  }
 
-  pub calls_are_kept : (failed failed' : ℕ) → StaysDown failed failed' → (e : Ending) → ComesTo words (Some files) files' reads reads' fwrites fwrites' o o' writes writes' e → Reports e report report' failed failed' status
+  pub calls_are_kept : (failed failed' : ℕ) → StaysDown failed failed' → (e : Ending) → AllComes e → Reports e report report' failed failed' status
       → AreKept words files files' o o' report report' status
   calls_are_kept failed failed' f e comes tells = kept e comes (reported e report report' failed failed' status tells f)
 
@@ -305,15 +322,34 @@ expected_told t turns tree e o o' report report' status is (inr told) =
     let one : told.1.0 ≡ due = same_run told.1.0 e.bytes (ended_as tree e.end) (outcome_is_one t turns told.1.0 due told.1.1 comes) in
     inr (subst (λ s. Told s o o' report report' status) (told.1.2 ∙ ap pair_views.shown one) told.2)
 
-module _ (words : List (List ℕ)) (files : Files) (files' : Option Files) (reads reads' fwrites fwrites' : ℕ) (o o' : Option (List ℕ)) (writes writes' : ℕ) (report report' : Option (List ℕ)) (status : ℕ)
+module _ (untouched : Type 0) (moves : List Event → List ℕ → Type 0) (breaks : List ℕ → List ℕ → List ℕ → Type 0) (fair : Texts → ℕ → Type 0) (works : ℕ → ℕ → Ending → Type 0)
+    (words : List (List ℕ)) (files : Files) (files' : Option Files) (reads reads' fwrites fwrites' : ℕ) (o o' : Option (List ℕ)) (writes writes' links links' : ℕ) (report report' : Option (List ℕ)) (status : ℕ) (keeps : untouched → Keeps o o')
     (r : StaysDown reads reads') (w : StaysDown writes writes') where
-  pair_kept : (t : Texts) (turns window : ℕ) → local.AreHeld words (Some files) t turns window → (e : Ending)
-      → ComesTo words (Some files) files' reads reads' fwrites fwrites' o o' writes writes' e → Reported e report report' status → PairTold t turns o o' report report' status
-  pair_kept t turns window held e (inl is) tells = by_pair words files reads reads' o o' writes writes' report report' status r w t turns window held e is.1 tells
-  pair_kept t turns window held e (inr is) tells = absurd (split_or_run words _ is.names is.form (of_local _ _ _ _ _ _ held.form))
+  abbrev CallComes : Ending → Type 0
+  CallComes e = ComesTo (IsRun untouched moves breaks (λ bytes. Appends o o' bytes) fair) works words (Some files) files' reads reads' fwrites fwrites' o o' writes writes' links links' e
 
-  pub calls_tell_what_is_expected : (failed failed' : ℕ) → StaysDown failed failed' → (came : Ending) → ComesTo words (Some files) files' reads reads' fwrites fwrites' o o' writes writes' came
-      → Reports came report report' failed failed' status → (t : Texts) (turns window : ℕ) (tree : TypedTree) (e : Expected) → local.AreHeld words (Some files) t turns window → IsExpected t turns tree e
+  pair_kept : (t : Texts) (turns window : ℕ) → local.AreHeld words (Some files) t turns window → (e : Ending) → CallComes e → Reported e report report' status → PairTold t turns o o' report report' status
+  pair_kept t turns window held e (inl is) tells = by_pair words files reads reads' o o' writes writes' report report' status r w t turns window held e is.1 tells
+  pair_kept t turns window held e (inr (inl is)) tells = absurd (split_or_run words _ is.names is.form (of_local _ _ _ _ _ _ held.form))
+  pair_kept t turns window held e (inr (inr (inl is))) tells = absurd (process_or_local words is.form held.form)
+  pair_kept t turns window held e (inr (inr (inr is))) tells = absurd (more_than_one words _ (of_local _ _ _ _ _ _ held.form) (ap length is.form))
+
+  pub calls_tell_what_is_expected : (failed failed' : ℕ) → StaysDown failed failed' → (came : Ending) → CallComes came → Reports came report report' failed failed' status
+      → (t : Texts) (turns window : ℕ) (tree : TypedTree) (e : Expected) → local.AreHeld words (Some files) t turns window → IsExpected t turns tree e
       → (status ≡ 12) ⊎ Told (shown_of tree e) o o' report report' status
   calls_tell_what_is_expected failed failed' f came comes tells t turns window tree e held is =
       expected_told t turns tree e o o' report report' status is (pair_kept t turns window held came comes (reported came report report' failed failed' status tells f))
+
+  -- in two processes, over an honest link
+  served_kept : StaysDown links links' → (t : Texts) (turns : ℕ) → process.AreHeld words (Some files) t turns → fair t turns → (e : Ending) → CallComes e → Reported e report report' status → PairTold t turns o o' report report' status
+  served_kept l t turns held is_fair e (inl is) tells = absurd (is.0.no_run _ _ _ _ _ held.form)
+  served_kept l t turns held is_fair e (inr (inl is)) tells = absurd (split_or_run words _ is.names is.form (of_process_run _ _ _ _ _ held.form))
+  served_kept l t turns held is_fair e (inr (inr (inl is))) tells =
+      process_told untouched moves breaks fair o o' report report' status keeps words files reads reads' writes writes' links links' r w l t turns e held is_fair is.comes tells
+  served_kept l t turns held is_fair e (inr (inr (inr is))) tells = absurd (more_than_one words _ (of_process_run _ _ _ _ _ held.form) (ap length is.form))
+
+  pub two_tell_what_is_expected : (failed failed' : ℕ) → StaysDown failed failed' → StaysDown links links' → (came : Ending) → CallComes came → Reports came report report' failed failed' status
+      → (t : Texts) (turns : ℕ) (tree : TypedTree) (e : Expected) → process.AreHeld words (Some files) t turns → fair t turns → IsExpected t turns tree e
+      → (status ≡ 12) ⊎ Told (shown_of tree e) o o' report report' status
+  two_tell_what_is_expected failed failed' f l came comes tells t turns tree e held is_fair is =
+      expected_told t turns tree e o o' report report' status is (served_kept l t turns held is_fair came comes (reported came report report' failed failed' status tells f))

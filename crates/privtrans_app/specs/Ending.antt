@@ -20,6 +20,8 @@ pub data Ending : Type 0 where
   accepted : Ending
   -- the two halves of the program are written
   split : Ending
+  -- the slave has said its last
+  worked : Ending
   -- the words are of no form
   usage : Ending
   -- no file of this name is held
@@ -36,6 +38,12 @@ pub data Ending : Type 0 where
   refused : ℕ → List ℕ → List ℕ → Ending
   -- the run needed one more turn than its budget has
   spent : Ending
+  -- the link to the other process failed
+  link_fault : Ending
+  -- the other process broke this rule, with the frame at this place of what it gave
+  bad_peer : ℕ → ℕ → Ending
+  -- the other process ended before the run did
+  peer_ended : Ending
   -- want of memory
   memory : Ending
 
@@ -46,6 +54,7 @@ status_of version = 0
 status_of (exit status) = 0
 status_of accepted = 0
 status_of split = 0
+status_of worked = 0
 status_of usage = 1
 status_of (missing name) = 2
 status_of (read_fault name) = 3
@@ -54,15 +63,19 @@ status_of (faults lines) = 5
 status_of (trapped trap span) = 6
 status_of (refused call function state) = 7
 status_of spent = 8
+status_of link_fault = 9
+status_of (bad_peer rule offset) = 10
+status_of peer_ended = 11
 status_of memory = 12
 
--- a call that ends so writes nothing to out
+-- a call that ends so writes nothing to out and reaches no other process
 abbrev pub is_silent : Ending → Bool
 is_silent help = false
 is_silent version = false
 is_silent (exit status) = false
 is_silent accepted = false
 is_silent split = true
+is_silent worked = false
 is_silent usage = true
 is_silent (missing name) = true
 is_silent (read_fault name) = true
@@ -71,6 +84,9 @@ is_silent (faults lines) = true
 is_silent (trapped trap span) = false
 is_silent (refused call function state) = false
 is_silent spent = false
+is_silent link_fault = false
+is_silent (bad_peer rule offset) = false
+is_silent peer_ended = false
 is_silent memory = false
 
 -- what is reported
@@ -80,6 +96,7 @@ report_of version = []
 report_of (exit status) = codes "exit " ++ signed_decimal status ++ codes "\n"
 report_of accepted = codes "accepted\n"
 report_of split = codes "split\n"
+report_of worked = []
 report_of usage = codes "usage\n"
 report_of (missing name) = codes "missing " ++ name ++ codes "\n"
 report_of (read_fault name) = codes "read fault " ++ name ++ codes "\n"
@@ -88,6 +105,9 @@ report_of (faults lines) = lines
 report_of (trapped trap span) = codes "trap " ++ trap_name trap ++ codes " " ++ place_text span ++ codes "\n"
 report_of (refused call function state) = codes "refused " ++ decimal call ++ codes " " ++ function ++ codes " " ++ state ++ codes "\n"
 report_of spent = codes "spent\n"
+report_of link_fault = codes "link fault\n"
+report_of (bad_peer rule offset) = codes "bad peer " ++ decimal rule ++ codes " " ++ decimal offset ++ codes "\n"
+report_of peer_ended = codes "peer ended\n"
 report_of memory = codes "memory\n"
 
 -- How an ending is reported, and the status: as it is where the report was written, else 4, with the

@@ -4,6 +4,9 @@ use Rattle.std.specs.Prelude.{ℕ, List, ◌++◌, codes}
 -- the forms of the words
 abbrev pub help_text : List ℕ
 help_text = codes "privtrans runs an annotated C program as a privileged monitor and an unprivileged slave.\n\n"
+    ++ codes "privtrans run PROG HOST POLICY INPUT TURNS\n"
+    ++ codes "    runs the monitor, and the slave as a process of its own, with this host table, policy\n"
+    ++ codes "    and input, within TURNS turns (0 to 4294967295)\n"
     ++ codes "privtrans local PROG HOST POLICY INPUT TURNS WINDOW\n"
     ++ codes "    runs both halves in one process, with this host table, policy and input, within\n"
     ++ codes "    TURNS turns (0 to 4294967295), where WINDOW messages (1 to 1024) may wait\n"
@@ -14,6 +17,8 @@ help_text = codes "privtrans runs an annotated C program as a privileged monitor
     ++ codes "    says which variables of the program may hold secrets, or which rules it breaks\n"
     ++ codes "privtrans split PROG SLAVE MONITOR\n"
     ++ codes "    writes the two halves of the program, each as a C text, to these two files\n"
+    ++ codes "privtrans slave\n"
+    ++ codes "    is the slave of a run, which is at its standard input and output\n"
     ++ codes "privtrans --help, privtrans -h\n"
     ++ codes "    writes this text\n"
     ++ codes "privtrans --version\n"

@@ -5,7 +5,7 @@ use Rattle.pt_base.specs.Files.{Files}
 use Rattle.pt_base.specs.declared.chooser.Who.{Who}
 use Rattle.pair_texts.specs.Start.{Texts}
 use Rattle.local_pair.specs.Whole.{HasWhole}
-use Rattle.privtrans_app.specs.Ending.{Ending, help, version, exit, accepted, split, usage, missing, read_fault, write_fault, faults, trapped, refused, spent, memory}
+use Rattle.privtrans_app.specs.Ending.{Ending, help, version, exit, accepted, split, worked, usage, missing, read_fault, write_fault, faults, trapped, refused, spent, link_fault, bad_peer, peer_ended, memory}
 use Rattle.privtrans_app.specs.LocalRun.{AreHeld}
 
 -- The files hold texts of a pair of which a whole run, step by step under exactly the answers that were taken from the chooser, writes
@@ -26,6 +26,7 @@ TakesTurns words files told told' out out' version = ⊥
 TakesTurns words files told told' out out' (exit status) = IsInterleaved words files told told' out out'
 TakesTurns words files told told' out out' accepted = ⊥
 TakesTurns words files told told' out out' split = ⊥
+TakesTurns words files told told' out out' worked = ⊥
 TakesTurns words files told told' out out' usage = ⊥
 TakesTurns words files told told' out out' (missing name) = ⊤
 TakesTurns words files told told' out out' (read_fault name) = ⊤
@@ -34,6 +35,9 @@ TakesTurns words files told told' out out' (faults lines) = ⊤
 TakesTurns words files told told' out out' (trapped trap span) = IsInterleaved words files told told' out out'
 TakesTurns words files told told' out out' (refused call function state) = IsInterleaved words files told told' out out'
 TakesTurns words files told told' out out' spent = IsInterleaved words files told told' out out'
+TakesTurns words files told told' out out' link_fault = ⊥
+TakesTurns words files told told' out out' (bad_peer rule offset) = ⊥
+TakesTurns words files told told' out out' peer_ended = ⊥
 TakesTurns words files told told' out out' memory = ⊤
 
 -- the statuses of a run that came to its end

@@ -7,10 +7,12 @@ pub mod Held
 pub mod Help
 pub mod Interleaving
 pub mod LocalRun
-pub mod LocalTexts
 pub mod OrigRun
 pub mod OrigTexts
+pub mod PairTexts
+pub mod ProcessRun
 pub mod Reading
+pub mod SlaveRun
 pub mod SplitRun
 pub mod SplitWriting
 pub mod Whole

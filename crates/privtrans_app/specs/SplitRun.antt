@@ -50,6 +50,7 @@ ComesTo names files files' reads reads' writes writes' e.version = ⊥
 ComesTo names files files' reads reads' writes writes' (e.exit status) = ⊥
 ComesTo names files files' reads reads' writes writes' e.accepted = ⊥
 ComesTo names files files' reads reads' writes writes' e.split = Writes names files files'
+ComesTo names files files' reads reads' writes writes' e.worked = ⊥
 ComesTo names files files' reads reads' writes writes' e.usage = ⊥
 ComesTo names files files' reads reads' writes writes' (e.missing name) = (name ≡ names.program) × (Lacks files name ⊎ Rose reads reads') × SameFiles files files'
 ComesTo names files files' reads reads' writes writes' (e.read_fault name) = (name ≡ names.program) × Rose reads reads' × SameFiles files files'
@@ -58,6 +59,9 @@ ComesTo names files files' reads reads' writes writes' (e.faults lines) = HasFau
 ComesTo names files files' reads reads' writes writes' (e.trapped trap span) = ⊥
 ComesTo names files files' reads reads' writes writes' (e.refused call function state) = ⊥
 ComesTo names files files' reads reads' writes writes' e.spent = ⊥
+ComesTo names files files' reads reads' writes writes' e.link_fault = ⊥
+ComesTo names files files' reads reads' writes writes' (e.bad_peer rule offset) = ⊥
+ComesTo names files files' reads reads' writes writes' e.peer_ended = ⊥
 ComesTo names files files' reads reads' writes writes' e.memory = SameFiles files files' ⊎ StopsWriting names files files'
 
 -- the ending that is due to what a text comes to

@@ -2,19 +2,20 @@
 use Rattle.std.specs.Prelude.{◌≡◌, ◌⊎◌, ℕ, List, Option, Some}
 use Rattle.std.specs.Io.KnownBytes.{Appends}
 use Rattle.pt_base.specs.Files.{Files, SameFiles, HoldsAt}
-use Rattle.fault_lines.specs.Seen.{Seen}
+use Rattle.fault_lines.specs.Seen.{Seen, faulty}
 use Rattle.original.specs.Original as original
 use Rattle.original.specs.Seen as originals
 use Rattle.flow_check.specs.Seen as checks
 use Rattle.program_split.specs.Split as halves
 use Rattle.program_split.specs.Split.{refused, split}
 use Rattle.program_split.specs.Seen as splits
-use Rattle.pair_texts.specs.Start.{Texts}
+use Rattle.pair_texts.specs.Start.{Texts, Refusal, IsRefused, lines_of}
 use Rattle.local_pair.specs.Seen as pairs
 use Rattle.privtrans_app.specs.Calls.{AreSplit}
 use Rattle.privtrans_app.specs.CheckRun as check
 use Rattle.privtrans_app.specs.LocalRun as local
 use Rattle.privtrans_app.specs.OrigRun as orig
+use Rattle.privtrans_app.specs.ProcessRun as process
 use Rattle.privtrans_app.specs.SplitRun.{Names}
 
 -- out and report grew by what is seen, and the status is its
@@ -28,11 +29,13 @@ abbrev pub Leaves : Names → Files → Option Files → halves.Outcome → Type
 Leaves names files files' (refused refusal) = SameFiles (Some files) files'
 Leaves names files files' (split slave monitor) = HoldsAt files' names.slave slave × HoldsAt files' names.monitor monitor
 
--- Memory was wanting, or: of `local`, `orig` and `check`, what the files' texts give is told; of `split`, the same, and
--- the files hold the halves.
+-- Memory was wanting, or: of `local`, `orig` and `check`, what the files' texts give is told; of `run`, their faults, where a
+-- stage has one; of `split`, what they give, and the files hold the halves.
 pub record AreKept (words : List (List ℕ)) (files : Files) (files' : Option Files) (out out' report report' : Option (List ℕ)) (status : ℕ) : Type 0 where
   pub paired : (t : Texts) (turns window : ℕ) → local.AreHeld words (Some files) t turns window
       → (status ≡ 12) ⊎ ((s : Seen) × pairs.Gives t turns s × Told s out out' report report' status)
+  pub served : (t : Texts) (turns : ℕ) (refusal : Refusal) → process.AreHeld words (Some files) t turns → IsRefused t refusal
+      → (status ≡ 12) ⊎ ((other : Refusal) × IsRefused t other × Told (faulty (lines_of other)) out out' report report' status)
   pub original : (t : original.Texts) (turns : ℕ) → orig.AreHeld words (Some files) t turns
       → (status ≡ 12) ⊎ ((s : Seen) × originals.Gives t turns s × Told s out out' report report' status)
   pub checked : (text : List ℕ) → check.AreHeld words (Some files) text

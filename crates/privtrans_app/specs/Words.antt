@@ -3,6 +3,8 @@ use Rattle.std.specs.Prelude.{◌≡◌, ◌≢◌, ◌⊎◌, ◌≤◌, ℕ, L
 use Rattle.std.specs.Fmt.{decimal}
 use Rattle.privtrans_app.specs.declared.words.Form.{Form}
 use Rattle.privtrans_app.specs.declared.words.Form.TheVariants.{Help, Version, Local, Orig, Check}
+use Rattle.privtrans_app.specs.declared.words.Outward.{Outward}
+use Rattle.privtrans_app.specs.declared.words.Outward.TheVariants.{Split, Run, Slave}
 
 abbrev pub IsHelp : List (List ℕ) → Type 0
 IsHelp words = (words ≡ codes "--help" ∷ []) ⊎ (words ≡ codes "-h" ∷ [])
@@ -33,8 +35,25 @@ pub record IsSplit (words : List (List ℕ)) (program slave monitor : List ℕ) 
   pub monitor_apart : program ≢ monitor
   pub halves_apart : slave ≢ monitor
 
+-- `run`, the names of four files, and a number in its range, in digits without a leading zero
+pub record IsProcessRun (words : List (List ℕ)) (program host policy input : List ℕ) (turns : ℕ) : Type 0 where
+  pub are : words ≡ codes "run" ∷ program ∷ host ∷ policy ∷ input ∷ decimal turns ∷ []
+  pub turns_most : turns ≤ 4294967295
+
+abbrev pub IsSlave : List (List ℕ) → Type 0
+IsSlave words = words ≡ codes "slave" ∷ []
+
 abbrev pub IsNoSplit : List (List ℕ) → Type 0
 IsNoSplit words = (program slave monitor : List ℕ) → IsSplit words program slave monitor → ⊥
+
+abbrev pub IsNoProcessRun : List (List ℕ) → Type 0
+IsNoProcessRun words = (program host policy input : List ℕ) (turns : ℕ) → IsProcessRun words program host policy input turns → ⊥
+
+-- the words neither write files nor reach another process
+pub record IsPlain (words : List (List ℕ)) : Type 0 where
+  pub no_split : IsNoSplit words
+  pub no_run : IsNoProcessRun words
+  pub no_slave : IsSlave words → ⊥
 
 abbrev pub IsNoLocal : List (List ℕ) → Type 0
 IsNoLocal words = (program host policy input : List ℕ) (turns window : ℕ) → IsLocal words program host policy input turns window → ⊥
@@ -45,11 +64,11 @@ IsNoOrig words = (program host input : List ℕ) (turns : ℕ) → IsOrig words 
 abbrev pub IsNoCheck : List (List ℕ) → Type 0
 IsNoCheck words = (program : List ℕ) → IsCheck words program → ⊥
 
--- the words name no files to run or to check
+-- the words name no files to run in this process or to check
 abbrev pub IsNoRun : List (List ℕ) → Type 0
 IsNoRun words = IsNoLocal words × IsNoOrig words × IsNoCheck words
 
--- the words are of no form, but for a split
+-- the words are of no form that is plain
 pub record IsNoForm (words : List (List ℕ)) : Type 0 where
   pub no_help : IsHelp words → ⊥
   pub no_version : IsVersion words → ⊥
@@ -61,13 +80,21 @@ pub record IsNoForm (words : List (List ℕ)) : Type 0 where
 pub data IsRun (words : List (List ℕ)) : List (List ℕ) → Type 0 where
   of_local : (program host policy input : List ℕ) (turns window : ℕ) → IsLocal words program host policy input turns window
       → IsRun words (program ∷ host ∷ policy ∷ input ∷ [])
+  of_process_run : (program host policy input : List ℕ) (turns : ℕ) → IsProcessRun words program host policy input turns
+      → IsRun words (program ∷ host ∷ policy ∷ input ∷ [])
   of_orig : (program host input : List ℕ) (turns : ℕ) → IsOrig words program host input turns → IsRun words (program ∷ host ∷ input ∷ [])
   of_check : (program : List ℕ) → IsCheck words program → IsRun words (program ∷ [])
 
--- the words are of this form
+-- the words are of this plain form
 abbrev pub IsForm : List (List ℕ) → Form → Type 0
 IsForm words Help = IsHelp words
 IsForm words Version = IsVersion words
-IsForm words (Local l) = IsLocal words l.program.now l.host.now l.policy.now l.input.now l.turns l.window
+IsForm words (Local l) = IsLocal words l.names.program.now l.names.host.now l.names.policy.now l.names.input.now l.turns l.window
 IsForm words (Orig o) = IsOrig words o.program.now o.host.now o.input.now o.turns
 IsForm words (Check program) = IsCheck words program.now
+
+-- the words are of this form that isn't plain
+abbrev pub IsOutward : List (List ℕ) → Outward → Type 0
+IsOutward words (Split s) = IsSplit words s.program.now s.slave.now s.monitor.now
+IsOutward words (Run r) = IsProcessRun words r.names.program.now r.names.host.now r.names.policy.now r.names.input.now r.turns
+IsOutward words Slave = IsSlave words

@@ -22,6 +22,8 @@ pub(crate) enum Ending<'a> {
     Accepted,
     /// The two halves of the program are written.
     Split,
+    /// The slave has said its last.
+    Worked,
     Usage,
     /// No file of this name is held.
     Missing(&'a str),
@@ -43,6 +45,15 @@ pub(crate) enum Ending<'a> {
     },
     /// The run needed one more turn than its budget has.
     Spent,
+    /// The link to the other process failed.
+    LinkFault,
+    /// The other process broke a rule, with the frame at this place of what it gave.
+    BadPeer {
+        rule: u8,
+        offset: u64,
+    },
+    /// The other process ended before the run did.
+    PeerEnded,
     Memory,
 }
 
@@ -56,6 +67,7 @@ pub(crate) fn status(ending: &Ending<'_>) -> u8
         Ending::Exit(_) => 0,
         Ending::Accepted => 0,
         Ending::Split => 0,
+        Ending::Worked => 0,
         Ending::Usage => 1,
         Ending::Missing(_) => 2,
         Ending::ReadFault(_) => 3,
@@ -64,6 +76,9 @@ pub(crate) fn status(ending: &Ending<'_>) -> u8
         Ending::Trapped(..) => 6,
         Ending::Refused { .. } => 7,
         Ending::Spent => 8,
+        Ending::LinkFault => 9,
+        Ending::BadPeer { .. } => 10,
+        Ending::PeerEnded => 11,
         Ending::Memory => 12,
     }
 }
@@ -110,6 +125,19 @@ fn refused_line(
     Ok(line)
 }
 
+// The line of a run whose peer broke a rule.
+fn bad_peer_line(alloc: Global, rule: u8, offset: u64) -> Result<Vec<u8>, AllocError>
+    ensures { IfOk result (λ line. line.items ≡ codes "bad peer " ++ decimal rule ++ codes " " ++ decimal offset ++ codes "\n") }
+{
+    let mut buffer = Buffer::new();
+    let mut line = Vec::from_slice(alloc, b"bad peer ")?;
+    line.extend_from_slice(buffer.format(rule).as_bytes())?;
+    line.push(b' ')?;
+    line.extend_from_slice(buffer.format(offset).as_bytes())?;
+    line.push(b'\n')?;
+    Ok(line)
+}
+
 /// What is reported of an ending.
 pub(crate) fn report(alloc: Global, ending: Ending<'_>) -> Result<Vec<u8>, AllocError>
     ensures { IfOk result (λ line. line.items ≡ report_of (ending_seen ending.entry)) }
@@ -117,6 +145,7 @@ pub(crate) fn report(alloc: Global, ending: Ending<'_>) -> Result<Vec<u8>, Alloc
     match ending {
         Ending::Help => Ok(Vec::new(alloc)),
         Ending::Version => Ok(Vec::new(alloc)),
+        Ending::Worked => Ok(Vec::new(alloc)),
         Ending::Exit(status) => {
             let mut buffer = Buffer::new();
             named_line(alloc, b"exit ", buffer.format(status))
@@ -135,6 +164,9 @@ pub(crate) fn report(alloc: Global, ending: Ending<'_>) -> Result<Vec<u8>, Alloc
             state,
         } => refused_line(alloc, call, &function, &state),
         Ending::Spent => Vec::from_slice(alloc, b"spent\n"),
+        Ending::LinkFault => Vec::from_slice(alloc, b"link fault\n"),
+        Ending::BadPeer { rule, offset } => bad_peer_line(alloc, rule, offset),
+        Ending::PeerEnded => Vec::from_slice(alloc, b"peer ended\n"),
         Ending::Memory => Vec::from_slice(alloc, b"memory\n"),
     }
 }

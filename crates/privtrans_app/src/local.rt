@@ -1,6 +1,6 @@
 // Both halves in one process: the files are read, the pair of their texts is run, and what its hosts write
 // goes to out.
-ghost use Rattle.std.specs.Prelude.{◌≡◌, ◌≤◌, [], ℕ, true, false, List, IfOk, IfErr};
+ghost use Rattle.std.specs.Prelude.{◌≡◌, ◌≤◌, [], ℕ, true, false, List};
 ghost use Rattle.link_talks.specs.Choosing.{AreTaken};
 ghost use Rattle.pt_base.specs.Files.{SameFiles};
 ghost use Rattle.local_pair.specs.OutcomeSeen.{ended_seen};
@@ -9,12 +9,10 @@ ghost use Rattle.privtrans_app.specs.Ending.{is_silent};
 ghost use Rattle.privtrans_app.specs.EndingSeen.{ending_seen};
 ghost use Rattle.privtrans_app.specs.Interleaving.{TakesTurns};
 ghost use Rattle.privtrans_app.specs.LocalRun.{ending_at};
-ghost use Rattle.privtrans_app.specs.LocalTexts.{local_texts_of};
-ghost use Rattle.privtrans_app.specs.Reading.{IsRefusal, AreFirst, local_names};
 ghost use Rattle.privtrans_app.specs.Words.{IsLocal};
 
 use crate::ending::Ending;
-use crate::reading::read_text;
+use crate::texts::read_texts;
 use crate::words::LocalWords;
 use crate::writing::put;
 use local_pair::{Ended, Outcome, outcome_of};
@@ -23,42 +21,8 @@ use pt_base::{Chooser, Folder, Sink, Watch};
 use std::alloc::Global;
 use std::thread::Threads;
 
-/// The four texts of a pair.
-#[derive(Drop)]
-pub(crate) struct Texts {
-    pub program: Vec<u8>,
-    pub host: Vec<u8>,
-    pub policy: Vec<u8>,
-    pub input: Vec<u8>,
-}
-
-// The text of each word's file, one after another.
-fn read_texts<'a, F: Folder>(
-    alloc: Global,
-    folder: &mut F,
-    words: &LocalWords<'a>,
-) -> Result<Texts, Ending<'a>>
-    ensures texts { IfOk result (λ t. AreFirst words.now (F.files folder.old) (local_texts_of t)) }
-    ensures refusal { IfErr result (λ e. IsRefusal (local_names words.now) (F.files folder.old)
-        (F.read_faults folder.old) (F.read_faults folder.new) (ending_seen e)) }
-    ensures same { SameFiles (F.files folder.old) (F.files folder.new) }
-    ensures writes { F.write_faults folder.new ≡ F.write_faults folder.old }
-    ensures later { F.read_faults folder.old ≤ F.read_faults folder.new }
-{
-    let program = read_text(alloc, folder, words.program)?;
-    let host = read_text(alloc, folder, words.host)?;
-    let policy = read_text(alloc, folder, words.policy)?;
-    let input = read_text(alloc, folder, words.input)?;
-    Ok(Texts {
-        program,
-        host,
-        policy,
-        input,
-    })
-}
-
-// How a run's end ends the call.
-fn ending_of<'a>(end: Ended) -> Ending<'a>
+/// How the end of a pair's run ends the call.
+pub(crate) fn ending_of<'a>(end: Ended) -> Ending<'a>
     ensures ending { ending_seen result ≡ ending_at (ended_seen end) }
     ensures loud { is_silent (ending_seen result) ≡ false }
 {
@@ -91,11 +55,11 @@ pub(crate) fn local<'a, R: Threads + Sync, F: Folder, K: Sink, C: Chooser, W: Wa
 ) -> Ending<'a>
     requires window { 1 ≤ words.now.window }
     ensures ending { (given : List (List ℕ)) →
-        IsLocal given words.now.program.now words.now.host.now words.now.policy.now words.now.input.now words.now.turns words.now.window →
+        IsLocal given words.now.names.program.now words.now.names.host.now words.now.names.policy.now words.now.names.input.now words.now.turns words.now.window →
         ComesTo given (F.files folder.old) (F.read_faults folder.old) (F.read_faults folder.new)
         (K.taken out.old) (K.taken out.new) (K.faults out.old) (K.faults out.new) (ending_seen result) }
     ensures turns { (given : List (List ℕ)) →
-        IsLocal given words.now.program.now words.now.host.now words.now.policy.now words.now.input.now words.now.turns words.now.window →
+        IsLocal given words.now.names.program.now words.now.names.host.now words.now.names.policy.now words.now.names.input.now words.now.turns words.now.window →
         TakesTurns given (F.files folder.old) (C.answers chooser.old) (C.answers chooser.new) (K.taken out.old) (K.taken out.new) (ending_seen result) }
     ensures untaken { is_silent (ending_seen result) ≡ true → AreTaken [] (C.answers chooser.old) (C.answers chooser.new) }
     ensures silent { is_silent (ending_seen result) ≡ true → out.new ≡ out.old }
@@ -103,7 +67,7 @@ pub(crate) fn local<'a, R: Threads + Sync, F: Folder, K: Sink, C: Chooser, W: Wa
     ensures writes { F.write_faults folder.new ≡ F.write_faults folder.old }
     ensures later { (F.read_faults folder.old ≤ F.read_faults folder.new) × (K.faults out.old ≤ K.faults out.new) }
 {
-    let texts = match read_texts(alloc, folder, words) {
+    let texts = match read_texts(alloc, folder, &words.names) {
         Ok(texts) => texts,
         Err(ending) => return ending,
     };

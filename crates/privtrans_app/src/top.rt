@@ -7,6 +7,7 @@ ghost use Rattle.typed_tree.specs.TypedTree.{TypedTree};
 ghost use Rattle.pair_texts.specs.Start.{Texts};
 ghost use Rattle.local_pair.specs.Local.{IsExpected};
 ghost use Rattle.local_pair.specs.Seen.{shown_of};
+ghost use Rattle.spawned_pair.specs.OutcomeSeen.{IsHonestFor};
 ghost use Rattle.privtrans_app.specs.Calls as calls;
 ghost use Rattle.privtrans_app.specs.Calls.{IsBySplit};
 ghost use Rattle.privtrans_app.specs.Causes.{ComesTo, IsByForm, IsByFiles};
@@ -14,22 +15,28 @@ ghost use Rattle.privtrans_app.specs.Ending.{Ending, Reports, StaysDown, is_sile
 ghost use Rattle.privtrans_app.specs.EndingSeen.{ending_seen};
 ghost use Rattle.privtrans_app.specs.Interleaving.{IsInterleaved, IsOfNoRun, IsOfRun, TakesTurns};
 ghost use Rattle.privtrans_app.specs.LocalRun as paired;
+ghost use Rattle.privtrans_app.specs.ProcessRun as process;
+ghost use Rattle.privtrans_app.specs.ProcessRun.{IsRunOver};
+ghost use Rattle.privtrans_app.specs.SlaveRun.{IsWorkOver};
 ghost use Rattle.privtrans_app.specs.Whole.{AreKept, Told};
-ghost use Rattle.privtrans_app.specs.Words.{IsLocal, IsNoLocal, IsNoRun, IsNoSplit};
+ghost use Rattle.privtrans_app.specs.Words.{IsLocal, IsNoLocal, IsNoProcessRun, IsNoRun, IsNoSplit, IsSlave};
 
 use crate::check::check;
 use crate::ending::{Ending as Came, report, status};
 use crate::help::{HELP, VERSION};
 use crate::local::local;
 use crate::orig::orig;
+use crate::run::run;
+use crate::slave::slave;
 use crate::split::split;
-use crate::words::{Form, form_of, split_of};
+use crate::words::{Form, Outward, form_of, outward_of};
 use crate::writing::put;
-use pt_base::{Chooser, Folder, Sink, SinkFault, Spawner, Watch};
+use honest_link::Witnessed;
+use pt_base::{Chooser, Folder, Sink, SinkFault, Watch};
 use std::alloc::Global;
 use std::thread::Threads;
 
-// What words that are no split come to. No file is written.
+// What plain words come to. No file is written.
 fn came_to<'a, R: Threads + Sync, F: Folder, K: Sink, C: Chooser, W: Watch>(
     rt: &R,
     alloc: Global,
@@ -62,28 +69,34 @@ fn came_to<'a, R: Threads + Sync, F: Folder, K: Sink, C: Chooser, W: Watch>(
 }
 
 // What the words come to. Files are written by a split alone.
-fn ended<'a, R: Threads + Sync, F: Folder, K: Sink, C: Chooser, W: Watch>(
+fn ended<'a, R: Threads + Sync, F: Folder, K: Sink, S: Witnessed, C: Chooser, W: Watch>(
     rt: &R,
     alloc: Global,
     words: &[&'a str],
     folder: &mut F,
     out: &mut K,
+    spawner: &mut S,
     chooser: &mut C,
     watch: &W,
 ) -> Came<'a>
-    ensures ending { calls.ComesTo (map (λ w. w.now) words.now) (F.files folder.old) (F.files folder.new) (F.read_faults folder.old) (F.read_faults folder.new)
-        (F.write_faults folder.old) (F.write_faults folder.new) (K.taken out.old) (K.taken out.new) (K.faults out.old) (K.faults out.new) (ending_seen result) }
+    ensures ending { calls.ComesTo (IsRunOver S.honest S.sent S.given K.taken spawner.old spawner.new out.old out.new) (IsWorkOver S.came S.sent S.given spawner.old spawner.new)
+        (map (λ w. w.now) words.now) (F.files folder.old) (F.files folder.new) (F.read_faults folder.old) (F.read_faults folder.new) (F.write_faults folder.old) (F.write_faults folder.new)
+        (K.taken out.old) (K.taken out.new) (K.faults out.old) (K.faults out.new) (S.faults spawner.old) (S.faults spawner.new) (ending_seen result) }
     ensures turns { (program host policy input : List ℕ) (turns window : ℕ) → IsLocal (map (λ w. w.now) words.now) program host policy input turns window →
         TakesTurns (map (λ w. w.now) words.now) (F.files folder.old) (C.answers chooser.old) (C.answers chooser.new) (K.taken out.old) (K.taken out.new) (ending_seen result) }
     ensures unasked { IsNoLocal (map (λ w. w.now) words.now) → chooser.new ≡ chooser.old }
     ensures untaken { is_silent (ending_seen result) ≡ true → AreTaken [] (C.answers chooser.old) (C.answers chooser.new) }
-    ensures silent { is_silent (ending_seen result) ≡ true → out.new ≡ out.old }
-    ensures unread { IsNoRun (map (λ w. w.now) words.now) → IsNoSplit (map (λ w. w.now) words.now) → folder.new ≡ folder.old }
+    ensures silent { is_silent (ending_seen result) ≡ true → (out.new ≡ out.old) × (spawner.new ≡ spawner.old) }
+    ensures unread { IsNoRun (map (λ w. w.now) words.now) → IsNoSplit (map (λ w. w.now) words.now) → IsNoProcessRun (map (λ w. w.now) words.now) → folder.new ≡ folder.old }
     ensures same { IsNoSplit (map (λ w. w.now) words.now) → SameFiles (F.files folder.old) (F.files folder.new) × (F.write_faults folder.new ≡ F.write_faults folder.old) }
-    ensures later { (F.read_faults folder.old ≤ F.read_faults folder.new) × (F.write_faults folder.old ≤ F.write_faults folder.new) × (K.faults out.old ≤ K.faults out.new) }
+    ensures unlinked { IsNoProcessRun (map (λ w. w.now) words.now) → (IsSlave (map (λ w. w.now) words.now) → ⊥) → spawner.new ≡ spawner.old }
+    ensures unwritten { IsSlave (map (λ w. w.now) words.now) → out.new ≡ out.old }
+    ensures later { (F.read_faults folder.old ≤ F.read_faults folder.new) × (F.write_faults folder.old ≤ F.write_faults folder.new) × (K.faults out.old ≤ K.faults out.new) × (S.faults spawner.old ≤ S.faults spawner.new) }
 {
-    match split_of(words) {
-        Some(words) => split(rt, alloc, &words, folder, watch),
+    match outward_of(words) {
+        Some(Outward::Split(words)) => split(rt, alloc, &words, folder, watch),
+        Some(Outward::Run(words)) => run(rt, alloc, &words, folder, out, spawner, watch),
+        Some(Outward::Slave) => slave(alloc, spawner),
         None => came_to(rt, alloc, words, folder, out, chooser, watch),
     }
 }
@@ -110,11 +123,21 @@ fn tell<E: Sink>(alloc: Global, sink: &mut E, ending: Came<'_>) -> u8
 /// Does what the words ask for, and gives the status that the program ends with: 0 where it was
 /// done, 1 where the words are of no form, 2 where a file is missing, 3 where one can't be read, 4
 /// where out, the report or a half can't be written, 5 where the texts have faults, 6 where the run broke
-/// off, 7 where the policy denied a call, 8 where its budget of turns was spent, 12 for want of memory.
-/// Lines in `report`, mostly one, say how it ended; help and version have none. Where both halves run, the
-/// chooser says at each step which of them goes on. The watch is told of each function that the front end
-/// works on, and changes nothing.
-pub fn privtrans<R: Threads + Sync, F: Folder, K: Sink, E: Sink, S: Spawner, C: Chooser, W: Watch>(
+/// off, 7 where the policy denied a call, 8 where its budget of turns was spent, 9 where the link to the
+/// other process failed, 10 where that broke a rule, 11 where it ended too early, 12 for want of memory.
+/// Lines in `report`, mostly one, say how it ended; help, the version and a slave that has ended have none.
+/// Where both halves run in one process, the chooser says at each step which of them goes on; where they
+/// run in two, the spawner starts the slave's, and is the link to the other one in each. The watch is told of
+/// each function that the front end works on, and changes nothing.
+pub fn privtrans<
+    R: Threads + Sync,
+    F: Folder,
+    K: Sink,
+    E: Sink,
+    S: Witnessed,
+    C: Chooser,
+    W: Watch,
+>(
     rt: &R,
     alloc: Global,
     words: &[&str],
@@ -125,11 +148,12 @@ pub fn privtrans<R: Threads + Sync, F: Folder, K: Sink, E: Sink, S: Spawner, C: 
     chooser: &mut C,
     watch: &W,
 ) -> u8
-    // the call comes to an ending, each only where the words, the files and the outside have its
-    // cause, and reports it; where it writes nothing to out, out isn't touched
+    // the call comes to an ending, each only where the words, the files, the outside and what the link gave have
+    // its cause, and reports it; where it writes nothing to out, out isn't touched
     ensures answer { (e : Ending)
-        × calls.ComesTo (map (λ w. w.now) words.now) (F.files folder.old) (F.files folder.new) (F.read_faults folder.old) (F.read_faults folder.new)
-        (F.write_faults folder.old) (F.write_faults folder.new) (K.taken out.old) (K.taken out.new) (K.faults out.old) (K.faults out.new) e
+        × calls.ComesTo (IsRunOver S.honest S.sent S.given K.taken spawner.old spawner.new out.old out.new) (IsWorkOver S.came S.sent S.given spawner.old spawner.new)
+        (map (λ w. w.now) words.now) (F.files folder.old) (F.files folder.new) (F.read_faults folder.old) (F.read_faults folder.new)
+        (F.write_faults folder.old) (F.write_faults folder.new) (K.taken out.old) (K.taken out.new) (K.faults out.old) (K.faults out.new) (S.faults spawner.old) (S.faults spawner.new) e
         × Reports e (E.taken report.old) (E.taken report.new) (E.faults report.old) (E.faults report.new) result
         × (is_silent e ≡ true → out.new ≡ out.old) }
     // where no write failed, words that are no run have the status of their form
@@ -168,22 +192,36 @@ pub fn privtrans<R: Threads + Sync, F: Folder, K: Sink, E: Sink, S: Spawner, C: 
         → paired.AreHeld (map (λ w. w.now) words.now) (Some files) t turns window
         → IsExpected t turns tree e
         → (result ≡ 12) ⊎ Told (shown_of tree e) (K.taken out.old) (K.taken out.new) (E.taken report.old) (E.taken report.new) result }
-    // whatever failed: where a run of both halves came to its end, out's new bytes are what the steps of a slave and
+    // The same of the halves in two processes, where moreover the link had no fault, and the spawner tells that it was sent
+    // nothing and gave nothing before, and that it will be honest for the boot of the pair that the texts start.
+    ensures headline_of_two { (files : Files) → F.files folder.old ≡ Some files
+        → StaysDown (F.read_faults folder.old) (F.read_faults folder.new)
+        → StaysDown (K.faults out.old) (K.faults out.new)
+        → StaysDown (E.faults report.old) (E.faults report.new)
+        → StaysDown (S.faults spawner.old) (S.faults spawner.new)
+        → (t : Texts) (turns : ℕ) (tree : TypedTree) (e : Expected)
+        → process.AreHeld (map (λ w. w.now) words.now) (Some files) t turns
+        → IsHonestFor S.honest S.sent S.given t turns spawner.old
+        → IsExpected t turns tree e
+        → (result ≡ 12) ⊎ Told (shown_of tree e) (K.taken out.old) (K.taken out.new) (E.taken report.old) (E.taken report.new) result }
+    // whatever failed: where a run of both halves in one process came to its end, out's new bytes are what the steps of a slave and
     // a monitor write that go on one by one as the answers say that were taken from the chooser, to the last one
     ensures interleaving { (program host policy input : List ℕ) (turns window : ℕ)
         → IsLocal (map (λ w. w.now) words.now) program host policy input turns window
         → IsOfRun result
         → IsInterleaved (map (λ w. w.now) words.now) (F.files folder.old) (C.answers chooser.old) (C.answers chooser.new) (K.taken out.old) (K.taken out.new) }
-    // no file is written but by a split, and none is read where the words name none; the spawner isn't used, and
-    // the chooser is asked by `local` alone, and there only where both halves run
+    // no file is written but by a split, and none is read where the words name none; out isn't used by a slave; the
+    // chooser is asked by `local` alone and the spawner used by `run` and `slave` alone, and both only where something runs
     ensures untouched { (IsNoSplit (map (λ w. w.now) words.now) → SameFiles (F.files folder.old) (F.files folder.new) × (F.write_faults folder.new ≡ F.write_faults folder.old))
-        × (IsNoRun (map (λ w. w.now) words.now) → IsNoSplit (map (λ w. w.now) words.now) → folder.new ≡ folder.old)
-        × (spawner.new ≡ spawner.old) × (IsNoLocal (map (λ w. w.now) words.now) → chooser.new ≡ chooser.old)
-        × (IsOfNoRun result → AreTaken [] (C.answers chooser.old) (C.answers chooser.new)) }
+        × (IsNoRun (map (λ w. w.now) words.now) → IsNoSplit (map (λ w. w.now) words.now) → IsNoProcessRun (map (λ w. w.now) words.now) → folder.new ≡ folder.old)
+        × (IsSlave (map (λ w. w.now) words.now) → out.new ≡ out.old)
+        × (IsNoProcessRun (map (λ w. w.now) words.now) → (IsSlave (map (λ w. w.now) words.now) → ⊥) → spawner.new ≡ spawner.old)
+        × (IsNoLocal (map (λ w. w.now) words.now) → chooser.new ≡ chooser.old)
+        × (IsOfNoRun result → AreTaken [] (C.answers chooser.old) (C.answers chooser.new) × (spawner.new ≡ spawner.old)) }
     // no count of faults falls
     ensures counts { (F.read_faults folder.old ≤ F.read_faults folder.new) × (F.write_faults folder.old ≤ F.write_faults folder.new)
-        × (K.faults out.old ≤ K.faults out.new) × (E.faults report.old ≤ E.faults report.new) }
+        × (K.faults out.old ≤ K.faults out.new) × (E.faults report.old ≤ E.faults report.new) × (S.faults spawner.old ≤ S.faults spawner.new) }
 {
-    let ending = ended(rt, alloc, words, folder, out, chooser, watch);
+    let ending = ended(rt, alloc, words, folder, out, spawner, chooser, watch);
     tell(alloc, report, ending)
 }

@@ -1,19 +1,32 @@
 // The words of a call, read by hand.
 ghost use Rattle.std.specs.Prelude.{◌≡◌, ◌≤◌, ◌≢◌, ◌∷◌, [], ℕ, MatchOption, IsTrue, false, map, codes};
 ghost use Rattle.std.specs.Fmt.{decimal};
-ghost use Rattle.privtrans_app.specs.Words.{IsForm, IsNoForm, IsNoSplit, IsSplit};
+ghost use Rattle.privtrans_app.specs.Words.{IsForm, IsNoForm, IsOutward, IsPlain};
 
 use itoa::Buffer;
 
-/// The words of a run of both halves in one process.
+/// The names of a pair's files.
 #[derive(Clone, Copy)]
-pub(crate) struct LocalWords<'a> {
+pub(crate) struct PairNames<'a> {
     pub program: &'a str,
     pub host: &'a str,
     pub policy: &'a str,
     pub input: &'a str,
+}
+
+/// The words of a run of both halves in one process.
+#[derive(Clone, Copy)]
+pub(crate) struct LocalWords<'a> {
+    pub names: PairNames<'a>,
     pub turns: u32,
     pub window: u32,
+}
+
+/// The words of a run of both halves in two processes.
+#[derive(Clone, Copy)]
+pub(crate) struct RunWords<'a> {
+    pub names: PairNames<'a>,
+    pub turns: u32,
 }
 
 /// The words of a run of the original.
@@ -33,7 +46,7 @@ pub(crate) struct SplitWords<'a> {
     pub monitor: &'a str,
 }
 
-/// What the words ask for, but for a split.
+/// What plain words ask for.
 #[derive(Clone, Copy)]
 pub(crate) enum Form<'a> {
     Help,
@@ -42,6 +55,14 @@ pub(crate) enum Form<'a> {
     Orig(OrigWords<'a>),
     /// A check of the program of this name.
     Check(&'a str),
+}
+
+/// What the words ask for, where that writes files or reaches another process.
+#[derive(Clone, Copy)]
+pub(crate) enum Outward<'a> {
+    Split(SplitWords<'a>),
+    Run(RunWords<'a>),
+    Slave,
 }
 
 // The number of a word in digits without a leading zero, if it is at most `most`.
@@ -66,7 +87,7 @@ fn is_spelling(n: u32, word: &str) -> bool
     buffer.format(n) == word
 }
 
-/// What the words ask for; none where they are of no form, or a split.
+/// What plain words ask for; none where they are of no such form.
 pub(crate) fn form_of<'a>(words: &[&'a str]) -> Option<Form<'a>>
     ensures { MatchOption result (IsNoForm (map (λ w. w.now) words.now)) (IsForm (map (λ w. w.now) words.now)) }
 {
@@ -188,11 +209,14 @@ fn local_form<'a>(
     if window == 0 {
         return None;
     }
-    Some(Form::Local(LocalWords {
+    let names = PairNames {
         program,
         host,
         policy,
         input,
+    };
+    Some(Form::Local(LocalWords {
+        names,
         turns,
         window,
     }))
@@ -212,34 +236,34 @@ fn orig_form<'a>(program: &'a str, host: &'a str, input: &'a str, turns: &str) -
     }))
 }
 
-/// The words of a split; none where they are none.
-pub(crate) fn split_of<'a>(words: &[&'a str]) -> Option<SplitWords<'a>>
-    ensures { MatchOption result (IsNoSplit (map (λ w. w.now) words.now)) (λ s. IsSplit (map (λ w. w.now) words.now) s.program.now s.slave.now s.monitor.now) }
+/// What the words ask for where they aren't plain.
+pub(crate) fn outward_of<'a>(words: &[&'a str]) -> Option<Outward<'a>>
+    ensures { MatchOption result (IsPlain (map (λ w. w.now) words.now)) (IsOutward (map (λ w. w.now) words.now)) }
 {
     match words {
         [] => None,
-        [word, rest @ ..] => split_after(word, rest),
+        [word, rest @ ..] => outward_after(word, rest),
     }
 }
 
-// The words of a split, of a word and those after it.
-fn split_after<'a>(word: &str, rest: &[&'a str]) -> Option<SplitWords<'a>>
-    ensures { MatchOption result
-        (IsNoSplit (word.now ∷ map (λ w. w.now) rest.now))
-        (λ s. IsSplit (word.now ∷ map (λ w. w.now) rest.now) s.program.now s.slave.now s.monitor.now) }
+// The same of a word and those after it.
+fn outward_after<'a>(word: &str, rest: &[&'a str]) -> Option<Outward<'a>>
+    ensures { MatchOption result (IsPlain (word.now ∷ map (λ w. w.now) rest.now)) (IsOutward (word.now ∷ map (λ w. w.now) rest.now)) }
 {
     if word == "split" {
         split_words(rest)
+    } else if word == "run" {
+        run_words(rest)
+    } else if word == "slave" {
+        slave_words(rest)
     } else {
         None
     }
 }
 
 // The words after `split`.
-fn split_words<'a>(words: &[&'a str]) -> Option<SplitWords<'a>>
-    ensures { MatchOption result
-        (IsNoSplit (codes "split" ∷ map (λ w. w.now) words.now))
-        (λ s. IsSplit (codes "split" ∷ map (λ w. w.now) words.now) s.program.now s.slave.now s.monitor.now) }
+fn split_words<'a>(words: &[&'a str]) -> Option<Outward<'a>>
+    ensures { MatchOption result (IsPlain (codes "split" ∷ map (λ w. w.now) words.now)) (IsOutward (codes "split" ∷ map (λ w. w.now) words.now)) }
 {
     let [program, words @ ..] = words else {
         return None;
@@ -258,18 +282,76 @@ fn split_words<'a>(words: &[&'a str]) -> Option<SplitWords<'a>>
 }
 
 // The names of a split, where no two are equal.
-fn apart<'a>(program: &'a str, slave: &'a str, monitor: &'a str) -> Option<SplitWords<'a>>
+fn apart<'a>(program: &'a str, slave: &'a str, monitor: &'a str) -> Option<Outward<'a>>
     ensures { MatchOption result
-        (IsNoSplit (codes "split" ∷ program.now ∷ slave.now ∷ monitor.now ∷ []))
-        (λ s. IsSplit (codes "split" ∷ program.now ∷ slave.now ∷ monitor.now ∷ []) s.program.now s.slave.now s.monitor.now) }
+        (IsPlain (codes "split" ∷ program.now ∷ slave.now ∷ monitor.now ∷ []))
+        (IsOutward (codes "split" ∷ program.now ∷ slave.now ∷ monitor.now ∷ [])) }
 {
     if program == slave || program == monitor || slave == monitor {
         None
     } else {
-        Some(SplitWords {
+        Some(Outward::Split(SplitWords {
             program,
             slave,
             monitor,
-        })
+        }))
+    }
+}
+
+// The words after `run`.
+fn run_words<'a>(words: &[&'a str]) -> Option<Outward<'a>>
+    ensures { MatchOption result (IsPlain (codes "run" ∷ map (λ w. w.now) words.now)) (IsOutward (codes "run" ∷ map (λ w. w.now) words.now)) }
+{
+    let [program, words @ ..] = words else {
+        return None;
+    };
+    let [host, words @ ..] = words else {
+        return None;
+    };
+    let [policy, words @ ..] = words else {
+        return None;
+    };
+    let [input, words @ ..] = words else {
+        return None;
+    };
+    let [turns, words @ ..] = words else {
+        return None;
+    };
+    if words.is_empty() {
+        run_form(program, host, policy, input, turns)
+    } else {
+        None
+    }
+}
+
+fn run_form<'a>(
+    program: &'a str,
+    host: &'a str,
+    policy: &'a str,
+    input: &'a str,
+    turns: &str,
+) -> Option<Outward<'a>>
+    ensures { MatchOption result
+        (IsPlain (codes "run" ∷ program.now ∷ host.now ∷ policy.now ∷ input.now ∷ turns.now ∷ []))
+        (IsOutward (codes "run" ∷ program.now ∷ host.now ∷ policy.now ∷ input.now ∷ turns.now ∷ [])) }
+{
+    let turns = number(turns, u32::MAX)?;
+    let names = PairNames {
+        program,
+        host,
+        policy,
+        input,
+    };
+    Some(Outward::Run(RunWords { names, turns }))
+}
+
+// The words after `slave`, of which there are none.
+fn slave_words<'a>(words: &[&'a str]) -> Option<Outward<'a>>
+    ensures { MatchOption result (IsPlain (codes "slave" ∷ map (λ w. w.now) words.now)) (IsOutward (codes "slave" ∷ map (λ w. w.now) words.now)) }
+{
+    if words.is_empty() {
+        Some(Outward::Slave)
+    } else {
+        None
     }
 }

@@ -9,8 +9,8 @@ use Rattle.local_pair.specs.OutcomeSeen.{IsOutcome, IsWholeRun, ended_seen}
 use Rattle.local_pair.specs.Whole.{HasWhole}
 use Rattle.privtrans_app.specs.Ending.{Ending, Puts}
 use Rattle.privtrans_app.specs.EndingSeen.{ending_seen}
-use Rattle.privtrans_app.specs.LocalTexts.{local_texts_of}
-use Rattle.privtrans_app.specs.Reading.{local_names}
+use Rattle.privtrans_app.specs.PairTexts.{pair_texts_of}
+use Rattle.privtrans_app.specs.Reading.{list_of}
 use Rattle.privtrans_app.proofs.CauseLemmas.{refusal_comes}
 use Rattle.privtrans_app.proofs.InterleavingLemmas.{none_taken, refusal_turns, run_turns}
 use Rattle.privtrans_app.proofs.LocalLemmas.{local_run, faults_come, ran_comes}
@@ -18,17 +18,17 @@ use Rattle.privtrans_app.proofs.local.local.Goals as goal
 
 pub returns-in-Err-clause-ending : goal.returns-in-Err-clause-ending
 returns-in-Err-clause-ending g c = λ given form.
-    refusal_comes given (local_names c.args.words.now) (g.F.Folder.files c.args.folder.now) (g.F.Folder.read_faults c.args.folder.now) (g.F.Folder.read_faults c.read_texts.new.folder)
+    refusal_comes given (list_of c.args.words.now.names) (g.F.Folder.files c.args.folder.now) (g.F.Folder.read_faults c.args.folder.now) (g.F.Folder.read_faults c.read_texts.new.folder)
     (g.K.Sink.faults c.args.out.now) (g.K.Sink.taken c.args.out.now) (ending_seen c.in-Err.ending) (local_run given c.args.words.now form) c.in-Err.ensures.refusal
 
 pub returns-in-Err-clause-turns : goal.returns-in-Err-clause-turns
 returns-in-Err-clause-turns g c = λ given form.
-    refusal_turns given (local_names c.args.words.now) (g.F.Folder.files c.args.folder.now) (g.F.Folder.read_faults c.args.folder.now) (g.F.Folder.read_faults c.read_texts.new.folder)
+    refusal_turns given (list_of c.args.words.now.names) (g.F.Folder.files c.args.folder.now) (g.F.Folder.read_faults c.args.folder.now) (g.F.Folder.read_faults c.read_texts.new.folder)
     (g.C.Chooser.answers c.args.chooser.now) (g.C.Chooser.answers c.args.chooser.now) (g.K.Sink.taken c.args.out.now) (g.K.Sink.taken c.args.out.now) (ending_seen c.in-Err.ending) c.in-Err.ensures.refusal
 
 pub returns-in-Ok-Refused-clause-ending : goal.returns-in-Ok-Refused-clause-ending
 returns-in-Ok-Refused-clause-ending g c = λ given form.
-    let cut : Texts = local_texts_of c.in-Ok.texts in
+    let cut : Texts = pair_texts_of c.in-Ok.texts in
     let same : record { program = c.deref-4.result.now; host = c.deref.result.now; policy = c.deref-2.result.now; input = c.deref-3.result.now } ≡ cut
     = λ k. record { program = c.deref-4.ensures.value k; host = c.deref.ensures.value k; policy = c.deref-2.ensures.value k; input = c.deref-3.ensures.value k } in
     let are : AreLinesOf cut c.in-Ok-Refused.lines.items = subst (IsOutcome cut c.args.words.now.turns) c.in-Ok-Refused.field-0-is
@@ -38,7 +38,7 @@ returns-in-Ok-Refused-clause-ending g c = λ given form.
 
 pub returns-in-Ok-Ran-clause-ending : goal.returns-in-Ok-Ran-clause-ending
 returns-in-Ok-Ran-clause-ending g c = λ given form.
-    let cut : Texts = local_texts_of c.in-Ok.texts in
+    let cut : Texts = pair_texts_of c.in-Ok.texts in
     let bytes : List ℕ = c.in-Ok-Ran.written.items in
     let end : ends.Ended = ended_seen c.in-Ok-Ran.end in
     let same : record { program = c.deref-4.result.now; host = c.deref.result.now; policy = c.deref-2.result.now; input = c.deref-3.result.now } ≡ cut
@@ -54,7 +54,7 @@ returns-in-Ok-Ran-clause-ending g c = λ given form.
 
 pub returns-in-Ok-Ran-clause-turns : goal.returns-in-Ok-Ran-clause-turns
 returns-in-Ok-Ran-clause-turns g c = λ given form.
-    let cut : Texts = local_texts_of c.in-Ok.texts in
+    let cut : Texts = pair_texts_of c.in-Ok.texts in
     let bytes : List ℕ = c.in-Ok-Ran.written.items in
     let end : ends.Ended = ended_seen c.in-Ok-Ran.end in
     let told : Option (ℕ → Who) = g.C.Chooser.answers c.args.chooser.now in

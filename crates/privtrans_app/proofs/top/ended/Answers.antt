@@ -1,25 +1,81 @@
-use Rattle.std.proofs.Common.{map, inl, inr}
+use Rattle.std.proofs.Common.{ℕ, List, map, Option, length, ap, subst, inl, inr}
+use Rattle.std.specs.Prelude.{MatchOption}
 use Rattle.privtrans_app.specs.SplitWriting.{names_of}
-use Rattle.privtrans_app.specs.Words.{of_local}
-use Rattle.privtrans_app.proofs.CallLemmas.{split_or_run}
+use Rattle.privtrans_app.specs.Words.{IsOutward, IsPlain, IsSlave, of_local}
+use Rattle.privtrans_app.specs.declared.words.Outward.{Outward}
+use Rattle.privtrans_app.proofs.CallLemmas.{process_or_local, process_or_slave, split_or_run}
 use Rattle.privtrans_app.proofs.CauseLemmas.{keeps_same}
+use Rattle.privtrans_app.proofs.CompleteLemmas.{more_than_one}
 use Rattle.privtrans_app.proofs.InterleavingLemmas.{none_taken}
 use Rattle.privtrans_app.proofs.top.ended.Goals as goal
 
-pub returns-in-Some-clause-ending : goal.returns-in-Some-clause-ending
-returns-in-Some-clause-ending g c = inr (record {
-  names = names_of c.in-Some.words;
-  form = c.in-Some.ensures;
-  comes = c.split.ensures.ending;
-  same = c.split.ensures.others;
-  keeps = keeps_same (g.K.Sink.taken c.args.out.now);
-})
+-- ---- a split
+
+pub returns-in-Some-Split-clause-ending : goal.returns-in-Some-Split-clause-ending
+returns-in-Some-Split-clause-ending g c =
+    let given : List (List ℕ) = map (λ w. w.now) c.args.words.now in
+    let form = subst (IsOutward given) c.in-Some-Split.field-0-is (subst (λ (o : Option Outward). MatchOption o (IsPlain given) (IsOutward given)) c.in-Some-Split.is c.outward_of.ensures) in
+    inr (inl (record {
+      names = names_of c.in-Some-Split.words;
+      form = form;
+      comes = c.split.ensures.ending;
+      same = c.split.ensures.others;
+      keeps = keeps_same (g.K.Sink.taken c.args.out.now);
+    }))
+
+pub returns-in-Some-Split-clause-turns : goal.returns-in-Some-Split-clause-turns
+returns-in-Some-Split-clause-turns g c = λ p h q i m w is.
+    let given : List (List ℕ) = map (λ w. w.now) c.args.words.now in
+    let form = subst (IsOutward given) c.in-Some-Split.field-0-is (subst (λ (o : Option Outward). MatchOption o (IsPlain given) (IsOutward given)) c.in-Some-Split.is c.outward_of.ensures) in
+    absurd (split_or_run given _ (names_of c.in-Some-Split.words) form (of_local p h q i m w is))
+
+pub returns-in-Some-Split-clause-untaken : goal.returns-in-Some-Split-clause-untaken
+returns-in-Some-Split-clause-untaken g c = λ silent. none_taken (g.C.Chooser.answers c.args.chooser.now)
+
+-- ---- a run in two processes
+
+pub returns-in-Some-Run-clause-ending : goal.returns-in-Some-Run-clause-ending
+returns-in-Some-Run-clause-ending g c =
+    let given : List (List ℕ) = map (λ w. w.now) c.args.words.now in
+    let form = subst (IsOutward given) c.in-Some-Run.field-0-is (subst (λ (o : Option Outward). MatchOption o (IsPlain given) (IsOutward given)) c.in-Some-Run.is c.outward_of.ensures) in
+    inr (inr (inl (record { program = _; host = _; policy = _; input = _; turns = _; form = form; comes = c.run.ensures.ending given form })))
+
+pub returns-in-Some-Run-clause-turns : goal.returns-in-Some-Run-clause-turns
+returns-in-Some-Run-clause-turns g c = λ p h q i m w is.
+    let given : List (List ℕ) = map (λ w. w.now) c.args.words.now in
+    let form = subst (IsOutward given) c.in-Some-Run.field-0-is (subst (λ (o : Option Outward). MatchOption o (IsPlain given) (IsOutward given)) c.in-Some-Run.is c.outward_of.ensures) in
+    absurd (process_or_local given form is)
+
+pub returns-in-Some-Run-clause-untaken : goal.returns-in-Some-Run-clause-untaken
+returns-in-Some-Run-clause-untaken g c = λ silent. none_taken (g.C.Chooser.answers c.args.chooser.now)
+
+pub returns-in-Some-Run-clause-unwritten : goal.returns-in-Some-Run-clause-unwritten
+returns-in-Some-Run-clause-unwritten g c = λ is.
+    let given : List (List ℕ) = map (λ w. w.now) c.args.words.now in
+    let form = subst (IsOutward given) c.in-Some-Run.field-0-is (subst (λ (o : Option Outward). MatchOption o (IsPlain given) (IsOutward given)) c.in-Some-Run.is c.outward_of.ensures) in
+    absurd (process_or_slave given form is)
+
+-- ---- a slave
+
+pub returns-in-Some-Slave-clause-ending : goal.returns-in-Some-Slave-clause-ending
+returns-in-Some-Slave-clause-ending g c =
+    let given : List (List ℕ) = map (λ w. w.now) c.args.words.now in
+    let form : IsSlave given = subst (IsOutward given) c.in-Some-Slave.field-0-is (subst (λ (o : Option Outward). MatchOption o (IsPlain given) (IsOutward given)) c.in-Some-Slave.is c.outward_of.ensures) in
+    inr (inr (inr (record { form = form; comes = c.slave.ensures.ending; keeps = keeps_same (g.K.Sink.taken c.args.out.now) })))
+
+pub returns-in-Some-Slave-clause-turns : goal.returns-in-Some-Slave-clause-turns
+returns-in-Some-Slave-clause-turns g c = λ p h q i m w is.
+    let given : List (List ℕ) = map (λ w. w.now) c.args.words.now in
+    let form : IsSlave given = subst (IsOutward given) c.in-Some-Slave.field-0-is (subst (λ (o : Option Outward). MatchOption o (IsPlain given) (IsOutward given)) c.in-Some-Slave.is c.outward_of.ensures) in
+    absurd (more_than_one given _ (of_local p h q i m w is) (ap length form))
+
+pub returns-in-Some-Slave-clause-untaken : goal.returns-in-Some-Slave-clause-untaken
+returns-in-Some-Slave-clause-untaken g c = λ silent. none_taken (g.C.Chooser.answers c.args.chooser.now)
+
+-- ---- plain words
 
 pub returns-in-None-clause-ending : goal.returns-in-None-clause-ending
 returns-in-None-clause-ending g c = inl (c.in-None.ensures, c.came_to.ensures.ending)
 
-pub returns-in-Some-clause-turns : goal.returns-in-Some-clause-turns
-returns-in-Some-clause-turns g c = λ p h q i m w is. absurd (split_or_run (map (λ w. w.now) c.args.words.now) _ (names_of c.in-Some.words) c.in-Some.ensures (of_local p h q i m w is))
-
-pub returns-in-Some-clause-untaken : goal.returns-in-Some-clause-untaken
-returns-in-Some-clause-untaken g c = λ silent. none_taken (g.C.Chooser.answers c.args.chooser.now)
+pub returns-in-None-clause-unwritten : goal.returns-in-None-clause-unwritten
+returns-in-None-clause-unwritten g c = λ is. absurd (c.in-None.ensures.no_slave is)

@@ -1,7 +1,7 @@
 use Rattle.std.proofs.Common.{◌≡◌, [], ◌∷◌, Option, Err, refl, rules, arith}
 use Rattle.pt_base.specs.Files.{Files, SameFiles}
 use Rattle.privtrans_app.proofs.ReadingLemmas.{same_trans, gives_same, gives_held, refusal_since}
-use Rattle.privtrans_app.proofs.local.read_texts.Goals as goal
+use Rattle.privtrans_app.proofs.texts.read_texts.Goals as goal
 
 pub returns-clause-texts : goal.returns-clause-texts
 returns-clause-texts g c =
@@ -14,15 +14,15 @@ returns-clause-texts g c =
     let three : SameFiles f0 f3 = same_trans f0 f2 f3 two c.in_ok-policy.ensures.same in
     record {
       program = c.in_ok-program.ensures.content;
-      host = gives_same f0 f1 c.args.words.now.host.now 1048577 c.in_ok-host.host.items one c.in_ok-host.ensures.content;
-      policy = gives_same f0 f2 c.args.words.now.policy.now 1048577 c.in_ok-policy.policy.items two c.in_ok-policy.ensures.content;
-      input = gives_same f0 f3 c.args.words.now.input.now 1048577 c.in_ok-input.input.items three c.in_ok-input.ensures.content;
+      host = gives_same f0 f1 c.args.names.now.host.now 1048577 c.in_ok-host.host.items one c.in_ok-host.ensures.content;
+      policy = gives_same f0 f2 c.args.names.now.policy.now 1048577 c.in_ok-policy.policy.items two c.in_ok-policy.ensures.content;
+      input = gives_same f0 f3 c.args.names.now.input.now 1048577 c.in_ok-input.input.items three c.in_ok-input.ensures.content;
     }
 
 pub returns-in_err-program-clause-refusal : goal.returns-in_err-program-clause-refusal
 returns-in_err-program-clause-refusal g c =
     let is : c.from_residual.result ≡ Err c.in_err-program.field-0.0 = search rules in
-    rw is (record { before = []; name = c.args.words.now.program.now; after = _; are = refl; held = tt; is = c.in_err-program.ensures.refusal })
+    rw is (record { before = []; name = c.args.names.now.program.now; after = _; are = refl; held = tt; is = c.in_err-program.ensures.refusal })
 
 pub returns-in_err-host-clause-refusal : goal.returns-in_err-host-clause-refusal
 returns-in_err-host-clause-refusal g c =
@@ -30,12 +30,12 @@ returns-in_err-host-clause-refusal g c =
     let f0 : Option Files = g.F.Folder.files c.args.folder.now in
     let f1 : Option Files = g.F.Folder.files c.read_text.new.folder in
     rw is (record {
-      before = c.args.words.now.program.now ∷ [];
-      name = c.args.words.now.host.now;
+      before = c.args.names.now.program.now ∷ [];
+      name = c.args.names.now.host.now;
       after = _;
       are = refl;
-      held = (gives_held f0 c.args.words.now.program.now 1048577 c.in_ok-program.program.items c.in_ok-program.ensures.content, tt);
-      is = refusal_since f0 f1 c.args.words.now.host.now _ _ _ _ c.in_ok-program.ensures.same c.in_ok-program.ensures.later c.in_err-host.ensures.later c.in_err-host.ensures.refusal;
+      held = (gives_held f0 c.args.names.now.program.now 1048577 c.in_ok-program.program.items c.in_ok-program.ensures.content, tt);
+      is = refusal_since f0 f1 c.args.names.now.host.now _ _ _ _ c.in_ok-program.ensures.same c.in_ok-program.ensures.later c.in_err-host.ensures.later c.in_err-host.ensures.refusal;
     })
 
 pub returns-in_err-policy-clause-refusal : goal.returns-in_err-policy-clause-refusal
@@ -47,18 +47,18 @@ returns-in_err-policy-clause-refusal g c =
     let one : SameFiles f0 f1 = c.in_ok-program.ensures.same in
     let two : SameFiles f0 f2 = same_trans f0 f1 f2 one c.in_ok-host.ensures.same in
     rw is (record {
-      before = c.args.words.now.program.now ∷ c.args.words.now.host.now ∷ [];
-      name = c.args.words.now.policy.now;
+      before = c.args.names.now.program.now ∷ c.args.names.now.host.now ∷ [];
+      name = c.args.names.now.policy.now;
       after = _;
       are = refl;
       held = (
-        gives_held f0 c.args.words.now.program.now 1048577 c.in_ok-program.program.items c.in_ok-program.ensures.content,
+        gives_held f0 c.args.names.now.program.now 1048577 c.in_ok-program.program.items c.in_ok-program.ensures.content,
         (
-          gives_held f0 c.args.words.now.host.now 1048577 c.in_ok-host.host.items (gives_same f0 f1 c.args.words.now.host.now 1048577 c.in_ok-host.host.items one c.in_ok-host.ensures.content),
+          gives_held f0 c.args.names.now.host.now 1048577 c.in_ok-host.host.items (gives_same f0 f1 c.args.names.now.host.now 1048577 c.in_ok-host.host.items one c.in_ok-host.ensures.content),
           tt,
         ),
       );
-      is = refusal_since f0 f2 c.args.words.now.policy.now _ _ _ _ two (omega (arith, c.in_ok-program.ensures.later, c.in_ok-host.ensures.later)) c.in_err-policy.ensures.later c.in_err-policy.ensures.refusal;
+      is = refusal_since f0 f2 c.args.names.now.policy.now _ _ _ _ two (omega (arith, c.in_ok-program.ensures.later, c.in_ok-host.ensures.later)) c.in_err-policy.ensures.later c.in_err-policy.ensures.refusal;
     })
 
 pub returns-in_err-input-clause-refusal : goal.returns-in_err-input-clause-refusal
@@ -72,19 +72,19 @@ returns-in_err-input-clause-refusal g c =
     let two : SameFiles f0 f2 = same_trans f0 f1 f2 one c.in_ok-host.ensures.same in
     let three : SameFiles f0 f3 = same_trans f0 f2 f3 two c.in_ok-policy.ensures.same in
     rw is (record {
-      before = c.args.words.now.program.now ∷ c.args.words.now.host.now ∷ c.args.words.now.policy.now ∷ [];
-      name = c.args.words.now.input.now;
+      before = c.args.names.now.program.now ∷ c.args.names.now.host.now ∷ c.args.names.now.policy.now ∷ [];
+      name = c.args.names.now.input.now;
       after = [];
       are = refl;
       held = (
-        gives_held f0 c.args.words.now.program.now 1048577 c.in_ok-program.program.items c.in_ok-program.ensures.content,
+        gives_held f0 c.args.names.now.program.now 1048577 c.in_ok-program.program.items c.in_ok-program.ensures.content,
         (
-          gives_held f0 c.args.words.now.host.now 1048577 c.in_ok-host.host.items (gives_same f0 f1 c.args.words.now.host.now 1048577 c.in_ok-host.host.items one c.in_ok-host.ensures.content),
+          gives_held f0 c.args.names.now.host.now 1048577 c.in_ok-host.host.items (gives_same f0 f1 c.args.names.now.host.now 1048577 c.in_ok-host.host.items one c.in_ok-host.ensures.content),
           (
-            gives_held f0 c.args.words.now.policy.now 1048577 c.in_ok-policy.policy.items (gives_same f0 f2 c.args.words.now.policy.now 1048577 c.in_ok-policy.policy.items two c.in_ok-policy.ensures.content),
+            gives_held f0 c.args.names.now.policy.now 1048577 c.in_ok-policy.policy.items (gives_same f0 f2 c.args.names.now.policy.now 1048577 c.in_ok-policy.policy.items two c.in_ok-policy.ensures.content),
             tt,
           ),
         ),
       );
-      is = refusal_since f0 f3 c.args.words.now.input.now _ _ _ _ three (omega (arith, c.in_ok-program.ensures.later, c.in_ok-host.ensures.later, c.in_ok-policy.ensures.later)) c.in_err-input.ensures.later c.in_err-input.ensures.refusal;
+      is = refusal_since f0 f3 c.args.names.now.input.now _ _ _ _ three (omega (arith, c.in_ok-program.ensures.later, c.in_ok-host.ensures.later, c.in_ok-policy.ensures.later)) c.in_err-input.ensures.later c.in_err-input.ensures.refusal;
     })

@@ -1,0 +1,104 @@
+-- What a slave's work comes to.
+use Rattle.std.proofs.Common.{◌≤◌, ◌⊎◌, ℕ, List, [], ◌∷◌, ◌++◌, take, Option, Some, None, Result, Ok, Err, OnOk, IfErr, refl, sym, ◌∙◌, ap, inl, inr, arith}
+use Rattle.std.specs.Prelude.{⊤}
+use Rattle.std.specs.Io.KnownBytes.{Appends, Keeps}
+use Rattle.std.proofs.lemmas.List.{append-nil}
+use Rattle.pt_base.specs.Faults.{HasCause}
+use Rattle.pt_base.specs.Talk.{Event, gave}
+use Rattle.pt_base.specs.Told.{AppendsPart}
+use Rattle.wire.specs.Frames.{open_end}
+use Rattle.pair_runner.specs.Sending.{Parts, Talks}
+use Rattle.slave_runner.specs.declared.fault.WorkFault.{WorkFault}
+use Rattle.slave_runner.specs.declared.fault.WorkFault.TheVariants.{LinkFailed, BadPeer, PeerEnded, Memory}
+use Rattle.slave_runner.specs.Outcomes.{BreaksOff, IsRefused, PartOf, Stops, then_the_end}
+use Rattle.slave_runner.specs.Rules.{Stopped, has_ended, still_open, at_rule}
+use Rattle.privtrans_app.specs.SlaveRun.{ComesTo, Inherits, ending_of}
+use Rattle.privtrans_app.proofs.ReadingLemmas.{rose_since}
+
+-- ---- other talks and parts
+
+talks_other : (talks other : List Event → Type 0) (stopped : Stopped) → ((talk : List Event) → talks talk → other talk) → Stops talks stopped → Stops other stopped
+talks_other talks other stopped on s = record {
+  talk = s.talk;
+  talked = on s.talk s.talked;
+  turns = s.turns;
+  frames = s.frames;
+  ending = s.ending;
+  stream = s.stream;
+  comes = s.comes;
+}
+
+parts_other : (parts other : List ℕ → List ℕ → Type 0) → ((given sent : List ℕ) → parts given sent → other given sent) → BreaksOff parts → BreaksOff other
+parts_other parts other on b = record {
+  given = b.given;
+  frames = b.frames;
+  ending = b.ending;
+  stream = b.stream;
+  broke = broken b.broke;
+}
+  where
+    broken : parts b.given [] ⊎ PartOf (parts b.given) b.frames b.ending → other b.given [] ⊎ PartOf (other b.given) b.frames b.ending
+    broken (inl nothing) = inl (on b.given [] nothing)
+    broken (inr p) = inr (record {
+      bytes = p.bytes;
+      behind = p.behind;
+      pieces = p.pieces;
+      boot = p.boot;
+      is_boot = p.is_boot;
+      replies = p.replies;
+      later = p.later;
+      read = p.read;
+      sent = on b.given _ p.sent;
+    })
+
+-- ---- since the link was inherited
+
+keeps_then : (a b c : Option (List ℕ)) (bytes : List ℕ) → Keeps a b → Appends b c bytes → Appends a c bytes
+keeps_then None b c bytes k is = tt
+keeps_then (Some x) None c bytes k is = absurd k
+keeps_then (Some x) (Some y) None bytes k is = absurd is
+keeps_then (Some x) (Some y) (Some z) bytes k is = is ∙ ap (λ xs. xs ++ bytes) k
+
+keeps_then_part : (a b c : Option (List ℕ)) (bytes : List ℕ) → Keeps a b → AppendsPart b c bytes → AppendsPart a c bytes
+keeps_then_part None b c bytes k is = tt
+keeps_then_part (Some x) None c bytes k is = absurd k
+keeps_then_part (Some x) (Some y) None bytes k is = absurd is
+keeps_then_part (Some x) (Some y) (Some z) bytes k is = (is.0, is.1 ∙ ap (λ xs. xs ++ take is.0 bytes) k)
+
+nothing_part : (a b : Option (List ℕ)) → Keeps a b → AppendsPart a b []
+nothing_part None b k = tt
+nothing_part (Some x) None k = absurd k
+nothing_part (Some x) (Some y) k = (0, k ∙ sym (append-nil x))
+
+module _ {S : Type 0} (came : S → List Event → S → Type 0) (sent given : S → Option (List ℕ)) (s m s' : S) (sent_kept : Keeps (sent s) (sent m)) (given_kept : Keeps (given s) (given m)) where
+  inherited : (talk : List Event) → Talks came sent given m s' talk → Inherits came sent given s s' talk
+  inherited talk talked = record { link = m; sent_so = sent_kept; given_so = given_kept; talked = talked }
+
+  parts_since : (g t : List ℕ) → Parts sent given m s' g t → Parts sent given s s' g t
+  parts_since g t p = record { given_so = keeps_then (given s) (given m) (given s') g given_kept p.given_so; sent_so = keeps_then_part (sent s) (sent m) (sent s') t sent_kept p.sent_so }
+
+  -- what the work over it comes to
+  pub work_comes : (f0 f1 f2 : ℕ) (answer : Result ⊤ WorkFault) → f0 ≤ f1 → OnOk answer (Stops (Talks came sent given m s') has_ended)
+      → IfErr answer (IsRefused (Talks came sent given m s') (Parts sent given m s')) → HasCause f1 f2 answer LinkFailed
+      → ComesTo (Inherits came sent given s s') (Parts sent given s s') f0 f2 (ending_of answer)
+  work_comes f0 f1 f2 (Ok done) later ok err cause = talks_other (Talks came sent given m s') (Inherits came sent given s s') has_ended inherited ok
+  work_comes f0 f1 f2 (Err LinkFailed) later ok err cause = (rose_since f0 f1 f2 later cause.later (cause.cause refl), parts_other (Parts sent given m s') (Parts sent given s s') parts_since err)
+  work_comes f0 f1 f2 (Err (BadPeer rule offset)) later ok err cause =
+      (err.0, err.1, talks_other (Talks came sent given m s') (Inherits came sent given s s') (at_rule err.0 offset) inherited err.2)
+  work_comes f0 f1 f2 (Err PeerEnded) later ok err cause =
+      talks_other (then_the_end (Talks came sent given m s')) (then_the_end (Inherits came sent given s s')) still_open (λ talk talked. inherited (talk ++ gave [] ∷ []) talked) err
+  work_comes f0 f1 f2 (Err Memory) later ok err cause = parts_other (Parts sent given m s') (Parts sent given s s') parts_since err
+
+-- a link that couldn't be inherited: nothing was said
+pub none_said : {S : Type 0} (sent given : S → Option (List ℕ)) (s s' : S) → Keeps (sent s) (sent s') → Keeps (given s) (given s') → BreaksOff (Parts sent given s s')
+none_said sent given s s' sent_kept given_kept = record {
+  given = [];
+  frames = [];
+  ending = open_end;
+  stream = inl (omega arith);
+  broke = inl (record { given_so = keeps_then (given s) (given s') (given s') [] given_kept (nothing_more (given s')); sent_so = nothing_part (sent s) (sent s') sent_kept });
+}
+  where
+    nothing_more : (a : Option (List ℕ)) → Appends a a []
+    nothing_more None = tt
+    nothing_more (Some x) = sym (append-nil x)

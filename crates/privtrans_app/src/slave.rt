@@ -1,0 +1,37 @@
+// The slave, as the process that a run starts: what it is to run comes over the link to its parent.
+ghost use Rattle.std.specs.Prelude.{◌≡◌, ◌≤◌, false};
+ghost use Rattle.privtrans_app.specs.Ending.{is_silent};
+ghost use Rattle.privtrans_app.specs.EndingSeen.{ending_seen};
+ghost use Rattle.privtrans_app.specs.SlaveRun.{IsWorkOver, ending_of};
+
+use crate::ending::Ending;
+use pt_base::{LinkFault, Spawner};
+use slave_runner::{WorkFault, work};
+use std::alloc::Global;
+
+// How the slave's work ends the call.
+fn ended_by<'a>(answer: Result<(), WorkFault>) -> Ending<'a>
+    ensures ending { ending_seen result ≡ ending_of answer }
+    ensures loud { is_silent (ending_seen result) ≡ false }
+{
+    match answer {
+        Ok(()) => Ending::Worked,
+        Err(WorkFault::LinkFailed) => Ending::LinkFault,
+        Err(WorkFault::BadPeer { rule, offset }) => Ending::BadPeer { rule, offset },
+        Err(WorkFault::PeerEnded) => Ending::PeerEnded,
+        Err(WorkFault::Memory) => Ending::Memory,
+    }
+}
+
+/// Does the slave's work over the link that the spawner inherits.
+pub(crate) fn slave<'a, S: Spawner>(alloc: Global, spawner: &mut S) -> Ending<'a>
+    ensures ending { IsWorkOver S.came S.sent S.given spawner.old spawner.new (S.faults spawner.old) (S.faults spawner.new) (ending_seen result) }
+    ensures loud { is_silent (ending_seen result) ≡ false }
+    ensures later { S.faults spawner.old ≤ S.faults spawner.new }
+{
+    match spawner.inherit(alloc) {
+        Ok(()) => ended_by(work(alloc, spawner)),
+        Err(LinkFault::Failed) => Ending::LinkFault,
+        Err(LinkFault::Memory) => Ending::Memory,
+    }
+}
