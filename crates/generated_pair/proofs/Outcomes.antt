@@ -40,15 +40,19 @@ pub run_told : (t : Texts) (seed count : ℕ) (o : Outcome) (written : Vec ℕ G
     → program ≡ program_of (functions_of seed count) → bytes ≡ written.items → line ≡ told_of (line_of seed count (length program) (length bytes)) (ended_seen end)
     → IsOutcome t turns o → ComesTo seed count (ran line (ended_seen end))
 run_told t seed count o written end program bytes line is came program_is bytes_are line_is outcome =
-    let comes : local.ComesTo t turns (ran written.items (ended_seen end)) = subst (λ (x : Outcome). IsOutcome t turns x) came outcome in
-    (ran written.items (ended_seen end), subst (λ (z : Texts). local.ComesTo z turns (ran written.items (ended_seen end))) is comes,
-      ap (λ (z : List ℕ). ran z (ended_seen end)) (told_is seed count program bytes written.items line (ended_seen end) program_is bytes_are line_is))
+    let comes : local.ComesTo t turns (ran written.items (ended_seen end)) = subst (λ (x : Outcome). IsOutcome t turns x) came outcome in (
+      ran written.items (ended_seen end),
+      subst (λ (z : Texts). local.ComesTo z turns (ran written.items (ended_seen end))) is comes,
+      ap (λ (z : List ℕ). ran z (ended_seen end)) (told_is seed count program bytes written.items line (ended_seen end) program_is bytes_are line_is),
+    )
 
 pub whole_told : (t : Texts) (seed count : ℕ) (o : Outcome) (written : Vec ℕ Global) (end : Ended) (program bytes line : List ℕ) (before after : Option (ℕ → base.Who)) → t ≡ texts_of seed count
     → o ≡ Ran written end → program ≡ program_of (functions_of seed count) → bytes ≡ written.items → line ≡ told_of (line_of seed count (length program) (length bytes)) (ended_seen end)
     → IsWholeRun t turns window before after o
     → (all : List ℕ) × HasWhole (texts_of seed count) turns window before after all × (line ≡ told seed count all (ended_seen end))
 whole_told t seed count o written end program bytes line before after is came program_is bytes_are line_is whole =
-    let has : HasWhole t turns window before after written.items = subst (λ (x : Outcome). IsWholeRun t turns window before after x) came whole in
-    (written.items, subst (λ (z : Texts). HasWhole z turns window before after written.items) is has,
-      told_is seed count program bytes written.items line (ended_seen end) program_is bytes_are line_is)
+    let has : HasWhole t turns window before after written.items = subst (λ (x : Outcome). IsWholeRun t turns window before after x) came whole in (
+      written.items,
+      subst (λ (z : Texts). HasWhole z turns window before after written.items) is has,
+      told_is seed count program bytes written.items line (ended_seen end) program_is bytes_are line_is,
+    )

@@ -24,11 +24,11 @@ window = 16
 -- the texts that a seed gives, with no input
 abbrev pub texts_of : ℕ → ℕ → Texts
 texts_of seed count = record {
-    program = program_of (functions_of seed count);
-    host = hosts;
-    policy = policy_of (functions_of seed count);
-    input = []
-  }
+  program = program_of (functions_of seed count);
+  host = hosts;
+  policy = policy_of (functions_of seed count);
+  input = [];
+}
 
 -- what is told of these bytes and this end
 abbrev pub told : ℕ → ℕ → List ℕ → Ended → List ℕ

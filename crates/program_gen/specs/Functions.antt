@@ -13,11 +13,11 @@ kind_for draw = if nat_eq (draw % 4) 0 then Adds else (if nat_eq (draw % 4) 1 th
 -- the function of this number, from 0
 abbrev pub function_at : ℕ → ℕ → Function
 function_at seed n = record {
-    number = n;
-    kind = kind_for (draw seed (3 * n));
-    addend = draw seed (3 * n + 1) % 1000;
-    times = 1 + draw seed (3 * n + 2) % 9
-  }
+  number = n;
+  kind = kind_for (draw seed (3 * n));
+  addend = draw seed (3 * n + 1) % 1000;
+  times = 1 + draw seed (3 * n + 2) % 9;
+}
 
 -- the first so many
 abbrev pub functions_of : ℕ → ℕ → List Function
