@@ -1,0 +1,33 @@
+//! Runs rows of lists against both ends of a pair: what a monitor makes of frames that a peer gives, and what a slave
+//! says to replies.
+#![tactic(auto)]
+
+mod answers;
+mod frames;
+mod lists;
+mod session;
+mod slaves;
+mod streams;
+mod supervised;
+mod texts;
+
+use anyhow::Result;
+use lists::show_lists;
+use session::Session;
+use std::rt::Runtime;
+use std::thread::{Builder, Threads};
+
+/// The work goes as deep as a text nests, so it gets this many bytes of stack.
+const STACK: usize = 1 << 30;
+
+fn show_rows<R: Runtime + AllocGlobal + Threads + Sync>(rt: &R) -> Result<()> {
+    let mut session = Session::new(rt.alloc());
+    show_lists(rt, &mut session)
+}
+
+fn main(rt: HostRuntime) -> Result<()> {
+    Builder::new()
+        .stack_size(STACK)
+        .spawn(&rt, move || show_rows(&rt))?
+        .join(&rt)
+}
