@@ -1,8 +1,12 @@
-//! Runs rows of lists against the whole tool over files in memory: words in, status, output and report out.
+//! Runs rows of lists against the whole tool over files and another process in memory: words in, status, output and report out.
 #![tactic(auto)]
 
 mod calls;
+mod files;
 mod lists;
+mod locals;
+mod outside;
+mod peer;
 mod session;
 mod watched;
 

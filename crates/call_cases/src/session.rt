@@ -1,5 +1,7 @@
 // The files that rows have set, and what each row shows.
-use crate::calls::Files;
+use crate::calls::{call, check, linked, original, split};
+use crate::files::Files;
+use crate::locals::{local, orders};
 use crate::watched::{checked, watched};
 use anyhow::{Result, bail};
 use case_rows::first_word;
@@ -36,11 +38,15 @@ impl Session {
         let (word, rest) = first_word(row);
         match word {
             "file" => self.files.set(alloc, rest),
+            "link" => self.files.give(alloc, rest),
             "failing" => self.files.fail(alloc, rest),
-            "run" => self.files.call(rt, alloc, rest),
-            "orig" => self.files.original(rt, alloc, rest),
-            "check" => self.files.check(rt, alloc, rest),
-            "split" => self.files.split(rt, alloc, rest),
+            "run" => call(rt, alloc, &mut self.files, rest),
+            "linked" => linked(rt, alloc, &mut self.files, rest),
+            "local" => local(rt, alloc, &mut self.files, rest),
+            "orders" => orders(rt, alloc, &mut self.files, rest),
+            "orig" => original(rt, alloc, &mut self.files, rest),
+            "check" => check(rt, alloc, &mut self.files, rest),
+            "split" => split(rt, alloc, &mut self.files, rest),
             "checked" => checked(rt, alloc, rest),
             "watched" => watched(rt, alloc, rest),
             _ => bail!("no such row"),

@@ -1,8 +1,9 @@
 // What the whole tool tells of its work on functions, and whether two threads were at work at once.
-use crate::calls::{called, file_of};
+use crate::files::file_of;
+use crate::outside::{Failing, Outside};
 use anyhow::{Result, bail};
 use case_rows::{Meetings, first_word, spelled};
-use pt_base::{ByteSink, MapFolder};
+use pt_base::Alternate;
 use std::alloc::Global;
 use std::thread::Threads;
 
@@ -60,26 +61,18 @@ fn call<R: Threads + Sync>(
     row: &str,
     meetings: &Meetings,
 ) -> Result<u8> {
-    let mut folder = folder_of(alloc, row)?;
-    let mut out = ByteSink::new(alloc, Vec::new(alloc));
-    let mut report = ByteSink::new(alloc, Vec::new(alloc));
-    Ok(called(
-        rt,
-        alloc,
-        words,
-        &mut folder,
-        &mut out,
-        &mut report,
-        meetings,
-    ))
+    let files = files_of(alloc, row)?;
+    let mut outside = Outside::new(alloc, files, Vec::new(alloc), Failing::Nothing)?;
+    let mut chooser = Alternate::new();
+    Ok(outside.call(rt, alloc, words, &mut chooser, meetings))
 }
 
-// A folder with the program that a row spells, no host and no input.
-fn folder_of(alloc: Global, row: &str) -> Result<MapFolder> {
+// The program that a row spells, no host and no input.
+fn files_of(alloc: Global, row: &str) -> Result<Vec<(String, Vec<u8>)>> {
     let text = spelled(alloc, row)?;
     let mut files = Vec::new(alloc);
     files.push(file_of(alloc, "program", text.as_str())?)?;
     files.push(file_of(alloc, "host", "{}")?)?;
     files.push(file_of(alloc, "input", "")?)?;
-    Ok(MapFolder::new(files, Vec::new(alloc)))
+    Ok(files)
 }

@@ -1,3 +1,0 @@
-pub mod ImageLemmas
-pub mod MeaningLemmas
-pub mod RowLemmas

@@ -1,4 +1,0 @@
-pub mod Answers
-pub mod Image
-pub mod Objects
-pub mod View
