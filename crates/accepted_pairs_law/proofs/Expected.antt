@@ -26,7 +26,7 @@ use Rattle.pair_invariant.specs.Slaves.{Stays}
 use Rattle.pair_steps_law.specs.Ends.{Begins, HonestPeersAreExpected, ThePairEnds, ThePairIsExpected}
 use Rattle.kept_slaves_law.specs.Laws.{AcceptedSlavesStay}
 use Rattle.pair_start_law.specs.Laws.{AcceptedPairsBegin, BootsAreWellFormed, IsAcceptedWith}
-use Rattle.accepted_halves_law.specs.Laws.{monitor_half}
+use Rattle.pair_start_law.specs.Laws.{monitor_half}
 use Rattle.pair_start_law.specs.Own.{HostsAre, with_hosts}
 use Rattle.pair_start_law.specs.Start.{boot_at, monitor_at, setting_of, slave_at}
 use Rattle.accepted_pairs_law.specs.Laws.{AcceptedPairsAreExpected, DoesWhatIsExpected, MayRun, expected_of}

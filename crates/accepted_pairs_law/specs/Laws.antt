@@ -24,9 +24,10 @@ use Rattle.pair_sides.specs.Serving.{IsExpected, IsHonest, ended}
 use Rattle.pair_meaning.specs.Monitors.{Monitor}
 use Rattle.pair_meaning.specs.Pair.{IsWhole, both, serve_all, the_sides}
 use Rattle.pair_meaning.specs.SlaveRun.{Slave, longest, slave_of}
-use Rattle.accepted_halves_law.specs.Laws.{monitor_half}
-use Rattle.pair_start_law.specs.Own.{HostsAre, with_hosts}
-use Rattle.pair_start_law.specs.Start.{boot_at, monitor_at}
+pub use Rattle.kept_slaves_law.specs.Laws.{AcceptedSlavesStay}
+pub use Rattle.pair_start_law.specs.Laws.{AcceptedMonitorsAreWellFormed, AcceptedPairsBegin, BootsAreWellFormed, HostsServe, IsAcceptedWith, MonitorsHostsServe, monitor_half}
+pub use Rattle.pair_start_law.specs.Own.{HostsAre, with_hosts}
+pub use Rattle.pair_start_law.specs.Start.{boot_at, monitor_at, setting_of}
 
 -- ---- what is asked
 

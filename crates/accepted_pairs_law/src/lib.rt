@@ -7,9 +7,12 @@ ghost use Rattle.accepted_pairs_law.specs.Laws.{AcceptedPairsAreExpected};
 
 use c_lower_law::lowering_keeps_the_run;
 use check_programs_law::programs_are_well_formed;
-use kept_slaves_law::accepted_slaves_stay;
-use pair_calls_law::calls_keep;
-use pair_start_law::{accepted_pairs_begin, boots_are_well_formed};
+pub use kept_slaves_law::accepted_slaves_stay;
+pub use pair_calls_law::calls_keep;
+pub use pair_start_law::{
+    accepted_monitors_are_well_formed, accepted_pairs_begin, boots_are_well_formed,
+    monitors_hosts_serve,
+};
 use pair_steps_law::{honest_peers_are_expected, the_pair_ends, the_pair_is_expected};
 use said_code_law::checked_programs_place_nulls;
 

@@ -15,15 +15,12 @@ use Rattle.pair_meaning.specs.SlaveRun.{slave_of}
 use Rattle.pair_meaning.specs.Start.{reads_input}
 use Rattle.pair_invariant.specs.Laws.{CallsKeep}
 use Rattle.pair_invariant.specs.Slaves.{Stays}
-use Rattle.kept_slaves_law.specs.Laws.{AcceptedSlavesStay}
-use Rattle.pair_start_law.specs.Laws.{AcceptedPairsBegin}
-use Rattle.pair_start_law.specs.Start.{boot_at, setting_of}
+use Rattle.pair_texts_law.specs.Laws.{AcceptedSlavesStay, AcceptedPairsBegin, boot_at, setting_of, BegunBootsAreWellFormed, BegunPairsAreExpected, HostsAre, with_hosts}
 use Rattle.pair_steps_law.specs.Ends.{Begins}
 use Rattle.awaited_replies_law.specs.Laws.{RepliesAreAwaited}
 use Rattle.spoken_messages_law.specs.Laws.{SpokenMessagesAreSpelled}
 use Rattle.pair_texts.specs.OutcomeSeen.{HaveBegun}
 use Rattle.pair_texts.specs.Start.{Texts}
-use Rattle.pair_texts_law.specs.Laws.{BegunBootsAreWellFormed, BegunPairsAreExpected, HostsAre, with_hosts}
 use Rattle.honest_talks_law.specs.Laws.{BegunPairsAreFair}
 
 bytes_given : (reads : Bool) (input : List ℕ) → All (λ b. b < 256) input → All (λ b. b < 256) (if reads then input else [])

@@ -18,7 +18,7 @@ use Rattle.honest_link.specs.Talks.{Along}
 use Rattle.spoken_messages_law.specs.Laws.{AllAreSpelled}
 use Rattle.pair_texts.specs.OutcomeSeen.{HaveBegun}
 use Rattle.pair_texts.specs.Start.{Texts}
-use Rattle.pair_texts_law.specs.Laws.{DoesWhatIsExpected, HostsAre, expected_of, with_hosts}
+pub use Rattle.pair_texts_law.specs.Laws.{BegunMonitorsAreWellFormed, BegunMonitorsHostsServe, DoesWhatIsExpected, HostsAre, HostsServe, expected_of, with_hosts}
 
 -- The slave of a boot and a monitor do what is expected, and can do so over a link: all that the slave says has a spelling, and the
 -- monitor's replies to a first part of what the slave says are each awaited.

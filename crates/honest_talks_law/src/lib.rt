@@ -5,10 +5,11 @@
 ghost use Rattle.honest_talks_law.specs.Laws.{BegunPairsAreFair, HonestTalksAreExpected};
 
 use awaited_replies_law::{replies_are_awaited, what_is_said_grows};
-use kept_slaves_law::accepted_slaves_stay;
-use pair_calls_law::calls_keep;
-use pair_start_law::accepted_pairs_begin;
-use pair_texts_law::{begun_boots_are_well_formed, begun_pairs_are_expected};
+use pair_texts_law::{
+    accepted_pairs_begin, accepted_slaves_stay, begun_boots_are_well_formed,
+    begun_pairs_are_expected, calls_keep,
+};
+pub use pair_texts_law::{begun_monitors_are_well_formed, begun_monitors_hosts_serve};
 use said_code_law::checked_programs_place_nulls;
 use spoken_messages_law::spoken_messages_are_spelled;
 

@@ -16,6 +16,7 @@ use Rattle.core_soundness.specs.Fits.{MemoryFits}
 use Rattle.core_soundness.specs.Outside.{ArgumentsFit, GivenFits, own_params}
 use Rattle.core_soundness.specs.StepLaws.{IsSameShape, NumberFits}
 use Rattle.called_functions_law.specs.Called.{is_called}
+pub use Rattle.slave_soundness_law.specs.Sound.{IsSound}
 use Rattle.machine_steps_law.specs.Bodies.{body_frame}
 
 -- each host of the program that is called has a model that may stand for it

@@ -6,7 +6,7 @@ use Rattle.pt_core.specs.Calls.{signature_in}
 use Rattle.pt_core.specs.Steps.{asked}
 use Rattle.handle_classes.specs.Computes.{computes_next}
 use Rattle.call_shapes_law.specs.Sending.{HandlesStand}
-use Rattle.slave_soundness_law.specs.Sound.{IsSound}
+use Rattle.monitor_soundness_law.specs.Laws.{IsSound}
 use Rattle.pair_meaning.specs.SlaveRun.{Slave, goes, heard_by, machine_step, slave_gate, slave_step, stepped, take}
 
 -- Of some slaves a step and a reply lead to others of them. Each is sound, computes with no handle in its next step, and asks with

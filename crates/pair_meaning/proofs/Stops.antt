@@ -6,7 +6,7 @@ use Rattle.block_memory.specs.declared.cell.Cell.{Cell}
 use Rattle.wire.specs.declared.message.Message.{Message}
 use Rattle.wire.specs.declared.message.ReplyBody.{ReplyBody}
 use Rattle.pt_core.specs.Steps.{Machine, Answer, moved, asked, ended, trapped, spent, idle}
-use Rattle.machine_steps_law.specs.Bounded.{goes as goes_on, IsLeft, GoesOn}
+use Rattle.slave_bound_law.specs.Longest.{goes as goes_on, IsLeft, GoesOn}
 use Rattle.pair_sides.specs.Sides.{going, waits, over, Moved}
 use Rattle.slave_bound_law.specs.Longest.{KeepsMachine}
 use Rattle.slave_bound_law.proofs.Longest.{slaves_are_bounded}

@@ -12,11 +12,11 @@ use Rattle.flow_rules.specs.Faults.{IsAccepted}
 use Rattle.policy.specs.Verdicts.{Standing}
 use Rattle.pt_core.specs.WellFormed.{is_well_formed_boot, is_well_formed_monitor, monitor_program, slave_program}
 use Rattle.slave_soundness_law.specs.Sound.{IsSound}
-use Rattle.serving_soundness_law.specs.Sound.{HostsServe}
+pub use Rattle.serving_soundness_law.specs.Sound.{HostsServe}
 use Rattle.pair_invariant.specs.Hosts.{HostsAgree}
 use Rattle.pair_invariant.specs.Live.{IsLive, IsSetting}
 use Rattle.pair_invariant.specs.Slaves.{Stays}
-use Rattle.accepted_halves_law.specs.Laws.{monitor_half, slave_half}
+pub use Rattle.accepted_halves_law.specs.Laws.{monitor_half, slave_half}
 use Rattle.said_code_law.specs.Nulls.{nulls_stand}
 use Rattle.pair_start_law.specs.Own.{HostsAre, with_hosts}
 use Rattle.pair_start_law.specs.Start.{boot_at, monitor_at, setting_of, slave_at}

@@ -15,12 +15,7 @@ use Rattle.text_readings_law.proofs.TextTrees.{program_sound}
 use Rattle.pt_core.specs.CodeTree.{BootTree}
 use Rattle.pt_core.specs.WellFormed.{is_well_formed_boot, is_well_formed_monitor}
 use Rattle.pair_meaning.specs.Monitors.{Monitor}
-use Rattle.serving_soundness_law.specs.Sound.{HostsServe}
-use Rattle.accepted_halves_law.specs.Laws.{monitor_half}
-use Rattle.pair_start_law.specs.Laws.{AcceptedMonitorsAreWellFormed, BootsAreWellFormed, IsAcceptedWith, MonitorsHostsServe}
-use Rattle.pair_start_law.specs.Own.{HostsAre, with_hosts}
-use Rattle.pair_start_law.specs.Start.{boot_at, monitor_at}
-use Rattle.accepted_pairs_law.specs.Laws.{AcceptedPairsAreExpected, DoesWhatIsExpected, MayRun, expected_of}
+use Rattle.accepted_pairs_law.specs.Laws.{HostsServe, monitor_half, AcceptedMonitorsAreWellFormed, BootsAreWellFormed, IsAcceptedWith, MonitorsHostsServe, HostsAre, with_hosts, boot_at, monitor_at, AcceptedPairsAreExpected, DoesWhatIsExpected, MayRun, expected_of}
 use Rattle.pair_texts.specs.OutcomeSeen.{HaveBegun}
 use Rattle.pair_texts.specs.Start.{Texts}
 use Rattle.pair_texts_law.specs.Laws.{BegunBootsAreWellFormed, BegunMonitorsAreWellFormed, BegunMonitorsHostsServe, BegunPairsAreExpected}

@@ -6,9 +6,7 @@ use Rattle.policy.specs.Verdicts.{start}
 use Rattle.pt_core.specs.CodeTree.{BootTree}
 use Rattle.pt_core.specs.WellFormed.{is_well_formed_boot, is_well_formed_monitor}
 use Rattle.pair_meaning.specs.Monitors.{Monitor}
-pub use Rattle.serving_soundness_law.specs.Sound.{HostsServe}
-pub use Rattle.pair_start_law.specs.Own.{HostsAre, with_hosts}
-pub use Rattle.accepted_pairs_law.specs.Laws.{DoesWhatIsExpected, expected_of}
+pub use Rattle.accepted_pairs_law.specs.Laws.{AcceptedPairsBegin, AcceptedSlavesStay, DoesWhatIsExpected, HostsAre, HostsServe, boot_at, expected_of, setting_of, with_hosts}
 use Rattle.pair_texts.specs.OutcomeSeen.{HaveBegun}
 use Rattle.pair_texts.specs.Start.{Texts}
 

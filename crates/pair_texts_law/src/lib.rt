@@ -4,10 +4,11 @@
 
 ghost use Rattle.pair_texts_law.specs.Laws.{BegunBootsAreWellFormed, BegunMonitorsAreWellFormed, BegunMonitorsHostsServe, BegunPairsAreExpected};
 
-use accepted_pairs_law::accepted_pairs_are_expected;
-use pair_start_law::{
-    accepted_monitors_are_well_formed, boots_are_well_formed, monitors_hosts_serve,
+use accepted_pairs_law::{
+    accepted_monitors_are_well_formed, accepted_pairs_are_expected, boots_are_well_formed,
+    monitors_hosts_serve,
 };
+pub use accepted_pairs_law::{accepted_pairs_begin, accepted_slaves_stay, calls_keep};
 
 /// The boot with which a pair begins is well formed, with a model for each of the slave's own hosts.
 pub fn begun_boots_are_well_formed()

@@ -5,7 +5,7 @@ use Rattle.pt_core.specs.Steps.{Machine, Gate}
 use Rattle.pair_sides.specs.Sides.{going, waits, over, Sides}
 use Rattle.pair_sides.specs.SlaveRun.{slave_at, IsLongest}
 use Rattle.machine_steps_law.specs.Room.{room}
-use Rattle.machine_steps_law.specs.Bounded.{IsLeft, GoesOn}
+pub use Rattle.machine_steps_law.specs.Bounded.{goes, longest_run, IsLeft, GoesOn}
 
 -- A slave keeps a machine: its step is one of the machine's under some gate from some state, and it is over
 -- where that neither moved nor asked; a reply changes of the machine the blocks and what it awaits, or the

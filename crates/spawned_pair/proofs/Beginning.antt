@@ -12,7 +12,7 @@ use Rattle.pair_texts.specs.declared.outcome.Outcome.TheVariants.{Begins, Refuse
 use Rattle.pair_texts.specs.declared.outcome.Pair.{Pair}
 use Rattle.pair_texts.specs.OutcomeSeen.{AreLinesOf, HaveBegun, IsOutcome, monitor_in}
 use Rattle.pair_texts.specs.Start.{Texts}
-use Rattle.pair_texts_law.specs.Laws.{BegunMonitorsAreWellFormed, BegunMonitorsHostsServe, HostsServe}
+use Rattle.honest_talks_law.specs.Laws.{BegunMonitorsAreWellFormed, BegunMonitorsHostsServe, HostsServe}
 use Rattle.local_pair.specs.Running.{AreTextsOf}
 
 abbrev pub begun_of : (pair : Pair) (turns : ℕ) (t : Texts) → AreTextsOf pair turns t → HaveBegun t turns (view_boot pair.boot) (monitor_in pair turns)

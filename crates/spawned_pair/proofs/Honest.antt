@@ -16,7 +16,7 @@ use Rattle.pair_runner.specs.Sending.{Breaks, Moves, boot_talk}
 use Rattle.pair_texts.specs.declared.outcome.Pair.{Pair}
 use Rattle.pair_texts.specs.OutcomeSeen.{monitor_in}
 use Rattle.pair_texts.specs.Start.{Texts, names_of}
-use Rattle.pair_texts_law.specs.Laws.{HostsAre, expected_of}
+use Rattle.honest_talks_law.specs.Laws.{HostsAre, expected_of}
 use Rattle.policy.specs.Verdicts.{start}
 use Rattle.pt_base.specs.declared.end.End.{End}
 use Rattle.pt_base.specs.Talk.{Event, gave, took}

@@ -7,7 +7,7 @@ ghost use Rattle.pair_meaning.specs.Monitors as m;
 ghost use Rattle.pair_runner.specs.Outcomes.{IsOutcome, behind_boot, broken_behind_boot};
 ghost use Rattle.pair_runner.specs.Sending.{Breaks, Moves};
 ghost use Rattle.pair_texts.specs.Start.{Texts};
-ghost use Rattle.pair_texts_law.specs.Laws.{HostsServe};
+ghost use Rattle.honest_talks_law.specs.Laws.{HostsServe};
 ghost use Rattle.pt_base.specs.Faults.{HasCause};
 ghost use Rattle.pt_core.specs.CodeTree.{view_monitor};
 ghost use Rattle.pt_core.specs.WellFormed.{is_well_formed_monitor};
@@ -22,12 +22,14 @@ ghost use Rattle.local_pair.specs.Running.{AreTextsOf};
 use crate::outcome::Outcome;
 use boots::boot_bytes;
 use honest_link::Witnessed;
-use honest_talks_law::{begun_pairs_are_fair, honest_talks_are_expected};
+use honest_talks_law::{
+    begun_monitors_are_well_formed, begun_monitors_hosts_serve, begun_pairs_are_fair,
+    honest_talks_are_expected,
+};
 use local_pair::ended;
 use monitor_interp::Monitor;
 use pair_runner::{RunFault, supervise};
 use pair_texts::Pair;
-use pair_texts_law::{begun_monitors_are_well_formed, begun_monitors_hosts_serve};
 use pt_base::{Bytes, End, Listed, Sink};
 use std::alloc::{AllocError, Global};
 
