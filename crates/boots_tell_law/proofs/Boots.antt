@@ -1,0 +1,104 @@
+-- The boots of two programs that are the same for the slave are the same.
+use Rattle.std.proofs.Common.{◌≡◌, ◌∙◌, ℕ, refl, ap, sym, arith, Bool, true, false, not, List, [], ◌∷◌, map, if◌then◌else◌}
+use Rattle.std.specs.Prelude.{◌+◌, ◌&&◌, ◌||◌, Contains, slice_get}
+use Rattle.std.specs.List.{filter, list_any}
+use Rattle.std.proofs.lemmas.Option.{slice_get-map}
+use Rattle.pt_tree.specs.declared.host_model.HostModel.{HostModel}
+use Rattle.pt_tree.specs.declared.signature.Signature.{Signature}
+use Rattle.host_table.specs.RunHosts.{model_or_none, models_of}
+use Rattle.runs.specs.State.{Hosts}
+use Rattle.typed_tree.specs.TypedTree.{FunctionTree, TypedTree, signatures_of}
+use Rattle.typed_tree.proofs.WellFormedLemmas.{and_left, and_right}
+use Rattle.reach.proofs.ListLemmas.{contains_first, contains_later, from_filter, from_map}
+use Rattle.lowering.specs.Functions.{functions_from, signatures_from}
+use Rattle.lowered_names_law.specs.Laws.{LoweredNames}
+use Rattle.lowering_is_local_law.specs.Laws.{LoweringSeesOneBody}
+use Rattle.splitter.specs.Halves.{Halves, asked, halves_of, is_among, is_slave_host, slave_hosts, slave_of}
+use Rattle.split_law.specs.Laws.{AcceptedShareNothing, AreHalves}
+use Rattle.pt_core.specs.BootLaw.{boot_with}
+use Rattle.pair_meaning.specs.Start.{input_for, models_for, reads_input}
+use Rattle.boots_tell_law.specs.Laws.{BootsTellNothingPrivileged}
+use Rattle.boots_tell_law.specs.SameForSlave.{IsOwnHost}
+use Rattle.boots_tell_law.proofs.Asked.{called_by_slave, signature_place}
+use Rattle.boots_tell_law.proofs.Halves.{Same, half_same}
+use Rattle.boots_tell_law.proofs.Reached.{never}
+
+-- ---- the slave's own hosts
+
+host_is_own : LoweredNames → (t : TypedTree) (h : Halves) → AreHalves t h → (n : ℕ) → Contains (slave_hosts (is_among (asked h (functions_from t 0 t.functions))) t) n → IsOwnHost t (record { 0 = n })
+host_is_own names t h are n c =
+    let called = is_among (asked h (functions_from t 0 t.functions)) in
+    let test = λ (s : ℕ × Signature). is_slave_host (called s.0) s.1 in
+    let x = from_map (λ (s : ℕ × Signature). s.0) (filter test (signatures_from 0 (signatures_of t))) n c in
+    let chosen = from_filter test (signatures_from 0 (signatures_of t)) x.0 x.1 in
+    let passes = and_left (x.0.1.host && not x.0.1.privileged) (called x.0.0) chosen.1 in
+    let call = called_by_slave names t h are n (ap called (sym x.2) ∙ and_right (x.0.1.host && not x.0.1.privileged) (called x.0.0) chosen.1) in
+    let at = signature_place 0 (signatures_of t) x.0 chosen.0 in
+    record {
+      caller = call.caller;
+      signature = x.0.1;
+      runs = call.runs;
+      calls = call.calls;
+      is = sym (slice_get-map (λ (f : FunctionTree). f.signature) t.functions n) ∙ ap (slice_get (signatures_of t)) (plain n x.0.0 at.0 x.2 at.1) ∙ at.2;
+      host = and_left x.0.1.host (not x.0.1.privileged) passes;
+      plain = no x.0.1.privileged (and_right x.0.1.host (not x.0.1.privileged) passes);
+    }
+  where
+    plain : (n m j : ℕ) → m ≡ n → m ≡ 0 + j → n ≡ j
+    plain n m j e f = omega (arith, e, f)
+
+    no : (b : Bool) → not b ≡ true → b ≡ false
+    no true h = never h
+    no false h = refl
+
+-- ---- models and input
+
+same_at_each : {A B : Type 0} (f g : A → B) (xs : List A) → ((x : A) → Contains xs x → f x ≡ g x) → map f xs ≡ map g xs
+same_at_each f g [] h = refl
+same_at_each f g (x ∷ xs) h = λ i. h x (contains_first x xs) i ∷ same_at_each f g xs (λ y c. h y (contains_later x xs y c)) i
+
+models_same : (models others : Hosts) (fns : List ℕ) → ((f : ℕ) → Contains fns f → models f ≡ others f) → models_for models fns ≡ models_for others fns
+models_same models others fns h = same_at_each (λ (f : ℕ). (f, models f)) (λ (f : ℕ). (f, others f)) fns (λ f c. ap (λ (m : HostModel). (f, m)) (h f c))
+
+-- a member that passes, where one does
+any_of : {A : Type 0} (test : A → Bool) (xs : List A) → list_any test xs ≡ true → (x : A) × Contains xs x × (test x ≡ true)
+any_of test [] h = never h
+any_of {A} test (x ∷ xs) h = go (test x) refl (λ i. any_of test xs i) h
+  where
+    go : (b : Bool) → test x ≡ b → (list_any test xs ≡ true → (y : A) × Contains xs y × (test y ≡ true)) → (b || list_any test xs) ≡ true → (y : A) × Contains (x ∷ xs) y × (test y ≡ true)
+    go true e rest i = (x, contains_first x xs, e)
+    go false e rest i = let r = rest i in (r.0, contains_later x xs r.0 r.1, r.2)
+
+input_same : (models : Hosts) (fns input other : List ℕ) → ((f : ℕ) → Contains fns f → reads_input (models f) ≡ true → input ≡ other) → input_for (models_for models fns) input ≡ input_for (models_for models fns) other
+input_same models fns input other h = go (list_any (λ (x : ℕ × HostModel). reads_input x.1) (models_for models fns)) refl
+  where
+    go : (b : Bool) → list_any (λ (x : ℕ × HostModel). reads_input x.1) (models_for models fns) ≡ b → (if b then input else []) ≡ (if b then other else [])
+    go false e = refl
+    go true e =
+        let x = any_of (λ (x : ℕ × HostModel). reads_input x.1) (models_for models fns) e in
+        let f = from_map (λ (f : ℕ). (f, models f)) fns x.0 x.1 in
+        h f.0 f.1 (ap (λ (y : ℕ × HostModel). reads_input y.1) f.2 ∙ x.2)
+
+-- ---- boots
+
+pub boots_same : LoweringSeesOneBody → LoweredNames → AcceptedShareNothing → BootsTellNothingPrivileged
+boots_same sees names shares t u a b hosts others input other budget well sound accepted too same outside =
+    let h = halves_of a.sides in
+    let k = halves_of b.sides in
+    let s : Same t u h k = record {
+      well_here = well;
+      well_there = sound;
+      halves_here = (shares t a accepted).0;
+      halves_there = (shares u b too).0;
+      parts = same;
+    } in
+    let half = half_same sees names t u h k s in
+    let fns = slave_hosts (is_among (asked h (functions_from t 0 t.functions))) t in
+    let own = host_is_own names t h s.halves_here in
+    let models : models_for (models_of hosts.models) fns ≡ models_for (models_of others.models) fns =
+    models_same (models_of hosts.models) (models_of others.models) fns (λ f c. ap model_or_none (outside.models (record { 0 = f }) (own f c))) in
+    let inputs : input_for (models_for (models_of hosts.models) fns) input ≡ input_for (models_for (models_of hosts.models) fns) other =
+    input_same (models_of hosts.models) fns input other (λ f c reads. outside.inputs (record { 0 = f }) (own f c) reads) in
+    (λ i. boot_with (slave_of t h (functions_from t 0 t.functions)) (models_for (models_of hosts.models) fns) (inputs i) budget)
+    ∙ (λ i. boot_with (slave_of t h (functions_from t 0 t.functions)) (models i) (input_for (models i) other) budget)
+    ∙ (λ i. boot_with (half i) (models_for (models_of others.models) (half i).hosts) (input_for (models_for (models_of others.models) (half i).hosts) other) budget)

@@ -1,0 +1,5 @@
+mod Numbered
+mod Reached
+mod Asked
+mod Halves
+mod Boots

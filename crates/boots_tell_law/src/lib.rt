@@ -1,0 +1,19 @@
+//! The boot tells nothing of what is privileged: what the slave starts from is made of the slave's own part of the program, and of what
+//! stands for its own hosts.
+#![tactic(auto)]
+
+ghost use Rattle.boots_tell_law.specs.Laws.{BootsTellNothingPrivileged};
+
+use lowered_names_law::lowered_code_names_what_the_body_names;
+use lowering_is_local_law::lowering_sees_one_body;
+use split_law::accepted_programs_share_nothing;
+
+/// Of two accepted programs that are the same for the slave, with hosts that are the same for it, the slave starts from the same,
+/// whatever the privileged bodies, the monitor's globals and functions, and the privileged hosts are.
+pub fn boots_tell_nothing_privileged()
+    ensures { BootsTellNothingPrivileged }
+{
+    lowering_sees_one_body();
+    lowered_code_names_what_the_body_names();
+    accepted_programs_share_nothing();
+}

@@ -1,0 +1,6 @@
+mod Agreeing
+mod Expressions
+mod Outermost
+mod Statements
+pub mod Parts
+pub mod Bodies
