@@ -1,11 +1,11 @@
 -- What the slave's code calls, one of the slave's functions calls.
 use Rattle.std.proofs.Common.{◌≡◌, ◌∙◌, ℕ, suc, ◌+◌, refl, ap, sym, subst, arith, ◌⊎◌, inl, inr, true, Option, None, Some, List, [], ◌∷◌, ◌++◌}
-use Rattle.std.specs.Prelude.{Contains, slice_get}
+use Rattle.std.specs.Prelude.{◌↔◌, Contains, slice_get}
 use Rattle.pt_base.specs.declared.ids.FnId.{FnId}
 use Rattle.pt_tree.specs.declared.signature.Signature.{Signature}
 use Rattle.typed_tree.specs.StatementTree.{BodyTree}
 use Rattle.typed_tree.specs.TypedTree.{FunctionTree, TypedTree}
-use Rattle.reach.specs.Contexts.{Calls, InSlave, callees_in}
+use Rattle.reach.specs.Contexts.{Calls, InSlave, IsOwned, callees_in}
 use Rattle.reach.proofs.ListLemmas.{contains_cases, contains_nothing, from_filter, from_flat, from_map}
 use Rattle.pt_core.specs.CodeTree as core
 use Rattle.pt_core.specs.WellFormedStatement.{callees_of}
@@ -13,7 +13,6 @@ use Rattle.lowering.specs.Functions.{code_if, core_of, functions_from, signature
 use Rattle.lowered_names_law.specs.Laws.{LoweredNames}
 use Rattle.splitter.specs.Halves.{Halves, asked, is_among, slave_code}
 use Rattle.splitter.proofs.SetLemmas.{among_from}
-use Rattle.split_law.specs.Laws.{AreHalves}
 
 own : (n : ℕ) → n ≡ n + 0
 own n = omega arith
@@ -59,6 +58,11 @@ code_from t k (f ∷ fs) c h = go (λ i. further (code_from t (suc k) fs c i)) f
     go rest None e i = rest i
     go rest (Some b) e i = either rest b e (contains_cases (core_of t k f b) (functions_from t (suc k) fs) c i)
 
+-- the lists are those of the program's slave
+pub record HasSlave (t : TypedTree) (h : Halves) : Type 0 where
+  pub slave : (n : ℕ) → Contains h.slave n ↔ InSlave t (record { 0 = n })
+  pub owned : (n : ℕ) → Contains h.owned n ↔ IsOwned t (record { 0 = n })
+
 -- one of the slave's functions calls it
 pub record IsCalled (t : TypedTree) (n : ℕ) : Type 0 where
   pub caller : FnId
@@ -71,7 +75,7 @@ still_called c d n e h = subst (λ (x : core.FunctionTree). Contains (callees_of
 still_listed : (gs : List FnId) (g : FnId) (n : ℕ) → g.0 ≡ n → Contains gs g → Contains gs (record { 0 = n })
 still_listed gs g n e h = subst (λ (m : ℕ). Contains gs (record { 0 = m })) e h
 
-pub called_by_slave : LoweredNames → (t : TypedTree) (h : Halves) → AreHalves t h → (n : ℕ) → is_among (asked h (functions_from t 0 t.functions)) n ≡ true → IsCalled t n
+pub called_by_slave : LoweredNames → (t : TypedTree) (h : Halves) → HasSlave t h → (n : ℕ) → is_among (asked h (functions_from t 0 t.functions)) n ≡ true → IsCalled t n
 called_by_slave law t h are n e =
     let c = from_flat (λ (x : core.FunctionTree). callees_of x.body) (slave_code h (functions_from t 0 t.functions)) n (among_from (asked h (functions_from t 0 t.functions)) n e) in
     let chosen = from_filter (λ (x : core.FunctionTree). is_among h.slave x.id) (functions_from t 0 t.functions) c.0 c.1 in

@@ -9,23 +9,29 @@ use Rattle.host_table.specs.RunHosts.{model_or_none, models_of}
 use Rattle.runs.specs.State.{Hosts}
 use Rattle.typed_tree.specs.TypedTree.{FunctionTree, TypedTree, signatures_of}
 use Rattle.typed_tree.proofs.WellFormedLemmas.{and_left, and_right}
+use Rattle.flow_rules.specs.declared.accepted.Accepted.{Accepted}
+use Rattle.flow_rules.specs.Faults.{IsAccepted}
 use Rattle.reach.proofs.ListLemmas.{contains_first, contains_later, from_filter, from_map}
 use Rattle.lowering.specs.Functions.{functions_from, signatures_from}
 use Rattle.lowered_names_law.specs.Laws.{LoweredNames}
 use Rattle.lowering_is_local_law.specs.Laws.{LoweringSeesOneBody}
 use Rattle.splitter.specs.Halves.{Halves, asked, halves_of, is_among, is_slave_host, slave_hosts, slave_of}
-use Rattle.split_law.specs.Laws.{AcceptedShareNothing, AreHalves}
+use Rattle.split_law.specs.Laws.{AcceptedShareNothing}
 use Rattle.pt_core.specs.BootLaw.{boot_with}
-use Rattle.pair_meaning.specs.Start.{input_for, models_for, reads_input}
-use Rattle.boots_tell_law.specs.Laws.{BootsTellNothingPrivileged}
+use Rattle.pt_core.specs.CodeTree.{SlaveTree}
+use Rattle.pair_meaning.specs.Start.{boot_of, input_for, models_for, reads_input}
+use Rattle.lowered_places_law.specs.BareTrees.{bare_program}
+use Rattle.lowered_places_law.specs.Laws.{PlacesAloneFollowPlaces}
+use Rattle.boots_tell_law.specs.Laws.{BootsTellNothingPrivileged, BootsTellOnlyPlaces}
 use Rattle.boots_tell_law.specs.SameForSlave.{IsOwnHost}
-use Rattle.boots_tell_law.proofs.Asked.{called_by_slave, signature_place}
+use Rattle.boots_tell_law.proofs.Asked.{HasSlave, called_by_slave, signature_place}
 use Rattle.boots_tell_law.proofs.Halves.{Same, half_same}
-use Rattle.boots_tell_law.proofs.Reached.{never}
+use Rattle.boots_tell_law.proofs.BareHalves.{bare_half, bare_lists, bare_sound, half_bare, half_in}
+use Rattle.boots_tell_law.proofs.Reached.{never, sound_of}
 
 -- ---- the slave's own hosts
 
-host_is_own : LoweredNames → (t : TypedTree) (h : Halves) → AreHalves t h → (n : ℕ) → Contains (slave_hosts (is_among (asked h (functions_from t 0 t.functions))) t) n → IsOwnHost t (record { 0 = n })
+host_is_own : LoweredNames → (t : TypedTree) (h : Halves) → HasSlave t h → (n : ℕ) → Contains (slave_hosts (is_among (asked h (functions_from t 0 t.functions))) t) n → IsOwnHost t (record { 0 = n })
 host_is_own names t h are n c =
     let called = is_among (asked h (functions_from t 0 t.functions)) in
     let test = λ (s : ℕ × Signature). is_slave_host (called s.0) s.1 in
@@ -81,24 +87,40 @@ input_same models fns input other h = go (list_any (λ (x : ℕ × HostModel). r
 
 -- ---- boots
 
+-- halves, models and inputs that are the same give the same boot
+boots_joined : (p q : SlaveTree) (models others : Hosts) (input other : List ℕ) (budget : ℕ) → p ≡ q → ((f : ℕ) → Contains p.hosts f → models f ≡ others f) → ((f : ℕ) → Contains p.hosts f → reads_input (models f) ≡ true → input ≡ other) →
+    boot_of p models input budget ≡ boot_of q others other budget
+boots_joined p q models others input other budget half same reads =
+    let stand = models_same models others p.hosts same in
+    (λ i. boot_with p (models_for models p.hosts) (input_same models p.hosts input other reads i) budget)
+    ∙ (λ i. boot_with p (stand i) (input_for (stand i) other) budget)
+    ∙ (λ i. boot_of (half i) others other budget)
+
+-- what the slave has of an accepted program
+slave_lists : AcceptedShareNothing → (t : TypedTree) (a : Accepted) → IsAccepted t a → HasSlave t (halves_of a.sides)
+slave_lists shares t a accepted = let lists = (shares t a accepted).0 in record { slave = lists.slave; owned = lists.owned }
+
 pub boots_same : LoweringSeesOneBody → LoweredNames → AcceptedShareNothing → BootsTellNothingPrivileged
 boots_same sees names shares t u a b hosts others input other budget well sound accepted too same outside =
     let h = halves_of a.sides in
     let k = halves_of b.sides in
-    let s : Same t u h k = record {
-      well_here = well;
-      well_there = sound;
-      halves_here = (shares t a accepted).0;
-      halves_there = (shares u b too).0;
+    let s : Same t u h k = record { sound_here = sound_of t well; sound_there = sound_of u sound; halves_here = slave_lists shares t a accepted; halves_there = slave_lists shares u b too; parts = same } in
+    let own = host_is_own names t h s.halves_here in
+    boots_joined (half_in t h) (half_in u k) (models_of hosts.models) (models_of others.models) input other budget (half_same sees names t u h k s)
+    (λ f c. ap model_or_none (outside.models (record { 0 = f }) (own f c))) (λ f c reads. outside.inputs (record { 0 = f }) (own f c) reads)
+
+pub boots_placed : LoweringSeesOneBody → LoweredNames → AcceptedShareNothing → PlacesAloneFollowPlaces → BootsTellOnlyPlaces
+boots_placed sees names shares places t u a b hosts others input other budget well sound accepted too same outside =
+    let h = halves_of a.sides in
+    let k = halves_of b.sides in
+    let s : Same (bare_program t) (bare_program u) h k = record {
+      sound_here = bare_sound t (sound_of t well);
+      sound_there = bare_sound u (sound_of u sound);
+      halves_here = bare_lists t h (slave_lists shares t a accepted);
+      halves_there = bare_lists u k (slave_lists shares u b too);
       parts = same;
     } in
-    let half = half_same sees names t u h k s in
-    let fns = slave_hosts (is_among (asked h (functions_from t 0 t.functions))) t in
-    let own = host_is_own names t h s.halves_here in
-    let models : models_for (models_of hosts.models) fns ≡ models_for (models_of others.models) fns =
-    models_same (models_of hosts.models) (models_of others.models) fns (λ f c. ap model_or_none (outside.models (record { 0 = f }) (own f c))) in
-    let inputs : input_for (models_for (models_of hosts.models) fns) input ≡ input_for (models_for (models_of hosts.models) fns) other =
-    input_same (models_of hosts.models) fns input other (λ f c reads. outside.inputs (record { 0 = f }) (own f c) reads) in
-    (λ i. boot_with (slave_of t h (functions_from t 0 t.functions)) (models_for (models_of hosts.models) fns) (inputs i) budget)
-    ∙ (λ i. boot_with (slave_of t h (functions_from t 0 t.functions)) (models i) (input_for (models i) other) budget)
-    ∙ (λ i. boot_with (half i) (models_for (models_of others.models) (half i).hosts) (input_for (models_for (models_of others.models) (half i).hosts) other) budget)
+    let half = half_bare places t h ∙ half_same sees names (bare_program t) (bare_program u) h k s ∙ sym (half_bare places u k) in
+    let own = host_is_own names t h (slave_lists shares t a accepted) in
+    boots_joined (bare_half (half_in t h)) (bare_half (half_in u k)) (models_of hosts.models) (models_of others.models) input other budget half
+    (λ f c. ap model_or_none (outside.models (record { 0 = f }) (own f c))) (λ f c reads. outside.inputs (record { 0 = f }) (own f c) reads)

@@ -1,6 +1,6 @@
 -- The slave's halves of two programs that are the same for it are the same.
 use Rattle.std.proofs.Common.{◌≡◌, ◌∙◌, ℕ, ◌+◌, ap, sym, arith, ◌⊎◌, inl, inr, Bool, true, List, [], ◌∷◌, ◌++◌, map, option_map}
-use Rattle.std.specs.Prelude.{◌||◌, Contains, IsTrue, nat_eq, slice_get}
+use Rattle.std.specs.Prelude.{◌||◌, Contains, nat_eq, slice_get}
 use Rattle.std.specs.List.{filter}
 use Rattle.std.proofs.lemmas.List.Elements.{Contains-append_cases}
 use Rattle.std.proofs.lemmas.Option.{slice_get-map}
@@ -10,7 +10,6 @@ use Rattle.pt_tree.specs.declared.signature.Signature.{Signature}
 use Rattle.typed_tree.specs.declared.variable.TypedGlobal.{TypedGlobal}
 use Rattle.typed_tree.specs.Lookup.{signature_of}
 use Rattle.typed_tree.specs.TypedTree.{FunctionTree, TypedTree, signatures_of}
-use Rattle.typed_tree.specs.WellFormed.{is_well_formed}
 use Rattle.reach.specs.Contexts.{InSlave, globals_in}
 use Rattle.pt_core.specs.CodeTree as core
 use Rattle.pt_core.specs.CodeTree.{GlobalTree}
@@ -19,11 +18,10 @@ use Rattle.lowered_names_law.specs.Laws.{LoweredNames}
 use Rattle.lowering_is_local_law.specs.Laws.{LoweringSeesOneBody}
 use Rattle.splitter.specs.Halves.{Halves, asked, called_by, chosen_globals, chosen_signatures, is_among, slave_code, slave_hosts, slave_of}
 use Rattle.splitter.proofs.SetLemmas.{among_from, among_has, same_truth}
-use Rattle.split_law.specs.Laws.{AreHalves}
 use Rattle.boots_tell_law.specs.SameForSlave.{IsSameForSlave}
-use Rattle.boots_tell_law.proofs.Asked.{called_by_slave}
+use Rattle.boots_tell_law.proofs.Asked.{HasSlave, called_by_slave}
 use Rattle.boots_tell_law.proofs.Numbered.{code_with, functions_given, given_by, given_same, global_with, globals_given, host_with, hosts_given, signature_with, signatures_given}
-use Rattle.boots_tell_law.proofs.Reached.{own_signature, owned_before, reached_before, still_owned, still_reached}
+use Rattle.boots_tell_law.proofs.Reached.{IsSound, own_signature, owned_before, reached_before, still_owned, still_reached}
 
 abbrev function_id : ℕ → FnId
 function_id n = record { 0 = n }
@@ -33,10 +31,10 @@ global_id n = record { 0 = n }
 
 -- Two programs that are the same for the slave, with their halves and what the slave's part needs of both.
 pub record Same (t u : TypedTree) (h k : Halves) : Type 0 where
-  pub well_here : IsTrue (is_well_formed t)
-  pub well_there : IsTrue (is_well_formed u)
-  pub halves_here : AreHalves t h
-  pub halves_there : AreHalves u k
+  pub sound_here : IsSound t
+  pub sound_there : IsSound u
+  pub halves_here : HasSlave t h
+  pub halves_there : HasSlave u k
   pub parts : IsSameForSlave t u
 
 plain : (m j : ℕ) → m ≡ 0 + j → j ≡ m
@@ -47,13 +45,13 @@ plain m j e = omega (arith, e)
 slave_same : (t u : TypedTree) (h k : Halves) → Same t u h k → (n : ℕ) → is_among k.slave n ≡ is_among h.slave n
 slave_same t u h k s n =
     same_truth (is_among k.slave n) (is_among h.slave n)
-    (λ e. among_has h.slave n ((s.halves_here.slave n).1 (reached_before t u s.well_here s.well_there s.parts (function_id n) ((s.halves_there.slave n).0 (among_from k.slave n e)))))
+    (λ e. among_has h.slave n ((s.halves_here.slave n).1 (reached_before t u s.sound_here s.sound_there s.parts (function_id n) ((s.halves_there.slave n).0 (among_from k.slave n e)))))
     (λ e. among_has k.slave n ((s.halves_there.slave n).1 (still_reached t u s.parts (function_id n) ((s.halves_here.slave n).0 (among_from h.slave n e)))))
 
 owned_same : (t u : TypedTree) (h k : Halves) → Same t u h k → (n : ℕ) → is_among k.owned n ≡ is_among h.owned n
 owned_same t u h k s n =
     same_truth (is_among k.owned n) (is_among h.owned n)
-    (λ e. among_has h.owned n ((s.halves_here.owned n).1 (owned_before t u s.well_here s.well_there s.parts (global_id n) ((s.halves_there.owned n).0 (among_from k.owned n e)))))
+    (λ e. among_has h.owned n ((s.halves_here.owned n).1 (owned_before t u s.sound_here s.sound_there s.parts (global_id n) ((s.halves_there.owned n).0 (among_from k.owned n e)))))
     (λ e. among_has k.owned n ((s.halves_there.owned n).1 (still_owned t u s.parts (global_id n) ((s.halves_here.owned n).0 (among_from h.owned n e)))))
 
 -- ---- functions

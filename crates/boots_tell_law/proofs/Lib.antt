@@ -2,4 +2,5 @@ mod Numbered
 mod Reached
 mod Asked
 mod Halves
+mod BareHalves
 mod Boots

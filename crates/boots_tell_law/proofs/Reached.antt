@@ -26,6 +26,15 @@ never h = cc
 same_item : {A : Type 0} (x y : A) → Some x ≡ Some y → x ≡ y
 same_item x y h = cc
 
+-- ---- what is known of a program
+
+-- Its main has one number, and a function without a body is a host.
+pub record IsSound (t : TypedTree) : Type 0 where
+  pub start : FnId
+  pub named : HasName t start (codes "main")
+  pub alone : (f g : FnId) → HasName t f (codes "main") → HasName t g (codes "main") → f ≡ g
+  pub bodies : (f : FnId) (g : FunctionTree) → function_at t f ≡ Some g → is_some g.body ≡ not g.signature.host
+
 -- ---- what a function is
 
 -- what is known of a function that has a number
@@ -33,8 +42,8 @@ pub record Known (t : TypedTree) (f : FnId) : Type 0 where
   pub function : FunctionTree
   pub is : function_at t f ≡ Some function
 
-known : (t : TypedTree) (f : FnId) (s : Signature) → signature_of t f ≡ Some s → (k : Known t f) × (k.function.signature ≡ s)
-known t f s h = go (function_at t f) refl h
+found : (t : TypedTree) (f : FnId) (s : Signature) → signature_of t f ≡ Some s → (k : Known t f) × (k.function.signature ≡ s)
+found t f s h = go (function_at t f) refl h
   where
     go : (o : Option FunctionTree) → function_at t f ≡ o → option_map (λ (g : FunctionTree). g.signature) o ≡ Some s → (k : Known t f) × (k.function.signature ≡ s)
     go None e i = cc
@@ -58,6 +67,27 @@ body_of_function t f g well is = go g.body refl (and_right (list_all (variable_s
     go : (o : Option BodyTree) → g.body ≡ o → body_sound t g g.body ≡ true → is_some g.body ≡ not g.signature.host
     go None e h = ap is_some e ∙ hosts g.signature.host (and_left g.signature.host _ (sym (ap (body_sound t g) e) ∙ h))
     go (Some b) e h = ap is_some e ∙ opposite g.signature.host (and_left (not g.signature.host) _ (sym (ap (body_sound t g) e) ∙ h))
+
+any_at : {A : Type 0} (test : A → Bool) (xs : List A) → list_any test xs ≡ true → (k : ℕ) × (x : A) × (slice_get xs k ≡ Some x) × (test x ≡ true)
+any_at test [] h = never h
+any_at {A} test (x ∷ xs) h = go (test x) refl (λ i. any_at test xs i) h
+  where
+    go : (b : Bool) → test x ≡ b → (list_any test xs ≡ true → (k : ℕ) × (y : A) × (slice_get xs k ≡ Some y) × (test y ≡ true)) → (b || list_any test xs) ≡ true → (k : ℕ) × (y : A) × (slice_get (x ∷ xs) k ≡ Some y) × (test y ≡ true)
+    go true e rest i = (0, x, refl, e)
+    go false e rest i = let r = rest i in (suc (r.0), r.1, r.2, r.3)
+
+has_main : (t : TypedTree) → IsTrue (is_well_formed t) → (f : FnId) × HasName t f (codes "main")
+has_main t well =
+    let m = any_at is_start t.functions (facts_of t well).start in (
+      record { 0 = m.0 },
+      ap (λ (o : Option FunctionTree). option_map (λ (s : Signature). s.name) (option_map (λ (g : FunctionTree). g.signature) o)) m.2 ∙ ap Some ((bytes_eq-Decides m.1.signature.name (codes "main")).0 (and_left (is_main m.1.signature) _ m.3)),
+    )
+
+one_has_name : (t : TypedTree) → IsTrue (is_well_formed t) → (name : List ℕ) (f g : FnId) → HasName t f name → HasName t g name → f ≡ g
+one_has_name t well name f g h i = same_item f g (sym ((named_is t name f well).1 h) ∙ (named_is t name g well).1 i)
+
+pub sound_of : (t : TypedTree) → IsTrue (is_well_formed t) → IsSound t
+sound_of t well = let m = has_main t well in record { start = m.0; named = m.1; alone = one_has_name t well (codes "main"); bodies = λ f g is. body_of_function t f g well is }
 
 plain_at : (t : TypedTree) (f : FnId) (g : FunctionTree) → function_at t f ≡ Some g → test_function is_plain t f ≡ is_plain g
 plain_at t f g is = ap (λ (o : Option FunctionTree). option_map_or is_plain o false) is
@@ -98,41 +128,22 @@ still_reached t u same f (slave_calls h g r c e) =
 
 -- ---- and no others
 
-any_at : {A : Type 0} (test : A → Bool) (xs : List A) → list_any test xs ≡ true → (k : ℕ) × (x : A) × (slice_get xs k ≡ Some x) × (test x ≡ true)
-any_at test [] h = never h
-any_at {A} test (x ∷ xs) h = go (test x) refl (λ i. any_at test xs i) h
-  where
-    go : (b : Bool) → test x ≡ b → (list_any test xs ≡ true → (k : ℕ) × (y : A) × (slice_get xs k ≡ Some y) × (test y ≡ true)) → (b || list_any test xs) ≡ true → (k : ℕ) × (y : A) × (slice_get (x ∷ xs) k ≡ Some y) × (test y ≡ true)
-    go true e rest i = (0, x, refl, e)
-    go false e rest i = let r = rest i in (suc (r.0), r.1, r.2, r.3)
-
-has_main : (t : TypedTree) → IsTrue (is_well_formed t) → (f : FnId) × HasName t f (codes "main")
-has_main t well =
-    let m = any_at is_start t.functions (facts_of t well).start in (
-      record { 0 = m.0 },
-      ap (λ (o : Option FunctionTree). option_map (λ (s : Signature). s.name) (option_map (λ (g : FunctionTree). g.signature) o)) m.2 ∙ ap Some ((bytes_eq-Decides m.1.signature.name (codes "main")).0 (and_left (is_main m.1.signature) _ m.3)),
-    )
-
-one_has_name : (t : TypedTree) → IsTrue (is_well_formed t) → (name : List ℕ) (f g : FnId) → HasName t f name → HasName t g name → f ≡ g
-one_has_name t well name f g h i = same_item f g (sym ((named_is t name f well).1 h) ∙ (named_is t name g well).1 i)
-
 -- what is plain in the second is so in the first, if both are called with the same
-plain_before : (t u : TypedTree) → IsTrue (is_well_formed t) → IsTrue (is_well_formed u) → (f : FnId) → signature_of t f ≡ signature_of u f → test_function is_plain u f ≡ true → test_function is_plain t f ≡ true
-plain_before t u well sound f same plain =
+plain_before : (t u : TypedTree) → IsSound t → IsSound u → (f : FnId) → signature_of t f ≡ signature_of u f → test_function is_plain u f ≡ true → test_function is_plain t f ≡ true
+plain_before t u known sound f same plain =
     let y = plain_known u f plain in
-    let x = known t f y.function.signature (same ∙ ap (option_map (λ (g : FunctionTree). g.signature)) y.is) in
-    let bodies : is_some x.0.function.body ≡ is_some y.function.body = body_of_function t f x.0.function well x.0.is ∙ ap (λ (s : Signature). not s.host) x.1 ∙ sym (body_of_function u f y.function sound y.is) in
+    let x = found t f y.function.signature (same ∙ ap (option_map (λ (g : FunctionTree). g.signature)) y.is) in
+    let bodies : is_some x.0.function.body ≡ is_some y.function.body = known.bodies f x.0.function x.0.is ∙ ap (λ (s : Signature). not s.host) x.1 ∙ sym (sound.bodies f y.function y.is) in
     plain_at t f x.0.function x.0.is ∙ (λ i. bodies i && not (x.1 i).privileged) ∙ sym (plain_at u f y.function y.is) ∙ plain
 
-pub reached_before : (t u : TypedTree) → IsTrue (is_well_formed t) → IsTrue (is_well_formed u) → IsSameForSlave t u → (f : FnId) → InSlave u f → InSlave t f
-reached_before t u well sound same f (main g h) =
-    let m = has_main t well in
-    let inside = main m.0 m.1 in
-    subst (λ (x : FnId). InSlave t x) (one_has_name u sound (codes "main") m.0 g (named t u m.0 (codes "main") (own_signature t u m.0 (same.functions m.0 inside)) m.1) h) inside
-reached_before t u well sound same f (slave_calls h g r c e) =
-    let before = reached_before t u well sound same h r in
+pub reached_before : (t u : TypedTree) → IsSound t → IsSound u → IsSameForSlave t u → (f : FnId) → InSlave u f → InSlave t f
+reached_before t u known sound same f (main g h) =
+    let inside = main known.start known.named in
+    subst (λ (x : FnId). InSlave t x) (sound.alone known.start g (named t u known.start (codes "main") (own_signature t u known.start (same.functions known.start inside)) known.named) h) inside
+reached_before t u known sound same f (slave_calls h g r c e) =
+    let before = reached_before t u known sound same h r in
     let call = subst (λ (gs : List FnId). Contains gs g) (sym (same_callees t u h (same.functions h before))) c in
-    slave_calls h g before call (plain_before t u well sound g (same.signatures h g before call) e)
+    slave_calls h g before call (plain_before t u known sound g (same.signatures h g before call) e)
 
 -- ---- globals
 
@@ -150,9 +161,9 @@ still_owned t u same g o =
     let r = o.1.1 in
     (there_too t.globals u.globals g.0 (same.globals f g r o.1.2) o.0, (f, still_reached t u same f r, subst (λ (gs : List GlobalId). Contains gs g) (same_globals t u f (same.functions f r)) o.1.2))
 
-pub owned_before : (t u : TypedTree) → IsTrue (is_well_formed t) → IsTrue (is_well_formed u) → IsSameForSlave t u → (g : GlobalId) → IsOwned u g → IsOwned t g
-owned_before t u well sound same g o =
+pub owned_before : (t u : TypedTree) → IsSound t → IsSound u → IsSameForSlave t u → (g : GlobalId) → IsOwned u g → IsOwned t g
+owned_before t u known sound same g o =
     let f = o.1.0 in
-    let r = reached_before t u well sound same f o.1.1 in
+    let r = reached_before t u known sound same f o.1.1 in
     let names = subst (λ (gs : List GlobalId). Contains gs g) (sym (same_globals t u f (same.functions f r))) o.1.2 in
     (there_too u.globals t.globals g.0 (sym (same.globals f g r names)) o.0, (f, r, names))

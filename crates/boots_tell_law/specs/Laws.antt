@@ -10,6 +10,8 @@ use Rattle.pt_core.specs.CodeTree.{BootTree}
 use Rattle.lowering.specs.Functions.{functions_from}
 use Rattle.splitter.specs.Halves.{halves_of, slave_of}
 use Rattle.pair_meaning.specs.Start.{boot_of}
+use Rattle.lowered_places_law.specs.BareTrees.{bare_program}
+use Rattle.boots_tell_law.specs.BareBoots.{bare_boot}
 use Rattle.boots_tell_law.specs.SameForSlave.{AreSameForSlave, IsSameForSlave}
 
 -- what the slave of an accepted program starts from
@@ -22,3 +24,9 @@ abbrev pub BootsTellNothingPrivileged : Type 0
 BootsTellNothingPrivileged = (t u : TypedTree) (a b : Accepted) (hosts others : table.Hosts) (input other : List ℕ) (budget : ℕ) →
     IsTrue (is_well_formed t) → IsTrue (is_well_formed u) → IsAccepted t a → IsAccepted u b → IsSameForSlave t u → AreSameForSlave t hosts others input other →
     boot_at t a hosts input budget ≡ boot_at u b others other budget
+
+-- Where they are the same for the slave but for places of the text, so are the boots.
+abbrev pub BootsTellOnlyPlaces : Type 0
+BootsTellOnlyPlaces = (t u : TypedTree) (a b : Accepted) (hosts others : table.Hosts) (input other : List ℕ) (budget : ℕ) →
+    IsTrue (is_well_formed t) → IsTrue (is_well_formed u) → IsAccepted t a → IsAccepted u b → IsSameForSlave (bare_program t) (bare_program u) → AreSameForSlave t hosts others input other →
+    bare_boot (boot_at t a hosts input budget) ≡ bare_boot (boot_at u b others other budget)

@@ -1,2 +1,3 @@
+pub mod BareBoots
 pub mod Laws
 pub mod SameForSlave

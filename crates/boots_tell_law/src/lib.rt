@@ -2,9 +2,10 @@
 //! stands for its own hosts.
 #![tactic(auto)]
 
-ghost use Rattle.boots_tell_law.specs.Laws.{BootsTellNothingPrivileged};
+ghost use Rattle.boots_tell_law.specs.Laws.{BootsTellNothingPrivileged, BootsTellOnlyPlaces};
 
 use lowered_names_law::lowered_code_names_what_the_body_names;
+use lowered_places_law::places_alone_follow_places;
 use lowering_is_local_law::lowering_sees_one_body;
 use split_law::accepted_programs_share_nothing;
 
@@ -16,4 +17,14 @@ pub fn boots_tell_nothing_privileged()
     lowering_sees_one_body();
     lowered_code_names_what_the_body_names();
     accepted_programs_share_nothing();
+}
+
+/// Where the two programs differ for the slave in places of the text alone, so does what it starts from.
+pub fn boots_tell_only_places()
+    ensures { BootsTellOnlyPlaces }
+{
+    lowering_sees_one_body();
+    lowered_code_names_what_the_body_names();
+    accepted_programs_share_nothing();
+    places_alone_follow_places();
 }

@@ -1,0 +1,5 @@
+mod Forms
+mod Expressions
+mod Statements
+pub mod Bodies
+pub mod Usages

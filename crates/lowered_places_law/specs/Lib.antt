@@ -1,0 +1,3 @@
+pub mod BareCode
+pub mod BareTrees
+pub mod Laws
