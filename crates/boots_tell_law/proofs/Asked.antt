@@ -13,12 +13,7 @@ use Rattle.lowering.specs.Functions.{code_if, core_of, functions_from, signature
 use Rattle.lowered_names_law.specs.Laws.{LoweredNames}
 use Rattle.splitter.specs.Halves.{Halves, asked, is_among, slave_code}
 use Rattle.splitter.proofs.SetLemmas.{among_from}
-
-own : (n : ℕ) → n ≡ n + 0
-own n = omega arith
-
-later : (n k j : ℕ) → n ≡ suc k + j → n ≡ k + suc j
-later n k j e = omega (arith, e)
+use Rattle.boots_tell_law.proofs.Numbered.{later, own}
 
 -- this is the code of a function of the list, the first of which has the number k
 record IsCodeOf (t : TypedTree) (k : ℕ) (fs : List FunctionTree) (c : core.FunctionTree) : Type 0 where

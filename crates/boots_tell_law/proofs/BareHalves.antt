@@ -1,7 +1,7 @@
 -- The slave's half of a program, without its places, is the slave's half of the program without places.
-use Rattle.std.proofs.Common.{◌≡◌, ◌∙◌, ◌<◌, ◌↔◌, ℕ, suc, refl, ap, sym, subst, Bool, true, false, not, Option, None, Some, List, [], ◌∷◌, ◌++◌, cond, length, map, option_map}
-use Rattle.std.specs.Prelude.{◌&&◌, Contains, codes, is_some}
-use Rattle.std.specs.List.{filter, flat_map}
+use Rattle.std.proofs.Common.{◌≡◌, ◌∙◌, ◌<◌, ℕ, suc, refl, ap, sym, subst, Bool, true, false, not, Option, None, Some, List, [], ◌∷◌, ◌++◌, cond, map, option_map}
+use Rattle.std.specs.Prelude.{◌&&◌, Contains, is_some}
+use Rattle.std.specs.List.{filter}
 use Rattle.std.specs.Option.{option_map_or}
 use Rattle.std.proofs.lemmas.List.{length-map, map-append}
 use Rattle.pt_base.specs.declared.ids.FnId.{FnId}
@@ -23,10 +23,7 @@ use Rattle.lowered_places_law.specs.Laws.{PlacesAloneFollowPlaces}
 use Rattle.lowered_places_law.proofs.Usages.{callees_bare, function_bare, globals_bare}
 use Rattle.boots_tell_law.specs.BareBoots.{bare_owned}
 use Rattle.boots_tell_law.proofs.Asked.{HasSlave}
-use Rattle.boots_tell_law.proofs.Reached.{IsSound}
-
-same_item : {A : Type 0} (x y : A) → Some x ≡ Some y → x ≡ y
-same_item x y h = cc
+use Rattle.boots_tell_law.proofs.Reached.{IsSound, same_item}
 
 -- ---- functions
 

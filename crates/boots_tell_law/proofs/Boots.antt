@@ -15,14 +15,14 @@ use Rattle.reach.proofs.ListLemmas.{contains_first, contains_later, from_filter,
 use Rattle.lowering.specs.Functions.{functions_from, signatures_from}
 use Rattle.lowered_names_law.specs.Laws.{LoweredNames}
 use Rattle.lowering_is_local_law.specs.Laws.{LoweringSeesOneBody}
-use Rattle.splitter.specs.Halves.{Halves, asked, halves_of, is_among, is_slave_host, slave_hosts, slave_of}
+use Rattle.splitter.specs.Halves.{Halves, asked, halves_of, is_among, is_slave_host, slave_hosts}
 use Rattle.split_law.specs.Laws.{AcceptedShareNothing}
 use Rattle.pt_core.specs.BootLaw.{boot_with}
 use Rattle.pt_core.specs.CodeTree.{SlaveTree}
 use Rattle.pair_meaning.specs.Start.{boot_of, input_for, models_for, reads_input}
 use Rattle.lowered_places_law.specs.BareTrees.{bare_program}
 use Rattle.lowered_places_law.specs.Laws.{PlacesAloneFollowPlaces}
-use Rattle.boots_tell_law.specs.Laws.{BootsTellNothingPrivileged, BootsTellOnlyPlaces}
+use Rattle.boots_tell_law.specs.Laws.{BootsTellNothingPrivileged, BootsTellOnlyPlaces, BootsTellOwnHostsAlone}
 use Rattle.boots_tell_law.specs.SameForSlave.{IsOwnHost}
 use Rattle.boots_tell_law.proofs.Asked.{HasSlave, called_by_slave, signature_place}
 use Rattle.boots_tell_law.proofs.Halves.{Same, half_same}
@@ -99,6 +99,13 @@ boots_joined p q models others input other budget half same reads =
 -- what the slave has of an accepted program
 slave_lists : AcceptedShareNothing → (t : TypedTree) (a : Accepted) → IsAccepted t a → HasSlave t (halves_of a.sides)
 slave_lists shares t a accepted = let lists = (shares t a accepted).0 in record { slave = lists.slave; owned = lists.owned }
+
+pub boots_hosted : LoweredNames → AcceptedShareNothing → BootsTellOwnHostsAlone
+boots_hosted names shares t a hosts others input other budget accepted outside =
+    let h = halves_of a.sides in
+    let own = host_is_own names t h (slave_lists shares t a accepted) in
+    boots_joined (half_in t h) (half_in t h) (models_of hosts.models) (models_of others.models) input other budget refl
+    (λ f c. ap model_or_none (outside.models (record { 0 = f }) (own f c))) (λ f c reads. outside.inputs (record { 0 = f }) (own f c) reads)
 
 pub boots_same : LoweringSeesOneBody → LoweredNames → AcceptedShareNothing → BootsTellNothingPrivileged
 boots_same sees names shares t u a b hosts others input other budget well sound accepted too same outside =

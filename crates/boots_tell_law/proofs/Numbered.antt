@@ -12,10 +12,10 @@ use Rattle.lowering.specs.Functions.{code_if, core_of, functions_from, globals_f
 use Rattle.splitter.specs.Halves.{is_slave_host}
 use Rattle.splitter.specs.Sets.{numbered_global}
 
-own : (n : ℕ) → n ≡ n + 0
+pub own : (n : ℕ) → n ≡ n + 0
 own n = omega arith
 
-later : (n k j : ℕ) → n ≡ suc k + j → n ≡ k + suc j
+pub later : (n k j : ℕ) → n ≡ suc k + j → n ≡ k + suc j
 later n k j e = omega (arith, e)
 
 -- what the items give whose numbers are chosen, the first having the number k

@@ -23,7 +23,7 @@ use Rattle.boots_tell_law.specs.SameForSlave.{IsSameForSlave}
 pub never : {X : Type 0} → false ≡ true → X
 never h = cc
 
-same_item : {A : Type 0} (x y : A) → Some x ≡ Some y → x ≡ y
+pub same_item : {A : Type 0} (x y : A) → Some x ≡ Some y → x ≡ y
 same_item x y h = cc
 
 -- ---- what is known of a program

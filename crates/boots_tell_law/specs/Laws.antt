@@ -18,6 +18,11 @@ use Rattle.boots_tell_law.specs.SameForSlave.{AreSameForSlave, IsSameForSlave}
 abbrev pub boot_at : TypedTree → Accepted → table.Hosts → List ℕ → ℕ → BootTree
 boot_at t a hosts input budget = boot_of (slave_of t (halves_of a.sides) (functions_from t 0 t.functions)) (models_of hosts.models) input budget
 
+-- Of a program that breaks no rule, hosts and inputs that are the same for its slave give the same boot.
+abbrev pub BootsTellOwnHostsAlone : Type 0
+BootsTellOwnHostsAlone = (t : TypedTree) (a : Accepted) (hosts others : table.Hosts) (input other : List ℕ) (budget : ℕ) →
+    IsAccepted t a → AreSameForSlave t hosts others input other → boot_at t a hosts input budget ≡ boot_at t a others other budget
+
 -- Two well-formed programs that break no rule, and that are the same for the slave, with hosts and inputs that are the same for it, give
 -- it the same boot.
 abbrev pub BootsTellNothingPrivileged : Type 0

@@ -2,12 +2,21 @@
 //! stands for its own hosts.
 #![tactic(auto)]
 
-ghost use Rattle.boots_tell_law.specs.Laws.{BootsTellNothingPrivileged, BootsTellOnlyPlaces};
+ghost use Rattle.boots_tell_law.specs.Laws.{BootsTellNothingPrivileged, BootsTellOnlyPlaces, BootsTellOwnHostsAlone};
 
 use lowered_names_law::lowered_code_names_what_the_body_names;
 use lowered_places_law::places_alone_follow_places;
 use lowering_is_local_law::lowering_sees_one_body;
 use split_law::accepted_programs_share_nothing;
+
+/// Of an accepted program, the slave starts from the same whatever stands for hosts that aren't its own, and whatever the input is
+/// that only these read.
+pub fn boots_tell_own_hosts_alone()
+    ensures { BootsTellOwnHostsAlone }
+{
+    lowered_code_names_what_the_body_names();
+    accepted_programs_share_nothing();
+}
 
 /// Of two accepted programs that are the same for the slave, with hosts that are the same for it, the slave starts from the same,
 /// whatever the privileged bodies, the monitor's globals and functions, and the privileged hosts are.

@@ -1,5 +1,5 @@
 -- The code of a function, without its places, is the code of the function without places.
-use Rattle.std.proofs.Common.{◌≡◌, ◌∙◌, refl, ap, sym, ℕ, Bool, true, false, Option, Some, None, List, [], ◌∷◌, ◌++◌, length, map, option_map, if◌then◌else◌}
+use Rattle.std.proofs.Common.{◌≡◌, ◌∙◌, refl, ap, sym, Bool, true, false, Option, Some, None, List, [], ◌∷◌, ◌++◌, length, map, option_map, if◌then◌else◌}
 use Rattle.std.specs.Prelude.{pos}
 use Rattle.std.proofs.lemmas.List.{length-map, map-append}
 use Rattle.pt_base.specs.declared.int_type.IntType.TheVariants as int
@@ -12,13 +12,13 @@ use Rattle.typed_tree.specs.ExpressionTree.{ExprTree, typed}
 use Rattle.typed_tree.specs.StatementTree.{BodyTree, block}
 use Rattle.typed_tree.specs.TypedTree.{FunctionTree, TypedTree}
 use Rattle.typed_tree.specs.WellFormedExpression.{is_main}
-use Rattle.pt_core.specs.CodeTree.{StmtTree, constant, give_back, stmt_trees}
+use Rattle.pt_core.specs.CodeTree.{constant, give_back, stmt_trees}
 use Rattle.source_meaning.specs.Functions.{brace_of}
-use Rattle.lowering.specs.Lowered.{Effects, Temp}
-use Rattle.lowering.specs.Functions.{code_of, core_of, lowered_body, main_end, span_of, variable_of}
+use Rattle.lowering.specs.Lowered.{Temp}
+use Rattle.lowering.specs.Functions.{code_of, lowered_body, main_end, span_of, variable_of}
 use Rattle.lowering.specs.Statements.{nowhere as in_no_loop, statement_in}
 use Rattle.lowered_places_law.specs.BareTrees.{bare, bare_body, bare_function, bare_global, bare_program, bare_var, nowhere}
-use Rattle.lowered_places_law.specs.BareCode.{bare_stmt, bare_stmts}
+use Rattle.lowered_places_law.specs.BareCode.{bare_stmt}
 use Rattle.lowered_places_law.specs.Laws.{PlacesAloneFollowPlaces}
 use Rattle.lowered_places_law.proofs.Forms.{bare_effects, bare_temp, stmts_bare, trees_bare}
 use Rattle.lowered_places_law.proofs.Statements.{statement_bare}

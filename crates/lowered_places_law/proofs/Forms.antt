@@ -16,13 +16,13 @@ use Rattle.typed_tree.specs.declared.link.LogicalOp.TheVariants.{And, Or}
 use Rattle.typed_tree.specs.ExpressionTree as src
 use Rattle.typed_tree.specs.ExpressionTree.{typed, LinkTree, link, link_and, link_trees, step_and, step_trees, StepTree}
 use Rattle.typed_tree.specs.TypeTests.{points_to_const, same_int}
-use Rattle.pt_core.specs.CodeTree.{local, global, deref, PlaceTree, place, ExprTree, binary, constant, convert, read, StmtTree, StmtTrees, ExprTrees, check, assign, copy, call, choose, expr_and, expr_trees, no_stmts, stmt_and, stmt_trees}
+use Rattle.pt_core.specs.CodeTree.{local, global, deref, PlaceTree, place, ExprTree, binary, convert, read, StmtTree, StmtTrees, check, assign, copy, call, choose, expr_and, expr_trees, no_stmts, stmt_and, stmt_trees}
 use Rattle.pt_core.specs.Types.{field_type, pointee_type}
 use Rattle.source_meaning.specs.Expressions.{type_of}
-use Rattle.lowering.specs.Lowered.{Temp, Effects, Lowered, LoweredPlace, Arguments, pure, past, temp, hold, followed, held, held_if, holding, int}
+use Rattle.lowering.specs.Lowered.{Temp, Effects, Lowered, LoweredPlace, Arguments, pure, past, temp, hold, held, held_if, holding, int}
 use Rattle.lowering.specs.Operators.{as_int, converted, prefixed, truth_of, promoted_of, shift_of, stepped, stored, unit_step, unit_of}
 use Rattle.lowering.specs.Purity.{takes_left_first, is_pure, is_pure_form, are_pure, are_pure_links, are_pure_steps, is_pure_place, is_pure_root}
-use Rattle.lowering.specs.Expressions.{Scope, place_with_field, behind, chain_so_far, field_in, element_place, fixed_root, fixed_through, fixed_if, checked, left_place, linked, moved_to, started, valued, where_open, with_operand, arm, chosen, copied, given, assigned, compounded, counted, counted_after, argued, call_effects, called}
+use Rattle.lowering.specs.Expressions.{Scope, place_with_field, behind, chain_so_far, field_in, element_place, fixed_root, fixed_through, fixed_if, checked, left_place, linked, started, valued, where_open, with_operand, arm, chosen, copied, given, assigned, compounded, counted, counted_after, argued, call_effects, called}
 use Rattle.lowered_places_law.specs.BareTrees.{bare, bare_all, bare_form, bare_links, bare_place, bare_root, bare_steps, nowhere}
 use Rattle.lowered_places_law.specs.BareCode.{bare_stmt, bare_stmts, bare_target, bare_value, bare_values}
 

@@ -1,7 +1,6 @@
 -- Statements, lowered, without their places are what is lowered without places: by induction on the tree.
-use Rattle.std.proofs.Common.{◌≡◌, ◌∙◌, refl, ap, sym, ℕ, zero, suc, ◌+◌, Bool, true, false, Option, Some, None, List, [], ◌∷◌, ◌++◌, map, option_map, if◌then◌else◌}
+use Rattle.std.proofs.Common.{◌≡◌, ◌∙◌, refl, ap, ℕ, zero, suc, ◌+◌, Bool, true, false, Option, Some, None, List, [], ◌∷◌, ◌++◌, map, option_map, if◌then◌else◌}
 use Rattle.std.specs.Prelude.{get_or, unwrap_or}
-use Rattle.std.proofs.lemmas.List.{map-append}
 use Rattle.pt_base.specs.declared.int_type.IntType.{IntType}
 use Rattle.pt_base.specs.declared.int_type.IntType.TheVariants as int
 use Rattle.pt_base.specs.declared.span.Span.{Span}
@@ -18,7 +17,7 @@ use Rattle.typed_tree.specs.ExpressionTree as src
 use Rattle.typed_tree.specs.StatementTree as b
 use Rattle.typed_tree.specs.StatementTree.{BodyTree, ElseTree, no_else, otherwise, BodyTrees, no_bodies, body_and, section, SectionTrees, no_sections, section_and}
 use Rattle.pt_int.specs.declared.operator.BinOp.TheVariants.{Le}
-use Rattle.pt_core.specs.CodeTree.{PlaceTree, StmtTree, StmtTrees, assign, binary, break_out, choose, clear, give_back, no_stmts, repeat, stmt_trees}
+use Rattle.pt_core.specs.CodeTree.{PlaceTree, assign, binary, break_out, choose, clear, give_back, repeat, stmt_trees}
 use Rattle.pt_core.specs.Types.{type_at}
 use Rattle.source_meaning.specs.Expressions.{type_of}
 use Rattle.source_meaning.specs.Statements.{count_of, is_default, no_expr, section_with}
@@ -28,7 +27,7 @@ use Rattle.lowering.specs.Expressions.{copied, effects_in, given, is_struct, obj
 use Rattle.lowering.specs.Leaves.{Step, to_element, to_field, Ways, at_end_of, leaf_places, stepped_to, ways_of}
 use Rattle.lowering.specs.Statements.{Code, Onward, nowhere as in_no_loop, to_head, past_flag, onwards, outermost, number, inside, behind_switch, variable, variable_place, items_in, value_stored, initialised, declared, tested_by, tested, looped, on_the_way_back, first_told, case_of, cases_from, otherwise_of, section_by, switch_temps, switched, chosen, returned, begun, statement_in, otherwise_in, all_in, sections_in}
 use Rattle.lowered_places_law.specs.BareTrees.{bare, bare_bodies, bare_body, bare_declarator, bare_else, bare_for_init, bare_init, bare_label, bare_sections, nowhere}
-use Rattle.lowered_places_law.specs.BareCode.{bare_stmt, bare_stmts, bare_target, bare_value}
+use Rattle.lowered_places_law.specs.BareCode.{bare_stmt, bare_target, bare_value}
 use Rattle.lowered_places_law.proofs.Forms.{as_int_bare, bare_effects, bare_found, bare_lowered, bare_temp, copied_bare, given_bare, past_bare, stmts_bare, temps_bare, three_temps, trees_bare, type_bare, with_field_bare}
 use Rattle.lowered_places_law.proofs.Expressions.{effects_bare, object_bare, value_bare}
 

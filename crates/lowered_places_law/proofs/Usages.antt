@@ -5,7 +5,6 @@ use Rattle.std.specs.List.{flat_map}
 use Rattle.std.proofs.lemmas.List.{map-append}
 use Rattle.std.proofs.lemmas.Option.{slice_get-map}
 use Rattle.pt_base.specs.declared.ids.FnId.{FnId}
-use Rattle.pt_base.specs.declared.ids.GlobalId.{GlobalId}
 use Rattle.pt_base.specs.declared.ids.VarId.{VarId}
 use Rattle.typed_tree.specs.declared.part.Part.{Part}
 use Rattle.typed_tree.specs.declared.part.Role.{Role}
@@ -18,8 +17,8 @@ use Rattle.typed_tree.specs.declared.statement.TypedForInit.{TypedForInit}
 use Rattle.typed_tree.specs.declared.statement.TypedForInit.TheVariants as begin
 use Rattle.typed_tree.specs.ExpressionTree as src
 use Rattle.typed_tree.specs.ExpressionTree.{ExprTree, typed, FormTree, ExprTrees, no_exprs, expr_and, LinkTrees, no_links, link_and, link, OperandTrees, no_operands, operand_and, operand, RootTree, StepTrees, no_steps, step_and}
-use Rattle.typed_tree.specs.Lookup.{body_of, function_at, parts_in}
-use Rattle.typed_tree.specs.Parts.{part_of, optional_part, init_parts, declarator_parts, declaration_parts, for_init_parts, parts_of, else_parts, all_parts, section_parts, function_parts}
+use Rattle.typed_tree.specs.Lookup.{function_at, parts_in}
+use Rattle.typed_tree.specs.Parts.{part_of, optional_part, init_parts, declaration_parts, for_init_parts, parts_of, else_parts, all_parts, section_parts, function_parts}
 use Rattle.typed_tree.specs.StatementTree as b
 use Rattle.typed_tree.specs.StatementTree.{BodyTree, ElseTree, no_else, otherwise, BodyTrees, no_bodies, body_and, section, SectionTrees, no_sections, section_and}
 use Rattle.typed_tree.specs.TypedTree.{FunctionTree, TypedTree}
@@ -28,7 +27,7 @@ use Rattle.usages.specs.declared.usage.How.{How}
 use Rattle.usages.specs.declared.usage.How.TheVariants.{Kept, Operated, Passed}
 use Rattle.usages.specs.Usages.{UsageTree, used, converted, evaluated, form_usages, argument_usages, link_usages, operand_usages, place_usages, root_usages, step_usages, how_of, item_number, part_usages, parts_usages, usages_in}
 use Rattle.reach.specs.Contexts.{callees_in, expr_callees, expr_globals, form_callees, form_globals, globals_in, place_globals, root_globals}
-use Rattle.lowered_places_law.specs.BareTrees.{bare, bare_all, bare_bodies, bare_body, bare_declarator, bare_else, bare_for_init, bare_form, bare_function, bare_init, bare_links, bare_operands, bare_place, bare_program, bare_root, bare_sections, bare_steps, nowhere}
+use Rattle.lowered_places_law.specs.BareTrees.{bare, bare_all, bare_bodies, bare_body, bare_declarator, bare_else, bare_for_init, bare_form, bare_function, bare_init, bare_links, bare_operands, bare_place, bare_program, bare_root, bare_sections, bare_steps}
 
 abbrev bare_usage : UsageTree → UsageTree
 bare_usage u = used u.how (bare u.value)

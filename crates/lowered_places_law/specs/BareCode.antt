@@ -1,6 +1,6 @@
 -- Code of the normal form without the places of the text that it tells.
-use Rattle.std.specs.Prelude.{Option, map, option_map}
-use Rattle.pt_core.specs.CodeTree.{RootTree, local, global, deref, PlaceTree, place, ExprTree, constant, read, unary, binary, convert, null, address, decay, move, compare, difference, ExprTrees, no_exprs, expr_and, StmtTree, clear, check, assign, copy, call, choose, repeat, break_out, continue_on, give_back, StmtTrees, no_stmts, stmt_and, FunctionTree, GlobalTree, BootTree}
+use Rattle.std.specs.Prelude.{map, option_map}
+use Rattle.pt_core.specs.CodeTree.{RootTree, local, global, deref, PlaceTree, place, ExprTree, constant, read, unary, binary, convert, null, address, decay, move, compare, difference, ExprTrees, no_exprs, expr_and, StmtTree, clear, check, assign, copy, call, choose, repeat, break_out, continue_on, give_back, StmtTrees, no_stmts, stmt_and, FunctionTree}
 use Rattle.lowered_places_law.specs.BareTrees.{bare_var, nowhere}
 
 abbrev mutual

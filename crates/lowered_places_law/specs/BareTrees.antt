@@ -1,5 +1,5 @@
 -- Typed trees without where their parts stand in the text.
-use Rattle.std.specs.Prelude.{Option, map, option_map}
+use Rattle.std.specs.Prelude.{map, option_map}
 use Rattle.pt_base.specs.declared.span.Span.{Span}
 use Rattle.typed_tree.specs.declared.variable.Var.{Var}
 use Rattle.typed_tree.specs.declared.variable.TypedGlobal.{TypedGlobal}
@@ -12,7 +12,7 @@ use Rattle.typed_tree.specs.declared.statement.TypedDeclaration.{TypedDeclaratio
 use Rattle.typed_tree.specs.declared.statement.TypedForInit.{TypedForInit}
 use Rattle.typed_tree.specs.declared.statement.TypedForInit.TheVariants as f
 use Rattle.typed_tree.specs.ExpressionTree as e
-use Rattle.typed_tree.specs.ExpressionTree.{ExprTree, typed, FormTree, ExprTrees, no_exprs, expr_and, LinkTree, link, LinkTrees, no_links, link_and, operand, OperandTrees, no_operands, operand_and, PlaceTree, RootTree, StepTree, StepTrees, no_steps, step_and}
+use Rattle.typed_tree.specs.ExpressionTree.{ExprTree, typed, FormTree, ExprTrees, no_exprs, expr_and, link, LinkTrees, no_links, link_and, operand, OperandTrees, no_operands, operand_and, PlaceTree, RootTree, StepTrees, no_steps, step_and}
 use Rattle.typed_tree.specs.StatementTree as s
 use Rattle.typed_tree.specs.StatementTree.{BodyTree, ElseTree, no_else, otherwise, BodyTrees, no_bodies, body_and, section, SectionTrees, no_sections, section_and}
 use Rattle.typed_tree.specs.TypedTree.{FunctionTree, TypedTree}

@@ -4,3 +4,4 @@ mod Outermost
 mod Statements
 pub mod Parts
 pub mod Bodies
+mod Worked
