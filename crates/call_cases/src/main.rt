@@ -2,6 +2,7 @@
 #![tactic(auto)]
 
 mod calls;
+mod failures;
 mod files;
 mod locals;
 mod outside;

@@ -1,5 +1,6 @@
 // The files that rows have set, and what each row shows.
 use crate::calls::{call, check, linked, original, split};
+use crate::failures::failures;
 use crate::files::Files;
 use crate::locals::{local, orders};
 use crate::watched::{checked, watched};
@@ -34,6 +35,7 @@ impl Shows for Session {
             "file" => self.files.set(alloc, rest),
             "link" => self.files.give(alloc, rest),
             "failing" => self.files.fail(alloc, rest),
+            "failures" => failures(rt, alloc, &mut self.files, rest),
             "run" => call(rt, alloc, &mut self.files, rest),
             "linked" => linked(rt, alloc, &mut self.files, rest),
             "local" => local(rt, alloc, &mut self.files, rest),
