@@ -1,4 +1,6 @@
 // Lists of rows, and what each row shows.
+ghost use Rattle.std.specs.Thread.{IsSync};
+
 use anyhow::{Context, Result, bail};
 use std::alloc::Global;
 use std::rt::Runtime;
@@ -16,7 +18,8 @@ pub trait Shows {
     /// # Errors
     ///
     /// A row of no such form, and want of memory.
-    fn shown<R: Threads + Sync>(&mut self, rt: &R, alloc: Global, row: &str) -> Result<String>;
+    fn shown<R: Threads + Sync>(&mut self, rt: &R, alloc: Global, row: &str) -> Result<String>
+        requires { IsSync R.row };
 }
 
 /// Prints what each row of each list shows, in order. Titles and blank lines are printed as they are. The

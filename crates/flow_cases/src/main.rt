@@ -2,13 +2,12 @@
 //! on a program's functions in threads.
 #![tactic(auto)]
 
-mod lists;
 mod paths;
 mod session;
 mod threads;
 
 use anyhow::Result;
-use lists::show_lists;
+use case_rows::show_lists;
 use session::Session;
 use std::rt::Runtime;
 use std::thread::{Builder, Threads};

@@ -28,7 +28,9 @@ fn end_of(alloc: Global, span: Span) -> Result<Vec<u8>, AllocError>
 
 impl LineEnd {
     /// That of a variable whose name stands here.
-    pub fn new(alloc: Global, span: Span) -> Result<LineEnd, AllocError> {
+    pub fn new(alloc: Global, span: Span) -> Result<LineEnd, AllocError>
+        ensures { IfOk result (λ end. end.span ≡ span) }
+    {
         let text = end_of(alloc, span)?;
         Ok(LineEnd { span, text })
     }

@@ -5,7 +5,7 @@ use Rattle.std.specs.List.{Contains}
 use Rattle.std.proofs.lemmas.List.Elements.{Contains-get_or}
 use Rattle.pt_base.specs.declared.span.Span.{Span}
 use Rattle.propagation.specs.Marks.{AreMarks, Shown, path_shown}
-use Rattle.propagation.specs.Paths.{IsPriv, IsSimplePath}
+use Rattle.propagation.specs.Paths.{IsPriv, IsShortestPath}
 use Rattle.reach.specs.Tables.{slot_number}
 use Rattle.sides.specs.declared.halves.Sides.{Sides}
 use Rattle.sides.specs.Slots.{slots_of}
@@ -21,13 +21,13 @@ use Rattle.flow_faults_law.proofs.PrivFindings.{all_findings, priv_below}
 module _ (t : TypedTree) (s : Sides) (marks : Shown) (are : AreMarks s.seeds (edges_of_all t s) (length (slots_of t)) marks) where
   -- ---- ways
 
-  simple_way : (n : ℕ) → is_some (path_shown marks (slot_number n)) ≡ true → (path : List ℕ) × IsSimplePath s.seeds (edges_of_all t s) path (slot_number n)
-  simple_way n h =
+  shortest_way : (n : ℕ) → is_some (path_shown marks (slot_number n)) ≡ true → (path : List ℕ) × IsShortestPath s.seeds (edges_of_all t s) path (slot_number n)
+  shortest_way n h =
       let below : n < length marks = priv_below marks n h in
       let size : length marks ≡ length (slots_of t) = are.size in
       go (path_shown marks (slot_number n)) h (are.paths (slot_number n) (omega (arith, below, size)))
     where
-      go : (o : Option (List ℕ)) → is_some o ≡ true → MatchOption o (¬ IsPriv s.seeds (edges_of_all t s) (slot_number n)) (λ path. IsSimplePath s.seeds (edges_of_all t s) path (slot_number n)) → (path : List ℕ) × IsSimplePath s.seeds (edges_of_all t s) path (slot_number n)
+      go : (o : Option (List ℕ)) → is_some o ≡ true → MatchOption o (¬ IsPriv s.seeds (edges_of_all t s) (slot_number n)) (λ path. IsShortestPath s.seeds (edges_of_all t s) path (slot_number n)) → (path : List ℕ) × IsShortestPath s.seeds (edges_of_all t s) path (slot_number n)
       go None h m = cc
       go (Some path) h m = (path, m)
 
@@ -37,7 +37,7 @@ module _ (t : TypedTree) (s : Sides) (marks : Shown) (are : AreMarks s.seeds (ed
   way_to : (slots : List ℕ) → ((n : ℕ) → Contains slots n → is_some (path_shown marks (slot_number n)) ≡ true) → HasWay slots
   way_to [] all = ([], refl)
   way_to (n ∷ ns) all =
-      let way = simple_way n (all n (in_first n ns)) in
+      let way = shortest_way n (all n (in_first n ns)) in
       (spans_of (edges_of_all t s) way.0, (n, way.0, in_first n ns, way.1, refl))
 
   -- ---- faults

@@ -4,12 +4,12 @@ use Rattle.std.specs.Prelude.{is_some, MatchOption}
 use Rattle.pt_base.specs.declared.slot.Edge.{Edge}
 use Rattle.pt_base.specs.declared.slot.Slot.{Slot}
 use Rattle.propagation.specs.Marks.{AreMarks, Shown, path_shown}
-use Rattle.propagation.specs.Paths.{IsPriv, IsSimplePath}
+use Rattle.propagation.specs.Paths.{IsPriv, IsShortestPath}
 use Rattle.reach.specs.Tables.{slot_number}
 use Rattle.flow_rules.specs.Laws.{FlowsAreOwn}
 
 told : (seeds : List Slot) (edges : List Edge) (s : Slot) (o : Option (List ℕ)) →
-    MatchOption o (¬ IsPriv seeds edges s) (λ path. IsSimplePath seeds edges path s) → (is_some o ≡ true) ↔ IsPriv seeds edges s
+    MatchOption o (¬ IsPriv seeds edges s) (λ path. IsShortestPath seeds edges path s) → (is_some o ≡ true) ↔ IsPriv seeds edges s
 told seeds edges s None none = (λ h. cc, λ p. absurd (none p))
 told seeds edges s (Some path) is = (λ h. (is.0, path, is.1, is.2), λ p. refl)
 

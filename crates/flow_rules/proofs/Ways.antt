@@ -1,12 +1,10 @@
 -- A fault with its way, tried: main returns what `get` has put behind its pointer.
-use Rattle.std.proofs.Common.{◌≢◌, ℕ, refl, ap, sym, subst, arith, true, false, List, [], ◌∷◌}
-use Rattle.std.specs.List.{AllPairs, Contains}
-use Rattle.std.proofs.lemmas.List.Elements.{All-cons, All-nil}
-use Rattle.std.proofs.lemmas.List.Kept.{AllPairs-cons}
+use Rattle.std.proofs.Common.{◌≡◌, ◌≢◌, ◌∙◌, ◌<◌, ◌≤◌, ◌⊎◌, ℕ, zero, suc, refl, ap, sym, subst, inl, inr, arith, true, false, List, [], ◌∷◌, length}
+use Rattle.std.specs.List.{Contains}
 use Rattle.pt_base.specs.declared.slot.Edge.{Edge}
 use Rattle.pt_base.specs.declared.slot.Slot.{Slot}
-use Rattle.propagation.specs.Paths.{IsSimplePath}
-use Rattle.reach.proofs.ListLemmas.{contains_first}
+use Rattle.propagation.specs.Paths.{from_of, to_of, IsShortestPath, Leads}
+use Rattle.reach.proofs.ListLemmas.{contains_cases, contains_first, contains_nothing}
 use Rattle.sides.proofs.Worked.{span}
 use Rattle.reach.specs.Tables.{slot_number}
 use Rattle.flow_edges.proofs.Worked.{edge}
@@ -29,21 +27,29 @@ told = record { rule = PrivStatus; span = span 114 115; path = span 63 70 ∷ sp
 differ : (a b : ℕ) → a ≢ b → slot_number a ≢ slot_number b
 differ a b h e = h (ap (λ (s : Slot). s.0) e)
 
-abbrev Differs : Slot → Slot → Type 0
-Differs a b = a ≢ b
+only_seed : (seed : Slot) → Contains (slot_number 3 ∷ []) seed → slot_number 3 ≡ seed
+only_seed seed is = go (contains_cases (slot_number 3) [] seed is)
+  where
+    go : (slot_number 3 ≡ seed) ⊎ Contains [] seed → slot_number 3 ≡ seed
+    go (inl e) = e
+    go (inr none) = absurd (contains_nothing seed none)
 
-distinct : AllPairs Differs (slot_number 3 ∷ slot_number 1 ∷ slot_number 2 ∷ [])
-distinct =
-    AllPairs-cons Differs (slot_number 3) (slot_number 1 ∷ slot_number 2 ∷ [])
-    (All-cons (Differs (slot_number 3)) (slot_number 1) (slot_number 2 ∷ []) (differ 3 1 (λ e. absurd (omega (arith, e))))
-    (All-cons (Differs (slot_number 3)) (slot_number 2) [] (differ 3 2 (λ e. absurd (omega (arith, e)))) (All-nil (Differs (slot_number 3)))))
-    (AllPairs-cons Differs (slot_number 1) (slot_number 2 ∷ [])
-    (All-cons (Differs (slot_number 1)) (slot_number 2) [] (differ 1 2 (λ e. absurd (omega (arith, e)))) (All-nil (Differs (slot_number 1))))
-    (AllPairs-cons Differs (slot_number 2) [] (All-nil (Differs (slot_number 2))) (λ i j d lt below. absurd (omega arith))))
+-- no edge leads from what `load` returns to a
+no_edge_there : (k : ℕ) → k < length ways → from_of ways k ≡ slot_number 3 → to_of ways k ≡ slot_number 2 → ⊥
+no_edge_there zero lt from to = differ 1 2 (λ e. absurd (omega (arith, e))) to
+no_edge_there (suc zero) lt from to = differ 2 3 (λ e. absurd (omega (arith, e))) from
+no_edge_there (suc (suc zero)) lt from to = differ 1 3 (λ e. absurd (omega (arith, e))) from
+no_edge_there (suc (suc (suc zero))) lt from to = differ 2 3 (λ e. absurd (omega (arith, e))) from
+no_edge_there (suc (suc (suc (suc k)))) lt from to = absurd (omega (arith, lt))
+
+fewest : (seed : Slot) (path : List ℕ) → Contains (slot_number 3 ∷ []) seed → Leads ways path seed (slot_number 2) → 2 ≤ length path
+fewest seed [] is leads = absurd (differ 3 2 (λ e. absurd (omega (arith, e))) (only_seed seed is ∙ leads))
+fewest seed (k ∷ []) is leads = absurd (no_edge_there k leads.0 (leads.1 ∙ sym (only_seed seed is)) leads.2)
+fewest seed (k ∷ j ∷ path) is leads = omega arith
 
 -- from what `load` returns to what p points to, and on to a
-way : IsSimplePath (slot_number 3 ∷ []) ways (0 ∷ 2 ∷ []) (slot_number 2)
-way = (slot_number 3, contains_first (slot_number 3) [], (omega arith, refl, (omega arith, refl, refl)), distinct)
+way : IsShortestPath (slot_number 3 ∷ []) ways (0 ∷ 2 ∷ []) (slot_number 2)
+way = (slot_number 3, contains_first (slot_number 3) [], (omega arith, refl, (omega arith, refl, refl)), fewest)
 
 returned : IsFault looked (slot_number 3 ∷ []) ways told
 returned = (

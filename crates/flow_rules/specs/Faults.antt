@@ -9,7 +9,7 @@ use Rattle.pt_base.specs.declared.slot.Edge.{Edge}
 use Rattle.pt_base.specs.declared.slot.Slot.{Slot}
 use Rattle.pt_base.specs.declared.span.Span.{Span}
 use Rattle.propagation.specs.Marks.{AreMarks, Shown, path_shown}
-use Rattle.propagation.specs.Paths.{IsPriv, IsSimplePath, no_edge}
+use Rattle.propagation.specs.Paths.{IsPriv, IsShortestPath, no_edge}
 use Rattle.sides.specs.declared.halves.Sides.{Sides}
 use Rattle.reach.specs.Contexts.{InMonitor, InSlave}
 use Rattle.sides.specs.Placed.{AreSides}
@@ -63,11 +63,12 @@ Tells fault x = (fault.rule ≡ x.rule) × (fault.span ≡ x.span)
 abbrev pub spans_of : List Edge → List ℕ → List Span
 spans_of edges path = map (λ k. (slice_index_or edges k no_edge).span) path
 
--- how a secret comes to one of these slots: along edges from a seed, to no slot twice; nothing where there are none
+-- how a secret comes to one of these slots: along edges from a seed, as few as there can be; nothing where there
+-- are none
 abbrev pub ShowsWay : List Slot → List Edge → List Span → List ℕ → Type 0
 ShowsWay seeds edges spans [] = spans ≡ []
 ShowsWay seeds edges spans (s ∷ ss) =
-    (n : ℕ) × (path : List ℕ) × Contains (s ∷ ss) n × IsSimplePath seeds edges path (slot_number n) × (spans ≡ spans_of edges path)
+    (n : ℕ) × (path : List ℕ) × Contains (s ∷ ss) n × IsShortestPath seeds edges path (slot_number n) × (spans ≡ spans_of edges path)
 
 -- a fault tells of something that was found, and how a secret came there
 abbrev pub IsFault : Flows → List Slot → List Edge → FlowFault → Type 0

@@ -6,7 +6,7 @@ use Rattle.std.specs.Ordering.{nat_cmp, ordering_then}
 use Rattle.pt_base.specs.declared.slot.Edge.{Edge}
 use Rattle.pt_base.specs.declared.slot.Slot.{Slot}
 use Rattle.pt_base.specs.declared.span.Span.{Span}
-use Rattle.propagation.specs.Paths.{IsSimplePath}
+use Rattle.propagation.specs.Paths.{IsShortestPath}
 use Rattle.reach.specs.Tables.{slot_number}
 use Rattle.flow_rules.specs.declared.fault.FlowFault.{FlowFault}
 use Rattle.flow_rules.specs.declared.found.Found.{Found}
@@ -32,10 +32,10 @@ IsShownPriv p slot = (s : ℕ) → slot ≡ Some s → p.is_priv s ≡ true
 abbrev pub AllShownPriv : Flows → List Found → Type 0
 AllShownPriv p xs = (x : Found) → Contains xs x → IsShownPriv p x.slot
 
--- how a secret comes to a slot: along edges from a seed, to no slot twice; nothing where there is none
+-- how a secret comes to a slot: along edges from a seed, as few as there can be; nothing where there is none
 abbrev pub ShowsWayTo : List Slot → List Edge → List Span → Option ℕ → Type 0
 ShowsWayTo seeds edges spans None = spans ≡ []
-ShowsWayTo seeds edges spans (Some s) = (path : List ℕ) × IsSimplePath seeds edges path (slot_number s) × (spans ≡ spans_of edges path)
+ShowsWayTo seeds edges spans (Some s) = (path : List ℕ) × IsShortestPath seeds edges path (slot_number s) × (spans ≡ spans_of edges path)
 
 -- a fault tells what was kept
 abbrev pub TellsKept : List Slot → List Edge → Found → FlowFault → Type 0

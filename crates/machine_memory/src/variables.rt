@@ -13,6 +13,7 @@ use crate::packing::{cell_at, is_wide};
 use crate::place::Found;
 use block_memory::Cell;
 use pt_base::IntType;
+use word_arithmetic::word;
 
 #[tactic(auto, unfolding(crate::specs::Memory::blocks_of, crate::specs::Memory::layouts_of, crate::specs::Memory::frame_at, crate::specs::Memory::live_count))]
 impl MachineMemory {
@@ -117,7 +118,7 @@ fn word_in(layouts: &[Layout], frame: &Frame, var: u32, cell: u32, wide: bool) -
     ensures { IfSome result (λ w. slice_get (slice_index_or (blocks_in (layout_in layouts.now frame.now.layout) frame.now) var no_block).cells cell ≡ Some (Int (number_of wide w))) }
 {
     if frame.is_open() {
-        return None;
+        return word_of_open(frame.cells(var as usize), cell as usize, wide);
     }
     match find_in(layouts, frame.layout(), var, cell) {
         Found::Integer(place) => {
@@ -128,6 +129,19 @@ fn word_in(layouts: &[Layout], frame: &Frame, var: u32, cell: u32, wide: bool) -
             }
         }
         Found::Pointer(_) | Found::Missing => None,
+    }
+}
+
+// The word of an integer among the cells of an open frame's variable, if it is there and has one.
+fn word_of_open(cells: &[Cell], at: usize, wide: bool) -> Option<i64>
+    ensures { IfSome result (λ w. slice_get cells.now at ≡ Some (Int (number_of wide w))) }
+{
+    if at >= cells.len() {
+        return None;
+    }
+    match cells[at] {
+        Cell::Int(v) => word(v, wide),
+        Cell::Ptr(_) | Cell::Sealed(_) => None,
     }
 }
 

@@ -23,7 +23,7 @@ impl MachineMemory {
     ghost use Rattle.block_memory.specs.declared.cell.BlockName.TheVariants.{Local};
     ghost use Rattle.block_memory.specs.Block.{with_cell};
     ghost use Rattle.block_memory.specs.Blocks.{HasRoom, put};
-    ghost use Rattle.machine_memory.specs.Memory.{blocks_of, IsOpen, layouts_of, live_count};
+    ghost use Rattle.machine_memory.specs.Memory.{blocks_of, IsOpen, layouts_of, live_count, Stands};
     ghost use Rattle.machine_memory.specs.Puts.{Puts};
 
     /// Writes a cell, if it is there. All others stay, and all of them where memory is wanting.
@@ -89,10 +89,11 @@ impl MachineMemory {
     }
 
     // Writes a cell of an open frame, if it is there.
-    fn write_opened(&mut self, depth: u32, var: u32, cell: u32, c: Cell)
+    pub(crate) fn write_opened(&mut self, depth: u32, var: u32, cell: u32, c: Cell)
         requires { depth < live_count self.old → IsOpen self.old depth }
         ensures written { blocks_of self.new ≡ put (blocks_of self.old) (Local depth var) (with_cell (blocks_of self.old (Local depth var)) cell c) }
         ensures open { (d : ℕ) → IsOpen self.old d → IsOpen self.new d }
+        ensures stands { (d l : ℕ) → Stands self.old d l → Stands self.new d l }
         ensures layouts { layouts_of self.new ≡ layouts_of self.old }
     {
         let at = depth as usize;

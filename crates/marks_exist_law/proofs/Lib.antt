@@ -1,3 +1,3 @@
 mod Ways
-mod SimpleWays
+mod ShortestWays
 pub mod Marks

@@ -1,4 +1,4 @@
--- Marks, slot by slot: of each one a way from the first seed from which one leads.
+-- Marks, slot by slot: of each one a shortest way from a seed, if one leads there.
 use Rattle.std.proofs.Common.{◌≡◌, ◌∙◌, ◌<◌, ◌≤◌, ◌⊎◌, ℕ, zero, suc, List, [], ◌∷◌, ◌++◌, length, get_or, Option, Some, None, refl, sym, subst, inl, inr, arith}
 use Rattle.std.specs.Prelude.{MatchOption}
 use Rattle.std.specs.List.{Contains}
@@ -6,12 +6,12 @@ use Rattle.std.proofs.lemmas.Bool.{cases_lt}
 use Rattle.std.proofs.lemmas.List.{get_or_append_left, get_or_at, length-append}
 use Rattle.pt_base.specs.declared.slot.Slot.{Slot}
 use Rattle.pt_base.specs.declared.slot.Edge.{Edge}
-use Rattle.propagation.specs.Paths.{Leads, IsPriv, IsSimplePath}
+use Rattle.propagation.specs.Paths.{Leads, IsPriv, IsShortestPath}
 use Rattle.propagation.specs.Marks.{AreMarks, Shown, path_shown}
 use Rattle.propagation.proofs.SlotLemmas.{same_slot}
 use Rattle.marks_exist_law.specs.Laws.{ThereAreMarks}
 use Rattle.marks_exist_law.proofs.Ways.{way_or_none}
-use Rattle.marks_exist_law.proofs.SimpleWays.{in_nothing, in_first, in_later, in_cases, simple}
+use Rattle.marks_exist_law.proofs.ShortestWays.{in_nothing, in_first, in_later, in_cases, shortest}
 
 module _ (edges : List Edge) where
   -- a way leads there from one of the seeds, or from none
@@ -31,13 +31,13 @@ module _ (edges : List Edge) where
   module _ (seeds : List Slot) where
     -- what is shown of a slot
     abbrev IsShown : Slot → Option (List ℕ) → Type 0
-    IsShown s o = MatchOption o (¬ IsPriv seeds edges s) (λ path. IsSimplePath seeds edges path s)
+    IsShown s o = MatchOption o (¬ IsPriv seeds edges s) (λ path. IsShortestPath seeds edges path s)
 
     shown : (s : Slot) → (o : Option (List ℕ)) × IsShown s o
     shown s = go (priv_or_not seeds s)
       where
         go : IsPriv seeds edges s ⊎ (IsPriv seeds edges s → ⊥) → (o : Option (List ℕ)) × IsShown s o
-        go (inl p) = let w = simple edges p.1 p.0 s p.3 in (Some w.0, (p.0, p.2, w.1, w.2))
+        go (inl p) = let w = shortest edges seeds s p in (Some w.0, w.1)
         go (inr none) = (None, none)
 
     all_shown : (slots : ℕ) → (marks : Shown) × AreMarks seeds edges slots marks

@@ -4,6 +4,7 @@ pub mod LeafLemmas
 pub mod Lists
 pub mod NameLemmas
 pub mod RangeLemmas
+pub mod ReachLemmas
 pub mod ReplyLemmas
 pub mod ReturnLemmas
 pub mod SealingLemmas

@@ -1,5 +1,5 @@
 -- When a body is one for a signature.
-use Rattle.std.specs.Prelude.{ℕ, suc, ◌+◌, ◌*◌, List, [], ◌∷◌, Bool, true, false, ◌&&◌, ◌||◌, length, drop, nat_eq, nat_lt, nat_le, slice_index_or}
+use Rattle.std.specs.Prelude.{ℕ, suc, ◌+◌, ◌*◌, List, [], ◌∷◌, Bool, true, false, ◌&&◌, ◌||◌, Option, Some, None, length, drop, nat_eq, nat_lt, nat_le, slice_index_or, if◌then◌else◌}
 use Rattle.std.specs.List.{list_all, list_any}
 use Rattle.pt_base.specs.declared.int_type.IntType.{IntType}
 use Rattle.pt_int.specs.Conversion.{is_in_range}
@@ -64,6 +64,30 @@ fit_all structs blocks [] [] = true
 fit_all structs blocks [] (a ∷ args) = false
 fit_all structs blocks (p ∷ params) [] = false
 fit_all structs blocks (p ∷ params) (a ∷ args) = fits_kind structs blocks p.marked p.kind a && fit_all structs blocks params args
+
+-- ---- what pointers reach
+
+-- a size, where it isn't over this one
+abbrev pub up_to : ℕ → ℕ → Option ℕ
+up_to most size = if nat_le size most then Some size else None
+
+-- what a pointer to elements of this size reaches lies in a block that is there, with one element at least
+abbrev pub lies_within : List (List (IntType × WireCell)) → ℕ → Arg → Bool
+lies_within blocks size (argument.Number v) = true
+lies_within blocks size (argument.Sealed handle) = true
+lies_within blocks size argument.Null = true
+lies_within blocks size (argument.At block base count index) =
+    nat_lt block (length blocks) && (nat_le 1 count && nat_le (base + count * size) (length (slice_index_or blocks block [])))
+
+abbrev pub kind_within : List StructInfo → List (List (IntType × WireCell)) → ParamKind → Arg → Bool
+kind_within structs blocks (kind.Int t) a = true
+kind_within structs blocks (kind.Ptr elem fixed) a = lies_within blocks (length (leaves_of structs elem)) a
+
+-- what each pointer reaches does
+abbrev pub all_within : List StructInfo → List (List (IntType × WireCell)) → List Param → List Arg → Bool
+all_within structs blocks [] args = true
+all_within structs blocks (p ∷ params) [] = true
+all_within structs blocks (p ∷ params) (a ∷ args) = kind_within structs blocks p.kind a && all_within structs blocks params args
 
 -- ---- blocks
 

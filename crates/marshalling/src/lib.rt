@@ -20,6 +20,7 @@ mod plan;
 mod posting;
 mod range;
 mod ranges;
+mod reach;
 mod replies;
 mod reply_shape;
 mod returned;

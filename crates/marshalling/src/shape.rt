@@ -1,14 +1,15 @@
 // Whether a body is one for a signature.
-ghost use Rattle.std.specs.Prelude.{◌≡◌, ◌+◌, ◌*◌, ◌<◌, ◌^◌, IsTrue, IfOk, length, nat_le};
+ghost use Rattle.std.specs.Prelude.{◌≡◌, ◌<◌, ◌^◌, IsTrue, IfOk, OnErr, length};
 ghost use Rattle.std.specs.List.{list_all, list_any, zip};
 ghost use Rattle.pt_int.specs.Conversion.{is_in_range};
 ghost use Rattle.typed_tree.specs.Cells.{repeated};
 ghost use Rattle.typed_tree.specs.TypeTests.{place_of as place, same_int};
 ghost use Rattle.marshalling.specs.Leaves.{has_structs, is_elem, is_pointee, leaves_of, name_earlier};
-ghost use Rattle.marshalling.specs.Shape.{are_named as each_named, fit_all, fits_block, fits_integer, fits_kind, fits_leaf, fits_pointer, fits_range, is_number_of, is_shaped as shaped, is_typed, may_stand, points_into};
+ghost use Rattle.marshalling.specs.Shape.{all_within, are_named as each_named, fit_all, fits_block, fits_integer, fits_kind, fits_leaf, fits_pointer, fits_range, is_number_of, is_shaped as shaped, is_typed, may_stand, points_into};
 
 use crate::leaf::Leaf;
 use crate::leaves::element_cells;
+use crate::reach::{are_within, ends_within};
 use pt_base::IntType;
 use pt_int::in_range;
 use pt_tree::{Elem, Param, ParamKind};
@@ -17,6 +18,8 @@ use typed_tree::StructInfo;
 use wire::{Arg, Block, CallBody, WireCell};
 
 /// Whether the body is one for these parameters.
+///
+/// The cells of a struct are listed only where each pointer lies in its block, which is as long then.
 pub(crate) fn is_shaped(
     alloc: Global,
     structs: &[StructInfo],
@@ -24,10 +27,14 @@ pub(crate) fn is_shaped(
     body: &CallBody,
 ) -> Result<bool, AllocError>
     requires { IsTrue (has_structs structs.now params.now) }
-    ensures { IfOk result (λ is. is ≡ shaped structs.now params.now body.now) }
+    ensures answer { IfOk result (λ is. is ≡ shaped structs.now params.now body.now) }
+    ensures within { OnErr result (IsTrue (all_within structs.now body.now.blocks params.now body.now.args)) }
 {
     let args = body.args.as_slice();
     let blocks = body.blocks.as_slice();
+    if !are_within(structs, blocks, params, args) {
+        return Ok(false);
+    }
     if !arguments_fit(alloc, structs, blocks, params, args)? {
         return Ok(false);
     }
@@ -127,16 +134,6 @@ fn block_fits(
 {
     ends_within(leaves.len(), base, count, cells.len())
         && range_fits(marked, leaves, count, &cells[base as usize..])
-}
-
-// Whether so many elements of a size end within so many cells.
-fn ends_within(size: usize, base: u32, count: u32, cells: usize) -> bool
-    ensures { result ≡ nat_le (base + count * size) cells }
-{
-    match (count as usize).checked_mul(size) {
-        Some(reached) => reached <= cells && base as usize <= cells - reached,
-        None => false,
-    }
 }
 
 fn range_fits(marked: bool, leaves: &[Leaf], count: u32, cells: &[(IntType, WireCell)]) -> bool

@@ -1,8 +1,10 @@
 // What the receiver of a call makes of its body.
-ghost use Rattle.std.specs.Prelude.{◌≡◌, IsTrue, IfOk, map, slice_get};
+ghost use Rattle.std.specs.Prelude.{◌≡◌, Err, IsTrue, IfOk, map, slice_get};
 ghost use Rattle.block_memory.specs.declared.cell.Cell.TheVariants.{Int};
+ghost use Rattle.marshalling.specs.declared.fault.BadCall.TheVariants.{Memory};
 ghost use Rattle.marshalling.specs.Handles.{Answers, Opens, argument_fault, arguments_fault, block_fault, blocks_fault, cell_fault, entry_fault, handle_fault, inputs_unless, stored, unpacked, unpacked_argument, unpacked_cell, unpacking};
 ghost use Rattle.marshalling.specs.Leaves.{has_structs};
+ghost use Rattle.marshalling.specs.Shape.{all_within};
 
 use crate::fault::BadCall;
 use crate::inputs::Inputs;
@@ -21,6 +23,9 @@ use wire::{Arg, Block, CallBody, WireCell};
 /// A body that isn't one for the signature is `Shape`, whatever its handles are. Else the first
 /// faulty handle, by arguments and then by blocks, is `BadHandle` where the store has no such
 /// value, and `WrongType` where the value's type isn't the parameter's or the cell's.
+///
+/// Memory can be wanting only where each pointer lies in its block: a struct's cells are listed
+/// only where the body has as many.
 pub fn unpack_args(
     alloc: Global,
     store: &Store,
@@ -29,7 +34,8 @@ pub fn unpack_args(
     body: &CallBody,
 ) -> Result<Inputs, BadCall>
     requires { IsTrue (has_structs structs.now sig.now.params) }
-    ensures { Answers result (unpacking store.now structs.now sig.now.params body.now) }
+    ensures answer { Answers result (unpacking store.now structs.now sig.now.params body.now) }
+    ensures within { result ≡ Err Memory → IsTrue (all_within structs.now body.now.blocks sig.now.params body.now.args) }
 {
     let params = sig.params.as_slice();
     match is_shaped(alloc, structs, params, body) {

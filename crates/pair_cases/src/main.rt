@@ -4,7 +4,6 @@
 
 mod answers;
 mod frames;
-mod lists;
 mod session;
 mod slaves;
 mod streams;
@@ -12,7 +11,7 @@ mod supervised;
 mod texts;
 
 use anyhow::Result;
-use lists::show_lists;
+use case_rows::show_lists;
 use session::Session;
 use std::rt::Runtime;
 use std::thread::{Builder, Threads};

@@ -4,7 +4,7 @@ use crate::streams::{cuts, firsts};
 use crate::supervised::{failing, supervised};
 use crate::texts::Texts;
 use anyhow::{Result, bail};
-use case_rows::first_word;
+use case_rows::{Shows, first_word};
 use std::alloc::Global;
 use std::thread::Threads;
 
@@ -21,18 +21,14 @@ impl Session {
             texts: Texts::new(alloc),
         }
     }
+}
 
-    /// A list begins: what the rows of another one have set is gone.
-    pub fn begin_list(&mut self, alloc: Global) {
+impl Shows for Session {
+    fn begin_list(&mut self, alloc: Global) {
         self.texts = Texts::new(alloc);
     }
 
-    /// What a row shows, in one line or more. Its first word says what is done.
-    ///
-    /// # Errors
-    ///
-    /// A row of no such form, and want of memory.
-    pub fn shown<R: Threads + Sync>(&mut self, rt: &R, alloc: Global, row: &str) -> Result<String> {
+    fn shown<R: Threads + Sync>(&mut self, rt: &R, alloc: Global, row: &str) -> Result<String> {
         let (word, rest) = first_word(row);
         match word {
             "file" => self.texts.set(alloc, rest),

@@ -1,5 +1,5 @@
 -- What a call comes to, whatever its words ask for, and the status of a split.
-use Rattle.std.proofs.Common.{◌≡◌, ◌⊎◌, ℕ, List, [], length, get_or, sym, ◌∙◌, ap, subst, refl, arith, Option, Some, None, inl, inr}
+use Rattle.std.proofs.Common.{◌≡◌, ◌⊎◌, ℕ, nat_eq, true, false, List, [], length, get_or, sym, ◌∙◌, ap, subst, refl, arith, Option, Some, None, inl, inr}
 use Rattle.std.specs.Io.KnownBytes.{Appends, Keeps}
 use Rattle.pt_base.specs.Faults.{Rose}
 use Rattle.pt_base.specs.Files.{Files, Lacks}
@@ -10,7 +10,7 @@ use Rattle.program_split.specs.Split as halves
 use Rattle.program_split.specs.Split.{Outcome, refused, split as split_in}
 use Rattle.program_split.specs.Laws.{without_ways}
 use Rattle.program_split.proofs.OneOutcome.{outcome_is_one}
-use Rattle.privtrans_app.specs.Words.{IsCheck, IsHelp, IsLocal, IsOrig, IsProcessRun, IsRun, IsSlave, IsVersion, of_local, of_process_run, of_orig, of_check}
+use Rattle.privtrans_app.specs.Words.{IsCheck, IsGenerated, IsHelp, IsLocal, IsOrig, IsProcessRun, IsRun, IsSlave, IsVersion, of_local, of_process_run, of_orig, of_check}
 use Rattle.privtrans_app.specs.Ending as endings
 use Rattle.privtrans_app.specs.Ending.{Ending, help, version, exit, accepted, split, worked, usage, missing, read_fault, write_fault, faults, trapped, spent, link_fault, bad_peer, peer_ended, memory, status_of, Reports, StaysDown, EndsWith}
 use Rattle.privtrans_app.specs.Causes.{IsByForm, IsByFiles}
@@ -70,6 +70,25 @@ process_or_orig words a b = six_or_five (length words) (ap length a.are) (ap len
 
 pub process_or_check : {p h q i p' : List ℕ} {m : ℕ} (words : List (List ℕ)) → IsProcessRun words p h q i m → IsCheck words p' → ⊥
 process_or_check words a b = six_or_two (length words) (ap length a.are) (ap length b.are)
+
+-- the three words of a generated program are no other's
+not_three : (words : List (List ℕ)) (n : ℕ) → length words ≡ 3 → length words ≡ n → nat_eq n 3 ≡ false → ⊥
+not_three words n three is apart = clash (sym apart ∙ ap (λ m. nat_eq m 3) (sym is ∙ three))
+  where
+    clash : false ≡ true → ⊥
+    clash e = cc
+
+pub generated_or_run : {seed count : ℕ} (words names : List (List ℕ)) → IsGenerated words seed count → IsRun words names → ⊥
+generated_or_run words _ is (of_local p h q i m w form) = not_three words 7 (ap length is.are) (ap length form.are) refl
+generated_or_run words _ is (of_process_run p h q i m form) = not_three words 6 (ap length is.are) (ap length form.are) refl
+generated_or_run words _ is (of_orig p h i m form) = not_three words 5 (ap length is.are) (ap length form.are) refl
+generated_or_run words _ is (of_check p form) = not_three words 2 (ap length is.are) (ap length form.are) refl
+
+pub generated_or_split : {seed count : ℕ} (words : List (List ℕ)) (n : Names) → IsGenerated words seed count → AreSplit words n → ⊥
+generated_or_split words n is form = not_three words 4 (ap length is.are) (ap length form.are) refl
+
+pub generated_or_slave : {seed count : ℕ} (words : List (List ℕ)) → IsGenerated words seed count → IsSlave words → ⊥
+generated_or_slave words is form = not_three words 1 (ap length is.are) (ap length form) refl
 
 -- the one word of a slave is no other
 slave_or_help : (words : List (List ℕ)) → IsSlave words → IsHelp words → ⊥
@@ -214,10 +233,15 @@ module _ (untouched : Type 0) (moves : List Event → List ℕ → Type 0) (brea
     version = λ v. absurd (six_or_one (length words) (ap length is.form.are) (ap length v));
     usage = λ none plain. absurd (plain.no_run is.program is.host is.policy is.input is.turns is.form);
   }
-  calls_by_form w f files e (inr (inr (inr is))) tells = record {
+  calls_by_form w f files e (inr (inr (inr (inl is)))) tells = record {
     help = λ h. absurd (slave_or_help words is.form h);
     version = λ v. absurd (slave_or_version words is.form v);
     usage = λ none plain. absurd (plain.no_slave is.form);
+  }
+  calls_by_form w f files e (inr (inr (inr (inr is)))) tells = record {
+    help = λ h. absurd (not_three words 1 (ap length is.form.are) (one_of_help words h) refl);
+    version = λ v. absurd (not_three words 1 (ap length is.form.are) (ap length v) refl);
+    usage = λ none plain. absurd (plain.not_generated is.seed is.count is.form);
   }
 
   no_run : (files : Option Files) (e : Ending) → ComesBySplit files e → (names : List (List ℕ)) → IsRun words names → ⊥
@@ -246,12 +270,19 @@ module _ (untouched : Type 0) (moves : List Event → List ℕ → Type 0) (brea
     original = λ t turns out due held comes ends_so. absurd (process_or_orig words is.form held.form);
     checked = λ text out due held comes ends_so. absurd (process_or_check words is.form held.form);
   }
-  calls_by_files keeps w f files e r (inr (inr (inr is))) tells = record {
+  calls_by_files keeps w f files e r (inr (inr (inr (inl is)))) tells = record {
     missing = λ name reached lacks. absurd (more_than_one words _ reached.form (ap length is.form));
     paired = λ t turns window out held comes. absurd (more_than_one words _ (of_local _ _ _ _ _ _ held.form) (ap length is.form));
     faulty = λ t turns refusal held faulty. absurd (more_than_one words _ (of_process_run _ _ _ _ _ held.form) (ap length is.form));
     original = λ t turns out due held comes ends_so. absurd (more_than_one words _ (of_orig _ _ _ _ held.form) (ap length is.form));
     checked = λ text out due held comes ends_so. absurd (more_than_one words _ (of_check _ held.form) (ap length is.form));
+  }
+  calls_by_files keeps w f files e r (inr (inr (inr (inr is)))) tells = record {
+    missing = λ name reached lacks. absurd (generated_or_run words _ is.form reached.form);
+    paired = λ t turns window out held comes. absurd (generated_or_run words _ is.form (of_local _ _ _ _ _ _ held.form));
+    faulty = λ t turns refusal held faulty. absurd (generated_or_run words _ is.form (of_process_run _ _ _ _ _ held.form));
+    original = λ t turns out due held comes ends_so. absurd (generated_or_run words _ is.form (of_orig _ _ _ _ held.form));
+    checked = λ text out due held comes ends_so. absurd (generated_or_run words _ is.form (of_check _ held.form));
   }
 
   pub calls_by_split : (files : Files) (e : Ending) → StaysDown reads reads' → StaysDown fwrites fwrites' → StaysDown failed failed' → Comes (Some files) e → Told e → IsBySplit words files status
@@ -269,7 +300,11 @@ module _ (untouched : Type 0) (moves : List Event → List ℕ → Type 0) (brea
     missing = λ names form lacks. absurd (split_or_run words _ names form (of_process_run _ _ _ _ _ is.form));
     split = λ names text out form held comes. absurd (split_or_run words _ names form (of_process_run _ _ _ _ _ is.form));
   }
-  calls_by_split files e r w f (inr (inr (inr is))) tells = record {
+  calls_by_split files e r w f (inr (inr (inr (inl is)))) tells = record {
     missing = λ names form lacks. absurd (split_or_slave words names form is.form);
     split = λ names text out form held comes. absurd (split_or_slave words names form is.form);
+  }
+  calls_by_split files e r w f (inr (inr (inr (inr is)))) tells = record {
+    missing = λ names form lacks. absurd (generated_or_split words names is.form form);
+    split = λ names text out form held comes. absurd (generated_or_split words names is.form form);
   }

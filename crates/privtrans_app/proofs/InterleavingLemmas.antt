@@ -105,7 +105,7 @@ false_or_true : false ≡ true → ⊥
 false_or_true e = cc
 
 -- a status that is none of a run
-other : (n m : ℕ) → n ≡ m → of_run m ≡ false → IsOfRun n → ⊥
+pub other : (n m : ℕ) → n ≡ m → of_run m ≡ false → IsOfRun n → ⊥
 other n m same apart is = false_or_true (sym apart ∙ sym (ap of_run same) ∙ is_of_run n is)
 
 by_ending : (words : List (List ℕ)) (files : Option Files) (told told' : Option (ℕ → Who)) (o o' : Option (List ℕ)) (status : ℕ) (e : Ending)

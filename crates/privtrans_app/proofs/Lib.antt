@@ -2,6 +2,7 @@ mod CallLemmas
 pub mod CauseLemmas
 pub mod CheckLemmas
 pub mod CompleteLemmas
+mod GeneratedLemmas
 pub mod InterleavingLemmas
 pub mod LocalLemmas
 pub mod OrigLemmas

@@ -15,13 +15,16 @@ use Rattle.spawned_pair.specs.Supervised.{AreUntouched}
 use Rattle.privtrans_app.specs.Calls.{ComesTo, IsBySplit}
 use Rattle.privtrans_app.specs.Causes.{IsByForm, IsByFiles}
 use Rattle.privtrans_app.specs.Ending.{Ending, Reports, StaysDown}
+use Rattle.privtrans_app.specs.GeneratedRun as made_run
 use Rattle.privtrans_app.specs.LocalRun as paired
 use Rattle.privtrans_app.specs.ProcessRun as process
 use Rattle.privtrans_app.specs.ProcessRun.{IsRunOver}
 use Rattle.privtrans_app.specs.SlaveRun.{IsWorkOver}
 use Rattle.privtrans_app.specs.Whole.{AreKept, Told}
-use Rattle.privtrans_app.proofs.CallLemmas.{calls_by_form, calls_by_files, calls_by_split}
-use Rattle.privtrans_app.proofs.ProcessLemmas.{untouched_keeps}
+use Rattle.privtrans_app.specs.Words.{IsGenerated, of_process_run}
+use Rattle.privtrans_app.proofs.CallLemmas.{calls_by_form, calls_by_files, calls_by_split, generated_or_run, generated_or_slave, generated_or_split}
+use Rattle.privtrans_app.proofs.GeneratedLemmas.{MadeTold, made_told, same_made}
+use Rattle.privtrans_app.proofs.ProcessLemmas.{reported, untouched_keeps}
 use Rattle.privtrans_app.proofs.WholeLemmas.{calls_are_kept, calls_tell_what_is_expected, two_tell_what_is_expected}
 
 module _ {S K : Type 0} (came : S → List Event → S → Type 0) (honest : S → (List ℕ → List ℕ) → (List ℕ → Bool) → Type 0) (sent given : S → Option (List ℕ)) (taken : K → Option (List ℕ))
@@ -50,6 +53,22 @@ module _ {S K : Type 0} (came : S → List Event → S → Type 0) (honest : S �
   pub by_form : (e : Ending) → Comes files e → Tells e → StaysDown (writes k) (writes k') → StaysDown failed failed' → IsByForm words status
   by_form e comes tells w f =
       calls_by_form (AreUntouched s s' k k') moves breaks fair works words files' reads reads' fwrites fwrites' (taken k) (taken k') (writes k) (writes k') (links s) (links s') report report' failed failed' status w f files e comes tells
+
+  -- the words are of a generated program
+  made_comes : (seed count : ℕ) → IsGenerated words seed count → (e : Ending) → Comes files e → made_run.ComesTo seed count (taken k) (taken k') (writes k) (writes k') e
+  made_comes seed count form e (inl is) = absurd (is.0.not_generated seed count form)
+  made_comes seed count form e (inr (inl is)) = absurd (generated_or_split words is.names form is.form)
+  made_comes seed count form e (inr (inr (inl is))) = absurd (generated_or_run words _ form (of_process_run _ _ _ _ _ is.form))
+  made_comes seed count form e (inr (inr (inr (inl is)))) = absurd (generated_or_slave words form is.form)
+  made_comes seed count form e (inr (inr (inr (inr is)))) =
+      let same = same_made words is.seed is.count seed count is.form form in
+      subst (λ n. made_run.ComesTo seed n (taken k) (taken k') (writes k) (writes k') e) same.1
+      (subst (λ m. made_run.ComesTo m is.count (taken k) (taken k') (writes k) (writes k') e) same.0 is.comes)
+
+  pub generated_tells : (seed count : ℕ) → IsGenerated words seed count → (e : Ending) → Comes files e → Tells e → StaysDown (writes k) (writes k') → StaysDown failed failed'
+      → MadeTold seed count (taken k) (taken k') report report' status
+  generated_tells seed count form e comes tells w f =
+      made_told seed count (taken k) (taken k') report report' status (writes k) (writes k') e w (made_comes seed count form e comes) (reported e report report' failed failed' status tells f)
 
   module _ (held : Files) (are : files ≡ Some held) (e : Ending) (comes : Comes files e) (tells : Tells e) (r : StaysDown reads reads') (f : StaysDown failed failed') where
     there : Comes (Some held) e

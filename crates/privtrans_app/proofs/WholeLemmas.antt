@@ -38,7 +38,7 @@ use Rattle.privtrans_app.specs.SplitRun as run
 use Rattle.privtrans_app.specs.Calls.{AreSplit, ComesTo}
 use Rattle.privtrans_app.specs.Whole.{Told, Leaves, AreKept}
 use Rattle.privtrans_app.proofs.CompleteLemmas.{more_than_one, no_help, no_version, two_runs, local_check, orig_check, not_lacking, RunsHeld, local_held, orig_held, check_held}
-use Rattle.privtrans_app.proofs.CallLemmas.{process_or_check, process_or_local, process_or_orig, split_or_run, split_or_slave, some_is}
+use Rattle.privtrans_app.proofs.CallLemmas.{generated_or_run, generated_or_split, process_or_check, process_or_local, process_or_orig, split_or_run, split_or_slave, some_is}
 use Rattle.privtrans_app.proofs.CheckLemmas.{same_check}
 use Rattle.privtrans_app.proofs.LocalLemmas.{same_comes}
 use Rattle.privtrans_app.proofs.OrigLemmas.{same_orig}
@@ -60,7 +60,7 @@ OrigTold t turns o o' report report' status = (status ≡ 12) ⊎ ((s : Seen) ×
 abbrev CheckTold : List ℕ → Option (List ℕ) → Option (List ℕ) → Option (List ℕ) → Option (List ℕ) → ℕ → Type 0
 CheckTold text o o' report report' status = (status ≡ 12) ⊎ ((s : Seen) × checks.Gives text s × Told s o o' report report' status)
 
-abbrev seen : List ℕ → Ending → Seen
+abbrev pub seen : List ℕ → Ending → Seen
 seen bytes e = record { out = bytes; report = report_of e; status = status_of e }
 
 run_seen : (bytes bytes' : List ℕ) (end : End) (e : Ending) → orig.EndsAs end e → bytes ≡ bytes' → originals.ShowsRun bytes' end (seen bytes e)
@@ -83,7 +83,7 @@ end_seen bytes bytes' (ends.trapped trap span) e is b = λ k. seen (b k) (is k)
 end_seen bytes bytes' ends.spent e is b = λ k. seen (b k) (is k)
 end_seen bytes bytes' (ends.refused call function state) e is b = λ k. seen (b k) (is k)
 
-pair_seen : (o : pairs.Outcome) (bytes : List ℕ) (e : Ending) → e ≡ local.ending_of o → bytes ≡ local.bytes_of o → seen bytes e ≡ pair_views.shown o
+pub pair_seen : (o : pairs.Outcome) (bytes : List ℕ) (e : Ending) → e ≡ local.ending_of o → bytes ≡ local.bytes_of o → seen bytes e ≡ pair_views.shown o
 pair_seen (pairs.refused refusal) bytes e is b = λ k. seen (b k) (is k)
 pair_seen (pairs.ran bytes' end) bytes e is b = end_seen bytes bytes' end e is b
 
@@ -280,12 +280,19 @@ module _ (untouched : Type 0) (moves : List Event → List ℕ → Type 0) (brea
     checked = λ text held. absurd (process_or_check words is.form held.form);
     split = λ names text form held. absurd (split_or_run words _ names form (of_process_run _ _ _ _ _ is.form));
   }
-  kept e (inr (inr (inr is))) tells = record {
+  kept e (inr (inr (inr (inl is)))) tells = record {
     paired = λ t turns window held. absurd (more_than_one words _ (of_local _ _ _ _ _ _ held.form) (ap length is.form));
     served = λ t turns refusal held faulty. absurd (more_than_one words _ (of_process_run _ _ _ _ _ held.form) (ap length is.form));
     original = λ t turns held. absurd (more_than_one words _ (of_orig _ _ _ _ held.form) (ap length is.form));
     checked = λ text held. absurd (more_than_one words _ (of_check _ held.form) (ap length is.form));
     split = λ names text form held. absurd (split_or_slave words names form is.form);
+  }
+  kept e (inr (inr (inr (inr is)))) tells = record {
+    paired = λ t turns window held. absurd (generated_or_run words _ is.form (of_local _ _ _ _ _ _ held.form));
+    served = λ t turns refusal held faulty. absurd (generated_or_run words _ is.form (of_process_run _ _ _ _ _ held.form));
+    original = λ t turns held. absurd (generated_or_run words _ is.form (of_orig _ _ _ _ held.form));
+    checked = λ text held. absurd (generated_or_run words _ is.form (of_check _ held.form));
+    split = λ names text form held. absurd (generated_or_split words names is.form form);
   }
 
   pub calls_are_kept : (failed failed' : ℕ) → StaysDown failed failed' → (e : Ending) → AllComes e → Reports e report report' failed failed' status
@@ -332,7 +339,8 @@ module _ (untouched : Type 0) (moves : List Event → List ℕ → Type 0) (brea
   pair_kept t turns window held e (inl is) tells = by_pair words files reads reads' o o' writes writes' report report' status r w t turns window held e is.1 tells
   pair_kept t turns window held e (inr (inl is)) tells = absurd (split_or_run words _ is.names is.form (of_local _ _ _ _ _ _ held.form))
   pair_kept t turns window held e (inr (inr (inl is))) tells = absurd (process_or_local words is.form held.form)
-  pair_kept t turns window held e (inr (inr (inr is))) tells = absurd (more_than_one words _ (of_local _ _ _ _ _ _ held.form) (ap length is.form))
+  pair_kept t turns window held e (inr (inr (inr (inl is)))) tells = absurd (more_than_one words _ (of_local _ _ _ _ _ _ held.form) (ap length is.form))
+  pair_kept t turns window held e (inr (inr (inr (inr is)))) tells = absurd (generated_or_run words _ is.form (of_local _ _ _ _ _ _ held.form))
 
   pub calls_tell_what_is_expected : (failed failed' : ℕ) → StaysDown failed failed' → (came : Ending) → CallComes came → Reports came report report' failed failed' status
       → (t : Texts) (turns window : ℕ) (tree : TypedTree) (e : Expected) → local.AreHeld words (Some files) t turns window → IsExpected t turns tree e
@@ -346,7 +354,8 @@ module _ (untouched : Type 0) (moves : List Event → List ℕ → Type 0) (brea
   served_kept l t turns held is_fair e (inr (inl is)) tells = absurd (split_or_run words _ is.names is.form (of_process_run _ _ _ _ _ held.form))
   served_kept l t turns held is_fair e (inr (inr (inl is))) tells =
       process_told untouched moves breaks fair o o' report report' status keeps words files reads reads' writes writes' links links' r w l t turns e held is_fair is.comes tells
-  served_kept l t turns held is_fair e (inr (inr (inr is))) tells = absurd (more_than_one words _ (of_process_run _ _ _ _ _ held.form) (ap length is.form))
+  served_kept l t turns held is_fair e (inr (inr (inr (inl is)))) tells = absurd (more_than_one words _ (of_process_run _ _ _ _ _ held.form) (ap length is.form))
+  served_kept l t turns held is_fair e (inr (inr (inr (inr is)))) tells = absurd (generated_or_run words _ is.form (of_process_run _ _ _ _ _ held.form))
 
   pub two_tell_what_is_expected : (failed failed' : ℕ) → StaysDown failed failed' → StaysDown links links' → (came : Ending) → CallComes came → Reports came report report' failed failed' status
       → (t : Texts) (turns : ℕ) (tree : TypedTree) (e : Expected) → process.AreHeld words (Some files) t turns → fair t turns → IsExpected t turns tree e

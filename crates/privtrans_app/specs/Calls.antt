@@ -5,9 +5,10 @@ use Rattle.pt_base.specs.Files.{Files}
 use Rattle.program_split.specs.Split as halves
 use Rattle.program_split.specs.Split.{Outcome}
 use Rattle.pair_texts.specs.Start.{Texts}
-use Rattle.privtrans_app.specs.Words.{IsPlain, IsProcessRun, IsSlave, IsSplit}
+use Rattle.privtrans_app.specs.Words.{IsGenerated, IsPlain, IsProcessRun, IsSlave, IsSplit}
 use Rattle.privtrans_app.specs.Ending.{Ending, status_of, EndsWith}
 use Rattle.privtrans_app.specs.Causes as causes
+use Rattle.privtrans_app.specs.GeneratedRun as generated
 use Rattle.privtrans_app.specs.ProcessRun as process
 use Rattle.privtrans_app.specs.ProcessRun.{Answer}
 use Rattle.privtrans_app.specs.SplitRun as split
@@ -41,6 +42,13 @@ pub record SlaveComes (works : ℕ → ℕ → Ending → Type 0) (words : List 
   pub comes : works links links' e
   pub keeps : Keeps out out'
 
+-- What a generated program comes to.
+pub record GeneratedComes (words : List (List ℕ)) (out out' : Option (List ℕ)) (writes writes' : ℕ) (e : Ending) : Type 0 where
+  pub seed : ℕ
+  pub count : ℕ
+  pub form : IsGenerated words seed count
+  pub comes : generated.ComesTo seed count out out' writes writes' e
+
 -- Words come to what their command does. `is` says what the texts of a run in two processes come to, and `works` what a slave's process
 -- does. `fwrites` are the counts of failed writes of the folder, `writes` those of out, and `links` those of the link's faults.
 abbrev pub ComesTo : (Texts → ℕ → Answer → Type 0) → (ℕ → ℕ → Ending → Type 0) → List (List ℕ) → Option Files → Option Files → ℕ → ℕ → ℕ → ℕ → Option (List ℕ) → Option (List ℕ) → ℕ → ℕ → ℕ → ℕ → Ending → Type 0
@@ -49,6 +57,7 @@ ComesTo is works words files files' reads reads' fwrites fwrites' out out' write
     ⊎ SplitComes words files files' reads reads' fwrites fwrites' out out' e
     ⊎ ProcessComes is words files reads reads' out out' writes writes' links links' e
     ⊎ SlaveComes works words out out' links links' e
+    ⊎ GeneratedComes words out out' writes writes' e
 
 -- The status of a split of files that are held as told: 2 where the program isn't held, else that of what it
 -- comes to.

@@ -4,7 +4,7 @@ use Rattle.std.specs.Fmt.{decimal}
 use Rattle.privtrans_app.specs.declared.words.Form.{Form}
 use Rattle.privtrans_app.specs.declared.words.Form.TheVariants.{Help, Version, Local, Orig, Check}
 use Rattle.privtrans_app.specs.declared.words.Outward.{Outward}
-use Rattle.privtrans_app.specs.declared.words.Outward.TheVariants.{Split, Run, Slave}
+use Rattle.privtrans_app.specs.declared.words.Outward.TheVariants.{Generated, Split, Run, Slave}
 
 abbrev pub IsHelp : List (List ℕ) → Type 0
 IsHelp words = (words ≡ codes "--help" ∷ []) ⊎ (words ≡ codes "-h" ∷ [])
@@ -40,6 +40,13 @@ pub record IsProcessRun (words : List (List ℕ)) (program host policy input : L
   pub are : words ≡ codes "run" ∷ program ∷ host ∷ policy ∷ input ∷ decimal turns ∷ []
   pub turns_most : turns ≤ 4294967295
 
+-- `gen` and two numbers in their ranges, in digits without a leading zero
+pub record IsGenerated (words : List (List ℕ)) (seed count : ℕ) : Type 0 where
+  pub are : words ≡ codes "gen" ∷ decimal seed ∷ decimal count ∷ []
+  pub seed_most : seed ≤ 2147483647
+  pub count_least : 1 ≤ count
+  pub count_most : count ≤ 2000
+
 abbrev pub IsSlave : List (List ℕ) → Type 0
 IsSlave words = words ≡ codes "slave" ∷ []
 
@@ -49,11 +56,15 @@ IsNoSplit words = (program slave monitor : List ℕ) → IsSplit words program s
 abbrev pub IsNoProcessRun : List (List ℕ) → Type 0
 IsNoProcessRun words = (program host policy input : List ℕ) (turns : ℕ) → IsProcessRun words program host policy input turns → ⊥
 
--- the words neither write files nor reach another process
+abbrev pub IsNotGenerated : List (List ℕ) → Type 0
+IsNotGenerated words = (seed count : ℕ) → IsGenerated words seed count → ⊥
+
+-- the words neither write files, nor reach another process, nor run a program of the tool's own
 pub record IsPlain (words : List (List ℕ)) : Type 0 where
   pub no_split : IsNoSplit words
   pub no_run : IsNoProcessRun words
   pub no_slave : IsSlave words → ⊥
+  pub not_generated : IsNotGenerated words
 
 abbrev pub IsNoLocal : List (List ℕ) → Type 0
 IsNoLocal words = (program host policy input : List ℕ) (turns window : ℕ) → IsLocal words program host policy input turns window → ⊥
@@ -98,3 +109,4 @@ abbrev pub IsOutward : List (List ℕ) → Outward → Type 0
 IsOutward words (Split s) = IsSplit words s.program.now s.slave.now s.monitor.now
 IsOutward words (Run r) = IsProcessRun words r.names.program.now r.names.host.now r.names.policy.now r.names.input.now r.turns
 IsOutward words Slave = IsSlave words
+IsOutward words (Generated g) = IsGenerated words g.seed g.count

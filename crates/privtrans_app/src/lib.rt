@@ -3,6 +3,7 @@
 
 mod check;
 mod ending;
+mod generated;
 mod help;
 mod local;
 mod orig;

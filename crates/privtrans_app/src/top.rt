@@ -7,22 +7,26 @@ ghost use Rattle.typed_tree.specs.TypedTree.{TypedTree};
 ghost use Rattle.pair_texts.specs.Start.{Texts};
 ghost use Rattle.local_pair.specs.Local.{IsExpected};
 ghost use Rattle.local_pair.specs.Seen.{shown_of};
+ghost use Rattle.fault_lines.specs.Seen.{Seen};
+ghost use Rattle.generated_pair.specs.Generated as made;
 ghost use Rattle.spawned_pair.specs.OutcomeSeen.{IsHonestFor};
 ghost use Rattle.privtrans_app.specs.Calls as calls;
 ghost use Rattle.privtrans_app.specs.Calls.{IsBySplit};
 ghost use Rattle.privtrans_app.specs.Causes.{ComesTo, IsByForm, IsByFiles};
-ghost use Rattle.privtrans_app.specs.Ending.{Ending, Reports, StaysDown, is_silent};
+ghost use Rattle.privtrans_app.specs.Ending.{Ending, Reports, StaysDown, is_silent, status_of};
 ghost use Rattle.privtrans_app.specs.EndingSeen.{ending_seen};
 ghost use Rattle.privtrans_app.specs.Interleaving.{IsInterleaved, IsOfNoRun, IsOfRun, TakesTurns};
+ghost use Rattle.privtrans_app.specs.GeneratedRun as made_run;
 ghost use Rattle.privtrans_app.specs.LocalRun as paired;
 ghost use Rattle.privtrans_app.specs.ProcessRun as process;
 ghost use Rattle.privtrans_app.specs.ProcessRun.{IsRunOver};
 ghost use Rattle.privtrans_app.specs.SlaveRun.{IsWorkOver};
 ghost use Rattle.privtrans_app.specs.Whole.{AreKept, Told};
-ghost use Rattle.privtrans_app.specs.Words.{IsLocal, IsNoLocal, IsNoProcessRun, IsNoRun, IsNoSplit, IsSlave};
+ghost use Rattle.privtrans_app.specs.Words.{IsGenerated, IsLocal, IsNoLocal, IsNoProcessRun, IsNoRun, IsNoSplit, IsNotGenerated, IsSlave};
 
 use crate::check::check;
 use crate::ending::{Ending as Came, report, status};
+use crate::generated::generated;
 use crate::help::{HELP, VERSION};
 use crate::local::local;
 use crate::orig::orig;
@@ -31,6 +35,7 @@ use crate::slave::slave;
 use crate::split::split;
 use crate::words::{Form, Outward, form_of, outward_of};
 use crate::writing::put;
+use generated_pair::generated_runs_are_told;
 use honest_link::Witnessed;
 use pt_base::{Chooser, Folder, Sink, SinkFault, Watch};
 use std::alloc::Global;
@@ -84,7 +89,9 @@ fn ended<'a, R: Threads + Sync, F: Folder, K: Sink, S: Witnessed, C: Chooser, W:
         (K.taken out.old) (K.taken out.new) (K.faults out.old) (K.faults out.new) (S.faults spawner.old) (S.faults spawner.new) (ending_seen result) }
     ensures turns { (program host policy input : List ℕ) (turns window : ℕ) → IsLocal (map (λ w. w.now) words.now) program host policy input turns window →
         TakesTurns (map (λ w. w.now) words.now) (F.files folder.old) (C.answers chooser.old) (C.answers chooser.new) (K.taken out.old) (K.taken out.new) (ending_seen result) }
-    ensures unasked { IsNoLocal (map (λ w. w.now) words.now) → chooser.new ≡ chooser.old }
+    ensures generated_turns { (seed count : ℕ) → IsGenerated (map (λ w. w.now) words.now) seed count → IsOfRun (status_of (ending_seen result)) →
+        made_run.IsInterleaved seed count (C.answers chooser.old) (C.answers chooser.new) (K.taken out.old) (K.taken out.new) }
+    ensures unasked { IsNoLocal (map (λ w. w.now) words.now) → IsNotGenerated (map (λ w. w.now) words.now) → chooser.new ≡ chooser.old }
     ensures untaken { is_silent (ending_seen result) ≡ true → AreTaken [] (C.answers chooser.old) (C.answers chooser.new) }
     ensures silent { is_silent (ending_seen result) ≡ true → (out.new ≡ out.old) × (spawner.new ≡ spawner.old) }
     ensures unread { IsNoRun (map (λ w. w.now) words.now) → IsNoSplit (map (λ w. w.now) words.now) → IsNoProcessRun (map (λ w. w.now) words.now) → folder.new ≡ folder.old }
@@ -97,6 +104,7 @@ fn ended<'a, R: Threads + Sync, F: Folder, K: Sink, S: Witnessed, C: Chooser, W:
         Some(Outward::Split(words)) => split(rt, alloc, &words, folder, watch),
         Some(Outward::Run(words)) => run(rt, alloc, &words, folder, out, spawner, watch),
         Some(Outward::Slave) => slave(alloc, spawner),
+        Some(Outward::Generated(words)) => generated(rt, alloc, words, out, chooser, watch),
         None => came_to(rt, alloc, words, folder, out, chooser, watch),
     }
 }
@@ -210,18 +218,34 @@ pub fn privtrans<
         → IsLocal (map (λ w. w.now) words.now) program host policy input turns window
         → IsOfRun result
         → IsInterleaved (map (λ w. w.now) words.now) (F.files folder.old) (C.answers chooser.old) (C.answers chooser.new) (K.taken out.old) (K.taken out.new) }
+    // of a generated program all that is seen is what is told of its texts, where no write failed, or memory was wanting
+    ensures generated { (seed count : ℕ) → IsGenerated (map (λ w. w.now) words.now) seed count
+        → StaysDown (K.faults out.old) (K.faults out.new)
+        → StaysDown (E.faults report.old) (E.faults report.new)
+        → (result ≡ 12) ⊎ ((s : Seen) × made.Gives seed count s × Told s (K.taken out.old) (K.taken out.new) (E.taken report.old) (E.taken report.new) result) }
+    // and where no stage of its texts has a fault, that is what is expected of them: where main is expected to return, the line with the
+    // lengths of the program and of the bytes that are expected
+    ensures generated_run { (seed count : ℕ) (tree : TypedTree) (e : Expected) → IsGenerated (map (λ w. w.now) words.now) seed count
+        → StaysDown (K.faults out.old) (K.faults out.new)
+        → StaysDown (E.faults report.old) (E.faults report.new)
+        → IsExpected (made.texts_of seed count) made.turns tree e
+        → (result ≡ 12) ⊎ Told (made.shown_of seed count tree e) (K.taken out.old) (K.taken out.new) (E.taken report.old) (E.taken report.new) result }
+    // whatever failed: where both its halves came to their end, they went on as the answers say that were taken from the chooser
+    ensures generated_turns { (seed count : ℕ) → IsGenerated (map (λ w. w.now) words.now) seed count → IsOfRun result
+        → made_run.IsInterleaved seed count (C.answers chooser.old) (C.answers chooser.new) (K.taken out.old) (K.taken out.new) }
     // no file is written but by a split, and none is read where the words name none; out isn't used by a slave; the
-    // chooser is asked by `local` alone and the spawner used by `run` and `slave` alone, and both only where something runs
+    // chooser is asked by `local` and `gen` alone and the spawner used by `run` and `slave` alone, and both only where something runs
     ensures untouched { (IsNoSplit (map (λ w. w.now) words.now) → SameFiles (F.files folder.old) (F.files folder.new) × (F.write_faults folder.new ≡ F.write_faults folder.old))
         × (IsNoRun (map (λ w. w.now) words.now) → IsNoSplit (map (λ w. w.now) words.now) → IsNoProcessRun (map (λ w. w.now) words.now) → folder.new ≡ folder.old)
         × (IsSlave (map (λ w. w.now) words.now) → out.new ≡ out.old)
         × (IsNoProcessRun (map (λ w. w.now) words.now) → (IsSlave (map (λ w. w.now) words.now) → ⊥) → spawner.new ≡ spawner.old)
-        × (IsNoLocal (map (λ w. w.now) words.now) → chooser.new ≡ chooser.old)
+        × (IsNoLocal (map (λ w. w.now) words.now) → IsNotGenerated (map (λ w. w.now) words.now) → chooser.new ≡ chooser.old)
         × (IsOfNoRun result → AreTaken [] (C.answers chooser.old) (C.answers chooser.new) × (spawner.new ≡ spawner.old)) }
     // no count of faults falls
     ensures counts { (F.read_faults folder.old ≤ F.read_faults folder.new) × (F.write_faults folder.old ≤ F.write_faults folder.new)
         × (K.faults out.old ≤ K.faults out.new) × (E.faults report.old ≤ E.faults report.new) × (S.faults spawner.old ≤ S.faults spawner.new) }
 {
+    generated_runs_are_told();
     let ending = ended(rt, alloc, words, folder, out, spawner, chooser, watch);
     tell(alloc, report, ending)
 }

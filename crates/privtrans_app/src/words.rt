@@ -46,6 +46,13 @@ pub(crate) struct SplitWords<'a> {
     pub monitor: &'a str,
 }
 
+/// The words of a generated program.
+#[derive(Clone, Copy)]
+pub(crate) struct GeneratedWords {
+    pub seed: u32,
+    pub count: u32,
+}
+
 /// What plain words ask for.
 #[derive(Clone, Copy)]
 pub(crate) enum Form<'a> {
@@ -57,12 +64,13 @@ pub(crate) enum Form<'a> {
     Check(&'a str),
 }
 
-/// What the words ask for, where that writes files or reaches another process.
+/// What the words ask for, where that writes files, reaches another process or runs a program of the tool's own.
 #[derive(Clone, Copy)]
 pub(crate) enum Outward<'a> {
     Split(SplitWords<'a>),
     Run(RunWords<'a>),
     Slave,
+    Generated(GeneratedWords),
 }
 
 // The number of a word in digits without a leading zero, if it is at most `most`.
@@ -256,6 +264,8 @@ fn outward_after<'a>(word: &str, rest: &[&'a str]) -> Option<Outward<'a>>
         run_words(rest)
     } else if word == "slave" {
         slave_words(rest)
+    } else if word == "gen" {
+        generated_words(rest)
     } else {
         None
     }
@@ -354,4 +364,34 @@ fn slave_words<'a>(words: &[&'a str]) -> Option<Outward<'a>>
     } else {
         None
     }
+}
+
+// The words after `gen`.
+fn generated_words<'a>(words: &[&'a str]) -> Option<Outward<'a>>
+    ensures { MatchOption result (IsPlain (codes "gen" ∷ map (λ w. w.now) words.now)) (IsOutward (codes "gen" ∷ map (λ w. w.now) words.now)) }
+{
+    let [seed, words @ ..] = words else {
+        return None;
+    };
+    let [count, words @ ..] = words else {
+        return None;
+    };
+    if words.is_empty() {
+        generated_form(seed, count)
+    } else {
+        None
+    }
+}
+
+fn generated_form<'a>(seed: &str, count: &str) -> Option<Outward<'a>>
+    ensures { MatchOption result
+        (IsPlain (codes "gen" ∷ seed.now ∷ count.now ∷ []))
+        (IsOutward (codes "gen" ∷ seed.now ∷ count.now ∷ [])) }
+{
+    let seed = number(seed, 2147483647)?;
+    let count = number(count, 2000)?;
+    if count == 0 {
+        return None;
+    }
+    Some(Outward::Generated(GeneratedWords { seed, count }))
 }

@@ -96,7 +96,8 @@ impl<R: Processes, I: Read + Drop, O: AsFd + Drop> Child<R, I, O> {
     }
 }
 
-// Starts the file with the word `slave`. Its standard streams are pipes, but for its standard error, which goes nowhere.
+// Starts the file with the word `slave` and no environment. Its standard streams are pipes, but for its standard error, which
+// goes nowhere.
 fn started<R: Processes>(
     rt: &R,
     alloc: Global,
@@ -107,6 +108,7 @@ fn started<R: Processes>(
     }
     let mut command = Command::new(alloc, file)?;
     command
+        .env_clear()
         .arg("slave")?
         .stdin(Stdio::piped())
         .stdout(Stdio::piped())

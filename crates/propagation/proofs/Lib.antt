@@ -1,5 +1,6 @@
 pub mod AheadLemmas
 pub mod LawLemmas
+pub mod LevelLemmas
 pub mod MarkLemmas
 pub mod PathLemmas
 pub mod PlaceLemmas

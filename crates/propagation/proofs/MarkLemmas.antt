@@ -35,10 +35,10 @@ none_marked n places marked p m = m ∙ go n ∙ sym (ap (map is_some) p)
 slot_push : (order : List Found) (f : Found) (p : ℕ) → p < length order → slot_at (order ++ f ∷ []) p ≡ slot_at order p
 slot_push order f p lt = ap slot_of (get_or_append_left order (f ∷ []) no_slot p lt)
 
-by_push : (order : List Found) (f : Found) (p : ℕ) → p < length order → by_at (order ++ f ∷ []) p ≡ by_at order p
+pub by_push : (order : List Found) (f : Found) (p : ℕ) → p < length order → by_at (order ++ f ∷ []) p ≡ by_at order p
 by_push order f p lt = ap (λ (x : Found). x.by) (get_or_append_left order (f ∷ []) no_slot p lt)
 
-last_push : (order : List Found) (f : Found) → get_or (order ++ f ∷ []) (length order) no_slot ≡ f
+pub last_push : (order : List Found) (f : Found) → get_or (order ++ f ∷ []) (length order) no_slot ≡ f
 last_push order f = get_or_at order f [] no_slot (length order) refl
 
 comes_push : (seeds : List Slot) (edges : List Edge) (order : List Found) (f : Found) (s : Slot) (by : Option Step) → IsParent (length order) by → Comes seeds edges order s by → Comes seeds edges (order ++ f ∷ []) s by
@@ -53,10 +53,10 @@ pub record Marked (seeds : List Slot) (edges : List Edge) (slots : ℕ) (places 
   pub has : HasPlace places' s
 
 pub keeps_refl : (places : List (Option ℕ)) (order : List Found) → Keeps places order places order
-keeps_refl places order = record { size = refl; more = omega arith; has = λ s h. h; slots = λ p lt. refl }
+keeps_refl places order = record { size = refl; more = omega arith; has = λ s h. h; slots = λ p lt. refl; steps = λ p lt. refl }
 
 pub keeps_trans : (a : List (Option ℕ)) (b : List Found) (a1 : List (Option ℕ)) (b1 : List Found) (a2 : List (Option ℕ)) (b2 : List Found) → Keeps a b a1 b1 → Keeps a1 b1 a2 b2 → Keeps a b a2 b2
-keeps_trans a b a1 b1 a2 b2 h k = record { size = k.size ∙ h.size; more = let x : length b ≤ length b1 = h.more in let y : length b1 ≤ length b2 = k.more in omega arith; has = λ s x. k.has s (h.has s x); slots = λ p lt. k.slots p (let y : length b ≤ length b1 = h.more in omega arith) ∙ h.slots p lt }
+keeps_trans a b a1 b1 a2 b2 h k = record { size = k.size ∙ h.size; more = let x : length b ≤ length b1 = h.more in let y : length b1 ≤ length b2 = k.more in omega arith; has = λ s x. k.has s (h.has s x); slots = λ p lt. k.slots p (let y : length b ≤ length b1 = h.more in omega arith) ∙ h.slots p lt; steps = λ p lt. k.steps p (let y : length b ≤ length b1 = h.more in omega arith) ∙ h.steps p lt }
 
 pub marks : (seeds : List Slot) (edges : List Edge) (slots : ℕ) (places : List (Option ℕ)) (order : List Found) (s : Slot) (by : Option Step) → s.0 < length places → IsParent (length order) by → Comes seeds edges order s by → AreSound seeds edges slots places order → AreEarlier (marked_places places s (length order)) (marked_order places order s by) → Marked seeds edges slots places order s (marked_places places s (length order)) (marked_order places order s by)
 marks seeds edges slots places order s by lt inside comes sound = go (place_of places s) refl
@@ -81,6 +81,7 @@ marks seeds edges slots places order s by lt inside comes sound = go (place_of p
             more = omega (arith, length-append order (f ∷ []));
             has = λ t h. kept t h there other (slot_cases t s);
             slots = λ p below. slot_push order f p below;
+            steps = λ p below. by_push order f p below;
           };
           has = (length order, there);
         }

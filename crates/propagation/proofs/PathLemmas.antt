@@ -1,81 +1,57 @@
 -- Paths to reached slots, and back from them.
-use Rattle.std.proofs.Common.{◌≡◌, ◌≢◌, ◌<◌, ◌≤◌, ℕ, zero, suc, List, [], ◌∷◌, ◌++◌, length, get_or, reverse, refl, sym, ◌∙◌, ap, subst, arith, Option, Some, None, MatchOption, append_assoc}
-use Rattle.std.specs.List.{All, AllPairs}
+use Rattle.std.proofs.Common.{◌≡◌, ◌<◌, ◌≤◌, ◌+◌, ℕ, zero, suc, List, [], ◌∷◌, ◌++◌, length, reverse, refl, sym, ◌∙◌, ap, subst, arith, Option, Some, None, MatchOption, append_assoc}
+use Rattle.std.specs.List.{Contains}
 use Rattle.std.specs.Option.{option_map}
 use Rattle.std.proofs.Math.ListN.{get_or-map}
 use Rattle.std.proofs.lemmas.List.{append-nil, length-map, reverse-append}
-use Rattle.std.proofs.lemmas.List.Elements.{All-cons, All-contains, All-nil}
-use Rattle.std.proofs.lemmas.List.Kept.{AllPairs-cons}
+use Rattle.std.proofs.lemmas.List.Elements.{All-contains}
 use Rattle.pt_base.specs.declared.slot.Slot.{Slot}
 use Rattle.pt_base.specs.declared.slot.Edge.{Edge}
 use Rattle.propagation.specs.declared.reached.Found.{Found}
 use Rattle.propagation.specs.declared.reached.Step.{Step}
-use Rattle.propagation.specs.Paths.{from_of, to_of, Leads, IsPriv, visits, IsSimplePath}
+use Rattle.propagation.specs.Levels.{AreDone, IsWithin, level}
+use Rattle.propagation.specs.Paths.{from_of, to_of, Leads, IsPriv, IsFewest, IsShortestPath}
 use Rattle.propagation.specs.Marks.{AreMarks}
-use Rattle.propagation.specs.Reached.{slot_at, by_at, place_of, HasPlace, Comes, AreEarlier, AreSound, AreDone}
+use Rattle.propagation.specs.Reached.{slot_at, by_at, place_of, Comes, AreEarlier, AreSound}
 use Rattle.propagation.specs.Shown.{path_by, path_back, path_of, paths_shown}
 
--- ---- a path along reached slots
+-- ---- a path from a reached slot
 
--- a slot to which a path leads from one with a place has a place
-stays_in : (edges : List Edge) (places : List (Option ℕ)) → ((k : ℕ) → k < length edges → HasPlace places (from_of edges k) → HasPlace places (to_of edges k)) → (path : List ℕ) (a b : Slot) → Leads edges path a b → HasPlace places a → HasPlace places b
-stays_in edges places closed [] a b h has = subst (HasPlace places) h has
-stays_in edges places closed (k ∷ path) a b h has = stays_in edges places closed path (to_of edges k) b h.2 (closed k h.0 (subst (HasPlace places) (sym h.1) has))
+-- it leads to slots that were reached, along no more edges than it has
+within_path : (edges : List Edge) (places : List (Option ℕ)) (order : List Found) → ((k p : ℕ) → k < length edges → place_of places (from_of edges k) ≡ Some p → IsWithin places order (level order p + 1) (to_of edges k)) → (path : List ℕ) (a b : Slot) (n : ℕ) → Leads edges path a b → IsWithin places order n a → IsWithin places order (n + length path) b
+within_path edges places order closed [] a b n h has = (has.0, subst (λ u. place_of places u ≡ Some has.0) h has.1, (let low : level order has.0 ≤ n = has.2 in omega arith))
+within_path edges places order closed (k ∷ path) a b n h has =
+    let next : IsWithin places order (level order has.0 + 1) (to_of edges k) = closed k has.0 h.0 (subst (λ u. place_of places u ≡ Some has.0) (sym h.1) has.1) in
+    let rest : IsWithin places order (level order has.0 + 1 + length path) b = within_path edges places order closed path (to_of edges k) b (level order has.0 + 1) h.2 next in
+    (rest.0, rest.1, (let low : level order has.0 ≤ n = has.2 in let high : level order rest.0 ≤ level order has.0 + 1 + length path = rest.2 in omega arith))
 
-reached : (seeds : List Slot) (edges : List Edge) (slots : ℕ) (places : List (Option ℕ)) (order : List Found) → AreDone seeds edges slots places order → (s : Slot) → IsPriv seeds edges s → HasPlace places s
-reached seeds edges slots places order m s h = stays_in edges places m.closed h.1 h.0 s h.3 (All-contains (HasPlace places) seeds h.0 m.seeded h.2)
+reached : (seeds : List Slot) (edges : List Edge) (slots : ℕ) (places : List (Option ℕ)) (order : List Found) → AreDone seeds edges slots places order → (seed : Slot) (path : List ℕ) (s : Slot) → Contains seeds seed → Leads edges path seed s → IsWithin places order (0 + length path) s
+reached seeds edges slots places order m seed path s is leads = within_path edges places order m.closed path seed s 0 leads (All-contains (IsWithin places order 0) seeds seed m.seeded is)
 
--- ---- back from a reached slot: the rest of the path comes to slots of later places
+fewest : (seeds : List Slot) (edges : List Edge) (slots : ℕ) (places : List (Option ℕ)) (order : List Found) → AreDone seeds edges slots places order → (s : Slot) (p : ℕ) → place_of places s ≡ Some p → IsFewest seeds edges (level order p) s
+fewest seeds edges slots places order m s p here seed path is leads =
+    let r : IsWithin places order (0 + length path) s = reached seeds edges slots places order m seed path s is leads in
+    let there : place_of places s ≡ Some r.0 = r.1 in
+    let same : r.0 ≡ p = cc in
+    let low : level order r.0 ≤ 0 + length path = r.2 in
+    subst (λ q. level order q ≤ length path) same (omega arith)
 
-abbrev StandsFrom : List (Option ℕ) → ℕ → Slot → Type 0
-StandsFrom places at y = (q : ℕ) × (place_of places y ≡ Some q) × (at ≤ q)
+-- ---- back from a reached slot to a seed
 
-record Trail (edges : List Edge) (places : List (Option ℕ)) (order : List Found) (path : List ℕ) (at : ℕ) (s : Slot) : Type 0 where
-  pub leads : Leads edges path (slot_at order at) s
-  pub distinct : AllPairs (λ (a b : Slot). a ≢ b) (visits edges path (slot_at order at))
-  pub high : All (StandsFrom places at) (visits edges path (slot_at order at))
+abbrev FromSeed : List Slot → List Edge → List ℕ → Slot → Type 0
+FromSeed seeds edges path s = (seed : Slot) × Contains seeds seed × Leads edges path seed s
 
-trail_start : (seeds : List Slot) (edges : List Edge) (slots : ℕ) (places : List (Option ℕ)) (order : List Found) → AreSound seeds edges slots places order → (at : ℕ) (s : Slot) → place_of places s ≡ Some at → Trail edges places order [] at s
-trail_start seeds edges slots places order sound at s h =
-    record {
-      leads = sound.placed s at h;
-      distinct = AllPairs-cons (λ (a b : Slot). a ≢ b) (slot_at order at) [] (All-nil _) (λ i j d lt below. absurd (omega arith));
-      high = All-cons (StandsFrom places at) (slot_at order at) [] (at, sound.listed at (sound.earlier.within s at h), omega arith) (All-nil _);
-    }
-
-trail_more : (seeds : List Slot) (edges : List Edge) (slots : ℕ) (places : List (Option ℕ)) (order : List Found) → AreSound seeds edges slots places order → (path : List ℕ) (at : ℕ) (s : Slot) (step : Step) → at < length order → by_at order at ≡ Some step → Trail edges places order path at s → Trail edges places order (step.edge ∷ path) step.parent s
-trail_more seeds edges slots places order sound path at s step inside is t =
-    let h : Comes seeds edges order (slot_at order at) (Some step) = subst (Comes seeds edges order (slot_at order at)) is (sound.comes at inside) in
-    let earlier : step.parent < at = sound.earlier.parents at inside step is in
-    let x : Slot = slot_at order step.parent in
-    let here : place_of places (slot_at order step.parent) ≡ Some step.parent = sound.listed step.parent (omega arith) in
-    record {
-      leads = (h.0, h.1, subst (λ b. Leads edges path b s) (sym h.2) t.leads);
-      distinct = subst (λ b. AllPairs (λ (a b : Slot). a ≢ b) (slot_at order step.parent ∷ visits edges path b)) (sym h.2)
-          (AllPairs-cons (λ (a b : Slot). a ≢ b) (slot_at order step.parent) (visits edges path (slot_at order at)) (λ k d lt. other (get_or (visits edges path (slot_at order at)) k d) here earlier (t.high k d lt)) t.distinct);
-      high = subst (λ b. All (StandsFrom places step.parent) (slot_at order step.parent ∷ visits edges path b)) (sym h.2)
-          (All-cons (StandsFrom places step.parent) (slot_at order step.parent) (visits edges path (slot_at order at)) (step.parent, here, omega arith)
-          (λ k d lt. let q : StandsFrom places at (get_or (visits edges path (slot_at order at)) k d) = t.high k d lt in (q.0, q.1, let low : at ≤ q.0 = q.2 in omega arith)));
-    }
+from_seed : (seeds : List Slot) (edges : List Edge) (slots : ℕ) (places : List (Option ℕ)) (order : List Found) → AreSound seeds edges slots places order → (n at : ℕ) (path : List ℕ) (s : Slot) → at < n → at < length order → Leads edges path (slot_at order at) s → FromSeed seeds edges (path_back order n at ++ path) s
+from_seed seeds edges slots places order sound zero at path s lt inside leads = absurd (omega arith)
+from_seed seeds edges slots places order sound (suc n) at path s lt inside leads = go (by_at order at) refl (from_seed seeds edges slots places order sound n)
   where
-    other : (y : Slot) → place_of places (slot_at order step.parent) ≡ Some step.parent → step.parent < at → StandsFrom places at y → slot_at order step.parent ≢ y
-    other y here earlier q same =
-        let a : place_of places y ≡ Some step.parent = subst (λ u. place_of places u ≡ Some step.parent) same here in
-        let b : place_of places y ≡ Some q.0 = q.1 in
-        let c : step.parent ≡ q.0 = cc in
-        let low : at ≤ q.0 = q.2 in
-        absurd (omega arith)
-
-simple : (seeds : List Slot) (edges : List Edge) (slots : ℕ) (places : List (Option ℕ)) (order : List Found) → AreSound seeds edges slots places order → (n at : ℕ) (path : List ℕ) (s : Slot) → at < n → at < length order → Trail edges places order path at s → IsSimplePath seeds edges (path_back order n at ++ path) s
-simple seeds edges slots places order sound zero at path s lt inside t = absurd (omega arith)
-simple seeds edges slots places order sound (suc n) at path s lt inside t = go (by_at order at) refl (simple seeds edges slots places order sound n)
-  where
-    go : (by : Option Step) → by_at order at ≡ by → ((at' : ℕ) (path' : List ℕ) (s' : Slot) → at' < n → at' < length order → Trail edges places order path' at' s' → IsSimplePath seeds edges (path_back order n at' ++ path') s') → IsSimplePath seeds edges (path_by (λ p. path_back order n p) by ++ path) s
-    go None is ih = (slot_at order at, subst (Comes seeds edges order (slot_at order at)) is (sound.comes at inside), t.leads, t.distinct)
+    go : (by : Option Step) → by_at order at ≡ by → ((at' : ℕ) (path' : List ℕ) (s' : Slot) → at' < n → at' < length order → Leads edges path' (slot_at order at') s' → FromSeed seeds edges (path_back order n at' ++ path') s') → FromSeed seeds edges (path_by (λ p. path_back order n p) by ++ path) s
+    go None is ih = (slot_at order at, subst (Comes seeds edges order (slot_at order at)) is (sound.comes at inside), leads)
     go (Some step) is ih =
+        let h : Comes seeds edges order (slot_at order at) (Some step) = subst (Comes seeds edges order (slot_at order at)) is (sound.comes at inside) in
         let earlier : step.parent < at = sound.earlier.parents at inside step is in
-        subst (λ xs. IsSimplePath seeds edges xs s) (sym (append_assoc (path_back order n step.parent) (step.edge ∷ []) path))
-        (ih step.parent (step.edge ∷ path) s (omega arith) (omega arith) (trail_more seeds edges slots places order sound path at s step inside is t))
+        subst (λ xs. FromSeed seeds edges xs s) (sym (append_assoc (path_back order n step.parent) (step.edge ∷ []) path))
+        (ih step.parent (step.edge ∷ path) s (omega arith) (omega arith) (h.0, h.1, subst (λ b. Leads edges path b s) (sym h.2) leads))
 
 -- ---- what the walk leaves shows the marks
 
@@ -83,13 +59,15 @@ pub shows : (seeds : List Slot) (edges : List Edge) (slots : ℕ) (places : List
 shows seeds edges slots places order m =
     record {
       size = length-map places (λ place. option_map (path_of order) place) ∙ m.sound.size;
-      paths = λ s lt. subst (λ o. MatchOption o (¬ IsPriv seeds edges s) (λ path. IsSimplePath seeds edges path s)) (sym (get_or-map (λ place. option_map (path_of order) place) places s.0 None)) (go s (place_of places s) refl);
+      paths = λ s lt. subst (λ o. MatchOption o (¬ IsPriv seeds edges s) (λ path. IsShortestPath seeds edges path s)) (sym (get_or-map (λ place. option_map (path_of order) place) places s.0 None)) (go s (place_of places s) refl);
     }
   where
-    go : (s : Slot) (o : Option ℕ) → place_of places s ≡ o → MatchOption (option_map (path_of order) o) (¬ IsPriv seeds edges s) (λ path. IsSimplePath seeds edges path s)
-    go s None is = λ priv. let has : HasPlace places s = reached seeds edges slots places order m s priv in let a : place_of places s ≡ Some has.0 = has.1 in cc
-    go s (Some p) is = subst (λ xs. IsSimplePath seeds edges xs s) (append-nil (path_of order p))
-        (simple seeds edges slots places order m.sound (suc p) p [] s (omega arith) (m.sound.earlier.within s p is) (trail_start seeds edges slots places order m.sound p s is))
+    go : (s : Slot) (o : Option ℕ) → place_of places s ≡ o → MatchOption (option_map (path_of order) o) (¬ IsPriv seeds edges s) (λ path. IsShortestPath seeds edges path s)
+    go s None is = λ priv. let has : IsWithin places order (0 + length priv.1) s = reached seeds edges slots places order m priv.0 priv.1 s priv.2 priv.3 in let a : place_of places s ≡ Some has.0 = has.1 in cc
+    go s (Some p) is =
+        let from : FromSeed seeds edges (path_of order p) s = subst (λ xs. FromSeed seeds edges xs s) (append-nil (path_of order p))
+        (from_seed seeds edges slots places order m.sound (suc p) p [] s (omega arith) (m.sound.earlier.within s p is) (m.sound.placed s p is)) in
+        (from.0, from.1, from.2, fewest seeds edges slots places order m s p is)
 
 -- ---- the path as it is read off, from its end
 
@@ -109,12 +87,17 @@ path_end order at path path' whole is reversed h =
     let f : [] ++ reverse path ≡ whole = subst (λ (xs : List ℕ). xs ++ reverse path ≡ whole) e h in
     reversed ∙ f
 
-pub path_step : (places : List (Option ℕ)) (order : List Found) (at : ℕ) (step : Step) (path path' whole : List ℕ) → AreEarlier places order → at < length order → by_at order at ≡ Some step → path' ≡ path ++ step.edge ∷ [] → path_of order at ++ reverse path ≡ whole → path_of order step.parent ++ reverse path' ≡ whole
-path_step places order at step path path' whole early inside is pushed h =
+-- the path of a slot that was reached by a step
+pub path_here : (places : List (Option ℕ)) (order : List Found) (at : ℕ) (step : Step) → AreEarlier places order → at < length order → by_at order at ≡ Some step → path_of order at ≡ path_of order step.parent ++ step.edge ∷ []
+path_here places order at step early inside is =
     let earlier : step.parent < at = early.parents at inside step is in
     let e : path_of order at ≡ path_back order at step.parent ++ step.edge ∷ [] = ap (path_by (λ p. path_back order at p)) is in
     let same : path_back order at step.parent ≡ path_of order step.parent = steady places order early at (suc step.parent) step.parent (omega arith) (omega arith) (omega arith) in
-    let here : path_of order at ≡ path_of order step.parent ++ step.edge ∷ [] = subst (λ (xs : List ℕ). path_of order at ≡ xs ++ step.edge ∷ []) same e in
+    subst (λ (xs : List ℕ). path_of order at ≡ xs ++ step.edge ∷ []) same e
+
+pub path_step : (places : List (Option ℕ)) (order : List Found) (at : ℕ) (step : Step) (path path' whole : List ℕ) → AreEarlier places order → at < length order → by_at order at ≡ Some step → path' ≡ path ++ step.edge ∷ [] → path_of order at ++ reverse path ≡ whole → path_of order step.parent ++ reverse path' ≡ whole
+path_step places order at step path path' whole early inside is pushed h =
+    let here : path_of order at ≡ path_of order step.parent ++ step.edge ∷ [] = path_here places order at step early inside is in
     let back : reverse path' ≡ step.edge ∷ reverse path = subst (λ (xs : List ℕ). reverse xs ≡ step.edge ∷ reverse path) (sym pushed) (reverse-append path (step.edge ∷ [])) in
     subst (λ (xs : List ℕ). path_of order step.parent ++ xs ≡ whole) (sym back)
     (sym (append_assoc (path_of order step.parent) (step.edge ∷ []) (reverse path)) ∙ (ap (λ (xs : List ℕ). xs ++ reverse path) (sym here) ∙ h))

@@ -3,6 +3,7 @@ use Rattle.std.specs.Prelude.{◌<◌, ◌↔◌, ℕ, List, Bool, IsTrue, Conta
 use Rattle.pt_base.specs.declared.slot.Slot.{Slot}
 use Rattle.pt_base.specs.declared.slot.Edge.{Edge}
 use Rattle.propagation.specs.Marks.{AreMarks, IsMarked, Shown}
+use Rattle.propagation.specs.Paths.{IsShortestPath, IsSimplePath}
 
 -- each element of xs is one of ys
 abbrev pub AreIn : {X : Type 0} → List X → List X → Type 0
@@ -34,3 +35,8 @@ MarksAreLeast = (seeds : List Slot) (edges : List Edge) (slots : ℕ) (marks : S
     IsClosed seeds edges (IsMarked marks) ×
     ((set : Slot → Bool) → IsClosed seeds edges (λ s. IsTrue (set s)) →
     (s : Slot) → IsMarked marks s → IsTrue (set s))
+
+-- a shortest path comes to no slot twice
+abbrev pub ShortestPathsAreSimple : Type 0
+ShortestPathsAreSimple = (seeds : List Slot) (edges : List Edge) (path : List ℕ) (s : Slot) →
+    IsShortestPath seeds edges path s → IsSimplePath seeds edges path s

@@ -1,5 +1,6 @@
 pub mod Adjacent
 pub mod Laws
+pub mod Levels
 pub mod Marks
 pub mod Paths
 pub mod Reached

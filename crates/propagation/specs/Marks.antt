@@ -2,7 +2,7 @@
 use Rattle.std.specs.Prelude.{◌≡◌, ◌<◌, ℕ, List, Option, None, length, slice_index_or, MatchOption, IsSome}
 use Rattle.pt_base.specs.declared.slot.Slot.{Slot}
 use Rattle.pt_base.specs.declared.slot.Edge.{Edge}
-use Rattle.propagation.specs.Paths.{IsPriv, IsSimplePath}
+use Rattle.propagation.specs.Paths.{IsPriv, IsShortestPath}
 
 -- for each slot the path that is shown for it, and None where it isn't privileged
 abbrev pub Shown : Type 0
@@ -14,8 +14,8 @@ path_shown marks s = slice_index_or marks s.0 None
 abbrev pub IsMarked : Shown → Slot → Type 0
 IsMarked marks s = IsSome (path_shown marks s)
 
--- the marks of so many slots: of each privileged one a path from a seed, and none of the others
+-- the marks of so many slots: of each privileged one a shortest path from a seed, and none of the others
 pub record AreMarks (seeds : List Slot) (edges : List Edge) (slots : ℕ) (marks : Shown) : Type 0 where
   pub size : length marks ≡ slots
   pub paths : (s : Slot) → s.0 < slots →
-      MatchOption (path_shown marks s) (¬ IsPriv seeds edges s) (λ path. IsSimplePath seeds edges path s)
+      MatchOption (path_shown marks s) (¬ IsPriv seeds edges s) (λ path. IsShortestPath seeds edges path s)

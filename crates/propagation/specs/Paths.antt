@@ -1,5 +1,5 @@
 -- Paths of edges, and the slots that they reach from seeds.
-use Rattle.std.specs.Prelude.{◌≡◌, ◌≢◌, ◌<◌, ℕ, List, [], ◌∷◌, length, map, slice_index_or, Contains, AllPairs}
+use Rattle.std.specs.Prelude.{◌≡◌, ◌≢◌, ◌<◌, ◌≤◌, ℕ, List, [], ◌∷◌, length, map, slice_index_or, Contains, AllPairs}
 use Rattle.pt_base.specs.declared.slot.Slot.{Slot}
 use Rattle.pt_base.specs.declared.slot.Edge.{Edge}
 
@@ -22,6 +22,15 @@ Leads edges (k ∷ path) a b = (k < length edges) × (from_of edges k ≡ a) × 
 -- a slot is privileged: a path leads to it from a seed
 abbrev pub IsPriv : List Slot → List Edge → Slot → Type 0
 IsPriv seeds edges s = (seed : Slot) × (path : List ℕ) × Contains seeds seed × Leads edges path seed s
+
+-- no path from a seed to the slot has fewer edges than so many
+abbrev pub IsFewest : List Slot → List Edge → ℕ → Slot → Type 0
+IsFewest seeds edges n s = (seed : Slot) (path : List ℕ) → Contains seeds seed → Leads edges path seed s → n ≤ length path
+
+-- a path from a seed to the slot, and no other path from a seed to it has fewer edges
+abbrev pub IsShortestPath : List Slot → List Edge → List ℕ → Slot → Type 0
+IsShortestPath seeds edges path s =
+    (seed : Slot) × Contains seeds seed × Leads edges path seed s × IsFewest seeds edges (length path) s
 
 -- the slots that a path from a comes to
 abbrev pub visits : List Edge → List ℕ → Slot → List Slot

@@ -1,5 +1,5 @@
 -- What is known of slots that were reached.
-use Rattle.std.specs.Prelude.{◌≡◌, ◌<◌, ◌≤◌, ◌+◌, ℕ, List, [], ◌∷◌, ◌++◌, length, slice_index_or, slice_set, Option, Some, None, All, Contains}
+use Rattle.std.specs.Prelude.{◌≡◌, ◌<◌, ◌≤◌, ◌+◌, ℕ, List, [], ◌∷◌, ◌++◌, length, slice_index_or, slice_set, Option, Some, None, Contains}
 use Rattle.pt_base.specs.declared.slot.Slot.{Slot}
 use Rattle.pt_base.specs.declared.slot.Edge.{Edge}
 use Rattle.propagation.specs.declared.reached.Found.{Found}
@@ -77,9 +77,4 @@ pub record Keeps (places : List (Option ℕ)) (order : List Found) (places' : Li
   pub more : length order ≤ length order'
   pub has : (s : Slot) → HasPlace places s → HasPlace places' s
   pub slots : (p : ℕ) → p < length order → slot_at order' p ≡ slot_at order p
-
--- what was reached has the seeds and goes on along each edge
-pub record AreDone (seeds : List Slot) (edges : List Edge) (slots : ℕ) (places : List (Option ℕ)) (order : List Found) : Type 0 where
-  pub sound : AreSound seeds edges slots places order
-  pub seeded : All (HasPlace places) seeds
-  pub closed : (k : ℕ) → k < length edges → HasPlace places (from_of edges k) → HasPlace places (to_of edges k)
+  pub steps : (p : ℕ) → p < length order → by_at order' p ≡ by_at order p

@@ -1,5 +1,5 @@
 // The edges from each slot, side by side.
-ghost use Rattle.std.specs.Prelude.{◌≡◌, ◌+◌, ◌<◌, ◌≤◌, ◌^◌, IfOk, All, length};
+ghost use Rattle.std.specs.Prelude.{◌≡◌, ◌+◌, ◌<◌, ◌^◌, IfOk, All, length};
 ghost use Rattle.propagation.specs.Adjacent.{AreAdjacent, AreEnds, end_of, link_at, start_of};
 
 use pt_base::{Edge, Slot};

@@ -1,5 +1,5 @@
 // What holds of marks whatever the seeds and edges.
-ghost use Rattle.propagation.specs.Laws.{OrderIsFree, MoreMarksMore, MarksAreLeast};
+ghost use Rattle.propagation.specs.Laws.{OrderIsFree, MoreMarksMore, MarksAreLeast, ShortestPathsAreSimple};
 
 /// Which slots are marked depends on the sets of seeds and edges alone: neither on their order nor
 /// on how often one is listed.
@@ -15,4 +15,9 @@ pub fn more_marks_more()
 /// The marked slots have the seeds, are closed under edges, and are the least such set.
 pub fn marks_are_least()
     ensures { MarksAreLeast }
+{}
+
+/// A shortest path comes to no slot twice.
+pub fn shortest_paths_are_simple()
+    ensures { ShortestPathsAreSimple }
 {}

@@ -7,5 +7,5 @@ mod marks;
 mod reached;
 mod walk;
 
-pub use laws::{marks_are_least, more_marks_more, order_is_free};
+pub use laws::{marks_are_least, more_marks_more, order_is_free, shortest_paths_are_simple};
 pub use marks::{Marks, propagate};

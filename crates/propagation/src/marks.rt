@@ -3,7 +3,7 @@ ghost use Rattle.std.specs.Prelude.{◌≡◌, ◌<◌, ℕ, List, IfOk, IsTrue,
 ghost use Rattle.std.specs.Option.{option_map};
 ghost use Rattle.pt_base.specs.declared.slot.Slot.{Slot};
 ghost use Rattle.pt_base.specs.declared.slot.Edge.{Edge};
-ghost use Rattle.propagation.specs.Paths.{IsPriv, IsSimplePath};
+ghost use Rattle.propagation.specs.Paths.{IsPriv, IsShortestPath};
 ghost use Rattle.propagation.specs.Marks.{AreMarks, path_shown};
 
 use crate::adjacent::adjacent_of;
@@ -39,15 +39,15 @@ impl Marks {
         self.reached.place(s).is_some()
     }
 
-    /// The numbers of edges that lead to the slot from a seed, in order, and come to no slot twice;
-    /// `None` where it isn't privileged. Of the paths it is a shortest one, which no clause says.
+    /// The numbers of edges that lead to the slot from a seed, in order, as few as there can be;
+    /// `None` where it isn't privileged.
     pub fn path_to(&self, alloc: Global, s: Slot) -> Result<Option<Vec<u64>>, AllocError>
         requires { s.0 < length self.now }
         ensures shown { IfOk result (λ o.
             option_map (λ path. path.items) o ≡ path_shown self.now s) }
         ensures exact { IfOk result (λ o. (seeds : List Slot) (edges : List Edge) (slots : ℕ) →
             AreMarks seeds edges slots self.now →
-            MatchOption o (¬ IsPriv seeds edges s) (λ path. IsSimplePath seeds edges path.items s)) }
+            MatchOption o (¬ IsPriv seeds edges s) (λ path. IsShortestPath seeds edges path.items s)) }
     {
         let Some(place) = self.reached.place(s) else {
             return Ok(None);

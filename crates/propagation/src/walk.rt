@@ -1,8 +1,9 @@
 // The walk along the edges: what it reaches, and the way back.
-ghost use Rattle.std.specs.Prelude.{◌≡◌, ◌<◌, List, IfOk, OnOk, length, All};
+ghost use Rattle.std.specs.Prelude.{◌≡◌, ◌<◌, ◌≤◌, ◌^◌, [], List, IfOk, OnOk, length, All};
 ghost use Rattle.pt_base.specs.declared.slot.Slot.{Slot};
 ghost use Rattle.pt_base.specs.declared.slot.Edge.{Edge};
 ghost use Rattle.propagation.specs.Adjacent.{AreAdjacent};
+ghost use Rattle.propagation.specs.Levels.{AreLevels, AreRoots};
 ghost use Rattle.propagation.specs.Reached.{IsParent, marked_order, marked_places, place_of, slot_at};
 ghost use Rattle.propagation.specs.Shown.{path_of};
 ghost use Rattle.propagation.specs.Walk.{GoesOn, HasReached, IsSound, KeepsReached, slots_of};
@@ -12,21 +13,12 @@ use crate::reached::{Found, Reached, Step};
 use pt_base::{Edge, Slot};
 use std::alloc::{AllocError, Global};
 
-// this number in four bytes, which places and reached slots have
-fn number_of(index: usize) -> Result<u32, AllocError>
-    ensures { IfOk result (λ n. n ≡ index) }
-{
-    match u32::try_from(index) {
-        Ok(number) => Ok(number),
-        Err(_) => Err(AllocError),
-    }
-}
-
 impl Reached {
     /// Nothing is reached yet.
     pub fn new(alloc: Global, slots: usize) -> Result<Reached, AllocError>
-        ensures { IfOk result (λ r. (seeds : List Slot) (edges : List Edge) →
+        ensures sound { IfOk result (λ r. (seeds : List Slot) (edges : List Edge) →
             IsSound seeds edges slots r) }
+        ensures nothing { IfOk result (λ r. r.order.items ≡ []) }
     {
         let places = vec![in alloc; None; slots]?;
         let marked = vec![in alloc; false; slots]?;
@@ -41,6 +33,8 @@ impl Reached {
     /// Adds a slot to the reached ones, if it isn't one of them.
     fn mark(&mut self, slot: Slot, by: Option<Step>) -> Result<(), AllocError>
         requires within { slot.0 < slots_of self.old }
+        requires few { slots_of self.old < 2 ^ 32 }
+        requires room { length self.old.order.items ≤ slots_of self.old }
         requires parent { IsParent (length self.old.order.items) by }
         ensures places { OnOk result (self.new.places.items ≡
             marked_places self.old.places.items slot (length self.old.order.items)) }
@@ -49,8 +43,8 @@ impl Reached {
     {
         let index = slot.0 as usize;
         if !self.marked[index] {
-            let place = number_of(self.order.len())?;
-            let slot = number_of(index)?;
+            let place = self.order.len() as u32;
+            let slot = index as u32;
             self.order.push(Found { slot, by })?;
             self.places[index] = Some(place);
             self.marked[index] = true;
@@ -63,10 +57,12 @@ impl Reached {
         requires sound { (edges : List Edge) ×
             IsSound seeds.now edges (slots_of self.old) self.old }
         requires within { All (λ s. s.0 < slots_of self.old) seeds.now }
+        requires few { slots_of self.old < 2 ^ 32 }
         ensures sound { OnOk result ((edges : List Edge) →
             IsSound seeds.now edges (slots_of self.old) self.old →
             IsSound seeds.now edges (slots_of self.old) self.new) }
         ensures done { OnOk result (All (HasReached self.new) seeds.now) }
+        ensures roots { OnOk result (AreRoots self.old.order.items → AreRoots self.new.order.items) }
     {
         for seed in seeds {
             self.mark(*seed, None)?;
@@ -88,11 +84,14 @@ impl Reached {
             AreAdjacent edges (slots_of self.old) adjacent.now ×
             IsSound seeds edges (slots_of self.old) self.old }
         requires parent { parent < length self.old.order.items }
+        requires few { slots_of self.old < 2 ^ 32 }
         ensures sound { OnOk result ((seeds : List Slot) (edges : List Edge) →
             AreAdjacent edges (slots_of self.old) adjacent.now →
             IsSound seeds edges (slots_of self.old) self.old →
             IsSound seeds edges (slots_of self.old) self.new) }
         ensures keeps { OnOk result (KeepsReached self.old self.new) }
+        ensures levels { OnOk result (AreLevels self.old.order.items parent →
+            AreLevels self.new.order.items parent) }
         ensures done { OnOk result ((edges : List Edge) →
             AreAdjacent edges (slots_of self.old) adjacent.now →
             GoesOn edges (slot_at self.old.order.items parent) self.new) }

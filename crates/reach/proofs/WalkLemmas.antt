@@ -9,7 +9,7 @@ use Rattle.std.proofs.lemmas.List.{map-append, with_items_is}
 use Rattle.pt_base.specs.declared.slot.Slot.{Slot}
 use Rattle.pt_base.specs.declared.slot.Edge.{Edge}
 use Rattle.typed_tree.specs.TypedTree.{FunctionTree, TypedTree}
-use Rattle.propagation.specs.Paths.{IsPriv, IsSimplePath}
+use Rattle.propagation.specs.Paths.{IsPriv, IsShortestPath}
 use Rattle.propagation.specs.Marks.{AreMarks, Shown, path_shown}
 use Rattle.reach.specs.CallGraph.{privileged_from, calls_of, calls_from}
 use Rattle.reach.specs.Contexts.{is_privileged}
@@ -73,11 +73,11 @@ told seeds edges slots marks table e are k lt = (λ h. there (path_shown marks (
     at : get_or table k false ≡ is_some (path_shown marks (record { 0 = k }))
     at = ap (λ xs. get_or xs k false) e ∙ shown_at marks k
 
-    there : (o : Option (List ℕ)) → MatchOption o (¬ IsPriv seeds edges (record { 0 = k })) (λ path. IsSimplePath seeds edges path (record { 0 = k })) → is_some o ≡ true → IsPriv seeds edges (record { 0 = k })
+    there : (o : Option (List ℕ)) → MatchOption o (¬ IsPriv seeds edges (record { 0 = k })) (λ path. IsShortestPath seeds edges path (record { 0 = k })) → is_some o ≡ true → IsPriv seeds edges (record { 0 = k })
     there None m h = cc
     there (Some path) m h = (m.0, path, m.1, m.2)
 
-    back : (o : Option (List ℕ)) → MatchOption o (¬ IsPriv seeds edges (record { 0 = k })) (λ path. IsSimplePath seeds edges path (record { 0 = k })) → IsPriv seeds edges (record { 0 = k }) → is_some o ≡ true
+    back : (o : Option (List ℕ)) → MatchOption o (¬ IsPriv seeds edges (record { 0 = k })) (λ path. IsShortestPath seeds edges path (record { 0 = k })) → IsPriv seeds edges (record { 0 = k }) → is_some o ≡ true
     back None m h = absurd (m h)
     back (Some path) m h = refl
 

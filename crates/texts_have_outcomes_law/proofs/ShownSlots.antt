@@ -13,7 +13,7 @@ use Rattle.pt_base.specs.declared.ids.GlobalId.{GlobalId}
 use Rattle.pt_base.specs.declared.slot.Edge.{Edge}
 use Rattle.pt_base.specs.declared.slot.Slot.{Slot}
 use Rattle.propagation.specs.Marks.{AreMarks, Shown, path_shown}
-use Rattle.propagation.specs.Paths.{IsPriv, IsSimplePath}
+use Rattle.propagation.specs.Paths.{IsPriv, IsShortestPath}
 use Rattle.reach.proofs.ListLemmas.{contains_filter, contains_map, from_filter, from_map}
 use Rattle.reach.proofs.TableLemmas.{none_true, set_all_from, set_all_has}
 use Rattle.reach.specs.Contexts.{IsOwned}
@@ -58,7 +58,7 @@ same_slot t m n e = numbers_tie m n (both_tie (nat_cmp (name_at t (slot_at t m).
 -- ---- which are shown
 
 marked : (seeds : List Slot) (edges : List Edge) (s : Slot) (o : Option (List ℕ)) →
-    MatchOption o (¬ IsPriv seeds edges s) (λ path. IsSimplePath seeds edges path s) → (is_some o ≡ true) ↔ IsPriv seeds edges s
+    MatchOption o (¬ IsPriv seeds edges s) (λ path. IsShortestPath seeds edges path s) → (is_some o ≡ true) ↔ IsPriv seeds edges s
 marked seeds edges s None none = (λ h. cc, λ p. absurd (none p))
 marked seeds edges s (Some path) is = (λ h. (is.0, path, is.1, is.2), λ p. refl)
 

@@ -11,6 +11,9 @@ use crate::message::{CallBody, Message, ReplyBody};
 use pt_base::{IntType, Trap};
 use std::alloc::{AllocError, Global};
 
+// Most messages have fewer bytes, so that their bytes are moved to larger room seldom.
+const ROOM: usize = 1024;
+
 fn type_number(ty: IntType) -> u8
     ensures { result ≡ type_byte ty }
 {
@@ -308,7 +311,7 @@ pub fn write_message(alloc: Global, m: &Message, out: &mut Vec<u8>) -> Result<()
     ensures spelled { OnOk result (Spells m.now (spelling m.now)) }
     ensures err { OnErr result (out.new.items ≡ out.old.items) }
 {
-    let mut payload = Vec::new(alloc);
+    let mut payload = Vec::with_capacity(alloc, ROOM)?;
     put_payload(&mut payload, m)?;
     let before = out.len();
     out.extend_from_slice(&(payload.len() as u32).to_be_bytes())?;

@@ -2,7 +2,7 @@
 use Rattle.std.proofs.Common.{◌≤◌, ◌∙◌, ap, arith, length, subst}
 use Rattle.std.specs.Prelude.{MatchOption, slice_index_or}
 use Rattle.std.proofs.lemmas.List.{length-map}
-use Rattle.propagation.specs.Paths.{IsPriv, IsSimplePath, no_edge}
+use Rattle.propagation.specs.Paths.{IsPriv, IsShortestPath, no_edge}
 use Rattle.reach.specs.Tables.{slot_number}
 use Rattle.flow_rules.specs.Faults.{spans_of}
 use Rattle.flow_rules.proofs.PrivLemmas.{priv_below}
@@ -16,10 +16,10 @@ returns-clause-way c =
     let seeds = c.args.flows.now.sides.now.seeds in
     let edges = c.args.edges.now in
     let told = c.in_ok-shown.ensures.exact seeds edges _ c.requires.marks in
-    let simple : IsSimplePath seeds edges c.in-Some.path.items (slot_number c.args.slot) =
-    subst (λ o. MatchOption o (¬ IsPriv seeds edges (slot_number c.args.slot)) (λ path. IsSimplePath seeds edges path.items (slot_number c.args.slot))) c.in-Some.is told in (
+    let shortest : IsShortestPath seeds edges c.in-Some.path.items (slot_number c.args.slot) =
+    subst (λ o. MatchOption o (¬ IsPriv seeds edges (slot_number c.args.slot)) (λ path. IsShortestPath seeds edges path.items (slot_number c.args.slot))) c.in-Some.is told in (
       c.in-Some.path.items,
-      simple,
+      shortest,
       c.in_ok-spans.ensures ∙ ap (spans_of edges) c.as_slice-numbers.ensures.value,
     )
 

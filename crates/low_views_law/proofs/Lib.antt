@@ -1,0 +1,7 @@
+mod Made
+mod Pairs
+mod Replies
+mod Streams
+mod Told
+mod Unserved
+mod Worked

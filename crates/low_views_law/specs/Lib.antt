@@ -1,0 +1,4 @@
+pub mod Alike
+pub mod Laws
+pub mod Pairs
+pub mod Unserved
