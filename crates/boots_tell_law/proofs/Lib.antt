@@ -4,3 +4,4 @@ mod Asked
 mod Halves
 mod BareHalves
 mod Boots
+mod Selves

@@ -76,15 +76,24 @@ any_at {A} test (x ∷ xs) h = go (test x) refl (λ i. any_at test xs i) h
     go true e rest i = (0, x, refl, e)
     go false e rest i = let r = rest i in (suc (r.0), r.1, r.2, r.3)
 
-has_main : (t : TypedTree) → IsTrue (is_well_formed t) → (f : FnId) × HasName t f (codes "main")
+-- the function that is named main, which has a body
+has_main : (t : TypedTree) → IsTrue (is_well_formed t) → (f : FnId) × HasName t f (codes "main") × (g : FunctionTree) × (function_at t f ≡ Some g) × (is_some g.body ≡ true)
 has_main t well =
     let m = any_at is_start t.functions (facts_of t well).start in (
       record { 0 = m.0 },
       ap (λ (o : Option FunctionTree). option_map (λ (s : Signature). s.name) (option_map (λ (g : FunctionTree). g.signature) o)) m.2 ∙ ap Some ((bytes_eq-Decides m.1.signature.name (codes "main")).0 (and_left (is_main m.1.signature) _ m.3)),
+      m.1,
+      m.2,
+      and_left (is_some m.1.body) _ (and_right (is_main m.1.signature) _ m.3),
     )
 
 one_has_name : (t : TypedTree) → IsTrue (is_well_formed t) → (name : List ℕ) (f g : FnId) → HasName t f name → HasName t g name → f ≡ g
 one_has_name t well name f g h i = same_item f g (sym ((named_is t name f well).1 h) ∙ (named_is t name g well).1 i)
+
+pub main_has_body : (t : TypedTree) → IsTrue (is_well_formed t) → (f : FnId) → HasName t f (codes "main") → (g : FunctionTree) × (function_at t f ≡ Some g) × (is_some g.body ≡ true)
+main_has_body t well f h =
+    let m = has_main t well in
+    (m.2, ap (function_at t) (sym (one_has_name t well (codes "main") m.0 f m.1 h)) ∙ m.3, m.4)
 
 pub sound_of : (t : TypedTree) → IsTrue (is_well_formed t) → IsSound t
 sound_of t well = let m = has_main t well in record { start = m.0; named = m.1; alone = one_has_name t well (codes "main"); bodies = λ f g is. body_of_function t f g well is }

@@ -30,6 +30,10 @@ BootsTellNothingPrivileged = (t u : TypedTree) (a b : Accepted) (hosts others : 
     IsTrue (is_well_formed t) → IsTrue (is_well_formed u) → IsAccepted t a → IsAccepted u b → IsSameForSlave t u → AreSameForSlave t hosts others input other →
     boot_at t a hosts input budget ≡ boot_at u b others other budget
 
+-- A well-formed program is the same as itself for its slave.
+abbrev pub ProgramsAreTheSameAsThemselves : Type 0
+ProgramsAreTheSameAsThemselves = (t : TypedTree) → IsTrue (is_well_formed t) → IsSameForSlave t t
+
 -- Where they are the same for the slave but for places of the text, so are the boots.
 abbrev pub BootsTellOnlyPlaces : Type 0
 BootsTellOnlyPlaces = (t u : TypedTree) (a b : Accepted) (hosts others : table.Hosts) (input other : List ℕ) (budget : ℕ) →

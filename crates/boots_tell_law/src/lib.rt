@@ -2,7 +2,7 @@
 //! stands for its own hosts.
 #![tactic(auto)]
 
-ghost use Rattle.boots_tell_law.specs.Laws.{BootsTellNothingPrivileged, BootsTellOnlyPlaces, BootsTellOwnHostsAlone};
+ghost use Rattle.boots_tell_law.specs.Laws.{BootsTellNothingPrivileged, BootsTellOnlyPlaces, BootsTellOwnHostsAlone, ProgramsAreTheSameAsThemselves};
 
 use lowered_names_law::lowered_code_names_what_the_body_names;
 use lowered_places_law::places_alone_follow_places;
@@ -37,3 +37,8 @@ pub fn boots_tell_only_places()
     accepted_programs_share_nothing();
     places_alone_follow_places();
 }
+
+/// A well-formed program is the same as itself for its slave.
+pub fn programs_are_the_same_as_themselves()
+    ensures { ProgramsAreTheSameAsThemselves }
+{}
