@@ -1,5 +1,5 @@
 -- What a generated program comes to as a call.
-use Rattle.std.proofs.Common.{◌≡◌, ◌⊎◌, ◌∙◌, ℕ, List, [], Option, get_or, refl, sym, ap, subst, inl, inr}
+use Rattle.std.proofs.Common.{◌≡◌, ◌⊎◌, ◌∙◌, ℕ, List, [], Option, arith, get_or, refl, sym, ap, subst, inl, inr}
 use Rattle.std.proofs.lemmas.Fmt.{decimal_injective}
 use Rattle.std.specs.Io.KnownBytes.{Appends}
 use Rattle.pt_base.specs.declared.chooser.Who.{Who}
@@ -51,8 +51,10 @@ ran_turns seed count before after out out' writes writes' line end came whole (i
 
 -- the words are of one seed and one number of functions
 pub same_made : (words : List (List ℕ)) (seed count seed' count' : ℕ) → IsGenerated words seed count → IsGenerated words seed' count' → (seed ≡ seed') × (count ≡ count')
-same_made words seed count seed' count' a b = let same = sym a.are ∙ b.are in
-    (decimal_injective seed seed' (ap (λ xs. get_or xs 1 []) same), decimal_injective count count' (ap (λ xs. get_or xs 2 []) same))
+same_made words seed count seed' count' a b = let same = sym a.are ∙ b.are in (
+  decimal_injective seed seed' (omega (arith, a.seed_most)) (omega (arith, b.seed_most)) (ap (λ xs. get_or xs 1 []) same),
+  decimal_injective count count' (omega (arith, a.count_most)) (omega (arith, b.count_most)) (ap (λ xs. get_or xs 2 []) same),
+)
 
 -- a call that is reported with the status of a run ends so
 pub run_ends : (report report' : Option (List ℕ)) (failed failed' status : ℕ) (e : Ending) → Reports e report report' failed failed' status → IsOfRun status → IsOfRun (status_of e)

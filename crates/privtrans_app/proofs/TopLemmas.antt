@@ -1,5 +1,5 @@
 -- What is told of a call, of the spawner and of out, before and after.
-use Rattle.std.proofs.Common.{◌≡◌, ◌⊎◌, ℕ, Bool, List, Option, Some, subst}
+use Rattle.std.proofs.Common.{◌≡◌, ◌⊎◌, ℕ, Bool, List, Option, Some, inl, inr, subst}
 use Rattle.std.specs.Io.KnownBytes.{Keeps}
 use Rattle.pt_base.specs.Files.{Files}
 use Rattle.pt_base.specs.Talk.{Event}
