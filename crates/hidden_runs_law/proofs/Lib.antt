@@ -1,0 +1,4 @@
+pub mod Begun
+pub mod Low
+pub mod Streams
+pub mod Tables

@@ -1,0 +1,4 @@
+pub mod Laws
+pub mod Links
+pub mod Peers
+pub mod Planned
