@@ -1,7 +1,7 @@
 -- Counting what pointers reach.
-use Rattle.std.proofs.Common.{◌≡◌, ◌<◌, ◌≤◌, ◌+◌, ◌*◌, ◌-◌, ◌++◌, ◌∙◌, sym, ap, refl, ℕ, zero, suc, Bool, true, false, List, [], ◌∷◌, length, drop, get_or, map, arith, Option, None, Some}
+use Rattle.std.proofs.Common.{◌≡◌, ◌<◌, ◌≤◌, ◌+◌, ◌*◌, ◌-◌, ◌∙◌, sym, ap, refl, ℕ, zero, suc, Bool, true, false, List, [], ◌∷◌, length, drop, get_or, arith, Option, None, Some}
 use Rattle.std.specs.Prelude.{◌&&◌, nat_le, nat_lt, slice_index_or, if◌then◌else◌}
-use Rattle.std.specs.List.{flat_map, list_all}
+use Rattle.std.specs.List.{flat_map}
 use Rattle.std.proofs.lemmas.Bool.Decides.{nat_tests}
 use Rattle.std.proofs.lemmas.List.{drop_all, length-append, length-map}
 use Rattle.pt_base.specs.declared.int_type.IntType.{IntType}
@@ -20,34 +20,27 @@ use Rattle.wire.specs.declared.cell.Arg.TheVariants as argument
 use Rattle.wire.specs.declared.cell.WireCell.{WireCell}
 use Rattle.wire.specs.declared.message.CallBody.{CallBody}
 use Rattle.marshalling.specs.Leaves.{field_cells, leaves_of, name_earlier, object_cells, under}
-use Rattle.marshalling.specs.Shape.{all_within, fit_all, fits_kind, fits_range, is_shaped, kind_within, lies_within, up_to}
+use Rattle.marshalling.specs.Shape.{all_within, fit_all, fits_kind, fits_range, is_shaped, kind_within, up_to}
 use Rattle.marshalling.proofs.LeafLemmas.{leaves_of_int, leaves_of_struct}
 use Rattle.marshalling.proofs.Lists.{at_drop, first, second}
 
 -- ---- sizes up to a most
 
-pub up_to_some : (most size got : ℕ) → Some got ≡ up_to most size → (got ≡ size) × (size ≤ most)
+up_to_some : (most size got : ℕ) → Some got ≡ up_to most size → (got ≡ size) × (size ≤ most)
 up_to_some most size got h = go (nat_le size most) refl h
   where
     go : (b : Bool) → nat_le size most ≡ b → Some got ≡ (if b then Some size else None) → (got ≡ size) × (size ≤ most)
     go true is h = (cc, grind (arith, nat_tests, is))
     go false is h = cc
 
-pub up_to_none : (most size : ℕ) → None ≡ up_to most size → most < size
+up_to_none : (most size : ℕ) → None ≡ up_to most size → most < size
 up_to_none most size h = go (nat_le size most) refl h
   where
     go : (b : Bool) → nat_le size most ≡ b → None ≡ (if b then Some size else None) → most < size
     go true is h = cc
     go false is h = grind (arith, nat_tests, is)
 
-pub under_most : (most size : ℕ) → size ≤ most → Some size ≡ up_to most size
-under_most most size h = go (nat_le size most) refl
-  where
-    go : (b : Bool) → nat_le size most ≡ b → Some size ≡ (if b then Some size else None)
-    go true is = refl
-    go false is = absurd (grind (arith, nat_tests, is, h))
-
-pub over_most : (most size : ℕ) → most < size → None ≡ up_to most size
+over_most : (most size : ℕ) → most < size → None ≡ up_to most size
 over_most most size h = go (nat_le size most) refl
   where
     go : (b : Bool) → nat_le size most ≡ b → None ≡ (if b then Some size else None)
@@ -99,17 +92,9 @@ size_fails structs fields i f size most whole lt read room got so_far =
     let high = up_to_none (most - size) (length (object_cells structs f.ty)) got in
     over_most most whole (omega (arith, parts, high, room, so_far))
 
-pub size_ends : (structs : List StructInfo) (fields : List Field) (i size most whole : ℕ) → length fields ≤ i → size ≤ most
-    → size + length (flat_map (field_cells structs) (drop i fields)) ≡ whole → Some size ≡ up_to most whole
-size_ends structs fields i size most whole past room so_far =
-    let none : length (flat_map (field_cells structs) (drop i fields)) ≡ 0 =
-    ap (λ fs. length (flat_map (field_cells structs) fs)) (drop_all i fields past) in
-    let all : size ≡ whole = omega (arith, none, so_far) in
-    under_most most size room ∙ ap (up_to most) all
-
 -- ---- the sizes of several elements
 
-pub repeated_size : {X : Type 0} (count : ℕ) (xs : List X) → length (repeated count xs) ≡ count * length xs
+repeated_size : {X : Type 0} (count : ℕ) (xs : List X) → length (repeated count xs) ≡ count * length xs
 repeated_size zero xs = omega arith
 repeated_size (suc count) xs =
     let more = length-append xs (repeated count xs) in
@@ -146,7 +131,7 @@ within_if_fits structs blocks marked (kind.Ptr elem fixed) (argument.At block ba
     both true false c d e h = cc
     both false b c d e h = cc
 
-pub all_within_if_fit : (structs : List StructInfo) (blocks : List (List (IntType × WireCell))) (params : List Param) (args : List Arg)
+all_within_if_fit : (structs : List StructInfo) (blocks : List (List (IntType × WireCell))) (params : List Param) (args : List Arg)
     → fit_all structs blocks params args ≡ true → all_within structs blocks params args ≡ true
 all_within_if_fit structs blocks [] args h = refl
 all_within_if_fit structs blocks (p ∷ params) [] h = refl

@@ -1,5 +1,5 @@
 // A child process as a spawner, and the parent as a link.
-ghost use Rattle.std.specs.Prelude.{◌≡◌, ◌≤◌, IfOk, IsTrue, None, false, vec_len};
+ghost use Rattle.std.specs.Prelude.{◌≡◌, ◌≤◌, IfOk, IsTrue, None, false, suc, vec_len};
 ghost use Rattle.pt_base.specs.Faults.{Rose};
 ghost use Rattle.pt_base.specs.declared.link.LinkFault.TheVariants.{Failed};
 
@@ -72,6 +72,7 @@ impl<R: Processes, I: Read + Drop, O: AsFd + Drop> Child<R, I, O> {
     fn fault(&mut self, kind: ErrorKind) -> LinkFault
         ensures rose { result ≡ Failed → Rose self.old.faults self.new.faults }
         ensures later { self.old.faults ≤ self.new.faults }
+        ensures once { self.new.faults ≤ suc self.old.faults }
         ensures ready { self.new.ready ≡ self.old.ready }
     {
         match kind {

@@ -38,7 +38,8 @@ impl<T: Drop> From<AllocFailed<T>> for FolderFault {
     }
 }
 
-/// A folder of named files. What it holds is told optionally; its two counts of faults never fall.
+/// A folder of named files. What it holds is told optionally; its two counts of faults never fall,
+/// and a call raises its own by one at most and not at all where it serves.
 pub trait Folder {
     /// What each name holds.
     ghost files: { Self → Option Files };

@@ -28,7 +28,8 @@ impl From<AllocError> for LinkFault {
 }
 
 /// The way to a peer and back. What was sent and what it gave are told optionally; its count of
-/// faults never falls, and once it is ready it stays so.
+/// faults never falls, a call raises it by one at most and not at all where it serves, and once the
+/// link is ready it stays so.
 pub trait Link {
     /// The bytes that were sent.
     ghost sent: { Self → Option (List ℕ) };

@@ -27,7 +27,7 @@ impl From<AllocError> for SinkFault {
 }
 
 /// What takes bytes. The bytes that it has taken are told optionally; its count of faults never
-/// falls.
+/// falls, and a write raises it by one at most and not at all where the bytes are taken.
 pub trait Sink {
     /// The bytes that it has taken.
     ghost taken: { Self → Option (List ℕ) };

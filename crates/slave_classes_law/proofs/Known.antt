@@ -210,7 +210,7 @@ between_below v top x y low less = (less, go v.back)
     go true = (low, tt)
     go false = tt
 
-leaf_low : (s k j top : ℕ) → j < k → s + k ≤ top → s + j < top
+pub leaf_low : (s k j top : ℕ) → j < k → s + k ≤ top → s + j < top
 leaf_low s k j top less h = omega (arith, less, h)
 
 from_below : (v : Move) (top k j x : ℕ) (ys : List ℕ) → j < k → x + j < top → AllRoom top k ys → EndBelow top (flat_map (λ y. edges_between v (x + j) (y + j)) ys)
@@ -236,7 +236,7 @@ filter_room top k test (x ∷ xs) h = go (test x) (filter_room top k test xs h.1
     go true rest = (h.0, rest)
     go false rest = rest
 
-once_room : (top k : ℕ) (xs : List ℕ) → AllRoom top k xs → AllRoom top k (first_of_each xs)
+pub once_room : (top k : ℕ) (xs : List ℕ) → AllRoom top k xs → AllRoom top k (first_of_each xs)
 once_room top k [] h = tt
 once_room top k (x ∷ xs) h = (h.0, filter_room top k (λ y. not (nat_eq y x)) (first_of_each xs) (once_room top k xs h.1))
 
@@ -433,7 +433,7 @@ usage_tight t a n f temps u g rooms h known targets room =
     }
 
 -- a part of an expression
-inner_targets : (how : How) (t : TypedTree) (n : ℕ) (f : FunctionTree) (o : Option VarTy) → Facts t → IsInner how → ((g : FnId) (k : ℕ) → how ≡ Passed g k → Passes (names_in t f) g k o) → AllRoom (top_of t) (value_count (leaf_count t.structs) o) (target_slots t n how o)
+pub inner_targets : (how : How) (t : TypedTree) (n : ℕ) (f : FunctionTree) (o : Option VarTy) → Facts t → IsInner how → ((g : FnId) (k : ℕ) → how ≡ Passed g k → Passes (names_in t f) g k o) → AllRoom (top_of t) (value_count (leaf_count t.structs) o) (target_slots t n how o)
 inner_targets Kept t n f o facts inner passes = tt
 inner_targets Operated t n f o facts inner passes = tt
 inner_targets (Passed g k) t n f o facts inner passes = passed_room t g k o facts (callee_of t f g k o (passes g k refl))
@@ -458,7 +458,7 @@ inner_tight t a n f temps (u ∷ us) facts g rooms known right =
     )
 
 -- an outermost expression
-outer_targets : (how : How) (t : TypedTree) (a : Accepted) (n : ℕ) (f : FunctionTree) (temps : List Temp) (o : Option VarTy) → let b = bench t a n f temps in NoArgument how → AllRoom (top_of t) (count b o) (outer_slots b how o) → AllRoom (top_of t) (count b o) (target_slots t n how o)
+pub outer_targets : (how : How) (t : TypedTree) (a : Accepted) (n : ℕ) (f : FunctionTree) (temps : List Temp) (o : Option VarTy) → let b = bench t a n f temps in NoArgument how → AllRoom (top_of t) (count b o) (outer_slots b how o) → AllRoom (top_of t) (count b o) (target_slots t n how o)
 outer_targets Kept t a n f temps o free room = tt
 outer_targets Operated t a n f temps o free room = tt
 outer_targets (Passed g k) t a n f temps o free room = never (free g k refl)

@@ -27,3 +27,4 @@ pub mod Initialisers
 pub mod Statements
 pub mod Known
 pub mod Programs
+pub mod Joins

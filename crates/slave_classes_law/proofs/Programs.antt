@@ -147,7 +147,7 @@ global_object t a n f temps facts g ty is =
         same : (c d : VarTy) → Some c ≡ Some d → c ≡ d
         same c d h = cc
 
-bench_fits : (t : TypedTree) (a : Accepted) (n : ℕ) (f : FunctionTree) (body : BodyTree) (temps : List Temp) → Facts t → slice_get t.functions n ≡ Some f → f.body ≡ Some body → Fits (bench t a n f temps)
+pub bench_fits : (t : TypedTree) (a : Accepted) (n : ℕ) (f : FunctionTree) (body : BodyTree) (temps : List Temp) → Facts t → slice_get t.functions n ≡ Some f → f.body ≡ Some body → Fits (bench t a n f temps)
 bench_fits t a n f body temps facts here is = record {
   agrees = agrees t f temps facts (sound_at t n f body facts here is).vars;
   locals = local_object t a n f temps here;
@@ -155,7 +155,7 @@ bench_fits t a n f body temps facts here is = record {
   results = λ g h. and_right (not (option_map_or (λ (x : FunctionTree). is_main x.signature) (slice_get t.functions g) false)) (marks_of t a (result_start t + g)) h;
 }
 
-bench_rooms : (t : TypedTree) (a : Accepted) (n : ℕ) (f : FunctionTree) (temps : List Temp) → Rooms (top_of t) (bench t a n f temps)
+pub bench_rooms : (t : TypedTree) (a : Accepted) (n : ℕ) (f : FunctionTree) (temps : List Temp) → Rooms (top_of t) (bench t a n f temps)
 bench_rooms t a n f temps = record {
   locals = λ x start ty is. variable_within t n x (record { ty = ty; start = start }) is;
   globals = λ x start ty is. global_within t x (record { ty = ty; start = start }) is;

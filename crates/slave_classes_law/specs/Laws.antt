@@ -1,16 +1,19 @@
 -- The slave's code is fine in the classes that an accepted program's marks give.
-use Rattle.std.specs.Prelude.{◌≡◌, ◌<◌, ℕ, Bool, true, false, Some, IsTrue, slice_get, get_or, is_some, not, ◌&&◌, ◌||◌}
+use Rattle.std.specs.Prelude.{◌≡◌, ◌<◌, ℕ, Bool, true, false, Some, All, IsTrue, length, slice_get, get_or, is_some, not, ◌&&◌, ◌||◌}
 use Rattle.std.specs.Option.{option_map_or}
+use Rattle.pt_base.specs.declared.slot.Edge.{Edge}
 use Rattle.pt_tree.specs.declared.signature.Param.{Param}
 use Rattle.typed_tree.specs.TypedTree.{TypedTree, FunctionTree}
 use Rattle.typed_tree.specs.WellFormed.{is_well_formed}
 use Rattle.typed_tree.specs.WellFormedExpression.{is_main, param_type}
 use Rattle.sides.specs.Leaves.{leaves_of, whole}
 use Rattle.sides.specs.Seeds.{is_out, is_sealed_result}
+use Rattle.sides.specs.Slots.{slots_of}
+use Rattle.sides.specs.declared.halves.Sides.{Sides}
 use Rattle.pt_core.specs.Types.{pointee_type}
 use Rattle.object_classes_law.specs.Cells.{leaf_under}
 use Rattle.flow_rules.specs.declared.accepted.Accepted.{Accepted}
-use Rattle.flow_rules.specs.Faults.{IsAccepted, flows_of}
+use Rattle.flow_rules.specs.Faults.{IsAccepted, edges_of_all, flows_of}
 use Rattle.pt_core.specs.CodeTree.{ProgramTree}
 use Rattle.pt_core.specs.WellFormed.{slave_program}
 use Rattle.lowering.specs.Functions.{functions_from}
@@ -91,3 +94,11 @@ MarkedWorlds = (m : Marks) (t : TypedTree) → KeepsOwn (slave_world m t) × Ask
 -- and of a well formed program
 abbrev pub SealedCells : Type 0
 SealedCells = (m : Marks) (t : TypedTree) → IsTrue (is_well_formed t) → SealedCellsMayCome t (slave_world m t)
+
+-- both ends of the edge are slots of the program
+abbrev pub JoinsSlots : TypedTree → Edge → Type 0
+JoinsSlots t e = (e.from.0 < length (slots_of t)) × (e.to.0 < length (slots_of t))
+
+-- each edge of a well formed program joins two of its slots
+abbrev pub EdgesJoinSlots : Type 0
+EdgesJoinSlots = (t : TypedTree) (s : Sides) → IsTrue (is_well_formed t) → All (JoinsSlots t) (edges_of_all t s)

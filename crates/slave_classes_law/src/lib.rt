@@ -3,7 +3,7 @@
 //! they hold, and in these classes all of the slave's code is fine.
 #![tactic(auto)]
 
-ghost use Rattle.slave_classes_law.specs.Laws.{MarkedWorlds, SealedCells, SlaveClasses};
+ghost use Rattle.slave_classes_law.specs.Laws.{EdgesJoinSlots, MarkedWorlds, SealedCells, SlaveClasses};
 
 /// In the classes that any marks give, a handle is asked for by marked parameters alone, main gives
 /// none, no variable must hold a handle that it may not, the slave's own functions take what their
@@ -22,4 +22,10 @@ pub fn sealed_cells()
 /// comes back sealed only where the classes let it, and main gives none.
 pub fn slave_classes()
     ensures { SlaveClasses }
+{}
+
+/// Of every well formed program each edge joins two of its slots. So no edge is refused for where it
+/// leads.
+pub fn edges_join_slots()
+    ensures { EdgesJoinSlots }
 {}

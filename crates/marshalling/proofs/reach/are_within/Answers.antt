@@ -1,8 +1,3 @@
-use Rattle.std.proofs.Common.{drop, get_or, length}
-use Rattle.std.specs.List.{list_all}
-use Rattle.marshalling.specs.Leaves.{is_pointee, name_earlier}
-use Rattle.marshalling.proofs.Lists.{all_at, second, self_read}
-use Rattle.marshalling.proofs.RangeLemmas.{no_param}
 use Rattle.marshalling.proofs.ReachLemmas.{within_ends}
 use Rattle.marshalling.proofs.reach.are_within.Goals as goal
 

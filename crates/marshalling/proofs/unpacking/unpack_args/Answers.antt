@@ -1,4 +1,4 @@
-use Rattle.std.proofs.Common.{◌≡◌, ◌∙◌, ap, sym, true}
+use Rattle.std.proofs.Common.{◌≡◌, ◌∙◌, ap, sym}
 use Rattle.marshalling.specs.Shape.{is_shaped}
 use Rattle.marshalling.proofs.ReachLemmas.{shaped_within}
 use Rattle.marshalling.proofs.unpacking.unpack_args.Goals as goal
