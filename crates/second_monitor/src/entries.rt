@@ -41,11 +41,14 @@ pub enum Gives {
     Told,
 }
 
-/// A function or host that a slave calls.
+/// A function or host of the monitor that a slave calls.
 #[derive(Clone, Copy)]
 pub struct Entry {
+    /// Whether it is a host, whose calls have the depth 0.
     pub is_host: bool,
+    /// Its parameters in their order.
     pub params: &'static [Param],
+    /// What comes back as its result.
     pub gives: Gives,
 }
 
@@ -57,10 +60,12 @@ pub struct Field {
 }
 
 impl Param {
+    /// Whether it is marked itself, so that a handle may stand for what it has or points to.
     pub fn is_marked(self) -> bool {
         matches!(self, Param::Marked(_) | Param::ToMarked(_))
     }
 
+    /// Whether it points to cells that don't come back.
     pub fn is_const(self) -> bool {
         matches!(self, Param::ToConst(_))
     }

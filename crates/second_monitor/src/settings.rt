@@ -32,6 +32,7 @@ impl Setting {
         }
     }
 
+    /// Its program.
     pub fn program(self) -> Program {
         match self {
             Setting::Signer | Setting::OtherSecret => Program::Signer,
