@@ -3,6 +3,7 @@ ghost use Rattle.std.specs.Prelude.{◌≡◌, ◌++◌, IfOk, OnOk, codes};
 ghost use Rattle.fault_lines.specs.FaultLines.{place_text};
 ghost use Rattle.flow_check.specs.FlowLines as is;
 
+use crate::room::room_for;
 use fault_lines::{push_numbered, push_span};
 use flow_rules::{FlowFault, Rule};
 use pt_base::Span;
@@ -71,13 +72,14 @@ fn push_fault(fault: &FlowFault, lines: &mut Vec<u8>) -> Result<(), AllocError>
 ///
 /// # Errors
 ///
-/// Want of memory.
+/// Want of memory; more than [`MOST_LINE_BYTES`](crate::MOST_LINE_BYTES) of lines are that too.
 pub fn flow_lines(alloc: Global, faults: &[FlowFault]) -> Result<Vec<u8>, AllocError>
     ensures { IfOk result (λ lines. lines.items ≡ is.flow_lines faults.now) }
 {
     let mut lines = Vec::new(alloc);
     for fault in faults {
         push_fault(fault, &mut lines)?;
+        room_for(lines.as_slice())?;
     }
     Ok(lines)
 }
