@@ -119,6 +119,11 @@ impl Left {
                 part_of(self.peer.sent(), whole.peer.sent())
             )?;
         }
+        self.push_files(told, whole)
+    }
+
+    // Appends of each file that was written, or changed, whether it is as another call left it.
+    fn push_files(&self, told: &mut String, whole: &Left) -> Result<(), AllocError> {
         for (place, file) in self.folder.files().iter().enumerate() {
             let kept = is_file(whole.folder.files().get(place), file);
             if !kept {
