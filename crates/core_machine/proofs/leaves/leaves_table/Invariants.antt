@@ -1,4 +1,4 @@
-use Rattle.std.proofs.Common.{◌≡◌, ◌+◌, ◌^◌, ◌×◌, [], drop, length, sum_by}
+use Rattle.std.proofs.Common.{◌≡◌, ◌+◌, ◌^◌, [], drop, length, sum_by}
 use Rattle.typed_tree.specs.Cells.{leaves_from}
 use Rattle.core_machine.proofs.leaves.leaves_table.Given as goal
 
