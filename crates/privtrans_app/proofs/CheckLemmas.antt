@@ -119,7 +119,7 @@ looked_at Lines text = text
 looked_at Blocks text = first_bytes text
 
 -- what a check comes to behind what is found
-Behind : Manner → List ℕ → Findings → Type 0
+abbrev Behind : Manner → List ℕ → Findings → Type 0
 Behind manner text f = (o : Outcome) × flows.ComesTo (looked_at manner text) o × (status_seen o ≡ status_found f)
 
 behind : (manner : Manner) (name text : List ℕ) (f : Findings) → Finds manner name text f → Behind manner text f

@@ -18,7 +18,7 @@ pub record AreHeld (words : List (List ℕ)) (files : Option Files) (text : List
   pub program : HoldsAt files program_name text
 
 -- What is found in a text: faults, which a report tells, or none, and then lines show its privileged variables.
-data pub Findings : Type 0 where
+pub data Findings : Type 0 where
   faulty : List ℕ → Findings
   clean : List ℕ → Findings
 

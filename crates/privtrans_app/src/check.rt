@@ -27,7 +27,7 @@ pub(crate) enum Findings {
 }
 
 // What is found in a text, as these words have it told.
-fn findings<R: Threads + Sync, W: Watch>(
+fn find<R: Threads + Sync, W: Watch>(
     rt: &R,
     alloc: Global,
     words: &CheckWords<'_>,
@@ -41,7 +41,7 @@ fn findings<R: Threads + Sync, W: Watch>(
             Outcome::Refused(lines) => Ok(Findings::Faulty(lines)),
             Outcome::Checked(lines) => Ok(Findings::Clean(lines)),
         },
-        Manner::Blocks => match explain(rt, alloc, words.program, text, watch)? {
+        Manner::Blocks => match explain(rt, alloc, words.program.as_bytes(), text, watch)? {
             Explained::Refused(blocks) => Ok(Findings::Faulty(blocks)),
             Explained::Checked(lines) => Ok(Findings::Clean(lines)),
         },
@@ -57,7 +57,7 @@ pub(crate) fn check<'a, R: Threads + Sync, F: Folder, K: Sink, W: Watch>(
     out: &mut K,
     watch: &W,
 ) -> Ending<'a>
-    ensures ending { (given : List (List ℕ)) → IsCheck given words.entry.manner words.entry.program.entry.now →
+    ensures ending { (given : List (List ℕ)) → IsCheck given words.now.manner words.now.program.now →
         ComesTo given (F.files folder.old) (F.read_faults folder.old) (F.read_faults folder.new)
         (K.taken out.old) (K.taken out.new) (K.faults out.old) (K.faults out.new) (ending_seen result) }
     ensures silent { is_silent (ending_seen result) ≡ true → out.new ≡ out.old }
@@ -70,7 +70,7 @@ pub(crate) fn check<'a, R: Threads + Sync, F: Folder, K: Sink, W: Watch>(
         Ok(text) => text,
         Err(ending) => return ending,
     };
-    match findings(rt, alloc, words, &text, watch) {
+    match find(rt, alloc, words, &text, watch) {
         Ok(Findings::Faulty(report)) => Ending::Faults(report),
         Ok(Findings::Clean(lines)) => put(alloc, out, &lines, Ending::Accepted),
         Err(_) => Ending::Memory,
