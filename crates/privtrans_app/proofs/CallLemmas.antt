@@ -11,7 +11,7 @@ use Rattle.program_split.specs.Split.{Outcome, refused, split as split_in}
 use Rattle.program_split.specs.Laws.{without_ways}
 use Rattle.program_split.proofs.OneOutcome.{outcome_is_one}
 use Rattle.privtrans_app.specs.Words.{IsCheck, IsGenerated, IsHelp, IsLocal, IsOrig, IsProcessRun, IsRun, IsSlave, IsVersion, of_local, of_process_run, of_orig, of_check}
-use Rattle.privtrans_app.specs.declared.words.Manner.{Manner}
+use Rattle.privtrans_app.specs.Words.{Manner}
 use Rattle.privtrans_app.specs.Ending as endings
 use Rattle.privtrans_app.specs.Ending.{Ending, help, version, exit, accepted, split, worked, usage, missing, read_fault, write_fault, faults, trapped, spent, link_fault, bad_peer, peer_ended, memory, status_of, Reports, StaysDown, EndsWith}
 use Rattle.privtrans_app.specs.Causes.{IsByForm, IsByFiles}

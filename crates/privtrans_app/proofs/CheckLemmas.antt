@@ -9,22 +9,20 @@ use Rattle.flow_check.proofs.Cuts.{cut_whole}
 use Rattle.flow_check.proofs.OneOutcome.{outcome_is_one}
 use Rattle.explaining.specs.Explains.{Explains}
 use Rattle.explaining.specs.Explains as explained
-use Rattle.privtrans_app.specs.Words.{IsCheck, IsNoCheck, of_check, word_of}
+use Rattle.privtrans_app.specs.Words.{IsCheck, IsNoCheck, Manner, by_lines, in_blocks, of_check, word_of}
 use Rattle.privtrans_app.specs.Ending.{Ending, accepted, faults, status_of, Puts}
 use Rattle.privtrans_app.specs.Held.{IsReached}
 use Rattle.privtrans_app.specs.CheckRun.{AreHeld, Findings, faulty, clean, found, first_bytes, Finds, IsEnding, ComesTo}
 use Rattle.privtrans_app.specs.FindingsSeen.{AreFound, findings_of}
 use Rattle.privtrans_app.specs.declared.check.Findings as code
 use Rattle.privtrans_app.specs.declared.check.Findings.TheVariants.{Faulty, Clean}
-use Rattle.privtrans_app.specs.declared.words.Manner.{Manner}
-use Rattle.privtrans_app.specs.declared.words.Manner.TheVariants.{Lines, Blocks}
 use Rattle.privtrans_app.specs.Causes as causes
 use Rattle.privtrans_app.proofs.CauseLemmas.{keeps_same, run_comes}
 
 -- words that are no check are none in either manner
 pub no_check_of : (words : List (List ℕ)) → IsNoCheck words → (manner : Manner) (program : List ℕ) → IsCheck words manner program → ⊥
-no_check_of words none Lines program form = none.0 program form
-no_check_of words none Blocks program form = none.1 program form
+no_check_of words none by_lines program form = none.0 program form
+no_check_of words none in_blocks program form = none.1 program form
 
 -- the one file of a check
 pub check_reached : (given : List (List ℕ)) (files : Option Files) (manner : Manner) (program : List ℕ) → IsCheck given manner program → IsReached given files program
@@ -32,11 +30,11 @@ check_reached given files manner program form = record { before = []; after = []
 
 -- what is found in the first bytes of a text is found in it
 finds_of : (manner : Manner) (name text cut : List ℕ) (x : code.Findings) → cut ≡ first_bytes text → AreFound manner name cut x → Finds manner name text (findings_of x)
-finds_of Lines name text cut (Faulty lines) first are =
+finds_of by_lines name text cut (Faulty lines) first are =
     (refused are.refusal, cut_whole text (refused are.refusal) (subst (λ (t : List ℕ). flows.ComesTo t (refused are.refusal)) first are.is), ap faulty are.lines_are)
-finds_of Lines name text cut (Clean lines) first is = (checked lines.items, cut_whole text (checked lines.items) (subst (λ (t : List ℕ). flows.ComesTo t (checked lines.items)) first is), refl)
-finds_of Blocks name text cut (Faulty blocks) first is = subst (λ (t : List ℕ). Explains name t blocks.items) first is
-finds_of Blocks name text cut (Clean lines) first is = subst (λ (t : List ℕ). explained.IsHeld name t lines.items) first is
+finds_of by_lines name text cut (Clean lines) first is = (checked lines.items, cut_whole text (checked lines.items) (subst (λ (t : List ℕ). flows.ComesTo t (checked lines.items)) first is), refl)
+finds_of in_blocks name text cut (Faulty blocks) first is = subst (λ (t : List ℕ). Explains name t blocks.items) first is
+finds_of in_blocks name text cut (Clean lines) first is = subst (λ (t : List ℕ). explained.IsHeld name t lines.items) first is
 
 -- what a file comes to of which these are the first bytes
 comes_of : (given : List (List ℕ)) (manner : Manner) (program : List ℕ) (files : Option Files) (cut : List ℕ) (x : code.Findings) → IsCheck given manner program → GivesFirst files program 1048577 cut
@@ -70,10 +68,10 @@ five_or_seven : (n : ℕ) → n ≡ 5 → n ≡ 7 → ⊥
 five_or_seven n a b = omega arith
 
 same_manner : (a b : Manner) → word_of a ≡ word_of b → a ≡ b
-same_manner Lines Lines same = refl
-same_manner Lines Blocks same = absurd (five_or_seven (length (word_of Lines)) refl (ap length same))
-same_manner Blocks Lines same = absurd (five_or_seven (length (word_of Lines)) refl (ap length (sym same)))
-same_manner Blocks Blocks same = refl
+same_manner by_lines by_lines same = refl
+same_manner by_lines in_blocks same = absurd (five_or_seven (length (word_of by_lines)) refl (ap length same))
+same_manner in_blocks by_lines same = absurd (five_or_seven (length (word_of by_lines)) refl (ap length (sym same)))
+same_manner in_blocks in_blocks same = refl
 
 word : (words words' : List (List ℕ)) (n : ℕ) → words ≡ words' → get_or words n [] ≡ get_or words' n []
 word words words' n same = ap (λ xs. get_or xs n []) same
@@ -115,17 +113,17 @@ ending_found (clean lines) e is = ap status_of is
 
 -- the text that a manner looks at
 abbrev looked_at : Manner → List ℕ → List ℕ
-looked_at Lines text = text
-looked_at Blocks text = first_bytes text
+looked_at by_lines text = text
+looked_at in_blocks text = first_bytes text
 
 -- what a check comes to behind what is found
 abbrev Behind : Manner → List ℕ → Findings → Type 0
 Behind manner text f = (o : Outcome) × flows.ComesTo (looked_at manner text) o × (status_seen o ≡ status_found f)
 
 behind : (manner : Manner) (name text : List ℕ) (f : Findings) → Finds manner name text f → Behind manner text f
-behind Lines name text f finds = (finds.0, finds.1, found_seen finds.0 ∙ ap status_found (sym finds.2))
-behind Blocks name text (faulty report) finds = (refused finds.refusal, finds.refused, refl)
-behind Blocks name text (clean lines) finds =
+behind by_lines name text f finds = (finds.0, finds.1, found_seen finds.0 ∙ ap status_found (sym finds.2))
+behind in_blocks name text (faulty report) finds = (refused finds.refusal, finds.refused, refl)
+behind in_blocks name text (clean lines) finds =
     (checked _, (finds.0, finds.1, record { accepted = finds.2.accepted; is = finds.2.is; slots = finds.2.slots; shown = finds.2.shown; lines_are = refl }), refl)
 
 pub same_status : (manner : Manner) (name text : List ℕ) (a b : Findings) (e e' : Ending) → Finds manner name text a → Finds manner name text b → IsEnding a e → IsEnding b e' → status_of e ≡ status_of e'

@@ -10,7 +10,7 @@ use Rattle.local_pair.specs.Local as pairs
 use Rattle.local_pair.proofs.OneOutcome as pair_outcomes
 use Rattle.privtrans_app.specs.Ending.{Ending, help, version, exit, accepted, split, worked, usage, missing, read_fault, write_fault, faults, trapped, refused, spent, link_fault, bad_peer, peer_ended, memory, status_of, Reports, StaysDown, EndsWith}
 use Rattle.privtrans_app.specs.Held.{IsHeld, AllHeld, IsReached}
-use Rattle.privtrans_app.specs.declared.words.Manner.{Manner}
+use Rattle.privtrans_app.specs.Words.{Manner}
 use Rattle.privtrans_app.specs.LocalRun as local
 use Rattle.privtrans_app.specs.CheckRun as check
 use Rattle.privtrans_app.specs.OrigRun as orig

@@ -25,7 +25,7 @@ use Rattle.local_pair.proofs.OneOutcome.{outcome_is_one}
 use Rattle.privtrans_app.specs.Words.{of_local, of_process_run, of_orig, of_check}
 use Rattle.privtrans_app.specs.Ending as endings
 use Rattle.privtrans_app.specs.Ending.{Ending, help, version, exit, accepted, split, worked, usage, missing, read_fault, write_fault, faults, trapped, spent, link_fault, bad_peer, peer_ended, memory, status_of, report_of, Reports, StaysDown}
-use Rattle.privtrans_app.specs.declared.words.Manner.{Manner}
+use Rattle.privtrans_app.specs.Words.{Manner}
 use Rattle.privtrans_app.specs.CheckRun as check
 use Rattle.privtrans_app.specs.LocalRun as local
 use Rattle.privtrans_app.specs.OrigRun as orig

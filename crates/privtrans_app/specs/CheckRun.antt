@@ -5,10 +5,8 @@ use Rattle.fault_lines.specs.Seen.{Seen, faulty as faulty_seen}
 use Rattle.flow_check.specs.Checked as flows
 use Rattle.flow_check.specs.Checked.{Outcome, refused, checked, lines_of}
 use Rattle.explaining.specs.Explains.{Explains, IsHeld}
-use Rattle.privtrans_app.specs.Words.{IsCheck}
+use Rattle.privtrans_app.specs.Words.{IsCheck, Manner, by_lines, in_blocks}
 use Rattle.privtrans_app.specs.Ending.{Ending, accepted, faults}
-use Rattle.privtrans_app.specs.declared.words.Manner.{Manner}
-use Rattle.privtrans_app.specs.declared.words.Manner.TheVariants.{Lines, Blocks}
 
 -- the words are a check of a file that holds this text, where that is told
 pub record AreHeld (words : List (List ℕ)) (files : Option Files) (text : List ℕ) : Type 0 where
@@ -33,9 +31,9 @@ first_bytes text = take 1048577 text
 
 -- in the text of a file of this name this is found, told in this manner
 abbrev pub Finds : Manner → List ℕ → List ℕ → Findings → Type 0
-Finds Lines name text f = (o : Outcome) × flows.ComesTo text o × (f ≡ found o)
-Finds Blocks name text (faulty report) = Explains name (first_bytes text) report
-Finds Blocks name text (clean lines) = IsHeld name (first_bytes text) lines
+Finds by_lines name text f = (o : Outcome) × flows.ComesTo text o × (f ≡ found o)
+Finds in_blocks name text (faulty report) = Explains name (first_bytes text) report
+Finds in_blocks name text (clean lines) = IsHeld name (first_bytes text) lines
 
 -- what is found ends the call so
 abbrev pub IsEnding : Findings → Ending → Type 0

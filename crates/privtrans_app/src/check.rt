@@ -6,7 +6,7 @@ ghost use Rattle.privtrans_app.specs.Ending.{is_silent, status_of};
 ghost use Rattle.privtrans_app.specs.EndingSeen.{ending_seen};
 ghost use Rattle.privtrans_app.specs.FindingsSeen.{AreFound};
 ghost use Rattle.privtrans_app.specs.Once.{FailsOnce};
-ghost use Rattle.privtrans_app.specs.Words.{IsCheck};
+ghost use Rattle.privtrans_app.specs.Words.{IsCheck, manner_of};
 
 use crate::ending::Ending;
 use crate::reading::read_text;
@@ -34,7 +34,7 @@ fn find<R: Threads + Sync, W: Watch>(
     text: &[u8],
     watch: &W,
 ) -> Result<Findings, AllocError>
-    ensures { IfOk result (AreFound words.now.manner words.now.program.now text.now) }
+    ensures { IfOk result (AreFound (manner_of words.now.manner) words.now.program.now text.now) }
 {
     match words.manner {
         Manner::Lines => match outcome_of(rt, alloc, text, watch)? {
@@ -57,7 +57,7 @@ pub(crate) fn check<'a, R: Threads + Sync, F: Folder, K: Sink, W: Watch>(
     out: &mut K,
     watch: &W,
 ) -> Ending<'a>
-    ensures ending { (given : List (List ℕ)) → IsCheck given words.now.manner words.now.program.now →
+    ensures ending { (given : List (List ℕ)) → IsCheck given (manner_of words.now.manner) words.now.program.now →
         ComesTo given (F.files folder.old) (F.read_faults folder.old) (F.read_faults folder.new)
         (K.taken out.old) (K.taken out.new) (K.faults out.old) (K.faults out.new) (ending_seen result) }
     ensures silent { is_silent (ending_seen result) ≡ true → out.new ≡ out.old }
