@@ -1,5 +1,5 @@
 -- What the file of a check comes to, told by lines or explained in blocks.
-use Rattle.std.specs.Prelude.{◌≡◌, ℕ, List, [], Option, take, codes}
+use Rattle.std.specs.Prelude.{◌≡◌, ℕ, List, [], Option, codes}
 use Rattle.pt_base.specs.Files.{Files, HoldsAt}
 use Rattle.fault_lines.specs.Seen.{Seen, faulty as faulty_seen}
 use Rattle.flow_check.specs.Checked as flows
@@ -25,15 +25,11 @@ abbrev pub found : Outcome → Findings
 found (refused refusal) = faulty (lines_of refusal)
 found (checked lines) = clean lines
 
--- as much of a text as is read: one byte more than a program may have
-abbrev pub first_bytes : List ℕ → List ℕ
-first_bytes text = take 1048577 text
-
 -- in the text of a file of this name this is found, told in this manner
 abbrev pub Finds : Manner → List ℕ → List ℕ → Findings → Type 0
 Finds by_lines name text f = (o : Outcome) × flows.ComesTo text o × (f ≡ found o)
-Finds in_blocks name text (faulty report) = Explains name (first_bytes text) report
-Finds in_blocks name text (clean lines) = IsHeld name (first_bytes text) lines
+Finds in_blocks name text (faulty report) = Explains name text report
+Finds in_blocks name text (clean lines) = IsHeld name text lines
 
 -- what is found ends the call so
 abbrev pub IsEnding : Findings → Ending → Type 0

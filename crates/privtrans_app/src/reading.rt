@@ -1,5 +1,5 @@
 // The text of a file.
-ghost use Rattle.std.specs.Prelude.{◌≡◌, ◌≤◌, IfOk, IfErr, OnOk, length};
+ghost use Rattle.std.specs.Prelude.{◌≡◌, ◌≤◌, IfOk, IfErr, OnOk};
 ghost use Rattle.pt_base.specs.Files.{SameFiles, GivesFirst};
 ghost use Rattle.privtrans_app.specs.Ending.{status_of};
 ghost use Rattle.privtrans_app.specs.EndingSeen.{ending_seen};
@@ -20,7 +20,6 @@ pub(crate) fn read_text<'a, F: Folder>(
     name: &'a str,
 ) -> Result<Vec<u8>, Ending<'a>>
     ensures content { IfOk result (λ v. GivesFirst (F.files folder.old) name.entry.now 1048577 v.items) }
-    ensures length { IfOk result (λ v. length v.items ≤ 1048577) }
     ensures refusal { IfErr result (λ e. IsReadRefusal name.entry.now (F.files folder.old)
         (F.read_faults folder.old) (F.read_faults folder.new) (ending_seen e)) }
     ensures same { SameFiles (F.files folder.old) (F.files folder.new) }

@@ -21,7 +21,7 @@ returns-in-Ok-Faulty-clause-ending g c = λ given form.
     let w : CheckWords = c.args.words.now in
     let are : AreFound (manner_of w.manner) w.program.now cut c.in-Ok-Faulty.field-0 = subst (λ (text : List ℕ). AreFound (manner_of w.manner) w.program.now text c.in-Ok-Faulty.field-0) c.deref.ensures.value c.in-Ok-Faulty.ensures in
     faults_come given (manner_of w.manner) w.program.now (g.F.Folder.files c.args.folder.now) cut (g.F.Folder.read_faults c.args.folder.now) (g.F.Folder.read_faults c.read_text.new.folder)
-    (g.K.Sink.faults c.args.out.now) (g.K.Sink.taken c.args.out.now) c.in-Ok-Faulty.field-0 c.in-Ok-Faulty.report.items form c.in-Ok.ensures.content c.in-Ok.ensures.length are
+    (g.K.Sink.faults c.args.out.now) (g.K.Sink.taken c.args.out.now) c.in-Ok-Faulty.field-0 c.in-Ok-Faulty.report.items form c.in-Ok.ensures.content are
     (ap findings_of c.in-Ok-Faulty.field-0-is)
 
 pub returns-in-Ok-Clean-clause-ending : goal.returns-in-Ok-Clean-clause-ending
@@ -32,7 +32,7 @@ returns-in-Ok-Clean-clause-ending g c = λ given form.
     let o : Option (List ℕ) = g.K.Sink.taken c.args.out.now in
     let o' : Option (List ℕ) = g.K.Sink.taken c.put.new.out in
     checked_come given (manner_of w.manner) w.program.now (g.F.Folder.files c.args.folder.now) cut (g.F.Folder.read_faults c.args.folder.now) (g.F.Folder.read_faults c.read_text.new.folder)
-    o o' (g.K.Sink.faults c.args.out.now) (g.K.Sink.faults c.put.new.out) c.in-Ok-Clean.field-0 c.in-Ok-Clean.lines.items (ending_seen c.put.result) form c.in-Ok.ensures.content c.in-Ok.ensures.length are
+    o o' (g.K.Sink.faults c.args.out.now) (g.K.Sink.faults c.put.new.out) c.in-Ok-Clean.field-0 c.in-Ok-Clean.lines.items (ending_seen c.put.result) form c.in-Ok.ensures.content are
     (ap findings_of c.in-Ok-Clean.field-0-is)
     (subst (λ (bs : List ℕ). Puts o o' (g.K.Sink.faults c.args.out.now) (g.K.Sink.faults c.put.new.out) bs accepted (ending_seen c.put.result)) c.deref-in-Ok-Clean.ensures.value c.put.ensures.ending)
 
