@@ -1,0 +1,4 @@
+mod Cuts
+mod ExplainLemmas
+mod HoldingLemmas
+mod TurnLemmas

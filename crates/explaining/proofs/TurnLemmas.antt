@@ -1,0 +1,162 @@
+-- Faults in turn are the same faults, in order.
+use Rattle.std.proofs.Common.{◌≡◌, ◌∙◌, ◌<◌, ◌+◌, ◌&&◌, ◌⊎◌, ℕ, zero, suc, refl, ap, sym, subst, arith, inl, inr, Bool, true, false, List, [], ◌∷◌, ◌++◌, Some, length, map, get_or, nat_cmp, nat_eq, Ordering, Less, Equal, Greater}
+use Rattle.std.specs.Prelude.{slice_get}
+use Rattle.std.specs.List.{AllByRecursion, Contains, flat_map}
+use Rattle.std.specs.List.Sorted.{IsStrictlySortedBy}
+use Rattle.std.specs.Ordering.{MatchOrdering, ordering_then}
+use Rattle.std.specs.Option.{option_map_or}
+use Rattle.std.proofs.lemmas.Bool.Decides.{nat_tests}
+use Rattle.std.proofs.lemmas.Cmp.{ranked}
+use Rattle.std.proofs.lemmas.List.Elements.{Contains-get_or}
+use Rattle.std.proofs.lemmas.Map.Keys.{Less-from_sorted}
+use Rattle.pt_base.specs.declared.span.Span.{Span}
+use Rattle.reach.proofs.ListLemmas.{contains_cases, contains_first, contains_later, contains_map, contains_nothing, from_map}
+use Rattle.flow_rules.specs.declared.fault.FlowFault.{FlowFault}
+use Rattle.flow_rules.specs.Faults.{fault_cmp, span_cmp}
+use Rattle.explaining.specs.contracts.turns.TurnOrd.TheImpl as turn_ord
+use Rattle.explaining.specs.contracts.turns.TurnPartialEq.TheImpl as turn_eq
+use Rattle.explaining.specs.declared.turns.Turn.{Turn}
+use Rattle.explaining.specs.Explains.{AreFlowBlocks}
+use Rattle.explaining.specs.FlowBlocks.{flow_block}
+use Rattle.explaining.specs.Order.{AreInTurn, beginning, beginning_cmp}
+use Rattle.explaining.specs.Turns.{AreTurns, fault_in, no_fault, turn_block, turn_cmp, turn_of, turns_from}
+
+-- ---- the derived comparisons
+
+pub sorted_is : (turns : List Turn) → IsStrictlySortedBy turn_ord.ghosts.cmp turns → IsStrictlySortedBy turn_cmp turns
+sorted_is turns h = h
+
+both : (p q : Bool) → (p && q) ≡ true → (p ≡ true) × (q ≡ true)
+both true q h = (refl, h)
+both false q h = cc
+
+span_same : (a b : Span) → (nat_eq a.from b.from && nat_eq a.to b.to) ≡ true → a ≡ b
+span_same a b h = grind (arith, nat_tests)
+
+number_same : (m n : ℕ) → nat_eq m n ≡ true → m ≡ n
+number_same m n h = grind (arith, nat_tests)
+
+pub turn_same : (a b : Turn) → turn_eq.ghosts.eq a b ≡ true → a ≡ b
+turn_same a b h =
+    let same = both (nat_eq a.place.from b.place.from && nat_eq a.place.to b.place.to) (nat_eq a.number b.number) h in
+    let place = span_same a.place b.place same.0 in
+    let number = number_same a.number b.number same.1 in
+    λ i. record { place = place i; number = number i }
+
+-- ---- items of lists
+
+in_list : {X : Type 0} (xs : List X) (k : ℕ) (d : X) → k < length xs → slice_get xs k ≡ Some (get_or xs k d)
+in_list [] k d lt = absurd (omega (arith, lt))
+in_list (x ∷ xs) zero d lt = refl
+in_list (x ∷ xs) (suc k) d lt = in_list xs k d (omega (arith, lt))
+
+same_default : {X : Type 0} (xs : List X) (k : ℕ) (d e : X) → k < length xs → get_or xs k d ≡ get_or xs k e
+same_default [] k d e lt = absurd (omega (arith, lt))
+same_default (x ∷ xs) zero d e lt = refl
+same_default (x ∷ xs) (suc k) d e lt = same_default xs k d e (omega (arith, lt))
+
+-- ---- turns
+
+-- it is the turn of a fault
+record IsTurn (k : ℕ) (faults : List FlowFault) (x : Turn) : Type 0 where
+  pub at : ℕ
+  pub within : at < length faults
+  pub number : x.number ≡ k + at
+  pub place : x.place ≡ beginning (get_or faults at no_fault)
+
+is_turn : (k : ℕ) (faults : List FlowFault) (x : Turn) → Contains (turns_from k faults) x → IsTurn k faults x
+is_turn k [] x h = absurd (contains_nothing x h)
+is_turn k (f ∷ faults) x h = go (contains_cases (turn_of k f) (turns_from (suc k) faults) x h) (is_turn (suc k) faults x)
+  where
+    go : (turn_of k f ≡ x) ⊎ Contains (turns_from (suc k) faults) x → (Contains (turns_from (suc k) faults) x → IsTurn (suc k) faults x) → IsTurn k (f ∷ faults) x
+    go (inl e) rest = record { at = 0; within = omega arith; number = sym (ap (λ (y : Turn). y.number) e) ∙ omega arith; place = sym (ap (λ (y : Turn). y.place) e) }
+    go (inr i) rest =
+        let r = rest i in
+        let lt : r.at < length faults = r.within in
+        record { at = suc r.at; within = omega (arith, lt); number = r.number ∙ omega arith; place = r.place }
+
+has_turn : (k : ℕ) (faults : List FlowFault) (at : ℕ) → at < length faults → Contains (turns_from k faults) (turn_of (k + at) (get_or faults at no_fault))
+has_turn k [] at lt = absurd (omega (arith, lt))
+has_turn k (f ∷ faults) zero lt =
+    subst (λ m. Contains (turns_from k (f ∷ faults)) (turn_of m f)) (let e : k ≡ k + 0 = omega arith in e) (contains_first (turn_of k f) (turns_from (suc k) faults))
+has_turn k (f ∷ faults) (suc at) lt =
+    contains_later (turn_of k f) (turns_from (suc k) faults) (turn_of (k + suc at) (get_or faults at no_fault))
+    (subst (λ m. Contains (turns_from (suc k) faults) (turn_of m (get_or faults at no_fault))) (let e : suc k + at ≡ k + suc at = omega arith in e) (has_turn (suc k) faults at (omega (arith, lt))))
+
+then_less : (o p q : Ordering) → ordering_then o p ≡ Less → (p ≡ Less → q ≡ Less) → ordering_then o q ≡ Less
+then_less Less p q h f = refl
+then_less Equal p q h f = f h
+then_less Greater p q h f = cc
+
+less_is : (m n : ℕ) → nat_cmp m n ≡ Less → m < n
+less_is m n e = subst (λ (o : Ordering). MatchOrdering o (m < n) (m ≡ n) (n < m)) e (ranked m n (nat_cmp m n) refl)
+
+module _ (faults : List FlowFault) (up : IsStrictlySortedBy fault_cmp faults) where
+  -- of a turn, where its fault stands
+  abbrev IsIn : Turn → Type 0
+  IsIn x = (x.number < length faults) × (x.place ≡ beginning (fault_in faults x))
+
+  is_in : (x : Turn) → IsTurn 0 faults x → IsIn x
+  is_in x t =
+      let lt : t.at < length faults = t.within in
+      let number : x.number ≡ 0 + t.at = t.number in
+      let same : t.at ≡ x.number = omega (arith, number) in
+      (subst (λ m. m < length faults) same lt, t.place ∙ ap (λ m. beginning (get_or faults m no_fault)) same)
+
+  in_order : (x y : Turn) → IsIn x → IsIn y → turn_cmp x y ≡ Less → beginning_cmp (fault_in faults x) (fault_in faults y) ≡ Less
+  in_order x y a b less =
+      then_less (span_cmp (beginning (fault_in faults x)) (beginning (fault_in faults y))) (nat_cmp x.number y.number) (fault_cmp (fault_in faults x) (fault_in faults y))
+      (subst (λ (p : Span). ordering_then (span_cmp p (beginning (fault_in faults y))) (nat_cmp x.number y.number) ≡ Less) a.1
+      (subst (λ (p : Span). ordering_then (span_cmp x.place p) (nat_cmp x.number y.number) ≡ Less) b.1 less))
+      (λ e. Less-from_sorted fault_cmp faults x.number y.number no_fault up (less_is x.number y.number e) b.0)
+
+  above : (x : Turn) → IsIn x → (ys : List Turn) → AllByRecursion IsIn ys → AllByRecursion (λ y. turn_cmp x y ≡ Less) ys →
+      AllByRecursion (λ g. beginning_cmp (fault_in faults x) g ≡ Less) (map (fault_in faults) ys)
+  above x a [] all less = tt
+  above x a (y ∷ ys) all less = (in_order x y a all.0 less.0, above x a ys all.1 less.1)
+
+  ascends : (turns : List Turn) → AllByRecursion IsIn turns → IsStrictlySortedBy turn_cmp turns → IsStrictlySortedBy beginning_cmp (map (fault_in faults) turns)
+  unfolding IsStrictlySortedBy
+  ascends [] all h = tt
+  ascends (x ∷ turns) all h = (above x all.0 turns all.1 h.0, ascends turns all.1 h.1)
+
+  each_in : (turns : List Turn) → ((x : Turn) → Contains turns x → IsIn x) → AllByRecursion IsIn turns
+  each_in [] all = tt
+  each_in (x ∷ turns) all = (all x (contains_first x turns), each_in turns (λ y i. all y (contains_later x turns y i)))
+
+  module _ (turns : List Turn) (are : AreTurns faults turns) where
+    all_in : AllByRecursion IsIn turns
+    all_in = each_in turns (λ x i. is_in x (is_turn 0 faults x ((are.same x).0 i)))
+
+    from_turns : (f : FlowFault) → Contains (map (fault_in faults) turns) f → Contains faults f
+    from_turns f h =
+        let m = from_map (fault_in faults) turns f h in
+        let a = is_in m.0 (is_turn 0 faults m.0 ((are.same m.0).0 m.1)) in
+        subst (λ (g : FlowFault). Contains faults g) m.2 (Contains-get_or faults m.0.number no_fault a.0)
+
+    has_fault : (f : FlowFault) → Contains faults f → Contains (map (fault_in faults) turns) f
+    has_fault f h =
+        let x : Turn = turn_of (0 + h.0) (get_or faults h.0 no_fault) in
+        let there : Contains turns x = (are.same x).1 (has_turn 0 faults h.0 h.1) in
+        let zero_more : 0 + h.0 ≡ h.0 = omega arith in
+        subst (λ (g : FlowFault). Contains (map (fault_in faults) turns) g) (ap (λ m. get_or faults m no_fault) zero_more ∙ same_default faults h.0 no_fault f h.1 ∙ h.2) (contains_map (fault_in faults) turns x there)
+
+    in_turn : AreInTurn faults (map (fault_in faults) turns)
+    in_turn = record { sorted = ascends turns all_in are.sorted; same = λ f. (from_turns f, has_fault f) }
+
+-- the blocks in turn are those of the faults
+texts_are : (name text : List ℕ) (faults : List FlowFault) (turns : List Turn) → ((x : Turn) → Contains turns x → x.number < length faults) →
+    flat_map (turn_block name text faults) turns ≡ flat_map (flow_block name text) (map (fault_in faults) turns)
+texts_are name text faults [] all = refl
+texts_are name text faults (x ∷ turns) all =
+    let rest = texts_are name text faults turns (λ y i. all y (contains_later x turns y i)) in
+    let one : turn_block name text faults x ≡ flow_block name text (fault_in faults x) = ap (λ o. option_map_or (flow_block name text) o []) (in_list faults x.number no_fault (all x (contains_first x turns))) in
+    λ i. one i ++ rest i
+
+pub blocks_are : (name program lines text : List ℕ) (faults : List FlowFault) (turns slice : List Turn) → lines ≡ program → slice ≡ turns → IsStrictlySortedBy fault_cmp faults → AreTurns faults turns →
+    text ≡ flat_map (turn_block name lines faults) slice → AreFlowBlocks name program faults text
+blocks_are name program lines text faults turns slice is same up are texts = (
+  map (fault_in faults) turns,
+  in_turn faults up turns are,
+  texts ∙ (λ i. flat_map (turn_block name (is i) faults) (same i)) ∙ texts_are name program faults turns (λ x i. (is_in faults up x (is_turn 0 faults x ((are.same x).0 i))).0),
+)

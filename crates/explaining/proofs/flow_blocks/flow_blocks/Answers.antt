@@ -1,0 +1,7 @@
+use Rattle.explaining.proofs.TurnLemmas.{blocks_are}
+use Rattle.explaining.proofs.flow_blocks.flow_blocks.Goals as goal
+
+pub returns : goal.returns
+returns c =
+    blocks_are c.args.name.now c.args.program.now _ c.in_ok-text.text.items c.args.faults.now c.in_ok-turns.turns.items _
+    c.in_ok-lines.ensures c.as_slice-order.ensures.value c.requires c.in_ok-turns.ensures c.in_ok-text.ensures

@@ -1,0 +1,55 @@
+-- The block that explains a fault of flows: a sentence, the line with a mark under it, by which way the secret
+-- came there, how it may be mended, and the line that `check` reports. An empty line ends it.
+use Rattle.std.specs.Prelude.{ℕ, List, [], ◌∷◌, ◌++◌, ◌-◌, codes, drop, if◌then◌else◌, leb, length, take}
+use Rattle.std.specs.Fmt.{decimal}
+use Rattle.std.specs.List.{flat_map}
+use Rattle.pt_base.specs.declared.span.Span.{Span}
+use Rattle.flow_rules.specs.declared.fault.FlowFault.{FlowFault}
+use Rattle.flow_rules.specs.declared.rule.Rule.{Rule}
+use Rattle.flow_check.specs.FlowLines.{flow_line, shows_way}
+use Rattle.source_places.specs.Excerpts.{quoted}
+use Rattle.source_places.specs.Heads.{head}
+use Rattle.explaining.specs.FrontBlocks.{span_excerpt}
+use Rattle.explaining.specs.Sentences.{rule_mend, rule_sentence}
+
+-- ---- ways
+
+abbrev pub begins_text : List ℕ → List ℕ → Span → List ℕ
+begins_text name text span = head name text span.from ++ codes "the secret begins here\n"
+
+-- a value that moves
+abbrev pub move_text : List ℕ → List ℕ → Span → List ℕ
+move_text name text span = head name text span.from ++ codes "it moves here\n" ++ span_excerpt text span
+
+abbrev pub moves_text : List ℕ → List ℕ → List Span → List ℕ
+moves_text name text spans = flat_map (move_text name text) spans
+
+abbrev pub left_out_text : ℕ → List ℕ
+left_out_text count = codes "(" ++ decimal count ++ codes " moves are left out)\n"
+
+-- of more than 8 the first 4 and the last 4 are shown
+abbrev pub steps_text : List ℕ → List ℕ → List Span → List ℕ
+steps_text name text spans =
+    if leb (length spans) 8 then moves_text name text spans
+    else moves_text name text (take 4 spans) ++ left_out_text (length spans - 8) ++ moves_text name text (drop (length spans - 4) spans)
+
+abbrev pub long_way : List ℕ → List ℕ → Span → List Span → List ℕ
+long_way name text span spans = begins_text name text span ++ span_excerpt text span ++ steps_text name text spans
+
+-- where a secret begins, here if it needs no way, and how it moves on from there
+abbrev pub way_text : List ℕ → List ℕ → Span → List Span → List ℕ
+way_text name text here [] = begins_text name text here
+way_text name text here (span ∷ spans) = long_way name text span spans
+
+abbrev pub rule_way : List ℕ → List ℕ → FlowFault → List ℕ
+rule_way name text f = if shows_way f.rule then way_text name text f.span f.path else []
+
+-- ---- faults
+
+-- what is said of a fault, with the line of its place
+abbrev pub fault_text : List ℕ → List ℕ → FlowFault → List ℕ
+fault_text name text f =
+    head name text f.span.from ++ quoted text f.span.from (f.span.to - f.span.from) ++ rule_sentence f.rule ++ codes "\n" ++ span_excerpt text f.span
+
+abbrev pub flow_block : List ℕ → List ℕ → FlowFault → List ℕ
+flow_block name text f = fault_text name text f ++ rule_way name text f ++ rule_mend f.rule ++ flow_line f ++ codes "\n"

@@ -1,0 +1,40 @@
+-- How code puts faults in order; no public clause speaks of it.
+use Rattle.std.specs.Prelude.{◌↔◌, ℕ, suc, List, [], ◌∷◌, slice_get, slice_index_or}
+use Rattle.std.specs.List.{Contains}
+use Rattle.std.specs.List.Sorted.{IsStrictlySortedBy}
+use Rattle.std.specs.Ordering.{nat_cmp, ordering_then}
+use Rattle.std.specs.declared.cmp.Ordering.{Ordering}
+use Rattle.std.specs.Option.{option_map_or}
+use Rattle.flow_rules.specs.declared.fault.FlowFault.{FlowFault}
+use Rattle.flow_rules.specs.declared.rule.Rule.TheVariants.{PrivMain}
+use Rattle.flow_rules.specs.Faults.{span_cmp}
+use Rattle.explaining.specs.declared.turns.Turn.{Turn}
+use Rattle.explaining.specs.FlowBlocks.{flow_block}
+use Rattle.explaining.specs.Order.{beginning}
+
+-- the turn of the fault of this number
+abbrev pub turn_of : ℕ → FlowFault → Turn
+turn_of k f = record { place = beginning f; number = k }
+
+-- those of faults of which the first has the number k
+abbrev pub turns_from : ℕ → List FlowFault → List Turn
+turns_from k [] = []
+turns_from k (f ∷ fs) = turn_of k f ∷ turns_from (suc k) fs
+
+abbrev pub turn_cmp : Turn → Turn → Ordering
+turn_cmp a b = ordering_then (span_cmp a.place b.place) (nat_cmp a.number b.number)
+
+-- the block of the fault whose turn it is
+abbrev pub turn_block : List ℕ → List ℕ → List FlowFault → Turn → List ℕ
+turn_block name text faults x = option_map_or (flow_block name text) (slice_get faults x.number) []
+
+abbrev pub no_fault : FlowFault
+no_fault = record { rule = PrivMain; span = record { from = 0; to = 0 }; path = [] }
+
+abbrev pub fault_in : List FlowFault → Turn → FlowFault
+fault_in faults x = slice_index_or faults x.number no_fault
+
+-- these are the turns of the faults, each once and in order
+pub record AreTurns (faults : List FlowFault) (turns : List Turn) : Type 0 where
+  pub sorted : IsStrictlySortedBy turn_cmp turns
+  pub same : (x : Turn) → Contains turns x ↔ Contains (turns_from 0 faults) x

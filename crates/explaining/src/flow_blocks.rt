@@ -1,0 +1,120 @@
+// The blocks that explain faults of flows.
+ghost use Rattle.std.specs.Prelude.{◌≡◌, ◌++◌, IfOk, OnOk};
+ghost use Rattle.std.specs.List.{flat_map};
+ghost use Rattle.source_places.specs.LinesSeen.{text_of};
+ghost use Rattle.explaining.specs.Explains.{AreFlowBlocks};
+ghost use Rattle.explaining.specs.FlowBlocks as is;
+ghost use Rattle.explaining.specs.Turns.{turn_block};
+ghost use Rattle.flow_rules.specs.Faults.{fault_cmp};
+ghost use Rattle.std.specs.List.Sorted.{IsStrictlySortedBy};
+
+use crate::room::room_for;
+use crate::sentences::{rule_mend, rule_sentence};
+use crate::spans::{push_span_excerpt, push_span_quote};
+use crate::turns::{Turn, turns_of};
+use crate::ways::push_way;
+use flow_check::{push_fault, shows_way};
+use flow_rules::FlowFault;
+use source_places::Lines;
+use std::alloc::{AllocError, Global};
+
+// appends what is said of a fault, with its line
+fn push_fault_text(
+    name: &[u8],
+    lines: &Lines<'_>,
+    fault: &FlowFault,
+    text: &mut Vec<u8>,
+) -> Result<(), AllocError>
+    ensures { OnOk result (text.new.items ≡ text.old.items ++ is.fault_text name.now (text_of lines.now) fault.now) }
+{
+    lines.push_head(name, fault.span.from as usize, text)?;
+    push_span_quote(lines, fault.span, text)?;
+    text.extend_from_slice(rule_sentence(fault.rule).as_bytes())?;
+    text.push(b'\n')?;
+    push_span_excerpt(lines, fault.span, text)
+}
+
+// appends its way, where its rule speaks of a secret
+fn push_rule_way(
+    name: &[u8],
+    lines: &Lines<'_>,
+    fault: &FlowFault,
+    text: &mut Vec<u8>,
+) -> Result<(), AllocError>
+    ensures { OnOk result (text.new.items ≡ text.old.items ++ is.rule_way name.now (text_of lines.now) fault.now) }
+{
+    if !shows_way(fault.rule) {
+        return Ok(());
+    }
+    push_way(name, lines, fault.span, fault.path.as_slice(), text)
+}
+
+// appends the block of a fault
+fn push_block(
+    name: &[u8],
+    lines: &Lines<'_>,
+    fault: &FlowFault,
+    text: &mut Vec<u8>,
+) -> Result<(), AllocError>
+    ensures { OnOk result (text.new.items ≡ text.old.items ++ is.flow_block name.now (text_of lines.now) fault.now) }
+{
+    push_fault_text(name, lines, fault, text)?;
+    push_rule_way(name, lines, fault, text)?;
+    text.extend_from_slice(rule_mend(fault.rule).as_bytes())?;
+    push_fault(fault, text)?;
+    text.push(b'\n')?;
+    Ok(())
+}
+
+// appends the block of the fault whose turn it is
+fn push_turn(
+    name: &[u8],
+    lines: &Lines<'_>,
+    faults: &[FlowFault],
+    turn: Turn,
+    text: &mut Vec<u8>,
+) -> Result<(), AllocError>
+    ensures { OnOk result (text.new.items ≡ text.old.items ++ turn_block name.now (text_of lines.now) faults.now turn) }
+{
+    match faults.get(turn.number) {
+        Some(fault) => push_block(name, lines, fault, text),
+        None => Ok(()),
+    }
+}
+
+// the blocks of faults in turn
+fn blocks_of(
+    alloc: Global,
+    name: &[u8],
+    lines: &Lines<'_>,
+    faults: &[FlowFault],
+    turns: &[Turn],
+) -> Result<Vec<u8>, AllocError>
+    ensures { IfOk result (λ text. text.items ≡ flat_map (turn_block name.now (text_of lines.now) faults.now) turns.now) }
+{
+    let mut text = Vec::new(alloc);
+    for turn in turns {
+        push_turn(name, lines, faults, *turn, &mut text)?;
+        room_for(text.as_slice())?;
+    }
+    Ok(text)
+}
+
+/// The blocks that explain the faults of a program's flows, of which each stands once and in order. Those of
+/// one beginning stand together. Time is linear in the text and in what is written, but for putting the
+/// faults in order and finding their lines.
+pub(crate) fn flow_blocks(
+    alloc: Global,
+    name: &[u8],
+    program: &[u8],
+    faults: &[FlowFault],
+) -> Result<Vec<u8>, AllocError>
+    requires { IsStrictlySortedBy fault_cmp faults.now }
+    ensures { IfOk result (λ text. AreFlowBlocks name.now program.now faults.now text.items) }
+{
+    let lines = Lines::new(alloc, program)?;
+    let turns = turns_of(alloc, faults)?;
+    let order = turns.as_slice();
+    let text = blocks_of(alloc, name, &lines, faults, order)?;
+    Ok(text)
+}
