@@ -47,7 +47,7 @@ none_begun at m (b ∷ bs) le = go (is_feed b) (none_begun (suc at) m bs (omega 
   where
     go : (t : Bool) → begun (starts_of (suc at) bs) m ≡ 0 → begun (start_if t (suc at) ++ starts_of (suc at) bs) m ≡ 0
     go true rest = rw (lt-leb (suc at) m (omega (arith, le))) rest
-    go false rest i j d le lt = rest i j d le lt
+    go false rest = rest
 
 -- ---- lines and columns
 
@@ -194,13 +194,14 @@ module _ (text list : List ℕ) (is : list ≡ starts_of 0 text) where
   pub list_rises : IsNonDecreasingBy (λ s. s) list
   list_rises = subst (λ (xs : List ℕ). IsNonDecreasingBy (λ s. s) xs) (sym is) (rises 0 text)
 
-  pub place_is : (off feeds start here column : ℕ) → feeds ≡ begun list off → start ≡ start_of list feeds → here ≡ min off (length text) → column ≡ here - start →
-      record { line = feeds + 1; column = column + 1 } ≡ place_at text off
-  place_is off feeds start here column begins starts stands behind =
+  pub place_is : (off feeds within start here column : ℕ) → feeds ≡ begun list off → within ≡ feeds → start ≡ start_of list feeds → here ≡ min off (length text) → column ≡ here - start →
+      record { line = within + 1; column = column + 1 } ≡ place_at text off
+  place_is off feeds within start here column begins all starts stands behind =
       let line : feeds ≡ feeds_in (take off text) = feeds_are text off feeds (begins ∙ ap (λ xs. begun xs off) is) in
       let first : start ≡ start_of (starts_of 0 text) feeds = starts ∙ ap (λ xs. start_of xs feeds) is in
       let places : column ≡ behind_feed 0 (take off text) = behind ∙ (λ i. stands i - first i) ∙ column_is text off feeds line in
-      λ i. record { line = line i + 1; column = places i + 1 }
+      let lines : within ≡ feeds_in (take off text) = all ∙ line in
+      λ i. record { line = lines i + 1; column = places i + 1 }
 
   pub past_lines : (k : ℕ) → length list < k → [] ≡ line_after k text
   past_lines k lt = sym (none_after 0 text k (subst (λ xs. length xs < k) is lt))

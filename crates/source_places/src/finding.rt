@@ -29,9 +29,10 @@ impl<'a> Lines<'a> {
     {
         let list = self.starts.as_slice();
         let feeds = begun(list, offset);
+        let within = feeds.min(list.len());
         let here = offset.min(self.text.len());
         Place {
-            line: feeds + 1,
+            line: within + 1,
             column: here.saturating_sub(start_of(list, feeds)) + 1,
         }
     }
