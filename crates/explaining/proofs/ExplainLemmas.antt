@@ -19,7 +19,7 @@ faults_are t r e faults judged is same = subst (IsJudged t) (is ∙ ap Err same)
 pub in_order : (t : TypedTree) (faults slice : List FlowFault) → HasFlowFaults t faults → slice ≡ faults → IsStrictlySortedBy fault_cmp slice
 in_order t faults slice has is = subst (λ xs. IsStrictlySortedBy fault_cmp xs) (sym is) has.all.sorted
 
-pub explained : (name text report : List ℕ) (t : TypedTree) (faults slice : List FlowFault) → HasTypedTree text t → HasFlowFaults t faults → slice ≡ faults → AreFlowBlocks name text slice report →
+pub explained : (name text report : List ℕ) (t : TypedTree) (faults slice : List FlowFault) → HasTypedTree text t → HasFlowFaults t faults → slice ≡ faults → AreFlowBlocks name text t slice report →
     Explains name text report
 explained name text report t faults slice typed has is blocks =
-    record { refusal = flow faults; refused = (t, typed, has); blocks = subst (λ xs. AreFlowBlocks name text xs report) is blocks }
+    record { refusal = flow faults; refused = (t, typed, has); blocks = (t, typed, subst (λ xs. AreFlowBlocks name text t xs report) is blocks) }

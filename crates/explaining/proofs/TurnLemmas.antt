@@ -11,14 +11,17 @@ use Rattle.std.proofs.lemmas.List.Elements.{Contains-get_or}
 use Rattle.std.proofs.lemmas.Map.Keys.{Less-from_sorted}
 use Rattle.pt_base.specs.declared.span.Span.{Span}
 use Rattle.reach.proofs.ListLemmas.{contains_cases, contains_first, contains_later, contains_map, contains_nothing, from_map}
+use Rattle.sides.specs.declared.slots.SlotInfo.{SlotInfo}
+use Rattle.sides.specs.Slots.{slots_of}
+use Rattle.typed_tree.specs.TypedTree.{TypedTree}
 use Rattle.flow_rules.specs.declared.fault.FlowFault.{FlowFault}
 use Rattle.flow_rules.specs.Faults.{fault_cmp, span_cmp}
 use Rattle.explaining.specs.contracts.turns.TurnOrd.TheImpl as turn_ord
 use Rattle.explaining.specs.contracts.turns.TurnPartialEq.TheImpl as turn_eq
 use Rattle.explaining.specs.declared.turns.Turn.{Turn}
 use Rattle.explaining.specs.Explains.{AreFlowBlocks}
-use Rattle.explaining.specs.FlowBlocks.{flow_block}
-use Rattle.explaining.specs.Order.{AreInTurn, beginning, beginning_cmp}
+use Rattle.explaining.specs.FlowBlocks.{block_in}
+use Rattle.explaining.specs.Order.{AreInTurn, beginning, beginning_cmp, known, seed_number}
 use Rattle.explaining.specs.Turns.{AreTurns, fault_in, no_fault, turn_block, turn_cmp, turn_of, turns_from}
 
 -- ---- the derived comparisons
@@ -38,10 +41,14 @@ number_same m n h = grind (arith, nat_tests)
 
 pub turn_same : (a b : Turn) → turn_eq.ghosts.eq a b ≡ true → a ≡ b
 turn_same a b h =
-    let same = both (nat_eq a.place.from b.place.from && nat_eq a.place.to b.place.to) (nat_eq a.number b.number) h in
-    let place = span_same a.place b.place same.0 in
-    let number = number_same a.number b.number same.1 in
-    λ i. record { place = place i; number = number i }
+    let last = both (nat_eq a.known b.known && nat_eq a.seed b.seed && (nat_eq a.place.from b.place.from && nat_eq a.place.to b.place.to)) (nat_eq a.number b.number) h in
+    let third = both (nat_eq a.known b.known && nat_eq a.seed b.seed) (nat_eq a.place.from b.place.from && nat_eq a.place.to b.place.to) last.0 in
+    let second = both (nat_eq a.known b.known) (nat_eq a.seed b.seed) third.0 in
+    let known = number_same a.known b.known second.0 in
+    let seed = number_same a.seed b.seed second.1 in
+    let place = span_same a.place b.place third.1 in
+    let number = number_same a.number b.number last.1 in
+    λ i. record { known = known i; seed = seed i; place = place i; number = number i }
 
 -- ---- items of lists
 
@@ -62,6 +69,8 @@ record IsTurn (k : ℕ) (faults : List FlowFault) (x : Turn) : Type 0 where
   pub at : ℕ
   pub within : at < length faults
   pub number : x.number ≡ k + at
+  pub known_is : x.known ≡ known (get_or faults at no_fault).origin
+  pub seed_is : x.seed ≡ seed_number (get_or faults at no_fault).origin
   pub place : x.place ≡ beginning (get_or faults at no_fault)
 
 is_turn : (k : ℕ) (faults : List FlowFault) (x : Turn) → Contains (turns_from k faults) x → IsTurn k faults x
@@ -69,11 +78,11 @@ is_turn k [] x h = absurd (contains_nothing x h)
 is_turn k (f ∷ faults) x h = go (contains_cases (turn_of k f) (turns_from (suc k) faults) x h) (is_turn (suc k) faults x)
   where
     go : (turn_of k f ≡ x) ⊎ Contains (turns_from (suc k) faults) x → (Contains (turns_from (suc k) faults) x → IsTurn (suc k) faults x) → IsTurn k (f ∷ faults) x
-    go (inl e) rest = record { at = 0; within = omega arith; number = sym (ap (λ (y : Turn). y.number) e) ∙ omega arith; place = sym (ap (λ (y : Turn). y.place) e) }
+    go (inl e) rest = record { at = 0; within = omega arith; number = sym (ap (λ (y : Turn). y.number) e) ∙ omega arith; known_is = sym (ap (λ (y : Turn). y.known) e); seed_is = sym (ap (λ (y : Turn). y.seed) e); place = sym (ap (λ (y : Turn). y.place) e) }
     go (inr i) rest =
         let r = rest i in
         let lt : r.at < length faults = r.within in
-        record { at = suc r.at; within = omega (arith, lt); number = r.number ∙ omega arith; place = r.place }
+        record { at = suc r.at; within = omega (arith, lt); number = r.number ∙ omega arith; known_is = r.known_is; seed_is = r.seed_is; place = r.place }
 
 has_turn : (k : ℕ) (faults : List FlowFault) (at : ℕ) → at < length faults → Contains (turns_from k faults) (turn_of (k + at) (get_or faults at no_fault))
 has_turn k [] at lt = absurd (omega (arith, lt))
@@ -94,21 +103,29 @@ less_is m n e = subst (λ (o : Ordering). MatchOrdering o (m < n) (m ≡ n) (n <
 module _ (faults : List FlowFault) (up : IsStrictlySortedBy fault_cmp faults) where
   -- of a turn, where its fault stands
   abbrev IsIn : Turn → Type 0
-  IsIn x = (x.number < length faults) × (x.place ≡ beginning (fault_in faults x))
+  IsIn x =
+      (x.number < length faults) × (x.place ≡ beginning (fault_in faults x)) × (x.known ≡ known (fault_in faults x).origin) × (x.seed ≡ seed_number (fault_in faults x).origin)
 
   is_in : (x : Turn) → IsTurn 0 faults x → IsIn x
   is_in x t =
       let lt : t.at < length faults = t.within in
       let number : x.number ≡ 0 + t.at = t.number in
-      let same : t.at ≡ x.number = omega (arith, number) in
-      (subst (λ m. m < length faults) same lt, t.place ∙ ap (λ m. beginning (get_or faults m no_fault)) same)
+      let same : t.at ≡ x.number = omega (arith, number) in (
+        subst (λ m. m < length faults) same lt,
+        t.place ∙ ap (λ m. beginning (get_or faults m no_fault)) same,
+        t.known_is ∙ ap (λ m. known (get_or faults m no_fault).origin) same,
+        t.seed_is ∙ ap (λ m. seed_number (get_or faults m no_fault).origin) same,
+      )
 
   in_order : (x y : Turn) → IsIn x → IsIn y → turn_cmp x y ≡ Less → beginning_cmp (fault_in faults x) (fault_in faults y) ≡ Less
   in_order x y a b less =
-      then_less (span_cmp (beginning (fault_in faults x)) (beginning (fault_in faults y))) (nat_cmp x.number y.number) (fault_cmp (fault_in faults x) (fault_in faults y))
-      (subst (λ (p : Span). ordering_then (span_cmp p (beginning (fault_in faults y))) (nat_cmp x.number y.number) ≡ Less) a.1
-      (subst (λ (p : Span). ordering_then (span_cmp x.place p) (nat_cmp x.number y.number) ≡ Less) b.1 less))
-      (λ e. Less-from_sorted fault_cmp faults x.number y.number no_fault up (less_is x.number y.number e) b.0)
+      let f = fault_in faults x in
+      let g = fault_in faults y in
+      let same : turn_cmp x y
+      ≡ ordering_then (nat_cmp (known f.origin) (known g.origin)) (ordering_then (nat_cmp (seed_number f.origin) (seed_number g.origin)) (ordering_then (span_cmp (beginning f) (beginning g)) (nat_cmp x.number y.number))) =
+      (λ i. ordering_then (nat_cmp (a.2 i) (b.2 i)) (ordering_then (nat_cmp (a.3 i) (b.3 i)) (ordering_then (span_cmp (a.1 i) (b.1 i)) (nat_cmp x.number y.number)))) in
+      then_less (nat_cmp (known f.origin) (known g.origin)) _ _ (sym same ∙ less) (λ h. then_less (nat_cmp (seed_number f.origin) (seed_number g.origin)) _ _ h (λ k. then_less (span_cmp (beginning f) (beginning g)) (nat_cmp x.number y.number) (fault_cmp f g) k
+      (λ e. Less-from_sorted fault_cmp faults x.number y.number no_fault up (less_is x.number y.number e) b.0)))
 
   above : (x : Turn) → IsIn x → (ys : List Turn) → AllByRecursion IsIn ys → AllByRecursion (λ y. turn_cmp x y ≡ Less) ys →
       AllByRecursion (λ g. beginning_cmp (fault_in faults x) g ≡ Less) (map (fault_in faults) ys)
@@ -145,18 +162,18 @@ module _ (faults : List FlowFault) (up : IsStrictlySortedBy fault_cmp faults) wh
     in_turn = record { sorted = ascends turns all_in are.sorted; same = λ f. (from_turns f, has_fault f) }
 
 -- the blocks in turn are those of the faults
-texts_are : (name text : List ℕ) (faults : List FlowFault) (turns : List Turn) → ((x : Turn) → Contains turns x → x.number < length faults) →
-    flat_map (turn_block name text faults) turns ≡ flat_map (flow_block name text) (map (fault_in faults) turns)
-texts_are name text faults [] all = refl
-texts_are name text faults (x ∷ turns) all =
-    let rest = texts_are name text faults turns (λ y i. all y (contains_later x turns y i)) in
-    let one : turn_block name text faults x ≡ flow_block name text (fault_in faults x) = ap (λ o. option_map_or (flow_block name text) o []) (in_list faults x.number no_fault (all x (contains_first x turns))) in
+texts_are : (name text : List ℕ) (t : TypedTree) (slots : List SlotInfo) (faults : List FlowFault) (turns : List Turn) → ((x : Turn) → Contains turns x → x.number < length faults) →
+    flat_map (turn_block name text t slots faults) turns ≡ flat_map (block_in name text t slots) (map (fault_in faults) turns)
+texts_are name text t slots faults [] all = refl
+texts_are name text t slots faults (x ∷ turns) all =
+    let rest = texts_are name text t slots faults turns (λ y i. all y (contains_later x turns y i)) in
+    let one : turn_block name text t slots faults x ≡ block_in name text t slots (fault_in faults x) = ap (λ o. option_map_or (block_in name text t slots) o []) (in_list faults x.number no_fault (all x (contains_first x turns))) in
     λ i. one i ++ rest i
 
-pub blocks_are : (name program lines text : List ℕ) (faults : List FlowFault) (turns slice : List Turn) → lines ≡ program → slice ≡ turns → IsStrictlySortedBy fault_cmp faults → AreTurns faults turns →
-    text ≡ flat_map (turn_block name lines faults) slice → AreFlowBlocks name program faults text
-blocks_are name program lines text faults turns slice is same up are texts = (
+pub blocks_are : (name program lines : List ℕ) (t : TypedTree) (slots : List SlotInfo) (text : List ℕ) (faults : List FlowFault) (turns slice : List Turn) → lines ≡ program → slots ≡ slots_of t → slice ≡ turns → IsStrictlySortedBy fault_cmp faults → AreTurns faults turns →
+    text ≡ flat_map (turn_block name lines t slots faults) slice → AreFlowBlocks name program t faults text
+blocks_are name program lines t slots text faults turns slice is all same up are texts = (
   map (fault_in faults) turns,
   in_turn faults up turns are,
-  texts ∙ (λ i. flat_map (turn_block name (is i) faults) (same i)) ∙ texts_are name program faults turns (λ x i. (is_in faults up x (is_turn 0 faults x ((are.same x).0 i))).0),
+  texts ∙ (λ i. flat_map (turn_block name (is i) t (all i) faults) (same i)) ∙ texts_are name program t (slots_of t) faults turns (λ x i. (is_in faults up x (is_turn 0 faults x ((are.same x).0 i))).0),
 )

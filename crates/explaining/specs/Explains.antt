@@ -16,15 +16,15 @@ use Rattle.explaining.specs.Order.{AreInTurn}
 -- ---- a text that isn't accepted
 
 -- the blocks of faults of flows, those of one beginning together
-abbrev pub AreFlowBlocks : List ℕ → List ℕ → List FlowFault → List ℕ → Type 0
-AreFlowBlocks name text faults report = (order : List FlowFault) × AreInTurn faults order × (report ≡ flat_map (flow_block name text) order)
+abbrev pub AreFlowBlocks : List ℕ → List ℕ → TypedTree → List FlowFault → List ℕ → Type 0
+AreFlowBlocks name text t faults report = (order : List FlowFault) × AreInTurn faults order × (report ≡ flat_map (flow_block name text t) order)
 
 -- the report has a block for each of these faults
 abbrev pub AreBlocks : List ℕ → List ℕ → Refusal → List ℕ → Type 0
 AreBlocks name text (lex fault) report = report ≡ lex_block name text fault
 AreBlocks name text (parse fault) report = report ≡ parse_block name text fault
 AreBlocks name text (types faults) report = report ≡ flat_map (type_block name text) faults
-AreBlocks name text (flow faults) report = AreFlowBlocks name text faults report
+AreBlocks name text (flow faults) report = (tree : TypedTree) × HasTypedTree text tree × AreFlowBlocks name text tree faults report
 
 -- the report explains the faults for which `check` refuses the text
 pub record Explains (name text report : List ℕ) : Type 0 where

@@ -4,18 +4,23 @@ use Rattle.std.specs.Prelude.{ℕ, List, [], ◌∷◌, ◌++◌, ◌-◌, codes
 use Rattle.std.specs.Fmt.{decimal}
 use Rattle.std.specs.List.{flat_map}
 use Rattle.pt_base.specs.declared.span.Span.{Span}
+use Rattle.sides.specs.declared.slots.SlotInfo.{SlotInfo}
+use Rattle.sides.specs.Slots.{slots_of}
+use Rattle.typed_tree.specs.TypedTree.{TypedTree}
 use Rattle.flow_rules.specs.declared.fault.FlowFault.{FlowFault}
 use Rattle.flow_rules.specs.declared.rule.Rule.{Rule}
 use Rattle.flow_check.specs.FlowLines.{flow_line, shows_way}
 use Rattle.source_places.specs.Excerpts.{quoted}
 use Rattle.source_places.specs.Heads.{head}
 use Rattle.explaining.specs.FrontBlocks.{span_excerpt}
+use Rattle.explaining.specs.Origins.{origin_text}
 use Rattle.explaining.specs.Sentences.{rule_mend, rule_sentence}
 
 -- ---- ways
 
-abbrev pub begins_text : List ℕ → List ℕ → Span → List ℕ
-begins_text name text span = head name text span.from ++ codes "the secret begins here\n"
+-- with the cause, where one is told
+abbrev pub begins_text : List ℕ → List ℕ → List ℕ → Span → List ℕ
+begins_text name text cause span = head name text span.from ++ codes "the secret begins here" ++ cause ++ codes "\n"
 
 -- a value that moves
 abbrev pub move_text : List ℕ → List ℕ → Span → List ℕ
@@ -33,16 +38,16 @@ steps_text name text spans =
     if leb (length spans) 8 then moves_text name text spans
     else moves_text name text (take 4 spans) ++ left_out_text (length spans - 8) ++ moves_text name text (drop (length spans - 4) spans)
 
-abbrev pub long_way : List ℕ → List ℕ → Span → List Span → List ℕ
-long_way name text span spans = begins_text name text span ++ span_excerpt text span ++ steps_text name text spans
+abbrev pub long_way : List ℕ → List ℕ → List ℕ → Span → List Span → List ℕ
+long_way name text cause span spans = begins_text name text cause span ++ span_excerpt text span ++ steps_text name text spans
 
 -- where a secret begins, here if it needs no way, and how it moves on from there
-abbrev pub way_text : List ℕ → List ℕ → Span → List Span → List ℕ
-way_text name text here [] = begins_text name text here
-way_text name text here (span ∷ spans) = long_way name text span spans
+abbrev pub way_text : List ℕ → List ℕ → List ℕ → Span → List Span → List ℕ
+way_text name text cause here [] = begins_text name text cause here
+way_text name text cause here (span ∷ spans) = long_way name text cause span spans
 
-abbrev pub rule_way : List ℕ → List ℕ → FlowFault → List ℕ
-rule_way name text f = if shows_way f.rule then way_text name text f.span f.path else []
+abbrev pub rule_way : List ℕ → List ℕ → List ℕ → FlowFault → List ℕ
+rule_way name text cause f = if shows_way f.rule then way_text name text cause f.span f.path else []
 
 -- ---- faults
 
@@ -51,5 +56,13 @@ abbrev pub fault_text : List ℕ → List ℕ → FlowFault → List ℕ
 fault_text name text f =
     head name text f.span.from ++ quoted text f.span.from (f.span.to - f.span.from) ++ rule_sentence f.rule ++ codes "\n" ++ span_excerpt text f.span
 
-abbrev pub flow_block : List ℕ → List ℕ → FlowFault → List ℕ
-flow_block name text f = fault_text name text f ++ rule_way name text f ++ rule_mend f.rule ++ flow_line f ++ codes "\n"
+-- with the cause of the secret
+abbrev pub block_with : List ℕ → List ℕ → List ℕ → FlowFault → List ℕ
+block_with name text cause f = fault_text name text f ++ rule_way name text cause f ++ rule_mend f.rule ++ flow_line f ++ codes "\n"
+
+-- in a program of which these are the slots
+abbrev pub block_in : List ℕ → List ℕ → TypedTree → List SlotInfo → FlowFault → List ℕ
+block_in name text t slots f = block_with name text (origin_text t slots f.origin) f
+
+abbrev pub flow_block : List ℕ → List ℕ → TypedTree → FlowFault → List ℕ
+flow_block name text t f = block_in name text t (slots_of t) f

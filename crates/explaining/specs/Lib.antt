@@ -1,6 +1,7 @@
 -- What a reader has to believe: sentences, blocks and lines, what explaining comes to, the laws.
 pub mod Sentences
 pub mod FrontBlocks
+pub mod Origins
 pub mod FlowBlocks
 pub mod Order
 pub mod Holdings

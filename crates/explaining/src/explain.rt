@@ -84,7 +84,7 @@ fn with_program<R: Threads + Sync, W: Watch>(
             Ok(Explained::Checked(lines))
         }
         Err(FlowError::Faults(faults)) => {
-            let blocks = flow_blocks(alloc, name, program, faults.as_slice())?;
+            let blocks = flow_blocks(alloc, name, program, typed, faults.as_slice())?;
             Ok(Explained::Refused(blocks))
         }
         Err(FlowError::Memory) => Err(AllocError),

@@ -6,8 +6,10 @@ ghost use Rattle.explaining.specs.Explains.{AreFlowBlocks};
 ghost use Rattle.explaining.specs.FlowBlocks as is;
 ghost use Rattle.explaining.specs.Turns.{turn_block};
 ghost use Rattle.flow_rules.specs.Faults.{fault_cmp};
+ghost use Rattle.typed_tree.specs.TypedView.{view_typed};
 ghost use Rattle.std.specs.List.Sorted.{IsStrictlySortedBy};
 
+use crate::origins::{Slots, origin_text};
 use crate::room::room_for;
 use crate::sentences::{rule_mend, rule_sentence};
 use crate::spans::{push_span_excerpt, push_span_quote};
@@ -15,8 +17,10 @@ use crate::turns::{Turn, turns_of};
 use crate::ways::push_way;
 use flow_check::{push_fault, shows_way};
 use flow_rules::FlowFault;
+use sides::place;
 use source_places::Lines;
 use std::alloc::{AllocError, Global};
+use typed_tree::Typed;
 
 // appends what is said of a fault, with its line
 fn push_fault_text(
@@ -38,46 +42,65 @@ fn push_fault_text(
 fn push_rule_way(
     name: &[u8],
     lines: &Lines<'_>,
+    cause: &[u8],
     fault: &FlowFault,
     text: &mut Vec<u8>,
 ) -> Result<(), AllocError>
-    ensures { OnOk result (text.new.items ≡ text.old.items ++ is.rule_way name.now (text_of lines.now) fault.now) }
+    ensures { OnOk result (text.new.items ≡ text.old.items ++ is.rule_way name.now (text_of lines.now) cause.now fault.now) }
 {
     if !shows_way(fault.rule) {
         return Ok(());
     }
-    push_way(name, lines, fault.span, fault.path.as_slice(), text)
+    push_way(name, lines, cause, fault.span, fault.path.as_slice(), text)
 }
 
-// appends the block of a fault
+// appends the block of a fault, with the cause of its secret
 fn push_block(
     name: &[u8],
     lines: &Lines<'_>,
+    cause: &[u8],
     fault: &FlowFault,
     text: &mut Vec<u8>,
 ) -> Result<(), AllocError>
-    ensures { OnOk result (text.new.items ≡ text.old.items ++ is.flow_block name.now (text_of lines.now) fault.now) }
+    ensures { OnOk result (text.new.items ≡ text.old.items ++ is.block_with name.now (text_of lines.now) cause.now fault.now) }
 {
     push_fault_text(name, lines, fault, text)?;
-    push_rule_way(name, lines, fault, text)?;
+    push_rule_way(name, lines, cause, fault, text)?;
     text.extend_from_slice(rule_mend(fault.rule).as_bytes())?;
     push_fault(fault, text)?;
     text.push(b'\n')?;
     Ok(())
 }
 
-// appends the block of the fault whose turn it is
-fn push_turn(
+// appends the block of a fault of this program
+fn push_block_in(
+    alloc: Global,
     name: &[u8],
     lines: &Lines<'_>,
+    program: Slots<'_>,
+    fault: &FlowFault,
+    text: &mut Vec<u8>,
+) -> Result<(), AllocError>
+    ensures { OnOk result (text.new.items ≡ text.old.items ++ is.block_in name.now (text_of lines.now) (view_typed program.t.now) program.slots.now fault.now) }
+{
+    let cause = origin_text(alloc, program.t, program.slots, fault.origin)?;
+    push_block(name, lines, cause.as_slice(), fault, text)
+}
+
+// appends the block of the fault whose turn it is
+fn push_turn(
+    alloc: Global,
+    name: &[u8],
+    lines: &Lines<'_>,
+    program: Slots<'_>,
     faults: &[FlowFault],
     turn: Turn,
     text: &mut Vec<u8>,
 ) -> Result<(), AllocError>
-    ensures { OnOk result (text.new.items ≡ text.old.items ++ turn_block name.now (text_of lines.now) faults.now turn) }
+    ensures { OnOk result (text.new.items ≡ text.old.items ++ turn_block name.now (text_of lines.now) (view_typed program.t.now) program.slots.now faults.now turn) }
 {
     match faults.get(turn.number) {
-        Some(fault) => push_block(name, lines, fault, text),
+        Some(fault) => push_block_in(alloc, name, lines, program, fault, text),
         None => Ok(()),
     }
 }
@@ -87,14 +110,15 @@ fn blocks_of(
     alloc: Global,
     name: &[u8],
     lines: &Lines<'_>,
+    program: Slots<'_>,
     faults: &[FlowFault],
     turns: &[Turn],
 ) -> Result<Vec<u8>, AllocError>
-    ensures { IfOk result (λ text. text.items ≡ flat_map (turn_block name.now (text_of lines.now) faults.now) turns.now) }
+    ensures { IfOk result (λ text. text.items ≡ flat_map (turn_block name.now (text_of lines.now) (view_typed program.t.now) program.slots.now faults.now) turns.now) }
 {
     let mut text = Vec::new(alloc);
     for turn in turns {
-        push_turn(name, lines, faults, *turn, &mut text)?;
+        push_turn(alloc, name, lines, program, faults, *turn, &mut text)?;
         room_for(text.as_slice())?;
     }
     Ok(text)
@@ -107,14 +131,17 @@ pub(crate) fn flow_blocks(
     alloc: Global,
     name: &[u8],
     program: &[u8],
+    t: &Typed,
     faults: &[FlowFault],
 ) -> Result<Vec<u8>, AllocError>
     requires { IsStrictlySortedBy fault_cmp faults.now }
-    ensures { IfOk result (λ text. AreFlowBlocks name.now program.now faults.now text.items) }
+    ensures { IfOk result (λ text. AreFlowBlocks name.now program.now (view_typed t.now) faults.now text.items) }
 {
     let lines = Lines::new(alloc, program)?;
     let turns = turns_of(alloc, faults)?;
     let order = turns.as_slice();
-    let text = blocks_of(alloc, name, &lines, faults, order)?;
+    let sides = place(alloc, t)?;
+    let slots = sides.slots.as_slice();
+    let text = blocks_of(alloc, name, &lines, Slots { t, slots }, faults, order)?;
     Ok(text)
 }

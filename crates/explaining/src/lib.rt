@@ -8,6 +8,7 @@ mod flow_blocks;
 mod front_blocks;
 mod holdings;
 mod laws;
+mod origins;
 mod room;
 mod sentences;
 mod spans;

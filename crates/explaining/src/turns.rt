@@ -7,12 +7,15 @@ ghost use Rattle.explaining.specs.Order as order;
 ghost use Rattle.explaining.specs.Turns as is;
 
 use flow_rules::FlowFault;
-use pt_base::Span;
+use pt_base::{Slot, Span};
 use std::alloc::{AllocError, Global};
 
-/// Whose turn it is: where the way of a fault begins, and the fault's number. Turns are ordered by both.
+/// Whose turn it is: whether the seed of a fault's secret is known, the seed, where the fault's way begins, and
+/// the fault's number. Turns are ordered by these.
 #[derive(Clone, Copy, PartialEq, Eq, PartialOrd, Ord)]
 pub(crate) struct Turn {
+    pub known: u8,
+    pub seed: u64,
     pub place: Span,
     pub number: usize,
 }
@@ -27,6 +30,38 @@ fn beginning(fault: &FlowFault) -> Span
     }
 }
 
+// whether there is a seed, as a number
+fn known(origin: Option<Slot>) -> u8
+    ensures { result ≡ order.known origin }
+{
+    match origin {
+        Some(_) => 1,
+        None => 0,
+    }
+}
+
+// the number of a seed
+fn seed_number(origin: Option<Slot>) -> u64
+    ensures { result ≡ order.seed_number origin }
+{
+    match origin {
+        Some(slot) => slot.0,
+        None => 0,
+    }
+}
+
+// the turn of the fault of this number
+fn turn_of(number: usize, fault: &FlowFault) -> Turn
+    ensures { result ≡ is.turn_of number fault.now }
+{
+    Turn {
+        known: known(fault.origin),
+        seed: seed_number(fault.origin),
+        place: beginning(fault),
+        number,
+    }
+}
+
 // the turns of faults, as they stand
 fn turns_in(alloc: Global, faults: &[FlowFault]) -> Result<Vec<Turn>, AllocError>
     ensures { IfOk result (λ v. v.items ≡ is.turns_from 0 faults.now) }
@@ -34,10 +69,7 @@ fn turns_in(alloc: Global, faults: &[FlowFault]) -> Result<Vec<Turn>, AllocError
     let mut turns = Vec::with_capacity(alloc, faults.len())?;
     let mut number = 0;
     for fault in faults {
-        turns.push(Turn {
-            place: beginning(fault),
-            number,
-        })?;
+        turns.push(turn_of(number, fault))?;
         number += 1;
     }
     Ok(turns)

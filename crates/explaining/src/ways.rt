@@ -15,17 +15,20 @@ const MOST_MOVES: usize = 8;
 /// So many are shown of the first ones, and of the last ones, where there are more.
 const ENDS: usize = 4;
 
-// appends where a secret begins
+// appends where a secret begins, with the cause
 fn push_begins(
     name: &[u8],
     lines: &Lines<'_>,
+    cause: &[u8],
     span: Span,
     text: &mut Vec<u8>,
 ) -> Result<(), AllocError>
-    ensures { OnOk result (text.new.items ≡ text.old.items ++ is.begins_text name.now (text_of lines.now) span) }
+    ensures { OnOk result (text.new.items ≡ text.old.items ++ is.begins_text name.now (text_of lines.now) cause.now span) }
 {
     lines.push_head(name, span.from as usize, text)?;
-    text.extend_from_slice(b"the secret begins here\n")?;
+    text.extend_from_slice(b"the secret begins here")?;
+    text.extend_from_slice(cause)?;
+    text.push(b'\n')?;
     Ok(())
 }
 
@@ -89,29 +92,31 @@ fn push_steps(
 fn push_long_way(
     name: &[u8],
     lines: &Lines<'_>,
+    cause: &[u8],
     first: Span,
     others: &[Span],
     text: &mut Vec<u8>,
 ) -> Result<(), AllocError>
-    ensures { OnOk result (text.new.items ≡ text.old.items ++ is.long_way name.now (text_of lines.now) first others.now) }
+    ensures { OnOk result (text.new.items ≡ text.old.items ++ is.long_way name.now (text_of lines.now) cause.now first others.now) }
 {
-    push_begins(name, lines, first, text)?;
+    push_begins(name, lines, cause, first, text)?;
     push_span_excerpt(lines, first, text)?;
     push_steps(name, lines, others, text)
 }
 
-/// Appends the way by which a secret comes to this place.
+/// Appends the way by which a secret comes to this place, with the cause of the secret.
 pub(crate) fn push_way(
     name: &[u8],
     lines: &Lines<'_>,
+    cause: &[u8],
     here: Span,
     spans: &[Span],
     text: &mut Vec<u8>,
 ) -> Result<(), AllocError>
-    ensures { OnOk result (text.new.items ≡ text.old.items ++ is.way_text name.now (text_of lines.now) here spans.now) }
+    ensures { OnOk result (text.new.items ≡ text.old.items ++ is.way_text name.now (text_of lines.now) cause.now here spans.now) }
 {
     match spans {
-        [] => push_begins(name, lines, here, text),
-        [first, others @ ..] => push_long_way(name, lines, *first, others, text),
+        [] => push_begins(name, lines, cause, here, text),
+        [first, others @ ..] => push_long_way(name, lines, cause, *first, others, text),
     }
 }
