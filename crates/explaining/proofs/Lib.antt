@@ -1,4 +1,5 @@
 mod Cuts
 mod ExplainLemmas
 mod HoldingLemmas
+mod HomeLemmas
 mod TurnLemmas

@@ -8,8 +8,10 @@ use Rattle.flow_rules.specs.declared.fault.FlowFault.{FlowFault}
 use Rattle.flow_rules.specs.Faults.{IsAccepted}
 use Rattle.flow_check.specs.Checked.{IsRefused, Refusal, lex, parse, types, flow}
 use Rattle.flow_check.specs.Shown.{AreShown}
+use Rattle.explaining.specs.declared.homes.Home.{Home}
 use Rattle.explaining.specs.FlowBlocks.{flow_block}
 use Rattle.explaining.specs.FrontBlocks.{lex_block, parse_block, type_block}
+use Rattle.explaining.specs.Homes.{AreHomes}
 use Rattle.explaining.specs.Holdings.{holding}
 use Rattle.explaining.specs.Order.{AreInTurn}
 
@@ -17,7 +19,8 @@ use Rattle.explaining.specs.Order.{AreInTurn}
 
 -- the blocks of faults of flows, those of one beginning together
 abbrev pub AreFlowBlocks : List ℕ → List ℕ → TypedTree → List FlowFault → List ℕ → Type 0
-AreFlowBlocks name text t faults report = (order : List FlowFault) × AreInTurn faults order × (report ≡ flat_map (flow_block name text t) order)
+AreFlowBlocks name text t faults report =
+    (homes : List Home) × AreHomes t homes × (order : List FlowFault) × AreInTurn faults order × (report ≡ flat_map (flow_block name text t homes) order)
 
 -- the report has a block for each of these faults
 abbrev pub AreBlocks : List ℕ → List ℕ → Refusal → List ℕ → Type 0

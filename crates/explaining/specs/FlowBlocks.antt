@@ -1,6 +1,6 @@
 -- The block that explains a fault of flows: a sentence, the line with a mark under it, by which way the secret
 -- came there, how it may be mended, and the line that `check` reports. An empty line ends it.
-use Rattle.std.specs.Prelude.{ℕ, List, [], ◌∷◌, ◌++◌, ◌-◌, codes, drop, if◌then◌else◌, leb, length, take}
+use Rattle.std.specs.Prelude.{ℕ, List, [], ◌∷◌, ◌++◌, ◌-◌, Bool, true, false, codes, drop, if◌then◌else◌, leb, length, take}
 use Rattle.std.specs.Fmt.{decimal}
 use Rattle.std.specs.List.{flat_map}
 use Rattle.pt_base.specs.declared.span.Span.{Span}
@@ -9,10 +9,13 @@ use Rattle.sides.specs.Slots.{slots_of}
 use Rattle.typed_tree.specs.TypedTree.{TypedTree}
 use Rattle.flow_rules.specs.declared.fault.FlowFault.{FlowFault}
 use Rattle.flow_rules.specs.declared.rule.Rule.{Rule}
+use Rattle.flow_rules.specs.declared.rule.Rule.TheVariants.{OperationOnPriv, PrivToHost, PrivIntoUnpriv, SharedGlobal, UnmarkedOut, HostInMonitor, PrivToPlainParam, PrivStatus, PrivMain}
 use Rattle.flow_check.specs.FlowLines.{flow_line, shows_way}
 use Rattle.source_places.specs.Excerpts.{quoted}
 use Rattle.source_places.specs.Heads.{head}
 use Rattle.explaining.specs.FrontBlocks.{span_excerpt}
+use Rattle.explaining.specs.declared.homes.Home.{Home}
+use Rattle.explaining.specs.Homes.{place_home}
 use Rattle.explaining.specs.Origins.{origin_text}
 use Rattle.explaining.specs.Sentences.{rule_mend, rule_sentence}
 
@@ -51,18 +54,34 @@ rule_way name text cause f = if shows_way f.rule then way_text name text cause f
 
 -- ---- faults
 
+-- the rule is broken in the text of a function
+abbrev pub in_function : Rule → Bool
+in_function OperationOnPriv = true
+in_function PrivToHost = true
+in_function PrivIntoUnpriv = false
+in_function SharedGlobal = false
+in_function UnmarkedOut = true
+in_function HostInMonitor = true
+in_function PrivToPlainParam = true
+in_function PrivStatus = true
+in_function PrivMain = false
+
+-- `in FUNCTION: `, where it is
+abbrev pub rule_home : TypedTree → List Home → FlowFault → List ℕ
+rule_home t homes f = if in_function f.rule then place_home t homes f.span.from else []
+
 -- what is said of a fault, with the line of its place
-abbrev pub fault_text : List ℕ → List ℕ → FlowFault → List ℕ
-fault_text name text f =
-    head name text f.span.from ++ quoted text f.span.from (f.span.to - f.span.from) ++ rule_sentence f.rule ++ codes "\n" ++ span_excerpt text f.span
+abbrev pub fault_text : List ℕ → List ℕ → List ℕ → FlowFault → List ℕ
+fault_text name text home f =
+    head name text f.span.from ++ home ++ quoted text f.span.from (f.span.to - f.span.from) ++ rule_sentence f.rule ++ codes "\n" ++ span_excerpt text f.span
 
--- with the cause of the secret
-abbrev pub block_with : List ℕ → List ℕ → List ℕ → FlowFault → List ℕ
-block_with name text cause f = fault_text name text f ++ rule_way name text cause f ++ rule_mend f.rule ++ flow_line f ++ codes "\n"
+-- with the function in which it stands and the cause of the secret
+abbrev pub block_with : List ℕ → List ℕ → List ℕ → List ℕ → FlowFault → List ℕ
+block_with name text home cause f = fault_text name text home f ++ rule_way name text cause f ++ rule_mend f.rule ++ flow_line f ++ codes "\n"
 
--- in a program of which these are the slots
-abbrev pub block_in : List ℕ → List ℕ → TypedTree → List SlotInfo → FlowFault → List ℕ
-block_in name text t slots f = block_with name text (origin_text t slots f.origin) f
+-- in a program of which these are the slots and the functions that have bodies
+abbrev pub block_in : List ℕ → List ℕ → TypedTree → List SlotInfo → List Home → FlowFault → List ℕ
+block_in name text t slots homes f = block_with name text (rule_home t homes f) (origin_text t slots f.origin) f
 
-abbrev pub flow_block : List ℕ → List ℕ → TypedTree → FlowFault → List ℕ
-flow_block name text t f = block_in name text t (slots_of t) f
+abbrev pub flow_block : List ℕ → List ℕ → TypedTree → List Home → FlowFault → List ℕ
+flow_block name text t homes f = block_in name text t (slots_of t) homes f

@@ -4,6 +4,7 @@ pub mod FrontBlocks
 pub mod Origins
 pub mod FlowBlocks
 pub mod Order
+pub mod Homes
 pub mod Holdings
 pub mod Explains
 pub mod ExplainedSeen

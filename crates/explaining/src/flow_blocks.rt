@@ -4,19 +4,21 @@ ghost use Rattle.std.specs.List.{flat_map};
 ghost use Rattle.source_places.specs.LinesSeen.{text_of};
 ghost use Rattle.explaining.specs.Explains.{AreFlowBlocks};
 ghost use Rattle.explaining.specs.FlowBlocks as is;
-ghost use Rattle.explaining.specs.Turns.{turn_block};
+ghost use Rattle.explaining.specs.Turns.{AreTurnBlocks, turn_block};
 ghost use Rattle.flow_rules.specs.Faults.{fault_cmp};
 ghost use Rattle.typed_tree.specs.TypedView.{view_typed};
 ghost use Rattle.std.specs.List.Sorted.{IsStrictlySortedBy};
 
-use crate::origins::{Slots, origin_text};
+use crate::homes::{homes_of, push_place_home};
+use crate::origins::origin_text;
+use crate::parts::Parts;
 use crate::room::room_for;
 use crate::sentences::{rule_mend, rule_sentence};
 use crate::spans::{push_span_excerpt, push_span_quote};
 use crate::turns::{Turn, turns_of};
 use crate::ways::push_way;
 use flow_check::{push_fault, shows_way};
-use flow_rules::FlowFault;
+use flow_rules::{FlowFault, Rule};
 use sides::place;
 use source_places::Lines;
 use std::alloc::{AllocError, Global};
@@ -26,12 +28,14 @@ use typed_tree::Typed;
 fn push_fault_text(
     name: &[u8],
     lines: &Lines<'_>,
+    home: &[u8],
     fault: &FlowFault,
     text: &mut Vec<u8>,
 ) -> Result<(), AllocError>
-    ensures { OnOk result (text.new.items ≡ text.old.items ++ is.fault_text name.now (text_of lines.now) fault.now) }
+    ensures { OnOk result (text.new.items ≡ text.old.items ++ is.fault_text name.now (text_of lines.now) home.now fault.now) }
 {
     lines.push_head(name, fault.span.from as usize, text)?;
+    text.extend_from_slice(home)?;
     push_span_quote(lines, fault.span, text)?;
     text.extend_from_slice(rule_sentence(fault.rule).as_bytes())?;
     text.push(b'\n')?;
@@ -54,17 +58,18 @@ fn push_rule_way(
     push_way(name, lines, cause, fault.span, fault.path.as_slice(), text)
 }
 
-// appends the block of a fault, with the cause of its secret
+// appends the block of a fault, with the function in which it stands and the cause of its secret
 fn push_block(
     name: &[u8],
     lines: &Lines<'_>,
+    home: &[u8],
     cause: &[u8],
     fault: &FlowFault,
     text: &mut Vec<u8>,
 ) -> Result<(), AllocError>
-    ensures { OnOk result (text.new.items ≡ text.old.items ++ is.block_with name.now (text_of lines.now) cause.now fault.now) }
+    ensures { OnOk result (text.new.items ≡ text.old.items ++ is.block_with name.now (text_of lines.now) home.now cause.now fault.now) }
 {
-    push_fault_text(name, lines, fault, text)?;
+    push_fault_text(name, lines, home, fault, text)?;
     push_rule_way(name, lines, cause, fault, text)?;
     text.extend_from_slice(rule_mend(fault.rule).as_bytes())?;
     push_fault(fault, text)?;
@@ -72,19 +77,48 @@ fn push_block(
     Ok(())
 }
 
+// whether a rule is broken in the text of a function
+fn in_function(rule: Rule) -> bool
+    ensures { result ≡ is.in_function rule }
+{
+    match rule {
+        Rule::OperationOnPriv => true,
+        Rule::PrivToHost => true,
+        Rule::PrivIntoUnpriv => false,
+        Rule::SharedGlobal => false,
+        Rule::UnmarkedOut => true,
+        Rule::HostInMonitor => true,
+        Rule::PrivToPlainParam => true,
+        Rule::PrivStatus => true,
+        Rule::PrivMain => false,
+    }
+}
+
+// `in FUNCTION: ` of the function in which a fault stands
+fn rule_home(alloc: Global, program: Parts<'_>, fault: &FlowFault) -> Result<Vec<u8>, AllocError>
+    ensures { IfOk result (λ text. text.items ≡ is.rule_home (view_typed program.t.now) program.homes.now fault.now) }
+{
+    let mut text = Vec::new(alloc);
+    if in_function(fault.rule) {
+        push_place_home(program.t, program.homes, fault.span.from, &mut text)?;
+    }
+    Ok(text)
+}
+
 // appends the block of a fault of this program
 fn push_block_in(
     alloc: Global,
     name: &[u8],
     lines: &Lines<'_>,
-    program: Slots<'_>,
+    program: Parts<'_>,
     fault: &FlowFault,
     text: &mut Vec<u8>,
 ) -> Result<(), AllocError>
-    ensures { OnOk result (text.new.items ≡ text.old.items ++ is.block_in name.now (text_of lines.now) (view_typed program.t.now) program.slots.now fault.now) }
+    ensures { OnOk result (text.new.items ≡ text.old.items ++ is.block_in name.now (text_of lines.now) (view_typed program.t.now) program.slots.now program.homes.now fault.now) }
 {
+    let home = rule_home(alloc, program, fault)?;
     let cause = origin_text(alloc, program.t, program.slots, fault.origin)?;
-    push_block(name, lines, cause.as_slice(), fault, text)
+    push_block(name, lines, home.as_slice(), cause.as_slice(), fault, text)
 }
 
 // appends the block of the fault whose turn it is
@@ -92,12 +126,12 @@ fn push_turn(
     alloc: Global,
     name: &[u8],
     lines: &Lines<'_>,
-    program: Slots<'_>,
+    program: Parts<'_>,
     faults: &[FlowFault],
     turn: Turn,
     text: &mut Vec<u8>,
 ) -> Result<(), AllocError>
-    ensures { OnOk result (text.new.items ≡ text.old.items ++ turn_block name.now (text_of lines.now) (view_typed program.t.now) program.slots.now faults.now turn) }
+    ensures { OnOk result (text.new.items ≡ text.old.items ++ turn_block name.now (text_of lines.now) (view_typed program.t.now) program.slots.now program.homes.now faults.now turn) }
 {
     match faults.get(turn.number) {
         Some(fault) => push_block_in(alloc, name, lines, program, fault, text),
@@ -110,17 +144,33 @@ fn blocks_of(
     alloc: Global,
     name: &[u8],
     lines: &Lines<'_>,
-    program: Slots<'_>,
+    program: Parts<'_>,
     faults: &[FlowFault],
     turns: &[Turn],
 ) -> Result<Vec<u8>, AllocError>
-    ensures { IfOk result (λ text. text.items ≡ flat_map (turn_block name.now (text_of lines.now) (view_typed program.t.now) program.slots.now faults.now) turns.now) }
+    ensures { IfOk result (λ text. text.items ≡ flat_map (turn_block name.now (text_of lines.now) (view_typed program.t.now) program.slots.now program.homes.now faults.now) turns.now) }
 {
     let mut text = Vec::new(alloc);
     for turn in turns {
         push_turn(alloc, name, lines, program, faults, *turn, &mut text)?;
         room_for(text.as_slice())?;
     }
+    Ok(text)
+}
+
+// the blocks of faults, in turn
+fn blocks_in_turn(
+    alloc: Global,
+    name: &[u8],
+    lines: &Lines<'_>,
+    program: Parts<'_>,
+    faults: &[FlowFault],
+) -> Result<Vec<u8>, AllocError>
+    ensures { IfOk result (λ text. AreTurnBlocks name.now (text_of lines.now) (view_typed program.t.now) program.slots.now program.homes.now faults.now text.items) }
+{
+    let turns = turns_of(alloc, faults)?;
+    let order = turns.as_slice();
+    let text = blocks_of(alloc, name, lines, program, faults, order)?;
     Ok(text)
 }
 
@@ -138,10 +188,11 @@ pub(crate) fn flow_blocks(
     ensures { IfOk result (λ text. AreFlowBlocks name.now program.now (view_typed t.now) faults.now text.items) }
 {
     let lines = Lines::new(alloc, program)?;
-    let turns = turns_of(alloc, faults)?;
-    let order = turns.as_slice();
     let sides = place(alloc, t)?;
+    let list = homes_of(alloc, t)?;
     let slots = sides.slots.as_slice();
-    let text = blocks_of(alloc, name, &lines, Slots { t, slots }, faults, order)?;
+    let homes = list.as_slice();
+    let parts = Parts { t, slots, homes };
+    let text = blocks_in_turn(alloc, name, &lines, parts, faults)?;
     Ok(text)
 }

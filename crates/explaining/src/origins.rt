@@ -10,13 +10,6 @@ use sides::{Owner, SlotInfo};
 use std::alloc::{AllocError, Global};
 use typed_tree::{Typed, Var};
 
-/// A program and its slots.
-#[derive(Clone, Copy, Drop)]
-pub(crate) struct Slots<'a> {
-    pub t: &'a Typed,
-    pub slots: &'a [SlotInfo],
-}
-
 // why an object is secret, or a part of it
 fn object_cause(marked: bool, field: bool) -> &'static str
     ensures { result.now ≡ is.object_cause marked field }
