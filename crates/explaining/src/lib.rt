@@ -2,8 +2,8 @@
 //! text with a mark under it, by which way a secret came there and how it may be mended.
 #![tactic(auto)]
 
-mod explain;
 mod explained;
+mod explanations;
 mod flow_blocks;
 mod front_blocks;
 mod holdings;
@@ -17,7 +17,7 @@ mod spans;
 mod turns;
 mod ways;
 
-pub use explain::explain;
 pub use explained::Explained;
+pub use explanations::explain;
 pub use laws::{explained_is_reported, first_bytes_are_enough};
 pub use room::MOST_BYTES;

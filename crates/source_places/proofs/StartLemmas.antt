@@ -1,10 +1,10 @@
 -- Where lines start tells the line and the column of an offset, and the bytes of a line.
-use Rattle.std.proofs.Common.{◌≡◌, ◌∙◌, ◌<◌, ◌≤◌, ◌+◌, ◌-◌, ℕ, zero, suc, refl, ap, sym, subst, arith, Bool, true, false, List, [], ◌∷◌, ◌++◌, Option, Some, None, length, get_or, min, take, drop, leb}
-use Rattle.std.specs.Prelude.{if◌then◌else◌, slice_get}
+use Rattle.std.proofs.Common.{◌≡◌, ◌∙◌, ◌<◌, ◌≤◌, ◌+◌, ◌-◌, ℕ, zero, suc, refl, ap, sym, subst, arith, Bool, true, false, List, [], ◌∷◌, ◌++◌, length, get_or, min, take, drop, leb}
+use Rattle.std.specs.Prelude.{if◌then◌else◌}
 use Rattle.std.specs.List.Sorted.{IsNonDecreasingBy}
 use Rattle.std.proofs.lemmas.Bool.{le-leb, lt-leb}
 use Rattle.source_places.specs.Places.{behind_feed, feeds_in, is_feed, line_after, place_at}
-use Rattle.source_places.specs.Starts.{begun, end_in, end_of, start_if, start_of, starts_of}
+use Rattle.source_places.specs.Starts.{begun, end_of, start_if, start_of, starts_of}
 
 -- ---- starts ascend
 

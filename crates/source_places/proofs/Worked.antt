@@ -1,5 +1,5 @@
 -- Lines and columns, tried by computing.
-use Rattle.std.proofs.Common.{◌≡◌, refl, List, [], ◌∷◌, ◌++◌, ℕ, codes, map}
+use Rattle.std.proofs.Common.{◌≡◌, refl, List, [], ◌∷◌, ℕ, codes, map}
 use Rattle.source_places.specs.declared.place.Place.{Place}
 use Rattle.source_places.specs.Places.{line_at, place_at}
 use Rattle.source_places.specs.Shown.{shown_bytes}

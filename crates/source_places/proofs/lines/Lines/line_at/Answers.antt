@@ -1,4 +1,4 @@
-use Rattle.std.proofs.Common.{◌≡◌, ◌≤◌, ◌<◌, ◌-◌, ◌∙◌, ap, arith, drop, length, subst}
+use Rattle.std.proofs.Common.{◌≤◌, ◌<◌, ◌∙◌, ap, arith, drop, length}
 use Rattle.source_places.specs.Places.{line_after}
 use Rattle.source_places.proofs.StartLemmas.{line_is, past_lines}
 use Rattle.source_places.proofs.lines.Lines.line_at.Goals as goal

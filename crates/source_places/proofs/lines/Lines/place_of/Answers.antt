@@ -1,4 +1,4 @@
-use Rattle.std.proofs.Common.{◌≡◌, ◌≤◌, ◌∙◌, arith, length, min}
+use Rattle.std.proofs.Common.{◌≡◌, ◌≤◌, ◌∙◌, arith, length}
 use Rattle.source_places.proofs.StartLemmas.{list_rises, place_is}
 use Rattle.source_places.proofs.lines.Lines.place_of.Goals as goal
 

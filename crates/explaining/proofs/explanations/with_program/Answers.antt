@@ -1,6 +1,6 @@
 use Rattle.typed_tree.specs.TypedView.{view_typed}
 use Rattle.explaining.proofs.ExplainLemmas.{explained, faults_are, in_order}
-use Rattle.explaining.proofs.explain.with_program.Goals as goal
+use Rattle.explaining.proofs.explanations.with_program.Goals as goal
 
 pub flow_blocks-blocks-in-Err-Faults-requires : goal.flow_blocks-blocks-in-Err-Faults-requires
 flow_blocks-blocks-in-Err-Faults-requires g c =
