@@ -61,7 +61,7 @@ rule_sentence SharedGlobal = codes " is a global that functions of both halves n
 rule_sentence UnmarkedOut = codes " gives something back from a privileged function, and is marked neither priv nor declassify"
 rule_sentence HostInMonitor = codes " is called in a privileged function, and the host has no mark"
 rule_sentence PrivToPlainParam = codes " has or points to a secret, and goes to a parameter without priv"
-rule_sentence PrivStatus = codes " is returned by main, and it holds a secret"
+rule_sentence PrivStatus = codes " is returned as the status, and it holds a secret"
 rule_sentence PrivMain = codes " is marked priv"
 
 -- how it may be mended

@@ -86,7 +86,7 @@ pub(crate) fn rule_sentence(rule: Rule) -> &'static str
         Rule::HostInMonitor => " is called in a privileged function, and the host has no mark",
         Rule::PrivToPlainParam =>
             " has or points to a secret, and goes to a parameter without priv",
-        Rule::PrivStatus => " is returned by main, and it holds a secret",
+        Rule::PrivStatus => " is returned as the status, and it holds a secret",
         Rule::PrivMain => " is marked priv",
     }
 }
