@@ -43,13 +43,13 @@ number_same m n h = grind (arith, nat_tests)
 
 pub turn_same : (a b : Turn) → turn_eq.ghosts.eq a b ≡ true → a ≡ b
 turn_same a b h =
-    let last = both (nat_eq a.known b.known && nat_eq a.seed b.seed && (nat_eq a.place.from b.place.from && nat_eq a.place.to b.place.to)) (nat_eq a.number b.number) h in
-    let third = both (nat_eq a.known b.known && nat_eq a.seed b.seed) (nat_eq a.place.from b.place.from && nat_eq a.place.to b.place.to) last.0 in
-    let second = both (nat_eq a.known b.known) (nat_eq a.seed b.seed) third.0 in
-    let known = number_same a.known b.known second.0 in
-    let seed = number_same a.seed b.seed second.1 in
-    let place = span_same a.place b.place third.1 in
-    let number = number_same a.number b.number last.1 in
+    let one = both (nat_eq a.known b.known) (nat_eq a.seed b.seed && ((nat_eq a.place.from b.place.from && nat_eq a.place.to b.place.to) && nat_eq a.number b.number)) h in
+    let two = both (nat_eq a.seed b.seed) ((nat_eq a.place.from b.place.from && nat_eq a.place.to b.place.to) && nat_eq a.number b.number) one.1 in
+    let three = both (nat_eq a.place.from b.place.from && nat_eq a.place.to b.place.to) (nat_eq a.number b.number) two.1 in
+    let known = number_same a.known b.known one.0 in
+    let seed = number_same a.seed b.seed two.0 in
+    let place = span_same a.place b.place three.0 in
+    let number = number_same a.number b.number three.1 in
     λ i. record { known = known i; seed = seed i; place = place i; number = number i }
 
 -- ---- items of lists

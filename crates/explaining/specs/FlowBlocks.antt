@@ -70,10 +70,14 @@ in_function PrivMain = false
 abbrev pub rule_home : TypedTree → List Home → FlowFault → List ℕ
 rule_home t homes f = if in_function f.rule then place_home t homes f.span.from else []
 
+-- the place of a fault with a quote of it
+abbrev pub quote_text : List ℕ → List ℕ → List ℕ → Span → List ℕ
+quote_text name text home span = head name text span.from ++ home ++ quoted text span.from (span.to - span.from)
+
 -- what is said of a fault, with the line of its place
 abbrev pub fault_text : List ℕ → List ℕ → List ℕ → FlowFault → List ℕ
 fault_text name text home f =
-    head name text f.span.from ++ home ++ quoted text f.span.from (f.span.to - f.span.from) ++ rule_sentence f.rule ++ codes "\n" ++ span_excerpt text f.span
+    quote_text name text home f.span ++ rule_sentence f.rule ++ codes "\n" ++ span_excerpt text f.span
 
 -- with the function in which it stands and the cause of the secret
 abbrev pub block_with : List ℕ → List ℕ → List ℕ → List ℕ → FlowFault → List ℕ

@@ -5,6 +5,7 @@ use Rattle.std.specs.List.Sorted.{IsStrictlySortedBy}
 use Rattle.std.specs.Option.{option_map_or}
 use Rattle.std.specs.Ordering.{nat_cmp, ordering_then}
 use Rattle.std.specs.declared.cmp.Ordering.{Ordering}
+use Rattle.reach.specs.Tables.{function_id}
 use Rattle.typed_tree.specs.TypedTree.{FunctionTree, TypedTree}
 use Rattle.explaining.specs.declared.homes.Home.{Home}
 use Rattle.explaining.specs.Holdings.{function_text}
@@ -32,13 +33,9 @@ abbrev pub last_begun : List Home → ℕ → Option Home → Option Home
 last_begun [] at best = best
 last_begun (h ∷ homes) at best = if leb h.at at then last_begun homes at (Some h) else best
 
--- `in FUNCTION: ` of the function of this number
-abbrev pub numbered_text : TypedTree → ℕ → List ℕ
-numbered_text t k = function_text t (record { 0 = k })
-
--- of the function in whose text a place stands
+-- `in FUNCTION: ` of the function in whose text a place stands
 abbrev pub place_home : TypedTree → List Home → ℕ → List ℕ
-place_home t homes at = option_map_or (λ h. numbered_text t h.number) (last_begun homes at None) []
+place_home t homes at = option_map_or (λ h. function_text t (function_id h.number)) (last_begun homes at None) []
 
 -- the last one of the first so many, as code finds it; no public clause speaks of it
 abbrev pub item_before : List Home → ℕ → Option Home

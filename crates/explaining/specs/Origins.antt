@@ -8,7 +8,7 @@ use Rattle.sides.specs.declared.slots.Owner.TheVariants.{Variable, Global, Resul
 use Rattle.sides.specs.declared.slots.SlotInfo.{SlotInfo}
 use Rattle.sides.specs.Slots.{no_slot}
 use Rattle.typed_tree.specs.declared.variable.Var.{Var}
-use Rattle.typed_tree.specs.Lookup.{function_at}
+use Rattle.typed_tree.specs.Lookup.{signature_of}
 use Rattle.typed_tree.specs.TypedTree.{TypedTree}
 use Rattle.flow_check.specs.Shown.{variable_of}
 use Rattle.flow_check.specs.SlotLines.{fields_text}
@@ -25,7 +25,7 @@ variable_cause t s x = codes ": `" ++ x.name ++ fields_text t.structs x.ty s.pat
 
 -- of what a function returns
 abbrev pub result_cause : TypedTree → FnId → List ℕ
-result_cause t f = option_map_or (λ x. codes ": what `" ++ x.signature.name ++ codes "` returns is privileged") (function_at t f) []
+result_cause t f = option_map_or (λ s. codes ": what `" ++ s.name ++ codes "` returns is privileged") (signature_of t f) []
 
 abbrev pub object_text : TypedTree → SlotInfo → List ℕ
 object_text t s = option_map_or (variable_cause t s) (variable_of t s.owner) []

@@ -9,6 +9,7 @@ ghost use Rattle.flow_rules.specs.Faults.{fault_cmp};
 ghost use Rattle.typed_tree.specs.TypedView.{view_typed};
 ghost use Rattle.std.specs.List.Sorted.{IsStrictlySortedBy};
 
+use crate::front_blocks::push_sentence;
 use crate::homes::{homes_of, push_place_home};
 use crate::origins::origin_text;
 use crate::parts::Parts;
@@ -19,10 +20,26 @@ use crate::turns::{Turn, turns_of};
 use crate::ways::push_way;
 use flow_check::{push_fault, shows_way};
 use flow_rules::{FlowFault, Rule};
+use pt_base::Span;
 use sides::place;
 use source_places::Lines;
 use std::alloc::{AllocError, Global};
 use typed_tree::Typed;
+
+// appends the place of a fault with a quote of it
+fn push_quote(
+    name: &[u8],
+    lines: &Lines<'_>,
+    home: &[u8],
+    span: Span,
+    text: &mut Vec<u8>,
+) -> Result<(), AllocError>
+    ensures { OnOk result (text.new.items ≡ text.old.items ++ is.quote_text name.now (text_of lines.now) home.now span) }
+{
+    lines.push_head(name, span.from as usize, text)?;
+    text.extend_from_slice(home)?;
+    push_span_quote(lines, span, text)
+}
 
 // appends what is said of a fault, with its line
 fn push_fault_text(
@@ -34,12 +51,10 @@ fn push_fault_text(
 ) -> Result<(), AllocError>
     ensures { OnOk result (text.new.items ≡ text.old.items ++ is.fault_text name.now (text_of lines.now) home.now fault.now) }
 {
-    lines.push_head(name, fault.span.from as usize, text)?;
-    text.extend_from_slice(home)?;
-    push_span_quote(lines, fault.span, text)?;
-    text.extend_from_slice(rule_sentence(fault.rule).as_bytes())?;
-    text.push(b'\n')?;
-    push_span_excerpt(lines, fault.span, text)
+    push_quote(name, lines, home, fault.span, text)?;
+    push_sentence(rule_sentence(fault.rule), text)?;
+    push_span_excerpt(lines, fault.span, text)?;
+    Ok(())
 }
 
 // appends its way, where its rule speaks of a secret
@@ -96,7 +111,7 @@ fn in_function(rule: Rule) -> bool
 
 // `in FUNCTION: ` of the function in which a fault stands
 fn rule_home(alloc: Global, program: Parts<'_>, fault: &FlowFault) -> Result<Vec<u8>, AllocError>
-    ensures { IfOk result (λ text. text.items ≡ is.rule_home (view_typed program.t.now) program.homes.now fault.now) }
+    ensures { IfOk result (λ text. text.items ≡ is.rule_home (view_typed program.entry.t.now) program.entry.homes.now fault.now) }
 {
     let mut text = Vec::new(alloc);
     if in_function(fault.rule) {
@@ -114,7 +129,7 @@ fn push_block_in(
     fault: &FlowFault,
     text: &mut Vec<u8>,
 ) -> Result<(), AllocError>
-    ensures { OnOk result (text.new.items ≡ text.old.items ++ is.block_in name.now (text_of lines.now) (view_typed program.t.now) program.slots.now program.homes.now fault.now) }
+    ensures { OnOk result (text.new.items ≡ text.old.items ++ is.block_in name.now (text_of lines.now) (view_typed program.entry.t.now) program.entry.slots.now program.entry.homes.now fault.now) }
 {
     let home = rule_home(alloc, program, fault)?;
     let cause = origin_text(alloc, program.t, program.slots, fault.origin)?;
@@ -131,7 +146,7 @@ fn push_turn(
     turn: Turn,
     text: &mut Vec<u8>,
 ) -> Result<(), AllocError>
-    ensures { OnOk result (text.new.items ≡ text.old.items ++ turn_block name.now (text_of lines.now) (view_typed program.t.now) program.slots.now program.homes.now faults.now turn) }
+    ensures { OnOk result (text.new.items ≡ text.old.items ++ turn_block name.now (text_of lines.now) (view_typed program.entry.t.now) program.entry.slots.now program.entry.homes.now faults.now turn) }
 {
     match faults.get(turn.number) {
         Some(fault) => push_block_in(alloc, name, lines, program, fault, text),
@@ -148,7 +163,7 @@ fn blocks_of(
     faults: &[FlowFault],
     turns: &[Turn],
 ) -> Result<Vec<u8>, AllocError>
-    ensures { IfOk result (λ text. text.items ≡ flat_map (turn_block name.now (text_of lines.now) (view_typed program.t.now) program.slots.now program.homes.now faults.now) turns.now) }
+    ensures { IfOk result (λ text. text.items ≡ flat_map (turn_block name.now (text_of lines.now) (view_typed program.entry.t.now) program.entry.slots.now program.entry.homes.now faults.now) turns.now) }
 {
     let mut text = Vec::new(alloc);
     for turn in turns {
@@ -166,7 +181,7 @@ fn blocks_in_turn(
     program: Parts<'_>,
     faults: &[FlowFault],
 ) -> Result<Vec<u8>, AllocError>
-    ensures { IfOk result (λ text. AreTurnBlocks name.now (text_of lines.now) (view_typed program.t.now) program.slots.now program.homes.now faults.now text.items) }
+    ensures { IfOk result (λ text. AreTurnBlocks name.now (text_of lines.now) (view_typed program.entry.t.now) program.entry.slots.now program.entry.homes.now faults.now text.items) }
 {
     let turns = turns_of(alloc, faults)?;
     let order = turns.as_slice();

@@ -1,5 +1,5 @@
 // The blocks that explain faults of lexer, parser and types.
-ghost use Rattle.std.specs.Prelude.{◌≡◌, ◌++◌, IfOk, OnOk, slice_index_or};
+ghost use Rattle.std.specs.Prelude.{◌≡◌, ◌++◌, IfOk, OnOk, codes, length, ltb, slice_index_or};
 ghost use Rattle.std.specs.List.{flat_map};
 ghost use Rattle.fault_lines.specs.FaultLines as lines_are;
 ghost use Rattle.source_places.specs.LinesSeen.{text_of};
@@ -24,6 +24,13 @@ fn byte_at(program: &[u8], at: u32) -> u8
         Some(byte) => *byte,
         None => 0,
     }
+}
+
+// whether an offset is one of the text
+fn is_within(program: &[u8], at: u32) -> bool
+    ensures { result ≡ ltb at (length program.now) }
+{
+    (at as usize) < program.len()
 }
 
 // appends the line that `check` reports of a text without tokens
@@ -62,6 +69,15 @@ fn push_type_line(fault: TypeFault, text: &mut Vec<u8>) -> Result<(), AllocError
     Ok(())
 }
 
+/// Appends a sentence, and ends its line
+pub(crate) fn push_sentence(sentence: &str, text: &mut Vec<u8>) -> Result<(), AllocError>
+    ensures { OnOk result (text.new.items ≡ text.old.items ++ (sentence.now ++ codes "\n")) }
+{
+    text.extend_from_slice(sentence.as_bytes())?;
+    text.push(b'\n')?;
+    Ok(())
+}
+
 // appends the line of a fault's place, but not of a text that is too long
 fn push_lex_excerpt(
     lines: &Lines<'_>,
@@ -91,9 +107,9 @@ fn push_lex_text(
     ensures { OnOk result (text.new.items ≡ text.old.items ++ is.lex_text name.now (text_of lines.now) fault byte) }
 {
     lines.push_head(name, fault.at as usize, text)?;
-    text.extend_from_slice(lex_sentence(fault.kind, byte).as_bytes())?;
-    text.push(b'\n')?;
-    push_lex_excerpt(lines, fault.kind, fault.at, text)
+    push_sentence(lex_sentence(fault.kind, byte), text)?;
+    push_lex_excerpt(lines, fault.kind, fault.at, text)?;
+    Ok(())
 }
 
 // the block of the fault at this byte
@@ -139,9 +155,9 @@ fn push_parse_text(
     ensures { OnOk result (text.new.items ≡ text.old.items ++ is.parse_text name.now (text_of lines.now) fault within) }
 {
     lines.push_head(name, fault.at as usize, text)?;
-    text.extend_from_slice(parse_sentence(fault.kind, within).as_bytes())?;
-    text.push(b'\n')?;
-    lines.push_excerpt(fault.at as usize, 1, text)
+    push_sentence(parse_sentence(fault.kind, within), text)?;
+    lines.push_excerpt(fault.at as usize, 1, text)?;
+    Ok(())
 }
 
 // the block of the fault, within the text or at its end
@@ -171,7 +187,7 @@ pub(crate) fn parse_block(
     ensures { IfOk result (λ text. text.items ≡ is.parse_block name.now program.now fault) }
 {
     let lines = Lines::new(alloc, program)?;
-    let within = (fault.at as usize) < program.len();
+    let within = is_within(program, fault.at);
     let text = parse_block_in(alloc, name, &lines, fault, within)?;
     Ok(text)
 }
@@ -201,9 +217,9 @@ fn push_type_text(
     ensures { OnOk result (text.new.items ≡ text.old.items ++ is.type_text name.now (text_of lines.now) fault) }
 {
     lines.push_head(name, fault.span.from as usize, text)?;
-    text.extend_from_slice(type_sentence(fault.kind).as_bytes())?;
-    text.push(b'\n')?;
-    push_type_excerpt(lines, fault.kind, fault.span, text)
+    push_sentence(type_sentence(fault.kind), text)?;
+    push_type_excerpt(lines, fault.kind, fault.span, text)?;
+    Ok(())
 }
 
 // appends the block of a type fault

@@ -14,20 +14,18 @@ use pt_base::FnId;
 use sides::{Owner, SlotInfo};
 use source_places::Lines;
 use std::alloc::{AllocError, Global};
-use typed_tree::{Typed, Var};
+use typed_tree::{StructInfo, Typed, Var};
 
-// appends `in FUNCTION: `
-fn push_function(t: &Typed, function: FnId, text: &mut Vec<u8>) -> Result<(), AllocError>
+/// Appends `in FUNCTION: ` of the function of this number.
+pub(crate) fn push_function(t: &Typed, function: FnId, text: &mut Vec<u8>) -> Result<(), AllocError>
     ensures { OnOk result (text.new.items ≡ text.old.items ++ is.function_text (view_typed t.now) function) }
 {
-    match t.functions.get(function.0 as usize) {
-        Some(function) => {
-            text.extend_from_slice(b"in ")?;
-            text.extend_from_slice(function.signature.name.as_slice())?;
-            text.extend_from_slice(b": ")
-        }
-        None => Ok(()),
+    if let Some(signature) = t.signature(function) {
+        text.extend_from_slice(b"in ")?;
+        text.extend_from_slice(signature.name.as_slice())?;
+        text.extend_from_slice(b": ")?;
     }
+    Ok(())
 }
 
 // appends `in FUNCTION: ` of a variable
@@ -43,20 +41,15 @@ fn push_home(t: &Typed, owner: Owner, text: &mut Vec<u8>) -> Result<(), AllocErr
 
 // appends the name of a leaf of a variable, and that it holds a secret
 fn push_named(
-    t: &Typed,
-    info: &SlotInfo,
+    structs: &[StructInfo],
+    path: &[u32],
     variable: &Var,
     text: &mut Vec<u8>,
 ) -> Result<(), AllocError>
-    ensures { OnOk result (text.new.items ≡ text.old.items ++ is.named_text (view_typed t.now) info.now variable.now) }
+    ensures { OnOk result (text.new.items ≡ text.old.items ++ is.named_text structs.now path.now variable.now) }
 {
     text.extend_from_slice(variable.name.as_slice())?;
-    push_fields(
-        t.structs.as_slice(),
-        variable.ty,
-        info.path.as_slice(),
-        text,
-    )?;
+    push_fields(structs, variable.ty, path, text)?;
     text.extend_from_slice(b" holds a secret\n")?;
     Ok(())
 }
@@ -74,7 +67,8 @@ fn push_variable(
 {
     lines.push_head(name, variable.span.from as usize, text)?;
     push_home(t, info.owner, text)?;
-    push_named(t, info, variable, text)
+    let structs = t.structs.as_slice();
+    push_named(structs, info.path.as_slice(), variable, text)
 }
 
 // appends the line of a slot

@@ -1,5 +1,5 @@
 // The functions in whose texts places stand.
-ghost use Rattle.std.specs.Prelude.{◌≡◌, ◌++◌, ◌↔◌, None, IfOk, OnOk, is_some, map};
+ghost use Rattle.std.specs.Prelude.{◌≡◌, ◌++◌, ◌↔◌, None, IfOk, OnOk, is_some, map, suc};
 ghost use Rattle.std.specs.List.{Contains};
 ghost use Rattle.std.specs.List.Sorted.{IsNonDecreasingBy, IsStrictlySortedBy};
 ghost use Rattle.typed_tree.specs.TypedView.{view_typed};
@@ -7,6 +7,8 @@ ghost use Rattle.typed_tree.specs.TypedTree.{view_function};
 ghost use Rattle.explaining.specs.declared.homes.Home.{Home};
 ghost use Rattle.explaining.specs.Homes as is;
 
+use crate::holdings::push_function;
+use pt_base::FnId;
 use std::alloc::{AllocError, Global};
 use typed_tree::{Typed, TypedFn};
 
@@ -14,11 +16,11 @@ use typed_tree::{Typed, TypedFn};
 #[derive(Clone, Copy, PartialEq, Eq, PartialOrd, Ord)]
 pub(crate) struct Home {
     pub at: u32,
-    pub number: usize,
+    pub number: u32,
 }
 
 // adds a function, if it has a body
-fn add_home(function: &TypedFn, number: usize, homes: &mut Vec<Home>) -> Result<(), AllocError>
+fn add_home(function: &TypedFn, number: u32, homes: &mut Vec<Home>) -> Result<(), AllocError>
     ensures { OnOk result (homes.new.items ≡ homes.old.items ++ is.home_if (is_some (view_function function.now).body) function.now.name.from number) }
 {
     if function.body.is_some() {
@@ -30,15 +32,25 @@ fn add_home(function: &TypedFn, number: usize, homes: &mut Vec<Home>) -> Result<
     Ok(())
 }
 
+// the number behind one; want of memory where 32 bits don't hold it
+fn next(number: u32) -> Result<u32, AllocError>
+    ensures { IfOk result (λ n. n ≡ suc number) }
+{
+    match number.checked_add(1) {
+        Some(next) => Ok(next),
+        None => Err(AllocError),
+    }
+}
+
 // those of these functions that have bodies, as they stand
 fn homes_in(alloc: Global, functions: &[TypedFn]) -> Result<Vec<Home>, AllocError>
     ensures { IfOk result (λ v. v.items ≡ is.homes_from 0 (map view_function functions.now)) }
 {
     let mut homes = Vec::new(alloc);
-    let mut number = 0;
+    let mut number: u32 = 0;
     for function in functions {
         add_home(function, number, &mut homes)?;
-        number += 1;
+        number = next(number)?;
     }
     Ok(homes)
 }
@@ -79,20 +91,6 @@ fn item_before(homes: &[Home], count: usize) -> Option<Home>
     homes.get(count - 1).copied()
 }
 
-// appends `in FUNCTION: `
-fn push_function(t: &Typed, number: usize, text: &mut Vec<u8>) -> Result<(), AllocError>
-    ensures { OnOk result (text.new.items ≡ text.old.items ++ is.numbered_text (view_typed t.now) number) }
-{
-    match t.functions.get(number) {
-        Some(function) => {
-            text.extend_from_slice(b"in ")?;
-            text.extend_from_slice(function.signature.name.as_slice())?;
-            text.extend_from_slice(b": ")
-        }
-        None => Ok(()),
-    }
-}
-
 /// Appends `in FUNCTION: ` of the function in whose text a place stands, where there is one.
 pub(crate) fn push_place_home(
     t: &Typed,
@@ -106,7 +104,7 @@ pub(crate) fn push_place_home(
     let count = begun(homes, at);
     let found = item_before(homes, count);
     match found {
-        Some(home) => push_function(t, home.number, text),
+        Some(home) => push_function(t, FnId(home.number), text),
         None => Ok(()),
     }
 }

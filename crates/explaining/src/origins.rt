@@ -61,14 +61,12 @@ fn push_object(t: &Typed, info: &SlotInfo, text: &mut Vec<u8>) -> Result<(), All
 fn push_result(t: &Typed, function: FnId, text: &mut Vec<u8>) -> Result<(), AllocError>
     ensures { OnOk result (text.new.items ≡ text.old.items ++ is.result_cause (view_typed t.now) function) }
 {
-    match t.functions.get(function.0 as usize) {
-        Some(function) => {
-            text.extend_from_slice(b": what `")?;
-            text.extend_from_slice(function.signature.name.as_slice())?;
-            text.extend_from_slice(b"` returns is privileged")
-        }
-        None => Ok(()),
+    if let Some(signature) = t.signature(function) {
+        text.extend_from_slice(b": what `")?;
+        text.extend_from_slice(signature.name.as_slice())?;
+        text.extend_from_slice(b"` returns is privileged")?;
     }
+    Ok(())
 }
 
 // appends why a slot is secret

@@ -2,8 +2,8 @@ use Rattle.typed_tree.specs.TypedView.{view_typed}
 use Rattle.explaining.proofs.ExplainLemmas.{explained, faults_are, in_order}
 use Rattle.explaining.proofs.explanations.with_program.Goals as goal
 
-pub flow_blocks-blocks-in-Err-Faults-requires : goal.flow_blocks-blocks-in-Err-Faults-requires
-flow_blocks-blocks-in-Err-Faults-requires g c =
+pub flow_blocks-requires : goal.flow_blocks-requires
+flow_blocks-requires g c =
     let t = view_typed c.args.typed.now in
     let are = faults_are t c.judge.result _ c.in-Err-Faults.faults c.judge.ensures c.in-Err-Faults.is c.in-Err-Faults.field-0-is in
     in_order t c.in-Err-Faults.faults _ are c.as_slice.ensures
