@@ -1,3 +1,4 @@
+mod AppendLemmas
 mod Cuts
 mod ExplainLemmas
 mod HoldingLemmas

@@ -23,9 +23,12 @@ object_cause false false = codes " comes back from a privileged function"
 abbrev pub variable_cause : TypedTree → SlotInfo → Var → List ℕ
 variable_cause t s x = codes ": `" ++ x.name ++ fields_text t.structs x.ty s.path ++ codes "`" ++ object_cause x.marked s.marked
 
--- of what a function returns
+-- of what the function of this name returns
+abbrev pub returned_text : List ℕ → List ℕ
+returned_text name = codes ": what `" ++ name ++ codes "` returns is privileged"
+
 abbrev pub result_cause : TypedTree → FnId → List ℕ
-result_cause t f = option_map_or (λ s. codes ": what `" ++ s.name ++ codes "` returns is privileged") (signature_of t f) []
+result_cause t f = option_map_or (λ s. returned_text s.name) (signature_of t f) []
 
 abbrev pub object_text : TypedTree → SlotInfo → List ℕ
 object_text t s = option_map_or (variable_cause t s) (variable_of t s.owner) []

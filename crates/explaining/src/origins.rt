@@ -57,14 +57,22 @@ fn push_object(t: &Typed, info: &SlotInfo, text: &mut Vec<u8>) -> Result<(), All
     }
 }
 
+// appends why what the function of this name returns is secret
+fn push_returned(name: &[u8], text: &mut Vec<u8>) -> Result<(), AllocError>
+    ensures { OnOk result (text.new.items ≡ text.old.items ++ is.returned_text name.now) }
+{
+    text.extend_from_slice(b": what `")?;
+    text.extend_from_slice(name)?;
+    text.extend_from_slice(b"` returns is privileged")?;
+    Ok(())
+}
+
 // appends why what a function returns is secret
 fn push_result(t: &Typed, function: FnId, text: &mut Vec<u8>) -> Result<(), AllocError>
     ensures { OnOk result (text.new.items ≡ text.old.items ++ is.result_cause (view_typed t.now) function) }
 {
     if let Some(signature) = t.signature(function) {
-        text.extend_from_slice(b": what `")?;
-        text.extend_from_slice(signature.name.as_slice())?;
-        text.extend_from_slice(b"` returns is privileged")?;
+        push_returned(signature.name.as_slice(), text)?;
     }
     Ok(())
 }
