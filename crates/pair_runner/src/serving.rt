@@ -1,5 +1,5 @@
 // One turn of the monitor: the frame at the front is served, or more bytes are asked for.
-ghost use Rattle.std.specs.Prelude.{◌≡◌, [], None, IfErr, IfSome, OnErr, OnOk};
+ghost use Rattle.std.specs.Prelude.{◌≡◌, ℕ, [], None, IfErr, IfSome, OnErr, OnOk};
 ghost use Rattle.pt_base.specs.Faults.{HasCause};
 ghost use Rattle.wire.specs.declared.message.Message.TheVariants.{Reply};
 ghost use Rattle.wire.specs.Limits.{IsBytes, KeepsCounts, KeepsLimits};
@@ -7,6 +7,7 @@ ghost use Rattle.monitor_interp.specs.Monitors.{IsMonitor};
 ghost use Rattle.pair_meaning.specs.Monitors as s;
 ghost use Rattle.pair_meaning.specs.Serving.{serve};
 ghost use Rattle.pair_sides.specs.SlaveRun.{listed};
+ghost use Rattle.pair_runner.specs.Faults.{FirstFault};
 ghost use Rattle.pair_runner.specs.Sending.{Breaks, IsSpelled, Moves, Parts, Talks, reply_frames, sent_of};
 ghost use Rattle.pair_runner.specs.Turns.{Answered, Fed, Stuck, Turned, Unfed};
 ghost use Rattle.std.specs.Io.KnownBytes.{Appends};
@@ -52,6 +53,7 @@ fn give_back<L: Link, K: Sink>(
     ensures ready { L.ready link.new }
     ensures link { HasCause (L.faults link.old) (L.faults link.new) result RunFault.LinkFailed }
     ensures sink { HasCause (K.faults sink.old) (K.faults sink.new) result RunFault.SinkFailed }
+    ensures first { FirstFault (L.faults link.old) (L.faults link.new) (K.faults sink.old) (K.faults sink.new) result }
 {
     write_out(alloc, bytes, sink)?;
     send_reply(alloc, reply, link)?;
@@ -76,6 +78,7 @@ fn serve_message<L: Link, K: Sink>(
     ensures ready { L.ready link.new }
     ensures link { HasCause (L.faults link.old) (L.faults link.new) result RunFault.LinkFailed }
     ensures sink { HasCause (K.faults sink.old) (K.faults sink.new) result RunFault.SinkFailed }
+    ensures first { FirstFault (L.faults link.old) (L.faults link.new) (K.faults sink.old) (K.faults sink.new) result }
 {
     replies_are_spelled();
     let mut out = Vec::new(alloc);
@@ -109,6 +112,7 @@ fn hear<L: Link>(alloc: Global, reader: &mut Reader, link: &mut L) -> Result<(),
     ensures err { IfErr result (Unfed (λ talk bytes. Talks L.came L.sent L.given link.old link.new talk) (λ given sent bytes. Parts L.sent L.given link.old link.new given sent)) }
     ensures ready { L.ready link.new }
     ensures link { HasCause (L.faults link.old) (L.faults link.new) result RunFault.LinkFailed }
+    ensures first { (sinks : ℕ) → FirstFault (L.faults link.old) (L.faults link.new) sinks sinks result }
 {
     let piece = link.receive(alloc, MOST_AT_ONCE)?;
     let bytes = piece.as_slice();
@@ -137,6 +141,7 @@ pub(crate) fn turn<L: Link, K: Sink>(
     ensures ready { L.ready link.new }
     ensures link { HasCause (L.faults link.old) (L.faults link.new) result RunFault.LinkFailed }
     ensures sink { HasCause (K.faults sink.old) (K.faults sink.new) result RunFault.SinkFailed }
+    ensures first { FirstFault (L.faults link.old) (L.faults link.new) (K.faults sink.old) (K.faults sink.new) result }
 {
     let Some((message, offset)) = reader.next(alloc)? else {
         hear(alloc, reader, link)?;

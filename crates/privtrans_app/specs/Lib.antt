@@ -8,6 +8,7 @@ pub mod Held
 pub mod Help
 pub mod Interleaving
 pub mod LocalRun
+pub mod Once
 pub mod OrigRun
 pub mod OrigTexts
 pub mod PairTexts

@@ -1,9 +1,10 @@
 // A check: the file is read, and the lines of the program's privileged variables go to out.
-ghost use Rattle.std.specs.Prelude.{◌≡◌, ◌≤◌, ℕ, true, List};
+ghost use Rattle.std.specs.Prelude.{◌≡◌, ◌≤◌, ◌+◌, ℕ, true, List};
 ghost use Rattle.pt_base.specs.Files.{SameFiles};
 ghost use Rattle.privtrans_app.specs.Causes.{ComesTo};
-ghost use Rattle.privtrans_app.specs.Ending.{is_silent};
+ghost use Rattle.privtrans_app.specs.Ending.{is_silent, status_of};
 ghost use Rattle.privtrans_app.specs.EndingSeen.{ending_seen};
+ghost use Rattle.privtrans_app.specs.Once.{FailsOnce};
 ghost use Rattle.privtrans_app.specs.Words.{IsCheck};
 
 use crate::ending::Ending;
@@ -30,6 +31,7 @@ pub(crate) fn check<'a, R: Threads + Sync, F: Folder, K: Sink, W: Watch>(
     ensures same { SameFiles (F.files folder.old) (F.files folder.new) }
     ensures writes { F.write_faults folder.new ≡ F.write_faults folder.old }
     ensures later { (F.read_faults folder.old ≤ F.read_faults folder.new) × (K.faults out.old ≤ K.faults out.new) }
+    ensures once { FailsOnce (F.read_faults folder.old + K.faults out.old) (F.read_faults folder.new + K.faults out.new) (status_of (ending_seen result)) }
 {
     let text = match read_text(alloc, folder, program) {
         Ok(text) => text,
