@@ -1,0 +1,6 @@
+mod AppendLemmas
+mod Cuts
+mod ExplainLemmas
+mod HoldingLemmas
+mod HomeLemmas
+mod TurnLemmas
