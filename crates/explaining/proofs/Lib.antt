@@ -1,5 +1,5 @@
 mod AppendLemmas
-mod Cuts
+pub mod Cuts
 mod ExplainLemmas
 mod HoldingLemmas
 mod HomeLemmas
