@@ -1,11 +1,10 @@
-use Rattle.std.proofs.Common.{ℕ, List, Option, arith, subst}
+use Rattle.std.proofs.Common.{ℕ, List, Option, subst}
 use Rattle.flow_check.specs.Checked.{IsChecked}
 use Rattle.flow_check.specs.OutcomeSeen.{AreLinesOf, IsOutcome}
 use Rattle.privtrans_app.specs.Ending.{Puts, accepted}
 use Rattle.privtrans_app.specs.EndingSeen.{ending_seen}
 use Rattle.privtrans_app.proofs.CauseLemmas.{read_refusal_comes}
 use Rattle.privtrans_app.proofs.CheckLemmas.{check_reached, checked_come, faults_come}
-use Rattle.privtrans_app.proofs.OnceLemmas.{once_of}
 use Rattle.privtrans_app.proofs.check.check.Goals as goal
 
 pub returns-in-Err-clause-ending : goal.returns-in-Err-clause-ending
@@ -33,12 +32,3 @@ returns-in-Ok-Checked-clause-ending g c = λ given form.
     checked_come given c.args.program.now (g.F.Folder.files c.args.folder.now) cut (g.F.Folder.read_faults c.args.folder.now) (g.F.Folder.read_faults c.read_text.new.folder)
     o o' (g.K.Sink.faults c.args.out.now) (g.K.Sink.faults c.put.new.out) lines (ending_seen c.put.result) form c.in-Ok.ensures.content is
     (subst (λ (bs : List ℕ). Puts o o' (g.K.Sink.faults c.args.out.now) (g.K.Sink.faults c.put.new.out) bs accepted (ending_seen c.put.result)) c.deref-in-Ok-Checked.ensures.value c.put.ensures.ending)
-
-pub returns-in-Err-clause-once : goal.returns-in-Err-clause-once
-returns-in-Err-clause-once g c =
-    once_of _ _ _ _ _ c.in-Err.ensures.once (omega arith)
-
-pub returns-in-Ok-Checked-clause-once : goal.returns-in-Ok-Checked-clause-once
-returns-in-Ok-Checked-clause-once g c =
-    let same = c.in-Ok.ensures.stays in
-    once_of _ _ _ _ _ c.put.ensures.once (omega (arith, same))
