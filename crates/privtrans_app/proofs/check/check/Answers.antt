@@ -1,4 +1,4 @@
-use Rattle.std.proofs.Common.{ℕ, List, Option, ap, arith, subst}
+use Rattle.std.proofs.Common.{ℕ, List, Option, ap, subst}
 use Rattle.privtrans_app.specs.Ending.{Puts, accepted}
 use Rattle.privtrans_app.specs.EndingSeen.{ending_seen}
 use Rattle.privtrans_app.specs.FindingsSeen.{AreFound, findings_of}
@@ -6,7 +6,6 @@ use Rattle.privtrans_app.specs.Words.{manner_of}
 use Rattle.privtrans_app.specs.declared.words.CheckWords.{CheckWords}
 use Rattle.privtrans_app.proofs.CauseLemmas.{read_refusal_comes}
 use Rattle.privtrans_app.proofs.CheckLemmas.{check_reached, checked_come, faults_come}
-use Rattle.privtrans_app.proofs.OnceLemmas.{once_of}
 use Rattle.privtrans_app.proofs.check.check.Goals as goal
 
 pub returns-in-Err-clause-ending : goal.returns-in-Err-clause-ending
@@ -35,12 +34,3 @@ returns-in-Ok-Clean-clause-ending g c = λ given form.
     o o' (g.K.Sink.faults c.args.out.now) (g.K.Sink.faults c.put.new.out) c.in-Ok-Clean.field-0 c.in-Ok-Clean.lines.items (ending_seen c.put.result) form c.in-Ok.ensures.content are
     (ap findings_of c.in-Ok-Clean.field-0-is)
     (subst (λ (bs : List ℕ). Puts o o' (g.K.Sink.faults c.args.out.now) (g.K.Sink.faults c.put.new.out) bs accepted (ending_seen c.put.result)) c.deref-in-Ok-Clean.ensures.value c.put.ensures.ending)
-
-pub returns-in-Err-clause-once : goal.returns-in-Err-clause-once
-returns-in-Err-clause-once g c =
-    once_of _ _ _ _ _ c.in-Err.ensures.once (omega arith)
-
-pub returns-in-Ok-Clean-clause-once : goal.returns-in-Ok-Clean-clause-once
-returns-in-Ok-Clean-clause-once g c =
-    let same = c.in-Ok.ensures.stays in
-    once_of _ _ _ _ _ c.put.ensures.once (omega (arith, same))
