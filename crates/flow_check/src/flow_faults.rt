@@ -9,8 +9,8 @@ use flow_rules::{FlowFault, Rule};
 use pt_base::Span;
 use std::alloc::{AllocError, Global};
 
-// whether the faults of a rule show a way
-fn shows_way(rule: Rule) -> bool
+/// Whether the faults of a rule show a way.
+pub fn shows_way(rule: Rule) -> bool
     ensures { result ≡ is.shows_way rule }
 {
     match rule {
@@ -55,8 +55,8 @@ fn push_way(rule: Rule, path: &[Span], line: &mut Vec<u8>) -> Result<(), AllocEr
     push_places(path, line)
 }
 
-// appends the line of a fault
-fn push_fault(fault: &FlowFault, lines: &mut Vec<u8>) -> Result<(), AllocError>
+/// Appends the line of a fault. Where memory is wanting, a first part of it may stand there.
+pub fn push_fault(fault: &FlowFault, lines: &mut Vec<u8>) -> Result<(), AllocError>
     ensures { OnOk result (lines.new.items ≡ lines.old.items ++ is.flow_line fault.now) }
 {
     lines.extend_from_slice(b"flow ")?;

@@ -13,9 +13,12 @@ mod slot_lines;
 mod stages;
 mod variables;
 
-pub use flow_faults::flow_lines;
+pub use flow_faults::{flow_lines, push_fault, shows_way};
 pub use judging::judge;
 pub use laws::{first_bytes_are_enough, texts_have_one_outcome};
 pub use outcome::Outcome;
 pub use room::MOST_LINE_BYTES;
+pub use shown::{ShownSlot, shown_slots};
+pub use slot_lines::push_fields;
 pub use stages::outcome_of;
+pub use variables::variable_of;

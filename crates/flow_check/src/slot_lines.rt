@@ -50,8 +50,9 @@ fn field_of(structs: &[StructInfo], ty: VarTy, number: u32) -> Option<&Field>
     info.fields.as_slice().get(number as usize)
 }
 
-// appends the names of the fields of a path, each behind a dot
-fn push_fields(
+/// Appends the names of the fields of a path, each behind a dot. Where memory is wanting, a first part of them
+/// may stand there.
+pub fn push_fields(
     structs: &[StructInfo],
     ty: VarTy,
     path: &[u32],

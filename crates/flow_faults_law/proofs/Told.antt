@@ -39,7 +39,8 @@ module _ (t : TypedTree) (s : Sides) (marks : Shown) (are : AreMarks s.seeds (ed
   way_to [] all = (None, [], (refl, refl))
   way_to (n ∷ ns) all =
       let way = shortest_way n (all n (in_first n ns)) in
-      (Some way.1, spans_of (edges_of_all t s) way.0, (n, way.1, way.0, in_first n ns, refl, (way.2, way.3, way.4), refl))
+      let there = way.1 in
+      (Some there.0, spans_of (edges_of_all t s) way.0, (n, there.0, way.0, in_first n ns, refl, (there.1, there.2, there.3), refl))
 
   -- ---- faults
 
