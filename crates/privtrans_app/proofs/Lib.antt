@@ -5,7 +5,6 @@ pub mod CompleteLemmas
 mod GeneratedLemmas
 pub mod InterleavingLemmas
 pub mod LocalLemmas
-mod OnceLemmas
 pub mod OrigLemmas
 pub mod ProcessLemmas
 pub mod ReadingLemmas

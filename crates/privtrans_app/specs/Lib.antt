@@ -3,6 +3,7 @@ pub mod Causes
 pub mod CheckRun
 pub mod Ending
 pub mod EndingSeen
+pub mod FindingsSeen
 pub mod GeneratedRun
 pub mod Held
 pub mod Help

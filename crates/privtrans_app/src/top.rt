@@ -71,7 +71,7 @@ fn came_to<'a, R: Threads + Sync, F: Folder, K: Sink, C: Chooser, W: Watch>(
         Some(Form::Version) => put(alloc, out, VERSION, Came::Version),
         Some(Form::Local(words)) => local(rt, alloc, &words, folder, out, chooser, watch),
         Some(Form::Orig(words)) => orig(rt, alloc, &words, folder, out, watch),
-        Some(Form::Check(program)) => check(rt, alloc, program, folder, out, watch),
+        Some(Form::Check(words)) => check(rt, alloc, &words, folder, out, watch),
     }
 }
 

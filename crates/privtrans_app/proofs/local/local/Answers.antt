@@ -1,4 +1,4 @@
-use Rattle.std.proofs.Common.{◌≡◌, ℕ, List, Option, arith, subst}
+use Rattle.std.proofs.Common.{◌≡◌, ℕ, List, Option, subst}
 use Rattle.pt_base.specs.declared.chooser.Who.{Who}
 use Rattle.pair_texts.specs.OutcomeSeen.{AreLinesOf}
 use Rattle.pair_texts.specs.Start.{Texts}
@@ -14,7 +14,6 @@ use Rattle.privtrans_app.specs.Reading.{list_of}
 use Rattle.privtrans_app.proofs.CauseLemmas.{refusal_comes}
 use Rattle.privtrans_app.proofs.InterleavingLemmas.{none_taken, refusal_turns, run_turns}
 use Rattle.privtrans_app.proofs.LocalLemmas.{local_run, faults_come, ran_comes}
-use Rattle.privtrans_app.proofs.OnceLemmas.{once_of}
 use Rattle.privtrans_app.proofs.local.local.Goals as goal
 
 pub returns-in-Err-clause-ending : goal.returns-in-Err-clause-ending
@@ -78,12 +77,3 @@ pub returns-in-Ok-Refused-clause-untaken : goal.returns-in-Ok-Refused-clause-unt
 returns-in-Ok-Refused-clause-untaken g c = λ silent.
     let read : Texts = record { program = c.deref-4.result.now; host = c.deref.result.now; policy = c.deref-2.result.now; input = c.deref-3.result.now } in
     subst (IsWholeRun read c.args.words.now.turns c.args.words.now.window (g.C.Chooser.answers c.args.chooser.now) (g.C.Chooser.answers c.outcome_of-outcome.new.chooser)) c.in-Ok-Refused.field-0-is c.in-Ok-Refused.ensures.whole
-
-pub returns-in-Err-clause-once : goal.returns-in-Err-clause-once
-returns-in-Err-clause-once g c =
-    once_of _ _ _ _ _ c.in-Err.ensures.once (omega arith)
-
-pub returns-in-Ok-Ran-clause-once : goal.returns-in-Ok-Ran-clause-once
-returns-in-Ok-Ran-clause-once g c =
-    let same = c.in-Ok.ensures.stays in
-    once_of _ _ _ _ _ c.put.ensures.once (omega (arith, same))

@@ -1,4 +1,4 @@
-use Rattle.std.proofs.Common.{◌≡◌, ℕ, List, Option, arith, subst}
+use Rattle.std.proofs.Common.{◌≡◌, ℕ, List, Option, subst}
 use Rattle.original.specs.Original as original
 use Rattle.original.specs.Original.{Texts, ran}
 use Rattle.original.specs.OutcomeSeen.{AreLinesOf, IsOutcome, end_of}
@@ -8,7 +8,6 @@ use Rattle.privtrans_app.specs.OrigTexts.{orig_texts_of}
 use Rattle.privtrans_app.specs.Reading.{orig_names}
 use Rattle.privtrans_app.proofs.CauseLemmas.{refusal_comes}
 use Rattle.privtrans_app.proofs.OrigLemmas.{orig_run, faults_come, ran_comes}
-use Rattle.privtrans_app.proofs.OnceLemmas.{once_of}
 use Rattle.privtrans_app.proofs.orig.orig.Goals as goal
 
 pub returns-in-Err-clause-ending : goal.returns-in-Err-clause-ending
@@ -40,12 +39,3 @@ returns-in-Ok-Ran-clause-ending g c = λ given form.
     o o' (g.K.Sink.faults c.args.out.now) (g.K.Sink.faults c.put.new.out) bytes (end_of c.in-Ok-Ran.end) (ending_seen c.ending_of.result) (ending_seen c.put.result)
     form c.in-Ok.ensures.texts comes c.ending_of.ensures.ending
     (subst (λ (bs : List ℕ). Puts o o' (g.K.Sink.faults c.args.out.now) (g.K.Sink.faults c.put.new.out) bs (ending_seen c.ending_of.result) (ending_seen c.put.result)) c.deref-in-Ok-Ran.ensures.value c.put.ensures.ending)
-
-pub returns-in-Err-clause-once : goal.returns-in-Err-clause-once
-returns-in-Err-clause-once g c =
-    once_of _ _ _ _ _ c.in-Err.ensures.once (omega arith)
-
-pub returns-in-Ok-Ran-clause-once : goal.returns-in-Ok-Ran-clause-once
-returns-in-Ok-Ran-clause-once g c =
-    let same = c.in-Ok.ensures.stays in
-    once_of _ _ _ _ _ c.put.ensures.once (omega (arith, same))

@@ -1,7 +1,6 @@
-use Rattle.std.proofs.Common.{◌≡◌, [], ◌∷◌, Option, Err, refl, rules, arith, ◌∙◌}
+use Rattle.std.proofs.Common.{◌≡◌, [], ◌∷◌, Option, Err, refl, rules, arith}
 use Rattle.pt_base.specs.Files.{Files, SameFiles}
 use Rattle.privtrans_app.proofs.ReadingLemmas.{same_trans, gives_same, gives_held, refusal_since}
-use Rattle.privtrans_app.proofs.OnceLemmas.{once_after}
 use Rattle.privtrans_app.proofs.orig.read_texts.Goals as goal
 
 pub returns-clause-texts : goal.returns-clause-texts
@@ -58,18 +57,3 @@ returns-in_err-input-clause-refusal g c =
       );
       is = refusal_since f0 f2 c.args.words.now.input.now _ _ _ _ two (omega (arith, c.in_ok-program.ensures.later, c.in_ok-host.ensures.later)) c.in_err-input.ensures.later c.in_err-input.ensures.refusal;
     })
-
-pub returns-in_err-program-clause-once : goal.returns-in_err-program-clause-once
-returns-in_err-program-clause-once g c =
-    let is : c.from_residual.result ≡ Err c.in_err-program.field-0.0 = search rules in
-    rw is c.in_err-program.ensures.once
-
-pub returns-in_err-host-clause-once : goal.returns-in_err-host-clause-once
-returns-in_err-host-clause-once g c =
-    let is : c.from_residual-in_err-host.result ≡ Err c.in_err-host.field-0.0 = search rules in
-    rw is (once_after _ _ _ _ c.in_ok-program.ensures.stays c.in_err-host.ensures.once)
-
-pub returns-in_err-input-clause-once : goal.returns-in_err-input-clause-once
-returns-in_err-input-clause-once g c =
-    let is : c.from_residual-in_err-input.result ≡ Err c.in_err-input.field-0.0 = search rules in
-    rw is (once_after _ _ _ _ (c.in_ok-host.ensures.stays ∙ c.in_ok-program.ensures.stays) c.in_err-input.ensures.once)

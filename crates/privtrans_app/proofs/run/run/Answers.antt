@@ -1,4 +1,4 @@
-use Rattle.std.proofs.Common.{◌≡◌, ℕ, List, Option, sym, ◌∙◌, ap, arith, subst}
+use Rattle.std.proofs.Common.{◌≡◌, ℕ, List, Option, sym, ◌∙◌, ap, subst}
 use Rattle.std.specs.Io.KnownBytes.{Appends}
 use Rattle.honest_link.specs.Came.{Came}
 use Rattle.pair_runner.specs.Sending.{Breaks, Moves}
@@ -12,7 +12,6 @@ use Rattle.privtrans_app.specs.PairTexts.{pair_texts_of}
 use Rattle.privtrans_app.specs.ProcessRun.{ComesTo, IsRunOver, Runs, ending_of}
 use Rattle.privtrans_app.specs.Reading.{list_of}
 use Rattle.privtrans_app.proofs.ProcessLemmas.{answer_comes, files_run, process_run, refusal_comes, silent_so, untouched_keeps}
-use Rattle.privtrans_app.proofs.OnceLemmas.{answer_once, once_of}
 use Rattle.privtrans_app.proofs.run.run.Goals as goal
 
 pub returns-in-Err-clause-ending : goal.returns-in-Err-clause-ending
@@ -57,12 +56,3 @@ returns-clause-silent g c = λ silent.
     let is = silent_so (AreUntouched s s' k k') (Moves (Came g.S.Link.honest g.S.Link.sent g.S.Link.given) g.S.Link.sent g.S.Link.given g.K.Sink.taken s s' k k') (Breaks g.S.Link.sent g.S.Link.given g.K.Sink.taken s s' k k')
     read c.args.words.now.turns c.outcome_of-answer.result (ap is_silent (sym c.ending_by.ensures) ∙ silent) c.outcome_of-answer.ensures.served in
     (is.sink_is, is.spawner_is)
-
-pub returns-in-Err-clause-once : goal.returns-in-Err-clause-once
-returns-in-Err-clause-once g c =
-    once_of _ _ _ _ _ c.in-Err.ensures.once (omega arith)
-
-pub returns-clause-once : goal.returns-clause-once
-returns-clause-once g c =
-    let same = c.in-Ok.ensures.stays in
-    rw c.ending_by.ensures (once_of _ _ _ _ _ (answer_once _ _ _ _ c.outcome_of-answer.result c.outcome_of-answer.ensures.first) (omega (arith, same)))

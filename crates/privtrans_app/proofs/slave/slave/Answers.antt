@@ -2,7 +2,6 @@ use Rattle.std.proofs.Common.{Err, sym, ◌∙◌, ap, subst}
 use Rattle.privtrans_app.specs.Ending.{Ending}
 use Rattle.privtrans_app.specs.SlaveRun.{IsWorkOver}
 use Rattle.privtrans_app.proofs.SlaveLemmas.{none_said, work_comes}
-use Rattle.privtrans_app.proofs.OnceLemmas.{once_after, work_once}
 use Rattle.privtrans_app.proofs.slave.slave.Goals as goal
 
 pub returns-in-Ok-clause-ending : goal.returns-in-Ok-clause-ending
@@ -17,7 +16,3 @@ returns-in-Err-Failed-clause-ending g c =
 
 pub returns-in-Err-Memory-clause-ending : goal.returns-in-Err-Memory-clause-ending
 returns-in-Err-Memory-clause-ending g c = none_said g.S.Link.sent g.S.Link.given c.args.spawner.now c.inherit.new.self c.inherit.ensures.sent c.inherit.ensures.given
-
-pub returns-in-Ok-clause-once : goal.returns-in-Ok-clause-once
-returns-in-Ok-clause-once g c =
-    rw c.ended_by.ensures.ending (once_after _ _ _ _ c.in-Ok.ensures.cause.stays (work_once _ _ c.work.result c.work.ensures.first))

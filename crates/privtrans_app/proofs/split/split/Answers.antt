@@ -1,4 +1,4 @@
-use Rattle.std.proofs.Common.{ℕ, List, Option, arith, subst}
+use Rattle.std.proofs.Common.{ℕ, List, Option, subst}
 use Rattle.pt_base.specs.Files.{Files}
 use Rattle.flow_check.specs.OutcomeSeen.{AreLinesOf}
 use Rattle.program_split.specs.OutcomeSeen.{IsOutcome}
@@ -7,7 +7,6 @@ use Rattle.privtrans_app.specs.EndingSeen.{ending_seen}
 use Rattle.privtrans_app.specs.SplitRun.{Names}
 use Rattle.privtrans_app.specs.SplitWriting.{AreWritten, names_of}
 use Rattle.privtrans_app.proofs.SplitLemmas.{faults_come, halves_come}
-use Rattle.privtrans_app.proofs.OnceLemmas.{once_of}
 use Rattle.privtrans_app.proofs.split.split.Goals as goal
 
 pub returns-in-Ok-Refused-clause-ending : goal.returns-in-Ok-Refused-clause-ending
@@ -35,12 +34,3 @@ returns-in-Ok-Split-clause-ending g c =
     (subst (λ (m : List ℕ). AreWritten names before after writes writes' c.deref-in-Ok-Split.result.now m (ending_seen c.write_halves.result)) c.deref-in-Ok-Split-2.ensures.value c.write_halves.ensures.ending) in
     halves_come names (g.F.Folder.files c.args.folder.now) before after cut slave monitor (g.F.Folder.read_faults c.args.folder.now) (g.F.Folder.read_faults c.write_halves.new.folder)
     (g.F.Folder.write_faults c.args.folder.now) writes writes' (ending_seen c.write_halves.result) c.in-Ok.ensures.content has c.in-Ok.ensures.same c.in-Ok.ensures.writes written
-
-pub returns-in-Err-clause-once : goal.returns-in-Err-clause-once
-returns-in-Err-clause-once g c =
-    once_of _ _ _ _ _ c.in-Err.ensures.once (omega arith)
-
-pub returns-in-Ok-Split-clause-once : goal.returns-in-Ok-Split-clause-once
-returns-in-Ok-Split-clause-once g c =
-    let same = c.in-Ok.ensures.stays in
-    once_of _ _ _ _ _ c.write_halves.ensures.once (omega (arith, same, c.in-Ok.ensures.writes, c.write_halves.ensures.reads))

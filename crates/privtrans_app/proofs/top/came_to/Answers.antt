@@ -1,4 +1,4 @@
-use Rattle.std.proofs.Common.{ℕ, List, map, Option, arith, subst, inl, inr}
+use Rattle.std.proofs.Common.{ℕ, List, map, Option, subst, inl, inr}
 use Rattle.std.specs.Prelude.{MatchOption}
 use Rattle.privtrans_app.specs.Ending.{version}
 use Rattle.privtrans_app.specs.EndingSeen.{ending_seen}
@@ -8,7 +8,6 @@ use Rattle.privtrans_app.specs.declared.words.Form.{Form}
 use Rattle.privtrans_app.proofs.CauseLemmas.{put_comes}
 use Rattle.privtrans_app.proofs.CompleteLemmas.{no_help, no_version, two_runs, local_check}
 use Rattle.privtrans_app.proofs.InterleavingLemmas.{none_taken}
-use Rattle.privtrans_app.proofs.OnceLemmas.{once_of}
 use Rattle.privtrans_app.proofs.top.came_to.Goals as goal
 
 pub returns-in-Some-Version-clause-ending : goal.returns-in-Some-Version-clause-ending
@@ -84,9 +83,3 @@ returns-in-Some-Orig-clause-untaken g c = λ silent. none_taken (g.C.Chooser.ans
 
 pub returns-in-Some-Check-clause-untaken : goal.returns-in-Some-Check-clause-untaken
 returns-in-Some-Check-clause-untaken g c = λ silent. none_taken (g.C.Chooser.answers c.args.chooser.now)
-
-pub returns-in-Some-Help-clause-once : goal.returns-in-Some-Help-clause-once
-returns-in-Some-Help-clause-once g c = once_of _ _ _ _ _ c.put.ensures.once (omega arith)
-
-pub returns-in-Some-Version-clause-once : goal.returns-in-Some-Version-clause-once
-returns-in-Some-Version-clause-once g c = once_of _ _ _ _ _ c.put-in-Some-Version.ensures.once (omega arith)

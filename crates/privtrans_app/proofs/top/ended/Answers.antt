@@ -1,6 +1,5 @@
-use Rattle.std.proofs.Common.{ℕ, List, map, Option, length, arith, ap, subst, inl, inr}
+use Rattle.std.proofs.Common.{ℕ, List, map, Option, length, ap, subst, inl, inr}
 use Rattle.std.specs.Prelude.{MatchOption}
-use Rattle.privtrans_app.specs.EndingSeen.{ending_seen}
 use Rattle.privtrans_app.specs.GeneratedRun.{IsInterleaved}
 use Rattle.privtrans_app.specs.SplitWriting.{names_of}
 use Rattle.privtrans_app.specs.Words.{IsOutward, IsPlain, IsSlave, of_local, of_process_run}
@@ -10,7 +9,6 @@ use Rattle.privtrans_app.proofs.CauseLemmas.{keeps_same}
 use Rattle.privtrans_app.proofs.CompleteLemmas.{more_than_one}
 use Rattle.privtrans_app.proofs.GeneratedLemmas.{same_made}
 use Rattle.privtrans_app.proofs.InterleavingLemmas.{none_taken}
-use Rattle.privtrans_app.proofs.OnceLemmas.{once_of}
 use Rattle.privtrans_app.proofs.top.ended.Goals as goal
 
 -- ---- a split
@@ -42,9 +40,6 @@ returns-in-Some-Split-clause-generated_turns g c = λ seed count is run.
 pub returns-in-Some-Split-clause-untaken : goal.returns-in-Some-Split-clause-untaken
 returns-in-Some-Split-clause-untaken g c = λ silent. none_taken (g.C.Chooser.answers c.args.chooser.now)
 
-pub returns-in-Some-Split-clause-once : goal.returns-in-Some-Split-clause-once
-returns-in-Some-Split-clause-once g c = once_of _ _ _ _ _ c.split.ensures.once (omega arith)
-
 -- ---- a run in two processes
 
 pub returns-in-Some-Run-clause-ending : goal.returns-in-Some-Run-clause-ending
@@ -74,9 +69,6 @@ returns-in-Some-Run-clause-unwritten g c = λ is.
     let form = subst (IsOutward given) c.in-Some-Run.field-0-is (subst (λ (o : Option Outward). MatchOption o (IsPlain given) (IsOutward given)) c.in-Some-Run.is c.outward_of.ensures) in
     absurd (process_or_slave given form is)
 
-pub returns-in-Some-Run-clause-once : goal.returns-in-Some-Run-clause-once
-returns-in-Some-Run-clause-once g c = once_of _ _ _ _ _ c.run.ensures.once (omega (arith, c.run.ensures.writes))
-
 -- ---- a slave
 
 pub returns-in-Some-Slave-clause-ending : goal.returns-in-Some-Slave-clause-ending
@@ -99,9 +91,6 @@ returns-in-Some-Slave-clause-generated_turns g c = λ seed count is run.
 
 pub returns-in-Some-Slave-clause-untaken : goal.returns-in-Some-Slave-clause-untaken
 returns-in-Some-Slave-clause-untaken g c = λ silent. none_taken (g.C.Chooser.answers c.args.chooser.now)
-
-pub returns-in-Some-Slave-clause-once : goal.returns-in-Some-Slave-clause-once
-returns-in-Some-Slave-clause-once g c = once_of _ _ _ _ _ c.slave.ensures.once (omega arith)
 
 -- ---- a generated program
 
@@ -138,9 +127,6 @@ returns-in-Some-Generated-clause-unwritten g c = λ is.
     let form = subst (IsOutward given) c.in-Some-Generated.field-0-is (subst (λ (o : Option Outward). MatchOption o (IsPlain given) (IsOutward given)) c.in-Some-Generated.is c.outward_of.ensures) in
     absurd (generated_or_slave given form is)
 
-pub returns-in-Some-Generated-clause-once : goal.returns-in-Some-Generated-clause-once
-returns-in-Some-Generated-clause-once g c = once_of _ _ _ _ _ c.generated.ensures.once (omega arith)
-
 -- ---- plain words
 
 pub returns-in-None-clause-ending : goal.returns-in-None-clause-ending
@@ -154,6 +140,3 @@ returns-in-None-clause-generated_turns g c = λ seed count is run. absurd (c.in-
 
 pub returns-in-None-clause-unasked : goal.returns-in-None-clause-unasked
 returns-in-None-clause-unasked g c = λ none made. c.came_to.ensures.unasked none
-
-pub returns-in-None-clause-once : goal.returns-in-None-clause-once
-returns-in-None-clause-once g c = once_of _ _ _ _ _ c.came_to.ensures.once (omega (arith, c.came_to.ensures.writes))

@@ -3,7 +3,6 @@ use Rattle.privtrans_app.specs.EndingSeen.{ending_seen}
 use Rattle.privtrans_app.proofs.GeneratedLemmas.{expected_told, run_ends}
 use Rattle.privtrans_app.proofs.InterleavingLemmas.{told_nothing, told_turns}
 use Rattle.privtrans_app.proofs.TopLemmas.{are_kept, by_files, by_form, by_split, generated_tells, tells_what_is_expected, two_tell}
-use Rattle.privtrans_app.proofs.OnceLemmas.{told_once}
 use Rattle.privtrans_app.proofs.top.privtrans.Goals as goal
 
 pub returns-clause-form : goal.returns-clause-form
@@ -89,10 +88,3 @@ returns-clause-untouched g c =
       (λ none made. c.ended-ending.ensures.unasked none made),
       (λ none. (c.ended-ending.ensures.untaken (quiet none), (c.ended-ending.ensures.silent (quiet none)).1)),
     )
-
-pub returns-clause-once : goal.returns-clause-once
-returns-clause-once g c = (
-  told_once (g.E.Sink.taken c.args.report.now) (g.E.Sink.taken c.tell.new.sink) (g.E.Sink.faults c.args.report.now) (g.E.Sink.faults c.tell.new.sink) c.tell.result _ _ (ending_seen c.ended-ending.result)
-      c.tell.ensures.report c.ended-ending.ensures.once,
-  c.tell.ensures.once,
-)
