@@ -1,0 +1,27 @@
+-- What begins from texts may be served.
+use Rattle.std.proofs.Common.{◌<◌, ℕ, List, sym, ap, subst}
+use Rattle.std.specs.Prelude.{All, IsTrue}
+use Rattle.host_table.specs.Hosts.{hosts_of}
+use Rattle.host_table.specs.RunHosts.{models_of}
+use Rattle.pt_core.specs.CodeTree.{view_boot, view_monitor}
+use Rattle.pt_core.specs.WellFormed.{is_well_formed_monitor}
+use Rattle.pair_meaning.specs.Monitors.{Monitor}
+use Rattle.pair_texts_law.specs.Laws.{HostsServe}
+use Rattle.pair_texts.specs.declared.outcome.Pair.{Pair}
+use Rattle.pair_texts.specs.OutcomeSeen.{HaveBegun, monitor_in}
+use Rattle.pair_texts.specs.Start.{Texts}
+use Rattle.pair_texts_law.specs.Laws.{BegunMonitorsAreWellFormed, BegunMonitorsHostsServe}
+use Rattle.hostile_cases.specs.Begun.{AreTextsOf}
+
+abbrev begun_of : (pair : Pair) (turns : ℕ) (t : Texts) → AreTextsOf pair turns t → HaveBegun t turns (view_boot pair.boot) (monitor_in pair turns)
+begun_of pair turns t texts = texts.begins.0
+
+pub monitor_is_well_formed : BegunMonitorsAreWellFormed → (pair : Pair) (turns : ℕ) (t : Texts) → AreTextsOf pair turns t → IsTrue (is_well_formed_monitor (view_monitor pair.monitor))
+monitor_is_well_formed law pair turns t texts = law t turns (view_boot pair.boot) (monitor_in pair turns) (begun_of pair turns t texts)
+
+pub hosts_serve : BegunMonitorsHostsServe → (pair : Pair) (turns : ℕ) (t : Texts) → AreTextsOf pair turns t → HostsServe (view_monitor pair.monitor) (models_of (hosts_of pair.hosts).models)
+hosts_serve law pair turns t texts = law t turns (view_boot pair.boot) (monitor_in pair turns) (begun_of pair turns t texts)
+
+pub input_is_bytes : (pair : Pair) (turns : ℕ) (t : Texts) → AreTextsOf pair turns t → All (λ b. b < 256) (hosts_of pair.hosts).input
+input_is_bytes pair turns t texts =
+    subst (λ (bytes : List ℕ). All (λ b. b < 256) bytes) (sym (ap (λ (m : Monitor). m.input) (begun_of pair turns t texts).started.monitor_is)) texts.bytes

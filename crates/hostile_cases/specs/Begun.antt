@@ -1,0 +1,21 @@
+-- What a pair of texts starts from.
+use Rattle.std.specs.Prelude.{◌<◌, ℕ, All}
+use Rattle.host_table.specs.Hosts.{hosts_of}
+use Rattle.host_table.specs.RunHosts.{models_of}
+use Rattle.pt_core.specs.CodeTree.{view_monitor}
+use Rattle.pair_meaning.specs.Monitors.{Monitor}
+use Rattle.pair_meaning.specs.Start.{monitor_start}
+use Rattle.monitor_interp.specs.Gates.{hosts_for}
+use Rattle.pair_texts.specs.declared.outcome.Outcome.TheVariants.{Begins}
+use Rattle.pair_texts.specs.declared.outcome.Pair.{Pair}
+use Rattle.pair_texts.specs.OutcomeSeen.{IsOutcome}
+use Rattle.pair_texts.specs.Start.{Texts}
+
+-- these texts, whose input is of bytes, come to the pair within so many turns
+pub record AreTextsOf (pair : Pair) (turns : ℕ) (t : Texts) : Type 0 where
+  pub begins : IsOutcome t turns (Begins pair)
+  pub bytes : All (λ b. b < 256) t.input
+
+-- the monitor that starts from the pair, with its own hosts alone
+abbrev pub monitor_of : Pair → ℕ → Monitor
+monitor_of pair turns = monitor_start (view_monitor pair.monitor) (hosts_for (view_monitor pair.monitor) (models_of (hosts_of pair.hosts).models)) (hosts_of pair.hosts).input pair.policy turns
