@@ -1,5 +1,5 @@
 -- What is appended in three parts.
-use Rattle.std.proofs.Common.{◌≡◌, ◌∙◌, ℕ, List, [], ◌∷◌, ◌++◌, refl, ap, sym}
+use Rattle.std.proofs.Common.{◌≡◌, ◌∙◌, ℕ, List, [], ◌∷◌, ◌++◌, refl, ap}
 
 grouped : (a b c : List ℕ) → (a ++ b) ++ c ≡ a ++ (b ++ c)
 grouped [] b c = refl

@@ -1,8 +1,8 @@
 -- What the stages answer is what explaining comes to.
-use Rattle.std.proofs.Common.{◌≡◌, ℕ, List, Result, Ok, Err, ap, ◌∙◌, subst, sym}
+use Rattle.std.proofs.Common.{◌≡◌, ℕ, List, Result, Err, ap, ◌∙◌, subst, sym}
 use Rattle.std.specs.List.{flat_map}
 use Rattle.std.specs.List.Sorted.{IsStrictlySortedBy}
-use Rattle.std.specs.Prelude.{Vec, ◌&&◌}
+use Rattle.std.specs.Prelude.{Vec}
 use Rattle.std.specs.declared.alloc.Global.{Global}
 use Rattle.c_lexer.specs.declared.error.LexFault.{LexFault}
 use Rattle.check_declarations.specs.declared.fault.TypeFault.{TypeFault}

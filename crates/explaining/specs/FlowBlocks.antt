@@ -21,7 +21,7 @@ use Rattle.explaining.specs.Sentences.{rule_mend, rule_sentence}
 
 -- ---- ways
 
--- with the cause, where one is told
+-- where a secret begins, with the cause where one is told
 abbrev pub begins_text : List ℕ → List ℕ → List ℕ → Span → List ℕ
 begins_text name text cause span = head name text span.from ++ codes "the secret begins here" ++ cause ++ codes "\n"
 
@@ -79,11 +79,11 @@ abbrev pub fault_text : List ℕ → List ℕ → List ℕ → FlowFault → Lis
 fault_text name text home f =
     quote_text name text home f.span ++ rule_sentence f.rule ++ codes "\n" ++ span_excerpt text f.span
 
--- with the function in which it stands and the cause of the secret
+-- the block of a fault, with the function in which it stands and the cause of the secret
 abbrev pub block_with : List ℕ → List ℕ → List ℕ → List ℕ → FlowFault → List ℕ
 block_with name text home cause f = fault_text name text home f ++ rule_way name text cause f ++ rule_mend f.rule ++ flow_line f ++ codes "\n"
 
--- in a program of which these are the slots and the functions that have bodies
+-- the same in a program of which these are the slots and the functions that have bodies
 abbrev pub block_in : List ℕ → List ℕ → TypedTree → List SlotInfo → List Home → FlowFault → List ℕ
 block_in name text t slots homes f = block_with name text (rule_home t homes f) (origin_text t slots f.origin) f
 

@@ -1,6 +1,9 @@
 -- Lines and columns, tried by computing.
 use Rattle.std.proofs.Common.{◌≡◌, refl, List, [], ◌∷◌, ℕ, codes, map}
+use Rattle.std.specs.Fmt.{digits}
 use Rattle.source_places.specs.declared.place.Place.{Place}
+use Rattle.source_places.specs.Excerpts.{excerpt, quoted}
+use Rattle.source_places.specs.Heads.{head}
 use Rattle.source_places.specs.Places.{line_at, place_at}
 use Rattle.source_places.specs.Shown.{shown_bytes}
 
@@ -47,3 +50,18 @@ one_places = refl
 
 one_shown : map (λ n. shown_bytes (line_at one n)) (1 ∷ 2 ∷ []) ≡ codes "\tab?" ∷ [] ∷ []
 one_shown = refl
+
+-- ---- lines as they are shown, with marks and quotes
+
+two_excerpts : map (λ at. excerpt two at 5) (0 ∷ 9 ∷ 16 ∷ []) ≡ codes "int a;\n^~~~~\n" ∷ codes "  a = 1;\n  ^~~~~\n" ∷ codes "  a = 1;\n        ^\n" ∷ []
+two_excerpts = refl
+
+two_quotes : map (λ at. quoted two at 5) (0 ∷ 9 ∷ 13 ∷ []) ≡ codes "`int a`" ∷ codes "`a = 1`" ∷ codes "`1;...`" ∷ []
+two_quotes = refl
+
+one_excerpt : excerpt one 1 2 ≡ codes "\tab?\n\t^~\n"
+one_excerpt = refl
+
+two_head : head (codes "f\n.c") two 9 ≡ codes "f?.c:2:3: "
+unfolding digits
+two_head = refl

@@ -1,5 +1,4 @@
 use Rattle.std.proofs.Common.{◌≡◌, ◌++◌, drop}
-use Rattle.std.specs.List.{flat_map}
 use Rattle.explaining.specs.Holdings.{kept_texts}
 use Rattle.source_places.specs.LinesSeen.{text_of}
 use Rattle.typed_tree.specs.TypedView.{view_typed}
