@@ -1,5 +1,5 @@
 // One turn of the monitor: the frame at the front is served, or more bytes are asked for.
-ghost use Rattle.std.specs.Prelude.{◌≡◌, ℕ, [], None, IfErr, IfSome, OnErr, OnOk};
+ghost use Rattle.std.specs.Prelude.{◌≡◌, ℕ, [], None, IfErr, IfSome, IsErrOf, OnErr, OnOk};
 ghost use Rattle.pt_base.specs.Faults.{HasCause};
 ghost use Rattle.wire.specs.declared.message.Message.TheVariants.{Reply};
 ghost use Rattle.wire.specs.Limits.{IsBytes, KeepsCounts, KeepsLimits};
@@ -50,6 +50,8 @@ fn give_back<L: Link, K: Sink>(
     ensures ok { OnOk result (Moves L.came L.sent L.given K.taken link.old link.new sink.old sink.new (sent_of reply) bytes.now) }
     ensures spelled { OnOk result (IfSome reply IsSpelled) }
     ensures err { IfErr result (λ e. Stuck e (Breaks L.sent L.given K.taken link.old link.new sink.old sink.new [] (reply_frames (listed reply)) bytes.now)) }
+    ensures behind { IsErrOf result RunFault.SinkFailed → link.new ≡ link.old }
+    ensures written { IsErrOf result RunFault.LinkFailed → Appends (K.taken sink.old) (K.taken sink.new) bytes.now }
     ensures ready { L.ready link.new }
     ensures link { HasCause (L.faults link.old) (L.faults link.new) result RunFault.LinkFailed }
     ensures sink { HasCause (K.faults sink.old) (K.faults sink.new) result RunFault.SinkFailed }
@@ -75,6 +77,7 @@ fn serve_message<L: Link, K: Sink>(
     ensures answered { (m : s.Monitor) → IsMonitor monitor.old m
         → Answered (Moves L.came L.sent L.given K.taken link.old link.new sink.old sink.new) (Breaks L.sent L.given K.taken link.old link.new sink.old sink.new)
         (IsMonitor monitor.new) offset (serve m message.now) result }
+    ensures behind { IsErrOf result RunFault.SinkFailed → link.new ≡ link.old }
     ensures ready { L.ready link.new }
     ensures link { HasCause (L.faults link.old) (L.faults link.new) result RunFault.LinkFailed }
     ensures sink { HasCause (K.faults sink.old) (K.faults sink.new) result RunFault.SinkFailed }
@@ -138,6 +141,7 @@ pub(crate) fn turn<L: Link, K: Sink>(
     ensures turned { (m : s.Monitor) → IsMonitor monitor.old m
         → Turned (Moves L.came L.sent L.given K.taken link.old link.new sink.old sink.new) (Breaks L.sent L.given K.taken link.old link.new sink.old sink.new)
         (IsMonitor monitor.new) m reader.old reader.new result }
+    ensures behind { IsErrOf result RunFault.SinkFailed → link.new ≡ link.old }
     ensures ready { L.ready link.new }
     ensures link { HasCause (L.faults link.old) (L.faults link.new) result RunFault.LinkFailed }
     ensures sink { HasCause (K.faults sink.old) (K.faults sink.new) result RunFault.SinkFailed }
