@@ -123,7 +123,12 @@ fn called<R: Threads + Sync>(
     Ok(told)
 }
 
-fn words_of<'a>(alloc: Global, row: &'a str) -> Result<Vec<&'a str>, AllocError> {
+/// The words of a row.
+///
+/// # Errors
+///
+/// Want of memory.
+pub fn words_of<'a>(alloc: Global, row: &'a str) -> Result<Vec<&'a str>, AllocError> {
     let mut words = Vec::new(alloc);
     for word in row.split_whitespace() {
         words.push(word)?;

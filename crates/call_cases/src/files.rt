@@ -99,15 +99,58 @@ impl Files {
         first: Vec<(String, Vec<u8>)>,
     ) -> Result<Outside, AllocError> {
         let mut files = first;
+        self.add_named(alloc, words, &mut files)?;
+        let pieces = mem::replace(&mut self.pieces, Vec::new(alloc));
+        let failing = self.failing;
+        self.failing = Failing::Nothing;
+        Outside::new(alloc, files, pieces, failing)
+    }
+
+    /// The files that these words name.
+    ///
+    /// # Errors
+    ///
+    /// Want of memory.
+    pub fn named(
+        &self,
+        alloc: Global,
+        words: &[&str],
+    ) -> Result<Vec<(String, Vec<u8>)>, AllocError> {
+        let mut files = Vec::new(alloc);
+        self.add_named(alloc, words, &mut files)?;
+        Ok(files)
+    }
+
+    fn add_named(
+        &self,
+        alloc: Global,
+        words: &[&str],
+        files: &mut Vec<(String, Vec<u8>)>,
+    ) -> Result<(), AllocError> {
         for word in words {
             if let Some(text) = self.text(*word) {
                 files.push(file_of(alloc, *word, text)?)?;
             }
         }
-        let pieces = mem::replace(&mut self.pieces, Vec::new(alloc));
-        let failing = self.failing;
-        self.failing = Failing::Nothing;
-        Outside::new(alloc, files, pieces, failing)
+        Ok(())
+    }
+
+    /// The pieces that another process gives in the next call.
+    ///
+    /// # Errors
+    ///
+    /// Want of memory.
+    pub fn pieces(&self, alloc: Global) -> Result<Vec<Vec<u8>>, AllocError> {
+        let mut pieces = Vec::new(alloc);
+        for piece in self.pieces.as_slice() {
+            pieces.push(Vec::from_slice(alloc, piece)?)?;
+        }
+        Ok(pieces)
+    }
+
+    /// The next call has no other process that gives something.
+    pub fn forget_pieces(&mut self, alloc: Global) {
+        self.pieces = Vec::new(alloc);
     }
 
     // The text of this name that was set last.

@@ -2,8 +2,8 @@
 #![tactic(auto)]
 
 mod calls;
+mod failures;
 mod files;
-mod lists;
 mod locals;
 mod outside;
 mod peer;
@@ -11,7 +11,7 @@ mod session;
 mod watched;
 
 use anyhow::Result;
-use lists::show_lists;
+use case_rows::show_lists;
 use session::Session;
 use std::rt::Runtime;
 use std::thread::{Builder, Threads};

@@ -1,10 +1,11 @@
 // The files that rows have set, and what each row shows.
 use crate::calls::{call, check, linked, original, split};
+use crate::failures::failures;
 use crate::files::Files;
 use crate::locals::{local, orders};
 use crate::watched::{checked, watched};
 use anyhow::{Result, bail};
-use case_rows::first_word;
+use case_rows::{Shows, first_word};
 use std::alloc::Global;
 use std::thread::Threads;
 
@@ -23,23 +24,18 @@ impl Session {
     }
 }
 
-impl Session {
-    /// A list begins: what the rows of another one have set is gone.
-    pub fn begin_list(&mut self, alloc: Global) {
+impl Shows for Session {
+    fn begin_list(&mut self, alloc: Global) {
         self.files = Files::new(alloc);
     }
 
-    /// What a row shows, in one line or more. Its first word says which call it makes.
-    ///
-    /// # Errors
-    ///
-    /// A row of no such form, and want of memory.
-    pub fn shown<R: Threads + Sync>(&mut self, rt: &R, alloc: Global, row: &str) -> Result<String> {
+    fn shown<R: Threads + Sync>(&mut self, rt: &R, alloc: Global, row: &str) -> Result<String> {
         let (word, rest) = first_word(row);
         match word {
             "file" => self.files.set(alloc, rest),
             "link" => self.files.give(alloc, rest),
             "failing" => self.files.fail(alloc, rest),
+            "failures" => failures(rt, alloc, &mut self.files, rest),
             "run" => call(rt, alloc, &mut self.files, rest),
             "linked" => linked(rt, alloc, &mut self.files, rest),
             "local" => local(rt, alloc, &mut self.files, rest),

@@ -1,5 +1,6 @@
 pub mod ChainLemmas
 pub mod CopyLemmas
+pub mod CountLemmas
 pub mod FarLemmas
 pub mod FastCallLemmas
 pub mod FastLemmas

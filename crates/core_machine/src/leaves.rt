@@ -1,27 +1,32 @@
 // The integers of which objects consist.
-ghost use Rattle.std.specs.Prelude.{◌≡◌, ◌++◌, [], IfOk, List, map, OnOk};
+ghost use Rattle.std.specs.Prelude.{◌≡◌, ◌≤◌, ◌^◌, ◌++◌, [], IfOk, length, List, map, OnOk, sum_by};
 ghost use Rattle.std.specs.List.{flat_map};
 ghost use Rattle.pt_core.specs.Types.{shape_of as shape_by};
 ghost use Rattle.pt_tree.specs.declared.signature.Elem.TheVariants as e;
 ghost use Rattle.typed_tree.specs.Cells.{element_leaves, leaves_from, object_leaves, repeated};
 ghost use Rattle.typed_tree.specs.declared.types.StructInfo.{StructInfo};
 
+use crate::counts::{MOST_STRUCT_INTEGERS, few_integers};
 use block_memory::BlockShape;
 use pt_base::{IntType, Listed};
 use pt_tree::Elem;
 use std::alloc::{AllocError, Global};
 use typed_tree::{Field, StructInfo, Var, VarTy};
 
-/// The integers of each struct, in the order of their declaration.
+/// The integers of each struct, in the order of their declaration. More than [`MOST_STRUCT_INTEGERS`] of all
+/// structs together count as want of memory.
 pub(crate) fn leaves_table(
     alloc: Global,
     structs: &[StructInfo],
 ) -> Result<Vec<Listed<IntType>>, AllocError>
-    ensures { IfOk result (λ known. known.items ≡ leaves_from [] structs.now) }
+    ensures table { IfOk result (λ known. known.items ≡ leaves_from [] structs.now) }
+    ensures few { IfOk result (λ known. sum_by length known.items ≤ 2 ^ 26) }
 {
     let mut known = Vec::new(alloc);
+    let mut left = MOST_STRUCT_INTEGERS;
     for info in structs {
-        let leaves = struct_leaves(alloc, known.as_slice(), info.fields.as_slice())?;
+        let leaves = struct_leaves(alloc, known.as_slice(), info.fields.as_slice(), left)?;
+        left -= leaves.len();
         known.push(Listed::new(leaves))?;
     }
     Ok(known)
@@ -31,10 +36,13 @@ fn struct_leaves(
     alloc: Global,
     known: &[Listed<IntType>],
     fields: &[Field],
+    most: usize,
 ) -> Result<Vec<IntType>, AllocError>
-    ensures { IfOk result (λ leaves. leaves.items ≡ flat_map (λ f. object_leaves known.now f.ty) fields.now) }
+    ensures leaves { IfOk result (λ leaves. leaves.items ≡ flat_map (λ f. object_leaves known.now f.ty) fields.now) }
+    ensures few { IfOk result (λ leaves. length leaves.items ≤ most) }
 {
-    let mut leaves = Vec::new(alloc);
+    let count = few_integers(known, fields, most)?;
+    let mut leaves = Vec::with_capacity(alloc, count)?;
     for field in fields {
         add_object(known, field.ty, &mut leaves)?;
     }

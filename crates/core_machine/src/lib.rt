@@ -5,6 +5,7 @@ mod acting;
 mod building;
 mod call;
 mod calls;
+mod counts;
 mod fast;
 mod fast_calls;
 mod frame;

@@ -1,7 +1,8 @@
-//! Runs rows of lists against the calls below the flow rules: how far a secret comes in a graph, and the work
-//! on a program's functions in threads.
+//! Runs rows of lists against the calls around the flow rules: how far a secret comes in a graph, the work on a
+//! program's functions in threads, and what is explained of texts.
 #![tactic(auto)]
 
+mod explained;
 mod paths;
 mod session;
 mod threads;

@@ -1,4 +1,5 @@
 // What each row shows.
+use crate::explained::explained;
 use crate::paths::paths;
 use crate::threads::at_once;
 use anyhow::{Result, bail};
@@ -17,6 +18,7 @@ impl Shows for Session {
         let (word, rest) = first_word(row);
         match word {
             "paths" => paths(alloc, rest),
+            "explain" => explained(rt, alloc, rest),
             "threads" => at_once(rt, alloc, rest),
             _ => bail!("no such row"),
         }

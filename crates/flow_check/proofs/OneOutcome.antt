@@ -117,7 +117,7 @@ module _ (p q : Flows) (seeds seeds' : List Slot) (edges edges' : List Edge) (fs
       let is : IsFault p seeds edges f = All-contains (IsFault p seeds edges) fs f a.true_ones h in
       let found : Contains (findings_of q) is.0 = subst (λ (xs : List Finding). Contains xs is.0) same is.1 in
       let other = b.all is.0 found in
-      (other.0, other.1, λ i. record { rule = (other.2.0 ∙ sym is.2.0) i; span = (other.2.1 ∙ sym is.2.1) i; path = [] })
+      (other.0, other.1, λ i. record { rule = (other.2.0 ∙ sym is.2.0) i; span = (other.2.1 ∙ sym is.2.1) i; origin = None; path = [] })
 
 same_faults : (p q : Flows) (seeds seeds' : List Slot) (edges edges' : List Edge) (fs gs : List FlowFault) → findings_of p ≡ findings_of q → AreFaults p seeds edges fs → AreFaults q seeds' edges' gs →
     map without_way fs ≡ map without_way gs

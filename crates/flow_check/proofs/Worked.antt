@@ -4,6 +4,7 @@ use Rattle.std.specs.Fmt.{digits}
 use Rattle.pt_base.specs.declared.int_type.IntType.TheVariants as i
 use Rattle.pt_base.specs.declared.span.Span.{Span}
 use Rattle.pt_tree.specs.declared.signature.Elem.TheVariants as el
+use Rattle.reach.specs.Tables.{slot_number}
 use Rattle.sides.proofs.Worked.{span, int, function, body}
 use Rattle.sides.specs.Leaves.{leaves_of}
 use Rattle.sides.specs.Slots.{slot_at, slots_of}
@@ -49,13 +50,13 @@ names_places = refl
 -- ---- faults
 
 abbrev steps : FlowFault
-steps = record { rule = PrivStatus; span = span 114 115; path = span 63 70 ∷ span 102 104 ∷ [] }
+steps = record { rule = PrivStatus; span = span 114 115; origin = Some (slot_number 3); path = span 63 70 ∷ span 102 104 ∷ [] }
 
 abbrev at_once : FlowFault
-at_once = record { rule = PrivToHost; span = span 157 164; path = [] }
+at_once = record { rule = PrivToHost; span = span 157 164; origin = Some (slot_number 2); path = [] }
 
 abbrev marks_alone : FlowFault
-marks_alone = record { rule = UnmarkedOut; span = span 34 35; path = [] }
+marks_alone = record { rule = UnmarkedOut; span = span 34 35; origin = None; path = [] }
 
 faults_lines : flow_lines (steps ∷ at_once ∷ marks_alone ∷ [])
     ≡ codes "flow 8 PrivStatus 114..115 path 63..70 102..104\nflow 2 PrivToHost 157..164 path\nflow 5 UnmarkedOut 34..35\n"

@@ -1,11 +1,11 @@
 -- What holds of all texts.
-use Rattle.std.specs.Prelude.{◌≡◌, ℕ, List, [], map, take}
+use Rattle.std.specs.Prelude.{◌≡◌, ℕ, List, [], None, map, take}
 use Rattle.flow_rules.specs.declared.fault.FlowFault.{FlowFault}
 use Rattle.flow_check.specs.Checked.{Outcome, refused, checked, lex, parse, types, flow, ComesTo}
 
--- a fault without the way that it shows
+-- a fault without the way that it shows, and without where that begins
 abbrev pub without_way : FlowFault → FlowFault
-without_way f = record { rule = f.rule; span = f.span; path = [] }
+without_way f = record { rule = f.rule; span = f.span; origin = None; path = [] }
 
 -- an outcome without the ways that its faults show
 abbrev pub without_ways : Outcome → Outcome

@@ -3,13 +3,14 @@ ghost use Rattle.std.specs.Prelude.{◌≡◌, ◌++◌, IfOk, OnOk, codes};
 ghost use Rattle.fault_lines.specs.FaultLines.{place_text};
 ghost use Rattle.flow_check.specs.FlowLines as is;
 
+use crate::room::room_for;
 use fault_lines::{push_numbered, push_span};
 use flow_rules::{FlowFault, Rule};
 use pt_base::Span;
 use std::alloc::{AllocError, Global};
 
-// whether the faults of a rule show a way
-fn shows_way(rule: Rule) -> bool
+/// Whether the faults of a rule show a way.
+pub fn shows_way(rule: Rule) -> bool
     ensures { result ≡ is.shows_way rule }
 {
     match rule {
@@ -54,8 +55,8 @@ fn push_way(rule: Rule, path: &[Span], line: &mut Vec<u8>) -> Result<(), AllocEr
     push_places(path, line)
 }
 
-// appends the line of a fault
-fn push_fault(fault: &FlowFault, lines: &mut Vec<u8>) -> Result<(), AllocError>
+/// Appends the line of a fault. Where memory is wanting, a first part of it may stand there.
+pub fn push_fault(fault: &FlowFault, lines: &mut Vec<u8>) -> Result<(), AllocError>
     ensures { OnOk result (lines.new.items ≡ lines.old.items ++ is.flow_line fault.now) }
 {
     lines.extend_from_slice(b"flow ")?;
@@ -71,13 +72,14 @@ fn push_fault(fault: &FlowFault, lines: &mut Vec<u8>) -> Result<(), AllocError>
 ///
 /// # Errors
 ///
-/// Want of memory.
+/// Want of memory; more than [`MOST_LINE_BYTES`](crate::MOST_LINE_BYTES) of lines are that too.
 pub fn flow_lines(alloc: Global, faults: &[FlowFault]) -> Result<Vec<u8>, AllocError>
     ensures { IfOk result (λ lines. lines.items ≡ is.flow_lines faults.now) }
 {
     let mut lines = Vec::new(alloc);
     for fault in faults {
         push_fault(fault, &mut lines)?;
+        room_for(lines.as_slice())?;
     }
     Ok(lines)
 }

@@ -16,7 +16,7 @@ use typed_tree::Typed;
 /// A privileged slot, and where the name of its variable begins. Slots are ordered by this place, and
 /// those of one variable by number, as its leaves are.
 #[derive(Clone, Copy, PartialEq, Eq, PartialOrd, Ord)]
-pub(crate) struct ShownSlot {
+pub struct ShownSlot {
     pub at: u32,
     pub slot: u64,
 }
@@ -115,7 +115,7 @@ fn kept_by(
 
 /// The privileged slots of the slave's variables and globals, in order. Time is linear in the program's
 /// slots, but for the sort.
-pub(crate) fn shown_slots(
+pub fn shown_slots(
     alloc: Global,
     t: &Typed,
     accepted: &Accepted,

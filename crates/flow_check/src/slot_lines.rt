@@ -9,6 +9,7 @@ ghost use Rattle.flow_check.specs.Kept.{kept_lines};
 ghost use Rattle.flow_check.specs.SlotLines as is;
 
 use crate::line_end::LineEnd;
+use crate::room::room_for;
 use crate::shown::{ShownSlot, shown_slots};
 use crate::variables::variable_of;
 use flow_rules::Accepted;
@@ -49,8 +50,9 @@ fn field_of(structs: &[StructInfo], ty: VarTy, number: u32) -> Option<&Field>
     info.fields.as_slice().get(number as usize)
 }
 
-// appends the names of the fields of a path, each behind a dot
-fn push_fields(
+/// Appends the names of the fields of a path, each behind a dot. Where memory is wanting, a first part of them
+/// may stand there.
+pub fn push_fields(
     structs: &[StructInfo],
     ty: VarTy,
     path: &[u32],
@@ -136,6 +138,7 @@ fn lines_of(
     let mut end = LineEnd::new(alloc, Span { from: 0, to: 0 })?;
     for slot in shown {
         push_slot(alloc, t, slots, slot.slot, &mut end, &mut lines)?;
+        room_for(lines.as_slice())?;
     }
     Ok(lines)
 }

@@ -29,7 +29,7 @@ fn global_at(t: &Typed, global: GlobalId) -> Option<&Var>
 }
 
 /// The variable or global of which a slot is a part; None where it is what a function returns.
-pub(crate) fn variable_of(t: &Typed, owner: Owner) -> Option<&Var>
+pub fn variable_of(t: &Typed, owner: Owner) -> Option<&Var>
     ensures { option_copied result ≡ is.variable_of (view_typed t.now) owner }
 {
     match owner {

@@ -9,7 +9,7 @@ use pt_base::{Edge, Listed};
 use std::alloc::{AllocError, Global};
 
 /// The most edges of a program. What has more is answered as want of memory, before any is made.
-pub const MOST_EDGES: u64 = 67_108_864;
+pub const MOST_EDGES: u64 = 33_554_432;
 
 // how many edges values that move have together
 fn count_of(moves: &[Move]) -> Result<u64, AllocError>
@@ -25,7 +25,7 @@ fn count_of(moves: &[Move]) -> Result<u64, AllocError>
 // how many they are, if they are few enough
 fn room_for(moves: &[Move]) -> Result<usize, AllocError>
     ensures count { IfOk result (λ n. n ≡ length (moved_edges moves.now)) }
-    ensures few { IfOk result (λ n. n ≤ 2 ^ 26) }
+    ensures few { IfOk result (λ n. n ≤ 2 ^ 25) }
 {
     let count = count_of(moves)?;
     if count > MOST_EDGES {
@@ -37,7 +37,7 @@ fn room_for(moves: &[Move]) -> Result<usize, AllocError>
 // the edges, in a list that is made once
 fn made(alloc: Global, moves: &[Move]) -> Result<Vec<Edge>, AllocError>
     ensures edges { IfOk result (λ es. es.items ≡ moved_edges moves.now) }
-    ensures few { IfOk result (λ es. length es.items ≤ 2 ^ 26) }
+    ensures few { IfOk result (λ es. length es.items ≤ 2 ^ 25) }
 {
     let count = room_for(moves)?;
     let mut edges = Vec::with_capacity(alloc, count)?;
@@ -53,7 +53,7 @@ fn made(alloc: Global, moves: &[Move]) -> Result<Vec<Edge>, AllocError>
 /// Time and memory are linear in the edges.
 pub fn edges_along(alloc: Global, moves: &[Move], slots: u64) -> Result<Listed<Edge>, AllocError>
     ensures edges { IfOk result (λ es. es ≡ moved_edges moves.now) }
-    ensures few { IfOk result (λ es. length es ≤ 2 ^ 26) }
+    ensures few { IfOk result (λ es. length es ≤ 2 ^ 25) }
     ensures froms { IfOk result (λ es. All (λ e. e.from.0 < slots) es) }
     ensures tos { IfOk result (λ es. All (λ e. e.to.0 < slots) es) }
 {

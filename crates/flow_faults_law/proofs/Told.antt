@@ -3,6 +3,7 @@ use Rattle.std.proofs.Common.{◌≡◌, ◌∙◌, ◌<◌, ◌⊎◌, ℕ, Lis
 use Rattle.std.specs.Prelude.{All, MatchOption, is_some}
 use Rattle.std.specs.List.{Contains}
 use Rattle.std.proofs.lemmas.List.Elements.{Contains-get_or}
+use Rattle.pt_base.specs.declared.slot.Slot.{Slot}
 use Rattle.pt_base.specs.declared.span.Span.{Span}
 use Rattle.propagation.specs.Marks.{AreMarks, Shown, path_shown}
 use Rattle.propagation.specs.Paths.{IsPriv, IsShortestPath}
@@ -32,19 +33,20 @@ module _ (t : TypedTree) (s : Sides) (marks : Shown) (are : AreMarks s.seeds (ed
       go (Some path) h m = (path, m)
 
   abbrev HasWay : List ℕ → Type 0
-  HasWay slots = (spans : List Span) × ShowsWay s.seeds (edges_of_all t s) spans slots
+  HasWay slots = (origin : Option Slot) × (spans : List Span) × ShowsWay s.seeds (edges_of_all t s) origin spans slots
 
   way_to : (slots : List ℕ) → ((n : ℕ) → Contains slots n → is_some (path_shown marks (slot_number n)) ≡ true) → HasWay slots
-  way_to [] all = ([], refl)
+  way_to [] all = (None, [], (refl, refl))
   way_to (n ∷ ns) all =
       let way = shortest_way n (all n (in_first n ns)) in
-      (spans_of (edges_of_all t s) way.0, (n, way.0, in_first n ns, way.1, refl))
+      let there = way.1 in
+      (Some there.0, spans_of (edges_of_all t s) way.0, (n, there.0, way.0, in_first n ns, refl, (there.1, there.2, there.3), refl))
 
   -- ---- faults
 
   -- what one of these says of something that was found
   abbrev TellsOf : List Finding → FlowFault → Type 0
-  TellsOf xs f = (x : Finding) × Contains xs x × Tells f x × ShowsWay s.seeds (edges_of_all t s) f.path x.slots
+  TellsOf xs f = (x : Finding) × Contains xs x × Tells f x × ShowsWay s.seeds (edges_of_all t s) f.origin f.path x.slots
 
   -- each of these faults tells of something that was found, and all that was found is told
   abbrev AreOf : List Finding → List FlowFault → Type 0
@@ -53,7 +55,7 @@ module _ (t : TypedTree) (s : Sides) (marks : Shown) (are : AreMarks s.seeds (ed
   nothing_told : AreOf [] []
   nothing_told = (λ f c. absurd (in_nothing f c), λ x c. absurd (in_nothing x c))
 
-  one_more : (x : Finding) (xs : List Finding) (f : FlowFault) (fs : List FlowFault) → Tells f x → ShowsWay s.seeds (edges_of_all t s) f.path x.slots → AreOf xs fs → AreOf (x ∷ xs) (f ∷ fs)
+  one_more : (x : Finding) (xs : List Finding) (f : FlowFault) (fs : List FlowFault) → Tells f x → ShowsWay s.seeds (edges_of_all t s) f.origin f.path x.slots → AreOf xs fs → AreOf (x ∷ xs) (f ∷ fs)
   one_more x xs f fs tells way rest = (λ g c. some g (in_cases f fs g c), λ y c. all y (in_cases x xs y c))
     where
       some : (g : FlowFault) → (f ≡ g) ⊎ Contains fs g → TellsOf (x ∷ xs) g
@@ -69,8 +71,8 @@ module _ (t : TypedTree) (s : Sides) (marks : Shown) (are : AreMarks s.seeds (ed
   told (x ∷ xs) ways =
       let rest = told xs (λ y c. ways y (in_later x xs y c)) in
       let way = ways x (in_first x xs) in
-      let f : FlowFault = record { rule = x.rule; span = x.span; path = way.0 } in
-      (f ∷ rest.0, one_more x xs f rest.0 (refl, refl) way.1 rest.1)
+      let f : FlowFault = record { rule = x.rule; span = x.span; origin = way.0; path = way.1 } in
+      (f ∷ rest.0, one_more x xs f rest.0 (refl, refl) way.2 rest.1)
 
   -- ---- in order
 

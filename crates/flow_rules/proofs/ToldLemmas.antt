@@ -1,5 +1,5 @@
 -- What was found is told, in order and each fault once.
-use Rattle.std.proofs.Common.{◌≡◌, ◌∙◌, ◌≤◌, ◌<◌, ◌+◌, ℕ, zero, suc, refl, ap, sym, subst, arith, add-one, ◌⊎◌, inl, inr, Bool, true, false, cond, List, [], ◌∷◌, ◌++◌, length, get_or, take, map}
+use Rattle.std.proofs.Common.{◌≡◌, ◌∙◌, ◌≤◌, ◌<◌, ◌+◌, ℕ, zero, suc, refl, ap, sym, subst, arith, add-one, ◌⊎◌, inl, inr, Bool, true, false, cond, Option, List, [], ◌∷◌, ◌++◌, length, get_or, take, map}
 use Rattle.std.specs.Prelude.{◌&&◌, nat_eq, nat_lt, All}
 use Rattle.std.specs.Cmp.{IsEquivalence, IsTotalOrder}
 use Rattle.std.specs.declared.cmp.Ordering.{Ordering}
@@ -159,9 +159,9 @@ module _ (seeds : List Slot) (edges : List Edge) where
   told_sorted [] (f ∷ fs) told h = absurd told
   told_sorted (x ∷ xs) [] told h = absurd told
 
-  shows_way : (spans : List Span) (slots : List ℕ) → ShowsWayTo seeds edges spans (first_of slots) → ShowsWay seeds edges spans slots
-  shows_way spans [] h = h
-  shows_way spans (s ∷ ss) h = (s, h.0, contains_first s ss, h.1, h.2)
+  shows_way : (origin : Option Slot) (spans : List Span) (slots : List ℕ) → ShowsWayTo seeds edges origin spans (first_of slots) → ShowsWay seeds edges origin spans slots
+  shows_way origin spans [] h = h
+  shows_way origin spans (s ∷ ss) h = (s, h.0, h.1, contains_first s ss, h.2, h.3, h.4)
 
   is_fault : (p : Flows) (x : Found) (f : FlowFault) → Contains (map kept (findings_of p)) x → TellsKept seeds edges x f → IsFault p seeds edges f
   is_fault p x f i told =
@@ -169,7 +169,7 @@ module _ (seeds : List Slot) (edges : List Edge) where
         m.0,
         m.1,
         (told.0 ∙ sym (ap (λ (z : Found). z.rule) m.2), told.1.0 ∙ sym (ap (λ (z : Found). z.span) m.2)),
-        shows_way f.path m.0.slots (subst (λ (z : Found). ShowsWayTo seeds edges f.path z.slot) (sym m.2) told.1.1),
+        shows_way f.origin f.path m.0.slots (subst (λ (z : Found). ShowsWayTo seeds edges f.origin f.path z.slot) (sym m.2) told.1.1),
       )
 
   are_faults : (p : Flows) (xs : List Found) (fs : List FlowFault) → ((x : Found) → Contains xs x → Contains (map kept (findings_of p)) x) → AreTold seeds edges xs fs →

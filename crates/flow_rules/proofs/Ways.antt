@@ -1,9 +1,9 @@
 -- A fault with its way, tried: main returns what `get` has put behind its pointer.
-use Rattle.std.proofs.Common.{◌≡◌, ◌≢◌, ◌∙◌, ◌<◌, ◌≤◌, ◌⊎◌, ℕ, zero, suc, refl, ap, sym, subst, inl, inr, arith, true, false, List, [], ◌∷◌, length}
+use Rattle.std.proofs.Common.{◌≡◌, ◌≢◌, ◌∙◌, ◌<◌, ◌≤◌, ◌⊎◌, ℕ, zero, suc, refl, ap, sym, subst, inl, inr, arith, true, false, Some, List, [], ◌∷◌, length}
 use Rattle.std.specs.List.{Contains}
 use Rattle.pt_base.specs.declared.slot.Edge.{Edge}
 use Rattle.pt_base.specs.declared.slot.Slot.{Slot}
-use Rattle.propagation.specs.Paths.{from_of, to_of, IsShortestPath, Leads}
+use Rattle.propagation.specs.Paths.{from_of, to_of, Leads}
 use Rattle.reach.proofs.ListLemmas.{contains_cases, contains_first, contains_nothing}
 use Rattle.sides.proofs.Worked.{span}
 use Rattle.reach.specs.Tables.{slot_number}
@@ -11,7 +11,7 @@ use Rattle.flow_edges.proofs.Worked.{edge}
 use Rattle.flow_rules.proofs.Worked.{flows, fn, status, status_faults}
 use Rattle.flow_rules.specs.declared.fault.FlowFault.{FlowFault}
 use Rattle.flow_rules.specs.declared.rule.Rule.TheVariants.{PrivStatus}
-use Rattle.flow_rules.specs.Faults.{IsFault}
+use Rattle.flow_rules.specs.Faults.{IsFault, IsShortestFrom}
 use Rattle.flow_rules.specs.Findings.{Finding, finding}
 use Rattle.flow_rules.specs.Secrets.{Flows}
 
@@ -22,7 +22,7 @@ abbrev looked : Flows
 looked = flows status (fn 1 ∷ fn 2 ∷ []) [] (false ∷ true ∷ true ∷ true ∷ false ∷ true ∷ [])
 
 abbrev told : FlowFault
-told = record { rule = PrivStatus; span = span 114 115; path = span 63 70 ∷ span 102 104 ∷ [] }
+told = record { rule = PrivStatus; span = span 114 115; origin = Some (slot_number 3); path = span 63 70 ∷ span 102 104 ∷ [] }
 
 differ : (a b : ℕ) → a ≢ b → slot_number a ≢ slot_number b
 differ a b h e = h (ap (λ (s : Slot). s.0) e)
@@ -48,13 +48,13 @@ fewest seed (k ∷ []) is leads = absurd (no_edge_there k leads.0 (leads.1 ∙ s
 fewest seed (k ∷ j ∷ path) is leads = omega arith
 
 -- from what `load` returns to what p points to, and on to a
-way : IsShortestPath (slot_number 3 ∷ []) ways (0 ∷ 2 ∷ []) (slot_number 2)
-way = (slot_number 3, contains_first (slot_number 3) [], (omega arith, refl, (omega arith, refl, refl)), fewest)
+way : IsShortestFrom (slot_number 3 ∷ []) ways (slot_number 3) (0 ∷ 2 ∷ []) (slot_number 2)
+way = (contains_first (slot_number 3) [], (omega arith, refl, (omega arith, refl, refl)), fewest)
 
 returned : IsFault looked (slot_number 3 ∷ []) ways told
 returned = (
   finding PrivStatus (span 114 115) (2 ∷ []),
   subst (λ (xs : List Finding). Contains xs (finding PrivStatus (span 114 115) (2 ∷ []))) (sym status_faults) (contains_first (finding PrivStatus (span 114 115) (2 ∷ [])) []),
   (refl, refl),
-  (2, 0 ∷ 2 ∷ [], contains_first 2 [], way, refl),
+  (2, slot_number 3, 0 ∷ 2 ∷ [], contains_first 2 [], refl, way, refl),
 )

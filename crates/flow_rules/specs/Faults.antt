@@ -1,6 +1,6 @@
 -- The faults of a program: each place once where it breaks a rule, in the order of the text, with a way by
 -- which a secret comes there.
-use Rattle.std.specs.Prelude.{◌≡◌, ◌↔◌, ◌<◌, ℕ, List, [], ◌∷◌, true, is_some, length, map, slice_index_or, All, Result, Ok, Err}
+use Rattle.std.specs.Prelude.{◌≡◌, ◌↔◌, ◌<◌, ℕ, List, [], ◌∷◌, Option, None, Some, true, is_some, length, map, slice_index_or, All, Result, Ok, Err}
 use Rattle.std.specs.List.{Contains, flat_map}
 use Rattle.std.specs.List.Sorted.{IsStrictlySortedBy}
 use Rattle.std.specs.declared.cmp.Ordering.{Ordering}
@@ -9,7 +9,7 @@ use Rattle.pt_base.specs.declared.slot.Edge.{Edge}
 use Rattle.pt_base.specs.declared.slot.Slot.{Slot}
 use Rattle.pt_base.specs.declared.span.Span.{Span}
 use Rattle.propagation.specs.Marks.{AreMarks, Shown, path_shown}
-use Rattle.propagation.specs.Paths.{IsPriv, IsShortestPath, no_edge}
+use Rattle.propagation.specs.Paths.{IsFewest, IsPriv, Leads, no_edge}
 use Rattle.sides.specs.declared.halves.Sides.{Sides}
 use Rattle.reach.specs.Contexts.{InMonitor, InSlave}
 use Rattle.sides.specs.Placed.{AreSides}
@@ -63,16 +63,20 @@ Tells fault x = (fault.rule ≡ x.rule) × (fault.span ≡ x.span)
 abbrev pub spans_of : List Edge → List ℕ → List Span
 spans_of edges path = map (λ k. (slice_index_or edges k no_edge).span) path
 
--- how a secret comes to one of these slots: along edges from a seed, as few as there can be; nothing where there
--- are none
-abbrev pub ShowsWay : List Slot → List Edge → List Span → List ℕ → Type 0
-ShowsWay seeds edges spans [] = spans ≡ []
-ShowsWay seeds edges spans (s ∷ ss) =
-    (n : ℕ) × (path : List ℕ) × Contains (s ∷ ss) n × IsShortestPath seeds edges path (slot_number n) × (spans ≡ spans_of edges path)
+-- the path leads from this seed to the slot, and no path from a seed to the slot has fewer edges
+abbrev pub IsShortestFrom : List Slot → List Edge → Slot → List ℕ → Slot → Type 0
+IsShortestFrom seeds edges seed path s = Contains seeds seed × Leads edges path seed s × IsFewest seeds edges (length path) s
 
--- a fault tells of something that was found, and how a secret came there
+-- where a secret begins and how it comes to one of these slots: along edges from a seed, as few as there can be;
+-- nothing where there are none
+abbrev pub ShowsWay : List Slot → List Edge → Option Slot → List Span → List ℕ → Type 0
+ShowsWay seeds edges origin spans [] = (origin ≡ None) × (spans ≡ [])
+ShowsWay seeds edges origin spans (s ∷ ss) =
+    (n : ℕ) × (seed : Slot) × (path : List ℕ) × Contains (s ∷ ss) n × (origin ≡ Some seed) × IsShortestFrom seeds edges seed path (slot_number n) × (spans ≡ spans_of edges path)
+
+-- a fault tells of something that was found, and where a secret begins and how it came there
 abbrev pub IsFault : Flows → List Slot → List Edge → FlowFault → Type 0
-IsFault p seeds edges fault = (x : Finding) × Contains (findings_of p) x × Tells fault x × ShowsWay seeds edges fault.path x.slots
+IsFault p seeds edges fault = (x : Finding) × Contains (findings_of p) x × Tells fault x × ShowsWay seeds edges fault.origin fault.path x.slots
 
 -- The faults are strictly ascending, so that each stands once; each is one, and all that was found is told.
 pub record AreFaults (p : Flows) (seeds : List Slot) (edges : List Edge) (faults : List FlowFault) : Type 0 where

@@ -6,11 +6,11 @@ use Rattle.std.specs.Ordering.{nat_cmp, ordering_then}
 use Rattle.pt_base.specs.declared.slot.Edge.{Edge}
 use Rattle.pt_base.specs.declared.slot.Slot.{Slot}
 use Rattle.pt_base.specs.declared.span.Span.{Span}
-use Rattle.propagation.specs.Paths.{IsShortestPath}
+use Rattle.propagation.specs.Paths.{from_of}
 use Rattle.reach.specs.Tables.{slot_number}
 use Rattle.flow_rules.specs.declared.fault.FlowFault.{FlowFault}
 use Rattle.flow_rules.specs.declared.found.Found.{Found}
-use Rattle.flow_rules.specs.Faults.{span_cmp, spans_of}
+use Rattle.flow_rules.specs.Faults.{IsShortestFrom, span_cmp, spans_of}
 use Rattle.flow_rules.specs.Numbers.{rule_number}
 use Rattle.flow_rules.specs.Secrets.{Flows}
 
@@ -32,14 +32,21 @@ IsShownPriv p slot = (s : ℕ) → slot ≡ Some s → p.is_priv s ≡ true
 abbrev pub AllShownPriv : Flows → List Found → Type 0
 AllShownPriv p xs = (x : Found) → Contains xs x → IsShownPriv p x.slot
 
--- how a secret comes to a slot: along edges from a seed, as few as there can be; nothing where there is none
-abbrev pub ShowsWayTo : List Slot → List Edge → List Span → Option ℕ → Type 0
-ShowsWayTo seeds edges spans None = spans ≡ []
-ShowsWayTo seeds edges spans (Some s) = (path : List ℕ) × IsShortestPath seeds edges path (slot_number s) × (spans ≡ spans_of edges path)
+-- where the edges with these numbers begin, if they lead to this slot
+abbrev pub begins_at : List Edge → List ℕ → Slot → Slot
+begins_at edges [] slot = slot
+begins_at edges (k ∷ path) slot = from_of edges k
+
+-- where a secret begins and how it comes to a slot: along edges from a seed, as few as there can be; nothing where
+-- there is none
+abbrev pub ShowsWayTo : List Slot → List Edge → Option Slot → List Span → Option ℕ → Type 0
+ShowsWayTo seeds edges origin spans None = (origin ≡ None) × (spans ≡ [])
+ShowsWayTo seeds edges origin spans (Some s) =
+    (seed : Slot) × (path : List ℕ) × (origin ≡ Some seed) × IsShortestFrom seeds edges seed path (slot_number s) × (spans ≡ spans_of edges path)
 
 -- a fault tells what was kept
 abbrev pub TellsKept : List Slot → List Edge → Found → FlowFault → Type 0
-TellsKept seeds edges x fault = (fault.rule ≡ x.rule) × ((fault.span ≡ x.span) × ShowsWayTo seeds edges fault.path x.slot)
+TellsKept seeds edges x fault = (fault.rule ≡ x.rule) × ((fault.span ≡ x.span) × ShowsWayTo seeds edges fault.origin fault.path x.slot)
 
 -- faults tell what was kept, one after the other
 abbrev pub AreTold : List Slot → List Edge → List Found → List FlowFault → Type 0

@@ -2,7 +2,7 @@
 ghost use Rattle.std.specs.Prelude.{◌≡◌};
 
 use crate::rule::Rule;
-use pt_base::{Listed, Span};
+use pt_base::{Listed, Slot, Span};
 use std::alloc::{AllocError, AllocFailed};
 
 /// A place where a rule is broken.
@@ -10,6 +10,8 @@ use std::alloc::{AllocError, AllocFailed};
 pub struct FlowFault {
     pub rule: Rule,
     pub span: Span,
+    /// Where the secret begins of which the path tells; None where the rule speaks of no secret.
+    pub origin: Option<Slot>,
     /// The values that moved, one after the other, until a secret came here: nothing where it begins
     /// here, and where the rule speaks of no secret.
     pub path: Listed<Span>,

@@ -120,7 +120,7 @@ pub fn edges_all<R: Threads + Sync, W: Watch>(
 ) -> Result<Listed<Edge>, AllocError>
     requires { AreSides (view_typed t.now) sides.now }
     ensures edges { IfOk result (λ es. es ≡ flat_map (edges_in (view_typed t.now)) sides.now.slave) }
-    ensures few { IfOk result (λ es. length es ≤ 2 ^ 26) }
+    ensures few { IfOk result (λ es. length es ≤ 2 ^ 25) }
     ensures froms { IfOk result (λ es. All (λ e. e.from.0 < length (slots_of (view_typed t.now))) es) }
     ensures tos { IfOk result (λ es. All (λ e. e.to.0 < length (slots_of (view_typed t.now))) es) }
 {

@@ -1,4 +1,6 @@
 pub mod Begun
+pub mod Entries
 pub mod Low
 pub mod Streams
 pub mod Tables
+pub mod Views

@@ -1,5 +1,5 @@
--- One program with two tables that differ in privileged hosts alone begins with one boot, and with monitors of which the same may be known.
-use Rattle.std.proofs.Common.{◌≡◌, ◌∙◌, ℕ, suc, ◌+◌, Bool, true, false, cond, List, [], ◌∷◌, map, Option, Some, None, refl, sym, ap, subst, arith}
+-- One program with two tables that differ in privileged hosts alone begins with one boot.
+use Rattle.std.proofs.Common.{◌≡◌, ◌∙◌, ℕ, suc, ◌+◌, Bool, true, false, cond, List, [], ◌∷◌, map, Option, Some, refl, sym, ap, subst, arith}
 use Rattle.std.specs.Prelude.{◌&&◌, not, slice_get}
 use Rattle.std.specs.List.{filter}
 use Rattle.pt_tree.specs.declared.host_model.HostModel.{HostModel}
@@ -8,7 +8,6 @@ use Rattle.runs.specs.State.{Hosts}
 use Rattle.host_table.specs.RunHosts.{model_or_none, models_of}
 use Rattle.policy.specs.declared.rule.Rule.{Rule}
 use Rattle.policy.specs.PolicyFault.{IsPolicy}
-use Rattle.policy.specs.Verdicts.{start}
 use Rattle.policy.proofs.LawLemmas.{policy_is_one}
 use Rattle.typed_tree.specs.TypedTree.{TypedTree, signatures_of}
 use Rattle.front_end.specs.Reading.{Reading, HasTypedTree, typed_tree, lex_fault, parse_fault, type_faults_of}
@@ -16,16 +15,16 @@ use Rattle.front_end.proofs.OneReading.{reading_is_one}
 use Rattle.flow_rules.specs.declared.accepted.Accepted.{Accepted}
 use Rattle.flow_rules.specs.Faults.{IsAccepted}
 use Rattle.lowering.specs.Functions.{functions_from, signatures_from}
-use Rattle.splitter.specs.Halves.{Halves, asked, halves_of, is_among, is_slave_host, monitor_of, slave_of}
-use Rattle.program_halves.specs.ProgramHalves.{monitor_half, slave_half}
+use Rattle.splitter.specs.Halves.{Halves, asked, halves_of, is_among, is_slave_host, slave_of}
+use Rattle.program_halves.specs.ProgramHalves.{slave_half}
 use Rattle.program_halves.proofs.OneHalves.{same_halves}
-use Rattle.pt_core.specs.CodeTree.{BootTree, MonitorTree, SlaveTree}
+use Rattle.pt_core.specs.CodeTree.{BootTree, SlaveTree}
 use Rattle.pt_core.specs.BootLaw.{boot_with}
-use Rattle.pair_meaning.specs.Monitors.{Low, Monitor, low}
-use Rattle.pair_meaning.specs.Start.{boot_of, input_for, models_for, monitor_start}
+use Rattle.pair_meaning.specs.Monitors.{Monitor}
+use Rattle.pair_meaning.specs.Start.{boot_of, input_for, models_for}
 use Rattle.pair_texts.specs.OutcomeSeen.{HaveBegun}
 use Rattle.pair_texts.specs.Start.{Texts}
-use Rattle.hidden_runs_law.specs.Laws.{AreSameOfPlain, BegunRunsAreLow, PrivilegedRowsAreHidden}
+use Rattle.hidden_runs_law.specs.Laws.{AreSameOfPlain, BootsAndRulesTellAll, PrivilegedRowsAreHidden}
 
 -- ---- the slave's own hosts
 
@@ -78,18 +77,12 @@ tree_in (type_faults_of faults) u = u
 one_tree : (text : List ℕ) (t u : TypedTree) → HasTypedTree text t → HasTypedTree text u → t ≡ u
 one_tree text t u h k = ap (λ (r : Reading). tree_in r t) (reading_is_one text (typed_tree t) (typed_tree u) h k)
 
--- what both begin with, of two programs that are one
-record AreOne (t u : TypedTree) (a c : Accepted) : Type 0 where
-  slave : slave_half t a ≡ slave_half u c
-  monitor : monitor_half t a ≡ monitor_half u c
-
-one_program : (t u : TypedTree) (a c : Accepted) → t ≡ u → IsAccepted t a → IsAccepted u c → AreOne t u a c
-one_program t u a c e is is' = subst (λ (x : TypedTree). IsAccepted x c → AreOne t x a c) e same is'
+-- whichever sides are found
+one_slave : (t u : TypedTree) (a c : Accepted) → t ≡ u → IsAccepted t a → IsAccepted u c → slave_half t a ≡ slave_half u c
+one_slave t u a c e is is' = subst (λ (x : TypedTree). IsAccepted x c → slave_half t a ≡ slave_half x c) e same is'
   where
-    same : IsAccepted t c → AreOne t t a c
-    same is' =
-        let h = same_halves t a.sides c.sides is.sides is'.sides in
-        record { slave = ap (λ (h : Halves). slave_of t h (functions_from t 0 t.functions)) h; monitor = ap (λ (h : Halves). monitor_of t h (functions_from t 0 t.functions)) h }
+    same : IsAccepted t c → slave_half t a ≡ slave_half t c
+    same is' = ap (λ (h : Halves). slave_of t h (functions_from t 0 t.functions)) (same_halves t a.sides c.sides is.sides is'.sides)
 
 same_rules : (t u : TypedTree) (text other : List ℕ) (rules rules' : List Rule) → t ≡ u → text ≡ other → IsPolicy (signatures_of t) text rules → IsPolicy (signatures_of u) other rules' → rules ≡ rules'
 same_rules t u text other rules rules' trees texts is is' =
@@ -107,36 +100,27 @@ boots_same half half' hosts others input other turns halves inputs models =
     ap (λ (ms : List (ℕ × HostModel)). boot_with half ms (input_for ms input) turns) models ∙ ap (λ (l : List ℕ). boot_of half others l turns) inputs
     ∙ ap (λ (h : SlaveTree). boot_of h others other turns) halves
 
--- what may be known of a monitor at its start
-abbrev known : MonitorTree → List Rule → ℕ → Low
-known half rules turns = low (monitor_start half (λ f. model_or_none None) [] (start rules) turns)
-
 module _ (t t' : Texts) (turns : ℕ) (b b' : BootTree) (m m' : Monitor) (one : HaveBegun t turns b m) (other : HaveBegun t' turns b' m') (programs : t.program ≡ t'.program) where
   trees : one.started.tree ≡ other.started.tree
   trees =
       one_tree t.program one.started.tree other.started.tree one.started.read.program
       (subst (λ (l : List ℕ). HasTypedTree l other.started.tree) (sym programs) other.started.read.program)
 
-  halves : AreOne one.started.tree other.started.tree one.started.accepted other.started.accepted
-  halves = one_program one.started.tree other.started.tree one.started.accepted other.started.accepted trees one.started.is other.started.is
+  slaves : slave_half one.started.tree one.started.accepted ≡ slave_half other.started.tree other.started.accepted
+  slaves = one_slave one.started.tree other.started.tree one.started.accepted other.started.accepted trees one.started.is other.started.is
 
   boots : t.input ≡ t'.input → AreSameOfPlain one.started.tree one.started.hosts other.started.hosts → b ≡ b'
   boots inputs plain =
       let half : SlaveTree = slave_half one.started.tree one.started.accepted in
       one.started.boot_is
-      ∙ boots_same half (slave_half other.started.tree other.started.accepted) (models_of one.started.hosts.models) (models_of other.started.hosts.models) t.input t'.input turns halves.slave inputs
+      ∙ boots_same half (slave_half other.started.tree other.started.accepted) (models_of one.started.hosts.models) (models_of other.started.hosts.models) t.input t'.input turns slaves inputs
       (same_models one.started.hosts.models other.started.hosts.models (is_among (asked (halves_of one.started.accepted.sides) (functions_from one.started.tree 0 one.started.tree.functions))) 0 (signatures_of one.started.tree)
       (λ i s e host open_to. subst (λ n. one.started.hosts.models n ≡ other.started.hosts.models n) (from_none i) (plain i s e host open_to)))
       ∙ sym other.started.boot_is
 
-  views : t.policy ≡ t'.policy → low m ≡ low m'
-  views policies =
-      let rules = same_rules one.started.tree other.started.tree t.policy t'.policy one.started.rules other.started.rules trees policies one.started.read.policy other.started.read.policy in
-      ap low one.started.monitor_is
-      ∙ ap (λ (half : MonitorTree). known half one.started.rules turns) halves.monitor
-      ∙ ap (λ (rs : List Rule). known (monitor_half other.started.tree other.started.accepted) rs turns) rules
-      ∙ sym (ap low other.started.monitor_is)
+  rules : t.policy ≡ t'.policy → one.started.rules ≡ other.started.rules
+  rules policies = same_rules one.started.tree other.started.tree t.policy t'.policy one.started.rules other.started.rules trees policies one.started.read.policy other.started.read.policy
 
-pub rows_hidden : BegunRunsAreLow → PrivilegedRowsAreHidden
+pub rows_hidden : BootsAndRulesTellAll → PrivilegedRowsAreHidden
 rows_hidden law t t' turns b b' m m' own own' begin programs policies inputs plain =
-    law t t' turns b b' m m' own own' begin (boots t t' turns b b' m m' begin.one begin.other programs inputs plain) (views t t' turns b b' m m' begin.one begin.other programs policies)
+    law t t' turns b b' m m' own own' begin (boots t t' turns b b' m m' begin.one begin.other programs inputs plain) (rules t t' turns b b' m m' begin.one begin.other programs policies)

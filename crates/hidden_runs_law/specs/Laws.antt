@@ -71,6 +71,12 @@ abbrev pub BegunRunsAreLow : Type 0
 BegunRunsAreLow = (t t' : Texts) (turns : ℕ) (b b' : BootTree) (m m' : Monitor) (own own' : Hosts) → BothBegin t t' turns b b' m m' own own' → b ≡ b' → low m ≡ low m' →
     RunsGoAlike b b' (with_hosts own m) (with_hosts own' m')
 
+-- So they do where the boots are the same and the policies have the same rules: what may be known of a monitor at its start is told by
+-- these. So privileged functions, the monitor's globals and privileged hosts may be different, as far as the boot is the same.
+abbrev pub BootsAndRulesTellAll : Type 0
+BootsAndRulesTellAll = (t t' : Texts) (turns : ℕ) (b b' : BootTree) (m m' : Monitor) (own own' : Hosts) (begin : BothBegin t t' turns b b' m m' own own') → b ≡ b' → begin.one.started.rules ≡ begin.other.started.rules →
+    RunsGoAlike b b' (with_hosts own m) (with_hosts own' m')
+
 -- the same stands for each host that isn't privileged
 abbrev pub AreSameOfPlain : TypedTree → table.Hosts → table.Hosts → Type 0
 AreSameOfPlain t hosts others = (f : ℕ) (s : Signature) → slice_get (signatures_of t) f ≡ Some s → s.host ≡ true → s.privileged ≡ false → hosts.models f ≡ others.models f

@@ -2,7 +2,7 @@
 //! the same to peers that give the same, as long as they tell the same numbers and no call traps or spends the turns.
 #![tactic(auto)]
 
-ghost use Rattle.hidden_runs_law.specs.Laws.{BegunRunsAreLow, FirstPartsAreLow, PrivilegedRowsAreHidden, RunsAreLow, RunsServeStreams};
+ghost use Rattle.hidden_runs_law.specs.Laws.{BegunRunsAreLow, BootsAndRulesTellAll, FirstPartsAreLow, PrivilegedRowsAreHidden, RunsAreLow, RunsServeStreams};
 
 use low_views_law::{frames_keep_counts, streams_are_low};
 use pair_texts_law::{begun_monitors_are_well_formed, begun_monitors_hosts_serve};
@@ -41,9 +41,16 @@ pub fn begun_runs_are_low()
     runs_are_low();
 }
 
+/// So do those that begin from the same boot, with policies of the same rules.
+pub fn boots_and_rules_tell_all()
+    ensures { BootsAndRulesTellAll }
+{
+    begun_runs_are_low();
+}
+
 /// So do those of one program with two host tables that differ in privileged hosts alone.
 pub fn privileged_rows_are_hidden()
     ensures { PrivilegedRowsAreHidden }
 {
-    begun_runs_are_low();
+    boots_and_rules_tell_all();
 }

@@ -1,6 +1,6 @@
 -- Steps of the walk over what comes back.
 use Rattle.std.proofs.Common.{◌≡◌, ◌+◌, ◌++◌, ◌∙◌, sym, ap, refl, ℕ, ℤ, zero, suc, List, [], ◌∷◌, length, drop, get_or, map, arith, add-one, append_assoc, length-append, subst, Option, Some, None}
-use Rattle.std.specs.Prelude.{◌<◌, option_to_list, slice_get}
+use Rattle.std.specs.Prelude.{◌<◌, ◌||◌, if◌then◌else◌, Bool, true, false, nat_eq, option_to_list, slice_get}
 use Rattle.std.proofs.lemmas.List.{append-nil, length-map}
 use Rattle.pt_base.specs.declared.int_type.IntType.{IntType}
 use Rattle.pt_tree.specs.declared.signature.Signature.{Signature}
@@ -11,7 +11,11 @@ use Rattle.wire.specs.declared.cell.WireCell.{WireCell}
 use Rattle.wire.specs.declared.message.ReplyBody.{ReplyBody}
 use Rattle.marshalling.specs.declared.crossing.Crossing.{Crossing}
 use Rattle.marshalling.specs.declared.crossing.Crossing.TheVariants.{Stays, Plain, Sealed}
+use Rattle.marshalling.specs.declared.range.Range.{Range}
+use Rattle.marshalling.specs.Crossings.{range_crossing, stronger}
 use Rattle.marshalling.specs.Handles.{Entries}
+use Rattle.marshalling.specs.Ranges.{crossing_among}
+use Rattle.marshalling.specs.Returns.{is_ranged}
 use Rattle.marshalling.specs.Replies.{AreServed, HoldNumbers, HoldsNumber, IsResult, Place, block_types, kept, kept_by, next_after, next_by, number_in, places_from, places_of, received, reply_of, result_places, sent, sent_by, types_of}
 use Rattle.marshalling.proofs.Lists.{at_drop, at_drops, drops}
 
@@ -225,3 +229,31 @@ keeps_are crossing crossing' results vs types values store store' store'' same g
     more ∙ ap (λ xs. xs ++ kept (places_of crossing 0 types) values) grown
     ∙ append_assoc store (kept results vs) (kept (places_of crossing 0 types) values)
     ∙ ap (λ f. store ++ (kept results vs ++ kept (places_of f 0 types) values)) same
+
+-- ---- a block in which no range lies
+
+stays_step : (near far : Bool) (way rest : Crossing) → false ≡ (near || far) → (false ≡ far → rest ≡ Stays) → stronger (if near then way else Stays) rest ≡ Stays
+stays_step true far way rest h so = absurd cc
+stays_step false far way rest h so = so h
+
+-- nothing of it comes back
+stays_among : (ranges : List Range) (k i : ℕ) → false ≡ is_ranged ranges k → crossing_among ranges k i ≡ Stays
+stays_among [] k i h = refl
+stays_among (r ∷ ranges) k i h =
+    stays_step (nat_eq r.block k) (is_ranged ranges k) (range_crossing r.secret r.leaves.items r.base i) (crossing_among ranges k i) h (stays_among ranges k i)
+
+pub none_sent : (ranges : List Range) (k : ℕ) → false ≡ is_ranged ranges k → (i handle : ℕ) (types : List IntType) (values : List ℤ)
+    → sent handle (places_from (crossing_among ranges) k i types) values ≡ []
+none_sent ranges k h i handle [] values = refl
+none_sent ranges k h i handle (t ∷ types) [] = refl
+none_sent ranges k h i handle (t ∷ types) (v ∷ values) =
+    ap (λ way. sent_by way handle v ++ sent (next_by way handle) (places_from (crossing_among ranges) k (suc i) types) values) (stays_among ranges k i h)
+    ∙ none_sent ranges k h (suc i) handle types values
+
+pub none_kept : (ranges : List Range) (k : ℕ) → false ≡ is_ranged ranges k → (i : ℕ) (types : List IntType) (values : List ℤ)
+    → kept (places_from (crossing_among ranges) k i types) values ≡ []
+none_kept ranges k h i [] values = refl
+none_kept ranges k h i (t ∷ types) [] = refl
+none_kept ranges k h i (t ∷ types) (v ∷ values) =
+    ap (λ way. kept_by way t v ++ kept (places_from (crossing_among ranges) k (suc i) types) values) (stays_among ranges k i h)
+    ∙ none_kept ranges k h (suc i) types values

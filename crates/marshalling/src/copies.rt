@@ -48,8 +48,8 @@ fn add_copy(
     Ok(())
 }
 
-// Whether a range lies in the block of this number.
-fn has_range(ranges: &[Range], number: usize) -> bool
+/// Whether a range lies in the block of this number.
+pub(crate) fn has_range(ranges: &[Range], number: usize) -> bool
     ensures { result ≡ is_ranged ranges.now number }
 {
     ranges.iter().any(|range| lies_in(range, number))

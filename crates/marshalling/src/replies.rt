@@ -9,6 +9,7 @@ ghost use Rattle.marshalling.specs.Leaves.{has_structs};
 ghost use Rattle.marshalling.specs.Ranges.{crossing_among};
 ghost use Rattle.marshalling.specs.Replies.{AreServed, HoldNumbers, HoldsNumber, IsResult, block_types, kept, kept_by, kept_results, number_in, packed_results, places_from, places_of, received, result_places, sent, sent_by, types_in, types_of};
 
+use crate::copies::has_range;
 use crate::crossing::Crossing;
 use crate::range::Range;
 use crate::ranges::{crossing_at, ranges_of, sealed_or_plain};
@@ -165,8 +166,32 @@ fn pack_blocks(
     Ok(())
 }
 
-// Adds what is sent of the block k.
+// Adds what is sent of the block k: nothing where no range lies in it.
 fn pack_cells(
+    store: &mut Store,
+    ranges: &[Range],
+    k: u8,
+    block: &[(IntType, WireCell)],
+    memory: &MachineMemory,
+    cells: &mut Vec<WireCell>,
+) -> Result<(), AllocError>
+    requires few { length block.now ≤ 65_536 }
+    requires served { HoldNumbers (block_types block.now) (blocks_of memory.now (Received k)).cells }
+    ensures sent { OnOk result (cells.new.items ≡ cells.old.items
+        ++ sent (length store.old) (places_from (crossing_among ranges.now) k 0 (block_types block.now))
+        (map number_in (blocks_of memory.now (Received k)).cells)) }
+    ensures kept { OnOk result (store.new ≡ store.old
+        ++ kept (places_from (crossing_among ranges.now) k 0 (block_types block.now))
+        (map number_in (blocks_of memory.now (Received k)).cells)) }
+{
+    if !has_range(ranges, k as usize) {
+        return Ok(());
+    }
+    add_cells(store, ranges, k, block, memory, cells)
+}
+
+// The same, cell by cell.
+fn add_cells(
     store: &mut Store,
     ranges: &[Range],
     k: u8,

@@ -4,6 +4,7 @@ ghost use Rattle.pair_sides.specs.Pair.{is_empty};
 
 use std::alloc::{AllocError, Global};
 use std::marker::Model;
+use std::mem;
 
 /// The bytes of a message, of which the first ones were given.
 #[derive(Drop)]
@@ -48,13 +49,17 @@ impl Rest {
         self.given == self.bytes.len()
     }
 
-    /// Gives the next of them, at most `max`.
+    /// Gives the next of them, at most `max`: all at once where none was given and they are no more.
     pub(crate) fn take(&mut self, alloc: Global, max: usize) -> Result<Vec<u8>, AllocError>
         requires { 1 ≤ max }
         ensures all { IfOk result (λ piece. self.old ≡ piece.items ++ self.new) }
         ensures length { IfOk result (λ piece. vec_len piece ≤ max) }
         ensures some { IfOk result (λ piece. self.old ≢ [] → piece.items ≢ []) }
     {
+        let whole = self.given == 0 && self.bytes.len() <= max;
+        if whole {
+            return Ok(mem::replace(&mut self.bytes, Vec::new(alloc)));
+        }
         let piece = part_of(&self.bytes, self.given, max);
         let size = piece.len();
         let given = Vec::from_slice(alloc, piece)?;

@@ -1,5 +1,5 @@
 // One turn of the monitor: the frame at the front is served, or more bytes are asked for.
-ghost use Rattle.std.specs.Prelude.{◌≡◌, [], None, IfErr, IfSome, OnErr, OnOk};
+ghost use Rattle.std.specs.Prelude.{◌≡◌, ℕ, [], None, IfErr, IfSome, IsErrOf, OnErr, OnOk};
 ghost use Rattle.pt_base.specs.Faults.{HasCause};
 ghost use Rattle.wire.specs.declared.message.Message.TheVariants.{Reply};
 ghost use Rattle.wire.specs.Limits.{IsBytes, KeepsCounts, KeepsLimits};
@@ -7,6 +7,7 @@ ghost use Rattle.monitor_interp.specs.Monitors.{IsMonitor};
 ghost use Rattle.pair_meaning.specs.Monitors as s;
 ghost use Rattle.pair_meaning.specs.Serving.{serve};
 ghost use Rattle.pair_sides.specs.SlaveRun.{listed};
+ghost use Rattle.pair_runner.specs.Faults.{FirstFault};
 ghost use Rattle.pair_runner.specs.Sending.{Breaks, IsSpelled, Moves, Parts, Talks, reply_frames, sent_of};
 ghost use Rattle.pair_runner.specs.Turns.{Answered, Fed, Stuck, Turned, Unfed};
 ghost use Rattle.std.specs.Io.KnownBytes.{Appends};
@@ -49,9 +50,12 @@ fn give_back<L: Link, K: Sink>(
     ensures ok { OnOk result (Moves L.came L.sent L.given K.taken link.old link.new sink.old sink.new (sent_of reply) bytes.now) }
     ensures spelled { OnOk result (IfSome reply IsSpelled) }
     ensures err { IfErr result (λ e. Stuck e (Breaks L.sent L.given K.taken link.old link.new sink.old sink.new [] (reply_frames (listed reply)) bytes.now)) }
+    ensures behind { IsErrOf result RunFault.SinkFailed → link.new ≡ link.old }
+    ensures written { IsErrOf result RunFault.LinkFailed → Appends (K.taken sink.old) (K.taken sink.new) bytes.now }
     ensures ready { L.ready link.new }
     ensures link { HasCause (L.faults link.old) (L.faults link.new) result RunFault.LinkFailed }
     ensures sink { HasCause (K.faults sink.old) (K.faults sink.new) result RunFault.SinkFailed }
+    ensures first { FirstFault (L.faults link.old) (L.faults link.new) (K.faults sink.old) (K.faults sink.new) result }
 {
     write_out(alloc, bytes, sink)?;
     send_reply(alloc, reply, link)?;
@@ -73,9 +77,11 @@ fn serve_message<L: Link, K: Sink>(
     ensures answered { (m : s.Monitor) → IsMonitor monitor.old m
         → Answered (Moves L.came L.sent L.given K.taken link.old link.new sink.old sink.new) (Breaks L.sent L.given K.taken link.old link.new sink.old sink.new)
         (IsMonitor monitor.new) offset (serve m message.now) result }
+    ensures behind { IsErrOf result RunFault.SinkFailed → link.new ≡ link.old }
     ensures ready { L.ready link.new }
     ensures link { HasCause (L.faults link.old) (L.faults link.new) result RunFault.LinkFailed }
     ensures sink { HasCause (K.faults sink.old) (K.faults sink.new) result RunFault.SinkFailed }
+    ensures first { FirstFault (L.faults link.old) (L.faults link.new) (K.faults sink.old) (K.faults sink.new) result }
 {
     replies_are_spelled();
     let mut out = Vec::new(alloc);
@@ -109,6 +115,7 @@ fn hear<L: Link>(alloc: Global, reader: &mut Reader, link: &mut L) -> Result<(),
     ensures err { IfErr result (Unfed (λ talk bytes. Talks L.came L.sent L.given link.old link.new talk) (λ given sent bytes. Parts L.sent L.given link.old link.new given sent)) }
     ensures ready { L.ready link.new }
     ensures link { HasCause (L.faults link.old) (L.faults link.new) result RunFault.LinkFailed }
+    ensures first { (sinks : ℕ) → FirstFault (L.faults link.old) (L.faults link.new) sinks sinks result }
 {
     let piece = link.receive(alloc, MOST_AT_ONCE)?;
     let bytes = piece.as_slice();
@@ -134,9 +141,11 @@ pub(crate) fn turn<L: Link, K: Sink>(
     ensures turned { (m : s.Monitor) → IsMonitor monitor.old m
         → Turned (Moves L.came L.sent L.given K.taken link.old link.new sink.old sink.new) (Breaks L.sent L.given K.taken link.old link.new sink.old sink.new)
         (IsMonitor monitor.new) m reader.old reader.new result }
+    ensures behind { IsErrOf result RunFault.SinkFailed → link.new ≡ link.old }
     ensures ready { L.ready link.new }
     ensures link { HasCause (L.faults link.old) (L.faults link.new) result RunFault.LinkFailed }
     ensures sink { HasCause (K.faults sink.old) (K.faults sink.new) result RunFault.SinkFailed }
+    ensures first { FirstFault (L.faults link.old) (L.faults link.new) (K.faults sink.old) (K.faults sink.new) result }
 {
     let Some((message, offset)) = reader.next(alloc)? else {
         hear(alloc, reader, link)?;

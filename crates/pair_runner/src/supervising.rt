@@ -3,6 +3,7 @@ ghost use Rattle.std.specs.Prelude.{◌≡◌, None};
 ghost use Rattle.pt_base.specs.Faults.{HasCause};
 ghost use Rattle.monitor_interp.specs.Monitors.{IsMonitor};
 ghost use Rattle.pair_meaning.specs.Monitors as s;
+ghost use Rattle.pair_runner.specs.Faults.{FirstFault};
 ghost use Rattle.pair_runner.specs.Outcomes.{IsOutcome, behind_boot, broken_behind_boot};
 ghost use Rattle.pair_runner.specs.Sending.{Breaks, Moves};
 
@@ -28,6 +29,7 @@ fn serve_peer<L: Link, K: Sink>(
     ensures ready { L.ready link.new }
     ensures link { HasCause (L.faults link.old) (L.faults link.new) result RunFault.LinkFailed }
     ensures sink { HasCause (K.faults sink.old) (K.faults sink.new) result RunFault.SinkFailed }
+    ensures first { FirstFault (L.faults link.old) (L.faults link.new) (K.faults sink.old) (K.faults sink.new) result }
 {
     let mut reader = Reader::new(alloc);
     for _ in 0..u64::MAX {
@@ -46,7 +48,8 @@ fn serve_peer<L: Link, K: Sink>(
 ///
 /// `BadPeer` where these frames break a rule, and `PeerEnded` where they don't come to an end. `LinkFailed` and
 /// `SinkFailed` come only where the count of faults rose; after these two, and after `Memory`, a first part was
-/// written and sent.
+/// written and sent. Of the calls of the link and the sink one at most fails, and none where it comes to an end or the
+/// peer is to blame.
 pub fn supervise<L: Link, K: Sink>(
     alloc: Global,
     monitor: &mut Monitor,
@@ -62,6 +65,7 @@ pub fn supervise<L: Link, K: Sink>(
     ensures ready { L.ready link.new }
     ensures link { HasCause (L.faults link.old) (L.faults link.new) result RunFault.LinkFailed }
     ensures sink { HasCause (K.faults sink.old) (K.faults sink.new) result RunFault.SinkFailed }
+    ensures first { FirstFault (L.faults link.old) (L.faults link.new) (K.faults sink.old) (K.faults sink.new) result }
 {
     send_boot(alloc, boot, link)?;
     let end = serve_peer(alloc, monitor, link, sink)?;

@@ -6,7 +6,7 @@ use honest_link::Witness;
 use privtrans_app::privtrans;
 use process_link::{Child, RealFolder, RealSink};
 use pt_base::{Alternate, FnId, Sink, SinkFault, Watch};
-use std::alloc::{AllocError, Global};
+use std::alloc::Global;
 use std::io::{ErrorKind, Read};
 use std::os::fd::AsFd;
 use std::process::{ExitCode, Processes};
@@ -33,15 +33,20 @@ fn words<R: Env + AllocGlobal>(rt: &R, alloc: Global) -> Result<Vec<String>, io:
     Ok(words)
 }
 
-// The file of this program, or the empty name where it has none that can be told.
-fn own_file<R: Files + AllocGlobal>(rt: &R, alloc: Global) -> String {
+// The file of this program, or the empty name where it has none that can be told. The error is want of memory.
+fn own_file<R: Files + AllocGlobal>(rt: &R, alloc: Global) -> Result<String, io::Error> {
     match env::current_exe(rt) {
-        Ok(file) => file.into_string(),
-        Err(_) => String::new(alloc),
+        Ok(file) => Ok(file.into_string()),
+        Err(fault) => {
+            match fault.kind() {
+                ErrorKind::OutOfMemory => Err(fault),
+                _ => Ok(String::new(alloc)),
+            }
+        }
     }
 }
 
-fn texts<'a>(alloc: Global, words: &'a [String]) -> Result<Vec<&'a str>, AllocError> {
+fn texts<'a>(alloc: Global, words: &'a [String]) -> Result<Vec<&'a str>, io::Error> {
     let mut texts = Vec::new(alloc);
     for word in words {
         texts.push(word.as_str())?;
@@ -49,9 +54,9 @@ fn texts<'a>(alloc: Global, words: &'a [String]) -> Result<Vec<&'a str>, AllocEr
     Ok(texts)
 }
 
-// The status where the words can't be had: 12 for want of memory, else 1, since a word that is no
-// UTF-8 is of no form.
-fn no_words<E: Sink>(alloc: Global, report: &mut E, fault: &io::Error) -> u8 {
+// The status where the words or this program's file can't be had: 12 for want of memory, else 1, since a word
+// that is no UTF-8 is of no form.
+fn not_begun<E: Sink>(alloc: Global, report: &mut E, fault: &io::Error) -> u8 {
     let (line, status): (&[u8], u8) = match fault.kind() {
         ErrorKind::OutOfMemory => (b"memory\n", 12),
         _ => (b"usage\n", 1),
@@ -74,14 +79,19 @@ fn work<
     let mut report = RealSink::new(report);
     let words = match words(rt, alloc) {
         Ok(words) => words,
-        Err(fault) => return no_words(alloc, &mut report, &fault),
+        Err(fault) => return not_begun(alloc, &mut report, &fault),
     };
-    let Ok(texts) = texts(alloc, &words) else {
-        return 12;
+    let texts = match texts(alloc, &words) {
+        Ok(texts) => texts,
+        Err(fault) => return not_begun(alloc, &mut report, &fault),
+    };
+    let file = match own_file(rt, alloc) {
+        Ok(file) => file,
+        Err(fault) => return not_begun(alloc, &mut report, &fault),
     };
     let mut folder = RealFolder::new(rt);
     let mut out = RealSink::new(&output);
-    let child = Child::new(rt, alloc, own_file(rt, alloc), input, output);
+    let child = Child::new(rt, alloc, file, input, output);
     let mut spawner = Witness::new(child);
     let mut chooser = Alternate::new();
     privtrans(

@@ -11,6 +11,7 @@ use Rattle.program_split.specs.Split.{Outcome, refused, split as split_in}
 use Rattle.program_split.specs.Laws.{without_ways}
 use Rattle.program_split.proofs.OneOutcome.{outcome_is_one}
 use Rattle.privtrans_app.specs.Words.{IsCheck, IsGenerated, IsHelp, IsLocal, IsOrig, IsProcessRun, IsRun, IsSlave, IsVersion, of_local, of_process_run, of_orig, of_check}
+use Rattle.privtrans_app.specs.Words.{Manner}
 use Rattle.privtrans_app.specs.Ending as endings
 use Rattle.privtrans_app.specs.Ending.{Ending, help, version, exit, accepted, split, worked, usage, missing, read_fault, write_fault, faults, trapped, spent, link_fault, bad_peer, peer_ended, memory, status_of, Reports, StaysDown, EndsWith}
 use Rattle.privtrans_app.specs.Causes.{IsByForm, IsByFiles}
@@ -54,7 +55,7 @@ pub split_or_run : (words names : List (List ℕ)) (n : Names) → AreSplit word
 split_or_run words _ n is (of_local p h q i m w form) = four_or_seven (length words) (ap length is.are) (ap length form.are)
 split_or_run words _ n is (of_process_run p h q i m form) = four_or_six (length words) (ap length is.are) (ap length form.are)
 split_or_run words _ n is (of_orig p h i m form) = four_or_five (length words) (ap length is.are) (ap length form.are)
-split_or_run words _ n is (of_check p form) = four_or_two (length words) (ap length is.are) (ap length form.are)
+split_or_run words _ n is (of_check m p form) = four_or_two (length words) (ap length is.are) (ap length form.are)
 
 pub split_or_slave : (words : List (List ℕ)) (n : Names) → AreSplit words n → IsSlave words → ⊥
 split_or_slave words n is slave = four_or_one (length words) (ap length is.are) (ap length slave)
@@ -68,7 +69,7 @@ process_or_local words a b = six_or_seven (length words) (ap length a.are) (ap l
 pub process_or_orig : {p h q i p' h' i' : List ℕ} {m m' : ℕ} (words : List (List ℕ)) → IsProcessRun words p h q i m → IsOrig words p' h' i' m' → ⊥
 process_or_orig words a b = six_or_five (length words) (ap length a.are) (ap length b.are)
 
-pub process_or_check : {p h q i p' : List ℕ} {m : ℕ} (words : List (List ℕ)) → IsProcessRun words p h q i m → IsCheck words p' → ⊥
+pub process_or_check : {p h q i p' : List ℕ} {m : ℕ} {n : Manner} (words : List (List ℕ)) → IsProcessRun words p h q i m → IsCheck words n p' → ⊥
 process_or_check words a b = six_or_two (length words) (ap length a.are) (ap length b.are)
 
 -- the three words of a generated program are no other's
@@ -82,7 +83,7 @@ pub generated_or_run : {seed count : ℕ} (words names : List (List ℕ)) → Is
 generated_or_run words _ is (of_local p h q i m w form) = not_three words 7 (ap length is.are) (ap length form.are) refl
 generated_or_run words _ is (of_process_run p h q i m form) = not_three words 6 (ap length is.are) (ap length form.are) refl
 generated_or_run words _ is (of_orig p h i m form) = not_three words 5 (ap length is.are) (ap length form.are) refl
-generated_or_run words _ is (of_check p form) = not_three words 2 (ap length is.are) (ap length form.are) refl
+generated_or_run words _ is (of_check m p form) = not_three words 2 (ap length is.are) (ap length form.are) refl
 
 pub generated_or_split : {seed count : ℕ} (words : List (List ℕ)) (n : Names) → IsGenerated words seed count → AreSplit words n → ⊥
 generated_or_split words n is form = not_three words 4 (ap length is.are) (ap length form.are) refl
@@ -259,7 +260,7 @@ module _ (untouched : Type 0) (moves : List Event → List ℕ → Type 0) (brea
     paired = λ t turns window out held comes. absurd (no_run (Some files) e is _ (of_local _ _ _ _ _ _ held.form));
     faulty = λ t turns refusal held faulty. absurd (no_run (Some files) e is _ (of_process_run _ _ _ _ _ held.form));
     original = λ t turns out due held comes ends_so. absurd (no_run (Some files) e is _ (of_orig _ _ _ _ held.form));
-    checked = λ text out due held comes ends_so. absurd (no_run (Some files) e is _ (of_check _ held.form));
+    checked = λ text out due held comes ends_so. absurd (no_run (Some files) e is _ (of_check _ _ held.form));
   }
   calls_by_files keeps w f files e r (inr (inr (inl is))) tells = record {
     missing = λ name reached lacks.
@@ -275,14 +276,14 @@ module _ (untouched : Type 0) (moves : List Event → List ℕ → Type 0) (brea
     paired = λ t turns window out held comes. absurd (more_than_one words _ (of_local _ _ _ _ _ _ held.form) (ap length is.form));
     faulty = λ t turns refusal held faulty. absurd (more_than_one words _ (of_process_run _ _ _ _ _ held.form) (ap length is.form));
     original = λ t turns out due held comes ends_so. absurd (more_than_one words _ (of_orig _ _ _ _ held.form) (ap length is.form));
-    checked = λ text out due held comes ends_so. absurd (more_than_one words _ (of_check _ held.form) (ap length is.form));
+    checked = λ text out due held comes ends_so. absurd (more_than_one words _ (of_check _ _ held.form) (ap length is.form));
   }
   calls_by_files keeps w f files e r (inr (inr (inr (inr is)))) tells = record {
     missing = λ name reached lacks. absurd (generated_or_run words _ is.form reached.form);
     paired = λ t turns window out held comes. absurd (generated_or_run words _ is.form (of_local _ _ _ _ _ _ held.form));
     faulty = λ t turns refusal held faulty. absurd (generated_or_run words _ is.form (of_process_run _ _ _ _ _ held.form));
     original = λ t turns out due held comes ends_so. absurd (generated_or_run words _ is.form (of_orig _ _ _ _ held.form));
-    checked = λ text out due held comes ends_so. absurd (generated_or_run words _ is.form (of_check _ held.form));
+    checked = λ text out due held comes ends_so. absurd (generated_or_run words _ is.form (of_check _ _ held.form));
   }
 
   pub calls_by_split : (files : Files) (e : Ending) → StaysDown reads reads' → StaysDown fwrites fwrites' → StaysDown failed failed' → Comes (Some files) e → Told e → IsBySplit words files status

@@ -4,20 +4,18 @@ use Rattle.pt_base.specs.Faults.{Rose}
 use Rattle.pt_base.specs.Files.{Files, Lacks}
 use Rattle.original.specs.Original as original
 use Rattle.original.proofs.OneOutcome.{outcome_is_one}
-use Rattle.flow_check.specs.Checked as flows
-use Rattle.flow_check.specs.Laws.{without_ways}
-use Rattle.flow_check.proofs.OneOutcome as flow_outcomes
 use Rattle.privtrans_app.specs.Words.{IsHelp, IsVersion, IsLocal, IsOrig, IsCheck, IsNoForm, IsPlain, IsRun, of_local, of_process_run, of_orig, of_check}
 use Rattle.pair_texts.specs.Start.{Texts}
 use Rattle.local_pair.specs.Local as pairs
 use Rattle.local_pair.proofs.OneOutcome as pair_outcomes
 use Rattle.privtrans_app.specs.Ending.{Ending, help, version, exit, accepted, split, worked, usage, missing, read_fault, write_fault, faults, trapped, refused, spent, link_fault, bad_peer, peer_ended, memory, status_of, Reports, StaysDown, EndsWith}
 use Rattle.privtrans_app.specs.Held.{IsHeld, AllHeld, IsReached}
+use Rattle.privtrans_app.specs.Words.{Manner}
 use Rattle.privtrans_app.specs.LocalRun as local
 use Rattle.privtrans_app.specs.CheckRun as check
 use Rattle.privtrans_app.specs.OrigRun as orig
 use Rattle.privtrans_app.specs.Causes.{Expects, ComesTo, IsByForm, IsByFiles}
-use Rattle.privtrans_app.proofs.CheckLemmas.{same_check, same_status}
+use Rattle.privtrans_app.proofs.CheckLemmas.{no_check_of, same_finds, same_status}
 use Rattle.privtrans_app.proofs.LocalLemmas as pair_runs
 use Rattle.privtrans_app.proofs.LocalLemmas.{same_comes}
 use Rattle.privtrans_app.proofs.OrigLemmas.{same_orig, same_ending}
@@ -65,7 +63,7 @@ pub more_than_one : (words names : List (List ℕ)) → IsRun words names → le
 more_than_one words _ (of_local p h q i m w form) one = one_or_seven (length words) one (ap length form.are)
 more_than_one words _ (of_process_run p h q i m form) one = one_or_six (length words) one (ap length form.are)
 more_than_one words _ (of_orig p h i m form) one = one_or_five (length words) one (ap length form.are)
-more_than_one words _ (of_check p form) one = one_or_two (length words) one (ap length form.are)
+more_than_one words _ (of_check m p form) one = one_or_two (length words) one (ap length form.are)
 
 pub no_help : (words names : List (List ℕ)) → IsRun words names → IsHelp words → ⊥
 no_help words names run is = more_than_one words names run (one_of_help words is)
@@ -76,17 +74,17 @@ no_version words names run is = more_than_one words names run (ap length is)
 pub two_runs : {p h q i p' h' i' : List ℕ} {m w m' : ℕ} (words : List (List ℕ)) → IsLocal words p h q i m w → IsOrig words p' h' i' m' → ⊥
 two_runs words a b = five_or_seven (length words) (ap length b.are) (ap length a.are)
 
-pub local_check : {p h q i p' : List ℕ} {m w : ℕ} (words : List (List ℕ)) → IsLocal words p h q i m w → IsCheck words p' → ⊥
+pub local_check : {p h q i p' : List ℕ} {m w : ℕ} {n : Manner} (words : List (List ℕ)) → IsLocal words p h q i m w → IsCheck words n p' → ⊥
 local_check words a b = two_or_seven (length words) (ap length b.are) (ap length a.are)
 
-pub orig_check : {p h i p' : List ℕ} {m : ℕ} (words : List (List ℕ)) → IsOrig words p h i m → IsCheck words p' → ⊥
+pub orig_check : {p h i p' : List ℕ} {m : ℕ} {n : Manner} (words : List (List ℕ)) → IsOrig words p h i m → IsCheck words n p' → ⊥
 orig_check words a b = two_or_five (length words) (ap length b.are) (ap length a.are)
 
 form_runs : (words names : List (List ℕ)) → IsNoForm words → IsPlain words → IsRun words names → ⊥
 form_runs words _ none plain (of_local p h q i m w form) = none.no_local p h q i m w form
 form_runs words _ none plain (of_process_run p h q i m form) = plain.no_run p h q i m form
 form_runs words _ none plain (of_orig p h i m form) = none.no_orig p h i m form
-form_runs words _ none plain (of_check p form) = none.no_check p form
+form_runs words _ none plain (of_check m p form) = no_check_of words none.no_check m p form
 
 -- the words name one list of files
 abbrev pub four : List ℕ → List ℕ → List ℕ → List ℕ → List (List ℕ)
@@ -109,7 +107,7 @@ are_in : (words names : List (List ℕ)) → IsRun words names → names ≡ nam
 are_in words _ (of_local p h q i m w form) = sym (ap names_in form.are)
 are_in words _ (of_process_run p h q i m form) = sym (ap names_in form.are)
 are_in words _ (of_orig p h i m form) = sym (ap names_in form.are)
-are_in words _ (of_check p form) = sym (ap names_in form.are)
+are_in words _ (of_check m p form) = sym (ap names_in form.are)
 
 same_names : (words names names' : List (List ℕ)) → IsRun words names → IsRun words names' → names ≡ names'
 same_names words names names' a b = are_in words names a ∙ sym (are_in words names' b)
@@ -151,7 +149,7 @@ orig_held words files t turns held = record {
 }
 
 pub check_held : (words : List (List ℕ)) (files : Files) (text : List ℕ) → check.AreHeld words (Some files) text → RunsHeld words files
-check_held words files text held = record { names = one_name held.program_name; form = of_check _ held.form; held = ((text, held.program), tt) }
+check_held words files text held = record { names = one_name held.program_name; form = of_check _ _ held.form; held = ((text, held.program), tt) }
 
 -- files of which something is expected
 expected_held : (words : List (List ℕ)) (files : Files) (bytes : List ℕ) (e : Ending) → Expects words (Some files) bytes e → RunsHeld words files
@@ -163,7 +161,7 @@ expected_held words files bytes e (inr (inr is)) = check_held words files is.1.0
 expects_run : (words : List (List ℕ)) (files : Option Files) (bytes : List ℕ) (e : Ending) → Expects words files bytes e → (names : List (List ℕ)) × IsRun words names
 expects_run words files bytes e (inl is) = (_, of_local _ _ _ _ _ _ is.1.3.form)
 expects_run words files bytes e (inr (inl is)) = (_, of_orig _ _ _ _ is.1.2.form)
-expects_run words files bytes e (inr (inr is)) = (_, of_check _ is.1.1.form)
+expects_run words files bytes e (inr (inr is)) = (_, of_check _ _ is.1.1.form)
 
 -- ---- what the files hold is one
 
@@ -196,16 +194,14 @@ expected_there words files t turns o e e' bytes held comes ends (inr (inl gives)
 expected_there words files t turns o e e' bytes held comes ends (inr (inr is)) = absurd (orig_check words held.form is.1.1.form)
 
 -- a text that is checked has one status
-check_there : (words : List (List ℕ)) (files : Files) (text : List ℕ) (o : flows.Outcome) (e e' : Ending) (bytes : List ℕ) → check.AreHeld words (Some files) text
-    → flows.ComesTo text o → check.IsEnding o e → check.Gives words (Some files) bytes e' → status_of e' ≡ status_of e
+check_there : (words : List (List ℕ)) (files : Files) (text : List ℕ) (o : check.Findings) (e e' : Ending) (bytes : List ℕ) → (held : check.AreHeld words (Some files) text)
+    → check.Finds held.manner held.program_name text o → check.IsEnding o e → check.Gives words (Some files) bytes e' → status_of e' ≡ status_of e
 check_there words files text o e e' bytes held comes ends gives =
-    let same : gives.1.0 ≡ text = same_check words files gives.1.0 text gives.1.1 held in
-    let there : flows.ComesTo text gives.0 = subst (λ x. flows.ComesTo x gives.0) same gives.1.2 in
-    let one : without_ways gives.0 ≡ without_ways o = flow_outcomes.outcome_is_one text gives.0 o there comes in
-    same_status gives.0 o e' e one gives.2 ends
+    let there : check.Finds held.manner held.program_name text gives.0 = same_finds words files gives.1.0 text gives.1.1 held gives.0 gives.1.2 in
+    same_status held.manner held.program_name text gives.0 o e' e there comes gives.2 ends
 
-checked_there : (words : List (List ℕ)) (files : Files) (text : List ℕ) (o : flows.Outcome) (e e' : Ending) (bytes : List ℕ) → check.AreHeld words (Some files) text
-    → flows.ComesTo text o → check.IsEnding o e → Expects words (Some files) bytes e' → status_of e' ≡ status_of e
+checked_there : (words : List (List ℕ)) (files : Files) (text : List ℕ) (o : check.Findings) (e e' : Ending) (bytes : List ℕ) → (held : check.AreHeld words (Some files) text)
+    → check.Finds held.manner held.program_name text o → check.IsEnding o e → Expects words (Some files) bytes e' → status_of e' ≡ status_of e
 checked_there words files text o e e' bytes held comes ends (inl is) = absurd (local_check words is.1.3.form held.form)
 checked_there words files text o e e' bytes held comes ends (inr (inl is)) = absurd (orig_check words is.1.2.form held.form)
 checked_there words files text o e e' bytes held comes ends (inr (inr gives)) = check_there words files text o e e' bytes held comes ends gives
@@ -358,15 +354,15 @@ module _ (words : List (List ℕ)) (reads reads' : ℕ) (o o' : Option (List ℕ
   by_original files memory r t turns out due held comes is came tells = wants (status_of due) tells
 
   -- a text that is checked
-  by_checked : (files : Files) (e : Ending) → StaysDown reads reads' → (text : List ℕ) (out : flows.Outcome) (due : Ending) → check.AreHeld words (Some files) text
-      → flows.ComesTo text out → check.IsEnding out due → Comes (Some files) e → Tells e → EndsWith status (status_of due)
-  by_checked files help r text out due held comes is came tells = absurd (no_help words _ (of_check _ held.form) came.0)
-  by_checked files version r text out due held comes is came tells = absurd (no_version words _ (of_check _ held.form) came.0)
+  by_checked : (files : Files) (e : Ending) → StaysDown reads reads' → (text : List ℕ) (out : check.Findings) (due : Ending) → (held : check.AreHeld words (Some files) text)
+      → check.Finds held.manner held.program_name text out → check.IsEnding out due → Comes (Some files) e → Tells e → EndsWith status (status_of due)
+  by_checked files help r text out due held comes is came tells = absurd (no_help words _ (of_check _ _ held.form) came.0)
+  by_checked files version r text out due held comes is came tells = absurd (no_version words _ (of_check _ _ held.form) came.0)
   by_checked files (exit s) r text out due held comes is came tells = ends_as (exit s) (status_of due) (checked_there words files text out due (exit s) came.0 held comes is came.1) tells
   by_checked files accepted r text out due held comes is came tells = ends_as accepted (status_of due) (checked_there words files text out due accepted came.0 held comes is came.1) tells
   by_checked files split r text out due held comes is came tells = absurd came
   by_checked files worked r text out due held comes is came tells = absurd came
-  by_checked files usage r text out due held comes is came tells = absurd (came.0.no_check _ held.form)
+  by_checked files usage r text out due held comes is came tells = absurd (no_check_of words came.0.no_check _ _ held.form)
   by_checked files (missing name) r text out due held comes is came tells = absurd (none_missing files name r (check_held words files text held) came.0 came.1)
   by_checked files (read_fault name) r text out due held comes is came tells = absurd (r came.1)
   by_checked files write_fault r text out due held comes is came tells = absurd (w came.0)

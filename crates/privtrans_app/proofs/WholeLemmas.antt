@@ -10,8 +10,6 @@ use Rattle.fault_lines.specs.Seen.{Seen}
 use Rattle.original.specs.Original as original
 use Rattle.original.specs.Original.{refused, ran}
 use Rattle.original.specs.Seen as originals
-use Rattle.flow_check.specs.Checked as flows
-use Rattle.flow_check.specs.Seen as checks
 use Rattle.program_split.specs.Split as halves
 use Rattle.program_split.specs.Seen as splits
 use Rattle.runs.specs.Run.{Expected}
@@ -27,6 +25,7 @@ use Rattle.local_pair.proofs.OneOutcome.{outcome_is_one}
 use Rattle.privtrans_app.specs.Words.{of_local, of_process_run, of_orig, of_check}
 use Rattle.privtrans_app.specs.Ending as endings
 use Rattle.privtrans_app.specs.Ending.{Ending, help, version, exit, accepted, split, worked, usage, missing, read_fault, write_fault, faults, trapped, spent, link_fault, bad_peer, peer_ended, memory, status_of, report_of, Reports, StaysDown}
+use Rattle.privtrans_app.specs.Words.{Manner}
 use Rattle.privtrans_app.specs.CheckRun as check
 use Rattle.privtrans_app.specs.LocalRun as local
 use Rattle.privtrans_app.specs.OrigRun as orig
@@ -39,7 +38,7 @@ use Rattle.privtrans_app.specs.Calls.{AreSplit, ComesTo}
 use Rattle.privtrans_app.specs.Whole.{Told, Leaves, AreKept}
 use Rattle.privtrans_app.proofs.CompleteLemmas.{more_than_one, no_help, no_version, two_runs, local_check, orig_check, not_lacking, RunsHeld, local_held, orig_held, check_held}
 use Rattle.privtrans_app.proofs.CallLemmas.{generated_or_run, generated_or_split, process_or_check, process_or_local, process_or_orig, split_or_run, split_or_slave, some_is}
-use Rattle.privtrans_app.proofs.CheckLemmas.{same_check}
+use Rattle.privtrans_app.proofs.CheckLemmas.{no_check_of, same_finds}
 use Rattle.privtrans_app.proofs.LocalLemmas.{same_comes}
 use Rattle.privtrans_app.proofs.OrigLemmas.{same_orig}
 use Rattle.privtrans_app.proofs.ProcessLemmas.{PairTold, Reported, keeps_appends, process_faults, process_told, reported, twelve}
@@ -57,8 +56,9 @@ same_names words n n' a b = let same = sym a.are ∙ b.are in λ k. record { pro
 abbrev OrigTold : original.Texts → ℕ → Option (List ℕ) → Option (List ℕ) → Option (List ℕ) → Option (List ℕ) → ℕ → Type 0
 OrigTold t turns o o' report report' status = (status ≡ 12) ⊎ ((s : Seen) × originals.Gives t turns s × Told s o o' report report' status)
 
-abbrev CheckTold : List ℕ → Option (List ℕ) → Option (List ℕ) → Option (List ℕ) → Option (List ℕ) → ℕ → Type 0
-CheckTold text o o' report report' status = (status ≡ 12) ⊎ ((s : Seen) × checks.Gives text s × Told s o o' report report' status)
+-- what the words of a check have told of a text
+abbrev CheckTold : Manner → List ℕ → List ℕ → Option (List ℕ) → Option (List ℕ) → Option (List ℕ) → Option (List ℕ) → ℕ → Type 0
+CheckTold manner name text o o' report report' status = (status ≡ 12) ⊎ ((f : check.Findings) × check.Finds manner name text f × Told (check.shown f) o o' report report' status)
 
 abbrev pub seen : List ℕ → Ending → Seen
 seen bytes e = record { out = bytes; report = report_of e; status = status_of e }
@@ -73,9 +73,9 @@ orig_seen : (o : original.Outcome) (bytes : List ℕ) (e : Ending) → orig.IsEn
 orig_seen (refused refusal) bytes e is b = λ k. seen (b k) (is k)
 orig_seen (ran bytes' end) bytes e is b = run_seen bytes bytes' end e is b
 
-check_seen : (o : flows.Outcome) (bytes : List ℕ) (e : Ending) → check.IsEnding o e → bytes ≡ check.bytes_of o → seen bytes e ≡ checks.shown o
-check_seen (flows.refused refusal) bytes e is b = λ k. seen (b k) (is k)
-check_seen (flows.checked lines) bytes e is b = λ k. seen (b k) (is k)
+check_seen : (f : check.Findings) (bytes : List ℕ) (e : Ending) → check.IsEnding f e → bytes ≡ check.bytes_of f → seen bytes e ≡ check.shown f
+check_seen (check.faulty report) bytes e is b = λ k. seen (b k) (is k)
+check_seen (check.clean lines) bytes e is b = λ k. seen (b k) (is k)
 
 end_seen : (bytes bytes' : List ℕ) (end : ends.Ended) (e : Ending) → e ≡ local.ending_at end → bytes ≡ bytes' → seen bytes e ≡ pair_views.seen_of bytes' end
 end_seen bytes bytes' (ends.exit status) e is b = λ k. seen (b k) (is k)
@@ -105,14 +105,13 @@ module _ (words : List (List ℕ)) (files : Files) (o o' report report' : Option
       let there : original.ComesTo t turns gives.0 = subst (λ m. original.ComesTo t m gives.0) same.1 (subst (λ x. original.ComesTo x gives.1.1 gives.0) same.0 gives.1.3) in
       inr (seen bytes e, (gives.0, there, orig_seen gives.0 bytes e gives.2 gives.3), record { writes = wrote; reports = tells.1; ends = tells.0 })
 
-  check_told : (text : List ℕ) → check.AreHeld words (Some files) text → (bytes : List ℕ) (e : Ending) → Expects words (Some files) bytes e → Appends o o' bytes → Reported e report report' status → CheckTold text o o' report report' status
+  check_told : (text : List ℕ) (held : check.AreHeld words (Some files) text) (bytes : List ℕ) (e : Ending) → Expects words (Some files) bytes e → Appends o o' bytes → Reported e report report' status → CheckTold held.manner held.program_name text o o' report report' status
   check_told text held bytes e (inl is) wrote tells = absurd (local_check words is.1.3.form held.form)
   check_told text held bytes e (inr (inl is)) wrote tells = absurd (orig_check words is.1.2.form held.form)
   check_told text held bytes e (inr (inr gives)) wrote (inr is) = inl is
   check_told text held bytes e (inr (inr gives)) wrote (inl tells) =
-      let same : gives.1.0 ≡ text = same_check words files gives.1.0 text gives.1.1 held in
-      let there : flows.ComesTo text gives.0 = subst (λ x. flows.ComesTo x gives.0) same gives.1.2 in
-      inr (seen bytes e, (gives.0, there, check_seen gives.0 bytes e gives.2 gives.3), record { writes = wrote; reports = tells.1; ends = tells.0 })
+      let there : check.Finds held.manner held.program_name text gives.0 = same_finds words files gives.1.0 text gives.1.1 held gives.0 gives.1.2 in
+      inr (gives.0, there, subst (λ (s : Seen). Told s o o' report report' status) (check_seen gives.0 bytes e gives.2 gives.3) (record { writes = wrote; reports = tells.1; ends = tells.0 }))
 
 -- ---- each ending of a run or a check
 
@@ -169,14 +168,14 @@ module _ (words : List (List ℕ)) (files : Files) (reads reads' : ℕ) (o o' : 
   by_orig t turns held peer_ended came tells = absurd came
   by_orig t turns held memory came tells = inl (twelve report report' status tells)
 
-  by_check : (text : List ℕ) → check.AreHeld words (Some files) text → (e : Ending) → Comes e → Reported e report report' status → CheckTold text o o' report report' status
-  by_check text held help came tells = absurd (no_help words _ (of_check _ held.form) came.0)
-  by_check text held version came tells = absurd (no_version words _ (of_check _ held.form) came.0)
+  by_check : (text : List ℕ) (held : check.AreHeld words (Some files) text) (e : Ending) → Comes e → Reported e report report' status → CheckTold held.manner held.program_name text o o' report report' status
+  by_check text held help came tells = absurd (no_help words _ (of_check _ _ held.form) came.0)
+  by_check text held version came tells = absurd (no_version words _ (of_check _ _ held.form) came.0)
   by_check text held (exit s) came tells = check_told words files o o' report report' status text held came.0 (exit s) came.1 came.2 tells
   by_check text held accepted came tells = check_told words files o o' report report' status text held came.0 accepted came.1 came.2 tells
   by_check text held split came tells = absurd came
   by_check text held worked came tells = absurd came
-  by_check text held usage came tells = absurd (came.0.no_check _ held.form)
+  by_check text held usage came tells = absurd (no_check_of words came.0.no_check _ _ held.form)
   by_check text held (missing name) came tells = absurd (none_missing name (check_held words files text held) came)
   by_check text held (read_fault name) came tells = absurd (r came.1)
   by_check text held write_fault came tells = absurd (w came.0)
@@ -266,7 +265,7 @@ module _ (untouched : Type 0) (moves : List Event → List ℕ → Type 0) (brea
     paired = λ t turns window held. absurd (split_or_run words _ is.names is.form (of_local _ _ _ _ _ _ held.form));
     served = λ t turns refusal held faulty. absurd (split_or_run words _ is.names is.form (of_process_run _ _ _ _ _ held.form));
     original = λ t turns held. absurd (split_or_run words _ is.names is.form (of_orig _ _ _ _ held.form));
-    checked = λ text held. absurd (split_or_run words _ is.names is.form (of_check _ held.form));
+    checked = λ text held. absurd (split_or_run words _ is.names is.form (of_check _ _ held.form));
     split = λ names text form held.
         let named : is.names ≡ names = same_names words is.names names is.form form in
         by_split names files files' reads reads' fwrites fwrites' o o' report report' status r fw is.keeps text held e
@@ -284,14 +283,14 @@ module _ (untouched : Type 0) (moves : List Event → List ℕ → Type 0) (brea
     paired = λ t turns window held. absurd (more_than_one words _ (of_local _ _ _ _ _ _ held.form) (ap length is.form));
     served = λ t turns refusal held faulty. absurd (more_than_one words _ (of_process_run _ _ _ _ _ held.form) (ap length is.form));
     original = λ t turns held. absurd (more_than_one words _ (of_orig _ _ _ _ held.form) (ap length is.form));
-    checked = λ text held. absurd (more_than_one words _ (of_check _ held.form) (ap length is.form));
+    checked = λ text held. absurd (more_than_one words _ (of_check _ _ held.form) (ap length is.form));
     split = λ names text form held. absurd (split_or_slave words names form is.form);
   }
   kept e (inr (inr (inr (inr is)))) tells = record {
     paired = λ t turns window held. absurd (generated_or_run words _ is.form (of_local _ _ _ _ _ _ held.form));
     served = λ t turns refusal held faulty. absurd (generated_or_run words _ is.form (of_process_run _ _ _ _ _ held.form));
     original = λ t turns held. absurd (generated_or_run words _ is.form (of_orig _ _ _ _ held.form));
-    checked = λ text held. absurd (generated_or_run words _ is.form (of_check _ held.form));
+    checked = λ text held. absurd (generated_or_run words _ is.form (of_check _ _ held.form));
     split = λ names text form held. absurd (generated_or_split words names is.form form);
   }
 

@@ -5,7 +5,6 @@ use Rattle.pt_base.specs.Faults.{Rose}
 use Rattle.pt_base.specs.Files.{Files, Lacks}
 use Rattle.pt_base.specs.Told.{AppendsPart}
 use Rattle.original.specs.Original as original
-use Rattle.flow_check.specs.Checked as flows
 use Rattle.pair_texts.specs.Start.{Texts, Refusal, IsRefused}
 use Rattle.local_pair.specs.Local as pairs
 use Rattle.privtrans_app.specs.Words.{IsHelp, IsVersion, IsNoForm, IsPlain}
@@ -76,5 +75,5 @@ pub record IsByFiles (words : List (List ℕ)) (files : Files) (status : ℕ) : 
   pub faulty : (t : Texts) (turns : ℕ) (refusal : Refusal) → process.AreHeld words (Some files) t turns → IsRefused t refusal → EndsWith status 5
   pub original : (t : original.Texts) (turns : ℕ) (o : original.Outcome) (e : Ending)
       → orig.AreHeld words (Some files) t turns → original.ComesTo t turns o → orig.IsEnding o e → EndsWith status (status_of e)
-  pub checked : (text : List ℕ) (o : flows.Outcome) (e : Ending)
-      → check.AreHeld words (Some files) text → flows.ComesTo text o → check.IsEnding o e → EndsWith status (status_of e)
+  pub checked : (text : List ℕ) (f : check.Findings) (e : Ending)
+      → (held : check.AreHeld words (Some files) text) → check.Finds held.manner held.program_name text f → check.IsEnding f e → EndsWith status (status_of e)

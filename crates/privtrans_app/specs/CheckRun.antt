@@ -1,31 +1,55 @@
--- What the file of a check comes to.
-use Rattle.std.specs.Prelude.{◌≡◌, ℕ, List, [], Option}
+-- What the file of a check comes to, told by lines or explained in blocks.
+use Rattle.std.specs.Prelude.{◌≡◌, ℕ, List, [], Option, codes}
 use Rattle.pt_base.specs.Files.{Files, HoldsAt}
+use Rattle.fault_lines.specs.Seen.{Seen, faulty as faulty_seen}
 use Rattle.flow_check.specs.Checked as flows
 use Rattle.flow_check.specs.Checked.{Outcome, refused, checked, lines_of}
-use Rattle.privtrans_app.specs.Words.{IsCheck}
+use Rattle.explaining.specs.Explains.{Explains, IsHeld}
+use Rattle.privtrans_app.specs.Words.{IsCheck, Manner, by_lines, in_blocks}
 use Rattle.privtrans_app.specs.Ending.{Ending, accepted, faults}
 
 -- the words are a check of a file that holds this text, where that is told
 pub record AreHeld (words : List (List ℕ)) (files : Option Files) (text : List ℕ) : Type 0 where
+  pub manner : Manner
   pub program_name : List ℕ
-  pub form : IsCheck words program_name
+  pub form : IsCheck words manner program_name
   pub program : HoldsAt files program_name text
 
--- what a text comes to ends the call so
-abbrev pub IsEnding : Outcome → Ending → Type 0
-IsEnding (refused refusal) e = e ≡ faults (lines_of refusal)
-IsEnding (checked lines) e = e ≡ accepted
+-- What is found in a text: faults, which a report tells, or none, and then lines show its privileged variables.
+pub data Findings : Type 0 where
+  faulty : List ℕ → Findings
+  clean : List ℕ → Findings
+
+-- what a check finds
+abbrev pub found : Outcome → Findings
+found (refused refusal) = faulty (lines_of refusal)
+found (checked lines) = clean lines
+
+-- in the text of a file of this name this is found, told in this manner
+abbrev pub Finds : Manner → List ℕ → List ℕ → Findings → Type 0
+Finds by_lines name text f = (o : Outcome) × flows.ComesTo text o × (f ≡ found o)
+Finds in_blocks name text (faulty report) = Explains name text report
+Finds in_blocks name text (clean lines) = IsHeld name text lines
+
+-- what is found ends the call so
+abbrev pub IsEnding : Findings → Ending → Type 0
+IsEnding (faulty report) e = e ≡ faults report
+IsEnding (clean lines) e = e ≡ accepted
 
 -- the bytes that are written
-abbrev pub bytes_of : Outcome → List ℕ
-bytes_of (refused refusal) = []
-bytes_of (checked lines) = lines
+abbrev pub bytes_of : Findings → List ℕ
+bytes_of (faulty report) = []
+bytes_of (clean lines) = lines
 
--- the file holds a text that comes to this
-abbrev pub ComesTo : List (List ℕ) → Option Files → Outcome → Type 0
-ComesTo words files o = (text : List ℕ) × AreHeld words files text × flows.ComesTo text o
+-- what is seen of it, whole
+abbrev pub shown : Findings → Seen
+shown (faulty report) = faulty_seen report
+shown (clean lines) = record { out = lines; report = codes "accepted\n"; status = 0 }
+
+-- the file holds a text in which this is found
+abbrev pub ComesTo : List (List ℕ) → Option Files → Findings → Type 0
+ComesTo words files f = (text : List ℕ) × (held : AreHeld words files text) × Finds held.manner held.program_name text f
 
 -- the file holds a text that comes to these bytes and this ending
 abbrev pub Gives : List (List ℕ) → Option Files → List ℕ → Ending → Type 0
-Gives words files bytes e = (o : Outcome) × ComesTo words files o × IsEnding o e × (bytes ≡ bytes_of o)
+Gives words files bytes e = (f : Findings) × ComesTo words files f × IsEnding f e × (bytes ≡ bytes_of f)

@@ -15,6 +15,8 @@ help_text = codes "privtrans runs an annotated C program as a privileged monitor
     ++ codes "    turns (0 to 4294967295), where no policy is asked\n"
     ++ codes "privtrans check PROG\n"
     ++ codes "    says which variables of the program may hold secrets, or which rules it breaks\n"
+    ++ codes "privtrans explain PROG\n"
+    ++ codes "    says the same for people: each place with its line, how a secret came there, and a mend\n"
     ++ codes "privtrans split PROG SLAVE MONITOR\n"
     ++ codes "    writes the two halves of the program, each as a C text, to these two files\n"
     ++ codes "privtrans gen SEED COUNT\n"

@@ -3,11 +3,13 @@ pub mod Causes
 pub mod CheckRun
 pub mod Ending
 pub mod EndingSeen
+pub mod FindingsSeen
 pub mod GeneratedRun
 pub mod Held
 pub mod Help
 pub mod Interleaving
 pub mod LocalRun
+pub mod Once
 pub mod OrigRun
 pub mod OrigTexts
 pub mod PairTexts

@@ -5,7 +5,6 @@ use Rattle.pt_base.specs.Files.{Files, SameFiles, HoldsAt}
 use Rattle.fault_lines.specs.Seen.{Seen, faulty}
 use Rattle.original.specs.Original as original
 use Rattle.original.specs.Seen as originals
-use Rattle.flow_check.specs.Seen as checks
 use Rattle.program_split.specs.Split as halves
 use Rattle.program_split.specs.Split.{refused, split}
 use Rattle.program_split.specs.Seen as splits
@@ -29,7 +28,7 @@ abbrev pub Leaves : Names → Files → Option Files → halves.Outcome → Type
 Leaves names files files' (refused refusal) = SameFiles (Some files) files'
 Leaves names files files' (split slave monitor) = HoldsAt files' names.slave slave × HoldsAt files' names.monitor monitor
 
--- Memory was wanting, or: of `local`, `orig` and `check`, what the files' texts give is told; of `run`, their faults, where a
+-- Memory was wanting, or: of `local`, `orig`, `check` and `explain`, what the files' texts give is told; of `run`, their faults, where a
 -- stage has one; of `split`, what they give, and the files hold the halves.
 pub record AreKept (words : List (List ℕ)) (files : Files) (files' : Option Files) (out out' report report' : Option (List ℕ)) (status : ℕ) : Type 0 where
   pub paired : (t : Texts) (turns window : ℕ) → local.AreHeld words (Some files) t turns window
@@ -38,7 +37,7 @@ pub record AreKept (words : List (List ℕ)) (files : Files) (files' : Option Fi
       → (status ≡ 12) ⊎ ((other : Refusal) × IsRefused t other × Told (faulty (lines_of other)) out out' report report' status)
   pub original : (t : original.Texts) (turns : ℕ) → orig.AreHeld words (Some files) t turns
       → (status ≡ 12) ⊎ ((s : Seen) × originals.Gives t turns s × Told s out out' report report' status)
-  pub checked : (text : List ℕ) → check.AreHeld words (Some files) text
-      → (status ≡ 12) ⊎ ((s : Seen) × checks.Gives text s × Told s out out' report report' status)
+  pub checked : (text : List ℕ) → (held : check.AreHeld words (Some files) text)
+      → (status ≡ 12) ⊎ ((f : check.Findings) × check.Finds held.manner held.program_name text f × Told (check.shown f) out out' report report' status)
   pub split : (names : Names) (text : List ℕ) → AreSplit words names → files names.program ≡ Some text
       → (status ≡ 12) ⊎ ((o : halves.Outcome) × halves.ComesTo text o × Told (splits.shown o) out out' report report' status × Leaves names files files' o)

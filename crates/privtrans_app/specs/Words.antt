@@ -3,6 +3,8 @@ use Rattle.std.specs.Prelude.{◌≡◌, ◌≢◌, ◌⊎◌, ◌≤◌, ℕ, L
 use Rattle.std.specs.Fmt.{decimal}
 use Rattle.privtrans_app.specs.declared.words.Form.{Form}
 use Rattle.privtrans_app.specs.declared.words.Form.TheVariants.{Help, Version, Local, Orig, Check}
+use Rattle.privtrans_app.specs.declared.words.Manner as code
+use Rattle.privtrans_app.specs.declared.words.Manner.TheVariants.{Lines, Blocks}
 use Rattle.privtrans_app.specs.declared.words.Outward.{Outward}
 use Rattle.privtrans_app.specs.declared.words.Outward.TheVariants.{Generated, Split, Run, Slave}
 
@@ -24,9 +26,23 @@ pub record IsOrig (words : List (List ℕ)) (program host input : List ℕ) (tur
   pub are : words ≡ codes "orig" ∷ program ∷ host ∷ input ∷ decimal turns ∷ []
   pub turns_most : turns ≤ 4294967295
 
--- `check` and the name of a file
-pub record IsCheck (words : List (List ℕ)) (program : List ℕ) : Type 0 where
-  pub are : words ≡ codes "check" ∷ program ∷ []
+-- In which manner it is told what a check finds: by a line each, or in blocks for people.
+pub data Manner : Type 0 where
+  by_lines : Manner
+  in_blocks : Manner
+
+abbrev pub manner_of : code.Manner → Manner
+manner_of Lines = by_lines
+manner_of Blocks = in_blocks
+
+-- the word that asks for it
+abbrev pub word_of : Manner → List ℕ
+word_of by_lines = codes "check"
+word_of in_blocks = codes "explain"
+
+-- `check` or `explain`, and the name of a file
+pub record IsCheck (words : List (List ℕ)) (manner : Manner) (program : List ℕ) : Type 0 where
+  pub are : words ≡ word_of manner ∷ program ∷ []
 
 -- `split` and the names of three files, no two of them equal
 pub record IsSplit (words : List (List ℕ)) (program slave monitor : List ℕ) : Type 0 where
@@ -73,7 +89,7 @@ abbrev pub IsNoOrig : List (List ℕ) → Type 0
 IsNoOrig words = (program host input : List ℕ) (turns : ℕ) → IsOrig words program host input turns → ⊥
 
 abbrev pub IsNoCheck : List (List ℕ) → Type 0
-IsNoCheck words = (program : List ℕ) → IsCheck words program → ⊥
+IsNoCheck words = ((program : List ℕ) → IsCheck words by_lines program → ⊥) × ((program : List ℕ) → IsCheck words in_blocks program → ⊥)
 
 -- the words name no files to run in this process or to check
 abbrev pub IsNoRun : List (List ℕ) → Type 0
@@ -94,7 +110,7 @@ pub data IsRun (words : List (List ℕ)) : List (List ℕ) → Type 0 where
   of_process_run : (program host policy input : List ℕ) (turns : ℕ) → IsProcessRun words program host policy input turns
       → IsRun words (program ∷ host ∷ policy ∷ input ∷ [])
   of_orig : (program host input : List ℕ) (turns : ℕ) → IsOrig words program host input turns → IsRun words (program ∷ host ∷ input ∷ [])
-  of_check : (program : List ℕ) → IsCheck words program → IsRun words (program ∷ [])
+  of_check : (manner : Manner) (program : List ℕ) → IsCheck words manner program → IsRun words (program ∷ [])
 
 -- the words are of this plain form
 abbrev pub IsForm : List (List ℕ) → Form → Type 0
@@ -102,7 +118,7 @@ IsForm words Help = IsHelp words
 IsForm words Version = IsVersion words
 IsForm words (Local l) = IsLocal words l.names.program.now l.names.host.now l.names.policy.now l.names.input.now l.turns l.window
 IsForm words (Orig o) = IsOrig words o.program.now o.host.now o.input.now o.turns
-IsForm words (Check program) = IsCheck words program.now
+IsForm words (Check c) = IsCheck words (manner_of c.manner) c.program.now
 
 -- the words are of this form that isn't plain
 abbrev pub IsOutward : List (List ℕ) → Outward → Type 0

@@ -1,43 +1,78 @@
-// A check: the file is read, and the lines of the program's privileged variables go to out.
-ghost use Rattle.std.specs.Prelude.{◌≡◌, ◌≤◌, ℕ, true, List};
+// A check: the file is read, and what tells of the program's privileged variables goes to out.
+ghost use Rattle.std.specs.Prelude.{◌≡◌, ◌≤◌, ◌+◌, ℕ, true, List, IfOk};
 ghost use Rattle.pt_base.specs.Files.{SameFiles};
 ghost use Rattle.privtrans_app.specs.Causes.{ComesTo};
-ghost use Rattle.privtrans_app.specs.Ending.{is_silent};
+ghost use Rattle.privtrans_app.specs.Ending.{is_silent, status_of};
 ghost use Rattle.privtrans_app.specs.EndingSeen.{ending_seen};
-ghost use Rattle.privtrans_app.specs.Words.{IsCheck};
+ghost use Rattle.privtrans_app.specs.FindingsSeen.{AreFound};
+ghost use Rattle.privtrans_app.specs.Once.{FailsOnce};
+ghost use Rattle.privtrans_app.specs.Words.{IsCheck, manner_of};
 
 use crate::ending::Ending;
 use crate::reading::read_text;
+use crate::words::{CheckWords, Manner};
 use crate::writing::put;
+use explaining::{Explained, explain};
 use flow_check::{Outcome, outcome_of};
 use pt_base::{Folder, Sink, Watch};
-use std::alloc::Global;
+use std::alloc::{AllocError, Global};
 use std::thread::Threads;
+
+/// What is found in a text.
+pub(crate) enum Findings {
+    /// Faults, and what tells of them.
+    Faulty(Vec<u8>),
+    /// None, and what tells of the privileged variables.
+    Clean(Vec<u8>),
+}
+
+// What is found in a text, as these words have it told.
+fn find<R: Threads + Sync, W: Watch>(
+    rt: &R,
+    alloc: Global,
+    words: &CheckWords<'_>,
+    text: &[u8],
+    watch: &W,
+) -> Result<Findings, AllocError>
+    ensures { IfOk result (AreFound (manner_of words.now.manner) words.now.program.now text.now) }
+{
+    match words.manner {
+        Manner::Lines => match outcome_of(rt, alloc, text, watch)? {
+            Outcome::Refused(lines) => Ok(Findings::Faulty(lines)),
+            Outcome::Checked(lines) => Ok(Findings::Clean(lines)),
+        },
+        Manner::Blocks => match explain(rt, alloc, words.program.as_bytes(), text, watch)? {
+            Explained::Refused(blocks) => Ok(Findings::Faulty(blocks)),
+            Explained::Checked(lines) => Ok(Findings::Clean(lines)),
+        },
+    }
+}
 
 /// Checks the program in the file of this name.
 pub(crate) fn check<'a, R: Threads + Sync, F: Folder, K: Sink, W: Watch>(
     rt: &R,
     alloc: Global,
-    program: &'a str,
+    words: &CheckWords<'a>,
     folder: &mut F,
     out: &mut K,
     watch: &W,
 ) -> Ending<'a>
-    ensures ending { (given : List (List ℕ)) → IsCheck given program.entry.now →
+    ensures ending { (given : List (List ℕ)) → IsCheck given (manner_of words.now.manner) words.now.program.now →
         ComesTo given (F.files folder.old) (F.read_faults folder.old) (F.read_faults folder.new)
         (K.taken out.old) (K.taken out.new) (K.faults out.old) (K.faults out.new) (ending_seen result) }
     ensures silent { is_silent (ending_seen result) ≡ true → out.new ≡ out.old }
     ensures same { SameFiles (F.files folder.old) (F.files folder.new) }
     ensures writes { F.write_faults folder.new ≡ F.write_faults folder.old }
     ensures later { (F.read_faults folder.old ≤ F.read_faults folder.new) × (K.faults out.old ≤ K.faults out.new) }
+    ensures once { FailsOnce (F.read_faults folder.old + K.faults out.old) (F.read_faults folder.new + K.faults out.new) (status_of (ending_seen result)) }
 {
-    let text = match read_text(alloc, folder, program) {
+    let text = match read_text(alloc, folder, words.program) {
         Ok(text) => text,
         Err(ending) => return ending,
     };
-    match outcome_of(rt, alloc, &text, watch) {
-        Ok(Outcome::Refused(lines)) => Ending::Faults(lines),
-        Ok(Outcome::Checked(lines)) => put(alloc, out, &lines, Ending::Accepted),
+    match find(rt, alloc, words, &text, watch) {
+        Ok(Findings::Faulty(report)) => Ending::Faults(report),
+        Ok(Findings::Clean(lines)) => put(alloc, out, &lines, Ending::Accepted),
         Err(_) => Ending::Memory,
     }
 }

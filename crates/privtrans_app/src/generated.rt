@@ -5,6 +5,7 @@ ghost use Rattle.privtrans_app.specs.Ending.{is_silent, status_of};
 ghost use Rattle.privtrans_app.specs.EndingSeen.{ending_seen};
 ghost use Rattle.privtrans_app.specs.GeneratedRun.{ComesTo, IsInterleaved};
 ghost use Rattle.privtrans_app.specs.Interleaving.{IsOfRun};
+ghost use Rattle.privtrans_app.specs.Once.{FailsOnce};
 
 use crate::ending::Ending;
 use crate::local::ending_of;
@@ -32,6 +33,7 @@ pub(crate) fn generated<'a, R: Threads + Sync, K: Sink, C: Chooser, W: Watch>(
     ensures untaken { is_silent (ending_seen result) ≡ true → AreTaken [] (C.answers chooser.old) (C.answers chooser.new) }
     ensures silent { is_silent (ending_seen result) ≡ true → out.new ≡ out.old }
     ensures later { K.faults out.old ≤ K.faults out.new }
+    ensures once { FailsOnce (K.faults out.old) (K.faults out.new) (status_of (ending_seen result)) }
 {
     match outcome_of(rt, alloc, words.seed, words.count, chooser, watch) {
         Ok(Outcome::Refused(lines)) => Ending::Faults(lines),

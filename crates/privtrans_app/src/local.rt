@@ -1,14 +1,15 @@
 // Both halves in one process: the files are read, the pair of their texts is run, and what its hosts write
 // goes to out.
-ghost use Rattle.std.specs.Prelude.{◌≡◌, ◌≤◌, [], ℕ, true, false, List};
+ghost use Rattle.std.specs.Prelude.{◌≡◌, ◌≤◌, ◌+◌, [], ℕ, true, false, List};
 ghost use Rattle.link_talks.specs.Choosing.{AreTaken};
 ghost use Rattle.pt_base.specs.Files.{SameFiles};
 ghost use Rattle.local_pair.specs.OutcomeSeen.{ended_seen};
 ghost use Rattle.privtrans_app.specs.Causes.{ComesTo};
-ghost use Rattle.privtrans_app.specs.Ending.{is_silent};
+ghost use Rattle.privtrans_app.specs.Ending.{is_silent, status_of};
 ghost use Rattle.privtrans_app.specs.EndingSeen.{ending_seen};
 ghost use Rattle.privtrans_app.specs.Interleaving.{TakesTurns};
 ghost use Rattle.privtrans_app.specs.LocalRun.{ending_at};
+ghost use Rattle.privtrans_app.specs.Once.{FailsOnce};
 ghost use Rattle.privtrans_app.specs.Words.{IsLocal};
 
 use crate::ending::Ending;
@@ -66,6 +67,7 @@ pub(crate) fn local<'a, R: Threads + Sync, F: Folder, K: Sink, C: Chooser, W: Wa
     ensures same { SameFiles (F.files folder.old) (F.files folder.new) }
     ensures writes { F.write_faults folder.new ≡ F.write_faults folder.old }
     ensures later { (F.read_faults folder.old ≤ F.read_faults folder.new) × (K.faults out.old ≤ K.faults out.new) }
+    ensures once { FailsOnce (F.read_faults folder.old + K.faults out.old) (F.read_faults folder.new + K.faults out.new) (status_of (ending_seen result)) }
 {
     let texts = match read_texts(alloc, folder, &words.names) {
         Ok(texts) => texts,

@@ -1,11 +1,12 @@
 // The original: the files are read, the program is run as it was written, and what its hosts write goes
 // to out.
-ghost use Rattle.std.specs.Prelude.{◌≡◌, ◌≤◌, ℕ, true, false, List, IfOk, IfErr};
+ghost use Rattle.std.specs.Prelude.{◌≡◌, ◌≤◌, ◌+◌, ℕ, true, false, List, IfOk, IfErr, OnOk};
 ghost use Rattle.pt_base.specs.Files.{SameFiles};
 ghost use Rattle.original.specs.OutcomeSeen.{end_of};
 ghost use Rattle.privtrans_app.specs.Causes.{ComesTo};
-ghost use Rattle.privtrans_app.specs.Ending.{is_silent};
+ghost use Rattle.privtrans_app.specs.Ending.{is_silent, status_of};
 ghost use Rattle.privtrans_app.specs.EndingSeen.{ending_seen};
+ghost use Rattle.privtrans_app.specs.Once.{FailsOnce};
 ghost use Rattle.privtrans_app.specs.OrigRun.{EndsAs};
 ghost use Rattle.privtrans_app.specs.OrigTexts.{orig_texts_of};
 ghost use Rattle.privtrans_app.specs.Reading.{IsRefusal, AreOrigFirst, orig_names};
@@ -40,6 +41,8 @@ fn read_texts<'a, F: Folder>(
     ensures same { SameFiles (F.files folder.old) (F.files folder.new) }
     ensures writes { F.write_faults folder.new ≡ F.write_faults folder.old }
     ensures later { F.read_faults folder.old ≤ F.read_faults folder.new }
+    ensures once { IfErr result (λ e. FailsOnce (F.read_faults folder.old) (F.read_faults folder.new) (status_of (ending_seen e))) }
+    ensures stays { OnOk result (F.read_faults folder.new ≡ F.read_faults folder.old) }
 {
     let program = read_text(alloc, folder, words.program)?;
     let host = read_text(alloc, folder, words.host)?;
@@ -81,6 +84,7 @@ pub(crate) fn orig<'a, R: Threads + Sync, F: Folder, K: Sink, W: Watch>(
     ensures same { SameFiles (F.files folder.old) (F.files folder.new) }
     ensures writes { F.write_faults folder.new ≡ F.write_faults folder.old }
     ensures later { (F.read_faults folder.old ≤ F.read_faults folder.new) × (K.faults out.old ≤ K.faults out.new) }
+    ensures once { FailsOnce (F.read_faults folder.old + K.faults out.old) (F.read_faults folder.new + K.faults out.new) (status_of (ending_seen result)) }
 {
     let texts = match read_texts(alloc, folder, words) {
         Ok(texts) => texts,

@@ -1,7 +1,9 @@
 // The text of a file.
-ghost use Rattle.std.specs.Prelude.{◌≡◌, ◌≤◌, IfOk, IfErr};
+ghost use Rattle.std.specs.Prelude.{◌≡◌, ◌≤◌, IfOk, IfErr, OnOk};
 ghost use Rattle.pt_base.specs.Files.{SameFiles, GivesFirst};
+ghost use Rattle.privtrans_app.specs.Ending.{status_of};
 ghost use Rattle.privtrans_app.specs.EndingSeen.{ending_seen};
+ghost use Rattle.privtrans_app.specs.Once.{FailsOnce};
 ghost use Rattle.privtrans_app.specs.Reading.{IsReadRefusal};
 
 use crate::ending::Ending;
@@ -23,6 +25,8 @@ pub(crate) fn read_text<'a, F: Folder>(
     ensures same { SameFiles (F.files folder.old) (F.files folder.new) }
     ensures writes { F.write_faults folder.new ≡ F.write_faults folder.old }
     ensures later { F.read_faults folder.old ≤ F.read_faults folder.new }
+    ensures once { IfErr result (λ e. FailsOnce (F.read_faults folder.old) (F.read_faults folder.new) (status_of (ending_seen e))) }
+    ensures stays { OnOk result (F.read_faults folder.new ≡ F.read_faults folder.old) }
 {
     match folder.read(alloc, name, MOST_BYTES + 1) {
         Ok(bytes) => Ok(bytes),

@@ -1,9 +1,10 @@
 // Both halves in two processes: the files are read, the slave of their pair is started as a process of its own,
 // and what the pair's hosts write goes to out as it comes.
-ghost use Rattle.std.specs.Prelude.{◌≡◌, ◌≤◌, ℕ, true, false, List};
+ghost use Rattle.std.specs.Prelude.{◌≡◌, ◌≤◌, ◌+◌, ℕ, true, false, List};
 ghost use Rattle.pt_base.specs.Files.{SameFiles};
-ghost use Rattle.privtrans_app.specs.Ending.{is_silent};
+ghost use Rattle.privtrans_app.specs.Ending.{is_silent, status_of};
 ghost use Rattle.privtrans_app.specs.EndingSeen.{ending_seen};
+ghost use Rattle.privtrans_app.specs.Once.{FailsOnce};
 ghost use Rattle.privtrans_app.specs.ProcessRun.{ComesTo, IsRunOver, ending_of as ending_due};
 ghost use Rattle.privtrans_app.specs.Words.{IsProcessRun};
 
@@ -53,6 +54,7 @@ pub(crate) fn run<'a, R: Threads + Sync, F: Folder, K: Sink, S: Witnessed, W: Wa
     ensures same { SameFiles (F.files folder.old) (F.files folder.new) }
     ensures writes { F.write_faults folder.new ≡ F.write_faults folder.old }
     ensures later { (F.read_faults folder.old ≤ F.read_faults folder.new) × (K.faults out.old ≤ K.faults out.new) × (S.faults spawner.old ≤ S.faults spawner.new) }
+    ensures once { FailsOnce (F.read_faults folder.old + K.faults out.old + S.faults spawner.old) (F.read_faults folder.new + K.faults out.new + S.faults spawner.new) (status_of (ending_seen result)) }
 {
     let texts = match read_texts(alloc, folder, &words.names) {
         Ok(texts) => texts,

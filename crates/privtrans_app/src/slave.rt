@@ -1,7 +1,8 @@
 // The slave, as the process that a run starts: what it is to run comes over the link to its parent.
 ghost use Rattle.std.specs.Prelude.{◌≡◌, ◌≤◌, false};
-ghost use Rattle.privtrans_app.specs.Ending.{is_silent};
+ghost use Rattle.privtrans_app.specs.Ending.{is_silent, status_of};
 ghost use Rattle.privtrans_app.specs.EndingSeen.{ending_seen};
+ghost use Rattle.privtrans_app.specs.Once.{FailsOnce};
 ghost use Rattle.privtrans_app.specs.SlaveRun.{IsWorkOver, ending_of};
 
 use crate::ending::Ending;
@@ -28,6 +29,7 @@ pub(crate) fn slave<'a, S: Spawner>(alloc: Global, spawner: &mut S) -> Ending<'a
     ensures ending { IsWorkOver S.came S.sent S.given spawner.old spawner.new (S.faults spawner.old) (S.faults spawner.new) (ending_seen result) }
     ensures loud { is_silent (ending_seen result) ≡ false }
     ensures later { S.faults spawner.old ≤ S.faults spawner.new }
+    ensures once { FailsOnce (S.faults spawner.old) (S.faults spawner.new) (status_of (ending_seen result)) }
 {
     match spawner.inherit(alloc) {
         Ok(()) => ended_by(work(alloc, spawner)),

@@ -1,7 +1,9 @@
 // A split: the program is read, and its halves go to two files as C texts.
-ghost use Rattle.std.specs.Prelude.{◌≡◌, ◌≤◌};
+ghost use Rattle.std.specs.Prelude.{◌≡◌, ◌≤◌, ◌+◌};
 ghost use Rattle.pt_base.specs.Files.{SameOthers};
+ghost use Rattle.privtrans_app.specs.Ending.{status_of};
 ghost use Rattle.privtrans_app.specs.EndingSeen.{ending_seen};
+ghost use Rattle.privtrans_app.specs.Once.{FailsOnce};
 ghost use Rattle.privtrans_app.specs.SplitRun.{ComesTo, SameBut};
 ghost use Rattle.privtrans_app.specs.SplitWriting.{AreWritten, IsWritten, names_of};
 
@@ -19,6 +21,7 @@ fn write_text<'a, F: Folder>(alloc: Global, folder: &mut F, name: &str, text: &[
     ensures others { SameOthers (F.files folder.old) (F.files folder.new) name.now }
     ensures reads { F.read_faults folder.new ≡ F.read_faults folder.old }
     ensures later { F.write_faults folder.old ≤ F.write_faults folder.new }
+    ensures once { FailsOnce (F.write_faults folder.old) (F.write_faults folder.new) (status_of (ending_seen result)) }
 {
     match folder.write(alloc, name, text) {
         Ok(()) => Ending::Split,
@@ -41,6 +44,7 @@ fn write_halves<'a, F: Folder>(
     ensures others { SameBut (F.files folder.old) (F.files folder.new) (names_of words.now) }
     ensures reads { F.read_faults folder.new ≡ F.read_faults folder.old }
     ensures later { F.write_faults folder.old ≤ F.write_faults folder.new }
+    ensures once { FailsOnce (F.write_faults folder.old) (F.write_faults folder.new) (status_of (ending_seen result)) }
 {
     match write_text(alloc, folder, words.slave, slave) {
         Ending::Split => write_text(alloc, folder, words.monitor, monitor),
@@ -61,6 +65,7 @@ pub(crate) fn split<'a, R: Threads + Sync, F: Folder, W: Watch>(
         (F.write_faults folder.old) (F.write_faults folder.new) (ending_seen result) }
     ensures others { SameBut (F.files folder.old) (F.files folder.new) (names_of words.now) }
     ensures later { (F.read_faults folder.old ≤ F.read_faults folder.new) × (F.write_faults folder.old ≤ F.write_faults folder.new) }
+    ensures once { FailsOnce (F.read_faults folder.old + F.write_faults folder.old) (F.read_faults folder.new + F.write_faults folder.new) (status_of (ending_seen result)) }
 {
     let text = match read_text(alloc, folder, words.program) {
         Ok(text) => text,

@@ -1,5 +1,5 @@
 // The top call.
-ghost use Rattle.std.specs.Prelude.{◌≡◌, ◌≤◌, ◌⊎◌, [], ℕ, true, List, Some, map};
+ghost use Rattle.std.specs.Prelude.{◌≡◌, ◌≤◌, ◌+◌, ◌⊎◌, [], ℕ, true, List, Some, map};
 ghost use Rattle.pt_base.specs.Files.{Files, SameFiles};
 ghost use Rattle.link_talks.specs.Choosing.{AreTaken};
 ghost use Rattle.runs.specs.Run.{Expected};
@@ -18,6 +18,7 @@ ghost use Rattle.privtrans_app.specs.EndingSeen.{ending_seen};
 ghost use Rattle.privtrans_app.specs.Interleaving.{IsInterleaved, IsOfNoRun, IsOfRun, TakesTurns};
 ghost use Rattle.privtrans_app.specs.GeneratedRun as made_run;
 ghost use Rattle.privtrans_app.specs.LocalRun as paired;
+ghost use Rattle.privtrans_app.specs.Once.{FailsOnce};
 ghost use Rattle.privtrans_app.specs.ProcessRun as process;
 ghost use Rattle.privtrans_app.specs.ProcessRun.{IsRunOver};
 ghost use Rattle.privtrans_app.specs.SlaveRun.{IsWorkOver};
@@ -62,6 +63,7 @@ fn came_to<'a, R: Threads + Sync, F: Folder, K: Sink, C: Chooser, W: Watch>(
     ensures same { SameFiles (F.files folder.old) (F.files folder.new) }
     ensures writes { F.write_faults folder.new ≡ F.write_faults folder.old }
     ensures later { (F.read_faults folder.old ≤ F.read_faults folder.new) × (K.faults out.old ≤ K.faults out.new) }
+    ensures once { FailsOnce (F.read_faults folder.old + K.faults out.old) (F.read_faults folder.new + K.faults out.new) (status_of (ending_seen result)) }
 {
     match form_of(words) {
         None => Came::Usage,
@@ -69,7 +71,7 @@ fn came_to<'a, R: Threads + Sync, F: Folder, K: Sink, C: Chooser, W: Watch>(
         Some(Form::Version) => put(alloc, out, VERSION, Came::Version),
         Some(Form::Local(words)) => local(rt, alloc, &words, folder, out, chooser, watch),
         Some(Form::Orig(words)) => orig(rt, alloc, &words, folder, out, watch),
-        Some(Form::Check(program)) => check(rt, alloc, program, folder, out, watch),
+        Some(Form::Check(words)) => check(rt, alloc, &words, folder, out, watch),
     }
 }
 
@@ -99,6 +101,8 @@ fn ended<'a, R: Threads + Sync, F: Folder, K: Sink, S: Witnessed, C: Chooser, W:
     ensures unlinked { IsNoProcessRun (map (λ w. w.now) words.now) → (IsSlave (map (λ w. w.now) words.now) → ⊥) → spawner.new ≡ spawner.old }
     ensures unwritten { IsSlave (map (λ w. w.now) words.now) → out.new ≡ out.old }
     ensures later { (F.read_faults folder.old ≤ F.read_faults folder.new) × (F.write_faults folder.old ≤ F.write_faults folder.new) × (K.faults out.old ≤ K.faults out.new) × (S.faults spawner.old ≤ S.faults spawner.new) }
+    ensures once { FailsOnce (F.read_faults folder.old + F.write_faults folder.old + K.faults out.old + S.faults spawner.old)
+        (F.read_faults folder.new + F.write_faults folder.new + K.faults out.new + S.faults spawner.new) (status_of (ending_seen result)) }
 {
     match outward_of(words) {
         Some(Outward::Split(words)) => split(rt, alloc, &words, folder, watch),
@@ -113,6 +117,7 @@ fn ended<'a, R: Threads + Sync, F: Folder, K: Sink, S: Witnessed, C: Chooser, W:
 fn tell<E: Sink>(alloc: Global, sink: &mut E, ending: Came<'_>) -> u8
     ensures report { Reports (ending_seen ending.entry) (E.taken sink.old) (E.taken sink.new) (E.faults sink.old) (E.faults sink.new) result }
     ensures later { E.faults sink.old ≤ E.faults sink.new }
+    ensures once { FailsOnce (E.faults sink.old) (E.faults sink.new) result }
 {
     let status = status(&ending);
     let Ok(line) = report(alloc, ending) else {
@@ -244,6 +249,11 @@ pub fn privtrans<
     // no count of faults falls
     ensures counts { (F.read_faults folder.old ≤ F.read_faults folder.new) × (F.write_faults folder.old ≤ F.write_faults folder.new)
         × (K.faults out.old ≤ K.faults out.new) × (E.faults report.old ≤ E.faults report.new) × (S.faults spawner.old ≤ S.faults spawner.new) }
+    // The first fault of the outside ends the call, and nothing is tried twice: of all reads and writes of the folder, writes to out and calls of
+    // the link together one at most fails. Then nothing is left but the report. That is one write, which may fail too.
+    ensures once { FailsOnce (F.read_faults folder.old + F.write_faults folder.old + K.faults out.old + S.faults spawner.old)
+        (F.read_faults folder.new + F.write_faults folder.new + K.faults out.new + S.faults spawner.new) result
+        × FailsOnce (E.faults report.old) (E.faults report.new) result }
 {
     generated_runs_are_told();
     let ending = ended(rt, alloc, words, folder, out, spawner, chooser, watch);

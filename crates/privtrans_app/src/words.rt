@@ -46,6 +46,22 @@ pub(crate) struct SplitWords<'a> {
     pub monitor: &'a str,
 }
 
+/// In which manner findings are told.
+#[derive(Clone, Copy)]
+pub(crate) enum Manner {
+    /// By a line each.
+    Lines,
+    /// In blocks, for people.
+    Blocks,
+}
+
+/// The words of a check: the name of the program, and how its findings are told.
+#[derive(Clone, Copy)]
+pub(crate) struct CheckWords<'a> {
+    pub program: &'a str,
+    pub manner: Manner,
+}
+
 /// The words of a generated program.
 #[derive(Clone, Copy)]
 pub(crate) struct GeneratedWords {
@@ -60,8 +76,7 @@ pub(crate) enum Form<'a> {
     Version,
     Local(LocalWords<'a>),
     Orig(OrigWords<'a>),
-    /// A check of the program of this name.
-    Check(&'a str),
+    Check(CheckWords<'a>),
 }
 
 /// What the words ask for, where that writes files, reaches another process or runs a program of the tool's own.
@@ -117,6 +132,8 @@ fn form_after<'a>(word: &str, rest: &[&'a str]) -> Option<Form<'a>>
         orig_words(rest)
     } else if word == "check" {
         check_words(rest)
+    } else if word == "explain" {
+        explain_words(rest)
     } else {
         None
     }
@@ -182,7 +199,27 @@ fn check_words<'a>(words: &[&'a str]) -> Option<Form<'a>>
         return None;
     };
     if words.is_empty() {
-        Some(Form::Check(program))
+        Some(Form::Check(CheckWords {
+            program,
+            manner: Manner::Lines,
+        }))
+    } else {
+        None
+    }
+}
+
+// The words after `explain`.
+fn explain_words<'a>(words: &[&'a str]) -> Option<Form<'a>>
+    ensures { MatchOption result (IsNoForm (codes "explain" ∷ map (λ w. w.now) words.now)) (IsForm (codes "explain" ∷ map (λ w. w.now) words.now)) }
+{
+    let [program, words @ ..] = words else {
+        return None;
+    };
+    if words.is_empty() {
+        Some(Form::Check(CheckWords {
+            program,
+            manner: Manner::Blocks,
+        }))
     } else {
         None
     }

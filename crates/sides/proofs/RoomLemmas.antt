@@ -35,5 +35,5 @@ slots_long t =
     let results = results_long 0 t.functions in
     omega (arith, all, others, globals, functions, results)
 
-pub slots_few : (t : TypedTree) (slots : List SlotInfo) → slots ≡ slots_of t → slot_count t ≤ 2 ^ 26 → length slots ≤ 2 ^ 26
-slots_few t slots are few = let long : length slots ≡ slot_count t = ap length are ∙ slots_long t in subst (λ n. n ≤ 2 ^ 26) (sym long) few
+pub slots_few : (t : TypedTree) (slots : List SlotInfo) → slots ≡ slots_of t → slot_count t ≤ 2 ^ 25 → length slots ≤ 2 ^ 25
+slots_few t slots are few = let long : length slots ≡ slot_count t = ap length are ∙ slots_long t in subst (λ n. n ≤ 2 ^ 25) (sym long) few

@@ -10,13 +10,13 @@ use Rattle.sides.specs.Seeds.{IsSeed}
 use Rattle.sides.specs.Slots.{slots_of}
 use Rattle.reach.specs.Sorted.{Lists}
 
--- the halves of a program, its slots and its seeds; there are at most 2^26 slots
+-- the halves of a program, its slots and its seeds; there are at most 2^25 slots
 pub record AreSides (t : TypedTree) (s : Sides) : Type 0 where
   pub monitor : Lists (λ f. f.0) (InMonitor t) s.monitor
   pub slave : Lists (λ f. f.0) (InSlave t) s.slave
   pub owned : Lists (λ g. g.0) (IsOwned t) s.owned
   pub slots : s.slots ≡ slots_of t
-  pub few : length s.slots ≤ 2 ^ 26
+  pub few : length s.slots ≤ 2 ^ 25
   pub seeds : Lists (λ x. x.0) (IsSeed t) s.seeds
   -- what makes both quick to ask
   pub layout : IsLayout t s.layout

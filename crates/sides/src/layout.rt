@@ -70,7 +70,7 @@ impl Layout {
 pub(crate) fn lay_out(alloc: Global, t: &Typed) -> Result<(Layout, Vec<SlotInfo>), AllocError>
     ensures layout { IfOk result (λ p. IsLayout (view_typed t.now) p.0) }
     ensures slots { IfOk result (λ p. p.1.items ≡ slots_of (view_typed t.now)) }
-    ensures few { IfOk result (λ p. length p.1.items ≤ 2 ^ 26) }
+    ensures few { IfOk result (λ p. length p.1.items ≤ 2 ^ 25) }
 {
     let structs = t.structs.as_slice();
     let table = LeafTable::new(alloc, structs)?;

@@ -13,7 +13,7 @@ use std::alloc::{AllocError, Global};
 use typed_tree::{Field, StructInfo, Typed, TypedFn, TypedGlobal, Var};
 
 /// The most slots of a program. What has more is answered as want of memory, before any is made.
-pub const MOST_SLOTS: u64 = 67_108_864;
+pub const MOST_SLOTS: u64 = 33_554_432;
 
 /// The most numbers in the paths of all structs that have objects. What has more is answered as want of
 /// memory, before any path is made.
@@ -98,7 +98,7 @@ pub(crate) fn room_for_slots(
 ) -> Result<(), AllocError>
     requires structs { structs.now ≡ (view_typed t.now).structs }
     requires table { IsLeafTable structs.now table.now }
-    ensures { OnOk result (is.slot_count (view_typed t.now) ≤ 2 ^ 26) }
+    ensures { OnOk result (is.slot_count (view_typed t.now) ≤ 2 ^ 25) }
 {
     let count = slot_count(structs, table, t)?;
     at_most(count, MOST_SLOTS)

@@ -95,4 +95,4 @@ sides_exist t h few =
     sides_of t h monitor.0 slave.0 monitor.1 slave.1 few
 
 pub sides_few : SidesAreOfFewSlots
-sides_few t s are = subst (λ xs. length xs ≤ 2 ^ 26) are.slots are.few
+sides_few t s are = subst (λ xs. length xs ≤ 2 ^ 25) are.slots are.few

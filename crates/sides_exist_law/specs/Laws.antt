@@ -6,9 +6,9 @@ use Rattle.sides.specs.declared.halves.Sides.{Sides}
 use Rattle.sides.specs.Placed.{AreSides}
 use Rattle.sides.specs.Slots.{slots_of}
 
--- the program has at most 2^26 slots
+-- the program has at most 2^25 slots
 abbrev pub HasFewSlots : TypedTree → Type 0
-HasFewSlots t = length (slots_of t) ≤ 2 ^ 26
+HasFewSlots t = length (slots_of t) ≤ 2 ^ 25
 
 -- each well formed program of few slots has sides
 abbrev pub ThereAreSides : Type 0

@@ -1,7 +1,7 @@
 // When there are sides of a program.
 ghost use Rattle.sides_exist_law.specs.Laws.{SidesAreOfFewSlots, ThereAreSides};
 
-/// Each well formed program of at most 2^26 slots has halves, slots and seeds. It does nothing.
+/// Each well formed program of at most 2^25 slots has halves, slots and seeds. It does nothing.
 pub fn there_are_sides()
     ensures { ThereAreSides }
 {}

@@ -73,7 +73,7 @@ unfolding leaves_of
 pointer_leaves structs (e.Int t) fixed = refl
 pointer_leaves structs (e.Struct n) fixed = refl
 
-array_leaves : (structs : List StructInfo) (elem : Elem) (count : ℕ) → leaf_count structs (Array elem count) ≡ leaf_count structs (type_of_elem elem)
+pub array_leaves : (structs : List StructInfo) (elem : Elem) (count : ℕ) → leaf_count structs (Array elem count) ≡ leaf_count structs (type_of_elem elem)
 unfolding leaves_of
 array_leaves structs (e.Int t) count = refl
 array_leaves structs (e.Struct n) count = refl

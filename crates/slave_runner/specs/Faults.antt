@@ -1,4 +1,5 @@
 -- Why a slave's side broke off, of what a link answers.
+use Rattle.std.specs.Prelude.{◌≡◌, ◌≤◌, ℕ, suc, Result, Ok, Err}
 use Rattle.pt_base.specs.declared.link.LinkFault.{LinkFault}
 use Rattle.pt_base.specs.declared.link.LinkFault.TheVariants as link
 use Rattle.boots.specs.declared.fault.BootError.{BootError}
@@ -21,3 +22,12 @@ Stuck LinkFailed so = so
 Stuck (BadPeer number place) so = ⊥
 Stuck PeerEnded so = ⊥
 Stuck Memory so = so
+
+-- How often the link has failed behind work that comes to this, where it had failed so often before: its first fault ends the work and
+-- is told, and where memory is wanting it may have failed for that. The peer's faults are none of its own.
+abbrev pub FirstFault : {T : Type 0} → ℕ → ℕ → Result T WorkFault → Type 0
+FirstFault links links' (Ok done) = links' ≡ links
+FirstFault links links' (Err LinkFailed) = links' ≤ suc links
+FirstFault links links' (Err (BadPeer number place)) = links' ≡ links
+FirstFault links links' (Err PeerEnded) = links' ≡ links
+FirstFault links links' (Err Memory) = links' ≤ suc links

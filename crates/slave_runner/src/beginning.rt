@@ -6,6 +6,7 @@ ghost use Rattle.pt_core.specs.CodeTree.{BootTree};
 ghost use Rattle.pair_meaning.specs.SlaveRun.{slave_of};
 ghost use Rattle.slave_interp.specs.Slaves.{IsSlave};
 ghost use Rattle.pair_runner.specs.Sending.{Parts, Talks};
+ghost use Rattle.slave_runner.specs.Faults.{FirstFault};
 ghost use Rattle.slave_runner.specs.Fronts.{Pieced};
 ghost use Rattle.slave_runner.specs.Outcomes.{IsRefused};
 ghost use Rattle.slave_runner.specs.Reading.{piece_in};
@@ -73,6 +74,7 @@ fn read_piece<L: Link>(
         → IsRefused (Talks L.came L.sent L.given a link.new) (Parts L.sent L.given a link.new) e) }
     ensures ready { L.ready link.new }
     ensures cause { HasCause (L.faults link.old) (L.faults link.new) result WorkFault.LinkFailed }
+    ensures first { FirstFault (L.faults link.old) (L.faults link.new) result }
 {
     let found = next_frame(alloc, reader)?;
     match found {
@@ -101,6 +103,7 @@ fn read_pieces<L: Link>(
     ensures err { IfErr result (IsRefused (Talks L.came L.sent L.given link.old link.new) (Parts L.sent L.given link.old link.new)) }
     ensures ready { L.ready link.new }
     ensures cause { HasCause (L.faults link.old) (L.faults link.new) result WorkFault.LinkFailed }
+    ensures first { FirstFault (L.faults link.old) (L.faults link.new) result }
 {
     let mut bytes = Vec::new(alloc);
     for _turns in 0..u64::MAX {
@@ -126,6 +129,7 @@ pub(crate) fn begin<L: Link>(
     ensures err { IfErr result (IsRefused (Talks L.came L.sent L.given link.old link.new) (Parts L.sent L.given link.old link.new)) }
     ensures ready { L.ready link.new }
     ensures cause { HasCause (L.faults link.old) (L.faults link.new) result WorkFault.LinkFailed }
+    ensures first { FirstFault (L.faults link.old) (L.faults link.new) result }
 {
     let bytes = read_pieces(alloc, reader, link)?;
     let boot = read_boot(alloc, &bytes)?;

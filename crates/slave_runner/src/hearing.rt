@@ -3,6 +3,7 @@ ghost use Rattle.std.specs.Prelude.{◌≡◌, ◌≢◌, None, IfErr, OnOk};
 ghost use Rattle.pt_base.specs.Faults.{HasCause};
 ghost use Rattle.wire.specs.Limits.{IsBytes};
 ghost use Rattle.pair_runner.specs.Sending.{Parts, Talks};
+ghost use Rattle.slave_runner.specs.Faults.{FirstFault};
 ghost use Rattle.slave_runner.specs.Fronts.{Fed, IsFront, Unfed};
 ghost use Rattle.slave_runner.specs.Turns.{IsShort};
 
@@ -58,6 +59,7 @@ pub(crate) fn hear<L: Link>(
     ensures err { IfErr result (Unfed (Talks L.came L.sent L.given link.old link.new) (Parts L.sent L.given link.old link.new)) }
     ensures ready { L.ready link.new }
     ensures cause { HasCause (L.faults link.old) (L.faults link.new) result WorkFault.LinkFailed }
+    ensures first { FirstFault (L.faults link.old) (L.faults link.new) result }
 {
     let piece = link.receive(alloc, MOST_AT_ONCE)?;
     let bytes = piece.as_slice();

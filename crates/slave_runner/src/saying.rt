@@ -6,7 +6,7 @@ ghost use Rattle.wire.specs.Spelling.{spelling};
 ghost use Rattle.pair_meaning.specs.SlaveRun as s;
 ghost use Rattle.slave_interp.specs.Slaves.{IsSlave};
 ghost use Rattle.pair_runner.specs.Sending.{Parts, Talks};
-ghost use Rattle.slave_runner.specs.Faults.{Stuck};
+ghost use Rattle.slave_runner.specs.Faults.{FirstFault, Stuck};
 ghost use Rattle.slave_runner.specs.Saying.{BrokeOff, Gathered, WentOn, sending};
 ghost use Rattle.slave_runner.specs.Turns.{Speaks};
 
@@ -53,6 +53,7 @@ fn gather<L: Link>(
     ensures err { IfErr result (λ e. Stuck e (Parts L.sent L.given link.old link.new [] (waiting.old.items ++ spelling message.now))) }
     ensures ready { L.ready link.new }
     ensures cause { HasCause (L.faults link.old) (L.faults link.new) result WorkFault.LinkFailed }
+    ensures first { FirstFault (L.faults link.old) (L.faults link.new) result }
 {
     write_message(alloc, message, waiting)?;
     if waiting.len() < MOST_GATHERED {
@@ -77,6 +78,7 @@ pub(crate) fn go_on<L: Link>(
         → Stuck e (BrokeOff (Parts L.sent L.given link.old link.new []) x waiting.old.items)) }
     ensures ready { L.ready link.new }
     ensures cause { HasCause (L.faults link.old) (L.faults link.new) result WorkFault.LinkFailed }
+    ensures first { FirstFault (L.faults link.old) (L.faults link.new) result }
 {
     let Ran { said, made: _ } = slave.run(alloc, u64::MAX)?;
     let Some(message) = said else {

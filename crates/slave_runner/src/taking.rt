@@ -6,6 +6,7 @@ ghost use Rattle.pair_sides.specs.Sides.{waits};
 ghost use Rattle.pair_meaning.specs.SlaveRun as s;
 ghost use Rattle.slave_interp.specs.Slaves.{IsSlave};
 ghost use Rattle.pair_runner.specs.Sending.{Parts, Talks};
+ghost use Rattle.slave_runner.specs.Faults.{FirstFault};
 ghost use Rattle.slave_runner.specs.Outcomes.{IsRefused};
 ghost use Rattle.slave_runner.specs.Replies.{reply_of};
 ghost use Rattle.slave_runner.specs.SoFar.{Working, WorksOn};
@@ -79,6 +80,7 @@ pub(crate) fn take_reply<L: Link>(
         → IsRefused (Talks L.came L.sent L.given a link.new) (Parts L.sent L.given a link.new) e) }
     ensures ready { L.ready link.new }
     ensures cause { HasCause (L.faults link.old) (L.faults link.new) result WorkFault.LinkFailed }
+    ensures first { FirstFault (L.faults link.old) (L.faults link.new) result }
 {
     let found = next_frame(alloc, reader)?;
     match found {

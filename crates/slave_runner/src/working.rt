@@ -6,6 +6,7 @@ ghost use Rattle.pair_sides.specs.Sides.{waits};
 ghost use Rattle.pair_meaning.specs.SlaveRun as s;
 ghost use Rattle.slave_interp.specs.Slaves.{IsSlave};
 ghost use Rattle.pair_runner.specs.Sending.{Parts, Talks};
+ghost use Rattle.slave_runner.specs.Faults.{FirstFault};
 ghost use Rattle.slave_runner.specs.Outcomes.{IsRefused, Stops};
 ghost use Rattle.slave_runner.specs.Rules.{has_ended};
 ghost use Rattle.slave_runner.specs.SoFar.{Worked, Working, WorksOn};
@@ -36,6 +37,7 @@ fn await_reply<L: Link>(
         → IsRefused (Talks L.came L.sent L.given a link.new) (Parts L.sent L.given a link.new) e) }
     ensures ready { L.ready link.new }
     ensures cause { HasCause (L.faults link.old) (L.faults link.new) result WorkFault.LinkFailed }
+    ensures first { FirstFault (L.faults link.old) (L.faults link.new) result }
 {
     send_waiting(alloc, waiting, link)?;
     take_reply(alloc, slave, reader, link)?;
@@ -59,6 +61,7 @@ fn turn<L: Link>(
         → IsRefused (Talks L.came L.sent L.given a link.new) (Parts L.sent L.given a link.new) e) }
     ensures ready { L.ready link.new }
     ensures cause { HasCause (L.faults link.old) (L.faults link.new) result WorkFault.LinkFailed }
+    ensures first { FirstFault (L.faults link.old) (L.faults link.new) result }
 {
     match slave.mode() {
         Mode::Going => {
@@ -91,6 +94,7 @@ fn run<L: Link>(
         → IsRefused (Talks L.came L.sent L.given a link.new) (Parts L.sent L.given a link.new) e) }
     ensures ready { L.ready link.new }
     ensures cause { HasCause (L.faults link.old) (L.faults link.new) result WorkFault.LinkFailed }
+    ensures first { FirstFault (L.faults link.old) (L.faults link.new) result }
 {
     let mut waiting = Vec::new(alloc);
     for _turns in 0..u128::MAX {
@@ -111,13 +115,15 @@ fn run<L: Link>(
 ///
 /// `BadPeer` where the frames of the bytes given break a rule, and `PeerEnded` where the link ends before the boot does or
 /// while a reply is awaited. `LinkFailed` comes only where the count of faults rose. `Memory` is want of memory, and with it
-/// 2^63 bytes given and a boot nested too deep for `read_boot`. After these two a first part was sent.
+/// 2^63 bytes given and a boot nested too deep for `read_boot`. After these two a first part was sent. One call of the link at
+/// most fails, and none where the work is done or the peer is to blame.
 pub fn work<L: Link>(alloc: Global, link: &mut L) -> Result<(), WorkFault>
     requires ready { L.ready link.old }
     ensures ok { OnOk result (Stops (Talks L.came L.sent L.given link.old link.new) has_ended) }
     ensures err { IfErr result (IsRefused (Talks L.came L.sent L.given link.old link.new) (Parts L.sent L.given link.old link.new)) }
     ensures ready { L.ready link.new }
     ensures cause { HasCause (L.faults link.old) (L.faults link.new) result WorkFault.LinkFailed }
+    ensures first { FirstFault (L.faults link.old) (L.faults link.new) result }
 {
     let mut reader = Reader::new(alloc);
     let mut slave = begin(alloc, &mut reader, link)?;

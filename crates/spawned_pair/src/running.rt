@@ -4,6 +4,7 @@ ghost use Rattle.host_table.specs.Hosts.{hosts_of};
 ghost use Rattle.host_table.specs.RunHosts.{models_of};
 ghost use Rattle.monitor_interp.specs.Monitors.{IsMonitor};
 ghost use Rattle.pair_meaning.specs.Monitors as m;
+ghost use Rattle.pair_runner.specs.Faults.{FirstFault};
 ghost use Rattle.pair_runner.specs.Outcomes.{IsOutcome, behind_boot, broken_behind_boot};
 ghost use Rattle.pair_runner.specs.Sending.{Breaks, Moves};
 ghost use Rattle.pair_texts.specs.Start.{Texts};
@@ -78,6 +79,7 @@ fn start_peer<S: Witnessed, K: Sink>(
         (broken_behind_boot (Breaks S.sent S.given K.taken spawner.old spawner.new out.old out.new) boot.now) m result }
     ensures link { HasCause (S.faults spawner.old) (S.faults spawner.new) result RunFault.LinkFailed }
     ensures sink { HasCause (K.faults out.old) (K.faults out.new) result RunFault.SinkFailed }
+    ensures first { FirstFault (S.faults spawner.old) (S.faults spawner.new) (K.faults out.old) (K.faults out.new) result }
 {
     spawner.start(alloc)?;
     let mut monitor = monitor;
@@ -102,6 +104,7 @@ pub(crate) fn run<S: Witnessed, K: Sink>(
         → IsExpectedOver (λ bytes. Appends (K.taken out.old) (K.taken out.new) bytes) t turns result }
     ensures link { HasCause (S.faults spawner.old) (S.faults spawner.new) result RunFault.LinkFailed }
     ensures sink { HasCause (K.faults out.old) (K.faults out.new) result RunFault.SinkFailed }
+    ensures first { FirstFault (S.faults spawner.old) (S.faults spawner.new) (K.faults out.old) (K.faults out.new) result }
 {
     begun_monitors_are_well_formed();
     begun_monitors_hosts_serve();

@@ -2,6 +2,7 @@
 ghost use Rattle.std.specs.Io.KnownBytes.{Appends};
 ghost use Rattle.honest_link.specs.Came.{Came};
 ghost use Rattle.pt_base.specs.Faults.{HasCause};
+ghost use Rattle.pair_runner.specs.Faults.{FirstFault};
 ghost use Rattle.pair_runner.specs.Sending.{Breaks, Moves};
 ghost use Rattle.pair_texts.specs.OutcomeSeen.{texts_with};
 ghost use Rattle.spawned_pair.specs.OutcomeSeen.{IsExpectedOver, IsHonestFor, IsServed};
@@ -25,7 +26,8 @@ use std::thread::Threads;
 ///
 /// `BadPeer` where what the peer gave breaks a rule, and `PeerEnded` where its end comes before an end of the run. `LinkFailed`, also where
 /// the peer can't be started, and `SinkFailed` come only where the count of faults rose; after these two, and after `Memory`, a first part
-/// was sent and written.
+/// was sent and written. Of the calls of the spawner and of `out` one at most fails, and none where there is an outcome or the peer is to
+/// blame.
 pub fn outcome_of<R: Threads + Sync, S: Witnessed, K: Sink, W: Watch>(
     rt: &R,
     alloc: Global,
@@ -42,6 +44,7 @@ pub fn outcome_of<R: Threads + Sync, S: Witnessed, K: Sink, W: Watch>(
         → IsExpectedOver (λ bytes. Appends (K.taken out.old) (K.taken out.new) bytes) (texts_with program.now beside.entry) beside.entry.turns result }
     ensures link { HasCause (S.faults spawner.old) (S.faults spawner.new) result RunFault.LinkFailed }
     ensures sink { HasCause (K.faults out.old) (K.faults out.new) result RunFault.SinkFailed }
+    ensures first { FirstFault (S.faults spawner.old) (S.faults spawner.new) (K.faults out.old) (K.faults out.new) result }
 {
     are_bytes(beside.input);
     match pair_texts::outcome_of(rt, alloc, program, beside, watch)? {

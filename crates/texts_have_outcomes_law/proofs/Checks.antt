@@ -22,12 +22,12 @@ by_judging text tree has (inl a) =
     (checked (flat_map (slot_line tree) shown.0), (tree, has, record { accepted = a.0; is = a.1; slots = shown.0; shown = shown.1; lines_are = refl }))
 by_judging text tree has (inr f) = (refused (flow f.0), (tree, has, f.1))
 
-by_slots : (text : List ℕ) (tree : TypedTree) → HasTypedTree text tree → (2 ^ 26 < length (slots_of tree)) ⊎ (length (slots_of tree) ≤ 2 ^ 26) → Comes text
+by_slots : (text : List ℕ) (tree : TypedTree) → HasTypedTree text tree → (2 ^ 25 < length (slots_of tree)) ⊎ (length (slots_of tree) ≤ 2 ^ 25) → Comes text
 by_slots text tree has (inl many) = inr (tree, has, many)
 by_slots text tree has (inr few) = inl (by_judging text tree has (judged tree (trees_are_sound text tree has) few))
 
 by_reading : (text : List ℕ) (r : Reading) → ReadsAs text r → Comes text
-by_reading text (typed_tree tree) has = by_slots text tree has (cases_lt (2 ^ 26) (length (slots_of tree)))
+by_reading text (typed_tree tree) has = by_slots text tree has (cases_lt (2 ^ 25) (length (slots_of tree)))
 by_reading text (lex_fault fault) is = inl (refused (lex fault), is)
 by_reading text (parse_fault fault) is = inl (refused (parse fault), is)
 by_reading text (type_faults_of faults) is = inl (refused (types faults), is)

@@ -17,8 +17,8 @@ module _ (text : List ℕ) (many : HasTooManySlots text) where
   no_sides tree has s are =
       let same : typed_tree tree ≡ typed_tree many.0 = reading_is_one text (typed_tree tree) (typed_tree many.0) has many.1 in
       let one : tree ≡ many.0 = cc in
-      let few : length (slots_of many.0) ≤ 2 ^ 26 = subst (λ (x : TypedTree). length (slots_of x) ≤ 2 ^ 26) one (sides_few tree s are) in
-      let more : 2 ^ 26 < length (slots_of many.0) = many.2 in
+      let few : length (slots_of many.0) ≤ 2 ^ 25 = subst (λ (x : TypedTree). length (slots_of x) ≤ 2 ^ 25) one (sides_few tree s are) in
+      let more : 2 ^ 25 < length (slots_of many.0) = many.2 in
       omega (arith, few, more)
 
   only_tree : (r : Reading) → ReadsAs text r → typed_tree many.0 ≡ r

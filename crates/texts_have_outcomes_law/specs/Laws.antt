@@ -19,13 +19,13 @@ use Rattle.original.specs.Seen as runs
 abbrev pub IsJudged : TypedTree → Type 0
 IsJudged t = ((a : Accepted) × IsAccepted t a) ⊎ ((faults : List FlowFault) × HasFlowFaults t faults)
 
--- each well formed program of at most 2^26 slots is judged
+-- each well formed program of at most 2^25 slots is judged
 abbrev pub ProgramsAreJudged : Type 0
 ProgramsAreJudged = (t : TypedTree) → IsTrue (is_well_formed t) → HasFewSlots t → IsJudged t
 
--- the text is a program of more than 2^26 slots
+-- the text is a program of more than 2^25 slots
 abbrev pub HasTooManySlots : List ℕ → Type 0
-HasTooManySlots text = (tree : TypedTree) × HasTypedTree text tree × (2 ^ 26 < length (slots_of tree))
+HasTooManySlots text = (tree : TypedTree) × HasTypedTree text tree × (2 ^ 25 < length (slots_of tree))
 
 -- each text comes to an outcome of a check, but for programs of too many slots
 abbrev pub ChecksComeToAnOutcome : Type 0

@@ -1,14 +1,16 @@
 -- What is told is what the texts come to.
-use Rattle.std.proofs.Common.{◌⊎◌, ℕ, List, refl, inl, inr}
+use Rattle.std.proofs.Common.{◌≡◌, ◌∙◌, ◌⊎◌, ℕ, List, ap, refl, subst, inl, inr}
 use Rattle.fault_lines.specs.Seen.{Seen}
 use Rattle.original.specs.Original.{Texts}
 use Rattle.original.specs.Seen as originals
-use Rattle.flow_check.specs.Checked.{Outcome, ComesTo}
+use Rattle.flow_check.specs.Checked.{Outcome, refused, checked, ComesTo}
 use Rattle.flow_check.specs.Seen as checks
 use Rattle.program_split.specs.Split as halves
 use Rattle.program_split.specs.Seen as splits
+use Rattle.privtrans_app.specs.CheckRun as check
 use Rattle.privtrans_app.specs.SplitRun.{Names}
 use Rattle.privtrans_app.specs.Whole.{Leaves}
+use Rattle.privtrans_app.specs.Words.{Manner, by_lines}
 use Rattle.texts_have_outcomes_law.specs.Laws.{HasTooManySlots}
 use Rattle.texts_have_outcomes_law.proofs.Checks.{checks_come}
 use Rattle.texts_have_outcomes_law.proofs.Runs.{runs_seen}
@@ -33,12 +35,20 @@ check_lacks : (c : Call) (text : List ℕ) → LacksMemory c → ((o : Outcome) 
 check_lacks c text lacks (inl comes) = inl (checks.shown comes.0, (comes.0, comes.1, refl), inr lacks)
 check_lacks c text lacks (inr many) = inr (many, lacks)
 
-check_told : (c : Call) (text : List ℕ) → LacksMemory c ⊎ ((s : Seen) × checks.Gives text s × Tells c s) → IsChecked c text
-check_told c text (inl lacks) = check_lacks c text lacks (checks_come text)
-check_told c text (inr s) = inl (s.0, s.1, inl s.2)
+found_shown : (o : Outcome) → check.shown (check.found o) ≡ checks.shown o
+found_shown (refused refusal) = refl
+found_shown (checked lines) = refl
+
+lines_told : (c : Call) (name text : List ℕ) (f : check.Findings) → check.Finds by_lines name text f → Tells c (check.shown f) → IsChecked c text
+lines_told c name text f finds tells =
+    inl (checks.shown finds.0, (finds.0, finds.1, refl), inl (subst (λ (s : Seen). Tells c s) (ap check.shown finds.2 ∙ found_shown finds.0) tells))
+
+check_told : (c : Call) (manner : Manner) (name text : List ℕ) → manner ≡ by_lines → LacksMemory c ⊎ ((f : check.Findings) × check.Finds manner name text f × Tells c (check.shown f)) → IsChecked c text
+check_told c manner name text is (inl lacks) = check_lacks c text lacks (checks_come text)
+check_told c manner name text is (inr x) = lines_told c name text x.0 (subst (λ (m : Manner). check.Finds m name text x.0) is x.1) x.2
 
 pub checks_told : ChecksAreTold
-checks_told c kept text held = check_told c text (kept.checked text held)
+checks_told c kept text held is = check_told c held.manner held.program_name text is (kept.checked text held)
 
 -- ---- splits
 

@@ -12,6 +12,7 @@ use Rattle.privtrans_app.specs.CheckRun as check
 use Rattle.privtrans_app.specs.OrigRun as orig
 use Rattle.privtrans_app.specs.SplitRun.{Names}
 use Rattle.privtrans_app.specs.Whole.{AreKept, Leaves, Told}
+use Rattle.privtrans_app.specs.Words.{by_lines}
 use Rattle.texts_have_outcomes_law.specs.Laws.{HasTooManySlots}
 
 -- What a command found and left: its words, the files before and after, out and report before and after, and the
@@ -46,7 +47,7 @@ RunsAreTold = (c : Call) → IsKept c → (t : Texts) (turns : ℕ) → orig.Are
 -- Of a text that `check` finds this is seen, and it is told, or memory was wanting; or there is nothing to be
 -- seen, and memory was wanting.
 abbrev pub ChecksAreTold : Type 0
-ChecksAreTold = (c : Call) → IsKept c → (text : List ℕ) → check.AreHeld c.words (Some c.files) text →
+ChecksAreTold = (c : Call) → IsKept c → (text : List ℕ) → (held : check.AreHeld c.words (Some c.files) text) → held.manner ≡ by_lines →
     ((s : Seen) × checks.Gives text s × (Tells c s ⊎ LacksMemory c)) ⊎ (HasTooManySlots text × LacksMemory c)
 
 -- A text that `split` finds comes to this, which is told and which the files hold, or memory was wanting; or it

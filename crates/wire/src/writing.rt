@@ -313,6 +313,7 @@ pub fn write_message(alloc: Global, m: &Message, out: &mut Vec<u8>) -> Result<()
 {
     let mut payload = Vec::with_capacity(alloc, ROOM)?;
     put_payload(&mut payload, m)?;
+    out.reserve(payload.len().saturating_add(4))?;
     let before = out.len();
     out.extend_from_slice(&(payload.len() as u32).to_be_bytes())?;
     match out.extend_from_slice(&payload) {

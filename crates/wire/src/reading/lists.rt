@@ -11,6 +11,9 @@ use crate::message::{CallBody, ReplyBody};
 use pt_base::IntType;
 use std::alloc::Global;
 
+// A cell of a block has at least as many bytes.
+const SHORTEST_TYPED_CELL: usize = 10;
+
 fn cells_of(alloc: Global, count: u32, bytes: &[u8]) -> Result<(Vec<WireCell>, &[u8]), ReadError>
     ensures { Gives (λ x. (x.0.items, x.1.now)) result (many cell_at count bytes.now) }
 {
@@ -31,7 +34,8 @@ fn typed_cells_of(
 ) -> Result<(Vec<(IntType, WireCell)>, &[u8]), ReadError>
     ensures { Gives (λ x. (x.0.items, x.1.now)) result (many typed_cell_at count bytes.now) }
 {
-    let mut items = Vec::new(alloc);
+    let room = (count as usize).min(bytes.len() / SHORTEST_TYPED_CELL);
+    let mut items = Vec::with_capacity(alloc, room)?;
     let mut rest = bytes;
     for _ in 0..count {
         let (item, after) = typed_cell(rest)?;

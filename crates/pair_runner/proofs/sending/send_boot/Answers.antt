@@ -1,4 +1,4 @@
-use Rattle.std.proofs.Common.{◌≡◌, ◌<◌, length, drop, Err, ap, arith, le_trans, length-drop, rules}
+use Rattle.std.proofs.Common.{◌≡◌, ◌<◌, length, drop, Err, ◌∙◌, ap, arith, length-drop, rules}
 use Rattle.wire.specs.Limits.{longest_piece}
 use Rattle.pair_runner.proofs.Causes.{cause_after}
 use Rattle.pair_runner.proofs.Pieces.{sent_one, sent_all, middle_part, last_part, end_part}
@@ -24,7 +24,7 @@ pub loop-rest-preserved : goal.loop-rest-preserved
 loop-rest-preserved g c = record {
   ready = c.in_ok-send_piece.ensures.ready;
   sent = rw c.behind-more.ensures.back (sent_one g.L.Link.came g.L.Link.sent g.L.Link.given g.met.L.Link.further _ _ _ _ _ c.loop-rest.invariant.sent (grind arith) (rw c.front-piece.ensures.front at c.in_ok-send_piece.ensures.ok));
-  links = le_trans c.loop-rest.invariant.links c.in_ok-send_piece.ensures.cause.later;
+  links = c.in_ok-send_piece.ensures.cause.stays ∙ c.loop-rest.invariant.links;
 }
 
 pub returns-in_err-send_piece-2-clause-err : goal.returns-in_err-send_piece-2-clause-err

@@ -1,4 +1,4 @@
-use Rattle.std.proofs.Common.{◌≡◌, Err, le_refl, le_trans, rules}
+use Rattle.std.proofs.Common.{◌≡◌, ◌∙◌, Err, refl, rules}
 use Rattle.monitor_interp.specs.Monitors.{IsMonitor}
 use Rattle.pair_runner.proofs.Looping.{first_now, next_now, end_outcome, err_outcome, long_outcome}
 use Rattle.pair_runner.proofs.supervising.serve_peer.Goals as goal
@@ -7,8 +7,8 @@ pub loop-init : goal.loop-init
 loop-init g c = record {
   ready = c.requires.ready;
   each = λ m at. first_now g.L.Link.came g.L.Link.sent g.L.Link.given g.K.Sink.taken g.met.L.Link.same c.args.link.now c.args.sink.now (IsMonitor c.args.monitor.now) m c.new-reader.result at c.new-reader.ensures;
-  links = le_refl _;
-  sinks = le_refl _;
+  links = refl;
+  sinks = refl;
 }
 
 pub loop-preserved : goal.loop-preserved
@@ -17,8 +17,8 @@ loop-preserved g c = record {
   each = λ m at.
       let n = c.loop.invariant.each m at in
       next_now g.L.Link.came g.L.Link.sent g.L.Link.given g.K.Sink.taken g.met.L.Link.further c.args.link.now c.loop.link c.turn.new.link c.args.sink.now c.loop.sink c.turn.new.sink (IsMonitor c.loop.monitor) (IsMonitor c.turn.new.monitor) m c.loop.reader c.turn.new.reader _ c.in_default.is n (c.in_ok-end.ensures.turned n.now n.is_now);
-  links = le_trans c.loop.invariant.links c.in_ok-end.ensures.link.later;
-  sinks = le_trans c.loop.invariant.sinks c.in_ok-end.ensures.sink.later;
+  links = c.in_ok-end.ensures.link.stays ∙ c.loop.invariant.links;
+  sinks = c.in_ok-end.ensures.sink.stays ∙ c.loop.invariant.sinks;
 }
 
 pub returns-in_err-end-clause-outcome : goal.returns-in_err-end-clause-outcome

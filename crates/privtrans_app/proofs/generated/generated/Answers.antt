@@ -1,6 +1,4 @@
-use Rattle.std.proofs.Common.{◌≡◌, ℕ, List, Option, refl, subst}
-use Rattle.pt_base.specs.declared.chooser.Who.{Who}
-use Rattle.local_pair.specs.Ends as ends
+use Rattle.std.proofs.Common.{ℕ, List, Option, refl, subst}
 use Rattle.local_pair.specs.OutcomeSeen.{ended_seen}
 use Rattle.generated_pair.specs.OutcomeSeen.{IsOutcome, IsWholeRun}
 use Rattle.privtrans_app.specs.Ending.{Ending, Puts}

@@ -1,6 +1,5 @@
 use Rattle.std.proofs.Common.{ℕ, List, map, Option, length, ap, subst, inl, inr}
 use Rattle.std.specs.Prelude.{MatchOption}
-use Rattle.privtrans_app.specs.EndingSeen.{ending_seen}
 use Rattle.privtrans_app.specs.GeneratedRun.{IsInterleaved}
 use Rattle.privtrans_app.specs.SplitWriting.{names_of}
 use Rattle.privtrans_app.specs.Words.{IsOutward, IsPlain, IsSlave, of_local, of_process_run}

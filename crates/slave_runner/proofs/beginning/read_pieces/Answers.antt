@@ -1,4 +1,4 @@
-use Rattle.std.proofs.Common.{◌≡◌, ℕ, List, [], Bool, Err, le_refl, le_trans, arith, rules, subst, sym}
+use Rattle.std.proofs.Common.{◌≡◌, ℕ, List, [], Bool, Err, arith, refl, rules, subst, sym, ◌∙◌}
 use Rattle.wire.specs.View.{ReaderView}
 use Rattle.pair_runner.specs.Sending.{Talks}
 use Rattle.pair_runner.proofs.Moving.{talks_none}
@@ -14,7 +14,7 @@ loop-turns-init g c = record {
   begun = subst (λ (l : List ℕ). Begun (Talks g.L.Link.came g.L.Link.sent g.L.Link.given c.args.link.now c.args.link.now) l c.args.reader.now) (sym c.new-bytes.ensures.items)
       (subst (λ (v : ReaderView). Begun (Talks g.L.Link.came g.L.Link.sent g.L.Link.given c.args.link.now c.args.link.now) [] v) (sym c.requires.fresh) (begun_none (Talks g.L.Link.came g.L.Link.sent g.L.Link.given c.args.link.now c.args.link.now) (talks_none g.L.Link.came g.L.Link.sent g.L.Link.given g.met.L.Link.same c.args.link.now)));
   reads = subst (λ (v : ReaderView). Reads 0 v) (sym c.requires.fresh) reads_none;
-  links = le_refl _;
+  links = refl;
 }
 
 pub loop-turns-preserved : goal.loop-turns-preserved
@@ -22,7 +22,7 @@ loop-turns-preserved g c = record {
   ready = c.in_ok-done.ensures.ready;
   begun = subst (λ (d : Bool). Read d (Talks g.L.Link.came g.L.Link.sent g.L.Link.given c.args.link.now c.read_piece.new.link) c.read_piece.new.bytes.items c.read_piece.new.reader) c.if-done.false (c.in_ok-done.ensures.ok c.args.link.now c.loop-turns.invariant.begun);
   reads = c.in_ok-done.ensures.turn c.loop-turns.invariant.begun.sound c.loop-turns._turns c.loop-turns.invariant.reads;
-  links = le_trans c.loop-turns.invariant.links c.in_ok-done.ensures.cause.later;
+  links = c.in_ok-done.ensures.cause.stays ∙ c.loop-turns.invariant.links;
 }
 
 pub returns-in_err-done-clause-err : goal.returns-in_err-done-clause-err

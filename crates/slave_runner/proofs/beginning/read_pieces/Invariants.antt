@@ -1,4 +1,4 @@
-use Rattle.std.proofs.Common.{◌≤◌}
+use Rattle.std.proofs.Common.{◌≡◌}
 use Rattle.pair_runner.specs.Sending.{Talks}
 use Rattle.slave_runner.specs.SoFar.{Begun}
 use Rattle.slave_runner.specs.Turns.{Reads}
@@ -9,5 +9,5 @@ invariant-loop-turns g l = record {
   ready : g.L.Link.ready l.link;
   begun : Begun (Talks g.L.Link.came g.L.Link.sent g.L.Link.given l.fn.link l.link) l.bytes.items l.reader;
   reads : Reads l._turns l.reader;
-  links : g.L.Link.faults l.fn.link ≤ g.L.Link.faults l.link;
+  links : g.L.Link.faults l.link ≡ g.L.Link.faults l.fn.link;
 }

@@ -1,4 +1,4 @@
-use Rattle.std.proofs.Common.{◌≡◌, ℕ, List, Bool, Err, le_refl, le_trans, arith, rules, subst, sym}
+use Rattle.std.proofs.Common.{◌≡◌, ℕ, List, Bool, Err, arith, refl, rules, subst, sym, ◌∙◌}
 use Rattle.slave_interp.specs.Slaves.{IsSlave}
 use Rattle.pair_runner.specs.Sending.{Talks}
 use Rattle.slave_runner.specs.SoFar.{Worked, WorksOn}
@@ -10,7 +10,7 @@ loop-turns-init g c = record {
   ready = c.requires.ready;
   each = λ a b x at so. subst (λ (l : List ℕ). WorksOn (Talks g.L.Link.came g.L.Link.sent g.L.Link.given a c.args.link.now) (IsSlave c.args.slave.now) b l c.args.reader.now) (sym c.new-waiting.ensures.items) (x, at, so);
   runs = c.requires.runs;
-  links = le_refl _;
+  links = refl;
 }
 
 pub loop-turns-preserved : goal.loop-turns-preserved
@@ -19,7 +19,7 @@ loop-turns-preserved g c = record {
   each = λ a b x at so. let n = c.loop-turns.invariant.each a b x at so in
       subst (λ (d : Bool). Worked d (Talks g.L.Link.came g.L.Link.sent g.L.Link.given a c.turn.new.link) (IsSlave c.turn.new.slave) b c.turn.new.waiting.items c.turn.new.reader) c.if-done.false (c.in_ok-done.ensures.ok a b n.0 n.1 n.2);
   runs = c.in_ok-done.ensures.turn c.if-done.false c.loop-turns._turns c.loop-turns.invariant.runs;
-  links = le_trans c.loop-turns.invariant.links c.in_ok-done.ensures.cause.later;
+  links = c.in_ok-done.ensures.cause.stays ∙ c.loop-turns.invariant.links;
 }
 
 pub returns-in_err-done-clause-err : goal.returns-in_err-done-clause-err

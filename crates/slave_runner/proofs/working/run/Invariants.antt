@@ -1,4 +1,4 @@
-use Rattle.std.proofs.Common.{◌≤◌, ◌-◌, ◌^◌, []}
+use Rattle.std.proofs.Common.{◌≡◌, ◌-◌, ◌^◌, []}
 use Rattle.pt_core.specs.CodeTree.{BootTree}
 use Rattle.pair_meaning.specs.SlaveRun as s
 use Rattle.slave_interp.specs.Slaves.{IsSlave}
@@ -15,5 +15,5 @@ invariant-loop-turns g l = record {
   ready : g.L.Link.ready l.link;
   each : (a : _) (b : BootTree) (x : s.Slave) → IsSlave l.fn.slave x → Working (Talks g.L.Link.came g.L.Link.sent g.L.Link.given a l.fn.link) b x [] l.fn.reader → WorksOn (Talks g.L.Link.came g.L.Link.sent g.L.Link.given a l.link) (IsSlave l.slave) b l.waiting.items l.reader;
   runs : Runs l._turns (IsSlave l.slave) l.reader;
-  links : g.L.Link.faults l.fn.link ≤ g.L.Link.faults l.link;
+  links : g.L.Link.faults l.link ≡ g.L.Link.faults l.fn.link;
 }

@@ -4,7 +4,7 @@ use Rattle.machine_memory.specs.Memory.{blocks_of}
 use Rattle.marshalling.specs.Ranges.{crossing_among}
 use Rattle.marshalling.specs.Replies.{block_types, kept, number_in, places_from, sent}
 use Rattle.marshalling.proofs.ReplyLemmas.{rest_places}
-use Rattle.marshalling.proofs.replies.pack_cells.Given as goal
+use Rattle.marshalling.proofs.replies.add_cells.Given as goal
 
 -- what was sent and kept so far, and what is of the cells that are left
 abbrev pub invariant-loop-i : goal.invariant-loop-i

@@ -1,0 +1,32 @@
+//! Runs rows of lists against the whole tool over the files of the system, with a child that a shell runs.
+#![tactic(auto)]
+
+mod session;
+
+use anyhow::Result;
+use case_rows::show_lists;
+use session::Session;
+use std::io::Read;
+use std::os::fd::AsFd;
+use std::process::Processes;
+use std::rt::{Files, Runtime};
+use std::thread::{Builder, Threads};
+
+/// The work goes as deep as a text nests, so it gets this many bytes of stack.
+const STACK: usize = 1 << 30;
+
+fn show_rows<
+    R: Runtime + Files + Processes + Threads + AllocGlobal + Sync,
+    I: Read + Drop + Copy,
+    O: AsFd + Drop + Copy,
+>(rt: &R, input: I, output: O) -> Result<()> {
+    let mut session = Session::new(rt, input, output);
+    show_lists(rt, &mut session)
+}
+
+fn main(rt: HostRuntime) -> Result<()> {
+    Builder::new()
+        .stack_size(STACK)
+        .spawn(&rt, move || show_rows(&rt, rt.stdin(), rt.stdout()))?
+        .join(&rt)
+}

@@ -1,0 +1,107 @@
+// What each row shows.
+use anyhow::{Result, bail};
+use case_rows::{Shows, Silent, first_word, push_bytes, spelled};
+use honest_link::Witness;
+use privtrans_app::privtrans;
+use process_link::{Child, RealFolder};
+use pt_base::{Alternate, ByteSink};
+use std::alloc::{AllocError, Global};
+use std::fs;
+use std::io::Read;
+use std::os::fd::AsFd;
+use std::process::Processes;
+use std::rt::Files;
+use std::thread::Threads;
+
+/// The shell, which reads the file `slave`.
+const SHELL: &str = "/bin/sh";
+
+/// The files of the system, and the streams to a parent, which nothing here takes over.
+#[derive(Drop)]
+pub struct Session<'a, R: Files + Processes, I: Read + Drop + Copy, O: AsFd + Drop + Copy> {
+    rt: &'a R,
+    input: I,
+    output: O,
+}
+
+impl<'a, R: Files + Processes, I: Read + Drop + Copy, O: AsFd + Drop + Copy> Session<'a, R, I, O> {
+    /// The outside with these streams.
+    pub fn new(rt: &'a R, input: I, output: O) -> Self {
+        Session { rt, input, output }
+    }
+
+    // Makes the call with the row's words; its child is this file.
+    fn call<T: Threads + Sync>(
+        &self,
+        threads: &T,
+        alloc: Global,
+        file: &str,
+        row: &str,
+    ) -> Result<String> {
+        let words = words_of(alloc, row)?;
+        let mut told = format!(in alloc; "{row}")?;
+        let mut folder = RealFolder::new(self.rt);
+        let mut out = ByteSink::new(alloc, Vec::new(alloc));
+        let mut report = ByteSink::new(alloc, Vec::new(alloc));
+        let name = String::from_str(alloc, file)?;
+        let child = Child::new(self.rt, alloc, name, self.input, self.output);
+        let mut spawner = Witness::new(child);
+        let mut chooser = Alternate::new();
+        let status = privtrans(
+            threads,
+            alloc,
+            &words,
+            &mut folder,
+            &mut out,
+            &mut report,
+            &mut spawner,
+            &mut chooser,
+            &Silent,
+        );
+        push_ending(&mut told, status, out.bytes(), report.bytes())?;
+        Ok(told)
+    }
+
+    // Writes a file: its name and its text.
+    fn write(&self, alloc: Global, row: &str) -> Result<String> {
+        let (name, text) = first_word(row);
+        fs::write(self.rt, name, spelled(alloc, text)?.as_bytes())?;
+        Ok(format!(in alloc; "file {row}")?)
+    }
+}
+
+impl<'a, R: Files + Processes, I: Read + Drop + Copy, O: AsFd + Drop + Copy> Shows
+    for Session<'a, R, I, O> {
+    fn begin_list(&mut self, _alloc: Global) {}
+
+    // The first word says whether a file is written, or what the child is in a call: a shell, no file, or this one.
+    fn shown<T: Threads + Sync>(&mut self, rt: &T, alloc: Global, row: &str) -> Result<String> {
+        let (word, rest) = first_word(row);
+        match word {
+            "file" => self.write(alloc, rest),
+            "shell" => self.call(rt, alloc, SHELL, rest),
+            "nothing" => self.call(rt, alloc, "", rest),
+            "child" => {
+                let (file, words) = first_word(rest);
+                self.call(rt, alloc, file, words)
+            }
+            _ => bail!("no such row"),
+        }
+    }
+}
+
+fn words_of<'a>(alloc: Global, row: &'a str) -> Result<Vec<&'a str>, AllocError> {
+    let mut words = Vec::new(alloc);
+    for word in row.split_whitespace() {
+        words.push(word)?;
+    }
+    Ok(words)
+}
+
+fn push_ending(told: &mut String, status: u8, out: &[u8], report: &[u8]) -> Result<(), AllocError> {
+    write!(told, "\n  status {status}, out \"")?;
+    push_bytes(told, out)?;
+    told.push_str("\", report \"")?;
+    push_bytes(told, report)?;
+    told.push('"')
+}

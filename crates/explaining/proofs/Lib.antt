@@ -1,0 +1,6 @@
+mod AppendLemmas
+pub mod Cuts
+mod ExplainLemmas
+mod HoldingLemmas
+mod HomeLemmas
+mod TurnLemmas

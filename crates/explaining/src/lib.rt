@@ -1,0 +1,23 @@
+//! What `check` finds, for people with an editor open: each fault with its line and column, its line of the
+//! text with a mark under it, by which way a secret came there and how it may be mended.
+#![tactic(auto)]
+
+mod explained;
+mod explanations;
+mod flow_blocks;
+mod front_blocks;
+mod holdings;
+mod homes;
+mod laws;
+mod origins;
+mod parts;
+mod room;
+mod sentences;
+mod spans;
+mod turns;
+mod ways;
+
+pub use explained::Explained;
+pub use explanations::explain;
+pub use laws::{explained_is_reported, first_bytes_are_enough};
+pub use room::MOST_BYTES;

@@ -1,0 +1,18 @@
+// Room for what is written.
+ghost use Rattle.std.specs.Prelude.{◌≤◌, ◌^◌, OnOk, length};
+
+use std::alloc::AllocError;
+
+/// The most bytes of an explanation. What has more is answered as want of memory, so that what is written is
+/// bounded however many faults a text has.
+pub const MOST_BYTES: usize = 67_108_864;
+
+/// Whether an explanation is no longer than it may be.
+pub(crate) fn room_for(text: &[u8]) -> Result<(), AllocError>
+    ensures { OnOk result (length text.now ≤ 2 ^ 26) }
+{
+    if text.len() > MOST_BYTES {
+        return Err(AllocError);
+    }
+    Ok(())
+}

@@ -1,0 +1,3 @@
+mod Orders
+pub mod Explained
+pub mod Commands
