@@ -5,11 +5,11 @@ use std::alloc::AllocError;
 
 /// The most bytes of an explanation. What has more is answered as want of memory, so that what is written is
 /// bounded however many faults a text has.
-pub const MOST_BYTES: usize = 67_108_864;
+pub const MOST_BYTES: usize = 134_217_728;
 
 /// Whether an explanation is no longer than it may be.
 pub(crate) fn room_for(text: &[u8]) -> Result<(), AllocError>
-    ensures { OnOk result (length text.now ≤ 2 ^ 26) }
+    ensures { OnOk result (length text.now ≤ 2 ^ 27) }
 {
     if text.len() > MOST_BYTES {
         return Err(AllocError);
