@@ -1,4 +1,4 @@
--- The first fault of the outside ends a call: nothing is tried twice.
+-- Of the calls of the outside one at most fails: none is made again and fails again, or is made good unseen.
 use Rattle.std.specs.Prelude.{◌≡◌, ◌≤◌, ◌&&◌, ◌||◌, ℕ, suc, Bool, false, nat_eq, nat_le}
 
 -- the statuses that tell of a fault of the outside, 2, 3, 4 and 9, or of want of memory, 12

@@ -249,8 +249,8 @@ pub fn privtrans<
     // no count of faults falls
     ensures counts { (F.read_faults folder.old ≤ F.read_faults folder.new) × (F.write_faults folder.old ≤ F.write_faults folder.new)
         × (K.faults out.old ≤ K.faults out.new) × (E.faults report.old ≤ E.faults report.new) × (S.faults spawner.old ≤ S.faults spawner.new) }
-    // The first fault of the outside ends the call, and nothing is tried twice: of all reads and writes of the folder, writes to out and calls of
-    // the link together one at most fails. Then nothing is left but the report. That is one write, which may fail too.
+    // of all reads and writes of the folder, writes to out and calls of the link together one at most fails, and of the writes of
+    // the report one; none does where the status tells of no fault of the outside
     ensures once { FailsOnce (F.read_faults folder.old + F.write_faults folder.old + K.faults out.old + S.faults spawner.old)
         (F.read_faults folder.new + F.write_faults folder.new + K.faults out.new + S.faults spawner.new) result
         × FailsOnce (E.faults report.old) (E.faults report.new) result }
