@@ -6,11 +6,11 @@ use Rattle.host_table.specs.RunHosts.{models_of}
 use Rattle.pt_core.specs.CodeTree.{view_boot, view_monitor}
 use Rattle.pt_core.specs.WellFormed.{is_well_formed_monitor}
 use Rattle.pair_meaning.specs.Monitors.{Monitor}
-use Rattle.pair_texts_law.specs.Laws.{HostsServe}
+use Rattle.pair_laws.specs.BegunPairsLaws.{HostsServe}
 use Rattle.pair_texts.specs.declared.outcome.Pair.{Pair}
 use Rattle.pair_texts.specs.OutcomeSeen.{HaveBegun, monitor_in}
 use Rattle.pair_texts.specs.Start.{Texts}
-use Rattle.pair_texts_law.specs.Laws.{BegunMonitorsAreWellFormed, BegunMonitorsHostsServe}
+use Rattle.pair_laws.specs.BegunPairsLaws.{BegunMonitorsAreWellFormed, BegunMonitorsHostsServe}
 use Rattle.pair_cases.specs.Begun.{AreTextsOf}
 
 abbrev begun_of : (pair : Pair) (turns : ℕ) (t : Texts) → AreTextsOf pair turns t → HaveBegun t turns (view_boot pair.boot) (monitor_in pair turns)

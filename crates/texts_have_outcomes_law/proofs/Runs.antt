@@ -38,7 +38,7 @@ by_size : (table : List ℕ) (tree : TypedTree) (long : Bool) → (if long then 
 by_size table tree true none = cc
 by_size table tree false none = none
 
-hosts_given : (table : List ℕ) (tree : TypedTree) → host_faults table (signatures_of tree) ≡ [] → (hosts : Hosts) × GivesHosts table tree hosts
+pub hosts_given : (table : List ℕ) (tree : TypedTree) → host_faults table (signatures_of tree) ≡ [] → (hosts : Hosts) × GivesHosts table tree hosts
 hosts_given table tree none =
     let given = by_value table tree (reading_of table) refl (by_size table tree (nat_lt 1048576 (length table)) none) in
     (given.0, record { faultless = none; given = given.1 })

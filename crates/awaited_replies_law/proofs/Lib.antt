@@ -1,4 +1,0 @@
-pub mod Awaited
-mod Facts
-mod Growing
-mod Taking

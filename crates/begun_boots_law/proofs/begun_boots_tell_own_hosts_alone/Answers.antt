@@ -1,5 +1,0 @@
-use Rattle.begun_boots_law.proofs.Begun.{boots_hosted}
-use Rattle.begun_boots_law.proofs.begun_boots_tell_own_hosts_alone.Goals as goal
-
-pub returns : goal.returns
-returns c = boots_hosted c.boots_tell_nothing_privileged.ensures c.programs_are_the_same_as_themselves.ensures c.a_text_has_one_reading.ensures

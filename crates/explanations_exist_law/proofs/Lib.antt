@@ -1,3 +1,0 @@
-mod Orders
-pub mod Explained
-pub mod Commands

@@ -1,0 +1,4 @@
+pub mod BegunBootsLaws
+pub mod HiddenRunsLaws
+pub mod HiddenRunsRuns
+pub mod HiddenBodiesLaws

@@ -1,6 +1,0 @@
-use Rattle.hidden_runs_law.proofs.Begun.{begun_low}
-use Rattle.hidden_runs_law.proofs.begun_runs_are_low.Goals as goal
-
-pub returns : goal.returns
-returns c =
-    begun_low c.monitors_begin_sound.ensures c.begun_monitors_are_well_formed.ensures c.begun_monitors_hosts_serve.ensures c.runs_are_low.ensures

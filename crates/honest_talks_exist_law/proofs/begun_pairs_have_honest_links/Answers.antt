@@ -1,5 +1,0 @@
-use Rattle.honest_talks_exist_law.proofs.Links.{honest_links}
-use Rattle.honest_talks_exist_law.proofs.begun_pairs_have_honest_links.Goals as goal
-
-pub returns : goal.returns
-returns c = honest_links c.begun_pairs_have_talks.ensures c.texts_have_one_outcome.ensures

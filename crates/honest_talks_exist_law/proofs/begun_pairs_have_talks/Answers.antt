@@ -1,5 +1,0 @@
-use Rattle.honest_talks_exist_law.proofs.Begun.{begun_talks}
-use Rattle.honest_talks_exist_law.proofs.begun_pairs_have_talks.Goals as goal
-
-pub returns : goal.returns
-returns c = begun_talks c.begun_boots_are_well_formed.ensures c.begun_pairs_are_fair.ensures c.fair_pairs_have_talks.ensures

@@ -1,5 +1,0 @@
-use Rattle.honest_talks_exist_law.proofs.Serving.{fair_talks}
-use Rattle.honest_talks_exist_law.proofs.fair_pairs_have_talks.Goals as goal
-
-pub returns : goal.returns
-returns c = fair_talks c.awaited_replies_are_spelled.ensures c.saying_is_honest.ensures c.what_is_said_grows.ensures

@@ -1,4 +1,0 @@
-pub mod Laws
-pub mod Links
-pub mod Peers
-pub mod Planned

@@ -1,0 +1,6 @@
+use Rattle.pair_invariant.specs.Slaves.{Stays}
+use Rattle.pair_laws.proofs.PairCallsCalls.{calls_keep}
+use Rattle.pair_laws.proofs.pair_calls.calls_keep.Goals as goal
+
+pub returns : goal.returns
+returns c = calls_keep Stays

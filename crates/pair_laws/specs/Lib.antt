@@ -1,0 +1,13 @@
+pub mod ServedBodiesLaws
+pub mod ServedBodiesScene
+pub mod AdmittedCallsLaws
+pub mod PairStartLaws
+pub mod PairStartOwn
+pub mod PairStartStart
+pub mod KeptSlavesLaws
+pub mod PairStepsEnds
+pub mod PairStepsSteps
+pub mod AwaitedRepliesLaws
+pub mod AcceptedPairsLaws
+pub mod RevealedMemoryLaws
+pub mod BegunPairsLaws

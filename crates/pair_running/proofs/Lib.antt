@@ -1,0 +1,29 @@
+mod LocalPairBeginning
+pub mod LocalPairCuts
+pub mod LocalPairOneOutcome
+pub mod LocalPairOneSeen
+mod LocalPairTalking
+mod SpawnedPairBeginning
+pub mod SpawnedPairCuts
+mod SpawnedPairEnding
+mod SpawnedPairHonest
+mod SpawnedPairLinks
+mod SpawnedPairMapped
+mod SpawnedPairServing
+mod GeneratedPairOutcomes
+mod GeneratedPairRuns
+pub mod HonestTalksAnywhere
+pub mod HonestTalksBegun
+pub mod HonestTalksCutting
+pub mod HonestTalksForms
+pub mod HonestTalksFronts
+pub mod HonestTalksStanding
+pub mod HonestTalksTalks
+pub mod TalksExistAwaited
+pub mod TalksExistBegun
+pub mod TalksExistGrowing
+pub mod TalksExistHonest
+pub mod TalksExistLinks
+pub mod TalksExistPieces
+pub mod TalksExistServing
+pub mod TalksExistTelling

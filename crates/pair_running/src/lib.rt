@@ -1,0 +1,9 @@
+//! The pair at work: both halves in one process, each in its own, and those of a generated program; and over
+//! which talks a peer is honest.
+#![tactic(auto)]
+
+pub mod generated_pair;
+pub mod honest_talks;
+pub mod local_pair;
+pub mod spawned_pair;
+pub mod talks_exist;

@@ -1,0 +1,54 @@
+// The texts of a pair, and its run with a peer that is started.
+ghost use Rattle.std.specs.Io.KnownBytes.{Appends};
+ghost use Rattle.honest_link.specs.Came.{Came};
+ghost use Rattle.pt_base.specs.Faults.{HasCause};
+ghost use Rattle.pair_runner.specs.Faults.{FirstFault};
+ghost use Rattle.pair_runner.specs.Sending.{Breaks, Moves};
+ghost use Rattle.pair_texts.specs.OutcomeSeen.{texts_with};
+ghost use Rattle.pair_running.specs.SpawnedPairOutcomeSeen.{IsExpectedOver, IsHonestFor, IsServed};
+ghost use Rattle.pair_running.specs.SpawnedPairSupervised.{AreUntouched};
+
+use crate::spawned_pair::outcome::Outcome;
+use crate::spawned_pair::running::{are_bytes, run};
+use honest_link::Witnessed;
+use pair_runner::RunFault;
+use pair_texts::Beside;
+use pt_base::{Sink, Watch};
+use std::alloc::Global;
+use std::thread::Threads;
+
+/// What a program comes to with these texts beside it: the lines of the first stage's faults that has one, or how its monitor ends, which
+/// serves a peer that is started and sent the boot. What is written goes to `out` as it comes. Where the peer is honest, what is written and
+/// the end are what is expected of the program. The watch is told of each function that has a body, as its edges are made and as it is
+/// lowered.
+///
+/// # Errors
+///
+/// `BadPeer` where what the peer gave breaks a rule, and `PeerEnded` where its end comes before an end of the run. `LinkFailed`, also where
+/// the peer can't be started, and `SinkFailed` come only where the count of faults rose; after these two, and after `Memory`, a first part
+/// was sent and written. Of the calls of the spawner and of `out` one at most fails, and none where there is an outcome or the peer is to
+/// blame.
+pub fn outcome_of<R: Threads + Sync, S: Witnessed, K: Sink, W: Watch>(
+    rt: &R,
+    alloc: Global,
+    program: &[u8],
+    beside: Beside<'_>,
+    spawner: &mut S,
+    out: &mut K,
+    watch: &W,
+) -> Result<Outcome, RunFault>
+    ensures served { IsServed (AreUntouched spawner.old spawner.new out.old out.new)
+        (Moves (Came S.honest S.sent S.given) S.sent S.given K.taken spawner.old spawner.new out.old out.new) (Breaks S.sent S.given K.taken spawner.old spawner.new out.old out.new)
+        (texts_with program.now beside.entry) beside.entry.turns result }
+    ensures expected { IsHonestFor S.honest S.sent S.given (texts_with program.now beside.entry) beside.entry.turns spawner.old
+        → IsExpectedOver (λ bytes. Appends (K.taken out.old) (K.taken out.new) bytes) (texts_with program.now beside.entry) beside.entry.turns result }
+    ensures link { HasCause (S.faults spawner.old) (S.faults spawner.new) result RunFault.LinkFailed }
+    ensures sink { HasCause (K.faults out.old) (K.faults out.new) result RunFault.SinkFailed }
+    ensures first { FirstFault (S.faults spawner.old) (S.faults spawner.new) (K.faults out.old) (K.faults out.new) result }
+{
+    are_bytes(beside.input);
+    match pair_texts::outcome_of(rt, alloc, program, beside, watch)? {
+        pair_texts::Outcome::Refused(lines) => Ok(Outcome::Refused(lines)),
+        pair_texts::Outcome::Begins(pair) => run(alloc, pair, beside.turns, spawner, out),
+    }
+}

@@ -1,4 +1,0 @@
-pub mod Begun
-pub mod Globals
-pub mod Hosts
-pub mod Pairs

@@ -1,6 +1,0 @@
-pub mod Late
-pub mod Live
-pub mod Orders
-pub mod Pair
-pub mod Proper
-pub mod Serving

@@ -1,5 +1,0 @@
-use Rattle.pair_texts_law.proofs.Begun.{boots_well_formed}
-use Rattle.pair_texts_law.proofs.begun_boots_are_well_formed.Goals as goal
-
-pub returns : goal.returns
-returns c = boots_well_formed c.boots_are_well_formed.ensures

@@ -1,2 +1,0 @@
-mod Memories
-mod Revealed

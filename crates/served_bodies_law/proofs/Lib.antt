@@ -1,9 +1,0 @@
-pub mod Body
-pub mod Called
-pub mod Ended
-pub mod Hosts
-pub mod Memory
-pub mod Outermost
-pub mod Runs
-pub mod Served
-pub mod Work

@@ -1,4 +1,0 @@
-pub mod Laws
-pub mod OutcomeSeen
-pub mod Running
-pub mod Supervised

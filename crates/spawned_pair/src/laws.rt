@@ -1,9 +1,0 @@
-// What holds of all texts.
-ghost use Rattle.spawned_pair.specs.Laws.{CutsAreEnough};
-
-use pt_base::{Sink, Spawner};
-
-/// What is said of texts of which only the first 1,048,577 bytes were read holds of the whole texts. It does nothing.
-pub fn first_bytes_are_enough<S: Spawner, K: Sink>()
-    ensures { CutsAreEnough S.honest S.sent S.given K.taken }
-{}
