@@ -4,6 +4,7 @@ use Rattle.std.specs.Prelude.{codes}
 use Rattle.std.proofs.lemmas.List.{length-take, take-take, take_all}
 use Rattle.c_lexer.specs.declared.error.LexFault.{LexFault}
 use Rattle.c_lexer.specs.declared.error.LexFaultKind.TheVariants.{TooLong}
+use Rattle.c_lexer.specs.Lexes.{IsLexFault}
 use Rattle.flow_check.specs.Checked.{IsRefused, Refusal, lex, parse, types, flow, refused}
 use Rattle.flow_check.proofs.Cuts.{cut_whole}
 use Rattle.fault_lines.specs.FaultLines.{lex_line}
@@ -33,6 +34,11 @@ told name xs =
 long_block : (name text : List ℕ) → lex_block name (first text) too_long ≡ lex_block name text too_long
 long_block name text = ap (told name) (take-take 1048576 1048577 text (let le : 1048576 ≤ 1048577 = omega arith in le))
 
+-- a fault of the lexer is told alike
+pub lex_same : (name text : List ℕ) (fault : LexFault) → IsLexFault (first text) fault → lex_block name (first text) fault ≡ lex_block name text fault
+lex_same name text fault (inl over) = ap (lex_block name (first text)) over.1 ∙ long_block name text ∙ sym (ap (lex_block name text) over.1)
+lex_same name text fault (inr stops) = ap (λ xs. lex_block name xs fault) (short_cut text stops.0)
+
 pub enough : FirstBytesAreEnough
 enough name text report x = go x.refusal x.refused x.blocks
   where
@@ -40,12 +46,8 @@ enough name text report x = go x.refusal x.refused x.blocks
     short r few is blocks = subst (λ xs. Explains name xs report) (short_cut text few) (record { refusal = r; refused = is; blocks = blocks })
 
     go : (r : Refusal) → IsRefused (first text) r → AreBlocks name (first text) r report → Explains name text report
-    go (lex fault) (inl over) blocks = record {
-      refusal = lex fault;
-      refused = cut_whole text (refused (lex fault)) (inl over);
-      blocks = blocks ∙ ap (lex_block name (first text)) over.1 ∙ long_block name text ∙ sym (ap (lex_block name text) over.1);
-    }
-    go (lex fault) (inr stops) blocks = short (lex fault) stops.0 (inr stops) blocks
+    go (lex fault) is blocks =
+        record { refusal = lex fault; refused = cut_whole text (refused (lex fault)) is; blocks = blocks ∙ lex_same name text fault is }
     go (parse fault) is blocks = short (parse fault) is.lexed.short is blocks
     go (types faults) is blocks = short (types faults) is.reads.lexed.short is blocks
     go (flow faults) is blocks = short (flow faults) is.1.reads.lexed.short is blocks

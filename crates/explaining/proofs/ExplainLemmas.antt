@@ -1,14 +1,8 @@
 -- What the stages answer is what explaining comes to.
-use Rattle.std.proofs.Common.{◌≡◌, ℕ, List, Result, Err, ap, ◌∙◌, subst, sym}
-use Rattle.std.specs.List.{flat_map}
+use Rattle.std.proofs.Common.{◌≡◌, ℕ, List, Some, None, Result, Err, ap, ◌∙◌, subst, sym}
 use Rattle.std.specs.List.Sorted.{IsStrictlySortedBy}
-use Rattle.std.specs.Prelude.{Vec}
-use Rattle.std.specs.declared.alloc.Global.{Global}
-use Rattle.c_lexer.specs.declared.error.LexFault.{LexFault}
-use Rattle.check_declarations.specs.declared.fault.TypeFault.{TypeFault}
 use Rattle.front_end.specs.declared.error.FrontError.{FrontError}
-use Rattle.front_end.specs.declared.error.FrontError.TheVariants.{Lex, Parse, Types}
-use Rattle.front_end.specs.declared.parse_fault.ParseFault.{ParseFault}
+use Rattle.front_end.specs.declared.error.FrontError.TheVariants.{Lex, Parse, Types, Memory}
 use Rattle.front_end.specs.Reading.{HasTypedTree, Reads}
 use Rattle.typed_tree.specs.TypedTree.{TypedTree}
 use Rattle.flow_rules.specs.declared.accepted.Accepted.{Accepted}
@@ -19,20 +13,21 @@ use Rattle.flow_rules.specs.Faults.{fault_cmp}
 use Rattle.flow_check.specs.Checked.{HasFlowFaults, flow, lex, parse, types}
 use Rattle.flow_check.specs.OutcomeSeen.{IsJudged}
 use Rattle.explaining.specs.Explains.{AreFlowBlocks, Explains}
-use Rattle.explaining.specs.FrontBlocks.{lex_block, parse_block, type_block}
+use Rattle.explaining.specs.FrontBlocks.{error_blocks}
 
 -- ---- faults of lexer, parser and types
 
-pub lexed : (name text report : List ℕ) (error : FrontError) (fault : LexFault) → Reads text (Err error) → error ≡ Lex fault → report ≡ lex_block name text fault → Explains name text report
-lexed name text report error fault reads is blocks = record { refusal = lex fault; refused = subst (λ (e : FrontError). Reads text (Err e)) is reads; blocks = blocks }
+some_is : (a b : List ℕ) → Some a ≡ Some b → b ≡ a
+some_is a b e = cc
 
-pub parsed : (name text report : List ℕ) (error : FrontError) (fault : ParseFault) → Reads text (Err error) → error ≡ Parse fault → report ≡ parse_block name text fault → Explains name text report
-parsed name text report error fault reads is blocks = record { refusal = parse fault; refused = subst (λ (e : FrontError). Reads text (Err e)) is reads; blocks = blocks }
+some_none : (a : List ℕ) → None ≡ Some a → ⊥
+some_none a e = cc
 
-pub typed : (name text report : List ℕ) (error : FrontError) (faults : Vec TypeFault Global) (slice : List TypeFault) → Reads text (Err error) → error ≡ Types faults → slice ≡ faults.items →
-    report ≡ flat_map (type_block name text) slice → Explains name text report
-typed name text report error faults slice reads is same blocks =
-    record { refusal = types faults.items; refused = subst (λ (e : FrontError). Reads text (Err e)) is reads; blocks = blocks ∙ ap (flat_map (type_block name text)) same }
+pub error_told : (name text : List ℕ) (error : FrontError) (report : List ℕ) → Reads text (Err error) → error_blocks name text error ≡ Some report → Explains name text report
+error_told name text (Lex fault) report reads is = record { refusal = lex fault; refused = reads; blocks = some_is _ _ is }
+error_told name text (Parse fault) report reads is = record { refusal = parse fault; refused = reads; blocks = some_is _ _ is }
+error_told name text (Types faults) report reads is = record { refusal = types faults.items; refused = reads; blocks = some_is _ _ is }
+error_told name text Memory report reads is = absurd (some_none report is)
 
 -- ---- faults of flows
 

@@ -1,16 +1,16 @@
 // The stages that a text goes through, and what is told of it.
-ghost use Rattle.std.specs.Prelude.{IfOk, Err};
-ghost use Rattle.front_end.specs.Reading.{HasTypedTree, Reads};
+ghost use Rattle.std.specs.Prelude.{IfOk};
+ghost use Rattle.front_end.specs.Reading.{HasTypedTree};
 ghost use Rattle.typed_tree.specs.TypedView.{view_typed};
 ghost use Rattle.explaining.specs.ExplainedSeen.{IsExplained};
 
 use crate::explained::Explained;
 use crate::flow_blocks::flow_blocks;
-use crate::front_blocks::{lex_block, parse_block, type_blocks};
+use crate::front_blocks::error_blocks;
 use crate::holdings::holdings;
 use flow_check::judge;
 use flow_rules::FlowError;
-use front_end::{FrontError, read_program};
+use front_end::read_program;
 use pt_base::Watch;
 use std::alloc::{AllocError, Global};
 use std::thread::Threads;
@@ -36,38 +36,17 @@ pub fn explain<R: Threads + Sync, W: Watch>(
     ensures { IfOk result (IsExplained name.now program.now) }
 {
     match read_program(alloc, program) {
-        Ok(typed) => with_program(rt, alloc, name, program, &typed, watch),
-        Err(error) => with_error(alloc, name, program, error),
+        Ok(typed) => explain_typed(rt, alloc, name, program, &typed, watch),
+        Err(error) => Ok(Explained::Refused(error_blocks(alloc, name, program, error)?)),
     }
 }
 
-// What a text comes to that has faults of lexer, parser or types.
-fn with_error(
-    alloc: Global,
-    name: &[u8],
-    program: &[u8],
-    error: FrontError,
-) -> Result<Explained, AllocError>
-    requires { Reads program.now (Err error) }
-    ensures { IfOk result (IsExplained name.now program.now) }
-{
-    match error {
-        FrontError::Lex(fault) => {
-            Ok(Explained::Refused(lex_block(alloc, name, program, fault)?))
-        }
-        FrontError::Parse(fault) => {
-            Ok(Explained::Refused(parse_block(alloc, name, program, fault)?))
-        }
-        FrontError::Types(faults) => {
-            let blocks = type_blocks(alloc, name, program, &faults)?;
-            Ok(Explained::Refused(blocks))
-        }
-        FrontError::Memory => Err(AllocError),
-    }
-}
-
-// What a program without faults of types comes to.
-fn with_program<R: Threads + Sync, W: Watch>(
+/// The same of a program without faults of types, of which this is the typed tree.
+///
+/// # Errors
+///
+/// Want of memory; more than [`MOST_BYTES`](crate::MOST_BYTES) of explanation are that too.
+pub fn explain_typed<R: Threads + Sync, W: Watch>(
     rt: &R,
     alloc: Global,
     name: &[u8],

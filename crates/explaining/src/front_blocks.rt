@@ -1,5 +1,5 @@
 // The blocks that explain faults of lexer, parser and types.
-ghost use Rattle.std.specs.Prelude.{◌≡◌, ◌++◌, IfOk, OnOk, codes, length, ltb, slice_index_or};
+ghost use Rattle.std.specs.Prelude.{◌≡◌, ◌++◌, IfOk, OnOk, Some, codes, length, ltb, slice_index_or};
 ghost use Rattle.std.specs.List.{flat_map};
 ghost use Rattle.fault_lines.specs.FaultLines as lines_are;
 ghost use Rattle.source_places.specs.LinesSeen.{text_of};
@@ -11,7 +11,7 @@ use crate::spans::push_span_excerpt;
 use c_lexer::{LexFault, LexFaultKind};
 use check_declarations::{FaultKind, TypeFault};
 use fault_lines::{push_numbered, push_span};
-use front_end::ParseFault;
+use front_end::{FrontError, ParseFault};
 use pt_base::Span;
 use source_places::{Lines, push_number};
 use std::alloc::{AllocError, Global};
@@ -129,8 +129,8 @@ fn lex_block_at(
     Ok(text)
 }
 
-/// The block that explains why a text has no tokens.
-pub(crate) fn lex_block(
+// the block that explains why a text has no tokens
+fn lex_block(
     alloc: Global,
     name: &[u8],
     program: &[u8],
@@ -177,8 +177,8 @@ fn parse_block_in(
     Ok(text)
 }
 
-/// The block that explains why a text's tokens are no program.
-pub(crate) fn parse_block(
+// the block that explains why a text's tokens are no program
+fn parse_block(
     alloc: Global,
     name: &[u8],
     program: &[u8],
@@ -254,8 +254,8 @@ fn blocks_of(
     Ok(text)
 }
 
-/// The blocks that explain the type faults of a program.
-pub(crate) fn type_blocks(
+// the blocks that explain the type faults of a program
+fn type_blocks(
     alloc: Global,
     name: &[u8],
     program: &[u8],
@@ -266,4 +266,26 @@ pub(crate) fn type_blocks(
     let lines = Lines::new(alloc, program)?;
     let text = blocks_of(alloc, name, &lines, faults)?;
     Ok(text)
+}
+
+/// The blocks that explain why the text of a file of this name has no typed tree. Time is linear in the text
+/// and in what is written, but for finding the lines of faults.
+///
+/// # Errors
+///
+/// Want of memory, here or there; more than [`MOST_BYTES`](crate::MOST_BYTES) of blocks are that too.
+pub fn error_blocks(
+    alloc: Global,
+    name: &[u8],
+    program: &[u8],
+    error: FrontError,
+) -> Result<Vec<u8>, AllocError>
+    ensures { IfOk result (λ text. is.error_blocks name.now program.now error ≡ Some text.items) }
+{
+    match error {
+        FrontError::Lex(fault) => lex_block(alloc, name, program, fault),
+        FrontError::Parse(fault) => parse_block(alloc, name, program, fault),
+        FrontError::Types(faults) => type_blocks(alloc, name, program, &faults),
+        FrontError::Memory => Err(AllocError),
+    }
 }

@@ -18,6 +18,8 @@ mod turns;
 mod ways;
 
 pub use explained::Explained;
-pub use explanations::explain;
+pub use explanations::{explain, explain_typed};
+pub use front_blocks::error_blocks;
 pub use laws::{explained_is_reported, first_bytes_are_enough};
 pub use room::MOST_BYTES;
+pub use spans::push_span_excerpt;

@@ -15,8 +15,9 @@ fn width(span: Span) -> usize
     span.to.saturating_sub(span.from) as usize
 }
 
-/// Appends the line of a stretch of the text, with a mark under it.
-pub(crate) fn push_span_excerpt(
+/// Appends the line of a stretch of the text, with a mark under it. Where memory is wanting, a first part of it
+/// may stand there.
+pub fn push_span_excerpt(
     lines: &Lines<'_>,
     span: Span,
     text: &mut Vec<u8>,

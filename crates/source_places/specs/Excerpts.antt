@@ -50,6 +50,10 @@ excerpt_of line before width = shown_line line (left_out line before) ++ marked_
 abbrev pub excerpt : List ℕ → ℕ → ℕ → List ℕ
 excerpt text at width = excerpt_of (line_at text (place_at text at).line) ((place_at text at).column - 1) width
 
+-- the line of this number, counted from 1, with a mark under all its bytes
+abbrev pub line_excerpt : List ℕ → ℕ → List ℕ
+line_excerpt text line = excerpt_of (line_at text line) 0 (length (line_at text line))
+
 -- ---- quotes
 
 -- so many bytes of a line behind so many others, but at most 40, between backquotes

@@ -155,6 +155,16 @@ impl Lines<'_> {
         push_marked(self.line_at(place.line), place.column - 1, width, text)
     }
 
+    /// Appends the line of this number, counted from 1, and, in a line of its own, a mark under all its bytes.
+    /// Of a line of more than 200 bytes the first 200 are shown, and `...` for the others. Where memory is
+    /// wanting, a first part of it may stand there.
+    pub fn push_line_excerpt(&self, line: usize, text: &mut Vec<u8>) -> Result<(), AllocError>
+        ensures { OnOk result (text.new.items ≡ text.old.items ++ is.line_excerpt (text_of self.now) line) }
+    {
+        let bytes = self.line_at(line);
+        push_marked(bytes, 0, bytes.len(), text)
+    }
+
     /// Appends so many bytes from an offset on between backquotes: as far as its line goes, and at most 40,
     /// with `...` where that isn't all. Where memory is wanting, a first part of it may stand there.
     pub fn push_quoted(&self, at: usize, width: usize, text: &mut Vec<u8>) -> Result<(), AllocError>

@@ -19,8 +19,9 @@ pub fn push_number(number: usize, text: &mut Vec<u8>) -> Result<(), AllocError>
     Ok(())
 }
 
-// appends a place in the file of this name
-fn push_place(name: &[u8], place: Place, text: &mut Vec<u8>) -> Result<(), AllocError>
+/// Appends `NAME:LINE:COLUMN: `, a place in the file of this name. Where memory is wanting, a first part of it
+/// may stand there.
+pub fn push_place(name: &[u8], place: Place, text: &mut Vec<u8>) -> Result<(), AllocError>
     ensures { OnOk result (text.new.items ≡ text.old.items ++ is.head_of name.now place) }
 {
     push_shown(name, text)?;

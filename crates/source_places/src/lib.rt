@@ -10,7 +10,7 @@ mod place;
 mod shown;
 mod starts;
 
-pub use heads::push_number;
+pub use heads::{push_number, push_place};
 pub use lines::Lines;
 pub use place::Place;
 pub use shown::{push_shown, shown_byte};

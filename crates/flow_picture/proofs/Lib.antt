@@ -1,0 +1,11 @@
+mod AppendLemmas
+mod ArrowLemmas
+pub mod Cuts
+mod LoopLemmas
+mod ObjectLemmas
+mod OrderLemmas
+mod PictureLemmas
+mod SameLemmas
+mod SearchLemmas
+mod SecretLemmas
+mod StageLemmas

@@ -1,0 +1,6 @@
+mod AppendLemmas
+pub mod Cuts
+mod EntryLemmas
+mod LawLemmas
+mod OutlineLemmas
+mod StructCellLemmas

@@ -1,0 +1,13 @@
+// What holds of outlines.
+ghost use Rattle.outlining.specs.Laws.{FirstBytesAreEnough, WordsTellCells};
+
+/// A text of which only the first 1,048,577 bytes were read comes to what the whole text comes to. It does
+/// nothing.
+pub fn first_bytes_are_enough()
+    ensures { FirstBytesAreEnough }
+{}
+
+/// What an outline says of a pointer is what crosses, cell by cell. It does nothing.
+pub fn words_tell_cells()
+    ensures { WordsTellCells }
+{}

@@ -1,0 +1,4 @@
+pub mod Cuts
+mod PairLemmas
+pub mod Reports
+mod ShownLines
