@@ -1,10 +1,14 @@
 //! Runs rows of lists against the calls around the flow rules: how far a secret comes in a graph, the work on a
-//! program's functions in threads, and what is explained of texts.
+//! program's functions in threads, what is explained of texts and of pairs of them, pictures and outlines.
 #![tactic(auto)]
 
 mod explained;
+mod files;
+mod outlined;
 mod paths;
+mod pictured;
 mod session;
+mod shown_lines;
 mod threads;
 
 use anyhow::Result;
@@ -17,7 +21,7 @@ use std::thread::{Builder, Threads};
 const STACK: usize = 1 << 30;
 
 fn show_rows<R: Runtime + AllocGlobal + Threads + Sync>(rt: &R) -> Result<()> {
-    let mut session = Session;
+    let mut session = Session::new(rt.alloc());
     show_lists(rt, &mut session)
 }
 

@@ -1,25 +1,45 @@
-// What each row shows.
-use crate::explained::explained;
+// The files that rows have set, and what each row shows.
+use crate::explained::{explained, pair_explained};
+use crate::files::Files;
+use crate::outlined::outlined;
 use crate::paths::paths;
+use crate::pictured::pictured;
 use crate::threads::at_once;
 use anyhow::{Result, bail};
 use case_rows::{Shows, first_word};
 use std::alloc::Global;
 use std::thread::Threads;
 
-/// Rows that set nothing.
+/// The files that rows have set.
 #[derive(Drop)]
-pub struct Session;
+pub struct Session {
+    files: Files,
+}
+
+impl Session {
+    /// No file is set.
+    pub fn new(alloc: Global) -> Session {
+        Session {
+            files: Files::new(alloc),
+        }
+    }
+}
 
 impl Shows for Session {
-    fn begin_list(&mut self, _alloc: Global) {}
+    fn begin_list(&mut self, alloc: Global) {
+        self.files = Files::new(alloc);
+    }
 
     fn shown<R: Threads + Sync>(&mut self, rt: &R, alloc: Global, row: &str) -> Result<String> {
         let (word, rest) = first_word(row);
         match word {
+            "file" => self.files.set(alloc, rest),
             "paths" => paths(alloc, rest),
-            "explain" => explained(rt, alloc, rest),
             "threads" => at_once(rt, alloc, rest),
+            "explain" => explained(rt, alloc, rest),
+            "explain_pair" => pair_explained(rt, alloc, &self.files, rest),
+            "picture" => pictured(rt, alloc, rest),
+            "outline" => outlined(rt, alloc, rest),
             _ => bail!("no such row"),
         }
     }

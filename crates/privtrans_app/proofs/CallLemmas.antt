@@ -10,10 +10,10 @@ use Rattle.program_split.specs.Split as halves
 use Rattle.program_split.specs.Split.{Outcome, refused, split as split_in}
 use Rattle.program_split.specs.Laws.{without_ways}
 use Rattle.program_split.proofs.OneOutcome.{outcome_is_one}
-use Rattle.privtrans_app.specs.Words.{IsCheck, IsGenerated, IsHelp, IsLocal, IsOrig, IsProcessRun, IsRun, IsSlave, IsVersion, of_local, of_process_run, of_orig, of_check}
+use Rattle.privtrans_app.specs.Words.{IsCheck, IsExplain, IsGenerated, IsHelp, IsLocal, IsOrig, IsProcessRun, IsRun, IsSlave, IsVersion, of_local, of_process_run, of_orig, of_check, of_explain}
 use Rattle.privtrans_app.specs.Words.{Manner}
 use Rattle.privtrans_app.specs.Ending as endings
-use Rattle.privtrans_app.specs.Ending.{Ending, help, version, exit, accepted, split, worked, usage, missing, read_fault, write_fault, faults, trapped, spent, link_fault, bad_peer, peer_ended, memory, status_of, Reports, StaysDown, EndsWith}
+use Rattle.privtrans_app.specs.Ending.{Ending, help, version, exit, accepted, split, worked, usage, missing, read_fault, write_fault, faults, drawn, trapped, spent, link_fault, bad_peer, peer_ended, memory, status_of, Reports, StaysDown, EndsWith}
 use Rattle.privtrans_app.specs.Causes.{IsByForm, IsByFiles}
 use Rattle.privtrans_app.specs.ProcessRun.{Answer, IsRun as IsRunOf}
 use Rattle.privtrans_app.specs.SplitRun.{Names, ending_of}
@@ -39,6 +39,12 @@ four_or_six n a b = omega arith
 four_or_seven : (n : ℕ) → n ≡ 4 → n ≡ 7 → ⊥
 four_or_seven n a b = omega arith
 
+five_or_seven : (n : ℕ) → n ≡ 5 → n ≡ 7 → ⊥
+five_or_seven n a b = omega arith
+
+six_or_four : (n : ℕ) → n ≡ 6 → n ≡ 4 → ⊥
+six_or_four n a b = omega arith
+
 six_or_one : (n : ℕ) → n ≡ 6 → n ≡ 1 → ⊥
 six_or_one n a b = omega arith
 
@@ -56,6 +62,8 @@ split_or_run words _ n is (of_local p h q i m w form) = four_or_seven (length wo
 split_or_run words _ n is (of_process_run p h q i m form) = four_or_six (length words) (ap length is.are) (ap length form.are)
 split_or_run words _ n is (of_orig p h i m form) = four_or_five (length words) (ap length is.are) (ap length form.are)
 split_or_run words _ n is (of_check m p form) = four_or_two (length words) (ap length is.are) (ap length form.are)
+split_or_run words _ n is (of_explain p h q form) =
+    five_or_seven (length (get_or words 0 [])) (ap (λ xs. length (get_or xs 0 [])) is.are) (ap (λ xs. length (get_or xs 0 [])) form.are)
 
 pub split_or_slave : (words : List (List ℕ)) (n : Names) → AreSplit words n → IsSlave words → ⊥
 split_or_slave words n is slave = four_or_one (length words) (ap length is.are) (ap length slave)
@@ -72,6 +80,9 @@ process_or_orig words a b = six_or_five (length words) (ap length a.are) (ap len
 pub process_or_check : {p h q i p' : List ℕ} {m : ℕ} {n : Manner} (words : List (List ℕ)) → IsProcessRun words p h q i m → IsCheck words n p' → ⊥
 process_or_check words a b = six_or_two (length words) (ap length a.are) (ap length b.are)
 
+pub process_or_explain : {p h q i p' h' q' : List ℕ} {m : ℕ} (words : List (List ℕ)) → IsProcessRun words p h q i m → IsExplain words p' h' q' → ⊥
+process_or_explain words a b = six_or_four (length words) (ap length a.are) (ap length b.are)
+
 -- the three words of a generated program are no other's
 not_three : (words : List (List ℕ)) (n : ℕ) → length words ≡ 3 → length words ≡ n → nat_eq n 3 ≡ false → ⊥
 not_three words n three is apart = clash (sym apart ∙ ap (λ m. nat_eq m 3) (sym is ∙ three))
@@ -84,6 +95,7 @@ generated_or_run words _ is (of_local p h q i m w form) = not_three words 7 (ap 
 generated_or_run words _ is (of_process_run p h q i m form) = not_three words 6 (ap length is.are) (ap length form.are) refl
 generated_or_run words _ is (of_orig p h i m form) = not_three words 5 (ap length is.are) (ap length form.are) refl
 generated_or_run words _ is (of_check m p form) = not_three words 2 (ap length is.are) (ap length form.are) refl
+generated_or_run words _ is (of_explain p h q form) = not_three words 4 (ap length is.are) (ap length form.are) refl
 
 pub generated_or_split : {seed count : ℕ} (words : List (List ℕ)) (n : Names) → IsGenerated words seed count → AreSplit words n → ⊥
 generated_or_split words n is form = not_three words 4 (ap length is.are) (ap length form.are) refl
@@ -166,6 +178,7 @@ module _ (names : Names) (files : Files) (files' : Option Files) (reads reads' f
   by_lack (read_fault n) lacks comes tells = absurd (r comes.1)
   by_lack write_fault lacks comes tells = absurd (w comes.0)
   by_lack (faults lines) lacks comes tells = absurd (some_none comes.0.0 (files names.program) comes.0.1 lacks)
+  by_lack (drawn lines) lacks comes tells = absurd comes
   by_lack (trapped trap span) lacks comes tells = absurd comes
   by_lack (endings.refused call function state) lacks comes tells = absurd comes
   by_lack spent lacks comes tells = absurd comes
@@ -198,6 +211,7 @@ module _ (names : Names) (files : Files) (files' : Option Files) (reads reads' f
       let same : comes.0.0 ≡ text = some_is comes.0.0 text (files names.program) comes.0.1 held in
       let there : halves.ComesTo text (refused comes.0.2.0) = subst (λ (t : List ℕ). halves.ComesTo t (refused comes.0.2.0)) same comes.0.2.1 in
       ends (faults lines) (status_of (ending_of o)) (same_status text (refused comes.0.2.0) o there is) tells
+  by_text (drawn lines) text o held is comes tells = absurd comes
   by_text (trapped trap span) text o held is comes tells = absurd comes
   by_text (endings.refused call function state) text o held is comes tells = absurd comes
   by_text spent text o held is comes tells = absurd comes
@@ -261,6 +275,7 @@ module _ (untouched : Type 0) (moves : List Event → List ℕ → Type 0) (brea
     faulty = λ t turns refusal held faulty. absurd (no_run (Some files) e is _ (of_process_run _ _ _ _ _ held.form));
     original = λ t turns out due held comes ends_so. absurd (no_run (Some files) e is _ (of_orig _ _ _ _ held.form));
     checked = λ text out due held comes ends_so. absurd (no_run (Some files) e is _ (of_check _ _ held.form));
+    pair_explained = λ names t out due held comes ends_so. absurd (no_run (Some files) e is _ (of_explain _ _ _ held.form));
   }
   calls_by_files keeps w f files e r (inr (inr (inl is))) tells = record {
     missing = λ name reached lacks.
@@ -270,6 +285,7 @@ module _ (untouched : Type 0) (moves : List Event → List ℕ → Type 0) (brea
         five t (process_faults untouched moves breaks fair o o' report report' status keeps words files reads reads' writes writes' links links' r t turns refusal e held faulty is.comes (reported e report report' failed failed' status tells f));
     original = λ t turns out due held comes ends_so. absurd (process_or_orig words is.form held.form);
     checked = λ text out due held comes ends_so. absurd (process_or_check words is.form held.form);
+    pair_explained = λ names t out due held comes ends_so. absurd (process_or_explain words is.form held.form);
   }
   calls_by_files keeps w f files e r (inr (inr (inr (inl is)))) tells = record {
     missing = λ name reached lacks. absurd (more_than_one words _ reached.form (ap length is.form));
@@ -277,6 +293,7 @@ module _ (untouched : Type 0) (moves : List Event → List ℕ → Type 0) (brea
     faulty = λ t turns refusal held faulty. absurd (more_than_one words _ (of_process_run _ _ _ _ _ held.form) (ap length is.form));
     original = λ t turns out due held comes ends_so. absurd (more_than_one words _ (of_orig _ _ _ _ held.form) (ap length is.form));
     checked = λ text out due held comes ends_so. absurd (more_than_one words _ (of_check _ _ held.form) (ap length is.form));
+    pair_explained = λ names t out due held comes ends_so. absurd (more_than_one words _ (of_explain _ _ _ held.form) (ap length is.form));
   }
   calls_by_files keeps w f files e r (inr (inr (inr (inr is)))) tells = record {
     missing = λ name reached lacks. absurd (generated_or_run words _ is.form reached.form);
@@ -284,6 +301,7 @@ module _ (untouched : Type 0) (moves : List Event → List ℕ → Type 0) (brea
     faulty = λ t turns refusal held faulty. absurd (generated_or_run words _ is.form (of_process_run _ _ _ _ _ held.form));
     original = λ t turns out due held comes ends_so. absurd (generated_or_run words _ is.form (of_orig _ _ _ _ held.form));
     checked = λ text out due held comes ends_so. absurd (generated_or_run words _ is.form (of_check _ _ held.form));
+    pair_explained = λ names t out due held comes ends_so. absurd (generated_or_run words _ is.form (of_explain _ _ _ held.form));
   }
 
   pub calls_by_split : (files : Files) (e : Ending) → StaysDown reads reads' → StaysDown fwrites fwrites' → StaysDown failed failed' → Comes (Some files) e → Told e → IsBySplit words files status

@@ -5,7 +5,7 @@ use Rattle.pt_base.specs.Faults.{Rose}
 use Rattle.pt_base.specs.Files.{Files, Lacks}
 use Rattle.pt_base.specs.Told.{AppendsPart}
 use Rattle.privtrans_app.specs.Words.{IsRun}
-use Rattle.privtrans_app.specs.Ending.{Ending, help, version, exit, accepted, split, worked, usage, missing, read_fault, write_fault, faults, trapped, refused, spent, link_fault, bad_peer, peer_ended, memory, Puts}
+use Rattle.privtrans_app.specs.Ending.{Ending, help, version, exit, accepted, split, worked, usage, missing, read_fault, write_fault, faults, drawn, trapped, refused, spent, link_fault, bad_peer, peer_ended, memory, Puts}
 use Rattle.privtrans_app.specs.Held.{IsReached}
 use Rattle.privtrans_app.specs.Causes.{Expects, WritesPart, ComesTo}
 use Rattle.privtrans_app.specs.Reading.{IsReadRefusal, IsRefusal}
@@ -43,6 +43,7 @@ read_refusal_comes given files reads reads' writes o name (missing n) reached is
 read_refusal_comes given files reads reads' writes o name (read_fault n) reached is = (subst (IsReached given files) (sym is.0) reached, is.1, keeps_same o)
 read_refusal_comes given files reads reads' writes o name write_fault reached is = absurd is
 read_refusal_comes given files reads reads' writes o name (faults lines) reached is = absurd is
+read_refusal_comes given files reads reads' writes o name (drawn lines) reached is = absurd is
 read_refusal_comes given files reads reads' writes o name (trapped trap span) reached is = absurd is
 read_refusal_comes given files reads reads' writes o name (refused call function state) reached is = absurd is
 read_refusal_comes given files reads reads' writes o name spent reached is = absurd is

@@ -4,18 +4,22 @@ use Rattle.pt_base.specs.Faults.{Rose}
 use Rattle.pt_base.specs.Files.{Files, Lacks}
 use Rattle.original.specs.Original as original
 use Rattle.original.proofs.OneOutcome.{outcome_is_one}
-use Rattle.privtrans_app.specs.Words.{IsHelp, IsVersion, IsLocal, IsOrig, IsCheck, IsNoForm, IsPlain, IsRun, of_local, of_process_run, of_orig, of_check}
+use Rattle.privtrans_app.specs.Words.{IsHelp, IsVersion, IsLocal, IsOrig, IsCheck, IsExplain, IsNoForm, IsPlain, IsRun, of_local, of_process_run, of_orig, of_check, of_explain}
 use Rattle.pair_texts.specs.Start.{Texts}
-use Rattle.local_pair.specs.Local as pairs
-use Rattle.local_pair.proofs.OneOutcome as pair_outcomes
-use Rattle.privtrans_app.specs.Ending.{Ending, help, version, exit, accepted, split, worked, usage, missing, read_fault, write_fault, faults, trapped, refused, spent, link_fault, bad_peer, peer_ended, memory, status_of, Reports, StaysDown, EndsWith}
+use Rattle.pair_running.specs.LocalPairLocal as pairs
+use Rattle.pair_running.proofs.LocalPairOneOutcome as pair_outcomes
+use Rattle.pair_explaining.specs.PairExplains as explained
+use Rattle.pair_explaining.specs.PairNames.{Names as FileNames}
+use Rattle.privtrans_app.specs.Ending.{Ending, help, version, exit, accepted, split, worked, usage, missing, read_fault, write_fault, faults, drawn, trapped, refused, spent, link_fault, bad_peer, peer_ended, memory, status_of, Reports, StaysDown, EndsWith}
 use Rattle.privtrans_app.specs.Held.{IsHeld, AllHeld, IsReached}
 use Rattle.privtrans_app.specs.Words.{Manner}
 use Rattle.privtrans_app.specs.LocalRun as local
 use Rattle.privtrans_app.specs.CheckRun as check
+use Rattle.privtrans_app.specs.ExplainRun as explain
 use Rattle.privtrans_app.specs.OrigRun as orig
 use Rattle.privtrans_app.specs.Causes.{Expects, ComesTo, IsByForm, IsByFiles}
 use Rattle.privtrans_app.proofs.CheckLemmas.{no_check_of, same_finds, same_status}
+use Rattle.privtrans_app.proofs.ExplainLemmas as explanations
 use Rattle.privtrans_app.proofs.LocalLemmas as pair_runs
 use Rattle.privtrans_app.proofs.LocalLemmas.{same_comes}
 use Rattle.privtrans_app.proofs.OrigLemmas.{same_orig, same_ending}
@@ -40,6 +44,9 @@ one_of_help words (inr is) = ap length is
 one_or_two : (n : ℕ) → n ≡ 1 → n ≡ 2 → ⊥
 one_or_two n a b = omega arith
 
+one_or_four : (n : ℕ) → n ≡ 1 → n ≡ 4 → ⊥
+one_or_four n a b = omega arith
+
 one_or_five : (n : ℕ) → n ≡ 1 → n ≡ 5 → ⊥
 one_or_five n a b = omega arith
 
@@ -58,12 +65,22 @@ two_or_five n a b = omega arith
 two_or_seven : (n : ℕ) → n ≡ 2 → n ≡ 7 → ⊥
 two_or_seven n a b = omega arith
 
+four_or_two : (n : ℕ) → n ≡ 4 → n ≡ 2 → ⊥
+four_or_two n a b = omega arith
+
+four_or_five : (n : ℕ) → n ≡ 4 → n ≡ 5 → ⊥
+four_or_five n a b = omega arith
+
+four_or_seven : (n : ℕ) → n ≡ 4 → n ≡ 7 → ⊥
+four_or_seven n a b = omega arith
+
 -- the words of a run aren't one
 pub more_than_one : (words names : List (List ℕ)) → IsRun words names → length words ≡ 1 → ⊥
 more_than_one words _ (of_local p h q i m w form) one = one_or_seven (length words) one (ap length form.are)
 more_than_one words _ (of_process_run p h q i m form) one = one_or_six (length words) one (ap length form.are)
 more_than_one words _ (of_orig p h i m form) one = one_or_five (length words) one (ap length form.are)
 more_than_one words _ (of_check m p form) one = one_or_two (length words) one (ap length form.are)
+more_than_one words _ (of_explain p h q form) one = one_or_four (length words) one (ap length form.are)
 
 pub no_help : (words names : List (List ℕ)) → IsRun words names → IsHelp words → ⊥
 no_help words names run is = more_than_one words names run (one_of_help words is)
@@ -80,11 +97,21 @@ local_check words a b = two_or_seven (length words) (ap length b.are) (ap length
 pub orig_check : {p h i p' : List ℕ} {m : ℕ} {n : Manner} (words : List (List ℕ)) → IsOrig words p h i m → IsCheck words n p' → ⊥
 orig_check words a b = two_or_five (length words) (ap length b.are) (ap length a.are)
 
+pub local_explain : {p h q i p' h' q' : List ℕ} {m w : ℕ} (words : List (List ℕ)) → IsLocal words p h q i m w → IsExplain words p' h' q' → ⊥
+local_explain words a b = four_or_seven (length words) (ap length b.are) (ap length a.are)
+
+pub orig_explain : {p h i p' h' q' : List ℕ} {m : ℕ} (words : List (List ℕ)) → IsOrig words p h i m → IsExplain words p' h' q' → ⊥
+orig_explain words a b = four_or_five (length words) (ap length b.are) (ap length a.are)
+
+pub check_explain : {p p' h' q' : List ℕ} {n : Manner} (words : List (List ℕ)) → IsCheck words n p → IsExplain words p' h' q' → ⊥
+check_explain words a b = four_or_two (length words) (ap length b.are) (ap length a.are)
+
 form_runs : (words names : List (List ℕ)) → IsNoForm words → IsPlain words → IsRun words names → ⊥
 form_runs words _ none plain (of_local p h q i m w form) = none.no_local p h q i m w form
 form_runs words _ none plain (of_process_run p h q i m form) = plain.no_run p h q i m form
 form_runs words _ none plain (of_orig p h i m form) = none.no_orig p h i m form
 form_runs words _ none plain (of_check m p form) = no_check_of words none.no_check m p form
+form_runs words _ none plain (of_explain p h q form) = none.no_explain p h q form
 
 -- the words name one list of files
 abbrev pub four : List ℕ → List ℕ → List ℕ → List ℕ → List (List ℕ)
@@ -98,7 +125,7 @@ one_name p = p ∷ []
 
 -- how many files so many words name, and which
 abbrev files_named : ℕ → ℕ
-files_named n = if nat_le 6 n then 4 else (if nat_le 5 n then 3 else 1)
+files_named n = if nat_le 6 n then 4 else (if nat_le 4 n then 3 else 1)
 
 abbrev names_in : List (List ℕ) → List (List ℕ)
 names_in words = take (files_named (length words)) (drop 1 words)
@@ -108,6 +135,7 @@ are_in words _ (of_local p h q i m w form) = sym (ap names_in form.are)
 are_in words _ (of_process_run p h q i m form) = sym (ap names_in form.are)
 are_in words _ (of_orig p h i m form) = sym (ap names_in form.are)
 are_in words _ (of_check m p form) = sym (ap names_in form.are)
+are_in words _ (of_explain p h q form) = sym (ap names_in form.are)
 
 same_names : (words names names' : List (List ℕ)) → IsRun words names → IsRun words names' → names ≡ names'
 same_names words names names' a b = are_in words names a ∙ sym (are_in words names' b)
@@ -151,17 +179,26 @@ orig_held words files t turns held = record {
 pub check_held : (words : List (List ℕ)) (files : Files) (text : List ℕ) → check.AreHeld words (Some files) text → RunsHeld words files
 check_held words files text held = record { names = one_name held.program_name; form = of_check _ _ held.form; held = ((text, held.program), tt) }
 
+pub explain_held : (words : List (List ℕ)) (files : Files) (names : FileNames) (t : explained.Texts) → explain.AreHeld words (Some files) names t → RunsHeld words files
+explain_held words files names t held = record {
+  names = three names.program names.host names.policy;
+  form = of_explain _ _ _ held.form;
+  held = ((t.program, held.program), ((t.host, held.host), ((t.policy, held.policy), tt)));
+}
+
 -- files of which something is expected
 expected_held : (words : List (List ℕ)) (files : Files) (bytes : List ℕ) (e : Ending) → Expects words (Some files) bytes e → RunsHeld words files
 expected_held words files bytes e (inl is) = local_held words files is.1.0 is.1.1 is.1.2 is.1.3
 expected_held words files bytes e (inr (inl is)) = orig_held words files is.1.0 is.1.1 is.1.2
-expected_held words files bytes e (inr (inr is)) = check_held words files is.1.0 is.1.1
+expected_held words files bytes e (inr (inr (inl is))) = check_held words files is.1.0 is.1.1
+expected_held words files bytes e (inr (inr (inr is))) = explain_held words files is.1.0 is.1.1 is.1.2
 
 -- words whose files come to something are a run
 expects_run : (words : List (List ℕ)) (files : Option Files) (bytes : List ℕ) (e : Ending) → Expects words files bytes e → (names : List (List ℕ)) × IsRun words names
 expects_run words files bytes e (inl is) = (_, of_local _ _ _ _ _ _ is.1.3.form)
 expects_run words files bytes e (inr (inl is)) = (_, of_orig _ _ _ _ is.1.2.form)
-expects_run words files bytes e (inr (inr is)) = (_, of_check _ _ is.1.1.form)
+expects_run words files bytes e (inr (inr (inl is))) = (_, of_check _ _ is.1.1.form)
+expects_run words files bytes e (inr (inr (inr is))) = (_, of_explain _ _ _ is.1.2.form)
 
 -- ---- what the files hold is one
 
@@ -176,7 +213,8 @@ paired_there : (words : List (List ℕ)) (files : Files) (t : Texts) (turns wind
     → pairs.ComesTo t turns o → Expects words (Some files) bytes e → status_of e ≡ status_of (local.ending_of o)
 paired_there words files t turns window o e bytes held comes (inl gives) = pair_there words files t turns window o e bytes held comes gives
 paired_there words files t turns window o e bytes held comes (inr (inl is)) = absurd (two_runs words held.form is.1.2.form)
-paired_there words files t turns window o e bytes held comes (inr (inr is)) = absurd (local_check words held.form is.1.1.form)
+paired_there words files t turns window o e bytes held comes (inr (inr (inl is))) = absurd (local_check words held.form is.1.1.form)
+paired_there words files t turns window o e bytes held comes (inr (inr (inr is))) = absurd (local_explain words held.form is.1.2.form)
 
 -- texts of the original have one ending
 original_there : (words : List (List ℕ)) (files : Files) (t : original.Texts) (turns : ℕ) (o : original.Outcome) (e e' : Ending) (bytes : List ℕ) → orig.AreHeld words (Some files) t turns
@@ -191,7 +229,8 @@ expected_there : (words : List (List ℕ)) (files : Files) (t : original.Texts) 
     → original.ComesTo t turns o → orig.IsEnding o e → Expects words (Some files) bytes e' → status_of e' ≡ status_of e
 expected_there words files t turns o e e' bytes held comes ends (inl is) = absurd (two_runs words is.1.3.form held.form)
 expected_there words files t turns o e e' bytes held comes ends (inr (inl gives)) = original_there words files t turns o e e' bytes held comes ends gives
-expected_there words files t turns o e e' bytes held comes ends (inr (inr is)) = absurd (orig_check words held.form is.1.1.form)
+expected_there words files t turns o e e' bytes held comes ends (inr (inr (inl is))) = absurd (orig_check words held.form is.1.1.form)
+expected_there words files t turns o e e' bytes held comes ends (inr (inr (inr is))) = absurd (orig_explain words held.form is.1.2.form)
 
 -- a text that is checked has one status
 check_there : (words : List (List ℕ)) (files : Files) (text : List ℕ) (o : check.Findings) (e e' : Ending) (bytes : List ℕ) → (held : check.AreHeld words (Some files) text)
@@ -204,7 +243,22 @@ checked_there : (words : List (List ℕ)) (files : Files) (text : List ℕ) (o :
     → check.Finds held.manner held.program_name text o → check.IsEnding o e → Expects words (Some files) bytes e' → status_of e' ≡ status_of e
 checked_there words files text o e e' bytes held comes ends (inl is) = absurd (local_check words is.1.3.form held.form)
 checked_there words files text o e e' bytes held comes ends (inr (inl is)) = absurd (orig_check words is.1.2.form held.form)
-checked_there words files text o e e' bytes held comes ends (inr (inr gives)) = check_there words files text o e e' bytes held comes ends gives
+checked_there words files text o e e' bytes held comes ends (inr (inr (inl gives))) = check_there words files text o e e' bytes held comes ends gives
+checked_there words files text o e e' bytes held comes ends (inr (inr (inr is))) = absurd (check_explain words held.form is.1.2.form)
+
+-- texts of a pair that are explained have one status
+explain_there : (words : List (List ℕ)) (files : Files) (names : FileNames) (t : explained.Texts) (o : check.Findings) (e e' : Ending) (bytes : List ℕ) → explain.AreHeld words (Some files) names t
+    → explain.Finds names t o → check.IsEnding o e → explain.Gives words (Some files) bytes e' → status_of e' ≡ status_of e
+explain_there words files names t o e e' bytes held comes ends gives =
+    let there : explain.Finds names t gives.0 = explanations.same_finds words files gives.1.0 names gives.1.1 t gives.1.2 held gives.0 gives.1.3 in
+    explanations.same_status names t gives.0 o e' e there comes gives.2 ends
+
+explained_there : (words : List (List ℕ)) (files : Files) (names : FileNames) (t : explained.Texts) (o : check.Findings) (e e' : Ending) (bytes : List ℕ) → explain.AreHeld words (Some files) names t
+    → explain.Finds names t o → check.IsEnding o e → Expects words (Some files) bytes e' → status_of e' ≡ status_of e
+explained_there words files names t o e e' bytes held comes ends (inl is) = absurd (local_explain words is.1.3.form held.form)
+explained_there words files names t o e e' bytes held comes ends (inr (inl is)) = absurd (orig_explain words is.1.2.form held.form)
+explained_there words files names t o e e' bytes held comes ends (inr (inr (inl is))) = absurd (check_explain words is.1.1.form held.form)
+explained_there words files names t o e e' bytes held comes ends (inr (inr (inr gives))) = explain_there words files names t o e e' bytes held comes ends gives
 
 -- ---- the status of each ending
 
@@ -238,6 +292,7 @@ module _ (words : List (List ℕ)) (reads reads' : ℕ) (o o' : Option (List ℕ
   by_text files (read_fault name) formed no_run comes tells = absurd (no_run _ comes.0.form)
   by_text files write_fault formed no_run comes tells = absurd (w comes.0)
   by_text files (faults lines) formed no_run comes tells = absurd (let run = expects_run words files [] (faults lines) comes.0 in no_run run.0 run.1)
+  by_text files (drawn lines) formed no_run comes tells = absurd (let run = expects_run words files comes.0 (drawn lines) comes.1 in no_run run.0 run.1)
   by_text files (trapped trap span) formed no_run comes tells = absurd (let run = expects_run words files comes.0 (trapped trap span) comes.1 in no_run run.0 run.1)
   by_text files (refused call function state) formed no_run comes tells = absurd (let run = expects_run words files comes.0 (refused call function state) comes.1 in no_run run.0 run.1)
   by_text files spent formed no_run comes tells = absurd (let run = expects_run words files comes.0 spent comes.1 in no_run run.0 run.1)
@@ -259,6 +314,7 @@ module _ (words : List (List ℕ)) (reads reads' : ℕ) (o o' : Option (List ℕ
   by_usage files (read_fault name) none no_run comes tells = absurd (no_run _ comes.0.form)
   by_usage files write_fault none no_run comes tells = absurd (w comes.0)
   by_usage files (faults lines) none no_run comes tells = absurd (let run = expects_run words files [] (faults lines) comes.0 in no_run run.0 run.1)
+  by_usage files (drawn lines) none no_run comes tells = absurd (let run = expects_run words files comes.0 (drawn lines) comes.1 in no_run run.0 run.1)
   by_usage files (trapped trap span) none no_run comes tells = absurd (let run = expects_run words files comes.0 (trapped trap span) comes.1 in no_run run.0 run.1)
   by_usage files (refused call function state) none no_run comes tells = absurd (let run = expects_run words files comes.0 (refused call function state) comes.1 in no_run run.0 run.1)
   by_usage files spent none no_run comes tells = absurd (let run = expects_run words files comes.0 spent comes.1 in no_run run.0 run.1)
@@ -287,6 +343,7 @@ module _ (words : List (List ℕ)) (reads reads' : ℕ) (o o' : Option (List ℕ
   by_lack files (read_fault n) r name reached lacks comes tells = absurd (r comes.1)
   by_lack files write_fault r name reached lacks comes tells = absurd (w comes.0)
   by_lack files (faults lines) r name reached lacks comes tells = absurd (not_lacking words files name (expected_held words files [] (faults lines) comes.0) reached lacks)
+  by_lack files (drawn lines) r name reached lacks comes tells = absurd (not_lacking words files name (expected_held words files comes.0 (drawn lines) comes.1) reached lacks)
   by_lack files (trapped trap span) r name reached lacks comes tells = absurd (not_lacking words files name (expected_held words files comes.0 (trapped trap span) comes.1) reached lacks)
   by_lack files (refused call function state) r name reached lacks comes tells = absurd (not_lacking words files name (expected_held words files comes.0 (refused call function state) comes.1) reached lacks)
   by_lack files spent r name reached lacks comes tells = absurd (not_lacking words files name (expected_held words files comes.0 spent comes.1) reached lacks)
@@ -317,6 +374,8 @@ module _ (words : List (List ℕ)) (reads reads' : ℕ) (o o' : Option (List ℕ
   by_paired files write_fault r t turns window out held comes came tells = absurd (w came.0)
   by_paired files (faults lines) r t turns window out held comes came tells =
       ends_as (faults lines) (status_of (local.ending_of out)) (paired_there words files t turns window out (faults lines) [] held comes came.0) tells
+  by_paired files (drawn lines) r t turns window out held comes came tells =
+      ends_as (drawn lines) (status_of (local.ending_of out)) (paired_there words files t turns window out (drawn lines) came.0 held comes came.1) tells
   by_paired files (trapped trap span) r t turns window out held comes came tells =
       ends_as (trapped trap span) (status_of (local.ending_of out)) (paired_there words files t turns window out (trapped trap span) came.0 held comes came.1) tells
   by_paired files (refused call function state) r t turns window out held comes came tells =
@@ -343,6 +402,8 @@ module _ (words : List (List ℕ)) (reads reads' : ℕ) (o o' : Option (List ℕ
   by_original files write_fault r t turns out due held comes is came tells = absurd (w came.0)
   by_original files (faults lines) r t turns out due held comes is came tells =
       ends_as (faults lines) (status_of due) (expected_there words files t turns out due (faults lines) [] held comes is came.0) tells
+  by_original files (drawn lines) r t turns out due held comes is came tells =
+      ends_as (drawn lines) (status_of due) (expected_there words files t turns out due (drawn lines) came.0 held comes is came.1) tells
   by_original files (trapped trap span) r t turns out due held comes is came tells =
       ends_as (trapped trap span) (status_of due) (expected_there words files t turns out due (trapped trap span) came.0 held comes is came.1) tells
   by_original files (refused call function state) r t turns out due held comes is came tells =
@@ -368,6 +429,8 @@ module _ (words : List (List ℕ)) (reads reads' : ℕ) (o o' : Option (List ℕ
   by_checked files write_fault r text out due held comes is came tells = absurd (w came.0)
   by_checked files (faults lines) r text out due held comes is came tells =
       ends_as (faults lines) (status_of due) (checked_there words files text out due (faults lines) [] held comes is came.0) tells
+  by_checked files (drawn lines) r text out due held comes is came tells =
+      ends_as (drawn lines) (status_of due) (checked_there words files text out due (drawn lines) came.0 held comes is came.1) tells
   by_checked files (trapped trap span) r text out due held comes is came tells =
       ends_as (trapped trap span) (status_of due) (checked_there words files text out due (trapped trap span) came.0 held comes is came.1) tells
   by_checked files (refused call function state) r text out due held comes is came tells =
@@ -378,6 +441,33 @@ module _ (words : List (List ℕ)) (reads reads' : ℕ) (o o' : Option (List ℕ
   by_checked files peer_ended r text out due held comes is came tells = absurd came
   by_checked files memory r text out due held comes is came tells = wants (status_of due) tells
 
+  -- texts of a pair that are explained
+  by_explained : (files : Files) (e : Ending) → StaysDown reads reads' → (names : FileNames) (t : explained.Texts) (out : check.Findings) (due : Ending) → explain.AreHeld words (Some files) names t
+      → explain.Finds names t out → check.IsEnding out due → Comes (Some files) e → Tells e → EndsWith status (status_of due)
+  by_explained files help r names t out due held comes is came tells = absurd (no_help words _ (of_explain _ _ _ held.form) came.0)
+  by_explained files version r names t out due held comes is came tells = absurd (no_version words _ (of_explain _ _ _ held.form) came.0)
+  by_explained files (exit s) r names t out due held comes is came tells = ends_as (exit s) (status_of due) (explained_there words files names t out due (exit s) came.0 held comes is came.1) tells
+  by_explained files accepted r names t out due held comes is came tells = ends_as accepted (status_of due) (explained_there words files names t out due accepted came.0 held comes is came.1) tells
+  by_explained files split r names t out due held comes is came tells = absurd came
+  by_explained files worked r names t out due held comes is came tells = absurd came
+  by_explained files usage r names t out due held comes is came tells = absurd (came.0.no_explain _ _ _ held.form)
+  by_explained files (missing name) r names t out due held comes is came tells = absurd (none_missing files name r (explain_held words files names t held) came.0 came.1)
+  by_explained files (read_fault name) r names t out due held comes is came tells = absurd (r came.1)
+  by_explained files write_fault r names t out due held comes is came tells = absurd (w came.0)
+  by_explained files (faults lines) r names t out due held comes is came tells =
+      ends_as (faults lines) (status_of due) (explained_there words files names t out due (faults lines) [] held comes is came.0) tells
+  by_explained files (drawn lines) r names t out due held comes is came tells =
+      ends_as (drawn lines) (status_of due) (explained_there words files names t out due (drawn lines) came.0 held comes is came.1) tells
+  by_explained files (trapped trap span) r names t out due held comes is came tells =
+      ends_as (trapped trap span) (status_of due) (explained_there words files names t out due (trapped trap span) came.0 held comes is came.1) tells
+  by_explained files (refused call function state) r names t out due held comes is came tells =
+      ends_as (refused call function state) (status_of due) (explained_there words files names t out due (refused call function state) came.0 held comes is came.1) tells
+  by_explained files spent r names t out due held comes is came tells = ends_as spent (status_of due) (explained_there words files names t out due spent came.0 held comes is came.1) tells
+  by_explained files link_fault r names t out due held comes is came tells = absurd came
+  by_explained files (bad_peer rule offset) r names t out due held comes is came tells = absurd came
+  by_explained files peer_ended r names t out due held comes is came tells = absurd came
+  by_explained files memory r names t out due held comes is came tells = wants (status_of due) tells
+
   pub by_files : (files : Files) (e : Ending) → StaysDown reads reads' → Comes (Some files) e → Tells e → IsByFiles words files status
   by_files files e r comes tells = record {
     missing = λ name reached lacks. by_lack files e r name reached lacks comes tells;
@@ -385,4 +475,5 @@ module _ (words : List (List ℕ)) (reads reads' : ℕ) (o o' : Option (List ℕ
     faulty = λ t turns refusal held is. absurd (plain.no_run _ _ _ _ _ held.form);
     original = λ t turns out due held is ends_so. by_original files e r t turns out due held is ends_so comes tells;
     checked = λ text out due held is ends_so. by_checked files e r text out due held is ends_so comes tells;
+    pair_explained = λ names t out due held is ends_so. by_explained files e r names t out due held is ends_so comes tells;
   }

@@ -7,11 +7,11 @@ use Rattle.fault_lines.specs.Seen.{Seen}
 use Rattle.runs.specs.Run.{Expected}
 use Rattle.typed_tree.specs.TypedTree.{TypedTree}
 use Rattle.pair_texts.specs.OutcomeSeen.{AreLinesOf}
-use Rattle.local_pair.specs.Ends as ends
-use Rattle.local_pair.specs.Local.{IsExpected, Outcome, ran, refused}
-use Rattle.local_pair.specs.Whole.{HasWhole}
-use Rattle.generated_pair.specs.Generated as generated
-use Rattle.generated_pair.specs.Generated.{GeneratedRunsAreSeen, shown_of, texts_of, told, turns, window}
+use Rattle.pair_running.specs.LocalPairEnds as ends
+use Rattle.pair_running.specs.LocalPairLocal.{IsExpected, Outcome, ran, refused}
+use Rattle.pair_running.specs.LocalPairWhole.{HasWhole}
+use Rattle.pair_running.specs.GeneratedPairGenerated as generated
+use Rattle.pair_running.specs.GeneratedPairGenerated.{GeneratedRunsAreSeen, shown_of, texts_of, told, turns, window}
 use Rattle.privtrans_app.specs.Words.{IsGenerated}
 use Rattle.privtrans_app.specs.Ending.{Ending, faults, memory, status_of, Puts, Reports, StaysDown}
 use Rattle.privtrans_app.specs.GeneratedRun.{ComesTo, IsInterleaved}

@@ -5,10 +5,10 @@ use Rattle.pt_base.specs.Files.{Files}
 use Rattle.pt_base.specs.declared.chooser.Who.{Who}
 use Rattle.link_talks.specs.Choosing.{AreTaken}
 use Rattle.pair_texts.specs.Start.{Texts}
-use Rattle.local_pair.specs.Ends as ends
-use Rattle.local_pair.specs.Whole.{HasWhole}
-use Rattle.local_pair.proofs.Cuts.{cut_run}
-use Rattle.privtrans_app.specs.Ending.{Ending, help, version, exit, accepted, split, worked, usage, missing, read_fault, write_fault, faults, trapped, refused, spent, link_fault, bad_peer, peer_ended, memory, status_of, is_silent, Puts, Reports}
+use Rattle.pair_running.specs.LocalPairEnds as ends
+use Rattle.pair_running.specs.LocalPairWhole.{HasWhole}
+use Rattle.pair_running.proofs.LocalPairCuts.{cut_run}
+use Rattle.privtrans_app.specs.Ending.{Ending, help, version, exit, accepted, split, worked, usage, missing, read_fault, write_fault, faults, drawn, trapped, refused, spent, link_fault, bad_peer, peer_ended, memory, status_of, is_idle, Puts, Reports}
 use Rattle.privtrans_app.specs.Interleaving.{IsInterleaved, IsOfNoRun, IsOfRun, TakesTurns}
 use Rattle.privtrans_app.specs.LocalRun.{ending_at}
 use Rattle.privtrans_app.specs.Reading.{AreFirst, IsReadRefusal, IsRefusal}
@@ -78,6 +78,7 @@ read_refusal_turns given files reads reads' told told' o o' name (missing n) is 
 read_refusal_turns given files reads reads' told told' o o' name (read_fault n) is = tt
 read_refusal_turns given files reads reads' told told' o o' name write_fault is = tt
 read_refusal_turns given files reads reads' told told' o o' name (faults lines) is = tt
+read_refusal_turns given files reads reads' told told' o o' name (drawn lines) is = is
 read_refusal_turns given files reads reads' told told' o o' name (trapped trap span) is = absurd is
 read_refusal_turns given files reads reads' told told' o o' name (refused call function state) is = absurd is
 read_refusal_turns given files reads reads' told told' o o' name spent is = absurd is
@@ -121,6 +122,7 @@ by_ending words files told told' o o' status (missing name) is run turns = absur
 by_ending words files told told' o o' status (read_fault name) is run turns = absurd (other status 3 is refl run)
 by_ending words files told told' o o' status write_fault is run turns = absurd (other status 4 is refl run)
 by_ending words files told told' o o' status (faults lines) is run turns = absurd (other status 5 is refl run)
+by_ending words files told told' o o' status (drawn lines) is run turns = absurd turns
 by_ending words files told told' o o' status (trapped trap span) is run turns = turns
 by_ending words files told told' o o' status (refused call function state) is run turns = turns
 by_ending words files told told' o o' status spent is run turns = turns
@@ -151,7 +153,7 @@ is_of_no_run n (inr (inr (inr is))) = ap of_no_run is
 ran : (n m : ℕ) → n ≡ m → of_no_run m ≡ false → IsOfNoRun n → ⊥
 ran n m same apart is = false_or_true (sym apart ∙ sym (ap of_no_run same) ∙ is_of_no_run n is)
 
-is_quiet : (status : ℕ) (e : Ending) → status ≡ status_of e → IsOfNoRun status → is_silent e ≡ true
+is_quiet : (status : ℕ) (e : Ending) → status ≡ status_of e → IsOfNoRun status → is_idle e ≡ true
 is_quiet status help is none = absurd (ran status 0 is refl none)
 is_quiet status version is none = absurd (ran status 0 is refl none)
 is_quiet status (exit s) is none = absurd (ran status 0 is refl none)
@@ -163,6 +165,7 @@ is_quiet status (missing name) is none = refl
 is_quiet status (read_fault name) is none = refl
 is_quiet status write_fault is none = absurd (ran status 4 is refl none)
 is_quiet status (faults lines) is none = refl
+is_quiet status (drawn lines) is none = refl
 is_quiet status (trapped trap span) is none = absurd (ran status 6 is refl none)
 is_quiet status (refused call function state) is none = absurd (ran status 7 is refl none)
 is_quiet status spent is none = absurd (ran status 8 is refl none)
@@ -171,8 +174,8 @@ is_quiet status (bad_peer rule offset) is none = absurd (ran status 10 is refl n
 is_quiet status peer_ended is none = absurd (ran status 11 is refl none)
 is_quiet status memory is none = absurd (ran status 12 is refl none)
 
--- a call that is reported so writes nothing
-pub told_nothing : (report report' : Option (List ℕ)) (failed failed' status : ℕ) (e : Ending) → Reports e report report' failed failed' status → IsOfNoRun status → is_silent e ≡ true
+-- a call that is reported so has run nothing
+pub told_nothing : (report report' : Option (List ℕ)) (failed failed' status : ℕ) (e : Ending) → Reports e report report' failed failed' status → IsOfNoRun status → is_idle e ≡ true
 told_nothing report report' failed failed' status e (inl is) none = is_quiet status e is.0 none
 told_nothing report report' failed failed' status e (inr (inl is)) none = absurd (ran status 4 is.0 refl none)
 told_nothing report report' failed failed' status e (inr (inr is)) none = absurd (ran status 12 is.0 refl none)

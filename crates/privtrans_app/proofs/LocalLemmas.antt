@@ -7,10 +7,10 @@ use Rattle.std.proofs.lemmas.Fmt.{decimal_injective}
 use Rattle.pt_base.specs.Files.{Files}
 use Rattle.pair_texts.specs.OutcomeSeen.{AreLinesOf}
 use Rattle.pair_texts.specs.Start.{Texts, lex, parse, types, host, policy, flow, input}
-use Rattle.local_pair.specs.Ends as ends
-use Rattle.local_pair.specs.Local as pairs
-use Rattle.local_pair.specs.Local.{Outcome, refused, ran, AreCut, without_ways}
-use Rattle.local_pair.proofs.Cuts.{cut_whole}
+use Rattle.pair_running.specs.LocalPairEnds as ends
+use Rattle.pair_running.specs.LocalPairLocal as pairs
+use Rattle.pair_running.specs.LocalPairLocal.{Outcome, refused, ran, AreCut, without_ways}
+use Rattle.pair_running.proofs.LocalPairCuts.{cut_whole}
 use Rattle.privtrans_app.specs.Words.{IsLocal, IsRun, of_local}
 use Rattle.privtrans_app.specs.Ending.{Ending, faults, status_of, Puts}
 use Rattle.privtrans_app.specs.LocalRun.{AreHeld, ComesTo, ending_at, ending_of}

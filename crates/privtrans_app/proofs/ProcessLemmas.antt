@@ -12,19 +12,18 @@ use Rattle.fault_lines.specs.Seen.{Seen, faulty}
 use Rattle.pair_runner.specs.declared.fault.RunFault.TheVariants.{LinkFailed, SinkFailed, BadPeer, PeerEnded, Memory}
 use Rattle.pair_texts.specs.Laws as begun
 use Rattle.pair_texts.specs.OutcomeSeen.{AreLinesOf}
-use Rattle.pair_texts.specs.Start.{IsRefused, Refusal, Texts, lines_of, lex, parse, types, host, policy, flow, input}
-use Rattle.pair_texts.proofs.OneOutcome as begun_outcomes
-use Rattle.local_pair.specs.Ends as ends
-use Rattle.local_pair.specs.Local as pairs
-use Rattle.local_pair.specs.Local.{AreCut}
-use Rattle.local_pair.specs.OutcomeSeen.{ended_seen}
-use Rattle.local_pair.specs.Seen as pair_views
-use Rattle.spawned_pair.specs.declared.outcome.Outcome.TheVariants.{Refused, Ran}
-use Rattle.spawned_pair.specs.OutcomeSeen.{IsServed}
-use Rattle.spawned_pair.specs.Supervised.{AreUntouched}
-use Rattle.spawned_pair.proofs.Cuts.{expected_whole, served_whole}
+use Rattle.pair_texts.specs.Start.{IsRefused, Refusal, Texts, lines_of}
+use Rattle.pair_running.specs.LocalPairEnds as ends
+use Rattle.pair_running.specs.LocalPairLocal as pairs
+use Rattle.pair_running.specs.LocalPairLocal.{AreCut}
+use Rattle.pair_running.specs.LocalPairOutcomeSeen.{ended_seen}
+use Rattle.pair_running.specs.LocalPairSeen as pair_views
+use Rattle.pair_running.specs.declared.spawned_pair.outcome.Outcome.TheVariants.{Refused, Ran}
+use Rattle.pair_running.specs.SpawnedPairOutcomeSeen.{IsServed}
+use Rattle.pair_running.specs.SpawnedPairSupervised.{AreUntouched}
+use Rattle.pair_running.proofs.SpawnedPairCuts.{expected_whole, served_whole}
 use Rattle.privtrans_app.specs.Words.{IsProcessRun, IsRun as AreRun, of_process_run}
-use Rattle.privtrans_app.specs.Ending.{Ending, help, version, exit, accepted, split, worked, usage, missing, read_fault, write_fault, faults, trapped, refused, spent, link_fault, bad_peer, peer_ended, memory, status_of, is_silent, report_of, Reports, StaysDown, EndsWith}
+use Rattle.privtrans_app.specs.Ending.{Ending, help, version, exit, accepted, split, worked, usage, missing, read_fault, write_fault, faults, drawn, trapped, refused, spent, link_fault, bad_peer, peer_ended, memory, status_of, is_idle, is_silent, report_of, Reports, StaysDown, EndsWith}
 use Rattle.privtrans_app.specs.Held.{IsReached}
 use Rattle.privtrans_app.specs.LocalRun.{ending_at}
 use Rattle.privtrans_app.specs.ProcessRun.{AreHeld, Answer, ComesTo, IsRun, Runs, ending_of}
@@ -33,6 +32,7 @@ use Rattle.privtrans_app.specs.Whole.{Told}
 use Rattle.privtrans_app.specs.declared.words.RunWords.{RunWords}
 use Rattle.privtrans_app.proofs.CauseLemmas.{keeps_same}
 use Rattle.privtrans_app.proofs.CompleteLemmas.{RunsHeld, four, memory_of, not_lacking}
+use Rattle.privtrans_app.proofs.OneStatus.{faults_or_pair}
 
 -- the words name these files
 abbrev pub Names : List (List ℕ) → RunWords → Type 0
@@ -59,6 +59,7 @@ module _ (is : Texts → ℕ → Answer → Type 0) (given : List (List ℕ)) (f
   read_refusal_comes name (read_fault n) reached refusal = (subst (IsReached given files) (sym refusal.0) reached, refusal.1, keeps_same o)
   read_refusal_comes name write_fault reached refusal = absurd refusal
   read_refusal_comes name (faults lines) reached refusal = absurd refusal
+  read_refusal_comes name (drawn lines) reached refusal = absurd refusal
   read_refusal_comes name (trapped trap span) reached refusal = absurd refusal
   read_refusal_comes name (refused call function state) reached refusal = absurd refusal
   read_refusal_comes name spent reached refusal = absurd refusal
@@ -148,6 +149,22 @@ silent_so untouched moves breaks t turns (Err SinkFailed) silent served = absurd
 silent_so untouched moves breaks t turns (Err (BadPeer rule offset)) silent served = absurd (false_or_true silent)
 silent_so untouched moves breaks t turns (Err PeerEnded) silent served = absurd (false_or_true silent)
 silent_so untouched moves breaks t turns (Err Memory) silent served = absurd (false_or_true silent)
+
+-- a run that has run nothing writes nothing
+pub idle_so : (answer : Answer) → is_idle (ending_of answer) ≡ true → is_silent (ending_of answer) ≡ true
+idle_so (Ok (Refused lines)) idle = refl
+idle_so (Ok (Ran end)) idle = absurd (busy (ended_seen end) idle)
+  where
+    busy : (end : ends.Ended) → is_idle (ending_at end) ≡ true → ⊥
+    busy (ends.exit status) idle = false_or_true idle
+    busy (ends.trapped trap span) idle = false_or_true idle
+    busy ends.spent idle = false_or_true idle
+    busy (ends.refused call function state) idle = false_or_true idle
+idle_so (Err LinkFailed) idle = absurd (false_or_true idle)
+idle_so (Err SinkFailed) idle = absurd (false_or_true idle)
+idle_so (Err (BadPeer rule offset)) idle = absurd (false_or_true idle)
+idle_so (Err PeerEnded) idle = absurd (false_or_true idle)
+idle_so (Err Memory) idle = absurd (false_or_true idle)
 
 -- the ending of an answer, with its cause
 module _ (is : Texts → ℕ → Answer → Type 0) (given : List (List ℕ)) (files : Option Files) (reads reads' : ℕ) (o o' : Option (List ℕ)) (writes writes' links links' : ℕ) where
@@ -247,6 +264,7 @@ module _ (is : Texts → ℕ → Answer → Type 0) (words : List (List ℕ)) (f
   way (read_fault name) comes = inl (record { name = name; reached = comes.0; why = inr comes.1 })
   way write_fault comes = inr (inl (record { runs = comes.1; link = λ same. absurd (nine_or_four (status_of write_fault) (ap status_of same) refl); sink = λ same. comes.0 }))
   way (faults lines) comes = inside (faults lines) refl comes.0
+  way (drawn lines) comes = absurd comes
   way (trapped trap span) comes = inside (trapped trap span) refl comes
   way (refused call function state) comes = inside (refused call function state) refl comes
   way spent comes = inside spent refl comes
@@ -254,27 +272,6 @@ module _ (is : Texts → ℕ → Answer → Type 0) (words : List (List ℕ)) (f
   way (bad_peer rule offset) comes = inside (bad_peer rule offset) refl comes
   way peer_ended comes = inside peer_ended refl comes
   way memory comes = inr (inr refl)
-
--- ---- faults and pairs
-
--- texts with faults begin no pair
-abbrev begins_pair : begun.Outcome → Bool
-begins_pair (begun.refused refusal) = false
-begins_pair (begun.begins boot monitor) = true
-
-begins_without : (o : begun.Outcome) → begins_pair (begun.without_ways o) ≡ begins_pair o
-begins_without (begun.refused (lex fault)) = refl
-begins_without (begun.refused (parse fault)) = refl
-begins_without (begun.refused (types fs)) = refl
-begins_without (begun.refused (host tree fs)) = refl
-begins_without (begun.refused (policy fault)) = refl
-begins_without (begun.refused (flow fs)) = refl
-begins_without (begun.refused input) = refl
-begins_without (begun.begins boot monitor) = refl
-
-faults_or_pair : (t : Texts) (turns : ℕ) (refusal : Refusal) (o : begun.Outcome) → begins_pair o ≡ true → IsRefused t refusal → begun.ComesTo t turns o → ⊥
-faults_or_pair t turns refusal o begins faulty comes =
-    false_or_true (sym (begins_without (begun.refused refusal)) ∙ ap begins_pair (begun_outcomes.outcome_is_one t turns (begun.refused refusal) o faulty comes) ∙ begins_without o ∙ begins)
 
 -- ---- what is told
 

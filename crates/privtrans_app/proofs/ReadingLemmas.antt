@@ -2,7 +2,7 @@
 use Rattle.std.proofs.Common.{◌≤◌, ◌⊎◌, ℕ, List, Option, Some, None, refl, sym, ◌∙◌, inl, inr, arith}
 use Rattle.pt_base.specs.Faults.{Rose}
 use Rattle.pt_base.specs.Files.{Files, SameFiles, GivesFirst, Lacks}
-use Rattle.privtrans_app.specs.Ending.{Ending, help, version, exit, accepted, split, worked, usage, missing, read_fault, write_fault, faults, trapped, refused, spent, link_fault, bad_peer, peer_ended, memory}
+use Rattle.privtrans_app.specs.Ending.{Ending, help, version, exit, accepted, split, worked, usage, missing, read_fault, write_fault, faults, drawn, trapped, refused, spent, link_fault, bad_peer, peer_ended, memory}
 use Rattle.privtrans_app.specs.Held.{IsHeld}
 use Rattle.privtrans_app.specs.Reading.{IsReadRefusal}
 
@@ -53,6 +53,7 @@ refusal_since a b name r0 r1 r2 (missing n) same x y is = (is.0, either is.1)
 refusal_since a b name r0 r1 r2 (read_fault n) same x y is = (is.0, rose_since r0 r1 r2 x y is.1)
 refusal_since a b name r0 r1 r2 write_fault same x y is = absurd is
 refusal_since a b name r0 r1 r2 (faults lines) same x y is = absurd is
+refusal_since a b name r0 r1 r2 (drawn lines) same x y is = absurd is
 refusal_since a b name r0 r1 r2 (trapped trap span) same x y is = absurd is
 refusal_since a b name r0 r1 r2 (refused call function state) same x y is = absurd is
 refusal_since a b name r0 r1 r2 spent same x y is = absurd is

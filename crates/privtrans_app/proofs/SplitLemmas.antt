@@ -7,7 +7,7 @@ use Rattle.flow_check.specs.OutcomeSeen.{AreLinesOf}
 use Rattle.program_split.specs.Split.{refused, split as split_in, IsSplit}
 use Rattle.program_split.proofs.Cuts.{cut_whole}
 use Rattle.privtrans_app.specs.Ending as endings
-use Rattle.privtrans_app.specs.Ending.{Ending, help, version, exit, accepted, split, worked, usage, missing, read_fault, write_fault, faults, trapped, spent, link_fault, bad_peer, peer_ended, memory}
+use Rattle.privtrans_app.specs.Ending.{Ending, help, version, exit, accepted, split, worked, usage, missing, read_fault, write_fault, faults, drawn, trapped, spent, link_fault, bad_peer, peer_ended, memory}
 use Rattle.privtrans_app.specs.SplitRun.{Names, Splits, LeavesAt, ComesTo}
 use Rattle.privtrans_app.specs.SplitWriting.{AreWritten, Stopped}
 
@@ -59,6 +59,7 @@ halves_come names a b c cut slave monitor reads reads' w0 w1 w2 (read_fault n) f
 halves_come names a b c cut slave monitor reads reads' w0 w1 w2 write_fault first has same w is =
     (subst (λ (n : ℕ). Rose n w2) w is.0, (slave, monitor, halves_whole names a cut slave monitor first has, stopped_since names a b c slave same is.1))
 halves_come names a b c cut slave monitor reads reads' w0 w1 w2 (faults lines) first has same w is = absurd is
+halves_come names a b c cut slave monitor reads reads' w0 w1 w2 (drawn lines) first has same w is = is
 halves_come names a b c cut slave monitor reads reads' w0 w1 w2 (trapped trap span) first has same w is = is
 halves_come names a b c cut slave monitor reads reads' w0 w1 w2 (endings.refused call function state) first has same w is = absurd is
 halves_come names a b c cut slave monitor reads reads' w0 w1 w2 spent first has same w is = is

@@ -8,10 +8,10 @@ use Rattle.typed_tree.specs.TypedTree.{TypedTree}
 use Rattle.honest_link.specs.Came.{Came}
 use Rattle.pair_runner.specs.Sending.{Breaks, Moves}
 use Rattle.pair_texts.specs.Start.{Texts}
-use Rattle.local_pair.specs.Local.{IsExpected}
-use Rattle.local_pair.specs.Seen.{shown_of}
-use Rattle.spawned_pair.specs.OutcomeSeen.{IsHonestFor}
-use Rattle.spawned_pair.specs.Supervised.{AreUntouched}
+use Rattle.pair_running.specs.LocalPairLocal.{IsExpected}
+use Rattle.pair_running.specs.LocalPairSeen.{shown_of}
+use Rattle.pair_running.specs.SpawnedPairOutcomeSeen.{IsHonestFor}
+use Rattle.pair_running.specs.SpawnedPairSupervised.{AreUntouched}
 use Rattle.privtrans_app.specs.Calls.{ComesTo, IsBySplit}
 use Rattle.privtrans_app.specs.Causes.{IsByForm, IsByFiles}
 use Rattle.privtrans_app.specs.Ending.{Ending, Reports, StaysDown}

@@ -15,18 +15,21 @@ use Rattle.program_split.specs.Seen as splits
 use Rattle.runs.specs.Run.{Expected}
 use Rattle.typed_tree.specs.TypedTree.{TypedTree}
 use Rattle.pair_texts.specs.Start.{Texts, Refusal, lex, parse, types, host, policy, flow, input}
-use Rattle.local_pair.specs.Ends as ends
-use Rattle.local_pair.specs.Ends.{ended_as}
-use Rattle.local_pair.specs.Local as pairs
-use Rattle.local_pair.specs.Local.{IsExpected, without_ways}
-use Rattle.local_pair.specs.Seen as pair_views
-use Rattle.local_pair.specs.Seen.{shown_of}
-use Rattle.local_pair.proofs.OneOutcome.{outcome_is_one}
-use Rattle.privtrans_app.specs.Words.{of_local, of_process_run, of_orig, of_check}
+use Rattle.pair_running.specs.LocalPairEnds as ends
+use Rattle.pair_running.specs.LocalPairEnds.{ended_as}
+use Rattle.pair_running.specs.LocalPairLocal as pairs
+use Rattle.pair_running.specs.LocalPairLocal.{IsExpected, without_ways}
+use Rattle.pair_running.specs.LocalPairSeen as pair_views
+use Rattle.pair_running.specs.LocalPairSeen.{shown_of}
+use Rattle.pair_running.proofs.LocalPairOneOutcome.{outcome_is_one}
+use Rattle.pair_explaining.specs.PairExplains as explained
+use Rattle.pair_explaining.specs.PairNames.{Names as FileNames}
+use Rattle.privtrans_app.specs.Words.{of_local, of_process_run, of_orig, of_check, of_explain}
 use Rattle.privtrans_app.specs.Ending as endings
-use Rattle.privtrans_app.specs.Ending.{Ending, help, version, exit, accepted, split, worked, usage, missing, read_fault, write_fault, faults, trapped, spent, link_fault, bad_peer, peer_ended, memory, status_of, report_of, Reports, StaysDown}
+use Rattle.privtrans_app.specs.Ending.{Ending, help, version, exit, accepted, split, worked, usage, missing, read_fault, write_fault, faults, drawn, trapped, spent, link_fault, bad_peer, peer_ended, memory, status_of, report_of, Reports, StaysDown}
 use Rattle.privtrans_app.specs.Words.{Manner}
 use Rattle.privtrans_app.specs.CheckRun as check
+use Rattle.privtrans_app.specs.ExplainRun as explain
 use Rattle.privtrans_app.specs.LocalRun as local
 use Rattle.privtrans_app.specs.OrigRun as orig
 use Rattle.privtrans_app.specs.ProcessRun as process
@@ -36,9 +39,10 @@ use Rattle.privtrans_app.specs.SplitRun.{Names}
 use Rattle.privtrans_app.specs.SplitRun as run
 use Rattle.privtrans_app.specs.Calls.{AreSplit, ComesTo}
 use Rattle.privtrans_app.specs.Whole.{Told, Leaves, AreKept}
-use Rattle.privtrans_app.proofs.CompleteLemmas.{more_than_one, no_help, no_version, two_runs, local_check, orig_check, not_lacking, RunsHeld, local_held, orig_held, check_held}
-use Rattle.privtrans_app.proofs.CallLemmas.{generated_or_run, generated_or_split, process_or_check, process_or_local, process_or_orig, split_or_run, split_or_slave, some_is}
+use Rattle.privtrans_app.proofs.CompleteLemmas.{more_than_one, no_help, no_version, two_runs, local_check, local_explain, orig_check, orig_explain, check_explain, not_lacking, RunsHeld, local_held, orig_held, check_held, explain_held}
+use Rattle.privtrans_app.proofs.CallLemmas.{generated_or_run, generated_or_split, process_or_check, process_or_explain, process_or_local, process_or_orig, split_or_run, split_or_slave, some_is}
 use Rattle.privtrans_app.proofs.CheckLemmas.{no_check_of, same_finds}
+use Rattle.privtrans_app.proofs.ExplainLemmas as explanations
 use Rattle.privtrans_app.proofs.LocalLemmas.{same_comes}
 use Rattle.privtrans_app.proofs.OrigLemmas.{same_orig}
 use Rattle.privtrans_app.proofs.ProcessLemmas.{PairTold, Reported, keeps_appends, process_faults, process_told, reported, twelve}
@@ -60,6 +64,10 @@ OrigTold t turns o o' report report' status = (status ≡ 12) ⊎ ((s : Seen) ×
 abbrev CheckTold : Manner → List ℕ → List ℕ → Option (List ℕ) → Option (List ℕ) → Option (List ℕ) → Option (List ℕ) → ℕ → Type 0
 CheckTold manner name text o o' report report' status = (status ≡ 12) ⊎ ((f : check.Findings) × check.Finds manner name text f × Told (check.shown f) o o' report report' status)
 
+-- what an explained pair has told of it
+abbrev ExplainTold : FileNames → explained.Texts → Option (List ℕ) → Option (List ℕ) → Option (List ℕ) → Option (List ℕ) → ℕ → Type 0
+ExplainTold names t o o' report report' status = (status ≡ 12) ⊎ ((f : check.Findings) × explain.Finds names t f × Told (check.shown f) o o' report report' status)
+
 abbrev pub seen : List ℕ → Ending → Seen
 seen bytes e = record { out = bytes; report = report_of e; status = status_of e }
 
@@ -75,6 +83,7 @@ orig_seen (ran bytes' end) bytes e is b = run_seen bytes bytes' end e is b
 
 check_seen : (f : check.Findings) (bytes : List ℕ) (e : Ending) → check.IsEnding f e → bytes ≡ check.bytes_of f → seen bytes e ≡ check.shown f
 check_seen (check.faulty report) bytes e is b = λ k. seen (b k) (is k)
+check_seen (check.pictured picture report) bytes e is b = λ k. seen (b k) (is k)
 check_seen (check.clean lines) bytes e is b = λ k. seen (b k) (is k)
 
 end_seen : (bytes bytes' : List ℕ) (end : ends.Ended) (e : Ending) → e ≡ local.ending_at end → bytes ≡ bytes' → seen bytes e ≡ pair_views.seen_of bytes' end
@@ -90,7 +99,8 @@ pair_seen (pairs.ran bytes' end) bytes e is b = end_seen bytes bytes' end e is b
 module _ (words : List (List ℕ)) (files : Files) (o o' report report' : Option (List ℕ)) (status : ℕ) where
   pair_told : (t : Texts) (turns window : ℕ) → local.AreHeld words (Some files) t turns window → (bytes : List ℕ) (e : Ending) → Expects words (Some files) bytes e → Appends o o' bytes → Reported e report report' status → PairTold t turns o o' report report' status
   pair_told t turns window held bytes e (inr (inl is)) wrote tells = absurd (two_runs words held.form is.1.2.form)
-  pair_told t turns window held bytes e (inr (inr is)) wrote tells = absurd (local_check words held.form is.1.1.form)
+  pair_told t turns window held bytes e (inr (inr (inl is))) wrote tells = absurd (local_check words held.form is.1.1.form)
+  pair_told t turns window held bytes e (inr (inr (inr is))) wrote tells = absurd (local_explain words held.form is.1.2.form)
   pair_told t turns window held bytes e (inl gives) wrote (inr is) = inl is
   pair_told t turns window held bytes e (inl gives) wrote (inl tells) =
       let there : pairs.ComesTo t turns gives.0 = same_comes words files gives.1.0 t gives.1.1 gives.1.2 turns window gives.0 gives.1.3 held gives.1.4 in
@@ -98,7 +108,8 @@ module _ (words : List (List ℕ)) (files : Files) (o o' report report' : Option
 
   orig_told : (t : original.Texts) (turns : ℕ) → orig.AreHeld words (Some files) t turns → (bytes : List ℕ) (e : Ending) → Expects words (Some files) bytes e → Appends o o' bytes → Reported e report report' status → OrigTold t turns o o' report report' status
   orig_told t turns held bytes e (inl is) wrote tells = absurd (two_runs words is.1.3.form held.form)
-  orig_told t turns held bytes e (inr (inr is)) wrote tells = absurd (orig_check words held.form is.1.1.form)
+  orig_told t turns held bytes e (inr (inr (inl is))) wrote tells = absurd (orig_check words held.form is.1.1.form)
+  orig_told t turns held bytes e (inr (inr (inr is))) wrote tells = absurd (orig_explain words held.form is.1.2.form)
   orig_told t turns held bytes e (inr (inl gives)) wrote (inr is) = inl is
   orig_told t turns held bytes e (inr (inl gives)) wrote (inl tells) =
       let same = same_orig words files gives.1.0 t gives.1.1 turns gives.1.2 held in
@@ -108,9 +119,19 @@ module _ (words : List (List ℕ)) (files : Files) (o o' report report' : Option
   check_told : (text : List ℕ) (held : check.AreHeld words (Some files) text) (bytes : List ℕ) (e : Ending) → Expects words (Some files) bytes e → Appends o o' bytes → Reported e report report' status → CheckTold held.manner held.program_name text o o' report report' status
   check_told text held bytes e (inl is) wrote tells = absurd (local_check words is.1.3.form held.form)
   check_told text held bytes e (inr (inl is)) wrote tells = absurd (orig_check words is.1.2.form held.form)
-  check_told text held bytes e (inr (inr gives)) wrote (inr is) = inl is
-  check_told text held bytes e (inr (inr gives)) wrote (inl tells) =
+  check_told text held bytes e (inr (inr (inr is))) wrote tells = absurd (check_explain words held.form is.1.2.form)
+  check_told text held bytes e (inr (inr (inl gives))) wrote (inr is) = inl is
+  check_told text held bytes e (inr (inr (inl gives))) wrote (inl tells) =
       let there : check.Finds held.manner held.program_name text gives.0 = same_finds words files gives.1.0 text gives.1.1 held gives.0 gives.1.2 in
+      inr (gives.0, there, subst (λ (s : Seen). Told s o o' report report' status) (check_seen gives.0 bytes e gives.2 gives.3) (record { writes = wrote; reports = tells.1; ends = tells.0 }))
+
+  explain_told : (names : FileNames) (t : explained.Texts) → explain.AreHeld words (Some files) names t → (bytes : List ℕ) (e : Ending) → Expects words (Some files) bytes e → Appends o o' bytes → Reported e report report' status → ExplainTold names t o o' report report' status
+  explain_told names t held bytes e (inl is) wrote tells = absurd (local_explain words is.1.3.form held.form)
+  explain_told names t held bytes e (inr (inl is)) wrote tells = absurd (orig_explain words is.1.2.form held.form)
+  explain_told names t held bytes e (inr (inr (inl is))) wrote tells = absurd (check_explain words is.1.1.form held.form)
+  explain_told names t held bytes e (inr (inr (inr gives))) wrote (inr is) = inl is
+  explain_told names t held bytes e (inr (inr (inr gives))) wrote (inl tells) =
+      let there : explain.Finds names t gives.0 = explanations.same_finds words files gives.1.0 names gives.1.1 t gives.1.2 held gives.0 gives.1.3 in
       inr (gives.0, there, subst (λ (s : Seen). Told s o o' report report' status) (check_seen gives.0 bytes e gives.2 gives.3) (record { writes = wrote; reports = tells.1; ends = tells.0 }))
 
 -- ---- each ending of a run or a check
@@ -139,6 +160,7 @@ module _ (words : List (List ℕ)) (files : Files) (reads reads' : ℕ) (o o' : 
   by_pair t turns window held (read_fault name) came tells = absurd (r came.1)
   by_pair t turns window held write_fault came tells = absurd (w came.0)
   by_pair t turns window held (faults lines) came tells = pair_told words files o o' report report' status t turns window held [] (faults lines) came.0 (keeps_appends o o' came.1) tells
+  by_pair t turns window held (drawn lines) came tells = pair_told words files o o' report report' status t turns window held came.0 (drawn lines) came.1 came.2 tells
   by_pair t turns window held (trapped trap span) came tells = pair_told words files o o' report report' status t turns window held came.0 (trapped trap span) came.1 came.2 tells
   by_pair t turns window held (endings.refused call function state) came tells =
       pair_told words files o o' report report' status t turns window held came.0 (endings.refused call function state) came.1 came.2 tells
@@ -160,6 +182,7 @@ module _ (words : List (List ℕ)) (files : Files) (reads reads' : ℕ) (o o' : 
   by_orig t turns held (read_fault name) came tells = absurd (r came.1)
   by_orig t turns held write_fault came tells = absurd (w came.0)
   by_orig t turns held (faults lines) came tells = orig_told words files o o' report report' status t turns held [] (faults lines) came.0 (keeps_appends o o' came.1) tells
+  by_orig t turns held (drawn lines) came tells = orig_told words files o o' report report' status t turns held came.0 (drawn lines) came.1 came.2 tells
   by_orig t turns held (trapped trap span) came tells = orig_told words files o o' report report' status t turns held came.0 (trapped trap span) came.1 came.2 tells
   by_orig t turns held (endings.refused call function state) came tells = orig_told words files o o' report report' status t turns held came.0 (endings.refused call function state) came.1 came.2 tells
   by_orig t turns held spent came tells = orig_told words files o o' report report' status t turns held came.0 spent came.1 came.2 tells
@@ -180,6 +203,7 @@ module _ (words : List (List ℕ)) (files : Files) (reads reads' : ℕ) (o o' : 
   by_check text held (read_fault name) came tells = absurd (r came.1)
   by_check text held write_fault came tells = absurd (w came.0)
   by_check text held (faults lines) came tells = check_told words files o o' report report' status text held [] (faults lines) came.0 (keeps_appends o o' came.1) tells
+  by_check text held (drawn lines) came tells = check_told words files o o' report report' status text held came.0 (drawn lines) came.1 came.2 tells
   by_check text held (trapped trap span) came tells = check_told words files o o' report report' status text held came.0 (trapped trap span) came.1 came.2 tells
   by_check text held (endings.refused call function state) came tells = check_told words files o o' report report' status text held came.0 (endings.refused call function state) came.1 came.2 tells
   by_check text held spent came tells = check_told words files o o' report report' status text held came.0 spent came.1 came.2 tells
@@ -187,6 +211,27 @@ module _ (words : List (List ℕ)) (files : Files) (reads reads' : ℕ) (o o' : 
   by_check text held (bad_peer rule offset) came tells = absurd came
   by_check text held peer_ended came tells = absurd came
   by_check text held memory came tells = inl (twelve report report' status tells)
+
+  by_explain : (names : FileNames) (t : explained.Texts) → explain.AreHeld words (Some files) names t → (e : Ending) → Comes e → Reported e report report' status → ExplainTold names t o o' report report' status
+  by_explain names t held help came tells = absurd (no_help words _ (of_explain _ _ _ held.form) came.0)
+  by_explain names t held version came tells = absurd (no_version words _ (of_explain _ _ _ held.form) came.0)
+  by_explain names t held (exit s) came tells = explain_told words files o o' report report' status names t held came.0 (exit s) came.1 came.2 tells
+  by_explain names t held accepted came tells = explain_told words files o o' report report' status names t held came.0 accepted came.1 came.2 tells
+  by_explain names t held split came tells = absurd came
+  by_explain names t held worked came tells = absurd came
+  by_explain names t held usage came tells = absurd (came.0.no_explain _ _ _ held.form)
+  by_explain names t held (missing name) came tells = absurd (none_missing name (explain_held words files names t held) came)
+  by_explain names t held (read_fault name) came tells = absurd (r came.1)
+  by_explain names t held write_fault came tells = absurd (w came.0)
+  by_explain names t held (faults lines) came tells = explain_told words files o o' report report' status names t held [] (faults lines) came.0 (keeps_appends o o' came.1) tells
+  by_explain names t held (drawn lines) came tells = explain_told words files o o' report report' status names t held came.0 (drawn lines) came.1 came.2 tells
+  by_explain names t held (trapped trap span) came tells = explain_told words files o o' report report' status names t held came.0 (trapped trap span) came.1 came.2 tells
+  by_explain names t held (endings.refused call function state) came tells = explain_told words files o o' report report' status names t held came.0 (endings.refused call function state) came.1 came.2 tells
+  by_explain names t held spent came tells = explain_told words files o o' report report' status names t held came.0 spent came.1 came.2 tells
+  by_explain names t held link_fault came tells = absurd came
+  by_explain names t held (bad_peer rule offset) came tells = absurd came
+  by_explain names t held peer_ended came tells = absurd came
+  by_explain names t held memory came tells = inl (twelve report report' status tells)
 
 -- ---- a split
 
@@ -237,6 +282,7 @@ module _ (names : Names) (files : Files) (files' : Option Files) (reads reads' f
   by_split text held (read_fault name) came tells = absurd (r came.1)
   by_split text held write_fault came tells = absurd (w came.0)
   by_split text held (faults lines) came tells = told_faults text lines held came.0 came.1 tells
+  by_split text held (drawn lines) came tells = absurd came
   by_split text held (trapped trap span) came tells = absurd came
   by_split text held (endings.refused call function state) came tells = absurd came
   by_split text held spent came tells = absurd came
@@ -259,6 +305,7 @@ module _ (untouched : Type 0) (moves : List Event → List ℕ → Type 0) (brea
     served = λ t turns refusal held faulty. absurd (is.0.no_run _ _ _ _ _ held.form);
     original = λ t turns held. by_orig words files reads reads' o o' writes writes' report report' status r w t turns held e is.1 tells;
     checked = λ text held. by_check words files reads reads' o o' writes writes' report report' status r w text held e is.1 tells;
+    pair_explained = λ names t held. by_explain words files reads reads' o o' writes writes' report report' status r w names t held e is.1 tells;
     split = λ names text form held. absurd (is.0.no_split names.program names.slave names.monitor form);
   }
   kept e (inr (inl is)) tells = record {
@@ -266,6 +313,7 @@ module _ (untouched : Type 0) (moves : List Event → List ℕ → Type 0) (brea
     served = λ t turns refusal held faulty. absurd (split_or_run words _ is.names is.form (of_process_run _ _ _ _ _ held.form));
     original = λ t turns held. absurd (split_or_run words _ is.names is.form (of_orig _ _ _ _ held.form));
     checked = λ text held. absurd (split_or_run words _ is.names is.form (of_check _ _ held.form));
+    pair_explained = λ names t held. absurd (split_or_run words _ is.names is.form (of_explain _ _ _ held.form));
     split = λ names text form held.
         let named : is.names ≡ names = same_names words is.names names is.form form in
         by_split names files files' reads reads' fwrites fwrites' o o' report report' status r fw is.keeps text held e
@@ -277,6 +325,7 @@ module _ (untouched : Type 0) (moves : List Event → List ℕ → Type 0) (brea
         process_faults untouched moves breaks fair o o' report report' status keeps words files reads reads' writes writes' links links' r t turns refusal e held faulty is.comes tells;
     original = λ t turns held. absurd (process_or_orig words is.form held.form);
     checked = λ text held. absurd (process_or_check words is.form held.form);
+    pair_explained = λ names t held. absurd (process_or_explain words is.form held.form);
     split = λ names text form held. absurd (split_or_run words _ names form (of_process_run _ _ _ _ _ is.form));
   }
   kept e (inr (inr (inr (inl is)))) tells = record {
@@ -284,6 +333,7 @@ module _ (untouched : Type 0) (moves : List Event → List ℕ → Type 0) (brea
     served = λ t turns refusal held faulty. absurd (more_than_one words _ (of_process_run _ _ _ _ _ held.form) (ap length is.form));
     original = λ t turns held. absurd (more_than_one words _ (of_orig _ _ _ _ held.form) (ap length is.form));
     checked = λ text held. absurd (more_than_one words _ (of_check _ _ held.form) (ap length is.form));
+    pair_explained = λ names t held. absurd (more_than_one words _ (of_explain _ _ _ held.form) (ap length is.form));
     split = λ names text form held. absurd (split_or_slave words names form is.form);
   }
   kept e (inr (inr (inr (inr is)))) tells = record {
@@ -291,6 +341,7 @@ module _ (untouched : Type 0) (moves : List Event → List ℕ → Type 0) (brea
     served = λ t turns refusal held faulty. absurd (generated_or_run words _ is.form (of_process_run _ _ _ _ _ held.form));
     original = λ t turns held. absurd (generated_or_run words _ is.form (of_orig _ _ _ _ held.form));
     checked = λ text held. absurd (generated_or_run words _ is.form (of_check _ _ held.form));
+    pair_explained = λ names t held. absurd (generated_or_run words _ is.form (of_explain _ _ _ held.form));
     split = λ names text form held. absurd (generated_or_split words names is.form form);
   }
 

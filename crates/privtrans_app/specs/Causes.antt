@@ -6,19 +6,22 @@ use Rattle.pt_base.specs.Files.{Files, Lacks}
 use Rattle.pt_base.specs.Told.{AppendsPart}
 use Rattle.original.specs.Original as original
 use Rattle.pair_texts.specs.Start.{Texts, Refusal, IsRefused}
-use Rattle.local_pair.specs.Local as pairs
+use Rattle.pair_explaining.specs.PairExplains as explained
+use Rattle.pair_explaining.specs.PairNames.{Names as FileNames}
+use Rattle.pair_running.specs.LocalPairLocal as pairs
 use Rattle.privtrans_app.specs.Words.{IsHelp, IsVersion, IsNoForm, IsPlain}
 use Rattle.privtrans_app.specs.Help.{help_text, version_text}
-use Rattle.privtrans_app.specs.Ending.{Ending, help, version, exit, accepted, split, worked, usage, missing, read_fault, write_fault, faults, trapped, refused, spent, link_fault, bad_peer, peer_ended, memory, status_of, EndsWith}
+use Rattle.privtrans_app.specs.Ending.{Ending, help, version, exit, accepted, split, worked, usage, missing, read_fault, write_fault, faults, drawn, trapped, refused, spent, link_fault, bad_peer, peer_ended, memory, status_of, EndsWith}
 use Rattle.privtrans_app.specs.Held.{IsReached}
 use Rattle.privtrans_app.specs.CheckRun as check
+use Rattle.privtrans_app.specs.ExplainRun as explain
 use Rattle.privtrans_app.specs.LocalRun as local
 use Rattle.privtrans_app.specs.OrigRun as orig
 use Rattle.privtrans_app.specs.ProcessRun as process
 
 -- the files hold texts of which these bytes and this ending are expected
 abbrev pub Expects : List (List ℕ) → Option Files → List ℕ → Ending → Type 0
-Expects words files bytes e = local.Gives words files bytes e ⊎ orig.Gives words files bytes e ⊎ check.Gives words files bytes e
+Expects words files bytes e = local.Gives words files bytes e ⊎ orig.Gives words files bytes e ⊎ check.Gives words files bytes e ⊎ explain.Gives words files bytes e
 
 -- the files hold texts of which a stage has faults, and these lines report them
 abbrev pub HaveFaults : List (List ℕ) → Option Files → List ℕ → Type 0
@@ -52,6 +55,7 @@ ComesTo words files reads reads' out out' writes writes' (missing name) =
 ComesTo words files reads reads' out out' writes writes' (read_fault name) = IsReached words files name × Rose reads reads' × Keeps out out'
 ComesTo words files reads reads' out out' writes writes' write_fault = Rose writes writes' × WritesPart words files out out'
 ComesTo words files reads reads' out out' writes writes' (faults lines) = HaveFaults words files lines × Keeps out out'
+ComesTo words files reads reads' out out' writes writes' (drawn lines) = Runs words files out out' (drawn lines)
 ComesTo words files reads reads' out out' writes writes' (trapped trap span) = Runs words files out out' (trapped trap span)
 ComesTo words files reads reads' out out' writes writes' (refused call function state) = Runs words files out out' (refused call function state)
 ComesTo words files reads reads' out out' writes writes' spent = Runs words files out out' spent
@@ -77,3 +81,5 @@ pub record IsByFiles (words : List (List ℕ)) (files : Files) (status : ℕ) : 
       → orig.AreHeld words (Some files) t turns → original.ComesTo t turns o → orig.IsEnding o e → EndsWith status (status_of e)
   pub checked : (text : List ℕ) (f : check.Findings) (e : Ending)
       → (held : check.AreHeld words (Some files) text) → check.Finds held.manner held.program_name text f → check.IsEnding f e → EndsWith status (status_of e)
+  pub pair_explained : (names : FileNames) (t : explained.Texts) (f : check.Findings) (e : Ending)
+      → explain.AreHeld words (Some files) names t → explain.Finds names t f → check.IsEnding f e → EndsWith status (status_of e)

@@ -32,6 +32,8 @@ pub data Ending : Type 0 where
   write_fault : Ending
   -- a stage has faults, and these lines report them
   faults : List ℕ → Ending
+  -- the faults of a program's flows are drawn, and these lines report them
+  drawn : List ℕ → Ending
   -- the run broke off, at this place of the program's text
   trapped : Trap → Span → Ending
   -- the policy denied this guarded call, counted from 1, of the function of this name, in the state of this name
@@ -60,6 +62,7 @@ status_of (missing name) = 2
 status_of (read_fault name) = 3
 status_of write_fault = 4
 status_of (faults lines) = 5
+status_of (drawn lines) = 5
 status_of (trapped trap span) = 6
 status_of (refused call function state) = 7
 status_of spent = 8
@@ -68,7 +71,7 @@ status_of (bad_peer rule offset) = 10
 status_of peer_ended = 11
 status_of memory = 12
 
--- a call that ends so writes nothing to out and reaches no other process
+-- a call that ends so writes nothing to out
 abbrev pub is_silent : Ending → Bool
 is_silent help = false
 is_silent version = false
@@ -81,6 +84,7 @@ is_silent (missing name) = true
 is_silent (read_fault name) = true
 is_silent write_fault = false
 is_silent (faults lines) = true
+is_silent (drawn lines) = false
 is_silent (trapped trap span) = false
 is_silent (refused call function state) = false
 is_silent spent = false
@@ -88,6 +92,28 @@ is_silent link_fault = false
 is_silent (bad_peer rule offset) = false
 is_silent peer_ended = false
 is_silent memory = false
+
+-- a call that ends so has run nothing: it asked no chooser and reached no other process
+abbrev pub is_idle : Ending → Bool
+is_idle help = true
+is_idle version = true
+is_idle (exit status) = false
+is_idle accepted = true
+is_idle split = true
+is_idle worked = false
+is_idle usage = true
+is_idle (missing name) = true
+is_idle (read_fault name) = true
+is_idle write_fault = false
+is_idle (faults lines) = true
+is_idle (drawn lines) = true
+is_idle (trapped trap span) = false
+is_idle (refused call function state) = false
+is_idle spent = false
+is_idle link_fault = false
+is_idle (bad_peer rule offset) = false
+is_idle peer_ended = false
+is_idle memory = false
 
 -- what is reported
 abbrev pub report_of : Ending → List ℕ
@@ -102,6 +128,7 @@ report_of (missing name) = codes "missing " ++ name ++ codes "\n"
 report_of (read_fault name) = codes "read fault " ++ name ++ codes "\n"
 report_of write_fault = codes "write fault\n"
 report_of (faults lines) = lines
+report_of (drawn lines) = lines
 report_of (trapped trap span) = codes "trap " ++ trap_name trap ++ codes " " ++ place_text span ++ codes "\n"
 report_of (refused call function state) = codes "refused " ++ decimal call ++ codes " " ++ function ++ codes " " ++ state ++ codes "\n"
 report_of spent = codes "spent\n"

@@ -2,11 +2,11 @@
 use Rattle.std.specs.Prelude.{◌≡◌, ◌⊎◌, ℕ, List, Option}
 use Rattle.std.specs.Io.KnownBytes.{Appends, Keeps}
 use Rattle.pt_base.specs.declared.chooser.Who.{Who}
-use Rattle.local_pair.specs.Ends.{Ended}
-use Rattle.local_pair.specs.Local.{Outcome}
-use Rattle.local_pair.specs.Whole.{HasWhole}
-use Rattle.generated_pair.specs.Generated as generated
-use Rattle.generated_pair.specs.Generated.{texts_of, told, turns, window}
+use Rattle.pair_running.specs.LocalPairEnds.{Ended}
+use Rattle.pair_running.specs.LocalPairLocal.{Outcome}
+use Rattle.pair_running.specs.LocalPairWhole.{HasWhole}
+use Rattle.pair_running.specs.GeneratedPairGenerated as generated
+use Rattle.pair_running.specs.GeneratedPairGenerated.{texts_of, told, turns, window}
 use Rattle.privtrans_app.specs.Ending.{Ending, memory, Puts}
 use Rattle.privtrans_app.specs.LocalRun.{bytes_of, ending_of}
 

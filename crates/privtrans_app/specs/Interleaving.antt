@@ -4,8 +4,8 @@ use Rattle.std.specs.Io.KnownBytes.{Appends}
 use Rattle.pt_base.specs.Files.{Files}
 use Rattle.pt_base.specs.declared.chooser.Who.{Who}
 use Rattle.pair_texts.specs.Start.{Texts}
-use Rattle.local_pair.specs.Whole.{HasWhole}
-use Rattle.privtrans_app.specs.Ending.{Ending, help, version, exit, accepted, split, worked, usage, missing, read_fault, write_fault, faults, trapped, refused, spent, link_fault, bad_peer, peer_ended, memory}
+use Rattle.pair_running.specs.LocalPairWhole.{HasWhole}
+use Rattle.privtrans_app.specs.Ending.{Ending, help, version, exit, accepted, split, worked, usage, missing, read_fault, write_fault, faults, drawn, trapped, refused, spent, link_fault, bad_peer, peer_ended, memory}
 use Rattle.privtrans_app.specs.LocalRun.{AreHeld}
 
 -- The files hold texts of a pair of which a whole run, step by step under exactly the answers that were taken from the chooser, writes
@@ -32,6 +32,7 @@ TakesTurns words files told told' out out' (missing name) = ⊤
 TakesTurns words files told told' out out' (read_fault name) = ⊤
 TakesTurns words files told told' out out' write_fault = ⊤
 TakesTurns words files told told' out out' (faults lines) = ⊤
+TakesTurns words files told told' out out' (drawn lines) = ⊥
 TakesTurns words files told told' out out' (trapped trap span) = IsInterleaved words files told told' out out'
 TakesTurns words files told told' out out' (refused call function state) = IsInterleaved words files told told' out out'
 TakesTurns words files told told' out out' spent = IsInterleaved words files told told' out out'

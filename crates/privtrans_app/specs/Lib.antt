@@ -3,6 +3,8 @@ pub mod Causes
 pub mod CheckRun
 pub mod Ending
 pub mod EndingSeen
+pub mod ExplainRun
+pub mod ExplainTexts
 pub mod FindingsSeen
 pub mod GeneratedRun
 pub mod Held
@@ -20,3 +22,5 @@ pub mod SplitRun
 pub mod SplitWriting
 pub mod Whole
 pub mod Words
+pub mod ToldLaws
+pub mod ToldExplanations

@@ -2,9 +2,9 @@
 use Rattle.std.specs.Prelude.{◌≡◌, ℕ, List, [], Option}
 use Rattle.pt_base.specs.Files.{Files, HoldsAt}
 use Rattle.pair_texts.specs.Start.{Texts, lines_of}
-use Rattle.local_pair.specs.Ends as ends
-use Rattle.local_pair.specs.Local as pairs
-use Rattle.local_pair.specs.Local.{Outcome, refused, ran}
+use Rattle.pair_running.specs.LocalPairEnds as ends
+use Rattle.pair_running.specs.LocalPairLocal as pairs
+use Rattle.pair_running.specs.LocalPairLocal.{Outcome, refused, ran}
 use Rattle.privtrans_app.specs.Words.{IsLocal}
 use Rattle.privtrans_app.specs.Ending as endings
 use Rattle.privtrans_app.specs.Ending.{Ending}

@@ -9,13 +9,13 @@ use Rattle.pair_runner.specs.declared.fault.RunFault.{RunFault}
 use Rattle.pair_runner.specs.declared.fault.RunFault.TheVariants as fault
 use Rattle.pair_runner.specs.Sending.{Breaks, Moves}
 use Rattle.pair_texts.specs.Start.{Texts}
-use Rattle.local_pair.specs.OutcomeSeen.{ended_seen}
-use Rattle.spawned_pair.specs.declared.outcome.Outcome.{Outcome}
-use Rattle.spawned_pair.specs.declared.outcome.Outcome.TheVariants.{Refused, Ran}
-use Rattle.spawned_pair.specs.OutcomeSeen.{IsExpectedOver, IsHonestFor, IsServed}
-use Rattle.spawned_pair.specs.Supervised.{AreUntouched}
+use Rattle.pair_running.specs.LocalPairOutcomeSeen.{ended_seen}
+use Rattle.pair_running.specs.declared.spawned_pair.outcome.Outcome.{Outcome}
+use Rattle.pair_running.specs.declared.spawned_pair.outcome.Outcome.TheVariants.{Refused, Ran}
+use Rattle.pair_running.specs.SpawnedPairOutcomeSeen.{IsExpectedOver, IsHonestFor, IsServed}
+use Rattle.pair_running.specs.SpawnedPairSupervised.{AreUntouched}
 use Rattle.privtrans_app.specs.Words.{IsProcessRun}
-use Rattle.privtrans_app.specs.Ending.{Ending, help, version, exit, accepted, split, worked, usage, missing, read_fault, write_fault, faults, trapped, refused, spent, link_fault, bad_peer, peer_ended, memory}
+use Rattle.privtrans_app.specs.Ending.{Ending, help, version, exit, accepted, split, worked, usage, missing, read_fault, write_fault, faults, drawn, trapped, refused, spent, link_fault, bad_peer, peer_ended, memory}
 use Rattle.privtrans_app.specs.Held.{IsReached}
 use Rattle.privtrans_app.specs.LocalRun.{ending_at}
 
@@ -76,6 +76,7 @@ ComesTo is words files reads reads' out out' writes writes' links links' (missin
 ComesTo is words files reads reads' out out' writes writes' links links' (read_fault name) = IsReached words files name × Rose reads reads' × Keeps out out'
 ComesTo is words files reads reads' out out' writes writes' links links' write_fault = Rose writes writes' × Runs is words files write_fault
 ComesTo is words files reads reads' out out' writes writes' links links' (faults lines) = Runs is words files (faults lines) × Keeps out out'
+ComesTo is words files reads reads' out out' writes writes' links links' (drawn lines) = ⊥
 ComesTo is words files reads reads' out out' writes writes' links links' (trapped trap span) = Runs is words files (trapped trap span)
 ComesTo is words files reads reads' out out' writes writes' links links' (refused call function state) = Runs is words files (refused call function state)
 ComesTo is words files reads reads' out out' writes writes' links links' spent = Runs is words files spent

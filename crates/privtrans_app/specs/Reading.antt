@@ -2,10 +2,12 @@
 use Rattle.std.specs.Prelude.{◌≡◌, ◌⊎◌, ℕ, List, [], ◌∷◌, ◌++◌, ⊤, Option}
 use Rattle.pt_base.specs.Faults.{Rose}
 use Rattle.pt_base.specs.Files.{Files, Lacks, GivesFirst}
-use Rattle.privtrans_app.specs.Ending.{Ending, help, version, exit, accepted, split, worked, usage, missing, read_fault, write_fault, faults, trapped, refused, spent, link_fault, bad_peer, peer_ended, memory}
+use Rattle.privtrans_app.specs.Ending.{Ending, help, version, exit, accepted, split, worked, usage, missing, read_fault, write_fault, faults, drawn, trapped, refused, spent, link_fault, bad_peer, peer_ended, memory}
 use Rattle.privtrans_app.specs.Held.{AllHeld}
 use Rattle.original.specs.Original as original
 use Rattle.pair_texts.specs.Start.{Texts}
+use Rattle.pair_explaining.specs.PairExplains as explained
+use Rattle.privtrans_app.specs.declared.words.ExplainWords.{ExplainWords}
 use Rattle.privtrans_app.specs.declared.words.OrigWords.{OrigWords}
 use Rattle.privtrans_app.specs.declared.words.PairNames.{PairNames}
 
@@ -22,6 +24,7 @@ IsReadRefusal name files reads reads' (missing n) = (n ≡ name) × (Lacks files
 IsReadRefusal name files reads reads' (read_fault n) = (n ≡ name) × Rose reads reads'
 IsReadRefusal name files reads reads' write_fault = ⊥
 IsReadRefusal name files reads reads' (faults lines) = ⊥
+IsReadRefusal name files reads reads' (drawn lines) = ⊥
 IsReadRefusal name files reads reads' (trapped trap span) = ⊥
 IsReadRefusal name files reads reads' (refused call function state) = ⊥
 IsReadRefusal name files reads reads' spent = ⊥
@@ -61,3 +64,13 @@ pub record AreOrigFirst (words : OrigWords) (files : Option Files) (t : original
   pub program : GivesFirst files words.program.now 1048577 t.program
   pub host : GivesFirst files words.host.now 1048577 t.host
   pub input : GivesFirst files words.input.now 1048577 t.input
+
+-- ---- a pair that is explained
+
+abbrev pub explain_names : ExplainWords → List (List ℕ)
+explain_names words = words.program.now ∷ words.host.now ∷ words.policy.now ∷ []
+
+pub record AreExplainFirst (words : ExplainWords) (files : Option Files) (t : explained.Texts) : Type 0 where
+  pub program : GivesFirst files words.program.now 1048577 t.program
+  pub host : GivesFirst files words.host.now 1048577 t.host
+  pub policy : GivesFirst files words.policy.now 1048577 t.policy

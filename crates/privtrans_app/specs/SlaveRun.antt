@@ -8,7 +8,7 @@ use Rattle.slave_runner.specs.declared.fault.WorkFault.{WorkFault}
 use Rattle.slave_runner.specs.declared.fault.WorkFault.TheVariants.{LinkFailed, BadPeer, PeerEnded, Memory}
 use Rattle.slave_runner.specs.Outcomes.{Stops, IsRefused}
 use Rattle.slave_runner.specs.Rules.{has_ended}
-use Rattle.privtrans_app.specs.Ending.{Ending, help, version, exit, accepted, split, worked, usage, missing, read_fault, write_fault, faults, trapped, refused, spent, link_fault, bad_peer, peer_ended, memory}
+use Rattle.privtrans_app.specs.Ending.{Ending, help, version, exit, accepted, split, worked, usage, missing, read_fault, write_fault, faults, drawn, trapped, refused, spent, link_fault, bad_peer, peer_ended, memory}
 
 -- the spawner became this link to the parent, and then this was the talk over it
 pub record Inherits {S : Type 0} (came : S → List Event → S → Type 0) (sent given : S → Option (List ℕ)) (spawner spawner' : S) (talk : List Event) : Type 0 where
@@ -39,6 +39,7 @@ ComesTo talks parts links links' (missing name) = ⊥
 ComesTo talks parts links links' (read_fault name) = ⊥
 ComesTo talks parts links links' write_fault = ⊥
 ComesTo talks parts links links' (faults lines) = ⊥
+ComesTo talks parts links links' (drawn lines) = ⊥
 ComesTo talks parts links links' (trapped trap span) = ⊥
 ComesTo talks parts links links' (refused call function state) = ⊥
 ComesTo talks parts links links' spent = ⊥

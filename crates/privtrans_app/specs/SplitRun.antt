@@ -56,6 +56,7 @@ ComesTo names files files' reads reads' writes writes' (e.missing name) = (name 
 ComesTo names files files' reads reads' writes writes' (e.read_fault name) = (name ≡ names.program) × Rose reads reads' × SameFiles files files'
 ComesTo names files files' reads reads' writes writes' e.write_fault = Rose writes writes' × StopsWriting names files files'
 ComesTo names files files' reads reads' writes writes' (e.faults lines) = HasFaults names files lines × SameFiles files files'
+ComesTo names files files' reads reads' writes writes' (e.drawn lines) = ⊥
 ComesTo names files files' reads reads' writes writes' (e.trapped trap span) = ⊥
 ComesTo names files files' reads reads' writes writes' (e.refused call function state) = ⊥
 ComesTo names files files' reads reads' writes writes' e.spent = ⊥

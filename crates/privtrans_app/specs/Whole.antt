@@ -9,9 +9,12 @@ use Rattle.program_split.specs.Split as halves
 use Rattle.program_split.specs.Split.{refused, split}
 use Rattle.program_split.specs.Seen as splits
 use Rattle.pair_texts.specs.Start.{Texts, Refusal, IsRefused, lines_of}
-use Rattle.local_pair.specs.Seen as pairs
+use Rattle.pair_running.specs.LocalPairSeen as pairs
+use Rattle.pair_explaining.specs.PairExplains as explained
+use Rattle.pair_explaining.specs.PairNames.{Names as FileNames}
 use Rattle.privtrans_app.specs.Calls.{AreSplit}
 use Rattle.privtrans_app.specs.CheckRun as check
+use Rattle.privtrans_app.specs.ExplainRun as explain
 use Rattle.privtrans_app.specs.LocalRun as local
 use Rattle.privtrans_app.specs.OrigRun as orig
 use Rattle.privtrans_app.specs.ProcessRun as process
@@ -28,8 +31,8 @@ abbrev pub Leaves : Names → Files → Option Files → halves.Outcome → Type
 Leaves names files files' (refused refusal) = SameFiles (Some files) files'
 Leaves names files files' (split slave monitor) = HoldsAt files' names.slave slave × HoldsAt files' names.monitor monitor
 
--- Memory was wanting, or: of `local`, `orig`, `check` and `explain`, what the files' texts give is told; of `run`, their faults, where a
--- stage has one; of `split`, what they give, and the files hold the halves.
+-- Memory was wanting, or: of `local`, `orig`, `check`, `explain`, `outline` and `picture`, what the files' texts give is told; of `run`,
+-- their faults, where a stage has one; of `split`, what they give, and the files hold the halves.
 pub record AreKept (words : List (List ℕ)) (files : Files) (files' : Option Files) (out out' report report' : Option (List ℕ)) (status : ℕ) : Type 0 where
   pub paired : (t : Texts) (turns window : ℕ) → local.AreHeld words (Some files) t turns window
       → (status ≡ 12) ⊎ ((s : Seen) × pairs.Gives t turns s × Told s out out' report report' status)
@@ -39,5 +42,7 @@ pub record AreKept (words : List (List ℕ)) (files : Files) (files' : Option Fi
       → (status ≡ 12) ⊎ ((s : Seen) × originals.Gives t turns s × Told s out out' report report' status)
   pub checked : (text : List ℕ) → (held : check.AreHeld words (Some files) text)
       → (status ≡ 12) ⊎ ((f : check.Findings) × check.Finds held.manner held.program_name text f × Told (check.shown f) out out' report report' status)
+  pub pair_explained : (names : FileNames) (t : explained.Texts) → explain.AreHeld words (Some files) names t
+      → (status ≡ 12) ⊎ ((f : check.Findings) × explain.Finds names t f × Told (check.shown f) out out' report report' status)
   pub split : (names : Names) (text : List ℕ) → AreSplit words names → files names.program ≡ Some text
       → (status ≡ 12) ⊎ ((o : halves.Outcome) × halves.ComesTo text o × Told (splits.shown o) out out' report report' status × Leaves names files files' o)

@@ -2,9 +2,9 @@
 use Rattle.std.specs.Prelude.{◌≡◌, ◌≢◌, ◌⊎◌, ◌≤◌, ℕ, List, [], ◌∷◌, codes}
 use Rattle.std.specs.Fmt.{decimal}
 use Rattle.privtrans_app.specs.declared.words.Form.{Form}
-use Rattle.privtrans_app.specs.declared.words.Form.TheVariants.{Help, Version, Local, Orig, Check}
+use Rattle.privtrans_app.specs.declared.words.Form.TheVariants.{Help, Version, Local, Orig, Check, Explain}
 use Rattle.privtrans_app.specs.declared.words.Manner as code
-use Rattle.privtrans_app.specs.declared.words.Manner.TheVariants.{Lines, Blocks}
+use Rattle.privtrans_app.specs.declared.words.Manner.TheVariants.{Lines, Blocks, Outline, Picture}
 use Rattle.privtrans_app.specs.declared.words.Outward.{Outward}
 use Rattle.privtrans_app.specs.declared.words.Outward.TheVariants.{Generated, Split, Run, Slave}
 
@@ -26,23 +26,34 @@ pub record IsOrig (words : List (List ℕ)) (program host input : List ℕ) (tur
   pub are : words ≡ codes "orig" ∷ program ∷ host ∷ input ∷ decimal turns ∷ []
   pub turns_most : turns ≤ 4294967295
 
--- In which manner it is told what a check finds: by a line each, or in blocks for people.
+-- In which manner it is told what a check finds: by a line each, or in blocks for people; or of an accepted program its outline, or
+-- the flows are drawn.
 pub data Manner : Type 0 where
   by_lines : Manner
   in_blocks : Manner
+  as_outline : Manner
+  as_picture : Manner
 
 abbrev pub manner_of : code.Manner → Manner
 manner_of Lines = by_lines
 manner_of Blocks = in_blocks
+manner_of Outline = as_outline
+manner_of Picture = as_picture
 
 -- the word that asks for it
 abbrev pub word_of : Manner → List ℕ
 word_of by_lines = codes "check"
 word_of in_blocks = codes "explain"
+word_of as_outline = codes "outline"
+word_of as_picture = codes "picture"
 
--- `check` or `explain`, and the name of a file
+-- `check`, `explain`, `outline` or `picture`, and the name of a file
 pub record IsCheck (words : List (List ℕ)) (manner : Manner) (program : List ℕ) : Type 0 where
   pub are : words ≡ word_of manner ∷ program ∷ []
+
+-- `explain` and the names of three files
+pub record IsExplain (words : List (List ℕ)) (program host policy : List ℕ) : Type 0 where
+  pub are : words ≡ codes "explain" ∷ program ∷ host ∷ policy ∷ []
 
 -- `split` and the names of three files, no two of them equal
 pub record IsSplit (words : List (List ℕ)) (program slave monitor : List ℕ) : Type 0 where
@@ -89,11 +100,18 @@ abbrev pub IsNoOrig : List (List ℕ) → Type 0
 IsNoOrig words = (program host input : List ℕ) (turns : ℕ) → IsOrig words program host input turns → ⊥
 
 abbrev pub IsNoCheck : List (List ℕ) → Type 0
-IsNoCheck words = ((program : List ℕ) → IsCheck words by_lines program → ⊥) × ((program : List ℕ) → IsCheck words in_blocks program → ⊥)
+IsNoCheck words =
+    ((program : List ℕ) → IsCheck words by_lines program → ⊥)
+    × ((program : List ℕ) → IsCheck words in_blocks program → ⊥)
+    × ((program : List ℕ) → IsCheck words as_outline program → ⊥)
+    × ((program : List ℕ) → IsCheck words as_picture program → ⊥)
 
--- the words name no files to run in this process or to check
+abbrev pub IsNoExplain : List (List ℕ) → Type 0
+IsNoExplain words = (program host policy : List ℕ) → IsExplain words program host policy → ⊥
+
+-- the words name no files to run in this process, to check or to explain
 abbrev pub IsNoRun : List (List ℕ) → Type 0
-IsNoRun words = IsNoLocal words × IsNoOrig words × IsNoCheck words
+IsNoRun words = IsNoLocal words × IsNoOrig words × IsNoCheck words × IsNoExplain words
 
 -- the words are of no form that is plain
 pub record IsNoForm (words : List (List ℕ)) : Type 0 where
@@ -102,8 +120,9 @@ pub record IsNoForm (words : List (List ℕ)) : Type 0 where
   pub no_local : IsNoLocal words
   pub no_orig : IsNoOrig words
   pub no_check : IsNoCheck words
+  pub no_explain : IsNoExplain words
 
--- the words are a run or a check of the files of these names, which are read in this order
+-- the words are a run or a check of the files of these names, or they have them explained; they are read in this order
 pub data IsRun (words : List (List ℕ)) : List (List ℕ) → Type 0 where
   of_local : (program host policy input : List ℕ) (turns window : ℕ) → IsLocal words program host policy input turns window
       → IsRun words (program ∷ host ∷ policy ∷ input ∷ [])
@@ -111,6 +130,7 @@ pub data IsRun (words : List (List ℕ)) : List (List ℕ) → Type 0 where
       → IsRun words (program ∷ host ∷ policy ∷ input ∷ [])
   of_orig : (program host input : List ℕ) (turns : ℕ) → IsOrig words program host input turns → IsRun words (program ∷ host ∷ input ∷ [])
   of_check : (manner : Manner) (program : List ℕ) → IsCheck words manner program → IsRun words (program ∷ [])
+  of_explain : (program host policy : List ℕ) → IsExplain words program host policy → IsRun words (program ∷ host ∷ policy ∷ [])
 
 -- the words are of this plain form
 abbrev pub IsForm : List (List ℕ) → Form → Type 0
@@ -119,6 +139,7 @@ IsForm words Version = IsVersion words
 IsForm words (Local l) = IsLocal words l.names.program.now l.names.host.now l.names.policy.now l.names.input.now l.turns l.window
 IsForm words (Orig o) = IsOrig words o.program.now o.host.now o.input.now o.turns
 IsForm words (Check c) = IsCheck words (manner_of c.manner) c.program.now
+IsForm words (Explain e) = IsExplain words e.program.now e.host.now e.policy.now
 
 -- the words are of this form that isn't plain
 abbrev pub IsOutward : List (List ℕ) → Outward → Type 0

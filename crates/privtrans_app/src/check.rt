@@ -1,4 +1,4 @@
-// A check: the file is read, and what tells of the program's privileged variables goes to out.
+// A check: the file is read, and what tells of the program goes to out: of its privileged variables, its outline or its picture.
 ghost use Rattle.std.specs.Prelude.{◌≡◌, ◌≤◌, ◌+◌, ℕ, true, List, IfOk};
 ghost use Rattle.pt_base.specs.Files.{SameFiles};
 ghost use Rattle.privtrans_app.specs.Causes.{ComesTo};
@@ -14,6 +14,8 @@ use crate::words::{CheckWords, Manner};
 use crate::writing::put;
 use explaining::{Explained, explain};
 use flow_check::{Outcome, outcome_of};
+use flow_picture::{Pictured, picture};
+use outlining::{Outlined, outline};
 use pt_base::{Folder, Sink, Watch};
 use std::alloc::{AllocError, Global};
 use std::thread::Threads;
@@ -22,7 +24,9 @@ use std::thread::Threads;
 pub(crate) enum Findings {
     /// Faults, and what tells of them.
     Faulty(Vec<u8>),
-    /// None, and what tells of the privileged variables.
+    /// Faults of flows, a picture that shows them, and what tells of them.
+    Pictured { picture: Vec<u8>, report: Vec<u8> },
+    /// None, and what tells of the privileged variables, the outline or the picture.
     Clean(Vec<u8>),
 }
 
@@ -44,6 +48,15 @@ fn find<R: Threads + Sync, W: Watch>(
         Manner::Blocks => match explain(rt, alloc, words.program.as_bytes(), text, watch)? {
             Explained::Refused(blocks) => Ok(Findings::Faulty(blocks)),
             Explained::Checked(lines) => Ok(Findings::Clean(lines)),
+        },
+        Manner::Outline => match outline(rt, alloc, text, watch)? {
+            Outlined::Refused(lines) => Ok(Findings::Faulty(lines)),
+            Outlined::Written(outline) => Ok(Findings::Clean(outline)),
+        },
+        Manner::Picture => match picture(rt, alloc, text, watch)? {
+            Pictured::Refused(lines) => Ok(Findings::Faulty(lines)),
+            Pictured::Faulty { picture, report } => Ok(Findings::Pictured { picture, report }),
+            Pictured::Drawn(picture) => Ok(Findings::Clean(picture)),
         },
     }
 }
@@ -72,7 +85,10 @@ pub(crate) fn check<'a, R: Threads + Sync, F: Folder, K: Sink, W: Watch>(
     };
     match find(rt, alloc, words, &text, watch) {
         Ok(Findings::Faulty(report)) => Ending::Faults(report),
-        Ok(Findings::Clean(lines)) => put(alloc, out, &lines, Ending::Accepted),
+        Ok(Findings::Pictured { picture, report }) => {
+            put(alloc, out, &picture, Ending::Drawn(report))
+        }
+        Ok(Findings::Clean(bytes)) => put(alloc, out, &bytes, Ending::Accepted),
         Err(_) => Ending::Memory,
     }
 }

@@ -32,6 +32,8 @@ pub(crate) enum Ending<'a> {
     WriteFault,
     /// A stage has faults: the lines that report them.
     Faults(Vec<u8>),
+    /// The faults of a program's flows are drawn: the lines that report them.
+    Drawn(Vec<u8>),
     /// The run broke off, at this place of the program's text.
     Trapped(Trap, Span),
     /// The policy denied a guarded call.
@@ -73,6 +75,7 @@ pub(crate) fn status(ending: &Ending<'_>) -> u8
         Ending::ReadFault(_) => 3,
         Ending::WriteFault => 4,
         Ending::Faults(_) => 5,
+        Ending::Drawn(_) => 5,
         Ending::Trapped(..) => 6,
         Ending::Refused { .. } => 7,
         Ending::Spent => 8,
@@ -157,6 +160,7 @@ pub(crate) fn report(alloc: Global, ending: Ending<'_>) -> Result<Vec<u8>, Alloc
         Ending::ReadFault(name) => named_line(alloc, b"read fault ", name),
         Ending::WriteFault => Vec::from_slice(alloc, b"write fault\n"),
         Ending::Faults(lines) => Ok(lines),
+        Ending::Drawn(lines) => Ok(lines),
         Ending::Trapped(trap, span) => trap_line(alloc, trap, span),
         Ending::Refused {
             call,

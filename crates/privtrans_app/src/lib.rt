@@ -3,6 +3,7 @@
 
 mod check;
 mod ending;
+mod explain;
 mod generated;
 mod help;
 mod local;
@@ -12,6 +13,7 @@ mod run;
 mod slave;
 mod split;
 mod texts;
+pub mod told;
 mod top;
 mod words;
 mod writing;

@@ -3,9 +3,9 @@
 ghost use Rattle.std.specs.Prelude.{◌≡◌, ◌≤◌, ◌+◌, [], ℕ, true, false, List};
 ghost use Rattle.link_talks.specs.Choosing.{AreTaken};
 ghost use Rattle.pt_base.specs.Files.{SameFiles};
-ghost use Rattle.local_pair.specs.OutcomeSeen.{ended_seen};
+ghost use Rattle.pair_running.specs.LocalPairOutcomeSeen.{ended_seen};
 ghost use Rattle.privtrans_app.specs.Causes.{ComesTo};
-ghost use Rattle.privtrans_app.specs.Ending.{is_silent, status_of};
+ghost use Rattle.privtrans_app.specs.Ending.{is_idle, is_silent, status_of};
 ghost use Rattle.privtrans_app.specs.EndingSeen.{ending_seen};
 ghost use Rattle.privtrans_app.specs.Interleaving.{TakesTurns};
 ghost use Rattle.privtrans_app.specs.LocalRun.{ending_at};
@@ -16,7 +16,7 @@ use crate::ending::Ending;
 use crate::texts::read_texts;
 use crate::words::LocalWords;
 use crate::writing::put;
-use local_pair::{Ended, Outcome, outcome_of};
+use pair_running::local_pair::{Ended, Outcome, outcome_of};
 use pair_texts::Beside;
 use pt_base::{Chooser, Folder, Sink, Watch};
 use std::alloc::Global;
@@ -26,6 +26,7 @@ use std::thread::Threads;
 pub(crate) fn ending_of<'a>(end: Ended) -> Ending<'a>
     ensures ending { ending_seen result ≡ ending_at (ended_seen end) }
     ensures loud { is_silent (ending_seen result) ≡ false }
+    ensures busy { is_idle (ending_seen result) ≡ false }
 {
     match end {
         Ended::Exit(status) => Ending::Exit(i64::from(status)),
@@ -62,7 +63,7 @@ pub(crate) fn local<'a, R: Threads + Sync, F: Folder, K: Sink, C: Chooser, W: Wa
     ensures turns { (given : List (List ℕ)) →
         IsLocal given words.now.names.program.now words.now.names.host.now words.now.names.policy.now words.now.names.input.now words.now.turns words.now.window →
         TakesTurns given (F.files folder.old) (C.answers chooser.old) (C.answers chooser.new) (K.taken out.old) (K.taken out.new) (ending_seen result) }
-    ensures untaken { is_silent (ending_seen result) ≡ true → AreTaken [] (C.answers chooser.old) (C.answers chooser.new) }
+    ensures untaken { is_idle (ending_seen result) ≡ true → AreTaken [] (C.answers chooser.old) (C.answers chooser.new) }
     ensures silent { is_silent (ending_seen result) ≡ true → out.new ≡ out.old }
     ensures same { SameFiles (F.files folder.old) (F.files folder.new) }
     ensures writes { F.write_faults folder.new ≡ F.write_faults folder.old }

@@ -2,7 +2,7 @@
 // and what the pair's hosts write goes to out as it comes.
 ghost use Rattle.std.specs.Prelude.{◌≡◌, ◌≤◌, ◌+◌, ℕ, true, false, List};
 ghost use Rattle.pt_base.specs.Files.{SameFiles};
-ghost use Rattle.privtrans_app.specs.Ending.{is_silent, status_of};
+ghost use Rattle.privtrans_app.specs.Ending.{is_idle, is_silent, status_of};
 ghost use Rattle.privtrans_app.specs.EndingSeen.{ending_seen};
 ghost use Rattle.privtrans_app.specs.Once.{FailsOnce};
 ghost use Rattle.privtrans_app.specs.ProcessRun.{ComesTo, IsRunOver, ending_of as ending_due};
@@ -14,9 +14,9 @@ use crate::texts::read_texts;
 use crate::words::RunWords;
 use honest_link::Witnessed;
 use pair_runner::RunFault;
+use pair_running::spawned_pair::{Outcome, outcome_of};
 use pair_texts::Beside;
 use pt_base::{Folder, Sink, Watch};
-use spawned_pair::{Outcome, outcome_of};
 use std::alloc::Global;
 use std::thread::Threads;
 
@@ -50,7 +50,8 @@ pub(crate) fn run<'a, R: Threads + Sync, F: Folder, K: Sink, S: Witnessed, W: Wa
         IsProcessRun given words.now.names.program.now words.now.names.host.now words.now.names.policy.now words.now.names.input.now words.now.turns →
         ComesTo (IsRunOver S.honest S.sent S.given K.taken spawner.old spawner.new out.old out.new) given (F.files folder.old) (F.read_faults folder.old) (F.read_faults folder.new)
         (K.taken out.old) (K.taken out.new) (K.faults out.old) (K.faults out.new) (S.faults spawner.old) (S.faults spawner.new) (ending_seen result) }
-    ensures silent { is_silent (ending_seen result) ≡ true → (out.new ≡ out.old) × (spawner.new ≡ spawner.old) }
+    ensures silent { is_silent (ending_seen result) ≡ true → out.new ≡ out.old }
+    ensures unreached { is_idle (ending_seen result) ≡ true → spawner.new ≡ spawner.old }
     ensures same { SameFiles (F.files folder.old) (F.files folder.new) }
     ensures writes { F.write_faults folder.new ≡ F.write_faults folder.old }
     ensures later { (F.read_faults folder.old ≤ F.read_faults folder.new) × (K.faults out.old ≤ K.faults out.new) × (S.faults spawner.old ≤ S.faults spawner.new) }

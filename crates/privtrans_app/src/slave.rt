@@ -1,6 +1,6 @@
 // The slave, as the process that a run starts: what it is to run comes over the link to its parent.
 ghost use Rattle.std.specs.Prelude.{◌≡◌, ◌≤◌, false};
-ghost use Rattle.privtrans_app.specs.Ending.{is_silent, status_of};
+ghost use Rattle.privtrans_app.specs.Ending.{is_idle, status_of};
 ghost use Rattle.privtrans_app.specs.EndingSeen.{ending_seen};
 ghost use Rattle.privtrans_app.specs.Once.{FailsOnce};
 ghost use Rattle.privtrans_app.specs.SlaveRun.{IsWorkOver, ending_of};
@@ -13,7 +13,7 @@ use std::alloc::Global;
 // How the slave's work ends the call.
 fn ended_by<'a>(answer: Result<(), WorkFault>) -> Ending<'a>
     ensures ending { ending_seen result ≡ ending_of answer }
-    ensures loud { is_silent (ending_seen result) ≡ false }
+    ensures busy { is_idle (ending_seen result) ≡ false }
 {
     match answer {
         Ok(()) => Ending::Worked,
@@ -27,7 +27,7 @@ fn ended_by<'a>(answer: Result<(), WorkFault>) -> Ending<'a>
 /// Does the slave's work over the link that the spawner inherits.
 pub(crate) fn slave<'a, S: Spawner>(alloc: Global, spawner: &mut S) -> Ending<'a>
     ensures ending { IsWorkOver S.came S.sent S.given spawner.old spawner.new (S.faults spawner.old) (S.faults spawner.new) (ending_seen result) }
-    ensures loud { is_silent (ending_seen result) ≡ false }
+    ensures busy { is_idle (ending_seen result) ≡ false }
     ensures later { S.faults spawner.old ≤ S.faults spawner.new }
     ensures once { FailsOnce (S.faults spawner.old) (S.faults spawner.new) (status_of (ending_seen result)) }
 {

@@ -5,15 +5,15 @@ ghost use Rattle.link_talks.specs.Choosing.{AreTaken};
 ghost use Rattle.runs.specs.Run.{Expected};
 ghost use Rattle.typed_tree.specs.TypedTree.{TypedTree};
 ghost use Rattle.pair_texts.specs.Start.{Texts};
-ghost use Rattle.local_pair.specs.Local.{IsExpected};
-ghost use Rattle.local_pair.specs.Seen.{shown_of};
+ghost use Rattle.pair_running.specs.LocalPairLocal.{IsExpected};
+ghost use Rattle.pair_running.specs.LocalPairSeen.{shown_of};
 ghost use Rattle.fault_lines.specs.Seen.{Seen};
-ghost use Rattle.generated_pair.specs.Generated as made;
-ghost use Rattle.spawned_pair.specs.OutcomeSeen.{IsHonestFor};
+ghost use Rattle.pair_running.specs.GeneratedPairGenerated as made;
+ghost use Rattle.pair_running.specs.SpawnedPairOutcomeSeen.{IsHonestFor};
 ghost use Rattle.privtrans_app.specs.Calls as calls;
 ghost use Rattle.privtrans_app.specs.Calls.{IsBySplit};
 ghost use Rattle.privtrans_app.specs.Causes.{ComesTo, IsByForm, IsByFiles};
-ghost use Rattle.privtrans_app.specs.Ending.{Ending, Reports, StaysDown, is_silent, status_of};
+ghost use Rattle.privtrans_app.specs.Ending.{Ending, Reports, StaysDown, is_idle, is_silent, status_of};
 ghost use Rattle.privtrans_app.specs.EndingSeen.{ending_seen};
 ghost use Rattle.privtrans_app.specs.Interleaving.{IsInterleaved, IsOfNoRun, IsOfRun, TakesTurns};
 ghost use Rattle.privtrans_app.specs.GeneratedRun as made_run;
@@ -27,6 +27,7 @@ ghost use Rattle.privtrans_app.specs.Words.{IsGenerated, IsLocal, IsNoLocal, IsN
 
 use crate::check::check;
 use crate::ending::{Ending as Came, report, status};
+use crate::explain::explain;
 use crate::generated::generated;
 use crate::help::{HELP, VERSION};
 use crate::local::local;
@@ -36,8 +37,8 @@ use crate::slave::slave;
 use crate::split::split;
 use crate::words::{Form, Outward, form_of, outward_of};
 use crate::writing::put;
-use generated_pair::generated_runs_are_told;
 use honest_link::Witnessed;
+use pair_running::generated_pair::generated_runs_are_told;
 use pt_base::{Chooser, Folder, Sink, SinkFault, Watch};
 use std::alloc::Global;
 use std::thread::Threads;
@@ -57,7 +58,7 @@ fn came_to<'a, R: Threads + Sync, F: Folder, K: Sink, C: Chooser, W: Watch>(
     ensures turns { (program host policy input : List ℕ) (turns window : ℕ) → IsLocal (map (λ w. w.now) words.now) program host policy input turns window →
         TakesTurns (map (λ w. w.now) words.now) (F.files folder.old) (C.answers chooser.old) (C.answers chooser.new) (K.taken out.old) (K.taken out.new) (ending_seen result) }
     ensures unasked { IsNoLocal (map (λ w. w.now) words.now) → chooser.new ≡ chooser.old }
-    ensures untaken { is_silent (ending_seen result) ≡ true → AreTaken [] (C.answers chooser.old) (C.answers chooser.new) }
+    ensures untaken { is_idle (ending_seen result) ≡ true → AreTaken [] (C.answers chooser.old) (C.answers chooser.new) }
     ensures silent { is_silent (ending_seen result) ≡ true → out.new ≡ out.old }
     ensures unread { IsNoRun (map (λ w. w.now) words.now) → folder.new ≡ folder.old }
     ensures same { SameFiles (F.files folder.old) (F.files folder.new) }
@@ -72,6 +73,7 @@ fn came_to<'a, R: Threads + Sync, F: Folder, K: Sink, C: Chooser, W: Watch>(
         Some(Form::Local(words)) => local(rt, alloc, &words, folder, out, chooser, watch),
         Some(Form::Orig(words)) => orig(rt, alloc, &words, folder, out, watch),
         Some(Form::Check(words)) => check(rt, alloc, &words, folder, out, watch),
+        Some(Form::Explain(words)) => explain(rt, alloc, &words, folder, out, watch),
     }
 }
 
@@ -94,8 +96,9 @@ fn ended<'a, R: Threads + Sync, F: Folder, K: Sink, S: Witnessed, C: Chooser, W:
     ensures generated_turns { (seed count : ℕ) → IsGenerated (map (λ w. w.now) words.now) seed count → IsOfRun (status_of (ending_seen result)) →
         made_run.IsInterleaved seed count (C.answers chooser.old) (C.answers chooser.new) (K.taken out.old) (K.taken out.new) }
     ensures unasked { IsNoLocal (map (λ w. w.now) words.now) → IsNotGenerated (map (λ w. w.now) words.now) → chooser.new ≡ chooser.old }
-    ensures untaken { is_silent (ending_seen result) ≡ true → AreTaken [] (C.answers chooser.old) (C.answers chooser.new) }
-    ensures silent { is_silent (ending_seen result) ≡ true → (out.new ≡ out.old) × (spawner.new ≡ spawner.old) }
+    ensures untaken { is_idle (ending_seen result) ≡ true → AreTaken [] (C.answers chooser.old) (C.answers chooser.new) }
+    ensures silent { is_silent (ending_seen result) ≡ true → out.new ≡ out.old }
+    ensures unreached { is_idle (ending_seen result) ≡ true → spawner.new ≡ spawner.old }
     ensures unread { IsNoRun (map (λ w. w.now) words.now) → IsNoSplit (map (λ w. w.now) words.now) → IsNoProcessRun (map (λ w. w.now) words.now) → folder.new ≡ folder.old }
     ensures same { IsNoSplit (map (λ w. w.now) words.now) → SameFiles (F.files folder.old) (F.files folder.new) × (F.write_faults folder.new ≡ F.write_faults folder.old) }
     ensures unlinked { IsNoProcessRun (map (λ w. w.now) words.now) → (IsSlave (map (λ w. w.now) words.now) → ⊥) → spawner.new ≡ spawner.old }
@@ -139,6 +142,7 @@ fn tell<E: Sink>(alloc: Global, sink: &mut E, ending: Came<'_>) -> u8
 /// off, 7 where the policy denied a call, 8 where its budget of turns was spent, 9 where the link to the
 /// other process failed, 10 where that broke a rule, 11 where it ended too early, 12 for want of memory.
 /// Lines in `report`, mostly one, say how it ended; help, the version and a slave that has ended have none.
+/// A picture is drawn of texts with faults of flows, too.
 /// Where both halves run in one process, the chooser says at each step which of them goes on; where they
 /// run in two, the spawner starts the slave's, and is the link to the other one in each. The watch is told of
 /// each function that the front end works on, and changes nothing.

@@ -53,6 +53,10 @@ pub(crate) enum Manner {
     Lines,
     /// In blocks, for people.
     Blocks,
+    /// The outline of an accepted program.
+    Outline,
+    /// A picture of the flows.
+    Picture,
 }
 
 /// The words of a check: the name of the program, and how its findings are told.
@@ -60,6 +64,14 @@ pub(crate) enum Manner {
 pub(crate) struct CheckWords<'a> {
     pub program: &'a str,
     pub manner: Manner,
+}
+
+/// The words of a pair that is explained.
+#[derive(Clone, Copy)]
+pub(crate) struct ExplainWords<'a> {
+    pub program: &'a str,
+    pub host: &'a str,
+    pub policy: &'a str,
 }
 
 /// The words of a generated program.
@@ -77,6 +89,7 @@ pub(crate) enum Form<'a> {
     Local(LocalWords<'a>),
     Orig(OrigWords<'a>),
     Check(CheckWords<'a>),
+    Explain(ExplainWords<'a>),
 }
 
 /// What the words ask for, where that writes files, reaches another process or runs a program of the tool's own.
@@ -134,6 +147,10 @@ fn form_after<'a>(word: &str, rest: &[&'a str]) -> Option<Form<'a>>
         check_words(rest)
     } else if word == "explain" {
         explain_words(rest)
+    } else if word == "outline" {
+        outline_words(rest)
+    } else if word == "picture" {
+        picture_words(rest)
     } else {
         None
     }
@@ -208,9 +225,36 @@ fn check_words<'a>(words: &[&'a str]) -> Option<Form<'a>>
     }
 }
 
-// The words after `explain`.
+// The words after `explain`: the name of a program alone, or of a pair's files too.
 fn explain_words<'a>(words: &[&'a str]) -> Option<Form<'a>>
     ensures { MatchOption result (IsNoForm (codes "explain" ∷ map (λ w. w.now) words.now)) (IsForm (codes "explain" ∷ map (λ w. w.now) words.now)) }
+{
+    let [program, words @ ..] = words else {
+        return None;
+    };
+    let [host, words @ ..] = words else {
+        return Some(Form::Check(CheckWords {
+            program,
+            manner: Manner::Blocks,
+        }));
+    };
+    let [policy, words @ ..] = words else {
+        return None;
+    };
+    if words.is_empty() {
+        Some(Form::Explain(ExplainWords {
+            program,
+            host,
+            policy,
+        }))
+    } else {
+        None
+    }
+}
+
+// The words after `outline`.
+fn outline_words<'a>(words: &[&'a str]) -> Option<Form<'a>>
+    ensures { MatchOption result (IsNoForm (codes "outline" ∷ map (λ w. w.now) words.now)) (IsForm (codes "outline" ∷ map (λ w. w.now) words.now)) }
 {
     let [program, words @ ..] = words else {
         return None;
@@ -218,7 +262,24 @@ fn explain_words<'a>(words: &[&'a str]) -> Option<Form<'a>>
     if words.is_empty() {
         Some(Form::Check(CheckWords {
             program,
-            manner: Manner::Blocks,
+            manner: Manner::Outline,
+        }))
+    } else {
+        None
+    }
+}
+
+// The words after `picture`.
+fn picture_words<'a>(words: &[&'a str]) -> Option<Form<'a>>
+    ensures { MatchOption result (IsNoForm (codes "picture" ∷ map (λ w. w.now) words.now)) (IsForm (codes "picture" ∷ map (λ w. w.now) words.now)) }
+{
+    let [program, words @ ..] = words else {
+        return None;
+    };
+    if words.is_empty() {
+        Some(Form::Check(CheckWords {
+            program,
+            manner: Manner::Picture,
         }))
     } else {
         None

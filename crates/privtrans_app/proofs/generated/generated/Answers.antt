@@ -1,6 +1,6 @@
 use Rattle.std.proofs.Common.{ℕ, List, Option, refl, subst}
-use Rattle.local_pair.specs.OutcomeSeen.{ended_seen}
-use Rattle.generated_pair.specs.OutcomeSeen.{IsOutcome, IsWholeRun}
+use Rattle.pair_running.specs.LocalPairOutcomeSeen.{ended_seen}
+use Rattle.pair_running.specs.GeneratedPairOutcomeSeen.{IsOutcome, IsWholeRun}
 use Rattle.privtrans_app.specs.Ending.{Ending, Puts}
 use Rattle.privtrans_app.specs.EndingSeen.{ending_seen}
 use Rattle.privtrans_app.proofs.GeneratedLemmas.{faults_come, memory_comes, ran_comes, ran_turns}
@@ -16,7 +16,7 @@ pub returns-in-Ok-Refused-clause-turns : goal.returns-in-Ok-Refused-clause-turns
 returns-in-Ok-Refused-clause-turns g c = λ run. absurd (other 5 5 refl refl run)
 
 pub returns-in-Ok-Refused-clause-untaken : goal.returns-in-Ok-Refused-clause-untaken
-returns-in-Ok-Refused-clause-untaken g c = λ silent.
+returns-in-Ok-Refused-clause-untaken g c = λ idle.
     subst (IsWholeRun c.args.words.seed c.args.words.count (g.C.Chooser.answers c.args.chooser.now) (g.C.Chooser.answers c.outcome_of.new.chooser)) c.in-Ok-Refused.field-0-is c.in-Ok-Refused.ensures.whole
 
 pub returns-in-Ok-Ran-clause-ending : goal.returns-in-Ok-Ran-clause-ending

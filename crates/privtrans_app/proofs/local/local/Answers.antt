@@ -2,11 +2,11 @@ use Rattle.std.proofs.Common.{◌≡◌, ℕ, List, Option, subst}
 use Rattle.pt_base.specs.declared.chooser.Who.{Who}
 use Rattle.pair_texts.specs.OutcomeSeen.{AreLinesOf}
 use Rattle.pair_texts.specs.Start.{Texts}
-use Rattle.local_pair.specs.Ends as ends
-use Rattle.local_pair.specs.Local as pairs
-use Rattle.local_pair.specs.Local.{ran}
-use Rattle.local_pair.specs.OutcomeSeen.{IsOutcome, IsWholeRun, ended_seen}
-use Rattle.local_pair.specs.Whole.{HasWhole}
+use Rattle.pair_running.specs.LocalPairEnds as ends
+use Rattle.pair_running.specs.LocalPairLocal as pairs
+use Rattle.pair_running.specs.LocalPairLocal.{ran}
+use Rattle.pair_running.specs.LocalPairOutcomeSeen.{IsOutcome, IsWholeRun, ended_seen}
+use Rattle.pair_running.specs.LocalPairWhole.{HasWhole}
 use Rattle.privtrans_app.specs.Ending.{Ending, Puts}
 use Rattle.privtrans_app.specs.EndingSeen.{ending_seen}
 use Rattle.privtrans_app.specs.PairTexts.{pair_texts_of}
@@ -71,9 +71,9 @@ returns-in-Ok-Ran-clause-turns g c = λ given form.
     (subst (λ (bs : List ℕ). Puts o o' (g.K.Sink.faults c.args.out.now) (g.K.Sink.faults c.put.new.out) bs (ending_seen c.ending_of.result) (ending_seen c.put.result)) c.deref-in-Ok-Ran.ensures.value c.put.ensures.ending))
 
 pub returns-in-Err-clause-untaken : goal.returns-in-Err-clause-untaken
-returns-in-Err-clause-untaken g c = λ silent. none_taken (g.C.Chooser.answers c.args.chooser.now)
+returns-in-Err-clause-untaken g c = λ idle. none_taken (g.C.Chooser.answers c.args.chooser.now)
 
 pub returns-in-Ok-Refused-clause-untaken : goal.returns-in-Ok-Refused-clause-untaken
-returns-in-Ok-Refused-clause-untaken g c = λ silent.
+returns-in-Ok-Refused-clause-untaken g c = λ idle.
     let read : Texts = record { program = c.deref-4.result.now; host = c.deref.result.now; policy = c.deref-2.result.now; input = c.deref-3.result.now } in
     subst (IsWholeRun read c.args.words.now.turns c.args.words.now.window (g.C.Chooser.answers c.args.chooser.now) (g.C.Chooser.answers c.outcome_of-outcome.new.chooser)) c.in-Ok-Refused.field-0-is c.in-Ok-Refused.ensures.whole

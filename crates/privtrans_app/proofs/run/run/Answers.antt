@@ -3,15 +3,15 @@ use Rattle.std.specs.Io.KnownBytes.{Appends}
 use Rattle.honest_link.specs.Came.{Came}
 use Rattle.pair_runner.specs.Sending.{Breaks, Moves}
 use Rattle.pair_texts.specs.Start.{Texts}
-use Rattle.spawned_pair.specs.OutcomeSeen.{IsHonestFor}
-use Rattle.spawned_pair.specs.Supervised.{AreUntouched}
-use Rattle.spawned_pair.proofs.Cuts.{honest_cut}
-use Rattle.privtrans_app.specs.Ending.{Ending, is_silent}
+use Rattle.pair_running.specs.SpawnedPairOutcomeSeen.{IsHonestFor}
+use Rattle.pair_running.specs.SpawnedPairSupervised.{AreUntouched}
+use Rattle.pair_running.proofs.SpawnedPairCuts.{honest_cut}
+use Rattle.privtrans_app.specs.Ending.{Ending, is_idle, is_silent}
 use Rattle.privtrans_app.specs.EndingSeen.{ending_seen}
 use Rattle.privtrans_app.specs.PairTexts.{pair_texts_of}
 use Rattle.privtrans_app.specs.ProcessRun.{ComesTo, IsRunOver, Runs, ending_of}
 use Rattle.privtrans_app.specs.Reading.{list_of}
-use Rattle.privtrans_app.proofs.ProcessLemmas.{answer_comes, files_run, process_run, refusal_comes, silent_so, untouched_keeps}
+use Rattle.privtrans_app.proofs.ProcessLemmas.{answer_comes, files_run, idle_so, process_run, refusal_comes, silent_so, untouched_keeps}
 use Rattle.privtrans_app.proofs.run.run.Goals as goal
 
 pub returns-in-Err-clause-ending : goal.returns-in-Err-clause-ending
@@ -55,4 +55,15 @@ returns-clause-silent g c = λ silent.
     let read : Texts = record { program = c.deref-4.result.now; host = c.deref.result.now; policy = c.deref-2.result.now; input = c.deref-3.result.now } in
     let is = silent_so (AreUntouched s s' k k') (Moves (Came g.S.Link.honest g.S.Link.sent g.S.Link.given) g.S.Link.sent g.S.Link.given g.K.Sink.taken s s' k k') (Breaks g.S.Link.sent g.S.Link.given g.K.Sink.taken s s' k k')
     read c.args.words.now.turns c.outcome_of-answer.result (ap is_silent (sym c.ending_by.ensures) ∙ silent) c.outcome_of-answer.ensures.served in
-    (is.sink_is, is.spawner_is)
+    is.sink_is
+
+pub returns-clause-unreached : goal.returns-clause-unreached
+returns-clause-unreached g c = λ idle.
+    let s = c.args.spawner.now in
+    let s' = c.outcome_of-answer.new.spawner in
+    let k = c.args.out.now in
+    let k' = c.outcome_of-answer.new.out in
+    let read : Texts = record { program = c.deref-4.result.now; host = c.deref.result.now; policy = c.deref-2.result.now; input = c.deref-3.result.now } in
+    let is = silent_so (AreUntouched s s' k k') (Moves (Came g.S.Link.honest g.S.Link.sent g.S.Link.given) g.S.Link.sent g.S.Link.given g.K.Sink.taken s s' k k') (Breaks g.S.Link.sent g.S.Link.given g.K.Sink.taken s s' k k')
+    read c.args.words.now.turns c.outcome_of-answer.result (idle_so c.outcome_of-answer.result (ap is_idle (sym c.ending_by.ensures) ∙ idle)) c.outcome_of-answer.ensures.served in
+    is.spawner_is

@@ -6,7 +6,7 @@ use Rattle.privtrans_app.specs.Help.{version_text}
 use Rattle.privtrans_app.specs.Words.{IsForm, IsNoForm, IsHelp, IsVersion, of_local}
 use Rattle.privtrans_app.specs.declared.words.Form.{Form}
 use Rattle.privtrans_app.proofs.CauseLemmas.{put_comes}
-use Rattle.privtrans_app.proofs.CompleteLemmas.{no_help, no_version, two_runs, local_check}
+use Rattle.privtrans_app.proofs.CompleteLemmas.{no_help, no_version, two_runs, local_check, local_explain}
 use Rattle.privtrans_app.proofs.InterleavingLemmas.{none_taken}
 use Rattle.privtrans_app.proofs.top.came_to.Goals as goal
 
@@ -35,6 +35,12 @@ returns-in-Some-Check-clause-ending g c =
     let given : List (List ℕ) = map (λ w. w.now) c.args.words.now in
     let form = subst (IsForm given) c.in-Some-Check.field-0-is (subst (λ (o : Option Form). MatchOption o (IsNoForm given) (IsForm given)) c.in-Some-Check.is c.form_of.ensures) in
     c.check.ensures.ending given form
+
+pub returns-in-Some-Explain-clause-ending : goal.returns-in-Some-Explain-clause-ending
+returns-in-Some-Explain-clause-ending g c =
+    let given : List (List ℕ) = map (λ w. w.now) c.args.words.now in
+    let form = subst (IsForm given) c.in-Some-Explain.field-0-is (subst (λ (o : Option Form). MatchOption o (IsNoForm given) (IsForm given)) c.in-Some-Explain.is c.form_of.ensures) in
+    c.explain.ensures.ending given form
 
 pub returns-in-None-clause-turns : goal.returns-in-None-clause-turns
 returns-in-None-clause-turns g c = λ p h q i m w is. absurd (c.in-None.ensures.no_local p h q i m w is)
@@ -69,17 +75,26 @@ returns-in-Some-Check-clause-turns g c = λ p h q i m w is.
     let form = subst (IsForm given) c.in-Some-Check.field-0-is (subst (λ (o : Option Form). MatchOption o (IsNoForm given) (IsForm given)) c.in-Some-Check.is c.form_of.ensures) in
     absurd (local_check given is form)
 
+pub returns-in-Some-Explain-clause-turns : goal.returns-in-Some-Explain-clause-turns
+returns-in-Some-Explain-clause-turns g c = λ p h q i m w is.
+    let given : List (List ℕ) = map (λ w. w.now) c.args.words.now in
+    let form = subst (IsForm given) c.in-Some-Explain.field-0-is (subst (λ (o : Option Form). MatchOption o (IsNoForm given) (IsForm given)) c.in-Some-Explain.is c.form_of.ensures) in
+    absurd (local_explain given is form)
+
 pub returns-in-None-clause-untaken : goal.returns-in-None-clause-untaken
-returns-in-None-clause-untaken g c = λ silent. none_taken (g.C.Chooser.answers c.args.chooser.now)
+returns-in-None-clause-untaken g c = λ idle. none_taken (g.C.Chooser.answers c.args.chooser.now)
 
 pub returns-in-Some-Help-clause-untaken : goal.returns-in-Some-Help-clause-untaken
-returns-in-Some-Help-clause-untaken g c = λ silent. none_taken (g.C.Chooser.answers c.args.chooser.now)
+returns-in-Some-Help-clause-untaken g c = λ idle. none_taken (g.C.Chooser.answers c.args.chooser.now)
 
 pub returns-in-Some-Version-clause-untaken : goal.returns-in-Some-Version-clause-untaken
-returns-in-Some-Version-clause-untaken g c = λ silent. none_taken (g.C.Chooser.answers c.args.chooser.now)
+returns-in-Some-Version-clause-untaken g c = λ idle. none_taken (g.C.Chooser.answers c.args.chooser.now)
 
 pub returns-in-Some-Orig-clause-untaken : goal.returns-in-Some-Orig-clause-untaken
-returns-in-Some-Orig-clause-untaken g c = λ silent. none_taken (g.C.Chooser.answers c.args.chooser.now)
+returns-in-Some-Orig-clause-untaken g c = λ idle. none_taken (g.C.Chooser.answers c.args.chooser.now)
 
 pub returns-in-Some-Check-clause-untaken : goal.returns-in-Some-Check-clause-untaken
-returns-in-Some-Check-clause-untaken g c = λ silent. none_taken (g.C.Chooser.answers c.args.chooser.now)
+returns-in-Some-Check-clause-untaken g c = λ idle. none_taken (g.C.Chooser.answers c.args.chooser.now)
+
+pub returns-in-Some-Explain-clause-untaken : goal.returns-in-Some-Explain-clause-untaken
+returns-in-Some-Explain-clause-untaken g c = λ idle. none_taken (g.C.Chooser.answers c.args.chooser.now)

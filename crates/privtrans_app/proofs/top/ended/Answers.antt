@@ -38,7 +38,7 @@ returns-in-Some-Split-clause-generated_turns g c = λ seed count is run.
     absurd (generated_or_split given (names_of c.in-Some-Split.words) is form)
 
 pub returns-in-Some-Split-clause-untaken : goal.returns-in-Some-Split-clause-untaken
-returns-in-Some-Split-clause-untaken g c = λ silent. none_taken (g.C.Chooser.answers c.args.chooser.now)
+returns-in-Some-Split-clause-untaken g c = λ idle. none_taken (g.C.Chooser.answers c.args.chooser.now)
 
 -- ---- a run in two processes
 
@@ -61,7 +61,7 @@ returns-in-Some-Run-clause-generated_turns g c = λ seed count is run.
     absurd (generated_or_run given _ is (of_process_run _ _ _ _ _ form))
 
 pub returns-in-Some-Run-clause-untaken : goal.returns-in-Some-Run-clause-untaken
-returns-in-Some-Run-clause-untaken g c = λ silent. none_taken (g.C.Chooser.answers c.args.chooser.now)
+returns-in-Some-Run-clause-untaken g c = λ idle. none_taken (g.C.Chooser.answers c.args.chooser.now)
 
 pub returns-in-Some-Run-clause-unwritten : goal.returns-in-Some-Run-clause-unwritten
 returns-in-Some-Run-clause-unwritten g c = λ is.
@@ -90,7 +90,7 @@ returns-in-Some-Slave-clause-generated_turns g c = λ seed count is run.
     absurd (generated_or_slave given is form)
 
 pub returns-in-Some-Slave-clause-untaken : goal.returns-in-Some-Slave-clause-untaken
-returns-in-Some-Slave-clause-untaken g c = λ silent. none_taken (g.C.Chooser.answers c.args.chooser.now)
+returns-in-Some-Slave-clause-untaken g c = λ idle. none_taken (g.C.Chooser.answers c.args.chooser.now)
 
 -- ---- a generated program
 

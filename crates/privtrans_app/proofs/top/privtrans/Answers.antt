@@ -86,5 +86,5 @@ returns-clause-untouched g c =
       (λ slave. c.ended-ending.ensures.unwritten slave),
       (λ no_process no_slave. c.ended-ending.ensures.unlinked no_process no_slave),
       (λ none made. c.ended-ending.ensures.unasked none made),
-      (λ none. (c.ended-ending.ensures.untaken (quiet none), (c.ended-ending.ensures.silent (quiet none)).1)),
+      (λ none. (c.ended-ending.ensures.untaken (quiet none), c.ended-ending.ensures.unreached (quiet none))),
     )

@@ -1,0 +1,11 @@
+// What a command tells is what its texts come to, or memory was wanting; and each text has an explanation, but for
+// programs of too many slots.
+
+mod explanations;
+mod laws;
+
+pub use explanations::{
+    explanations_are_told, pair_explanations_are_told, pairs_are_explained, texts_are_explained,
+    too_many_slots_have_no_explanation,
+};
+pub use laws::{checks_are_told, runs_are_told, splits_are_told};
