@@ -1,6 +1,7 @@
 mod AppendLemmas
 mod ArrowLemmas
 pub mod Cuts
+pub mod ExistingPictures
 mod LoopLemmas
 mod ObjectLemmas
 mod OrderLemmas
@@ -8,4 +9,5 @@ mod PictureLemmas
 mod SameLemmas
 mod SearchLemmas
 mod SecretLemmas
+mod ShownLemmas
 mod StageLemmas

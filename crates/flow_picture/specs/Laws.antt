@@ -1,7 +1,24 @@
 -- What holds of pictures.
-use Rattle.std.specs.Prelude.{ℕ, List, take}
-use Rattle.flow_picture.specs.Pictures.{ComesTo, Drawing}
+use Rattle.std.specs.Prelude.{◌<◌, ◌≤◌, ◌↔◌, ℕ, List, length, take, IsTrue}
+use Rattle.std.specs.List.{Contains}
+use Rattle.typed_tree.specs.TypedTree.{TypedTree}
+use Rattle.typed_tree.specs.WellFormed.{is_well_formed}
+use Rattle.sides_exist_law.specs.Laws.{HasFewSlots}
+use Rattle.flow_rules.specs.declared.fault.FlowFault.{FlowFault}
+use Rattle.flow_picture.specs.declared.node.Node.{Node}
+use Rattle.flow_picture.specs.Objects.{HoldsSecret, IsObject, shown_of}
+use Rattle.flow_picture.specs.Pictures.{ComesTo, Drawing, IsPicture}
 
 -- what is drawn of the first bytes of a text, one more than it may have, is drawn of the whole text
 abbrev pub FirstBytesAreEnough : Type 0
 FirstBytesAreEnough = (text : List ℕ) (d : Drawing) → ComesTo (take 1048577 text) d → ComesTo text d
+
+-- each well formed program of at most 2^25 slots has a picture, whatever faults it is to show
+abbrev pub ProgramsHavePictures : Type 0
+ProgramsHavePictures = (text : List ℕ) (t : TypedTree) (faults : List FlowFault) → IsTrue (is_well_formed t) → HasFewSlots t → (picture : List ℕ) × IsPicture text t faults picture
+
+-- where at most 2000 objects would be shown all are, and else exactly those of them that may hold secrets
+abbrev pub ObjectsAreShown : Type 0
+ObjectsAreShown = (text : List ℕ) (t : TypedTree) (faults : List FlowFault) (picture : List ℕ) (p : IsPicture text t faults picture) (x : Node) →
+    (length p.objects ≤ 2000 → Contains (shown_of p.objects p.secrets) x ↔ IsObject t x)
+    × (2000 < length p.objects → Contains (shown_of p.objects p.secrets) x ↔ (IsObject t x × HoldsSecret t p.sides x))

@@ -25,7 +25,7 @@ mod shown;
 mod steps;
 mod uses;
 
-pub use laws::first_bytes_are_enough;
+pub use laws::{first_bytes_are_enough, objects_are_shown, programs_have_pictures};
 pub use pictured::Pictured;
 pub use pictures::picture;
 pub use room::{MOST_BYTES, MOST_NODES};

@@ -1,5 +1,5 @@
 // What holds of outlines.
-ghost use Rattle.outlining.specs.Laws.{FirstBytesAreEnough, WordsTellCells};
+ghost use Rattle.outlining.specs.Laws.{AcceptedTextsHaveOutlines, FirstBytesAreEnough, WordsTellCells};
 
 /// A text of which only the first 1,048,577 bytes were read comes to what the whole text comes to. It does
 /// nothing.
@@ -10,4 +10,9 @@ pub fn first_bytes_are_enough()
 /// What an outline says of a pointer is what crosses, cell by cell. It does nothing.
 pub fn words_tell_cells()
     ensures { WordsTellCells }
+{}
+
+/// Each text in which no stage of `check` has a fault has an outline. It does nothing.
+pub fn accepted_texts_have_outlines()
+    ensures { AcceptedTextsHaveOutlines }
 {}

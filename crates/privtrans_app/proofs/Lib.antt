@@ -19,3 +19,6 @@ pub mod ToldCommands
 pub mod ToldExplained
 mod ToldPairs
 pub mod ToldExplainCommands
+mod ToldPictures
+mod ToldOutlines
+pub mod ToldFindings

@@ -24,3 +24,4 @@ pub mod Whole
 pub mod Words
 pub mod ToldLaws
 pub mod ToldExplanations
+pub mod ToldFindings

@@ -6,3 +6,4 @@ pub mod FaultLemmas
 pub mod LineLemmas
 pub mod RuleLemmas
 pub mod VerdictLemmas
+pub mod ExistingTexts

@@ -10,10 +10,12 @@ use Rattle.policy.specs.PolicyFault.{IsPolicy}
 use Rattle.policy.specs.Verdicts.{Call, start, verdict_on}
 use Rattle.policy.specs.declared.TheConstants.{TEXT_LIMIT, RULE_LIMIT}
 use Rattle.policy.specs.declared.verdict.Verdict.TheVariants.{Allow}
+use Rattle.starting_texts.specs.declared.texts.StartingPolicy.{StartingPolicy}
+use Rattle.starting_texts.specs.declared.texts.StartingTable.{StartingTable}
 use Rattle.starting_texts.specs.Names.{HasPlainNames}
-use Rattle.starting_texts.specs.Policies.{policy_text, start_rules, AreGuarded}
+use Rattle.starting_texts.specs.Policies.{policy_text, start_rules, AreGuarded, IsStartingPolicy}
 use Rattle.starting_texts.specs.TableData.{table_data}
-use Rattle.starting_texts.specs.Tables.{table_text, first_unfit}
+use Rattle.starting_texts.specs.Tables.{table_text, first_unfit, IsStartingTable}
 
 -- the table is the compact text of its value
 abbrev pub TablesAreCompact : Type 0
@@ -42,3 +44,11 @@ PoliciesAllow = (fs : List FnId) (before : List Call) (f : FnId) (plain : List �
 -- whatever is called, the policy stands where it starts
 abbrev pub PoliciesStay : Type 0
 PoliciesStay = (fs : List FnId) (calls : List Call) → standing_after (start (start_rules fs)) calls ≡ start (start_rules fs)
+
+-- each program has a table to start from, or a cause why it has none
+abbrev pub ProgramsHaveTables : Type 0
+ProgramsHaveTables = (t : TypedTree) → (table : StartingTable) × IsStartingTable t table
+
+-- and for whatever functions a policy, or it would be too long
+abbrev pub ProgramsHavePolicies : Type 0
+ProgramsHavePolicies = (t : TypedTree) (fs : List FnId) → (policy : StartingPolicy) × IsStartingPolicy t fs policy

@@ -1,5 +1,5 @@
 // What holds of the texts to start from.
-ghost use Rattle.starting_texts.specs.Laws.{TablesAreCompact, TablesHaveNoFault, UnfitHostsAreAtFault, PoliciesHaveNoFault, PoliciesAllow, PoliciesStay};
+ghost use Rattle.starting_texts.specs.Laws.{TablesAreCompact, TablesHaveNoFault, UnfitHostsAreAtFault, PoliciesHaveNoFault, PoliciesAllow, PoliciesStay, ProgramsHaveTables, ProgramsHavePolicies};
 
 /// The table to start from is the compact text of an object with a member for each host.
 pub fn tables_are_compact()
@@ -26,4 +26,10 @@ pub fn policies_have_no_fault()
 pub fn policies_allow()
     ensures allows { PoliciesAllow }
     ensures stays { PoliciesStay }
+{}
+
+/// Of each program there is a table to start from, or why there is none, and of whatever functions of it a policy.
+pub fn programs_have_starting_texts()
+    ensures tables { ProgramsHaveTables }
+    ensures policies { ProgramsHavePolicies }
 {}

@@ -13,7 +13,7 @@ use Rattle.program_split.specs.Split as splits
 use Rattle.texts_have_outcomes_law.specs.Laws.{HasTooManySlots, TooManySlotsHaveNoOutcome}
 
 module _ (text : List ℕ) (many : HasTooManySlots text) where
-  no_sides : (tree : TypedTree) → HasTypedTree text tree → (s : Sides) → AreSides tree s → ⊥
+  pub no_sides : (tree : TypedTree) → HasTypedTree text tree → (s : Sides) → AreSides tree s → ⊥
   no_sides tree has s are =
       let same : typed_tree tree ≡ typed_tree many.0 = reading_is_one text (typed_tree tree) (typed_tree many.0) has many.1 in
       let one : tree ≡ many.0 = cc in
