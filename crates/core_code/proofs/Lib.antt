@@ -1,5 +1,4 @@
 mod GlobalLemmas
-mod QuickLemmas
 mod ResolveLemmas
 mod StartLemmas
-pub mod LayLemmas
+pub mod FlattenLemmas

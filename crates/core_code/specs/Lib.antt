@@ -2,8 +2,8 @@ pub mod Answers
 pub mod Cleared
 pub mod Code
 pub mod Effects
+pub mod Flattened
 pub mod Globals
-pub mod Laid
 pub mod Lies
 pub mod Paths
 pub mod Resolved

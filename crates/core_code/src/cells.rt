@@ -4,7 +4,7 @@ ghost use Rattle.pt_int.specs.Conversion.{conv};
 ghost use Rattle.pt_int.specs.Operator.{binary_of, unary_of};
 ghost use Rattle.block_memory.specs.Blocks.{is_same_name as are_same};
 ghost use Rattle.machine_memory.specs.Memory.{blocks_of};
-ghost use Rattle.pt_core.specs.Values.{at_span, converted as converted_cell, holds_in, number_in, numbered, right_operand, told, unary_operand};
+ghost use Rattle.pt_core.specs.Values.{at_span, converted as converted_cell, number_in, numbered, right_operand, told, unary_operand};
 ghost use Rattle.core_code.specs.Answers.{IsAnswer};
 ghost use Rattle.core_code.specs.Code.{cell_of, first_of};
 
@@ -22,18 +22,6 @@ pub fn number(cell: Cell) -> i128
     match cell {
         Cell::Int(v) => v,
         Cell::Ptr(_) | Cell::Sealed(_) => 0,
-    }
-}
-
-/// Whether a condition holds (C99 6.8.4.1p2).
-#[inline]
-pub fn holds(cell: Cell) -> bool
-    ensures { result ≡ holds_in cell }
-{
-    match cell {
-        Cell::Int(v) => v != 0,
-        Cell::Ptr(Pointer::At { .. }) => true,
-        Cell::Ptr(Pointer::Null) | Cell::Sealed(_) => false,
     }
 }
 

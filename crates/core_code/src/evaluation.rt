@@ -8,61 +8,40 @@ use crate::cells::{cell_at, converted, first, number, number_at, of_one, of_two,
 use crate::code::{PlaceCode, ValueCode};
 use crate::fault::Fault;
 use crate::pointers::{behind, compared, difference, moved};
-use crate::quick::{quick_place, quick_value};
 use block_memory::{BlockName, Cell, CellAt, Pointer};
 use machine_memory::MachineMemory;
 
 /// The value of an expression of the function that was entered at this depth.
-pub fn value(code: &ValueCode, memory: &MachineMemory, depth: u32) -> Result<Cell, Fault>
-    ensures { IsAnswer result (code_value code.now depth (blocks_of memory.now)) }
-{
-    match quick_value(code, memory, depth) {
-        Some(cell) => Ok(cell),
-        None => full_value(code, memory, depth),
-    }
-}
-
-/// The first cell of an object.
-pub fn location(code: &PlaceCode, memory: &MachineMemory, depth: u32) -> Result<CellAt, Fault>
-    ensures { IsAnswer result (code_place code.now depth (blocks_of memory.now)) }
-{
-    match quick_place(code, memory, depth) {
-        Some(at) => Ok(at),
-        None => full_location(code, memory, depth),
-    }
-}
-
-// The value of an expression, whatever it is.
 #[cycle(evaluation)]
-fn full_value(code: &ValueCode, memory: &MachineMemory, depth: u32) -> Result<Cell, Fault>
+pub fn value(code: &ValueCode, memory: &MachineMemory, depth: u32) -> Result<Cell, Fault>
     ensures { IsAnswer result (code_value code.now depth (blocks_of memory.now)) }
 {
     match code {
         ValueCode::Const { value } => Ok(Cell::Int(*value)),
         ValueCode::Read { place } => {
-            let at = full_location(place, memory, depth)?;
+            let at = location(place, memory, depth)?;
             Ok(cell_at(memory, at))
         }
         ValueCode::Unary { op, ty, a, span } => {
-            let x = full_value(a, memory, depth)?;
+            let x = value(a, memory, depth)?;
             number_at(*span, of_one(*op, *ty, x))
         }
         ValueCode::Binary { op, ty, a, b, span } => {
-            let x = full_value(a, memory, depth)?;
-            let y = full_value(b, memory, depth)?;
+            let x = value(a, memory, depth)?;
+            let y = value(b, memory, depth)?;
             number_at(*span, of_two(*op, *ty, x, y))
         }
         ValueCode::Convert { same, to, a } => {
-            let x = full_value(a, memory, depth)?;
+            let x = value(a, memory, depth)?;
             Ok(converted(*same, *to, x))
         }
         ValueCode::Null => Ok(Cell::Ptr(Pointer::Null)),
         ValueCode::Addr { place } => {
-            let at = full_location(place, memory, depth)?;
+            let at = location(place, memory, depth)?;
             Ok(first(Some(1), at))
         }
         ValueCode::Decay { place, count } => {
-            let at = full_location(place, memory, depth)?;
+            let at = location(place, memory, depth)?;
             Ok(first(*count, at))
         }
         ValueCode::Move {
@@ -71,8 +50,8 @@ fn full_value(code: &ValueCode, memory: &MachineMemory, depth: u32) -> Result<Ce
             back,
             span,
         } => {
-            let x = full_value(pointer, memory, depth)?;
-            let y = full_value(by, memory, depth)?;
+            let x = value(pointer, memory, depth)?;
+            let y = value(by, memory, depth)?;
             moved(*span, *back, number(y), x)
         }
         ValueCode::Compare {
@@ -82,21 +61,21 @@ fn full_value(code: &ValueCode, memory: &MachineMemory, depth: u32) -> Result<Ce
             b,
             span,
         } => {
-            let x = full_value(a, memory, depth)?;
-            let y = full_value(b, memory, depth)?;
+            let x = value(a, memory, depth)?;
+            let y = value(b, memory, depth)?;
             truth_at(*span, compared(*op, *size, x, y))
         }
         ValueCode::Diff { a, b, span } => {
-            let x = full_value(a, memory, depth)?;
-            let y = full_value(b, memory, depth)?;
+            let x = value(a, memory, depth)?;
+            let y = value(b, memory, depth)?;
             number_at(*span, difference(x, y))
         }
     }
 }
 
-// The first cell of an object, whatever it is.
+/// The first cell of an object.
 #[cycle(evaluation)]
-fn full_location(code: &PlaceCode, memory: &MachineMemory, depth: u32) -> Result<CellAt, Fault>
+pub fn location(code: &PlaceCode, memory: &MachineMemory, depth: u32) -> Result<CellAt, Fault>
     ensures { IsAnswer result (code_place code.now depth (blocks_of memory.now)) }
 {
     match code {
@@ -114,7 +93,7 @@ fn full_location(code: &PlaceCode, memory: &MachineMemory, depth: u32) -> Result
             offset,
             span,
         } => {
-            let x = full_value(pointer, memory, depth)?;
+            let x = value(pointer, memory, depth)?;
             behind(*span, *size, *offset, x)
         }
     }

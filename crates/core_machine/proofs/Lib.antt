@@ -1,4 +1,4 @@
-pub mod ChainLemmas
+pub mod BytecodeLemmas
 pub mod CopyLemmas
 pub mod CountLemmas
 pub mod FarLemmas
@@ -7,18 +7,17 @@ pub mod FastLemmas
 pub mod FlatOutside
 pub mod FlatSteps
 pub mod FlatValues
-pub mod HeldLemmas
+pub mod CompiledLemmas
 pub mod LaidLemmas
 pub mod LiveLemmas
 pub mod LocalLaw
 pub mod MachineLemmas
 pub mod PlaceLemmas
 pub mod MovesLemmas
-mod QuickLemmas
 pub mod RiseLemmas
 pub mod RunLemmas
 pub mod SoundLemmas
-pub mod SpotLemmas
+pub mod ProgramCounterLemmas
 pub mod StackLemmas
 pub mod StateLemmas
-pub mod SwitchLemmas
+pub mod CallOutcomeLemmas

@@ -11,13 +11,13 @@ ghost use Rattle.pt_core.specs.Calls.{with_arguments};
 ghost use Rattle.pt_core.specs.Statements.{kept};
 ghost use Rattle.pt_core.specs.Values.{written, all_written, number_in};
 ghost use Rattle.core_forms.specs.Fits.{words_fit};
-ghost use Rattle.core_chain.specs.Settings.{setting_of};
+ghost use Rattle.core_bytecode.specs.Settings.{setting_of};
 ghost use Rattle.machine_memory.specs.Layouts.{IsFirst};
 ghost use Rattle.core_machine.specs.FastCalls.{arguments_in};
 ghost use Rattle.core_machine.specs.Live.{HasNoMore};
 
 use block_memory::{BlockName, Cell, CellAt};
-use core_chain::{Standing, word};
+use core_bytecode::{FrameRef, word};
 use machine_memory::MachineMemory;
 use std::alloc::{AllocError, Global};
 
@@ -143,7 +143,7 @@ pub(crate) fn pass(
 #[inline(always)]
 pub(crate) fn pass_over(
     memory: &mut MachineMemory,
-    here: Standing,
+    here: FrameRef,
     depth: u32,
     layout: u32,
     places: &[u32],

@@ -4,7 +4,7 @@ use Rattle.block_memory.specs.declared.cell.Cell.TheVariants as cell
 use Rattle.block_memory.specs.Block.{with_cell}
 use Rattle.block_memory.specs.Blocks.{put}
 use Rattle.machine_memory.specs.Memory.{blocks_of, layout_at}
-use Rattle.core_machine.proofs.SpotLemmas.{pass_more, word_fits_at}
+use Rattle.core_machine.proofs.ProgramCounterLemmas.{pass_more, word_fits_at}
 use Rattle.core_machine.proofs.memory.pass_over.Goals as goal
 
 pub word-w-requires-clause-fits : goal.word-w-requires-clause-fits

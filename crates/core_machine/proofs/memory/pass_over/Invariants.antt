@@ -1,4 +1,4 @@
-use Rattle.core_machine.proofs.SpotLemmas.{Passed}
+use Rattle.core_machine.proofs.ProgramCounterLemmas.{Passed}
 use Rattle.core_machine.proofs.memory.pass_over.Given as goal
 
 abbrev pub invariant-loop-var : goal.invariant-loop-var
