@@ -4,6 +4,7 @@ pub mod Code
 pub mod Effects
 pub mod Flattened
 pub mod Globals
+pub mod Kinds
 pub mod Lies
 pub mod Paths
 pub mod Resolved

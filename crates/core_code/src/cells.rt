@@ -81,7 +81,7 @@ pub fn is_same_name(a: BlockName, b: BlockName) -> bool
 }
 
 /// What stands in a cell; 0 where none is there.
-#[inline]
+#[inline(always)]
 pub fn cell_at(memory: &MachineMemory, at: CellAt) -> Cell
     ensures { result ≡ cell_of (blocks_of memory.now) at }
 {
