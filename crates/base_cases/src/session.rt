@@ -1,8 +1,13 @@
 // What the rows of a list have set so far, and what each row shows.
+use crate::boot_rows::boot;
+use crate::copies::copied;
+use crate::frames::{cuts, frames, payload};
 use crate::hosts::{called, given, parted, read_table};
 use crate::numbers::reckoned;
+use crate::objects::{choosers, folder, link, sink};
 use crate::policies::{decided, read_text};
 use crate::programs::{Around, judged};
+use crate::stores::{memory, names, store};
 use crate::tokens::{strange_bytes, told};
 use crate::typed::typed;
 use anyhow::{Context, Result, bail};
@@ -39,7 +44,8 @@ impl Shows for Session {
             "program" | "item" | "body" => self.judge(alloc, word, rest),
             "functions" => self.set_program(alloc, row, rest),
             "policy" | "decide" => self.ask_policy(alloc, row, word, rest),
-            _ => self.ask_host(alloc, row, word, rest),
+            "host" | "input" | "call" | "part" => self.ask_host(alloc, row, word, rest),
+            _ => stored(alloc, word, rest),
         }
     }
 }
@@ -111,6 +117,25 @@ fn asked(
         "input" => given(alloc, host, rest),
         "call" => called(alloc, program, host, rest),
         "part" => parted(alloc, program, host, rest),
+        _ => bail!("no such row"),
+    }
+}
+
+// What a row on memory or on the wire shows, which needs nothing that other rows have set.
+fn stored(alloc: Global, word: &str, rest: &str) -> Result<String> {
+    match word {
+        "frames" => frames(alloc, rest),
+        "payload" => payload(alloc, rest),
+        "cuts" => cuts(alloc, rest),
+        "boot" => boot(alloc, rest),
+        "copied" => copied(alloc, rest),
+        "folder" => folder(alloc),
+        "link" => link(alloc),
+        "sink" => sink(alloc),
+        "choosers" => choosers(alloc),
+        "names" => names(alloc),
+        "store" => store(alloc),
+        "memory" => memory(alloc),
         _ => bail!("no such row"),
     }
 }
