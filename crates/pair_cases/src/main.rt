@@ -1,9 +1,13 @@
-//! Runs rows of lists against both ends of a pair: what a monitor makes of frames that a peer gives, and what a slave
-//! says to replies.
+//! Runs rows of lists against both ends of a pair: what a monitor makes of frames that a peer gives, what it does with
+//! streams from seeds that no honest slave says, held against a second reading of the rules, and what a slave says to
+//! replies.
 #![tactic(auto)]
 
 mod answers;
+mod batches;
 mod frames;
+mod hostile;
+mod seen;
 mod session;
 mod slaves;
 mod streams;

@@ -1,4 +1,5 @@
 // The texts that rows have set, and what each row shows.
+use crate::hostile::hostile;
 use crate::slaves::slave;
 use crate::streams::{cuts, firsts};
 use crate::supervised::{failing, supervised};
@@ -37,6 +38,7 @@ impl Shows for Session {
             "cuts" => cuts(rt, alloc, &self.texts, rest),
             "firsts" => firsts(rt, alloc, &self.texts, rest),
             "slave" => slave(rt, alloc, &self.texts, rest),
+            "hostile" => hostile(rt, alloc, rest),
             _ => bail!("no such row"),
         }
     }

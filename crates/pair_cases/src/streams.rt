@@ -71,7 +71,7 @@ fn first_bytes(bytes: &[u8], length: usize) -> &[u8] {
     }
 }
 
-// What the monitor makes of the bytes in pieces of this size, or in one where it is 0.
+// What the monitor makes of the bytes in pieces of this size.
 fn in_pieces<R: Threads + Sync>(
     rt: &R,
     alloc: Global,
@@ -91,12 +91,14 @@ fn in_pieces<R: Threads + Sync>(
     )
 }
 
-fn pieces_of(alloc: Global, bytes: &[u8], size: usize) -> Result<Vec<Vec<u8>>, AllocError> {
+/// The bytes in pieces of this size, or of one byte where it is 0.
+///
+/// # Errors
+///
+/// Want of memory.
+pub fn pieces_of(alloc: Global, bytes: &[u8], size: usize) -> Result<Vec<Vec<u8>>, AllocError> {
     let mut pieces = Vec::new(alloc);
-    if size == 0 {
-        return Ok(pieces);
-    }
-    for piece in bytes.chunks(size) {
+    for piece in bytes.chunks(size.max(1)) {
         pieces.push(piece.to_vec(alloc)?)?;
     }
     Ok(pieces)

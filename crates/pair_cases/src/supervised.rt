@@ -1,4 +1,4 @@
-// A monitor over a link that gives what a row says.
+// A monitor over a link that gives the pieces of a stream.
 ghost use Rattle.std.specs.Prelude.{◌<◌, All, IfOk, IsTrue};
 ghost use Rattle.host_table.specs.Hosts.{hosts_of};
 ghost use Rattle.host_table.specs.RunHosts.{models_of};
@@ -10,26 +10,22 @@ ghost use Rattle.monitor_interp.specs.Monitors.{IsMonitor};
 ghost use Rattle.pair_texts.specs.Start as start;
 ghost use Rattle.pair_cases.specs.Begun.{AreTextsOf, monitor_of};
 
-use crate::answers::push_answer;
+use crate::seen::Seen;
 use crate::texts::Texts;
 use anyhow::{Result, bail};
 use boots::boot_bytes;
-use case_rows::{Silent, bytes_of, first_word, push_bytes, push_hex};
+use case_rows::{Silent, bytes_of, first_word};
 use monitor_interp::Monitor;
 use pair_laws::begun_pairs::{begun_monitors_are_well_formed, begun_monitors_hosts_serve};
-use pair_runner::{RunFault, supervise};
-use pair_texts::{Outcome, Pair, outcome_of};
-use pt_base::{ByteSink, End, ScriptLink};
+use pair_runner::supervise;
+use pair_texts::{Beside, Outcome, Pair, outcome_of};
+use pt_base::{ByteSink, ScriptLink};
+use second_monitor::push_big;
 use std::alloc::{AllocError, Global};
 use std::thread::Threads;
 
-/// The longest piece of a boot, and the bytes of its frame beside it.
+/// The longest piece of a boot.
 const PIECE: usize = 1_048_576;
-
-const FRAME: usize = 5;
-
-/// So many bytes are shown.
-const SHOWN: usize = 400;
 
 // A monitor, and the bytes of its slave's boot.
 #[derive(Drop)]
@@ -96,7 +92,7 @@ fn pieces_of(alloc: Global, stream: &str) -> Result<Vec<Vec<u8>>> {
 }
 
 /// What the monitor of the texts makes of these pieces within so many turns, where the link and the sink fail in the calls of
-/// these numbers.
+/// these numbers, in words.
 ///
 /// # Errors
 ///
@@ -110,8 +106,26 @@ pub fn outcome<R: Threads + Sync>(
     fails: (Vec<u64>, Vec<u64>),
 ) -> Result<String> {
     let beside = texts.beside(turns);
+    let seen = seen_of(rt, alloc, texts.program(), beside, pieces, fails)?;
+    Ok(seen.shown(alloc)?)
+}
+
+/// What is seen of the monitor of a program and the texts beside it that is given these pieces, where the link and the sink
+/// fail in the calls of these numbers.
+///
+/// # Errors
+///
+/// Texts with faults, a boot of several pieces, and want of memory.
+pub fn seen_of<R: Threads + Sync>(
+    rt: &R,
+    alloc: Global,
+    program: &[u8],
+    beside: Beside<'_>,
+    pieces: Vec<Vec<u8>>,
+    fails: (Vec<u64>, Vec<u64>),
+) -> Result<Seen> {
     are_bytes(beside.input);
-    match outcome_of(rt, alloc, texts.program(), beside, &Silent)? {
+    match outcome_of(rt, alloc, program, beside, &Silent)? {
         Outcome::Begins(pair) => serve(alloc, pair, beside.turns, pieces, fails),
         Outcome::Refused(_) => bail!("the texts have faults"),
     }
@@ -131,14 +145,14 @@ fn serve(
     turns: u32,
     pieces: Vec<Vec<u8>>,
     fails: (Vec<u64>, Vec<u64>),
-) -> Result<String>
+) -> Result<Seen>
     requires { (t : start.Texts) × AreTextsOf pair turns t }
 {
     begun_monitors_are_well_formed();
     begun_monitors_hosts_serve();
     let Begun { boot, monitor } = begin(alloc, pair, turns)?;
     if boot.len() > PIECE {
-        bail!("the boot is too long for a row");
+        bail!("the boot has several pieces");
     }
     Ok(served(alloc, &boot, monitor, pieces, fails)?)
 }
@@ -162,46 +176,24 @@ fn served(
     monitor: Monitor,
     pieces: Vec<Vec<u8>>,
     fails: (Vec<u64>, Vec<u64>),
-) -> Result<String, AllocError>
+) -> Result<Seen, AllocError>
     requires { (m : s.Monitor) × IsMonitor monitor m }
 {
     let mut monitor = monitor;
+    let frames = boot_frames(alloc, boot)?;
     let mut link = ScriptLink::new(alloc, pieces, fails.0);
     let mut sink = ByteSink::new(alloc, fails.1);
     let answer = supervise(alloc, &mut monitor, boot, &mut link, &mut sink);
-    shown(
-        alloc,
-        answer,
-        sink.bytes(),
-        behind(link.sent(), boot.len()),
-        monitor.store_count(),
-    )
+    let replies = link.sent().strip_prefix(frames.as_slice());
+    Seen::new(alloc, answer, sink.bytes(), replies, monitor.store_count())
 }
 
-// How serving ended, what was written and sent, and how many handles were given, in words.
-fn shown(
-    alloc: Global,
-    answer: Result<End, RunFault>,
-    written: &[u8],
-    sent: &[u8],
-    handles: u64,
-) -> Result<String, AllocError> {
-    let mut told = String::new(alloc);
-    told.push_str("  ")?;
-    push_answer(&mut told, answer)?;
-    told.push_str(", out \"")?;
-    push_bytes(&mut told, written)?;
-    told.push_str("\", sent ")?;
-    push_hex(&mut told, sent, SHOWN)?;
-    write!(told, ", {handles} handles")?;
-    Ok(told)
-}
-
-// What was sent behind a boot of so many bytes in one piece.
-fn behind(sent: &[u8], boot: usize) -> &[u8] {
-    let frames = boot.saturating_add(2 * FRAME);
-    match sent.get(frames..) {
-        Some(rest) => rest,
-        None => &[],
-    }
+// The frames of a boot of one piece, with which what is sent has to begin.
+fn boot_frames(alloc: Global, boot: &[u8]) -> Result<Vec<u8>, AllocError> {
+    let mut frames = Vec::new(alloc);
+    push_big(&mut frames, (boot.len() as u64).saturating_add(1), 4)?;
+    frames.push(0)?;
+    frames.extend_from_slice(boot)?;
+    frames.extend_from_slice(&[0, 0, 0, 1, 0])?;
+    Ok(frames)
 }

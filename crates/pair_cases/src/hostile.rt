@@ -1,50 +1,46 @@
-//! Gives monitors streams that no honest slave says, and holds what they do against a second reading of the rules.
-#![tactic(auto)]
-
-mod batches;
-mod seen;
-mod supervised;
-
-use anyhow::{Context, Result};
-use batches::{Batch, Given};
+// Streams that no honest slave says, in batches.
+use crate::batches::{Batch, Given};
+use anyhow::{Result, bail};
+use case_rows::first_word;
 use hostile_streams::{LARGE_STREAMS, Made, large_stream};
 use second_monitor::{SETTINGS, Setting};
 use std::alloc::Global;
-use std::env;
-use std::rt::Runtime;
-use std::thread::{Builder, Threads};
-
-/// The work goes as deep as a text nests, so it gets this many bytes of stack.
-const STACK: usize = 1 << 30;
-
-/// The streams of a setting are counted in so many batches, and all streams in so many.
-const BATCHES: u64 = 4;
-
-const ALL_BATCHES: u64 = 20;
+use std::thread::Threads;
 
 /// The streams of these seeds, which go on for some messages, are cut in every place of so many bytes.
 const CUT: [u64; 2] = [62, 1303];
 
 const LONGEST_CUT: usize = 200;
 
-// The program's word is how many streams are made.
-fn show_batches<R: Runtime + AllocGlobal + Threads + Sync>(rt: &R) -> Result<()> {
-    let mut words = env::args(rt)?.skip(1);
-    let word = words.next().context("the word is a number of streams")?;
-    let streams = word.as_str().parse::<u64>()?;
-    show_large(rt)?;
+/// What monitors do with the streams that a row names, in a line: `large`, those at the limits of frames; `cut
+/// SETTING`, two in pieces of each size and ended in each place; `part NUMBER STREAMS SETTING`, those of so many
+/// seeds, from the number's multiple of them on.
+///
+/// # Errors
+///
+/// A row of no such form, and want of memory.
+pub fn hostile<R: Threads + Sync>(rt: &R, alloc: Global, row: &str) -> Result<String> {
+    let (what, rest) = first_word(row);
+    match what {
+        "large" => large(rt, alloc),
+        "cut" => cut(rt, alloc, setting_of(rest)?),
+        "part" => part(rt, alloc, rest),
+        _ => bail!("no such streams: {what}"),
+    }
+}
+
+// The setting of this name.
+fn setting_of(name: &str) -> Result<Setting> {
     for setting in SETTINGS {
-        show_cut(rt, setting)?;
-        for number in 0..BATCHES {
-            show_batch(rt, setting, number, streams / ALL_BATCHES)?;
+        if setting.name() == name {
+            return Ok(setting);
         }
     }
-    Ok(())
+    bail!("no setting: {name}")
 }
 
 // The streams at the limits of frames.
-fn show_large<R: Runtime + AllocGlobal + Threads + Sync>(rt: &R) -> Result<()> {
-    let alloc = rt.alloc();
+fn large<R: Threads + Sync>(rt: &R, alloc: Global) -> Result<String> {
     let mut batch = Batch::new();
     for number in 0..LARGE_STREAMS {
         let stream = large_stream(alloc, number)?;
@@ -56,12 +52,11 @@ fn show_large<R: Runtime + AllocGlobal + Threads + Sync>(rt: &R) -> Result<()> {
         };
         batch.run(rt, alloc, given)?;
     }
-    show_line(rt, &batch, "large")
+    Ok(batch.line(alloc, "large")?)
 }
 
 // Streams in pieces of each size, and ended in each place.
-fn show_cut<R: Runtime + AllocGlobal + Threads + Sync>(rt: &R, setting: Setting) -> Result<()> {
-    let alloc = rt.alloc();
+fn cut<R: Threads + Sync>(rt: &R, alloc: Global, setting: Setting) -> Result<String> {
     let mut batch = Batch::new();
     for seed in CUT {
         let made = Made::new(alloc, setting.program(), seed)?;
@@ -75,7 +70,7 @@ fn show_cut<R: Runtime + AllocGlobal + Threads + Sync>(rt: &R, setting: Setting)
         run_cut(rt, alloc, &mut batch, given)?;
     }
     let title = format!(in alloc; "{}, cut", setting.name())?;
-    show_line(rt, &batch, title.as_str())
+    Ok(batch.line(alloc, title.as_str())?)
 }
 
 fn run_cut<R: Threads + Sync>(
@@ -100,14 +95,22 @@ fn run_cut<R: Threads + Sync>(
     Ok(())
 }
 
+// The row `NUMBER STREAMS SETTING`.
+fn part<R: Threads + Sync>(rt: &R, alloc: Global, row: &str) -> Result<String> {
+    let (number, rest) = first_word(row);
+    let (streams, name) = first_word(rest);
+    let (number, streams) = (number.parse::<u64>()?, streams.parse::<u64>()?);
+    run_part(rt, alloc, setting_of(name)?, number, streams)
+}
+
 // The streams of so many seeds from a multiple of them on.
-fn show_batch<R: Runtime + AllocGlobal + Threads + Sync>(
+fn run_part<R: Threads + Sync>(
     rt: &R,
+    alloc: Global,
     setting: Setting,
     number: u64,
     streams: u64,
-) -> Result<()> {
-    let alloc = rt.alloc();
+) -> Result<String> {
     let mut batch = Batch::new();
     for place in 0..streams {
         let seed = number.wrapping_mul(streams).wrapping_add(place);
@@ -121,18 +124,5 @@ fn show_batch<R: Runtime + AllocGlobal + Threads + Sync>(
         batch.run(rt, alloc, given)?;
     }
     let title = format!(in alloc; "{}, part {number}", setting.name())?;
-    show_line(rt, &batch, title.as_str())
-}
-
-fn show_line<R: Runtime + AllocGlobal>(rt: &R, batch: &Batch, title: &str) -> Result<()> {
-    let line = batch.line(rt.alloc(), title)?;
-    println!(rt; "{line}")?;
-    Ok(())
-}
-
-fn main(rt: HostRuntime) -> Result<()> {
-    Builder::new()
-        .stack_size(STACK)
-        .spawn(&rt, move || show_batches(&rt))?
-        .join(&rt)
+    Ok(batch.line(alloc, title.as_str())?)
 }

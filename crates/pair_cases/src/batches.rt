@@ -1,7 +1,9 @@
 // Runs in batches, and a line of each batch.
 use crate::seen::{Kind, Seen};
-use crate::supervised::supervised;
-use anyhow::Result;
+use crate::streams::pieces_of;
+use crate::supervised::seen_of;
+use anyhow::{Result, bail};
+use pair_texts::Beside;
 use second_monitor::{SecondMonitor, Setting, count_replies};
 use std::alloc::{AllocError, Global};
 use std::thread::Threads;
@@ -94,7 +96,7 @@ impl Batch {
         alloc: Global,
         given: Given<'_>,
     ) -> Result<()> {
-        let seen = seen_of(rt, alloc, given)?;
+        let seen = seen_of_stream(rt, alloc, given)?;
         let second = Second::new(alloc, given)?;
         self.count(&seen);
         self.compare(&seen, &second, given);
@@ -104,7 +106,7 @@ impl Batch {
                 bytes: served,
                 ..given
             };
-            let cut = seen_of(rt, alloc, before)?;
+            let cut = seen_of_stream(rt, alloc, before)?;
             rise(&mut self.cut, 1);
             rise(&mut self.change, u64::from(!cut.is_begun_as(&seen)));
         }
@@ -120,6 +122,7 @@ impl Batch {
             Kind::Refused => rise_at(&mut self.ends, 3),
             Kind::PeerEnded => rise_at(&mut self.ends, 4),
             Kind::Rule(rule) => rise_at(&mut self.rules, (rule as usize).wrapping_sub(1)),
+            Kind::Failed => {}
         }
         rise(&mut self.handles, seen.handles);
         rise(&mut self.written, seen.written.len() as u64);
@@ -193,18 +196,30 @@ fn rise_at(numbers: &mut [u64], at: usize) {
     }
 }
 
-// What is seen of a monitor that serves a stream.
-fn seen_of<R: Threads + Sync>(rt: &R, alloc: Global, given: Given<'_>) -> Result<Seen> {
-    let pieces = pieces_of(alloc, given.bytes, given.piece)?;
-    supervised(rt, alloc, given.setting, given.turns, pieces)
-}
-
-fn pieces_of(alloc: Global, stream: &[u8], size: usize) -> Result<Vec<Vec<u8>>, AllocError> {
-    let mut pieces = Vec::new(alloc);
-    for piece in stream.chunks(size.max(1)) {
-        pieces.push(piece.to_vec(alloc)?)?;
+// What is seen of a monitor that serves a stream. What was sent begins with the boot.
+fn seen_of_stream<R: Threads + Sync>(rt: &R, alloc: Global, given: Given<'_>) -> Result<Seen> {
+    let Given {
+        setting,
+        turns,
+        bytes,
+        piece,
+    } = given;
+    let beside = Beside {
+        host: setting.hosts().as_bytes(),
+        policy: setting.policy().as_bytes(),
+        input: &[],
+        turns,
+    };
+    let pieces = pieces_of(alloc, bytes, piece)?;
+    let none = (Vec::new(alloc), Vec::new(alloc));
+    let seen = seen_of(rt, alloc, setting.text().as_bytes(), beside, pieces, none)?;
+    if matches!(seen.kind, Kind::Failed) {
+        bail!("what is in memory failed");
     }
-    Ok(pieces)
+    if !seen.has_booted {
+        bail!("what was sent doesn't begin with the boot");
+    }
+    Ok(seen)
 }
 
 // Whether a turn has a reply and a line at most, and all else that was written and sent was brought by the stream: a cell
