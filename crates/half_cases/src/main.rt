@@ -3,12 +3,11 @@
 #![tactic(auto)]
 
 mod halves;
-mod lists;
 mod session;
 mod texts;
 
 use anyhow::Result;
-use lists::show_lists;
+use case_rows::show_lists;
 use session::Session;
 use std::rt::Runtime;
 use std::thread::{Builder, Threads};
