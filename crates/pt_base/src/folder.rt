@@ -38,27 +38,33 @@ impl<T: Drop> From<AllocFailed<T>> for FolderFault {
     }
 }
 
-/// A folder of named files. What it holds is told optionally; its two counts of faults never fall,
-/// and a call raises its own by one at most and not at all where it serves.
+/// A folder of named files. What it holds is told optionally; its counts of faults never fall, and a
+/// call raises its own by one at most and not at all where it serves or memory is wanting.
 pub trait Folder {
     /// What each name holds.
     ghost files: { Self → Option Files };
 
-    /// How many reads failed.
+    /// How many reads failed, or missed a file that may be held.
     ghost read_faults: { Self → ℕ };
+
+    /// How many reads failed.
+    ghost failed_reads: { Self → ℕ };
 
     /// How many writes failed.
     ghost write_faults: { Self → ℕ };
 
-    /// The bytes of the file, but none behind the first `limit`. Missing comes
-    /// only where no such file is held or the count of failed reads rose, Failed only where it rose.
+    /// The bytes of the file, but none behind the first `limit`. Missing comes only where no such file
+    /// is held or the count of reads' faults rose, and no read failed; Failed comes only where both
+    /// counts rose.
     fn read(&mut self, alloc: Global, name: &str, limit: usize) -> Result<Vec<u8>, FolderFault>
         ensures content { IfOk result (λ v. GivesFirst (files self.old) name.now limit v.items) }
         ensures length { IfOk result (λ v. vec_len v ≤ limit) }
         ensures missing { IsErrOf result FolderFault.Missing →
             Lacks (files self.old) name.now ⊎ Rose (read_faults self.old) (read_faults self.new) }
         ensures same { SameFiles (files self.old) (files self.new) }
-        ensures cause { HasCause (read_faults self.old) (read_faults self.new) result FolderFault.Failed }
+        ensures cause { HasCause (read_faults self.old) (read_faults self.new) result FolderFault.Failed FolderFault.Memory }
+        ensures failed { HasCause (failed_reads self.old) (failed_reads self.new) result FolderFault.Failed FolderFault.Memory }
+        ensures unfailed { IsErrOf result FolderFault.Missing → failed_reads self.new ≡ failed_reads self.old }
         ensures writes { write_faults self.new ≡ write_faults self.old };
 
     /// Makes the file hold these bytes. After a refusal the named file is unknown and the others
@@ -67,6 +73,7 @@ pub trait Folder {
         ensures content { OnOk result (HoldsAt (files self.new) name.now bytes.now) }
         ensures others { SameOthers (files self.old) (files self.new) name.now }
         ensures held { IsErrOf result FolderFault.Missing → ⊥ }
-        ensures cause { HasCause (write_faults self.old) (write_faults self.new) result FolderFault.Failed }
-        ensures reads { read_faults self.new ≡ read_faults self.old };
+        ensures cause { HasCause (write_faults self.old) (write_faults self.new) result FolderFault.Failed FolderFault.Memory }
+        ensures reads { read_faults self.new ≡ read_faults self.old }
+        ensures failed { failed_reads self.new ≡ failed_reads self.old };
 }

@@ -28,8 +28,8 @@ impl From<AllocError> for LinkFault {
 }
 
 /// The way to a peer and back. What was sent and what it gave are told optionally; its count of
-/// faults never falls, a call raises it by one at most and not at all where it serves, and once the
-/// link is ready it stays so.
+/// faults never falls, a call raises it by one at most and not at all where it serves or memory is
+/// wanting, and once the link is ready it stays so.
 pub trait Link {
     /// The bytes that were sent.
     ghost sent: { Self → Option (List ℕ) };
@@ -60,7 +60,7 @@ pub trait Link {
         ensures honest { (says : List ℕ → List ℕ) (form : List ℕ → Bool) → honest self.old says form
             → IfSome (sent self.new) (λ s. IsTrue (form s)) → honest self.new says form }
         ensures ready { ready self.new }
-        ensures cause { HasCause (faults self.old) (faults self.new) result LinkFault.Failed }
+        ensures cause { HasCause (faults self.old) (faults self.new) result LinkFault.Failed LinkFault.Memory }
         ensures came { OnOk result (came self.old (took bytes.now ∷ []) self.new) };
 
     /// Some bytes that came, at most `max`; none are the end. A refusal gives none. Failed comes
@@ -78,7 +78,7 @@ pub trait Link {
             → IfSome (sent self.old) (λ s. IsTrue (form s))
             → IfOk result (λ v. GivesWhatIsSaid says (sent self.old) (given self.new) v.items) }
         ensures ready { ready self.new }
-        ensures cause { HasCause (faults self.old) (faults self.new) result LinkFault.Failed }
+        ensures cause { HasCause (faults self.old) (faults self.new) result LinkFault.Failed LinkFault.Memory }
         ensures came { IfOk result (λ v. came self.old (gave v.items ∷ []) self.new) };
 
     /// No talk leads to the same link.
@@ -88,8 +88,15 @@ pub trait Link {
     ghost further: { (a b c : Self) (x y : List Event) → came a x b → came b y c → came a (x ++ y) c };
 }
 
-/// A link that is made by starting the peer, or taken over from the parent.
+/// A link that is made by starting the peer, or taken over from the parent. It says of each of both
+/// what it makes of the link, so that a caller can say which call began it, and that it was one.
 pub trait Spawner: Link {
+    /// The first started its peer, and so became the second.
+    ghost starts: { Self → Self → Type 0 };
+
+    /// The first was taken over from the parent, and so became the second.
+    ghost inherits: { Self → Self → Type 0 };
+
     /// Starts the peer; from then on this is the link to it. Failed comes only where the count of
     /// faults rose.
     fn start(&mut self, alloc: Global) -> Result<(), LinkFault>
@@ -98,7 +105,8 @@ pub trait Spawner: Link {
         ensures sent { Keeps (Self.sent self.old) (Self.sent self.new) }
         ensures given { Keeps (Self.given self.old) (Self.given self.new) }
         ensures honest { (says : List ℕ → List ℕ) (form : List ℕ → Bool) → Self.honest self.old says form → Self.honest self.new says form }
-        ensures cause { HasCause (Self.faults self.old) (Self.faults self.new) result LinkFault.Failed };
+        ensures cause { HasCause (Self.faults self.old) (Self.faults self.new) result LinkFault.Failed LinkFault.Memory }
+        ensures started { OnOk result (starts self.old self.new) };
 
     /// Makes this the link to the parent. Failed comes only where the count of faults rose.
     fn inherit(&mut self, alloc: Global) -> Result<(), LinkFault>
@@ -106,5 +114,6 @@ pub trait Spawner: Link {
         ensures stays { Self.ready self.old → Self.ready self.new }
         ensures sent { Keeps (Self.sent self.old) (Self.sent self.new) }
         ensures given { Keeps (Self.given self.old) (Self.given self.new) }
-        ensures cause { HasCause (Self.faults self.old) (Self.faults self.new) result LinkFault.Failed };
+        ensures cause { HasCause (Self.faults self.old) (Self.faults self.new) result LinkFault.Failed LinkFault.Memory }
+        ensures inherited { OnOk result (inherits self.old self.new) };
 }

@@ -27,7 +27,8 @@ impl From<AllocError> for SinkFault {
 }
 
 /// What takes bytes. The bytes that it has taken are told optionally; its count of faults never
-/// falls, and a write raises it by one at most and not at all where the bytes are taken.
+/// falls, and a write raises it by one at most and not at all where the bytes are taken or memory is
+/// wanting.
 pub trait Sink {
     /// The bytes that it has taken.
     ghost taken: { Self → Option (List ℕ) };
@@ -40,5 +41,5 @@ pub trait Sink {
     fn write(&mut self, alloc: Global, bytes: &[u8]) -> Result<(), SinkFault>
         ensures ok { OnOk result (Appends (taken self.old) (taken self.new) bytes.now) }
         ensures err { OnErr result (AppendsPart (taken self.old) (taken self.new) bytes.now) }
-        ensures cause { HasCause (faults self.old) (faults self.new) result SinkFault.Failed };
+        ensures cause { HasCause (faults self.old) (faults self.new) result SinkFault.Failed SinkFault.Memory };
 }
