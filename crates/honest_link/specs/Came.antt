@@ -14,3 +14,11 @@ pub record IsHonest {L : Type 0} (honest : L → (List ℕ → List ℕ) → (Li
 abbrev pub Came : {L : Type 0} → (L → (List ℕ → List ℕ) → (List ℕ → Bool) → Type 0) → (L → Option (List ℕ)) → (L → Option (List ℕ)) → L → List Event → L → Type 0
 Came honest sent given a talk b =
     (says : List ℕ → List ℕ) (form : List ℕ → Bool) (s g : List ℕ) → IsHonest honest sent given a says form s g → Along says form (IsHonest honest sent given b says form) s g talk
+
+-- It started its peer and so became a link, from which the other came by this talk; and where it was honest, the talk went along what its
+-- peer says.
+pub record Started {L : Type 0} (starts : L → L → Type 0) (came : L → List Event → L → Type 0) (honest : L → (List ℕ → List ℕ) → (List ℕ → Bool) → Type 0) (sent given : L → Option (List ℕ)) (a : L) (talk : List Event) (b : L) : Type 0 where
+  pub link : L
+  pub became : starts a link
+  pub came_by : came link talk b
+  pub along : Came honest sent given a talk b

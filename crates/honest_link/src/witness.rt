@@ -59,6 +59,10 @@ impl<L: Link> Link for Witness<L> {
 }
 
 impl<S: Spawner> Spawner for Witness<S> {
+    ghost starts = { λ a b. S.starts a.link b.link };
+
+    ghost inherits = { λ a b. S.inherits a.link b.link };
+
     fn start(&mut self, alloc: Global) -> Result<(), LinkFault> {
         self.link.start(alloc)?;
         Ok(())
