@@ -95,6 +95,8 @@ pub fn link(alloc: Global) -> Result<String> {
     }
     told.push_str("\n  sent ")?;
     push_quoted(&mut told, link.sent())?;
+    let (started, inherited) = (link.started(), link.inherited());
+    write!(told, "\n  started {started}, inherited {inherited}")?;
     Ok(told)
 }
 

@@ -45,6 +45,26 @@ pub fn linked<R: Threads + Sync>(
     Ok(told)
 }
 
+/// Makes the call with the row's words, and tells how the link to the other process began.
+///
+/// # Errors
+///
+/// Want of memory.
+pub fn begun<R: Threads + Sync>(
+    rt: &R,
+    alloc: Global,
+    files: &mut Files,
+    row: &str,
+) -> Result<String> {
+    let words = words_of(alloc, row)?;
+    let mut outside = files.outside(alloc, &words)?;
+    let mut told = format!(in alloc; "begun {row}")?;
+    let mut chooser = Alternate::new();
+    let _status = outside.call(rt, alloc, &words, &mut chooser, &Silent);
+    outside.push_begun(&mut told)?;
+    Ok(told)
+}
+
 /// Runs the program that the row spells behind its turns, with the files `host` and `input`.
 ///
 /// # Errors

@@ -101,6 +101,16 @@ impl Outside {
         told.push('"')
     }
 
+    /// Appends how often the other process was started, and how often it was taken over as the parent.
+    ///
+    /// # Errors
+    ///
+    /// Want of memory.
+    pub fn push_begun(&self, told: &mut String) -> Result<(), AllocError> {
+        let (started, inherited) = (self.peer.started(), self.peer.inherited());
+        write!(told, "\n  started {started}, inherited {inherited}")
+    }
+
     /// Appends what the other process was sent. A boot isn't spelled out.
     ///
     /// # Errors

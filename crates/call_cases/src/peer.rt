@@ -19,6 +19,16 @@ impl Peer {
     pub fn sent(&self) -> &[u8] {
         self.link.sent()
     }
+
+    /// How often it was started.
+    pub fn started(&self) -> u64 {
+        self.link.started()
+    }
+
+    /// How often it was taken over from the parent.
+    pub fn inherited(&self) -> u64 {
+        self.link.inherited()
+    }
 }
 
 impl Link for Peer {
@@ -53,6 +63,12 @@ impl Link for Peer {
 }
 
 impl Spawner for Peer {
+    ghost use Rattle.pt_base.specs.Script.{Inherits, Starts};
+
+    ghost starts = { λ a b. Starts a.link b.link };
+
+    ghost inherits = { λ a b. Inherits a.link b.link };
+
     fn start(&mut self, alloc: Global) -> Result<(), LinkFault> {
         self.link.start(alloc)?;
         Ok(())

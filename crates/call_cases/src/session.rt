@@ -1,5 +1,5 @@
 // The files that rows have set, and what each row shows.
-use crate::calls::{call, check, linked, original, split};
+use crate::calls::{begun, call, check, linked, original, split};
 use crate::failures::failures;
 use crate::files::Files;
 use crate::locals::{local, orders};
@@ -38,6 +38,7 @@ impl Shows for Session {
             "failures" => failures(rt, alloc, &mut self.files, rest),
             "run" => call(rt, alloc, &mut self.files, rest),
             "linked" => linked(rt, alloc, &mut self.files, rest),
+            "begun" => begun(rt, alloc, &mut self.files, rest),
             "local" => local(rt, alloc, &mut self.files, rest),
             "orders" => orders(rt, alloc, &mut self.files, rest),
             "orig" => original(rt, alloc, &mut self.files, rest),
