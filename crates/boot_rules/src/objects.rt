@@ -5,7 +5,6 @@ ghost use Rattle.pt_int.specs.Conversion.{is_in_range};
 ghost use Rattle.typed_tree.specs.Cells.{leaves_of, repeated};
 ghost use Rattle.typed_tree.specs.Sizes.{fields_of};
 ghost use Rattle.typed_tree.specs.WellFormed as well;
-ghost use Rattle.typed_tree.specs.TypeTests.{type_of_elem};
 ghost use Rattle.typed_tree.specs.declared.types.VarTy.TheVariants.{Struct};
 ghost use Rattle.boot_rules.specs.Ranks.{rank};
 ghost use Rattle.boot_rules.specs.Walks.{past};
@@ -14,8 +13,7 @@ use crate::candidate::Candidate;
 use crate::shapes::{is_small as is_small_by, only_at};
 use pt_base::IntType;
 use pt_int::in_range;
-use pt_tree::Elem;
-use typed_tree::{Field, StructInfo, VarTy};
+use typed_tree::{Field, StructInfo, VarTy, type_of_elem};
 
 /// Whether an object of this type has at most 65,536 cells.
 pub(crate) fn is_small(candidate: &Candidate<'_>, ty: VarTy) -> bool
@@ -47,7 +45,7 @@ fn past_object<'c>(candidate: &Candidate<'_>, ty: VarTy, cells: &'c [i128]) -> O
             Some(whole) => past_object(candidate, whole, cells),
             None => past_fields(candidate, n, cells),
         },
-        VarTy::Array { elem, count } => past_items(candidate, type_of(elem), count, cells),
+        VarTy::Array { elem, count } => past_items(candidate, type_of_elem(elem), count, cells),
         VarTy::Pointer { .. } => Some(cells),
     }
 }
@@ -131,15 +129,5 @@ fn struct_fields(structs: &[StructInfo], n: u32) -> &[Field]
     match structs.get(n as usize) {
         Some(info) => info.fields.as_slice(),
         None => &[],
-    }
-}
-
-// An element as an object.
-fn type_of(elem: Elem) -> VarTy
-    ensures { result ≡ type_of_elem elem }
-{
-    match elem {
-        Elem::Int(t) => VarTy::Int(t),
-        Elem::Struct(n) => VarTy::Struct(n),
     }
 }

@@ -2,14 +2,13 @@
 ghost use Rattle.std.specs.Prelude.{◌≡◌};
 ghost use Rattle.std.specs.List.{list_all};
 ghost use Rattle.typed_tree.specs.WellFormed.{is_integer_kind, is_integer_param};
-ghost use Rattle.typed_tree.specs.WellFormedExpression as expressions;
 ghost use Rattle.pt_core.specs.CodeTree.{numbered};
 ghost use Rattle.pt_core.specs.WellFormed as well;
 
 use crate::structs::is_variable;
 use pt_base::FnId;
 use pt_tree::{Param, ParamKind, Signature};
-use typed_tree::{StructInfo, VarTy};
+use typed_tree::{StructInfo, param_type};
 
 // The most parameters of a function or host.
 const MOST_PARAMS: usize = 8;
@@ -56,15 +55,5 @@ fn is_integer(kind: ParamKind) -> bool
     match kind {
         ParamKind::Int(_) => true,
         ParamKind::Ptr { .. } => false,
-    }
-}
-
-// The type of a parameter as a variable.
-fn param_type(kind: ParamKind) -> VarTy
-    ensures { result ≡ expressions.param_type kind }
-{
-    match kind {
-        ParamKind::Int(t) => VarTy::Int(t),
-        ParamKind::Ptr { elem, fixed } => VarTy::Pointer { elem, fixed },
     }
 }

@@ -2,7 +2,6 @@
 ghost use Rattle.std.specs.Prelude.{◌≡◌, map};
 ghost use Rattle.std.specs.List.{list_any};
 ghost use Rattle.typed_tree.specs.WellFormed as typed;
-ghost use Rattle.typed_tree.specs.WellFormedExpression as expressions;
 ghost use Rattle.pt_core.specs.CodeTree.{view_boot, view_function};
 ghost use Rattle.pt_core.specs.WellFormed as well;
 
@@ -10,7 +9,7 @@ use crate::candidate::Candidate;
 use crate::code::signature_at;
 use pt_base::{FnId, IntType};
 use pt_core::CoreFn;
-use pt_tree::Signature;
+use typed_tree::is_main;
 
 /// Whether one function, and no second, has the name main, gives an int and takes nothing.
 pub(crate) fn has_main(candidate: &Candidate<'_>) -> bool
@@ -44,12 +43,6 @@ fn is_main_number(candidate: &Candidate<'_>, f: FnId) -> bool
         Some(signature) => is_main(signature),
         None => false,
     }
-}
-
-fn is_main(signature: &Signature) -> bool
-    ensures { result ≡ expressions.is_main signature.now }
-{
-    signature.name.as_slice() == b"main".as_slice()
 }
 
 // Whether it gives an int and takes nothing.

@@ -7,10 +7,11 @@ ghost use Rattle.boot_fields.specs.Limits.{Fits32, FitsStmt, FitsStmts, FitsFunc
 
 use crate::expressions::{put_expr, put_exprs, put_place, put_value};
 use crate::lists::{Spelled, put_list};
-use boot_fields::{put_byte, put_count, put_span, put_u32};
+use boot_fields::{put_count, put_span};
 use pt_base::VarId;
 use pt_core::{CoreFn, GlobalVar, Stmt};
 use std::alloc::AllocError;
+use wire::{put_byte, put_u32};
 
 // the variable that a result goes to, where there is one
 #[tactic(auto, using(std::proofs::Common::append_assoc))]

@@ -11,11 +11,10 @@ ghost use Rattle.boot_writing.specs.LeftParts.{place_head, place_tail, left_byte
 
 use crate::lists::{Spelled, put_list};
 use crate::objects::put_elem;
-use boot_fields::{
-    binary_number, put_byte, put_i128, put_span, put_truth, put_u32, type_number, unary_number,
-};
+use boot_fields::{binary_number, put_span, put_truth, unary_number};
 use pt_core::{Expr, Place, Root};
 use std::alloc::AllocError;
+use wire::{put_byte, put_i128, put_u32, type_number};
 
 // the pointer at which a place begins, where it does
 fn pointer_of(place: &Place) -> Option<&Expr>

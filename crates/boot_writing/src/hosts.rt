@@ -5,9 +5,10 @@ ghost use Rattle.boot_fields.specs.Spelling.{row_bytes, model_bytes};
 ghost use Rattle.boot_fields.specs.Limits.{FitsRow, FitsModel};
 
 use crate::lists::{Spelled, put_list};
-use boot_fields::{put_byte, put_i128, put_text, put_u64};
+use boot_fields::put_text;
 use pt_tree::{HostModel, Row};
 use std::alloc::AllocError;
+use wire::{put_byte, put_i128, put_u64};
 
 impl Spelled for Row {
     ghost Seen = { Row };

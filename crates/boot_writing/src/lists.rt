@@ -4,9 +4,10 @@ ghost use Rattle.wire.specs.Spelling.{four_bytes, sixteen_signed_bytes};
 ghost use Rattle.boot_fields.specs.Spelling.{list_bytes, numbered_bytes};
 ghost use Rattle.boot_fields.specs.Limits.{Fits32, FitsList, FitsNumbered};
 
-use boot_fields::{put_count, put_i128, put_u32};
+use boot_fields::put_count;
 use pt_base::FnId;
 use std::alloc::AllocError;
+use wire::{put_i128, put_u32};
 
 /// What has one spelling as bytes.
 pub trait Spelled {

@@ -9,11 +9,12 @@ ghost use Rattle.boot_fields.specs.Spelling.{option_bytes, int_type_bytes, span_
 ghost use Rattle.boot_fields.specs.Limits.{FitsSpan, FitsElem, FitsVarTy, FitsField, FitsStruct, FitsVar, FitsParamKind, FitsParam, FitsSignature};
 
 use crate::lists::{Spelled, put_list};
-use boot_fields::{put_byte, put_span, put_text, put_truth, put_u32, type_number};
+use boot_fields::{put_span, put_text, put_truth};
 use pt_base::{IntType, Span};
 use pt_tree::{Elem, Param, ParamKind, Signature};
 use std::alloc::AllocError;
 use typed_tree::{Field, StructInfo, Var, VarTy};
+use wire::{put_byte, put_u32, type_number};
 
 #[tactic(auto, using(std::proofs::Common::append_assoc))]
 pub(crate) fn put_elem(out: &mut Vec<u8>, elem: Elem) -> Result<(), AllocError>

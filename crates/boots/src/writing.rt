@@ -3,10 +3,11 @@ ghost use Rattle.std.specs.Prelude.{IfOk};
 ghost use Rattle.pt_core.specs.CodeTree.{view_boot};
 ghost use Rattle.boot_fields.specs.Limits.{Spells};
 
-use boot_fields::{put_text, put_u32};
+use boot_fields::put_text;
 use boot_writing::put_list;
 use pt_core::Boot;
 use std::alloc::{AllocError, Global};
+use wire::put_u32;
 
 /// The spelling of a boot, in time linear in its length. However long a chain of operators is to
 /// the left, it takes no stack; other nesting of expressions and of statements does.

@@ -2,5 +2,4 @@ pub mod ArmLemmas
 pub mod FunctionLemmas
 pub mod LeafLemmas
 pub mod LoopLemmas
-pub mod ProgramLemmas
 pub mod WalkLemmas

@@ -5,7 +5,6 @@ ghost use Rattle.typed_tree.specs.StatementTree as tree;
 ghost use Rattle.typed_tree.specs.StatementTree.{BodyTree};
 ghost use Rattle.typed_tree.specs.TypedTree.{FunctionTree, view_function};
 ghost use Rattle.typed_tree.specs.TypedView.{view_typed};
-ghost use Rattle.typed_tree.specs.WellFormedExpression as well;
 ghost use Rattle.source_meaning.specs.Functions as meaning;
 ghost use Rattle.pt_core.specs.CodeTree as core;
 ghost use Rattle.lowering.specs.Functions as is;
@@ -22,7 +21,7 @@ use pt_base::{Bytes, FnId, Listed, Span};
 use pt_core::{CoreFn, Stmt};
 use pt_tree::Signature;
 use std::alloc::{AllocError, Global};
-use typed_tree::{Typed, TypedBody, TypedFn, Var, Vars};
+use typed_tree::{Typed, TypedBody, TypedFn, Var, Vars, is_main};
 
 /// The normal form of a function of the program, which has a body.
 ///
@@ -42,8 +41,8 @@ pub fn lower_function(alloc: Global, program: &Typed, f: FnId) -> Result<CoreFn,
     lower_body(alloc, program, f, function, body)
 }
 
-/// A function of the program with this number, whose body this is.
-pub(crate) fn lower_body(
+// a function of the program with this number, whose body this is
+fn lower_body(
     alloc: Global,
     program: &Typed,
     f: FnId,
@@ -100,12 +99,6 @@ fn end_main(signature: &Signature, lowering: &mut Lowering) -> Result<(), AllocE
         })?;
     }
     Ok(())
-}
-
-fn is_main(signature: &Signature) -> bool
-    ensures { result ≡ well.is_main signature.now }
-{
-    signature.name.as_slice() == b"main".as_slice()
 }
 
 // a function's variables, and its temporaries behind them

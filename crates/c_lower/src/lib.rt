@@ -13,4 +13,4 @@ mod program;
 mod statements;
 
 pub use functions::lower_function;
-pub use program::{lower_program, whole_program};
+pub use program::whole_program;

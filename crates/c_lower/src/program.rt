@@ -1,6 +1,5 @@
 // The lowering of whole programs.
-ghost use Rattle.std.specs.Prelude.{◌≡◌, ◌++◌, IfOk, OnOk, map};
-ghost use Rattle.typed_tree.specs.TypedTree as typed;
+ghost use Rattle.std.specs.Prelude.{◌≡◌, IfOk, map};
 ghost use Rattle.typed_tree.specs.TypedTree.{signatures_of};
 ghost use Rattle.typed_tree.specs.TypedView.{view_typed};
 ghost use Rattle.pt_core.specs.CodeTree.{view_program, view_function, view_global, numbered};
@@ -8,12 +7,10 @@ ghost use Rattle.lowering.specs.Functions as is;
 ghost use Rattle.lowering.specs.Functions.{core_program};
 ghost use Rattle.lowering.specs.FunctionParts.{program_of};
 
-use crate::functions::lower_body;
-use lowering::numbers::next_number;
-use pt_base::{FnId, GlobalId, Listed};
+use pt_base::{FnId, GlobalId, Listed, next_number};
 use pt_core::{CoreFn, CoreProgram, GlobalVar, Signatures};
 use std::alloc::{AllocError, Global};
-use typed_tree::{StructInfo, Typed, TypedFn};
+use typed_tree::{StructInfo, Typed};
 
 /// Joins functions in the normal form with the structs, signatures and globals of a program.
 ///
@@ -34,53 +31,6 @@ pub fn whole_program(
         functions,
         globals: globals(alloc, program)?,
     })
-}
-
-/// The normal form of a program: each function that has a body, lowered, with the structs,
-/// signatures and globals.
-///
-/// # Errors
-///
-/// Want of memory.
-pub fn lower_program(alloc: Global, program: &Typed) -> Result<CoreProgram, AllocError>
-    ensures { IfOk result (λ p. view_program p ≡ core_program (view_typed program.now)) }
-{
-    let functions = functions(alloc, program)?;
-    whole_program(alloc, program, functions)
-}
-
-// each function that has a body, by number
-fn functions(alloc: Global, program: &Typed) -> Result<Vec<CoreFn>, AllocError>
-    ensures { IfOk result (λ fs. map view_function fs.items ≡ is.functions_from (view_typed program.now) 0 (view_typed program.now).functions) }
-{
-    let mut lowered = Vec::new(alloc);
-    let mut number: u32 = 0;
-    let functions = program.functions.as_slice();
-    for function in functions {
-        add_lowered(alloc, program, FnId(number), function, &mut lowered)?;
-        number = next_number(number)?;
-    }
-    Ok(lowered)
-}
-
-// a function is lowered where it has a body
-fn add_lowered(
-    alloc: Global,
-    program: &Typed,
-    f: FnId,
-    function: &TypedFn,
-    lowered: &mut Vec<CoreFn>,
-) -> Result<(), AllocError>
-    ensures { OnOk result (map view_function lowered.new.items ≡ map view_function lowered.old.items ++ is.code_if (view_typed program.now) f.0 (typed.view_function function.now) (typed.view_function function.now).body) }
-{
-    match &function.body {
-        Some(body) => {
-            let code = lower_body(alloc, program, f, function, body)?;
-            lowered.push(code)?;
-            Ok(())
-        }
-        None => Ok(()),
-    }
 }
 
 fn structs_of(alloc: Global, program: &Typed) -> Result<Listed<StructInfo>, AllocError>

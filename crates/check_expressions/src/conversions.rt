@@ -1,7 +1,6 @@
 // Implicit conversions: a form of its own where the type changes, with the operand's span, and none
 // where it stays.
 ghost use Rattle.std.specs.Prelude.{◌≡◌, IfOk};
-ghost use Rattle.type_rules.specs.Types.{is_same_int};
 ghost use Rattle.typed_tree.specs.ExpressionTree.{view_expr};
 ghost use Rattle.check_expressions.specs.Conversions as is;
 
@@ -9,7 +8,7 @@ use pt_base::IntType;
 use pt_int::promote;
 use pt_tree::Elem;
 use std::alloc::{AllocError, Global};
-use type_rules::Type;
+use type_rules::{Type, is_same_int};
 use typed_tree::{Form, TypedExpr, VarTy};
 
 /// A value as one of the type, which it fits; `is_null` says that it is a null constant.
@@ -127,11 +126,4 @@ fn is_of_pointer(fixed: bool, ty: Option<VarTy>) -> bool
         Some(VarTy::Array { .. }) => false,
         None => false,
     }
-}
-
-/// Whether both are one type.
-fn is_same_int(a: IntType, b: IntType) -> bool
-    ensures { result ≡ is_same_int a b }
-{
-    a == b
 }

@@ -18,6 +18,6 @@ pub use assignments::is_misfit;
 pub use conversions::as_type;
 pub use expressions::{expression, span_of};
 pub use meaning::{Callable, Meaning, Object, ParamTypes, Variable};
-pub use names::{Names, Scope};
+pub use names::{Names, Scope, as_number};
 pub use operand::{Elaborated, Operand};
 pub use postfixes::fitted;

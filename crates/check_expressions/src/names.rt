@@ -173,7 +173,7 @@ impl Names {
 }
 
 /// How many there are, as the number of the next one.
-fn as_number(count: usize) -> Result<u32, AllocError>
+pub fn as_number(count: usize) -> Result<u32, AllocError>
     ensures { IfOk result (λ n. n ≡ count) }
 {
     if count > u32::MAX as usize {

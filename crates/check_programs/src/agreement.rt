@@ -1,12 +1,9 @@
 // When two declarations of one function agree (C99 6.7.5.3p15).
 ghost use Rattle.std.specs.Prelude.{◌≡◌};
-ghost use Rattle.type_rules.specs.Types.{is_same_int, is_same_elem};
 ghost use Rattle.check_programs.specs.Functions as is;
 
 use check_expressions::Callable;
-use pt_base::IntType;
-use pt_tree::Elem;
-use type_rules::Type;
+use type_rules::{Type, is_same_elem, is_same_int};
 
 /// Whether the types of two declarations are one. What is faulty agrees with everything.
 pub(crate) fn agree(a: Type, b: Type) -> bool
@@ -15,7 +12,7 @@ pub(crate) fn agree(a: Type, b: Type) -> bool
     match (a, b) {
         (Type::Bad, _) | (_, Type::Bad) => true,
         (Type::Void, Type::Void) => true,
-        (Type::Int(t), Type::Int(u)) => same_int(t, u),
+        (Type::Int(t), Type::Int(u)) => is_same_int(t, u),
         (Type::Struct(m), Type::Struct(n)) => m == n,
         (
             Type::Array { elem, count },
@@ -23,36 +20,15 @@ pub(crate) fn agree(a: Type, b: Type) -> bool
                 elem: other,
                 count: further,
             },
-        ) => same_elem(elem, other) && count == further,
+        ) => is_same_elem(elem, other) && count == further,
         (
             Type::Pointer { elem, fixed },
             Type::Pointer {
                 elem: other,
                 fixed: also,
             },
-        ) => same_elem(elem, other) && fixed == also,
+        ) => is_same_elem(elem, other) && fixed == also,
         _ => false,
-    }
-}
-
-fn same_int(a: IntType, b: IntType) -> bool
-    ensures { result ≡ is_same_int a b }
-{
-    a == b
-}
-
-fn same_elem(a: Elem, b: Elem) -> bool
-    ensures { result ≡ is_same_elem a b }
-{
-    match a {
-        Elem::Int(t) => match b {
-            Elem::Int(u) => same_int(t, u),
-            Elem::Struct(_) => false,
-        },
-        Elem::Struct(m) => match b {
-            Elem::Int(_) => false,
-            Elem::Struct(n) => m == n,
-        },
     }
 }
 

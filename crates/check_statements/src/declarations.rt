@@ -7,13 +7,12 @@ ghost use Rattle.check_statements.specs.Declarations as is;
 ghost use Rattle.check_statements.specs.Gives.{GivesDeclared, GivesDeclaredAll, GivesDeclaring, progress_of, state_of};
 
 use crate::initialisers::initialised;
-use crate::outermost::as_number;
 use crate::walk::Walk;
 use check_declarations::{
     Carrier, FaultKind, ObjectKind, Specified, Structs, TypeFault, is_fixed, judge_specifiers,
     marks_among, note_attributes, note_if, note_object, note_size, object_type,
 };
-use check_expressions::{Names, Variable};
+use check_expressions::{Names, Variable, as_number};
 use pt_base::{Listed, VarId};
 use pt_tree::{Declaration, Declarator, InitDeclarator};
 use std::alloc::{AllocError, Global};

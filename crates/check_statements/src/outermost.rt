@@ -6,21 +6,11 @@ ghost use Rattle.check_statements.specs.Outermost as is;
 
 use crate::walk::Walk;
 use check_declarations::{FaultKind, note_if};
-use check_expressions::{Names, as_type, expression, is_misfit, span_of};
+use check_expressions::{Names, as_number, as_type, expression, is_misfit, span_of};
 use pt_tree::Expr;
 use std::alloc::{AllocError, Global};
 use type_rules::{ConditionRule, Type, condition_rule};
 use typed_tree::{ExprId, TypedExpr};
-
-/// How many there are, as the number of the next one.
-pub(crate) fn as_number(count: usize) -> Result<u32, AllocError>
-    ensures { IfOk result (λ n. n ≡ count) }
-{
-    if count > u32::MAX as usize {
-        return Err(AllocError);
-    }
-    Ok(count as u32)
-}
 
 /// Gives an outermost expression the next number.
 pub(crate) fn place(exprs: &mut Vec<TypedExpr>, tree: TypedExpr) -> Result<ExprId, AllocError>

@@ -1,9 +1,8 @@
 // The fields of objects.
 ghost use Rattle.std.specs.Prelude.{◌≡◌, option_map, slice_get};
-ghost use Rattle.typed_tree.specs.Sizes.{fields_of};
 ghost use Rattle.code_rules.specs.Parts as is;
 
-use typed_tree::{Field, StructInfo, VarTy};
+use typed_tree::{Field, StructInfo, VarTy, fields_of};
 
 /// The type of the object to which a path of fields leads from an object of this type; None where
 /// a number in it is no field's.
@@ -22,18 +21,8 @@ fn field_type(structs: &[StructInfo], ty: VarTy, field: u32) -> Option<VarTy>
     ensures { result ≡ is.field_in structs.now ty field }
 {
     match ty {
-        VarTy::Struct(structure) => type_of_field(fields(structs, structure), field),
+        VarTy::Struct(structure) => type_of_field(fields_of(structs, structure), field),
         VarTy::Int(_) | VarTy::Array { .. } | VarTy::Pointer { .. } => None,
-    }
-}
-
-// The fields of a struct, none where there is none of this number.
-fn fields(structs: &[StructInfo], structure: u32) -> &[Field]
-    ensures { result.now ≡ fields_of structs.now structure }
-{
-    match structs.get(structure as usize) {
-        Some(info) => info.fields.as_slice(),
-        None => &[],
     }
 }
 

@@ -9,13 +9,11 @@ ghost use Rattle.typed_tree.specs.TypeRules.{int_where, is_comparison, is_promot
 ghost use Rattle.typed_tree.specs.WellFormedExpression.{is_elem};
 ghost use Rattle.code_rules.specs.Parts as is;
 
-use crate::types::{
-    both_elem, element_of, integer_of, is_scalar, item_of, pointee_of, same_int, type_of_elem,
-};
-use pt_base::IntType;
+use crate::types::{both_elem, element_of, integer_of, is_scalar, item_of, pointee_of};
+use pt_base::{IntType, same_int};
 use pt_int::{BinOp, UnOp, in_range, promote};
 use pt_tree::Elem;
-use typed_tree::{StructInfo, VarTy};
+use typed_tree::{StructInfo, VarTy, type_of_elem};
 
 /// The type of a constant, which is to be in its range.
 pub(crate) fn constant_type(ty: IntType, value: i128) -> Option<VarTy>

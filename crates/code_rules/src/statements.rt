@@ -1,6 +1,5 @@
 // Which statements are well formed.
 ghost use Rattle.std.specs.Prelude.{◌≡◌, ◌&&◌, false, IsTrue, Some, map, option_map};
-ghost use Rattle.typed_tree.specs.WellFormedExpression as typed;
 ghost use Rattle.pt_core.specs.CodeTree.{assign, check, copy, expr_trees, stmt_trees, view_expr, view_place, view_stmt};
 ghost use Rattle.pt_core.specs.Types.{type_of};
 ghost use Rattle.pt_core.specs.WellFormedExpression.{expr_fits};
@@ -11,11 +10,11 @@ ghost use Rattle.code_rules.specs.Scopes.{are_ordered, context_of, scope_of, sig
 
 use crate::expressions::{expression_type, place_type};
 use crate::names::{Scope, is_variable, signature_of, variable_type};
-use crate::types::{both_int, integer_of, is_compound, is_scalar, same_type, stands};
+use crate::types::{both_int, integer_of, is_compound, is_scalar, stands};
 use pt_base::{FnId, IntType, VarId};
 use pt_core::{Expr, Place, Stmt};
-use pt_tree::{Param, ParamKind, Signature};
-use typed_tree::VarTy;
+use pt_tree::{Param, Signature};
+use typed_tree::{VarTy, is_main, param_type, same_type};
 
 /// Whether the statements of a function are well formed: what they name is there, operators and
 /// calls have operands and arguments of the types that they ask for, what is stored, passed and
@@ -147,12 +146,6 @@ fn may_be_called(
         && receiver_fits(signature.result, receiver, scope)
 }
 
-fn is_main(signature: &Signature) -> bool
-    ensures { result ≡ typed.is_main signature.now }
-{
-    signature.name.as_slice() == b"main".as_slice()
-}
-
 // One argument for each parameter, of its type.
 fn arguments_fit(params: &[Param], arguments: &[Expr], scope: &Scope<'_>) -> bool
     requires { IsTrue (are_ordered scope.now.names.now) }
@@ -169,15 +162,6 @@ fn arguments_fit(params: &[Param], arguments: &[Expr], scope: &Scope<'_>) -> boo
         rest = after;
     }
     rest.is_empty()
-}
-
-fn param_type(kind: ParamKind) -> VarTy
-    ensures { result ≡ typed.param_type kind }
-{
-    match kind {
-        ParamKind::Int(t) => VarTy::Int(t),
-        ParamKind::Ptr { elem, fixed } => VarTy::Pointer { elem, fixed },
-    }
 }
 
 // An expression that may stand where this type is wanted.

@@ -5,103 +5,9 @@ ghost use Rattle.pt_core.specs.WellFormedExpression as well;
 ghost use Rattle.pt_core.specs.WellFormedStatement as statement;
 ghost use Rattle.code_rules.specs.Parts as is;
 
-use pt_base::IntType;
+use pt_base::{IntType, same_int};
 use pt_tree::Elem;
-use typed_tree::VarTy;
-
-// The place of a type in the list of the integer types.
-fn place_of(t: IntType) -> u8
-    ensures { result ≡ tests.place_of t }
-{
-    match t {
-        IntType::Char => 0,
-        IntType::SChar => 1,
-        IntType::UChar => 2,
-        IntType::Short => 3,
-        IntType::UShort => 4,
-        IntType::Int => 5,
-        IntType::UInt => 6,
-        IntType::Long => 7,
-        IntType::ULong => 8,
-    }
-}
-
-/// Whether they are one type.
-pub(crate) fn same_int(a: IntType, b: IntType) -> bool
-    ensures { result ≡ tests.same_int a b }
-{
-    place_of(a) == place_of(b)
-}
-
-/// Whether they are one type.
-pub(crate) fn same_elem(a: Elem, b: Elem) -> bool
-    ensures { result ≡ tests.same_elem a b }
-{
-    match (a, b) {
-        (Elem::Int(a), Elem::Int(b)) => same_int(a, b),
-        (Elem::Struct(m), Elem::Struct(n)) => m == n,
-        _ => false,
-    }
-}
-
-// Whether both hold or neither does.
-fn same_bool(a: bool, b: bool) -> bool
-    ensures { result ≡ tests.same_bool a b }
-{
-    a == b
-}
-
-/// Whether they are one type.
-pub(crate) fn same_type(a: VarTy, b: VarTy) -> bool
-    ensures { result ≡ tests.same_type a b }
-{
-    match a {
-        VarTy::Int(t) => is_int(b, t),
-        VarTy::Struct(n) => is_struct(b, n),
-        VarTy::Array { elem, count } => is_array(b, elem, count),
-        VarTy::Pointer { elem, fixed } => is_pointer(b, elem, fixed),
-    }
-}
-
-// Whether it is this integer type.
-fn is_int(ty: VarTy, wanted: IntType) -> bool
-    ensures { result ≡ tests.same_type (VarTy.Int wanted) ty }
-{
-    match ty {
-        VarTy::Int(t) => same_int(wanted, t),
-        VarTy::Struct(_) | VarTy::Array { .. } | VarTy::Pointer { .. } => false,
-    }
-}
-
-// Whether it is this struct.
-fn is_struct(ty: VarTy, wanted: u32) -> bool
-    ensures { result ≡ tests.same_type (VarTy.Struct wanted) ty }
-{
-    match ty {
-        VarTy::Struct(n) => wanted == n,
-        VarTy::Int(_) | VarTy::Array { .. } | VarTy::Pointer { .. } => false,
-    }
-}
-
-// Whether it is an array of so many of these.
-fn is_array(ty: VarTy, wanted: Elem, long: u32) -> bool
-    ensures { result ≡ tests.same_type (VarTy.Array wanted long) ty }
-{
-    match ty {
-        VarTy::Array { elem, count } => same_elem(wanted, elem) && long == count,
-        VarTy::Int(_) | VarTy::Struct(_) | VarTy::Pointer { .. } => false,
-    }
-}
-
-// Whether it is a pointer to this, const or not.
-fn is_pointer(ty: VarTy, wanted: Elem, constant: bool) -> bool
-    ensures { result ≡ tests.same_type (VarTy.Pointer wanted constant) ty }
-{
-    match ty {
-        VarTy::Pointer { elem, fixed } => same_elem(wanted, elem) && same_bool(constant, fixed),
-        VarTy::Int(_) | VarTy::Struct(_) | VarTy::Array { .. } => false,
-    }
-}
+use typed_tree::{VarTy, same_elem, same_type};
 
 /// Whether a value of this type may stand where one of the wanted type is to: a pointee may become
 /// const.
@@ -214,16 +120,6 @@ pub(crate) fn item_of(ty: Option<VarTy>) -> Option<Elem>
     match ty {
         Some(VarTy::Array { elem, .. }) => Some(elem),
         Some(VarTy::Int(_)) | Some(VarTy::Struct(_)) | Some(VarTy::Pointer { .. }) | None => None,
-    }
-}
-
-/// An element as an object.
-pub(crate) fn type_of_elem(elem: Elem) -> VarTy
-    ensures { result ≡ tests.type_of_elem elem }
-{
-    match elem {
-        Elem::Int(t) => VarTy::Int(t),
-        Elem::Struct(n) => VarTy::Struct(n),
     }
 }
 

@@ -5,7 +5,6 @@
 //! function's statements are laid out in one array, each with where control goes on.
 #![tactic(auto)]
 
-mod arithmetic;
 mod cells;
 mod code;
 mod evaluation;

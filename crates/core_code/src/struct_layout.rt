@@ -3,8 +3,7 @@ ghost use Rattle.std.specs.Prelude.{◌≡◌, IfOk, get_or, map};
 ghost use Rattle.typed_tree.specs.Sizes.{cells_by, elem_cells, fields_cells, sizes_of};
 ghost use Rattle.core_code.specs.Starts.{start_in, starts_from};
 
-use crate::arithmetic::{product, sum};
-use pt_base::{IntType, Listed};
+use pt_base::{IntType, Listed, product, sum};
 use pt_tree::Elem;
 use std::alloc::{AllocError, Global};
 use std::marker::Model;

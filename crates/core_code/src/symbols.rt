@@ -1,6 +1,6 @@
 // What the numbers in a function's code name.
 ghost use Rattle.std.specs.Prelude.{◌≡◌};
-ghost use Rattle.pt_core.specs.Types.{element_of as element, global_type, pointee_cells, pointee_type as pointed_to, type_at};
+ghost use Rattle.pt_core.specs.Types.{global_type, pointee_cells, type_at};
 ghost use Rattle.pt_core.specs.Values.{is_type};
 ghost use Rattle.pt_int.specs.Operator.{binary_type, unary_type};
 ghost use Rattle.core_code.specs.Resolved.{context_of, count_of, size_of};
@@ -9,7 +9,6 @@ use crate::globals::Globals;
 use crate::struct_layout::StructLayout;
 use pt_base::{GlobalId, IntType, VarId};
 use pt_int::{BinOp, UnOp};
-use pt_tree::Elem;
 use typed_tree::{Var, VarTy};
 
 /// What the numbers in a function's code name.
@@ -65,30 +64,6 @@ pub fn elements(ty: VarTy) -> Option<u32>
     match ty {
         VarTy::Array { count, .. } => Some(count),
         VarTy::Int(_) | VarTy::Struct(_) | VarTy::Pointer { .. } => None,
-    }
-}
-
-/// As what an object is pointed to.
-pub fn element_of(ty: VarTy) -> Elem
-    ensures { result ≡ element ty }
-{
-    match ty {
-        VarTy::Int(t) => Elem::Int(t),
-        VarTy::Struct(n) => Elem::Struct(n),
-        VarTy::Array { elem, .. } | VarTy::Pointer { elem, .. } => elem,
-    }
-}
-
-/// What a pointer type points to, as an object; another type stays.
-pub fn pointee_type(ty: VarTy) -> VarTy
-    ensures { result ≡ pointed_to ty }
-{
-    match ty {
-        VarTy::Pointer { elem, .. } => match elem {
-            Elem::Int(t) => VarTy::Int(t),
-            Elem::Struct(n) => VarTy::Struct(n),
-        },
-        VarTy::Int(_) | VarTy::Struct(_) | VarTy::Array { .. } => ty,
     }
 }
 

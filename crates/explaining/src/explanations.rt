@@ -25,7 +25,7 @@ use typed_tree::Typed;
 ///
 /// # Errors
 ///
-/// Want of memory; more than [`MOST_BYTES`](crate::MOST_BYTES) of explanation are that too.
+/// Want of memory; more than [`MOST_BYTES`](flow_check::MOST_BYTES) of explanation are that too.
 pub fn explain<R: Threads + Sync, W: Watch>(
     rt: &R,
     alloc: Global,
@@ -45,7 +45,7 @@ pub fn explain<R: Threads + Sync, W: Watch>(
 ///
 /// # Errors
 ///
-/// Want of memory; more than [`MOST_BYTES`](crate::MOST_BYTES) of explanation are that too.
+/// Want of memory; more than [`MOST_BYTES`](flow_check::MOST_BYTES) of explanation are that too.
 pub fn explain_typed<R: Threads + Sync, W: Watch>(
     rt: &R,
     alloc: Global,

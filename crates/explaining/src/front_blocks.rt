@@ -5,12 +5,12 @@ ghost use Rattle.fault_lines.specs.FaultLines as lines_are;
 ghost use Rattle.source_places.specs.LinesSeen.{text_of};
 ghost use Rattle.explaining.specs.FrontBlocks as is;
 
-use crate::room::room_for;
 use crate::sentences::{lex_sentence, parse_sentence, type_sentence};
 use crate::spans::push_span_excerpt;
 use c_lexer::{LexFault, LexFaultKind};
 use check_declarations::{FaultKind, TypeFault};
 use fault_lines::{push_numbered, push_span};
+use flow_check::room_for;
 use front_end::{FrontError, ParseFault};
 use pt_base::Span;
 use source_places::{Lines, push_number};
@@ -273,7 +273,7 @@ fn type_blocks(
 ///
 /// # Errors
 ///
-/// Want of memory, here or there; more than [`MOST_BYTES`](crate::MOST_BYTES) of blocks are that too.
+/// Want of memory, here or there; more than [`MOST_BYTES`](flow_check::MOST_BYTES) of blocks are that too.
 pub fn error_blocks(
     alloc: Global,
     name: &[u8],

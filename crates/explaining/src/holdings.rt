@@ -7,8 +7,7 @@ ghost use Rattle.flow_rules.specs.Faults.{IsAccepted};
 ghost use Rattle.explaining.specs.Explains.{HasHoldings};
 ghost use Rattle.explaining.specs.Holdings as is;
 
-use crate::room::room_for;
-use flow_check::{ShownSlot, push_fields, shown_slots, variable_of};
+use flow_check::{ShownSlot, push_fields, room_for, shown_slots, variable_of};
 use flow_rules::Accepted;
 use pt_base::FnId;
 use sides::{Owner, SlotInfo};

@@ -72,7 +72,7 @@ pub fn push_fault(fault: &FlowFault, lines: &mut Vec<u8>) -> Result<(), AllocErr
 ///
 /// # Errors
 ///
-/// Want of memory; more than [`MOST_LINE_BYTES`](crate::MOST_LINE_BYTES) of lines are that too.
+/// Want of memory; more than [`MOST_BYTES`](crate::MOST_BYTES) of lines are that too.
 pub fn flow_lines(alloc: Global, faults: &[FlowFault]) -> Result<Vec<u8>, AllocError>
     ensures { IfOk result (λ lines. lines.items ≡ is.flow_lines faults.now) }
 {

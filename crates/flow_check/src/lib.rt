@@ -17,7 +17,7 @@ pub use flow_faults::{flow_lines, push_fault, shows_way};
 pub use judging::judge;
 pub use laws::{first_bytes_are_enough, texts_have_one_outcome};
 pub use outcome::Outcome;
-pub use room::MOST_LINE_BYTES;
+pub use room::{MOST_BYTES, room_for};
 pub use shown::{ShownSlot, shown_slots};
 pub use slot_lines::push_fields;
 pub use stages::outcome_of;

@@ -1,17 +1,22 @@
-// Room for lines.
+// Room for what is written.
 ghost use Rattle.std.specs.Prelude.{◌≤◌, ◌^◌, OnOk, length};
 
 use std::alloc::AllocError;
 
-/// The most bytes of the lines of slots, and of those of faults of flows. What has more is answered as want of
-/// memory, so that what is written is bounded however long names and ways are.
-pub const MOST_LINE_BYTES: usize = 134_217_728;
+/// The most bytes of the lines of slots, of those of faults of flows, and of an explanation, a picture or an outline.
+/// What has more is answered as want of memory, so that what is written is bounded however many faults a text has,
+/// and however long names and ways are.
+pub const MOST_BYTES: usize = 134_217_728;
 
-/// Whether lines are no longer than they may be.
-pub(crate) fn room_for(lines: &[u8]) -> Result<(), AllocError>
-    ensures { OnOk result (length lines.now ≤ 2 ^ 27) }
+/// Whether what is written is no longer than it may be.
+///
+/// # Errors
+///
+/// Want of memory, where it is longer.
+pub fn room_for(text: &[u8]) -> Result<(), AllocError>
+    ensures { OnOk result (length text.now ≤ 2 ^ 27) }
 {
-    if lines.len() > MOST_LINE_BYTES {
+    if text.len() > MOST_BYTES {
         return Err(AllocError);
     }
     Ok(())

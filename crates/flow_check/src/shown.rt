@@ -1,5 +1,5 @@
 // The privileged slots that are shown of a program that breaks no rule.
-ghost use Rattle.std.specs.Prelude.{◌≡◌, ◌<◌, ◌≤◌, ◌++◌, true, false, IfOk, OnOk, get_or, length, map, slice_set};
+ghost use Rattle.std.specs.Prelude.{◌≡◌, ◌<◌, ◌≤◌, ◌++◌, true, false, IfOk, OnOk, length, map, slice_set};
 ghost use Rattle.reach.specs.Tables.{item_if};
 ghost use Rattle.typed_tree.specs.TypedView.{view_typed};
 ghost use Rattle.flow_rules.specs.Faults.{IsAccepted};
@@ -9,7 +9,7 @@ ghost use Rattle.flow_check.specs.Shown.{AreShown};
 use crate::variables::name_at;
 use flow_rules::Accepted;
 use pt_base::{GlobalId, Slot};
-use sides::Owner;
+use sides::{Owner, is_in};
 use std::alloc::{AllocError, Global};
 use typed_tree::Typed;
 
@@ -41,23 +41,13 @@ fn owned_table(alloc: Global, count: usize, owned: &[GlobalId]) -> Result<Vec<bo
     Ok(table)
 }
 
-// what a table has for a number
-fn holds(table: &[bool], number: u32) -> bool
-    ensures { result ≡ get_or table.now number false }
-{
-    match table.get(number as usize) {
-        Some(truth) => *truth,
-        None => false,
-    }
-}
-
 // whether this is a variable of the slave's functions, or one of its globals
 fn is_slaves(functions: &[bool], globals: &[bool], owner: Owner) -> bool
     ensures { result ≡ is.is_slaves functions.now globals.now owner }
 {
     match owner {
-        Owner::Variable { function, .. } => holds(functions, function.0),
-        Owner::Global(global) => holds(globals, global.0),
+        Owner::Variable { function, .. } => is_in(functions, function.0),
+        Owner::Global(global) => is_in(globals, global.0),
         Owner::Result(_) => false,
     }
 }

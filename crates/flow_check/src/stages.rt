@@ -24,7 +24,7 @@ use typed_tree::Typed;
 ///
 /// # Errors
 ///
-/// Want of memory alone; more than [`MOST_LINE_BYTES`](crate::MOST_LINE_BYTES) of lines are that too.
+/// Want of memory alone; more than [`MOST_BYTES`](crate::MOST_BYTES) of lines are that too.
 pub fn outcome_of<R: Threads + Sync, W: Watch>(
     rt: &R,
     alloc: Global,

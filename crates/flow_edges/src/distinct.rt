@@ -19,7 +19,7 @@ fn keep(number: u64, seen: &mut IndexSet<u64>, kept: &mut Vec<u64>) -> Result<()
 }
 
 /// Each number once, where it stands first, in time linear in how many there are.
-pub(crate) fn first_of_each(alloc: Global, numbers: Vec<u64>) -> Result<Vec<u64>, AllocError>
+pub fn first_of_each(alloc: Global, numbers: Vec<u64>) -> Result<Vec<u64>, AllocError>
     ensures { IfOk result (λ kept. kept.items ≡ is.first_of_each numbers.items) }
 {
     if numbers.len() < 2 {

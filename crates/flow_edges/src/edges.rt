@@ -1,5 +1,5 @@
 // The values that move in a function.
-ghost use Rattle.std.specs.Prelude.{◌≡◌, ◌<◌, ◌++◌, IfOk, MatchOption, OnOk, is_some, length};
+ghost use Rattle.std.specs.Prelude.{◌≡◌, ◌<◌, ◌++◌, IfOk, MatchOption, OnOk, length};
 ghost use Rattle.sides.specs.Carried.{scope_of};
 ghost use Rattle.sides.specs.Layouts.{IsLayout};
 ghost use Rattle.sides.specs.Leaves.{leaf_count};
@@ -8,7 +8,6 @@ ghost use Rattle.sides.specs.Placed.{AreSides};
 ghost use Rattle.sides.specs.ScopeView.{view_scope};
 ghost use Rattle.usages.specs.UsageView.{view_usage};
 ghost use Rattle.typed_tree.specs.ExpressionTree.{view_expr};
-ghost use Rattle.typed_tree.specs.TypeTests.{pointee_of};
 ghost use Rattle.typed_tree.specs.TypedView.{view_typed};
 ghost use Rattle.flow_edges.specs.Assignments.{Assigns, NoAssignment};
 ghost use Rattle.flow_edges.specs.Edges.{AreEdges, edges_in, form_edges, moved_to, usage_edges};
@@ -24,7 +23,7 @@ use crate::targets::target_slot;
 use pt_base::FnId;
 use sides::{Layout, Scope, Sides, carried_slots};
 use std::alloc::{AllocError, Global};
-use typed_tree::{Form, Typed, TypedExpr, VarTy};
+use typed_tree::{Form, Typed, TypedExpr, VarTy, is_pointer};
 use usages::{Usage, usages_in};
 
 // how many leaves a value of this type has
@@ -34,16 +33,6 @@ fn value_count(scope: &Scope<'_>, ty: Option<VarTy>) -> u64
     match ty {
         Some(ty) => scope.table.count(ty),
         None => 0,
-    }
-}
-
-// whether it is a pointer
-fn is_pointer(ty: Option<VarTy>) -> bool
-    ensures { result ≡ is_some (pointee_of ty) }
-{
-    match ty {
-        Some(VarTy::Pointer { .. }) => true,
-        Some(VarTy::Int(_)) | Some(VarTy::Struct(_)) | Some(VarTy::Array { .. }) | None => false,
     }
 }
 

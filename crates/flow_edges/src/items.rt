@@ -3,7 +3,6 @@ ghost use Rattle.std.specs.Prelude.{◌≡◌, ◌+◌, ◌++◌, ℕ, List, IfO
 ghost use Rattle.typed_tree.specs.declared.types.StructInfo.{StructInfo};
 ghost use Rattle.typed_tree.specs.Cells.{repeated};
 ghost use Rattle.typed_tree.specs.Sizes.{fields_of};
-ghost use Rattle.typed_tree.specs.TypeTests.{type_of_elem};
 ghost use Rattle.flow_edges.specs.ItemParts.{added, finished};
 ghost use Rattle.flow_edges.specs.Items as is;
 
@@ -11,7 +10,7 @@ use crate::slot_numbers::behind;
 use pt_tree::Elem;
 use sides::{Object, Scope};
 use std::alloc::{AllocError, Global};
-use typed_tree::{StructInfo, VarTy};
+use typed_tree::{StructInfo, VarTy, type_of_elem};
 
 /// What is left of an object whose items are being found.
 #[derive(Clone, Copy)]
@@ -138,16 +137,6 @@ fn add_struct(
     Ok(())
 }
 
-// an element, as an object
-fn object_of(elem: Elem) -> VarTy
-    ensures { result ≡ type_of_elem elem }
-{
-    match elem {
-        Elem::Int(t) => VarTy::Int(t),
-        Elem::Struct(n) => VarTy::Struct(n),
-    }
-}
-
 // so many elements, behind so many slots: those of one are found, and then repeated
 fn add_elements(
     elem: Elem,
@@ -168,7 +157,7 @@ fn add_elements(
         more: count - 1,
     })?;
     parts.push(Part::Object {
-        ty: object_of(elem),
+        ty: type_of_elem(elem),
         start,
         depth,
     })?;

@@ -10,7 +10,7 @@ use std::alloc::{AllocError, Global};
 /// The slots of an object's first integers, if there was an object. Twice as many are found each time
 /// that there are too few, so the time for a list is linear in its length.
 #[derive(Drop)]
-pub(crate) struct KeptItems {
+pub struct KeptItems {
     pub object: Option<Object>,
     pub wanted: usize,
     pub slots: Vec<u64>,

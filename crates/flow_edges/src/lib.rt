@@ -12,5 +12,9 @@ mod targets;
 mod within;
 
 pub use along::{MOST_EDGES, edges_along};
+pub use distinct::first_of_each;
 pub use edges::moves_of;
+pub use kept_items::KeptItems;
 pub use moves::Move;
+pub use slot_numbers::behind;
+pub use targets::target_slot;

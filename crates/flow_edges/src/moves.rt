@@ -102,7 +102,7 @@ impl Move {
 
     /// Is put behind others, if it has edges. A value that carries nothing has none, however many leaves it
     /// has.
-    pub(crate) fn add_to(self, moves: &mut Vec<Move>) -> Result<(), AllocError>
+    pub fn add_to(self, moves: &mut Vec<Move>) -> Result<(), AllocError>
         ensures { OnOk result (moved_edges moves.new.items ≡ moved_edges moves.old.items ++ move_edges (view_move self)) }
     {
         if self.from.is_empty() || self.to.is_empty() {

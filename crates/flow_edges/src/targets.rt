@@ -8,7 +8,6 @@ ghost use Rattle.sides.specs.ScopeView.{view_scope};
 ghost use Rattle.typed_tree.specs.ExpressionTree.{view_expr};
 ghost use Rattle.typed_tree.specs.TypedTree.{view_function};
 ghost use Rattle.typed_tree.specs.TypedView.{view_typed};
-ghost use Rattle.typed_tree.specs.WellFormedExpression as typing;
 ghost use Rattle.typed_tree.specs.WellFormedExpression.{ty_of};
 ghost use Rattle.flow_edges.specs.Edges as is;
 ghost use Rattle.flow_edges.specs.KeptItems.{AreItems};
@@ -19,7 +18,7 @@ use crate::slot_numbers::behind;
 use pt_base::FnId;
 use sides::{Layout, Object, Scope};
 use std::alloc::{AllocError, Global};
-use typed_tree::{Typed, TypedFn, VarTy};
+use typed_tree::{Typed, TypedFn, VarTy, is_struct};
 use usages::{How, Usage};
 
 // where an object begins, if there is one of this number
@@ -79,17 +78,6 @@ fn passed_slot(t: &Typed, layout: &Layout, g: FnId, k: usize) -> Result<Option<u
     result_slot(layout, g)
 }
 
-// whether it is a struct
-fn is_struct(ty: Option<VarTy>) -> bool
-    ensures { result ≡ typing.is_struct ty }
-{
-    match ty {
-        Some(VarTy::Struct(_)) => true,
-        Some(VarTy::Int(_)) | Some(VarTy::Array { .. }) | Some(VarTy::Pointer { .. }) | None =>
-            false,
-    }
-}
-
 // where a value of this type goes that an object begins with
 fn begun_slot(
     alloc: Global,
@@ -114,7 +102,7 @@ fn begun_slot(
 }
 
 /// Where the value of an expression in the body of a function goes.
-pub(crate) fn target_slot(
+pub fn target_slot(
     alloc: Global,
     t: &Typed,
     layout: &Layout,

@@ -7,7 +7,6 @@ pub mod Arrows
 pub mod PictureText
 pub mod Pictures
 pub mod PicturedSeen
-pub mod Seen
 pub mod Laws
 -- What code keeps; no public clause speaks of it.
 pub mod Kept

@@ -28,4 +28,4 @@ mod uses;
 pub use laws::{first_bytes_are_enough, objects_are_shown, programs_have_pictures};
 pub use pictured::Pictured;
 pub use pictures::picture;
-pub use room::{MOST_BYTES, MOST_NODES};
+pub use room::MOST_NODES;

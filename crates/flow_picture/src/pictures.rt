@@ -35,8 +35,7 @@ use typed_tree::Typed;
 ///
 /// # Errors
 ///
-/// Want of memory; more than [`MOST_BYTES`](crate::MOST_BYTES) of picture are that too, and more than
-/// [`MOST_LINE_BYTES`](flow_check::MOST_LINE_BYTES) of lines.
+/// Want of memory; more than [`MOST_BYTES`](flow_check::MOST_BYTES) of picture or of lines are that too.
 pub fn picture<R: Threads + Sync, W: Watch>(
     rt: &R,
     alloc: Global,

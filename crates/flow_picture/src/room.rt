@@ -1,28 +1,14 @@
 // Room for what is drawn.
-ghost use Rattle.std.specs.Prelude.{◌≤◌, ◌^◌, OnOk, length};
+ghost use Rattle.std.specs.Prelude.{◌≤◌, OnOk, length};
 
 use crate::arrow::Arrow;
 use std::alloc::AllocError;
-
-/// The most bytes of a picture. What has more is answered as want of memory, so that what is written is bounded
-/// however many arrows a program has.
-pub const MOST_BYTES: usize = 134_217_728;
 
 /// Where there are more objects, only those are shown that may hold secrets.
 pub const MOST_NODES: usize = 2000;
 
 // The most arrows of a picture, of which each takes 12 bytes or more.
 const MOST_ARROWS: usize = 11_184_810;
-
-/// Whether a picture is no longer than it may be.
-pub(crate) fn room_for(text: &[u8]) -> Result<(), AllocError>
-    ensures { OnOk result (length text.now ≤ 2 ^ 27) }
-{
-    if text.len() > MOST_BYTES {
-        return Err(AllocError);
-    }
-    Ok(())
-}
 
 /// Whether these are no more arrows than a picture may have.
 pub(crate) fn room_for_arrows(arrows: &[Arrow]) -> Result<(), AllocError>

@@ -16,7 +16,8 @@ use crate::found::Found;
 use crate::functions::{is_main_function, is_plain_host_number};
 use crate::rule::Rule;
 use pt_base::Span;
-use pt_tree::{Param, ParamKind};
+use pt_tree::Param;
+use sides::is_out;
 use std::alloc::AllocError;
 use typed_tree::{Form, Typed, TypedExpr, TypedFn, Var};
 use usages::Usage;
@@ -81,16 +82,6 @@ fn add_main(f: &TypedFn, list: &mut Vec<Found>) -> Result<(), AllocError>
 {
     let wrong = is_main_function(f) && f.signature.privileged;
     add_if(wrong, Rule::PrivMain, f.name, list)
-}
-
-// whether something comes back through a parameter that takes this
-fn is_out(kind: ParamKind) -> bool
-    ensures { result ≡ seeds.is_out kind }
-{
-    match kind {
-        ParamKind::Int(_) => false,
-        ParamKind::Ptr { fixed, .. } => !fixed,
-    }
 }
 
 // whether something comes back through it, and it doesn't say how

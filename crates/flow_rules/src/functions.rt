@@ -1,23 +1,15 @@
 // What functions and parameters are.
-ghost use Rattle.std.specs.Prelude.{◌≡◌, ◌&&◌, false, option_map};
+ghost use Rattle.std.specs.Prelude.{◌≡◌, ◌&&◌, false};
 ghost use Rattle.std.specs.List.{list_any};
 ghost use Rattle.std.specs.Option.{option_map_or};
-ghost use Rattle.typed_tree.specs.Lookup.{function_at};
 ghost use Rattle.typed_tree.specs.TypedTree.{view_function};
 ghost use Rattle.typed_tree.specs.TypedView.{view_typed};
-ghost use Rattle.typed_tree.specs.WellFormedExpression as well;
 ghost use Rattle.flow_rules.specs.Findings as is;
 
 use pt_base::FnId;
-use pt_tree::{Param, Signature};
-use typed_tree::{Typed, TypedFn};
-
-/// The function of this number, None where there is none.
-pub(crate) fn function_at(t: &Typed, f: FnId) -> Option<&TypedFn>
-    ensures { option_map (λ g. view_function g.now) result ≡ function_at (view_typed t.now) f }
-{
-    t.functions.get(f.0 as usize)
-}
+use pt_tree::Param;
+use reach::function_at;
+use typed_tree::{Typed, TypedFn, is_main};
 
 // the function has this parameter, and it isn't marked
 fn is_unmarked(f: &TypedFn, k: usize) -> bool
@@ -68,13 +60,6 @@ pub(crate) fn is_plain_parameter(t: &Typed, g: FnId, k: usize) -> bool
         Some(function) => is_plain(function, k),
         None => false,
     }
-}
-
-// whether it is called main
-fn is_main(signature: &Signature) -> bool
-    ensures { result ≡ well.is_main signature.now }
-{
-    signature.name.as_slice() == b"main".as_slice()
 }
 
 /// Whether this is main.

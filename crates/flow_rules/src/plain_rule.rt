@@ -20,10 +20,10 @@ use crate::flows::Flows;
 use crate::found::Found;
 use crate::memo::{Asked, Memo};
 use crate::rule::Rule;
-use crate::secrets::{add_at, behind, first_secret, secret_from};
+use crate::secrets::{add_at, first_secret, secret_from};
+use flow_edges::behind;
 use pt_base::FnId;
-use pt_tree::Elem;
-use sides::{Object, Scope, SlotInfo, carried_slots, leaves_like};
+use sides::{Object, Scope, SlotInfo, carried_slots, leaves_like, struct_of};
 use std::alloc::{AllocError, Global};
 use typed_tree::{TypedExpr, VarTy};
 
@@ -136,28 +136,6 @@ fn secret_like(
 {
     let leaves = unmarked_like(alloc, flows, g, k, ty)?;
     secret_from(flows, start, leaves.as_slice())
-}
-
-// the struct whose leaves an element has
-fn struct_of_elem(elem: Elem) -> Option<u32>
-    ensures { result ≡ named_struct (VarTy.Array elem 0) }
-{
-    match elem {
-        Elem::Int(_) => None,
-        Elem::Struct(n) => Some(n),
-    }
-}
-
-// the struct whose leaves a value of this type, or what it points to, has
-fn struct_of(ty: VarTy) -> Option<u32>
-    ensures { result ≡ named_struct ty }
-{
-    match ty {
-        VarTy::Int(_) => None,
-        VarTy::Struct(n) => Some(n),
-        VarTy::Array { elem, .. } => struct_of_elem(elem),
-        VarTy::Pointer { elem, .. } => struct_of_elem(elem),
-    }
 }
 
 // the same of a type that has the leaves of this struct: what was asked of them isn't looked for again

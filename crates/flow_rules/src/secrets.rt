@@ -16,6 +16,7 @@ ghost use Rattle.flow_rules.specs.Secrets as is;
 use crate::flows::Flows;
 use crate::found::Found;
 use crate::rule::Rule;
+use flow_edges::behind;
 use pt_base::{Slot, Span};
 use sides::{Scope, carried_slots};
 use std::alloc::{AllocError, Global};
@@ -26,16 +27,6 @@ fn is_priv(flows: &Flows<'_>, slot: u64) -> bool
     ensures { result ≡ (view_flows flows.now).is_priv slot }
 {
     slot < flows.sides.slots.as_slice().len() as u64 && flows.marks.is_priv(Slot(slot))
-}
-
-/// The slot so far behind this one. 2^64 slots don't fit into memory.
-pub(crate) fn behind(slot: u64, by: u64) -> Result<u64, AllocError>
-    ensures { IfOk result (λ s. s ≡ slot + by) }
-{
-    match slot.checked_add(by) {
-        Some(behind) => Ok(behind),
-        None => Err(AllocError),
-    }
 }
 
 /// The first privileged slot among these leaves of what begins at this slot.

@@ -6,19 +6,9 @@ ghost use Rattle.typed_tree.specs.TypedView.{view_typed};
 ghost use Rattle.lowering.specs.FunctionParts.{IsDefined};
 ghost use Rattle.front_phase.specs.Defined.{defined};
 
-use pt_base::FnId;
+use pt_base::{FnId, next_number};
 use std::alloc::{AllocError, Global};
 use typed_tree::{Typed, TypedFn};
-
-// the number behind this one
-fn next_number(number: u32) -> Result<u32, AllocError>
-    ensures { IfOk result (λ n. n ≡ number + 1) }
-{
-    match number.checked_add(1) {
-        Some(next) => Ok(next),
-        None => Err(AllocError),
-    }
-}
 
 // adds the number of a function that has a body
 fn add_defined(f: FnId, function: &TypedFn, list: &mut Vec<FnId>) -> Result<(), AllocError>

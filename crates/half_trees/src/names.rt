@@ -3,14 +3,13 @@ ghost use Rattle.std.specs.Prelude.{◌≡◌, ◌++◌, IfOk, None, Some};
 ghost use Rattle.std.specs.Fmt.{decimal};
 ghost use Rattle.std.specs.List.{list_all};
 ghost use Rattle.std.specs.Option.{option_copied};
-ghost use Rattle.typed_tree.specs.WellFormedExpression as typed;
 ghost use Rattle.half_trees.specs.Names as names;
 
 use itoa::Buffer;
 use pt_base::{Bytes, Span};
 use pt_tree::{Signature, Word};
 use std::alloc::{AllocError, Global};
-use typed_tree::{Field, StructInfo};
+use typed_tree::{Field, StructInfo, is_main};
 
 /// Where all parts of a half's tree lie: it has no text yet.
 pub(crate) const NOWHERE: Span = Span { from: 0, to: 0 };
@@ -96,13 +95,6 @@ pub(crate) fn global_name(alloc: Global, g: usize) -> Result<Vec<u8>, AllocError
     ensures { IfOk result (λ b. b.items ≡ names.global_name g) }
 {
     numbered(alloc, b"g_", g)
-}
-
-// Whether it is main.
-fn is_main(signature: &Signature) -> bool
-    ensures { result ≡ typed.is_main signature.now }
-{
-    signature.name.as_slice() == b"main".as_slice()
 }
 
 /// The name of a function by its number and what it is called with.

@@ -1,16 +1,15 @@
 // Parameters as they are declared.
 ghost use Rattle.std.specs.Prelude.{◌≡◌, ◌++◌, [], ◌∷◌, IfOk, OnOk, map, false};
 ghost use Rattle.pt_tree.specs.ProgramTree.{view_param};
-ghost use Rattle.typed_tree.specs.WellFormedExpression as typed;
 ghost use Rattle.half_trees.specs.Declarations as declared;
 ghost use Rattle.half_trees.specs.Names as names;
 
 use crate::declarations::is_pointer;
 use crate::names::{NOWHERE, local_name, word};
 use crate::specifiers::{Marks, object_specs, push_result};
-use pt_tree::{Param, ParamDecl, ParamKind, Suffix};
+use pt_tree::{Param, ParamDecl, Suffix};
 use std::alloc::{AllocError, Global};
-use typed_tree::{StructInfo, VarTy};
+use typed_tree::{StructInfo, VarTy, param_type};
 
 /// The parameter of this number.
 pub(crate) fn parameter(
@@ -58,16 +57,6 @@ pub(crate) fn parameters_or_void(
         params.push(void_parameter(alloc)?)?;
     }
     Ok(params)
-}
-
-// The type of a parameter.
-fn param_type(kind: ParamKind) -> VarTy
-    ensures { result ≡ typed.param_type kind }
-{
-    match kind {
-        ParamKind::Int(t) => VarTy::Int(t),
-        ParamKind::Ptr { elem, fixed } => VarTy::Pointer { elem, fixed },
-    }
 }
 
 /// The parameters of a signature.

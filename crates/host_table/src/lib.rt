@@ -14,7 +14,7 @@ mod writing;
 
 pub use fault::{HostError, HostFault};
 pub use host::Host;
-pub use reading::read_host;
+pub use reading::{is_input, read_host};
 
 /// A host table may have this many bytes.
 pub const TABLE_LIMIT: usize = 1_048_576;

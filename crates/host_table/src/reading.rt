@@ -56,8 +56,8 @@ impl Found {
     }
 }
 
-// Whether the model is fed from the input.
-fn is_input(model: &HostModel) -> bool
+/// Whether the model is fed from the input.
+pub fn is_input(model: &HostModel) -> bool
     ensures { result ≡ is_input model.now }
 {
     match model {

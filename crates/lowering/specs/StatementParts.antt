@@ -1,7 +1,6 @@
 -- Parts of the equations of statements, as the code has them.
 use Rattle.std.specs.Prelude.{◌≡◌, ℕ, ◌+◌, List, [], ◌∷◌, ◌++◌, Option, None, Some, Bool, map, drop, length, take, get_or}
 use Rattle.pt_base.specs.declared.span.Span.{Span}
-use Rattle.pt_base.specs.declared.int_type.IntType.{IntType}
 use Rattle.pt_base.specs.declared.int_type.IntType.TheVariants as i
 use Rattle.pt_int.specs.declared.operator.BinOp.TheVariants.{Le}
 use Rattle.pt_tree.specs.declared.signature.Elem.{Elem}
@@ -15,7 +14,7 @@ use Rattle.lowering.specs.Expressions.{value_in}
 use Rattle.lowering.specs.Lowered.{Effects, nothing, past, hold, temp, counting, int, followed}
 use Rattle.lowering.specs.Output.{Output, next, Does}
 use Rattle.lowering.specs.Leaves.{Step, Ways, ways_from, object_ways, elem_ways, field_ways, element_ways, at_end_of}
-use Rattle.lowering.specs.Statements.{Code, Onward, to_head, outermost, items_in, number, tested, stepped, looped, first_told, on_the_way_back, case_of, section_by, chosen, returned, stmts_of, statement_in, otherwise_in, all_in}
+use Rattle.lowering.specs.Statements.{Code, Onward, to_head, outermost, items_in, number, tested, stepped, looped, first_told, on_the_way_back, section_by, chosen, returned, stmts_of, statement_in, otherwise_in, all_in}
 
 abbrev pub type_of_outermost : Code → ExprId → VarTy
 type_of_outermost c e = type_of (outermost c e)
@@ -27,10 +26,6 @@ item_in c p e n = let v = value_in c.scope (outermost c e) n in record { stmts =
 -- a section of a switch
 abbrev pub section_in : Code → Span → SectionTree → Onward → ℕ → ℕ → ℕ → Effects
 section_in c s (section at label statements) mode k m n = section_by s k m (all_in c statements mode n)
-
--- a section's case
-abbrev pub section_case : Span → IntType → ℕ → ℕ → SectionTree → List StmtTree
-section_case s ty k m (section at label statements) = case_of s ty k m label
 
 -- ---- choices and returns
 

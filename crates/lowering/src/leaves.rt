@@ -9,15 +9,13 @@ ghost use Rattle.lowering.specs.Names.{scope_of};
 ghost use Rattle.lowering.specs.Walks.{is_leaf, parts_of, step_at, way_of, ways_left, goes_on, Moves, Stepped, Comes};
 
 use crate::names::Names;
-use crate::numbers::next_number;
 use crate::output::local;
 use crate::place::with_field;
-use crate::types::type_of_elem;
-use pt_base::{IntType, Span, VarId};
+use pt_base::{IntType, Span, VarId, next_number};
 use pt_core::{Expr, Place, Root};
 use pt_tree::Elem;
 use std::alloc::{AllocError, Global};
-use typed_tree::VarTy;
+use typed_tree::{VarTy, type_of_elem};
 
 /// An object, or a part of one: its type, and a bound. Structs of this number and above have no
 /// parts in it; those of a struct's fields lie below its own.

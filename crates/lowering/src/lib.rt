@@ -12,7 +12,6 @@ pub mod leaves;
 pub mod logical;
 pub mod loops;
 pub mod names;
-pub mod numbers;
 pub mod operators;
 pub mod output;
 pub mod place;

@@ -1,39 +1,14 @@
 // Operators and conversions in the normal form.
 ghost use Rattle.std.specs.Prelude.{◌≡◌, Bool, IfOk};
-ghost use Rattle.typed_tree.specs.TypeTests as tests;
 ghost use Rattle.pt_core.specs.CodeTree.{view_expr};
 ghost use Rattle.lowering.specs.Operators as is;
 
-use pt_base::{IntType, Span};
+use pt_base::{IntType, Span, same_int};
 use pt_core::Expr;
 use pt_int::{BinOp, UnOp, promote, usual};
 use pt_tree::Elem;
 use std::alloc::{AllocError, Global};
 use typed_tree::{LinkStep, VarTy};
-
-// the place of a type in the list of the integer types
-fn place_of(t: IntType) -> u8
-    ensures { result ≡ tests.place_of t }
-{
-    match t {
-        IntType::Char => 0,
-        IntType::SChar => 1,
-        IntType::UChar => 2,
-        IntType::Short => 3,
-        IntType::UShort => 4,
-        IntType::Int => 5,
-        IntType::UInt => 6,
-        IntType::Long => 7,
-        IntType::ULong => 8,
-    }
-}
-
-// whether they are one type
-fn same_int(a: IntType, b: IntType) -> bool
-    ensures { result ≡ tests.same_int a b }
-{
-    place_of(a) == place_of(b)
-}
 
 /// A number converted to the type, where it isn't of it.
 pub fn as_int(alloc: Global, ty: VarTy, to: IntType, a: Expr) -> Result<Expr, AllocError>

@@ -12,9 +12,9 @@ ghost use Rattle.lowering.specs.Output.{Output, output_of, next, added, temporar
 use crate::names::Names;
 use crate::output::{Lowering, local, temp};
 use crate::temporary::Temporary;
-use crate::types::{decayed_type, pointee_type, points_to_const, type_of};
+use crate::types::{decayed_type, points_to_const, type_of};
 use pt_base::{GlobalId, Span, VarId};
-use pt_core::{Expr, Place, Root, Stmt};
+use pt_core::{Expr, Place, Root, Stmt, pointee_type};
 use std::alloc::{AllocError, Global};
 use typed_tree::{TypedExpr, VarTy};
 

@@ -2,11 +2,11 @@
 ghost use Rattle.std.specs.Prelude.{◌≡◌, Some};
 ghost use Rattle.typed_tree.specs.ExpressionTree.{view_expr};
 ghost use Rattle.typed_tree.specs.TypeTests as tests;
-ghost use Rattle.pt_core.specs.Types as core;
 ghost use Rattle.source_meaning.specs.Expressions as meaning;
 ghost use Rattle.lowering.specs.Expressions as is;
 
 use pt_base::IntType;
+use pt_core::element_of;
 use pt_tree::Elem;
 use typed_tree::{TypedExpr, VarTy};
 
@@ -77,26 +77,6 @@ fn names_struct(ty: VarTy) -> bool
     }
 }
 
-/// What a pointer points to, as an object.
-pub fn pointee_type(ty: VarTy) -> VarTy
-    ensures { result ≡ core.pointee_type ty }
-{
-    match ty {
-        VarTy::Pointer { elem, .. } => type_of_elem(elem),
-        VarTy::Int(_) | VarTy::Struct(_) | VarTy::Array { .. } => ty,
-    }
-}
-
-/// An element as an object.
-pub(crate) fn type_of_elem(elem: Elem) -> VarTy
-    ensures { result ≡ tests.type_of_elem elem }
-{
-    match elem {
-        Elem::Int(t) => VarTy::Int(t),
-        Elem::Struct(n) => VarTy::Struct(n),
-    }
-}
-
 /// Whether a pointer is of a const pointee.
 pub fn points_to_const(ty: VarTy) -> bool
     ensures { result ≡ tests.points_to_const (Some ty) }
@@ -104,18 +84,6 @@ pub fn points_to_const(ty: VarTy) -> bool
     match ty {
         VarTy::Pointer { fixed, .. } => fixed,
         VarTy::Int(_) | VarTy::Struct(_) | VarTy::Array { .. } => false,
-    }
-}
-
-// as what an object is pointed to
-fn element_of(ty: VarTy) -> Elem
-    ensures { result ≡ core.element_of ty }
-{
-    match ty {
-        VarTy::Int(t) => Elem::Int(t),
-        VarTy::Struct(n) => Elem::Struct(n),
-        VarTy::Array { elem, .. } => elem,
-        VarTy::Pointer { elem, .. } => elem,
     }
 }
 

@@ -1,12 +1,11 @@
 -- Two programs that differ in a privileged body alone, which stands before main: one has an expression more.
-use Rattle.std.proofs.Common.{◌≡◌, refl, subst, ℕ, ◌+◌, true, ◌⊎◌, inl, inr, Some, [], ◌∷◌}
+use Rattle.std.proofs.Common.{◌≡◌, refl, subst, ℕ, ◌+◌, false, true, ◌⊎◌, inl, inr, Some, [], ◌∷◌}
 use Rattle.std.specs.Prelude.{Contains, codes, pos, slice_get}
 use Rattle.pt_base.specs.declared.int_type.IntType.TheVariants as int
 use Rattle.typed_tree.specs.declared.part.Part.{Part}
 use Rattle.typed_tree.specs.declared.part.Role.TheVariants.{Returned}
 use Rattle.typed_tree.specs.declared.types.VarTy.TheVariants.{Int}
 use Rattle.typed_tree.specs.ExpressionTree.{ExprTree, constant, typed}
-use Rattle.typed_tree.specs.HostProgram.{main_signature}
 use Rattle.typed_tree.specs.Parts.{part_of}
 use Rattle.typed_tree.specs.StatementTree.{BodyTree, block, body_and, evaluate, give_back, no_bodies}
 use Rattle.typed_tree.specs.TypedTree.{FunctionTree, TypedTree}
@@ -21,14 +20,14 @@ abbrev result : ExprTree
 result = typed (record { from = 40; to = 41 }) (Some (Int int.Int)) (constant (pos 0))
 
 abbrev hidden : BodyTree → FunctionTree
-hidden body = record { signature = record main_signature { name = codes "f"; privileged = true }; name = record { from = 1; to = 2 }; vars = []; body = Some body }
+hidden body = record { signature = record { name = codes "f"; result = Some int.Int; params = []; host = false; privileged = true; declassify = false }; name = record { from = 1; to = 2 }; vars = []; body = Some body }
 
 -- main returns the expression of this number
 abbrev main_body : ℕ → BodyTree
 main_body n = block (record { from = 30; to = 44 }) (body_and (give_back (record { from = 32; to = 42 }) (Some (record { 0 = n }))) no_bodies)
 
 abbrev main : ℕ → FunctionTree
-main n = record { signature = main_signature; name = record { from = 20; to = 24 }; vars = []; body = Some (main_body n) }
+main n = record { signature = record { name = codes "main"; result = Some int.Int; params = []; host = false; privileged = false; declassify = false }; name = record { from = 20; to = 24 }; vars = []; body = Some (main_body n) }
 
 abbrev short : TypedTree
 short = record {

@@ -3,14 +3,13 @@ ghost use Rattle.std.specs.Prelude.{◌≡◌, ◌<◌, ◌^◌, IsTrue, IfOk, O
 ghost use Rattle.std.specs.List.{list_all, list_any, zip};
 ghost use Rattle.pt_int.specs.Conversion.{is_in_range};
 ghost use Rattle.typed_tree.specs.Cells.{repeated};
-ghost use Rattle.typed_tree.specs.TypeTests.{place_of as place, same_int};
 ghost use Rattle.marshalling.specs.Leaves.{has_structs, is_elem, is_pointee, leaves_of, name_earlier};
 ghost use Rattle.marshalling.specs.Shape.{all_within, are_named as each_named, fit_all, fits_block, fits_integer, fits_kind, fits_leaf, fits_pointer, fits_range, is_number_of, is_shaped as shaped, is_typed, may_stand, points_into};
 
 use crate::leaf::Leaf;
 use crate::leaves::element_cells;
 use crate::reach::{are_within, ends_within};
-use pt_base::IntType;
+use pt_base::{IntType, same_int};
 use pt_int::in_range;
 use pt_tree::{Elem, Param, ParamKind};
 use std::alloc::{AllocError, Global};
@@ -165,7 +164,7 @@ fn element_fits(marked: bool, leaves: &[Leaf], cells: &[(IntType, WireCell)]) ->
 fn leaf_fits(marked: bool, leaf: &Leaf, cell: &(IntType, WireCell)) -> bool
     ensures { result ≡ fits_leaf marked leaf.now cell.now }
 {
-    is_same(leaf.ty, cell.0) && stands(marked || leaf.marked, cell.1)
+    same_int(leaf.ty, cell.0) && stands(marked || leaf.marked, cell.1)
 }
 
 fn stands(secret: bool, cell: WireCell) -> bool
@@ -230,27 +229,4 @@ pub(crate) fn is_of(ty: IntType, number: i128) -> bool
     ensures { result ≡ is_in_range ty number }
 {
     in_range(ty, number)
-}
-
-/// Whether they are one type.
-pub(crate) fn is_same(a: IntType, b: IntType) -> bool
-    ensures { result ≡ same_int a b }
-{
-    place_of(a) == place_of(b)
-}
-
-fn place_of(t: IntType) -> u8
-    ensures { result ≡ place t }
-{
-    match t {
-        IntType::Char => 0,
-        IntType::SChar => 1,
-        IntType::UChar => 2,
-        IntType::Short => 3,
-        IntType::UShort => 4,
-        IntType::Int => 5,
-        IntType::UInt => 6,
-        IntType::Long => 7,
-        IntType::ULong => 8,
-    }
 }

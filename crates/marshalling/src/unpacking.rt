@@ -8,10 +8,10 @@ ghost use Rattle.marshalling.specs.Shape.{all_within};
 
 use crate::fault::BadCall;
 use crate::inputs::Inputs;
-use crate::shape::{is_same, is_shaped};
+use crate::shape::is_shaped;
 use block_memory::{BlockName, Cell, Pointer};
 use handle_store::Store;
-use pt_base::{IntType, Listed};
+use pt_base::{IntType, Listed, same_int};
 use pt_tree::{Param, ParamKind, Signature};
 use std::alloc::{AllocError, Global};
 use typed_tree::StructInfo;
@@ -102,7 +102,7 @@ fn fault_at(store: &Store, ty: IntType, handle: u64) -> Option<BadCall>
 {
     match store.get(handle) {
         Some((kept, _)) => {
-            if is_same(ty, kept) {
+            if same_int(ty, kept) {
                 None
             } else {
                 Some(BadCall::WrongType(handle))
@@ -195,7 +195,7 @@ fn open_handle(store: &Store, ty: IntType, handle: u64) -> Result<Cell, BadCall>
 {
     match store.get(handle) {
         Some((kept, number)) => {
-            if is_same(ty, kept) {
+            if same_int(ty, kept) {
                 Ok(Cell::Int(number))
             } else {
                 Err(BadCall::WrongType(handle))

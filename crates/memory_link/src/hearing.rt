@@ -1,11 +1,10 @@
 // What the slave is sent.
 ghost use Rattle.std.specs.Prelude.{◌≡◌, ◌<◌, ◌++◌, IfOk, IfSome, OnOk, length};
-ghost use Rattle.wire.specs.Limits.{IsBytes};
 ghost use Rattle.memory_link.specs.Reading.{HearsAll, IsReading, Reads};
 
 use crate::slave_half::SlaveHalf;
 use std::alloc::{AllocError, Global};
-use wire::{Message, Reader, WireError};
+use wire::{Message, Reader, WireError, are_bytes};
 
 // The message at the front, if a whole frame is there. Behind a fault there is none.
 fn next_message(alloc: Global, reader: &mut Reader) -> Result<Option<Message>, AllocError>
@@ -35,13 +34,6 @@ pub(crate) fn hear_all(
         };
         half.hear(alloc, message)?;
     }
-}
-
-// Bytes are below 256. Nothing is done.
-fn are_bytes(bytes: &[u8])
-    ensures { IsBytes bytes.now }
-{
-    let _bytes = bytes;
 }
 
 /// Takes bytes that were sent.

@@ -7,10 +7,11 @@ ghost use Rattle.pt_core.specs.Values.{number_in};
 ghost use Rattle.monitor_interp.specs.Working.{IsAt, IsSomewhere, Works, at_first, body_work, host_gives_at, work_by};
 
 use crate::bench::Bench;
-use crate::worked::{Worked, number, worked_by};
+use crate::worked::{Worked, worked_by};
 use block_memory::Cell;
 use core_machine::Gate;
 use pt_base::FnId;
+use pt_core::number;
 use std::alloc::{AllocError, Global};
 
 /// What is to be done: a function or host, the depth at which a function is entered, and within how many turns.

@@ -7,6 +7,7 @@ ghost use Rattle.monitor_interp.specs.Working.{IsOfABody, IsWorkedBy};
 use block_memory::Cell;
 use core_machine::Stepped;
 use pt_base::End;
+use pt_core::number;
 use std::alloc::AllocError;
 
 /// What the work of a call came to.
@@ -39,15 +40,5 @@ fn number_given(value: Option<Cell>) -> Option<i128>
     match value {
         Some(cell) => Some(number(cell)),
         None => None,
-    }
-}
-
-/// The number that a cell stands for, 0 for a pointer or a handle.
-pub(crate) fn number(cell: Cell) -> i128
-    ensures { result ≡ number_in cell }
-{
-    match cell {
-        Cell::Int(number) => number,
-        Cell::Ptr(_) | Cell::Sealed(_) => 0,
     }
 }

@@ -9,10 +9,9 @@ ghost use Rattle.outlining.specs.Outlines.{IsOutlineOf};
 
 use crate::halves::push_halves;
 use crate::outlined::Outlined;
-use crate::room::room_for;
 use crate::starting::{push_policy, push_table};
 use fault_lines::front_lines;
-use flow_check::{flow_lines, judge};
+use flow_check::{flow_lines, judge, room_for};
 use flow_rules::{Accepted, FlowError};
 use front_end::read_program;
 use program_halves::halves;
@@ -31,7 +30,7 @@ use typed_tree::Typed;
 ///
 /// # Errors
 ///
-/// Want of memory; more than [`MOST_BYTES`](crate::MOST_BYTES) of outline are that too.
+/// Want of memory; more than [`MOST_BYTES`](flow_check::MOST_BYTES) of outline are that too.
 pub fn outline<R: Threads + Sync, W: Watch>(
     rt: &R,
     alloc: Global,

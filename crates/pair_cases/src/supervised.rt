@@ -23,6 +23,7 @@ use pt_base::{ByteSink, ScriptLink};
 use second_monitor::push_big;
 use std::alloc::{AllocError, Global};
 use std::thread::Threads;
+use wire::are_bytes;
 
 /// The longest piece of a boot.
 const PIECE: usize = 1_048_576;
@@ -129,13 +130,6 @@ pub fn seen_of<R: Threads + Sync>(
         Outcome::Begins(pair) => serve(alloc, pair, beside.turns, pieces, fails),
         Outcome::Refused(_) => bail!("the texts have faults"),
     }
-}
-
-// Bytes are below 256. Nothing is done.
-fn are_bytes(bytes: &[u8])
-    ensures { All (λ b. b < 256) bytes.now }
-{
-    let _bytes = bytes;
 }
 
 // What the monitor of a pair makes of the pieces.

@@ -27,7 +27,7 @@ use typed_tree::Typed;
 ///
 /// # Errors
 ///
-/// Want of memory; more than [`MOST_BYTES`](explaining::MOST_BYTES) of explanation are that too.
+/// Want of memory; more than [`MOST_BYTES`](flow_check::MOST_BYTES) of explanation are that too.
 pub fn explain_pair<R: Threads + Sync, W: Watch>(
     rt: &R,
     alloc: Global,

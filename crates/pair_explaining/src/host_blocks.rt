@@ -10,9 +10,9 @@ ghost use Rattle.pair_explaining.specs.HostBlocks as is;
 ghost use Rattle.pair_explaining.specs.PairSeen.{view_names};
 
 use crate::files::FileNames;
-use crate::room::room_for;
 use crate::sentences::push_host_sentence;
 use explaining::push_span_excerpt;
+use flow_check::room_for;
 use host_table::HostFault;
 use pt_base::FnId;
 use reach::function_at;

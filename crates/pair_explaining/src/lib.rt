@@ -7,7 +7,6 @@ mod files;
 mod host_blocks;
 mod laws;
 mod policy_blocks;
-mod room;
 mod sentences;
 
 pub use explanations::explain_pair;

@@ -2,7 +2,7 @@
 ghost use Rattle.std.specs.Prelude.{◌≡◌, ℕ, [], None, IfErr, IfSome, IsErrOf, OnErr, OnOk};
 ghost use Rattle.pt_base.specs.Faults.{HasCause};
 ghost use Rattle.wire.specs.declared.message.Message.TheVariants.{Reply};
-ghost use Rattle.wire.specs.Limits.{IsBytes, KeepsCounts, KeepsLimits};
+ghost use Rattle.wire.specs.Limits.{KeepsCounts, KeepsLimits};
 ghost use Rattle.monitor_interp.specs.Monitors.{IsMonitor};
 ghost use Rattle.pair_meaning.specs.Monitors as s;
 ghost use Rattle.pair_meaning.specs.Serving.{serve};
@@ -19,7 +19,7 @@ use crate::sending::send_reply;
 use monitor_interp::{Handled, Monitor};
 use pt_base::{End, Link, Sink, SinkFault};
 use std::alloc::Global;
-use wire::{Message, Reader, ReplyBody};
+use wire::{Message, Reader, ReplyBody, are_bytes};
 
 /// So many bytes are asked for at once.
 const MOST_AT_ONCE: usize = 65_536;
@@ -99,13 +99,6 @@ fn serve_message<L: Link, K: Sink>(
             offset,
         }),
     }
-}
-
-// Bytes are below 256. Nothing is done.
-fn are_bytes(bytes: &[u8])
-    ensures { IsBytes bytes.now }
-{
-    let _bytes = bytes;
 }
 
 // Asks for more bytes.

@@ -6,7 +6,7 @@ ghost use Rattle.host_table.specs.RunHosts.{models_of};
 ghost use Rattle.pt_core.specs.CodeTree.{numbered};
 ghost use Rattle.pair_meaning.specs.Start.{input_for, models_for, reads_input};
 
-use host_table::Host;
+use host_table::{Host, is_input};
 use pt_base::{Bytes, FnId, Listed};
 use pt_tree::{HostModel, Rows};
 use std::alloc::{AllocError, Global};
@@ -58,17 +58,5 @@ pub(crate) fn input_for(
 fn one_reads_input(models: &[(FnId, HostModel)]) -> bool
     ensures { result ≡ list_any (λ entry. reads_input entry.1) models.now }
 {
-    models.iter().any(|entry| reads_input(&entry.1))
-}
-
-fn reads_input(model: &HostModel) -> bool
-    ensures { result ≡ reads_input model.now }
-{
-    match model {
-        HostModel::Input { .. } => true,
-        HostModel::Table { .. }
-        | HostModel::Feed { .. }
-        | HostModel::Bytes
-        | HostModel::Line { .. } => false,
-    }
+    models.iter().any(|entry| is_input(&entry.1))
 }

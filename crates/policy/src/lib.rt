@@ -26,6 +26,8 @@ pub use error::{PolicyError, PolicyFault, PolicyFaultKind};
 pub use laws::{
     limits_hold, places_are_arguments, policy_or_fault, rules_are_one, verdicts_are_steps,
 };
+pub use line::{first_line, first_word, is_passed_over};
+pub use plain::is_plain;
 pub use policy::Policy;
 pub use read::read_policy;
 pub use rule::{PlainRange, Rule};

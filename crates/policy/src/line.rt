@@ -4,7 +4,7 @@ ghost use Rattle.std.specs.List.{prefix_len};
 ghost use Rattle.policy.specs.Lines.{lines_of, words_of, is_blank, is_passed_over};
 
 /// The first line of a text that isn't empty, and what follows its line feed.
-pub(crate) fn first_line(text: &[u8]) -> (&[u8], &[u8])
+pub fn first_line(text: &[u8]) -> (&[u8], &[u8])
     requires { 0 < length text.now }
     ensures lines { lines_of text.now ≡ result.0.now ∷ lines_of result.1.now }
     ensures shorter { length result.1.now < length text.now }
@@ -30,7 +30,7 @@ fn line_length(text: &[u8]) -> usize
 }
 
 /// Whether the line is empty or begins with `#`.
-pub(crate) fn is_passed_over(line: &[u8]) -> bool
+pub fn is_passed_over(line: &[u8]) -> bool
     ensures { result ≡ is_passed_over line.now }
 {
     match line {
@@ -40,7 +40,7 @@ pub(crate) fn is_passed_over(line: &[u8]) -> bool
 }
 
 /// The first word of a line and what follows it, if the line has a word.
-pub(crate) fn first_word(line: &[u8]) -> Option<(&[u8], &[u8])>
+pub fn first_word(line: &[u8]) -> Option<(&[u8], &[u8])>
     ensures words { MatchOption result (words_of line.now ≡ [])
         (λ p. words_of line.now ≡ p.0.now ∷ words_of p.1.now) }
     ensures shorter { IfSome result (λ p. length p.1.now < length line.now) }

@@ -10,7 +10,8 @@ use crate::rule::PlainRange;
 use pt_tree::{Param, ParamKind};
 use std::alloc::{AllocError, Global};
 
-fn is_plain(param: &Param) -> bool
+/// Whether a call gives a plain number for the parameter: it takes an integer, and isn't marked.
+pub fn is_plain(param: &Param) -> bool
     ensures { result ≡ is_plain param.now.kind param.now.marked }
 {
     match param.kind {

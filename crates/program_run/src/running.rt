@@ -4,8 +4,6 @@ ghost use Rattle.host_table.specs.Hosts.{hosts_of};
 ghost use Rattle.host_table.specs.RunHosts.{models_of};
 ghost use Rattle.source_meaning.specs.WholeRun.{whole_run};
 ghost use Rattle.typed_tree.specs.TypedView.{view_typed};
-ghost use Rattle.pt_core.specs.CoreRun.{status_of};
-ghost use Rattle.pt_core.specs.Values.{number_in};
 ghost use Rattle.core_machine.specs.States.{answer_of};
 ghost use Rattle.core_steps_law.specs.WholeRun as steps;
 ghost use Rattle.program_run.specs.HostGates.{AreOf};
@@ -13,15 +11,14 @@ ghost use Rattle.program_run.specs.RunTold.{IsOfARun, Tells};
 
 use crate::host_gate::HostGate;
 use crate::lowered::{lowered, main_of};
-use block_memory::Cell;
 use c_lower_law::lowering_keeps_the_run;
 use core_machine::{Machine, Stepped};
 use core_steps_law::{silent_runs_agree, steps_are_the_run};
 use gates_agree_law::bytes_are_the_runs;
 use host_table::Host;
 use lowered_forms_law::lowered_programs_are_well_formed;
-use pt_base::{End, IntType, Watch};
-use pt_int::convert;
+use pt_base::{End, Watch};
+use pt_core::status;
 use std::alloc::{AllocError, Global};
 use std::thread::Threads;
 use typed_tree::Typed;
@@ -83,25 +80,5 @@ fn end_of(stepped: &Stepped) -> Result<End, AllocError>
         Stepped::Spent => Ok(End::Spent),
         Stepped::Moved => Err(AllocError),
         Stepped::Asked { .. } | Stepped::Idle => unreachable!(),
-    }
-}
-
-// the number that a cell stands for: 0 for a pointer or a handle
-fn number(cell: Cell) -> i128
-    ensures { result ≡ number_in cell }
-{
-    match cell {
-        Cell::Int(number) => number,
-        Cell::Ptr(_) | Cell::Sealed(_) => 0,
-    }
-}
-
-// what main gives, as an int
-fn status(value: Option<Cell>) -> i32
-    ensures { result ≡ status_of value }
-{
-    match value {
-        Some(cell) => convert(number(cell), IntType::Int) as i32,
-        None => 0,
     }
 }

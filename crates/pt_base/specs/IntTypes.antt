@@ -1,8 +1,24 @@
 -- The integer types: their ranges (C99 6.2.5, 5.2.4.2.1 for this project's widths), the promoted
 -- type (C99 6.3.1.1p2) and the type of the usual arithmetic conversions (C99 6.3.1.8).
-use Rattle.std.specs.Prelude.{ℕ, ℤ, pos, negsuc, ◌≤ℤ◌, Bool, true, false, if◌then◌else◌, nat_lt}
+use Rattle.std.specs.Prelude.{ℕ, ℤ, pos, negsuc, ◌≤ℤ◌, Bool, true, false, if◌then◌else◌, nat_eq, nat_lt}
 use Rattle.pt_base.specs.declared.int_type.IntType.{IntType}
 use Rattle.pt_base.specs.declared.int_type.IntType.TheVariants.{Char, SChar, UChar, Short, UShort, Int, UInt, Long, ULong}
+
+-- the place of a type in the list of the integer types
+abbrev pub place_of : IntType → ℕ
+place_of Char = 0
+place_of SChar = 1
+place_of UChar = 2
+place_of Short = 3
+place_of UShort = 4
+place_of Int = 5
+place_of UInt = 6
+place_of Long = 7
+place_of ULong = 8
+
+-- both are one type; char is neither signed char nor unsigned char (C99 6.2.5p15)
+abbrev pub same_int : IntType → IntType → Bool
+same_int a b = nat_eq (place_of a) (place_of b)
 
 -- how many bits a number of the type has
 abbrev pub width_of : IntType → ℕ

@@ -14,6 +14,8 @@ mod place;
 mod program;
 mod slave;
 mod statement;
+mod types;
+mod values;
 
 pub use boot::Boot;
 pub use expression::Expr;
@@ -25,3 +27,5 @@ pub use place::{Place, Root};
 pub use program::{CoreProgram, Signatures};
 pub use slave::SlaveProgram;
 pub use statement::Stmt;
+pub use types::{element_of, pointee_type};
+pub use values::{number, status};

@@ -9,10 +9,9 @@ ghost use Rattle.reach.specs.Contexts.{expr_callees, test_function};
 ghost use Rattle.reach.specs.Reached.{IsReached};
 
 use crate::functions::{is_privileged, stays};
-use crate::numbers::{next_number, sum};
 use crate::tables::add_if;
 use propagation::{Marks, propagate};
-use pt_base::{Edge, FnId, Slot, Span};
+use pt_base::{Edge, FnId, Slot, Span, next_number, sum};
 use std::alloc::{AllocError, Global};
 use typed_tree::{Form, Typed, TypedExpr};
 use usages::usages_in;

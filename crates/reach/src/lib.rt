@@ -3,7 +3,6 @@
 
 mod calls;
 mod functions;
-mod numbers;
 mod owned;
 mod tables;
 

@@ -2,8 +2,7 @@
 ghost use Rattle.std.specs.Prelude.{◌≡◌, ◌++◌, true, IfOk, OnOk, slice_set};
 ghost use Rattle.reach.specs.Tables.{places_true, item_if, function_ids, global_ids, slot_numbers};
 
-use crate::numbers::{next_number, sum};
-use pt_base::{FnId, GlobalId, Slot};
+use pt_base::{FnId, GlobalId, Slot, next_number, sum};
 use std::alloc::{AllocError, Global};
 
 /// Adds a number to a set; one past its end isn't added.

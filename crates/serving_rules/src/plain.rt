@@ -3,7 +3,8 @@ ghost use Rattle.std.specs.Prelude.{◌≡◌, ◌∷◌, ◌++◌, ℤ, List, I
 ghost use Rattle.pt_tree.specs.PlainNumbers.{is_plain, plain_numbers};
 ghost use Rattle.pair_meaning.specs.Rules.{number_in_argument, plain_of};
 
-use pt_tree::{Param, ParamKind, Signature};
+use policy::is_plain;
+use pt_tree::{Param, Signature};
 use std::alloc::{AllocError, Global};
 use wire::{Arg, CallBody};
 
@@ -41,15 +42,6 @@ fn add(plain: &mut Vec<i128>, param: &Param, arg: Arg) -> Result<(), AllocError>
         plain.push(number_in(arg))?;
     }
     Ok(())
-}
-
-fn is_plain(param: &Param) -> bool
-    ensures { result ≡ is_plain param.now.kind param.now.marked }
-{
-    match param.kind {
-        ParamKind::Int(_) => !param.marked,
-        ParamKind::Ptr { .. } => false,
-    }
 }
 
 // 0 for what is no number.

@@ -6,13 +6,12 @@ ghost use Rattle.sides.specs.Carried as is;
 ghost use Rattle.sides.specs.Moved.{moved, link_moved, links_moved};
 ghost use Rattle.sides.specs.ScopeView.{view_scope};
 
-use crate::numbers::sum;
 use crate::objects::Object;
 use crate::scope::Scope;
-use crate::types::{assigned, field, is_pointer, item, pointee};
-use pt_base::FnId;
+use crate::types::{assigned, field, item, pointee};
+use pt_base::{FnId, sum};
 use std::alloc::{AllocError, Global};
-use typed_tree::{Form, LinkStep, Place, PlaceStep, Root, TypedExpr, TypedLink, VarTy};
+use typed_tree::{Form, LinkStep, Place, PlaceStep, Root, TypedExpr, TypedLink, VarTy, is_pointer};
 use usages::keeps_value;
 
 // the type of an object, where there is one

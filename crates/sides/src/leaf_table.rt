@@ -4,8 +4,7 @@ ghost use Rattle.typed_tree.specs.Sizes.{cells_by, elem_cells, fields_cells, siz
 ghost use Rattle.sides.specs.Leaves.{field_starts};
 ghost use Rattle.sides.specs.LeafTables as is;
 
-use crate::numbers::{product, sum};
-use pt_base::Listed;
+use pt_base::{Listed, product, sum};
 use pt_tree::Elem;
 use std::alloc::{AllocError, Global};
 use typed_tree::{Field, StructInfo, VarTy};

@@ -1,17 +1,15 @@
 // The slots of an object, leaf by leaf.
 ghost use Rattle.std.specs.Prelude.{◌≡◌, ◌++◌, ◌||◌, [], ◌∷◌, IfOk, OnOk, map};
-ghost use Rattle.typed_tree.specs.Sizes.{fields_of};
 ghost use Rattle.sides.specs.Leaves.{leaves_of, whole};
 ghost use Rattle.sides.specs.LeafTables.{leaves_below, slot_behind, named_leaves, named_struct};
 ghost use Rattle.sides.specs.Slots.{slot_of};
 
-use crate::numbers::next_number;
 use crate::path::Path;
 use crate::slots::{Owner, SlotInfo};
-use pt_base::FnId;
+use pt_base::{FnId, next_number};
 use pt_tree::Elem;
 use std::alloc::{AllocError, Global};
-use typed_tree::{Field, StructInfo, VarTy};
+use typed_tree::{Field, StructInfo, VarTy, fields_of};
 
 // the struct whose leaves an element has
 fn struct_of_elem(elem: Elem) -> Option<u32>
@@ -24,7 +22,7 @@ fn struct_of_elem(elem: Elem) -> Option<u32>
 }
 
 /// The struct whose leaves an object has, None where it has one.
-pub(crate) fn struct_of(ty: VarTy) -> Option<u32>
+pub fn struct_of(ty: VarTy) -> Option<u32>
     ensures { result ≡ named_struct ty }
 {
     match ty {
@@ -32,16 +30,6 @@ pub(crate) fn struct_of(ty: VarTy) -> Option<u32>
         VarTy::Struct(n) => Some(n),
         VarTy::Array { elem, .. } => struct_of_elem(elem),
         VarTy::Pointer { elem, .. } => struct_of_elem(elem),
-    }
-}
-
-// the fields of a struct, none where there is none of this number
-fn fields_of(structs: &[StructInfo], structure: u32) -> &[Field]
-    ensures { result.now ≡ fields_of structs.now structure }
-{
-    match structs.get(structure as usize) {
-        Some(info) => info.fields.as_slice(),
-        None => &[],
     }
 }
 

@@ -64,8 +64,8 @@ fn owner_marked(t: &Typed, owner: Owner) -> bool
     }
 }
 
-// whether the number is in a set
-fn is_in(table: &[bool], number: u32) -> bool
+/// Whether the number is in a set.
+pub fn is_in(table: &[bool], number: u32) -> bool
     ensures { result ≡ get_or table.now number false }
 {
     match table.get(number as usize) {

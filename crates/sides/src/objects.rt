@@ -8,11 +8,10 @@ ghost use Rattle.sides.specs.Patterns.{ArePatterns};
 ghost use Rattle.sides.specs.Slots.{slot_of, globals_slots, variables_slots, functions_slots, results_slots};
 
 use crate::leaves::add_leaves;
-use crate::numbers::next_number;
 use crate::path::Path;
 use crate::patterns::{add_alike, pattern_at};
 use crate::slots::{Owner, SlotInfo};
-use pt_base::{FnId, GlobalId, Listed, VarId};
+use pt_base::{FnId, GlobalId, Listed, VarId, next_number};
 use std::alloc::{AllocError, Global};
 use typed_tree::{StructInfo, TypedFn, TypedGlobal, Var, VarTy};
 

@@ -10,10 +10,9 @@ ghost use Rattle.sides.specs.Seeds as is;
 ghost use Rattle.reach.specs.Tables.{set_all};
 
 use crate::layout::Layout;
-use crate::numbers::sum;
 use crate::slots::SlotInfo;
 use indexmap::IndexSet;
-use pt_base::FnId;
+use pt_base::{FnId, sum};
 use pt_tree::ParamKind;
 use reach::{function_at, set_true};
 use std::alloc::AllocError;
@@ -30,8 +29,8 @@ pub struct Out {
     pub all: bool,
 }
 
-// whether a function gives something back through a parameter that takes this
-fn is_out(kind: ParamKind) -> bool
+/// Whether a function gives something back through a parameter that takes this.
+pub fn is_out(kind: ParamKind) -> bool
     ensures { result ≡ is.is_out kind }
 {
     match kind {

@@ -5,10 +5,9 @@ ghost use Rattle.sides.specs.Patterns.{ArePatterns, IsPattern, pattern_of, with_
 
 use crate::leaf_table::LeafTable;
 use crate::leaves::{add_leaves, struct_of};
-use crate::numbers::next_number;
 use crate::room::room_for_paths;
 use crate::slots::{Owner, SlotInfo};
-use pt_base::{FnId, Listed};
+use pt_base::{FnId, Listed, next_number};
 use reach::set_true;
 use std::alloc::{AllocError, Global};
 use typed_tree::{StructInfo, Typed, VarTy};

@@ -8,7 +8,7 @@ ghost use Rattle.typed_tree.specs.TypedView.{view_typed};
 
 use crate::leaf_table::LeafTable;
 use crate::leaves::struct_of;
-use crate::numbers::sum;
+use pt_base::sum;
 use std::alloc::{AllocError, Global};
 use typed_tree::{Field, StructInfo, Typed, TypedFn, TypedGlobal, Var};
 

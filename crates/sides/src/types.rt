@@ -1,31 +1,10 @@
 // What the types of expressions and parts of objects are.
-ghost use Rattle.std.specs.Prelude.{◌≡◌, Some, is_some, option_map};
+ghost use Rattle.std.specs.Prelude.{◌≡◌, Some, option_map};
 ghost use Rattle.typed_tree.specs.ExpressionTree.{view_expr, view_form};
 ghost use Rattle.typed_tree.specs.TypeTests as tests;
 ghost use Rattle.typed_tree.specs.WellFormedExpression as typed;
 
-use pt_tree::Elem;
-use typed_tree::{Form, StructInfo, TypedExpr, VarTy};
-
-/// Whether this is the type of a pointer.
-pub(crate) fn is_pointer(ty: Option<VarTy>) -> bool
-    ensures { result ≡ is_some (tests.pointee_of ty) }
-{
-    match ty {
-        Some(VarTy::Pointer { .. }) => true,
-        Some(VarTy::Int(_)) | Some(VarTy::Struct(_)) | Some(VarTy::Array { .. }) | None => false,
-    }
-}
-
-// an element as an object
-fn type_of_elem(elem: Elem) -> VarTy
-    ensures { result ≡ tests.type_of_elem elem }
-{
-    match elem {
-        Elem::Int(t) => VarTy::Int(t),
-        Elem::Struct(n) => VarTy::Struct(n),
-    }
-}
+use typed_tree::{Form, StructInfo, TypedExpr, VarTy, is_struct, type_of_elem};
 
 /// What a pointer points to, as an object.
 pub(crate) fn pointee(ty: Option<VarTy>) -> Option<VarTy>
@@ -72,17 +51,6 @@ fn is_assign(form: &Form) -> bool
     ensures { result ≡ typed.is_assign (view_form form.now) }
 {
     matches!(form, Form::Assign(_, _))
-}
-
-// whether this is the type of a struct
-fn is_struct(ty: Option<VarTy>) -> bool
-    ensures { result ≡ typed.is_struct ty }
-{
-    match ty {
-        Some(VarTy::Struct(_)) => true,
-        Some(VarTy::Int(_)) | Some(VarTy::Array { .. }) | Some(VarTy::Pointer { .. }) | None =>
-            false,
-    }
 }
 
 /// The type of an assignment of structs, None of any other expression.

@@ -1,6 +1,5 @@
 // The parts with which a slave begins.
-ghost use Rattle.std.specs.Prelude.{◌≡◌, ◌++◌, IfOk, IsTrue, All, ◌<◌, ◌^◌, codes, false, map};
-ghost use Rattle.std.specs.Str.{bytes_eq};
+ghost use Rattle.std.specs.Prelude.{◌≡◌, ◌++◌, IfOk, IsTrue, All, ◌<◌, ◌^◌, false, map};
 ghost use Rattle.typed_tree.specs.WellFormed.{are_rising};
 ghost use Rattle.host_table.specs.Hosts.{hosts_of, models_by};
 ghost use Rattle.pt_core.specs.CodeTree.{numbered, view_boot, view_program};
@@ -16,6 +15,7 @@ use pt_core::{Boot, CoreProgram};
 use pt_tree::{HostModel, Signature};
 use std::alloc::{AllocError, Global};
 use std::mem;
+use typed_tree::is_main;
 
 /// The program of a boot.
 pub(crate) fn program_of(alloc: Global, boot: Boot) -> CoreProgram
@@ -50,12 +50,6 @@ fn main_of(signatures: &[(FnId, Signature)]) -> FnId
         }
     }
     FnId(0)
-}
-
-fn is_main(signature: &Signature) -> bool
-    ensures { result ≡ bytes_eq signature.now.name (codes "main") }
-{
-    signature.name.as_slice() == b"main".as_slice()
 }
 
 /// Hosts with these models and this input.

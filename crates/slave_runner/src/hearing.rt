@@ -1,7 +1,6 @@
 // What the peer says: the frame at the front of the reader, and more bytes.
 ghost use Rattle.std.specs.Prelude.{◌≡◌, ◌≢◌, None, IfErr, OnOk};
 ghost use Rattle.pt_base.specs.Faults.{HasCause};
-ghost use Rattle.wire.specs.Limits.{IsBytes};
 ghost use Rattle.pair_runner.specs.Sending.{Parts, Talks};
 ghost use Rattle.slave_runner.specs.Faults.{FirstFault};
 ghost use Rattle.slave_runner.specs.Fronts.{Fed, IsFront, Unfed};
@@ -10,7 +9,7 @@ ghost use Rattle.slave_runner.specs.Turns.{IsShort};
 use crate::fault::WorkFault;
 use pt_base::Link;
 use std::alloc::Global;
-use wire::{Message, Reader, WireError};
+use wire::{Message, Reader, WireError, are_bytes};
 
 /// So many bytes are asked for at once.
 const MOST_AT_ONCE: usize = 65_536;
@@ -38,13 +37,6 @@ pub(crate) fn next_frame(alloc: Global, reader: &mut Reader) -> Result<Front, Wo
         Err(WireError::TooLong(offset)) => Err(WorkFault::BadPeer { rule: 2, offset }),
         Err(WireError::Memory) => Err(WorkFault::Memory),
     }
-}
-
-// Bytes are below 256. Nothing is done.
-fn are_bytes(bytes: &[u8])
-    ensures { IsBytes bytes.now }
-{
-    let _bytes = bytes;
 }
 
 /// Asks for more bytes.

@@ -7,8 +7,7 @@ ghost use Rattle.splitter.specs.Halves.{chosen_globals};
 ghost use Rattle.splitter.specs.Sets.{global_numbers, is_set, numbered_global};
 
 use crate::number_set::NumberSet;
-use crate::numbers::next_number;
-use pt_base::{GlobalId, Listed};
+use pt_base::{GlobalId, Listed, next_number};
 use pt_core::GlobalVar;
 use std::alloc::{AllocError, Global};
 use typed_tree::{Typed, TypedGlobal};

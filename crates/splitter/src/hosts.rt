@@ -6,9 +6,8 @@ ghost use Rattle.splitter.specs.Halves as is;
 ghost use Rattle.splitter.specs.Sets.{function_numbers, is_set};
 
 use crate::number_set::NumberSet;
-use crate::numbers::next_number;
 use host_models::is_mixed;
-use pt_base::{FnId, Listed};
+use pt_base::{FnId, Listed, next_number};
 use pt_core::Entry;
 use pt_tree::Signature;
 use std::alloc::{AllocError, Global};

@@ -8,7 +8,6 @@ mod globals;
 mod halves;
 mod hosts;
 mod number_set;
-mod numbers;
 mod signatures;
 mod structs;
 

@@ -7,8 +7,7 @@ ghost use Rattle.splitter.specs.Halves.{chosen_signatures};
 ghost use Rattle.splitter.specs.Sets.{is_set};
 
 use crate::number_set::NumberSet;
-use crate::numbers::next_number;
-use pt_base::{FnId, Listed};
+use pt_base::{FnId, Listed, next_number};
 use pt_core::Signatures;
 use pt_tree::Signature;
 use std::alloc::{AllocError, Global};

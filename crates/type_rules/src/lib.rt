@@ -17,5 +17,5 @@ pub use laws::{
     unary_rules_answer,
 };
 pub use operators::{Rule, binary_rule, index_rule, rule_type};
-pub use types::{Type, Value, elem_type, value_type};
+pub use types::{Type, Value, elem_type, is_same_elem, is_same_int, value_type};
 pub use unary::{UnaryRule, deref_rule, not_rule, promoted_rule, step_rule};

@@ -78,7 +78,7 @@ pub fn elem_type(elem: Elem) -> Type
 }
 
 /// Whether both are one type. `char` is neither `signed char` nor `unsigned char` (C99 6.2.5p15).
-pub(crate) fn is_same_elem(a: Elem, b: Elem) -> bool
+pub fn is_same_elem(a: Elem, b: Elem) -> bool
     ensures { result ≡ is.is_same_elem a b }
 {
     match (a, b) {
@@ -89,7 +89,7 @@ pub(crate) fn is_same_elem(a: Elem, b: Elem) -> bool
 }
 
 /// Whether both are one type.
-fn is_same_int(a: IntType, b: IntType) -> bool
+pub fn is_same_int(a: IntType, b: IntType) -> bool
     ensures { result ≡ is.is_same_int a b }
 {
     a == b

@@ -1,6 +1,5 @@
 pub mod Cells
 pub mod ExpressionTree
-pub mod HostProgram
 pub mod Lookup
 pub mod Nodes
 pub mod Parts

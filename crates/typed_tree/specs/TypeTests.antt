@@ -1,26 +1,11 @@
 -- Tests of types: which are equal, and of which kind one is. None is void.
-use Rattle.std.specs.Prelude.{ℕ, Bool, true, false, ◌&&◌, not, Option, Some, None, nat_eq}
+use Rattle.std.specs.Prelude.{Bool, true, false, ◌&&◌, not, Option, Some, None, nat_eq}
 use Rattle.pt_base.specs.declared.int_type.IntType.{IntType}
-use Rattle.pt_base.specs.declared.int_type.IntType.TheVariants as t
+pub use Rattle.pt_base.specs.IntTypes.{place_of, same_int}
 use Rattle.pt_tree.specs.declared.signature.Elem.{Elem}
 use Rattle.pt_tree.specs.declared.signature.Elem.TheVariants as e
 use Rattle.typed_tree.specs.declared.types.VarTy.{VarTy}
 use Rattle.typed_tree.specs.declared.types.VarTy.TheVariants.{Int, Struct, Array, Pointer}
-
--- the place of a type in the list of the integer types
-abbrev pub place_of : IntType → ℕ
-place_of t.Char = 0
-place_of t.SChar = 1
-place_of t.UChar = 2
-place_of t.Short = 3
-place_of t.UShort = 4
-place_of t.Int = 5
-place_of t.UInt = 6
-place_of t.Long = 7
-place_of t.ULong = 8
-
-abbrev pub same_int : IntType → IntType → Bool
-same_int a b = nat_eq (place_of a) (place_of b)
 
 abbrev pub same_bool : Bool → Bool → Bool
 same_bool true b = b

@@ -3,12 +3,12 @@
 
 mod expression;
 mod function;
-mod host_program;
 mod ids;
 mod link;
 mod part;
 mod place;
 mod statement;
+mod type_tests;
 mod typed;
 mod types;
 mod variable;
@@ -23,6 +23,9 @@ pub use place::{Place, PlaceStep, Root};
 pub use statement::{
     Items, TypedBody, TypedDeclaration, TypedDeclarator, TypedForInit, TypedInit, TypedLabel,
     TypedSection,
+};
+pub use type_tests::{
+    fields_of, is_main, is_pointer, is_struct, param_type, same_elem, same_type, type_of_elem,
 };
 pub use typed::Typed;
 pub use types::{Field, Fields, StructInfo, VarTy};

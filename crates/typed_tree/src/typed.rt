@@ -5,7 +5,6 @@ ghost use Rattle.typed_tree.specs.WellFormed.{is_well_formed};
 
 use crate::expression::TypedExpr;
 use crate::function::TypedFn;
-use crate::host_program::{host_functions, idle_main, may_be_hosts, zero};
 use crate::ids::ExprId;
 use crate::part::Part;
 use crate::types::StructInfo;
@@ -28,14 +27,13 @@ pub struct Typed {
 }
 
 impl Typed {
-    ghost use Rattle.std.specs.Prelude.{◌≡◌, ◌<◌, ◌↔◌, Some, IfOk, IfSome, IsSome, IsTrue, All, length, slice_get};
+    ghost use Rattle.std.specs.Prelude.{◌≡◌, ◌<◌, ◌↔◌, Some, IfOk, IsTrue, All, length, slice_get};
     ghost use Rattle.std.specs.Option.{option_copied};
     ghost use Rattle.pt_base.specs.declared.ids.FnId.{FnId};
     ghost use Rattle.typed_tree.specs.ExpressionTree.{view_expr};
     ghost use Rattle.typed_tree.specs.TypedTree.{tree_of};
     ghost use Rattle.typed_tree.specs.TypedView.{view_typed};
     ghost use Rattle.typed_tree.specs.WellFormed.{is_well_formed};
-    ghost use Rattle.typed_tree.specs.HostProgram.{are_hosts, host_program};
     ghost use Rattle.typed_tree.specs.Lookup.{signature_of, function_named, HasName, parts_in};
 
     /// The program of these parts, which are well formed together.
@@ -54,25 +52,6 @@ impl Typed {
             functions,
             exprs,
         }
-    }
-
-    /// The program that declares these hosts, and whose main returns 0. None exactly where they
-    /// aren't hosts that take at most 8 integers, with distinct names of at most 1 MiB other than
-    /// `main`, or where there are 2^20 or more.
-    pub fn of_hosts(alloc: Global, hosts: Vec<Signature>) -> Result<Option<Typed>, AllocError>
-        ensures exactly { IfOk result (λ o. IsSome o ↔ IsTrue (are_hosts hosts.items)) }
-        ensures program { IfOk result (λ o. IfSome o (λ t. view_typed t ≡ host_program hosts.items)) }
-    {
-        if !may_be_hosts(&hosts) {
-            return Ok(None);
-        }
-        let mut functions = host_functions(alloc, &hosts)?;
-        functions.push(idle_main(alloc)?)?;
-        let mut exprs = Vec::new(alloc);
-        exprs.push(zero())?;
-        let structs = Listed::new(Vec::new(alloc));
-        let globals = Listed::new(Vec::new(alloc));
-        Ok(Some(Typed::new(structs, globals, functions, exprs)))
     }
 
     /// What the function of this number is called with; None where no function has it.

@@ -6,6 +6,7 @@
 //! (`Reader`, `one_answer`, `any_cutting`).
 #![tactic(auto)]
 
+mod bytes;
 mod cell;
 mod fault;
 mod laws;
@@ -16,6 +17,7 @@ mod reader;
 mod reading;
 mod writing;
 
+pub use bytes::are_bytes;
 pub use cell::{Arg, WireCell};
 pub use fault::{FrameFault, WireError};
 pub use laws::{
@@ -25,4 +27,6 @@ pub use laws::{
 pub use lists::{Args, Block, Blocks, Cells};
 pub use message::{CallBody, Message, ReplyBody};
 pub use reader::Reader;
-pub use writing::write_message;
+pub use writing::{
+    put_byte, put_bytes, put_i128, put_u32, put_u64, type_number, write_message,
+};

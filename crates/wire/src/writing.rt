@@ -1,4 +1,5 @@
-// Writing messages.
+// Writing messages, and the numbers that they are made of: a `put_` function appends a value, and fails where memory
+// ran out.
 ghost use Rattle.std.specs.Prelude.{◌≡◌, ◌++◌, ◌<◌, ◌^◌, ◌≤◌, ◌∷◌, [], length, FitsSigned, OnOk, OnErr, IfSome};
 ghost use Rattle.std.specs.Int.{w32, w128};
 ghost use Rattle.std.specs.List.{flat_map, AllByRecursion};
@@ -14,7 +15,8 @@ use std::alloc::{AllocError, Global};
 // Most messages have fewer bytes, so that their bytes are moved to larger room seldom.
 const ROOM: usize = 1024;
 
-fn type_number(ty: IntType) -> u8
+/// The place of the type among the integer types.
+pub fn type_number(ty: IntType) -> u8
     ensures { result ≡ type_byte ty }
 {
     match ty {
@@ -46,29 +48,33 @@ fn kind_number(kind: Trap) -> u8
     }
 }
 
-fn put_byte(out: &mut Vec<u8>, byte: u8) -> Result<(), AllocError>
+/// Appends the byte.
+pub fn put_byte(out: &mut Vec<u8>, byte: u8) -> Result<(), AllocError>
     ensures { OnOk result (out.new.items ≡ out.old.items ++ byte ∷ []) }
 {
     out.push(byte)?;
     Ok(())
 }
 
-fn put_bytes(out: &mut Vec<u8>, bytes: &[u8]) -> Result<(), AllocError>
+/// Appends the bytes.
+pub fn put_bytes(out: &mut Vec<u8>, bytes: &[u8]) -> Result<(), AllocError>
     ensures bytes { OnOk result (out.new.items ≡ out.old.items ++ bytes.now) }
     ensures fits { IsBytes bytes.now }
 {
     out.extend_from_slice(bytes)
 }
 
+/// Appends the number in four bytes, the highest first.
 #[tactic(auto, unfolding(crate::specs::Spelling::four_bytes))]
-fn put_u32(out: &mut Vec<u8>, number: u32) -> Result<(), AllocError>
+pub fn put_u32(out: &mut Vec<u8>, number: u32) -> Result<(), AllocError>
     ensures { OnOk result (out.new.items ≡ out.old.items ++ four_bytes number) }
 {
     out.extend_from_slice(&number.to_be_bytes())
 }
 
+/// Appends the number in eight bytes, the highest first.
 #[tactic(auto, unfolding(crate::specs::Spelling::eight_bytes))]
-fn put_u64(out: &mut Vec<u8>, number: u64) -> Result<(), AllocError>
+pub fn put_u64(out: &mut Vec<u8>, number: u64) -> Result<(), AllocError>
     ensures { OnOk result (out.new.items ≡ out.old.items ++ eight_bytes number) }
 {
     out.extend_from_slice(&number.to_be_bytes())
@@ -82,8 +88,9 @@ fn put_i32(out: &mut Vec<u8>, number: &i32) -> Result<(), AllocError>
     out.extend_from_slice(&number.cast_unsigned().to_be_bytes())
 }
 
+/// Appends the number in sixteen bytes of two's complement, the highest first.
 #[tactic(auto, unfolding(crate::specs::Spelling::sixteen_signed_bytes))]
-fn put_i128(out: &mut Vec<u8>, number: &i128) -> Result<(), AllocError>
+pub fn put_i128(out: &mut Vec<u8>, number: &i128) -> Result<(), AllocError>
     ensures bytes { OnOk result (out.new.items ≡ out.old.items ++ sixteen_signed_bytes number.now) }
     ensures fits { FitsSigned w128 number.now }
 {

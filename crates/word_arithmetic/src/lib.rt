@@ -10,6 +10,6 @@ mod unsigned;
 mod words;
 
 pub use laws::{converts_by_bits, zero_as_word};
-pub use operators::{int_operator, long_operator, operator, uint_operator, ulong_operator};
+pub use operators::{int_operator, long_operator, uint_operator, ulong_operator};
 pub use prefixes::prefix;
 pub use words::{converted, number, word};

@@ -4,11 +4,12 @@ ghost use Rattle.pair_texts.specs.OutcomeSeen.{texts_with};
 ghost use Rattle.pair_running.specs.LocalPairOutcomeSeen.{IsOutcome, IsWholeRun};
 
 use crate::local_pair::outcome::Outcome;
-use crate::local_pair::running::{are_bytes, run};
+use crate::local_pair::running::run;
 use pair_texts::Beside;
 use pt_base::{Chooser, Watch};
 use std::alloc::{AllocError, Global};
 use std::thread::Threads;
+use wire::are_bytes;
 
 /// What a program comes to with these texts beside it: what is expected of it, written and ended by both its halves together, or the
 /// lines of the first stage's faults that has one. Between the halves at most `window` messages wait, at least 1. The chooser decides

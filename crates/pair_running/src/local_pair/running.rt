@@ -3,7 +3,6 @@ ghost use Rattle.std.specs.Prelude.{◌≡◌, ◌<◌, ◌≤◌, All, IfOk, Is
 ghost use Rattle.host_models.specs.Fitting.{fits};
 ghost use Rattle.host_table.specs.Hosts.{hosts_of};
 ghost use Rattle.host_table.specs.RunHosts.{models_of};
-ghost use Rattle.wire.specs.Limits.{IsBytes};
 ghost use Rattle.pair_meaning.specs.Monitors as m;
 ghost use Rattle.pair_meaning.specs.SlaveRun as s;
 ghost use Rattle.pair_runner.specs.declared.fault.RunFault.TheVariants.{Memory};
@@ -30,6 +29,7 @@ use pair_texts::Pair;
 use pt_base::{Bytes, Chooser, End, Listed};
 use slave_interp::Slave;
 use std::alloc::{AllocError, Global};
+use wire::are_bytes;
 
 /// Both halves where they begin, the bytes of the slave's boot, and the names of the program's functions.
 #[derive(Drop)]
@@ -57,13 +57,6 @@ fn begin(alloc: Global, pair: Pair, turns: u32) -> Result<Begun, AllocError>
         monitor,
         names: pair.names,
     })
-}
-
-// Bytes are below 256. Nothing is done.
-pub(crate) fn are_bytes(bytes: &[u8])
-    ensures { IsBytes bytes.now }
-{
-    let _bytes = bytes;
 }
 
 // Why a run broke off that nothing else breaks off.

@@ -13,7 +13,6 @@ ghost use Rattle.pt_base.specs.Faults.{HasCause};
 ghost use Rattle.pt_core.specs.CodeTree.{view_monitor};
 ghost use Rattle.pt_core.specs.WellFormed.{is_well_formed_monitor};
 ghost use Rattle.std.specs.Io.KnownBytes.{Appends};
-ghost use Rattle.wire.specs.Limits.{IsBytes};
 ghost use Rattle.honest_link.specs.Came.{Came};
 ghost use Rattle.pair_running.specs.SpawnedPairOutcomeSeen.{IsExpectedOver, IsHonestFor, IsServed};
 ghost use Rattle.pair_running.specs.SpawnedPairRunning.{BeginsAs};
@@ -56,13 +55,6 @@ fn begin(alloc: Global, pair: Pair, turns: u32) -> Result<Begun, AllocError>
         monitor,
         names: pair.names,
     })
-}
-
-// Bytes are below 256. Nothing is done.
-pub(crate) fn are_bytes(bytes: &[u8])
-    ensures { IsBytes bytes.now }
-{
-    let _bytes = bytes;
 }
 
 // Starts the peer and supervises it.

@@ -9,13 +9,14 @@ ghost use Rattle.pair_running.specs.SpawnedPairOutcomeSeen.{IsExpectedOver, IsHo
 ghost use Rattle.pair_running.specs.SpawnedPairSupervised.{AreUntouched};
 
 use crate::spawned_pair::outcome::Outcome;
-use crate::spawned_pair::running::{are_bytes, run};
+use crate::spawned_pair::running::run;
 use honest_link::Witnessed;
 use pair_runner::RunFault;
 use pair_texts::Beside;
 use pt_base::{Sink, Watch};
 use std::alloc::Global;
 use std::thread::Threads;
+use wire::are_bytes;
 
 /// What a program comes to with these texts beside it: the lines of the first stage's faults that has one, or how its monitor ends, which
 /// serves a peer that is started and sent the boot. What is written goes to `out` as it comes. Where the peer is honest, what is written and

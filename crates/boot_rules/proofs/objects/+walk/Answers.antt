@@ -22,7 +22,7 @@ pub past_object-returns-in-Array : goal.past_object-returns-in-Array
 past_object-returns-in-Array t c =
     let structs = c.args.candidate.now.boot.now.structs in
     c.past_items.ensures
-    ∙ ap (λ item. past (repeated c.in-Array.count (leaves_of structs item)) c.args.cells.now) c.type_of.ensures
+    ∙ ap (λ item. past (repeated c.in-Array.count (leaves_of structs item)) c.args.cells.now) c.type_of_elem.ensures
     ∙ ap (λ ts. past ts c.args.cells.now) (sym (leaves_of_array structs c.in-Array.elem c.in-Array.count) ∙ ap (leaves_of structs) (sym c.in-Array.is))
 
 pub past_fields-loop-field-init : goal.past_fields-loop-field-init

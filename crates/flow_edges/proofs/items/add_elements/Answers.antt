@@ -8,4 +8,4 @@ returns-then-count-eq0 c = λ structs zs long. no_elements structs c.args.parts.
 
 pub returns : goal.returns
 returns c = λ structs zs long.
-    elements_left structs _ _ _ zs c.args.elem _ c.args.count c.args.start c.args.depth c.args.from c.object_of.ensures (grind arith) long c.in_ok-push.ensures.items c.in_ok-push-2.ensures.items
+    elements_left structs _ _ _ zs c.args.elem _ c.args.count c.args.start c.args.depth c.args.from c.type_of_elem.ensures (grind arith) long c.in_ok-push.ensures.items c.in_ok-push-2.ensures.items
