@@ -11,13 +11,13 @@ use Rattle.flow_edges.specs.declared.moves.Move.{Move}
 use Rattle.flow_edges.specs.Edges.{AreEdges, edges_in}
 use Rattle.flow_edges.specs.MoveView.{moved_edges}
 use Rattle.flow_edges.proofs.MovedLemmas.{moved_append}
-use Rattle.front_phase.specs.declared.neighbours.Run.{Run}
-use Rattle.front_phase.specs.Defined.{defined}
-use Rattle.front_phase.specs.OwnEdges.{AreOwn, own_edges}
-use Rattle.front_phase.specs.Parts.{joined}
-use Rattle.front_phase.specs.Runs.{AreRuns, part}
-use Rattle.front_phase.proofs.JoinLemmas.{joined-gives}
-use Rattle.front_phase.proofs.OwnLemmas.{edges_of_slave, own_is}
+use Rattle.function_runs.specs.declared.neighbours.Run.{Run}
+use Rattle.function_runs.specs.Defined.{defined}
+use Rattle.flow_threads.specs.OwnEdges.{AreOwn, own_edges}
+use Rattle.function_runs.specs.Parts.{joined}
+use Rattle.function_runs.specs.Runs.{AreRuns, part}
+use Rattle.function_runs.proofs.JoinLemmas.{joined-gives}
+use Rattle.flow_threads.proofs.OwnLemmas.{edges_of_slave, own_is}
 
 pub moves_added : (t : TypedTree) (s : Sides) (f : FnId) (own before after : List Move) → AreSides t s → AreEdges t f (moved_edges own) → after ≡ before ++ own → moved_edges after ≡ moved_edges before ++ own_edges t s f
 moves_added t s f own before after sides are added =

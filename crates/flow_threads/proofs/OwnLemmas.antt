@@ -13,14 +13,14 @@ use Rattle.reach.specs.declared.calls.Half.TheVariants.{Slave}
 use Rattle.sides.specs.declared.halves.Sides.{Sides}
 use Rattle.reach.specs.Contexts.{InSlave}
 use Rattle.sides.specs.Placed.{AreSides}
-use Rattle.reach.specs.Tables.{function_id, function_ids, item_if, places_true}
+use Rattle.reach.specs.Tables.{function_id, function_ids, places_true}
 use Rattle.usages.specs.Usages.{parts_usages, usages_in}
+use Rattle.sides.proofs.OneSides.{same_lists}
 use Rattle.sides.proofs.PlaceLemmas.{half_lists}
 use Rattle.flow_edges.specs.Edges.{AreEdges, edges_in, usage_edges}
-use Rattle.front_phase.specs.Defined.{defined, defined_from}
-use Rattle.front_phase.specs.OwnEdges.{own_edges}
-use Rattle.front_phase.proofs.DefinedLemmas.{StandFrom, stand_first, stand_rest, all_stand}
-use Rattle.front_phase.proofs.SameLists.{same_list}
+use Rattle.function_runs.specs.Defined.{defined, defined_from, if_defined}
+use Rattle.flow_threads.specs.OwnEdges.{own_edges}
+use Rattle.function_runs.proofs.DefinedLemmas.{StandFrom, stand_first, stand_rest, all_stand}
 
 -- ---- one function
 
@@ -46,7 +46,7 @@ TruthsFrom table n bs = (k j : ℕ) → j ≡ n + k → get_or table j false ≡
 
 one_more : (t : TypedTree) (s : Sides) (n : ℕ) (f : FunctionTree) (b : Bool) (body : Option BodyTree) (fs : List FnId) (ns : List ℕ) → function_at t (function_id n) ≡ Some f → f.body ≡ body → get_or s.in_slave.items n false ≡ b →
     flat_map (own_edges t s) fs ≡ flat_map (edges_in t) (function_ids ns) →
-    flat_map (own_edges t s) (item_if (is_some body) (function_id n) ++ fs) ≡ flat_map (edges_in t) (function_ids (if b then n ∷ ns else ns))
+    flat_map (own_edges t s) (if_defined (is_some body) (function_id n) ++ fs) ≡ flat_map (edges_in t) (function_ids (if b then n ∷ ns else ns))
 one_more t s n f true None fs ns at is true' rest = ap₂ (λ xs ys. xs ++ ys) (sym (host_edges t (function_id n) f at is)) rest
 one_more t s n f false None fs ns at is true' rest = rest
 one_more t s n f true (Some body) fs ns at is true' rest = ap₂ (λ xs ys. xs ++ ys) (ap (λ b. if b then edges_in t (function_id n) else []) true') rest
@@ -64,4 +64,4 @@ edges_from t s n (f ∷ fs) (b ∷ bs) at told long =
 pub edges_of_slave : (t : TypedTree) (s : Sides) → AreSides t s → flat_map (own_edges t s) (defined t) ≡ flat_map (edges_in t) s.slave
 edges_of_slave t s sides =
     edges_from t s 0 t.functions s.in_slave.items (all_stand t) (λ k j e. let same : j ≡ k = omega arith in ap (λ i. get_or s.in_slave.items i false) same) sides.table.size
-    ∙ ap (flat_map (edges_in t)) (same_list (λ (f : FnId). f.0) (InSlave t) (function_ids (places_true 0 s.in_slave.items)) s.slave (half_lists t Slave s.in_slave.items sides.table) sides.slave)
+    ∙ ap (flat_map (edges_in t)) (same_lists (λ (f : FnId). f.0) (InSlave t) (function_ids (places_true 0 s.in_slave.items)) s.slave (half_lists t Slave s.in_slave.items sides.table) sides.slave)

@@ -5,9 +5,9 @@ use Rattle.std.specs.Option.{option_map}
 use Rattle.std.specs.declared.alloc.Global.{Global}
 use Rattle.std.specs.declared.alloc.AllocError.{AllocError}
 use Rattle.std.proofs.lemmas.List.Concat.{flat_map-append}
-use Rattle.front_phase.specs.declared.neighbours.Run.{Run}
-use Rattle.front_phase.specs.Parts.{joined}
-use Rattle.front_phase.specs.Runs.{covered, part}
+use Rattle.function_runs.specs.declared.neighbours.Run.{Run}
+use Rattle.function_runs.specs.Parts.{joined}
+use Rattle.function_runs.specs.Runs.{covered, part}
 
 -- one part more that came
 pub joined-more : {X : Type 0} (parts : List (Result (Vec X Global) AllocError)) (v : Vec X Global) (all : List X) → joined parts ≡ Some all → joined (parts ++ Ok v ∷ []) ≡ Some (all ++ v.items)

@@ -2,8 +2,8 @@
 use Rattle.std.proofs.Common.{◌≡◌, ◌∙◌, ◌+◌, ◌-◌, ℕ, refl, sym, ap, arith, List, [], ◌∷◌, ◌++◌, take, drop, All, append_assoc, append-nil}
 use Rattle.std.proofs.Math.Seq.{take-add}
 use Rattle.std.proofs.lemmas.List.Elements.{All-take, All-drop}
-use Rattle.front_phase.specs.declared.neighbours.Run.{Run}
-use Rattle.front_phase.specs.Runs.{covered, part}
+use Rattle.function_runs.specs.declared.neighbours.Run.{Run}
+use Rattle.function_runs.specs.Runs.{covered, part}
 
 covered-append : {X : Type 0} (xs : List X) (js ks : List Run) → covered xs (js ++ ks) ≡ covered xs js ++ covered xs ks
 covered-append xs [] ks = refl

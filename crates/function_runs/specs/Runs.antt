@@ -1,7 +1,7 @@
 -- Runs of neighbours in a list.
 use Rattle.std.specs.Prelude.{◌≡◌, ◌≤◌, ℕ, suc, ◌-◌, List, [], ◌∷◌, ◌++◌, length, take, drop}
 use Rattle.pt_base.specs.declared.ids.FnId.{FnId}
-use Rattle.front_phase.specs.declared.neighbours.Run.{Run}
+use Rattle.function_runs.specs.declared.neighbours.Run.{Run}
 
 -- the elements of a run
 abbrev pub part : {X : Type 0} → List X → Run → List X

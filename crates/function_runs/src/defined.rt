@@ -1,10 +1,8 @@
 // The functions that have bodies.
 ghost use Rattle.std.specs.Prelude.{◌≡◌, ◌+◌, ◌++◌, All, IfOk, OnOk, is_some};
-ghost use Rattle.reach.specs.Tables.{item_if};
 ghost use Rattle.typed_tree.specs.TypedTree.{view_function};
 ghost use Rattle.typed_tree.specs.TypedView.{view_typed};
-ghost use Rattle.lowering.specs.FunctionParts.{IsDefined};
-ghost use Rattle.front_phase.specs.Defined.{defined};
+ghost use Rattle.function_runs.specs.Defined.{HasBody, defined, if_defined};
 
 use pt_base::FnId;
 use std::alloc::{AllocError, Global};
@@ -22,7 +20,7 @@ fn next_number(number: u32) -> Result<u32, AllocError>
 
 // adds the number of a function that has a body
 fn add_defined(f: FnId, function: &TypedFn, list: &mut Vec<FnId>) -> Result<(), AllocError>
-    ensures { OnOk result (list.new.items ≡ list.old.items ++ item_if (is_some (view_function function.now).body) f) }
+    ensures { OnOk result (list.new.items ≡ list.old.items ++ if_defined (is_some (view_function function.now).body) f) }
 {
     if function.body.is_some() {
         list.push(f)?;
@@ -44,9 +42,9 @@ fn numbers(alloc: Global, t: &Typed) -> Result<Vec<FnId>, AllocError>
 }
 
 /// The functions of a program that have bodies, in their order.
-pub(crate) fn defined_functions(alloc: Global, t: &Typed) -> Result<Vec<FnId>, AllocError>
+pub fn defined_functions(alloc: Global, t: &Typed) -> Result<Vec<FnId>, AllocError>
     ensures these { IfOk result (λ fs. fs.items ≡ defined (view_typed t.now)) }
-    ensures defined { IfOk result (λ fs. All (IsDefined (view_typed t.now)) fs.items) }
+    ensures defined { IfOk result (λ fs. All (HasBody (view_typed t.now)) fs.items) }
 {
     let list = numbers(alloc, t)?;
     Ok(list)

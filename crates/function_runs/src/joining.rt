@@ -1,11 +1,11 @@
 // The lists that threads made, one behind the other.
 ghost use Rattle.std.specs.Prelude.{◌≡◌, ◌++◌, IfOk, OnOk, Some};
-ghost use Rattle.front_phase.specs.Parts.{joined};
+ghost use Rattle.function_runs.specs.Parts.{joined};
 
 use std::alloc::{AllocError, Global};
 
 /// Moves the items of a list to the end of another. An empty list takes the other as it is, without a copy.
-pub(crate) fn append<X: Drop>(list: &mut Vec<X>, more: Vec<X>) -> Result<(), AllocError>
+pub fn append<X: Drop>(list: &mut Vec<X>, more: Vec<X>) -> Result<(), AllocError>
     ensures { OnOk result (list.new.items ≡ list.old.items ++ more.items) }
 {
     let mut more = more;
@@ -17,7 +17,7 @@ pub(crate) fn append<X: Drop>(list: &mut Vec<X>, more: Vec<X>) -> Result<(), All
 }
 
 /// The items of all parts in their order. Where a part is wanting, memory is wanting.
-pub(crate) fn joined<X: Drop>(
+pub fn joined<X: Drop>(
     alloc: Global,
     parts: Vec<Result<Vec<X>, AllocError>>,
 ) -> Result<Vec<X>, AllocError>

@@ -1,6 +1,6 @@
 // Work that is cut into runs of neighbours.
 ghost use Rattle.std.specs.Prelude.{◌≡◌, ◌≤◌, ◌+◌, ◌*◌, All, IfOk, vec_len};
-ghost use Rattle.front_phase.specs.Runs.{AreRuns, IsSingle, IsWithin};
+ghost use Rattle.function_runs.specs.Runs.{AreRuns, IsSingle, IsWithin};
 
 use std::alloc::{AllocError, Global};
 
@@ -9,7 +9,7 @@ const MOST_RUNS: usize = 8;
 
 /// Neighbours: the places from `from` on, up to and without `to`.
 #[derive(Clone, Copy)]
-pub(crate) struct Run {
+pub struct Run {
     pub from: usize,
     pub to: usize,
 }
@@ -24,7 +24,7 @@ fn run_length(count: usize) -> usize
 
 /// At most eight runs of so many places, which have each place once and in order. Each of up to eight places
 /// is a run of its own.
-pub(crate) fn runs_of(alloc: Global, count: usize) -> Result<Vec<Run>, AllocError>
+pub fn runs_of(alloc: Global, count: usize) -> Result<Vec<Run>, AllocError>
     ensures runs { IfOk result (λ rs. AreRuns count rs.items) }
     ensures within { IfOk result (λ rs. All (IsWithin count) rs.items) }
     ensures single { count ≤ 8 → IfOk result (λ rs. All IsSingle rs.items) }

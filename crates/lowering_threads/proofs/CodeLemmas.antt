@@ -1,5 +1,6 @@
 -- Normal forms, one more and all together.
-use Rattle.std.proofs.Common.{◌≡◌, ◌∙◌, ℕ, ◌<◌, refl, sym, ap, List, [], ◌∷◌, ◌++◌, length, map, get_or, Result, Vec, Some, IfOk}
+use Rattle.std.proofs.Common.{◌≡◌, ◌∙◌, ℕ, suc, ◌<◌, refl, sym, ap, ap₂, List, [], ◌∷◌, ◌++◌, length, map, get_or, Result, Vec, Option, Some, None, IfOk}
+use Rattle.std.specs.Prelude.{is_some}
 use Rattle.std.specs.List.{flat_map}
 use Rattle.std.specs.declared.alloc.Global.{Global}
 use Rattle.std.specs.declared.alloc.AllocError.{AllocError}
@@ -10,16 +11,32 @@ use Rattle.typed_tree.specs.StatementTree.{BodyTree}
 use Rattle.typed_tree.specs.TypedTree.{FunctionTree, TypedTree}
 use Rattle.pt_core.specs.CodeTree.{view_function}
 use Rattle.pt_core.specs.declared.function.CoreFn.{CoreFn}
-use Rattle.lowering.specs.FunctionParts.{IsDefined}
 use Rattle.lowering.specs.Functions.{code_if, core_of, functions_from}
-use Rattle.front_phase.specs.declared.neighbours.Run.{Run}
-use Rattle.front_phase.specs.Defined.{code_at, code_of_found, defined}
-use Rattle.front_phase.specs.Parts.{joined}
-use Rattle.front_phase.specs.Runs.{AreRuns, part}
-use Rattle.front_phase.proofs.DefinedLemmas.{code_of_all}
-use Rattle.front_phase.proofs.JoinLemmas.{joined-gives}
+use Rattle.function_runs.specs.declared.neighbours.Run.{Run}
+use Rattle.function_runs.specs.Defined.{HasBody, defined, defined_from, if_defined}
+use Rattle.lowering_threads.specs.Codes.{code_at, code_of_found}
+use Rattle.function_runs.specs.Parts.{joined}
+use Rattle.function_runs.specs.Runs.{AreRuns, part}
+use Rattle.function_runs.proofs.DefinedLemmas.{StandFrom, all_stand, stand_first, stand_rest}
+use Rattle.function_runs.proofs.JoinLemmas.{joined-gives}
 
-pub code_added : (t : TypedTree) (f : FnId) (code code' : List CoreFn) (c : CoreFn) → IsDefined t f → ((g : FunctionTree) (b : BodyTree) → function_at t f ≡ Some g → g.body ≡ Some b → view_function c ≡ core_of t f.0 g b) → code' ≡ code ++ c ∷ [] → map view_function code' ≡ map view_function code ++ code_at t f
+-- ---- the normal forms of those that have bodies, one behind the other, are the program's
+
+code_more : (t : TypedTree) (n : ℕ) (f : FunctionTree) (fs : List FunctionTree) (b : Option BodyTree) → function_at t (record { 0 = n }) ≡ Some f → f.body ≡ b → flat_map (code_at t) (defined_from (suc n) fs) ≡ functions_from t (suc n) fs →
+    flat_map (code_at t) (if_defined (is_some b) (record { 0 = n }) ++ defined_from (suc n) fs) ≡ code_if t n f b ++ functions_from t (suc n) fs
+code_more t n f fs None at is rest = rest
+code_more t n f fs (Some body) at is rest = ap₂ (λ xs ys. xs ++ ys) (ap (code_of_found t n) at ∙ ap (code_if t n f) is) rest
+
+code_from : (t : TypedTree) (n : ℕ) (fs : List FunctionTree) → StandFrom t n fs → flat_map (code_at t) (defined_from n fs) ≡ functions_from t n fs
+code_from t n [] at = refl
+code_from t n (f ∷ fs) at = code_more t n f fs f.body (stand_first t n f fs at) refl (code_from t (suc n) fs (stand_rest t n f fs at))
+
+code_of_all : (t : TypedTree) → flat_map (code_at t) (defined t) ≡ functions_from t 0 t.functions
+code_of_all t = code_from t 0 t.functions (all_stand t)
+
+-- ---- as code makes them
+
+pub code_added : (t : TypedTree) (f : FnId) (code code' : List CoreFn) (c : CoreFn) → HasBody t f → ((g : FunctionTree) (b : BodyTree) → function_at t f ≡ Some g → g.body ≡ Some b → view_function c ≡ core_of t f.0 g b) → code' ≡ code ++ c ∷ [] → map view_function code' ≡ map view_function code ++ code_at t f
 code_added t f code code' c (g, b, at, is) lowered added =
     ap (map view_function) added
     ∙ map_push view_function code c

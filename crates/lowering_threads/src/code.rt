@@ -3,16 +3,14 @@ ghost use Rattle.std.specs.Prelude.{◌≡◌, ◌<◌, ◌++◌, ℕ, All, IfOk
 ghost use Rattle.std.specs.List.{flat_map};
 ghost use Rattle.typed_tree.specs.TypedView.{view_typed};
 ghost use Rattle.pt_core.specs.CodeTree.{view_function};
-ghost use Rattle.lowering.specs.FunctionParts.{IsDefined};
 ghost use Rattle.lowering.specs.Functions.{functions_from};
-ghost use Rattle.front_phase.specs.Defined.{code_at};
-ghost use Rattle.front_phase.specs.Runs.{IsWithin, part};
-ghost use Rattle.front_phase.specs.declared.neighbours.Run.{Run};
+ghost use Rattle.function_runs.specs.Defined.{HasBody};
+ghost use Rattle.lowering_threads.specs.Codes.{code_at};
+ghost use Rattle.function_runs.specs.Runs.{IsWithin, part};
+ghost use Rattle.function_runs.specs.declared.neighbours.Run.{Run};
 
-use crate::defined::defined_functions;
-use crate::joining::joined;
-use crate::neighbours::{Run, runs_of};
 use c_lower::lower_function;
+use function_runs::{Run, defined_functions, joined, runs_of};
 use pt_base::{FnId, Watch};
 use pt_core::CoreFn;
 use std::alloc::{AllocError, Global};
@@ -22,7 +20,7 @@ use typed_tree::Typed;
 
 // adds the normal form of a function
 fn add_code(alloc: Global, t: &Typed, f: FnId, code: &mut Vec<CoreFn>) -> Result<(), AllocError>
-    requires { IsDefined (view_typed t.now) f }
+    requires { HasBody (view_typed t.now) f }
     ensures { OnOk result (map view_function code.new.items ≡ map view_function code.old.items ++ code_at (view_typed t.now) f) }
 {
     let lowered = lower_function(alloc, t, f)?;
@@ -37,7 +35,7 @@ fn lower_run<W: Watch>(
     functions: &[FnId],
     watch: &W,
 ) -> Result<Vec<CoreFn>, AllocError>
-    requires { All (IsDefined (view_typed t.now)) functions.now }
+    requires { All (HasBody (view_typed t.now)) functions.now }
     ensures { IfOk result (λ v. map view_function v.items ≡ flat_map (code_at (view_typed t.now)) functions.now) }
 {
     let mut code = Vec::new(alloc);
@@ -57,7 +55,7 @@ fn lower_parts<R: Threads + Sync, W: Watch>(
     runs: Vec<Run>,
     watch: &W,
 ) -> Result<Vec<Result<Vec<CoreFn>, AllocError>>, AllocError>
-    requires defined { All (IsDefined (view_typed t.now)) functions.now }
+    requires defined { All (HasBody (view_typed t.now)) functions.now }
     requires within { All (IsWithin (length functions.now)) runs.items }
     ensures len { IfOk result (λ v. vec_len v ≡ vec_len runs) }
     ensures each { IfOk result (λ v. (i : ℕ) (d : _) (e : Run) → i < vec_len runs →
@@ -67,7 +65,7 @@ fn lower_parts<R: Threads + Sync, W: Watch>(
         rt,
         runs,
         &|run: Run| -> Result<Vec<CoreFn>, AllocError>
-            requires { IsWithin (length functions.now) run × All (IsDefined (view_typed t.now)) functions.now }
+            requires { IsWithin (length functions.now) run × All (HasBody (view_typed t.now)) functions.now }
             ensures { IfOk result (λ v. map view_function v.items ≡ flat_map (code_at (view_typed t.entry.now)) (part functions.entry.now run)) }
         { lower_run(alloc, t, &functions[run.from..run.to], watch) },
     )

@@ -1,8 +1,8 @@
 use Rattle.typed_tree.specs.TypedView.{view_typed}
-use Rattle.front_phase.proofs.DefinedLemmas.{defined_below}
-use Rattle.front_phase.proofs.EdgeLemmas.{moves_added}
+use Rattle.function_runs.proofs.DefinedLemmas.{defined_below}
+use Rattle.flow_threads.proofs.EdgeLemmas.{moves_added}
 use Rattle.usages.proofs.Joined.{on_ok}
-use Rattle.front_phase.proofs.edges.add_moves.Goals as goal
+use Rattle.flow_threads.proofs.edges.add_moves.Goals as goal
 
 pub moves_of-requires-clause-function : goal.moves_of-requires-clause-function
 moves_of-requires-clause-function c = defined_below (view_typed c.args.t.now) c.args.f c.requires.function

@@ -1,8 +1,8 @@
 use Rattle.std.proofs.Common.{◌≡◌, ◌++◌, drop, map}
 use Rattle.typed_tree.specs.TypedTree.{view_function}
 use Rattle.typed_tree.specs.TypedView.{view_typed}
-use Rattle.front_phase.specs.Defined.{defined, defined_from}
-use Rattle.front_phase.proofs.defined.numbers.Given as goal
+use Rattle.function_runs.specs.Defined.{defined, defined_from}
+use Rattle.function_runs.proofs.defined.numbers.Given as goal
 
 -- those so far, and then the others, are all of them
 abbrev pub invariant-loop-function : goal.invariant-loop-function

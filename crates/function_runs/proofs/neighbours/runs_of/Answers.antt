@@ -1,8 +1,8 @@
 use Rattle.std.proofs.Common.{arith}
 use Rattle.std.proofs.lemmas.Grind.{common_steps}
-use Rattle.front_phase.proofs.RunLemmas.{covered-more}
-use Rattle.front_phase.proofs.neighbours.runs_of.Goals.{then-from-count+in_ok-push, else-from-count}
-use Rattle.front_phase.proofs.neighbours.runs_of.Goals as goal
+use Rattle.function_runs.proofs.RunLemmas.{covered-more}
+use Rattle.function_runs.proofs.neighbours.runs_of.Goals.{then-from-count+in_ok-push, else-from-count}
+use Rattle.function_runs.proofs.neighbours.runs_of.Goals as goal
 
 pub loop-k-preserved : goal.loop-k-preserved
 loop-k-preserved c =

@@ -1,7 +1,7 @@
 use Rattle.std.proofs.Common.{◌≡◌, ◌≤◌, ◌*◌, List, All, length, min, take, vec_len}
 use Rattle.pt_base.specs.declared.ids.FnId.{FnId}
-use Rattle.front_phase.specs.Runs.{IsSingle, IsWithin, covered}
-use Rattle.front_phase.proofs.neighbours.runs_of.Given as goal
+use Rattle.function_runs.specs.Runs.{IsSingle, IsWithin, covered}
+use Rattle.function_runs.proofs.neighbours.runs_of.Given as goal
 
 -- the runs so far have the places below `from`
 abbrev pub invariant-loop-k : goal.invariant-loop-k

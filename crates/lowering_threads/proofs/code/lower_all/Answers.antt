@@ -1,8 +1,8 @@
 use Rattle.std.proofs.Common.{◌≡◌, ◌∙◌, arith, length, subst}
 use Rattle.typed_tree.specs.TypedView.{view_typed}
-use Rattle.front_phase.specs.Runs.{AreRuns}
-use Rattle.front_phase.proofs.CodeLemmas.{all_code}
-use Rattle.front_phase.proofs.code.lower_all.Goals as goal
+use Rattle.function_runs.specs.Runs.{AreRuns}
+use Rattle.lowering_threads.proofs.CodeLemmas.{all_code}
+use Rattle.lowering_threads.proofs.code.lower_all.Goals as goal
 
 pub returns : goal.returns
 returns g c =

@@ -2,8 +2,8 @@ use Rattle.std.proofs.Common.{◌≡◌, ◌++◌, drop, map}
 use Rattle.std.specs.List.{flat_map}
 use Rattle.typed_tree.specs.TypedView.{view_typed}
 use Rattle.pt_core.specs.CodeTree.{view_function}
-use Rattle.front_phase.specs.Defined.{code_at}
-use Rattle.front_phase.proofs.code.lower_run.Given as goal
+use Rattle.lowering_threads.specs.Codes.{code_at}
+use Rattle.lowering_threads.proofs.code.lower_run.Given as goal
 
 -- the code so far, and then that of the other functions, is that of all of these
 abbrev pub invariant-loop-f : goal.invariant-loop-f
