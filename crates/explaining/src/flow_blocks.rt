@@ -20,7 +20,7 @@ use crate::ways::push_way;
 use flow_check::{push_fault, room_for, shows_way};
 use flow_rules::{FlowFault, Rule};
 use pt_base::Span;
-use sides::place;
+use sides::all_slots;
 use source_places::Lines;
 use std::alloc::{AllocError, Global};
 use typed_tree::Typed;
@@ -202,9 +202,9 @@ pub(crate) fn flow_blocks(
     ensures { IfOk result (λ text. AreFlowBlocks name.now program.now (view_typed t.now) faults.now text.items) }
 {
     let lines = Lines::new(alloc, program)?;
-    let sides = place(alloc, t)?;
+    let all = all_slots(alloc, t)?;
     let list = homes_of(alloc, t)?;
-    let slots = sides.slots.as_slice();
+    let slots = all.as_slice();
     let homes = list.as_slice();
     let parts = Parts { t, slots, homes };
     let text = blocks_in_turn(alloc, name, &lines, parts, faults)?;

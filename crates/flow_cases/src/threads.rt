@@ -9,6 +9,7 @@ use sides::place;
 use std::alloc::{AllocError, Global};
 use std::thread::Threads;
 use typed_tree::Typed;
+use usages::usages_of;
 
 /// More edges than these are told by their number.
 const FEW: usize = 8;
@@ -56,8 +57,9 @@ fn push_moves<R: Threads + Sync>(
     program: &Typed,
 ) -> Result<(), AllocError> {
     let meetings = Meetings::new(alloc)?;
-    let sides = place(alloc, program)?;
-    let edges = edges_all(rt, alloc, program, &sides, &meetings)?;
+    let usages = usages_of(alloc, program)?;
+    let sides = place(alloc, program, &usages)?;
+    let edges = edges_all(rt, alloc, program, &usages, &sides, &meetings)?;
     told.push_str(", edges")?;
     push_edges(told, edges.as_slice())?;
     write!(told, " {}", meetings.told())

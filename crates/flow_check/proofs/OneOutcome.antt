@@ -1,30 +1,21 @@
 -- A text comes to one outcome at most, but for the ways that its faults show.
-use Rattle.std.proofs.Common.{◌≡◌, ◌∙◌, ◌<◌, ◌≤◌, ◌↔◌, ◌⊎◌, ℕ, refl, ap, sym, subst, arith, inl, inr, Bool, true, false, List, [], ◌∷◌, length, map, nat_cmp, nat_lt, Ordering, Less, Equal, Greater, Option, None}
-use Rattle.std.specs.Prelude.{is_some}
+use Rattle.std.proofs.Common.{◌≡◌, ◌∙◌, ◌⊎◌, ℕ, refl, ap, sym, subst, inl, inr, List, [], map, Ordering, Less, Greater, None}
 use Rattle.std.specs.Cmp.{IsTotalOrder}
-use Rattle.std.specs.List.{All, Contains, flat_map}
+use Rattle.std.specs.List.{Contains, flat_map}
 use Rattle.std.specs.Ordering.{ordering_reverse}
-use Rattle.std.proofs.lemmas.Bool.Decides.{nat_tests}
 use Rattle.std.proofs.lemmas.Cmp.{nat_cmp_total, on_total, then_total}
-use Rattle.std.proofs.lemmas.List.{get_or_past, map-id}
-use Rattle.std.proofs.lemmas.List.Elements.{All-contains, All-head}
+use Rattle.std.proofs.lemmas.List.{map-id}
+use Rattle.std.proofs.lemmas.List.Elements.{All-contains}
 use Rattle.std.proofs.lemmas.Map.Keys.{Less-from_sorted}
 use Rattle.front_end.proofs.OneReading.{reading_is_one}
 use Rattle.front_end.specs.Reading.{Reading, typed_tree, lex_fault, parse_fault, type_faults_of, ComesTo as ReadsAs}
-use Rattle.pt_base.specs.declared.ids.FnId.{FnId}
-use Rattle.pt_base.specs.declared.ids.GlobalId.{GlobalId}
 use Rattle.pt_base.specs.declared.slot.Edge.{Edge}
 use Rattle.pt_base.specs.declared.slot.Slot.{Slot}
-use Rattle.propagation.specs.Marks.{AreMarks, Shown, path_shown}
-use Rattle.propagation.specs.Paths.{IsPriv}
-use Rattle.reach.proofs.ListLemmas.{contains_nothing}
+use Rattle.sides.proofs.OneList.{one_list}
 use Rattle.sides.specs.declared.halves.Sides.{Sides}
 use Rattle.sides.specs.Placed.{AreSides}
-use Rattle.sides.specs.Slots.{slots_of}
-use Rattle.reach.specs.Sorted.{Lists}
-use Rattle.reach.specs.Tables.{slot_number}
 use Rattle.typed_tree.specs.TypedTree.{TypedTree}
-use Rattle.flow_edges.specs.Edges.{edges_in}
+use Rattle.flow_rules.proofs.OneJudgement.{nothing_found, same_flows, same_priv}
 use Rattle.flow_rules.specs.declared.accepted.Accepted.{Accepted}
 use Rattle.flow_rules.specs.declared.fault.FlowFault.{FlowFault}
 use Rattle.flow_rules.specs.Faults.{AreFaults, IsAccepted, IsFault, edges_of_all, fault_cmp, flows_of}
@@ -35,73 +26,10 @@ use Rattle.flow_check.specs.Checked.{HasFlowFaults, HasSlotLines, Outcome, refus
 use Rattle.flow_check.specs.Laws.{OutcomeIsOne, without_way, without_ways}
 use Rattle.flow_check.specs.Shown.{AreShown, IsShown, shown_cmp}
 use Rattle.flow_check.specs.SlotLines.{slot_line}
-use Rattle.flow_check.proofs.OneList.{one_list}
-use Rattle.flow_check.proofs.ShownLemmas.{privileged, shown_total}
-
--- ---- lists that have the members of one set
-
-below_once : (m n : ℕ) → m < n → n < m → ⊥
-below_once m n a b = omega arith
-
-same_lists : {X : Type 0} (number : X → ℕ) (Has : X → Type 0) (xs ys : List X) → Lists number Has xs → Lists number Has ys → xs ≡ ys
-same_lists {X} number Has xs ys a b =
-    sym (map-id xs)
-    ∙ one_list (λ (x : X). x) (λ x y. number x < number y) (λ x y. below_once (number x) (number y)) xs ys a.ascending b.ascending
-    (λ x h. (x, (b.same x).1 ((a.same x).0 h), refl)) (λ x h. (x, (a.same x).1 ((b.same x).0 h), refl))
-    ∙ map-id ys
+use Rattle.flow_check.proofs.ShownLemmas.{shown_total}
 
 less_once : {X : Type 0} (cmp : X → X → Ordering) → IsTotalOrder cmp → (a b : X) → cmp a b ≡ Less → cmp b a ≡ Less → ⊥
 less_once cmp total a b p q = let e : cmp a b ≡ Greater = total.antisymm a b ∙ ap ordering_reverse q in cc
-
--- ---- what the rules look at
-
-same_truth : (b c : Bool) → (b ≡ true → c ≡ true) → (c ≡ true → b ≡ true) → b ≡ c
-same_truth true c there back = sym (there refl)
-same_truth false true there back = back refl
-same_truth false false there back = refl
-
-unmarked : (seeds : List Slot) (edges : List Edge) (slots : ℕ) (marks : Shown) → AreMarks seeds edges slots marks → (n : ℕ) → slots ≤ n → path_shown marks (slot_number n) ≡ None
-unmarked seeds edges slots marks are n past = get_or_past marks n None (subst (λ k. k ≤ n) (sym are.size) past)
-
-module _ (t : TypedTree) (s s' : Sides) (are : AreSides t s) (are' : AreSides t s') where
-  pub same_slave : s.slave ≡ s'.slave
-  same_slave = same_lists (λ (f : FnId). f.0) _ s.slave s'.slave are.slave are'.slave
-
-  pub same_monitor : s.monitor ≡ s'.monitor
-  same_monitor = same_lists (λ (f : FnId). f.0) _ s.monitor s'.monitor are.monitor are'.monitor
-
-  pub same_owned : s.owned ≡ s'.owned
-  same_owned = same_lists (λ (g : GlobalId). g.0) _ s.owned s'.owned are.owned are'.owned
-
-  same_seeds : s.seeds ≡ s'.seeds
-  same_seeds = same_lists (λ (x : Slot). x.0) _ s.seeds s'.seeds are.seeds are'.seeds
-
-  same_edges : edges_of_all t s ≡ edges_of_all t s'
-  same_edges = ap (flat_map (edges_in t)) same_slave
-
-  pub same_priv : (n : ℕ) → IsPriv s.seeds (edges_of_all t s) (slot_number n) → IsPriv s'.seeds (edges_of_all t s') (slot_number n)
-  same_priv n is =
-      subst (λ (es : List Edge). IsPriv s'.seeds es (slot_number n)) same_edges (subst (λ (xs : List Slot). IsPriv xs (edges_of_all t s) (slot_number n)) same_seeds is)
-
-module _ (t : TypedTree) (s s' : Sides) (marks marks' : Shown) (are : AreSides t s) (are' : AreSides t s')
-    (marked : AreMarks s.seeds (edges_of_all t s) (length (slots_of t)) marks) (marked' : AreMarks s'.seeds (edges_of_all t s') (length (slots_of t)) marks') where
-  same_mark : (n : ℕ) → is_some (path_shown marks (slot_number n)) ≡ is_some (path_shown marks' (slot_number n))
-  same_mark n = go (nat_lt n (length (slots_of t))) refl
-    where
-      go : (b : Bool) → nat_lt n (length (slots_of t)) ≡ b → is_some (path_shown marks (slot_number n)) ≡ is_some (path_shown marks' (slot_number n))
-      go true is =
-          let lt : n < length (slots_of t) = grind (arith, nat_tests) in
-          let here : (is_some (path_shown marks (slot_number n)) ≡ true) ↔ IsPriv s.seeds (edges_of_all t s) (slot_number n) = privileged s.seeds (edges_of_all t s) (length (slots_of t)) marks marked n lt in
-          let there : (is_some (path_shown marks' (slot_number n)) ≡ true) ↔ IsPriv s'.seeds (edges_of_all t s') (slot_number n) = privileged s'.seeds (edges_of_all t s') (length (slots_of t)) marks' marked' n lt in
-          same_truth (is_some (path_shown marks (slot_number n))) (is_some (path_shown marks' (slot_number n)))
-          (λ h. there.1 (same_priv t s s' are are' n (here.0 h))) (λ h. here.1 (same_priv t s' s are' are n (there.0 h)))
-      go false is =
-          let past : length (slots_of t) ≤ n = grind (arith, nat_tests) in
-          ap is_some (unmarked s.seeds (edges_of_all t s) (length (slots_of t)) marks marked n past
-          ∙ sym (unmarked s'.seeds (edges_of_all t s') (length (slots_of t)) marks' marked' n past))
-
-  pub same_flows : flows_of t s marks ≡ flows_of t s' marks'
-  same_flows = λ i. record { tree = t; slave = same_slave t s s' are are' i; monitor = same_monitor t s s' are are' i; is_priv = λ n. same_mark n i }
 
 -- ---- faults
 
@@ -132,12 +60,6 @@ faults_differ_in_ways t fs gs a b =
     (ap findings_of (same_flows t a.sides b.sides a.marks b.marks a.placed b.placed a.marked b.marked)) a.all b.all
 
 -- ---- acceptance
-
-nothing_found : (p : Flows) (seeds : List Slot) (edges : List Edge) (fs : List FlowFault) → findings_of p ≡ [] → AreFaults p seeds edges fs → 0 < length fs → ⊥
-nothing_found p seeds edges [] none are some = absurd (omega arith)
-nothing_found p seeds edges (f ∷ fs) none are some =
-    let is : IsFault p seeds edges f = All-head (IsFault p seeds edges) f fs are.true_ones in
-    contains_nothing is.0 (subst (λ (xs : List Finding). Contains xs is.0) none is.1)
 
 -- a program that is accepted has no fault
 pub accepted_or_faulty : (t : TypedTree) (a : Accepted) (fs : List FlowFault) → IsAccepted t a → HasFlowFaults t fs → ⊥

@@ -1,6 +1,6 @@
 -- The slots that code keeps, once they are sorted, are those that are shown.
-use Rattle.std.proofs.Common.{◌≡◌, ◌∙◌, ◌<◌, ◌≤◌, ◌↔◌, ◌⊎◌, ◌+◌, ◌&&◌, ℕ, zero, suc, refl, ap, sym, subst, arith, inl, inr, Bool, true, false, List, [], ◌∷◌, length, map, get_or, nat_eq, nat_cmp, Ordering, Less, Equal, Greater, Option, Some, None}
-use Rattle.std.specs.Prelude.{is_some, replicate, MatchOption}
+use Rattle.std.proofs.Common.{◌≡◌, ◌∙◌, ◌<◌, ◌↔◌, ◌⊎◌, ◌+◌, ◌&&◌, ℕ, refl, ap, sym, subst, arith, inl, inr, Bool, true, false, List, [], ◌∷◌, length, map, get_or, nat_eq, nat_cmp, Ordering, Less, Equal, Greater}
+use Rattle.std.specs.Prelude.{is_some, replicate}
 use Rattle.std.specs.Cmp.{IsTotalOrder}
 use Rattle.std.specs.List.{All, Contains, IsDistinct, filter, range_with_len}
 use Rattle.std.specs.List.Sorted.{IsPermutation, IsSorted, IsStrictlySortedBy}
@@ -11,10 +11,7 @@ use Rattle.std.proofs.lemmas.List.Elements.{All-map}
 use Rattle.std.proofs.lemmas.List.Sorted.{All-permutation, Contains-permutation, IsPermutation-map, IsPermutation-sym}
 use Rattle.std.proofs.lemmas.Map.Keys.{IsDistinct-IsPermutation, apart_from_distinct, sorted_from_all_adjacent}
 use Rattle.pt_base.specs.declared.ids.GlobalId.{GlobalId}
-use Rattle.pt_base.specs.declared.slot.Edge.{Edge}
-use Rattle.pt_base.specs.declared.slot.Slot.{Slot}
-use Rattle.propagation.specs.Marks.{AreMarks, Shown, path_shown}
-use Rattle.propagation.specs.Paths.{IsPriv, IsShortestPath}
+use Rattle.propagation.specs.Marks.{path_shown}
 use Rattle.reach.proofs.ListLemmas.{contains_filter, contains_map, from_filter, from_map}
 use Rattle.reach.proofs.TableLemmas.{none_true, set_all_from, set_all_has}
 use Rattle.sides.specs.declared.halves.Sides.{Sides}
@@ -26,6 +23,7 @@ use Rattle.sides.specs.Placed.{AreSides}
 use Rattle.sides.specs.Slots.{slot_at, slots_of}
 use Rattle.reach.specs.Tables.{slot_number}
 use Rattle.typed_tree.specs.TypedTree.{TypedTree}
+use Rattle.flow_rules.proofs.OneJudgement.{privileged}
 use Rattle.flow_rules.specs.declared.accepted.Accepted.{Accepted}
 use Rattle.flow_rules.specs.Faults.{IsAccepted, edges_of_all}
 use Rattle.flow_check.specs.contracts.shown.ShownSlotOrd.TheImpl as shown_ord
@@ -106,16 +104,6 @@ module _ (t : TypedTree) where
       strictly (numbers ys) (ascending ys all up) (IsDistinct-IsPermutation nat_eq nat_eq_equiv.symm ks (numbers ys) (moved ks ys perm) differ)
 
 -- ---- which are shown
-
-told : (seeds : List Slot) (edges : List Edge) (s : Slot) (o : Option (List ℕ)) →
-    MatchOption o (¬ IsPriv seeds edges s) (λ path. IsShortestPath seeds edges path s) → (is_some o ≡ true) ↔ IsPriv seeds edges s
-told seeds edges s None none = (λ h. cc, λ p. absurd (none p))
-told seeds edges s (Some path) is = (λ h. (is.0, path, is.1, is.2), λ p. refl)
-
--- a marked slot is one to which a way leads
-pub privileged : (seeds : List Slot) (edges : List Edge) (slots : ℕ) (marks : Shown) → AreMarks seeds edges slots marks → (n : ℕ) → n < slots →
-    (is_some (path_shown marks (slot_number n)) ≡ true) ↔ IsPriv seeds edges (slot_number n)
-privileged seeds edges slots marks are n lt = told seeds edges (slot_number n) (path_shown marks (slot_number n)) (are.paths (slot_number n) lt)
 
 both : (p q : Bool) → (p && q) ≡ true → (p ≡ true) × (q ≡ true)
 both true q h = (refl, h)

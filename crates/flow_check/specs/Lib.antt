@@ -6,3 +6,4 @@ pub mod OutcomeSeen
 pub mod Seen
 pub mod Shown
 pub mod SlotLines
+pub mod Traced

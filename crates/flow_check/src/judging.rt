@@ -2,14 +2,13 @@
 ghost use Rattle.typed_tree.specs.TypedView.{view_typed};
 ghost use Rattle.flow_check.specs.OutcomeSeen.{IsJudged};
 
+use crate::tracing::trace;
 use flow_rules::{Accepted, FlowError, check_flows};
-use front_phase::edges_all;
-use propagation::propagate;
 use pt_base::Watch;
-use sides::place;
 use std::alloc::Global;
 use std::thread::Threads;
 use typed_tree::Typed;
+use usages::usages_of;
 
 /// The halves and the privileged slots of a program that breaks no rule. The watch is told of each function
 /// that has a body, as its edges are made.
@@ -29,9 +28,14 @@ pub fn judge<R: Threads + Sync, W: Watch>(
 ) -> Result<Accepted, FlowError>
     ensures { IsJudged (view_typed t.now) result }
 {
-    let sides = place(alloc, t)?;
-    let edges = edges_all(rt, alloc, t, &sides, watch)?;
-    let slots = sides.slots.as_slice().len() as u64;
-    let marks = propagate(alloc, sides.seeds.as_slice(), edges.as_slice(), slots)?;
-    check_flows(alloc, t, sides, edges.as_slice(), marks)
+    let usages = usages_of(alloc, t)?;
+    let traced = trace(rt, alloc, t, &usages, watch)?;
+    check_flows(
+        alloc,
+        t,
+        &usages,
+        traced.sides,
+        traced.edges.as_slice(),
+        traced.marks,
+    )
 }

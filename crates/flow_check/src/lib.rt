@@ -11,6 +11,7 @@ mod room;
 mod shown;
 mod slot_lines;
 mod stages;
+mod tracing;
 mod variables;
 
 pub use flow_faults::{flow_lines, push_fault, shows_way};
@@ -21,4 +22,5 @@ pub use room::{MOST_BYTES, room_for};
 pub use shown::{ShownSlot, shown_slots};
 pub use slot_lines::push_fields;
 pub use stages::outcome_of;
+pub use tracing::{Traced, trace};
 pub use variables::variable_of;

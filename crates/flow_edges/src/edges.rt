@@ -6,6 +6,7 @@ ghost use Rattle.sides.specs.Leaves.{leaf_count};
 ghost use Rattle.sides.specs.Leaves as leaves;
 ghost use Rattle.sides.specs.Placed.{AreSides};
 ghost use Rattle.sides.specs.ScopeView.{view_scope};
+ghost use Rattle.usages.specs.Lent.{AreUsages};
 ghost use Rattle.usages.specs.UsageView.{view_usage};
 ghost use Rattle.typed_tree.specs.ExpressionTree.{view_expr};
 ghost use Rattle.typed_tree.specs.TypedView.{view_typed};
@@ -24,7 +25,7 @@ use pt_base::FnId;
 use sides::{Layout, Scope, Sides, carried_slots};
 use std::alloc::{AllocError, Global};
 use typed_tree::{Form, Typed, TypedExpr, VarTy, is_pointer};
-use usages::{Usage, usages_in};
+use usages::{Usage, Usages};
 
 // how many leaves a value of this type has
 fn value_count(scope: &Scope<'_>, ty: Option<VarTy>) -> u64
@@ -142,15 +143,22 @@ fn add_usage(
 
 // the values that move in the body of a function
 #[tactic(auto, unfolding(crate::specs::Edges::edges_in))]
-fn body_moves(alloc: Global, t: &Typed, layout: &Layout, f: FnId) -> Result<Vec<Move>, AllocError>
-    requires { IsLayout (view_typed t.now) layout.now }
+fn body_moves(
+    alloc: Global,
+    t: &Typed,
+    usages: &Usages<'_>,
+    layout: &Layout,
+    f: FnId,
+) -> Result<Vec<Move>, AllocError>
+    requires used { AreUsages (view_typed t.now) usages.now }
+    requires layout { IsLayout (view_typed t.now) layout.now }
     ensures { IfOk result (λ ms. moved_edges ms.items ≡ edges_in (view_typed t.now) f) }
 {
-    let usages = usages_in(alloc, t, f)?;
+    let list = usages.of(t, f);
     let scope = layout.scope(t, f);
     let mut items = KeptItems::none(alloc);
     let mut moves = Vec::new(alloc);
-    for usage in &usages {
+    for usage in list {
         add_usage(alloc, t, layout, &scope, f, usage, &mut items, &mut moves)?;
     }
     Ok(moves)
@@ -161,7 +169,14 @@ fn body_moves(alloc: Global, t: &Typed, layout: &Layout, f: FnId) -> Result<Vec<
 /// target, and back where it is a pointer: `edges_along` makes them.
 ///
 /// Time and memory are linear in what the body evaluates.
-pub fn moves_of(alloc: Global, t: &Typed, f: FnId, sides: &Sides) -> Result<Vec<Move>, AllocError>
+pub fn moves_of(
+    alloc: Global,
+    t: &Typed,
+    usages: &Usages<'_>,
+    f: FnId,
+    sides: &Sides,
+) -> Result<Vec<Move>, AllocError>
+    requires used { AreUsages (view_typed t.now) usages.now }
     requires function { f.0 < length (view_typed t.now).functions }
     requires sides { AreSides (view_typed t.now) sides.now }
     ensures { IfOk result (λ ms. AreEdges (view_typed t.now) f (moved_edges ms.items)) }
@@ -169,6 +184,6 @@ pub fn moves_of(alloc: Global, t: &Typed, f: FnId, sides: &Sides) -> Result<Vec<
     if !sides.in_slave[f.0 as usize] {
         return Ok(Vec::new(alloc));
     }
-    let moves = body_moves(alloc, t, &sides.layout, f)?;
+    let moves = body_moves(alloc, t, usages, &sides.layout, f)?;
     Ok(moves)
 }

@@ -1,9 +1,6 @@
 -- What the stages answer is what drawing comes to.
-use Rattle.std.proofs.Common.{◌≡◌, ◌∙◌, ◌<◌, ℕ, List, Some, None, Option, Result, Ok, Err, ap, get_or, length, sym, subst}
-use Rattle.std.specs.List.{All}
-use Rattle.std.proofs.lemmas.List.Elements.{Contains-get_or}
+use Rattle.std.proofs.Common.{◌≡◌, ◌<◌, ℕ, List, Some, None, Option, Result, Ok, Err, length, sym, subst}
 use Rattle.pt_base.specs.declared.slot.Edge.{Edge}
-use Rattle.pt_base.specs.declared.slot.Slot.{Slot}
 use Rattle.propagation.specs.Marks.{AreMarks, Shown}
 use Rattle.sides.specs.declared.halves.Sides.{Sides}
 use Rattle.sides.specs.Placed.{AreSides}
@@ -36,22 +33,6 @@ unread text (Lex fault) lines reads is = (lex fault, reads, some_is _ _ is)
 unread text (Parse fault) lines reads is = (parse fault, reads, some_is _ _ is)
 unread text (Types faults) lines reads is = (types faults.items, reads, some_is _ _ is)
 unread text Memory lines reads is = absurd (some_none lines is)
-
--- ---- what is asked of seeds and edges, and what marks are, where the slots are counted
-
-module _ (t : TypedTree) (s : Sides) (slots : ℕ) (are : AreSides t s) (size : slots ≡ length s.slots) where
-  all_slots : slots ≡ length (slots_of t)
-  all_slots = size ∙ ap length are.slots
-
-  pub seeds_within : (xs : List Slot) → xs ≡ s.seeds → All (λ x. x.0 < slots) xs
-  seeds_within xs is =
-      subst (λ (ys : List Slot). All (λ x. x.0 < slots) ys) (sym is)
-      (λ k d lt. subst (λ n. (get_or s.seeds k d).0 < n) (sym all_slots) ((are.seeds.same (get_or s.seeds k d)).0 (Contains-get_or s.seeds k d lt)).0)
-
-  pub marks_are : (xs : List Slot) (ys es : List Edge) (marks : Shown) → xs ≡ s.seeds → ys ≡ es → AreMarks xs ys slots marks → AreMarks s.seeds es (length (slots_of t)) marks
-  marks_are xs ys es marks seeds edges marked =
-      subst (λ n. AreMarks s.seeds es n marks) all_slots
-      (subst (λ (zs : List Edge). AreMarks s.seeds zs slots marks) edges (subst (λ (zs : List Slot). AreMarks zs ys slots marks) seeds marked))
 
 -- ---- what the rules answer
 

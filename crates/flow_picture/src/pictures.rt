@@ -5,6 +5,7 @@ ghost use Rattle.propagation.specs.Marks.{AreMarks};
 ghost use Rattle.sides.specs.Placed.{AreSides};
 ghost use Rattle.sides.specs.Slots.{slots_of};
 ghost use Rattle.typed_tree.specs.TypedView.{view_typed};
+ghost use Rattle.usages.specs.Lent.{AreUsages};
 ghost use Rattle.flow_rules.specs.declared.accepted.Accepted.{Accepted};
 ghost use Rattle.flow_rules.specs.Faults.{IsAccepted, edges_of_all};
 ghost use Rattle.flow_check.specs.Checked.{HasFlowFaults};
@@ -15,16 +16,16 @@ use crate::drawing::draw;
 use crate::objects::{Objects, find_objects};
 use crate::pictured::Pictured;
 use fault_lines::front_lines;
-use flow_check::flow_lines;
+use flow_check::{flow_lines, trace};
 use flow_rules::{Accepted, FlowError, FlowFault, check_flows};
 use front_end::read_program;
-use front_phase::edges_all;
-use propagation::{Marks, propagate};
+use propagation::Marks;
 use pt_base::{Edge, Listed, Watch};
-use sides::{Sides, place};
+use sides::Sides;
 use std::alloc::{AllocError, Global};
 use std::thread::Threads;
 use typed_tree::Typed;
+use usages::{Usages, usages_of};
 
 /// Draws the flows of a program: where values lie, along which they move, where secrets begin and how far they
 /// come, and of a program that breaks a rule of flows each fault. A text with faults of lexer, parser or types
@@ -61,30 +62,38 @@ fn with_program<R: Threads + Sync, W: Watch>(
     requires { HasTypedTree program.now (view_typed t.now) }
     ensures { IfOk result (IsPictured program.now) }
 {
-    let sides = place(alloc, t)?;
-    let edges = edges_all(rt, alloc, t, &sides, watch)?;
-    let slots = sides.slots.as_slice().len() as u64;
-    let marks = propagate(alloc, sides.seeds.as_slice(), edges.as_slice(), slots)?;
-    with_flows(alloc, program, t, sides, edges.as_slice(), marks)
+    let usages = usages_of(alloc, t)?;
+    let traced = trace(rt, alloc, t, &usages, watch)?;
+    with_flows(
+        alloc,
+        program,
+        t,
+        &usages,
+        traced.sides,
+        traced.edges.as_slice(),
+        traced.marks,
+    )
 }
 
-// What a program with these sides, edges and marks comes to.
+// What a program with these usages, sides, edges and marks comes to.
 fn with_flows(
     alloc: Global,
     program: &[u8],
     t: &Typed,
+    usages: &Usages<'_>,
     sides: Sides,
     edges: &[Edge],
     marks: Marks,
 ) -> Result<Pictured, AllocError>
     requires tree { HasTypedTree program.now (view_typed t.now) }
+    requires used { AreUsages (view_typed t.now) usages.now }
     requires sides { AreSides (view_typed t.now) sides }
     requires edges { edges.now ≡ edges_of_all (view_typed t.now) sides }
     requires marks { AreMarks sides.seeds edges.now (length (slots_of (view_typed t.now))) marks }
     ensures { IfOk result (IsPictured program.now) }
 {
-    let objects = find_objects(alloc, t, &sides, &marks)?;
-    let told = faults_of(check_flows(alloc, t, sides, edges, marks))?;
+    let objects = find_objects(alloc, t, usages, &sides, &marks)?;
+    let told = faults_of(check_flows(alloc, t, usages, sides, edges, marks))?;
     match told {
         Some(faults) => with_faults(alloc, program, t, &objects, edges, faults.as_slice()),
         None => without_faults(alloc, program, t, &objects, edges),

@@ -5,6 +5,7 @@ ghost use Rattle.sides.specs.Placed.{AreSides};
 ghost use Rattle.reach.specs.Contexts.{expr_callees};
 ghost use Rattle.typed_tree.specs.ExpressionTree.{view_expr};
 ghost use Rattle.typed_tree.specs.TypedView.{view_typed};
+ghost use Rattle.usages.specs.Lent.{AreUsages};
 ghost use Rattle.flow_picture.specs.Kept as kept;
 ghost use Rattle.flow_picture.specs.Objects.{AreNodes, IsObject};
 
@@ -16,7 +17,7 @@ use reach::function_at;
 use sides::Sides;
 use std::alloc::{AllocError, Global};
 use typed_tree::{Form, Typed, TypedExpr, Var};
-use usages::usages_in;
+use usages::Usages;
 
 // the number behind one; want of memory where 32 bits don't hold it
 fn next(number: u32) -> Result<u32, AllocError>
@@ -81,11 +82,16 @@ fn push_callee(t: &Typed, e: &TypedExpr, nodes: &mut Vec<Node>) -> Result<(), Al
 }
 
 // appends what functions and hosts return that the body of a function calls
-fn push_callees(alloc: Global, t: &Typed, f: FnId, nodes: &mut Vec<Node>) -> Result<(), AllocError>
+fn push_callees(
+    t: &Typed,
+    usages: &Usages<'_>,
+    f: FnId,
+    nodes: &mut Vec<Node>,
+) -> Result<(), AllocError>
+    requires used { AreUsages (view_typed t.now) usages.now }
     ensures { OnOk result (nodes.new.items ≡ nodes.old.items ++ kept.callee_nodes (view_typed t.now) f) }
 {
-    let usages = usages_in(alloc, t, f)?;
-    let list = usages.as_slice();
+    let list = usages.of(t, f);
     for usage in list {
         push_callee(t, usage.value, nodes)?;
     }
@@ -93,37 +99,53 @@ fn push_callees(alloc: Global, t: &Typed, f: FnId, nodes: &mut Vec<Node>) -> Res
 }
 
 // appends the objects that a function of the slave adds
-fn push_function(alloc: Global, t: &Typed, f: FnId, nodes: &mut Vec<Node>) -> Result<(), AllocError>
+fn push_function(
+    t: &Typed,
+    usages: &Usages<'_>,
+    f: FnId,
+    nodes: &mut Vec<Node>,
+) -> Result<(), AllocError>
+    requires used { AreUsages (view_typed t.now) usages.now }
     ensures { OnOk result (nodes.new.items ≡ nodes.old.items ++ kept.function_nodes (view_typed t.now) f) }
 {
     push_vars_of(t, f, nodes)?;
     push_result(t, f, nodes)?;
-    push_callees(alloc, t, f, nodes)
+    push_callees(t, usages, f, nodes)
 }
 
 // the objects that these functions use, with these globals, as they stand
 fn object_nodes(
     alloc: Global,
     t: &Typed,
+    usages: &Usages<'_>,
     owned: &[GlobalId],
     slave: &[FnId],
 ) -> Result<Vec<Node>, AllocError>
+    requires used { AreUsages (view_typed t.now) usages.now }
     ensures { IfOk result (λ v. v.items ≡ kept.object_nodes (view_typed t.now) owned.now slave.now) }
 {
     let mut nodes = Vec::new(alloc);
     push_globals(owned, &mut nodes)?;
     for f in slave {
-        push_function(alloc, t, *f, &mut nodes)?;
+        push_function(t, usages, *f, &mut nodes)?;
     }
     Ok(nodes)
 }
 
 /// All objects that the slave's code uses, but for what is returned that has no node.
-pub(crate) fn objects_of(alloc: Global, t: &Typed, sides: &Sides) -> Result<Vec<Node>, AllocError>
-    requires { AreSides (view_typed t.now) sides.now }
+pub(crate) fn objects_of(
+    alloc: Global,
+    t: &Typed,
+    usages: &Usages<'_>,
+    sides: &Sides,
+) -> Result<Vec<Node>, AllocError>
+    requires used { AreUsages (view_typed t.now) usages.now }
+    requires sides { AreSides (view_typed t.now) sides.now }
     ensures { IfOk result (λ v. AreNodes (IsObject (view_typed t.now)) v.items) }
 {
-    let mut nodes = object_nodes(alloc, t, sides.owned.as_slice(), sides.slave.as_slice())?;
+    let owned = sides.owned.as_slice();
+    let slave = sides.slave.as_slice();
+    let mut nodes = object_nodes(alloc, t, usages, owned, slave)?;
     arrange_nodes(&mut nodes);
     Ok(nodes)
 }

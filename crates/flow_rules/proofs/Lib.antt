@@ -2,6 +2,7 @@ mod FindingLemmas
 mod FlowLemmas
 mod MemoLemmas
 mod ObjectLemmas
+pub mod OneJudgement
 mod PrivLemmas
 mod SecretLemmas
 mod SharedLemmas

@@ -16,7 +16,6 @@ use crate::object_rules::add_variables;
 use crate::usage_rules::add_usage;
 use pt_base::FnId;
 use std::alloc::{AllocError, Global};
-use usages::usages_in;
 
 // what the expressions of a function of the slave break
 fn add_slave_usages(
@@ -30,9 +29,9 @@ fn add_slave_usages(
     ensures found { OnOk result (list.new.items ≡ list.old.items ++ map kept (flat_map (is.usage_findings (view_flows flows.now) f) (usages.usages_in (view_typed flows.now.t.now) f))) }
     ensures memo { OnOk result (Knows (view_flows flows.now) memo.new) }
 {
-    let usages = usages_in(alloc, flows.t, f)?;
+    let usages = flows.usages.of(flows.t, f);
     let scope = flows.sides.layout.scope(flows.t, f);
-    for usage in &usages {
+    for usage in usages {
         add_usage(alloc, flows, &scope, f, usage, memo, list)?;
     }
     Ok(())
@@ -73,31 +72,26 @@ pub(crate) fn add_slave(
 
 // what the body of a function of the monitor breaks
 fn add_monitor_usages(
-    alloc: Global,
     flows: &Flows<'_>,
     f: FnId,
     list: &mut Vec<Found>,
 ) -> Result<(), AllocError>
     ensures { OnOk result (list.new.items ≡ list.old.items ++ map kept (is.monitor_findings (view_flows flows.now) f)) }
 {
-    let usages = usages_in(alloc, flows.t, f)?;
-    for usage in &usages {
+    let usages = flows.usages.of(flows.t, f);
+    for usage in usages {
         add_call(flows, usage, list)?;
     }
     Ok(())
 }
 
 /// Adds what the functions of the monitor break.
-pub(crate) fn add_monitor(
-    alloc: Global,
-    flows: &Flows<'_>,
-    list: &mut Vec<Found>,
-) -> Result<(), AllocError>
+pub(crate) fn add_monitor(flows: &Flows<'_>, list: &mut Vec<Found>) -> Result<(), AllocError>
     ensures { OnOk result (list.new.items ≡ list.old.items ++ map kept (flat_map (is.monitor_findings (view_flows flows.now)) flows.now.sides.now.monitor)) }
 {
     let functions = flows.sides.monitor.as_slice();
     for f in functions {
-        add_monitor_usages(alloc, flows, *f, list)?;
+        add_monitor_usages(flows, *f, list)?;
     }
     Ok(())
 }

@@ -4,6 +4,7 @@ ghost use Rattle.propagation.specs.Marks.{AreMarks};
 ghost use Rattle.sides.specs.Placed.{AreSides};
 ghost use Rattle.sides.specs.Slots.{slots_of};
 ghost use Rattle.typed_tree.specs.TypedView.{view_typed};
+ghost use Rattle.usages.specs.Lent.{AreUsages};
 ghost use Rattle.flow_rules.specs.Faults.{Answers, AreFaults, edges_of_all, flows_of};
 
 use crate::accepted::Accepted;
@@ -17,20 +18,28 @@ use pt_base::{Edge, Listed};
 use sides::Sides;
 use std::alloc::{AllocError, Global};
 use typed_tree::Typed;
+use usages::Usages;
 
 // all faults of a program
 fn all_faults(
     alloc: Global,
     t: &Typed,
+    usages: &Usages<'_>,
     sides: &Sides,
     edges: &[Edge],
     marks: &Marks,
 ) -> Result<Vec<FlowFault>, AllocError>
+    requires used { AreUsages (view_typed t.now) usages.now }
     requires sides { AreSides (view_typed t.now) sides.now }
     requires marks { AreMarks sides.now.seeds edges.now (length (slots_of (view_typed t.now))) marks.now }
     ensures { IfOk result (λ v. AreFaults (flows_of (view_typed t.now) sides.now marks.now) sides.now.seeds edges.now v.items) }
 {
-    let flows = Flows { t, sides, marks };
+    let flows = Flows {
+        t,
+        usages,
+        sides,
+        marks,
+    };
     let mut list = all_findings(alloc, &flows)?;
     arrange(&mut list);
     let places = list.as_slice();
@@ -39,7 +48,7 @@ fn all_faults(
 }
 
 /// Keeps the halves and the privileged slots of a program that breaks no rule, and else tells all its
-/// faults, each with a way by which a secret comes there. Sides and edges are the program's own, the edges
+/// faults, each with a way by which a secret comes there. Usages, sides and edges are the program's own, the edges
 /// those of the slave's functions one after the other, and the marks are what `propagate` gives for them.
 ///
 /// # Errors
@@ -53,16 +62,18 @@ fn all_faults(
 pub fn check_flows(
     alloc: Global,
     t: &Typed,
+    usages: &Usages<'_>,
     sides: Sides,
     edges: &[Edge],
     marks: Marks,
 ) -> Result<Accepted, FlowError>
+    requires used { AreUsages (view_typed t.now) usages.now }
     requires sides { AreSides (view_typed t.now) sides }
     requires edges { edges.now ≡ edges_of_all (view_typed t.now) sides }
     requires marks { AreMarks sides.seeds edges.now (length (slots_of (view_typed t.now))) marks }
     ensures { Answers (view_typed t.now) sides edges.now marks result }
 {
-    let faults = all_faults(alloc, t, &sides, edges, &marks)?;
+    let faults = all_faults(alloc, t, usages, &sides, edges, &marks)?;
     if faults.is_empty() {
         Ok(Accepted { sides, marks })
     } else {

@@ -17,7 +17,7 @@ pub(crate) fn all_findings(alloc: Global, flows: &Flows<'_>) -> Result<Vec<Found
 {
     let mut list = Vec::new(alloc);
     add_slave(alloc, flows, &mut list)?;
-    add_monitor(alloc, flows, &mut list)?;
+    add_monitor(flows, &mut list)?;
     add_globals(alloc, flows, &mut list)?;
     add_functions(flows.t, &mut list)?;
     Ok(list)

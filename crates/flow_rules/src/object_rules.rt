@@ -139,8 +139,8 @@ fn add_shared(alloc: Global, flows: &Flows<'_>, list: &mut Vec<Found>) -> Result
 {
     let of_slave = flows.sides.slave.as_slice();
     let of_monitor = flows.sides.monitor.as_slice();
-    let slave = named_by(alloc, flows.t, of_slave)?;
-    let monitor = named_by(alloc, flows.t, of_monitor)?;
+    let slave = named_by(alloc, flows.t, flows.usages, of_slave)?;
+    let monitor = named_by(alloc, flows.t, flows.usages, of_monitor)?;
     let in_slave = slave.as_slice();
     let in_monitor = monitor.as_slice();
     let globals = flows.t.globals.as_slice();

@@ -1,12 +1,6 @@
-//! The lowering of all functions of a program, and the edges of all of them, in threads: the answer is the
-//! one that a single thread would give.
+//! The two calls that work on all functions of a program in threads, under the one name that programs of rows
+//! know: the edges along which values move, and the lowering.
 #![tactic(auto)]
 
-mod code;
-mod defined;
-mod edges;
-mod joining;
-mod neighbours;
-
-pub use code::lower_all;
-pub use edges::edges_all;
+pub use flow_threads::edges_all;
+pub use lowering_threads::lower_all;

@@ -6,7 +6,7 @@ use Rattle.sides.specs.declared.halves.Sides.{Sides}
 use Rattle.sides.specs.Placed.{AreSides}
 use Rattle.typed_tree.specs.TypedTree.{TypedTree}
 use Rattle.splitter.specs.Halves.{halves_of}
-use Rattle.flow_check.proofs.OneOutcome.{same_slave, same_monitor, same_owned}
+use Rattle.sides.proofs.OneSides.{same_slave, same_monitor, same_owned}
 
 pub same_halves : (t : TypedTree) (s s' : Sides) → AreSides t s → AreSides t s' → halves_of s ≡ halves_of s'
 same_halves t s s' are are' = λ i. record {

@@ -5,7 +5,7 @@ ghost use Rattle.pt_core.specs.CodeTree.{view_monitor, view_slave};
 ghost use Rattle.program_halves.specs.ProgramHalves.{AreHalves};
 
 use flow_rules::Accepted;
-use front_phase::lower_all;
+use lowering_threads::lower_all;
 use pt_base::Watch;
 use pt_core::{MonitorProgram, SlaveProgram};
 use splitter::split;

@@ -6,7 +6,7 @@ ghost use Rattle.pt_core.specs.CodeTree.{view_program};
 ghost use Rattle.lowering.specs.Functions.{core_program};
 
 use c_lower::whole_program;
-use front_phase::lower_all;
+use lowering_threads::lower_all;
 use pt_base::{FnId, Watch};
 use pt_core::CoreProgram;
 use std::alloc::{AllocError, Global};

@@ -7,6 +7,7 @@ ghost use Rattle.typed_tree.specs.TypedView.{view_typed};
 ghost use Rattle.reach.specs.CallGraph as is;
 ghost use Rattle.reach.specs.Contexts.{expr_callees, test_function};
 ghost use Rattle.reach.specs.Reached.{IsReached};
+ghost use Rattle.usages.specs.Lent.{AreUsages};
 
 use crate::functions::{is_privileged, stays};
 use crate::tables::add_if;
@@ -14,7 +15,7 @@ use propagation::{Marks, propagate};
 use pt_base::{Edge, FnId, Slot, Span, next_number, sum};
 use std::alloc::{AllocError, Global};
 use typed_tree::{Form, Typed, TypedExpr};
-use usages::usages_in;
+use usages::Usages;
 
 /// A half.
 #[derive(Clone, Copy)]
@@ -47,17 +48,17 @@ fn add_call(
 
 // appends the calls in the body of a function that stay in a half, for each half
 fn add_calls(
-    alloc: Global,
     t: &Typed,
+    usages: &Usages<'_>,
     caller: u32,
     monitor: &mut Vec<Edge>,
     slave: &mut Vec<Edge>,
 ) -> Result<(), AllocError>
+    requires used { AreUsages (view_typed t.now) usages.now }
     ensures monitor { OnOk result (monitor.new.items ≡ monitor.old.items ++ is.calls_of (view_typed t.now) Half.Monitor caller) }
     ensures slave { OnOk result (slave.new.items ≡ slave.old.items ++ is.calls_of (view_typed t.now) Half.Slave caller) }
 {
-    let usages = usages_in(alloc, t, FnId(caller))?;
-    let list = usages.as_slice();
+    let list = usages.of(t, FnId(caller));
     for usage in list {
         add_call(t, Half::Monitor, caller, usage.value, monitor)?;
         add_call(t, Half::Slave, caller, usage.value, slave)?;
@@ -66,7 +67,12 @@ fn add_calls(
 }
 
 /// The calls that stay in the monitor and those that stay in the slave, as edges.
-pub fn call_edges(alloc: Global, t: &Typed) -> Result<(Vec<Edge>, Vec<Edge>), AllocError>
+pub fn call_edges(
+    alloc: Global,
+    t: &Typed,
+    usages: &Usages<'_>,
+) -> Result<(Vec<Edge>, Vec<Edge>), AllocError>
+    requires used { AreUsages (view_typed t.now) usages.now }
     ensures monitor { IfOk result (λ p. p.0.items ≡ is.call_edges (view_typed t.now) Half.Monitor) }
     ensures slave { IfOk result (λ p. p.1.items ≡ is.call_edges (view_typed t.now) Half.Slave) }
 {
@@ -74,7 +80,7 @@ pub fn call_edges(alloc: Global, t: &Typed) -> Result<(Vec<Edge>, Vec<Edge>), Al
     let mut slave = Vec::new(alloc);
     let mut caller: u32 = 0;
     for _function in &t.functions {
-        add_calls(alloc, t, caller, &mut monitor, &mut slave)?;
+        add_calls(t, usages, caller, &mut monitor, &mut slave)?;
         caller = next_number(caller)?;
     }
     Ok((monitor, slave))

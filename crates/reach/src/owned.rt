@@ -1,16 +1,17 @@
 // The globals that the slave owns.
-ghost use Rattle.std.specs.Prelude.{◌≡◌, IfOk, OnOk, length};
+ghost use Rattle.std.specs.Prelude.{◌≡◌, IfOk, length};
 ghost use Rattle.typed_tree.specs.ExpressionTree.{view_expr, view_form, view_place, view_root};
 ghost use Rattle.typed_tree.specs.TypedView.{view_typed};
 ghost use Rattle.reach.specs.Contexts as is;
 ghost use Rattle.reach.specs.Owned as owned;
 ghost use Rattle.reach.specs.Tables.{items_of, set_all};
+ghost use Rattle.usages.specs.Lent.{AreUsages};
 
 use crate::tables::set_true;
 use pt_base::{FnId, GlobalId};
 use std::alloc::{AllocError, Global};
 use typed_tree::{Form, Place, Root, Typed, TypedExpr};
-use usages::usages_in;
+use usages::Usages;
 
 // the global in which a place lies, if it is one
 fn place_global(place: &Place) -> Option<GlobalId>
@@ -55,24 +56,29 @@ fn add_named(e: &TypedExpr, table: &mut [bool])
 }
 
 // adds the globals that the body of a function names to a set
-fn add_globals(alloc: Global, t: &Typed, f: FnId, table: &mut [bool]) -> Result<(), AllocError>
-    ensures { OnOk result (table.new ≡ set_all table.old (owned.global_numbers (view_typed t.now) f)) }
+fn add_globals(t: &Typed, usages: &Usages<'_>, f: FnId, table: &mut [bool])
+    requires used { AreUsages (view_typed t.now) usages.now }
+    ensures { table.new ≡ set_all table.old (owned.global_numbers (view_typed t.now) f) }
 {
-    let usages = usages_in(alloc, t, f)?;
-    let list = usages.as_slice();
+    let list = usages.of(t, f);
     for usage in list {
         add_named(usage.value, table);
     }
-    Ok(())
 }
 
 /// For each global, whether one of these functions names it.
-pub fn named_by(alloc: Global, t: &Typed, functions: &[FnId]) -> Result<Vec<bool>, AllocError>
+pub fn named_by(
+    alloc: Global,
+    t: &Typed,
+    usages: &Usages<'_>,
+    functions: &[FnId],
+) -> Result<Vec<bool>, AllocError>
+    requires used { AreUsages (view_typed t.now) usages.now }
     ensures { IfOk result (λ v. v.items ≡ owned.owned_table (view_typed t.now) functions.now) }
 {
     let mut table = vec![in alloc; false; t.globals.as_slice().len()]?;
     for f in functions {
-        add_globals(alloc, t, *f, &mut table)?;
+        add_globals(t, usages, *f, &mut table);
     }
     Ok(table)
 }

@@ -3,6 +3,8 @@ pub mod LastLemmas
 pub mod LayoutLemmas
 pub mod LeafLemmas
 pub mod MovedLemmas
+pub mod OneList
+pub mod OneSides
 pub mod PatternLemmas
 pub mod PlaceLemmas
 pub mod RoomLemmas

@@ -2,6 +2,7 @@
 ghost use Rattle.std.specs.Prelude.{IfOk};
 ghost use Rattle.typed_tree.specs.TypedView.{view_typed};
 ghost use Rattle.sides.specs.Placed.{AreSides};
+ghost use Rattle.usages.specs.Lent.{AreUsages};
 
 use crate::layout::{Layout, lay_out};
 use crate::seeds::seed_table;
@@ -10,6 +11,7 @@ use pt_base::{FnId, GlobalId, Listed, Slot};
 use reach::{Half, call_edges, functions_in, globals_in, named_by, reached, slots_in};
 use std::alloc::{AllocError, Global};
 use typed_tree::Typed;
+use usages::Usages;
 
 /// What each half of a program has, the slots that values lie in, and where secrets begin. The lists of
 /// numbers are ascending, and have each number once.
@@ -31,22 +33,25 @@ pub struct Sides {
     pub in_slave: Vec<bool>,
 }
 
-/// The halves of a program, its slots and where secrets begin. Time and memory are linear in the
-/// program, in its slots, and in the leaves that come back from calls of privileged functions. The
-/// only error is want of memory; more than [`MOST_SLOTS`](crate::MOST_SLOTS) slots are that too, and more than
+/// The halves of a program, its slots and where secrets begin, of what its functions evaluate. Time and memory
+/// are linear in the program, in its slots, and in the leaves that come back from calls of privileged functions.
+/// The only error is want of memory; more than [`MOST_SLOTS`](crate::MOST_SLOTS) slots are that too, and more than
 /// [`MOST_PATH_NUMBERS`](crate::MOST_PATH_NUMBERS) numbers in the paths of the structs that have objects.
-pub fn place(alloc: Global, t: &Typed) -> Result<Sides, AllocError>
+pub fn place(alloc: Global, t: &Typed, usages: &Usages<'_>) -> Result<Sides, AllocError>
+    requires used { AreUsages (view_typed t.now) usages.now }
     ensures { IfOk result (λ s. AreSides (view_typed t.now) s) }
 {
     let (layout, slots) = lay_out(alloc, t)?;
-    let (to_monitor, to_slave) = call_edges(alloc, t)?;
+    let (to_monitor, to_slave) = call_edges(alloc, t, usages)?;
     let in_monitor = reached(alloc, t, Half::Monitor, &to_monitor)?;
     let in_slave = reached(alloc, t, Half::Slave, &to_slave)?;
     let monitor = functions_in(alloc, &in_monitor)?;
     let slave = functions_in(alloc, &in_slave)?;
-    let named = named_by(alloc, t, &slave)?;
+    let named = named_by(alloc, t, usages, &slave)?;
     let owned = globals_in(alloc, &named)?;
-    let marked = seed_table(alloc, t, &layout, &slots, &in_slave, &named, &slave)?;
+    let marked = seed_table(
+        alloc, t, usages, &layout, &slots, &in_slave, &named, &slave,
+    )?;
     let seeds = slots_in(alloc, &marked)?;
     Ok(Sides {
         monitor: Listed::new(monitor),

@@ -90,3 +90,12 @@ pub(crate) fn lay_out(alloc: Global, t: &Typed) -> Result<(Layout, Vec<SlotInfo>
     };
     Ok((layout, slots))
 }
+
+/// The slots of a program alone, each at its number. The only error is want of memory, as that of
+/// [`place`](crate::place).
+pub fn all_slots(alloc: Global, t: &Typed) -> Result<Listed<SlotInfo>, AllocError>
+    ensures { IfOk result (λ s. s ≡ slots_of (view_typed t.now)) }
+{
+    let (_layout, slots) = lay_out(alloc, t)?;
+    Ok(Listed::new(slots))
+}

@@ -21,7 +21,7 @@ mod types;
 pub use carried::{carried_slots, place_slots};
 pub use halves::{Sides, place};
 pub use laws::objects_have_their_slots;
-pub use layout::Layout;
+pub use layout::{Layout, all_slots};
 pub use leaf_table::LeafTable;
 pub use leaves::{leaves_like, struct_of};
 pub use marks::is_in;

@@ -11,6 +11,7 @@ ghost use Rattle.sides.specs.ScopeView.{view_scope};
 ghost use Rattle.sides.specs.Seeds as is;
 ghost use Rattle.sides.specs.Slots.{slots_of};
 ghost use Rattle.reach.specs.Tables.{set_all};
+ghost use Rattle.usages.specs.Lent.{AreUsages};
 
 use crate::carried::carried_slots;
 use crate::layout::Layout;
@@ -22,7 +23,7 @@ use indexmap::IndexSet;
 use pt_base::FnId;
 use std::alloc::{AllocError, Global};
 use typed_tree::Typed;
-use usages::{How, Usage, usages_in};
+use usages::{How, Usage, Usages};
 
 // adds the slots behind an expression that come back secret to a set, where it is the argument of a
 // privileged function
@@ -56,12 +57,14 @@ fn add_usage(
 fn add_body(
     alloc: Global,
     t: &Typed,
+    usages: &Usages<'_>,
     layout: &Layout,
     slots: &[SlotInfo],
     f: FnId,
     table: &mut [bool],
     seen: &mut IndexSet<Sealed>,
 ) -> Result<(), AllocError>
+    requires used { AreUsages (view_typed t.now) usages.now }
     requires layout { IsLayout (view_typed t.now) layout.now }
     requires slots { slots.now ≡ slots_of (view_typed t.now) }
     requires seen { Remembers slots.now table.old seen.old.keys }
@@ -69,8 +72,7 @@ fn add_body(
     ensures table { OnOk result (table.new ≡ set_all table.old (is.sealed_in (view_typed t.now) f)) }
 {
     let scope = layout.scope(t, f);
-    let usages = usages_in(alloc, t, f)?;
-    let list = usages.as_slice();
+    let list = usages.of(t, f);
     for usage in list {
         add_usage(alloc, t, layout, slots, &scope, usage, table, seen)?;
     }
@@ -81,12 +83,14 @@ fn add_body(
 pub(crate) fn seed_table(
     alloc: Global,
     t: &Typed,
+    usages: &Usages<'_>,
     layout: &Layout,
     slots: &[SlotInfo],
     in_slave: &[bool],
     owned: &[bool],
     functions: &[FnId],
 ) -> Result<Vec<bool>, AllocError>
+    requires used { AreUsages (view_typed t.now) usages.now }
     requires layout { IsLayout (view_typed t.now) layout.now }
     requires slots { slots.now ≡ slots_of (view_typed t.now) }
     ensures { IfOk result (λ v. v.items ≡ marking.seed_table (view_typed t.now) in_slave.now owned.now slots.now functions.now) }
@@ -94,7 +98,9 @@ pub(crate) fn seed_table(
     let mut table = marked_slots(alloc, t, in_slave, owned, slots)?;
     let mut seen = IndexSet::new(alloc);
     for f in functions {
-        add_body(alloc, t, layout, slots, *f, &mut table, &mut seen)?;
+        add_body(
+            alloc, t, usages, layout, slots, *f, &mut table, &mut seen,
+        )?;
     }
     Ok(table)
 }

@@ -1,2 +1,3 @@
 pub mod Joined
+mod LentLemmas
 pub mod UsageLemmas

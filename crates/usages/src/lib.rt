@@ -4,9 +4,11 @@
 mod bodies;
 mod conversions;
 mod expressions;
+mod lent;
 mod numbers;
 mod usage;
 
 pub use bodies::usages_in;
 pub use conversions::keeps_value;
+pub use lent::{Usages, usages_of};
 pub use usage::{How, Usage};

@@ -12,3 +12,13 @@ pub(crate) fn next_index(index: usize) -> Result<usize, AllocError>
         None => Err(AllocError),
     }
 }
+
+/// The number behind this one.
+pub(crate) fn next_number(number: u32) -> Result<u32, AllocError>
+    ensures { IfOk result (λ n. n ≡ number + 1) }
+{
+    match number.checked_add(1) {
+        Some(next) => Ok(next),
+        None => Err(AllocError),
+    }
+}

@@ -14,4 +14,4 @@ invariant_of-parts c = record {
 pub returns : goal.returns
 returns c =
     blocks_are c.args.name.now c.args.program.now _ (view_typed c.args.t.now) _ _ c.in_ok-list.list.items c.in_ok-text.text.items c.args.faults.now
-    c.in_ok-lines.ensures (c.as_slice-slots.ensures ∙ c.in_ok-sides.ensures.slots) c.as_slice-homes.ensures.value c.in_ok-list.ensures c.requires c.in_ok-text.ensures
+    c.in_ok-lines.ensures (c.as_slice-slots.ensures ∙ c.in_ok-all.ensures) c.as_slice-homes.ensures.value c.in_ok-list.ensures c.requires c.in_ok-text.ensures

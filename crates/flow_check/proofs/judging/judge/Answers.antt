@@ -1,19 +1,25 @@
 -- What the rules are asked, and what they answer.
-use Rattle.std.proofs.Common.{ap, subst, length, List}
+use Rattle.std.proofs.Common.{◌∙◌, length, subst, sym, List}
 use Rattle.pt_base.specs.declared.slot.Edge.{Edge}
+use Rattle.propagation.specs.Marks.{AreMarks}
+use Rattle.sides.specs.Slots.{slots_of}
 use Rattle.typed_tree.specs.TypedView.{view_typed}
 use Rattle.flow_rules.specs.Faults.{Answers}
-use Rattle.flow_check.proofs.JudgeLemmas.{judged, marks_are, seeds_within}
+use Rattle.flow_check.proofs.JudgeLemmas.{judged}
 use Rattle.flow_check.proofs.judging.judge.Goals as goal
 
-pub propagate-requires-clause-seeds : goal.propagate-requires-clause-seeds
-propagate-requires-clause-seeds g c =
-    seeds_within (view_typed c.args.t.now) c.in_ok-sides.sides _ c.in_ok-sides.ensures (ap length c.as_slice.ensures) _ c.as_slice-2.ensures
+pub check_flows-requires-clause-edges : goal.check_flows-requires-clause-edges
+check_flows-requires-clause-edges g c = c.as_slice.ensures ∙ c.in_ok-traced.ensures.edges
+
+pub check_flows-requires-clause-marks : goal.check_flows-requires-clause-marks
+check_flows-requires-clause-marks g c =
+    let x = c.in_ok-traced.traced in
+    subst (λ (es : List Edge). AreMarks x.sides.seeds es (length (slots_of (view_typed c.args.t.now))) x.marks) (sym c.as_slice.ensures) c.in_ok-traced.ensures.marks
 
 pub returns : goal.returns
 returns g c =
     let t = view_typed c.args.t.now in
-    let s = c.in_ok-sides.sides in
-    let marked = marks_are t s _ c.in_ok-sides.ensures (ap length c.as_slice.ensures) _ _ c.in_ok-edges.edges c.in_ok-marks.marks c.as_slice-2.ensures c.as_slice-3.ensures c.in_ok-marks.ensures in
-    judged t s c.in_ok-edges.edges c.in_ok-marks.marks c.check_flows.result c.in_ok-sides.ensures c.in_ok-edges.ensures.edges marked
-    (subst (λ (es : List Edge). Answers t s es c.in_ok-marks.marks c.check_flows.result) c.as_slice-4.ensures c.check_flows.ensures)
+    let x = c.in_ok-traced.traced in
+    let are = c.in_ok-traced.ensures in
+    judged t x.sides x.edges x.marks c.check_flows.result are.sides are.edges are.marks
+    (subst (λ (es : List Edge). Answers t x.sides es x.marks c.check_flows.result) c.as_slice.ensures c.check_flows.ensures)

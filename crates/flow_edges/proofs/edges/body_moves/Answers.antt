@@ -11,7 +11,7 @@ pub loop-usage-init : goal.loop-usage-init
 loop-usage-init c =
     let given = usage_edges (view_typed c.args.t.now) c.args.f.0 in record {
       edges =
-          ap (λ ms. moved_edges ms ++ flat_map given (map view_usage c.deref-usage-items.result.now)) c.new-moves.ensures.items
-          ∙ ap (flat_map given) (ap (map view_usage) c.deref-usage-items.ensures.value ∙ c.in_ok-usages.ensures);
+          ap (λ ms. moved_edges ms ++ flat_map given (map view_usage c.of-list.result.now)) c.new-moves.ensures.items
+          ∙ ap (flat_map given) c.of-list.ensures;
       items = c.none-items.ensures c.scope-scope.result.structs.now;
     }

@@ -10,7 +10,7 @@ use Rattle.flow_edges.proofs.edges.body_moves.Given as goal
 
 abbrev pub invariant-loop-usage : goal.invariant-loop-usage
 invariant-loop-usage l = record {
-  edges : moved_edges l.moves.items ++ flat_map (usage_edges (view_typed l.t) l.f.0) (map view_usage (drop l.usage-index l.usage-items))
+  edges : moved_edges l.moves.items ++ flat_map (usage_edges (view_typed l.t) l.f.0) (map view_usage (drop l.usage-index l.list))
       ≡ flat_map (usage_edges (view_typed l.t) l.f.0) (usages_in (view_typed l.t) l.f);
   items : AreItems l.scope.structs.now l.items;
 }

@@ -1,17 +1,15 @@
 -- What the rules are asked.
-use Rattle.std.proofs.Common.{◌∙◌, ap, length, sym}
+use Rattle.std.proofs.Common.{◌∙◌, length, subst, sym, List}
+use Rattle.pt_base.specs.declared.slot.Edge.{Edge}
+use Rattle.propagation.specs.Marks.{AreMarks}
+use Rattle.sides.specs.Slots.{slots_of}
 use Rattle.typed_tree.specs.TypedView.{view_typed}
-use Rattle.flow_picture.proofs.StageLemmas.{marks_are, seeds_within}
 use Rattle.flow_picture.proofs.pictures.with_program.Goals as goal
 
-pub propagate-requires-clause-seeds : goal.propagate-requires-clause-seeds
-propagate-requires-clause-seeds g c =
-    seeds_within (view_typed c.args.t.now) c.in_ok-sides.sides _ c.in_ok-sides.ensures (ap length c.as_slice.ensures) _ c.as_slice-2.ensures
-
 pub with_flows-requires-clause-edges : goal.with_flows-requires-clause-edges
-with_flows-requires-clause-edges g c = c.as_slice-4.ensures ∙ c.in_ok-edges.ensures.edges
+with_flows-requires-clause-edges g c = c.as_slice.ensures ∙ c.in_ok-traced.ensures.edges
 
 pub with_flows-requires-clause-marks : goal.with_flows-requires-clause-marks
 with_flows-requires-clause-marks g c =
-    marks_are (view_typed c.args.t.now) c.in_ok-sides.sides _ c.in_ok-sides.ensures (ap length c.as_slice.ensures) _ _ _ c.in_ok-marks.marks
-    c.as_slice-2.ensures (c.as_slice-3.ensures ∙ sym c.as_slice-4.ensures) c.in_ok-marks.ensures
+    let x = c.in_ok-traced.traced in
+    subst (λ (es : List Edge). AreMarks x.sides.seeds es (length (slots_of (view_typed c.args.t.now))) x.marks) (sym c.as_slice.ensures) c.in_ok-traced.ensures.marks

@@ -8,5 +8,5 @@ use Rattle.flow_rules.proofs.bodies.add_monitor_usages.Given as goal
 
 abbrev pub invariant-loop-usage : goal.invariant-loop-usage
 invariant-loop-usage l =
-    l.list.items ++ map kept (flat_map (host_in_monitor (view_flows l.flows)) (map view_usage (drop l.usage-index l.usage-items)))
+    l.list.items ++ map kept (flat_map (host_in_monitor (view_flows l.flows)) (map view_usage (drop l.usage-index l.usages)))
     ≡ l.fn.list.items ++ map kept (monitor_findings (view_flows l.flows) l.fn.f)

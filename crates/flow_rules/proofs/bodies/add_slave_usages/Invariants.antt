@@ -11,7 +11,7 @@ use Rattle.flow_rules.proofs.bodies.add_slave_usages.Given as goal
 
 abbrev pub invariant-loop-usage : goal.invariant-loop-usage
 invariant-loop-usage l = record {
-  found : l.list.items ++ map kept (flat_map (usage_findings (view_flows l.flows) l.f) (map view_usage (drop l.usage-index l.usage-items)))
+  found : l.list.items ++ map kept (flat_map (usage_findings (view_flows l.flows) l.f) (map view_usage (drop l.usage-index l.usages)))
       ≡ l.fn.list.items ++ map kept (flat_map (usage_findings (view_flows l.flows) l.fn.f) (usages_in (view_typed l.flows.t.now) l.fn.f));
   memo : Knows (view_flows l.flows) l.memo;
 }

@@ -11,7 +11,7 @@ use Rattle.reach.proofs.calls.add_calls.Goals as goal
 
 pub loop-usage-preserved : goal.loop-usage-preserved
 loop-usage-preserved c =
-    let split = ap (map view_usage) (split_at c.as_slice-list.result.now c.loop-usage.usage-index c.usage-item.result c.loop-usage-test.true c.usage-item.is) in
+    let split = ap (map view_usage) (split_at c.of-list.result.now c.loop-usage.usage-index c.usage-item.result c.loop-usage-test.true c.usage-item.is) in
     record {
       monitor = chosen_on (call_edge c.args.caller) (test_function (is_entered Monitor) (view_typed c.args.t.now)) (λ (u : UsageTree). expr_callees u.value) _ _ (view_usage c.usage-item.result) _ _ _
           split c.in_ok-add_call.ensures c.loop-usage.invariant.monitor;

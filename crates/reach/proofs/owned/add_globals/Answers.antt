@@ -10,4 +10,4 @@ use Rattle.reach.proofs.owned.add_globals.Goals as goal
 pub loop-usage-preserved : goal.loop-usage-preserved
 loop-usage-preserved c =
     numbers_on (λ (g : GlobalId). g.0) (λ (u : UsageTree). expr_globals u.value) _ _ (view_usage c.usage-item.result) _ _ _
-    (ap (map view_usage) (split_at c.as_slice-list.result.now c.loop-usage.usage-index c.usage-item.result c.loop-usage-test.true c.usage-item.is)) c.add_named.ensures c.loop-usage.invariant
+    (ap (map view_usage) (split_at c.of-list.result.now c.loop-usage.usage-index c.usage-item.result c.loop-usage-test.true c.usage-item.is)) c.add_named.ensures c.loop-usage.invariant

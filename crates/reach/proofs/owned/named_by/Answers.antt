@@ -8,4 +8,4 @@ use Rattle.reach.proofs.owned.named_by.Goals as goal
 pub loop-f-preserved : goal.loop-f-preserved
 loop-f-preserved c =
     item_on (global_numbers (view_typed c.args.t.now)) _ _ _ _ _ _ (split_or c.args.functions.now c.loop-f.f-index (record { 0 = 0 }) c.loop-f-test.true)
-    (kept_items c.loop-f.table _ _ (global_numbers (view_typed c.args.t.now) (get_or c.args.functions.now c.loop-f.f-index (record { 0 = 0 }))) c.in_ok-add_globals.ensures c.deref_mut.ensures.value c.deref_mut.ensures.len) c.loop-f.invariant
+    (kept_items c.loop-f.table _ _ (global_numbers (view_typed c.args.t.now) (get_or c.args.functions.now c.loop-f.f-index (record { 0 = 0 }))) c.add_globals.ensures c.deref_mut.ensures.value c.deref_mut.ensures.len) c.loop-f.invariant

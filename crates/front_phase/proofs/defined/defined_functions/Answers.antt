@@ -1,6 +1,0 @@
-use Rattle.typed_tree.specs.TypedView.{view_typed}
-use Rattle.front_phase.proofs.DefinedLemmas.{all_defined}
-use Rattle.front_phase.proofs.defined.defined_functions.Goals as goal
-
-pub returns-clause-defined : goal.returns-clause-defined
-returns-clause-defined c = rw c.in_ok-list.ensures (all_defined (view_typed c.args.t.now))

@@ -1,9 +1,0 @@
-use Rattle.std.proofs.Common.{◌≡◌, ◌++◌, drop, map}
-use Rattle.typed_tree.specs.TypedTree.{view_function}
-use Rattle.typed_tree.specs.TypedView.{view_typed}
-use Rattle.front_phase.specs.Defined.{defined, defined_from}
-use Rattle.front_phase.proofs.defined.numbers.Given as goal
-
--- those so far, and then the others, are all of them
-abbrev pub invariant-loop-function : goal.invariant-loop-function
-invariant-loop-function l = l.list.items ++ defined_from l.number (map view_function (drop l.function-index l.t.functions.items)) ≡ defined (view_typed l.fn.t)

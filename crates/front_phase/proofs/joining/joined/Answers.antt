@@ -1,6 +1,0 @@
-use Rattle.std.proofs.Common.{arith}
-use Rattle.front_phase.proofs.JoinLemmas.{joined-more}
-use Rattle.front_phase.proofs.joining.joined.Goals as goal
-
-pub loop-part-preserved : goal.loop-part-preserved
-loop-part-preserved g c = grind (arith, joined-more)

@@ -1,0 +1,3 @@
+pub mod DefinedLemmas
+pub mod JoinLemmas
+pub mod RunLemmas
