@@ -1,4 +1,5 @@
-//! Runs rows of lists against the whole tool over files and another process in memory: words in, status, output and report out.
+//! Runs rows of lists against the whole tool over files and another process in memory, and over files of the
+//! system with a child that a shell runs: words in, status, output and report out.
 #![tactic(auto)]
 
 mod calls;
@@ -8,25 +9,34 @@ mod locals;
 mod outside;
 mod peer;
 mod session;
+mod system;
 mod watched;
 
 use anyhow::Result;
 use case_rows::show_lists;
 use session::Session;
-use std::rt::Runtime;
+use std::io::Read;
+use std::os::fd::AsFd;
+use std::process::Processes;
+use std::rt::{Files, Runtime};
 use std::thread::{Builder, Threads};
+use system::System;
 
 /// The work goes as deep as a text nests, so it gets this many bytes of stack.
 const STACK: usize = 1 << 30;
 
-fn show_rows<R: Runtime + AllocGlobal + Threads + Sync>(rt: &R) -> Result<()> {
-    let mut session = Session::new(rt.alloc());
+fn show_rows<
+    R: Runtime + Files + Processes + Threads + AllocGlobal + Sync,
+    I: Read + Drop + Copy,
+    O: AsFd + Drop + Copy,
+>(rt: &R, input: I, output: O) -> Result<()> {
+    let mut session = Session::new(rt.alloc(), System::new(rt, input, output));
     show_lists(rt, &mut session)
 }
 
 fn main(rt: HostRuntime) -> Result<()> {
     Builder::new()
         .stack_size(STACK)
-        .spawn(&rt, move || show_rows(&rt))?
+        .spawn(&rt, move || show_rows(&rt, rt.stdin(), rt.stdout()))?
         .join(&rt)
 }

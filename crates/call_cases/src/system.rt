@@ -1,6 +1,7 @@
-// What each row shows.
+// The whole tool over the files of the system, with a child that is a shell, a file of its own, or nothing.
+use crate::calls::words_of;
 use anyhow::{Result, bail};
-use case_rows::{Shows, Silent, first_word, push_bytes, spelled};
+use case_rows::{Silent, first_word, push_bytes, spelled};
 use honest_link::Witness;
 use privtrans_app::privtrans;
 use process_link::{Child, RealFolder};
@@ -18,16 +19,47 @@ const SHELL: &str = "/bin/sh";
 
 /// The files of the system, and the streams to a parent, which nothing here takes over.
 #[derive(Drop)]
-pub struct Session<'a, R: Files + Processes, I: Read + Drop + Copy, O: AsFd + Drop + Copy> {
+pub struct System<
+    'a,
+    R: Files + Processes + AllocGlobal,
+    I: Read + Drop + Copy,
+    O: AsFd + Drop + Copy,
+> {
     rt: &'a R,
     input: I,
     output: O,
 }
 
-impl<'a, R: Files + Processes, I: Read + Drop + Copy, O: AsFd + Drop + Copy> Session<'a, R, I, O> {
-    /// The outside with these streams.
+impl<'a, R: Files + Processes + AllocGlobal, I: Read + Drop + Copy, O: AsFd + Drop + Copy> System<
+    'a,
+    R,
+    I,
+    O,
+> {
+    /// The system with these streams.
     pub fn new(rt: &'a R, input: I, output: O) -> Self {
-        Session { rt, input, output }
+        System { rt, input, output }
+    }
+
+    /// What a row shows. Its first word says whether a file is written or shown, or what the child is in a call: a shell, no
+    /// file, or this one.
+    ///
+    /// # Errors
+    ///
+    /// A row of no such form, a file that can't be written or read, and want of memory.
+    pub fn shown<T: Threads + Sync>(&self, rt: &T, alloc: Global, row: &str) -> Result<String> {
+        let (word, rest) = first_word(row);
+        match word {
+            "file" => self.write(alloc, rest),
+            "text" => self.text(alloc, rest),
+            "shell" => self.call(rt, alloc, SHELL, rest),
+            "nothing" => self.call(rt, alloc, "", rest),
+            "child" => {
+                let (file, words) = first_word(rest);
+                self.call(rt, alloc, file, words)
+            }
+            _ => bail!("no such row"),
+        }
     }
 
     // Makes the call with the row's words; its child is this file.
@@ -68,34 +100,15 @@ impl<'a, R: Files + Processes, I: Read + Drop + Copy, O: AsFd + Drop + Copy> Ses
         fs::write(self.rt, name, spelled(alloc, text)?.as_bytes())?;
         Ok(format!(in alloc; "file {row}")?)
     }
-}
 
-impl<'a, R: Files + Processes, I: Read + Drop + Copy, O: AsFd + Drop + Copy> Shows
-    for Session<'a, R, I, O> {
-    fn begin_list(&mut self, _alloc: Global) {}
-
-    // The first word says whether a file is written, or what the child is in a call: a shell, no file, or this one.
-    fn shown<T: Threads + Sync>(&mut self, rt: &T, alloc: Global, row: &str) -> Result<String> {
-        let (word, rest) = first_word(row);
-        match word {
-            "file" => self.write(alloc, rest),
-            "shell" => self.call(rt, alloc, SHELL, rest),
-            "nothing" => self.call(rt, alloc, "", rest),
-            "child" => {
-                let (file, words) = first_word(rest);
-                self.call(rt, alloc, file, words)
-            }
-            _ => bail!("no such row"),
-        }
+    // The text of a file, as the rows of `file` spell it.
+    fn text(&self, alloc: Global, name: &str) -> Result<String> {
+        let text = fs::read_to_string(self.rt, name)?;
+        let mut told = format!(in alloc; "text {name}\n  \"")?;
+        push_bytes(&mut told, text.as_bytes())?;
+        told.push('"')?;
+        Ok(told)
     }
-}
-
-fn words_of<'a>(alloc: Global, row: &'a str) -> Result<Vec<&'a str>, AllocError> {
-    let mut words = Vec::new(alloc);
-    for word in row.split_whitespace() {
-        words.push(word)?;
-    }
-    Ok(words)
 }
 
 fn push_ending(told: &mut String, status: u8, out: &[u8], report: &[u8]) -> Result<(), AllocError> {
