@@ -3,5 +3,5 @@ use Rattle.std.proofs.Common.{◌≡◌, ℕ, Result, subst}
 use Rattle.pt_base.specs.Faults.{HasCause}
 
 -- what came before this call served
-pub cause_after : {T E : Type 0} (a b c : ℕ) (result : Result T E) (failed : E) → b ≡ a → HasCause b c result failed → HasCause a c result failed
-cause_after a b c result failed same h = subst (λ n. HasCause n c result failed) same h
+pub cause_after : {T E : Type 0} (a b c : ℕ) (result : Result T E) (failed wanting : E) → b ≡ a → HasCause b c result failed wanting → HasCause a c result failed wanting
+cause_after a b c result failed wanting same h = subst (λ n. HasCause n c result failed wanting) same h

@@ -24,7 +24,7 @@ fn send_message<L: Link>(alloc: Global, message: &Message, link: &mut L) -> Resu
     ensures spelled { OnOk result (Spells message.now (spelling message.now)) }
     ensures err { OnErr result (Parts L.sent L.given link.old link.new [] (spelling message.now)) }
     ensures ready { L.ready link.new }
-    ensures cause { HasCause (L.faults link.old) (L.faults link.new) result LinkFault.Failed }
+    ensures cause { HasCause (L.faults link.old) (L.faults link.new) result LinkFault.Failed LinkFault.Memory }
 {
     let mut frame = Vec::new(alloc);
     write_message(alloc, message, &mut frame)?;
@@ -39,7 +39,7 @@ fn send_piece<L: Link>(alloc: Global, piece: &[u8], link: &mut L) -> Result<(), 
     ensures ok { OnOk result (Talks L.came L.sent L.given link.old link.new (piece_sent piece.now ∷ [])) }
     ensures err { OnErr result (Parts L.sent L.given link.old link.new [] (spelling (Boot piece.now))) }
     ensures ready { L.ready link.new }
-    ensures cause { HasCause (L.faults link.old) (L.faults link.new) result LinkFault.Failed }
+    ensures cause { HasCause (L.faults link.old) (L.faults link.new) result LinkFault.Failed LinkFault.Memory }
 {
     let copy = piece.to_vec(alloc)?;
     let message = Message::Boot(Bytes::new(copy));
@@ -70,7 +70,7 @@ pub(crate) fn send_boot<L: Link>(alloc: Global, boot: &[u8], link: &mut L) -> Re
     ensures ok { OnOk result (Talks L.came L.sent L.given link.old link.new (boot_talk boot.now)) }
     ensures err { OnErr result (Parts L.sent L.given link.old link.new [] (boot_frames boot.now)) }
     ensures ready { L.ready link.new }
-    ensures cause { HasCause (L.faults link.old) (L.faults link.new) result LinkFault.Failed }
+    ensures cause { HasCause (L.faults link.old) (L.faults link.new) result LinkFault.Failed LinkFault.Memory }
 {
     let mut rest = boot;
     while rest.len() > LONGEST_PIECE {
@@ -96,7 +96,7 @@ pub(crate) fn send_reply<L: Link>(
     ensures spelled { OnOk result (IfSome reply IsSpelled) }
     ensures err { OnErr result (Parts L.sent L.given link.old link.new [] (reply_frames (listed reply))) }
     ensures ready { L.ready link.new }
-    ensures cause { HasCause (L.faults link.old) (L.faults link.new) result LinkFault.Failed }
+    ensures cause { HasCause (L.faults link.old) (L.faults link.new) result LinkFault.Failed LinkFault.Memory }
 {
     let Some(body) = reply else {
         return Ok(());

@@ -28,7 +28,7 @@ const MOST_AT_ONCE: usize = 65_536;
 fn write_out<K: Sink>(alloc: Global, bytes: &[u8], sink: &mut K) -> Result<(), SinkFault>
     ensures ok { OnOk result (Appends (K.taken sink.old) (K.taken sink.new) bytes.now) }
     ensures err { OnErr result (AppendsPart (K.taken sink.old) (K.taken sink.new) bytes.now) }
-    ensures cause { HasCause (K.faults sink.old) (K.faults sink.new) result SinkFault.Failed }
+    ensures cause { HasCause (K.faults sink.old) (K.faults sink.new) result SinkFault.Failed SinkFault.Memory }
 {
     if bytes.is_empty() {
         return Ok(());
@@ -53,8 +53,8 @@ fn give_back<L: Link, K: Sink>(
     ensures behind { IsErrOf result RunFault.SinkFailed → link.new ≡ link.old }
     ensures written { IsErrOf result RunFault.LinkFailed → Appends (K.taken sink.old) (K.taken sink.new) bytes.now }
     ensures ready { L.ready link.new }
-    ensures link { HasCause (L.faults link.old) (L.faults link.new) result RunFault.LinkFailed }
-    ensures sink { HasCause (K.faults sink.old) (K.faults sink.new) result RunFault.SinkFailed }
+    ensures link { HasCause (L.faults link.old) (L.faults link.new) result RunFault.LinkFailed RunFault.Memory }
+    ensures sink { HasCause (K.faults sink.old) (K.faults sink.new) result RunFault.SinkFailed RunFault.Memory }
     ensures first { FirstFault (L.faults link.old) (L.faults link.new) (K.faults sink.old) (K.faults sink.new) result }
 {
     write_out(alloc, bytes, sink)?;
@@ -79,8 +79,8 @@ fn serve_message<L: Link, K: Sink>(
         (IsMonitor monitor.new) offset (serve m message.now) result }
     ensures behind { IsErrOf result RunFault.SinkFailed → link.new ≡ link.old }
     ensures ready { L.ready link.new }
-    ensures link { HasCause (L.faults link.old) (L.faults link.new) result RunFault.LinkFailed }
-    ensures sink { HasCause (K.faults sink.old) (K.faults sink.new) result RunFault.SinkFailed }
+    ensures link { HasCause (L.faults link.old) (L.faults link.new) result RunFault.LinkFailed RunFault.Memory }
+    ensures sink { HasCause (K.faults sink.old) (K.faults sink.new) result RunFault.SinkFailed RunFault.Memory }
     ensures first { FirstFault (L.faults link.old) (L.faults link.new) (K.faults sink.old) (K.faults sink.new) result }
 {
     replies_are_spelled();
@@ -107,7 +107,7 @@ fn hear<L: Link>(alloc: Global, reader: &mut Reader, link: &mut L) -> Result<(),
     ensures ok { OnOk result (Fed (λ talk bytes. Talks L.came L.sent L.given link.old link.new talk) reader.old reader.new) }
     ensures err { IfErr result (Unfed (λ talk bytes. Talks L.came L.sent L.given link.old link.new talk) (λ given sent bytes. Parts L.sent L.given link.old link.new given sent)) }
     ensures ready { L.ready link.new }
-    ensures link { HasCause (L.faults link.old) (L.faults link.new) result RunFault.LinkFailed }
+    ensures link { HasCause (L.faults link.old) (L.faults link.new) result RunFault.LinkFailed RunFault.Memory }
     ensures first { (sinks : ℕ) → FirstFault (L.faults link.old) (L.faults link.new) sinks sinks result }
 {
     let piece = link.receive(alloc, MOST_AT_ONCE)?;
@@ -136,8 +136,8 @@ pub(crate) fn turn<L: Link, K: Sink>(
         (IsMonitor monitor.new) m reader.old reader.new result }
     ensures behind { IsErrOf result RunFault.SinkFailed → link.new ≡ link.old }
     ensures ready { L.ready link.new }
-    ensures link { HasCause (L.faults link.old) (L.faults link.new) result RunFault.LinkFailed }
-    ensures sink { HasCause (K.faults sink.old) (K.faults sink.new) result RunFault.SinkFailed }
+    ensures link { HasCause (L.faults link.old) (L.faults link.new) result RunFault.LinkFailed RunFault.Memory }
+    ensures sink { HasCause (K.faults sink.old) (K.faults sink.new) result RunFault.SinkFailed RunFault.Memory }
     ensures first { FirstFault (L.faults link.old) (L.faults link.new) (K.faults sink.old) (K.faults sink.new) result }
 {
     let Some((message, offset)) = reader.next(alloc)? else {

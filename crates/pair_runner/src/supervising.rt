@@ -27,8 +27,8 @@ fn serve_peer<L: Link, K: Sink>(
     ensures outcome { (m : s.Monitor) → IsMonitor monitor.old m
         → IsOutcome (Moves L.came L.sent L.given K.taken link.old link.new sink.old sink.new) (Breaks L.sent L.given K.taken link.old link.new sink.old sink.new) m result }
     ensures ready { L.ready link.new }
-    ensures link { HasCause (L.faults link.old) (L.faults link.new) result RunFault.LinkFailed }
-    ensures sink { HasCause (K.faults sink.old) (K.faults sink.new) result RunFault.SinkFailed }
+    ensures link { HasCause (L.faults link.old) (L.faults link.new) result RunFault.LinkFailed RunFault.Memory }
+    ensures sink { HasCause (K.faults sink.old) (K.faults sink.new) result RunFault.SinkFailed RunFault.Memory }
     ensures first { FirstFault (L.faults link.old) (L.faults link.new) (K.faults sink.old) (K.faults sink.new) result }
 {
     let mut reader = Reader::new(alloc);
@@ -48,8 +48,8 @@ fn serve_peer<L: Link, K: Sink>(
 ///
 /// `BadPeer` where these frames break a rule, and `PeerEnded` where they don't come to an end. `LinkFailed` and
 /// `SinkFailed` come only where the count of faults rose; after these two, and after `Memory`, a first part was
-/// written and sent. Of the calls of the link and the sink one at most fails, and none where it comes to an end or the
-/// peer is to blame.
+/// written and sent. Of the calls of the link and the sink one at most fails, and none where it comes to an end, memory
+/// runs out or the peer is to blame.
 pub fn supervise<L: Link, K: Sink>(
     alloc: Global,
     monitor: &mut Monitor,
@@ -63,8 +63,8 @@ pub fn supervise<L: Link, K: Sink>(
         → IsOutcome (behind_boot (Moves L.came L.sent L.given K.taken link.old link.new sink.old sink.new) boot.now)
         (broken_behind_boot (Breaks L.sent L.given K.taken link.old link.new sink.old sink.new) boot.now) m result }
     ensures ready { L.ready link.new }
-    ensures link { HasCause (L.faults link.old) (L.faults link.new) result RunFault.LinkFailed }
-    ensures sink { HasCause (K.faults sink.old) (K.faults sink.new) result RunFault.SinkFailed }
+    ensures link { HasCause (L.faults link.old) (L.faults link.new) result RunFault.LinkFailed RunFault.Memory }
+    ensures sink { HasCause (K.faults sink.old) (K.faults sink.new) result RunFault.SinkFailed RunFault.Memory }
     ensures first { FirstFault (L.faults link.old) (L.faults link.new) (K.faults sink.old) (K.faults sink.new) result }
 {
     send_boot(alloc, boot, link)?;

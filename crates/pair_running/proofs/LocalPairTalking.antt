@@ -99,7 +99,7 @@ ends answers a b sink sink' boot x m window stopped law end at stops =
 
 pub only_memory : {C : Type 0} (answers : C → Option (ℕ → base.Who)) (a b : MemoryLink C) (sink sink' : Written) (boot : List ℕ) (x : Slave) (m : Monitor) (window : ℕ) (fault : RunFault) →
     TalksEnd → ComesToAnEnd x m window → Begins a x window sink → IsOutcome (TalksBy answers a b sink sink' boot) (BreaksBy a b sink sink' boot) m (Err fault) →
-    HasCause {T = End} 0 0 (Err fault) LinkFailed → HasCause {T = End} 0 0 (Err fault) SinkFailed → fault ≡ Memory
+    HasCause {T = End} 0 0 (Err fault) LinkFailed Memory → HasCause {T = End} 0 0 (Err fault) SinkFailed Memory → fault ≡ Memory
 only_memory answers a b sink sink' boot x m window LinkFailed law end at outcome link sink_cause = absurd (no_rise (link.cause refl))
 only_memory answers a b sink sink' boot x m window SinkFailed law end at outcome link sink_cause = absurd (no_rise (sink_cause.cause refl))
 only_memory answers a b sink sink' boot x m window (BadPeer number place) law end at outcome link sink_cause =

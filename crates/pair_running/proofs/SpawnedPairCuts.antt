@@ -80,8 +80,8 @@ expected_whole writes whole cut turns (Err (BadPeer rule offset)) is x = x
 expected_whole writes whole cut turns (Err PeerEnded) is x = x
 expected_whole writes whole cut turns (Err Memory) is x = x
 
-pub cuts_are_enough : {S K : Type 0} (honest : S → (List ℕ → List ℕ) → (List ℕ → Bool) → Type 0) (sent given : S → Option (List ℕ)) (taken : K → Option (List ℕ)) → CutsAreEnough honest sent given taken
-cuts_are_enough honest sent given taken = record {
+pub cuts_are_enough : {S K : Type 0} (starts : S → S → Type 0) (came : S → List Event → S → Type 0) (honest : S → (List ℕ → List ℕ) → (List ℕ → Bool) → Type 0) (sent given : S → Option (List ℕ)) (taken : K → Option (List ℕ)) → CutsAreEnough starts came honest sent given taken
+cuts_are_enough starts came honest sent given taken = record {
   served = λ whole cut turns spawner spawner' sink sink' result is x. served_whole _ _ _ whole cut turns result is x;
   expected = λ whole cut turns spawner sink sink' result is x for_it. expected_whole _ whole cut turns result is (x (honest_cut honest sent given whole cut turns spawner is for_it));
 }

@@ -3,7 +3,7 @@ use Rattle.std.proofs.Common.{◌≡◌, ◌∙◌, ◌<◌, ◌^◌, ℕ, Bool,
 use Rattle.std.specs.Prelude.{◌||◌, ◌&&◌, IsTrue, drop, ⊤}
 use Rattle.std.specs.Io.KnownBytes.{Appends}
 use Rattle.boot_fields.specs.Limits.{Spells}
-use Rattle.honest_link.specs.Came.{Came, IsHonest}
+use Rattle.honest_link.specs.Came.{IsHonest, Started}
 use Rattle.honest_link.specs.Talks.{Along}
 use Rattle.pair_running.specs.HonestTalksLaws.{BegunPairsAreFair, HonestTalksAreExpected, IsHonestTalk}
 use Rattle.monitor_interp.specs.Gates.{hosts_for}
@@ -76,10 +76,10 @@ record StopsAsExpected (e : Expected) (stopped : Stopped) (writes : List ℕ →
   at : stopped ≡ at_end e.end
   written : writes e.bytes
 
-stops_as_expected : {S K : Type 0} (honest : S → (List ℕ → List ℕ) → (List ℕ → Bool) → Type 0) (sent given : S → Option (List ℕ)) (taken : K → Option (List ℕ)) (a b : S) (k n : K) (pair : Pair) (turns : ℕ) (t : Texts) (bytes : List ℕ) (stopped : Stopped) →
-    (x : Knows honest sent given a pair turns t bytes) → Stops (behind_boot (Moves (Came honest sent given) sent given taken a b k n) bytes) (alone (monitor_in pair turns)) stopped →
+stops_as_expected : {S K : Type 0} (starts : S → S → Type 0) (came : S → List Event → S → Type 0) (honest : S → (List ℕ → List ℕ) → (List ℕ → Bool) → Type 0) (sent given : S → Option (List ℕ)) (taken : K → Option (List ℕ)) (a b : S) (k n : K) (pair : Pair) (turns : ℕ) (t : Texts) (bytes : List ℕ) (stopped : Stopped) →
+    (x : Knows honest sent given a pair turns t bytes) → Stops (behind_boot (Moves (Started starts came honest sent given) sent given taken a b k n) bytes) (alone (monitor_in pair turns)) stopped →
     StopsAsExpected (expected_in pair turns t x.texts) stopped (Appends (taken k) (taken n))
-stops_as_expected honest sent given taken a b k n pair turns t bytes stopped x s =
+stops_as_expected starts came honest sent given taken a b k n pair turns t bytes stopped x s =
     let m = monitor_in pair turns in
     let boot = view_boot pair.boot in
     let begun = begun_of pair turns t x.texts in
@@ -91,7 +91,7 @@ stops_as_expected honest sent given taken a b k n pair turns t bytes stopped x s
       in_form = none_in_form bytes boot;
     } in
     let talk_is : IsHonestTalk boot bytes (boot_talk bytes ++ s.talk) =
-    loosened (says boot) (is_form bytes boot) (IsHonest honest sent given b (says boot) (is_form bytes boot)) (boot_talk bytes ++ s.talk) [] [] (s.moved.talks.came_by (says boot) (is_form bytes boot) [] [] at_first) in
+    loosened (says boot) (is_form bytes boot) (IsHonest honest sent given b (says boot) (is_form bytes boot)) (boot_talk bytes ++ s.talk) [] [] (s.moved.talks.came_by.along (says boot) (is_form bytes boot) [] [] at_first) in
     let comes = x.talks (expected_in pair turns t x.texts) boot (alone m) pair_is bytes s.talk s.served talk_is s.serves in
     record { at = sym s.stop ∙ comes.0; written = subst (Appends (taken k) (taken n)) comes.1 s.moved.writes }
 
@@ -106,23 +106,23 @@ not_open end is = cc
 one_end : (end end' : End) → at_end end ≡ at_end end' → end ≡ end'
 one_end end end' is = cc
 
-pub expected_fault : {S K : Type 0} (honest : S → (List ℕ → List ℕ) → (List ℕ → Bool) → Type 0) (sent given : S → Option (List ℕ)) (taken : K → Option (List ℕ)) (a b : S) (k n : K) (pair : Pair) (turns : ℕ) (t : Texts) (bytes : List ℕ) (fault : RunFault) →
-    Knows honest sent given a pair turns t bytes → IsOutcome (behind_boot (Moves (Came honest sent given) sent given taken a b k n) bytes) (broken_behind_boot (Breaks sent given taken a b k n) bytes) (alone (monitor_in pair turns)) (Err fault) →
+pub expected_fault : {S K : Type 0} (starts : S → S → Type 0) (came : S → List Event → S → Type 0) (honest : S → (List ℕ → List ℕ) → (List ℕ → Bool) → Type 0) (sent given : S → Option (List ℕ)) (taken : K → Option (List ℕ)) (a b : S) (k n : K) (pair : Pair) (turns : ℕ) (t : Texts) (bytes : List ℕ) (fault : RunFault) →
+    Knows honest sent given a pair turns t bytes → IsOutcome (behind_boot (Moves (Started starts came honest sent given) sent given taken a b k n) bytes) (broken_behind_boot (Breaks sent given taken a b k n) bytes) (alone (monitor_in pair turns)) (Err fault) →
     IsExpectedOver (λ written. Appends (taken k) (taken n) written) t turns (Err fault)
-expected_fault honest sent given taken a b k n pair turns t bytes LinkFailed x outcome = tt {0}
-expected_fault honest sent given taken a b k n pair turns t bytes SinkFailed x outcome = tt {0}
-expected_fault honest sent given taken a b k n pair turns t bytes (BadPeer number place) x outcome =
-    no_rule outcome.0 place _ (stops_as_expected honest sent given taken a b k n pair turns t bytes (at_rule outcome.0 place) x outcome.2).at
-expected_fault honest sent given taken a b k n pair turns t bytes PeerEnded x outcome = not_open _ (stops_as_expected honest sent given taken a b k n pair turns t bytes still_open x outcome).at
-expected_fault honest sent given taken a b k n pair turns t bytes Memory x outcome = tt {0}
+expected_fault starts came honest sent given taken a b k n pair turns t bytes LinkFailed x outcome = tt {0}
+expected_fault starts came honest sent given taken a b k n pair turns t bytes SinkFailed x outcome = tt {0}
+expected_fault starts came honest sent given taken a b k n pair turns t bytes (BadPeer number place) x outcome =
+    no_rule outcome.0 place _ (stops_as_expected starts came honest sent given taken a b k n pair turns t bytes (at_rule outcome.0 place) x outcome.2).at
+expected_fault starts came honest sent given taken a b k n pair turns t bytes PeerEnded x outcome = not_open _ (stops_as_expected starts came honest sent given taken a b k n pair turns t bytes still_open x outcome).at
+expected_fault starts came honest sent given taken a b k n pair turns t bytes Memory x outcome = tt {0}
 
-pub expected_end : {S K : Type 0} (honest : S → (List ℕ → List ℕ) → (List ℕ → Bool) → Type 0) (sent given : S → Option (List ℕ)) (taken : K → Option (List ℕ)) (a b : S) (k n : K) (pair : Pair) (turns : ℕ) (t : Texts) (bytes : List ℕ) (end : End) (names : List (List ℕ)) (shown : Ended) →
-    Knows honest sent given a pair turns t bytes → IsOutcome (behind_boot (Moves (Came honest sent given) sent given taken a b k n) bytes) (broken_behind_boot (Breaks sent given taken a b k n) bytes) (alone (monitor_in pair turns)) (Ok end) →
+pub expected_end : {S K : Type 0} (starts : S → S → Type 0) (came : S → List Event → S → Type 0) (honest : S → (List ℕ → List ℕ) → (List ℕ → Bool) → Type 0) (sent given : S → Option (List ℕ)) (taken : K → Option (List ℕ)) (a b : S) (k n : K) (pair : Pair) (turns : ℕ) (t : Texts) (bytes : List ℕ) (end : End) (names : List (List ℕ)) (shown : Ended) →
+    Knows honest sent given a pair turns t bytes → IsOutcome (behind_boot (Moves (Started starts came honest sent given) sent given taken a b k n) bytes) (broken_behind_boot (Breaks sent given taken a b k n) bytes) (alone (monitor_in pair turns)) (Ok end) →
     names ≡ pair.names → ended_seen shown ≡ ended_with names end → IsExpectedOver (λ written. Appends (taken k) (taken n) written) t turns (Ok (Ran shown))
-expected_end honest sent given taken a b k n pair turns t bytes end names shown x outcome named is =
+expected_end starts came honest sent given taken a b k n pair turns t bytes end names shown x outcome named is =
     let begun = (begun_of pair turns t x.texts).started in
     let e = expected_in pair turns t x.texts in
-    let stops = stops_as_expected honest sent given taken a b k n pair turns t bytes (at_end end) x outcome in
+    let stops = stops_as_expected starts came honest sent given taken a b k n pair turns t bytes (at_end end) x outcome in
     let ends : end ≡ e.end = one_end end e.end stops.at in
     let names_are : names ≡ names_of begun.tree = named ∙ x.texts.begins.1 in (
       e.bytes,

@@ -5,7 +5,7 @@ use Rattle.pt_base.specs.declared.end.End.{End}
 use Rattle.pt_base.specs.declared.link.LinkFault.{LinkFault}
 use Rattle.pt_base.specs.Talk.{Event}
 use Rattle.pt_base.specs.Told.{AppendsPart}
-use Rattle.honest_link.specs.Came.{Came}
+use Rattle.honest_link.specs.Came.{Came, Started}
 use Rattle.pair_meaning.specs.Monitors.{Monitor}
 use Rattle.pair_meaning.specs.Peer.{boot_frames}
 use Rattle.pair_runner.specs.declared.fault.RunFault.{RunFault}
@@ -37,28 +37,34 @@ told None y s is keeps = cc
 told (Some x) None s is keeps = absurd keeps
 told (Some x) (Some y) s is keeps = ap (λ l. Some l) keeps ∙ is
 
--- it is honest still, and nothing was sent or given
-pub record IsStarted {S : Type 0} (honest : S → (List ℕ → List ℕ) → (List ℕ → Bool) → Type 0) (sent given : S → Option (List ℕ)) (a b : S) : Type 0 where
+-- it started its peer, it is honest still, and nothing was sent or given
+pub record IsStarted {S : Type 0} (starts : S → S → Type 0) (honest : S → (List ℕ → List ℕ) → (List ℕ → Bool) → Type 0) (sent given : S → Option (List ℕ)) (a b : S) : Type 0 where
+  pub became : starts a b
   pub honest_still : (says : List ℕ → List ℕ) (form : List ℕ → Bool) → honest a says form → honest b says form
   pub none_sent : Keeps (sent a) (sent b)
   pub none_given : Keeps (given a) (given b)
 
-came_since : {S : Type 0} (honest : S → (List ℕ → List ℕ) → (List ℕ → Bool) → Type 0) (sent given : S → Option (List ℕ)) (a b c : S) (talk : List Event) → IsStarted honest sent given a b → Came honest sent given b talk c → Came honest sent given a talk c
-came_since honest sent given a b c talk at came = λ says form s g h. came says form s g (record {
+came_since : {S : Type 0} (starts : S → S → Type 0) (honest : S → (List ℕ → List ℕ) → (List ℕ → Bool) → Type 0) (sent given : S → Option (List ℕ)) (a b c : S) (talk : List Event) → IsStarted starts honest sent given a b → Came honest sent given b talk c → Came honest sent given a talk c
+came_since starts honest sent given a b c talk at came = λ says form s g h. came says form s g (record {
   is = at.honest_still says form h.is;
   sent_so = told (sent a) (sent b) s h.sent_so at.none_sent;
   given_so = told (given a) (given b) g h.given_so at.none_given;
   in_form = h.in_form;
 })
 
-pub since_start : {S K : Type 0} (came : S → List Event → S → Type 0) (honest : S → (List ℕ → List ℕ) → (List ℕ → Bool) → Type 0) (sent given : S → Option (List ℕ)) (taken : K → Option (List ℕ)) (a b c : S) (k n : K) (boot : List ℕ) (m : Monitor) (result : Result End RunFault) →
-    ((a b : S) (talk : List Event) → came a talk b → Came honest sent given a talk b) → IsStarted honest sent given a b → Behind came sent given taken b c k n boot m result → Behind (Came honest sent given) sent given taken a c k n boot m result
-since_start came honest sent given taken a b c k n boot m result along at h =
-    outcome_mapped (behind_boot (Moves came sent given taken b c k n) boot) (behind_boot (Moves (Came honest sent given) sent given taken a c k n) boot)
+pub since_start : {S K : Type 0} (starts : S → S → Type 0) (came : S → List Event → S → Type 0) (honest : S → (List ℕ → List ℕ) → (List ℕ → Bool) → Type 0) (sent given : S → Option (List ℕ)) (taken : K → Option (List ℕ)) (a b c : S) (k n : K) (boot : List ℕ) (m : Monitor) (result : Result End RunFault) →
+    ((a b : S) (talk : List Event) → came a talk b → Came honest sent given a talk b) → IsStarted starts honest sent given a b → Behind came sent given taken b c k n boot m result → Behind (Started starts came honest sent given) sent given taken a c k n boot m result
+since_start starts came honest sent given taken a b c k n boot m result along at h =
+    outcome_mapped (behind_boot (Moves came sent given taken b c k n) boot) (behind_boot (Moves (Started starts came honest sent given) sent given taken a c k n) boot)
     (broken_behind_boot (Breaks sent given taken b c k n) boot) (broken_behind_boot (Breaks sent given taken a c k n) boot) m
     (λ talk bytes moved. record {
       talks = record {
-        came_by = came_since honest sent given a b c _ at (along b c _ moved.talks.came_by);
+        came_by = record {
+          link = b;
+          became = at.became;
+          came_by = moved.talks.came_by;
+          along = came_since starts honest sent given a b c _ at (along b c _ moved.talks.came_by);
+        };
         sent_so = appends_kept (sent a) (sent b) (sent c) _ at.none_sent moved.talks.sent_so;
         given_so = appends_kept (given a) (given b) (given c) _ at.none_given moved.talks.given_so;
       };

@@ -70,24 +70,24 @@ nothing_part None b k = tt
 nothing_part (Some x) None k = absurd k
 nothing_part (Some x) (Some y) k = (0, k ∙ sym (append-nil x))
 
-module _ {S : Type 0} (came : S → List Event → S → Type 0) (sent given : S → Option (List ℕ)) (s m s' : S) (sent_kept : Keeps (sent s) (sent m)) (given_kept : Keeps (given s) (given m)) where
-  inherited : (talk : List Event) → Talks came sent given m s' talk → Inherits came sent given s s' talk
-  inherited talk talked = record { link = m; sent_so = sent_kept; given_so = given_kept; talked = talked }
+module _ {S : Type 0} (inherits : S → S → Type 0) (came : S → List Event → S → Type 0) (sent given : S → Option (List ℕ)) (s m s' : S) (sent_kept : Keeps (sent s) (sent m)) (given_kept : Keeps (given s) (given m)) where
+  inherited : inherits s m → (talk : List Event) → Talks came sent given m s' talk → Inherits inherits came sent given s s' talk
+  inherited became talk talked = record { link = m; became = became; sent_so = sent_kept; given_so = given_kept; talked = talked }
 
   parts_since : (g t : List ℕ) → Parts sent given m s' g t → Parts sent given s s' g t
   parts_since g t p = record { given_so = keeps_then (given s) (given m) (given s') g given_kept p.given_so; sent_so = keeps_then_part (sent s) (sent m) (sent s') t sent_kept p.sent_so }
 
   -- what the work over it comes to
   pub work_comes : (f0 f1 f2 : ℕ) (answer : Result ⊤ WorkFault) → f0 ≤ f1 → OnOk answer (Stops (Talks came sent given m s') has_ended)
-      → IfErr answer (IsRefused (Talks came sent given m s') (Parts sent given m s')) → HasCause f1 f2 answer LinkFailed
-      → ComesTo (Inherits came sent given s s') (Parts sent given s s') f0 f2 (ending_of answer)
-  work_comes f0 f1 f2 (Ok done) later ok err cause = talks_other (Talks came sent given m s') (Inherits came sent given s s') has_ended inherited ok
-  work_comes f0 f1 f2 (Err LinkFailed) later ok err cause = (rose_since f0 f1 f2 later cause.later (cause.cause refl), parts_other (Parts sent given m s') (Parts sent given s s') parts_since err)
-  work_comes f0 f1 f2 (Err (BadPeer rule offset)) later ok err cause =
-      (err.0, err.1, talks_other (Talks came sent given m s') (Inherits came sent given s s') (at_rule err.0 offset) inherited err.2)
-  work_comes f0 f1 f2 (Err PeerEnded) later ok err cause =
-      talks_other (then_the_end (Talks came sent given m s')) (then_the_end (Inherits came sent given s s')) still_open (λ talk talked. inherited (talk ++ gave [] ∷ []) talked) err
-  work_comes f0 f1 f2 (Err Memory) later ok err cause = parts_other (Parts sent given m s') (Parts sent given s s') parts_since err
+      → IfErr answer (IsRefused (Talks came sent given m s') (Parts sent given m s')) → HasCause f1 f2 answer LinkFailed Memory → inherits s m
+      → ComesTo (Inherits inherits came sent given s s') (Parts sent given s s') f0 f2 (ending_of answer)
+  work_comes f0 f1 f2 (Ok done) later ok err cause became = talks_other (Talks came sent given m s') (Inherits inherits came sent given s s') has_ended (inherited became) ok
+  work_comes f0 f1 f2 (Err LinkFailed) later ok err cause became = (rose_since f0 f1 f2 later cause.later (cause.cause refl), parts_other (Parts sent given m s') (Parts sent given s s') parts_since err)
+  work_comes f0 f1 f2 (Err (BadPeer rule offset)) later ok err cause became =
+      (err.0, err.1, talks_other (Talks came sent given m s') (Inherits inherits came sent given s s') (at_rule err.0 offset) (inherited became) err.2)
+  work_comes f0 f1 f2 (Err PeerEnded) later ok err cause became =
+      talks_other (then_the_end (Talks came sent given m s')) (then_the_end (Inherits inherits came sent given s s')) still_open (λ talk talked. inherited became (talk ++ gave [] ∷ []) talked) err
+  work_comes f0 f1 f2 (Err Memory) later ok err cause became = parts_other (Parts sent given m s') (Parts sent given s s') parts_since err
 
 -- a link that couldn't be inherited: nothing was said
 pub none_said : {S : Type 0} (sent given : S → Option (List ℕ)) (s s' : S) → Keeps (sent s) (sent s') → Keeps (given s) (given s') → BreaksOff (Parts sent given s s')

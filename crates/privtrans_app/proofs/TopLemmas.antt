@@ -5,7 +5,7 @@ use Rattle.pt_base.specs.Files.{Files}
 use Rattle.pt_base.specs.Talk.{Event}
 use Rattle.runs.specs.Run.{Expected}
 use Rattle.typed_tree.specs.TypedTree.{TypedTree}
-use Rattle.honest_link.specs.Came.{Came}
+use Rattle.honest_link.specs.Came.{Started}
 use Rattle.pair_runner.specs.Sending.{Breaks, Moves}
 use Rattle.pair_texts.specs.Start.{Texts}
 use Rattle.pair_running.specs.LocalPairLocal.{IsExpected}
@@ -27,10 +27,10 @@ use Rattle.privtrans_app.proofs.GeneratedLemmas.{MadeTold, made_told, same_made}
 use Rattle.privtrans_app.proofs.ProcessLemmas.{reported, untouched_keeps}
 use Rattle.privtrans_app.proofs.WholeLemmas.{calls_are_kept, calls_tell_what_is_expected, two_tell_what_is_expected}
 
-module _ {S K : Type 0} (came : S → List Event → S → Type 0) (honest : S → (List ℕ → List ℕ) → (List ℕ → Bool) → Type 0) (sent given : S → Option (List ℕ)) (taken : K → Option (List ℕ))
+module _ {S K : Type 0} (starts inherits : S → S → Type 0) (came : S → List Event → S → Type 0) (honest : S → (List ℕ → List ℕ) → (List ℕ → Bool) → Type 0) (sent given : S → Option (List ℕ)) (taken : K → Option (List ℕ))
     (links : S → ℕ) (writes : K → ℕ) (s s' : S) (k k' : K) (words : List (List ℕ)) (files files' : Option Files) (reads reads' fwrites fwrites' : ℕ) (report report' : Option (List ℕ)) (failed failed' status : ℕ) where
   abbrev Comes : Option Files → Ending → Type 0
-  Comes held e = ComesTo (IsRunOver honest sent given taken s s' k k') (IsWorkOver came sent given s s') words held files' reads reads' fwrites fwrites' (taken k) (taken k') (writes k) (writes k') (links s) (links s') e
+  Comes held e = ComesTo (IsRunOver starts came honest sent given taken s s' k k') (IsWorkOver inherits came sent given s s') words held files' reads reads' fwrites fwrites' (taken k) (taken k') (writes k) (writes k') (links s) (links s') e
 
   abbrev Tells : Ending → Type 0
   Tells e = Reports e report report' failed failed' status
@@ -39,7 +39,7 @@ module _ {S K : Type 0} (came : S → List Event → S → Type 0) (honest : S �
   keeps is = untouched_keeps taken s s' k k' is
 
   abbrev moves : List Event → List ℕ → Type 0
-  moves = Moves (Came honest sent given) sent given taken s s' k k'
+  moves = Moves (Started starts came honest sent given) sent given taken s s' k k'
 
   abbrev breaks : List ℕ → List ℕ → List ℕ → Type 0
   breaks = Breaks sent given taken s s' k k'
@@ -48,7 +48,7 @@ module _ {S K : Type 0} (came : S → List Event → S → Type 0) (honest : S �
   fair t turns = IsHonestFor honest sent given t turns s
 
   abbrev works : ℕ → ℕ → Ending → Type 0
-  works = IsWorkOver came sent given s s'
+  works = IsWorkOver inherits came sent given s s'
 
   pub by_form : (e : Ending) → Comes files e → Tells e → StaysDown (writes k) (writes k') → StaysDown failed failed' → IsByForm words status
   by_form e comes tells w f =

@@ -4,7 +4,7 @@ use Rattle.std.specs.Io.KnownBytes.{Appends, Keeps}
 use Rattle.pt_base.specs.Faults.{Rose}
 use Rattle.pt_base.specs.Files.{Files, HoldsAt, Lacks}
 use Rattle.pt_base.specs.Talk.{Event}
-use Rattle.honest_link.specs.Came.{Came}
+use Rattle.honest_link.specs.Came.{Started}
 use Rattle.pair_runner.specs.declared.fault.RunFault.{RunFault}
 use Rattle.pair_runner.specs.declared.fault.RunFault.TheVariants as fault
 use Rattle.pair_runner.specs.Sending.{Breaks, Moves}
@@ -53,9 +53,9 @@ pub record IsRun (untouched : Type 0) (moves : List Event → List ℕ → Type 
   pub expected : fair t turns → IsExpectedOver writes t turns answer
 
 -- the same of a spawner and of out, before and after
-abbrev pub IsRunOver : {S K : Type 0} → (S → (List ℕ → List ℕ) → (List ℕ → Bool) → Type 0) → (S → Option (List ℕ)) → (S → Option (List ℕ)) → (K → Option (List ℕ)) → S → S → K → K → Texts → ℕ → Answer → Type 0
-IsRunOver honest sent given taken spawner spawner' out out' =
-    IsRun (AreUntouched spawner spawner' out out') (Moves (Came honest sent given) sent given taken spawner spawner' out out') (Breaks sent given taken spawner spawner' out out')
+abbrev pub IsRunOver : {S K : Type 0} → (S → S → Type 0) → (S → List Event → S → Type 0) → (S → (List ℕ → List ℕ) → (List ℕ → Bool) → Type 0) → (S → Option (List ℕ)) → (S → Option (List ℕ)) → (K → Option (List ℕ)) → S → S → K → K → Texts → ℕ → Answer → Type 0
+IsRunOver starts came honest sent given taken spawner spawner' out out' =
+    IsRun (AreUntouched spawner spawner' out out') (Moves (Started starts came honest sent given) sent given taken spawner spawner' out out') (Breaks sent given taken spawner spawner' out out')
     (λ bytes. Appends (taken out) (taken out') bytes) (λ t turns. IsHonestFor honest sent given t turns spawner)
 
 -- the files hold texts that come to this, and it ends the call so

@@ -10,9 +10,10 @@ use Rattle.slave_runner.specs.Outcomes.{Stops, IsRefused}
 use Rattle.slave_runner.specs.Rules.{has_ended}
 use Rattle.privtrans_app.specs.Ending.{Ending, help, version, exit, accepted, split, worked, usage, missing, read_fault, write_fault, faults, drawn, trapped, refused, spent, link_fault, bad_peer, peer_ended, memory}
 
--- the spawner became this link to the parent, and then this was the talk over it
-pub record Inherits {S : Type 0} (came : S → List Event → S → Type 0) (sent given : S → Option (List ℕ)) (spawner spawner' : S) (talk : List Event) : Type 0 where
+-- the spawner was taken over from the parent and so became this link to it, and then this was the talk over it
+pub record Inherits {S : Type 0} (inherits : S → S → Type 0) (came : S → List Event → S → Type 0) (sent given : S → Option (List ℕ)) (spawner spawner' : S) (talk : List Event) : Type 0 where
   pub link : S
+  pub became : inherits spawner link
   pub sent_so : Keeps (sent spawner) (sent link)
   pub given_so : Keeps (given spawner) (given link)
   pub talked : Talks came sent given link spawner' talk
@@ -49,5 +50,5 @@ ComesTo talks parts links links' peer_ended = IsRefused talks parts PeerEnded
 ComesTo talks parts links links' memory = IsRefused talks parts Memory
 
 -- the same of a spawner, before and after
-abbrev pub IsWorkOver : {S : Type 0} → (S → List Event → S → Type 0) → (S → Option (List ℕ)) → (S → Option (List ℕ)) → S → S → ℕ → ℕ → Ending → Type 0
-IsWorkOver came sent given spawner spawner' = ComesTo (Inherits came sent given spawner spawner') (Parts sent given spawner spawner')
+abbrev pub IsWorkOver : {S : Type 0} → (S → S → Type 0) → (S → List Event → S → Type 0) → (S → Option (List ℕ)) → (S → Option (List ℕ)) → S → S → ℕ → ℕ → Ending → Type 0
+IsWorkOver inherits came sent given spawner spawner' = ComesTo (Inherits inherits came sent given spawner spawner') (Parts sent given spawner spawner')

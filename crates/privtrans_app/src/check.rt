@@ -5,7 +5,7 @@ ghost use Rattle.privtrans_app.specs.Causes.{ComesTo};
 ghost use Rattle.privtrans_app.specs.Ending.{is_silent, status_of};
 ghost use Rattle.privtrans_app.specs.EndingSeen.{ending_seen};
 ghost use Rattle.privtrans_app.specs.FindingsSeen.{AreFound};
-ghost use Rattle.privtrans_app.specs.Once.{FailsOnce};
+ghost use Rattle.privtrans_app.specs.Once.{FailsOnce, ReadsFail};
 ghost use Rattle.privtrans_app.specs.Words.{IsCheck, manner_of};
 
 use crate::ending::Ending;
@@ -78,6 +78,7 @@ pub(crate) fn check<'a, R: Threads + Sync, F: Folder, K: Sink, W: Watch>(
     ensures writes { F.write_faults folder.new ≡ F.write_faults folder.old }
     ensures later { (F.read_faults folder.old ≤ F.read_faults folder.new) × (K.faults out.old ≤ K.faults out.new) }
     ensures once { FailsOnce (F.read_faults folder.old + K.faults out.old) (F.read_faults folder.new + K.faults out.new) (status_of (ending_seen result)) }
+    ensures failed { ReadsFail (F.failed_reads folder.old) (F.failed_reads folder.new) (status_of (ending_seen result)) }
 {
     let text = match read_text(alloc, folder, words.program) {
         Ok(text) => text,

@@ -7,7 +7,7 @@ ghost use Rattle.privtrans_app.specs.Causes.{ComesTo};
 ghost use Rattle.privtrans_app.specs.Ending.{is_silent, status_of};
 ghost use Rattle.privtrans_app.specs.EndingSeen.{ending_seen};
 ghost use Rattle.privtrans_app.specs.ExplainTexts.{explain_names_of, explain_texts_of};
-ghost use Rattle.privtrans_app.specs.Once.{FailsOnce};
+ghost use Rattle.privtrans_app.specs.Once.{FailsOnce, ReadsFail};
 ghost use Rattle.privtrans_app.specs.Reading.{AreExplainFirst, IsRefusal, explain_names};
 ghost use Rattle.privtrans_app.specs.Words.{IsExplain};
 
@@ -43,6 +43,8 @@ fn read_texts<'a, F: Folder>(
     ensures later { F.read_faults folder.old ≤ F.read_faults folder.new }
     ensures once { IfErr result (λ e. FailsOnce (F.read_faults folder.old) (F.read_faults folder.new) (status_of (ending_seen e))) }
     ensures stays { OnOk result (F.read_faults folder.new ≡ F.read_faults folder.old) }
+    ensures failed { IfErr result (λ e. ReadsFail (F.failed_reads folder.old) (F.failed_reads folder.new) (status_of (ending_seen e))) }
+    ensures unfailed { OnOk result (F.failed_reads folder.new ≡ F.failed_reads folder.old) }
 {
     let program = read_text(alloc, folder, words.program)?;
     let host = read_text(alloc, folder, words.host)?;
@@ -94,6 +96,7 @@ pub(crate) fn explain<'a, R: Threads + Sync, F: Folder, K: Sink, W: Watch>(
     ensures writes { F.write_faults folder.new ≡ F.write_faults folder.old }
     ensures later { (F.read_faults folder.old ≤ F.read_faults folder.new) × (K.faults out.old ≤ K.faults out.new) }
     ensures once { FailsOnce (F.read_faults folder.old + K.faults out.old) (F.read_faults folder.new + K.faults out.new) (status_of (ending_seen result)) }
+    ensures failed { ReadsFail (F.failed_reads folder.old) (F.failed_reads folder.new) (status_of (ending_seen result)) }
 {
     let texts = match read_texts(alloc, folder, words) {
         Ok(texts) => texts,

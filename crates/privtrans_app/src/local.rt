@@ -9,7 +9,7 @@ ghost use Rattle.privtrans_app.specs.Ending.{is_idle, is_silent, status_of};
 ghost use Rattle.privtrans_app.specs.EndingSeen.{ending_seen};
 ghost use Rattle.privtrans_app.specs.Interleaving.{TakesTurns};
 ghost use Rattle.privtrans_app.specs.LocalRun.{ending_at};
-ghost use Rattle.privtrans_app.specs.Once.{FailsOnce};
+ghost use Rattle.privtrans_app.specs.Once.{FailsOnce, ReadsFail};
 ghost use Rattle.privtrans_app.specs.Words.{IsLocal};
 
 use crate::ending::Ending;
@@ -69,6 +69,7 @@ pub(crate) fn local<'a, R: Threads + Sync, F: Folder, K: Sink, C: Chooser, W: Wa
     ensures writes { F.write_faults folder.new ≡ F.write_faults folder.old }
     ensures later { (F.read_faults folder.old ≤ F.read_faults folder.new) × (K.faults out.old ≤ K.faults out.new) }
     ensures once { FailsOnce (F.read_faults folder.old + K.faults out.old) (F.read_faults folder.new + K.faults out.new) (status_of (ending_seen result)) }
+    ensures failed { ReadsFail (F.failed_reads folder.old) (F.failed_reads folder.new) (status_of (ending_seen result)) }
 {
     let texts = match read_texts(alloc, folder, &words.names) {
         Ok(texts) => texts,

@@ -4,7 +4,7 @@ ghost use Rattle.std.specs.Prelude.{◌≡◌, ◌≤◌, ◌+◌, ℕ, true, fa
 ghost use Rattle.pt_base.specs.Files.{SameFiles};
 ghost use Rattle.privtrans_app.specs.Ending.{is_idle, is_silent, status_of};
 ghost use Rattle.privtrans_app.specs.EndingSeen.{ending_seen};
-ghost use Rattle.privtrans_app.specs.Once.{FailsOnce};
+ghost use Rattle.privtrans_app.specs.Once.{FailsOnce, ReadsFail};
 ghost use Rattle.privtrans_app.specs.ProcessRun.{ComesTo, IsRunOver, ending_of as ending_due};
 ghost use Rattle.privtrans_app.specs.Words.{IsProcessRun};
 
@@ -48,7 +48,7 @@ pub(crate) fn run<'a, R: Threads + Sync, F: Folder, K: Sink, S: Witnessed, W: Wa
 ) -> Ending<'a>
     ensures ending { (given : List (List ℕ)) →
         IsProcessRun given words.now.names.program.now words.now.names.host.now words.now.names.policy.now words.now.names.input.now words.now.turns →
-        ComesTo (IsRunOver S.honest S.sent S.given K.taken spawner.old spawner.new out.old out.new) given (F.files folder.old) (F.read_faults folder.old) (F.read_faults folder.new)
+        ComesTo (IsRunOver S.starts S.came S.honest S.sent S.given K.taken spawner.old spawner.new out.old out.new) given (F.files folder.old) (F.read_faults folder.old) (F.read_faults folder.new)
         (K.taken out.old) (K.taken out.new) (K.faults out.old) (K.faults out.new) (S.faults spawner.old) (S.faults spawner.new) (ending_seen result) }
     ensures silent { is_silent (ending_seen result) ≡ true → out.new ≡ out.old }
     ensures unreached { is_idle (ending_seen result) ≡ true → spawner.new ≡ spawner.old }
@@ -56,6 +56,7 @@ pub(crate) fn run<'a, R: Threads + Sync, F: Folder, K: Sink, S: Witnessed, W: Wa
     ensures writes { F.write_faults folder.new ≡ F.write_faults folder.old }
     ensures later { (F.read_faults folder.old ≤ F.read_faults folder.new) × (K.faults out.old ≤ K.faults out.new) × (S.faults spawner.old ≤ S.faults spawner.new) }
     ensures once { FailsOnce (F.read_faults folder.old + K.faults out.old + S.faults spawner.old) (F.read_faults folder.new + K.faults out.new + S.faults spawner.new) (status_of (ending_seen result)) }
+    ensures failed { ReadsFail (F.failed_reads folder.old) (F.failed_reads folder.new) (status_of (ending_seen result)) }
 {
     let texts = match read_texts(alloc, folder, &words.names) {
         Ok(texts) => texts,

@@ -26,7 +26,7 @@ fn ended_by<'a>(answer: Result<(), WorkFault>) -> Ending<'a>
 
 /// Does the slave's work over the link that the spawner inherits.
 pub(crate) fn slave<'a, S: Spawner>(alloc: Global, spawner: &mut S) -> Ending<'a>
-    ensures ending { IsWorkOver S.came S.sent S.given spawner.old spawner.new (S.faults spawner.old) (S.faults spawner.new) (ending_seen result) }
+    ensures ending { IsWorkOver S.inherits S.came S.sent S.given spawner.old spawner.new (S.faults spawner.old) (S.faults spawner.new) (ending_seen result) }
     ensures busy { is_idle (ending_seen result) ≡ false }
     ensures later { S.faults spawner.old ≤ S.faults spawner.new }
     ensures once { FailsOnce (S.faults spawner.old) (S.faults spawner.new) (status_of (ending_seen result)) }

@@ -3,7 +3,7 @@ ghost use Rattle.std.specs.Prelude.{◌≡◌, ◌≤◌, ◌+◌};
 ghost use Rattle.pt_base.specs.Files.{SameOthers};
 ghost use Rattle.privtrans_app.specs.Ending.{status_of};
 ghost use Rattle.privtrans_app.specs.EndingSeen.{ending_seen};
-ghost use Rattle.privtrans_app.specs.Once.{FailsOnce};
+ghost use Rattle.privtrans_app.specs.Once.{FailsOnce, ReadsFail};
 ghost use Rattle.privtrans_app.specs.SplitRun.{ComesTo, SameBut};
 ghost use Rattle.privtrans_app.specs.SplitWriting.{AreWritten, IsWritten, names_of};
 
@@ -20,6 +20,7 @@ fn write_text<'a, F: Folder>(alloc: Global, folder: &mut F, name: &str, text: &[
     ensures ending { IsWritten (F.files folder.new) (F.write_faults folder.old) (F.write_faults folder.new) name.now text.now (ending_seen result) }
     ensures others { SameOthers (F.files folder.old) (F.files folder.new) name.now }
     ensures reads { F.read_faults folder.new ≡ F.read_faults folder.old }
+    ensures unfailed { F.failed_reads folder.new ≡ F.failed_reads folder.old }
     ensures later { F.write_faults folder.old ≤ F.write_faults folder.new }
     ensures once { FailsOnce (F.write_faults folder.old) (F.write_faults folder.new) (status_of (ending_seen result)) }
 {
@@ -43,6 +44,7 @@ fn write_halves<'a, F: Folder>(
     ensures ending { AreWritten (names_of words.now) (F.files folder.old) (F.files folder.new) (F.write_faults folder.old) (F.write_faults folder.new) slave.now monitor.now (ending_seen result) }
     ensures others { SameBut (F.files folder.old) (F.files folder.new) (names_of words.now) }
     ensures reads { F.read_faults folder.new ≡ F.read_faults folder.old }
+    ensures unfailed { F.failed_reads folder.new ≡ F.failed_reads folder.old }
     ensures later { F.write_faults folder.old ≤ F.write_faults folder.new }
     ensures once { FailsOnce (F.write_faults folder.old) (F.write_faults folder.new) (status_of (ending_seen result)) }
 {
@@ -66,6 +68,7 @@ pub(crate) fn split<'a, R: Threads + Sync, F: Folder, W: Watch>(
     ensures others { SameBut (F.files folder.old) (F.files folder.new) (names_of words.now) }
     ensures later { (F.read_faults folder.old ≤ F.read_faults folder.new) × (F.write_faults folder.old ≤ F.write_faults folder.new) }
     ensures once { FailsOnce (F.read_faults folder.old + F.write_faults folder.old) (F.read_faults folder.new + F.write_faults folder.new) (status_of (ending_seen result)) }
+    ensures failed { ReadsFail (F.failed_reads folder.old) (F.failed_reads folder.new) (status_of (ending_seen result)) }
 {
     let text = match read_text(alloc, folder, words.program) {
         Ok(text) => text,

@@ -3,7 +3,7 @@ ghost use Rattle.std.specs.Prelude.{◌≡◌, ◌≤◌, IfOk, IfErr, OnOk};
 ghost use Rattle.pt_base.specs.Files.{SameFiles};
 ghost use Rattle.privtrans_app.specs.Ending.{status_of};
 ghost use Rattle.privtrans_app.specs.EndingSeen.{ending_seen};
-ghost use Rattle.privtrans_app.specs.Once.{FailsOnce};
+ghost use Rattle.privtrans_app.specs.Once.{FailsOnce, ReadsFail};
 ghost use Rattle.privtrans_app.specs.PairTexts.{pair_texts_of};
 ghost use Rattle.privtrans_app.specs.Reading.{IsRefusal, AreFirst, list_of};
 
@@ -36,6 +36,8 @@ pub(crate) fn read_texts<'a, F: Folder>(
     ensures later { F.read_faults folder.old ≤ F.read_faults folder.new }
     ensures once { IfErr result (λ e. FailsOnce (F.read_faults folder.old) (F.read_faults folder.new) (status_of (ending_seen e))) }
     ensures stays { OnOk result (F.read_faults folder.new ≡ F.read_faults folder.old) }
+    ensures failed { IfErr result (λ e. ReadsFail (F.failed_reads folder.old) (F.failed_reads folder.new) (status_of (ending_seen e))) }
+    ensures unfailed { OnOk result (F.failed_reads folder.new ≡ F.failed_reads folder.old) }
 {
     let program = read_text(alloc, folder, names.program)?;
     let host = read_text(alloc, folder, names.host)?;

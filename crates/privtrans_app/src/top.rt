@@ -18,7 +18,7 @@ ghost use Rattle.privtrans_app.specs.EndingSeen.{ending_seen};
 ghost use Rattle.privtrans_app.specs.Interleaving.{IsInterleaved, IsOfNoRun, IsOfRun, TakesTurns};
 ghost use Rattle.privtrans_app.specs.GeneratedRun as made_run;
 ghost use Rattle.privtrans_app.specs.LocalRun as paired;
-ghost use Rattle.privtrans_app.specs.Once.{FailsOnce};
+ghost use Rattle.privtrans_app.specs.Once.{CallFailsOnce, FailsOnce, ReadsFail};
 ghost use Rattle.privtrans_app.specs.ProcessRun as process;
 ghost use Rattle.privtrans_app.specs.ProcessRun.{IsRunOver};
 ghost use Rattle.privtrans_app.specs.SlaveRun.{IsWorkOver};
@@ -65,6 +65,7 @@ fn came_to<'a, R: Threads + Sync, F: Folder, K: Sink, C: Chooser, W: Watch>(
     ensures writes { F.write_faults folder.new ≡ F.write_faults folder.old }
     ensures later { (F.read_faults folder.old ≤ F.read_faults folder.new) × (K.faults out.old ≤ K.faults out.new) }
     ensures once { FailsOnce (F.read_faults folder.old + K.faults out.old) (F.read_faults folder.new + K.faults out.new) (status_of (ending_seen result)) }
+    ensures failed { ReadsFail (F.failed_reads folder.old) (F.failed_reads folder.new) (status_of (ending_seen result)) }
 {
     match form_of(words) {
         None => Came::Usage,
@@ -88,7 +89,7 @@ fn ended<'a, R: Threads + Sync, F: Folder, K: Sink, S: Witnessed, C: Chooser, W:
     chooser: &mut C,
     watch: &W,
 ) -> Came<'a>
-    ensures ending { calls.ComesTo (IsRunOver S.honest S.sent S.given K.taken spawner.old spawner.new out.old out.new) (IsWorkOver S.came S.sent S.given spawner.old spawner.new)
+    ensures ending { calls.ComesTo (IsRunOver S.starts S.came S.honest S.sent S.given K.taken spawner.old spawner.new out.old out.new) (IsWorkOver S.inherits S.came S.sent S.given spawner.old spawner.new)
         (map (λ w. w.now) words.now) (F.files folder.old) (F.files folder.new) (F.read_faults folder.old) (F.read_faults folder.new) (F.write_faults folder.old) (F.write_faults folder.new)
         (K.taken out.old) (K.taken out.new) (K.faults out.old) (K.faults out.new) (S.faults spawner.old) (S.faults spawner.new) (ending_seen result) }
     ensures turns { (program host policy input : List ℕ) (turns window : ℕ) → IsLocal (map (λ w. w.now) words.now) program host policy input turns window →
@@ -106,6 +107,7 @@ fn ended<'a, R: Threads + Sync, F: Folder, K: Sink, S: Witnessed, C: Chooser, W:
     ensures later { (F.read_faults folder.old ≤ F.read_faults folder.new) × (F.write_faults folder.old ≤ F.write_faults folder.new) × (K.faults out.old ≤ K.faults out.new) × (S.faults spawner.old ≤ S.faults spawner.new) }
     ensures once { FailsOnce (F.read_faults folder.old + F.write_faults folder.old + K.faults out.old + S.faults spawner.old)
         (F.read_faults folder.new + F.write_faults folder.new + K.faults out.new + S.faults spawner.new) (status_of (ending_seen result)) }
+    ensures failed { ReadsFail (F.failed_reads folder.old) (F.failed_reads folder.new) (status_of (ending_seen result)) }
 {
     match outward_of(words) {
         Some(Outward::Split(words)) => split(rt, alloc, &words, folder, watch),
@@ -120,7 +122,7 @@ fn ended<'a, R: Threads + Sync, F: Folder, K: Sink, S: Witnessed, C: Chooser, W:
 fn tell<E: Sink>(alloc: Global, sink: &mut E, ending: Came<'_>) -> u8
     ensures report { Reports (ending_seen ending.entry) (E.taken sink.old) (E.taken sink.new) (E.faults sink.old) (E.faults sink.new) result }
     ensures later { E.faults sink.old ≤ E.faults sink.new }
-    ensures once { FailsOnce (E.faults sink.old) (E.faults sink.new) result }
+    ensures once { CallFailsOnce (E.faults sink.old) (E.faults sink.new) result }
 {
     let status = status(&ending);
     let Ok(line) = report(alloc, ending) else {
@@ -166,13 +168,18 @@ pub fn privtrans<
     watch: &W,
 ) -> u8
     // the call comes to an ending, each only where the words, the files, the outside and what the link gave have
-    // its cause, and reports it; where it writes nothing to out, out isn't touched
+    // its cause, and reports it; where it writes nothing to out, out isn't touched; of the calls of folder, out and link
+    // one at most fails, and none where the ending tells of no fault of the outside; and a read fails only where it is
+    // told as one that did
     ensures answer { (e : Ending)
-        × calls.ComesTo (IsRunOver S.honest S.sent S.given K.taken spawner.old spawner.new out.old out.new) (IsWorkOver S.came S.sent S.given spawner.old spawner.new)
+        × calls.ComesTo (IsRunOver S.starts S.came S.honest S.sent S.given K.taken spawner.old spawner.new out.old out.new) (IsWorkOver S.inherits S.came S.sent S.given spawner.old spawner.new)
         (map (λ w. w.now) words.now) (F.files folder.old) (F.files folder.new) (F.read_faults folder.old) (F.read_faults folder.new)
         (F.write_faults folder.old) (F.write_faults folder.new) (K.taken out.old) (K.taken out.new) (K.faults out.old) (K.faults out.new) (S.faults spawner.old) (S.faults spawner.new) e
         × Reports e (E.taken report.old) (E.taken report.new) (E.faults report.old) (E.faults report.new) result
-        × (is_silent e ≡ true → out.new ≡ out.old) }
+        × (is_silent e ≡ true → out.new ≡ out.old)
+        × FailsOnce (F.read_faults folder.old + F.write_faults folder.old + K.faults out.old + S.faults spawner.old)
+        (F.read_faults folder.new + F.write_faults folder.new + K.faults out.new + S.faults spawner.new) (status_of e)
+        × ReadsFail (F.failed_reads folder.old) (F.failed_reads folder.new) (status_of e) }
     // where no write failed, words that are no run have the status of their form
     ensures form { StaysDown (K.faults out.old) (K.faults out.new)
         → StaysDown (E.faults report.old) (E.faults report.new)
@@ -251,13 +258,13 @@ pub fn privtrans<
         × (IsNoLocal (map (λ w. w.now) words.now) → IsNotGenerated (map (λ w. w.now) words.now) → chooser.new ≡ chooser.old)
         × (IsOfNoRun result → AreTaken [] (C.answers chooser.old) (C.answers chooser.new) × (spawner.new ≡ spawner.old)) }
     // no count of faults falls
-    ensures counts { (F.read_faults folder.old ≤ F.read_faults folder.new) × (F.write_faults folder.old ≤ F.write_faults folder.new)
+    ensures counts { (F.read_faults folder.old ≤ F.read_faults folder.new) × (F.failed_reads folder.old ≤ F.failed_reads folder.new) × (F.write_faults folder.old ≤ F.write_faults folder.new)
         × (K.faults out.old ≤ K.faults out.new) × (E.faults report.old ≤ E.faults report.new) × (S.faults spawner.old ≤ S.faults spawner.new) }
     // of all reads and writes of the folder, writes to out and calls of the link together one at most fails, and of the writes of
-    // the report one; none does where the status tells of no fault of the outside
-    ensures once { FailsOnce (F.read_faults folder.old + F.write_faults folder.old + K.faults out.old + S.faults spawner.old)
+    // the report one; none does where the status tells of no fault of the outside, nor that memory was wanting
+    ensures once { CallFailsOnce (F.read_faults folder.old + F.write_faults folder.old + K.faults out.old + S.faults spawner.old)
         (F.read_faults folder.new + F.write_faults folder.new + K.faults out.new + S.faults spawner.new) result
-        × FailsOnce (E.faults report.old) (E.faults report.new) result }
+        × CallFailsOnce (E.faults report.old) (E.faults report.new) result }
 {
     generated_runs_are_told();
     let ending = ended(rt, alloc, words, folder, out, spawner, chooser, watch);

@@ -1,7 +1,7 @@
 // A child process as a spawner, and the parent as a link.
 ghost use Rattle.std.specs.Prelude.{◌≡◌, ◌≤◌, IfOk, IsTrue, None, false, suc, vec_len};
 ghost use Rattle.pt_base.specs.Faults.{Rose};
-ghost use Rattle.pt_base.specs.declared.link.LinkFault.TheVariants.{Failed};
+ghost use Rattle.pt_base.specs.declared.link.LinkFault.TheVariants.{Failed, Memory};
 
 use crate::output::Output;
 use pt_base::{Link, LinkFault, Spawner};
@@ -71,6 +71,7 @@ impl<R: Processes, I: Read + Drop, O: AsFd + Drop> Child<R, I, O> {
     // Notes why a call didn't serve.
     fn fault(&mut self, kind: ErrorKind) -> LinkFault
         ensures rose { result ≡ Failed → Rose self.old.faults self.new.faults }
+        ensures memory { result ≡ Memory → self.new.faults ≡ self.old.faults }
         ensures later { self.old.faults ≤ self.new.faults }
         ensures once { self.new.faults ≤ suc self.old.faults }
         ensures ready { self.new.ready ≡ self.old.ready }
@@ -87,6 +88,7 @@ impl<R: Processes, I: Read + Drop, O: AsFd + Drop> Child<R, I, O> {
     // From now on it is the link to what is at these ends.
     fn begin(&mut self, alloc: Global, ends: Ends<R::Started, I>) -> io::Result<()>
         ensures ready { IfOk result (λ _. IsTrue self.new.ready) }
+        ensures ends { IfOk result (λ _. self.new.ends ≡ ends) }
         ensures stays { IsTrue self.old.ready → IsTrue self.new.ready }
         ensures faults { self.new.faults ≡ self.old.faults }
     {
@@ -201,6 +203,12 @@ impl<R: Processes, I: Read + Drop, O: AsFd + Drop> Link for Child<R, I, O> {
 }
 
 impl<R: Processes, I: Read + Drop, O: AsFd + Drop> Spawner for Child<R, I, O> {
+    ghost use Rattle.process_link.specs.Ends.{AreInherited, AreStarted};
+
+    ghost starts = { λ _ c. AreStarted c.ends };
+
+    ghost inherits = { λ _ c. AreInherited c.ends };
+
     fn start(&mut self, alloc: Global) -> Result<(), LinkFault> {
         let begun = match started(&self.rt, alloc, self.file.as_str()) {
             Ok(child) => self.begin(alloc, Ends::Started(child)),

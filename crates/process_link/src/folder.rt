@@ -67,29 +67,36 @@ impl<R: Files> Folder for RealFolder<R> {
 
     ghost read_faults = { λ f. f.read_faults };
 
+    ghost failed_reads = { λ f. f.read_faults };
+
     ghost write_faults = { λ f. f.write_faults };
 
     fn read(&mut self, alloc: Global, name: &str, limit: usize) -> Result<Vec<u8>, FolderFault> {
-        let outcome = match fs::open(&self.rt, name) {
+        let read = match fs::open(&self.rt, name) {
             Ok(mut file) => read_most(&mut file, alloc, limit),
             Err(e) => Err(fault_of(&e)),
         };
-        if outcome.is_err() {
-            self.read_faults = self.read_faults.saturating_add(1);
+        match read {
+            Ok(bytes) => Ok(bytes),
+            Err(FolderFault::Missing) => Err(FolderFault::Missing),
+            Err(FolderFault::Failed) => {
+                self.read_faults = self.read_faults.saturating_add(1);
+                Err(FolderFault::Failed)
+            }
+            Err(FolderFault::Memory) => Err(FolderFault::Memory),
         }
-        outcome
     }
 
     fn write(&mut self, _alloc: Global, name: &str, bytes: &[u8]) -> Result<(), FolderFault> {
         match fs::write(&self.rt, name, bytes) {
             Ok(()) => Ok(()),
-            Err(e) => {
-                self.write_faults = self.write_faults.saturating_add(1);
-                Err(match e.kind() {
-                    ErrorKind::OutOfMemory => FolderFault::Memory,
-                    _ => FolderFault::Failed,
-                })
-            }
+            Err(e) => match e.kind() {
+                ErrorKind::OutOfMemory => Err(FolderFault::Memory),
+                _ => {
+                    self.write_faults = self.write_faults.saturating_add(1);
+                    Err(FolderFault::Failed)
+                }
+            },
         }
     }
 }

@@ -34,13 +34,13 @@ impl Sink for RealSink {
     fn write(&mut self, _alloc: Global, bytes: &[u8]) -> Result<(), SinkFault> {
         match self.out.write_all(bytes) {
             Ok(()) => Ok(()),
-            Err(e) => {
-                self.faults = self.faults.saturating_add(1);
-                Err(match e.kind() {
-                    ErrorKind::OutOfMemory => SinkFault::Memory,
-                    _ => SinkFault::Failed,
-                })
-            }
+            Err(e) => match e.kind() {
+                ErrorKind::OutOfMemory => Err(SinkFault::Memory),
+                _ => {
+                    self.faults = self.faults.saturating_add(1);
+                    Err(SinkFault::Failed)
+                }
+            },
         }
     }
 }

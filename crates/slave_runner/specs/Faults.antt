@@ -24,10 +24,10 @@ Stuck PeerEnded so = ⊥
 Stuck Memory so = so
 
 -- How often the link has failed behind work that comes to this, where it had failed so often before: its first fault ends the work and
--- is told, and where memory is wanting it may have failed for that. The peer's faults are none of its own.
+-- is told. Want of memory and the peer's faults are none of its own.
 abbrev pub FirstFault : {T : Type 0} → ℕ → ℕ → Result T WorkFault → Type 0
 FirstFault links links' (Ok done) = links' ≡ links
 FirstFault links links' (Err LinkFailed) = links' ≤ suc links
 FirstFault links links' (Err (BadPeer number place)) = links' ≡ links
 FirstFault links links' (Err PeerEnded) = links' ≡ links
-FirstFault links links' (Err Memory) = links' ≤ suc links
+FirstFault links links' (Err Memory) = links' ≡ links

@@ -73,7 +73,7 @@ fn read_piece<L: Link>(
     ensures err { IfErr result (λ e. (a : L) → Begun (Talks L.came L.sent L.given a link.old) bytes.old.items reader.old
         → IsRefused (Talks L.came L.sent L.given a link.new) (Parts L.sent L.given a link.new) e) }
     ensures ready { L.ready link.new }
-    ensures cause { HasCause (L.faults link.old) (L.faults link.new) result WorkFault.LinkFailed }
+    ensures cause { HasCause (L.faults link.old) (L.faults link.new) result WorkFault.LinkFailed WorkFault.Memory }
     ensures first { FirstFault (L.faults link.old) (L.faults link.new) result }
 {
     let found = next_frame(alloc, reader)?;
@@ -102,7 +102,7 @@ fn read_pieces<L: Link>(
     ensures short { OnOk result (IsShort reader.new) }
     ensures err { IfErr result (IsRefused (Talks L.came L.sent L.given link.old link.new) (Parts L.sent L.given link.old link.new)) }
     ensures ready { L.ready link.new }
-    ensures cause { HasCause (L.faults link.old) (L.faults link.new) result WorkFault.LinkFailed }
+    ensures cause { HasCause (L.faults link.old) (L.faults link.new) result WorkFault.LinkFailed WorkFault.Memory }
     ensures first { FirstFault (L.faults link.old) (L.faults link.new) result }
 {
     let mut bytes = Vec::new(alloc);
@@ -128,7 +128,7 @@ pub(crate) fn begin<L: Link>(
     ensures runs { IfOk result (λ slave. Runs 0 (IsSlave slave) reader.new) }
     ensures err { IfErr result (IsRefused (Talks L.came L.sent L.given link.old link.new) (Parts L.sent L.given link.old link.new)) }
     ensures ready { L.ready link.new }
-    ensures cause { HasCause (L.faults link.old) (L.faults link.new) result WorkFault.LinkFailed }
+    ensures cause { HasCause (L.faults link.old) (L.faults link.new) result WorkFault.LinkFailed WorkFault.Memory }
     ensures first { FirstFault (L.faults link.old) (L.faults link.new) result }
 {
     let bytes = read_pieces(alloc, reader, link)?;

@@ -50,7 +50,7 @@ pub(crate) fn hear<L: Link>(
     ensures short { OnOk result (IsShort reader.new) }
     ensures err { IfErr result (Unfed (Talks L.came L.sent L.given link.old link.new) (Parts L.sent L.given link.old link.new)) }
     ensures ready { L.ready link.new }
-    ensures cause { HasCause (L.faults link.old) (L.faults link.new) result WorkFault.LinkFailed }
+    ensures cause { HasCause (L.faults link.old) (L.faults link.new) result WorkFault.LinkFailed WorkFault.Memory }
     ensures first { FirstFault (L.faults link.old) (L.faults link.new) result }
 {
     let piece = link.receive(alloc, MOST_AT_ONCE)?;

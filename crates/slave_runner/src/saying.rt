@@ -30,7 +30,7 @@ pub(crate) fn send_waiting<L: Link>(
     ensures none { OnOk result (waiting.new.items ≡ []) }
     ensures err { OnErr result (Parts L.sent L.given link.old link.new [] waiting.old.items) }
     ensures ready { L.ready link.new }
-    ensures cause { HasCause (L.faults link.old) (L.faults link.new) result LinkFault.Failed }
+    ensures cause { HasCause (L.faults link.old) (L.faults link.new) result LinkFault.Failed LinkFault.Memory }
 {
     if waiting.is_empty() {
         return Ok(());
@@ -52,7 +52,7 @@ fn gather<L: Link>(
     ensures ok { OnOk result (Gathered (Talks L.came L.sent L.given link.old link.new) (waiting.old.items ++ spelling message.now) waiting.new.items) }
     ensures err { IfErr result (λ e. Stuck e (Parts L.sent L.given link.old link.new [] (waiting.old.items ++ spelling message.now))) }
     ensures ready { L.ready link.new }
-    ensures cause { HasCause (L.faults link.old) (L.faults link.new) result WorkFault.LinkFailed }
+    ensures cause { HasCause (L.faults link.old) (L.faults link.new) result WorkFault.LinkFailed WorkFault.Memory }
     ensures first { FirstFault (L.faults link.old) (L.faults link.new) result }
 {
     write_message(alloc, message, waiting)?;
@@ -77,7 +77,7 @@ pub(crate) fn go_on<L: Link>(
     ensures err { IfErr result (λ e. (x : s.Slave) → IsSlave slave.old x
         → Stuck e (BrokeOff (Parts L.sent L.given link.old link.new []) x waiting.old.items)) }
     ensures ready { L.ready link.new }
-    ensures cause { HasCause (L.faults link.old) (L.faults link.new) result WorkFault.LinkFailed }
+    ensures cause { HasCause (L.faults link.old) (L.faults link.new) result WorkFault.LinkFailed WorkFault.Memory }
     ensures first { FirstFault (L.faults link.old) (L.faults link.new) result }
 {
     let Ran { said, made: _ } = slave.run(alloc, u64::MAX)?;

@@ -79,7 +79,7 @@ pub(crate) fn take_reply<L: Link>(
     ensures err { IfErr result (λ e. (a : L) (b : BootTree) (x : s.Slave) → IsSlave slave.old x → s.mode_of x ≡ waits → Working (Talks L.came L.sent L.given a link.old) b x [] reader.old
         → IsRefused (Talks L.came L.sent L.given a link.new) (Parts L.sent L.given a link.new) e) }
     ensures ready { L.ready link.new }
-    ensures cause { HasCause (L.faults link.old) (L.faults link.new) result WorkFault.LinkFailed }
+    ensures cause { HasCause (L.faults link.old) (L.faults link.new) result WorkFault.LinkFailed WorkFault.Memory }
     ensures first { FirstFault (L.faults link.old) (L.faults link.new) result }
 {
     let found = next_frame(alloc, reader)?;

@@ -36,7 +36,7 @@ fn await_reply<L: Link>(
     ensures err { IfErr result (λ e. (a : L) (b : BootTree) (x : s.Slave) → IsSlave slave.old x → s.mode_of x ≡ waits → Working (Talks L.came L.sent L.given a link.old) b x waiting.old.items reader.old
         → IsRefused (Talks L.came L.sent L.given a link.new) (Parts L.sent L.given a link.new) e) }
     ensures ready { L.ready link.new }
-    ensures cause { HasCause (L.faults link.old) (L.faults link.new) result WorkFault.LinkFailed }
+    ensures cause { HasCause (L.faults link.old) (L.faults link.new) result WorkFault.LinkFailed WorkFault.Memory }
     ensures first { FirstFault (L.faults link.old) (L.faults link.new) result }
 {
     send_waiting(alloc, waiting, link)?;
@@ -60,7 +60,7 @@ fn turn<L: Link>(
     ensures err { IfErr result (λ e. (a : L) (b : BootTree) (x : s.Slave) → IsSlave slave.old x → Working (Talks L.came L.sent L.given a link.old) b x waiting.old.items reader.old
         → IsRefused (Talks L.came L.sent L.given a link.new) (Parts L.sent L.given a link.new) e) }
     ensures ready { L.ready link.new }
-    ensures cause { HasCause (L.faults link.old) (L.faults link.new) result WorkFault.LinkFailed }
+    ensures cause { HasCause (L.faults link.old) (L.faults link.new) result WorkFault.LinkFailed WorkFault.Memory }
     ensures first { FirstFault (L.faults link.old) (L.faults link.new) result }
 {
     match slave.mode() {
@@ -93,7 +93,7 @@ fn run<L: Link>(
     ensures err { IfErr result (λ e. (a : L) (b : BootTree) (x : s.Slave) → IsSlave slave.old x → Working (Talks L.came L.sent L.given a link.old) b x [] reader.old
         → IsRefused (Talks L.came L.sent L.given a link.new) (Parts L.sent L.given a link.new) e) }
     ensures ready { L.ready link.new }
-    ensures cause { HasCause (L.faults link.old) (L.faults link.new) result WorkFault.LinkFailed }
+    ensures cause { HasCause (L.faults link.old) (L.faults link.new) result WorkFault.LinkFailed WorkFault.Memory }
     ensures first { FirstFault (L.faults link.old) (L.faults link.new) result }
 {
     let mut waiting = Vec::new(alloc);
@@ -116,13 +116,13 @@ fn run<L: Link>(
 /// `BadPeer` where the frames of the bytes given break a rule, and `PeerEnded` where the link ends before the boot does or
 /// while a reply is awaited. `LinkFailed` comes only where the count of faults rose. `Memory` is want of memory, and with it
 /// 2^63 bytes given and a boot nested too deep for `read_boot`. After these two a first part was sent. One call of the link at
-/// most fails, and none where the work is done or the peer is to blame.
+/// most fails, and none where the work is done, memory is wanting or the peer is to blame.
 pub fn work<L: Link>(alloc: Global, link: &mut L) -> Result<(), WorkFault>
     requires ready { L.ready link.old }
     ensures ok { OnOk result (Stops (Talks L.came L.sent L.given link.old link.new) has_ended) }
     ensures err { IfErr result (IsRefused (Talks L.came L.sent L.given link.old link.new) (Parts L.sent L.given link.old link.new)) }
     ensures ready { L.ready link.new }
-    ensures cause { HasCause (L.faults link.old) (L.faults link.new) result WorkFault.LinkFailed }
+    ensures cause { HasCause (L.faults link.old) (L.faults link.new) result WorkFault.LinkFailed WorkFault.Memory }
     ensures first { FirstFault (L.faults link.old) (L.faults link.new) result }
 {
     let mut reader = Reader::new(alloc);

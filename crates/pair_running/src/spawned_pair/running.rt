@@ -13,7 +13,7 @@ ghost use Rattle.pt_base.specs.Faults.{HasCause};
 ghost use Rattle.pt_core.specs.CodeTree.{view_monitor};
 ghost use Rattle.pt_core.specs.WellFormed.{is_well_formed_monitor};
 ghost use Rattle.std.specs.Io.KnownBytes.{Appends};
-ghost use Rattle.honest_link.specs.Came.{Came};
+ghost use Rattle.honest_link.specs.Came.{Started};
 ghost use Rattle.pair_running.specs.SpawnedPairOutcomeSeen.{IsExpectedOver, IsHonestFor, IsServed};
 ghost use Rattle.pair_running.specs.SpawnedPairRunning.{BeginsAs};
 ghost use Rattle.pair_running.specs.SpawnedPairSupervised.{AreUntouched};
@@ -67,10 +67,10 @@ fn start_peer<S: Witnessed, K: Sink>(
 ) -> Result<End, RunFault>
     requires monitor { (m : m.Monitor) × IsMonitor monitor m }
     ensures outcome { (m : m.Monitor) → IsMonitor monitor m
-        → IsOutcome (behind_boot (Moves (Came S.honest S.sent S.given) S.sent S.given K.taken spawner.old spawner.new out.old out.new) boot.now)
+        → IsOutcome (behind_boot (Moves (Started S.starts S.came S.honest S.sent S.given) S.sent S.given K.taken spawner.old spawner.new out.old out.new) boot.now)
         (broken_behind_boot (Breaks S.sent S.given K.taken spawner.old spawner.new out.old out.new) boot.now) m result }
-    ensures link { HasCause (S.faults spawner.old) (S.faults spawner.new) result RunFault.LinkFailed }
-    ensures sink { HasCause (K.faults out.old) (K.faults out.new) result RunFault.SinkFailed }
+    ensures link { HasCause (S.faults spawner.old) (S.faults spawner.new) result RunFault.LinkFailed RunFault.Memory }
+    ensures sink { HasCause (K.faults out.old) (K.faults out.new) result RunFault.SinkFailed RunFault.Memory }
     ensures first { FirstFault (S.faults spawner.old) (S.faults spawner.new) (K.faults out.old) (K.faults out.new) result }
 {
     spawner.start(alloc)?;
@@ -90,12 +90,12 @@ pub(crate) fn run<S: Witnessed, K: Sink>(
     requires texts { (t : Texts) × AreTextsOf pair turns t }
     ensures served { (t : Texts) → AreTextsOf pair turns t
         → IsServed (AreUntouched spawner.old spawner.new out.old out.new)
-        (Moves (Came S.honest S.sent S.given) S.sent S.given K.taken spawner.old spawner.new out.old out.new) (Breaks S.sent S.given K.taken spawner.old spawner.new out.old out.new)
+        (Moves (Started S.starts S.came S.honest S.sent S.given) S.sent S.given K.taken spawner.old spawner.new out.old out.new) (Breaks S.sent S.given K.taken spawner.old spawner.new out.old out.new)
         t turns result }
     ensures expected { (t : Texts) → AreTextsOf pair turns t → IsHonestFor S.honest S.sent S.given t turns spawner.old
         → IsExpectedOver (λ bytes. Appends (K.taken out.old) (K.taken out.new) bytes) t turns result }
-    ensures link { HasCause (S.faults spawner.old) (S.faults spawner.new) result RunFault.LinkFailed }
-    ensures sink { HasCause (K.faults out.old) (K.faults out.new) result RunFault.SinkFailed }
+    ensures link { HasCause (S.faults spawner.old) (S.faults spawner.new) result RunFault.LinkFailed RunFault.Memory }
+    ensures sink { HasCause (K.faults out.old) (K.faults out.new) result RunFault.SinkFailed RunFault.Memory }
     ensures first { FirstFault (S.faults spawner.old) (S.faults spawner.new) (K.faults out.old) (K.faults out.new) result }
 {
     begun_monitors_are_well_formed();

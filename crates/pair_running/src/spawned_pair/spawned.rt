@@ -1,6 +1,6 @@
 // The texts of a pair, and its run with a peer that is started.
 ghost use Rattle.std.specs.Io.KnownBytes.{Appends};
-ghost use Rattle.honest_link.specs.Came.{Came};
+ghost use Rattle.honest_link.specs.Came.{Started};
 ghost use Rattle.pt_base.specs.Faults.{HasCause};
 ghost use Rattle.pair_runner.specs.Faults.{FirstFault};
 ghost use Rattle.pair_runner.specs.Sending.{Breaks, Moves};
@@ -19,7 +19,7 @@ use std::thread::Threads;
 use wire::are_bytes;
 
 /// What a program comes to with these texts beside it: the lines of the first stage's faults that has one, or how its monitor ends, which
-/// serves a peer that is started and sent the boot. What is written goes to `out` as it comes. Where the peer is honest, what is written and
+/// serves a peer that is started, once, and sent the boot. What is written goes to `out` as it comes. Where the peer is honest, what is written and
 /// the end are what is expected of the program. The watch is told of each function that has a body, as its edges are made and as it is
 /// lowered.
 ///
@@ -27,8 +27,8 @@ use wire::are_bytes;
 ///
 /// `BadPeer` where what the peer gave breaks a rule, and `PeerEnded` where its end comes before an end of the run. `LinkFailed`, also where
 /// the peer can't be started, and `SinkFailed` come only where the count of faults rose; after these two, and after `Memory`, a first part
-/// was sent and written. Of the calls of the spawner and of `out` one at most fails, and none where there is an outcome or the peer is to
-/// blame.
+/// was sent and written. Of the calls of the spawner and of `out` one at most fails, and none where there is an outcome, memory is wanting
+/// or the peer is to blame.
 pub fn outcome_of<R: Threads + Sync, S: Witnessed, K: Sink, W: Watch>(
     rt: &R,
     alloc: Global,
@@ -39,12 +39,12 @@ pub fn outcome_of<R: Threads + Sync, S: Witnessed, K: Sink, W: Watch>(
     watch: &W,
 ) -> Result<Outcome, RunFault>
     ensures served { IsServed (AreUntouched spawner.old spawner.new out.old out.new)
-        (Moves (Came S.honest S.sent S.given) S.sent S.given K.taken spawner.old spawner.new out.old out.new) (Breaks S.sent S.given K.taken spawner.old spawner.new out.old out.new)
+        (Moves (Started S.starts S.came S.honest S.sent S.given) S.sent S.given K.taken spawner.old spawner.new out.old out.new) (Breaks S.sent S.given K.taken spawner.old spawner.new out.old out.new)
         (texts_with program.now beside.entry) beside.entry.turns result }
     ensures expected { IsHonestFor S.honest S.sent S.given (texts_with program.now beside.entry) beside.entry.turns spawner.old
         → IsExpectedOver (λ bytes. Appends (K.taken out.old) (K.taken out.new) bytes) (texts_with program.now beside.entry) beside.entry.turns result }
-    ensures link { HasCause (S.faults spawner.old) (S.faults spawner.new) result RunFault.LinkFailed }
-    ensures sink { HasCause (K.faults out.old) (K.faults out.new) result RunFault.SinkFailed }
+    ensures link { HasCause (S.faults spawner.old) (S.faults spawner.new) result RunFault.LinkFailed RunFault.Memory }
+    ensures sink { HasCause (K.faults out.old) (K.faults out.new) result RunFault.SinkFailed RunFault.Memory }
     ensures first { FirstFault (S.faults spawner.old) (S.faults spawner.new) (K.faults out.old) (K.faults out.new) result }
 {
     are_bytes(beside.input);

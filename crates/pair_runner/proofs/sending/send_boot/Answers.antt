@@ -12,7 +12,7 @@ returns-in_err-send_piece-clause-err g c =
 pub returns-in_err-send_piece-clause-cause : goal.returns-in_err-send_piece-clause-cause
 returns-in_err-send_piece-clause-cause g c =
     let is : c.from_residual.result ≡ Err c.in_err-send_piece.field-0.0 = search rules in
-    rw is (cause_after _ _ _ _ _ c.loop-rest.invariant.links c.in_err-send_piece.ensures.cause)
+    rw is (cause_after _ _ _ _ _ _ c.loop-rest.invariant.links c.in_err-send_piece.ensures.cause)
 
 pub loop-rest-smaller : goal.loop-rest-smaller
 loop-rest-smaller g c =

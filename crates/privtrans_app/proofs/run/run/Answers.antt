@@ -1,6 +1,6 @@
 use Rattle.std.proofs.Common.{◌≡◌, ℕ, List, Option, sym, ◌∙◌, ap, subst}
 use Rattle.std.specs.Io.KnownBytes.{Appends}
-use Rattle.honest_link.specs.Came.{Came}
+use Rattle.honest_link.specs.Came.{Started}
 use Rattle.pair_runner.specs.Sending.{Breaks, Moves}
 use Rattle.pair_texts.specs.Start.{Texts}
 use Rattle.pair_running.specs.SpawnedPairOutcomeSeen.{IsHonestFor}
@@ -16,7 +16,7 @@ use Rattle.privtrans_app.proofs.run.run.Goals as goal
 
 pub returns-in-Err-clause-ending : goal.returns-in-Err-clause-ending
 returns-in-Err-clause-ending g c = λ given form.
-    refusal_comes (IsRunOver g.S.Link.honest g.S.Link.sent g.S.Link.given g.K.Sink.taken c.args.spawner.now c.args.spawner.now c.args.out.now c.args.out.now)
+    refusal_comes (IsRunOver g.S.Spawner.starts g.S.Link.came g.S.Link.honest g.S.Link.sent g.S.Link.given g.K.Sink.taken c.args.spawner.now c.args.spawner.now c.args.out.now c.args.out.now)
     given (g.F.Folder.files c.args.folder.now) (g.F.Folder.read_faults c.args.folder.now) (g.F.Folder.read_faults c.read_texts.new.folder)
     (g.K.Sink.taken c.args.out.now) (g.K.Sink.faults c.args.out.now) (g.S.Link.faults c.args.spawner.now) (list_of c.args.words.now.names) (ending_seen c.in-Err.ending) (process_run given c.args.words.now form) c.in-Err.ensures.refusal
 
@@ -31,9 +31,9 @@ returns-clause-ending g c = λ given form.
     let cut : Texts = pair_texts_of c.in-Ok.texts in
     let same : record { program = c.deref-4.result.now; host = c.deref.result.now; policy = c.deref-2.result.now; input = c.deref-3.result.now } ≡ cut
     = λ i. record { program = c.deref-4.ensures.value i; host = c.deref.ensures.value i; policy = c.deref-2.ensures.value i; input = c.deref-3.ensures.value i } in
-    let moves = Moves (Came g.S.Link.honest g.S.Link.sent g.S.Link.given) g.S.Link.sent g.S.Link.given g.K.Sink.taken s s' k k' in
+    let moves = Moves (Started g.S.Spawner.starts g.S.Link.came g.S.Link.honest g.S.Link.sent g.S.Link.given) g.S.Link.sent g.S.Link.given g.K.Sink.taken s s' k k' in
     let breaks = Breaks g.S.Link.sent g.S.Link.given g.K.Sink.taken s s' k k' in
-    let is = IsRunOver g.S.Link.honest g.S.Link.sent g.S.Link.given g.K.Sink.taken s s' k k' in
+    let is = IsRunOver g.S.Spawner.starts g.S.Link.came g.S.Link.honest g.S.Link.sent g.S.Link.given g.K.Sink.taken s s' k k' in
     let run : is cut c.args.words.now.turns c.outcome_of-answer.result = subst (λ (t : Texts). is t c.args.words.now.turns c.outcome_of-answer.result) same
     (record { served = c.outcome_of-answer.ensures.served; expected = c.outcome_of-answer.ensures.expected }) in
     let runs : Runs is given (g.F.Folder.files c.args.folder.now) (ending_of c.outcome_of-answer.result) =
@@ -53,7 +53,7 @@ returns-clause-silent g c = λ silent.
     let k = c.args.out.now in
     let k' = c.outcome_of-answer.new.out in
     let read : Texts = record { program = c.deref-4.result.now; host = c.deref.result.now; policy = c.deref-2.result.now; input = c.deref-3.result.now } in
-    let is = silent_so (AreUntouched s s' k k') (Moves (Came g.S.Link.honest g.S.Link.sent g.S.Link.given) g.S.Link.sent g.S.Link.given g.K.Sink.taken s s' k k') (Breaks g.S.Link.sent g.S.Link.given g.K.Sink.taken s s' k k')
+    let is = silent_so (AreUntouched s s' k k') (Moves (Started g.S.Spawner.starts g.S.Link.came g.S.Link.honest g.S.Link.sent g.S.Link.given) g.S.Link.sent g.S.Link.given g.K.Sink.taken s s' k k') (Breaks g.S.Link.sent g.S.Link.given g.K.Sink.taken s s' k k')
     read c.args.words.now.turns c.outcome_of-answer.result (ap is_silent (sym c.ending_by.ensures) ∙ silent) c.outcome_of-answer.ensures.served in
     is.sink_is
 
@@ -64,6 +64,6 @@ returns-clause-unreached g c = λ idle.
     let k = c.args.out.now in
     let k' = c.outcome_of-answer.new.out in
     let read : Texts = record { program = c.deref-4.result.now; host = c.deref.result.now; policy = c.deref-2.result.now; input = c.deref-3.result.now } in
-    let is = silent_so (AreUntouched s s' k k') (Moves (Came g.S.Link.honest g.S.Link.sent g.S.Link.given) g.S.Link.sent g.S.Link.given g.K.Sink.taken s s' k k') (Breaks g.S.Link.sent g.S.Link.given g.K.Sink.taken s s' k k')
+    let is = silent_so (AreUntouched s s' k k') (Moves (Started g.S.Spawner.starts g.S.Link.came g.S.Link.honest g.S.Link.sent g.S.Link.given) g.S.Link.sent g.S.Link.given g.K.Sink.taken s s' k k') (Breaks g.S.Link.sent g.S.Link.given g.K.Sink.taken s s' k k')
     read c.args.words.now.turns c.outcome_of-answer.result (idle_so c.outcome_of-answer.result (ap is_idle (sym c.ending_by.ensures) ∙ idle)) c.outcome_of-answer.ensures.served in
     is.spawner_is

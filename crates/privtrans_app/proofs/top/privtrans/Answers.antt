@@ -7,7 +7,7 @@ use Rattle.privtrans_app.proofs.top.privtrans.Goals as goal
 
 pub returns-clause-form : goal.returns-clause-form
 returns-clause-form g c = λ writes faults.
-    by_form g.S.Link.came g.S.Link.honest g.S.Link.sent g.S.Link.given g.K.Sink.taken g.S.Link.faults g.K.Sink.faults c.args.spawner.now c.ended-ending.new.spawner c.args.out.now c.ended-ending.new.out
+    by_form g.S.Spawner.starts g.S.Spawner.inherits g.S.Link.came g.S.Link.honest g.S.Link.sent g.S.Link.given g.K.Sink.taken g.S.Link.faults g.K.Sink.faults c.args.spawner.now c.ended-ending.new.spawner c.args.out.now c.ended-ending.new.out
     (map (λ w. w.now) c.args.words.now) (g.F.Folder.files c.args.folder.now) (g.F.Folder.files c.ended-ending.new.folder) (g.F.Folder.read_faults c.args.folder.now) (g.F.Folder.read_faults c.ended-ending.new.folder)
     (g.F.Folder.write_faults c.args.folder.now) (g.F.Folder.write_faults c.ended-ending.new.folder)
     (g.E.Sink.taken c.args.report.now) (g.E.Sink.taken c.tell.new.sink) (g.E.Sink.faults c.args.report.now) (g.E.Sink.faults c.tell.new.sink) c.tell.result
@@ -15,7 +15,7 @@ returns-clause-form g c = λ writes faults.
 
 pub returns-clause-complete : goal.returns-clause-complete
 returns-clause-complete g c = λ files told reads writes faults.
-    by_files g.S.Link.came g.S.Link.honest g.S.Link.sent g.S.Link.given g.K.Sink.taken g.S.Link.faults g.K.Sink.faults c.args.spawner.now c.ended-ending.new.spawner c.args.out.now c.ended-ending.new.out
+    by_files g.S.Spawner.starts g.S.Spawner.inherits g.S.Link.came g.S.Link.honest g.S.Link.sent g.S.Link.given g.K.Sink.taken g.S.Link.faults g.K.Sink.faults c.args.spawner.now c.ended-ending.new.spawner c.args.out.now c.ended-ending.new.out
     (map (λ w. w.now) c.args.words.now) (g.F.Folder.files c.args.folder.now) (g.F.Folder.files c.ended-ending.new.folder) (g.F.Folder.read_faults c.args.folder.now) (g.F.Folder.read_faults c.ended-ending.new.folder)
     (g.F.Folder.write_faults c.args.folder.now) (g.F.Folder.write_faults c.ended-ending.new.folder)
     (g.E.Sink.taken c.args.report.now) (g.E.Sink.taken c.tell.new.sink) (g.E.Sink.faults c.args.report.now) (g.E.Sink.faults c.tell.new.sink) c.tell.result
@@ -23,7 +23,7 @@ returns-clause-complete g c = λ files told reads writes faults.
 
 pub returns-clause-split : goal.returns-clause-split
 returns-clause-split g c = λ files told reads fwrites faults.
-    by_split g.S.Link.came g.S.Link.honest g.S.Link.sent g.S.Link.given g.K.Sink.taken g.S.Link.faults g.K.Sink.faults c.args.spawner.now c.ended-ending.new.spawner c.args.out.now c.ended-ending.new.out
+    by_split g.S.Spawner.starts g.S.Spawner.inherits g.S.Link.came g.S.Link.honest g.S.Link.sent g.S.Link.given g.K.Sink.taken g.S.Link.faults g.K.Sink.faults c.args.spawner.now c.ended-ending.new.spawner c.args.out.now c.ended-ending.new.out
     (map (λ w. w.now) c.args.words.now) (g.F.Folder.files c.args.folder.now) (g.F.Folder.files c.ended-ending.new.folder) (g.F.Folder.read_faults c.args.folder.now) (g.F.Folder.read_faults c.ended-ending.new.folder)
     (g.F.Folder.write_faults c.args.folder.now) (g.F.Folder.write_faults c.ended-ending.new.folder)
     (g.E.Sink.taken c.args.report.now) (g.E.Sink.taken c.tell.new.sink) (g.E.Sink.faults c.args.report.now) (g.E.Sink.faults c.tell.new.sink) c.tell.result
@@ -31,7 +31,7 @@ returns-clause-split g c = λ files told reads fwrites faults.
 
 pub returns-clause-whole : goal.returns-clause-whole
 returns-clause-whole g c = λ files told reads fwrites writes faults.
-    are_kept g.S.Link.came g.S.Link.honest g.S.Link.sent g.S.Link.given g.K.Sink.taken g.S.Link.faults g.K.Sink.faults c.args.spawner.now c.ended-ending.new.spawner c.args.out.now c.ended-ending.new.out
+    are_kept g.S.Spawner.starts g.S.Spawner.inherits g.S.Link.came g.S.Link.honest g.S.Link.sent g.S.Link.given g.K.Sink.taken g.S.Link.faults g.K.Sink.faults c.args.spawner.now c.ended-ending.new.spawner c.args.out.now c.ended-ending.new.out
     (map (λ w. w.now) c.args.words.now) (g.F.Folder.files c.args.folder.now) (g.F.Folder.files c.ended-ending.new.folder) (g.F.Folder.read_faults c.args.folder.now) (g.F.Folder.read_faults c.ended-ending.new.folder)
     (g.F.Folder.write_faults c.args.folder.now) (g.F.Folder.write_faults c.ended-ending.new.folder)
     (g.E.Sink.taken c.args.report.now) (g.E.Sink.taken c.tell.new.sink) (g.E.Sink.faults c.args.report.now) (g.E.Sink.faults c.tell.new.sink) c.tell.result
@@ -39,7 +39,7 @@ returns-clause-whole g c = λ files told reads fwrites writes faults.
 
 pub returns-clause-headline : goal.returns-clause-headline
 returns-clause-headline g c = λ files told reads writes faults t turns window tree e held is.
-    tells_what_is_expected g.S.Link.came g.S.Link.honest g.S.Link.sent g.S.Link.given g.K.Sink.taken g.S.Link.faults g.K.Sink.faults c.args.spawner.now c.ended-ending.new.spawner c.args.out.now c.ended-ending.new.out
+    tells_what_is_expected g.S.Spawner.starts g.S.Spawner.inherits g.S.Link.came g.S.Link.honest g.S.Link.sent g.S.Link.given g.K.Sink.taken g.S.Link.faults g.K.Sink.faults c.args.spawner.now c.ended-ending.new.spawner c.args.out.now c.ended-ending.new.out
     (map (λ w. w.now) c.args.words.now) (g.F.Folder.files c.args.folder.now) (g.F.Folder.files c.ended-ending.new.folder) (g.F.Folder.read_faults c.args.folder.now) (g.F.Folder.read_faults c.ended-ending.new.folder)
     (g.F.Folder.write_faults c.args.folder.now) (g.F.Folder.write_faults c.ended-ending.new.folder)
     (g.E.Sink.taken c.args.report.now) (g.E.Sink.taken c.tell.new.sink) (g.E.Sink.faults c.args.report.now) (g.E.Sink.faults c.tell.new.sink) c.tell.result
@@ -47,7 +47,7 @@ returns-clause-headline g c = λ files told reads writes faults t turns window t
 
 pub returns-clause-headline_of_two : goal.returns-clause-headline_of_two
 returns-clause-headline_of_two g c = λ files told reads writes faults links t turns tree e held fair is.
-    two_tell g.S.Link.came g.S.Link.honest g.S.Link.sent g.S.Link.given g.K.Sink.taken g.S.Link.faults g.K.Sink.faults c.args.spawner.now c.ended-ending.new.spawner c.args.out.now c.ended-ending.new.out
+    two_tell g.S.Spawner.starts g.S.Spawner.inherits g.S.Link.came g.S.Link.honest g.S.Link.sent g.S.Link.given g.K.Sink.taken g.S.Link.faults g.K.Sink.faults c.args.spawner.now c.ended-ending.new.spawner c.args.out.now c.ended-ending.new.out
     (map (λ w. w.now) c.args.words.now) (g.F.Folder.files c.args.folder.now) (g.F.Folder.files c.ended-ending.new.folder) (g.F.Folder.read_faults c.args.folder.now) (g.F.Folder.read_faults c.ended-ending.new.folder)
     (g.F.Folder.write_faults c.args.folder.now) (g.F.Folder.write_faults c.ended-ending.new.folder)
     (g.E.Sink.taken c.args.report.now) (g.E.Sink.taken c.tell.new.sink) (g.E.Sink.faults c.args.report.now) (g.E.Sink.faults c.tell.new.sink) c.tell.result
@@ -61,7 +61,7 @@ returns-clause-interleaving g c = λ p h q i m w is run.
 
 pub returns-clause-generated : goal.returns-clause-generated
 returns-clause-generated g c = λ seed count is writes faults.
-    generated_tells g.S.Link.came g.S.Link.honest g.S.Link.sent g.S.Link.given g.K.Sink.taken g.S.Link.faults g.K.Sink.faults c.args.spawner.now c.ended-ending.new.spawner c.args.out.now c.ended-ending.new.out
+    generated_tells g.S.Spawner.starts g.S.Spawner.inherits g.S.Link.came g.S.Link.honest g.S.Link.sent g.S.Link.given g.K.Sink.taken g.S.Link.faults g.K.Sink.faults c.args.spawner.now c.ended-ending.new.spawner c.args.out.now c.ended-ending.new.out
     (map (λ w. w.now) c.args.words.now) (g.F.Folder.files c.args.folder.now) (g.F.Folder.files c.ended-ending.new.folder) (g.F.Folder.read_faults c.args.folder.now) (g.F.Folder.read_faults c.ended-ending.new.folder)
     (g.F.Folder.write_faults c.args.folder.now) (g.F.Folder.write_faults c.ended-ending.new.folder)
     (g.E.Sink.taken c.args.report.now) (g.E.Sink.taken c.tell.new.sink) (g.E.Sink.faults c.args.report.now) (g.E.Sink.faults c.tell.new.sink) c.tell.result

@@ -17,7 +17,7 @@ returns-in_err-run-clause-err g c =
 pub returns-in_err-run-clause-cause : goal.returns-in_err-run-clause-cause
 returns-in_err-run-clause-cause g c =
     let is : c.from_residual-in_err-run.result ≡ Err c.in_err-run.field-0.0 = search rules in
-    rw is (cause_after _ _ _ _ _ c.in_ok-slave.ensures.cause.stays c.in_err-run.ensures.cause)
+    rw is (cause_after _ _ _ _ _ _ c.in_ok-slave.ensures.cause.stays c.in_err-run.ensures.cause)
 
 pub returns-clause-ok : goal.returns-clause-ok
 returns-clause-ok g c =

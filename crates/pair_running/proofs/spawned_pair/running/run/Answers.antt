@@ -1,6 +1,6 @@
 use Rattle.std.proofs.Common.{◌≡◌, ◌<◌, ◌^◌, Err, inl, rules}
 use Rattle.boot_fields.specs.Limits.{Spells}
-use Rattle.honest_link.specs.Came.{Came}
+use Rattle.honest_link.specs.Came.{Started}
 use Rattle.pair_runner.specs.declared.fault.RunFault.TheVariants.{Memory}
 use Rattle.pair_runner.specs.Sending.{Breaks, Moves}
 use Rattle.pair_texts.specs.OutcomeSeen.{monitor_in}
@@ -40,7 +40,7 @@ returns-in_err-end-clause-served g c =
     let spelled : Spells (view_boot c.args.pair.boot) c.deref.result.now = let h = c.in_ok-boot.ensures.boot in search rules in
     λ t texts.
     rw is (served_fault (AreUntouched c.args.spawner.now c.start_peer.new.spawner c.args.out.now c.start_peer.new.out)
-    (Moves (Came g.S.Link.honest g.S.Link.sent g.S.Link.given) g.S.Link.sent g.S.Link.given g.K.Sink.taken c.args.spawner.now c.start_peer.new.spawner c.args.out.now c.start_peer.new.out)
+    (Moves (Started g.S.Spawner.starts g.S.Link.came g.S.Link.honest g.S.Link.sent g.S.Link.given) g.S.Link.sent g.S.Link.given g.K.Sink.taken c.args.spawner.now c.start_peer.new.spawner c.args.out.now c.start_peer.new.out)
     (Breaks g.S.Link.sent g.S.Link.given g.K.Sink.taken c.args.spawner.now c.start_peer.new.spawner c.args.out.now c.start_peer.new.out)
     c.args.pair c.args.turns t c.deref.result.now c.in_err-end.field-0.0 texts spelled (c.in_err-end.ensures.outcome (alone (monitor_in c.args.pair c.args.turns)) c.in_ok-boot.ensures.monitor))
 
@@ -50,7 +50,7 @@ returns-in_err-end-clause-expected g c =
     let spelled : Spells (view_boot c.args.pair.boot) c.deref.result.now = let h = c.in_ok-boot.ensures.boot in search rules in
     let small : c.args.turns < 2 ^ 32 = search rules in
     λ t texts for_it.
-    rw is (expected_fault g.S.Link.honest g.S.Link.sent g.S.Link.given g.K.Sink.taken c.args.spawner.now c.start_peer.new.spawner c.args.out.now c.start_peer.new.out c.args.pair c.args.turns t c.deref.result.now c.in_err-end.field-0.0
+    rw is (expected_fault g.S.Spawner.starts g.S.Link.came g.S.Link.honest g.S.Link.sent g.S.Link.given g.K.Sink.taken c.args.spawner.now c.start_peer.new.spawner c.args.out.now c.start_peer.new.out c.args.pair c.args.turns t c.deref.result.now c.in_err-end.field-0.0
     (record { talks = c.honest_talks_are_expected.ensures; fair = c.begun_pairs_are_fair.ensures; small = small; texts = texts; spelled = spelled; for_it = for_it })
     (c.in_err-end.ensures.outcome (alone (monitor_in c.args.pair c.args.turns)) c.in_ok-boot.ensures.monitor))
 
@@ -59,7 +59,7 @@ returns-in_err-shown-clause-served g c =
     let is : c.from_residual-in_err-shown.result ≡ Err Memory = search rules in
     let spelled : Spells (view_boot c.args.pair.boot) c.deref.result.now = let h = c.in_ok-boot.ensures.boot in search rules in
     λ t texts.
-    rw is (served_unnamed (Came g.S.Link.honest g.S.Link.sent g.S.Link.given) g.S.Link.sent g.S.Link.given g.K.Sink.taken c.args.spawner.now c.start_peer.new.spawner c.args.out.now c.start_peer.new.out
+    rw is (served_unnamed (Started g.S.Spawner.starts g.S.Link.came g.S.Link.honest g.S.Link.sent g.S.Link.given) g.S.Link.sent g.S.Link.given g.K.Sink.taken c.args.spawner.now c.start_peer.new.spawner c.args.out.now c.start_peer.new.out
     (AreUntouched c.args.spawner.now c.start_peer.new.spawner c.args.out.now c.start_peer.new.out)
     c.args.pair c.args.turns t c.deref.result.now c.in_ok-end.end texts spelled (c.in_ok-end.ensures.outcome (alone (monitor_in c.args.pair c.args.turns)) c.in_ok-boot.ensures.monitor))
 
@@ -73,7 +73,7 @@ returns-clause-served g c =
     let spelled : Spells (view_boot c.args.pair.boot) c.deref.result.now = let h = c.in_ok-boot.ensures.boot in search rules in
     λ t texts.
     served_end (AreUntouched c.args.spawner.now c.start_peer.new.spawner c.args.out.now c.start_peer.new.out)
-    (Moves (Came g.S.Link.honest g.S.Link.sent g.S.Link.given) g.S.Link.sent g.S.Link.given g.K.Sink.taken c.args.spawner.now c.start_peer.new.spawner c.args.out.now c.start_peer.new.out)
+    (Moves (Started g.S.Spawner.starts g.S.Link.came g.S.Link.honest g.S.Link.sent g.S.Link.given) g.S.Link.sent g.S.Link.given g.K.Sink.taken c.args.spawner.now c.start_peer.new.spawner c.args.out.now c.start_peer.new.out)
     (Breaks g.S.Link.sent g.S.Link.given g.K.Sink.taken c.args.spawner.now c.start_peer.new.spawner c.args.out.now c.start_peer.new.out)
     c.args.pair c.args.turns t c.deref.result.now c.in_ok-end.end c.as_slice.result.now c.in_ok-shown.shown texts spelled
     (c.in_ok-end.ensures.outcome (alone (monitor_in c.args.pair c.args.turns)) c.in_ok-boot.ensures.monitor) (let named = c.in_ok-boot.ensures.names in search rules) c.in_ok-shown.ensures
@@ -83,6 +83,6 @@ returns-clause-expected g c =
     let spelled : Spells (view_boot c.args.pair.boot) c.deref.result.now = let h = c.in_ok-boot.ensures.boot in search rules in
     let small : c.args.turns < 2 ^ 32 = search rules in
     λ t texts for_it.
-    expected_end g.S.Link.honest g.S.Link.sent g.S.Link.given g.K.Sink.taken c.args.spawner.now c.start_peer.new.spawner c.args.out.now c.start_peer.new.out c.args.pair c.args.turns t c.deref.result.now c.in_ok-end.end c.as_slice.result.now c.in_ok-shown.shown
+    expected_end g.S.Spawner.starts g.S.Link.came g.S.Link.honest g.S.Link.sent g.S.Link.given g.K.Sink.taken c.args.spawner.now c.start_peer.new.spawner c.args.out.now c.start_peer.new.out c.args.pair c.args.turns t c.deref.result.now c.in_ok-end.end c.as_slice.result.now c.in_ok-shown.shown
     (record { talks = c.honest_talks_are_expected.ensures; fair = c.begun_pairs_are_fair.ensures; small = small; texts = texts; spelled = spelled; for_it = for_it })
     (c.in_ok-end.ensures.outcome (alone (monitor_in c.args.pair c.args.turns)) c.in_ok-boot.ensures.monitor) (let named = c.in_ok-boot.ensures.names in search rules) c.in_ok-shown.ensures
