@@ -4,16 +4,13 @@
 mod session;
 
 use anyhow::Result;
-use case_rows::show_lists;
+use case_rows::{STACK, show_lists};
 use session::Session;
 use std::io::Read;
 use std::os::fd::AsFd;
 use std::process::Processes;
 use std::rt::{Files, Runtime};
 use std::thread::{Builder, Threads};
-
-/// The work goes as deep as a text nests, so it gets this many bytes of stack.
-const STACK: usize = 1 << 30;
 
 fn show_rows<
     R: Runtime + Files + Processes + Threads + AllocGlobal + Sync,
