@@ -6,4 +6,4 @@ mod symbol;
 mod table;
 
 pub use symbol::Symbol;
-pub use table::{alternatives, row, table_is_the_grammars};
+pub use table::{alternatives, kind_number, row, table_is_the_grammars};

@@ -211,7 +211,7 @@ pub fn table_is_the_grammars()
 fn is_led_to(rule: u8, next: TokenKind) -> bool
     ensures { result ≡ leads_to next rule }
 {
-    (leading_to(rule) >> number(next)) % 2 == 1
+    (leading_to(rule) >> kind_number(next)) % 2 == 1
 }
 
 #[inline(always)]
@@ -221,8 +221,9 @@ fn leading_to(rule: u8) -> u128
     LEADING.get(rule as usize).copied().unwrap_or(0)
 }
 
+/// The number of a kind of tokens, in the order of their declarations.
 #[inline(always)]
-fn number(kind: TokenKind) -> u8
+pub fn kind_number(kind: TokenKind) -> u8
     ensures { result ≡ kind_number kind }
 {
     kind as u8

@@ -36,9 +36,9 @@ use Rattle.lowering.specs.Lowered.{Temp, Effects, past, hold, counting, int}
 use Rattle.lowering.specs.Expressions.{is_struct, value_in, effects_in}
 use Rattle.lowering.specs.Statements as l
 use Rattle.lowering.specs.Statements.{Onward, nowhere, to_head, past_flag, number, onwards, inside, switch_temps, statement_in, otherwise_in, all_in, sections_in}
-use Rattle.c_lower_law.specs.Relations.{Scene, context_of, frame_of, scope_of, HasTemps, Kept, Alike, Same, After, below}
-use Rattle.c_lower_law.specs.Expressions.{run_all, cell_asked, Gives, IsValue, SameCell, SceneFits, SameResult, ValuesAgree, EffectsAgree, ObjectsAgree}
-use Rattle.c_lower_law.specs.Statements.{code_of, tests_of, lowered_with, is_flag, but_flag, FlagIs, LeadsOn, SameFlow, GivesFlow, StatementsAgree, GoesOn, DeclarationsAgree}
+use Rattle.c_lower_law.proofs.Relations.{Scene, context_of, frame_of, scope_of, HasTemps, Kept, Alike, Same, After, below}
+use Rattle.c_lower_law.proofs.Expressions.{run_all, cell_asked, Gives, IsValue, SameCell, SceneFits, SameResult, ValuesAgree, EffectsAgree, ObjectsAgree}
+use Rattle.c_lower_law.proofs.Statements.{code_of, tests_of, lowered_with, is_flag, but_flag, FlagIs, LeadsOn, SameFlow, GivesFlow, StatementsAgree, GoesOn, DeclarationsAgree}
 use Rattle.c_lower_law.proofs.Runs.{Stops, stops_at, same_weaken, append_nothing}
 use Rattle.c_lower_law.proofs.Memories.{kept_less, kept_same}
 use Rattle.c_lower_law.proofs.Held.{past_append, temps_first, temps_rest}

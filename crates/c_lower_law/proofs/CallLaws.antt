@@ -50,9 +50,9 @@ use Rattle.pt_core.specs.Calls as cc_
 use Rattle.pt_core.specs.Calls.{signature_in, function_in, with_arguments}
 use Rattle.lowering.specs.Lowered.{Temp}
 use Rattle.lowering.specs.Functions.{lowered_body, core_of, core_program, main_end}
-use Rattle.c_lower_law.specs.Relations.{Scene, world_of, context_of, frame_of, sizes_in, SameObjects, HasRoom, Kept, Alike, Same, After, all}
-use Rattle.c_lower_law.specs.Expressions.{run_all, SameResult, SameCells, CallsAlike, SceneFits, Gives}
-use Rattle.c_lower_law.specs.Statements.{but_flag, GivesFlow, SameFlow, StatementsAgree, scene_in}
+use Rattle.c_lower_law.proofs.Relations.{Scene, world_of, context_of, frame_of, sizes_in, SameObjects, HasRoom, Kept, Alike, Same, After, all}
+use Rattle.c_lower_law.proofs.Expressions.{run_all, SameResult, SameCells, CallsAlike, SceneFits, Gives}
+use Rattle.c_lower_law.proofs.Statements.{but_flag, GivesFlow, SameFlow, StatementsAgree, scene_in}
 use Rattle.lowering.specs.Statements.{nowhere}
 use Rattle.c_lower_law.proofs.Runs.{append_nothing}
 use Rattle.c_lower_law.proofs.CorePrograms.{signature_is, global_is, function_found, all_types, own_types, has_temps, no_end}

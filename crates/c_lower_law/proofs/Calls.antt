@@ -27,8 +27,8 @@ use Rattle.pt_core.specs.Values.{Stop, ◌>>?◌, written}
 use Rattle.pt_core.specs.Statements as c
 use Rattle.pt_core.specs.Statements.{Flow, goes_on, after_flow, evaluated, kept, kept_in, with_blocks}
 use Rattle.lowering.specs.Lowered.{past, temp}
-use Rattle.c_lower_law.specs.Relations.{core_cell, Scene, world_of, frame_of, sizes_in, Kept, Alike, Same, After, below, all}
-use Rattle.c_lower_law.specs.Expressions.{run_all, cell_asked, cells_asked, SameAsked, SameCell, SameCells, SameResult, Gives, IsValue, AreArguments, CallsAlike, SceneFits}
+use Rattle.c_lower_law.proofs.Relations.{core_cell, Scene, world_of, frame_of, sizes_in, Kept, Alike, Same, After, below, all}
+use Rattle.c_lower_law.proofs.Expressions.{run_all, cell_asked, cells_asked, SameAsked, SameCell, SameCells, SameResult, Gives, IsValue, AreArguments, CallsAlike, SceneFits}
 use Rattle.c_lower_law.proofs.Runs.{run_append, ok_then, err_as, spent_as, Stops, stops_at, asked_run, asked_asked, asked_else}
 use Rattle.c_lower_law.proofs.Memories.{kept_then, kept_less, kept_same}
 use Rattle.c_lower_law.proofs.Held.{own_length, Holds, with_temp, temp_given, temp_read, joined, both, both_ok, asked_made, asked_as, IsNext, Both, pair_of}

@@ -29,8 +29,8 @@ use Rattle.pt_core.specs.Statements.{Flow, goes_on, broke, continues, returned, 
 use Rattle.lowering.specs.Lowered.{Temp, Lowered, Effects, past, temp, hold}
 use Rattle.lowering.specs.Operators.{truth_of}
 use Rattle.lowering.specs.Expressions.{where_open}
-use Rattle.c_lower_law.specs.Relations.{core_cell, Scene, world_of, context_of, frame_of, Kept, Alike, Same, After, below}
-use Rattle.c_lower_law.specs.Expressions.{run_all, cell_asked, SameAsked, SameCell, Gives, IsValue, SceneFits}
+use Rattle.c_lower_law.proofs.Relations.{core_cell, Scene, world_of, context_of, frame_of, Kept, Alike, Same, After, below}
+use Rattle.c_lower_law.proofs.Expressions.{run_all, cell_asked, SameAsked, SameCell, Gives, IsValue, SceneFits}
 use Rattle.c_lower_law.proofs.Runs.{bind_bind, run_append, Stops, stops_at, asked_run, asked_asked}
 use Rattle.c_lower_law.proofs.Memories.{kept_then}
 use Rattle.c_lower_law.proofs.Held.{Holds, with_temp, temp_given, temp_read, hold_then, hold_then_stops, asked_kept, asked_up, not_both, IsNext}

@@ -24,8 +24,8 @@ use Rattle.pt_core.specs.Values as v
 use Rattle.pt_core.specs.Values.{Stop, ◌>>?◌, written, all_written, cells_at}
 use Rattle.pt_core.specs.Statements as c
 use Rattle.pt_core.specs.Statements.{Flow, goes_on, after_flow, evaluated, with_blocks}
-use Rattle.c_lower_law.specs.Relations.{name_of, core_cell, Scene, world_of, context_of, frame_of, sizes_in, Kept, Alike, Same, After, below, all}
-use Rattle.c_lower_law.specs.Expressions.{run_all, place_asked, object_asked, SameAsked, Gives, IsPlace, IsObject, SceneFits}
+use Rattle.c_lower_law.proofs.Relations.{name_of, core_cell, Scene, world_of, context_of, frame_of, sizes_in, Kept, Alike, Same, After, below, all}
+use Rattle.c_lower_law.proofs.Expressions.{run_all, place_asked, object_asked, SameAsked, Gives, IsPlace, IsObject, SceneFits}
 use Rattle.c_lower_law.proofs.Runs.{run_append, Stops, stops_at, asked_run, asked_asked, asked_else}
 use Rattle.c_lower_law.proofs.Memories.{map_take, map_drop, put_there, objects_all_written, room_all, kept_all, kept_then}
 use Rattle.c_lower_law.proofs.Held.{own_length, same_ok, same_err, not_both, both, both_ok, both_err, asked_made, IsNext, Both, pair_of}

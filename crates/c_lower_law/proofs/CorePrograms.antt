@@ -21,7 +21,7 @@ use Rattle.pt_core.specs.Types.{type_at}
 use Rattle.pt_core.specs.Calls.{no_signature, signature_in, function_in, no_function}
 use Rattle.lowering.specs.Lowered.{Temp}
 use Rattle.lowering.specs.Functions.{variable_of, main_end, lowered_body, core_of, code_if, functions_from, signatures_from, globals_from, core_program}
-use Rattle.c_lower_law.specs.Relations.{HasTemps}
+use Rattle.c_lower_law.proofs.Relations.{HasTemps}
 use Rattle.c_lower_law.proofs.Memories.{same_number, is_same, is_other}
 
 -- ---- by numbers

@@ -49,9 +49,9 @@ use Rattle.lowering.specs.Lowered.{Effects, past}
 use Rattle.lowering.specs.Expressions.{is_struct, value_in, object_in, copied, given, place_effects}
 use Rattle.lowering.specs.Statements as l
 use Rattle.lowering.specs.Leaves.{leaf_places}
-use Rattle.c_lower_law.specs.Relations.{core_cell, Scene, world_of, context_of, frame_of, scope_of, sizes_in, variable_types, HasTemps, Kept, Alike, Same, After, below, all}
-use Rattle.c_lower_law.specs.Expressions.{run_all, cell_asked, place_asked, object_asked, Gives, IsValue, IsObject, SceneFits, ValuesAgree, EffectsAgree, ObjectsAgree}
-use Rattle.c_lower_law.specs.Statements.{code_of, tests_of, lowered_with, GoesOn, DeclarationsAgree}
+use Rattle.c_lower_law.proofs.Relations.{core_cell, Scene, world_of, context_of, frame_of, scope_of, sizes_in, variable_types, HasTemps, Kept, Alike, Same, After, below, all}
+use Rattle.c_lower_law.proofs.Expressions.{run_all, cell_asked, place_asked, object_asked, Gives, IsValue, IsObject, SceneFits, ValuesAgree, EffectsAgree, ObjectsAgree}
+use Rattle.c_lower_law.proofs.Statements.{code_of, tests_of, lowered_with, GoesOn, DeclarationsAgree}
 use Rattle.c_lower_law.proofs.Runs.{Stops, stops_at, same_weaken, run_append, ran_run, asked_run}
 use Rattle.c_lower_law.proofs.Memories.{kept_then, kept_less, kept_same, kept_object, kept_all, alike_written, alike_all_written}
 use Rattle.c_lower_law.proofs.Held.{own_length, past_append, temps_first, temps_rest}

@@ -31,9 +31,9 @@ use Rattle.pt_core.specs.Statements as c
 use Rattle.pt_core.specs.Calls as calls
 use Rattle.pt_core.specs.Calls.{function_in}
 use Rattle.lowering.specs.Functions.{core_of, core_program}
-use Rattle.c_lower_law.specs.Relations.{Scene, frame_of, Alike, Same, all}
-use Rattle.c_lower_law.specs.Expressions.{SameResult, SameCells, CallsAlike, Gives}
-use Rattle.c_lower_law.specs.Statements.{StatementsAgree, CallsAgree, scene_in}
+use Rattle.c_lower_law.proofs.Relations.{Scene, frame_of, Alike, Same, all}
+use Rattle.c_lower_law.proofs.Expressions.{SameResult, SameCells, CallsAlike, Gives}
+use Rattle.c_lower_law.proofs.Statements.{StatementsAgree, CallsAgree, scene_in}
 use Rattle.c_lower_law.proofs.CorePrograms.{all_types, signature_is, function_found}
 use Rattle.c_lower_law.proofs.Entering.{argument_cells}
 use Rattle.c_lower_law.proofs.HostCalls.{numbers_same, host_as, core_host_as, host_alike}

@@ -40,8 +40,8 @@ use Rattle.lowering.specs.Lowered.{Temp, Effects, Lowered, LoweredPlace, past, t
 use Rattle.lowering.specs.Purity.{is_pure}
 use Rattle.lowering.specs.Expressions as l
 use Rattle.lowering.specs.Expressions.{value_in, form_in, effects_in, arguments_in, place_in, object_in, fixed_if}
-use Rattle.c_lower_law.specs.Relations.{Scene, world_of, context_of, scope_of, sizes_in, HasTemps, Kept, Alike, Same, After, below}
-use Rattle.c_lower_law.specs.Expressions.{run_all, cell_asked, place_asked, object_asked, SameAsked, SameCell, Gives, IsValue, IsPlace, IsObject, SceneFits}
+use Rattle.c_lower_law.proofs.Relations.{Scene, world_of, context_of, scope_of, sizes_in, HasTemps, Kept, Alike, Same, After, below}
+use Rattle.c_lower_law.proofs.Expressions.{run_all, cell_asked, place_asked, object_asked, SameAsked, SameCell, Gives, IsValue, IsPlace, IsObject, SceneFits}
 use Rattle.c_lower_law.proofs.Runs.{bind_gives, run_append, Stops, stops_at, asked_run, same_weaken}
 use Rattle.c_lower_law.proofs.Memories.{kept_same, kept_then}
 use Rattle.c_lower_law.proofs.Held.{temps_first, temps_rest, temp_there, IsNext, Both, pair_of, both}

@@ -32,7 +32,7 @@ use Rattle.pt_core.specs.Types.{shape_of}
 use Rattle.pt_core.specs.Calls.{with_arguments}
 use Rattle.lowering.specs.Lowered.{Temp}
 use Rattle.lowering.specs.Functions.{variable_of}
-use Rattle.c_lower_law.specs.Relations.{name_of, core_cell, SameObjects}
+use Rattle.c_lower_law.proofs.Relations.{name_of, core_cell, SameObjects}
 use Rattle.c_lower_law.proofs.Values.{Scalar}
 use Rattle.c_lower_law.proofs.Memories.{same_number, is_same, is_other, put_there, put_apart}
 

@@ -1,6 +1,6 @@
 -- The laws of expressions, as they are stated.
 use Rattle.std.proofs.Common.{◌≡◌}
-use Rattle.c_lower_law.specs.Expressions.{ValuesAgree, EffectsAgree, ObjectsAgree}
+use Rattle.c_lower_law.proofs.Expressions.{ValuesAgree, EffectsAgree, ObjectsAgree}
 use Rattle.c_lower_law.proofs.Law.{value_law, effects_law, object_law}
 
 pub values_agree : ValuesAgree

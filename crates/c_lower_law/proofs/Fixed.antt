@@ -26,8 +26,8 @@ use Rattle.pt_core.specs.Statements as c
 use Rattle.pt_core.specs.Statements.{Flow, goes_on, after_flow, evaluated}
 use Rattle.lowering.specs.Lowered.{Temp, LoweredPlace, past, temp, hold}
 use Rattle.lowering.specs.Expressions.{fixed_root, fixed_through, fixed_if}
-use Rattle.c_lower_law.specs.Relations.{Scene, context_of, frame_of, HasTemps, Kept, Alike, Same, After, below}
-use Rattle.c_lower_law.specs.Expressions.{run_all, cell_asked, place_asked, SameAsked, Gives, IsPlace, SceneFits}
+use Rattle.c_lower_law.proofs.Relations.{Scene, context_of, frame_of, HasTemps, Kept, Alike, Same, After, below}
+use Rattle.c_lower_law.proofs.Expressions.{run_all, cell_asked, place_asked, SameAsked, Gives, IsPlace, SceneFits}
 use Rattle.c_lower_law.proofs.Runs.{pair, bind_bind, run_append, append_nothing, ok_then, err_as, asked_asked, asked_else}
 use Rattle.c_lower_law.proofs.Memories.{kept_then, kept_same}
 use Rattle.c_lower_law.proofs.Held.{own_length, past_append, temp_there, Holds, with_temp, temp_given, temp_read, hold_then, hold_then_stops, same_ok, same_err, not_both, joined, both, both_err, both_ok, IsNext, Both, pair_of, first_pure}

@@ -18,9 +18,9 @@ use Rattle.pt_core.specs.Statements as c
 use Rattle.pt_core.specs.Statements.{goes_on, broke, continues, returned, after_flow, does, evaluated}
 use Rattle.lowering.specs.Lowered.{hold, temp}
 use Rattle.lowering.specs.Statements.{Onward, nowhere, to_head, past_flag}
-use Rattle.c_lower_law.specs.Relations.{Scene, frame_of, SameSeen, Kept, Alike, Same, After, below}
-use Rattle.c_lower_law.specs.Expressions.{run_all, cell_asked, Gives, SceneFits, SameResult}
-use Rattle.c_lower_law.specs.Statements.{is_flag, but_flag, FlagIs, LeadsOn, Continues, SameFlow, GivesFlow}
+use Rattle.c_lower_law.proofs.Relations.{Scene, frame_of, SameSeen, Kept, Alike, Same, After, below}
+use Rattle.c_lower_law.proofs.Expressions.{run_all, cell_asked, Gives, SceneFits, SameResult}
+use Rattle.c_lower_law.proofs.Statements.{is_flag, but_flag, FlagIs, LeadsOn, Continues, SameFlow, GivesFlow}
 use Rattle.c_lower_law.proofs.Runs.{ok_then, err_as, spent_as, same_bind, same_weaken, run_append}
 use Rattle.c_lower_law.proofs.Memories.{kept_then, kept_less, kept_same}
 use Rattle.c_lower_law.proofs.Held.{own_length}

@@ -43,8 +43,8 @@ use Rattle.lowering.specs.Operators.{prefixed, truth_of}
 use Rattle.lowering.specs.Purity.{takes_left_first, is_pure}
 use Rattle.lowering.specs.Expressions as l
 use Rattle.lowering.specs.Expressions.{Scope, int_of, elem_of, value_in, form_in, effects_in, links_in, operands_in, arguments_in, place_in, root_in, steps_in, object_in, started, with_operand, where_open, arm, fixed_if}
-use Rattle.c_lower_law.specs.Relations.{core_cell, Scene, world_of, context_of, frame_of, scope_of, sizes_in, HasTemps, Kept, Alike, Same, After, below}
-use Rattle.c_lower_law.specs.Expressions.{run_all, cell_asked, place_asked, SameAsked, SameCell, Gives, IsValue, IsPlace, SceneFits}
+use Rattle.c_lower_law.proofs.Relations.{core_cell, Scene, world_of, context_of, frame_of, scope_of, sizes_in, HasTemps, Kept, Alike, Same, After, below}
+use Rattle.c_lower_law.proofs.Expressions.{run_all, cell_asked, place_asked, SameAsked, SameCell, Gives, IsValue, IsPlace, SceneFits}
 use Rattle.c_lower_law.proofs.Runs.{bind_bind, bind_gives}
 use Rattle.c_lower_law.proofs.Memories.{kept_same}
 use Rattle.c_lower_law.proofs.Held.{temps_first, temps_rest, temp_there, past_append, IsNext, Both, pair_of, first_then, both}

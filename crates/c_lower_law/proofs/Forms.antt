@@ -36,8 +36,8 @@ use Rattle.lowering.specs.Lowered.{Temp, Lowered, LoweredPlace, past, temp, held
 use Rattle.lowering.specs.Operators.{stepped}
 use Rattle.lowering.specs.Purity.{takes_left_first, is_pure}
 use Rattle.lowering.specs.Expressions.{fixed_root, fixed_through, fixed_if}
-use Rattle.c_lower_law.specs.Relations.{Scene, world_of, context_of, sizes_in, HasTemps, Kept, Alike, Same, After, below}
-use Rattle.c_lower_law.specs.Expressions.{run_all, cell_asked, SameAsked, SameCell, Gives, IsValue, IsDropped, SceneFits}
+use Rattle.c_lower_law.proofs.Relations.{Scene, world_of, context_of, sizes_in, HasTemps, Kept, Alike, Same, After, below}
+use Rattle.c_lower_law.proofs.Expressions.{run_all, cell_asked, SameAsked, SameCell, Gives, IsValue, IsDropped, SceneFits}
 use Rattle.c_lower_law.proofs.Runs.{bind_bind, bind_gives, same_weaken}
 use Rattle.c_lower_law.proofs.Held.{temps_first, asked_weaken, both, IsNext, Both, pair_of, past_append}
 use Rattle.c_lower_law.proofs.Operators.{PointerType, TakesLeft, PlainStep, PointsTo}

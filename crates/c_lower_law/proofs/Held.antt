@@ -18,8 +18,8 @@ use Rattle.pt_core.specs.Values.{Stop, ◌>>?◌, written}
 use Rattle.pt_core.specs.Statements as c
 use Rattle.pt_core.specs.Statements.{Flow, goes_on, after_flow, evaluated, with_blocks}
 use Rattle.lowering.specs.Lowered.{Temp, Lowered, past, temp, hold, held, held_if}
-use Rattle.c_lower_law.specs.Relations.{Scene, variable_types, HasTemps, HasRoom, Kept, Alike, Same, After, below}
-use Rattle.c_lower_law.specs.Expressions.{run_all, asked, cell_asked, SameAsked, Gives, IsValue, SceneFits}
+use Rattle.c_lower_law.proofs.Relations.{Scene, variable_types, HasTemps, HasRoom, Kept, Alike, Same, After, below}
+use Rattle.c_lower_law.proofs.Expressions.{run_all, asked, cell_asked, SameAsked, Gives, IsValue, SceneFits}
 use Rattle.c_lower_law.proofs.Runs.{bind_bind, run_append, append_nothing, ok_then, same_bind, same_weaken, Stops, stops_at, asked_asked, asked_else}
 use Rattle.c_lower_law.proofs.Memories.{kept_then, kept_temp, alike_temp, temp_holds}
 

@@ -15,8 +15,8 @@ use Rattle.source_meaning.specs.Functions.{answered, result_value}
 use Rattle.pt_core.specs.Values as cv
 use Rattle.pt_core.specs.Statements as c
 use Rattle.pt_core.specs.Calls.{number_cell}
-use Rattle.c_lower_law.specs.Relations.{core_cell, Scene, frame_of, SameSeen, Alike, Same, all}
-use Rattle.c_lower_law.specs.Expressions.{SameResult, Gives}
+use Rattle.c_lower_law.proofs.Relations.{core_cell, Scene, frame_of, SameSeen, Alike, Same, all}
+use Rattle.c_lower_law.proofs.Expressions.{SameResult, Gives}
 use Rattle.c_lower_law.proofs.Memories.{kept_same}
 use Rattle.c_lower_law.proofs.Entering.{argument_cells}
 

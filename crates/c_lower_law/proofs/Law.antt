@@ -40,8 +40,8 @@ use Rattle.lowering.specs.Lowered.{Temp, Effects, Lowered, LoweredPlace, past, t
 use Rattle.lowering.specs.Purity.{takes_left_first, is_pure, are_pure}
 use Rattle.lowering.specs.Expressions as l
 use Rattle.lowering.specs.Expressions.{Scope, value_in, form_in, effects_in, form_effects, links_in, operands_in, arguments_in, place_in, root_in, steps_in, object_in, started, with_operand, fixed_if, named_place, behind, field_in, decayed, decayed_type}
-use Rattle.c_lower_law.specs.Relations.{name_of, Scene, global_types, variable_types, world_of, context_of, frame_of, scope_of, sizes_in, HasTemps, Kept, Alike, Same, After, below}
-use Rattle.c_lower_law.specs.Expressions.{run_all, cell_asked, place_asked, cells_asked, object_asked, SameAsked, SameCell, Gives, IsValue, IsPlace, IsObject, AreArguments, SceneFits}
+use Rattle.c_lower_law.proofs.Relations.{name_of, Scene, global_types, variable_types, world_of, context_of, frame_of, scope_of, sizes_in, HasTemps, Kept, Alike, Same, After, below}
+use Rattle.c_lower_law.proofs.Expressions.{run_all, cell_asked, place_asked, cells_asked, object_asked, SameAsked, SameCell, Gives, IsValue, IsPlace, IsObject, AreArguments, SceneFits}
 use Rattle.c_lower_law.proofs.Runs.{bind_bind, bind_gives}
 use Rattle.c_lower_law.proofs.Memories.{kept_same}
 use Rattle.c_lower_law.proofs.Held.{temps_first, temps_rest, temp_there, past_append, IsNext, Both, pair_of, first_then, both}

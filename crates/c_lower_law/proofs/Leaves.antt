@@ -43,8 +43,8 @@ use Rattle.pt_core.specs.Values as v
 use Rattle.pt_core.specs.Values.{Stop, ◌>>?◌, at_span, pointed, pointee, along, field_at, decayed, target_of}
 use Rattle.lowering.specs.Expressions.{place_with_field}
 use Rattle.lowering.specs.Leaves.{Step, to_field, to_element, Ways, begun_with, element_ways, elem_ways, object_ways, field_ways, ways_from, ways_of, stepped_to, at_end_of, leaf_places}
-use Rattle.c_lower_law.specs.Relations.{Scene, frame_of, sizes_in}
-use Rattle.c_lower_law.specs.Expressions.{cell_asked, place_asked, SceneFits}
+use Rattle.c_lower_law.proofs.Relations.{Scene, frame_of, sizes_in}
+use Rattle.c_lower_law.proofs.Expressions.{cell_asked, place_asked, SceneFits}
 use Rattle.c_lower_law.proofs.Variables.{Own}
 
 -- ---- places that lie in a variable

@@ -8,6 +8,7 @@ pub mod Declarations
 pub mod DeepCalls
 pub mod EffectLaws
 pub mod Entering
+pub mod Expressions
 pub mod ExpressionsAgree
 pub mod Fixed
 pub mod Flows
@@ -26,11 +27,13 @@ pub mod Operators
 pub mod Outermost
 pub mod Parts
 pub mod Places
+pub mod Relations
 pub mod Runs
 pub mod RunsAgree
 pub mod Sections
 pub mod Shapes
 pub mod StatementTemps
+pub mod Statements
 pub mod Steps
 pub mod StoreLaws
 pub mod Stores

@@ -25,9 +25,9 @@ use Rattle.lowering.specs.Lowered.{past, temp, hold, int}
 use Rattle.lowering.specs.Expressions.{value_in, effects_in}
 use Rattle.lowering.specs.Statements as l
 use Rattle.lowering.specs.Statements.{Onward, nowhere, to_head, past_flag, number}
-use Rattle.c_lower_law.specs.Relations.{Scene, frame_of, scope_of, HasTemps, Kept, Alike, Same, After, below, all}
-use Rattle.c_lower_law.specs.Expressions.{run_all, Gives, SceneFits, SameResult}
-use Rattle.c_lower_law.specs.Statements.{code_of, tests_of, lowered_with, but_flag, FlagIs, SameFlow, GivesFlow}
+use Rattle.c_lower_law.proofs.Relations.{Scene, frame_of, scope_of, HasTemps, Kept, Alike, Same, After, below, all}
+use Rattle.c_lower_law.proofs.Expressions.{run_all, Gives, SceneFits, SameResult}
+use Rattle.c_lower_law.proofs.Statements.{code_of, tests_of, lowered_with, but_flag, FlagIs, SameFlow, GivesFlow}
 use Rattle.c_lower_law.proofs.Runs.{ok_then, err_as, spent_as, same_bind, same_weaken, run_append, ran_run}
 use Rattle.c_lower_law.proofs.Memories.{kept_then, kept_less, kept_same}
 use Rattle.c_lower_law.proofs.Held.{past_append, temps_first, temps_rest, Holds, with_temp, temp_given, temp_read, hold_then}

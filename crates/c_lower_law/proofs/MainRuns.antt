@@ -65,9 +65,10 @@ use Rattle.pt_core.specs.CoreRun as r
 use Rattle.pt_core.specs.CoreRun.{main_in, status_of, core_run}
 use Rattle.lowering.specs.Statements.{nowhere}
 use Rattle.lowering.specs.Functions.{lowered_body, core_of, core_program, main_end, signatures_from, globals_from}
-use Rattle.c_lower_law.specs.Relations.{core_cell, Scene, world_of, frame_of, SameObjects, Alike, Same}
-use Rattle.c_lower_law.specs.Expressions.{run_all, SameResult, SceneFits}
-use Rattle.c_lower_law.specs.Statements.{but_flag, GivesFlow, SameFlow, StatementsAgree, scene_in, LoweringKeepsTheRun}
+use Rattle.c_lower_law.proofs.Relations.{core_cell, Scene, world_of, frame_of, SameObjects, Alike, Same}
+use Rattle.c_lower_law.proofs.Expressions.{run_all, SameResult, SceneFits}
+use Rattle.c_lower_law.proofs.Statements.{but_flag, GivesFlow, SameFlow, StatementsAgree, scene_in}
+use Rattle.c_lower_law.specs.Statements.{LoweringKeepsTheRun}
 use Rattle.c_lower_law.proofs.Runs.{run_append}
 use Rattle.c_lower_law.proofs.CorePrograms.{signature_is, global_is, function_found, all_types, own_types, has_temps}
 use Rattle.c_lower_law.proofs.Memories.{objects_put}

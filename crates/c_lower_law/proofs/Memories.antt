@@ -19,7 +19,7 @@ use Rattle.source_soundness.specs.Sizes.{Sized}
 use Rattle.pt_core.specs.Values.{written, all_written}
 use Rattle.pt_core.specs.Statements as c
 use Rattle.pt_core.specs.Statements.{with_blocks}
-use Rattle.c_lower_law.specs.Relations.{name_of, core_cell, SameObjects, Scene, world_of, sizes_in, HasRoom, Kept, Alike, below, all}
+use Rattle.c_lower_law.proofs.Relations.{name_of, core_cell, SameObjects, Scene, world_of, sizes_in, HasRoom, Kept, Alike, below, all}
 pub use Rattle.pt_base.proofs.SameNumbers.{same_number}
 
 -- ---- numbers

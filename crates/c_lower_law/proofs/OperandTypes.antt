@@ -30,7 +30,7 @@ use Rattle.source_soundness.proofs.Soundness.{converts_scalar}
 use Rattle.pt_core.specs.CodeTree as ct
 use Rattle.pt_core.specs.Types.{type_of}
 use Rattle.lowering.specs.Operators as l
-use Rattle.c_lower_law.specs.Relations.{Scene, frame_of}
+use Rattle.c_lower_law.proofs.Relations.{Scene, frame_of}
 use Rattle.c_lower_law.proofs.Operators.{PointerType, Prefixes, IsScalarCell, Computes, TakesLeft, PlainStep, PointsTo}
 use Rattle.c_lower_law.proofs.Values.{Scalar}
 

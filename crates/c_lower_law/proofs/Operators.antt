@@ -40,8 +40,8 @@ use Rattle.pt_core.specs.Values as v
 use Rattle.pt_core.specs.Values.{Stop, ◌>>?◌, at_span, converted, is_type, unary_operand, right_operand, numbered, pointed, told, pointing}
 use Rattle.lowering.specs.Operators as l
 use Rattle.lowering.specs.Operators.{as_int, prefixed, truth_of, stepped, stored}
-use Rattle.c_lower_law.specs.Relations.{name_of, core_cell, Scene, frame_of}
-use Rattle.c_lower_law.specs.Expressions.{cell_asked}
+use Rattle.c_lower_law.proofs.Relations.{name_of, core_cell, Scene, frame_of}
+use Rattle.c_lower_law.proofs.Expressions.{cell_asked}
 use Rattle.c_lower_law.proofs.Held.{joined, both}
 
 -- ---- cells

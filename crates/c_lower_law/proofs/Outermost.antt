@@ -27,9 +27,9 @@ use Rattle.pt_core.specs.Statements as c
 use Rattle.pt_core.specs.Statements.{goes_on, after_flow, do_all, evaluated}
 use Rattle.lowering.specs.Lowered.{Lowered}
 use Rattle.lowering.specs.Expressions.{is_struct, value_in, effects_in}
-use Rattle.c_lower_law.specs.Relations.{core_cell, Scene, context_of, scope_of, frame_of, HasTemps, Kept, Alike, Same, After, below}
-use Rattle.c_lower_law.specs.Expressions.{run_all, cell_asked, Gives, SameCell, IsValue, SceneFits, ValuesAgree, EffectsAgree, ObjectsAgree}
-use Rattle.c_lower_law.specs.Statements.{tests_of}
+use Rattle.c_lower_law.proofs.Relations.{core_cell, Scene, context_of, scope_of, frame_of, HasTemps, Kept, Alike, Same, After, below}
+use Rattle.c_lower_law.proofs.Expressions.{run_all, cell_asked, Gives, SameCell, IsValue, SceneFits, ValuesAgree, EffectsAgree, ObjectsAgree}
+use Rattle.c_lower_law.proofs.Statements.{tests_of}
 use Rattle.c_lower_law.proofs.Runs.{run_append, Stops, stops_at, asked_run}
 use Rattle.c_lower_law.proofs.Flows.{Passes}
 

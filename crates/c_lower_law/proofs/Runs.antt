@@ -11,8 +11,8 @@ use Rattle.pt_core.specs.CodeTree.{StmtTree, stmt_trees}
 use Rattle.pt_core.specs.Values.{Stop, ◌>>?◌}
 use Rattle.pt_core.specs.Statements as c
 use Rattle.pt_core.specs.Statements.{Flow, goes_on, broke, continues, returned, after_flow, evaluated, does, do_all}
-use Rattle.c_lower_law.specs.Relations.{Scene, frame_of, SameSeen, Same}
-use Rattle.c_lower_law.specs.Expressions.{run_all, asked, SameAsked}
+use Rattle.c_lower_law.proofs.Relations.{Scene, frame_of, SameSeen, Same}
+use Rattle.c_lower_law.proofs.Expressions.{run_all, asked, SameAsked}
 
 abbrev pub pair : {A B : Type 0} → A → B → A × B
 pair a b = (a, b)

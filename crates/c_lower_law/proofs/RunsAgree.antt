@@ -1,5 +1,6 @@
 -- Statements, calls and whole programs come to the same.
-use Rattle.c_lower_law.specs.Statements.{DeclarationsAgree, StatementsAgree, CallsAgree, LoweringKeepsTheRun}
+use Rattle.c_lower_law.proofs.Statements.{DeclarationsAgree, StatementsAgree, CallsAgree}
+use Rattle.c_lower_law.specs.Statements.{LoweringKeepsTheRun}
 use Rattle.c_lower_law.proofs.ExpressionsAgree.{values_agree, effects_agree, objects_agree}
 use Rattle.c_lower_law.proofs.Declarations as d
 use Rattle.c_lower_law.proofs.Bodies as b

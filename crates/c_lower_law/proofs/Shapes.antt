@@ -13,7 +13,7 @@ use Rattle.pt_core.specs.CodeTree.{StmtTree, decay}
 use Rattle.lowering.specs.Lowered.{Temp, Effects, Lowered, LoweredPlace, past, holding, held_if}
 use Rattle.lowering.specs.Purity.{takes_left_first, is_pure, is_pure_form, are_pure_links, is_pure_place, is_pure_root, are_pure_steps, are_pure}
 use Rattle.lowering.specs.Expressions.{Scope, value_in, form_in, links_in, operands_in, arguments_in, place_in, root_in, steps_in, chain_so_far, linked, with_operand, decayed, decayed_type, element_place, field_in}
-use Rattle.c_lower_law.specs.Relations.{HasTemps}
+use Rattle.c_lower_law.proofs.Relations.{HasTemps}
 use Rattle.c_lower_law.proofs.Held.{temps_first}
 
 -- ---- temporaries that were taken before

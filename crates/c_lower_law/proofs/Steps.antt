@@ -31,8 +31,8 @@ use Rattle.pt_core.specs.Statements.{Flow, goes_on, after_flow, evaluated}
 use Rattle.lowering.specs.Lowered.{Temp, past, temp, hold}
 use Rattle.lowering.specs.Operators as l
 use Rattle.lowering.specs.Operators.{unit_of}
-use Rattle.c_lower_law.specs.Relations.{core_cell, Scene, world_of, context_of, sizes_in, Kept, Alike, Same, After, below, all}
-use Rattle.c_lower_law.specs.Expressions.{run_all, cell_asked, place_asked, SameAsked, SameCell, Gives, IsValue, IsPlace, SceneFits}
+use Rattle.c_lower_law.proofs.Relations.{core_cell, Scene, world_of, context_of, sizes_in, Kept, Alike, Same, After, below, all}
+use Rattle.c_lower_law.proofs.Expressions.{run_all, cell_asked, place_asked, SameAsked, SameCell, Gives, IsValue, IsPlace, SceneFits}
 use Rattle.c_lower_law.proofs.Runs.{bind_bind, bind_gives, run_append, stops_same_asked, asked_asked}
 use Rattle.c_lower_law.proofs.Memories.{kept_then}
 use Rattle.c_lower_law.proofs.Held.{own_length, Holds, with_temp, temp_given, temp_read, hold_then, hold_then_stops, both, both_ok, IsNext}

@@ -43,8 +43,8 @@ use Rattle.lowering.specs.Operators.{unit_of, unit_step}
 use Rattle.lowering.specs.Purity.{is_pure}
 use Rattle.lowering.specs.Expressions as l
 use Rattle.lowering.specs.Expressions.{value_in, form_in, effects_in, form_effects, operands_in, arguments_in, place_in, object_in, started, arm, fixed_if, left_place, value_at, place_effects, given, compounded as lowered_compound}
-use Rattle.c_lower_law.specs.Relations.{Scene, world_of, context_of, scope_of, sizes_in, HasTemps, Kept, Alike, Same, After, below}
-use Rattle.c_lower_law.specs.Expressions.{run_all, cell_asked, place_asked, cells_asked, SameAsked, SameCell, Gives, IsValue, IsPlace, AreArguments, SceneFits}
+use Rattle.c_lower_law.proofs.Relations.{Scene, world_of, context_of, scope_of, sizes_in, HasTemps, Kept, Alike, Same, After, below}
+use Rattle.c_lower_law.proofs.Expressions.{run_all, cell_asked, place_asked, cells_asked, SameAsked, SameCell, Gives, IsValue, IsPlace, AreArguments, SceneFits}
 use Rattle.c_lower_law.proofs.Runs.{bind_bind, bind_gives, append_nothing}
 use Rattle.c_lower_law.proofs.Held.{temps_first, temps_rest, temp_there, past_append, own_length, IsNext, Both, pair_of, both}
 use Rattle.c_lower_law.proofs.Operators.{PointerType, Computes}

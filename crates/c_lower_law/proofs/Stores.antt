@@ -39,8 +39,8 @@ use Rattle.lowering.specs.Lowered.{Temp, LoweredPlace, past, temp, hold}
 use Rattle.lowering.specs.Operators as l
 use Rattle.lowering.specs.Operators.{stepped, stored}
 use Rattle.lowering.specs.Expressions.{fixed_root, fixed_through, fixed_if}
-use Rattle.c_lower_law.specs.Relations.{name_of, core_cell, Scene, world_of, context_of, frame_of, sizes_in, HasTemps, Kept, Alike, Same, After, below, all}
-use Rattle.c_lower_law.specs.Expressions.{run_all, cell_asked, place_asked, SameAsked, SameCell, Gives, IsValue, IsPlace, IsDropped, SceneFits}
+use Rattle.c_lower_law.proofs.Relations.{name_of, core_cell, Scene, world_of, context_of, frame_of, sizes_in, HasTemps, Kept, Alike, Same, After, below, all}
+use Rattle.c_lower_law.proofs.Expressions.{run_all, cell_asked, place_asked, SameAsked, SameCell, Gives, IsValue, IsPlace, IsDropped, SceneFits}
 use Rattle.c_lower_law.proofs.Runs.{bind_bind, bind_gives, run_append, Stops, stops_at, stops_same, stops_same_asked, asked_run, asked_asked}
 use Rattle.c_lower_law.proofs.Memories.{put_there, objects_written, room_object, kept_then, kept_object, kept_less}
 use Rattle.c_lower_law.proofs.Held.{own_length, Holds, with_temp, temp_given, temp_read, hold_then, hold_then_stops, same_ok, same_err, not_both, joined, both, both_ok, both_err, IsNext, Both, pair_of}

@@ -45,9 +45,9 @@ use Rattle.lowering.specs.Operators.{as_int}
 use Rattle.lowering.specs.Expressions.{is_struct, value_in}
 use Rattle.lowering.specs.Statements as l
 use Rattle.lowering.specs.Statements.{Onward, nowhere, to_head, past_flag, number, onwards, inside, behind_switch, cases_from, otherwise_of, switch_temps, switched}
-use Rattle.c_lower_law.specs.Relations.{Scene, core_cell, context_of, frame_of, scope_of, HasTemps, Kept, Alike, Same, After, below, all}
-use Rattle.c_lower_law.specs.Expressions.{run_all, cell_asked, Gives, IsValue, SceneFits, SameResult}
-use Rattle.c_lower_law.specs.Statements.{is_flag, but_flag, FlagIs, Continues, SameFlow, GivesFlow}
+use Rattle.c_lower_law.proofs.Relations.{Scene, core_cell, context_of, frame_of, scope_of, HasTemps, Kept, Alike, Same, After, below, all}
+use Rattle.c_lower_law.proofs.Expressions.{run_all, cell_asked, Gives, IsValue, SceneFits, SameResult}
+use Rattle.c_lower_law.proofs.Statements.{is_flag, but_flag, FlagIs, Continues, SameFlow, GivesFlow}
 use Rattle.c_lower_law.proofs.Runs.{Stops, same_bind, same_weaken, run_append, append_nothing}
 use Rattle.c_lower_law.proofs.Memories.{same_number, put_there, put_apart, kept_then, kept_less, kept_same, alike_temp}
 use Rattle.c_lower_law.proofs.Held.{own_length, past_append, temps_first, temps_rest, Holds, with_temp, temp_given, temp_read, hold_then, hold_then_stops}

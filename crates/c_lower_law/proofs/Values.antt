@@ -47,8 +47,8 @@ use Rattle.pt_core.specs.Statements.{Flow, goes_on, evaluated}
 use Rattle.lowering.specs.Lowered.{Temp, Lowered, LoweredPlace, past, temp, hold, held_if}
 use Rattle.lowering.specs.Operators as l
 use Rattle.lowering.specs.Operators.{stepped, prefixed}
-use Rattle.c_lower_law.specs.Relations.{name_of, core_cell, SameObjects, Scene, world_of, context_of, frame_of, sizes_in, HasTemps, HasRoom, Kept, Alike, Same, SameSeen, After, below}
-use Rattle.c_lower_law.specs.Expressions.{run_all, asked, cell_asked, place_asked, SameAsked, SameCell, Gives, IsValue, IsPlace, SceneFits}
+use Rattle.c_lower_law.proofs.Relations.{name_of, core_cell, SameObjects, Scene, world_of, context_of, frame_of, sizes_in, HasTemps, HasRoom, Kept, Alike, Same, SameSeen, After, below}
+use Rattle.c_lower_law.proofs.Expressions.{run_all, asked, cell_asked, place_asked, SameAsked, SameCell, Gives, IsValue, IsPlace, SceneFits}
 use Rattle.source_soundness.proofs.Tests.{got_or}
 use Rattle.c_lower_law.proofs.Runs.{pair, bind_gives, asked_else}
 use Rattle.c_lower_law.proofs.Memories.{map_get}

@@ -35,9 +35,9 @@ use Rattle.source_soundness.proofs.SizedObjects.{put_sized}
 use Rattle.pt_core.specs.Types.{type_at, shape_of}
 use Rattle.pt_core.specs.Statements as c
 use Rattle.pt_core.specs.Statements.{with_blocks}
-use Rattle.c_lower_law.specs.Relations.{core_cell, Scene, world_of, context_of, frame_of, sizes_in, variable_types, Kept, Alike, After, below, all}
-use Rattle.c_lower_law.specs.Expressions.{SceneFits}
-use Rattle.c_lower_law.specs.Statements.{code_of, tests_of}
+use Rattle.c_lower_law.proofs.Relations.{core_cell, Scene, world_of, context_of, frame_of, sizes_in, variable_types, Kept, Alike, After, below, all}
+use Rattle.c_lower_law.proofs.Expressions.{SceneFits}
+use Rattle.c_lower_law.proofs.Statements.{code_of, tests_of}
 use Rattle.c_lower_law.proofs.Memories.{objects_put, room_object, kept_less, kept_object, alike_object}
 use Rattle.c_lower_law.proofs.Held.{own_length}
 

@@ -1,3 +1,1 @@
-pub mod Expressions
-pub mod Relations
 pub mod Statements

@@ -7,7 +7,7 @@ ghost use Rattle.c_parser.specs.Parses.{Expects, Begins, Goes, Fails, Enters, Is
 ghost use Rattle.c_parser.specs.Parts.{a_word, a_number};
 
 use crate::error::ParseError;
-use c_grammar::{Symbol, alternatives, row};
+use c_grammar::{Symbol, alternatives, kind_number, row};
 use c_lexer::{Token, TokenKind, TokenValue};
 use pt_base::Span;
 use pt_tree::{Constant, Word};
@@ -23,16 +23,9 @@ pub(crate) fn stands(tokens: &[Token], at: usize, kind: TokenKind) -> bool
     ensures within { IsTrue result → at < length tokens.now }
 {
     match tokens.get(at) {
-        Some(token) => number(kind) == number(token.kind),
+        Some(token) => kind_number(kind) == kind_number(token.kind),
         None => false,
     }
-}
-
-#[inline(always)]
-fn number(kind: TokenKind) -> u8
-    ensures { result ≡ kind_number kind }
-{
-    kind as u8
 }
 
 /// The place after a keyword or punctuator that must stand there.

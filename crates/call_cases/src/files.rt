@@ -1,14 +1,14 @@
 // The files that rows have set.
 use crate::outside::{Failing, Outside};
 use anyhow::{Result, bail};
-use case_rows::{bytes_of, first_word, spelled};
+use case_rows::{TextFiles, bytes_of, first_word};
 use std::alloc::{AllocError, Global};
 use std::mem;
 
 /// The files that rows have set, and what another process gives and what fails in the next call.
 #[derive(Drop)]
 pub struct Files {
-    files: Vec<(String, String)>,
+    texts: TextFiles,
     pieces: Vec<Vec<u8>>,
     failing: Failing,
 }
@@ -17,7 +17,7 @@ impl Files {
     /// No file, nothing that another process gives and nothing that fails.
     pub fn new(alloc: Global) -> Files {
         Files {
-            files: Vec::new(alloc),
+            texts: TextFiles::new(alloc),
             pieces: Vec::new(alloc),
             failing: Failing::Nothing,
         }
@@ -29,10 +29,7 @@ impl Files {
     ///
     /// A text that isn't spelled right, and want of memory.
     pub fn set(&mut self, alloc: Global, row: &str) -> Result<String> {
-        let (name, text) = first_word(row);
-        self.files
-            .push((String::from_str(alloc, name)?, spelled(alloc, text)?))?;
-        Ok(format!(in alloc; "file {row}")?)
+        self.texts.set(alloc, row)
     }
 
     /// Sets what another process gives in the next call: pieces in hexadecimal, with `|` between them.
@@ -128,7 +125,7 @@ impl Files {
         files: &mut Vec<(String, Vec<u8>)>,
     ) -> Result<(), AllocError> {
         for word in words {
-            if let Some(text) = self.text(*word) {
+            if let Some(text) = self.texts.find(*word) {
                 files.push(file_of(alloc, *word, text)?)?;
             }
         }
@@ -151,16 +148,6 @@ impl Files {
     /// The next call has no other process that gives something.
     pub fn forget_pieces(&mut self, alloc: Global) {
         self.pieces = Vec::new(alloc);
-    }
-
-    // The text of this name that was set last.
-    fn text(&self, name: &str) -> Option<&str> {
-        for file in self.files.iter().rev() {
-            if file.0.as_str() == name {
-                return Some(file.1.as_str());
-            }
-        }
-        None
     }
 }
 

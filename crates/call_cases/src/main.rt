@@ -13,7 +13,7 @@ mod system;
 mod watched;
 
 use anyhow::Result;
-use case_rows::show_lists;
+use case_rows::{STACK, show_lists};
 use session::Session;
 use std::io::Read;
 use std::os::fd::AsFd;
@@ -21,9 +21,6 @@ use std::process::Processes;
 use std::rt::{Files, Runtime};
 use std::thread::{Builder, Threads};
 use system::System;
-
-/// The work goes as deep as a text nests, so it gets this many bytes of stack.
-const STACK: usize = 1 << 30;
 
 fn show_rows<
     R: Runtime + Files + Processes + Threads + AllocGlobal + Sync,

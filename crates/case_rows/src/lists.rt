@@ -7,6 +7,9 @@ use std::rt::Runtime;
 use std::thread::Threads;
 use std::{env, fs};
 
+/// The work that rows ask for goes as deep as a text nests, so it gets this many bytes of stack.
+pub const STACK: usize = 1 << 30;
+
 /// What the rows of lists show, one after the other.
 pub trait Shows {
     /// A list begins: what the rows of another one have set is gone.

@@ -11,7 +11,7 @@ ghost use Rattle.code_rules.specs.Parts as is;
 
 use crate::types::{both_elem, element_of, integer_of, is_scalar, item_of, pointee_of};
 use pt_base::{IntType, same_int};
-use pt_int::{BinOp, UnOp, in_range, promote};
+use pt_int::{BinOp, UnOp, is_in_range, promote};
 use pt_tree::Elem;
 use typed_tree::{StructInfo, VarTy, type_of_elem};
 
@@ -19,14 +19,7 @@ use typed_tree::{StructInfo, VarTy, type_of_elem};
 pub(crate) fn constant_type(ty: IntType, value: i128) -> Option<VarTy>
     ensures { result ≡ then_some (is_in_range ty value) (VarTy.Int ty) }
 {
-    is_of(ty, value).then_some(VarTy::Int(ty))
-}
-
-// Whether the number is one of the type.
-fn is_of(ty: IntType, number: i128) -> bool
-    ensures { result ≡ is_in_range ty number }
-{
-    in_range(ty, number)
+    is_in_range(ty, value).then_some(VarTy::Int(ty))
 }
 
 // Whether promotion keeps it.

@@ -1,4 +1,6 @@
 pub mod BytecodeLemmas
+pub mod CallOutcomeLemmas
+pub mod CompiledLemmas
 pub mod CopyLemmas
 pub mod CountLemmas
 pub mod FarLemmas
@@ -7,17 +9,16 @@ pub mod FastLemmas
 pub mod FlatOutside
 pub mod FlatSteps
 pub mod FlatValues
-pub mod CompiledLemmas
 pub mod LaidLemmas
 pub mod LiveLemmas
 pub mod LocalLaw
 pub mod MachineLemmas
-pub mod PlaceLemmas
 pub mod MovesLemmas
+pub mod Outside
+pub mod PlaceLemmas
+pub mod ProgramCounterLemmas
 pub mod RiseLemmas
 pub mod RunLemmas
 pub mod SoundLemmas
-pub mod ProgramCounterLemmas
 pub mod StackLemmas
 pub mod StateLemmas
-pub mod CallOutcomeLemmas

@@ -9,7 +9,6 @@ pub mod Live
 pub mod Machines
 pub mod MidForm
 pub mod Moves
-pub mod Outside
 pub mod Shows
 pub mod Sound
 pub mod States

@@ -1,8 +1,7 @@
 // What is explained of texts.
-use crate::files::Files;
 use crate::shown_lines::push_lines;
 use anyhow::Result;
-use case_rows::{Silent, first_word, spelled};
+use case_rows::{Silent, TextFiles, first_word, spelled};
 use explaining::{Explained, explain};
 use pair_explaining::{FileNames, FileTexts, explain_pair};
 use std::alloc::{AllocError, Global};
@@ -30,7 +29,7 @@ pub fn explained<R: Threads + Sync>(rt: &R, alloc: Global, row: &str) -> Result<
 pub fn pair_explained<R: Threads + Sync>(
     rt: &R,
     alloc: Global,
-    files: &Files,
+    files: &TextFiles,
     row: &str,
 ) -> Result<String> {
     let (program, rest) = first_word(row);

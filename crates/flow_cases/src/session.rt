@@ -1,33 +1,32 @@
 // The files that rows have set, and what each row shows.
 use crate::explained::{explained, pair_explained};
-use crate::files::Files;
 use crate::outlined::outlined;
 use crate::paths::paths;
 use crate::pictured::pictured;
 use crate::threads::at_once;
 use anyhow::{Result, bail};
-use case_rows::{Shows, first_word};
+use case_rows::{Shows, TextFiles, first_word};
 use std::alloc::Global;
 use std::thread::Threads;
 
 /// The files that rows have set.
 #[derive(Drop)]
 pub struct Session {
-    files: Files,
+    files: TextFiles,
 }
 
 impl Session {
     /// No file is set.
     pub fn new(alloc: Global) -> Session {
         Session {
-            files: Files::new(alloc),
+            files: TextFiles::new(alloc),
         }
     }
 }
 
 impl Shows for Session {
     fn begin_list(&mut self, alloc: Global) {
-        self.files = Files::new(alloc);
+        self.files = TextFiles::new(alloc);
     }
 
     fn shown<R: Threads + Sync>(&mut self, rt: &R, alloc: Global, row: &str) -> Result<String> {

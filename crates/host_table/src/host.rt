@@ -4,7 +4,7 @@ ghost use Rattle.std.specs.Map.{keys_of};
 ghost use Rattle.std.specs.Ordering.{nat_cmp};
 ghost use Rattle.std.proofs.Props.{props};
 
-use crate::part::{listed_models, numbers_of};
+use crate::part::{copied_models, listed_models, numbers_of};
 use pt_base::FnId;
 use pt_tree::HostModel;
 use std::alloc::{AllocError, Global};
@@ -55,6 +55,15 @@ impl Host {
     {
         self.input = Vec::from_slice(alloc, input)?;
         Ok(())
+    }
+
+    /// Hosts with the same models and this input.
+    pub fn with_input(&self, alloc: Global, input: &[u8]) -> Result<Host, AllocError>
+        ensures { IfOk result (λ h. hosts_of h ≡ record (hosts_of self.now) { input = input.now }) }
+    {
+        let models = copied_models(alloc, self.models.as_slice())?;
+        let input = Vec::from_slice(alloc, input)?;
+        Ok(Host { models, input })
     }
 
     /// The hosts that are listed, with the same models and input. What is listed and not here is

@@ -1,4 +1,4 @@
-// The listed ones of some hosts.
+// Copies of models, and the listed ones of some hosts.
 ghost use Rattle.std.specs.Prelude.{◌≡◌, ℕ, IfOk, filter};
 ghost use Rattle.std.specs.BTreeSet.{contains};
 ghost use Rattle.std.specs.Ordering.{nat_cmp};
@@ -35,4 +35,18 @@ pub(crate) fn listed_models(
         }
     }
     Ok(part)
+}
+
+/// Models that are equal to these, of the same hosts.
+pub(crate) fn copied_models(
+    alloc: Global,
+    models: &[(u32, HostModel)],
+) -> Result<Vec<(u32, HostModel)>, AllocError>
+    ensures { IfOk result (λ v. v.items ≡ models.now) }
+{
+    let mut copies = Vec::with_capacity(alloc, models.len())?;
+    for entry in models {
+        copies.push((entry.0, entry.1.copy(alloc)?))?;
+    }
+    Ok(copies)
 }

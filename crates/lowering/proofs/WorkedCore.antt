@@ -21,7 +21,7 @@ use Rattle.typed_tree.specs.TypedTree.{TypedTree}
 use Rattle.typed_tree.specs.Cells as cells
 use Rattle.pt_core.specs.CoreRun.{core_run}
 use Rattle.lowering.specs.Functions.{core_program}
-use Rattle.source_meaning.specs.WorkedTrees.{at, anywhere, int, char, to_int, ints, one_s, to_s, variable, part, item, field, constant, read, value, as_char, as_int, binary, assign, add_to, count_up, call, expr, does, returns, declares, of_type, int_param, pointer_param, host, function, main, program, no_host}
+use Rattle.source_meaning.proofs.WorkedTrees.{at, anywhere, int, char, to_int, ints, one_s, to_s, variable, part, item, field, constant, read, value, as_char, as_int, binary, assign, add_to, count_up, call, expr, does, returns, declares, of_type, int_param, pointer_param, host, function, main, program, no_host}
 
 -- ---- turns
 

@@ -9,11 +9,11 @@ ghost use Rattle.marshalling.specs.Walks.{Walks};
 use crate::crossing::Crossing;
 use crate::range::Range;
 use crate::ranges::{crossing_at, sealed_or_plain};
-use crate::shape::is_of;
 use crate::walk::Walk;
 use block_memory::BlockName;
 use machine_memory::MachineMemory;
 use pt_base::IntType;
+use pt_int::is_in_range;
 use pt_tree::Signature;
 use wire::WireCell;
 
@@ -141,7 +141,7 @@ fn cell_fits(crossing: Crossing, ty: IntType, handle: u64, cell: WireCell) -> bo
     match crossing {
         Crossing::Stays => false,
         Crossing::Plain => match cell {
-            WireCell::Number(number) => is_of(ty, number),
+            WireCell::Number(number) => is_in_range(ty, number),
             WireCell::Sealed(_) => false,
         },
         Crossing::Sealed => match cell {

@@ -10,7 +10,7 @@ use crate::leaf::Leaf;
 use crate::leaves::element_cells;
 use crate::reach::{are_within, ends_within};
 use pt_base::{IntType, same_int};
-use pt_int::in_range;
+use pt_int::is_in_range;
 use pt_tree::{Elem, Param, ParamKind};
 use std::alloc::{AllocError, Global};
 use typed_tree::StructInfo;
@@ -84,7 +84,7 @@ fn integer_fits(marked: bool, ty: IntType, arg: Arg) -> bool
     ensures { result ≡ fits_integer marked ty arg }
 {
     match arg {
-        Arg::Number(number) => is_of(ty, number),
+        Arg::Number(number) => is_in_range(ty, number),
         Arg::Sealed(_) => marked,
         Arg::Null | Arg::At { .. } => false,
     }
@@ -219,14 +219,7 @@ fn is_number(ty: IntType, cell: WireCell) -> bool
     ensures { result ≡ is_number_of ty cell }
 {
     match cell {
-        WireCell::Number(number) => is_of(ty, number),
+        WireCell::Number(number) => is_in_range(ty, number),
         WireCell::Sealed(_) => true,
     }
-}
-
-/// Whether the number is one of the type.
-pub(crate) fn is_of(ty: IntType, number: i128) -> bool
-    ensures { result ≡ is_in_range ty number }
-{
-    in_range(ty, number)
 }

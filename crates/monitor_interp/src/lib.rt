@@ -11,7 +11,6 @@ mod bench;
 mod blocks;
 mod call;
 mod calls;
-mod code;
 mod gate;
 mod handled;
 mod marks;

@@ -1,6 +1,5 @@
 // The monitor as it runs.
 use crate::bench::Bench;
-use crate::code::code_of;
 use crate::gate::BytesGate;
 use crate::handled::Handled;
 use crate::serving::serve;
@@ -51,7 +50,7 @@ impl Monitor {
         requires bytes { All (λ b. b < 256) (hosts_of host).input }
         ensures { IfOk result (λ x. IsMonitor x (monitor_start (view_monitor program) (hosts_for (view_monitor program) (models_of (hosts_of host).models)) (hosts_of host).input policy budget)) }
     {
-        let code = code_of(alloc, &program)?;
+        let code = program.code(alloc)?;
         let machine = Machine::new(alloc, &code, 0)?;
         let gate = BytesGate::new(alloc, program.signatures.as_slice(), host)?;
         let state = State {

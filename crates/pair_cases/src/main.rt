@@ -15,22 +15,16 @@ mod supervised;
 mod texts;
 
 use anyhow::Result;
-use case_rows::show_lists;
+use case_rows::{STACK, show_lists};
 use session::Session;
-use std::rt::Runtime;
-use std::thread::{Builder, Threads};
-
-/// The work goes as deep as a text nests, so it gets this many bytes of stack.
-const STACK: usize = 1 << 30;
-
-fn show_rows<R: Runtime + AllocGlobal + Threads + Sync>(rt: &R) -> Result<()> {
-    let mut session = Session::new(rt.alloc());
-    show_lists(rt, &mut session)
-}
+use std::thread::Builder;
 
 fn main(rt: HostRuntime) -> Result<()> {
     Builder::new()
         .stack_size(STACK)
-        .spawn(&rt, move || show_rows(&rt))?
+        .spawn(&rt, move || {
+            let mut session = Session::new(rt.alloc());
+            show_lists(&rt, &mut session)
+        })?
         .join(&rt)
 }

@@ -3,7 +3,7 @@ use crate::RULE_LIMIT;
 use crate::deciding::{first_fit, one_more};
 use crate::index::RuleIndex;
 use crate::indexing::rule_index;
-use crate::rule::Rule;
+use crate::rule::{Rule, copied_rules};
 use crate::starting::first_state;
 use crate::verdict::Verdict;
 use pt_base::FnId;
@@ -52,6 +52,22 @@ impl Policy {
             index,
             number: 0,
             last: None,
+        })
+    }
+
+    /// A policy with the same rules, where this one stands.
+    pub fn copy(&self, alloc: Global) -> Result<Policy, AllocError>
+        ensures { IfOk result (λ p. p ≡ self.now) }
+    {
+        let rules = copied_rules(alloc, &self.rules)?;
+        let uses = Vec::from_slice(alloc, &self.uses)?;
+        let index = rule_index(alloc, &rules)?;
+        Ok(Policy {
+            rules,
+            uses,
+            index,
+            number: self.number,
+            last: self.last,
         })
     }
 

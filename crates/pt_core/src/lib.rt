@@ -4,6 +4,7 @@
 
 mod boot;
 mod copy_expression;
+mod copy_program;
 mod copy_statement;
 mod expression;
 mod function;

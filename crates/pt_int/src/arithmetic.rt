@@ -8,7 +8,7 @@ ghost use Rattle.pt_base.specs.IntTypes.{width_of, is_signed, InRange};
 ghost use Rattle.pt_int.specs.Conversion.{conv};
 ghost use Rattle.pt_int.specs.Operator.{fitted, quotient_of, remainder_of, left_shift_of, right_shift_of, is_amount, HasQuotient};
 
-use crate::conversion::{all_ones, greatest, least, signed, width};
+use crate::conversion::{all_ones, greatest, has_sign, least, width};
 use pt_base::{IntType, Trap};
 
 /// `a + b`
@@ -17,7 +17,7 @@ pub(crate) fn sum(t: IntType, a: i128, b: i128) -> Result<i128, Trap>
     requires right { InRange t b }
     ensures { result ≡ fitted t (a +ℤ b) }
 {
-    if signed(t) {
+    if has_sign(t) {
         settled(t, narrow(t, a).checked_add(narrow(t, b)))
     } else {
         Ok(wrapped(t, natural(t, a).wrapping_add(natural(t, b))))
@@ -30,7 +30,7 @@ pub(crate) fn difference(t: IntType, a: i128, b: i128) -> Result<i128, Trap>
     requires right { InRange t b }
     ensures { result ≡ fitted t (a -ℤ b) }
 {
-    if signed(t) {
+    if has_sign(t) {
         settled(t, narrow(t, a).checked_sub(narrow(t, b)))
     } else {
         Ok(wrapped(t, natural(t, a).wrapping_sub(natural(t, b))))
@@ -43,7 +43,7 @@ pub(crate) fn product(t: IntType, a: i128, b: i128) -> Result<i128, Trap>
     requires right { InRange t b }
     ensures { result ≡ fitted t (a *ℤ b) }
 {
-    if signed(t) {
+    if has_sign(t) {
         settled(t, narrow(t, a).checked_mul(narrow(t, b)))
     } else {
         Ok(wrapped(t, natural(t, a).wrapping_mul(natural(t, b))))
@@ -59,7 +59,7 @@ pub(crate) fn quotient(t: IntType, a: i128, b: i128) -> Result<i128, Trap>
     if let Some(trap) = division_trap(t, a, b) {
         return Err(trap);
     }
-    if signed(t) {
+    if has_sign(t) {
         Ok(i128::from(narrow(t, a) / narrow(t, b)))
     } else {
         Ok(i128::from(natural(t, a) / natural(t, b)))
@@ -75,7 +75,7 @@ pub(crate) fn remainder(t: IntType, a: i128, b: i128) -> Result<i128, Trap>
     if let Some(trap) = division_trap(t, a, b) {
         return Err(trap);
     }
-    if signed(t) {
+    if has_sign(t) {
         Ok(i128::from(narrow(t, a) % narrow(t, b)))
     } else {
         Ok(i128::from(natural(t, a) % natural(t, b)))
@@ -105,7 +105,7 @@ pub(crate) fn left_shift(t: IntType, a: i128, b: i128) -> Result<i128, Trap>
     let Some(amount) = shift_amount(t, b) else {
         return Err(Trap::Shift);
     };
-    if signed(t) {
+    if has_sign(t) {
         settled(t, scaled(narrow(t, a), amount))
     } else {
         Ok(wrapped(t, natural(t, a) << amount))
@@ -120,7 +120,7 @@ pub(crate) fn right_shift(t: IntType, a: i128, b: i128) -> Result<i128, Trap>
     let Some(amount) = shift_amount(t, b) else {
         return Err(Trap::Shift);
     };
-    if signed(t) {
+    if has_sign(t) {
         Ok(i128::from(narrow(t, a) >> amount))
     } else {
         Ok(i128::from(natural(t, a) >> amount))

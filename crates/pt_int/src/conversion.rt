@@ -1,7 +1,7 @@
 // The integer types: promotion, the usual conversions, ranges and conversion.
 ghost use Rattle.std.specs.Prelude.{◌≡◌, ◌↔◌, ◌^◌, ◌-◌, ◌<◌, IsTrue, pos};
 ghost use Rattle.pt_base.specs.IntTypes.{width_of, is_signed, low_of, high_of, InRange, promoted, usual as usual_type};
-ghost use Rattle.pt_int.specs.Conversion.{conv, bits_of, of_bits, IsConversion, IsOnlyConversion};
+ghost use Rattle.pt_int.specs.Conversion.{conv, bits_of, is_in_range, of_bits, IsConversion, IsOnlyConversion};
 
 use pt_base::IntType;
 
@@ -32,6 +32,13 @@ pub fn in_range(t: IntType, v: i128) -> bool
     ensures { IsTrue result ↔ InRange t v }
 {
     i128::from(least(t)) <= v && v <= i128::from(greatest(t))
+}
+
+/// Whether `v` is a number of the type, as the test of it says.
+pub fn is_in_range(t: IntType, v: i128) -> bool
+    ensures { result ≡ is_in_range t v }
+{
+    in_range(t, v)
 }
 
 /// The number of the type that is equal to `v` modulo 2 to the width (C99 6.3.1.3): to a signed
@@ -69,7 +76,8 @@ pub(crate) fn low_bits(t: IntType, v: i128) -> u64
 }
 
 /// 2 to the width, less 1.
-pub(crate) fn all_ones(t: IntType) -> u64
+#[inline(always)]
+pub fn all_ones(t: IntType) -> u64
     ensures { result ≡ 2 ^ width_of t - 1 }
 {
     match t {
@@ -93,7 +101,8 @@ pub(crate) fn width(t: IntType) -> u32
 }
 
 /// Whether the type has numbers below 0.
-pub(crate) fn signed(t: IntType) -> bool
+#[inline(always)]
+pub fn has_sign(t: IntType) -> bool
     ensures { result ≡ is_signed t }
 {
     match t {

@@ -6,6 +6,8 @@ mod conversion;
 mod evaluation;
 mod operator;
 
-pub use conversion::{conversion_is_one, convert, in_range, promote, usual};
+pub use conversion::{
+    all_ones, conversion_is_one, convert, has_sign, in_range, is_in_range, promote, usual,
+};
 pub use evaluation::{binary, unary};
 pub use operator::{BinOp, UnOp};

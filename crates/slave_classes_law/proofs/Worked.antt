@@ -16,7 +16,7 @@ use Rattle.typed_tree.specs.ExpressionTree as t
 use Rattle.typed_tree.specs.ExpressionTree.{ExprTree, typed, place, no_steps, step_and, expr_trees}
 use Rattle.typed_tree.specs.StatementTree.{block, body_trees}
 use Rattle.typed_tree.specs.TypedTree.{TypedTree, FunctionTree}
-use Rattle.source_meaning.specs.WorkedTrees.{int, to_int, variable, part, field, constant, value, assign, call, anywhere, does, returns, declares, of_type, host, function, int_param}
+use Rattle.source_meaning.proofs.WorkedTrees.{int, to_int, variable, part, field, constant, value, assign, call, anywhere, does, returns, declares, of_type, host, function, int_param}
 use Rattle.pt_core.specs.Calls.{function_in}
 use Rattle.lowering.specs.Functions.{core_program}
 use Rattle.handle_classes.specs.Classes.{scope_in}

@@ -6,3 +6,4 @@ pub mod RunLaws
 pub mod SizeLemmas
 pub mod StatementBudgets
 pub mod WorkedRuns
+pub mod WorkedTrees

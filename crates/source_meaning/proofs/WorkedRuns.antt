@@ -19,7 +19,7 @@ use Rattle.typed_tree.specs.ExpressionTree.{typed, place, no_steps}
 use Rattle.typed_tree.specs.StatementTree.{block, choose, no_else, do_while, for_each, stop_loop, next_turn, switch, body_trees, no_bodies, section, section_trees}
 use Rattle.typed_tree.specs.TypedTree.{TypedTree}
 use Rattle.source_meaning.specs.WholeRun.{whole_run}
-use Rattle.source_meaning.specs.WorkedTrees.{at, anywhere, int, char, to_int, ints, one_s, to_s, variable, part, item, field, constant, read, value, as_char, as_int, binary, assign, add_to, count_up, call, expr, does, returns, declares, of_type, int_param, pointer_param, host, function, main, program, no_host}
+use Rattle.source_meaning.proofs.WorkedTrees.{at, anywhere, int, char, to_int, ints, one_s, to_s, variable, part, item, field, constant, read, value, as_char, as_int, binary, assign, add_to, count_up, call, expr, does, returns, declares, of_type, int_param, pointer_param, host, function, main, program, no_host}
 
 -- ---- turns
 

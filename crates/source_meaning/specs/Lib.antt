@@ -6,4 +6,3 @@ pub mod State
 pub mod Statements
 pub mod Values
 pub mod WholeRun
-pub mod WorkedTrees

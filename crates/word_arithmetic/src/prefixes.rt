@@ -2,15 +2,15 @@
 #![tactic(auto, unfolding(pt_int::specs::Operator::unary_of))]
 
 ghost use Rattle.std.specs.Prelude.{◌≡◌, ◌-◌, ◌^◌, neg_ℤ, pos, true, false, Bool, Ok, bit_xor};
-ghost use Rattle.pt_base.specs.IntTypes.{is_signed, width_of};
+ghost use Rattle.pt_base.specs.IntTypes.{width_of};
 ghost use Rattle.pt_int.specs.Conversion.{conv, bits_of, of_bits};
 ghost use Rattle.pt_int.specs.Operator.{unary_of, fitted};
 ghost use Rattle.word_arithmetic.specs.Words.{IsWord, number_of, is_wide, PrefixGivesWord};
 
-use crate::words::{all_ones, low_bits, of_low_bits};
+use crate::words::{low_bits, of_low_bits};
 use crate::{converted, signed, unsigned};
 use pt_base::IntType;
-use pt_int::UnOp;
+use pt_int::{UnOp, all_ones, has_sign};
 
 /// `op a` at a type. Nothing where it traps: where `-` of the least number isn't a number of it.
 #[inline(always)]
@@ -43,15 +43,4 @@ fn flipped(t: IntType, a: i64) -> i64
     ensures { number_of (is_wide t) result ≡ of_bits t (bit_xor (bits_of t (number_of (is_wide t) a)) (2 ^ width_of t - 1)) }
 {
     of_low_bits(t, low_bits(t, a) ^ all_ones(t))
-}
-
-// Whether the type has numbers below 0.
-#[inline(always)]
-fn has_sign(t: IntType) -> bool
-    ensures { result ≡ is_signed t }
-{
-    match t {
-        IntType::Char | IntType::SChar | IntType::Short | IntType::Int | IntType::Long => true,
-        IntType::UChar | IntType::UShort | IntType::UInt | IntType::ULong => false,
-    }
 }

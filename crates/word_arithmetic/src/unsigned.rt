@@ -7,8 +7,9 @@ ghost use Rattle.pt_int.specs.Conversion.{conv, bits_of, of_bits};
 ghost use Rattle.pt_int.specs.Operator.{fitted, quotient_of, remainder_of, left_shift_of, right_shift_of};
 ghost use Rattle.word_arithmetic.specs.Words.{IsWord, number_of, is_wide};
 
-use crate::words::{all_ones, low_bits, of_low_bits, shift_amount};
+use crate::words::{low_bits, of_low_bits, shift_amount};
 use pt_base::IntType;
+use pt_int::all_ones;
 
 /// A word's number in the type.
 #[inline(always)]

@@ -8,6 +8,7 @@ ghost use Rattle.pt_int.specs.Operator.{is_amount};
 ghost use Rattle.word_arithmetic.specs.Words.{number_of, is_wide, word_type};
 
 use pt_base::IntType;
+use pt_int::all_ones;
 
 /// The number that a word stands for; `wide` says that it is of type unsigned long.
 #[inline(always)]
@@ -74,19 +75,6 @@ pub(crate) fn of_low_bits(t: IntType, bits: u64) -> i64
         IntType::UChar | IntType::UShort | IntType::UInt | IntType::Long | IntType::ULong => {
             bits.cast_signed()
         }
-    }
-}
-
-/// 2 to the width, less 1.
-#[inline(always)]
-pub(crate) fn all_ones(t: IntType) -> u64
-    ensures { result ≡ 2 ^ width_of t - 1 }
-{
-    match t {
-        IntType::Char | IntType::SChar | IntType::UChar => 0xff,
-        IntType::Short | IntType::UShort => 0xffff,
-        IntType::Int | IntType::UInt => 0xffff_ffff,
-        IntType::Long | IntType::ULong => 0xffff_ffff_ffff_ffff,
     }
 }
 

@@ -6,8 +6,8 @@ use Rattle.pt_int.proofs.Shifts.{left_shift-is}
 use Rattle.pt_int.proofs.Words.{passed}
 use Rattle.pt_int.proofs.arithmetic.left_shift.Goals as goal
 
-pub returns-then-signed : goal.returns-then-signed
-returns-then-signed c =
+pub returns-then-has_sign : goal.returns-then-has_sign
+returns-then-has_sign c =
     let f : FitsSigned w64 c.narrow.result = search rules in
     let a = passed c.args.a c.narrow.result c.ranges.a f c.narrow.ensures in
     let h = simp (to_z-of_z w128 c.args.b c.ranges.b) at c.in-Some.ensures in

@@ -12,21 +12,21 @@ use Rattle.pt_int.proofs.arithmetic.remainder.Goals as goal
 pub nonzero_rem-narrow : goal.nonzero_rem-narrow
 nonzero_rem-narrow c =
     let f : FitsSigned w64 c.narrow.result = search rules in
-    let g : FitsSigned w64 c.narrow-then-signed.result = search rules in
+    let g : FitsSigned w64 c.narrow-then-has_sign.result = search rules in
     let a = passed c.args.a c.narrow.result c.ranges.a f c.narrow.ensures in
-    let b = passed c.args.b c.narrow-then-signed.result c.ranges.b g c.narrow-then-signed.ensures in
-    let s = sym c.signed.ensures ∙ c.if-signed.true in
+    let b = passed c.args.b c.narrow-then-has_sign.result c.ranges.b g c.narrow-then-has_sign.ensures in
+    let s = sym c.has_sign.ensures ∙ c.if-has_sign.true in
     let q : HasQuotient c.args.t c.args.a c.args.b = simp (to_z-of_z w128 c.args.a c.ranges.a, to_z-of_z w128 c.args.b c.ranges.b) at c.in_default.ensures in
-    let y = passed-is c.args.b c.narrow-then-signed.result c.ranges.b c.narrow-then-signed.ensures in
-    (is_nonzero c.narrow-then-signed.result g (λ e. q.0 (sym y ∙ e)), simp (a, b) (narrow-fits c.args.t (int_div c.args.a c.args.b) s q.1))
+    let y = passed-is c.args.b c.narrow-then-has_sign.result c.ranges.b c.narrow-then-has_sign.ensures in
+    (is_nonzero c.narrow-then-has_sign.result g (λ e. q.0 (sym y ∙ e)), simp (a, b) (narrow-fits c.args.t (int_div c.args.a c.args.b) s q.1))
 
-pub returns-then-signed : goal.returns-then-signed
-returns-then-signed c =
+pub returns-then-has_sign : goal.returns-then-has_sign
+returns-then-has_sign c =
     let f : FitsSigned w64 c.narrow.result = search rules in
-    let g : FitsSigned w64 c.narrow-then-signed.result = search rules in
+    let g : FitsSigned w64 c.narrow-then-has_sign.result = search rules in
     let a = passed c.args.a c.narrow.result c.ranges.a f c.narrow.ensures in
-    let b = passed c.args.b c.narrow-then-signed.result c.ranges.b g c.narrow-then-signed.ensures in
-    let s = sym c.signed.ensures ∙ c.if-signed.true in
+    let b = passed c.args.b c.narrow-then-has_sign.result c.ranges.b g c.narrow-then-has_sign.ensures in
+    let s = sym c.has_sign.ensures ∙ c.if-has_sign.true in
     let q : HasQuotient c.args.t c.args.a c.args.b = simp (to_z-of_z w128 c.args.a c.ranges.a, to_z-of_z w128 c.args.b c.ranges.b) at c.in_default.ensures in
     let r : FitsSigned w128 c.from.result = search rules in
     let e = simp (a, b) at c.from.ensures in

@@ -7,8 +7,8 @@ use Rattle.pt_int.proofs.Shifts.{right_shift-is}
 use Rattle.pt_int.proofs.Words.{passed, passed-is, shr_fits, shr-div}
 use Rattle.pt_int.proofs.arithmetic.right_shift.Goals as goal
 
-pub returns-then-signed : goal.returns-then-signed
-returns-then-signed c =
+pub returns-then-has_sign : goal.returns-then-has_sign
+returns-then-has_sign c =
     let f : FitsSigned w64 c.narrow.result = search rules in
     let r : FitsSigned w128 c.from.result = search rules in
     let a = passed c.args.a c.narrow.result c.ranges.a f c.narrow.ensures in

@@ -30,7 +30,7 @@ use Rattle.pt_core.specs.Statements as c
 use Rattle.pt_core.specs.Statements.{Flow, goes_on, evaluated, do_all}
 use Rattle.lowering.specs.Lowered.{Temp, Effects, Lowered, LoweredPlace, Arguments}
 use Rattle.lowering.specs.Expressions.{value_in, effects_in, place_in, object_in, arguments_in}
-use Rattle.c_lower_law.specs.Relations.{core_cell, name_of, Scene, variable_types, global_types, world_of, context_of, frame_of, scope_of, sizes_in, HasTemps, Kept, Alike, Same, After, below, all}
+use Rattle.c_lower_law.proofs.Relations.{core_cell, name_of, Scene, variable_types, global_types, world_of, context_of, frame_of, scope_of, sizes_in, HasTemps, Kept, Alike, Same, After, below, all}
 
 -- ---- the normal form's side
 

@@ -1,18 +1,18 @@
 // The files that rows have set.
+use crate::spelling::{first_word, spelled};
 use anyhow::{Result, bail};
-use case_rows::{first_word, spelled};
 use std::alloc::Global;
 
 /// The files that rows have set.
 #[derive(Drop)]
-pub struct Files {
+pub struct TextFiles {
     files: Vec<(String, String)>,
 }
 
-impl Files {
+impl TextFiles {
     /// No file.
-    pub fn new(alloc: Global) -> Files {
-        Files {
+    pub fn new(alloc: Global) -> TextFiles {
+        TextFiles {
             files: Vec::new(alloc),
         }
     }
@@ -29,17 +29,25 @@ impl Files {
         Ok(format!(in alloc; "file {row}")?)
     }
 
+    /// The text of this name that was set last, if there is one.
+    pub fn find(&self, name: &str) -> Option<&str> {
+        for file in self.files.iter().rev() {
+            if file.0.as_str() == name {
+                return Some(file.1.as_str());
+            }
+        }
+        None
+    }
+
     /// The text of this name.
     ///
     /// # Errors
     ///
     /// A name of no file.
     pub fn text(&self, name: &str) -> Result<&[u8]> {
-        for file in self.files.iter().rev() {
-            if file.0.as_str() == name {
-                return Ok(file.1.as_bytes());
-            }
+        match self.find(name) {
+            Some(text) => Ok(text.as_bytes()),
+            None => bail!("no file: {name}"),
         }
-        bail!("no file: {name}")
     }
 }
