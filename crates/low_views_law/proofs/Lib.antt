@@ -1,3 +1,4 @@
+mod GuardedCalls
 mod Made
 mod Pairs
 mod Replies

@@ -84,7 +84,7 @@ unbroken false broken e = refl
 -- ---- progress
 
 -- the slave's turns and the monitor's, by the last message
-abbrev taken : Monitor → ℕ
+abbrev pub taken : Monitor → ℕ
 taken m = m.last + m.turns
 
 pub record Progress (m next : Monitor) : Type 0 where

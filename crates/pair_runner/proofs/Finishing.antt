@@ -24,6 +24,7 @@ stops_mapped moves moves' m stopped f s = record {
   moved = f s.talk s.served.bytes s.moved;
   serves = s.serves;
   replied = s.replied;
+  few = s.few;
   frames = s.frames;
   ending = s.ending;
   stream = s.stream;
@@ -32,7 +33,7 @@ stops_mapped moves moves' m stopped f s = record {
 }
 
 broken_mapped : (breaks breaks' : List ℕ → List ℕ → List ℕ → Type 0) (m : Monitor) → ((given sent bytes : List ℕ) → breaks given sent bytes → breaks' given sent bytes) → BreaksOff breaks m → BreaksOff breaks' m
-broken_mapped breaks breaks' m f b = record { given = b.given; frames = b.frames; ending = b.ending; stream = b.stream; broke = f b.given _ _ b.broke }
+broken_mapped breaks breaks' m f b = record { given = b.given; few = b.few; frames = b.frames; ending = b.ending; stream = b.stream; broke = f b.given _ _ b.broke }
 
 outcome_mapped : (moves moves' : List Event → List ℕ → Type 0) (breaks breaks' : List ℕ → List ℕ → List ℕ → Type 0) (m : Monitor) → ((talk : List Event) (bytes : List ℕ) → moves talk bytes → moves' talk bytes) →
     ((given sent bytes : List ℕ) → breaks given sent bytes → breaks' given sent bytes) → (result : Result End RunFault) → IsOutcome moves breaks m result → IsOutcome moves' breaks' m result
@@ -62,6 +63,7 @@ behind_the_boot came sent given taken further a b c k n boot m result first h =
 unsent : {L K : Type 0} (sent given : L → Option (List ℕ)) (taken : K → Option (List ℕ)) (a b : L) (k : K) (boot : List ℕ) (m : Monitor) → Parts sent given a b [] (boot_frames boot) → BreaksOff (broken_behind_boot (Breaks sent given taken a b k k) boot) m
 unsent sent given taken a b k boot m p = record {
   given = [];
+  few = omega arith;
   frames = [];
   ending = open_end;
   stream = inl (omega arith);

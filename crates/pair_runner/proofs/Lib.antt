@@ -8,6 +8,7 @@ pub mod Messages
 pub mod Moving
 pub mod Parts
 pub mod Pieces
+pub mod Received
 pub mod SoFar
 pub mod Spelled
 pub mod Stuck

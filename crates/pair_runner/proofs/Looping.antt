@@ -13,7 +13,7 @@ use Rattle.pair_runner.specs.Turns.{Turned}
 use Rattle.pair_runner.proofs.Moving.{Law, Same, moves_more, moves_none, breaks_behind}
 use Rattle.pair_runner.proofs.SoFar.{begins}
 use Rattle.pair_runner.proofs.Stuck.{breaks_none}
-use Rattle.pair_runner.proofs.Turning.{Joins, JoinsBroken, Now, broke_idle, no_bytes, turned_on, turned_end, turned_err}
+use Rattle.pair_runner.proofs.Turning.{Joins, JoinsBroken, Now, broke_idle, no_bytes, room_for_none, turned_on, turned_end, turned_err}
 
 joins : {L K : Type 0} (came : L → List Event → L → Type 0) (sent given : L → Option (List ℕ)) (taken : K → Option (List ℕ)) → Law came → (a b c : L) (k l n : K) →
     Joins (Moves came sent given taken a b k l) (Moves came sent given taken b c l n) (Moves came sent given taken a c k n)
@@ -52,4 +52,4 @@ err_outcome came sent given taken further a b c k l n is is' m v v' e x t =
 pub long_outcome : {L K : Type 0} (came : L → List Event → L → Type 0) (sent given : L → Option (List ℕ)) (taken : K → Option (List ℕ)) (a b : L) (k l : K) (is : Monitor → Type 0) (m : Monitor) (v : ReaderView) →
     Now (Moves came sent given taken a b k l) is m v → IsOutcome (Moves came sent given taken a b k l) (Breaks sent given taken a b k l) m (Err Memory)
 long_outcome came sent given taken a b k l is m v x =
-    broke_idle (Moves came sent given taken a b k l) (Breaks sent given taken b b l l) (Breaks sent given taken a b k l) is m v [] (joins_broken came sent given taken a b b k l l) x no_bytes (breaks_none sent given taken b l [] [])
+    broke_idle (Moves came sent given taken a b k l) (Breaks sent given taken b b l l) (Breaks sent given taken a b k l) is m v [] (joins_broken came sent given taken a b b k l l) x no_bytes (room_for_none (Moves came sent given taken a b k l) is m v x) (breaks_none sent given taken b l [] [])

@@ -1,5 +1,5 @@
 -- The talk so far.
-use Rattle.std.proofs.Common.{◌≡◌, ◌≢◌, ◌<◌, ◌^◌, ℕ, ◌+◌, List, [], ◌∷◌, ◌++◌, length, IfSome, Option, refl, sym, ap, subst, ◌∙◌, append_assoc, append-nil}
+use Rattle.std.proofs.Common.{◌≡◌, ◌≢◌, ◌<◌, ◌≤◌, ◌^◌, ℕ, ◌+◌, List, [], ◌∷◌, ◌++◌, length, IfSome, Option, refl, sym, ap, subst, ◌∙◌, append_assoc, append-nil, length-append}
 use Rattle.std.proofs.lemmas.Grind.{flat_map-append}
 use Rattle.std.proofs.lemmas.List.Elements.{All-append, All-nil}
 use Rattle.pt_base.specs.Talk.{Event, gave}
@@ -16,9 +16,11 @@ use Rattle.pair_meaning.specs.Serving.{serve}
 use Rattle.pair_meaning.specs.Streams.{Stopped, Talk, serve_frames}
 use Rattle.pair_runner.specs.Sending.{IsSpelled, given_in, sent_in, sent_of, reply_frame, reply_frames}
 use Rattle.pair_runner.specs.Serves.{before, Serves, asks, goes_on}
+use Rattle.pair_runner.specs.Bounds.{longest_frame, most_at_once}
 use Rattle.pair_runner.specs.Outcomes.{Stops, BreaksOff}
 use Rattle.pair_runner.proofs.Frames.{begins_more, first_is, goes_first, talks_are_frames, talks_reply}
 use Rattle.pair_runner.proofs.Moving.{given_append, given_reply, sent_append, sent_reply}
+use Rattle.pair_runner.proofs.Received.{Received, none_received, nothing_short, received_frame, received_piece, received_whole}
 
 -- the talk that led from the first monitor to this one, and what it begins
 pub record SoFar (moves : List Event → List ℕ → Type 0) (m now : Monitor) (at : ℕ) (bytes : List ℕ) : Type 0 where
@@ -28,6 +30,7 @@ pub record SoFar (moves : List Event → List ℕ → Type 0) (m now : Monitor) 
   pub moved : moves talk written
   pub given : IsBytes (given_in talk)
   pub replied : sent_in talk ≡ reply_frames replies
+  pub received : Received m now talk bytes
   pub serves : (more : List Event) (t : Talk) → Serves now at bytes more t → Serves m 0 [] (talk ++ more) (before written replies t)
   pub frames : (later : List ℕ) (frames : List (Message × ℕ)) (ending : Ending) → IsStream 0 (given_in talk ++ later) frames ending →
       (more : List (Message × ℕ)) × IsStream at (bytes ++ later) more ending × (serve_frames m frames ending ≡ before written replies (serve_frames now more ending))
@@ -40,6 +43,7 @@ begins moves m none = record {
   moved = none;
   given = All-nil (λ b. b < 2 ^ 8);
   replied = refl;
+  received = none_received m;
   serves = λ more t s. s;
   frames = λ later frames ending s. (frames, s, refl);
 }
@@ -52,14 +56,15 @@ given_gave : (talk : List Event) (piece : List ℕ) → given_in (talk ++ gave p
 given_gave talk piece = given_append talk (gave piece ∷ []) ∙ ap (λ l. given_in talk ++ l) (append-nil piece)
 
 pub hears : (moves moves' : List Event → List ℕ → Type 0) (m now : Monitor) (at : ℕ) (bytes piece : List ℕ) → SoFar moves m now at bytes →
-    IsUnfinished bytes → piece ≢ [] → IsBytes piece → Then moves moves' (gave piece ∷ []) [] → SoFar moves' m now at (bytes ++ piece)
-hears moves moves' m now at bytes piece so cut some fits step = record {
+    IsUnfinished bytes → piece ≢ [] → IsBytes piece → length piece ≤ most_at_once → Then moves moves' (gave piece ∷ []) [] → SoFar moves' m now at (bytes ++ piece)
+hears moves moves' m now at bytes piece so cut some fits small step = record {
   talk = so.talk ++ gave piece ∷ [];
   written = so.written;
   replies = so.replies;
   moved = subst (moves' (so.talk ++ gave piece ∷ [])) (append-nil so.written) (step so.talk so.written so.moved);
   given = subst IsBytes (sym (given_gave so.talk piece)) (All-append (λ b. b < 2 ^ 8) (given_in so.talk) piece so.given fits);
   replied = sent_append so.talk (gave piece ∷ []) ∙ append-nil (sent_in so.talk) ∙ so.replied;
+  received = received_piece m now so.talk (so.talk ++ gave piece ∷ []) bytes piece so.received cut small (ap length (given_gave so.talk piece) ∙ length-append (given_in so.talk) piece);
   serves = λ more t s. subst (λ (l : List Event). Serves m 0 [] l (before so.written so.replies t)) (sym (append_assoc so.talk (gave piece ∷ []) more)) (so.serves (gave piece ∷ more) t (asks cut some s));
   frames = λ later frames ending s.
       let found = so.frames (piece ++ later) frames ending (subst (λ l. IsStream 0 l frames ending) (ap (λ l. l ++ later) (given_gave so.talk piece) ∙ append_assoc (given_in so.talk) piece later) s) in
@@ -86,6 +91,7 @@ serves_one moves moves' m now next at bytes left out x reply so b e spelled step
   replies = so.replies ++ listed reply;
   moved = step so.talk so.written so.moved;
   given = subst IsBytes (sym (given_sent so.talk reply)) so.given;
+  received = received_frame m now next so.talk (so.talk ++ sent_of reply) bytes left out x reply so.received b e (ap length (given_sent so.talk reply));
   replied = sent_sent so.talk reply ∙ ap (λ l. l ++ reply_frames (listed reply)) so.replied ∙ sym (flat_map-append reply_frame so.replies (listed reply));
   serves = λ more t s.
       subst (λ (l : List Event). Serves m 0 [] l (before (so.written ++ out) (so.replies ++ listed reply) t)) (sym (append_assoc so.talk (sent_of reply) more))
@@ -103,9 +109,13 @@ serves_one moves moves' m now next at bytes left out x reply so b e spelled step
 
 -- ---- where it stops
 
+-- nothing more was given
+given_last : (talk last : List Event) → given_in last ≡ [] → length (given_in (talk ++ last)) ≡ length (given_in talk) + 0
+given_last talk last none = ap length (given_append talk last) ∙ length-append (given_in talk) (given_in last) ∙ ap (λ (l : List ℕ). length (given_in talk) + length l) none
+
 pub stops_at : (moves moves' : List Event → List ℕ → Type 0) (m now : Monitor) (at : ℕ) (bytes : List ℕ) (last : List Event) (t : Talk) (stopped : Stopped) → SoFar moves m now at bytes →
-    Serves now at bytes last t → Then moves moves' last t.bytes → IsBytes (given_in last) → t.stopped ≡ stopped → Stops moves' m stopped
-stops_at moves moves' m now at bytes last t stopped so s step fits is =
+    Serves now at bytes last t → Then moves moves' last t.bytes → IsBytes (given_in last) → given_in last ≡ [] → t.stopped ≡ stopped → Stops moves' m stopped
+stops_at moves moves' m now at bytes last t stopped so s step fits none is =
     let whole = so.serves last t s in
     let stream = one_stream (given_in (so.talk ++ last)) (subst IsBytes (sym (given_append so.talk last)) (All-append (λ b. b < 2 ^ 8) (given_in so.talk) (given_in last) so.given fits)) in
     record {
@@ -114,6 +124,7 @@ stops_at moves moves' m now at bytes last t stopped so s step fits is =
       moved = step so.talk so.written so.moved;
       serves = whole;
       replied = talks_reply m 0 [] (so.talk ++ last) (before so.written so.replies t) whole;
+      few = received_whole m now so.talk bytes (given_in (so.talk ++ last)) [] so.received (given_last so.talk last none) (nothing_short m now so.talk bytes so.received);
       frames = stream.messages;
       ending = stream.ending;
       stream = stream.are;
@@ -135,9 +146,9 @@ begins_with_nothing t = record { more_sent = reply_frames t.replies; more_out = 
 abbrev pub ThenBreaks : (List Event → List ℕ → Type 0) → (List ℕ → List ℕ → List ℕ → Type 0) → List ℕ → List ℕ → List ℕ → Type 0
 ThenBreaks moves breaks piece sent out = (talk : List Event) (written more others : List ℕ) → moves talk written → breaks (given_in talk ++ piece) (sent_in talk ++ (sent ++ more)) (written ++ (out ++ others))
 
-pub breaks_off : (moves : List Event → List ℕ → Type 0) (breaks : List ℕ → List ℕ → List ℕ → Type 0) (m now : Monitor) (at : ℕ) (bytes piece sent out : List ℕ) → SoFar moves m now at bytes → IsBytes piece →
+pub breaks_off : (moves : List Event → List ℕ → Type 0) (breaks : List ℕ → List ℕ → List ℕ → Type 0) (m now : Monitor) (at : ℕ) (bytes piece sent out : List ℕ) → SoFar moves m now at bytes → IsBytes piece → length (bytes ++ piece) ≤ longest_frame + most_at_once →
     ThenBreaks moves breaks piece sent out → ((more : List (Message × ℕ)) (ending : Ending) → IsStream at (bytes ++ piece) more ending → BeginsWith sent out (serve_frames now more ending)) → BreaksOff breaks m
-breaks_off moves breaks m now at bytes piece sent out so fits step front =
+breaks_off moves breaks m now at bytes piece sent out so fits short step front =
     let stream = one_stream (given_in so.talk ++ piece) (All-append (λ b. b < 2 ^ 8) (given_in so.talk) piece so.given fits) in
     let found = so.frames piece stream.messages stream.ending stream.are in
     let t = serve_frames now found.0 stream.ending in
@@ -147,6 +158,7 @@ breaks_off moves breaks m now at bytes piece sent out so fits step front =
     let out_is : so.written ++ (out ++ begun.more_out) ≡ (before so.written so.replies t).bytes = ap (λ l. so.written ++ l) (sym begun.writes) in
     record {
       given = given_in so.talk ++ piece;
+      few = received_whole m now so.talk bytes (given_in so.talk ++ piece) piece so.received (length-append (given_in so.talk) piece) short;
       frames = stream.messages;
       ending = stream.ending;
       stream = stream.are;

@@ -32,7 +32,7 @@ unfed_moves came sent given taken a b k LinkFailed h = breaks_by_parts sent give
 unfed_moves came sent given taken a b k SinkFailed h = absurd h
 unfed_moves came sent given taken a b k (BadPeer number offset) h = absurd h
 unfed_moves came sent given taken a b k PeerEnded h = moves_by_talk came sent given taken a b k (gave [] ∷ []) h
-unfed_moves came sent given taken a b k Memory (piece, fits, h) = (piece, fits, breaks_by_parts sent given taken a b k piece [] [] h)
+unfed_moves came sent given taken a b k Memory (piece, fits, small, h) = (piece, fits, small, breaks_by_parts sent given taken a b k piece [] [] h)
 
 pub filled : (b : Bool) (xs : List ℕ) → b ≡ (length xs == 0) → b ≡ false → xs ≢ []
 filled b [] e f = λ z. true_false (sym e) f

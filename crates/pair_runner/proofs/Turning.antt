@@ -1,5 +1,5 @@
 -- What a turn makes of the talk so far, and how it ends.
-use Rattle.std.proofs.Common.{◌≡◌, ◌<◌, ◌^◌, ℕ, List, [], ◌∷◌, ◌++◌, Option, Some, None, Result, Ok, Err, refl, sym, ap, subst, ◌∙◌, append-nil, inl, inr}
+use Rattle.std.proofs.Common.{◌≡◌, ◌<◌, ◌≤◌, ◌+◌, ◌^◌, ℕ, List, [], ◌∷◌, ◌++◌, length, Option, Some, None, Result, Ok, Err, refl, sym, ap, subst, ◌∙◌, append-nil, inl, inr}
 use Rattle.std.proofs.lemmas.List.Elements.{All-nil}
 use Rattle.pt_base.specs.declared.end.End.{End}
 use Rattle.pt_base.specs.Talk.{Event, gave}
@@ -21,9 +21,11 @@ use Rattle.pair_runner.specs.declared.fault.RunFault.TheVariants.{LinkFailed, Si
 use Rattle.pair_runner.specs.Sending.{given_in, sent_in, sent_of, reply_frames}
 use Rattle.pair_runner.specs.Serves as run
 use Rattle.pair_runner.specs.Serves.{stops, before, Serves, is_bad, is_too_long, hears_the_end}
+use Rattle.pair_runner.specs.Bounds.{longest_frame, most_at_once}
 use Rattle.pair_runner.specs.Outcomes.{Stops, BreaksOff, IsOutcome}
 use Rattle.pair_runner.specs.Turns.{Stuck, Refused, Answered, Unfed, Turned}
 use Rattle.pair_runner.proofs.Frames.{begins_more, first_is, goes_first, ends_first}
+use Rattle.pair_runner.proofs.Received.{nothing_short, piece_short}
 use Rattle.pair_runner.proofs.SoFar.{SoFar, BeginsWith, begins_with_nothing, hears, serves_one, stops_at, breaks_off}
 use Rattle.std.proofs.lemmas.Grind.{flat_map-append}
 
@@ -71,12 +73,12 @@ pub turned_on : (moves next both : List Event → List ℕ → Type 0) (breaks :
     Joins moves next both → (n : Now moves is m view) → Turned next breaks is' n.now view view' (Ok None) → Now both is' m view'
 turned_on moves next both breaks is is' m view view' joins n (inl s) =
     answered_on moves next both breaks is is' m view view' s.message s.place joins n s.takes (serve n.now s.message) refl s.answered
-turned_on moves next both breaks is is' m view view' joins n (inr (inl (cut, is_same, (piece, some, fits, after, moved)))) =
+turned_on moves next both breaks is is' m view view' joins n (inr (inl (cut, is_same, (piece, some, fits, small, after, moved)))) =
     subst (Now both is' m) (sym after) (record {
       now = n.now;
       is_now = is_same;
       sound = n.sound;
-      so = hears moves both m n.now view.offset view.unread piece n.so cut some fits (λ talk bytes before. joins talk bytes (gave piece ∷ []) [] before moved);
+      so = hears moves both m n.now view.offset view.unread piece n.so cut some fits small (λ talk bytes before. joins talk bytes (gave piece ∷ []) [] before moved);
     })
 turned_on moves next both breaks is is' m view view' joins n (inr (inr (inl (e, bad, moved)))) = ok_err _ _ e
 turned_on moves next both breaks is is' m view view' joins n (inr (inr (inr (inl (e, bad, moved))))) = ok_err _ _ e
@@ -88,7 +90,7 @@ answered_end : (moves next both : List Event → List ℕ → Type 0) (breaks : 
     Joins moves next both → (n : Now moves is m view) → Takes view (x, place) view' → (served : Served Monitor ReplyBody End PeerRule) → serve n.now x ≡ served → Answered next breaks is' place served (Ok (Some e)) → Stops both m (at_end e)
 answered_end moves next both breaks is is' m view view' x place e joins n takes (sides.goes_on m' reply out) is_so h = absurd h
 answered_end moves next both breaks is is' m view view' x place e joins n takes (sides.ends out end) is_so (same, moved) =
-    stops_at moves both m n.now view.offset view.unread [] (stops out (at_end end)) (at_end e) n.so (run.ends takes.begins is_so) (λ talk bytes before. joins talk bytes [] out before moved) no_bytes (ap at_end (sym same))
+    stops_at moves both m n.now view.offset view.unread [] (stops out (at_end end)) (at_end e) n.so (run.ends takes.begins is_so) (λ talk bytes before. joins talk bytes [] out before moved) no_bytes refl (ap at_end (sym same))
 answered_end moves next both breaks is is' m view view' x place e joins n takes (sides.bad rule) is_so h = absurd h
 
 pub turned_end : (moves next both : List Event → List ℕ → Type 0) (breaks : List ℕ → List ℕ → List ℕ → Type 0) (is is' : Monitor → Type 0) (m : Monitor) (view view' : ReaderView) (e : End) →
@@ -102,17 +104,24 @@ turned_end moves next both breaks is is' m view view' e joins n (inr (inr (inr (
 
 -- ---- it breaks off
 
+-- no more than a frame and a piece is there
+abbrev pub HasRoom : ReaderView → List ℕ → Type 0
+HasRoom view piece = length (view.unread ++ piece) ≤ longest_frame + most_at_once
+
+pub room_for_none : (moves : List Event → List ℕ → Type 0) (is : Monitor → Type 0) (m : Monitor) (view : ReaderView) → (n : Now moves is m view) → HasRoom view []
+room_for_none moves is m view n = nothing_short m n.now n.so.talk view.unread n.so.received
+
 -- the monitor broke off at what it has to write and send for a message
 pub broke_at : (moves : List Event → List ℕ → Type 0) (breaks all : List ℕ → List ℕ → List ℕ → Type 0) (is : Monitor → Type 0) (m : Monitor) (view : ReaderView) (piece sent out : List ℕ) →
-    JoinsBroken moves breaks all → (n : Now moves is m view) → IsBytes piece → breaks piece sent out →
+    JoinsBroken moves breaks all → (n : Now moves is m view) → IsBytes piece → HasRoom view piece → breaks piece sent out →
     ((more : List (Message × ℕ)) (ending : Ending) → IsStream view.offset (view.unread ++ piece) more ending → BeginsWith sent out (serve_frames n.now more ending)) → BreaksOff all m
-broke_at moves breaks all is m view piece sent out joins n fits broke front =
-    breaks_off moves all m n.now view.offset view.unread piece sent out n.so fits (λ talk written more others before. joins talk written piece sent out more others before broke) front
+broke_at moves breaks all is m view piece sent out joins n fits short broke front =
+    breaks_off moves all m n.now view.offset view.unread piece sent out n.so fits short (λ talk written more others before. joins talk written piece sent out more others before broke) front
 
 pub broke_idle : (moves : List Event → List ℕ → Type 0) (breaks all : List ℕ → List ℕ → List ℕ → Type 0) (is : Monitor → Type 0) (m : Monitor) (view : ReaderView) (piece : List ℕ) →
-    JoinsBroken moves breaks all → (n : Now moves is m view) → IsBytes piece → breaks piece [] [] → BreaksOff all m
-broke_idle moves breaks all is m view piece joins n fits broke =
-    broke_at moves breaks all is m view piece [] [] joins n fits broke (λ more ending s. begins_with_nothing (serve_frames n.now more ending))
+    JoinsBroken moves breaks all → (n : Now moves is m view) → IsBytes piece → HasRoom view piece → breaks piece [] [] → BreaksOff all m
+broke_idle moves breaks all is m view piece joins n fits short broke =
+    broke_at moves breaks all is m view piece [] [] joins n fits short broke (λ more ending s. begins_with_nothing (serve_frames n.now more ending))
 
 stuck_is : (moves : List Event → List ℕ → Type 0) (all : List ℕ → List ℕ → List ℕ → Type 0) (m : Monitor) (P : Type 0) (e : RunFault) → (P → BreaksOff all m) → Stuck e P → IsOutcome moves all m (Err e)
 stuck_is moves all m P LinkFailed f h = f h
@@ -154,38 +163,39 @@ refused_is moves next both breaks all is m view view' x place rule SinkFailed jo
 refused_is moves next both breaks all is m view view' x place rule (BadPeer number offset) joins broken n takes is_so (named, there, moved) = (
   rule,
   named,
-  stops_at moves both m n.now view.offset view.unread [] (stops [] (at_rule rule view.offset)) (at_rule rule offset) n.so (run.breaks takes.begins is_so) (λ talk bytes before. joins talk bytes [] [] before moved) no_bytes
+  stops_at moves both m n.now view.offset view.unread [] (stops [] (at_rule rule view.offset)) (at_rule rule offset) n.so (run.breaks takes.begins is_so) (λ talk bytes before. joins talk bytes [] [] before moved) no_bytes refl
       (ap (at_rule rule) (sym takes.place ∙ sym there)),
 )
 refused_is moves next both breaks all is m view view' x place rule PeerEnded joins broken n takes is_so h = absurd h
-refused_is moves next both breaks all is m view view' x place rule Memory joins broken n takes is_so h = broke_idle moves breaks all is m view [] broken n no_bytes h
+refused_is moves next both breaks all is m view view' x place rule Memory joins broken n takes is_so h = broke_idle moves breaks all is m view [] broken n no_bytes (room_for_none moves is m view n) h
 
 answered_err : (moves next both : List Event → List ℕ → Type 0) (breaks all : List ℕ → List ℕ → List ℕ → Type 0) (is is' : Monitor → Type 0) (m : Monitor) (view view' : ReaderView) (x : Message) (place : ℕ) (e : RunFault) →
     Joins moves next both → JoinsBroken moves breaks all → (n : Now moves is m view) → Takes view (x, place) view' → (served : Served Monitor ReplyBody End PeerRule) → serve n.now x ≡ served → Answered next breaks is' place served (Err e) →
     IsOutcome both all m (Err e)
 answered_err moves next both breaks all is is' m view view' x place e joins broken n takes (sides.goes_on m' reply out) is_so h =
     stuck_is both all m (breaks [] (reply_frames (listed reply)) out) e
-    (λ broke. broke_at moves breaks all is m view [] (reply_frames (listed reply)) out broken n no_bytes broke (goes_begins n.now m' x view.offset view.unread view'.unread out reply takes.begins is_so)) h
+    (λ broke. broke_at moves breaks all is m view [] (reply_frames (listed reply)) out broken n no_bytes (room_for_none moves is m view n) broke (goes_begins n.now m' x view.offset view.unread view'.unread out reply takes.begins is_so)) h
 answered_err moves next both breaks all is is' m view view' x place e joins broken n takes (sides.ends out end) is_so h =
     stuck_is both all m (breaks [] [] out) e
-    (λ broke. broke_at moves breaks all is m view [] [] out broken n no_bytes broke (ends_begins n.now x view.offset view.unread view'.unread out end takes.begins is_so)) h
+    (λ broke. broke_at moves breaks all is m view [] [] out broken n no_bytes (room_for_none moves is m view n) broke (ends_begins n.now x view.offset view.unread view'.unread out end takes.begins is_so)) h
 answered_err moves next both breaks all is is' m view view' x place e joins broken n takes (sides.bad rule) is_so h =
     refused_is moves next both breaks all is m view view' x place rule e joins broken n takes is_so h
 
 unfed_is : (moves next both : List Event → List ℕ → Type 0) (breaks all : List ℕ → List ℕ → List ℕ → Type 0) (is : Monitor → Type 0) (m : Monitor) (view : ReaderView) (e : RunFault) →
     Joins moves next both → JoinsBroken moves breaks all → (n : Now moves is m view) → IsUnfinished view.unread → Unfed next breaks e → IsOutcome both all m (Err e)
-unfed_is moves next both breaks all is m view LinkFailed joins broken n cut h = broke_idle moves breaks all is m view [] broken n no_bytes h
+unfed_is moves next both breaks all is m view LinkFailed joins broken n cut h = broke_idle moves breaks all is m view [] broken n no_bytes (room_for_none moves is m view n) h
 unfed_is moves next both breaks all is m view SinkFailed joins broken n cut h = absurd h
 unfed_is moves next both breaks all is m view (BadPeer number offset) joins broken n cut h = absurd h
 unfed_is moves next both breaks all is m view PeerEnded joins broken n cut h =
-    stops_at moves both m n.now view.offset view.unread (gave [] ∷ []) (stops [] still_open) still_open n.so (hears_the_end cut) (λ talk bytes before. joins talk bytes (gave [] ∷ []) [] before h) no_bytes refl
-unfed_is moves next both breaks all is m view Memory joins broken n cut (piece, fits, broke) = broke_idle moves breaks all is m view piece broken n fits broke
+    stops_at moves both m n.now view.offset view.unread (gave [] ∷ []) (stops [] still_open) still_open n.so (hears_the_end cut) (λ talk bytes before. joins talk bytes (gave [] ∷ []) [] before h) no_bytes refl refl
+unfed_is moves next both breaks all is m view Memory joins broken n cut (piece, fits, small, broke) =
+    broke_idle moves breaks all is m view piece broken n fits (piece_short view.unread piece cut small) broke
 
 -- a fault of the front is the rule's
 faulty_is : (moves next both : List Event → List ℕ → Type 0) (all : List ℕ → List ℕ → List ℕ → Type 0) (is : Monitor → Type 0) (m : Monitor) (view : ReaderView) (rule : PeerRule) →
     Joins moves next both → (n : Now moves is m view) → Serves n.now view.offset view.unread [] (stops [] (at_rule rule view.offset)) → next [] [] → Stops both m (at_rule rule view.offset)
 faulty_is moves next both all is m view rule joins n s moved =
-    stops_at moves both m n.now view.offset view.unread [] (stops [] (at_rule rule view.offset)) (at_rule rule view.offset) n.so s (λ talk bytes before. joins talk bytes [] [] before moved) no_bytes refl
+    stops_at moves both m n.now view.offset view.unread [] (stops [] (at_rule rule view.offset)) (at_rule rule view.offset) n.so s (λ talk bytes before. joins talk bytes [] [] before moved) no_bytes refl refl
 
 pub turned_err : (moves next both : List Event → List ℕ → Type 0) (breaks all : List ℕ → List ℕ → List ℕ → Type 0) (is is' : Monitor → Type 0) (m : Monitor) (view view' : ReaderView) (e : RunFault) →
     Joins moves next both → JoinsBroken moves breaks all → (n : Now moves is m view) → Turned next breaks is' n.now view view' (Err e) → IsOutcome both all m (Err e)
@@ -197,4 +207,4 @@ turned_err moves next both breaks all is is' m view view' e joins broken n (inr 
 turned_err moves next both breaks all is is' m view view' e joins broken n (inr (inr (inr (inl (is_so, long, moved))))) =
     subst (λ (f : RunFault). IsOutcome both all m (Err f)) (sym (err_is {T = Option End} e (BadPeer 2 view.offset) is_so)) (too_long, refl, faulty_is moves next both all is m view too_long joins n (is_too_long long) moved)
 turned_err moves next both breaks all is is' m view view' e joins broken n (inr (inr (inr (inr (is_so, broke))))) =
-    subst (λ (f : RunFault). IsOutcome both all m (Err f)) (sym (err_is {T = Option End} e Memory is_so)) (broke_idle moves breaks all is m view [] broken n no_bytes broke)
+    subst (λ (f : RunFault). IsOutcome both all m (Err f)) (sym (err_is {T = Option End} e Memory is_so)) (broke_idle moves breaks all is m view [] broken n no_bytes (room_for_none moves is m view n) broke)

@@ -1,8 +1,9 @@
--- How many frames a monitor handles.
-use Rattle.std.specs.Prelude.{ℕ, suc, ◌+◌, ◌≤◌, List, [], ◌∷◌}
+-- How many frames a monitor handles, and how many bytes it is given.
+use Rattle.std.specs.Prelude.{ℕ, suc, ◌+◌, ◌*◌, ◌≤◌, List, [], ◌∷◌}
 use Rattle.pt_base.specs.declared.end.End.{End}
 use Rattle.wire.specs.declared.message.Message.{Message}
 use Rattle.wire.specs.declared.message.ReplyBody.{ReplyBody}
+use Rattle.wire.specs.Limits.{longest_payload}
 use Rattle.pair_sides.specs.Sides.{Served, goes_on, ends, bad}
 use Rattle.pair_meaning.specs.Monitors.{Monitor}
 use Rattle.pair_meaning.specs.Rules.{PeerRule}
@@ -22,3 +23,15 @@ handled m (x ∷ frames) = and_behind (serve m x.0) (λ m. handled m frames)
 -- each frame behind which a monitor goes on takes a turn of its budget
 abbrev pub FewAreHandled : Type 0
 FewAreHandled = (m : Monitor) (frames : List (Message × ℕ)) → handled m frames ≤ m.budget + 1
+
+-- the bytes of the longest frame
+abbrev pub longest_frame : ℕ
+longest_frame = 4 + longest_payload
+
+-- so many bytes are asked for at once
+abbrev pub most_at_once : ℕ
+most_at_once = 65_536
+
+-- With so many turns no more bytes are received: the longest frames, one for each turn and one more, and a piece.
+abbrev pub most_received : ℕ → ℕ
+most_received turns = (turns + 1) * longest_frame + most_at_once

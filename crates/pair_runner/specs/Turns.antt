@@ -1,5 +1,5 @@
 -- What one turn over a link comes to: the frame at the front is served, or more bytes are asked for.
-use Rattle.std.specs.Prelude.{◌≡◌, ◌≢◌, ℕ, List, [], ◌∷◌, ◌++◌, Option, Some, None, Result, Ok, Err, IfSome, ◌⊎◌}
+use Rattle.std.specs.Prelude.{◌≡◌, ◌≢◌, ◌≤◌, ℕ, List, [], ◌∷◌, ◌++◌, length, Option, Some, None, Result, Ok, Err, IfSome, ◌⊎◌}
 use Rattle.pt_base.specs.declared.end.End.{End}
 use Rattle.pt_base.specs.Talk.{Event, gave}
 use Rattle.wire.specs.declared.message.Message.{Message}
@@ -15,6 +15,7 @@ use Rattle.pair_meaning.specs.Rules.{PeerRule, number_of_rule}
 use Rattle.pair_meaning.specs.Serving.{serve}
 use Rattle.pair_runner.specs.declared.fault.RunFault.{RunFault}
 use Rattle.pair_runner.specs.declared.fault.RunFault.TheVariants.{LinkFailed, SinkFailed, BadPeer, PeerEnded, Memory}
+use Rattle.pair_runner.specs.Bounds.{most_at_once}
 use Rattle.pair_runner.specs.Sending.{IsSpelled, sent_of, reply_frames}
 
 -- It broke off for this reason, which isn't the peer's fault.
@@ -44,9 +45,9 @@ Answered moves breaks is place (ends bytes end) (Err e) = Stuck e (breaks [] [] 
 Answered moves breaks is place (bad rule) (Ok e) = ⊥
 Answered moves breaks is place (bad rule) (Err e) = Refused moves breaks place rule e
 
--- more bytes came
+-- more bytes came, no more than were asked for
 abbrev pub Fed : (List Event → List ℕ → Type 0) → ReaderView → ReaderView → Type 0
-Fed moves before after = (piece : List ℕ) × (piece ≢ []) × IsBytes piece × (after ≡ record before { unread = before.unread ++ piece }) × moves (gave piece ∷ []) []
+Fed moves before after = (piece : List ℕ) × (piece ≢ []) × IsBytes piece × (length piece ≤ most_at_once) × (after ≡ record before { unread = before.unread ++ piece }) × moves (gave piece ∷ []) []
 
 -- none came: it was the peer's end, or that broke off
 abbrev pub Unfed : (List Event → List ℕ → Type 0) → (List ℕ → List ℕ → List ℕ → Type 0) → RunFault → Type 0
@@ -54,7 +55,7 @@ Unfed moves breaks LinkFailed = breaks [] [] []
 Unfed moves breaks SinkFailed = ⊥
 Unfed moves breaks (BadPeer number offset) = ⊥
 Unfed moves breaks PeerEnded = moves (gave [] ∷ []) []
-Unfed moves breaks Memory = (piece : List ℕ) × IsBytes piece × breaks piece [] []
+Unfed moves breaks Memory = (piece : List ℕ) × IsBytes piece × (length piece ≤ most_at_once) × breaks piece [] []
 
 -- more bytes were asked for
 abbrev pub Heard : (List Event → List ℕ → Type 0) → (List ℕ → List ℕ → List ℕ → Type 0) → ReaderView → ReaderView → Result (Option End) RunFault → Type 0

@@ -42,7 +42,8 @@ fn serve_peer<L: Link, K: Sink>(
 
 /// Sends a peer its boot and serves it until an end. What is written, what is replied and how it ends is what
 /// serving the frames of the bytes comes to that the link gave, and each reply is sent before more bytes are
-/// asked for. At most one frame more is handled than the budget has turns.
+/// asked for. At most one frame more is handled than the budget has turns, and no more bytes are received than
+/// the longest of so many frames have, and one piece of 65,536.
 ///
 /// # Errors
 ///

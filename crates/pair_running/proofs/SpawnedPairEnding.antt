@@ -21,6 +21,7 @@ all_is_a_part came sent given taken a b k n boot m stopped s =
     sent_append (boot_talk boot) s.talk ∙ (λ i. boot_sent boot i ++ replies i) in
     record {
       given = given_in s.talk;
+      few = s.few;
       frames = s.frames;
       ending = s.ending;
       stream = s.stream;

@@ -15,6 +15,7 @@ stops_mapped moves moves' m stopped f s = record {
   moved = f s.talk s.served.bytes s.moved;
   serves = s.serves;
   replied = s.replied;
+  few = s.few;
   frames = s.frames;
   ending = s.ending;
   stream = s.stream;
@@ -23,7 +24,7 @@ stops_mapped moves moves' m stopped f s = record {
 }
 
 broken_mapped : (breaks breaks' : List ℕ → List ℕ → List ℕ → Type 0) (m : Monitor) → ((given sent bytes : List ℕ) → breaks given sent bytes → breaks' given sent bytes) → BreaksOff breaks m → BreaksOff breaks' m
-broken_mapped breaks breaks' m f b = record { given = b.given; frames = b.frames; ending = b.ending; stream = b.stream; broke = f b.given _ _ b.broke }
+broken_mapped breaks breaks' m f b = record { given = b.given; few = b.few; frames = b.frames; ending = b.ending; stream = b.stream; broke = f b.given _ _ b.broke }
 
 pub outcome_mapped : (moves moves' : List Event → List ℕ → Type 0) (breaks breaks' : List ℕ → List ℕ → List ℕ → Type 0) (m : Monitor) → ((talk : List Event) (bytes : List ℕ) → moves talk bytes → moves' talk bytes) →
     ((given sent bytes : List ℕ) → breaks given sent bytes → breaks' given sent bytes) → (result : Result End RunFault) → IsOutcome moves breaks m result → IsOutcome moves' breaks' m result

@@ -4,3 +4,4 @@ pub mod Unmet
 pub mod Marks
 pub mod Taking
 pub mod Runs
+pub mod Lying

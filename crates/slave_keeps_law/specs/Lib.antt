@@ -1,1 +1,2 @@
+pub mod HandlesLie
 pub mod Laws

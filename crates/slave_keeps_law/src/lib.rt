@@ -1,8 +1,13 @@
 //! A slave of an accepted program never computes with a handle: in the classes that the program's
-//! marks give, its machine stays fine in each step and with each reply.
+//! marks give, its machine stays fine in each step and with each reply. So its handles lie under
+//! marks.
 #![tactic(auto)]
 
+mod handles;
+
 ghost use Rattle.slave_keeps_law.specs.Laws.{NoHandleIsComputedWith};
+
+pub use handles::handles_lie_under_marks;
 
 /// Whatever replies a slave of an accepted program is given, its next step computes with no handle,
 /// by the marks of its own signatures.
