@@ -8,7 +8,7 @@ use Rattle.std.specs.Ordering.{MatchOrdering, nat_cmp, ordering_reverse, orderin
 use Rattle.std.specs.List.{AllByRecursion, Contains}
 use Rattle.std.specs.List.Sorted.{IsStrictlySortedBy}
 use Rattle.std.proofs.lemmas.Cmp.{ranked, tied_itself}
-use Rattle.ascending_lists_law.specs.Laws.{ListsAscend}
+use Rattle.facts.specs.Laws.{ListsAscend}
 
 -- ---- members
 

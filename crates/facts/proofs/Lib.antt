@@ -1,0 +1,9 @@
+pub mod Booleans
+pub mod Lists
+pub mod Members
+pub mod Numbers
+pub mod Options
+pub mod Orders
+pub mod Places
+pub mod Results
+pub mod SortedLists
