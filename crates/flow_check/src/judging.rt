@@ -2,7 +2,7 @@
 ghost use Rattle.typed_tree.specs.TypedView.{view_typed};
 ghost use Rattle.flow_check.specs.OutcomeSeen.{IsJudged};
 
-use crate::tracing::trace;
+use crate::tracing::{Traced, trace};
 use flow_rules::{Accepted, FlowError, check_flows};
 use pt_base::Watch;
 use std::alloc::Global;
@@ -30,12 +30,10 @@ pub fn judge<R: Threads + Sync, W: Watch>(
 {
     let usages = usages_of(alloc, t)?;
     let traced = trace(rt, alloc, t, &usages, watch)?;
-    check_flows(
-        alloc,
-        t,
-        &usages,
-        traced.sides,
-        traced.edges.as_slice(),
-        traced.marks,
-    )
+    let Traced {
+        sides,
+        edges,
+        marks,
+    } = traced;
+    check_flows(alloc, t, &usages, sides, edges.as_slice(), marks)
 }

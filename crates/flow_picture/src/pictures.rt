@@ -16,7 +16,7 @@ use crate::drawing::draw;
 use crate::objects::{Objects, find_objects};
 use crate::pictured::Pictured;
 use fault_lines::front_lines;
-use flow_check::{flow_lines, trace};
+use flow_check::{Traced, flow_lines, trace};
 use flow_rules::{Accepted, FlowError, FlowFault, check_flows};
 use front_end::read_program;
 use propagation::Marks;
@@ -64,15 +64,12 @@ fn with_program<R: Threads + Sync, W: Watch>(
 {
     let usages = usages_of(alloc, t)?;
     let traced = trace(rt, alloc, t, &usages, watch)?;
-    with_flows(
-        alloc,
-        program,
-        t,
-        &usages,
-        traced.sides,
-        traced.edges.as_slice(),
-        traced.marks,
-    )
+    let Traced {
+        sides,
+        edges,
+        marks,
+    } = traced;
+    with_flows(alloc, program, t, &usages, sides, edges.as_slice(), marks)
 }
 
 // What a program with these usages, sides, edges and marks comes to.

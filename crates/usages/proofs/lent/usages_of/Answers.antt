@@ -1,4 +1,4 @@
-use Rattle.std.proofs.Common.{◌≡◌, ◌∙◌, ◌++◌, List, [], append-nil, ap, drop, get_or, length, map, sym}
+use Rattle.std.proofs.Common.{◌∙◌, ◌++◌, List, append-nil, ap, drop, get_or, length, map, sym}
 use Rattle.std.proofs.lemmas.List.{drop_all}
 use Rattle.typed_tree.specs.TypedView.{view_typed}
 use Rattle.usages.specs.declared.usage.Usage.{Usage}
