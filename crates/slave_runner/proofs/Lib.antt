@@ -2,6 +2,7 @@ pub mod BootLemmas
 pub mod EndLemmas
 pub mod FrontLemmas
 pub mod LinkLemmas
+pub mod OneOutcome
 pub mod RunLemmas
 pub mod SayLemmas
 pub mod SizeLemmas

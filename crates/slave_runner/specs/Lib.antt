@@ -2,6 +2,7 @@ pub mod Comes
 pub mod Faults
 pub mod Fronts
 pub mod Laws
+pub mod OneOutcome
 pub mod Outcomes
 pub mod Reading
 pub mod Replies

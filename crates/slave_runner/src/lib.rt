@@ -10,10 +10,12 @@ mod beginning;
 mod fault;
 mod hearing;
 mod laws;
+mod one_outcome;
 mod saying;
 mod taking;
 mod working;
 
 pub use fault::WorkFault;
 pub use laws::last_messages_end;
+pub use one_outcome::what_a_slave_comes_to_is_one;
 pub use working::work;

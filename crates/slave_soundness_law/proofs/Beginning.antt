@@ -26,7 +26,7 @@ use Rattle.pt_core.specs.CoreRun.{main_in, with_globals}
 use Rattle.pt_core.specs.Steps.{Machine, run, at_rest, just_entered, started}
 use Rattle.pt_core.specs.WellFormed.{signature_at, function_at, are_in_order, boot_program, callees, callee_by, callee_fits, has_main, host_by, host_fits, hosts_fit, is_answered, is_main_by, is_only_start, is_plain_host, is_sound, is_well_formed, is_well_formed_boot, starts_by}
 use Rattle.core_steps_law.specs.WholeRun.{begun_machine}
-use Rattle.core_soundness.specs.Kept.{any}
+use Rattle.core_soundness.specs.Kept.{Kept, any}
 use Rattle.core_soundness.specs.Fits.{Fits}
 use Rattle.core_soundness.specs.Outside.{ArgumentsFit, own_params}
 use Rattle.core_soundness.proofs.Leaves.{never}
@@ -266,9 +266,44 @@ no_received : (structs : List StructInfo) (globals : List GlobalTree) (blocks : 
 no_received structs [] blocks n = refl
 no_received structs (g ∷ gs) blocks n = no_received structs gs _ n
 
+-- Where main is a function of its own its machine fits, whichever handles stand for numbers: it has none.
+module _ (b : BootTree) (well : IsTrue (is_well_formed_boot fits b)) (g : FunctionTree) (main : function_at (boot_program b) (main_in (boot_program b)) ≡ Some g) where
+  abbrev p : ProgramTree
+  p = boot_program b
+
+  facts_here : BootFacts b
+  facts_here = boot_facts b well
+
+  no_arguments : (kept : Kept) (params : List Param) → params ≡ [] → ArgumentsFit kept p.structs (at_rest p b.turns).blocks 0 (first_of (function_in p (main_in p)).params params) []
+  no_arguments kept params k =
+      subst (λ ps. ArgumentsFit kept p.structs (at_rest p b.turns).blocks 0 ps []) (sym (ap (λ ps. first_of (function_in p (main_in p)).params ps) k ∙ nothing (function_in p (main_in p)).params)) (tt {0})
+    where
+      nothing : (n : ℕ) → first_of {A = Param} n [] ≡ []
+      nothing zero = refl
+      nothing (suc n) = refl
+
+  pub begun_fits : (kept : Kept) → Fits kept false p (begun_machine p b.turns)
+  begun_fits kept =
+      started_fits kept false p (at_rest p b.turns) false (main_in p) 1 [] facts_here.sound (rest_fits kept false p b.turns facts_here.sound) refl refl (subst (λ o. IsTrue (is_some o)) (sym main) refl) (omega arith) (omega arith)
+      (no_arguments kept (signature_in p (main_in p)).params (main_params p g (facts_of false p facts_here.sound).order facts_here.main main))
+
+  pub begun_free : IsFree (slave_of b)
+  begun_free = record {
+    running = record {
+      machine = begun_fits any;
+      own = started_call_own p false (main_in p) 1 [] (at_rest p b.turns);
+      small = λ n. subst (λ (x : _). length x.types ≤ most_in_a_block) (sym (no_received p.structs p.globals no_blocks n)) (least most_in_a_block);
+      hosts = hosts_begin b facts_here;
+    };
+    free = refl;
+  }
+    where
+      least : (n : ℕ) → 0 ≤ n
+      least n = omega arith
+
 pub slaves_begin_sound : SlavesBeginSound
 slaves_begin_sound b well bytes small = record {
-  program = facts.sound;
+  program = (boot_facts b well).sound;
   input = bytes;
   budget = small;
   turns = none b.turns;
@@ -277,34 +312,18 @@ slaves_begin_sound b well bytes small = record {
   doing = go (function_at (boot_program b) (main_in (boot_program b))) refl;
 }
   where
-    facts : BootFacts b
-    facts = boot_facts b well
-
     none : (n : ℕ) → 0 ≤ n
     none n = omega arith
-
-    p : ProgramTree
-    p = boot_program b
 
     no_body : (o : Option FunctionTree) → o ≡ None → (unwrap_or o no_function).body ≡ no_stmts
     no_body o k = ap (λ o. (unwrap_or o no_function).body) k
 
-    no_arguments : (params : List Param) → params ≡ [] → ArgumentsFit any p.structs (at_rest p b.turns).blocks 0 (first_of (function_in p (main_in p)).params params) []
-    no_arguments params k = subst (λ ps. ArgumentsFit any p.structs (at_rest p b.turns).blocks 0 ps []) (sym (ap (λ ps. first_of (function_in p (main_in p)).params ps) k ∙ nothing (function_in p (main_in p)).params)) (tt {0})
-      where
-        nothing : (n : ℕ) → first_of {A = Param} n [] ≡ []
-        nothing zero = refl
-        nothing (suc n) = refl
-
-    go : (o : Option FunctionTree) → function_at p (main_in p) ≡ o → IsFree (slave_of b) ⊎ IsBare (slave_of b).machine
-    go None k = inr (record { started = just_entered p false (main_in p) 1 None; active = refl; work = ap (λ body. run body ∷ []) (no_body (function_at p (main_in p)) k); free = refl })
-    go (Some g) k = inl (record {
-      running = record {
-        machine = started_fits any false p (at_rest p b.turns) false (main_in p) 1 [] facts.sound (rest_fits any false p b.turns facts.sound) refl refl (subst (λ o. IsTrue (is_some o)) (sym k) refl) (omega arith) (omega arith)
-            (no_arguments (signature_in p (main_in p)).params (main_params p g (facts_of false p facts.sound).order facts.main k));
-        own = started_call_own p false (main_in p) 1 [] (at_rest p b.turns);
-        small = λ n. subst (λ (x : _). length x.types ≤ most_in_a_block) (sym (no_received p.structs p.globals no_blocks n)) (none most_in_a_block);
-        hosts = hosts_begin b facts;
-      };
-      free = refl;
-    })
+    go : (o : Option FunctionTree) → function_at (boot_program b) (main_in (boot_program b)) ≡ o → IsFree (slave_of b) ⊎ IsBare (slave_of b).machine
+    go None k =
+        inr (record {
+          started = just_entered (boot_program b) false (main_in (boot_program b)) 1 None;
+          active = refl;
+          work = ap (λ body. run body ∷ []) (no_body (function_at (boot_program b) (main_in (boot_program b))) k);
+          free = refl;
+        })
+    go (Some g) k = inl (begun_free b well g k)

@@ -86,7 +86,7 @@ module _ (x : Slave) (sound : IsSound x) where
     small : AreSmall s.machine.blocks
     small n = subst (λ ts. length ts ≤ most_in_a_block) (sym (received_stay x.program (slave_gate x.program) x.machine (heard_by x) n).types) (free.running.small n)
 
-    running : IsRunning y
+    pub running : IsRunning y
     running = record { machine = fits.machine; own = calls.left; small = small; hosts = hosts_stay x free.running.hosts sound.input free.running.own }
 
     -- what it asks for may be packed
