@@ -103,6 +103,6 @@ pub is_part : (p : ProgramTree) (signed kept owned : ℕ → Bool) → ((n : ℕ
 is_part p signed kept owned own = record {
   structs = refl;
   functions = λ f there. ap (λ (o : Option core.FunctionTree). unwrap_or o no_function) (sym (chosen_find (λ (g : core.FunctionTree). g.id) kept f p.functions (found_chosen (λ (g : core.FunctionTree). g.id) kept f p.functions there)));
-  signatures = λ f there. signature_same p signed kept owned f (own f (found_chosen (λ (g : core.FunctionTree). g.id) kept f p.functions there));
+  signatures = λ f there. let same = signature_same p signed kept owned f (own f (found_chosen (λ (g : core.FunctionTree). g.id) kept f p.functions there)) in record { result = ap (λ (s : Signature). s.result) same; privileged = ap (λ (s : Signature). s.privileged) same; host = ap (λ (s : Signature). s.host) same };
   globals = λ g there. ap (λ (o : Option VarTy). unwrap_or o (Int int.Int)) (sym (same_global p owned g (λ _. has_owned p signed kept owned g there)));
 }

@@ -7,7 +7,7 @@ use Rattle.check_declarations.specs.declared.fault.TypeFault.{TypeFault}
 use Rattle.check_declarations.specs.declared.fault.FaultKind.TheVariants.{BadAttribute}
 use Rattle.check_declarations.specs.declared.marks.Attribute.{Attribute}
 use Rattle.check_declarations.specs.declared.marks.Carrier.{Carrier}
-use Rattle.check_declarations.specs.declared.marks.Carrier.TheVariants.{Object, Field, Function, Parameter, Nothing}
+use Rattle.check_declarations.specs.declared.marks.Carrier.TheVariants.{Global, Object, Field, Function, Parameter, Nothing}
 use Rattle.check_declarations.specs.declared.marks.Mark.{Mark}
 use Rattle.check_declarations.specs.declared.marks.Mark.TheVariants.{Priv, Unpriv, Declassify, Other}
 use Rattle.check_declarations.specs.declared.marks.Marks.{Marks}
@@ -44,6 +44,10 @@ marks_of attributes = record {
 
 -- the attribute may stand before this; `marked` says that `priv` stands in the same list
 abbrev pub may_stand : Carrier → Bool → Mark → Bool
+may_stand Global marked Priv = true
+may_stand Global marked Unpriv = not marked
+may_stand Global marked Declassify = true
+may_stand Global marked Other = false
 may_stand Object marked Priv = true
 may_stand Object marked Unpriv = not marked
 may_stand Object marked Declassify = false

@@ -30,7 +30,9 @@ pub type Attributes = Listed<Attribute>;
 /// What a list of specifiers stands before.
 #[derive(Clone, Copy)]
 pub enum Carrier {
-    /// The declaration of a global or a local.
+    /// The declaration of a global.
+    Global,
+    /// The declaration of a local.
     Object,
     /// The declaration of a struct's field.
     Field,
@@ -136,6 +138,9 @@ fn is_allowed(carrier: Carrier, marked: bool, mark: Mark) -> bool
     ensures { result ≡ may_stand carrier marked mark }
 {
     match carrier {
+        Carrier::Global => {
+            is_priv_mark(mark) || is_unpriv_mark(mark) && !marked || is_declassify_mark(mark)
+        }
         Carrier::Object => is_priv_mark(mark) || is_unpriv_mark(mark) && !marked,
         Carrier::Field => is_priv_mark(mark),
         Carrier::Function { privileged } => {

@@ -7,6 +7,8 @@ use Rattle.typed_tree.specs.declared.variable.Var.{Var}
 use Rattle.typed_tree.specs.declared.variable.TypedGlobal.{TypedGlobal}
 use Rattle.check_declarations.specs.declared.fault.FaultKind.TheVariants.{Redeclared, TooLarge}
 use Rattle.check_declarations.specs.declared.fault.TypeFault.{TypeFault}
+use Rattle.check_declarations.specs.declared.marks.Carrier.{Carrier}
+use Rattle.check_declarations.specs.declared.marks.Carrier.TheVariants as carrier
 use Rattle.check_declarations.specs.declared.objects.ObjectKind.TheVariants as kind
 use Rattle.check_declarations.specs.declared.specifiers.Specified.{Specified}
 use Rattle.check_declarations.specs.Cells.{counted, cells_of}
@@ -19,7 +21,6 @@ use Rattle.check_declarations.specs.Structs.{Structs}
 use Rattle.check_expressions.specs.declared.meaning.Object.{Object}
 use Rattle.check_expressions.specs.Environment.{with_global}
 use Rattle.check_expressions.specs.StructInfos.{object_type_of}
-use Rattle.check_statements.specs.Declarations.{carrier_of}
 use Rattle.check_statements.specs.GlobalInitialisers.{global_initialised}
 use Rattle.check_programs.specs.Progress.{Progress}
 use Rattle.check_programs.specs.Functions.{Checked}
@@ -106,6 +107,11 @@ declared_all given st (d ∷ ds) =
     let rest = declared_all given one.progress ds in
     record { progress = rest.progress; faults = one.faults ++ rest.faults }
 
+-- attributes mark a declaration's globals; without one they stand before nothing
+abbrev pub global_carrier : List InitDeclaratorTree → Carrier
+global_carrier [] = carrier.Nothing
+global_carrier (d ∷ ds) = carrier.Global
+
 -- a declaration at file scope
 abbrev pub checked_declaration : Progress → DeclarationTree → Checked
 checked_declaration st d =
@@ -113,5 +119,5 @@ checked_declaration st d =
     let all = declared_all j.given (record st { structs = j.structs }) d.declarators in
     record {
       progress = all.progress;
-      faults = j.faults ++ mark_faults (carrier_of d.declarators) j.given.attributes ++ all.faults;
+      faults = j.faults ++ mark_faults (global_carrier d.declarators) j.given.attributes ++ all.faults;
     }

@@ -1,7 +1,6 @@
 // Globals (C99 6.9.2).
 ghost use Rattle.std.specs.Prelude.{◌≡◌, ◌++◌, map, IfOk, OnOk};
 ghost use Rattle.pt_tree.specs.StatementTree.{view_init_declarator, view_declaration};
-ghost use Rattle.check_statements.specs.Declarations.{carrier_of};
 ghost use Rattle.check_programs.specs.Gives.{GivesChecked};
 ghost use Rattle.check_programs.specs.Globals as is;
 ghost use Rattle.check_programs.specs.ProgressOf.{progress_of};
@@ -193,11 +192,11 @@ fn declare_globals(
 
 /// What the attributes of a declaration mark.
 fn carrier(globals: &[InitDeclarator]) -> Carrier
-    ensures { result ≡ carrier_of (map view_init_declarator globals.now) }
+    ensures { result ≡ is.global_carrier (map view_init_declarator globals.now) }
 {
     match globals {
         [] => Carrier::Nothing,
-        [_, ..] => Carrier::Object,
+        [_, ..] => Carrier::Global,
     }
 }
 

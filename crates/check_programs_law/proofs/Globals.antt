@@ -29,13 +29,12 @@ use Rattle.check_expressions.specs.declared.meaning.Meaning.TheVariants.{Functio
 use Rattle.check_expressions.specs.declared.meaning.Object.{Object}
 use Rattle.check_expressions.specs.Environment.{Env, with_global}
 use Rattle.check_expressions.specs.StructInfos.{object_type_of, infos_of, struct_info}
-use Rattle.check_statements.specs.Declarations.{carrier_of}
 use Rattle.check_statements.specs.GlobalInitialisers.{GlobalInit, global_initialised}
 use Rattle.check_declarations_law.specs.Types.{is_base, is_plain}
 use Rattle.check_declarations_law.specs.Sound.{SoundStructs}
 use Rattle.check_declarations_law.specs.Laws.{SpecifiersAreSound, ObjectsAreSound, SizesAreSound, LeavesAreSound}
 use Rattle.check_programs.specs.declared.function_marks.FunctionMarks.{FunctionMarks}
-use Rattle.check_programs.specs.Globals.{globals_limit, global_type, object_of, cells_with, brings_over, padded, start_cells, typed_global, declared_one, declared_all, checked_declaration}
+use Rattle.check_programs.specs.Globals.{globals_limit, global_type, object_of, cells_with, brings_over, padded, start_cells, typed_global, declared_one, declared_all, global_carrier, checked_declaration}
 use Rattle.check_programs.specs.Progress.{Progress}
 use Rattle.check_programs_law.proofs.ListLemmas.{all_joined, joined_none, length_joined, length_mapped, length_pushed, get_kept, get_last, get_pushed, IsLast}
 use Rattle.check_programs_law.proofs.TableLemmas.{sought, none_where_new, sought_pushed, sought_kept, pushed}
@@ -273,7 +272,7 @@ pub declaration_step : SpecifiersAreSound → ObjectsAreSound → SizesAreSound 
     → SoundProgress marks (declares d ∷ rest) st → (checked_declaration st d).faults ≡ [] → SoundProgress marks rest (checked_declaration st d).progress
 declaration_step specifiers objects sizes leaves marks rest st d s none =
     let j = specified true st.structs d.specs in
-    let marked = mark_faults (carrier_of d.declarators) j.given.attributes in
+    let marked = mark_faults (global_carrier d.declarators) j.given.attributes in
     let all = declared_all j.given (record st { structs = j.structs }) d.declarators in
     let own = none_left (j.faults ++ marked) all.faults none in
     let judged = specifiers true st.structs d.specs s.tables.structs (none_left j.faults marked own) in

@@ -24,7 +24,7 @@ use Rattle.marshalling.proofs.NameLemmas.{all_targets, block_at, from_distinct, 
 use Rattle.marshalling_law.proofs.HonestLemmas.{call_opened}
 use Rattle.marshalling_law.proofs.PostingLemmas.{packed_types}
 use Rattle.part_views.specs.Views.{View, has_global, lying, seen, seen_block, seen_cell, served_view, slave_of, slave_view}
-use Rattle.part_views.proofs.Instances.{received_lie, served_are_viewed}
+use Rattle.part_views.proofs.Instances.{none_own, received_lie, served_are_viewed}
 use Rattle.crossing_views_law.specs.Calls.{IsSent, Meet, body_memory, body_view, whole_memory}
 use Rattle.crossing_views_law.specs.Laws.{CallsBegin, BodiesAreViewed}
 use Rattle.crossing_views_law.proofs.Meeting.{views_meet}
@@ -124,5 +124,5 @@ calls_begin slave monitor base store structs params x m args sent =
 pub bodies_are_viewed : BodiesAreViewed
 bodies_are_viewed slave monitor base store structs params x m args sent = record {
   view = served_are_viewed monitor base (names_of args) (whole_memory slave store m x);
-  received = λ k lt. received_lie monitor base (names_of args) (whole_memory slave store m x) k (from_distinct [] args refl) sent.outside lt;
+  received = λ k lt. received_lie monitor base (names_of args) (whole_memory slave store m x) k (from_distinct [] args refl) lt (none_own monitor base (names_of args) sent.outside k lt);
 }

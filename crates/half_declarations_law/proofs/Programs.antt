@@ -24,10 +24,9 @@ use Rattle.check_declarations_law.specs.Laws.{SpecifiersAreSound, ObjectsAreSoun
 use Rattle.check_expressions.specs.declared.meaning.Meaning.{Meaning}
 use Rattle.check_expressions.specs.declared.meaning.Meaning.TheVariants.{Function, Global, Local}
 use Rattle.check_expressions.specs.StructInfos.{infos_of}
-use Rattle.check_statements.specs.Declarations.{carrier_of}
 use Rattle.check_programs.specs.declared.function_marks.FunctionMarks.{FunctionMarks}
 use Rattle.check_programs.specs.Functions.{Checked}
-use Rattle.check_programs.specs.Globals.{declared_one, declared_all, checked_declaration}
+use Rattle.check_programs.specs.Globals.{declared_one, declared_all, global_carrier, checked_declaration}
 use Rattle.check_programs.specs.Programs.{checked_item, checked_items, function_name, tree_of, nowhere, main_faults, checked_program, type_faults}
 use Rattle.check_programs.specs.Progress.{Progress, at_start}
 use Rattle.check_programs.specs.Unions.{declarations_of, undeclared, function_marks, marks_at, with_declaration}
@@ -39,7 +38,7 @@ use Rattle.check_programs_law.proofs.Globals.{all_globals}
 use Rattle.check_programs_law.proofs.Programs.{Laws, item_step, begun}
 use Rattle.half_names_law.specs.Declarable.{is_mutable, param_marked, signature_marked, variable_marked}
 use Rattle.half_declarations_law.specs.Trees.{parameters_plain, Marked}
-use Rattle.half_declarations_law.proofs.Stands.{object_marked}
+use Rattle.half_declarations_law.proofs.Stands.{global_marked}
 use Rattle.half_declarations_law.proofs.Tags.{Structured, specified_apart, tags_apart, all_fields_apart}
 use Rattle.half_declarations_law.proofs.Unions.{May, MutableAt, Good, Goods, Fine, fine_all, fine_none}
 use Rattle.half_declarations_law.proofs.Functions.{EntryMarked, EntriesMarked, DeclaredIn, Stepped, function_stepped}
@@ -83,7 +82,7 @@ declaration_walked : Laws → (marks : List ℕ → FunctionMarks) (d : Declarat
     → Progressed marks (declares d ∷ []) st (checked_declaration st d).progress
 declaration_walked laws marks d rest st s none =
     let j = specified true st.structs d.specs in
-    let own = mark_faults (carrier_of d.declarators) j.given.attributes in
+    let own = mark_faults (global_carrier d.declarators) j.given.attributes in
     let all : Checked = declared_all j.given (record st { structs = j.structs }) d.declarators in
     let none_two = none_left (j.faults ++ own) all.faults none in
     let judged = laws.specifiers true st.structs d.specs s.tables.structs (none_left j.faults own none_two) in
@@ -99,10 +98,10 @@ declaration_walked laws marks d rest st s none =
       declared = λ name. tt {0};
     }
   where
-    globals_of : (given : Specified) (ds : List InitDeclaratorTree) → mark_faults (carrier_of ds) given.attributes ≡ [] → IsTrue (list_all global_fine st.globals)
+    globals_of : (given : Specified) (ds : List InitDeclaratorTree) → mark_faults (global_carrier ds) given.attributes ≡ [] → IsTrue (list_all global_fine st.globals)
         → IsTrue (list_all global_fine (declared_all given (record st { structs = (specified true st.structs d.specs).structs }) ds).progress.globals)
     globals_of given [] h i = i
-    globals_of given (x ∷ xs) h i = globals_fine given (record st { structs = (specified true st.structs d.specs).structs }) (x ∷ xs) (object_marked given.attributes h) i
+    globals_of given (x ∷ xs) h i = globals_fine given (record st { structs = (specified true st.structs d.specs).structs }) (x ∷ xs) (global_marked given.attributes h) i
 
 function_walked : Laws → (marks : List ℕ → FunctionMarks) (f : parsed.FunctionTree) (rest : List ItemTree) (st : Progress) → SoundProgress marks (function f ∷ rest) st → IsTrue (item_sound (function f))
     → (checked_item (marks (function_name (function f))) st (function f)).faults ≡ [] → Progressed marks (function f ∷ []) st (checked_item (marks (function_name (function f))) st (function f)).progress

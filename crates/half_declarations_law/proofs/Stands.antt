@@ -6,7 +6,7 @@ use Rattle.check_declarations.specs.declared.fault.FaultKind.TheVariants.{BadAtt
 use Rattle.check_declarations.specs.declared.fault.TypeFault.{TypeFault}
 use Rattle.check_declarations.specs.declared.marks.Attribute.{Attribute}
 use Rattle.check_declarations.specs.declared.marks.Carrier.{Carrier}
-use Rattle.check_declarations.specs.declared.marks.Carrier.TheVariants.{Object, Field, Function, Parameter, Nothing}
+use Rattle.check_declarations.specs.declared.marks.Carrier.TheVariants.{Global, Function, Parameter}
 use Rattle.check_declarations.specs.declared.marks.Mark.{Mark}
 use Rattle.check_declarations.specs.declared.marks.Mark.TheVariants.{Priv, Unpriv, Declassify, Other}
 use Rattle.check_declarations.specs.Faults.{fault_if}
@@ -80,11 +80,11 @@ parameter_unprivileged privileged host returns attributes none h = let s = stand
     go Declassify i j = cc
     go Other i j = cc
 
--- nothing else can be marked both `priv` and `unpriv`
-pub object_marked : (attributes : List Attribute) → mark_faults Object attributes ≡ [] → not ((marks_of attributes).marked && (marks_of attributes).unpriv) ≡ true
-object_marked attributes none = go (marks_of attributes).marked (marks_of attributes).unpriv refl refl
+-- no global can be marked both `priv` and `unpriv`
+pub global_marked : (attributes : List Attribute) → mark_faults Global attributes ≡ [] → not ((marks_of attributes).marked && (marks_of attributes).unpriv) ≡ true
+global_marked attributes none = go (marks_of attributes).marked (marks_of attributes).unpriv refl refl
   where
-    alone : (b : Bool) (m : Mark) → is_unpriv m ≡ true → may_stand Object b m ≡ true → not b ≡ true
+    alone : (b : Bool) (m : Mark) → is_unpriv m ≡ true → may_stand Global b m ≡ true → not b ≡ true
     alone b Priv i j = cc
     alone b Unpriv i j = j
     alone b Declassify i j = cc
@@ -93,4 +93,4 @@ object_marked attributes none = go (marks_of attributes).marked (marks_of attrib
     go : (a b : Bool) → (marks_of attributes).marked ≡ a → (marks_of attributes).unpriv ≡ b → not (a && b) ≡ true
     go false b e i = refl
     go true false e i = refl
-    go true true e i = let s = stands Object is_unpriv attributes none i in let n = alone (marks_of attributes).marked s.mark s.is s.stands in let m = ap not (sym e) in cc
+    go true true e i = let s = stands Global is_unpriv attributes none i in let n = alone (marks_of attributes).marked s.mark s.is s.stands in let m = ap not (sym e) in cc

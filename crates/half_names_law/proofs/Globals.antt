@@ -29,11 +29,10 @@ use Rattle.check_expressions.specs.declared.meaning.Meaning.TheVariants.{Global}
 use Rattle.check_expressions.specs.declared.meaning.Object.{Object}
 use Rattle.check_expressions.specs.Environment.{Env, Scope}
 use Rattle.check_expressions.specs.Operands.{span_of}
-use Rattle.check_statements.specs.Declarations.{carrier_of}
 use Rattle.check_statements.specs.GlobalInitialisers.{GlobalInit, global_item, global_items, global_initialised, excess_faults}
 use Rattle.check_statements.specs.Leaves.{leaves_of}
 use Rattle.check_programs.specs.Functions.{Checked}
-use Rattle.check_programs.specs.Globals.{checked_declaration, declared_all, typed_global, start_cells, cells_with, brings_over, globals_limit}
+use Rattle.check_programs.specs.Globals.{checked_declaration, global_carrier, declared_all, typed_global, start_cells, cells_with, brings_over, globals_limit}
 use Rattle.pt_int.specs.Conversion.{is_in_range}
 use Rattle.half_names_law.proofs.Cells.{number_is}
 use Rattle.check_programs.specs.Progress.{Progress}
@@ -191,7 +190,7 @@ global_tree infos g u marked unpriv cells = object infos (mark_specs marked unpr
 abbrev by_specs : Progress → DeclarationTree → spec.Judged → Checked
 by_specs st d j =
     let all = declared_all j.given (record st { structs = j.structs }) d.declarators in
-    record { progress = all.progress; faults = j.faults ++ mark_faults (carrier_of d.declarators) j.given.attributes ++ all.faults }
+    record { progress = all.progress; faults = j.faults ++ mark_faults (global_carrier d.declarators) j.given.attributes ++ all.faults }
 
 -- what names mean in the initialiser
 abbrev known_by : Scope → List Callable → List Object → ℕ → «Type» → Bool → Bool → Env
@@ -234,7 +233,7 @@ global_added file functions globals structs r infos g u marked unpriv cells fits
     let over : brings_over r.cells (cells_of structs typed) ≡ false = ap (λ t. brings_over r.cells (cells_of structs t)) d.typed ∙ not_over r.cells (cells_of structs (type_as u)) few in (
       tree,
       ap (by_specs (at (file_env file functions globals) structs r) (global_tree infos g u marked unpriv cells)) (object_says true structs infos marked unpriv false u fits.fits.named)
-          ∙ (λ i. by_parts file functions globals r g (cells_of structs (d.typed i)) tree (d.typed i) (d.changes i) (is_none (new i)) (over i) (d.fine i) (sized structs typed u d.typed fits.fits.small i) (marks_stand carrier.Object marked unpriv false (λ e. refl) fits.unmarked (λ e. cc) i)
+          ∙ (λ i. by_parts file functions globals r g (cells_of structs (d.typed i)) tree (d.typed i) (d.changes i) (is_none (new i)) (over i) (d.fine i) (sized structs typed u d.typed fits.fits.small i) (marks_stand carrier.Global marked unpriv false (λ e. refl) fits.unmarked (λ e. cc) i)
           (global_initialised (known_by file functions globals g (d.typed i) (d.changes i) (is_none (new i))) structs (d.typed i) (initial u cells)))
           ∙ ap (by_parts file functions globals r g (cells_of structs (type_as u)) tree (type_as u) false true false [] [] [])
           (fine_is structs (global_initialised behind structs (type_as u) (initial u cells)) (initial_fine behind structs u cells fits.cells_there fits.plain)),

@@ -1,7 +1,8 @@
 -- The slave's view, and that of a served body.
-use Rattle.std.proofs.Common.{◌≡◌, ◌∙◌, ℕ, ap, refl, sym, subst, get_or, Bool, true, false, if◌then◌else◌, Some, None}
+use Rattle.std.proofs.Common.{◌≡◌, ◌∙◌, ◌<◌, ℕ, List, length, ap, refl, sym, subst, get_or, Bool, true, false, if◌then◌else◌, Some, None}
 use Rattle.block_memory.specs.declared.cell.BlockName.{BlockName}
 use Rattle.block_memory.specs.declared.cell.BlockName.TheVariants.{Local, Global, Received}
+use Rattle.pt_core.specs.CodeTree.{ProgramTree}
 use Rattle.marshalling.specs.Packing.{is_among, number_of}
 use Rattle.marshalling.proofs.NameLemmas.{get_among, name_at, number_at}
 use Rattle.part_views.specs.Laws.{ReceivedLie, ServedAreViewed, SlavesAreViewed}
@@ -44,10 +45,14 @@ served_are_viewed monitor base names beside = record { own = λ name h. (own_at 
     back name b true own e = subst (λ c. served_at names c ≡ name) (same_some name b e) (own_at name own)
     back name b false own e = packed_back name b (is_among names name) refl e
 
+-- where none of the names is the body's own, so is none by its number
+pub none_own : (monitor : ProgramTree) (base : ℕ) (names : List BlockName) → ((name : BlockName) → is_among names name ≡ true → is_own monitor base name ≡ false) → (k : ℕ) → k < length names → is_own monitor base (get_or names k (Received k)) ≡ false
+none_own monitor base names outside k lt = outside (get_or names k (Received k)) (get_among names k (Received k) lt)
+
 pub received_lie : ReceivedLie
-received_lie monitor base names beside k distinct outside lt =
+received_lie monitor base names beside k distinct lt outside =
     let name : BlockName = get_or names k (Received k) in
     let among : is_among names name ≡ true = get_among names k (Received k) lt in
-    ap (λ (t : Bool). if t then Some name else (if is_among names name then Some (Received (number_of names name)) else None)) (outside name among)
+    ap (λ (t : Bool). if t then Some name else (if is_among names name then Some (Received (number_of names name)) else None)) outside
     ∙ ap (λ (t : Bool). if t then Some (Received (number_of names name)) else None) among
     ∙ ap (λ j. Some (Received j)) (number_at names k (Received k) distinct lt)

@@ -13,11 +13,11 @@ slaves_stand whole slave store beside turns n x parts sound ranged fits above le
 )
 
 pub bodies_stand : BodiesStand
-bodies_stand whole monitor base names beside turns n x parts sound fits distinct outside received above left = (
+bodies_stand whole monitor base names beside turns n x parts sound fits distinct received outside above left = (
   record { sound = sound; parts = parts; view = served_are_viewed monitor base names beside; ranged = λ k d lt. absurd (omega (arith, lt)) },
   record {
     fits = more_is_kept none (by_store []) true monitor x (λ t handle h. never h) fits;
-    received = λ k some. received_lie monitor base names beside k distinct outside (received k some);
+    received = λ k some. received_lie monitor base names beside k distinct (received k some) (outside k some);
     above = above;
     left = left;
   },

@@ -6,7 +6,6 @@ use Rattle.std.proofs.lemmas.Bool.{or_parts}
 use Rattle.pt_base.specs.declared.int_type.IntType.{IntType}
 use Rattle.pt_base.specs.declared.span.Span.{Span}
 use Rattle.pt_base.specs.declared.trap.Trap.TheVariants.{Depth}
-use Rattle.pt_tree.specs.declared.signature.Signature.{Signature}
 use Rattle.typed_tree.proofs.WellFormedLemmas.{and_left}
 use Rattle.runs.specs.Run.{deepest}
 use Rattle.block_memory.specs.declared.cell.Cell.{Cell}
@@ -81,7 +80,7 @@ end_out : {H G : Type 0} (w : Base H G) (x : Machine) (h : H) (g : G) (a : Activ
     Out w x h (at_end (signature_in w.whole a.function).result (function_in w.whole a.function).end (at_seen w x) h (seated w.below rest a) (joined w.below rest))
     (at_end (signature_in w.part a.function).result (function_in w.part a.function).end x g a rest)
 end_out {H} {G} w x h g a rest is known =
-    subst (λ (j : Signature). Out w x h (at_end j.result (function_in w.whole a.function).end (at_seen w x) h (seated w.below rest a) (joined w.below rest)) (at_end (signature_in w.part a.function).result (function_in w.part a.function).end x g a rest)) (sym (w.viewed.parts.signatures a.function known))
+    subst (λ (j : Option IntType). Out w x h (at_end j (function_in w.whole a.function).end (at_seen w x) h (seated w.below rest a) (joined w.below rest)) (at_end (signature_in w.part a.function).result (function_in w.part a.function).end x g a rest)) (sym (w.viewed.parts.signatures a.function known).result)
     (go (signature_in w.part a.function).result)
   where
     go : (t : Option IntType) → Out w x h (at_end t (function_in w.whole a.function).end (at_seen w x) h (seated w.below rest a) (joined w.below rest)) (at_end t (function_in w.part a.function).end x g a rest)

@@ -140,7 +140,7 @@ end_seen : {H G : Type 0} (Alike : H → G → Type 0) (w : Env Alike) (x : Mach
     Seen Alike w h (at_end (signature_in w.whole a.function).result (function_in w.whole a.function).end (at_seen Alike w x) h (seated w.below rest a) (joined w.below rest))
     (at_end (signature_in w.part a.function).result (function_in w.part a.function).end x g a rest)
 end_seen {H} {G} Alike w x h g a rest s =
-    subst (λ (j : Signature). Seen Alike w h (at_end j.result (function_in w.whole a.function).end (at_seen Alike w x) h (seated w.below rest a) (joined w.below rest)) (at_end (signature_in w.part a.function).result (function_in w.part a.function).end x g a rest)) (sym (w.viewed.parts.signatures a.function s.known))
+    subst (λ (j : Option IntType). Seen Alike w h (at_end j (function_in w.whole a.function).end (at_seen Alike w x) h (seated w.below rest a) (joined w.below rest)) (at_end (signature_in w.part a.function).result (function_in w.part a.function).end x g a rest)) (sym (w.viewed.parts.signatures a.function s.known).result)
     (subst (λ (j : FunctionTree). Seen Alike w h (at_end (signature_in w.part a.function).result j.end (at_seen Alike w x) h (seated w.below rest a) (joined w.below rest)) (at_end (signature_in w.part a.function).result (function_in w.part a.function).end x g a rest)) (sym (w.viewed.parts.functions a.function s.known))
     (go (signature_in w.part a.function).result))
   where
@@ -170,8 +170,8 @@ enters_seen {H} {G} Alike w x h g a rest work f args result span s known alike =
     same : function_in w.whole f ≡ function_in w.part f
     same = w.viewed.parts.functions f known
 
-    signed : signature_in w.whole f ≡ signature_in w.part f
-    signed = w.viewed.parts.signatures f known
+    signed : (signature_in w.whole f).privileged ≡ (signature_in w.part f).privileged
+    signed = (w.viewed.parts.signatures f known).privileged
 
     blocks : entered w.whole f (a.depth + 1) (map (seen_cell w.v) args) (seen w.v x.blocks) ≡ seen w.v (entered w.part f (a.depth + 1) args x.blocks)
     blocks = entered_seen Alike w f (a.depth + 1) args x.blocks known (let above : w.base < a.depth = s.above in omega arith)
@@ -188,7 +188,7 @@ enters_seen {H} {G} Alike w x h g a rest work f args result span s known alike =
         (with_entered w.whole a.privileged f (a.depth + 1) (map (seen_cell w.v) args) result (at_seen Alike w (with_turn (working x a rest work))))
         (with_entered w.part a.privileged f (a.depth + 1) args result (with_turn (working x a rest work)))
         (λ i. record {
-          active = record { function = f; depth = a.depth + 1; privileged = a.privileged || (signed i).privileged; result = result; work = run (same i).body ∷ [] } ∷ seated w.below rest (record a { work = work }) ∷ joined w.below rest;
+          active = record { function = f; depth = a.depth + 1; privileged = a.privileged || signed i; result = result; work = run (same i).body ∷ [] } ∷ seated w.below rest (record a { work = work }) ∷ joined w.below rest;
           blocks = blocks i;
           turns = suc x.turns + w.turns;
           budget = w.n;

@@ -124,7 +124,7 @@ unfolding leaves_of
 sound = refl
 
 whole_is_part : IsPart part part
-whole_is_part = record { structs = refl; functions = λ f known. refl; signatures = λ f known. refl; globals = λ g has. refl }
+whole_is_part = record { structs = refl; functions = λ f known. refl; signatures = λ f known. record { result = refl; privileged = refl; host = refl }; globals = λ g has. refl }
 
 fits : Fits (by_store store) false part x
 unfolding leaves_of

@@ -1,5 +1,6 @@
 -- A part of a program beside the whole, and a machine of the part that is seen in the whole's.
 use Rattle.std.specs.Prelude.{◌≡◌, ◌≤◌, ◌<◌, ◌+◌, ℕ, Bool, true, false, ◌||◌, List, [], ◌∷◌, map, IsTrue, is_some, length}
+use Rattle.pt_tree.specs.declared.signature.Signature.{Signature}
 use Rattle.handle_store.specs.Stored.{AreInRange}
 use Rattle.block_memory.specs.declared.cell.Cell.{Cell}
 use Rattle.block_memory.specs.declared.cell.BlockName.TheVariants.{Received}
@@ -17,11 +18,18 @@ use Rattle.part_views.specs.Views.{IsView, Lies, View, has_global, seen_cell}
 
 -- ---- programs
 
--- What the part's code names is the whole's: the structs, the part's functions with their signatures, and its globals' types.
+-- Calls of both come to a value of one type or to none, and run in one half, inside the program or outside. Their parameters may
+-- differ.
+pub record SameCalls (s s' : Signature) : Type 0 where
+  pub result : s.result ≡ s'.result
+  pub privileged : s.privileged ≡ s'.privileged
+  pub host : s.host ≡ s'.host
+
+-- What the part's code names is the whole's: the structs, the part's functions, to which calls are the same, and its globals' types.
 pub record IsPart (part whole : ProgramTree) : Type 0 where
   pub structs : whole.structs ≡ part.structs
   pub functions : (f : ℕ) → IsTrue (is_some (function_at part f)) → function_in whole f ≡ function_in part f
-  pub signatures : (f : ℕ) → IsTrue (is_some (function_at part f)) → signature_in whole f ≡ signature_in part f
+  pub signatures : (f : ℕ) → IsTrue (is_some (function_at part f)) → SameCalls (signature_in whole f) (signature_in part f)
   pub globals : (g : ℕ) → has_global part g ≡ true → global_type (context_in whole 0) g ≡ global_type (context_in part 0) g
 
 -- A part that is sound, and a view of it by which each handle stands for a number of its type; its functions are deeper than

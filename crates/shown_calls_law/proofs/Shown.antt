@@ -26,6 +26,7 @@ use Rattle.marshalling.specs.Replies.{types_in}
 use Rattle.marshalling.proofs.NameLemmas.{from_distinct}
 use Rattle.marshalling_law.proofs.PostingLemmas.{packed_types}
 use Rattle.part_views.specs.Views.{slave_view}
+use Rattle.part_views.proofs.Instances.{none_own}
 use Rattle.crossing_views_law.specs.Calls.{IsSent, body_memory, whole_memory}
 use Rattle.crossing_views_law.specs.Machines.{resting}
 use Rattle.crossing_views_law.proofs.Fits.{sent_by_fits}
@@ -56,7 +57,7 @@ no_more (ts ∷ types) (suc k) some = let less = no_more types k some in omega (
 pub bodies_are_shown : BodiesAreShown
 bodies_are_shown whole slave monitor store m turns n x a rest f args own_turns budget halves ranged stands asks known own shallow left =
     bodies_stand whole monitor a.depth (names_of args) (whole_memory slave store m x.blocks) (suc x.turns) n body halves.monitor_part halves.monitor_sound begun
-    (from_distinct [] args refl) sent.outside received (omega arith, refl, tt {0}) left
+    (from_distinct [] args refl) received (λ k some. none_own monitor a.depth (names_of args) sent.outside k (received k some)) (omega arith, refl, tt {0}) left
   where
     params : List Param
     params = (signature_in slave f).params

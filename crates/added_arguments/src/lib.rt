@@ -1,0 +1,15 @@
+//! Calls with further arguments behind their own: a program whose calls have them steps as it does without them, but that what it
+//! asks for has their values.
+#![tactic(auto)]
+
+ghost use Rattle.added_arguments.specs.Laws.{OutsideIsAdded, StepsAreAdded};
+
+/// A program with further arguments steps as without them.
+pub fn added_steps<G>()
+    ensures { StepsAreAdded G }
+{}
+
+/// It begins and goes on as without them.
+pub fn added_outside()
+    ensures { OutsideIsAdded }
+{}
