@@ -1,5 +1,5 @@
 -- The numbers of kinds and symbols, in the order of their declarations.
-use Rattle.std.specs.Prelude.{ℕ, List, [], ◌∷◌}
+use Rattle.std.specs.Prelude.{ℕ}
 use Rattle.c_lexer.specs.declared.token.TokenKind.{TokenKind}
 use Rattle.c_lexer.specs.declared.token.TokenKind.TheVariants as k
 use Rattle.c_grammar.specs.declared.symbol.Symbol.{Symbol}
@@ -93,10 +93,6 @@ kind_number k.CaretEqual = 83
 kind_number k.PipeEqual = 84
 kind_number k.Comma = 85
 
-abbrev pub all_kinds : List TokenKind
-all_kinds =
-    k.Identifier ∷ k.Number ∷ k.Character ∷ k.Auto ∷ k.Break ∷ k.Case ∷ k.Char ∷ k.Const ∷ k.Continue ∷ k.Default ∷ k.Do ∷ k.Double ∷ k.Else ∷ k.Enum ∷ k.Extern ∷ k.Float ∷ k.For ∷ k.Goto ∷ k.If ∷ k.Inline ∷ k.Int ∷ k.Long ∷ k.Register ∷ k.Restrict ∷ k.Return ∷ k.Short ∷ k.Signed ∷ k.Sizeof ∷ k.Static ∷ k.Struct ∷ k.Switch ∷ k.Typedef ∷ k.Union ∷ k.Unsigned ∷ k.Void ∷ k.Volatile ∷ k.While ∷ k.Bool ∷ k.Complex ∷ k.Imaginary ∷ k.Attribute ∷ k.OpenBracket ∷ k.CloseBracket ∷ k.OpenParen ∷ k.CloseParen ∷ k.OpenBrace ∷ k.CloseBrace ∷ k.Dot ∷ k.Arrow ∷ k.PlusPlus ∷ k.MinusMinus ∷ k.Amp ∷ k.Star ∷ k.Plus ∷ k.Minus ∷ k.Tilde ∷ k.Bang ∷ k.Slash ∷ k.Percent ∷ k.ShiftLeft ∷ k.ShiftRight ∷ k.Less ∷ k.Greater ∷ k.LessEqual ∷ k.GreaterEqual ∷ k.EqualEqual ∷ k.BangEqual ∷ k.Caret ∷ k.Pipe ∷ k.AmpAmp ∷ k.PipePipe ∷ k.Question ∷ k.Colon ∷ k.Semicolon ∷ k.Equal ∷ k.StarEqual ∷ k.SlashEqual ∷ k.PercentEqual ∷ k.PlusEqual ∷ k.MinusEqual ∷ k.ShiftLeftEqual ∷ k.ShiftRightEqual ∷ k.AmpEqual ∷ k.CaretEqual ∷ k.PipeEqual ∷ k.Comma ∷ []
-
 abbrev pub symbol_number : Symbol → ℕ
 symbol_number s.TranslationUnit = 0
 symbol_number s.External = 1
@@ -172,7 +168,3 @@ symbol_number s.Sections = 70
 symbol_number s.Section = 71
 symbol_number s.Label = 72
 symbol_number s.SectionItems = 73
-
-abbrev pub all_symbols : List Symbol
-all_symbols =
-    s.TranslationUnit ∷ s.External ∷ s.ExternalRest ∷ s.ExternalTail ∷ s.FunctionEnd ∷ s.Specs ∷ s.MoreSpecs ∷ s.Spec ∷ s.Attribute ∷ s.MoreNames ∷ s.Struct ∷ s.StructBody ∷ s.Fields ∷ s.Field ∷ s.MoreDeclarators ∷ s.Declarator ∷ s.Star ∷ s.Suffix ∷ s.Size ∷ s.Init ∷ s.InitValue ∷ s.InitItems ∷ s.InitNext ∷ s.More ∷ s.Params ∷ s.MoreParams ∷ s.Param ∷ s.Name ∷ s.Block ∷ s.Items ∷ s.Item ∷ s.Declaration ∷ s.DeclarationRest ∷ s.Statement ∷ s.ElsePart ∷ s.ForInit ∷ s.ForStep ∷ s.Opt ∷ s.Expr ∷ s.AssignTail ∷ s.Cond ∷ s.CondTail ∷ s.Unary ∷ s.Paren ∷ s.Postfixes ∷ s.Arguments ∷ s.MoreArguments ∷ s.Primary ∷ s.AssignOp ∷ s.UnaryOp ∷ s.LogicalOr ∷ s.LogicalOrTail ∷ s.LogicalAnd ∷ s.LogicalAndTail ∷ s.BitOr ∷ s.BitOrTail ∷ s.BitXor ∷ s.BitXorTail ∷ s.BitAnd ∷ s.BitAndTail ∷ s.Equality ∷ s.EqualityTail ∷ s.Relational ∷ s.RelationalTail ∷ s.Shift ∷ s.ShiftTail ∷ s.Additive ∷ s.AdditiveTail ∷ s.Multiplicative ∷ s.MultiplicativeTail ∷ s.Sections ∷ s.Section ∷ s.Label ∷ s.SectionItems ∷ []

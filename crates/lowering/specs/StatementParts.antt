@@ -28,10 +28,6 @@ item_in c p e n = let v = value_in c.scope (outermost c e) n in record { stmts =
 abbrev pub section_in : Code → Span → SectionTree → Onward → ℕ → ℕ → ℕ → Effects
 section_in c s (section at label statements) mode k m n = section_by s k m (all_in c statements mode n)
 
--- a section's case
-abbrev pub section_case : Span → IntType → ℕ → ℕ → SectionTree → List StmtTree
-section_case s ty k m (section at label statements) = case_of s ty k m label
-
 -- ---- choices and returns
 
 abbrev pub choice_in : Code → ExprId → BodyTree → ElseTree → Onward → ℕ → Effects
