@@ -1,14 +1,16 @@
 -- Which code can be said in C as the normal form has it. A null pointer is the constant 0, which is a pointer only
 -- where another type asks for one, and a pointer into what is const points to const.
-use Rattle.std.specs.Prelude.{ℕ, List, [], ◌∷◌, Option, Some, None, Bool, true, false, ◌&&◌, ◌||◌, not}
+use Rattle.std.specs.Prelude.{ℕ, List, [], ◌∷◌, Option, Some, None, Bool, true, false, ◌&&◌, ◌||◌, not, ◌≡◌, IsTrue, slice_get}
 use Rattle.pt_tree.specs.declared.signature.Param.{Param}
 use Rattle.pt_tree.specs.declared.signature.Signature.{Signature}
 use Rattle.typed_tree.specs.declared.types.VarTy.{VarTy}
 use Rattle.typed_tree.specs.declared.types.VarTy.TheVariants.{Int, Struct, Array, Pointer}
 use Rattle.typed_tree.specs.TypeTests.{points_to_const}
 use Rattle.typed_tree.specs.WellFormedExpression.{param_type}
-use Rattle.pt_core.specs.CodeTree.{RootTree, local, global, deref, PlaceTree, place, ExprTree, constant, read, unary, binary, convert, null, address, decay, move, compare, difference, ExprTrees, no_exprs, expr_and, StmtTree, clear, check, assign, copy, call, choose, repeat, break_out, continue_on, give_back, StmtTrees, no_stmts, stmt_and}
+use Rattle.pt_core.specs.CodeTree.{RootTree, local, global, deref, PlaceTree, place, ExprTree, constant, read, unary, binary, convert, null, address, decay, move, compare, difference, ExprTrees, no_exprs, expr_and, StmtTree, clear, check, assign, copy, call, choose, repeat, break_out, continue_on, give_back, StmtTrees, no_stmts, stmt_and, FunctionTree, ProgramTree}
 use Rattle.pt_core.specs.Types.{Context, type_of, place_type}
+use Rattle.pt_core.specs.WellFormed.{called_signature, context_of}
+pub use Rattle.pt_tree.specs.Signatures.{params_of}
 
 -- ---- null
 
@@ -93,10 +95,6 @@ are_passed c [] (expr_and a rest) = true
 are_passed c (p ∷ ps) no_exprs = true
 are_passed c (p ∷ ps) (expr_and a rest) = is_stored c (param_type p.kind) a && are_passed c ps rest
 
-abbrev pub params_of : Option Signature → List Param
-params_of None = []
-params_of (Some s) = s.params
-
 -- ---- statements
 
 abbrev pub is_struct : VarTy → Bool
@@ -127,3 +125,7 @@ abbrev mutual
   pub are_said : Context → (ℕ → Option Signature) → StmtTrees → Bool
   are_said c called no_stmts = true
   are_said c called (stmt_and a rest) = is_said c called a && are_said c called rest
+
+-- each function of the program, in what its own numbers name
+abbrev pub CodeIsSaid : Bool → ProgramTree → Type 0
+CodeIsSaid monitor p = (n : ℕ) (f : FunctionTree) → slice_get p.functions n ≡ Some f → IsTrue (are_said (context_of p f.vars) (called_signature monitor p) f.body)

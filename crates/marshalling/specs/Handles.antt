@@ -120,3 +120,11 @@ Opens view (Err Shape) fault values = fault ≡ Some Shape
 Opens view (Err (BadHandle handle)) fault values = fault ≡ Some (BadHandle handle)
 Opens view (Err (WrongType handle)) fault values = fault ≡ Some (WrongType handle)
 Opens view (Err Memory) fault values = Unit {0}
+
+-- the types of a store
+abbrev pub store_types : Entries → List IntType
+store_types store = map (λ entry. entry.0) store
+
+-- a store of these types, and 0 for each value
+abbrev pub blank : List IntType → Entries
+blank types = map (λ t. (t, pos 0)) types

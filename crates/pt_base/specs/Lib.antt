@@ -12,3 +12,5 @@ pub mod Talk
 pub mod Told
 pub mod Traps
 pub mod Turns
+pub mod Ids
+pub mod Spans

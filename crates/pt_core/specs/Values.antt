@@ -185,3 +185,8 @@ cells_at blocks at count = take count (drop at.cell (blocks at.block).cells)
 abbrev pub all_written : Blocks → BlockName → ℕ → List Cell → Blocks
 all_written blocks block at [] = blocks
 all_written blocks block at (c ∷ cs) = all_written (written blocks block at c) block (at + 1) cs
+
+-- how many cells behind the beginning of an object a path of fields leads
+abbrev pub path_offset : List StructInfo → VarTy → List ℕ → ℕ
+path_offset structs ty [] = 0
+path_offset structs ty (k ∷ ks) = offset_in structs ty k + path_offset structs (field_type structs ty k) ks

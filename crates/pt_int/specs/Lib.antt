@@ -1,2 +1,3 @@
 pub mod Conversion
 pub mod Operator
+pub mod Comparisons

@@ -7,3 +7,4 @@ pub mod ProgramTree
 pub mod RowIndex
 pub mod SpecifierTree
 pub mod StatementTree
+pub mod Signatures

@@ -44,3 +44,8 @@ read memory block at = slice_index_or (memory block) at (number (pos 0))
 -- the memory in which one cell is written, and its neighbours are as they were
 abbrev pub write : Memory → Block → ℕ → Cell → Memory
 write memory block at cell = put memory block (slice_set (memory block) at cell)
+
+-- the depth of the call whose variable it is; 0 of a global
+abbrev pub depth_of : Block → ℕ
+depth_of (local depth x) = depth
+depth_of (global g) = 0

@@ -1,5 +1,5 @@
 -- The integers of which objects consist.
-use Rattle.std.specs.Prelude.{ℕ, zero, suc, List, [], ◌∷◌, ◌++◌, length, slice_get, unwrap_or}
+use Rattle.std.specs.Prelude.{ℕ, zero, suc, List, [], ◌∷◌, ◌++◌, length, slice_get, unwrap_or, get_or}
 use Rattle.std.specs.List.{flat_map}
 use Rattle.pt_base.specs.declared.int_type.IntType.{IntType}
 use Rattle.pt_tree.specs.declared.signature.Elem.{Elem}
@@ -7,6 +7,7 @@ use Rattle.pt_tree.specs.declared.signature.Elem.TheVariants as e
 use Rattle.typed_tree.specs.declared.types.VarTy.{VarTy}
 use Rattle.typed_tree.specs.declared.types.VarTy.TheVariants.{Int, Struct, Array, Pointer}
 use Rattle.typed_tree.specs.declared.types.StructInfo.{StructInfo}
+use Rattle.pt_base.specs.declared.int_type.IntType.TheVariants as i
 
 -- so many times the list
 abbrev pub repeated : {A : Type 0} → ℕ → List A → List A
@@ -41,3 +42,7 @@ leaves_of structs ty = object_leaves (leaves_from [] structs) ty
 -- how many integers an object has
 abbrev pub cells_of : List StructInfo → VarTy → ℕ
 cells_of structs ty = length (leaves_of structs ty)
+
+-- the type at a place of a list; int past its end
+abbrev pub type_at : List VarTy → ℕ → VarTy
+type_at types n = get_or types n (Int i.Int)

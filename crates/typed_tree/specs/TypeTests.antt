@@ -1,5 +1,5 @@
 -- Tests of types: which are equal, and of which kind one is. None is void.
-use Rattle.std.specs.Prelude.{Bool, true, false, ◌&&◌, not, Option, Some, None, nat_eq}
+use Rattle.std.specs.Prelude.{ℕ, Bool, true, false, ◌&&◌, not, Option, Some, None, nat_eq, ℤ}
 use Rattle.pt_base.specs.declared.int_type.IntType.{IntType}
 pub use Rattle.pt_base.specs.IntTypes.{place_of, same_int}
 use Rattle.pt_tree.specs.declared.signature.Elem.{Elem}
@@ -99,3 +99,14 @@ is_value (Some (Int t)) = true
 is_value (Some (Struct n)) = true
 is_value (Some (Array elem count)) = false
 is_value (Some (Pointer elem fixed)) = true
+
+abbrev pub is_pointer : VarTy → Bool
+is_pointer (Int t) = false
+is_pointer (Struct n) = false
+is_pointer (Array elem count) = false
+is_pointer (Pointer elem fixed) = true
+
+-- there is a number, and it has this type
+abbrev pub is_stored : IntType → Option (IntType × ℤ) → Bool
+is_stored t None = false
+is_stored t (Some entry) = same_int t entry.0
