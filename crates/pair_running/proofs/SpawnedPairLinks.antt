@@ -11,7 +11,7 @@ use Rattle.pair_meaning.specs.Peer.{boot_frames}
 use Rattle.pair_runner.specs.declared.fault.RunFault.{RunFault}
 use Rattle.pair_runner.specs.Faults.{of_link}
 use Rattle.pair_runner.specs.Outcomes.{IsOutcome, behind_boot, broken_behind_boot}
-use Rattle.pair_runner.specs.Sending.{Breaks, Moves}
+use Rattle.pair_runner.specs.Sending.{Breaks, Moves, boot_talk}
 use Rattle.pair_runner.proofs.Finishing.{boot_unsent}
 use Rattle.pair_runner.proofs.Moving.{parts_none}
 use Rattle.pair_running.proofs.SpawnedPairMapped.{outcome_mapped}
@@ -63,7 +63,7 @@ since_start starts came honest sent given taken a b c k n boot m result along at
           link = b;
           became = at.became;
           came_by = moved.talks.came_by;
-          along = came_since starts honest sent given a b c _ at (along b c _ moved.talks.came_by);
+          along = came_since starts honest sent given a b c (boot_talk boot ++ talk) at (along b c (boot_talk boot ++ talk) moved.talks.came_by);
         };
         sent_so = appends_kept (sent a) (sent b) (sent c) _ at.none_sent moved.talks.sent_so;
         given_so = appends_kept (given a) (given b) (given c) _ at.none_given moved.talks.given_so;
