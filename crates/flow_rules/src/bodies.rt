@@ -71,11 +71,7 @@ pub(crate) fn add_slave(
 }
 
 // what the body of a function of the monitor breaks
-fn add_monitor_usages(
-    flows: &Flows<'_>,
-    f: FnId,
-    list: &mut Vec<Found>,
-) -> Result<(), AllocError>
+fn add_monitor_usages(flows: &Flows<'_>, f: FnId, list: &mut Vec<Found>) -> Result<(), AllocError>
     ensures { OnOk result (list.new.items ≡ list.old.items ++ map kept (is.monitor_findings (view_flows flows.now) f)) }
 {
     let usages = flows.usages.of(flows.t, f);

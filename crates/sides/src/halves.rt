@@ -49,9 +49,7 @@ pub fn place(alloc: Global, t: &Typed, usages: &Usages<'_>) -> Result<Sides, All
     let slave = functions_in(alloc, &in_slave)?;
     let named = named_by(alloc, t, usages, &slave)?;
     let owned = globals_in(alloc, &named)?;
-    let marked = seed_table(
-        alloc, t, usages, &layout, &slots, &in_slave, &named, &slave,
-    )?;
+    let marked = seed_table(alloc, t, usages, &layout, &slots, &in_slave, &named, &slave)?;
     let seeds = slots_in(alloc, &marked)?;
     Ok(Sides {
         monitor: Listed::new(monitor),

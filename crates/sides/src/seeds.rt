@@ -98,9 +98,7 @@ pub(crate) fn seed_table(
     let mut table = marked_slots(alloc, t, in_slave, owned, slots)?;
     let mut seen = IndexSet::new(alloc);
     for f in functions {
-        add_body(
-            alloc, t, usages, layout, slots, *f, &mut table, &mut seen,
-        )?;
+        add_body(alloc, t, usages, layout, slots, *f, &mut table, &mut seen)?;
     }
     Ok(table)
 }
