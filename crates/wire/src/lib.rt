@@ -27,6 +27,4 @@ pub use laws::{
 pub use lists::{Args, Block, Blocks, Cells};
 pub use message::{CallBody, Message, ReplyBody};
 pub use reader::Reader;
-pub use writing::{
-    put_byte, put_bytes, put_i128, put_u32, put_u64, type_number, write_message,
-};
+pub use writing::{put_byte, put_bytes, put_i128, put_u32, put_u64, type_number, write_message};
