@@ -1,5 +1,5 @@
 -- How many bytes a talk has brought.
-use Rattle.std.proofs.Common.{◌≡◌, ◌∙◌, ◌<◌, ◌≤◌, ℕ, ◌+◌, ◌*◌, List, [], ◌∷◌, ◌++◌, length, Option, inl, inr, ap, arith, append-nil, length-append}
+use Rattle.std.proofs.Common.{◌≡◌, ◌∙◌, ◌<◌, ◌≤◌, ℕ, ◌+◌, ◌*◌, List, [], ◌++◌, length, Option, inl, inr, ap, arith, append-nil, length-append}
 use Rattle.pt_base.specs.Talk.{Event}
 use Rattle.wire.specs.declared.message.Message.{Message}
 use Rattle.wire.specs.declared.message.ReplyBody.{ReplyBody}

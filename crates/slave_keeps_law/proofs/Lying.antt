@@ -14,15 +14,13 @@ use Rattle.typed_tree.specs.declared.types.StructInfo.{StructInfo}
 use Rattle.typed_tree.specs.Cells.{leaves_of}
 use Rattle.typed_tree.specs.ExpressionTree.{ExprTree}
 use Rattle.typed_tree.specs.TypedTree.{TypedTree, FunctionTree}
-use Rattle.typed_tree.specs.WellFormed.{global_sound, is_plain_type, is_small, cells_fit}
-use Rattle.typed_tree.proofs.WellFormedLemmas.{Facts, and_left}
+use Rattle.typed_tree.specs.WellFormed.{global_sound, is_plain_type, is_small, is_well_formed, cells_fit}
+use Rattle.typed_tree.proofs.WellFormedLemmas.{Facts, and_left, facts_of}
 use Rattle.source_meaning.specs.Expressions.{type_of}
 use Rattle.propagation.specs.Marks.{path_shown}
-use Rattle.propagation.specs.Paths.{IsPriv, IsShortestPath}
+use Rattle.propagation.specs.Paths.{IsShortestPath}
 use Rattle.reach.specs.Tables.{slot_number}
 use Rattle.reach.proofs.ListLemmas.{contains_first, contains_later}
-use Rattle.block_memory.specs.declared.cell.Cell.{Cell}
-use Rattle.block_memory.specs.declared.cell.Cell.TheVariants.{Sealed}
 use Rattle.block_memory.specs.declared.cell.BlockName.{BlockName}
 use Rattle.block_memory.specs.declared.cell.BlockName.TheVariants.{Local, Global, Received}
 use Rattle.sides.specs.declared.objects.Object.{Object}
@@ -37,19 +35,17 @@ use Rattle.pt_core.specs.Types.{pointee_type}
 use Rattle.lowering.specs.Lowered.{Temp}
 use Rattle.lowered_forms_law.proofs.Places.{all_at}
 use Rattle.lowered_forms_law.proofs.SameTypes.{never}
-use Rattle.handle_classes.specs.Classes.{Class, World}
-use Rattle.handle_classes.specs.Invariant.{MayLie, MemoryFits, block_class, cell_of, local_class}
+use Rattle.handle_classes.specs.Classes.{Class}
+use Rattle.handle_classes.specs.Invariant.{MayLie, block_class, local_class}
 use Rattle.object_classes_law.specs.Cells.{class_at, is_pointer, leaf_under}
 use Rattle.slave_classes_law.specs.Laws.{IsSlaveWorld, marks_of, slave_half}
 use Rattle.slave_classes_law.specs.Marked.{Marks, class_by, held_class, kept_class, nothing_class, object_class, slave_world, temps_of, variable_class, variable_in}
 use Rattle.slave_classes_law.proofs.Classes.{plain_object}
 use Rattle.slave_classes_law.proofs.Slots.{object_type}
-use Rattle.typed_tree.specs.WellFormed.{is_well_formed}
-use Rattle.typed_tree.proofs.WellFormedLemmas.{facts_of}
 use Rattle.pair_meaning.specs.SlaveRun.{Slave, slave_of}
 use Rattle.pair_meaning.specs.Pair.{slave_at}
 use Rattle.slave_keeps_law.specs.Laws.{boot_of}
-use Rattle.slave_keeps_law.specs.HandlesLie.{IsSecret, IsSecretCell, IsSecretValue, IsSecretTemporary, IsSecretVariable, IsSecretLocal, LiesUnderMark, HandlesLieUnderMarks}
+use Rattle.slave_keeps_law.specs.HandlesLie.{IsSecret, IsSecretCell, IsSecretValue, IsSecretVariable, IsSecretLocal, LiesUnderMark, HandlesLieUnderMarks}
 use Rattle.slave_keeps_law.proofs.Runs.{IsKnown, Keeps, begin_keeps, runs_keep, world_of}
 
 -- ---- marks

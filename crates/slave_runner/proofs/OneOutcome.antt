@@ -1,7 +1,7 @@
 -- What a slave's side comes to is one.
-use Rattle.std.proofs.Common.{◌≡◌, ◌∙◌, ℕ, List, [], ◌++◌, Bool, true, false, inl, inr, refl, ap, sym, subst}
+use Rattle.std.proofs.Common.{◌≡◌, ◌∙◌, ℕ, List, [], true, false, inl, inr, ap, sym, subst}
 use Rattle.wire.specs.declared.message.Message.{Message}
-use Rattle.wire.specs.Frames.{Ending, IsStream}
+use Rattle.wire.specs.Frames.{Ending}
 use Rattle.wire.proofs.StreamLaws.{streams_once}
 use Rattle.pt_core.specs.CodeTree.{BootTree}
 use Rattle.pair_meaning.specs.Pair.{said}

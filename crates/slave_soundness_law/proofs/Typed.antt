@@ -1,7 +1,6 @@
 -- The handles of a slave's memory are of the types with which they were given.
-use Rattle.std.proofs.Common.{◌≡◌, ◌∙◌, ◌≤◌, ◌<◌, ◌⊎◌, inl, inr, ℕ, zero, suc, ◌+◌, ◌^◌, refl, ap, sym, subst, arith, List, [], ◌∷◌, ◌++◌, Option, Some, None, Bool, true, false, length, slice_get}
-use Rattle.std.specs.Prelude.{IsTrue, All, ◌||◌, is_some, nat_eq, nat_le, pos, if◌then◌else◌}
-use Rattle.std.proofs.lemmas.List.{length-append}
+use Rattle.std.proofs.Common.{◌≡◌, ◌∙◌, ◌<◌, ◌⊎◌, inl, inr, ℕ, zero, suc, ◌+◌, refl, ap, sym, subst, arith, List, [], ◌∷◌, ◌++◌, Option, Some, None, Bool, true, false, length, slice_get}
+use Rattle.std.specs.Prelude.{IsTrue, ◌||◌, is_some, nat_le, pos, if◌then◌else◌}
 use Rattle.pt_base.specs.declared.int_type.IntType.{IntType}
 use Rattle.typed_tree.specs.declared.types.VarTy.{VarTy}
 use Rattle.typed_tree.specs.declared.types.VarTy.TheVariants.{Int, Struct, Array, Pointer}
@@ -14,35 +13,33 @@ use Rattle.block_memory.specs.declared.cell.BlockName.TheVariants.{Local, Global
 use Rattle.block_memory.specs.Block.{Block}
 use Rattle.block_memory.specs.Blocks.{Blocks}
 use Rattle.typed_tree.specs.declared.types.StructInfo.{StructInfo}
-use Rattle.wire.specs.declared.message.Message.{Message}
 use Rattle.wire.specs.declared.message.ReplyBody.{ReplyBody}
 use Rattle.marshalling.specs.declared.crossing.Crossing.{Crossing}
 use Rattle.marshalling.specs.declared.crossing.Crossing.TheVariants as way
-use Rattle.marshalling.specs.Replies.{Place, has_plain, kept_by, next_after, next_by}
+use Rattle.marshalling.specs.Replies.{Place, has_plain, kept_by, next_after}
 use Rattle.marshalling.specs.Taking.{Taken, after_reply, known_reply}
 use Rattle.taken_replies_law.specs.Laws.{AllStand, IsTakenWell}
 use Rattle.taken_replies_law.proofs.Known.{known_replies_are_replies}
 use Rattle.taken_replies_law.proofs.Taking.{taken_replies_fit}
-use Rattle.pt_core.specs.CodeTree.{FunctionTree, ProgramTree, BootTree}
+use Rattle.pt_core.specs.CodeTree.{FunctionTree}
 use Rattle.pt_core.specs.Calls.{signature_in}
 use Rattle.pt_core.specs.CoreRun.{main_in}
-use Rattle.pt_core.specs.Steps.{Answer, moved, asked, ended, trapped, spent, idle, Step, with_blocks}
-use Rattle.pt_core.specs.WellFormed.{boot_program, function_at, is_sound, is_well_formed_boot}
+use Rattle.pt_core.specs.Steps.{Answer, moved, asked, ended, trapped, spent, idle, with_blocks}
+use Rattle.pt_core.specs.WellFormed.{boot_program, function_at, is_sound}
 use Rattle.core_soundness.specs.Kept.{Kept, IsWithin, by_types, is_given}
-use Rattle.core_soundness.specs.Fits.{Fits, BlockFits, IntegerFits, IntegersFit, LocalFits, MemoryFits, PointerFits, variables_at}
+use Rattle.core_soundness.specs.Fits.{Fits, IntegerFits, IntegersFit, LocalFits, PointerFits, variables_at}
 use Rattle.core_soundness.proofs.More.{more_is_kept}
 use Rattle.core_soundness.proofs.Outside.{resumed_fits}
 use Rattle.called_functions_law.specs.Called.{GoesBy, HasAsked}
 use Rattle.called_functions_law.proofs.Accounts.{steps_keep_account}
 use Rattle.called_functions_law.proofs.Keeping.{steps_keep_called}
-use Rattle.pair_sides.specs.Sides.{Moved}
 use Rattle.pair_sides.specs.SlaveRun as run
 use Rattle.pair_meaning.specs.LowView.{types_kept}
 use Rattle.pair_meaning.specs.Monitors.{types_in}
 use Rattle.pair_meaning.specs.Pair.{slave_at, the_sides}
 use Rattle.pair_meaning.specs.SlaveRun.{Slave, Doing, goes, waits_for, is_over, after_step, awaits_reply, calls_or_parks, heard_by, is_reply_to, machine_step, mode_by, moves_with, must_wait, parks, places_of_call, posts, results_of, says_call, slave_gate, slave_of, slave_step, stepped, take, taken_by, types_given, with_reply}
 use Rattle.slave_soundness_law.specs.Sound.{IsBare, IsDoing, IsFree, IsRunning, IsSound, IsWaiting}
-use Rattle.slave_soundness_law.specs.Typed.{HandlesHaveTheirTypes, HasItsType}
+use Rattle.slave_soundness_law.specs.Typed.{HandlesHaveTheirTypes}
 use Rattle.slave_soundness_law.proofs.Beginning.{begun_fits, begun_free, slaves_begin_sound}
 use Rattle.slave_soundness_law.proofs.Hosts.{fits_calls}
 use Rattle.slave_soundness_law.proofs.Stepping.{running, slaves_stay_sound}
