@@ -35,7 +35,7 @@ found_with more f (x ∷ xs) = go (found_with more f xs) (nat_eq f x.id)
 function_is : (more : More) (params : ℕ → List Param) (p : ProgramTree) (f : ℕ) → function_in (extended more params p) f ≡ function_with more (function_in p f)
 function_is more params p f = found_with more f p.functions
 
-context_is : (more : More) (params : ℕ → List Param) (p : ProgramTree) (f : ℕ) → context_in (extended more params p) f ≡ context_in p f
+pub context_is : (more : More) (params : ℕ → List Param) (p : ProgramTree) (f : ℕ) → context_in (extended more params p) f ≡ context_in p f
 context_is more params p f = λ i. record { structs = p.structs; globals = (context_in p f).globals; variables = map (λ (x : Var). x.ty) (function_is more params p f i).vars }
 
 -- what of a signature isn't its parameters is the same
@@ -50,7 +50,7 @@ looked_with {A} look params f same (s ∷ ss) = go (looked_with look params f sa
 
 -- ---- work
 
-settled_with : (more : More) (work : List Work) → settled (map (work_with more) work) ≡ map (work_with more) (settled work)
+pub settled_with : (more : More) (work : List Work) → settled (map (work_with more) work) ≡ map (work_with more) (settled work)
 settled_with more [] = refl
 settled_with more (run no_stmts ∷ work) = settled_with more work
 settled_with more (run (stmt_and s rest) ∷ work) = refl
@@ -72,11 +72,11 @@ chosen_with more false first second = refl
 
 -- ---- arguments
 
-abbrev with_cells : List Cell → Result (List Cell) Stop → Result (List Cell) Stop
+abbrev pub with_cells : List Cell → Result (List Cell) Stop → Result (List Cell) Stop
 with_cells more (Ok vs) = Ok (vs ++ more)
 with_cells more (Err stop) = Err stop
 
-values_with : (c : Context) (depth : ℕ) (more : List ExprTree) (cells : List Cell) (blocks : Blocks) → values_of c depth (expr_trees more) blocks ≡ Ok cells → (args : ExprTrees) →
+pub values_with : (c : Context) (depth : ℕ) (more : List ExprTree) (cells : List Cell) (blocks : Blocks) → values_of c depth (expr_trees more) blocks ≡ Ok cells → (args : ExprTrees) →
     values_of c depth (exprs_and args more) blocks ≡ with_cells cells (values_of c depth args blocks)
 values_with c depth more cells blocks known no_exprs = known
 values_with c depth more cells blocks known (expr_and e rest) = go (values_with c depth more cells blocks known rest) (value_of c depth e blocks)

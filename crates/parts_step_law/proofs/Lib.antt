@@ -9,3 +9,4 @@ pub mod Runs
 pub mod Outward
 pub mod Instances
 pub mod Worked
+pub mod Added

@@ -1,3 +1,4 @@
+pub mod Added
 pub mod Instances
 pub mod Laws
 pub mod Outward

@@ -1,8 +1,9 @@
 //! A part of a program steps as the whole does: under a view, where the part's blocks lie in the whole and what its handles stand
 //! for, a step of a slave or of a served body is the step of the whole program, or the whole's budget is spent by the turns that
-//! others took.
+//! others took. A program whose calls have further arguments computes with handles where it does without them.
 #![tactic(auto)]
 
+ghost use Rattle.parts_step_law.specs.Added.{AddedComputeAlike};
 ghost use Rattle.parts_step_law.specs.Instances.{BodiesStand, SlavesStand};
 ghost use Rattle.parts_step_law.specs.Laws.{PartsStand, PartsStep};
 ghost use Rattle.parts_step_law.specs.Outward.{PartsLead};
@@ -26,6 +27,11 @@ pub fn parts_run<H, G, K>()
 /// Where a part asks for a call, the whole makes it, and where its outermost function returns, it returns in the whole.
 pub fn parts_lead<H, G>()
     ensures { PartsLead H G }
+{}
+
+/// With further arguments of calls a step computes with a handle where it does without them.
+pub fn added_compute_alike<G>()
+    ensures { AddedComputeAlike G }
 {}
 
 /// A slave's machine that fits by a store is shown in the whole's.
