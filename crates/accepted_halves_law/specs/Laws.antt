@@ -4,18 +4,10 @@ use Rattle.typed_tree.specs.TypedTree.{TypedTree}
 use Rattle.typed_tree.specs.WellFormed.{is_well_formed}
 use Rattle.flow_rules.specs.declared.accepted.Accepted.{Accepted}
 use Rattle.flow_rules.specs.Faults.{IsAccepted}
-use Rattle.pt_core.specs.CodeTree.{MonitorTree, SlaveTree}
 use Rattle.pt_core.specs.WellFormed.{slave_program}
-use Rattle.lowering.specs.Functions.{core_program, functions_from}
-use Rattle.splitter.specs.Halves.{halves_of, monitor_of, slave_of}
+use Rattle.lowering.specs.Functions.{core_program}
 use Rattle.pair_invariant.specs.Halves.{AreHalvesOf}
-
--- the slave's program, whose code is that of the lowering
-abbrev pub slave_half : TypedTree → Accepted → SlaveTree
-slave_half t a = slave_of t (halves_of a.sides) (functions_from t 0 t.functions)
-
-abbrev pub monitor_half : TypedTree → Accepted → MonitorTree
-monitor_half t a = monitor_of t (halves_of a.sides) (functions_from t 0 t.functions)
+pub use Rattle.splitter.specs.Accepted.{monitor_half, slave_half}
 
 -- Of a well-formed program that breaks no rule, they are halves of the whole program in the normal form.
 abbrev pub AcceptedHalves : Type 0

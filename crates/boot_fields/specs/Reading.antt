@@ -25,6 +25,7 @@ use Rattle.wire.specs.Reading.{types, number_at, signed_at}
 use Rattle.pt_core.specs.CodeTree.{RootTree, local, global, deref, PlaceTree, place, ExprTree, constant, read, unary, binary, convert, null, address, decay, move, compare, difference, ExprTrees, expr_trees, StmtTree, clear, check, assign, copy, call, choose, repeat, break_out, continue_on, give_back, StmtTrees, stmt_trees, FunctionTree, GlobalTree, BootTree}
 use Rattle.boot_fields.specs.declared.fault.ReadError.{ReadError}
 use Rattle.boot_fields.specs.declared.fault.ReadError.TheVariants.{Bad, Memory}
+pub use Rattle.pt_base.specs.Names.{longest_name as deepest}
 
 infixl 10 ◌>>=◌
 abbrev pub ◌>>=◌ : {A B : Type 0} → Result A ReadError → (A → Result B ReadError) → Result B ReadError
@@ -266,10 +267,6 @@ stmt_at zero bytes = Err Memory
 stmt_at (suc deeper) bytes = step_at (expr_at deeper) (stmt_at deeper) bytes
 
 -- ---- programs of at most so many nested nodes
-
--- so many nodes of code may stand one inside the other
-abbrev pub deepest : ℕ
-deepest = 1_048_576
 
 unfoldable pub function_at : ℕ → List ℕ → Reading FunctionTree
 function_at depth bytes =

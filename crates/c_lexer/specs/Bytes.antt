@@ -2,7 +2,8 @@
 use Rattle.std.specs.Prelude.{ℕ, ◌+◌, ◌*◌, Bool, ◌||◌, ◌==◌, List}
 use Rattle.std.specs.List.{fold}
 use Rattle.std.specs.Int.{is_in_range}
-use Rattle.std.specs.Char.{is_ascii_alphabetic, is_ascii_alphanumeric, digit_value}
+use Rattle.std.specs.Char.{is_ascii_alphabetic, digit_value}
+pub use Rattle.pt_base.specs.Names.{is_word_byte}
 
 -- space, and from 9 on tab, line feed, vertical tab, form feed and carriage return
 abbrev pub is_space : ℕ → Bool
@@ -11,10 +12,6 @@ is_space b = is_in_range 9 13 b || (b == 32)
 -- a letter or `_`, with which identifiers begin (C99 6.4.2.1)
 abbrev pub is_nondigit : ℕ → Bool
 is_nondigit b = is_ascii_alphabetic b || (b == 95)
-
--- a letter, `_` or a digit
-abbrev pub is_word_byte : ℕ → Bool
-is_word_byte b = is_ascii_alphanumeric b || (b == 95)
 
 -- the number that the digits spell in the base, the first digit the highest
 abbrev pub number_in : ℕ → List ℕ → ℕ

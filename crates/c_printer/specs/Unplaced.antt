@@ -1,6 +1,5 @@
 -- Trees without positions: each span is the empty one at 0.
 use Rattle.std.specs.Prelude.{map, option_map}
-use Rattle.pt_base.specs.declared.span.Span.{Span}
 use Rattle.pt_tree.specs.declared.word.Word.{Word}
 use Rattle.pt_tree.specs.declared.word.Constant.{Constant}
 use Rattle.pt_tree.specs.declared.specifier.Declarator.{Declarator}
@@ -10,9 +9,7 @@ use Rattle.pt_tree.specs.SpecifierTree.{SpecTree, attribute, keyword, structure,
 use Rattle.pt_tree.specs.ExpressionTree.{ExprTree, name, constant, prefix, cast, postfix, chain, choice, assign, ExprTrees, no_exprs, expr_and, LinkTree, link, LinkTrees, no_links, link_and, PostfixTree, index, call, dot, arrow, increment, decrement, PostfixTrees, no_postfixes, postfix_and}
 use Rattle.pt_tree.specs.StatementTree.{InitTree, no_init, single, braces, InitDeclaratorTree, DeclarationTree, LabelTree, case_label, default_label, ForInitTree, for_declare, for_nothing, for_expr, StmtTree, declare, block, nothing, evaluate, choose, while_true, do_while, for_each, give_back, stop_loop, next_turn, switch, ElseTree, no_else, otherwise, StmtTrees, no_stmts, stmt_and, SectionTree, section, SectionTrees, no_sections, section_and, BlockTree}
 use Rattle.pt_tree.specs.ProgramTree.{ParamTree, FunctionTree, ItemTree, declares, function}
-
-abbrev pub nowhere : Span
-nowhere = record { from = 0; to = 0 }
+pub use Rattle.pt_base.specs.Spans.{nowhere}
 
 abbrev pub word : Word → Word
 word w = record w { span = nowhere }

@@ -6,6 +6,7 @@ use Rattle.pt_base.specs.declared.span.Span.{Span}
 use Rattle.check_declarations.specs.declared.fault.FaultKind.{FaultKind}
 use Rattle.check_declarations.specs.declared.fault.FaultKind.TheVariants.{UnknownName, Redeclared, NotLvalue, WrongType, ArgCount, ConstWrite, OutOfProfile, NoMain, TooLarge, BadAttribute}
 use Rattle.check_declarations.specs.declared.fault.TypeFault.{TypeFault}
+pub use Rattle.pt_base.specs.Spans.{span_cmp}
 
 abbrev pub fault_number : FaultKind → ℕ
 fault_number UnknownName = 1
@@ -30,10 +31,6 @@ fault_name OutOfProfile = codes "OutOfProfile"
 fault_name NoMain = codes "NoMain"
 fault_name TooLarge = codes "TooLarge"
 fault_name BadAttribute = codes "BadAttribute"
-
--- by where they begin, then by where they end
-abbrev pub span_cmp : Span → Span → Ordering
-span_cmp a b = ordering_then (nat_cmp a.from b.from) (nat_cmp a.to b.to)
 
 -- by their places, then by number
 abbrev pub fault_cmp : TypeFault → TypeFault → Ordering

@@ -10,6 +10,7 @@ use Rattle.typed_tree.specs.declared.types.VarTy.{VarTy}
 use Rattle.typed_tree.specs.declared.types.VarTy.TheVariants as v
 use Rattle.typed_tree.specs.ExpressionTree.{ExprTree, typed, FormTree, constant, read, decay, PlaceTree, place, RootTree, deref, assigned, StepTree, item, step_trees}
 use Rattle.check_declarations.specs.declared.fault.TypeFault.{TypeFault}
+pub use Rattle.pt_base.specs.Spans.{nowhere}
 
 -- the typed tree of an expression, by what the expression is
 pub data Elaboration : Type 0 where
@@ -98,9 +99,6 @@ unfoldable pub value_of : Known → Value
 value_of k = record { ty = value_type k.ty k.fixed; null = k.null }
 
 -- ---- what is known of simple expressions
-
-abbrev pub nowhere : Span
-nowhere = record { from = 0; to = 0 }
 
 -- the tree that stands in place of a faulty expression's
 abbrev pub no_tree : ExprTree

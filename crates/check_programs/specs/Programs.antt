@@ -1,6 +1,5 @@
 -- Whole programs (C99 6.9): the typed tree, and all type faults.
 use Rattle.std.specs.Prelude.{ℕ, List, [], ◌∷◌, ◌++◌, Bool, not}
-use Rattle.pt_base.specs.declared.span.Span.{Span}
 use Rattle.pt_tree.specs.ProgramTree.{ItemTree, declares, function}
 use Rattle.typed_tree.specs.TypedTree.{TypedTree}
 use Rattle.check_declarations.specs.declared.fault.FaultKind.TheVariants.{NoMain}
@@ -12,6 +11,7 @@ use Rattle.check_programs.specs.Unions.{function_marks}
 use Rattle.check_programs.specs.Progress.{Progress, at_start}
 use Rattle.check_programs.specs.Functions.{Checked, checked_function}
 use Rattle.check_programs.specs.Globals.{checked_declaration}
+pub use Rattle.pt_base.specs.Spans.{nowhere}
 
 -- ---- items, in order
 
@@ -39,10 +39,6 @@ abbrev pub tree_of : Progress → TypedTree
 tree_of st = record { structs = infos_of st.structs; globals = st.globals; functions = st.functions; exprs = st.exprs }
 
 -- ---- the program
-
--- where a program begins
-abbrev pub nowhere : Span
-nowhere = record { from = 0; to = 0 }
 
 pub record CheckedProgram : Type 0 where
   pub tree : TypedTree

@@ -2,6 +2,7 @@
 use Rattle.std.specs.Prelude.{ℕ, ℤ, Bool, true, false, List, Option, Some, None, IsTrue, slice_get}
 use Rattle.pt_base.specs.declared.int_type.IntType.{IntType}
 use Rattle.typed_tree.specs.TypeTests.{same_int}
+pub use Rattle.typed_tree.specs.TypeTests.{is_stored}
 
 -- whether the handle with this number stands for a number of the type
 abbrev pub Kept : Type 0
@@ -20,10 +21,6 @@ any t handle = true
 -- No handle stands for a number: so it is in a monitor, which computes with numbers alone.
 abbrev pub none : Kept
 none t handle = false
-
-abbrev pub is_stored : IntType → Option (IntType × ℤ) → Bool
-is_stored t None = false
-is_stored t (Some entry) = same_int t entry.0
 
 -- Each handle stands for what a store with these entries has under its number, and for a number of that entry's type.
 abbrev pub by_store : List (IntType × ℤ) → Kept

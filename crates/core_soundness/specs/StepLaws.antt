@@ -3,7 +3,6 @@ use Rattle.std.specs.Prelude.{◌≡◌, ℕ, ℤ, Bool, List, [], ◌∷◌, Op
 use Rattle.pt_base.specs.declared.int_type.IntType.{IntType}
 use Rattle.pt_int.specs.Conversion.{is_in_range}
 use Rattle.pt_tree.specs.declared.signature.Param.{Param}
-use Rattle.pt_tree.specs.declared.signature.Signature.{Signature}
 use Rattle.block_memory.specs.declared.cell.Cell.{Cell}
 use Rattle.block_memory.specs.declared.cell.BlockName.TheVariants.{Received}
 use Rattle.block_memory.specs.Block.{Block}
@@ -16,6 +15,7 @@ use Rattle.pt_core.specs.WellFormed.{function_at, called_signature, is_sound}
 use Rattle.core_soundness.specs.Kept.{Kept}
 use Rattle.core_soundness.specs.Fits.{Fits}
 use Rattle.core_soundness.specs.Outside.{ArgumentsFit, GivenFits}
+pub use Rattle.pt_tree.specs.Signatures.{params_of}
 
 -- ---- gates
 
@@ -35,11 +35,6 @@ pub record GateFits (program : ProgramTree) {G : Type 0} (gate : Gate G) (g : G)
       NumberFits (signature_in program f).result (gate.answer f (map number_in args) (gate.noted privileged f args g)).0
 
 -- ---- arguments and results
-
--- what calls of a function give: in the monitor's program its own parameters alone
-abbrev pub params_of : Option Signature → List Param
-params_of None = []
-params_of (Some s) = s.params
 
 abbrev pub called_params : Bool → ProgramTree → ℕ → List Param
 called_params monitor program f = params_of (called_signature monitor program f)

@@ -1,5 +1,5 @@
 -- What the store has after a call: numbers of their types, and types that the slave knows.
-use Rattle.std.specs.Prelude.{◌≡◌, ℤ, List, ◌++◌, map, Option, true}
+use Rattle.std.specs.Prelude.{◌≡◌, ℤ, List, ◌++◌, Option, true}
 use Rattle.pt_base.specs.declared.int_type.IntType.{IntType}
 use Rattle.pt_tree.specs.declared.signature.Signature.{Signature}
 use Rattle.typed_tree.specs.declared.types.StructInfo.{StructInfo}
@@ -11,9 +11,7 @@ use Rattle.marshalling.specs.HonestCalls.{grown}
 use Rattle.marshalling.specs.Packing.{packed}
 use Rattle.marshalling.specs.Replies.{AreServed, IsResult, Place, kept, result_places, types_in}
 use Rattle.marshalling.specs.Taking.{are_whole, call_places, zeros}
-
-abbrev pub store_types : Entries → List IntType
-store_types store = map (λ entry. entry.0) store
+pub use Rattle.marshalling.specs.Handles.{store_types}
 
 -- the types of those places that come back as handles
 abbrev pub sealed_types : List Place → List IntType

@@ -5,7 +5,6 @@ use Rattle.std.specs.List.{list_any}
 use Rattle.std.specs.Ordering.{is_eq, nat_cmp, ordering_then}
 use Rattle.std.specs.declared.cmp.Ordering.{Ordering}
 use Rattle.reach.specs.Tables.{function_id, global_id}
-use Rattle.pt_base.specs.declared.ids.VarId.{VarId}
 use Rattle.sides.specs.declared.slots.Owner.{Owner}
 use Rattle.sides.specs.declared.slots.Owner.TheVariants as o
 use Rattle.sides.specs.declared.slots.SlotInfo.{SlotInfo}
@@ -13,6 +12,7 @@ use Rattle.sides.specs.Slots.{slot_at}
 use Rattle.typed_tree.specs.TypedTree.{TypedTree}
 use Rattle.flow_picture.specs.declared.node.Node.{Node}
 use Rattle.flow_picture.specs.declared.node.Node.TheVariants.{Global, Variable, Result}
+pub use Rattle.pt_base.specs.Ids.{var_id}
 
 -- the node of what a slot is a part of
 abbrev pub node_of : Owner → Node
@@ -60,9 +60,6 @@ abbrev pub is_in : List Node → Node → Bool
 is_in nodes x = list_any (λ y. is_eq (node_cmp y x)) nodes
 
 -- ---- as code keeps them; no public clause speaks of it
-
-abbrev pub var_id : ℕ → VarId
-var_id k = record { 0 = k }
 
 abbrev pub owner_of : Node → Owner
 owner_of (Global g) = o.Global (global_id g)

@@ -26,6 +26,7 @@ use Rattle.flow_rules.specs.declared.fault.FlowFault.{FlowFault}
 use Rattle.flow_rules.specs.Findings.{Finding, findings_of}
 use Rattle.flow_rules.specs.Numbers.{rule_number}
 use Rattle.flow_rules.specs.Secrets.{Flows}
+pub use Rattle.pt_base.specs.Spans.{span_cmp}
 
 -- ---- what the rules look at
 
@@ -46,10 +47,6 @@ pub record AreFlows (t : TypedTree) (seeds : List Slot) (edges : List Edge) (p :
   pub privileged : (n : ℕ) → n < length (slots_of t) → (p.is_priv n ≡ true) ↔ IsPriv seeds edges (slot_number n)
 
 -- ---- faults
-
--- by where they begin, then by where they end
-abbrev pub span_cmp : Span → Span → Ordering
-span_cmp a b = ordering_then (nat_cmp a.from b.from) (nat_cmp a.to b.to)
 
 -- by their places, then by number
 abbrev pub fault_cmp : FlowFault → FlowFault → Ordering

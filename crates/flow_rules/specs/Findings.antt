@@ -25,6 +25,7 @@ use Rattle.flow_edges.specs.Edges.{span_of}
 use Rattle.flow_rules.specs.declared.rule.Rule.{Rule}
 use Rattle.flow_rules.specs.declared.rule.Rule.TheVariants.{OperationOnPriv, PrivToHost, PrivIntoUnpriv, SharedGlobal, UnmarkedOut, HostInMonitor, PrivToPlainParam, PrivStatus, PrivMain}
 use Rattle.flow_rules.specs.Secrets.{Flows, secret_slots, secrets_of, unmarked_leaves, value_leaves}
+pub use Rattle.reach.specs.Contexts.{test_function as function_is}
 
 -- A broken rule, where it shows, and the privileged slots that make it one; none where the rule speaks of no
 -- secret.
@@ -61,10 +62,6 @@ is_plain_host f = is_slave_host f && not (list_any (λ q. q.marked) f.signature.
 
 abbrev pub is_main_function : FunctionTree → Bool
 is_main_function f = is_main f.signature
-
--- the function or host g is such
-abbrev pub function_is : (FunctionTree → Bool) → TypedTree → FnId → Bool
-function_is test t g = option_map_or test (function_at t g) false
 
 -- ---- rules on the value of an expression, in the body of a function of the slave
 

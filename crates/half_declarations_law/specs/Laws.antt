@@ -9,13 +9,14 @@ use Rattle.check_programs.specs.Programs.{checked_program, type_faults}
 use Rattle.flow_rules.specs.declared.accepted.Accepted.{Accepted}
 use Rattle.flow_rules.specs.Faults.{IsAccepted}
 use Rattle.pt_core.specs.CodeTree.{FunctionTree, ProgramTree}
-use Rattle.pt_core.specs.WellFormed.{signature_at, is_sound, monitor_program, slave_program}
+use Rattle.pt_core.specs.WellFormed.{signature_at, is_sound, monitor_program}
 use Rattle.lowering.specs.Functions.{functions_from}
-use Rattle.splitter.specs.Halves.{halves_of, monitor_of, slave_of}
+use Rattle.splitter.specs.Halves.{halves_of, monitor_of}
 use Rattle.half_names_law.specs.Declarable.{Declarable, prototypes_take_no_pointers}
 use Rattle.half_names_law.specs.Laws.{MeaningKept}
 use Rattle.half_names_law.specs.Standing.{own_marks, whole_marks, all_said}
 use Rattle.half_declarations_law.specs.Trees.{Marked}
+pub use Rattle.splitter.specs.Accepted.{slave_code as slave_half}
 
 -- ---- the tree
 
@@ -24,9 +25,6 @@ abbrev pub TreesAreMarked : Type 0
 TreesAreMarked = (items : List ItemTree) → IsTrue (items_sound items) → type_faults items ≡ [] → Marked (checked_program items).tree
 
 -- ---- the halves
-
-abbrev pub slave_half : TypedTree → Accepted → ProgramTree
-slave_half t a = slave_program (slave_of t (halves_of a.sides) (functions_from t 0 t.functions))
 
 abbrev pub monitor_half : TypedTree → Accepted → ProgramTree
 monitor_half t a = monitor_program (monitor_of t (halves_of a.sides) (functions_from t 0 t.functions))

@@ -1,22 +1,17 @@
 -- The code of both halves can be said in C.
-use Rattle.std.specs.Prelude.{◌≡◌, ℕ, List, Bool, true, false, Some, IsTrue, slice_get}
+use Rattle.std.specs.Prelude.{List, true, false, IsTrue}
 use Rattle.pt_tree.specs.ProgramTree.{ItemTree}
 use Rattle.typed_tree.specs.TypedTree.{TypedTree}
 use Rattle.typed_tree.specs.WellFormed.{is_well_formed}
 use Rattle.check_programs.specs.Programs.{checked_program}
 use Rattle.flow_rules.specs.declared.accepted.Accepted.{Accepted}
 use Rattle.flow_rules.specs.Faults.{IsAccepted}
-use Rattle.pt_core.specs.CodeTree.{FunctionTree, ProgramTree}
-use Rattle.pt_core.specs.WellFormed.{context_of, called_signature, monitor_program, slave_program}
+use Rattle.pt_core.specs.WellFormed.{monitor_program, slave_program}
 use Rattle.lowering.specs.Functions.{functions_from}
 use Rattle.splitter.specs.Halves.{Halves, halves_of, monitor_of, slave_of}
 use Rattle.split_law.specs.Laws.{AreHalves, SharesNothing}
-use Rattle.half_meaning_law.specs.CForms.{are_said}
 use Rattle.said_code_law.specs.Nulls.{nulls_stand}
-
--- each function of the program, in what its own numbers name
-abbrev pub CodeIsSaid : Bool → ProgramTree → Type 0
-CodeIsSaid monitor p = (n : ℕ) (f : FunctionTree) → slice_get p.functions n ≡ Some f → IsTrue (are_said (context_of p f.vars) (called_signature monitor p) f.body)
+pub use Rattle.half_meaning_law.specs.CForms.{CodeIsSaid}
 
 abbrev pub SlavesAreSaid : Type 0
 SlavesAreSaid = (t : TypedTree) (h : Halves) → IsTrue (is_well_formed t) → IsTrue (nulls_stand t) → AreHalves t h → CodeIsSaid false (slave_program (slave_of t h (functions_from t 0 t.functions)))

@@ -10,6 +10,7 @@ use Rattle.typed_tree.specs.WellFormedExpression.{param_type}
 use Rattle.pt_core.specs.CodeTree.{RootTree, local, global, deref, PlaceTree, place, ExprTree, constant, read, unary, binary, convert, null, address, decay, move, compare, difference, ExprTrees, no_exprs, expr_and, StmtTree, clear, check, assign, copy, call, choose, repeat, break_out, continue_on, give_back, StmtTrees, no_stmts, stmt_and, FunctionTree, ProgramTree}
 use Rattle.pt_core.specs.Types.{Context, type_of, place_type}
 use Rattle.pt_core.specs.WellFormed.{called_signature, context_of}
+pub use Rattle.pt_tree.specs.Signatures.{params_of}
 
 -- ---- null
 
@@ -93,10 +94,6 @@ are_passed c [] no_exprs = true
 are_passed c [] (expr_and a rest) = true
 are_passed c (p ∷ ps) no_exprs = true
 are_passed c (p ∷ ps) (expr_and a rest) = is_stored c (param_type p.kind) a && are_passed c ps rest
-
-abbrev pub params_of : Option Signature → List Param
-params_of None = []
-params_of (Some s) = s.params
 
 -- ---- statements
 

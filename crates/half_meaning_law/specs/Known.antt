@@ -1,9 +1,6 @@
 -- What the names of a half's text mean where its statements stand.
 use Rattle.std.specs.Prelude.{◌≡◌, ◌<◌, ℕ, List, Option, Some, None, IsTrue, false, not, length, nat_eq, map}
 use Rattle.std.specs.Map.{lookup}
-use Rattle.pt_base.specs.declared.ids.FnId.{FnId}
-use Rattle.pt_base.specs.declared.ids.GlobalId.{GlobalId}
-use Rattle.pt_base.specs.declared.ids.VarId.{VarId}
 use Rattle.pt_base.specs.declared.int_type.IntType.{IntType}
 use Rattle.pt_tree.specs.declared.signature.Signature.{Signature}
 use Rattle.type_rules.specs.declared.types.Type.{«Type»}
@@ -23,6 +20,7 @@ use Rattle.check_expressions.specs.Postfixes.{is_main}
 use Rattle.pt_core.specs.Types.{type_at, field_type}
 use Rattle.half_trees.specs.Names.{local_name, global_name, function_name, field_by}
 use Rattle.half_meaning_law.specs.Relations.{Scene, is_pointer}
+pub use Rattle.pt_base.specs.Ids.{function_id, global_id, var_id as local_id}
 
 -- a type as the judgments have it
 abbrev pub type_as : VarTy → «Type»
@@ -34,12 +32,6 @@ type_as (Pointer elem fixed) = ty.Pointer elem fixed
 -- an object of this type, which isn't const
 abbrev pub object_as : VarTy → Object
 object_as t = record { ty = type_as t; fixed = false }
-
-abbrev pub local_id : ℕ → VarId
-local_id v = record { 0 = v }
-
-abbrev pub global_id : ℕ → GlobalId
-global_id g = record { 0 = g }
 
 pub record VariableKnown (s : Scene) (env : Env) (v : ℕ) : Type 0 where
   pub named : find env (local_name v) ≡ Some (Local (local_id v))
@@ -73,9 +65,6 @@ pub record Known (s : Scene) (env : Env) (structs : Structs) : Type 0 where
 abbrev pub result_as : Option IntType → «Type»
 result_as None = ty.Void
 result_as (Some t) = ty.Int t
-
-abbrev pub function_id : ℕ → FnId
-function_id f = record { 0 = f }
 
 -- a function with its place in the text, which may be called
 pub record FunctionKnown (s : Scene) (names : List (ℕ × Signature)) (env : Env) (f : ℕ) (signature : Signature) : Type 0 where

@@ -1,6 +1,6 @@
 -- How the memories and the states of the two meanings stand to each other: a half's variables have the
 -- same numbers in both, its globals and functions each their number by place.
-use Rattle.std.specs.Prelude.{◌≡◌, ◌≤◌, ℕ, Bool, true, false, List, Option, Some, None, length, map, slice_get}
+use Rattle.std.specs.Prelude.{◌≡◌, ◌≤◌, ℕ, List, Option, Some, None, length, map, slice_get}
 use Rattle.runs.specs.State.{Event, out, guarded, gives, trapped, spent}
 use Rattle.typed_tree.specs.declared.types.VarTy.{VarTy}
 use Rattle.typed_tree.specs.declared.types.VarTy.TheVariants.{Int, Struct, Array, Pointer}
@@ -16,6 +16,8 @@ use Rattle.source_meaning.specs.State.{State, Outcome}
 use Rattle.source_meaning.specs.Expressions as m
 use Rattle.pt_core.specs.Types.{Context, type_at}
 use Rattle.pt_core.specs.Statements as c
+pub use Rattle.source_meaning.specs.Memory.{depth_of}
+pub use Rattle.typed_tree.specs.TypeTests.{is_pointer}
 
 -- ---- where code runs
 
@@ -61,17 +63,6 @@ abbrev pub SameBlocks : Scene → Memory → Blocks → Type 0
 SameBlocks s memory blocks = (b : Block) → (blocks (name_of s b)).cells ≡ map (core_cell s) (memory b)
 
 -- ---- what cells hold
-
-abbrev pub is_pointer : VarTy → Bool
-is_pointer (Int t) = false
-is_pointer (Struct n) = false
-is_pointer (Array elem count) = false
-is_pointer (Pointer elem fixed) = true
-
--- the depth of the function whose variable it is; 0 of a global
-abbrev pub depth_of : Block → ℕ
-depth_of (local depth x) = depth
-depth_of (global g) = 0
 
 -- how deep the pointers may lead that an object of the type holds, where it belongs to a function of this depth;
 -- None: it holds no pointers

@@ -15,6 +15,7 @@ use Rattle.typed_tree.specs.WellFormed.{are_distinct}
 use Rattle.pt_core.specs.CodeTree.{GlobalTree, FunctionTree, ProgramTree}
 use Rattle.pt_core.specs.WellFormed.{signature_at, function_at}
 use Rattle.half_trees.specs.Names.{struct_name, field_by, function_by}
+pub use Rattle.pt_tree.specs.Signatures.{is_out as is_mutable}
 
 -- ---- names
 
@@ -29,11 +30,6 @@ abbrev pub function_names : ProgramTree → List (List ℕ)
 function_names p = map (λ s. function_by s.0 (Some s.1)) p.signatures
 
 -- ---- marks
-
--- it points to what isn't const
-abbrev pub is_mutable : ParamKind → Bool
-is_mutable (k.Int t) = false
-is_mutable (k.Ptr elem fixed) = not fixed
 
 -- a privileged function alone may be marked `declassify`, and of its parameters those that it may write through
 abbrev pub param_marked : Signature → Param → Bool

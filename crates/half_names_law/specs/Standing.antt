@@ -10,7 +10,6 @@ use Rattle.typed_tree.specs.declared.types.VarTy.{VarTy}
 use Rattle.check_statements.specs.declared.context.Context as k
 use Rattle.check_statements.specs.Outermost as o
 use Rattle.check_statements.specs.Statements.{CheckedAll, checked_all}
-use Rattle.check_programs.specs.declared.function_marks.FunctionMarks.{FunctionMarks}
 use Rattle.check_programs.specs.Functions.{Checked, Head, head_of, with_head, with_start, declared}
 use Rattle.check_programs.specs.Programs.{checked_items}
 use Rattle.check_programs.specs.Progress.{Progress, at_start}
@@ -25,11 +24,9 @@ use Rattle.half_trees.specs.Functions.{parameters_from, locals_from, head_specs,
 use Rattle.half_trees.specs.Halves.{prototype_of, half_tree}
 use Rattle.half_meaning_law.specs.Relations.{Scene}
 use Rattle.half_meaning_law.specs.CForms.{are_said}
+pub use Rattle.check_programs.specs.MarkTables.{Known as Marks}
 
 -- ---- what the items together say of a function
-
-abbrev pub Marks : Type 0
-Marks = List ℕ → FunctionMarks
 
 -- what the items of the half's own tree say
 abbrev pub own_marks : Bool → ProgramTree → Marks

@@ -1,5 +1,5 @@
 -- What a half declares outside of functions: structs, prototypes and globals.
-use Rattle.std.specs.Prelude.{ℕ, suc, ◌%◌, ◌^◌, ℤ, pos, negsuc, List, [], ◌∷◌, ◌++◌, Option, None, Some, Bool, true, false, if◌then◌else◌, codes, map, option_map}
+use Rattle.std.specs.Prelude.{ℕ, suc, ◌%◌, ◌^◌, ℤ, pos, negsuc, List, [], ◌∷◌, ◌++◌, Option, None, Some, Bool, false, if◌then◌else◌, codes, map, option_map}
 use Rattle.std.specs.List.{range_with_len}
 use Rattle.pt_base.specs.declared.int_type.IntType.{IntType}
 use Rattle.pt_base.specs.declared.int_type.IntType.TheVariants as i
@@ -28,6 +28,7 @@ use Rattle.typed_tree.specs.WellFormedExpression.{param_type}
 use Rattle.pt_core.specs.CodeTree.{GlobalTree}
 use Rattle.pt_core.specs.Types.{element_of}
 use Rattle.half_trees.specs.Names.{nowhere, word, struct_name, field_by, local_name, global_name, function_by}
+pub use Rattle.typed_tree.specs.TypeTests.{is_pointer}
 
 -- ---- types
 
@@ -77,12 +78,6 @@ const_specs fixed = if fixed then keyword nowhere w.Const ∷ [] else []
 -- what stands before the name of an object of this type, behind its marks
 abbrev pub object_specs : List StructInfo → VarTy → List SpecTree
 object_specs structs ty = const_specs (points_to_const (Some ty)) ++ elem_specs structs (element_of ty)
-
-abbrev pub is_pointer : VarTy → Bool
-is_pointer (Int t) = false
-is_pointer (Struct n) = false
-is_pointer (Array elem count) = false
-is_pointer (Pointer elem fixed) = true
 
 abbrev pub suffix_of : VarTy → Suffix
 suffix_of (Int t) = Plain

@@ -3,7 +3,6 @@ use Rattle.std.specs.Prelude.{ℕ, List, [], ◌∷◌, ◌++◌, Option, None, 
 use Rattle.std.specs.Fmt.{decimal}
 use Rattle.std.specs.List.{list_all}
 use Rattle.std.specs.Map.{lookup}
-use Rattle.pt_base.specs.declared.span.Span.{Span}
 use Rattle.pt_tree.specs.declared.signature.Signature.{Signature}
 use Rattle.pt_tree.specs.declared.word.Word.{Word}
 use Rattle.typed_tree.specs.declared.types.Field.{Field}
@@ -12,10 +11,7 @@ use Rattle.typed_tree.specs.declared.types.VarTy.{VarTy}
 use Rattle.typed_tree.specs.declared.types.VarTy.TheVariants.{Int, Struct, Array, Pointer}
 use Rattle.typed_tree.specs.Sizes.{fields_of}
 use Rattle.typed_tree.specs.WellFormedExpression.{is_main}
-
--- where all parts of a half's tree lie: it has no text yet
-abbrev pub nowhere : Span
-nowhere = record { from = 0; to = 0 }
+pub use Rattle.pt_base.specs.Spans.{nowhere}
 
 abbrev pub word : List ℕ → Word
 word bytes = record { span = nowhere; bytes = bytes }

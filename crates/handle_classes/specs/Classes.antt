@@ -2,12 +2,12 @@
 -- of the values of expressions.
 use Rattle.std.specs.Prelude.{ℕ, ◌+◌, Bool, true, false, ◌&&◌, List, [], ◌∷◌}
 use Rattle.typed_tree.specs.declared.types.VarTy.{VarTy}
-use Rattle.typed_tree.specs.declared.types.StructInfo.{StructInfo}
 use Rattle.typed_tree.specs.Sizes.{sizes_of, elem_cells, cells_by}
 use Rattle.pt_core.specs.CodeTree.{RootTree, local, global, deref, PlaceTree, place, ExprTree, constant, read, unary, binary, convert, null, address, decay, move, compare, difference, ProgramTree}
-use Rattle.pt_core.specs.Types.{Context, field_type, element_of, type_of, place_type, root_type}
-use Rattle.pt_core.specs.Values.{offset_in, is_type}
+use Rattle.pt_core.specs.Types.{Context, element_of, type_of, place_type, root_type}
+use Rattle.pt_core.specs.Values.{is_type}
 use Rattle.pt_core.specs.Calls.{context_in}
+pub use Rattle.pt_core.specs.Values.{path_offset}
 
 -- The class of an integer, of an object of integers, or of a pointer to such. By the number of a cell, in
 -- the object or in each element that is pointed to: `may` it hold a handle; `must` it be one that may,
@@ -64,11 +64,6 @@ pointed_to c = record { pointer = false; size = c.size; may = c.may; must = c.mu
 -- a handle stays one in a conversion to its own type alone
 abbrev pub converted_class : Bool → Class → Class
 converted_class same c = integer_class (same && c.may 0)
-
--- how many cells behind the beginning of an object of this type a field of a field of it begins
-abbrev pub path_offset : List StructInfo → VarTy → List ℕ → ℕ
-path_offset structs ty [] = 0
-path_offset structs ty (k ∷ ks) = offset_in structs ty k + path_offset structs (field_type structs ty k) ks
 
 -- what stands at a path in an object of this type
 abbrev pub along_class : Context → VarTy → VarTy → List ℕ → Class → Class

@@ -16,14 +16,15 @@ use Rattle.block_memory.specs.declared.cell.Pointer.TheVariants as pointer
 use Rattle.block_memory.specs.declared.cell.BlockName.{BlockName}
 use Rattle.block_memory.specs.declared.cell.BlockName.TheVariants.{Local, Global}
 use Rattle.block_memory.specs.Blocks.{Blocks}
-use Rattle.pt_core.specs.CodeTree.{FunctionTree, ProgramTree}
+use Rattle.pt_core.specs.CodeTree.{ProgramTree}
 use Rattle.pt_core.specs.Types.{Context}
 use Rattle.pt_core.specs.Values.{cell_in}
 use Rattle.pt_core.specs.Calls.{context_in}
 use Rattle.pt_core.specs.Steps.{Work, run, head, Active}
-use Rattle.pt_core.specs.WellFormed.{context_of, called_signature}
+use Rattle.pt_core.specs.WellFormed.{called_signature}
 use Rattle.core_soundness.specs.Fits.{variables_at}
 use Rattle.half_meaning_law.specs.CForms.{are_said}
+pub use Rattle.half_meaning_law.specs.CForms.{CodeIsSaid}
 
 -- ---- cells
 
@@ -77,10 +78,6 @@ PointersAreLent w program active blocks = (depth v : ℕ) (elem : Elem) → slic
     PointsToWritable w program.structs elem (cell_in blocks (record { block = Local depth v; cell = 0; ty = Pointer elem false }))
 
 -- ---- code
-
--- C can say each function of the program, in what its own numbers name
-abbrev pub CodeIsSaid : Bool → ProgramTree → Type 0
-CodeIsSaid monitor p = (n : ℕ) (f : FunctionTree) → slice_get p.functions n ≡ Some f → IsTrue (are_said (context_of p f.vars) (called_signature monitor p) f.body)
 
 -- what is left of a function's work
 abbrev pub WorkIsSaid : Context → (ℕ → Option Signature) → List Work → Type 0

@@ -16,10 +16,7 @@ use Rattle.typed_tree.specs.ExpressionTree.{ExprTree, typed, FormTree, ExprTrees
 use Rattle.typed_tree.specs.StatementTree as s
 use Rattle.typed_tree.specs.StatementTree.{BodyTree, ElseTree, no_else, otherwise, BodyTrees, no_bodies, body_and, section, SectionTrees, no_sections, section_and}
 use Rattle.typed_tree.specs.TypedTree.{FunctionTree, TypedTree}
-
--- the place of all that has none
-abbrev pub nowhere : Span
-nowhere = record { from = 0; to = 0 }
+pub use Rattle.pt_base.specs.Spans.{nowhere}
 
 abbrev mutual
   pub bare : ExprTree → ExprTree

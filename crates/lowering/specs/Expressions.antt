@@ -7,7 +7,7 @@ use Rattle.pt_base.specs.declared.int_type.IntType.TheVariants as i
 use Rattle.pt_tree.specs.declared.signature.Elem.{Elem}
 use Rattle.pt_tree.specs.declared.signature.Elem.TheVariants as e
 use Rattle.typed_tree.specs.declared.types.VarTy.{VarTy}
-use Rattle.typed_tree.specs.declared.types.VarTy.TheVariants.{Int, Struct, Array, Pointer}
+use Rattle.typed_tree.specs.declared.types.VarTy.TheVariants.{Int, Array, Pointer}
 use Rattle.typed_tree.specs.declared.types.StructInfo.{StructInfo}
 use Rattle.typed_tree.specs.declared.link.LinkStep.{LinkStep}
 use Rattle.typed_tree.specs.declared.link.LinkStep.TheVariants.{Move}
@@ -22,6 +22,7 @@ use Rattle.source_meaning.specs.Expressions.{type_or_int, type_of}
 use Rattle.lowering.specs.Lowered.{Temp, Effects, Lowered, LoweredPlace, Arguments, nothing, pure, past, temp_place, temp, hold, holding, int, followed, effects_of, held, held_if}
 use Rattle.lowering.specs.Purity.{takes_left_first, is_pure, are_pure}
 use Rattle.lowering.specs.Operators.{converted, prefixed, truth_of, stepped, stored, unit_step, unit_of}
+pub use Rattle.typed_tree.specs.WellFormedExpression.{is_struct}
 
 -- What an expression's numbers name: the structs, and the types of globals and of the function's variables.
 pub record Scope : Type 0 where
@@ -38,10 +39,6 @@ int_of _ = i.Int
 abbrev pub elem_of : VarTy → Elem
 elem_of (Pointer elem fixed) = elem
 elem_of ty = e.Int i.Int
-
-abbrev pub is_struct : Option VarTy → Bool
-is_struct (Some (Struct n)) = true
-is_struct _ = false
 
 -- ---- places
 

@@ -1,11 +1,10 @@
 -- Operators and conversions in the normal form, whose operands have their types.
-use Rattle.std.specs.Prelude.{ℕ, ℤ, pos, Bool, true, false, List, [], ◌∷◌, Option, Some, None, if◌then◌else◌}
+use Rattle.std.specs.Prelude.{ℕ, ℤ, pos, true, false, List, [], ◌∷◌, Option, Some, None, if◌then◌else◌}
 use Rattle.pt_base.specs.declared.int_type.IntType.{IntType}
 use Rattle.pt_base.specs.declared.int_type.IntType.TheVariants as i
 use Rattle.pt_base.specs.IntTypes.{promoted, usual}
 use Rattle.pt_base.specs.declared.span.Span.{Span}
-use Rattle.pt_int.specs.declared.operator.BinOp.{BinOp}
-use Rattle.pt_int.specs.declared.operator.BinOp.TheVariants.{Add, Sub, Shl, Shr, Eq, Ne}
+use Rattle.pt_int.specs.declared.operator.BinOp.TheVariants.{Eq, Ne}
 use Rattle.pt_int.specs.declared.operator.UnOp.{UnOp}
 use Rattle.pt_int.specs.declared.operator.UnOp.TheVariants as u
 use Rattle.pt_tree.specs.declared.signature.Elem.{Elem}
@@ -15,6 +14,7 @@ use Rattle.typed_tree.specs.declared.link.LinkStep.{LinkStep}
 use Rattle.typed_tree.specs.declared.link.LinkStep.TheVariants.{Arithmetic, Shift, Move, MoveBy, Difference, Compare}
 use Rattle.typed_tree.specs.TypeTests.{same_int}
 use Rattle.pt_core.specs.CodeTree.{ExprTree, constant, unary, binary, convert, null, move, compare, difference}
+pub use Rattle.source_meaning.specs.Values.{promoted_of, shift_of, unit_step}
 
 -- a number converted to the type, where it isn't of it
 abbrev pub as_int : VarTy → IntType → ExprTree → ExprTree
@@ -40,14 +40,6 @@ truth_of (Int t) a s = unary u.Not i.Int (unary u.Not t a s) s
 truth_of (Pointer elem fixed) a s = compare Ne a (null elem) s
 truth_of ty a s = a
 
-abbrev pub shift_of : Bool → BinOp
-shift_of left = if left then Shl else Shr
-
--- the promoted type of an integer (C99 6.3.1.1p2)
-abbrev pub promoted_of : VarTy → IntType
-promoted_of (Int t) = promoted t
-promoted_of ty = i.Int
-
 -- a step from the value so far, of this type, with an operand
 abbrev pub stepped : VarTy → LinkStep → ExprTree → ExprTree → Span → ExprTree
 stepped ty (Arithmetic op t) a b s = binary op t (as_int ty t a) b s
@@ -63,11 +55,6 @@ abbrev pub stored : VarTy → LinkStep → ExprTree → ExprTree
 stored (Int to) (Arithmetic op t) a = as_int (Int t) to a
 stored (Int to) (Shift left) a = as_int (Int (promoted to)) to a
 stored ty step a = a
-
--- `++` and `--` add or subtract 1 (C99 6.5.2.4, 6.5.3.1)
-abbrev pub unit_step : VarTy → Bool → LinkStep
-unit_step (Int t) back = Arithmetic (if back then Sub else Add) (usual t i.Int)
-unit_step ty back = Move back
 
 -- the 1 that is added, of the type in which it is added
 abbrev pub unit_of : VarTy → ExprTree

@@ -1,6 +1,6 @@
 -- When a memory with arguments may be sent: each value is of its type, and each handle stands where one may stand and is
 -- one of the receiver's store, for a number of that type.
-use Rattle.std.specs.Prelude.{ℤ, List, [], ◌∷◌, Bool, true, false, ◌&&◌, Option, Some, None, slice_get, nat_le}
+use Rattle.std.specs.Prelude.{List, [], ◌∷◌, Bool, true, false, ◌&&◌, slice_get, nat_le}
 use Rattle.std.specs.List.{list_all}
 use Rattle.pt_base.specs.declared.int_type.IntType.{IntType}
 use Rattle.pt_int.specs.Conversion.{is_in_range}
@@ -8,7 +8,6 @@ use Rattle.pt_tree.specs.declared.signature.Param.{Param}
 use Rattle.pt_tree.specs.declared.signature.ParamKind.{ParamKind}
 use Rattle.pt_tree.specs.declared.signature.ParamKind.TheVariants as kind
 use Rattle.typed_tree.specs.declared.types.StructInfo.{StructInfo}
-use Rattle.typed_tree.specs.TypeTests.{same_int}
 use Rattle.block_memory.specs.declared.cell.Cell.{Cell}
 use Rattle.block_memory.specs.declared.cell.Cell.TheVariants.{Int, Ptr, Sealed}
 use Rattle.block_memory.specs.declared.cell.Pointer.TheVariants.{Null, At}
@@ -20,11 +19,7 @@ use Rattle.marshalling.specs.Handles.{Entries}
 use Rattle.marshalling.specs.Leaves.{leaves_of}
 use Rattle.marshalling.specs.Packing.{names_of, packed_block}
 use Rattle.marshalling.specs.Shape.{fits_block}
-
--- the store has a number of the type
-abbrev pub is_kept : IntType → Option (IntType × ℤ) → Bool
-is_kept t None = false
-is_kept t (Some entry) = same_int t entry.0
+pub use Rattle.typed_tree.specs.TypeTests.{is_stored as is_kept}
 
 -- a number of the type, or the handle of one
 abbrev pub holds_wire : Entries → IntType → WireCell → Bool

@@ -1,7 +1,7 @@
 -- Which slave and which queue a half of code is.
 use Rattle.std.specs.Prelude.{◌≡◌, ◌<◌, ◌++◌, ℕ, Bool, true, false, [], Option}
 use Rattle.wire.specs.declared.message.Message.{Message}
-use Rattle.pair_sides.specs.Sides.{Mode, going, waits, over}
+use Rattle.pair_sides.specs.Sides.{going}
 use Rattle.pair_sides.specs.SlaveRun.{came, listed, slave_at}
 use Rattle.pair_sides.specs.Links.{Half, half}
 use Rattle.pair_meaning.specs.Pair.{the_sides}
@@ -9,6 +9,7 @@ use Rattle.pair_meaning.specs.SlaveRun as s
 use Rattle.slave_interp.specs.declared.slave.Slave.{Slave}
 use Rattle.slave_interp.specs.Slaves.{IsSlave}
 use Rattle.memory_link.specs.declared.slave_half.SlaveHalf.{SlaveHalf}
+pub use Rattle.pair_sides.specs.Sides.{is_waiting}
 
 -- where it refused a reply it is over
 abbrev pub IsHeld : Bool → Slave → s.Slave → Type 0
@@ -18,11 +19,6 @@ IsHeld true x y = (from : s.Slave) × IsSlave x from × (y ≡ record from { doi
 pub record IsHalf (x : SlaveHalf) (h : Half s.Slave Message) : Type 0 where
   pub slave : IsHeld x.refused x.slave h.slave
   pub queue : x.queue.items ≡ h.queue
-
-abbrev pub is_waiting : Mode → Bool
-is_waiting going = false
-is_waiting waits = true
-is_waiting over = false
 
 -- it goes on, nothing waits, and there is room for a message
 pub record MovesAlone (window : ℕ) (h : Half s.Slave Message) : Type 0 where

@@ -23,6 +23,8 @@ use Rattle.monitor_interp.specs.declared.worked.Worked.{Worked}
 use Rattle.monitor_interp.specs.declared.worked.Worked.TheVariants.{Gave, Stopped}
 use Rattle.monitor_interp.specs.Heard.{Heard}
 use Rattle.monitor_interp.specs.Gates.{hosts_in, is_host_in, told_of}
+pub use Rattle.gates_agree_law.specs.Written.{begun_written as at_first}
+pub use Rattle.pt_core.specs.Steps.{IsOfABody}
 
 -- ---- where both are
 
@@ -38,10 +40,6 @@ pub record IsAt (program : ProgramTree) (x : Machine) (g : Heard) (most : ℕ) (
   pub few : taken ≤ most
   pub knows : is_host_in g ≡ hosts_in program
   pub heard : told_of g ≡ w
-
--- nothing is written yet
-abbrev pub at_first : Hosts → List ℕ → Written
-at_first hosts input = record { hosts = hosts; input = input; bytes = [] }
 
 -- so they are for some program
 abbrev pub IsSomewhere : Machine → Heard → Type 0
@@ -78,15 +76,6 @@ Works program most left (r.spent st) (Gave value turns) x g = ⊥
 Works program most left (r.spent st) (Stopped at) x g = (at ≡ end.Spent) × (g.bytes ≡ written st.events)
 
 -- ---- the last step of a body
-
--- a body goes on, or it is over
-abbrev pub IsOfABody : Answer → Type 0
-IsOfABody moved = Unit {0}
-IsOfABody (asked f args depth) = ⊥
-IsOfABody (ended v) = Unit {0}
-IsOfABody (trapped trap span) = Unit {0}
-IsOfABody spent = Unit {0}
-IsOfABody idle = ⊥
 
 abbrev pub IsWorkedBy : Answer → ℕ → Worked → Type 0
 IsWorkedBy moved turns w = ⊥

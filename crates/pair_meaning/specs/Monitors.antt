@@ -10,6 +10,7 @@ use Rattle.pt_core.specs.Calls.{signature_in}
 use Rattle.pt_core.specs.WellFormed.{monitor_program}
 use Rattle.marshalling.specs.Handles.{Entries}
 use Rattle.policy.specs.Verdicts.{Standing}
+pub use Rattle.marshalling.specs.Handles.{store_types as types_in}
 
 pub record Monitor : Type 0 where
   pub program : MonitorTree
@@ -42,9 +43,6 @@ pub record Low : Type 0 where
 
 abbrev pub entries_in : MonitorTree → List (ℕ × Signature)
 entries_in p = map (λ e. (e.function.0, signature_in (monitor_program p) e.function.0)) p.entries
-
-abbrev pub types_in : Entries → List IntType
-types_in store = map (λ entry. entry.0) store
 
 -- what a slave may know
 abbrev pub low : Monitor → Low

@@ -17,12 +17,13 @@ use Rattle.wire.specs.declared.message.Message.TheVariants as message
 use Rattle.marshalling.specs.declared.fault.BadCall.{BadCall}
 use Rattle.marshalling.specs.declared.fault.BadCall.TheVariants as fault
 use Rattle.marshalling.specs.Crossings.{crossing_of}
-use Rattle.marshalling.specs.Handles.{Entries, handle_fault}
+use Rattle.marshalling.specs.Handles.{handle_fault}
 use Rattle.marshalling.specs.Replies.{Place, has_plain, places_of, result_places, types_in}
 use Rattle.marshalling.specs.Shape.{is_shaped}
 use Rattle.policy.specs.Answers.{allowed, function_of}
 use Rattle.policy.specs.Verdicts.{Standing, verdict_on}
 use Rattle.pair_meaning.specs.Monitors.{Low}
+pub use Rattle.marshalling.specs.Handles.{blank}
 
 -- The rules for what a peer says, each named for what breaks it.
 pub data PeerRule : Type 0 where
@@ -115,10 +116,6 @@ body_places structs s body = places_of (crossing_of structs s.params body.args) 
 -- the reply holds a number
 abbrev pub tells : List StructInfo → Signature → CallBody → Bool
 tells structs s body = has_plain (result_places s s.result) || has_plain (body_places structs s body)
-
--- a store of these types, whatever its values are
-abbrev pub blank : List IntType → Entries
-blank types = map (λ t. (t, pos 0)) types
 
 abbrev pub rule_of_fault : BadCall → PeerRule
 rule_of_fault fault.Shape = bad_shape

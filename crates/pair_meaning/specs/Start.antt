@@ -1,8 +1,7 @@
 -- Where both begin, of the two halves of a program.
-use Rattle.std.specs.Prelude.{ℕ, Bool, true, false, List, [], map, if◌then◌else◌}
+use Rattle.std.specs.Prelude.{ℕ, List, [], map, if◌then◌else◌}
 use Rattle.std.specs.List.{list_any}
 use Rattle.pt_tree.specs.declared.host_model.HostModel.{HostModel}
-use Rattle.pt_tree.specs.declared.host_model.HostModel.TheVariants.{Table, Feed, Input, Bytes, Line}
 use Rattle.runs.specs.State.{Hosts}
 use Rattle.block_memory.specs.Blocks.{no_blocks}
 use Rattle.policy.specs.Verdicts.{Standing}
@@ -10,15 +9,9 @@ use Rattle.pt_core.specs.CodeTree.{SlaveTree, MonitorTree, BootTree}
 use Rattle.pt_core.specs.BootLaw.{boot_with}
 use Rattle.pt_core.specs.CoreRun.{with_globals}
 use Rattle.pair_meaning.specs.Monitors.{Monitor}
+pub use Rattle.host_table.specs.HostFaults.{is_input as reads_input}
 
 -- ---- the slave's boot
-
-abbrev pub reads_input : HostModel → Bool
-reads_input (Table rows other) = false
-reads_input (Feed values other next) = false
-reads_input (Input next) = true
-reads_input Bytes = false
-reads_input (Line name) = false
 
 -- what stands for each of these hosts
 abbrev pub models_for : Hosts → List ℕ → List (ℕ × HostModel)

@@ -1,6 +1,7 @@
 -- A slave that is given a list of replies.
 use Rattle.std.specs.Prelude.{◌≤◌, ℕ, zero, suc, List, [], ◌∷◌, Option, Some, None}
 use Rattle.pair_sides.specs.Sides.{Mode, going, waits, over, Sides}
+pub use Rattle.std.specs.Option.{option_to_list as listed}
 
 -- where it is, what it said, the replies that it hasn't taken, and how many steps it made
 pub record At (S X R : Type 0) : Type 0 where
@@ -31,10 +32,6 @@ ready_in g over s rs = having s rs
 -- it takes a reply where it waits
 abbrev pub ready : {S M X R E Q : Type 0} → Sides S M X R E Q → S → List R → Ready S R
 ready g s rs = ready_in g (g.mode s) s rs
-
-abbrev pub listed : {X : Type 0} → Option X → List X
-listed None = []
-listed (Some x) = x ∷ []
 
 abbrev pub with_said : {X : Type 0} → Option X → List X → List X
 with_said None xs = xs

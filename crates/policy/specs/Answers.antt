@@ -1,18 +1,15 @@
 -- A policy where it stands, as it answers guarded calls from there on.
-use Rattle.std.specs.Prelude.{ℕ, Option, Some, None}
-use Rattle.pt_base.specs.declared.ids.FnId.{FnId}
+use Rattle.std.specs.Prelude.{Option, Some, None}
 use Rattle.runs.specs.Run.{Answers}
 use Rattle.policy.specs.Verdicts.{Standing, verdict_on, after}
 use Rattle.policy.specs.declared.verdict.Verdict.{Verdict}
 use Rattle.policy.specs.declared.verdict.Verdict.TheVariants.{Allow, Deny}
+pub use Rattle.pt_base.specs.Ids.{function_id as function_of}
 
 -- the standing after an allowed call, none after a denied one
 abbrev pub allowed : Standing → Verdict → Option Standing
 allowed s (Allow k) = Some (after s (Allow k))
 allowed s Deny = None
-
-abbrev pub function_of : ℕ → FnId
-function_of f = record { 0 = f }
 
 -- the answers, and the names of states
 abbrev pub answers_of : Standing → Answers Standing

@@ -1,15 +1,11 @@
 -- What the words of a rule are:
 --     from STATE allow FUNCTION [argI in LOW..HIGH]* [at most COUNT] to STATE
-use Rattle.std.specs.Prelude.{◌≡◌, ℕ, ℤ, ◌+◌, ◌<◌, Bool, ◌&&◌, ◌||◌, ◌==◌, nat_le, List, [], ◌∷◌, ◌++◌, length, Option, Some, None, IsTrue, codes}
+use Rattle.std.specs.Prelude.{◌≡◌, ℕ, ℤ, ◌+◌, ◌<◌, Bool, ◌&&◌, nat_le, List, [], ◌∷◌, ◌++◌, length, Option, Some, None, IsTrue, codes}
 use Rattle.std.specs.List.{list_all}
-use Rattle.std.specs.Char.{is_ascii_alphanumeric}
 use Rattle.policy.specs.Numbers.{IsBound, IsCount}
 use Rattle.policy.specs.Spelled.{SpelledRule}
 use Rattle.policy.specs.declared.argument.ArgRange.{ArgRange}
-
--- a letter, a digit or `_`
-abbrev pub is_state_byte : ℕ → Bool
-is_state_byte b = is_ascii_alphanumeric b || (b == 95)
+pub use Rattle.pt_base.specs.Names.{is_word_byte as is_state_byte}
 
 -- the name of a state: letters, digits and `_`, 1 to 64 in all
 abbrev pub is_state : List ℕ → Bool

@@ -3,15 +3,7 @@ use Rattle.std.specs.Prelude.{◌≡◌}
 use Rattle.typed_tree.specs.TypedTree.{TypedTree}
 use Rattle.flow_rules.specs.declared.accepted.Accepted.{Accepted}
 use Rattle.pt_core.specs.CodeTree.{SlaveTree, MonitorTree}
-use Rattle.lowering.specs.Functions.{functions_from}
-use Rattle.splitter.specs.Halves.{halves_of, slave_of, monitor_of}
-
--- its slave and its monitor, with the code of its lowering
-abbrev pub slave_half : TypedTree → Accepted → SlaveTree
-slave_half t a = slave_of t (halves_of a.sides) (functions_from t 0 t.functions)
-
-abbrev pub monitor_half : TypedTree → Accepted → MonitorTree
-monitor_half t a = monitor_of t (halves_of a.sides) (functions_from t 0 t.functions)
+pub use Rattle.splitter.specs.Accepted.{monitor_half, slave_half}
 
 -- these are both
 abbrev pub AreHalves : TypedTree → Accepted → SlaveTree → MonitorTree → Type 0

@@ -1,5 +1,5 @@
 -- The meaning of calls by recursion (C99 6.5.2.2), within a depth and a budget of turns.
-use Rattle.std.specs.Prelude.{ℕ, zero, suc, ◌+◌, ℤ, true, false, ◌||◌, List, [], ◌∷◌, Option, Some, None, map, if◌then◌else◌, nat_eq, unwrap_or, option_map}
+use Rattle.std.specs.Prelude.{ℕ, zero, suc, ◌+◌, ℤ, ◌||◌, List, [], ◌∷◌, Option, Some, None, map, if◌then◌else◌, nat_eq, unwrap_or, option_map}
 use Rattle.std.specs.List.{find}
 use Rattle.std.specs.Map.{lookup}
 use Rattle.pt_base.specs.declared.int_type.IntType.{IntType}
@@ -16,11 +16,9 @@ use Rattle.pt_core.specs.CodeTree.{FunctionTree, ProgramTree, no_stmts}
 use Rattle.pt_core.specs.Types.{Context, shape_of}
 use Rattle.pt_core.specs.Values.{number_in}
 use Rattle.pt_core.specs.Statements.{State, Outcome, Frame, Calls, Flow, goes_on, broke, continues, returned, with_blocks, do_all}
+pub use Rattle.pt_tree.specs.Signatures.{no_signature}
 
 -- ---- what numbers name
-
-abbrev pub no_signature : Signature
-no_signature = record { name = []; result = None; params = []; host = true; privileged = false; declassify = false }
 
 abbrev pub signature_in : ProgramTree → ℕ → Signature
 signature_in program f = unwrap_or (lookup (nat_eq f) program.signatures) no_signature

@@ -14,15 +14,13 @@ use Rattle.typed_tree.specs.TypeTests.{type_of_elem}
 use Rattle.block_memory.specs.declared.shape.BlockShape.{BlockShape}
 use Rattle.block_memory.specs.declared.shape.BlockShape.TheVariants.{OnePointer, Ints}
 use Rattle.pt_core.specs.CodeTree.{RootTree, local, global, deref, PlaceTree, place, ExprTree, constant, read, unary, binary, convert, null, address, decay, move, compare, difference}
+pub use Rattle.typed_tree.specs.Cells.{type_at}
 
 -- What code's numbers name: the structs, the globals by their numbers, and the function's variables.
 pub record Context : Type 0 where
   pub structs : List StructInfo
   pub globals : List (ℕ × VarTy)
   pub variables : List VarTy
-
-abbrev pub type_at : List VarTy → ℕ → VarTy
-type_at types n = get_or types n (Int i.Int)
 
 abbrev pub global_type : Context → ℕ → VarTy
 global_type c g = unwrap_or (lookup (nat_eq g) c.globals) (Int i.Int)

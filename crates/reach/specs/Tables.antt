@@ -1,8 +1,10 @@
 -- Sets of numbers, as code keeps them: a truth for each number.
-use Rattle.std.specs.Prelude.{ℕ, suc, List, [], ◌∷◌, Option, None, Some, Bool, true, false, if◌then◌else◌, map, slice_set}
+use Rattle.std.specs.Prelude.{ℕ, suc, List, [], ◌∷◌, Bool, true, false, if◌then◌else◌, map, slice_set}
 use Rattle.pt_base.specs.declared.ids.FnId.{FnId}
 use Rattle.pt_base.specs.declared.ids.GlobalId.{GlobalId}
 use Rattle.pt_base.specs.declared.slot.Slot.{Slot}
+pub use Rattle.pt_base.specs.Ids.{function_id, global_id}
+pub use Rattle.std.specs.Option.{option_to_list as items_of}
 
 -- the numbers of what is true, of which the first has the number k
 abbrev pub places_true : ℕ → List Bool → List ℕ
@@ -13,12 +15,6 @@ places_true k (b ∷ bs) = if b then k ∷ places_true (suc k) bs else places_tr
 abbrev pub set_all : List Bool → List ℕ → List Bool
 set_all table [] = table
 set_all table (k ∷ ks) = set_all (slice_set table k true) ks
-
-abbrev pub function_id : ℕ → FnId
-function_id k = record { 0 = k }
-
-abbrev pub global_id : ℕ → GlobalId
-global_id k = record { 0 = k }
 
 abbrev pub slot_number : ℕ → Slot
 slot_number k = record { 0 = k }
@@ -36,8 +32,3 @@ slot_numbers ks = map slot_number ks
 abbrev pub item_if : {X : Type 0} → Bool → X → List X
 item_if true x = x ∷ []
 item_if false x = []
-
--- the one item, or none
-abbrev pub items_of : {X : Type 0} → Option X → List X
-items_of None = []
-items_of (Some x) = x ∷ []

@@ -1,6 +1,5 @@
 -- How many handles a reply gives, what faults see of a store, and what a reply is made of.
-use Rattle.std.specs.Prelude.{◌≡◌, ◌≤◌, ◌+◌, ℕ, suc, ℤ, pos, List, [], ◌∷◌, map, length, true, Option, option_to_list, slice_get}
-use Rattle.pt_base.specs.declared.int_type.IntType.{IntType}
+use Rattle.std.specs.Prelude.{◌≡◌, ◌≤◌, ◌+◌, ℕ, suc, ℤ, List, [], ◌∷◌, length, true, Option, option_to_list, slice_get}
 use Rattle.pt_tree.specs.declared.signature.Param.{Param}
 use Rattle.pt_tree.specs.declared.signature.Signature.{Signature}
 use Rattle.typed_tree.specs.declared.types.StructInfo.{StructInfo}
@@ -17,6 +16,7 @@ use Rattle.marshalling.specs.Handles.{Entries, handle_fault}
 use Rattle.marshalling.specs.Packing.{names_of}
 use Rattle.marshalling.specs.Replies.{AreServed, IsResult, Place, next_after, packed_results, places_of, result_places, sent, types_in}
 use Rattle.marshalling.specs.Taking.{after_posting, after_reply, are_whole}
+pub use Rattle.marshalling.specs.Handles.{blank, store_types as types_of_store}
 
 -- ---- handles that a reply gives
 
@@ -32,13 +32,6 @@ PostingsGiveFew = (handle : ℕ) (x : Blocks) (structs : List StructInfo) (sig :
     (after_posting handle x structs sig args).next ≤ handle + 524_289
 
 -- ---- faults
-
-abbrev pub types_of_store : Entries → List IntType
-types_of_store store = map (λ entry. entry.0) store
-
--- a store with these types, and 0 for each value
-abbrev pub blank : List IntType → Entries
-blank types = map (λ t. (t, pos 0)) types
 
 -- Which handle of a body is faulty, and how, is told by the types of the store's entries.
 abbrev pub FaultsSeeTypes : Type 0

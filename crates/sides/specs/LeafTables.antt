@@ -11,6 +11,7 @@ use Rattle.sides.specs.declared.leaf_table.LeafTable.{LeafTable}
 use Rattle.sides.specs.declared.slots.Owner.{Owner}
 use Rattle.sides.specs.declared.slots.SlotInfo.{SlotInfo}
 use Rattle.sides.specs.Leaves.{Leaf, whole, leaves_after, leaf_count, field_starts}
+pub use Rattle.typed_tree.specs.Sizes.{elem_cells as elem_count}
 
 -- the leaves of the first so many structs
 abbrev pub leaves_below : List StructInfo → ℕ → List (List Leaf)
@@ -36,11 +37,6 @@ named_struct (Pointer elem fixed) = elem_struct elem
 abbrev pub named_leaves : List (List Leaf) → Option ℕ → List Leaf
 named_leaves known None = whole ∷ []
 named_leaves known (Some n) = get_or known n []
-
--- how many leaves an element has, by how many each struct has
-abbrev pub elem_count : List ℕ → Elem → ℕ
-elem_count counts (e.Int t) = 1
-elem_count counts (e.Struct n) = get_or counts n 0
 
 -- how many leaves an object has
 abbrev pub type_count : List ℕ → VarTy → ℕ

@@ -4,7 +4,6 @@ use Rattle.std.specs.List.{filter, flat_map, range_with_len}
 use Rattle.std.specs.Option.{option_map_or}
 use Rattle.pt_base.specs.declared.ids.FnId.{FnId}
 use Rattle.pt_base.specs.declared.slot.Slot.{Slot}
-use Rattle.pt_tree.specs.declared.signature.ParamKind.{ParamKind}
 use Rattle.pt_tree.specs.declared.signature.ParamKind.TheVariants as k
 use Rattle.pt_tree.specs.declared.signature.Signature.{Signature}
 use Rattle.typed_tree.specs.ExpressionTree.{ExprTree}
@@ -21,6 +20,7 @@ use Rattle.usages.specs.declared.usage.How.{How}
 use Rattle.usages.specs.Usages.{usages_in}
 use Rattle.sides.specs.Carried.{scope_of, carried}
 use Rattle.reach.specs.Contexts.{InSlave, IsOwned}
+pub use Rattle.pt_tree.specs.Signatures.{is_out}
 
 -- ---- marked slots
 
@@ -46,11 +46,6 @@ abbrev pub IsMarkedSlot : TypedTree → ℕ → Type 0
 IsMarkedSlot t s = StandsInSlave t (slot_at t s).owner × IsTrue (owner_marked t (slot_at t s).owner || (slot_at t s).marked)
 
 -- ---- what comes back from privileged functions
-
--- a parameter through which a function gives something back
-abbrev pub is_out : ParamKind → Bool
-is_out (k.Int t) = false
-is_out (k.Ptr elem fixed) = not fixed
 
 -- the function is marked `priv`, and gives something back through its parameter k
 abbrev pub gives_back : Option FunctionTree → ℕ → Bool

@@ -15,15 +15,10 @@ use Rattle.object_classes_law.specs.Cells.{leaf_under}
 use Rattle.flow_rules.specs.declared.accepted.Accepted.{Accepted}
 use Rattle.flow_rules.specs.Faults.{IsAccepted, edges_of_all, flows_of}
 use Rattle.pt_core.specs.CodeTree.{ProgramTree}
-use Rattle.pt_core.specs.WellFormed.{slave_program}
-use Rattle.lowering.specs.Functions.{functions_from}
-use Rattle.splitter.specs.Halves.{halves_of, slave_of}
 use Rattle.handle_classes.specs.Classes.{World}
 use Rattle.handle_classes.specs.Judgment.{IsFineProgram}
 use Rattle.slave_classes_law.specs.Marked.{Marks, slave_world}
-
-abbrev pub slave_half : TypedTree → Accepted → ProgramTree
-slave_half t a = slave_program (slave_of t (halves_of a.sides) (functions_from t 0 t.functions))
+pub use Rattle.splitter.specs.Accepted.{slave_code as slave_half}
 
 -- the privileged slots of an accepted program
 abbrev pub marks_of : TypedTree → Accepted → Marks

@@ -1,15 +1,15 @@
 -- The replies that a slave takes from frames.
-use Rattle.std.specs.Prelude.{ℕ, Bool, true, false, List, [], ◌∷◌, ◌++◌, Option, Some, None, if◌then◌else◌}
+use Rattle.std.specs.Prelude.{ℕ, Bool, List, [], ◌∷◌, ◌++◌, Option, Some, None, if◌then◌else◌}
 use Rattle.wire.specs.declared.message.Message.{Message}
 use Rattle.wire.specs.declared.message.Message.TheVariants as message
 use Rattle.wire.specs.declared.message.ReplyBody.{ReplyBody}
 use Rattle.wire.specs.Frames.{Ending, open_end, bad_frame_at, too_long_at}
 use Rattle.pt_core.specs.CodeTree.{BootTree}
-use Rattle.pair_sides.specs.Sides.{Mode, going, waits, over}
 use Rattle.pair_meaning.specs.SlaveRun.{Slave, longest, mode_of}
 use Rattle.pair_meaning.specs.Pair.{slave_at}
 use Rattle.pair_meaning.specs.Peer.{is_awaited}
 use Rattle.slave_runner.specs.Rules.{Stopped, has_ended, still_open, at_rule, too_long, bad_reply}
+pub use Rattle.pair_sides.specs.Sides.{is_waiting as is_wait}
 
 -- the reply that a message is
 abbrev pub reply_of : Message → Option ReplyBody
@@ -24,11 +24,6 @@ reply_of (message.Reply body) = Some body
 -- the slave of a boot with these replies, where it goes no further
 abbrev pub slave_with : BootTree → List ReplyBody → Slave
 slave_with b replies = (slave_at b replies (longest b)).slave
-
-abbrev pub is_wait : Mode → Bool
-is_wait going = false
-is_wait waits = true
-is_wait over = false
 
 abbrev pub is_waiting : Slave → Bool
 is_waiting x = is_wait (mode_of x)

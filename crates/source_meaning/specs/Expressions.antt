@@ -20,6 +20,7 @@ use Rattle.typed_tree.specs.TypeTests.{type_of_elem}
 use Rattle.source_meaning.specs.Memory.{Block, local, global, Cell, number, null, pointer, read, write, Memory}
 use Rattle.source_meaning.specs.State.{State, Outcome}
 use Rattle.source_meaning.specs.Values.{Value, holds, whole, nothing, cell_of, number_of, is_true, truth_value, converted, converted_cell, target_of, moved_cell, Location, unary_cell, stepped, unit_step}
+pub use Rattle.typed_tree.specs.Cells.{type_at}
 
 -- Where a function's code runs: at which depth it was called, and whether a privileged function is
 -- active, itself or one that called it.
@@ -49,9 +50,6 @@ or_trap s (Ok a) st = gives a st
 or_trap s (Err trap) st = trapped trap s st
 
 -- ---- objects
-
-abbrev pub type_at : List VarTy → ℕ → VarTy
-type_at types n = get_or types n (Int i.Int)
 
 -- the type of a field
 abbrev pub field_type : List StructInfo → ℕ → ℕ → VarTy

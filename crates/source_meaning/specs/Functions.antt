@@ -1,5 +1,5 @@
 -- The meaning of calls (C99 6.5.2.2), within a depth and a budget of turns.
-use Rattle.std.specs.Prelude.{ℕ, zero, suc, ◌+◌, ◌-◌, ℤ, pos, Bool, true, false, ◌||◌, List, [], Option, Some, None, map, unwrap_or, if◌then◌else◌, nat_eq}
+use Rattle.std.specs.Prelude.{ℕ, zero, suc, ◌+◌, ◌-◌, ℤ, pos, Bool, false, ◌||◌, List, [], Option, Some, None, map, unwrap_or, if◌then◌else◌, nat_eq}
 use Rattle.pt_base.specs.declared.int_type.IntType.{IntType}
 use Rattle.pt_base.specs.declared.span.Span.{Span}
 use Rattle.pt_base.specs.declared.trap.Trap.TheVariants.{Depth, NoReturn}
@@ -15,9 +15,7 @@ use Rattle.source_meaning.specs.Values as v
 use Rattle.source_meaning.specs.Values.{Value, holds, numbers_of, frame_cells}
 use Rattle.source_meaning.specs.Expressions.{Frame, Calls, sizes}
 use Rattle.source_meaning.specs.Statements.{Code, Flow, goes_on, broke, continues, returned, statement}
-
-abbrev pub no_signature : Signature
-no_signature = record { name = []; result = None; params = []; host = true; privileged = false; declassify = false }
+pub use Rattle.pt_tree.specs.Signatures.{no_signature}
 
 -- a host without parameters
 abbrev pub no_function : FunctionTree

@@ -19,6 +19,7 @@ use Rattle.source_meaning.specs.State.{State, Outcome}
 use Rattle.source_meaning.specs.Values as v
 use Rattle.source_meaning.specs.Values.{Value, number_of, is_true, cleared, Location}
 use Rattle.source_meaning.specs.Expressions.{Context, sizes, type_at, value_of, store}
+pub use Rattle.typed_tree.specs.WellFormedStatement.{section_label as label_of}
 
 -- What a function's statements run with: what its expressions are evaluated with, and the outermost
 -- expressions of the program, which statements name by number.
@@ -127,9 +128,6 @@ has_label (Default s) value = false
 abbrev pub is_default : TypedLabel → Bool
 is_default (Case s v) = false
 is_default (Default s) = true
-
-abbrev pub label_of : SectionTree → TypedLabel
-label_of (section s label statements) = label
 
 -- the first section whose label passes the test, counted from 0
 abbrev pub section_with : (TypedLabel → Bool) → SectionTrees → Option ℕ

@@ -1,10 +1,12 @@
 -- Which objects are live, and what their cells hold: numbers, but for pointer variables, which are null or
 -- point to a live object that isn't one, of their own depth or a lesser one.
-use Rattle.std.specs.Prelude.{◌≡◌, ◌≤◌, ℕ, Bool, true, false, ◌&&◌, List, [], ◌∷◌, Option, Some, None, if◌then◌else◌, nat_le, slice_get}
+use Rattle.std.specs.Prelude.{◌≡◌, ◌≤◌, ℕ, true, false, ◌&&◌, List, [], ◌∷◌, Option, Some, None, if◌then◌else◌, nat_le, slice_get}
 use Rattle.typed_tree.specs.declared.types.VarTy.{VarTy}
 use Rattle.typed_tree.specs.declared.types.VarTy.TheVariants.{Int, Struct, Array, Pointer}
 use Rattle.source_meaning.specs.Memory.{Block, local, global, Cell, number, null, pointer, Memory}
 use Rattle.source_meaning.specs.Values.{Value, holds, whole, nothing, Location}
+pub use Rattle.source_meaning.specs.Memory.{depth_of}
+pub use Rattle.typed_tree.specs.TypeTests.{is_pointer}
 
 -- The types of the globals, and of the variables of the function that is active at each depth from 1 to this
 -- one.
@@ -17,17 +19,6 @@ pub record World : Type 0 where
 abbrev pub type_in : World → Block → Option VarTy
 type_in w (local d x) = if nat_le 1 d && nat_le d w.depth then slice_get (w.frames d) x else None
 type_in w (global g) = slice_get w.globals g
-
--- at which depth it was made; a global at none
-abbrev pub depth_of : Block → ℕ
-depth_of (local d x) = d
-depth_of (global g) = 0
-
-abbrev pub is_pointer : VarTy → Bool
-is_pointer (Int t) = false
-is_pointer (Struct n) = false
-is_pointer (Array elem count) = false
-is_pointer (Pointer elem fixed) = true
 
 abbrev pub IsNumber : Cell → Type 0
 IsNumber (number v) = Unit {0}

@@ -1,7 +1,6 @@
 -- The program that declares some hosts and does nothing.
 use Rattle.std.specs.Prelude.{◌^◌, pos, List, [], ◌∷◌, ◌++◌, None, Some, Bool, false, ◌&&◌, not, nat_le, nat_lt, length, map, codes}
 use Rattle.std.specs.List.{list_all}
-use Rattle.pt_base.specs.declared.span.Span.{Span}
 use Rattle.pt_base.specs.declared.int_type.IntType.TheVariants as t
 use Rattle.pt_base.specs.Names.{is_short}
 use Rattle.pt_tree.specs.declared.signature.Param.{Param}
@@ -13,10 +12,7 @@ use Rattle.typed_tree.specs.StatementTree.{BodyTree, block, give_back, no_bodies
 use Rattle.typed_tree.specs.TypedTree.{FunctionTree, TypedTree}
 use Rattle.typed_tree.specs.WellFormedExpression.{param_type, is_main}
 use Rattle.typed_tree.specs.WellFormed.{is_integer_param, are_distinct}
-
--- the span of what stands in no text
-abbrev pub nowhere : Span
-nowhere = record { from = 0; to = 0 }
+pub use Rattle.pt_base.specs.Spans.{nowhere}
 
 -- the variable of a host's parameter, which has no name
 abbrev pub host_variable : Param → Var

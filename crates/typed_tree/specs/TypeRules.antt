@@ -4,7 +4,6 @@ use Rattle.pt_base.specs.declared.int_type.IntType.{IntType}
 use Rattle.pt_base.specs.declared.int_type.IntType.TheVariants as t
 use Rattle.pt_base.specs.IntTypes.{promoted, usual}
 use Rattle.pt_int.specs.declared.operator.BinOp.{BinOp}
-use Rattle.pt_int.specs.declared.operator.BinOp.TheVariants.{Lt, Gt, Le, Ge, Eq, Ne}
 use Rattle.pt_int.specs.declared.operator.UnOp.{UnOp}
 use Rattle.pt_int.specs.declared.operator.UnOp.TheVariants.{Minus, Plus, Flip, Not}
 use Rattle.pt_int.specs.Operator.{is_shift, binary_type}
@@ -13,16 +12,7 @@ use Rattle.typed_tree.specs.declared.link.LinkStep.TheVariants.{Arithmetic, Shif
 use Rattle.typed_tree.specs.declared.types.VarTy.{VarTy}
 use Rattle.typed_tree.specs.declared.types.VarTy.TheVariants.{Int, Struct, Array, Pointer}
 use Rattle.typed_tree.specs.TypeTests.{same_int, same_elem, same_types, both_elem, integer_of, pointee_of, is_scalar}
-
--- the operators that tell a truth
-abbrev pub is_comparison : BinOp → Bool
-is_comparison Lt = true
-is_comparison Gt = true
-is_comparison Le = true
-is_comparison Ge = true
-is_comparison Eq = true
-is_comparison Ne = true
-is_comparison _ = false
+pub use Rattle.pt_int.specs.Comparisons.{is_comparison}
 
 abbrev pub is_promoted : IntType → Bool
 is_promoted t = same_int (promoted t) t

@@ -12,6 +12,7 @@ use Rattle.wire.specs.declared.message.ReplyBody.{ReplyBody}
 use Rattle.wire.specs.declared.message.Message.{Message}
 use Rattle.wire.specs.declared.message.Message.TheVariants as message
 use Rattle.wire.specs.Spelling.{payload, spelling}
+pub use Rattle.pt_base.specs.Names.{longest_name as longest_piece}
 
 -- ---- the numbers are those of the fields' types
 
@@ -52,10 +53,6 @@ FitsTypes (message.Park turns) = turns < 2 ^ 64
 FitsTypes (message.Reply body) = FitsReply body
 
 -- ---- the limits of the format
-
--- a piece of the boot has at most as many bytes
-abbrev pub longest_piece : ℕ
-longest_piece = 1_048_576
 
 -- a call has at most as many arguments, and at most as many blocks
 abbrev pub most_in_a_call : ℕ
