@@ -4,7 +4,7 @@ use Rattle.std.specs.Cmp.{IsTotalOrder}
 use Rattle.std.specs.declared.cmp.Ordering.TheVariants.{Equal}
 use Rattle.std.specs.Ordering.{nat_cmp}
 use Rattle.std.proofs.lemmas.Cmp.{nat_cmp_total, on_total, then_total}
-use Rattle.facts.proofs.SortedLists.{both_tie, numbers_tie}
+use Rattle.pt_base.proofs.SortedLists.{both_tie, numbers_tie}
 use Rattle.flow_rules.specs.declared.fault.FlowFault.{FlowFault}
 use Rattle.flow_rules.specs.declared.rule.Rule.{Rule}
 use Rattle.flow_rules.specs.declared.rule.Rule.TheVariants.{OperationOnPriv, PrivToHost, PrivIntoUnpriv, SharedGlobal, UnmarkedOut, HostInMonitor, PrivToPlainParam, PrivStatus, PrivMain}

@@ -14,7 +14,7 @@ use Rattle.typed_tree.specs.TypedTree.{TypedTree}
 use Rattle.flow_rules.specs.declared.fault.FlowFault.{FlowFault}
 use Rattle.flow_rules.specs.Faults.{AreFaults, IsFault, ShowsWay, Tells, edges_of_all, fault_cmp, flows_of, spans_of}
 use Rattle.flow_rules.specs.Findings.{Finding, findings_of}
-use Rattle.facts.proofs.SortedLists.{ascending, ascends, from_ascending, in_ascending, in_cases, in_first, in_later, in_nothing}
+use Rattle.pt_base.proofs.SortedLists.{ascending, ascends, from_ascending, in_ascending, in_cases, in_first, in_later, in_nothing}
 use Rattle.flow_faults_law.specs.Laws.{FindingsAreTold, HasSomeFaults}
 use Rattle.flow_faults_law.proofs.FaultOrder.{fault_total, ties_tell}
 use Rattle.flow_faults_law.proofs.PrivFindings.{all_findings, priv_below}

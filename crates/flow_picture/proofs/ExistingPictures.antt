@@ -4,7 +4,7 @@ use Rattle.std.specs.Cmp.{IsTotalOrder}
 use Rattle.std.specs.List.{Contains, flat_map}
 use Rattle.std.specs.declared.cmp.Ordering.{Ordering}
 use Rattle.std.specs.declared.cmp.Ordering.TheVariants.{Equal}
-use Rattle.facts.proofs.SortedLists.{ascending, ascends, from_ascending, in_ascending}
+use Rattle.pt_base.proofs.SortedLists.{ascending, ascends, from_ascending, in_ascending}
 use Rattle.propagation.specs.Marks.{AreMarks, Shown}
 use Rattle.marks_exist_law.proofs.Marks.{marks_exist}
 use Rattle.sides.specs.declared.halves.Sides.{Sides}

@@ -10,7 +10,7 @@ use Rattle.explaining.specs.FlowBlocks.{flow_block}
 use Rattle.explaining.specs.FrontBlocks.{lex_block, parse_block, type_block}
 use Rattle.explaining.specs.Holdings.{holding}
 use Rattle.explaining.specs.Homes.{home_cmp, homes_from}
-use Rattle.facts.proofs.SortedLists.{ascending}
+use Rattle.pt_base.proofs.SortedLists.{ascending}
 use Rattle.texts_have_outcomes_law.specs.Laws.{HasTooManySlots}
 use Rattle.texts_have_outcomes_law.proofs.Checks.{checks_come}
 use Rattle.texts_have_outcomes_law.proofs.NoOutcomes.{none_come}

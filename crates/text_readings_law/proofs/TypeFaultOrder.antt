@@ -10,7 +10,7 @@ use Rattle.check_declarations.specs.declared.fault.FaultKind.TheVariants.{Unknow
 use Rattle.check_declarations.specs.declared.fault.TypeFault.{TypeFault}
 use Rattle.check_declarations.specs.Faults.{fault_cmp, fault_number, span_cmp}
 use Rattle.check_programs.specs.Answers.{AreFaults}
-use Rattle.facts.proofs.SortedLists.{ascending, ascends, both_tie, from_ascending, in_ascending, numbers_tie}
+use Rattle.pt_base.proofs.SortedLists.{ascending, ascends, both_tie, from_ascending, in_ascending, numbers_tie}
 
 fault_total : IsTotalOrder fault_cmp
 fault_total =

@@ -29,7 +29,7 @@ use Rattle.flow_rules.specs.declared.accepted.Accepted.{Accepted}
 use Rattle.flow_rules.specs.Faults.{IsAccepted, edges_of_all}
 use Rattle.flow_check.specs.Kept.{is_kept, is_slaves, owned_table, owner_in}
 use Rattle.flow_check.specs.Shown.{AreShown, IsShown, IsSlaves, name_at, shown_cmp}
-use Rattle.facts.proofs.SortedLists.{ascending, ascends, both_tie, from_ascending, in_ascending, numbers_tie}
+use Rattle.pt_base.proofs.SortedLists.{ascending, ascends, both_tie, from_ascending, in_ascending, numbers_tie}
 
 -- ---- numbers
 
