@@ -1,6 +1,6 @@
 -- A program with further arguments steps as without them.
-use Rattle.std.proofs.Common.{◌≡◌, ◌∙◌, ◌+◌, ℕ, List, [], ◌∷◌, ◌++◌, map, refl, sym, ap, subst, Bool, true, false, nat_eq, nat_lt, nat_le, ◌⊎◌, inl, inr, if◌then◌else◌, Option, Some, None, Result, Ok, Err}
-use Rattle.std.specs.Prelude.{ℤ, unwrap_or, ◌||◌}
+use Rattle.std.proofs.Common.{◌≡◌, ◌∙◌, ◌+◌, ℕ, List, [], ◌∷◌, ◌++◌, map, refl, ap, Bool, true, false, nat_eq, nat_lt, nat_le, ◌⊎◌, inl, inr, if◌then◌else◌, Option, Some, None, Result, Ok, Err}
+use Rattle.std.specs.Prelude.{unwrap_or, ◌||◌}
 use Rattle.std.proofs.lemmas.List.{append-nil}
 use Rattle.std.specs.List.{find}
 use Rattle.std.specs.Map.{lookup}
@@ -18,9 +18,9 @@ use Rattle.pt_core.specs.Types.{Context, shape_of}
 use Rattle.pt_core.specs.Values.{Stop, ◌>>?◌, holds_in, location_of, number_in, value_of, values_of}
 use Rattle.pt_core.specs.Statements.{assigned, cleared, copied, returned_value}
 use Rattle.pt_core.specs.Calls.{context_in, entered, function_in, no_function, no_signature, signature_in, with_arguments}
-use Rattle.pt_core.specs.Steps.{Active, Answer, Awaited, Gate, Machine, Step, Way, Work, act, answers, asked, at_end, at_head, at_rest, away, awaiting, begins, by_way, ended, enters, enters_at, goes_away, head, here, idle, just_entered, made, made_here, moved, on_value, past_loop, resumed, resumed_in, returned, run, settled, spent, started, step, stepped, trapped, turned, with_blocks, with_turn, working, works}
-use Rattle.added_arguments.specs.Added.{More, active_with, all_with_more, answer_with, exprs_and, extended, function_with, machine_with, signature_with, step_with, with_more, work_with}
-use Rattle.added_arguments.specs.Laws.{BeginsAdded, GatesAdd, HaveValues, OutsideIsAdded, StepsAreAdded}
+use Rattle.pt_core.specs.Steps.{Active, Awaited, Gate, Machine, Step, Way, Work, act, answers, asked, at_end, at_head, away, awaiting, begins, by_way, enters, enters_at, goes_away, head, here, made, made_here, moved, on_value, past_loop, resumed, resumed_in, returned, run, settled, spent, started, stepped, trapped, turned, with_blocks, with_turn, working, works}
+use Rattle.added_arguments.specs.Added.{More, active_with, all_with_more, exprs_and, extended, function_with, machine_with, signature_with, step_with, with_more, work_with}
+use Rattle.added_arguments.specs.Laws.{GatesAdd, HaveValues, OutsideIsAdded, StepsAreAdded}
 
 -- ---- what numbers name
 

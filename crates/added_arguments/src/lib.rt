@@ -3,6 +3,7 @@
 #![tactic(auto)]
 
 ghost use Rattle.added_arguments.specs.Laws.{OutsideIsAdded, StepsAreAdded};
+ghost use Rattle.added_arguments.specs.Pointers.{PointersHaveValues};
 
 /// A program with further arguments steps as without them.
 pub fn added_steps<G>()
@@ -12,4 +13,9 @@ pub fn added_steps<G>()
 /// It begins and goes on as without them.
 pub fn added_outside()
     ensures { OutsideIsAdded }
+{}
+
+/// Pointers to globals have the same values, whatever the memory is.
+pub fn pointers_have_values()
+    ensures { PointersHaveValues }
 {}

@@ -2,18 +2,21 @@
 use Rattle.std.proofs.Common.{◌≡◌, ◌∙◌, ℕ, suc, List, [], ◌∷◌, ◌++◌, map, refl, ap, Bool, true, false, ◌&&◌, ◌||◌, Option, Some, None, Result, Ok, Err}
 use Rattle.std.specs.Prelude.{not}
 use Rattle.pt_tree.specs.declared.signature.Param.{Param}
+use Rattle.typed_tree.specs.declared.types.VarTy.{VarTy}
+use Rattle.typed_tree.specs.declared.types.VarTy.TheVariants.{Int, Struct, Array, Pointer}
 use Rattle.block_memory.specs.declared.cell.Cell.{Cell}
 use Rattle.block_memory.specs.Blocks.{Blocks}
 use Rattle.pt_core.specs.CodeTree.{ExprTree, ExprTrees, no_exprs, expr_and, expr_trees, StmtTree, clear, check, assign, copy, call, choose, repeat, break_out, continue_on, give_back, no_stmts, stmt_and, ProgramTree}
-use Rattle.pt_core.specs.Types.{Context}
+use Rattle.pt_core.specs.Types.{Context, global_type}
 use Rattle.pt_core.specs.Values.{Stop, value_of, values_of}
 use Rattle.pt_core.specs.Calls.{context_in}
-use Rattle.pt_core.specs.Steps.{Active, Gate, Machine, Way, Work, away, enters, head, here, run, settled}
+use Rattle.pt_core.specs.Steps.{Active, Gate, Way, Work, away, enters, head, here, run, settled}
 use Rattle.handle_classes.specs.Computes.{computes, computes_call, computes_in, computes_return, computes_status, computes_work, has_handle, has_unmarked, if_given, is_sealed, meet_any, meets}
 use Rattle.added_arguments.specs.Added.{More, active_with, exprs_and, extended, with_more, work_with}
 use Rattle.added_arguments.specs.Laws.{GatesAdd, HaveValues}
 use Rattle.added_arguments.proofs.Steps.{context_is, settled_with, values_with, with_cells}
-use Rattle.parts_step_law.specs.Added.{AddedComputeAlike, ArePlain}
+use Rattle.added_arguments.specs.Pointers.{pointed, pointed_by, pointer_by, pointer_to}
+use Rattle.parts_step_law.specs.Added.{AddedComputeAlike, ArePlain, PointersArePlain}
 
 -- ---- handles among arguments
 
@@ -91,3 +94,28 @@ module _ {G : Type 0} (marked : ℕ → ℕ → Bool) (more : More) (params : �
 
 pub added_compute_alike : {G : Type 0} → AddedComputeAlike G
 added_compute_alike {G} marked more params cells p plain added m g values gates no_handles = in_alike marked more params cells p plain added values gates no_handles g m.active m.blocks
+
+-- ---- pointers to globals
+
+pub pointers_are_plain : PointersArePlain
+pointers_are_plain p globals = record { unmet = λ n depth f blocks. unmet n depth blocks (globals f); plain = λ f. plain (globals f) }
+  where
+    unmet_by : (c : Context) (depth g : ℕ) (blocks : Blocks) (t : VarTy) → meets c depth (pointer_by t g) blocks ≡ false
+    unmet_by c depth g blocks (Int t) = refl
+    unmet_by c depth g blocks (Struct n) = refl
+    unmet_by c depth g blocks (Array elem count) = refl
+    unmet_by c depth g blocks (Pointer elem fixed) = refl
+
+    plain_by : (t : VarTy) (g : ℕ) → is_sealed (pointed_by t g) ≡ false
+    plain_by (Int t) g = refl
+    plain_by (Struct n) g = refl
+    plain_by (Array elem count) g = refl
+    plain_by (Pointer elem fixed) g = refl
+
+    unmet : (n depth : ℕ) (blocks : Blocks) (gs : List ℕ) → meet_any (context_in p n) depth (expr_trees (map (pointer_to p) gs)) blocks ≡ false
+    unmet n depth blocks [] = refl
+    unmet n depth blocks (g ∷ gs) = ap (λ b. b || meet_any (context_in p n) depth (expr_trees (map (pointer_to p) gs)) blocks) (unmet_by (context_in p n) depth g blocks (global_type (context_in p 0) g)) ∙ unmet n depth blocks gs
+
+    plain : (gs : List ℕ) → has_handle (map (pointed p) gs) ≡ false
+    plain [] = refl
+    plain (g ∷ gs) = ap (λ b. b || has_handle (map (pointed p) gs)) (plain_by (global_type (context_in p 0) g) g) ∙ plain gs

@@ -3,7 +3,7 @@
 //! others took. A program whose calls have further arguments computes with handles where it does without them.
 #![tactic(auto)]
 
-ghost use Rattle.parts_step_law.specs.Added.{AddedComputeAlike};
+ghost use Rattle.parts_step_law.specs.Added.{AddedComputeAlike, PointersArePlain};
 ghost use Rattle.parts_step_law.specs.Instances.{BodiesStand, SlavesStand};
 ghost use Rattle.parts_step_law.specs.Laws.{PartsStand, PartsStep};
 ghost use Rattle.parts_step_law.specs.Outward.{PartsLead};
@@ -32,6 +32,11 @@ pub fn parts_lead<H, G>()
 /// With further arguments of calls a step computes with a handle where it does without them.
 pub fn added_compute_alike<G>()
     ensures { AddedComputeAlike G }
+{}
+
+/// Pointers to globals are no handles, and meet none.
+pub fn pointers_are_plain()
+    ensures { PointersArePlain }
 {}
 
 /// A slave's machine that fits by a store is shown in the whole's.
