@@ -12,7 +12,7 @@ use Rattle.c_printer.specs.Items.{item_words}
 use Rattle.c_printer.specs.Plain.{item_plain}
 use Rattle.c_printer.specs.Unplaced as u
 use Rattle.c_printer.specs.ReadsBack.{PrintedReadsBack}
-use Rattle.c_printer_lexing_law.specs.Law.{LaidLexes}
+use Rattle.c_printer_law.specs.LexingLaw.{LaidLexes}
 use Rattle.c_printer_law.specs.Laws.{DerivesAgain}
 use Rattle.c_printer_law.proofs.AllKinds.{of_both}
 use Rattle.c_printer_law.proofs.Classes.{begins_spec}

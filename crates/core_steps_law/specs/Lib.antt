@@ -1,3 +1,14 @@
 pub mod Laws
 pub mod Silent
 pub mod WholeRun
+pub mod GatesLaws
+pub mod GatesShown
+pub mod GatesWritten
+pub mod MachinesBodies
+pub mod MachinesBounded
+pub mod MachinesJudged
+pub mod MachinesJudgedLaws
+pub mod MachinesRoom
+pub mod ArgumentsAdded
+pub mod ArgumentsLaws
+pub mod ArgumentsPointers

@@ -1,8 +1,23 @@
-//! The single steps of the normal form follow its meaning by recursion.
+//! The single steps of the normal form follow its meaning by recursion. And of any number of steps: gates of which one
+//! shows the other step alike; how many steps there can be under any gate, what a function comes to that is started in
+//! a machine at rest, and a run that a policy judges as it goes. And a program whose calls have further arguments steps
+//! as it does without them.
 #![tactic(auto)]
+
+mod arguments;
+mod gates;
+mod machines;
 
 ghost use Rattle.core_steps_law.specs.Laws.{StepsAreTheRun, OnlyTheRunIsSeen, StepsFollowStatements, StepsTakeATurn, StepsAdd};
 ghost use Rattle.core_steps_law.specs.Silent.{SilentRunsAgree};
+
+pub use arguments::{added_outside, added_steps, pointers_have_values};
+pub use gates::{bytes_are_the_runs, gates_agree};
+pub use machines::{
+    bodies_are_steps, folds_are_expected, judged_runs, one_stop, refusals_stay,
+    refused_runs_are_expected, runs_are_bounded, runs_are_judged, runs_are_seen, steps_are_bounded,
+    steps_use_room, stops_begin,
+};
 
 /// The steps of a whole program come to the run that the recursion gives, with its events, its end
 /// and its turns, and no smaller number of steps ends it.

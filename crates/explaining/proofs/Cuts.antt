@@ -7,7 +7,7 @@ use Rattle.c_lexer.specs.declared.error.LexFaultKind.TheVariants.{TooLong}
 use Rattle.c_lexer.specs.Lexes.{IsLexFault}
 use Rattle.flow_check.specs.Checked.{IsRefused, Refusal, lex, parse, types, flow, refused}
 use Rattle.flow_check.proofs.Cuts.{cut_whole}
-use Rattle.fault_lines.specs.FaultLines.{lex_line}
+use Rattle.front_end.specs.FaultLines.{lex_line}
 use Rattle.source_places.specs.Heads.{head_of}
 use Rattle.source_places.specs.Places.{behind_feed, feeds_in}
 use Rattle.explaining.specs.Explains.{AreBlocks, Explains, IsHeld}

@@ -12,7 +12,7 @@ use Rattle.front_end.specs.declared.parse_fault.ParseFault.{ParseFault}
 use Rattle.check_declarations.specs.declared.fault.FaultKind.{FaultKind}
 use Rattle.check_declarations.specs.declared.fault.FaultKind.TheVariants.{UnknownName, Redeclared, NotLvalue, WrongType, ArgCount, ConstWrite, OutOfProfile, NoMain, TooLarge, BadAttribute}
 use Rattle.check_declarations.specs.declared.fault.TypeFault.{TypeFault}
-use Rattle.fault_lines.specs.FaultLines.{lex_line, parse_line, type_line}
+use Rattle.front_end.specs.FaultLines.{lex_line, parse_line, type_line}
 use Rattle.source_places.specs.Excerpts.{excerpt}
 use Rattle.source_places.specs.Heads.{head}
 use Rattle.explaining.specs.Sentences.{lex_sentence, parse_sentence, type_sentence}

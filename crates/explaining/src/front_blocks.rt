@@ -1,7 +1,7 @@
 // The blocks that explain faults of lexer, parser and types.
 ghost use Rattle.std.specs.Prelude.{◌≡◌, ◌++◌, IfOk, OnOk, Some, codes, length, ltb, slice_index_or};
 ghost use Rattle.std.specs.List.{flat_map};
-ghost use Rattle.fault_lines.specs.FaultLines as lines_are;
+ghost use Rattle.front_end.specs.FaultLines as lines_are;
 ghost use Rattle.source_places.specs.LinesSeen.{text_of};
 ghost use Rattle.explaining.specs.FrontBlocks as is;
 
@@ -9,9 +9,8 @@ use crate::sentences::{lex_sentence, parse_sentence, type_sentence};
 use crate::spans::push_span_excerpt;
 use c_lexer::{LexFault, LexFaultKind};
 use check_declarations::{FaultKind, TypeFault};
-use fault_lines::{push_numbered, push_span};
 use flow_check::room_for;
-use front_end::{FrontError, ParseFault};
+use front_end::{FrontError, ParseFault, push_numbered, push_span};
 use pt_base::Span;
 use source_places::{Lines, push_number};
 use std::alloc::{AllocError, Global};

@@ -5,7 +5,7 @@ use Rattle.std.proofs.lemmas.List.Folds.{flat_map-map}
 use Rattle.front_end.specs.declared.error.FrontError.{FrontError}
 use Rattle.front_end.specs.declared.error.FrontError.TheVariants.{Lex, Parse, Types, Memory}
 use Rattle.front_end.specs.Reading.{HasTypedTree, Reads}
-use Rattle.fault_lines.specs.FrontLines.{front_lines}
+use Rattle.front_end.specs.FrontLines.{front_lines}
 use Rattle.sides.specs.declared.slots.SlotInfo.{SlotInfo}
 use Rattle.sides.specs.Slots.{slots_of}
 use Rattle.typed_tree.specs.TypedTree.{TypedTree}

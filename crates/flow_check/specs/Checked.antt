@@ -5,7 +5,7 @@ use Rattle.c_lexer.specs.declared.error.LexFault.{LexFault}
 use Rattle.check_declarations.specs.declared.fault.TypeFault.{TypeFault}
 use Rattle.front_end.specs.declared.parse_fault.ParseFault.{ParseFault}
 use Rattle.front_end.specs.Reading.{HasTypedTree, ComesTo as ReadsAs, lex_fault, parse_fault, type_faults_of}
-use Rattle.fault_lines.specs.FaultLines.{lex_line, parse_line, type_lines}
+use Rattle.front_end.specs.FaultLines.{lex_line, parse_line, type_lines}
 use Rattle.propagation.specs.Marks as marking
 use Rattle.propagation.specs.Marks.{AreMarks}
 use Rattle.sides.specs.declared.halves.Sides.{Sides}

@@ -1,7 +1,7 @@
 -- The lines that report the faults of flows.
 use Rattle.std.specs.Prelude.{ℕ, List, [], ◌∷◌, ◌++◌, Bool, true, false, codes, if◌then◌else◌}
 use Rattle.pt_base.specs.declared.span.Span.{Span}
-use Rattle.fault_lines.specs.FaultLines.{numbered, place_text}
+use Rattle.front_end.specs.FaultLines.{numbered, place_text}
 use Rattle.flow_rules.specs.declared.fault.FlowFault.{FlowFault}
 use Rattle.flow_rules.specs.declared.rule.Rule.{Rule}
 use Rattle.flow_rules.specs.declared.rule.Rule.TheVariants.{OperationOnPriv, PrivToHost, PrivIntoUnpriv, SharedGlobal, UnmarkedOut, HostInMonitor, PrivToPlainParam, PrivStatus, PrivMain}

@@ -1,6 +1,6 @@
 -- What is seen of `check` with a given text: out's bytes, the report and the status, whole.
 use Rattle.std.specs.Prelude.{◌≡◌, ℕ, List, codes}
-use Rattle.fault_lines.specs.Seen.{Seen, faulty}
+use Rattle.front_end.specs.FaultLinesSeen.{Seen, faulty}
 use Rattle.flow_check.specs.Checked.{Outcome, refused, checked, ComesTo, lines_of}
 
 -- of what a text comes to

@@ -2,7 +2,7 @@
 -- variable is declared.
 use Rattle.std.specs.Prelude.{ℕ, List, [], ◌∷◌, ◌++◌, Option, codes, option_and_then, slice_get}
 use Rattle.std.specs.Option.{option_map_or}
-use Rattle.fault_lines.specs.FaultLines.{place_text}
+use Rattle.front_end.specs.FaultLines.{place_text}
 use Rattle.pt_base.specs.declared.span.Span.{Span}
 use Rattle.sides.specs.declared.slots.SlotInfo.{SlotInfo}
 use Rattle.sides.specs.LeafTables.{named_struct}

@@ -1,11 +1,11 @@
 // The lines of the faults of flows.
 ghost use Rattle.std.specs.Prelude.{◌≡◌, ◌++◌, IfOk, OnOk, codes};
-ghost use Rattle.fault_lines.specs.FaultLines.{place_text};
+ghost use Rattle.front_end.specs.FaultLines.{place_text};
 ghost use Rattle.flow_check.specs.FlowLines as is;
 
 use crate::room::room_for;
-use fault_lines::{push_numbered, push_span};
 use flow_rules::{FlowFault, Rule};
+use front_end::{push_numbered, push_span};
 use pt_base::Span;
 use std::alloc::{AllocError, Global};
 

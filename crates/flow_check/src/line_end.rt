@@ -2,7 +2,7 @@
 ghost use Rattle.std.specs.Prelude.{◌≡◌, ◌++◌, IfOk, OnOk};
 ghost use Rattle.flow_check.specs.SlotLines.{end_text};
 
-use fault_lines::push_span;
+use front_end::push_span;
 use pt_base::Span;
 use std::alloc::{AllocError, Global};
 

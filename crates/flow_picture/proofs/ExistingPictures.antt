@@ -6,11 +6,11 @@ use Rattle.std.specs.declared.cmp.Ordering.{Ordering}
 use Rattle.std.specs.declared.cmp.Ordering.TheVariants.{Equal}
 use Rattle.pt_base.proofs.SortedLists.{ascending, ascends, from_ascending, in_ascending}
 use Rattle.propagation.specs.Marks.{AreMarks, Shown}
-use Rattle.marks_exist_law.proofs.Marks.{marks_exist}
+use Rattle.flow_law.proofs.MarkLemmas.{marks_exist}
 use Rattle.sides.specs.declared.halves.Sides.{Sides}
 use Rattle.sides.specs.Placed.{AreSides}
 use Rattle.sides.specs.Slots.{slots_of}
-use Rattle.sides_exist_law.proofs.AllSides.{sides_exist}
+use Rattle.flow_law.proofs.SlotsAllSides.{sides_exist}
 use Rattle.typed_tree.specs.TypedTree.{TypedTree}
 use Rattle.flow_rules.specs.declared.fault.FlowFault.{FlowFault}
 use Rattle.flow_rules.specs.Faults.{edges_of_all}

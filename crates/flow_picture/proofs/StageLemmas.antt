@@ -9,7 +9,7 @@ use Rattle.typed_tree.specs.TypedTree.{TypedTree}
 use Rattle.front_end.specs.declared.error.FrontError.{FrontError}
 use Rattle.front_end.specs.declared.error.FrontError.TheVariants.{Lex, Parse, Types, Memory}
 use Rattle.front_end.specs.Reading.{Reads}
-use Rattle.fault_lines.specs.FrontLines.{front_lines}
+use Rattle.front_end.specs.FrontLines.{front_lines}
 use Rattle.flow_rules.specs.declared.accepted.Accepted.{Accepted}
 use Rattle.flow_rules.specs.declared.fault.FlowError.{FlowError}
 use Rattle.flow_rules.specs.declared.fault.FlowError.TheVariants as flow_error

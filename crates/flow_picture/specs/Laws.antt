@@ -3,7 +3,7 @@ use Rattle.std.specs.Prelude.{◌<◌, ◌≤◌, ◌↔◌, ℕ, List, length, 
 use Rattle.std.specs.List.{Contains}
 use Rattle.typed_tree.specs.TypedTree.{TypedTree}
 use Rattle.typed_tree.specs.WellFormed.{is_well_formed}
-use Rattle.sides_exist_law.specs.Laws.{HasFewSlots}
+use Rattle.flow_law.specs.SlotsLaws.{HasFewSlots}
 use Rattle.flow_rules.specs.declared.fault.FlowFault.{FlowFault}
 use Rattle.flow_picture.specs.declared.node.Node.{Node}
 use Rattle.flow_picture.specs.Objects.{HoldsSecret, IsObject, shown_of}

@@ -15,11 +15,11 @@ use Rattle.check_declarations.specs.declared.structs.StructEntry.{StructEntry}
 use Rattle.check_declarations.specs.Structs.{Structs}
 use Rattle.check_expressions.specs.StructInfos.{field_info, infos_of}
 use Rattle.check_statements.specs.Leaves.{leaves_of}
-use Rattle.check_declarations_law.specs.Types.{is_plain}
-use Rattle.check_declarations_law.specs.Sound.{SoundStructs}
+use Rattle.type_law.specs.DeclarationsTypes.{is_plain}
+use Rattle.type_law.specs.DeclarationsSound.{SoundStructs}
 use Rattle.check_declarations.specs.Cells.{cells_of}
-use Rattle.check_declarations_law.proofs.SizeLemmas.{sizes_are_sound}
-use Rattle.check_declarations_law.proofs.LeavesLemmas.{leaves_are_sound}
+use Rattle.type_law.proofs.DeclarationsSizeLemmas.{sizes_are_sound}
+use Rattle.type_law.proofs.DeclarationsLeavesLemmas.{leaves_are_sound}
 use Rattle.half_trees.specs.Names.{nowhere}
 use Rattle.half_meaning_law.specs.Known.{type_as}
 use Rattle.half_names_law.proofs.Tables.{listed}

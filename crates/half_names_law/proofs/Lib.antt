@@ -26,3 +26,16 @@ pub mod Marks
 pub mod Law
 mod Worked
 pub mod Trees
+pub mod SaidLemmas
+pub mod SaidOperators
+pub mod SaidPlaces
+pub mod SaidForms
+pub mod SaidExpressions
+pub mod SaidStatements
+pub mod SaidPrograms
+pub mod SaidConversions
+pub mod SaidChains
+pub mod SaidJudged
+pub mod SaidJudgments
+pub mod SaidChecked
+pub mod SaidCheckedCode

@@ -22,7 +22,7 @@ use Rattle.check_declarations.specs.declared.objects.ObjectKind.TheVariants as k
 use Rattle.check_declarations.specs.Cells.{cells_of}
 use Rattle.check_declarations.specs.Structs.{Structs}
 use Rattle.check_programs.specs.declared.function_marks.FunctionMarks.{FunctionMarks}
-use Rattle.core_soundness.proofs.Leaves.{got_below}
+use Rattle.core_soundness_law.proofs.Leaves.{got_below}
 use Rattle.pt_core.specs.CodeTree.{GlobalTree, FunctionTree, ProgramTree}
 use Rattle.pt_core.specs.WellFormed.{global_fits, variable_fits, param_fits, signature_fits, function_at, with_own}
 use Rattle.half_trees.specs.Names.{struct_name, field_by}

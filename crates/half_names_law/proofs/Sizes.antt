@@ -17,7 +17,7 @@ use Rattle.typed_tree.specs.TypeTests.{type_of_elem}
 use Rattle.typed_tree.specs.WellFormed.{is_plain_type, is_small, field_sound, structs_sound}
 use Rattle.typed_tree.specs.WellFormedExpression.{is_elem}
 use Rattle.typed_tree.proofs.LeavesLemmas.{leaves_of_int, leaves_of_array}
-use Rattle.core_soundness.proofs.Leaves.{struct_leaf}
+use Rattle.core_soundness_law.proofs.Leaves.{struct_leaf}
 use Rattle.check_declarations.specs.Cells.{counted, cells_of, cells_of_elem}
 use Rattle.check_declarations.specs.NameTables.{values}
 use Rattle.check_declarations.specs.Structs.{Structs}

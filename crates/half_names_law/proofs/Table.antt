@@ -21,14 +21,14 @@ use Rattle.check_declarations.specs.declared.structs.StructEntry.{StructEntry}
 use Rattle.check_declarations.specs.Cells.{cells_of, cells_of_elem, object_limit}
 use Rattle.check_declarations.specs.NameTables.{number_of, is_new, values}
 use Rattle.check_declarations.specs.Structs.{Structs, struct_of, has_const_field, has_const_part, has_const}
-use Rattle.check_declarations_law.specs.Types.{is_plain}
-use Rattle.check_declarations_law.specs.Sound as law
-use Rattle.check_declarations_law.specs.Sound.{SoundStructs}
-use Rattle.check_declarations_law.proofs.TableLemmas.{elem_cells_before, sound_push}
+use Rattle.type_law.specs.DeclarationsTypes.{is_plain}
+use Rattle.type_law.specs.DeclarationsSound as law
+use Rattle.type_law.specs.DeclarationsSound.{SoundStructs}
+use Rattle.type_law.proofs.DeclarationsTableLemmas.{elem_cells_before, sound_push}
 use Rattle.check_programs.specs.Functions.{Checked}
 use Rattle.check_programs.specs.Programs.{checked_items}
 use Rattle.check_programs.specs.Progress.{Progress}
-use Rattle.core_soundness.proofs.Leaves.{sound_at, got_below}
+use Rattle.core_soundness_law.proofs.Leaves.{sound_at, got_below}
 use Rattle.pt_core.specs.Types.{element_of}
 use Rattle.half_trees.specs.Names.{struct_name, field_by}
 use Rattle.half_trees.specs.Declarations.{is_pointer, struct_item}

@@ -1,11 +1,18 @@
 //! The names in a half's text are known where its statements stand: the type judgments make of the half's own
-//! declarations just what its numbers name, without a fault. So the statements of each function, judged there,
-//! mean what the half's do. One rule of the judgments is set aside for this: they take a function that is only
-//! declared for a host, which has no pointers (`Standing.antt`); where no such function takes pointers, all holds
-//! with that rule too.
+//! declarations just what its numbers name, without a fault. So the statements of each function, judged there, mean
+//! what the half's do. One rule of the judgments is set aside for this: they take a function that is only declared for
+//! a host, which has no pointers (`Standing.antt`); where no such function takes pointers, all holds with that rule
+//! too. And C can say the code of the lowering.
 #![tactic(auto)]
 
+mod said;
+
 ghost use Rattle.half_names_law.specs.Laws.{HalfBodiesStand, HalfNamesAreKnown, HalvesHaveNoFault, HalvesKeepTheirMeaning, OwnNamesAreKnown, SlavesHaveNoTypeFault};
+
+pub use said::{
+    checked_functions_are_said, checked_programs_place_nulls, lowered_functions_are_said,
+    lowered_programs_are_said,
+};
 
 /// At each function with a body all names are known, where each function counts as one that has a body.
 pub fn half_names_are_known()

@@ -20,7 +20,7 @@ use Rattle.typed_tree.specs.WellFormedExpression.{is_elem}
 use Rattle.typed_tree.proofs.LeavesLemmas.{leaves_of_int, leaves_of_array}
 use Rattle.pt_core.specs.CodeTree.{RootTree, local, global, deref, PlaceTree, place, ExprTree, constant, read, unary, binary, convert, null, address, decay, move, compare, difference}
 use Rattle.pt_core.specs.Types.{Context, type_at, field_type, path_type, pointee_type, type_of, place_type, root_type}
-use Rattle.core_soundness.proofs.Leaves.{struct_leaf}
+use Rattle.core_soundness_law.proofs.Leaves.{struct_leaf}
 use Rattle.half_trees_law.proofs.Tests.{both, all_got}
 
 -- as many elements as an object may have cells

@@ -2,9 +2,9 @@
 use Rattle.std.proofs.Common.{◌≡◌, ◌∙◌, ap, sym, subst, ℕ, List}
 use Rattle.typed_tree.specs.TypedTree.{TypedTree}
 use Rattle.front_end.specs.Reading.{HasTypedTree, ReadingIsOne, typed_tree}
-use Rattle.boots_tell_law.specs.SameForSlave.{IsSameForSlave}
-use Rattle.boots_tell_law.specs.BareBoots.{bare_boot}
-use Rattle.boots_tell_law.specs.Laws.{BootsTellNothingPrivileged, BootsTellOnlyPlaces, ProgramsAreTheSameAsThemselves}
+use Rattle.low_views_law.specs.ToldBootsSameForSlave.{IsSameForSlave}
+use Rattle.low_views_law.specs.ToldBootsBareBoots.{bare_boot}
+use Rattle.low_views_law.specs.ToldBootsLaws.{BootsTellNothingPrivileged, BootsTellOnlyPlaces, ProgramsAreTheSameAsThemselves}
 use Rattle.hidden_laws.specs.BegunBootsLaws.{BegunBootsTellNothingPrivileged, BegunBootsTellOnlyPlaces, BegunBootsTellOwnHostsAlone}
 
 pub boots_same : BootsTellNothingPrivileged → BegunBootsTellNothingPrivileged

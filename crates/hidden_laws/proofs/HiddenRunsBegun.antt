@@ -10,11 +10,11 @@ use Rattle.pt_core.specs.CodeTree.{BootTree, MonitorTree}
 use Rattle.pt_core.specs.Calls.{signature_in}
 use Rattle.pt_core.specs.WellFormed.{is_well_formed_monitor, monitor_program}
 use Rattle.program_halves.specs.ProgramHalves.{monitor_half}
-use Rattle.monitor_gates_law.proofs.Models.{called_signed}
+use Rattle.pair_invariant_law.proofs.MonitorGatesModels.{called_signed}
 use Rattle.pair_meaning.specs.Monitors.{Monitor}
-use Rattle.serving_soundness_law.specs.Laws.{MonitorsBeginSound}
-use Rattle.serving_soundness_law.specs.Sound.{HostsServe, IsSound}
-use Rattle.serving_soundness_law.proofs.Entries.{facts_of_entry, sound_of}
+use Rattle.monitor_soundness_law.specs.ServingLaws.{MonitorsBeginSound}
+use Rattle.monitor_soundness_law.specs.ServingSound.{HostsServe, IsSound}
+use Rattle.monitor_soundness_law.proofs.ServingEntries.{facts_of_entry, sound_of}
 use Rattle.pair_texts.specs.OutcomeSeen.{HaveBegun}
 use Rattle.pair_texts.specs.Start.{Texts}
 use Rattle.pair_laws.specs.BegunPairsLaws.{BegunMonitorsAreWellFormed, BegunMonitorsHostsServe, HostsAre, with_hosts}

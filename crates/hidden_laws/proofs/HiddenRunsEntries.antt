@@ -12,7 +12,7 @@ use Rattle.pt_core.specs.declared.monitor.Entry.{Entry}
 use Rattle.pt_core.specs.Calls.{no_signature, signature_in}
 use Rattle.pt_core.specs.WellFormed.{monitor_program}
 use Rattle.lowering.specs.Functions.{functions_from, signatures_from}
-use Rattle.lowered_forms_law.proofs.Lists.{found_signature}
+use Rattle.lowered_code_law.proofs.FormsLists.{found_signature}
 use Rattle.splitter.specs.Halves.{Halves, asked, called_by, entry_numbers, entry_of, is_among, is_entry, monitor_code, monitor_entries, monitor_of, slave_of}
 use Rattle.splitter.proofs.SetLemmas.{among_from, among_has}
 use Rattle.split_law.proofs.Chosen.{chosen_lookup}

@@ -5,7 +5,7 @@ use Rattle.wire.specs.declared.message.Message.{Message}
 use Rattle.wire.specs.Frames.{BeginsBad, BeginsTooLong, Ending, IsStream, Stops, bad_frame_at, open_end, too_long_at}
 use Rattle.wire.specs.Spelling.{four_bytes, spelling}
 use Rattle.wire.proofs.StreamLaws.{streams_once}
-use Rattle.pair_sides.specs.SlaveRun.{listed}
+use Rattle.pair_protocol.specs.SlaveRun.{listed}
 use Rattle.pair_meaning.specs.Monitors.{Monitor}
 use Rattle.pair_meaning.specs.Peer.{boot_frames}
 use Rattle.pair_meaning.specs.Streams.{still_open, Talk, serve_frames}

@@ -4,9 +4,9 @@ use Rattle.pt_core.specs.CodeTree.{BootTree}
 use Rattle.pair_meaning.specs.Monitors.{Monitor}
 use Rattle.pair_texts.specs.OutcomeSeen.{HaveBegun}
 use Rattle.pair_texts.specs.Start.{Texts}
-use Rattle.lowered_places_law.specs.BareTrees.{bare_program}
-use Rattle.boots_tell_law.specs.BareBoots.{bare_boot}
-use Rattle.boots_tell_law.specs.SameForSlave.{AreSameForSlave, IsSameForSlave}
+use Rattle.lowered_code_law.specs.PlacesBareTrees.{bare_program}
+use Rattle.low_views_law.specs.ToldBootsBareBoots.{bare_boot}
+use Rattle.low_views_law.specs.ToldBootsSameForSlave.{AreSameForSlave, IsSameForSlave}
 
 -- Pairs begin of both, and their tables and inputs are the same for the slave of the first.
 pub record Begin (s r : Texts) (turns : ℕ) (boot other : BootTree) (first second : Monitor) : Type 0 where

@@ -4,7 +4,7 @@ use Rattle.runs.specs.State.{Hosts}
 use Rattle.pt_core.specs.CodeTree.{BootTree}
 use Rattle.pair_meaning.specs.Monitors.{Monitor}
 use Rattle.pair_texts.specs.Start.{Texts}
-use Rattle.boots_tell_law.specs.SameForSlave.{AreSameForSlave, IsSameForSlave}
+use Rattle.low_views_law.specs.ToldBootsSameForSlave.{AreSameForSlave, IsSameForSlave}
 use Rattle.hidden_laws.specs.HiddenRunsLaws.{BothBegin, RunsGoAlike, with_hosts}
 
 -- Two programs that are the same for the slave, with tables and inputs that are so, and policies with the same rules, go alike. So the

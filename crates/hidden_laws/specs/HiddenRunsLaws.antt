@@ -10,7 +10,7 @@ use Rattle.wire.specs.Frames.{Ending, IsStream, open_end}
 use Rattle.pt_core.specs.CodeTree.{BootTree}
 use Rattle.pair_meaning.specs.Monitors.{Monitor, low}
 use Rattle.pair_meaning.specs.Streams.{serve_frames}
-use Rattle.serving_soundness_law.specs.Sound.{IsSound}
+use Rattle.monitor_soundness_law.specs.ServingSound.{IsSound}
 use Rattle.low_views_law.specs.Alike.{GoAlike, TellTheSame}
 use Rattle.pair_texts.specs.OutcomeSeen.{HaveBegun}
 use Rattle.pair_texts.specs.Start.{Texts}

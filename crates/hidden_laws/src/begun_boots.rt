@@ -1,10 +1,10 @@
 // What the slave of faultless texts starts from tells nothing of what is privileged.
 ghost use Rattle.hidden_laws.specs.BegunBootsLaws.{BegunBootsTellNothingPrivileged, BegunBootsTellOnlyPlaces, BegunBootsTellOwnHostsAlone};
 
-use boots_tell_law::{
+use front_end::a_text_has_one_reading;
+use low_views_law::{
     boots_tell_nothing_privileged, boots_tell_only_places, programs_are_the_same_as_themselves,
 };
-use front_end::a_text_has_one_reading;
 
 /// Of one program with two tables, policies and inputs, of both of which a pair begins, and that are the same for the slave's own hosts,
 /// the slave starts from the same.

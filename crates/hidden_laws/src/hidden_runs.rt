@@ -4,8 +4,8 @@
 ghost use Rattle.hidden_laws.specs.HiddenRunsLaws.{BegunRunsAreLow, BootsAndRulesTellAll, FirstPartsAreLow, PrivilegedRowsAreHidden, RunsAreLow, RunsServeStreams};
 
 use low_views_law::{frames_keep_counts, streams_are_low};
+use monitor_soundness_law::monitors_begin_sound;
 use pair_laws::begun_pairs::{begun_monitors_are_well_formed, begun_monitors_hosts_serve};
-use serving_soundness_law::monitors_begin_sound;
 
 /// A run comes to what serving the frames of its peer's bytes comes to, and its peer is sent the boot and the replies.
 pub fn runs_serve_streams()

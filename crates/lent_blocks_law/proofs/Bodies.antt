@@ -10,9 +10,9 @@ use Rattle.block_memory.specs.Blocks.{Blocks}
 use Rattle.pt_core.specs.Calls.{signature_in, function_in}
 use Rattle.pt_core.specs.Steps.{Machine, started}
 use Rattle.core_steps_law.specs.WholeRun.{steps_run}
-use Rattle.core_soundness.specs.Fits.{Fits}
-use Rattle.core_soundness.proofs.Starting.{started_fits}
-use Rattle.called_functions_law.proofs.Steps.{started_call_own}
+use Rattle.core_soundness_law.specs.Fits.{Fits}
+use Rattle.core_soundness_law.proofs.Starting.{started_fits}
+use Rattle.core_soundness_law.proofs.CalledSteps.{started_call_own}
 use Rattle.marshalling.specs.HonestCalls.{IsSameWork}
 use Rattle.marshalling.specs.Packing.{is_among, names_of, number_of}
 use Rattle.marshalling.specs.Taking.{comes_back, call_crossing}

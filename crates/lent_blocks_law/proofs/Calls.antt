@@ -5,7 +5,7 @@ use Rattle.std.specs.List.{find}
 use Rattle.pt_core.specs.CodeTree.{FunctionTree, ProgramTree}
 use Rattle.pt_core.specs.Calls.{function_in, context_in}
 use Rattle.pt_core.specs.WellFormed.{called_signature, context_of}
-use Rattle.core_soundness.proofs.Programs.{FunctionFacts}
+use Rattle.core_soundness_law.proofs.Programs.{FunctionFacts}
 use Rattle.half_meaning_law.specs.CForms.{are_said}
 use Rattle.lent_blocks_law.specs.Lent.{CodeIsSaid}
 

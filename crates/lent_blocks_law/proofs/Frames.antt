@@ -25,13 +25,13 @@ use Rattle.pt_core.specs.Statements.{kept}
 use Rattle.pt_core.specs.Calls.{function_in, context_in, entered, with_arguments}
 use Rattle.pt_core.specs.Steps.{Active}
 use Rattle.pt_core.specs.WellFormedStatement.{result_fits}
-use Rattle.core_soundness.specs.Fits.{variables_at}
-use Rattle.core_soundness.proofs.Entering.{Lead}
-use Rattle.core_soundness.proofs.Frames.{other_depth}
-use Rattle.core_soundness.proofs.Leaves.{never}
+use Rattle.core_soundness_law.specs.Fits.{variables_at}
+use Rattle.core_soundness_law.proofs.Entering.{Lead}
+use Rattle.core_soundness_law.proofs.Frames.{other_depth}
+use Rattle.core_soundness_law.proofs.Leaves.{never}
 use Rattle.typed_tree.proofs.SameTypes.{equal_types}
-use Rattle.core_soundness.proofs.Settings.{same_depth}
-use Rattle.core_soundness.proofs.Values.{known_variable}
+use Rattle.core_soundness_law.proofs.Settings.{same_depth}
+use Rattle.core_soundness_law.proofs.Values.{known_variable}
 use Rattle.lent_blocks_law.specs.Lent.{Writable, Owns, Stays, PointsToWritable, ValueIsLent, AreLent, PointersAreLent}
 use Rattle.lent_blocks_law.proofs.Stores.{stays_self, locals_change, put_lent, no_pointer_put, first_set, fresh_lent, LentChange}
 

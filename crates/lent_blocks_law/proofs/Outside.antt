@@ -5,11 +5,11 @@ use Rattle.block_memory.specs.Blocks.{Blocks}
 use Rattle.pt_core.specs.CodeTree.{ProgramTree}
 use Rattle.pt_core.specs.Calls.{signature_in, context_in, entered}
 use Rattle.pt_core.specs.Steps.{Active, Awaited, just_entered, at_rest, resumed_in}
-use Rattle.core_soundness.specs.Fits.{AwaitedFits}
-use Rattle.core_soundness.specs.Outside.{own_params}
-use Rattle.core_soundness.proofs.Programs.{ProgramFacts, facts_of, FunctionFacts, function_facts}
-use Rattle.core_soundness.proofs.Settings.{setting}
-use Rattle.core_soundness.proofs.Starting.{own_lead}
+use Rattle.core_soundness_law.specs.Fits.{AwaitedFits}
+use Rattle.core_soundness_law.specs.Outside.{own_params}
+use Rattle.core_soundness_law.proofs.Programs.{ProgramFacts, facts_of, FunctionFacts, function_facts}
+use Rattle.core_soundness_law.proofs.Settings.{setting}
+use Rattle.core_soundness_law.proofs.Starting.{own_lead}
 use Rattle.lent_blocks_law.specs.Lent.{Writable, Owns, PointersAreLent}
 use Rattle.lent_blocks_law.specs.Laws.{ValuesAreLent, PlacesAreLent, RestLends, StartsAreLent, ResumesAreLent}
 use Rattle.lent_blocks_law.proofs.Values.{sees, values_lent, places_lent}

@@ -26,10 +26,10 @@ use Rattle.pt_core.specs.Types as type
 use Rattle.pt_core.specs.Types.{Context, field_type, path_type, pointee_type}
 use Rattle.pt_core.specs.Values.{Stop, ◌>>?◌, at_span, pointed, target_of, Location, offset_in, field_at, along, pointee, decayed}
 use Rattle.pt_core.specs.WellFormedExpression.{is_field, is_path, stands_for}
-use Rattle.core_soundness.specs.Fits.{BeginsWith, LieAt}
-use Rattle.core_soundness.proofs.Integers.{element_lies}
-use Rattle.core_soundness.proofs.Leaves.{never, field_in}
-use Rattle.core_soundness.proofs.Objects.{element_size}
+use Rattle.core_soundness_law.specs.Fits.{BeginsWith, LieAt}
+use Rattle.core_soundness_law.proofs.Integers.{element_lies}
+use Rattle.core_soundness_law.proofs.Leaves.{never, field_in}
+use Rattle.core_soundness_law.proofs.Objects.{element_size}
 use Rattle.typed_tree.proofs.SameTypes.{equal_elems}
 use Rattle.half_meaning_law.specs.CForms.{with_const, keeps_const}
 use Rattle.lent_blocks_law.specs.Lent.{Writable, AreWritable, PointsToWritable, ValueIsLent}

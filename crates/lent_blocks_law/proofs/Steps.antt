@@ -21,21 +21,21 @@ use Rattle.pt_core.specs.Steps.{Work, run, head, Active, Machine, Gate, Way, ent
 use Rattle.pt_core.specs.WellFormed.{function_at, called_signature}
 use Rattle.pt_core.specs.WellFormedExpression.{place_fits}
 use Rattle.pt_core.specs.WellFormedStatement.{arguments_fit, call_fits, result_fits, stmt_fits, stmts_fit, is_compound, callees_in, callees_of}
-use Rattle.core_soundness.specs.Kept.{Kept}
-use Rattle.core_soundness.specs.Fits.{MemoryFits, scope_in, is_looped, work_fits, AllFit}
-use Rattle.core_soundness.specs.Outside.{own_params}
-use Rattle.core_soundness.specs.StepLaws.{StepFits}
-use Rattle.core_soundness.specs.StepLaws as sound
-use Rattle.core_soundness.proofs.Leaves.{never}
-use Rattle.core_soundness.proofs.Objects.{Setting}
-use Rattle.core_soundness.proofs.Programs.{ProgramFacts, facts_of, FunctionFacts, function_facts}
-use Rattle.core_soundness.proofs.Settings.{setting}
-use Rattle.core_soundness.proofs.Starting.{own_lead}
-use Rattle.core_soundness.proofs.Steps.{own_called, settled_fits}
-use Rattle.called_functions_law.specs.Called.{is_called, calls_left, CallOwn}
-use Rattle.called_functions_law.specs.Keeping.{FitsCalls}
-use Rattle.called_functions_law.proofs.Steps.{first_holds, settled_calls, steps_call_own}
-use Rattle.called_functions_law.proofs.Keeping.{steps_keep_called}
+use Rattle.core_soundness_law.specs.Kept.{Kept}
+use Rattle.core_soundness_law.specs.Fits.{MemoryFits, scope_in, is_looped, work_fits, AllFit}
+use Rattle.core_soundness_law.specs.Outside.{own_params}
+use Rattle.core_soundness_law.specs.StepLaws.{StepFits}
+use Rattle.core_soundness_law.specs.StepLaws as sound
+use Rattle.core_soundness_law.proofs.Leaves.{never}
+use Rattle.core_soundness_law.proofs.Objects.{Setting}
+use Rattle.core_soundness_law.proofs.Programs.{ProgramFacts, facts_of, FunctionFacts, function_facts}
+use Rattle.core_soundness_law.proofs.Settings.{setting}
+use Rattle.core_soundness_law.proofs.Starting.{own_lead}
+use Rattle.core_soundness_law.proofs.Steps.{own_called, settled_fits}
+use Rattle.core_soundness_law.specs.Called.{is_called, calls_left, CallOwn}
+use Rattle.core_soundness_law.specs.CalledKeeping.{FitsCalls}
+use Rattle.core_soundness_law.proofs.CalledSteps.{first_holds, settled_calls, steps_call_own}
+use Rattle.core_soundness_law.proofs.CalledKeeping.{steps_keep_called}
 use Rattle.core_steps_law.specs.WholeRun.{further_by, steps_run}
 use Rattle.half_meaning_law.specs.CForms.{is_null, stands, place_stands, is_const, is_struct, are_passed, params_of, is_said, are_said}
 use Rattle.lent_blocks_law.specs.Lent.{Writable, Owns, AreLent, PointersAreLent, CodeIsSaid, WorkIsSaid, AllAreSaid, Lends}

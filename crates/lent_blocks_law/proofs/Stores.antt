@@ -28,14 +28,14 @@ use Rattle.pt_core.specs.Calls.{context_in}
 use Rattle.pt_core.specs.Steps.{Active}
 use Rattle.pt_core.specs.WellFormedExpression.{place_fits}
 use Rattle.pt_core.specs.WellFormedStatement.{value_fits}
-use Rattle.core_soundness.specs.Kept.{Kept}
-use Rattle.core_soundness.specs.Fits.{LieAt, LocalFits, variables_at, MemoryFits}
-use Rattle.core_soundness.specs.Laws.{LocationFits}
-use Rattle.core_soundness.proofs.Leaves.{never}
-use Rattle.core_soundness.proofs.Memory.{same_name}
-use Rattle.core_soundness.proofs.Objects.{Setting}
-use Rattle.core_soundness.proofs.Values.{bound, places}
-use Rattle.core_soundness.proofs.Settings.{same_depth}
+use Rattle.core_soundness_law.specs.Kept.{Kept}
+use Rattle.core_soundness_law.specs.Fits.{LieAt, LocalFits, variables_at, MemoryFits}
+use Rattle.core_soundness_law.specs.Laws.{LocationFits}
+use Rattle.core_soundness_law.proofs.Leaves.{never}
+use Rattle.core_soundness_law.proofs.Memory.{same_name}
+use Rattle.core_soundness_law.proofs.Objects.{Setting}
+use Rattle.core_soundness_law.proofs.Values.{bound, places}
+use Rattle.core_soundness_law.proofs.Settings.{same_depth}
 use Rattle.half_meaning_law.specs.CForms.{place_stands, is_const, is_stored, is_struct}
 use Rattle.lent_blocks_law.specs.Lent.{Writable, AreWritable, Owns, Stays, PointsToWritable, ValueIsLent, PointersAreLent}
 use Rattle.lent_blocks_law.proofs.Ranges.{always, both, clash, lies_length}

@@ -29,13 +29,13 @@ use Rattle.pt_core.specs.Calls.{context_in}
 use Rattle.pt_core.specs.Steps.{Active}
 use Rattle.pt_core.specs.WellFormedExpression.{is_path, is_addressed, stands_for, expr_fits, place_fits, root_fits}
 use Rattle.pt_core.specs.WellFormedStatement.{value_fits, arguments_fit}
-use Rattle.core_soundness.specs.Kept.{Kept}
-use Rattle.core_soundness.specs.Fits.{variables_at}
-use Rattle.core_soundness.specs.Laws.{LocationFits}
-use Rattle.core_soundness.proofs.Leaves.{never}
-use Rattle.core_soundness.proofs.Objects.{Setting}
-use Rattle.core_soundness.proofs.Values.{bound, places, roots}
-use Rattle.core_soundness.proofs.Settings.{same_depth}
+use Rattle.core_soundness_law.specs.Kept.{Kept}
+use Rattle.core_soundness_law.specs.Fits.{variables_at}
+use Rattle.core_soundness_law.specs.Laws.{LocationFits}
+use Rattle.core_soundness_law.proofs.Leaves.{never}
+use Rattle.core_soundness_law.proofs.Objects.{Setting}
+use Rattle.core_soundness_law.proofs.Values.{bound, places, roots}
+use Rattle.core_soundness_law.proofs.Settings.{same_depth}
 use Rattle.half_meaning_law.specs.CForms.{is_null, stands, points_const, is_const, is_const_root, with_const, c_type, keeps_const, is_stored, are_passed}
 use Rattle.lent_blocks_law.specs.Lent.{Writable, AreWritable, Owns, PointsToWritable, ValueIsLent, AreLent, PointersAreLent}
 use Rattle.lent_blocks_law.proofs.Ranges.{always, weaken, both, or_cases, clash, path_lent, pointee_lent, pointer_lent, address_lent, decay_lent, moved_lent, lent_on}

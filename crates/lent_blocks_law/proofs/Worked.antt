@@ -25,12 +25,12 @@ use Rattle.pt_core.specs.Types.{Context}
 use Rattle.pt_core.specs.Steps.{Machine, Gate, away, started}
 use Rattle.pt_core.specs.WellFormed.{context_of, called_signature, is_sound}
 use Rattle.core_steps_law.specs.WholeRun.{steps_run}
-use Rattle.core_soundness.specs.Kept.{none}
-use Rattle.core_soundness.specs.Fits.{IntegersFit, Fits}
-use Rattle.core_soundness.specs.Outside.{ArgumentsFit}
-use Rattle.called_functions_law.specs.Keeping.{FitsCalls}
-use Rattle.called_functions_law.proofs.Steps.{started_call_own}
-use Rattle.core_soundness.proofs.Starting.{started_fits}
+use Rattle.core_soundness_law.specs.Kept.{none}
+use Rattle.core_soundness_law.specs.Fits.{IntegersFit, Fits}
+use Rattle.core_soundness_law.specs.Outside.{ArgumentsFit}
+use Rattle.core_soundness_law.specs.CalledKeeping.{FitsCalls}
+use Rattle.core_soundness_law.proofs.CalledSteps.{started_call_own}
+use Rattle.core_soundness_law.proofs.Starting.{started_fits}
 use Rattle.half_meaning_law.specs.CForms.{is_said, are_said}
 use Rattle.lent_blocks_law.specs.Lent.{Writable, Owns, Stays, AreLent, CodeIsSaid}
 use Rattle.lent_blocks_law.specs.Laws.{StartIsLent, StepIsLent}

@@ -11,12 +11,12 @@ use Rattle.pt_core.specs.Steps.{Active, Awaited, Machine, Gate, Answer, moved, a
 use Rattle.core_steps_law.specs.WholeRun.{steps_run}
 use Rattle.pt_core.specs.WellFormed.{function_at, is_sound}
 use Rattle.pt_core.specs.WellFormedExpression.{expr_fits, place_fits}
-use Rattle.core_soundness.specs.Kept.{Kept}
-use Rattle.core_soundness.specs.Fits.{MemoryFits, Fits}
-use Rattle.core_soundness.specs.Outside.{own_params}
-use Rattle.core_soundness.specs.StepLaws.{called_params}
-use Rattle.called_functions_law.specs.Called.{CallOwn}
-use Rattle.called_functions_law.specs.Keeping.{FitsCalls}
+use Rattle.core_soundness_law.specs.Kept.{Kept}
+use Rattle.core_soundness_law.specs.Fits.{MemoryFits, Fits}
+use Rattle.core_soundness_law.specs.Outside.{own_params}
+use Rattle.core_soundness_law.specs.StepLaws.{called_params}
+use Rattle.core_soundness_law.specs.Called.{CallOwn}
+use Rattle.core_soundness_law.specs.CalledKeeping.{FitsCalls}
 use Rattle.half_meaning_law.specs.CForms.{c_type, is_const}
 use Rattle.lent_blocks_law.specs.Lent.{Writable, AreWritable, Owns, Stays, ValueIsLent, AreLent, PointersAreLent, CodeIsSaid, Lends}
 

@@ -22,7 +22,7 @@ use Rattle.pt_core.specs.Values.{cell_in}
 use Rattle.pt_core.specs.Calls.{context_in}
 use Rattle.pt_core.specs.Steps.{Work, run, head, Active}
 use Rattle.pt_core.specs.WellFormed.{called_signature}
-use Rattle.core_soundness.specs.Fits.{variables_at}
+use Rattle.core_soundness_law.specs.Fits.{variables_at}
 use Rattle.half_meaning_law.specs.CForms.{are_said}
 pub use Rattle.half_meaning_law.specs.CForms.{CodeIsSaid}
 

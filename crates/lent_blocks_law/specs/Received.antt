@@ -11,10 +11,10 @@ use Rattle.pt_core.specs.Calls.{signature_in, function_in}
 use Rattle.pt_core.specs.Steps.{Machine, Gate, started}
 use Rattle.pt_core.specs.WellFormed.{function_at, is_sound}
 use Rattle.core_steps_law.specs.WholeRun.{steps_run}
-use Rattle.core_soundness.specs.Kept.{Kept}
-use Rattle.core_soundness.specs.Fits.{Fits}
-use Rattle.core_soundness.specs.Outside.{ArgumentsFit, own_params}
-use Rattle.called_functions_law.specs.Keeping.{FitsCalls}
+use Rattle.core_soundness_law.specs.Kept.{Kept}
+use Rattle.core_soundness_law.specs.Fits.{Fits}
+use Rattle.core_soundness_law.specs.Outside.{ArgumentsFit, own_params}
+use Rattle.core_soundness_law.specs.CalledKeeping.{FitsCalls}
 use Rattle.marshalling.specs.Handles.{Entries}
 use Rattle.marshalling.specs.HonestCalls.{for_callee}
 use Rattle.marshalling.specs.Taking.{comes_back, call_crossing}

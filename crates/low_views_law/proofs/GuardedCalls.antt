@@ -22,9 +22,9 @@ use Rattle.policy.specs.Verdicts.{Call, Standing, after, start, verdicts}
 use Rattle.policy.specs.declared.verdict.Verdict as decision
 use Rattle.policy.specs.declared.verdict.Verdict.TheVariants.{Allow, Deny}
 use Rattle.policy.proofs.VerdictLemmas.{limits_hold_lem, verdicts_are_steps_lem}
-use Rattle.pair_sides.specs.Sides.{goes_on, ends, bad}
-use Rattle.pair_sides.specs.Serving as serving
-use Rattle.pair_sides.specs.Serving.{Stop, still, ended, broken}
+use Rattle.pair_protocol.specs.Sides.{goes_on, ends, bad}
+use Rattle.pair_protocol.specs.Serving as serving
+use Rattle.pair_protocol.specs.Serving.{Stop, still, ended, broken}
 use Rattle.pair_meaning.specs.Monitors.{Monitor, Low, entries_in, low}
 use Rattle.pair_meaning.specs.Pair.{serve_all}
 use Rattle.pair_meaning.specs.Rules as rule

@@ -6,3 +6,10 @@ mod Streams
 mod Told
 mod Unserved
 mod Worked
+mod ToldBootsNumbered
+mod ToldBootsReached
+mod ToldBootsAsked
+mod ToldBootsHalves
+mod ToldBootsBareHalves
+mod ToldBootsBoots
+mod ToldBootsSelves

@@ -12,14 +12,14 @@ use Rattle.marshalling.specs.declared.fault.BadCall.TheVariants.{Shape}
 use Rattle.marshalling.specs.declared.inputs.Inputs.{Inputs}
 use Rattle.marshalling.specs.Handles.{handle_fault, inputs_unless, unpacked, unpacking}
 use Rattle.marshalling.specs.Shape.{is_shaped}
-use Rattle.replies_law.proofs.Faults.{faults_see_types}
+use Rattle.marshalling_law.proofs.RepliesFaults.{faults_see_types}
 use Rattle.policy.specs.Answers.{allowed, function_of}
 use Rattle.policy.specs.Verdicts as policy
 use Rattle.policy.specs.Verdicts.{Standing}
 use Rattle.pair_meaning.specs.Monitors.{Monitor, entries_in, low, types_in}
 use Rattle.pair_meaning.specs.Rules as rule
 use Rattle.pair_meaning.specs.Rules.{PeerRule, Admitted, Verdict, asked_for, bad_depth, bad_shape, blank, breaks, broken_if, call_rule, decided, first_broken, handle_rule, has_depth, makes, needs, permitted, plain_of, posted_plain, rule_of_fault, rules, tells, unless_broken, writes}
-use Rattle.serving_soundness_law.specs.Laws.{IsOpened}
+use Rattle.monitor_soundness_law.specs.ServingLaws.{IsOpened}
 
 -- a call that may be served, with the turn that it takes
 pub record IsMade (m : Monitor) (x : Message) (call : Admitted) : Type 0 where

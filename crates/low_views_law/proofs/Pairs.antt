@@ -5,11 +5,11 @@ use Rattle.pt_base.specs.declared.end.End.{End}
 use Rattle.wire.specs.Limits.{KeepsCounts}
 use Rattle.wire.specs.declared.message.Message.{Message}
 use Rattle.wire.specs.declared.message.ReplyBody.{ReplyBody}
-use Rattle.call_shapes_law.specs.Spelled.{HasSpelling}
-use Rattle.pair_sides.specs.Links.{front}
-use Rattle.pair_sides.specs.Pair.{Both, run, done, wrong, answered, both_from, both_in, both_step, delivered, heard, Who, Going, going_with, Pair, goes, stops, breaks, is_empty, is_going, is_slaves, monitor_turn, moves, pair_from, pair_step, replied, start, turn}
-use Rattle.pair_sides.specs.Sides.{goes_on, ends, bad}
-use Rattle.pair_sides.specs.SlaveRun.{listed}
+use Rattle.marshalling_law.specs.CallsSpelled.{HasSpelling}
+use Rattle.pair_protocol.specs.Links.{front}
+use Rattle.pair_protocol.specs.Pair.{Both, run, done, wrong, answered, both_from, both_in, both_step, delivered, heard, Who, Going, going_with, Pair, goes, stops, breaks, is_empty, is_going, is_slaves, monitor_turn, moves, pair_from, pair_step, replied, start, turn}
+use Rattle.pair_protocol.specs.Sides.{goes_on, ends, bad}
+use Rattle.pair_protocol.specs.SlaveRun.{listed}
 use Rattle.pair_meaning.specs.LowView.{told_by}
 use Rattle.pair_meaning.specs.Monitors.{Monitor, Low, low}
 use Rattle.pair_meaning.specs.Pair.{the_sides}
@@ -17,12 +17,12 @@ use Rattle.pair_meaning.specs.Rules.{PeerRule}
 use Rattle.pair_meaning.specs.Serving.{serve}
 use Rattle.pair_meaning.specs.SlaveRun as slave
 use Rattle.pair_meaning.specs.SlaveRun.{Slave, Doing, waits_for, is_over, mode_by, mode_of, slave_of, slave_step}
-use Rattle.serving_soundness_law.specs.Sound.{IsSound}
-use Rattle.spoken_messages_law.specs.Format.{IsInFormat}
-use Rattle.spoken_messages_law.specs.Laws.{AllAreSpelled, SaysSpelled}
-use Rattle.spoken_messages_law.proofs.Beginning.{slaves_begin_in_format}
-use Rattle.spoken_messages_law.proofs.Stepping.{steps_are_spelled}
-use Rattle.spoken_messages_law.proofs.Taking.{takers_stay_in_format}
+use Rattle.monitor_soundness_law.specs.ServingSound.{IsSound}
+use Rattle.slave_soundness_law.specs.MessagesFormat.{IsInFormat}
+use Rattle.slave_soundness_law.specs.MessagesLaws.{AllAreSpelled, SaysSpelled}
+use Rattle.slave_soundness_law.proofs.MessagesBeginning.{slaves_begin_in_format}
+use Rattle.slave_soundness_law.proofs.MessagesStepping.{steps_are_spelled}
+use Rattle.slave_soundness_law.proofs.MessagesTaking.{takers_stay_in_format}
 use Rattle.low_views_law.specs.Unserved.{Outcome}
 use Rattle.low_views_law.specs.Alike.{WhereBothGoOn}
 use Rattle.low_views_law.specs.Pairs.{ArePairsSeenAlike, AreSeenAlike, HasSameView, said_in, served_in, StepsTellAlike, StepTellsAlike, TellAlike, TurnsTellAlike, TurnTellsAlike}

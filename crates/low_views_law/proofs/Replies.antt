@@ -17,16 +17,16 @@ use Rattle.pt_core.specs.Statements.{State}
 use Rattle.pt_core.specs.Statements as core
 use Rattle.pt_core.specs.Values.{number_in}
 use Rattle.marshalling.specs.Replies.{AreServed, packed_results, types_in}
-use Rattle.pair_sides.specs.Sides.{goes_on, ends, bad}
+use Rattle.pair_protocol.specs.Sides.{goes_on, ends, bad}
 use Rattle.pair_meaning.specs.LowView.{low_by, reply_by, reply_of_told, told_by, told_in}
 use Rattle.pair_meaning.specs.Monitors.{Monitor, Low, low}
 use Rattle.pair_meaning.specs.Rules as rule
 use Rattle.pair_meaning.specs.Rules.{PeerRule, Admitted, Verdict, breaks, early_rule, makes, needs, rules, turns_of, unless_broken, writes}
 use Rattle.pair_meaning.specs.Serving.{acted, brought, is_spent, left_for, reply_with, serve, served_by, served_with, verdict_on, work_of}
-use Rattle.serving_soundness_law.specs.Laws.{IsServed}
-use Rattle.serving_soundness_law.specs.Sound.{IsSound}
-use Rattle.serving_soundness_law.proofs.Blocks.{brought_is}
-use Rattle.serving_soundness_law.proofs.Serving.{calls_are_served}
+use Rattle.monitor_soundness_law.specs.ServingLaws.{IsServed}
+use Rattle.monitor_soundness_law.specs.ServingSound.{IsSound}
+use Rattle.monitor_soundness_law.proofs.ServingBlocks.{brought_is}
+use Rattle.monitor_soundness_law.proofs.ServingLemmas.{calls_are_served}
 use Rattle.low_views_law.specs.Unserved.{Outcome}
 use Rattle.low_views_law.specs.Alike.{AreAlike, both_break, both_end, both_make, both_write, IsLow, IsOwn}
 use Rattle.low_views_law.specs.Laws.{RepliesAreLow, VerdictsAreLow}

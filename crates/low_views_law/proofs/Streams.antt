@@ -6,15 +6,15 @@ use Rattle.wire.specs.declared.message.Message.{Message}
 use Rattle.wire.specs.declared.message.ReplyBody.{ReplyBody}
 use Rattle.wire.specs.Limits.{KeepsCounts}
 use Rattle.wire.specs.Spelling.{spelling}
-use Rattle.pair_sides.specs.Sides.{goes_on, ends, bad}
-use Rattle.pair_sides.specs.SlaveRun.{listed}
+use Rattle.pair_protocol.specs.Sides.{goes_on, ends, bad}
+use Rattle.pair_protocol.specs.SlaveRun.{listed}
 use Rattle.pair_meaning.specs.LowView.{reply_of, told_by}
 use Rattle.pair_meaning.specs.Monitors.{Monitor, Low, low}
 use Rattle.pair_meaning.specs.Rules as rule
 use Rattle.pair_meaning.specs.Rules.{PeerRule, Verdict, breaks, rules}
 use Rattle.pair_meaning.specs.Serving.{serve}
 use Rattle.pair_meaning.specs.Streams.{Talk, after_frame, at_end, at_rule, serve_frames}
-use Rattle.serving_soundness_law.specs.Sound.{IsSound}
+use Rattle.monitor_soundness_law.specs.ServingSound.{IsSound}
 use Rattle.low_views_law.specs.Unserved.{Outcome}
 use Rattle.low_views_law.specs.Alike.{alike, first_stops, second_stops, GoAlike, TellTheSame, WhereBothGoOn}
 use Rattle.low_views_law.specs.Laws.{FramesKeepCounts, StreamsAreLow}

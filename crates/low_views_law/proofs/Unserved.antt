@@ -9,9 +9,9 @@ use Rattle.wire.specs.declared.message.Message.{Message}
 use Rattle.wire.specs.declared.message.ReplyBody.{ReplyBody}
 use Rattle.wire.specs.Frames.{Ending, open_end, bad_frame_at, too_long_at}
 use Rattle.pt_core.specs.Statements as core
-use Rattle.pair_sides.specs.Sides.{goes_on, ends, bad}
-use Rattle.pair_sides.specs.Serving.{All, after, all}
-use Rattle.pair_sides.specs.SlaveRun.{listed}
+use Rattle.pair_protocol.specs.Sides.{goes_on, ends, bad}
+use Rattle.pair_protocol.specs.Serving.{All, after, all}
+use Rattle.pair_protocol.specs.SlaveRun.{listed}
 use Rattle.pair_meaning.specs.Monitors.{Monitor}
 use Rattle.pair_meaning.specs.Pair.{serve_all}
 use Rattle.pair_meaning.specs.Rules as rule

@@ -6,7 +6,7 @@ use Rattle.pt_base.specs.declared.end.End.TheVariants.{Exit, Trapped, Spent, Ref
 use Rattle.wire.specs.Limits.{KeepsCounts}
 use Rattle.wire.specs.declared.message.Message.{Message}
 use Rattle.wire.specs.declared.message.ReplyBody.{ReplyBody}
-use Rattle.pair_sides.specs.Sides.{goes_on, ends, bad}
+use Rattle.pair_protocol.specs.Sides.{goes_on, ends, bad}
 use Rattle.pair_meaning.specs.LowView.{declassified, low_next, reply_of}
 use Rattle.pair_meaning.specs.Monitors.{Monitor, Low, low}
 use Rattle.pair_meaning.specs.Rules.{PeerRule, Admitted, turns_of}

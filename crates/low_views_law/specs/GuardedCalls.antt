@@ -16,7 +16,7 @@ use Rattle.policy.specs.Verdicts.{Call, Standing, start, verdict_on, verdicts}
 use Rattle.policy.specs.declared.rule.Rule.{Rule}
 use Rattle.policy.specs.declared.verdict.Verdict.{Verdict}
 use Rattle.policy.specs.declared.verdict.Verdict.TheVariants.{Allow, Deny}
-use Rattle.pair_sides.specs.Serving.{Stop, still, ended, broken}
+use Rattle.pair_protocol.specs.Serving.{Stop, still, ended, broken}
 use Rattle.pair_meaning.specs.Monitors.{Monitor, entries_in}
 use Rattle.pair_meaning.specs.Pair.{serve_all}
 use Rattle.pair_meaning.specs.Rules.{PeerRule, plain_of}

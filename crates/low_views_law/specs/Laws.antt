@@ -12,14 +12,14 @@ use Rattle.wire.specs.declared.message.Message.{Message}
 use Rattle.boot_fields.specs.Limits.{Spells}
 use Rattle.pt_core.specs.CodeTree.{BootTree}
 use Rattle.pt_core.specs.WellFormed.{is_well_formed_boot}
-use Rattle.pair_sides.specs.Pair.{run, start, Who}
+use Rattle.pair_protocol.specs.Pair.{run, start, Who}
 use Rattle.pair_meaning.specs.LowView.{declassified}
 use Rattle.pair_meaning.specs.Monitors.{Monitor, low}
 use Rattle.pair_meaning.specs.Pair.{both, pair_steps}
 use Rattle.pair_meaning.specs.Serving.{is_spent, serve, verdict_on}
 use Rattle.pair_meaning.specs.SlaveRun.{slave_of}
 use Rattle.pair_meaning.specs.Streams.{serve_frames}
-use Rattle.serving_soundness_law.specs.Sound.{IsSound}
+use Rattle.monitor_soundness_law.specs.ServingSound.{IsSound}
 use Rattle.low_views_law.specs.Unserved.{IsUnservedAt, IsVerdict}
 use Rattle.low_views_law.specs.Alike.{AreAlike, GoAlike, IsLow, KeepCounts, TellTheSame}
 use Rattle.low_views_law.specs.Pairs.{ArePairsSeenAlike, AreSeenAlike, StepsTellAlike, TurnsTellAlike}

@@ -2,9 +2,9 @@
 use Rattle.std.specs.Prelude.{◌≡◌, ℕ, zero, suc, List, [], ◌∷◌, Option, Some, None, if◌then◌else◌}
 use Rattle.pt_base.specs.declared.end.End.{End}
 use Rattle.wire.specs.declared.message.Message.{Message}
-use Rattle.pair_sides.specs.Links.{front}
-use Rattle.pair_sides.specs.Pair.{Both, run, done, wrong, both_step, Who, Going, Pair, goes, stops, breaks, moves, pair_step}
-use Rattle.pair_sides.specs.Sides.{Mode, going, waits, over}
+use Rattle.pair_protocol.specs.Links.{front}
+use Rattle.pair_protocol.specs.Pair.{Both, run, done, wrong, both_step, Who, Going, Pair, goes, stops, breaks, moves, pair_step}
+use Rattle.pair_protocol.specs.Sides.{Mode, going, waits, over}
 use Rattle.pair_meaning.specs.LowView.{declassified}
 use Rattle.pair_meaning.specs.Monitors.{Monitor, low}
 use Rattle.pair_meaning.specs.Pair.{the_sides}

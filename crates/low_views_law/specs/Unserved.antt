@@ -5,8 +5,8 @@ use Rattle.pt_base.specs.declared.end.End.TheVariants.{Exit, Trapped, Spent, Ref
 use Rattle.wire.specs.declared.message.Message.{Message}
 use Rattle.wire.specs.declared.message.ReplyBody.{ReplyBody}
 use Rattle.wire.specs.Frames.{Ending}
-use Rattle.pair_sides.specs.Sides.{Served, goes_on, ends, bad}
-use Rattle.pair_sides.specs.Serving.{still, all}
+use Rattle.pair_protocol.specs.Sides.{Served, goes_on, ends, bad}
+use Rattle.pair_protocol.specs.Serving.{still, all}
 use Rattle.pair_meaning.specs.Monitors.{Monitor}
 use Rattle.pair_meaning.specs.Rules.{PeerRule, Verdict, breaks}
 use Rattle.pair_meaning.specs.Rules as rule

@@ -1,14 +1,21 @@
-//! What a hostile slave learns, by law over every message that it may say: nothing is done for a message that is refused; what a
-//! monitor makes of a message, and what it replies, is made of what a slave may know, of the message and of the numbers that are
-//! told. So it is over streams, and over pairs. Time and sizes are no matter of these laws, nor is it kept secret whether a call
-//! returns. Over every stream, each guarded call that is made was allowed by the policy.
+//! What a hostile slave learns, by law over every message that it may say: nothing is done for a message that is
+//! refused; what a monitor makes of a message, and what it replies, is made of what a slave may know, of the message
+//! and of the numbers that are told. So it is over streams, and over pairs. Time and sizes are no matter of these laws,
+//! nor is it kept secret whether a call returns. Over every stream, each guarded call that is made was allowed by the
+//! policy. And what the slave starts from is made of the slave's own part of the program, and of what stands for its
+//! own hosts.
 #![tactic(auto)]
 
 mod guarded;
+mod told_boots;
 
 ghost use Rattle.low_views_law.specs.Laws.{FramesKeepCounts, PairsSeeAlike, RefusedMessagesChangeNothing, RepliesAreLow, StreamsAreLow, VerdictsAreLow};
 
 pub use guarded::{guarded_calls_are_allowed, limits_hold_in_runs, refused_calls_are_denied};
+pub use told_boots::{
+    boots_tell_nothing_privileged, boots_tell_only_places, boots_tell_own_hosts_alone,
+    programs_are_the_same_as_themselves,
+};
 
 /// Where a message breaks a rule or is refused, what stands is what the messages before it left.
 pub fn refused_messages_change_nothing()

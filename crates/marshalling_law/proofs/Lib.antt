@@ -6,3 +6,14 @@ pub mod RevealLemmas
 pub mod SendableLemmas
 pub mod TakenReplyLemmas
 pub mod Worked
+pub mod RepliesFaults
+pub mod RepliesFew
+pub mod RepliesToldLemmas
+pub mod TakingKnown
+pub mod TakingLemmas
+pub mod CallsPackable
+pub mod CallsSendable
+pub mod CallsServed
+pub mod CallsSpelled
+pub mod CallsTargets
+pub mod CallsWritten

@@ -2,8 +2,8 @@
 use Rattle.std.proofs.Common.{◌≡◌, ℕ, List, [], ◌∷◌, false, Option, refl, sym, ap, subst, append-nil}
 use Rattle.pt_base.specs.Talk.{gave, took}
 use Rattle.pt_base.specs.declared.chooser.Who as base
-use Rattle.link_talks.specs.Choosing.{AreTaken}
-use Rattle.link_talks.specs.Talks.{Side, hears}
+use Rattle.pair_meaning.specs.LinkChoosing.{AreTaken}
+use Rattle.pair_meaning.specs.LinkTalks.{Side, hears}
 use Rattle.memory_link.specs.declared.link.MemoryLink.{MemoryLink}
 use Rattle.memory_link.specs.Came.{Came}
 use Rattle.memory_link.specs.CameLaws.{taken_none}

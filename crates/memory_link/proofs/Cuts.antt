@@ -2,10 +2,10 @@
 use Rattle.std.proofs.Common.{◌≡◌, ◌<◌, ◌≤◌, inl, ℕ, zero, suc, List, [], ◌∷◌, length, Option, Some, None, refl, sym, ap, subst, ◌∙◌, arith}
 use Rattle.wire.specs.declared.message.Message.{Message}
 use Rattle.wire.specs.View.{ReaderView}
-use Rattle.pair_sides.specs.Links.{Half}
+use Rattle.pair_protocol.specs.Links.{Half}
 use Rattle.pair_meaning.specs.Peer.{Cut, cut, cut_by, cut_within, frame_at}
 use Rattle.pair_meaning.specs.SlaveRun.{Slave}
-use Rattle.link_talks.specs.Talks.{all_heard, heard}
+use Rattle.pair_meaning.specs.LinkTalks.{all_heard, heard}
 use Rattle.memory_link.specs.declared.slave_half.SlaveHalf.{SlaveHalf}
 use Rattle.memory_link.specs.Halves.{IsHalf}
 use Rattle.memory_link.specs.Reading.{HearsAll, IsReading, Reads}

@@ -7,11 +7,11 @@ use Rattle.wire.specs.Limits.{Spells}
 use Rattle.wire.specs.Spelling.{four_bytes, payload, spelling}
 use Rattle.wire.specs.View.{ReaderView, fresh}
 use Rattle.wire.proofs.Sizes.{length-four_bytes}
-use Rattle.pair_sides.specs.Links.{half}
-use Rattle.pair_sides.specs.Pair.{is_empty}
+use Rattle.pair_protocol.specs.Links.{half}
+use Rattle.pair_protocol.specs.Pair.{is_empty}
 use Rattle.pair_meaning.specs.Peer.{cut}
 use Rattle.pair_meaning.specs.SlaveRun as s
-use Rattle.link_talks.specs.Talks.{Side, all_heard, begun, hears}
+use Rattle.pair_meaning.specs.LinkTalks.{Side, all_heard, begun, hears}
 use Rattle.memory_link.specs.declared.slave_end.SlaveEnd.{SlaveEnd}
 use Rattle.memory_link.specs.declared.slave_half.SlaveHalf.{SlaveHalf}
 use Rattle.memory_link.specs.CameLaws.{taken_none}

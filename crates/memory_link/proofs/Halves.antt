@@ -1,9 +1,9 @@
 -- The slave with its queue.
 use Rattle.std.proofs.Common.{◌≡◌, ◌++◌, ℕ, Bool, true, false, Option, refl, sym, ap, subst, ◌∙◌}
 use Rattle.wire.specs.declared.message.Message.{Message}
-use Rattle.pair_sides.specs.Sides.{Mode, Moved, going, over}
-use Rattle.pair_sides.specs.SlaveRun.{listed}
-use Rattle.pair_sides.specs.Links.{Half, moved}
+use Rattle.pair_protocol.specs.Sides.{Mode, Moved, going, over}
+use Rattle.pair_protocol.specs.SlaveRun.{listed}
+use Rattle.pair_protocol.specs.Links.{Half, moved}
 use Rattle.pair_meaning.specs.Pair.{the_sides}
 use Rattle.pair_meaning.specs.SlaveRun as s
 use Rattle.slave_interp.specs.declared.slave.Slave.{Slave}

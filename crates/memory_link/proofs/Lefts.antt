@@ -1,7 +1,7 @@
 -- What is left of a message.
 use Rattle.std.proofs.Common.{◌≡◌, ◌≤◌, ◌-◌, ℕ, suc, List, [], ◌∷◌, length, drop, eqb, sym, ap, ◌∙◌, arith, length-drop}
 use Rattle.std.proofs.lemmas.Bool.{eq-eqb, ne_eqb}
-use Rattle.pair_sides.specs.Pair.{is_empty}
+use Rattle.pair_protocol.specs.Pair.{is_empty}
 
 -- all bytes were given where none is left
 pub none_is : (given : ℕ) (bytes left : List ℕ) → given ≤ length bytes → drop given bytes ≡ left → eqb given (length bytes) ≡ is_empty left

@@ -2,10 +2,10 @@
 use Rattle.std.proofs.Common.{◌≡◌, ◌<◌, ℕ, zero, suc, List, [], ◌∷◌, ◌++◌, length, Bool, true, false, Option, Some, None, refl, sym, ap, subst, ◌∙◌, arith}
 use Rattle.std.specs.Prelude.{◌&&◌, ◌||◌, nat_lt}
 use Rattle.std.proofs.lemmas.Bool.{lt-ltb}
-use Rattle.pair_sides.specs.Sides.{Mode, going, waits, over, Sides}
-use Rattle.pair_sides.specs.SlaveRun.{At, Ready, came, having, listed, moved_on, ready, ready_in, slave_at, with_said}
-use Rattle.pair_sides.specs.Pair.{Who, is_going, is_slaves, moves}
-use Rattle.pair_sides.specs.Links.{half, Half, Either, Pops, Hands}
+use Rattle.pair_protocol.specs.Sides.{Mode, going, waits, over, Sides}
+use Rattle.pair_protocol.specs.SlaveRun.{At, Ready, came, having, listed, moved_on, ready, ready_in, slave_at, with_said}
+use Rattle.pair_protocol.specs.Pair.{Who, is_going, is_slaves, moves}
+use Rattle.pair_protocol.specs.Links.{half, Half, Either, Pops, Hands}
 
 -- ---- steps without replies
 

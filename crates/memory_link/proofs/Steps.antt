@@ -4,13 +4,13 @@ use Rattle.std.specs.Prelude.{◌&&◌, ◌||◌, nat_lt}
 use Rattle.pt_base.specs.Turns.{DropsFirst}
 use Rattle.pt_base.specs.declared.chooser.Who as base
 use Rattle.wire.specs.declared.message.Message.{Message}
-use Rattle.pair_sides.specs.Sides.{Mode, going, waits, over}
-use Rattle.pair_sides.specs.SlaveRun.{listed}
-use Rattle.pair_sides.specs.Links.{half, Half, front, behind, is_live, moved, Either, Pops, Hands}
-use Rattle.pair_sides.specs.Pair.{Who, is_going, is_slaves, is_empty, moves}
+use Rattle.pair_protocol.specs.Sides.{Mode, going, waits, over}
+use Rattle.pair_protocol.specs.SlaveRun.{listed}
+use Rattle.pair_protocol.specs.Links.{half, Half, front, behind, is_live, moved, Either, Pops, Hands}
+use Rattle.pair_protocol.specs.Pair.{Who, is_going, is_slaves, is_empty, moves}
 use Rattle.pair_meaning.specs.Pair.{the_sides}
 use Rattle.pair_meaning.specs.SlaveRun.{Slave, mode_of}
-use Rattle.link_talks.specs.Choosing.{half_named, AreTaken}
+use Rattle.pair_meaning.specs.LinkChoosing.{half_named, AreTaken}
 use Rattle.memory_link.specs.declared.slave_half.SlaveHalf.{SlaveHalf}
 use Rattle.memory_link.specs.CameLaws.{taken_append, taken_none, taken_one}
 use Rattle.memory_link.specs.Halves.{HasRunTo, IsHalf, MovesAlone}

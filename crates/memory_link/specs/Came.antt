@@ -2,9 +2,9 @@
 use Rattle.std.specs.Prelude.{◌≡◌, ℕ, false, List, Option}
 use Rattle.pt_base.specs.Talk.{Event}
 use Rattle.pt_base.specs.declared.chooser.Who as base
-use Rattle.pair_sides.specs.Pair.{Who}
-use Rattle.link_talks.specs.Choosing.{AreTaken}
-use Rattle.link_talks.specs.Talks.{Side, Runs}
+use Rattle.pair_protocol.specs.Pair.{Who}
+use Rattle.pair_meaning.specs.LinkChoosing.{AreTaken}
+use Rattle.pair_meaning.specs.LinkTalks.{Side, Runs}
 use Rattle.memory_link.specs.declared.link.MemoryLink.{MemoryLink}
 use Rattle.memory_link.specs.Ends.{IsEnd}
 

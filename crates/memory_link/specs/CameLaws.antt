@@ -3,9 +3,9 @@ use Rattle.std.proofs.Common.{◌≡◌, ℕ, ◌+◌, List, [], ◌∷◌, ◌+
 use Rattle.pt_base.specs.Talk.{Event, gave, took}
 use Rattle.pt_base.specs.Turns.{DropsFirst}
 use Rattle.pt_base.specs.declared.chooser.Who as base
-use Rattle.pair_sides.specs.Pair.{Who}
-use Rattle.link_talks.specs.Choosing.{half_named, AreFirst, AreTaken}
-use Rattle.link_talks.specs.Talks.{Side, hears, Runs}
+use Rattle.pair_protocol.specs.Pair.{Who}
+use Rattle.pair_meaning.specs.LinkChoosing.{half_named, AreFirst, AreTaken}
+use Rattle.pair_meaning.specs.LinkTalks.{Side, hears, Runs}
 use Rattle.memory_link.specs.declared.link.MemoryLink.{MemoryLink}
 use Rattle.memory_link.specs.Came.{Came}
 

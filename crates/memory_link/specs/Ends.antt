@@ -1,9 +1,9 @@
 -- Which side of a talk a slave's end of a link is.
 use Rattle.std.specs.Prelude.{◌≡◌, ℕ, List, Option}
 use Rattle.pt_base.specs.declared.chooser.Who as base
-use Rattle.pair_sides.specs.Pair.{Who}
-use Rattle.link_talks.specs.Choosing.{AreTaken}
-use Rattle.link_talks.specs.Talks.{Side, Gives}
+use Rattle.pair_protocol.specs.Pair.{Who}
+use Rattle.pair_meaning.specs.LinkChoosing.{AreTaken}
+use Rattle.pair_meaning.specs.LinkTalks.{Side, Gives}
 use Rattle.memory_link.specs.declared.slave_end.SlaveEnd.{SlaveEnd}
 use Rattle.memory_link.specs.Halves.{IsHalf}
 use Rattle.memory_link.specs.Reading.{IsReading}

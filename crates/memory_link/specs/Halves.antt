@@ -1,15 +1,15 @@
 -- Which slave and which queue a half of code is.
 use Rattle.std.specs.Prelude.{◌≡◌, ◌<◌, ◌++◌, ℕ, Bool, true, false, [], Option}
 use Rattle.wire.specs.declared.message.Message.{Message}
-use Rattle.pair_sides.specs.Sides.{going}
-use Rattle.pair_sides.specs.SlaveRun.{came, listed, slave_at}
-use Rattle.pair_sides.specs.Links.{Half, half}
+use Rattle.pair_protocol.specs.Sides.{going}
+use Rattle.pair_protocol.specs.SlaveRun.{came, listed, slave_at}
+use Rattle.pair_protocol.specs.Links.{Half, half}
 use Rattle.pair_meaning.specs.Pair.{the_sides}
 use Rattle.pair_meaning.specs.SlaveRun as s
 use Rattle.slave_interp.specs.declared.slave.Slave.{Slave}
 use Rattle.slave_interp.specs.Slaves.{IsSlave}
 use Rattle.memory_link.specs.declared.slave_half.SlaveHalf.{SlaveHalf}
-pub use Rattle.pair_sides.specs.Sides.{is_waiting}
+pub use Rattle.pair_protocol.specs.Sides.{is_waiting}
 
 -- where it refused a reply it is over
 abbrev pub IsHeld : Bool → Slave → s.Slave → Type 0

@@ -2,11 +2,11 @@
 use Rattle.std.specs.Prelude.{◌≡◌, ℕ, List, ◌++◌, length, Option}
 use Rattle.pt_base.specs.declared.chooser.Who as base
 use Rattle.wire.specs.declared.message.Message.{Message}
-use Rattle.pair_sides.specs.Links.{Half, Hands}
-use Rattle.pair_sides.specs.Pair.{Who}
+use Rattle.pair_protocol.specs.Links.{Half, Hands}
+use Rattle.pair_protocol.specs.Pair.{Who}
 use Rattle.pair_meaning.specs.Pair.{the_sides}
 use Rattle.pair_meaning.specs.SlaveRun.{Slave}
-use Rattle.link_talks.specs.Choosing.{AreTaken}
+use Rattle.pair_meaning.specs.LinkChoosing.{AreTaken}
 use Rattle.memory_link.specs.declared.slave_half.SlaveHalf.{SlaveHalf}
 use Rattle.memory_link.specs.Halves.{IsHalf}
 

@@ -7,9 +7,9 @@ use Rattle.wire.specs.Frames.{BeginsBad, BeginsTooLong}
 use Rattle.wire.specs.Limits.{IsBytes}
 use Rattle.wire.specs.View.{ReaderView}
 use Rattle.pair_meaning.specs.Peer.{cut, frame_at}
-use Rattle.pair_sides.specs.Links.{Half}
+use Rattle.pair_protocol.specs.Links.{Half}
 use Rattle.pair_meaning.specs.SlaveRun.{Slave}
-use Rattle.link_talks.specs.Talks.{all_heard}
+use Rattle.pair_meaning.specs.LinkTalks.{all_heard}
 use Rattle.memory_link.specs.declared.slave_half.SlaveHalf.{SlaveHalf}
 use Rattle.memory_link.specs.Halves.{IsHalf}
 

@@ -3,7 +3,7 @@ ghost use Rattle.std.specs.Prelude.{◌≡◌, ◌≤◌, ◌∷◌, [], IfOk, I
 ghost use Rattle.pt_base.specs.Talk.{gave, took};
 ghost use Rattle.pair_meaning.specs.SlaveRun as s;
 ghost use Rattle.slave_interp.specs.Slaves.{IsSlave};
-ghost use Rattle.link_talks.specs.Talks.{begun};
+ghost use Rattle.pair_meaning.specs.LinkTalks.{begun};
 ghost use Rattle.memory_link.specs.Came.{Came, IsLink};
 
 use crate::slave_end::SlaveEnd;

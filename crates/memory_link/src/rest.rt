@@ -1,6 +1,6 @@
 // What is left of a message that is being given.
 ghost use Rattle.std.specs.Prelude.{◌≡◌, ◌≢◌, ◌≤◌, ◌+◌, ◌++◌, [], IfOk, drop, length, vec_len};
-ghost use Rattle.pair_sides.specs.Pair.{is_empty};
+ghost use Rattle.pair_protocol.specs.Pair.{is_empty};
 
 use std::alloc::{AllocError, Global};
 use std::marker::Model;

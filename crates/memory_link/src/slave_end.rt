@@ -3,9 +3,9 @@ ghost use Rattle.std.specs.Prelude.{◌≡◌, ◌≢◌, ◌≤◌, ◌++◌, [
 ghost use Rattle.wire.specs.Limits.{Spells};
 ghost use Rattle.wire.specs.Spelling.{spelling};
 ghost use Rattle.pair_meaning.specs.SlaveRun as s;
-ghost use Rattle.pair_sides.specs.Pair.{is_empty};
+ghost use Rattle.pair_protocol.specs.Pair.{is_empty};
 ghost use Rattle.slave_interp.specs.Slaves.{IsSlave};
-ghost use Rattle.link_talks.specs.Talks.{Side, begun, hears};
+ghost use Rattle.pair_meaning.specs.LinkTalks.{Side, begun, hears};
 ghost use Rattle.memory_link.specs.Ends.{HasGiven, IsEnd};
 
 use crate::handing::hand_over;

@@ -11,7 +11,7 @@ use Rattle.wire.specs.declared.cell.WireCell.{WireCell}
 use Rattle.marshalling.specs.Handles.{Entries, unpacked_cell}
 use Rattle.marshalling.specs.Replies.{block_types, types_of}
 use Rattle.pair_meaning.specs.Serving.{with_brought}
-use Rattle.serving_soundness_law.specs.Laws.{emptied}
+use Rattle.monitor_soundness_law.specs.ServingLaws.{emptied}
 use Rattle.monitor_interp.specs.Bringing.{AreAlike}
 
 -- one after the other

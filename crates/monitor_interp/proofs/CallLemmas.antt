@@ -29,8 +29,8 @@ use Rattle.pt_core.specs.Statements.{Outcome, State}
 use Rattle.pt_core.specs.Steps as s
 use Rattle.pt_core.specs.Values.{number_in}
 use Rattle.pt_core.specs.WellFormed.{entries_fit, is_sound, is_well_formed_monitor, monitor_program}
-use Rattle.gates_agree_law.specs.Written.{Written}
-use Rattle.core_soundness.proofs.Programs.{facts_of}
+use Rattle.core_steps_law.specs.GatesWritten.{Written}
+use Rattle.core_soundness_law.proofs.Programs.{facts_of}
 use Rattle.core_machine.specs.declared.machine.Machine.{Machine}
 use Rattle.core_machine.specs.Machines.{Shown}
 use Rattle.marshalling.specs.Handles.{Entries, handle_fault, unpacked, unpacking}
@@ -59,11 +59,11 @@ use Rattle.serving_rules.specs.Opening.{broken_by}
 use Rattle.serving_rules.specs.Permitting.{Permits, Permitted, answered, granted, permission, refused, verdict_by}
 use Rattle.serving_rules.proofs.OpenedLemmas.{answer_by, rule_by, rules_see_types}
 use Rattle.serving_rules.proofs.PermissionLemmas.{permissions_decide}
-use Rattle.serving_soundness_law.specs.Laws.{IsServed, emptied}
-use Rattle.serving_soundness_law.specs.Sound.{IsSound}
-use Rattle.serving_soundness_law.proofs.Blocks.{brought_is}
-use Rattle.serving_soundness_law.proofs.Entries.{entries_are_named, sound_of}
-use Rattle.serving_soundness_law.proofs.Serving.{before_of, calls_are_served}
+use Rattle.monitor_soundness_law.specs.ServingLaws.{IsServed, emptied}
+use Rattle.monitor_soundness_law.specs.ServingSound.{IsSound}
+use Rattle.monitor_soundness_law.proofs.ServingBlocks.{brought_is}
+use Rattle.monitor_soundness_law.proofs.ServingEntries.{entries_are_named, sound_of}
+use Rattle.monitor_soundness_law.proofs.ServingLemmas.{before_of, calls_are_served}
 use Rattle.monitor_interp.specs.declared.call.Call.{Call}
 use Rattle.monitor_interp.specs.declared.handled.Handled.TheVariants.{GoesOn, Ended, Bad}
 use Rattle.monitor_interp.specs.declared.state.State as code

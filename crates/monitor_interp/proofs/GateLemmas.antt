@@ -16,8 +16,8 @@ use Rattle.pt_core.specs.CodeTree.{MonitorTree, ProgramTree}
 use Rattle.pt_core.specs.Calls.{no_signature}
 use Rattle.pt_core.specs.Steps.{enters, here}
 use Rattle.core_machine.specs.Gates.{gate_of}
-use Rattle.gates_agree_law.specs.Shown.{Shows}
-use Rattle.gates_agree_law.specs.Written.{bytes_gate}
+use Rattle.core_steps_law.specs.GatesShown.{Shows}
+use Rattle.core_steps_law.specs.GatesWritten.{bytes_gate}
 use Rattle.serving_rules.proofs.SearchLemmas.{twice}
 use Rattle.monitor_interp.specs.declared.marks.Mark.{Mark}
 use Rattle.monitor_interp.specs.Heard.{Heard, Known}

@@ -14,12 +14,12 @@ use Rattle.pt_core.specs.Calls.{signature_in}
 use Rattle.pt_core.specs.WellFormed.{callee_by, callee_fits, callees, is_well_formed_monitor, monitor_program, signature_at}
 use Rattle.pt_tree.specs.declared.signature.Signature.{Signature}
 use Rattle.host_models.specs.Fitting.{fits}
-use Rattle.core_soundness.proofs.Leaves.{never}
-use Rattle.core_soundness.proofs.Programs.{facts_of}
-use Rattle.called_functions_law.specs.Called.{is_called}
+use Rattle.core_soundness_law.proofs.Leaves.{never}
+use Rattle.core_soundness_law.proofs.Programs.{facts_of}
+use Rattle.core_soundness_law.specs.Called.{is_called}
 use Rattle.slave_soundness_law.proofs.Hosts.{each_holds}
-use Rattle.serving_soundness_law.proofs.Entries.{facts_of_entry, sound_of}
-use Rattle.pair_sides.specs.Sides.{Served, goes_on, ends, bad}
+use Rattle.monitor_soundness_law.proofs.ServingEntries.{facts_of_entry, sound_of}
+use Rattle.pair_protocol.specs.Sides.{Served, goes_on, ends, bad}
 use Rattle.pair_meaning.specs.Monitors.{Monitor, low}
 use Rattle.pair_meaning.specs.Rules.{Verdict, breaks, early_rule, makes, needs, rules, turns_of, unless_broken, writes}
 use Rattle.pair_meaning.specs.Rules as rule
@@ -27,7 +27,7 @@ use Rattle.pair_meaning.specs.Serving.{acted, is_spent, left_for, served_by, ver
 use Rattle.serving_rules.specs.declared.peer_rule.PeerRule as peer
 use Rattle.serving_rules.specs.RuleNames.{rule_of}
 use Rattle.serving_rules.specs.Turns.{left_behind}
-use Rattle.serving_soundness_law.specs.Sound.{HostsServe}
+use Rattle.monitor_soundness_law.specs.ServingSound.{HostsServe}
 use Rattle.monitor_interp.specs.declared.handled.Handled.{Handled}
 use Rattle.monitor_interp.specs.declared.handled.Handled.TheVariants.{Ended, Bad}
 use Rattle.monitor_interp.specs.declared.state.State as code

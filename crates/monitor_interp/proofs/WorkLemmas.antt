@@ -26,13 +26,13 @@ use Rattle.core_machine.specs.declared.frame.Frame.{Frame}
 use Rattle.core_machine.specs.Flat.{FlatProgram}
 use Rattle.core_machine.specs.States.{answer_of}
 use Rattle.core_machine.specs.Stops.{MovesOn}
-use Rattle.gates_agree_law.specs.Shown.{Shows, step_shown}
-use Rattle.gates_agree_law.specs.Written.{Written, bytes_gate, wrote}
-use Rattle.gates_agree_law.proofs.Agreement.{gates_agree}
-use Rattle.called_functions_law.proofs.Steps.{started_call_own}
-use Rattle.machine_steps_law.specs.Bodies.{BodyIsSteps, IsOutcome, TakesTurns, body_frame, body_outcome, written_then}
-use Rattle.machine_steps_law.proofs.Bodies.{bodies_are_steps}
-use Rattle.serving_soundness_law.proofs.Hosts.{gate_after}
+use Rattle.core_steps_law.specs.GatesShown.{Shows, step_shown}
+use Rattle.core_steps_law.specs.GatesWritten.{Written, bytes_gate, wrote}
+use Rattle.core_steps_law.proofs.GatesAgreement.{gates_agree}
+use Rattle.core_soundness_law.proofs.CalledSteps.{started_call_own}
+use Rattle.core_steps_law.specs.MachinesBodies.{BodyIsSteps, IsOutcome, TakesTurns, body_frame, body_outcome, written_then}
+use Rattle.core_steps_law.proofs.MachinesBodies.{bodies_are_steps}
+use Rattle.monitor_soundness_law.proofs.ServingHosts.{gate_after}
 use Rattle.monitor_interp.specs.declared.work.Task.{Task}
 use Rattle.monitor_interp.specs.declared.worked.Worked.{Worked}
 use Rattle.monitor_interp.specs.declared.worked.Worked.TheVariants.{Gave}

@@ -14,7 +14,7 @@ use Rattle.pt_core.specs.CodeTree.{MonitorTree, ProgramTree}
 use Rattle.pt_core.specs.Calls.{signature_in}
 use Rattle.pt_core.specs.Steps.{Way, enters, here}
 use Rattle.pt_core.specs.WellFormed.{monitor_program, signature_at}
-use Rattle.gates_agree_law.specs.Written.{Written}
+use Rattle.core_steps_law.specs.GatesWritten.{Written}
 use Rattle.monitor_interp.specs.declared.marks.Mark.{Mark}
 use Rattle.monitor_interp.specs.Heard.{Heard, Known}
 

@@ -3,7 +3,7 @@ use Rattle.std.specs.Prelude.{◌≡◌, ℕ, List, ◌++◌, Option, None}
 use Rattle.pt_base.specs.declared.end.End.{End}
 use Rattle.wire.specs.declared.message.Message.{Message}
 use Rattle.wire.specs.declared.message.ReplyBody.{ReplyBody}
-use Rattle.pair_sides.specs.Sides.{Served, goes_on, ends, bad}
+use Rattle.pair_protocol.specs.Sides.{Served, goes_on, ends, bad}
 use Rattle.pair_meaning.specs.Monitors.{Monitor}
 use Rattle.pair_meaning.specs.Rules.{PeerRule, Verdict, breaks, makes, turns_of, writes}
 use Rattle.pair_meaning.specs.Rules as rule

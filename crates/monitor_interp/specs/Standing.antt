@@ -16,8 +16,8 @@ use Rattle.pair_meaning.specs.Monitors.{Monitor}
 use Rattle.pair_meaning.specs.Rules.{Admitted}
 use Rattle.pair_meaning.specs.Serving.{inputs_of, work_of}
 use Rattle.serving_rules.specs.declared.asked.Asked.{Asked}
-use Rattle.serving_soundness_law.specs.Laws.{IsOpened}
-use Rattle.serving_soundness_law.specs.Sound.{IsSound}
+use Rattle.monitor_soundness_law.specs.ServingLaws.{IsOpened}
+use Rattle.monitor_soundness_law.specs.ServingSound.{IsSound}
 use Rattle.monitor_interp.specs.declared.call.Call.{Call}
 use Rattle.monitor_interp.specs.declared.state.State.{State}
 use Rattle.monitor_interp.specs.Working.{IsAt}

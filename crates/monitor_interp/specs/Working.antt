@@ -13,8 +13,8 @@ use Rattle.pt_core.specs.Statements.{Outcome, State}
 use Rattle.pt_core.specs.Steps as s
 use Rattle.pt_core.specs.Steps.{Answer, moved, asked, ended, trapped, spent, idle}
 use Rattle.pt_core.specs.Values.{number_in}
-use Rattle.gates_agree_law.specs.Written.{Written}
-use Rattle.machine_steps_law.specs.Bodies.{body_frame}
+use Rattle.core_steps_law.specs.GatesWritten.{Written}
+use Rattle.core_steps_law.specs.MachinesBodies.{body_frame}
 use Rattle.core_machine.specs.declared.machine.Machine.{Machine}
 use Rattle.core_machine.specs.Machines.{Shown}
 use Rattle.pair_meaning.specs.Serving.{host_gives}
@@ -23,7 +23,7 @@ use Rattle.monitor_interp.specs.declared.worked.Worked.{Worked}
 use Rattle.monitor_interp.specs.declared.worked.Worked.TheVariants.{Gave, Stopped}
 use Rattle.monitor_interp.specs.Heard.{Heard}
 use Rattle.monitor_interp.specs.Gates.{hosts_in, is_host_in, told_of}
-pub use Rattle.gates_agree_law.specs.Written.{begun_written as at_first}
+pub use Rattle.core_steps_law.specs.GatesWritten.{begun_written as at_first}
 pub use Rattle.pt_core.specs.Steps.{IsOfABody}
 
 -- ---- where both are

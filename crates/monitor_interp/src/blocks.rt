@@ -5,7 +5,7 @@ ghost use Rattle.pt_core.specs.CodeTree.{ProgramTree};
 ghost use Rattle.pt_core.specs.Steps as s;
 ghost use Rattle.core_machine.specs.Machines.{Shown};
 ghost use Rattle.pair_meaning.specs.Serving.{with_brought};
-ghost use Rattle.serving_soundness_law.specs.Laws.{emptied};
+ghost use Rattle.monitor_soundness_law.specs.ServingLaws.{emptied};
 ghost use Rattle.monitor_interp.specs.Bringing.{AreAlike};
 
 use block_memory::{BlockName, Cell};

@@ -31,7 +31,7 @@ impl Monitor {
     ghost use Rattle.pair_meaning.specs.Monitors as pair;
     ghost use Rattle.pair_meaning.specs.Serving as s;
     ghost use Rattle.pair_meaning.specs.Start.{monitor_start};
-    ghost use Rattle.serving_soundness_law.specs.Sound.{HostsServe};
+    ghost use Rattle.monitor_soundness_law.specs.ServingSound.{HostsServe};
     ghost use Rattle.monitor_interp.specs.Gates.{hosts_for};
     ghost use Rattle.monitor_interp.specs.Handling.{ChangesNothing, Handles};
     ghost use Rattle.monitor_interp.specs.Monitors.{IsMonitor};

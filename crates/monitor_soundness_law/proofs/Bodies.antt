@@ -23,23 +23,23 @@ use Rattle.pt_core.specs.Steps.{Active, Machine, Gate, Answer, Way, enters, here
 use Rattle.pt_core.specs.WellFormed.{signature_at, function_at, callees, callee_by, callee_fits, is_sound}
 use Rattle.core_steps_law.specs.WholeRun.{further, steps_run, whole_way}
 use Rattle.core_steps_law.specs.Laws.{machine_at}
-use Rattle.gates_agree_law.specs.Written.{Written, bytes_gate}
-use Rattle.core_soundness.specs.Kept.{none}
-use Rattle.core_soundness.specs.Fits.{Fits, MemoryFits, AllFit}
-use Rattle.core_soundness.specs.Outside.{ArgumentsFit, GivenFits, own_params}
-use Rattle.core_soundness.specs.StepLaws.{AnswerFits, IsSameShape, NumberFits, StepFits}
-use Rattle.core_soundness.proofs.Leaves.{never}
-use Rattle.core_soundness.proofs.Programs.{ProgramFacts, facts_of}
-use Rattle.core_soundness.proofs.Shapes.{received_stay}
-use Rattle.core_soundness.proofs.Starting.{started_fits}
-use Rattle.called_functions_law.specs.Called.{is_called, CallOwn, GoesBy, HasOutermost}
-use Rattle.called_functions_law.specs.Keeping.{FitsCalls}
-use Rattle.called_functions_law.proofs.Accounts.{steps_keep_account}
-use Rattle.called_functions_law.proofs.Gates.{gate_keeps}
-use Rattle.called_functions_law.proofs.Keeping.{steps_keep_called}
-use Rattle.called_functions_law.proofs.Steps.{started_call_own, steps_call_own}
-use Rattle.machine_steps_law.specs.Bodies.{body_frame, body_outcome, written_then, BodyIsSteps, IsOutcome}
-use Rattle.machine_steps_law.proofs.Bodies.{bodies_are_steps}
+use Rattle.core_steps_law.specs.GatesWritten.{Written, bytes_gate}
+use Rattle.core_soundness_law.specs.Kept.{none}
+use Rattle.core_soundness_law.specs.Fits.{Fits, MemoryFits, AllFit}
+use Rattle.core_soundness_law.specs.Outside.{ArgumentsFit, GivenFits, own_params}
+use Rattle.core_soundness_law.specs.StepLaws.{AnswerFits, IsSameShape, NumberFits, StepFits}
+use Rattle.core_soundness_law.proofs.Leaves.{never}
+use Rattle.core_soundness_law.proofs.Programs.{ProgramFacts, facts_of}
+use Rattle.core_soundness_law.proofs.Shapes.{received_stay}
+use Rattle.core_soundness_law.proofs.Starting.{started_fits}
+use Rattle.core_soundness_law.specs.Called.{is_called, CallOwn, GoesBy, HasOutermost}
+use Rattle.core_soundness_law.specs.CalledKeeping.{FitsCalls}
+use Rattle.core_soundness_law.proofs.CalledAccounts.{steps_keep_account}
+use Rattle.core_soundness_law.proofs.CalledGates.{gate_keeps}
+use Rattle.core_soundness_law.proofs.CalledKeeping.{steps_keep_called}
+use Rattle.core_soundness_law.proofs.CalledSteps.{started_call_own, steps_call_own}
+use Rattle.core_steps_law.specs.MachinesBodies.{body_frame, body_outcome, written_then, BodyIsSteps, IsOutcome}
+use Rattle.core_steps_law.proofs.MachinesBodies.{bodies_are_steps}
 use Rattle.slave_soundness_law.proofs.Hosts.{each_holds}
 use Rattle.monitor_soundness_law.specs.Laws.{HostsFit, IsAtRest, LeavesNumbers, BodiesLeaveNumbers}
 use Rattle.monitor_soundness_law.proofs.Hosts.{number_fits, put_fits}

@@ -11,10 +11,10 @@ use Rattle.host_models.specs.Fitting.{fits}
 use Rattle.host_models.proofs.AnswerLemmas.{fits_in_range}
 use Rattle.pt_core.specs.CodeTree.{ProgramTree}
 use Rattle.pt_core.specs.Calls.{signature_in, number_cell}
-use Rattle.core_soundness.specs.Kept.{none}
-use Rattle.core_soundness.specs.Outside.{GivenFits}
-use Rattle.core_soundness.specs.StepLaws.{NumberFits}
-use Rattle.core_soundness.proofs.Leaves.{never}
+use Rattle.core_soundness_law.specs.Kept.{none}
+use Rattle.core_soundness_law.specs.Outside.{GivenFits}
+use Rattle.core_soundness_law.specs.StepLaws.{NumberFits}
+use Rattle.core_soundness_law.proofs.Leaves.{never}
 use Rattle.monitor_soundness_law.specs.Laws.{HostsFit, HostsLeaveNumbers}
 
 equal : (m n : ℕ) → nat_eq m n ≡ true → m ≡ n

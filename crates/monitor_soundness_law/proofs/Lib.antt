@@ -1,2 +1,7 @@
 pub mod Bodies
 pub mod Hosts
+pub mod ServingBlocks
+pub mod ServingEntries
+pub mod ServingHosts
+pub mod ServingStores
+pub mod ServingLemmas

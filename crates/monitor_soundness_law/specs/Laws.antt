@@ -11,13 +11,13 @@ use Rattle.pt_core.specs.CodeTree.{ProgramTree}
 use Rattle.pt_core.specs.Calls.{body_run, calls_within, number_cell, signature_in}
 use Rattle.pt_core.specs.Statements.{State, Frame}
 use Rattle.pt_core.specs.WellFormed.{function_at, is_sound}
-use Rattle.core_soundness.specs.Kept.{none}
-use Rattle.core_soundness.specs.Fits.{MemoryFits}
-use Rattle.core_soundness.specs.Outside.{ArgumentsFit, GivenFits, own_params}
-use Rattle.core_soundness.specs.StepLaws.{IsSameShape, NumberFits}
-use Rattle.called_functions_law.specs.Called.{is_called}
+use Rattle.core_soundness_law.specs.Kept.{none}
+use Rattle.core_soundness_law.specs.Fits.{MemoryFits}
+use Rattle.core_soundness_law.specs.Outside.{ArgumentsFit, GivenFits, own_params}
+use Rattle.core_soundness_law.specs.StepLaws.{IsSameShape, NumberFits}
+use Rattle.core_soundness_law.specs.Called.{is_called}
 pub use Rattle.slave_soundness_law.specs.Sound.{IsSound}
-use Rattle.machine_steps_law.specs.Bodies.{body_frame}
+use Rattle.core_steps_law.specs.MachinesBodies.{body_frame}
 
 -- each host of the program that is called has a model that may stand for it
 abbrev pub HostsFit : ProgramTree → Hosts → Type 0

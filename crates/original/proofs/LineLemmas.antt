@@ -6,7 +6,7 @@ use Rattle.front_end.specs.declared.error.FrontError.TheVariants.{Lex, Parse, Ty
 use Rattle.front_end.specs.Reading.{HasTypedTree, Reads}
 use Rattle.host_table.specs.declared.fault.HostFault.{HostFault}
 use Rattle.host_table.specs.HostFaults.{host_faults}
-use Rattle.fault_lines.specs.FrontLines.{front_lines}
+use Rattle.front_end.specs.FrontLines.{front_lines}
 use Rattle.host_lines.specs.HostLines.{host_lines}
 use Rattle.original.specs.Original.{Texts, lex, parse, types, host}
 use Rattle.original.specs.OutcomeSeen.{AreLinesOf}

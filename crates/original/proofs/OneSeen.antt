@@ -2,7 +2,7 @@
 use Rattle.std.proofs.Common.{◌≡◌, ◌∙◌, ℕ, List, sym, subst}
 use Rattle.pt_base.specs.declared.end.End.{End}
 use Rattle.pt_base.specs.declared.end.End.TheVariants.{Exit, Trapped, Spent, Refused}
-use Rattle.fault_lines.specs.Seen.{Seen}
+use Rattle.front_end.specs.FaultLinesSeen.{Seen}
 use Rattle.original.specs.Original.{Outcome, refused, ran}
 use Rattle.original.specs.Seen.{ShowsRun, Shows, SeenIsOne}
 use Rattle.original.proofs.OneOutcome.{outcome_is_one}

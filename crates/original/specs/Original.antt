@@ -12,7 +12,7 @@ use Rattle.host_table.specs.Hosts.{Hosts}
 use Rattle.host_table.specs.RunHosts.{models_of}
 use Rattle.runs.specs.Run.{Run, written}
 use Rattle.source_meaning.specs.WholeRun.{whole_run}
-use Rattle.fault_lines.specs.FaultLines.{lex_line, parse_line, type_lines}
+use Rattle.front_end.specs.FaultLines.{lex_line, parse_line, type_lines}
 use Rattle.host_lines.specs.GivenHosts.{most, GivesHosts}
 use Rattle.host_lines.specs.HostLines.{host_lines, input_line}
 

@@ -4,8 +4,8 @@ use Rattle.std.specs.Fmt.{signed_decimal}
 use Rattle.pt_base.specs.declared.end.End.{End}
 use Rattle.pt_base.specs.declared.end.End.TheVariants.{Exit, Trapped, Spent, Refused}
 use Rattle.pt_base.specs.Traps.{trap_name}
-use Rattle.fault_lines.specs.FaultLines.{place_text}
-use Rattle.fault_lines.specs.Seen.{Seen, faulty}
+use Rattle.front_end.specs.FaultLines.{place_text}
+use Rattle.front_end.specs.FaultLinesSeen.{Seen, faulty}
 use Rattle.original.specs.Original.{Texts, Outcome, refused, ran, ComesTo, lines_of}
 
 -- a run with these bytes and this end; no policy is asked, so none refuses

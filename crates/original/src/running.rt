@@ -4,7 +4,7 @@ ghost use Rattle.host_table.specs.Hosts.{hosts_of};
 ghost use Rattle.host_table.specs.RunHosts.{models_of};
 ghost use Rattle.source_meaning.specs.WholeRun.{whole_run};
 ghost use Rattle.typed_tree.specs.TypedView.{view_typed};
-ghost use Rattle.program_run.specs.HostGates.{AreOf};
+ghost use Rattle.original.specs.MachineRunHostGates.{AreOf};
 ghost use Rattle.original.specs.OutcomeSeen.{end_of, IsUnrefused, IsSeen};
 
 use crate::outcome::{Ended, Outcome};
@@ -27,7 +27,7 @@ pub(crate) fn run<R: Threads + Sync, W: Watch>(
     ensures { IfOk result
         (IsSeen (whole_run (view_typed program.now) (models_of (hosts_of hosts).models) (hosts_of hosts).input turns)) }
 {
-    let ran = program_run::run(rt, alloc, program, hosts, turns, watch)?;
+    let ran = crate::machine_run::run(rt, alloc, program, hosts, turns, watch)?;
     Ok(Outcome::Ran {
         written: ran.written,
         end: ended(ran.end),

@@ -3,15 +3,14 @@ ghost use Rattle.std.specs.Prelude.{◌≡◌, ℕ, List, IfOk};
 ghost use Rattle.front_end.specs.Reading.{HasTypedTree};
 ghost use Rattle.host_table.specs.Hosts.{hosts_of};
 ghost use Rattle.typed_tree.specs.TypedView.{view_typed};
-ghost use Rattle.program_run.specs.HostGates.{AreOf};
+ghost use Rattle.original.specs.MachineRunHostGates.{AreOf};
 ghost use Rattle.host_lines.specs.GivenHosts.{GivesHosts};
 ghost use Rattle.original.specs.Original.{Texts};
 ghost use Rattle.original.specs.OutcomeSeen.{IsOutcome};
 
 use crate::outcome::Outcome;
 use crate::running::run;
-use fault_lines::front_lines;
-use front_end::read_program;
+use front_end::{front_lines, read_program};
 use host_lines::{INPUT_LIMIT, host_lines, input_line};
 use host_table::{Host, HostError, read_host};
 use pt_base::Watch;

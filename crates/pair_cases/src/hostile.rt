@@ -2,8 +2,7 @@
 use crate::batches::{Batch, Given};
 use anyhow::{Result, bail};
 use case_rows::first_word;
-use hostile_streams::{LARGE_STREAMS, Made, large_stream};
-use second_monitor::{SETTINGS, Setting};
+use second_monitor::{LARGE_STREAMS, Made, SETTINGS, Setting, large_stream};
 use std::alloc::Global;
 use std::thread::Threads;
 

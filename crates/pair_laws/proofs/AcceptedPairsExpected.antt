@@ -12,17 +12,17 @@ use Rattle.policy.specs.Verdicts.{Standing}
 use Rattle.typed_tree.specs.TypedTree.{TypedTree}
 use Rattle.typed_tree.specs.WellFormed.{is_well_formed}
 use Rattle.check_programs.specs.Programs.{checked_program}
-use Rattle.check_programs_law.specs.Laws.{ProgramsAreWellFormed}
+use Rattle.type_law.specs.ProgramsLaws.{ProgramsAreWellFormed}
 use Rattle.c_lower_law.specs.Statements.{LoweringKeepsTheRun}
 use Rattle.flow_rules.specs.declared.accepted.Accepted.{Accepted}
-use Rattle.said_code_law.specs.Laws.{CheckedProgramsPlaceNulls}
-use Rattle.said_code_law.specs.Nulls.{nulls_stand}
+use Rattle.half_names_law.specs.SaidLaws.{CheckedProgramsPlaceNulls}
+use Rattle.half_names_law.specs.SaidNulls.{nulls_stand}
 use Rattle.pt_core.specs.CodeTree.{BootTree}
 use Rattle.pair_meaning.specs.Monitors.{Monitor}
 use Rattle.pair_meaning.specs.Start.{reads_input}
-use Rattle.pair_invariant.specs.Laws.{CallsKeep}
-use Rattle.pair_invariant.specs.Live.{Setting, expected_of as setting_expected}
-use Rattle.pair_invariant.specs.Slaves.{Stays}
+use Rattle.pair_invariant_law.specs.Laws.{CallsKeep}
+use Rattle.pair_invariant_law.specs.Live.{Setting, expected_of as setting_expected}
+use Rattle.pair_invariant_law.specs.Slaves.{Stays}
 use Rattle.pair_laws.specs.PairStepsEnds.{Begins, HonestPeersAreExpected, ThePairEnds, ThePairIsExpected}
 use Rattle.pair_laws.specs.KeptSlavesLaws.{AcceptedSlavesStay}
 use Rattle.pair_laws.specs.PairStartLaws.{AcceptedPairsBegin, BootsAreWellFormed, IsAcceptedWith}

@@ -9,8 +9,8 @@ use Rattle.policy.specs.Answers.{allowed, answers_of, function_of}
 use Rattle.policy.specs.Verdicts as policy
 use Rattle.policy.specs.Verdicts.{Standing}
 use Rattle.pt_core.specs.Values.{number_in}
-use Rattle.machine_steps_law.specs.Judged as judge
-use Rattle.machine_steps_law.specs.Judged.{Judgement, judged}
+use Rattle.core_steps_law.specs.MachinesJudged as judge
+use Rattle.core_steps_law.specs.MachinesJudged.{Judgement, judged}
 use Rattle.marshalling.specs.Packing.{names_of, packed_block}
 use Rattle.marshalling.specs.Sendable.{holds, sends_all}
 use Rattle.marshalling.proofs.Lists.{first}

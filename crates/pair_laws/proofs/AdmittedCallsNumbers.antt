@@ -15,7 +15,7 @@ use Rattle.marshalling.specs.Handles.{Entries}
 use Rattle.marshalling.specs.Packing.{packed_argument, packed_arguments}
 use Rattle.marshalling.specs.Sendable.{is_kept, sends_all, sends_kind}
 use Rattle.marshalling.proofs.Lists.{first, second}
-use Rattle.part_views.specs.Views.{View, seen_cell}
+use Rattle.part_views_law.specs.Views.{View, seen_cell}
 use Rattle.pair_meaning.specs.Rules.{number_in_argument}
 
 -- an argument for a plain integer parameter

@@ -7,7 +7,7 @@ use Rattle.pt_base.specs.declared.end.End.TheVariants.{Spent}
 use Rattle.typed_tree.specs.declared.types.StructInfo.{StructInfo}
 use Rattle.marshalling.specs.Shape.{is_shaped}
 use Rattle.marshalling_law.proofs.PostingLemmas.{replies_hold_numbers}
-use Rattle.replies_law.proofs.Faults.{faults_see_types}
+use Rattle.marshalling_law.proofs.RepliesFaults.{faults_see_types}
 use Rattle.pair_meaning.specs.Monitors.{low}
 use Rattle.pair_meaning.specs.Rules.{Admitted, PeerRule, Verdict, asked_for, bad_depth, bad_shape, bad_turns, blank, broken_if, call_rule, first_broken, handle_rule, has_depth, makes, needs, permitted, posted_plain, rule_of_fault, rules, tells, unless_broken, early_rule}
 use Rattle.pair_meaning.specs.Rules as rule

@@ -6,16 +6,16 @@ use Rattle.block_memory.specs.declared.cell.Cell.{Cell}
 use Rattle.wire.specs.declared.message.Message.{Message}
 use Rattle.wire.specs.declared.message.ReplyBody.{ReplyBody}
 use Rattle.pt_core.specs.CodeTree.{BootTree}
-use Rattle.pair_sides.specs.Sides.{going, waits}
-use Rattle.pair_sides.specs.Pair.{Both, run}
+use Rattle.pair_protocol.specs.Sides.{going, waits}
+use Rattle.pair_protocol.specs.Pair.{Both, run}
 use Rattle.pair_meaning.specs.Monitors.{Monitor}
 use Rattle.pair_meaning.specs.Rules.{PeerRule}
 use Rattle.pair_meaning.specs.SlaveRun.{Doing, Slave, goes, is_over, is_reply_to, longest, mode_by, mode_of, slave_of, take, taken_by, waits_for, with_reply, may_take}
 use Rattle.pair_meaning.specs.Pair.{the_sides, serve_all, said, slave_at}
 use Rattle.pair_meaning.specs.Peer.{are_awaited, is_awaited}
 use Rattle.pair_meaning.proofs.Fair.{the_sides_are_fair}
-use Rattle.pair_invariant.specs.Laws.{CallsKeep}
-use Rattle.pair_invariant.specs.Live.{IsKept, Setting}
+use Rattle.pair_invariant_law.specs.Laws.{CallsKeep}
+use Rattle.pair_invariant_law.specs.Live.{IsKept, Setting}
 use Rattle.pair_laws.proofs.PairStepsPair.{the_pair_keeps}
 use Rattle.pair_laws.specs.AwaitedRepliesLaws.{RepliesAreAwaited, WhatIsSaidGrows}
 use Rattle.pair_laws.proofs.AwaitedRepliesFacts.{going_waits, over_going, over_waits}

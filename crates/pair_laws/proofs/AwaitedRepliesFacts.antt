@@ -1,8 +1,8 @@
 -- Lists, modes, and a slave that goes on.
 use Rattle.std.proofs.Common.{◌≡◌, ℕ, suc, List, [], ◌∷◌, ◌++◌, refl, sym, ◌∙◌, ap, arith, Bool, true, false, Option, Some, None}
-use Rattle.pair_sides.specs.Sides.{Mode, going, waits, over, Sides, waiting}
-use Rattle.pair_sides.specs.SlaveRun.{having, moved_on, slave_at, with_said}
-use Rattle.pair_order_law.proofs.SlaveFacts.{ready_idle}
+use Rattle.pair_protocol.specs.Sides.{Mode, going, waits, over, Sides, waiting}
+use Rattle.pair_protocol.specs.SlaveRun.{having, moved_on, slave_at, with_said}
+use Rattle.pair_protocol.proofs.OrderSlaveFacts.{ready_idle}
 
 pub append_all : {A : Type 0} (xs ys zs : List A) → (xs ++ ys) ++ zs ≡ xs ++ (ys ++ zs)
 append_all [] ys zs = refl

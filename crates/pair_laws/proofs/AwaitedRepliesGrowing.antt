@@ -1,7 +1,7 @@
 -- With more replies a slave says what it said, and maybe more.
 use Rattle.std.proofs.Common.{◌≡◌, ℕ, zero, suc, List, [], ◌∷◌, ◌++◌, refl, sym, ◌∙◌, ap, Option}
-use Rattle.pair_sides.specs.Sides.{Mode, going, waits, over, Sides}
-use Rattle.pair_sides.specs.SlaveRun.{Ready, having, ready_in, ready, with_said, moved_on, slave_at}
+use Rattle.pair_protocol.specs.Sides.{Mode, going, waits, over, Sides}
+use Rattle.pair_protocol.specs.SlaveRun.{Ready, having, ready_in, ready, with_said, moved_on, slave_at}
 use Rattle.pair_laws.proofs.AwaitedRepliesFacts.{said_more}
 
 abbrev pub IsFront : {X : Type 0} → List X → List X → Type 0

@@ -1,10 +1,10 @@
 -- While the pair in which each message is served at once goes on, its slave waits for each reply, and goes on behind it.
 use Rattle.std.proofs.Common.{◌≡◌, ℕ, zero, suc, List, [], ◌∷◌, ◌++◌, refl, sym, ◌∙◌, ap, subst, true, false, Option, Some, None}
-use Rattle.pair_sides.specs.Sides.{Mode, going, waits, over, Served, goes_on, ends, bad, Sides, AreFair, HasReply, of_bool, waiting, asks}
-use Rattle.pair_sides.specs.SlaveRun.{At, having, with_said, moved_on, ready, slave_at}
-use Rattle.pair_sides.specs.Serving.{after, serve_all}
-use Rattle.pair_sides.specs.Pair.{Both, run, answered, heard, both_in, both_step}
-use Rattle.pair_order_law.proofs.SlaveFacts.{ready_none, taken_first}
+use Rattle.pair_protocol.specs.Sides.{Mode, going, waits, over, Served, goes_on, ends, bad, Sides, AreFair, HasReply, of_bool, waiting, asks}
+use Rattle.pair_protocol.specs.SlaveRun.{At, having, with_said, moved_on, ready, slave_at}
+use Rattle.pair_protocol.specs.Serving.{after, serve_all}
+use Rattle.pair_protocol.specs.Pair.{Both, run, answered, heard, both_in, both_step}
+use Rattle.pair_protocol.proofs.OrderSlaveFacts.{ready_none, taken_first}
 use Rattle.pair_laws.proofs.AwaitedRepliesFacts.{append_all, first, none_some, one_waits, opens, others}
 
 -- behind the replies before, it waits for the next one, and goes on with it; and so on

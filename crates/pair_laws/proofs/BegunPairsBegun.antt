@@ -11,7 +11,7 @@ use Rattle.policy.specs.declared.rule.Rule.{Rule}
 use Rattle.policy.specs.Verdicts.{start}
 use Rattle.flow_rules.specs.declared.accepted.Accepted.{Accepted}
 use Rattle.flow_rules.specs.Faults.{IsAccepted}
-use Rattle.text_readings_law.proofs.TextTrees.{program_sound}
+use Rattle.front_end_law.proofs.ReadingsTextTrees.{program_sound}
 use Rattle.pt_core.specs.CodeTree.{BootTree}
 use Rattle.pt_core.specs.WellFormed.{is_well_formed_boot, is_well_formed_monitor}
 use Rattle.pair_meaning.specs.Monitors.{Monitor}

@@ -11,25 +11,25 @@ use Rattle.block_memory.specs.declared.cell.Cell.{Cell}
 use Rattle.wire.specs.declared.message.Message.{Message}
 use Rattle.wire.specs.declared.message.ReplyBody.{ReplyBody}
 use Rattle.pt_core.specs.CodeTree.{BootTree}
-use Rattle.pair_sides.specs.SlaveRun as run
-use Rattle.pair_sides.specs.SlaveRun.{listed}
-use Rattle.pair_order_law.specs.Laws.{CallsAreCounted}
-use Rattle.pair_order_law.proofs.Theorems.{slaves_are_counted}
+use Rattle.pair_protocol.specs.SlaveRun as run
+use Rattle.pair_protocol.specs.SlaveRun.{listed}
+use Rattle.pair_protocol.specs.OrderLaws.{CallsAreCounted}
+use Rattle.pair_protocol.proofs.OrderTheorems.{slaves_are_counted}
 use Rattle.pair_meaning.specs.Monitors.{Monitor}
 use Rattle.pair_meaning.specs.Rules.{PeerRule}
 use Rattle.pair_meaning.specs.SlaveRun.{Slave, slave_of, Doing, goes, waits_for, is_over, mode_by, slave_step, take, taken_by}
 use Rattle.pair_meaning.specs.Pair.{the_sides}
 use Rattle.pair_meaning.proofs.Fair.{the_sides_are_fair}
-use Rattle.slave_classes_law.proofs.Programs.{slave_classes}
-use Rattle.slave_keeps_law.specs.Laws.{boot_of, computes, is_marked}
-use Rattle.slave_keeps_law.proofs.Runs.{never_met}
+use Rattle.handle_classes_law.proofs.SlavesPrograms.{slave_classes}
+use Rattle.handle_flow_law.specs.KeptLaws.{boot_of, computes, is_marked}
+use Rattle.handle_flow_law.proofs.KeptRuns.{never_met}
 use Rattle.slave_soundness_law.specs.Sound.{IsSound}
 use Rattle.slave_soundness_law.proofs.Beginning.{slaves_begin_sound}
 use Rattle.slave_soundness_law.proofs.Stepping.{slaves_stay_sound}
 use Rattle.slave_soundness_law.proofs.Taking.{takers_stay_sound}
-use Rattle.asked_handles_law.specs.Laws.{AsksUnderMarks}
-use Rattle.asked_handles_law.proofs.Asking.{asks_stand}
-use Rattle.pair_invariant.proofs.Staying.{kept_stay}
+use Rattle.handle_flow_law.specs.AskedLaws.{AsksUnderMarks}
+use Rattle.handle_flow_law.proofs.AskedAsking.{asks_stand}
+use Rattle.pair_invariant_law.proofs.Staying.{kept_stay}
 use Rattle.pair_laws.specs.KeptSlavesLaws.{Reached, ReachedSlavesAreKept, AcceptedSlavesStay}
 
 -- ---- they are sound

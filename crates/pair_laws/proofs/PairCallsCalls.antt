@@ -21,31 +21,31 @@ use Rattle.pt_core.specs.Steps as p
 use Rattle.pt_core.specs.Steps.{Answer, Step, asked}
 use Rattle.pt_core.specs.WellFormed.{monitor_program}
 use Rattle.core_steps_law.specs.WholeRun.{end_of}
-use Rattle.machine_steps_law.specs.Judged.{Judgement, Judging, judged_end}
-use Rattle.machine_steps_law.proofs.Judging.{refused_runs_are_expected, runs_are_judged}
+use Rattle.core_steps_law.specs.MachinesJudged.{Judgement, Judging, judged_end}
+use Rattle.core_steps_law.proofs.MachinesJudging.{refused_runs_are_expected, runs_are_judged}
 use Rattle.marshalling.specs.HonestCalls as honest_calls
 use Rattle.marshalling.specs.Replies.{has_plain, packed_results, result_places}
 use Rattle.marshalling.specs.Taking.{after_posting, after_reply, call_places, is_reply}
 use Rattle.marshalling_law.proofs.PostingLemmas.{posting_takes}
-use Rattle.crossing_views_law.proofs.Ending.{calls_end}
-use Rattle.pair_sides.specs.Sides.{Moved, Served, goes_on}
-use Rattle.pair_sides.specs.Sides as side
-use Rattle.pair_sides.specs.Pair.{Both, answered, both_in, both_step, heard, run}
+use Rattle.part_views_law.proofs.CrossingsEnding.{calls_end}
+use Rattle.pair_protocol.specs.Sides.{Moved, Served, goes_on}
+use Rattle.pair_protocol.specs.Sides as side
+use Rattle.pair_protocol.specs.Pair.{Both, answered, both_in, both_step, heard, run}
 use Rattle.pair_meaning.specs.Monitors.{Monitor, low}
 use Rattle.pair_meaning.specs.Pair.{the_sides}
 use Rattle.pair_meaning.specs.Rules.{Admitted, PeerRule, Verdict, bad_turns, broken_if, makes, rules, unless_broken}
 use Rattle.pair_meaning.specs.Rules as rule
 use Rattle.pair_meaning.specs.Serving.{acted, global_part, is_spent, left_for, reply_with, serve, served_by, work_of}
 use Rattle.pair_meaning.specs.SlaveRun.{Doing, Slave, after_step, awaits_reply, calls_or_parks, is_over, is_reply_to, machine_step, mode_by, must_wait, parks, posts, says_call, slave_step, stepped, take, with_reply, with_taken}
-use Rattle.pair_invariant.specs.Laws.{CallsKeep}
-use Rattle.pair_invariant.specs.Live.{IsKept, IsLive, IsSetting, Setting, expected_of, whole_after}
+use Rattle.pair_invariant_law.specs.Laws.{CallsKeep}
+use Rattle.pair_invariant_law.specs.Live.{IsKept, IsLive, IsSetting, Setting, expected_of, whole_after}
 use Rattle.pair_laws.specs.ServedBodiesLaws.{Ends, IsNoted, IsSpent, IsTheWholes, IsWhole, number_of}
 use Rattle.pair_laws.specs.ServedBodiesScene.{IsScene, Scene, admitted, noted, sent_body, signature, turns_left}
 use Rattle.pair_laws.proofs.ServedBodiesCalled.{calls_are_noted, calls_are_spent}
 use Rattle.pair_laws.proofs.ServedBodiesMemory.{brought_is}
 use Rattle.pair_laws.proofs.ServedBodiesServed.{served_calls_are_the_wholes}
 use Rattle.pair_laws.proofs.ServedBodiesWork.{sent}
-use Rattle.monitor_gates_law.specs.Laws.{Told}
+use Rattle.pair_invariant_law.specs.MonitorGatesLaws.{Told}
 use Rattle.pair_laws.specs.AdmittedCallsLaws.{IsAllowed, IsDenied, call_said, holds_number}
 use Rattle.pair_laws.proofs.AdmittedCallsJudged.{honest_calls_are_judged}
 use Rattle.pair_laws.proofs.PairCallsGoing.{back, live_again, next_monitor, next_slave, ok}

@@ -16,30 +16,30 @@ use Rattle.pt_core.specs.Statements.{State}
 use Rattle.pt_core.specs.Calls.{signature_in}
 use Rattle.pt_core.specs.Steps.{answers, asked, moved}
 use Rattle.pt_core.specs.WellFormed.{monitor_program, signature_at}
-use Rattle.machine_steps_law.specs.Judged.{Judgement, Judging}
-use Rattle.core_soundness.specs.Fits.{MemoryFits}
-use Rattle.core_soundness.specs.Kept.{none}
+use Rattle.core_steps_law.specs.MachinesJudged.{Judgement, Judging}
+use Rattle.core_soundness_law.specs.Fits.{MemoryFits}
+use Rattle.core_soundness_law.specs.Kept.{none}
 use Rattle.marshalling.specs.Handles.{Entries}
 use Rattle.marshalling.specs.HonestCalls.{returned}
 use Rattle.marshalling.specs.Replies.{Place, kept, kept_by, kept_results, result_places}
 use Rattle.marshalling.specs.Taking.{Taken, call_places, zeros}
-use Rattle.part_views.specs.Machines.{nobody, seen_machine}
-use Rattle.part_views.specs.Views.{slave_view}
-use Rattle.crossing_views_law.specs.Stores.{IsGrown, sealed_types, store_types}
-use Rattle.crossing_views_law.proofs.Ending.{calls_end}
-use Rattle.crossing_views_law.proofs.Stores.{stores_grow}
-use Rattle.parts_step_law.specs.Parts.{HasSignature, Stands}
-use Rattle.shown_calls_law.proofs.Shown.{slaves_go_on}
+use Rattle.part_views_law.specs.Machines.{nobody, seen_machine}
+use Rattle.part_views_law.specs.Views.{slave_view}
+use Rattle.part_views_law.specs.CrossingsStores.{IsGrown, sealed_types, store_types}
+use Rattle.part_views_law.proofs.CrossingsEnding.{calls_end}
+use Rattle.part_views_law.proofs.CrossingsStores.{stores_grow}
+use Rattle.part_views_law.specs.StepsParts.{HasSignature, Stands}
+use Rattle.part_views_law.proofs.CallsShown.{slaves_go_on}
 use Rattle.pair_meaning.specs.LowView.{types_kept}
 use Rattle.pair_meaning.specs.Monitors.{Monitor, types_in}
 use Rattle.pair_meaning.specs.Serving.{global_part, served_with, turns_taken}
 use Rattle.pair_meaning.specs.SlaveRun.{Slave, goes, machine_step, stepped, types_given}
 use Rattle.pair_meaning.specs.Start.{reads_input}
-use Rattle.monitor_gates_law.specs.Laws.{Told, is_host_of}
-use Rattle.monitor_gates_law.proofs.Models.{both_true, called_signed}
-use Rattle.pair_invariant.specs.Halves.{is_own_host}
-use Rattle.pair_invariant.specs.Hosts.{HostsAgree}
-use Rattle.pair_invariant.specs.Live.{IsBeside, IsLive, IsSetting, IsTheirs, Setting, whole_after}
+use Rattle.pair_invariant_law.specs.MonitorGatesLaws.{Told, is_host_of}
+use Rattle.pair_invariant_law.proofs.MonitorGatesModels.{both_true, called_signed}
+use Rattle.pair_invariant_law.specs.Halves.{is_own_host}
+use Rattle.pair_invariant_law.specs.Hosts.{HostsAgree}
+use Rattle.pair_invariant_law.specs.Live.{IsBeside, IsLive, IsSetting, IsTheirs, Setting, whole_after}
 use Rattle.pair_laws.specs.ServedBodiesLaws.{IsTold, IsWhole, ShowsTaking, number_of, store_then, taking}
 use Rattle.pair_laws.specs.ServedBodiesScene.{IsScene, Scene, admitted, noted, sent_body, signature, turns_left}
 use Rattle.pair_laws.proofs.ServedBodiesMemory.{brought_is}

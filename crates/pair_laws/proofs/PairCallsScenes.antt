@@ -23,37 +23,37 @@ use Rattle.pt_core.specs.WellFormed.{is_sound, monitor_program, param_fits, sign
 use Rattle.core_steps_law.specs.WholeRun.{begun_machine, further, steps_run}
 use Rattle.core_steps_law.proofs.Sums.{steps_add}
 use Rattle.core_steps_law.proofs.TurnBounds.{steps_take_a_turn}
-use Rattle.machine_steps_law.specs.Judged.{Judging, begun_judging, judging_gate}
-use Rattle.core_soundness.specs.Kept.{by_store}
-use Rattle.core_soundness.specs.Fits.{AllFit}
-use Rattle.core_soundness.specs.Outside.{ArgumentsFit}
-use Rattle.core_soundness.specs.StepLaws.{AnswerFits, StepFits, called_params}
-use Rattle.core_soundness.proofs.Programs.{facts_of}
-use Rattle.core_soundness.proofs.Shapes.{received_stay}
-use Rattle.called_functions_law.specs.Called.{GoOnWith, GoesBy, HasAsked, KeepsAccount}
-use Rattle.called_functions_law.proofs.Accounts.{steps_keep_account}
-use Rattle.called_functions_law.proofs.Keeping.{steps_keep_called}
-use Rattle.part_views.specs.Machines.{nobody, seen_machine}
-use Rattle.part_views.specs.Views.{View, slave_view}
-use Rattle.part_views.proofs.Instances.{slaves_are_viewed}
-use Rattle.call_shapes_law.specs.Packable.{AreSmall}
-use Rattle.call_shapes_law.specs.Sending.{AreParameters}
-use Rattle.call_shapes_law.proofs.Packable.{all_are_given, block_small}
-use Rattle.parts_step_law.specs.Outward.{AskSeen, Outward}
-use Rattle.parts_step_law.specs.Parts.{AllAbove, HasSignature, IsViewed, Stands}
-use Rattle.parts_step_law.proofs.Instances.{slaves_stand}
-use Rattle.parts_step_law.proofs.Outward.{parts_lead}
+use Rattle.core_steps_law.specs.MachinesJudged.{Judging, begun_judging, judging_gate}
+use Rattle.core_soundness_law.specs.Kept.{by_store}
+use Rattle.core_soundness_law.specs.Fits.{AllFit}
+use Rattle.core_soundness_law.specs.Outside.{ArgumentsFit}
+use Rattle.core_soundness_law.specs.StepLaws.{AnswerFits, StepFits, called_params}
+use Rattle.core_soundness_law.proofs.Programs.{facts_of}
+use Rattle.core_soundness_law.proofs.Shapes.{received_stay}
+use Rattle.core_soundness_law.specs.Called.{GoOnWith, GoesBy, HasAsked, KeepsAccount}
+use Rattle.core_soundness_law.proofs.CalledAccounts.{steps_keep_account}
+use Rattle.core_soundness_law.proofs.CalledKeeping.{steps_keep_called}
+use Rattle.part_views_law.specs.Machines.{nobody, seen_machine}
+use Rattle.part_views_law.specs.Views.{View, slave_view}
+use Rattle.part_views_law.proofs.Instances.{slaves_are_viewed}
+use Rattle.marshalling_law.specs.CallsPackable.{AreSmall}
+use Rattle.marshalling_law.specs.CallsSending.{AreParameters}
+use Rattle.marshalling_law.proofs.CallsPackable.{all_are_given, block_small}
+use Rattle.part_views_law.specs.StepsOutward.{AskSeen, Outward}
+use Rattle.part_views_law.specs.StepsParts.{AllAbove, HasSignature, IsViewed, Stands}
+use Rattle.part_views_law.proofs.StepsInstances.{slaves_stand}
+use Rattle.part_views_law.proofs.StepsOutward.{parts_lead}
 use Rattle.pair_meaning.specs.Monitors.{Monitor}
 use Rattle.pair_meaning.specs.SlaveRun.{Heard, Slave, goes_with_handles, heard_by, is_handle, machine_step, slave_gate, stepped, way_by}
 use Rattle.slave_soundness_law.specs.Laws.{IsReady}
 use Rattle.slave_soundness_law.specs.Sound.{IsBare, IsDoing, IsFree, IsSound}
 use Rattle.slave_soundness_law.proofs.Hosts.{fits_calls}
 use Rattle.slave_soundness_law.proofs.Stepping.{calls_are_ready}
-use Rattle.monitor_gates_law.specs.Laws.{HaveModels, is_host_of}
-use Rattle.pair_invariant.specs.Halves.{is_asked_for, is_own_host}
-use Rattle.pair_invariant.specs.Hosts.{AllHostsFit}
-use Rattle.pair_invariant.specs.Live.{IsLive, IsSetting, Setting, whole_after}
-use Rattle.slave_gates_law.proofs.Hosts.{hosts_go_on_fitting}
+use Rattle.pair_invariant_law.specs.MonitorGatesLaws.{HaveModels, is_host_of}
+use Rattle.pair_invariant_law.specs.Halves.{is_asked_for, is_own_host}
+use Rattle.pair_invariant_law.specs.Hosts.{AllHostsFit}
+use Rattle.pair_invariant_law.specs.Live.{IsLive, IsSetting, Setting, whole_after}
+use Rattle.pair_invariant_law.proofs.SlaveGatesHosts.{hosts_go_on_fitting}
 use Rattle.pair_laws.specs.ServedBodiesScene.{IsScene, Scene, called, called_and}
 use Rattle.pair_laws.proofs.ServedBodiesRuns.{no_further}
 use Rattle.pair_laws.specs.AdmittedCallsLaws.{IsHonest}

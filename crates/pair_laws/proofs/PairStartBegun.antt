@@ -18,19 +18,19 @@ use Rattle.pt_core.specs.CoreRun.{main_in, with_globals}
 use Rattle.pt_core.specs.Steps.{Active, at_rest, just_entered, run}
 use Rattle.lowering.specs.Functions.{core_program}
 use Rattle.core_steps_law.specs.WholeRun.{begun_machine}
-use Rattle.core_soundness.specs.Kept.{by_store}
-use Rattle.core_soundness.specs.Fits.{Fits}
-use Rattle.core_soundness.specs.Outside.{ArgumentsFit, own_params}
-use Rattle.core_soundness.proofs.Resting.{rest_fits}
-use Rattle.core_soundness.proofs.Starting.{started_fits}
+use Rattle.core_soundness_law.specs.Kept.{by_store}
+use Rattle.core_soundness_law.specs.Fits.{Fits}
+use Rattle.core_soundness_law.specs.Outside.{ArgumentsFit, own_params}
+use Rattle.core_soundness_law.proofs.Resting.{rest_fits}
+use Rattle.core_soundness_law.proofs.Starting.{started_fits}
 use Rattle.split_law.proofs.LoweredCode.{signature_of_function}
-use Rattle.part_views.specs.Machines.{nobody, seen_machine}
-use Rattle.part_views.specs.Views.{View, seen, slave_view}
-use Rattle.part_views.proofs.Instances.{slaves_are_viewed}
-use Rattle.part_views.proofs.Memories.{frame_seen}
-use Rattle.accepted_halves_law.proofs.Halves.{IsKnown, are_halves, kept_monitor, kept_slave, main_kept, owned, signed_monitor, signed_slave, slave_keeps_own, slave_main, the_monitor, the_slave}
-use Rattle.accepted_halves_law.proofs.Parted.{signature_same}
-use Rattle.accepted_halves_law.proofs.Rules.{IsMain}
+use Rattle.part_views_law.specs.Machines.{nobody, seen_machine}
+use Rattle.part_views_law.specs.Views.{View, seen, slave_view}
+use Rattle.part_views_law.proofs.Instances.{slaves_are_viewed}
+use Rattle.part_views_law.proofs.Memories.{frame_seen}
+use Rattle.pair_invariant_law.proofs.AcceptedHalves.{IsKnown, are_halves, kept_monitor, kept_slave, main_kept, owned, signed_monitor, signed_slave, slave_keeps_own, slave_main, the_monitor, the_slave}
+use Rattle.pair_invariant_law.proofs.AcceptedParted.{signature_same}
+use Rattle.pair_invariant_law.proofs.AcceptedRules.{IsMain}
 use Rattle.pair_laws.proofs.PairStartGlobals.{globals_seen}
 
 -- ---- main takes no arguments

@@ -16,13 +16,13 @@ use Rattle.pt_core.specs.CodeTree.{GlobalTree, ProgramTree}
 use Rattle.pt_core.specs.Calls.{context_in}
 use Rattle.pt_core.specs.CoreRun.{with_globals}
 use Rattle.pt_core.specs.WellFormed.{is_sound}
-use Rattle.core_soundness.specs.Kept.{none}
-use Rattle.core_soundness.proofs.Resting.{rest_fits}
+use Rattle.core_soundness_law.specs.Kept.{none}
+use Rattle.core_soundness_law.proofs.Resting.{rest_fits}
 use Rattle.split_law.proofs.Chosen.{never, same_number}
 use Rattle.split_law.proofs.Parts.{part}
 use Rattle.marshalling.specs.Handles.{Entries}
-use Rattle.part_views.specs.Views.{View, has_global, lying, seen, seen_block, seen_cell, slave_of, slave_view}
-use Rattle.accepted_halves_law.proofs.Parted.{has_owned}
+use Rattle.part_views_law.specs.Views.{View, has_global, lying, seen, seen_block, seen_cell, slave_of, slave_view}
+use Rattle.pair_invariant_law.proofs.AcceptedParted.{has_owned}
 
 abbrev block_of : List StructInfo → GlobalTree → Block
 block_of structs g = record { types = leaves_of structs g.var.ty; cells = map cell.Int g.cells }

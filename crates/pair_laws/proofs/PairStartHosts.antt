@@ -25,27 +25,27 @@ use Rattle.pt_core.specs.Calls.{signature_in}
 use Rattle.pt_core.specs.WellFormed.{callee_by, callee_fits, callees, host_by, host_fits, hosts_fit, is_answered, is_plain_host, is_sound, is_well_formed_monitor, signature_at}
 use Rattle.pt_core.proofs.WellFormedLemmas as core_facts
 use Rattle.lowering.specs.Functions.{core_program, signatures_from}
-use Rattle.lowered_names_law.specs.Laws.{LoweredNames}
+use Rattle.lowered_code_law.specs.NamesLaws.{LoweredNames}
 use Rattle.splitter.specs.Halves.{asked, is_slave_host}
 use Rattle.splitter.proofs.SetLemmas.{among_from, among_has}
 use Rattle.split_law.specs.Laws.{AcceptedShareNothing, MonitorsAreWellFormed, SlavesAreWellFormed}
 use Rattle.split_law.proofs.Chosen.{chosen_rise, never}
 use Rattle.split_law.proofs.LoweredCode.{all_signatures, function_of_signature, signature_listed, signature_of_function}
 use Rattle.split_law.proofs.Parts.{part}
-use Rattle.parts_step_law.specs.Parts.{HasSignature}
+use Rattle.part_views_law.specs.StepsParts.{HasSignature}
 use Rattle.slave_soundness_law.specs.Laws.{SlavesBeginSound}
-use Rattle.called_functions_law.specs.Called.{is_called}
+use Rattle.core_soundness_law.specs.Called.{is_called}
 use Rattle.monitor_soundness_law.specs.Laws.{HostsFit}
-use Rattle.serving_soundness_law.specs.Sound.{AskedFit}
-use Rattle.serving_soundness_law.proofs.Entries.{facts_of_entry}
+use Rattle.monitor_soundness_law.specs.ServingSound.{AskedFit}
+use Rattle.monitor_soundness_law.proofs.ServingEntries.{facts_of_entry}
 use Rattle.pair_meaning.specs.Start.{input_for, models_for, reads_input}
-use Rattle.pair_invariant.specs.Halves.{is_asked_for, is_own_host}
-use Rattle.pair_invariant.specs.Hosts.{AllHostsFit, HostsAgree}
-use Rattle.accepted_halves_law.specs.Laws.{monitor_half, slave_half}
-use Rattle.accepted_halves_law.proofs.Entries.{code, is_asked}
-use Rattle.accepted_halves_law.proofs.Halves.{IsKnown, are_halves, asked_there, halves, kept_monitor, kept_slave, known_of, owned, signed_monitor, signed_slave, slave_named, the_monitor, the_slave}
-use Rattle.accepted_halves_law.proofs.Members.{all_at, each_at, said_of}
-use Rattle.accepted_halves_law.proofs.Parted.{named_in, same_signature}
+use Rattle.pair_invariant_law.specs.Halves.{is_asked_for, is_own_host}
+use Rattle.pair_invariant_law.specs.Hosts.{AllHostsFit, HostsAgree}
+use Rattle.pair_invariant_law.specs.AcceptedLaws.{monitor_half, slave_half}
+use Rattle.pair_invariant_law.proofs.AcceptedEntries.{code, is_asked}
+use Rattle.pair_invariant_law.proofs.AcceptedHalves.{IsKnown, are_halves, asked_there, halves, kept_monitor, kept_slave, known_of, owned, signed_monitor, signed_slave, slave_named, the_monitor, the_slave}
+use Rattle.pair_invariant_law.proofs.AcceptedMembers.{all_at, each_at, said_of}
+use Rattle.pair_invariant_law.proofs.AcceptedParted.{named_in, same_signature}
 use Rattle.pair_laws.specs.PairStartLaws.{AcceptedMonitorsAreWellFormed, BootsAreWellFormed, HostsAgreeAtTheStart, MonitorsHostsServe, SlavesOfBootsAreSound}
 use Rattle.pair_laws.specs.PairStartOwn.{HostsAre}
 use Rattle.pair_laws.specs.PairStartStart.{boot_at, slave_at}

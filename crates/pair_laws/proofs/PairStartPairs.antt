@@ -9,23 +9,23 @@ use Rattle.flow_rules.specs.declared.accepted.Accepted.{Accepted}
 use Rattle.policy.specs.Answers.{answers_of}
 use Rattle.policy.specs.Verdicts.{Standing}
 use Rattle.lowering.specs.Functions.{core_program}
-use Rattle.lowered_names_law.specs.Laws.{LoweredNames}
-use Rattle.core_soundness.specs.Kept.{none}
-use Rattle.core_soundness.proofs.Resting.{rest_fits}
+use Rattle.lowered_code_law.specs.NamesLaws.{LoweredNames}
+use Rattle.core_soundness_law.specs.Kept.{none}
+use Rattle.core_soundness_law.proofs.Resting.{rest_fits}
 use Rattle.block_memory.specs.Blocks.{no_blocks}
 use Rattle.pt_core.specs.CoreRun.{main_in}
 use Rattle.pt_core.specs.Steps.{Machine, answers, just_entered, moved}
 use Rattle.core_steps_law.specs.WholeRun.{begun_machine}
-use Rattle.machine_steps_law.specs.Judged.{begun_judging}
+use Rattle.core_steps_law.specs.MachinesJudged.{begun_judging}
 use Rattle.split_law.specs.Laws.{AcceptedShareNothing, MonitorsAreWellFormed, SlavesAreWellFormed}
-use Rattle.said_code_law.specs.Nulls.{nulls_stand}
-use Rattle.half_declarations_law.specs.Said.{MonitorsAreSaid}
-use Rattle.parts_step_law.proofs.Instances.{slaves_stand}
+use Rattle.half_names_law.specs.SaidNulls.{nulls_stand}
+use Rattle.half_texts_law.specs.DeclarationsSaid.{MonitorsAreSaid}
+use Rattle.part_views_law.proofs.StepsInstances.{slaves_stand}
 use Rattle.pair_meaning.specs.SlaveRun.{Slave}
-use Rattle.pair_invariant.specs.Live.{IsBeside, IsLive, IsSetting, IsTheirs}
-use Rattle.pair_invariant.specs.Slaves.{AreKept}
-use Rattle.accepted_halves_law.specs.Laws.{monitor_half}
-use Rattle.accepted_halves_law.proofs.Halves.{IsKnown, are_halves, halves, kept_monitor, kept_slave, known_of, owned, signed_monitor, signed_slave, the_monitor, the_slave}
+use Rattle.pair_invariant_law.specs.Live.{IsBeside, IsLive, IsSetting, IsTheirs}
+use Rattle.pair_invariant_law.specs.Slaves.{AreKept}
+use Rattle.pair_invariant_law.specs.AcceptedLaws.{monitor_half}
+use Rattle.pair_invariant_law.proofs.AcceptedHalves.{IsKnown, are_halves, halves, kept_monitor, kept_slave, known_of, owned, signed_monitor, signed_slave, the_monitor, the_slave}
 use Rattle.pair_laws.specs.PairStartLaws.{IsAcceptedWith}
 use Rattle.pair_laws.specs.PairStartOwn.{HostsAre, with_hosts}
 use Rattle.pair_laws.specs.PairStartStart.{monitor_at, setting_of, slave_at}

@@ -9,20 +9,20 @@ use Rattle.pt_core.specs.CoreRun.{status_of}
 use Rattle.pt_core.specs.Steps.{Active, Answer, Machine, Step, asked, ended, idle, moved, spent, step, trapped}
 use Rattle.core_steps_law.specs.Laws.{TakesATurn}
 use Rattle.core_steps_law.proofs.TurnBounds.{steps_take_a_turn}
-use Rattle.gates_agree_law.specs.Shown.{step_shown}
-use Rattle.called_functions_law.specs.Called.{GoesBy, HasOutermost, KeepsAccount, SameOutermost}
-use Rattle.called_functions_law.proofs.Accounts.{steps_keep_account}
-use Rattle.pair_sides.specs.Pair.{Both, both_in, both_step, heard, run}
-use Rattle.pair_sides.specs.Sides.{Moved}
+use Rattle.core_steps_law.specs.GatesShown.{step_shown}
+use Rattle.core_soundness_law.specs.Called.{GoesBy, HasOutermost, KeepsAccount, SameOutermost}
+use Rattle.core_soundness_law.proofs.CalledAccounts.{steps_keep_account}
+use Rattle.pair_protocol.specs.Pair.{Both, both_in, both_step, heard, run}
+use Rattle.pair_protocol.specs.Sides.{Moved}
 use Rattle.pair_meaning.specs.Monitors.{Monitor}
 use Rattle.pair_meaning.specs.Pair.{the_sides}
 use Rattle.pair_meaning.specs.Rules.{PeerRule, early_rule, needs}
 use Rattle.pair_meaning.specs.SlaveRun.{Doing, Heard, Slave, after_step, awaits_reply, call_of, calls_or_parks, goes, heard_by, machine_step, mode_by, must_wait, parks, posts, says_call, stepped}
 use Rattle.slave_soundness_law.specs.Sound.{IsSound}
-use Rattle.pair_invariant.specs.Live.{IsKept, IsLate, IsSetting, Setting}
-use Rattle.slave_gates_law.specs.Gathering.{Gathered, gathering_gate, heard_in}
-use Rattle.slave_gates_law.specs.Laws.{Wrote}
-use Rattle.slave_gates_law.proofs.Gathering.{gathering_steps_alike, slaves_write_once}
+use Rattle.pair_invariant_law.specs.Live.{IsKept, IsLate, IsSetting, Setting}
+use Rattle.pair_invariant_law.specs.SlaveGatesGathering.{Gathered, gathering_gate, heard_in}
+use Rattle.pair_invariant_law.specs.SlaveGatesLaws.{Wrote}
+use Rattle.pair_invariant_law.proofs.SlaveGatesGathering.{gathering_steps_alike, slaves_write_once}
 use Rattle.pair_laws.specs.PairStepsSteps.{LateKeeps}
 use Rattle.pair_laws.proofs.PairStepsProper.{Proper, steps_are_proper}
 use Rattle.pair_laws.proofs.PairStepsServing.{emit_goes, kept_late, turns_go}

@@ -17,36 +17,36 @@ use Rattle.core_steps_law.specs.Laws.{TakesATurn}
 use Rattle.core_steps_law.specs.WholeRun.{begun_machine, end_of, further, steps_run}
 use Rattle.core_steps_law.proofs.Sums.{steps_add}
 use Rattle.core_steps_law.proofs.TurnBounds.{steps_take_a_turn}
-use Rattle.gates_agree_law.specs.Shown.{step_shown}
-use Rattle.machine_steps_law.specs.Judged.{Judgement, Judging, begun_judging, judged_end, judging_gate}
-use Rattle.machine_steps_law.proofs.Judging.{runs_are_judged}
+use Rattle.core_steps_law.specs.GatesShown.{step_shown}
+use Rattle.core_steps_law.specs.MachinesJudged.{Judgement, Judging, begun_judging, judged_end, judging_gate}
+use Rattle.core_steps_law.proofs.MachinesJudging.{runs_are_judged}
 use Rattle.handle_classes.specs.Computes.{computes_next}
-use Rattle.called_functions_law.specs.Called.{GoesBy, KeepsAccount}
-use Rattle.called_functions_law.proofs.Accounts.{steps_keep_account}
-use Rattle.part_views.specs.Machines.{nobody, seen_machine}
-use Rattle.part_views.specs.Views.{View, slave_view}
-use Rattle.part_views.proofs.Instances.{slaves_are_viewed}
-use Rattle.parts_step_law.specs.Laws.{IsOwn, IsSpent, Sees, StaysShown}
-use Rattle.parts_step_law.specs.Outward.{EndSeen, Outward}
-use Rattle.parts_step_law.specs.Parts.{CallsFit, GatesAgree, IsViewed}
-use Rattle.parts_step_law.proofs.Outward.{parts_lead}
-use Rattle.parts_step_law.proofs.Runs.{own_step}
-use Rattle.parts_step_law.proofs.Standing.{own_stands}
-use Rattle.pair_sides.specs.Pair.{answered, both_step, heard, run}
-use Rattle.pair_sides.specs.Sides.{Moved, Served, ends, goes_on}
+use Rattle.core_soundness_law.specs.Called.{GoesBy, KeepsAccount}
+use Rattle.core_soundness_law.proofs.CalledAccounts.{steps_keep_account}
+use Rattle.part_views_law.specs.Machines.{nobody, seen_machine}
+use Rattle.part_views_law.specs.Views.{View, slave_view}
+use Rattle.part_views_law.proofs.Instances.{slaves_are_viewed}
+use Rattle.part_views_law.specs.StepsLaws.{IsOwn, IsSpent, Sees, StaysShown}
+use Rattle.part_views_law.specs.StepsOutward.{EndSeen, Outward}
+use Rattle.part_views_law.specs.StepsParts.{CallsFit, GatesAgree, IsViewed}
+use Rattle.part_views_law.proofs.StepsOutward.{parts_lead}
+use Rattle.part_views_law.proofs.StepsRuns.{own_step}
+use Rattle.part_views_law.proofs.StepsStanding.{own_stands}
+use Rattle.pair_protocol.specs.Pair.{answered, both_step, heard, run}
+use Rattle.pair_protocol.specs.Sides.{Moved, Served, ends, goes_on}
 use Rattle.pair_meaning.specs.Monitors.{Monitor}
 use Rattle.pair_meaning.specs.Pair.{the_sides}
 use Rattle.pair_meaning.specs.Rules.{PeerRule, early_rule}
 use Rattle.pair_meaning.specs.Serving.{serve}
 use Rattle.pair_meaning.specs.SlaveRun.{Heard, Slave, after_step, heard_by, machine_step, parks, slave_gate, stepped}
-use Rattle.pair_invariant.specs.Hosts.{AllHostsFit}
-use Rattle.pair_invariant.specs.Live.{IsKept, IsLate, IsLive, IsSetting, Setting, expected_of, whole_after}
-use Rattle.slave_gates_law.specs.Gathering.{AreAlike, Gathered, Meanwhile, gathering_gate, heard_in, judgement_at}
-use Rattle.slave_gates_law.specs.Laws.{Wrote}
-use Rattle.slave_gates_law.proofs.Agreeing.{slave_gates_agree}
-use Rattle.slave_gates_law.proofs.Fitting.{gathering_fits}
-use Rattle.slave_gates_law.proofs.Gathering.{gathering_steps_alike, one_run, slaves_write_once}
-use Rattle.slave_gates_law.proofs.Hosts.{hosts_go_on_fitting}
+use Rattle.pair_invariant_law.specs.Hosts.{AllHostsFit}
+use Rattle.pair_invariant_law.specs.Live.{IsKept, IsLate, IsLive, IsSetting, Setting, expected_of, whole_after}
+use Rattle.pair_invariant_law.specs.SlaveGatesGathering.{AreAlike, Gathered, Meanwhile, gathering_gate, heard_in, judgement_at}
+use Rattle.pair_invariant_law.specs.SlaveGatesLaws.{Wrote}
+use Rattle.pair_invariant_law.proofs.SlaveGatesAgreeing.{slave_gates_agree}
+use Rattle.pair_invariant_law.proofs.SlaveGatesFitting.{gathering_fits}
+use Rattle.pair_invariant_law.proofs.SlaveGatesGathering.{gathering_steps_alike, one_run, slaves_write_once}
+use Rattle.pair_invariant_law.proofs.SlaveGatesHosts.{hosts_go_on_fitting}
 use Rattle.pair_laws.specs.PairStepsSteps.{IsNoCall, StepsKeep}
 use Rattle.pair_laws.proofs.PairStepsLate.{begun, more_turns, none_some, stays_active, step_is, wrote_turn}
 use Rattle.pair_laws.proofs.PairStepsProper.{Proper, status_seen, steps_are_proper}

@@ -3,17 +3,17 @@ use Rattle.std.proofs.Common.{◌≡◌, ◌∙◌, ℕ, refl, ap, sym, List}
 use Rattle.pt_base.specs.declared.end.End.{End}
 use Rattle.wire.specs.declared.message.Message.{Message}
 use Rattle.wire.specs.declared.message.ReplyBody.{ReplyBody}
-use Rattle.pair_order_law.specs.Laws.{OrdersAgree}
-use Rattle.pair_order_law.proofs.LinkFacts.{links_are_whole}
-use Rattle.pair_order_law.proofs.Theorems as theorem
-use Rattle.pair_order_law.proofs.Theorems.{every_order_ends}
+use Rattle.pair_protocol.specs.OrderLaws.{OrdersAgree}
+use Rattle.pair_protocol.proofs.OrderLinkFacts.{links_are_whole}
+use Rattle.pair_protocol.proofs.OrderTheorems as theorem
+use Rattle.pair_protocol.proofs.OrderTheorems.{every_order_ends}
 use Rattle.pair_meaning.specs.Monitors.{Monitor}
 use Rattle.pair_meaning.specs.Pair.{the_sides}
 use Rattle.pair_meaning.specs.Rules.{PeerRule}
 use Rattle.pair_meaning.specs.SlaveRun.{Slave, longest, slave_of}
 use Rattle.pair_meaning.proofs.Fair.{the_sides_are_fair}
 use Rattle.pair_meaning.proofs.Stops.{slaves_stop}
-use Rattle.pair_invariant.specs.Live.{expected_of}
+use Rattle.pair_invariant_law.specs.Live.{expected_of}
 use Rattle.pair_laws.specs.PairStepsEnds.{HonestPeersAreExpected, IsExpectedOf, ThePairIsExpected}
 use Rattle.pair_laws.proofs.PairStepsPair.{the_pair_ends}
 use Rattle.pair_laws.proofs.PairStepsServing.{expect}

@@ -5,10 +5,10 @@ use Rattle.runs.specs.Run.{Expected}
 use Rattle.wire.specs.declared.message.Message.{Message}
 use Rattle.wire.specs.declared.message.ReplyBody.{ReplyBody}
 use Rattle.pt_core.specs.Steps.{Answer, asked, ended, idle, moved, spent, trapped}
-use Rattle.pair_sides.specs.Pair.{Both, answered, both_from, both_in, both_step, done, heard, run, wrong}
-use Rattle.pair_sides.specs.Sides.{HasReply, IsReply, Mode, Served, asks, bad, ends, goes_on, going, of_bool, over, waiting, waits}
-use Rattle.pair_sides.specs.SlaveRun.{At, Ready, having, moved_on, ready, ready_in, slave_at}
-use Rattle.pair_order_law.proofs.SlaveFacts.{taken_first}
+use Rattle.pair_protocol.specs.Pair.{Both, answered, both_from, both_in, both_step, done, heard, run, wrong}
+use Rattle.pair_protocol.specs.Sides.{HasReply, IsReply, Mode, Served, asks, bad, ends, goes_on, going, of_bool, over, waiting, waits}
+use Rattle.pair_protocol.specs.SlaveRun.{At, Ready, having, moved_on, ready, ready_in, slave_at}
+use Rattle.pair_protocol.proofs.OrderSlaveFacts.{taken_first}
 use Rattle.pair_meaning.specs.Monitors.{Monitor}
 use Rattle.pair_meaning.specs.Pair.{both, the_sides, wants_reply}
 use Rattle.pair_meaning.specs.Rules.{PeerRule}
@@ -16,8 +16,8 @@ use Rattle.pair_meaning.specs.Serving.{serve}
 use Rattle.pair_meaning.specs.SlaveRun.{Slave, longest, machine_step, mode_by, mode_of, slave_of, slave_step, take}
 use Rattle.pair_meaning.proofs.Fair.{the_sides_are_fair}
 use Rattle.pair_meaning.proofs.Stops.{slaves_stop}
-use Rattle.pair_invariant.specs.Laws.{CallsKeep}
-use Rattle.pair_invariant.specs.Live.{IsKept, IsLive, IsSetting, Setting, expected_of}
+use Rattle.pair_invariant_law.specs.Laws.{CallsKeep}
+use Rattle.pair_invariant_law.specs.Live.{IsKept, IsLive, IsSetting, Setting, expected_of}
 use Rattle.pair_laws.specs.PairStepsEnds.{ThePairEnds}
 use Rattle.pair_laws.specs.PairStepsSteps.{IsNoCall, ThePairKeeps}
 use Rattle.pair_laws.proofs.PairStepsLate.{late_keeps}

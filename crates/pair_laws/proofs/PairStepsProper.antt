@@ -16,7 +16,7 @@ use Rattle.pt_core.specs.Calls.{signature_in, function_in, context_in, entered}
 use Rattle.pt_core.specs.CoreRun.{status_of}
 use Rattle.pt_core.specs.Steps.{Work, run, head, Active, Answer, Machine, Way, enters, here, away, Gate, asked, ended, idle, moved, spent, trapped, Step, answers, settled, step, working, with_turn, turned, on_value, returned, at_end, is_active, just_entered, begins, made, by_way, act, works, stepped}
 use Rattle.handle_classes.specs.Computes.{computes, computes_in, computes_next, computes_return, computes_status, computes_work, is_sealed, meets}
-use Rattle.part_views.specs.Views.{View, seen_cell}
+use Rattle.part_views_law.specs.Views.{View, seen_cell}
 
 -- no handle
 abbrev pub PlainEnd : Option Cell → Type 0

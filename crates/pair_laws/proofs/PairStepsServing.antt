@@ -8,15 +8,15 @@ use Rattle.runs.specs.Run.{Expected}
 use Rattle.wire.specs.declared.message.Message.{Message}
 use Rattle.wire.specs.declared.message.Message.TheVariants as message
 use Rattle.wire.specs.declared.message.ReplyBody.{ReplyBody}
-use Rattle.pair_sides.specs.Pair.{answered, heard}
-use Rattle.pair_sides.specs.Sides.{Served, ends}
+use Rattle.pair_protocol.specs.Pair.{answered, heard}
+use Rattle.pair_protocol.specs.Sides.{Served, ends}
 use Rattle.pair_meaning.specs.Monitors.{Monitor, low}
 use Rattle.pair_meaning.specs.Pair.{the_sides}
 use Rattle.pair_meaning.specs.Rules as rule
 use Rattle.pair_meaning.specs.Rules.{PeerRule, bad_turns, broken_if, early_rule, needs, rules, unless_broken}
 use Rattle.pair_meaning.specs.Serving.{acted, is_spent, left_for, serve}
 use Rattle.pair_meaning.specs.SlaveRun.{Slave}
-use Rattle.pair_invariant.specs.Live.{IsKept, Setting, expected_of}
+use Rattle.pair_invariant_law.specs.Live.{IsKept, Setting, expected_of}
 
 -- ---- numbers
 

@@ -10,7 +10,7 @@ use Rattle.block_memory.specs.Blocks.{Blocks}
 use Rattle.pt_core.specs.CodeTree.{ProgramTree}
 use Rattle.marshalling.specs.Handles.{Entries}
 use Rattle.marshalling.specs.HonestCalls.{revealed, revealed_block}
-use Rattle.part_views.specs.Views.{has_global, lying, seen, seen_block, seen_cell, slave_view}
+use Rattle.part_views_law.specs.Views.{has_global, lying, seen, seen_block, seen_cell, slave_view}
 use Rattle.pair_meaning.specs.Monitors.{Monitor}
 use Rattle.pair_meaning.specs.Revealed.{revealed_memory}
 use Rattle.pair_meaning.specs.SlaveRun.{Slave}

@@ -6,24 +6,24 @@ use Rattle.pt_base.specs.declared.int_type.IntType.{IntType}
 use Rattle.runs.specs.Run.{Expected}
 use Rattle.policy.specs.Verdicts.{Standing}
 use Rattle.check_programs.specs.Programs.{checked_program}
-use Rattle.check_programs_law.specs.Laws.{ProgramsAreWellFormed}
+use Rattle.type_law.specs.ProgramsLaws.{ProgramsAreWellFormed}
 use Rattle.c_lower_law.specs.Statements.{LoweringKeepsTheRun}
-use Rattle.said_code_law.specs.Laws.{CheckedProgramsPlaceNulls}
+use Rattle.half_names_law.specs.SaidLaws.{CheckedProgramsPlaceNulls}
 use Rattle.wire.specs.declared.message.Message.{Message}
 use Rattle.pt_core.specs.CodeTree.{BootTree}
 use Rattle.pt_core.specs.Steps.{Step}
-use Rattle.machine_steps_law.specs.Judged.{Judging}
-use Rattle.part_views.specs.Views.{has_global}
-use Rattle.pair_sides.specs.Pair.{Both, Going, Pair, Who, both_from, both_step, caught_up, done, goes, run, wrong}
-use Rattle.pair_order_law.proofs.Theorems.{Keeps, every_order_keeps}
+use Rattle.core_steps_law.specs.MachinesJudged.{Judging}
+use Rattle.part_views_law.specs.Views.{has_global}
+use Rattle.pair_protocol.specs.Pair.{Both, Going, Pair, Who, both_from, both_step, caught_up, done, goes, run, wrong}
+use Rattle.pair_protocol.proofs.OrderTheorems.{Keeps, every_order_keeps}
 use Rattle.pair_meaning.specs.Monitors.{Monitor}
 use Rattle.pair_meaning.specs.Pair.{pair_steps, the_sides}
 use Rattle.pair_meaning.specs.Rules.{PeerRule}
 use Rattle.pair_meaning.specs.SlaveRun.{Slave, slave_of}
 use Rattle.pair_meaning.proofs.Fair.{the_sides_are_fair}
-use Rattle.pair_invariant.specs.Laws.{CallsKeep}
-use Rattle.pair_invariant.specs.Live.{IsKept, IsLive, IsSetting, Setting, expected_of as setting_expected, whole_after}
-use Rattle.pair_invariant.specs.Slaves.{Stays}
+use Rattle.pair_invariant_law.specs.Laws.{CallsKeep}
+use Rattle.pair_invariant_law.specs.Live.{IsKept, IsLive, IsSetting, Setting, expected_of as setting_expected, whole_after}
+use Rattle.pair_invariant_law.specs.Slaves.{Stays}
 use Rattle.pair_laws.specs.PairStepsEnds.{Begins}
 use Rattle.pair_laws.specs.PairStepsSteps.{ThePairKeeps}
 use Rattle.pair_laws.specs.KeptSlavesLaws.{AcceptedSlavesStay}

@@ -7,27 +7,27 @@ use Rattle.policy.specs.Verdicts.{Standing}
 use Rattle.pt_core.specs.Steps.{Answer, Gate, Machine, Step, moved, started, step}
 use Rattle.pt_core.specs.WellFormed.{function_at}
 use Rattle.core_steps_law.specs.WholeRun.{steps_run}
-use Rattle.gates_agree_law.specs.Written.{Written, bytes_gate}
-use Rattle.machine_steps_law.specs.Judged.{Judging}
-use Rattle.core_soundness.specs.Fits.{Fits}
-use Rattle.core_soundness.specs.Kept.{none}
-use Rattle.core_soundness.specs.Outside.{ArgumentsFit, own_params}
-use Rattle.core_soundness.proofs.Starting.{started_fits}
-use Rattle.called_functions_law.proofs.Steps.{started_call_own}
-use Rattle.part_views.specs.Machines.{Below, joined, nobody, seen_machine}
-use Rattle.part_views.specs.Views.{View}
-use Rattle.crossing_views_law.specs.Calls.{body_view}
-use Rattle.crossing_views_law.specs.Machines.{resting}
-use Rattle.parts_step_law.specs.Laws.{After, IsOwn, Sees, StaysShown}
-use Rattle.parts_step_law.specs.Parts.{GatesAgree, IsViewed, ShowAlike, Stands}
-use Rattle.parts_step_law.specs.Runs.{AllPlain, RunSeen}
-use Rattle.parts_step_law.proofs.Runs.{parts_run}
-use Rattle.parts_step_law.proofs.Standing.{parts_stand}
-use Rattle.shown_calls_law.proofs.Shown.{bodies_are_shown}
-use Rattle.monitor_gates_law.specs.Laws.{told_body, told_whole}
-use Rattle.monitor_gates_law.proofs.Gates.{bodies_gates_agree}
-use Rattle.monitor_gates_law.proofs.Models.{bodies_calls_fit, hosts_keep_models, input_keeps_bytes}
-use Rattle.monitor_gates_law.proofs.Plain.{bodies_are_plain}
+use Rattle.core_steps_law.specs.GatesWritten.{Written, bytes_gate}
+use Rattle.core_steps_law.specs.MachinesJudged.{Judging}
+use Rattle.core_soundness_law.specs.Fits.{Fits}
+use Rattle.core_soundness_law.specs.Kept.{none}
+use Rattle.core_soundness_law.specs.Outside.{ArgumentsFit, own_params}
+use Rattle.core_soundness_law.proofs.Starting.{started_fits}
+use Rattle.core_soundness_law.proofs.CalledSteps.{started_call_own}
+use Rattle.part_views_law.specs.Machines.{Below, joined, nobody, seen_machine}
+use Rattle.part_views_law.specs.Views.{View}
+use Rattle.part_views_law.specs.CrossingsCalls.{body_view}
+use Rattle.part_views_law.specs.CrossingsMachines.{resting}
+use Rattle.part_views_law.specs.StepsLaws.{After, IsOwn, Sees, StaysShown}
+use Rattle.part_views_law.specs.StepsParts.{GatesAgree, IsViewed, ShowAlike, Stands}
+use Rattle.part_views_law.specs.StepsRuns.{AllPlain, RunSeen}
+use Rattle.part_views_law.proofs.StepsRuns.{parts_run}
+use Rattle.part_views_law.proofs.StepsStanding.{parts_stand}
+use Rattle.part_views_law.proofs.CallsShown.{bodies_are_shown}
+use Rattle.pair_invariant_law.specs.MonitorGatesLaws.{told_body, told_whole}
+use Rattle.pair_invariant_law.proofs.MonitorGatesGates.{bodies_gates_agree}
+use Rattle.pair_invariant_law.proofs.MonitorGatesModels.{bodies_calls_fit, hosts_keep_models, input_keeps_bytes}
+use Rattle.pair_invariant_law.proofs.MonitorGatesPlain.{bodies_are_plain}
 use Rattle.pair_laws.specs.ServedBodiesScene.{IsScene, Scene, code, noted, outer, signature}
 use Rattle.pair_laws.proofs.ServedBodiesOutermost.{HasDepth, deep_on}
 use Rattle.pair_laws.proofs.ServedBodiesRuns.{last_step, runs_within}

@@ -14,13 +14,13 @@ use Rattle.pt_core.specs.Values.{number_in}
 use Rattle.pt_core.specs.Calls.{entered, signature_in}
 use Rattle.pt_core.specs.Steps.{Active, Machine, Step, answers, by_way, enters, is_active, just_entered, made, moved, spent, started, trapped, turned, with_turn}
 use Rattle.pt_core.specs.WellFormed.{function_at}
-use Rattle.machine_steps_law.specs.Judged.{Judging}
-use Rattle.machine_steps_law.proofs.Judging.{refusals_stay}
-use Rattle.part_views.specs.Machines.{joined, nobody, seated, seen_machine}
-use Rattle.part_views.specs.Views.{seen}
-use Rattle.crossing_views_law.specs.Calls.{body_view}
-use Rattle.crossing_views_law.specs.Machines.{resting}
-use Rattle.shown_calls_law.proofs.Whole.{calls_are_entered}
+use Rattle.core_steps_law.specs.MachinesJudged.{Judging}
+use Rattle.core_steps_law.proofs.MachinesJudging.{refusals_stay}
+use Rattle.part_views_law.specs.Machines.{joined, nobody, seated, seen_machine}
+use Rattle.part_views_law.specs.Views.{seen}
+use Rattle.part_views_law.specs.CrossingsCalls.{body_view}
+use Rattle.part_views_law.specs.CrossingsMachines.{resting}
+use Rattle.part_views_law.proofs.CallsWhole.{calls_are_entered}
 use Rattle.pair_laws.specs.ServedBodiesLaws.{CallsAreNoted, CallsAreSpent, IsNoted, IsSpent}
 use Rattle.pair_laws.specs.ServedBodiesScene.{IsScene, Scene, called, code, noted, outer, shown_args, signature, view}
 use Rattle.pair_laws.proofs.ServedBodiesWork.{called_by, inputs, memory, none_active, sent, whole_same}

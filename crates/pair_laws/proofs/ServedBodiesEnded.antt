@@ -14,31 +14,31 @@ use Rattle.pt_core.specs.Steps as p
 use Rattle.pt_core.specs.Steps.{Active, Awaited, Machine, Step, answers, by_way, enters, is_active, moved, resumed_in, returned, spent, started, step}
 use Rattle.core_steps_law.specs.Laws.{machine_at}
 use Rattle.core_steps_law.specs.WholeRun.{further, steps_run}
-use Rattle.gates_agree_law.specs.Written.{Written}
-use Rattle.machine_steps_law.specs.Bodies.{body_outcome, written_then}
-use Rattle.machine_steps_law.specs.Judged.{Judging}
-use Rattle.core_soundness.specs.Fits.{Fits}
-use Rattle.core_soundness.specs.Kept.{by_store, none}
-use Rattle.core_soundness.specs.Outside.{ArgumentsFit, GivenFits, own_params}
-use Rattle.core_soundness.proofs.More.{more_is_kept}
+use Rattle.core_steps_law.specs.GatesWritten.{Written}
+use Rattle.core_steps_law.specs.MachinesBodies.{body_outcome, written_then}
+use Rattle.core_steps_law.specs.MachinesJudged.{Judging}
+use Rattle.core_soundness_law.specs.Fits.{Fits}
+use Rattle.core_soundness_law.specs.Kept.{by_store, none}
+use Rattle.core_soundness_law.specs.Outside.{ArgumentsFit, GivenFits, own_params}
+use Rattle.core_soundness_law.proofs.More.{more_is_kept}
 use Rattle.marshalling.specs.Taking.{Taken, call_crossing, comes_back}
-use Rattle.part_views.specs.Machines.{joined, nobody, seated, seen_machine}
-use Rattle.part_views.specs.Views.{View, seen, seen_cell, slave_view}
-use Rattle.call_shapes_law.specs.Served.{IsNumber}
-use Rattle.call_shapes_law.proofs.Served.{results_are_numbers}
-use Rattle.crossing_views_law.specs.Calls.{IsEnded, IsWorked}
-use Rattle.crossing_views_law.proofs.Fits.{worked_by_fits}
-use Rattle.parts_step_law.specs.Laws.{Sees}
-use Rattle.parts_step_law.specs.Outward.{EndSeen, Outward}
-use Rattle.parts_step_law.proofs.Outward.{parts_lead}
-use Rattle.shown_calls_law.proofs.Whole.{calls_return}
+use Rattle.part_views_law.specs.Machines.{joined, nobody, seated, seen_machine}
+use Rattle.part_views_law.specs.Views.{View, seen, seen_cell, slave_view}
+use Rattle.marshalling_law.specs.CallsServed.{IsNumber}
+use Rattle.marshalling_law.proofs.CallsServed.{results_are_numbers}
+use Rattle.part_views_law.specs.CrossingsCalls.{IsEnded, IsWorked}
+use Rattle.part_views_law.proofs.CrossingsFits.{worked_by_fits}
+use Rattle.part_views_law.specs.StepsLaws.{Sees}
+use Rattle.part_views_law.specs.StepsOutward.{EndSeen, Outward}
+use Rattle.part_views_law.proofs.StepsOutward.{parts_lead}
+use Rattle.part_views_law.proofs.CallsWhole.{calls_return}
 use Rattle.lent_blocks_law.proofs.Bodies.{bodies_keep_what_stays}
 use Rattle.monitor_soundness_law.specs.Laws.{LeavesNumbers}
 use Rattle.monitor_soundness_law.proofs.Bodies.{bodies_leave_numbers}
 use Rattle.pair_meaning.specs.Serving.{global_part}
-use Rattle.monitor_gates_law.specs.Laws.{HaveModels, told_body}
-use Rattle.monitor_gates_law.proofs.Models.{Fitting, fitting_fits, fitting_gate, fitting_run, hosts_keep_models}
-use Rattle.monitor_gates_law.proofs.Numbers.{none_by_fits, plain_next}
+use Rattle.pair_invariant_law.specs.MonitorGatesLaws.{HaveModels, told_body}
+use Rattle.pair_invariant_law.proofs.MonitorGatesModels.{Fitting, fitting_fits, fitting_gate, fitting_run, hosts_keep_models}
+use Rattle.pair_invariant_law.proofs.MonitorGatesNumbers.{none_by_fits, plain_next}
 use Rattle.pair_laws.specs.ServedBodiesLaws.{IsWhole, ShowsTaking, number_of, store_then}
 use Rattle.pair_laws.specs.ServedBodiesScene.{IsScene, Scene, called_and, code, noted, outer, signature}
 use Rattle.pair_laws.proofs.ServedBodiesBody.{Alike, Goes, at_rest, below, big, body, body_budget, deep, given, goes_at, inner, known, moved_sees, no_marks, rest_fits, seen_body, shown, shows_body, small}

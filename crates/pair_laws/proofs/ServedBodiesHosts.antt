@@ -12,20 +12,20 @@ use Rattle.pt_core.specs.Values.{number_in}
 use Rattle.pt_core.specs.Calls.{number_cell, signature_in}
 use Rattle.pt_core.specs.Steps.{answers, made, moved, with_turn}
 use Rattle.pt_core.specs.WellFormed.{signature_at}
-use Rattle.machine_steps_law.specs.Judged.{Judging, judged_answer}
-use Rattle.core_soundness.specs.Kept.{none}
-use Rattle.core_soundness.specs.Outside.{GivenFits}
+use Rattle.core_steps_law.specs.MachinesJudged.{Judging, judged_answer}
+use Rattle.core_soundness_law.specs.Kept.{none}
+use Rattle.core_soundness_law.specs.Outside.{GivenFits}
 use Rattle.marshalling.specs.Taking.{Taken}
-use Rattle.part_views.specs.Machines.{nobody, seen_machine}
-use Rattle.part_views.specs.Views.{slave_view}
-use Rattle.crossing_views_law.specs.Calls.{IsEnded}
-use Rattle.crossing_views_law.proofs.Fits.{worked_by_fits}
-use Rattle.crossing_views_law.proofs.Machines.{hosts_answer}
+use Rattle.part_views_law.specs.Machines.{nobody, seen_machine}
+use Rattle.part_views_law.specs.Views.{slave_view}
+use Rattle.part_views_law.specs.CrossingsCalls.{IsEnded}
+use Rattle.part_views_law.proofs.CrossingsFits.{worked_by_fits}
+use Rattle.part_views_law.proofs.CrossingsMachines.{hosts_answer}
 use Rattle.monitor_soundness_law.specs.Laws.{AnswersNumber, HostsFit}
 use Rattle.monitor_soundness_law.proofs.Hosts.{hosts_leave_numbers}
 use Rattle.pair_meaning.specs.Serving.{global_part, host_gives}
-use Rattle.monitor_gates_law.proofs.Gates.{answers_alike, step_same}
-use Rattle.monitor_gates_law.proofs.Models.{both_true, called_signed, next_models}
+use Rattle.pair_invariant_law.proofs.MonitorGatesGates.{answers_alike, step_same}
+use Rattle.pair_invariant_law.proofs.MonitorGatesModels.{both_true, called_signed, next_models}
 use Rattle.pair_laws.specs.ServedBodiesLaws.{IsTheWholes, IsTold, ShowsTaking, number_of, store_then, taking}
 use Rattle.pair_laws.specs.ServedBodiesScene.{IsScene, Scene, called, code, noted, outer, signature, turns_left}
 use Rattle.pair_laws.proofs.ServedBodiesCalled.{makes_noted, whole_now}

@@ -16,7 +16,7 @@ use Rattle.marshalling.specs.declared.fault.BadCall.TheVariants as bad
 use Rattle.marshalling.specs.declared.inputs.Inputs.{Inputs}
 use Rattle.marshalling.specs.Handles.{Entries, handle_fault, inputs_unless, unpacked, unpacking}
 use Rattle.marshalling.specs.Shape.{is_shaped}
-use Rattle.crossing_views_law.specs.Calls.{with_received}
+use Rattle.part_views_law.specs.CrossingsCalls.{with_received}
 use Rattle.pair_meaning.specs.Serving.{brought, name_of, with_brought}
 
 -- ---- what is opened

@@ -8,13 +8,13 @@ use Rattle.pt_core.specs.Statements.{State, Outcome}
 use Rattle.pt_core.specs.Steps as p
 use Rattle.pt_core.specs.Steps.{Active, Answer, Step, answers, moved}
 use Rattle.core_steps_law.specs.Laws.{machine_at}
-use Rattle.gates_agree_law.specs.Written.{Written}
-use Rattle.machine_steps_law.specs.Bodies.{BodyIsSteps, FirstStop, IsOutcome, TakesTurns, body_outcome, written_then}
-use Rattle.machine_steps_law.specs.Judged.{Judging}
-use Rattle.machine_steps_law.proofs.Bodies.{bodies_are_steps}
-use Rattle.parts_step_law.specs.Laws.{IsOwn, Sees}
+use Rattle.core_steps_law.specs.GatesWritten.{Written}
+use Rattle.core_steps_law.specs.MachinesBodies.{BodyIsSteps, FirstStop, IsOutcome, TakesTurns, body_outcome, written_then}
+use Rattle.core_steps_law.specs.MachinesJudged.{Judging}
+use Rattle.core_steps_law.proofs.MachinesBodies.{bodies_are_steps}
+use Rattle.part_views_law.specs.StepsLaws.{IsOwn, Sees}
 use Rattle.pair_meaning.specs.Serving.{work_of}
-use Rattle.monitor_gates_law.specs.Laws.{told_body}
+use Rattle.pair_invariant_law.specs.MonitorGatesLaws.{told_body}
 use Rattle.pair_laws.specs.ServedBodiesLaws.{Ends, IsTheWholes, IsTold, IsWhole, ServedCallsAreTheWholes}
 use Rattle.pair_laws.specs.ServedBodiesScene.{IsScene, Scene, admitted, code, noted, signature, turns_left}
 use Rattle.pair_laws.proofs.ServedBodiesBody.{Alike, at_rest, below, big, body, body_budget, inner, sees, shows_body, small, turns_within}

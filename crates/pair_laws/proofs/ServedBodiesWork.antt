@@ -11,27 +11,27 @@ use Rattle.pt_core.specs.Values.{number_in}
 use Rattle.pt_core.specs.Calls.{body_run, calls_within, context_in, function_in, signature_in}
 use Rattle.pt_core.specs.Steps.{by_way, enters, here, is_active}
 use Rattle.pt_core.specs.WellFormed.{signature_at}
-use Rattle.gates_agree_law.specs.Written.{Written}
-use Rattle.core_soundness.specs.Fits.{MemoryFits}
-use Rattle.core_soundness.specs.Kept.{by_store, none}
-use Rattle.core_soundness.specs.Outside.{ArgumentsFit}
-use Rattle.core_soundness.proofs.Programs.{facts_of}
+use Rattle.core_steps_law.specs.GatesWritten.{Written}
+use Rattle.core_soundness_law.specs.Fits.{MemoryFits}
+use Rattle.core_soundness_law.specs.Kept.{by_store, none}
+use Rattle.core_soundness_law.specs.Outside.{ArgumentsFit}
+use Rattle.core_soundness_law.proofs.Programs.{facts_of}
 use Rattle.marshalling.specs.declared.inputs.Inputs.{Inputs}
 use Rattle.marshalling.specs.Handles.{unpacked}
 use Rattle.marshalling.specs.HonestCalls.{for_callee, renamed, revealed}
 use Rattle.marshalling.specs.Packing.{names_of}
 use Rattle.marshalling.specs.Replies.{types_in}
 use Rattle.marshalling_law.proofs.PostingLemmas.{packed_types}
-use Rattle.part_views.specs.Machines.{joined, nobody, seen_machine}
-use Rattle.crossing_views_law.specs.Calls.{IsBegun, IsSent, body_memory}
-use Rattle.crossing_views_law.proofs.Beginning.{calls_begin}
-use Rattle.crossing_views_law.proofs.Started.{bodies_fit}
-use Rattle.parts_step_law.specs.Parts.{AllAbove}
-use Rattle.shown_calls_law.proofs.Shown.{shown_calls_are_sent}
+use Rattle.part_views_law.specs.Machines.{joined, nobody, seen_machine}
+use Rattle.part_views_law.specs.CrossingsCalls.{IsBegun, IsSent, body_memory}
+use Rattle.part_views_law.proofs.CrossingsBeginning.{calls_begin}
+use Rattle.part_views_law.proofs.CrossingsStarted.{bodies_fit}
+use Rattle.part_views_law.specs.StepsParts.{AllAbove}
+use Rattle.part_views_law.proofs.CallsShown.{shown_calls_are_sent}
 use Rattle.pair_meaning.specs.Serving.{function_work, host_gives, host_work, inputs_of, state_of, with_brought, work_of}
-use Rattle.monitor_gates_law.specs.Laws.{is_host_of, told_body, told_whole}
-use Rattle.monitor_gates_law.proofs.Gates.{begun_alike}
-use Rattle.monitor_gates_law.proofs.Models.{both_true}
+use Rattle.pair_invariant_law.specs.MonitorGatesLaws.{is_host_of, told_body, told_whole}
+use Rattle.pair_invariant_law.proofs.MonitorGatesGates.{begun_alike}
+use Rattle.pair_invariant_law.proofs.MonitorGatesModels.{both_true}
 use Rattle.pair_laws.specs.ServedBodiesLaws.{ScenesAreSent}
 use Rattle.pair_laws.specs.ServedBodiesScene.{IsScene, Scene, admitted, called, code, noted, outer, sent_body, shown_args, signature, turns_left, view}
 use Rattle.pair_laws.proofs.ServedBodiesMemory.{IsOpened, all_taken, brought_received, opened_parts}

@@ -18,9 +18,9 @@ use Rattle.flow_rules.specs.declared.accepted.Accepted.{Accepted}
 use Rattle.flow_rules.specs.Faults.{IsAccepted}
 use Rattle.wire.specs.declared.message.Message.{Message}
 use Rattle.pt_core.specs.CodeTree.{BootTree}
-use Rattle.pair_sides.specs.Links.{Half, Leads, half, talk_of}
-use Rattle.pair_sides.specs.Pair.{Who, done}
-use Rattle.pair_sides.specs.Serving.{IsExpected, IsHonest, ended}
+use Rattle.pair_protocol.specs.Links.{Half, Leads, half, talk_of}
+use Rattle.pair_protocol.specs.Pair.{Who, done}
+use Rattle.pair_protocol.specs.Serving.{IsExpected, IsHonest, ended}
 use Rattle.pair_meaning.specs.Monitors.{Monitor}
 use Rattle.pair_meaning.specs.Pair.{IsWhole, both, serve_all, the_sides}
 use Rattle.pair_meaning.specs.SlaveRun.{Slave, longest, slave_of}

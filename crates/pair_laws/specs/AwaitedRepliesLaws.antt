@@ -7,8 +7,8 @@ use Rattle.pair_meaning.specs.Monitors.{Monitor}
 use Rattle.pair_meaning.specs.Pair.{said, serve_all}
 use Rattle.pair_meaning.specs.Peer.{are_awaited}
 use Rattle.pair_meaning.specs.SlaveRun.{Slave}
-use Rattle.pair_invariant.specs.Laws.{CallsKeep}
-use Rattle.pair_invariant.specs.Live.{Setting}
+use Rattle.pair_invariant_law.specs.Laws.{CallsKeep}
+use Rattle.pair_invariant_law.specs.Live.{Setting}
 use Rattle.pair_laws.specs.PairStepsEnds.{Begins}
 
 -- Where a monitor serves a first part of what the slave says with its replies, the slave waits for each of these replies, and its

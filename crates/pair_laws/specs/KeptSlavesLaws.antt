@@ -10,11 +10,11 @@ use Rattle.wire.specs.declared.message.Message.{Message}
 use Rattle.wire.specs.declared.message.ReplyBody.{ReplyBody}
 use Rattle.pt_core.specs.CodeTree.{BootTree}
 use Rattle.pt_core.specs.WellFormed.{is_well_formed_boot}
-use Rattle.pair_sides.specs.SlaveRun.{came}
+use Rattle.pair_protocol.specs.SlaveRun.{came}
 use Rattle.pair_meaning.specs.SlaveRun.{Slave, slave_of}
 use Rattle.pair_meaning.specs.Pair.{slave_at}
-use Rattle.slave_keeps_law.specs.Laws.{boot_of}
-use Rattle.pair_invariant.specs.Slaves.{AreKept, Stays}
+use Rattle.handle_flow_law.specs.KeptLaws.{boot_of}
+use Rattle.pair_invariant_law.specs.Slaves.{AreKept, Stays}
 
 -- the slave of this boot comes to this one in so many steps, having taken all of these replies
 abbrev pub Reached : BootTree → Slave → Type 0

@@ -12,12 +12,12 @@ use Rattle.flow_rules.specs.Faults.{IsAccepted}
 use Rattle.policy.specs.Verdicts.{Standing}
 use Rattle.pt_core.specs.WellFormed.{is_well_formed_boot, is_well_formed_monitor, monitor_program, slave_program}
 use Rattle.slave_soundness_law.specs.Sound.{IsSound}
-pub use Rattle.serving_soundness_law.specs.Sound.{HostsServe}
-use Rattle.pair_invariant.specs.Hosts.{HostsAgree}
-use Rattle.pair_invariant.specs.Live.{IsLive, IsSetting}
-use Rattle.pair_invariant.specs.Slaves.{Stays}
-pub use Rattle.accepted_halves_law.specs.Laws.{monitor_half, slave_half}
-use Rattle.said_code_law.specs.Nulls.{nulls_stand}
+pub use Rattle.monitor_soundness_law.specs.ServingSound.{HostsServe}
+use Rattle.pair_invariant_law.specs.Hosts.{HostsAgree}
+use Rattle.pair_invariant_law.specs.Live.{IsLive, IsSetting}
+use Rattle.pair_invariant_law.specs.Slaves.{Stays}
+pub use Rattle.pair_invariant_law.specs.AcceptedLaws.{monitor_half, slave_half}
+use Rattle.half_names_law.specs.SaidNulls.{nulls_stand}
 use Rattle.pair_laws.specs.PairStartOwn.{HostsAre, with_hosts}
 use Rattle.pair_laws.specs.PairStartStart.{boot_at, monitor_at, setting_of, slave_at}
 

@@ -4,7 +4,7 @@ use Rattle.runs.specs.State.{Hosts}
 use Rattle.pt_core.specs.CodeTree.{MonitorTree}
 use Rattle.pt_core.specs.Calls.{signature_in}
 use Rattle.pt_core.specs.WellFormed.{monitor_program}
-use Rattle.parts_step_law.specs.Parts.{HasSignature}
+use Rattle.part_views_law.specs.StepsParts.{HasSignature}
 use Rattle.pair_meaning.specs.Monitors.{Monitor}
 
 -- For each host that the program has a signature of, the same stands as among these hosts; for others anything may.

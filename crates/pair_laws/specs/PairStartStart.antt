@@ -11,8 +11,8 @@ use Rattle.lowering.specs.Functions.{core_program}
 use Rattle.pair_meaning.specs.Monitors.{Monitor}
 use Rattle.pair_meaning.specs.SlaveRun.{Slave, slave_of}
 use Rattle.pair_meaning.specs.Start.{boot_of, monitor_start}
-use Rattle.pair_invariant.specs.Live.{Setting}
-use Rattle.accepted_halves_law.specs.Laws.{monitor_half, slave_half}
+use Rattle.pair_invariant_law.specs.Live.{Setting}
+use Rattle.pair_invariant_law.specs.AcceptedLaws.{monitor_half, slave_half}
 
 -- the whole program in the normal form with its halves, under this policy, with the hosts of a table
 abbrev pub setting_of : TypedTree → Accepted → Standing → table.Hosts → List ℕ → ℕ → Setting

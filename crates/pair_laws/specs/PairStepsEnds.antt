@@ -3,14 +3,14 @@ use Rattle.std.specs.Prelude.{◌≡◌, ◌+◌, ◌<◌, ℕ, Bool, List, [], 
 use Rattle.pt_base.specs.declared.end.End.{End}
 use Rattle.wire.specs.declared.message.Message.{Message}
 use Rattle.pt_core.specs.CodeTree.{BootTree}
-use Rattle.pair_sides.specs.Links.{Half, Leads, half, talk_of}
-use Rattle.pair_sides.specs.Pair.{Who, done}
-use Rattle.pair_sides.specs.Serving.{IsExpected, IsHonest, ended}
+use Rattle.pair_protocol.specs.Links.{Half, Leads, half, talk_of}
+use Rattle.pair_protocol.specs.Pair.{Who, done}
+use Rattle.pair_protocol.specs.Serving.{IsExpected, IsHonest, ended}
 use Rattle.pair_meaning.specs.Monitors.{Monitor}
 use Rattle.pair_meaning.specs.Pair.{IsWhole, both, serve_all, the_sides}
 use Rattle.pair_meaning.specs.SlaveRun.{Slave, longest, slave_of}
-use Rattle.pair_invariant.specs.Laws.{CallsKeep}
-use Rattle.pair_invariant.specs.Live.{IsLive, IsSetting, Setting, expected_of}
+use Rattle.pair_invariant_law.specs.Laws.{CallsKeep}
+use Rattle.pair_invariant_law.specs.Live.{IsLive, IsSetting, Setting, expected_of}
 
 -- a slave of this boot and a monitor that begin as the halves of the setting's whole
 abbrev pub Begins : (Slave → Type 0) → Setting → BootTree → Monitor → Type 0

@@ -2,13 +2,13 @@
 use Rattle.std.specs.Prelude.{ℕ, List}
 use Rattle.pt_base.specs.declared.end.End.{End}
 use Rattle.pt_core.specs.Steps.{Answer, asked, ended, idle, moved, spent, trapped}
-use Rattle.pair_sides.specs.Pair.{Both, both_step, run}
+use Rattle.pair_protocol.specs.Pair.{Both, both_step, run}
 use Rattle.pair_meaning.specs.Monitors.{Monitor}
 use Rattle.pair_meaning.specs.Pair.{the_sides}
 use Rattle.pair_meaning.specs.Rules.{PeerRule}
 use Rattle.pair_meaning.specs.SlaveRun.{Slave, machine_step}
-use Rattle.pair_invariant.specs.Laws.{CallsKeep}
-use Rattle.pair_invariant.specs.Live.{IsKept, IsLate, IsLive, IsSetting, Setting}
+use Rattle.pair_invariant_law.specs.Laws.{CallsKeep}
+use Rattle.pair_invariant_law.specs.Live.{IsKept, IsLate, IsLive, IsSetting, Setting}
 
 abbrev pub IsNoCall : Answer → Type 0
 IsNoCall moved = Unit {0}

@@ -16,15 +16,15 @@ use Rattle.lowering.specs.Functions.{core_program}
 use Rattle.wire.specs.declared.message.Message.{Message}
 use Rattle.pt_core.specs.Steps.{Step, moved}
 use Rattle.pt_core.specs.WellFormed.{slave_program}
-use Rattle.machine_steps_law.specs.Judged.{Judging, judged_after}
-use Rattle.part_views.specs.Views.{has_global}
-use Rattle.pair_sides.specs.Pair.{Both, Going, Who, caught_up, done, goes, run, wrong}
+use Rattle.core_steps_law.specs.MachinesJudged.{Judging, judged_after}
+use Rattle.part_views_law.specs.Views.{has_global}
+use Rattle.pair_protocol.specs.Pair.{Both, Going, Who, caught_up, done, goes, run, wrong}
 use Rattle.pair_meaning.specs.Monitors.{Monitor}
 use Rattle.pair_meaning.specs.Pair.{pair_steps, the_sides}
 use Rattle.pair_meaning.specs.Revealed.{revealed_memory}
 use Rattle.pair_meaning.specs.Rules.{PeerRule}
 use Rattle.pair_meaning.specs.SlaveRun.{Slave}
-use Rattle.accepted_halves_law.specs.Laws.{monitor_half, slave_half}
+use Rattle.pair_invariant_law.specs.AcceptedLaws.{monitor_half, slave_half}
 use Rattle.pair_laws.specs.PairStartOwn.{HostsAre, with_hosts}
 use Rattle.pair_laws.specs.PairStartStart.{boot_at, monitor_at}
 use Rattle.pair_laws.specs.AcceptedPairsLaws.{MayRun, expected_of}

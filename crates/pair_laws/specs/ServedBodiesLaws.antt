@@ -9,18 +9,18 @@ use Rattle.block_memory.specs.declared.cell.Cell.{Cell}
 use Rattle.pt_core.specs.Statements.{State, Outcome}
 use Rattle.pt_core.specs.Values.{number_in}
 use Rattle.pt_core.specs.Steps.{Answer, Machine, answers, moved, resumed, spent, trapped, with_blocks}
-use Rattle.gates_agree_law.specs.Written.{Written}
-use Rattle.machine_steps_law.specs.Judged.{Judging}
-use Rattle.core_soundness.specs.Fits.{MemoryFits}
-use Rattle.core_soundness.specs.Kept.{none}
+use Rattle.core_steps_law.specs.GatesWritten.{Written}
+use Rattle.core_steps_law.specs.MachinesJudged.{Judging}
+use Rattle.core_soundness_law.specs.Fits.{MemoryFits}
+use Rattle.core_soundness_law.specs.Kept.{none}
 use Rattle.marshalling.specs.Handles.{Entries}
 use Rattle.marshalling.specs.HonestCalls.{grown}
 use Rattle.marshalling.specs.Taking.{Taken}
-use Rattle.part_views.specs.Machines.{nobody, seen_machine}
-use Rattle.part_views.specs.Views.{slave_view}
-use Rattle.crossing_views_law.specs.Calls.{IsEnded, IsSent, IsWorked}
+use Rattle.part_views_law.specs.Machines.{nobody, seen_machine}
+use Rattle.part_views_law.specs.Views.{slave_view}
+use Rattle.part_views_law.specs.CrossingsCalls.{IsEnded, IsSent, IsWorked}
 use Rattle.pair_meaning.specs.Serving.{global_part, turns_taken, work_of}
-use Rattle.monitor_gates_law.specs.Laws.{HaveModels, told_body, told_whole}
+use Rattle.pair_invariant_law.specs.MonitorGatesLaws.{HaveModels, told_body, told_whole}
 use Rattle.pair_laws.specs.ServedBodiesScene.{IsScene, Scene, admitted, called, called_and, code, noted, signature, turns_left}
 
 -- ---- what a state of the work is in the whole

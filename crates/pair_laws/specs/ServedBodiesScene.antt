@@ -15,18 +15,18 @@ use Rattle.pt_core.specs.Calls.{signature_in}
 use Rattle.pt_core.specs.Steps.{Active, Gate, Machine, Step, by_way}
 use Rattle.pt_core.specs.WellFormed.{monitor_program}
 use Rattle.core_steps_law.specs.WholeRun.{further, steps_run}
-use Rattle.machine_steps_law.specs.Judged.{Judging, judging_gate}
-use Rattle.core_soundness.specs.Outside.{own_params}
+use Rattle.core_steps_law.specs.MachinesJudged.{Judging, judging_gate}
+use Rattle.core_soundness_law.specs.Outside.{own_params}
 use Rattle.marshalling.specs.Packing.{packed}
-use Rattle.call_shapes_law.specs.Packable.{IsPackable}
-use Rattle.part_views.specs.Machines.{nobody, seen_machine}
-use Rattle.part_views.specs.Views.{View, seen_cell, slave_view}
-use Rattle.parts_step_law.specs.Parts.{HasSignature, Stands}
-use Rattle.shown_calls_law.specs.Laws.{AreHalves, Asks}
+use Rattle.marshalling_law.specs.CallsPackable.{IsPackable}
+use Rattle.part_views_law.specs.Machines.{nobody, seen_machine}
+use Rattle.part_views_law.specs.Views.{View, seen_cell, slave_view}
+use Rattle.part_views_law.specs.StepsParts.{HasSignature, Stands}
+use Rattle.part_views_law.specs.CallsLaws.{AreHalves, Asks}
 use Rattle.lent_blocks_law.specs.Lent.{CodeIsSaid}
 use Rattle.pair_meaning.specs.Monitors.{Monitor}
 use Rattle.pair_meaning.specs.Rules.{Admitted}
-use Rattle.monitor_gates_law.specs.Laws.{AreFixed, HasFunctions, HaveModels, is_host_of}
+use Rattle.pair_invariant_law.specs.MonitorGatesLaws.{AreFixed, HasFunctions, HaveModels, is_host_of}
 
 -- The whole program, which runs under a policy with so many turns; its slave, of which the machine has asked for a call of this
 -- function with these arguments, in its innermost function; the monitor; and what the whole's gate is in by then.

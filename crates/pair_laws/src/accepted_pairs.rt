@@ -12,8 +12,8 @@ pub use crate::pair_start::{
 };
 use crate::pair_steps::{honest_peers_are_expected, the_pair_ends, the_pair_is_expected};
 use c_lower_law::lowering_keeps_the_run;
-use check_programs_law::programs_are_well_formed;
-use said_code_law::checked_programs_place_nulls;
+use half_names_law::checked_programs_place_nulls;
+use type_law::programs_are_well_formed;
 
 /// The pair of a checked program that breaks no flow rule comes to what is expected of the program under every policy, with the
 /// hosts of every table without faults, every input and every budget, whatever its monitor has beside its own hosts.

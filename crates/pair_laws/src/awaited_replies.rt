@@ -2,7 +2,7 @@
 // slave says is one that the slave's call can have. And more replies only add to what is said.
 
 ghost use Rattle.pair_laws.specs.AwaitedRepliesLaws.{RepliesAreAwaited, WhatIsSaidGrows};
-ghost use Rattle.pair_invariant.specs.Slaves.{Stays};
+ghost use Rattle.pair_invariant_law.specs.Slaves.{Stays};
 
 /// Each reply to a first part of what the slave says is awaited.
 pub fn replies_are_awaited()

@@ -3,9 +3,9 @@
 
 ghost use Rattle.pair_laws.specs.PairStartLaws.{AcceptedMonitorsAreWellFormed, AcceptedPairsBegin, BootsAreWellFormed, HostsAgreeAtTheStart, MonitorsHostsServe, SlavesOfBootsAreSound};
 
-use half_declarations_law::monitors_are_said;
-use lowered_names_law::lowered_code_names_what_the_body_names;
-use pair_invariant::slaves_stay;
+use half_texts_law::monitors_are_said;
+use lowered_code_law::lowered_code_names_what_the_body_names;
+use pair_invariant_law::slaves_stay;
 use pt_core::boots_add_hosts;
 use slave_soundness_law::slaves_begin_sound;
 use split_law::{

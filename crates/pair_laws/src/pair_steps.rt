@@ -2,7 +2,7 @@
 // program, and comes to what is expected of that under its policy. So it is in every order of turns, and for a monitor whose peer is
 // an honest one. What a call keeps is asked of another law.
 
-ghost use Rattle.pair_invariant.specs.Slaves.{Stays};
+ghost use Rattle.pair_invariant_law.specs.Slaves.{Stays};
 ghost use Rattle.pair_laws.specs.PairStepsEnds.{HonestPeersAreExpected, ThePairEnds, ThePairIsExpected};
 ghost use Rattle.pair_laws.specs.PairStepsSteps.{LateKeeps, StepsKeep, ThePairKeeps};
 

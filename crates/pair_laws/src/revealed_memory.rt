@@ -9,8 +9,8 @@ use crate::pair_calls::calls_keep;
 use crate::pair_start::{accepted_pairs_begin, boots_are_well_formed};
 use crate::pair_steps::the_pair_keeps;
 use c_lower_law::lowering_keeps_the_run;
-use check_programs_law::programs_are_well_formed;
-use said_code_law::checked_programs_place_nulls;
+use half_names_law::checked_programs_place_nulls;
+use type_law::programs_are_well_formed;
 
 /// At every step of the pair, whatever the window is and whoever takes which turn.
 pub fn pairs_reveal_the_whole()

@@ -14,7 +14,7 @@ use Rattle.wire.specs.declared.message.ReplyBody.{ReplyBody}
 use Rattle.policy.specs.Verdicts.{Standing}
 use Rattle.pt_core.specs.Statements.{Outcome}
 use Rattle.pt_core.specs.Steps.{Answer, moved, asked, ended, trapped, spent, idle}
-use Rattle.pair_sides.specs.Sides.{going, waits, over, Moved, Served, goes_on, IsReply, HasReply, waiting, asks}
+use Rattle.pair_protocol.specs.Sides.{going, waits, over, Moved, Served, goes_on, IsReply, HasReply, waiting, asks}
 use Rattle.pair_meaning.specs.Monitors.{Monitor, Low, low}
 use Rattle.pair_meaning.specs.Rules as rule
 use Rattle.pair_meaning.specs.Rules.{PeerRule, Admitted, Verdict, breaks, writes, makes, call_rule, decided, early_rule, permitted, unless_broken, asked_for, rules, turns_of}

@@ -1,3 +1,4 @@
 pub mod Fair
 pub mod Stops
 mod Worked
+pub mod BoundsLongest

@@ -6,10 +6,10 @@ use Rattle.block_memory.specs.declared.cell.Cell.{Cell}
 use Rattle.wire.specs.declared.message.Message.{Message}
 use Rattle.wire.specs.declared.message.ReplyBody.{ReplyBody}
 use Rattle.pt_core.specs.Steps.{Machine, Answer, moved, asked, ended, trapped, spent, idle}
-use Rattle.slave_bound_law.specs.Longest.{goes as goes_on, IsLeft, GoesOn}
-use Rattle.pair_sides.specs.Sides.{going, waits, over, Moved}
-use Rattle.slave_bound_law.specs.Longest.{KeepsMachine}
-use Rattle.slave_bound_law.proofs.Longest.{slaves_are_bounded}
+use Rattle.pair_meaning.specs.BoundsLongest.{goes as goes_on, IsLeft, GoesOn}
+use Rattle.pair_protocol.specs.Sides.{going, waits, over, Moved}
+use Rattle.pair_meaning.specs.BoundsLongest.{KeepsMachine}
+use Rattle.pair_meaning.proofs.BoundsLongest.{slaves_are_bounded}
 use Rattle.pair_meaning.specs.Monitors.{Monitor}
 use Rattle.pair_meaning.specs.Rules.{PeerRule}
 use Rattle.pair_meaning.specs.SlaveRun.{Slave, Doing, goes, waits_for, is_over, Heard, after_step, awaits_reply, calls_or_parks, heard_by, is_reply_to, machine_step, mode_by, mode_of, moves_with, must_wait, parks, posts, says_call, slave_gate, slave_of, stepped, taken_by, with_reply}

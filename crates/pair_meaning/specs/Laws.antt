@@ -3,8 +3,8 @@ use Rattle.pt_base.specs.declared.end.End.{End}
 use Rattle.wire.specs.declared.message.Message.{Message}
 use Rattle.wire.specs.declared.message.ReplyBody.{ReplyBody}
 use Rattle.pt_core.specs.CodeTree.{BootTree}
-use Rattle.pair_sides.specs.Sides.{AreFair}
-use Rattle.slave_bound_law.specs.Longest.{HasLongest}
+use Rattle.pair_protocol.specs.Sides.{AreFair}
+use Rattle.pair_meaning.specs.BoundsLongest.{HasLongest}
 use Rattle.pair_meaning.specs.Monitors.{Monitor}
 use Rattle.pair_meaning.specs.Rules.{PeerRule}
 use Rattle.pair_meaning.specs.SlaveRun.{Slave, slave_of, longest}

@@ -9,3 +9,6 @@ pub mod Serving
 pub mod SlaveRun
 pub mod Start
 pub mod Streams
+pub mod BoundsLongest
+pub mod LinkChoosing
+pub mod LinkTalks

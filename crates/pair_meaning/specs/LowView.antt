@@ -9,7 +9,7 @@ use Rattle.wire.specs.declared.message.CallBody.{CallBody}
 use Rattle.wire.specs.declared.message.Message.{Message}
 use Rattle.wire.specs.declared.message.ReplyBody.{ReplyBody}
 use Rattle.marshalling.specs.Replies.{Place, is_plain, kept_by, next_after, next_by, result_places, sent_by}
-use Rattle.pair_sides.specs.Sides.{Served, goes_on, ends, bad}
+use Rattle.pair_protocol.specs.Sides.{Served, goes_on, ends, bad}
 use Rattle.pt_base.specs.declared.end.End.{End}
 use Rattle.pair_meaning.specs.Monitors.{Monitor, Low, types_in}
 use Rattle.pair_meaning.specs.Rules.{PeerRule, Admitted, Verdict, breaks, writes, makes, turns_of, body_places, rules}

@@ -5,13 +5,13 @@ use Rattle.wire.specs.declared.message.Message.{Message}
 use Rattle.wire.specs.declared.message.Message.TheVariants as message
 use Rattle.wire.specs.declared.message.ReplyBody.{ReplyBody}
 use Rattle.pt_core.specs.CodeTree.{BootTree}
-use Rattle.pair_sides.specs.Sides.{Sides}
-use Rattle.pair_sides.specs.SlaveRun as run
-use Rattle.pair_sides.specs.SlaveRun.{At}
-use Rattle.pair_sides.specs.Serving as serving
-use Rattle.pair_sides.specs.Serving.{All}
-use Rattle.pair_sides.specs.Pair as pair
-use Rattle.pair_sides.specs.Pair.{Both, Pair, Who}
+use Rattle.pair_protocol.specs.Sides.{Sides}
+use Rattle.pair_protocol.specs.SlaveRun as run
+use Rattle.pair_protocol.specs.SlaveRun.{At}
+use Rattle.pair_protocol.specs.Serving as serving
+use Rattle.pair_protocol.specs.Serving.{All}
+use Rattle.pair_protocol.specs.Pair as pair
+use Rattle.pair_protocol.specs.Pair.{Both, Pair, Who}
 use Rattle.pair_meaning.specs.Monitors.{Monitor}
 use Rattle.pair_meaning.specs.Rules.{PeerRule}
 use Rattle.pair_meaning.specs.Serving.{serve}

@@ -22,7 +22,7 @@ use Rattle.pt_core.specs.WellFormed.{monitor_program}
 use Rattle.marshalling.specs.declared.inputs.Inputs.{Inputs}
 use Rattle.marshalling.specs.Handles.{unpacked}
 use Rattle.marshalling.specs.Replies.{kept_results, packed_results, types_in}
-use Rattle.pair_sides.specs.Sides.{Served, goes_on, ends, bad}
+use Rattle.pair_protocol.specs.Sides.{Served, goes_on, ends, bad}
 use Rattle.pair_meaning.specs.Monitors.{Monitor, low}
 use Rattle.pair_meaning.specs.Rules.{PeerRule, Admitted, Verdict, breaks, writes, makes, turns_of, needs, early_rule, unless_broken, rules}
 use Rattle.pair_meaning.specs.Rules as rule

@@ -26,9 +26,9 @@ use Rattle.core_steps_law.specs.WholeRun.{begun_machine}
 use Rattle.marshalling.specs.Packing.{packed}
 use Rattle.marshalling.specs.Taking.{Taken, after_posting, after_reply, call_places, is_reply}
 use Rattle.marshalling.specs.Replies.{Place, has_plain, result_places}
-use Rattle.slave_bound_law.specs.Longest.{longest_run}
-use Rattle.pair_sides.specs.Sides.{Mode, Moved}
-use Rattle.pair_sides.specs.Sides as side
+use Rattle.pair_meaning.specs.BoundsLongest.{longest_run}
+use Rattle.pair_protocol.specs.Sides.{Mode, Moved}
+use Rattle.pair_protocol.specs.Sides as side
 use Rattle.pair_meaning.specs.LowView.{types_kept}
 
 -- ---- a slave

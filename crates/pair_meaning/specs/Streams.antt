@@ -6,8 +6,8 @@ use Rattle.wire.specs.declared.message.ReplyBody.{ReplyBody}
 use Rattle.wire.specs.Frames.{Ending, open_end, bad_frame_at, too_long_at}
 use Rattle.policy.specs.Answers.{function_of}
 use Rattle.policy.specs.Verdicts.{Call}
-use Rattle.pair_sides.specs.Sides.{Served, goes_on, ends, bad}
-use Rattle.pair_sides.specs.SlaveRun.{listed}
+use Rattle.pair_protocol.specs.Sides.{Served, goes_on, ends, bad}
+use Rattle.pair_protocol.specs.SlaveRun.{listed}
 use Rattle.pair_meaning.specs.Monitors.{Monitor}
 use Rattle.pair_meaning.specs.Rules.{PeerRule, bad_frame, too_long, Admitted, Verdict, breaks, writes, makes, plain_of}
 use Rattle.pair_meaning.specs.Rules as rule

@@ -13,7 +13,7 @@ use Rattle.wire.specs.declared.message.Message.{Message}
 use Rattle.wire.specs.declared.message.Message.TheVariants as message
 use Rattle.wire.specs.declared.message.ReplyBody.{ReplyBody}
 use Rattle.policy.specs.Verdicts.{Standing}
-use Rattle.pair_sides.specs.Sides.{Served, goes_on, ends, bad}
+use Rattle.pair_protocol.specs.Sides.{Served, goes_on, ends, bad}
 use Rattle.pair_meaning.specs.Monitors.{Monitor, Low, low}
 use Rattle.pair_meaning.specs.Rules as rule
 use Rattle.pair_meaning.specs.Rules.{PeerRule, Admitted, Verdict, breaks, writes, makes, asked_for, broken_if, call_rule, decided, early_rule, needs, permitted, rules, turns_of, unless_broken, bad_turns}

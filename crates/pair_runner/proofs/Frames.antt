@@ -7,9 +7,9 @@ use Rattle.wire.specs.declared.message.ReplyBody.{ReplyBody}
 use Rattle.wire.specs.Frames.{Begins, Ending, open_end, bad_frame_at, too_long_at, Stops, IsStream}
 use Rattle.wire.specs.Spelling.{spelling}
 use Rattle.wire.proofs.StreamLaws.{same_message, stops_no_message, streams_once}
-use Rattle.pair_sides.specs.Sides as sides
-use Rattle.pair_sides.specs.Sides.{Served}
-use Rattle.pair_sides.specs.SlaveRun.{listed}
+use Rattle.pair_protocol.specs.Sides as sides
+use Rattle.pair_protocol.specs.Sides.{Served}
+use Rattle.pair_protocol.specs.SlaveRun.{listed}
 use Rattle.pair_meaning.specs.Monitors.{Monitor}
 use Rattle.pair_meaning.specs.Rules.{PeerRule}
 use Rattle.pair_meaning.specs.Serving.{serve}

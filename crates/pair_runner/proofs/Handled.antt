@@ -6,8 +6,8 @@ use Rattle.wire.specs.declared.message.Message.{Message}
 use Rattle.wire.specs.declared.message.Message.TheVariants.{Reply}
 use Rattle.wire.specs.declared.message.ReplyBody.{ReplyBody}
 use Rattle.wire.specs.Limits.{KeepsCounts, KeepsLimits}
-use Rattle.pair_sides.specs.Sides.{Served, goes_on, ends, bad}
-use Rattle.pair_sides.specs.SlaveRun.{listed}
+use Rattle.pair_protocol.specs.Sides.{Served, goes_on, ends, bad}
+use Rattle.pair_protocol.specs.SlaveRun.{listed}
 use Rattle.pair_meaning.specs.Monitors.{Monitor}
 use Rattle.pair_meaning.specs.Rules as rules
 use Rattle.pair_meaning.specs.Rules.{number_of_rule}

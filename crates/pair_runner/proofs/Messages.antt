@@ -4,9 +4,9 @@ use Rattle.pt_base.specs.declared.end.End.{End}
 use Rattle.wire.specs.declared.message.Message.{Message}
 use Rattle.wire.specs.declared.message.ReplyBody.{ReplyBody}
 use Rattle.wire.specs.Frames.{Ending}
-use Rattle.pair_sides.specs.Sides.{Served, goes_on, ends, bad}
-use Rattle.pair_sides.specs.Serving.{All, after}
-use Rattle.pair_sides.specs.SlaveRun.{listed}
+use Rattle.pair_protocol.specs.Sides.{Served, goes_on, ends, bad}
+use Rattle.pair_protocol.specs.Serving.{All, after}
+use Rattle.pair_protocol.specs.SlaveRun.{listed}
 use Rattle.pair_meaning.specs.Monitors.{Monitor}
 use Rattle.pair_meaning.specs.Pair.{serve_all}
 use Rattle.pair_meaning.specs.Rules.{PeerRule}

@@ -5,7 +5,7 @@ use Rattle.std.specs.Io.KnownBytes.{Appends, Keeps}
 use Rattle.pt_base.specs.Talk.{Event, gave, took}
 use Rattle.pt_base.specs.Told.{AppendsPart}
 use Rattle.wire.specs.declared.message.ReplyBody.{ReplyBody}
-use Rattle.pair_sides.specs.SlaveRun.{listed}
+use Rattle.pair_protocol.specs.SlaveRun.{listed}
 use Rattle.pair_runner.specs.Sending.{given_in, sent_in, sent_of, reply_frame, reply_frames, Talks, Parts, Moves, Breaks}
 use Rattle.pair_runner.proofs.Parts.{keeps_nil, nothing, part_behind}
 

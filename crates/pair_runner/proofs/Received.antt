@@ -6,7 +6,7 @@ use Rattle.wire.specs.declared.message.ReplyBody.{ReplyBody}
 use Rattle.wire.specs.Frames.{Begins, IsUnfinished}
 use Rattle.wire.specs.Spelling.{four_bytes, payload, spelling}
 use Rattle.wire.proofs.Sizes.{length-four_bytes}
-use Rattle.pair_sides.specs.Sides as sides
+use Rattle.pair_protocol.specs.Sides as sides
 use Rattle.pair_meaning.specs.Monitors.{Monitor}
 use Rattle.pair_meaning.specs.Serving.{serve}
 use Rattle.pair_runner.specs.Bounds.{longest_frame, most_at_once, most_received}

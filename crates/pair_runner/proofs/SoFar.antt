@@ -9,8 +9,8 @@ use Rattle.wire.specs.Frames.{IsUnfinished, Begins, Ending, IsStream}
 use Rattle.wire.specs.Limits.{IsBytes}
 use Rattle.wire.specs.Spelling.{spelling}
 use Rattle.wire.proofs.StreamLaws.{one_stream}
-use Rattle.pair_sides.specs.Sides as sides
-use Rattle.pair_sides.specs.SlaveRun.{listed}
+use Rattle.pair_protocol.specs.Sides as sides
+use Rattle.pair_protocol.specs.SlaveRun.{listed}
 use Rattle.pair_meaning.specs.Monitors.{Monitor}
 use Rattle.pair_meaning.specs.Serving.{serve}
 use Rattle.pair_meaning.specs.Streams.{Stopped, Talk, serve_frames}

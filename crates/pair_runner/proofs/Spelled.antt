@@ -19,7 +19,7 @@ use Rattle.wire.proofs.Sizes.{counts_suffice}
 use Rattle.marshalling.specs.declared.crossing.Crossing.{Crossing}
 use Rattle.marshalling.specs.declared.crossing.Crossing.TheVariants.{Stays, Plain, Sealed}
 use Rattle.marshalling.specs.Replies.{Place, block_types, next_by, places_from, places_of, sent, sent_by, types_of}
-use Rattle.pair_sides.specs.Sides.{Served, goes_on, ends, bad}
+use Rattle.pair_protocol.specs.Sides.{Served, goes_on, ends, bad}
 use Rattle.pair_meaning.specs.Monitors.{Monitor, low}
 use Rattle.pair_meaning.specs.Rules as rule
 use Rattle.pair_meaning.specs.Rules.{PeerRule, Admitted, Verdict, breaks, writes, makes, rules}

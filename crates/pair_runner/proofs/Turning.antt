@@ -9,9 +9,9 @@ use Rattle.wire.specs.Frames.{IsUnfinished, Begins, Ending, IsStream}
 use Rattle.wire.specs.Limits.{IsBytes}
 use Rattle.wire.specs.Steps.{Takes}
 use Rattle.wire.specs.View.{ReaderView}
-use Rattle.pair_sides.specs.Sides as sides
-use Rattle.pair_sides.specs.Sides.{Served}
-use Rattle.pair_sides.specs.SlaveRun.{listed}
+use Rattle.pair_protocol.specs.Sides as sides
+use Rattle.pair_protocol.specs.Sides.{Served}
+use Rattle.pair_protocol.specs.SlaveRun.{listed}
 use Rattle.pair_meaning.specs.Monitors.{Monitor}
 use Rattle.pair_meaning.specs.Rules.{PeerRule, bad_frame, too_long}
 use Rattle.pair_meaning.specs.Serving.{serve}

@@ -8,8 +8,8 @@ use Rattle.wire.specs.declared.message.ReplyBody.{ReplyBody}
 use Rattle.wire.specs.Frames.{Ending, IsStream}
 use Rattle.wire.specs.Limits.{KeepsCounts, KeepsLimits}
 use Rattle.std.specs.Prelude.{Some}
-use Rattle.pair_sides.specs.Sides.{goes_on}
-use Rattle.pair_sides.specs.Serving.{Stop, still, ended, broken}
+use Rattle.pair_protocol.specs.Sides.{goes_on}
+use Rattle.pair_protocol.specs.Serving.{Stop, still, ended, broken}
 use Rattle.pair_meaning.specs.Monitors.{Monitor}
 use Rattle.pair_meaning.specs.Pair.{serve_all}
 use Rattle.pair_meaning.specs.Rules.{PeerRule}

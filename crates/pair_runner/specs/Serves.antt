@@ -6,8 +6,8 @@ use Rattle.wire.specs.declared.message.Message.{Message}
 use Rattle.wire.specs.declared.message.ReplyBody.{ReplyBody}
 use Rattle.wire.specs.Frames.{IsUnfinished, BeginsBad, BeginsTooLong, Begins}
 use Rattle.wire.specs.Spelling.{spelling}
-use Rattle.pair_sides.specs.Sides as sides
-use Rattle.pair_sides.specs.SlaveRun.{listed}
+use Rattle.pair_protocol.specs.Sides as sides
+use Rattle.pair_protocol.specs.SlaveRun.{listed}
 use Rattle.pair_meaning.specs.Monitors.{Monitor}
 use Rattle.pair_meaning.specs.Rules.{PeerRule, bad_frame, too_long}
 use Rattle.pair_meaning.specs.Serving.{serve}

@@ -8,8 +8,8 @@ use Rattle.wire.specs.Frames.{IsUnfinished, BeginsBad, BeginsTooLong}
 use Rattle.wire.specs.Limits.{IsBytes}
 use Rattle.wire.specs.Steps.{Takes}
 use Rattle.wire.specs.View.{ReaderView}
-use Rattle.pair_sides.specs.Sides.{Served, goes_on, ends, bad}
-use Rattle.pair_sides.specs.SlaveRun.{listed}
+use Rattle.pair_protocol.specs.Sides.{Served, goes_on, ends, bad}
+use Rattle.pair_protocol.specs.SlaveRun.{listed}
 use Rattle.pair_meaning.specs.Monitors.{Monitor}
 use Rattle.pair_meaning.specs.Rules.{PeerRule, number_of_rule}
 use Rattle.pair_meaning.specs.Serving.{serve}

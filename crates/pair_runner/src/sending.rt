@@ -6,7 +6,7 @@ ghost use Rattle.wire.specs.declared.message.Message.TheVariants.{Boot, Reply};
 ghost use Rattle.wire.specs.Limits.{KeepsLimits, Spells, longest_piece};
 ghost use Rattle.wire.specs.Spelling.{spelling};
 ghost use Rattle.pair_meaning.specs.Peer.{boot_frames};
-ghost use Rattle.pair_sides.specs.SlaveRun.{listed};
+ghost use Rattle.pair_protocol.specs.SlaveRun.{listed};
 ghost use Rattle.pair_runner.specs.Sending.{IsSpelled, Parts, Talks, boot_talk, piece_sent, reply_frames, sent_of};
 
 use pt_base::{Bytes, Link, LinkFault};

@@ -6,7 +6,7 @@ ghost use Rattle.wire.specs.Limits.{KeepsCounts, KeepsLimits};
 ghost use Rattle.monitor_interp.specs.Monitors.{IsMonitor};
 ghost use Rattle.pair_meaning.specs.Monitors as s;
 ghost use Rattle.pair_meaning.specs.Serving.{serve};
-ghost use Rattle.pair_sides.specs.SlaveRun.{listed};
+ghost use Rattle.pair_protocol.specs.SlaveRun.{listed};
 ghost use Rattle.pair_runner.specs.Faults.{FirstFault};
 ghost use Rattle.pair_runner.specs.Sending.{Breaks, IsSpelled, Moves, Parts, Talks, reply_frames, sent_of};
 ghost use Rattle.pair_runner.specs.Turns.{Answered, Fed, Stuck, Turned, Unfed};

@@ -6,19 +6,19 @@ use Rattle.runs.specs.State.{Hosts}
 use Rattle.typed_tree.specs.TypedTree.{TypedTree}
 use Rattle.policy.specs.Verdicts.{start}
 use Rattle.host_models.specs.Fitting.{fits}
-use Rattle.said_code_law.specs.Laws.{CheckedProgramsPlaceNulls}
-use Rattle.said_code_law.specs.Nulls.{nulls_stand}
+use Rattle.half_names_law.specs.SaidLaws.{CheckedProgramsPlaceNulls}
+use Rattle.half_names_law.specs.SaidNulls.{nulls_stand}
 use Rattle.pt_core.specs.CodeTree.{BootTree}
 use Rattle.pt_core.specs.WellFormed.{is_well_formed_boot}
 use Rattle.pair_meaning.specs.Monitors.{Monitor}
 use Rattle.pair_meaning.specs.SlaveRun.{slave_of}
 use Rattle.pair_meaning.specs.Start.{reads_input}
-use Rattle.pair_invariant.specs.Laws.{CallsKeep}
-use Rattle.pair_invariant.specs.Slaves.{Stays}
+use Rattle.pair_invariant_law.specs.Laws.{CallsKeep}
+use Rattle.pair_invariant_law.specs.Slaves.{Stays}
 use Rattle.pair_laws.specs.BegunPairsLaws.{AcceptedSlavesStay, AcceptedPairsBegin, boot_at, setting_of, BegunBootsAreWellFormed, BegunPairsAreExpected, HostsAre, with_hosts}
 use Rattle.pair_laws.specs.PairStepsEnds.{Begins}
 use Rattle.pair_laws.specs.AwaitedRepliesLaws.{RepliesAreAwaited}
-use Rattle.spoken_messages_law.specs.Laws.{SpokenMessagesAreSpelled}
+use Rattle.slave_soundness_law.specs.MessagesLaws.{SpokenMessagesAreSpelled}
 use Rattle.pair_texts.specs.OutcomeSeen.{HaveBegun}
 use Rattle.pair_texts.specs.Start.{Texts}
 use Rattle.pair_running.specs.HonestTalksLaws.{BegunPairsAreFair}

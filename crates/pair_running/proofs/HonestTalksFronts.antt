@@ -6,7 +6,7 @@ use Rattle.wire.specs.Frames.{IsUnfinished, BeginsBad, BeginsTooLong, Begins, op
 use Rattle.wire.specs.Spelling.{four_bytes, spelling}
 use Rattle.wire.proofs.StreamLaws.{same_message, stops_no_message, frame_not_unfinished, too_long_not_unfinished}
 use Rattle.pair_runner.proofs.Frames.{begins_more}
-use Rattle.spoken_messages_law.specs.Laws.{AllAreSpelled}
+use Rattle.slave_soundness_law.specs.MessagesLaws.{AllAreSpelled}
 
 -- the spellings, one behind the other
 abbrev pub spellings : List Message → List ℕ

@@ -12,9 +12,9 @@ use Rattle.wire.specs.declared.message.ReplyBody.{ReplyBody}
 use Rattle.wire.specs.Frames.{Begins}
 use Rattle.wire.specs.Spelling.{spelling}
 use Rattle.pt_core.specs.CodeTree.{BootTree}
-use Rattle.pair_sides.specs.Serving.{All, all, after, IsExpected}
-use Rattle.pair_sides.specs.Sides.{Served, goes_on}
-use Rattle.pair_sides.specs.SlaveRun.{listed}
+use Rattle.pair_protocol.specs.Serving.{All, all, after, IsExpected}
+use Rattle.pair_protocol.specs.Sides.{Served, goes_on}
+use Rattle.pair_protocol.specs.SlaveRun.{listed}
 use Rattle.pair_meaning.specs.Monitors.{Monitor}
 use Rattle.pair_meaning.specs.Pair.{said, serve_all}
 use Rattle.pair_meaning.specs.Peer.{are_awaited, boot_frames, is_form, says}
@@ -22,7 +22,7 @@ use Rattle.pair_meaning.specs.Rules.{PeerRule}
 use Rattle.pair_meaning.specs.Serving.{serve}
 use Rattle.pair_runner.specs.Sending.{IsSpelled, reply_frame, reply_frames}
 use Rattle.pair_laws.specs.AwaitedRepliesLaws.{WhatIsSaidGrows}
-use Rattle.spoken_messages_law.specs.Laws.{AllAreSpelled}
+use Rattle.slave_soundness_law.specs.MessagesLaws.{AllAreSpelled}
 use Rattle.pair_running.specs.HonestTalksLaws.{IsFairPair}
 use Rattle.pair_running.proofs.HonestTalksCutting.{replies_in_are}
 use Rattle.pair_running.proofs.HonestTalksForms.{replies_have_form}

@@ -6,7 +6,7 @@ use Rattle.runs.specs.Run.{Expected}
 use Rattle.wire.specs.declared.message.ReplyBody.{ReplyBody}
 use Rattle.wire.specs.Spelling.{spelling}
 use Rattle.pt_core.specs.CodeTree.{BootTree}
-use Rattle.pair_sides.specs.Sides as sides
+use Rattle.pair_protocol.specs.Sides as sides
 use Rattle.pair_meaning.specs.Monitors.{Monitor}
 use Rattle.pair_meaning.specs.Peer.{boot_frames, is_form, says}
 use Rattle.pair_meaning.specs.Streams.{at_end, Talk}

@@ -27,3 +27,6 @@ pub mod TalksExistLinks
 pub mod TalksExistPieces
 pub mod TalksExistServing
 pub mod TalksExistTelling
+pub mod MemoryTalksHanding
+pub mod MemoryTalksHearing
+pub mod MemoryTalksTalks

@@ -15,7 +15,7 @@ use Rattle.pair_meaning.specs.Monitors.{Monitor}
 use Rattle.pair_meaning.specs.SlaveRun.{longest, slave_of}
 use Rattle.pair_laws.specs.BegunPairsLaws.{HostsServe}
 use Rattle.monitor_interp.specs.Gates.{hosts_for}
-use Rattle.memory_talks_law.specs.Laws.{ComesToAnEnd}
+use Rattle.pair_running.specs.MemoryTalksLaws.{ComesToAnEnd}
 use Rattle.pair_laws.specs.BegunPairsLaws.{HostsAre}
 use Rattle.pair_laws.specs.BegunPairsLaws.{DoesWhatIsExpected, expected_of}
 use Rattle.pair_texts.specs.declared.outcome.Outcome.{Outcome}

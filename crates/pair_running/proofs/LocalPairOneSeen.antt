@@ -2,7 +2,7 @@
 use Rattle.std.proofs.Common.{◌≡◌, ◌⊎◌, ◌∙◌, List, [], ◌∷◌, map, refl, sym, ap, inl, inr}
 use Rattle.flow_rules.specs.declared.fault.FlowFault.{FlowFault}
 use Rattle.flow_check.specs.Laws.{without_way}
-use Rattle.fault_lines.specs.Seen.{Seen}
+use Rattle.front_end.specs.FaultLinesSeen.{Seen}
 use Rattle.pair_texts.specs.Start.{flow, host, input, lex, parse, policy, types}
 use Rattle.pair_running.specs.LocalPairLocal.{Outcome, ran, refused, without_ways}
 use Rattle.pair_running.specs.LocalPairSeen.{DifferInWays, SeenIsOne, shown}

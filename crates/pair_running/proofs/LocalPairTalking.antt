@@ -4,12 +4,12 @@ use Rattle.pt_base.specs.declared.chooser.Who as base
 use Rattle.pt_base.specs.declared.end.End.{End}
 use Rattle.pt_base.specs.Faults.{HasCause, Rose}
 use Rattle.pt_base.specs.Talk.{Event}
-use Rattle.link_talks.specs.Choosing.{AreTaken}
-use Rattle.link_talks.specs.Talks.{Side, Runs, begun}
+use Rattle.pair_meaning.specs.LinkChoosing.{AreTaken}
+use Rattle.pair_meaning.specs.LinkTalks.{Side, Runs, begun}
 use Rattle.memory_link.specs.declared.link.MemoryLink.{MemoryLink}
 use Rattle.memory_link.specs.Came.{Came, IsLink}
-use Rattle.memory_talks_law.specs.Laws.{ComesToAnEnd, TalksAreWhole, TalksEnd}
-use Rattle.pair_sides.specs.Pair.{IsWhole}
+use Rattle.pair_running.specs.MemoryTalksLaws.{ComesToAnEnd, TalksAreWhole, TalksEnd}
+use Rattle.pair_protocol.specs.Pair.{IsWhole}
 use Rattle.pair_meaning.specs.Monitors.{Monitor}
 use Rattle.pair_meaning.specs.Pair.{the_sides}
 use Rattle.pair_meaning.specs.Rules.{PeerRule}

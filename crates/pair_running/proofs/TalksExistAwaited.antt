@@ -23,18 +23,18 @@ use Rattle.marshalling.specs.Packing.{names_of}
 use Rattle.marshalling.specs.Replies.{Place, next_after, next_by, places_from, places_of}
 use Rattle.marshalling.specs.Taking.{are_sent, call_crossing, comes_back, is_sent_by, is_whole}
 use Rattle.marshalling.proofs.Lists.{first, second}
-use Rattle.taken_replies_law.specs.Laws.{AllStand, Stands}
+use Rattle.marshalling_law.specs.TakingLaws.{AllStand, Stands}
 use Rattle.pt_core.specs.CodeTree.{BootTree}
 use Rattle.pt_core.specs.Calls.{signature_in}
-use Rattle.call_shapes_law.specs.Packable.{IsPackable}
-use Rattle.call_shapes_law.proofs.Served.{range_of}
+use Rattle.marshalling_law.specs.CallsPackable.{IsPackable}
+use Rattle.marshalling_law.proofs.CallsServed.{range_of}
 use Rattle.pair_meaning.specs.Pair.{slave_at}
 use Rattle.pair_meaning.specs.Peer.{are_awaited, is_awaited}
 use Rattle.pair_meaning.specs.SlaveRun.{Slave, Doing, goes, waits_for, is_over, is_reply_to, longest, may_take, places_of_call, results_of}
 use Rattle.slave_soundness_law.specs.Sound.{IsDoing, IsWaiting, most_given}
-use Rattle.spoken_messages_law.specs.Format.{IsInFormat, numbered}
-use Rattle.spoken_messages_law.specs.Laws.{ReachedSlavesAreInFormat}
-use Rattle.spoken_messages_law.proofs.Taking.{given_stand}
+use Rattle.slave_soundness_law.specs.MessagesFormat.{IsInFormat, numbered}
+use Rattle.slave_soundness_law.specs.MessagesLaws.{ReachedSlavesAreInFormat}
+use Rattle.slave_soundness_law.proofs.MessagesTaking.{given_stand}
 use Rattle.pair_runner.specs.Sending.{IsSpelled}
 use Rattle.pair_running.specs.TalksExistLaws.{AwaitedRepliesAreSpelled}
 

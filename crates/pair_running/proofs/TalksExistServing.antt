@@ -16,10 +16,10 @@ use Rattle.wire.specs.Frames.{Begins}
 use Rattle.wire.specs.Limits.{Spells}
 use Rattle.wire.specs.Spelling.{spelling}
 use Rattle.pt_core.specs.CodeTree.{BootTree}
-use Rattle.pair_sides.specs.Serving.{All, after}
-use Rattle.pair_sides.specs.Sides as sides
-use Rattle.pair_sides.specs.Sides.{Served}
-use Rattle.pair_sides.specs.SlaveRun.{listed}
+use Rattle.pair_protocol.specs.Serving.{All, after}
+use Rattle.pair_protocol.specs.Sides as sides
+use Rattle.pair_protocol.specs.Sides.{Served}
+use Rattle.pair_protocol.specs.SlaveRun.{listed}
 use Rattle.pair_meaning.specs.Monitors.{Monitor}
 use Rattle.pair_meaning.specs.Pair.{said, serve_all}
 use Rattle.pair_meaning.specs.Peer.{are_awaited, boot_frames, says}
@@ -31,7 +31,7 @@ use Rattle.pair_runner.specs.Serves as serving
 use Rattle.pair_runner.specs.Serves.{Serves, before, stops}
 use Rattle.pair_runner.proofs.Counting.{Progress, passes, progress}
 use Rattle.pair_laws.specs.AwaitedRepliesLaws.{WhatIsSaidGrows}
-use Rattle.spoken_messages_law.specs.Laws.{AllAreSpelled}
+use Rattle.slave_soundness_law.specs.MessagesLaws.{AllAreSpelled}
 use Rattle.pair_running.specs.HonestTalksLaws.{IsFairPair}
 use Rattle.pair_running.proofs.HonestTalksCutting.{replies_in_are}
 use Rattle.pair_running.proofs.HonestTalksFronts.{next_is, spellings}

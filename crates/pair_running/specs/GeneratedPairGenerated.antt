@@ -10,7 +10,7 @@ use Rattle.pair_running.specs.LocalPairEnds.{Ended, ended_as}
 use Rattle.pair_running.specs.LocalPairLocal as local
 use Rattle.pair_running.specs.LocalPairLocal.{IsExpected, Outcome, refused, ran, without_ways}
 use Rattle.pair_running.specs.LocalPairSeen.{Shows, seen_of}
-use Rattle.fault_lines.specs.Seen.{Seen}
+use Rattle.front_end.specs.FaultLinesSeen.{Seen}
 use Rattle.pair_running.specs.GeneratedPairTelling.{line_of, told_of}
 
 -- the turns of the run

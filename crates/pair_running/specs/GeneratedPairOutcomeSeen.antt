@@ -1,7 +1,7 @@
 -- What contracts see of an answer.
 use Rattle.std.specs.Prelude.{◌≡◌, ℕ, List, [], Option}
 use Rattle.pt_base.specs.declared.chooser.Who as base
-use Rattle.link_talks.specs.Choosing.{AreTaken}
+use Rattle.pair_meaning.specs.LinkChoosing.{AreTaken}
 use Rattle.pair_running.specs.declared.local_pair.outcome.Outcome.{Outcome}
 use Rattle.pair_running.specs.declared.local_pair.outcome.Outcome.TheVariants.{Refused, Ran}
 use Rattle.pair_running.specs.LocalPairLocal.{ran}

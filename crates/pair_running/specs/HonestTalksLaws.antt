@@ -15,7 +15,7 @@ use Rattle.pair_meaning.specs.Streams.{at_end, Talk}
 use Rattle.pair_runner.specs.Sending.{boot_talk}
 use Rattle.pair_runner.specs.Serves.{Serves}
 use Rattle.honest_link.specs.Talks.{Along}
-use Rattle.spoken_messages_law.specs.Laws.{AllAreSpelled}
+use Rattle.slave_soundness_law.specs.MessagesLaws.{AllAreSpelled}
 use Rattle.pair_texts.specs.OutcomeSeen.{HaveBegun}
 use Rattle.pair_texts.specs.Start.{Texts}
 pub use Rattle.pair_laws.specs.BegunPairsLaws.{BegunMonitorsAreWellFormed, BegunMonitorsHostsServe, DoesWhatIsExpected, HostsAre, HostsServe, expected_of, with_hosts}

@@ -16,3 +16,4 @@ pub mod TalksExistLaws
 pub mod TalksExistLinks
 pub mod TalksExistPeers
 pub mod TalksExistPlanned
+pub mod MemoryTalksLaws

@@ -1,7 +1,7 @@
 -- What contracts see of an answer.
 use Rattle.std.specs.Prelude.{ℕ, [], Option}
 use Rattle.pt_base.specs.declared.chooser.Who as base
-use Rattle.link_talks.specs.Choosing.{AreTaken}
+use Rattle.pair_meaning.specs.LinkChoosing.{AreTaken}
 use Rattle.pair_texts.specs.OutcomeSeen.{AreLinesOf}
 use Rattle.pair_texts.specs.Start.{Texts}
 use Rattle.pair_running.specs.declared.local_pair.outcome.Ended.{Ended}

@@ -3,11 +3,11 @@ use Rattle.std.specs.Prelude.{◌≡◌, ◌<◌, ℕ, List, All, Option}
 use Rattle.pt_base.specs.declared.chooser.Who as base
 use Rattle.pt_base.specs.declared.end.End.{End}
 use Rattle.pt_core.specs.CodeTree.{view_boot}
-use Rattle.link_talks.specs.Choosing.{AreTaken}
-use Rattle.memory_talks_law.specs.Laws.{ComesToAnEnd}
+use Rattle.pair_meaning.specs.LinkChoosing.{AreTaken}
+use Rattle.pair_running.specs.MemoryTalksLaws.{ComesToAnEnd}
 use Rattle.monitor_interp.specs.declared.monitor.Monitor as code
 use Rattle.monitor_interp.specs.Monitors.{IsMonitor}
-use Rattle.pair_sides.specs.Pair.{Who, IsWhole}
+use Rattle.pair_protocol.specs.Pair.{Who, IsWhole}
 use Rattle.pair_meaning.specs.Monitors.{Monitor}
 use Rattle.pair_meaning.specs.Pair.{the_sides}
 use Rattle.pair_meaning.specs.SlaveRun.{Slave, slave_of}

@@ -5,8 +5,8 @@ use Rattle.pt_base.specs.Traps.{trap_name}
 use Rattle.runs.specs.Run.{Expected}
 use Rattle.typed_tree.specs.TypedTree.{TypedTree}
 use Rattle.flow_rules.specs.declared.fault.FlowFault.{FlowFault}
-use Rattle.fault_lines.specs.FaultLines.{place_text}
-use Rattle.fault_lines.specs.Seen.{Seen, faulty}
+use Rattle.front_end.specs.FaultLines.{place_text}
+use Rattle.front_end.specs.FaultLinesSeen.{Seen, faulty}
 use Rattle.flow_check.specs.FlowLines.{flow_lines}
 use Rattle.flow_check.specs.Laws.{without_way}
 use Rattle.pair_texts.specs.Start.{Texts, lines_of}

@@ -3,8 +3,8 @@ use Rattle.std.specs.Prelude.{ℕ, List, Option}
 use Rattle.pt_base.specs.declared.chooser.Who as base
 use Rattle.pt_base.specs.declared.end.End.{End}
 use Rattle.pt_core.specs.CodeTree.{BootTree}
-use Rattle.link_talks.specs.Choosing.{AreTaken}
-use Rattle.pair_sides.specs.Pair.{Who}
+use Rattle.pair_meaning.specs.LinkChoosing.{AreTaken}
+use Rattle.pair_protocol.specs.Pair.{Who}
 use Rattle.pair_meaning.specs.Monitors.{Monitor}
 use Rattle.pair_meaning.specs.Pair.{IsWhole}
 use Rattle.monitor_interp.specs.Gates.{hosts_for}

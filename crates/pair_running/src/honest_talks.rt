@@ -3,14 +3,14 @@
 
 ghost use Rattle.pair_running.specs.HonestTalksLaws.{BegunPairsAreFair, HonestTalksAreExpected};
 
+use half_names_law::checked_programs_place_nulls;
 use pair_laws::awaited_replies::{replies_are_awaited, what_is_said_grows};
 use pair_laws::begun_pairs::{
     accepted_pairs_begin, accepted_slaves_stay, begun_boots_are_well_formed,
     begun_pairs_are_expected, calls_keep,
 };
 pub use pair_laws::begun_pairs::{begun_monitors_are_well_formed, begun_monitors_hosts_serve};
-use said_code_law::checked_programs_place_nulls;
-use spoken_messages_law::spoken_messages_are_spelled;
+use slave_soundness_law::spoken_messages_are_spelled;
 
 /// A talk over an honest link is served to the expected end, with the expected bytes.
 pub fn honest_talks_are_expected()

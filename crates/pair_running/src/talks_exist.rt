@@ -9,7 +9,7 @@ use crate::honest_talks::begun_pairs_are_fair;
 use pair_laws::awaited_replies::what_is_said_grows;
 use pair_laws::begun_pairs::begun_boots_are_well_formed;
 use pair_texts::texts_have_one_outcome;
-use spoken_messages_law::reached_slaves_are_in_format;
+use slave_soundness_law::reached_slaves_are_in_format;
 
 /// Each reply that a slave waits for has a spelling, where its boot is well formed and has one.
 pub fn awaited_replies_are_spelled()

@@ -18,7 +18,7 @@ use Rattle.flow_rules.specs.declared.fault.FlowFault.{FlowFault}
 use Rattle.flow_rules.specs.Faults.{IsAccepted}
 use Rattle.flow_check.specs.Checked.{HasFlowFaults}
 use Rattle.flow_check.specs.FlowLines.{flow_lines}
-use Rattle.fault_lines.specs.FrontLines.{front_lines}
+use Rattle.front_end.specs.FrontLines.{front_lines}
 use Rattle.host_lines.specs.GivenHosts.{GivesHosts, most}
 use Rattle.host_lines.specs.HostLines.{host_lines, input_line}
 use Rattle.pair_texts.specs.OutcomeSeen.{AreLinesOf}

@@ -17,7 +17,7 @@ use Rattle.policy.specs.Verdicts.{start}
 use Rattle.flow_rules.specs.declared.accepted.Accepted.{Accepted}
 use Rattle.flow_rules.specs.declared.fault.FlowFault.{FlowFault}
 use Rattle.flow_rules.specs.Faults.{IsAccepted}
-use Rattle.fault_lines.specs.FaultLines.{lex_line, parse_line, type_lines}
+use Rattle.front_end.specs.FaultLines.{lex_line, parse_line, type_lines}
 use Rattle.flow_check.specs.Checked.{HasFlowFaults}
 use Rattle.flow_check.specs.FlowLines.{flow_lines}
 use Rattle.host_lines.specs.GivenHosts.{GivesHosts, most}

@@ -12,7 +12,7 @@ use Rattle.check_programs.specs.Programs.{checked_program}
 use Rattle.check_programs.specs.Progress.{at_start}
 use Rattle.check_programs.specs.Unions.{function_marks}
 use Rattle.front_end.specs.Reading.{IsProgram}
-use Rattle.text_readings_law.proofs.TextTrees.{trees_are_sound}
+use Rattle.front_end_law.proofs.ReadingsTextTrees.{trees_are_sound}
 use Rattle.plain_names_law.specs.Laws.{NamesOfTextsArePlain}
 use Rattle.plain_names_law.proofs.FunctionNames.{items_named}
 use Rattle.plain_names_law.proofs.PartNames.{item_named}

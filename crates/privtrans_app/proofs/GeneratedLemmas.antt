@@ -3,7 +3,7 @@ use Rattle.std.proofs.Common.{◌≡◌, ◌⊎◌, ◌∙◌, ℕ, List, [], Op
 use Rattle.std.proofs.lemmas.Fmt.{decimal_injective}
 use Rattle.std.specs.Io.KnownBytes.{Appends}
 use Rattle.pt_base.specs.declared.chooser.Who.{Who}
-use Rattle.fault_lines.specs.Seen.{Seen}
+use Rattle.front_end.specs.FaultLinesSeen.{Seen}
 use Rattle.runs.specs.Run.{Expected}
 use Rattle.typed_tree.specs.TypedTree.{TypedTree}
 use Rattle.pair_texts.specs.OutcomeSeen.{AreLinesOf}

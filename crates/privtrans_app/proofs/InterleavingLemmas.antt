@@ -3,7 +3,7 @@ use Rattle.std.proofs.Common.{◌≡◌, ℕ, Bool, true, false, ◌||◌, nat_e
 use Rattle.std.specs.Io.KnownBytes.{Appends}
 use Rattle.pt_base.specs.Files.{Files}
 use Rattle.pt_base.specs.declared.chooser.Who.{Who}
-use Rattle.link_talks.specs.Choosing.{AreTaken}
+use Rattle.pair_meaning.specs.LinkChoosing.{AreTaken}
 use Rattle.pair_texts.specs.Start.{Texts}
 use Rattle.pair_running.specs.LocalPairEnds as ends
 use Rattle.pair_running.specs.LocalPairWhole.{HasWhole}

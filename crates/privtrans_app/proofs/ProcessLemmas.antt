@@ -8,7 +8,7 @@ use Rattle.std.proofs.lemmas.List.{append-nil}
 use Rattle.pt_base.specs.Faults.{Rose}
 use Rattle.pt_base.specs.Files.{Files, Lacks}
 use Rattle.pt_base.specs.Talk.{Event}
-use Rattle.fault_lines.specs.Seen.{Seen, faulty}
+use Rattle.front_end.specs.FaultLinesSeen.{Seen, faulty}
 use Rattle.pair_runner.specs.declared.fault.RunFault.TheVariants.{LinkFailed, SinkFailed, BadPeer, PeerEnded, Memory}
 use Rattle.pair_texts.specs.Laws as begun
 use Rattle.pair_texts.specs.OutcomeSeen.{AreLinesOf}

@@ -1,6 +1,6 @@
 -- What is told is what the texts come to.
 use Rattle.std.proofs.Common.{◌≡◌, ◌∙◌, ◌⊎◌, ℕ, List, ap, refl, subst, inl, inr}
-use Rattle.fault_lines.specs.Seen.{Seen}
+use Rattle.front_end.specs.FaultLinesSeen.{Seen}
 use Rattle.original.specs.Original.{Texts}
 use Rattle.original.specs.Seen as originals
 use Rattle.flow_check.specs.Checked.{Outcome, refused, checked, ComesTo}

@@ -6,7 +6,7 @@ use Rattle.pt_base.specs.declared.end.End.TheVariants.{Exit, Trapped, Spent, Ref
 use Rattle.pt_base.specs.Faults.{Rose}
 use Rattle.pt_base.specs.Files.{Files, SameFiles, HoldsAt, Lacks}
 use Rattle.pt_base.specs.Talk.{Event}
-use Rattle.fault_lines.specs.Seen.{Seen}
+use Rattle.front_end.specs.FaultLinesSeen.{Seen}
 use Rattle.original.specs.Original as original
 use Rattle.original.specs.Original.{refused, ran}
 use Rattle.original.specs.Seen as originals

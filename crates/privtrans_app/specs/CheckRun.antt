@@ -1,7 +1,7 @@
 -- What the file of a check comes to, told by lines, explained in blocks, outlined or drawn.
 use Rattle.std.specs.Prelude.{◌≡◌, ℕ, List, [], Option, codes}
 use Rattle.pt_base.specs.Files.{Files, HoldsAt}
-use Rattle.fault_lines.specs.Seen.{Seen, faulty as faulty_seen}
+use Rattle.front_end.specs.FaultLinesSeen.{Seen, faulty as faulty_seen}
 use Rattle.flow_check.specs.Checked as flows
 use Rattle.flow_check.specs.Checked.{Outcome, refused, checked, lines_of}
 use Rattle.flow_check.specs.FlowLines.{flow_lines}

@@ -7,7 +7,7 @@ use Rattle.pt_base.specs.Told.{AppendsPart}
 use Rattle.pt_base.specs.Traps.{trap_name}
 use Rattle.pt_base.specs.declared.span.Span.{Span}
 use Rattle.pt_base.specs.declared.trap.Trap.{Trap}
-use Rattle.fault_lines.specs.FaultLines.{place_text}
+use Rattle.front_end.specs.FaultLines.{place_text}
 
 -- What a call comes to.
 pub data Ending : Type 0 where

@@ -1,7 +1,7 @@
 -- What commands tell of told files, where no count of faults rose.
 use Rattle.std.specs.Prelude.{◌≡◌, ◌⊎◌, ℕ, List, Option, Some}
 use Rattle.pt_base.specs.Files.{Files}
-use Rattle.fault_lines.specs.Seen.{Seen}
+use Rattle.front_end.specs.FaultLinesSeen.{Seen}
 use Rattle.original.specs.Original.{Texts}
 use Rattle.original.specs.Seen as originals
 use Rattle.flow_check.specs.Seen as checks

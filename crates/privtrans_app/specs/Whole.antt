@@ -2,7 +2,7 @@
 use Rattle.std.specs.Prelude.{◌≡◌, ◌⊎◌, ℕ, List, Option, Some}
 use Rattle.std.specs.Io.KnownBytes.{Appends}
 use Rattle.pt_base.specs.Files.{Files, SameFiles, HoldsAt}
-use Rattle.fault_lines.specs.Seen.{Seen, faulty}
+use Rattle.front_end.specs.FaultLinesSeen.{Seen, faulty}
 use Rattle.original.specs.Original as original
 use Rattle.original.specs.Seen as originals
 use Rattle.program_split.specs.Split as halves

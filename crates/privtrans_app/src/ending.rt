@@ -2,11 +2,11 @@
 ghost use Rattle.std.specs.Prelude.{◌≡◌, ◌++◌, IfOk, codes};
 ghost use Rattle.std.specs.Fmt.{decimal};
 ghost use Rattle.pt_base.specs.Traps.{trap_name};
-ghost use Rattle.fault_lines.specs.FaultLines.{place_text};
+ghost use Rattle.front_end.specs.FaultLines.{place_text};
 ghost use Rattle.privtrans_app.specs.Ending.{status_of, report_of};
 ghost use Rattle.privtrans_app.specs.EndingSeen.{ending_seen};
 
-use fault_lines::push_span;
+use front_end::push_span;
 use itoa::Buffer;
 use pt_base::{Span, Trap};
 use std::alloc::{AllocError, Global};

@@ -1,6 +1,6 @@
 // A generated program: both its halves run in one process, and a line that tells of it goes to out.
 ghost use Rattle.std.specs.Prelude.{◌≡◌, ◌≤◌, [], true};
-ghost use Rattle.link_talks.specs.Choosing.{AreTaken};
+ghost use Rattle.pair_meaning.specs.LinkChoosing.{AreTaken};
 ghost use Rattle.privtrans_app.specs.Ending.{is_idle, is_silent, status_of};
 ghost use Rattle.privtrans_app.specs.EndingSeen.{ending_seen};
 ghost use Rattle.privtrans_app.specs.GeneratedRun.{ComesTo, IsInterleaved};

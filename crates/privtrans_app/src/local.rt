@@ -1,7 +1,7 @@
 // Both halves in one process: the files are read, the pair of their texts is run, and what its hosts write
 // goes to out.
 ghost use Rattle.std.specs.Prelude.{◌≡◌, ◌≤◌, ◌+◌, [], ℕ, true, false, List};
-ghost use Rattle.link_talks.specs.Choosing.{AreTaken};
+ghost use Rattle.pair_meaning.specs.LinkChoosing.{AreTaken};
 ghost use Rattle.pt_base.specs.Files.{SameFiles};
 ghost use Rattle.pair_running.specs.LocalPairOutcomeSeen.{ended_seen};
 ghost use Rattle.privtrans_app.specs.Causes.{ComesTo};

@@ -1,13 +1,13 @@
 // The top call.
 ghost use Rattle.std.specs.Prelude.{◌≡◌, ◌≤◌, ◌+◌, ◌⊎◌, [], ℕ, true, List, Some, map};
 ghost use Rattle.pt_base.specs.Files.{Files, SameFiles};
-ghost use Rattle.link_talks.specs.Choosing.{AreTaken};
+ghost use Rattle.pair_meaning.specs.LinkChoosing.{AreTaken};
 ghost use Rattle.runs.specs.Run.{Expected};
 ghost use Rattle.typed_tree.specs.TypedTree.{TypedTree};
 ghost use Rattle.pair_texts.specs.Start.{Texts};
 ghost use Rattle.pair_running.specs.LocalPairLocal.{IsExpected};
 ghost use Rattle.pair_running.specs.LocalPairSeen.{shown_of};
-ghost use Rattle.fault_lines.specs.Seen.{Seen};
+ghost use Rattle.front_end.specs.FaultLinesSeen.{Seen};
 ghost use Rattle.pair_running.specs.GeneratedPairGenerated as made;
 ghost use Rattle.pair_running.specs.SpawnedPairOutcomeSeen.{IsHonestFor};
 ghost use Rattle.privtrans_app.specs.Calls as calls;

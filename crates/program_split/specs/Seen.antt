@@ -1,7 +1,7 @@
 -- What is seen of `split` with a given text, beside the files of the halves: out's bytes, the report and the
 -- status.
 use Rattle.std.specs.Prelude.{[], codes}
-use Rattle.fault_lines.specs.Seen.{Seen, faulty}
+use Rattle.front_end.specs.FaultLinesSeen.{Seen, faulty}
 use Rattle.flow_check.specs.Checked.{lines_of}
 use Rattle.program_split.specs.Split.{Outcome, refused, split}
 

@@ -7,10 +7,9 @@ ghost use Rattle.flow_rules.specs.Faults.{IsAccepted};
 ghost use Rattle.program_split.specs.OutcomeSeen.{IsOutcome};
 
 use crate::outcome::Outcome;
-use fault_lines::front_lines;
 use flow_check::{flow_lines, judge};
 use flow_rules::{Accepted, FlowError};
-use front_end::read_program;
+use front_end::{front_lines, read_program};
 use program_halves::halves;
 use pt_base::Watch;
 use split_text::{print_monitor, print_slave};

@@ -14,8 +14,8 @@ use Rattle.pt_core.specs.declared.monitor.Entry.{Entry}
 use Rattle.pt_core.specs.CodeTree.{FunctionTree, MonitorTree, ProgramTree, numbered}
 use Rattle.pt_core.specs.Calls.{function_in, no_function, no_signature, signature_in}
 use Rattle.pt_core.specs.WellFormed.{are_different, bind_by, binds_fit, bound_by, entries_fit, entry_by, entry_fits, function_at, global_at, is_sound, is_well_formed_monitor, monitor_program, signature_at}
-use Rattle.core_soundness.proofs.Leaves.{never}
-use Rattle.core_soundness.proofs.Programs.{FunctionFacts, facts_of, function_facts}
+use Rattle.core_soundness_law.proofs.Leaves.{never}
+use Rattle.core_soundness_law.proofs.Programs.{FunctionFacts, facts_of, function_facts}
 use Rattle.pair_meaning.specs.Monitors.{entries_in}
 use Rattle.serving_rules.specs.declared.names.Names.{Names}
 use Rattle.serving_rules.specs.Asking.{IsNamedBy}

@@ -22,7 +22,7 @@ use Rattle.core_steps_law.specs.WholeRun.{begun_machine}
 use Rattle.core_machine.specs.Machines.{Shown}
 use Rattle.core_machine.specs.Sound as machine
 use Rattle.core_machine.proofs.RiseLemmas.{RiseFrom, sorted_from_rise}
-use Rattle.core_soundness.proofs.Leaves.{never}
+use Rattle.core_soundness_law.proofs.Leaves.{never}
 use Rattle.pair_meaning.specs.SlaveRun.{slave_of}
 use Rattle.slave_soundness_law.proofs.Beginning.{slaves_begin_sound}
 use Rattle.slave_interp.specs.declared.doing.Doing.TheVariants.{Goes}

@@ -21,8 +21,8 @@ use Rattle.marshalling.specs.Returns.{AreAsLong, Takes, placed, with_cells}
 use Rattle.marshalling.specs.Taking.{Taken, after_posting, after_reply, are_whole, call_places, is_reply, known_reply}
 use Rattle.marshalling_law.proofs.PostingLemmas.{replies_hold_numbers}
 use Rattle.marshalling_law.proofs.TakenReplyLemmas.{replies_are_taken}
-use Rattle.replies_law.proofs.Few.{postings_give_few, replies_give_few}
-use Rattle.taken_replies_law.proofs.Known.{known_replies_are_replies}
+use Rattle.marshalling_law.proofs.RepliesFew.{postings_give_few, replies_give_few}
+use Rattle.marshalling_law.proofs.TakingKnown.{known_replies_are_replies}
 use Rattle.pt_core.specs.CodeTree.{ProgramTree}
 use Rattle.pt_core.specs.Calls.{no_signature, signature_in}
 use Rattle.pt_core.specs.Steps as steps

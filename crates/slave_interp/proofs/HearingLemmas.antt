@@ -15,8 +15,8 @@ use Rattle.pt_core.specs.CodeTree.{ProgramTree, numbered}
 use Rattle.pt_core.specs.Calls.{no_signature}
 use Rattle.pt_core.specs.Steps.{Machine, Step}
 use Rattle.core_steps_law.specs.WholeRun.{steps_run}
-use Rattle.gates_agree_law.specs.Shown.{Shows}
-use Rattle.gates_agree_law.proofs.Agreement.{gates_agree}
+use Rattle.core_steps_law.specs.GatesShown.{Shows}
+use Rattle.core_steps_law.proofs.GatesAgreement.{gates_agree}
 use Rattle.core_machine.specs.Gates.{gate_of}
 use Rattle.pair_meaning.specs.SlaveRun.{Heard, heard_answer, slave_gate, way_by}
 use Rattle.slave_interp.specs.Hearing.{Hearing}

@@ -6,7 +6,7 @@ use Rattle.wire.specs.declared.message.CallBody.{CallBody}
 use Rattle.wire.specs.declared.message.Message.{Message}
 use Rattle.wire.specs.declared.message.Message.TheVariants as message
 use Rattle.pt_core.specs.Steps.{Answer, moved, asked, ended, trapped, spent, idle}
-use Rattle.pair_sides.specs.Sides.{going, over, Moved}
+use Rattle.pair_protocol.specs.Sides.{going, over, Moved}
 use Rattle.pair_meaning.specs.SlaveRun as s
 use Rattle.pair_meaning.specs.SlaveRun.{after_step, awaits_reply, call_body, calls_or_parks, mode_of, must_wait, parks, posted, posts, says_call, says_last}
 use Rattle.slave_interp.specs.declared.calling.Packed.{Packed}

@@ -10,16 +10,16 @@ use Rattle.runs.specs.State.{Hosts}
 use Rattle.pt_core.specs.CodeTree.{ProgramTree}
 use Rattle.pt_core.specs.Steps.{Machine, Answer, moved, asked, Step}
 use Rattle.core_steps_law.specs.WholeRun.{steps_run}
-use Rattle.gates_agree_law.specs.Shown.{step_shown}
-use Rattle.gates_agree_law.proofs.Agreement.{gates_agree}
+use Rattle.core_steps_law.specs.GatesShown.{step_shown}
+use Rattle.core_steps_law.proofs.GatesAgreement.{gates_agree}
 use Rattle.core_machine.specs.declared.machine.Machine as code
 use Rattle.core_machine.specs.declared.stepped.Stepped.{Stepped}
 use Rattle.core_machine.specs.Gates.{gate_of}
 use Rattle.core_machine.specs.Machines.{Follows, Shown}
 use Rattle.core_machine.specs.States.{answer_of}
 use Rattle.core_machine.specs.Stops.{MovesOn}
-use Rattle.pair_sides.specs.Sides.{going, Moved}
-use Rattle.pair_sides.specs.SlaveRun.{came, listed, slave_at}
+use Rattle.pair_protocol.specs.Sides.{going, Moved}
+use Rattle.pair_protocol.specs.SlaveRun.{came, listed, slave_at}
 use Rattle.pair_meaning.specs.Pair.{the_sides}
 use Rattle.pair_meaning.specs.SlaveRun as s
 use Rattle.pair_meaning.specs.SlaveRun.{Heard, after_step, heard_by, mode_of, slave_gate, stepped}

@@ -8,8 +8,8 @@ use Rattle.std.specs.declared.alloc.Global.{Global}
 use Rattle.block_memory.specs.declared.cell.Cell.{Cell}
 use Rattle.wire.specs.declared.message.Message.{Message}
 use Rattle.wire.specs.declared.message.ReplyBody.{ReplyBody}
-use Rattle.pair_sides.specs.Sides.{Mode, going, waits, over}
-use Rattle.pair_sides.specs.SlaveRun.{At, came, listed, slave_at}
+use Rattle.pair_protocol.specs.Sides.{Mode, going, waits, over}
+use Rattle.pair_protocol.specs.SlaveRun.{At, came, listed, slave_at}
 use Rattle.pair_meaning.specs.Pair.{the_sides}
 use Rattle.pair_meaning.specs.SlaveRun as s
 use Rattle.pair_meaning.specs.SlaveRun.{is_reply_to, may_take, mode_by, mode_of, slave_step, take, with_reply}

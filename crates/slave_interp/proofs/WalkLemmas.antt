@@ -8,9 +8,9 @@ use Rattle.pt_core.specs.CodeTree.{ProgramTree}
 use Rattle.pt_core.specs.Steps.{Gate, Answer, moved, asked, ended, trapped, spent, idle, Step, answers}
 use Rattle.core_steps_law.specs.WholeRun.{further, further_by, steps_run}
 use Rattle.core_machine.specs.Stops.{MovesOn}
-use Rattle.called_functions_law.proofs.Accounts.{steps_keep_account}
-use Rattle.pair_sides.specs.Sides.{Mode, going, waits, over, Moved}
-use Rattle.pair_sides.specs.SlaveRun.{At, Ready, came, having, listed, moved_on, ready, ready_in, slave_at, with_said}
+use Rattle.core_soundness_law.proofs.CalledAccounts.{steps_keep_account}
+use Rattle.pair_protocol.specs.Sides.{Mode, going, waits, over, Moved}
+use Rattle.pair_protocol.specs.SlaveRun.{At, Ready, came, having, listed, moved_on, ready, ready_in, slave_at, with_said}
 use Rattle.pair_meaning.specs.Pair.{the_sides}
 use Rattle.pair_meaning.specs.SlaveRun.{Slave, goes, Heard, after_step, heard_by, machine_step, mode_by, mode_of, silent, slave_gate, slave_step, stepped}
 use Rattle.slave_soundness_law.specs.Laws.{IsReady}

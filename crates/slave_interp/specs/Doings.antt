@@ -1,6 +1,6 @@
 -- What a slave of code does next, as the definitions say it.
 use Rattle.std.specs.Prelude.{Option, Some, None}
-use Rattle.pair_sides.specs.Sides as side
+use Rattle.pair_protocol.specs.Sides as side
 use Rattle.pair_meaning.specs.SlaveRun as s
 use Rattle.slave_interp.specs.declared.doing.Doing.{Doing}
 use Rattle.slave_interp.specs.declared.doing.Doing.TheVariants as d

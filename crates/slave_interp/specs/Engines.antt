@@ -8,8 +8,8 @@ use Rattle.pt_core.specs.CodeTree.{ProgramTree}
 use Rattle.pt_core.specs.Calls.{signature_in}
 use Rattle.pt_core.specs.Steps.{Machine}
 use Rattle.core_machine.specs.Machines.{Shown}
-use Rattle.call_shapes_law.specs.Packable.{IsPackable}
-use Rattle.pair_sides.specs.Sides.{Moved}
+use Rattle.marshalling_law.specs.CallsPackable.{IsPackable}
+use Rattle.pair_protocol.specs.Sides.{Moved}
 use Rattle.pair_meaning.specs.SlaveRun as s
 use Rattle.slave_soundness_law.specs.Sound.{HasSignature, IsSound, most_given}
 use Rattle.slave_interp.specs.declared.calling.Packed.{Packed}

@@ -1,8 +1,8 @@
 -- Steps of a slave.
 use Rattle.std.specs.Prelude.{◌≡◌, ◌≢◌, ◌≤◌, ◌<◌, ◌⊎◌, ℕ, [], Option, None}
 use Rattle.wire.specs.declared.message.Message.{Message}
-use Rattle.pair_sides.specs.Sides.{Mode, going, waits, over, Moved}
-use Rattle.pair_sides.specs.SlaveRun.{came, listed, slave_at}
+use Rattle.pair_protocol.specs.Sides.{Mode, going, waits, over, Moved}
+use Rattle.pair_protocol.specs.SlaveRun.{came, listed, slave_at}
 use Rattle.pair_meaning.specs.Pair.{the_sides}
 use Rattle.pair_meaning.specs.SlaveRun.{Slave, mode_of, silent, slave_step}
 use Rattle.slave_interp.specs.declared.doing.Doing.{Doing}

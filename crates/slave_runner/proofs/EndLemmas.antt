@@ -5,10 +5,10 @@ use Rattle.wire.specs.declared.message.Message.{Message}
 use Rattle.wire.specs.declared.message.ReplyBody.{ReplyBody}
 use Rattle.wire.specs.Frames.{Ending, open_end, bad_frame_at, too_long_at}
 use Rattle.pt_core.specs.CodeTree.{BootTree}
-use Rattle.pair_sides.specs.Sides.{Mode, going, waits, over}
-use Rattle.pair_sides.specs.SlaveRun as run
-use Rattle.pair_sides.specs.SlaveRun.{At, Ready, came, having, listed, moved_on, with_said}
-use Rattle.pair_order_law.proofs.SlaveFacts.{one_reply, one_step, ready_none}
+use Rattle.pair_protocol.specs.Sides.{Mode, going, waits, over}
+use Rattle.pair_protocol.specs.SlaveRun as run
+use Rattle.pair_protocol.specs.SlaveRun.{At, Ready, came, having, listed, moved_on, with_said}
+use Rattle.pair_protocol.proofs.OrderSlaveFacts.{one_reply, one_step, ready_none}
 use Rattle.pair_meaning.specs.Pair.{said, slave_at, the_sides}
 use Rattle.pair_meaning.specs.Peer.{is_awaited}
 use Rattle.pair_meaning.specs.SlaveRun.{Slave, Doing, goes, waits_for, is_over, longest, mode_by, mode_of, slave_of, slave_step, take}

@@ -1,8 +1,8 @@
 -- A slave's steps, some behind others.
 use Rattle.std.proofs.Common.{◌≡◌, ◌≤◌, ℕ, ◌+◌, ◌-◌, zero, suc, List, [], ◌∷◌, ◌++◌, refl, sym, ap, subst, ◌∙◌, arith, Option, Some, None, append_assoc, append-nil}
-use Rattle.pair_sides.specs.Sides.{Mode, going, waits, over, Sides}
-use Rattle.pair_sides.specs.SlaveRun.{At, came, Ready, having, ready, listed, with_said, moved_on, slave_at, IsLongest}
-use Rattle.pair_order_law.proofs.SlaveFacts.{one_step, ready_none}
+use Rattle.pair_protocol.specs.Sides.{Mode, going, waits, over, Sides}
+use Rattle.pair_protocol.specs.SlaveRun.{At, came, Ready, having, ready, listed, with_said, moved_on, slave_at, IsLongest}
+use Rattle.pair_protocol.proofs.OrderSlaveFacts.{one_step, ready_none}
 
 zero_suc : {B : Type 0} (n : ℕ) → 0 ≡ suc n → B
 zero_suc n e = absurd (omega (arith, e))

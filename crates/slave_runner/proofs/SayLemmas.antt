@@ -7,8 +7,8 @@ use Rattle.pt_base.specs.declared.link.LinkFault.TheVariants as link
 use Rattle.wire.specs.declared.message.Message.{Message}
 use Rattle.wire.specs.declared.message.ReplyBody.{ReplyBody}
 use Rattle.wire.specs.Spelling.{spelling}
-use Rattle.pair_sides.specs.Sides.{going}
-use Rattle.pair_sides.specs.SlaveRun.{At, listed}
+use Rattle.pair_protocol.specs.Sides.{going}
+use Rattle.pair_protocol.specs.SlaveRun.{At, listed}
 use Rattle.pair_meaning.specs.SlaveRun as s
 use Rattle.slave_interp.specs.declared.slave.Slave.{Slave}
 use Rattle.slave_interp.specs.Slaves.{HasRun, IsSlave}

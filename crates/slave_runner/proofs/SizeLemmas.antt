@@ -12,8 +12,8 @@ use Rattle.boot_fields.specs.Limits.{Spells}
 use Rattle.boot_fields.specs.Spelling.{count_of, expr_bytes, function_bytes, global_bytes, items_bytes, list_bytes, model_bytes, numbered_bytes, signature_bytes, span_bytes, stmt_bytes, stmts_bytes, struct_bytes, text_bytes, variable_bytes}
 use Rattle.wire.specs.Spelling.{eight_bytes, four_bytes}
 use Rattle.core_steps_law.specs.WholeRun.{begun_machine}
-use Rattle.machine_steps_law.specs.Room.{breadth, larger, largest_active, largest_function, stmt_size, stmts_size}
-use Rattle.machine_steps_law.proofs.Rooms.{first_less, larger_less, second_less}
+use Rattle.core_steps_law.specs.MachinesRoom.{breadth, larger, largest_active, largest_function, stmt_size, stmts_size}
+use Rattle.core_steps_law.proofs.MachinesRooms.{first_less, larger_less, second_less}
 use Rattle.pair_meaning.specs.SlaveRun.{longest}
 
 -- ---- no more statements than bytes

@@ -14,7 +14,7 @@ use Rattle.pt_core.specs.Statements.{assigned, copied, returned_value}
 use Rattle.pt_core.specs.Values.{Stop, holds_in, location_of, value_of, values_of}
 use Rattle.pt_core.specs.Steps as s
 use Rattle.pt_core.specs.Steps.{Work, run, head, Active, Machine, Way, enters, here, away, Gate, Answer, moved, asked, ended, trapped, spent, idle, Step, answers, act, at_end, begins, by_way, enters_at, goes_away, made_here, on_value, returned, settled, step, turned, works}
-use Rattle.pair_sides.specs.Sides.{Moved}
+use Rattle.pair_protocol.specs.Sides.{Moved}
 use Rattle.pair_meaning.specs.SlaveRun.{Slave, Doing, goes, waits_for, is_over, after_step, awaits_reply, heard_by, is_reply_to, machine_step, may_take, moves_with, must_wait, parks, posts, says_call, slave_gate, slave_step, stepped, take, taken_by, with_reply}
 use Rattle.slave_runner.specs.Laws.{IsEnd}
 

@@ -11,15 +11,15 @@ use Rattle.wire.specs.Steps.{Takes}
 use Rattle.wire.specs.View.{ReaderView, fresh}
 use Rattle.wire.proofs.Sizes.{length-four_bytes}
 use Rattle.pt_core.specs.CodeTree.{BootTree}
-use Rattle.pair_sides.specs.Sides.{going, waits}
-use Rattle.pair_sides.specs.SlaveRun as slave_run
-use Rattle.pair_sides.specs.SlaveRun.{came, listed}
-use Rattle.pair_order_law.proofs.SlaveFacts.{one_reply}
+use Rattle.pair_protocol.specs.Sides.{going, waits}
+use Rattle.pair_protocol.specs.SlaveRun as slave_run
+use Rattle.pair_protocol.specs.SlaveRun.{came, listed}
+use Rattle.pair_protocol.proofs.OrderSlaveFacts.{one_reply}
 use Rattle.pair_meaning.specs.Pair.{said, the_sides}
 use Rattle.pair_meaning.specs.SlaveRun.{Slave, mode_of, slave_of, take}
 use Rattle.pair_meaning.proofs.Fair.{the_sides_are_fair}
-use Rattle.call_shapes_law.specs.Spelled.{HasSpelling}
-use Rattle.spoken_messages_law.proofs.Saying.{spoken_messages_are_spelled}
+use Rattle.marshalling_law.specs.CallsSpelled.{HasSpelling}
+use Rattle.slave_soundness_law.proofs.MessagesSaying.{spoken_messages_are_spelled}
 use Rattle.slave_runner.specs.Comes.{IsBoot}
 use Rattle.slave_runner.specs.Fronts.{Fed}
 use Rattle.slave_runner.specs.Saying.{WentOn}

@@ -13,10 +13,10 @@ use Rattle.wire.specs.Steps.{Takes}
 use Rattle.wire.specs.View.{ReaderView}
 use Rattle.wire.proofs.StreamLaws.{one_stream}
 use Rattle.pt_core.specs.CodeTree.{BootTree}
-use Rattle.pair_sides.specs.Sides.{Mode, going, waits, over}
-use Rattle.pair_sides.specs.SlaveRun as run
-use Rattle.pair_sides.specs.SlaveRun.{At, Ready, came, listed}
-use Rattle.pair_order_law.proofs.SlaveFacts.{one_reply, ready_none, said_grows}
+use Rattle.pair_protocol.specs.Sides.{Mode, going, waits, over}
+use Rattle.pair_protocol.specs.SlaveRun as run
+use Rattle.pair_protocol.specs.SlaveRun.{At, Ready, came, listed}
+use Rattle.pair_protocol.proofs.OrderSlaveFacts.{one_reply, ready_none, said_grows}
 use Rattle.pair_meaning.specs.Pair.{said, slave_at, the_sides}
 use Rattle.pair_meaning.specs.Peer.{is_awaited}
 use Rattle.pair_meaning.specs.SlaveRun.{Slave, longest, may_take, mode_of, slave_of, take}

@@ -9,7 +9,7 @@ use Rattle.pair_meaning.specs.SlaveRun.{Slave, longest, mode_of}
 use Rattle.pair_meaning.specs.Pair.{slave_at}
 use Rattle.pair_meaning.specs.Peer.{is_awaited}
 use Rattle.slave_runner.specs.Rules.{Stopped, has_ended, still_open, at_rule, too_long, bad_reply}
-pub use Rattle.pair_sides.specs.Sides.{is_waiting as is_wait}
+pub use Rattle.pair_protocol.specs.Sides.{is_waiting as is_wait}
 
 -- the reply that a message is
 abbrev pub reply_of : Message → Option ReplyBody

@@ -2,8 +2,8 @@
 use Rattle.std.specs.Prelude.{◌≡◌, ◌≤◌, ℕ, List, [], ◌∷◌, ◌++◌, Option}
 use Rattle.pt_base.specs.Talk.{Event, took}
 use Rattle.wire.specs.declared.message.Message.{Message}
-use Rattle.pair_sides.specs.Sides.{going}
-use Rattle.pair_sides.specs.SlaveRun.{came, listed, slave_at}
+use Rattle.pair_protocol.specs.Sides.{going}
+use Rattle.pair_protocol.specs.SlaveRun.{came, listed, slave_at}
 use Rattle.pair_meaning.specs.SlaveRun.{Slave, mode_of}
 use Rattle.pair_meaning.specs.Pair.{the_sides}
 use Rattle.slave_runner.specs.Comes.{spellings}

@@ -7,7 +7,7 @@ use Rattle.wire.specs.Frames.{Ending, IsStream}
 use Rattle.wire.specs.Limits.{IsBytes}
 use Rattle.wire.specs.View.{ReaderView}
 use Rattle.pt_core.specs.CodeTree.{BootTree}
-use Rattle.pair_sides.specs.SlaveRun.{came}
+use Rattle.pair_protocol.specs.SlaveRun.{came}
 use Rattle.pair_meaning.specs.SlaveRun.{Slave}
 use Rattle.pair_meaning.specs.Pair.{slave_at}
 use Rattle.pair_runner.specs.Sending.{given_in, sent_in}

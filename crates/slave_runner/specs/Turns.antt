@@ -4,7 +4,7 @@ use Rattle.wire.specs.declared.message.Message.{Message}
 use Rattle.wire.specs.declared.message.ReplyBody.{ReplyBody}
 use Rattle.wire.specs.View.{ReaderView}
 use Rattle.pt_core.specs.CodeTree.{BootTree}
-use Rattle.pair_sides.specs.SlaveRun.{came}
+use Rattle.pair_protocol.specs.SlaveRun.{came}
 use Rattle.pair_meaning.specs.SlaveRun.{Slave, longest}
 use Rattle.pair_meaning.specs.Pair.{slave_at}
 use Rattle.slave_runner.specs.Comes.{IsBoot}

@@ -2,7 +2,7 @@
 ghost use Rattle.std.specs.Prelude.{◌≡◌, ◌≢◌, ◌+◌, ℕ, [], IfErr, OnOk};
 ghost use Rattle.pt_base.specs.Faults.{HasCause};
 ghost use Rattle.pt_core.specs.CodeTree.{BootTree};
-ghost use Rattle.pair_sides.specs.Sides.{waits};
+ghost use Rattle.pair_protocol.specs.Sides.{waits};
 ghost use Rattle.pair_meaning.specs.SlaveRun as s;
 ghost use Rattle.slave_interp.specs.Slaves.{IsSlave};
 ghost use Rattle.pair_runner.specs.Sending.{Parts, Talks};

@@ -26,15 +26,15 @@ use Rattle.pt_core.specs.CoreRun.{main_in, with_globals}
 use Rattle.pt_core.specs.Steps.{Machine, run, at_rest, just_entered, started}
 use Rattle.pt_core.specs.WellFormed.{signature_at, function_at, are_in_order, boot_program, callees, callee_by, callee_fits, has_main, host_by, host_fits, hosts_fit, is_answered, is_main_by, is_only_start, is_plain_host, is_sound, is_well_formed, is_well_formed_boot, starts_by}
 use Rattle.core_steps_law.specs.WholeRun.{begun_machine}
-use Rattle.core_soundness.specs.Kept.{Kept, any}
-use Rattle.core_soundness.specs.Fits.{Fits}
-use Rattle.core_soundness.specs.Outside.{ArgumentsFit, own_params}
-use Rattle.core_soundness.proofs.Leaves.{never}
-use Rattle.core_soundness.proofs.Programs.{ProgramFacts, facts_of}
-use Rattle.core_soundness.proofs.Resting.{rest_fits}
-use Rattle.core_soundness.proofs.Starting.{started_fits}
-use Rattle.called_functions_law.specs.Called.{is_called}
-use Rattle.called_functions_law.proofs.Steps.{started_call_own}
+use Rattle.core_soundness_law.specs.Kept.{Kept, any}
+use Rattle.core_soundness_law.specs.Fits.{Fits}
+use Rattle.core_soundness_law.specs.Outside.{ArgumentsFit, own_params}
+use Rattle.core_soundness_law.proofs.Leaves.{never}
+use Rattle.core_soundness_law.proofs.Programs.{ProgramFacts, facts_of}
+use Rattle.core_soundness_law.proofs.Resting.{rest_fits}
+use Rattle.core_soundness_law.proofs.Starting.{started_fits}
+use Rattle.core_soundness_law.specs.Called.{is_called}
+use Rattle.core_soundness_law.proofs.CalledSteps.{started_call_own}
 use Rattle.pair_meaning.specs.SlaveRun.{Slave, slave_of}
 use Rattle.slave_soundness_law.specs.Laws.{SlavesBeginSound}
 use Rattle.slave_soundness_law.specs.Sound.{HostsFit, IsBare, IsFree, IsSound, most_given}

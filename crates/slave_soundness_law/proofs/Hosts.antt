@@ -18,12 +18,12 @@ use Rattle.pt_core.specs.Values.{number_in}
 use Rattle.pt_core.specs.Calls.{signature_in, no_signature}
 use Rattle.pt_core.specs.Steps.{Machine, Way, enters, here, away, step}
 use Rattle.pt_core.specs.WellFormed.{signature_at, function_at, callees, callee_by, callee_fits, is_sound}
-use Rattle.core_soundness.specs.StepLaws.{NumberFits}
-use Rattle.core_soundness.proofs.Leaves.{never}
-use Rattle.core_soundness.proofs.Programs.{ProgramFacts, facts_of}
-use Rattle.called_functions_law.specs.Called.{is_called, CallOwn}
-use Rattle.called_functions_law.specs.Keeping.{FitsCalls}
-use Rattle.called_functions_law.proofs.Gates.{gate_keeps}
+use Rattle.core_soundness_law.specs.StepLaws.{NumberFits}
+use Rattle.core_soundness_law.proofs.Leaves.{never}
+use Rattle.core_soundness_law.proofs.Programs.{ProgramFacts, facts_of}
+use Rattle.core_soundness_law.specs.Called.{is_called, CallOwn}
+use Rattle.core_soundness_law.specs.CalledKeeping.{FitsCalls}
+use Rattle.core_soundness_law.proofs.CalledGates.{gate_keeps}
 use Rattle.pair_meaning.specs.SlaveRun.{Slave, Heard, goes_with_handles, heard_by, machine_step, slave_gate, way_by}
 use Rattle.slave_soundness_law.specs.Sound.{HasSignature, HostsFit}
 

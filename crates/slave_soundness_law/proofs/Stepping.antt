@@ -15,23 +15,23 @@ use Rattle.wire.specs.Limits.{most_in_a_block}
 use Rattle.wire.specs.declared.message.Message.{Message}
 use Rattle.marshalling.specs.Replies.{has_plain}
 use Rattle.marshalling.specs.Taking.{after_posting, known_reply}
-use Rattle.taken_replies_law.proofs.Known.{known_replies_are_replies}
+use Rattle.marshalling_law.proofs.TakingKnown.{known_replies_are_replies}
 use Rattle.pt_core.specs.CodeTree.{ProgramTree, no_stmts}
 use Rattle.pt_core.specs.Calls.{signature_in, function_in}
 use Rattle.pt_core.specs.Steps.{Active, Work, run, Machine, Answer, moved, asked, ended, trapped, spent, idle, Step, at_end, settled, works, stepped as steps_from}
 use Rattle.pt_core.specs.WellFormed.{is_sound}
-use Rattle.core_soundness.specs.Kept.{any}
-use Rattle.core_soundness.specs.Fits.{Fits, MemoryFits}
-use Rattle.core_soundness.specs.Outside.{ArgumentsFit}
-use Rattle.core_soundness.specs.StepLaws.{AnswerFits, StepFits, called_params}
-use Rattle.core_soundness.proofs.Shapes.{received_stay}
-use Rattle.called_functions_law.specs.Called.{is_called, CallOwn, AllAreCalled, HasAsked, GoOnWith, GoesBy, KeepsAccount}
-use Rattle.called_functions_law.proofs.Accounts.{steps_keep_account}
-use Rattle.called_functions_law.proofs.Keeping.{steps_keep_called}
-use Rattle.called_functions_law.proofs.Steps.{steps_call_own}
-use Rattle.call_shapes_law.specs.Packable.{AreSmall, IsPackable}
-use Rattle.call_shapes_law.proofs.Packable.{calls_are_packable, all_are_given}
-use Rattle.pair_sides.specs.Sides.{Moved}
+use Rattle.core_soundness_law.specs.Kept.{any}
+use Rattle.core_soundness_law.specs.Fits.{Fits, MemoryFits}
+use Rattle.core_soundness_law.specs.Outside.{ArgumentsFit}
+use Rattle.core_soundness_law.specs.StepLaws.{AnswerFits, StepFits, called_params}
+use Rattle.core_soundness_law.proofs.Shapes.{received_stay}
+use Rattle.core_soundness_law.specs.Called.{is_called, CallOwn, AllAreCalled, HasAsked, GoOnWith, GoesBy, KeepsAccount}
+use Rattle.core_soundness_law.proofs.CalledAccounts.{steps_keep_account}
+use Rattle.core_soundness_law.proofs.CalledKeeping.{steps_keep_called}
+use Rattle.core_soundness_law.proofs.CalledSteps.{steps_call_own}
+use Rattle.marshalling_law.specs.CallsPackable.{AreSmall, IsPackable}
+use Rattle.marshalling_law.proofs.CallsPackable.{calls_are_packable, all_are_given}
+use Rattle.pair_protocol.specs.Sides.{Moved}
 use Rattle.pair_meaning.specs.SlaveRun.{Slave, Doing, goes, waits_for, is_over, Heard, after_step, awaits_reply, call_of, calls_or_parks, heard_by, is_reply_to, machine_step, moves_with, must_wait, parks, places_of_call, posted, posts, results_of, says_call, slave_gate, slave_step, stepped, types_given}
 use Rattle.slave_soundness_law.specs.Laws.{IsReady, CallsAreReady, SlavesStaySound}
 use Rattle.slave_soundness_law.specs.Sound.{HasSignature, IsRunning, IsBare, IsFree, IsWaiting, IsDoing, IsSound, most_given}

@@ -15,18 +15,18 @@ use Rattle.marshalling.specs.Packing.{names_of}
 use Rattle.marshalling.specs.Replies.{Place, kept_by, next_after, next_by}
 use Rattle.marshalling.specs.Taking.{Taken, after_reply, are_whole, call_places}
 use Rattle.marshalling_law.proofs.TakenReplyLemmas.{replies_are_taken}
-use Rattle.replies_law.proofs.Few.{replies_give_few}
-use Rattle.taken_replies_law.specs.Laws.{AllStand, GivenStand, IsTakenWell, Stands}
-use Rattle.taken_replies_law.proofs.Taking.{taken_replies_fit}
+use Rattle.marshalling_law.proofs.RepliesFew.{replies_give_few}
+use Rattle.marshalling_law.specs.TakingLaws.{AllStand, GivenStand, IsTakenWell, Stands}
+use Rattle.marshalling_law.proofs.TakingLemmas.{taken_replies_fit}
 use Rattle.pt_core.specs.CodeTree.{ProgramTree}
 use Rattle.pt_core.specs.Calls.{signature_in}
 use Rattle.pt_core.specs.Statements.{kept}
 use Rattle.pt_core.specs.Steps.{Active, Awaited, Machine, resumed, resumed_in, with_blocks}
 use Rattle.pt_core.specs.WellFormed.{is_sound}
-use Rattle.core_soundness.specs.Kept.{any}
-use Rattle.core_soundness.specs.Fits.{Fits}
-use Rattle.core_soundness.proofs.Outside.{resumed_fits}
-use Rattle.call_shapes_law.specs.Packable.{AreSmall, IsPackable}
+use Rattle.core_soundness_law.specs.Kept.{any}
+use Rattle.core_soundness_law.specs.Fits.{Fits}
+use Rattle.core_soundness_law.proofs.Outside.{resumed_fits}
+use Rattle.marshalling_law.specs.CallsPackable.{AreSmall, IsPackable}
 use Rattle.pair_meaning.specs.LowView.{types_kept}
 use Rattle.pair_meaning.specs.Monitors.{types_in}
 use Rattle.pair_meaning.specs.SlaveRun.{Slave, Doing, goes, waits_for, is_over, is_reply_to, places_of_call, results_of, take, taken_by, types_given, with_reply, with_taken}

@@ -18,22 +18,22 @@ use Rattle.marshalling.specs.declared.crossing.Crossing.{Crossing}
 use Rattle.marshalling.specs.declared.crossing.Crossing.TheVariants as way
 use Rattle.marshalling.specs.Replies.{Place, has_plain, kept_by, next_after}
 use Rattle.marshalling.specs.Taking.{Taken, after_reply, known_reply}
-use Rattle.taken_replies_law.specs.Laws.{AllStand, IsTakenWell}
-use Rattle.taken_replies_law.proofs.Known.{known_replies_are_replies}
-use Rattle.taken_replies_law.proofs.Taking.{taken_replies_fit}
+use Rattle.marshalling_law.specs.TakingLaws.{AllStand, IsTakenWell}
+use Rattle.marshalling_law.proofs.TakingKnown.{known_replies_are_replies}
+use Rattle.marshalling_law.proofs.TakingLemmas.{taken_replies_fit}
 use Rattle.pt_core.specs.CodeTree.{FunctionTree}
 use Rattle.pt_core.specs.Calls.{signature_in}
 use Rattle.pt_core.specs.CoreRun.{main_in}
 use Rattle.pt_core.specs.Steps.{Answer, moved, asked, ended, trapped, spent, idle, with_blocks}
 use Rattle.pt_core.specs.WellFormed.{boot_program, function_at, is_sound}
-use Rattle.core_soundness.specs.Kept.{Kept, IsWithin, by_types, is_given}
-use Rattle.core_soundness.specs.Fits.{Fits, IntegerFits, IntegersFit, LocalFits, PointerFits, variables_at}
-use Rattle.core_soundness.proofs.More.{more_is_kept}
-use Rattle.core_soundness.proofs.Outside.{resumed_fits}
-use Rattle.called_functions_law.specs.Called.{GoesBy, HasAsked}
-use Rattle.called_functions_law.proofs.Accounts.{steps_keep_account}
-use Rattle.called_functions_law.proofs.Keeping.{steps_keep_called}
-use Rattle.pair_sides.specs.SlaveRun as run
+use Rattle.core_soundness_law.specs.Kept.{Kept, IsWithin, by_types, is_given}
+use Rattle.core_soundness_law.specs.Fits.{Fits, IntegerFits, IntegersFit, LocalFits, PointerFits, variables_at}
+use Rattle.core_soundness_law.proofs.More.{more_is_kept}
+use Rattle.core_soundness_law.proofs.Outside.{resumed_fits}
+use Rattle.core_soundness_law.specs.Called.{GoesBy, HasAsked}
+use Rattle.core_soundness_law.proofs.CalledAccounts.{steps_keep_account}
+use Rattle.core_soundness_law.proofs.CalledKeeping.{steps_keep_called}
+use Rattle.pair_protocol.specs.SlaveRun as run
 use Rattle.pair_meaning.specs.LowView.{types_kept}
 use Rattle.pair_meaning.specs.Monitors.{types_in}
 use Rattle.pair_meaning.specs.Pair.{slave_at, the_sides}

@@ -8,8 +8,8 @@ use Rattle.pt_core.specs.CodeTree.{BootTree}
 use Rattle.pt_core.specs.Calls.{signature_in}
 use Rattle.pt_core.specs.Steps.{asked}
 use Rattle.pt_core.specs.WellFormed.{is_well_formed_boot}
-use Rattle.call_shapes_law.specs.Packable.{IsPackable}
-use Rattle.pair_sides.specs.Sides.{going}
+use Rattle.marshalling_law.specs.CallsPackable.{IsPackable}
+use Rattle.pair_protocol.specs.Sides.{going}
 use Rattle.pair_meaning.specs.SlaveRun.{Slave, goes, machine_step, mode_of, slave_of, slave_step, stepped, take}
 use Rattle.slave_soundness_law.specs.Sound.{HasSignature, IsSound, most_given}
 

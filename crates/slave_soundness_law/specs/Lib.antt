@@ -1,3 +1,5 @@
 pub mod Laws
 pub mod Sound
 pub mod Typed
+pub mod MessagesFormat
+pub mod MessagesLaws

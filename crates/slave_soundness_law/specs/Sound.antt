@@ -9,10 +9,10 @@ use Rattle.pt_core.specs.CodeTree.{ProgramTree, no_stmts}
 use Rattle.pt_core.specs.Calls.{signature_in}
 use Rattle.pt_core.specs.Steps.{Active, Awaited, Machine, run}
 use Rattle.pt_core.specs.WellFormed.{signature_at, is_sound}
-use Rattle.core_soundness.specs.Fits.{Fits}
-use Rattle.core_soundness.specs.Kept.{any}
-use Rattle.called_functions_law.specs.Called.{is_called, CallOwn}
-use Rattle.call_shapes_law.specs.Packable.{AreSmall, IsPackable}
+use Rattle.core_soundness_law.specs.Fits.{Fits}
+use Rattle.core_soundness_law.specs.Kept.{any}
+use Rattle.core_soundness_law.specs.Called.{is_called, CallOwn}
+use Rattle.marshalling_law.specs.CallsPackable.{AreSmall, IsPackable}
 use Rattle.pair_meaning.specs.SlaveRun.{Slave, Doing, goes, waits_for, is_over}
 
 -- ---- its machine

@@ -21,7 +21,7 @@ use Rattle.pt_core.specs.CodeTree.{RootTree, local, global, deref, PlaceTree, pl
 use Rattle.pt_core.specs.Types.{Context, element_of, path_type, place_type, pointee_type, root_type, type_of}
 use Rattle.pt_core.specs.WellFormedExpression.{expr_fits, is_addressed, is_path, place_fits, root_fits, stands_for, takes_one, takes_two}
 use Rattle.pt_core.specs.WellFormedStatement.{Scope, arguments_fit, call_fits, callees_in, callees_of, is_compound, result_fits, stmt_fits, stmts_fit, value_fits}
-use Rattle.lowered_names_law.specs.Named.{argument_globals, expr_globals, globals_of, place_globals, root_globals, stmt_globals}
+use Rattle.lowered_code_law.specs.NamesNamed.{argument_globals, expr_globals, globals_of, place_globals, root_globals, stmt_globals}
 
 abbrev pub types : List StructInfo → List VarTy → List (ℕ × VarTy) → Context
 types structs vars gs = record { structs = structs; globals = gs; variables = vars }

@@ -19,7 +19,7 @@ use Rattle.pt_core.specs.CodeTree.{GlobalTree}
 use Rattle.pt_core.specs.WellFormedStatement.{callees_of}
 use Rattle.pt_core.specs.WellFormed.{function_at, signature_at}
 use Rattle.lowering.specs.Functions.{code_if, core_of, core_program, functions_from, globals_from, signatures_from}
-use Rattle.lowered_names_law.specs.Laws.{LoweredNames}
+use Rattle.lowered_code_law.specs.NamesLaws.{LoweredNames}
 use Rattle.splitter.specs.Halves.{called_by, chosen_functions}
 use Rattle.split_law.proofs.Chosen.{never, when_false, when_true}
 use Rattle.split_law.proofs.Parts.{AllHold, Holds, entry}

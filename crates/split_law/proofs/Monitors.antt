@@ -20,8 +20,8 @@ use Rattle.pt_core.specs.WellFormed.{are_in_order, are_different, binds_fit, bou
 use Rattle.pt_core.proofs.WellFormedLemmas as core_facts
 use Rattle.pt_core.proofs.ServingLemmas.{whole_may_serve}
 use Rattle.lowering.specs.Functions.{core_of, core_program, functions_from, signatures_from}
-use Rattle.lowered_forms_law.specs.Laws.{LoweredProgramsAreWellFormed}
-use Rattle.lowered_names_law.specs.Laws.{LoweredNames}
+use Rattle.lowered_code_law.specs.FormsLaws.{LoweredProgramsAreWellFormed}
+use Rattle.lowered_code_law.specs.NamesLaws.{LoweredNames}
 use Rattle.splitter.specs.Halves.{Halves, asked, called_by, entry_numbers, entry_of, is_among, is_entry, monitor_code, monitor_entries}
 use Rattle.splitter.proofs.SetLemmas.{among_from, among_has}
 use Rattle.split_law.specs.Laws.{AreHalves, MonitorsAreWellFormed, SharesNothing}

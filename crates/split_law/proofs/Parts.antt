@@ -14,7 +14,7 @@ use Rattle.pt_core.specs.CodeTree.{FunctionTree, GlobalTree, ProgramTree}
 use Rattle.pt_core.specs.WellFormedStatement.{callees_of, stmts_fit}
 use Rattle.pt_core.specs.WellFormed.{are_in_order, are_small, called_signature, callee_by, callee_fits, callees, counts_fit, function_at, function_by, function_fits, global_fits, has_main, is_main_by, is_only_start, is_sound, scope_of, signature_at, signature_fits, starts_by, variable_fits, with_own}
 use Rattle.pt_core.proofs.WellFormedLemmas.{facts_of}
-use Rattle.lowered_names_law.specs.Named.{globals_of}
+use Rattle.lowered_code_law.specs.NamesNamed.{globals_of}
 use Rattle.split_law.proofs.Agreeing.{Agree, Call, stmts_same}
 use Rattle.split_law.proofs.Chosen.{all_both, all_chosen, all_first, all_rest, chosen_find, chosen_lookup, chosen_rise, chosen_sum, each_chosen, never}
 

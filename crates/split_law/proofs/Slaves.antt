@@ -14,8 +14,8 @@ use Rattle.pt_core.specs.CodeTree as core
 use Rattle.pt_core.specs.WellFormed as well
 use Rattle.pt_core.specs.WellFormed.{has_main, is_main_by, is_sound, signature_at, slave_program}
 use Rattle.lowering.specs.Functions.{core_program, functions_from}
-use Rattle.lowered_forms_law.specs.Laws.{LoweredProgramsAreWellFormed}
-use Rattle.lowered_names_law.specs.Laws.{LoweredNames}
+use Rattle.lowered_code_law.specs.FormsLaws.{LoweredProgramsAreWellFormed}
+use Rattle.lowered_code_law.specs.NamesLaws.{LoweredNames}
 use Rattle.splitter.specs.Halves.{Halves, asked, is_among}
 use Rattle.splitter.proofs.SetLemmas.{among_from, among_has}
 use Rattle.split_law.specs.Laws.{AreHalves, SlavesAreWellFormed}

@@ -3,8 +3,7 @@
 
 ghost use Rattle.split_law.specs.Laws.{AcceptedShareNothing, MonitorsAreWellFormed, SlavesAreWellFormed};
 
-use lowered_forms_law::lowered_programs_are_well_formed;
-use lowered_names_law::lowered_code_names_what_the_body_names;
+use lowered_code_law::{lowered_code_names_what_the_body_names, lowered_programs_are_well_formed};
 
 /// The slave's program is well formed, where its code is that of the lowering.
 pub fn slaves_are_well_formed()

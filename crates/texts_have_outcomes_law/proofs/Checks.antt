@@ -7,8 +7,8 @@ use Rattle.front_end.specs.Reading.{HasTypedTree, Reading, typed_tree, lex_fault
 use Rattle.sides.specs.Slots.{slots_of}
 use Rattle.flow_check.specs.Checked.{Outcome, refused, checked, lex, parse, types, flow, ComesTo}
 use Rattle.flow_check.specs.SlotLines.{slot_line}
-use Rattle.text_readings_law.proofs.Readings.{texts_read}
-use Rattle.text_readings_law.proofs.TextTrees.{trees_are_sound}
+use Rattle.front_end_law.proofs.ReadingLemmas.{texts_read}
+use Rattle.front_end_law.proofs.ReadingsTextTrees.{trees_are_sound}
 use Rattle.texts_have_outcomes_law.specs.Laws.{ChecksComeToAnOutcome, HasTooManySlots, IsJudged}
 use Rattle.texts_have_outcomes_law.proofs.Judged.{judged}
 use Rattle.texts_have_outcomes_law.proofs.ShownSlots.{slots_shown}

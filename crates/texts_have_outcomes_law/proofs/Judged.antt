@@ -7,10 +7,10 @@ use Rattle.sides.specs.Placed.{AreSides}
 use Rattle.sides.specs.Slots.{slots_of}
 use Rattle.flow_rules.specs.Faults.{edges_of_all, flows_of}
 use Rattle.flow_rules.specs.Findings.{findings_of}
-use Rattle.marks_exist_law.proofs.Marks.{marks_exist}
-use Rattle.sides_exist_law.proofs.AllSides.{sides_exist}
-use Rattle.flow_faults_law.specs.Laws.{HasSomeFaults}
-use Rattle.flow_faults_law.proofs.Told.{findings_told}
+use Rattle.flow_law.proofs.MarkLemmas.{marks_exist}
+use Rattle.flow_law.proofs.SlotsAllSides.{sides_exist}
+use Rattle.flow_law.specs.FaultsLaws.{HasSomeFaults}
+use Rattle.flow_law.proofs.FaultsTold.{findings_told}
 use Rattle.texts_have_outcomes_law.specs.Laws.{IsJudged, ProgramsAreJudged}
 
 by_findings : (t : TypedTree) (s : Sides) → AreSides t s → (marks : Shown) → AreMarks s.seeds (edges_of_all t s) (length (slots_of t)) marks →

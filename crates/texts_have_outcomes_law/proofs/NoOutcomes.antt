@@ -6,7 +6,7 @@ use Rattle.front_end.proofs.OneReading.{reading_is_one}
 use Rattle.sides.specs.declared.halves.Sides.{Sides}
 use Rattle.sides.specs.Placed.{AreSides}
 use Rattle.sides.specs.Slots.{slots_of}
-use Rattle.sides_exist_law.proofs.AllSides.{sides_few}
+use Rattle.flow_law.proofs.SlotsAllSides.{sides_few}
 use Rattle.flow_check.specs.Checked as checks
 use Rattle.flow_check.specs.Checked.{IsRefused, Refusal, lex, parse, types, flow}
 use Rattle.program_split.specs.Split as splits

@@ -16,14 +16,14 @@ use Rattle.host_table.specs.Hosts.{Hosts}
 use Rattle.host_table.specs.RunHosts.{models_of}
 use Rattle.source_meaning.specs.WholeRun.{whole_run}
 use Rattle.front_end.specs.Reading.{HasTypedTree, Reading, typed_tree, lex_fault, parse_fault, type_faults_of, ComesTo as ReadsAs}
-use Rattle.fault_lines.specs.FaultLines.{place_text}
-use Rattle.fault_lines.specs.Seen.{Seen, faulty}
+use Rattle.front_end.specs.FaultLines.{place_text}
+use Rattle.front_end.specs.FaultLinesSeen.{Seen, faulty}
 use Rattle.host_lines.specs.GivenHosts.{most, GivesHosts}
 use Rattle.original.specs.Original.{Texts, lex, parse, types, host, input, AreRead, Outcome, refused, ran, ComesTo, lines_of}
 use Rattle.original.specs.OutcomeSeen.{IsUnrefused}
 use Rattle.original.specs.Seen.{Shows, ShowsRun}
 use Rattle.original.proofs.RunLemmas.{never_refused}
-use Rattle.text_readings_law.proofs.Readings.{texts_read}
+use Rattle.front_end_law.proofs.ReadingLemmas.{texts_read}
 use Rattle.texts_have_outcomes_law.specs.Laws.{RunsAreSeen}
 
 -- ---- hosts

@@ -8,8 +8,8 @@ use Rattle.flow_check.specs.Checked.{lex, parse, types, flow}
 use Rattle.program_halves.specs.ProgramHalves.{monitor_half, slave_half}
 use Rattle.program_split.specs.Split.{Outcome, refused, split, ComesTo}
 use Rattle.split_text.specs.Texts.{slave_text, monitor_text}
-use Rattle.text_readings_law.proofs.Readings.{texts_read}
-use Rattle.text_readings_law.proofs.TextTrees.{trees_are_sound}
+use Rattle.front_end_law.proofs.ReadingLemmas.{texts_read}
+use Rattle.front_end_law.proofs.ReadingsTextTrees.{trees_are_sound}
 use Rattle.texts_have_outcomes_law.specs.Laws.{HasTooManySlots, IsJudged, SplitsComeToAnOutcome}
 use Rattle.texts_have_outcomes_law.proofs.Judged.{judged}
 

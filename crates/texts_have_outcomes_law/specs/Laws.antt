@@ -4,11 +4,11 @@ use Rattle.typed_tree.specs.TypedTree.{TypedTree}
 use Rattle.typed_tree.specs.WellFormed.{is_well_formed}
 use Rattle.front_end.specs.Reading.{HasTypedTree}
 use Rattle.sides.specs.Slots.{slots_of}
-use Rattle.sides_exist_law.specs.Laws.{HasFewSlots}
+use Rattle.flow_law.specs.SlotsLaws.{HasFewSlots}
 use Rattle.flow_rules.specs.declared.accepted.Accepted.{Accepted}
 use Rattle.flow_rules.specs.declared.fault.FlowFault.{FlowFault}
 use Rattle.flow_rules.specs.Faults.{IsAccepted}
-use Rattle.fault_lines.specs.Seen.{Seen}
+use Rattle.front_end.specs.FaultLinesSeen.{Seen}
 use Rattle.flow_check.specs.Checked as checks
 use Rattle.flow_check.specs.Checked.{HasFlowFaults}
 use Rattle.program_split.specs.Split as splits

@@ -1,3 +1,5 @@
 pub mod Joined
 mod LentLemmas
 pub mod UsageLemmas
+mod LawsListed
+mod LawsStanding

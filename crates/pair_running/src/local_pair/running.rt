@@ -16,9 +16,9 @@ ghost use Rattle.pair_running.specs.LocalPairRunning.{AreTextsOf, BeginsAs, Have
 use crate::local_pair::ending::ended;
 use crate::local_pair::outcome::Outcome;
 use crate::local_pair::sink::Written;
+use crate::memory_talks::{talks_are_whole, talks_end};
 use boots::boot_bytes;
 use memory_link::MemoryLink;
-use memory_talks_law::{talks_are_whole, talks_end};
 use monitor_interp::Monitor;
 use pair_laws::begun_pairs::{
     begun_boots_are_well_formed, begun_monitors_are_well_formed, begun_monitors_hosts_serve,

@@ -7,8 +7,8 @@ use Rattle.typed_tree.specs.Nodes as typed
 use Rattle.typed_tree.specs.TypedTree.{TypedTree}
 use Rattle.typed_tree.specs.WellFormed.{is_well_formed}
 use Rattle.check_programs.specs.Programs.{checked_program}
-use Rattle.check_sizes_law.proofs.ProgramSizes.{typed_trees_are_small}
-use Rattle.check_programs_law.proofs.ProgramsAreWellFormed.{programs_are_well_formed}
+use Rattle.type_law.proofs.SizesProgram.{typed_trees_are_small}
+use Rattle.type_law.proofs.ProgramsAreWellFormed.{programs_are_well_formed}
 use Rattle.c_types.proofs.check.check_types.Goals as goal
 
 pub new-requires : goal.new-requires

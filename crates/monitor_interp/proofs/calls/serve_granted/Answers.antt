@@ -1,7 +1,7 @@
 use Rattle.std.proofs.Common.{ap, arith, length, subst, sym}
 use Rattle.pt_core.specs.WellFormed.{monitor_program}
 use Rattle.pair_meaning.specs.Serving.{work_of}
-use Rattle.serving_soundness_law.proofs.Serving.{before_of}
+use Rattle.monitor_soundness_law.proofs.ServingLemmas.{before_of}
 use Rattle.monitor_interp.specs.declared.worked.Worked.{Worked}
 use Rattle.monitor_interp.specs.Heard.{Heard}
 use Rattle.monitor_interp.specs.Standing.{IsDone, Stands}

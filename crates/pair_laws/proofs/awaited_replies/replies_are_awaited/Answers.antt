@@ -1,4 +1,4 @@
-use Rattle.pair_invariant.specs.Slaves.{Stays}
+use Rattle.pair_invariant_law.specs.Slaves.{Stays}
 use Rattle.pair_laws.proofs.AwaitedRepliesAwaited.{replies_are_awaited}
 use Rattle.pair_laws.proofs.awaited_replies.replies_are_awaited.Goals as goal
 

@@ -1,4 +1,4 @@
-use Rattle.pair_invariant.specs.Slaves.{Stays}
+use Rattle.pair_invariant_law.specs.Slaves.{Stays}
 use Rattle.pair_laws.proofs.PairStartPairs.{pairs_begin}
 use Rattle.pair_laws.proofs.pair_start.accepted_pairs_begin.Goals as goal
 

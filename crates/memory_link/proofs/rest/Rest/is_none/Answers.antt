@@ -1,5 +1,5 @@
 use Rattle.std.proofs.Common.{◌≡◌, ℕ, arith, eqb, length, subst}
-use Rattle.pair_sides.specs.Pair.{is_empty}
+use Rattle.pair_protocol.specs.Pair.{is_empty}
 use Rattle.memory_link.proofs.Lefts.{none_is}
 use Rattle.memory_link.proofs.rest.Rest.is_none.Goals as goal
 

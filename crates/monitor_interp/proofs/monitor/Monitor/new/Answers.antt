@@ -9,8 +9,8 @@ use Rattle.pt_core.specs.CodeTree.{ProgramTree, numbered, view_monitor}
 use Rattle.pt_core.specs.Steps.{at_rest}
 use Rattle.pt_core.specs.WellFormed.{is_sound, monitor_program}
 use Rattle.core_machine.specs.Machines.{Shown}
-use Rattle.serving_soundness_law.proofs.Entries.{sound_of}
-use Rattle.serving_soundness_law.proofs.Serving.{monitors_begin_sound}
+use Rattle.monitor_soundness_law.proofs.ServingEntries.{sound_of}
+use Rattle.monitor_soundness_law.proofs.ServingLemmas.{monitors_begin_sound}
 use Rattle.monitor_interp.specs.Gates.{heard_of, hosts_for, is_host_in, told_of}
 use Rattle.monitor_interp.specs.Marks.{mark_of}
 use Rattle.monitor_interp.specs.Monitors.{IsMonitor}

@@ -1,7 +1,0 @@
-use Rattle.accepted_halves_law.proofs.Halves.{accepted_halves}
-use Rattle.accepted_halves_law.proofs.accepted_programs_have_halves.Goals as goal
-
-pub returns : goal.returns
-returns c =
-    accepted_halves c.accepted_programs_share_nothing.ensures c.slaves_are_well_formed.ensures c.monitors_are_well_formed.ensures
-    c.lowered_code_names_what_the_body_names.ensures

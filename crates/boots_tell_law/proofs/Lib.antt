@@ -1,7 +1,0 @@
-mod Numbered
-mod Reached
-mod Asked
-mod Halves
-mod BareHalves
-mod Boots
-mod Selves

@@ -1,3 +1,0 @@
-pub mod BareBoots
-pub mod Laws
-pub mod SameForSlave

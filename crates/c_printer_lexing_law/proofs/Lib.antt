@@ -1,9 +1,0 @@
-pub mod Chains
-pub mod ExpressionChains
-pub mod ItemChains
-pub mod Laid
-pub mod Constants
-pub mod Layouts
-pub mod Neighbours
-pub mod SpecifierChains
-pub mod Starts

@@ -1,6 +1,0 @@
-pub mod Packable
-pub mod Sendable
-pub mod Served
-pub mod Spelled
-pub mod Targets
-pub mod Written

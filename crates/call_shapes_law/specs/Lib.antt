@@ -1,4 +1,0 @@
-pub mod Packable
-pub mod Sending
-pub mod Served
-pub mod Spelled

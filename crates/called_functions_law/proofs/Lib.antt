@@ -1,4 +1,0 @@
-pub mod Accounts
-pub mod Gates
-pub mod Keeping
-pub mod Steps

@@ -1,5 +1,0 @@
-use Rattle.core_soundness.proofs.Shapes.{received_stay}
-use Rattle.core_soundness.proofs.received_stay.Goals as goal
-
-pub returns : goal.returns
-returns g c = received_stay

@@ -1,5 +1,0 @@
-use Rattle.core_soundness.proofs.Outside.{resumed_fits}
-use Rattle.core_soundness.proofs.resumed_fits.Goals as goal
-
-pub returns : goal.returns
-returns c = resumed_fits

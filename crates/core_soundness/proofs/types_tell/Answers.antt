@@ -1,5 +1,0 @@
-use Rattle.core_soundness.proofs.More.{types_tell}
-use Rattle.core_soundness.proofs.types_tell.Goals as goal
-
-pub returns : goal.returns
-returns c = types_tell

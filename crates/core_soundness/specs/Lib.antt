@@ -1,5 +1,0 @@
-pub mod Fits
-pub mod Kept
-pub mod Laws
-pub mod Outside
-pub mod StepLaws

@@ -1,5 +1,0 @@
-pub mod Calls
-pub mod Fits
-pub mod Laws
-pub mod Machines
-pub mod Stores

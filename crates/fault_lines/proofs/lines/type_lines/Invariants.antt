@@ -1,6 +1,0 @@
-use Rattle.std.proofs.Common.{◌≡◌, ◌++◌, drop}
-use Rattle.fault_lines.specs.FaultLines.{type_lines}
-use Rattle.fault_lines.proofs.lines.type_lines.Given as goal
-
-abbrev pub invariant-loop-fault : goal.invariant-loop-fault
-invariant-loop-fault l = l.lines.items ++ type_lines (drop l.fault-index l.faults) ≡ type_lines l.fn.faults

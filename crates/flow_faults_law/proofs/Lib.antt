@@ -1,3 +1,0 @@
-mod PrivFindings
-mod FaultOrder
-pub mod Told

@@ -1,0 +1,2 @@
+pub mod ParsesLaws
+pub mod ReadingsLaws

@@ -1,5 +1,0 @@
-use Rattle.gates_agree_law.proofs.WrittenBytes.{bytes_are}
-use Rattle.gates_agree_law.proofs.bytes_are_the_runs.Goals as goal
-
-pub returns : goal.returns
-returns c = bytes_are c.silent_runs_agree.ensures c.only_the_run_is_seen.ensures

@@ -1,6 +1,0 @@
-use Rattle.half_meaning_law.proofs.Bodies.{bodies}
-use Rattle.half_calls_law.proofs.Law.{half_starts_agree}
-use Rattle.half_calls_law.proofs.half_starts_agree.Goals as goal
-
-pub returns : goal.returns
-returns c = half_starts_agree bodies

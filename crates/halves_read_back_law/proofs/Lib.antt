@@ -1,2 +1,0 @@
-mod Hosts
-mod Texts

@@ -1,0 +1,4 @@
+pub mod ObjectsCells
+pub mod ObjectsLaws
+pub mod SlavesMarked
+pub mod SlavesLaws

@@ -1,0 +1,10 @@
+pub mod KeptAsked
+pub mod KeptCalled
+pub mod KeptUnmet
+pub mod KeptMarks
+pub mod KeptTaking
+pub mod KeptRuns
+pub mod KeptLying
+pub mod AskedStanding
+pub mod AskedArguments
+pub mod AskedAsking

@@ -1,0 +1,3 @@
+pub mod KeptHandlesLie
+pub mod KeptLaws
+pub mod AskedLaws

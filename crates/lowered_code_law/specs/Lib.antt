@@ -1,0 +1,9 @@
+pub mod FormsLaws
+pub mod NamesLaws
+pub mod NamesNamed
+pub mod LocalityLaws
+pub mod LocalityRenumbered
+pub mod LocalitySameFunctions
+pub mod PlacesBareCode
+pub mod PlacesBareTrees
+pub mod PlacesLaws

@@ -1,9 +1,0 @@
-//! What the lowering of a well formed program gives is well formed in the normal form.
-#![tactic(auto)]
-
-ghost use Rattle.lowered_forms_law.specs.Laws.{LoweredProgramsAreWellFormed};
-
-/// The lowered program of every well formed one is well formed.
-pub fn lowered_programs_are_well_formed()
-    ensures { LoweredProgramsAreWellFormed }
-{}

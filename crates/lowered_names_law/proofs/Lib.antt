@@ -1,7 +1,0 @@
-mod Naming
-mod Usages
-mod Forms
-mod Expressions
-mod Statements
-mod Listed
-pub mod Bodies

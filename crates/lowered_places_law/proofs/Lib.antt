@@ -1,5 +1,0 @@
-mod Forms
-mod Expressions
-mod Statements
-pub mod Bodies
-pub mod Usages

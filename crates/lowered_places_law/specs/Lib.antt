@@ -1,3 +1,0 @@
-pub mod BareCode
-pub mod BareTrees
-pub mod Laws

@@ -1,3 +1,0 @@
-mod Ways
-mod ShortestWays
-pub mod Marks

@@ -1,4 +1,0 @@
-pub mod Gates
-pub mod Models
-pub mod Numbers
-pub mod Plain

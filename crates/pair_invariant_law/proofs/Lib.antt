@@ -1,0 +1,15 @@
+pub mod Staying
+pub mod MonitorGatesGates
+pub mod MonitorGatesModels
+pub mod MonitorGatesNumbers
+pub mod MonitorGatesPlain
+pub mod SlaveGatesAgreeing
+pub mod SlaveGatesFitting
+pub mod SlaveGatesGathering
+pub mod SlaveGatesHosts
+pub mod SlaveGatesOnce
+pub mod AcceptedMembers
+pub mod AcceptedParted
+pub mod AcceptedRules
+pub mod AcceptedEntries
+pub mod AcceptedHalves

@@ -1,0 +1,10 @@
+pub mod Halves
+pub mod Hosts
+pub mod Laws
+pub mod Live
+pub mod Slaves
+pub mod MonitorGatesLaws
+pub mod SlaveGatesGathering
+pub mod SlaveGatesLaws
+pub mod SlaveGatesOnce
+pub mod AcceptedLaws

@@ -1,5 +1,0 @@
-use Rattle.pair_order_law.proofs.Theorems.{honest_peers_are_expected}
-use Rattle.pair_order_law.proofs.honest_peers_are_expected.Goals as goal
-
-pub returns : goal.returns
-returns c d = honest_peers_are_expected _ _ _ _ _ _

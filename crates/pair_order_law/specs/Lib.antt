@@ -1,2 +1,0 @@
-pub mod Adder
-pub mod Laws

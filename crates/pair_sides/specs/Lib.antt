@@ -1,5 +1,0 @@
-pub mod Links
-pub mod Pair
-pub mod Serving
-pub mod Sides
-pub mod SlaveRun

@@ -1,5 +1,0 @@
-mod Sorts
-mod BuildShapes
-mod RuleShapes
-mod StackShapes
-pub mod Outcomes

@@ -1,5 +1,0 @@
-use Rattle.part_views.proofs.Instances.{served_are_viewed}
-use Rattle.part_views.proofs.served_are_viewed.Goals as goal
-
-pub returns : goal.returns
-returns c = served_are_viewed

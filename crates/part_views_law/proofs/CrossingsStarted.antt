@@ -1,0 +1,129 @@
+-- What a body is started with fits.
+use Rattle.std.proofs.Common.{◌≡◌, ◌∙◌, ◌<◌, ◌≤◌, ℕ, zero, suc, ap, sym, refl, subst, arith, List, [], ◌∷◌, map, length, get_or, Bool, true, false}
+use Rattle.std.specs.Prelude.{IsTrue, nat_lt}
+use Rattle.std.specs.List.{list_all}
+use Rattle.std.proofs.lemmas.Bool.{ltb-true, ltb-false}
+use Rattle.std.proofs.lemmas.List.{length-map}
+use Rattle.pt_base.specs.declared.int_type.IntType.{IntType}
+use Rattle.pt_int.specs.Conversion.{is_in_range}
+use Rattle.pt_tree.specs.declared.signature.Param.{Param}
+use Rattle.pt_tree.specs.declared.signature.ParamKind.{ParamKind}
+use Rattle.pt_tree.specs.declared.signature.ParamKind.TheVariants as kind
+use Rattle.typed_tree.specs.declared.types.StructInfo.{StructInfo}
+use Rattle.typed_tree.specs.Cells.{leaves_of, repeated}
+use Rattle.typed_tree.specs.TypeTests.{type_of_elem}
+use Rattle.typed_tree.specs.WellFormedExpression.{param_type}
+use Rattle.typed_tree.proofs.SameTypes.{equal_ints}
+use Rattle.block_memory.specs.declared.cell.Cell.{Cell}
+use Rattle.block_memory.specs.declared.cell.Cell.TheVariants as cell
+use Rattle.block_memory.specs.declared.cell.Pointer.TheVariants.{Null, At}
+use Rattle.block_memory.specs.declared.cell.BlockName.{BlockName}
+use Rattle.block_memory.specs.declared.cell.BlockName.TheVariants.{Received}
+use Rattle.block_memory.specs.Blocks.{Blocks}
+use Rattle.handle_store.specs.Stored.{AreInRange}
+use Rattle.core_soundness_law.specs.Fits.{IntegerFits, IntegersFit, LieAt, ValueFits}
+use Rattle.core_soundness_law.specs.Kept.{by_store, none}
+use Rattle.core_soundness_law.specs.Outside.{ArgumentsFit}
+use Rattle.core_soundness_law.proofs.Numbers.{in_range}
+use Rattle.marshalling.specs.Handles.{Entries, stored}
+use Rattle.marshalling.specs.HonestCalls.{for_callee, renamed, revealed}
+use Rattle.marshalling.specs.Packing.{names_of, number_of, packed}
+use Rattle.marshalling.specs.Replies.{types_in}
+use Rattle.marshalling.proofs.Lists.{first, second}
+use Rattle.marshalling.proofs.NameLemmas.{all_targets, from_distinct, get_among, has_target, number_at}
+use Rattle.marshalling_law.proofs.PostingLemmas.{packed_types}
+use Rattle.marshalling_law.proofs.CallsTargets.{block_integers, target_among}
+use Rattle.part_views_law.specs.CrossingsCalls.{body_memory}
+use Rattle.part_views_law.specs.CrossingsFits.{BodiesFit}
+use Rattle.part_views_law.proofs.CrossingsBeginning.{types_named, cells_named}
+
+-- what a handle of the type stands for is a number of it
+stored_fits : (store : Entries) (t : IntType) (h : ℕ) → AreInRange store → IsTrue (by_store store t h) → IsTrue (is_in_range t (stored store h))
+stored_fits [] t h ranged k = absurd cc
+stored_fits (entry ∷ store) t zero ranged k = subst (λ u. IsTrue (is_in_range u entry.1)) (sym (equal_ints t entry.0 k)) (in_range entry.0 entry.1 (ranged 0 entry (omega arith)))
+stored_fits (entry ∷ store) t (suc h) ranged k = stored_fits store t h (λ j d lt. ranged (suc j) d (omega (arith, lt))) k
+
+one_revealed : (store : Entries) (names : List BlockName) (t : IntType) (c : Cell) → AreInRange store → IntegerFits (by_store store) t c → IntegerFits none t (renamed names (revealed store c))
+one_revealed store names t (cell.Int v) ranged f = f
+one_revealed store names t (cell.Ptr p) ranged f = elim f [ ]
+one_revealed store names t (cell.Sealed h) ranged f = stored_fits store t h ranged f
+
+all_revealed : (store : Entries) (types : List IntType) (cells : List Cell) → AreInRange store → IntegersFit (by_store store) types cells → IntegersFit none types (map (revealed store) cells)
+all_revealed store [] [] ranged f = tt {0}
+all_revealed store [] (c ∷ cells) ranged f = elim f [ ]
+all_revealed store (t ∷ types) [] ranged f = elim f [ ]
+all_revealed store (t ∷ types) (c ∷ cells) ranged f = (one t c f.0, all_revealed store types cells ranged f.1)
+  where
+    one : (t : IntType) (c : Cell) → IntegerFits (by_store store) t c → IntegerFits none t (revealed store c)
+    one t (cell.Int v) f = f
+    one t (cell.Ptr p) f = elim f [ ]
+    one t (cell.Sealed h) f = stored_fits store t h ranged f
+
+past : {A : Type 0} (xs : List A) (k : ℕ) (d : A) → length xs ≤ k → get_or xs k d ≡ d
+past [] k d h = refl
+past (x ∷ xs) zero d h = absurd (omega (arith, h))
+past (x ∷ xs) (suc k) d h = past xs k d (omega (arith, h))
+
+one_given : (structs : List StructInfo) (store : Entries) (x y : Blocks) (depth : ℕ) (names : List BlockName) (of : ParamKind) (c : Cell) → AreInRange store →
+    ((name : BlockName) → has_target names (cell.Ptr (At name 0 0 0)) ≡ true → (y (Received (number_of names name))).types ≡ (x name).types) → has_target names c ≡ true →
+    ValueFits (by_store store) structs x depth (param_type of) c → ValueFits none structs y 0 (param_type of) (renamed names (revealed store c))
+one_given structs store x y depth names (kind.Int t) c ranged same among f = one_revealed store names t c ranged f
+one_given structs store x y depth names (kind.Ptr elem fixed) (cell.Int v) ranged same among f = elim f [ ]
+one_given structs store x y depth names (kind.Ptr elem fixed) (cell.Sealed h) ranged same among f = elim f [ ]
+one_given structs store x y depth names (kind.Ptr elem fixed) (cell.Ptr Null) ranged same among f = tt {0}
+one_given structs store x y depth names (kind.Ptr elem fixed) (cell.Ptr (At block base count index)) ranged same among f = record {
+  near = omega arith;
+  some = f.some;
+  few = f.few;
+  within = f.within;
+  types = subst (λ ts. LieAt ts base (repeated count (leaves_of structs (type_of_elem elem)))) (sym (same block among)) f.types;
+}
+
+all_given : (structs : List StructInfo) (store : Entries) (x y : Blocks) (depth : ℕ) (names : List BlockName) (params : List Param) (args : List Cell) → AreInRange store →
+    ((name : BlockName) → has_target names (cell.Ptr (At name 0 0 0)) ≡ true → (y (Received (number_of names name))).types ≡ (x name).types) → list_all (has_target names) args ≡ true →
+    ArgumentsFit (by_store store) structs x depth params args → ArgumentsFit none structs y 0 params (map (renamed names) (map (revealed store) args))
+all_given structs store x y depth names [] [] ranged same among f = tt {0}
+all_given structs store x y depth names [] (c ∷ args) ranged same among f = elim f [ ]
+all_given structs store x y depth names (p ∷ params) [] ranged same among f = elim f [ ]
+all_given structs store x y depth names (p ∷ params) (c ∷ args) ranged same among f = (
+  one_given structs store x y depth names p.kind c ranged same (first (has_target names c) (list_all (has_target names) args) among) f.0,
+  all_given structs store x y depth names params args ranged same (second (has_target names c) (list_all (has_target names) args) among) f.1,
+)
+
+pub bodies_fit : BodiesFit
+bodies_fit slave monitor store params x m a rest args sound ok same mem given other ranged whole = (
+  record {
+    locals = λ depth v. refl;
+    globals = other.globals;
+    global_cells = other.global_cells;
+    received_cells = λ n. received n (nat_lt n (length (names_of args))) refl;
+    beyond = other.beyond;
+  },
+  subst (λ structs. ArgumentsFit none structs (body_memory store params x m args) 0 params (for_callee store x args).args) same
+      (all_given slave.structs store x (body_memory store params x m args) a.depth (names_of args) params args ranged (λ name among. types_named params x args name whole among) (all_targets [] args) given),
+)
+  where
+    FitsAt : ℕ → Type 0
+    FitsAt n = IntegersFit none (body_memory store params x m args (Received n)).types (body_memory store params x m args (Received n)).cells
+
+    there : (n : ℕ) → n < length (names_of args) → FitsAt n
+    there n lt =
+        let name : BlockName = get_or (names_of args) n (Received n) in
+        let among = get_among (names_of args) n (Received n) lt in
+        let some = (target_among (by_store store) slave.structs x a.depth name params args sound ok given among).some in
+        subst FitsAt (number_at (names_of args) n (Received n) (from_distinct [] args refl) lt)
+        (subst (λ ts. IntegersFit none ts (body_memory store params x m args (Received (number_of (names_of args) name))).cells) (sym (types_named params x args name whole among))
+        (subst (λ cs. IntegersFit none (x name).types cs) (sym (cells_named store x args name among)) (all_revealed store (x name).types (x name).cells ranged (block_integers (by_store store) slave (a ∷ rest) x mem name some))))
+
+    count : length (types_in (packed x params args)) ≡ length (names_of args)
+    count = ap length (packed_types x (names_of args) whole) ∙ length-map (names_of args) (λ n. (x n).types)
+
+    count_cells : length (for_callee store x args).blocks ≡ length (names_of args)
+    count_cells = length-map (names_of args) _
+
+    received : (n : ℕ) (t : Bool) → nat_lt n (length (names_of args)) ≡ t → FitsAt n
+    received n true e = there n (ltb-true n (length (names_of args)) e)
+    received n false e =
+        let le : length (names_of args) ≤ n = ltb-false n (length (names_of args)) e in
+        subst (λ ts. IntegersFit none ts (body_memory store params x m args (Received n)).cells) (sym (past (types_in (packed x params args)) n [] (omega (arith, count, le))))
+        (subst (λ cs. IntegersFit none [] cs) (sym (past (for_callee store x args).blocks n [] (omega (arith, count_cells, le)))) (tt {0}))

@@ -1,0 +1,16 @@
+pub mod Laws
+pub mod Machines
+pub mod Views
+pub mod CrossingsCalls
+pub mod CrossingsFits
+pub mod CrossingsLaws
+pub mod CrossingsMachines
+pub mod CrossingsStores
+pub mod StepsAdded
+pub mod StepsInstances
+pub mod StepsLaws
+pub mod StepsOutward
+pub mod StepsParts
+pub mod StepsRuns
+pub mod CallsLaws
+pub mod CallsWhole

@@ -1,4 +1,0 @@
-mod EndLemmas
-mod GateLemmas
-mod MachineRun
-mod MarkLemmas

@@ -1,8 +1,0 @@
--- The code of a checked program can be said: both laws together.
-use Rattle.check_programs.specs.Programs.{checked_program}
-use Rattle.said_code_law.specs.Laws.{CheckedFunctionsAreSaid}
-use Rattle.said_code_law.proofs.Checked.{programs_place_nulls}
-use Rattle.said_code_law.proofs.Programs.{functions_said}
-
-pub checked_said : CheckedFunctionsAreSaid
-checked_said items n f body well here is = functions_said (checked_program items).tree n f body well (programs_place_nulls items) here is

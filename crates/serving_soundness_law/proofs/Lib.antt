@@ -1,5 +1,0 @@
-pub mod Blocks
-pub mod Entries
-pub mod Hosts
-pub mod Stores
-pub mod Serving

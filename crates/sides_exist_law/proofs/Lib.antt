@@ -1,4 +1,0 @@
-mod VecLists
-mod Counts
-mod Tables
-pub mod AllSides

@@ -1,3 +1,0 @@
-pub mod Gathering
-pub mod Laws
-pub mod Once

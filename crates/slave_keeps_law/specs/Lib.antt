@@ -1,2 +1,0 @@
-pub mod HandlesLie
-pub mod Laws

@@ -1,9 +1,0 @@
-// Where the handles of a slave lie, by a law on a function with nothing to do.
-ghost use Rattle.slave_keeps_law.specs.HandlesLie.{HandlesLieUnderMarks};
-
-/// Whatever replies a slave of an accepted program is given, a handle lies in its memory only where a
-/// privileged slot is: in a variable or a global under it, or in a temporary with an expression that
-/// may have its value.
-pub fn handles_lie_under_marks()
-    ensures { HandlesLieUnderMarks }
-{}

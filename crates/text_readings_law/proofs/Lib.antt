@@ -1,4 +1,0 @@
-mod TypeFaultOrder
-mod TextTokens
-pub mod Readings
-pub mod TextTrees
