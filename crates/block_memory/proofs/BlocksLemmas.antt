@@ -7,25 +7,22 @@ use Rattle.block_memory.specs.declared.cell.Cell.{Cell}
 use Rattle.block_memory.specs.declared.shape.BlockShape.{BlockShape}
 use Rattle.block_memory.specs.Block.{Block, fresh, no_block, with_cell}
 use Rattle.block_memory.specs.Blocks.{Blocks, is_same_name, IsFree, no_blocks, put, with_frame, without_frames}
-use Rattle.pt_base.proofs.SameNumbers.{same_number}
-
-both : (a b : Bool) → (a && b) ≡ true → (a ≡ true) × (b ≡ true)
-both true b h = (refl, h)
-both false b h = cc
+use Rattle.pt_base.proofs.Booleans.{and_parts}
+use Rattle.pt_base.proofs.Numbers.{nat_eq_same}
 
 -- the test tells whether two names are one
 pub same_name : (name other : BlockName) → is_same_name name other ≡ true → name ≡ other
 same_name (Local d v) (Local e w) h =
-    let parts = both (nat_eq d e) (nat_eq v w) h in
-    ap (λ n. Local n v) (same_number d e parts.0) ∙ ap (Local e) (same_number v w parts.1)
+    let parts = and_parts (nat_eq d e) (nat_eq v w) h in
+    ap (λ n. Local n v) (nat_eq_same d e parts.0) ∙ ap (Local e) (nat_eq_same v w parts.1)
 same_name (Local d v) (Global n) h = cc
 same_name (Local d v) (Received n) h = cc
 same_name (Global n) (Local e w) h = cc
-same_name (Global n) (Global m) h = ap Global (same_number n m h)
+same_name (Global n) (Global m) h = ap Global (nat_eq_same n m h)
 same_name (Global n) (Received m) h = cc
 same_name (Received n) (Local e w) h = cc
 same_name (Received n) (Global m) h = cc
-same_name (Received n) (Received m) h = ap Received (same_number n m h)
+same_name (Received n) (Received m) h = ap Received (nat_eq_same n m h)
 
 pub is_same_name-self : (name : BlockName) → is_same_name name name ≡ true
 is_same_name-self (Local d v) =

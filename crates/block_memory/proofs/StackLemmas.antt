@@ -1,5 +1,5 @@
 -- Laws of blocks whose cells lie in one list.
-use Rattle.std.proofs.Common.{◌≡◌, ◌∙◌, ◌+◌, ◌-◌, ◌<◌, ◌≤◌, ℕ, pos, add-one, suc, zero, List, [], ◌∷◌, ◌++◌, length, take, map, set, get_or, slice_range, slice_get, Some, Result, Ok, Err, OnErr, refl, sym, ap, subst, arith, length-append, length-set}
+use Rattle.std.proofs.Common.{◌≡◌, ◌∙◌, ◌+◌, ◌-◌, ◌<◌, ◌≤◌, ℕ, pos, add-one, suc, zero, List, [], ◌∷◌, ◌++◌, length, take, map, set, get_or, slice_range, slice_get, Some, refl, sym, ap, subst, arith, length-append, length-set}
 use Rattle.std.proofs.lemmas.List.{get_or_default, get_or_past, length-map, length-take-le, map-append, take-map, take-take, take_at}
 use Rattle.std.proofs.lemmas.List.Edits.{get_or-between, length-between}
 use Rattle.std.proofs.lemmas.Option.{slice_get-get_or}
@@ -276,10 +276,6 @@ stacked-grown starts starts' types types' cells cells' ts cs start v grows is vi
 pub stacked-begun : (starts starts' : List Start) (types types' : List IntType) (cells cells' : List Cell) (ts : List IntType) (cs : List Cell) (start : Start) (v : List Block) → Grows starts starts' types types' cells cells' ts cs start → IsStack starts types cells → stacked starts types cells ≡ v → take (length v) (stacked starts' types' cells') ≡ v
 stacked-begun starts starts' types types' cells cells' ts cs start v grows is view =
     ap (take (length v)) (stacked-grown _ _ _ _ _ _ _ _ _ v grows is view) ∙ take_at v (record { types = ts; cells = cs } ∷ []) (length v) refl
-
-pub on_err : {T E P : Type 0} (r : Result T E) → P → OnErr r P
-on_err (Ok x) p = tt
-on_err (Err e) p = p
 
 -- what begins with what began with a list begins with that list
 pub prefix_kept : (first mid last more : List Block) → mid ≡ first ++ more → take (length mid) last ≡ mid → take (length first) last ≡ first

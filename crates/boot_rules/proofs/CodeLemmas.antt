@@ -5,13 +5,14 @@ use Rattle.std.specs.List.{list_any}
 use Rattle.std.specs.Map.{lookup}
 use Rattle.pt_base.specs.declared.ids.FnId.{FnId}
 use Rattle.pt_base.specs.declared.int_type.IntType.{IntType}
+use Rattle.pt_base.proofs.Booleans.{both_hold, both_hold_first, both_hold_second}
+use Rattle.pt_base.proofs.Lists.{map_of_map}
 use Rattle.pt_tree.specs.declared.host_model.HostModel.{HostModel}
 use Rattle.pt_tree.specs.declared.signature.Signature.{Signature}
 use Rattle.typed_tree.specs.declared.types.StructInfo.{StructInfo}
 use Rattle.typed_tree.specs.declared.types.VarTy.{VarTy}
 use Rattle.typed_tree.specs.declared.variable.Var.{Var}
 use Rattle.typed_tree.specs.WellFormed.{are_rising}
-use Rattle.typed_tree.proofs.WellFormedLemmas.{and_left, and_right, and_both}
 use Rattle.pt_core.specs.declared.boot.Boot.{Boot}
 use Rattle.pt_core.specs.declared.function.CoreFn.{CoreFn}
 use Rattle.pt_core.specs.declared.global.GlobalVar.{GlobalVar}
@@ -21,7 +22,7 @@ use Rattle.pt_core.specs.WellFormed.{boot_program, called_signature, function_at
 use Rattle.pt_core.specs.WellFormedStatement.{Scope, stmts_fit}
 use Rattle.code_rules.proofs.Called.{called_is}
 use Rattle.boot_rules.specs.Tests.{host_numbers, is_in_order}
-use Rattle.boot_rules.proofs.RiseLemmas.{any_map, map_map, some_found}
+use Rattle.boot_rules.proofs.RiseLemmas.{any_map, some_found}
 
 -- ---- the orders
 
@@ -43,26 +44,26 @@ record Orders (b : Boot) : Type 0 where
 orders : (b : Boot) → IsTrue (is_in_order (view_boot b)) → Orders b
 unfolding is_in_order
 orders b h =
-    let program = and_left _ _ h in
-    let code = and_right _ _ program in
+    let program = both_hold_first _ _ h in
+    let code = both_hold_second _ _ program in
     record {
-      signatures = and_left _ _ program;
-      functions = and_left _ _ code;
-      globals = and_right _ _ code;
-      hosts = and_right _ _ h;
+      signatures = both_hold_first _ _ program;
+      functions = both_hold_first _ _ code;
+      globals = both_hold_second _ _ code;
+      hosts = both_hold_second _ _ h;
     }
 
 pub ordered_lists : (b : Boot) (globals : List GlobalVar) (signatures : List (FnId × Signature)) → globals ≡ b.globals → signatures ≡ b.signatures → IsTrue (is_in_order (view_boot b)) → IsTrue (numbers_rise signatures && globals_rise globals)
 ordered_lists b globals signatures same_globals same_signatures h =
     let o = orders b h in
-    and_both (numbers_rise signatures) (globals_rise globals)
+    both_hold (numbers_rise signatures) (globals_rise globals)
     (subst (λ xs. IsTrue (numbers_rise xs)) (sym same_signatures) o.signatures) (subst (λ xs. IsTrue (globals_rise xs)) (sym same_globals) o.globals)
 
 pub functions_in_order : (b : Boot) → IsTrue (is_in_order (view_boot b)) → IsTrue (are_rising 0 (map (λ f. f.id.0) b.functions.items))
-functions_in_order b h = subst (λ ns. IsTrue (are_rising 0 ns)) (map_map (λ (f : FunctionTree). f.id) view_function b.functions.items) (orders b h).functions
+functions_in_order b h = subst (λ ns. IsTrue (are_rising 0 ns)) (map_of_map (λ (f : FunctionTree). f.id) view_function b.functions.items) (orders b h).functions
 
 pub hosts_in_order : (b : Boot) → IsTrue (is_in_order (view_boot b)) → IsTrue (are_rising 0 (map (λ (x : FnId × HostModel). x.0.0) b.hosts))
-hosts_in_order b h = subst (λ ns. IsTrue (are_rising 0 ns)) (map_map (λ (x : ℕ × HostModel). x.0) (λ (x : FnId × HostModel). (x.0.0, x.1)) b.hosts) (orders b h).hosts
+hosts_in_order b h = subst (λ ns. IsTrue (are_rising 0 ns)) (map_of_map (λ (x : ℕ × HostModel). x.0) (λ (x : FnId × HostModel). (x.0.0, x.1)) b.hosts) (orders b h).hosts
 
 -- ---- what is found
 
@@ -74,7 +75,7 @@ function_found b f =
 pub host_found : (b : Boot) (f : ℕ) → list_any (λ (x : FnId × HostModel). nat_eq f x.0.0) b.hosts ≡ list_any (nat_eq f) (host_numbers (view_boot b))
 host_found b f =
     sym (any_map (nat_eq f) (λ (x : FnId × HostModel). x.0.0) b.hosts)
-    ∙ ap (list_any (nat_eq f)) (sym (map_map (λ (x : ℕ × HostModel). x.0) (λ (x : FnId × HostModel). (x.0.0, x.1)) b.hosts))
+    ∙ ap (list_any (nat_eq f)) (sym (map_of_map (λ (x : ℕ × HostModel). x.0) (λ (x : FnId × HostModel). (x.0.0, x.1)) b.hosts))
 
 -- ---- scopes
 

@@ -2,10 +2,10 @@
 use Rattle.std.proofs.Common.{◌≡◌, ◌<◌, ◌∙◌, sym, ap, refl, arith, Bool, true, false, List, [], ◌∷◌, drop, get_or, length, map}
 use Rattle.std.specs.Prelude.{◌&&◌, ◌||◌, not, if◌then◌else◌}
 use Rattle.std.specs.List.{filter, list_any}
+use Rattle.pt_base.proofs.Booleans.{and_with_false}
 use Rattle.pt_core.specs.declared.function.CoreFn.{CoreFn}
 use Rattle.pt_core.specs.CodeTree.{FunctionTree, ProgramTree, view_function}
 use Rattle.pt_core.specs.WellFormed.{is_only_start, signature_at, starts_by}
-use Rattle.boot_rules.proofs.BoolLemmas.{and_false}
 
 and_true : (a : Bool) → (a && true) ≡ a
 and_true true = refl
@@ -17,7 +17,7 @@ only_start p f main (g ∷ gs) = go (main g) (only_start p f main gs)
   where
     go : (b : Bool) → (starts_by (signature_at p f.id) && not (list_any main gs)) ≡ is_only_start p (f ∷ filter main gs) →
         (starts_by (signature_at p f.id) && not (b || list_any main gs)) ≡ is_only_start p (f ∷ (if b then g ∷ filter main gs else filter main gs))
-    go true later = and_false (starts_by (signature_at p f.id))
+    go true later = and_with_false (starts_by (signature_at p f.id))
     go false later = later
 
 pub met : (p : ProgramTree) (f : FunctionTree) (main : FunctionTree → Bool) (gs : List FunctionTree) → main f ≡ true → is_only_start p (filter main (f ∷ gs)) ≡ is_only_start p (f ∷ filter main gs)

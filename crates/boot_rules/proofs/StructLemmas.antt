@@ -2,11 +2,11 @@
 use Rattle.std.proofs.Common.{◌≡◌, ◌∙◌, sym, ap, refl, ℕ, suc, Bool, true, false, List, [], ◌∷◌, length}
 use Rattle.std.specs.Prelude.{IsTrue, ◌&&◌, nat_le}
 use Rattle.std.specs.List.{list_all}
+use Rattle.pt_base.proofs.Booleans.{both_hold_first}
 use Rattle.typed_tree.specs.declared.types.VarTy.{VarTy}
 use Rattle.typed_tree.specs.declared.types.Field.{Field}
 use Rattle.typed_tree.specs.declared.types.StructInfo.{StructInfo}
 use Rattle.typed_tree.specs.WellFormed.{is_plain_type, is_small, structs_sound}
-use Rattle.typed_tree.proofs.WellFormedLemmas.{and_left}
 use Rattle.boot_rules.specs.Shapes.{is_small_by, shapes_from}
 use Rattle.boot_rules.specs.Structs.{all_name_earlier}
 use Rattle.boot_rules.proofs.BoolLemmas.{both_all}
@@ -38,4 +38,4 @@ struct_tests structs =
 
 -- what is sound names earlier structs alone
 pub earlier_if_sound : (structs : List StructInfo) → IsTrue (structs_sound structs 0 structs) → IsTrue (all_name_earlier 0 structs)
-earlier_if_sound structs h = and_left (all_name_earlier 0 structs) (all_fields (is_small structs) structs) (sym (sound_parts structs 0 structs) ∙ h)
+earlier_if_sound structs h = both_hold_first (all_name_earlier 0 structs) (all_fields (is_small structs) structs) (sym (sound_parts structs 0 structs) ∙ h)

@@ -3,17 +3,17 @@ use Rattle.std.proofs.Common.{◌≡◌, ◌∙◌, sym, ap, subst, refl, Bool, 
 use Rattle.std.specs.Prelude.{IsTrue, ◌&&◌}
 use Rattle.std.specs.List.{list_all}
 use Rattle.std.proofs.lemmas.Bool.{true≢false}
+use Rattle.pt_base.proofs.Booleans.{and_with_false, both_hold, both_hold_first, both_hold_second}
 use Rattle.host_models.specs.Fitting.{fits}
 use Rattle.typed_tree.specs.declared.types.StructInfo.{StructInfo}
 use Rattle.typed_tree.specs.WellFormed.{are_rising, structs_sound}
-use Rattle.typed_tree.proofs.WellFormedLemmas.{and_left, and_right, and_both}
 use Rattle.pt_core.specs.CodeTree.{BootTree}
 use Rattle.pt_core.specs.WellFormed.{boot_program, are_in_order, global_fits, are_small, signature_fits, function_fits, callees, callee_fits, has_main, host_fits, hosts_fit, is_answered, is_well_formed, is_well_formed_boot}
 use Rattle.boot_rules.specs.declared.shape.Shape.{Shape}
 use Rattle.boot_rules.specs.Shapes.{is_small_by, shapes_from}
 use Rattle.boot_rules.specs.Structs.{all_name_earlier}
 use Rattle.boot_rules.specs.Tests.{host_numbers, is_in_order, call_fits, parts_fit}
-use Rattle.boot_rules.proofs.BoolLemmas.{and_false, both_all}
+use Rattle.boot_rules.proofs.BoolLemmas.{both_all}
 use Rattle.boot_rules.proofs.StructLemmas.{struct_tests}
 
 regrouped : (g m x f h t c a : Bool) → (g && m && x && f && h && t && (c && a)) ≡ ((((g && m) && ((x && f) && c)) && h) && (t && a))
@@ -23,7 +23,7 @@ regrouped true true false f h t c a = refl
 regrouped true true true false h t c a = refl
 regrouped true true true true true t true a = refl
 regrouped true true true true false t true a = refl
-regrouped true true true true h t false a = and_false (h && t)
+regrouped true true true true h t false a = and_with_false (h && t)
 
 -- where the lists are in order and the structs sound
 behind : (o s r g m x f h t c a : Bool) → o ≡ true → s ≡ true → r ≡ true →
@@ -38,7 +38,7 @@ tested b ordered sound =
     (both_all (callee_fits false p) (is_answered p (host_numbers b)) (callees p))
     ∙ behind (are_in_order p) (structs_sound b.structs 0 b.structs) (are_rising 0 (host_numbers b)) (list_all (global_fits b.structs) b.globals) (are_small b.globals) (list_all (λ s. signature_fits b.structs s.1) b.signatures)
     (list_all (function_fits false p) b.functions) (has_main p) (list_all (host_fits fits p) b.hosts) (list_all (callee_fits false p) (callees p)) (list_all (is_answered p (host_numbers b)) (callees p))
-    (and_left _ _ ordered) sound (and_right _ _ ordered)
+    (both_hold_first _ _ ordered) sound (both_hold_second _ _ ordered)
 
 -- what is tested between the structs and main
 abbrev middle : BootTree → Bool
@@ -50,7 +50,7 @@ middle b =
 no_order : (o s y h r t a : Bool) → (o && r) ≡ false → ((((o && s) && y) && h) && ((r && t) && a)) ≡ false
 no_order false s y h r t a is = refl
 no_order true s y h true t a is = absurd (true≢false is)
-no_order true s y h false t a is = and_false ((s && y) && h)
+no_order true s y h false t a is = and_with_false ((s && y) && h)
 
 -- lists that aren't in order
 pub out_of_order : (b : BootTree) → is_in_order b ≡ false → is_well_formed_boot fits b ≡ false
@@ -83,7 +83,7 @@ pub not_small : (b : BootTree) (structs : List StructInfo) (shapes : List Shape)
 not_small b structs shapes same kept is =
     let here : small_fields (shapes_from [] structs) structs ≡ false = ap (λ xs. small_fields xs structs) (sym kept) ∙ is in
     let fails : small_fields (shapes_from [] b.structs) b.structs ≡ false = subst (λ xs. small_fields (shapes_from [] xs) xs ≡ false) same here in
-    unsound b (sym (struct_tests b.structs) ∙ ap (λ z. all_name_earlier 0 b.structs && z) fails ∙ and_false (all_name_earlier 0 b.structs))
+    unsound b (sym (struct_tests b.structs) ∙ ap (λ z. all_name_earlier 0 b.structs && z) fails ∙ and_with_false (all_name_earlier 0 b.structs))
 
 pub sound_by : (b : BootTree) (structs : List StructInfo) (shapes : List Shape) → structs ≡ b.structs → shapes ≡ shapes_from [] structs → all_name_earlier 0 structs ≡ true → small_fields shapes structs ≡ true →
     IsTrue (structs_sound b.structs 0 b.structs)
@@ -91,4 +91,4 @@ sound_by b structs shapes same kept earlier small =
     let here : small_fields (shapes_from [] structs) structs ≡ true = ap (λ xs. small_fields xs structs) (sym kept) ∙ small in
     let first : all_name_earlier 0 b.structs ≡ true = subst (λ xs. all_name_earlier 0 xs ≡ true) same earlier in
     let second : small_fields (shapes_from [] b.structs) b.structs ≡ true = subst (λ xs. small_fields (shapes_from [] xs) xs ≡ true) same here in
-    sym (struct_tests b.structs) ∙ and_both (all_name_earlier 0 b.structs) (small_fields (shapes_from [] b.structs) b.structs) first second
+    sym (struct_tests b.structs) ∙ both_hold (all_name_earlier 0 b.structs) (small_fields (shapes_from [] b.structs) b.structs) first second

@@ -6,6 +6,9 @@ use Rattle.std.proofs.lemmas.Bool.Decides.{nat_tests}
 use Rattle.std.proofs.lemmas.List.{get_or_append_left, get_or_past, get_or_push}
 use Rattle.std.proofs.lemmas.Option.{none-some, same_Some, slice_get-get_or, slice_get_past}
 use Rattle.pt_base.specs.declared.int_type.IntType.{IntType}
+use Rattle.pt_base.proofs.Booleans.{both_hold, both_hold_first, both_hold_second}
+use Rattle.pt_base.proofs.Lists.{length_pushed}
+use Rattle.pt_base.proofs.Places.{get_before, get_pushed_at}
 use Rattle.pt_tree.specs.declared.signature.Elem.TheVariants as e
 use Rattle.typed_tree.specs.declared.types.VarTy.{VarTy}
 use Rattle.typed_tree.specs.declared.types.VarTy.TheVariants.{Int, Struct, Array, Pointer}
@@ -14,8 +17,7 @@ use Rattle.typed_tree.specs.declared.types.StructInfo.{StructInfo}
 use Rattle.typed_tree.specs.Cells.{repeated, object_leaves, struct_leaves, leaves_from, leaves_of}
 use Rattle.typed_tree.specs.Sizes.{fields_of}
 use Rattle.typed_tree.specs.WellFormed.{is_plain_type, structs_sound}
-use Rattle.typed_tree.proofs.WellFormedLemmas.{and_left, and_right, and_both}
-use Rattle.typed_tree.proofs.LeavesLemmas.{get_before, longer, leaves_of_struct}
+use Rattle.typed_tree.proofs.LeavesLemmas.{leaves_of_struct}
 use Rattle.boot_rules.specs.declared.shape.Shape.{Shape}
 use Rattle.boot_rules.specs.Ranks.{rank}
 use Rattle.boot_rules.specs.Shapes.{no_shape, shape_at, only_of, whole, whole_struct, shape_of, shapes_from}
@@ -29,9 +31,9 @@ plain_more k n (Int t) le h = refl
 plain_more k n (Struct m) le h = grind (arith, nat_tests)
 plain_more k n (Array (e.Int t) count) le h = h
 plain_more k n (Array (e.Struct m) count) le h =
-    let below = and_left (nat_lt m k) (nat_le 1 count) h in
+    let below = both_hold_first (nat_lt m k) (nat_le 1 count) h in
     let more : IsTrue (nat_lt m n) = grind (arith, nat_tests, below) in
-    and_both (nat_lt m n) (nat_le 1 count) more (and_right (nat_lt m k) (nat_le 1 count) h)
+    both_hold (nat_lt m n) (nat_le 1 count) more (both_hold_second (nat_lt m k) (nat_le 1 count) h)
 plain_more k n (Pointer elem fixed) le h = h
 
 plain_below : (n : ℕ) (ty : VarTy) → IsTrue (is_plain_type n ty) → rank ty < 4 * n + 3
@@ -39,7 +41,7 @@ plain_below n (Int t) h = omega arith
 plain_below n (Struct m) h = let lt : m < n = grind (arith, nat_tests) in omega (arith, lt)
 plain_below n (Array (e.Int t) count) h = omega arith
 plain_below n (Array (e.Struct m) count) h =
-    let below = and_left (nat_lt m n) (nat_le 1 count) h in
+    let below = both_hold_first (nat_lt m n) (nat_le 1 count) h in
     let lt : m < n = grind (arith, nat_tests, below) in
     omega (arith, lt)
 plain_below n (Pointer elem fixed) h = omega arith
@@ -52,7 +54,7 @@ same_before known more k (Struct m) le h =
     ap (λ o. unwrap_or o []) (get_before known more m (omega (arith, lt, le)))
 same_before known more k (Array (e.Int t) count) le h = refl
 same_before known more k (Array (e.Struct m) count) le h =
-    let below = and_left (nat_lt m k) (nat_le 1 count) h in
+    let below = both_hold_first (nat_lt m k) (nat_le 1 count) h in
     let lt : m < k = grind (arith, nat_tests, below) in
     ap (λ o. repeated count (unwrap_or o [])) (get_before known more m (omega (arith, lt, le)))
 same_before known more k (Pointer elem fixed) le h = refl
@@ -87,7 +89,7 @@ same_whole known shapes (Array (e.Struct m) count) h plain = go (nat_eq count 1)
   where
     go : (b : Bool) → nat_eq count 1 ≡ b → IsSame known (Array (e.Struct m) count) (if b then whole_struct shapes m else Array (e.Struct m) count)
     go true one =
-        let below = and_left (nat_lt m (length known)) (nat_le 1 count) plain in
+        let below = both_hold_first (nat_lt m (length known)) (nat_le 1 count) plain in
         let s = same_struct known shapes m h (grind (arith, nat_tests, below)) in
         let is : 1 ≡ count = grind (arith, nat_tests, one) in
         record {
@@ -102,17 +104,11 @@ only_whole : (known : List (List IntType)) (shapes : List Shape) (fields : List 
     (object_leaves known ty ≡ flat_map (λ f. object_leaves known f.ty) fields) × IsTrue (is_plain_type (length known) ty)
 only_whole known shapes [] ty h earlier is = absurd (none-some ty is)
 only_whole known shapes (f ∷ []) ty h earlier is =
-    let here = and_left (is_plain_type (length known) f.ty) true earlier in
+    let here = both_hold_first (is_plain_type (length known) f.ty) true earlier in
     let s = same_whole known shapes f.ty h here in
     let one : whole shapes f.ty ≡ ty = same_Some (whole shapes f.ty) ty is in
     (ap (object_leaves known) (sym one) ∙ s.same ∙ sym (append-nil (object_leaves known f.ty)), subst (λ t. IsTrue (is_plain_type (length known) t)) one s.plain)
 only_whole known shapes (f ∷ (g ∷ rest)) ty h earlier is = absurd (none-some ty is)
-
-last_at : {X : Type 0} (xs : List X) (y : X) (n : ℕ) → n ≡ length xs → slice_get (xs ++ y ∷ []) n ≡ Some y
-last_at [] y zero is = refl
-last_at [] y (suc n) is = grind (arith, is)
-last_at (x ∷ xs) y zero is = grind (arith, is)
-last_at (x ∷ xs) y (suc n) is = last_at xs y n (omega (arith, is))
 
 -- one more struct
 one_more : (known : List (List IntType)) (shapes : List Shape) (s : StructInfo) → length shapes ≡ length known → AreWhole known shapes → IsTrue (name_earlier (length known) s.fields) →
@@ -133,12 +129,12 @@ one_more known shapes s long h earlier n ty is = found (nat_lt n (length known))
         let new : only_of shapes s.fields ≡ Some ty = ap (λ (x : Shape). x.only) (sym (get_or_push shapes (shape_of shapes s.fields) no_shape n (omega (arith, eq, long)))) ∙ is in
         let w = only_whole known shapes s.fields ty h earlier new in
         record {
-          same = same_before known (struct_leaves known s ∷ []) (length known) ty (omega arith) w.1 ∙ w.0 ∙ ap (λ o. unwrap_or o []) (sym (last_at known (struct_leaves known s) n eq));
+          same = same_before known (struct_leaves known s ∷ []) (length known) ty (omega arith) w.1 ∙ w.0 ∙ ap (λ o. unwrap_or o []) (sym (get_pushed_at known (struct_leaves known s) n eq));
           plain = subst (λ k. IsTrue (is_plain_type k ty)) (sym eq) w.1;
         }
     found false behind false other =
         let gt : length known < n = grind (arith, nat_tests, behind, other) in
-        let more = longer shapes (shape_of shapes s.fields) in
+        let more = length_pushed shapes (shape_of shapes s.fields) in
         let none : (shape_at (shapes ++ shape_of shapes s.fields ∷ []) n).only ≡ None = ap (λ (x : Shape). x.only) (get_or_past (shapes ++ shape_of shapes s.fields ∷ []) n no_shape (omega (arith, gt, more, long))) in
         absurd (none-some ty (sym none ∙ is))
 
@@ -146,11 +142,11 @@ all_whole : (known : List (List IntType)) (shapes : List Shape) (structs : List 
     AreWhole (leaves_from known structs) (shapes_from shapes structs)
 all_whole known shapes [] k at long h earlier = h
 all_whole known shapes (s ∷ structs) k at long h earlier =
-    let here : IsTrue (name_earlier (length known) s.fields) = subst (λ n. IsTrue (name_earlier n s.fields)) at (and_left (name_earlier k s.fields) (all_name_earlier (suc k) structs) earlier) in
-    let more = longer known (struct_leaves known s) in
-    let further = longer shapes (shape_of shapes s.fields) in
+    let here : IsTrue (name_earlier (length known) s.fields) = subst (λ n. IsTrue (name_earlier n s.fields)) at (both_hold_first (name_earlier k s.fields) (all_name_earlier (suc k) structs) earlier) in
+    let more = length_pushed known (struct_leaves known s) in
+    let further = length_pushed shapes (shape_of shapes s.fields) in
     all_whole (known ++ struct_leaves known s ∷ []) (shapes ++ shape_of shapes s.fields ∷ []) structs (suc k) (omega (arith, at, more)) (omega (arith, long, more, further))
-    (one_more known shapes s long h here) (and_right (name_earlier k s.fields) (all_name_earlier (suc k) structs) earlier)
+    (one_more known shapes s long h here) (both_hold_second (name_earlier k s.fields) (all_name_earlier (suc k) structs) earlier)
 
 none_whole : AreWhole [] []
 none_whole n ty is = absurd (none-some ty is)
@@ -169,16 +165,16 @@ only_below structs n ty h is =
 -- each field of a struct stands below it
 field_plain : (n : ℕ) (fields : List Field) (i : ℕ) (d : Field) → IsTrue (list_all (λ f. is_plain_type n f.ty) fields) → i < length fields → IsTrue (is_plain_type n (get_or fields i d).ty)
 field_plain n [] i d h within = absurd (omega arith)
-field_plain n (f ∷ fields) zero d h within = and_left (is_plain_type n f.ty) (list_all (λ x. is_plain_type n x.ty) fields) h
-field_plain n (f ∷ fields) (suc i) d h within = field_plain n fields i d (and_right (is_plain_type n f.ty) (list_all (λ x. is_plain_type n x.ty) fields) h) (omega arith)
+field_plain n (f ∷ fields) zero d h within = both_hold_first (is_plain_type n f.ty) (list_all (λ x. is_plain_type n x.ty) fields) h
+field_plain n (f ∷ fields) (suc i) d h within = field_plain n fields i d (both_hold_second (is_plain_type n f.ty) (list_all (λ x. is_plain_type n x.ty) fields) h) (omega arith)
 
 struct_plain : (k : ℕ) (structs : List StructInfo) (m n : ℕ) → n ≡ k + m → IsTrue (all_name_earlier k structs) → IsTrue (list_all (λ f. is_plain_type n f.ty) (fields_of structs m))
 struct_plain k [] m n at h = refl
 struct_plain k (s ∷ structs) zero n at h =
-    let here = and_right (nat_le 1 (length s.fields)) (list_all (λ (f : Field). is_plain_type k f.ty) s.fields) (and_left (name_earlier k s.fields) (all_name_earlier (suc k) structs) h) in
+    let here = both_hold_second (nat_le 1 (length s.fields)) (list_all (λ (f : Field). is_plain_type k f.ty) s.fields) (both_hold_first (name_earlier k s.fields) (all_name_earlier (suc k) structs) h) in
     let same : k ≡ n = omega (arith, at) in
     subst (λ j. IsTrue (list_all (λ (f : Field). is_plain_type j f.ty) s.fields)) same here
-struct_plain k (s ∷ structs) (suc m) n at h = struct_plain (suc k) structs m n (omega (arith, at)) (and_right (name_earlier k s.fields) (all_name_earlier (suc k) structs) h)
+struct_plain k (s ∷ structs) (suc m) n at h = struct_plain (suc k) structs m n (omega (arith, at)) (both_hold_second (name_earlier k s.fields) (all_name_earlier (suc k) structs) h)
 
 pub field_below : (structs : List StructInfo) (n i : ℕ) (d : Field) → IsTrue (all_name_earlier 0 structs) → i < length (fields_of structs n) → rank (get_or (fields_of structs n) i d).ty < 4 * n + 3
 field_below structs n i d h within = plain_below n (get_or (fields_of structs n) i d).ty (field_plain n (fields_of structs n) i d (struct_plain 0 structs n n (omega arith) h) within)
@@ -189,7 +185,7 @@ leaves_long : (known : List (List IntType)) (structs : List StructInfo) → leng
 leaves_long known [] = omega arith
 leaves_long known (s ∷ structs) =
     let rest = leaves_long (known ++ struct_leaves known s ∷ []) structs in
-    let more = longer known (struct_leaves known s) in
+    let more = length_pushed known (struct_leaves known s) in
     omega (arith, rest, more)
 
 no_leaves : (structs : List StructInfo) (n : ℕ) → length structs ≤ n → leaves_of structs (Struct n) ≡ []

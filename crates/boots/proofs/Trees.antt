@@ -2,6 +2,7 @@
 use Rattle.std.proofs.Common.{◌≡◌, ℕ, zero, suc, ◌^◌, ◌<◌, List, [], ◌∷◌, ◌++◌, length, inl, inr, refl, sym, ap, subst, ◌∙◌}
 use Rattle.std.specs.Prelude.{Ok}
 use Rattle.std.specs.List.{flat_map, AllByRecursion}
+use Rattle.boot_writing.proofs.TreeLists.{exprs_listed}
 use Rattle.pt_base.specs.declared.span.Span.{Span}
 use Rattle.wire.specs.Spelling.{four_bytes, eight_bytes}
 use Rattle.wire.proofs.Bytes.{AreBytes}
@@ -165,17 +166,13 @@ expr_part (suc d) = record { takes = node_takes (ShortExpr d) (expr_at d) (expr_
 
 -- ---- lists of expressions
 
-exprs_there : (xs : List ExprTree) → exprs_of (expr_trees xs) ≡ xs
-exprs_there [] = refl
-exprs_there (x ∷ xs) = ap (λ rest. x ∷ rest) (exprs_there xs)
-
 exprs_back : (xs : ExprTrees) → expr_trees (exprs_of xs) ≡ xs
 exprs_back no_exprs = refl
 exprs_back (expr_and a rest) = ap (expr_and a) (exprs_back rest)
 
 exprs_part : (Short : ExprTree → Type 0) (expr : List ℕ → Reading ExprTree) → ExprPart Short expr → IsPart FitsExprs (ShortExprs Short) exprs_bytes (exprs_at expr)
 unfolding exprs_at
-exprs_part Short expr p = mapped_part expr_trees exprs_of exprs_there exprs_back (list_part p)
+exprs_part Short expr p = mapped_part expr_trees exprs_of exprs_listed exprs_back (list_part p)
 
 -- ---- lists of statements
 

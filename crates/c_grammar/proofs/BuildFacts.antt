@@ -2,6 +2,7 @@
 -- their constants in range and their words short.
 use Rattle.std.proofs.Common.{ℕ, ◌+◌, ◌≤◌, List, [], ◌∷◌, Option, true, ◌&&◌, refl, ◌∙◌, arith, length-append}
 use Rattle.pt_base.specs.declared.span.Span.{Span}
+use Rattle.pt_base.proofs.Booleans.{both_hold}
 use Rattle.pt_tree.specs.declared.operator.BinaryOp.{BinaryOp}
 use Rattle.pt_tree.specs.declared.operator.PrefixOp.{PrefixOp}
 use Rattle.pt_tree.specs.declared.specifier.SpecWord.{SpecWord}
@@ -11,7 +12,7 @@ use Rattle.pt_tree.specs.StatementTree.{stmt_trees, section_trees}
 use Rattle.pt_tree.specs.Facts.{word_sound, name_sound, suffix_sound, declarator_sound, declarators_sound, spec_sound, specs_sound, field_sound, fields_sound, expr_sound, option_sound, init_sound, inits_sound, label_sound, for_init_sound, stmt_sound, else_sound, stmts_sound, sections_sound, params_sound, body_sound}
 use Rattle.c_grammar.specs.Part.{Part, word, number, absent, names, spec, specs, fields, field, pointer, suffix, declarator, declarators, init, init_declarators, a_rest, declaration, name, param, params, body, block, item, items, stmt, stmts, otherwise, for_init, label, section, sections, expr, exprs, maybe_expr, assign_op, assignment, arms, prefix_op, links, postfixes, cast_of, group_of}
 use Rattle.c_grammar.specs.Builds.{add_item, an_item, no_declarators, function_rest, first_init, add_init, no_body, some_body, first_spec, add_spec, keyword, first_name, add_name, an_attribute, a_struct, first_field, no_fields, add_field, first_declarator, add_declarator, a_field, a_declarator, star, no_star, no_suffix, a_size, no_size, no_value, single_value, brace_list, first_expr, add_expr, no_exprs, first_param, no_params, add_param, a_param, some_name, no_name, no_statements, a_block, add_statement, declared, a_declaration, block_statement, nothing, evaluated, chosen, some_else, no_else, while_statement, do_statement, for_statement, for_declaration, for_nothing, for_expression, returned, broken, continued, switch_statement, no_sections, add_section, a_section, a_case, a_default, some_expr, no_expr, assigned, some_assignment, no_assignment, conditional, some_arms, no_arms, in_parentheses, prefixed, stepped, with_postfixes, no_postfixes, a_cast, grouped, add_index, add_call, add_dot, add_arrow, add_increment, add_decrement, a_name, a_constant, assigning, operator, no_links, add_link, chain_of}
-use Rattle.c_grammar.proofs.PartFacts.{parts_nodes, Sound, both, words_join, specs_add, specs_join, fields_add, fields_join, exprs_add, exprs_join, links_add, links_join, postfixes_add, postfixes_join, stmts_add, stmts_join, sections_add, sections_join, declarators_add, declarators_join, inits_add, inits_join, params_add, params_join, items_add, items_join, listed, postfixed_nodes, postfixed_sound, chained_nodes, chained_sound, node_over_one}
+use Rattle.c_grammar.proofs.PartFacts.{parts_nodes, Sound, words_join, specs_add, specs_join, fields_add, fields_join, exprs_add, exprs_join, links_add, links_join, postfixes_add, postfixes_join, stmts_add, stmts_join, sections_add, sections_join, declarators_add, declarators_join, inits_add, inits_join, params_add, params_join, items_add, items_join, listed, postfixed_nodes, postfixed_sound, chained_nodes, chained_sound, node_over_one}
 
 -- at most n nodes are new, the constants stay in range, and the words stay short
 pub record Good (n : ℕ) (before after : List Part) : Type 0 where
@@ -29,8 +30,8 @@ add_item_builds at (item i ∷ items is ∷ ts) = record { nodes = omega (arith,
 add_item_builds at ts = kept 0 ts
 
 pub an_item_builds : Builds 1 an_item
-an_item_builds at (init_declarators ds ∷ specs ss ∷ ts) = record { nodes = omega arith; sound = λ h. (both (specs_sound (spec_trees ss)) (inits_sound ds) h.1.0 h.0, h.1.1) }
-an_item_builds at (a_rest d ps b ∷ specs ss ∷ ts) = record { nodes = omega arith; sound = λ h. (both (specs_sound (spec_trees ss) && declarator_sound d) (params_sound ps && body_sound b) (both (specs_sound (spec_trees ss)) (declarator_sound d) h.1.0 h.0.0) (both (params_sound ps) (body_sound b) h.0.1 h.0.2), h.1.1) }
+an_item_builds at (init_declarators ds ∷ specs ss ∷ ts) = record { nodes = omega arith; sound = λ h. (both_hold (specs_sound (spec_trees ss)) (inits_sound ds) h.1.0 h.0, h.1.1) }
+an_item_builds at (a_rest d ps b ∷ specs ss ∷ ts) = record { nodes = omega arith; sound = λ h. (both_hold (specs_sound (spec_trees ss) && declarator_sound d) (params_sound ps && body_sound b) (both_hold (specs_sound (spec_trees ss)) (declarator_sound d) h.1.0 h.0.0) (both_hold (params_sound ps) (body_sound b) h.0.1 h.0.2), h.1.1) }
 an_item_builds at ts = kept 1 ts
 
 pub no_declarators_builds : Builds 0 no_declarators
@@ -41,11 +42,11 @@ function_rest_builds at (body b ∷ params ps ∷ declarator d ∷ ts) = record 
 function_rest_builds at ts = kept 0 ts
 
 pub first_init_builds : Builds 0 first_init
-first_init_builds at (init i ∷ declarator d ∷ ts) = record { nodes = omega arith; sound = λ h. (both (declarator_sound d && init_sound i) (true) (both (declarator_sound d) (init_sound i) h.1.0 h.0) refl, h.1.1) }
+first_init_builds at (init i ∷ declarator d ∷ ts) = record { nodes = omega arith; sound = λ h. (both_hold (declarator_sound d && init_sound i) (true) (both_hold (declarator_sound d) (init_sound i) h.1.0 h.0) refl, h.1.1) }
 first_init_builds at ts = kept 0 ts
 
 pub add_init_builds : Builds 0 add_init
-add_init_builds at (init i ∷ declarator d ∷ init_declarators ds ∷ ts) = record { nodes = omega (arith, inits_add ds (record { declarator = d; init = i })); sound = λ h. (inits_join ds (record { declarator = d; init = i }) h.1.1.0 (both (declarator_sound d) (init_sound i) h.1.0 h.0), h.1.1.1) }
+add_init_builds at (init i ∷ declarator d ∷ init_declarators ds ∷ ts) = record { nodes = omega (arith, inits_add ds (record { declarator = d; init = i })); sound = λ h. (inits_join ds (record { declarator = d; init = i }) h.1.1.0 (both_hold (declarator_sound d) (init_sound i) h.1.0 h.0), h.1.1.1) }
 add_init_builds at ts = kept 0 ts
 
 pub no_body_builds : Builds 0 no_body
@@ -56,7 +57,7 @@ some_body_builds at (block b ∷ ts) = record { nodes = omega arith; sound = λ 
 some_body_builds at ts = kept 0 ts
 
 pub first_spec_builds : Builds 0 first_spec
-first_spec_builds at (spec s ∷ ts) = record { nodes = omega arith; sound = λ h. (both (spec_sound s) (true) h.0 refl, h.1) }
+first_spec_builds at (spec s ∷ ts) = record { nodes = omega arith; sound = λ h. (both_hold (spec_sound s) (true) h.0 refl, h.1) }
 first_spec_builds at ts = kept 0 ts
 
 pub add_spec_builds : Builds 0 add_spec
@@ -67,7 +68,7 @@ pub keyword_builds : (w : SpecWord) → Builds 1 (keyword w)
 keyword_builds w at ts = record { nodes = omega arith; sound = λ h. (refl, h) }
 
 pub first_name_builds : Builds 0 first_name
-first_name_builds at (word n ∷ ts) = record { nodes = omega arith; sound = λ h. (both (word_sound n) (true) h.0 refl, h.1) }
+first_name_builds at (word n ∷ ts) = record { nodes = omega arith; sound = λ h. (both_hold (word_sound n) (true) h.0 refl, h.1) }
 first_name_builds at ts = kept 0 ts
 
 pub add_name_builds : Builds 0 add_name
@@ -79,11 +80,11 @@ an_attribute_builds at (names ns ∷ ts) = record { nodes = omega arith; sound =
 an_attribute_builds at ts = kept 1 ts
 
 pub a_struct_builds : Builds 1 a_struct
-a_struct_builds at (fields fs ∷ word n ∷ ts) = record { nodes = omega arith; sound = λ h. (both (word_sound n) (fields_sound (field_trees fs)) h.1.0 h.0, h.1.1) }
+a_struct_builds at (fields fs ∷ word n ∷ ts) = record { nodes = omega arith; sound = λ h. (both_hold (word_sound n) (fields_sound (field_trees fs)) h.1.0 h.0, h.1.1) }
 a_struct_builds at ts = kept 1 ts
 
 pub first_field_builds : Builds 0 first_field
-first_field_builds at (field f ∷ ts) = record { nodes = omega arith; sound = λ h. (both (field_sound f) (true) h.0 refl, h.1) }
+first_field_builds at (field f ∷ ts) = record { nodes = omega arith; sound = λ h. (both_hold (field_sound f) (true) h.0 refl, h.1) }
 first_field_builds at ts = kept 0 ts
 
 pub no_fields_builds : Builds 0 no_fields
@@ -94,7 +95,7 @@ add_field_builds at (field f ∷ fields fs ∷ ts) = record { nodes = omega (ari
 add_field_builds at ts = kept 0 ts
 
 pub first_declarator_builds : Builds 0 first_declarator
-first_declarator_builds at (declarator d ∷ ts) = record { nodes = omega arith; sound = λ h. (both (declarator_sound d) (true) h.0 refl, h.1) }
+first_declarator_builds at (declarator d ∷ ts) = record { nodes = omega arith; sound = λ h. (both_hold (declarator_sound d) (true) h.0 refl, h.1) }
 first_declarator_builds at ts = kept 0 ts
 
 pub add_declarator_builds : Builds 0 add_declarator
@@ -102,11 +103,11 @@ add_declarator_builds at (declarator d ∷ declarators ds ∷ ts) = record { nod
 add_declarator_builds at ts = kept 0 ts
 
 pub a_field_builds : Builds 1 a_field
-a_field_builds at (declarators ds ∷ specs ss ∷ ts) = record { nodes = omega arith; sound = λ h. (both (specs_sound (spec_trees ss)) (declarators_sound ds) h.1.0 h.0, h.1.1) }
+a_field_builds at (declarators ds ∷ specs ss ∷ ts) = record { nodes = omega arith; sound = λ h. (both_hold (specs_sound (spec_trees ss)) (declarators_sound ds) h.1.0 h.0, h.1.1) }
 a_field_builds at ts = kept 1 ts
 
 pub a_declarator_builds : Builds 1 a_declarator
-a_declarator_builds at (suffix x ∷ word n ∷ pointer p ∷ ts) = record { nodes = omega arith; sound = λ h. (both (word_sound n) (suffix_sound x) h.1.0 h.0, h.1.1.1) }
+a_declarator_builds at (suffix x ∷ word n ∷ pointer p ∷ ts) = record { nodes = omega arith; sound = λ h. (both_hold (word_sound n) (suffix_sound x) h.1.0 h.0, h.1.1.1) }
 a_declarator_builds at ts = kept 1 ts
 
 pub star_builds : Builds 0 star
@@ -137,7 +138,7 @@ brace_list_builds at (exprs es ∷ ts) = record { nodes = omega arith; sound = �
 brace_list_builds at ts = kept 1 ts
 
 pub first_expr_builds : Builds 0 first_expr
-first_expr_builds at (expr e ∷ ts) = record { nodes = omega arith; sound = λ h. (both (expr_sound e) (true) h.0 refl, h.1) }
+first_expr_builds at (expr e ∷ ts) = record { nodes = omega arith; sound = λ h. (both_hold (expr_sound e) (true) h.0 refl, h.1) }
 first_expr_builds at ts = kept 0 ts
 
 pub add_expr_builds : Builds 0 add_expr
@@ -148,7 +149,7 @@ pub no_exprs_builds : Builds 0 no_exprs
 no_exprs_builds at ts = record { nodes = omega arith; sound = λ h. (refl, h) }
 
 pub first_param_builds : Builds 0 first_param
-first_param_builds at (param p ∷ ts) = record { nodes = omega arith; sound = λ h. (both (specs_sound p.specs && (name_sound p.name && suffix_sound p.suffix)) (true) h.0 refl, h.1) }
+first_param_builds at (param p ∷ ts) = record { nodes = omega arith; sound = λ h. (both_hold (specs_sound p.specs && (name_sound p.name && suffix_sound p.suffix)) (true) h.0 refl, h.1) }
 first_param_builds at ts = kept 0 ts
 
 pub no_params_builds : Builds 0 no_params
@@ -159,7 +160,7 @@ add_param_builds at (param p ∷ params ps ∷ ts) = record { nodes = omega (ari
 add_param_builds at ts = kept 0 ts
 
 pub a_param_builds : Builds 1 a_param
-a_param_builds at (suffix x ∷ name n ∷ pointer p ∷ specs ss ∷ ts) = record { nodes = omega arith; sound = λ h. (both (specs_sound (spec_trees ss)) (name_sound n && suffix_sound x) h.1.1.1.0 (both (name_sound n) (suffix_sound x) h.1.0 h.0), h.1.1.1.1) }
+a_param_builds at (suffix x ∷ name n ∷ pointer p ∷ specs ss ∷ ts) = record { nodes = omega arith; sound = λ h. (both_hold (specs_sound (spec_trees ss)) (name_sound n && suffix_sound x) h.1.1.1.0 (both_hold (name_sound n) (suffix_sound x) h.1.0 h.0), h.1.1.1.1) }
 a_param_builds at ts = kept 1 ts
 
 pub some_name_builds : Builds 0 some_name
@@ -185,7 +186,7 @@ declared_builds at (declaration d ∷ ts) = record { nodes = omega arith; sound 
 declared_builds at ts = kept 0 ts
 
 pub a_declaration_builds : Builds 1 a_declaration
-a_declaration_builds at (init_declarators ds ∷ specs ss ∷ ts) = record { nodes = omega arith; sound = λ h. (both (specs_sound (spec_trees ss)) (inits_sound ds) h.1.0 h.0, h.1.1) }
+a_declaration_builds at (init_declarators ds ∷ specs ss ∷ ts) = record { nodes = omega arith; sound = λ h. (both_hold (specs_sound (spec_trees ss)) (inits_sound ds) h.1.0 h.0, h.1.1) }
 a_declaration_builds at ts = kept 1 ts
 
 pub block_statement_builds : Builds 0 block_statement
@@ -200,7 +201,7 @@ evaluated_builds at (expr e ∷ ts) = record { nodes = omega arith; sound = λ h
 evaluated_builds at ts = kept 1 ts
 
 pub chosen_builds : Builds 1 chosen
-chosen_builds at (otherwise o ∷ stmt s ∷ expr e ∷ ts) = record { nodes = omega arith; sound = λ h. (both (expr_sound e) (stmt_sound s && else_sound o) h.1.1.0 (both (stmt_sound s) (else_sound o) h.1.0 h.0), h.1.1.1) }
+chosen_builds at (otherwise o ∷ stmt s ∷ expr e ∷ ts) = record { nodes = omega arith; sound = λ h. (both_hold (expr_sound e) (stmt_sound s && else_sound o) h.1.1.0 (both_hold (stmt_sound s) (else_sound o) h.1.0 h.0), h.1.1.1) }
 chosen_builds at ts = kept 1 ts
 
 pub some_else_builds : Builds 0 some_else
@@ -211,15 +212,15 @@ pub no_else_builds : Builds 0 no_else
 no_else_builds at ts = record { nodes = omega arith; sound = λ h. (refl, h) }
 
 pub while_statement_builds : Builds 1 while_statement
-while_statement_builds at (stmt s ∷ expr e ∷ ts) = record { nodes = omega arith; sound = λ h. (both (expr_sound e) (stmt_sound s) h.1.0 h.0, h.1.1) }
+while_statement_builds at (stmt s ∷ expr e ∷ ts) = record { nodes = omega arith; sound = λ h. (both_hold (expr_sound e) (stmt_sound s) h.1.0 h.0, h.1.1) }
 while_statement_builds at ts = kept 1 ts
 
 pub do_statement_builds : Builds 1 do_statement
-do_statement_builds at (expr e ∷ stmt s ∷ ts) = record { nodes = omega arith; sound = λ h. (both (stmt_sound s) (expr_sound e) h.1.0 h.0, h.1.1) }
+do_statement_builds at (expr e ∷ stmt s ∷ ts) = record { nodes = omega arith; sound = λ h. (both_hold (stmt_sound s) (expr_sound e) h.1.0 h.0, h.1.1) }
 do_statement_builds at ts = kept 1 ts
 
 pub for_statement_builds : Builds 1 for_statement
-for_statement_builds at (stmt s ∷ maybe_expr c ∷ maybe_expr b ∷ for_init a ∷ ts) = record { nodes = omega arith; sound = λ h. (both (for_init_sound a) (option_sound b && (option_sound c && stmt_sound s)) h.1.1.1.0 (both (option_sound b) (option_sound c && stmt_sound s) h.1.1.0 (both (option_sound c) (stmt_sound s) h.1.0 h.0)), h.1.1.1.1) }
+for_statement_builds at (stmt s ∷ maybe_expr c ∷ maybe_expr b ∷ for_init a ∷ ts) = record { nodes = omega arith; sound = λ h. (both_hold (for_init_sound a) (option_sound b && (option_sound c && stmt_sound s)) h.1.1.1.0 (both_hold (option_sound b) (option_sound c && stmt_sound s) h.1.1.0 (both_hold (option_sound c) (stmt_sound s) h.1.0 h.0)), h.1.1.1.1) }
 for_statement_builds at ts = kept 1 ts
 
 pub for_declaration_builds : Builds 0 for_declaration
@@ -244,7 +245,7 @@ pub continued_builds : Builds 1 continued
 continued_builds at ts = record { nodes = omega arith; sound = λ h. (refl, h) }
 
 pub switch_statement_builds : Builds 1 switch_statement
-switch_statement_builds at (sections ss ∷ expr e ∷ ts) = record { nodes = omega arith; sound = λ h. (both (expr_sound e) (sections_sound (section_trees ss)) h.1.0 h.0, h.1.1) }
+switch_statement_builds at (sections ss ∷ expr e ∷ ts) = record { nodes = omega arith; sound = λ h. (both_hold (expr_sound e) (sections_sound (section_trees ss)) h.1.0 h.0, h.1.1) }
 switch_statement_builds at ts = kept 1 ts
 
 pub no_sections_builds : Builds 0 no_sections
@@ -255,7 +256,7 @@ add_section_builds at (section s ∷ sections ss ∷ ts) = record { nodes = omeg
 add_section_builds at ts = kept 0 ts
 
 pub a_section_builds : Builds 1 a_section
-a_section_builds at (stmts ss ∷ label l ∷ ts) = record { nodes = omega arith; sound = λ h. (both (label_sound l) (stmts_sound (stmt_trees ss)) h.1.0 (listed ss ∙ h.0), h.1.1) }
+a_section_builds at (stmts ss ∷ label l ∷ ts) = record { nodes = omega arith; sound = λ h. (both_hold (label_sound l) (stmts_sound (stmt_trees ss)) h.1.0 (listed ss ∙ h.0), h.1.1) }
 a_section_builds at ts = kept 1 ts
 
 pub a_case_builds : Builds 1 a_case
@@ -274,7 +275,7 @@ no_expr_builds at ts = record { nodes = omega arith; sound = λ h. (refl, h) }
 
 pub assigned_builds : Builds 0 assigned
 assigned_builds at (absent ∷ expr e ∷ ts) = record { nodes = omega arith; sound = λ h. (h.1.0, h.1.1) }
-assigned_builds at (assignment op v ∷ expr e ∷ ts) = record { nodes = omega arith; sound = λ h. (both (expr_sound e) (expr_sound v) h.1.0 h.0, h.1.1) }
+assigned_builds at (assignment op v ∷ expr e ∷ ts) = record { nodes = omega arith; sound = λ h. (both_hold (expr_sound e) (expr_sound v) h.1.0 h.0, h.1.1) }
 assigned_builds at ts = kept 0 ts
 
 pub some_assignment_builds : Builds 0 some_assignment
@@ -286,7 +287,7 @@ no_assignment_builds at ts = record { nodes = omega arith; sound = λ h. (tt, h)
 
 pub conditional_builds : Builds 0 conditional
 conditional_builds at (absent ∷ expr e ∷ ts) = record { nodes = omega arith; sound = λ h. (h.1.0, h.1.1) }
-conditional_builds at (arms a b ∷ expr e ∷ ts) = record { nodes = omega arith; sound = λ h. (both (expr_sound e) (expr_sound a && expr_sound b) h.1.0 (both (expr_sound a) (expr_sound b) h.0.0 h.0.1), h.1.1) }
+conditional_builds at (arms a b ∷ expr e ∷ ts) = record { nodes = omega arith; sound = λ h. (both_hold (expr_sound e) (expr_sound a && expr_sound b) h.1.0 (both_hold (expr_sound a) (expr_sound b) h.0.0 h.0.1), h.1.1) }
 conditional_builds at ts = kept 0 ts
 
 pub some_arms_builds : Builds 1 some_arms
@@ -297,7 +298,7 @@ pub no_arms_builds : Builds 0 no_arms
 no_arms_builds at ts = record { nodes = omega arith; sound = λ h. (tt, h) }
 
 pub in_parentheses_builds : Builds 0 in_parentheses
-in_parentheses_builds at (cast_of ss p e ∷ ts) = record { nodes = omega arith; sound = λ h. (both (specs_sound (spec_trees ss)) (expr_sound e) h.0.0 h.0.1, h.1) }
+in_parentheses_builds at (cast_of ss p e ∷ ts) = record { nodes = omega arith; sound = λ h. (both_hold (specs_sound (spec_trees ss)) (expr_sound e) h.0.0 h.0.1, h.1) }
 in_parentheses_builds at (group_of e ps ∷ ts) = record { nodes = omega (arith, postfixed_nodes at e ps); sound = λ h. (postfixed_sound at e ps h.0.0 h.0.1, h.1) }
 in_parentheses_builds at ts = kept 0 ts
 

@@ -1,8 +1,9 @@
 -- How many nodes the parts of the derivation have, and that their constants are in range and their
 -- words short.
-use Rattle.std.proofs.Common.{◌≡◌, ℕ, ◌+◌, List, [], ◌∷◌, ◌++◌, Bool, true, false, ◌&&◌, length, refl, sym, ◌∙◌, arith}
+use Rattle.std.proofs.Common.{◌≡◌, ℕ, ◌+◌, List, [], ◌∷◌, ◌++◌, Bool, ◌&&◌, length, refl, sym, ◌∙◌, arith}
 use Rattle.std.specs.Prelude.{IsTrue}
 use Rattle.pt_base.specs.declared.span.Span.{Span}
+use Rattle.pt_base.proofs.Booleans.{both_hold, both_hold_first, both_hold_second}
 use Rattle.pt_tree.specs.declared.word.Word.{Word}
 use Rattle.pt_tree.specs.declared.specifier.Declarator.{Declarator}
 use Rattle.pt_tree.specs.SpecifierTree.{SpecTree, FieldTree, spec_trees, field_trees}
@@ -123,29 +124,16 @@ pub sound_append : (xs ts : List Part) → Sound xs → Sound ts → Sound (xs +
 sound_append [] ts a b = b
 sound_append (p ∷ xs) ts a b = (a.0, sound_append xs ts a.1 b)
 
--- both tests pass
-pub both : (a b : Bool) → IsTrue a → IsTrue b → IsTrue (a && b)
-both true b h k = k
-both false b h k = cc
-
-pub left : (a b : Bool) → IsTrue (a && b) → IsTrue a
-left true b h = refl
-left false b h = cc
-
-pub right : (a b : Bool) → IsTrue (a && b) → IsTrue b
-right true b h = h
-right false b h = cc
-
 -- one more at the end of a list
 add : {A : Type 0} (f : A → ℕ) (g : List A → ℕ) → g [] ≡ 0 → ((x : A) (xs : List A) → g (x ∷ xs) ≡ f x + g xs) → (xs : List A) (x : A) → g (xs ++ x ∷ []) ≡ g xs + f x
 add f g none more [] x = let h = more x [] in omega (arith, h, none)
 add f g none more (y ∷ ys) x = let h = add f g none more ys x in let k = more y (ys ++ x ∷ []) in let l = more y ys in omega (arith, h, k, l)
 
 join : {A : Type 0} (p : A → Bool) (q : List A → Bool) → IsTrue (q []) → ((x : A) (xs : List A) → q (x ∷ xs) ≡ (p x && q xs)) → (xs : List A) (x : A) → IsTrue (q xs) → IsTrue (p x) → IsTrue (q (xs ++ x ∷ []))
-join p q none more [] x h k = more x [] ∙ both (p x) (q []) k none
+join p q none more [] x h k = more x [] ∙ both_hold (p x) (q []) k none
 join p q none more (y ∷ ys) x h k =
     let w : IsTrue (p y && q ys) = sym (more y ys) ∙ h in
-    more y (ys ++ x ∷ []) ∙ both (p y) (q (ys ++ x ∷ [])) (left (p y) (q ys) w) (join p q none more ys x (right (p y) (q ys) w) k)
+    more y (ys ++ x ∷ []) ∙ both_hold (p y) (q (ys ++ x ∷ [])) (both_hold_first (p y) (q ys) w) (join p q none more ys x (both_hold_second (p y) (q ys) w) k)
 
 pub specs_add : (ss : List SpecTree) (s : SpecTree) → specs_nodes (spec_trees (ss ++ s ∷ [])) ≡ specs_nodes (spec_trees ss) + spec_nodes s
 specs_add = add spec_nodes (λ ss. specs_nodes (spec_trees ss)) refl (λ _ _. refl)
@@ -228,7 +216,7 @@ postfixed_nodes at e (p ∷ ps) = omega arith
 
 pub postfixed_sound : (at : Span) (e : ExprTree) (ps : List PostfixTree) → IsTrue (expr_sound e) → IsTrue (postfixes_sound (postfix_trees ps)) → IsTrue (expr_sound (postfixed at e ps))
 postfixed_sound at e [] h k = h
-postfixed_sound at e (p ∷ ps) h k = both (expr_sound e) (postfixes_sound (postfix_trees (p ∷ ps))) h k
+postfixed_sound at e (p ∷ ps) h k = both_hold (expr_sound e) (postfixes_sound (postfix_trees (p ∷ ps))) h k
 
 pub chained_nodes : (at : Span) (e : ExprTree) (ls : List LinkTree) → expr_nodes (chained at e ls) ≡ expr_nodes e + (node_over ls + links_nodes (link_trees ls))
 chained_nodes at e [] = omega arith
@@ -236,7 +224,7 @@ chained_nodes at e (l ∷ ls) = omega arith
 
 pub chained_sound : (at : Span) (e : ExprTree) (ls : List LinkTree) → IsTrue (expr_sound e) → IsTrue (links_sound (link_trees ls)) → IsTrue (expr_sound (chained at e ls))
 chained_sound at e [] h k = h
-chained_sound at e (l ∷ ls) h k = both (expr_sound e) (links_sound (link_trees (l ∷ ls))) h k
+chained_sound at e (l ∷ ls) h k = both_hold (expr_sound e) (links_sound (link_trees (l ∷ ls))) h k
 
 pub node_over_one : {A : Type 0} (xs : List A) (x : A) → node_over (xs ++ x ∷ []) ≡ 1
 node_over_one [] x = refl

@@ -3,6 +3,7 @@ use Rattle.std.proofs.Common.{◌≡◌, ℕ, zero, suc, Bool, true, false, nat_
 use Rattle.std.specs.Prelude.{Some, not, ◌||◌, ◌&&◌, ◌⊎◌, is_some, IsTrue}
 use Rattle.std.specs.Option.{option_map}
 use Rattle.std.specs.Char.{is_ascii_digit}
+use Rattle.std.proofs.lemmas.Bool.{false_from_ne_true}
 use Rattle.c_lexer.specs.Bytes.{is_space, is_nondigit}
 use Rattle.c_lexer.specs.Spelling.{spelling_of, punctuators, punctuator_of}
 use Rattle.c_lexer.specs.Numbers.{is_number, begins_number, constant_of}
@@ -13,10 +14,6 @@ use Rattle.c_lexer.specs.declared.token.TokenKind.{TokenKind}
 use Rattle.c_lexer.specs.declared.token.TokenKind.TheVariants.{Number}
 use Rattle.c_lexer.specs.declared.token.TokenValue.TheVariants.{Fixed}
 use Rattle.c_lexer.proofs.Firsts.{is_mark, found_among, mark_first, quote_first, nondigit_first, number_first, begins_by, nondigit_is_no_space, nondigit_is_no_digit, mark_is_no_space, digit_is_no_space}
-
-pub not_true : (t : Bool) → (t ≡ true → ⊥) → t ≡ false
-not_true true h = absurd (h refl)
-not_true false h = refl
 
 -- what the bytes begin with, from a word at their front
 word_begins : (bs : List ℕ) (m : ℕ) → IsTrue (is_identifier (take m bs)) → is_nondigit (get_or bs 0 0) ≡ true
@@ -69,7 +66,7 @@ number_byte [] h = absurd (cc)
 number_byte (b ∷ bs) h = ⊎_elim (λ (d : is_ascii_digit b ≡ true). inl d) (λ (p : (b ≡ 46) × (is_ascii_digit (get_or bs 0 0) ≡ true)). inr p.0) (begins_by b bs h)
 
 pub number_is_no_word : (bs : List ℕ) → begins_number bs ≡ true → is_nondigit (get_or bs 0 0) ≡ false
-number_is_no_word bs h = not_true (is_nondigit (get_or bs 0 0)) (λ w. ⊎_elim
+number_is_no_word bs h = false_from_ne_true (is_nondigit (get_or bs 0 0)) (λ w. ⊎_elim
     (λ (d : is_ascii_digit (get_or bs 0 0) ≡ true). let no = nondigit_is_no_digit (get_or bs 0 0) w in cc)
     (λ (p : get_or bs 0 0 ≡ 46). let no : is_nondigit 46 ≡ true = subst (λ b. is_nondigit b ≡ true) p w in cc)
     (number_byte bs h))
@@ -86,7 +83,7 @@ pub number_is_no_space : (bs : List ℕ) → begins_number bs ≡ true → is_sp
 number_is_no_space bs h = number_fails is_space bs h digit_is_no_space refl
 
 digit_is_not : (c b : ℕ) → is_ascii_digit b ≡ true → is_ascii_digit c ≡ false → nat_eq b c ≡ false
-digit_is_not c b h other = not_true (nat_eq b c) (λ e. let same : b ≡ c = grind (arith, e) in let d : is_ascii_digit c ≡ true = subst (λ x. is_ascii_digit x ≡ true) same h in cc)
+digit_is_not c b h other = false_from_ne_true (nat_eq b c) (λ e. let same : b ≡ c = grind (arith, e) in let d : is_ascii_digit c ≡ true = subst (λ x. is_ascii_digit x ≡ true) same h in cc)
 
 pub number_is_no_quote : (bs : List ℕ) → begins_number bs ≡ true → nat_eq (get_or bs 0 0) 39 ≡ false
 number_is_no_quote bs h = number_fails (λ b. nat_eq b 39) bs h (λ b d. digit_is_not 39 b d refl) refl
@@ -95,7 +92,7 @@ number_is_no_slash : (bs : List ℕ) → begins_number bs ≡ true → nat_eq (g
 number_is_no_slash bs h = number_fails (λ b. nat_eq b 47) bs h (λ b d. digit_is_not 47 b d refl) refl
 
 nondigit_is_not : (c b : ℕ) → is_nondigit b ≡ true → is_nondigit c ≡ false → nat_eq b c ≡ false
-nondigit_is_not c b h other = not_true (nat_eq b c) (λ e. let same : b ≡ c = grind (arith, e) in let d : is_nondigit c ≡ true = subst (λ x. is_nondigit x ≡ true) same h in cc)
+nondigit_is_not c b h other = false_from_ne_true (nat_eq b c) (λ e. let same : b ≡ c = grind (arith, e) in let d : is_nondigit c ≡ true = subst (λ x. is_nondigit x ≡ true) same h in cc)
 
 -- a comment begins with a slash
 no_slash : (bs : List ℕ) → nat_eq (get_or bs 0 0) 47 ≡ false → opens_comment bs ≡ false
@@ -157,15 +154,15 @@ word_means w h = rw h refl
 pub number_means : (w : List ℕ) → IsTrue (is_number w) → meaning_of w ≡ option_map (λ v. (Number, v)) (constant_of w)
 unfolding meaning_of
 number_means w h =
-    let no : is_identifier w ≡ false = not_true (is_identifier w) (λ e. let first = nondigit_first w e in let none = number_is_no_word w (number_first w h) in cc) in
+    let no : is_identifier w ≡ false = false_from_ne_true (is_identifier w) (λ e. let first = nondigit_first w e in let none = number_is_no_word w (number_first w h) in cc) in
     rw (no, h) refl
 
 pub character_means : (w : List ℕ) (v : ℕ) → character_of w ≡ Some v → meaning_of w ≡ Some (character_meaning v)
 unfolding meaning_of
 character_means w v h =
     let first : get_or w 0 0 ≡ 39 = quote_first w (ap is_some h) in
-    let no_word : is_identifier w ≡ false = not_true (is_identifier w) (λ e. let d : is_nondigit 39 ≡ true = subst (λ b. is_nondigit b ≡ true) first (nondigit_first w e) in cc) in
-    let no_number : is_number w ≡ false = not_true (is_number w) (λ e. let none = number_is_no_quote w (number_first w e) in let some : nat_eq (get_or w 0 0) 39 ≡ true = ap (λ b. nat_eq b 39) first in cc) in
+    let no_word : is_identifier w ≡ false = false_from_ne_true (is_identifier w) (λ e. let d : is_nondigit 39 ≡ true = subst (λ b. is_nondigit b ≡ true) first (nondigit_first w e) in cc) in
+    let no_number : is_number w ≡ false = false_from_ne_true (is_number w) (λ e. let none = number_is_no_quote w (number_first w e) in let some : nat_eq (get_or w 0 0) 39 ≡ true = ap (λ b. nat_eq b 39) first in cc) in
     rw (no_word, no_number, h) refl
 
 pub mark_means : (w : List ℕ) (k : TokenKind) → punctuator_of w ≡ Some k → meaning_of w ≡ Some (k, Fixed)

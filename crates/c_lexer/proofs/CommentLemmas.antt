@@ -3,6 +3,8 @@ use Rattle.std.proofs.Common.{◌≡◌, ℕ, ◌+◌, ◌≤◌, suc, Bool, tru
 use Rattle.std.specs.Prelude.{Option, Some, None, ◌&&◌, ◌||◌}
 use Rattle.std.specs.List.{list_all, prefix_len}
 use Rattle.std.specs.Option.{option_map}
+use Rattle.std.proofs.lemmas.Bool.{or_parts}
+use Rattle.pt_base.proofs.Booleans.{and_parts}
 use Rattle.c_lexer.specs.Comments.{is_no_line_feed, ends_line, has_close}
 use Rattle.c_lexer.specs.Next.{close_of}
 
@@ -45,20 +47,12 @@ none_is_open (b ∷ bs) h =
     let no = none_at (nat_eq b 42 && nat_eq (get_or bs 0 0) 47) (close_of bs) h in
     ap (λ t. t || has_close bs) no.0 ∙ none_is_open bs no.1
 
-or_false : (p q : Bool) → (p || q) ≡ false → (p ≡ false) × (q ≡ false)
-or_false true q h = absurd (cc)
-or_false false q h = (refl, h)
-
-and_true : (p q : Bool) → (p && q) ≡ true → (p ≡ true) × (q ≡ true)
-and_true true q h = (refl, h)
-and_true false q h = absurd (cc)
-
 -- the first `*/` stands behind a body without one
 pub close_of_body : (body after : List ℕ) → has_close body ≡ false → close_of (body ++ (42 ∷ (47 ∷ after))) ≡ Some (2 + length body)
 close_of_body [] after h = refl
 close_of_body (b ∷ []) after h = grind (arith, h)
 close_of_body (b ∷ c ∷ body) after h =
-    let parts = or_false (nat_eq b 42 && nat_eq c 47) (has_close (c ∷ body)) h in
+    let parts = or_parts (nat_eq b 42 && nat_eq c 47) (has_close (c ∷ body)) h in
     let rest = close_of_body (c ∷ body) after parts.1 in
     let size : 2 + suc (length body) + 1 ≡ 2 + suc (suc (length body)) = omega arith in
     ap (λ t. cond t (Some 2) (option_map (λ n. n + 1) (close_of (c ∷ (body ++ (42 ∷ (47 ∷ after))))))) parts.0 ∙ ap (option_map (λ n. n + 1)) rest ∙ ap Some size
@@ -87,7 +81,7 @@ mapped f (Some i) n h = (i, refl, cc)
 closed_at : (b : ℕ) (bs : List ℕ) (n : ℕ) (r : Bool) → (nat_eq b 42 && nat_eq (get_or bs 0 0) 47) ≡ r
     → cond r (Some 2) (option_map (λ n. n + 1) (close_of bs)) ≡ Some n → ((i : ℕ) → close_of bs ≡ Some i → Closed bs i) → Closed (b ∷ bs) n
 closed_at b bs n true e h later =
-    let tests = and_true (nat_eq b 42) (nat_eq (get_or bs 0 0) 47) e in
+    let tests = and_parts (nat_eq b 42) (nat_eq (get_or bs 0 0) 47) e in
     let star : b ≡ 42 = grind (arith, tests.0) in
     record {
       body = [];

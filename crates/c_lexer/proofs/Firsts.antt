@@ -6,6 +6,7 @@ use Rattle.std.specs.Int.{is_in_range}
 use Rattle.std.specs.Str.{bytes_eq}
 use Rattle.std.specs.Char.{is_ascii_digit}
 use Rattle.std.proofs.lemmas.Slice.Eq.{bytes_eq-Decides}
+use Rattle.pt_base.proofs.Booleans.{or_true_cases}
 use Rattle.c_lexer.specs.Bytes.{is_space, is_nondigit, is_word_byte}
 use Rattle.c_lexer.specs.Spelling.{spelling_of, punctuators, kind_among, punctuator_of}
 use Rattle.c_lexer.specs.Numbers.{is_number, begins_number}
@@ -59,10 +60,6 @@ pub number_first : (w : List ℕ) → IsTrue (is_number w) → begins_number w �
 number_first [] h = absurd (cc)
 number_first (b ∷ bs) h = grind arith
 
-or_true : (p q : Bool) → (p || q) ≡ true → (p ≡ true) ⊎ (q ≡ true)
-or_true true q h = inl refl
-or_true false q h = inr h
-
 begins_either : (b d : ℕ) → (is_ascii_digit b ≡ true) ⊎ ((nat_eq b 46 && is_ascii_digit d) ≡ true) → (is_ascii_digit b ≡ true) ⊎ ((b ≡ 46) × (is_ascii_digit d ≡ true))
 begins_either b d (inl h) = inl h
 begins_either b d (inr h) = inr (grind (arith, h), grind (arith, h))
@@ -70,7 +67,7 @@ begins_either b d (inr h) = inr (grind (arith, h), grind (arith, h))
 -- a number begins with a digit, or with a point and a digit
 pub begins_by : (b : ℕ) (bs : List ℕ) → begins_number (b ∷ bs) ≡ true
     → (is_ascii_digit b ≡ true) ⊎ ((b ≡ 46) × (is_ascii_digit (get_or bs 0 0) ≡ true))
-begins_by b bs h = begins_either b (get_or bs 0 0) (or_true (is_ascii_digit b) (nat_eq b 46 && is_ascii_digit (get_or bs 0 0)) h)
+begins_by b bs h = begins_either b (get_or bs 0 0) (or_true_cases (is_ascii_digit b) (nat_eq b 46 && is_ascii_digit (get_or bs 0 0)) h)
 
 -- classes of bytes have no byte in common
 pub nondigit_is_no_space : (b : ℕ) → is_nondigit b ≡ true → is_space b ≡ false
@@ -90,11 +87,11 @@ letter_is_no_mark b (inl h) = let r = in_range 65 90 b h in low_gap b (omega ari
 letter_is_no_mark b (inr h) = let r = in_range 97 122 b h in high_gap b (omega arith) (omega arith)
 
 nondigit_mark : (b : ℕ) → ((is_in_range 65 90 b || is_in_range 97 122 b) ≡ true) ⊎ (nat_eq b 95 ≡ true) → is_mark b ≡ false
-nondigit_mark b (inl h) = letter_is_no_mark b (or_true (is_in_range 65 90 b) (is_in_range 97 122 b) h)
+nondigit_mark b (inl h) = letter_is_no_mark b (or_true_cases (is_in_range 65 90 b) (is_in_range 97 122 b) h)
 nondigit_mark b (inr h) = let e : b ≡ 95 = grind (arith, h) in high_gap b (omega arith) (omega arith)
 
 pub nondigit_is_no_mark : (b : ℕ) → is_nondigit b ≡ true → is_mark b ≡ false
-nondigit_is_no_mark b h = nondigit_mark b (or_true (is_in_range 65 90 b || is_in_range 97 122 b) (nat_eq b 95) h)
+nondigit_is_no_mark b h = nondigit_mark b (or_true_cases (is_in_range 65 90 b || is_in_range 97 122 b) (nat_eq b 95) h)
 
 pub nondigit_is_no_digit : (b : ℕ) → is_nondigit b ≡ true → is_ascii_digit b ≡ false
 nondigit_is_no_digit b h = grind arith

@@ -8,11 +8,8 @@ use Rattle.std.proofs.lemmas.List.{take_more, take_all}
 use Rattle.c_lexer.specs.Characters.{plain_byte, simple_escape, byte_in, escaped_byte, byte_of, character_of}
 use Rattle.c_lexer.specs.Next.{first_close, character_run}
 use Rattle.c_lexer.proofs.CommentLemmas.{mapped}
-use Rattle.pt_base.proofs.SameNumbers.{same_number}
-
-both_true : (p q : Bool) → (p && q) ≡ true → (p ≡ true) × (q ≡ true)
-both_true true q h = (refl, h)
-both_true false q h = absurd (cc)
+use Rattle.pt_base.proofs.Booleans.{and_parts}
+use Rattle.pt_base.proofs.Numbers.{nat_eq_same}
 
 -- what an `if` gives, by its branch
 taken : (t : Bool) (x : Option ℕ) (v : ℕ) → cond t x None ≡ Some v → (t ≡ true) × (x ≡ Some v)
@@ -115,9 +112,9 @@ unfolding character_of
 body_of [] v h = absurd (cc)
 body_of (b ∷ bs) v h =
     let quoted = taken (nat_eq b 39 && nat_eq (get_or bs (length bs - 1) 0) 39) (byte_of (take (length bs - 1) bs)) v h in
-    let quotes = both_true (nat_eq b 39) (nat_eq (get_or bs (length bs - 1) 0) 39) quoted.0 in
-    let first = same_number b 39 quotes.0 in
-    let last = same_number (get_or bs (length bs - 1) 0) 39 quotes.1 in
+    let quotes = and_parts (nat_eq b 39) (nat_eq (get_or bs (length bs - 1) 0) 39) quoted.0 in
+    let first = nat_eq_same b 39 quotes.0 in
+    let last = nat_eq_same (get_or bs (length bs - 1) 0) 39 quotes.1 in
     record {
       body = take (length bs - 1) bs;
       is = ap (λ x. x ∷ bs) first ∙ ap (λ xs. 39 ∷ xs) (last_split bs last);

@@ -1,6 +1,6 @@
 -- The bytes from a place on begin with what the code finds there.
 use Rattle.std.proofs.Common.{◌≡◌, ℕ, ◌+◌, ◌≤◌, ◌<◌, zero, suc, Bool, true, false, cond, nat_eq, List, [], ◌∷◌, length, take, drop, get_or, refl, ap, sym, ◌∙◌, subst, ⊎_elim, arith, length-take-le, take-append-drop}
-use Rattle.std.specs.Prelude.{Option, Some, None, ◌||◌, ◌&&◌, is_some, IsTrue}
+use Rattle.std.specs.Prelude.{Option, Some, None, ◌||◌, is_some, IsTrue}
 use Rattle.std.specs.List.{prefix_len}
 use Rattle.std.specs.Option.{option_map, option_map_or}
 use Rattle.std.specs.Char.{is_ascii_digit}
@@ -26,7 +26,8 @@ use Rattle.c_lexer.proofs.Classes.{class_of, word, numeral, quoted, mark, number
 use Rattle.c_lexer.proofs.Marks.{longest_is_mark, mark_within_longest}
 use Rattle.c_lexer.proofs.Quotes.{character_is_run, character_run_within}
 use Rattle.c_lexer.proofs.Runs.{run_passes, word_within_run, run_is_word, number_within_run, run_is_number, number_run_within}
-use Rattle.pt_base.proofs.SameNumbers.{same_number}
+use Rattle.pt_base.proofs.Booleans.{and_parts}
+use Rattle.pt_base.proofs.Numbers.{nat_eq_same}
 
 contra : (t : Bool) → t ≡ false → t ≡ true → ⊥
 contra t f h = cc
@@ -149,19 +150,15 @@ block_sound bs rest is (Some n) e =
     block c.body c.after (is ∙ ap (λ xs. 47 ∷ (42 ∷ xs)) c.is) (omega (arith, c.size)) c.no_close
 block_sound bs rest is None e = open_comment rest is (none_is_open rest e)
 
-and_true : (p q : Bool) → (p && q) ≡ true → (p ≡ true) × (q ≡ true)
-and_true true q h = (refl, h)
-and_true false q h = absurd (cc)
-
 comment_sound_by : (bs : List ℕ) → get_or bs 0 0 ≡ 47 → (r : Bool) → nat_eq (get_or bs 1 0) 47 ≡ r → (r || nat_eq (get_or bs 1 0) 42) ≡ true
     → BeginsWith bs (cond r (Blank (2 + prefix_len is_no_line_feed (drop 2 bs))) (option_map_or (λ n. Blank (2 + n)) (close_of (drop 2 bs)) (Fault OpenComment)))
-comment_sound_by bs first true e h = line_sound bs (drop 2 bs) (two_bytes bs 47 47 (omega arith) (omega arith) first (same_number (get_or bs 1 0) 47 e))
-comment_sound_by bs first false e h = block_sound bs (drop 2 bs) (two_bytes bs 47 42 (omega arith) (omega arith) first (same_number (get_or bs 1 0) 42 h)) (close_of (drop 2 bs)) refl
+comment_sound_by bs first true e h = line_sound bs (drop 2 bs) (two_bytes bs 47 47 (omega arith) (omega arith) first (nat_eq_same (get_or bs 1 0) 47 e))
+comment_sound_by bs first false e h = block_sound bs (drop 2 bs) (two_bytes bs 47 42 (omega arith) (omega arith) first (nat_eq_same (get_or bs 1 0) 42 h)) (close_of (drop 2 bs)) refl
 
 comment_sound : (bs : List ℕ) → opens_comment bs ≡ true → BeginsWith bs (comment_next bs)
 comment_sound bs h =
-    let opens = and_true (nat_eq (get_or bs 0 0) 47) (nat_eq (get_or bs 1 0) 47 || nat_eq (get_or bs 1 0) 42) h in
-    comment_sound_by bs (same_number (get_or bs 0 0) 47 opens.0) (nat_eq (get_or bs 1 0) 47) refl opens.1
+    let opens = and_parts (nat_eq (get_or bs 0 0) 47) (nat_eq (get_or bs 1 0) 47 || nat_eq (get_or bs 1 0) 42) h in
+    comment_sound_by bs (nat_eq_same (get_or bs 0 0) 47 opens.0) (nat_eq (get_or bs 1 0) 47) refl opens.1
 
 -- a punctuator, or nothing
 record Marked (bs : List ℕ) : Type 0 where
@@ -213,7 +210,7 @@ next_sound bs nonempty =
     by_test P (is_space (get_or bs 0 0)) (Blank 1) _ (λ e. space refl e) (λ no_space.
     by_test P (is_nondigit (get_or bs 0 0)) (word_next bs) _ (word_sound bs) (λ no_word.
     by_test P (begins_number bs) (number_next bs) _ (number_sound bs) (λ no_number.
-    by_test P (nat_eq (get_or bs 0 0) 39) (character_next bs) _ (λ e. character_sound bs (same_number (get_or bs 0 0) 39 e)) (λ no_quote.
+    by_test P (nat_eq (get_or bs 0 0) 39) (character_next bs) _ (λ e. character_sound bs (nat_eq_same (get_or bs 0 0) 39 e)) (λ no_quote.
     by_test P (opens_comment bs) (comment_next bs) _ (comment_sound bs) (λ no_comment. punctuator_sound bs (record {
       nonempty = nonempty;
       no_space = no_space;

@@ -2,6 +2,7 @@
 use Rattle.std.proofs.Common.{◌≡◌, ℕ, ◌+◌, true, false, cond, nat_eq, List, ◌∷◌, ◌++◌, length, take, get_or, refl, ap, sym, ◌∙◌, subst, arith}
 use Rattle.std.specs.List.{prefix_len}
 use Rattle.std.specs.Option.{option_map, option_map_or}
+use Rattle.std.proofs.lemmas.Bool.{false_from_ne_true as not_true}
 use Rattle.c_lexer.specs.Bytes.{is_space}
 use Rattle.c_lexer.specs.Comments.{opens_comment, is_no_line_feed, IsBlank, space, line, block}
 use Rattle.c_lexer.specs.Lexemes.{IsLongest, StartsToken, meaning_of}
@@ -15,7 +16,7 @@ use Rattle.c_lexer.specs.declared.error.LexFaultKind.TheVariants.{BadByte, OpenC
 use Rattle.c_lexer.specs.declared.next.Next.{Next}
 use Rattle.c_lexer.specs.declared.next.Next.TheVariants.{Blank, Token, Fault}
 use Rattle.c_lexer.proofs.CommentLemmas.{run_of_line, close_of_body, open_has_none}
-use Rattle.c_lexer.proofs.Classes.{not_true, number_begins, lexeme_is_no_space, number_is_no_comment, quote_is_no_comment, number_means}
+use Rattle.c_lexer.proofs.Classes.{number_begins, lexeme_is_no_space, number_is_no_comment, quote_is_no_comment, number_means}
 
 -- what a longest word of n bytes is
 abbrev lexed : List ℕ → ℕ → Next

@@ -6,6 +6,9 @@ use Rattle.std.proofs.lemmas.Bool.Decides.{nat_tests}
 use Rattle.pt_base.specs.declared.int_type.IntType.{IntType}
 use Rattle.pt_base.specs.declared.span.Span.{Span}
 use Rattle.pt_base.specs.declared.trap.Trap.TheVariants.{Depth, NoReturn}
+use Rattle.pt_base.proofs.Booleans.{both_hold_first as left, both_hold_second}
+use Rattle.pt_base.proofs.Lists.{append_nil}
+use Rattle.pt_base.proofs.Numbers.{as_plus_one}
 use Rattle.pt_tree.specs.declared.signature.Signature.{Signature}
 use Rattle.runs.specs.State.{gives, trapped, spent, ◌>>=◌, take_turn, noted, guarded_event}
 use Rattle.typed_tree.specs.declared.types.VarTy.{VarTy}
@@ -35,10 +38,9 @@ use Rattle.source_meaning.specs.Functions.{function_or_none, body_or_none, opene
 use Rattle.source_soundness.specs.Worlds.{World, Fits}
 use Rattle.source_soundness.specs.Sizes.{Sized, ArgumentsSized}
 use Rattle.source_soundness.specs.Laws.{ContextFits, ArgumentsFit}
-use Rattle.source_soundness.proofs.Tests.{left, right}
 use Rattle.source_soundness.proofs.CallSoundness.{deeper, Leads, leads, entered_fits, left_fits}
 use Rattle.source_soundness.proofs.CallSizes.{entered_sized, left_sized, calls_keep_sizes}
-use Rattle.source_soundness.proofs.ProgramFacts.{Facts, facts, all_at}
+use Rattle.source_soundness.proofs.ProgramFacts.{Facts, facts}
 use Rattle.source_soundness.proofs.Programs.{code_of, entered_as, types_of, bodied, deeper_is, code_fits, body_is, function_is, named, calls_keep}
 use Rattle.pt_core.specs.CodeTree as t
 use Rattle.pt_core.specs.CodeTree.{StmtTree, stmt_trees, ProgramTree}
@@ -54,9 +56,7 @@ use Rattle.c_lower_law.proofs.Relations.{Scene, world_of, context_of, frame_of, 
 use Rattle.c_lower_law.proofs.Expressions.{run_all, SameResult, SameCells, CallsAlike, SceneFits, Gives}
 use Rattle.c_lower_law.proofs.Statements.{but_flag, GivesFlow, SameFlow, StatementsAgree, scene_in}
 use Rattle.lowering.specs.Statements.{nowhere}
-use Rattle.c_lower_law.proofs.Runs.{append_nothing}
 use Rattle.c_lower_law.proofs.CorePrograms.{signature_is, global_is, function_found, all_types, own_types, has_temps, no_end}
-use Rattle.c_lower_law.proofs.Memories.{is_same}
 use Rattle.c_lower_law.proofs.Entering.{AreScalar, argument_cells, entering, entering_apart, entering_room, entering_objects, leaving_apart, leaving_objects}
 use Rattle.c_lower_law.proofs.HostCalls.{turn_same, turned, noted_alike, numbers_same, host_as, core_host_as, host_alike}
 
@@ -79,11 +79,8 @@ inner program g body frames frame deep = scene_in program g.vars (inner_frames f
 abbrev pub caller : TypedTree → (ℕ → List VarTy) → Frame → World
 caller program frames frame = record { globals = map (λ g. g.var.ty) program.globals; frames = frames; depth = frame.depth }
 
-pub plus_one : (d : ℕ) → suc d ≡ d + 1
-plus_one d = omega arith
-
 same_world : (program : TypedTree) (g : FunctionTree) (body : BodyTree) (frames : ℕ → List VarTy) (frame : Frame) (deep : ℕ) → deeper (caller program frames frame) (types_of g) ≡ world_of (inner program g body frames frame deep)
-same_world program g body frames frame deep = ap (λ d. record { globals = map (λ y. y.var.ty) program.globals; frames = inner_frames frames frame.depth (types_of g); depth = d }) (plus_one frame.depth)
+same_world program g body frames frame deep = ap (λ d. record { globals = map (λ y. y.var.ty) program.globals; frames = inner_frames frames frame.depth (types_of g); depth = d }) (as_plus_one frame.depth)
 
 pub inner_fits : (program : TypedTree) (g : FunctionTree) (body : BodyTree) (frames : ℕ → List VarTy) (frame : Frame) (deep : ℕ) → IsTrue (is_well_formed program) → CallsAlike (inner program g body frames frame deep) → SceneFits (inner program g body frames frame deep)
 inner_fits program g body frames frame deep h calls =
@@ -128,9 +125,9 @@ sum_at xs n g is = sum_from xs n g 0 is
 few_nodes : (program : TypedTree) → IsTrue (is_well_formed program) → nat_lt (nodes_of program) (2 ^ 28) ≡ true
 unfolding is_well_formed
 few_nodes p h =
-    right (list_all (numbers_sound p) p.functions) (nat_lt (nodes_of p) (2 ^ 28))
-    (right (list_all (function_sound p) p.functions && (names_sound (map name_of p.functions) && list_any is_start p.functions)) (list_all (numbers_sound p) p.functions && nat_lt (nodes_of p) (2 ^ 28))
-    (right (structs_sound p.structs 0 p.structs && (list_all (global_sound p.structs) p.globals && globals_small p.globals)) ((list_all (function_sound p) p.functions && (names_sound (map name_of p.functions) && list_any is_start p.functions)) && (list_all (numbers_sound p) p.functions && nat_lt (nodes_of p) (2 ^ 28))) h))
+    both_hold_second (list_all (numbers_sound p) p.functions) (nat_lt (nodes_of p) (2 ^ 28))
+    (both_hold_second (list_all (function_sound p) p.functions && (names_sound (map name_of p.functions) && list_any is_start p.functions)) (list_all (numbers_sound p) p.functions && nat_lt (nodes_of p) (2 ^ 28))
+    (both_hold_second (structs_sound p.structs 0 p.structs && (list_all (global_sound p.structs) p.globals && globals_small p.globals)) ((list_all (function_sound p) p.functions && (names_sound (map name_of p.functions) && list_any is_start p.functions)) && (list_all (numbers_sound p) p.functions && nat_lt (nodes_of p) (2 ^ 28))) h))
 
 counted : (program : TypedTree) → sum_by function_nodes program.functions ≤ nodes_of program
 counted p = within (sum_by (λ (s : StructInfo). 1 + length s.fields) p.structs) (length p.globals) (sum_by function_nodes p.functions) (sum_by expr_nodes p.exprs)
@@ -177,11 +174,11 @@ left_after program vars core_variables deep0 g body frames frame deep vs K st0 s
     let same = sym (same_world program g body frames frame deep) in
     record {
       alike = record {
-        objects = subst (λ d. SameObjects w (without_locals st.memory d) (without_frames st'.memory d)) (plus_one frame.depth) (leaving_objects w st.memory st'.memory (types_of g) (subst (λ z. SameObjects z st.memory st'.memory) same q.alike.objects));
+        objects = subst (λ d. SameObjects w (without_locals st.memory d) (without_frames st'.memory d)) (as_plus_one frame.depth) (leaving_objects w st.memory st'.memory (types_of g) (subst (λ z. SameObjects z st.memory st'.memory) same q.alike.objects));
         room = λ k far near. let room = al.room k far near in
             (room.0, ap (λ (z : b.Block). z.cells) (back program g body frames frame deep vs K st0'.memory st'.memory frame.depth k q.kept (omega arith) (subst (λ n. n ≤ k) (sym (ap length own ∙ counted vars)) far)) ∙ room.1);
-        fits = subst (λ d. Fits w (without_locals st.memory d)) (plus_one frame.depth) (left_fits w st.memory (types_of g) (subst (λ z. Fits z st.memory) same q.alike.fits));
-        sized = subst (λ d. Sized w (sizes_of program.structs) (without_locals st.memory d)) (plus_one frame.depth) (left_sized w (sizes_of program.structs) st.memory (types_of g) (subst (λ z. Sized z (sizes_of program.structs) st.memory) same q.alike.sized));
+        fits = subst (λ d. Fits w (without_locals st.memory d)) (as_plus_one frame.depth) (left_fits w st.memory (types_of g) (subst (λ z. Fits z st.memory) same q.alike.fits));
+        sized = subst (λ d. Sized w (sizes_of program.structs) (without_locals st.memory d)) (as_plus_one frame.depth) (left_sized w (sizes_of program.structs) st.memory (types_of g) (subst (λ z. Sized z (sizes_of program.structs) st.memory) same q.alike.sized));
         hosts = q.alike.hosts;
         input = q.alike.input;
         seen = record { events = q.alike.seen.events; left = q.alike.seen.left };
@@ -264,11 +261,11 @@ entered_alike program vars core_variables deep0 g body frames frame deep vs st s
     let w = caller program frames frame in
     let ss = sizes_of program.structs in
     record {
-      objects = subst (λ d. SameObjects (record { globals = map (λ y. y.var.ty) program.globals; frames = inner_frames frames frame.depth (types_of g); depth = d }) (with_frame st.memory d (frame_cells ss (types_of g) vs)) (entering program.structs g.vars (temps_of program g body) d vs st'.memory)) (plus_one frame.depth)
+      objects = subst (λ d. SameObjects (record { globals = map (λ y. y.var.ty) program.globals; frames = inner_frames frames frame.depth (types_of g); depth = d }) (with_frame st.memory d (frame_cells ss (types_of g) vs)) (entering program.structs g.vars (temps_of program g body) d vs st'.memory)) (as_plus_one frame.depth)
           (entering_objects w st.memory st'.memory program.structs g.vars (temps_of program g body) g.signature.params vs lead args al.objects);
       room = λ k far near. entering_room w program.structs g.vars (temps_of program g body) (frame.depth + 1) g.signature.params vs st'.memory k lead args scalar far near;
-      fits = subst (λ d. Fits (record { globals = map (λ y. y.var.ty) program.globals; frames = inner_frames frames frame.depth (types_of g); depth = d }) (with_frame st.memory d (frame_cells ss (types_of g) vs))) (plus_one frame.depth) (entered_fits w st.memory ss (types_of g) g.signature.params vs lead args al.fits);
-      sized = subst (λ d. Sized (record { globals = map (λ y. y.var.ty) program.globals; frames = inner_frames frames frame.depth (types_of g); depth = d }) ss (with_frame st.memory d (frame_cells ss (types_of g) vs))) (plus_one frame.depth) (entered_sized w st.memory ss (types_of g) g.signature.params vs lead args size al.fits al.sized);
+      fits = subst (λ d. Fits (record { globals = map (λ y. y.var.ty) program.globals; frames = inner_frames frames frame.depth (types_of g); depth = d }) (with_frame st.memory d (frame_cells ss (types_of g) vs))) (as_plus_one frame.depth) (entered_fits w st.memory ss (types_of g) g.signature.params vs lead args al.fits);
+      sized = subst (λ d. Sized (record { globals = map (λ y. y.var.ty) program.globals; frames = inner_frames frames frame.depth (types_of g); depth = d }) ss (with_frame st.memory d (frame_cells ss (types_of g) vs))) (as_plus_one frame.depth) (entered_sized w st.memory ss (types_of g) g.signature.params vs lead args size al.fits al.sized);
       hosts = al.hosts;
       input = al.input;
       seen = record { events = al.seen.events; left = al.seen.left };
@@ -289,7 +286,7 @@ function_runs program vars core_variables deep0 n g body frames frame deep vs st
     subst (λ y. Same (Gives s all st'.memory (SameResult g.signature.result)) (statement y (code_of program g (frame_in frame g.signature) (f.calls_within program deep)) (opened_in program g frame deep vs st) >>= f.returned_from g.signature.result (brace_of y) (frame.depth + 1))
     (core_entered_as (core_program program) (cc_.calls_within (core_program program) deep) (frame_of s) (core_of program n g body) g.signature (argument_cells vs) st')) (sym (body_is g.body body has))
     (subst (λ stmts. Same (Gives s all st'.memory (SameResult g.signature.result)) (statement body (code_of program g (frame_in frame g.signature) (f.calls_within program deep)) (opened_in program g frame deep vs st) >>= f.returned_from g.signature.result (brace_of body) (frame.depth + 1))
-    (run_all i stmts begins >>= cc_.returned_from g.signature.result (brace_of body) (frame.depth + 1))) (sym (ap (λ e. (lowered_body program g body).stmts ++ e) (no_end g.signature not_main) ∙ append_nothing (lowered_body program g body).stmts))
+    (run_all i stmts begins >>= cc_.returned_from g.signature.result (brace_of body) (frame.depth + 1))) (sym (ap (λ e. (lowered_body program g body).stmts ++ e) (no_end g.signature not_main) ∙ append_nil (lowered_body program g body).stmts))
     (leave program vars core_variables deep0 g body frames frame deep vs (brace_of body) g.signature.result (length g.vars) st st' (statement body (code_of program g (frame_in frame g.signature) (f.calls_within program deep)) (opened_in program g frame deep vs st)) (run_all i (lowered_body program g body).stmts begins) own al r))
 
 -- a call of a function

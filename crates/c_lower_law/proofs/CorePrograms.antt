@@ -5,6 +5,8 @@ use Rattle.std.specs.List.{find}
 use Rattle.std.specs.Map.{lookup}
 use Rattle.std.proofs.lemmas.Bool.Decides.{nat_tests}
 use Rattle.pt_base.specs.declared.int_type.IntType.TheVariants as i
+use Rattle.pt_base.proofs.Numbers.{as_zero_plus, nat_eq_above, nat_eq_true}
+use Rattle.pt_base.proofs.Places.{get_map}
 use Rattle.pt_tree.specs.declared.signature.Signature.{Signature}
 use Rattle.typed_tree.specs.declared.types.VarTy.{VarTy}
 use Rattle.typed_tree.specs.declared.types.VarTy.TheVariants.{Int}
@@ -13,7 +15,6 @@ use Rattle.typed_tree.specs.declared.variable.TypedGlobal.{TypedGlobal}
 use Rattle.typed_tree.specs.StatementTree.{BodyTree}
 use Rattle.typed_tree.specs.TypedTree.{TypedTree, FunctionTree, signatures_of}
 use Rattle.typed_tree.specs.WellFormedExpression.{is_main}
-use Rattle.source_soundness.proofs.Tests.{got}
 use Rattle.pt_core.specs.CodeTree as core
 use Rattle.pt_core.specs.CodeTree.{StmtTree}
 use Rattle.pt_core.specs.Types as tys
@@ -22,47 +23,37 @@ use Rattle.pt_core.specs.Calls.{no_signature, signature_in, function_in, no_func
 use Rattle.lowering.specs.Lowered.{Temp}
 use Rattle.lowering.specs.Functions.{variable_of, main_end, lowered_body, core_of, code_if, functions_from, signatures_from, globals_from, core_program}
 use Rattle.c_lower_law.proofs.Relations.{HasTemps}
-use Rattle.c_lower_law.proofs.Memories.{same_number, is_same, is_other}
 
 -- ---- by numbers
 
-apart : (f n : ℕ) → n < f → nat_eq f n ≡ false
-apart f n h = is_other f n (λ e. less_self f n h e)
-  where
-    less_self : (f n : ℕ) → n < f → f ≡ n → ⊥
-    less_self f n h e = omega (arith, h, e)
-
 signature_from : (xs : List Signature) (n f k : ℕ) → f ≡ n + k → lookup (nat_eq f) (signatures_from n xs) ≡ slice_get xs k
 signature_from [] n f k e = refl
-signature_from (x ∷ xs) n f zero e = ap (λ b. cond b (Some x) (lookup (nat_eq f) (signatures_from (suc n) xs))) (is_same f n (omega (arith, e)))
-signature_from (x ∷ xs) n f (suc k) e = ap (λ b. cond b (Some x) (lookup (nat_eq f) (signatures_from (suc n) xs))) (apart f n (omega (arith, e))) ∙ signature_from xs (suc n) f k (omega (arith, e))
-
-from_zero : (f : ℕ) → f ≡ 0 + f
-from_zero f = omega arith
+signature_from (x ∷ xs) n f zero e = ap (λ b. cond b (Some x) (lookup (nat_eq f) (signatures_from (suc n) xs))) (nat_eq_true f n (omega (arith, e)))
+signature_from (x ∷ xs) n f (suc k) e = ap (λ b. cond b (Some x) (lookup (nat_eq f) (signatures_from (suc n) xs))) (nat_eq_above f n (omega (arith, e))) ∙ signature_from xs (suc n) f k (omega (arith, e))
 
 pub signature_is : (program : TypedTree) (f : ℕ) (g : FunctionTree) → slice_get program.functions f ≡ Some g → signature_in (core_program program) f ≡ g.signature
 signature_is program f g h =
     ap (λ o. unwrap_or o no_signature)
-    (signature_from (signatures_of program) 0 f f (from_zero f) ∙ got (λ (y : FunctionTree). y.signature) program.functions f ∙ ap (λ o. option_map (λ (y : FunctionTree). y.signature) o) h)
+    (signature_from (signatures_of program) 0 f f (as_zero_plus f) ∙ get_map (λ (y : FunctionTree). y.signature) program.functions f ∙ ap (λ o. option_map (λ (y : FunctionTree). y.signature) o) h)
 
 global_from : (xs : List TypedGlobal) (n g k : ℕ) → g ≡ n + k → lookup (nat_eq g) (map (λ (y : core.GlobalTree). (y.id, y.var.ty)) (globals_from n xs)) ≡ slice_get (map (λ (y : TypedGlobal). y.var.ty) xs) k
 global_from [] n g k e = refl
-global_from (x ∷ xs) n g zero e = ap (λ b. cond b (Some x.var.ty) (lookup (nat_eq g) (map (λ (y : core.GlobalTree). (y.id, y.var.ty)) (globals_from (suc n) xs)))) (is_same g n (omega (arith, e)))
+global_from (x ∷ xs) n g zero e = ap (λ b. cond b (Some x.var.ty) (lookup (nat_eq g) (map (λ (y : core.GlobalTree). (y.id, y.var.ty)) (globals_from (suc n) xs)))) (nat_eq_true g n (omega (arith, e)))
 global_from (x ∷ xs) n g (suc k) e =
-    ap (λ b. cond b (Some x.var.ty) (lookup (nat_eq g) (map (λ (y : core.GlobalTree). (y.id, y.var.ty)) (globals_from (suc n) xs)))) (apart g n (omega (arith, e))) ∙ global_from xs (suc n) g k (omega (arith, e))
+    ap (λ b. cond b (Some x.var.ty) (lookup (nat_eq g) (map (λ (y : core.GlobalTree). (y.id, y.var.ty)) (globals_from (suc n) xs)))) (nat_eq_above g n (omega (arith, e))) ∙ global_from xs (suc n) g k (omega (arith, e))
 
 pub global_is : (program : TypedTree) (g : ℕ) (ty : VarTy) → slice_get (map (λ (y : TypedGlobal). y.var.ty) program.globals) g ≡ Some ty → unwrap_or (lookup (nat_eq g) (map (λ (y : core.GlobalTree). (y.id, y.var.ty)) (core_program program).globals)) (Int i.Int) ≡ ty
-global_is program g ty h = ap (λ o. unwrap_or o (Int i.Int)) (global_from program.globals 0 g g (from_zero g) ∙ h)
+global_is program g ty h = ap (λ o. unwrap_or o (Int i.Int)) (global_from program.globals 0 g g (as_zero_plus g) ∙ h)
 
 -- a function before the one that is looked for isn't it
 not_found : (program : TypedTree) (n f : ℕ) (g : FunctionTree) (o : Option BodyTree) (rest : List core.FunctionTree) → n < f → find (λ (y : core.FunctionTree). nat_eq f y.id) (code_if program n g o ++ rest) ≡ find (λ (y : core.FunctionTree). nat_eq f y.id) rest
 not_found program n f g None rest h = refl
-not_found program n f g (Some body) rest h = ap (λ b. cond b (Some (core_of program n g body)) (find (λ (y : core.FunctionTree). nat_eq f y.id) rest)) (apart f n h)
+not_found program n f g (Some body) rest h = ap (λ b. cond b (Some (core_of program n g body)) (find (λ (y : core.FunctionTree). nat_eq f y.id) rest)) (nat_eq_above f n h)
 
 found_here : (program : TypedTree) (n f : ℕ) (g : FunctionTree) (o : Option BodyTree) (body : BodyTree) (rest : List core.FunctionTree) → f ≡ n → o ≡ Some body → find (λ (y : core.FunctionTree). nat_eq f y.id) (code_if program n g o ++ rest) ≡ Some (core_of program f g body)
 found_here program n f g o body rest e is =
     ap (λ z. find (λ (y : core.FunctionTree). nat_eq f y.id) (code_if program n g z ++ rest)) is
-    ∙ ap (λ b. cond b (Some (core_of program n g body)) (find (λ (y : core.FunctionTree). nat_eq f y.id) rest)) (is_same f n e) ∙ ap (λ z. Some (core_of program z g body)) (sym e)
+    ∙ ap (λ b. cond b (Some (core_of program n g body)) (find (λ (y : core.FunctionTree). nat_eq f y.id) rest)) (nat_eq_true f n e) ∙ ap (λ z. Some (core_of program z g body)) (sym e)
 
 function_from : (program : TypedTree) (xs : List FunctionTree) (n f k : ℕ) (g : FunctionTree) (body : BodyTree) → f ≡ n + k → slice_get xs k ≡ Some g → g.body ≡ Some body → find (λ (y : core.FunctionTree). nat_eq f y.id) (functions_from program n xs) ≡ Some (core_of program f g body)
 function_from program [] n f k g body e is has = cc
@@ -76,7 +67,7 @@ function_from program (x ∷ xs) n f (suc k) g body e is has =
     not_found program n f x x.body (functions_from program (suc n) xs) (omega (arith, e)) ∙ function_from program xs (suc n) f k g body (omega (arith, e)) is has
 
 pub function_found : (program : TypedTree) (f : ℕ) (g : FunctionTree) (body : BodyTree) → slice_get program.functions f ≡ Some g → g.body ≡ Some body → function_in (core_program program) f ≡ core_of program f g body
-function_found program f g body h is = ap (λ o. unwrap_or o no_function) (function_from program program.functions 0 f f g body (from_zero f) h is)
+function_found program f g body h is = ap (λ o. unwrap_or o no_function) (function_from program program.functions 0 f f g body (as_zero_plus f) h is)
 
 -- ---- variables and temporaries
 

@@ -4,6 +4,7 @@ use Rattle.std.specs.Prelude.{IsTrue, ◌&&◌, slice_get, get_or, option_map}
 use Rattle.std.specs.List.{list_all}
 use Rattle.pt_base.specs.declared.int_type.IntType.{IntType}
 use Rattle.pt_base.specs.declared.span.Span.{Span}
+use Rattle.pt_base.proofs.Booleans.{both_hold_first, both_hold_second, false_not_true}
 use Rattle.pt_tree.specs.declared.signature.Elem.{Elem}
 use Rattle.runs.specs.State.{gives, trapped, spent, ◌>>=◌}
 use Rattle.typed_tree.specs.declared.ids.ExprId.{ExprId}
@@ -34,7 +35,6 @@ use Rattle.source_meaning.specs.Statements.{variable_at, items_stored, cleared_a
 use Rattle.source_soundness.specs.Worlds.{type_in, is_pointer, Fits, ValueFits, IsInteger, LocationFits}
 use Rattle.source_soundness.specs.Sizes.{Sized, ValueSized}
 use Rattle.typed_tree.proofs.SameTypes.{equal_options}
-use Rattle.source_soundness.proofs.Tests.{left, right, never}
 use Rattle.source_soundness.proofs.Objects.{stored_fits}
 use Rattle.source_soundness.proofs.SizedObjects.{plain_stored, stored_sized}
 use Rattle.source_soundness.proofs.StatementSoundness.{Entry, number_stored}
@@ -98,8 +98,8 @@ scalar_holds s (ty.Int t1) (holds y) h fit = refl
 scalar_holds s (ty.Int t1) (whole cells) h fit = absurd fit
 scalar_holds s (ty.Int t1) nothing h fit = absurd fit
 scalar_holds s (ty.Pointer elem fixed) w h fit = fit.1 ∙ ap (λ z. holds (cell_of z)) (sym fit.1)
-scalar_holds s (ty.Struct k) w h fit = never h
-scalar_holds s (ty.Array elem count) w h fit = never h
+scalar_holds s (ty.Struct k) w h fit = false_not_true h
+scalar_holds s (ty.Array elem count) w h fit = false_not_true h
 
 -- a value of this type may be stored in this cell of the variable
 abbrev Keeping : Scene → List ExprTree → ℕ → ℕ → VarTy → Type 0
@@ -156,7 +156,7 @@ items_declare [] laws s exprs result x cell n in_ us places fits o keep ok lie e
     nothing_declared : (places : List PlaceTree) → Declares s n (items_stored [] x cell (code_of s exprs)) (l.items_in (lowered_with s exprs) places [] n).stmts
     nothing_declared [] = nothing_more s n
     nothing_declared (p ∷ places) = nothing_more s n
-items_declare (e1 ∷ es) laws s exprs result x cell n in_ [] places fits o keep ok lie enough from temps = never ok
+items_declare (e1 ∷ es) laws s exprs result x cell n in_ [] places fits o keep ok lie enough from temps = false_not_true ok
 items_declare (e1 ∷ es) laws s exprs result x cell n in_ (u ∷ us) [] fits o keep ok lie enough from temps = absurd (none enough)
   where
     none : suc (length us) ≤ 0 → ⊥
@@ -166,8 +166,8 @@ items_declare (e1 ∷ es) laws s exprs result x cell n in_ (u ∷ us) (p ∷ pla
     let rest = l.items_in (lowered_with s exprs) places es (past n w.temps) in
     subst (λ xs. Declares s n (items_stored (e1 ∷ es) x cell (code_of s exprs)) xs) (sym (append_assoc w.stmts (assign p w.value ∷ []) rest.stmts))
     (stored_then laws s exprs x cell n in_ u (expr_at exprs e1) p (items_stored es x (cell + 1) (code_of s exprs)) rest.stmts fits o keep.0.1 keep.0.0
-    (found s exprs result (same_types (Some u)) e1 (left (expr_fits (tests_of s exprs result) (same_types (Some u)) e1) (items_fit (tests_of s exprs result) us es) ok)) lie.0 from (temps_first s.core_variables n w.temps rest.temps temps)
-    (items_declare es laws s exprs result x (cell + 1) (past n w.temps) in_ us places fits o keep.1 (right (expr_fits (tests_of s exprs result) (same_types (Some u)) e1) (items_fit (tests_of s exprs result) us es) ok) lie.1 (omega (arith, enough)) (omega (arith, from)) (temps_rest s.core_variables n w.temps rest.temps temps)))
+    (found s exprs result (same_types (Some u)) e1 (both_hold_first (expr_fits (tests_of s exprs result) (same_types (Some u)) e1) (items_fit (tests_of s exprs result) us es) ok)) lie.0 from (temps_first s.core_variables n w.temps rest.temps temps)
+    (items_declare es laws s exprs result x (cell + 1) (past n w.temps) in_ us places fits o keep.1 (both_hold_second (expr_fits (tests_of s exprs result) (same_types (Some u)) e1) (items_fit (tests_of s exprs result) us es) ok) lie.1 (omega (arith, enough)) (omega (arith, from)) (temps_rest s.core_variables n w.temps rest.temps temps)))
 
 -- ---- objects
 
@@ -249,14 +249,14 @@ value_declares laws s exprs x n (ty.Int t1) a fits o ok is from temps =
 value_declares laws s exprs x n (ty.Pointer elem fixed) a fits o ok is from temps =
     stored_then laws s exprs x 0 n (ty.Pointer elem fixed) (ty.Pointer elem fixed) a (place (t.local x) []) (λ st. gives src.goes_on st) [] fits o (whole_keeps s exprs x (ty.Pointer elem fixed) o) refl is (variable_lies s x) from temps (nothing_more s (past n (value_in (scope_of s) a n).temps))
 value_declares laws s exprs x n (ty.Struct k) a fits o ok is from temps = object_stored laws s exprs x k n a fits o is.typed (sym (equal_options (Some (ty.Struct k)) (ty_of a) is.passes)) from temps
-value_declares laws s exprs x n (ty.Array elem count) a fits o ok is from temps = never ok
+value_declares laws s exprs x n (ty.Array elem count) a fits o ok is from temps = false_not_true ok
 
 init_declares : (init : TypedInit) (laws : Laws) (s : Scene) (exprs : List ExprTree) (result : Option IntType) (x n : ℕ) (u : VarTy) → SceneFits s → Entry (tests_of s exprs result) x u → Own s exprs x u → IsTrue (init_fits (tests_of s exprs result) (Some u) init) → length s.names.vars ≤ n →
     HasTemps s.core_variables n (l.initialised (lowered_with s exprs) init x n).temps → Declares s n (src.initialised init x (code_of s exprs)) (l.initialised (lowered_with s exprs) init x n).stmts
 init_declares n.Nothing laws s exprs result x k u fits en o ok from temps = nothing_more s k
 init_declares (n.Value e1) laws s exprs result x k u fits en o ok from temps =
     subst (λ (z : Effects). Declares s k (src.initialised (n.Value e1) x (code_of s exprs)) z.stmts) (ap (stored_by s x (expr_at exprs e1) k) (sym o.source_type))
-    (value_declares laws s exprs x k u (expr_at exprs e1) fits o (left (is_value (Some u)) (expr_fits (tests_of s exprs result) (same_types (Some u)) e1) ok) (found s exprs result (same_types (Some u)) e1 (right (is_value (Some u)) (expr_fits (tests_of s exprs result) (same_types (Some u)) e1) ok)) from
+    (value_declares laws s exprs x k u (expr_at exprs e1) fits o (both_hold_first (is_value (Some u)) (expr_fits (tests_of s exprs result) (same_types (Some u)) e1) ok) (found s exprs result (same_types (Some u)) e1 (both_hold_second (is_value (Some u)) (expr_fits (tests_of s exprs result) (same_types (Some u)) e1) ok)) from
     (subst (λ (z : Effects). HasTemps s.core_variables k z.temps) (ap (stored_by s x (expr_at exprs e1) k) o.source_type) temps))
 init_declares (n.Items sp es) laws s exprs result x k u fits en o ok from temps =
     items_declare es laws s exprs result x 0 k u (item_types s.names.structs u) (leaf_places s.names.structs (types.type_at (variable_types s) x) sp (place (t.local x) [])) fits o (item_keeps s exprs result x u fits en o) ok
@@ -272,7 +272,7 @@ one_declared laws s exprs result d k fits ok from temps next rest follows st st'
   where
     go : (r : Option VarTy) → option_map (λ (y : Var). y.ty) (slice_get s.names.vars d.var.0) ≡ r → init_fits (tests_of s exprs result) r d.init ≡ true →
         Same (GoesOn s k st'.memory) (src.initialised d.init d.var.0 (code_of s exprs) (cleared_at (code_of s exprs) d.var.0 st) >>= λ flow. next) (run_all s ((l.initialised (lowered_with s exprs) d.init d.var.0 k).stmts ++ rest) (with_cleared s d.var.0 st'))
-    go None is h = never h
+    go None is h = false_not_true h
     go (Some u) is h =
         let en : Entry (tests_of s exprs result) d.var.0 u = record { is = is } in
         let ready = cleared_after s exprs result d.var.0 k u st st' fits en al in
@@ -287,8 +287,8 @@ declarations_run [] laws s exprs result k fits ok from temps = nothing_more s k
 declarations_run (d ∷ ds) laws s exprs result k fits ok from temps =
     let init = l.initialised (lowered_with s exprs) d.init d.var.0 k in
     let rest = l.declared (lowered_with s exprs) ds (past k init.temps) in
-    one_declared laws s exprs result d k fits (left (declarator_fits (tests_of s exprs result) d) (list_all (declarator_fits (tests_of s exprs result)) ds) ok) from (temps_first s.core_variables k init.temps rest.temps temps) (src.declared ds (code_of s exprs)) rest.stmts
-    (declarations_run ds laws s exprs result (past k init.temps) fits (right (declarator_fits (tests_of s exprs result) d) (list_all (declarator_fits (tests_of s exprs result)) ds) ok) (omega (arith, from)) (temps_rest s.core_variables k init.temps rest.temps temps))
+    one_declared laws s exprs result d k fits (both_hold_first (declarator_fits (tests_of s exprs result) d) (list_all (declarator_fits (tests_of s exprs result)) ds) ok) from (temps_first s.core_variables k init.temps rest.temps temps) (src.declared ds (code_of s exprs)) rest.stmts
+    (declarations_run ds laws s exprs result (past k init.temps) fits (both_hold_second (declarator_fits (tests_of s exprs result) d) (list_all (declarator_fits (tests_of s exprs result)) ds) ok) (omega (arith, from)) (temps_rest s.core_variables k init.temps rest.temps temps))
 
 pub declarations_agree : ValuesAgree → EffectsAgree → ObjectsAgree → DeclarationsAgree
 declarations_agree values effects objects s exprs result ds k st st' fits ok from temps al = declarations_run ds (record { values = values; effects = effects; objects = objects }) s exprs result k fits ok from temps st st' al

@@ -5,6 +5,8 @@ use Rattle.std.specs.List.{list_all}
 use Rattle.std.proofs.lemmas.Bool.Decides.{nat_tests}
 use Rattle.pt_base.specs.declared.span.Span.{Span}
 use Rattle.pt_base.specs.declared.trap.Trap.TheVariants.{Depth}
+use Rattle.pt_base.proofs.Booleans.{both_hold_first, both_hold_second}
+use Rattle.pt_base.proofs.Members.{all_true_at}
 use Rattle.pt_tree.specs.declared.signature.Signature.{Signature}
 use Rattle.runs.specs.State.{gives, trapped, spent, take_turn, noted, guarded_event}
 use Rattle.typed_tree.specs.declared.types.VarTy.{VarTy}
@@ -21,9 +23,8 @@ use Rattle.source_meaning.specs.Expressions.{Frame}
 use Rattle.source_meaning.specs.Functions as f
 use Rattle.source_soundness.specs.Sizes.{ArgumentsSized}
 use Rattle.source_soundness.specs.Laws.{ArgumentsFit}
-use Rattle.source_soundness.proofs.Tests.{left, right}
 use Rattle.source_soundness.proofs.CallSoundness.{Leads, leads}
-use Rattle.source_soundness.proofs.ProgramFacts.{facts, all_at}
+use Rattle.source_soundness.proofs.ProgramFacts.{facts}
 use Rattle.source_soundness.proofs.Programs.{entered_as, types_of, Bodied, bodied, function_is, named}
 use Rattle.pt_core.specs.CodeTree as t
 use Rattle.pt_core.specs.Values.{number_in}
@@ -57,7 +58,7 @@ shallow s n span signature vs st st' al = go signature.host
     go false = (refl, refl, al.seen)
 
 sound_leads : (program : TypedTree) (g : FunctionTree) → function_sound program g ≡ true → Leads g.signature.params (types_of g)
-sound_leads program g sound = leads g.signature.params g.vars (right (nat_le (length g.signature.params) 8) (params_lead g.signature.params g.vars) (left (nat_le (length g.signature.params) 8 && params_lead g.signature.params g.vars) (list_all (variable_sound program.structs) g.vars && body_sound program g g.body) sound))
+sound_leads program g sound = leads g.signature.params g.vars (both_hold_second (nat_le (length g.signature.params) 8) (params_lead g.signature.params g.vars) (both_hold_first (nat_le (length g.signature.params) 8 && params_lead g.signature.params g.vars) (list_all (variable_sound program.structs) g.vars && body_sound program g g.body) sound))
 
 own_frame : (frames : ℕ → List VarTy) (depth : ℕ) (types : List VarTy) → inner_frames frames depth types (depth + 1) ≡ types
 own_frame frames depth types = ap (λ t. if t then types else frames (depth + 1)) (same depth)
@@ -101,7 +102,7 @@ calls_alike (suc deep) program vars frames frame core_variables agree scalar h o
         s = scene_in program vars frames frame core_variables (suc deep)
 
         sound : function_sound program g ≡ true
-        sound = all_at (function_sound program) program.functions n g (facts program h).functions is
+        sound = all_true_at (function_sound program) program.functions n g (facts program h).functions is
 
         by_body : Bodied program g → Same (Gives s all st'.memory (SameResult g.signature.result)) (take_turn st.left st (λ st1. entered_as program (f.calls_within program deep) frame g vs (noted (guarded_event frame.privileged g.signature n (numbers_of vs)) st1)))
             (core_call_as (core_program program) (calls.calls_within (core_program program) deep) (frame_of s) n (function_in (core_program program) n) g.signature (argument_cells vs) st')

@@ -4,6 +4,7 @@ use Rattle.std.specs.Prelude.{IsTrue, ◌&&◌, ◌||◌, slice_get, slice_index
 use Rattle.pt_base.specs.declared.int_type.IntType.TheVariants as i
 use Rattle.pt_base.specs.declared.ids.FnId.{FnId}
 use Rattle.pt_base.specs.declared.span.Span.{Span}
+use Rattle.pt_base.proofs.Booleans.{both_hold_first, both_hold_second, from_not_false}
 use Rattle.runs.specs.State.{gives, trapped, spent, ◌>>=◌}
 use Rattle.typed_tree.specs.declared.types.VarTy.{VarTy}
 use Rattle.typed_tree.specs.declared.types.VarTy.TheVariants.{Int, Struct, Array, Pointer}
@@ -27,7 +28,6 @@ use Rattle.source_meaning.specs.Expressions.{value_of, values_of, location_of, t
 use Rattle.source_soundness.specs.Worlds.{ValueFits}
 use Rattle.source_soundness.specs.Sizes.{ValueSized}
 use Rattle.typed_tree.proofs.SameTypes.{equal_options}
-use Rattle.source_soundness.proofs.Tests.{left, right, never}
 use Rattle.source_soundness.proofs.Soundness.{value_fits}
 use Rattle.source_soundness.proofs.SizeSoundness.{value_sized}
 use Rattle.pt_core.specs.CodeTree as t
@@ -53,7 +53,7 @@ use Rattle.c_lower_law.proofs.Choices.{hold_value, choose_then, choose_stops}
 use Rattle.c_lower_law.proofs.OperandTypes.{ScalarType, scalar_type, not_struct}
 use Rattle.c_lower_law.proofs.Copies.{HasCells, object_near, copied_dropped, copied_object}
 use Rattle.c_lower_law.proofs.Stores.{given_dropped, computed, computed_dropped, fixed_on_temps}
-use Rattle.c_lower_law.proofs.Forms.{next_as, next_weaken, value_typed, Runs, RunsNear, effects_settled, runs_near, runs_give, runs_as, near_runs, fixed_first, fixed_type, past_from, was_true, scalar_expr}
+use Rattle.c_lower_law.proofs.Forms.{next_as, next_weaken, value_typed, Runs, RunsNear, effects_settled, runs_near, runs_give, runs_as, near_runs, fixed_first, fixed_type, past_from, scalar_expr}
 use Rattle.c_lower_law.proofs.FormLaws.{ValueLaw, FormLaw, PlaceLaw, EffectsLaw}
 use Rattle.c_lower_law.proofs.StoreLaws.{paired, second_typed, written_object, lower_plain, compound_facts}
 use Rattle.c_lower_law.proofs.Shapes.{pure_value}
@@ -136,17 +136,17 @@ pub record AssignKinds (s : Scene) (p : PlaceTree) (a : ExprTree) (ty : Option V
 
 pub assign_kinds : (s : Scene) (p : PlaceTree) (a : ExprTree) (ty : Option VarTy) → IsTrue (form_fits s.names (x.assign p a) ty) → AssignKinds s p a ty
 assign_kinds s p a ty h =
-    let whole = left (place_fits s.names p && is_written s.names p) ((same_types (place_type s.names p) ty && is_value ty) && (is_typed s.names a && same_types (ty_of a) ty)) h in
-    let rest = right (place_fits s.names p && is_written s.names p) ((same_types (place_type s.names p) ty && is_value ty) && (is_typed s.names a && same_types (ty_of a) ty)) h in
-    let own = left (same_types (place_type s.names p) ty && is_value ty) (is_typed s.names a && same_types (ty_of a) ty) rest in
-    let of = right (same_types (place_type s.names p) ty && is_value ty) (is_typed s.names a && same_types (ty_of a) ty) rest in
+    let whole = both_hold_first (place_fits s.names p && is_written s.names p) ((same_types (place_type s.names p) ty && is_value ty) && (is_typed s.names a && same_types (ty_of a) ty)) h in
+    let rest = both_hold_second (place_fits s.names p && is_written s.names p) ((same_types (place_type s.names p) ty && is_value ty) && (is_typed s.names a && same_types (ty_of a) ty)) h in
+    let own = both_hold_first (same_types (place_type s.names p) ty && is_value ty) (is_typed s.names a && same_types (ty_of a) ty) rest in
+    let of = both_hold_second (same_types (place_type s.names p) ty && is_value ty) (is_typed s.names a && same_types (ty_of a) ty) rest in
     record {
-      there = left (place_fits s.names p) (is_written s.names p) whole;
-      can = written_object s p (right (place_fits s.names p) (is_written s.names p) whole);
-      place_is = equal_options (place_type s.names p) ty (left (same_types (place_type s.names p) ty) (is_value ty) own);
-      value = right (same_types (place_type s.names p) ty) (is_value ty) own;
-      typed_a = left (is_typed s.names a) (same_types (ty_of a) ty) of;
-      a_is = equal_options (ty_of a) ty (right (is_typed s.names a) (same_types (ty_of a) ty) of);
+      there = both_hold_first (place_fits s.names p) (is_written s.names p) whole;
+      can = written_object s p (both_hold_second (place_fits s.names p) (is_written s.names p) whole);
+      place_is = equal_options (place_type s.names p) ty (both_hold_first (same_types (place_type s.names p) ty) (is_value ty) own);
+      value = both_hold_second (same_types (place_type s.names p) ty) (is_value ty) own;
+      typed_a = both_hold_first (is_typed s.names a) (same_types (ty_of a) ty) of;
+      a_is = equal_options (ty_of a) ty (both_hold_second (is_typed s.names a) (same_types (ty_of a) ty) of);
     }
 
 -- a pure expression of a struct's type reads a place
@@ -192,7 +192,7 @@ assign_struct_runs p a lp la at ty s n j k h is from temps =
     let plain = struct_only ty j is in
     let ts = subst (λ z. HasTemps s.core_variables n (l.assigned z (fixed_if (not (is_pure a)) n (place_in (scope_of s) p n)) (object_in (scope_of s) a (past n (fixed_if (not (is_pure a)) n (place_in (scope_of s) p n)).temps)) (value_in (scope_of s) a (past n (fixed_if (not (is_pure a)) n (place_in (scope_of s) p n)).temps))).temps) plain temps in
     let pl = lp s n (Struct j) k q.there (q.place_is ∙ is) from (fixed_first s.core_variables n (not (is_pure a)) (place_in (scope_of s) p n) (temps_first s.core_variables n (fixed_if (not (is_pure a)) n (place_in (scope_of s) p n)).temps (object_in (scope_of s) a (past n (fixed_if (not (is_pure a)) n (place_in (scope_of s) p n)).temps)).temps ts)) in
-    let pr = objects_paired s n j (not (is_pure a)) p a k from (was_true (is_pure a)) q.can q.typed_a (q.a_is ∙ is) ts pl la in
+    let pr = objects_paired s n j (not (is_pure a)) p a k from (from_not_false (is_pure a)) q.can q.typed_a (q.a_is ∙ is) ts pl la in
     subst (λ z. RunsNear s n (value_of (typed at ty (x.assign p a)) (context_of s)) (l.assigned z (fixed_if (not (is_pure a)) n (place_in (scope_of s) p n)) (object_in (scope_of s) a (past n (fixed_if (not (is_pure a)) n (place_in (scope_of s) p n)).temps)) (value_in (scope_of s) a (past n (fixed_if (not (is_pure a)) n (place_in (scope_of s) p n)).temps))).stmts) (sym plain)
     (copied_dropped s n j (location_of p (context_of s)) (value_of a (context_of s)) ((fixed_if (not (is_pure a)) n (place_in (scope_of s) p n)).stmts ++ (object_in (scope_of s) a (past n (fixed_if (not (is_pure a)) n (place_in (scope_of s) p n)).temps)).stmts) (fixed_if (not (is_pure a)) n (place_in (scope_of s) p n)).place (object_in (scope_of s) a (past n (fixed_if (not (is_pure a)) n (place_in (scope_of s) p n)).temps)).place k
     (next_weaken s (Both (IsPlace s (Struct j)) (IsObject s j)) (Both (IsPlace s (Struct j)) HasCells) n (pair_of (location_of p (context_of s)) (value_of a (context_of s))) ((fixed_if (not (is_pure a)) n (place_in (scope_of s) p n)).stmts ++ (object_in (scope_of s) a (past n (fixed_if (not (is_pure a)) n (place_in (scope_of s) p n)).temps)).stmts)
@@ -213,7 +213,7 @@ assign_scalar_runs p a lp la at ty s n u k h is scalar from temps =
     let pl = lp s n u k q.there (q.place_is ∙ is) from (fixed_first s.core_variables n (not (is_pure a)) (place_in (scope_of s) p n) (temps_first s.core_variables n (fixed_if (not (is_pure a)) n (place_in (scope_of s) p n)).temps (value_in (scope_of s) a (past n (fixed_if (not (is_pure a)) n (place_in (scope_of s) p n)).temps)).temps ts)) in
     let pr = second_typed s n u (ty_of a) (Some u) (pair_of (location_of p (context_of s)) (value_of a (context_of s))) ((fixed_if (not (is_pure a)) n (place_in (scope_of s) p n)).stmts ++ (value_in (scope_of s) a (past n (fixed_if (not (is_pure a)) n (place_in (scope_of s) p n)).temps)).stmts)
     (both (place_asked s (fixed_if (not (is_pure a)) n (place_in (scope_of s) p n)).place) (cell_asked s (value_in (scope_of s) a (past n (fixed_if (not (is_pure a)) n (place_in (scope_of s) p n)).temps)).value)) (q.a_is ∙ is)
-    (paired s n u (not (is_pure a)) p a k from (was_true (is_pure a)) q.can q.typed_a (ap is_struct (q.a_is ∙ is) ∙ scalar_struct u scalar) ts pl la) in
+    (paired s n u (not (is_pure a)) p a k from (from_not_false (is_pure a)) q.can q.typed_a (ap is_struct (q.a_is ∙ is) ∙ scalar_struct u scalar) ts pl la) in
     subst (λ z. RunsNear s n (value_of (typed at ty (x.assign p a)) (context_of s)) (l.assigned z (fixed_if (not (is_pure a)) n (place_in (scope_of s) p n)) (object_in (scope_of s) a (past n (fixed_if (not (is_pure a)) n (place_in (scope_of s) p n)).temps)) (value_in (scope_of s) a (past n (fixed_if (not (is_pure a)) n (place_in (scope_of s) p n)).temps))).stmts) (sym plain)
     (given_dropped s n u (location_of p (context_of s)) (value_of a (context_of s)) ((fixed_if (not (is_pure a)) n (place_in (scope_of s) p n)).stmts ++ (value_in (scope_of s) a (past n (fixed_if (not (is_pure a)) n (place_in (scope_of s) p n)).temps)).stmts) (fixed_if (not (is_pure a)) n (place_in (scope_of s) p n)).place (value_in (scope_of s) a (past n (fixed_if (not (is_pure a)) n (place_in (scope_of s) p n)).temps)).value k scalar pr)
 
@@ -222,7 +222,7 @@ pub compound_runs : (p : PlaceTree) (sp : Span) (step : LinkStep) (a : ExprTree)
 compound_runs p sp step a lp la at ty s n k h from temps =
     let q = compound_facts s p sp step a ty h in
     let pl = lp s n q.u k q.there (q.place_is ∙ q.is) from (fixed_first s.core_variables n (not (is_pure a)) (place_in (scope_of s) p n) (temps_first s.core_variables n (fixed_if (not (is_pure a)) n (place_in (scope_of s) p n)).temps (value_in (scope_of s) a (past n (fixed_if (not (is_pure a)) n (place_in (scope_of s) p n)).temps)).temps temps)) in
-    let pr = paired s n q.u (not (is_pure a)) p a k from (was_true (is_pure a)) q.can q.typed_a (not_struct (ty_of a) q.operand) temps pl la in
+    let pr = paired s n q.u (not (is_pure a)) p a k from (from_not_false (is_pure a)) q.can q.typed_a (not_struct (ty_of a) q.operand) temps pl la in
     let same_ty : (fixed_if (not (is_pure a)) n (place_in (scope_of s) p n)).ty ≡ q.u = fixed_type n (not (is_pure a)) (place_in (scope_of s) p n) ∙ pl.named in
     subst (λ z. RunsNear s n (value_of (typed at ty (x.compound p sp step a)) (context_of s)) (((fixed_if (not (is_pure a)) n (place_in (scope_of s) p n)).stmts ++ (value_in (scope_of s) a (past n (fixed_if (not (is_pure a)) n (place_in (scope_of s) p n)).temps)).stmts) ++ assign (fixed_if (not (is_pure a)) n (place_in (scope_of s) p n)).place (computed z step (fixed_if (not (is_pure a)) n (place_in (scope_of s) p n)).place (value_in (scope_of s) a (past n (fixed_if (not (is_pure a)) n (place_in (scope_of s) p n)).temps)).value at) ∷ [])) (sym same_ty)
     (runs_as s n (λ st. location_of p (context_of s) st >>= λ l1 st1. value_of a (context_of s) st1 >>= λ w st2. compounded (context_of s) at l1 step w st2 >>= λ z. gives z) (value_of (typed at ty (x.compound p sp step a)) (context_of s)) (((fixed_if (not (is_pure a)) n (place_in (scope_of s) p n)).stmts ++ (value_in (scope_of s) a (past n (fixed_if (not (is_pure a)) n (place_in (scope_of s) p n)).temps)).stmts) ++ assign (fixed_if (not (is_pure a)) n (place_in (scope_of s) p n)).place (computed q.u step (fixed_if (not (is_pure a)) n (place_in (scope_of s) p n)).place (value_in (scope_of s) a (past n (fixed_if (not (is_pure a)) n (place_in (scope_of s) p n)).temps)).value at) ∷ [])

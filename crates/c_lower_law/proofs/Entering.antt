@@ -2,6 +2,7 @@
 use Rattle.std.proofs.Common.{◌≡◌, ◌∙◌, ◌≤◌, ◌<◌, ℕ, zero, suc, ◌+◌, pos, nat_eq, nat_lt, nat_le, refl, ap, sym, subst, inl, arith, Bool, true, false, Option, Some, None, List, [], ◌∷◌, ◌++◌, map, length, if◌then◌else◌}
 use Rattle.std.specs.Prelude.{◌&&◌, slice_get, slice_set, slice_index_or, get_or, replicate}
 use Rattle.std.proofs.lemmas.Bool.Decides.{nat_tests}
+use Rattle.pt_base.proofs.Numbers.{nat_eq_other, nat_eq_same, nat_eq_true}
 use Rattle.pt_tree.specs.declared.signature.Param.{Param}
 use Rattle.pt_tree.specs.declared.signature.ParamKind.{ParamKind}
 use Rattle.pt_tree.specs.declared.signature.ParamKind.TheVariants as k
@@ -34,7 +35,7 @@ use Rattle.lowering.specs.Lowered.{Temp}
 use Rattle.lowering.specs.Functions.{variable_of}
 use Rattle.c_lower_law.proofs.Relations.{name_of, core_cell, SameObjects}
 use Rattle.c_lower_law.proofs.Values.{Scalar}
-use Rattle.c_lower_law.proofs.Memories.{same_number, is_same, is_other, put_there, put_apart}
+use Rattle.c_lower_law.proofs.Memories.{put_there, put_apart}
 
 -- ---- fresh objects
 
@@ -144,7 +145,7 @@ arguments_at w ss (t ∷ types) [] [] blocks d v j k ty e lead args is h = h j k
 arguments_at w ss (t ∷ types) [] (x ∷ vs) blocks d v j k ty e lead args is h = absurd args
 arguments_at w ss (t ∷ types) (p ∷ ps) [] blocks d v j k ty e lead args is h = absurd args
 arguments_at w ss (t ∷ types) (p ∷ ps) (x ∷ vs) blocks d v zero k ty e lead args is h =
-    ap (λ (z : b.Block). z.cells) (arguments_apart (argument_cells vs) (bs.put blocks (Local d v) (with_cell (blocks (Local d v)) 0 (core_cell (cell_of x)))) d (v + 1) (Local d k) (λ j from to. other_variable d j k (is_other j k (λ q. not_it j k v from e q))))
+    ap (λ (z : b.Block). z.cells) (arguments_apart (argument_cells vs) (bs.put blocks (Local d v) (with_cell (blocks (Local d v)) 0 (core_cell (cell_of x)))) d (v + 1) (Local d k) (λ j from to. other_variable d j k (nat_eq_other j k (λ q. not_it j k v from e q))))
     ∙ ap (λ n. (bs.put blocks (Local d v) (with_cell (blocks (Local d v)) 0 (core_cell (cell_of x))) (Local d n)).cells) at_it
     ∙ ap (λ (z : b.Block). z.cells) (put_there blocks (Local d v) (with_cell (blocks (Local d v)) 0 (core_cell (cell_of x))))
     ∙ one_cell ss p.kind t (core_cell (cell_of x)) (blocks (Local d v)).cells lead.0 (h zero v t (omega arith) refl)
@@ -156,7 +157,7 @@ arguments_at w ss (t ∷ types) (p ∷ ps) (x ∷ vs) blocks d v zero k ty e lea
     not_it j k v a b c = omega (arith, a, b, c)
 arguments_at w ss (t ∷ types) (p ∷ ps) (x ∷ vs) blocks d v (suc j) k ty e lead args is h =
     arguments_at w ss types ps vs (bs.put blocks (Local d v) (with_cell (blocks (Local d v)) 0 (core_cell (cell_of x)))) d (v + 1) j k ty (omega (arith, e)) lead.1 args.1 is
-    (λ i n u f get. ap (λ (z : b.Block). z.cells) (put_apart blocks (Local d v) (Local d n) (with_cell (blocks (Local d v)) 0 (core_cell (cell_of x))) (other_variable d v n (is_other v n (λ q. not_it v n i f q)))) ∙ h (suc i) n u (omega (arith, f)) get)
+    (λ i n u f get. ap (λ (z : b.Block). z.cells) (put_apart blocks (Local d v) (Local d n) (with_cell (blocks (Local d v)) 0 (core_cell (cell_of x))) (other_variable d v n (nat_eq_other v n (λ q. not_it v n i f q)))) ∙ h (suc i) n u (omega (arith, f)) get)
   where
     not_it : (v n i : ℕ) → n ≡ (v + 1) + i → v ≡ n → ⊥
     not_it v n i a b = omega (arith, a, b)
@@ -185,7 +186,7 @@ pub entering_global : (structs : List StructInfo) (vars : List Var) (temps : Lis
 entering_global structs vars temps d vs blocks g = arguments_apart (argument_cells vs) (bs.with_frame blocks d (shapes_of structs (vars ++ map variable_of temps))) d 0 (Global g) (λ j from to. refl)
 
 framed : (blocks : Blocks) (d x : ℕ) (shapes : List BlockShape) → bs.with_frame blocks d shapes (Local d x) ≡ slice_index_or (map fresh shapes) x no_block
-framed blocks d x shapes = ap (λ t. if t then slice_index_or (map fresh shapes) x no_block else blocks (Local d x)) (is_same d d refl)
+framed blocks d x shapes = ap (λ t. if t then slice_index_or (map fresh shapes) x no_block else blocks (Local d x)) (nat_eq_true d d refl)
 
 -- the variables are as at their declarations, with the arguments in the first
 pub entering_own : (w : World) (structs : List StructInfo) (vars : List Var) (temps : List Temp) (d : ℕ) (ps : List Param) (vs : List Value) (blocks : Blocks) (x : ℕ) (ty : VarTy) → Leads ps (map (λ (y : Var). y.ty) vars) → ArgumentsFit w ps vs → slice_get (map (λ (y : Var). y.ty) vars) x ≡ Some ty →
@@ -209,7 +210,7 @@ entering_room w structs vars temps d ps vs blocks n lead args scalar far small =
     let few = arguments_few w (map (λ (y : Var). y.ty) vars) ps vs lead args in
     let count = length_of_types vars in (
       h.0,
-      ap (λ (z : b.Block). z.cells) (arguments_apart (argument_cells vs) (bs.with_frame blocks d (shapes_of structs (vars ++ map variable_of temps))) d 0 (Local d n) (λ j from to. other_variable d j n (is_other j n (λ q. no_argument j (length (argument_cells vs)) (length (map (λ (y : Var). y.ty) vars)) to few count q)))
+      ap (λ (z : b.Block). z.cells) (arguments_apart (argument_cells vs) (bs.with_frame blocks d (shapes_of structs (vars ++ map variable_of temps))) d 0 (Local d n) (λ j from to. other_variable d j n (nat_eq_other j n (λ q. no_argument j (length (argument_cells vs)) (length (map (λ (y : Var). y.ty) vars)) to few count q)))
           ∙ framed blocks d n (shapes_of structs (vars ++ map variable_of temps))) ∙ h.1,
     )
   where
@@ -230,7 +231,7 @@ entering_objects w m blocks structs vars temps ps vs lead args same (local d x) 
     below d n le e = grind (arith, nat_tests)
 
     go : (t : Bool) → nat_eq d (suc w.depth) ≡ t → (entering structs vars temps (suc w.depth) vs blocks (Local d x)).cells ≡ map core_cell (if t then get_or (frame_cells (sizes_of structs) (map (λ (y : Var). y.ty) vars) vs) x [] else m (local d x))
-    go true e = own (same_number d (suc w.depth) e)
+    go true e = own (nat_eq_same d (suc w.depth) e)
     go false e =
         let le = below d w.depth (live_depth (deeper w (map (λ (y : Var). y.ty) vars)) (local d x) ty is) e in
         ap (λ (z : b.Block). z.cells) (entering_apart structs vars temps (suc w.depth) vs blocks d x e) ∙ same (local d x) ty (sym (still_live w (map (λ (y : Var). y.ty) vars) (local d x) le) ∙ is)

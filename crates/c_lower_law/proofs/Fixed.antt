@@ -2,8 +2,10 @@
 -- run in between.
 use Rattle.std.proofs.Common.{◌≡◌, ◌∙◌, ◌≤◌, ◌<◌, ℕ, zero, suc, ◌+◌, pos, refl, ap, sym, subst, inr, arith, Bool, true, false, Option, Some, None, List, [], ◌∷◌, ◌++◌, length, append_assoc, Result, Ok, Err}
 use Rattle.std.specs.Prelude.{IsTrue, slice_get}
+use Rattle.std.proofs.lemmas.Option.{get_or_from_slice_get}
 use Rattle.pt_base.specs.declared.int_type.IntType.TheVariants as i
 use Rattle.pt_base.specs.declared.span.Span.{Span}
+use Rattle.pt_base.proofs.Lists.{append_nil}
 use Rattle.pt_tree.specs.declared.signature.Elem.{Elem}
 use Rattle.runs.specs.State.{gives, trapped, spent, ◌>>=◌}
 use Rattle.typed_tree.specs.declared.types.VarTy.{VarTy}
@@ -16,7 +18,6 @@ use Rattle.source_meaning.specs.Memory.{Cell}
 use Rattle.source_meaning.specs.State.{State, Outcome}
 use Rattle.source_meaning.specs.Values.{Location}
 use Rattle.source_meaning.specs.Expressions.{or_trap, dereferenced}
-use Rattle.source_soundness.proofs.Tests.{got_or}
 use Rattle.pt_core.specs.CodeTree as t
 use Rattle.pt_core.specs.CodeTree.{StmtTree, PlaceTree, place, deref, check}
 use Rattle.pt_core.specs.Types.{type_of, type_at, global_type, place_type, path_type, pointee_type}
@@ -28,7 +29,7 @@ use Rattle.lowering.specs.Lowered.{Temp, LoweredPlace, past, temp, hold}
 use Rattle.lowering.specs.Expressions.{fixed_root, fixed_through, fixed_if}
 use Rattle.c_lower_law.proofs.Relations.{Scene, context_of, frame_of, HasTemps, Kept, Alike, Same, After, below}
 use Rattle.c_lower_law.proofs.Expressions.{run_all, cell_asked, place_asked, SameAsked, Gives, IsPlace, SceneFits}
-use Rattle.c_lower_law.proofs.Runs.{pair, bind_bind, run_append, append_nothing, ok_then, err_as, asked_asked, asked_else}
+use Rattle.c_lower_law.proofs.Runs.{pair, bind_bind, run_append, ok_then, err_as, asked_asked, asked_else}
 use Rattle.c_lower_law.proofs.Memories.{kept_then, kept_same}
 use Rattle.c_lower_law.proofs.Held.{own_length, past_append, temp_there, Holds, with_temp, temp_given, temp_read, hold_then, hold_then_stops, same_ok, same_err, not_both, joined, both, both_err, both_ok, IsNext, Both, pair_of, first_pure}
 use Rattle.c_lower_law.proofs.Places.{led, IsPointer, Stage, StageOf, PlaceLowered, pointee_asked, stage_same}
@@ -78,7 +79,7 @@ deref_then {B} {Y} s n k ty G source keeps first p at path next stmts ask fits f
     (found y st1 z st1' q (temp_given s k z keeps.ty st1 st1' fits (omega (arith, far, le)) there q.after.alike)))))
   where
     held_type : type_of (frame_of s).context (temp k) ≡ Pointer g.elem g.held
-    held_type = got_or s.core_variables k keeps.ty (Int i.Int) there ∙ g.keeps_type
+    held_type = get_or_from_slice_get s.core_variables k keeps.ty (Int i.Int) there ∙ g.keeps_type
 
     far_enough : length (s.frames s.frame.depth) ≤ k
     far_enough = let own = own_length s fits in omega (arith, own, far, le)
@@ -158,7 +159,7 @@ pub place_then : {B Y : Type 0} (s : Scene) (n : ℕ) (ty : VarTy) (can fix : Bo
 place_then s n ty can true p G source next stmts ask fits from temps ok h two pure = fixed_then s n ty p G source next stmts ask fits from h.runs p.through p.place refl (h.stage ok) temps two
 place_then s n ty can false p G source next stmts ask fits from temps ok h two pure =
     subst (λ xs. IsNext s (Both (IsPlace s ty) G) n (pair_of source next) (p.stmts ++ xs) (both (place_asked s p.place) ask)) (sym (pure refl))
-    (subst (λ xs. IsNext s (Both (IsPlace s ty) G) n (pair_of source next) xs (both (place_asked s p.place) ask)) (sym (append_nothing p.stmts))
+    (subst (λ xs. IsNext s (Both (IsPlace s ty) G) n (pair_of source next) xs (both (place_asked s p.place) ask)) (sym (append_nil p.stmts))
     (first_pure s n (past n p.temps) (IsPlace s ty) G source next p.stmts (place_asked s p.place) ask (omega arith) h.runs (subst (λ xs. IsNext s G (past n p.temps) next xs ask) (pure refl) two)))
 
 -- ---- the type of a place that is fixed
@@ -170,7 +171,7 @@ fixed_types s n u ty source p (Some keeps) (place (t.local k) path) is g temps h
 fixed_types s n u ty source p (Some keeps) (place (t.global k) path) is g temps h = subst (λ z. place_type (frame_of s).context (fixed_root n keeps p z).place ≡ u) (sym is) h
 fixed_types s n u ty source p (Some keeps) (place (deref e1 at) path) is g temps h =
     subst (λ z. HasTemps s.core_variables n (fixed_root n keeps p z).temps → place_type (frame_of s).context (fixed_root n keeps p z).place ≡ u) (sym is)
-    (λ temps1. ap (λ w. path_type s.names.structs (pointee_type w) path) (got_or s.core_variables (past n p.temps) keeps.ty (Int i.Int) (temp_there s.core_variables n p.temps keeps [] temps1) ∙ g.keeps_type)
+    (λ temps1. ap (λ w. path_type s.names.structs (pointee_type w) path) (get_or_from_slice_get s.core_variables (past n p.temps) keeps.ty (Int i.Int) (temp_there s.core_variables n p.temps keeps [] temps1) ∙ g.keeps_type)
     ∙ sym (ap (λ w. path_type s.names.structs (pointee_type w) path) g.type) ∙ sym (ap (λ z. place_type (frame_of s).context z) is) ∙ h) temps
 
 pub fixed_place_type : (s : Scene) (n : ℕ) (u ty : VarTy) (p : LoweredPlace) (source : State → Outcome Location) → HasTemps s.core_variables n (fixed_if true n p).temps → place_type (frame_of s).context p.place ≡ u → StageOf s ty n source p.through p.stmts p.place →
@@ -193,7 +194,7 @@ pub fixed_runs : (s : Scene) (n : ℕ) (u : VarTy) (can fix : Bool) (p : Lowered
 fixed_runs s n u can fix p source fits from temps ok h st st' al =
     subst (λ o. SameAsked (Kept s (below n) st'.memory) (Gives s (below n) st'.memory (IsPlace s u)) (place_asked s (fixed_if fix n p).place) o (run_all s (fixed_if fix n p).stmts st')) (first_only (source st))
     (asked_else (Kept s (below n) st'.memory) (Kept s (below n) st'.memory) (Gives s (below n) st'.memory (Both (IsPlace s u) (λ (a : ℕ) (z : ℕ). Unit {0}))) (Gives s (below n) st'.memory (IsPlace s u)) (both (place_asked s (fixed_if fix n p).place) nothing_asked) (place_asked s (fixed_if fix n p).place) (pair_of source nothing_next st) (run_all s (fixed_if fix n p).stmts st') (λ q. gives q.0)
-    (subst (λ xs. SameAsked (Kept s (below n) st'.memory) (Gives s (below n) st'.memory (Both (IsPlace s u) (λ (a : ℕ) (z : ℕ). Unit {0}))) (both (place_asked s (fixed_if fix n p).place) nothing_asked) (pair_of source nothing_next st) (run_all s xs st')) (append_nothing (fixed_if fix n p).stmts)
+    (subst (λ xs. SameAsked (Kept s (below n) st'.memory) (Gives s (below n) st'.memory (Both (IsPlace s u) (λ (a : ℕ) (z : ℕ). Unit {0}))) (both (place_asked s (fixed_if fix n p).place) nothing_asked) (pair_of source nothing_next st) (run_all s xs st')) (append_nil (fixed_if fix n p).stmts)
     (place_then s n u can fix p (λ (a : ℕ) (z : ℕ). Unit {0}) source nothing_next [] nothing_asked fits from temps ok h (λ st1 st1' a1. (refl, kept_same s (below (past n (fixed_if fix n p).temps)) st1'.memory, record { after = record { alike = a1; kept = kept_same s (below (past n (fixed_if fix n p).temps)) st1'.memory }; facts = tt })) (λ e1. refl) st st' al))
     (λ blocks k. k) (λ stop blocks k no. first_no (place_asked s (fixed_if fix n p).place blocks) stop no)
     (λ q st1 z st1' g is. subst (λ r. Same (Gives s (below n) st'.memory (IsPlace s u)) (gives q.0 st1) (evaluated r st1' (λ l. gives l))) (sym (first_yes (place_asked s (fixed_if fix n p).place st1'.memory) z is)) (record { after = g.after; facts = g.facts.0 })))

@@ -5,6 +5,7 @@ use Rattle.pt_base.specs.declared.int_type.IntType.{IntType}
 use Rattle.pt_base.specs.declared.int_type.IntType.TheVariants as i
 use Rattle.pt_base.specs.declared.ids.FnId.{FnId}
 use Rattle.pt_base.specs.declared.span.Span.{Span}
+use Rattle.pt_base.proofs.Booleans.{both_hold_first, both_hold_second, false_not_true}
 use Rattle.pt_tree.specs.declared.signature.Param.{Param}
 use Rattle.pt_tree.specs.declared.signature.Signature.{Signature}
 use Rattle.runs.specs.State.{gives, trapped, spent, ◌>>=◌}
@@ -31,7 +32,6 @@ use Rattle.source_meaning.specs.Values.{Value, holds, cell_of, is_true, Location
 use Rattle.source_meaning.specs.Expressions as e
 use Rattle.source_meaning.specs.Expressions.{value_of, values_of, location_of, root_location, links_value, link_value, operands_value, type_or_int, cell_or_trap}
 use Rattle.typed_tree.proofs.SameTypes.{equal_options}
-use Rattle.source_soundness.proofs.Tests.{left, right, never, got_or}
 use Rattle.source_soundness.proofs.Soundness.{array_of, object_of}
 use Rattle.pt_core.specs.CodeTree as t
 use Rattle.pt_core.specs.CodeTree.{StmtTree}
@@ -54,7 +54,7 @@ use Rattle.c_lower_law.proofs.Values.{near, GivesNear, IsNear, nearly, value_set
 use Rattle.c_lower_law.proofs.Choices.{hold_value, choice_near, IsTruth, truth_held, operand_near, next_truth, operands_split, truth_value_near}
 use Rattle.c_lower_law.proofs.OperandTypes.{ScalarType, scalar_value_type, scalar_type, not_struct, type_is, unary_type, unary_number, convert_type, convert_pointer, link_operand, link_plain, link_points, link_pointer}
 use Rattle.c_lower_law.proofs.Shapes.{links_first, operands_first, steps_first, held_first, link_ready, link_next, item_base, item_next, pure_value}
-use Rattle.c_lower_law.proofs.Forms.{next_as, near_as, next_weaken, value_typed, value_cell, settled_as, Runs, RunsNear, effects_settled, runs_then_nothing, runs_near, runs_give, runs_as, near_runs, fixed_first, fixed_type, past_from, past_one, was_pure, was_true, ready_by, link_step, link_first, scalar_expr}
+use Rattle.c_lower_law.proofs.Forms.{next_as, near_as, next_weaken, value_typed, value_cell, settled_as, Runs, RunsNear, effects_settled, runs_then_nothing, runs_near, runs_give, runs_as, near_runs, fixed_first, fixed_type, past_from, past_one, was_pure, ready_by, link_step, link_first, scalar_expr}
 
 -- what the law of an expression says
 abbrev pub ValueLaw : ExprTree → Type 0
@@ -77,7 +77,7 @@ EffectsLaw ex = (s : Scene) (n : ℕ) → SceneFits s → IsTrue (is_typed s.nam
 
 pub constant_law : (z : _) → FormLaw (x.constant z)
 constant_law z at ty s n k h ns from temps = record {
-  type = λ elem fixed is. never (subst (λ q. constant_fits z (integer_of q) ≡ true) is h);
+  type = λ elem fixed is. false_not_true (subst (λ q. constant_fits z (integer_of q) ≡ true) is h);
   runs = value_settled s (typed at ty (x.constant z)) n [] (cell_asked s (t.constant (int_of ty) z)) k h
       (λ st st' al. (refl, kept_same s (below n) st'.memory, record { near = near s st st' al; kept = kept_same s (below n) st'.memory; facts = cell_same ty (holds (number z)) (cell.Int z) refl }));
 }
@@ -93,10 +93,10 @@ null_law at ty s n k h ns from temps = record {
 
 pub read_law : (p : PlaceTree) → PlaceLaw p → FormLaw (x.read p)
 read_law p law at ty s n k h ns from temps =
-    let there = left (place_fits s.names p) (same_types (place_type s.names p) ty && is_value ty) h in
-    let is = right (place_fits s.names p) (same_types (place_type s.names p) ty && is_value ty) h in
-    let u = scalar_value_type ty (right (same_types (place_type s.names p) ty) (is_value ty) is) ns in
-    let pl = law s n u.u k there (equal_options (place_type s.names p) ty (left (same_types (place_type s.names p) ty) (is_value ty) is) ∙ u.is) from temps in
+    let there = both_hold_first (place_fits s.names p) (same_types (place_type s.names p) ty && is_value ty) h in
+    let is = both_hold_second (place_fits s.names p) (same_types (place_type s.names p) ty && is_value ty) h in
+    let u = scalar_value_type ty (both_hold_second (same_types (place_type s.names p) ty) (is_value ty) is) ns in
+    let pl = law s n u.u k there (equal_options (place_type s.names p) ty (both_hold_first (same_types (place_type s.names p) ty) (is_value ty) is) ∙ u.is) from temps in
     record {
       type = λ elem fixed e1. place_pointer s u.u (place_in (scope_of s) p n).place pl.type elem fixed (sym u.is ∙ e1);
       runs = settled_as s (typed at ty (x.read p)) u.u n (place_in (scope_of s) p n).stmts (cell_asked s (t.read (place_in (scope_of s) p n).place)) k h u.is
@@ -106,8 +106,8 @@ read_law p law at ty s n k h ns from temps =
 
 pub decay_law : (p : PlaceTree) → PlaceLaw p → FormLaw (x.decay p)
 decay_law p law at ty s n k h ns from temps =
-    let there = left (place_fits s.names p) (both_elem (item_of (place_type s.names p)) (pointee_of ty) && keeps_const (place_const s.names p) ty) h in
-    let is = left (both_elem (item_of (place_type s.names p)) (pointee_of ty)) (keeps_const (place_const s.names p) ty) (right (place_fits s.names p) (both_elem (item_of (place_type s.names p)) (pointee_of ty) && keeps_const (place_const s.names p) ty) h) in
+    let there = both_hold_first (place_fits s.names p) (both_elem (item_of (place_type s.names p)) (pointee_of ty) && keeps_const (place_const s.names p) ty) h in
+    let is = both_hold_first (both_elem (item_of (place_type s.names p)) (pointee_of ty)) (keeps_const (place_const s.names p) ty) (both_hold_second (place_fits s.names p) (both_elem (item_of (place_type s.names p)) (pointee_of ty) && keeps_const (place_const s.names p) ty) h) in
     let a = array_of (place_type s.names p) ty is in
     let pl = law s n (Array a.elem a.count) k there a.from from temps in
     record {
@@ -120,9 +120,9 @@ decay_law p law at ty s n k h ns from temps =
 
 pub address_law : (p : PlaceTree) → PlaceLaw p → FormLaw (x.address p)
 address_law p law at ty s n k h ns from temps =
-    let rest = right (place_fits s.names p) (is_addressed p && (both_elem (element_of (place_type s.names p)) (pointee_of ty) && keeps_const (place_const s.names p) ty)) h in
-    let there = left (place_fits s.names p) (is_addressed p && (both_elem (element_of (place_type s.names p)) (pointee_of ty) && keeps_const (place_const s.names p) ty)) h in
-    let is = left (both_elem (element_of (place_type s.names p)) (pointee_of ty)) (keeps_const (place_const s.names p) ty) (right (is_addressed p) (both_elem (element_of (place_type s.names p)) (pointee_of ty) && keeps_const (place_const s.names p) ty) rest) in
+    let rest = both_hold_second (place_fits s.names p) (is_addressed p && (both_elem (element_of (place_type s.names p)) (pointee_of ty) && keeps_const (place_const s.names p) ty)) h in
+    let there = both_hold_first (place_fits s.names p) (is_addressed p && (both_elem (element_of (place_type s.names p)) (pointee_of ty) && keeps_const (place_const s.names p) ty)) h in
+    let is = both_hold_first (both_elem (element_of (place_type s.names p)) (pointee_of ty)) (keeps_const (place_const s.names p) ty) (both_hold_second (is_addressed p) (both_elem (element_of (place_type s.names p)) (pointee_of ty) && keeps_const (place_const s.names p) ty) rest) in
     let o = object_of (place_type s.names p) ty is in
     let pl = law s n (type_of_elem o.elem) k there o.from from temps in
     record {
@@ -136,9 +136,9 @@ address_law p law at ty s n k h ns from temps =
 
 pub unary_law : (op : _) (a : ExprTree) → ValueLaw a → FormLaw (x.unary op a)
 unary_law op a law at ty s n k h ns from temps =
-    let fits = right (is_typed s.names a) (unary_fits op (ty_of a) ty) h in
+    let fits = both_hold_second (is_typed s.names a) (unary_fits op (ty_of a) ty) h in
     let u = unary_type op (ty_of a) ty fits in
-    let va = law s n k (left (is_typed s.names a) (unary_fits op (ty_of a) ty) h) (not_struct (ty_of a) (record { u = u.u; is = u.is; scalar = u.scalar })) from temps in
+    let va = law s n k (both_hold_first (is_typed s.names a) (unary_fits op (ty_of a) ty) h) (not_struct (ty_of a) (record { u = u.u; is = u.is; scalar = u.scalar })) from temps in
     record {
       type = λ elem fixed is. absurd (unary_number op (ty_of a) ty elem fixed fits is);
       runs = value_settled s (typed at ty (x.unary op a)) n (value_in (scope_of s) a n).stmts (cell_asked s (prefixed op (e.type_of a) (value_in (scope_of s) a n).value at)) k h
@@ -150,9 +150,9 @@ unary_law op a law at ty s n k h ns from temps =
 
 pub convert_law : (a : ExprTree) → ValueLaw a → FormLaw (x.convert a)
 convert_law a law at ty s n k h ns from temps =
-    let fits = right (is_typed s.names a) (converts (ty_of a) ty) h in
+    let fits = both_hold_second (is_typed s.names a) (converts (ty_of a) ty) h in
     let u = convert_type (ty_of a) ty fits in
-    let va = law s n k (left (is_typed s.names a) (converts (ty_of a) ty) h) (not_struct (ty_of a) (record { u = u.u; is = u.is; scalar = u.scalar })) from temps in
+    let va = law s n k (both_hold_first (is_typed s.names a) (converts (ty_of a) ty) h) (not_struct (ty_of a) (record { u = u.u; is = u.is; scalar = u.scalar })) from temps in
     record {
       type = convert_pointer s (ty_of a) ty (value_in (scope_of s) a n).value fits va.type;
       runs = settled_as s (typed at ty (x.convert a)) u.to n (value_in (scope_of s) a n).stmts (cell_asked s (lo.converted (type_or_int ty) (value_in (scope_of s) a n).value)) k h u.gives_is
@@ -164,17 +164,17 @@ convert_law a law at ty s n k h ns from temps =
 
 none_is : (ty : Option VarTy) → is_none ty ≡ true → ty ≡ None
 none_is None h = refl
-none_is (Some u) h = never h
+none_is (Some u) h = false_not_true h
 
 pub discard_law : (a : ExprTree) → EffectsLaw a → FormLaw (x.discard a)
 discard_law a law at ty s n k h ns from temps =
-    let none = none_is ty (right (is_typed s.names a) (is_none ty) h) in
+    let none = none_is ty (both_hold_second (is_typed s.names a) (is_none ty) h) in
     record {
       type = λ elem fixed is. absurd (no_type (sym none ∙ is));
       runs = value_settled s (typed at ty (x.discard a)) n (effects_in (scope_of s) a n).stmts (cell_asked s (t.constant i.Int (pos 0))) k h
           (subst (λ z. IsNear s (SameCell z) n (λ st. value_of a (context_of s) st >>= λ w. gives m.nothing) (effects_in (scope_of s) a n).stmts (cell_asked s (t.constant i.Int (pos 0)))) (sym none)
           (runs_then_nothing s n (value_of a (context_of s)) (effects_in (scope_of s) a n).stmts (λ w. m.nothing)
-          (runs_near s n (value_of a (context_of s)) (effects_in (scope_of s) a n).stmts (law s n k (left (is_typed s.names a) (is_none ty) h) from temps))));
+          (runs_near s n (value_of a (context_of s)) (effects_in (scope_of s) a n).stmts (law s n k (both_hold_first (is_typed s.names a) (is_none ty) h) from temps))));
     }
   where
     no_type : {elem : _} {fixed : Bool} → None ≡ Some (Pointer elem fixed) → ⊥

@@ -3,6 +3,7 @@ use Rattle.std.proofs.Common.{◌≡◌, ◌∙◌, ◌≤◌, ◌<◌, ◌⊎�
 use Rattle.std.specs.Prelude.{IsTrue, ◌&&◌, ◌||◌, is_some, slice_get}
 use Rattle.pt_base.specs.declared.int_type.IntType.TheVariants as i
 use Rattle.pt_base.specs.declared.span.Span.{Span}
+use Rattle.pt_base.proofs.Booleans.{false_not_true}
 use Rattle.runs.specs.State.{gives, trapped, spent, ◌>>=◌}
 use Rattle.typed_tree.specs.declared.types.VarTy.{VarTy}
 use Rattle.typed_tree.specs.declared.types.VarTy.TheVariants.{Int, Struct, Array, Pointer}
@@ -24,7 +25,6 @@ use Rattle.source_meaning.specs.Expressions as e
 use Rattle.source_meaning.specs.Expressions.{cell_or_trap, value_of}
 use Rattle.source_soundness.specs.Worlds.{ValueFits}
 use Rattle.source_soundness.specs.Sizes.{ValueSized}
-use Rattle.source_soundness.proofs.Tests.{left, right, never}
 use Rattle.source_soundness.proofs.Soundness.{value_fits}
 use Rattle.source_soundness.proofs.SizeSoundness.{value_sized}
 use Rattle.pt_core.specs.CodeTree as t
@@ -182,12 +182,8 @@ past_one n xs x = let e1 = length-append xs (x ∷ []) in omega (arith, e1)
 
 pub was_pure : (a z : Bool) → (not a || not z) ≡ false → z ≡ true
 was_pure a true h = refl
-was_pure true false h = never (sym h)
-was_pure false false h = never (sym h)
-
-pub was_true : (z : Bool) → not z ≡ false → z ≡ true
-was_true true h = refl
-was_true false h = never (sym h)
+was_pure true false h = false_not_true (sym h)
+was_pure false false h = false_not_true (sym h)
 
 -- a pointer that is added to an integer comes after a held one
 abbrev pub LinkBy : LinkStep → t.ExprTree → Type 0

@@ -1,7 +1,9 @@
 -- What comes first is ready when what comes next has been evaluated: it is held in a temporary, or nothing
 -- is run in between.
-use Rattle.std.proofs.Common.{◌≡◌, ◌∙◌, ◌≤◌, ◌<◌, ℕ, zero, suc, ◌+◌, pos, refl, ap, sym, subst, inr, arith, Bool, true, false, Option, Some, None, List, [], ◌∷◌, ◌++◌, map, length, length-append, append_assoc, Result, Ok, Err, if◌then◌else◌}
+use Rattle.std.proofs.Common.{◌≡◌, ◌∙◌, ◌≤◌, ℕ, suc, ◌+◌, pos, refl, ap, sym, subst, inr, arith, Bool, true, false, Option, Some, None, List, [], ◌∷◌, ◌++◌, length, length-append, append_assoc, Result, Ok, Err, if◌then◌else◌}
 use Rattle.std.specs.Prelude.{slice_index_or, slice_get, slice_set}
+use Rattle.pt_base.proofs.Lists.{append_nil, length_map}
+use Rattle.pt_base.proofs.Places.{get_below_length}
 use Rattle.runs.specs.State.{gives, trapped, spent, ◌>>=◌}
 use Rattle.typed_tree.specs.declared.types.VarTy.{VarTy}
 use Rattle.block_memory.specs.declared.cell.Cell as core
@@ -20,23 +22,14 @@ use Rattle.pt_core.specs.Statements.{Flow, goes_on, after_flow, evaluated, with_
 use Rattle.lowering.specs.Lowered.{Temp, Lowered, past, temp, hold, held, held_if}
 use Rattle.c_lower_law.proofs.Relations.{Scene, variable_types, HasTemps, HasRoom, Kept, Alike, Same, After, below}
 use Rattle.c_lower_law.proofs.Expressions.{run_all, asked, cell_asked, SameAsked, Gives, IsValue, SceneFits}
-use Rattle.c_lower_law.proofs.Runs.{bind_bind, run_append, append_nothing, ok_then, same_bind, same_weaken, Stops, stops_at, asked_asked, asked_else}
+use Rattle.c_lower_law.proofs.Runs.{bind_bind, run_append, ok_then, same_bind, same_weaken, Stops, stops_at, asked_asked, asked_else}
 use Rattle.c_lower_law.proofs.Memories.{kept_then, kept_temp, alike_temp, temp_holds}
 
 -- ---- numbers of temporaries
 
-length_map : {A B : Type 0} (f : A → B) (xs : List A) → length (map f xs) ≡ length xs
-length_map f [] = refl
-length_map f (x ∷ xs) = ap suc (length_map f xs)
-
 -- the function's own variables
 pub own_length : (s : Scene) → SceneFits s → length (s.frames s.frame.depth) ≡ length s.names.vars
 own_length s k = ap (λ (xs : List VarTy). length xs) k.fits.own ∙ length_map (λ x. x.ty) s.names.vars
-
-got_small : {A : Type 0} (xs : List A) (k : ℕ) (x : A) → slice_get xs k ≡ Some x → k < length xs
-got_small [] k x h = cc
-got_small (y ∷ ys) zero x h = omega arith
-got_small (y ∷ ys) (suc k) x h = let less = got_small ys k x h in omega (arith, less)
 
 pub past_append : (n : ℕ) (xs ys : List Temp) → past n (xs ++ ys) ≡ past (past n xs) ys
 past_append n xs ys = let e = length-append xs ys in omega (arith, e)
@@ -72,7 +65,7 @@ temp_given s k x ty st st' fits far is a =
     record {
       alike = alike_temp s st st' k x (omega (arith, own, far)) a;
       kept = kept_temp s st'.memory k (record { types = (st'.memory (Local s.frame.depth k)).types; cells = slice_set (st'.memory (Local s.frame.depth k)).cells 0 x });
-      cell = temp_holds s st'.memory k x a.room far (got_small s.core_variables k ty is);
+      cell = temp_holds s st'.memory k x a.room far (get_below_length s.core_variables k ty is);
     }
 
 -- what is held is what is read
@@ -241,7 +234,7 @@ first_then s n far true x F G source next stmts ask fits from temps one two pure
     next_number m = omega arith
 first_then s n far false x F G source next stmts ask fits from temps one two pure =
     subst (λ xs. IsNext s (Both F G) n (pair_of source next) (far.stmts ++ xs) (both (cell_asked s far.value) ask)) (sym (pure refl))
-    (subst (λ xs. IsNext s (Both F G) n (pair_of source next) xs (both (cell_asked s far.value) ask)) (sym (append_nothing far.stmts))
+    (subst (λ xs. IsNext s (Both F G) n (pair_of source next) xs (both (cell_asked s far.value) ask)) (sym (append_nil far.stmts))
     (first_pure s n (past n far.temps) F G source next far.stmts (cell_asked s far.value) ask (omega arith) one (subst (λ xs. IsNext s G (past n far.temps) next xs ask) (pure refl) two)))
 
 -- what is kept from a later memory on is kept from the first

@@ -5,6 +5,7 @@ use Rattle.pt_base.specs.declared.int_type.IntType.{IntType}
 use Rattle.pt_base.specs.declared.int_type.IntType.TheVariants as i
 use Rattle.pt_base.specs.declared.ids.FnId.{FnId}
 use Rattle.pt_base.specs.declared.span.Span.{Span}
+use Rattle.pt_base.proofs.Booleans.{both_hold_first, both_hold_second, false_not_true}
 use Rattle.pt_tree.specs.declared.signature.Param.{Param}
 use Rattle.runs.specs.State.{gives, trapped, spent, ◌>>=◌}
 use Rattle.typed_tree.specs.declared.types.VarTy.{VarTy}
@@ -28,7 +29,6 @@ use Rattle.source_soundness.specs.Worlds.{Fits, LocationFits, ValueFits}
 use Rattle.source_soundness.specs.Laws.{Keeps}
 use Rattle.source_soundness.specs.Sizes.{KeepsSizes, LiesWithin, ValueSized}
 use Rattle.typed_tree.proofs.SameTypes.{equal_options}
-use Rattle.source_soundness.proofs.Tests.{left, right, never, got, got_or}
 use Rattle.source_soundness.proofs.Soundness.{value_fits, place_keeps, root_keeps, keeps_bind, field_lies, element_lies, pointer_to_type, element_step, steps_none}
 use Rattle.source_soundness.proofs.SizeSoundness.{value_sized, place_sized}
 use Rattle.pt_core.specs.CodeTree as t
@@ -51,7 +51,7 @@ use Rattle.c_lower_law.proofs.Values.{IsNear, nearly, value_settled, held_pointe
 use Rattle.c_lower_law.proofs.Choices.{IsTruth, truth_held, operands_split, truth_value_near}
 use Rattle.c_lower_law.proofs.OperandTypes.{ScalarType, scalar_type, not_struct}
 use Rattle.c_lower_law.proofs.Shapes.{links_first, operands_first, steps_first, held_first, link_next, item_base, item_next, pure_value, pure_arguments}
-use Rattle.c_lower_law.proofs.Forms.{next_as, settled_as, value_typed, past_from, past_one, was_true, link_first, scalar_expr, Runs}
+use Rattle.c_lower_law.proofs.Forms.{next_as, settled_as, value_typed, past_from, past_one, link_first, scalar_expr, Runs}
 use Rattle.c_lower_law.proofs.FormLaws.{ValueLaw, FormLaw, PlaceLaw, EffectsLaw, constant_law, null_law, read_law, decay_law, address_law, unary_law, convert_law, discard_law, ChainLowered, link_lowered, nothing_linked, more_linked, IsTruthSoFar, operand_lowered}
 use Rattle.c_lower_law.proofs.StoreLaws.{choice_law, assign_law, compound_law, step_law, ArgumentsLaw, call_law}
 use Rattle.c_lower_law.proofs.Calls.{arguments_and, no_arguments}
@@ -96,9 +96,9 @@ mutual
       held_runs s n (typed at ty (x.unary op a)) (holding (type_or_int ty) (typed at ty (x.unary op a))) (form_in (scope_of s) (x.unary op a) at ty n) k from temps
       (unary_law op a (value_law a) at ty s n k h (unary_struct op a ty s h) from (temps_first s.core_variables n (form_in (scope_of s) (x.unary op a) at ty n).temps (holding (type_or_int ty) (typed at ty (x.unary op a)) ∷ []) temps))
   form_effects_law (x.convert a) at ty s n k h from temps =
-      runs_give s n (value_of a (context_of s)) (effects_in (scope_of s) a n).stmts (m.converted (type_or_int ty)) (runs_near s n (value_of a (context_of s)) (effects_in (scope_of s) a n).stmts (effects_law a s n k (left (is_typed s.names a) (converts (ty_of a) ty) h) from temps))
+      runs_give s n (value_of a (context_of s)) (effects_in (scope_of s) a n).stmts (m.converted (type_or_int ty)) (runs_near s n (value_of a (context_of s)) (effects_in (scope_of s) a n).stmts (effects_law a s n k (both_hold_first (is_typed s.names a) (converts (ty_of a) ty) h) from temps))
   form_effects_law (x.discard a) at ty s n k h from temps =
-      runs_give s n (value_of a (context_of s)) (effects_in (scope_of s) a n).stmts (λ w. m.nothing) (runs_near s n (value_of a (context_of s)) (effects_in (scope_of s) a n).stmts (effects_law a s n k (left (is_typed s.names a) (is_none ty) h) from temps))
+      runs_give s n (value_of a (context_of s)) (effects_in (scope_of s) a n).stmts (λ w. m.nothing) (runs_near s n (value_of a (context_of s)) (effects_in (scope_of s) a n).stmts (effects_law a s n k (both_hold_first (is_typed s.names a) (is_none ty) h) from temps))
   form_effects_law (x.chain a links) at ty s n k h from temps =
       held_runs s n (typed at ty (x.chain a links)) (holding (type_or_int ty) (typed at ty (x.chain a links))) (form_in (scope_of s) (x.chain a links) at ty n) k from temps
       (chain_law a links (value_law a) (links_law links) at ty s n k h (chain_struct a links ty s h) from (temps_first s.core_variables n (form_in (scope_of s) (x.chain a links) at ty n).temps (holding (type_or_int ty) (typed at ty (x.chain a links)) ∷ []) temps))
@@ -133,27 +133,27 @@ mutual
   links_law : (links : LinkTrees) → LinksLaw links
   links_law no_links s n first before sp u ty far source k from h temps c0 = nothing_linked s n u ty far source (equal_options (Some u) ty h) c0
   links_law (link_and (link at to step ex) rest) s n first before sp u ty far source k from h temps c0 =
-      let more = right (is_typed s.names ex) (same_types (r.stepped (Some u) step (ty_of ex)) (Some to) && links_fit s.names (Some to) rest ty) h in
-      let is = equal_options (r.stepped (Some u) step (ty_of ex)) (Some to) (left (same_types (r.stepped (Some u) step (ty_of ex)) (Some to)) (links_fit s.names (Some to) rest ty) more) in
+      let more = both_hold_second (is_typed s.names ex) (same_types (r.stepped (Some u) step (ty_of ex)) (Some to) && links_fit s.names (Some to) rest ty) h in
+      let is = equal_options (r.stepped (Some u) step (ty_of ex)) (Some to) (both_hold_first (same_types (r.stepped (Some u) step (ty_of ex)) (Some to)) (links_fit s.names (Some to) rest ty) more) in
       let nt = links_first rest (scope_of s) s.core_variables first (before ++ link at to step ex ∷ []) at to (link_next (scope_of s) first before sp u at step ex far n) n temps in
       more_linked s n u to ty at step ex rest (links_in (scope_of s) rest first (before ++ link at to step ex ∷ []) at to (link_next (scope_of s) first before sp u at step ex far n) n) source
-      (links_law rest s n first (before ++ link at to step ex ∷ []) at to ty (link_next (scope_of s) first before sp u at step ex far n) (λ st. source st >>= λ w. link_value (link at to step ex) u w (context_of s)) k from (right (same_types (r.stepped (Some u) step (ty_of ex)) (Some to)) (links_fit s.names (Some to) rest ty) more) temps
-      (link_lowered s n first before sp u to at step ex far source (value_law ex) k from (left (is_typed s.names ex) (same_types (r.stepped (Some u) step (ty_of ex)) (Some to) && links_fit s.names (Some to) rest ty) h) is nt c0))
+      (links_law rest s n first (before ++ link at to step ex ∷ []) at to ty (link_next (scope_of s) first before sp u at step ex far n) (λ st. source st >>= λ w. link_value (link at to step ex) u w (context_of s)) k from (both_hold_second (same_types (r.stepped (Some u) step (ty_of ex)) (Some to)) (links_fit s.names (Some to) rest ty) more) temps
+      (link_lowered s n first before sp u to at step ex far source (value_law ex) k from (both_hold_first (is_typed s.names ex) (same_types (r.stepped (Some u) step (ty_of ex)) (Some to) && links_fit s.names (Some to) rest ty) h) is nt c0))
 
   operands_law : (operands : OperandTrees) → OperandsLaw operands
   operands_law no_operands s n op j far source k from le near_j there h temps held = truth_value_near s n j source far.stmts held
   operands_law (operand_and (operand sp ex) rest) s n op j far source k from le near_j there h temps held =
-      let first = left (is_typed s.names ex && is_scalar (ty_of ex)) (operands_fit s.names rest) h in
+      let first = both_hold_first (is_typed s.names ex && is_scalar (ty_of ex)) (operands_fit s.names rest) h in
       let nt = operands_first rest (scope_of s) s.core_variables op j (with_operand op j (e.type_of ex) sp far (value_in (scope_of s) ex (past n far.temps))) n temps in
       next_as s (SameCell (Some int)) n (λ st. (source st >>= next_truth op (λ st1. value_of ex (context_of s) st1 >>= λ w. gives (is_true w))) >>= λ z. operands_value rest op z (context_of s)) (λ st. source st >>= λ z. operands_value (operand_and (operand sp ex) rest) op z (context_of s))
       (operands_in (scope_of s) rest op j (with_operand op j (e.type_of ex) sp far (value_in (scope_of s) ex (past n far.temps))) n).stmts (cell_asked s (temp j)) (λ st. operands_split rest op (operand sp ex) (context_of s) (source st))
-      (operands_law rest s n op j (with_operand op j (e.type_of ex) sp far (value_in (scope_of s) ex (past n far.temps))) (λ st. source st >>= next_truth op (λ st1. value_of ex (context_of s) st1 >>= λ w. gives (is_true w))) k from le (later n j far.temps (value_in (scope_of s) ex (past n far.temps)).temps near_j) there (right (is_typed s.names ex && is_scalar (ty_of ex)) (operands_fit s.names rest) h) temps
-      (operand_lowered s n j op sp ex far source (value_law ex) k from le near_j there (left (is_typed s.names ex) (is_scalar (ty_of ex)) first) (right (is_typed s.names ex) (is_scalar (ty_of ex)) first) nt held))
+      (operands_law rest s n op j (with_operand op j (e.type_of ex) sp far (value_in (scope_of s) ex (past n far.temps))) (λ st. source st >>= next_truth op (λ st1. value_of ex (context_of s) st1 >>= λ w. gives (is_true w))) k from le (later n j far.temps (value_in (scope_of s) ex (past n far.temps)).temps near_j) there (both_hold_second (is_typed s.names ex && is_scalar (ty_of ex)) (operands_fit s.names rest) h) temps
+      (operand_lowered s n j op sp ex far source (value_law ex) k from le near_j there (both_hold_first (is_typed s.names ex) (is_scalar (ty_of ex)) first) (both_hold_second (is_typed s.names ex) (is_scalar (ty_of ex)) first) nt held))
 
   pub arguments_law : (es : ExprTrees) → ArgumentsLaw es
   arguments_law no_exprs s n [] k all1 fit from temps = no_arguments s n
-  arguments_law no_exprs s n (p ∷ ps) k all1 fit from temps = never fit
-  arguments_law (expr_and a rest) s n [] k all1 fit from temps = never fit
+  arguments_law no_exprs s n (p ∷ ps) k all1 fit from temps = false_not_true fit
+  arguments_law (expr_and a rest) s n [] k all1 fit from temps = false_not_true fit
   arguments_law (expr_and a rest) s n (p ∷ ps) k all1 fit from temps = argument_and a rest p ps (value_law a) (arguments_law rest) s n k all1 fit from temps
 
   pub place_law : (p : PlaceTree) → PlaceLaw p
@@ -161,8 +161,8 @@ mutual
       let rt = steps_first steps (scope_of s) s.core_variables root [] (root_in (scope_of s) root n) n temps in
       let b = steps_some s.names.structs (root_type s.names root) steps u is in
       (found_as s u n (can_after (can_root root) steps) (is_object (place root steps)) (λ st. root_location root (context_of s) st >>= λ at. steps_location steps at (context_of s)) (location_of (place root steps) (context_of s)) (place_in (scope_of s) (place root steps) n) (λ ok. can_object root steps ok) (λ st. refl)
-      (steps_law steps s n (can_root root) b.0 u root [] (root_location root (context_of s)) (root_in (scope_of s) root n) k from (right (root_fits s.names root) (steps_fit s.names steps) h) (subst (λ z. steps_type s.names.structs z steps ≡ Some u) b.1 is) temps
-      (root_law root s n b.0 k (left (root_fits s.names root) (steps_fit s.names steps) h) b.1 from rt))).lowered
+      (steps_law steps s n (can_root root) b.0 u root [] (root_location root (context_of s)) (root_in (scope_of s) root n) k from (both_hold_second (root_fits s.names root) (steps_fit s.names steps) h) (subst (λ z. steps_type s.names.structs z steps ≡ Some u) b.1 is) temps
+      (root_law root s n b.0 k (both_hold_first (root_fits s.names root) (steps_fit s.names steps) h) b.1 from rt))).lowered
 
   root_law : (root : RootTree) → RootLaw root
   root_law (x.local z) s n u k h is from temps = local_found z s n u k is
@@ -203,5 +203,5 @@ mutual
       let nt = steps_first rest (scope_of s) s.core_variables root (before ++ x.item ex sp ∷ []) (item_next (scope_of s) sp root before far ex n) n temps in
       found_as s ty n (can_after true rest) (can_after true rest) (λ st. (source st >>= step_location_of s ex sp) >>= λ at. steps_location rest at (context_of s)) (λ st. source st >>= λ at. steps_location (step_and (x.item ex sp) rest) at (context_of s)) (steps_in (scope_of s) rest root (before ++ x.item ex sp ∷ []) (item_next (scope_of s) sp root before far ex n) n) (λ ok. ok)
       (λ st. sym (bind_bind (source st) (step_location_of s ex sp) (λ at. steps_location rest at (context_of s))))
-      (steps_law rest s n true b.0 ty root (before ++ x.item ex sp ∷ []) (λ st. source st >>= step_location_of s ex sp) (item_next (scope_of s) sp root before far ex n) k from (right (is_typed s.names ex) (steps_fit s.names rest) h) (subst (λ z. steps_type s.names.structs z rest ≡ Some ty) b.1 is) temps
-      (item_found s n can a b.0 ex sp root before source far k from (value_law ex) (left (is_typed s.names ex) (steps_fit s.names rest) h) b.1 nt g))
+      (steps_law rest s n true b.0 ty root (before ++ x.item ex sp ∷ []) (λ st. source st >>= step_location_of s ex sp) (item_next (scope_of s) sp root before far ex n) k from (both_hold_second (is_typed s.names ex) (steps_fit s.names rest) h) (subst (λ z. steps_type s.names.structs z rest ≡ Some ty) b.1 is) temps
+      (item_found s n can a b.0 ex sp root before source far k from (value_law ex) (both_hold_first (is_typed s.names ex) (steps_fit s.names rest) h) b.1 nt g))

@@ -2,16 +2,20 @@
 use Rattle.std.proofs.Math.Nat.{suc-mul, zero-mul}
 use Rattle.std.proofs.Math.ListN.{get_or-append}
 use Rattle.std.proofs.Math.Seq.{get_or-append_seam}
-use Rattle.std.proofs.Common.{◌≡◌, ◌∙◌, ◌≤◌, ◌<◌, ℕ, zero, suc, ◌+◌, ◌*◌, ℤ, pos, ◌+ℤ◌, refl, ap, sym, subst, arith, Bool, true, false, Option, Some, None, List, [], ◌∷◌, ◌++◌, length, length-append, map, append_assoc, get_or, Result, Ok, Err, if◌then◌else◌}
+use Rattle.std.proofs.Common.{◌≡◌, ◌∙◌, ◌≤◌, ◌<◌, ℕ, zero, suc, ◌+◌, ◌*◌, ℤ, pos, refl, ap, sym, subst, arith, Bool, true, false, Option, Some, None, List, [], ◌∷◌, ◌++◌, length, length-append, map, append_assoc, get_or, Result, Ok, Err, if◌then◌else◌}
 use Rattle.std.specs.Prelude.{IsTrue, ◌&&◌, nat_le, nat_lt, slice_get, take, unwrap_or}
 use Rattle.std.specs.List.{list_all, flat_map}
 use Rattle.std.proofs.lemmas.Bool.Decides.{nat_tests}
-use Rattle.std.proofs.lemmas.Int.{ints}
+use Rattle.std.proofs.lemmas.Option.{get_or_from_slice_get}
 use Rattle.pt_base.specs.declared.int_type.IntType.{IntType}
 use Rattle.pt_base.specs.declared.int_type.IntType.TheVariants as i
 use Rattle.pt_base.specs.declared.span.Span.{Span}
 use Rattle.pt_base.specs.declared.trap.Trap.{Trap}
 use Rattle.pt_base.specs.declared.trap.Trap.TheVariants.{Bounds}
+use Rattle.pt_base.proofs.Booleans.{both_hold_first, both_hold_second, false_not_true}
+use Rattle.pt_base.proofs.Lists.{length_map}
+use Rattle.pt_base.proofs.Numbers.{nat_lt_below, plus_zero, plus_zero_times, positive_from_zero}
+use Rattle.pt_base.proofs.Places.{get_or_past}
 use Rattle.pt_tree.specs.declared.signature.Elem.{Elem}
 use Rattle.pt_tree.specs.declared.signature.Elem.TheVariants as e
 use Rattle.runs.specs.Pointers.{Target, moved, moved_index, up_to, at_index, reached, directed}
@@ -28,7 +32,6 @@ use Rattle.typed_tree.specs.WellFormedExpression.{is_elem}
 use Rattle.typed_tree.specs.WellFormedStatement.{item_types}
 use Rattle.typed_tree.proofs.LeavesLemmas.{leaves_of_struct}
 use Rattle.source_meaning.proofs.SizeLemmas as lemmas
-use Rattle.source_soundness.proofs.Tests.{left, right, never, got_or}
 use Rattle.block_memory.specs.declared.cell.Cell as core
 use Rattle.block_memory.specs.declared.cell.Cell.TheVariants as cell
 use Rattle.block_memory.specs.declared.cell.Pointer.TheVariants as pointer
@@ -88,14 +91,11 @@ at_field s (place root path) block k n j h = record {
 
 -- ---- steps to elements
 
-from_zero : (k : ℕ) → pos 0 +ℤ pos k ≡ pos k
-from_zero k = omega (arith, ints)
-
 abbrev first_of : BlockName → ℕ → ℕ → ℕ → Target BlockName
 first_of block k count index = record { block = block; base = k; count = count; index = index }
 
 moved_to : (block : BlockName) (k count j : ℕ) → j < count → moved (pos j) (Some (first_of block k count 0)) ≡ Ok (first_of block k count j)
-moved_to block k count j less = ap (λ z. at_index (first_of block k count 0) (up_to count z)) (from_zero j) ∙ ap (λ (b : Bool). at_index (first_of block k count 0) (if b then Some j else None)) (within j count less)
+moved_to block k count j less = ap (λ z. at_index (first_of block k count 0) (up_to count z)) (positive_from_zero j) ∙ ap (λ (b : Bool). at_index (first_of block k count 0) (if b then Some j else None)) (within j count less)
   where
     within : (j count : ℕ) → j < count → nat_le j count ≡ true
     within j count h = grind (arith, nat_tests)
@@ -181,12 +181,6 @@ record Object (s : Scene) (known : List Ways) (u : VarTy) : Type 0 where
   long : length (object_ways known u) ≡ cells_by (sizes_in s) u
   all : (sp : Span) (p : PlaceTree) (block : BlockName) (k : ℕ) → At s p block k u → AllAt s sp p block k (object_ways known u)
 
-smaller : (n m : ℕ) → nat_lt n m ≡ true → n < m
-smaller n m h = grind (arith, nat_tests)
-
-alone : (k : ℕ) → k + 0 ≡ k
-alone k = omega arith
-
 -- the structs that a type names are among so many
 abbrev NamesBelow : ℕ → VarTy → Type 0
 NamesBelow earlier (Int t1) = Unit {0}
@@ -197,26 +191,23 @@ NamesBelow earlier (Pointer elem fixed) = ⊥
 
 names_plain : (earlier : ℕ) (u : VarTy) → is_plain_type earlier u ≡ true → NamesBelow earlier u
 names_plain earlier (Int t1) ok = tt
-names_plain earlier (Struct n) ok = smaller n earlier ok
+names_plain earlier (Struct n) ok = nat_lt_below n earlier ok
 names_plain earlier (Array (e.Int t1) count) ok = tt
-names_plain earlier (Array (e.Struct n) count) ok = smaller n earlier (left (is_elem earlier (Some (e.Struct n))) (nat_le 1 count) ok)
-names_plain earlier (Pointer elem fixed) ok = never ok
-
-start : (k size : ℕ) → k + 0 * size ≡ k
-start k size = let none : 0 * size ≡ 0 = zero-mul size in omega (arith, none)
+names_plain earlier (Array (e.Struct n) count) ok = nat_lt_below n earlier (both_hold_first (is_elem earlier (Some (e.Struct n))) (nat_le 1 count) ok)
+names_plain earlier (Pointer elem fixed) ok = false_not_true ok
 
 object_at : (s : Scene) (known : List Ways) (u : VarTy) (earlier : ℕ) → NamesBelow earlier u → ((n : ℕ) → n < earlier → Known s known n) → Object s known u
 object_at s known (Int t1) earlier ok has = record { long = refl; all = λ sp p block k h. ((Int t1, h), tt) }
 object_at s known (Struct n) earlier ok has = let there = has n ok in record { long = there.long; all = there.all }
 object_at s known (Array (e.Int t1) count) earlier ok has = record {
   long = elements_length count 0 ([] ∷ []);
-  all = λ sp p block k h. subst (λ z. AllAt s sp p block z (element_ways count 0 ([] ∷ []))) (start k 1) (elements_at count 0 s sp p block k count 1 ([] ∷ []) (omega arith) refl (λ j less. ((Int t1, at_element s sp p block k count j (e.Int t1) less h), tt)));
+  all = λ sp p block k h. subst (λ z. AllAt s sp p block z (element_ways count 0 ([] ∷ []))) (plus_zero_times k 1) (elements_at count 0 s sp p block k count 1 ([] ∷ []) (omega arith) refl (λ j less. ((Int t1, at_element s sp p block k count j (e.Int t1) less h), tt)));
 }
 object_at s known (Array (e.Struct n) count) earlier ok has =
     let there = has n ok in
     record {
       long = elements_length count 0 (get_or known n []) ∙ ap (λ z. count * z) there.long;
-      all = λ sp p block k h. subst (λ z. AllAt s sp p block z (element_ways count 0 (get_or known n []))) (start k (cells_by (sizes_in s) (Struct n)))
+      all = λ sp p block k h. subst (λ z. AllAt s sp p block z (element_ways count 0 (get_or known n []))) (plus_zero_times k (cells_by (sizes_in s) (Struct n)))
           (elements_at count 0 s sp p block k count (cells_by (sizes_in s) (Struct n)) (get_or known n []) (omega arith) there.long (λ j less. there.all sp (stepped_to sp p (to_element j)) block (k + j * cells_by (sizes_in s) (Struct n)) (at_element s sp p block k count j (e.Struct n) less h)));
     }
 object_at s known (Pointer elem fixed) earlier ok has = absurd ok
@@ -235,13 +226,13 @@ fields_at : (fs : List Field) (s : Scene) (known : List Ways) (earlier n j : ℕ
     ((m : ℕ) → m < earlier → Known s known m) → At s p block k (Struct n) → AllAt s sp p block (k + fields_cells (sizes_in s) before) (field_ways known j fs)
 fields_at [] s known earlier n j before sp p block k is at sound has h = tt
 fields_at (f ∷ fs) s known earlier n j before sp p block k is at sound has h =
-    let one = object_at s known f.ty earlier (names_plain earlier f.ty (left (is_plain_type earlier f.ty) (is_small s.names.structs f.ty) (left (field_sound s.names.structs earlier f) (list_all (field_sound s.names.structs earlier) fs) sound))) has in
+    let one = object_at s known f.ty earlier (names_plain earlier f.ty (both_hold_first (is_plain_type earlier f.ty) (is_small s.names.structs f.ty) (both_hold_first (field_sound s.names.structs earlier f) (list_all (field_sound s.names.structs earlier) fs) sound))) has in
     all_append (begun_with (to_field j) (object_ways known f.ty)) (field_ways known (j + 1) fs) s sp p block (k + fields_cells (sizes_in s) before)
     (all_begun (object_ways known f.ty) s sp p (to_field j) block (k + fields_cells (sizes_in s) before)
     (one.all sp (place_with_field p j) block (k + fields_cells (sizes_in s) before)
     (subst (λ z. At s (place_with_field p j) block (k + z) f.ty) offset_is (subst (λ z. At s (place_with_field p j) block (k + offset_of s.names.structs n j) z) type_is (at_field s p block k n j h)))))
     (subst (λ z. AllAt s sp p block z (field_ways known (j + 1) fs)) (place_is one.long)
-    (fields_at fs s known earlier n (j + 1) (before ++ f ∷ []) sp p block k (is ∙ sym (append_assoc before (f ∷ []) fs)) (let more = length-append before (f ∷ []) in omega (arith, more, at)) (right (field_sound s.names.structs earlier f) (list_all (field_sound s.names.structs earlier) fs) sound) has h))
+    (fields_at fs s known earlier n (j + 1) (before ++ f ∷ []) sp p block k (is ∙ sym (append_assoc before (f ∷ []) fs)) (let more = length-append before (f ∷ []) in omega (arith, more, at)) (both_hold_second (field_sound s.names.structs earlier f) (list_all (field_sound s.names.structs earlier) fs) sound) has h))
   where
     offset_is : offset_of s.names.structs n j ≡ fields_cells (sizes_in s) before
     offset_is = ap (λ xs. fields_cells (sizes_in s) (take j xs)) is ∙ ap (λ z. fields_cells (sizes_in s) (take z (before ++ f ∷ fs))) at ∙ ap (fields_cells (sizes_in s)) (take_before before (f ∷ fs))
@@ -256,11 +247,11 @@ fields_at (f ∷ fs) s known earlier n j before sp p block k is at sound has h =
 fields_length : (fs : List Field) (s : Scene) (known : List Ways) (earlier j : ℕ) → list_all (field_sound s.names.structs earlier) fs ≡ true → ((m : ℕ) → m < earlier → Known s known m) → length (field_ways known j fs) ≡ fields_cells (sizes_in s) fs
 fields_length [] s known earlier j sound has = refl
 fields_length (f ∷ fs) s known earlier j sound has =
-    let one = object_at s known f.ty earlier (names_plain earlier f.ty (left (is_plain_type earlier f.ty) (is_small s.names.structs f.ty) (left (field_sound s.names.structs earlier f) (list_all (field_sound s.names.structs earlier) fs) sound))) has in
+    let one = object_at s known f.ty earlier (names_plain earlier f.ty (both_hold_first (is_plain_type earlier f.ty) (is_small s.names.structs f.ty) (both_hold_first (field_sound s.names.structs earlier f) (list_all (field_sound s.names.structs earlier) fs) sound))) has in
     let here = length-append (begun_with (to_field j) (object_ways known f.ty)) (field_ways known (j + 1) fs) in
     let begun = begun_length (to_field j) (object_ways known f.ty) in
     let long = one.long in
-    let rest = fields_length fs s known earlier (j + 1) (right (field_sound s.names.structs earlier f) (list_all (field_sound s.names.structs earlier) fs) sound) has in
+    let rest = fields_length fs s known earlier (j + 1) (both_hold_second (field_sound s.names.structs earlier f) (list_all (field_sound s.names.structs earlier) fs) sound) has in
     omega (arith, here, begun, long, rest)
 
 -- ---- the table of structs
@@ -284,7 +275,7 @@ known_new : (s : Scene) (known : List Ways) (done rest : List StructInfo) (x : S
     ((m : ℕ) → m < length known → Known s known m) → Known s (known ++ field_ways known 0 x.fields ∷ []) (length known)
 known_new s known done rest x sound is long ok has = record {
   long = ap (λ (ws : Ways). length ws) seam ∙ fields_length x.fields s known (length known) 0 fields has ∙ sym (struct_cells s.names.structs (length known) x sound there);
-  all = λ sp p block k h. subst (λ ws. AllAt s sp p block k ws) (sym seam) (subst (λ z. AllAt s sp p block z (field_ways known 0 x.fields)) (alone k) (fields_at x.fields s known (length known) (length known) 0 [] sp p block k fields_is refl fields has h));
+  all = λ sp p block k h. subst (λ ws. AllAt s sp p block k ws) (sym seam) (subst (λ z. AllAt s sp p block z (field_ways known 0 x.fields)) (plus_zero k) (fields_at x.fields s known (length known) (length known) 0 [] sp p block k fields_is refl fields has h));
 }
   where
     seam : get_or (known ++ field_ways known 0 x.fields ∷ []) (length known) [] ≡ field_ways known 0 x.fields
@@ -294,10 +285,10 @@ known_new s known done rest x sound is long ok has = record {
     there = ap (λ xs. slice_get xs (length known)) is ∙ ap (λ z. slice_get (done ++ x ∷ rest) z) long ∙ got_seam done x rest
 
     fields_is : fields_of s.names.structs (length known) ≡ x.fields
-    fields_is = ap (λ (y : StructInfo). y.fields) (got_or s.names.structs (length known) x (record { name = []; fields = [] }) there)
+    fields_is = ap (λ (y : StructInfo). y.fields) (get_or_from_slice_get s.names.structs (length known) x (record { name = []; fields = [] }) there)
 
     fields : list_all (field_sound s.names.structs (length known)) x.fields ≡ true
-    fields = right (nat_le 1 (length x.fields)) (list_all (field_sound s.names.structs (length known)) x.fields) ok
+    fields = both_hold_second (nat_le 1 (length x.fields)) (list_all (field_sound s.names.structs (length known)) x.fields) ok
 
 known_more : (s : Scene) (known : List Ways) (w : Ways) (n : ℕ) → n < length known → Known s known n → Known s (known ++ w ∷ []) n
 known_more s known w n less h = record {
@@ -310,26 +301,18 @@ known_all : (rest : List StructInfo) (done : List StructInfo) (s : Scene) (known
 known_all [] done s known sound is long ok has = has
 known_all (x ∷ rest) done s known sound is long ok has =
     known_all rest (done ++ x ∷ []) s (known ++ field_ways known 0 x.fields ∷ []) sound (is ∙ sym (append_assoc done (x ∷ []) rest)) (let one = length-append known (field_ways known 0 x.fields ∷ []) in let two = length-append done (x ∷ []) in omega (arith, one, two, long))
-    (subst (λ z. structs_sound s.names.structs z rest ≡ true) (let one = length-append known (field_ways known 0 x.fields ∷ []) in omega (arith, one)) (right (struct_sound s.names.structs (length known) x) (structs_sound s.names.structs (suc (length known)) rest) ok))
+    (subst (λ z. structs_sound s.names.structs z rest ≡ true) (let one = length-append known (field_ways known 0 x.fields ∷ []) in omega (arith, one)) (both_hold_second (struct_sound s.names.structs (length known) x) (structs_sound s.names.structs (suc (length known)) rest) ok))
     (λ n less. new n (let one = length-append known (field_ways known 0 x.fields ∷ []) in omega (arith, one, less)) (nat_lt n (length known)) refl)
   where
     new : (n : ℕ) → n < suc (length known) → (b : Bool) → nat_lt n (length known) ≡ b → Known s (known ++ field_ways known 0 x.fields ∷ []) n
-    new n less true e1 = known_more s known (field_ways known 0 x.fields) n (smaller n (length known) e1) (has n (smaller n (length known) e1))
+    new n less true e1 = known_more s known (field_ways known 0 x.fields) n (nat_lt_below n (length known) e1) (has n (nat_lt_below n (length known) e1))
     new n less false e1 = subst (λ z. Known s (known ++ field_ways known 0 x.fields ∷ []) z) (last n (length known) less e1)
-        (known_new s known done rest x sound is long (left (struct_sound s.names.structs (length known) x) (structs_sound s.names.structs (suc (length known)) rest) ok) has)
+        (known_new s known done rest x sound is long (both_hold_first (struct_sound s.names.structs (length known) x) (structs_sound s.names.structs (suc (length known)) rest) ok) has)
       where
         last : (n m : ℕ) → n < suc m → nat_lt n m ≡ false → m ≡ n
         last n m less e1 = grind (arith, nat_tests)
 
 -- ---- past the table
-
-nothing_there : {A : Type 0} (xs : List A) (n : ℕ) (y : A) → length xs ≤ n → get_or xs n y ≡ y
-nothing_there [] n y h = refl
-nothing_there (x ∷ xs) zero y h = absurd (none h)
-  where
-    none : suc (length xs) ≤ 0 → ⊥
-    none h = omega (arith, h)
-nothing_there (x ∷ xs) (suc n) y h = nothing_there xs n y (omega (arith, h))
 
 sizes_long : (structs : List StructInfo) (known : List ℕ) → length (sizes_after known structs) ≡ length known + length structs
 sizes_long [] known = omega arith
@@ -341,12 +324,12 @@ ways_long (x ∷ structs) known = let one = length-append known (field_ways know
 
 known_past : (s : Scene) (n : ℕ) → length s.names.structs ≤ n → Known s (ways_from [] s.names.structs) n
 known_past s n far = record {
-  long = ap (λ (ws : Ways). length ws) none ∙ sym (nothing_there (sizes_of s.names.structs) n 0 (let long = sizes_long s.names.structs [] in omega (arith, long, far)));
+  long = ap (λ (ws : Ways). length ws) none ∙ sym (get_or_past (sizes_of s.names.structs) n 0 (let long = sizes_long s.names.structs [] in omega (arith, long, far)));
   all = λ sp p block k h. subst (λ ws. AllAt s sp p block k ws) (sym none) tt;
 }
   where
     none : get_or (ways_from [] s.names.structs) n [] ≡ []
-    none = nothing_there (ways_from [] s.names.structs) n [] (let long = ways_long s.names.structs [] in omega (arith, long, far))
+    none = get_or_past (ways_from [] s.names.structs) n [] (let long = ways_long s.names.structs [] in omega (arith, long, far))
 
 known_each : (s : Scene) → structs_sound s.names.structs 0 s.names.structs ≡ true → (n : ℕ) → Known s (ways_from [] s.names.structs) n
 known_each s sound n = go (nat_lt n (length s.names.structs)) refl
@@ -358,7 +341,7 @@ known_each s sound n = go (nat_lt n (length s.names.structs)) refl
         none h = omega (arith, h)
 
     go : (b : Bool) → nat_lt n (length s.names.structs) ≡ b → Known s (ways_from [] s.names.structs) n
-    go true e1 = known_all s.names.structs [] s [] sound refl refl sound no_less n (let long = ways_long s.names.structs [] in let less = smaller n (length s.names.structs) e1 in omega (arith, long, less))
+    go true e1 = known_all s.names.structs [] s [] sound refl refl sound no_less n (let long = ways_long s.names.structs [] in let less = nat_lt_below n (length s.names.structs) e1 in omega (arith, long, less))
     go false e1 = known_past s n (far n (length s.names.structs) e1)
       where
         far : (n m : ℕ) → nat_lt n m ≡ false → m ≤ n
@@ -382,10 +365,6 @@ leaves_lie s exprs x u sp fits o = places_lie (ways_of s.names.structs u) s x 0 
     go (Struct n) h = (object_at s (ways_from [] s.names.structs) (Struct n) (suc n) (omega arith) (λ m less. known_each s fits.structs m)).all sp (place (t.local x) []) (Local s.frame.depth x) 0 h
     go (Array (e.Int t1) count) h = (object_at s (ways_from [] s.names.structs) (Array (e.Int t1) count) 0 tt (λ m less. known_each s fits.structs m)).all sp (place (t.local x) []) (Local s.frame.depth x) 0 h
     go (Array (e.Struct n) count) h = (object_at s (ways_from [] s.names.structs) (Array (e.Struct n) count) (suc n) (omega arith) (λ m less. known_each s fits.structs m)).all sp (place (t.local x) []) (Local s.frame.depth x) 0 h
-
-length_map : {A B : Type 0} (f : A → B) (xs : List A) → length (map f xs) ≡ length xs
-length_map f [] = refl
-length_map f (x ∷ xs) = ap suc (length_map f xs)
 
 -- there is one for each item
 pub leaves_enough : (s : Scene) (u : VarTy) (sp : Span) (p : PlaceTree) → SceneFits s → length (item_types s.names.structs u) ≤ length (leaf_places s.names.structs u sp p)

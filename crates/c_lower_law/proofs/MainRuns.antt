@@ -10,6 +10,8 @@ use Rattle.pt_base.specs.declared.end.End.TheVariants.{Exit, Trapped, Spent}
 use Rattle.pt_base.specs.declared.int_type.IntType.{IntType}
 use Rattle.pt_base.specs.declared.int_type.IntType.TheVariants as i
 use Rattle.pt_base.specs.declared.span.Span.{Span}
+use Rattle.pt_base.proofs.Booleans.{both_hold_first as left, both_hold_second, false_not_true}
+use Rattle.pt_base.proofs.Members.{all_true_at}
 use Rattle.pt_int.specs.Conversion.{conv}
 use Rattle.pt_tree.specs.declared.signature.Signature.{Signature}
 use Rattle.pt_tree.specs.declared.signature.Param.{Param}
@@ -48,10 +50,9 @@ use Rattle.source_soundness.specs.Worlds.{World, Fits}
 use Rattle.source_soundness.specs.Sizes.{Sized}
 use Rattle.source_soundness.specs.Laws.{main_world}
 use Rattle.typed_tree.proofs.SameTypes.{equal_ints}
-use Rattle.source_soundness.proofs.Tests.{left, right, never}
 use Rattle.source_soundness.proofs.CallSoundness.{deeper, Leads}
 use Rattle.source_soundness.proofs.CallSizes.{calls_keep_sizes, programs_begin_sized}
-use Rattle.source_soundness.proofs.ProgramFacts.{facts, all_at, fields_are_plain, globals_are_plain}
+use Rattle.source_soundness.proofs.ProgramFacts.{facts, fields_are_plain, globals_are_plain}
 use Rattle.source_soundness.proofs.Programs.{code_of, types_of, Bodied, bodied, body_is, function_is, calls_keep, outer_world, programs_begin}
 use Rattle.pt_core.specs.CodeTree as t
 use Rattle.pt_core.specs.CodeTree.{StmtTree, constant, give_back, stmt_trees, ProgramTree}
@@ -96,7 +97,7 @@ start_of x xs true e h rest = (zero, x, refl, e)
 start_of x xs false e h rest = start_next x xs (rest h)
 
 start_at : (xs : List FunctionTree) → list_any is_start xs ≡ true → Started xs
-start_at [] h = never h
+start_at [] h = false_not_true h
 start_at (x ∷ xs) h = start_of x xs (is_start x) refl h (start_at xs)
 
 pub main_of : (program : TypedTree) → IsTrue (is_well_formed program) → Main program
@@ -105,7 +106,7 @@ main_of program h = let p = start_at program.functions (facts_of program h).star
 main_named : (program : TypedTree) → IsTrue (is_well_formed program) → (n : ℕ) (g : FunctionTree) → slice_get program.functions n ≡ Some g → is_main g.signature ≡ true → function_named program (codes "main") ≡ Some (record { 0 = n })
 main_named program h n g is main = (named_is program (codes "main") (record { 0 = n }) h).1 (ap (λ o. option_map (λ s. s.name) (option_map (λ (y : FunctionTree). y.signature) o)) is ∙ ap Some ((bytes_eq-Decides g.signature.name (codes "main")).0 main))
 
-core_named : (xs : List FunctionTree) (k : ℕ) → option_map (λ s. s.0) (find (λ s. bytes_eq s.1.name (codes "main")) (signatures_from k (map (λ (y : FunctionTree). y.signature) xs))) ≡ option_map (λ o. o.0) (named_from k xs (codes "main"))
+pub core_named : (xs : List FunctionTree) (k : ℕ) → option_map (λ s. s.0) (find (λ s. bytes_eq s.1.name (codes "main")) (signatures_from k (map (λ (y : FunctionTree). y.signature) xs))) ≡ option_map (λ o. o.0) (named_from k xs (codes "main"))
 core_named [] k = refl
 core_named (x ∷ xs) k = go (bytes_eq x.signature.name (codes "main")) (core_named xs (suc k))
   where
@@ -114,7 +115,7 @@ core_named (x ∷ xs) k = go (bytes_eq x.signature.name (codes "main")) (core_na
     go true h = refl
     go false h = h
 
-core_main : (program : TypedTree) (n : ℕ) → function_named program (codes "main") ≡ Some (record { 0 = n }) → main_in (core_program program) ≡ n
+pub core_main : (program : TypedTree) (n : ℕ) → function_named program (codes "main") ≡ Some (record { 0 = n }) → main_in (core_program program) ≡ n
 core_main program n is = ap (λ o. unwrap_or o 0) (core_named program.functions 0 ∙ ap (λ o. option_map (λ z. z.0) o) is)
 
 -- ---- globals
@@ -219,7 +220,7 @@ ends_same s result n turns before span (gives flow st) (gives flow' st') b q = g
     go m.goes_on c.broke b same = absurd same
     go m.goes_on c.continues b same = absurd same
     go m.goes_on (c.returned x) b same = absurd same
-    go m.broke flow' b same = never b
+    go m.broke flow' b same = false_not_true b
     go m.continues flow' b same = absurd same
     go (m.returned v) c.goes_on b same = absurd same
     go (m.returned v) c.broke b same = absurd same
@@ -240,19 +241,19 @@ ends_same s result n turns before span (spent st) (spent st') b q = same_runs st
 
 -- what is kept of a function that may be main
 int_given : (o : Option IntType) → is_int_result o ≡ true → o ≡ Some i.Int
-int_given None h = never h
+int_given None h = false_not_true h
 int_given (Some u) h = ap Some (equal_ints u i.Int h)
 
-none_given : (ps : List Param) → nat_eq (length ps) 0 ≡ true → ps ≡ []
+pub none_given : (ps : List Param) → nat_eq (length ps) 0 ≡ true → ps ≡ []
 none_given [] h = refl
-none_given (p ∷ ps) h = never (sym (more (length ps)) ∙ h)
+none_given (p ∷ ps) h = false_not_true (sym (more (length ps)) ∙ h)
   where
     more : (n : ℕ) → nat_eq (suc n) 0 ≡ false
     more n = grind (arith, nat_tests)
 
 body_given : (program : TypedTree) (g : FunctionTree) (o : Option BodyTree) → g.body ≡ o → is_some o ≡ true → body_sound program g o ≡ true → Bodied program g
-body_given program g None e some h = never some
-body_given program g (Some body) e some h = record { body = body; is = e; sound = right (is_block body) (is_sound (scope_in program g) false false body) (right (not g.signature.host) (is_block body && is_sound (scope_in program g) false false body) h) }
+body_given program g None e some h = false_not_true some
+body_given program g (Some body) e some h = record { body = body; is = e; sound = both_hold_second (is_block body) (is_sound (scope_in program g) false false body) (both_hold_second (not g.signature.host) (is_block body && is_sound (scope_in program g) false false body) h) }
 
 end_of_main : (s : Signature) → is_main s ≡ true → main_end s ≡ zero_given
 end_of_main s h = ap (λ b. if b then zero_given else []) h
@@ -292,15 +293,15 @@ run_kept agree scalar program hosts input turns h =
     let main = main_of program h in
     let n = main.number in
     let g = main.entry in
-    let second = right (is_main g.signature) (is_some g.body && (is_int_result g.signature.result && nat_eq (length g.signature.params) 0)) main.start in
-    let third = right (is_some g.body) (is_int_result g.signature.result && nat_eq (length g.signature.params) 0) second in
+    let second = both_hold_second (is_main g.signature) (is_some g.body && (is_int_result g.signature.result && nat_eq (length g.signature.params) 0)) main.start in
+    let third = both_hold_second (is_some g.body) (is_int_result g.signature.result && nat_eq (length g.signature.params) 0) second in
     let is_named = left (is_main g.signature) (is_some g.body && (is_int_result g.signature.result && nat_eq (length g.signature.params) 0)) main.start in
     let named = main_named program h n g main.is is_named in
-    let sound = all_at (function_sound program) program.functions n g (facts program h).functions main.is in
+    let sound = all_true_at (function_sound program) program.functions n g (facts program h).functions main.is in
     let has = body_given program g g.body refl (left (is_some g.body) (is_int_result g.signature.result && nat_eq (length g.signature.params) 0) second)
-    (right (list_all (variable_sound program.structs) g.vars) (body_sound program g g.body) (right (nat_le (length g.signature.params) 8 && params_lead g.signature.params g.vars) (list_all (variable_sound program.structs) g.vars && body_sound program g g.body) sound)) in
+    (both_hold_second (list_all (variable_sound program.structs) g.vars) (body_sound program g g.body) (both_hold_second (nat_le (length g.signature.params) 8 && params_lead g.signature.params g.vars) (list_all (variable_sound program.structs) g.vars && body_sound program g g.body) sound)) in
     ap (core_main_at program (deepest - 1) hosts input turns) (core_main program n named)
     ∙ ap (λ e. core_main_as program (deepest - 1) hosts input turns e (signature_in (core_program program) n)) (function_found program n g has.body main.is has.is)
     ∙ ap (core_main_as program (deepest - 1) hosts input turns (core_of program n g has.body)) (signature_is program n g main.is)
-    ∙ main_runs program n g (deepest - 1) hosts input turns agree (scalar program h) h main.is has is_named (int_given g.signature.result (left (is_int_result g.signature.result) (nat_eq (length g.signature.params) 0) third)) (none_given g.signature.params (right (is_int_result g.signature.result) (nat_eq (length g.signature.params) 0) third))
+    ∙ main_runs program n g (deepest - 1) hosts input turns agree (scalar program h) h main.is has is_named (int_given g.signature.result (left (is_int_result g.signature.result) (nat_eq (length g.signature.params) 0) third)) (none_given g.signature.params (both_hold_second (is_int_result g.signature.result) (nat_eq (length g.signature.params) 0) third))
     ∙ sym (ap (λ o. w.run_of turns (w.main_run program o (w.begun program hosts input turns))) named ∙ ap (source_main_as program (deepest - 1) hosts input turns) (function_is program n (Some g) main.is))

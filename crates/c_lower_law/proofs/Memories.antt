@@ -1,16 +1,16 @@
 -- The two memories: what is read is the same, and what is written.
 use Rattle.std.proofs.Common.{◌≡◌, ◌∙◌, ◌≤◌, ◌<◌, ◌⊎◌, inl, inr, ℕ, zero, suc, ◌+◌, pos, nat_eq, nat_le, refl, ap, sym, subst, arith, Bool, true, false, Option, Some, None, List, [], ◌∷◌, map, length, if◌then◌else◌}
 use Rattle.std.specs.Prelude.{◌&&◌, slice_set, slice_index_or, slice_get, take, drop}
-use Rattle.std.proofs.lemmas.Bool.Decides.{nat_tests}
 use Rattle.typed_tree.specs.declared.types.VarTy.{VarTy}
 use Rattle.block_memory.specs.declared.cell.Cell as core
 use Rattle.block_memory.specs.declared.cell.Cell.TheVariants.{Int}
 use Rattle.block_memory.specs.declared.cell.BlockName.{BlockName}
-use Rattle.block_memory.specs.declared.cell.BlockName.TheVariants.{Local, Global, Received}
+use Rattle.block_memory.specs.declared.cell.BlockName.TheVariants.{Local}
 use Rattle.block_memory.specs.Block as b
 use Rattle.block_memory.specs.Block.{with_cell}
 use Rattle.block_memory.specs.Blocks as bs
 use Rattle.block_memory.specs.Blocks.{Blocks, is_same_name}
+use Rattle.block_memory.proofs.BlocksLemmas.{is_same_name-self}
 use Rattle.source_meaning.specs.Memory.{Block, local, global, same_block, Cell, number, Memory, put, write}
 use Rattle.source_meaning.specs.State.{State}
 use Rattle.source_meaning.specs.Expressions.{write_all}
@@ -20,51 +20,19 @@ use Rattle.pt_core.specs.Values.{written, all_written}
 use Rattle.pt_core.specs.Statements as c
 use Rattle.pt_core.specs.Statements.{with_blocks}
 use Rattle.c_lower_law.proofs.Relations.{name_of, core_cell, SameObjects, Scene, world_of, sizes_in, HasRoom, Kept, Alike, below, all}
-pub use Rattle.pt_base.proofs.SameNumbers.{same_number}
-
--- ---- numbers
-
-pub is_same : (a b : ℕ) → a ≡ b → nat_eq a b ≡ true
-is_same a b h = grind (arith, nat_tests)
-
-pub is_other : (a b : ℕ) → (a ≡ b → ⊥) → nat_eq a b ≡ false
-is_other a b h = go (nat_eq a b) refl
-  where
-    go : (t : Bool) → nat_eq a b ≡ t → t ≡ false
-    go true e = absurd (h (same_number a b e))
-    go false e = refl
-
-turned : (a b : ℕ) → nat_eq a b ≡ nat_eq b a
-turned a b = go (nat_eq a b) refl
-  where
-    go : (t : Bool) → nat_eq a b ≡ t → t ≡ nat_eq b a
-    go true e = sym (is_same b a (sym (same_number a b e)))
-    go false e = sym (is_other b a (λ h. absurd (clash (is_same a b (sym h)))))
-      where
-        clash : nat_eq a b ≡ true → ⊥
-        clash h = differ (sym h ∙ e)
-          where
-            differ : true ≡ false → ⊥
-            differ h = cc
-
-both_turned : (a b x y : ℕ) → (nat_eq a b && nat_eq x y) ≡ (nat_eq b a && nat_eq y x)
-both_turned a b x y = ap (λ t. t && nat_eq x y) (turned a b) ∙ ap (λ t. nat_eq b a && t) (turned x y)
+use Rattle.pt_base.proofs.Numbers.{nat_eq_both_turned, nat_eq_same, nat_eq_true, nat_eq_turned}
+use Rattle.pt_base.proofs.Places.{get_below_length}
 
 -- ---- names
 
 pub names_same : (a o : Block) → is_same_name (name_of a) (name_of o) ≡ same_block o a
-names_same (local d x) (local e y) = both_turned d e x y
+names_same (local d x) (local e y) = nat_eq_both_turned d e x y
 names_same (local d x) (global g) = refl
 names_same (global g) (local d x) = refl
-names_same (global g) (global k) = turned g k
-
-pub same_itself : (n : BlockName) → is_same_name n n ≡ true
-same_itself (Local d x) = ap (λ t. t && nat_eq x x) (is_same d d refl) ∙ is_same x x refl
-same_itself (Global g) = is_same g g refl
-same_itself (Received g) = is_same g g refl
+names_same (global g) (global k) = nat_eq_turned g k
 
 pub put_there : (blocks : Blocks) (n : BlockName) (x : b.Block) → bs.put blocks n x n ≡ x
-put_there blocks n x = ap (λ t. if t then x else blocks n) (same_itself n)
+put_there blocks n x = ap (λ t. if t then x else blocks n) (is_same_name-self n)
 
 pub put_apart : (blocks : Blocks) (n o : BlockName) (x : b.Block) → is_same_name n o ≡ false → bs.put blocks n x o ≡ blocks o
 put_apart blocks n o x h = ap (λ t. if t then x else blocks o) h
@@ -93,16 +61,11 @@ map_drop (suc n) (x ∷ xs) = map_drop n xs
 
 -- ---- live objects
 
-got_small : {A : Type 0} (xs : List A) (k : ℕ) (x : A) → slice_get xs k ≡ Some x → k < length xs
-got_small [] k x h = cc
-got_small (y ∷ ys) zero x h = omega arith
-got_small (y ∷ ys) (suc k) x h = let less = got_small ys k x h in omega (arith, less)
-
 pub live_small : (w : World) (d x : ℕ) (ty : VarTy) → type_in w (local d x) ≡ Some ty → x < length (w.frames d)
 live_small w d x ty h = go (nat_le 1 d && nat_le d w.depth) h
   where
     go : (t : Bool) → (if t then slice_get (w.frames d) x else None) ≡ Some ty → x < length (w.frames d)
-    go true h = got_small (w.frames d) x ty h
+    go true h = get_below_length (w.frames d) x ty h
     go false h = cc
 
 -- a block is put on both sides
@@ -134,14 +97,14 @@ no_temp s (local e x) d k ty far live = go (nat_eq e d) (nat_eq x k) refl refl
     none p q = let small = live_small (world_of s) e x ty live in let long : length (s.frames e) ≡ length (s.frames d) = ap (λ z. length (s.frames z)) p in omega (arith, small, long, far, q)
 
     go : (t u : Bool) → nat_eq e d ≡ t → nat_eq x k ≡ u → (t && u) ≡ false
-    go true true p q = absurd (none (same_number e d p) (same_number x k q))
+    go true true p q = absurd (none (nat_eq_same e d p) (nat_eq_same x k q))
     go true false p q = refl
     go false u p q = refl
 
 -- the same, the other way round
 no_object : (s : Scene) (o : Block) (d k : ℕ) (ty : VarTy) → length (s.frames d) ≤ k → type_in (world_of s) o ≡ Some ty → is_same_name (Local d k) (name_of o) ≡ false
 no_object s (global g) d k ty far live = refl
-no_object s (local e x) d k ty far live = both_turned d e k x ∙ no_temp s (local e x) d k ty far live
+no_object s (local e x) d k ty far live = nat_eq_both_turned d e k x ∙ no_temp s (local e x) d k ty far live
 
 pub objects_temp : (s : Scene) (m : Memory) (blocks : Blocks) (k : ℕ) (x : b.Block) → length (s.frames s.frame.depth) ≤ k → SameObjects (world_of s) m blocks → SameObjects (world_of s) m (bs.put blocks (Local s.frame.depth k) x)
 objects_temp s m blocks k x far same o ty live =
@@ -175,7 +138,7 @@ kept_temp s blocks t x d k far own = put_apart blocks (Local s.frame.depth t) (L
     none p q (inr h) = let less = h.1 in omega (arith, q, less)
 
     go : (a u : Bool) → nat_eq s.frame.depth d ≡ a → nat_eq t k ≡ u → (a && u) ≡ false
-    go true true p q = absurd (none (same_number s.frame.depth d p) (same_number t k q) own)
+    go true true p q = absurd (none (nat_eq_same s.frame.depth d p) (nat_eq_same t k q) own)
     go true false p q = refl
     go false u p q = refl
 
@@ -193,7 +156,7 @@ room_temp s blocks t x room k far near = go (is_same_name (Local s.frame.depth t
     h = room k far near
 
     there : nat_eq s.frame.depth s.frame.depth && nat_eq t k ≡ true → t ≡ k
-    there e = same_number t k (sym (ap (λ z. z && nat_eq t k) (is_same s.frame.depth s.frame.depth refl)) ∙ e)
+    there e = nat_eq_same t k (sym (ap (λ z. z && nat_eq t k) (nat_eq_true s.frame.depth s.frame.depth refl)) ∙ e)
 
     go : (z : Bool) → is_same_name (Local s.frame.depth t) (Local s.frame.depth k) ≡ z →
         (y : core.Cell) × ((if z then with_cell (blocks (Local s.frame.depth t)) 0 x else blocks (Local s.frame.depth k)).cells ≡ y ∷ [])

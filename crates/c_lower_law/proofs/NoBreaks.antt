@@ -2,6 +2,7 @@
 use Rattle.std.proofs.Common.{◌≡◌, ◌∙◌, ℕ, zero, suc, ◌+◌, refl, ap, sym, subst, Bool, true, false, Option, Some, None, List, [], ◌∷◌, if◌then◌else◌}
 use Rattle.std.specs.Prelude.{IsTrue, ◌&&◌}
 use Rattle.pt_base.specs.declared.int_type.IntType.{IntType}
+use Rattle.pt_base.proofs.Booleans.{both_hold_first as left, both_hold_second}
 use Rattle.pt_int.specs.Conversion.{conv}
 use Rattle.runs.specs.State.{gives, trapped, spent, ◌>>=◌, take_turn}
 use Rattle.typed_tree.specs.declared.ids.ExprId.{ExprId}
@@ -12,7 +13,6 @@ use Rattle.typed_tree.specs.StatementTree.{BodyTree, ElseTree, BodyTrees, Sectio
 use Rattle.typed_tree.specs.TypeTests.{is_scalar}
 use Rattle.typed_tree.specs.WellFormedStatement as w
 use Rattle.typed_tree.specs.WellFormedStatement.{is_sound, else_sound, all_sound, sections_sound, expr_fits, labels_fit, labels_of, promotes_to, for_init_fits, option_fits, any_type}
-use Rattle.source_soundness.proofs.Tests.{left, right}
 use Rattle.source_meaning.specs.State.{State, Outcome}
 use Rattle.source_meaning.specs.Values.{Value, is_true, number_of}
 use Rattle.source_meaning.specs.Expressions.{store}
@@ -134,9 +134,9 @@ mutual
   statement_breaks (evaluate s e) scope out back code st h = after_value out (outermost code e st) (λ v. gives goes_on) (λ v st1. tt)
   statement_breaks (declare d) scope out back code st h = declared_breaks d.declarators out code st
   statement_breaks (choose s e a b) scope out back code st h =
-      let rest = right (expr_fits scope is_scalar e) (is_sound scope out back a && else_sound scope out back b) h in
+      let rest = both_hold_second (expr_fits scope is_scalar e) (is_sound scope out back a && else_sound scope out back b) h in
       after_value out (outermost code e st) (λ v. if is_true v then statement a code else otherwise_of b code)
-      (λ v st1. if_breaks out (is_true v) (statement a code) (otherwise_of b code) st1 (λ st2. statement_breaks a scope out back code st2 (left (is_sound scope out back a) (else_sound scope out back b) rest)) (λ st2. else_breaks b scope out back code st2 (right (is_sound scope out back a) (else_sound scope out back b) rest)))
+      (λ v st1. if_breaks out (is_true v) (statement a code) (otherwise_of b code) st1 (λ st2. statement_breaks a scope out back code st2 (left (is_sound scope out back a) (else_sound scope out back b) rest)) (λ st2. else_breaks b scope out back code st2 (both_hold_second (is_sound scope out back a) (else_sound scope out back b) rest)))
   statement_breaks (while_true s e a) scope out back code st h =
       looped_breaks out st.left (λ first. m.tested (Some e) code (λ st1. statement a code st1 >>= body_round)) true st (λ first st1. tested_leaves (Some e) code (λ st2. statement a code st2 >>= body_round) st1 (λ st2. round_leaves (statement a code st2)))
   statement_breaks (do_while s a e) scope out back code st h =
@@ -161,4 +161,4 @@ mutual
   all_break no_bodies scope out back code st h = tt
   all_break (body_and a rest) scope out back code st h =
       after_one out (statement a code st) (all_of rest code) (statement_breaks a scope out back code st (left (is_sound scope out back a) (all_sound scope out back rest) h))
-      (λ st1. all_break rest scope out back code st1 (right (is_sound scope out back a) (all_sound scope out back rest) h))
+      (λ st1. all_break rest scope out back code st1 (both_hold_second (is_sound scope out back a) (all_sound scope out back rest) h))

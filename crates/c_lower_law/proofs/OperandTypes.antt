@@ -1,10 +1,11 @@
 -- What the type rules say of the operands of an operator.
-use Rattle.std.proofs.Common.{◌≡◌, ◌∙◌, refl, ap, sym, subst, Bool, true, false, not, Option, Some, None, if◌then◌else◌}
+use Rattle.std.proofs.Common.{◌≡◌, ◌∙◌, refl, ap, sym, subst, Bool, true, false, not, Option, Some, None}
 use Rattle.std.specs.Prelude.{IsTrue, ◌&&◌, ◌||◌, is_some}
 use Rattle.pt_base.specs.declared.int_type.IntType.{IntType}
 use Rattle.pt_base.specs.declared.int_type.IntType.TheVariants as i
 use Rattle.pt_base.specs.IntTypes.{promoted, usual}
 use Rattle.pt_base.specs.declared.span.Span.{Span}
+use Rattle.pt_base.proofs.Booleans.{both_hold_first, both_hold_second, false_not_true, from_not_true}
 use Rattle.pt_int.specs.declared.operator.BinOp.{BinOp}
 use Rattle.pt_int.specs.declared.operator.BinOp.TheVariants.{Mul, Div, Rem, Add, Sub, Shl, Shr, Lt, Gt, Le, Ge, Eq, Ne, And, Xor, Or}
 use Rattle.pt_int.specs.declared.operator.UnOp.{UnOp}
@@ -23,9 +24,8 @@ use Rattle.typed_tree.specs.WellFormedExpression.{ty_of, is_struct}
 use Rattle.source_meaning.specs.Memory.{Cell}
 use Rattle.source_meaning.specs.Expressions as e
 use Rattle.typed_tree.proofs.SameTypes.{equal_options, equal_elems}
-use Rattle.source_soundness.proofs.Tests.{left, right, never}
 use Rattle.source_soundness.proofs.Operators.{same_promoted_is}
-use Rattle.source_soundness.proofs.Steps.{IsInt, arithmetic_int, shift_int, when, moved_is}
+use Rattle.source_soundness.proofs.Steps.{IsInt, arithmetic_int, shift_int, when, moved_is, holds_when}
 use Rattle.source_soundness.proofs.Soundness.{converts_scalar}
 use Rattle.pt_core.specs.CodeTree as ct
 use Rattle.pt_core.specs.Types.{type_of}
@@ -44,16 +44,16 @@ pub record ScalarType (ty : Option VarTy) : Type 0 where
 pub scalar_value_type : (ty : Option VarTy) → is_value ty ≡ true → is_struct ty ≡ false → ScalarType ty
 scalar_value_type (Some (Int u)) h k = record { u = Int u; is = refl; scalar = tt }
 scalar_value_type (Some (Pointer elem fixed)) h k = record { u = Pointer elem fixed; is = refl; scalar = tt }
-scalar_value_type None h k = never h
-scalar_value_type (Some (Struct n)) h k = never (sym k)
-scalar_value_type (Some (Array elem count)) h k = never h
+scalar_value_type None h k = false_not_true h
+scalar_value_type (Some (Struct n)) h k = false_not_true (sym k)
+scalar_value_type (Some (Array elem count)) h k = false_not_true h
 
 pub scalar_type : (ty : Option VarTy) → is_scalar ty ≡ true → ScalarType ty
 scalar_type (Some (Int u)) h = record { u = Int u; is = refl; scalar = tt }
 scalar_type (Some (Pointer elem fixed)) h = record { u = Pointer elem fixed; is = refl; scalar = tt }
-scalar_type None h = never h
-scalar_type (Some (Struct n)) h = never h
-scalar_type (Some (Array elem count)) h = never h
+scalar_type None h = false_not_true h
+scalar_type (Some (Struct n)) h = false_not_true h
+scalar_type (Some (Array elem count)) h = false_not_true h
 
 pub not_struct : (ty : Option VarTy) → ScalarType ty → is_struct ty ≡ false
 not_struct ty k = ap is_struct k.is ∙ of_scalar k.u k.scalar
@@ -81,15 +81,15 @@ promoted_operand op a t h p = let k = same_promoted_is a t h in record { u = Int
 not_operand : (a : Option VarTy) → is_scalar a ≡ true → UnaryType Not a
 not_operand (Some (Int u)) h = record { u = Int u; is = refl; scalar = tt; prefixes = tt }
 not_operand (Some (Pointer elem fixed)) h = record { u = Pointer elem fixed; is = refl; scalar = tt; prefixes = tt }
-not_operand None h = never h
-not_operand (Some (Struct n)) h = never h
-not_operand (Some (Array elem count)) h = never h
+not_operand None h = false_not_true h
+not_operand (Some (Struct n)) h = false_not_true h
+not_operand (Some (Array elem count)) h = false_not_true h
 
 pub unary_type : (op : UnOp) (a t : Option VarTy) → unary_fits op a t ≡ true → UnaryType op a
 unary_type Minus a t h = promoted_operand Minus a t h (λ u. tt)
 unary_type Plus a t h = promoted_operand Plus a t h (λ u. tt)
 unary_type Flip a t h = promoted_operand Flip a t h (λ u. tt)
-unary_type Not a t h = not_operand a (left (is_scalar a) (same_types t r.int) h)
+unary_type Not a t h = not_operand a (both_hold_first (is_scalar a) (same_types t r.int) h)
 
 no_pointer_int : (u : IntType) (t : Option VarTy) (elem : Elem) (fixed : Bool) → t ≡ Some (Int u) → t ≡ Some (Pointer elem fixed) → ⊥
 no_pointer_int u t elem fixed p q = clash (sym p ∙ q)
@@ -101,7 +101,7 @@ pub unary_number : (op : UnOp) (a t : Option VarTy) (elem : Elem) (fixed : Bool)
 unary_number Minus a t elem fixed h k = let p = same_promoted_is a t h in no_pointer_int p.1 t elem fixed p.3 k
 unary_number Plus a t elem fixed h k = let p = same_promoted_is a t h in no_pointer_int p.1 t elem fixed p.3 k
 unary_number Flip a t elem fixed h k = let p = same_promoted_is a t h in no_pointer_int p.1 t elem fixed p.3 k
-unary_number Not a t elem fixed h k = no_pointer_int i.Int t elem fixed (equal_options t r.int (right (is_scalar a) (same_types t r.int) h)) k
+unary_number Not a t elem fixed h k = no_pointer_int i.Int t elem fixed (equal_options t r.int (both_hold_second (is_scalar a) (same_types t r.int) h)) k
 
 -- ---- conversions
 
@@ -116,35 +116,35 @@ pub record ConvertType (a t : Option VarTy) : Type 0 where
 pub convert_type : (a t : Option VarTy) → converts a t ≡ true → ConvertType a t
 convert_type (Some (Int a)) (Some (Int z)) h = record { u = Int a; to = Int z; is = refl; gives_is = refl; scalar = tt; cells = λ x k. k }
 convert_type (Some (Pointer a f)) (Some (Pointer z g)) h = record { u = Pointer a f; to = Pointer z g; is = refl; gives_is = refl; scalar = tt; cells = λ x k. k }
-convert_type None t h = never h
-convert_type (Some (Struct n)) t h = never h
-convert_type (Some (Array elem n)) t h = never h
-convert_type (Some (Int a)) None h = never h
-convert_type (Some (Int a)) (Some (Struct n)) h = never h
-convert_type (Some (Int a)) (Some (Array elem n)) h = never h
-convert_type (Some (Int a)) (Some (Pointer elem g)) h = never h
-convert_type (Some (Pointer a f)) None h = never h
-convert_type (Some (Pointer a f)) (Some (Int z)) h = never h
-convert_type (Some (Pointer a f)) (Some (Struct n)) h = never h
-convert_type (Some (Pointer a f)) (Some (Array elem n)) h = never h
+convert_type None t h = false_not_true h
+convert_type (Some (Struct n)) t h = false_not_true h
+convert_type (Some (Array elem n)) t h = false_not_true h
+convert_type (Some (Int a)) None h = false_not_true h
+convert_type (Some (Int a)) (Some (Struct n)) h = false_not_true h
+convert_type (Some (Int a)) (Some (Array elem n)) h = false_not_true h
+convert_type (Some (Int a)) (Some (Pointer elem g)) h = false_not_true h
+convert_type (Some (Pointer a f)) None h = false_not_true h
+convert_type (Some (Pointer a f)) (Some (Int z)) h = false_not_true h
+convert_type (Some (Pointer a f)) (Some (Struct n)) h = false_not_true h
+convert_type (Some (Pointer a f)) (Some (Array elem n)) h = false_not_true h
 
 pub convert_pointer : (s : Scene) (a t : Option VarTy) (value : ct.ExprTree) → converts a t ≡ true → PointerType s a value → PointerType s t (l.converted (e.type_or_int t) value)
-convert_pointer s (Some (Pointer a f)) (Some (Pointer z g)) value h k elem fixed is = k elem f (ap (λ q. Some (Pointer q f)) (equal_elems a z (left (same_elem a z) (not f || g) h) ∙ same_pointee z elem g fixed is))
+convert_pointer s (Some (Pointer a f)) (Some (Pointer z g)) value h k elem fixed is = k elem f (ap (λ q. Some (Pointer q f)) (equal_elems a z (both_hold_first (same_elem a z) (not f || g) h) ∙ same_pointee z elem g fixed is))
   where
     same_pointee : (x y : Elem) (p q : Bool) → Some (Pointer x p) ≡ Some (Pointer y q) → x ≡ y
     same_pointee x y p q h = cc
 convert_pointer s (Some (Int a)) (Some (Int z)) value h k elem fixed is = cc
-convert_pointer s None t value h k elem fixed is = never h
-convert_pointer s (Some (Struct n)) t value h k elem fixed is = never h
-convert_pointer s (Some (Array el n)) t value h k elem fixed is = never h
-convert_pointer s (Some (Int a)) None value h k elem fixed is = never h
-convert_pointer s (Some (Int a)) (Some (Struct n)) value h k elem fixed is = never h
-convert_pointer s (Some (Int a)) (Some (Array el n)) value h k elem fixed is = never h
-convert_pointer s (Some (Int a)) (Some (Pointer el g)) value h k elem fixed is = never h
-convert_pointer s (Some (Pointer a f)) None value h k elem fixed is = never h
-convert_pointer s (Some (Pointer a f)) (Some (Int z)) value h k elem fixed is = never h
-convert_pointer s (Some (Pointer a f)) (Some (Struct n)) value h k elem fixed is = never h
-convert_pointer s (Some (Pointer a f)) (Some (Array el n)) value h k elem fixed is = never h
+convert_pointer s None t value h k elem fixed is = false_not_true h
+convert_pointer s (Some (Struct n)) t value h k elem fixed is = false_not_true h
+convert_pointer s (Some (Array el n)) t value h k elem fixed is = false_not_true h
+convert_pointer s (Some (Int a)) None value h k elem fixed is = false_not_true h
+convert_pointer s (Some (Int a)) (Some (Struct n)) value h k elem fixed is = false_not_true h
+convert_pointer s (Some (Int a)) (Some (Array el n)) value h k elem fixed is = false_not_true h
+convert_pointer s (Some (Int a)) (Some (Pointer el g)) value h k elem fixed is = false_not_true h
+convert_pointer s (Some (Pointer a f)) None value h k elem fixed is = false_not_true h
+convert_pointer s (Some (Pointer a f)) (Some (Int z)) value h k elem fixed is = false_not_true h
+convert_pointer s (Some (Pointer a f)) (Some (Struct n)) value h k elem fixed is = false_not_true h
+convert_pointer s (Some (Pointer a f)) (Some (Array el n)) value h k elem fixed is = false_not_true h
 
 -- ---- steps of chains
 
@@ -159,17 +159,12 @@ plain_type Shr to h = refl
 plain_type And to h = refl
 plain_type Xor to h = refl
 plain_type Or to h = refl
-plain_type Lt to h = never h
-plain_type Gt to h = never h
-plain_type Le to h = never h
-plain_type Ge to h = never h
-plain_type Eq to h = never h
-plain_type Ne to h = never h
-
--- the test of a choice that gives something holds
-holds_when : (c : Bool) (x : Option VarTy) (y : VarTy) → (if c then x else None) ≡ Some y → c ≡ true
-holds_when true x y h = refl
-holds_when false x y h = cc
+plain_type Lt to h = false_not_true h
+plain_type Gt to h = false_not_true h
+plain_type Le to h = false_not_true h
+plain_type Ge to h = false_not_true h
+plain_type Eq to h = false_not_true h
+plain_type Ne to h = false_not_true h
 
 number_type : {to : VarTy} → IsInt to → (elem : Elem) (fixed : Bool) → Some to ≡ Some (Pointer elem fixed) → ⊥
 number_type {to} k elem fixed is = no_pointer_int k.0 (Some to) elem fixed (ap (λ q. Some q) (sym k.1)) is
@@ -177,16 +172,12 @@ number_type {to} k elem fixed is = no_pointer_int k.0 (Some to) elem fixed (ap (
 same_pointee : (x y : Elem) (p q : Bool) → Some (Pointer x p) ≡ Some (Pointer y q) → x ≡ y
 same_pointee x y p q h = cc
 
-was_not : (b : Bool) → not b ≡ true → b ≡ false
-was_not true h = never h
-was_not false h = refl
-
 -- the operands of an operator are integers, and it is no shift
 arithmetic_facts : (op : BinOp) (to : IntType) (a z : Option IntType) (ty : VarTy) → arithmetic_type op to a z ≡ Some ty → (is_shift op ≡ false) × (is_some z ≡ true)
 arithmetic_facts op to None z ty h = cc
 arithmetic_facts op to (Some a) None ty h = cc
 arithmetic_facts op to (Some a) (Some z) ty h =
-    (was_not (is_shift op) (left (not (is_shift op)) (same_int (usual a to) to && same_int z to) (holds_when (not (is_shift op) && (same_int (usual a to) to && same_int z to)) (Some (Int (binary_type op to))) ty h)), refl)
+    (from_not_true (is_shift op) (both_hold_first (not (is_shift op)) (same_int (usual a to) to && same_int z to) (holds_when (not (is_shift op) && (same_int (usual a to) to && same_int z to)) (Some (Int (binary_type op to))) ty h)), refl)
 
 shift_facts : (a z : Option IntType) (ty : VarTy) → shift_type a z ≡ Some ty → is_some z ≡ true
 shift_facts None z ty h = cc
@@ -195,32 +186,32 @@ shift_facts (Some a) (Some z) ty h = refl
 
 int_scalar : (z : Option VarTy) → is_some (integer_of z) ≡ true → ScalarType z
 int_scalar (Some (Int u)) h = record { u = Int u; is = refl; scalar = tt }
-int_scalar None h = never h
-int_scalar (Some (Struct n)) h = never h
-int_scalar (Some (Array elem n)) h = never h
-int_scalar (Some (Pointer elem f)) h = never h
+int_scalar None h = false_not_true h
+int_scalar (Some (Struct n)) h = false_not_true h
+int_scalar (Some (Array elem n)) h = false_not_true h
+int_scalar (Some (Pointer elem f)) h = false_not_true h
 
 pointer_scalar : (z : Option VarTy) → is_some (pointee_of z) ≡ true → ScalarType z
 pointer_scalar (Some (Pointer elem f)) h = record { u = Pointer elem f; is = refl; scalar = tt }
-pointer_scalar None h = never h
-pointer_scalar (Some (Int u)) h = never h
-pointer_scalar (Some (Struct n)) h = never h
-pointer_scalar (Some (Array elem n)) h = never h
+pointer_scalar None h = false_not_true h
+pointer_scalar (Some (Int u)) h = false_not_true h
+pointer_scalar (Some (Struct n)) h = false_not_true h
+pointer_scalar (Some (Array elem n)) h = false_not_true h
 
 both_some : (a z : Option Elem) → both_elem a z ≡ true → (is_some a ≡ true) × (is_some z ≡ true)
 both_some (Some a) (Some z) h = (refl, refl)
-both_some None z h = never h
-both_some (Some a) None h = never h
+both_some None z h = false_not_true h
+both_some (Some a) None h = false_not_true h
 
 -- the operand of a step is a scalar
 pub link_operand : (a z : Option VarTy) (step : LinkStep) (to : VarTy) → r.stepped a step z ≡ Some to → ScalarType z
 link_operand a z (Arithmetic op t) to h = int_scalar z (arithmetic_facts op t (integer_of a) (integer_of z) to h).1
 link_operand a z (Shift back) to h = int_scalar z (shift_facts (integer_of a) (integer_of z) to h)
-link_operand a z (Move back) to h = int_scalar z (right (is_some (pointee_of a)) (is_some (integer_of z)) (holds_when (is_some (pointee_of a) && is_some (integer_of z)) a to h))
-link_operand a z MoveBy to h = pointer_scalar z (left (is_some (pointee_of z)) (is_some (integer_of a)) (holds_when (is_some (pointee_of z) && is_some (integer_of a)) z to h))
+link_operand a z (Move back) to h = int_scalar z (both_hold_second (is_some (pointee_of a)) (is_some (integer_of z)) (holds_when (is_some (pointee_of a) && is_some (integer_of z)) a to h))
+link_operand a z MoveBy to h = pointer_scalar z (both_hold_first (is_some (pointee_of z)) (is_some (integer_of a)) (holds_when (is_some (pointee_of z) && is_some (integer_of a)) z to h))
 link_operand a z Difference to h = pointer_scalar z (both_some (pointee_of a) (pointee_of z) (holds_when (both_elem (pointee_of a) (pointee_of z)) (Some (Int i.Long)) to h)).1
 link_operand a z (Compare op) to h =
-    pointer_scalar z (both_some (pointee_of a) (pointee_of z) (right (is_comparison op) (both_elem (pointee_of a) (pointee_of z)) (holds_when (is_comparison op && both_elem (pointee_of a) (pointee_of z)) r.int to h))).1
+    pointer_scalar z (both_some (pointee_of a) (pointee_of z) (both_hold_second (is_comparison op) (both_elem (pointee_of a) (pointee_of z)) (holds_when (is_comparison op && both_elem (pointee_of a) (pointee_of z)) r.int to h))).1
 
 pub link_plain : (a z : Option VarTy) (step : LinkStep) (to : VarTy) → r.stepped a step z ≡ Some to → PlainStep step
 link_plain a z (Arithmetic op t) to h = (arithmetic_facts op t (integer_of a) (integer_of z) to h).0
@@ -232,9 +223,9 @@ link_plain a z (Compare op) to h = tt
 
 compares : (s : Scene) (u : VarTy) (value : ct.ExprTree) → is_some (pointee_of (Some u)) ≡ true → PointerType s (Some u) value → (elem : Elem) × (f : Bool) × (g : Bool) × (u ≡ Pointer elem f) × (type_of (frame_of s).context value ≡ Pointer elem g)
 compares s (Pointer elem f) value h k = let p = k elem f refl in (elem, f, p.0, refl, p.1)
-compares s (Int u) value h k = never h
-compares s (Struct n) value h k = never h
-compares s (Array elem n) value h k = never h
+compares s (Int u) value h k = false_not_true h
+compares s (Struct n) value h k = false_not_true h
+compares s (Array elem n) value h k = false_not_true h
 
 pub link_points : (s : Scene) (u : VarTy) (z : Option VarTy) (step : LinkStep) (to : VarTy) (value : ct.ExprTree) → r.stepped (Some u) step z ≡ Some to → PointerType s (Some u) value → PointsTo s u step value
 link_points s u z (Arithmetic op t) to value h k = tt
@@ -243,7 +234,7 @@ link_points s u z (Move back) to value h k = tt
 link_points s u z MoveBy to value h k = tt
 link_points s u z Difference to value h k = tt
 link_points s u z (Compare op) to value h k =
-    compares s u value (both_some (pointee_of (Some u)) (pointee_of z) (right (is_comparison op) (both_elem (pointee_of (Some u)) (pointee_of z)) (holds_when (is_comparison op && both_elem (pointee_of (Some u)) (pointee_of z)) r.int to h))).0 k
+    compares s u value (both_some (pointee_of (Some u)) (pointee_of z) (both_hold_second (is_comparison op) (both_elem (pointee_of (Some u)) (pointee_of z)) (holds_when (is_comparison op && both_elem (pointee_of (Some u)) (pointee_of z)) r.int to h))).0 k
 
 -- which pointer a step gives
 pub link_pointer : (s : Scene) (u : VarTy) (z : Option VarTy) (step : LinkStep) (to : VarTy) (a e1 : ct.ExprTree) (at : Span) → r.stepped (Some u) step z ≡ Some to → PointerType s (Some u) a → PointerType s z e1 → PointerType s (Some to) (l.stepped u step a e1 at)
@@ -262,29 +253,29 @@ pub record ComputeType (u : VarTy) (step : LinkStep) (z : Option VarTy) : Type 0
 
 some_result : (o : Option VarTy) (t : Option VarTy) → converts o t ≡ true → (ty : VarTy) × (o ≡ Some ty)
 some_result (Some ty) t h = (ty, refl)
-some_result None t h = never h
+some_result None t h = false_not_true h
 
 compute_int : (u : IntType) (step : LinkStep) (z : Option VarTy) (to : VarTy) → is_compound step ≡ true → r.stepped (Some (Int (promoted u))) step z ≡ Some to → ComputeType (Int u) step z
 compute_int u (Arithmetic op t) z to h is = record { computes = (plain_type op t h, (arithmetic_facts op t (Some (promoted u)) (integer_of z) to is).0); operand = link_operand (Some (Int (promoted u))) z (Arithmetic op t) to is }
 compute_int u (Shift back) z to h is = record { computes = tt; operand = link_operand (Some (Int (promoted u))) z (Shift back) to is }
 compute_int u (Move back) z to h is = cc
-compute_int u MoveBy z to h is = never h
-compute_int u Difference z to h is = never h
-compute_int u (Compare op) z to h is = never h
+compute_int u MoveBy z to h is = false_not_true h
+compute_int u Difference z to h is = false_not_true h
+compute_int u (Compare op) z to h is = false_not_true h
 
 compute_pointer : (elem : Elem) (f : Bool) (step : LinkStep) (z : Option VarTy) (to : VarTy) → is_compound step ≡ true → r.stepped (Some (Pointer elem f)) step z ≡ Some to → ComputeType (Pointer elem f) step z
 compute_pointer elem f (Move back) z to h is = record { computes = tt; operand = link_operand (Some (Pointer elem f)) z (Move back) to is }
 compute_pointer elem f (Arithmetic op t) z to h is = cc
 compute_pointer elem f (Shift back) z to h is = cc
-compute_pointer elem f MoveBy z to h is = never h
-compute_pointer elem f Difference z to h is = never h
-compute_pointer elem f (Compare op) z to h is = never h
+compute_pointer elem f MoveBy z to h is = false_not_true h
+compute_pointer elem f Difference z to h is = false_not_true h
+compute_pointer elem f (Compare op) z to h is = false_not_true h
 
 pub compute_type : (u : VarTy) (step : LinkStep) (z : Option VarTy) → is_compound step ≡ true → converts (r.stepped (promoted_value (Some u)) step z) (Some u) ≡ true → ComputeType u step z
 compute_type (Int u) step z h k = let o = some_result (r.stepped (Some (Int (promoted u))) step z) (Some (Int u)) k in compute_int u step z o.0 h o.1
 compute_type (Pointer elem f) step z h k = let o = some_result (r.stepped (Some (Pointer elem f)) step z) (Some (Pointer elem f)) k in compute_pointer elem f step z o.0 h o.1
-compute_type (Struct n) step z h k = never (converts_scalar (r.stepped (promoted_value (Some (Struct n))) step z) (Struct n) k)
-compute_type (Array elem n) step z h k = never (converts_scalar (r.stepped (promoted_value (Some (Array elem n))) step z) (Array elem n) k)
+compute_type (Struct n) step z h k = false_not_true (converts_scalar (r.stepped (promoted_value (Some (Struct n))) step z) (Struct n) k)
+compute_type (Array elem n) step z h k = false_not_true (converts_scalar (r.stepped (promoted_value (Some (Array elem n))) step z) (Array elem n) k)
 
 pub unit_computes : (u : VarTy) (back : Bool) → Scalar u → Computes u (l.unit_step u back)
 unit_computes (Int u) true h = (refl, refl)

@@ -1,7 +1,9 @@
 -- Outermost expressions: what statements do with their values.
 use Rattle.std.proofs.Common.{◌≡◌, ◌∙◌, ◌≤◌, ◌<◌, ℕ, ◌+◌, pos, refl, ap, sym, subst, arith, Bool, true, false, Option, Some, None, List, [], ◌∷◌, ◌++◌, length, append_assoc, Result, Ok, Err, if◌then◌else◌}
 use Rattle.std.specs.Prelude.{IsTrue, ◌&&◌, slice_get, get_or}
+use Rattle.std.proofs.lemmas.Option.{get_or_from_slice_get}
 use Rattle.pt_base.specs.declared.int_type.IntType.{IntType}
+use Rattle.pt_base.proofs.Booleans.{both_hold_first, both_hold_second, false_not_true}
 use Rattle.runs.specs.State.{gives, trapped, spent, ◌>>=◌}
 use Rattle.typed_tree.specs.declared.ids.ExprId.{ExprId}
 use Rattle.typed_tree.specs.declared.types.VarTy.{VarTy}
@@ -18,7 +20,6 @@ use Rattle.source_meaning.specs.Values.{Value, cell_of, is_true}
 use Rattle.source_meaning.specs.Values as sv
 use Rattle.source_meaning.specs.Expressions.{value_of}
 use Rattle.source_meaning.specs.Statements as src
-use Rattle.source_soundness.proofs.Tests.{left, right, never, got_or}
 use Rattle.pt_core.specs.CodeTree as t
 use Rattle.pt_core.specs.CodeTree.{StmtTree, choose, stmt_trees}
 use Rattle.pt_core.specs.Values as v
@@ -49,13 +50,13 @@ pub found : (s : Scene) (exprs : List ExprTree) (result : Option IntType) (test 
 found s exprs result test e h = go (slice_get exprs e.0) refl h
   where
     go : (o : Option ExprTree) → slice_get exprs e.0 ≡ o → found_fits s.names test o ≡ true → Found s test (get_or exprs e.0 src.no_expr)
-    go None is h = never h
-    go (Some a) is h = subst (λ z. Found s test z) (sym (got_or exprs e.0 a src.no_expr is)) (record { typed = left (is_typed s.names a) (test (ty_of a)) h; passes = right (is_typed s.names a) (test (ty_of a)) h })
+    go None is h = false_not_true h
+    go (Some a) is h = subst (λ z. Found s test z) (sym (get_or_from_slice_get exprs e.0 a src.no_expr is)) (record { typed = both_hold_first (is_typed s.names a) (test (ty_of a)) h; passes = both_hold_second (is_typed s.names a) (test (ty_of a)) h })
 
 pub scalar_plain : (ty : Option VarTy) → IsTrue (is_scalar ty) → is_struct ty ≡ false
 scalar_plain None h = refl
 scalar_plain (Some (Int u)) h = refl
-scalar_plain (Some (Struct n)) h = never h
+scalar_plain (Some (Struct n)) h = false_not_true h
 scalar_plain (Some (Array elem count)) h = refl
 scalar_plain (Some (Pointer elem fixed)) h = refl
 
@@ -96,7 +97,7 @@ holds_same null = refl
 holds_same (pointer block base count index) = refl
 
 scalar_cell : (ty : Option VarTy) (w : Value) (x : core.Cell) → IsTrue (is_scalar ty) → SameCell ty w x → v.holds_in x ≡ is_true w
-scalar_cell None w x h same = never h
+scalar_cell None w x h same = false_not_true h
 scalar_cell (Some ty) w x h same = ap v.holds_in same ∙ holds_same (cell_of w)
 
 -- what follows a test

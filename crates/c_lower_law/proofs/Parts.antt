@@ -29,7 +29,6 @@ use Rattle.source_soundness.specs.Worlds.{Fits, LocationFits, ValueFits}
 use Rattle.source_soundness.specs.Laws.{Keeps}
 use Rattle.source_soundness.specs.Sizes.{KeepsSizes, LiesWithin, ValueSized}
 use Rattle.typed_tree.proofs.SameTypes.{equal_options}
-use Rattle.source_soundness.proofs.Tests.{left, right, never, got, got_or}
 use Rattle.source_soundness.proofs.Soundness.{value_fits, place_keeps, root_keeps, keeps_bind, field_lies, element_lies, pointer_to_type, element_step, steps_none}
 use Rattle.source_soundness.proofs.SizeSoundness.{value_sized, place_sized}
 use Rattle.pt_core.specs.CodeTree as t
@@ -52,15 +51,19 @@ use Rattle.c_lower_law.proofs.Values.{IsNear, nearly, value_settled, held_pointe
 use Rattle.c_lower_law.proofs.Choices.{IsTruth, truth_held, operands_split, truth_value_near}
 use Rattle.c_lower_law.proofs.OperandTypes.{ScalarType, scalar_type, not_struct}
 use Rattle.c_lower_law.proofs.Shapes.{links_first, operands_first, steps_first, held_first, link_next, item_base, item_next, pure_value, pure_arguments}
-use Rattle.c_lower_law.proofs.Forms.{next_as, settled_as, value_typed, past_from, past_one, was_true, link_first, scalar_expr, Runs}
+use Rattle.c_lower_law.proofs.Forms.{next_as, settled_as, value_typed, past_from, past_one, link_first, scalar_expr, Runs}
 use Rattle.c_lower_law.proofs.FormLaws.{ValueLaw, FormLaw, PlaceLaw, EffectsLaw, constant_law, null_law, read_law, decay_law, address_law, unary_law, convert_law, discard_law, ChainLowered, link_lowered, nothing_linked, more_linked, IsTruthSoFar, operand_lowered}
 use Rattle.c_lower_law.proofs.StoreLaws.{choice_law, assign_law, compound_law, step_law, ArgumentsLaw, call_law}
 use Rattle.c_lower_law.proofs.Calls.{arguments_and, no_arguments}
 use Rattle.std.specs.Prelude.{ℤ}
+use Rattle.std.proofs.lemmas.Option.{get_or_from_slice_get}
 use Rattle.pt_int.specs.declared.operator.UnOp.{UnOp}
 use Rattle.pt_int.specs.declared.operator.UnOp.TheVariants.{Minus, Plus, Flip, Not}
 use Rattle.pt_base.specs.declared.ids.VarId.{VarId}
 use Rattle.pt_base.specs.declared.ids.GlobalId.{GlobalId}
+use Rattle.pt_base.proofs.Booleans.{both_hold_first, both_hold_second, false_not_true, from_not_false, true_not_false}
+use Rattle.pt_base.proofs.Lists.{append_nil}
+use Rattle.pt_base.proofs.Places.{get_map}
 use Rattle.pt_tree.specs.declared.signature.ParamKind.{ParamKind}
 use Rattle.pt_tree.specs.declared.signature.ParamKind.TheVariants as pk
 use Rattle.typed_tree.specs.declared.variable.Var.{Var}
@@ -76,7 +79,6 @@ use Rattle.source_soundness.proofs.Steps.{arithmetic_int, shift_int, moved_is, w
 use Rattle.source_soundness.proofs.Soundness.{array_of, object_of, some_of, given_struct, converts_scalar}
 use Rattle.pt_core.specs.Types.{type_at, global_type}
 use Rattle.lowering.specs.Operators as lo
-use Rattle.c_lower_law.proofs.Runs.{append_nothing}
 use Rattle.c_lower_law.proofs.Fixed.{fixed_place_type}
 use Rattle.c_lower_law.proofs.Values.{asked_settled}
 use Rattle.c_lower_law.proofs.Choices.{next_truth}
@@ -85,7 +87,7 @@ use Rattle.c_lower_law.proofs.Stores.{computed, fixed_on_temps}
 use Rattle.c_lower_law.proofs.Copies.{HasCells, object_near, copied_place, copied_object}
 use Rattle.c_lower_law.proofs.Calls.{call_dropped}
 use Rattle.c_lower_law.proofs.Forms.{RunsNear, near_runs, runs_near, runs_give, value_cell, fixed_first, fixed_type, effects_settled}
-use Rattle.c_lower_law.proofs.StoreLaws.{no_fix, own_from, compound_facts, step_kinds, step_dropped, called_is}
+use Rattle.c_lower_law.proofs.StoreLaws.{own_from, compound_facts, step_kinds, step_dropped, called_is}
 use Rattle.c_lower_law.proofs.EffectLaws.{ObjectLaw, assign_kinds, objects_paired, object_settled, checked_runs, choice_runs, assign_scalar_runs, assign_struct_runs}
 
 -- ---- roots and steps of places
@@ -207,7 +209,7 @@ item_found s n can a w ex sp root before source far fits from law h is temps g =
     (decay_pointer s el.elem el.count (Some (Pointer el.elem far.fixed)) far.fixed far.place place1.lowered.type refl) in
     let pair = first_then s n (record { stmts = far.stmts; value = t.decay far.place; temps = far.temps }) (not (is_pure ex)) (holding (decayed_type far.fixed far.ty) (decayed sp (x.place root (x.step_trees before)) far)) (IsArray s el.elem el.count) (IsValue s (ty_of ex)) source (value_of ex (context_of s))
     (value_in (scope_of s) ex (past n (item_base sp root before far ex n).temps)).stmts (cell_asked s (value_in (scope_of s) ex (past n (item_base sp root before far ex n).temps)).value) fits from bt (array_runs s n el.elem el.count source far.stmts far.place place1.lowered.runs) v1.runs
-    (λ e1. (pure_value ex (scope_of s) (past n (item_base sp root before far ex n).temps) (was_true (is_pure ex) e1)).stmts_none) in
+    (λ e1. (pure_value ex (scope_of s) (past n (item_base sp root before far ex n).temps) (from_not_false (is_pure ex) e1)).stmts_none) in
     found_typed s (type_of_elem el.elem) w n true (λ st. source st >>= step_location_of s ex sp) (item_next (scope_of s) sp root before far ex n) (sym (some_same w (type_of_elem el.elem) el.to))
     (record {
       lowered = subst (λ z. PlaceLowered s (type_of_elem el.elem) n true (λ st. source st >>= step_location_of s ex sp) (l.element_place sp (decayed sp (x.place root (x.step_trees before)) far) ex z (item_base sp root before far ex n) (value_in (scope_of s) ex (past n (item_base sp root before far ex n).temps)))) (sym tyis)
@@ -242,7 +244,7 @@ assigned_found p a lp la at ty s n j k h is from temps =
     let ts = subst (λ z. HasTemps s.core_variables n (l.assigned z (fixed_if true n (place_in (scope_of s) p n)) (object_in (scope_of s) a (past n (fixed_if true n (place_in (scope_of s) p n)).temps)) (value_in (scope_of s) a (past n (fixed_if true n (place_in (scope_of s) p n)).temps))).temps) whole1 temps in
     let t1 = temps_first s.core_variables n (fixed_if true n (place_in (scope_of s) p n)).temps (object_in (scope_of s) a (past n (fixed_if true n (place_in (scope_of s) p n)).temps)).temps ts in
     let pl = lp s n (Struct j) k q.there (q.place_is ∙ is) from (fixed_first s.core_variables n true (place_in (scope_of s) p n) t1) in
-    let pr = objects_paired s n j true p a k from no_fix q.can q.typed_a (q.a_is ∙ is) ts pl la in
+    let pr = objects_paired s n j true p a k from true_not_false q.can q.typed_a (q.a_is ∙ is) ts pl la in
     subst (λ z. PlaceLowered s (Struct j) n false (assigned_location (typed at ty (x.assign p a)) (context_of s)) (l.assigned z (fixed_if true n (place_in (scope_of s) p n)) (object_in (scope_of s) a (past n (fixed_if true n (place_in (scope_of s) p n)).temps)) (value_in (scope_of s) a (past n (fixed_if true n (place_in (scope_of s) p n)).temps)))) (sym whole1)
     (record {
       named = fixed_type n true (place_in (scope_of s) p n) ∙ pl.named;
@@ -250,7 +252,7 @@ assigned_found p a lp la at ty s n j k h is from temps =
       runs = place_settled s (typed at ty (x.assign p a)) n j (((fixed_if true n (place_in (scope_of s) p n)).stmts ++ (object_in (scope_of s) a (past n (fixed_if true n (place_in (scope_of s) p n)).temps)).stmts) ++ t.copy (fixed_if true n (place_in (scope_of s) p n)).place (object_in (scope_of s) a (past n (fixed_if true n (place_in (scope_of s) p n)).temps)).place ∷ []) (fixed_if true n (place_in (scope_of s) p n)).place k h (ap (λ z. assigned_type (typed at z (x.assign p a))) is)
           (copied_place s n (past n (fixed_if true n (place_in (scope_of s) p n)).temps) j (location_of p (context_of s)) (value_of a (context_of s)) ((fixed_if true n (place_in (scope_of s) p n)).stmts ++ (object_in (scope_of s) a (past n (fixed_if true n (place_in (scope_of s) p n)).temps)).stmts) (fixed_if true n (place_in (scope_of s) p n)).place (object_in (scope_of s) a (past n (fixed_if true n (place_in (scope_of s) p n)).temps)).place k
           (fixed_on_temps s n (Struct j) (location_of p (context_of s)) (place_in (scope_of s) p n) (own_from s n k from) (pl.stage q.can)) pr);
-      stage = λ ok. never ok;
+      stage = λ ok. false_not_true ok;
     })
 
 pub assigned_object : (p : PlaceTree) (a : ExprTree) → PlaceLaw p → ObjectLaw a → (at : Span) (ty : Option VarTy) → ObjectLaw (typed at ty (x.assign p a))
@@ -260,7 +262,7 @@ assigned_object p a lp la at ty s n j k h is from temps =
     let ts = subst (λ z. HasTemps s.core_variables n (l.assigned z (fixed_if true n (place_in (scope_of s) p n)) (object_in (scope_of s) a (past n (fixed_if true n (place_in (scope_of s) p n)).temps)) (value_in (scope_of s) a (past n (fixed_if true n (place_in (scope_of s) p n)).temps))).temps) whole1 temps in
     let t1 = temps_first s.core_variables n (fixed_if true n (place_in (scope_of s) p n)).temps (object_in (scope_of s) a (past n (fixed_if true n (place_in (scope_of s) p n)).temps)).temps ts in
     let pl = lp s n (Struct j) k q.there (q.place_is ∙ is) from (fixed_first s.core_variables n true (place_in (scope_of s) p n) t1) in
-    let pr = objects_paired s n j true p a k from no_fix q.can q.typed_a (q.a_is ∙ is) ts pl la in
+    let pr = objects_paired s n j true p a k from true_not_false q.can q.typed_a (q.a_is ∙ is) ts pl la in
     subst (λ z. IsNext s (IsObject s j) n (value_of (typed at ty (x.assign p a)) (context_of s)) (l.assigned z (fixed_if true n (place_in (scope_of s) p n)) (object_in (scope_of s) a (past n (fixed_if true n (place_in (scope_of s) p n)).temps)) (value_in (scope_of s) a (past n (fixed_if true n (place_in (scope_of s) p n)).temps))).stmts
     (object_asked s (l.assigned z (fixed_if true n (place_in (scope_of s) p n)) (object_in (scope_of s) a (past n (fixed_if true n (place_in (scope_of s) p n)).temps)) (value_in (scope_of s) a (past n (fixed_if true n (place_in (scope_of s) p n)).temps))).place j)) (sym whole1)
     (object_settled s (typed at ty (x.assign p a)) n j (((fixed_if true n (place_in (scope_of s) p n)).stmts ++ (object_in (scope_of s) a (past n (fixed_if true n (place_in (scope_of s) p n)).temps)).stmts) ++ t.copy (fixed_if true n (place_in (scope_of s) p n)).place (object_in (scope_of s) a (past n (fixed_if true n (place_in (scope_of s) p n)).temps)).place ∷ []) (fixed_if true n (place_in (scope_of s) p n)).place k h is
@@ -297,19 +299,19 @@ FormEffectsLaw form = (at : Span) (ty : Option VarTy) (s : Scene) (n : ℕ) → 
 -- ---- chains and truths
 
 chain_operand : (s : Scene) (a : Option VarTy) (links : LinkTrees) (ty : Option VarTy) → has_links links ≡ true → IsTrue (links_fit s.names a links ty) → ScalarType a
-chain_operand s a no_links ty h k = never h
+chain_operand s a no_links ty h k = false_not_true h
 chain_operand s a (link_and (link at to step ex) rest) ty h k =
-    let more = right (is_typed s.names ex) (same_types (r.stepped a step (ty_of ex)) (Some to) && links_fit s.names (Some to) rest ty) k in
-    link_first a (ty_of ex) step to (equal_options (r.stepped a step (ty_of ex)) (Some to) (left (same_types (r.stepped a step (ty_of ex)) (Some to)) (links_fit s.names (Some to) rest ty) more))
+    let more = both_hold_second (is_typed s.names ex) (same_types (r.stepped a step (ty_of ex)) (Some to) && links_fit s.names (Some to) rest ty) k in
+    link_first a (ty_of ex) step to (equal_options (r.stepped a step (ty_of ex)) (Some to) (both_hold_first (same_types (r.stepped a step (ty_of ex)) (Some to)) (links_fit s.names (Some to) rest ty) more))
 
 pub chain_law : (a : ExprTree) (links : LinkTrees) → ValueLaw a → LinksLaw links → FormLaw (x.chain a links)
 chain_law a links la ll at ty s n k h ns from temps =
-    let is = right (is_typed s.names a) (has_links links && links_fit s.names (ty_of a) links ty) h in
-    let fit = right (has_links links) (links_fit s.names (ty_of a) links ty) is in
-    let st = chain_operand s (ty_of a) links ty (left (has_links links) (links_fit s.names (ty_of a) links ty) is) fit in
+    let is = both_hold_second (is_typed s.names a) (has_links links && links_fit s.names (ty_of a) links ty) h in
+    let fit = both_hold_second (has_links links) (links_fit s.names (ty_of a) links ty) is in
+    let st = chain_operand s (ty_of a) links ty (both_hold_first (has_links links) (links_fit s.names (ty_of a) links ty) is) fit in
     let sc = scalar_expr a st in
     let ta = links_first links (scope_of s) s.core_variables a [] at (e.type_of a) (value_in (scope_of s) a n) n temps in
-    let va = la s n k (left (is_typed s.names a) (has_links links && links_fit s.names (ty_of a) links ty) h) (not_struct (ty_of a) st) from ta in
+    let va = la s n k (both_hold_first (is_typed s.names a) (has_links links && links_fit s.names (ty_of a) links ty) h) (not_struct (ty_of a) st) from ta in
     let c0 = ll s n a [] at (e.type_of a) ty (value_in (scope_of s) a n) (value_of a (context_of s)) k from (subst (λ z. IsTrue (links_fit s.names z links ty)) sc.is fit) temps
     (record { type = subst (λ z. PointerType s z (value_in (scope_of s) a n).value) sc.is va.type; runs = value_cell s n (ty_of a) (Some (e.type_of a)) (value_of a (context_of s)) (value_in (scope_of s) a n).stmts (cell_asked s (value_in (scope_of s) a n).value) sc.is va.runs }) in
     record {
@@ -329,16 +331,16 @@ int_pointer ty elem fixed p q = absurd (clash (sym p ∙ q))
 
 pub logical_law : (op : LogicalOp) (a : ExprTree) (others : OperandTrees) → ValueLaw a → OperandsLaw others → FormLaw (x.logical op a others)
 logical_law op a others la lo1 at ty s n k h ns from temps =
-    let first = left (is_typed s.names a && is_scalar (ty_of a)) ((has_operands others && operands_fit s.names others) && same_types ty r.int) h in
-    let rest = right (is_typed s.names a && is_scalar (ty_of a)) ((has_operands others && operands_fit s.names others) && same_types ty r.int) h in
-    let all1 = right (has_operands others) (operands_fit s.names others) (left (has_operands others && operands_fit s.names others) (same_types ty r.int) rest) in
-    let is = equal_options ty r.int (right (has_operands others && operands_fit s.names others) (same_types ty r.int) rest) in
-    let st = scalar_type (ty_of a) (right (is_typed s.names a) (is_scalar (ty_of a)) first) in
+    let first = both_hold_first (is_typed s.names a && is_scalar (ty_of a)) ((has_operands others && operands_fit s.names others) && same_types ty r.int) h in
+    let rest = both_hold_second (is_typed s.names a && is_scalar (ty_of a)) ((has_operands others && operands_fit s.names others) && same_types ty r.int) h in
+    let all1 = both_hold_second (has_operands others) (operands_fit s.names others) (both_hold_first (has_operands others && operands_fit s.names others) (same_types ty r.int) rest) in
+    let is = equal_options ty r.int (both_hold_second (has_operands others && operands_fit s.names others) (same_types ty r.int) rest) in
+    let st = scalar_type (ty_of a) (both_hold_second (is_typed s.names a) (is_scalar (ty_of a)) first) in
     let sc = scalar_expr a st in
     let whole1 = typed at ty (x.logical op a others) in
     let ts = operands_first others (scope_of s) s.core_variables op (past n (value_in (scope_of s) a n).temps) (started (typed at ty (x.logical op a others)) (past n (value_in (scope_of s) a n).temps) (e.type_of a) at (value_in (scope_of s) a n)) n temps in
     let there = temp_there s.core_variables n (value_in (scope_of s) a n).temps (holding int (typed at ty (x.logical op a others))) [] ts in
-    let va = la s n k (left (is_typed s.names a) (is_scalar (ty_of a)) first) (not_struct (ty_of a) st) from (temps_first s.core_variables n (value_in (scope_of s) a n).temps (holding int (typed at ty (x.logical op a others)) ∷ []) ts) in
+    let va = la s n k (both_hold_first (is_typed s.names a) (is_scalar (ty_of a)) first) (not_struct (ty_of a) st) from (temps_first s.core_variables n (value_in (scope_of s) a n).temps (holding int (typed at ty (x.logical op a others)) ∷ []) ts) in
     let held = truth_held s n n (past n (value_in (scope_of s) a n).temps) (e.type_of a) int at (value_of a (context_of s)) (value_in (scope_of s) a n).stmts (value_in (scope_of s) a n).value k (past_from (length s.names.vars) n (value_in (scope_of s) a n).temps from) (omega arith) (omega arith) there sc.scalar
     (value_typed s n (ty_of a) (Some (e.type_of a)) (value_of a (context_of s)) (value_in (scope_of s) a n).stmts (cell_asked s (value_in (scope_of s) a n).value) sc.is va.runs) in
     let c0 = lo1 s n op (past n (value_in (scope_of s) a n).temps) (started (typed at ty (x.logical op a others)) (past n (value_in (scope_of s) a n).temps) (e.type_of a) at (value_in (scope_of s) a n)) (λ st1. value_of a (context_of s) st1 >>= λ w. gives (is_true w)) k from (omega arith) (later n (past n (value_in (scope_of s) a n).temps) (value_in (scope_of s) a n).temps (holding int (typed at ty (x.logical op a others)) ∷ []) (omega arith)) there all1 temps held in
@@ -370,13 +372,13 @@ no_struct_unary : (op : UnOp) (a : Option VarTy) (j : ℕ) → unary_fits op a (
 no_struct_unary Minus a j h = let p = same_promoted_is a (Some (Struct j)) h in struct_clash (Some (Struct j)) j p.1 refl p.3
 no_struct_unary Plus a j h = let p = same_promoted_is a (Some (Struct j)) h in struct_clash (Some (Struct j)) j p.1 refl p.3
 no_struct_unary Flip a j h = let p = same_promoted_is a (Some (Struct j)) h in struct_clash (Some (Struct j)) j p.1 refl p.3
-no_struct_unary Not a j h = struct_clash (Some (Struct j)) j i.Int refl (equal_options (Some (Struct j)) r.int (right (is_scalar a) (same_types (Some (Struct j)) r.int) h))
+no_struct_unary Not a j h = struct_clash (Some (Struct j)) j i.Int refl (equal_options (Some (Struct j)) r.int (both_hold_second (is_scalar a) (same_types (Some (Struct j)) r.int) h))
 
 of_scalar : (t1 : Option VarTy) → is_scalar t1 ≡ true → is_struct t1 ≡ false
 of_scalar (Some (Int u)) h = refl
 of_scalar (Some (Pointer elem fixed)) h = refl
 of_scalar None h = refl
-of_scalar (Some (Struct n)) h = never h
+of_scalar (Some (Struct n)) h = false_not_true h
 of_scalar (Some (Array elem count)) h = refl
 
 of_converts : (a t1 : Option VarTy) → converts a t1 ≡ true → is_struct t1 ≡ false
@@ -388,32 +390,32 @@ of_constant z None h = refl
 of_constant z (Some (Int u)) h = refl
 of_constant z (Some (Pointer elem fixed)) h = refl
 of_constant z (Some (Array elem count)) h = refl
-of_constant z (Some (Struct n)) h = never h
+of_constant z (Some (Struct n)) h = false_not_true h
 
 of_null : (n : ℕ) (t1 : Option VarTy) → f.is_elem n (pointee_of t1) ≡ true → is_struct t1 ≡ false
 of_null n None h = refl
 of_null n (Some (Int u)) h = refl
 of_null n (Some (Pointer elem fixed)) h = refl
 of_null n (Some (Array elem count)) h = refl
-of_null n (Some (Struct k)) h = never h
+of_null n (Some (Struct k)) h = false_not_true h
 
 of_none : (t1 : Option VarTy) → is_none t1 ≡ true → is_struct t1 ≡ false
 of_none None h = refl
-of_none (Some u) h = never h
+of_none (Some u) h = false_not_true h
 
 of_arm : (t1 : Option VarTy) → is_arm t1 ≡ true → is_struct t1 ≡ false
 of_arm None h = refl
 of_arm (Some (Int u)) h = refl
 of_arm (Some (Pointer elem fixed)) h = refl
 of_arm (Some (Array elem count)) h = refl
-of_arm (Some (Struct n)) h = never h
+of_arm (Some (Struct n)) h = false_not_true h
 
 of_result : (o : Option IntType) → is_struct (option_map Int o) ≡ false
 of_result None = refl
 of_result (Some u) = refl
 
 pub unary_struct : (op : UnOp) (a : ExprTree) (ty : Option VarTy) (s : Scene) → IsTrue (form_fits s.names (x.unary op a) ty) → is_struct ty ≡ false
-unary_struct op a ty s h = of_unary op (ty_of a) ty (right (is_typed s.names a) (unary_fits op (ty_of a) ty) h)
+unary_struct op a ty s h = of_unary op (ty_of a) ty (both_hold_second (is_typed s.names a) (unary_fits op (ty_of a) ty) h)
   where
     of_unary : (op : UnOp) (a t1 : Option VarTy) → unary_fits op a t1 ≡ true → is_struct t1 ≡ false
     of_unary op a None h = refl
@@ -423,22 +425,22 @@ unary_struct op a ty s h = of_unary op (ty_of a) ty (right (is_typed s.names a) 
     of_unary op a (Some (Struct j)) h = absurd (no_struct_unary op a j h)
 
 link_result : (s : Scene) (a : Option VarTy) (links : LinkTrees) (ty : Option VarTy) → has_links links ≡ true → IsTrue (links_fit s.names a links ty) → is_struct ty ≡ false
-link_result s a no_links ty h k = never h
+link_result s a no_links ty h k = false_not_true h
 link_result s a (link_and (link at to step ex) no_links) ty h k =
-    let more = right (is_typed s.names ex) (same_types (r.stepped a step (ty_of ex)) (Some to) && same_types (Some to) ty) k in
-    ap is_struct (sym (equal_options (Some to) ty (right (same_types (r.stepped a step (ty_of ex)) (Some to)) (same_types (Some to) ty) more)))
-    ∙ step_result a (ty_of ex) step to (equal_options (r.stepped a step (ty_of ex)) (Some to) (left (same_types (r.stepped a step (ty_of ex)) (Some to)) (same_types (Some to) ty) more))
+    let more = both_hold_second (is_typed s.names ex) (same_types (r.stepped a step (ty_of ex)) (Some to) && same_types (Some to) ty) k in
+    ap is_struct (sym (equal_options (Some to) ty (both_hold_second (same_types (r.stepped a step (ty_of ex)) (Some to)) (same_types (Some to) ty) more)))
+    ∙ step_result a (ty_of ex) step to (equal_options (r.stepped a step (ty_of ex)) (Some to) (both_hold_first (same_types (r.stepped a step (ty_of ex)) (Some to)) (same_types (Some to) ty) more))
 link_result s a (link_and (link at to step ex) (link_and l1 rest)) ty h k =
-    link_result s (Some to) (link_and l1 rest) ty refl (right (same_types (r.stepped a step (ty_of ex)) (Some to)) (links_fit s.names (Some to) (link_and l1 rest) ty) (right (is_typed s.names ex) (same_types (r.stepped a step (ty_of ex)) (Some to) && links_fit s.names (Some to) (link_and l1 rest) ty) k))
+    link_result s (Some to) (link_and l1 rest) ty refl (both_hold_second (same_types (r.stepped a step (ty_of ex)) (Some to)) (links_fit s.names (Some to) (link_and l1 rest) ty) (both_hold_second (is_typed s.names ex) (same_types (r.stepped a step (ty_of ex)) (Some to) && links_fit s.names (Some to) (link_and l1 rest) ty) k))
 
 pub chain_struct : (a : ExprTree) (links : LinkTrees) (ty : Option VarTy) (s : Scene) → IsTrue (form_fits s.names (x.chain a links) ty) → is_struct ty ≡ false
 chain_struct a links ty s h =
-    let is = right (is_typed s.names a) (has_links links && links_fit s.names (ty_of a) links ty) h in
-    link_result s (ty_of a) links ty (left (has_links links) (links_fit s.names (ty_of a) links ty) is) (right (has_links links) (links_fit s.names (ty_of a) links ty) is)
+    let is = both_hold_second (is_typed s.names a) (has_links links && links_fit s.names (ty_of a) links ty) h in
+    link_result s (ty_of a) links ty (both_hold_first (has_links links) (links_fit s.names (ty_of a) links ty) is) (both_hold_second (has_links links) (links_fit s.names (ty_of a) links ty) is)
 
 pub logical_struct : (op : LogicalOp) (a : ExprTree) (others : OperandTrees) (ty : Option VarTy) (s : Scene) → IsTrue (form_fits s.names (x.logical op a others) ty) → is_struct ty ≡ false
 logical_struct op a others ty s h =
-    ap is_struct (equal_options ty r.int (right (has_operands others && operands_fit s.names others) (same_types ty r.int) (right (is_typed s.names a && is_scalar (ty_of a)) ((has_operands others && operands_fit s.names others) && same_types ty r.int) h)))
+    ap is_struct (equal_options ty r.int (both_hold_second (has_operands others && operands_fit s.names others) (same_types ty r.int) (both_hold_second (is_typed s.names a && is_scalar (ty_of a)) ((has_operands others && operands_fit s.names others) && same_types ty r.int) h)))
 
 -- ---- dropped values
 
@@ -450,42 +452,42 @@ logical_runs op a others at ty s n v1 =
 
 pub read_runs_law : (p : PlaceTree) → PlaceLaw p → FormEffectsLaw (x.read p)
 read_runs_law p lp at ty s n k h from temps =
-    let is = right (place_fits s.names p) (same_types (place_type s.names p) ty && is_value ty) h in
-    let u = some_of ty (right (same_types (place_type s.names p) ty) (is_value ty) is) in
-    let pl = lp s n u.0 k (left (place_fits s.names p) (same_types (place_type s.names p) ty && is_value ty) h) (equal_options (place_type s.names p) ty (left (same_types (place_type s.names p) ty) (is_value ty) is) ∙ u.1) from temps in
+    let is = both_hold_second (place_fits s.names p) (same_types (place_type s.names p) ty && is_value ty) h in
+    let u = some_of ty (both_hold_second (same_types (place_type s.names p) ty) (is_value ty) is) in
+    let pl = lp s n u.0 k (both_hold_first (place_fits s.names p) (same_types (place_type s.names p) ty && is_value ty) h) (equal_options (place_type s.names p) ty (both_hold_first (same_types (place_type s.names p) ty) (is_value ty) is) ∙ u.1) from temps in
     checked_runs s n u.0 (location_of p (context_of s)) (λ l1 st1. e.loaded (context_of s) l1 l1.ty st1) (place_in (scope_of s) p n).stmts (place_in (scope_of s) p n).place pl.runs
 
 pub decay_runs_law : (p : PlaceTree) → PlaceLaw p → FormEffectsLaw (x.decay p)
 decay_runs_law p lp at ty s n k h from temps =
-    let is = left (both_elem (item_of (place_type s.names p)) (pointee_of ty)) (f.keeps_const (place_const s.names p) ty) (right (place_fits s.names p) (both_elem (item_of (place_type s.names p)) (pointee_of ty) && f.keeps_const (place_const s.names p) ty) h) in
+    let is = both_hold_first (both_elem (item_of (place_type s.names p)) (pointee_of ty)) (f.keeps_const (place_const s.names p) ty) (both_hold_second (place_fits s.names p) (both_elem (item_of (place_type s.names p)) (pointee_of ty) && f.keeps_const (place_const s.names p) ty) h) in
     let a = array_of (place_type s.names p) ty is in
-    let pl = lp s n (Array a.elem a.count) k (left (place_fits s.names p) (both_elem (item_of (place_type s.names p)) (pointee_of ty) && f.keeps_const (place_const s.names p) ty) h) a.from from temps in
+    let pl = lp s n (Array a.elem a.count) k (both_hold_first (place_fits s.names p) (both_elem (item_of (place_type s.names p)) (pointee_of ty) && f.keeps_const (place_const s.names p) ty) h) a.from from temps in
     checked_runs s n (Array a.elem a.count) (location_of p (context_of s)) (λ l1 st1. holds (e.decayed l1 l1.ty)) (place_in (scope_of s) p n).stmts (place_in (scope_of s) p n).place pl.runs
 
 pub address_runs_law : (p : PlaceTree) → PlaceLaw p → FormEffectsLaw (x.address p)
 address_runs_law p lp at ty s n k h from temps =
-    let rest = right (place_fits s.names p) (f.is_addressed p && (both_elem (element_of (place_type s.names p)) (pointee_of ty) && f.keeps_const (place_const s.names p) ty)) h in
-    let is = left (both_elem (element_of (place_type s.names p)) (pointee_of ty)) (f.keeps_const (place_const s.names p) ty) (right (f.is_addressed p) (both_elem (element_of (place_type s.names p)) (pointee_of ty) && f.keeps_const (place_const s.names p) ty) rest) in
+    let rest = both_hold_second (place_fits s.names p) (f.is_addressed p && (both_elem (element_of (place_type s.names p)) (pointee_of ty) && f.keeps_const (place_const s.names p) ty)) h in
+    let is = both_hold_first (both_elem (element_of (place_type s.names p)) (pointee_of ty)) (f.keeps_const (place_const s.names p) ty) (both_hold_second (f.is_addressed p) (both_elem (element_of (place_type s.names p)) (pointee_of ty) && f.keeps_const (place_const s.names p) ty) rest) in
     let o = object_of (place_type s.names p) ty is in
-    let pl = lp s n (type_of_elem o.elem) k (left (place_fits s.names p) (f.is_addressed p && (both_elem (element_of (place_type s.names p)) (pointee_of ty) && f.keeps_const (place_const s.names p) ty)) h) o.from from temps in
+    let pl = lp s n (type_of_elem o.elem) k (both_hold_first (place_fits s.names p) (f.is_addressed p && (both_elem (element_of (place_type s.names p)) (pointee_of ty) && f.keeps_const (place_const s.names p) ty)) h) o.from from temps in
     checked_runs s n (type_of_elem o.elem) (location_of p (context_of s)) (λ l1 st1. holds (e.address_of l1)) (place_in (scope_of s) p n).stmts (place_in (scope_of s) p n).place pl.runs
 
 pub choice_runs_law : (a b d : ExprTree) → ValueLaw a → EffectsLaw b → EffectsLaw d → FormEffectsLaw (x.choice a b d)
 choice_runs_law a b d la lb ld at ty s n k h from temps =
-    let test = left (is_typed s.names a && is_scalar (ty_of a)) ((is_typed s.names b && same_types (ty_of b) ty) && ((is_typed s.names d && same_types (ty_of d) ty) && is_arm ty)) h in
-    let arms = right (is_typed s.names a && is_scalar (ty_of a)) ((is_typed s.names b && same_types (ty_of b) ty) && ((is_typed s.names d && same_types (ty_of d) ty) && is_arm ty)) h in
-    let hb = left (is_typed s.names b) (same_types (ty_of b) ty) (left (is_typed s.names b && same_types (ty_of b) ty) ((is_typed s.names d && same_types (ty_of d) ty) && is_arm ty) arms) in
-    let hd = left (is_typed s.names d) (same_types (ty_of d) ty) (left (is_typed s.names d && same_types (ty_of d) ty) (is_arm ty) (right (is_typed s.names b && same_types (ty_of b) ty) ((is_typed s.names d && same_types (ty_of d) ty) && is_arm ty) arms)) in
-    let st = scalar_type (ty_of a) (right (is_typed s.names a) (is_scalar (ty_of a)) test) in
+    let test = both_hold_first (is_typed s.names a && is_scalar (ty_of a)) ((is_typed s.names b && same_types (ty_of b) ty) && ((is_typed s.names d && same_types (ty_of d) ty) && is_arm ty)) h in
+    let arms = both_hold_second (is_typed s.names a && is_scalar (ty_of a)) ((is_typed s.names b && same_types (ty_of b) ty) && ((is_typed s.names d && same_types (ty_of d) ty) && is_arm ty)) h in
+    let hb = both_hold_first (is_typed s.names b) (same_types (ty_of b) ty) (both_hold_first (is_typed s.names b && same_types (ty_of b) ty) ((is_typed s.names d && same_types (ty_of d) ty) && is_arm ty) arms) in
+    let hd = both_hold_first (is_typed s.names d) (same_types (ty_of d) ty) (both_hold_first (is_typed s.names d && same_types (ty_of d) ty) (is_arm ty) (both_hold_second (is_typed s.names b && same_types (ty_of b) ty) ((is_typed s.names d && same_types (ty_of d) ty) && is_arm ty) arms)) in
+    let st = scalar_type (ty_of a) (both_hold_second (is_typed s.names a) (is_scalar (ty_of a)) test) in
     let sc = scalar_expr a st in
     let t3 = temps_first s.core_variables n (((value_in (scope_of s) a n).temps ++ []) ++ (effects_in (scope_of s) b (past n (value_in (scope_of s) a n).temps)).temps) (effects_in (scope_of s) d (past (past n (value_in (scope_of s) a n).temps) (effects_in (scope_of s) b (past n (value_in (scope_of s) a n).temps)).temps)).temps temps in
     let t2 = temps_first s.core_variables n ((value_in (scope_of s) a n).temps ++ []) (effects_in (scope_of s) b (past n (value_in (scope_of s) a n).temps)).temps t3 in
     let t1 = temps_first s.core_variables n (value_in (scope_of s) a n).temps [] t2 in
-    let tb = subst (λ z. HasTemps s.core_variables z (effects_in (scope_of s) b (past n (value_in (scope_of s) a n).temps)).temps) (ap (past n) (append_nothing (value_in (scope_of s) a n).temps)) (temps_rest s.core_variables n ((value_in (scope_of s) a n).temps ++ []) (effects_in (scope_of s) b (past n (value_in (scope_of s) a n).temps)).temps t3) in
+    let tb = subst (λ z. HasTemps s.core_variables z (effects_in (scope_of s) b (past n (value_in (scope_of s) a n).temps)).temps) (ap (past n) (append_nil (value_in (scope_of s) a n).temps)) (temps_rest s.core_variables n ((value_in (scope_of s) a n).temps ++ []) (effects_in (scope_of s) b (past n (value_in (scope_of s) a n).temps)).temps t3) in
     let td = subst (λ z. HasTemps s.core_variables z (effects_in (scope_of s) d (past (past n (value_in (scope_of s) a n).temps) (effects_in (scope_of s) b (past n (value_in (scope_of s) a n).temps)).temps)).temps)
-    (ap (λ xs. past n (xs ++ (effects_in (scope_of s) b (past n (value_in (scope_of s) a n).temps)).temps)) (append_nothing (value_in (scope_of s) a n).temps) ∙ past_append n (value_in (scope_of s) a n).temps (effects_in (scope_of s) b (past n (value_in (scope_of s) a n).temps)).temps)
+    (ap (λ xs. past n (xs ++ (effects_in (scope_of s) b (past n (value_in (scope_of s) a n).temps)).temps)) (append_nil (value_in (scope_of s) a n).temps) ∙ past_append n (value_in (scope_of s) a n).temps (effects_in (scope_of s) b (past n (value_in (scope_of s) a n).temps)).temps)
     (temps_rest s.core_variables n (((value_in (scope_of s) a n).temps ++ []) ++ (effects_in (scope_of s) b (past n (value_in (scope_of s) a n).temps)).temps) (effects_in (scope_of s) d (past (past n (value_in (scope_of s) a n).temps) (effects_in (scope_of s) b (past n (value_in (scope_of s) a n).temps)).temps)).temps temps) in
-    let va = la s n k (left (is_typed s.names a) (is_scalar (ty_of a)) test) (not_struct (ty_of a) st) from t1 in
+    let va = la s n k (both_hold_first (is_typed s.names a) (is_scalar (ty_of a)) test) (not_struct (ty_of a) st) from t1 in
     choice_runs s n (past n (value_in (scope_of s) a n).temps) (past (past n (value_in (scope_of s) a n).temps) (effects_in (scope_of s) b (past n (value_in (scope_of s) a n).temps)).temps) (e.type_of a) (value_of a (context_of s)) (value_of b (context_of s)) (value_of d (context_of s)) (value_in (scope_of s) a n).stmts
     (effects_in (scope_of s) b (past n (value_in (scope_of s) a n).temps)).stmts (effects_in (scope_of s) d (past (past n (value_in (scope_of s) a n).temps) (effects_in (scope_of s) b (past n (value_in (scope_of s) a n).temps)).temps)).stmts (value_in (scope_of s) a n).value sc.scalar (omega arith) (omega arith)
     (value_typed s n (ty_of a) (Some (e.type_of a)) (value_of a (context_of s)) (value_in (scope_of s) a n).stmts (cell_asked s (value_in (scope_of s) a n).value) sc.is va.runs)
@@ -498,7 +500,7 @@ assign_runs_law p a lp la lo1 at ty s n k h from temps = go (some_of ty (assign_
     of_type (Int z) is v1 = assign_scalar_runs p a lp la at ty s n (Int z) k h is tt from temps
     of_type (Pointer elem fixed) is v1 = assign_scalar_runs p a lp la at ty s n (Pointer elem fixed) k h is tt from temps
     of_type (Struct j) is v1 = assign_struct_runs p a lp lo1 at ty s n j k h is from temps
-    of_type (Array elem count) is v1 = never v1
+    of_type (Array elem count) is v1 = false_not_true v1
 
     go : (u : VarTy) × (ty ≡ Some u) → RunsNear s n (value_of (typed at ty (x.assign p a)) (context_of s)) (effects_in (scope_of s) (typed at ty (x.assign p a)) n).stmts
     go u = of_type u.0 u.1 (sym (ap is_value u.1) ∙ (assign_kinds s p a ty h).value)
@@ -513,16 +515,16 @@ step_runs_law p sp back postfix lp at ty s n k h from temps =
 
 pub call_runs_law : (g : FnId) (es : ExprTrees) → ArgumentsLaw es → FormEffectsLaw (x.call g es)
 call_runs_law g es la at ty s n k h from temps =
-    let q = called_is s g es ty (right (all_typed s.names es) (call_fits (slice_get s.names.signatures g.0) es ty) h) in
+    let q = called_is s g es ty (both_hold_second (all_typed s.names es) (call_fits (slice_get s.names.signatures g.0) es ty) h) in
     call_dropped s n g.0 q.signature at (values_of es (context_of s)) (arguments_in (scope_of s) es n).stmts (arguments_in (scope_of s) es n).values k q.there q.not_main
-    (la s n q.signature.params k (left (all_typed s.names es) (call_fits (slice_get s.names.signatures g.0) es ty) h) q.fit from (temps_first s.core_variables n (arguments_in (scope_of s) es n).temps [] temps))
+    (la s n q.signature.params k (both_hold_first (all_typed s.names es) (call_fits (slice_get s.names.signatures g.0) es ty) h) q.fit from (temps_first s.core_variables n (arguments_in (scope_of s) es n).temps [] temps))
 
 -- ---- objects
 
 pub read_object : (p : PlaceTree) → PlaceLaw p → (at : Span) (ty : Option VarTy) → ObjectLaw (typed at ty (x.read p))
 read_object p lp at ty s n j k h is from temps =
-    let own = right (place_fits s.names p) (same_types (place_type s.names p) ty && is_value ty) h in
-    let pl = lp s n (Struct j) k (left (place_fits s.names p) (same_types (place_type s.names p) ty && is_value ty) h) (equal_options (place_type s.names p) ty (left (same_types (place_type s.names p) ty) (is_value ty) own) ∙ is) from temps in
+    let own = both_hold_second (place_fits s.names p) (same_types (place_type s.names p) ty && is_value ty) h in
+    let pl = lp s n (Struct j) k (both_hold_first (place_fits s.names p) (same_types (place_type s.names p) ty && is_value ty) h) (equal_options (place_type s.names p) ty (both_hold_first (same_types (place_type s.names p) ty) (is_value ty) own) ∙ is) from temps in
     object_settled s (typed at ty (x.read p)) n j (place_in (scope_of s) p n).stmts (place_in (scope_of s) p n).place k h is
     (nearly s HasCells n (value_of (typed at ty (x.read p)) (context_of s)) (place_in (scope_of s) p n).stmts (object_asked s (place_in (scope_of s) p n).place j)
     (object_near s n j (location_of p (context_of s)) (place_in (scope_of s) p n).stmts (place_in (scope_of s) p n).place pl.runs))
@@ -539,23 +541,23 @@ other_struct (x.assign p a) s ty h o = absurd o
 other_struct (x.constant z) s ty h o = of_constant z ty h
 other_struct x.null s ty h o = of_null (length s.names.structs) ty h
 other_struct (x.decay p) s ty h o =
-    ap is_struct (array_of (place_type s.names p) ty (left (both_elem (item_of (place_type s.names p)) (pointee_of ty)) (f.keeps_const (place_const s.names p) ty) (right (place_fits s.names p) (both_elem (item_of (place_type s.names p)) (pointee_of ty) && f.keeps_const (place_const s.names p) ty) h))).to
+    ap is_struct (array_of (place_type s.names p) ty (both_hold_first (both_elem (item_of (place_type s.names p)) (pointee_of ty)) (f.keeps_const (place_const s.names p) ty) (both_hold_second (place_fits s.names p) (both_elem (item_of (place_type s.names p)) (pointee_of ty) && f.keeps_const (place_const s.names p) ty) h))).to
 other_struct (x.address p) s ty h o =
-    ap is_struct (object_of (place_type s.names p) ty (left (both_elem (element_of (place_type s.names p)) (pointee_of ty)) (f.keeps_const (place_const s.names p) ty) (right (f.is_addressed p) (both_elem (element_of (place_type s.names p)) (pointee_of ty) && f.keeps_const (place_const s.names p) ty)
-    (right (place_fits s.names p) (f.is_addressed p && (both_elem (element_of (place_type s.names p)) (pointee_of ty) && f.keeps_const (place_const s.names p) ty)) h)))).to
+    ap is_struct (object_of (place_type s.names p) ty (both_hold_first (both_elem (element_of (place_type s.names p)) (pointee_of ty)) (f.keeps_const (place_const s.names p) ty) (both_hold_second (f.is_addressed p) (both_elem (element_of (place_type s.names p)) (pointee_of ty) && f.keeps_const (place_const s.names p) ty)
+    (both_hold_second (place_fits s.names p) (f.is_addressed p && (both_elem (element_of (place_type s.names p)) (pointee_of ty) && f.keeps_const (place_const s.names p) ty)) h)))).to
 other_struct (x.unary op a) s ty h o = unary_struct op a ty s h
-other_struct (x.convert a) s ty h o = of_converts (ty_of a) ty (right (is_typed s.names a) (converts (ty_of a) ty) h)
-other_struct (x.discard a) s ty h o = of_none ty (right (is_typed s.names a) (is_none ty) h)
+other_struct (x.convert a) s ty h o = of_converts (ty_of a) ty (both_hold_second (is_typed s.names a) (converts (ty_of a) ty) h)
+other_struct (x.discard a) s ty h o = of_none ty (both_hold_second (is_typed s.names a) (is_none ty) h)
 other_struct (x.chain a links) s ty h o = chain_struct a links ty s h
 other_struct (x.logical op a others) s ty h o = logical_struct op a others ty s h
 other_struct (x.choice a b d) s ty h o =
-    of_arm ty (right (is_typed s.names d && same_types (ty_of d) ty) (is_arm ty) (right (is_typed s.names b && same_types (ty_of b) ty) ((is_typed s.names d && same_types (ty_of d) ty) && is_arm ty) (right (is_typed s.names a && is_scalar (ty_of a)) ((is_typed s.names b && same_types (ty_of b) ty) && ((is_typed s.names d && same_types (ty_of d) ty) && is_arm ty)) h)))
+    of_arm ty (both_hold_second (is_typed s.names d && same_types (ty_of d) ty) (is_arm ty) (both_hold_second (is_typed s.names b && same_types (ty_of b) ty) ((is_typed s.names d && same_types (ty_of d) ty) && is_arm ty) (both_hold_second (is_typed s.names a && is_scalar (ty_of a)) ((is_typed s.names b && same_types (ty_of b) ty) && ((is_typed s.names d && same_types (ty_of d) ty) && is_arm ty)) h)))
 other_struct (x.compound p sp step a) s ty h o = let q = compound_facts s p sp step a ty h in not_struct ty (record { u = q.u; is = q.is; scalar = q.scalar })
 other_struct (x.step p sp back postfix) s ty h o = not_struct ty (step_kinds s p sp back postfix ty h).scalar
-other_struct (x.call g es) s ty h o = let q = called_is s g es ty (right (all_typed s.names es) (call_fits (slice_get s.names.signatures g.0) es ty) h) in ap is_struct q.result ∙ of_result q.signature.result
+other_struct (x.call g es) s ty h o = let q = called_is s g es ty (both_hold_second (all_typed s.names es) (call_fits (slice_get s.names.signatures g.0) es ty) h) in ap is_struct q.result ∙ of_result q.signature.result
 
 pub no_object : {X : Type 0} (s : Scene) (form : FormTree) (ty : Option VarTy) (j : ℕ) → IsTrue (form_fits s.names form ty) → ty ≡ Some (Struct j) → IsOther form → X
-no_object s form ty j h is o = never (sym (other_struct form s ty h o) ∙ ap is_struct is)
+no_object s form ty j h is o = false_not_true (sym (other_struct form s ty h o) ∙ ap is_struct is)
 
 -- ---- arguments
 
@@ -569,17 +571,17 @@ param_plain p = of_kind p.kind
 pub argument_and : (a : ExprTree) (rest : ExprTrees) (p : Param) (ps : List Param) → ValueLaw a → ArgumentsLaw rest → (s : Scene) (n : ℕ) → SceneFits s → IsTrue (all_typed s.names (expr_and a rest)) → IsTrue (arguments_fit (p ∷ ps) (expr_and a rest)) → length s.names.vars ≤ n → HasTemps s.core_variables n (arguments_in (scope_of s) (expr_and a rest) n).temps →
     IsNext s (AreArguments s (p ∷ ps)) n (values_of (expr_and a rest) (context_of s)) (arguments_in (scope_of s) (expr_and a rest) n).stmts (cells_asked s (arguments_in (scope_of s) (expr_and a rest) n).values)
 argument_and a rest p ps la lr s n k all1 fit from temps =
-    let is = equal_options (ty_of a) (Some (param_type p.kind)) (left (same_types (ty_of a) (Some (param_type p.kind))) (arguments_fit ps rest) fit) in
+    let is = equal_options (ty_of a) (Some (param_type p.kind)) (both_hold_first (same_types (ty_of a) (Some (param_type p.kind))) (arguments_fit ps rest) fit) in
     let v0 = value_in (scope_of s) a n in
     let t1 = temps_first s.core_variables n (held_if (not (are_pure rest)) n (holding (e.type_of a) a) (value_in (scope_of s) a n)).temps (arguments_in (scope_of s) rest (past n (held_if (not (are_pure rest)) n (holding (e.type_of a) a) (value_in (scope_of s) a n)).temps)).temps temps in
     let t2 = temps_rest s.core_variables n (held_if (not (are_pure rest)) n (holding (e.type_of a) a) (value_in (scope_of s) a n)).temps (arguments_in (scope_of s) rest (past n (held_if (not (are_pure rest)) n (holding (e.type_of a) a) (value_in (scope_of s) a n)).temps)).temps temps in
-    let va = la s n k (left (is_typed s.names a) (all_typed s.names rest) all1) (ap is_struct is ∙ param_plain p) from (held_first s.core_variables n (not (are_pure rest)) (holding (e.type_of a) a) (value_in (scope_of s) a n) t1) in
-    let vr = lr s (past n (held_if (not (are_pure rest)) n (holding (e.type_of a) a) (value_in (scope_of s) a n)).temps) ps k (right (is_typed s.names a) (all_typed s.names rest) all1) (right (same_types (ty_of a) (Some (param_type p.kind))) (arguments_fit ps rest) fit) (past_from (length s.names.vars) n (held_if (not (are_pure rest)) n (holding (e.type_of a) a) (value_in (scope_of s) a n)).temps from) t2 in
+    let va = la s n k (both_hold_first (is_typed s.names a) (all_typed s.names rest) all1) (ap is_struct is ∙ param_plain p) from (held_first s.core_variables n (not (are_pure rest)) (holding (e.type_of a) a) (value_in (scope_of s) a n) t1) in
+    let vr = lr s (past n (held_if (not (are_pure rest)) n (holding (e.type_of a) a) (value_in (scope_of s) a n)).temps) ps k (both_hold_second (is_typed s.names a) (all_typed s.names rest) all1) (both_hold_second (same_types (ty_of a) (Some (param_type p.kind))) (arguments_fit ps rest) fit) (past_from (length s.names.vars) n (held_if (not (are_pure rest)) n (holding (e.type_of a) a) (value_in (scope_of s) a n)).temps from) t2 in
     arguments_and s n p ps (ty_of a) (value_of a (context_of s)) (values_of rest (context_of s)) ((held_if (not (are_pure rest)) n (holding (e.type_of a) a) (value_in (scope_of s) a n)).stmts ++ (arguments_in (scope_of s) rest (past n (held_if (not (are_pure rest)) n (holding (e.type_of a) a) (value_in (scope_of s) a n)).temps)).stmts)
     (held_if (not (are_pure rest)) n (holding (e.type_of a) a) (value_in (scope_of s) a n)).value (arguments_in (scope_of s) rest (past n (held_if (not (are_pure rest)) n (holding (e.type_of a) a) (value_in (scope_of s) a n)).temps)).values is
     (first_then s n (value_in (scope_of s) a n) (not (are_pure rest)) (holding (e.type_of a) a) (IsValue s (ty_of a)) (AreArguments s ps) (value_of a (context_of s)) (values_of rest (context_of s)) (arguments_in (scope_of s) rest (past n (held_if (not (are_pure rest)) n (holding (e.type_of a) a) (value_in (scope_of s) a n)).temps)).stmts
     (cells_asked s (arguments_in (scope_of s) rest (past n (held_if (not (are_pure rest)) n (holding (e.type_of a) a) (value_in (scope_of s) a n)).temps)).values) k from t1 va.runs vr
-    (λ e1. pure_arguments rest (scope_of s) (past n (held_if (not (are_pure rest)) n (holding (e.type_of a) a) (value_in (scope_of s) a n)).temps) (was_true (are_pure rest) e1)))
+    (λ e1. pure_arguments rest (scope_of s) (past n (held_if (not (are_pure rest)) n (holding (e.type_of a) a) (value_in (scope_of s) a n)).temps) (from_not_false (are_pure rest) e1)))
 
 -- ---- roots
 
@@ -592,10 +594,10 @@ struct_of (Some (Pointer elem fixed)) u h = cc
 
 pub local_found : (z : VarId) (s : Scene) (n : ℕ) (u : VarTy) → SceneFits s → root_type s.names (x.local z) ≡ Some u → PlaceFound s u n true (root_location (x.local z) (context_of s)) (root_in (scope_of s) (x.local z) n)
 local_found z s n u k is =
-    let entry : slice_get (variable_types s) z.0 ≡ Some u = got (λ (y : Var). y.ty) s.names.vars z.0 ∙ is in
+    let entry : slice_get (variable_types s) z.0 ≡ Some u = get_map (λ (y : Var). y.ty) s.names.vars z.0 ∙ is in
     record {
       lowered = record {
-        named = got_or (variable_types s) z.0 u (Int i.Int) entry;
+        named = get_or_from_slice_get (variable_types s) z.0 u (Int i.Int) entry;
         type = k.variables z.0 u entry;
         runs = named_runs s n u (x.local z) (record { block = local s.frame.depth z.0; cell = 0; ty = e.type_at (variable_types s) z.0 }) (record { block = Local s.frame.depth z.0; cell = 0; ty = type_at s.core_variables z.0 }) (t.place (t.local z.0) []) k refl is (λ st. refl) (λ st. refl) (λ blocks. refl) refl refl (k.variables z.0 u entry);
         stage = λ ok. tt;
@@ -605,10 +607,10 @@ local_found z s n u k is =
 
 pub global_found : (z : GlobalId) (s : Scene) (n : ℕ) (u : VarTy) → SceneFits s → root_type s.names (x.global z) ≡ Some u → PlaceFound s u n true (root_location (x.global z) (context_of s)) (root_in (scope_of s) (x.global z) n)
 global_found z s n u k is =
-    let entry : slice_get (global_types s) z.0 ≡ Some u = got (λ (y : TypedGlobal). y.var.ty) s.names.globals z.0 ∙ is in
+    let entry : slice_get (global_types s) z.0 ≡ Some u = get_map (λ (y : TypedGlobal). y.var.ty) s.names.globals z.0 ∙ is in
     record {
       lowered = record {
-        named = got_or (global_types s) z.0 u (Int i.Int) entry;
+        named = get_or_from_slice_get (global_types s) z.0 u (Int i.Int) entry;
         type = k.globals z.0 u entry;
         runs = named_runs s n u (x.global z) (record { block = global z.0; cell = 0; ty = e.type_at (global_types s) z.0 }) (record { block = Global z.0; cell = 0; ty = global_type (frame_of s).context z.0 }) (t.place (t.global z.0) []) k refl is (λ st. refl) (λ st. refl) (λ blocks. refl) refl refl (k.globals z.0 u entry);
         stage = λ ok. tt;
@@ -633,6 +635,6 @@ assigned_by p d lp ld at ty s n u k h is from temps = go u (given_struct ty u is
   where
     go : (u : VarTy) → ty ≡ Some u → is_struct (Some u) ≡ true → PlaceLowered s u n false (assigned_location (typed at ty (x.assign p d)) (context_of s)) (object_in (scope_of s) (typed at ty (x.assign p d)) n)
     go (Struct j) e1 e2 = assigned_found p d lp ld at ty s n j k h e1 from temps
-    go (Int z) e1 e2 = never e2
-    go (Array elem count) e1 e2 = never e2
-    go (Pointer elem fixed) e1 e2 = never e2
+    go (Int z) e1 e2 = false_not_true e2
+    go (Array elem count) e1 e2 = false_not_true e2
+    go (Pointer elem fixed) e1 e2 = false_not_true e2

@@ -53,7 +53,7 @@ use Rattle.lowering.specs.Lowered.{Temp, Lowered, LoweredPlace, past, temp, hold
 use Rattle.lowering.specs.Expressions.{behind, field_in, with_field, place_with_field, decayed_type, moved_to, element_place, fixed_root, fixed_through, fixed_if}
 use Rattle.c_lower_law.proofs.Relations.{name_of, core_cell, Scene, world_of, context_of, frame_of, sizes_in, HasTemps, Kept, Alike, Same, SameSeen, After, below}
 use Rattle.c_lower_law.proofs.Expressions.{run_all, asked, cell_asked, place_asked, SameAsked, SameCell, Gives, IsValue, IsPlace, SceneFits}
-use Rattle.c_lower_law.proofs.Runs.{pair, bind_bind, bind_gives, run_append, append_nothing, Stops, stops_at, asked_asked, asked_else}
+use Rattle.c_lower_law.proofs.Runs.{pair, bind_bind, bind_gives, run_append, Stops, stops_at, asked_asked, asked_else}
 use Rattle.c_lower_law.proofs.Memories.{kept_then}
 use Rattle.c_lower_law.proofs.Held.{own_length, past_append, temp_there, Holds, with_temp, temp_given, temp_read, hold_then, hold_then_stops, both, both_err, both_ok, same_made, asked_made, asked_kept, asked_as, IsNext, IsLowered, Both, pair_of, first_pure, first_then}
 use Rattle.c_lower_law.proofs.Operators.{PointerType, told_as, step_same, step_stops}

@@ -53,11 +53,6 @@ run_append s (x ∷ xs) ys st =
     bind_equal (does x (frame_of s) s.core_calls st) (run_all s (xs ++ ys)) (λ st1. run_all s xs st1 >>= after_flow (run_all s ys)) (run_append s xs ys)
     ∙ sym (bind_flow (does x (frame_of s) s.core_calls st) (run_all s xs) (run_all s ys))
 
--- nothing behind a list
-pub append_nothing : {A : Type 0} (xs : List A) → xs ++ [] ≡ xs
-append_nothing [] = refl
-append_nothing (x ∷ xs) = ap (λ ys. x ∷ ys) (append_nothing xs)
-
 -- ---- what comes to the same
 
 -- by what the second comes to

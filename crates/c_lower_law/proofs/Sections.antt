@@ -7,6 +7,7 @@ use Rattle.std.proofs.lemmas.Int.{ints}
 use Rattle.pt_base.specs.declared.int_type.IntType.{IntType}
 use Rattle.pt_base.specs.declared.int_type.IntType.TheVariants as i
 use Rattle.pt_base.specs.declared.span.Span.{Span}
+use Rattle.pt_base.proofs.Numbers.{nat_eq_same}
 use Rattle.pt_int.specs.declared.operator.BinOp.TheVariants.{Le}
 use Rattle.pt_int.specs.Conversion.{conv}
 use Rattle.pt_int.specs.Operator.{truth}
@@ -31,7 +32,6 @@ use Rattle.source_meaning.specs.Expressions.{value_of, type_of}
 use Rattle.source_meaning.specs.Statements as src
 use Rattle.source_meaning.specs.Statements.{count_of, past_switch}
 use Rattle.source_soundness.specs.Worlds.{IsInteger}
-use Rattle.source_soundness.proofs.Tests.{left, right, never}
 use Rattle.pt_core.specs.CodeTree as t
 use Rattle.pt_core.specs.CodeTree.{StmtTree, binary, choose, repeat, break_out, stmt_trees}
 use Rattle.pt_core.specs.Values as v
@@ -46,8 +46,8 @@ use Rattle.lowering.specs.Statements.{Onward, nowhere, to_head, past_flag, numbe
 use Rattle.c_lower_law.proofs.Relations.{Scene, core_cell, context_of, frame_of, scope_of, HasTemps, Kept, Alike, Same, After, below, all}
 use Rattle.c_lower_law.proofs.Expressions.{run_all, cell_asked, Gives, IsValue, SceneFits, SameResult}
 use Rattle.c_lower_law.proofs.Statements.{is_flag, but_flag, FlagIs, Continues, SameFlow, GivesFlow}
-use Rattle.c_lower_law.proofs.Runs.{Stops, same_bind, same_weaken, run_append, append_nothing}
-use Rattle.c_lower_law.proofs.Memories.{same_number, put_there, put_apart, kept_then, kept_less, kept_same, alike_temp}
+use Rattle.c_lower_law.proofs.Runs.{Stops, same_bind, same_weaken, run_append}
+use Rattle.c_lower_law.proofs.Memories.{put_there, put_apart, kept_then, kept_less, kept_same, alike_temp}
 use Rattle.c_lower_law.proofs.Held.{own_length, past_append, temps_first, temps_rest, Holds, with_temp, temp_given, temp_read, hold_then, hold_then_stops}
 use Rattle.c_lower_law.proofs.Flows.{turn_same, alike_left, temp_kept, flag_kept, flag_up, Runs, RunsWhere, flow_up, runs_then_where}
 use Rattle.c_lower_law.proofs.Outermost.{Laws, Found, value_then, choose_yes, choose_no}
@@ -66,7 +66,7 @@ kept_but s n k blocks x d j far own = put_apart blocks (Local s.frame.depth k) (
         clash e = cc
 
     go : (a u : Bool) → nat_eq s.frame.depth d ≡ a → nat_eq k j ≡ u → (a && u) ≡ false
-    go true true p q = absurd (none (same_number s.frame.depth d p) q own)
+    go true true p q = absurd (none (nat_eq_same s.frame.depth d p) q own)
     go true false p q = refl
     go false u p q = refl
 

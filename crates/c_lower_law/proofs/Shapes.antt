@@ -1,13 +1,14 @@
 -- Which temporaries a lowering takes, and where it takes no statement.
-use Rattle.std.proofs.Common.{◌≡◌, ◌∙◌, ℕ, suc, ◌+◌, refl, ap, sym, subst, arith, Bool, true, false, not, Option, Some, None, List, [], ◌∷◌, ◌++◌, length}
+use Rattle.std.proofs.Common.{◌≡◌, ℕ, suc, ◌+◌, refl, sym, subst, arith, Bool, true, false, not, Option, Some, None, List, [], ◌∷◌, ◌++◌, length}
 use Rattle.std.specs.Prelude.{IsTrue, ◌&&◌, ◌||◌}
 use Rattle.pt_base.specs.declared.span.Span.{Span}
+use Rattle.pt_base.proofs.Booleans.{both_hold_first, both_hold_second}
+use Rattle.pt_base.proofs.Lists.{append_nils}
 use Rattle.typed_tree.specs.declared.types.VarTy.{VarTy}
 use Rattle.typed_tree.specs.declared.link.LinkStep.{LinkStep}
 use Rattle.typed_tree.specs.declared.link.LogicalOp.{LogicalOp}
 use Rattle.typed_tree.specs.ExpressionTree as t
 use Rattle.typed_tree.specs.ExpressionTree.{ExprTree, typed, FormTree, ExprTrees, no_exprs, expr_and, LinkTree, LinkTrees, no_links, link_and, link, OperandTrees, no_operands, operand_and, operand, PlaceTree, place, RootTree, StepTree, StepTrees, no_steps, step_and, step_trees}
-use Rattle.source_soundness.proofs.Tests.{left, right}
 use Rattle.source_meaning.specs.Expressions.{type_of}
 use Rattle.pt_core.specs.CodeTree.{StmtTree, decay}
 use Rattle.lowering.specs.Lowered.{Temp, Effects, Lowered, LoweredPlace, past, holding, held_if}
@@ -67,9 +68,6 @@ pub record Nothing (stmts : List StmtTree) (temps : List Temp) : Type 0 where
   pub stmts_none : stmts ≡ []
   pub temps_none : temps ≡ []
 
-none_more : {A : Type 0} (xs ys : List A) → xs ≡ [] → ys ≡ [] → xs ++ ys ≡ []
-none_more xs ys p q = ap (λ z. z ++ ys) p ∙ q
-
 held_none : (b : Bool) (n : ℕ) (x : Temp) (far : Lowered) → b ≡ false → Nothing far.stmts far.temps → Nothing (held_if b n x far).stmts (held_if b n x far).temps
 held_none true n x far e h = cc
 held_none false n x far e h = h
@@ -84,7 +82,7 @@ neither true false h k = cc
 neither false b h k = cc
 
 both_none : (xs ys : List StmtTree) (zs ws : List Temp) → Nothing xs zs → Nothing ys ws → Nothing (xs ++ ys) (zs ++ ws)
-both_none xs ys zs ws h k = record { stmts_none = none_more xs ys h.stmts_none k.stmts_none; temps_none = none_more zs ws h.temps_none k.temps_none }
+both_none xs ys zs ws h k = record { stmts_none = append_nils xs ys h.stmts_none k.stmts_none; temps_none = append_nils zs ws h.temps_none k.temps_none }
 
 mutual
   pub pure_value : (e : ExprTree) (c : Scope) (n : ℕ) → is_pure e ≡ true → Nothing (value_in c e n).stmts (value_in c e n).temps
@@ -99,7 +97,7 @@ mutual
   pure_form (t.unary op a) s ty c n h = pure_value a c n h
   pure_form (t.convert a) s ty c n h = pure_value a c n h
   pure_form (t.discard a) s ty c n h = cc
-  pure_form (t.chain a links) s ty c n h = pure_links links c a [] s (type_of a) (value_in c a n) n (right (is_pure a) (are_pure_links links) h) (pure_value a c n (left (is_pure a) (are_pure_links links) h))
+  pure_form (t.chain a links) s ty c n h = pure_links links c a [] s (type_of a) (value_in c a n) n (both_hold_second (is_pure a) (are_pure_links links) h) (pure_value a c n (both_hold_first (is_pure a) (are_pure_links links) h))
   pure_form (t.logical op a others) s ty c n h = cc
   pure_form (t.choice a b d) s ty c n h = cc
   pure_form (t.assign p a) s ty c n h = cc
@@ -111,14 +109,14 @@ mutual
       Nothing (links_in c links first before s ty far n).stmts (links_in c links first before s ty far n).temps
   pure_links no_links c first before s ty far n h k = k
   pure_links (link_and (link at to step e) rest) c first before s ty far n h k =
-      let this = left (takes_left_first step && is_pure e) (are_pure_links rest) h in
-      pure_links rest c first (before ++ link at to step e ∷ []) at to (link_next c first before s ty at step e far n) n (right (takes_left_first step && is_pure e) (are_pure_links rest) h)
+      let this = both_hold_first (takes_left_first step && is_pure e) (are_pure_links rest) h in
+      pure_links rest c first (before ++ link at to step e ∷ []) at to (link_next c first before s ty at step e far n) n (both_hold_second (takes_left_first step && is_pure e) (are_pure_links rest) h)
       (both_none (link_ready first before s ty step e far n).stmts (value_in c e (past n (link_ready first before s ty step e far n).temps)).stmts (link_ready first before s ty step e far n).temps (value_in c e (past n (link_ready first before s ty step e far n).temps)).temps
-      (held_none (not (takes_left_first step) || not (is_pure e)) n (holding ty (chain_so_far first before s ty)) far (neither (takes_left_first step) (is_pure e) (left (takes_left_first step) (is_pure e) this) (right (takes_left_first step) (is_pure e) this)) k)
-      (pure_value e c (past n (link_ready first before s ty step e far n).temps) (right (takes_left_first step) (is_pure e) this)))
+      (held_none (not (takes_left_first step) || not (is_pure e)) n (holding ty (chain_so_far first before s ty)) far (neither (takes_left_first step) (is_pure e) (both_hold_first (takes_left_first step) (is_pure e) this) (both_hold_second (takes_left_first step) (is_pure e) this)) k)
+      (pure_value e c (past n (link_ready first before s ty step e far n).temps) (both_hold_second (takes_left_first step) (is_pure e) this)))
 
   pure_place : (p : PlaceTree) (c : Scope) (n : ℕ) → is_pure_place p ≡ true → Nothing (place_in c p n).stmts (place_in c p n).temps
-  pure_place (place root steps) c n h = pure_steps steps c root [] (root_in c root n) n (right (is_pure_root root) (are_pure_steps steps) h) (pure_root root c n (left (is_pure_root root) (are_pure_steps steps) h))
+  pure_place (place root steps) c n h = pure_steps steps c root [] (root_in c root n) n (both_hold_second (is_pure_root root) (are_pure_steps steps) h) (pure_root root c n (both_hold_first (is_pure_root root) (are_pure_steps steps) h))
 
   pure_root : (root : RootTree) (c : Scope) (n : ℕ) → is_pure_root root ≡ true → Nothing (root_in c root n).stmts (root_in c root n).temps
   pure_root (t.local v) c n h = record { stmts_none = refl; temps_none = refl }
@@ -130,14 +128,14 @@ mutual
   pure_steps no_steps c root before far n h k = k
   pure_steps (step_and (t.field j) rest) c root before far n h k = pure_steps rest c root (before ++ t.field j ∷ []) (field_in c j far) n h k
   pure_steps (step_and (t.item e s) rest) c root before far n h k =
-      pure_steps rest c root (before ++ t.item e s ∷ []) (item_next c s root before far e n) n (right (is_pure e) (are_pure_steps rest) h)
+      pure_steps rest c root (before ++ t.item e s ∷ []) (item_next c s root before far e n) n (both_hold_second (is_pure e) (are_pure_steps rest) h)
       (both_none (item_base s root before far e n).stmts (value_in c e (past n (item_base s root before far e n).temps)).stmts (item_base s root before far e n).temps (value_in c e (past n (item_base s root before far e n).temps)).temps
-      (held_none (not (is_pure e)) n (holding (decayed_type far.fixed far.ty) (decayed s (t.place root (step_trees before)) far)) (record { stmts = far.stmts; value = decay far.place; temps = far.temps }) (not_so (is_pure e) (left (is_pure e) (are_pure_steps rest) h)) k)
-      (pure_value e c (past n (item_base s root before far e n).temps) (left (is_pure e) (are_pure_steps rest) h)))
+      (held_none (not (is_pure e)) n (holding (decayed_type far.fixed far.ty) (decayed s (t.place root (step_trees before)) far)) (record { stmts = far.stmts; value = decay far.place; temps = far.temps }) (not_so (is_pure e) (both_hold_first (is_pure e) (are_pure_steps rest) h)) k)
+      (pure_value e c (past n (item_base s root before far e n).temps) (both_hold_first (is_pure e) (are_pure_steps rest) h)))
 
 pub pure_arguments : (es : ExprTrees) (c : Scope) (n : ℕ) → are_pure es ≡ true → (arguments_in c es n).stmts ≡ []
 pure_arguments no_exprs c n h = refl
 pure_arguments (expr_and e rest) c n h =
-    none_more (held_if (not (are_pure rest)) n (holding (type_of e) e) (value_in c e n)).stmts (arguments_in c rest (past n (held_if (not (are_pure rest)) n (holding (type_of e) e) (value_in c e n)).temps)).stmts
-    (held_none (not (are_pure rest)) n (holding (type_of e) e) (value_in c e n) (not_so (are_pure rest) (right (is_pure e) (are_pure rest) h)) (pure_value e c n (left (is_pure e) (are_pure rest) h))).stmts_none
-    (pure_arguments rest c (past n (held_if (not (are_pure rest)) n (holding (type_of e) e) (value_in c e n)).temps) (right (is_pure e) (are_pure rest) h))
+    append_nils (held_if (not (are_pure rest)) n (holding (type_of e) e) (value_in c e n)).stmts (arguments_in c rest (past n (held_if (not (are_pure rest)) n (holding (type_of e) e) (value_in c e n)).temps)).stmts
+    (held_none (not (are_pure rest)) n (holding (type_of e) e) (value_in c e n) (not_so (are_pure rest) (both_hold_second (is_pure e) (are_pure rest) h)) (pure_value e c n (both_hold_first (is_pure e) (are_pure rest) h))).stmts_none
+    (pure_arguments rest c (past n (held_if (not (are_pure rest)) n (holding (type_of e) e) (value_in c e n)).temps) (both_hold_second (is_pure e) (are_pure rest) h))

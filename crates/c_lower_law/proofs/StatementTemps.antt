@@ -2,8 +2,11 @@
 use Rattle.std.proofs.Common.{◌≡◌, ◌∙◌, ℕ, ◌+◌, refl, ap, sym, subst, Bool, true, false, not, Option, Some, None, List, [], ◌∷◌, ◌++◌, map, length, if◌then◌else◌}
 use Rattle.std.specs.Prelude.{IsTrue, ◌&&◌, slice_get, get_or, option_map, nat_le}
 use Rattle.std.specs.List.{list_all}
+use Rattle.std.proofs.lemmas.Option.{get_or_from_slice_get}
 use Rattle.pt_base.specs.declared.int_type.IntType.{IntType}
 use Rattle.pt_base.specs.declared.span.Span.{Span}
+use Rattle.pt_base.proofs.Booleans.{both_hold_first, both_hold_second, false_not_true}
+use Rattle.pt_base.proofs.Members.{all_true_at}
 use Rattle.typed_tree.specs.declared.ids.ExprId.{ExprId}
 use Rattle.typed_tree.specs.declared.types.VarTy.{VarTy}
 use Rattle.typed_tree.specs.declared.variable.Var.{Var}
@@ -22,8 +25,7 @@ use Rattle.typed_tree.specs.WellFormedStatement as w
 use Rattle.typed_tree.specs.WellFormedStatement.{found_fits, expr_fits, any_type, promotes_to, option_fits, items_fit, item_types, init_fits, declarator_fits, declaration_fits, for_init_fits, return_fits, labels_of, labels_fit, is_sound, else_sound, all_sound, sections_sound}
 use Rattle.source_meaning.specs.Expressions.{type_of}
 use Rattle.source_meaning.specs.Statements.{no_expr}
-use Rattle.source_soundness.proofs.Tests.{left, right, never, got_or}
-use Rattle.source_soundness.proofs.ProgramFacts.{facts, all_at}
+use Rattle.source_soundness.proofs.ProgramFacts.{facts}
 use Rattle.pt_core.specs.CodeTree.{PlaceTree}
 use Rattle.pt_core.specs.Types.{type_at}
 use Rattle.lowering.specs.Lowered.{Temp, Effects, past, counting, int}
@@ -45,8 +47,8 @@ typed_there : (c : w.Scope) (test : Option VarTy → Bool) (e : ExprId) → expr
 typed_there c test e h = go (slice_get c.exprs e.0) refl h
   where
     go : (o : Option ExprTree) → slice_get c.exprs e.0 ≡ o → found_fits c.names test o ≡ true → is_typed c.names (get_or c.exprs e.0 no_expr) ≡ true
-    go None is h = never h
-    go (Some a) is h = subst (λ z. is_typed c.names z ≡ true) (sym (got_or c.exprs e.0 a no_expr is)) (left (is_typed c.names a) (test (ty_of a)) h)
+    go None is h = false_not_true h
+    go (Some a) is h = subst (λ z. is_typed c.names z ≡ true) (sym (get_or_from_slice_get c.exprs e.0 a no_expr is)) (both_hold_first (is_typed c.names a) (test (ty_of a)) h)
 
 outer_value : (c : w.Scope) (test : Option VarTy → Bool) (e : ExprId) (k : ℕ) → expr_fits c test e ≡ true → AreScalar (value_in (scope_for c.names) (outermost (code_for c) e) k).temps
 outer_value c test e k h = value_scalar (outermost (code_for c) e) c.names k (typed_there c test e h)
@@ -60,19 +62,19 @@ items_scalar : (c : w.Scope) (ts : List VarTy) (places : List PlaceTree) (es : L
 items_scalar c ts [] [] k h = tt
 items_scalar c ts (p ∷ places) [] k h = tt
 items_scalar c ts [] (e ∷ es) k h = tt
-items_scalar c [] (p ∷ places) (e ∷ es) k h = never h
+items_scalar c [] (p ∷ places) (e ∷ es) k h = false_not_true h
 items_scalar c (t ∷ ts) (p ∷ places) (e ∷ es) k h =
     let v = value_in (scope_for c.names) (outermost (code_for c) e) k in
-    scalar_both v.temps (items_in (code_for c) places es (past k v.temps)).temps (outer_value c (same_types (Some t)) e k (left (expr_fits c (same_types (Some t)) e) (items_fit c ts es) h))
-    (items_scalar c ts places es (past k v.temps) (right (expr_fits c (same_types (Some t)) e) (items_fit c ts es) h))
+    scalar_both v.temps (items_in (code_for c) places es (past k v.temps)).temps (outer_value c (same_types (Some t)) e k (both_hold_first (expr_fits c (same_types (Some t)) e) (items_fit c ts es) h))
+    (items_scalar c ts places es (past k v.temps) (both_hold_second (expr_fits c (same_types (Some t)) e) (items_fit c ts es) h))
 
 init_scalar : (c : w.Scope) (o : Option VarTy) (init : TypedInit) (x k : ℕ) → init_fits c o init ≡ true → AreScalar (initialised (code_for c) init x k).temps
-init_scalar c None init x k h = never h
+init_scalar c None init x k h = false_not_true h
 init_scalar c (Some t) n.Nothing x k h = tt
 init_scalar c (Some t) (n.Value e) x k h = go (l.is_struct (Some (type_at (code_for c).scope.variables x)))
   where
     fits : expr_fits c (same_types (Some t)) e ≡ true
-    fits = right (is_value (Some t)) (expr_fits c (same_types (Some t)) e) h
+    fits = both_hold_second (is_value (Some t)) (expr_fits c (same_types (Some t)) e) h
 
     go : (b : Bool) → AreScalar (if b then l.place_effects (l.copied (variable_place (code_for c) x) (object_in (scope_for c.names) (outermost (code_for c) e) k)) else l.place_effects (l.given (variable_place (code_for c) x) (value_in (scope_for c.names) (outermost (code_for c) e) k))).temps
     go true = (object_scalar (outermost (code_for c) e) c.names k (typed_there c (same_types (Some t)) e fits)).temps
@@ -83,8 +85,8 @@ declared_scalar : (c : w.Scope) (ds : List TypedDeclarator) (k : ℕ) → declar
 declared_scalar c [] k h = tt
 declared_scalar c (d ∷ ds) k h =
     let init = initialised (code_for c) d.init d.var.0 k in
-    scalar_both init.temps (declared (code_for c) ds (past k init.temps)).temps (init_scalar c (option_map (λ (x : Var). x.ty) (slice_get c.names.vars d.var.0)) d.init d.var.0 k (left (declarator_fits c d) (list_all (declarator_fits c) ds) h))
-    (declared_scalar c ds (past k init.temps) (right (declarator_fits c d) (list_all (declarator_fits c) ds) h))
+    scalar_both init.temps (declared (code_for c) ds (past k init.temps)).temps (init_scalar c (option_map (λ (x : Var). x.ty) (slice_get c.names.vars d.var.0)) d.init d.var.0 k (both_hold_first (declarator_fits c d) (list_all (declarator_fits c) ds) h))
+    (declared_scalar c ds (past k init.temps) (both_hold_second (declarator_fits c d) (list_all (declarator_fits c) ds) h))
 
 tested_scalar : (c : w.Scope) (test : Option VarTy → Bool) (o : Option ExprId) (k : ℕ) → option_fits c test o ≡ true → AreScalar (tested (code_for c) o k).temps
 tested_scalar c test None k h = tt
@@ -108,53 +110,53 @@ mutual
   statement_scalar (evaluate at e) c out again mode k h = outer_effects c any_type e k h
   statement_scalar (declare d) c out again mode k h = declared_scalar c d.declarators k h
   statement_scalar (choose at e a b) c out again mode k h =
-      let rest = right (expr_fits c is_scalar e) (is_sound c out again a && else_sound c out again b) h in
+      let rest = both_hold_second (expr_fits c is_scalar e) (is_sound c out again a && else_sound c out again b) h in
       let v = value_in (scope_for c.names) (outermost (code_for c) e) k in
       let x = statement_in (code_for c) a mode (past k v.temps) in
       let y = otherwise_in (code_for c) b mode (past (past k v.temps) x.temps) in
       scalar_both (v.temps ++ x.temps) y.temps
-      (scalar_both v.temps x.temps (outer_value c is_scalar e k (left (expr_fits c is_scalar e) (is_sound c out again a && else_sound c out again b) h)) (statement_scalar a c out again mode (past k v.temps) (left (is_sound c out again a) (else_sound c out again b) rest)))
-      (else_scalar b c out again mode (past (past k v.temps) x.temps) (right (is_sound c out again a) (else_sound c out again b) rest))
+      (scalar_both v.temps x.temps (outer_value c is_scalar e k (both_hold_first (expr_fits c is_scalar e) (is_sound c out again a && else_sound c out again b) h)) (statement_scalar a c out again mode (past k v.temps) (both_hold_first (is_sound c out again a) (else_sound c out again b) rest)))
+      (else_scalar b c out again mode (past (past k v.temps) x.temps) (both_hold_second (is_sound c out again a) (else_sound c out again b) rest))
   statement_scalar (while_true at e a) c out again mode k h =
       let t = tested (code_for c) (Some e) k in
-      scalar_both t.temps (statement_in (code_for c) a to_head (past k t.temps)).temps (tested_scalar c is_scalar (Some e) k (left (expr_fits c is_scalar e) (is_sound c true true a) h)) (statement_scalar a c true true to_head (past k t.temps) (right (expr_fits c is_scalar e) (is_sound c true true a) h))
+      scalar_both t.temps (statement_in (code_for c) a to_head (past k t.temps)).temps (tested_scalar c is_scalar (Some e) k (both_hold_first (expr_fits c is_scalar e) (is_sound c true true a) h)) (statement_scalar a c true true to_head (past k t.temps) (both_hold_second (expr_fits c is_scalar e) (is_sound c true true a) h))
   statement_scalar (do_while at a e) c out again mode k h =
       let t = tested (code_for c) (Some e) (k + 1) in
-      (tt, scalar_both t.temps (statement_in (code_for c) a to_head (past (k + 1) t.temps)).temps (tested_scalar c is_scalar (Some e) (k + 1) (right (is_sound c true true a) (expr_fits c is_scalar e) h)) (statement_scalar a c true true to_head (past (k + 1) t.temps) (left (is_sound c true true a) (expr_fits c is_scalar e) h)))
+      (tt, scalar_both t.temps (statement_in (code_for c) a to_head (past (k + 1) t.temps)).temps (tested_scalar c is_scalar (Some e) (k + 1) (both_hold_second (is_sound c true true a) (expr_fits c is_scalar e) h)) (statement_scalar a c true true to_head (past (k + 1) t.temps) (both_hold_first (is_sound c true true a) (expr_fits c is_scalar e) h)))
   statement_scalar (for_each at i test None a) c out again mode k h =
-      let rest = right (for_init_fits c i) (option_fits c is_scalar test && (option_fits c any_type None && is_sound c true true a)) h in
-      let more = right (option_fits c is_scalar test) (option_fits c any_type None && is_sound c true true a) rest in
+      let rest = both_hold_second (for_init_fits c i) (option_fits c is_scalar test && (option_fits c any_type None && is_sound c true true a)) h in
+      let more = both_hold_second (option_fits c is_scalar test) (option_fits c any_type None && is_sound c true true a) rest in
       let first = begun (code_for c) i k in
       let j = past k first.temps in
       let t = tested (code_for c) test j in
       let body = statement_in (code_for c) a to_head (past j t.temps) in
-      scalar_both first.temps (t.temps ++ body.temps) (begun_scalar c i k (left (for_init_fits c i) (option_fits c is_scalar test && (option_fits c any_type None && is_sound c true true a)) h))
-      (scalar_both t.temps body.temps (tested_scalar c is_scalar test j (left (option_fits c is_scalar test) (option_fits c any_type None && is_sound c true true a) rest)) (statement_scalar a c true true to_head (past j t.temps) (right (option_fits c any_type None) (is_sound c true true a) more)))
+      scalar_both first.temps (t.temps ++ body.temps) (begun_scalar c i k (both_hold_first (for_init_fits c i) (option_fits c is_scalar test && (option_fits c any_type None && is_sound c true true a)) h))
+      (scalar_both t.temps body.temps (tested_scalar c is_scalar test j (both_hold_first (option_fits c is_scalar test) (option_fits c any_type None && is_sound c true true a) rest)) (statement_scalar a c true true to_head (past j t.temps) (both_hold_second (option_fits c any_type None) (is_sound c true true a) more)))
   statement_scalar (for_each at i test (Some u) a) c out again mode k h =
-      let rest = right (for_init_fits c i) (option_fits c is_scalar test && (option_fits c any_type (Some u) && is_sound c true true a)) h in
-      let more = right (option_fits c is_scalar test) (option_fits c any_type (Some u) && is_sound c true true a) rest in
+      let rest = both_hold_second (for_init_fits c i) (option_fits c is_scalar test && (option_fits c any_type (Some u) && is_sound c true true a)) h in
+      let more = both_hold_second (option_fits c is_scalar test) (option_fits c any_type (Some u) && is_sound c true true a) rest in
       let first = begun (code_for c) i k in
       let j = past k first.temps in
       let back = stepped (code_for c) (Some u) (j + 1) in
       let t = tested (code_for c) test (past (j + 1) back.temps) in
       let body = statement_in (code_for c) a to_head (past (past (j + 1) back.temps) t.temps) in
-      scalar_both first.temps (counting int ∷ (back.temps ++ (t.temps ++ body.temps))) (begun_scalar c i k (left (for_init_fits c i) (option_fits c is_scalar test && (option_fits c any_type (Some u) && is_sound c true true a)) h)) (
+      scalar_both first.temps (counting int ∷ (back.temps ++ (t.temps ++ body.temps))) (begun_scalar c i k (both_hold_first (for_init_fits c i) (option_fits c is_scalar test && (option_fits c any_type (Some u) && is_sound c true true a)) h)) (
         tt,
-        scalar_both back.temps (t.temps ++ body.temps) (stepped_scalar c any_type (Some u) (j + 1) (left (option_fits c any_type (Some u)) (is_sound c true true a) more))
-            (scalar_both t.temps body.temps (tested_scalar c is_scalar test (past (j + 1) back.temps) (left (option_fits c is_scalar test) (option_fits c any_type (Some u) && is_sound c true true a) rest)) (statement_scalar a c true true to_head (past (past (j + 1) back.temps) t.temps) (right (option_fits c any_type (Some u)) (is_sound c true true a) more))),
+        scalar_both back.temps (t.temps ++ body.temps) (stepped_scalar c any_type (Some u) (j + 1) (both_hold_first (option_fits c any_type (Some u)) (is_sound c true true a) more))
+            (scalar_both t.temps body.temps (tested_scalar c is_scalar test (past (j + 1) back.temps) (both_hold_first (option_fits c is_scalar test) (option_fits c any_type (Some u) && is_sound c true true a) rest)) (statement_scalar a c true true to_head (past (past (j + 1) back.temps) t.temps) (both_hold_second (option_fits c any_type (Some u)) (is_sound c true true a) more))),
       )
   statement_scalar (give_back at None) c out again mode k h = tt
   statement_scalar (give_back at (Some e)) c out again mode k h = outer_value c (λ t. both_int (integer_of t) c.result) e k h
   statement_scalar (stop_loop at) c out again mode k h = tt
   statement_scalar (next_turn at) c out again mode k h = tt
   statement_scalar (switch at e ty ss) c out again mode k h =
-      let rest = right (expr_fits c (promotes_to ty) e) (labels_fit ty (labels_of ss) && sections_sound c again ss) h in
+      let rest = both_hold_second (expr_fits c (promotes_to ty) e) (labels_fit ty (labels_of ss) && sections_sound c again ss) h in
       let v = value_in (scope_for c.names) (outermost (code_for c) e) k in
       let j = past k v.temps in
       let body = sections_in (code_for c) at ss (inside mode (j + 2)) j 0 (j + 3) in
       scalar_both (v.temps ++ switch_temps ty) body.temps
-      (scalar_both v.temps (switch_temps ty) (outer_value c (promotes_to ty) e k (left (expr_fits c (promotes_to ty) e) (labels_fit ty (labels_of ss) && sections_sound c again ss) h)) (tt, (tt, (tt, tt))))
-      (sections_scalar ss c again at (inside mode (j + 2)) j 0 (j + 3) (right (labels_fit ty (labels_of ss)) (sections_sound c again ss) rest))
+      (scalar_both v.temps (switch_temps ty) (outer_value c (promotes_to ty) e k (both_hold_first (expr_fits c (promotes_to ty) e) (labels_fit ty (labels_of ss) && sections_sound c again ss) h)) (tt, (tt, (tt, tt))))
+      (sections_scalar ss c again at (inside mode (j + 2)) j 0 (j + 3) (both_hold_second (labels_fit ty (labels_of ss)) (sections_sound c again ss) rest))
 
   else_scalar : (b : ElseTree) (c : w.Scope) (out again : Bool) (mode : Onward) (k : ℕ) → else_sound c out again b ≡ true → AreScalar (otherwise_in (code_for c) b mode k).temps
   else_scalar no_else c out again mode k h = tt
@@ -164,20 +166,20 @@ mutual
   all_scalar no_bodies c out again mode k h = tt
   all_scalar (body_and b rest) c out again mode k h =
       let first = statement_in (code_for c) b mode k in
-      scalar_both first.temps (all_in (code_for c) rest mode (past k first.temps)).temps (statement_scalar b c out again mode k (left (is_sound c out again b) (all_sound c out again rest) h)) (all_scalar rest c out again mode (past k first.temps) (right (is_sound c out again b) (all_sound c out again rest) h))
+      scalar_both first.temps (all_in (code_for c) rest mode (past k first.temps)).temps (statement_scalar b c out again mode k (both_hold_first (is_sound c out again b) (all_sound c out again rest) h)) (all_scalar rest c out again mode (past k first.temps) (both_hold_second (is_sound c out again b) (all_sound c out again rest) h))
 
   sections_scalar : (ss : SectionTrees) (c : w.Scope) (again : Bool) (at : Span) (mode : Onward) (j m k : ℕ) → sections_sound c again ss ≡ true → AreScalar (sections_in (code_for c) at ss mode j m k).temps
   sections_scalar no_sections c again at mode j m k h = tt
   sections_scalar (section_and (section at1 label bs) rest) c again at mode j m k h =
       let body = all_in (code_for c) bs mode k in
-      scalar_both body.temps (sections_in (code_for c) at rest mode j (m + 1) (past k body.temps)).temps (all_scalar bs c true again mode k (left (all_sound c true again bs) (sections_sound c again rest) h)) (sections_scalar rest c again at mode j (m + 1) (past k body.temps) (right (all_sound c true again bs) (sections_sound c again rest) h))
+      scalar_both body.temps (sections_in (code_for c) at rest mode j (m + 1) (past k body.temps)).temps (all_scalar bs c true again mode k (both_hold_first (all_sound c true again bs) (sections_sound c again rest) h)) (sections_scalar rest c again at mode j (m + 1) (past k body.temps) (both_hold_second (all_sound c true again bs) (sections_sound c again rest) h))
 
 -- ---- programs
 
 -- the temporaries of a well formed program have one cell each
 pub temps_are_scalar : (program : TypedTree) → IsTrue (is_well_formed program) → Scalars program
 temps_are_scalar program h j g body is has =
-    let sound = all_at (function_sound program) program.functions j g (facts program h).functions is in
-    let own = right (list_all (variable_sound program.structs) g.vars) (body_sound program g g.body) (right (nat_le (length g.signature.params) 8 && params_lead g.signature.params g.vars) (list_all (variable_sound program.structs) g.vars && body_sound program g g.body) sound) in
+    let sound = all_true_at (function_sound program) program.functions j g (facts program h).functions is in
+    let own = both_hold_second (list_all (variable_sound program.structs) g.vars) (body_sound program g g.body) (both_hold_second (nat_le (length g.signature.params) 8 && params_lead g.signature.params g.vars) (list_all (variable_sound program.structs) g.vars && body_sound program g g.body) sound) in
     let fits : body_sound program g (Some body) ≡ true = subst (λ o. body_sound program g o ≡ true) has own in
-    statement_scalar body (scope_in program g) false false s.nowhere (length g.vars) (right (is_block body) (is_sound (scope_in program g) false false body) (right (not g.signature.host) (is_block body && is_sound (scope_in program g) false false body) fits))
+    statement_scalar body (scope_in program g) false false s.nowhere (length g.vars) (both_hold_second (is_block body) (is_sound (scope_in program g) false false body) (both_hold_second (not g.signature.host) (is_block body && is_sound (scope_in program g) false false body) fits))

@@ -1,10 +1,13 @@
 -- The law of lowering, form by form: choices, assignments and calls, by the laws of the parts.
-use Rattle.std.proofs.Common.{◌≡◌, ◌∙◌, ◌≤◌, ◌<◌, ℕ, zero, suc, ◌+◌, pos, refl, ap, sym, subst, arith, Bool, true, false, not, Option, Some, None, List, [], ◌∷◌, ◌++◌, length, append_assoc, Result, Ok, Err, if◌then◌else◌}
+use Rattle.std.proofs.Common.{◌≡◌, ◌∙◌, ◌≤◌, ◌<◌, ℕ, zero, ◌+◌, pos, refl, ap, sym, subst, arith, Bool, true, false, not, Option, Some, None, List, [], ◌∷◌, ◌++◌, length, append_assoc, Result, Ok, Err, if◌then◌else◌}
 use Rattle.std.specs.Prelude.{IsTrue, ◌&&◌, ◌||◌, slice_get, slice_index_or, option_map}
+use Rattle.std.proofs.lemmas.Option.{get_or_from_slice_get}
 use Rattle.pt_base.specs.declared.int_type.IntType.{IntType}
 use Rattle.pt_base.specs.declared.int_type.IntType.TheVariants as i
 use Rattle.pt_base.specs.declared.ids.FnId.{FnId}
 use Rattle.pt_base.specs.declared.span.Span.{Span}
+use Rattle.pt_base.proofs.Booleans.{both_hold_first, both_hold_second, false_not_true, true_not_false}
+use Rattle.pt_base.proofs.Lists.{append_nil}
 use Rattle.pt_tree.specs.declared.signature.Param.{Param}
 use Rattle.pt_tree.specs.declared.signature.Signature.{Signature}
 use Rattle.runs.specs.State.{gives, trapped, spent, ◌>>=◌}
@@ -31,7 +34,6 @@ use Rattle.source_soundness.specs.Worlds.{LocationFits}
 use Rattle.source_soundness.specs.Laws.{Keeps}
 use Rattle.source_soundness.proofs.Soundness.{place_keeps}
 use Rattle.typed_tree.proofs.SameTypes.{equal_options}
-use Rattle.source_soundness.proofs.Tests.{left, right, never, got_or}
 use Rattle.pt_core.specs.CodeTree as t
 use Rattle.pt_core.specs.CodeTree.{StmtTree, assign, expr_trees, call}
 use Rattle.pt_core.specs.Types.{type_of}
@@ -45,7 +47,7 @@ use Rattle.lowering.specs.Expressions as l
 use Rattle.lowering.specs.Expressions.{value_in, form_in, effects_in, form_effects, operands_in, arguments_in, place_in, object_in, started, arm, fixed_if, left_place, value_at, place_effects, given, compounded as lowered_compound}
 use Rattle.c_lower_law.proofs.Relations.{Scene, world_of, context_of, scope_of, sizes_in, HasTemps, Kept, Alike, Same, After, below}
 use Rattle.c_lower_law.proofs.Expressions.{run_all, cell_asked, place_asked, cells_asked, SameAsked, SameCell, Gives, IsValue, IsPlace, AreArguments, SceneFits}
-use Rattle.c_lower_law.proofs.Runs.{bind_bind, bind_gives, append_nothing}
+use Rattle.c_lower_law.proofs.Runs.{bind_bind, bind_gives}
 use Rattle.c_lower_law.proofs.Held.{temps_first, temps_rest, temp_there, past_append, own_length, IsNext, Both, pair_of, both}
 use Rattle.c_lower_law.proofs.Operators.{PointerType, Computes}
 use Rattle.c_lower_law.proofs.Places.{some_same, PlaceLowered, ValueLowered}
@@ -62,15 +64,12 @@ use Rattle.c_lower_law.proofs.FormLaws.{ValueLaw, FormLaw, PlaceLaw, EffectsLaw,
 
 -- ---- `?:`
 
-next_number : (n : ℕ) → suc n ≡ n + 1
-next_number n = omega arith
-
 -- the temporaries of a choice of values
 choice_temps : (n : ℕ) (a f1 : List Temp) (own : Temp) → past n ((a ++ own ∷ []) ++ f1) ≡ past (past n a + 1) f1
 choice_temps n a f1 own = past_append n (a ++ own ∷ []) f1 ∙ ap (λ k. past k f1) (past_one n a own)
 
 own_type : (s : Scene) (ty : Option VarTy) (k : ℕ) → slice_get s.core_variables k ≡ Some (type_or_int ty) → PointerType s ty (temp k)
-own_type s ty k there elem fixed is = (fixed, got_or s.core_variables k (type_or_int ty) (Int i.Int) there ∙ ap type_or_int is)
+own_type s ty k there elem fixed is = (fixed, get_or_from_slice_get s.core_variables k (type_or_int ty) (Int i.Int) there ∙ ap type_or_int is)
 
 -- an arm, whose value temporary k holds
 arm_holds : (s : Scene) (n k : ℕ) (own : VarTy) (a : ExprTree) (ty : Option VarTy) → SceneFits s → length s.names.vars ≤ k → k ≤ n → slice_get s.core_variables k ≡ Some own → ty_of a ≡ ty → ValueLowered s (ty_of a) n (value_of a (context_of s)) (value_in (scope_of s) a n) →
@@ -82,13 +81,13 @@ arm_holds s n k own a ty fits far le there is v =
 
 pub choice_law : (a b d : ExprTree) → ValueLaw a → ValueLaw b → ValueLaw d → FormLaw (x.choice a b d)
 choice_law a b d la lb ld at ty s n k h ns from temps =
-    let test = left (is_typed s.names a && is_scalar (ty_of a)) ((is_typed s.names b && same_types (ty_of b) ty) && ((is_typed s.names d && same_types (ty_of d) ty) && is_arm ty)) h in
-    let arms = right (is_typed s.names a && is_scalar (ty_of a)) ((is_typed s.names b && same_types (ty_of b) ty) && ((is_typed s.names d && same_types (ty_of d) ty) && is_arm ty)) h in
-    let first = left (is_typed s.names b && same_types (ty_of b) ty) ((is_typed s.names d && same_types (ty_of d) ty) && is_arm ty) arms in
-    let second = left (is_typed s.names d && same_types (ty_of d) ty) (is_arm ty) (right (is_typed s.names b && same_types (ty_of b) ty) ((is_typed s.names d && same_types (ty_of d) ty) && is_arm ty) arms) in
-    let bis = equal_options (ty_of b) ty (right (is_typed s.names b) (same_types (ty_of b) ty) first) in
-    let dis = equal_options (ty_of d) ty (right (is_typed s.names d) (same_types (ty_of d) ty) second) in
-    let st = scalar_type (ty_of a) (right (is_typed s.names a) (is_scalar (ty_of a)) test) in
+    let test = both_hold_first (is_typed s.names a && is_scalar (ty_of a)) ((is_typed s.names b && same_types (ty_of b) ty) && ((is_typed s.names d && same_types (ty_of d) ty) && is_arm ty)) h in
+    let arms = both_hold_second (is_typed s.names a && is_scalar (ty_of a)) ((is_typed s.names b && same_types (ty_of b) ty) && ((is_typed s.names d && same_types (ty_of d) ty) && is_arm ty)) h in
+    let first = both_hold_first (is_typed s.names b && same_types (ty_of b) ty) ((is_typed s.names d && same_types (ty_of d) ty) && is_arm ty) arms in
+    let second = both_hold_first (is_typed s.names d && same_types (ty_of d) ty) (is_arm ty) (both_hold_second (is_typed s.names b && same_types (ty_of b) ty) ((is_typed s.names d && same_types (ty_of d) ty) && is_arm ty) arms) in
+    let bis = equal_options (ty_of b) ty (both_hold_second (is_typed s.names b) (same_types (ty_of b) ty) first) in
+    let dis = equal_options (ty_of d) ty (both_hold_second (is_typed s.names d) (same_types (ty_of d) ty) second) in
+    let st = scalar_type (ty_of a) (both_hold_second (is_typed s.names a) (is_scalar (ty_of a)) test) in
     let sc = scalar_expr a st in
     let va = value_in (scope_of s) a n in
     let j : ℕ = past n (value_in (scope_of s) a n).temps in
@@ -102,9 +101,9 @@ choice_law a b d la lb ld at ty s n k h ns from temps =
     let td = subst (λ q. HasTemps s.core_variables q (value_in (scope_of s) d (past (past n (value_in (scope_of s) a n).temps + 1) (value_in (scope_of s) b (past n (value_in (scope_of s) a n).temps + 1)).temps)).temps)
     (choice_temps n (value_in (scope_of s) a n).temps (value_in (scope_of s) b (past n (value_in (scope_of s) a n).temps + 1)).temps (holding (type_or_int ty) (typed at ty (x.choice a b d))))
     (temps_rest s.core_variables n (((value_in (scope_of s) a n).temps ++ holding (type_or_int ty) (typed at ty (x.choice a b d)) ∷ []) ++ (value_in (scope_of s) b (past n (value_in (scope_of s) a n).temps + 1)).temps) (value_in (scope_of s) d (past (past n (value_in (scope_of s) a n).temps + 1) (value_in (scope_of s) b (past n (value_in (scope_of s) a n).temps + 1)).temps)).temps temps) in
-    let wa = la s n k (left (is_typed s.names a) (is_scalar (ty_of a)) test) (not_struct (ty_of a) st) from t1 in
-    let wb = lb s (past n (value_in (scope_of s) a n).temps + 1) k (left (is_typed s.names b) (same_types (ty_of b) ty) first) (ap is_struct bis ∙ ns) (omega (arith, from)) tb in
-    let wd = ld s (past (past n (value_in (scope_of s) a n).temps + 1) (value_in (scope_of s) b (past n (value_in (scope_of s) a n).temps + 1)).temps) k (left (is_typed s.names d) (same_types (ty_of d) ty) second) (ap is_struct dis ∙ ns) (omega (arith, from)) td in
+    let wa = la s n k (both_hold_first (is_typed s.names a) (is_scalar (ty_of a)) test) (not_struct (ty_of a) st) from t1 in
+    let wb = lb s (past n (value_in (scope_of s) a n).temps + 1) k (both_hold_first (is_typed s.names b) (same_types (ty_of b) ty) first) (ap is_struct bis ∙ ns) (omega (arith, from)) tb in
+    let wd = ld s (past (past n (value_in (scope_of s) a n).temps + 1) (value_in (scope_of s) b (past n (value_in (scope_of s) a n).temps + 1)).temps) k (both_hold_first (is_typed s.names d) (same_types (ty_of d) ty) second) (ap is_struct dis ∙ ns) (omega (arith, from)) td in
     record {
       type = own_type s ty (past n (value_in (scope_of s) a n).temps) there;
       runs = value_settled s (typed at ty (x.choice a b d)) n (form_in (scope_of s) (x.choice a b d) at ty n).stmts (cell_asked s (temp (past n (value_in (scope_of s) a n).temps))) k h
@@ -120,10 +119,7 @@ choice_law a b d la lb ld at ty s n k h ns from temps =
 -- ---- assignments
 
 pub written_object : (s : Scene) (p : PlaceTree) → IsTrue (is_written s.names p) → IsTrue (is_object p)
-written_object s p h = left (is_object p) (not (place_const s.names p)) h
-
-pub no_fix : {X : Type 0} → true ≡ false → X
-no_fix h = cc
+written_object s p h = both_hold_first (is_object p) (not (place_const s.names p)) h
 
 pub own_from : (s : Scene) (n : ℕ) → SceneFits s → length s.names.vars ≤ n → length (s.frames s.frame.depth) ≤ n
 own_from s n k from = let own = own_length s k in omega (arith, own, from)
@@ -159,21 +155,21 @@ second_typed s n u a z source stmts ask is h = subst (λ q. IsNext s (Both (IsPl
 
 pub assign_law : (p : PlaceTree) (a : ExprTree) → PlaceLaw p → ValueLaw a → FormLaw (x.assign p a)
 assign_law p a lp la at ty s n k h ns from temps =
-    let there = left (place_fits s.names p) (is_written s.names p) (left (place_fits s.names p && is_written s.names p) ((same_types (place_type s.names p) ty && is_value ty) && (is_typed s.names a && same_types (ty_of a) ty)) h) in
-    let can = written_object s p (right (place_fits s.names p) (is_written s.names p) (left (place_fits s.names p && is_written s.names p) ((same_types (place_type s.names p) ty && is_value ty) && (is_typed s.names a && same_types (ty_of a) ty)) h)) in
-    let rest = right (place_fits s.names p && is_written s.names p) ((same_types (place_type s.names p) ty && is_value ty) && (is_typed s.names a && same_types (ty_of a) ty)) h in
-    let own = left (same_types (place_type s.names p) ty && is_value ty) (is_typed s.names a && same_types (ty_of a) ty) rest in
-    let of = right (same_types (place_type s.names p) ty && is_value ty) (is_typed s.names a && same_types (ty_of a) ty) rest in
-    let u = scalar_value_type ty (right (same_types (place_type s.names p) ty) (is_value ty) own) ns in
-    let ais = equal_options (ty_of a) ty (right (is_typed s.names a) (same_types (ty_of a) ty) of) in
+    let there = both_hold_first (place_fits s.names p) (is_written s.names p) (both_hold_first (place_fits s.names p && is_written s.names p) ((same_types (place_type s.names p) ty && is_value ty) && (is_typed s.names a && same_types (ty_of a) ty)) h) in
+    let can = written_object s p (both_hold_second (place_fits s.names p) (is_written s.names p) (both_hold_first (place_fits s.names p && is_written s.names p) ((same_types (place_type s.names p) ty && is_value ty) && (is_typed s.names a && same_types (ty_of a) ty)) h)) in
+    let rest = both_hold_second (place_fits s.names p && is_written s.names p) ((same_types (place_type s.names p) ty && is_value ty) && (is_typed s.names a && same_types (ty_of a) ty)) h in
+    let own = both_hold_first (same_types (place_type s.names p) ty && is_value ty) (is_typed s.names a && same_types (ty_of a) ty) rest in
+    let of = both_hold_second (same_types (place_type s.names p) ty && is_value ty) (is_typed s.names a && same_types (ty_of a) ty) rest in
+    let u = scalar_value_type ty (both_hold_second (same_types (place_type s.names p) ty) (is_value ty) own) ns in
+    let ais = equal_options (ty_of a) ty (both_hold_second (is_typed s.names a) (same_types (ty_of a) ty) of) in
     let plain = lower_plain u.u ty u.is u.scalar in
     let to = fixed_if true n (place_in (scope_of s) p n) in
     let ts = subst (λ z. HasTemps s.core_variables n (l.assigned z (fixed_if true n (place_in (scope_of s) p n)) (object_in (scope_of s) a (past n (fixed_if true n (place_in (scope_of s) p n)).temps)) (value_in (scope_of s) a (past n (fixed_if true n (place_in (scope_of s) p n)).temps))).temps) plain temps in
-    let pl = lp s n u.u k there (equal_options (place_type s.names p) ty (left (same_types (place_type s.names p) ty) (is_value ty) own) ∙ u.is) from
+    let pl = lp s n u.u k there (equal_options (place_type s.names p) ty (both_hold_first (same_types (place_type s.names p) ty) (is_value ty) own) ∙ u.is) from
     (fixed_first s.core_variables n true (place_in (scope_of s) p n) (temps_first s.core_variables n (fixed_if true n (place_in (scope_of s) p n)).temps (value_in (scope_of s) a (past n (fixed_if true n (place_in (scope_of s) p n)).temps)).temps ts)) in
     let pair = second_typed s n u.u (ty_of a) (Some u.u) (pair_of (location_of p (context_of s)) (value_of a (context_of s))) ((fixed_if true n (place_in (scope_of s) p n)).stmts ++ (value_in (scope_of s) a (past n (fixed_if true n (place_in (scope_of s) p n)).temps)).stmts)
     (both (place_asked s (fixed_if true n (place_in (scope_of s) p n)).place) (cell_asked s (value_in (scope_of s) a (past n (fixed_if true n (place_in (scope_of s) p n)).temps)).value)) (ais ∙ u.is)
-    (paired s n u.u true p a k from no_fix can (left (is_typed s.names a) (same_types (ty_of a) ty) of) (ap is_struct ais ∙ ns) ts pl la) in
+    (paired s n u.u true p a k from true_not_false can (both_hold_first (is_typed s.names a) (same_types (ty_of a) ty) of) (ap is_struct ais ∙ ns) ts pl la) in
     subst (λ z. ValueLowered s ty n (value_of (typed at ty (x.assign p a)) (context_of s)) (value_at (l.assigned z (fixed_if true n (place_in (scope_of s) p n)) (object_in (scope_of s) a (past n (fixed_if true n (place_in (scope_of s) p n)).temps)) (value_in (scope_of s) a (past n (fixed_if true n (place_in (scope_of s) p n)).temps))))) (sym plain)
     (record {
       type = λ elem fixed e1. place_pointer s u.u (fixed_if true n (place_in (scope_of s) p n)).place (fixed_place_type s n u.u u.u (place_in (scope_of s) p n) (location_of p (context_of s)) (temps_first s.core_variables n (fixed_if true n (place_in (scope_of s) p n)).temps (value_in (scope_of s) a (past n (fixed_if true n (place_in (scope_of s) p n)).temps)).temps ts) pl.type (pl.stage can)) elem fixed (sym u.is ∙ e1);
@@ -197,7 +193,7 @@ pub record CompoundFacts (s : Scene) (p : PlaceTree) (step : LinkStep) (a : Expr
 
 compound_types : (ty : Option VarTy) (step : LinkStep) (z : Option VarTy) → is_compound step ≡ true → converts (r.stepped (promoted_value ty) step z) ty ≡ true → (u : VarTy) × (ty ≡ Some u) × ComputeType u step z
 compound_types (Some u) step z h k = (u, refl, compute_type u step z h k)
-compound_types None step z h k = never (no_conversion (r.stepped (promoted_value None) step z) k)
+compound_types None step z h k = false_not_true (no_conversion (r.stepped (promoted_value None) step z) k)
   where
     no_conversion : (u : Option VarTy) → converts u None ≡ true → false ≡ true
     no_conversion None h = h
@@ -211,16 +207,16 @@ scalar_of s u step e1 h = (step_facts s u step e1 h).scalar
 
 pub compound_facts : (s : Scene) (p : PlaceTree) (sp : Span) (step : LinkStep) (a : ExprTree) (ty : Option VarTy) → IsTrue (form_fits s.names (x.compound p sp step a) ty) → CompoundFacts s p step a ty
 compound_facts s p sp step a ty h =
-    let whole = left (place_fits s.names p && is_written s.names p) (same_types (place_type s.names p) ty && (is_typed s.names a && (is_compound step && converts (r.stepped (promoted_value ty) step (ty_of a)) ty))) h in
-    let rest = right (place_fits s.names p && is_written s.names p) (same_types (place_type s.names p) ty && (is_typed s.names a && (is_compound step && converts (r.stepped (promoted_value ty) step (ty_of a)) ty))) h in
-    let of = right (same_types (place_type s.names p) ty) (is_typed s.names a && (is_compound step && converts (r.stepped (promoted_value ty) step (ty_of a)) ty)) rest in
-    let both1 = right (is_typed s.names a) (is_compound step && converts (r.stepped (promoted_value ty) step (ty_of a)) ty) of in
-    let k = compound_types ty step (ty_of a) (left (is_compound step) (converts (r.stepped (promoted_value ty) step (ty_of a)) ty) both1) (right (is_compound step) (converts (r.stepped (promoted_value ty) step (ty_of a)) ty) both1) in
+    let whole = both_hold_first (place_fits s.names p && is_written s.names p) (same_types (place_type s.names p) ty && (is_typed s.names a && (is_compound step && converts (r.stepped (promoted_value ty) step (ty_of a)) ty))) h in
+    let rest = both_hold_second (place_fits s.names p && is_written s.names p) (same_types (place_type s.names p) ty && (is_typed s.names a && (is_compound step && converts (r.stepped (promoted_value ty) step (ty_of a)) ty))) h in
+    let of = both_hold_second (same_types (place_type s.names p) ty) (is_typed s.names a && (is_compound step && converts (r.stepped (promoted_value ty) step (ty_of a)) ty)) rest in
+    let both1 = both_hold_second (is_typed s.names a) (is_compound step && converts (r.stepped (promoted_value ty) step (ty_of a)) ty) of in
+    let k = compound_types ty step (ty_of a) (both_hold_first (is_compound step) (converts (r.stepped (promoted_value ty) step (ty_of a)) ty) both1) (both_hold_second (is_compound step) (converts (r.stepped (promoted_value ty) step (ty_of a)) ty) both1) in
     record {
-      there = left (place_fits s.names p) (is_written s.names p) whole;
-      can = written_object s p (right (place_fits s.names p) (is_written s.names p) whole);
-      place_is = equal_options (place_type s.names p) ty (left (same_types (place_type s.names p) ty) (is_typed s.names a && (is_compound step && converts (r.stepped (promoted_value ty) step (ty_of a)) ty)) rest);
-      typed_a = left (is_typed s.names a) (is_compound step && converts (r.stepped (promoted_value ty) step (ty_of a)) ty) of;
+      there = both_hold_first (place_fits s.names p) (is_written s.names p) whole;
+      can = written_object s p (both_hold_second (place_fits s.names p) (is_written s.names p) whole);
+      place_is = equal_options (place_type s.names p) ty (both_hold_first (same_types (place_type s.names p) ty) (is_typed s.names a && (is_compound step && converts (r.stepped (promoted_value ty) step (ty_of a)) ty)) rest);
+      typed_a = both_hold_first (is_typed s.names a) (is_compound step && converts (r.stepped (promoted_value ty) step (ty_of a)) ty) of;
       u = k.0;
       is = k.1;
       scalar = scalar_of s k.0 step (t.constant i.Int (pos 0)) k.2.computes;
@@ -233,7 +229,7 @@ compound_law p sp step a lp la at ty s n k h ns from temps =
     let q = compound_facts s p sp step a ty h in
     let pl = lp s n q.u k q.there (q.place_is ∙ q.is) from
     (fixed_first s.core_variables n true (place_in (scope_of s) p n) (temps_first s.core_variables n (fixed_if true n (place_in (scope_of s) p n)).temps (value_in (scope_of s) a (past n (fixed_if true n (place_in (scope_of s) p n)).temps)).temps temps)) in
-    let pair = paired s n q.u true p a k from no_fix q.can q.typed_a (not_struct (ty_of a) q.operand) temps pl la in
+    let pair = paired s n q.u true p a k from true_not_false q.can q.typed_a (not_struct (ty_of a) q.operand) temps pl la in
     let same_ty : (fixed_if true n (place_in (scope_of s) p n)).ty ≡ q.u = fixed_type n true (place_in (scope_of s) p n) ∙ pl.named in
     record {
       type = λ elem fixed e1. place_pointer s q.u (fixed_if true n (place_in (scope_of s) p n)).place (fixed_place_type s n q.u q.u (place_in (scope_of s) p n) (location_of p (context_of s)) (temps_first s.core_variables n (fixed_if true n (place_in (scope_of s) p n)).temps (value_in (scope_of s) a (past n (fixed_if true n (place_in (scope_of s) p n)).temps)).temps temps) pl.type (pl.stage q.can)) elem fixed (sym q.is ∙ e1);
@@ -253,13 +249,13 @@ pub record StepKinds (s : Scene) (p : PlaceTree) (ty : Option VarTy) : Type 0 wh
 
 pub step_kinds : (s : Scene) (p : PlaceTree) (sp : Span) (back postfix : Bool) (ty : Option VarTy) → IsTrue (form_fits s.names (x.step p sp back postfix) ty) → StepKinds s p ty
 step_kinds s p sp back postfix ty h =
-    let whole = left (place_fits s.names p && is_written s.names p) (same_types (place_type s.names p) ty && is_scalar ty) h in
-    let rest = right (place_fits s.names p && is_written s.names p) (same_types (place_type s.names p) ty && is_scalar ty) h in
+    let whole = both_hold_first (place_fits s.names p && is_written s.names p) (same_types (place_type s.names p) ty && is_scalar ty) h in
+    let rest = both_hold_second (place_fits s.names p && is_written s.names p) (same_types (place_type s.names p) ty && is_scalar ty) h in
     record {
-      there = left (place_fits s.names p) (is_written s.names p) whole;
-      can = written_object s p (right (place_fits s.names p) (is_written s.names p) whole);
-      place_is = equal_options (place_type s.names p) ty (left (same_types (place_type s.names p) ty) (is_scalar ty) rest);
-      scalar = scalar_type ty (right (same_types (place_type s.names p) ty) (is_scalar ty) rest);
+      there = both_hold_first (place_fits s.names p) (is_written s.names p) whole;
+      can = written_object s p (both_hold_second (place_fits s.names p) (is_written s.names p) whole);
+      place_is = equal_options (place_type s.names p) ty (both_hold_first (same_types (place_type s.names p) ty) (is_scalar ty) rest);
+      scalar = scalar_type ty (both_hold_second (same_types (place_type s.names p) ty) (is_scalar ty) rest);
     }
 
 -- what is known of what a part comes to
@@ -314,7 +310,7 @@ step_dropped s n u back postfix at p k from there is can scalar temps pl st st' 
 
 -- a list of statements, otherwise bracketed
 postfix_list : (xs : List StmtTree) (h a : StmtTree) → ((xs ++ h ∷ []) ++ []) ++ a ∷ [] ≡ xs ++ (h ∷ a ∷ [])
-postfix_list xs h a = ap (λ ys. ys ++ a ∷ []) (append_nothing (xs ++ h ∷ [])) ∙ append_assoc xs (h ∷ []) (a ∷ [])
+postfix_list xs h a = ap (λ ys. ys ++ a ∷ []) (append_nil (xs ++ h ∷ [])) ∙ append_assoc xs (h ∷ []) (a ∷ [])
 
 pub step_law : (p : PlaceTree) (sp : Span) (back postfix : Bool) → PlaceLaw p → FormLaw (x.step p sp back postfix)
 step_law p sp back false lp at ty s n k h ns from temps =
@@ -337,7 +333,7 @@ step_law p sp back true lp at ty s n k h ns from temps =
     let pl = lp s n q.scalar.u k q.there (q.place_is ∙ q.scalar.is) from (fixed_first s.core_variables n true (place_in (scope_of s) p n) ts) in
     let same_ty : (fixed_if true n (place_in (scope_of s) p n)).ty ≡ q.scalar.u = fixed_type n true (place_in (scope_of s) p n) ∙ pl.named in
     record {
-      type = λ elem fixed e1. (fixed, got_or s.core_variables (past n (fixed_if true n (place_in (scope_of s) p n)).temps) (fixed_if true n (place_in (scope_of s) p n)).ty (Int i.Int) there ∙ same_ty ∙ some_same q.scalar.u (Pointer elem fixed) (sym q.scalar.is ∙ e1));
+      type = λ elem fixed e1. (fixed, get_or_from_slice_get s.core_variables (past n (fixed_if true n (place_in (scope_of s) p n)).temps) (fixed_if true n (place_in (scope_of s) p n)).ty (Int i.Int) there ∙ same_ty ∙ some_same q.scalar.u (Pointer elem fixed) (sym q.scalar.is ∙ e1));
       runs = settled_as s (typed at ty (x.step p sp back true)) q.scalar.u n (form_in (scope_of s) (x.step p sp back true) at ty n).stmts (cell_asked s (temp (past n (fixed_if true n (place_in (scope_of s) p n)).temps))) k h q.scalar.is
           (subst (λ z. IsNear s (SameCell (Some q.scalar.u)) n (value_of (typed at ty (x.step p sp back true)) (context_of s))
           ((((fixed_if true n (place_in (scope_of s) p n)).stmts ++ hold (past n (fixed_if true n (place_in (scope_of s) p n)).temps) (t.read (fixed_if true n (place_in (scope_of s) p n)).place) ∷ []) ++ []) ++ assign (fixed_if true n (place_in (scope_of s) p n)).place (computed z (unit_step z back) (fixed_if true n (place_in (scope_of s) p n)).place (unit_of z) at) ∷ [])
@@ -368,15 +364,15 @@ pub called_is : (s : Scene) (g : FnId) (es : ExprTrees) (ty : Option VarTy) → 
 called_is s g es ty h = go (slice_get s.names.signatures g.0) refl h
   where
     go : (o : Option Signature) → slice_get s.names.signatures g.0 ≡ o → IsTrue (call_fits o es ty) → Called s g es ty
-    go None is h = never h
+    go None is h = false_not_true h
     go (Some signature) is h =
-        let rest = right (not (is_main signature)) (arguments_fit signature.params es && same_types ty (option_map Int signature.result)) h in
+        let rest = both_hold_second (not (is_main signature)) (arguments_fit signature.params es && same_types ty (option_map Int signature.result)) h in
         record {
           signature = signature;
           there = is;
-          not_main = left (not (is_main signature)) (arguments_fit signature.params es && same_types ty (option_map Int signature.result)) h;
-          fit = left (arguments_fit signature.params es) (same_types ty (option_map Int signature.result)) rest;
-          result = equal_options ty (option_map Int signature.result) (right (arguments_fit signature.params es) (same_types ty (option_map Int signature.result)) rest);
+          not_main = both_hold_first (not (is_main signature)) (arguments_fit signature.params es && same_types ty (option_map Int signature.result)) h;
+          fit = both_hold_first (arguments_fit signature.params es) (same_types ty (option_map Int signature.result)) rest;
+          result = equal_options ty (option_map Int signature.result) (both_hold_second (arguments_fit signature.params es) (same_types ty (option_map Int signature.result)) rest);
         }
 
 result_int : (o : Option IntType) (u : VarTy) → Some u ≡ option_map Int o → (z : IntType) × (o ≡ Some z) × (u ≡ Int z)
@@ -385,7 +381,7 @@ result_int (Some z) u h = (z, refl, some_same u (Int z) h)
 
 pub call_law : (g : FnId) (es : ExprTrees) → ArgumentsLaw es → FormLaw (x.call g es)
 call_law g es la at None s n k h ns from temps =
-    let q = called_is s g es None (right (all_typed s.names es) (call_fits (slice_get s.names.signatures g.0) es None) h) in
+    let q = called_is s g es None (both_hold_second (all_typed s.names es) (call_fits (slice_get s.names.signatures g.0) es None) h) in
     let ta = temps_first s.core_variables n (arguments_in (scope_of s) es n).temps [] temps in
     record {
       type = λ elem fixed is. cc;
@@ -393,16 +389,16 @@ call_law g es la at None s n k h ns from temps =
           (near_as s (SameCell None) n (λ st. value_of (typed at None (x.call g es)) (context_of s) st >>= λ w. gives w) (value_of (typed at None (x.call g es)) (context_of s)) (form_in (scope_of s) (x.call g es) at None n).stmts (cell_asked s (t.constant i.Int (pos 0))) (λ st. sym (bind_gives (value_of (typed at None (x.call g es)) (context_of s) st)))
           (runs_then_nothing s n (value_of (typed at None (x.call g es)) (context_of s)) (form_in (scope_of s) (x.call g es) at None n).stmts (λ w. w)
           (call_dropped s n g.0 q.signature at (values_of es (context_of s)) (arguments_in (scope_of s) es n).stmts (arguments_in (scope_of s) es n).values k q.there q.not_main
-          (la s n q.signature.params k (left (all_typed s.names es) (call_fits (slice_get s.names.signatures g.0) es None) h) q.fit from ta))));
+          (la s n q.signature.params k (both_hold_first (all_typed s.names es) (call_fits (slice_get s.names.signatures g.0) es None) h) q.fit from ta))));
     }
 call_law g es la at (Some u) s n k h ns from temps =
-    let q = called_is s g es (Some u) (right (all_typed s.names es) (call_fits (slice_get s.names.signatures g.0) es (Some u)) h) in
+    let q = called_is s g es (Some u) (both_hold_second (all_typed s.names es) (call_fits (slice_get s.names.signatures g.0) es (Some u)) h) in
     let z = result_int q.signature.result u q.result in
     let ta = temps_first s.core_variables n (arguments_in (scope_of s) es n).temps (holding u (typed at (Some u) (x.call g es)) ∷ []) temps in
     let there = temp_there s.core_variables n (arguments_in (scope_of s) es n).temps (holding u (typed at (Some u) (x.call g es))) [] temps in
     record {
-      type = λ elem fixed is. (fixed, got_or s.core_variables (past n (arguments_in (scope_of s) es n).temps) u (Int i.Int) there ∙ some_same u (Pointer elem fixed) is);
+      type = λ elem fixed is. (fixed, get_or_from_slice_get s.core_variables (past n (arguments_in (scope_of s) es n).temps) u (Int i.Int) there ∙ some_same u (Pointer elem fixed) is);
       runs = settled_as s (typed at (Some u) (x.call g es)) (Int z.0) n (form_in (scope_of s) (x.call g es) at (Some u) n).stmts (cell_asked s (temp (past n (arguments_in (scope_of s) es n).temps))) k h (ap (λ w. Some w) z.2)
           (call_held s n (past n (arguments_in (scope_of s) es n).temps) g.0 u q.signature z.0 at (values_of es (context_of s)) (arguments_in (scope_of s) es n).stmts (arguments_in (scope_of s) es n).values k (past_from (length s.names.vars) n (arguments_in (scope_of s) es n).temps from) (omega arith) there q.there q.not_main z.1
-          (la s n q.signature.params k (left (all_typed s.names es) (call_fits (slice_get s.names.signatures g.0) es (Some u)) h) q.fit from ta));
+          (la s n q.signature.params k (both_hold_first (all_typed s.names es) (call_fits (slice_get s.names.signatures g.0) es (Some u)) h) q.fit from ta));
     }

@@ -27,7 +27,6 @@ use Rattle.source_meaning.specs.Expressions.{or_trap, store, compounded}
 use Rattle.source_soundness.specs.Worlds.{World, type_in, ValueFits}
 use Rattle.source_soundness.specs.Sizes.{object_cells}
 use Rattle.typed_tree.proofs.SameTypes.{equal_ints}
-use Rattle.source_soundness.proofs.Tests.{got_or}
 use Rattle.pt_core.specs.CodeTree as t
 use Rattle.pt_core.specs.CodeTree.{StmtTree, PlaceTree, place, deref, assign}
 use Rattle.pt_core.specs.Types.{type_of}

@@ -7,6 +7,8 @@ use Rattle.std.proofs.lemmas.Int.{ints}
 use Rattle.pt_base.specs.declared.int_type.IntType.{IntType}
 use Rattle.pt_base.specs.declared.int_type.IntType.TheVariants as i
 use Rattle.pt_base.specs.declared.span.Span.{Span}
+use Rattle.pt_base.proofs.Booleans.{both_hold_first as left, both_hold_second, false_not_true}
+use Rattle.pt_base.proofs.Lists.{append_nil}
 use Rattle.pt_int.specs.declared.operator.BinOp.TheVariants.{Le}
 use Rattle.pt_int.specs.Conversion.{conv}
 use Rattle.pt_int.specs.Operator.{truth}
@@ -32,7 +34,6 @@ use Rattle.source_meaning.specs.Expressions.{value_of, type_of}
 use Rattle.source_meaning.specs.Statements as src
 use Rattle.source_meaning.specs.Statements.{count_of, past_switch}
 use Rattle.source_soundness.specs.Worlds.{IsInteger}
-use Rattle.source_soundness.proofs.Tests.{left, right, never}
 use Rattle.pt_core.specs.CodeTree as t
 use Rattle.pt_core.specs.CodeTree.{StmtTree, binary, choose, repeat, break_out, stmt_trees}
 use Rattle.pt_core.specs.Types as types
@@ -48,8 +49,8 @@ use Rattle.lowering.specs.Statements.{Onward, nowhere, to_head, past_flag, numbe
 use Rattle.c_lower_law.proofs.Relations.{Scene, core_cell, context_of, frame_of, scope_of, HasTemps, Kept, Alike, Same, After, below, all}
 use Rattle.c_lower_law.proofs.Expressions.{run_all, cell_asked, Gives, IsValue, SceneFits, SameResult}
 use Rattle.c_lower_law.proofs.Statements.{is_flag, but_flag, FlagIs, Continues, SameFlow, GivesFlow}
-use Rattle.c_lower_law.proofs.Runs.{Stops, same_bind, same_weaken, run_append, append_nothing}
-use Rattle.c_lower_law.proofs.Memories.{same_number, put_there, put_apart, kept_then, kept_less, kept_same, alike_temp}
+use Rattle.c_lower_law.proofs.Runs.{Stops, same_bind, same_weaken, run_append}
+use Rattle.c_lower_law.proofs.Memories.{put_there, put_apart, kept_then, kept_less, kept_same, alike_temp}
 use Rattle.c_lower_law.proofs.Held.{own_length, past_append, temps_first, temps_rest, Holds, with_temp, temp_given, temp_read, hold_then, hold_then_stops}
 use Rattle.c_lower_law.proofs.Flows.{turn_same, alike_left, temp_kept, flag_kept, flag_up, Runs, RunsWhere, flow_up, runs_then_where}
 use Rattle.c_lower_law.proofs.Outermost.{Laws, Found, value_then, choose_yes, choose_no}
@@ -83,8 +84,8 @@ behind_none s (past_flag k) j n st flag = choose_no s (temp j) (onwards (past_fl
 
 behind_set : (s : Scene) (mode : Onward) (j : ℕ) (st : c.State) → Stands mode → (st.memory (Local s.frame.depth j)).cells ≡ Int (pos 1) ∷ [] → run_all s (behind_switch mode j) st ≡ run_all s (onwards mode) st
 behind_set s nowhere j st stands flag = absurd stands
-behind_set s to_head j st stands flag = choose_yes s (temp j) (onwards to_head) [] [] (Int (pos 1)) st (temp_read s j (Int (pos 1)) st.memory flag) refl ∙ ap (λ xs. run_all s xs st) (append_nothing (onwards to_head))
-behind_set s (past_flag k) j st stands flag = choose_yes s (temp j) (onwards (past_flag k)) [] [] (Int (pos 1)) st (temp_read s j (Int (pos 1)) st.memory flag) refl ∙ ap (λ xs. run_all s xs st) (append_nothing (onwards (past_flag k)))
+behind_set s to_head j st stands flag = choose_yes s (temp j) (onwards to_head) [] [] (Int (pos 1)) st (temp_read s j (Int (pos 1)) st.memory flag) refl ∙ ap (λ xs. run_all s xs st) (append_nil (onwards to_head))
+behind_set s (past_flag k) j st stands flag = choose_yes s (temp j) (onwards (past_flag k)) [] [] (Int (pos 1)) st (temp_read s j (Int (pos 1)) st.memory flag) refl ∙ ap (λ xs. run_all s xs st) (append_nil (onwards (past_flag k)))
 
 -- the switch's own flag is no temporary before it
 pub other_flag : (mode : Onward) (n j i : ℕ) → n ≤ j → i < n → is_flag (inside mode j) i ≡ false
@@ -164,10 +165,10 @@ record FromInt (a : ExprTree) : Type 0 where
 
 from_int : (a : ExprTree) (u : IntType) → promotes_to u (ty_of a) ≡ true → FromInt a
 from_int (typed at (Some (ty.Int w)) form) u h = record { from = w; is = refl; has = refl }
-from_int (typed at None form) u h = never h
-from_int (typed at (Some (ty.Struct n)) form) u h = never h
-from_int (typed at (Some (ty.Array elem count)) form) u h = never h
-from_int (typed at (Some (ty.Pointer elem fixed)) form) u h = never h
+from_int (typed at None form) u h = false_not_true h
+from_int (typed at (Some (ty.Struct n)) form) u h = false_not_true h
+from_int (typed at (Some (ty.Array elem count)) form) u h = false_not_true h
+from_int (typed at (Some (ty.Pointer elem fixed)) form) u h = false_not_true h
 
 integer_cell : (w : Value) → IsInteger w → core_cell (cell_of w) ≡ Int (number_of w)
 integer_cell (holds (mem.number z)) h = refl
@@ -230,7 +231,7 @@ cases_end s result mode n k y value u sections sp source body before fits from l
     subst (λ o. Same (GivesFlow s result mode n before) (take_turn st.left st (λ st1. source st1 >>= past_switch)) o) (sym done.runs)
     (flagged_end s result mode n k (src.chosen sections value) sp source body before fits from le there2 one flag st done.later
     (record { alike = done.alike; kept = kept_then s (below n) (below k) (below n) before st'.memory done.later.memory h.kept done.kept (λ j less. less) (λ j less. omega (arith, le, less)) })
-    (done.chosen ∙ ap (λ ch. Int (pos ch) ∷ []) (ap (λ q. picked 0 sections (otherwise_of sections) q) is ∙ chosen_is sections value (right (list_all (label_fits u) (labels_of sections)) (labels_distinct (labels_of sections)) labels))))
+    (done.chosen ∙ ap (λ ch. Int (pos ch) ∷ []) (ap (λ q. picked 0 sections (otherwise_of sections) q) is ∙ chosen_is sections value (both_hold_second (list_all (label_fits u) (labels_of sections)) (labels_distinct (labels_of sections)) labels))))
 
 -- the value and the section of `default` are held, and the rest follows
 value_end : (s : Scene) (result : Option IntType) (mode : Onward) (n k : ℕ) (z : ℤ) (from u : IntType) (sections : SectionTrees) (sp : Span) (source : State → Outcome src.Flow) (e : t.ExprTree) (body : List StmtTree) (before : Blocks) → SceneFits s → length s.names.vars ≤ n → n ≤ k →

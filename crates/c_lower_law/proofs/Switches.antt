@@ -8,6 +8,7 @@ use Rattle.std.proofs.lemmas.Int.{ints}
 use Rattle.pt_base.specs.declared.int_type.IntType.{IntType}
 use Rattle.pt_base.specs.declared.int_type.IntType.TheVariants as i
 use Rattle.pt_base.specs.declared.span.Span.{Span}
+use Rattle.pt_base.proofs.Booleans.{both_hold_first, both_hold_second, false_not_true}
 use Rattle.pt_int.specs.declared.operator.BinOp.TheVariants.{Le, Eq}
 use Rattle.pt_int.specs.Conversion.{conv, is_in_range}
 use Rattle.pt_int.specs.Operator.{binary_of, truth}
@@ -35,7 +36,6 @@ use Rattle.source_meaning.specs.Expressions.{value_of, type_of}
 use Rattle.source_meaning.specs.Statements as src
 use Rattle.source_meaning.specs.Statements.{has_label, is_default, label_of, section_with, count_of, past_switch}
 use Rattle.source_soundness.specs.Worlds.{IsInteger}
-use Rattle.source_soundness.proofs.Tests.{left, right, never}
 use Rattle.pt_core.specs.CodeTree as t
 use Rattle.pt_core.specs.CodeTree.{StmtTree, constant, binary, choose, repeat, break_out, stmt_trees}
 use Rattle.pt_core.specs.Types as types
@@ -51,8 +51,8 @@ use Rattle.lowering.specs.Statements.{Onward, nowhere, to_head, past_flag, numbe
 use Rattle.c_lower_law.proofs.Relations.{Scene, core_cell, context_of, frame_of, scope_of, HasTemps, Kept, Alike, Same, After, below, all}
 use Rattle.c_lower_law.proofs.Expressions.{run_all, cell_asked, Gives, IsValue, SceneFits}
 use Rattle.c_lower_law.proofs.Statements.{is_flag, but_flag, FlagIs, Continues, SameFlow, GivesFlow}
-use Rattle.c_lower_law.proofs.Runs.{Stops, same_bind, same_weaken, run_append, append_nothing}
-use Rattle.c_lower_law.proofs.Memories.{same_number, put_there, put_apart, kept_then, kept_less, kept_same, alike_temp}
+use Rattle.c_lower_law.proofs.Runs.{Stops, same_bind, same_weaken, run_append}
+use Rattle.c_lower_law.proofs.Memories.{put_there, put_apart, kept_then, kept_less, kept_same, alike_temp}
 use Rattle.c_lower_law.proofs.Held.{own_length, past_append, temps_first, temps_rest, Holds, with_temp, temp_given, temp_read, hold_then, hold_then_stops}
 use Rattle.c_lower_law.proofs.Flows.{turn_same, alike_left, temp_kept, flag_kept, Runs, RunsWhere, flow_up, runs_then_where}
 use Rattle.c_lower_law.proofs.Outermost.{Laws, Found, value_then, choose_yes, choose_no}
@@ -150,22 +150,22 @@ alone (section_and (section at' (Case d w) stmts) rest) at z value h none = go (
 picked_is : (sections : SectionTrees) (m ch : ℕ) (value : ℤ) → labels_distinct (labels_of sections) ≡ true → picked m sections ch value ≡ unwrap_or (option_map (λ j. m + j) (section_with (has value) sections)) ch
 picked_is no_sections m ch value h = refl
 picked_is (section_and (section at (Default d) stmts) rest) m ch value h =
-    picked_is rest (m + 1) ch value (right (not (list_any (same_label (Default d)) (labels_of rest))) (labels_distinct (labels_of rest)) h) ∙ ap (λ o. unwrap_or o ch) (further m (section_with (has value) rest))
+    picked_is rest (m + 1) ch value (both_hold_second (not (list_any (same_label (Default d)) (labels_of rest))) (labels_distinct (labels_of rest)) h) ∙ ap (λ o. unwrap_or o ch) (further m (section_with (has value) rest))
   where
     further : (m : ℕ) (o : Option ℕ) → option_map (λ j. m + 1 + j) o ≡ option_map (λ j. m + j) (option_map suc o)
     further m None = refl
     further m (Some j) = ap Some (omega arith)
-picked_is (section_and (section at (Case d z) stmts) rest) m ch value h = go (int_eq z value) refl (picked_is rest (m + 1) ch value (right (not (list_any (same_label (Case d z)) (labels_of rest))) (labels_distinct (labels_of rest)) h))
+picked_is (section_and (section at (Case d z) stmts) rest) m ch value h = go (int_eq z value) refl (picked_is rest (m + 1) ch value (both_hold_second (not (list_any (same_label (Case d z)) (labels_of rest))) (labels_distinct (labels_of rest)) h))
   where
     further : (m : ℕ) (o : Option ℕ) → option_map (λ j. m + 1 + j) o ≡ option_map (λ j. m + j) (option_map suc o)
     further m None = refl
     further m (Some j) = ap Some (omega arith)
 
     single : list_any (same_label (Case d z)) (labels_of rest) ≡ false
-    single = unless (list_any (same_label (Case d z)) (labels_of rest)) (left (not (list_any (same_label (Case d z)) (labels_of rest))) (labels_distinct (labels_of rest)) h)
+    single = unless (list_any (same_label (Case d z)) (labels_of rest)) (both_hold_first (not (list_any (same_label (Case d z)) (labels_of rest))) (labels_distinct (labels_of rest)) h)
       where
         unless : (a : Bool) → not a ≡ true → a ≡ false
-        unless true e = never e
+        unless true e = false_not_true e
         unless false e = refl
 
     go : (a : Bool) → int_eq z value ≡ a → picked (m + 1) rest ch value ≡ unwrap_or (option_map (λ j. m + 1 + j) (section_with (has value) rest)) ch → picked (m + 1) rest (if a then m else ch) value ≡ unwrap_or (option_map (λ j. m + j) (if a then Some 0 else option_map suc (section_with (has value) rest))) ch
@@ -207,12 +207,12 @@ pub cases_run : (sections : SectionTrees) (s : Scene) (sp : Span) (u : IntType) 
     Alike s st st' → (st'.memory (Local s.frame.depth k)).cells ≡ Int y ∷ [] → (st'.memory (Local s.frame.depth (k + 1))).cells ≡ Int (pos ch) ∷ [] → Chosen s k (picked m sections ch (conv u y)) y (cases_from sp u k m sections) rest st st'
 cases_run no_sections s sp u k m ch y rest st st' fits from there ok al at_k at_ch = record { later = st'; runs = refl; alike = al; kept = kept_same s (below k) st'.memory; value = at_k; chosen = at_ch }
 cases_run (section_and (section at (Default d) stmts) more) s sp u k m ch y rest st st' fits from there ok al at_k at_ch =
-    cases_run more s sp u k (m + 1) ch y rest st st' fits from there (right (label_fits u (Default d)) (list_all (label_fits u) (labels_of more)) ok) al at_k at_ch
+    cases_run more s sp u k (m + 1) ch y rest st st' fits from there (both_hold_second (label_fits u (Default d)) (list_all (label_fits u) (labels_of more)) ok) al at_k at_ch
 cases_run (section_and (section at (Case d z) stmts) more) s sp u k m ch y rest st st' fits from there ok al at_k at_ch =
-    go (int_eq z (conv u y)) refl (λ ch1 st1' al1 at_k1 at_ch1. cases_run more s sp u k (m + 1) ch1 y rest st st1' fits from there (right (is_in_range u z) (list_all (label_fits u) (labels_of more)) ok) al1 at_k1 at_ch1)
+    go (int_eq z (conv u y)) refl (λ ch1 st1' al1 at_k1 at_ch1. cases_run more s sp u k (m + 1) ch1 y rest st st1' fits from there (both_hold_second (is_in_range u z) (list_all (label_fits u) (labels_of more)) ok) al1 at_k1 at_ch1)
   where
     same_test : int_eq (conv u y) (conv u z) ≡ int_eq z (conv u y)
-    same_test = ap (λ (q : ℤ). int_eq (conv u y) q) (in_range u z (left (is_in_range u z) (list_all (label_fits u) (labels_of more)) ok)) ∙ int_turned (conv u y) z
+    same_test = ap (λ (q : ℤ). int_eq (conv u y) q) (in_range u z (both_hold_first (is_in_range u z) (list_all (label_fits u) (labels_of more)) ok)) ∙ int_turned (conv u y) z
 
     go : (a : Bool) → int_eq z (conv u y) ≡ a →
         ((ch1 : ℕ) (st1' : c.State) → Alike s st st1' → (st1'.memory (Local s.frame.depth k)).cells ≡ Int y ∷ [] → (st1'.memory (Local s.frame.depth (k + 1))).cells ≡ Int (pos ch1) ∷ [] → Chosen s k (picked (m + 1) more ch1 (conv u y)) y (cases_from sp u k (m + 1) more) rest st st1') →

@@ -1,9 +1,12 @@
 -- Temporaries are integers and pointers: those of expressions.
 use Rattle.std.proofs.Common.{◌≡◌, ◌∙◌, ℕ, ◌+◌, pos, refl, ap, sym, subst, Bool, true, false, not, Option, Some, None, List, [], ◌∷◌, ◌++◌, map, if◌then◌else◌}
 use Rattle.std.specs.Prelude.{IsTrue, ◌&&◌, ◌||◌, is_none, slice_get, option_map}
+use Rattle.std.proofs.lemmas.Option.{get_or_from_slice_get}
 use Rattle.pt_base.specs.declared.int_type.IntType.{IntType}
 use Rattle.pt_base.specs.declared.int_type.IntType.TheVariants as i
 use Rattle.pt_base.specs.declared.span.Span.{Span}
+use Rattle.pt_base.proofs.Booleans.{both_hold_first, both_hold_second, false_not_true}
+use Rattle.pt_base.proofs.Places.{get_map}
 use Rattle.pt_int.specs.declared.operator.UnOp.{UnOp}
 use Rattle.pt_int.specs.declared.operator.UnOp.TheVariants as u
 use Rattle.pt_int.specs.declared.operator.BinOp.{BinOp}
@@ -30,7 +33,6 @@ use Rattle.typed_tree.specs.WellFormedExpression as f
 use Rattle.typed_tree.specs.WellFormedExpression.{Names, is_typed, form_fits, all_typed, links_fit, operands_fit, place_fits, root_fits, steps_fit, ty_of, is_struct, is_assign, assigned_type, root_type, steps_type, place_type, place_const, item_type, has_links, has_operands, is_written, is_addressed, keeps_const, param_type, arguments_fit, call_fits, is_main}
 use Rattle.source_meaning.specs.Expressions.{type_or_int, type_of}
 use Rattle.typed_tree.proofs.SameTypes.{equal_options}
-use Rattle.source_soundness.proofs.Tests.{left, right, never, got, got_or}
 use Rattle.pt_core.specs.CodeTree as t
 use Rattle.pt_core.specs.CodeTree.{local, global, deref}
 use Rattle.pt_core.specs.Types.{field_type, pointee_type}
@@ -137,15 +139,15 @@ same_place : (o t : Option VarTy) (u : VarTy) → same_types o t ≡ true → t 
 same_place o t u h is = equal_options o t h ∙ is
 
 value_some : (t : Option VarTy) → is_value t ≡ true → (u : VarTy) × (t ≡ Some u)
-value_some None h = never h
+value_some None h = false_not_true h
 value_some (Some u) h = (u, refl)
 
 decay_some : (o : Option VarTy) (e : Option Elem) → both_elem (item_of o) e ≡ true → (u : VarTy) × (o ≡ Some u)
-decay_some None e h = never h
+decay_some None e h = false_not_true h
 decay_some (Some u) e h = (u, refl)
 
 address_some : (o : Option VarTy) (e : Option Elem) → both_elem (element_of o) e ≡ true → (u : VarTy) × (o ≡ Some u)
-address_some None e h = never h
+address_some None e h = false_not_true h
 address_some (Some u) e h = (u, refl)
 
 unary_scalar : (op : UnOp) (a t : Option VarTy) → unary_fits op a t ≡ true → Scalar (type_or_int t)
@@ -155,38 +157,38 @@ unary_scalar op a (Some (Pointer elem fixed)) h = tt
 unary_scalar op a (Some (Struct n)) h = absurd (no_struct op a h)
   where
     same_promoted : (a : Option VarTy) → r.is_same_promoted a (Some (Struct n)) ≡ true → ⊥
-    same_promoted None h = never h
-    same_promoted (Some (Int z)) h = never h
-    same_promoted (Some (Struct z)) h = never h
-    same_promoted (Some (Array z m)) h = never h
-    same_promoted (Some (Pointer z m)) h = never h
+    same_promoted None h = false_not_true h
+    same_promoted (Some (Int z)) h = false_not_true h
+    same_promoted (Some (Struct z)) h = false_not_true h
+    same_promoted (Some (Array z m)) h = false_not_true h
+    same_promoted (Some (Pointer z m)) h = false_not_true h
 
     no_struct : (op : UnOp) (a : Option VarTy) → unary_fits op a (Some (Struct n)) ≡ true → ⊥
     no_struct u.Minus a h = same_promoted a h
     no_struct u.Plus a h = same_promoted a h
     no_struct u.Flip a h = same_promoted a h
-    no_struct u.Not a h = never (right (is_scalar a) false h)
+    no_struct u.Not a h = false_not_true (both_hold_second (is_scalar a) false h)
 unary_scalar op a (Some (Array elem n)) h = absurd (no_array op a h)
   where
     same_promoted : (a : Option VarTy) → r.is_same_promoted a (Some (Array elem n)) ≡ true → ⊥
-    same_promoted None h = never h
-    same_promoted (Some (Int z)) h = never h
-    same_promoted (Some (Struct z)) h = never h
-    same_promoted (Some (Array z m)) h = never h
-    same_promoted (Some (Pointer z m)) h = never h
+    same_promoted None h = false_not_true h
+    same_promoted (Some (Int z)) h = false_not_true h
+    same_promoted (Some (Struct z)) h = false_not_true h
+    same_promoted (Some (Array z m)) h = false_not_true h
+    same_promoted (Some (Pointer z m)) h = false_not_true h
 
     no_array : (op : UnOp) (a : Option VarTy) → unary_fits op a (Some (Array elem n)) ≡ true → ⊥
     no_array u.Minus a h = same_promoted a h
     no_array u.Plus a h = same_promoted a h
     no_array u.Flip a h = same_promoted a h
-    no_array u.Not a h = never (right (is_scalar a) false h)
+    no_array u.Not a h = false_not_true (both_hold_second (is_scalar a) false h)
 
 arm_scalar : (t : Option VarTy) → is_arm t ≡ true → Scalar (type_or_int t)
 arm_scalar None h = tt
 arm_scalar (Some (Int t)) h = tt
 arm_scalar (Some (Pointer elem fixed)) h = tt
-arm_scalar (Some (Struct n)) h = never h
-arm_scalar (Some (Array elem n)) h = never h
+arm_scalar (Some (Struct n)) h = false_not_true h
+arm_scalar (Some (Array elem n)) h = false_not_true h
 
 own_scalar : (t : Option VarTy) → ScalarType t → Scalar (type_or_int t)
 own_scalar t k = subst Scalar (sym (ap type_or_int k.is)) k.scalar
@@ -226,13 +228,13 @@ step_scalar a z Difference to h = where_scalar _ _ to h
 step_scalar a z (Compare op) to h = where_scalar _ _ to h
 
 links_scalar : (n : Names) (links : LinkTrees) (a t : Option VarTy) → has_links links ≡ true → links_fit n a links t ≡ true → Scalar (type_or_int t)
-links_scalar n no_links a t h k = never h
+links_scalar n no_links a t h k = false_not_true h
 links_scalar n (link_and (link at to step ex) no_links) a t h k =
-    let more = right (is_typed n ex) (same_types (r.stepped a step (ty_of ex)) (Some to) && same_types (Some to) t) k in
-    subst (λ z. Scalar (type_or_int z)) (equal_options (Some to) t (right (same_types (r.stepped a step (ty_of ex)) (Some to)) (same_types (Some to) t) more))
-    (step_scalar a (ty_of ex) step to (equal_options (r.stepped a step (ty_of ex)) (Some to) (left (same_types (r.stepped a step (ty_of ex)) (Some to)) (same_types (Some to) t) more)))
+    let more = both_hold_second (is_typed n ex) (same_types (r.stepped a step (ty_of ex)) (Some to) && same_types (Some to) t) k in
+    subst (λ z. Scalar (type_or_int z)) (equal_options (Some to) t (both_hold_second (same_types (r.stepped a step (ty_of ex)) (Some to)) (same_types (Some to) t) more))
+    (step_scalar a (ty_of ex) step to (equal_options (r.stepped a step (ty_of ex)) (Some to) (both_hold_first (same_types (r.stepped a step (ty_of ex)) (Some to)) (same_types (Some to) t) more)))
 links_scalar n (link_and (link at to step ex) (link_and l1 rest)) a t h k =
-    links_scalar n (link_and l1 rest) (Some to) t refl (right (same_types (r.stepped a step (ty_of ex)) (Some to)) (links_fit n (Some to) (link_and l1 rest) t) (right (is_typed n ex) (same_types (r.stepped a step (ty_of ex)) (Some to) && links_fit n (Some to) (link_and l1 rest) t) k))
+    links_scalar n (link_and l1 rest) (Some to) t refl (both_hold_second (same_types (r.stepped a step (ty_of ex)) (Some to)) (links_fit n (Some to) (link_and l1 rest) t) (both_hold_second (is_typed n ex) (same_types (r.stepped a step (ty_of ex)) (Some to) && links_fit n (Some to) (link_and l1 rest) t) k))
 
 argument_scalar : (e : ExprTree) (kind : ParamKind) → same_types (ty_of e) (Some (param_type kind)) ≡ true → Scalar (type_of e)
 argument_scalar (typed s t form) kind h = subst (λ z. Scalar (type_or_int z)) (sym (equal_options t (Some (param_type kind)) h)) (of_kind kind)
@@ -251,10 +253,10 @@ record CallShape (es : ExprTrees) (t : Option VarTy) : Type 0 where
   is : t ≡ option_map Int result
 
 call_shape : (o : Option Signature) (es : ExprTrees) (t : Option VarTy) → call_fits o es t ≡ true → CallShape es t
-call_shape None es t h = never h
+call_shape None es t h = false_not_true h
 call_shape (Some s) es t h =
-    let rest = right (not (is_main s)) (arguments_fit s.params es && same_types t (option_map Int s.result)) h in
-    record { params = s.params; fit = left (arguments_fit s.params es) (same_types t (option_map Int s.result)) rest; result = s.result; is = equal_options t (option_map Int s.result) (right (arguments_fit s.params es) (same_types t (option_map Int s.result)) rest) }
+    let rest = both_hold_second (not (is_main s)) (arguments_fit s.params es && same_types t (option_map Int s.result)) h in
+    record { params = s.params; fit = both_hold_first (arguments_fit s.params es) (same_types t (option_map Int s.result)) rest; result = s.result; is = equal_options t (option_map Int s.result) (both_hold_second (arguments_fit s.params es) (same_types t (option_map Int s.result)) rest) }
 
 called_scalar : (g : ℕ) (s : Span) (t : Option VarTy) (e : ExprTree) (n : ℕ) (a : Arguments) (o : Option IntType) → t ≡ option_map Int o → AreScalar a.temps → AreScalar (l.called g s t e n a).temps
 called_scalar g s None e n a o is h = scalar_both a.temps [] h tt
@@ -277,52 +279,52 @@ ObjectKnown e = (n : Names) (k : ℕ) → is_typed n e ≡ true → PlaceScalar 
 
 read_scalar : (p : PlaceTree) → PlaceKnown p → (t : Option VarTy) (n : Names) (k : ℕ) → form_fits n (x.read p) t ≡ true → AreScalar (place_in (scope_for n) p k).temps
 read_scalar p known t n k h =
-    let rest = right (place_fits n p) (same_types (place_type n p) t && is_value t) h in
-    let some = value_some t (right (same_types (place_type n p) t) (is_value t) rest) in
-    (known n k some.0 (left (place_fits n p) (same_types (place_type n p) t && is_value t) h) (same_place (place_type n p) t some.0 (left (same_types (place_type n p) t) (is_value t) rest) some.1)).temps
+    let rest = both_hold_second (place_fits n p) (same_types (place_type n p) t && is_value t) h in
+    let some = value_some t (both_hold_second (same_types (place_type n p) t) (is_value t) rest) in
+    (known n k some.0 (both_hold_first (place_fits n p) (same_types (place_type n p) t && is_value t) h) (same_place (place_type n p) t some.0 (both_hold_first (same_types (place_type n p) t) (is_value t) rest) some.1)).temps
 
 decay_scalar : (p : PlaceTree) → PlaceKnown p → (t : Option VarTy) (n : Names) (k : ℕ) → form_fits n (x.decay p) t ≡ true → AreScalar (place_in (scope_for n) p k).temps
 decay_scalar p known t n k h =
-    let some = decay_some (place_type n p) (pointee_of t) (left (both_elem (item_of (place_type n p)) (pointee_of t)) (keeps_const (place_const n p) t) (right (place_fits n p) (both_elem (item_of (place_type n p)) (pointee_of t) && keeps_const (place_const n p) t) h)) in
-    (known n k some.0 (left (place_fits n p) (both_elem (item_of (place_type n p)) (pointee_of t) && keeps_const (place_const n p) t) h) some.1).temps
+    let some = decay_some (place_type n p) (pointee_of t) (both_hold_first (both_elem (item_of (place_type n p)) (pointee_of t)) (keeps_const (place_const n p) t) (both_hold_second (place_fits n p) (both_elem (item_of (place_type n p)) (pointee_of t) && keeps_const (place_const n p) t) h)) in
+    (known n k some.0 (both_hold_first (place_fits n p) (both_elem (item_of (place_type n p)) (pointee_of t) && keeps_const (place_const n p) t) h) some.1).temps
 
 address_scalar : (p : PlaceTree) → PlaceKnown p → (t : Option VarTy) (n : Names) (k : ℕ) → form_fits n (x.address p) t ≡ true → AreScalar (place_in (scope_for n) p k).temps
 address_scalar p known t n k h =
-    let rest = right (is_addressed p) (both_elem (element_of (place_type n p)) (pointee_of t) && keeps_const (place_const n p) t) (right (place_fits n p) (is_addressed p && (both_elem (element_of (place_type n p)) (pointee_of t) && keeps_const (place_const n p) t)) h) in
-    let some = address_some (place_type n p) (pointee_of t) (left (both_elem (element_of (place_type n p)) (pointee_of t)) (keeps_const (place_const n p) t) rest) in
-    (known n k some.0 (left (place_fits n p) (is_addressed p && (both_elem (element_of (place_type n p)) (pointee_of t) && keeps_const (place_const n p) t)) h) some.1).temps
+    let rest = both_hold_second (is_addressed p) (both_elem (element_of (place_type n p)) (pointee_of t) && keeps_const (place_const n p) t) (both_hold_second (place_fits n p) (is_addressed p && (both_elem (element_of (place_type n p)) (pointee_of t) && keeps_const (place_const n p) t)) h) in
+    let some = address_some (place_type n p) (pointee_of t) (both_hold_first (both_elem (element_of (place_type n p)) (pointee_of t)) (keeps_const (place_const n p) t) rest) in
+    (known n k some.0 (both_hold_first (place_fits n p) (is_addressed p && (both_elem (element_of (place_type n p)) (pointee_of t) && keeps_const (place_const n p) t)) h) some.1).temps
 
 assign_scalar : (used : Bool) (p : PlaceTree) (a : ExprTree) → PlaceKnown p → ValueKnown a → ObjectKnown a → (t : Option VarTy) (n : Names) (k : ℕ) → form_fits n (x.assign p a) t ≡ true →
     (let to = left_place used a k (place_in (scope_for n) p k) in PlaceScalar (type_or_int t) (assigned (l.is_struct t) to (object_in (scope_for n) a (past k to.temps)) (value_in (scope_for n) a (past k to.temps))))
 assign_scalar used p a known values objects t n k h =
-    let first = left (place_fits n p && is_written n p) ((same_types (place_type n p) t && is_value t) && (is_typed n a && same_types (ty_of a) t)) h in
-    let rest = right (place_fits n p && is_written n p) ((same_types (place_type n p) t && is_value t) && (is_typed n a && same_types (ty_of a) t)) h in
-    let kind = left (same_types (place_type n p) t && is_value t) (is_typed n a && same_types (ty_of a) t) rest in
-    let some = value_some t (right (same_types (place_type n p) t) (is_value t) kind) in
-    let own = left (is_typed n a) (same_types (ty_of a) t) (right (same_types (place_type n p) t && is_value t) (is_typed n a && same_types (ty_of a) t) rest) in
+    let first = both_hold_first (place_fits n p && is_written n p) ((same_types (place_type n p) t && is_value t) && (is_typed n a && same_types (ty_of a) t)) h in
+    let rest = both_hold_second (place_fits n p && is_written n p) ((same_types (place_type n p) t && is_value t) && (is_typed n a && same_types (ty_of a) t)) h in
+    let kind = both_hold_first (same_types (place_type n p) t && is_value t) (is_typed n a && same_types (ty_of a) t) rest in
+    let some = value_some t (both_hold_second (same_types (place_type n p) t) (is_value t) kind) in
+    let own = both_hold_first (is_typed n a) (same_types (ty_of a) t) (both_hold_second (same_types (place_type n p) t && is_value t) (is_typed n a && same_types (ty_of a) t) rest) in
     let to = left_place used a k (place_in (scope_for n) p k) in
     assigned_scalar (l.is_struct t) (type_or_int t) to (object_in (scope_for n) a (past k to.temps)) (value_in (scope_for n) a (past k to.temps))
-    (subst (λ z. PlaceScalar z to) (sym (ap type_or_int some.1)) (fixed_place (used || not (is_pure a)) k some.0 (place_in (scope_for n) p k) (known n k some.0 (left (place_fits n p) (is_written n p) first) (same_place (place_type n p) t some.0 (left (same_types (place_type n p) t) (is_value t) kind) some.1))))
+    (subst (λ z. PlaceScalar z to) (sym (ap type_or_int some.1)) (fixed_place (used || not (is_pure a)) k some.0 (place_in (scope_for n) p k) (known n k some.0 (both_hold_first (place_fits n p) (is_written n p) first) (same_place (place_type n p) t some.0 (both_hold_first (same_types (place_type n p) t) (is_value t) kind) some.1))))
     (objects n (past k to.temps) own).temps (values n (past k to.temps) own)
 
 compound_scalar : (used : Bool) (p : PlaceTree) (step : LinkStep) (a : ExprTree) → PlaceKnown p → ValueKnown a → (at : Span) (t : Option VarTy) (n : Names) (k : ℕ) → form_fits n (x.compound p at step a) t ≡ true →
     (let to = left_place used a k (place_in (scope_for n) p k) in AreScalar (to.temps ++ (value_in (scope_for n) a (past k to.temps)).temps))
 compound_scalar used p step a known values at t n k h =
-    let first = left (place_fits n p && is_written n p) (same_types (place_type n p) t && (is_typed n a && (is_compound step && converts (r.stepped (promoted_value t) step (ty_of a)) t))) h in
-    let rest = right (place_fits n p && is_written n p) (same_types (place_type n p) t && (is_typed n a && (is_compound step && converts (r.stepped (promoted_value t) step (ty_of a)) t))) h in
-    let more = right (same_types (place_type n p) t) (is_typed n a && (is_compound step && converts (r.stepped (promoted_value t) step (ty_of a)) t)) rest in
-    let c = convert_type (r.stepped (promoted_value t) step (ty_of a)) t (right (is_compound step) (converts (r.stepped (promoted_value t) step (ty_of a)) t) (right (is_typed n a) (is_compound step && converts (r.stepped (promoted_value t) step (ty_of a)) t) more)) in
+    let first = both_hold_first (place_fits n p && is_written n p) (same_types (place_type n p) t && (is_typed n a && (is_compound step && converts (r.stepped (promoted_value t) step (ty_of a)) t))) h in
+    let rest = both_hold_second (place_fits n p && is_written n p) (same_types (place_type n p) t && (is_typed n a && (is_compound step && converts (r.stepped (promoted_value t) step (ty_of a)) t))) h in
+    let more = both_hold_second (same_types (place_type n p) t) (is_typed n a && (is_compound step && converts (r.stepped (promoted_value t) step (ty_of a)) t)) rest in
+    let c = convert_type (r.stepped (promoted_value t) step (ty_of a)) t (both_hold_second (is_compound step) (converts (r.stepped (promoted_value t) step (ty_of a)) t) (both_hold_second (is_typed n a) (is_compound step && converts (r.stepped (promoted_value t) step (ty_of a)) t) more)) in
     let to = left_place used a k (place_in (scope_for n) p k) in
     scalar_both to.temps (value_in (scope_for n) a (past k to.temps)).temps
-    (fixed_scalar (used || not (is_pure a)) k c.to (place_in (scope_for n) p k) (known n k c.to (left (place_fits n p) (is_written n p) first) (same_place (place_type n p) t c.to (left (same_types (place_type n p) t) (is_typed n a && (is_compound step && converts (r.stepped (promoted_value t) step (ty_of a)) t)) rest) c.gives_is)))
-    (values n (past k to.temps) (left (is_typed n a) (is_compound step && converts (r.stepped (promoted_value t) step (ty_of a)) t) more))
+    (fixed_scalar (used || not (is_pure a)) k c.to (place_in (scope_for n) p k) (known n k c.to (both_hold_first (place_fits n p) (is_written n p) first) (same_place (place_type n p) t c.to (both_hold_first (same_types (place_type n p) t) (is_typed n a && (is_compound step && converts (r.stepped (promoted_value t) step (ty_of a)) t)) rest) c.gives_is)))
+    (values n (past k to.temps) (both_hold_first (is_typed n a) (is_compound step && converts (r.stepped (promoted_value t) step (ty_of a)) t) more))
 
 step_place : (p : PlaceTree) → PlaceKnown p → (back postfix : Bool) (t : Option VarTy) (n : Names) (k : ℕ) → ((place_fits n p && is_written n p) && (same_types (place_type n p) t && is_scalar t)) ≡ true → (w : VarTy) × PlaceScalar w (place_in (scope_for n) p k) × Scalar w
 step_place p known back postfix t n k h =
-    let first = left (place_fits n p && is_written n p) (same_types (place_type n p) t && is_scalar t) h in
-    let rest = right (place_fits n p && is_written n p) (same_types (place_type n p) t && is_scalar t) h in
-    let z = scalar_type t (right (same_types (place_type n p) t) (is_scalar t) rest) in
-    (z.u, known n k z.u (left (place_fits n p) (is_written n p) first) (same_place (place_type n p) t z.u (left (same_types (place_type n p) t) (is_scalar t) rest) z.is), z.scalar)
+    let first = both_hold_first (place_fits n p && is_written n p) (same_types (place_type n p) t && is_scalar t) h in
+    let rest = both_hold_second (place_fits n p && is_written n p) (same_types (place_type n p) t && is_scalar t) h in
+    let z = scalar_type t (both_hold_second (same_types (place_type n p) t) (is_scalar t) rest) in
+    (z.u, known n k z.u (both_hold_first (place_fits n p) (is_written n p) first) (same_place (place_type n p) t z.u (both_hold_first (same_types (place_type n p) t) (is_scalar t) rest) z.is), z.scalar)
 
 mutual
   pub value_scalar : (e : ExprTree) (n : Names) (k : ℕ) → is_typed n e ≡ true → AreScalar (value_in (scope_for n) e k).temps
@@ -334,31 +336,31 @@ mutual
   form_scalar (x.read p) s t n k h = read_scalar p (place_scalar p) t n k h
   form_scalar (x.decay p) s t n k h = decay_scalar p (place_scalar p) t n k h
   form_scalar (x.address p) s t n k h = address_scalar p (place_scalar p) t n k h
-  form_scalar (x.unary op a) s t n k h = value_scalar a n k (left (is_typed n a) (unary_fits op (ty_of a) t) h)
-  form_scalar (x.convert a) s t n k h = value_scalar a n k (left (is_typed n a) (converts (ty_of a) t) h)
-  form_scalar (x.discard a) s t n k h = effects_scalar a n k (left (is_typed n a) (is_none t) h)
+  form_scalar (x.unary op a) s t n k h = value_scalar a n k (both_hold_first (is_typed n a) (unary_fits op (ty_of a) t) h)
+  form_scalar (x.convert a) s t n k h = value_scalar a n k (both_hold_first (is_typed n a) (converts (ty_of a) t) h)
+  form_scalar (x.discard a) s t n k h = effects_scalar a n k (both_hold_first (is_typed n a) (is_none t) h)
   form_scalar (x.chain a links) s t n k h =
-      links_in_scalar links n (ty_of a) t a [] s (type_of a) (value_in (scope_for n) a k) k (type_own a) (right (has_links links) (links_fit n (ty_of a) links t) (right (is_typed n a) (has_links links && links_fit n (ty_of a) links t) h))
-      (value_scalar a n k (left (is_typed n a) (has_links links && links_fit n (ty_of a) links t) h))
+      links_in_scalar links n (ty_of a) t a [] s (type_of a) (value_in (scope_for n) a k) k (type_own a) (both_hold_second (has_links links) (links_fit n (ty_of a) links t) (both_hold_second (is_typed n a) (has_links links && links_fit n (ty_of a) links t) h))
+      (value_scalar a n k (both_hold_first (is_typed n a) (has_links links && links_fit n (ty_of a) links t) h))
   form_scalar (x.logical op a others) s t n k h =
-      let first = left (is_typed n a && is_scalar (ty_of a)) ((has_operands others && operands_fit n others) && same_types t r.int) h in
-      let rest = left (has_operands others && operands_fit n others) (same_types t r.int) (right (is_typed n a && is_scalar (ty_of a)) ((has_operands others && operands_fit n others) && same_types t r.int) h) in
+      let first = both_hold_first (is_typed n a && is_scalar (ty_of a)) ((has_operands others && operands_fit n others) && same_types t r.int) h in
+      let rest = both_hold_first (has_operands others && operands_fit n others) (same_types t r.int) (both_hold_second (is_typed n a && is_scalar (ty_of a)) ((has_operands others && operands_fit n others) && same_types t r.int) h) in
       let v = value_in (scope_for n) a k in
-      operands_scalar others n op (past k v.temps) (started (typed s t (x.logical op a others)) (past k v.temps) (type_of a) s v) k (right (has_operands others) (operands_fit n others) rest)
-      (scalar_more v.temps (holding int (typed s t (x.logical op a others))) (value_scalar a n k (left (is_typed n a) (is_scalar (ty_of a)) first)) tt)
+      operands_scalar others n op (past k v.temps) (started (typed s t (x.logical op a others)) (past k v.temps) (type_of a) s v) k (both_hold_second (has_operands others) (operands_fit n others) rest)
+      (scalar_more v.temps (holding int (typed s t (x.logical op a others))) (value_scalar a n k (both_hold_first (is_typed n a) (is_scalar (ty_of a)) first)) tt)
   form_scalar (x.choice a b d) s t n k h =
-      let first = left (is_typed n a && is_scalar (ty_of a)) ((is_typed n b && same_types (ty_of b) t) && ((is_typed n d && same_types (ty_of d) t) && is_arm t)) h in
-      let second = right (is_typed n a && is_scalar (ty_of a)) ((is_typed n b && same_types (ty_of b) t) && ((is_typed n d && same_types (ty_of d) t) && is_arm t)) h in
-      let of_b = left (is_typed n b && same_types (ty_of b) t) ((is_typed n d && same_types (ty_of d) t) && is_arm t) second in
-      let third = right (is_typed n b && same_types (ty_of b) t) ((is_typed n d && same_types (ty_of d) t) && is_arm t) second in
+      let first = both_hold_first (is_typed n a && is_scalar (ty_of a)) ((is_typed n b && same_types (ty_of b) t) && ((is_typed n d && same_types (ty_of d) t) && is_arm t)) h in
+      let second = both_hold_second (is_typed n a && is_scalar (ty_of a)) ((is_typed n b && same_types (ty_of b) t) && ((is_typed n d && same_types (ty_of d) t) && is_arm t)) h in
+      let of_b = both_hold_first (is_typed n b && same_types (ty_of b) t) ((is_typed n d && same_types (ty_of d) t) && is_arm t) second in
+      let third = both_hold_second (is_typed n b && same_types (ty_of b) t) ((is_typed n d && same_types (ty_of d) t) && is_arm t) second in
       let v = value_in (scope_for n) a k in
       let y = value_in (scope_for n) b (past k v.temps + 1) in
       let z = value_in (scope_for n) d (past (past k v.temps + 1) y.temps) in
       let own = holding (type_or_int t) (typed s t (x.choice a b d)) in
       scalar_both ((v.temps ++ own ∷ []) ++ y.temps) z.temps
-      (scalar_both (v.temps ++ own ∷ []) y.temps (scalar_more v.temps own (value_scalar a n k (left (is_typed n a) (is_scalar (ty_of a)) first)) (arm_scalar t (right (is_typed n d && same_types (ty_of d) t) (is_arm t) third)))
-      (value_scalar b n (past k v.temps + 1) (left (is_typed n b) (same_types (ty_of b) t) of_b)))
-      (value_scalar d n (past (past k v.temps + 1) y.temps) (left (is_typed n d) (same_types (ty_of d) t) (left (is_typed n d && same_types (ty_of d) t) (is_arm t) third)))
+      (scalar_both (v.temps ++ own ∷ []) y.temps (scalar_more v.temps own (value_scalar a n k (both_hold_first (is_typed n a) (is_scalar (ty_of a)) first)) (arm_scalar t (both_hold_second (is_typed n d && same_types (ty_of d) t) (is_arm t) third)))
+      (value_scalar b n (past k v.temps + 1) (both_hold_first (is_typed n b) (same_types (ty_of b) t) of_b)))
+      (value_scalar d n (past (past k v.temps + 1) y.temps) (both_hold_first (is_typed n d) (same_types (ty_of d) t) (both_hold_first (is_typed n d && same_types (ty_of d) t) (is_arm t) third)))
   form_scalar (x.assign p a) s t n k h = (assign_scalar true p a (place_scalar p) (value_scalar a) (object_scalar a) t n k h).temps
   form_scalar (x.compound p at step a) s t n k h = compound_scalar true p step a (place_scalar p) (value_scalar a) at t n k h
   form_scalar (x.step p at back false) s t n k h =
@@ -369,8 +371,8 @@ mutual
       scalar_both (to.temps ++ holding to.ty (typed at (Some to.ty) (x.read p)) ∷ []) []
       (scalar_more to.temps (holding to.ty (typed at (Some to.ty) (x.read p))) (fixed_scalar true k b.0 (place_in (scope_for n) p k) b.1) (subst Scalar (sym (fixed_type k true (place_in (scope_for n) p k) ∙ b.1.ty)) b.2)) tt
   form_scalar (x.call g es) s t n k h =
-      let c = call_shape (slice_get n.signatures g.0) es t (right (all_typed n es) (call_fits (slice_get n.signatures g.0) es t) h) in
-      called_scalar g.0 s t (typed s t (x.call g es)) k (arguments_in (scope_for n) es k) c.result c.is (arguments_scalar es n c.params k (left (all_typed n es) (call_fits (slice_get n.signatures g.0) es t) h) c.fit)
+      let c = call_shape (slice_get n.signatures g.0) es t (both_hold_second (all_typed n es) (call_fits (slice_get n.signatures g.0) es t) h) in
+      called_scalar g.0 s t (typed s t (x.call g es)) k (arguments_in (scope_for n) es k) c.result c.is (arguments_scalar es n c.params k (both_hold_first (all_typed n es) (call_fits (slice_get n.signatures g.0) es t) h) c.fit)
 
   pub effects_scalar : (e : ExprTree) (n : Names) (k : ℕ) → is_typed n e ≡ true → AreScalar (effects_in (scope_for n) e k).temps
   effects_scalar (typed s t form) n k h = form_effects_scalar form s t n k h
@@ -382,48 +384,48 @@ mutual
   form_effects_scalar (x.decay p) s t n k h = decay_scalar p (place_scalar p) t n k h
   form_effects_scalar (x.address p) s t n k h = address_scalar p (place_scalar p) t n k h
   form_effects_scalar (x.unary op a) s t n k h =
-      scalar_more (value_in (scope_for n) a k).temps (holding (type_or_int t) (typed s t (x.unary op a))) (value_scalar a n k (left (is_typed n a) (unary_fits op (ty_of a) t) h)) (unary_scalar op (ty_of a) t (right (is_typed n a) (unary_fits op (ty_of a) t) h))
-  form_effects_scalar (x.convert a) s t n k h = effects_scalar a n k (left (is_typed n a) (converts (ty_of a) t) h)
-  form_effects_scalar (x.discard a) s t n k h = effects_scalar a n k (left (is_typed n a) (is_none t) h)
+      scalar_more (value_in (scope_for n) a k).temps (holding (type_or_int t) (typed s t (x.unary op a))) (value_scalar a n k (both_hold_first (is_typed n a) (unary_fits op (ty_of a) t) h)) (unary_scalar op (ty_of a) t (both_hold_second (is_typed n a) (unary_fits op (ty_of a) t) h))
+  form_effects_scalar (x.convert a) s t n k h = effects_scalar a n k (both_hold_first (is_typed n a) (converts (ty_of a) t) h)
+  form_effects_scalar (x.discard a) s t n k h = effects_scalar a n k (both_hold_first (is_typed n a) (is_none t) h)
   form_effects_scalar (x.chain a links) s t n k h =
-      let rest = right (is_typed n a) (has_links links && links_fit n (ty_of a) links t) h in
-      let fit = right (has_links links) (links_fit n (ty_of a) links t) rest in
+      let rest = both_hold_second (is_typed n a) (has_links links && links_fit n (ty_of a) links t) h in
+      let fit = both_hold_second (has_links links) (links_fit n (ty_of a) links t) rest in
       scalar_more (links_in (scope_for n) links a [] s (type_of a) (value_in (scope_for n) a k) k).temps (holding (type_or_int t) (typed s t (x.chain a links)))
-      (links_in_scalar links n (ty_of a) t a [] s (type_of a) (value_in (scope_for n) a k) k (type_own a) fit (value_scalar a n k (left (is_typed n a) (has_links links && links_fit n (ty_of a) links t) h)))
-      (links_scalar n links (ty_of a) t (left (has_links links) (links_fit n (ty_of a) links t) rest) fit)
+      (links_in_scalar links n (ty_of a) t a [] s (type_of a) (value_in (scope_for n) a k) k (type_own a) fit (value_scalar a n k (both_hold_first (is_typed n a) (has_links links && links_fit n (ty_of a) links t) h)))
+      (links_scalar n links (ty_of a) t (both_hold_first (has_links links) (links_fit n (ty_of a) links t) rest) fit)
   form_effects_scalar (x.logical op a others) s t n k h =
-      let first = left (is_typed n a && is_scalar (ty_of a)) ((has_operands others && operands_fit n others) && same_types t r.int) h in
-      let rest = left (has_operands others && operands_fit n others) (same_types t r.int) (right (is_typed n a && is_scalar (ty_of a)) ((has_operands others && operands_fit n others) && same_types t r.int) h) in
+      let first = both_hold_first (is_typed n a && is_scalar (ty_of a)) ((has_operands others && operands_fit n others) && same_types t r.int) h in
+      let rest = both_hold_first (has_operands others && operands_fit n others) (same_types t r.int) (both_hold_second (is_typed n a && is_scalar (ty_of a)) ((has_operands others && operands_fit n others) && same_types t r.int) h) in
       let v = value_in (scope_for n) a k in
-      operands_scalar others n op (past k v.temps) (started (typed s t (x.logical op a others)) (past k v.temps) (type_of a) s v) k (right (has_operands others) (operands_fit n others) rest)
-      (scalar_more v.temps (holding int (typed s t (x.logical op a others))) (value_scalar a n k (left (is_typed n a) (is_scalar (ty_of a)) first)) tt)
+      operands_scalar others n op (past k v.temps) (started (typed s t (x.logical op a others)) (past k v.temps) (type_of a) s v) k (both_hold_second (has_operands others) (operands_fit n others) rest)
+      (scalar_more v.temps (holding int (typed s t (x.logical op a others))) (value_scalar a n k (both_hold_first (is_typed n a) (is_scalar (ty_of a)) first)) tt)
   form_effects_scalar (x.choice a b d) s t n k h =
-      let first = left (is_typed n a && is_scalar (ty_of a)) ((is_typed n b && same_types (ty_of b) t) && ((is_typed n d && same_types (ty_of d) t) && is_arm t)) h in
-      let second = right (is_typed n a && is_scalar (ty_of a)) ((is_typed n b && same_types (ty_of b) t) && ((is_typed n d && same_types (ty_of d) t) && is_arm t)) h in
-      let of_b = left (is_typed n b && same_types (ty_of b) t) ((is_typed n d && same_types (ty_of d) t) && is_arm t) second in
-      let third = right (is_typed n b && same_types (ty_of b) t) ((is_typed n d && same_types (ty_of d) t) && is_arm t) second in
+      let first = both_hold_first (is_typed n a && is_scalar (ty_of a)) ((is_typed n b && same_types (ty_of b) t) && ((is_typed n d && same_types (ty_of d) t) && is_arm t)) h in
+      let second = both_hold_second (is_typed n a && is_scalar (ty_of a)) ((is_typed n b && same_types (ty_of b) t) && ((is_typed n d && same_types (ty_of d) t) && is_arm t)) h in
+      let of_b = both_hold_first (is_typed n b && same_types (ty_of b) t) ((is_typed n d && same_types (ty_of d) t) && is_arm t) second in
+      let third = both_hold_second (is_typed n b && same_types (ty_of b) t) ((is_typed n d && same_types (ty_of d) t) && is_arm t) second in
       let v = value_in (scope_for n) a k in
       let y = effects_in (scope_for n) b (past k v.temps) in
       let z = effects_in (scope_for n) d (past (past k v.temps) y.temps) in
       scalar_both ((v.temps ++ []) ++ y.temps) z.temps
-      (scalar_both (v.temps ++ []) y.temps (scalar_both v.temps [] (value_scalar a n k (left (is_typed n a) (is_scalar (ty_of a)) first)) tt) (effects_scalar b n (past k v.temps) (left (is_typed n b) (same_types (ty_of b) t) of_b)))
-      (effects_scalar d n (past (past k v.temps) y.temps) (left (is_typed n d) (same_types (ty_of d) t) (left (is_typed n d && same_types (ty_of d) t) (is_arm t) third)))
+      (scalar_both (v.temps ++ []) y.temps (scalar_both v.temps [] (value_scalar a n k (both_hold_first (is_typed n a) (is_scalar (ty_of a)) first)) tt) (effects_scalar b n (past k v.temps) (both_hold_first (is_typed n b) (same_types (ty_of b) t) of_b)))
+      (effects_scalar d n (past (past k v.temps) y.temps) (both_hold_first (is_typed n d) (same_types (ty_of d) t) (both_hold_first (is_typed n d && same_types (ty_of d) t) (is_arm t) third)))
   form_effects_scalar (x.assign p a) s t n k h = (assign_scalar false p a (place_scalar p) (value_scalar a) (object_scalar a) t n k h).temps
   form_effects_scalar (x.compound p at step a) s t n k h = compound_scalar false p step a (place_scalar p) (value_scalar a) at t n k h
   form_effects_scalar (x.step p at back postfix) s t n k h = let b = step_place p (place_scalar p) back postfix t n k h in scalar_both (place_in (scope_for n) p k).temps [] b.1.temps tt
   form_effects_scalar (x.call g es) s t n k h =
-      let c = call_shape (slice_get n.signatures g.0) es t (right (all_typed n es) (call_fits (slice_get n.signatures g.0) es t) h) in
-      scalar_both (arguments_in (scope_for n) es k).temps [] (arguments_scalar es n c.params k (left (all_typed n es) (call_fits (slice_get n.signatures g.0) es t) h) c.fit) tt
+      let c = call_shape (slice_get n.signatures g.0) es t (both_hold_second (all_typed n es) (call_fits (slice_get n.signatures g.0) es t) h) in
+      scalar_both (arguments_in (scope_for n) es k).temps [] (arguments_scalar es n c.params k (both_hold_first (all_typed n es) (call_fits (slice_get n.signatures g.0) es t) h) c.fit) tt
 
   pub object_scalar : (e : ExprTree) (n : Names) (k : ℕ) → is_typed n e ≡ true → PlaceScalar (type_or_int (ty_of e)) (object_in (scope_for n) e k)
   object_scalar (typed s t form) n k h = form_object_scalar form s t n k h
 
   form_object_scalar : (form : FormTree) (s : Span) (t : Option VarTy) (n : Names) (k : ℕ) → form_fits n form t ≡ true → PlaceScalar (type_or_int t) (form_object (scope_for n) form s t k)
   form_object_scalar (x.read p) s t n k h =
-      let rest = right (place_fits n p) (same_types (place_type n p) t && is_value t) h in
-      let some = value_some t (right (same_types (place_type n p) t) (is_value t) rest) in
+      let rest = both_hold_second (place_fits n p) (same_types (place_type n p) t && is_value t) h in
+      let some = value_some t (both_hold_second (same_types (place_type n p) t) (is_value t) rest) in
       subst (λ z. PlaceScalar z (place_in (scope_for n) p k)) (sym (ap type_or_int some.1))
-      (place_scalar p n k some.0 (left (place_fits n p) (same_types (place_type n p) t && is_value t) h) (same_place (place_type n p) t some.0 (left (same_types (place_type n p) t) (is_value t) rest) some.1))
+      (place_scalar p n k some.0 (both_hold_first (place_fits n p) (same_types (place_type n p) t && is_value t) h) (same_place (place_type n p) t some.0 (both_hold_first (same_types (place_type n p) t) (is_value t) rest) some.1))
   form_object_scalar (x.assign p a) s t n k h = assign_scalar true p a (place_scalar p) (value_scalar a) (object_scalar a) t n k h
   form_object_scalar (x.constant z) s t n k h = record { ty = refl; temps = tt; through = tt }
   form_object_scalar x.null s t n k h = record { ty = refl; temps = tt; through = tt }
@@ -442,37 +444,37 @@ mutual
   links_in_scalar : (links : LinkTrees) (n : Names) (o t : Option VarTy) (first : ExprTree) (before : List LinkTree) (s : Span) (ty : VarTy) (far : Lowered) (k : ℕ) → ty ≡ type_or_int o → links_fit n o links t ≡ true → AreScalar far.temps → AreScalar (links_in (scope_for n) links first before s ty far k).temps
   links_in_scalar no_links n o t first before s ty far k own h g = g
   links_in_scalar (link_and (link at to step ex) rest) n o t first before s ty far k own h g =
-      let more = right (is_typed n ex) (same_types (r.stepped o step (ty_of ex)) (Some to) && links_fit n (Some to) rest t) h in
-      let is = equal_options (r.stepped o step (ty_of ex)) (Some to) (left (same_types (r.stepped o step (ty_of ex)) (Some to)) (links_fit n (Some to) rest t) more) in
+      let more = both_hold_second (is_typed n ex) (same_types (r.stepped o step (ty_of ex)) (Some to) && links_fit n (Some to) rest t) h in
+      let is = equal_options (r.stepped o step (ty_of ex)) (Some to) (both_hold_first (same_types (r.stepped o step (ty_of ex)) (Some to)) (links_fit n (Some to) rest t) more) in
       let ready = held_if (not (takes_left_first step) || not (is_pure ex)) k (holding ty (chain_so_far first before s ty)) far in
-      links_in_scalar rest n (Some to) t first (before ++ link at to step ex ∷ []) at to (linked ty step at ready (value_in (scope_for n) ex (past k ready.temps))) k refl (right (same_types (r.stepped o step (ty_of ex)) (Some to)) (links_fit n (Some to) rest t) more)
+      links_in_scalar rest n (Some to) t first (before ++ link at to step ex ∷ []) at to (linked ty step at ready (value_in (scope_for n) ex (past k ready.temps))) k refl (both_hold_second (same_types (r.stepped o step (ty_of ex)) (Some to)) (links_fit n (Some to) rest t) more)
       (scalar_both ready.temps (value_in (scope_for n) ex (past k ready.temps)).temps (held_scalar (not (takes_left_first step) || not (is_pure ex)) k (holding ty (chain_so_far first before s ty)) far g (subst Scalar (sym own) (own_scalar o (link_first o (ty_of ex) step to is))))
-      (value_scalar ex n (past k ready.temps) (left (is_typed n ex) (same_types (r.stepped o step (ty_of ex)) (Some to) && links_fit n (Some to) rest t) h)))
+      (value_scalar ex n (past k ready.temps) (both_hold_first (is_typed n ex) (same_types (r.stepped o step (ty_of ex)) (Some to) && links_fit n (Some to) rest t) h)))
 
   operands_scalar : (operands : OperandTrees) (n : Names) (op : LogicalOp) (j : ℕ) (far : Effects) (k : ℕ) → operands_fit n operands ≡ true → AreScalar far.temps → AreScalar (operands_in (scope_for n) operands op j far k).temps
   operands_scalar no_operands n op j far k h g = g
   operands_scalar (operand_and (operand s a) rest) n op j far k h g =
       let v = value_in (scope_for n) a (past k far.temps) in
-      operands_scalar rest n op j (with_operand op j (type_of a) s far v) k (right (is_typed n a && is_scalar (ty_of a)) (operands_fit n rest) h)
-      (scalar_both far.temps v.temps g (value_scalar a n (past k far.temps) (left (is_typed n a) (is_scalar (ty_of a)) (left (is_typed n a && is_scalar (ty_of a)) (operands_fit n rest) h))))
+      operands_scalar rest n op j (with_operand op j (type_of a) s far v) k (both_hold_second (is_typed n a && is_scalar (ty_of a)) (operands_fit n rest) h)
+      (scalar_both far.temps v.temps g (value_scalar a n (past k far.temps) (both_hold_first (is_typed n a) (is_scalar (ty_of a)) (both_hold_first (is_typed n a && is_scalar (ty_of a)) (operands_fit n rest) h))))
 
   arguments_scalar : (es : ExprTrees) (n : Names) (ps : List Param) (k : ℕ) → all_typed n es ≡ true → arguments_fit ps es ≡ true → AreScalar (arguments_in (scope_for n) es k).temps
   arguments_scalar no_exprs n ps k h g = tt
-  arguments_scalar (expr_and a rest) n [] k h g = never g
+  arguments_scalar (expr_and a rest) n [] k h g = false_not_true g
   arguments_scalar (expr_and a rest) n (p ∷ ps) k h g =
       let v = held_if (not (are_pure rest)) k (holding (type_of a) a) (value_in (scope_for n) a k) in
       scalar_both v.temps (arguments_in (scope_for n) rest (past k v.temps)).temps
-      (held_scalar (not (are_pure rest)) k (holding (type_of a) a) (value_in (scope_for n) a k) (value_scalar a n k (left (is_typed n a) (all_typed n rest) h)) (argument_scalar a p.kind (left (same_types (ty_of a) (Some (param_type p.kind))) (arguments_fit ps rest) g)))
-      (arguments_scalar rest n ps (past k v.temps) (right (is_typed n a) (all_typed n rest) h) (right (same_types (ty_of a) (Some (param_type p.kind))) (arguments_fit ps rest) g))
+      (held_scalar (not (are_pure rest)) k (holding (type_of a) a) (value_in (scope_for n) a k) (value_scalar a n k (both_hold_first (is_typed n a) (all_typed n rest) h)) (argument_scalar a p.kind (both_hold_first (same_types (ty_of a) (Some (param_type p.kind))) (arguments_fit ps rest) g)))
+      (arguments_scalar rest n ps (past k v.temps) (both_hold_second (is_typed n a) (all_typed n rest) h) (both_hold_second (same_types (ty_of a) (Some (param_type p.kind))) (arguments_fit ps rest) g))
 
   place_scalar : (p : PlaceTree) (n : Names) (k : ℕ) (w : VarTy) → place_fits n p ≡ true → place_type n p ≡ Some w → PlaceScalar w (place_in (scope_for n) p k)
   place_scalar (place root steps) n k w h is =
       let b = steps_some n.structs (root_type n root) steps w is in
-      steps_scalar steps n root [] (root_in (scope_for n) root k) k b.0 w (right (root_fits n root) (steps_fit n steps) h) (subst (λ z. steps_type n.structs z steps ≡ Some w) b.1 is) (root_in_scalar root n k b.0 (left (root_fits n root) (steps_fit n steps) h) b.1)
+      steps_scalar steps n root [] (root_in (scope_for n) root k) k b.0 w (both_hold_second (root_fits n root) (steps_fit n steps) h) (subst (λ z. steps_type n.structs z steps ≡ Some w) b.1 is) (root_in_scalar root n k b.0 (both_hold_first (root_fits n root) (steps_fit n steps) h) b.1)
 
   root_in_scalar : (root : RootTree) (n : Names) (k : ℕ) (a : VarTy) → root_fits n root ≡ true → root_type n root ≡ Some a → PlaceScalar a (root_in (scope_for n) root k)
-  root_in_scalar (x.local v) n k a h is = record { ty = got_or (map (λ (z : Var). z.ty) n.vars) v.0 a (Int i.Int) (got (λ (z : Var). z.ty) n.vars v.0 ∙ is); temps = tt; through = tt }
-  root_in_scalar (x.global v) n k a h is = record { ty = got_or (map (λ (z : TypedGlobal). z.var.ty) n.globals) v.0 a (Int i.Int) (got (λ (z : TypedGlobal). z.var.ty) n.globals v.0 ∙ is); temps = tt; through = tt }
+  root_in_scalar (x.local v) n k a h is = record { ty = get_or_from_slice_get (map (λ (z : Var). z.ty) n.vars) v.0 a (Int i.Int) (get_map (λ (z : Var). z.ty) n.vars v.0 ∙ is); temps = tt; through = tt }
+  root_in_scalar (x.global v) n k a h is = record { ty = get_or_from_slice_get (map (λ (z : TypedGlobal). z.var.ty) n.globals) v.0 a (Int i.Int) (get_map (λ (z : TypedGlobal). z.var.ty) n.globals v.0 ∙ is); temps = tt; through = tt }
   root_in_scalar (x.deref e s) n k a h is = behind_scalar s e (value_in (scope_for n) e k) a is (value_scalar e n k h)
   root_in_scalar (x.assigned e) n k a h is = subst (λ z. PlaceScalar z (object_in (scope_for n) e k)) (assigned_some e a is) (object_scalar e n k h)
 
@@ -488,9 +490,9 @@ mutual
       let first = decayed s (place root (x.step_trees before)) far in
       let ty = decayed_type far.fixed far.ty in
       let base = held_if (not (is_pure ex)) k (holding ty first) (record { stmts = far.stmts; value = t.decay far.place; temps = far.temps }) in
-      steps_scalar rest n root (before ++ x.item ex s ∷ []) (element_place s first ex ty base (value_in (scope_for n) ex (past k base.temps))) k b.0 w (right (is_typed n ex) (steps_fit n rest) h) (subst (λ z. steps_type n.structs z rest ≡ Some w) b.1 is)
+      steps_scalar rest n root (before ++ x.item ex s ∷ []) (element_place s first ex ty base (value_in (scope_for n) ex (past k base.temps))) k b.0 w (both_hold_second (is_typed n ex) (steps_fit n rest) h) (subst (λ z. steps_type n.structs z rest ≡ Some w) b.1 is)
       (record {
         ty = ap (λ z. pointee_type (decayed_type far.fixed z)) g.ty ∙ element_kind far.fixed a b.0 (ty_of ex) b.1;
-        temps = scalar_both base.temps (value_in (scope_for n) ex (past k base.temps)).temps (held_scalar (not (is_pure ex)) k (holding ty first) (record { stmts = far.stmts; value = t.decay far.place; temps = far.temps }) g.temps tt) (value_scalar ex n (past k base.temps) (left (is_typed n ex) (steps_fit n rest) h));
+        temps = scalar_both base.temps (value_in (scope_for n) ex (past k base.temps)).temps (held_scalar (not (is_pure ex)) k (holding ty first) (record { stmts = far.stmts; value = t.decay far.place; temps = far.temps }) g.temps tt) (value_scalar ex n (past k base.temps) (both_hold_first (is_typed n ex) (steps_fit n rest) h));
         through = tt;
       })

@@ -1,6 +1,7 @@
 -- Expressions: what is read, computed and converted, and chains.
 use Rattle.std.proofs.Common.{◌≡◌, ◌∙◌, ◌≤◌, ◌<◌, ℕ, zero, suc, ◌+◌, pos, ℤ, refl, ap, sym, subst, arith, Bool, true, false, not, Option, Some, None, List, [], ◌∷◌, ◌++◌, map, length, append_assoc, Result, Ok, Err, if◌then◌else◌}
 use Rattle.std.specs.Prelude.{IsTrue, ◌||◌, slice_get, slice_index_or}
+use Rattle.std.proofs.lemmas.Option.{get_or_from_slice_get}
 use Rattle.pt_base.specs.declared.int_type.IntType.{IntType}
 use Rattle.pt_base.specs.declared.int_type.IntType.TheVariants as i
 use Rattle.pt_base.specs.declared.span.Span.{Span}
@@ -49,7 +50,6 @@ use Rattle.lowering.specs.Operators as l
 use Rattle.lowering.specs.Operators.{stepped, prefixed}
 use Rattle.c_lower_law.proofs.Relations.{name_of, core_cell, SameObjects, Scene, world_of, context_of, frame_of, sizes_in, HasTemps, HasRoom, Kept, Alike, Same, SameSeen, After, below}
 use Rattle.c_lower_law.proofs.Expressions.{run_all, asked, cell_asked, place_asked, SameAsked, SameCell, Gives, IsValue, IsPlace, SceneFits}
-use Rattle.source_soundness.proofs.Tests.{got_or}
 use Rattle.c_lower_law.proofs.Runs.{pair, bind_gives, asked_else}
 use Rattle.c_lower_law.proofs.Memories.{map_get}
 use Rattle.c_lower_law.proofs.Held.{temp_there, both, asked_weaken, asked_made, asked_kept, IsNext, Both, pair_of, first_then, temp_read}
@@ -253,7 +253,7 @@ convert_near s n u to source stmts value scalar same h st st' a =
 
 -- the type of what is held, or not
 pub held_pointer : (s : Scene) (n : ℕ) (far : Lowered) (t : Bool) (x : Temp) (u : VarTy) → x.ty ≡ u → HasTemps s.core_variables n (held_if t n x far).temps → PointerType s (Some u) far.value → PointerType s (Some u) (held_if t n x far).value
-held_pointer s n far true x u is temps h elem fixed e = (fixed, got_or s.core_variables (past n far.temps) x.ty (Int i.Int) (temp_there s.core_variables n far.temps x [] temps) ∙ is ∙ some_same u (Pointer elem fixed) e)
+held_pointer s n far true x u is temps h elem fixed e = (fixed, get_or_from_slice_get s.core_variables (past n far.temps) x.ty (Int i.Int) (temp_there s.core_variables n far.temps x [] temps) ∙ is ∙ some_same u (Pointer elem fixed) e)
 held_pointer s n far false x u is temps h elem fixed e = h elem fixed e
 
 pub pair_same : (a1 b1 a2 b2 : core.Cell) → a2 ≡ a1 → b2 ≡ b1 → pair a2 b2 ≡ pair a1 b1

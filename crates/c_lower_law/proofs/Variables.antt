@@ -1,6 +1,7 @@
 -- A function's own variables: where they lie in both, and what clears them.
 use Rattle.std.proofs.Common.{◌≡◌, ◌∙◌, ◌≤◌, ◌<◌, ℕ, zero, suc, ◌+◌, pos, refl, ap, sym, subst, arith, Bool, true, false, Option, Some, None, List, [], ◌∷◌, ◌++◌, length, map, replicate, Result, Ok, Err, if◌then◌else◌}
 use Rattle.std.specs.Prelude.{IsTrue, ◌&&◌, slice_get, get_or, option_map}
+use Rattle.std.proofs.lemmas.Option.{get_or_from_slice_get}
 use Rattle.pt_base.specs.declared.int_type.IntType.{IntType}
 use Rattle.pt_base.specs.declared.int_type.IntType.TheVariants as i
 use Rattle.pt_tree.specs.declared.signature.Elem.{Elem}
@@ -27,7 +28,6 @@ use Rattle.source_meaning.proofs.SizeLemmas as lemmas
 use Rattle.source_soundness.specs.Worlds.{type_in, LocationFits}
 use Rattle.source_soundness.specs.Laws.{CodeFits}
 use Rattle.source_soundness.specs.Sizes.{object_cells}
-use Rattle.source_soundness.proofs.Tests.{got, got_or}
 use Rattle.source_soundness.proofs.Soundness.{names_live, entry_type}
 use Rattle.source_soundness.proofs.StatementSoundness.{Entry, lies, clearing}
 use Rattle.source_soundness.proofs.StatementSizes.{cleared_length, cleared_points}
@@ -55,7 +55,7 @@ code_fits s exprs result fits = record { context = fits.fits; exprs = refl }
 pub own : (s : Scene) (exprs : List ExprTree) (result : Option IntType) (x : ℕ) (u : VarTy) → SceneFits s → Entry (tests_of s exprs result) x u → Own s exprs x u
 own s exprs result x u fits en = record {
   live = names_live (world_of s) s.names (context_of s) x u fits.fits en.is;
-  source_type = got_or (variable_types s) x u (ty.Int i.Int) (entry_type (world_of s) s.names (context_of s) x u fits.fits en.is);
+  source_type = get_or_from_slice_get (variable_types s) x u (ty.Int i.Int) (entry_type (world_of s) s.names (context_of s) x u fits.fits en.is);
   core_type = fits.variables x u (entry_type (world_of s) s.names (context_of s) x u fits.fits en.is);
   lies_there = lies (world_of s) (tests_of s exprs result) (code_of s exprs) x u (code_fits s exprs result fits) en;
 }

@@ -2,6 +2,7 @@
 use Rattle.std.proofs.Common.{◌≡◌, ℕ, zero, suc, ◌+◌, ◌-◌, ◌<◌, ◌≤◌, List, [], ◌∷◌, ◌++◌, Option, None, Some, Bool, true, false, ◌&&◌, cond, nat_lt, if◌then◌else◌, slice_get, length, map, refl, sym, ap, ◌∙◌, inl, inr, arith, rules}
 use Rattle.std.proofs.lemmas.Bool.Decides.{nat_tests}
 use Rattle.pt_base.specs.declared.span.Span.{Span}
+use Rattle.pt_base.proofs.Booleans.{and_true_first, and_true_second}
 use Rattle.c_lexer.specs.declared.token.Token.{Token}
 use Rattle.c_lexer.specs.declared.token.TokenKind.{TokenKind}
 use Rattle.c_grammar.specs.declared.symbol.Symbol.{Symbol}
@@ -189,22 +190,14 @@ ranked s.Section = refl
 ranked s.Label = refl
 ranked s.SectionItems = refl
 
-both_first : (a b : Bool) → (a && b) ≡ true → a ≡ true
-both_first true b h = refl
-both_first false b h = cc
-
-both_second : (a b : Bool) → (a && b) ≡ true → b ≡ true
-both_second true b h = h
-both_second false b h = cc
-
 then_so : (a b : Bool) → cond a b true ≡ true → a ≡ true → b ≡ true
 then_so true b h e = h
 then_so false b h e = cc
 
 each_ranked : (top : ℕ) (empty : Bool) (ns : List ℕ) (n : ℕ) → all_ranked top empty ns ≡ true → IsOneOf n ns → is_ranked top empty (right_side n) ≡ true
 each_ranked top empty [] n all one = absurd one
-each_ranked top empty (r ∷ rs) n all (inl e) = ap (λ m. is_ranked top empty (right_side m)) e ∙ both_first (is_ranked top empty (right_side r)) (all_ranked top empty rs) all
-each_ranked top empty (r ∷ rs) n all (inr one) = each_ranked top empty rs n (both_second (is_ranked top empty (right_side r)) (all_ranked top empty rs) all) one
+each_ranked top empty (r ∷ rs) n all (inl e) = ap (λ m. is_ranked top empty (right_side m)) e ∙ and_true_first (is_ranked top empty (right_side r)) (all_ranked top empty rs) all
+each_ranked top empty (r ∷ rs) n all (inr one) = each_ranked top empty rs n (and_true_second (is_ranked top empty (right_side r)) (all_ranked top empty rs) all) one
 
 below : (y : Symbol) (top : ℕ) → nat_lt (rank y) top ≡ true → rank y < top
 below y top h = search (rules, nat_tests)
@@ -253,12 +246,12 @@ module _ (limit : Option ℕ) (tokens : List Token) where
   items_halt at from top empty rest later lower then_on [] h = then_on h
   items_halt at from top empty rest later lower then_on (token k ∷ want) h = takes_halts k (map (placed from) want ++ rest) at later
   items_halt at from top empty rest later lower then_on (symbol y ∷ want) h =
-      let low = both_first (nat_lt (rank y) top) (cond (empties y) (is_ranked top empty want) true) h in
-      let more = both_second (nat_lt (rank y) top) (cond (empties y) (is_ranked top empty want) true) h in
+      let low = and_true_first (nat_lt (rank y) top) (cond (empties y) (is_ranked top empty want) true) h in
+      let more = and_true_second (nat_lt (rank y) top) (cond (empties y) (is_ranked top empty want) true) h in
       lower y (map (placed from) want ++ rest) (below y top low) (λ e. items_halt at from top empty rest later lower then_on want (then_so (empties y) (is_ranked top empty want) more e))
   items_halt at from top empty rest later lower then_on (counted y ∷ want) h =
-      let low = both_first (nat_lt (rank y) top) (cond (empties y) (is_ranked top empty want) true) h in
-      let more = both_second (nat_lt (rank y) top) (cond (empties y) (is_ranked top empty want) true) h in
+      let low = and_true_first (nat_lt (rank y) top) (cond (empties y) (is_ranked top empty want) true) h in
+      let more = and_true_second (nat_lt (rank y) top) (cond (empties y) (is_ranked top empty want) true) h in
       opens_halts y (map (placed from) want ++ rest) at (lower y (closes ∷ map (placed from) want ++ rest) (below y top low) (λ e. closes_halts (map (placed from) want ++ rest) at (items_halt at from top empty rest later lower then_on want (then_so (empties y) (is_ranked top empty want) more e))))
   items_halt at from top empty rest later lower then_on (build f ∷ want) h = builds_halts from f (map (placed from) want ++ rest) at (items_halt at from top empty rest later lower then_on want h)
 

@@ -1,7 +1,8 @@
 -- What holds of each kind of token, by trying all of them.
-use Rattle.std.proofs.Common.{◌≡◌, ℕ, zero, suc, ◌<◌, List, [], ◌∷◌, Bool, true, false, ◌&&◌, if◌then◌else◌, Option, Some, None, nat_eq, get_or, length, refl, ap, subst, arith, rules}
+use Rattle.std.proofs.Common.{◌≡◌, ℕ, zero, suc, ◌<◌, List, [], ◌∷◌, Bool, true, false, if◌then◌else◌, Option, Some, None, nat_eq, get_or, length, refl, ap, subst, arith, rules}
 use Rattle.std.proofs.lemmas.Bool.Decides.{nat_tests}
 use Rattle.std.specs.List.{list_all}
+use Rattle.pt_base.proofs.Booleans.{and_parts}
 use Rattle.c_lexer.specs.declared.token.TokenKind.{TokenKind}
 use Rattle.c_lexer.specs.declared.token.TokenKind.TheVariants as k
 use Rattle.c_grammar.specs.declared.symbol.Symbol.{Symbol}
@@ -19,17 +20,10 @@ number_is_small : (kind : TokenKind) → kind_number kind < 86
 number_is_small k.Identifier = omega arith
 number_is_small kind = omega arith
 
-pub untrue : false ≡ true → ⊥
-untrue e = cc
-
-pub of_both : (a b : Bool) → (a && b) ≡ true → (a ≡ true) × (b ≡ true)
-of_both true b h = (refl, h)
-of_both false b h = cc
-
 holds_at : {A : Type 0} (test : A → Bool) (xs : List A) (i : ℕ) (other : A) → list_all test xs ≡ true → i < length xs → test (get_or xs i other) ≡ true
 holds_at test [] i other all lt = absurd (omega arith)
-holds_at test (x ∷ xs) zero other all lt = (of_both (test x) (list_all test xs) all).0
-holds_at test (x ∷ xs) (suc i) other all lt = holds_at test xs i other (of_both (test x) (list_all test xs) all).1 (omega arith)
+holds_at test (x ∷ xs) zero other all lt = (and_parts (test x) (list_all test xs) all).0
+holds_at test (x ∷ xs) (suc i) other all lt = holds_at test xs i other (and_parts (test x) (list_all test xs) all).1 (omega arith)
 
 -- a test that all kinds pass
 pub everywhere : (test : TokenKind → Bool) → list_all test all_kinds ≡ true → (kind : TokenKind) → test kind ≡ true

@@ -1,6 +1,8 @@
 -- The words of each plain expression read back.
 use Rattle.std.proofs.Common.{◌≡◌, ℕ, ◌+◌, List, [], ◌∷◌, ◌++◌, Bool, true, false, ◌&&◌, ◌==◌, if◌then◌else◌, nat_le, ◌≤◌, refl, sym, ap, subst, arith}
 use Rattle.pt_base.specs.declared.span.Span.{Span}
+use Rattle.pt_base.proofs.Booleans.{and_parts, false_true_absurd}
+use Rattle.pt_base.proofs.Numbers.{nat_le_at_most}
 use Rattle.c_lexer.specs.declared.token.Token.{Token}
 use Rattle.c_lexer.specs.declared.token.TokenKind.TheVariants as k
 use Rattle.c_grammar.specs.declared.symbol.Symbol.TheVariants as s
@@ -14,10 +16,9 @@ use Rattle.c_printer.specs.Kinds.{binding, chain_binding, tightness}
 use Rattle.c_printer.specs.Expressions.{expression, in_parentheses, links, link_words, postfixes as postfixes_words, postfix_words, expressions, more_expressions}
 use Rattle.c_printer.specs.Plain.{expr_plain, exprs_plain, links_plain, link_plain, postfixes_plain, postfix_plain, has_postfixes, has_links, specs_plain, assigns}
 use Rattle.c_printer.specs.Unplaced as u
-use Rattle.c_printer_law.proofs.AllKinds.{of_both, untrue}
 use Rattle.c_printer_law.proofs.Classes.{only, starts, ends}
 use Rattle.c_printer_law.proofs.Levels.{IsLevel, level_of, GivesExpr}
-use Rattle.c_printer_law.proofs.Operands.{Readable, GrowsPostfixes, whole, own_level, is_at_most, no_more_postfixes, name_readable, constant_readable, name_with, group_with, postfixed_is}
+use Rattle.c_printer_law.proofs.Operands.{Readable, GrowsPostfixes, whole, own_level, no_more_postfixes, name_readable, constant_readable, name_with, group_with, postfixed_is}
 use Rattle.c_printer_law.proofs.Forms.{prefix_readable, cast_readable}
 use Rattle.c_printer_law.proofs.Operators.{binds_less, MoreLinks, no_more_links, link_read, chain_readable, choice_readable, assign_readable}
 use Rattle.c_printer_law.proofs.Steps.{Comes, Has, Is, Stands, first, behind, over, split, Gives, Grows, grows_none, grows_more, enters, enters_by, takes_it, takes_name, builds_on, kind_here, has_here, has_at, weaker, ends_later, settled, moved, counted_from}
@@ -119,12 +120,12 @@ named_postfix tokens here w ps gap at next some read h =
 -- only names bind so tightly
 bare_name : (a : ExprTree) → expr_plain a ≡ true → nat_le 14 (tightness a) ≡ true → (w : Word) × (a ≡ name w)
 bare_name (name w) plain h = (w, refl)
-bare_name (chain here a no_links) plain h = absurd (untrue (of_both false true (of_both (expr_plain a) (false && true) plain).1).0)
-bare_name (chain here a (link_and (link there op e) rest)) plain h = absurd (too_tight (is_at_most 14 (binding op) h) (binds_less op))
+bare_name (chain here a no_links) plain h = absurd (false_true_absurd (and_parts false true (and_parts (expr_plain a) (false && true) plain).1).0)
+bare_name (chain here a (link_and (link there op e) rest)) plain h = absurd (too_tight (nat_le_at_most 14 (binding op) h) (binds_less op))
   where
     too_tight : 14 ≤ binding op → binding op ≤ 11 → ⊥
     too_tight x y = omega arith
-bare_name a plain h = absurd (untrue h)
+bare_name a plain h = absurd (false_true_absurd h)
 
 named_readable : (tokens : List Token) (here : Span) (w : Word) (ps : PostfixTrees) → has_postfixes ps ≡ true → ((at next : ℕ) → Stands tokens at (postfixes_words ps) next → Has tokens next (ends 12) → GrowsPostfixes tokens at next (u.postfixes ps)) → Readable tokens (postfix here (name w) ps)
 named_readable tokens here w ps some read = record {
@@ -149,7 +150,7 @@ postfix_readable tokens here a ps some plain r read = go (nat_le 14 (tightness a
     go false is = grouped_readable tokens here a ps some is r read
 
 chain_case : (tokens : List Token) (here : Span) (a : ExprTree) (ls : LinkTrees) → has_links ls ≡ true → Readable tokens a → ((at next : ℕ) → IsLevel (chain_binding ls) → Stands tokens at (links ls) next → Has tokens next (ends (chain_binding ls)) → MoreLinks tokens (chain_binding ls) ls at next) → Readable tokens (chain here a ls)
-chain_case tokens here a no_links some r read = absurd (untrue some)
+chain_case tokens here a no_links some r read = absurd (false_true_absurd some)
 chain_case tokens here a (link_and (link there op e) rest) some r read = chain_readable tokens here there a op e rest r (λ at next h end. read at next (level_of op) h end)
 
 -- a link reads back in front of more links
@@ -190,41 +191,41 @@ mutual
   expr_read tokens (name w) plain = name_readable tokens w
   expr_read tokens (constant c) plain = constant_readable tokens c
   expr_read tokens (prefix here op a) plain = prefix_readable tokens here op a (expr_read tokens a plain)
-  expr_read tokens (cast here ss pointer a) plain = let both = of_both (specs_plain ss) (expr_plain a) plain in cast_readable tokens here ss pointer a both.0 (expr_read tokens a both.1)
+  expr_read tokens (cast here ss pointer a) plain = let both = and_parts (specs_plain ss) (expr_plain a) plain in cast_readable tokens here ss pointer a both.0 (expr_read tokens a both.1)
   expr_read tokens (postfix here a ps) plain =
-      let both = of_both (expr_plain a) (has_postfixes ps && postfixes_plain ps) plain in
-      let two = of_both (has_postfixes ps) (postfixes_plain ps) both.1 in
+      let both = and_parts (expr_plain a) (has_postfixes ps && postfixes_plain ps) plain in
+      let two = and_parts (has_postfixes ps) (postfixes_plain ps) both.1 in
       postfix_readable tokens here a ps two.0 both.0 (expr_read tokens a both.0) (λ at next h end. postfixes_read tokens ps at next two.1 h end)
   expr_read tokens (chain here a ls) plain =
-      let both = of_both (expr_plain a) (has_links ls && links_plain (chain_binding ls) ls) plain in
-      let two = of_both (has_links ls) (links_plain (chain_binding ls) ls) both.1 in
+      let both = and_parts (expr_plain a) (has_links ls && links_plain (chain_binding ls) ls) plain in
+      let two = and_parts (has_links ls) (links_plain (chain_binding ls) ls) both.1 in
       chain_case tokens here a ls two.0 (expr_read tokens a both.0) (λ at next level h end. links_read tokens ls (chain_binding ls) at next level two.1 h end)
   expr_read tokens (choice here a b c) plain =
-      let both = of_both (expr_plain a) (expr_plain b && expr_plain c) plain in
-      let two = of_both (expr_plain b) (expr_plain c) both.1 in
+      let both = and_parts (expr_plain a) (expr_plain b && expr_plain c) plain in
+      let two = and_parts (expr_plain b) (expr_plain c) both.1 in
       choice_readable tokens here a b c (expr_read tokens a both.0) (expr_read tokens b two.0) (expr_read tokens c two.1)
   expr_read tokens (assign here op a b) plain =
-      let both = of_both (assigns op) (expr_plain a && expr_plain b) plain in
-      let two = of_both (expr_plain a) (expr_plain b) both.1 in
+      let both = and_parts (assigns op) (expr_plain a && expr_plain b) plain in
+      let two = and_parts (expr_plain a) (expr_plain b) both.1 in
       assign_readable tokens here op a b both.0 (expr_read tokens a two.0) (expr_read tokens b two.1)
 
   links_read : (tokens : List Token) (ls : LinkTrees) (n at next : ℕ) → IsLevel n → links_plain n ls ≡ true → Stands tokens at (links ls) next → Has tokens next (ends n) → MoreLinks tokens n ls at next
   links_read tokens no_links n at next level plain h end = no_more_links tokens n at next level (over h) end
   links_read tokens (link_and l rest) n at next level plain h end =
-      let both = of_both (link_plain n l) (links_plain n rest) plain in
+      let both = and_parts (link_plain n l) (links_plain n rest) plain in
       let one = split (link_words l) (links rest) h in
       (link_tree_read tokens l n both.0).from rest at one.mid next one.left (links_read tokens rest n one.mid next level both.1 one.right end)
 
   link_tree_read : (tokens : List Token) (l : LinkTree) (n : ℕ) → link_plain n l ≡ true → ReadableLink tokens n l
   link_tree_read tokens (link here op e) n plain =
-      let both = of_both (binding op == n) (expr_plain e) plain in
+      let both = and_parts (binding op == n) (expr_plain e) plain in
       let r = expr_read tokens e both.1 in
       record { from = λ rest at mid next h more. link_read tokens here op e rest n at mid next both.0 r h more }
 
   postfixes_read : (tokens : List Token) (ps : PostfixTrees) (at next : ℕ) → postfixes_plain ps ≡ true → Stands tokens at (postfixes_words ps) next → Has tokens next (ends 12) → GrowsPostfixes tokens at next (u.postfixes ps)
   postfixes_read tokens no_postfixes at next plain h end = no_more_postfixes tokens at next (over h) end
   postfixes_read tokens (postfix_and x rest) at next plain h end =
-      let both = of_both (postfix_plain x) (postfixes_plain rest) plain in
+      let both = and_parts (postfix_plain x) (postfixes_plain rest) plain in
       let one = split (postfix_words x) (postfixes_words rest) h in
       postfix_grows tokens x rest at one.mid next (postfix_read tokens x at one.mid both.0 one.left) (postfixes_read tokens rest one.mid next both.1 one.right end)
 
@@ -239,13 +240,13 @@ mutual
   exprs_read : (tokens : List Token) (es : ExprTrees) (at next : ℕ) → exprs_plain es ≡ true → Stands tokens at (expressions es) next → Has tokens next (only k.CloseParen) → ReadArguments tokens es at next
   exprs_read tokens no_exprs at next plain h end = no_arguments tokens at next (over h) end
   exprs_read tokens (expr_and e rest) at next plain h end =
-      let both = of_both (expr_plain e) (exprs_plain rest) plain in
+      let both = and_parts (expr_plain e) (exprs_plain rest) plain in
       let one = split (expression e tight) (more_expressions rest) h in
       some_arguments tokens e rest at one.mid next (expr_read tokens e both.0) one.left (more_exprs_read tokens rest one.mid next both.1 one.right end)
 
   more_exprs_read : (tokens : List Token) (es : ExprTrees) (at next : ℕ) → exprs_plain es ≡ true → Stands tokens at (more_expressions es) next → Has tokens next (only k.CloseParen) → MoreArguments tokens es at next
   more_exprs_read tokens no_exprs at next plain h end = no_more_arguments tokens at next (over h) end
   more_exprs_read tokens (expr_and e rest) at next plain h end =
-      let both = of_both (expr_plain e) (exprs_plain rest) plain in
+      let both = and_parts (expr_plain e) (exprs_plain rest) plain in
       let one = split (expression e spaced) (more_expressions rest) (behind h) in
       one_more_argument tokens e rest at one.mid next (expr_read tokens e both.0) (first h) one.left (more_exprs_read tokens rest one.mid next both.1 one.right end)

@@ -2,6 +2,7 @@
 use Rattle.std.proofs.Common.{◌≡◌, ℕ, ◌+◌, List, [], ◌∷◌, ◌++◌, Bool, true, false, ◌&&◌, Option, None, Some, refl, ap, ◌∙◌, map, option_map}
 use Rattle.std.specs.List.{list_all}
 use Rattle.pt_base.specs.declared.span.Span.{Span}
+use Rattle.pt_base.proofs.Booleans.{and_parts}
 use Rattle.c_lexer.specs.declared.token.Token.{Token}
 use Rattle.c_lexer.specs.declared.token.TokenKind.TheVariants as k
 use Rattle.c_grammar.specs.declared.symbol.Symbol.TheVariants as s
@@ -19,7 +20,6 @@ use Rattle.c_printer.specs.Specifiers.{specifiers, declarator_words, suffix_word
 use Rattle.c_printer.specs.Items.{param_name, param_words, more_params, params_words, body_words, function_gap, function_words}
 use Rattle.c_printer.specs.Plain.{specs_plain, declarator_plain, param_plain, body_plain, function_plain, stmt_plain, stmts_plain}
 use Rattle.c_printer.specs.Unplaced as u
-use Rattle.c_printer_law.proofs.AllKinds.{of_both}
 use Rattle.c_printer_law.proofs.Classes.{only, begins_spec, ends_specs, ends_suffix, ends_param, after_name, begins_declarator}
 use Rattle.c_printer_law.proofs.Declarators.{suffix_read, declarator_read}
 use Rattle.c_printer_law.proofs.Specifiers.{specs_read}
@@ -95,7 +95,7 @@ param_is at star l m x y v w h i j = cc
 
 param_read : (tokens : List Token) (p : ParamTree) (gap : Gap) (at next : ℕ) → param_plain p ≡ true → Stands tokens at (param_words p gap) next → Has tokens next ends_param → ReadParam tokens p at next
 param_read tokens p gap at next plain h end =
-    let both = of_both (specs_plain p.specs) _ plain in
+    let both = and_parts (specs_plain p.specs) _ plain in
     let one = split (specifiers p.specs gap) (param_name p.pointer p.name ++ suffix_words p.suffix) h in
     let named = name_read tokens p.pointer p.name p.suffix one.mid next one.right end in
     let of = specs_read tokens p.specs gap at one.mid both.0 one.left named.begins in
@@ -118,7 +118,7 @@ params_are a b l m i j = cc
 more_params_read : (tokens : List Token) (ps : List ParamTree) (at next : ℕ) → list_all param_plain ps ≡ true → Stands tokens at (more_params ps) next → Has tokens next (only k.CloseParen) → MoreParams tokens ps at next
 more_params_read tokens [] at next plain h end = record { begins = has_at (over h) (weaker (only k.CloseParen) ends_param refl end); grows = grows_none (only k.CloseParen) 56 refl refl (over h) end refl }
 more_params_read tokens (p ∷ ps) at next plain h end =
-    let both = of_both (param_plain p) (list_all param_plain ps) plain in
+    let both = and_parts (param_plain p) (list_all param_plain ps) plain in
     let one = split (param_words p spaced) (more_params ps) (behind h) in
     let more = more_params_read tokens ps one.mid next both.1 one.right end in
     let x = param_read tokens p spaced (at + 1) one.mid both.0 one.left more.begins in
@@ -130,7 +130,7 @@ more_params_read tokens (p ∷ ps) at next plain h end =
 params_read : (tokens : List Token) (ps : List ParamTree) (at next : ℕ) → list_all param_plain ps ≡ true → Stands tokens at (params_words ps) next → Has tokens next (only k.CloseParen) → Gives tokens s.Params at next params (map u.param) (map u.param ps)
 params_read tokens [] at next plain h end = record { tree = []; alike = refl; from = λ {rest} {parts} {o} c. enters_by (only k.CloseParen) 54 refl (has_at (over h) end) (builds_on (settled (over h) c)) }
 params_read tokens (p ∷ ps) at next plain h end =
-    let both = of_both (param_plain p) (list_all param_plain ps) plain in
+    let both = and_parts (param_plain p) (list_all param_plain ps) plain in
     let one = split (param_words p tight) (more_params ps) h in
     let more = more_params_read tokens ps one.mid next both.1 one.right end in
     let x = param_read tokens p tight at one.mid both.0 one.left more.begins in
@@ -143,7 +143,7 @@ params_read tokens (p ∷ ps) at next plain h end =
 -- lists in trees
 all_plain : (xs : List StmtTree) → list_all stmt_plain xs ≡ true → stmts_plain (stmt_trees xs) ≡ true
 all_plain [] h = refl
-all_plain (x ∷ xs) h = ap (λ b. stmt_plain x && b) (all_plain xs (of_both (stmt_plain x) (list_all stmt_plain xs) h).1) ∙ ap (λ b. b && true) (of_both (stmt_plain x) (list_all stmt_plain xs) h).0
+all_plain (x ∷ xs) h = ap (λ b. stmt_plain x && b) (all_plain xs (and_parts (stmt_plain x) (list_all stmt_plain xs) h).1) ∙ ap (λ b. b && true) (and_parts (stmt_plain x) (list_all stmt_plain xs) h).0
 
 same_list : (xs ys : List StmtTree) → u.stmts (stmt_trees xs) ≡ u.stmts (stmt_trees ys) → map u.stmt xs ≡ map u.stmt ys
 same_list [] [] h = refl
@@ -179,9 +179,9 @@ function_is at l m c d ps qs x y h i j v = cc
 
 pub function_read : (tokens : List Token) (f : FunctionTree) (at next : ℕ) → function_plain f ≡ true → Stands tokens at (function_words f) next → ReadFunction tokens f at next
 function_read tokens f at next plain h =
-    let p1 = of_both (specs_plain f.specs) (declarator_plain f.declarator && (list_all param_plain f.params && body_plain f.body)) plain in
-    let p2 = of_both (declarator_plain f.declarator) (list_all param_plain f.params && body_plain f.body) p1.1 in
-    let p3 = of_both (list_all param_plain f.params) (body_plain f.body) p2.1 in
+    let p1 = and_parts (specs_plain f.specs) (declarator_plain f.declarator && (list_all param_plain f.params && body_plain f.body)) plain in
+    let p2 = and_parts (declarator_plain f.declarator) (list_all param_plain f.params && body_plain f.body) p1.1 in
+    let p3 = and_parts (list_all param_plain f.params) (body_plain f.body) p2.1 in
     let one = split (specifiers f.specs (function_gap f.body)) (declarator_words f.declarator ++ (fixed tight k.OpenParen ∷ (params_words f.params ++ (fixed tight k.CloseParen ∷ body_words f.body)))) h in
     let two = split (declarator_words f.declarator) (fixed tight k.OpenParen ∷ (params_words f.params ++ (fixed tight k.CloseParen ∷ body_words f.body))) one.right in
     let open_paren = first two.right in

@@ -2,6 +2,7 @@
 use Rattle.std.proofs.Common.{◌≡◌, ℕ, ◌+◌, List, [], ◌∷◌, ◌++◌, true, false, ◌&&◌, refl, ap, map}
 use Rattle.std.specs.List.{list_all}
 use Rattle.pt_base.specs.declared.span.Span.{Span}
+use Rattle.pt_base.proofs.Booleans.{and_parts, false_true_absurd}
 use Rattle.c_lexer.specs.declared.token.Token.{Token}
 use Rattle.c_lexer.specs.declared.token.TokenKind.TheVariants as k
 use Rattle.c_grammar.specs.declared.symbol.Symbol.TheVariants as s
@@ -18,7 +19,6 @@ use Rattle.c_printer.specs.Expressions.{expression, expressions, more_expression
 use Rattle.c_printer.specs.Statements.{initialiser, init_declarator, more_init_declarators, init_declarators as init_declarators_words, declaration as declaration_words}
 use Rattle.c_printer.specs.Plain.{expr_plain, exprs_plain, init_plain, declarator_plain, init_declarator_plain, declaration_plain, specs_plain}
 use Rattle.c_printer.specs.Unplaced as u
-use Rattle.c_printer_law.proofs.AllKinds.{of_both, untrue}
 use Rattle.c_printer_law.proofs.Classes.{only, starts, ends, ends_suffix, ends_init, begins_init, ends_specs, begins_spec, begins_declarator}
 use Rattle.c_printer_law.proofs.Declarators.{ReadDeclarator, declarator_read}
 use Rattle.c_printer_law.proofs.Specifiers.{specs_read}
@@ -34,7 +34,7 @@ record MoreItems (tokens : List Token) (es : ExprTrees) (at next : ℕ) : Type 0
 more_items_read : (tokens : List Token) (es : ExprTrees) (at next : ℕ) → exprs_plain es ≡ true → Stands tokens at (more_expressions es) next → Has tokens next (only k.CloseBrace) → MoreItems tokens es at next
 more_items_read tokens no_exprs at next plain h end = record { begins = has_at (over h) (weaker (only k.CloseBrace) (ends 0) refl end); grows = grows_none (only k.CloseBrace) 48 refl refl (over h) end refl }
 more_items_read tokens (expr_and e rest) at next plain h end =
-    let both = of_both (expr_plain e) (exprs_plain rest) plain in
+    let both = and_parts (expr_plain e) (exprs_plain rest) plain in
     let one = split (expression e spaced) (more_expressions rest) (behind h) in
     let more = more_items_read tokens rest one.mid next both.1 one.right end in
     let x = whole (expr_read tokens e both.0) spaced (at + 1) one.mid one.left more.begins in
@@ -66,9 +66,9 @@ init_read tokens (single e) at next plain h end =
         from = λ {rest} {parts} {o} c. enters 43 (kind_here (first h)) refl (takes_it (first h) refl (enters_by starts 45 refl x.begins (counted_from x.gives (builds_on c))));
       };
     }
-init_read tokens (braces here no_exprs) at next plain h end = absurd (untrue (of_both false (exprs_plain no_exprs) plain).0)
+init_read tokens (braces here no_exprs) at next plain h end = absurd (false_true_absurd (and_parts false (exprs_plain no_exprs) plain).0)
 init_read tokens (braces here (expr_and e rest)) at next plain h end =
-    let both = of_both (expr_plain e) (exprs_plain rest) (of_both true (expr_plain e && exprs_plain rest) plain).1 in
+    let both = and_parts (expr_plain e) (exprs_plain rest) (and_parts true (expr_plain e && exprs_plain rest) plain).1 in
     let open_brace = first (behind h) in
     let one = split (expressions (expr_and e rest)) (fixed tight k.CloseBrace ∷ []) (behind (behind h)) in
     let two = split (expression e tight) (more_expressions rest) one.left in
@@ -91,7 +91,7 @@ pub record ReadInitDeclarator (tokens : List Token) (d : InitDeclaratorTree) (at
 
 pub init_declarator_read : (tokens : List Token) (d : InitDeclaratorTree) (at next : ℕ) → init_declarator_plain d ≡ true → Stands tokens at (init_declarator d) next → Has tokens next ends_init → (mid : ℕ) × ReadInitDeclarator tokens d at mid next
 init_declarator_read tokens d at next plain h end =
-    let both = of_both (declarator_plain d.declarator) (init_plain d.init) plain in
+    let both = and_parts (declarator_plain d.declarator) (init_plain d.init) plain in
     let one = split (declarator_words d.declarator) (initialiser d.init) h in
     let value = init_read tokens d.init one.mid next both.1 one.right end in
     (one.mid, record { goes_on = value.begins; name = declarator_read tokens d.declarator at one.mid one.left (weaker begins_init ends_suffix refl value.begins); value = value.gives })
@@ -107,7 +107,7 @@ inits_are d e i j l m x y z = cc
 pub more_inits_read : (tokens : List Token) (ds : List InitDeclaratorTree) (at next : ℕ) → list_all init_declarator_plain ds ≡ true → Stands tokens at (more_init_declarators ds) next → Has tokens next (only k.Semicolon) → MoreInits tokens ds at next
 more_inits_read tokens [] at next plain h end = record { begins = has_at (over h) (weaker (only k.Semicolon) ends_init refl end); grows = grows_none (only k.Semicolon) 52 refl refl (over h) end refl }
 more_inits_read tokens (d ∷ ds) at next plain h end =
-    let both = of_both (init_declarator_plain d) (list_all init_declarator_plain ds) plain in
+    let both = and_parts (init_declarator_plain d) (list_all init_declarator_plain ds) plain in
     let one = split (init_declarator d) (more_init_declarators ds) (behind h) in
     let more = more_inits_read tokens ds one.mid next both.1 one.right end in
     let x = init_declarator_read tokens d (at + 1) one.mid both.0 one.left more.begins in
@@ -129,7 +129,7 @@ rest_read tokens [] at next plain h = record {
   outside = record { tree = []; alike = refl; from = λ {rest} {parts} {o} c. enters 4 (kind_here (first h)) refl (takes_it (first h) refl (builds_on (settled (over (behind h)) c))) };
 }
 rest_read tokens (d ∷ ds) at next plain h =
-    let both = of_both (init_declarator_plain d) (list_all init_declarator_plain ds) plain in
+    let both = and_parts (init_declarator_plain d) (list_all init_declarator_plain ds) plain in
     let one = split (init_declarators_words (d ∷ ds)) (fixed tight k.Semicolon ∷ []) h in
     let two = split (init_declarator d) (more_init_declarators ds) one.left in
     let more = more_inits_read tokens ds two.mid one.mid both.1 two.right (has_here (only k.Semicolon) (first one.right) refl) in
@@ -153,7 +153,7 @@ declaration_is at l m ds es x y = cc
 
 pub declaration_read : (tokens : List Token) (d : DeclarationTree) (gap : Gap) (at next : ℕ) → declaration_plain d ≡ true → Stands tokens at (declaration_words d gap) next → ReadDeclaration tokens d at next
 declaration_read tokens d gap at next plain h =
-    let both = of_both (specs_plain d.specs) (list_all init_declarator_plain d.declarators) plain in
+    let both = and_parts (specs_plain d.specs) (list_all init_declarator_plain d.declarators) plain in
     let one = split (specifiers d.specs gap) (init_declarators_words d.declarators ++ (fixed tight k.Semicolon ∷ [])) h in
     let after = rest_read tokens d.declarators one.mid next both.1 one.right in
     let of = specs_read tokens d.specs gap at one.mid both.0 one.left after.begins in

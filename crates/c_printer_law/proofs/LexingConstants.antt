@@ -11,6 +11,7 @@ use Rattle.std.proofs.lemmas.List.Sums.{fold-append}
 use Rattle.pt_base.specs.IntTypes.{high_of}
 use Rattle.pt_base.specs.declared.int_type.IntType.{IntType}
 use Rattle.pt_base.specs.declared.int_type.IntType.TheVariants.{Int, UInt, Long, ULong}
+use Rattle.pt_base.proofs.Members.{all_true_numbers_append}
 use Rattle.c_lexer.specs.Bytes.{number_in}
 use Rattle.c_lexer.specs.Numbers.{suffix_of, types_of, type_for, constant_in, constant_of}
 use Rattle.c_lexer.specs.declared.number.Suffix.{Suffix}
@@ -114,12 +115,6 @@ pub record IsConstant (n : ℕ) (t : IntType) (w : List ℕ) : Type 0 where
 digits_are : (b : ℕ) → is_ascii_digit b ≡ true → is_number_byte b ≡ true
 digits_are b h = grind (arith, h)
 
-all_both : (p : ℕ → Bool) (xs ys : List ℕ) → list_all p xs ≡ true → list_all p ys ≡ true → list_all p (xs ++ ys) ≡ true
-all_both p [] ys all more = more
-all_both p (x ∷ xs) ys all more =
-    let parts = and_parts (p x) (list_all p xs) all in
-    and_from (p x) (list_all p (xs ++ ys)) parts.0 (all_both p xs ys parts.1 more)
-
 first_digit : (ds : List ℕ) → 0 < length ds → list_all is_ascii_digit ds ≡ true → is_ascii_digit (get_or ds 0 0) ≡ true
 first_digit [] some all = absurd (omega arith)
 first_digit (d ∷ ds) some all = (and_parts (is_ascii_digit d) (list_all is_ascii_digit ds) all).0
@@ -152,7 +147,7 @@ natural_reads n t is fits =
     record {
       reads = reads_by n t is s.0 s.1 small;
       begins = ap is_ascii_digit (first_is (decimal n) (suffix_for t) spells.some) ∙ first_digit (decimal n) spells.some spells.digits;
-      bytes = all_both is_number_byte (decimal n) (suffix_for t) (all_pass is_ascii_digit is_number_byte (decimal n) digits_are spells.digits) (let letters = s.1.letters in letters);
+      bytes = all_true_numbers_append is_number_byte (decimal n) (suffix_for t) (all_pass is_ascii_digit is_number_byte (decimal n) digits_are spells.digits) (let letters = s.1.letters in letters);
     }
 
 -- a constant that a text can have

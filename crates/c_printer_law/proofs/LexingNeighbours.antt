@@ -5,6 +5,7 @@ use Rattle.std.specs.Option.{option_map_or}
 use Rattle.std.specs.Char.{is_ascii_digit}
 use Rattle.std.proofs.lemmas.Bool.{and_parts, and_from, ltb-true, not-true, eqb-true, both_ways, false_from_ne_true}
 use Rattle.pt_base.specs.declared.int_type.IntType.{IntType}
+use Rattle.pt_base.proofs.Booleans.{and_with_false}
 use Rattle.c_lexer.specs.Bytes.{is_nondigit, is_word_byte}
 use Rattle.c_lexer.specs.Spelling.{spelling_of, keywords, punctuators, kind_among, keyword_of, punctuator_of}
 use Rattle.c_lexer.specs.Numbers.{begins_number}
@@ -17,7 +18,7 @@ use Rattle.c_lexer.specs.declared.token.TokenValue.TheVariants.{Name, Constant, 
 use Rattle.c_lexer.proofs.Firsts.{found_among, nondigit_first, nondigit_is_no_digit}
 use Rattle.c_printer.specs.Pieces.{Gap, tight, Piece, fixed, named, number, gap_of, bytes_of, kind_of, value_of}
 use Rattle.c_printer.specs.Plain.{is_name}
-use Rattle.c_printer_law.proofs.LexingStarts.{and_never, word_starts, number_starts, mark_starts, ends_number, is_final, is_tail}
+use Rattle.c_printer_law.proofs.LexingStarts.{word_starts, number_starts, mark_starts, ends_number, is_final, is_tail}
 use Rattle.c_printer_law.proofs.LexingConstants.{is_constant, constant_reads}
 
 -- a keyword or a punctuator
@@ -100,7 +101,7 @@ no_comment_by : (w rest : List ℕ) → 0 < length w → opens_comment (w ++ (32
     → (nat_eq (get_or w 0 0) 47 ≡ false) ⊎ ((nat_eq (get_or rest 0 0) 47 ≡ false) × (nat_eq (get_or rest 0 0) 42 ≡ false)) → opens_comment (w ++ rest) ≡ false
 no_comment_by [] rest some alone h = absurd (omega arith)
 no_comment_by (x ∷ []) rest some alone (inl h) = rw h refl
-no_comment_by (x ∷ []) rest some alone (inr h) = rw (h.0, h.1) (and_never (nat_eq x 47))
+no_comment_by (x ∷ []) rest some alone (inr h) = rw (h.0, h.1) (and_with_false (nat_eq x 47))
 no_comment_by (x ∷ y ∷ w) rest some alone h = alone
 
 no_number_by : (w rest : List ℕ) → 0 < length w → begins_number (w ++ (32 ∷ [])) ≡ false

@@ -1,6 +1,6 @@
 -- A word at the front of bytes is a token, where what follows can't be read on with it.
 use Rattle.std.proofs.Common.{◌≡◌, ℕ, ◌+◌, ◌≤◌, ◌<◌, zero, suc, Bool, true, false, nat_eq, nat_lt, List, [], ◌∷◌, ◌++◌, length, take, drop, get_or, refl, ap, sym, ◌∙◌, subst, inl, inr, ⊎_elim, arith, length-append, length-take-le}
-use Rattle.std.specs.Prelude.{Option, Some, None, not, ◌&&◌, ◌||◌, ◌⊎◌, is_some, IsTrue}
+use Rattle.std.specs.Prelude.{Some, not, ◌&&◌, ◌||◌, ◌⊎◌, is_some, IsTrue}
 use Rattle.std.specs.Option.{option_map_or}
 use Rattle.std.specs.List.{list_all, prefix_len}
 use Rattle.std.specs.Char.{is_ascii_digit, to_ascii_lowercase}
@@ -8,6 +8,7 @@ use Rattle.std.specs.Str.{bytes_eq}
 use Rattle.std.proofs.lemmas.Bool.{and_parts, and_from, or_cases, not-true, both_ways, cases_lt, lt-ltb, eqb-true}
 use Rattle.std.proofs.lemmas.List.{take_at, take-take, get_or-take, get_or-append-add}
 use Rattle.std.proofs.lemmas.Slice.Eq.{bytes_eq-Decides}
+use Rattle.pt_base.proofs.Booleans.{and_with_false}
 use Rattle.c_lexer.specs.Bytes.{is_nondigit, is_word_byte}
 use Rattle.c_lexer.specs.Spelling.{spelling_of, punctuators, punctuator_of}
 use Rattle.c_lexer.specs.Numbers.{begins_number, continues, constant_of}
@@ -20,7 +21,7 @@ use Rattle.c_lexer.specs.declared.token.TokenValue.{TokenValue}
 use Rattle.c_lexer.specs.declared.token.TokenValue.TheVariants.{Fixed}
 use Rattle.c_lexer.specs.declared.next.Next.TheVariants.{Token, Fault}
 use Rattle.c_lexer.specs.declared.error.LexFaultKind.TheVariants.{BadNumber}
-use Rattle.c_lexer.proofs.Firsts.{is_mark, found_among, nondigit_first, nondigit_is_no_space, nondigit_is_no_mark, digit_is_no_space, mark_first}
+use Rattle.c_lexer.proofs.Firsts.{is_mark, found_among, nondigit_first, nondigit_is_no_space, nondigit_is_no_mark, digit_is_no_space, mark_first, is_found}
 use Rattle.c_lexer.proofs.Classes.{class_of, word, numeral, quoted, mark, number_is_no_word, mark_means}
 use Rattle.c_lexer.proofs.Sound.{next_sound}
 
@@ -69,10 +70,6 @@ ends_parts b e =
     let parts = and_parts (not (is_word_byte b)) (not (nat_eq b 46)) e in
     (not-true (is_word_byte b) parts.0, not-true (nat_eq b 46) parts.1)
 
-pub and_never : (t : Bool) → (t && false) ≡ false
-and_never true = refl
-and_never false = refl
-
 -- no number ends with e or p
 no_exponent : (b : ℕ) → is_number_byte b ≡ true → (nat_eq (to_ascii_lowercase b) 101 || nat_eq (to_ascii_lowercase b) 112) ≡ false
 no_exponent b h = ⊎_elim
@@ -86,7 +83,7 @@ no_exponent b h = ⊎_elim
 number_byte_ends : (before b : ℕ) → is_number_byte before ≡ true → ends_number b ≡ true → continues before b ≡ false
 number_byte_ends before b h e =
     let no : (is_word_byte b ≡ false) × (nat_eq b 46 ≡ false) = ends_parts b e in
-    rw (no.0, no.1, no_exponent before h) (and_never (nat_eq b 43 || nat_eq b 45))
+    rw (no.0, no.1, no_exponent before h) (and_with_false (nat_eq b 43 || nat_eq b 45))
 
 -- bytes of a number up to what can't follow
 number_stops : (before : ℕ) (ds rest : List ℕ) → is_number_byte before ≡ true → list_all is_number_byte ds ≡ true → ends_number (get_or rest 0 0) ≡ true
@@ -148,16 +145,12 @@ tail_at (b ∷ w) (suc n) all some within = all_at is_tail w n all (omega arith)
 abbrev pub Ends : List ℕ → List ℕ → Type 0
 Ends w rest = (is_final w ≡ true) ⊎ (is_tail (get_or rest 0 0) ≡ false)
 
-some_kind : (o : Option TokenKind) → IsTrue (is_some o) → (k : TokenKind) × (o ≡ Some k)
-some_kind None h = absurd (cc)
-some_kind (Some k) h = (k, refl)
-
 -- a longer punctuator at the front can't be
 no_longer : (w rest : List ℕ) (m : ℕ) → 0 < length w → Ends w rest → length w < m → m ≤ length (w ++ rest) → IsTrue (is_some (punctuator_of (take m (w ++ rest)))) → ⊥
 unfolding punctuator_of
 no_longer w rest m some (inl final) more within is =
     let bs = w ++ rest in
-    let kind = some_kind (punctuator_of (take m bs)) is in
+    let kind = is_found (punctuator_of (take m bs)) is in
     let found = found_among punctuators (λ q. not (extends w (spelling_of q))) (take m bs) kind.0 final kind.1 in
     let size : length (spelling_of kind.0) ≡ m = ap length (sym found.1) ∙ length-take-le m bs within in
     let front : take (length w) (spelling_of kind.0) ≡ w = ap (take (length w)) (sym found.1) ∙ take-take (length w) m bs (omega arith) ∙ take_at w rest (length w) refl in
@@ -165,7 +158,7 @@ no_longer w rest m some (inl final) more within is =
     both_ways (extends w (spelling_of kind.0)) (not-true (extends w (spelling_of kind.0)) found.0) (and_from (nat_lt (length w) (length (spelling_of kind.0))) (bytes_eq (take (length w) (spelling_of kind.0)) w) (lt-ltb (length w) (length (spelling_of kind.0)) (omega (arith, size, more))) same)
 no_longer w rest m some (inr stops) more within is =
     let bs = w ++ rest in
-    let kind = some_kind (punctuator_of (take m bs)) is in
+    let kind = is_found (punctuator_of (take m bs)) is in
     let found = found_among punctuators has_tail (take m bs) kind.0 refl kind.1 in
     let size : length (spelling_of kind.0) ≡ m = ap length (sym found.1) ∙ length-take-le m bs within in
     let there : is_tail (get_or (spelling_of kind.0) (length w) 0) ≡ true = tail_at (spelling_of kind.0) (length w) found.0 some (omega (arith, size)) in

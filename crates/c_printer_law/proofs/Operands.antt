@@ -29,9 +29,6 @@ pub record ReadExpr (tokens : List Token) (least : ℕ) (e : ExprTree) (at next 
 pub record Readable (tokens : List Token) (e : ExprTree) : Type 0 where
   pub from : (least : ℕ) (gap : Gap) (at next : ℕ) → least ≤ 12 → nat_le least (tightness e) ≡ true → Stands tokens at (expression e gap) next → Has tokens next (ends least) → ReadExpr tokens least e at next
 
-pub is_at_most : (n m : ℕ) → nat_le n m ≡ true → n ≤ m
-is_at_most n m h = search (rules, nat_tests)
-
 pub from_zero : (n : ℕ) → nat_le 0 n ≡ true
 from_zero n = let x : 0 ≤ n = omega arith in search (rules, nat_tests)
 

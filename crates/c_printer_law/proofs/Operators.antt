@@ -2,6 +2,7 @@
 use Rattle.std.proofs.Common.{◌≡◌, ℕ, suc, ◌+◌, ◌≤◌, List, [], ◌∷◌, ◌++◌, true, false, Option, None, Some, ◌==◌, refl, subst, arith, rules}
 use Rattle.std.proofs.lemmas.Bool.Decides.{nat_tests}
 use Rattle.pt_base.specs.declared.span.Span.{Span}
+use Rattle.pt_base.proofs.Numbers.{nat_le_at_most, plus_one}
 use Rattle.c_lexer.specs.declared.token.Token.{Token}
 use Rattle.c_lexer.specs.declared.token.TokenKind.TheVariants as k
 use Rattle.c_grammar.specs.declared.symbol.Symbol.TheVariants as s
@@ -19,7 +20,7 @@ use Rattle.c_printer.specs.Plain.{assigns}
 use Rattle.c_printer.specs.Unplaced as u
 use Rattle.c_printer_law.proofs.Classes.{starts, ends}
 use Rattle.c_printer_law.proofs.Levels.{symbol_at, tail_at, rule_at, end_at, link_rule, IsLevel, level_of}
-use Rattle.c_printer_law.proofs.Operands.{ReadExpr, Readable, whole, own_level, operand_read, is_at_most}
+use Rattle.c_printer_law.proofs.Operands.{ReadExpr, Readable, whole, own_level, operand_read}
 use Rattle.c_printer_law.proofs.Steps.{Has, Stands, first, behind, split, Grows, grows_none, grows_more, enters, enters_by, takes_it, builds_on, kind_here, has_here, has_at, ends_later, counted_from, is_fixed, wants_as}
 
 -- what the table says of an operator, by the level that it has
@@ -49,12 +50,9 @@ no_more_links tokens n at next level e end = record {
   grows = grows_none (ends n) (end_at n) level.ends_so (level.no_more at) e end refl;
 }
 
-one_up : (n : ℕ) → n + 1 ≡ suc n
-one_up n = omega arith
-
 -- an operand that binds more tightly than the operators of a level
 tighter_read : {tokens : List Token} {e : ExprTree} (r : Readable tokens e) (n : ℕ) (gap : Gap) (at next : ℕ) → n ≤ 11 → Stands tokens at (operand (n + 1) e (expression e) gap) next → Has tokens next (ends (suc n)) → ReadExpr tokens (suc n) e at next
-tighter_read {tokens = tokens} {e = e} r n gap at next le h end = operand_read r (suc n) gap at next (omega arith) (subst (λ m. Stands tokens at (operand m e (expression e) gap) next) (one_up n) h) end
+tighter_read {tokens = tokens} {e = e} r n gap at next le h end = operand_read r (suc n) gap at next (omega arith) (subst (λ m. Stands tokens at (operand m e (expression e) gap) next) (plus_one n) h) end
 
 pub link_read : (tokens : List Token) (here : Span) (op : BinaryOp) (e : ExprTree) (rest : LinkTrees) (n at mid next : ℕ) → (binding op == n) ≡ true → Readable tokens e → Stands tokens at (link_words (link here op e)) mid → MoreLinks tokens n rest mid next → MoreLinks tokens n (link_and (link here op e) rest) at next
 link_read tokens here op e rest n at mid next same r h more =
@@ -80,7 +78,7 @@ pub chain_readable : (tokens : List Token) (here there : Span) (a : ExprTree) (o
 chain_readable tokens here there a op e rest r more_read = record {
   from = λ least gap at next le test h end.
       let one = split (operand (binding op + 1) a (expression a) gap) (links_words (link_and (link there op e) rest)) h in
-      let loose = is_at_most least (binding op) test in
+      let loose = nat_le_at_most least (binding op) test in
       let more = more_read one.mid next one.right (ends_later least (binding op) loose end) in
       let x = tighter_read r (binding op) gap at one.mid (binds_less op) one.left more.begins in
       let level = level_of op in
@@ -100,7 +98,7 @@ choice_readable tokens here a b c ra rb rc = record {
   from = λ least gap at next le test h end.
       let one = split (operand 2 a (expression a) gap) (fixed spaced k.Question ∷ (expression b spaced ++ (fixed spaced k.Colon ∷ operand 1 c (expression c) spaced))) h in
       let two = split (expression b spaced) (fixed spaced k.Colon ∷ operand 1 c (expression c) spaced) (behind one.right) in
-      let loose = is_at_most least 1 test in
+      let loose = nat_le_at_most least 1 test in
       let x = operand_read ra 2 gap at one.mid (omega arith) one.left (has_here (ends 2) (first one.right) refl) in
       let y = whole rb spaced (one.mid + 1) two.mid two.left (has_here (ends 0) (first two.right) refl) in
       let z = operand_read rc 1 spaced (two.mid + 1) next (omega arith) (behind two.right) (ends_later least 1 loose end) in
@@ -144,7 +142,7 @@ pub assign_readable : (tokens : List Token) (here : Span) (op : Option BinaryOp)
 assign_readable tokens here op a b can ra rb = record {
   from = λ least gap at next le test h end.
       let one = split (operand 1 a (expression a) gap) (fixed spaced (assignment_kind op) ∷ expression b spaced) h in
-      let loose = is_at_most least 0 test in
+      let loose = nat_le_at_most least 0 test in
       let rule = assignment_of op can in
       let x = operand_read ra 1 gap at one.mid (omega arith) one.left (has_here (ends 1) (first one.right) rule.goes_on) in
       let y = whole rb spaced (one.mid + 1) next (behind one.right) (ends_later least 0 loose end) in

@@ -2,6 +2,7 @@
 use Rattle.std.proofs.Common.{◌≡◌, ℕ, suc, ◌+◌, List, [], ◌∷◌, ◌++◌, true, None, Some, refl, ap, ◌∙◌, subst, map, slice_get, length, arith, append-nil}
 use Rattle.std.proofs.lemmas.Option.{slice_get_past}
 use Rattle.std.specs.List.{list_all, flat_map}
+use Rattle.pt_base.proofs.Booleans.{and_parts}
 use Rattle.c_lexer.specs.declared.token.Token.{Token}
 use Rattle.c_grammar.specs.declared.symbol.Symbol.TheVariants as s
 use Rattle.c_grammar.specs.Part.{Part, item, items}
@@ -14,7 +15,6 @@ use Rattle.c_printer.specs.Unplaced as u
 use Rattle.c_printer.specs.ReadsBack.{PrintedReadsBack}
 use Rattle.c_printer_law.specs.LexingLaw.{LaidLexes}
 use Rattle.c_printer_law.specs.Laws.{DerivesAgain}
-use Rattle.c_printer_law.proofs.AllKinds.{of_both}
 use Rattle.c_printer_law.proofs.Classes.{begins_spec}
 use Rattle.c_printer_law.proofs.Initialisers.{declaration_read}
 use Rattle.c_printer_law.proofs.Functions.{function_read}
@@ -47,7 +47,7 @@ items_are a b l m i j = cc
 program_read : (tokens : List Token) (program : List ItemTree) (at next : ℕ) → list_all item_plain program ≡ true → Stands tokens at (flat_map item_words program) next → slice_get tokens next ≡ None → Grows tokens s.TranslationUnit at next items (map u.item) (map u.item program)
 program_read tokens [] at next plain h none = no_more_items tokens at next (over h) none
 program_read tokens (x ∷ xs) at next plain h none =
-    let both = of_both (item_plain x) (list_all item_plain xs) plain in
+    let both = and_parts (item_plain x) (list_all item_plain xs) plain in
     let one = split (item_words x) (flat_map item_words xs) h in
     let more = program_read tokens xs one.mid next both.1 one.right none in
     let head = item_read tokens x at one.mid both.0 one.left in

@@ -1,5 +1,6 @@
 -- The words of specifiers and struct bodies read back.
 use Rattle.std.proofs.Common.{◌≡◌, ℕ, ◌+◌, List, [], ◌∷◌, ◌++◌, true, false, Some, refl, ap, map}
+use Rattle.pt_base.proofs.Booleans.{and_parts}
 use Rattle.c_lexer.specs.declared.token.Token.{Token}
 use Rattle.c_lexer.specs.declared.token.TokenKind.TheVariants as k
 use Rattle.c_grammar.specs.declared.symbol.Symbol.TheVariants as s
@@ -16,7 +17,6 @@ use Rattle.c_printer.specs.Kinds.{keyword_kind}
 use Rattle.c_printer.specs.Specifiers.{more_names, names as name_words, declarator_words, more_declarators, declarators as declarators_words, spec_words, struct_body, more_fields, field_words, specifiers}
 use Rattle.c_printer.specs.Plain.{words_plain, spec_plain, each_spec_plain, specs_plain, fields_plain, field_plain}
 use Rattle.c_printer.specs.Unplaced as u
-use Rattle.c_printer_law.proofs.AllKinds.{of_both}
 use Rattle.c_printer_law.proofs.Classes.{only, begins_spec, ends_specs, after_spec, begins_declarator}
 use Rattle.c_printer_law.proofs.Declarators.{more_names_read, declarator_read, more_declarators_read}
 use Rattle.c_printer_law.proofs.Steps.{Has, Stands, first, behind, over, split, Gives, Grows, grows_none, grows_more, enters, enters_by, takes_it, takes_name, builds_on, kind_here, has_here, has_at, settled, weaker, counted_from, is_fixed, wants_as}
@@ -94,7 +94,7 @@ mutual
   spec_read tokens (keyword here x) gap at next plain h end = record { begins = has_here begins_spec (first h) (word_of x).begins; gives = keyword_read tokens x gap at next h }
   spec_read tokens (structure here tag fs) gap at next plain h end =
       let name = first (behind h) in
-      let body = body_read tokens fs (at + 1 + 1) next (of_both _ _ plain).1 (behind (behind h)) end in
+      let body = body_read tokens fs (at + 1 + 1) next (and_parts _ _ plain).1 (behind (behind h)) end in
       record {
         begins = has_here begins_spec (first h) refl;
         gives = record {
@@ -107,7 +107,7 @@ mutual
   body_read : (tokens : List Token) (fs : FieldTrees) (at next : ℕ) → fields_plain fs ≡ true → Stands tokens at (struct_body fs) next → Has tokens next after_spec → Gives tokens s.StructBody at next fields (λ l. u.fields (field_trees l)) (u.fields fs)
   body_read tokens no_fields at next plain h end = record { tree = []; alike = refl; from = λ {rest} {parts} {o} c. enters_by after_spec 30 refl (has_at (over h) end) (builds_on (settled (over h) c)) }
   body_read tokens (field_and f rest) at next plain h end =
-      let both = of_both _ _ plain in
+      let both = and_parts _ _ plain in
       let one = split (field_words f) (more_fields rest ++ (fixed (line 0) k.CloseBrace ∷ [])) (behind h) in
       let two = split (more_fields rest) (fixed (line 0) k.CloseBrace ∷ []) one.right in
       let head = field_read tokens f (at + 1) one.mid both.0 one.left in
@@ -121,19 +121,19 @@ mutual
   more_fields_read : (tokens : List Token) (fs : FieldTrees) (at next : ℕ) → fields_plain fs ≡ true → Stands tokens at (more_fields fs) next → Has tokens next (only k.CloseBrace) → Grows tokens s.Fields at next fields (λ l. u.fields (field_trees l)) (u.fields fs)
   more_fields_read tokens no_fields at next plain h end = grows_none (only k.CloseBrace) 32 refl refl (over h) end refl
   more_fields_read tokens (field_and f rest) at next plain h end =
-      let both = of_both _ _ plain in
+      let both = and_parts _ _ plain in
       let one = split (field_words f) (more_fields rest) h in
       let head = field_read tokens f at one.mid both.0 one.left in
       let more = more_fields_read tokens rest one.mid next both.1 one.right end in
       grows_more head.gives.tree more (λ before rest parts o c. enters_by begins_spec 31 refl head.begins (counted_from head.gives (builds_on c))) (cc)
 
   field_read : (tokens : List Token) (f : FieldTree) (at next : ℕ) → field_plain f ≡ true → Stands tokens at (field_words f) next → ReadField tokens f at next
-  field_read tokens (a_field here ss []) at next plain h = absurd (none_plain (of_both (specs_plain ss) false plain).1)
+  field_read tokens (a_field here ss []) at next plain h = absurd (none_plain (and_parts (specs_plain ss) false plain).1)
     where
       none_plain : false ≡ true → ⊥
       none_plain e = cc
   field_read tokens (a_field here ss (d ∷ ds)) at next plain h =
-      let both = of_both _ _ plain in
+      let both = and_parts _ _ plain in
       let one = split (specifiers ss (line 1)) (declarators_words (d ∷ ds) ++ (fixed tight k.Semicolon ∷ [])) h in
       let two = split (declarators_words (d ∷ ds)) (fixed tight k.Semicolon ∷ []) one.right in
       let three = split (declarator_words d) (more_declarators ds) two.left in
@@ -152,7 +152,7 @@ mutual
   pub specs_read : (tokens : List Token) (ss : SpecTrees) (gap : Gap) (at next : ℕ) → specs_plain ss ≡ true → Stands tokens at (specifiers ss gap) next → Has tokens next ends_specs → ReadSpecs tokens ss at next
   specs_read tokens no_specs gap at next plain h end = cc
   specs_read tokens (spec_and x rest) gap at next plain h end =
-      let both = of_both _ _ plain in
+      let both = and_parts _ _ plain in
       let one = split (spec_words x gap) (specifiers rest spaced) h in
       let more = more_specs_read tokens rest one.mid next both.1 one.right end in
       let head = spec_read tokens x gap at one.mid both.0 one.left more.begins in
@@ -168,7 +168,7 @@ mutual
   more_specs_read : (tokens : List Token) (ss : SpecTrees) (at next : ℕ) → each_spec_plain ss ≡ true → Stands tokens at (specifiers ss spaced) next → Has tokens next ends_specs → MoreSpecs tokens ss at next
   more_specs_read tokens no_specs at next plain h end = record { begins = has_at (over h) (weaker ends_specs after_spec refl end); grows = grows_none ends_specs 12 refl refl (over h) end refl }
   more_specs_read tokens (spec_and x rest) at next plain h end =
-      let both = of_both _ _ plain in
+      let both = and_parts _ _ plain in
       let one = split (spec_words x spaced) (specifiers rest spaced) h in
       let more = more_specs_read tokens rest one.mid next both.1 one.right end in
       let head = spec_read tokens x spaced at one.mid both.0 one.left more.begins in

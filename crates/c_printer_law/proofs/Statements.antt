@@ -1,6 +1,7 @@
 -- The words of statements and blocks read back.
 use Rattle.std.proofs.Common.{◌≡◌, ℕ, ◌+◌, List, [], ◌∷◌, ◌++◌, true, ◌&&◌, Option, None, Some, refl, ap}
 use Rattle.pt_base.specs.declared.span.Span.{Span}
+use Rattle.pt_base.proofs.Booleans.{and_parts, false_true_absurd}
 use Rattle.c_lexer.specs.declared.token.Token.{Token}
 use Rattle.c_lexer.specs.declared.token.TokenKind.TheVariants as k
 use Rattle.c_grammar.specs.declared.symbol.Symbol.TheVariants as s
@@ -14,7 +15,6 @@ use Rattle.c_printer.specs.Expressions.{expression}
 use Rattle.c_printer.specs.Statements.{deeper, condition, maybe, is_block, branch, statement, else_part, statements, declaration as declaration_words}
 use Rattle.c_printer.specs.Plain.{expr_plain, maybe_plain, declaration_plain, stmt_plain, else_plain, stmts_plain}
 use Rattle.c_printer.specs.Unplaced as u
-use Rattle.c_printer_law.proofs.AllKinds.{of_both, untrue}
 use Rattle.c_printer_law.proofs.Classes.{only, starts, ends, begins_spec, begins_stmt, begins_item, after_item}
 use Rattle.c_printer_law.proofs.Operands.{ReadExpr, whole}
 use Rattle.c_printer_law.proofs.Expressions.{expr_read}
@@ -220,32 +220,32 @@ mutual
   stmt_read tokens (nothing here) plain = record { from = λ level gap at next h end. as_item (has_here begins_stmt (first h) refl) (nothing_given tokens here gap at next h) }
   stmt_read tokens (evaluate here e) plain = record { from = λ level gap at next h end. let x = evaluate_given tokens here e gap at next plain h in as_item x.0 x.1 }
   stmt_read tokens (choose here e a b) plain =
-      let one = of_both (expr_plain e) (is_block a && (stmt_plain a && else_plain b)) plain in
-      let two = of_both (is_block a) (stmt_plain a && else_plain b) one.1 in
-      let three = of_both (stmt_plain a) (else_plain b) two.1 in
+      let one = and_parts (expr_plain e) (is_block a && (stmt_plain a && else_plain b)) plain in
+      let two = and_parts (is_block a) (stmt_plain a && else_plain b) one.1 in
+      let three = and_parts (stmt_plain a) (else_plain b) two.1 in
       let ra = branch_read tokens a two.0 three.0 in
       let rb = else_read tokens b three.1 in
       record { from = λ level gap at next h end. as_item (has_here begins_stmt (first h) refl) (choose_given tokens here e a b level gap at next one.0 ra rb h end) }
   stmt_read tokens (while_true here e a) plain =
-      let one = of_both (expr_plain e) (is_block a && stmt_plain a) plain in
-      let two = of_both (is_block a) (stmt_plain a) one.1 in
+      let one = and_parts (expr_plain e) (is_block a && stmt_plain a) plain in
+      let two = and_parts (is_block a) (stmt_plain a) one.1 in
       let ra = branch_read tokens a two.0 two.1 in
       record { from = λ level gap at next h end. as_item (has_here begins_stmt (first h) refl) (while_given tokens here e a level gap at next one.0 ra h) }
-  stmt_read tokens (do_while here a e) plain = absurd (untrue plain)
-  stmt_read tokens (for_each here i b c a) plain = absurd (untrue plain)
+  stmt_read tokens (do_while here a e) plain = absurd (false_true_absurd plain)
+  stmt_read tokens (for_each here i b c a) plain = absurd (false_true_absurd plain)
   stmt_read tokens (give_back here e) plain = record { from = λ level gap at next h end. as_item (has_here begins_stmt (first h) refl) (return_given tokens here e gap at next plain h) }
   stmt_read tokens (stop_loop here) plain = record { from = λ level gap at next h end. as_item (has_here begins_stmt (first h) refl) (break_given tokens here gap at next h) }
   stmt_read tokens (next_turn here) plain = record { from = λ level gap at next h end. as_item (has_here begins_stmt (first h) refl) (continue_given tokens here gap at next h) }
-  stmt_read tokens (switch here e ss) plain = absurd (untrue plain)
+  stmt_read tokens (switch here e ss) plain = absurd (false_true_absurd plain)
 
   branch_read : (tokens : List Token) (x : StmtTree) → is_block x ≡ true → stmt_plain x ≡ true → ReadableBranch tokens x
   branch_read tokens (t.block here items) is plain = let r = stmts_read tokens items plain in record { from = λ level at next h. block_stmt r here (deeper level) level spaced at next h }
-  branch_read tokens x is plain = absurd (untrue is)
+  branch_read tokens x is plain = absurd (false_true_absurd is)
 
   else_read : (tokens : List Token) (x : ElseTree) → else_plain x ≡ true → ReadableElse tokens x
   else_read tokens no_else plain = no_else_readable tokens
-  else_read tokens (t.otherwise a) plain = let both = of_both (is_block a) (stmt_plain a) plain in else_readable tokens a (branch_read tokens a both.0 both.1)
+  else_read tokens (t.otherwise a) plain = let both = and_parts (is_block a) (stmt_plain a) plain in else_readable tokens a (branch_read tokens a both.0 both.1)
 
   pub stmts_read : (tokens : List Token) (items : StmtTrees) → stmts_plain items ≡ true → ReadableStmts tokens items
   stmts_read tokens no_stmts plain = no_more_stmts tokens
-  stmts_read tokens (stmt_and x rest) plain = let both = of_both (stmt_plain x) (stmts_plain rest) plain in one_more_stmt tokens x rest (stmt_read tokens x both.0) (stmts_read tokens rest both.1)
+  stmts_read tokens (stmt_and x rest) plain = let both = and_parts (stmt_plain x) (stmts_plain rest) plain in one_more_stmt tokens x rest (stmt_read tokens x both.0) (stmts_read tokens rest both.1)

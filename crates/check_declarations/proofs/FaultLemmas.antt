@@ -1,9 +1,10 @@
 -- The order of faults, as the derived comparisons give it.
-use Rattle.std.proofs.Common.{◌≡◌, List, Bool, true, false, ◌&&◌, nat_eq, refl, ap, subst, arith}
+use Rattle.std.proofs.Common.{◌≡◌, List, true, ◌&&◌, nat_eq, refl, ap, subst, arith}
 use Rattle.std.proofs.lemmas.Bool.Decides.{nat_tests}
 use Rattle.std.specs.Ordering.{nat_cmp, ordering_then}
 use Rattle.std.specs.List.Sorted.{IsStrictlySortedBy}
 use Rattle.pt_base.specs.declared.span.Span.{Span}
+use Rattle.pt_base.proofs.Booleans.{and_parts}
 use Rattle.check_declarations.specs.declared.fault.FaultKind.{FaultKind}
 use Rattle.check_declarations.specs.declared.fault.FaultKind.TheVariants.{UnknownName, Redeclared, NotLvalue, WrongType, ArgCount, ConstWrite, OutOfProfile, NoMain, TooLarge, BadAttribute}
 use Rattle.check_declarations.specs.declared.fault.TypeFault.{TypeFault}
@@ -45,16 +46,12 @@ fault_cmp_is a b = ap (ordering_then (span_cmp a.span b.span)) (kind_cmp a.kind 
 pub sorted_is : (faults : List TypeFault) → IsStrictlySortedBy fault_ord.ghosts.cmp faults → IsStrictlySortedBy fault_cmp faults
 sorted_is faults h = let same : fault_ord.ghosts.cmp ≡ fault_cmp = (λ i a b. fault_cmp_is a b i) in subst (λ cmp. IsStrictlySortedBy cmp faults) same h
 
-span_same : (a b : Span) → (nat_eq a.from b.from && nat_eq a.to b.to) ≡ true → a ≡ b
+pub span_same : (a b : Span) → (nat_eq a.from b.from && nat_eq a.to b.to) ≡ true → a ≡ b
 span_same a b h = grind (arith, nat_tests)
-
-both : (p q : Bool) → (p && q) ≡ true → (p ≡ true) × (q ≡ true)
-both true q h = (refl, h)
-both false q h = cc
 
 pub fault_same : (a b : TypeFault) → fault_eq.ghosts.eq a b ≡ true → a ≡ b
 fault_same a b h =
-    let same = both (nat_eq a.span.from b.span.from && nat_eq a.span.to b.span.to) (kind_eq.ghosts.eq a.kind b.kind) h in
+    let same = and_parts (nat_eq a.span.from b.span.from && nat_eq a.span.to b.span.to) (kind_eq.ghosts.eq a.kind b.kind) h in
     let place = span_same a.span b.span same.0 in
     let kind = kind_same a.kind b.kind same.1 in
     λ i. record { span = place i; kind = kind i }

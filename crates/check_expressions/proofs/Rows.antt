@@ -8,11 +8,9 @@ use Rattle.pt_tree.specs.declared.expression.Expr.TheVariants as e
 use Rattle.pt_tree.specs.declared.expression.Link.{Link}
 use Rattle.pt_tree.specs.declared.expression.Postfix.{Postfix}
 use Rattle.pt_tree.specs.declared.expression.Postfix.TheVariants as p
-use Rattle.pt_tree.specs.ExpressionTree.{postfix, chain, call, view_expr, view_link, view_postfix, expr_trees, link_trees, postfix_trees}
+use Rattle.pt_tree.specs.ExpressionTree.{postfix, chain, view_expr, view_link, view_postfix, link_trees, postfix_trees}
 use Rattle.pt_tree.proofs.ListsInTrees as rows_of
-
-pub view_call : (s : Span) (es : Vec Expr Global) → view_postfix (p.Call s es) ≡ call s (expr_trees (map view_expr es.items))
-view_call s es = rows_of.view_call s es
+use Rattle.pt_tree.proofs.ListsInTrees.{view_call}
 
 pub view_postfixes : (s : Span) (q : Box Expr Global) (ps : Vec Postfix Global) → view_expr (e.Postfix s q ps) ≡ postfix s (view_expr q.value) (postfix_trees (map view_postfix ps.items))
 view_postfixes s q ps = rows_of.view_postfixes s q.value ps q refl

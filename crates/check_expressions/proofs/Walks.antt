@@ -1,5 +1,5 @@
 -- How the walks over links and arguments go on, and what the parts of an expression give together.
-use Rattle.std.proofs.Common.{append-nil, IfOk, ◌≡◌, ℕ, suc, ◌+◌, ◌<◌, List, [], ◌∷◌, ◌++◌, Bool, length, get_or, drop, drop-cons, add-one, slice_get, is_some, sym, ap, ◌∙◌, append_assoc, subst, refl, Result, Ok, Err, Option, Vec}
+use Rattle.std.proofs.Common.{append-nil, IfOk, ◌≡◌, ℕ, ◌+◌, List, [], ◌∷◌, ◌++◌, Bool, slice_get, is_some, sym, ap, ◌∙◌, append_assoc, subst, refl, Result, Ok, Err, Option, Vec}
 use Rattle.std.specs.declared.alloc.AllocError.{AllocError}
 use Rattle.std.specs.declared.alloc.Global.{Global}
 use Rattle.pt_base.specs.declared.ids.FnId.{FnId}
@@ -25,10 +25,6 @@ use Rattle.check_expressions.specs.Operands.{Known, Made, fine, joined, span_of,
 use Rattle.check_expressions.specs.Prefixes.{cast_to}
 use Rattle.check_expressions.specs.Postfixes.{argument_tree, argument_faults, function_called}
 use Rattle.check_expressions.specs.Views.{known}
-
--- the item at a place stands before the rest
-pub split_at : {A : Type 0} (l : List A) (i : ℕ) (d : A) → i < length l → d ≡ get_or l i d → drop i l ≡ d ∷ drop (i + 1) l
-split_at l i d below is = drop-cons l i d below ∙ rw add-one (ap (λ x. x ∷ drop (suc i) l) (sym is))
 
 -- ---- what operators make
 

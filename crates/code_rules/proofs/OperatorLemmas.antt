@@ -12,17 +12,6 @@ use Rattle.typed_tree.specs.TypeTests.{same_int, integer_of}
 use Rattle.typed_tree.specs.TypeRules.{is_promoted, arithmetic_type, shift_type}
 use Rattle.code_rules.specs.Parts.{takes_right}
 
-pub same_self : (t : IntType) → same_int t t ≡ true
-same_self Char = refl
-same_self SChar = refl
-same_self UChar = refl
-same_self Short = refl
-same_self UShort = refl
-same_self Int = refl
-same_self UInt = refl
-same_self Long = refl
-same_self ULong = refl
-
 usual_self : (t : IntType) → usual t t ≡ promoted t
 usual_self Char = refl
 usual_self SChar = refl

@@ -1,10 +1,11 @@
 -- Fields and variables by their numbers, and where a path of fields leads.
-use Rattle.std.proofs.Common.{◌≡◌, ◌∙◌, ◌<◌, ℕ, suc, List, [], ◌∷◌, length, map, get_or, slice_get, nat_lt, Bool, true, false, not, ◌&&◌, ◌==◌, Option, Some, None, option_map, refl, sym, ap, arith, ⊎_elim, drop, drop-cons, add-one, ◌+◌}
+use Rattle.std.proofs.Common.{◌≡◌, ◌∙◌, ◌<◌, ℕ, List, [], ◌∷◌, length, map, get_or, slice_get, nat_lt, Bool, true, false, not, ◌&&◌, ◌==◌, Option, Some, None, option_map, refl, sym, ap, arith, ⊎_elim, drop, ◌+◌}
 use Rattle.std.specs.Bool.{then_some}
 use Rattle.std.proofs.lemmas.Bool.{lt-ltb, le-ltb, cases_lt}
 use Rattle.std.proofs.lemmas.Option.{slice_get-get_or, slice_get-map, slice_get_past, same_Some}
 use Rattle.pt_base.specs.declared.int_type.IntType.TheVariants as i
 use Rattle.pt_base.specs.declared.span.Span.{Span}
+use Rattle.pt_base.proofs.Places.{drop_step}
 use Rattle.typed_tree.specs.declared.types.VarTy.{VarTy}
 use Rattle.typed_tree.specs.declared.types.VarTy.TheVariants.{Int, Struct}
 use Rattle.typed_tree.specs.declared.types.Field.{Field}
@@ -57,19 +58,13 @@ path_fails structs ty k ks h = go (is_field structs ty k) (field_type structs ty
 
 -- ---- in a loop
 
-pub split_at : {A : Type 0} (l : List A) (i : ℕ) (d : A) → i < length l → d ≡ get_or l i d → drop i l ≡ d ∷ drop (i + 1) l
-split_at l i d below is = drop-cons l i d below ∙ rw add-one (ap (λ x. x ∷ drop (suc i) l) (sym is))
-
-cut : {A : Type 0} (l : List A) (i : ℕ) (d : A) → i < length l → drop i l ≡ get_or l i d ∷ drop (i + 1) l
-cut l i d below = drop-cons l i d below ∙ rw add-one refl
-
 pub path_next : (structs : List StructInfo) (ty next : VarTy) (path : List ℕ) (i : ℕ) (o : Option VarTy) → i < length path → Some next ≡ field_in structs ty (get_or path i 0) → along structs (Some ty) (drop i path) ≡ o → along structs (Some next) (drop (i + 1) path) ≡ o
 path_next structs ty next path i o below is h =
-    path_goes structs ty next (get_or path i 0) (drop (i + 1) path) is ∙ sym (ap (λ ks. along structs (Some ty) ks) (cut path i 0 below)) ∙ h
+    path_goes structs ty next (get_or path i 0) (drop (i + 1) path) is ∙ sym (ap (λ ks. along structs (Some ty) ks) (drop_step path i 0 below)) ∙ h
 
 pub path_stops : (structs : List StructInfo) (ty : VarTy) (path : List ℕ) (i : ℕ) (o : Option VarTy) → i < length path → None ≡ field_in structs ty (get_or path i 0) → along structs (Some ty) (drop i path) ≡ o → None ≡ o
 path_stops structs ty path i o below is h =
-    path_fails structs ty (get_or path i 0) (drop (i + 1) path) is ∙ sym (ap (λ ks. along structs (Some ty) ks) (cut path i 0 below)) ∙ h
+    path_fails structs ty (get_or path i 0) (drop (i + 1) path) is ∙ sym (ap (λ ks. along structs (Some ty) ks) (drop_step path i 0 below)) ∙ h
 
 pub path_named : (a : ExprTree) (s : Span) (path : List ℕ) → not (length path == 0) ≡ is_addressed (place (deref a s) path)
 path_named a s [] = refl

@@ -1,5 +1,5 @@
 -- A search in a list that is in the order of its numbers.
-use Rattle.std.proofs.Common.{◌≡◌, ◌∙◌, ◌<◌, ◌≤◌, ℕ, zero, suc, List, [], ◌∷◌, length, map, get_or, Bool, true, false, cond, Some, None, refl, sym, ap, subst, arith, nat_eq, nat_cmp, Less, Equal, Greater, ⊎_elim}
+use Rattle.std.proofs.Common.{◌≡◌, ◌∙◌, ◌<◌, ◌≤◌, ℕ, zero, suc, List, [], ◌∷◌, length, map, get_or, Some, None, refl, sym, ap, subst, arith, nat_eq, nat_cmp, Less, Equal, Greater, ⊎_elim}
 use Rattle.std.specs.Prelude.{IsTrue, nat_le}
 use Rattle.std.specs.List.{HoldsAt}
 use Rattle.std.specs.List.Sorted.{IsNonDecreasingBy, IsPartitionPoint}
@@ -9,23 +9,14 @@ use Rattle.std.proofs.lemmas.Bool.{cases_lt}
 use Rattle.std.proofs.lemmas.Bool.Decides.{nat_tests}
 use Rattle.std.proofs.lemmas.Cmp.{ranked}
 use Rattle.pt_base.specs.declared.ids.FnId.{FnId}
+use Rattle.pt_base.proofs.Booleans.{both_hold_first, both_hold_second, cond_false, cond_true}
+use Rattle.pt_base.proofs.Lists.{map_map_turned}
+use Rattle.pt_base.proofs.Numbers.{nat_eq_from_suc, nat_eq_other_turned, nat_eq_true_turned}
+use Rattle.pt_base.proofs.Orders.{cmp_greater_apart, cmp_index_rises, cmp_less_apart}
 use Rattle.pt_tree.specs.declared.signature.Signature.{Signature}
 use Rattle.typed_tree.specs.WellFormed.{are_rising}
-use Rattle.typed_tree.proofs.WellFormedLemmas.{and_left, and_right}
 use Rattle.pt_core.specs.declared.global.GlobalVar.{GlobalVar}
 use Rattle.pt_core.specs.CodeTree.{numbered, view_global}
-
-when_true : {A : Type 0} (b : Bool) (x y : A) → b ≡ true → cond b x y ≡ x
-when_true true x y h = refl
-when_true false x y h = cc
-
-when_false : {A : Type 0} (b : Bool) (x y : A) → b ≡ false → cond b x y ≡ y
-when_false false x y h = refl
-when_false true x y h = cc
-
-twice : {A B C : Type 0} (f : A → B) (g : B → C) (xs : List A) → map g (map f xs) ≡ map (λ x. g (f x)) xs
-twice f g [] = refl
-twice f g (x ∷ xs) = ap (λ ys. g (f x) ∷ ys) (twice f g xs)
 
 -- ---- numbers in order
 
@@ -37,10 +28,10 @@ abbrev Rises : {X : Type 0} → (X → ℕ) → ℕ → List X → Type 0
 Rises key low xs = IsTrue (are_rising low (map key xs))
 
 head_is : {X : Type 0} (key : X → ℕ) (low : ℕ) (x : X) (xs : List X) → Rises key low (x ∷ xs) → low ≤ key x
-head_is key low x xs h = let first = and_left (nat_le low (key x)) (are_rising (suc (key x)) (map key xs)) h in grind (arith, nat_tests, first)
+head_is key low x xs h = let first = both_hold_first (nat_le low (key x)) (are_rising (suc (key x)) (map key xs)) h in grind (arith, nat_tests, first)
 
 rest_rises : {X : Type 0} (key : X → ℕ) (low : ℕ) (x : X) (xs : List X) → Rises key low (x ∷ xs) → Rises key (suc (key x)) xs
-rest_rises key low x xs h = and_right (nat_le low (key x)) (are_rising (suc (key x)) (map key xs)) h
+rest_rises key low x xs h = both_hold_second (nat_le low (key x)) (are_rising (suc (key x)) (map key xs)) h
 
 -- none is below where they begin
 no_less : {X : Type 0} (key : X → ℕ) (low : ℕ) (xs : List X) (i : ℕ) (d : X) → Rises key low xs → i < length xs → low ≤ key (get_or xs i d)
@@ -61,29 +52,20 @@ rise key low (x ∷ xs) zero (suc j) d h le within =
 rise key low (x ∷ xs) (suc i) zero d h le within = absurd (omega arith)
 rise key low (x ∷ xs) (suc i) (suc j) d h le within = rise key (suc (key x)) xs i j d (rest_rises key low x xs h) (omega arith) (omega arith)
 
-index_rises : (x y f : ℕ) → x ≤ y → ordering_index (nat_cmp x f) ≤ ordering_index (nat_cmp y f)
-index_rises x y f le = grind (arith, nat_tests)
-
 orders_rise : {X : Type 0} (key : X → ℕ) (f : ℕ) (xs : List X) → Rises key 0 xs → IsNonDecreasingBy (λ x. ordering_index (nat_cmp (key x) f)) xs
-orders_rise key f xs h = λ i j d le within. index_rises (key (get_or xs i d)) (key (get_or xs j d)) f (rise key 0 xs i j d h le within)
+orders_rise key f xs h = λ i j d le within. cmp_index_rises (key (get_or xs i d)) (key (get_or xs j d)) f (rise key 0 xs i j d h le within)
 
 -- ---- what is found
-
-hit : (f k : ℕ) → k ≡ f → nat_eq f k ≡ true
-hit f k e = grind (arith, nat_tests)
-
-passed : (f k : ℕ) → suc k ≤ f → nat_eq f k ≡ false
-passed f k lt = grind (arith, nat_tests)
 
 found_at : {X V : Type 0} (key : X → ℕ) (value : X → V) (low f : ℕ) (xs : List X) (i : ℕ) (x : X) → Rises key low xs → i < length xs → x ≡ get_or xs i x → key x ≡ f →
     lookup (nat_eq f) (entries key value xs) ≡ Some (value x)
 found_at key value low f [] i x h within is same = absurd (omega arith)
 found_at key value low f (y ∷ ys) zero x h within is same =
-    when_true (nat_eq f (key y)) (Some (value y)) (lookup (nat_eq f) (entries key value ys)) (hit f (key y) (ap key (sym is) ∙ same)) ∙ ap (λ z. Some (value z)) (sym is)
+    cond_true (nat_eq f (key y)) (Some (value y)) (lookup (nat_eq f) (entries key value ys)) (nat_eq_true_turned f (key y) (ap key (sym is) ∙ same)) ∙ ap (λ z. Some (value z)) (sym is)
 found_at key value low f (y ∷ ys) (suc i) x h within is same =
     let above : suc (key y) ≤ key (get_or ys i x) = no_less key (suc (key y)) ys i x (rest_rises key low y ys h) (omega arith) in
     let there : key (get_or ys i x) ≡ f = ap key (sym is) ∙ same in
-    when_false (nat_eq f (key y)) (Some (value y)) (lookup (nat_eq f) (entries key value ys)) (passed f (key y) (omega (arith, above, there)))
+    cond_false (nat_eq f (key y)) (Some (value y)) (lookup (nat_eq f) (entries key value ys)) (nat_eq_from_suc f (key y) (omega (arith, above, there)))
     ∙ found_at key value (suc (key y)) f ys i x (rest_rises key low y ys h) (omega arith) is same
 
 -- the search ends at an entry
@@ -91,27 +73,11 @@ found_entry : {X V : Type 0} (key : X → ℕ) (value : X → V) (f : ℕ) (xs :
     lookup (nat_eq f) (entries key value xs) ≡ Some (value x)
 found_entry key value f xs i x h within equal is = found_at key value 0 f xs i x h within is (ap key is ∙ ranked (key (get_or xs i x)) f Equal (sym (equal x)))
 
-missed : (f k : ℕ) → (k ≡ f → ⊥) → nat_eq f k ≡ false
-missed f k other = go (nat_eq f k) refl
-  where
-    same : nat_eq f k ≡ true → k ≡ f
-    same e = grind (arith, nat_tests)
-
-    go : (b : Bool) → nat_eq f k ≡ b → nat_eq f k ≡ false
-    go false e = e
-    go true e = absurd (other (same e))
-
 none_by : {X V : Type 0} (key : X → ℕ) (value : X → V) (f : ℕ) (xs : List X) → ((i : ℕ) (d : X) → i < length xs → key (get_or xs i d) ≡ f → ⊥) → lookup (nat_eq f) (entries key value xs) ≡ None
 none_by key value f [] other = refl
 none_by key value f (y ∷ ys) other =
-    when_false (nat_eq f (key y)) (Some (value y)) (lookup (nat_eq f) (entries key value ys)) (missed f (key y) (other zero y (omega arith)))
+    cond_false (nat_eq f (key y)) (Some (value y)) (lookup (nat_eq f) (entries key value ys)) (nat_eq_other_turned f (key y) (other zero y (omega arith)))
     ∙ none_by key value f ys (λ i d within. other (suc i) d (omega arith))
-
-not_less : (k f : ℕ) → nat_cmp k f ≡ Less → k ≡ f → ⊥
-not_less k f is e = grind (arith, nat_tests)
-
-not_greater : (k f : ℕ) → nat_cmp k f ≡ Greater → k ≡ f → ⊥
-not_greater k f is e = grind (arith, nat_tests)
 
 -- or between those that are less and those that are greater
 no_entry : {X V : Type 0} (key : X → ℕ) (value : X → V) (f : ℕ) (xs : List X) (i : ℕ) → Rises key 0 xs
@@ -119,7 +85,7 @@ no_entry : {X V : Type 0} (key : X → ℕ) (value : X → V) (f : ℕ) (xs : Li
     → lookup (nat_eq f) (entries key value xs) ≡ None
 no_entry key value f xs i h parted =
     let halves = parted (orders_rise key f xs h) in
-    none_by key value f xs (λ j d within same. ⊎_elim (λ lt. not_less (key (get_or xs j d)) f (halves.0 j d (omega arith) lt) same) (λ le. not_greater (key (get_or xs j d)) f (halves.1 j d le within) same) (cases_lt j i))
+    none_by key value f xs (λ j d within same. ⊎_elim (λ lt. cmp_less_apart (key (get_or xs j d)) f (halves.0 j d (omega arith) lt) same) (λ le. cmp_greater_apart (key (get_or xs j d)) f (halves.1 j d le within) same) (cases_lt j i))
 
 -- ---- signatures
 
@@ -127,7 +93,7 @@ abbrev number_of : FnId × Signature → ℕ
 number_of s = s.0.0
 
 signatures_rise : (xs : List (FnId × Signature)) → IsTrue (are_rising 0 (map (λ s. s.0) (numbered xs))) → Rises number_of 0 xs
-signatures_rise xs h = subst (λ ns. IsTrue (are_rising 0 ns)) (twice (λ (x : FnId × Signature). (x.0.0, x.1)) (λ (s : ℕ × Signature). s.0) xs) h
+signatures_rise xs h = subst (λ ns. IsTrue (are_rising 0 ns)) (map_map_turned (λ (x : FnId × Signature). (x.0.0, x.1)) (λ (s : ℕ × Signature). s.0) xs) h
 
 pub found_signature : (xs : List (FnId × Signature)) (f i : ℕ) (x : FnId × Signature) → IsTrue (are_rising 0 (map (λ s. s.0) (numbered xs))) → i < length xs → HoldsAt (λ (y : FnId × Signature). nat_cmp y.0.0 f ≡ Equal) xs i → x ≡ get_or xs i x →
     lookup (nat_eq f) (numbered xs) ≡ Some x.1
@@ -144,15 +110,15 @@ abbrev global_number : GlobalVar → ℕ
 global_number g = g.id.0
 
 globals_rise : (xs : List GlobalVar) → IsTrue (are_rising 0 (map (λ g. g.id) (map view_global xs))) → Rises global_number 0 xs
-globals_rise xs h = subst (λ ns. IsTrue (are_rising 0 ns)) (twice view_global (λ g. g.id) xs) h
+globals_rise xs h = subst (λ ns. IsTrue (are_rising 0 ns)) (map_map_turned view_global (λ g. g.id) xs) h
 
 pub found_global : (xs : List GlobalVar) (f i : ℕ) (x : GlobalVar) → IsTrue (are_rising 0 (map (λ g. g.id) (map view_global xs))) → i < length xs → HoldsAt (λ (y : GlobalVar). nat_cmp y.id.0 f ≡ Equal) xs i → x ≡ get_or xs i x →
     lookup (nat_eq f) (map (λ g. (g.id, g.var.ty)) (map view_global xs)) ≡ Some x.var.ty
 found_global xs f i x h within equal is =
-    ap (lookup (nat_eq f)) (twice view_global (λ g. (g.id, g.var.ty)) xs) ∙ found_entry global_number (λ y. y.var.ty) f xs i x (globals_rise xs h) within equal is
+    ap (lookup (nat_eq f)) (map_map_turned view_global (λ g. (g.id, g.var.ty)) xs) ∙ found_entry global_number (λ y. y.var.ty) f xs i x (globals_rise xs h) within equal is
 
 pub no_global : (xs : List GlobalVar) (f i : ℕ) → IsTrue (are_rising 0 (map (λ g. g.id) (map view_global xs)))
     → (IsNonDecreasingBy (λ (y : GlobalVar). ordering_index (nat_cmp y.id.0 f)) xs → IsPartitionPoint (λ (y : GlobalVar). nat_cmp y.id.0 f ≡ Less) (λ (y : GlobalVar). nat_cmp y.id.0 f ≡ Greater) xs i)
     → lookup (nat_eq f) (map (λ g. (g.id, g.var.ty)) (map view_global xs)) ≡ None
 no_global xs f i h parted =
-    ap (lookup (nat_eq f)) (twice view_global (λ g. (g.id, g.var.ty)) xs) ∙ no_entry global_number (λ y. y.var.ty) f xs i (globals_rise xs h) parted
+    ap (lookup (nat_eq f)) (map_map_turned view_global (λ g. (g.id, g.var.ty)) xs) ∙ no_entry global_number (λ y. y.var.ty) f xs i (globals_rise xs h) parted

@@ -2,6 +2,7 @@
 use Rattle.std.proofs.Common.{◌≡◌, ◌∙◌, ℕ, List, [], ◌∷◌, Bool, true, false, ◌&&◌, ◌==◌, Option, Some, None, is_some, option_map, refl, sym, ap, arith, length, map, nat_lt, drop, get_or, ◌+◌, ◌<◌}
 use Rattle.std.specs.Bool.{then_some}
 use Rattle.pt_base.specs.declared.int_type.IntType.{IntType}
+use Rattle.pt_base.proofs.Places.{drop_step_at}
 use Rattle.pt_tree.specs.declared.signature.Param.{Param}
 use Rattle.typed_tree.specs.declared.types.VarTy.{VarTy}
 use Rattle.typed_tree.specs.declared.types.VarTy.TheVariants.{Int}
@@ -15,7 +16,6 @@ use Rattle.pt_core.specs.WellFormedExpression.{expr_fits, place_fits, stands_for
 use Rattle.pt_core.specs.WellFormedStatement.{Scope, is_compound, value_fits, arguments_fit, result_fits, stmt_fits, stmts_fit}
 use Rattle.code_rules.specs.Parts.{stands, stores, copies, receives}
 use Rattle.code_rules.specs.Typing.{typed, placed, rooted}
-use Rattle.code_rules.proofs.PathLemmas.{split_at}
 
 -- ---- over tests and types
 
@@ -90,13 +90,13 @@ pub arguments_next : (c : Context) (p : Param) (after : List Param) (xs : List E
     arguments_fit c (p ∷ after) (expr_trees (map view_expr (drop i xs))) ≡ all → arguments_fit c after (expr_trees (map view_expr (drop (i + 1) xs))) ≡ all
 arguments_next c p after xs i x n all below is fits holds h =
     ap (λ b. b && arguments_fit c after (expr_trees (map view_expr (drop (i + 1) xs)))) (sym holds ∙ fits)
-    ∙ sym (ap (λ ys. arguments_fit c (p ∷ after) (expr_trees (map view_expr ys))) (split_at xs i x below is)) ∙ h
+    ∙ sym (ap (λ ys. arguments_fit c (p ∷ after) (expr_trees (map view_expr ys))) (drop_step_at xs i x below is)) ∙ h
 
 pub arguments_stop : (c : Context) (p : Param) (after : List Param) (xs : List Expr) (i : ℕ) (x : Expr) (n all : Bool) → i < length xs → x ≡ get_or xs i x → n ≡ value_fits c (param_type p.kind) (view_expr x) → n ≡ false →
     arguments_fit c (p ∷ after) (expr_trees (map view_expr (drop i xs))) ≡ all → false ≡ all
 arguments_stop c p after xs i x n all below is fits fails h =
     ap (λ b. b && arguments_fit c after (expr_trees (map view_expr (drop (i + 1) xs)))) (sym fails ∙ fits)
-    ∙ sym (ap (λ ys. arguments_fit c (p ∷ after) (expr_trees (map view_expr ys))) (split_at xs i x below is)) ∙ h
+    ∙ sym (ap (λ ys. arguments_fit c (p ∷ after) (expr_trees (map view_expr ys))) (drop_step_at xs i x below is)) ∙ h
 
 -- ---- lists of statements
 
@@ -104,7 +104,7 @@ pub statements_next : (k : Scope) (looped : Bool) (xs : List Stmt) (i : ℕ) (x 
     stmts_fit k looped (stmt_trees (map view_stmt (drop i xs))) ≡ all → stmts_fit k looped (stmt_trees (map view_stmt (drop (i + 1) xs))) ≡ all
 statements_next k looped xs i x n all below is fits holds h =
     ap (λ b. b && stmts_fit k looped (stmt_trees (map view_stmt (drop (i + 1) xs)))) (sym holds ∙ fits)
-    ∙ sym (ap (λ ys. stmts_fit k looped (stmt_trees (map view_stmt ys))) (split_at xs i x below is)) ∙ h
+    ∙ sym (ap (λ ys. stmts_fit k looped (stmt_trees (map view_stmt ys))) (drop_step_at xs i x below is)) ∙ h
 
 -- ---- two branches
 

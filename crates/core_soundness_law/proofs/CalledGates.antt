@@ -4,9 +4,9 @@ use Rattle.std.specs.Prelude.{Result, Ok, Err, IsTrue, if◌then◌else◌, ◌|
 use Rattle.std.specs.List.{list_all}
 use Rattle.pt_base.specs.declared.int_type.IntType.{IntType}
 use Rattle.pt_base.specs.declared.span.Span.{Span}
+use Rattle.pt_base.proofs.Booleans.{both_hold_first}
 use Rattle.runs.specs.Run.{deepest}
 use Rattle.block_memory.specs.declared.cell.Cell.{Cell}
-use Rattle.typed_tree.proofs.WellFormedLemmas.{and_left}
 use Rattle.pt_core.specs.CodeTree.{StmtTree, clear, check, assign, copy, call, choose, repeat, break_out, continue_on, give_back, StmtTrees, no_stmts, stmt_and, ProgramTree}
 use Rattle.pt_core.specs.Values.{Stop, number_in, value_of, values_of, location_of}
 use Rattle.pt_core.specs.Statements.{assigned, copied, returned_value}
@@ -71,7 +71,7 @@ module _ {G : Type 0} (program : ProgramTree) (gate : Gate G) (g : G) (P : G →
   stays_act m a rest work (copy to of) c = stays_each (copied (context_in program a.function) a.depth to of m.blocks) m _ (λ blocks. p)
   stays_act m a rest work (call f args result span) c =
       stays_each (values_of (context_in program a.function) a.depth args m.blocks) m _
-      (λ vs. stays_way m a rest work span f vs result a.depth (gate.way g f vs) (and_left (is_called program f) true c) refl)
+      (λ vs. stays_way m a rest work span f vs result a.depth (gate.way g f vs) (both_hold_first (is_called program f) true c) refl)
   stays_act m a rest work (choose x first second) c = stays_each (value_of (context_in program a.function) a.depth x m.blocks) m _ (λ v. p)
   stays_act m a rest work (repeat body span) c = stays_begin m a rest body work
   stays_act m a rest work break_out c = p

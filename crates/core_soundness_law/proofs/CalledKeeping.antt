@@ -4,7 +4,7 @@ use Rattle.std.specs.Prelude.{Result, Ok, Err, IsTrue, is_some, if◌then◌else
 use Rattle.std.specs.List.{list_all}
 use Rattle.block_memory.specs.declared.cell.Cell.{Cell}
 use Rattle.pt_base.specs.declared.span.Span.{Span}
-use Rattle.typed_tree.proofs.WellFormedLemmas.{and_left}
+use Rattle.pt_base.proofs.Booleans.{both_hold_first}
 use Rattle.pt_core.specs.CodeTree.{StmtTree, clear, check, assign, copy, call, choose, repeat, break_out, continue_on, give_back, StmtTrees, no_stmts, stmt_and, ProgramTree}
 use Rattle.pt_core.specs.Values.{Stop, number_in, values_of}
 use Rattle.pt_core.specs.Calls.{signature_in, context_in}
@@ -54,7 +54,7 @@ module _ {G : Type 0} (program : ProgramTree) (gate : Gate G) where
   same_act m g a rest work (copy to of) c = refl
   same_act m g a rest work (call f args result span) c =
       same_value (values_of (context_in program a.function) a.depth args m.blocks) m g _ _
-      (λ vs. ap (λ w. by_way program (limited program gate) (working m a rest work) g span f vs result a.depth w) (true_way (is_called program f) (gate.way g f vs) (and_left (is_called program f) true c))
+      (λ vs. ap (λ w. by_way program (limited program gate) (working m a rest work) g span f vs result a.depth w) (true_way (is_called program f) (gate.way g f vs) (both_hold_first (is_called program f) true c))
       ∙ same_way (working m a rest work) g span f vs result a.depth (gate.way g f vs))
   same_act m g a rest work (choose x first second) c = refl
   same_act m g a rest work (repeat body span) c = refl

@@ -6,10 +6,10 @@ use Rattle.pt_base.specs.declared.int_type.IntType.{IntType}
 use Rattle.pt_base.specs.declared.span.Span.{Span}
 use Rattle.std.proofs.lemmas.Bool.{leb-true}
 use Rattle.pt_base.specs.declared.trap.Trap.TheVariants.{Depth}
+use Rattle.pt_base.proofs.Booleans.{both_hold as and_both, both_hold_first, both_hold_second}
 use Rattle.runs.specs.Run.{deepest}
 use Rattle.block_memory.specs.declared.cell.Cell.{Cell}
 use Rattle.block_memory.specs.Blocks.{Blocks}
-use Rattle.typed_tree.proofs.WellFormedLemmas.{and_left, and_right, and_both}
 use Rattle.pt_core.specs.CodeTree.{StmtTree, clear, check, assign, copy, call, choose, repeat, break_out, continue_on, give_back, StmtTrees, no_stmts, stmt_and, FunctionTree, ProgramTree}
 use Rattle.pt_core.specs.Values.{Stop, holds_in, number_in, value_of, values_of, location_of}
 use Rattle.pt_core.specs.Statements.{assigned, copied, returned_value}
@@ -27,16 +27,16 @@ Holds own fs = IsTrue (list_all own fs)
 pub first_holds : (own : ℕ → Bool) (xs ys : List ℕ) → Holds own (xs ++ ys) → Holds own xs
 first_holds own [] ys h = refl
 first_holds own (x ∷ xs) ys h =
-    and_both (own x) (list_all own xs) (and_left (own x) (list_all own (xs ++ ys)) h) (first_holds own xs ys (and_right (own x) (list_all own (xs ++ ys)) h))
+    and_both (own x) (list_all own xs) (both_hold_first (own x) (list_all own (xs ++ ys)) h) (first_holds own xs ys (both_hold_second (own x) (list_all own (xs ++ ys)) h))
 
 pub second_holds : (own : ℕ → Bool) (xs ys : List ℕ) → Holds own (xs ++ ys) → Holds own ys
 second_holds own [] ys h = h
-second_holds own (x ∷ xs) ys h = second_holds own xs ys (and_right (own x) (list_all own (xs ++ ys)) h)
+second_holds own (x ∷ xs) ys h = second_holds own xs ys (both_hold_second (own x) (list_all own (xs ++ ys)) h)
 
 both_hold : (own : ℕ → Bool) (xs ys : List ℕ) → Holds own xs → Holds own ys → Holds own (xs ++ ys)
 both_hold own [] ys h k = k
 both_hold own (x ∷ xs) ys h k =
-    and_both (own x) (list_all own (xs ++ ys)) (and_left (own x) (list_all own xs) h) (both_hold own xs ys (and_right (own x) (list_all own xs) h) k)
+    and_both (own x) (list_all own (xs ++ ys)) (both_hold_first (own x) (list_all own xs) h) (both_hold own xs ys (both_hold_second (own x) (list_all own xs) h) k)
 
 -- each of them is among these
 among_more : (f x : ℕ) (xs : List ℕ) → IsTrue (list_any (nat_eq f) xs) → IsTrue (list_any (nat_eq f) (x ∷ xs))
@@ -62,7 +62,7 @@ among_behind f (x ∷ xs) ys h = among_more f x (xs ++ ys) (among_behind f xs ys
 
 all_wider : (p q : ℕ → Bool) (xs : List ℕ) → ((f : ℕ) → IsTrue (p f) → IsTrue (q f)) → Holds p xs → Holds q xs
 all_wider p q [] more h = refl
-all_wider p q (x ∷ xs) more h = and_both (q x) (list_all q xs) (more x (and_left (p x) (list_all p xs) h)) (all_wider p q xs more (and_right (p x) (list_all p xs) h))
+all_wider p q (x ∷ xs) more h = and_both (q x) (list_all q xs) (more x (both_hold_first (p x) (list_all p xs) h)) (all_wider p q xs more (both_hold_second (p x) (list_all p xs) h))
 
 -- the first part of a list is in it
 all_among : (xs ys : List ℕ) → Holds (λ f. list_any (nat_eq f) (xs ++ ys)) xs
@@ -202,7 +202,7 @@ module _ {G : Type 0} (program : ProgramTree) (gate : Gate G) where
       calls_value (copied (context_in program a.function) a.depth to of m.blocks) m g _ own (λ blocks. calls_working m g a rest work blocks h k)
   calls_act m g a rest work (call f args result span) own c h k =
       calls_value (values_of (context_in program a.function) a.depth args m.blocks) m g _ own
-      (λ vs. calls_way m g a rest work span f vs result a.depth (gate.way g f vs) (and_left (is_called program f) true c) h k)
+      (λ vs. calls_way m g a rest work span f vs result a.depth (gate.way g f vs) (both_hold_first (is_called program f) true c) h k)
   calls_act m g a rest work (choose x first second) own c h k =
       calls_value (value_of (context_in program a.function) a.depth x m.blocks) m g _ own (λ v. chosen (holds_in v))
     where

@@ -1,6 +1,7 @@
 -- A function is entered with arguments that fit its parameters.
 use Rattle.std.proofs.Common.{◌≡◌, ◌∙◌, ◌≤◌, ℕ, suc, ◌+◌, refl, ap, sym, subst, arith, Bool, true, false, Some, List, [], ◌∷◌, map, if◌then◌else◌}
 use Rattle.std.specs.Prelude.{IsTrue, ◌&&◌, slice_get}
+use Rattle.pt_base.proofs.Booleans.{both_hold_first, both_hold_second, false_not_true}
 use Rattle.pt_tree.specs.declared.signature.Param.{Param}
 use Rattle.pt_tree.specs.declared.signature.ParamKind.{ParamKind}
 use Rattle.pt_tree.specs.declared.signature.ParamKind.TheVariants as kind
@@ -11,12 +12,12 @@ use Rattle.typed_tree.specs.declared.variable.Var.{Var}
 use Rattle.typed_tree.specs.TypeTests.{same_type, same_bool, is_scalar}
 use Rattle.typed_tree.specs.WellFormed.{params_lead}
 use Rattle.typed_tree.specs.WellFormedExpression.{param_type}
-use Rattle.typed_tree.proofs.WellFormedLemmas.{and_left, and_right}
 use Rattle.block_memory.specs.declared.cell.Cell.{Cell}
 use Rattle.block_memory.specs.declared.cell.BlockName.{BlockName}
 use Rattle.block_memory.specs.declared.cell.BlockName.TheVariants.{Local}
 use Rattle.block_memory.specs.Block.{with_cell}
 use Rattle.block_memory.specs.Blocks.{Blocks, is_same_name}
+use Rattle.block_memory.proofs.BlocksLemmas.{same_name}
 use Rattle.pt_core.specs.CodeTree.{ProgramTree}
 use Rattle.pt_core.specs.Values.{written}
 use Rattle.pt_core.specs.Calls.{context_in, with_arguments}
@@ -26,9 +27,8 @@ use Rattle.core_soundness_law.specs.Fits.{ValueFits, BlockFits, LocalFits, varia
 use Rattle.core_soundness_law.specs.Laws.{LocationFits}
 use Rattle.core_soundness_law.specs.Outside.{ArgumentsFit}
 use Rattle.typed_tree.proofs.SameTypes.{equal_types}
-use Rattle.core_soundness_law.proofs.Leaves.{never}
 use Rattle.core_soundness_law.proofs.Objects.{variable_lies}
-use Rattle.core_soundness_law.proofs.Memory.{SameTypes, same_name, pointer_stays, pointer_deeper}
+use Rattle.core_soundness_law.proofs.Memory.{SameTypes, pointer_stays, pointer_deeper}
 use Rattle.core_soundness_law.proofs.Settings.{same_depth}
 use Rattle.core_soundness_law.proofs.Stores.{stored}
 
@@ -98,12 +98,12 @@ arguments_entered kept program a rest blocks v (p ∷ ps) (x ∷ vs) mem lead f 
 -- parameters lead where the code's test says so
 pub leads : (ps : List Param) (xs : List Var) (all : List VarTy) (v : ℕ) → ((k : ℕ) → slice_get (map (λ x. x.ty) xs) k ≡ slice_get all (v + k)) → IsTrue (params_lead ps xs) → Lead all v ps
 leads [] xs all v same h = tt {0}
-leads (p ∷ ps) [] all v same h = never h
+leads (p ∷ ps) [] all v same h = false_not_true h
 leads (p ∷ ps) (x ∷ xs) all v same h =
-    let here : IsTrue (same_type (param_type p.kind) x.ty && same_bool p.marked x.marked) = and_left (same_type (param_type p.kind) x.ty && same_bool p.marked x.marked) (params_lead ps xs) h in
-    let type : param_type p.kind ≡ x.ty = equal_types (param_type p.kind) x.ty (and_left (same_type (param_type p.kind) x.ty) (same_bool p.marked x.marked) here) in (
+    let here : IsTrue (same_type (param_type p.kind) x.ty && same_bool p.marked x.marked) = both_hold_first (same_type (param_type p.kind) x.ty && same_bool p.marked x.marked) (params_lead ps xs) h in
+    let type : param_type p.kind ≡ x.ty = equal_types (param_type p.kind) x.ty (both_hold_first (same_type (param_type p.kind) x.ty) (same_bool p.marked x.marked) here) in (
       ap (λ k. slice_get all k) (plus_zero v) ∙ sym (same 0) ∙ ap Some (sym type),
-      leads ps xs all (v + 1) (λ k. same (suc k) ∙ ap (λ j. slice_get all j) (moved v k)) (and_right (same_type (param_type p.kind) x.ty && same_bool p.marked x.marked) (params_lead ps xs) h),
+      leads ps xs all (v + 1) (λ k. same (suc k) ∙ ap (λ j. slice_get all j) (moved v k)) (both_hold_second (same_type (param_type p.kind) x.ty && same_bool p.marked x.marked) (params_lead ps xs) h),
     )
   where
     plus_zero : (v : ℕ) → v ≡ v + 0

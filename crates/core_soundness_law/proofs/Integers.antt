@@ -3,6 +3,7 @@ use Rattle.std.proofs.Common.{◌≡◌, ◌∙◌, ◌<◌, ℕ, zero, suc, ◌
 use Rattle.std.proofs.Math.Nat.{suc-mul}
 use Rattle.std.specs.Prelude.{slice_index_or}
 use Rattle.pt_base.specs.declared.int_type.IntType.{IntType}
+use Rattle.pt_base.proofs.Numbers.{as_zero_plus, suc_plus}
 use Rattle.block_memory.specs.declared.cell.Cell.{Cell}
 use Rattle.block_memory.specs.declared.cell.Cell.TheVariants as cell
 use Rattle.typed_tree.specs.Cells.{repeated}
@@ -18,17 +19,11 @@ begins_in (x ∷ types) (t ∷ ts) zero [] h g = tt {0}
 begins_in (x ∷ types) (t ∷ ts) zero (u ∷ us) h g = (h.0 ∙ g.0, begins_in types ts zero us h.1 g.1)
 begins_in (x ∷ types) (t ∷ ts) (suc k) us h g = begins_in types ts k us h.1 g
 
-from_zero : (k : ℕ) → k ≡ 0 + k
-from_zero k = omega arith
-
-from_suc : (n k : ℕ) → suc (n + k) ≡ suc n + k
-from_suc n k = omega arith
-
 -- what lies in a part lies in the whole
 pub lies_in : (types : List IntType) (n : ℕ) (ts : List IntType) (k : ℕ) (us : List IntType) → LieAt types n ts → LieAt ts k us → LieAt types (n + k) us
-lies_in types zero ts k us h g = subst (λ m. LieAt types m us) (from_zero k) (begins_in types ts k us h g)
+lies_in types zero ts k us h g = subst (λ m. LieAt types m us) (as_zero_plus k) (begins_in types ts k us h g)
 lies_in [] (suc n) ts k us h g = elim h [ ]
-lies_in (x ∷ types) (suc n) ts k us h g = subst (λ m. LieAt (x ∷ types) m us) (from_suc n k) (lies_in types n ts k us h g)
+lies_in (x ∷ types) (suc n) ts k us h g = subst (λ m. LieAt (x ∷ types) m us) (suc_plus n k) (lies_in types n ts k us h g)
 
 pub begins_own : (xs ys : List IntType) → BeginsWith (xs ++ ys) xs
 begins_own [] ys = tt {0}
@@ -40,8 +35,8 @@ begins_self (x ∷ xs) = (refl, begins_self xs)
 
 -- what lies in the second part lies that much further in both
 pub lies_behind : (xs ys : List IntType) (n : ℕ) (zs : List IntType) → LieAt ys n zs → LieAt (xs ++ ys) (length xs + n) zs
-lies_behind [] ys n zs h = subst (λ m. LieAt ys m zs) (from_zero n) h
-lies_behind (x ∷ xs) ys n zs h = subst (λ m. LieAt (x ∷ (xs ++ ys)) m zs) (from_suc (length xs) n) (lies_behind xs ys n zs h)
+lies_behind [] ys n zs h = subst (λ m. LieAt ys m zs) (as_zero_plus n) h
+lies_behind (x ∷ xs) ys n zs h = subst (λ m. LieAt (x ∷ (xs ++ ys)) m zs) (suc_plus (length xs) n) (lies_behind xs ys n zs h)
 
 -- the cell where an integer lies fits its type
 pub integer_at : (kept : Kept) (types : List IntType) (cells : List Cell) (n : ℕ) (t : IntType) → IntegersFit kept types cells → LieAt types n (t ∷ []) → IntegerFits kept t (slice_index_or cells n (cell.Int (pos 0)))

@@ -1,10 +1,13 @@
 -- Where fields lie, and that nothing is empty: an array has no more elements than integers.
-use Rattle.std.proofs.Common.{◌≡◌, ◌∙◌, ◌≤◌, ◌<◌, ◌^◌, ℕ, zero, suc, ◌+◌, refl, ap, sym, subst, arith, Bool, true, false, Option, Some, None, List, [], ◌∷◌, ◌++◌, length, length-append}
-use Rattle.std.specs.Prelude.{IsTrue, ◌&&◌, slice_get, get_or, take, nat_lt, nat_le}
+use Rattle.std.proofs.Common.{◌≡◌, ◌∙◌, ◌≤◌, ◌<◌, ◌^◌, ℕ, zero, suc, ◌+◌, refl, ap, sym, subst, arith, Bool, false, Option, Some, None, List, [], ◌∷◌, ◌++◌, length, length-append}
+use Rattle.std.specs.Prelude.{IsTrue, ◌&&◌, slice_get, get_or, take, nat_le}
 use Rattle.std.specs.List.{list_all, flat_map}
 use Rattle.std.proofs.lemmas.Bool.Decides.{nat_tests}
+use Rattle.std.proofs.lemmas.Option.{get_or_from_slice_get, slice_get-get_or}
 use Rattle.pt_base.specs.declared.int_type.IntType.{IntType}
 use Rattle.pt_base.specs.declared.int_type.IntType.TheVariants as i
+use Rattle.pt_base.proofs.Booleans.{both_hold_first, both_hold_second, false_not_true}
+use Rattle.pt_base.proofs.Numbers.{below_holds}
 use Rattle.pt_tree.specs.declared.signature.Elem.{Elem}
 use Rattle.pt_tree.specs.declared.signature.Elem.TheVariants as e
 use Rattle.typed_tree.specs.declared.types.VarTy.{VarTy}
@@ -17,7 +20,6 @@ use Rattle.typed_tree.specs.TypeTests.{type_of_elem}
 use Rattle.typed_tree.specs.WellFormed.{is_plain_type, is_variable_type, is_small, field_sound, struct_sound, structs_sound}
 use Rattle.typed_tree.specs.WellFormedExpression.{is_elem}
 use Rattle.typed_tree.proofs.LeavesLemmas.{leaves_of_int, leaves_of_array, leaves_of_struct}
-use Rattle.typed_tree.proofs.WellFormedLemmas.{and_left, and_right}
 use Rattle.source_meaning.proofs.SizeLemmas.{sizes}
 use Rattle.pt_core.specs.Types.{field_type}
 use Rattle.pt_core.specs.Values.{offset_in}
@@ -25,36 +27,20 @@ use Rattle.pt_core.specs.WellFormedExpression.{is_field}
 use Rattle.core_soundness_law.specs.Fits.{LieAt, BeginsWith}
 use Rattle.core_soundness_law.proofs.Integers.{begins_own, lies_behind}
 
-pub never : {X : Type 0} → false ≡ true → X
-never h = cc
-
 -- ---- lists
-
-got_or : {A : Type 0} (xs : List A) (k : ℕ) (x y : A) → slice_get xs k ≡ Some x → get_or xs k y ≡ x
-got_or [] k x y h = cc
-got_or (z ∷ zs) zero x y h = cc
-got_or (z ∷ zs) (suc k) x y h = got_or zs k x y h
 
 none_or : {A : Type 0} (xs : List A) (k : ℕ) (y : A) → slice_get xs k ≡ None → get_or xs k y ≡ y
 none_or [] k y h = refl
 none_or (z ∷ zs) zero y h = cc
 none_or (z ∷ zs) (suc k) y h = none_or zs k y h
 
-pub got_below : {A : Type 0} (xs : List A) (k : ℕ) (y : A) → k < length xs → slice_get xs k ≡ Some (get_or xs k y)
-got_below [] k y h = absurd (grind (arith, h))
-got_below (x ∷ xs) zero y h = refl
-got_below (x ∷ xs) (suc k) y h = got_below xs k y (omega (arith, h))
-
 pub all_at : {A : Type 0} (P : A → Bool) (xs : List A) (k : ℕ) (x : A) → slice_get xs k ≡ Some x → IsTrue (list_all P xs) → IsTrue (P x)
 all_at P [] k x is h = cc
-all_at P (z ∷ zs) zero x is h = let same : z ≡ x = inner is in subst (λ w. IsTrue (P w)) same (and_left (P z) (list_all P zs) h)
+all_at P (z ∷ zs) zero x is h = let same : z ≡ x = inner is in subst (λ w. IsTrue (P w)) same (both_hold_first (P z) (list_all P zs) h)
   where
     inner : Some z ≡ Some x → z ≡ x
     inner e = cc
-all_at P (z ∷ zs) (suc k) x is h = all_at P zs k x is (and_right (P z) (list_all P zs) h)
-
-pub below : (n m : ℕ) → IsTrue (nat_lt n m) → n < m
-below n m h = grind (arith, nat_tests)
+all_at P (z ∷ zs) (suc k) x is h = all_at P zs k x is (both_hold_second (P z) (list_all P zs) h)
 
 -- ---- fields
 
@@ -98,21 +84,21 @@ pub field_of : (structs : List StructInfo) (n k : ℕ) → IsTrue (is_field stru
 field_of structs n k h = at_struct (slice_get structs n) refl
   where
     less : k < length (fields_of structs n)
-    less = below k (length (fields_of structs n)) h
+    less = below_holds k (length (fields_of structs n)) h
 
     at_struct : (o : Option StructInfo) → slice_get structs n ≡ o → FieldOf structs n k
     at_struct None e =
         let none : fields_of structs n ≡ [] = ap fields_in (none_or structs n no_struct e) in
         let no : length (fields_of structs n) ≡ 0 = ap length none in absurd (omega (arith, less, no))
     at_struct (Some s) e =
-        let fs : fields_of structs n ≡ s.fields = ap fields_in (got_or structs n s no_struct e) in
+        let fs : fields_of structs n ≡ s.fields = ap fields_in (get_or_from_slice_get structs n s no_struct e) in
         let long : length (fields_of structs n) ≡ length s.fields = ap length fs in
         record {
           struct_ = s;
           field = get_or s.fields k no_field;
           is_struct = e;
           fields = fs;
-          is_field = got_below s.fields k no_field (omega (arith, less, long));
+          is_field = slice_get-get_or s.fields k no_field (omega (arith, less, long));
           typed = ap (λ (zs : List Field). type_in_field (get_or zs k no_field)) fs;
         }
 
@@ -133,7 +119,7 @@ struct_at all [] m i s h is = cc
 struct_at all (x ∷ ss) m zero s h is =
     let same : x ≡ s = inner is in
     subst (λ (z : StructInfo). IsTrue (struct_sound all (m + 0) z)) same
-    (subst (λ j. IsTrue (struct_sound all j x)) (plus_zero m) (and_left (struct_sound all m x) (structs_sound all (suc m) ss) h))
+    (subst (λ j. IsTrue (struct_sound all j x)) (plus_zero m) (both_hold_first (struct_sound all m x) (structs_sound all (suc m) ss) h))
   where
     inner : Some x ≡ Some s → x ≡ s
     inner e = cc
@@ -141,7 +127,7 @@ struct_at all (x ∷ ss) m zero s h is =
     plus_zero : (j : ℕ) → j ≡ j + 0
     plus_zero j = omega arith
 struct_at all (x ∷ ss) m (suc i) s h is =
-    subst (λ j. IsTrue (struct_sound all j s)) (moved m i) (struct_at all ss (suc m) i s (and_right (struct_sound all m x) (structs_sound all (suc m) ss) h) is)
+    subst (λ j. IsTrue (struct_sound all j s)) (moved m i) (struct_at all ss (suc m) i s (both_hold_second (struct_sound all m x) (structs_sound all (suc m) ss) h) is)
   where
     moved : (m i : ℕ) → suc m + i ≡ m + suc i
     moved m i = omega arith
@@ -154,7 +140,7 @@ sound_at structs n s h is = subst (λ j. IsTrue (struct_sound structs j s)) (plu
 
 -- ---- nothing is empty
 
-many : (count : ℕ) (ts : List IntType) → 1 ≤ length ts → count ≤ length (repeated count ts)
+pub many : (count : ℕ) (ts : List IntType) → 1 ≤ length ts → count ≤ length (repeated count ts)
 many zero ts h = omega arith
 many (suc count) ts h = let long = length-append ts (repeated count ts) in let rest = many count ts h in omega (arith, long, rest, h)
 
@@ -163,21 +149,21 @@ HasLeaf structs ty = 1 ≤ length (leaves_of structs ty)
 
 leaf_of_elem : (structs : List StructInfo) (n : ℕ) → ((m : ℕ) → m < n → HasLeaf structs (Struct m)) → (elem : Elem) → IsTrue (is_elem n (Some elem)) → HasLeaf structs (type_of_elem elem)
 leaf_of_elem structs n known (e.Int t) h = let one : length (leaves_of structs (Int t)) ≡ 1 = ap length (leaves_of_int structs t) in omega (arith, one)
-leaf_of_elem structs n known (e.Struct m) h = known m (below m n h)
+leaf_of_elem structs n known (e.Struct m) h = known m (below_holds m n h)
 
 leaf_of_plain : (structs : List StructInfo) (n : ℕ) → ((m : ℕ) → m < n → HasLeaf structs (Struct m)) → (ty : VarTy) → IsTrue (is_plain_type n ty) → HasLeaf structs ty
 leaf_of_plain structs n known (Int t) h = let one : length (leaves_of structs (Int t)) ≡ 1 = ap length (leaves_of_int structs t) in omega (arith, one)
-leaf_of_plain structs n known (Struct m) h = known m (below m n h)
+leaf_of_plain structs n known (Struct m) h = known m (below_holds m n h)
 leaf_of_plain structs n known (Array elem count) h =
-    let item : HasLeaf structs (type_of_elem elem) = leaf_of_elem structs n known elem (and_left (is_elem n (Some elem)) (nat_le 1 count) h) in
-    let some : IsTrue (nat_le 1 count) = and_right (is_elem n (Some elem)) (nat_le 1 count) h in
+    let item : HasLeaf structs (type_of_elem elem) = leaf_of_elem structs n known elem (both_hold_first (is_elem n (Some elem)) (nat_le 1 count) h) in
+    let some : IsTrue (nat_le 1 count) = both_hold_second (is_elem n (Some elem)) (nat_le 1 count) h in
     let one : 1 ≤ count = at_least count some in
     let all : length (leaves_of structs (Array elem count)) ≡ length (repeated count (leaves_of structs (type_of_elem elem))) = ap length (leaves_of_array structs elem count) in
     let long = many count (leaves_of structs (type_of_elem elem)) item in omega (arith, one, all, long)
   where
     at_least : (count : ℕ) → IsTrue (nat_le 1 count) → 1 ≤ count
     at_least count h = grind (arith, nat_tests)
-leaf_of_plain structs n known (Pointer elem fixed) h = never h
+leaf_of_plain structs n known (Pointer elem fixed) h = false_not_true h
 
 leaf_of_struct : (structs : List StructInfo) → IsTrue (structs_sound structs 0 structs) → (n : ℕ) → ((m : ℕ) → m < n → HasLeaf structs (Struct m)) → (s : StructInfo) → slice_get structs n ≡ Some s → HasLeaf structs (Struct n)
 leaf_of_struct structs sound n known s is = go s.fields refl (sound_at structs n s sound is)
@@ -186,15 +172,15 @@ leaf_of_struct structs sound n known s is = go s.fields refl (sound_at structs n
     all = leaves_of_struct structs n s sound is
 
     go : (fs : List Field) → s.fields ≡ fs → IsTrue (nat_le 1 (length s.fields) && list_all (field_sound structs n) s.fields) → HasLeaf structs (Struct n)
-    go [] e h = let some : IsTrue (nat_le 1 (length s.fields)) = and_left (nat_le 1 (length s.fields)) (list_all (field_sound structs n) s.fields) h in
+    go [] e h = let some : IsTrue (nat_le 1 (length s.fields)) = both_hold_first (nat_le 1 (length s.fields)) (list_all (field_sound structs n) s.fields) h in
         let long : length s.fields ≡ 0 = ap length e in absurd (too_few (length s.fields) some long)
       where
         too_few : (k : ℕ) → IsTrue (nat_le 1 k) → k ≡ 0 → ⊥
         too_few k h e = grind (arith, nat_tests)
     go (f ∷ fs) e h =
-        let fits : IsTrue (list_all (field_sound structs n) (f ∷ fs)) = subst (λ zs. IsTrue (list_all (field_sound structs n) zs)) e (and_right (nat_le 1 (length s.fields)) (list_all (field_sound structs n) s.fields) h) in
-        let one : IsTrue (field_sound structs n f) = and_left (field_sound structs n f) (list_all (field_sound structs n) fs) fits in
-        let first : HasLeaf structs f.ty = leaf_of_plain structs n known f.ty (and_left (is_plain_type n f.ty) (is_small structs f.ty) one) in
+        let fits : IsTrue (list_all (field_sound structs n) (f ∷ fs)) = subst (λ zs. IsTrue (list_all (field_sound structs n) zs)) e (both_hold_second (nat_le 1 (length s.fields)) (list_all (field_sound structs n) s.fields) h) in
+        let one : IsTrue (field_sound structs n f) = both_hold_first (field_sound structs n f) (list_all (field_sound structs n) fs) fits in
+        let first : HasLeaf structs f.ty = leaf_of_plain structs n known f.ty (both_hold_first (is_plain_type n f.ty) (is_small structs f.ty) one) in
         let long : length (leaves_of structs (Struct n)) ≡ length (leaves_of structs f.ty ++ flat_map (λ (g : Field). leaves_of structs g.ty) fs) =
         ap length (all ∙ ap (λ zs. flat_map (λ (g : Field). leaves_of structs g.ty) zs) e) in
         let sum = length-append (leaves_of structs f.ty) (flat_map (λ (g : Field). leaves_of structs g.ty) fs) in omega (arith, first, long, sum)
@@ -202,7 +188,7 @@ leaf_of_struct structs sound n known s is = go s.fields refl (sound_at structs n
 leaves_below : (structs : List StructInfo) → IsTrue (structs_sound structs 0 structs) → (bound n : ℕ) → n < bound → n < length structs → HasLeaf structs (Struct n)
 leaves_below structs sound zero n h low = absurd (omega (arith, h))
 leaves_below structs sound (suc bound) n h low =
-    leaf_of_struct structs sound n (λ m less. leaves_below structs sound bound m (omega (arith, h, less)) (omega (arith, low, less))) (get_or structs n no_struct) (got_below structs n no_struct low)
+    leaf_of_struct structs sound n (λ m less. leaves_below structs sound bound m (omega (arith, h, less)) (omega (arith, low, less))) (get_or structs n no_struct) (slice_get-get_or structs n no_struct low)
 
 pub struct_leaf : (structs : List StructInfo) → IsTrue (structs_sound structs 0 structs) → (n : ℕ) → n < length structs → HasLeaf structs (Struct n)
 struct_leaf structs sound n low = leaves_below structs sound (suc n) n (omega arith) low
@@ -222,11 +208,11 @@ counted structs sound n low (Struct m) h small = tt {0}
 counted structs sound n low (Pointer elem fixed) h small = tt {0}
 counted structs sound n low (Array elem count) h small =
     let item : HasLeaf structs (type_of_elem elem) =
-    leaf_of_elem structs n (λ m less. struct_leaf structs sound m (omega (arith, low, less))) elem (and_left (is_elem n (Some elem)) (nat_le 1 count) h) in
+    leaf_of_elem structs n (λ m less. struct_leaf structs sound m (omega (arith, low, less))) elem (both_hold_first (is_elem n (Some elem)) (nat_le 1 count) h) in
     let all : length (leaves_of structs (Array elem count)) ≡ length (repeated count (leaves_of structs (type_of_elem elem))) = ap length (leaves_of_array structs elem count) in
     let long = many count (leaves_of structs (type_of_elem elem)) item in
     let most = few (length (leaves_of structs (Array elem count))) small in
-    (at_least count (and_right (is_elem n (Some elem)) (nat_le 1 count) h), omega (arith, all, long, most))
+    (at_least count (both_hold_second (is_elem n (Some elem)) (nat_le 1 count) h), omega (arith, all, long, most))
   where
     at_least : (count : ℕ) → IsTrue (nat_le 1 count) → 1 ≤ count
     at_least count h = grind (arith, nat_tests)

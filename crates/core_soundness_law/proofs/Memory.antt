@@ -2,8 +2,8 @@
 use Rattle.std.proofs.Common.{◌≡◌, ◌∙◌, ◌≤◌, ℕ, zero, suc, ◌+◌, pos, nat_eq, refl, ap, sym, subst, arith, Bool, true, false, Option, Some, None, List, [], ◌∷◌, length, if◌then◌else◌}
 use Rattle.std.specs.Prelude.{slice_get, slice_set, take, drop, replicate}
 use Rattle.std.specs.Map.{lookup}
-use Rattle.std.proofs.lemmas.Bool.Decides.{nat_tests}
 use Rattle.pt_base.specs.declared.int_type.IntType.{IntType}
+use Rattle.pt_base.proofs.Numbers.{as_plus_one}
 use Rattle.pt_tree.specs.declared.signature.Elem.{Elem}
 use Rattle.typed_tree.specs.declared.types.VarTy.{VarTy}
 use Rattle.typed_tree.specs.declared.types.VarTy.TheVariants.{Int, Struct, Array, Pointer}
@@ -17,6 +17,7 @@ use Rattle.block_memory.specs.declared.cell.BlockName.{BlockName}
 use Rattle.block_memory.specs.declared.cell.BlockName.TheVariants.{Local, Global, Received}
 use Rattle.block_memory.specs.Block.{Block, no_block, fresh, with_cell}
 use Rattle.block_memory.specs.Blocks.{Blocks, is_same_name, put}
+use Rattle.block_memory.proofs.BlocksLemmas.{is_same_name-self, same_name}
 use Rattle.pt_core.specs.CodeTree.{ProgramTree}
 use Rattle.pt_core.specs.Types.{shape_of}
 use Rattle.pt_core.specs.Values.{written, all_written}
@@ -24,9 +25,7 @@ use Rattle.pt_core.specs.Calls.{context_in}
 use Rattle.pt_core.specs.Steps.{Active}
 use Rattle.core_soundness_law.specs.Kept.{Kept}
 use Rattle.core_soundness_law.specs.Fits.{IntegerFits, IntegersFit, BeginsWith, LieAt, depth_of, PointerFits, HasPointer, BlockFits, LocalFits, variables_at, MemoryFits}
-use Rattle.core_soundness_law.proofs.Leaves.{never}
 use Rattle.core_soundness_law.proofs.Numbers.{zero_fits}
-use Rattle.typed_tree.proofs.WellFormedLemmas.{and_left, and_right}
 
 -- ---- pointers see the types of blocks alone
 
@@ -68,29 +67,6 @@ local_stays kept structs blocks others depth None block same f = f
 local_stays kept structs blocks others depth (Some ty) block same f = block_stays kept structs blocks others depth ty block same f
 
 -- ---- one block is replaced
-
-pub same_name : (a b : BlockName) → is_same_name a b ≡ true → a ≡ b
-same_name (Local d v) (Local e w) h = both (number d e (and_left (nat_eq d e) (nat_eq v w) h)) (number v w (and_right (nat_eq d e) (nat_eq v w) h))
-  where
-    number : (m n : ℕ) → nat_eq m n ≡ true → m ≡ n
-    number m n h = grind (arith, nat_tests)
-
-    both : d ≡ e → v ≡ w → Local d v ≡ Local e w
-    both p q = ap (λ x. Local x v) p ∙ ap (λ x. Local e x) q
-same_name (Local d v) (Global g) h = never h
-same_name (Local d v) (Received n) h = never h
-same_name (Global g) (Local d v) h = never h
-same_name (Global g) (Global k) h = ap Global (number g k h)
-  where
-    number : (m n : ℕ) → nat_eq m n ≡ true → m ≡ n
-    number m n h = grind (arith, nat_tests)
-same_name (Global g) (Received n) h = never h
-same_name (Received n) (Local d v) h = never h
-same_name (Received n) (Global g) h = never h
-same_name (Received n) (Received k) h = ap Received (number n k h)
-  where
-    number : (m n : ℕ) → nat_eq m n ≡ true → m ≡ n
-    number m n h = grind (arith, nat_tests)
 
 abbrev block_of : List IntType → List Cell → Block
 block_of types cells = record { types = types; cells = cells }
@@ -199,16 +175,8 @@ rest_lies types zero t ts h = rest_begins types t ts h
 rest_lies [] (suc n) t ts h = elim h [ ]
 rest_lies (x ∷ types) (suc n) t ts h = rest_lies types n t ts h
 
-next_cell : (n : ℕ) → suc n ≡ n + 1
-next_cell n = omega arith
-
-same_self : (b : BlockName) → is_same_name b b ≡ true
-same_self (Local d v) = grind (arith, nat_tests)
-same_self (Global g) = grind (arith, nat_tests)
-same_self (Received n) = grind (arith, nat_tests)
-
 types_kept : (blocks : Blocks) (name : BlockName) (n : ℕ) (c : Cell) → (blocks name).types ≡ (written blocks name n c name).types
-types_kept blocks name n c = ap (λ t. (if t then with_cell (blocks name) n c else blocks name).types) (sym (same_self name))
+types_kept blocks name n c = ap (λ t. (if t then with_cell (blocks name) n c else blocks name).types) (sym (is_same_name-self name))
 
 pub integers_all_written : (kept : Kept) (program : ProgramTree) (active : List Active) (blocks : Blocks) (name : BlockName) (n : ℕ) (ts : List IntType) (cs : List Cell) → MemoryFits kept program active blocks → LieAt (blocks name).types n ts → IntegersFit kept ts cs →
     MemoryFits kept program active (all_written blocks name n cs)
@@ -217,7 +185,7 @@ integers_all_written kept program active blocks name n [] (c ∷ cs) mem h f = e
 integers_all_written kept program active blocks name n (t ∷ ts) [] mem h f = elim f [ ]
 integers_all_written kept program active blocks name n (t ∷ ts) (c ∷ cs) mem h f =
     integers_all_written kept program active (written blocks name n c) name (n + 1) ts cs (integer_written kept program active blocks name n t c mem (first_lies (blocks name).types n t ts h) f.0)
-    (subst (λ xs. LieAt xs (n + 1) ts) (types_kept blocks name n c) (subst (λ k. LieAt (blocks name).types k ts) (next_cell n) (rest_lies (blocks name).types n t ts h))) f.1
+    (subst (λ xs. LieAt xs (n + 1) ts) (types_kept blocks name n c) (subst (λ k. LieAt (blocks name).types k ts) (as_plus_one n) (rest_lies (blocks name).types n t ts h))) f.1
 
 -- the cells where types lie fit them
 taken_fit : (kept : Kept) (types ts : List IntType) (cells : List Cell) → IntegersFit kept types cells → BeginsWith types ts → IntegersFit kept ts (take (length ts) cells)

@@ -32,7 +32,7 @@ use Rattle.core_soundness_law.specs.Fits.{IntegerFits, ValueFits}
 pub in_range : (t : IntType) (v : ℤ) → InRange t v → IsTrue (is_in_range t v)
 in_range t v h = grind (arith, ints, h.0, h.1)
 
-range_of : (t : IntType) (v : ℤ) → IsTrue (is_in_range t v) → InRange t v
+pub range_of : (t : IntType) (v : ℤ) → IsTrue (is_in_range t v) → InRange t v
 range_of t v h = (grind (arith, ints), grind (arith, ints))
 
 -- the number of a cell that fits; a handle's is 0

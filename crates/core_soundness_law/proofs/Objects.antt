@@ -1,5 +1,5 @@
 -- Objects and pointers in a setting: what a function's code sees of the memory that fits.
-use Rattle.std.proofs.Common.{◌≡◌, ◌≤◌, ℕ, zero, suc, ◌+◌, ◌*◌, ℤ, pos, negsuc, ◌+ℤ◌, refl, ap, sym, subst, arith, Bool, true, false, Some, None, Result, Ok, Err, IfOk, if◌then◌else◌, List, [], ◌∷◌, ◌++◌, length}
+use Rattle.std.proofs.Common.{◌≡◌, ◌≤◌, ℕ, zero, suc, ◌+◌, ◌*◌, ℤ, pos, negsuc, ◌+ℤ◌, refl, ap, sym, subst, arith, Bool, true, false, Some, None, Result, Ok, Err, IfOk, if◌then◌else◌, List, [], ◌∷◌, length}
 use Rattle.std.specs.Prelude.{IsTrue, slice_get, slice_index_or, nat_lt, nat_le, nat_eq, is_some}
 use Rattle.std.specs.List.{list_all}
 use Rattle.std.specs.Map.{lookup}
@@ -9,6 +9,9 @@ use Rattle.pt_base.specs.declared.int_type.IntType.{IntType}
 use Rattle.pt_base.specs.declared.span.Span.{Span}
 use Rattle.pt_base.specs.declared.trap.Trap.{Trap}
 use Rattle.pt_base.specs.declared.trap.Trap.TheVariants.{Bounds}
+use Rattle.pt_base.proofs.Booleans.{both_hold_first, both_hold_second, false_not_true}
+use Rattle.pt_base.proofs.Lists.{as_append_nil}
+use Rattle.pt_base.proofs.Numbers.{at_most_self, zero_at_most}
 use Rattle.pt_tree.specs.declared.signature.Elem.{Elem}
 use Rattle.pt_tree.specs.declared.signature.Elem.TheVariants as e
 use Rattle.typed_tree.specs.declared.types.VarTy.{VarTy}
@@ -19,7 +22,6 @@ use Rattle.typed_tree.specs.Sizes.{elem_cells, sizes_of}
 use Rattle.typed_tree.specs.TypeTests.{type_of_elem, is_scalar, item_of, pointee_of, element_of}
 use Rattle.typed_tree.specs.WellFormed.{is_plain_type, is_variable_type, is_small, field_sound, structs_sound}
 use Rattle.typed_tree.proofs.LeavesLemmas.{leaves_of_int, leaves_of_array}
-use Rattle.typed_tree.proofs.WellFormedLemmas.{and_left, and_right}
 use Rattle.source_meaning.proofs.SizeLemmas.{sizes}
 use Rattle.runs.specs.Pointers.{Target, cell_at, up_to, at_index, moved}
 use Rattle.block_memory.specs.declared.cell.Cell.{Cell}
@@ -36,7 +38,7 @@ use Rattle.core_soundness_law.specs.Kept.{Kept}
 use Rattle.core_soundness_law.specs.Fits.{IntegerFits, BeginsWith, LieAt, depth_of, Points, PointerFits, ValueFits, HasPointer, BlockFits}
 use Rattle.core_soundness_law.specs.Laws.{ObjectLies, LocationFits}
 use Rattle.core_soundness_law.proofs.Integers.{lies_in, begins_self, element_lies}
-use Rattle.core_soundness_law.proofs.Leaves.{never, all_at, FieldOf, field_of, field_in, sound_at, IsCounted, counted}
+use Rattle.core_soundness_law.proofs.Leaves.{all_at, FieldOf, field_of, field_in, sound_at, IsCounted, counted}
 
 -- What a function of this depth sees: its variables and the globals have their types, and wherever an
 -- integer lies its cell fits it.
@@ -53,21 +55,15 @@ pub part_lies : (c : Context) (blocks : Blocks) (depth m : ℕ) (ty : VarTy) (at
 part_lies c blocks depth m (Int t) at h near lies = (near, lies)
 part_lies c blocks depth m (Struct n) at h near lies = (near, lies)
 part_lies c blocks depth m (Array elem count) at h near lies = (near, lies)
-part_lies c blocks depth m (Pointer elem fixed) at h near lies = never h
+part_lies c blocks depth m (Pointer elem fixed) at h near lies = false_not_true h
 
 whole_lies : (structs : List StructInfo) (blocks : Blocks) (b : BlockName) (ty : VarTy) → (blocks b).types ≡ leaves_of structs ty → LieAt (blocks b).types 0 (leaves_of structs ty)
 whole_lies structs blocks b ty is = subst (λ ts. BeginsWith ts (leaves_of structs ty)) (sym is) (begins_self (leaves_of structs ty))
 
-same_depth : (n : ℕ) → n ≤ n
-same_depth n = omega arith
-
-no_depth : (n : ℕ) → 0 ≤ n
-no_depth n = omega arith
-
 pub variable_lies : (kept : Kept) (c : Context) (blocks : Blocks) (depth v : ℕ) (ty : VarTy) → slice_get c.variables v ≡ Some ty → BlockFits kept c.structs blocks depth ty (blocks (Local depth v)) → ObjectLies c blocks depth ty (record { block = Local depth v; cell = 0; ty = ty })
-variable_lies kept c blocks depth v (Int t) is h = (same_depth depth, whole_lies c.structs blocks (Local depth v) (Int t) h.types_are)
-variable_lies kept c blocks depth v (Struct n) is h = (same_depth depth, whole_lies c.structs blocks (Local depth v) (Struct n) h.types_are)
-variable_lies kept c blocks depth v (Array elem count) is h = (same_depth depth, whole_lies c.structs blocks (Local depth v) (Array elem count) h.types_are)
+variable_lies kept c blocks depth v (Int t) is h = (at_most_self depth, whole_lies c.structs blocks (Local depth v) (Int t) h.types_are)
+variable_lies kept c blocks depth v (Struct n) is h = (at_most_self depth, whole_lies c.structs blocks (Local depth v) (Struct n) h.types_are)
+variable_lies kept c blocks depth v (Array elem count) is h = (at_most_self depth, whole_lies c.structs blocks (Local depth v) (Array elem count) h.types_are)
 variable_lies kept c blocks depth v (Pointer elem fixed) is h = (v, is, refl, refl)
 
 pub local_fits : (kept : Kept) (c : Context) (depth : ℕ) (blocks : Blocks) → Setting kept c depth blocks → (v : ℕ) (ty : VarTy) → slice_get c.variables v ≡ Some ty → LocationFits c blocks depth ty (record { block = Local depth v; cell = 0; ty = ty })
@@ -76,7 +72,7 @@ local_fits kept c depth blocks s v ty is = record { typed = refl; lies = variabl
 pub global_fits : (kept : Kept) (c : Context) (depth : ℕ) (blocks : Blocks) → Setting kept c depth blocks → (g : ℕ) (ty : VarTy) → lookup (nat_eq g) c.globals ≡ Some ty → LocationFits c blocks depth ty (record { block = Global g; cell = 0; ty = ty })
 global_fits kept c depth blocks s g ty is =
     let of = s.globals g ty is in
-    record { typed = refl; lies = part_lies c blocks depth (length c.structs) ty (record { block = Global g; cell = 0; ty = ty }) of.1 (no_depth depth) (whole_lies c.structs blocks (Global g) ty of.0) }
+    record { typed = refl; lies = part_lies c blocks depth (length c.structs) ty (record { block = Global g; cell = 0; ty = ty }) of.1 (zero_at_most depth) (whole_lies c.structs blocks (Global g) ty of.0) }
 
 -- ---- along a path
 
@@ -86,7 +82,7 @@ field_fits kept c depth blocks s n k at h fits =
     let of : FieldOf c.structs n k = field_of c.structs n k h in
     let sound = sound_at c.structs n of.struct_ s.sound of.is_struct in
     let plain : IsTrue (is_plain_type n of.field.ty) =
-    and_left (is_plain_type n of.field.ty) (is_small c.structs of.field.ty) (all_at (field_sound c.structs n) of.struct_.fields k of.field of.is_field (and_right (nat_le 1 (length of.struct_.fields)) (list_all (field_sound c.structs n) of.struct_.fields) sound)) in
+    both_hold_first (is_plain_type n of.field.ty) (is_small c.structs of.field.ty) (all_at (field_sound c.structs n) of.struct_.fields k of.field of.is_field (both_hold_second (nat_le 1 (length of.struct_.fields)) (list_all (field_sound c.structs n) of.struct_.fields) sound)) in
     record {
       typed = ap (λ u. field_type c.structs u k) fits.typed;
       lies = part_lies c blocks depth n (field_type c.structs (Struct n) k) (field_at c k at) (subst (λ u. IsTrue (is_plain_type n u)) (sym of.typed) plain) fits.lies.0
@@ -97,19 +93,19 @@ field_fits kept c depth blocks s n k at h fits =
 pub path_fits : (kept : Kept) (c : Context) (depth : ℕ) (blocks : Blocks) → Setting kept c depth blocks → (path : List ℕ) (ty : VarTy) (at : Location) → IsTrue (is_path c.structs ty path) → LocationFits c blocks depth ty at →
     LocationFits c blocks depth (path_type c.structs ty path) (along c path at)
 path_fits kept c depth blocks s [] ty at h fits = fits
-path_fits kept c depth blocks s (k ∷ ks) (Int t) at h fits = never h
-path_fits kept c depth blocks s (k ∷ ks) (Array elem count) at h fits = never h
-path_fits kept c depth blocks s (k ∷ ks) (Pointer elem fixed) at h fits = never h
+path_fits kept c depth blocks s (k ∷ ks) (Int t) at h fits = false_not_true h
+path_fits kept c depth blocks s (k ∷ ks) (Array elem count) at h fits = false_not_true h
+path_fits kept c depth blocks s (k ∷ ks) (Pointer elem fixed) at h fits = false_not_true h
 path_fits kept c depth blocks s (k ∷ ks) (Struct n) at h fits =
     path_fits kept c depth blocks s ks (field_type c.structs (Struct n) k) (field_at c k at)
-    (and_right (is_field c.structs (Struct n) k) (is_path c.structs (field_type c.structs (Struct n) k) ks) h)
-    (field_fits kept c depth blocks s n k at (and_left (is_field c.structs (Struct n) k) (is_path c.structs (field_type c.structs (Struct n) k) ks) h) fits)
+    (both_hold_second (is_field c.structs (Struct n) k) (is_path c.structs (field_type c.structs (Struct n) k) ks) h)
+    (field_fits kept c depth blocks s n k at (both_hold_first (is_field c.structs (Struct n) k) (is_path c.structs (field_type c.structs (Struct n) k) ks) h) fits)
 
 pub plain_variable : (n : ℕ) (ty : VarTy) → IsTrue (is_plain_type n ty) → IsTrue (is_variable_type n ty)
 plain_variable n (Int t) h = h
 plain_variable n (Struct m) h = h
 plain_variable n (Array elem count) h = h
-plain_variable n (Pointer elem fixed) h = never h
+plain_variable n (Pointer elem fixed) h = false_not_true h
 
 got_less : {A : Type 0} (xs : List A) (k : ℕ) (x : A) → slice_get xs k ≡ Some x → k ≤ length xs
 got_less [] k x h = cc
@@ -120,19 +116,19 @@ field_counted : (structs : List StructInfo) → IsTrue (structs_sound structs 0 
 field_counted structs sound n k h =
     let of : FieldOf structs n k = field_of structs n k h in
     let fits : IsTrue (field_sound structs n of.field) = all_at (field_sound structs n) of.struct_.fields k of.field of.is_field
-    (and_right (nat_le 1 (length of.struct_.fields)) (list_all (field_sound structs n) of.struct_.fields) (sound_at structs n of.struct_ sound of.is_struct)) in
+    (both_hold_second (nat_le 1 (length of.struct_.fields)) (list_all (field_sound structs n) of.struct_.fields) (sound_at structs n of.struct_ sound of.is_struct)) in
     subst IsCounted (sym of.typed)
-    (counted structs sound n (got_less structs n of.struct_ of.is_struct) of.field.ty (plain_variable n of.field.ty (and_left (is_plain_type n of.field.ty) (is_small structs of.field.ty) fits))
-    (and_right (is_plain_type n of.field.ty) (is_small structs of.field.ty) fits))
+    (counted structs sound n (got_less structs n of.struct_ of.is_struct) of.field.ty (plain_variable n of.field.ty (both_hold_first (is_plain_type n of.field.ty) (is_small structs of.field.ty) fits))
+    (both_hold_second (is_plain_type n of.field.ty) (is_small structs of.field.ty) fits))
 
 pub path_counted : (structs : List StructInfo) → IsTrue (structs_sound structs 0 structs) → (path : List ℕ) (ty : VarTy) → IsTrue (is_path structs ty path) → IsCounted ty → IsCounted (path_type structs ty path)
 path_counted structs sound [] ty h is = is
-path_counted structs sound (k ∷ ks) (Int t) h is = never h
-path_counted structs sound (k ∷ ks) (Array elem count) h is = never h
-path_counted structs sound (k ∷ ks) (Pointer elem fixed) h is = never h
+path_counted structs sound (k ∷ ks) (Int t) h is = false_not_true h
+path_counted structs sound (k ∷ ks) (Array elem count) h is = false_not_true h
+path_counted structs sound (k ∷ ks) (Pointer elem fixed) h is = false_not_true h
 path_counted structs sound (k ∷ ks) (Struct n) h is =
-    path_counted structs sound ks (field_type structs (Struct n) k) (and_right (is_field structs (Struct n) k) (is_path structs (field_type structs (Struct n) k) ks) h)
-    (field_counted structs sound n k (and_left (is_field structs (Struct n) k) (is_path structs (field_type structs (Struct n) k) ks) h))
+    path_counted structs sound ks (field_type structs (Struct n) k) (both_hold_second (is_field structs (Struct n) k) (is_path structs (field_type structs (Struct n) k) ks) h)
+    (field_counted structs sound n k (both_hold_first (is_field structs (Struct n) k) (is_path structs (field_type structs (Struct n) k) ks) h))
 
 -- ---- what pointers point to
 
@@ -160,9 +156,9 @@ reached_fits c blocks depth elem s p points true less = record {
 
 pub pointee_fits : (kept : Kept) (c : Context) (blocks : Blocks) (depth : ℕ) (s : Span) (ty : VarTy) (v : Cell) → IsTrue (is_some (pointee_of (Some ty))) → ValueFits kept c.structs blocks depth ty v →
     IfOk (pointee c s ty v) (LocationFits c blocks depth (pointee_type ty))
-pointee_fits kept c blocks depth s (Int t) v h f = never h
-pointee_fits kept c blocks depth s (Struct n) v h f = never h
-pointee_fits kept c blocks depth s (Array elem count) v h f = never h
+pointee_fits kept c blocks depth s (Int t) v h f = false_not_true h
+pointee_fits kept c blocks depth s (Struct n) v h f = false_not_true h
+pointee_fits kept c blocks depth s (Array elem count) v h f = false_not_true h
 pointee_fits kept c blocks depth s (Pointer elem fixed) (cell.Int v) h f = elim f [ ]
 pointee_fits kept c blocks depth s (Pointer elem fixed) (cell.Sealed v) h f = elim f [ ]
 pointee_fits kept c blocks depth s (Pointer elem fixed) (cell.Ptr pointer.Null) h f = tt {0}
@@ -173,17 +169,13 @@ pointee_fits kept c blocks depth s (Pointer elem fixed) (cell.Ptr (pointer.At bl
 
 pub read_fits : (kept : Kept) (c : Context) (depth : ℕ) (blocks : Blocks) → Setting kept c depth blocks → (ty : VarTy) (at : Location) → IsTrue (is_scalar (Some ty)) → LocationFits c blocks depth ty at → ValueFits kept c.structs blocks depth ty (cell_in blocks at)
 read_fits kept c depth blocks s (Int t) at h fits = s.integers at.block at.cell t (subst (λ ts. LieAt (blocks at.block).types at.cell ts) (leaves_of_int c.structs t) fits.lies.1)
-read_fits kept c depth blocks s (Struct n) at h fits = never h
-read_fits kept c depth blocks s (Array elem count) at h fits = never h
+read_fits kept c depth blocks s (Struct n) at h fits = false_not_true h
+read_fits kept c depth blocks s (Array elem count) at h fits = false_not_true h
 read_fits kept c depth blocks s (Pointer elem fixed) at h fits =
     let own : HasPointer c.structs blocks depth elem (blocks (Local depth fits.lies.0)) = (s.variables fits.lies.0 (Pointer elem fixed) fits.lies.1).0 in
     subst (λ b. PointerFits c.structs blocks depth elem (slice_index_or (blocks b).cells at.cell (cell.Int (pos 0)))) (sym fits.lies.2)
     (subst (λ n. PointerFits c.structs blocks depth elem (slice_index_or (blocks (Local depth fits.lies.0)).cells n (cell.Int (pos 0)))) (sym fits.lies.3)
     (subst (λ cells. PointerFits c.structs blocks depth elem (slice_index_or cells 0 (cell.Int (pos 0)))) (sym own.cells) own.fits))
-
-with_none : {A : Type 0} (xs : List A) → xs ≡ xs ++ []
-with_none [] = refl
-with_none (x ∷ xs) = ap (λ zs. x ∷ zs) (with_none xs)
 
 one_element : (structs : List StructInfo) (blocks : Blocks) (depth : ℕ) (elem : Elem) (at : Location) → depth_of at.block ≤ depth → LieAt (blocks at.block).types at.cell (leaves_of structs (type_of_elem elem)) →
     PointerFits structs blocks depth elem (cell.Ptr (pointer.At at.block at.cell 1 0))
@@ -192,21 +184,21 @@ one_element structs blocks depth elem at near lies = record {
   some = omega arith;
   few = omega arith;
   within = omega arith;
-  types = subst (λ ts. LieAt (blocks at.block).types at.cell ts) (with_none (leaves_of structs (type_of_elem elem))) lies;
+  types = subst (λ ts. LieAt (blocks at.block).types at.cell ts) (as_append_nil (leaves_of structs (type_of_elem elem))) lies;
 }
 
 pub address_fits : (kept : Kept) (c : Context) (blocks : Blocks) (depth : ℕ) (ty : VarTy) (at : Location) → IsTrue (is_some (element_of (Some ty))) → LocationFits c blocks depth ty at →
     ValueFits kept c.structs blocks depth (Pointer (type.element_of ty) false) (cell.Ptr (pointer.At at.block at.cell 1 0))
 address_fits kept c blocks depth (Int t) at h fits = one_element c.structs blocks depth (e.Int t) at fits.lies.0 fits.lies.1
 address_fits kept c blocks depth (Struct n) at h fits = one_element c.structs blocks depth (e.Struct n) at fits.lies.0 fits.lies.1
-address_fits kept c blocks depth (Array elem count) at h fits = never h
-address_fits kept c blocks depth (Pointer elem fixed) at h fits = never h
+address_fits kept c blocks depth (Array elem count) at h fits = false_not_true h
+address_fits kept c blocks depth (Pointer elem fixed) at h fits = false_not_true h
 
 pub decay_fits : (kept : Kept) (c : Context) (blocks : Blocks) (depth : ℕ) (ty : VarTy) (at : Location) → IsTrue (is_some (item_of (Some ty))) → IsCounted ty → LocationFits c blocks depth ty at →
     ValueFits kept c.structs blocks depth (Pointer (type.element_of ty) false) (decayed at at.ty)
-decay_fits kept c blocks depth (Int t) at h k fits = never h
-decay_fits kept c blocks depth (Struct n) at h k fits = never h
-decay_fits kept c blocks depth (Pointer elem fixed) at h k fits = never h
+decay_fits kept c blocks depth (Int t) at h k fits = false_not_true h
+decay_fits kept c blocks depth (Struct n) at h k fits = false_not_true h
+decay_fits kept c blocks depth (Pointer elem fixed) at h k fits = false_not_true h
 decay_fits kept c blocks depth (Array elem count) at h k fits =
     subst (λ u. PointerFits c.structs blocks depth elem (decayed at u)) (sym fits.typed)
     (record {

@@ -5,12 +5,12 @@ use Rattle.std.specs.List.{list_all}
 use Rattle.std.specs.Map.{lookup}
 use Rattle.std.proofs.lemmas.Bool.Decides.{nat_tests}
 use Rattle.pt_base.specs.declared.int_type.IntType.{IntType}
+use Rattle.pt_base.proofs.Booleans.{both_hold_first, both_hold_second}
 use Rattle.pt_int.specs.Conversion.{is_in_range}
 use Rattle.typed_tree.specs.declared.types.VarTy.{VarTy}
 use Rattle.typed_tree.specs.declared.types.StructInfo.{StructInfo}
 use Rattle.typed_tree.specs.Cells.{leaves_of}
 use Rattle.typed_tree.specs.WellFormed.{are_rising, cells_fit, is_plain_type, is_small}
-use Rattle.typed_tree.proofs.WellFormedLemmas.{and_left, and_right}
 use Rattle.block_memory.specs.declared.cell.Cell.TheVariants as cell
 use Rattle.block_memory.specs.declared.cell.BlockName.TheVariants.{Local, Global, Received}
 use Rattle.block_memory.specs.Block.{Block}
@@ -45,9 +45,9 @@ other_global blocks n g b true e apart = absurd (apart (same n g e))
 before_stays : (structs : List StructInfo) (gs : List GlobalTree) (blocks : Blocks) (first g : ℕ) → IsTrue (are_rising first (numbers_of gs)) → g < first → with_globals structs blocks gs (Global g) ≡ blocks (Global g)
 before_stays structs [] blocks first g rising less = refl
 before_stays structs (x ∷ xs) blocks first g rising less =
-    before_stays structs xs (put blocks (Global x.id) (block_of_global structs x)) (suc x.id) g (and_right (nat_le first x.id) (are_rising (suc x.id) (numbers_of xs)) rising)
-    (behind first x.id g (and_left (nat_le first x.id) (are_rising (suc x.id) (numbers_of xs)) rising) less)
-    ∙ other_global blocks x.id g (block_of_global structs x) (nat_eq x.id g) refl (apart first x.id g (and_left (nat_le first x.id) (are_rising (suc x.id) (numbers_of xs)) rising) less)
+    before_stays structs xs (put blocks (Global x.id) (block_of_global structs x)) (suc x.id) g (both_hold_second (nat_le first x.id) (are_rising (suc x.id) (numbers_of xs)) rising)
+    (behind first x.id g (both_hold_first (nat_le first x.id) (are_rising (suc x.id) (numbers_of xs)) rising) less)
+    ∙ other_global blocks x.id g (block_of_global structs x) (nat_eq x.id g) refl (apart first x.id g (both_hold_first (nat_le first x.id) (are_rising (suc x.id) (numbers_of xs)) rising) less)
   where
     behind : (first n g : ℕ) → IsTrue (nat_le first n) → g < first → g < suc n
     behind first n g h less = let most : first ≤ n = grind (arith, nat_tests) in omega (arith, most, less)
@@ -65,10 +65,10 @@ record IsGlobals (structs : List StructInfo) (Q : GlobalTree → Bool) (ty : Var
 lies : (structs : List StructInfo) (Q : GlobalTree → Bool) (gs : List GlobalTree) (blocks : Blocks) (first g : ℕ) (ty : VarTy) → IsTrue (are_rising first (numbers_of gs)) → lookup (nat_eq g) (types_of gs) ≡ Some ty → IsTrue (list_all Q gs) →
     IsGlobals structs Q ty (with_globals structs blocks gs (Global g))
 lies structs Q [] blocks first g ty rising is all = cc
-lies structs Q (x ∷ xs) blocks first g ty rising is all = go (λ e. lies structs Q xs (put blocks (Global x.id) (block_of_global structs x)) (suc x.id) g ty later e (and_right (Q x) (list_all Q xs) all)) (nat_eq g x.id) refl is
+lies structs Q (x ∷ xs) blocks first g ty rising is all = go (λ e. lies structs Q xs (put blocks (Global x.id) (block_of_global structs x)) (suc x.id) g ty later e (both_hold_second (Q x) (list_all Q xs) all)) (nat_eq g x.id) refl is
   where
     later : IsTrue (are_rising (suc x.id) (numbers_of xs))
-    later = and_right (nat_le first x.id) (are_rising (suc x.id) (numbers_of xs)) rising
+    later = both_hold_second (nat_le first x.id) (are_rising (suc x.id) (numbers_of xs)) rising
 
     same : Some x.var.ty ≡ Some ty → x.var.ty ≡ ty
     same e = cc
@@ -87,7 +87,7 @@ lies structs Q (x ∷ xs) blocks first g ty rising is all = go (λ e. lies struc
         (if t then Some x.var.ty else lookup (nat_eq g) (types_of xs)) ≡ Some ty → IsGlobals structs Q ty (with_globals structs (put blocks (Global x.id) (block_of_global structs x)) xs (Global g))
     go more true t e = record {
       of = x;
-      fits = and_left (Q x) (list_all Q xs) all;
+      fits = both_hold_first (Q x) (list_all Q xs) all;
       typed = same e;
       is = before_stays structs xs (put blocks (Global x.id) (block_of_global structs x)) (suc x.id) g later (below g x.id t) ∙ here (nat_eq x.id g) (turned g x.id t);
     }
@@ -109,11 +109,11 @@ unknown_stays structs (x ∷ xs) blocks g is = go (λ e. unknown_stays structs x
     go more true t e = cc
     go more false t e = more e ∙ other_global blocks x.id g (block_of_global structs x) (nat_eq x.id g) refl (apart g x.id t)
 
-locals_stay : (structs : List StructInfo) (gs : List GlobalTree) (blocks : Blocks) (depth v : ℕ) → with_globals structs blocks gs (Local depth v) ≡ blocks (Local depth v)
+pub locals_stay : (structs : List StructInfo) (gs : List GlobalTree) (blocks : Blocks) (depth v : ℕ) → with_globals structs blocks gs (Local depth v) ≡ blocks (Local depth v)
 locals_stay structs [] blocks depth v = refl
 locals_stay structs (x ∷ xs) blocks depth v = locals_stay structs xs (put blocks (Global x.id) (block_of_global structs x)) depth v
 
-received_stay : (structs : List StructInfo) (gs : List GlobalTree) (blocks : Blocks) (n : ℕ) → with_globals structs blocks gs (Received n) ≡ blocks (Received n)
+pub received_stay : (structs : List StructInfo) (gs : List GlobalTree) (blocks : Blocks) (n : ℕ) → with_globals structs blocks gs (Received n) ≡ blocks (Received n)
 received_stay structs [] blocks n = refl
 received_stay structs (x ∷ xs) blocks n = received_stay structs xs (put blocks (Global x.id) (block_of_global structs x)) n
 
@@ -123,7 +123,7 @@ numbers_fit : (kept : Kept) (ts : List IntType) (vs : List ℤ) → IsTrue (cell
 numbers_fit kept [] [] h = tt {0}
 numbers_fit kept [] (v ∷ vs) h = cc
 numbers_fit kept (t ∷ ts) [] h = cc
-numbers_fit kept (t ∷ ts) (v ∷ vs) h = (and_left (is_in_range t v) (cells_fit ts vs) h, numbers_fit kept ts vs (and_right (is_in_range t v) (cells_fit ts vs) h))
+numbers_fit kept (t ∷ ts) (v ∷ vs) h = (both_hold_first (is_in_range t v) (cells_fit ts vs) h, numbers_fit kept ts vs (both_hold_second (is_in_range t v) (cells_fit ts vs) h))
 
 abbrev HoldsIntegers : Kept → Block → Type 0
 HoldsIntegers kept b = IntegersFit kept b.types b.cells
@@ -138,7 +138,7 @@ cells_at kept structs gs g rising all None is = subst (HoldsIntegers kept) (sym 
 cells_at kept structs gs g rising all (Some ty) is =
     let at : IsGlobals structs (global_fits structs) ty (with_globals structs no_blocks gs (Global g)) = lies structs (global_fits structs) gs no_blocks 0 g ty rising is all in
     subst (HoldsIntegers kept) (sym at.is) (numbers_fit kept (leaves_of structs at.of.var.ty) at.of.cells
-    (and_right (is_plain_type _ at.of.var.ty && is_small structs at.of.var.ty) (cells_fit (leaves_of structs at.of.var.ty) at.of.cells) at.fits))
+    (both_hold_second (is_plain_type _ at.of.var.ty && is_small structs at.of.var.ty) (cells_fit (leaves_of structs at.of.var.ty) at.of.cells) at.fits))
 
 rest_memory : (kept : Kept) (monitor : Bool) (program : ProgramTree) → ProgramFacts monitor program → IsTrue (are_rising 0 (numbers_of program.globals)) → MemoryFits kept program [] (with_globals program.structs no_blocks program.globals)
 rest_memory kept monitor program facts rising = record {
@@ -160,5 +160,5 @@ rest_fits kept monitor program budget sound = record { memory = rest_memory kept
     facts = facts_of monitor program sound
 
     rising : IsTrue (are_rising 0 (map (λ s. s.0) program.signatures) && (are_rising 0 (map (λ f. f.id) program.functions) && are_rising 0 (numbers_of program.globals))) → IsTrue (are_rising 0 (numbers_of program.globals))
-    rising h = and_right (are_rising 0 (map (λ f. f.id) program.functions)) (are_rising 0 (numbers_of program.globals))
-        (and_right (are_rising 0 (map (λ s. s.0) program.signatures)) (are_rising 0 (map (λ f. f.id) program.functions) && are_rising 0 (numbers_of program.globals)) h)
+    rising h = both_hold_second (are_rising 0 (map (λ f. f.id) program.functions)) (are_rising 0 (numbers_of program.globals))
+        (both_hold_second (are_rising 0 (map (λ s. s.0) program.signatures)) (are_rising 0 (map (λ f. f.id) program.functions) && are_rising 0 (numbers_of program.globals)) h)

@@ -1,17 +1,18 @@
 -- What the innermost function sees, where the memory fits.
-use Rattle.std.proofs.Common.{◌≡◌, ◌∙◌, ◌≤◌, ℕ, zero, suc, pos, nat_eq, refl, ap, sym, subst, arith, Bool, Option, Some, None, List, [], ◌∷◌, length, if◌then◌else◌}
+use Rattle.std.proofs.Common.{◌≡◌, ◌∙◌, ℕ, zero, suc, pos, nat_eq, refl, ap, sym, subst, Bool, Option, Some, None, List, [], ◌∷◌, length, if◌then◌else◌}
 use Rattle.std.specs.Prelude.{IsTrue, ◌&&◌, slice_get, slice_index_or}
 use Rattle.std.specs.List.{list_all}
 use Rattle.std.specs.Map.{lookup}
 use Rattle.std.proofs.lemmas.Bool.{eq-eqb}
 use Rattle.pt_base.specs.declared.int_type.IntType.{IntType}
+use Rattle.pt_base.proofs.Booleans.{both_hold_first, both_hold_second}
+use Rattle.pt_base.proofs.Numbers.{at_most_self}
 use Rattle.typed_tree.specs.declared.types.VarTy.{VarTy}
 use Rattle.typed_tree.specs.declared.types.VarTy.TheVariants.{Int, Struct, Array, Pointer}
 use Rattle.typed_tree.specs.declared.types.StructInfo.{StructInfo}
 use Rattle.typed_tree.specs.declared.variable.Var.{Var}
 use Rattle.typed_tree.specs.Cells.{leaves_of}
 use Rattle.typed_tree.specs.WellFormed.{is_plain_type, is_variable_type, is_small, cells_fit}
-use Rattle.typed_tree.proofs.WellFormedLemmas.{and_left, and_right}
 use Rattle.block_memory.specs.declared.cell.Cell.TheVariants as cell
 use Rattle.block_memory.specs.declared.cell.BlockName.{BlockName}
 use Rattle.block_memory.specs.declared.cell.BlockName.TheVariants.{Local, Global, Received}
@@ -59,9 +60,6 @@ integers_fit kept program active blocks mem (Received k) n t h = integer_at kept
 pub same_depth : {A : Type 0} (n : ℕ) (x y : A) → (if nat_eq n n then x else y) ≡ x
 same_depth {A} n x y = subst (λ b. (if b then x else y) ≡ x) (sym (eq-eqb n n refl)) refl
 
-no_more : (n : ℕ) → n ≤ n
-no_more n = omega arith
-
 pub setting : (kept : Kept) (monitor : Bool) (program : ProgramTree) (a : Active) (rest : List Active) (blocks : Blocks) → ProgramFacts monitor program → FunctionFacts monitor program a.function → MemoryFits kept program (a ∷ rest) blocks → Setting kept (context_in program a.function) a.depth blocks
 setting kept monitor program a rest blocks facts function mem = record {
   sound = facts.structs;
@@ -80,17 +78,17 @@ setting kept monitor program a rest blocks facts function mem = record {
         let all = subst (λ (g : FunctionTree). IsTrue (list_all (variable_fits program.structs) g.vars)) (sym function.tree_is) function.variables in
         let of : (x : Var) × IsTrue (variable_fits program.structs x) × (x.ty ≡ ty) = variable_of (variable_fits program.structs) (function_in program a.function).vars v ty is all in
         subst IsCounted of.2
-        (counted program.structs facts.structs (length program.structs) (no_more (length program.structs)) of.0.ty
-        (and_left (is_variable_type (length program.structs) of.0.ty) (is_small program.structs of.0.ty) of.1) (and_right (is_variable_type (length program.structs) of.0.ty) (is_small program.structs of.0.ty) of.1))
+        (counted program.structs facts.structs (length program.structs) (at_most_self (length program.structs)) of.0.ty
+        (both_hold_first (is_variable_type (length program.structs) of.0.ty) (is_small program.structs of.0.ty) of.1) (both_hold_second (is_variable_type (length program.structs) of.0.ty) (is_small program.structs of.0.ty) of.1))
 
     global_known : (g : ℕ) (ty : VarTy) → lookup (nat_eq g) (context_in program a.function).globals ≡ Some ty → IsTrue (is_plain_type (length program.structs) ty) × IsCounted ty
     global_known g ty is =
         let of : GlobalOf (global_fits program.structs) ty = global_of (global_fits program.structs) g program.globals ty is facts.globals in
         let type : VarTy = of.of.var.ty in
-        let fits = and_left (is_plain_type (length program.structs) type && is_small program.structs type) (cells_fit (leaves_of program.structs type) of.of.cells) of.fits in
-        let plain = and_left (is_plain_type (length program.structs) type) (is_small program.structs type) fits in
+        let fits = both_hold_first (is_plain_type (length program.structs) type && is_small program.structs type) (cells_fit (leaves_of program.structs type) of.of.cells) of.fits in
+        let plain = both_hold_first (is_plain_type (length program.structs) type) (is_small program.structs type) fits in
         subst (λ u. IsTrue (is_plain_type (length program.structs) u) × IsCounted u) of.typed
-        (plain, counted program.structs facts.structs (length program.structs) (no_more (length program.structs)) type (plain_variable (length program.structs) type plain) (and_right (is_plain_type (length program.structs) type) (is_small program.structs type) fits))
+        (plain, counted program.structs facts.structs (length program.structs) (at_most_self (length program.structs)) type (plain_variable (length program.structs) type plain) (both_hold_second (is_plain_type (length program.structs) type) (is_small program.structs type) fits))
 
 -- ---- the laws
 

@@ -12,6 +12,7 @@ use Rattle.block_memory.specs.declared.cell.BlockName.{BlockName}
 use Rattle.block_memory.specs.declared.cell.BlockName.TheVariants.{Local, Received}
 use Rattle.block_memory.specs.Block.{Block, with_cell}
 use Rattle.block_memory.specs.Blocks.{Blocks, is_same_name, put, with_frame, without_frames}
+use Rattle.block_memory.proofs.BlocksLemmas.{same_name}
 use Rattle.pt_core.specs.CodeTree.{ExprTree, PlaceTree, StmtTree, clear, check, assign, copy, call, choose, repeat, break_out, continue_on, give_back, StmtTrees, no_stmts, stmt_and, ProgramTree}
 use Rattle.pt_core.specs.Types.{Context, shape_of}
 use Rattle.pt_core.specs.Values.{Stop, ◌>>?◌, Location, holds_in, number_in, value_of, values_of, location_of, cells_at, written, all_written}
@@ -19,7 +20,6 @@ use Rattle.pt_core.specs.Statements.{assigned, copied, kept, returned_value}
 use Rattle.pt_core.specs.Calls.{signature_in, function_in, context_in, entered, number_cell, with_arguments}
 use Rattle.pt_core.specs.Steps.{Work, run, head, Active, Machine, Gate, Way, enters, here, away, Step, moved, asked, trapped, spent, answers, settled, working, with_blocks, with_turn, turned, on_value, returned, at_end, is_active, just_entered, begins, enters_at, made, made_here, awaiting, goes_away, by_way, act, works, stepped}
 use Rattle.core_soundness_law.specs.StepLaws.{IsSameShape, ReceivedStay}
-use Rattle.core_soundness_law.proofs.Memory.{same_name}
 
 -- ---- shapes
 

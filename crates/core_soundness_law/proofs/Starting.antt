@@ -1,10 +1,10 @@
 -- A function is entered where none is active.
 use Rattle.std.proofs.Common.{◌≡◌, ◌≤◌, ◌<◌, ℕ, ◌+◌, refl, ap, sym, subst, arith, Bool, true, false, Option, None, List, [], ◌∷◌, map}
 use Rattle.std.specs.Prelude.{IsTrue, slice_get, slice_index_or, take, is_some}
+use Rattle.pt_base.proofs.Booleans.{both_hold}
 use Rattle.pt_tree.specs.declared.signature.Signature.{Signature}
 use Rattle.typed_tree.specs.WellFormed.{params_lead}
 use Rattle.typed_tree.specs.declared.variable.Var.{Var}
-use Rattle.typed_tree.proofs.WellFormedLemmas.{and_both}
 use Rattle.runs.specs.Run.{deepest}
 use Rattle.block_memory.specs.declared.shape.BlockShape.{BlockShape}
 use Rattle.block_memory.specs.declared.cell.Cell.{Cell}
@@ -65,7 +65,7 @@ entered_active monitor program privileged f depth result facts known deep shallo
   known = known;
   deep = deep;
   shallow = shallow;
-  work = and_both (stmts_fit (scope_in monitor program f) false (function_in program f).body) true (own_body monitor program f facts) refl;
+  work = both_hold (stmts_fit (scope_in monitor program f) false (function_in program f).body) true (own_body monitor program f facts) refl;
 }
 
 pub started_fits : StartedFits

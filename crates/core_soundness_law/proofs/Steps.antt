@@ -1,17 +1,18 @@
 -- A step keeps that the machine fits.
-use Rattle.std.proofs.Common.{◌≡◌, ◌∙◌, ◌≤◌, ◌<◌, ℕ, zero, suc, ◌+◌, ℤ, nat_eq, refl, ap, sym, subst, arith, Bool, true, false, Option, Some, None, Result, Ok, Err, IfOk, List, [], ◌∷◌, length, map, if◌then◌else◌}
+use Rattle.std.proofs.Common.{◌≡◌, ◌∙◌, ◌≤◌, ◌<◌, ℕ, suc, ◌+◌, ℤ, nat_eq, refl, ap, sym, subst, arith, Bool, true, false, Option, Some, None, Result, Ok, Err, IfOk, List, [], ◌∷◌, length, map, if◌then◌else◌}
 use Rattle.std.specs.Prelude.{IsTrue, ◌&&◌, ◌||◌, not, take, is_some, is_none, nat_lt, nat_le, option_map, unwrap_or}
 use Rattle.std.proofs.lemmas.Bool.Decides.{nat_tests}
 use Rattle.pt_base.specs.declared.int_type.IntType.{IntType}
 use Rattle.pt_base.specs.declared.span.Span.{Span}
 use Rattle.pt_base.specs.declared.trap.Trap.TheVariants.{Depth}
+use Rattle.pt_base.proofs.Booleans.{both_hold, both_hold_first, both_hold_second, false_not_true}
+use Rattle.pt_base.proofs.Places.{take_length}
 use Rattle.pt_tree.specs.declared.signature.Param.{Param}
 use Rattle.pt_tree.specs.declared.signature.Signature.{Signature}
 use Rattle.typed_tree.specs.declared.types.VarTy.{VarTy}
 use Rattle.typed_tree.specs.declared.types.VarTy.TheVariants.{Int, Struct, Array, Pointer}
 use Rattle.typed_tree.specs.TypeTests.{both_int, integer_of, is_scalar}
 use Rattle.typed_tree.specs.WellFormedExpression.{param_type, is_main}
-use Rattle.typed_tree.proofs.WellFormedLemmas.{and_left, and_right, and_both}
 use Rattle.runs.specs.Run.{deepest}
 use Rattle.block_memory.specs.declared.cell.Cell.{Cell}
 use Rattle.block_memory.specs.Blocks.{Blocks, without_frames}
@@ -30,7 +31,6 @@ use Rattle.core_soundness_law.specs.Laws.{LocationFits}
 use Rattle.core_soundness_law.specs.Outside.{ArgumentsFit, GivenFits, own_params}
 use Rattle.core_soundness_law.specs.StepLaws.{NumberFits, GateFits, params_of, StepFits, StepKeeps}
 use Rattle.typed_tree.proofs.SameTypes.{equal_ints}
-use Rattle.core_soundness_law.proofs.Leaves.{never}
 use Rattle.core_soundness_law.proofs.Objects.{Setting}
 use Rattle.core_soundness_law.proofs.Programs.{ProgramFacts, facts_of, FunctionFacts, function_facts}
 use Rattle.core_soundness_law.proofs.Settings.{setting}
@@ -95,19 +95,19 @@ settled_fits monitor program f (head body ∷ work) h = h
 
 past_fits : (monitor : Bool) (program : ProgramTree) (f : ℕ) (work : List Work) → IsTrue (work_fits (scope_in monitor program f) work) → IsTrue (work_fits (scope_in monitor program f) (past_loop work))
 past_fits monitor program f [] h = h
-past_fits monitor program f (run stmts ∷ work) h = past_fits monitor program f work (and_right (stmts_fit (scope_in monitor program f) (is_looped work) stmts) (work_fits (scope_in monitor program f) work) h)
-past_fits monitor program f (head body ∷ work) h = and_right (stmts_fit (scope_in monitor program f) true body) (work_fits (scope_in monitor program f) work) h
+past_fits monitor program f (run stmts ∷ work) h = past_fits monitor program f work (both_hold_second (stmts_fit (scope_in monitor program f) (is_looped work) stmts) (work_fits (scope_in monitor program f) work) h)
+past_fits monitor program f (head body ∷ work) h = both_hold_second (stmts_fit (scope_in monitor program f) true body) (work_fits (scope_in monitor program f) work) h
 
 head_fits : (monitor : Bool) (program : ProgramTree) (f : ℕ) (work : List Work) → IsTrue (work_fits (scope_in monitor program f) work) → IsTrue (work_fits (scope_in monitor program f) (at_head work))
 head_fits monitor program f [] h = h
-head_fits monitor program f (run stmts ∷ work) h = head_fits monitor program f work (and_right (stmts_fit (scope_in monitor program f) (is_looped work) stmts) (work_fits (scope_in monitor program f) work) h)
+head_fits monitor program f (run stmts ∷ work) h = head_fits monitor program f work (both_hold_second (stmts_fit (scope_in monitor program f) (is_looped work) stmts) (work_fits (scope_in monitor program f) work) h)
 head_fits monitor program f (head body ∷ work) h = h
 
 begins_fits : {G : Type 0} (kept : Kept) (monitor : Bool) (program : ProgramTree) (m : Machine) (g : G) (a : Active) (rest : List Active) → Scene kept monitor program m a rest → (body : StmtTrees) (work : List Work) →
     IsTrue (stmts_fit (scope_in monitor program a.function) true body) → IsTrue (work_fits (scope_in monitor program a.function) work) → StepFits kept monitor program (a ∷ rest) (begins m g a rest body work)
 begins_fits {G} kept monitor program m g a rest s body work b w =
-    let inner : IsTrue (work_fits (scope_in monitor program a.function) (head body ∷ work)) = and_both (stmts_fit (scope_in monitor program a.function) true body) (work_fits (scope_in monitor program a.function) work) b w in
-    let all : IsTrue (work_fits (scope_in monitor program a.function) (run body ∷ head body ∷ work)) = and_both (stmts_fit (scope_in monitor program a.function) true body) (work_fits (scope_in monitor program a.function) (head body ∷ work)) b inner in
+    let inner : IsTrue (work_fits (scope_in monitor program a.function) (head body ∷ work)) = both_hold (stmts_fit (scope_in monitor program a.function) true body) (work_fits (scope_in monitor program a.function) work) b w in
+    let all : IsTrue (work_fits (scope_in monitor program a.function) (run body ∷ head body ∷ work)) = both_hold (stmts_fit (scope_in monitor program a.function) true body) (work_fits (scope_in monitor program a.function) (head body ∷ work)) b inner in
     let on : Fits kept monitor program (with_blocks m.blocks (working m a rest (run body ∷ head body ∷ work))) = working_fits kept monitor program m a rest s (run body ∷ head body ∷ work) m.blocks all s.memory in
     turn_or_spent kept monitor program a rest m g (λ m1. answers moved (working m1 a rest (run body ∷ head body ∷ work)) g) s.fits (record { machine = record { memory = on.memory; active = on.active; awaited = on.awaited }; answer = tt {0} })
 
@@ -158,20 +158,20 @@ returned_value_fits kept monitor program m a rest s None h = go (signature_in pr
   where
     go : (r : Option IntType) → IsTrue (is_none r) → GivenFits kept r None
     go None h = tt {0}
-    go (Some t) h = never h
+    go (Some t) h = false_not_true h
 returned_value_fits kept monitor program m a rest s (Some e) h =
     let c : Context = context_in program a.function in
-    let both : IsTrue (both_int (integer_of (Some (type_of c e))) (signature_in program a.function).result) = and_right (expr_fits c e) (both_int (integer_of (Some (type_of c e))) (signature_in program a.function).result) h in
+    let both : IsTrue (both_int (integer_of (Some (type_of c e))) (signature_in program a.function).result) = both_hold_second (expr_fits c e) (both_int (integer_of (Some (type_of c e))) (signature_in program a.function).result) h in
     bound (ValueFits kept program.structs m.blocks a.depth (type_of c e)) (GivenFits kept (signature_in program a.function).result) (value_of c a.depth e m.blocks) _
-    (values kept c a.depth m.blocks (own_setting kept monitor program m a rest s) e (and_left (expr_fits c e) (both_int (integer_of (Some (type_of c e))) (signature_in program a.function).result) h))
+    (values kept c a.depth m.blocks (own_setting kept monitor program m a rest s) e (both_hold_first (expr_fits c e) (both_int (integer_of (Some (type_of c e))) (signature_in program a.function).result) h))
     (λ v f. go (type_of c e) (signature_in program a.function).result v both f)
   where
     go : (ty : VarTy) (r : Option IntType) (v : Cell) → IsTrue (both_int (integer_of (Some ty)) r) → ValueFits kept program.structs m.blocks a.depth ty v → GivenFits kept r (Some v)
-    go (Int t) None v h f = never h
+    go (Int t) None v h f = false_not_true h
     go (Int t) (Some u) v h f = subst (λ x. IntegerFits kept x v) (equal_ints t u h) f
     go (Struct n) r v h f = elim f [ ]
     go (Array elem count) r v h f = elim f [ ]
-    go (Pointer elem fixed) r v h f = never h
+    go (Pointer elem fixed) r v h f = false_not_true h
 
 at_end_fits : {G : Type 0} (kept : Kept) (monitor : Bool) (program : ProgramTree) (m : Machine) (g : G) (a : Active) (rest : List Active) (span : Span) → Scene kept monitor program m a rest → (r : Option IntType) → (signature_in program a.function).result ≡ r →
     StepFits kept monitor program (a ∷ rest) (at_end r span m g a rest)
@@ -180,21 +180,15 @@ at_end_fits {G} kept monitor program m g a rest span s (Some t) is = record { ma
 
 -- ---- calls
 
-values_fit_params : (kept : Kept) (c : Context) (depth : ℕ) (blocks : Blocks) → Setting kept c depth blocks → (ps : List Param) (args : ExprTrees) → IsTrue (arguments_fit c ps args) → IfOk (values_of c depth args blocks) (ArgumentsFit kept c.structs blocks depth ps)
+pub values_fit_params : (kept : Kept) (c : Context) (depth : ℕ) (blocks : Blocks) → Setting kept c depth blocks → (ps : List Param) (args : ExprTrees) → IsTrue (arguments_fit c ps args) → IfOk (values_of c depth args blocks) (ArgumentsFit kept c.structs blocks depth ps)
 values_fit_params kept c depth blocks s [] no_exprs h = tt {0}
-values_fit_params kept c depth blocks s [] (expr_and a rest) h = never h
-values_fit_params kept c depth blocks s (p ∷ ps) no_exprs h = never h
+values_fit_params kept c depth blocks s [] (expr_and a rest) h = false_not_true h
+values_fit_params kept c depth blocks s (p ∷ ps) no_exprs h = false_not_true h
 values_fit_params kept c depth blocks s (p ∷ ps) (expr_and a rest) h =
-    let here : IsTrue (value_fits c (param_type p.kind) a) = and_left (value_fits c (param_type p.kind) a) (arguments_fit c ps rest) h in
-    bound (ValueFits kept c.structs blocks depth (type_of c a)) (ArgumentsFit kept c.structs blocks depth (p ∷ ps)) (value_of c depth a blocks) _ (values kept c depth blocks s a (and_left (expr_fits c a) (stands_for (type_of c a) (param_type p.kind)) here))
-    (λ v f. bound (ArgumentsFit kept c.structs blocks depth ps) (ArgumentsFit kept c.structs blocks depth (p ∷ ps)) (values_of c depth rest blocks) _ (values_fit_params kept c depth blocks s ps rest (and_right (value_fits c (param_type p.kind) a) (arguments_fit c ps rest) h))
-    (λ vs fs. (stands kept c.structs blocks depth (type_of c a) (param_type p.kind) v (and_right (expr_fits c a) (stands_for (type_of c a) (param_type p.kind)) here) f, fs)))
-
-pub take_all : {A : Type 0} (n : ℕ) (xs : List A) → n ≡ length xs → take n xs ≡ xs
-take_all zero [] h = refl
-take_all zero (x ∷ xs) h = absurd (grind (arith, h))
-take_all (suc n) [] h = absurd (grind (arith, h))
-take_all (suc n) (x ∷ xs) h = ap (λ zs. x ∷ zs) (take_all n xs (omega (arith, h)))
+    let here : IsTrue (value_fits c (param_type p.kind) a) = both_hold_first (value_fits c (param_type p.kind) a) (arguments_fit c ps rest) h in
+    bound (ValueFits kept c.structs blocks depth (type_of c a)) (ArgumentsFit kept c.structs blocks depth (p ∷ ps)) (value_of c depth a blocks) _ (values kept c depth blocks s a (both_hold_first (expr_fits c a) (stands_for (type_of c a) (param_type p.kind)) here))
+    (λ v f. bound (ArgumentsFit kept c.structs blocks depth ps) (ArgumentsFit kept c.structs blocks depth (p ∷ ps)) (values_of c depth rest blocks) _ (values_fit_params kept c depth blocks s ps rest (both_hold_second (value_fits c (param_type p.kind) a) (arguments_fit c ps rest) h))
+    (λ vs fs. (stands kept c.structs blocks depth (type_of c a) (param_type p.kind) v (both_hold_second (expr_fits c a) (stands_for (type_of c a) (param_type p.kind)) here) f, fs)))
 
 abbrev result_in : Signature → Option IntType
 result_in s = s.result
@@ -236,8 +230,8 @@ own_called monitor program f s facts is =
     cut : (monitor host : Bool) → IsTrue (not host) → IsTrue (counts_fit monitor facts.tree.params (length facts.signature.params)) →
         (if monitor && not host then record facts.signature { params = take facts.tree.params facts.signature.params } else facts.signature).params ≡ take facts.tree.params facts.signature.params
     cut true false h k = refl
-    cut true true h k = never h
-    cut false host h k = sym (take_all facts.tree.params facts.signature.params (equal facts.tree.params (length facts.signature.params) k))
+    cut true true h k = false_not_true h
+    cut false host h k = sym (take_length facts.tree.params facts.signature.params (equal facts.tree.params (length facts.signature.params) k))
 
 number_given : (kept : Kept) (r : Option IntType) (v : Option ℤ) → NumberFits r v → GivenFits kept r (number_cell v)
 number_given kept None None h = h
@@ -344,14 +338,14 @@ way_fits {G} kept monitor program gate m g a rest work span f args result s ok w
 
 call_keeps : {G : Type 0} (kept : Kept) (monitor : Bool) (program : ProgramTree) (gate : Gate G) (m : Machine) (g : G) (a : Active) (rest : List Active) (work : List Work) (span : Span) (f : ℕ) (args : ExprTrees) (result : Option ℕ) → Scene kept monitor program m a rest → GateFits program gate g →
     IsTrue (work_fits (scope_in monitor program a.function) work) → (o : Option Signature) → called_signature monitor program f ≡ o → IsTrue (call_fits (context_in program a.function) o args result) → StepFits kept monitor program (a ∷ rest) (act program gate m g a rest work (call f args result span))
-call_keeps {G} kept monitor program gate m g a rest work span f args result s ok w None is h = never h
+call_keeps {G} kept monitor program gate m g a rest work span f args result s ok w None is h = false_not_true h
 call_keeps {G} kept monitor program gate m g a rest work span f args result s ok w (Some t) is h =
     let c : Context = context_in program a.function in
-    let both : IsTrue (arguments_fit c t.params args && result_fits c t.result result) = and_right (not (is_main t)) (arguments_fit c t.params args && result_fits c t.result result) h in
-    let takes : TakesResult program a f result = subst (λ r. IsTrue (result_fits c r result)) (sym (called_result monitor program f t is)) (and_right (arguments_fit c t.params args) (result_fits c t.result result) both) in
+    let both : IsTrue (arguments_fit c t.params args && result_fits c t.result result) = both_hold_second (not (is_main t)) (arguments_fit c t.params args && result_fits c t.result result) h in
+    let takes : TakesResult program a f result = subst (λ r. IsTrue (result_fits c r result)) (sym (called_result monitor program f t is)) (both_hold_second (arguments_fit c t.params args) (result_fits c t.result result) both) in
     value_or_trap kept monitor program a rest m g (ArgumentsFit kept program.structs m.blocks a.depth t.params) (values_of c a.depth args m.blocks)
     (λ vs. by_way program gate (working m a rest work) g span f vs result a.depth (gate.way g f vs)) s.fits
-    (values_fit_params kept c a.depth m.blocks (own_setting kept monitor program m a rest s) t.params args (and_left (arguments_fit c t.params args) (result_fits c t.result result) both))
+    (values_fit_params kept c a.depth m.blocks (own_setting kept monitor program m a rest s) t.params args (both_hold_first (arguments_fit c t.params args) (result_fits c t.result result) both))
     (λ vs fits. way_fits kept monitor program gate m g a rest work span f vs result s ok w (record { signature = t; is = is; given = fits; takes = takes }) (gate.way g f vs) refl)
 
 -- ---- statements
@@ -380,13 +374,13 @@ act_fits {G} kept monitor program gate m g a rest s ok work w (call f args resul
 act_fits {G} kept monitor program gate m g a rest s ok work w (choose e xs ys) h =
     let k = scope_in monitor program a.function in
     let c : Context = context_in program a.function in
-    let cond : IsTrue (expr_fits c e && is_scalar (Some (type_of c e))) = and_left (expr_fits c e && is_scalar (Some (type_of c e))) (stmts_fit k (is_looped work) xs && stmts_fit k (is_looped work) ys) h in
-    let arms : IsTrue (stmts_fit k (is_looped work) xs && stmts_fit k (is_looped work) ys) = and_right (expr_fits c e && is_scalar (Some (type_of c e))) (stmts_fit k (is_looped work) xs && stmts_fit k (is_looped work) ys) h in
+    let cond : IsTrue (expr_fits c e && is_scalar (Some (type_of c e))) = both_hold_first (expr_fits c e && is_scalar (Some (type_of c e))) (stmts_fit k (is_looped work) xs && stmts_fit k (is_looped work) ys) h in
+    let arms : IsTrue (stmts_fit k (is_looped work) xs && stmts_fit k (is_looped work) ys) = both_hold_second (expr_fits c e && is_scalar (Some (type_of c e))) (stmts_fit k (is_looped work) xs && stmts_fit k (is_looped work) ys) h in
     value_or_trap kept monitor program a rest m g (ValueFits kept program.structs m.blocks a.depth (type_of c e)) (value_of c a.depth e m.blocks) (λ v. answers moved (working m a rest (run (if holds_in v then xs else ys) ∷ work)) g) s.fits
-    (values kept c a.depth m.blocks (own_setting kept monitor program m a rest s) e (and_left (expr_fits c e) (is_scalar (Some (type_of c e))) cond))
+    (values kept c a.depth m.blocks (own_setting kept monitor program m a rest s) e (both_hold_first (expr_fits c e) (is_scalar (Some (type_of c e))) cond))
     (λ v _. let on : Fits kept monitor program (with_blocks m.blocks (working m a rest (run (if holds_in v then xs else ys) ∷ work))) = working_fits kept monitor program m a rest s (run (if holds_in v then xs else ys) ∷ work) m.blocks
-    (and_both (stmts_fit k (is_looped work) (if holds_in v then xs else ys)) (work_fits k work)
-    (choice_fits monitor program a.function (is_looped work) (holds_in v) xs ys (and_left (stmts_fit k (is_looped work) xs) (stmts_fit k (is_looped work) ys) arms) (and_right (stmts_fit k (is_looped work) xs) (stmts_fit k (is_looped work) ys) arms)) w) s.memory in
+    (both_hold (stmts_fit k (is_looped work) (if holds_in v then xs else ys)) (work_fits k work)
+    (choice_fits monitor program a.function (is_looped work) (holds_in v) xs ys (both_hold_first (stmts_fit k (is_looped work) xs) (stmts_fit k (is_looped work) ys) arms) (both_hold_second (stmts_fit k (is_looped work) xs) (stmts_fit k (is_looped work) ys) arms)) w) s.memory in
     record { machine = record { memory = on.memory; active = on.active; awaited = on.awaited }; answer = tt {0} })
 act_fits {G} kept monitor program gate m g a rest s ok work w (repeat body span) h = begins_fits kept monitor program m g a rest s body work h w
 act_fits {G} kept monitor program gate m g a rest s ok work w break_out h =
@@ -407,13 +401,13 @@ works_fits {G} kept monitor program gate m g a rest s ok (run no_stmts ∷ work)
     record { machine = record { memory = on.memory; active = on.active; awaited = on.awaited }; answer = tt {0} }
 works_fits {G} kept monitor program gate m g a rest s ok (run (stmt_and t more) ∷ work) h =
     let k = scope_in monitor program a.function in
-    let both : IsTrue (stmt_fits k (is_looped work) t && stmts_fit k (is_looped work) more) = and_left (stmt_fits k (is_looped work) t && stmts_fit k (is_looped work) more) (work_fits k work) h in
+    let both : IsTrue (stmt_fits k (is_looped work) t && stmts_fit k (is_looped work) more) = both_hold_first (stmt_fits k (is_looped work) t && stmts_fit k (is_looped work) more) (work_fits k work) h in
     act_fits kept monitor program gate m g a rest s ok (run more ∷ work)
-    (and_both (stmts_fit k (is_looped work) more) (work_fits k work) (and_right (stmt_fits k (is_looped work) t) (stmts_fit k (is_looped work) more) both) (and_right (stmt_fits k (is_looped work) t && stmts_fit k (is_looped work) more) (work_fits k work) h))
-    t (and_left (stmt_fits k (is_looped work) t) (stmts_fit k (is_looped work) more) both)
+    (both_hold (stmts_fit k (is_looped work) more) (work_fits k work) (both_hold_second (stmt_fits k (is_looped work) t) (stmts_fit k (is_looped work) more) both) (both_hold_second (stmt_fits k (is_looped work) t && stmts_fit k (is_looped work) more) (work_fits k work) h))
+    t (both_hold_first (stmt_fits k (is_looped work) t) (stmts_fit k (is_looped work) more) both)
 works_fits {G} kept monitor program gate m g a rest s ok (head body ∷ work) h =
-    begins_fits kept monitor program m g a rest s body work (and_left (stmts_fit (scope_in monitor program a.function) true body) (work_fits (scope_in monitor program a.function) work) h)
-    (and_right (stmts_fit (scope_in monitor program a.function) true body) (work_fits (scope_in monitor program a.function) work) h)
+    begins_fits kept monitor program m g a rest s body work (both_hold_first (stmts_fit (scope_in monitor program a.function) true body) (work_fits (scope_in monitor program a.function) work) h)
+    (both_hold_second (stmts_fit (scope_in monitor program a.function) true body) (work_fits (scope_in monitor program a.function) work) h)
 
 pub step_keeps : {G : Type 0} → StepKeeps G
 step_keeps {G} kept monitor program gate m g sound ok fits free = go m.active refl

@@ -2,6 +2,7 @@
 use Rattle.std.proofs.Common.{◌≡◌, ◌∙◌, ℕ, refl, ap, sym, subst, false, Option, Some, None, IfOk, List, ◌∷◌, length}
 use Rattle.std.specs.Prelude.{IsTrue, ◌&&◌, ◌||◌, not, slice_get, take, drop, nat_lt}
 use Rattle.pt_base.specs.declared.int_type.IntType.{IntType}
+use Rattle.pt_base.proofs.Booleans.{both_hold_first, both_hold_second, false_not_true}
 use Rattle.typed_tree.specs.declared.types.VarTy.{VarTy}
 use Rattle.typed_tree.specs.declared.types.VarTy.TheVariants.{Int, Struct, Array, Pointer}
 use Rattle.typed_tree.specs.declared.types.StructInfo.{StructInfo}
@@ -9,7 +10,6 @@ use Rattle.typed_tree.specs.Cells.{leaves_of}
 use Rattle.typed_tree.specs.Sizes.{cells_by, sizes_of}
 use Rattle.typed_tree.specs.TypeTests.{same_elem, same_type, is_scalar}
 use Rattle.typed_tree.proofs.LeavesLemmas.{leaves_of_int}
-use Rattle.typed_tree.proofs.WellFormedLemmas.{and_left, and_right}
 use Rattle.source_meaning.proofs.SizeLemmas.{sizes}
 use Rattle.block_memory.specs.declared.cell.Cell.{Cell}
 use Rattle.block_memory.specs.declared.cell.BlockName.TheVariants.{Local}
@@ -28,7 +28,6 @@ use Rattle.core_soundness_law.specs.Fits.{IntegersFit, LieAt, ValueFits, BlockFi
 use Rattle.core_soundness_law.specs.Laws.{ObjectLies, LocationFits}
 use Rattle.core_soundness_law.specs.Outside.{GivenFits}
 use Rattle.typed_tree.proofs.SameTypes.{equal_ints, equal_elems, equal_types}
-use Rattle.core_soundness_law.proofs.Leaves.{never}
 use Rattle.core_soundness_law.proofs.Objects.{Setting, local_fits}
 use Rattle.core_soundness_law.proofs.Values.{bound, known_variable, values, places}
 use Rattle.core_soundness_law.proofs.Memory.{replaced, integer_written, pointer_written, integers_all_written, object_cells_fit, fresh_fits, types_of_block}
@@ -37,22 +36,22 @@ use Rattle.core_soundness_law.proofs.Settings.{same_depth}
 -- a value fits each type that it may stand for
 pub stands : (kept : Kept) (structs : List StructInfo) (blocks : Blocks) (depth : ℕ) (a b : VarTy) (v : Cell) → IsTrue (stands_for a b) → ValueFits kept structs blocks depth a v → ValueFits kept structs blocks depth b v
 stands kept structs blocks depth (Int a) (Int b) v h f = subst (λ t. ValueFits kept structs blocks depth (Int t) v) (equal_ints a b h) f
-stands kept structs blocks depth (Int a) (Struct n) v h f = never h
-stands kept structs blocks depth (Int a) (Array elem count) v h f = never h
-stands kept structs blocks depth (Int a) (Pointer elem fixed) v h f = never h
+stands kept structs blocks depth (Int a) (Struct n) v h f = false_not_true h
+stands kept structs blocks depth (Int a) (Array elem count) v h f = false_not_true h
+stands kept structs blocks depth (Int a) (Pointer elem fixed) v h f = false_not_true h
 stands kept structs blocks depth (Struct n) b v h f = elim f [ ]
 stands kept structs blocks depth (Array elem count) b v h f = elim f [ ]
-stands kept structs blocks depth (Pointer a f1) (Int b) v h f = never h
-stands kept structs blocks depth (Pointer a f1) (Struct n) v h f = never h
-stands kept structs blocks depth (Pointer a f1) (Array elem count) v h f = never h
-stands kept structs blocks depth (Pointer a f1) (Pointer b f2) v h f = subst (λ e. ValueFits kept structs blocks depth (Pointer e f2) v) (equal_elems a b (and_left (same_elem a b) (not f1 || f2) h)) f
+stands kept structs blocks depth (Pointer a f1) (Int b) v h f = false_not_true h
+stands kept structs blocks depth (Pointer a f1) (Struct n) v h f = false_not_true h
+stands kept structs blocks depth (Pointer a f1) (Array elem count) v h f = false_not_true h
+stands kept structs blocks depth (Pointer a f1) (Pointer b f2) v h f = subst (λ e. ValueFits kept structs blocks depth (Pointer e f2) v) (equal_elems a b (both_hold_first (same_elem a b) (not f1 || f2) h)) f
 
 -- a value that fits goes to an object of its type
 pub stored : (kept : Kept) (program : ProgramTree) (a : Active) (rest : List Active) (blocks : Blocks) → MemoryFits kept program (a ∷ rest) blocks → (ty : VarTy) (at : Location) (v : Cell) → IsTrue (is_scalar (Some ty)) →
     LocationFits (context_in program a.function) blocks a.depth ty at → ValueFits kept program.structs blocks a.depth ty v → MemoryFits kept program (a ∷ rest) (written blocks at.block at.cell v)
 stored kept program a rest blocks mem (Int t) at v h fits f = integer_written kept program (a ∷ rest) blocks at.block at.cell t v mem (subst (λ ts. LieAt (blocks at.block).types at.cell ts) (leaves_of_int program.structs t) fits.lies.1) f
-stored kept program a rest blocks mem (Struct n) at v h fits f = never h
-stored kept program a rest blocks mem (Array elem count) at v h fits f = never h
+stored kept program a rest blocks mem (Struct n) at v h fits f = false_not_true h
+stored kept program a rest blocks mem (Array elem count) at v h fits f = false_not_true h
 stored kept program a rest blocks mem (Pointer elem fixed) at v h fits f =
     subst (λ b. MemoryFits kept program (a ∷ rest) (written blocks b at.cell v)) (sym fits.lies.2)
     (subst (λ n. MemoryFits kept program (a ∷ rest) (written blocks (Local a.depth fits.lies.0) n v)) (sym fits.lies.3)
@@ -65,20 +64,20 @@ pub assigned_fits : (kept : Kept) (program : ProgramTree) (a : Active) (rest : L
 assigned_fits kept program a rest blocks s mem p e h =
     let c : Context = context_in program a.function in
     let ty : VarTy = place_type c p in
-    let more : IsTrue (is_scalar (Some ty) && value_fits c ty e) = and_right (place_fits c p) (is_scalar (Some ty) && value_fits c ty e) h in
-    let value : IsTrue (expr_fits c e && stands_for (type_of c e) ty) = and_right (is_scalar (Some ty)) (value_fits c ty e) more in
-    bound (LocationFits c blocks a.depth ty) (MemoryFits kept program (a ∷ rest)) (location_of c a.depth p blocks) _ (places kept c a.depth blocks s p (and_left (place_fits c p) (is_scalar (Some ty) && value_fits c ty e) h))
-    (λ at lies. bound (ValueFits kept c.structs blocks a.depth (type_of c e)) (MemoryFits kept program (a ∷ rest)) (value_of c a.depth e blocks) _ (values kept c a.depth blocks s e (and_left (expr_fits c e) (stands_for (type_of c e) ty) value))
-    (λ v fits. stored kept program a rest blocks mem ty at v (and_left (is_scalar (Some ty)) (value_fits c ty e) more) lies
-    (stands kept c.structs blocks a.depth (type_of c e) ty v (and_right (expr_fits c e) (stands_for (type_of c e) ty) value) fits)))
+    let more : IsTrue (is_scalar (Some ty) && value_fits c ty e) = both_hold_second (place_fits c p) (is_scalar (Some ty) && value_fits c ty e) h in
+    let value : IsTrue (expr_fits c e && stands_for (type_of c e) ty) = both_hold_second (is_scalar (Some ty)) (value_fits c ty e) more in
+    bound (LocationFits c blocks a.depth ty) (MemoryFits kept program (a ∷ rest)) (location_of c a.depth p blocks) _ (places kept c a.depth blocks s p (both_hold_first (place_fits c p) (is_scalar (Some ty) && value_fits c ty e) h))
+    (λ at lies. bound (ValueFits kept c.structs blocks a.depth (type_of c e)) (MemoryFits kept program (a ∷ rest)) (value_of c a.depth e blocks) _ (values kept c a.depth blocks s e (both_hold_first (expr_fits c e) (stands_for (type_of c e) ty) value))
+    (λ v fits. stored kept program a rest blocks mem ty at v (both_hold_first (is_scalar (Some ty)) (value_fits c ty e) more) lies
+    (stands kept c.structs blocks a.depth (type_of c e) ty v (both_hold_second (expr_fits c e) (stands_for (type_of c e) ty) value) fits)))
 
 -- ---- copies
 
 compound_lies : (c : Context) (blocks : Blocks) (depth : ℕ) (ty : VarTy) (at : Location) → IsTrue (is_compound ty) → ObjectLies c blocks depth ty at → LieAt (blocks at.block).types at.cell (leaves_of c.structs ty)
-compound_lies c blocks depth (Int t) at h lies = never h
+compound_lies c blocks depth (Int t) at h lies = false_not_true h
 compound_lies c blocks depth (Struct n) at h lies = lies.1
 compound_lies c blocks depth (Array elem count) at h lies = lies.1
-compound_lies c blocks depth (Pointer elem fixed) at h lies = never h
+compound_lies c blocks depth (Pointer elem fixed) at h lies = false_not_true h
 
 copy_fits : (kept : Kept) (program : ProgramTree) (a : Active) (rest : List Active) (blocks : Blocks) → MemoryFits kept program (a ∷ rest) blocks → (ty : VarTy) (at from : Location) → IsTrue (is_compound ty) →
     LocationFits (context_in program a.function) blocks a.depth ty at → LocationFits (context_in program a.function) blocks a.depth ty from →
@@ -98,12 +97,12 @@ pub copied_fits : (kept : Kept) (program : ProgramTree) (a : Active) (rest : Lis
 copied_fits kept program a rest blocks s mem p q h =
     let c : Context = context_in program a.function in
     let ty : VarTy = place_type c p in
-    let both : IsTrue (place_fits c p && place_fits c q) = and_left (place_fits c p && place_fits c q) (is_compound ty && same_type ty (place_type c q)) h in
-    let types : IsTrue (is_compound ty && same_type ty (place_type c q)) = and_right (place_fits c p && place_fits c q) (is_compound ty && same_type ty (place_type c q)) h in
-    let same : ty ≡ place_type c q = equal_types ty (place_type c q) (and_right (is_compound ty) (same_type ty (place_type c q)) types) in
-    bound (LocationFits c blocks a.depth ty) (MemoryFits kept program (a ∷ rest)) (location_of c a.depth p blocks) _ (places kept c a.depth blocks s p (and_left (place_fits c p) (place_fits c q) both))
-    (λ at to. bound (LocationFits c blocks a.depth (place_type c q)) (MemoryFits kept program (a ∷ rest)) (location_of c a.depth q blocks) _ (places kept c a.depth blocks s q (and_right (place_fits c p) (place_fits c q) both))
-    (λ from of. copy_fits kept program a rest blocks mem ty at from (and_left (is_compound ty) (same_type ty (place_type c q)) types) to (subst (λ u. LocationFits c blocks a.depth u from) (sym same) of)))
+    let both : IsTrue (place_fits c p && place_fits c q) = both_hold_first (place_fits c p && place_fits c q) (is_compound ty && same_type ty (place_type c q)) h in
+    let types : IsTrue (is_compound ty && same_type ty (place_type c q)) = both_hold_second (place_fits c p && place_fits c q) (is_compound ty && same_type ty (place_type c q)) h in
+    let same : ty ≡ place_type c q = equal_types ty (place_type c q) (both_hold_second (is_compound ty) (same_type ty (place_type c q)) types) in
+    bound (LocationFits c blocks a.depth ty) (MemoryFits kept program (a ∷ rest)) (location_of c a.depth p blocks) _ (places kept c a.depth blocks s p (both_hold_first (place_fits c p) (place_fits c q) both))
+    (λ at to. bound (LocationFits c blocks a.depth (place_type c q)) (MemoryFits kept program (a ∷ rest)) (location_of c a.depth q blocks) _ (places kept c a.depth blocks s q (both_hold_second (place_fits c p) (place_fits c q) both))
+    (λ from of. copy_fits kept program a rest blocks mem ty at from (both_hold_first (is_compound ty) (same_type ty (place_type c q)) types) to (subst (λ u. LocationFits c blocks a.depth u from) (sym same) of)))
 
 -- ---- declarations and results
 
@@ -121,10 +120,10 @@ cleared_fits kept program a rest blocks s mem v h =
 pub kept_fits : (kept : Kept) (program : ProgramTree) (a : Active) (rest : List Active) (blocks : Blocks) → Setting kept (context_in program a.function) a.depth blocks → MemoryFits kept program (a ∷ rest) blocks → (result : Option IntType) (to : Option ℕ) (v : Option Cell) →
     IsTrue (result_fits (context_in program a.function) result to) → GivenFits kept result v → MemoryFits kept program (a ∷ rest) (with_result a.depth to v blocks)
 kept_fits kept program a rest blocks s mem result None v h f = mem
-kept_fits kept program a rest blocks s mem None (Some x) v h f = never (and_right (nat_lt x (length (context_in program a.function).variables)) false h)
+kept_fits kept program a rest blocks s mem None (Some x) v h f = false_not_true (both_hold_second (nat_lt x (length (context_in program a.function).variables)) false h)
 kept_fits kept program a rest blocks s mem (Some t) (Some x) None h f = elim f [ ]
 kept_fits kept program a rest blocks s mem (Some t) (Some x) (Some v) h f =
     let c : Context = context_in program a.function in
-    let same : Int t ≡ type_at c.variables x = equal_types (Int t) (type_at c.variables x) (and_right (nat_lt x (length c.variables)) (same_type (Int t) (type_at c.variables x)) h) in
-    let is : slice_get c.variables x ≡ Some (Int t) = known_variable c x (and_left (nat_lt x (length c.variables)) (same_type (Int t) (type_at c.variables x)) h) ∙ ap Some (sym same) in
+    let same : Int t ≡ type_at c.variables x = equal_types (Int t) (type_at c.variables x) (both_hold_second (nat_lt x (length c.variables)) (same_type (Int t) (type_at c.variables x)) h) in
+    let is : slice_get c.variables x ≡ Some (Int t) = known_variable c x (both_hold_first (nat_lt x (length c.variables)) (same_type (Int t) (type_at c.variables x)) h) ∙ ap Some (sym same) in
     stored kept program a rest blocks mem (Int t) (record { block = Local a.depth x; cell = 0; ty = Int t }) v refl (local_fits kept c a.depth blocks s x (Int t) is) f

@@ -6,6 +6,7 @@ use Rattle.std.proofs.lemmas.Bool.Decides.{nat_tests}
 use Rattle.pt_base.specs.declared.int_type.IntType.{IntType}
 use Rattle.pt_base.specs.declared.int_type.IntType.TheVariants as i
 use Rattle.pt_base.specs.declared.span.Span.{Span}
+use Rattle.pt_base.proofs.Booleans.{false_not_true}
 use Rattle.pt_tree.specs.declared.signature.Elem.TheVariants as e
 use Rattle.typed_tree.specs.declared.types.VarTy.{VarTy}
 use Rattle.typed_tree.specs.declared.types.VarTy.TheVariants.{Int, Pointer}
@@ -24,7 +25,6 @@ use Rattle.pt_core.specs.Steps.{Active, at_rest}
 use Rattle.pt_core.specs.Values.{written}
 use Rattle.core_soundness_law.specs.Kept.{Kept, any, none, by_store}
 use Rattle.core_soundness_law.specs.Fits.{IntegerFits, IntegersFit, LieAt, PointerFits, HasPointer, LocalFits, MemoryFits, Fits}
-use Rattle.core_soundness_law.proofs.Leaves.{never}
 
 abbrev anywhere : Span
 anywhere = record { from = 0; to = 0 }
@@ -127,7 +127,7 @@ pub written_wants_kept : MemoryFits (by_store ((i.Long, pos 5) ∷ [])) program 
 written_wants_kept mem = lost (mem.received_cells 0)
   where
     lost : Holds (by_store ((i.Long, pos 5) ∷ [])) (sent (cell.Sealed 0)) → ⊥
-    lost h = never h.0
+    lost h = false_not_true h.0
 
 -- A handle of a store fits where the store has a number of the type, and nowhere where there is no store.
 pub handle_fits : MemoryFits (by_store ((i.Int, pos 5) ∷ [])) program (f ∷ []) (memory (cell.Sealed 0))
@@ -137,7 +137,7 @@ pub none_fits : MemoryFits none program (f ∷ []) (memory (cell.Sealed 0)) → 
 none_fits mem = lost (mem.received_cells 0)
   where
     lost : Holds none (sent (cell.Sealed 0)) → ⊥
-    lost h = never h.0
+    lost h = false_not_true h.0
 
 -- ---- programs that aren't sound
 
@@ -149,7 +149,7 @@ pub rest_wants_ranges : Fits any false (with_global (pos 4_294_967_296)) (at_res
 rest_wants_ranges fits = lost (leaves_of [] (Int i.Int)) (leaves_of_int [] i.Int) (fits.memory.global_cells 0)
   where
     lost : (ts : List IntType) → ts ≡ i.Int ∷ [] → IntegersFit any ts (cell.Int (pos 4_294_967_296) ∷ []) → ⊥
-    lost ts is h = let one : IntegersFit any (i.Int ∷ []) (cell.Int (pos 4_294_967_296) ∷ []) = subst (λ us. IntegersFit any us (cell.Int (pos 4_294_967_296) ∷ [])) is h in never one.0
+    lost ts is h = let one : IntegersFit any (i.Int ∷ []) (cell.Int (pos 4_294_967_296) ∷ []) = subst (λ us. IntegersFit any us (cell.Int (pos 4_294_967_296) ∷ [])) is h in false_not_true one.0
 
 abbrev twice : ProgramTree
 twice = record program {

@@ -1,10 +1,12 @@
 -- Calls, step by step, at each depth.
-use Rattle.std.proofs.Common.{◌≡◌, ℕ, zero, suc, ◌+◌, ◌-◌, ◌≤◌, ◌<◌, List, [], ◌∷◌, Option, Some, None, Bool, true, false, refl, ap, subst, arith}
+use Rattle.std.proofs.Common.{◌≡◌, ℕ, zero, suc, ◌+◌, ◌-◌, ◌≤◌, ◌<◌, List, [], ◌∷◌, Option, Some, None, Bool, true, false, refl, subst, arith}
 use Rattle.std.specs.Prelude.{if◌then◌else◌, ◌||◌, nat_le, map}
 use Rattle.std.proofs.lemmas.Bool.{le-leb, lt-leb}
 use Rattle.pt_base.specs.declared.int_type.IntType.{IntType}
 use Rattle.pt_base.specs.declared.span.Span.{Span}
 use Rattle.pt_base.specs.declared.trap.Trap.TheVariants.{Depth}
+use Rattle.pt_base.proofs.Booleans.{if_false, if_true}
+use Rattle.pt_base.proofs.Numbers.{at_most_self}
 use Rattle.pt_tree.specs.HostStep.{host_step}
 use Rattle.block_memory.specs.declared.cell.Cell.{Cell}
 use Rattle.block_memory.specs.Blocks.{without_frames}
@@ -21,7 +23,7 @@ use Rattle.pt_core.specs.Steps.{Work, run, Active, Machine, moved, Step, answers
 use Rattle.core_steps_law.specs.WholeRun.{Outside, whole_gate, whole_noted, answered}
 use Rattle.core_steps_law.specs.Laws.{machine_at, outside_of}
 use Rattle.core_steps_law.proofs.Leads.{Leads, leads_same, leads_is, leads_on}
-use Rattle.core_steps_law.proofs.Spots.{Spot, active_in, stack, frame_in, with_work, step_of, Runs, runs_from, at_most, reached, with_left, turn_runs}
+use Rattle.core_steps_law.proofs.Spots.{Spot, active_in, stack, frame_in, with_work, step_of, Runs, runs_from, reached, with_left, turn_runs}
 use Rattle.core_steps_law.proofs.StatementSteps.{CallsFollow, all_run}
 
 -- ---- hosts
@@ -51,7 +53,7 @@ host_runs p f args result work st le =
     gives (number_cell answer.result) (after_answer f answer st2))
     work st.left refl le (λ st1. refl)
     (λ l room e.
-    reached p l (host_answer p (stack p work) (with_left l st) f args result) work (answered_state p (with_left l st) f args result) (at_most l)
+    reached p l (host_answer p (stack p work) (with_left l st) f args result) work (answered_state p (with_left l st) f args result) (at_most_self l)
     (leads_same p.program (host_answer p (stack p work) (with_left l st) f args result)))
 
 -- ---- functions
@@ -116,13 +118,6 @@ entered_state p f args st =
     let st2 = noted_call p.program (frame_in p) f args st in
     t.with_blocks (entered p.program f (p.depth + 1) args st2.memory) st2
 
--- the depth is tested
-if_true : {A : Type 0} (b : Bool) (x y : A) → b ≡ true → (if b then x else y) ≡ x
-if_true b x y e = ap (λ b. if b then x else y) e
-
-if_false : {A : Type 0} (b : Bool) (x y : A) → b ≡ false → (if b then x else y) ≡ y
-if_false b x y e = ap (λ b. if b then x else y) e
-
 function_runs : (p : Spot) (calls : t.Calls) → ((q : Spot) → q.program ≡ p.program → q.depth ≡ p.depth + 1 → CallsFollow q calls) → p.depth < deepest →
     (span : Span) (f : ℕ) (args : List Cell) (result : Option ℕ) (work : List Work) (st : State) → st.left ≤ p.machine.budget →
     Runs p st.left (enters_at p.program (whole_gate p.program) (machine_at p.machine (stack p work) st) (outside_of st) span f args result (p.depth + 1)) work (function_call p.program calls (frame_in p) f args st >>= kept_in (frame_in p) result)
@@ -132,7 +127,7 @@ function_runs p calls follow deep span f args result work st le =
     runs_from p st.left st.left
     (enters_at p.program (whole_gate p.program) (machine_at p.machine (stack p work) st) (outside_of st) span f args result (p.depth + 1))
     (turned (machine_at p.machine (stack p work) st) (outside_of st) (entering p f args result work st)) work
-    (function_call p.program calls (frame_in p) f args st >>= kept_in (frame_in p) result) (at_most st.left)
+    (function_call p.program calls (frame_in p) f args st >>= kept_in (frame_in p) result) (at_most_self st.left)
     (leads_is p.program _ _
     (if_true (nat_le (p.depth + 1) deepest)
     (turned (machine_at p.machine (stack p work) st) (outside_of st) (entering p f args result work st))
@@ -143,7 +138,7 @@ function_runs p calls follow deep span f args result work st le =
     (λ l room e.
     runs_from p l l (entering p f args result work st (machine_at p.machine (stack p work) (with_left l st)))
     (with_work q (run (function_in p.program f).body ∷ []) (entered_state p f args (with_left l st))) work
-    (body_run p.program calls (inner_frame p.program (frame_in p) f) f args (noted_call p.program (frame_in p) f args (with_left l st)) >>= kept_in (frame_in p) result) (at_most l)
+    (body_run p.program calls (inner_frame p.program (frame_in p) f) f args (noted_call p.program (frame_in p) f args (with_left l st)) >>= kept_in (frame_in p) result) (at_most_self l)
     (leads_same p.program (entering p f args result work st (machine_at p.machine (stack p work) (with_left l st))))
     (body_runs p f result work l (with_work q (run (function_in p.program f).body ∷ []) (entered_state p f args (with_left l st)))
     (do_all (function_in p.program f).body (frame_in q) calls (entered_state p f args (with_left l st)))

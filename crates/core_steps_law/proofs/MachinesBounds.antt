@@ -1,5 +1,7 @@
 -- Any number of steps.
 use Rattle.std.proofs.Common.{◌≡◌, ◌∙◌, ℕ, zero, suc, ◌+◌, ◌-◌, ◌*◌, ◌≤◌, ◌<◌, List, Some, None, true, false, refl, sym, ap, subst, arith}
+use Rattle.pt_base.proofs.Booleans.{false_not_true}
+use Rattle.pt_base.proofs.Numbers.{at_most_self}
 use Rattle.pt_core.specs.CodeTree.{ProgramTree}
 use Rattle.runs.specs.Run.{Run}
 use Rattle.pt_core.specs.CoreRun.{core_run}
@@ -38,22 +40,16 @@ bounded_by program wide (suc n) gates states machines fits each =
     bounded_by program wide n (λ k. gates (suc k)) (λ k. states (suc k)) (λ k. machines (suc k)) used.fits (λ k lower. each (suc k) (omega arith)) in
     omega arith
 
-self : (n : ℕ) → n ≤ n
-self n = omega arith
-
 pub steps_are_bounded : {G : Type 0} → StepsAreBounded G
-steps_are_bounded program gates states machines n each = bounded_by program (breadth program (machines 0).active) n gates states machines (self (breadth program (machines 0).active)) each
+steps_are_bounded program gates states machines n each = bounded_by program (breadth program (machines 0).active) n gates states machines (at_most_self (breadth program (machines 0).active)) each
 
 -- ---- runs
 
 moved_goes : (a : Answer) → a ≡ moved → goes a ≡ true
 moved_goes a e = ap goes e
 
-differ : {A : Type 0} → false ≡ true → A
-differ e = cc
-
 not_moved : {A : Type 0} (a : Answer) → goes a ≡ false → a ≡ moved → A
-not_moved a f e = differ (sym f ∙ ap goes e)
+not_moved a f e = false_not_true (sym f ∙ ap goes e)
 
 -- a step that moved, and then a run that did
 moved_by : {G : Type 0} (program : ProgramTree) (gate : Gate G) (wide n k : ℕ) (answer : Answer) (m : Machine) (g : G) → (goes answer ≡ true → IsUsed program wide k m) →
@@ -84,7 +80,7 @@ over : (n k : ℕ) → n ≤ k → k < n → ⊥
 over n k h i = absurd (omega arith)
 
 pub runs_are_bounded : {G : Type 0} → RunsAreBounded G
-runs_are_bounded program gate m g n less h = over n (room program m) (run_bounded program gate (breadth program m.active) n m g (self (breadth program m.active)) h) less
+runs_are_bounded program gate m g n less h = over n (room program m) (run_bounded program gate (breadth program m.active) n m g (at_most_self (breadth program m.active)) h) less
 
 -- ---- whole runs
 

@@ -5,6 +5,7 @@ use Rattle.std.specs.List.{find}
 use Rattle.std.proofs.lemmas.Bool.{ltb-true, leb-true, leb-false}
 use Rattle.pt_base.specs.declared.int_type.IntType.{IntType}
 use Rattle.pt_base.specs.declared.span.Span.{Span}
+use Rattle.pt_base.proofs.Booleans.{false_not_true}
 use Rattle.runs.specs.Run.{deepest}
 use Rattle.block_memory.specs.declared.cell.Cell.{Cell}
 use Rattle.block_memory.specs.Blocks.{Blocks}
@@ -40,12 +41,12 @@ larger_less a b n h k = larger_than (nat_le a b) a b n h k
 
 -- ---- the code of functions
 
-body_by : (c : Bool) (f : FunctionTree) (o : Option FunctionTree) (n : ℕ) → stmts_size f.body ≤ n → stmts_size (unwrap_or o no_function).body ≤ n →
+pub body_by : (c : Bool) (f : FunctionTree) (o : Option FunctionTree) (n : ℕ) → stmts_size f.body ≤ n → stmts_size (unwrap_or o no_function).body ≤ n →
     stmts_size (unwrap_or (if c then Some f else o) no_function).body ≤ n
 body_by true f o n h k = h
 body_by false f o n h k = k
 
-body_found : (functions : List FunctionTree) (f n : ℕ) → largest_function functions ≤ n → stmts_size (unwrap_or (find (λ (g : FunctionTree). nat_eq f g.id) functions) no_function).body ≤ n
+pub body_found : (functions : List FunctionTree) (f n : ℕ) → largest_function functions ≤ n → stmts_size (unwrap_or (find (λ (g : FunctionTree). nat_eq f g.id) functions) no_function).body ≤ n
 body_found [] f n h = omega arith
 body_found (g ∷ rest) f n h =
     body_by (nat_eq f g.id) g (find (λ (g : FunctionTree). nat_eq f g.id) rest) n (first_less (stmts_size g.body) (largest_function rest) n h)
@@ -113,9 +114,6 @@ Uses program wide n x = goes x.answer ≡ true → IsUsed program wide n x.machi
 abbrev turns_room : ℕ → Machine → ℕ
 turns_room wide m = (m.budget - m.turns) * (wide + 1)
 
-not_true : {A : Type 0} → false ≡ true → A
-not_true e = cc
-
 module _ {G : Type 0} (program : ProgramTree) (gate : Gate G) (wide n : ℕ) (code : largest_function program.functions ≤ wide) where
   -- the active functions fit where the innermost does and the others do
   fits_by : (work : List Work) (rest : List Active) → largest_work work ≤ wide → largest_active rest ≤ wide → larger (largest_function program.functions) (larger (largest_work work) (largest_active rest)) ≤ wide
@@ -131,14 +129,14 @@ module _ {G : Type 0} (program : ProgramTree) (gate : Gate G) (wide n : ℕ) (co
 
   uses_value : {A : Type 0} (r : Result A Stop) (m : Machine) (g : G) (next : A → Step G) → ((a : A) → Uses program wide n (next a)) → Uses program wide n (on_value r m g next)
   uses_value (Ok a) m g next k = k a
-  uses_value (Err stop) m g next k = λ e. not_true e
+  uses_value (Err stop) m g next k = λ e. false_not_true e
 
   uses_turned : (m : Machine) (g : G) (next : Machine → Step G) → (turns_room wide m ≡ (wide + 1) + turns_room wide (with_turn m) → Uses program wide n (next (with_turn m))) → Uses program wide n (turned m g next)
   uses_turned m g next k = by_test (nat_lt m.turns m.budget) refl
     where
       by_test : (b : Bool) → nat_lt m.turns m.budget ≡ b → Uses program wide n (if b then next (with_turn m) else answers spent m g)
       by_test true e = k (a_turn m.budget m.turns wide (ltb-true m.turns m.budget e))
-      by_test false e = λ e1. not_true e1
+      by_test false e = λ e1. false_not_true e1
 
   uses_either : (b : Bool) (x y : Step G) → Uses program wide n x → Uses program wide n y → Uses program wide n (if b then x else y)
   uses_either true x y h k = h
@@ -146,7 +144,7 @@ module _ {G : Type 0} (program : ProgramTree) (gate : Gate G) (wide n : ℕ) (co
 
   uses_returned : (m : Machine) (g : G) (a : Active) (rest : List Active) (v : Option Cell) →
       turns_room wide m + steps_left rest < n → largest_active rest ≤ wide → Uses program wide n (returned m g a rest v)
-  uses_returned m g a [] v less k = λ e. not_true e
+  uses_returned m g a [] v less k = λ e. false_not_true e
   uses_returned m g a (caller ∷ rest) v less k = λ e. record {
     less = less;
     fits = larger_less (largest_function program.functions) (largest_active (caller ∷ rest)) wide code k;
@@ -155,7 +153,7 @@ module _ {G : Type 0} (program : ProgramTree) (gate : Gate G) (wide n : ℕ) (co
   uses_end : (t : Option IntType) (span : Span) (m : Machine) (g : G) (a : Active) (rest : List Active) →
       turns_room wide m + steps_left rest < n → largest_active rest ≤ wide → Uses program wide n (at_end t span m g a rest)
   uses_end None span m g a rest less k = uses_returned m g a rest None less k
-  uses_end (Some t) span m g a rest less k = λ e. not_true e
+  uses_end (Some t) span m g a rest less k = λ e. false_not_true e
 
   uses_begins : (m : Machine) (g : G) (a : Active) (rest : List Active) (body : StmtTrees) (work : List Work) →
       turns_room wide m + (suc (all_steps work) + steps_left rest) < n → stmts_size body ≤ wide → largest_work work ≤ wide → largest_active rest ≤ wide →
@@ -186,7 +184,7 @@ module _ {G : Type 0} (program : ProgramTree) (gate : Gate G) (wide n : ℕ) (co
         less = omega arith;
         fits = fits_by (run (function_in program f).body ∷ []) (record a { work = work } ∷ rest) (larger_less (stmts_size (function_in program f).body) 0 wide small (omega arith)) (larger_less (largest_work work) (largest_active rest) wide h k);
       }))
-      (λ e. not_true e)
+      (λ e. false_not_true e)
   uses_way m g a rest work span f args result depth here less h k =
       let m1 : Machine = working m a rest work in
       uses_turned m1 g
@@ -198,7 +196,7 @@ module _ {G : Type 0} (program : ProgramTree) (gate : Gate G) (wide n : ℕ) (co
       (λ e. record { less = less; fits = fits_by work rest h k })
       (uses_either (nat_le (depth + 1) deepest) _ _
       (λ e. record { less = less; fits = fits_by work rest h k })
-      (λ e. not_true e))
+      (λ e. false_not_true e))
 
   uses_act : (m : Machine) (g : G) (a : Active) (rest : List Active) (work : List Work) (s : StmtTree) →
       turns_room wide m + (suc (stmt_size s + all_steps work) + steps_left rest) ≤ n → stmt_size s ≤ wide → largest_work work ≤ wide → largest_active rest ≤ wide →
@@ -241,7 +239,7 @@ module _ {G : Type 0} (program : ProgramTree) (gate : Gate G) (wide n : ℕ) (co
       uses_begins m g a rest body work (omega arith) (first_less (stmts_size body) (largest_work work) wide h) (second_less (stmts_size body) (largest_work work) wide h) k
 
   uses_stepped : (m : Machine) (g : G) (active : List Active) → turns_room wide m + steps_left active ≤ n → largest_active active ≤ wide → Uses program wide n (stepped program gate m g active)
-  uses_stepped m g [] room k = λ e. not_true e
+  uses_stepped m g [] room k = λ e. false_not_true e
   uses_stepped m g (a ∷ rest) room k =
       let same : all_steps (settled a.work) ≡ all_steps a.work = settled_steps a.work in
       uses_works m g a rest a.work (settled a.work) refl (omega arith)

@@ -78,9 +78,6 @@ runs_from p n m a b work (gives (returned v) st) le l r = let h : st.left ≤ n 
 runs_from p n m a b work (trapped trap span st) le l r = halts_from p a b (s.trapped trap span) st l r
 runs_from p n m a b work (spent st) le l r = halts_from p a b s.spent st l r
 
-pub at_most : (n : ℕ) → n ≤ n
-at_most n = omega arith
-
 -- the very work is reached
 pub reached : (p : Spot) (n : ℕ) (from : Step Outside) (work : List Work) (st : State) → st.left ≤ n → Leads p.program from (with_work p work st) → Runs p n from work (gives goes_on st)
 reached p n from work st le l = (le, record { left_work = work; same = refl; by = l })

@@ -2,6 +2,7 @@
 use Rattle.std.proofs.Common.{◌≡◌, ℕ, zero, suc, ◌≤◌, List, [], ◌∷◌, Option, Bool, true, false, refl, arith}
 use Rattle.std.specs.Prelude.{if◌then◌else◌}
 use Rattle.pt_base.specs.declared.span.Span.{Span}
+use Rattle.pt_base.proofs.Numbers.{at_most_self as at_most}
 use Rattle.block_memory.specs.declared.cell.Cell.{Cell}
 use Rattle.runs.specs.State.{gives, trapped, spent, ◌>>=◌, take_turn}
 use Rattle.pt_core.specs.CodeTree.{StmtTree, clear, check, assign, copy, call, choose, repeat, break_out, continue_on, give_back, StmtTrees, no_stmts, stmt_and}
@@ -13,7 +14,7 @@ use Rattle.pt_core.specs.Steps.{Work, run, head, Active, Machine, moved, Step, a
 use Rattle.core_steps_law.specs.WholeRun.{Outside, whole_gate, whole_way}
 use Rattle.core_steps_law.specs.Laws.{machine_at, outside_of}
 use Rattle.core_steps_law.proofs.Leads.{Leads, leads_same, leads_is, leads_on}
-use Rattle.core_steps_law.proofs.Spots.{Spot, active_in, stack, frame_in, with_work, step_of, Runs, runs_from, at_most, reached, value_runs, with_left, turn_runs}
+use Rattle.core_steps_law.proofs.Spots.{Spot, active_in, stack, frame_in, with_work, step_of, Runs, runs_from, reached, value_runs, with_left, turn_runs}
 
 -- what a call does in this function, with this work behind it
 abbrev pub CallsFollow : Spot → Calls → Type 0

@@ -3,6 +3,7 @@ use Rattle.std.proofs.Common.{◌≡◌, ℕ, ◌-◌, ◌≤◌, List, [], ◌�
 use Rattle.pt_base.specs.declared.int_type.IntType.{IntType}
 use Rattle.pt_base.specs.declared.span.Span.{Span}
 use Rattle.pt_base.specs.declared.trap.Trap.TheVariants.{NoReturn}
+use Rattle.pt_base.proofs.Numbers.{at_most_self}
 use Rattle.block_memory.specs.declared.cell.Cell.{Cell}
 use Rattle.runs.specs.State.{Hosts, gives, trapped, spent, ◌>>=◌}
 use Rattle.runs.specs.Run.{deepest}
@@ -17,7 +18,7 @@ use Rattle.pt_core.specs.Steps.{Work, run, Active, Machine, Answer, moved, Step,
 use Rattle.core_steps_law.specs.WholeRun.{Outside, begun_machine, begun_outside, run_seen}
 use Rattle.core_steps_law.specs.Laws.{state_of, machine_at, outside_of, frame_of, Comes, Continues, Stops, Follows, StepsFollowStatements, StepsAreTheRun}
 use Rattle.core_steps_law.proofs.Leads.{Leads, leads_is, leads_on, comes_by, first_end}
-use Rattle.core_steps_law.proofs.Spots.{Spot, active_in, stack, with_work, step_of, Reaches, Halts, Runs, runs_from, at_most}
+use Rattle.core_steps_law.proofs.Spots.{Spot, active_in, stack, with_work, step_of, Reaches, Halts, Runs, runs_from}
 use Rattle.core_steps_law.proofs.StatementSteps.{all_run}
 use Rattle.core_steps_law.proofs.CallSteps.{calls_follow}
 
@@ -70,7 +71,7 @@ steps_follow_statements program m g a rest stmts work e same le =
     let calls : Calls = calls_within program (deepest - a.depth) in
     let o : Outcome Flow = do_all stmts (frame_of program a) calls (state_of m g) in
     follows_by program m g a rest work (m.budget - m.turns) o
-    (runs_from p (m.budget - m.turns) (m.budget - m.turns) (answers moved m g) (with_work p a.work (state_of m g)) work o (at_most (m.budget - m.turns))
+    (runs_from p (m.budget - m.turns) (m.budget - m.turns) (answers moved m g) (with_work p a.work (state_of m g)) work o (at_most_self (m.budget - m.turns))
     (leads_is program _ _ (as_it_is m g a rest e le))
     (all_run p calls (calls_follow (deepest - a.depth) program p refl refl) stmts work a.work (state_of m g) (omega arith) same))
 
@@ -127,9 +128,9 @@ main_seen deeper program hosts input turns e =
     let o : Outcome Flow = do_all body (main_frame program) (calls_within program deeper) st in
     let none : 0 ≡ turns - turns = omega arith in
     seen_by program turns turns from o
-    (runs_from p turns turns from (with_work p (run body ∷ []) st) [] o (at_most turns)
+    (runs_from p turns turns from (with_work p (run body ∷ []) st) [] o (at_most_self turns)
     (leads_is program _ _ (ap (λ k. answers moved (record (begun_machine program turns) { turns = k }) (begun_outside hosts input)) none))
-    (all_run p (calls_within program deeper) (calls_follow deeper program p refl e) body [] (run body ∷ []) st (at_most turns) refl))
+    (all_run p (calls_within program deeper) (calls_follow deeper program p refl e) body [] (run body ∷ []) st (at_most_self turns) refl))
 
 pub steps_are_the_run : StepsAreTheRun
 steps_are_the_run program hosts input turns =

@@ -1,11 +1,13 @@
 -- Functions in whose texts places stand, found by where their names begin.
-use Rattle.std.proofs.Common.{◌≡◌, ◌<◌, ◌≤◌, ◌&&◌, ℕ, zero, suc, refl, subst, arith, Bool, true, false, List, [], ◌∷◌, Option, Some, None, length, get_or, leb, nat_cmp, nat_eq, Ordering, Less, Equal, Greater}
+use Rattle.std.proofs.Common.{◌≡◌, ◌<◌, ◌≤◌, ℕ, zero, suc, refl, subst, arith, Bool, true, false, List, [], ◌∷◌, Option, Some, None, length, get_or, leb, nat_cmp, nat_eq, Ordering, Less, Equal, Greater}
 use Rattle.std.specs.Prelude.{slice_get}
 use Rattle.std.specs.List.Sorted.{IsNonDecreasingBy, IsStrictlySortedBy}
 use Rattle.std.specs.Ordering.{MatchOrdering, ordering_then}
 use Rattle.std.proofs.lemmas.Bool.Decides.{nat_tests}
 use Rattle.std.proofs.lemmas.Cmp.{ranked}
 use Rattle.std.proofs.lemmas.Map.Keys.{Less-from_sorted}
+use Rattle.pt_base.proofs.Booleans.{and_parts}
+use Rattle.pt_base.proofs.Numbers.{nat_eq_same}
 use Rattle.explaining.specs.contracts.homes.HomeOrd.TheImpl as home_ord
 use Rattle.explaining.specs.contracts.homes.HomePartialEq.TheImpl as home_eq
 use Rattle.explaining.specs.declared.homes.Home.{Home}
@@ -16,18 +18,11 @@ use Rattle.explaining.specs.Homes.{home_cmp, item_before, last_begun}
 pub sorted_is : (homes : List Home) → IsStrictlySortedBy home_ord.ghosts.cmp homes → IsStrictlySortedBy home_cmp homes
 sorted_is homes h = h
 
-both : (p q : Bool) → (p && q) ≡ true → (p ≡ true) × (q ≡ true)
-both true q h = (refl, h)
-both false q h = cc
-
-number_same : (m n : ℕ) → nat_eq m n ≡ true → m ≡ n
-number_same m n h = grind (arith, nat_tests)
-
 pub home_same : (a b : Home) → home_eq.ghosts.eq a b ≡ true → a ≡ b
 home_same a b h =
-    let same = both (nat_eq a.at b.at) (nat_eq a.number b.number) h in
-    let at = number_same a.at b.at same.0 in
-    let number = number_same a.number b.number same.1 in
+    let same = and_parts (nat_eq a.at b.at) (nat_eq a.number b.number) h in
+    let at = nat_eq_same a.at b.at same.0 in
+    let number = nat_eq_same a.number b.number same.1 in
     λ i. record { at = at i; number = number i }
 
 -- ---- names ascend

@@ -1,4 +1,3 @@
-mod AppendLemmas
 pub mod Cuts
 mod ExplainLemmas
 mod HoldingLemmas

@@ -1,16 +1,18 @@
 -- Faults in turn are the same faults, in order.
-use Rattle.std.proofs.Common.{◌≡◌, ◌∙◌, ◌<◌, ◌+◌, ◌&&◌, ◌⊎◌, ℕ, zero, suc, refl, ap, sym, subst, arith, inl, inr, Bool, true, false, List, [], ◌∷◌, ◌++◌, Some, length, map, get_or, nat_cmp, nat_eq, Ordering, Less, Equal, Greater}
-use Rattle.std.specs.Prelude.{slice_get}
+use Rattle.std.proofs.Common.{◌≡◌, ◌∙◌, ◌<◌, ◌+◌, ◌&&◌, ◌⊎◌, ℕ, zero, suc, refl, ap, sym, subst, arith, inl, inr, true, List, [], ◌∷◌, ◌++◌, length, map, get_or, nat_cmp, nat_eq, Ordering, Less, Equal, Greater}
 use Rattle.std.specs.List.{AllByRecursion, Contains, flat_map}
 use Rattle.std.specs.List.Sorted.{IsStrictlySortedBy}
 use Rattle.std.specs.Ordering.{MatchOrdering, ordering_then}
 use Rattle.std.specs.Option.{option_map_or}
-use Rattle.std.proofs.lemmas.Bool.Decides.{nat_tests}
 use Rattle.std.proofs.lemmas.Cmp.{ranked}
 use Rattle.std.proofs.lemmas.List.Elements.{Contains-get_or}
 use Rattle.std.proofs.lemmas.Map.Keys.{Less-from_sorted}
-use Rattle.pt_base.specs.declared.span.Span.{Span}
-use Rattle.reach.proofs.ListLemmas.{contains_cases, contains_first, contains_later, contains_map, contains_nothing, from_map}
+use Rattle.std.proofs.lemmas.Option.{slice_get-get_or}
+use Rattle.check_declarations.proofs.FaultLemmas.{span_same}
+use Rattle.pt_base.proofs.Booleans.{and_parts}
+use Rattle.pt_base.proofs.Members.{contains_cases, contains_first, contains_later, contains_nothing}
+use Rattle.pt_base.proofs.Numbers.{nat_eq_same}
+use Rattle.reach.proofs.ListLemmas.{contains_map, from_map}
 use Rattle.sides.specs.declared.slots.SlotInfo.{SlotInfo}
 use Rattle.sides.specs.Slots.{slots_of}
 use Rattle.typed_tree.specs.TypedTree.{TypedTree}
@@ -31,33 +33,18 @@ use Rattle.explaining.specs.Turns.{AreTurnBlocks, AreTurns, fault_in, no_fault, 
 pub sorted_is : (turns : List Turn) → IsStrictlySortedBy turn_ord.ghosts.cmp turns → IsStrictlySortedBy turn_cmp turns
 sorted_is turns h = h
 
-both : (p q : Bool) → (p && q) ≡ true → (p ≡ true) × (q ≡ true)
-both true q h = (refl, h)
-both false q h = cc
-
-span_same : (a b : Span) → (nat_eq a.from b.from && nat_eq a.to b.to) ≡ true → a ≡ b
-span_same a b h = grind (arith, nat_tests)
-
-number_same : (m n : ℕ) → nat_eq m n ≡ true → m ≡ n
-number_same m n h = grind (arith, nat_tests)
-
 pub turn_same : (a b : Turn) → turn_eq.ghosts.eq a b ≡ true → a ≡ b
 turn_same a b h =
-    let one = both (nat_eq a.known b.known) (nat_eq a.seed b.seed && ((nat_eq a.place.from b.place.from && nat_eq a.place.to b.place.to) && nat_eq a.number b.number)) h in
-    let two = both (nat_eq a.seed b.seed) ((nat_eq a.place.from b.place.from && nat_eq a.place.to b.place.to) && nat_eq a.number b.number) one.1 in
-    let three = both (nat_eq a.place.from b.place.from && nat_eq a.place.to b.place.to) (nat_eq a.number b.number) two.1 in
-    let known = number_same a.known b.known one.0 in
-    let seed = number_same a.seed b.seed two.0 in
+    let one = and_parts (nat_eq a.known b.known) (nat_eq a.seed b.seed && ((nat_eq a.place.from b.place.from && nat_eq a.place.to b.place.to) && nat_eq a.number b.number)) h in
+    let two = and_parts (nat_eq a.seed b.seed) ((nat_eq a.place.from b.place.from && nat_eq a.place.to b.place.to) && nat_eq a.number b.number) one.1 in
+    let three = and_parts (nat_eq a.place.from b.place.from && nat_eq a.place.to b.place.to) (nat_eq a.number b.number) two.1 in
+    let known = nat_eq_same a.known b.known one.0 in
+    let seed = nat_eq_same a.seed b.seed two.0 in
     let place = span_same a.place b.place three.0 in
-    let number = number_same a.number b.number three.1 in
+    let number = nat_eq_same a.number b.number three.1 in
     λ i. record { known = known i; seed = seed i; place = place i; number = number i }
 
 -- ---- items of lists
-
-in_list : {X : Type 0} (xs : List X) (k : ℕ) (d : X) → k < length xs → slice_get xs k ≡ Some (get_or xs k d)
-in_list [] k d lt = absurd (omega (arith, lt))
-in_list (x ∷ xs) zero d lt = refl
-in_list (x ∷ xs) (suc k) d lt = in_list xs k d (omega (arith, lt))
 
 same_default : {X : Type 0} (xs : List X) (k : ℕ) (d e : X) → k < length xs → get_or xs k d ≡ get_or xs k e
 same_default [] k d e lt = absurd (omega (arith, lt))
@@ -170,7 +157,7 @@ texts_are name text t slots homes faults [] all = refl
 texts_are name text t slots homes faults (x ∷ turns) all =
     let rest = texts_are name text t slots homes faults turns (λ y i. all y (contains_later x turns y i)) in
     let one : turn_block name text t slots homes faults x ≡ block_in name text t slots homes (fault_in faults x) =
-    ap (λ o. option_map_or (block_in name text t slots homes) o []) (in_list faults x.number no_fault (all x (contains_first x turns))) in
+    ap (λ o. option_map_or (block_in name text t slots homes) o []) (slice_get-get_or faults x.number no_fault (all x (contains_first x turns))) in
     λ i. one i ++ rest i
 
 pub blocks_are : (name program lines : List ℕ) (t : TypedTree) (slots : List SlotInfo) (slice homes : List Home) (text : List ℕ) (faults : List FlowFault) → lines ≡ program → slots ≡ slots_of t → slice ≡ homes →

@@ -1,6 +1,6 @@
 -- Each list has an ascending one with the same keys: its elements are put in their places one by one, and one
 -- that ties with another is left out.
-use Rattle.std.proofs.Common.{◌≡◌, ◌∙◌, ◌<◌, ◌⊎◌, ℕ, zero, suc, List, [], ◌∷◌, length, ap, refl, subst, inl, inr, arith}
+use Rattle.std.proofs.Common.{◌≡◌, ◌∙◌, ◌<◌, ◌⊎◌, ℕ, List, [], ◌∷◌, ap, refl, subst, inl, inr}
 use Rattle.std.specs.Cmp.{IsTotalOrder}
 use Rattle.std.specs.declared.cmp.Ordering.{Ordering}
 use Rattle.std.specs.declared.cmp.Ordering.TheVariants.{Less, Equal, Greater}
@@ -9,21 +9,7 @@ use Rattle.std.specs.List.{AllByRecursion, Contains}
 use Rattle.std.specs.List.Sorted.{IsStrictlySortedBy}
 use Rattle.std.proofs.lemmas.Cmp.{ranked, tied_itself}
 use Rattle.facts.specs.Laws.{ListsAscend}
-
--- ---- members
-
-pub in_nothing : {X : Type 0} (x : X) → Contains [] x → ⊥
-in_nothing x h = let lt : h.0 < 0 = h.1 in absurd (omega arith)
-
-pub in_first : {X : Type 0} (x : X) (xs : List X) → Contains (x ∷ xs) x
-in_first x xs = (0, omega arith, refl)
-
-pub in_later : {X : Type 0} (y : X) (xs : List X) (x : X) → Contains xs x → Contains (y ∷ xs) x
-in_later y xs x h = (suc h.0, let lt : h.0 < length xs = h.1 in omega arith, h.2)
-
-pub in_cases : {X : Type 0} (y : X) (xs : List X) (x : X) → Contains (y ∷ xs) x → (y ≡ x) ⊎ Contains xs x
-in_cases y xs x (zero, lt, is) = inl is
-in_cases y xs x (suc k, lt, is) = inr (k, omega arith, is)
+use Rattle.facts.proofs.Members.{contains_cases, contains_first, contains_later, contains_nothing}
 
 -- ---- ties
 
@@ -63,31 +49,31 @@ module _ {K : Type 0} (R : K → K → Ordering) where
 
   -- what is in its place stays there
   stays : (x : K) (ys : List K) (z : K) → Contains ys z → Contains (put x ys) z
-  stays x [] z h = absurd (in_nothing z h)
-  stays x (y ∷ ys) z h = go (R x y) (stays x ys z) (in_cases y ys z h)
+  stays x [] z h = absurd (contains_nothing z h)
+  stays x (y ∷ ys) z h = go (R x y) (stays x ys z) (contains_cases y ys z h)
     where
       go : (o : Ordering) → (Contains ys z → Contains (put x ys) z) → (y ≡ z) ⊎ Contains ys z → Contains (placed o x y ys (put x ys)) z
-      go Less rest c = in_later x (y ∷ ys) z h
+      go Less rest c = contains_later x (y ∷ ys) z h
       go Equal rest c = h
-      go Greater rest (inl e) = subst (λ (w : K). Contains (y ∷ put x ys) w) e (in_first y (put x ys))
-      go Greater rest (inr c) = in_later y (put x ys) z (rest c)
+      go Greater rest (inl e) = subst (λ (w : K). Contains (y ∷ put x ys) w) e (contains_first y (put x ys))
+      go Greater rest (inr c) = contains_later y (put x ys) z (rest c)
 
   from_put : (x : K) (ys : List K) (z : K) → Contains (put x ys) z → (x ≡ z) ⊎ Contains ys z
-  from_put x [] z h = in_cases x [] z h
+  from_put x [] z h = contains_cases x [] z h
   from_put x (y ∷ ys) z h = go (R x y) (from_put x ys z) h
     where
       later : (x ≡ z) ⊎ Contains ys z → (x ≡ z) ⊎ Contains (y ∷ ys) z
       later (inl e) = inl e
-      later (inr c) = inr (in_later y ys z c)
+      later (inr c) = inr (contains_later y ys z c)
 
       first : (Contains (put x ys) z → (x ≡ z) ⊎ Contains ys z) → (y ≡ z) ⊎ Contains (put x ys) z → (x ≡ z) ⊎ Contains (y ∷ ys) z
-      first rest (inl e) = inr (subst (λ (w : K). Contains (y ∷ ys) w) e (in_first y ys))
+      first rest (inl e) = inr (subst (λ (w : K). Contains (y ∷ ys) w) e (contains_first y ys))
       first rest (inr c) = later (rest c)
 
       go : (o : Ordering) → (Contains (put x ys) z → (x ≡ z) ⊎ Contains ys z) → Contains (placed o x y ys (put x ys)) z → (x ≡ z) ⊎ Contains (y ∷ ys) z
-      go Less rest h = in_cases x (y ∷ ys) z h
+      go Less rest h = contains_cases x (y ∷ ys) z h
       go Equal rest h = inr h
-      go Greater rest h = first rest (in_cases y (put x ys) z h)
+      go Greater rest h = first rest (contains_cases y (put x ys) z h)
 
   -- an ascending list has no other elements
   pub from_ascending : (xs : List K) (z : K) → Contains (ascending xs) z → Contains xs z
@@ -95,8 +81,8 @@ module _ {K : Type 0} (R : K → K → Ordering) where
   from_ascending (x ∷ xs) z h = go (from_ascending xs z) (from_put x (ascending xs) z h)
     where
       go : (Contains (ascending xs) z → Contains xs z) → (x ≡ z) ⊎ Contains (ascending xs) z → Contains (x ∷ xs) z
-      go rest (inl e) = subst (λ (w : K). Contains (x ∷ xs) w) e (in_first x xs)
-      go rest (inr c) = in_later x xs z (rest c)
+      go rest (inl e) = subst (λ (w : K). Contains (x ∷ xs) w) e (contains_first x xs)
+      go rest (inr c) = contains_later x xs z (rest c)
 
 module _ {K : Type 0} (R : K → K → Ordering) (total : IsTotalOrder R) where
   below_all : (x y : K) (ys : List K) → R x y ≡ Less → AllByRecursion (λ z. R y z ≡ Less) ys → AllByRecursion (λ z. R x z ≡ Less) ys
@@ -123,18 +109,18 @@ module _ {K : Type 0} (R : K → K → Ordering) (total : IsTotalOrder R) where
   ascends (x ∷ xs) = put_sorted x (ascending R xs) (ascends xs)
 
   in_put : (x : K) (ys : List K) → (z : K) × Contains (put R x ys) z × (R x z ≡ Equal)
-  in_put x [] = (x, in_first x [], tied_itself total x)
+  in_put x [] = (x, contains_first x [], tied_itself total x)
   in_put x (y ∷ ys) = go (R x y) refl (in_put x ys)
     where
       go : (o : Ordering) → R x y ≡ o → ((z : K) × Contains (put R x ys) z × (R x z ≡ Equal)) → (z : K) × Contains (placed R o x y ys (put R x ys)) z × (R x z ≡ Equal)
-      go Less e rest = (x, in_first x (y ∷ ys), tied_itself total x)
-      go Equal e rest = (y, in_first y ys, e)
-      go Greater e rest = (rest.0, in_later y (put R x ys) rest.0 rest.1, rest.2)
+      go Less e rest = (x, contains_first x (y ∷ ys), tied_itself total x)
+      go Equal e rest = (y, contains_first y ys, e)
+      go Greater e rest = (rest.0, contains_later y (put R x ys) rest.0 rest.1, rest.2)
 
   -- it has one that ties with each element
   pub in_ascending : (xs : List K) (x : K) → Contains xs x → (z : K) × Contains (ascending R xs) z × (R x z ≡ Equal)
-  in_ascending [] x h = absurd (in_nothing x h)
-  in_ascending (y ∷ ys) x h = go (in_ascending ys x) (in_cases y ys x h)
+  in_ascending [] x h = absurd (contains_nothing x h)
+  in_ascending (y ∷ ys) x h = go (in_ascending ys x) (contains_cases y ys x h)
     where
       go : (Contains ys x → (z : K) × Contains (ascending R ys) z × (R x z ≡ Equal)) → (y ≡ x) ⊎ Contains ys x → (z : K) × Contains (ascending R (y ∷ ys)) z × (R x z ≡ Equal)
       go rest (inl e) = let t = in_put y (ascending R ys) in (t.0, t.1, subst (λ (w : K). R w t.0 ≡ Equal) e t.2)

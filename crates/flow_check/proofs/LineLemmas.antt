@@ -1,7 +1,8 @@
 -- The lines that answers hold are those of the text's faults.
-use Rattle.std.proofs.Common.{◌≡◌, ◌∙◌, ℕ, List, map, Some, None, Result, Ok, Err, ap, sym, subst}
+use Rattle.std.proofs.Common.{◌≡◌, ◌∙◌, ℕ, List, map, Some, Result, Ok, Err, ap, sym, subst}
 use Rattle.std.specs.List.{flat_map}
 use Rattle.std.proofs.lemmas.List.Folds.{flat_map-map}
+use Rattle.pt_base.proofs.Options.{none_not_some_bytes, some_same_bytes_turned}
 use Rattle.front_end.specs.declared.error.FrontError.{FrontError}
 use Rattle.front_end.specs.declared.error.FrontError.TheVariants.{Lex, Parse, Types, Memory}
 use Rattle.front_end.specs.Reading.{HasTypedTree, Reads}
@@ -21,17 +22,11 @@ use Rattle.flow_check.specs.Kept.{kept_lines}
 use Rattle.flow_check.specs.SlotLines.{slot_line}
 use Rattle.flow_check.specs.OutcomeSeen.{AreLinesOf, IsJudged}
 
-some_is : (a b : List ℕ) → Some a ≡ Some b → b ≡ a
-some_is a b e = cc
-
-some_none : (a : List ℕ) → None ≡ Some a → ⊥
-some_none a e = cc
-
 pub front_are : (text : List ℕ) (error : FrontError) (lines : List ℕ) → Reads text (Err error) → front_lines error ≡ Some lines → AreLinesOf text lines
-front_are text (Lex fault) lines reads is = record { refusal = lex fault; is = reads; lines_are = some_is _ _ is }
-front_are text (Parse fault) lines reads is = record { refusal = parse fault; is = reads; lines_are = some_is _ _ is }
-front_are text (Types faults) lines reads is = record { refusal = types faults.items; is = reads; lines_are = some_is _ _ is }
-front_are text Memory lines reads is = absurd (some_none lines is)
+front_are text (Lex fault) lines reads is = record { refusal = lex fault; is = reads; lines_are = some_same_bytes_turned _ _ is }
+front_are text (Parse fault) lines reads is = record { refusal = parse fault; is = reads; lines_are = some_same_bytes_turned _ _ is }
+front_are text (Types faults) lines reads is = record { refusal = types faults.items; is = reads; lines_are = some_same_bytes_turned _ _ is }
+front_are text Memory lines reads is = absurd (none_not_some_bytes lines is)
 
 -- the lines that code writes are those of the slots
 pub kept_lines_are : (t : TypedTree) (slots : List SlotInfo) (xs ys : List ShownSlot) → slots ≡ slots_of t → xs ≡ ys → kept_lines t slots xs ≡ flat_map (slot_line t) (map (λ s. s.slot) ys)

@@ -1,30 +1,15 @@
 -- Numbers from 0 on, and those of them that pass a test.
 use Rattle.std.proofs.Common.{◌≡◌, ◌∙◌, ◌<◌, ◌-◌, ◌+◌, ℕ, suc, refl, ap, sym, subst, arith, Bool, true, false, List, [], ◌∷◌, ◌++◌, length, map, get_or, cond, nat_eq}
-use Rattle.std.specs.List.{AllPairs, Contains, IsDistinct, filter, range_with_len}
-use Rattle.std.proofs.lemmas.Bool.Decides.{nat_tests}
-use Rattle.std.proofs.lemmas.List.Elements.{Contains-get_or}
+use Rattle.std.specs.List.{AllPairs, IsDistinct, filter, range_with_len}
 use Rattle.std.proofs.lemmas.List.FromFn.{get_or-range_with_len, length-range_with_len}
 use Rattle.std.proofs.lemmas.List.Kept.{AllPairs-filter}
 use Rattle.std.proofs.lemmas.Map.Keys.{IsDistinct-from_apart}
+use Rattle.pt_base.proofs.Members.{range_first}
+use Rattle.pt_base.proofs.Numbers.{nat_eq_below}
 use Rattle.reach.proofs.MoreLemmas.{moved_on}
-use Rattle.reach.proofs.WalkLemmas.{range_on}
 use Rattle.reach.specs.Tables.{item_if}
 
 -- ---- the numbers below one
-
-pub in_range : (n m : ℕ) → m < n → Contains (range_with_len 0 n) m
-in_range n m lt =
-    let long : length (range_with_len 0 n) ≡ n = length-range_with_len 0 n in
-    let is : get_or (range_with_len 0 n) m 0 ≡ 0 + m = get_or-range_with_len 0 n m 0 lt in
-    let there : Contains (range_with_len 0 n) (get_or (range_with_len 0 n) m 0) = Contains-get_or (range_with_len 0 n) m 0 (subst (λ k. m < k) (sym long) lt) in
-    subst (λ k. Contains (range_with_len 0 n) k) (let e : get_or (range_with_len 0 n) m 0 ≡ m = omega (arith, is) in e) there
-
-pub from_range : (n m : ℕ) → Contains (range_with_len 0 n) m → m < n
-from_range n m h =
-    let long : length (range_with_len 0 n) ≡ n = length-range_with_len 0 n in
-    let lt : h.0 < n = subst (λ k. h.0 < k) long h.1 in
-    let is : m ≡ 0 + h.0 = sym h.2 ∙ get_or-range_with_len 0 n h.0 m lt in
-    omega (arith, is, lt)
 
 range_ascends : (n : ℕ) → AllPairs (λ a b. a < b) (range_with_len 0 n)
 range_ascends n = λ i j d lt within.
@@ -37,13 +22,10 @@ range_ascends n = λ i j d lt within.
 
 -- ---- those that pass a test
 
-apart : (a b : ℕ) → a < b → nat_eq a b ≡ false
-apart a b lt = grind (arith, nat_tests)
-
 pub passing_differ : (test : ℕ → Bool) (n : ℕ) → IsDistinct nat_eq (filter test (range_with_len 0 n))
 passing_differ test n =
     let up : AllPairs (λ a b. a < b) (filter test (range_with_len 0 n)) = AllPairs-filter (λ a b. a < b) test (range_with_len 0 n) (range_ascends n) in
-    IsDistinct-from_apart nat_eq (filter test (range_with_len 0 n)) (λ i j d lt within. apart _ _ (up i j d lt within))
+    IsDistinct-from_apart nat_eq (filter test (range_with_len 0 n)) (λ i j d lt within. nat_eq_below _ _ (up i j d lt within))
 
 one_kept : {X : Type 0} (f : ℕ → X) (test : ℕ → Bool) (j : ℕ) (rest : List ℕ) → map f (filter test (j ∷ rest)) ≡ item_if (test j) (f j) ++ map f (filter test rest)
 one_kept {X} f test j rest = go (test j)
@@ -58,4 +40,4 @@ pub next_kept : {X : Type 0} (f : ℕ → X) (test : ℕ → Bool) (list list' a
 next_kept f test list list' all n j lt added is =
     let rest : List ℕ = range_with_len (j + 1) (n - (j + 1)) in
     moved_on list list' (item_if (test j) (f j)) (map f (filter test rest)) all added
-    (ap (λ xs. list ++ xs) (sym (ap (λ xs. map f (filter test xs)) (range_on j n lt) ∙ one_kept f test j rest)) ∙ is)
+    (ap (λ xs. list ++ xs) (sym (ap (λ xs. map f (filter test xs)) (range_first j n lt) ∙ one_kept f test j rest)) ∙ is)

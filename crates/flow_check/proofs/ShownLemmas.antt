@@ -1,16 +1,20 @@
 -- The slots that code keeps, once they are sorted, are those that are shown.
-use Rattle.std.proofs.Common.{◌≡◌, ◌∙◌, ◌<◌, ◌↔◌, ◌⊎◌, ◌+◌, ◌&&◌, ℕ, refl, ap, sym, subst, arith, inl, inr, Bool, true, false, List, [], ◌∷◌, length, map, get_or, nat_eq, nat_cmp, Ordering, Less, Equal, Greater}
+use Rattle.std.proofs.Common.{◌≡◌, ◌∙◌, ◌<◌, ◌↔◌, ◌⊎◌, ◌+◌, ℕ, refl, ap, sym, subst, arith, inl, inr, Bool, true, false, List, [], ◌∷◌, length, map, get_or, nat_eq, nat_cmp, Ordering, Less, Equal, Greater}
 use Rattle.std.specs.Prelude.{is_some, replicate}
 use Rattle.std.specs.Cmp.{IsTotalOrder}
 use Rattle.std.specs.List.{All, Contains, IsDistinct, filter, range_with_len}
 use Rattle.std.specs.List.Sorted.{IsPermutation, IsSorted, IsStrictlySortedBy}
-use Rattle.std.specs.Ordering.{MatchOrdering, is_lt, ordering_reverse, ordering_then}
-use Rattle.std.proofs.lemmas.Cmp.{nat_cmp_total, nat_eq_equiv, on_total, ranked, then_total}
+use Rattle.std.specs.Ordering.{is_lt, ordering_reverse, ordering_then}
+use Rattle.std.proofs.lemmas.Cmp.{nat_cmp_total, nat_eq_equiv, on_total, then_total}
 use Rattle.std.proofs.lemmas.List.{get_or-map, length-map, length-replicate}
 use Rattle.std.proofs.lemmas.List.Elements.{All-map}
 use Rattle.std.proofs.lemmas.List.Sorted.{All-permutation, Contains-permutation, IsPermutation-map, IsPermutation-sym}
 use Rattle.std.proofs.lemmas.Map.Keys.{IsDistinct-IsPermutation, apart_from_distinct, sorted_from_all_adjacent}
+use Rattle.std.proofs.lemmas.Bool.{and_from}
 use Rattle.pt_base.specs.declared.ids.GlobalId.{GlobalId}
+use Rattle.pt_base.proofs.Booleans.{and_parts}
+use Rattle.pt_base.proofs.Members.{range_below, range_contains}
+use Rattle.pt_base.proofs.Orders.{cmp_equal}
 use Rattle.propagation.specs.Marks.{path_shown}
 use Rattle.reach.proofs.ListLemmas.{contains_filter, contains_map, from_filter, from_map}
 use Rattle.reach.proofs.TableLemmas.{none_true, set_all_from, set_all_has}
@@ -30,7 +34,7 @@ use Rattle.flow_check.specs.contracts.shown.ShownSlotOrd.TheImpl as shown_ord
 use Rattle.flow_check.specs.declared.shown.ShownSlot.{ShownSlot}
 use Rattle.flow_check.specs.Kept.{is_kept, is_slaves, kept, kept_by, owned_table, owner_in}
 use Rattle.flow_check.specs.Shown.{AreShown, IsShown, IsSlaves, name_at, shown_cmp}
-use Rattle.flow_check.proofs.NumberLemmas.{from_range, in_range, passing_differ}
+use Rattle.flow_check.proofs.NumberLemmas.{passing_differ}
 
 -- ---- the order
 
@@ -44,9 +48,6 @@ tied Less p e = cc
 tied Equal p e = e
 tied Greater p e = cc
 
-same_number : (m n : ℕ) → nat_cmp m n ≡ Equal → m ≡ n
-same_number m n e = subst (λ (o : Ordering). MatchOrdering o (m < n) (m ≡ n) (n < m)) e (ranked m n (nat_cmp m n) refl)
-
 not_apart : (m n : ℕ) → m ≡ n → nat_eq m n ≡ false → ⊥
 not_apart m n e apart = let yes : nat_eq m n ≡ true = subst (λ k. nat_eq m k ≡ true) e (nat_eq_equiv.refl m) in cc
 
@@ -57,7 +58,7 @@ module _ (t : TypedTree) where
   next : (m n : ℕ) → is_lt (shown_cmp t n m) ≡ false → nat_eq m n ≡ false → shown_cmp t m n ≡ Less
   next m n up apart =
       less_of (shown_cmp t n m) (shown_cmp t m n) (shown_total.antisymm m n) up
-      (λ e. not_apart m n (sym (same_number n m (tied (nat_cmp (name_at t (slot_at t n).owner) (name_at t (slot_at t m).owner)) (nat_cmp n m) e))) apart)
+      (λ e. not_apart m n (sym (cmp_equal n m (tied (nat_cmp (name_at t (slot_at t n).owner) (name_at t (slot_at t m).owner)) (nat_cmp n m) e))) apart)
 
   strictly : (zs : List ℕ) → ((k : ℕ) → k + 1 < length zs → is_lt (shown_cmp t (get_or zs (k + 1) 0) (get_or zs k 0)) ≡ false) → IsDistinct nat_eq zs →
       IsStrictlySortedBy (shown_cmp t) zs
@@ -105,13 +106,6 @@ module _ (t : TypedTree) where
 
 -- ---- which are shown
 
-both : (p q : Bool) → (p && q) ≡ true → (p ≡ true) × (q ≡ true)
-both true q h = (refl, h)
-both false q h = cc
-
-together : (p q : Bool) → p ≡ true → q ≡ true → (p && q) ≡ true
-together p q a b = rw (a, b) refl
-
 module _ (t : TypedTree) (s : Sides) (are : AreSides t s) where
   abbrev globals : List Bool
   globals = owned_table (length t.globals) s.owned
@@ -158,7 +152,7 @@ module _ (t : TypedTree) (a : Accepted) (is : IsAccepted t a) where
 
   kept_shown : (n : ℕ) → n < length (slots_of t) → is_kept a owned n ≡ true → IsShown t a.sides n
   kept_shown n lt h =
-      let two = both (is_slaves a.sides.in_slave.items owned (owner n)) (is_some (path_shown a.marks (slot_number n))) h in record {
+      let two = and_parts (is_slaves a.sides.in_slave.items owned (owner n)) (is_some (path_shown a.marks (slot_number n))) h in record {
         within = lt;
         slaves = subst (IsSlaves t) (same_owner n) (slaves_from t a.sides is.sides (owner n) two.0);
         privileged = (privileged a.sides.seeds (edges_of_all t a.sides) (length (slots_of t)) a.marks is.marks n lt).0 two.1;
@@ -166,7 +160,7 @@ module _ (t : TypedTree) (a : Accepted) (is : IsAccepted t a) where
 
   shown_kept : (n : ℕ) → IsShown t a.sides n → is_kept a owned n ≡ true
   shown_kept n shown =
-      together (is_slaves a.sides.in_slave.items owned (owner n)) (is_some (path_shown a.marks (slot_number n)))
+      and_from (is_slaves a.sides.in_slave.items owned (owner n)) (is_some (path_shown a.marks (slot_number n)))
       (slaves_is t a.sides is.sides (owner n) (subst (IsSlaves t) (sym (same_owner n)) shown.slaves))
       ((privileged a.sides.seeds (edges_of_all t a.sides) (length (slots_of t)) a.marks is.marks n shown.within).1 shown.privileged)
 
@@ -175,8 +169,8 @@ module _ (t : TypedTree) (a : Accepted) (is : IsAccepted t a) where
 
   picked_shown : (n : ℕ) → Contains picked n ↔ IsShown t a.sides n
   picked_shown n = (
-    (λ h. let there = from_filter (is_kept a owned) (range_with_len 0 (length (slots_of t))) n h in kept_shown n (from_range (length (slots_of t)) n there.0) there.1),
-    (λ shown. contains_filter (is_kept a owned) (range_with_len 0 (length (slots_of t))) n (in_range (length (slots_of t)) n shown.within) (shown_kept n shown)),
+    (λ h. let there = from_filter (is_kept a owned) (range_with_len 0 (length (slots_of t))) n h in kept_shown n (range_below (length (slots_of t)) n there.0) there.1),
+    (λ shown. contains_filter (is_kept a owned) (range_with_len 0 (length (slots_of t))) n (range_contains (length (slots_of t)) n shown.within) (shown_kept n shown)),
   )
 
   sorted_shown : (ys : List ShownSlot) → IsPermutation (map (kept t (slots_of t)) picked) ys → IsSorted shown_ord.ghosts.cmp ys → AreShown t a.sides (map (λ s. s.slot) ys)

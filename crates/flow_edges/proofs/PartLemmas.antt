@@ -1,7 +1,7 @@
 -- What is left of an object whose items are being found, one part after the other.
-use Rattle.std.proofs.Common.{◌≡◌, ◌∙◌, ◌≤◌, ◌<◌, ◌-◌, ◌+◌, ℕ, zero, suc, refl, ap, sym, arith, ◌⊎◌, inl, inr, List, [], ◌∷◌, ◌++◌, Some, None, length, length-append, take, drop, append_assoc, append-nil, slice_get, Result, Ok, Err}
+use Rattle.std.proofs.Common.{◌≡◌, ◌∙◌, ◌≤◌, ◌<◌, ◌-◌, ◌+◌, ℕ, zero, suc, refl, ap, sym, arith, ◌⊎◌, inl, inr, List, [], ◌∷◌, ◌++◌, Some, None, length, length-append, take, drop, append_assoc, append-nil, slice_get}
 use Rattle.std.specs.Prelude.{option_map}
-use Rattle.std.specs.Result.{OnOk}
+use Rattle.pt_base.proofs.Places.{drop_front}
 use Rattle.pt_tree.specs.declared.signature.Elem.{Elem}
 use Rattle.pt_tree.specs.declared.signature.Elem.TheVariants as e
 use Rattle.sides.specs.Leaves.{leaf_count}
@@ -16,11 +16,6 @@ use Rattle.flow_edges.specs.declared.items.Part.TheVariants.{Object, Fields, Aga
 use Rattle.flow_edges.specs.ItemParts.{added, finished}
 use Rattle.flow_edges.specs.Items.{elem_items, fields_items, struct_items, type_items}
 use Rattle.flow_edges.proofs.ItemLemmas.{AreAlike, alike_full}
-
--- what follows from what holds after a success holds too
-pub on_ok : {T E : Type 0} (r : Result T E) (P Q : Type 0) → (P → Q) → OnOk r P → OnOk r Q
-on_ok (Ok x) P Q f h = f h
-on_ok (Err e) P Q f h = h
 
 -- ---- lists of parts
 
@@ -118,10 +113,6 @@ struct_left structs ps ps' zs depth start n lt is = pushed structs ps ps' (Field
 pub no_elements : (structs : List StructInfo) (ps : List Part) (zs xs : List ℕ) (count : ℕ) → count ≡ 0 → finished structs ps zs ≡ finished structs ps (zs ++ repeated count xs)
 no_elements structs ps zs xs count is = ap (finished structs ps) (sym (ap (λ n. zs ++ repeated n xs) is ∙ append-nil zs))
 
-drop_behind : (zs xs : List ℕ) → drop (length zs) (zs ++ xs) ≡ xs
-drop_behind [] xs = refl
-drop_behind (z ∷ zs) xs = drop_behind zs xs
-
 element_is : (within : ℕ → ℕ → List ℕ) (start : ℕ) (elem : Elem) → type_items within start (type_of_elem elem) ≡ elem_items within start elem
 element_is within start (e.Int t) = refl
 element_is within start (e.Struct n) = refl
@@ -131,7 +122,7 @@ again zs xs from zero is lt = absurd (omega (arith, lt))
 again zs xs from (suc n) is lt =
     let e : suc n - 1 ≡ n = omega arith in
     ap (λ k. (zs ++ xs) ++ repeated k (drop from (zs ++ xs))) e
-    ∙ ap (λ ys. (zs ++ xs) ++ repeated n ys) (ap (λ k. drop k (zs ++ xs)) (sym is) ∙ drop_behind zs xs)
+    ∙ ap (λ ys. (zs ++ xs) ++ repeated n ys) (ap (λ k. drop k (zs ++ xs)) (sym is) ∙ drop_front zs xs)
     ∙ append_assoc zs xs (repeated n xs)
 
 pub elements_left : (structs : List StructInfo) (ps ps' ps'' : List Part) (zs : List ℕ) (elem : Elem) (ty : VarTy) (count start depth from : ℕ) → ty ≡ type_of_elem elem → 0 < count → length zs ≡ from →

@@ -1,32 +1,19 @@
 -- Faults of flows, in order.
-use Rattle.std.proofs.Common.{◌≡◌, refl}
+use Rattle.std.proofs.Common.{◌≡◌}
 use Rattle.std.specs.Cmp.{IsTotalOrder}
 use Rattle.std.specs.declared.cmp.Ordering.TheVariants.{Equal}
 use Rattle.std.specs.Ordering.{nat_cmp}
 use Rattle.std.proofs.lemmas.Cmp.{nat_cmp_total, on_total, then_total}
 use Rattle.pt_base.proofs.SortedLists.{both_tie, numbers_tie}
 use Rattle.flow_rules.specs.declared.fault.FlowFault.{FlowFault}
-use Rattle.flow_rules.specs.declared.rule.Rule.{Rule}
-use Rattle.flow_rules.specs.declared.rule.Rule.TheVariants.{OperationOnPriv, PrivToHost, PrivIntoUnpriv, SharedGlobal, UnmarkedOut, HostInMonitor, PrivToPlainParam, PrivStatus, PrivMain}
 use Rattle.flow_rules.specs.Faults.{fault_cmp, span_cmp}
 use Rattle.flow_rules.specs.Numbers.{rule_number}
+use Rattle.flow_rules.proofs.ToldLemmas.{rule_same as same_rule}
 
 pub fault_total : IsTotalOrder fault_cmp
 fault_total =
     then_total (then_total (on_total (λ (x : FlowFault). x.span.from) nat_cmp_total) (on_total (λ (x : FlowFault). x.span.to) nat_cmp_total))
     (on_total (λ (x : FlowFault). rule_number x.rule) nat_cmp_total)
-
-same_rule : (a b : Rule) → rule_number a ≡ rule_number b → a ≡ b
-same_rule OperationOnPriv OperationOnPriv h = refl
-same_rule PrivToHost PrivToHost h = refl
-same_rule PrivIntoUnpriv PrivIntoUnpriv h = refl
-same_rule SharedGlobal SharedGlobal h = refl
-same_rule UnmarkedOut UnmarkedOut h = refl
-same_rule HostInMonitor HostInMonitor h = refl
-same_rule PrivToPlainParam PrivToPlainParam h = refl
-same_rule PrivStatus PrivStatus h = refl
-same_rule PrivMain PrivMain h = refl
-same_rule a b h = cc
 
 -- two faults that tie say that the same rule is broken at the same place
 pub ties_tell : (f g : FlowFault) → fault_cmp f g ≡ Equal → (f.rule ≡ g.rule) × (f.span ≡ g.span)

@@ -1,13 +1,13 @@
 -- The slots of what is found are privileged.
-use Rattle.std.proofs.Common.{◌≡◌, ◌<◌, ◌+◌, ℕ, zero, suc, sym, subst, arith, ◌⊎◌, inl, inr, Bool, true, false, List, [], ◌∷◌, ◌++◌, Option, length, map}
-use Rattle.std.specs.Prelude.{◌&&◌, if◌then◌else◌, is_some}
+use Rattle.std.proofs.Common.{◌≡◌, ◌+◌, ℕ, suc, sym, subst, ◌⊎◌, inl, inr, Bool, true, false, List, [], ◌∷◌, ◌++◌, Option, map}
+use Rattle.std.specs.Prelude.{◌&&◌, if◌then◌else◌}
 use Rattle.std.specs.List.{Contains, flat_map, range_with_len}
 use Rattle.std.specs.Option.{option_map_or}
 use Rattle.std.proofs.lemmas.List.Elements.{Contains-append_cases}
 use Rattle.pt_base.specs.declared.ids.FnId.{FnId}
 use Rattle.pt_base.specs.declared.span.Span.{Span}
+use Rattle.pt_base.proofs.Members.{contains_cases, contains_nothing}
 use Rattle.pt_tree.specs.declared.signature.Param.{Param}
-use Rattle.propagation.specs.Marks.{Shown, path_shown}
 use Rattle.sides.specs.declared.objects.Object.{Object}
 use Rattle.sides.specs.Carried.{carried, place_slots, scope_of}
 use Rattle.sides.specs.Leaves.{leaf_count}
@@ -15,8 +15,7 @@ use Rattle.sides.specs.Objects.{global_objects, variable_objects}
 use Rattle.usages.specs.declared.usage.How.{How}
 use Rattle.usages.specs.declared.usage.How.TheVariants.{Kept, Operated, Passed, Begins, Returned}
 use Rattle.usages.specs.Usages.{UsageTree, usages_in}
-use Rattle.reach.specs.Tables.{slot_number}
-use Rattle.reach.proofs.ListLemmas.{contains_cases, contains_nothing, from_filter, from_flat}
+use Rattle.reach.proofs.ListLemmas.{from_filter, from_flat}
 use Rattle.typed_tree.specs.declared.types.VarTy.{VarTy}
 use Rattle.typed_tree.specs.declared.variable.TypedGlobal.{TypedGlobal}
 use Rattle.typed_tree.specs.declared.variable.Var.{Var}
@@ -161,10 +160,3 @@ all_findings p =
     both p (flat_map (slave_findings p) p.slave ++ flat_map (monitor_findings p) p.monitor) (global_findings p ++ flat_map function_findings p.tree.functions)
     (both p (flat_map (slave_findings p) p.slave) (flat_map (monitor_findings p) p.monitor) (each p (slave_findings p) p.slave (slave p)) (each p (monitor_findings p) p.monitor (monitor p)))
     (both p (global_findings p) (flat_map function_findings p.tree.functions) (globals p) (each p function_findings p.tree.functions (function p)))
-
--- ---- a privileged slot is one of those that are marked
-
-pub priv_below : (marks : Shown) (n : ℕ) → is_some (path_shown marks (slot_number n)) ≡ true → n < length marks
-priv_below [] n h = cc
-priv_below (m ∷ ms) zero h = omega arith
-priv_below (m ∷ ms) (suc n) h = let lt : n < length ms = priv_below ms n h in omega (arith, lt)

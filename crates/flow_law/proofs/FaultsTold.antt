@@ -14,10 +14,12 @@ use Rattle.typed_tree.specs.TypedTree.{TypedTree}
 use Rattle.flow_rules.specs.declared.fault.FlowFault.{FlowFault}
 use Rattle.flow_rules.specs.Faults.{AreFaults, IsFault, ShowsWay, Tells, edges_of_all, fault_cmp, flows_of, spans_of}
 use Rattle.flow_rules.specs.Findings.{Finding, findings_of}
-use Rattle.pt_base.proofs.SortedLists.{ascending, ascends, from_ascending, in_ascending, in_cases, in_first, in_later, in_nothing}
+use Rattle.flow_rules.proofs.PrivLemmas.{priv_below}
+use Rattle.pt_base.proofs.SortedLists.{ascending, ascends, from_ascending, in_ascending}
+use Rattle.pt_base.proofs.Members.{contains_cases, contains_first, contains_later, contains_nothing}
 use Rattle.flow_law.specs.FaultsLaws.{FindingsAreTold, HasSomeFaults}
 use Rattle.flow_law.proofs.FaultOrder.{fault_total, ties_tell}
-use Rattle.flow_law.proofs.FaultsPrivFindings.{all_findings, priv_below}
+use Rattle.flow_law.proofs.FaultsPrivFindings.{all_findings}
 
 module _ (t : TypedTree) (s : Sides) (marks : Shown) (are : AreMarks s.seeds (edges_of_all t s) (length (slots_of t)) marks) where
   -- ---- ways
@@ -38,9 +40,9 @@ module _ (t : TypedTree) (s : Sides) (marks : Shown) (are : AreMarks s.seeds (ed
   way_to : (slots : List ℕ) → ((n : ℕ) → Contains slots n → is_some (path_shown marks (slot_number n)) ≡ true) → HasWay slots
   way_to [] all = (None, [], (refl, refl))
   way_to (n ∷ ns) all =
-      let way = shortest_way n (all n (in_first n ns)) in
+      let way = shortest_way n (all n (contains_first n ns)) in
       let there = way.1 in
-      (Some there.0, spans_of (edges_of_all t s) way.0, (n, there.0, way.0, in_first n ns, refl, (there.1, there.2, there.3), refl))
+      (Some there.0, spans_of (edges_of_all t s) way.0, (n, there.0, way.0, contains_first n ns, refl, (there.1, there.2, there.3), refl))
 
   -- ---- faults
 
@@ -53,24 +55,24 @@ module _ (t : TypedTree) (s : Sides) (marks : Shown) (are : AreMarks s.seeds (ed
   AreOf xs fs = ((f : FlowFault) → Contains fs f → TellsOf xs f) × ((x : Finding) → Contains xs x → (f : FlowFault) × Contains fs f × Tells f x)
 
   nothing_told : AreOf [] []
-  nothing_told = (λ f c. absurd (in_nothing f c), λ x c. absurd (in_nothing x c))
+  nothing_told = (λ f c. absurd (contains_nothing f c), λ x c. absurd (contains_nothing x c))
 
   one_more : (x : Finding) (xs : List Finding) (f : FlowFault) (fs : List FlowFault) → Tells f x → ShowsWay s.seeds (edges_of_all t s) f.origin f.path x.slots → AreOf xs fs → AreOf (x ∷ xs) (f ∷ fs)
-  one_more x xs f fs tells way rest = (λ g c. some g (in_cases f fs g c), λ y c. all y (in_cases x xs y c))
+  one_more x xs f fs tells way rest = (λ g c. some g (contains_cases f fs g c), λ y c. all y (contains_cases x xs y c))
     where
       some : (g : FlowFault) → (f ≡ g) ⊎ Contains fs g → TellsOf (x ∷ xs) g
-      some g (inl e) = subst (TellsOf (x ∷ xs)) e (x, in_first x xs, tells, way)
-      some g (inr c) = let r = rest.0 g c in (r.0, in_later x xs r.0 r.1, r.2, r.3)
+      some g (inl e) = subst (TellsOf (x ∷ xs)) e (x, contains_first x xs, tells, way)
+      some g (inr c) = let r = rest.0 g c in (r.0, contains_later x xs r.0 r.1, r.2, r.3)
 
       all : (y : Finding) → (x ≡ y) ⊎ Contains xs y → (g : FlowFault) × Contains (f ∷ fs) g × Tells g y
-      all y (inl e) = subst (λ (z : Finding). (g : FlowFault) × Contains (f ∷ fs) g × Tells g z) e (f, in_first f fs, tells)
-      all y (inr c) = let r = rest.1 y c in (r.0, in_later f fs r.0 r.1, r.2)
+      all y (inl e) = subst (λ (z : Finding). (g : FlowFault) × Contains (f ∷ fs) g × Tells g z) e (f, contains_first f fs, tells)
+      all y (inr c) = let r = rest.1 y c in (r.0, contains_later f fs r.0 r.1, r.2)
 
   told : (xs : List Finding) → ((x : Finding) → Contains xs x → HasWay x.slots) → (fs : List FlowFault) × AreOf xs fs
   told [] ways = ([], nothing_told)
   told (x ∷ xs) ways =
-      let rest = told xs (λ y c. ways y (in_later x xs y c)) in
-      let way = ways x (in_first x xs) in
+      let rest = told xs (λ y c. ways y (contains_later x xs y c)) in
+      let way = ways x (contains_first x xs) in
       let f : FlowFault = record { rule = x.rule; span = x.span; origin = way.0; path = way.1 } in
       (f ∷ rest.0, one_more x xs f rest.0 (refl, refl) way.2 rest.1)
 
@@ -97,7 +99,7 @@ module _ (t : TypedTree) (s : Sides) (marks : Shown) (are : AreMarks s.seeds (ed
   by_findings : (xs : List Finding) → xs ≡ findings_of (flows_of t s marks) → (findings_of (flows_of t s marks) ≡ []) ⊎ HasSomeFaults t s marks
   by_findings [] is = inl (sym is)
   by_findings (x ∷ xs) is =
-      let there : Contains (findings_of (flows_of t s marks)) x = subst (λ (ys : List Finding). Contains ys x) is (in_first x xs) in
+      let there : Contains (findings_of (flows_of t s marks)) x = subst (λ (ys : List Finding). Contains ys x) is (contains_first x xs) in
       let all = told (x ∷ xs) (λ y c. way_to y.slots (λ n i. all_findings (flows_of t s marks) y (subst (λ (ys : List Finding). Contains ys y) is c) n i)) in
       let faults = in_order (x ∷ xs) is all.0 all.1 in
       inr (ascending fault_cmp all.0, faults, some_left x (ascending fault_cmp all.0) faults there)

@@ -6,23 +6,24 @@ use Rattle.std.proofs.lemmas.Bool.{cases_lt}
 use Rattle.std.proofs.lemmas.List.{get_or_append_left, get_or_at, length-append}
 use Rattle.pt_base.specs.declared.slot.Slot.{Slot}
 use Rattle.pt_base.specs.declared.slot.Edge.{Edge}
+use Rattle.pt_base.proofs.Members.{contains_cases, contains_first, contains_later, contains_nothing}
 use Rattle.propagation.specs.Paths.{Leads, IsPriv, IsShortestPath}
 use Rattle.propagation.specs.Marks.{AreMarks, Shown, path_shown}
 use Rattle.propagation.proofs.SlotLemmas.{same_slot}
 use Rattle.flow_law.specs.MarksLaws.{ThereAreMarks}
 use Rattle.flow_law.proofs.MarksWays.{way_or_none}
-use Rattle.flow_law.proofs.MarksShortestWays.{in_nothing, in_first, in_later, in_cases, shortest}
+use Rattle.flow_law.proofs.MarksShortestWays.{shortest}
 
 module _ (edges : List Edge) where
   -- a way leads there from one of the seeds, or from none
   pub priv_or_not : (seeds : List Slot) (s : Slot) → IsPriv seeds edges s ⊎ (IsPriv seeds edges s → ⊥)
-  priv_or_not [] s = inr (λ p. in_nothing p.0 p.2)
+  priv_or_not [] s = inr (λ p. contains_nothing p.0 p.2)
   priv_or_not (x ∷ xs) s = go (way_or_none edges x s) (priv_or_not xs s)
     where
       go : ((path : List ℕ) × Leads edges path x s) ⊎ ((path : List ℕ) → Leads edges path x s → ⊥) → IsPriv xs edges s ⊎ (IsPriv xs edges s → ⊥) → IsPriv (x ∷ xs) edges s ⊎ (IsPriv (x ∷ xs) edges s → ⊥)
-      go (inl w) r = inl (x, w.0, in_first x xs, w.1)
-      go (inr lacks) (inl p) = inl (p.0, p.1, in_later x xs p.0 p.2, p.3)
-      go (inr lacks) (inr none) = inr (λ p. one p (in_cases x xs p.0 p.2))
+      go (inl w) r = inl (x, w.0, contains_first x xs, w.1)
+      go (inr lacks) (inl p) = inl (p.0, p.1, contains_later x xs p.0 p.2, p.3)
+      go (inr lacks) (inr none) = inr (λ p. one p (contains_cases x xs p.0 p.2))
         where
           one : (p : IsPriv (x ∷ xs) edges s) → (x ≡ p.0) ⊎ Contains xs p.0 → ⊥
           one p (inl e) = lacks p.1 (subst (λ (y : Slot). Leads edges p.1 y s) (sym e) p.3)

@@ -5,23 +5,11 @@ use Rattle.std.specs.List.{Contains}
 use Rattle.std.proofs.lemmas.Bool.{cases_eq, cases_lt}
 use Rattle.pt_base.specs.declared.slot.Slot.{Slot}
 use Rattle.pt_base.specs.declared.slot.Edge.{Edge}
+use Rattle.pt_base.proofs.Members.{contains_cases, contains_first, contains_later, contains_nothing}
 use Rattle.propagation.specs.Paths.{from_of, to_of, Leads, IsPriv, IsShortestPath}
 use Rattle.flow_law.proofs.MarksWays.{is_or_differs}
 
 -- ---- members
-
-pub in_nothing : {X : Type 0} (x : X) → Contains [] x → ⊥
-in_nothing x h = let lt : h.0 < 0 = h.1 in absurd (omega arith)
-
-pub in_first : {X : Type 0} (x : X) (xs : List X) → Contains (x ∷ xs) x
-in_first x xs = (0, omega arith, refl)
-
-pub in_later : {X : Type 0} (y : X) (xs : List X) (x : X) → Contains xs x → Contains (y ∷ xs) x
-in_later y xs x h = (suc h.0, let lt : h.0 < length xs = h.1 in omega arith, h.2)
-
-pub in_cases : {X : Type 0} (y : X) (xs : List X) (x : X) → Contains (y ∷ xs) x → (y ≡ x) ⊎ Contains xs x
-in_cases y xs x (zero, lt, is) = inl is
-in_cases y xs x (suc k, lt, is) = inr (k, omega arith, is)
 
 module _ (edges : List Edge) where
   -- ---- ways of so many edges
@@ -77,13 +65,13 @@ module _ (edges : List Edge) where
   SomeWay seeds n s = (seed : Slot) × Contains seeds seed × WayOf n seed s
 
   some_way : (seeds : List Slot) (n : ℕ) (s : Slot) → SomeWay seeds n s ⊎ (SomeWay seeds n s → ⊥)
-  some_way [] n s = inr (λ w. in_nothing w.0 w.1)
+  some_way [] n s = inr (λ w. contains_nothing w.0 w.1)
   some_way (x ∷ xs) n s = go (way_of n x s) (some_way xs n s)
     where
       go : WayOf n x s ⊎ (WayOf n x s → ⊥) → SomeWay xs n s ⊎ (SomeWay xs n s → ⊥) → SomeWay (x ∷ xs) n s ⊎ (SomeWay (x ∷ xs) n s → ⊥)
-      go (inl w) r = inl (x, in_first x xs, w)
-      go (inr lacks) (inl w) = inl (w.0, in_later x xs w.0 w.1, w.2)
-      go (inr lacks) (inr none) = inr (λ w. one w (in_cases x xs w.0 w.1))
+      go (inl w) r = inl (x, contains_first x xs, w)
+      go (inr lacks) (inl w) = inl (w.0, contains_later x xs w.0 w.1, w.2)
+      go (inr lacks) (inr none) = inr (λ w. one w (contains_cases x xs w.0 w.1))
         where
           one : (w : SomeWay (x ∷ xs) n s) → (x ≡ w.0) ⊎ Contains xs w.0 → ⊥
           one w (inl e) = lacks (subst (λ y. WayOf n y s) (sym e) w.2)

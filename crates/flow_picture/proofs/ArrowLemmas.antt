@@ -5,9 +5,12 @@ use Rattle.std.specs.List.{Contains, flat_map}
 use Rattle.std.specs.List.Sorted.{IsPermutation, IsStrictlySortedBy}
 use Rattle.std.specs.Ordering.{is_eq}
 use Rattle.std.proofs.lemmas.List.Sorted.{list_any-IsPermutation}
+use Rattle.std.proofs.lemmas.Bool.{and_from}
 use Rattle.pt_base.specs.declared.slot.Edge.{Edge}
 use Rattle.pt_base.specs.declared.span.Span.{Span}
-use Rattle.reach.proofs.ListLemmas.{contains_flat, contains_nothing, from_flat}
+use Rattle.pt_base.proofs.Booleans.{and_parts}
+use Rattle.pt_base.proofs.Members.{contains_nothing}
+use Rattle.reach.proofs.ListLemmas.{contains_flat, from_flat}
 use Rattle.sides.specs.declared.halves.Sides.{Sides}
 use Rattle.sides.specs.Slots.{slots_of}
 use Rattle.typed_tree.specs.TypedTree.{TypedTree}
@@ -21,7 +24,7 @@ use Rattle.flow_picture.specs.Nodes.{is_in, nodes_of}
 use Rattle.flow_picture.proofs.OrderLemmas.{node_tied, node_total, span_tied, span_total}
 use Rattle.flow_picture.proofs.SameLemmas.{from_item, in_item}
 use Rattle.flow_picture.proofs.SearchLemmas.{stands, stood}
-use Rattle.flow_picture.proofs.SecretLemmas.{both, node_is, together}
+use Rattle.flow_picture.proofs.SecretLemmas.{node_is}
 
 -- ---- steps
 
@@ -52,7 +55,7 @@ module _ (t : TypedTree) (nodes shown : List Node) (en : nodes ≡ nodes_of (slo
   from_edge : (e : Edge) (x : Arrow) → Contains (edge_arrows nodes shown e) x → Joins t shown x e
   from_edge e x h =
       let one = from_item (is_drawn shown (arrow_of nodes e)) (arrow_of nodes e) x h in
-      let two = both (is_in shown (node_in nodes e.from.0)) (is_in shown (node_in nodes e.to.0)) one.0 in (
+      let two = and_parts (is_in shown (node_in nodes e.from.0)) (is_in shown (node_in nodes e.to.0)) one.0 in (
         sym (node_is t nodes en e.from.0) ∙ ap (λ (a : Arrow). a.from) one.1,
         sym (node_is t nodes en e.to.0) ∙ ap (λ (a : Arrow). a.to) one.1,
         (
@@ -69,7 +72,7 @@ module _ (t : TypedTree) (nodes shown : List Node) (en : nodes ≡ nodes_of (slo
       let first : is_in shown (node_in nodes e.from.0) ≡ true = subst (λ (y : Node). is_in shown y ≡ true) (sym a) (stood node_total shown x.from drawn.0) in
       let second : is_in shown (node_in nodes e.to.0) ≡ true = subst (λ (y : Node). is_in shown y ≡ true) (sym b) (stood node_total shown x.to drawn.1) in
       subst (λ (y : Arrow). Contains (edge_arrows nodes shown e) y) same
-      (in_item (is_drawn shown (arrow_of nodes e)) (arrow_of nodes e) (together (is_in shown (node_in nodes e.from.0)) (is_in shown (node_in nodes e.to.0)) first second))
+      (in_item (is_drawn shown (arrow_of nodes e)) (arrow_of nodes e) (and_from (is_in shown (node_in nodes e.from.0)) (is_in shown (node_in nodes e.to.0)) first second))
 
   from_way : (told : List Span) (e : Edge) (x : Arrow) → Contains (way_arrows nodes shown told e) x → (is_told told e.span ≡ true) × Joins t shown x e
   from_way told e x h = go (is_told told e.span) refl h

@@ -4,7 +4,7 @@ pub mod Cuts
 pub mod ExistingPictures
 mod LoopLemmas
 mod ObjectLemmas
-mod OrderLemmas
+pub mod OrderLemmas
 mod PictureLemmas
 mod SameLemmas
 mod SearchLemmas

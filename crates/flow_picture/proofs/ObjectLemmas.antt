@@ -6,7 +6,8 @@ use Rattle.std.specs.Option.{option_map_or}
 use Rattle.std.proofs.lemmas.List.Elements.{Contains-append_cases, Contains-append_left, Contains-append_right}
 use Rattle.pt_base.specs.declared.ids.FnId.{FnId}
 use Rattle.pt_base.specs.declared.ids.GlobalId.{GlobalId}
-use Rattle.reach.proofs.ListLemmas.{contains_cases, contains_first, contains_flat, contains_later, contains_map, contains_nothing, from_flat, from_map}
+use Rattle.pt_base.proofs.Members.{contains_cases, contains_first, contains_later, contains_nothing}
+use Rattle.reach.proofs.ListLemmas.{contains_flat, contains_map, from_flat, from_map}
 use Rattle.reach.specs.Contexts.{InSlave, callees_in, test_function}
 use Rattle.reach.specs.Tables.{function_id, global_id}
 use Rattle.sides.specs.declared.halves.Sides.{Sides}

@@ -1,12 +1,13 @@
 -- The orders that code derives are those of the definitions, and what ties by them is the same.
-use Rattle.std.proofs.Common.{◌≡◌, ◌∙◌, ◌<◌, ◌+◌, ℕ, refl, ap, sym, subst, arith, true, false, List, get_or, nat_cmp, Ordering, Less, Equal, Greater}
+use Rattle.std.proofs.Common.{◌≡◌, ◌∙◌, ◌<◌, ◌+◌, refl, ap, sym, subst, arith, true, false, List, get_or, nat_cmp, Ordering, Less, Equal, Greater}
 use Rattle.std.specs.Cmp.{IsTotalOrder}
 use Rattle.std.specs.List.Sorted.{IsSorted, IsStrictlySortedBy}
-use Rattle.std.specs.Ordering.{MatchOrdering, is_eq, is_lt, ordering_reverse, ordering_then}
-use Rattle.std.proofs.lemmas.Cmp.{nat_cmp_total, on_total, ranked, then_total}
+use Rattle.std.specs.Ordering.{is_lt, ordering_reverse, ordering_then}
+use Rattle.std.proofs.lemmas.Cmp.{nat_cmp_total, on_total, then_total}
 use Rattle.std.proofs.lemmas.Map.Keys.{Less-from_sorted}
 use Rattle.pt_base.specs.contracts.span.SpanOrd.TheImpl as span_ord
 use Rattle.pt_base.specs.declared.span.Span.{Span}
+use Rattle.pt_base.proofs.Orders.{cmp_equal, is_eq_equal}
 use Rattle.flow_rules.specs.Faults.{span_cmp}
 use Rattle.flow_picture.specs.contracts.arrow.ArrowOrd.TheImpl as arrow_ord
 use Rattle.flow_picture.specs.contracts.arrow.ArrowOrd.TheImpl.Laws as arrow_laws
@@ -32,14 +33,6 @@ both_equal Less p e = cc
 both_equal Equal p e = (refl, e)
 both_equal Greater p e = cc
 
-pub is_equal : (o : Ordering) → is_eq o ≡ true → o ≡ Equal
-is_equal Less e = cc
-is_equal Equal e = refl
-is_equal Greater e = cc
-
-same_number : (m n : ℕ) → nat_cmp m n ≡ Equal → m ≡ n
-same_number m n e = subst (λ (o : Ordering). MatchOrdering o (m < n) (m ≡ n) (n < m)) e (ranked m n (nat_cmp m n) refl)
-
 -- ---- spans
 
 pub span_cmps : span_ord.ghosts.cmp ≡ span_cmp
@@ -51,8 +44,8 @@ span_total = then_total (on_total (λ (s : Span). s.from) nat_cmp_total) (on_tot
 pub span_tied : (a b : Span) → span_cmp a b ≡ Equal → a ≡ b
 span_tied a b e =
     let two = both_equal (nat_cmp a.from b.from) (nat_cmp a.to b.to) e in
-    let from = same_number a.from b.from two.0 in
-    let to = same_number a.to b.to two.1 in
+    let from = cmp_equal a.from b.from two.0 in
+    let to = cmp_equal a.to b.to two.1 in
     λ i. record { from = from i; to = to i }
 
 -- ---- nodes
@@ -78,22 +71,22 @@ pub node_total : IsTotalOrder node_cmp
 node_total = subst (λ (c : Node → Node → Ordering). IsTotalOrder c) node_cmps node_laws.total-law
 
 pub node_tied : (a b : Node) → node_cmp a b ≡ Equal → a ≡ b
-node_tied (Global g) (Global h) e = ap Global (same_number g h (sym (then_equal (nat_cmp g h)) ∙ e))
+node_tied (Global g) (Global h) e = ap Global (cmp_equal g h (sym (then_equal (nat_cmp g h)) ∙ e))
 node_tied (Global g) (Variable f v) e = cc
 node_tied (Global g) (Result f) e = cc
 node_tied (Variable f v) (Global g) e = cc
 node_tied (Variable f v) (Variable h w) e =
     let two = both_equal (nat_cmp f h) (nat_cmp v w) e in
-    let function = same_number f h two.0 in
-    let var = same_number v w two.1 in
+    let function = cmp_equal f h two.0 in
+    let var = cmp_equal v w two.1 in
     λ i. Variable (function i) (var i)
 node_tied (Variable f v) (Result h) e = cc
 node_tied (Result f) (Global g) e = cc
 node_tied (Result f) (Variable h w) e = cc
-node_tied (Result f) (Result h) e = ap Result (same_number f h (sym (then_equal (nat_cmp f h)) ∙ e))
+node_tied (Result f) (Result h) e = ap Result (cmp_equal f h (sym (then_equal (nat_cmp f h)) ∙ e))
 
 pub node_same : (a b : Node) → node_eq.ghosts.eq a b ≡ true → a ≡ b
-node_same a b e = node_tied a b (sym (node_order a b) ∙ is_equal (node_ord.ghosts.cmp a b) (sym (node_laws.matches_eq-law a b) ∙ e))
+node_same a b e = node_tied a b (sym (node_order a b) ∙ is_eq_equal (node_ord.ghosts.cmp a b) (sym (node_laws.matches_eq-law a b) ∙ e))
 
 -- ---- arrows
 
@@ -117,7 +110,7 @@ arrow_tied a b e =
     λ i. record { from = from i; to = to i }
 
 pub arrow_same : (a b : Arrow) → arrow_eq.ghosts.eq a b ≡ true → a ≡ b
-arrow_same a b e = arrow_tied a b (sym (arrow_order a b) ∙ is_equal (arrow_ord.ghosts.cmp a b) (sym (arrow_laws.matches_eq-law a b) ∙ e))
+arrow_same a b e = arrow_tied a b (sym (arrow_order a b) ∙ is_eq_equal (arrow_ord.ghosts.cmp a b) (sym (arrow_laws.matches_eq-law a b) ∙ e))
 
 -- ---- what ascends strictly, ascends
 

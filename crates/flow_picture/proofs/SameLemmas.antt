@@ -3,7 +3,8 @@ use Rattle.std.proofs.Common.{◌≡◌, ◌∙◌, ◌≤◌, ◌⊎◌, ℕ, z
 use Rattle.std.specs.Prelude.{slice_get}
 use Rattle.std.specs.List.{Contains, flat_map}
 use Rattle.std.proofs.lemmas.List.Elements.{Contains-append_cases, Contains-append_left, Contains-append_right}
-use Rattle.reach.proofs.ListLemmas.{contains_cases, contains_first, contains_later, contains_nothing}
+use Rattle.pt_base.proofs.Lists.{append_nil}
+use Rattle.pt_base.proofs.Members.{contains_cases, contains_first, contains_later, contains_nothing}
 use Rattle.reach.specs.Tables.{item_if}
 use Rattle.flow_picture.specs.Kept.{HasSame}
 
@@ -40,10 +41,6 @@ ended zero [] le = refl
 ended (suc i) [] le = refl
 ended zero (x ∷ xs) le = absurd (omega (arith, le))
 ended (suc i) (x ∷ xs) le = ended i xs (omega (arith, le))
-
-append_nil : {Y : Type 0} (s : List Y) → s ++ [] ≡ s
-append_nil [] = refl
-append_nil (x ∷ s) = ap (λ zs. x ∷ zs) (append_nil s)
 
 ends : {Y : Type 0} (s rest all : List Y) → rest ≡ [] → HasSame (s ++ rest) all → HasSame s all
 ends s rest all e h = subst (λ zs. HasSame zs all) (ap (λ zs. s ++ zs) e ∙ append_nil s) h

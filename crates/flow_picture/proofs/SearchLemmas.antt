@@ -9,7 +9,7 @@ use Rattle.std.proofs.lemmas.Bool.Decides.{nat_tests}
 use Rattle.std.proofs.lemmas.Cmp.{tied_itself}
 use Rattle.std.proofs.lemmas.List.Folds.{Any-from_list_any, list_any_at, list_any_none}
 use Rattle.std.proofs.lemmas.List.Sorted.{searchable_from_sorted}
-use Rattle.flow_picture.proofs.OrderLemmas.{is_equal}
+use Rattle.pt_base.proofs.Orders.{is_eq_equal}
 
 module _ {X : Type 0} {R : X → X → Ordering} (total : IsTotalOrder R) where
   -- what `binary_search` answers
@@ -37,7 +37,7 @@ module _ {X : Type 0} {R : X → X → Ordering} (total : IsTotalOrder R) where
     pub stands : (xs : List X) (x : X) → list_any (λ y. is_eq (R y x)) xs ≡ true → Contains xs x
     stands xs x h =
         let a = Any-from_list_any (λ y. is_eq (R y x)) xs h in
-        let same : a.1 ≡ x = tied a.1 x (is_equal (R a.1 x) a.4) in
+        let same : a.1 ≡ x = tied a.1 x (is_eq_equal (R a.1 x) a.4) in
         subst (λ (z : X). Contains xs z) same (a.0, a.2, a.3)
 
   pub stood : (xs : List X) (x : X) → Contains xs x → list_any (λ y. is_eq (R y x)) xs ≡ true

@@ -1,15 +1,16 @@
 -- The nodes of privileged slots are the objects that may hold secrets.
-use Rattle.std.proofs.Common.{◌≡◌, ◌∙◌, ◌<◌, ◌+◌, ◌↔◌, ◌⊎◌, ◌&&◌, ℕ, zero, suc, refl, ap, sym, subst, arith, inl, inr, Bool, true, false, List, [], ◌∷◌, ◌++◌, Option, Some, None, length}
-use Rattle.std.specs.Prelude.{MatchOption, is_some, slice_index_or}
+use Rattle.std.proofs.Common.{◌≡◌, ◌∙◌, ◌<◌, ◌+◌, ◌⊎◌, ◌&&◌, ℕ, zero, suc, refl, ap, sym, subst, arith, inl, inr, Bool, true, List, [], ◌∷◌, ◌++◌, length}
+use Rattle.std.specs.Prelude.{is_some, slice_index_or}
 use Rattle.std.specs.List.{Contains, flat_map}
 use Rattle.std.specs.List.Sorted.{IsStrictlySortedBy}
 use Rattle.std.proofs.lemmas.List.{length-map}
 use Rattle.std.proofs.lemmas.List.Elements.{Contains-append_cases, Contains-append_left, Contains-append_right}
-use Rattle.pt_base.specs.declared.slot.Edge.{Edge}
+use Rattle.std.proofs.lemmas.Bool.{and_from}
 use Rattle.pt_base.specs.declared.slot.Slot.{Slot}
+use Rattle.pt_base.proofs.Booleans.{and_parts}
+use Rattle.pt_base.proofs.Members.{contains_nothing}
 use Rattle.propagation.specs.Marks.{AreMarks, Shown, path_shown}
-use Rattle.propagation.specs.Paths.{IsPriv, IsShortestPath}
-use Rattle.reach.proofs.ListLemmas.{contains_flat, contains_nothing, from_flat}
+use Rattle.reach.proofs.ListLemmas.{contains_flat, from_flat}
 use Rattle.reach.specs.Tables.{item_if, slot_number}
 use Rattle.sides.specs.declared.halves.Sides.{Sides}
 use Rattle.sides.specs.declared.slots.SlotInfo.{SlotInfo}
@@ -17,18 +18,12 @@ use Rattle.sides.specs.Placed.{AreSides}
 use Rattle.sides.specs.Slots.{no_slot, slots_of}
 use Rattle.typed_tree.specs.TypedTree.{TypedTree}
 use Rattle.flow_rules.specs.Faults.{edges_of_all}
+use Rattle.flow_rules.proofs.FlowLemmas.{privileged}
 use Rattle.flow_picture.specs.declared.node.Node.{Node}
 use Rattle.flow_picture.specs.Kept.{HasSame, node_in, secret_nodes, secrets_from, seed_nodes}
 use Rattle.flow_picture.specs.Nodes.{node_at, node_cmp, node_of, nodes_of}
 use Rattle.flow_picture.specs.Objects.{AreNodes, BeginsSecret, HoldsSecret, has_values}
 use Rattle.flow_picture.proofs.SameLemmas.{from_item, in_item, same_on}
-
-pub both : (p q : Bool) → (p && q) ≡ true → (p ≡ true) × (q ≡ true)
-both true q h = (refl, h)
-both false q h = cc
-
-pub together : (p q : Bool) → p ≡ true → q ≡ true → (p && q) ≡ true
-together p q a b = rw (a, b) refl
 
 -- ---- the nodes of slots
 
@@ -44,15 +39,6 @@ pub nodes_long : (t : TypedTree) (nodes : List Node) → nodes ≡ nodes_of (slo
 nodes_long t nodes e = ap length e ∙ length-map (slots_of t) (λ (s : SlotInfo). node_of s.owner)
 
 -- ---- privileged slots
-
-told : (seeds : List Slot) (edges : List Edge) (s : Slot) (o : Option (List ℕ)) →
-    MatchOption o (¬ IsPriv seeds edges s) (λ path. IsShortestPath seeds edges path s) → (is_some o ≡ true) ↔ IsPriv seeds edges s
-told seeds edges s None none = (λ h. cc, λ p. absurd (none p))
-told seeds edges s (Some path) is = (λ h. (is.0, path, is.1, is.2), λ p. refl)
-
-privileged : (seeds : List Slot) (edges : List Edge) (slots : ℕ) (marks : Shown) → AreMarks seeds edges slots marks → (n : ℕ) → n < slots →
-    (is_some (path_shown marks (slot_number n)) ≡ true) ↔ IsPriv seeds edges (slot_number n)
-privileged seeds edges slots marks are n lt = told seeds edges (slot_number n) (path_shown marks (slot_number n)) (are.paths (slot_number n) lt)
 
 -- the slot of this number, counted from k, is that of the node and privileged
 record IsSecretAt (t : TypedTree) (marks : Shown) (k : ℕ) (xs : List Node) (x : Node) : Type 0 where
@@ -70,7 +56,7 @@ module _ (t : TypedTree) (marks : Shown) where
       go : Contains (secret_nodes t marks k y) x ⊎ Contains (secrets_from t marks (suc k) ys) x → (Contains (secrets_from t marks (suc k) ys) x → IsSecretAt t marks (suc k) ys x) → IsSecretAt t marks k (y ∷ ys) x
       go (inl i) rest =
           let m = from_item (is_some (path_shown marks (slot_number k)) && has_values t y) y x i in
-          let two = both (is_some (path_shown marks (slot_number k))) (has_values t y) m.0 in record {
+          let two = and_parts (is_some (path_shown marks (slot_number k))) (has_values t y) m.0 in record {
             at = 0;
             within = omega arith;
             node = m.1;
@@ -93,7 +79,7 @@ module _ (t : TypedTree) (marks : Shown) where
   in_secrets k (y ∷ ys) zero lt marked values =
       let here : is_some (path_shown marks (slot_number k)) ≡ true = subst (λ n. is_some (path_shown marks (slot_number n)) ≡ true) (let same : k + 0 ≡ k = omega arith in same) marked in
       Contains-append_left (secret_nodes t marks k y) (secrets_from t marks (suc k) ys) y
-      (in_item (is_some (path_shown marks (slot_number k)) && has_values t y) y (together (is_some (path_shown marks (slot_number k))) (has_values t y) here values))
+      (in_item (is_some (path_shown marks (slot_number k)) && has_values t y) y (and_from (is_some (path_shown marks (slot_number k))) (has_values t y) here values))
   in_secrets k (y ∷ ys) (suc at) lt marked values =
       Contains-append_right (secret_nodes t marks k y) (secrets_from t marks (suc k) ys) (node_in ys at)
       (in_secrets (suc k) ys at (omega (arith, lt)) (subst (λ n. is_some (path_shown marks (slot_number n)) ≡ true) (let same : k + suc at ≡ suc k + at = omega arith in same) marked) values)

@@ -1,6 +1,7 @@
 -- What the stages answer is what drawing comes to.
 use Rattle.std.proofs.Common.{◌≡◌, ◌<◌, ℕ, List, Some, None, Option, Result, Ok, Err, length, sym, subst}
 use Rattle.pt_base.specs.declared.slot.Edge.{Edge}
+use Rattle.pt_base.proofs.Options.{none_not_some_bytes, some_same_bytes_turned}
 use Rattle.propagation.specs.Marks.{AreMarks, Shown}
 use Rattle.sides.specs.declared.halves.Sides.{Sides}
 use Rattle.sides.specs.Placed.{AreSides}
@@ -22,17 +23,11 @@ use Rattle.flow_picture.specs.Pictures.{IsUnread}
 
 -- ---- faults of lexer, parser and types
 
-some_is : (a b : List ℕ) → Some a ≡ Some b → b ≡ a
-some_is a b e = cc
-
-some_none : (a : List ℕ) → None ≡ Some a → ⊥
-some_none a e = cc
-
 pub unread : (text : List ℕ) (error : FrontError) (lines : List ℕ) → Reads text (Err error) → front_lines error ≡ Some lines → (r : Refusal) × IsUnread text r × (lines ≡ lines_of r)
-unread text (Lex fault) lines reads is = (lex fault, reads, some_is _ _ is)
-unread text (Parse fault) lines reads is = (parse fault, reads, some_is _ _ is)
-unread text (Types faults) lines reads is = (types faults.items, reads, some_is _ _ is)
-unread text Memory lines reads is = absurd (some_none lines is)
+unread text (Lex fault) lines reads is = (lex fault, reads, some_same_bytes_turned _ _ is)
+unread text (Parse fault) lines reads is = (parse fault, reads, some_same_bytes_turned _ _ is)
+unread text (Types faults) lines reads is = (types faults.items, reads, some_same_bytes_turned _ _ is)
+unread text Memory lines reads is = absurd (none_not_some_bytes lines is)
 
 -- ---- what the rules answer
 

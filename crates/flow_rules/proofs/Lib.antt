@@ -1,12 +1,12 @@
 mod FindingLemmas
-mod FlowLemmas
+pub mod FlowLemmas
 mod MemoLemmas
 mod ObjectLemmas
 pub mod OneJudgement
-mod PrivLemmas
+pub mod PrivLemmas
 mod SecretLemmas
 mod SharedLemmas
-mod ToldLemmas
+pub mod ToldLemmas
 mod UnmarkedLemmas
 mod Ways
 pub mod Worked

@@ -7,9 +7,9 @@ use Rattle.std.proofs.lemmas.List.{get_or_past}
 use Rattle.std.proofs.lemmas.List.Elements.{All-head}
 use Rattle.pt_base.specs.declared.slot.Edge.{Edge}
 use Rattle.pt_base.specs.declared.slot.Slot.{Slot}
+use Rattle.pt_base.proofs.Members.{contains_nothing}
 use Rattle.propagation.specs.Marks.{AreMarks, Shown, path_shown}
 use Rattle.propagation.specs.Paths.{IsPriv, IsShortestPath}
-use Rattle.reach.proofs.ListLemmas.{contains_nothing}
 use Rattle.reach.specs.Tables.{slot_number}
 use Rattle.sides.proofs.OneSides.{same_monitor, same_seeds, same_slave}
 use Rattle.sides.specs.declared.halves.Sides.{Sides}

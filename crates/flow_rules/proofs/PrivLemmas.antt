@@ -6,6 +6,7 @@ use Rattle.std.specs.Option.{option_map_or}
 use Rattle.std.proofs.lemmas.List.Elements.{Contains-append_cases}
 use Rattle.pt_base.specs.declared.ids.FnId.{FnId}
 use Rattle.pt_base.specs.declared.span.Span.{Span}
+use Rattle.pt_base.proofs.Members.{contains_cases, contains_nothing}
 use Rattle.pt_tree.specs.declared.signature.Param.{Param}
 use Rattle.propagation.specs.Marks.{Shown, path_shown}
 use Rattle.sides.specs.declared.objects.Object.{Object}
@@ -16,7 +17,7 @@ use Rattle.usages.specs.declared.usage.How.{How}
 use Rattle.usages.specs.declared.usage.How.TheVariants.{Kept, Operated, Passed, Begins, Returned}
 use Rattle.usages.specs.Usages.{UsageTree, usages_in}
 use Rattle.reach.specs.Tables.{slot_number}
-use Rattle.reach.proofs.ListLemmas.{contains_cases, contains_nothing, from_filter, from_flat, from_map}
+use Rattle.reach.proofs.ListLemmas.{from_filter, from_flat, from_map}
 use Rattle.typed_tree.specs.declared.types.VarTy.{VarTy}
 use Rattle.typed_tree.specs.declared.variable.TypedGlobal.{TypedGlobal}
 use Rattle.typed_tree.specs.declared.variable.Var.{Var}

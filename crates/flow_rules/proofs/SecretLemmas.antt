@@ -1,8 +1,8 @@
 -- The first of several privileged slots.
-use Rattle.std.proofs.Common.{◌≡◌, ◌∙◌, ◌<◌, ◌-◌, ◌+◌, ℕ, suc, refl, ap, sym, arith, Bool, true, false, Option, None, Some, List, [], ◌∷◌, ◌++◌, map, append_assoc}
-use Rattle.std.specs.Prelude.{if◌then◌else◌}
-use Rattle.std.specs.List.{filter, flat_map, range_with_len}
+use Rattle.std.proofs.Common.{◌≡◌, ◌∙◌, ◌<◌, ◌-◌, ◌+◌, ℕ, suc, refl, ap, sym, arith, Option, None, Some, List, [], ◌∷◌, ◌++◌, map, append_assoc}
+use Rattle.std.specs.List.{flat_map, range_with_len}
 use Rattle.pt_base.specs.declared.span.Span.{Span}
+use Rattle.pt_base.proofs.Lists.{filter_append}
 use Rattle.flow_rules.specs.declared.rule.Rule.{Rule}
 use Rattle.flow_rules.specs.Findings.{found}
 use Rattle.flow_rules.specs.Kept.{first_of, found_at, kept, secrets_from}
@@ -11,15 +11,6 @@ use Rattle.flow_rules.specs.Secrets.{Flows, secret_slots}
 pub kept_found : (rule : Rule) (span : Span) (slots : List ℕ) → found_at rule span (first_of slots) ≡ map kept (found rule span slots)
 kept_found rule span [] = refl
 kept_found rule span (s ∷ ss) = refl
-
-filter_both : (test : ℕ → Bool) (xs ys : List ℕ) → filter test (xs ++ ys) ≡ filter test xs ++ filter test ys
-filter_both test [] ys = refl
-filter_both test (x ∷ xs) ys = go (test x) (filter_both test xs ys)
-  where
-    go : (b : Bool) → filter test (xs ++ ys) ≡ filter test xs ++ filter test ys →
-        (if b then x ∷ filter test (xs ++ ys) else filter test (xs ++ ys)) ≡ (if b then x ∷ filter test xs else filter test xs) ++ filter test ys
-    go true e = ap (λ zs. x ∷ zs) e
-    go false e = e
 
 -- where the first list has none, the first of the second one
 pub first_later : (xs ys : List ℕ) → first_of xs ≡ None → first_of (xs ++ ys) ≡ first_of ys
@@ -32,7 +23,7 @@ first_here (x ∷ xs) ys s h = h
 
 pub starts_split : (p : Flows) (leaves : List ℕ) (s : ℕ) (ss : List ℕ) →
     secret_slots p (s ∷ ss) leaves ≡ secrets_from p leaves s ++ secret_slots p ss leaves
-starts_split p leaves s ss = filter_both p.is_priv (map (λ j. s + j) leaves) (flat_map (λ k. map (λ j. k + j) leaves) ss)
+starts_split p leaves s ss = filter_append p.is_priv (map (λ j. s + j) leaves) (flat_map (λ k. map (λ j. k + j) leaves) ss)
 
 pub next_number : (xs new whole : List ℕ) (n j : ℕ) → j < n → new ≡ xs ++ j ∷ [] →
     xs ++ range_with_len j (n - j) ≡ whole → new ++ range_with_len (j + 1) (n - (j + 1)) ≡ whole

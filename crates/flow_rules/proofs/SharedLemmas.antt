@@ -1,12 +1,15 @@
 -- The globals that code of both halves names, by a table for each half.
-use Rattle.std.proofs.Common.{◌≡◌, ◌∙◌, ◌≤◌, ◌<◌, ◌+◌, ℕ, suc, refl, ap, sym, subst, arith, ◌⊎◌, inl, inr, Bool, true, false, List, [], ◌∷◌, ◌++◌, length, get_or, map}
+use Rattle.std.proofs.Common.{◌≡◌, ◌∙◌, ◌≤◌, ◌<◌, ◌+◌, ℕ, suc, refl, ap, subst, arith, ◌⊎◌, inl, inr, Bool, true, false, List, [], ◌∷◌, ◌++◌, length, get_or, map}
 use Rattle.std.specs.Prelude.{◌&&◌, ◌||◌, nat_eq, replicate}
 use Rattle.std.specs.List.{Contains, flat_map, list_any}
 use Rattle.std.proofs.lemmas.Cmp.{nat_eq_equiv}
 use Rattle.std.proofs.lemmas.List.{length-replicate}
 use Rattle.pt_base.specs.declared.ids.FnId.{FnId}
 use Rattle.pt_base.specs.declared.ids.GlobalId.{GlobalId}
-use Rattle.reach.proofs.ListLemmas.{contains_nothing, contains_first, contains_later, contains_cases, contains_map, from_map, contains_flat, from_flat}
+use Rattle.pt_base.proofs.Booleans.{same_truth}
+use Rattle.pt_base.proofs.Members.{any_true, contains_first, contains_later}
+use Rattle.pt_base.proofs.Numbers.{nat_eq_same}
+use Rattle.reach.proofs.ListLemmas.{contains_map, from_map, contains_flat, from_flat}
 use Rattle.reach.proofs.TableLemmas.{set_all_has, set_all_from, none_true}
 use Rattle.reach.specs.Contexts.{globals_in}
 use Rattle.reach.specs.Owned.{global_numbers, owned_table}
@@ -18,15 +21,6 @@ use Rattle.flow_rules.specs.Findings.{found_if, is_named_in, shared_globals}
 use Rattle.flow_rules.specs.Kept.{kept, shared_in}
 use Rattle.flow_rules.specs.Secrets.{Flows}
 
-any_has : {X : Type 0} (test : X → Bool) (xs : List X) (x : X) → Contains xs x → test x ≡ true → list_any test xs ≡ true
-any_has test [] x h t = absurd (contains_nothing x h)
-any_has {X} test (y ∷ ys) x h t = go (λ i. any_has test ys x i t) (test y) refl (contains_cases y ys x h)
-  where
-    go : (Contains ys x → list_any test ys ≡ true) → (b : Bool) → test y ≡ b → (y ≡ x) ⊎ Contains ys x → (b || list_any test ys) ≡ true
-    go rest true e o = refl
-    go rest false e (inl s) = let no : test x ≡ false = subst (λ (z : X). test z ≡ false) s e in cc
-    go rest false e (inr i) = rest i
-
 any_from : {X : Type 0} (test : X → Bool) (xs : List X) → list_any test xs ≡ true → (x : X) × Contains xs x × (test x ≡ true)
 any_from test [] h = cc
 any_from {X} test (y ∷ ys) h = go (λ i. any_from test ys i) (test y) refl h
@@ -34,15 +28,6 @@ any_from {X} test (y ∷ ys) h = go (λ i. any_from test ys i) (test y) refl h
     go : (list_any test ys ≡ true → (x : X) × Contains ys x × (test x ≡ true)) → (b : Bool) → test y ≡ b → (b || list_any test ys) ≡ true → (x : X) × Contains (y ∷ ys) x × (test x ≡ true)
     go rest true e h = (y, contains_first y ys, e)
     go rest false e h = let r = rest h in (r.0, contains_later y ys r.0 r.1, r.2)
-
-same_truth : (a b : Bool) → (a ≡ true → b ≡ true) → (b ≡ true → a ≡ true) → a ≡ b
-same_truth true true f g = refl
-same_truth true false f g = sym (f refl)
-same_truth false true f g = g refl
-same_truth false false f g = refl
-
-equal_numbers : (m n : ℕ) → nat_eq m n ≡ true → m ≡ n
-equal_numbers m n e = grind (arith, e)
 
 abbrev names : TypedTree → ℕ → FnId → Bool
 names t g f = list_any (λ h. nat_eq h.0 g) (globals_in t f)
@@ -58,7 +43,7 @@ module _ (t : TypedTree) (fs : List FnId) (g : ℕ) where
           let h = from_map (λ (x : GlobalId). x.0) (globals_in t f.0) g f.2 in
           let n : ℕ = (h.0).0 in
           let own : nat_eq n n ≡ true = nat_eq_equiv.refl n in
-          any_has (names t g) fs f.0 f.1 (any_has (λ (x : GlobalId). nat_eq x.0 g) (globals_in t f.0) h.0 h.1 (subst (λ m. nat_eq (h.0).0 m ≡ true) h.2 own))
+          any_true (names t g) fs f.0 f.1 (any_true (λ (x : GlobalId). nat_eq x.0 g) (globals_in t f.0) h.0 h.1 (subst (λ m. nat_eq (h.0).0 m ≡ true) h.2 own))
 
   from_named : g < length t.globals → is_named_in t g fs ≡ true → get_or (owned_table t fs) g false ≡ true
   from_named lt h =
@@ -67,7 +52,7 @@ module _ (t : TypedTree) (fs : List FnId) (g : ℕ) where
       let long = length-replicate (length t.globals) false in
       set_all_has (replicate (length t.globals) false) (flat_map (global_numbers t) fs) g (omega (arith, long, lt))
       (contains_flat (global_numbers t) fs f.0 g f.1
-      (subst (λ n. Contains (global_numbers t f.0) n) (equal_numbers (k.0).0 g k.2) (contains_map (λ (x : GlobalId). x.0) (globals_in t f.0) k.0 k.1)))
+      (subst (λ n. Contains (global_numbers t f.0) n) (nat_eq_same (k.0).0 g k.2) (contains_map (λ (x : GlobalId). x.0) (globals_in t f.0) k.0 k.1)))
 
   named : g < length t.globals → get_or (owned_table t fs) g false ≡ is_named_in t g fs
   named lt = same_truth (get_or (owned_table t fs) g false) (is_named_in t g fs) to_named (from_named lt)

@@ -15,7 +15,10 @@ use Rattle.std.proofs.lemmas.List.Sorted.{Contains-permutation, IsPermutation-sy
 use Rattle.pt_base.specs.declared.slot.Edge.{Edge}
 use Rattle.pt_base.specs.declared.slot.Slot.{Slot}
 use Rattle.pt_base.specs.declared.span.Span.{Span}
-use Rattle.reach.proofs.ListLemmas.{contains_nothing, contains_first, contains_later, contains_cases, contains_map, from_map}
+use Rattle.pt_base.proofs.Booleans.{and_true_first, and_true_second}
+use Rattle.pt_base.proofs.Members.{contains_cases, contains_first, contains_later, contains_nothing}
+use Rattle.pt_base.proofs.Numbers.{nat_eq_same}
+use Rattle.reach.proofs.ListLemmas.{contains_map, from_map}
 use Rattle.flow_rules.specs.contracts.found.FoundOrd.TheImpl as found_ord
 use Rattle.flow_rules.specs.contracts.rule.RuleOrd.TheImpl as rule_ord
 use Rattle.flow_rules.specs.declared.fault.FlowFault.{FlowFault}
@@ -44,7 +47,7 @@ rule_cmp PrivStatus PrivStatus = refl
 rule_cmp PrivMain PrivMain = refl
 rule_cmp a b = refl
 
-rule_same : (a b : Rule) → rule_number a ≡ rule_number b → a ≡ b
+pub rule_same : (a b : Rule) → rule_number a ≡ rule_number b → a ≡ b
 rule_same OperationOnPriv OperationOnPriv h = refl
 rule_same PrivToHost PrivToHost h = refl
 rule_same PrivIntoUnpriv PrivIntoUnpriv h = refl
@@ -103,23 +106,12 @@ pub found_before : (old sorted new : List Found) → IsPermutation old sorted �
 found_before old sorted new moved is x h =
     Contains-permutation sorted old x (IsPermutation-sym old sorted moved) (Contains-from_dedup same_fault sorted x (subst (λ (xs : List Found). Contains xs x) is h))
 
-left_true : (a b : Bool) → (a && b) ≡ true → a ≡ true
-left_true true b h = refl
-left_true false b h = cc
-
-right_true : (a b : Bool) → (a && b) ≡ true → b ≡ true
-right_true true b h = h
-right_true false b h = cc
-
-equal_numbers : (m n : ℕ) → nat_eq m n ≡ true → m ≡ n
-equal_numbers m n e = grind (arith, e)
-
 is_same_fault : (x y : Found) → same_fault x y ≡ true → IsSameFault x y
 is_same_fault x y h =
-    let place = left_true (nat_eq x.span.from y.span.from && nat_eq x.span.to y.span.to) (nat_eq (rule_number x.rule) (rule_number y.rule)) h in
-    let from = equal_numbers x.span.from y.span.from (left_true (nat_eq x.span.from y.span.from) (nat_eq x.span.to y.span.to) place) in
-    let to = equal_numbers x.span.to y.span.to (right_true (nat_eq x.span.from y.span.from) (nat_eq x.span.to y.span.to) place) in (
-      rule_same x.rule y.rule (equal_numbers (rule_number x.rule) (rule_number y.rule) (right_true (nat_eq x.span.from y.span.from && nat_eq x.span.to y.span.to) (nat_eq (rule_number x.rule) (rule_number y.rule)) h)),
+    let place = and_true_first (nat_eq x.span.from y.span.from && nat_eq x.span.to y.span.to) (nat_eq (rule_number x.rule) (rule_number y.rule)) h in
+    let from = nat_eq_same x.span.from y.span.from (and_true_first (nat_eq x.span.from y.span.from) (nat_eq x.span.to y.span.to) place) in
+    let to = nat_eq_same x.span.to y.span.to (and_true_second (nat_eq x.span.from y.span.from) (nat_eq x.span.to y.span.to) place) in (
+      rule_same x.rule y.rule (nat_eq_same (rule_number x.rule) (rule_number y.rule) (and_true_second (nat_eq x.span.from y.span.from && nat_eq x.span.to y.span.to) (nat_eq (rule_number x.rule) (rule_number y.rule)) h)),
       λ i. record { from = from i; to = to i },
     )
 

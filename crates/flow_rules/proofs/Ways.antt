@@ -3,8 +3,8 @@ use Rattle.std.proofs.Common.{◌≡◌, ◌≢◌, ◌∙◌, ◌<◌, ◌≤�
 use Rattle.std.specs.List.{Contains}
 use Rattle.pt_base.specs.declared.slot.Edge.{Edge}
 use Rattle.pt_base.specs.declared.slot.Slot.{Slot}
+use Rattle.pt_base.proofs.Members.{contains_cases, contains_first, contains_nothing}
 use Rattle.propagation.specs.Paths.{from_of, to_of, Leads}
-use Rattle.reach.proofs.ListLemmas.{contains_cases, contains_first, contains_nothing}
 use Rattle.sides.proofs.Worked.{span}
 use Rattle.reach.specs.Tables.{slot_number}
 use Rattle.flow_edges.proofs.Worked.{edge}

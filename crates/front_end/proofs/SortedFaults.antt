@@ -1,36 +1,21 @@
 -- Two ascending lists with the same members are equal.
-use Rattle.std.proofs.Common.{◌≡◌, ◌<◌, ◌⊎◌, ◌∙◌, ◌↔◌, ℕ, List, [], ◌∷◌, ◌++◌, sym, ap, subst, inl, inr, refl, arith}
+use Rattle.std.proofs.Common.{◌≡◌, ◌⊎◌, ◌∙◌, ◌↔◌, ℕ, List, [], ◌∷◌, ◌++◌, sym, ap, subst, inl, inr, refl}
 use Rattle.std.specs.Ordering.{ordering_reverse, ordering_then, nat_cmp}
 use Rattle.std.proofs.lemmas.Cmp.{nat_cmp_total}
 use Rattle.std.specs.declared.cmp.Ordering.{Ordering}
 use Rattle.std.specs.declared.cmp.Ordering.TheVariants.{Less, Equal, Greater}
 use Rattle.std.specs.List.{Contains}
 use Rattle.std.specs.List.Sorted.{IsStrictlySortedBy}
-use Rattle.std.proofs.lemmas.List.Elements.{All-contains, Contains-append_left, Contains-append_right, Contains-append_cases, Contains-push, Contains-push_cases}
+use Rattle.std.proofs.lemmas.List.Elements.{All-contains}
 use Rattle.std.proofs.lemmas.Map.Keys.{sorted_tail}
 use Rattle.std.proofs.lemmas.Map.Views.{All-after_first}
+use Rattle.pt_base.proofs.Members.{contains_cases, contains_first, contains_later, contains_nothing}
 use Rattle.check_declarations.specs.declared.fault.TypeFault.{TypeFault}
 use Rattle.check_declarations.specs.Faults.{fault_cmp, fault_number}
 
 -- of two elements each one is not below the other
 abbrev pub IsOneWay : {X : Type 0} → (X → X → Ordering) → Type 0
 IsOneWay R = (x y : _) → R x y ≡ Less → R y x ≡ Less → ⊥
-
-none_in_empty : {X : Type 0} → (x : X) → Contains [] x → ⊥
-none_in_empty x h = let lt : h.0 < 0 = h.1 in absurd (omega arith)
-
-in_cons : {X : Type 0} → (x : X) (xs : List X) (z : X) → Contains (x ∷ xs) z → (x ≡ z) ⊎ Contains xs z
-in_cons x xs z h =
-    elim (Contains-append_cases (x ∷ []) xs z h) as (λ _. (x ≡ z) ⊎ Contains xs z) [
-      | inl one ↦ elim (Contains-push_cases [] x z one) as (λ _. (x ≡ z) ⊎ Contains xs z) [ inl none ↦ absurd (none_in_empty z none) | inr e ↦ inl e ]
-      | inr rest ↦ inr rest
-    ]
-
-in_head : {X : Type 0} → (x : X) (xs : List X) → Contains (x ∷ xs) x
-in_head x xs = Contains-append_left (x ∷ []) xs x (Contains-push [] x)
-
-in_tail : {X : Type 0} → (x : X) (xs : List X) (z : X) → Contains xs z → Contains (x ∷ xs) z
-in_tail x xs z h = Contains-append_right (x ∷ []) xs z h
 
 -- the head of an ascending list is below what the tail has
 below : {X : Type 0} (R : X → X → Ordering) → (x : X) (xs : List X) (z : X) → IsStrictlySortedBy R (x ∷ xs) → Contains xs z → R x z ≡ Less
@@ -56,14 +41,14 @@ tails R o x xs y ys z s e h (inr b) = b
 pub same_members : {X : Type 0} (R : X → X → Ordering) → IsOneWay R → (xs ys : List X)
     → IsStrictlySortedBy R xs → IsStrictlySortedBy R ys → ((z : X) → Contains xs z ↔ Contains ys z) → xs ≡ ys
 same_members R o [] [] s t m = refl
-same_members R o [] (y ∷ ys) s t m = absurd (none_in_empty y ((m y).1 (in_head y ys)))
-same_members R o (x ∷ xs) [] s t m = absurd (none_in_empty x ((m x).0 (in_head x xs)))
+same_members R o [] (y ∷ ys) s t m = absurd (contains_nothing y ((m y).1 (contains_first y ys)))
+same_members R o (x ∷ xs) [] s t m = absurd (contains_nothing x ((m x).0 (contains_first x xs)))
 same_members R o (x ∷ xs) (y ∷ ys) s t m =
-    let e : x ≡ y = heads R o x xs y ys s t (in_cons y ys x ((m x).0 (in_head x xs))) (in_cons x xs y ((m y).1 (in_head y ys))) in
+    let e : x ≡ y = heads R o x xs y ys s t (contains_cases y ys x ((m x).0 (contains_first x xs))) (contains_cases x xs y ((m y).1 (contains_first y ys))) in
     let rest : xs ≡ ys = same_members R o xs ys (sorted_tail R x xs s) (sorted_tail R y ys t)
     (λ z. (
-      (λ h. tails R o x xs y ys z s e h (in_cons y ys z ((m z).0 (in_tail x xs z h)))),
-      (λ h. tails R o y ys x xs z t (sym e) h (in_cons x xs z ((m z).1 (in_tail y ys z h)))),
+      (λ h. tails R o x xs y ys z s e h (contains_cases y ys z ((m z).0 (contains_later x xs z h)))),
+      (λ h. tails R o y ys x xs z t (sym e) h (contains_cases x xs z ((m z).1 (contains_later y ys z h)))),
     )) in
     cc
 

@@ -1,6 +1,8 @@
 -- The derivation keeps the sorts of its parts, so where it is done its one part is a program.
 use Rattle.std.proofs.Common.{◌≡◌, ℕ, zero, suc, ◌+◌, ◌-◌, List, [], ◌∷◌, ◌++◌, Bool, true, false, nat_eq, if◌then◌else◌, Option, None, Some, slice_get, refl, ap, ◌∙◌, ◌⊎◌, inl, inr}
+use Rattle.std.proofs.lemmas.Bool.{and_from}
 use Rattle.pt_base.specs.declared.span.Span.{Span}
+use Rattle.pt_base.proofs.Booleans.{and_true_first, and_true_second, false_not_true}
 use Rattle.c_lexer.specs.declared.token.Token.{Token}
 use Rattle.c_lexer.specs.declared.token.TokenKind.{TokenKind}
 use Rattle.c_lexer.specs.declared.token.TokenKind.TheVariants.{Identifier, Number, Character}
@@ -16,38 +18,38 @@ use Rattle.c_parser.proofs.Halting.{some_outcome}
 use Rattle.front_end_law.specs.ParsesLaws.{AreSomeProgram, StopSomewhere, TokensComeToAnOutcome}
 use Rattle.front_end_law.proofs.ParsesSorts.{fits, shaped, below, taken, OnTaken, ends, items_sort}
 use Rattle.front_end_law.proofs.ParsesRuleShapes.{token_sorts, needs, leaves, FoundShapes, rule_shapes}
-use Rattle.front_end_law.proofs.ParsesStackShapes.{impossible, and_first, and_second, and_both, below_fits, Stands, enters}
+use Rattle.front_end_law.proofs.ParsesStackShapes.{below_fits, Stands, enters}
 
 -- ---- parts
 
 shaped_append : (us ss : List ℕ) (new parts : List Part) → shaped us new ≡ true → shaped ss parts ≡ true → shaped (us ++ ss) (new ++ parts) ≡ true
 shaped_append [] ss [] parts h i = i
-shaped_append [] ss (x ∷ xs) parts h i = impossible h
-shaped_append (u ∷ us) ss [] parts h i = impossible h
+shaped_append [] ss (x ∷ xs) parts h i = false_not_true h
+shaped_append (u ∷ us) ss [] parts h i = false_not_true h
 shaped_append (u ∷ us) ss (x ∷ xs) parts h i =
-    and_both (fits u x) (shaped (us ++ ss) (xs ++ parts)) (and_first (fits u x) (shaped us xs) h) (shaped_append us ss xs parts (and_second (fits u x) (shaped us xs) h) i)
+    and_from (fits u x) (shaped (us ++ ss) (xs ++ parts)) (and_true_first (fits u x) (shaped us xs) h) (shaped_append us ss xs parts (and_true_second (fits u x) (shaped us xs) h) i)
 
 -- what is left of the sorts where some are taken off
 off : (ts ss : List ℕ) (parts : List Part) (P : List ℕ → Type 0) → shaped ss parts ≡ true → OnTaken (taken ts ss) P → (rs : List ℕ) × P rs × (shaped (ts ++ rs) parts ≡ true)
 off [] ss parts P h i = (ss, i, h)
 off (t ∷ ts) [] parts P h i = absurd i
-off (t ∷ ts) (s ∷ ss) [] P h i = impossible h
-off (t ∷ ts) (s ∷ ss) (x ∷ xs) P h i = go (below s t) refl i (off ts ss xs P (and_second (fits s x) (shaped ss xs) h))
+off (t ∷ ts) (s ∷ ss) [] P h i = false_not_true h
+off (t ∷ ts) (s ∷ ss) (x ∷ xs) P h i = go (below s t) refl i (off ts ss xs P (and_true_second (fits s x) (shaped ss xs) h))
   where
     go : (b : Bool) → below s t ≡ b → OnTaken (if b then taken ts ss else None) P → (OnTaken (taken ts ss) P → (rs : List ℕ) × P rs × (shaped (ts ++ rs) xs ≡ true)) → (rs : List ℕ) × P rs × (shaped ((t ∷ ts) ++ rs) (x ∷ xs) ≡ true)
-    go true e i rest = let r = rest i in (r.0, r.1, and_both (fits t x) (shaped (ts ++ r.0) xs) (below_fits s t x e (and_first (fits s x) (shaped ss xs) h)) r.2)
+    go true e i rest = let r = rest i in (r.0, r.1, and_from (fits t x) (shaped (ts ++ r.0) xs) (below_fits s t x e (and_true_first (fits s x) (shaped ss xs) h)) r.2)
     go false e i rest = absurd i
 
 only : (x : Part) → fits items_sort x ≡ true → (p : List ItemTree) × (x ∷ [] ≡ items p ∷ [])
 only (items p) h = (p, refl)
-only x h = impossible h
+only x h = false_not_true h
 
 ended : (ss : List ℕ) (parts : List Part) → ends ss items_sort ≡ true → shaped ss parts ≡ true → (p : List ItemTree) × (parts ≡ items p ∷ [])
-ended [] parts h i = impossible h
-ended (s ∷ []) [] h i = impossible i
-ended (s ∷ []) (x ∷ []) h i = only x (below_fits s items_sort x h (and_first (fits s x) true i))
-ended (s ∷ []) (x ∷ y ∷ xs) h i = impossible (and_second (fits s x) false i)
-ended (s ∷ r ∷ ss) parts h i = impossible h
+ended [] parts h i = false_not_true h
+ended (s ∷ []) [] h i = false_not_true i
+ended (s ∷ []) (x ∷ []) h i = only x (below_fits s items_sort x h (and_true_first (fits s x) true i))
+ended (s ∷ []) (x ∷ y ∷ xs) h i = false_not_true (and_true_second (fits s x) false i)
+ended (s ∷ r ∷ ss) parts h i = false_not_true h
 
 -- ---- tokens
 

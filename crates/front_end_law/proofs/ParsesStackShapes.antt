@@ -2,27 +2,14 @@
 use Rattle.std.proofs.Common.{◌≡◌, ℕ, List, [], ◌∷◌, ◌++◌, Bool, true, false, ◌&&◌, ◌||◌, nat_eq, if◌then◌else◌, None, map, refl, sym, ap, subst, ◌∙◌, ◌⊎◌, inl, inr, arith, rules, append_assoc}
 use Rattle.std.proofs.lemmas.Bool.Decides.{nat_tests}
 use Rattle.std.proofs.lemmas.Cmp.{nat_eq_equiv}
+use Rattle.std.proofs.lemmas.Bool.{and_from}
+use Rattle.pt_base.proofs.Booleans.{and_true_first, and_true_second, false_not_true}
 use Rattle.c_grammar.specs.Part.{Part, init_declarators}
 use Rattle.c_grammar.specs.Item.{Item, token, symbol, counted, build}
 use Rattle.c_grammar.specs.Machine.{Entry, takes, gives, opens, closes, builds, placed}
 use Rattle.front_end_law.proofs.ParsesSorts.{fits, below, taken, OnTaken, ends, inits_sort, item_rest_sort, items_sort}
 use Rattle.front_end_law.proofs.ParsesBuildShapes.{Builds}
 use Rattle.front_end_law.proofs.ParsesRuleShapes.{token_sorts, needs, leaves, Shapes}
-
-pub impossible : {X : Type 0} → false ≡ true → X
-impossible h = absurd (cc)
-
-pub and_first : (a b : Bool) → (a && b) ≡ true → a ≡ true
-and_first true b h = refl
-and_first false b h = cc
-
-pub and_second : (a b : Bool) → (a && b) ≡ true → b ≡ true
-and_second true b h = h
-and_second false b h = cc
-
-pub and_both : (a b : Bool) → a ≡ true → b ≡ true → (a && b) ≡ true
-and_both true b h i = i
-and_both false b h i = cc
 
 -- ---- one sort below another
 
@@ -51,7 +38,7 @@ below_trans s t u a b = go (below_cases s t a) (below_cases t u b)
 
 inits_fit : (x : Part) → fits inits_sort x ≡ true → fits item_rest_sort x ≡ true
 inits_fit (init_declarators ds) h = refl
-inits_fit x h = impossible h
+inits_fit x h = false_not_true h
 
 pub below_fits : (s t : ℕ) (x : Part) → below s t ≡ true → fits s x ≡ true → fits t x ≡ true
 below_fits s t x b h = go (below_cases s t b)
@@ -70,31 +57,31 @@ belows (s ∷ ss) (r ∷ rs) = below s r && belows ss rs
 
 same_belows : (ss : List ℕ) → belows ss ss ≡ true
 same_belows [] = refl
-same_belows (s ∷ ss) = and_both (below s s) (belows ss ss) (below_same s) (same_belows ss)
+same_belows (s ∷ ss) = and_from (below s s) (belows ss ss) (below_same s) (same_belows ss)
 
 belows_more : (t : ℕ) (ss rs : List ℕ) → belows ss rs ≡ true → belows (t ∷ ss) (t ∷ rs) ≡ true
-belows_more t ss rs h = and_both (below t t) (belows ss rs) (below_same t) h
+belows_more t ss rs h = and_from (below t t) (belows ss rs) (below_same t) h
 
 belows_append : (ts ss rs : List ℕ) → belows ss rs ≡ true → belows (ts ++ ss) (ts ++ rs) ≡ true
 belows_append [] ss rs h = h
 belows_append (t ∷ ts) ss rs h = belows_more t (ts ++ ss) (ts ++ rs) (belows_append ts ss rs h)
 
 lower_ends : (ss rs : List ℕ) (t : ℕ) → belows ss rs ≡ true → ends rs t ≡ true → ends ss t ≡ true
-lower_ends ss [] t b h = impossible h
-lower_ends [] (r ∷ rs) t b h = impossible b
-lower_ends (s ∷ []) (r ∷ []) t b h = below_trans s r t (and_first (below s r) true b) h
-lower_ends (s ∷ q ∷ ss) (r ∷ []) t b h = impossible (and_second (below s r) false b)
-lower_ends (s ∷ ss) (r ∷ p ∷ rs) t b h = impossible h
+lower_ends ss [] t b h = false_not_true h
+lower_ends [] (r ∷ rs) t b h = false_not_true b
+lower_ends (s ∷ []) (r ∷ []) t b h = below_trans s r t (and_true_first (below s r) true b) h
+lower_ends (s ∷ q ∷ ss) (r ∷ []) t b h = false_not_true (and_true_second (below s r) false b)
+lower_ends (s ∷ ss) (r ∷ p ∷ rs) t b h = false_not_true h
 
 lower_on : (ts ss rs : List ℕ) (P : List ℕ → Type 0) → ((ss rs : List ℕ) → belows ss rs ≡ true → P rs → P ss) → belows ss rs ≡ true → OnTaken (taken ts rs) P → OnTaken (taken ts ss) P
 lower_on [] ss rs P low b h = low ss rs b h
 lower_on (t ∷ ts) ss [] P low b h = absurd h
-lower_on (t ∷ ts) [] (r ∷ rs) P low b h = impossible b
-lower_on (t ∷ ts) (s ∷ ss) (r ∷ rs) P low b h = go (lower_on ts ss rs P low (and_second (below s r) (belows ss rs) b)) (below r t) refl (below s t) refl h
+lower_on (t ∷ ts) [] (r ∷ rs) P low b h = false_not_true b
+lower_on (t ∷ ts) (s ∷ ss) (r ∷ rs) P low b h = go (lower_on ts ss rs P low (and_true_second (below s r) (belows ss rs) b)) (below r t) refl (below s t) refl h
   where
     go : (OnTaken (taken ts rs) P → OnTaken (taken ts ss) P) → (y : Bool) → below r t ≡ y → (z : Bool) → below s t ≡ z → OnTaken (if y then taken ts rs else None) P → OnTaken (if z then taken ts ss else None) P
     go rest true e true f h = rest h
-    go rest true e false f h = impossible (sym f ∙ below_trans s r t (and_first (below s r) (belows ss rs) b) e)
+    go rest true e false f h = false_not_true (sym f ∙ below_trans s r t (and_true_first (below s r) (belows ss rs) b) e)
     go rest false e z f h = absurd h
 
 -- ---- what the entries of the derivation make of a stack of sorts
@@ -127,9 +114,9 @@ enter_on (n ∷ ns) (t ∷ ts) rs P Q step h = go (below t n) (enter_on ns ts rs
 
 -- what a rule wants in place of its symbol
 pub enters : (from left : ℕ) (want : List Item) (rest : List Entry) (ts rs : List ℕ) → Shapes ts want left → Stands rest (left ∷ rs) → Stands (map (placed from) want ++ rest) (ts ++ rs)
-enters from left [] rest [] rs h i = impossible h
-enters from left [] rest (t ∷ []) rs h i = lower rest (t ∷ rs) (left ∷ rs) (and_both (below t left) (belows rs rs) h (same_belows rs)) i
-enters from left [] rest (t ∷ u ∷ ts) rs h i = impossible h
+enters from left [] rest [] rs h i = false_not_true h
+enters from left [] rest (t ∷ []) rs h i = lower rest (t ∷ rs) (left ∷ rs) (and_from (below t left) (belows rs rs) h (same_belows rs)) i
+enters from left [] rest (t ∷ u ∷ ts) rs h i = false_not_true h
 enters from left (token k ∷ want) rest ts rs h i = subst (Stands (map (placed from) want ++ rest)) (append_assoc (token_sorts k) ts rs) (enters from left want rest (token_sorts k ++ ts) rs h i)
 enters from left (symbol x ∷ want) rest ts rs h i = enter_on (needs x) ts rs (λ qs. Shapes (leaves x ∷ qs) want left) (λ qs. Stands (map (placed from) want ++ rest) (leaves x ∷ qs)) (λ qs c. enters from left want rest (leaves x ∷ qs) rs c i) h
 enters from left (counted x ∷ want) rest ts rs h i = enter_on (needs x) ts rs (λ qs. Shapes (leaves x ∷ qs) want left) (λ qs. Stands (map (placed from) want ++ rest) (leaves x ∷ qs)) (λ qs c. enters from left want rest (leaves x ∷ qs) rs c i) h

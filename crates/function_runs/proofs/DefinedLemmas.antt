@@ -1,8 +1,9 @@
 -- Functions by number, and those that have bodies.
-use Rattle.std.proofs.Common.{◌≡◌, ◌+◌, ◌<◌, ℕ, zero, suc, refl, ap, arith, List, [], ◌∷◌, ◌++◌, All, Option, Some, None, length, slice_get}
+use Rattle.std.proofs.Common.{◌≡◌, ◌+◌, ◌<◌, ℕ, suc, refl, ap, arith, List, [], ◌∷◌, ◌++◌, All, Option, Some, None, length, slice_get}
 use Rattle.std.specs.Prelude.{is_some}
 use Rattle.std.proofs.lemmas.List.Elements.{All-nil, All-cons}
 use Rattle.pt_base.specs.declared.ids.FnId.{FnId}
+use Rattle.pt_base.proofs.Places.{get_below_length}
 use Rattle.typed_tree.specs.Lookup.{function_at}
 use Rattle.typed_tree.specs.StatementTree.{BodyTree}
 use Rattle.typed_tree.specs.TypedTree.{FunctionTree, TypedTree}
@@ -36,10 +37,5 @@ all_defined t = all_defined_from t 0 t.functions (all_stand t)
 
 -- ---- its number is that of a function
 
-below_length : {X : Type 0} (xs : List X) (k : ℕ) (x : X) → slice_get xs k ≡ Some x → k < length xs
-below_length [] k x h = cc
-below_length (y ∷ ys) zero x h = omega arith
-below_length (y ∷ ys) (suc k) x h = let lt : k < length ys = below_length ys k x h in omega arith
-
 pub defined_below : (t : TypedTree) (f : FnId) → HasBody t f → f.0 < length t.functions
-defined_below t f (g, b, at, is) = below_length t.functions f.0 g at
+defined_below t f (g, b, at, is) = get_below_length t.functions f.0 g at

@@ -2,6 +2,7 @@
 use Rattle.std.proofs.Common.{◌≡◌, ◌∙◌, ℕ, refl, sym, subst, Bool, true, false, not, Option, Some, None, [], ◌∷◌, ◌++◌, Ok}
 use Rattle.std.specs.Prelude.{IsTrue}
 use Rattle.pt_base.specs.declared.span.Span.{Span}
+use Rattle.pt_base.proofs.Booleans.{true_not_false}
 use Rattle.runs.specs.State.{gives, ◌>>=◌}
 use Rattle.pt_tree.specs.declared.signature.Elem.{Elem}
 use Rattle.pt_tree.specs.ExpressionTree as p
@@ -44,7 +45,7 @@ use Rattle.half_meaning_law.specs.CForms.{stands, is_stored}
 use Rattle.half_meaning_law.specs.Known.{type_as}
 use Rattle.half_meaning_law.specs.Expressions.{IsValue, IsPlace, SameValues, SamePlaces, asked, place_asked, IsFine, SceneFits}
 use Rattle.half_meaning_law.specs.Statements.{GoesOn, SameRuns, StatementsMean}
-use Rattle.half_meaning_law.proofs.Memories.{differ, alike_written}
+use Rattle.half_meaning_law.proofs.Memories.{alike_written}
 use Rattle.half_meaning_law.proofs.Judged.{no_faults}
 use Rattle.half_meaning_law.proofs.Runs.{same_evaluated, evaluated_both, bind_assoc}
 use Rattle.half_trees.specs.Statements as hs
@@ -139,10 +140,10 @@ target_of s env structs q tree known changes never held = record {
     go (v.Pointer el g) out = refl
 
 pub scalar_whole : (u : VarTy) → IsTrue (is_scalar (Some u)) → (el : Elem) (n : ℕ) → u ≡ v.Array el n → ⊥
-scalar_whole u ok el n is = differ (sym (subst (λ z. IsTrue (is_scalar (Some z))) is ok))
+scalar_whole u ok el n is = true_not_false (sym (subst (λ z. IsTrue (is_scalar (Some z))) is ok))
 
 falsity : (b : Bool) → IsTrue (not b) → b ≡ false
-falsity true h = differ (sym h)
+falsity true h = true_not_false (sym h)
 falsity false h = refl
 
 pub assign_means : (s : Scene) (w : k.Context) (st : o.State) (q : PlaceTree) (a : ExprTree) → SceneFits s → AllKnown s st.env st.structs → IsTrue (place_fits s.context q) → IsTrue (is_scalar (Some (place_type s.context q))) → IsTrue (expr_fits s.context a) →

@@ -1,5 +1,6 @@
 -- `if` and `while`.
 use Rattle.std.proofs.Common.{◌≡◌, ◌∙◌, ◌+◌, ℕ, suc, refl, ap, sym, subst, arith, Bool, true, false, List, [], ◌∷◌, ◌++◌, length, if◌then◌else◌}
+use Rattle.pt_base.proofs.Lists.{length_append}
 use Rattle.runs.specs.State.{◌>>=◌}
 use Rattle.pt_tree.specs.StatementTree as e
 use Rattle.type_rules.specs.Conversions.{condition_rule}
@@ -33,7 +34,7 @@ use Rattle.half_meaning_law.specs.Relations.{Scene, context_of, frame_of, Alike,
 use Rattle.half_meaning_law.specs.Expressions.{Evaluates, asked}
 use Rattle.half_meaning_law.specs.Statements.{code_of, ListedFrom, GoesOn, SameRuns, advanced, StatementsMean}
 use Rattle.half_meaning_law.proofs.Judged.{no_faults}
-use Rattle.half_meaning_law.proofs.Runs.{same_evaluated, listed_parts, length_both}
+use Rattle.half_meaning_law.proofs.Runs.{same_evaluated, listed_parts}
 use Rattle.half_meaning_law.proofs.Steps.{StatementMeans, one_means}
 use Rattle.half_meaning_law.proofs.Flows.{advanced_none, advanced_more, block_means, Condition}
 
@@ -78,7 +79,7 @@ choose_means s w st a xs ys trees others test left right = one_means s w st (e.c
     (subst (λ z. StatementMeans s st (made z) run) (sym test.fine.structs_stay)
     (subst (λ z. StatementMeans s st (later z) run) (sym (first.state ∙ advanced_more st 1 (length q.trees) (1 + length q.trees) refl)) (record {
       fine = no_faults tests (q.faults ++ r.faults) (no_faults j.faults own test.fine.faults (ap (λ z. fault_if z WrongType (span_of (h.expression_tree s.context a))) test.good)) (no_faults q.faults r.faults first.fine second.fine);
-      state = second.state ∙ advanced_more st (1 + length q.trees) (length r.trees) (suc (length (q.trees ++ r.trees))) (counts (length q.trees) (length r.trees) (length (q.trees ++ r.trees)) (length_both q.trees r.trees));
+      state = second.state ∙ advanced_more st (1 + length q.trees) (length r.trees) (suc (length (q.trees ++ r.trees))) (counts (length q.trees) (length r.trees) (length (q.trees ++ r.trees)) (length_append q.trees r.trees));
       same = λ exprs listed st1 st1' al.
           let parts = listed_parts exprs (st.next + 1) q.trees r.trees listed.1 in
           let there : st.next + 1 + length q.trees ≡ st.next + (1 + length q.trees) = omega arith in

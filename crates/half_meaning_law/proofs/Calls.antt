@@ -3,6 +3,9 @@ use Rattle.std.proofs.Common.{◌≡◌, ◌∙◌, ◌+◌, ℕ, suc, refl, ap,
 use Rattle.std.specs.Prelude.{IsTrue, nat_eq, slice_get}
 use Rattle.pt_base.specs.declared.ids.FnId.{FnId}
 use Rattle.pt_base.specs.declared.span.Span.{Span}
+use Rattle.pt_base.proofs.Booleans.{both_hold_first, both_hold_second, true_not_false}
+use Rattle.pt_base.proofs.Lists.{length_map}
+use Rattle.pt_base.proofs.Numbers.{as_plus_zero, nat_eq_true}
 use Rattle.runs.specs.State.{gives, ◌>>=◌}
 use Rattle.pt_tree.specs.declared.signature.Param.{Param}
 use Rattle.pt_tree.specs.declared.signature.ParamKind.{ParamKind}
@@ -16,7 +19,6 @@ use Rattle.typed_tree.specs.ExpressionTree as t
 use Rattle.typed_tree.specs.ExpressionTree.{typed, expr_trees}
 use Rattle.typed_tree.specs.TypeTests.{is_scalar}
 use Rattle.typed_tree.specs.WellFormedExpression.{param_type}
-use Rattle.typed_tree.proofs.WellFormedLemmas.{and_left, and_right}
 use Rattle.check_declarations.specs.declared.fault.FaultKind.TheVariants.{WrongType, OutOfProfile, ArgCount}
 use Rattle.check_declarations.specs.declared.fault.TypeFault.{TypeFault}
 use Rattle.check_declarations.specs.Faults.{fault_if, fault_at}
@@ -50,7 +52,6 @@ use Rattle.half_meaning_law.specs.CForms.{are_passed, is_stored}
 use Rattle.half_meaning_law.specs.Known.{type_as, function_id, FunctionKnown, Known as AllKnown}
 use Rattle.half_meaning_law.specs.Expressions.{Evaluates, IsValue, asked, IsFine, SceneFits}
 use Rattle.half_meaning_law.specs.Statements.{AreArguments}
-use Rattle.half_meaning_law.proofs.Memories.{differ, is_same}
 use Rattle.half_meaning_law.proofs.Operators.{ev_bind}
 use Rattle.half_meaning_law.proofs.Judged.{no_faults}
 use Rattle.half_meaning_law.proofs.Stores.{Stored, stored_held}
@@ -76,9 +77,6 @@ more_values : (s : Scene) (q : Param) (ps : List Param) (one : Outcome mv.Value)
 more_values s q ps one r rest r' st first later =
     ev_bind (IsValue s (param_type q.kind)) (AreArguments s (q ∷ ps)) st one r (λ g st1. rest st1 >>= λ gs. gives (g ∷ gs)) (λ k. r' >>? λ ks. Ok (k ∷ ks)) first
     (λ g k is. ev_bind (AreArguments s ps) (AreArguments s (q ∷ ps)) st (rest st) r' (λ gs. gives (g ∷ gs)) (λ ks. Ok (k ∷ ks)) later (λ gs ks are. (refl, (is, are))))
-
-at_zero : (n : ℕ) → n ≡ n + 0
-at_zero n = omega arith
 
 at_next : (n j : ℕ) → n + 1 + j ≡ n + suc j
 at_next n j = omega arith
@@ -121,13 +119,13 @@ pub arguments_held : (s : Scene) (env : Env) (structs : Structs) (all : List «T
     IsTrue (arguments_fit s.context ps es) → IsTrue (are_passed s.context ps es) → ArgumentsMean s structs ps es (judge_arguments env structs all n (h.argument_trees s.context es))
 unfolding judge_arguments
 arguments_held s env structs all n [] no_exprs fits known there ok on = record { faults = refl; structs_stay = refl; count = refl; same = λ st st' al. (refl, tt) }
-arguments_held s env structs all n [] (expr_and a es) fits known there ok on = differ (sym ok)
-arguments_held s env structs all n (q ∷ ps) no_exprs fits known there ok on = differ (sym ok)
+arguments_held s env structs all n [] (expr_and a es) fits known there ok on = true_not_false (sym ok)
+arguments_held s env structs all n (q ∷ ps) no_exprs fits known there ok on = true_not_false (sym ok)
 arguments_held s env structs all n (q ∷ ps) (expr_and a es) fits known there ok on =
-    more_held s env structs all n q ps a es (ap (λ z. slice_get all z) (at_zero n) ∙ there 0)
-    (stored_held s env structs (param_type q.kind) a fits known (param_scalar q.kind) (and_left (expr_fits s.context a) (stands_for (type_of s.context a) (param_type q.kind)) (and_left _ (arguments_fit s.context ps es) ok))
-    (and_right (expr_fits s.context a) (stands_for (type_of s.context a) (param_type q.kind)) (and_left _ (arguments_fit s.context ps es) ok)) (and_left (is_stored s.context (param_type q.kind) a) (are_passed s.context ps es) on))
-    (arguments_held s env structs all (n + 1) ps es fits known (λ j. ap (λ z. slice_get all z) (at_next n j) ∙ there (suc j)) (and_right _ (arguments_fit s.context ps es) ok) (and_right (is_stored s.context (param_type q.kind) a) (are_passed s.context ps es) on))
+    more_held s env structs all n q ps a es (ap (λ z. slice_get all z) (as_plus_zero n) ∙ there 0)
+    (stored_held s env structs (param_type q.kind) a fits known (param_scalar q.kind) (both_hold_first (expr_fits s.context a) (stands_for (type_of s.context a) (param_type q.kind)) (both_hold_first _ (arguments_fit s.context ps es) ok))
+    (both_hold_second (expr_fits s.context a) (stands_for (type_of s.context a) (param_type q.kind)) (both_hold_first _ (arguments_fit s.context ps es) ok)) (both_hold_first (is_stored s.context (param_type q.kind) a) (are_passed s.context ps es) on))
+    (arguments_held s env structs all (n + 1) ps es fits known (λ j. ap (λ z. slice_get all z) (at_next n j) ∙ there (suc j)) (both_hold_second _ (arguments_fit s.context ps es) ok) (both_hold_second (is_stored s.context (param_type q.kind) a) (are_passed s.context ps es) on))
 
 -- ---- what is judged of a call
 
@@ -144,15 +142,11 @@ called_is : (c : Callable) (f : FnId) (trees : List t.ExprTree) (sp : Span) → 
 unfolding call_of
 called_is c f trees sp plain_name same =
     ap (λ z. if z then refused (fault_at OutOfProfile sp ∷ []) else if nat_eq (length trees) (length c.params) then fine (plain c.result (call_tree sp c.result f trees)) else refused (fault_at ArgCount sp ∷ [])) plain_name
-    ∙ ap (λ z. if z then fine (plain c.result (call_tree sp c.result f trees)) else refused (fault_at ArgCount sp ∷ [])) (is_same (length trees) (length c.params) same)
+    ∙ ap (λ z. if z then fine (plain c.result (call_tree sp c.result f trees)) else refused (fault_at ArgCount sp ∷ [])) (nat_eq_true (length trees) (length c.params) same)
 
 meant_is : (env : Env) (name : List ℕ) (f : FnId) (ps : p.PostfixTrees) (sp : Span) (es : p.ExprTrees) → find env name ≡ Some (Function f) → function_called env (p.name (word name)) (p.postfix_and (p.call sp es) ps) ≡ Some f
 unfolding function_called is_called is_call function_named function_meant
 meant_is env name f ps sp es is = ap function_meant is
-
-length_map : {A B : Type 0} (f : A → B) (xs : List A) → length (map f xs) ≡ length xs
-length_map f [] = refl
-length_map f (x ∷ xs) = ap suc (length_map f xs)
 
 -- the parameters that arguments are held against
 abbrev params_known : (s : Scene) (names : List (ℕ × Signature)) (env : Env) (f : ℕ) (signature : Signature) → FunctionKnown s names env f signature → Type 0

@@ -1,6 +1,8 @@
 -- Chains of operators: what is so far, and one link more.
 use Rattle.std.proofs.Common.{◌≡◌, ◌∙◌, refl, ap, sym, subst, Bool, true, false, Some, List, [], ◌∷◌, ◌++◌, Result, suc, length, arith}
 use Rattle.pt_base.specs.declared.span.Span.{Span}
+use Rattle.pt_base.proofs.Booleans.{true_not_false}
+use Rattle.pt_base.proofs.Numbers.{nat_eq_other}
 use Rattle.runs.specs.State as r
 use Rattle.runs.specs.State.{gives, trapped, spent, ◌>>=◌}
 use Rattle.pt_tree.specs.declared.operator.BinaryOp.{BinaryOp}
@@ -34,7 +36,6 @@ use Rattle.half_meaning_law.specs.Relations.{Scene, context_of, is_pointer, Alik
 use Rattle.half_meaning_law.specs.CForms.{c_type}
 use Rattle.half_meaning_law.specs.Known.{type_as}
 use Rattle.half_meaning_law.specs.Expressions.{Evaluates, IsValue, SameValues, asked, ExpressionMeans}
-use Rattle.half_meaning_law.proofs.Memories.{is_other, differ}
 use Rattle.half_meaning_law.proofs.Operators.{ev_bind, Told, value_told}
 
 -- ---- runs of chains
@@ -148,7 +149,7 @@ run_link s a b d first links sp to step y combine so_far right core_is steps st 
 pub some_links : (links : List t.LinkTree) (l : t.LinkTree) → has_none (links ++ l ∷ []) ≡ false
 unfolding has_none
 some_links [] l = refl
-some_links (k ∷ ks) l = is_other (suc (length (ks ++ l ∷ []))) 0 (λ h. omega (arith, h))
+some_links (k ∷ ks) l = nat_eq_other (suc (length (ks ++ l ∷ []))) 0 (λ h. omega (arith, h))
 
 -- what is needed of a link with the operand `b` behind a chain that is `a`, to be `d`
 pub record LinkHolds (s : Scene) (a b d : ExprTree) (op : BinaryOp) (far : SoFar) (w : Value) (y : t.ExprTree) : Type 0 where
@@ -178,7 +179,7 @@ link_held s a b d op far w y sp l =
       plain = λ p. refl;
       whole = ap (λ z. value_type z false) l.typed ∙ l.whole ∙ sym l.typed;
       last = last_more far.links new (x.type_of (first_by (has_none far.links) l.rule far.value w far.first)) ∙ ap link_type l.typed ∙ link_type_as (c_type s.context d);
-      tree = λ none. differ (sym none ∙ some_links far.links new);
+      tree = λ none. true_not_false (sym none ∙ some_links far.links new);
       same = subst (λ z. (st : State) (st' : c.State) → Alike s st st' → Evaluates (IsValue s (type_of s.context d)) st (x.value_of z (context_of s) st >>= λ v. x.links_value (link_trees (far.links ++ new ∷ [])) (x.type_of z) v (context_of s)) (asked s d st'.memory)) (sym l.first)
           (run_link s a b d l.first_now far.links sp (link_type (rule_type l.rule far.value w)) (step_of (integer_op op) l.rule) (converted_by l.rule w far.value y) l.combine l.so_far l.right l.asks
           (λ v p u q is is'. subst (λ z. Told s (reach_of s (type_of s.context d)) (stepped (x.sizes (context_of s)) z (step_of (integer_op op) l.rule) (cell_of v) (cell_of u)) (l.combine p q)) (sym l.last) (l.steps v p u q is is')));

@@ -42,7 +42,7 @@ use Rattle.half_meaning_law.specs.CForms.{stands}
 use Rattle.half_meaning_law.specs.Known.{type_as}
 use Rattle.half_meaning_law.specs.Expressions.{Evaluates, IsPlace, SamePlaces, place_asked, IsFine, SceneFits}
 use Rattle.half_meaning_law.specs.Statements.{GoesOn, SameRuns, StatementsMean}
-use Rattle.half_meaning_law.proofs.Memories.{differ, own_live}
+use Rattle.half_meaning_law.proofs.Memories.{own_live}
 use Rattle.half_meaning_law.proofs.Runs.{same_evaluated, bind_assoc}
 use Rattle.half_trees.specs.Statements as hs
 use Rattle.half_meaning_law.specs.Relations.{name_of}
@@ -59,6 +59,8 @@ use Rattle.check_expressions.specs.Operands.{read_object, read_form}
 use Rattle.half_meaning_law.proofs.Steps.{evaluate_means}
 use Rattle.half_meaning_law.proofs.Assigns.{assign_judged, target_of}
 use Rattle.std.specs.Prelude.{◌<◌, nat_lt, slice_set}
+use Rattle.pt_base.proofs.Booleans.{both_hold, true_not_false}
+use Rattle.pt_base.proofs.Numbers.{below_holds}
 use Rattle.pt_int.specs.Conversion.{conv}
 use Rattle.pt_int.proofs.Conversions.{conv-same}
 use Rattle.pt_int.proofs.Ranges.{around_zero}
@@ -71,10 +73,8 @@ use Rattle.block_memory.specs.Blocks as bs
 use Rattle.source_meaning.specs.Memory.{Block, local, global, write as write_cell}
 use Rattle.pt_core.specs.CodeTree.{clear, place, local as local_root}
 use Rattle.pt_core.specs.Types.{type_at, shape_of}
-use Rattle.typed_tree.proofs.WellFormedLemmas.{and_both}
 use Rattle.half_meaning_law.specs.Relations.{cells_in}
 use Rattle.half_meaning_law.proofs.Memories.{alike_with, blocks_put, fits_put, all_set, live_written}
-use Rattle.half_meaning_law.proofs.Paths.{is_less}
 
 -- ---- checked places
 
@@ -207,8 +207,8 @@ pub zero_fits : (u : VarTy) → IsTrue (is_single u) → is_wrong (fit_rule (typ
 unfolding fit_rule value_of literal
 zero_fits (v.Int to) ok = refl
 zero_fits (v.Pointer el g) ok = refl
-zero_fits (v.Struct n) ok = differ (sym ok)
-zero_fits (v.Array el n) ok = differ (sym ok)
+zero_fits (v.Struct n) ok = true_not_false (sym ok)
+zero_fits (v.Array el n) ok = true_not_false (sym ok)
 
 -- what a variable of one cell is cleared to, and how
 pub record Cleared (s : Scene) (u : VarTy) : Type 0 where
@@ -240,8 +240,8 @@ cleared_to s (v.Pointer el g) ok = record {
   tree = λ n. refl;
   no_array = λ el n e. cc;
 }
-cleared_to s (v.Struct n) ok = differ (sym ok)
-cleared_to s (v.Array el n) ok = differ (sym ok)
+cleared_to s (v.Struct n) ok = true_not_false (sym ok)
+cleared_to s (v.Array el n) ok = true_not_false (sym ok)
 
 pub clear_means : (s : Scene) (w : k.Context) (st : o.State) (n : ℕ) → SceneFits s → AllKnown s st.env st.structs → IsTrue (nat_lt n (length s.context.variables)) → IsTrue (is_single (type_at s.context.variables n)) →
     StatementsMean s st (checked_all w st (e.stmt_trees (hs.cleared s.context.structs (type_at s.context.variables n) (hs.variable n)))) (does (clear n) (frame_of s) s.core_calls)
@@ -250,7 +250,7 @@ clear_means s w st n fits known near ok =
     subst (λ z. StatementsMean s st (checked_all w st (e.stmt_trees z)) (does (clear n) (frame_of s) s.core_calls)) (sym (to.tree n))
     (evaluate_means s w st (hs.stored (hs.variable n) h.zero_tree) (does (clear n) (frame_of s) s.core_calls) judged.0
     (subst (λ z. SameRuns s (λ st1. x.value_of z (context_of s) st1 >>= λ g. gives m.goes_on) (does (clear n) (frame_of s) s.core_calls)) (sym (judged.1 nowhere))
-    (clear_runs s n to.cell (place_of (judge st.env st.structs (hs.variable n)).operand.tree) (as_type (type_as u) true (value_tree nowhere zero)) nowhere (var_type (type_as u)) fits.numbers fits.own (is_less n (length s.context.variables) near) to.single held.means.object.same (to.value nowhere) to.fits to.fresh)))
+    (clear_runs s n to.cell (place_of (judge st.env st.structs (hs.variable n)).operand.tree) (as_type (type_as u) true (value_tree nowhere zero)) nowhere (var_type (type_as u)) fits.numbers fits.own (below_holds n (length s.context.variables) near) to.single held.means.object.same (to.value nowhere) to.fits to.fresh)))
   where
     u : VarTy
     u = type_at s.context.variables n
@@ -262,7 +262,7 @@ clear_means s w st n fits known near ok =
     to = cleared_to s u ok
 
     held : PlaceHeld s st.env st.structs (place (local_root n) []) (hs.variable n)
-    held = place_held s st.env st.structs (place (local_root n) []) fits known (and_both (nat_lt n (length s.context.variables)) true near refl) refl
+    held = place_held s st.env st.structs (place (local_root n) []) fits known (both_hold (nat_lt n (length s.context.variables)) true near refl) refl
 
     judged : IsFine st.structs (judge st.env st.structs (hs.stored (hs.variable n) h.zero_tree)) × ((at : Span) → value_tree at (judge st.env st.structs (hs.stored (hs.variable n) h.zero_tree)).operand ≡
         typed nowhere (var_type (type_as u)) (t.assign (place_of (judge st.env st.structs (hs.variable n)).operand.tree) (as_type (type_as u) (value_of zero).null (value_tree nowhere zero))))

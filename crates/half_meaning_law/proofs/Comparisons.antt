@@ -16,6 +16,7 @@ use Rattle.type_rules.specs.declared.types.Value.{Value}
 use Rattle.type_rules.specs.declared.operators.Rule.{Rule}
 use Rattle.type_rules.specs.declared.operators.Rule.TheVariants as rule
 use Rattle.type_rules.specs.Operators.{binary_rule, pointers}
+use Rattle.type_rules.proofs.TypeLemmas.{is_same_elem-self}
 use Rattle.typed_tree.specs.declared.types.VarTy.{VarTy}
 use Rattle.typed_tree.specs.declared.types.VarTy.TheVariants as v
 use Rattle.typed_tree.specs.ExpressionTree as t
@@ -47,7 +48,6 @@ use Rattle.half_meaning_law.proofs.Chains.{FarHolds, LinkHolds}
 use Rattle.half_meaning_law.proofs.Memories.{OneToOne}
 use Rattle.half_meaning_law.proofs.Operators.{Told, compared_told, difference_told}
 use Rattle.typed_tree.proofs.SameTypes.{equal_elems}
-use Rattle.half_meaning_law.proofs.Types.{elem_self}
 use Rattle.half_meaning_law.proofs.Judged.{Held, linked_held, one_held}
 use Rattle.half_meaning_law.proofs.Operands.{as_pointer}
 use Rattle.half_meaning_law.proofs.Links.{ValueOf, OpFits, steps_of, pair_held, integer_back, no_logical, val, rule_as}
@@ -86,7 +86,7 @@ difference_fits : (s : Scene) (a b : ExprTree) (sp : Span) (elem : Elem) (f g : 
 unfolding rule_faults converted_by step_of link_rule logical_of binary_rule
 difference_fits s a b sp elem f g one is is' = record {
   rule = rule.Difference;
-  is = λ p q k l. pointer_rule s Subtract a b elem f g rule.Difference p q is is' (λ f g. ap (λ z. if z then rule.Difference else rule.Wrong false true) (elem_self elem)) k l;
+  is = λ p q k l. pointer_rule s Subtract a b elem f g rule.Difference p q is is' (λ f g. ap (λ z. if z then rule.Difference else rule.Wrong false true) (is_same_elem-self elem)) k l;
   fine = λ p q. refl;
   typed = λ p q k. refl;
   whole = refl;
@@ -121,12 +121,12 @@ ComparesTypes op c n d k = link_rule false op (val c n) (val d k) ≡ rule.Compa
 
 two_pointers : (op : BinOp) (elem : Elem) (f g : Bool) → is_comparison op ≡ true → ComparesTypes (operator_of op) (ty.Pointer elem f) false (ty.Pointer elem g) false
 unfolding link_rule logical_of binary_rule
-two_pointers Lt elem f g h = ap pointers (elem_self elem)
-two_pointers Gt elem f g h = ap pointers (elem_self elem)
-two_pointers Le elem f g h = ap pointers (elem_self elem)
-two_pointers Ge elem f g h = ap pointers (elem_self elem)
-two_pointers Eq elem f g h = ap pointers (elem_self elem)
-two_pointers Ne elem f g h = ap pointers (elem_self elem)
+two_pointers Lt elem f g h = ap pointers (is_same_elem-self elem)
+two_pointers Gt elem f g h = ap pointers (is_same_elem-self elem)
+two_pointers Le elem f g h = ap pointers (is_same_elem-self elem)
+two_pointers Ge elem f g h = ap pointers (is_same_elem-self elem)
+two_pointers Eq elem f g h = ap pointers (is_same_elem-self elem)
+two_pointers Ne elem f g h = ap pointers (is_same_elem-self elem)
 two_pointers Mul elem f g h = cc
 two_pointers Div elem f g h = cc
 two_pointers Rem elem f g h = cc

@@ -41,7 +41,6 @@ use Rattle.half_meaning_law.specs.CForms.{stands}
 use Rattle.half_meaning_law.specs.Known.{type_as}
 use Rattle.half_meaning_law.specs.Expressions.{IsPlace, SamePlaces, place_asked, IsFine, SceneFits}
 use Rattle.half_meaning_law.specs.Statements.{GoesOn, SameRuns, StatementsMean}
-use Rattle.half_meaning_law.proofs.Memories.{differ}
 use Rattle.typed_tree.proofs.SameTypes.{equal_types}
 use Rattle.half_meaning_law.proofs.Runs.{same_evaluated, evaluated_both, bind_assoc}
 use Rattle.typed_tree.specs.Sizes.{sizes_of, cells_by}
@@ -54,7 +53,7 @@ use Rattle.std.specs.Prelude.{map}
 use Rattle.pt_core.specs.Values.{cells_at, all_written}
 use Rattle.pt_core.specs.WellFormedExpression.{place_fits}
 use Rattle.half_meaning_law.specs.CForms.{is_const, place_stands, is_struct}
-use Rattle.half_meaning_law.proofs.Memories.{OneToOne, is_same}
+use Rattle.half_meaning_law.proofs.Memories.{OneToOne}
 use Rattle.half_meaning_law.proofs.PlaceLaw.{PlaceHeld}
 use Rattle.half_meaning_law.proofs.ExpressionLaw.{place_held}
 use Rattle.check_expressions.specs.Operands.{read_object, read_form}
@@ -62,6 +61,8 @@ use Rattle.half_meaning_law.proofs.Steps.{evaluate_means}
 use Rattle.half_meaning_law.proofs.Stores.{Target}
 use Rattle.half_meaning_law.proofs.Assigns.{assign_judged, target_of}
 use Rattle.std.specs.Prelude.{slice_index_or, take, drop}
+use Rattle.pt_base.proofs.Booleans.{true_not_false}
+use Rattle.pt_base.proofs.Numbers.{nat_eq_true}
 
 -- ---- structs
 
@@ -126,13 +127,13 @@ unfolding value_tree read_form var_type
 struct_tree n k at is reads = reads at k.ty k.fixed ∙ ap (λ z. read_object at z k.fixed (place_of k.tree)) is
 
 struct_type : (u : VarTy) → IsTrue (is_struct u) → (n : ℕ) × (u ≡ v.Struct n)
-struct_type (v.Int t) h = differ (sym h)
+struct_type (v.Int t) h = true_not_false (sym h)
 struct_type (v.Struct n) h = (n, refl)
-struct_type (v.Array el n) h = differ (sym h)
-struct_type (v.Pointer el g) h = differ (sym h)
+struct_type (v.Array el n) h = true_not_false (sym h)
+struct_type (v.Pointer el g) h = true_not_false (sym h)
 
 truth_of : (b : Bool) → IsTrue (not b) → b ≡ false
-truth_of true h = differ (sym h)
+truth_of true h = true_not_false (sym h)
 truth_of false h = refl
 
 copy_held : (s : Scene) (w : k.Context) (st : o.State) (to of : PlaceTree) (n : ℕ) → SceneFits s → AllKnown s st.env st.structs → place_type s.context to ≡ v.Struct n → place_type s.context of ≡ v.Struct n → is_const s.context to ≡ false →
@@ -159,7 +160,7 @@ copy_held s w st to of n fits known is is' changes left right =
     target = subst (λ z. Target s st.structs z j.operand) is (target_of s st.env st.structs to (h.place_tree s.context to) known changes (λ el k e. cc) left)
 
     fit_is : is_wrong (fit_rule (ty.Struct n) (value_of q.operand)) ≡ false
-    fit_is = ap (λ z. is_wrong (fit_rule (ty.Struct n) (record { ty = value_type z q.operand.fixed; null = q.operand.null }))) q_is ∙ ap (λ z. is_wrong (if z then fit.Copies else fit.Wrong)) (is_same n n refl)
+    fit_is = ap (λ z. is_wrong (fit_rule (ty.Struct n) (record { ty = value_type z q.operand.fixed; null = q.operand.null }))) q_is ∙ ap (λ z. is_wrong (if z then fit.Copies else fit.Wrong)) (nat_eq_true n n refl)
 
     judged : IsFine st.structs (judge st.env st.structs (hs.stored (h.place_tree s.context to) (h.place_tree s.context of))) × ((at : Span) → value_tree at (judge st.env st.structs (hs.stored (h.place_tree s.context to) (h.place_tree s.context of))).operand ≡
         typed nowhere (var_type (ty.Struct n)) (t.assign (place_of j.operand.tree) (value_tree (span_of (h.place_tree s.context of)) q.operand)))

@@ -2,6 +2,7 @@
 use Rattle.std.proofs.Common.{◌≡◌, ◌∙◌, ℕ, refl, ap, sym, subst, Bool, true, false, Some, List}
 use Rattle.std.specs.Prelude.{IsTrue, ◌&&◌, ◌||◌, is_some}
 use Rattle.pt_base.specs.declared.span.Span.{Span}
+use Rattle.pt_base.proofs.Booleans.{both_hold_first, both_hold_second, true_not_false}
 use Rattle.pt_int.specs.declared.operator.BinOp.{BinOp}
 use Rattle.pt_tree.specs.declared.signature.Elem.{Elem}
 use Rattle.typed_tree.specs.declared.types.VarTy.{VarTy}
@@ -9,7 +10,6 @@ use Rattle.typed_tree.specs.declared.types.VarTy.TheVariants as v
 use Rattle.typed_tree.specs.declared.link.LinkStep.TheVariants.{Move, Difference, Compare}
 use Rattle.typed_tree.specs.TypeTests.{is_scalar, integer_of, pointee_of, element_of, item_of, both_elem}
 use Rattle.typed_tree.specs.TypeRules.{stepped, is_comparison}
-use Rattle.typed_tree.proofs.WellFormedLemmas.{and_left, and_right}
 use Rattle.check_declarations.specs.Structs.{Structs}
 use Rattle.check_expressions.specs.Environment.{Env}
 use Rattle.pt_core.specs.CodeTree.{RootTree, local, global, deref, PlaceTree, place, ExprTree, constant, read, unary, binary, convert, null, address, decay, move, compare, difference}
@@ -21,7 +21,6 @@ use Rattle.half_meaning_law.specs.Relations.{Scene}
 use Rattle.half_meaning_law.specs.CForms.{is_null, stands, place_stands, root_stands}
 use Rattle.half_meaning_law.specs.Known.{Known}
 use Rattle.half_meaning_law.specs.Expressions.{SceneFits, ExpressionsKeepTheirMeaning, PlacesKeepTheirMeaning}
-use Rattle.half_meaning_law.proofs.Memories.{differ}
 use Rattle.half_meaning_law.proofs.Judged.{Held}
 use Rattle.half_meaning_law.proofs.PlaceLaw.{PlaceHeld, local_held, global_held, deref_held}
 use Rattle.half_meaning_law.proofs.Values.{read_held, decay_held, address_held}
@@ -32,16 +31,16 @@ use Rattle.half_meaning_law.proofs.Comparisons.{both_pointers, compare_fits, dif
 
 pub null_is : (b : ExprTree) → is_null b ≡ true → (elem : Elem) × (b ≡ null elem)
 null_is (null elem) h = (elem, refl)
-null_is (constant t n) h = differ (sym h)
-null_is (read q) h = differ (sym h)
-null_is (unary op t a sp) h = differ (sym h)
-null_is (binary op t a b sp) h = differ (sym h)
-null_is (convert t a) h = differ (sym h)
-null_is (address q) h = differ (sym h)
-null_is (decay q) h = differ (sym h)
-null_is (move a b back sp) h = differ (sym h)
-null_is (compare op a b sp) h = differ (sym h)
-null_is (difference a b sp) h = differ (sym h)
+null_is (constant t n) h = true_not_false (sym h)
+null_is (read q) h = true_not_false (sym h)
+null_is (unary op t a sp) h = true_not_false (sym h)
+null_is (binary op t a b sp) h = true_not_false (sym h)
+null_is (convert t a) h = true_not_false (sym h)
+null_is (address q) h = true_not_false (sym h)
+null_is (decay q) h = true_not_false (sym h)
+null_is (move a b back sp) h = true_not_false (sym h)
+null_is (compare op a b sp) h = true_not_false (sym h)
+null_is (difference a b sp) h = true_not_false (sym h)
 
 same_left : (elem : Elem) (d : VarTy) → both_elem (Some elem) (pointee_of (Some d)) ≡ true → (g : Bool) × (d ≡ v.Pointer elem g)
 same_left elem d h =
@@ -70,10 +69,10 @@ compare_cases s env structs op a b sp fits ok left right x y z u ex ey ez eu on 
     both = int_if (is_comparison op && both_elem (pointee_of (Some (type_of s.context a))) (pointee_of (Some (type_of s.context b)))) ok
 
     tells : is_comparison op ≡ true
-    tells = and_left (is_comparison op) (both_elem (pointee_of (Some (type_of s.context a))) (pointee_of (Some (type_of s.context b)))) both
+    tells = both_hold_first (is_comparison op) (both_elem (pointee_of (Some (type_of s.context a))) (pointee_of (Some (type_of s.context b)))) both
 
     elems : both_elem (pointee_of (Some (type_of s.context a))) (pointee_of (Some (type_of s.context b))) ≡ true
-    elems = and_right (is_comparison op) (both_elem (pointee_of (Some (type_of s.context a))) (pointee_of (Some (type_of s.context b)))) both
+    elems = both_hold_second (is_comparison op) (both_elem (pointee_of (Some (type_of s.context a))) (pointee_of (Some (type_of s.context b)))) both
 
     two : stands a ≡ true → stands b ≡ true → Held s env structs (compare op a b sp) (h.linked (h.operator_of op) (expression_tree s.context a) (expression_tree s.context b))
     two p q =
@@ -96,66 +95,66 @@ compare_cases s env structs op a b sp fits ok left right x y z u ex ey ez eu on 
     go : (x y z u : Bool) → stands a ≡ x → stands b ≡ y → is_null b ≡ z → is_null a ≡ u → IsTrue ((x && (y || z)) || (u && y)) → Held s env structs (compare op a b sp) (h.linked (h.operator_of op) (expression_tree s.context a) (expression_tree s.context b))
     go true true z u ex ey ez eu on = two ex ey
     go true false true u ex ey ez eu on = on_right ex ez
-    go true false false true ex ey ez eu on = differ (sym on)
-    go true false false false ex ey ez eu on = differ (sym on)
+    go true false false true ex ey ez eu on = true_not_false (sym on)
+    go true false false false ex ey ez eu on = true_not_false (sym on)
     go false true z true ex ey ez eu on = on_left eu ey
-    go false true z false ex ey ez eu on = differ (sym on)
-    go false false z true ex ey ez eu on = differ (sym on)
-    go false false z false ex ey ez eu on = differ (sym on)
+    go false true z false ex ey ez eu on = true_not_false (sym on)
+    go false false z true ex ey ez eu on = true_not_false (sym on)
+    go false false z false ex ey ez eu on = true_not_false (sym on)
 
 mutual
   pub expr_held : (s : Scene) (env : Env) (structs : Structs) (e : ExprTree) → SceneFits s → Known s env structs → IsTrue (expr_fits s.context e) → IsTrue (stands e) → Held s env structs e (expression_tree s.context e)
   expr_held s env structs (constant t n) fits known ok on = constant_held s env structs t n ok
   expr_held s env structs (read q) fits known ok on =
-      read_held s env structs q (place_tree s.context q) (and_right (place_fits s.context q) (is_scalar (Some (place_type s.context q))) ok)
-      (place_held s env structs q fits known (and_left (place_fits s.context q) (is_scalar (Some (place_type s.context q))) ok) on)
+      read_held s env structs q (place_tree s.context q) (both_hold_second (place_fits s.context q) (is_scalar (Some (place_type s.context q))) ok)
+      (place_held s env structs q fits known (both_hold_first (place_fits s.context q) (is_scalar (Some (place_type s.context q))) ok) on)
   expr_held s env structs (unary op t a sp) fits known ok on =
-      unary_held s env structs op t a sp (expression_tree s.context a) (and_right (expr_fits s.context a) (takes_one op t (type_of s.context a)) ok)
-      (expr_held s env structs a fits known (and_left (expr_fits s.context a) (takes_one op t (type_of s.context a)) ok) on)
+      unary_held s env structs op t a sp (expression_tree s.context a) (both_hold_second (expr_fits s.context a) (takes_one op t (type_of s.context a)) ok)
+      (expr_held s env structs a fits known (both_hold_first (expr_fits s.context a) (takes_one op t (type_of s.context a)) ok) on)
   expr_held s env structs (binary op t a b sp) fits known ok on =
-      let both = and_left (expr_fits s.context a && expr_fits s.context b) (takes_two op t (type_of s.context a) (type_of s.context b)) ok in
-      binary_held s env structs op t a b sp (expression_tree s.context a) (expression_tree s.context b) (and_right (expr_fits s.context a && expr_fits s.context b) (takes_two op t (type_of s.context a) (type_of s.context b)) ok)
-      (expr_held s env structs a fits known (and_left (expr_fits s.context a) (expr_fits s.context b) both) (and_left (stands a) (stands b) on))
-      (expr_held s env structs b fits known (and_right (expr_fits s.context a) (expr_fits s.context b) both) (and_right (stands a) (stands b) on))
+      let both = both_hold_first (expr_fits s.context a && expr_fits s.context b) (takes_two op t (type_of s.context a) (type_of s.context b)) ok in
+      binary_held s env structs op t a b sp (expression_tree s.context a) (expression_tree s.context b) (both_hold_second (expr_fits s.context a && expr_fits s.context b) (takes_two op t (type_of s.context a) (type_of s.context b)) ok)
+      (expr_held s env structs a fits known (both_hold_first (expr_fits s.context a) (expr_fits s.context b) both) (both_hold_first (stands a) (stands b) on))
+      (expr_held s env structs b fits known (both_hold_second (expr_fits s.context a) (expr_fits s.context b) both) (both_hold_second (stands a) (stands b) on))
   expr_held s env structs (convert t a) fits known ok on =
-      convert_held s env structs t a (expression_tree s.context a) (and_right (expr_fits s.context a) (is_some (integer_of (Some (type_of s.context a)))) ok)
-      (expr_held s env structs a fits known (and_left (expr_fits s.context a) (is_some (integer_of (Some (type_of s.context a)))) ok) on)
-  expr_held s env structs (null elem) fits known ok on = differ (sym on)
+      convert_held s env structs t a (expression_tree s.context a) (both_hold_second (expr_fits s.context a) (is_some (integer_of (Some (type_of s.context a)))) ok)
+      (expr_held s env structs a fits known (both_hold_first (expr_fits s.context a) (is_some (integer_of (Some (type_of s.context a)))) ok) on)
+  expr_held s env structs (null elem) fits known ok on = true_not_false (sym on)
   expr_held s env structs (address q) fits known ok on =
-      let more = and_right (place_fits s.context q) (is_addressed q && is_some (element_of (Some (place_type s.context q)))) ok in
-      address_held s env structs q (place_tree s.context q) (and_left (is_addressed q) (is_some (element_of (Some (place_type s.context q)))) more) (and_right (is_addressed q) (is_some (element_of (Some (place_type s.context q)))) more)
-      (place_held s env structs q fits known (and_left (place_fits s.context q) (is_addressed q && is_some (element_of (Some (place_type s.context q)))) ok) on)
+      let more = both_hold_second (place_fits s.context q) (is_addressed q && is_some (element_of (Some (place_type s.context q)))) ok in
+      address_held s env structs q (place_tree s.context q) (both_hold_first (is_addressed q) (is_some (element_of (Some (place_type s.context q)))) more) (both_hold_second (is_addressed q) (is_some (element_of (Some (place_type s.context q)))) more)
+      (place_held s env structs q fits known (both_hold_first (place_fits s.context q) (is_addressed q && is_some (element_of (Some (place_type s.context q)))) ok) on)
   expr_held s env structs (decay q) fits known ok on =
-      decay_held s env structs q (place_tree s.context q) (and_right (place_fits s.context q) (is_some (item_of (Some (place_type s.context q)))) ok)
-      (place_held s env structs q fits known (and_left (place_fits s.context q) (is_some (item_of (Some (place_type s.context q)))) ok) on)
+      decay_held s env structs q (place_tree s.context q) (both_hold_second (place_fits s.context q) (is_some (item_of (Some (place_type s.context q)))) ok)
+      (place_held s env structs q fits known (both_hold_first (place_fits s.context q) (is_some (item_of (Some (place_type s.context q)))) ok) on)
   expr_held s env structs (move a b back sp) fits known ok on =
-      let both = and_left (expr_fits s.context a && expr_fits s.context b) (is_some (stepped (Some (type_of s.context a)) (Move back) (Some (type_of s.context b)))) ok in
-      move_held s env structs a b back sp (expression_tree s.context a) (expression_tree s.context b) (and_right (expr_fits s.context a && expr_fits s.context b) (is_some (stepped (Some (type_of s.context a)) (Move back) (Some (type_of s.context b)))) ok)
-      (expr_held s env structs a fits known (and_left (expr_fits s.context a) (expr_fits s.context b) both) (and_left (stands a) (stands b) on))
-      (expr_held s env structs b fits known (and_right (expr_fits s.context a) (expr_fits s.context b) both) (and_right (stands a) (stands b) on))
+      let both = both_hold_first (expr_fits s.context a && expr_fits s.context b) (is_some (stepped (Some (type_of s.context a)) (Move back) (Some (type_of s.context b)))) ok in
+      move_held s env structs a b back sp (expression_tree s.context a) (expression_tree s.context b) (both_hold_second (expr_fits s.context a && expr_fits s.context b) (is_some (stepped (Some (type_of s.context a)) (Move back) (Some (type_of s.context b)))) ok)
+      (expr_held s env structs a fits known (both_hold_first (expr_fits s.context a) (expr_fits s.context b) both) (both_hold_first (stands a) (stands b) on))
+      (expr_held s env structs b fits known (both_hold_second (expr_fits s.context a) (expr_fits s.context b) both) (both_hold_second (stands a) (stands b) on))
   expr_held s env structs (compare op a b sp) fits known ok on =
-      let both = and_left (expr_fits s.context a && expr_fits s.context b) (is_some (stepped (Some (type_of s.context a)) (Compare op) (Some (type_of s.context b)))) ok in
-      compare_cases s env structs op a b sp fits (and_right (expr_fits s.context a && expr_fits s.context b) (is_some (stepped (Some (type_of s.context a)) (Compare op) (Some (type_of s.context b)))) ok)
-      (λ one. expr_held s env structs a fits known (and_left (expr_fits s.context a) (expr_fits s.context b) both) one)
-      (λ one. expr_held s env structs b fits known (and_right (expr_fits s.context a) (expr_fits s.context b) both) one)
+      let both = both_hold_first (expr_fits s.context a && expr_fits s.context b) (is_some (stepped (Some (type_of s.context a)) (Compare op) (Some (type_of s.context b)))) ok in
+      compare_cases s env structs op a b sp fits (both_hold_second (expr_fits s.context a && expr_fits s.context b) (is_some (stepped (Some (type_of s.context a)) (Compare op) (Some (type_of s.context b)))) ok)
+      (λ one. expr_held s env structs a fits known (both_hold_first (expr_fits s.context a) (expr_fits s.context b) both) one)
+      (λ one. expr_held s env structs b fits known (both_hold_second (expr_fits s.context a) (expr_fits s.context b) both) one)
       (stands a) (stands b) (is_null b) (is_null a) refl refl refl refl on
   expr_held s env structs (difference a b sp) fits known ok on =
-      let both = and_left (expr_fits s.context a && expr_fits s.context b) (is_some (stepped (Some (type_of s.context a)) Difference (Some (type_of s.context b)))) ok in
-      difference_held s env structs a b sp (expression_tree s.context a) (expression_tree s.context b) fits.numbers (and_right (expr_fits s.context a && expr_fits s.context b) (is_some (stepped (Some (type_of s.context a)) Difference (Some (type_of s.context b)))) ok)
-      (expr_held s env structs a fits known (and_left (expr_fits s.context a) (expr_fits s.context b) both) (and_left (stands a) (stands b) on))
-      (expr_held s env structs b fits known (and_right (expr_fits s.context a) (expr_fits s.context b) both) (and_right (stands a) (stands b) on))
+      let both = both_hold_first (expr_fits s.context a && expr_fits s.context b) (is_some (stepped (Some (type_of s.context a)) Difference (Some (type_of s.context b)))) ok in
+      difference_held s env structs a b sp (expression_tree s.context a) (expression_tree s.context b) fits.numbers (both_hold_second (expr_fits s.context a && expr_fits s.context b) (is_some (stepped (Some (type_of s.context a)) Difference (Some (type_of s.context b)))) ok)
+      (expr_held s env structs a fits known (both_hold_first (expr_fits s.context a) (expr_fits s.context b) both) (both_hold_first (stands a) (stands b) on))
+      (expr_held s env structs b fits known (both_hold_second (expr_fits s.context a) (expr_fits s.context b) both) (both_hold_second (stands a) (stands b) on))
 
   pub place_held : (s : Scene) (env : Env) (structs : Structs) (q : PlaceTree) → SceneFits s → Known s env structs → IsTrue (place_fits s.context q) → IsTrue (place_stands q) → PlaceHeld s env structs q (place_tree s.context q)
   place_held s env structs (place root path) fits known ok on =
-      root_held s env structs root path fits known (and_left (root_fits s.context root) (is_path s.context.structs (root_type s.context root) path) ok) (and_right (root_fits s.context root) (is_path s.context.structs (root_type s.context root) path) ok) on
+      root_held s env structs root path fits known (both_hold_first (root_fits s.context root) (is_path s.context.structs (root_type s.context root) path) ok) (both_hold_second (root_fits s.context root) (is_path s.context.structs (root_type s.context root) path) ok) on
 
   root_held : (s : Scene) (env : Env) (structs : Structs) (root : RootTree) (path : List ℕ) → SceneFits s → Known s env structs → IsTrue (root_fits s.context root) → IsTrue (is_path s.context.structs (root_type s.context root) path) → IsTrue (root_stands root) →
       PlaceHeld s env structs (place root path) (root_tree s.context root path)
   root_held s env structs (local n) path fits known ok way on = local_held s env structs n path fits known ok way
   root_held s env structs (global g) path fits known ok way on = global_held s env structs g path known ok way
   root_held s env structs (deref a sp) path fits known ok way on =
-      deref_held s env structs a sp path known (and_right (expr_fits s.context a) (is_some (pointee_of (Some (type_of s.context a)))) ok) way
-      (expr_held s env structs a fits known (and_left (expr_fits s.context a) (is_some (pointee_of (Some (type_of s.context a)))) ok) on)
+      deref_held s env structs a sp path known (both_hold_second (expr_fits s.context a) (is_some (pointee_of (Some (type_of s.context a)))) ok) way
+      (expr_held s env structs a fits known (both_hold_first (expr_fits s.context a) (is_some (pointee_of (Some (type_of s.context a)))) ok) on)
 
 -- ---- the laws
 

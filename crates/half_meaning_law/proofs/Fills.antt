@@ -45,14 +45,16 @@ use Rattle.half_meaning_law.specs.Relations.{Scene, context_of, frame_of, core_c
 use Rattle.half_meaning_law.specs.Known.{Known as AllKnown, local_id, object_as, VariableKnown}
 use Rattle.half_meaning_law.specs.Expressions.{IsFine, SceneFits}
 use Rattle.half_meaning_law.specs.Statements.{code_of, ListedFrom, GoesOn, advanced, StatementsMean}
-use Rattle.half_meaning_law.proofs.Memories.{differ, AllCells, OneToOne, is_same, alike_with, blocks_put, block_same, fits_all_written, live_all_written, own_live}
+use Rattle.half_meaning_law.proofs.Memories.{AllCells, OneToOne, alike_with, blocks_put, block_same, fits_all_written, live_all_written, own_live}
 use Rattle.half_meaning_law.proofs.Judged.{no_faults}
-use Rattle.half_meaning_law.proofs.Paths.{is_less, extended_behind}
+use Rattle.half_meaning_law.proofs.Paths.{extended_behind}
 use Rattle.half_meaning_law.proofs.Assigns.{assign_judged}
 use Rattle.typed_tree.specs.Cells.{cells_of}
 use Rattle.block_memory.specs.declared.cell.Cell.TheVariants.{Int as int_cell}
 use Rattle.block_memory.specs.declared.cell.BlockName.TheVariants.{Local}
 use Rattle.pt_base.specs.declared.ids.FnId.{FnId}
+use Rattle.pt_base.proofs.Booleans.{true_not_false}
+use Rattle.pt_base.proofs.Numbers.{below_holds, nat_eq_true}
 use Rattle.check_expressions.specs.Postfixes.{is_called}
 use Rattle.half_meaning_law.proofs.Flows.{advanced_none, advanced_more}
 use Rattle.half_meaning_law.proofs.Clears.{is_single, zero_as_int, zero_fits}
@@ -173,8 +175,8 @@ fills (l ∷ ls) s w st n j fine_one all =
 -- ---- what the memories are then
 
 block_self : (b : Block) → same_block b b ≡ true
-block_self (local d n) = ap (λ z. z && nat_eq n n) (is_same d d refl) ∙ is_same n n refl
-block_self (global g) = is_same g g refl
+block_self (local d n) = ap (λ z. z && nat_eq n n) (nat_eq_true d d refl) ∙ nat_eq_true n n refl
+block_self (global g) = nat_eq_true g g refl
 
 put_self : (m : Memory) (b : Block) (xs : List Cell) → put m b xs b ≡ xs
 put_self m b xs = ap (λ z. if z then xs else m b) (block_self b)
@@ -255,10 +257,10 @@ pub record Compound (s : Scene) (u : VarTy) : Type 0 where
 
 pub compound : (s : Scene) (u : VarTy) → IsTrue (not (is_single u)) → Compound s u
 unfolding leaves.leaves_of
-compound s (v.Int to) h = differ (sym h)
+compound s (v.Int to) h = true_not_false (sym h)
 compound s (v.Struct k) h = record { fresh = refl; count = refl; no_pointer = λ elem f e. cc; trees = λ n. refl }
 compound s (v.Array el k) h = record { fresh = refl; count = refl; no_pointer = λ elem f e. cc; trees = λ n. refl }
-compound s (v.Pointer el f) h = differ (sym h)
+compound s (v.Pointer el f) h = true_not_false (sym h)
 
 pub fill_means : (s : Scene) (w : k.Context) (st : o.State) (n : ℕ) → SceneFits s → AllKnown s st.env st.structs → IsTrue (nat_lt n (length s.context.variables)) → IsTrue (not (is_single (type_at s.context.variables n))) →
     StatementsMean s st (checked_all w st (e.stmt_trees (hs.cleared s.context.structs (type_at s.context.variables n) (hs.variable n)))) (does (clear n) (frame_of s) s.core_calls)
@@ -267,7 +269,7 @@ fill_means s w st n fits known near ok =
       fine = filled.fine;
       state = filled.state;
       same = λ exprs listed st1 st1' al. subst (λ z. Same s (GoesOn s) z (does (clear n) (frame_of s) s.core_calls st1')) (sym (filled.runs exprs listed st1)) (record {
-        alike = filled_alike s n (length ls) fresh_one st1 st1' fits.numbers al (own_live s st1.memory n fits.own al.live (is_less n (length s.context.variables) near) ∙ to.count ∙ sym long) (to.fresh ∙ ap (λ z. replicate z (int_cell (pos 0))) (sym long));
+        alike = filled_alike s n (length ls) fresh_one st1 st1' fits.numbers al (own_live s st1.memory n fits.own al.live (below_holds n (length s.context.variables) near) ∙ to.count ∙ sym long) (to.fresh ∙ ap (λ z. replicate z (int_cell (pos 0))) (sym long));
         same = tt;
       });
     })
@@ -291,7 +293,7 @@ fill_means s w st n fits known near ok =
     long = there.long ∙ lemmas.sizes s.context.structs u
 
     named_one : judge st.env st.structs (variable n) ≡ alone st.structs (fine (an_object (object_as u) (t.local (local_id n))))
-    named_one = name_is s st.env st.structs n (known.variables n (is_less n (length s.context.variables) near))
+    named_one = name_is s st.env st.structs n (known.variables n (below_holds n (length s.context.variables) near))
 
     filled : Fills s st (local s.frame.depth n) 0 (length ls) (checked_all w st (e.stmt_trees (map (leaf_statement n) ls)))
     filled = fills ls s w st n 0 (subst (λ (z : Judged). IsFine st.structs z) (sym named_one) (record { faults = refl; structs_stay = refl }))

@@ -3,6 +3,7 @@ use Rattle.std.proofs.Common.{◌≡◌, ◌∙◌, ◌+◌, ℕ, refl, ap, sym,
 use Rattle.std.specs.Prelude.{IsTrue, ◌||◌}
 use Rattle.pt_base.specs.declared.int_type.IntType.{IntType}
 use Rattle.pt_base.specs.declared.span.Span.{Span}
+use Rattle.pt_base.proofs.Booleans.{true_not_false}
 use Rattle.runs.specs.State.{gives, ◌>>=◌}
 use Rattle.pt_tree.specs.StatementTree as e
 use Rattle.type_rules.specs.declared.types.Type.TheVariants as ty
@@ -46,7 +47,6 @@ use Rattle.half_meaning_law.specs.CForms.{is_null, stands, points_const, with_co
 use Rattle.half_meaning_law.specs.Known.{type_as, Known as AllKnown}
 use Rattle.half_meaning_law.specs.Expressions.{Evaluates, IsValue, asked, IsFine, SceneFits}
 use Rattle.half_meaning_law.specs.Statements.{SameReturn, GoesOn, SameRuns, advanced, StatementsMean}
-use Rattle.half_meaning_law.proofs.Memories.{differ}
 use Rattle.half_meaning_law.proofs.Operators.{ev_weaken, holds_same}
 use Rattle.half_meaning_law.proofs.Judged.{no_faults, Held}
 use Rattle.half_meaning_law.proofs.ExpressionLaw.{expr_held, null_is}
@@ -146,8 +146,8 @@ scalar_condition : (u : VarTy) (f : Bool) (val : Value) → IsTrue (is_scalar (S
 unfolding condition_rule
 scalar_condition (v.Int n) f val ok is = ap (λ z. is_no_condition (condition_rule (record { ty = z; null = val.null }))) is
 scalar_condition (v.Pointer el g) f val ok is = ap (λ z. is_no_condition (condition_rule (record { ty = z; null = val.null }))) is
-scalar_condition (v.Struct n) f val ok is = differ (sym ok)
-scalar_condition (v.Array el n) f val ok is = differ (sym ok)
+scalar_condition (v.Struct n) f val ok is = true_not_false (sym ok)
+scalar_condition (v.Array el n) f val ok is = true_not_false (sym ok)
 
 truth_same : (s : Scene) (u : VarTy) (g : mv.Value) (q : core.Cell) → IsValue s u g q → SameTruth g q
 truth_same s u g q h = ap mv.is_true h.is ∙ sym (holds_same s h.cell) ∙ ap w.holds_in (sym h.same)

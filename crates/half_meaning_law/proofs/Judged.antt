@@ -2,6 +2,8 @@
 use Rattle.std.proofs.Common.{◌≡◌, ◌∙◌, refl, ap, sym, subst, Bool, true, false, Option, None, List, [], ◌∷◌, ◌++◌, append_assoc, if◌then◌else◌}
 use Rattle.std.specs.Prelude.{is_some, not}
 use Rattle.pt_base.specs.declared.span.Span.{Span}
+use Rattle.pt_base.proofs.Booleans.{true_not_false}
+use Rattle.pt_base.proofs.Lists.{append_nil}
 use Rattle.pt_tree.specs.declared.operator.BinaryOp.{BinaryOp}
 use Rattle.pt_tree.specs.ExpressionTree as e
 use Rattle.check_declarations.specs.declared.fault.TypeFault.{TypeFault}
@@ -21,14 +23,9 @@ use Rattle.half_trees.specs.Expressions.{with_link, one_link, are_alike, chain_o
 use Rattle.half_meaning_law.specs.Relations.{Scene}
 use Rattle.half_meaning_law.specs.CForms.{c_type}
 use Rattle.half_meaning_law.specs.Expressions.{IsFine, ExpressionMeans}
-use Rattle.half_meaning_law.proofs.Memories.{differ}
 use Rattle.half_meaning_law.proofs.Chains.{var_type_as, FarHolds, begun_holds, LinkHolds, link_held, some_links}
 
 -- ---- faults
-
-pub append_nothing : {A : Type 0} (xs : List A) → xs ++ [] ≡ xs
-append_nothing [] = refl
-append_nothing (x ∷ xs) = ap (λ ys. x ∷ ys) (append_nothing xs)
 
 -- of two lists without faults
 pub no_faults : (xs ys : List TypeFault) → xs ≡ [] → ys ≡ [] → xs ++ ys ≡ []
@@ -51,7 +48,7 @@ judged_more : (env : Env) (structs : Structs) (sp : Span) (b : Bool) (far : SoFa
     }
 unfolding judge_links
 judged_more env structs sp b far e.no_links l =
-    ap (λ fs. let z : Linked = record { far = (judge_link env structs sp b far l).far; structs = (judge_link env structs sp b far l).structs; faults = fs } in z) (append_nothing (judge_link env structs sp b far l).faults)
+    ap (λ fs. let z : Linked = record { far = (judge_link env structs sp b far l).far; structs = (judge_link env structs sp b far l).structs; faults = fs } in z) (append_nil (judge_link env structs sp b far l).faults)
 judged_more env structs sp b far (e.link_and k rest) l =
     ap (λ (z : Linked). let y : Linked = record { far = z.far; structs = z.structs; faults = one.faults ++ z.faults } in y) (judged_more env one.structs sp b one.far rest l)
     ∙ ap (λ fs. let z : Linked = record { far = last.far; structs = last.structs; faults = fs } in z) (sym (append_assoc one.faults so_far.faults last.faults))
@@ -210,7 +207,7 @@ one_behind s env structs a b d op ta tb left right sort on =
 -- a chain that is made longer keeps its sort
 sort_more : (ls : e.LinkTrees) (l : e.LinkTree) (op : BinaryOp) → are_alike ls op ≡ true → sort_of ls ≡ None → sort_of (with_link ls l) ≡ None
 unfolding sort_of
-sort_more e.no_links l op some h = differ (sym some)
+sort_more e.no_links l op some h = true_not_false (sym some)
 sort_more (e.link_and (e.link sp first a) rest) l op some h = h
 
 pub linked_held : (s : Scene) (env : Env) (structs : Structs) (a b d : ExprTree) (op : BinaryOp) (ta tb : e.ExprTree) → Held s env structs a ta → IsFine structs (judge env structs tb) → logical_of op ≡ None →

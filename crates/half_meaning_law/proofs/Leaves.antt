@@ -1,16 +1,19 @@
 -- The integers of an object lie one after the other, and each leaf of its type leads to one of them.
-use Rattle.std.proofs.Common.{◌≡◌, ◌∙◌, ◌≤◌, ◌<◌, ℕ, zero, suc, ◌+◌, ◌*◌, pos, ◌+ℤ◌, refl, ap, sym, subst, arith, Bool, true, false, Option, Some, None, List, [], ◌∷◌, ◌++◌, length, length-append, append_assoc, get_or, Ok, Err, if◌then◌else◌}
+use Rattle.std.proofs.Common.{◌≡◌, ◌∙◌, ◌≤◌, ◌<◌, ℕ, zero, suc, ◌+◌, ◌*◌, pos, refl, ap, sym, subst, arith, Bool, true, false, Option, Some, None, List, [], ◌∷◌, ◌++◌, length, length-append, append_assoc, get_or, Ok, Err, if◌then◌else◌}
 use Rattle.std.specs.Prelude.{◌||◌, nat_le, nat_lt, slice_get, take, unwrap_or}
 use Rattle.std.specs.List.{list_all, flat_map, range_with_len}
 use Rattle.std.proofs.Math.Nat.{suc-mul, zero-mul}
 use Rattle.std.proofs.Math.Seq.{get_or-append_seam}
 use Rattle.std.proofs.lemmas.Bool.Decides.{nat_tests}
-use Rattle.std.proofs.lemmas.Int.{ints}
+use Rattle.std.proofs.lemmas.Option.{get_or_from_slice_get, slice_get_past}
 use Rattle.pt_base.specs.declared.ids.FnId.{FnId}
 use Rattle.pt_base.specs.declared.int_type.IntType.{IntType}
 use Rattle.pt_base.specs.declared.int_type.IntType.TheVariants as i
 use Rattle.pt_base.specs.declared.span.Span.{Span}
 use Rattle.pt_base.specs.declared.trap.Trap.TheVariants.{Bounds}
+use Rattle.pt_base.proofs.Booleans.{both_hold_first, both_hold_second, true_not_false}
+use Rattle.pt_base.proofs.Numbers.{nat_lt_below, plus_zero_times, positive_from_zero}
+use Rattle.pt_base.proofs.Places.{get_before, get_or_past, get_seam}
 use Rattle.runs.specs.State.{gives, ◌>>=◌}
 use Rattle.runs.specs.Pointers.{Target, moved, up_to, at_index, reached, if_ok}
 use Rattle.pt_tree.specs.declared.signature.Elem.{Elem}
@@ -30,7 +33,6 @@ use Rattle.typed_tree.specs.TypeTests.{type_of_elem}
 use Rattle.typed_tree.specs.WellFormed.{is_plain_type, is_small, field_sound, struct_sound, structs_sound}
 use Rattle.typed_tree.specs.WellFormedExpression.{is_elem}
 use Rattle.typed_tree.proofs.LeavesLemmas.{leaves_of_struct}
-use Rattle.typed_tree.proofs.WellFormedLemmas.{and_left, and_right}
 use Rattle.check_declarations.specs.Structs.{Structs}
 use Rattle.check_expressions.specs.Environment.{Env}
 use Rattle.check_expressions.specs.Expressions.{Judged, judge, judge_postfix, judge_postfixes, postfix_span, literal}
@@ -49,7 +51,6 @@ use Rattle.pt_core.specs.Types.{field_type}
 use Rattle.half_meaning_law.specs.Relations.{Scene, context_of}
 use Rattle.half_meaning_law.specs.Known.{type_as, FieldKnown}
 use Rattle.half_meaning_law.specs.Expressions.{IsFine}
-use Rattle.half_meaning_law.proofs.Memories.{differ}
 use Rattle.half_meaning_law.proofs.Places.{with_field, dot_is, location_more}
 use Rattle.half_meaning_law.proofs.PlaceLaw.{elem_type_as}
 use Rattle.half_meaning_law.proofs.Paths.{Fields}
@@ -125,14 +126,11 @@ field_step s env structs m j k f name same is callee at =
 
 -- ---- elements
 
-from_zero : (k : ℕ) → pos 0 +ℤ pos k ≡ pos k
-from_zero k = omega (arith, ints)
-
 abbrev first_of : Block → ℕ → ℕ → ℕ → Target Block
 first_of block k count index = record { block = block; base = k; count = count; index = index }
 
 moved_to : (block : Block) (k count j : ℕ) → j < count → moved (pos j) (Some (first_of block k count 0)) ≡ Ok (first_of block k count j)
-moved_to block k count j less = ap (λ z. at_index (first_of block k count 0) (up_to count z)) (from_zero j) ∙ ap (λ (b : Bool). at_index (first_of block k count 0) (if b then Some j else None)) (within j count less)
+moved_to block k count j less = ap (λ z. at_index (first_of block k count 0) (up_to count z)) (positive_from_zero j) ∙ ap (λ (b : Bool). at_index (first_of block k count 0) (if b then Some j else None)) (within j count less)
   where
     within : (j count : ℕ) → j < count → nat_le j count ≡ true
     within j count h = grind (arith, nat_tests)
@@ -221,9 +219,6 @@ pub record ObjectAt (s : Scene) (env : Env) (structs : Structs) (known : List (L
   pub long : length (object_leaves known u) ≡ cells_by (sizes_of s.context.structs) u
   pub all : (b : Block) (n : ℕ) (k : Known) → At s b n u k → AllAt s env structs b n k (object_leaves known u)
 
-smaller : (n m : ℕ) → nat_lt n m ≡ true → n < m
-smaller n m h = grind (arith, nat_tests)
-
 -- the structs that a type names are among so many
 abbrev NamesBelow : ℕ → VarTy → Type 0
 NamesBelow earlier (v.Int t1) = Unit {0}
@@ -234,13 +229,10 @@ NamesBelow earlier (v.Pointer elem fixed) = ⊥
 
 names_plain : (earlier : ℕ) (u : VarTy) → is_plain_type earlier u ≡ true → NamesBelow earlier u
 names_plain earlier (v.Int t1) ok = tt
-names_plain earlier (v.Struct n) ok = smaller n earlier ok
+names_plain earlier (v.Struct n) ok = nat_lt_below n earlier ok
 names_plain earlier (v.Array (el.Int t1) count) ok = tt
-names_plain earlier (v.Array (el.Struct n) count) ok = smaller n earlier (and_left (is_elem earlier (Some (el.Struct n))) (nat_le 1 count) ok)
-names_plain earlier (v.Pointer elem fixed) ok = differ (sym ok)
-
-start : (k size : ℕ) → k + 0 * size ≡ k
-start k size = let none : 0 * size ≡ 0 = zero-mul size in omega (arith, none)
+names_plain earlier (v.Array (el.Struct n) count) ok = nat_lt_below n earlier (both_hold_first (is_elem earlier (Some (el.Struct n))) (nat_le 1 count) ok)
+names_plain earlier (v.Pointer elem fixed) ok = true_not_false (sym ok)
 
 -- an integer is its own leaf
 integer_at : (s : Scene) (env : Env) (structs : Structs) (b : Block) (n : ℕ) (to : IntType) (k : Known) → At s b n (v.Int to) k → AllAt s env structs b n k ([] ∷ [])
@@ -252,14 +244,14 @@ object_at s env structs known (v.Int to) earlier ok has = record { long = refl; 
 object_at s env structs known (v.Struct m) earlier ok has = let there = has m ok in record { long = there.long; all = there.all }
 object_at s env structs known (v.Array (el.Int to) count) earlier ok has = record {
   long = elements_length count 0 ([] ∷ []);
-  all = λ b n k h. subst (λ z. AllAt s env structs b z k (elements count 0 ([] ∷ []))) (start n 1)
+  all = λ b n k h. subst (λ z. AllAt s env structs b z k (elements count 0 ([] ∷ []))) (plus_zero_times n 1)
       (elements_at count 0 s env structs b n count 1 (el.Int to) k ([] ∷ []) (omega arith) refl h.typed (λ j at less. integer_at s env structs b (n + j * 1) to (with_element k (el.Int to) at j) (at_element s b n count j (el.Int to) k at less h)));
 }
 object_at s env structs known (v.Array (el.Struct m) count) earlier ok has =
     let there = has m ok in
     record {
       long = elements_length count 0 (leaves_in known m) ∙ ap (λ z. count * z) there.long;
-      all = λ b n k h. subst (λ z. AllAt s env structs b z k (elements count 0 (leaves_in known m))) (start n (cells_by (sizes_of s.context.structs) (v.Struct m)))
+      all = λ b n k h. subst (λ z. AllAt s env structs b z k (elements count 0 (leaves_in known m))) (plus_zero_times n (cells_by (sizes_of s.context.structs) (v.Struct m)))
           (elements_at count 0 s env structs b n count (cells_by (sizes_of s.context.structs) (v.Struct m)) (el.Struct m) k (leaves_in known m) (omega arith) there.long h.typed
           (λ j at less. there.all b (n + j * cells_by (sizes_of s.context.structs) (v.Struct m)) (with_element k (el.Struct m) at j) (at_element s b n count j (el.Struct m) k at less h)));
     }
@@ -280,7 +272,7 @@ fields_at : (fs : List Field) (s : Scene) (env : Env) (structs : Structs) (known
 unfolding is_call
 fields_at [] s env structs known earlier m j before all b n k named whole is at sound has h = tt
 fields_at (f ∷ fs) s env structs known earlier m j before all b n k named whole is at sound has h =
-    let inner = object_at s env structs known f.ty earlier (names_plain earlier f.ty (and_left (is_plain_type earlier f.ty) (is_small s.context.structs f.ty) (and_left (field_sound s.context.structs earlier f) (list_all (field_sound s.context.structs earlier) fs) sound))) has in
+    let inner = object_at s env structs known f.ty earlier (names_plain earlier f.ty (both_hold_first (is_plain_type earlier f.ty) (is_small s.context.structs f.ty) (both_hold_first (field_sound s.context.structs earlier f) (list_all (field_sound s.context.structs earlier) fs) sound))) has in
     all_append (behind (p.dot nowhere (word (field_by all j))) (object_leaves known f.ty)) (field_leaves known all (suc j) fs) s env structs b (n + fields_cells (sizes_of s.context.structs) before) k
     (all_behind (object_leaves known f.ty) s env structs b (n + fields_cells (sizes_of s.context.structs) before) k (p.dot nowhere (word (field_by all j))) refl
     (λ callee at1. (
@@ -290,7 +282,7 @@ fields_at (f ∷ fs) s env structs known earlier m j before all b n k named whol
           (subst (λ z. At s b (n + z) f.ty (with_field k (record { number = j; entry = found.entry }))) offset_is (subst (λ z. At s b (n + offset_of s.context.structs m j) z (with_field k (record { number = j; entry = found.entry }))) type_is (at_field s structs b n m j k found h))),
     )))
     (subst (λ z. AllAt s env structs b z k (field_leaves known all (suc j) fs)) (place_is inner.long)
-    (fields_at fs s env structs known earlier m (suc j) (before ++ f ∷ []) all b n k named whole (is ∙ sym (append_assoc before (f ∷ []) fs)) (let more = length-append before (f ∷ []) in omega (arith, more, at)) (and_right (field_sound s.context.structs earlier f) (list_all (field_sound s.context.structs earlier) fs) sound) has h))
+    (fields_at fs s env structs known earlier m (suc j) (before ++ f ∷ []) all b n k named whole (is ∙ sym (append_assoc before (f ∷ []) fs)) (let more = length-append before (f ∷ []) in omega (arith, more, at)) (both_hold_second (field_sound s.context.structs earlier f) (list_all (field_sound s.context.structs earlier) fs) sound) has h))
   where
     there : j < length (fields_of s.context.structs m)
     there =
@@ -314,31 +306,14 @@ fields_at (f ∷ fs) s env structs known earlier m j before all b n k named whol
 fields_length : (fs : List Field) (s : Scene) (env : Env) (structs : Structs) (known : List (List Leaf)) (earlier j : ℕ) (all : List Field) → list_all (field_sound s.context.structs earlier) fs ≡ true → ((m : ℕ) → m < earlier → KnownAt s env structs known m) → length (field_leaves known all j fs) ≡ fields_cells (sizes_of s.context.structs) fs
 fields_length [] s env structs known earlier j all sound has = refl
 fields_length (f ∷ fs) s env structs known earlier j all sound has =
-    let inner = object_at s env structs known f.ty earlier (names_plain earlier f.ty (and_left (is_plain_type earlier f.ty) (is_small s.context.structs f.ty) (and_left (field_sound s.context.structs earlier f) (list_all (field_sound s.context.structs earlier) fs) sound))) has in
+    let inner = object_at s env structs known f.ty earlier (names_plain earlier f.ty (both_hold_first (is_plain_type earlier f.ty) (is_small s.context.structs f.ty) (both_hold_first (field_sound s.context.structs earlier f) (list_all (field_sound s.context.structs earlier) fs) sound))) has in
     let here = length-append (behind (p.dot nowhere (word (field_by all j))) (object_leaves known f.ty)) (field_leaves known all (suc j) fs) in
     let begun = behind_length (p.dot nowhere (word (field_by all j))) (object_leaves known f.ty) in
     let long = inner.long in
-    let rest = fields_length fs s env structs known earlier (suc j) all (and_right (field_sound s.context.structs earlier f) (list_all (field_sound s.context.structs earlier) fs) sound) has in
+    let rest = fields_length fs s env structs known earlier (suc j) all (both_hold_second (field_sound s.context.structs earlier f) (list_all (field_sound s.context.structs earlier) fs) sound) has in
     omega (arith, here, begun, long, rest)
 
 -- ---- the table of structs
-
-got_seam : {A : Type 0} (done : List A) (y : A) (rest : List A) → slice_get (done ++ y ∷ rest) (length done) ≡ Some y
-got_seam [] y rest = refl
-got_seam (z ∷ done) y rest = got_seam done y rest
-
-got_before : {A : Type 0} (xs ys : List A) (n : ℕ) → n < length xs → slice_get (xs ++ ys) n ≡ slice_get xs n
-got_before [] ys n h = absurd (none h)
-  where
-    none : n < 0 → ⊥
-    none h = omega (arith, h)
-got_before (y ∷ xs) ys zero h = refl
-got_before (y ∷ xs) ys (suc n) h = got_before xs ys n (omega (arith, h))
-
-got_or : {A : Type 0} (xs : List A) (n : ℕ) (y z : A) → slice_get xs n ≡ Some y → get_or xs n z ≡ y
-got_or [] n y z h = cc
-got_or (w ∷ xs) zero y z h = cc
-got_or (w ∷ xs) (suc n) y z h = got_or xs n y z h
 
 fields_leaves : (structs : List StructInfo) (fs : List Field) → length (flat_map (λ (f : Field). cells.leaves_of structs f.ty) fs) ≡ fields_cells (sizes_of structs) fs
 fields_leaves structs [] = refl
@@ -362,16 +337,16 @@ known_new s env structs known done rest y named sound is long ok has = record {
     alone n = omega arith
 
     seam : leaves_in (known ++ struct_leaves known y ∷ []) (length known) ≡ struct_leaves known y
-    seam = ap (λ o. unwrap_or o []) (got_seam known (struct_leaves known y) [])
+    seam = ap (λ o. unwrap_or o []) (get_seam known (struct_leaves known y) [])
 
     there : slice_get s.context.structs (length known) ≡ Some y
-    there = ap (λ xs. slice_get xs (length known)) is ∙ ap (λ z. slice_get (done ++ y ∷ rest) z) long ∙ got_seam done y rest
+    there = ap (λ xs. slice_get xs (length known)) is ∙ ap (λ z. slice_get (done ++ y ∷ rest) z) long ∙ get_seam done y rest
 
     fields_is : fields_of s.context.structs (length known) ≡ y.fields
-    fields_is = ap (λ (z : StructInfo). z.fields) (got_or s.context.structs (length known) y (record { name = []; fields = [] }) there)
+    fields_is = ap (λ (z : StructInfo). z.fields) (get_or_from_slice_get s.context.structs (length known) y (record { name = []; fields = [] }) there)
 
     fields : list_all (field_sound s.context.structs (length known)) y.fields ≡ true
-    fields = and_right (nat_le 1 (length y.fields)) (list_all (field_sound s.context.structs (length known)) y.fields) ok
+    fields = both_hold_second (nat_le 1 (length y.fields)) (list_all (field_sound s.context.structs (length known)) y.fields) ok
 
 known_more : (s : Scene) (env : Env) (structs : Structs) (known : List (List Leaf)) (ls : List Leaf) (n : ℕ) → n < length known → KnownAt s env structs known n → KnownAt s env structs (known ++ ls ∷ []) n
 known_more s env structs known ls n less h = record {
@@ -380,41 +355,25 @@ known_more s env structs known ls n less h = record {
 }
   where
     same : leaves_in (known ++ ls ∷ []) n ≡ leaves_in known n
-    same = ap (λ o. unwrap_or o []) (got_before known (ls ∷ []) n less)
+    same = ap (λ o. unwrap_or o []) (get_before known (ls ∷ []) n less)
 
 known_all : (rest done : List StructInfo) (s : Scene) (env : Env) (structs : Structs) (known : List (List Leaf)) → Fields s structs → structs_sound s.context.structs 0 s.context.structs ≡ true → s.context.structs ≡ done ++ rest → length known ≡ length done → structs_sound s.context.structs (length known) rest ≡ true →
     ((n : ℕ) → n < length known → KnownAt s env structs known n) → (n : ℕ) → n < length (leaves_from known rest) → KnownAt s env structs (leaves_from known rest) n
 known_all [] done s env structs known named sound is long ok has = has
 known_all (y ∷ rest) done s env structs known named sound is long ok has =
     known_all rest (done ++ y ∷ []) s env structs (known ++ struct_leaves known y ∷ []) named sound (is ∙ sym (append_assoc done (y ∷ []) rest)) (let a = length-append known (struct_leaves known y ∷ []) in let c = length-append done (y ∷ []) in omega (arith, a, c, long))
-    (subst (λ z. structs_sound s.context.structs z rest ≡ true) (let a = length-append known (struct_leaves known y ∷ []) in omega (arith, a)) (and_right (struct_sound s.context.structs (length known) y) (structs_sound s.context.structs (suc (length known)) rest) ok))
+    (subst (λ z. structs_sound s.context.structs z rest ≡ true) (let a = length-append known (struct_leaves known y ∷ []) in omega (arith, a)) (both_hold_second (struct_sound s.context.structs (length known) y) (structs_sound s.context.structs (suc (length known)) rest) ok))
     (λ n less. new n (let a = length-append known (struct_leaves known y ∷ []) in omega (arith, a, less)) (nat_lt n (length known)) refl)
   where
     new : (n : ℕ) → n < suc (length known) → (z : Bool) → nat_lt n (length known) ≡ z → KnownAt s env structs (known ++ struct_leaves known y ∷ []) n
-    new n less true e1 = known_more s env structs known (struct_leaves known y) n (smaller n (length known) e1) (has n (smaller n (length known) e1))
+    new n less true e1 = known_more s env structs known (struct_leaves known y) n (nat_lt_below n (length known) e1) (has n (nat_lt_below n (length known) e1))
     new n less false e1 = subst (λ z. KnownAt s env structs (known ++ struct_leaves known y ∷ []) z) (last n (length known) less e1)
-        (known_new s env structs known done rest y named sound is long (and_left (struct_sound s.context.structs (length known) y) (structs_sound s.context.structs (suc (length known)) rest) ok) has)
+        (known_new s env structs known done rest y named sound is long (both_hold_first (struct_sound s.context.structs (length known) y) (structs_sound s.context.structs (suc (length known)) rest) ok) has)
       where
         last : (n m : ℕ) → n < suc m → nat_lt n m ≡ false → m ≡ n
         last n m less e1 = grind (arith, nat_tests)
 
 -- ---- past the table
-
-nothing_there : {A : Type 0} (xs : List A) (n : ℕ) (y : A) → length xs ≤ n → get_or xs n y ≡ y
-nothing_there [] n y h = refl
-nothing_there (z ∷ xs) zero y h = absurd (none h)
-  where
-    none : suc (length xs) ≤ 0 → ⊥
-    none h = omega (arith, h)
-nothing_there (z ∷ xs) (suc n) y h = nothing_there xs n y (omega (arith, h))
-
-none_got : {A : Type 0} (xs : List A) (n : ℕ) → length xs ≤ n → slice_get xs n ≡ None
-none_got [] n h = refl
-none_got (z ∷ xs) zero h = absurd (none h)
-  where
-    none : suc (length xs) ≤ 0 → ⊥
-    none h = omega (arith, h)
-none_got (z ∷ xs) (suc n) h = none_got xs n (omega (arith, h))
 
 sizes_long : (infos : List StructInfo) (known : List ℕ) → length (sizes_after known infos) ≡ length known + length infos
 sizes_long [] known = omega arith
@@ -426,12 +385,12 @@ leaves_long (y ∷ infos) known = let a = length-append known (struct_leaves kno
 
 known_past : (s : Scene) (env : Env) (structs : Structs) (n : ℕ) → length s.context.structs ≤ n → KnownAt s env structs (leaves_from [] s.context.structs) n
 known_past s env structs n far = record {
-  long = ap (λ (ls : List Leaf). length ls) none ∙ sym (nothing_there (sizes_of s.context.structs) n 0 (let long = sizes_long s.context.structs [] in omega (arith, long, far)));
+  long = ap (λ (ls : List Leaf). length ls) none ∙ sym (get_or_past (sizes_of s.context.structs) n 0 (let long = sizes_long s.context.structs [] in omega (arith, long, far)));
   all = λ b at k h. subst (λ ls. AllAt s env structs b at k ls) (sym none) tt;
 }
   where
     none : leaves_in (leaves_from [] s.context.structs) n ≡ []
-    none = ap (λ o. unwrap_or o []) (none_got (leaves_from [] s.context.structs) n (let long = leaves_long s.context.structs [] in omega (arith, long, far)))
+    none = ap (λ o. unwrap_or o []) (slice_get_past (leaves_from [] s.context.structs) n (let long = leaves_long s.context.structs [] in omega (arith, long, far)))
 
 known_each : (s : Scene) (env : Env) (structs : Structs) → Fields s structs → structs_sound s.context.structs 0 s.context.structs ≡ true → (n : ℕ) → KnownAt s env structs (leaves_from [] s.context.structs) n
 known_each s env structs named sound n = go (nat_lt n (length s.context.structs)) refl
@@ -443,7 +402,7 @@ known_each s env structs named sound n = go (nat_lt n (length s.context.structs)
         none h = omega (arith, h)
 
     go : (z : Bool) → nat_lt n (length s.context.structs) ≡ z → KnownAt s env structs (leaves_from [] s.context.structs) n
-    go true e1 = known_all s.context.structs [] s env structs [] named sound refl refl sound no_less n (let long = leaves_long s.context.structs [] in let less = smaller n (length s.context.structs) e1 in omega (arith, long, less))
+    go true e1 = known_all s.context.structs [] s env structs [] named sound refl refl sound no_less n (let long = leaves_long s.context.structs [] in let less = nat_lt_below n (length s.context.structs) e1 in omega (arith, long, less))
     go false e1 = known_past s env structs n (far n (length s.context.structs) e1)
       where
         far : (n m : ℕ) → nat_lt n m ≡ false → m ≤ n

@@ -5,6 +5,7 @@ use Rattle.pt_base.specs.declared.int_type.IntType.TheVariants as i
 use Rattle.pt_base.specs.declared.span.Span.{Span}
 use Rattle.pt_base.specs.declared.trap.Trap.{Trap}
 use Rattle.pt_base.specs.IntTypes.{usual}
+use Rattle.pt_base.proofs.Booleans.{true_not_false}
 use Rattle.pt_int.specs.declared.operator.BinOp.{BinOp}
 use Rattle.pt_int.specs.declared.operator.BinOp.TheVariants.{Mul, Div, Rem, Add, Sub, Shl, Shr, Lt, Gt, Le, Ge, Eq, Ne, And, Xor, Or}
 use Rattle.pt_int.specs.Operator.{is_shift, binary_type}
@@ -43,7 +44,6 @@ use Rattle.half_meaning_law.specs.CForms.{points_const, with_const, c_type}
 use Rattle.half_meaning_law.specs.Known.{type_as}
 use Rattle.half_meaning_law.specs.Expressions.{IsValue, SameValues, asked, ExpressionMeans}
 use Rattle.half_meaning_law.proofs.Chains.{Combines, FarHolds, LinkHolds}
-use Rattle.half_meaning_law.proofs.Memories.{differ}
 use Rattle.half_meaning_law.proofs.Operators.{Told, computed, arithmetic_told}
 use Rattle.half_meaning_law.proofs.Types.{to_int_same}
 use Rattle.half_meaning_law.proofs.Judged.{Held, linked_held}
@@ -214,5 +214,5 @@ binary_fits s Le to a b sp plain whole is is' = truths_fit s Le to a b sp is is'
 binary_fits s Ge to a b sp plain whole is is' = truths_fit s Ge to a b sp is is' plain refl (λ n k. ap rule.Comparison whole)
 binary_fits s Eq to a b sp plain whole is is' = truths_fit s Eq to a b sp is is' plain refl (λ n k. ap rule.Comparison whole)
 binary_fits s Ne to a b sp plain whole is is' = truths_fit s Ne to a b sp is is' plain refl (λ n k. ap rule.Comparison whole)
-binary_fits s Shl to a b sp plain whole is is' = differ plain
-binary_fits s Shr to a b sp plain whole is is' = differ plain
+binary_fits s Shl to a b sp plain whole is is' = true_not_false plain
+binary_fits s Shr to a b sp plain whole is is' = true_not_false plain

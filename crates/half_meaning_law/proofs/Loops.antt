@@ -43,7 +43,7 @@ turn_same s R n n' st st' f f' is seen on = subst (λ z. Same s R (take_turn n s
     go zero = seen
     go (suc k) = on k
 
-alike_left : (s : Scene) (st : State) (st' : c.State) (n : ℕ) → Alike s st st' → Alike s (record st { left = n }) (record st' { left = n })
+pub alike_left : (s : Scene) (st : State) (st' : c.State) (n : ℕ) → Alike s st st' → Alike s (record st { left = n }) (record st' { left = n })
 alike_left s st st' n al = record { blocks = al.blocks; fits = al.fits; live = al.live; hosts = al.hosts; input = al.input; seen = record { events = al.seen.events; left = refl } }
 
 -- ---- rounds

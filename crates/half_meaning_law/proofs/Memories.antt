@@ -1,7 +1,6 @@
 -- What is written on both sides leaves the memories alike.
 use Rattle.std.proofs.Common.{◌≡◌, ◌∙◌, ℕ, zero, suc, pos, List, [], ◌∷◌, refl, ap, sym, subst, Bool, true, false, if◌then◌else◌, map, length, arith, ◌<◌}
-use Rattle.std.specs.Prelude.{◌+◌, ◌&&◌, nat_eq, slice_set, slice_index_or, take, drop, slice_get}
-use Rattle.std.proofs.lemmas.Bool.Decides.{nat_tests}
+use Rattle.std.specs.Prelude.{◌+◌, nat_eq, slice_set, slice_index_or, take, drop, slice_get}
 use Rattle.block_memory.specs.declared.cell.Cell.TheVariants.{Int}
 use Rattle.block_memory.specs.Block as b
 use Rattle.block_memory.specs.Block.{with_cell}
@@ -16,22 +15,8 @@ use Rattle.pt_core.specs.Statements.{with_blocks}
 use Rattle.half_meaning_law.specs.Relations.{Scene, name_of, core_cell, SameBlocks, reach_in, CellFits, MemoryFits, VariablesLive, cells_in, Alike, room_of}
 use Rattle.pt_core.specs.Types.{type_at}
 use Rattle.typed_tree.specs.declared.types.VarTy.{VarTy}
-pub use Rattle.pt_base.proofs.SameNumbers.{same_number}
-
--- ---- numbers
-
-pub is_same : (a b : ℕ) → a ≡ b → nat_eq a b ≡ true
-is_same a b h = grind (arith, nat_tests)
-
-pub is_other : (a b : ℕ) → (a ≡ b → ⊥) → nat_eq a b ≡ false
-is_other a b h = go (nat_eq a b) refl
-  where
-    go : (t : Bool) → nat_eq a b ≡ t → t ≡ false
-    go true e = absurd (h (same_number a b e))
-    go false e = refl
-
-pub differ : {X : Type 0} → true ≡ false → X
-differ h = cc
+use Rattle.pt_base.proofs.Booleans.{and_parts, true_not_false}
+use Rattle.pt_base.proofs.Numbers.{nat_eq_both_turned, nat_eq_other, nat_eq_same, nat_eq_true, nat_eq_turned}
 
 -- ---- names
 
@@ -39,22 +24,12 @@ differ h = cc
 abbrev pub OneToOne : (ℕ → ℕ) → Type 0
 OneToOne f = (j k : ℕ) → f j ≡ f k → j ≡ k
 
-turned : (a b : ℕ) → nat_eq a b ≡ nat_eq b a
-turned a b = go (nat_eq a b) refl
-  where
-    go : (t : Bool) → nat_eq a b ≡ t → t ≡ nat_eq b a
-    go true e = sym (is_same b a (sym (same_number a b e)))
-    go false e = sym (is_other b a (λ h. differ (sym (is_same a b (sym h)) ∙ e)))
-
-both_turned : (a b x y : ℕ) → (nat_eq a b && nat_eq x y) ≡ (nat_eq b a && nat_eq y x)
-both_turned a b x y = ap (λ t. t && nat_eq x y) (turned a b) ∙ ap (λ t. nat_eq b a && t) (turned x y)
-
 images_same : (f : ℕ → ℕ) → OneToOne f → (j k : ℕ) → nat_eq (f j) (f k) ≡ nat_eq j k
 images_same f one j k = go (nat_eq j k) refl
   where
     go : (t : Bool) → nat_eq j k ≡ t → nat_eq (f j) (f k) ≡ t
-    go true e = is_same (f j) (f k) (ap f (same_number j k e))
-    go false e = is_other (f j) (f k) (λ h. differ (sym (is_same j k (one j k h)) ∙ e))
+    go true e = nat_eq_true (f j) (f k) (ap f (nat_eq_same j k e))
+    go false e = nat_eq_other (f j) (f k) (λ h. true_not_false (sym (nat_eq_true j k (one j k h)) ∙ e))
 
 pub names_equal : (s : Scene) → OneToOne s.global_number → (a o : Block) → is_same_name (name_of s a) (name_of s o) ≡ same_block a o
 names_equal s one (local d x) (local e y) = refl
@@ -63,23 +38,18 @@ names_equal s one (global g) (local d x) = refl
 names_equal s one (global g) (global k) = images_same s.global_number one g k
 
 names_turned : (s : Scene) → OneToOne s.global_number → (a o : Block) → is_same_name (name_of s a) (name_of s o) ≡ same_block o a
-names_turned s one (local d x) (local e y) = both_turned d e x y
+names_turned s one (local d x) (local e y) = nat_eq_both_turned d e x y
 names_turned s one (local d x) (global g) = refl
 names_turned s one (global g) (local d x) = refl
-names_turned s one (global g) (global k) = images_same s.global_number one g k ∙ turned g k
-
-both_true : (a o : Bool) → (a && o) ≡ true → (a ≡ true) × (o ≡ true)
-both_true true true h = (refl, refl)
-both_true true false h = differ (sym h)
-both_true false o h = differ (sym h)
+names_turned s one (global g) (global k) = images_same s.global_number one g k ∙ nat_eq_turned g k
 
 pub block_same : (a o : Block) → same_block a o ≡ true → a ≡ o
 block_same (local d x) (local e y) h =
-    let p = both_true (nat_eq d e) (nat_eq x y) h in
-    ap (λ n. local n x) (same_number d e p.0) ∙ ap (local e) (same_number x y p.1)
-block_same (local d x) (global g) h = differ (sym h)
-block_same (global g) (local d x) h = differ (sym h)
-block_same (global g) (global k) h = ap global (same_number g k h)
+    let p = and_parts (nat_eq d e) (nat_eq x y) h in
+    ap (λ n. local n x) (nat_eq_same d e p.0) ∙ ap (local e) (nat_eq_same x y p.1)
+block_same (local d x) (global g) h = true_not_false (sym h)
+block_same (global g) (local d x) h = true_not_false (sym h)
+block_same (global g) (global k) h = ap global (nat_eq_same g k h)
 
 -- ---- lists of cells
 

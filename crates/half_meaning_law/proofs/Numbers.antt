@@ -5,6 +5,7 @@ use Rattle.pt_base.specs.declared.int_type.IntType.{IntType}
 use Rattle.pt_base.specs.declared.int_type.IntType.TheVariants as i
 use Rattle.pt_base.specs.declared.span.Span.{Span}
 use Rattle.pt_base.specs.IntTypes.{InRange}
+use Rattle.pt_base.proofs.Booleans.{both_hold_first, both_hold_second, true_not_false}
 use Rattle.pt_int.specs.declared.operator.UnOp.{UnOp}
 use Rattle.pt_int.specs.declared.operator.UnOp.TheVariants.{Minus, Plus, Flip, Not}
 use Rattle.pt_int.specs.Conversion.{conv, is_in_range}
@@ -25,7 +26,6 @@ use Rattle.typed_tree.specs.ExpressionTree.{typed}
 use Rattle.typed_tree.specs.TypeTests.{integer_of, same_type, same_int}
 use Rattle.typed_tree.specs.TypeRules.{unary_fits, is_promoted}
 use Rattle.typed_tree.specs.WellFormedExpression.{ty_of}
-use Rattle.typed_tree.proofs.WellFormedLemmas.{and_left, and_right}
 use Rattle.check_declarations.specs.Structs.{Structs}
 use Rattle.check_declarations.specs.Words.{are_one_of, same_words}
 use Rattle.check_expressions.specs.Environment.{Env}
@@ -55,7 +55,6 @@ use Rattle.half_meaning_law.specs.Known.{type_as}
 use Rattle.half_meaning_law.specs.Expressions.{Evaluates, IsValue, SameValues, asked, IsFine, ExpressionMeans}
 use Rattle.half_meaning_law.proofs.Chains.{type_of_typed}
 use Rattle.half_meaning_law.proofs.Constants.{in_range, flipped_int, flipped_long, unsigned_int, unsigned_long, narrow_char, narrow_schar, narrow_uchar, narrow_short, narrow_ushort}
-use Rattle.half_meaning_law.proofs.Memories.{differ}
 use Rattle.half_meaning_law.proofs.Operators.{ev_bind, Told, value_told, unary_told, converted_same, converted_fits}
 use Rattle.typed_tree.proofs.SameTypes.{equal_types}
 use Rattle.half_meaning_law.proofs.Types.{promoted_is, to_int_same}
@@ -83,15 +82,15 @@ computed_is Not to sp at k y is tree typed_as ok =
     ap (λ z. computed_by (unary_rule_of Not z) Not sp at (value_tree at k)) is ∙ ap (λ z. fine (plain (ty.Int i.Int) (typed sp (Some (v.Int i.Int)) (t.unary Not z)))) tree
 computed_is Minus to sp at k y is tree typed_as ok =
     ap (λ z. computed_by (unary_rule_of Minus z) Minus sp at (value_tree at k)) is
-    ∙ ap (λ z. fine (plain (ty.Int z) (typed sp (Some (v.Int z)) (t.unary Minus (to_int z (value_tree at k)))))) (promoted_is to (and_right (same_int to to) (is_promoted to) ok))
+    ∙ ap (λ z. fine (plain (ty.Int z) (typed sp (Some (v.Int z)) (t.unary Minus (to_int z (value_tree at k)))))) (promoted_is to (both_hold_second (same_int to to) (is_promoted to) ok))
     ∙ ap (λ z. fine (plain (ty.Int to) (typed sp (Some (v.Int to)) (t.unary Minus z)))) (ap (to_int to) tree ∙ to_int_same to y typed_as)
 computed_is Plus to sp at k y is tree typed_as ok =
     ap (λ z. computed_by (unary_rule_of Plus z) Plus sp at (value_tree at k)) is
-    ∙ ap (λ z. fine (plain (ty.Int z) (typed sp (Some (v.Int z)) (t.unary Plus (to_int z (value_tree at k)))))) (promoted_is to (and_right (same_int to to) (is_promoted to) ok))
+    ∙ ap (λ z. fine (plain (ty.Int z) (typed sp (Some (v.Int z)) (t.unary Plus (to_int z (value_tree at k)))))) (promoted_is to (both_hold_second (same_int to to) (is_promoted to) ok))
     ∙ ap (λ z. fine (plain (ty.Int to) (typed sp (Some (v.Int to)) (t.unary Plus z)))) (ap (to_int to) tree ∙ to_int_same to y typed_as)
 computed_is Flip to sp at k y is tree typed_as ok =
     ap (λ z. computed_by (unary_rule_of Flip z) Flip sp at (value_tree at k)) is
-    ∙ ap (λ z. fine (plain (ty.Int z) (typed sp (Some (v.Int z)) (t.unary Flip (to_int z (value_tree at k)))))) (promoted_is to (and_right (same_int to to) (is_promoted to) ok))
+    ∙ ap (λ z. fine (plain (ty.Int z) (typed sp (Some (v.Int z)) (t.unary Flip (to_int z (value_tree at k)))))) (promoted_is to (both_hold_second (same_int to to) (is_promoted to) ok))
     ∙ ap (λ z. fine (plain (ty.Int to) (typed sp (Some (v.Int to)) (t.unary Flip z)))) (ap (to_int to) tree ∙ to_int_same to y typed_as)
 
 prefix_is : (op : UnOp) (structs : Structs) (sp at : Span) (k : Known) → prefixed structs (h.prefix_of op) sp at k ≡ computed op sp at k
@@ -135,10 +134,10 @@ unary_held s env structs op to a sp tree ok held = record {
     y = value_tree (span_of tree) j.operand
 
     is : type_of s.context a ≡ v.Int to
-    is = equal_types (type_of s.context a) (v.Int to) (and_left (same_type (type_of s.context a) (v.Int to)) (unary_fits op (Some (v.Int to)) (Some (v.Int (unary_type op to)))) ok)
+    is = equal_types (type_of s.context a) (v.Int to) (both_hold_first (same_type (type_of s.context a) (v.Int to)) (unary_fits op (Some (v.Int to)) (Some (v.Int (unary_type op to)))) ok)
 
     fits : IsTrue (unary_fits op (Some (v.Int to)) (Some (v.Int (unary_type op to))))
-    fits = and_right (same_type (type_of s.context a) (v.Int to)) (unary_fits op (Some (v.Int to)) (Some (v.Int (unary_type op to)))) ok
+    fits = both_hold_second (same_type (type_of s.context a) (v.Int to)) (unary_fits op (Some (v.Int to)) (Some (v.Int (unary_type op to)))) ok
 
 -- ---- casts
 
@@ -178,9 +177,9 @@ convert_same s a to u y at is same st st' al =
 
 pub integer_type : (u : VarTy) → IsTrue (is_some (integer_of (Some u))) → (t : IntType) × (u ≡ v.Int t)
 integer_type (v.Int t) h = (t, refl)
-integer_type (v.Struct n) h = differ (sym h)
-integer_type (v.Array elem count) h = differ (sym h)
-integer_type (v.Pointer elem g) h = differ (sym h)
+integer_type (v.Struct n) h = true_not_false (sym h)
+integer_type (v.Array elem count) h = true_not_false (sym h)
+integer_type (v.Pointer elem g) h = true_not_false (sym h)
 
 -- a cast of what is judged to be an integer, whose meaning is given
 cast_judged : (s : Scene) (env : Env) (structs : Structs) (to u : IntType) (d : ExprTree) (tree : e.ExprTree) → type_of s.context d ≡ v.Int to → c_type s.context d ≡ v.Int to → IsFine structs (judge env structs tree) → (value_of (judge env structs tree).operand).ty ≡ ty.Int u →
@@ -222,7 +221,7 @@ number_held s env structs to n = record {
     fine = record { faults = refl; structs_stay = refl };
     typed = refl;
     tree = λ at. refl;
-    plain = λ p. differ (sym p);
+    plain = λ p. true_not_false (sym p);
     same = λ at st st' al. (refl, record { cell = number (pos n); is = refl; same = refl; fits = tt });
   };
   chain = tt;
@@ -239,7 +238,7 @@ flip_held s env structs to n ok is = record {
         fine = record { faults = refl; structs_stay = refl };
         typed = refl;
         tree = λ at. refl;
-        plain = λ p. differ (sym p);
+        plain = λ p. true_not_false (sym p);
         same = λ at st st' al. subst (λ z. Evaluates (IsValue s (v.Int to)) st (x.cell_or_trap nowhere (if_ok z number) st) (Ok (int_cell (negsuc n)))) (sym is) (refl, record { cell = number (negsuc n); is = refl; same = refl; fits = tt });
       });
   chain = tt;

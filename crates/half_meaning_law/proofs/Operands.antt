@@ -4,6 +4,7 @@ use Rattle.std.specs.Prelude.{IsTrue, ◌&&◌, is_some}
 use Rattle.pt_base.specs.declared.int_type.IntType.{IntType}
 use Rattle.pt_base.specs.declared.span.Span.{Span}
 use Rattle.pt_base.specs.IntTypes.{promoted, usual}
+use Rattle.pt_base.proofs.Booleans.{both_hold_first, both_hold_second, true_not_false}
 use Rattle.pt_int.specs.declared.operator.BinOp.{BinOp}
 use Rattle.pt_int.specs.declared.operator.BinOp.TheVariants.{Mul, Div, Rem, Add, Sub, Shl, Shr, Lt, Gt, Le, Ge, Eq, Ne, And, Xor, Or}
 use Rattle.pt_int.specs.Operator.{is_shift, binary_type}
@@ -25,7 +26,6 @@ use Rattle.typed_tree.specs.ExpressionTree.{typed}
 use Rattle.typed_tree.specs.TypeTests.{integer_of, pointee_of, same_type, same_int}
 use Rattle.typed_tree.specs.TypeRules.{arithmetic_type, shift_type, moved_type, is_promoted}
 use Rattle.typed_tree.specs.WellFormedExpression.{ty_of}
-use Rattle.typed_tree.proofs.WellFormedLemmas.{and_left, and_right}
 use Rattle.check_declarations.specs.Structs.{Structs}
 use Rattle.check_expressions.specs.Environment.{Env}
 use Rattle.check_expressions.specs.Conversions.{as_promoted, to_int}
@@ -43,7 +43,6 @@ use Rattle.half_trees.specs.Expressions.{operator_of}
 use Rattle.half_meaning_law.specs.Relations.{Scene, context_of, core_cell, CellFits, reach_of}
 use Rattle.half_meaning_law.specs.CForms.{points_const, with_const, c_type}
 use Rattle.half_meaning_law.specs.Known.{type_as}
-use Rattle.half_meaning_law.proofs.Memories.{differ}
 use Rattle.half_meaning_law.proofs.Operators.{Told, computed, shift_told, moved_told, number_same}
 use Rattle.typed_tree.proofs.SameTypes.{equal_types, equal_ints}
 use Rattle.half_meaning_law.proofs.Types.{promoted_is, to_int_same}
@@ -93,23 +92,23 @@ shift_right_fits s to u a b sp is is' whole whole' = shift_fit s false to u a b 
 
 -- what is asked of the operands of a shift
 shift_types : (t : IntType) (u : Option IntType) → IsTrue (is_some (shift_type (Some t) u)) → (z : IntType) × (u ≡ Some z) × (promoted t ≡ t) × (promoted z ≡ z)
-shift_types t None h = differ (sym h)
+shift_types t None h = true_not_false (sym h)
 shift_types t (Some z) h = go (is_promoted t && is_promoted z) refl h
   where
     go : (o : Bool) → (is_promoted t && is_promoted z) ≡ o → IsTrue (is_some (if o then Some (v.Int t) else None)) → (k : IntType) × (Some z ≡ Some k) × (promoted t ≡ t) × (promoted k ≡ k)
-    go true e h = (z, refl, promoted_is t (and_left (is_promoted t) (is_promoted z) e), promoted_is z (and_right (is_promoted t) (is_promoted z) e))
-    go false e h = differ (sym h)
+    go true e h = (z, refl, promoted_is t (both_hold_first (is_promoted t) (is_promoted z) e), promoted_is z (both_hold_second (is_promoted t) (is_promoted z) e))
+    go false e h = true_not_false (sym h)
 
 -- what is asked of the others
 arithmetic_types : (op : BinOp) (t : IntType) (u : Option IntType) → IsTrue (is_some (arithmetic_type op t (Some t) u)) → (u ≡ Some t) × (usual t t ≡ t)
-arithmetic_types op t None h = differ (sym h)
+arithmetic_types op t None h = true_not_false (sym h)
 arithmetic_types op t (Some z) h = go (not (is_shift op) && (same_int (usual t t) t && same_int z t)) refl h
   where
     go : (o : Bool) → (not (is_shift op) && (same_int (usual t t) t && same_int z t)) ≡ o → IsTrue (is_some (if o then Some (v.Int (binary_type op t)) else None)) → (Some z ≡ Some t) × (usual t t ≡ t)
     go true e h =
-        let both = and_right (not (is_shift op)) (same_int (usual t t) t && same_int z t) e in
-        (ap Some (equal_ints z t (and_right (same_int (usual t t) t) (same_int z t) both)), equal_ints (usual t t) t (and_left (same_int (usual t t) t) (same_int z t) both))
-    go false e h = differ (sym h)
+        let both = both_hold_second (not (is_shift op)) (same_int (usual t t) t && same_int z t) e in
+        (ap Some (equal_ints z t (both_hold_second (same_int (usual t t) t) (same_int z t) both)), equal_ints (usual t t) t (both_hold_first (same_int (usual t t) t) (same_int z t) both))
+    go false e h = true_not_false (sym h)
 
 integer_is : (u : VarTy) (t : IntType) → integer_of (Some u) ≡ Some t → u ≡ v.Int t
 integer_is (v.Int k) t h = ap (λ z. v.Int (unwrap z)) h
@@ -152,7 +151,7 @@ pub binary_held : (s : Scene) (env : Env) (structs : Structs) (op : BinOp) (to :
     Held s env structs a ta → Held s env structs b tb → Held s env structs (binary op to a b sp) (h.linked (operator_of op) ta tb)
 binary_held s env structs op to a b sp ta tb ok left right =
     pair_held s env structs a b (binary op to a b sp) (operator_of op) ta tb (no_logical op)
-    (taken_fits s op to a b sp (equal_types (type_of s.context a) (v.Int to) (and_left (same_type (type_of s.context a) (v.Int to)) _ ok)) (and_right (same_type (type_of s.context a) (v.Int to)) _ ok)) left right
+    (taken_fits s op to a b sp (equal_types (type_of s.context a) (v.Int to) (both_hold_first (same_type (type_of s.context a) (v.Int to)) _ ok)) (both_hold_second (same_type (type_of s.context a) (v.Int to)) _ ok)) left right
 
 -- ---- pointers
 
@@ -184,8 +183,8 @@ moved_types : (c d : VarTy) → IsTrue (is_some (moved_type (Some c) (Some d))) 
 moved_types c d h = go (is_some (pointee_of (Some c)) && is_some (integer_of (Some d))) refl h
   where
     go : (o : Bool) → (is_some (pointee_of (Some c)) && is_some (integer_of (Some d))) ≡ o → IsTrue (is_some (if o then Some c else None)) → IsTrue (is_some (pointee_of (Some c))) × IsTrue (is_some (integer_of (Some d)))
-    go true e h = (and_left (is_some (pointee_of (Some c))) (is_some (integer_of (Some d))) e, and_right (is_some (pointee_of (Some c))) (is_some (integer_of (Some d))) e)
-    go false e h = differ (sym h)
+    go true e h = (both_hold_first (is_some (pointee_of (Some c))) (is_some (integer_of (Some d))) e, both_hold_second (is_some (pointee_of (Some c))) (is_some (integer_of (Some d))) e)
+    go false e h = true_not_false (sym h)
 
 pub move_held : (s : Scene) (env : Env) (structs : Structs) (a b : ExprTree) (back : Bool) (sp : Span) (ta tb : e.ExprTree) → IsTrue (is_some (moved_type (Some (type_of s.context a)) (Some (type_of s.context b)))) →
     Held s env structs a ta → Held s env structs b tb → Held s env structs (move a b back sp) (h.linked (if back then Subtract else add_op) ta tb)

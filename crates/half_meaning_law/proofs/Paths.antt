@@ -1,14 +1,15 @@
 -- Paths of fields, and what stands behind an operand.
-use Rattle.std.proofs.Common.{◌≡◌, ◌∙◌, ◌<◌, ℕ, refl, ap, sym, subst, arith, Bool, true, false, Option, None, List, [], ◌∷◌, ◌++◌, append_assoc, Result, Ok, Err, if◌then◌else◌}
-use Rattle.std.specs.Prelude.{IsTrue, nat_lt, length, not}
-use Rattle.std.proofs.lemmas.Bool.Decides.{nat_tests}
+use Rattle.std.proofs.Common.{◌≡◌, ◌∙◌, ◌<◌, ℕ, refl, ap, sym, subst, Bool, true, false, Option, None, List, [], ◌∷◌, ◌++◌, append_assoc, Result, Ok, Err, if◌then◌else◌}
+use Rattle.std.specs.Prelude.{IsTrue, length, not}
 use Rattle.pt_base.specs.declared.ids.FnId.{FnId}
 use Rattle.pt_base.specs.declared.span.Span.{Span}
+use Rattle.pt_base.proofs.Booleans.{both_hold_first, both_hold_second, true_not_false}
+use Rattle.pt_base.proofs.Lists.{append_nil}
+use Rattle.pt_base.proofs.Numbers.{below_holds}
 use Rattle.pt_tree.specs.ExpressionTree as e
 use Rattle.typed_tree.specs.declared.types.VarTy.{VarTy}
 use Rattle.typed_tree.specs.declared.types.VarTy.TheVariants as v
 use Rattle.typed_tree.specs.Sizes.{fields_of}
-use Rattle.typed_tree.proofs.WellFormedLemmas.{and_left, and_right}
 use Rattle.check_declarations.specs.Structs.{Structs}
 use Rattle.check_expressions.specs.Environment.{Env}
 use Rattle.check_expressions.specs.Expressions.{Judged, judge, judge_postfixes, judge_postfix, headed, postfix_span}
@@ -24,8 +25,7 @@ use Rattle.half_trees.specs.Expressions.{dots, extended, with_postfixes}
 use Rattle.half_meaning_law.specs.Relations.{Scene}
 use Rattle.half_meaning_law.specs.Known.{FieldKnown}
 use Rattle.half_meaning_law.specs.Expressions.{IsFine}
-use Rattle.half_meaning_law.proofs.Judged.{append_nothing, no_faults, NotCalled, leads_on, IsNoChain}
-use Rattle.half_meaning_law.proofs.Memories.{differ}
+use Rattle.half_meaning_law.proofs.Judged.{no_faults, NotCalled, leads_on, IsNoChain}
 use Rattle.half_meaning_law.proofs.Places.{Asks, ObjectMeans, asked_as, with_field, field_means, dot_is}
 
 -- ---- paths
@@ -62,9 +62,6 @@ pub record JudgedObject (s : Scene) (structs : Structs) (ty : VarTy) (const whol
 abbrev pub Fields : Scene → Structs → Type 0
 Fields s structs = (n k : ℕ) → k < length (fields_of s.context.structs n) → FieldKnown s structs n k
 
-pub is_less : (a b : ℕ) → IsTrue (nat_lt a b) → a < b
-is_less a b h = grind (arith, nat_tests)
-
 pub path_means : (s : Scene) (env : Env) (structs : Structs) (path : List ℕ) (ty : VarTy) (const whole : Bool) (ask : Asks) (k : Known) (callee : Option FnId) (at : Span) → Fields s structs →
     IsTrue (is_path s.context.structs ty path) → ObjectMeans s ty const whole ask k →
     JudgedObject s structs (path_type s.context.structs ty path) const (whole_after whole path) (then_along s path ask) (judge_postfixes env structs nowhere callee at k (e.postfix_trees (dots s.context.structs ty path)))
@@ -74,10 +71,10 @@ path_means s env structs [] ty const whole ask k callee at known ok h = record {
   object = asked_as s ty const whole ask (then_along s [] ask) k (along_none s ask) h;
 }
 path_means s env structs (j ∷ path) (v.Struct n) const whole ask k callee at known ok h =
-    let f = known n j (is_less j (length (fields_of s.context.structs n)) (and_left (is_field s.context.structs (v.Struct n) j) (is_path s.context.structs (field_type s.context.structs (v.Struct n) j) path) ok)) in
+    let f = known n j (below_holds j (length (fields_of s.context.structs n)) (both_hold_first (is_field s.context.structs (v.Struct n) j) (is_path s.context.structs (field_type s.context.structs (v.Struct n) j) path) ok)) in
     let after = with_field k (record { number = j; entry = f.entry }) in
     let rest = path_means s env structs path (field_type s.context.structs (v.Struct n) j) const true (λ blocks. ask blocks >>? λ at. Ok (w.field_at s.context j at)) after None nowhere known
-    (and_right (is_field s.context.structs (v.Struct n) j) (is_path s.context.structs (field_type s.context.structs (v.Struct n) j) path) ok) (field_means s structs n j const whole ask k f h) in
+    (both_hold_second (is_field s.context.structs (v.Struct n) j) (is_path s.context.structs (field_type s.context.structs (v.Struct n) j) path) ok) (field_means s structs n j const whole ask k f h) in
     subst (λ (z : Made). JudgedObject s structs (path_type s.context.structs (field_type s.context.structs (v.Struct n) j) path) const true (then_along s (j ∷ path) ask) (behind z)) (sym (dot_is s structs n j k at f h.typed)) (record {
       fine = record { faults = rest.fine.faults; structs_stay = rest.fine.structs_stay };
       object = asked_as s (path_type s.context.structs (field_type s.context.structs (v.Struct n) j) path) const true (then_along s path (λ b. ask b >>? λ at. Ok (w.field_at s.context j at))) (then_along s (j ∷ path) ask) _ (along_more s j path ask) (all path rest.object);
@@ -91,9 +88,9 @@ path_means s env structs (j ∷ path) (v.Struct n) const whole ask k callee at k
     all : {u : VarTy} {g : Bool} {asks : Asks} {o : Known} (p : List ℕ) → ObjectMeans s u g (whole_after true p) asks o → ObjectMeans s u g true asks o
     all [] z = z
     all (i ∷ p) z = z
-path_means s env structs (j ∷ path) (v.Int t) const whole ask k callee at known ok h = differ (sym ok)
-path_means s env structs (j ∷ path) (v.Array elem count) const whole ask k callee at known ok h = differ (sym ok)
-path_means s env structs (j ∷ path) (v.Pointer elem fixed) const whole ask k callee at known ok h = differ (sym ok)
+path_means s env structs (j ∷ path) (v.Int t) const whole ask k callee at known ok h = true_not_false (sym ok)
+path_means s env structs (j ∷ path) (v.Array elem count) const whole ask k callee at known ok h = true_not_false (sym ok)
+path_means s env structs (j ∷ path) (v.Pointer elem fixed) const whole ask k callee at known ok h = true_not_false (sym ok)
 
 -- ---- what stands behind an operand
 
@@ -121,7 +118,7 @@ judged_behind : (env : Env) (structs : Structs) (sp : Span) (callee : Option FnI
     Both env sp (judge_postfixes env structs sp callee at k (e.postfix_and p ps)) more (judge_postfixes env structs sp callee at k (e.postfix_and p (with_postfixes ps more)))
 unfolding judge_postfixes
 judged_behind env structs sp callee at k p e.no_postfixes more =
-    (joined sp (postfix_span p), ap (λ fs. let z : Judged = record { operand = rest.operand; structs = rest.structs; faults = fs } in z) (sym (ap (λ fs. fs ++ rest.faults) (append_nothing one.faults))))
+    (joined sp (postfix_span p), ap (λ fs. let z : Judged = record { operand = rest.operand; structs = rest.structs; faults = fs } in z) (sym (ap (λ fs. fs ++ rest.faults) (append_nil one.faults))))
   where
     one : Judged
     one = judge_postfix env structs sp callee at k p
@@ -232,7 +229,7 @@ unfolding is_called
 uncalled p ps h = go (is_call p) refl
   where
     go : (z : Bool) → is_call p ≡ z → z ≡ false
-    go true e = differ (sym h ∙ ap not e)
+    go true e = true_not_false (sym h ∙ ap not e)
     go false e = refl
 
 -- whatever it is
@@ -245,7 +242,7 @@ extended_behind env structs (e.cast sp specs pointer b) more P shape none left o
 extended_behind env structs (e.chain sp b ls) more P shape none left on = first_behind env structs (e.chain sp b ls) more P none left on
 extended_behind env structs (e.choice sp b d f) more P shape none left on = first_behind env structs (e.choice sp b d f) more P none left on
 extended_behind env structs (e.assign sp op b d) more P shape none left on = first_behind env structs (e.assign sp op b d) more P none left on
-extended_behind env structs (e.postfix sp b e.no_postfixes) more P shape none left on = differ (sym shape.1)
+extended_behind env structs (e.postfix sp b e.no_postfixes) more P shape none left on = true_not_false (sym shape.1)
 extended_behind env structs (e.postfix sp b (e.postfix_and p ps)) more P shape none left on =
     later_behind env structs b p ps more P (uncalled p ps shape.1) (subst (λ z. IsFine structs (judge env structs (e.postfix z b (e.postfix_and p ps)))) shape.0 left)
     (subst (λ z. MoreJudged env structs more (FineAnd structs P) (judge env structs (e.postfix z b (e.postfix_and p ps)))) shape.0 on)

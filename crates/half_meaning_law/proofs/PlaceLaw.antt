@@ -7,6 +7,8 @@ use Rattle.pt_base.specs.declared.int_type.IntType.TheVariants as i
 use Rattle.runs.specs.State.{◌>>=◌}
 use Rattle.runs.specs.Pointers.{if_ok, cell_at}
 use Rattle.pt_base.specs.declared.trap.Trap.TheVariants.{Bounds}
+use Rattle.pt_base.proofs.Booleans.{both_hold_first, both_hold_second, true_not_false}
+use Rattle.pt_base.proofs.Numbers.{below_holds}
 use Rattle.pt_tree.specs.declared.operator.PrefixOp.TheVariants as p
 use Rattle.pt_tree.specs.declared.signature.Elem.{Elem}
 use Rattle.pt_tree.specs.declared.signature.Elem.TheVariants as el
@@ -20,7 +22,6 @@ use Rattle.typed_tree.specs.ExpressionTree as t
 use Rattle.typed_tree.specs.ExpressionTree.{place, step_trees, no_steps}
 use Rattle.typed_tree.specs.Sizes.{sizes_of, elem_cells, fields_of}
 use Rattle.typed_tree.specs.TypeTests.{type_of_elem, pointee_of}
-use Rattle.typed_tree.proofs.WellFormedLemmas.{and_left, and_right}
 use Rattle.check_declarations.specs.Structs.{Structs}
 use Rattle.check_expressions.specs.Environment.{Env}
 use Rattle.check_expressions.specs.Expressions.{Judged, alone, over, judge, named, named_as, meant, an_object, judge_postfixes, judge_postfix, postfix_span}
@@ -47,11 +48,10 @@ use Rattle.half_meaning_law.specs.CForms.{is_const, points_const, with_const, c_
 use Rattle.half_meaning_law.specs.Known.{type_as, object_as, local_id, global_id, VariableKnown, GlobalKnown, FieldKnown, Known as AllKnown}
 use Rattle.half_meaning_law.specs.Expressions.{Evaluates, IsValue, IsPlace, SamePlaces, SameValues, asked, place_asked, ExpressionMeans, SceneFits}
 use Rattle.half_meaning_law.proofs.Chains.{bind_gives, type_of_typed}
-use Rattle.half_meaning_law.proofs.Memories.{differ}
 use Rattle.half_meaning_law.proofs.Operators.{ev_bind}
 use Rattle.half_meaning_law.proofs.Judged.{no_faults, NotCalled, IsNoChain, Held}
 use Rattle.half_meaning_law.proofs.Places.{Asks, ObjectMeans, asked_as, with_field, field_means, no_reach}
-use Rattle.half_meaning_law.proofs.Paths.{JudgedObject, path_means, whole_after, then_along, along_none, along_more, is_less, FineAnd, extended_behind, extended_shape, extended_no_chain}
+use Rattle.half_meaning_law.proofs.Paths.{JudgedObject, path_means, whole_after, then_along, along_none, along_more, FineAnd, extended_behind, extended_shape, extended_no_chain}
 
 -- ---- what the induction keeps of each place
 
@@ -201,7 +201,7 @@ pointed_means s structs a j elem g at sp sp' h is = record {
   fixed = refl;
   no_null = refl;
   reads = λ sp1 k f. refl;
-  addressed = λ all. differ (sym all);
+  addressed = λ all. true_not_false (sym all);
   same = deref_same s a elem g (points_const s.context a) (value_tree at j.operand) sp sp' is (type_of_typed (value_tree at j.operand) (v.Pointer elem (points_const s.context a)) (h.tree at ∙ ap Some (c_pointer s a elem g is))) (h.same at);
 }
 
@@ -253,7 +253,7 @@ arrow_means s env structs a ta n g sp j path known ok held is =
     P = ObjectMeans s (path_type s.context.structs (v.Struct n) (j ∷ path)) (points_const s.context a) true (then_along s (j ∷ path) asks)
 
     f : FieldKnown s structs n j
-    f = known.fields n j (is_less j (length (fields_of s.context.structs n)) (and_left (is_field s.context.structs (v.Struct n) j) (is_path s.context.structs (field_type s.context.structs (v.Struct n) j) path) ok))
+    f = known.fields n j (below_holds j (length (fields_of s.context.structs n)) (both_hold_first (is_field s.context.structs (v.Struct n) j) (is_path s.context.structs (field_type s.context.structs (v.Struct n) j) path) ok))
 
     behind : Made → Judged
     behind z =
@@ -268,23 +268,23 @@ arrow_means s env structs a ta n g sp j path known ok held is =
     later at =
         let d = path_means s env structs path (field_type s.context.structs (v.Struct n) j) (points_const s.context a) true (λ b. asks b >>? λ at. Ok (w.field_at s.context j at))
         (with_field (pointed_to (el.Struct n) (points_const s.context a) (value_tree at q.operand) nowhere) (record { number = j; entry = f.entry })) None nowhere known.fields
-        (and_right (is_field s.context.structs (v.Struct n) j) (is_path s.context.structs (field_type s.context.structs (v.Struct n) j) path) ok)
+        (both_hold_second (is_field s.context.structs (v.Struct n) j) (is_path s.context.structs (field_type s.context.structs (v.Struct n) j) path) ok)
         (field_means s structs n j (points_const s.context a) false asks (pointed_to (el.Struct n) (points_const s.context a) (value_tree at q.operand) nowhere) f (pointed_means s structs a q (el.Struct n) g at nowhere sp held.means is)) in
         (record { faults = d.fine.faults; structs_stay = d.fine.structs_stay }, asked_as s (path_type s.context.structs (v.Struct n) (j ∷ path)) (points_const s.context a) true (then_along s path (λ b. asks b >>? λ at. Ok (w.field_at s.context j at))) (then_along s (j ∷ path) asks) _ (along_more s j path asks) (all path d.object))
 
 -- ---- all places
 
 pub pointer_type : (u : VarTy) → IsTrue (is_some (pointee_of (Some u))) → (elem : Elem) × (g : Bool) × (u ≡ v.Pointer elem g)
-pointer_type (v.Int t) h = differ (sym h)
-pointer_type (v.Struct n) h = differ (sym h)
-pointer_type (v.Array elem count) h = differ (sym h)
+pointer_type (v.Int t) h = true_not_false (sym h)
+pointer_type (v.Struct n) h = true_not_false (sym h)
+pointer_type (v.Array elem count) h = true_not_false (sym h)
 pointer_type (v.Pointer elem g) h = (elem, g, refl)
 
 pub local_held : (s : Scene) (env : Env) (structs : Structs) (n : ℕ) (path : List ℕ) → SceneFits s → AllKnown s env structs → IsTrue (nat_lt n (length s.context.variables)) → IsTrue (is_path s.context.structs (type_at s.context.variables n) path) →
     PlaceHeld s env structs (place_at (local n) path) (h.root_tree s.context (local n) path)
 local_held s env structs n path fits known near ok = record {
   means = path_held s env structs (local_name n) (type_at s.context.variables n) (λ blocks. w.root_location s.context s.frame.depth (local n) blocks) path known ok
-      (local_means s env structs n fits (known.variables n (is_less n (length s.context.variables) near)));
+      (local_means s env structs n fits (known.variables n (below_holds n (length s.context.variables) near)));
   no_chain = dots_no_chain s (local_name n) (type_at s.context.variables n) path;
   shape = dots_shape s (local_name n) (type_at s.context.variables n) path;
 }
@@ -299,7 +299,7 @@ global_held s env structs g path known there ok = record {
 }
   where
     found : (z : Option VarTy) → lookup (nat_eq g) s.context.globals ≡ z → IsTrue (is_some z) → GlobalKnown s env g (unwrap_or z (v.Int i.Int))
-    found None e h = differ (sym h)
+    found None e h = true_not_false (sym h)
     found (Some u) e h = known.globals g u e
 
 -- behind a pointer to elements
@@ -313,7 +313,7 @@ behind_pointer s env structs a ta elem g sp [] known ok held is =
   where
     asks : Asks
     asks blocks = asked s a blocks >>? w.pointee s.context sp (type_of s.context a)
-behind_pointer s env structs a ta (el.Int t) g sp (j ∷ path) known ok held is = differ (sym ok)
+behind_pointer s env structs a ta (el.Int t) g sp (j ∷ path) known ok held is = true_not_false (sym ok)
 behind_pointer s env structs a ta (el.Struct n) g sp (j ∷ path) known ok held is = arrow_means s env structs a ta n g sp j path known ok held is
 
 pointed_shape : (s : Scene) (u : VarTy) (ta : e.ExprTree) (path : List ℕ) → NotCalled ta → NotCalled (h.pointed s.context.structs u ta path)

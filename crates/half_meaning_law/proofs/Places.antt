@@ -2,6 +2,7 @@
 use Rattle.std.proofs.Common.{◌≡◌, ◌∙◌, ℕ, refl, ap, sym, subst, Bool, true, false, Some, List, [], ◌∷◌, ◌++◌, Result, Ok, None}
 use Rattle.std.specs.Prelude.{◌+◌, ◌||◌}
 use Rattle.pt_base.specs.declared.span.Span.{Span}
+use Rattle.pt_base.proofs.Booleans.{true_not_false}
 use Rattle.runs.specs.State as r
 use Rattle.runs.specs.State.{gives, trapped, spent, ◌>>=◌}
 use Rattle.pt_tree.specs.declared.signature.Elem.{Elem}
@@ -30,7 +31,6 @@ use Rattle.half_meaning_law.specs.Known.{type_as, FieldKnown}
 use Rattle.half_meaning_law.specs.Expressions.{Evaluates, IsPlace, SamePlaces}
 use Rattle.half_meaning_law.proofs.Chains.{bind_gives}
 use Rattle.half_meaning_law.proofs.Operators.{ev_bind}
-use Rattle.half_meaning_law.proofs.Memories.{differ}
 
 -- ---- objects
 
@@ -98,7 +98,7 @@ pub no_reach : (s : Scene) (u : VarTy) → is_pointer u ≡ false → reach_of s
 no_reach s (v.Int t) h = refl
 no_reach s (v.Struct n) h = refl
 no_reach s (v.Array elem count) h = refl
-no_reach s (v.Pointer elem g) h = differ h
+no_reach s (v.Pointer elem g) h = true_not_false h
 
 field_is : (s : Scene) (n j : ℕ) (at : Location) (at' : w.Location) → is_pointer (field_type s.context.structs (v.Struct n) j) ≡ false → IsPlace s (v.Struct n) at at' →
     IsPlace s (field_type s.context.structs (v.Struct n) j) (x.field_at (context_of s) j at) (w.field_at s.context j at')

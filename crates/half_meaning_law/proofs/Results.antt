@@ -3,6 +3,7 @@ use Rattle.std.proofs.Common.{◌≡◌, ◌∙◌, ℕ, pos, refl, ap, sym, sub
 use Rattle.std.specs.Prelude.{IsTrue, nat_lt, slice_get, unwrap_or, option_map}
 use Rattle.pt_base.specs.declared.int_type.IntType.{IntType}
 use Rattle.pt_base.specs.declared.span.Span.{Span}
+use Rattle.pt_base.proofs.Booleans.{both_hold, both_hold_first, both_hold_second, true_not_false}
 use Rattle.runs.specs.State.{gives, ◌>>=◌}
 use Rattle.pt_tree.specs.declared.signature.Elem.{Elem}
 use Rattle.pt_tree.specs.declared.signature.Signature.{Signature}
@@ -16,7 +17,6 @@ use Rattle.typed_tree.specs.ExpressionTree as t
 use Rattle.typed_tree.specs.ExpressionTree.{typed, expr_trees}
 use Rattle.typed_tree.specs.TypeTests.{same_types}
 use Rattle.typed_tree.specs.WellFormedExpression.{param_type, is_main, ty_of}
-use Rattle.typed_tree.proofs.WellFormedLemmas.{and_left, and_right, and_both}
 use Rattle.check_expressions.specs.Environment.{Env}
 use Rattle.check_expressions.specs.Expressions.{Arguments, judge, judge_arguments}
 use Rattle.check_expressions.specs.Conversions.{as_type, to_int}
@@ -50,7 +50,7 @@ use Rattle.half_meaning_law.specs.CForms.{are_passed}
 use Rattle.half_meaning_law.specs.Known.{type_as, result_as, function_id, FunctionKnown, Known as AllKnown}
 use Rattle.half_meaning_law.specs.Expressions.{Evaluates, IsPlace, SamePlaces, place_asked, IsFine, SceneFits}
 use Rattle.half_meaning_law.specs.Statements.{GoesOn, SameRuns, AreArguments, GivesResult, CallsAlike, StatementsMean}
-use Rattle.half_meaning_law.proofs.Memories.{differ, alike_written}
+use Rattle.half_meaning_law.proofs.Memories.{alike_written}
 use Rattle.typed_tree.proofs.SameTypes.{equal_types}
 use Rattle.half_meaning_law.proofs.Types.{to_int_same}
 use Rattle.half_meaning_law.proofs.Chains.{var_type_as}
@@ -122,7 +122,7 @@ kept_runs s names called env f signature known sp es trees n to y o fits calls i
 
 -- a result goes to a variable of its type
 result_types : (r : Option IntType) (u : VarTy) → IsTrue (same_types (option_map v.Int r) (Some u)) → (to : IntType) × (r ≡ Some to) × (u ≡ v.Int to)
-result_types None u h = differ (sym h)
+result_types None u h = true_not_false (sym h)
 result_types (Some to) u h = (to, refl, sym (equal_types (v.Int to) u h))
 
 call_fit : (to : IntType) (tree : t.ExprTree) (z : Known) → z ≡ plain (ty.Int to) tree → (is_bad z.ty ≡ false) × (is_wrong (fit_rule (ty.Int to) (value_of z)) ≡ false)
@@ -171,7 +171,7 @@ call_means s names called w st f signature es (Some n) sp fits all known calls i
     judged = call_judged s names st.env st.structs f signature es known args
 
     r : (to : IntType) × (signature.result ≡ Some to) × (type_at s.context.variables n ≡ v.Int to)
-    r = result_types signature.result (type_at s.context.variables n) (and_right (nat_lt n (length s.context.variables)) _ into)
+    r = result_types signature.result (type_at s.context.variables n) (both_hold_second (nat_lt n (length s.context.variables)) _ into)
 
     tree : t.ExprTree
     tree = typed_call known.callable (function_id known.place) a.trees
@@ -186,7 +186,7 @@ call_means s names called w st f signature es (Some n) sp fits all known calls i
     typed_as = ap var_type is_int ∙ var_type_as (v.Int r.0)
 
     held : PlaceHeld s st.env st.structs (place (local_root n) []) (hs.variable n)
-    held = place_held s st.env st.structs (place (local_root n) []) fits all (and_both (nat_lt n (length s.context.variables)) true (and_left (nat_lt n (length s.context.variables)) _ into) refl) refl
+    held = place_held s st.env st.structs (place (local_root n) []) fits all (both_hold (nat_lt n (length s.context.variables)) true (both_hold_first (nat_lt n (length s.context.variables)) _ into) refl) refl
 
     stored : IsFine st.structs (judge st.env st.structs (hs.stored (hs.variable n) (hs.call_tree names s.context f es))) × ((at : Span) → value_tree at (judge st.env st.structs (hs.stored (hs.variable n) (hs.call_tree names s.context f es))).operand ≡
         typed nowhere (var_type (ty.Int r.0)) (t.assign (place_of (judge st.env st.structs (hs.variable n)).operand.tree) (as_type (ty.Int r.0) (value_of (judge st.env st.structs (hs.call_tree names s.context f es)).operand).null (value_tree nowhere (judge st.env st.structs (hs.call_tree names s.context f es)).operand))))

@@ -1,5 +1,6 @@
 -- Parts of runs side by side, and lists of statements behind one another.
 use Rattle.std.proofs.Common.{◌≡◌, ◌∙◌, ◌+◌, ℕ, suc, refl, ap, sym, subst, arith, List, [], ◌∷◌, ◌++◌, append_assoc, length, Result, Ok, Err}
+use Rattle.pt_base.proofs.Lists.{length_append}
 use Rattle.runs.specs.State as r
 use Rattle.runs.specs.State.{gives, trapped, spent, ◌>>=◌, take_turn}
 use Rattle.pt_tree.specs.StatementTree as e
@@ -137,10 +138,6 @@ listed_parts exprs n (x ∷ xs) ys h =
     let same : n + 1 + length xs ≡ n + suc (length xs) = omega arith in
     ((h.0, r.0), subst (λ z. ListedFrom exprs z ys) same r.1)
 
-pub length_both : {A : Type 0} (xs ys : List A) → length (xs ++ ys) ≡ length xs + length ys
-length_both [] ys = omega arith
-length_both (x ∷ xs) ys = let h = length_both xs ys in omega (arith, h)
-
 -- statements that mean something, and others behind them
 pub means_behind : (s : Scene) (w : k.Context) (st : o.State) (xs ys : List e.StmtTree) (run run' : c.State → c.Outcome c.Flow) → StatementsMean s st (checked_all w st (e.stmt_trees xs)) run →
     ((n : ℕ) → StatementsMean s (advanced st n) (checked_all w (advanced st n) (e.stmt_trees ys)) run') → StatementsMean s st (checked_all w st (e.stmt_trees (xs ++ ys))) (λ st'. run st' >>= c.after_flow run')
@@ -148,7 +145,7 @@ means_behind s w st xs ys run run' first later =
     subst (λ z. StatementsMean s st z (λ st'. run st' >>= c.after_flow run')) (sym (checked_behind w st xs ys))
     (subst (λ z. StatementsMean s st (behind p (checked_all w z (e.stmt_trees ys))) (λ st'. run st' >>= c.after_flow run')) (sym first.state) (record {
       fine = no_faults p.faults q.faults first.fine h.fine;
-      state = h.state ∙ ap (λ n. let z : o.State = record { env = st.env; structs = st.structs; next = n } in z) (ends (length p.trees) (length q.trees) (length (p.trees ++ q.trees)) (length_both p.trees q.trees));
+      state = h.state ∙ ap (λ n. let z : o.State = record { env = st.env; structs = st.structs; next = n } in z) (ends (length p.trees) (length q.trees) (length (p.trees ++ q.trees)) (length_append p.trees q.trees));
       same = λ exprs listed st1 st1' al.
           let parts = listed_parts exprs st.next p.trees q.trees listed in
           subst (λ z. Same s (GoesOn s) z (run st1' >>= c.after_flow run')) (sym (all_behind p.bodies q.bodies (code_of s exprs) st1))

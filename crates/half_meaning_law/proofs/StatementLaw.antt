@@ -3,13 +3,13 @@ use Rattle.std.proofs.Common.{◌≡◌, ◌∙◌, ℕ, refl, ap, sym, subst, B
 use Rattle.std.specs.Prelude.{IsTrue, ◌&&◌, ◌||◌, is_none, nat_lt, length}
 use Rattle.pt_base.specs.declared.int_type.IntType.{IntType}
 use Rattle.pt_base.specs.declared.span.Span.{Span}
+use Rattle.pt_base.proofs.Booleans.{both_hold_first, both_hold_second, true_not_false}
 use Rattle.pt_tree.specs.declared.signature.Signature.{Signature}
 use Rattle.pt_tree.specs.StatementTree as e
 use Rattle.typed_tree.specs.declared.types.VarTy.{VarTy}
 use Rattle.typed_tree.specs.declared.types.VarTy.TheVariants as v
 use Rattle.typed_tree.specs.TypeTests.{is_scalar, same_type, integer_of, both_int}
 use Rattle.typed_tree.specs.WellFormedExpression.{is_main}
-use Rattle.typed_tree.proofs.WellFormedLemmas.{and_left, and_right}
 use Rattle.check_statements.specs.declared.context.Context as k
 use Rattle.check_statements.specs.Outermost as o
 use Rattle.check_statements.specs.Statements.{checked_all, inside, looping}
@@ -24,7 +24,6 @@ use Rattle.half_meaning_law.specs.CForms.{is_null, stands, place_stands, is_cons
 use Rattle.half_meaning_law.specs.Known.{Known, FunctionsKnown, result_as}
 use Rattle.half_meaning_law.specs.Expressions.{SceneFits}
 use Rattle.half_meaning_law.specs.Statements.{advanced, StatementsMean, Judging, StatementsKeepTheirMeaning, BlocksKeepTheirMeaning}
-use Rattle.half_meaning_law.proofs.Memories.{differ}
 use Rattle.typed_tree.proofs.SameTypes.{equal_ints}
 use Rattle.half_meaning_law.proofs.Runs.{means_behind}
 use Rattle.half_meaning_law.proofs.Assigns.{assign_means}
@@ -63,22 +62,22 @@ within s scope = record { context = s.context; result = scope.result; called = s
 -- ---- what is returned
 
 integer_typed : (u : VarTy) (r : Option IntType) → IsTrue (both_int (integer_of (Some u)) r) → (to : IntType) × (u ≡ v.Int to) × (r ≡ Some to)
-integer_typed (v.Int n) None h = differ (sym h)
+integer_typed (v.Int n) None h = true_not_false (sym h)
 integer_typed (v.Int n) (Some to) h = (to, ap v.Int (equal_ints n to h), refl)
-integer_typed (v.Struct n) r h = differ (sym h)
-integer_typed (v.Array el n) r h = differ (sym h)
-integer_typed (v.Pointer el g) r h = differ (sym h)
+integer_typed (v.Struct n) r h = true_not_false (sym h)
+integer_typed (v.Array el n) r h = true_not_false (sym h)
+integer_typed (v.Pointer el g) r h = true_not_false (sym h)
 
 no_result : (r : Option IntType) → IsTrue (is_none r) → r ≡ None
 no_result None h = refl
-no_result (Some to) h = differ (sym h)
+no_result (Some to) h = true_not_false (sym h)
 
 give_back_means : (s : Scene) (names : List (ℕ × Signature)) (scope : Scope) (looped : Bool) (w : k.Context) (st : o.State) (a : Option ExprTree) → SceneFits s → Known s st.env st.structs → Judging s scope looped w → IsTrue (return_fits (within s scope) a) → IsTrue (is_given a) →
     StatementsMean s st (checked_all w st (e.stmt_trees (statement_trees names s.context (give_back a)))) (does (give_back a) (frame_of s) s.core_calls)
 give_back_means s names scope looped w st None fits known judging ok on = returns_nothing s w st (judging.result ∙ ap result_as (no_result scope.result ok))
 give_back_means s names scope looped w st (Some a) fits known judging ok on =
-    let r = integer_typed (type_of s.context a) scope.result (and_right (expr_fits s.context a) (both_int (integer_of (Some (type_of s.context a))) scope.result) ok) in
-    returns_value s w st r.0 a fits known (judging.result ∙ ap result_as r.2) (and_left (expr_fits s.context a) (both_int (integer_of (Some (type_of s.context a))) scope.result) ok) r.1 on
+    let r = integer_typed (type_of s.context a) scope.result (both_hold_second (expr_fits s.context a) (both_int (integer_of (Some (type_of s.context a))) scope.result) ok) in
+    returns_value s w st r.0 a fits known (judging.result ∙ ap result_as r.2) (both_hold_first (expr_fits s.context a) (both_int (integer_of (Some (type_of s.context a))) scope.result) ok) r.1 on
 
 -- ---- cleared variables
 
@@ -92,12 +91,12 @@ cleared_means s w st n fits known ok false is = fill_means s w st n fits known o
 called_means : (s : Scene) (names : List (ℕ × Signature)) (scope : Scope) (looped : Bool) (w : k.Context) (st : o.State) (f : ℕ) (es : ExprTrees) (result : Option ℕ) (sp : Span) → SceneFits s → Known s st.env st.structs → FunctionsKnown s names scope.called st.env → Judging s scope looped w →
     (z : Option Signature) → scope.called f ≡ z → IsTrue (call_fits s.context z es result) → IsTrue (are_passed s.context (params_of z) es) →
     StatementsMean s st (checked_all w st (e.stmt_trees (statement_trees names s.context (call f es result sp)))) (does (call f es result sp) (frame_of s) s.core_calls)
-called_means s names scope looped w st f es result sp fits known functions judging None is ok on = differ (sym ok)
+called_means s names scope looped w st f es result sp fits known functions judging None is ok on = true_not_false (sym ok)
 called_means s names scope looped w st f es result sp fits known functions judging (Some signature) is ok on =
-    let other = and_left (not (is_main signature)) (arguments_fit s.context signature.params es && result_fits s.context signature.result result) ok in
-    let more = and_right (not (is_main signature)) (arguments_fit s.context signature.params es && result_fits s.context signature.result result) ok in
+    let other = both_hold_first (not (is_main signature)) (arguments_fit s.context signature.params es && result_fits s.context signature.result result) ok in
+    let more = both_hold_second (not (is_main signature)) (arguments_fit s.context signature.params es && result_fits s.context signature.result result) ok in
     call_means s names scope.called w st f signature es result sp fits known (functions f signature is other) judging.calls is other
-    (and_left (arguments_fit s.context signature.params es) (result_fits s.context signature.result result) more) on (and_right (arguments_fit s.context signature.params es) (result_fits s.context signature.result result) more)
+    (both_hold_first (arguments_fit s.context signature.params es) (result_fits s.context signature.result result) more) on (both_hold_second (arguments_fit s.context signature.params es) (result_fits s.context signature.result result) more)
 
 -- ---- all
 
@@ -107,29 +106,29 @@ mutual
   statement_held (clear n) s names scope looped w st fits known functions judging ok on = cleared_means s w st n fits known ok (is_single (type_at s.context.variables n)) refl
   statement_held (check q) s names scope looped w st fits known functions judging ok on = check_means s w st q fits known ok on
   statement_held (assign q a) s names scope looped w st fits known functions judging ok on =
-      let more = and_right (place_fits s.context q) (is_scalar (Some (place_type s.context q)) && value_fits s.context (place_type s.context q) a) ok in
-      let value = and_right (is_scalar (Some (place_type s.context q))) (value_fits s.context (place_type s.context q) a) more in
-      let kept = and_right (place_stands q) (not (is_const s.context q) && is_stored s.context (place_type s.context q) a) on in
-      assign_means s w st q a fits known (and_left (place_fits s.context q) (is_scalar (Some (place_type s.context q)) && value_fits s.context (place_type s.context q) a) ok) (and_left (is_scalar (Some (place_type s.context q))) (value_fits s.context (place_type s.context q) a) more)
-      (and_left (expr_fits s.context a) (stands_for (type_of s.context a) (place_type s.context q)) value) (and_right (expr_fits s.context a) (stands_for (type_of s.context a) (place_type s.context q)) value)
-      (and_left (place_stands q) (not (is_const s.context q) && is_stored s.context (place_type s.context q) a) on) (and_left (not (is_const s.context q)) (is_stored s.context (place_type s.context q) a) kept) (and_right (not (is_const s.context q)) (is_stored s.context (place_type s.context q) a) kept)
+      let more = both_hold_second (place_fits s.context q) (is_scalar (Some (place_type s.context q)) && value_fits s.context (place_type s.context q) a) ok in
+      let value = both_hold_second (is_scalar (Some (place_type s.context q))) (value_fits s.context (place_type s.context q) a) more in
+      let kept = both_hold_second (place_stands q) (not (is_const s.context q) && is_stored s.context (place_type s.context q) a) on in
+      assign_means s w st q a fits known (both_hold_first (place_fits s.context q) (is_scalar (Some (place_type s.context q)) && value_fits s.context (place_type s.context q) a) ok) (both_hold_first (is_scalar (Some (place_type s.context q))) (value_fits s.context (place_type s.context q) a) more)
+      (both_hold_first (expr_fits s.context a) (stands_for (type_of s.context a) (place_type s.context q)) value) (both_hold_second (expr_fits s.context a) (stands_for (type_of s.context a) (place_type s.context q)) value)
+      (both_hold_first (place_stands q) (not (is_const s.context q) && is_stored s.context (place_type s.context q) a) on) (both_hold_first (not (is_const s.context q)) (is_stored s.context (place_type s.context q) a) kept) (both_hold_second (not (is_const s.context q)) (is_stored s.context (place_type s.context q) a) kept)
   statement_held (copy q r) s names scope looped w st fits known functions judging ok on =
-      let places = and_left (place_fits s.context q && place_fits s.context r) (is_compound (place_type s.context q) && same_type (place_type s.context q) (place_type s.context r)) ok in
-      let types = and_right (place_fits s.context q && place_fits s.context r) (is_compound (place_type s.context q) && same_type (place_type s.context q) (place_type s.context r)) ok in
-      let stand = and_left (place_stands q && place_stands r) (not (is_const s.context q) && is_struct (place_type s.context q)) on in
-      let kept = and_right (place_stands q && place_stands r) (not (is_const s.context q) && is_struct (place_type s.context q)) on in
-      copy_means s w st q r fits known (and_left (place_fits s.context q) (place_fits s.context r) places) (and_right (place_fits s.context q) (place_fits s.context r) places) (and_right (is_compound (place_type s.context q)) (same_type (place_type s.context q) (place_type s.context r)) types)
-      (and_left (place_stands q) (place_stands r) stand) (and_right (place_stands q) (place_stands r) stand) (and_left (not (is_const s.context q)) (is_struct (place_type s.context q)) kept) (and_right (not (is_const s.context q)) (is_struct (place_type s.context q)) kept)
+      let places = both_hold_first (place_fits s.context q && place_fits s.context r) (is_compound (place_type s.context q) && same_type (place_type s.context q) (place_type s.context r)) ok in
+      let types = both_hold_second (place_fits s.context q && place_fits s.context r) (is_compound (place_type s.context q) && same_type (place_type s.context q) (place_type s.context r)) ok in
+      let stand = both_hold_first (place_stands q && place_stands r) (not (is_const s.context q) && is_struct (place_type s.context q)) on in
+      let kept = both_hold_second (place_stands q && place_stands r) (not (is_const s.context q) && is_struct (place_type s.context q)) on in
+      copy_means s w st q r fits known (both_hold_first (place_fits s.context q) (place_fits s.context r) places) (both_hold_second (place_fits s.context q) (place_fits s.context r) places) (both_hold_second (is_compound (place_type s.context q)) (same_type (place_type s.context q) (place_type s.context r)) types)
+      (both_hold_first (place_stands q) (place_stands r) stand) (both_hold_second (place_stands q) (place_stands r) stand) (both_hold_first (not (is_const s.context q)) (is_struct (place_type s.context q)) kept) (both_hold_second (not (is_const s.context q)) (is_struct (place_type s.context q)) kept)
   statement_held (call f es result sp) s names scope looped w st fits known functions judging ok on =
       called_means s names scope looped w st f es result sp fits known functions judging (scope.called f) refl ok on
   statement_held (choose a xs ys) s names scope looped w st fits known functions judging ok on =
-      let test = and_left (expr_fits s.context a && is_scalar (Some (type_of s.context a))) (stmts_fit (within s scope) looped xs && stmts_fit (within s scope) looped ys) ok in
-      let both = and_right (expr_fits s.context a && is_scalar (Some (type_of s.context a))) (stmts_fit (within s scope) looped xs && stmts_fit (within s scope) looped ys) ok in
-      let said = and_right (is_null a || stands a) (are_said s.context scope.called xs && are_said s.context scope.called ys) on in
+      let test = both_hold_first (expr_fits s.context a && is_scalar (Some (type_of s.context a))) (stmts_fit (within s scope) looped xs && stmts_fit (within s scope) looped ys) ok in
+      let both = both_hold_second (expr_fits s.context a && is_scalar (Some (type_of s.context a))) (stmts_fit (within s scope) looped xs && stmts_fit (within s scope) looped ys) ok in
+      let said = both_hold_second (is_null a || stands a) (are_said s.context scope.called xs && are_said s.context scope.called ys) on in
       choose_means s w st a xs ys (statements_trees names s.context xs) (statements_trees names s.context ys)
-      (condition_held s st.env st.structs a fits known (and_left (expr_fits s.context a) (is_scalar (Some (type_of s.context a))) test) (and_right (expr_fits s.context a) (is_scalar (Some (type_of s.context a))) test) (and_left (is_null a || stands a) (are_said s.context scope.called xs && are_said s.context scope.called ys) on))
-      (λ n. statements_held xs s names scope looped w (inside (advanced st n)) fits (known_inside s st n known) (functions_inside s names scope.called st n functions) judging (and_left (stmts_fit (within s scope) looped xs) (stmts_fit (within s scope) looped ys) both) (and_left (are_said s.context scope.called xs) (are_said s.context scope.called ys) said))
-      (λ n. statements_held ys s names scope looped w (inside (advanced st n)) fits (known_inside s st n known) (functions_inside s names scope.called st n functions) judging (and_right (stmts_fit (within s scope) looped xs) (stmts_fit (within s scope) looped ys) both) (and_right (are_said s.context scope.called xs) (are_said s.context scope.called ys) said))
+      (condition_held s st.env st.structs a fits known (both_hold_first (expr_fits s.context a) (is_scalar (Some (type_of s.context a))) test) (both_hold_second (expr_fits s.context a) (is_scalar (Some (type_of s.context a))) test) (both_hold_first (is_null a || stands a) (are_said s.context scope.called xs && are_said s.context scope.called ys) on))
+      (λ n. statements_held xs s names scope looped w (inside (advanced st n)) fits (known_inside s st n known) (functions_inside s names scope.called st n functions) judging (both_hold_first (stmts_fit (within s scope) looped xs) (stmts_fit (within s scope) looped ys) both) (both_hold_first (are_said s.context scope.called xs) (are_said s.context scope.called ys) said))
+      (λ n. statements_held ys s names scope looped w (inside (advanced st n)) fits (known_inside s st n known) (functions_inside s names scope.called st n functions) judging (both_hold_second (stmts_fit (within s scope) looped xs) (stmts_fit (within s scope) looped ys) both) (both_hold_second (are_said s.context scope.called xs) (are_said s.context scope.called ys) said))
   statement_held (repeat xs sp) s names scope looped w st fits known functions judging ok on =
       repeat_means s w st xs sp (statements_trees names s.context xs) (λ n. statements_held xs s names scope true (looping w) (inside (advanced st n)) fits (known_inside s st n known) (functions_inside s names scope.called st n functions) (in_loop s scope looped w judging) ok on)
   statement_held break_out s names scope looped w st fits known functions judging ok on = breaks s w st (judging.in_loop ok)
@@ -141,8 +140,8 @@ mutual
   statements_held no_stmts s names scope looped w st fits known functions judging ok on = record { fine = refl; state = advanced_none st; same = λ exprs listed st1 st1' al. record { alike = al; same = tt } }
   statements_held (stmt_and a xs) s names scope looped w st fits known functions judging ok on =
       means_behind s w st (statement_trees names s.context a) (statements_trees names s.context xs) (does a (frame_of s) s.core_calls) (do_all xs (frame_of s) s.core_calls)
-      (statement_held a s names scope looped w st fits known functions judging (and_left (stmt_fits (within s scope) looped a) (stmts_fit (within s scope) looped xs) ok) (and_left (is_said s.context scope.called a) (are_said s.context scope.called xs) on))
-      (λ n. statements_held xs s names scope looped w (advanced st n) fits known functions judging (and_right (stmt_fits (within s scope) looped a) (stmts_fit (within s scope) looped xs) ok) (and_right (is_said s.context scope.called a) (are_said s.context scope.called xs) on))
+      (statement_held a s names scope looped w st fits known functions judging (both_hold_first (stmt_fits (within s scope) looped a) (stmts_fit (within s scope) looped xs) ok) (both_hold_first (is_said s.context scope.called a) (are_said s.context scope.called xs) on))
+      (λ n. statements_held xs s names scope looped w (advanced st n) fits known functions judging (both_hold_second (stmt_fits (within s scope) looped a) (stmts_fit (within s scope) looped xs) ok) (both_hold_second (is_said s.context scope.called a) (are_said s.context scope.called xs) on))
 
 -- ---- the laws
 

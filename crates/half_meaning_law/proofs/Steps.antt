@@ -4,6 +4,7 @@ use Rattle.std.specs.Prelude.{◌&&◌, ◌||◌}
 use Rattle.pt_base.specs.declared.int_type.IntType.{IntType}
 use Rattle.pt_base.specs.declared.int_type.IntType.TheVariants as i
 use Rattle.pt_base.specs.declared.span.Span.{Span}
+use Rattle.pt_base.proofs.Lists.{append_nil}
 use Rattle.runs.specs.State.{gives, trapped, spent, ◌>>=◌}
 use Rattle.pt_tree.specs.declared.signature.Elem.{Elem}
 use Rattle.pt_tree.specs.ExpressionTree as p
@@ -13,6 +14,7 @@ use Rattle.type_rules.specs.declared.types.Type.TheVariants as ty
 use Rattle.type_rules.specs.Types.{value_type, is_bad}
 use Rattle.type_rules.specs.Conversions.{fit_rule, is_wrong}
 use Rattle.type_rules.specs.declared.conversions.Fit.TheVariants as fit
+use Rattle.type_rules.proofs.TypeLemmas.{is_same_elem-self}
 use Rattle.typed_tree.specs.declared.types.VarTy.{VarTy}
 use Rattle.typed_tree.specs.declared.types.VarTy.TheVariants as v
 use Rattle.typed_tree.specs.ExpressionTree as t
@@ -46,8 +48,7 @@ use Rattle.half_meaning_law.specs.Known.{type_as}
 use Rattle.half_meaning_law.specs.Expressions.{Evaluates, IsValue, SameValues, asked, IsFine, ExpressionMeans}
 use Rattle.half_meaning_law.specs.Statements.{code_of, ListedFrom, GoesOn, SameRuns, advanced, StatementsMean}
 use Rattle.half_meaning_law.proofs.Operators.{ev_bind, ev_weaken}
-use Rattle.half_meaning_law.proofs.Types.{elem_self, to_int_same}
-use Rattle.half_meaning_law.proofs.Judged.{append_nothing}
+use Rattle.half_meaning_law.proofs.Types.{to_int_same}
 
 -- ---- one statement
 
@@ -67,8 +68,8 @@ after_none (spent st) = refl
 
 pub one_means : (s : Scene) (w : k.Context) (st : o.State) (a : e.StmtTree) (run : c.State → c.Outcome c.Flow) → StatementMeans s st (checked w st a) run → StatementsMean s st (checked_all w st (e.stmt_trees (a ∷ []))) run
 one_means s w st a run h =
-    subst (λ ts. StatementsMean s st (made ts (one.faults ++ [])) run) (sym (append_nothing one.trees))
-    (subst (λ fs. StatementsMean s st (made one.trees fs) run) (sym (append_nothing one.faults)) (record {
+    subst (λ ts. StatementsMean s st (made ts (one.faults ++ [])) run) (sym (append_nil one.trees))
+    (subst (λ fs. StatementsMean s st (made one.trees fs) run) (sym (append_nil one.faults)) (record {
       fine = h.fine;
       state = h.state;
       same = λ exprs listed st1 st1' al. subst (λ z. Same s (GoesOn s) z (run st1')) (sym (after_none (statement one.tree (code_of s exprs) st1))) (h.same exprs listed st1 st1' al);
@@ -159,7 +160,7 @@ pointer_for s structs a j el f g h is keeps = record {
   good = good_value j.operand.ty j.operand.fixed (c_type s.context a) h.typed;
   fit =
       ap (λ z. is_wrong (fit_rule (ty.Pointer el g) (record { ty = z; null = j.operand.null }))) (h.typed ∙ ap (λ z. type_as (with_const (points_const s.context a) z)) is)
-      ∙ ap (λ z. is_wrong (if z && (g || not (points_const s.context a)) then fit.Points else fit.Wrong)) (elem_self el)
+      ∙ ap (λ z. is_wrong (if z && (g || not (points_const s.context a)) then fit.Points else fit.Wrong)) (is_same_elem-self el)
       ∙ ap (λ z. is_wrong (if z then fit.Points else fit.Wrong)) keeps;
   same = λ at. subst (λ z. SameValues s (v.Pointer el g) (if z then to_null el g (value_tree at j.operand) else to_pointer el g (value_tree at j.operand)) (asked s a)) (sym (h.plain (ap is_pointer is)))
       (pointer_as s (type_of s.context a) el g (value_tree at j.operand) (asked s a) (ap is_pointer is) (h.same at));

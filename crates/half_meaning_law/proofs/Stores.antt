@@ -2,6 +2,7 @@
 use Rattle.std.proofs.Common.{◌≡◌, ◌∙◌, ℕ, refl, ap, sym, subst, Bool, true, false, not, Some, None, [], if◌then◌else◌}
 use Rattle.std.specs.Prelude.{IsTrue, ◌&&◌, ◌||◌}
 use Rattle.pt_base.specs.declared.span.Span.{Span}
+use Rattle.pt_base.proofs.Booleans.{both_hold_first, both_hold_second, true_not_false}
 use Rattle.pt_tree.specs.declared.signature.Elem.{Elem}
 use Rattle.type_rules.specs.declared.types.Value.{Value}
 use Rattle.type_rules.specs.Types.{is_bad}
@@ -11,7 +12,6 @@ use Rattle.typed_tree.specs.declared.types.VarTy.TheVariants as v
 use Rattle.typed_tree.specs.ExpressionTree as t
 use Rattle.typed_tree.specs.ExpressionTree.{typed}
 use Rattle.typed_tree.specs.TypeTests.{is_scalar, same_elem}
-use Rattle.typed_tree.proofs.WellFormedLemmas.{and_left, and_right}
 use Rattle.check_declarations.specs.Structs.{Structs, has_const}
 use Rattle.check_expressions.specs.Environment.{Env}
 use Rattle.check_expressions.specs.Expressions.{Judged, judge}
@@ -27,7 +27,6 @@ use Rattle.half_meaning_law.specs.Relations.{Scene}
 use Rattle.half_meaning_law.specs.CForms.{is_null, stands, is_stored, keeps_const, points_const, with_const, c_type}
 use Rattle.half_meaning_law.specs.Known.{type_as}
 use Rattle.half_meaning_law.specs.Expressions.{asked, IsFine, ExpressionMeans, SceneFits}
-use Rattle.half_meaning_law.proofs.Memories.{differ}
 use Rattle.typed_tree.proofs.SameTypes.{equal_types, equal_elems}
 use Rattle.half_meaning_law.specs.Known.{Known as AllKnown}
 use Rattle.half_meaning_law.proofs.ExpressionLaw.{expr_held, null_is}
@@ -37,27 +36,27 @@ use Rattle.half_meaning_law.proofs.Steps.{ValueFor, integer_for, pointer_for, nu
 
 or_turned : (f g : Bool) → (not f || g) ≡ true → (g || not f) ≡ true
 or_turned true true h = refl
-or_turned true false h = differ (sym h)
+or_turned true false h = true_not_false (sym h)
 or_turned false true h = refl
 or_turned false false h = refl
 
 pub pointer_stands : (el : Elem) (f : Bool) (u : VarTy) → IsTrue (stands_for (v.Pointer el f) u) → (g : Bool) × (u ≡ v.Pointer el g)
-pointer_stands el f (v.Int t) h = differ (sym h)
-pointer_stands el f (v.Struct n) h = differ (sym h)
-pointer_stands el f (v.Array other count) h = differ (sym h)
-pointer_stands el f (v.Pointer other g) h = (g, ap (λ z. v.Pointer z g) (sym (equal_elems el other (and_left (same_elem el other) (not f || g) h))))
+pointer_stands el f (v.Int t) h = true_not_false (sym h)
+pointer_stands el f (v.Struct n) h = true_not_false (sym h)
+pointer_stands el f (v.Array other count) h = true_not_false (sym h)
+pointer_stands el f (v.Pointer other g) h = (g, ap (λ z. v.Pointer z g) (sym (equal_elems el other (both_hold_first (same_elem el other) (not f || g) h))))
 
 no_struct : {X : Type 0} (n : ℕ) (u : VarTy) → IsTrue (is_scalar (Some u)) → IsTrue (stands_for (v.Struct n) u) → X
-no_struct n (v.Int t) ok h = differ (sym h)
-no_struct n (v.Struct k) ok h = differ (sym ok)
-no_struct n (v.Array el count) ok h = differ (sym ok)
-no_struct n (v.Pointer el g) ok h = differ (sym h)
+no_struct n (v.Int t) ok h = true_not_false (sym h)
+no_struct n (v.Struct k) ok h = true_not_false (sym ok)
+no_struct n (v.Array el count) ok h = true_not_false (sym ok)
+no_struct n (v.Pointer el g) ok h = true_not_false (sym h)
 
 no_array : {X : Type 0} (a : Elem) (n : ℕ) (u : VarTy) → IsTrue (is_scalar (Some u)) → IsTrue (stands_for (v.Array a n) u) → X
-no_array a n (v.Int t) ok h = differ (sym h)
-no_array a n (v.Struct k) ok h = differ (sym ok)
-no_array a n (v.Array el count) ok h = differ (sym ok)
-no_array a n (v.Pointer el g) ok h = differ (sym h)
+no_array a n (v.Int t) ok h = true_not_false (sym h)
+no_array a n (v.Struct k) ok h = true_not_false (sym ok)
+no_array a n (v.Array el count) ok h = true_not_false (sym ok)
+no_array a n (v.Pointer el g) ok h = true_not_false (sym h)
 
 -- an expression that stands, for an object of this type
 standing_for : (s : Scene) (structs : Structs) (u : VarTy) (a : ExprTree) (j : Judged) → IsTrue (is_scalar (Some u)) → IsTrue (stands_for (type_of s.context a) u) → IsTrue (keeps_const (c_type s.context a) u) → ExpressionMeans s structs a j → ValueFor s u j.operand (asked s a)
@@ -89,8 +88,8 @@ stored_held s env structs u a fits known ok good into on = go (is_null a) refl o
         subst (λ z. Stored s structs u z (judge env structs (h.expression_tree s.context z))) (sym r.1)
         (subst (λ z. Stored s structs z (null r.0) (judge env structs h.zero_tree)) (sym g.1) (record { fine = record { faults = refl; structs_stay = refl }; value = null_for s r.0 r.0 g.0 }))
     go false e on1 =
-        let held = expr_held s env structs a fits known good (and_left (stands a) (keeps_const (c_type s.context a) u) on1) in
-        record { fine = held.means.fine; value = standing_for s structs u a (judge env structs (h.expression_tree s.context a)) ok into (and_right (stands a) (keeps_const (c_type s.context a) u) on1) held.means }
+        let held = expr_held s env structs a fits known good (both_hold_first (stands a) (keeps_const (c_type s.context a) u) on1) in
+        record { fine = held.means.fine; value = standing_for s structs u a (judge env structs (h.expression_tree s.context a)) ok into (both_hold_second (stands a) (keeps_const (c_type s.context a) u) on1) held.means }
 
 -- ---- what is judged of an assignment
 

@@ -2,6 +2,7 @@
 use Rattle.std.proofs.Common.{◌≡◌, ◌∙◌, ℕ, pos, refl, ap, sym, subst, Bool, true, false, Option, Some, [], ◌∷◌, Ok, if◌then◌else◌}
 use Rattle.std.specs.Prelude.{IsTrue, is_some, slice_index_or}
 use Rattle.pt_base.specs.declared.span.Span.{Span}
+use Rattle.pt_base.proofs.Booleans.{true_not_false}
 use Rattle.runs.specs.State.{gives}
 use Rattle.pt_tree.specs.declared.operator.PrefixOp.TheVariants as p
 use Rattle.pt_tree.specs.declared.signature.Elem.{Elem}
@@ -43,7 +44,7 @@ use Rattle.half_meaning_law.specs.CForms.{is_const, with_const}
 use Rattle.half_meaning_law.specs.Known.{type_as}
 use Rattle.half_meaning_law.specs.Expressions.{IsValue, IsPlace, SamePlaces, SameValues, asked, place_asked, ExpressionMeans}
 use Rattle.half_meaning_law.proofs.Chains.{var_type_as}
-use Rattle.half_meaning_law.proofs.Memories.{differ, map_get}
+use Rattle.half_meaning_law.proofs.Memories.{map_get}
 use Rattle.half_meaning_law.proofs.Operators.{ev_bind}
 use Rattle.half_meaning_law.proofs.Judged.{no_faults, no_chain, Held}
 use Rattle.half_meaning_law.proofs.Places.{ObjectMeans, no_reach}
@@ -67,8 +68,8 @@ cell_same s u st st' at at' al is = record {
 loaded_is : (s : Scene) (u : VarTy) (st : State) (at : m.Location) → IsTrue (is_scalar (Some u)) → at.ty ≡ u → x.loaded (context_of s) at at.ty st ≡ holds (read st.memory at.block at.cell)
 loaded_is s (v.Int t) st at ok is = ap (λ z. x.loaded (context_of s) at z st) is
 loaded_is s (v.Pointer elem f) st at ok is = ap (λ z. x.loaded (context_of s) at z st) is
-loaded_is s (v.Struct n) st at ok is = differ (sym ok)
-loaded_is s (v.Array elem count) st at ok is = differ (sym ok)
+loaded_is s (v.Struct n) st at ok is = true_not_false (sym ok)
+loaded_is s (v.Array elem count) st at ok is = true_not_false (sym ok)
 
 -- what an object of this type is read as
 pub read_same : (s : Scene) (u : VarTy) (y : t.PlaceTree) (q : PlaceTree) → IsTrue (is_scalar (Some u)) → SamePlaces s u y (place_asked s q) → (at : Span) (o : Option VarTy) → SameValues s u (typed at o (t.read y)) (asked s (read_of q))
@@ -80,8 +81,8 @@ read_same s u y q ok same at o st st' al =
 value_scalar : (u : VarTy) (f : Bool) → IsTrue (is_scalar (Some u)) → value_type (type_as u) f ≡ type_as u
 value_scalar (v.Int t) f ok = refl
 value_scalar (v.Pointer elem g) f ok = refl
-value_scalar (v.Struct n) f ok = differ (sym ok)
-value_scalar (v.Array elem count) f ok = differ (sym ok)
+value_scalar (v.Struct n) f ok = true_not_false (sym ok)
+value_scalar (v.Array elem count) f ok = true_not_false (sym ok)
 
 scalar_const : (u : VarTy) → with_const (points_to_const (Some u)) u ≡ u
 scalar_const (v.Int t) = refl
@@ -93,8 +94,8 @@ scalar_form : (u : VarTy) (y : t.PlaceTree) → IsTrue (is_scalar (Some u)) → 
 unfolding read_form
 scalar_form (v.Int t) y ok = refl
 scalar_form (v.Pointer elem g) y ok = refl
-scalar_form (v.Struct n) y ok = differ (sym ok)
-scalar_form (v.Array elem count) y ok = differ (sym ok)
+scalar_form (v.Struct n) y ok = true_not_false (sym ok)
+scalar_form (v.Array elem count) y ok = true_not_false (sym ok)
 
 -- the tree of an object's value
 tree_is : (u : VarTy) (k : Known) (at : Span) → k.ty ≡ type_as u → IsTrue (is_scalar (Some u)) → ((sp : Span) (z : «Type») (f : Bool) → read_tree sp z f k.tree ≡ read_object sp z f (place_of k.tree)) →
@@ -133,10 +134,10 @@ read_held s env structs q tree ok held = record {
 -- ---- arrays as pointers
 
 array_type : (u : VarTy) → IsTrue (is_some (item_of (Some u))) → (elem : Elem) × (count : ℕ) × (u ≡ v.Array elem count)
-array_type (v.Int t) h = differ (sym h)
-array_type (v.Struct n) h = differ (sym h)
+array_type (v.Int t) h = true_not_false (sym h)
+array_type (v.Struct n) h = true_not_false (sym h)
 array_type (v.Array elem count) h = (elem, count, refl)
-array_type (v.Pointer elem g) h = differ (sym h)
+array_type (v.Pointer elem g) h = true_not_false (sym h)
 
 array_tree : (k : Known) (elem : Elem) (count : ℕ) (at : Span) → k.ty ≡ ty.Array elem count → ((sp : Span) (z : «Type») (f : Bool) → read_tree sp z f k.tree ≡ read_object sp z f (place_of k.tree)) →
     value_tree at k ≡ typed at (Some (v.Pointer elem k.fixed)) (t.decay (place_of k.tree))
@@ -193,8 +194,8 @@ single_type : (u : VarTy) → IsTrue (is_some (element_of (Some u))) → (elem :
 unfolding addressed_as address_of
 single_type (v.Int t) h = (el.Int t, refl, refl, λ s at k d. ap (λ z. if z then fine (plain (ty.Pointer (el.Int t) k.fixed) (address_tree s (el.Int t) k.fixed k.tree)) else refused (fault_at NotLvalue at ∷ [])) d)
 single_type (v.Struct n) h = (el.Struct n, refl, refl, λ s at k d. ap (λ z. if z then fine (plain (ty.Pointer (el.Struct n) k.fixed) (address_tree s (el.Struct n) k.fixed k.tree)) else refused (fault_at NotLvalue at ∷ [])) d)
-single_type (v.Array elem count) h = differ (sym h)
-single_type (v.Pointer elem g) h = differ (sym h)
+single_type (v.Array elem count) h = true_not_false (sym h)
+single_type (v.Pointer elem g) h = true_not_false (sym h)
 
 address_same : (s : Scene) (u : VarTy) (elem : Elem) (y : t.PlaceTree) (q : PlaceTree) (at : Span) (o : Option VarTy) → is_pointer u ≡ false → SamePlaces s u y (place_asked s q) → SameValues s (v.Pointer elem false) (typed at o (t.address y)) (asked s (address q))
 address_same s u elem y q at o is same st st' al =

@@ -4,6 +4,8 @@ use Rattle.std.specs.Prelude.{nat_eq}
 use Rattle.std.specs.Fmt.{digits}
 use Rattle.std.specs.Map.{lookup}
 use Rattle.pt_base.specs.declared.int_type.IntType.TheVariants as i
+use Rattle.pt_base.proofs.Booleans.{true_not_false}
+use Rattle.pt_base.proofs.Numbers.{nat_eq_same}
 use Rattle.pt_int.specs.declared.operator.BinOp.TheVariants.{Add}
 use Rattle.pt_tree.specs.declared.signature.Elem.TheVariants as el
 use Rattle.runs.specs.State.{spent}
@@ -19,7 +21,6 @@ use Rattle.half_trees.specs.Expressions.{expression_tree}
 use Rattle.half_meaning_law.specs.Relations.{Scene}
 use Rattle.half_meaning_law.specs.Known.{type_as, object_as, local_id, global_id, Known, VariableKnown, GlobalKnown}
 use Rattle.half_meaning_law.specs.Expressions.{SceneFits, ExpressionMeans}
-use Rattle.half_meaning_law.proofs.Memories.{same_number}
 use Rattle.half_meaning_law.proofs.ExpressionLaw.{expressions}
 use Rattle.pt_tree.specs.declared.signature.Signature.{Signature}
 use Rattle.pt_tree.specs.StatementTree.{stmt_trees}
@@ -33,7 +34,6 @@ use Rattle.half_trees.specs.Statements.{statements_trees}
 use Rattle.half_meaning_law.specs.Relations.{frame_of}
 use Rattle.half_meaning_law.specs.Known.{FunctionsKnown}
 use Rattle.half_meaning_law.specs.Statements.{Judging, StatementsMean}
-use Rattle.half_meaning_law.proofs.Memories.{differ}
 use Rattle.half_meaning_law.proofs.StatementLaw.{blocks}
 
 abbrev int : VarTy
@@ -83,7 +83,7 @@ unfolding digits
 globals_known g u h = go (nat_eq g 4) refl h
   where
     go : (z : Bool) → nat_eq g 4 ≡ z → (if z then Some int else None) ≡ Some u → GlobalKnown scene names g u
-    go true is there = subst (λ k. GlobalKnown scene names k u) (sym (same_number g 4 is)) (subst (λ k. GlobalKnown scene names 4 k) (some there) (record { place = 0; number = refl; named = refl; object = refl; typed = refl; plain = refl }))
+    go true is there = subst (λ k. GlobalKnown scene names k u) (sym (nat_eq_same g 4 is)) (subst (λ k. GlobalKnown scene names 4 k) (some there) (record { place = 0; number = refl; named = refl; object = refl; typed = refl; plain = refl }))
       where
         some : Some int ≡ Some u → int ≡ u
         some e = cc
@@ -117,7 +117,7 @@ abbrev within : Context
 within = record { result = Void; in_loop = false; in_switch = false }
 
 judging : Judging scene scope false within
-judging = record { context = refl; result = refl; in_loop = λ e. differ (sym e); calls = λ span span' f signature vs xs st st' e. none e }
+judging = record { context = refl; result = refl; in_loop = λ e. true_not_false (sym e); calls = λ span span' f signature vs xs st st' e. none e }
   where
     none : {X : Type 0} {signature : Signature} → None ≡ Some signature → X
     none e = cc

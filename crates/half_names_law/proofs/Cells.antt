@@ -5,19 +5,16 @@ use Rattle.std.proofs.lemmas.Int.{ints}
 use Rattle.std.proofs.Math.Nat.{mod-eq_of_lt}
 use Rattle.pt_base.specs.declared.int_type.IntType.{IntType}
 use Rattle.pt_base.specs.declared.int_type.IntType.TheVariants.{Char, SChar, UChar, Short, UShort, Int, UInt, Long, ULong}
-use Rattle.pt_base.specs.IntTypes.{InRange, low_of, high_of, width_of}
+use Rattle.pt_base.specs.IntTypes.{InRange, width_of}
 use Rattle.pt_int.specs.Conversion.{conv, is_in_range, SameModulo}
 use Rattle.pt_int.proofs.Conversions.{conversion, conv-same}
 use Rattle.pt_int.proofs.OneConversion.{one-conversion}
-use Rattle.half_names_law.proofs.Objects.{both_hold}
+use Rattle.pt_int.proofs.Ranges.{in_range-test as in_range}
 
 -- ---- one number
 
 ranges : (a v b : ℤ) → int_le a v ≡ true → int_le v b ≡ true → (a ≤ℤ v) × (v ≤ℤ b)
 ranges a v b p q = (grind (arith, ints, p), grind (arith, ints, q))
-
-in_range : (t : IntType) (v : ℤ) → is_in_range t v ≡ true → InRange t v
-in_range t v h = let parts = both_hold (int_le (low_of t) v) (int_le v (high_of t)) h in ranges (low_of t) v (high_of t) parts.0 parts.1
 
 -- the number that the constant is
 abbrev pub cell_number : ℤ → ℤ

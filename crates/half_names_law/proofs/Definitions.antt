@@ -1,20 +1,21 @@
 -- What the definition of a function adds that was declared before: its body, and no name.
-use Rattle.std.proofs.Common.{◌≡◌, ◌++◌, ◌∙◌, ◌≤◌, sym, ap, refl, ℕ, Bool, true, false, List, [], ◌∷◌, length, Option, Some, arith}
+use Rattle.std.proofs.Common.{◌≡◌, ◌++◌, ◌∙◌, ◌≤◌, sym, ap, refl, ℕ, Bool, true, false, List, [], ◌∷◌, length, Option, Some}
 use Rattle.std.specs.Prelude.{not, ◌&&◌, ◌||◌, nat_eq, slice_get}
 use Rattle.std.specs.Option.{option_map_or}
-use Rattle.std.proofs.lemmas.Bool.Decides.{nat_tests}
 use Rattle.std.proofs.lemmas.List.{append_assoc}
-use Rattle.pt_base.specs.declared.int_type.IntType.{IntType}
+use Rattle.std.proofs.lemmas.Bool.{and_from}
 use Rattle.pt_base.specs.declared.int_type.IntType.TheVariants as t
-use Rattle.pt_tree.specs.declared.signature.Elem.{Elem}
+use Rattle.pt_base.proofs.Numbers.{nat_eq_self}
 use Rattle.pt_tree.specs.declared.signature.Elem.TheVariants as e
 use Rattle.pt_tree.specs.declared.signature.Signature.{Signature}
 use Rattle.pt_tree.specs.StatementTree.{BlockTree, StmtTree, stmt_trees}
 use Rattle.type_rules.specs.declared.types.Type.{«Type»}
 use Rattle.type_rules.specs.declared.types.Type.TheVariants.{Bad, Void, Int, Struct, Array, Pointer}
-use Rattle.type_rules.specs.Types.{is_same_int, is_same_elem}
+use Rattle.type_rules.specs.Types.{is_same_elem}
+use Rattle.type_rules.proofs.TypeLemmas.{is_same_elem-self, is_same_int-self}
 use Rattle.typed_tree.specs.declared.types.StructInfo.{StructInfo}
 use Rattle.typed_tree.specs.TypeTests.{same_bool}
+use Rattle.typed_tree.proofs.SameTypes.{bool_self}
 use Rattle.check_declarations.specs.declared.fault.FaultKind.TheVariants.{Redeclared, TooLarge}
 use Rattle.check_declarations.specs.Faults.{fault_if}
 use Rattle.check_declarations.specs.NameTables.{number_of, value_at}
@@ -41,45 +42,20 @@ use Rattle.half_names_law.proofs.Prototypes.{Rest, at}
 
 -- ---- what agrees with itself
 
-int_self : (t : IntType) → is_same_int t t ≡ true
-int_self t.Char = refl
-int_self t.SChar = refl
-int_self t.UChar = refl
-int_self t.Short = refl
-int_self t.UShort = refl
-int_self t.Int = refl
-int_self t.UInt = refl
-int_self t.Long = refl
-int_self t.ULong = refl
-
-number_self : (n : ℕ) → nat_eq n n ≡ true
-number_self n = grind (arith, nat_tests)
-
-elems_agree : (d : Elem) → is_same_elem d d ≡ true
-elems_agree (e.Int t) = int_self t
-elems_agree (e.Struct n) = number_self n
-
-bools_agree : (b : Bool) → same_bool b b ≡ true
-bools_agree true = refl
-bools_agree false = refl
-
-both_so : (a b : Bool) → a ≡ true → b ≡ true → (a && b) ≡ true
-both_so a b p q = λ i. p i && q i
-
 type_agrees : (t : «Type») → agree t t ≡ true
 type_agrees Bad = refl
 type_agrees Void = refl
-type_agrees (Int t) = int_self t
-type_agrees (Struct n) = number_self n
-type_agrees (Array d count) = both_so (is_same_elem d d) (nat_eq count count) (elems_agree d) (number_self count)
-type_agrees (Pointer d fixed) = both_so (is_same_elem d d) (same_bool fixed fixed) (elems_agree d) (bools_agree fixed)
+type_agrees (Int t) = is_same_int-self t
+type_agrees (Struct n) = nat_eq_self n
+type_agrees (Array d count) = and_from (is_same_elem d d) (nat_eq count count) (is_same_elem-self d) (nat_eq_self count)
+type_agrees (Pointer d fixed) = and_from (is_same_elem d d) (same_bool fixed fixed) (is_same_elem-self d) (bool_self fixed)
 
 types_agree : (ts : List «Type») → all_agree ts ts ≡ true
 types_agree [] = refl
-types_agree (t ∷ ts) = both_so (agree t t) (all_agree ts ts) (type_agrees t) (types_agree ts)
+types_agree (t ∷ ts) = and_from (agree t t) (all_agree ts ts) (type_agrees t) (types_agree ts)
 
 no_difference : (f : Callable) → differ f f ≡ false
-no_difference f = λ i. not (both_so (agree f.result f.result) (all_agree f.params f.params) (type_agrees f.result) (types_agree f.params) i)
+no_difference f = λ i. not (and_from (agree f.result f.result) (all_agree f.params f.params) (type_agrees f.result) (types_agree f.params) i)
 
 -- ---- one definition
 

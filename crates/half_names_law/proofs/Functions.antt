@@ -6,6 +6,9 @@ use Rattle.std.specs.List.{list_all}
 use Rattle.std.proofs.lemmas.Bool.Decides.{nat_tests}
 use Rattle.std.proofs.lemmas.List.{append_assoc}
 use Rattle.std.proofs.lemmas.List.Sums.{sum_by-cons}
+use Rattle.pt_base.proofs.Booleans.{and_parts}
+use Rattle.pt_base.proofs.Lists.{append_nil}
+use Rattle.pt_base.proofs.Places.{get_mapped}
 use Rattle.pt_tree.specs.declared.signature.Signature.{Signature}
 use Rattle.pt_tree.specs.StatementTree.{StmtTrees, stmt_trees}
 use Rattle.typed_tree.specs.declared.variable.Var.{Var}
@@ -39,13 +42,12 @@ use Rattle.half_names_law.specs.Declarable.{variable_cells, has_small_frame}
 use Rattle.half_names_law.specs.Standing.{Marks, body_context}
 use Rattle.half_names_law.proofs.Tables.{Differ}
 use Rattle.half_names_law.proofs.TextNames.{locals_differ}
-use Rattle.half_names_law.proofs.Objects.{both_hold}
 use Rattle.half_names_law.proofs.Parameters.{names_of, variables_of, scoped}
 use Rattle.half_names_law.proofs.Heads.{callable_as}
 use Rattle.half_names_law.proofs.Prototypes.{Rest, at, marked_param}
 use Rattle.half_names_law.proofs.Locals.{declaration_trees}
 use Rattle.half_names_law.proofs.Definitions.{at_body, definition_added, trees_joined}
-use Rattle.half_names_law.proofs.Numbers.{lookup_place, mapped_there, once_there}
+use Rattle.half_names_law.proofs.Numbers.{lookup_place, once_there}
 use Rattle.half_names_law.proofs.Table.{then_rest}
 use Rattle.half_names_law.proofs.Names.{text_name, callable_in, half_file, half_env, global_object, function_found, function_meant}
 use Rattle.half_names_law.proofs.Parts.{marked_var, parameters_in, definition_is, half_variables, variables_are, locals_declared}
@@ -69,7 +71,7 @@ checked_statements marks monitor p structs next f s =
 callable_there : (monitor : Bool) (p : ProgramTree) (marks : Marks) (structs : Structs) (f : FunctionTree) (s : Signature) (k : ℕ) → FunctionFits marks monitor p structs f s → slice_get p.signatures k ≡ Some (f.id, s)
     → slice_get (map (callable_in monitor p) p.signatures) k ≡ Some (callable_as (text_name (f.id, s)) s.result (parameters_in f))
 callable_there monitor p marks structs f s k fits there =
-    mapped_there (callable_in monitor p) p.signatures k (f.id, s) there
+    get_mapped (callable_in monitor p) p.signatures k (f.id, s) there
     ∙ ap (λ g. Some (callable_as (text_name (f.id, s)) (with_own monitor g s).result (map marked_param (with_own monitor g s).params))) fits.found
     ∙ (λ i. Some (record { name = text_name (f.id, s); result = result_as (own_result monitor f s i); params = sym fits.types i }))
   where
@@ -184,7 +186,7 @@ still_fresh marks monitor p structs r f fs s k first rise place fresh n g j t th
     apart : j ≡ k → ⊥
     apart e =
         let same : g.id ≡ f.id = same_first (g.id, t) (f.id, s) (sym named ∙ ap (slice_get p.signatures) e ∙ place) in
-        let places = once_there first (map (λ x. x.id) (f ∷ fs)) 0 (suc n) f.id rise refl (mapped_there (λ x. x.id) fs n g there ∙ ap Some same) in omega (arith, places)
+        let places = once_there first (map (λ x. x.id) (f ∷ fs)) 0 (suc n) f.id rise refl (get_mapped (λ x. x.id) fs n g there ∙ ap Some same) in omega (arith, places)
 
 -- ---- all functions
 
@@ -265,14 +267,10 @@ entry_other fs k j vars b other = go (slice_get fs k)
     go None = refl
     go (Some f) = set_other fs k j (with_parts f nowhere vars b) other
 
-nothing_more : {A : Type 0} (xs : List A) → xs ++ [] ≡ xs
-nothing_more [] = refl
-nothing_more (x ∷ xs) = ap (λ ys. x ∷ ys) (nothing_more xs)
-
 pub functions_added : (bodies : BodiesKeepTheirMeaning) (marks : Marks) (monitor : Bool) (p : ProgramTree) (structs : Structs) (r : Rest) (first start : ℕ) (fs later : List FunctionTree) → HalfFits monitor p structs → FunctionsFit marks monitor p structs
     → ((n : ℕ) (f : FunctionTree) → slice_get (fs ++ later) n ≡ Some f → slice_get p.functions (start + n) ≡ Some f) → are_rising first (map (λ g. g.id) (fs ++ later)) ≡ true → Fresh p r (fs ++ later)
     → Passes (checked_items marks (at (half_env monitor p) structs r) (map (function_item p) fs)) (half_env monitor p) structs (list_all (has_small_frame p) fs ≡ true) (Behind p fs later r)
-functions_added bodies marks monitor p structs r first start [] later half fit among rise fresh = record { rest = r; is = refl; faults = λ h. refl; holds = record { fresh = fresh; main = refl; globals = refl; more = []; grown = sym (nothing_more r.exprs); kept = λ k none. refl } }
+functions_added bodies marks monitor p structs r first start [] later half fit among rise fresh = record { rest = r; is = refl; faults = λ h. refl; holds = record { fresh = fresh; main = refl; globals = refl; more = []; grown = sym (append_nil r.exprs); kept = λ k none. refl } }
 functions_added bodies marks monitor p structs r first start (f ∷ fs) later half fit among rise fresh =
     let there : slice_get p.functions start ≡ Some f = ap (slice_get p.functions) (omega arith) ∙ among 0 f refl in
     let own = fit start f there in
@@ -281,14 +279,14 @@ functions_added bodies marks monitor p structs r first start (f ∷ fs) later ha
     let k = place.place in
     let one = function_added bodies marks monitor p structs r start f s k half own.fits there place.there (fresh 0 f k s refl place.there) in
     let again = functions_added bodies marks monitor p structs (with_function marks monitor p structs r f s k) (suc f.id) (suc start) fs later half fit
-    (λ n g e. ap (slice_get p.functions) (next start n) ∙ among (suc n) g e) (both_hold (nat_le first f.id) (are_rising (suc f.id) (map (λ g. g.id) (fs ++ later))) rise).1
+    (λ n g e. ap (slice_get p.functions) (next start n) ∙ among (suc n) g e) (and_parts (nat_le first f.id) (are_rising (suc f.id) (map (λ g. g.id) (fs ++ later))) rise).1
     (still_fresh marks monitor p structs r f (fs ++ later) s k first rise place.there fresh) in
     let whole = ap (then_rest marks (map (function_item p) fs)) one in
     record {
       rest = again.rest;
       is = ap (λ c. c.progress) whole ∙ again.is;
       faults = λ small.
-          let parts = both_hold (has_small_frame p f) (list_all (has_small_frame p) fs) small in
+          let parts = and_parts (has_small_frame p f) (list_all (has_small_frame p) fs) small in
           ap (λ c. c.faults) whole ∙ (λ i. small_frame marks monitor p structs f s own.fits parts.0 i ++ again.faults parts.1 i);
       holds = record {
         fresh = again.holds.fresh;

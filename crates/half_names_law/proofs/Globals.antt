@@ -4,6 +4,7 @@ use Rattle.std.specs.Prelude.{not, ◌&&◌, slice_get, if◌then◌else◌, ◌
 use Rattle.std.proofs.lemmas.Bool.Decides.{nat_tests}
 use Rattle.pt_base.specs.declared.int_type.IntType.{IntType}
 use Rattle.pt_base.specs.declared.int_type.IntType.TheVariants as i
+use Rattle.pt_base.proofs.Booleans.{and_with_false}
 use Rattle.pt_tree.specs.ExpressionTree.{ExprTree, ExprTrees, expr_trees}
 use Rattle.pt_tree.specs.StatementTree.{DeclarationTree}
 use Rattle.type_rules.specs.declared.types.Type.{«Type»}
@@ -73,17 +74,13 @@ items_by env structs leaves counts n a es leaf =
     let rest = global_items env one.structs leaves (counts && is_some leaf) (n + 1) es in
     record { structs = rest.structs; values = one.values ++ rest.values; faults = one.faults ++ excess_faults counts leaf a ++ rest.faults }
 
-and_none : (a : Bool) → (a && false) ≡ false
-and_none true = refl
-and_none false = refl
-
 items_fine : (env : Env) (structs : Structs) (leaves : List «Type») (counts : Bool) (n : ℕ) (v : ℤ) (es : ExprTrees) (t : IntType) → IsFine structs (global_items env structs leaves (counts && true) (n + 1) es)
     → IsFine structs (items_by env structs leaves counts n (cell_tree v) es (Some (ty.Int t)))
 items_fine env structs leaves counts n v es t rest =
     let one = cell_fine env structs t v in
     record {
       structs_stay = ap (λ ss. (global_items env ss leaves (counts && true) (n + 1) es).structs) one.structs_stay ∙ rest.structs_stay;
-      faults = (λ i. one.faults i ++ fault_if (and_none counts i) WrongType (span_of (cell_tree v)) ++ (global_items env (one.structs_stay i) leaves (counts && true) (n + 1) es).faults) ∙ rest.faults;
+      faults = (λ i. one.faults i ++ fault_if (and_with_false counts i) WrongType (span_of (cell_tree v)) ++ (global_items env (one.structs_stay i) leaves (counts && true) (n + 1) es).faults) ∙ rest.faults;
     }
 
 cells_fine : (env : Env) (structs : Structs) (leaves : List «Type») (counts : Bool) (n : ℕ) (cells : List ℤ) → HasCells leaves n (length cells) → IsFine structs (global_items env structs leaves counts n (expr_trees (map cell_tree cells)))

@@ -3,6 +3,8 @@ use Rattle.std.proofs.Common.{◌≡◌, ◌++◌, ◌∙◌, ◌<◌, ◌+◌, 
 use Rattle.std.specs.Prelude.{slice_get}
 use Rattle.std.specs.List.{flat_map}
 use Rattle.pt_base.specs.declared.int_type.IntType.{IntType}
+use Rattle.pt_base.proofs.Booleans.{and_parts}
+use Rattle.pt_base.proofs.Lists.{append_nil}
 use Rattle.pt_int.specs.Conversion.{is_in_range}
 use Rattle.type_rules.specs.declared.types.Type.TheVariants as ty
 use Rattle.typed_tree.specs.declared.types.Field.{Field}
@@ -23,7 +25,7 @@ use Rattle.type_law.proofs.DeclarationsLeavesLemmas.{leaves_are_sound}
 use Rattle.half_trees.specs.Names.{nowhere}
 use Rattle.half_meaning_law.specs.Known.{type_as}
 use Rattle.half_names_law.proofs.Tables.{listed}
-use Rattle.half_names_law.proofs.Objects.{object_type_is, both_hold, Fits, sized}
+use Rattle.half_names_law.proofs.Objects.{object_type_is, Fits, sized}
 use Rattle.half_names_law.proofs.Structs.{entry_of, fields_as}
 use Rattle.half_names_law.proofs.Table.{IsTable, plain_as}
 use Rattle.half_names_law.proofs.Globals.{HasCells, HasNumbers}
@@ -65,21 +67,17 @@ fit_length : (ts : List IntType) (vs : List ℤ) → cells_fit ts vs ≡ true �
 fit_length [] [] h = refl
 fit_length [] (v ∷ vs) h = cc
 fit_length (t ∷ ts) [] h = cc
-fit_length (t ∷ ts) (v ∷ vs) h = ap suc (fit_length ts vs (both_hold (is_in_range t v) (cells_fit ts vs) h).1)
+fit_length (t ∷ ts) (v ∷ vs) h = ap suc (fit_length ts vs (and_parts (is_in_range t v) (cells_fit ts vs) h).1)
 
 mapped_at : (ts : List IntType) (j : ℕ) → j < length ts → (t : IntType) × (slice_get (map ty.Int ts) j ≡ Some (ty.Int t))
 mapped_at [] j h = absurd (omega (arith, h))
 mapped_at (t ∷ ts) zero h = (t, refl)
 mapped_at (t ∷ ts) (suc j) h = mapped_at ts j (omega (arith, h))
 
-nothing_more : {A : Type 0} (xs : List A) → xs ++ [] ≡ xs
-nothing_more [] = refl
-nothing_more (x ∷ xs) = ap (λ ys. x ∷ ys) (nothing_more xs)
-
 table_leaves : (structs : Structs) (infos : List StructInfo) (u : VarTy) → IsTable structs infos (length infos) → Fits structs infos u → is_plain_type (length infos) u ≡ true → leaves_of structs (type_as u) ≡ map ty.Int (typed.leaves_of infos u)
 table_leaves structs infos u table fits plain =
-    leaves_are_sound structs [] (type_as u) nowhere (subst SoundStructs (sym (nothing_more structs)) table.sound) (subst (λ n. is_plain n (type_as u) ≡ true) (sym table.long) (plain_as (length infos) u plain)) (sized structs (type_as u) u refl fits.small)
-    ∙ (λ i. map ty.Int (typed.leaves_of (infos_of (nothing_more structs i)) (object_type_is u i)))
+    leaves_are_sound structs [] (type_as u) nowhere (subst SoundStructs (sym (append_nil structs)) table.sound) (subst (λ n. is_plain n (type_as u) ≡ true) (sym table.long) (plain_as (length infos) u plain)) (sized structs (type_as u) u refl fits.small)
+    ∙ (λ i. map ty.Int (typed.leaves_of (infos_of (append_nil structs i)) (object_type_is u i)))
     ∙ ap (map ty.Int) (leaves_stay structs infos u table)
 
 pub cells_there : (structs : Structs) (infos : List StructInfo) (u : VarTy) (cells : List ℤ) → IsTable structs infos (length infos) → Fits structs infos u → is_plain_type (length infos) u ≡ true → cells_fit (typed.leaves_of infos u) cells ≡ true
@@ -97,11 +95,11 @@ numbers_in : (ts : List IntType) (cells : List ℤ) → cells_fit ts cells ≡ t
 numbers_in [] [] h j v e = cc
 numbers_in [] (w ∷ ws) h j v e = cc
 numbers_in (t ∷ ts) [] h j v e = cc
-numbers_in (t ∷ ts) (w ∷ ws) h zero v e = (t, refl, ap (is_in_range t) (sym (same e)) ∙ (both_hold (is_in_range t w) (cells_fit ts ws) h).0)
+numbers_in (t ∷ ts) (w ∷ ws) h zero v e = (t, refl, ap (is_in_range t) (sym (same e)) ∙ (and_parts (is_in_range t w) (cells_fit ts ws) h).0)
   where
     same : Some w ≡ Some v → w ≡ v
     same e = cc
-numbers_in (t ∷ ts) (w ∷ ws) h (suc j) v e = numbers_in ts ws (both_hold (is_in_range t w) (cells_fit ts ws) h).1 j v e
+numbers_in (t ∷ ts) (w ∷ ws) h (suc j) v e = numbers_in ts ws (and_parts (is_in_range t w) (cells_fit ts ws) h).1 j v e
 
 pub numbers_there : (structs : Structs) (infos : List StructInfo) (u : VarTy) (cells : List ℤ) → IsTable structs infos (length infos) → Fits structs infos u → is_plain_type (length infos) u ≡ true → cells_fit (typed.leaves_of infos u) cells ≡ true
     → HasNumbers (leaves_of structs (type_as u)) 0 cells
@@ -114,8 +112,8 @@ numbers_there structs infos u cells table fits plain fit j v e =
 pub cells_same : (structs : Structs) (infos : List StructInfo) (u : VarTy) (cells : List ℤ) → IsTable structs infos (length infos) → Fits structs infos u → is_plain_type (length infos) u ≡ true → cells_fit (typed.leaves_of infos u) cells ≡ true
     → cells_of structs (type_as u) ≡ length cells
 cells_same structs infos u cells table fits plain fit =
-    let counts = sizes_are_sound structs [] (type_as u) nowhere (subst SoundStructs (sym (nothing_more structs)) table.sound) (subst (λ n. is_plain n (type_as u) ≡ true) (sym table.long) (plain_as (length infos) u plain)) (sized structs (type_as u) u refl fits.small) in
+    let counts = sizes_are_sound structs [] (type_as u) nowhere (subst SoundStructs (sym (append_nil structs)) table.sound) (subst (λ n. is_plain n (type_as u) ≡ true) (sym table.long) (plain_as (length infos) u plain)) (sized structs (type_as u) u refl fits.small) in
     sym counts.0
-    ∙ (λ i. length (typed.leaves_of (infos_of (nothing_more structs i)) (object_type_is u i)))
+    ∙ (λ i. length (typed.leaves_of (infos_of (append_nil structs i)) (object_type_is u i)))
     ∙ ap length (leaves_stay structs infos u table)
     ∙ sym (fit_length (typed.leaves_of infos u) cells fit)

@@ -1,11 +1,14 @@
 -- In what a half declares, all its names are known as its code has them.
 use Rattle.std.proofs.Common.{◌≡◌, ◌∙◌, ◌<◌, ◌≤◌, ◌+◌, ◌^◌, sym, ap, refl, subst, ℕ, zero, suc, Bool, true, false, List, [], ◌∷◌, length, map, Option, Some, None, arith}
-use Rattle.std.specs.Prelude.{◌&&◌, nat_eq, nat_lt, not, slice_get, get_or, option_map, option_and_then, take, if◌then◌else◌}
+use Rattle.std.specs.Prelude.{◌&&◌, nat_eq, nat_lt, not, slice_get, option_map, option_and_then, take, if◌then◌else◌}
 use Rattle.std.specs.Option.{option_map_or}
-use Rattle.std.specs.List.{list_all}
 use Rattle.std.specs.Map.{lookup}
 use Rattle.std.proofs.lemmas.Bool.Decides.{nat_tests}
+use Rattle.std.proofs.lemmas.Option.{get_or_from_slice_get}
 use Rattle.pt_base.specs.declared.int_type.IntType.TheVariants as int
+use Rattle.pt_base.proofs.Booleans.{and_parts, from_not_true}
+use Rattle.pt_base.proofs.Members.{all_true_at}
+use Rattle.pt_base.proofs.Places.{get_below_length, get_mapped, get_there}
 use Rattle.pt_tree.specs.declared.signature.Param.{Param}
 use Rattle.pt_tree.specs.declared.signature.Signature.{Signature}
 use Rattle.typed_tree.specs.declared.types.Field.{Field}
@@ -35,10 +38,9 @@ use Rattle.half_meaning_law.specs.Known.{type_as, object_as, local_id, VariableK
 use Rattle.half_names_law.specs.Standing.{scene_of}
 use Rattle.half_names_law.proofs.Tables.{Differ, listed, listed_at, listed_back, found, sought_first, sought_none}
 use Rattle.half_names_law.proofs.TextNames.{no_local, global_no_local, no_main}
-use Rattle.half_names_law.proofs.Numbers.{lookup_place, number_at, mapped_there, mapped_back}
-use Rattle.half_names_law.proofs.Objects.{both_hold}
+use Rattle.half_names_law.proofs.Numbers.{lookup_place, number_at, mapped_back}
 use Rattle.half_names_law.proofs.Structs.{entry_of, field_entry, fields_as}
-use Rattle.half_names_law.proofs.Table.{IsTable, NamesDiffer, fields_sound, none_const, get_below, get_there}
+use Rattle.half_names_law.proofs.Table.{IsTable, NamesDiffer, fields_sound, none_const}
 use Rattle.half_names_law.proofs.Parameters.{local_entry, scoped}
 use Rattle.half_names_law.proofs.Prototypes.{marked_param}
 use Rattle.half_names_law.proofs.Names.{callable_in, global_object, half_file, half_env, FunctionsApart, GlobalsApart, function_found, function_meant, global_found, global_meant}
@@ -117,21 +119,8 @@ field_there fields all k f is differ there =
         ∙ sought_first (fields_as all) k (entry_of all k f) (listed_at (entry_of all) 0 k k all (omega arith) ∙ ap (option_map (entry_of all k)) there)
         (λ j y less at same. let back = listed_back (entry_of all) 0 j all y at in
         let zero_j : 0 + j ≡ j = omega arith in
-        let low = get_below all k f there in
+        let low = get_below_length all k f there in
         let equal = differ k j low (omega (arith, less, low)) (same ∙ ap (λ z. z.0) back.2 ∙ ap (field_by all) zero_j) in omega (arith, less, equal))
-
-pub get_is : {A : Type 0} (xs : List A) (k : ℕ) (x d : A) → slice_get xs k ≡ Some x → get_or xs k d ≡ x
-get_is [] k x d h = cc
-get_is (y ∷ ys) zero x d h = cc
-get_is (y ∷ ys) (suc k) x d h = get_is ys k x d h
-
-pub all_there : {A : Type 0} (q : A → Bool) (xs : List A) (k : ℕ) (x : A) → list_all q xs ≡ true → slice_get xs k ≡ Some x → q x ≡ true
-all_there q [] k x h is = cc
-all_there q (y ∷ ys) zero x h is = ap q (sym (same is)) ∙ (both_hold (q y) (list_all q ys) h).0
-  where
-    same : Some y ≡ Some x → y ≡ x
-    same e = cc
-all_there q (y ∷ ys) (suc k) x h is = all_there q ys k x (both_hold (q y) (list_all q ys) h).1 is
 
 -- a struct that has a field is one of the half's
 struct_below : (infos : List StructInfo) (n k : ℕ) → k < length (fields_of infos n) → n < length infos
@@ -156,14 +145,14 @@ field_known s structs n k table differ sound low =
     let there = get_there all k low in
     let x = get_there structs n (omega (arith, near, long)) in
     let own = table.entries n x.0 x.1 in
-    let is : field_type infos (v.Struct n) k ≡ there.0.ty = ap (λ f. f.ty) (get_is all k there.0 (record { name = []; ty = v.Int int.Int; marked = false }) there.1) in
-    let plain = all_there (field_sound infos n) all k there.0 (fields_sound infos n sound near).1 there.1 in
+    let is : field_type infos (v.Struct n) k ≡ there.0.ty = ap (λ f. f.ty) (get_or_from_slice_get all k there.0 (record { name = []; ty = v.Int int.Int; marked = false }) there.1) in
+    let plain = all_true_at (field_sound infos n) all k there.0 (fields_sound infos n sound near).1 there.1 in
     record {
       entry = field_entry there.0;
       named = ap (λ o. option_and_then (λ fields. found_in fields (field_by all k)) (option_map (λ s. s.fields) (option_map (λ e. e.1) o))) x.1 ∙ field_there x.0.1.fields all k there.0 own.fields (differ.fields n near) there.1;
       typed = ap type_as (sym is);
       changes = refl;
-      plain = ap is_pointer is ∙ plain_none n there.0.ty (both_hold (is_plain_type n there.0.ty) (is_small infos there.0.ty) plain).0;
+      plain = ap is_pointer is ∙ plain_none n there.0.ty (and_parts (is_plain_type n there.0.ty) (is_small infos there.0.ty) plain).0;
     }
 
 -- ---- all of a half
@@ -199,14 +188,14 @@ global_known monitor p f frames frame calls core_calls ys n u apart plain h =
     let g = global_pair p.globals n u at.place at.there in
     record {
       place = at.place;
-      number = number_at 0 (map (λ g. g.id) p.globals) at.place n (mapped_there (λ g. g.id) p.globals at.place g.0 g.1 ∙ ap Some g.2);
+      number = number_at 0 (map (λ g. g.id) p.globals) at.place n (get_mapped (λ g. g.id) p.globals at.place g.0 g.1 ∙ ap Some g.2);
       named =
           no_variable f.vars (global_name n) (half_file p) (λ v. global_no_local n v)
           ∙ ap (find_in (half_file p)) (ap global_name (sym g.2))
           ∙ ap (meaning_at (half_file p)) (global_found p.signatures p.globals at.place g.0 apart.globals g.1)
           ∙ global_meant p.signatures p.globals at.place g.0 g.1;
-      object = ap (λ o. option_map_or (λ x. x) o no_object) (mapped_there global_object p.globals at.place g.0 g.1) ∙ ap object_as g.3;
-      typed = get_is (map (λ g. g.var.ty) p.globals) at.place u (v.Int int.Int) (mapped_there (λ g. g.var.ty) p.globals at.place g.0 g.1 ∙ ap Some g.3);
+      object = ap (λ o. option_map_or (λ x. x) o no_object) (get_mapped global_object p.globals at.place g.0 g.1) ∙ ap object_as g.3;
+      typed = get_or_from_slice_get (map (λ g. g.var.ty) p.globals) at.place u (v.Int int.Int) (get_mapped (λ g. g.var.ty) p.globals at.place g.0 g.1 ∙ ap Some g.3);
       plain = ap is_pointer (sym g.3) ∙ plain at.place g.0 g.1;
     }
 
@@ -246,7 +235,7 @@ own_main monitor (Some g) s = go (monitor && not s.host)
     go true = refl
     go false = refl
 
-called_from : (monitor : Bool) (p : ProgramTree) (f : ℕ) (signature : Signature) → called_signature monitor p f ≡ Some signature → (s : Signature) × (signature_at p f ≡ Some s) × (with_own monitor (function_at p f) s ≡ signature)
+pub called_from : (monitor : Bool) (p : ProgramTree) (f : ℕ) (signature : Signature) → called_signature monitor p f ≡ Some signature → (s : Signature) × (signature_at p f ≡ Some s) × (with_own monitor (function_at p f) s ≡ signature)
 called_from monitor p f signature h = go (signature_at p f) refl h
   where
     go : (o : Option Signature) → signature_at p f ≡ o → option_map (with_own monitor (function_at p f)) o ≡ Some signature → (s : Signature) × (signature_at p f ≡ Some s) × (with_own monitor (function_at p f) s ≡ signature)
@@ -260,10 +249,6 @@ params_fused : (ps : List Param) → map (λ q. type_as q.ty) (map marked_param 
 params_fused [] = refl
 params_fused (x ∷ ps) = ap (λ ts. type_as (param_type x.kind) ∷ ts) (params_fused ps)
 
-not_main : (b : Bool) → not b ≡ true → b ≡ false
-not_main true h = cc
-not_main false h = refl
-
 function_known : (monitor : Bool) (p : ProgramTree) (f : FunctionTree) (frames : ℕ → List VarTy) (frame : sm.Frame) (calls : sm.Calls) (core_calls : c.Calls) (ys : List Variable) (n : ℕ) (s : Signature)
     → NamesApart p → signature_at p n ≡ Some s → not (m.is_main (with_own monitor (function_at p n) s)) ≡ true
     → FunctionKnown (scene_of p f frames frame calls core_calls) p.signatures (standing monitor p f.vars ys) n (with_own monitor (function_at p n) s)
@@ -271,15 +256,15 @@ function_known monitor p f frames frame calls core_calls ys n s apart there othe
     let at = lookup_place p.signatures n s there in
     record {
       place = at.place;
-      number = number_at 0 (map (λ x. x.0) p.signatures) at.place n (mapped_there (λ x. x.0) p.signatures at.place (n, s) at.there);
+      number = number_at 0 (map (λ x. x.0) p.signatures) at.place n (get_mapped (λ x. x.0) p.signatures at.place (n, s) at.there);
       named =
           ap (λ o. find (standing monitor p f.vars ys) (function_by n o)) there
           ∙ no_variable f.vars (function_by n (Some s)) (half_file p) (λ v. no_local n s v)
           ∙ ap (meaning_at (half_file p)) (function_found p.signatures p.globals at.place (n, s) apart.functions at.there)
           ∙ function_meant p.signatures p.globals at.place (n, s) at.there;
       callable = callable_in monitor p (n, s);
-      known = mapped_there (callable_in monitor p) p.signatures at.place (n, s) at.there;
-      no_main = no_main n s (sym (own_main monitor (function_at p n) s) ∙ not_main (m.is_main (with_own monitor (function_at p n) s)) other);
+      known = get_mapped (callable_in monitor p) p.signatures at.place (n, s) at.there;
+      no_main = no_main n s (sym (own_main monitor (function_at p n) s) ∙ from_not_true (m.is_main (with_own monitor (function_at p n) s)) other);
       params = params_fused (with_own monitor (function_at p n) s).params;
       result = refl;
     }

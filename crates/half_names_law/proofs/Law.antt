@@ -7,6 +7,10 @@ use Rattle.std.proofs.lemmas.Bool.Decides.{nat_tests}
 use Rattle.std.proofs.lemmas.List.{take-append-drop}
 use Rattle.pt_base.specs.declared.int_type.IntType.{IntType}
 use Rattle.pt_base.specs.declared.int_type.IntType.TheVariants as int
+use Rattle.pt_base.proofs.Booleans.{and_parts}
+use Rattle.pt_base.proofs.Members.{all_true_at}
+use Rattle.pt_base.proofs.Numbers.{nat_eq_same}
+use Rattle.pt_base.proofs.Places.{take_whole}
 use Rattle.pt_tree.specs.declared.signature.Signature.{Signature}
 use Rattle.type_rules.specs.Types.{is_same_int}
 use Rattle.pt_tree.specs.StatementTree.{stmt_trees}
@@ -38,9 +42,8 @@ use Rattle.half_meaning_law.specs.Statements.{BodiesKeepTheirMeaning}
 use Rattle.half_names_law.specs.Declarable.{Declarable, signature_marked, has_small_frame}
 use Rattle.half_names_law.specs.Standing.{Marks, own_marks, whole_marks, before, head_at, behind_head, body_state, body_context, locals_at, statements_at, scene_of, all_said}
 use Rattle.half_names_law.specs.Laws.{statements_checked, one_behind, KnownIn, NamesKnown, HalfNamesAreKnown, OwnNamesAreKnown, HalvesHaveNoFault, SlavesHaveNoTypeFault, MeaningKept, HalvesKeepTheirMeaning}
-use Rattle.half_names_law.proofs.Objects.{both_hold}
 use Rattle.typed_tree.proofs.SameTypes.{equal_ints}
-use Rattle.half_names_law.proofs.Numbers.{same_number, lookup_place}
+use Rattle.half_names_law.proofs.Numbers.{lookup_place}
 use Rattle.half_names_law.proofs.Table.{structs_added, then_rest}
 use Rattle.half_names_law.proofs.Parameters.{Marked}
 use Rattle.half_names_law.proofs.Heads.{callable_as, file_env, head_as, head_is}
@@ -49,7 +52,7 @@ use Rattle.half_names_law.proofs.Locals.{declaration_trees}
 use Rattle.half_names_law.proofs.Definitions.{at_body, trees_joined}
 use Rattle.half_names_law.proofs.Walk.{Entry, SignaturesFit, SignatureFits, items_joined, prototypes_added, globals_added}
 use Rattle.half_names_law.proofs.Names.{FunctionsApart, text_name, callable_in, half_file, half_env, global_object, functions_file, function_found, function_meant}
-use Rattle.half_names_law.proofs.Known.{all_known, functions_known, all_there}
+use Rattle.half_names_law.proofs.Known.{all_known, functions_known}
 use Rattle.half_names_law.proofs.Parts.{parameters_in, definition_is, variables_are, locals_declared}
 use Rattle.half_names_law.proofs.Premises.{MarksSay, signature_fit, globals_fit}
 use Rattle.half_names_law.proofs.Bodies.{FunctionFits, HalfFits, statements_state, scene_fits}
@@ -89,7 +92,7 @@ declared_half marks monitor p h d say =
     let one = structs_added marks p.structs at_start 0 (length p.structs) sound.structs (omega arith) half.apart.structs (no_table p) in
     let two = prototypes_added marks monitor p (half_structs p) p.signatures [] p.signatures nothing_yet refl half.apart.functions
     (signatures_fit marks monitor p (half_structs p) p.signatures
-    (λ n s there. signature_fit marks monitor p (half_structs p) n s whole say there (all_there (λ t. signature_fits p.structs t.1) p.signatures n s sound.signatures there) (all_there (λ t. signature_marked t.1) p.signatures n s d.signature_marks there)))
+    (λ n s there. signature_fit marks monitor p (half_structs p) n s whole say there (all_true_at (λ t. signature_fits p.structs t.1) p.signatures n s sound.signatures there) (all_true_at (λ t. signature_marked t.1) p.signatures n s d.signature_marks there)))
     eight (record { bodiless = λ k. refl; none = refl; no_globals = refl; long = refl; entries = λ k s e. cc }) in
     let none = two.holds.none in
     let three = globals_added marks p p.signatures (map (callable_in monitor p) p.signatures) (half_structs p) p.globals [] p.globals two.rest.functions two.rest refl half.apart.globals (globals_fit p (half_structs p) p.globals whole sound.globals d.global_marks)
@@ -231,16 +234,12 @@ pub own_names : BodiesKeepTheirMeaning → OwnNamesAreKnown
 own_names bodies monitor p n f s h d said plain there named =
     names_known bodies (own_marks monitor p) monitor p n f s h d said (own_say monitor p (soundness monitor p h) (functions_differ monitor p h d) plain) there named
 
-take_all : {A : Type 0} (xs : List A) → take (length xs) xs ≡ xs
-take_all [] = refl
-take_all (x ∷ xs) = ap (λ ys. x ∷ ys) (take_all xs)
-
 -- the walk over the whole half
 no_fault : (bodies : BodiesKeepTheirMeaning) (marks : Marks) (monitor : Bool) (p : ProgramTree) → is_sound monitor p ≡ true → Declarable p → all_said monitor p ≡ true → MarksSay marks p → list_all (has_small_frame p) p.functions ≡ true
     → (checked_items marks at_start (half_tree monitor p)).faults ≡ []
 no_fault bodies marks monitor p h d said say small =
     let passes = passes_before bodies marks monitor p (length p.functions) h d said say in
-    let all = take_all p.functions in
+    let all = take_whole p.functions in
     subst (λ fs. (checked_items marks at_start (map (struct_item p.structs) (range_with_len 0 (length p.structs)) ++ (map (prototype_of monitor p) p.signatures ++ (map (global_item p.structs) p.globals ++ map (function_item p) fs)))).faults ≡ []) all
     (passes.faults (subst (λ fs. list_all (has_small_frame p) fs ≡ true) (sym all) small))
 
@@ -257,7 +256,7 @@ meaning_kept : (bodies : BodiesKeepTheirMeaning) (marks : Marks) (monitor : Bool
 meaning_kept bodies marks monitor p n f s h said there named known frames frame calls core_calls same alike =
     let here = known.known frames frame calls core_calls same in
     bodies monitor p n f s (scene_of p f frames frame calls core_calls) (body_context (result_as s.result)) (statements_at marks monitor p n f) h there named here.fits refl alike here.known here.functions refl
-    (all_there (λ g. are_said (context_of p g.vars) (called_signature monitor p) g.body) p.functions n f said there)
+    (all_true_at (λ g. are_said (context_of p g.vars) (called_signature monitor p) g.body) p.functions n f said there)
 
 -- ---- main
 
@@ -320,22 +319,22 @@ slave_starts p b h main =
     let only = start_found p (filter (λ g. is_main_by (signature_at p g.id)) p.functions) main in
     let f = only.0 in
     let among = filtered (λ g. is_main_by (signature_at p g.id)) p.functions f 0 only.1 in
-    let fits = all_there (function_fits false p) p.functions among.0 f sound.functions among.1 in
+    let fits = all_true_at (function_fits false p) p.functions among.0 f sound.functions among.1 in
     let s = signature_there false p f fits in
     let named = sym (ap is_main_by s.1) ∙ among.2 in
-    let start = both_hold (is_int_result s.0.result) (nat_eq (length s.0.params) 0) (sym (ap core.starts_by s.1) ∙ only.2) in
-    let own = both_hold (not s.0.host && (counts_fit false f.params (length s.0.params) && params_lead (take f.params s.0.params) f.vars)) _ (sym (ap (function_by false p f) s.1) ∙ fits) in
-    let count = both_hold (counts_fit false f.params (length s.0.params)) _ (both_hold (not s.0.host) _ own.0).1 in
+    let start = and_parts (is_int_result s.0.result) (nat_eq (length s.0.params) 0) (sym (ap core.starts_by s.1) ∙ only.2) in
+    let own = and_parts (not s.0.host && (counts_fit false f.params (length s.0.params) && params_lead (take f.params s.0.params) f.vars)) _ (sym (ap (function_by false p f) s.1) ∙ fits) in
+    let count = and_parts (counts_fit false f.params (length s.0.params)) _ (and_parts (not s.0.host) _ own.0).1 in
     main_there p b p.functions among.0 f among.1 (ap (starts_by f) s.1 ∙ begins f s.0 named start.0 (none_taken f (length s.0.params) count.0 start.1))
   where
     none_taken : (f : FunctionTree) (n : ℕ) → nat_eq f.params n ≡ true → nat_eq n 0 ≡ true → length (parameters_in f) ≡ 0
-    none_taken f n e none = let less = few_taken f.params f.vars in let same = same_number f.params n e in let zero_n = same_number n 0 none in omega (arith, less, same, zero_n)
+    none_taken f n e none = let less = few_taken f.params f.vars in let same = nat_eq_same f.params n e in let zero_n = nat_eq_same n 0 none in omega (arith, less, same, zero_n)
 
 with_main_fine : (bodies : BodiesKeepTheirMeaning) (marks : Marks) (p : ProgramTree) → is_sound false p ≡ true → has_main p ≡ true → Declarable p → all_said false p ≡ true → MarksSay marks p → list_all (has_small_frame p) p.functions ≡ true
     → (with_main (checked_items marks at_start (half_tree false p))).faults ≡ []
 with_main_fine bodies marks p h main d said say small =
     let passes = passes_before bodies marks false p (length p.functions) h d said say in
-    let all = take_all p.functions in
+    let all = take_whole p.functions in
     subst (λ fs. (with_main (checked_items marks at_start (map (struct_item p.structs) (range_with_len 0 (length p.structs)) ++ (map (prototype_of false p) p.signatures ++ (map (global_item p.structs) p.globals ++ map (function_item p) fs))))).faults ≡ []) all
     (λ i. passes.faults (subst (λ fs. list_all (has_small_frame p) fs ≡ true) (sym all) small) i
     ++ main_faults ((ap (λ st. st.has_main) passes.is ∙ passes.holds.main ∙ subst (λ fs. main_after p (declared_half marks false p h d say).rest.has_main fs ≡ true) (sym all) (slave_starts p (declared_half marks false p h d say).rest.has_main h main)) i))
@@ -344,7 +343,7 @@ pub slaves_fine : BodiesKeepTheirMeaning → SlavesHaveNoTypeFault
 unfolding is_well_formed_slave is_well_formed slave_tree
 slaves_fine bodies s h d said small =
     let p = slave_program s in
-    let parts = both_hold (is_sound false p) (has_main p) h in
+    let parts = and_parts (is_sound false p) (has_main p) h in
     let sound = soundness false p parts.0 in
     let apart = functions_differ false p parts.0 d in (
       with_main_fine bodies (whole_marks false p) p parts.0 parts.1 d said (whole_say false p sound apart) small,

@@ -3,6 +3,11 @@ use Rattle.std.proofs.Common.{◌≡◌, ◌++◌, ◌∙◌, ◌+◌, sym, ap, 
 use Rattle.std.specs.Prelude.{◌&&◌, ◌||◌, nat_eq, not, is_some, fold, slice_get, if◌then◌else◌}
 use Rattle.std.specs.List.{find, range_with_len}
 use Rattle.std.specs.Str.{bytes_eq}
+use Rattle.std.proofs.lemmas.Bool.{or_left, or_right}
+use Rattle.pt_base.proofs.Lists.{bytes_eq_same, bytes_eq_self}
+use Rattle.pt_base.proofs.Members.{all_true_at}
+use Rattle.pt_base.proofs.Numbers.{nat_eq_same}
+use Rattle.pt_base.proofs.Places.{get_kept, get_mapped}
 use Rattle.pt_tree.specs.declared.signature.Signature.{Signature}
 use Rattle.pt_tree.specs.SpecifierTree.{spec_trees}
 use Rattle.pt_tree.specs.ProgramTree as parsed
@@ -19,11 +24,10 @@ use Rattle.half_trees.specs.Functions.{head_specs, function_item}
 use Rattle.half_trees.specs.Halves.{prototype_of, half_tree}
 use Rattle.half_names_law.specs.Declarable.{takes_no_pointer, prototypes_take_no_pointers}
 use Rattle.half_names_law.specs.Standing.{own_marks, whole_marks, definition}
-use Rattle.half_names_law.proofs.Tables.{name_self, name_same}
 use Rattle.half_names_law.proofs.Specifiers.{marks_are, function_says}
-use Rattle.half_names_law.proofs.Numbers.{same_number, lookup_place, mapped_there, mapped_back, once_there}
+use Rattle.half_names_law.proofs.Numbers.{lookup_place, mapped_back, once_there}
 use Rattle.half_names_law.proofs.Names.{own, text_name, FunctionsApart, joined_each}
-use Rattle.half_names_law.proofs.Known.{own_name, all_there}
+use Rattle.half_names_law.proofs.Known.{own_name}
 use Rattle.half_names_law.proofs.Premises.{MarksSay}
 use Rattle.half_names_law.proofs.Halves.{Sound, signature_there}
 
@@ -114,7 +118,7 @@ prototypes_marked monitor p n s apart there j x at f is named =
     let back = mapped_back (prototype_of monitor p) p.signatures j x at in
     let t = back.0 in
     let tree = inner _ f (back.2 ∙ is) in
-    let name : text_name t ≡ text_name s = sym (own_name monitor (function_at p t.0) t.1 t.0) ∙ ap (λ g. g.declarator.name.bytes) tree ∙ name_same f.declarator.name.bytes (text_name s) named in
+    let name : text_name t ≡ text_name s = sym (own_name monitor (function_at p t.0) t.1 t.0) ∙ ap (λ g. g.declarator.name.bytes) tree ∙ bytes_eq_same f.declarator.name.bytes (text_name s) named in
     let place = apart j n t s back.1 there name in
     let same = same_entry t s (sym back.1 ∙ ap (slice_get p.signatures) place ∙ there) in
     ap (λ g. (u.own_marks g.specs).marked) (sym tree) ∙ head_marked (own monitor p t) ∙ own_privileged monitor (function_at p t.0) t.1 ∙ ap (λ z. z.1.privileged) same
@@ -123,10 +127,10 @@ definitions_marked : (monitor : Bool) (p : ProgramTree) (n : ℕ) (s : ℕ × Si
 definitions_marked monitor p n s sound apart there j x at f is named =
     let back = mapped_back (function_item p) p.functions j x at in
     let g = back.0 in
-    let signature = signature_there monitor p g (all_there (function_fits monitor p) p.functions j g sound.functions back.1) in
+    let signature = signature_there monitor p g (all_true_at (function_fits monitor p) p.functions j g sound.functions back.1) in
     let place = lookup_place p.signatures g.id signature.0 signature.1 in
     let tree = inner _ f (back.2 ∙ is) in
-    let name : text_name (g.id, signature.0) ≡ text_name s = ap (function_by g.id) (sym signature.1) ∙ ap (λ d. d.declarator.name.bytes) tree ∙ name_same f.declarator.name.bytes (text_name s) named in
+    let name : text_name (g.id, signature.0) ≡ text_name s = ap (function_by g.id) (sym signature.1) ∙ ap (λ d. d.declarator.name.bytes) tree ∙ bytes_eq_same f.declarator.name.bytes (text_name s) named in
     let where_it_is = apart place.place n (g.id, signature.0) s place.there there name in
     let same = same_entry (g.id, signature.0) s (sym place.there ∙ ap (slice_get p.signatures) where_it_is ∙ there) in
     ap (λ d. (u.own_marks d.specs).marked) (sym tree) ∙ ap (λ o. (u.own_marks (spec_trees (head_specs o))).marked) signature.1 ∙ head_marked signature.0 ∙ ap (λ z. z.1.privileged) same
@@ -158,32 +162,20 @@ got_behind : {A : Type 0} (xs ys : List A) (k : ℕ) (y : A) → slice_get ys k 
 got_behind [] ys k y h = ap (slice_get ys) (omega arith) ∙ h
 got_behind (x ∷ xs) ys k y h = let same : suc (length xs) + k ≡ suc (length xs + k) = omega arith in ap (slice_get (x ∷ (xs ++ ys))) same ∙ got_behind xs ys k y h
 
-got_before : {A : Type 0} (xs ys : List A) (k : ℕ) (y : A) → slice_get xs k ≡ Some y → slice_get (xs ++ ys) k ≡ Some y
-got_before [] ys k y h = cc
-got_before (x ∷ xs) ys zero y h = h
-got_before (x ∷ xs) ys (suc k) y h = got_before xs ys k y h
-
 pub prototype_there : (monitor : Bool) (p : ProgramTree) (n : ℕ) (s : ℕ × Signature) → slice_get p.signatures n ≡ Some s → slice_get (half_tree monitor p) (length (map (struct_item p.structs) (range_with_len 0 (length p.structs))) + n) ≡ Some (prototype_of monitor p s)
 prototype_there monitor p n s there =
     got_behind (map (struct_item p.structs) (range_with_len 0 (length p.structs))) (map (prototype_of monitor p) p.signatures ++ (map (global_item p.structs) p.globals ++ map (function_item p) p.functions)) n (prototype_of monitor p s)
-    (got_before (map (prototype_of monitor p) p.signatures) (map (global_item p.structs) p.globals ++ map (function_item p) p.functions) n (prototype_of monitor p s) (mapped_there (prototype_of monitor p) p.signatures n s there))
+    (get_kept (map (prototype_of monitor p) p.signatures) (map (global_item p.structs) p.globals ++ map (function_item p) p.functions) n (prototype_of monitor p s) (get_mapped (prototype_of monitor p) p.signatures n s there))
 
 definition_there : (monitor : Bool) (p : ProgramTree) (n : ℕ) (f : FunctionTree) → slice_get p.functions n ≡ Some f → (j : ℕ) × (slice_get (half_tree monitor p) j ≡ Some (function_item p f))
 definition_there monitor p n f there = (
   length (map (struct_item p.structs) (range_with_len 0 (length p.structs))) + (length (map (prototype_of monitor p) p.signatures) + (length (map (global_item p.structs) p.globals) + n)),
   got_behind (map (struct_item p.structs) (range_with_len 0 (length p.structs))) (map (prototype_of monitor p) p.signatures ++ (map (global_item p.structs) p.globals ++ map (function_item p) p.functions)) _ (function_item p f)
       (got_behind (map (prototype_of monitor p) p.signatures) (map (global_item p.structs) p.globals ++ map (function_item p) p.functions) _ (function_item p f)
-      (got_behind (map (global_item p.structs) p.globals) (map (function_item p) p.functions) n (function_item p f) (mapped_there (function_item p) p.functions n f there))),
+      (got_behind (map (global_item p.structs) p.globals) (map (function_item p) p.functions) n (function_item p f) (get_mapped (function_item p) p.functions n f there))),
 )
 
 -- ---- together
-
-pub or_right : (a b : Bool) → b ≡ true → (a || b) ≡ true
-or_right true b h = refl
-or_right false b h = h
-
-pub or_left : (a b : Bool) → a ≡ true → (a || b) ≡ true
-or_left a b h = λ i. h i || b
 
 privileged_is : (monitor : Bool) (p : ProgramTree) (n : ℕ) (s : ℕ × Signature) → Sound monitor p → FunctionsApart p.signatures → slice_get p.signatures n ≡ Some s → (own_marks monitor p (text_name s)).privileged ≡ s.1.privileged
 privileged_is monitor p n s sound apart there = go s.1.privileged refl
@@ -193,7 +185,7 @@ privileged_is monitor p n s sound apart there = go s.1.privileged refl
 
     first : (j : ℕ) × (d : parsed.FunctionTree) × (slice_get (declarations_of (half_tree monitor p) (text_name s)) j ≡ Some d)
     first =
-        let found = declared_in (half_tree monitor p) (text_name s) _ _ (prototype_there monitor p n s there) (ap (λ name. bytes_eq name (text_name s)) (own_name monitor (function_at p s.0) s.1 s.0) ∙ name_self (text_name s)) in
+        let found = declared_in (half_tree monitor p) (text_name s) _ _ (prototype_there monitor p n s there) (ap (λ name. bytes_eq name (text_name s)) (own_name monitor (function_at p s.0) s.1 s.0) ∙ bytes_eq_self (text_name s)) in
         (found.0, _, found.1)
 
     go : (b : Bool) → s.1.privileged ≡ b → (own_marks monitor p (text_name s)).privileged ≡ s.1.privileged
@@ -211,7 +203,7 @@ find_back (g ∷ gs) n f h = go (nat_eq n g.id) refl h (find_back gs n f)
     same e = cc
 
     go : (b : Bool) → nat_eq n g.id ≡ b → cond b (Some g) (find (λ x. nat_eq n x.id) gs) ≡ Some f → (find (λ x. nat_eq n x.id) gs ≡ Some f → (k : ℕ) × (slice_get gs k ≡ Some f) × (n ≡ f.id)) → (k : ℕ) × (slice_get (g ∷ gs) k ≡ Some f) × (n ≡ f.id)
-    go true is e again = (0, e, same_number n g.id is ∙ ap (λ x. x.id) (same e))
+    go true is e again = (0, e, nat_eq_same n g.id is ∙ ap (λ x. x.id) (same e))
     go false is e again = let behind = again e in (suc behind.0, behind.1, behind.2)
 
 pub defined_is : (monitor : Bool) (p : ProgramTree) (n : ℕ) (s : ℕ × Signature) → Sound monitor p → slice_get p.signatures n ≡ Some s → is_some (function_at p s.0) ≡ true → (own_marks monitor p (text_name s)).defined ≡ true
@@ -220,12 +212,12 @@ defined_is monitor p n s sound there some = go (function_at p s.0) refl some
     with_body : (f : FunctionTree) → function_at p s.0 ≡ Some f → (own_marks monitor p (text_name s)).defined ≡ true
     with_body f found =
         let back = find_back p.functions s.0 f found in
-        let signature = signature_there monitor p f (all_there (function_fits monitor p) p.functions back.0 f sound.functions back.1) in
+        let signature = signature_there monitor p f (all_true_at (function_fits monitor p) p.functions back.0 f sound.functions back.1) in
         let place = lookup_place p.signatures f.id signature.0 signature.1 in
-        let where_it_is = once_there 0 (map (λ x. x.0) p.signatures) place.place n s.0 sound.order.0 (mapped_there (λ x. x.0) p.signatures place.place (f.id, signature.0) place.there ∙ ap Some (sym back.2)) (mapped_there (λ x. x.0) p.signatures n s there) in
+        let where_it_is = once_there 0 (map (λ x. x.0) p.signatures) place.place n s.0 sound.order.0 (get_mapped (λ x. x.0) p.signatures place.place (f.id, signature.0) place.there ∙ ap Some (sym back.2)) (get_mapped (λ x. x.0) p.signatures n s there) in
         let same = same_entry (f.id, signature.0) s (sym place.there ∙ ap (slice_get p.signatures) where_it_is ∙ there) in
         let item = definition_there monitor p back.0 f back.1 in
-        let found_in = declared_in (half_tree monitor p) (text_name s) item.0 (definition p f) item.1 (ap (λ name. bytes_eq name (text_name s)) (ap (function_by f.id) signature.1 ∙ ap text_name same) ∙ name_self (text_name s)) in
+        let found_in = declared_in (half_tree monitor p) (text_name s) item.0 (definition p f) item.1 (ap (λ name. bytes_eq name (text_name s)) (ap (function_by f.id) signature.1 ∙ ap text_name same) ∙ bytes_eq_self (text_name s)) in
         reached (λ m. m.defined) (λ m d h. or_left m.defined (is_some d.body) h) (declarations_of (half_tree monitor p) (text_name s)) undeclared found_in.0 (definition p f) found_in.1 (λ m. or_right m.defined true refl)
 
     go : (o : Option FunctionTree) → function_at p s.0 ≡ o → is_some o ≡ true → (own_marks monitor p (text_name s)).defined ≡ true
@@ -243,7 +235,7 @@ pub own_say : (monitor : Bool) (p : ProgramTree) → Sound monitor p → Functio
 own_say monitor p sound apart plain = record {
   privileged = λ n s there. privileged_is monitor p n s sound apart there;
   bodies = λ n s there some. defined_is monitor p n s sound there some;
-  pointers = λ n s there some. defined_is monitor p n s sound there (left_so (is_some (function_at p s.0)) (takes_no_pointer s.1) (all_there (λ t. is_some (function_at p t.0) || takes_no_pointer t.1) p.signatures n s plain there) some);
+  pointers = λ n s there some. defined_is monitor p n s sound there (left_so (is_some (function_at p s.0)) (takes_no_pointer s.1) (all_true_at (λ t. is_some (function_at p t.0) || takes_no_pointer t.1) p.signatures n s plain there) some);
 }
   where
     left_so : (a b : Bool) → (a || b) ≡ true → b ≡ false → a ≡ true

@@ -16,12 +16,12 @@ use Rattle.half_trees.specs.Names.{global_name, function_by}
 use Rattle.half_meaning_law.specs.Known.{function_id, global_id, object_as}
 use Rattle.std.specs.Str.{bytes_eq}
 use Rattle.std.proofs.lemmas.Bool.Decides.{nat_tests}
-use Rattle.half_names_law.proofs.Objects.{both_hold}
-use Rattle.half_names_law.proofs.Tables.{name_same, sought, one_place, listed, listed_at, listed_back, listed_length, found, sought_first, sought_none}
+use Rattle.pt_base.proofs.Lists.{bytes_eq_same}
+use Rattle.pt_base.proofs.Members.{all_true_at}
+use Rattle.pt_base.proofs.Places.{get_after, get_before, get_below_length, get_mapped}
+use Rattle.half_names_law.proofs.Tables.{sought, one_place, listed, listed_at, listed_back, listed_length, found, sought_first, sought_none}
 use Rattle.half_names_law.proofs.TextNames.{no_global, same_global}
-use Rattle.half_names_law.proofs.Table.{get_below}
-use Rattle.typed_tree.proofs.LeavesLemmas.{get_before}
-use Rattle.half_names_law.proofs.Numbers.{mapped_there, once_there}
+use Rattle.half_names_law.proofs.Numbers.{once_there}
 use Rattle.half_names_law.proofs.Heads.{callable_as, file_env}
 use Rattle.half_names_law.proofs.Prototypes.{marked_param}
 
@@ -68,20 +68,12 @@ abbrev pub GlobalsApart : List GlobalTree → Type 0
 GlobalsApart xs = (j k : ℕ) (a b : GlobalTree) → slice_get xs j ≡ Some a → slice_get xs k ≡ Some b → global_name a.id ≡ global_name b.id → j ≡ k
 
 pub functions_apart : (xs : List (ℕ × Signature)) → are_distinct (map text_name xs) ≡ true → FunctionsApart xs
-functions_apart xs h j k a b p q same = one_place (map text_name xs) j k (text_name a) h (mapped_there text_name xs j a p) (mapped_there text_name xs k b q ∙ ap Some (sym same))
-
-all_get : {A : Type 0} (q : A → Bool) (xs : List A) (k : ℕ) (x : A) → list_all q xs ≡ true → slice_get xs k ≡ Some x → q x ≡ true
-all_get q [] k x h is = cc
-all_get q (y ∷ ys) zero x h is = ap q (sym (same is)) ∙ (both_hold (q y) (list_all q ys) h).0
-  where
-    same : Some y ≡ Some x → y ≡ x
-    same e = cc
-all_get q (y ∷ ys) (suc k) x h is = all_get q ys k x (both_hold (q y) (list_all q ys) h).1 is
+functions_apart xs h j k a b p q same = one_place (map text_name xs) j k (text_name a) h (get_mapped text_name xs j a p) (get_mapped text_name xs k b q ∙ ap Some (sym same))
 
 pub globals_apart : (xs : List GlobalTree) → are_rising 0 (map (λ g. g.id) xs) ≡ true → list_all (λ g. nat_lt g.id (2 ^ 64)) xs ≡ true → GlobalsApart xs
 globals_apart xs rise small j k a b p q same =
-    let equal : a.id ≡ b.id = same_global a.id b.id (low a.id (all_get (λ g. nat_lt g.id (2 ^ 64)) xs j a small p)) (low b.id (all_get (λ g. nat_lt g.id (2 ^ 64)) xs k b small q)) same in
-    once_there 0 (map (λ g. g.id) xs) j k a.id rise (mapped_there (λ g. g.id) xs j a p) (mapped_there (λ g. g.id) xs k b q ∙ ap Some (sym equal))
+    let equal : a.id ≡ b.id = same_global a.id b.id (low a.id (all_true_at (λ g. nat_lt g.id (2 ^ 64)) xs j a small p)) (low b.id (all_true_at (λ g. nat_lt g.id (2 ^ 64)) xs k b small q)) same in
+    once_there 0 (map (λ g. g.id) xs) j k a.id rise (get_mapped (λ g. g.id) xs j a p) (get_mapped (λ g. g.id) xs k b q ∙ ap Some (sym equal))
   where
     low : (n : ℕ) → nat_lt n (2 ^ 64) ≡ true → n < 2 ^ 64
     low n h = grind (arith, nat_tests, h)
@@ -100,7 +92,7 @@ sought_behind [] u n k none h = h ∙ ap Some (omega arith)
 sought_behind (x ∷ t) u n k none h = go (bytes_eq n x.0) refl (sought_behind t u n k (λ j y e. none (suc j) y e) h)
   where
     go : (b : Bool) → bytes_eq n x.0 ≡ b → sought (t ++ u) n ≡ Some (length t + k) → (if b then Some 0 else option_map suc (sought (t ++ u) n)) ≡ Some (suc (length t) + k)
-    go true is again = absurd (none 0 x refl (name_same n x.0 is))
+    go true is again = absurd (none 0 x refl (bytes_eq_same n x.0 is))
     go false is again = ap (option_map suc) again ∙ ap Some (omega arith)
 
 sought_before : {X : Type 0} (t u : List (List ℕ × X)) (n : List ℕ) (k : ℕ) → sought t n ≡ Some k → sought (t ++ u) n ≡ Some k
@@ -131,7 +123,7 @@ pub function_meant : (fs : List (ℕ × Signature)) (gs : List GlobalTree) (k : 
 function_meant fs gs k s there =
     let entry : slice_get (functions_file fs) k ≡ Some (function_entry k s) = listed_at function_entry 0 k k fs (omega arith) ∙ ap (option_map (function_entry k)) there in
     let long = listed_length function_entry 0 fs in
-    let low = get_below fs k s there in
+    let low = get_below_length fs k s there in
     ap (option_map (λ e. e.1)) (get_before (functions_file fs) (globals_file gs) k (omega (arith, low, long)) ∙ entry)
 
 -- a global, with its place behind the functions
@@ -146,15 +138,11 @@ global_found fs gs k g apart there =
     let equal = apart k j g back.0 there back.1 (same ∙ ap (λ z. z.0) back.2) in omega (arith, less, equal)))
     ∙ ap (λ n. Some (n + k)) (listed_length function_entry 0 fs)
 
-get_behind : {A : Type 0} (xs ys : List A) (k : ℕ) → slice_get (xs ++ ys) (length xs + k) ≡ slice_get ys k
-get_behind [] ys k = ap (slice_get ys) (omega arith)
-get_behind (x ∷ xs) ys k = let same : suc (length xs) + k ≡ suc (length xs + k) = omega arith in ap (slice_get (x ∷ (xs ++ ys))) same ∙ get_behind xs ys k
-
 pub global_meant : (fs : List (ℕ × Signature)) (gs : List GlobalTree) (k : ℕ) (g : GlobalTree) → slice_get gs k ≡ Some g → value_at (functions_file fs ++ globals_file gs) (length fs + k) ≡ Some (Global (global_id k))
 global_meant fs gs k g there =
     let entry : slice_get (globals_file gs) k ≡ Some (global_entry k g) = listed_at global_entry 0 k k gs (omega arith) ∙ ap (option_map (global_entry k)) there in
     ap (λ n. value_at (functions_file fs ++ globals_file gs) (n + k)) (sym (listed_length function_entry 0 fs))
-    ∙ ap (option_map (λ e. e.1)) (get_behind (functions_file fs) (globals_file gs) k ∙ entry)
+    ∙ ap (option_map (λ e. e.1)) (get_after (functions_file fs) (globals_file gs) k ∙ entry)
 
 -- a name that is new to the functions, and one that is new to the globals behind them
 pub function_new : (fs : List (ℕ × Signature)) (name : List ℕ) → ((j : ℕ) (a : ℕ × Signature) → slice_get fs j ≡ Some a → name ≡ text_name a → ⊥) → number_of (functions_file fs) name ≡ None

@@ -1,12 +1,12 @@
 -- Places and numbers: what stands at a place of a list that is ordered by numbers.
-use Rattle.std.proofs.Common.{◌≡◌, ◌∙◌, ◌<◌, ◌≤◌, sym, ap, refl, ℕ, zero, suc, Bool, true, false, List, [], ◌∷◌, map, Some, arith, if◌then◌else◌}
-use Rattle.std.specs.Prelude.{nat_eq, nat_le, nat_lt, slice_get, option_map}
+use Rattle.std.proofs.Common.{◌≡◌, ◌∙◌, ◌<◌, ◌≤◌, sym, refl, ℕ, zero, suc, Bool, true, false, List, [], ◌∷◌, map, Some, arith, if◌then◌else◌}
+use Rattle.std.specs.Prelude.{nat_eq, nat_le, nat_lt, slice_get}
 use Rattle.std.specs.Map.{lookup}
 use Rattle.std.proofs.lemmas.Bool.Decides.{nat_tests}
 use Rattle.typed_tree.specs.WellFormed.{are_rising}
 use Rattle.half_names_law.specs.Standing.{number_in}
-use Rattle.half_names_law.proofs.Objects.{both_hold}
-pub use Rattle.pt_base.proofs.SameNumbers.{same_number}
+use Rattle.pt_base.proofs.Booleans.{and_parts}
+use Rattle.pt_base.proofs.Numbers.{nat_eq_same}
 
 -- ---- numbers by place
 
@@ -19,9 +19,9 @@ number_at first (m ∷ ns) (suc k) n h = number_at (suc m) ns k n h
 number_least : (first : ℕ) (ns : List ℕ) (k : ℕ) → are_rising first ns ≡ true → first ≤ number_in first ns k
 number_least first [] zero h = omega arith
 number_least first [] (suc k) h = let again = number_least first [] k h in omega (arith, again)
-number_least first (m ∷ ns) zero h = let parts = both_hold (nat_le first m) (are_rising (suc m) ns) h in grind (arith, nat_tests, parts.0)
+number_least first (m ∷ ns) zero h = let parts = and_parts (nat_le first m) (are_rising (suc m) ns) h in grind (arith, nat_tests, parts.0)
 number_least first (m ∷ ns) (suc k) h =
-    let parts = both_hold (nat_le first m) (are_rising (suc m) ns) h in
+    let parts = and_parts (nat_le first m) (are_rising (suc m) ns) h in
     let low : first ≤ m = grind (arith, nat_tests, parts.0) in
     let again = number_least (suc m) ns k parts.1 in omega (arith, low, again)
 
@@ -29,8 +29,8 @@ number_rises : (first : ℕ) (ns : List ℕ) (j k : ℕ) → are_rising first ns
 number_rises first ns j zero h less = absurd (omega (arith, less))
 number_rises first [] zero (suc k) h less = let low = number_least first [] k h in omega (arith, low)
 number_rises first [] (suc j) (suc k) h less = let again = number_rises first [] j k h (omega (arith, less)) in omega (arith, again)
-number_rises first (m ∷ ns) zero (suc k) h less = let low = number_least (suc m) ns k (both_hold (nat_le first m) (are_rising (suc m) ns) h).1 in omega (arith, low)
-number_rises first (m ∷ ns) (suc j) (suc k) h less = number_rises (suc m) ns j k (both_hold (nat_le first m) (are_rising (suc m) ns) h).1 (omega (arith, less))
+number_rises first (m ∷ ns) zero (suc k) h less = let low = number_least (suc m) ns k (and_parts (nat_le first m) (are_rising (suc m) ns) h).1 in omega (arith, low)
+number_rises first (m ∷ ns) (suc j) (suc k) h less = number_rises (suc m) ns j k (and_parts (nat_le first m) (are_rising (suc m) ns) h).1 (omega (arith, less))
 
 -- so different places have different numbers
 pub number_once : (first : ℕ) (ns : List ℕ) (j k : ℕ) → are_rising first ns ≡ true → number_in first ns j ≡ number_in first ns k → j ≡ k
@@ -53,7 +53,7 @@ module _ {A : Type 0} where
     pub there : slice_get xs place ≡ Some (n, x)
 
   lookup_first : (y : ℕ × A) (ys : List (ℕ × A)) (n : ℕ) (x : A) (b : Bool) → nat_eq n y.0 ≡ b → (lookup (nat_eq n) ys ≡ Some x → Place ys n x) → (if b then Some y.1 else lookup (nat_eq n) ys) ≡ Some x → Place (y ∷ ys) n x
-  lookup_first y ys n x true is again e = record { place = 0; there = λ i. Some (sym (same_number n y.0 is) i, value e i) }
+  lookup_first y ys n x true is again e = record { place = 0; there = λ i. Some (sym (nat_eq_same n y.0 is) i, value e i) }
     where
       value : Some y.1 ≡ Some x → y.1 ≡ x
       value e = cc
@@ -62,12 +62,6 @@ module _ {A : Type 0} where
   pub lookup_place : (xs : List (ℕ × A)) (n : ℕ) (x : A) → lookup (nat_eq n) xs ≡ Some x → Place xs n x
   lookup_place [] n x h = cc
   lookup_place (y ∷ ys) n x h = lookup_first y ys n x (nat_eq n y.0) refl (lookup_place ys n x) h
-
--- a part of what stands at a place
-pub mapped_there : {A B : Type 0} (f : A → B) (xs : List A) (k : ℕ) (x : A) → slice_get xs k ≡ Some x → slice_get (map f xs) k ≡ Some (f x)
-mapped_there f [] k x h = cc
-mapped_there f (y ∷ ys) zero x h = ap (option_map f) h
-mapped_there f (y ∷ ys) (suc k) x h = mapped_there f ys k x h
 
 pub mapped_back : {A B : Type 0} (f : A → B) (xs : List A) (k : ℕ) (y : B) → slice_get (map f xs) k ≡ Some y → (x : A) × (slice_get xs k ≡ Some x) × (f x ≡ y)
 mapped_back f [] k y h = cc

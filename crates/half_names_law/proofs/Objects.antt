@@ -3,6 +3,7 @@ use Rattle.std.proofs.Common.{◌≡◌, ◌++◌, ◌∙◌, ◌≤◌, ap, ref
 use Rattle.std.specs.Prelude.{not, ◌&&◌, ◌||◌, nat_le, nat_lt, int_lt, if◌then◌else◌}
 use Rattle.std.proofs.lemmas.Bool.Decides.{nat_tests}
 use Rattle.pt_base.specs.declared.int_type.IntType.{IntType}
+use Rattle.pt_base.proofs.Booleans.{and_parts}
 use Rattle.pt_tree.specs.declared.signature.Elem.{Elem}
 use Rattle.pt_tree.specs.declared.signature.Elem.TheVariants as e
 use Rattle.pt_tree.specs.declared.specifier.Suffix.TheVariants.{Plain}
@@ -105,14 +106,10 @@ pointer_declared kind.Parameter (e.Struct n) false attributes may = record { fin
 pointer_declared kind.Global elem fixed attributes may = cc
 pointer_declared kind.Field elem fixed attributes may = cc
 
-pub both_hold : (a b : Bool) → (a && b) ≡ true → (a ≡ true) × (b ≡ true)
-both_hold true b h = (refl, h)
-both_hold false b h = cc
-
 pub declares : (k : ObjectKind) (u : VarTy) (marks : List Attribute) → may_be k u ≡ true → is_dense u ≡ true → Declares k u (given_as u marks)
 declares k (Int t) attributes may dense = int_declared k t attributes
 declares k (Struct n) attributes may dense = struct_declared k n attributes may
-declares k (Array elem count) attributes may dense = let parts = both_hold (nat_le 1 count) (nat_le count 65_536) dense in array_declared k elem count attributes may parts.0 parts.1
+declares k (Array elem count) attributes may dense = let parts = and_parts (nat_le 1 count) (nat_le count 65_536) dense in array_declared k elem count attributes may parts.0 parts.1
 declares k (Pointer elem fixed) attributes may dense = pointer_declared k elem fixed attributes may
 
 -- ---- sizes

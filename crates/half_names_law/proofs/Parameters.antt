@@ -3,6 +3,7 @@ use Rattle.std.proofs.Common.{◌≡◌, ◌++◌, ◌∙◌, ◌<◌, ◌≤◌
 use Rattle.std.specs.Prelude.{not, ◌&&◌, ◌||◌, nat_eq, slice_get, if◌then◌else◌}
 use Rattle.std.proofs.lemmas.Bool.Decides.{nat_tests}
 use Rattle.std.proofs.lemmas.List.{append_assoc, length-append}
+use Rattle.pt_base.proofs.Booleans.{and_with_false}
 use Rattle.pt_tree.specs.declared.specifier.Suffix.TheVariants.{Plain}
 use Rattle.pt_tree.specs.SpecifierTree.{spec_trees}
 use Rattle.pt_tree.specs.ProgramTree.{ParamTree}
@@ -100,10 +101,6 @@ by_parts m env structs names variables k count ninth host nameless t x new of mf
   faults = [] ++ (of ++ fault_if (ninth || host) OutOfProfile nowhere ++ fault_if nameless OutOfProfile nowhere ++ fault_if (true && not new) Redeclared nowhere ++ (if host then [] else mf));
 }
 
-and_none : (a : Bool) → (a && false) ≡ false
-and_none true = refl
-and_none false = refl
-
 -- a parameter, which is no array, is what it stands for
 pub record DeclaresPlain (u : VarTy) (marks : List Attribute) : Type 0 where
   pub fine : object_faults kind.Parameter (given_as u marks) (is_pointer u) Plain nowhere ≡ []
@@ -130,7 +127,7 @@ parameter_added m defines env structs infos names variables k q fits long near n
     ∙ (λ i. by_parts m env structs names variables k (long i) (nat_eq (length variables) 8) (not m.defined && (is_pointer q.ty || false)) (defines && false)
     (object_type kind.Parameter (given_as q.ty attributes) (is_pointer q.ty) Plain) (is_fixed kind.Parameter (given_as q.ty attributes) (is_pointer q.ty) Plain)
     (is_new names (local_name k)) (object_faults kind.Parameter (given_as q.ty attributes) (is_pointer q.ty) Plain nowhere) (mark_faults (carrier_at m q.ty) attributes))
-    ∙ (λ i. by_parts m env structs names variables k k (ninth (length variables) long i) (fits.hosts i) (and_none defines i) (d.typed i) (d.changes i) (new i) (d.fine i)
+    ∙ (λ i. by_parts m env structs names variables k k (ninth (length variables) long i) (fits.hosts i) (and_with_false defines i) (d.typed i) (d.changes i) (new i) (d.fine i)
     (marks_stand (carrier_at m q.ty) q.marked q.unpriv q.declassify (λ e. refl) fits.unpriv fits.declassify i))
   where
     ninth : (n : ℕ) → n ≡ k → nat_eq n 8 ≡ false

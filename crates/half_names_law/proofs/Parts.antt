@@ -4,6 +4,9 @@ use Rattle.std.specs.Prelude.{◌&&◌, nat_eq, nat_le, not, slice_get, if◌the
 use Rattle.std.specs.List.{find}
 use Rattle.std.proofs.lemmas.Bool.Decides.{nat_tests}
 use Rattle.std.proofs.lemmas.List.{length-take-le, map-append, take-append-drop}
+use Rattle.pt_base.proofs.Booleans.{and_parts}
+use Rattle.pt_base.proofs.Numbers.{nat_eq_same}
+use Rattle.pt_base.proofs.Places.{get_mapped}
 use Rattle.pt_tree.specs.declared.signature.Param.{Param}
 use Rattle.pt_tree.specs.declared.signature.Signature.{Signature}
 use Rattle.pt_tree.specs.SpecifierTree.{spec_trees}
@@ -29,12 +32,11 @@ use Rattle.half_meaning_law.specs.Known.{type_as, object_as}
 use Rattle.typed_tree.proofs.SameTypes.{equal_types}
 use Rattle.half_names_law.specs.Standing.{definition}
 use Rattle.half_names_law.proofs.Tables.{Differ, listed}
-use Rattle.half_names_law.proofs.Objects.{both_hold}
 use Rattle.half_names_law.proofs.Parameters.{Marked, parameter_of, parameter_as, local_entry, names_of, variables_of, parameters_by, scoped}
 use Rattle.half_names_law.proofs.Heads.{declaration_by}
 use Rattle.half_names_law.proofs.Prototypes.{marked_param}
 use Rattle.half_names_law.proofs.Locals.{local_as, LocalsFit, declaration_trees, locals_added}
-use Rattle.half_names_law.proofs.Numbers.{same_number, mapped_there, once_there}
+use Rattle.half_names_law.proofs.Numbers.{once_there}
 use Rattle.half_names_law.proofs.Names.{text_name}
 use Rattle.half_names_law.proofs.Known.{local_names, AreVariables}
 
@@ -79,14 +81,14 @@ function_there first (g ∷ gs) zero f h is = go (nat_eq f.id g.id) (self f.id g
     go : (b : Bool) → b ≡ true → cond b (Some g) (find (λ x. nat_eq f.id x.id) gs) ≡ Some g
     go true e = refl
     go false e = cc
-function_there first (g ∷ gs) (suc n) f h is = go (nat_eq f.id g.id) refl (function_there (suc g.id) gs n f (both_hold (nat_le first g.id) (are_rising (suc g.id) (map (λ x. x.id) gs)) h).1 is)
+function_there first (g ∷ gs) (suc n) f h is = go (nat_eq f.id g.id) refl (function_there (suc g.id) gs n f (and_parts (nat_le first g.id) (are_rising (suc g.id) (map (λ x. x.id) gs)) h).1 is)
   where
     apart : f.id ≡ g.id → ⊥
     apart e =
-        let places = once_there first (map (λ x. x.id) (g ∷ gs)) 0 (suc n) f.id h (ap Some (sym e)) (mapped_there (λ x. x.id) gs n f is) in omega (arith, places)
+        let places = once_there first (map (λ x. x.id) (g ∷ gs)) 0 (suc n) f.id h (ap Some (sym e)) (get_mapped (λ x. x.id) gs n f is) in omega (arith, places)
 
     go : (b : Bool) → nat_eq f.id g.id ≡ b → find (λ x. nat_eq f.id x.id) gs ≡ Some f → cond b (Some g) (find (λ x. nat_eq f.id x.id) gs) ≡ Some f
-    go true e again = absurd (apart (same_number f.id g.id e))
+    go true e again = absurd (apart (nat_eq_same f.id g.id e))
     go false e again = again
 
 -- the leading variables have the parameters' types
@@ -96,8 +98,8 @@ lead_types [] xs (suc n) h long = absurd (omega (arith, long))
 lead_types (p ∷ ps) xs zero h long = absurd (omega (arith, long))
 lead_types (p ∷ ps) [] (suc n) h long = cc
 lead_types (p ∷ ps) (x ∷ xs) (suc n) h long =
-    let parts = both_hold (same_type (param_type p.kind) x.ty && same_bool p.marked x.marked) (params_lead ps xs) h in
-    let same = equal_types (param_type p.kind) x.ty (both_hold (same_type (param_type p.kind) x.ty) (same_bool p.marked x.marked) parts.0).0 in
+    let parts = and_parts (same_type (param_type p.kind) x.ty && same_bool p.marked x.marked) (params_lead ps xs) h in
+    let same = equal_types (param_type p.kind) x.ty (and_parts (same_type (param_type p.kind) x.ty) (same_bool p.marked x.marked) parts.0).0 in
     λ i. type_as (sym same i) ∷ lead_types ps xs n parts.1 (omega (arith, long)) i
 
 take_all : {A : Type 0} (xs : List A) (n : ℕ) → n ≡ length xs → take n xs ≡ xs
@@ -109,11 +111,11 @@ take_all (x ∷ xs) (suc n) h = ap (λ ys. x ∷ ys) (take_all xs n (omega (arit
 -- what the prototype of a function with a body has
 pub own_params : (monitor : Bool) (f : FunctionTree) (s : Signature) → not s.host ≡ true → counts_fit monitor f.params (length s.params) ≡ true → (with_own monitor (Some f) s).params ≡ take f.params s.params
 own_params true f s host count = ap (λ b. (if b then record s { params = take f.params s.params } else s).params) host
-own_params false f s host count = sym (take_all s.params f.params (same_number f.params (length s.params) count))
+own_params false f s host count = sym (take_all s.params f.params (nat_eq_same f.params (length s.params) count))
 
 pub own_long : (monitor : Bool) (n all : ℕ) → counts_fit monitor n all ≡ true → n ≤ all
 own_long true n all h = grind (arith, nat_tests, h)
-own_long false n all h = let same = same_number n all h in omega (arith, same)
+own_long false n all h = let same = nat_eq_same n all h in omega (arith, same)
 
 pub own_types : (monitor : Bool) (f : FunctionTree) (s : Signature) → not s.host ≡ true → counts_fit monitor f.params (length s.params) ≡ true → params_lead (take f.params s.params) f.vars ≡ true
     → map (λ q. type_as q.ty) (parameters_in f) ≡ map (λ q. type_as q.ty) (map marked_param (with_own monitor (Some f) s).params)
@@ -124,7 +126,7 @@ own_types monitor f s host count lead =
 lead_long : (ps : List Param) (xs : List Var) → params_lead ps xs ≡ true → length ps ≤ length xs
 lead_long [] xs h = omega arith
 lead_long (p ∷ ps) [] h = cc
-lead_long (p ∷ ps) (x ∷ xs) h = let again = lead_long ps xs (both_hold (same_type (param_type p.kind) x.ty && same_bool p.marked x.marked) (params_lead ps xs) h).1 in omega (arith, again)
+lead_long (p ∷ ps) (x ∷ xs) h = let again = lead_long ps xs (and_parts (same_type (param_type p.kind) x.ty && same_bool p.marked x.marked) (params_lead ps xs) h).1 in omega (arith, again)
 
 -- a function has as many variables as parameters, at least
 pub enough : (monitor : Bool) (f : FunctionTree) (s : Signature) → counts_fit monitor f.params (length s.params) ≡ true → params_lead (take f.params s.params) f.vars ≡ true → f.params ≤ length f.vars

@@ -4,6 +4,9 @@ use Rattle.std.specs.Prelude.{◌&&◌, ◌||◌, nat_le, not, is_some, slice_ge
 use Rattle.std.specs.List.{list_all, list_any}
 use Rattle.std.proofs.lemmas.Bool.Decides.{nat_tests}
 use Rattle.std.proofs.lemmas.List.Sums.{sum_by-cons}
+use Rattle.std.proofs.lemmas.Option.{slice_get-get_or}
+use Rattle.pt_base.proofs.Booleans.{and_parts, and_with_false}
+use Rattle.pt_base.proofs.Members.{all_true_at as all_there}
 use Rattle.pt_tree.specs.declared.signature.Param.{Param}
 use Rattle.pt_tree.specs.declared.signature.ParamKind.{ParamKind}
 use Rattle.pt_tree.specs.declared.signature.ParamKind.TheVariants as k
@@ -22,7 +25,6 @@ use Rattle.check_declarations.specs.declared.objects.ObjectKind.TheVariants as k
 use Rattle.check_declarations.specs.Cells.{cells_of}
 use Rattle.check_declarations.specs.Structs.{Structs}
 use Rattle.check_programs.specs.declared.function_marks.FunctionMarks.{FunctionMarks}
-use Rattle.core_soundness_law.proofs.Leaves.{got_below}
 use Rattle.pt_core.specs.CodeTree.{GlobalTree, FunctionTree, ProgramTree}
 use Rattle.pt_core.specs.WellFormed.{global_fits, variable_fits, param_fits, signature_fits, function_at, with_own}
 use Rattle.half_trees.specs.Names.{struct_name, field_by}
@@ -32,7 +34,7 @@ use Rattle.typed_tree.proofs.SameTypes.{equal_types}
 use Rattle.half_names_law.specs.Declarable.{field_names, struct_names, is_mutable, is_pointer_kind, takes_no_pointer, param_marked, signature_marked, variable_marked, variable_cells, global_marked}
 use Rattle.half_names_law.specs.Standing.{Marks}
 use Rattle.half_names_law.proofs.Tables.{Differ, differ_from}
-use Rattle.half_names_law.proofs.Objects.{Fits, may_be, both_hold}
+use Rattle.half_names_law.proofs.Objects.{Fits, may_be}
 use Rattle.half_names_law.proofs.Sizes.{object_few}
 use Rattle.half_names_law.proofs.Table.{IsTable, NamesDiffer, plain_fits, plain_is_none, named_elem}
 use Rattle.half_names_law.proofs.Parameters.{ParameterFits, ParametersFit}
@@ -41,7 +43,6 @@ use Rattle.half_names_law.proofs.Locals.{LocalsFit, only_unmarked}
 use Rattle.half_names_law.proofs.Integers.{cells_same, numbers_there, cells_there, cells_exact}
 use Rattle.half_names_law.proofs.Walk.{SignatureFits, GlobalsFit}
 use Rattle.half_names_law.proofs.Names.{text_name}
-use Rattle.half_names_law.proofs.Known.{all_there}
 use Rattle.half_names_law.proofs.Parts.{marked_var}
 
 -- ---- names
@@ -50,7 +51,7 @@ pub names_differ : (infos : List StructInfo) → are_distinct (struct_names info
 names_differ infos structs fields = record {
   structs = differ_from (struct_name infos) (length infos) structs;
   fields = λ n low. differ_from (field_by (fields_of infos n)) (length (fields_of infos n))
-      (all_there (λ s. are_distinct (field_names s)) infos n (get_or infos n (record { name = []; fields = [] })) fields (got_below infos n (record { name = []; fields = [] }) low));
+      (all_there (λ s. are_distinct (field_names s)) infos n (get_or infos n (record { name = []; fields = [] })) fields (slice_get-get_or infos n (record { name = []; fields = [] }) low));
 }
 
 -- ---- types of variables
@@ -80,8 +81,8 @@ pub frame_less : (structs : Structs) (infos : List StructInfo) (xs : List Var) �
     → sum_by (λ x. cells_of structs (type_as x.ty)) xs ≤ sum_by (λ x. variable_cells infos x.ty) xs
 frame_less structs infos [] whole h = omega arith
 frame_less structs infos (x ∷ xs) whole h =
-    let parts = both_hold (variable_fits infos x) (list_all (variable_fits infos) xs) h in
-    let own = both_hold (is_variable_type (length infos) x.ty) (is_small infos x.ty) parts.0 in
+    let parts = and_parts (variable_fits infos x) (list_all (variable_fits infos) xs) h in
+    let own = and_parts (is_variable_type (length infos) x.ty) (is_small infos x.ty) parts.0 in
     let one = cells_less structs infos x.ty whole own.0 in
     let rest = frame_less structs infos xs whole parts.1 in
     let left = sum_by-cons (λ (y : Var). cells_of structs (type_as y.ty)) x xs in
@@ -98,10 +99,6 @@ not_both : (a b : Bool) → not (a && b) ≡ true → b ≡ true → not a ≡ t
 not_both true b h e = sym (ap not e) ∙ h
 not_both false b h e = refl
 
-and_none : (a : Bool) → (a && false) ≡ false
-and_none true = refl
-and_none false = refl
-
 -- ---- parameters of prototypes
 
 param_fit : (m : FunctionMarks) (structs : Structs) (infos : List StructInfo) (s : Signature) (kind : ParamKind) (marked declassify : Bool) → Whole structs infos → m.privileged ≡ s.privileged → (is_pointer_kind kind ≡ true → m.defined ≡ true)
@@ -110,9 +107,9 @@ param_fit : (m : FunctionMarks) (structs : Structs) (infos : List StructInfo) (s
 param_fit m structs infos s (k.Int t) marked declassify whole same defined h stands = record {
   fits = record { named = tt {0}; dense = refl; small = omega arith };
   may = refl;
-  hosts = and_none (not m.defined);
+  hosts = and_with_false (not m.defined);
   unpriv = λ e. cc;
-  declassify = λ e. absurd (never (both_hold s.privileged false (implied declassify (s.privileged && false) stands e)).1);
+  declassify = λ e. absurd (never (and_parts s.privileged false (implied declassify (s.privileged && false) stands e)).1);
 }
   where
     never : false ≡ true → ⊥
@@ -123,7 +120,7 @@ param_fit m structs infos s (k.Ptr el fixed) marked declassify whole same define
   hosts = ap (λ d. not d && true) (defined refl);
   unpriv = λ e. cc;
   declassify = λ e.
-      let parts = both_hold s.privileged (not fixed) (implied declassify (s.privileged && not fixed) stands e) in
+      let parts = and_parts s.privileged (not fixed) (implied declassify (s.privileged && not fixed) stands e) in
       (λ i. same i && (not (not (defined refl i)) && (true && not fixed))) ∙ (λ i. parts.0 i && (true && parts.1 i));
 }
 
@@ -131,10 +128,10 @@ pub params_fit : (m : FunctionMarks) (structs : Structs) (infos : List StructInf
     → list_all (param_fits (length infos)) ps ≡ true → list_all (param_marked s) ps ≡ true → ParametersFit m structs infos (map marked_param ps)
 params_fit m structs infos s [] whole same defined h stands = tt {0}
 params_fit m structs infos s (x ∷ ps) whole same defined h stands =
-    let parts = both_hold (param_fits (length infos) x) (list_all (param_fits (length infos)) ps) h in
-    let marks = both_hold (param_marked s x) (list_all (param_marked s) ps) stands in (
+    let parts = and_parts (param_fits (length infos) x) (list_all (param_fits (length infos)) ps) h in
+    let marks = and_parts (param_marked s x) (list_all (param_marked s) ps) stands in (
       param_fit m structs infos s x.kind x.marked x.declassify whole same (λ e. defined (λ i. not (e i) && list_all (λ y. not (is_pointer_kind y.kind)) ps)) parts.0 marks.0,
-      params_fit m structs infos s ps whole same (λ e. defined ((λ i. not (is_pointer_kind x.kind) && e i) ∙ and_none (not (is_pointer_kind x.kind)))) parts.1 marks.1,
+      params_fit m structs infos s ps whole same (λ e. defined ((λ i. not (is_pointer_kind x.kind) && e i) ∙ and_with_false (not (is_pointer_kind x.kind)))) parts.1 marks.1,
     )
 
 pub first_fit : (m : FunctionMarks) (structs : Structs) (infos : List StructInfo) (n : ℕ) (ps : List Param) → ParametersFit m structs infos (map marked_param ps) → ParametersFit m structs infos (map marked_param (take n ps))
@@ -190,9 +187,9 @@ pub record MarksSay (marks : Marks) (p : ProgramTree) : Type 0 where
 pub signature_fit : (marks : Marks) (monitor : Bool) (p : ProgramTree) (structs : Structs) (n : ℕ) (s : ℕ × Signature) → Whole structs p.structs → MarksSay marks p → slice_get p.signatures n ≡ Some s
     → signature_fits p.structs s.1 ≡ true → signature_marked s.1 ≡ true → SignatureFits marks monitor p structs s
 signature_fit marks monitor p structs n s whole say there fits stands =
-    let first = both_hold (nat_le (length s.1.params) 8 && list_all (param_fits (length p.structs)) s.1.params) _ fits in
-    let own_parts = both_hold (nat_le (length s.1.params) 8) (list_all (param_fits (length p.structs)) s.1.params) first.0 in
-    let marked = both_hold (not s.1.declassify || s.1.privileged) (list_all (param_marked s.1) s.1.params) stands in
+    let first = and_parts (nat_le (length s.1.params) 8 && list_all (param_fits (length p.structs)) s.1.params) _ fits in
+    let own_parts = and_parts (nat_le (length s.1.params) 8) (list_all (param_fits (length p.structs)) s.1.params) first.0 in
+    let marked = and_parts (not s.1.declassify || s.1.privileged) (list_all (param_marked s.1) s.1.params) stands in
     let same = say.privileged n s there in
     record {
       declassify = λ e. same ∙ implied s.1.declassify s.1.privileged marked.0 (sym (own_declassify monitor (function_at p s.0) s.1) ∙ e);
@@ -208,10 +205,10 @@ signature_fit marks monitor p structs n s whole say there fits stands =
 pub globals_fit : (p : ProgramTree) (structs : Structs) (gs : List GlobalTree) → Whole structs p.structs → list_all (global_fits p.structs) gs ≡ true → list_all global_marked gs ≡ true → GlobalsFit structs p.structs gs
 globals_fit p structs [] whole fits stands = tt {0}
 globals_fit p structs (g ∷ gs) whole fits stands =
-    let parts = both_hold (global_fits p.structs g) (list_all (global_fits p.structs) gs) fits in
-    let marks = both_hold (global_marked g) (list_all global_marked gs) stands in
-    let own_parts = both_hold (is_plain_type (length p.structs) g.var.ty && is_small p.structs g.var.ty) (cells_fit (leaves_of p.structs g.var.ty) g.cells) parts.0 in
-    let typed = both_hold (is_plain_type (length p.structs) g.var.ty) (is_small p.structs g.var.ty) own_parts.0 in
+    let parts = and_parts (global_fits p.structs g) (list_all (global_fits p.structs) gs) fits in
+    let marks = and_parts (global_marked g) (list_all global_marked gs) stands in
+    let own_parts = and_parts (is_plain_type (length p.structs) g.var.ty && is_small p.structs g.var.ty) (cells_fit (leaves_of p.structs g.var.ty) g.cells) parts.0 in
+    let typed = and_parts (is_plain_type (length p.structs) g.var.ty) (is_small p.structs g.var.ty) own_parts.0 in
     let fit = plain_fits structs p.structs (length p.structs) g.var.ty whole.sound (omega arith) whole.table whole.differ typed.0 typed.1 in
     let less = object_few structs p.structs (length p.structs) g.var.ty whole.table.cells typed.0 in
     let long = cells_exact (leaves_of p.structs g.var.ty) g.cells own_parts.1 in (
@@ -234,8 +231,8 @@ globals_fit p structs (g ∷ gs) whole fits stands =
 pub locals_fit : (structs : Structs) (infos : List StructInfo) (xs : List Var) → Whole structs infos → list_all (variable_fits infos) xs ≡ true → LocalsFit structs infos xs
 locals_fit structs infos [] whole fits = tt {0}
 locals_fit structs infos (x ∷ xs) whole fits =
-    let parts = both_hold (variable_fits infos x) (list_all (variable_fits infos) xs) fits in
-    let typed = both_hold (is_variable_type (length infos) x.ty) (is_small infos x.ty) parts.0 in
+    let parts = and_parts (variable_fits infos x) (list_all (variable_fits infos) xs) fits in
+    let typed = and_parts (is_variable_type (length infos) x.ty) (is_small infos x.ty) parts.0 in
     (record { fits = variable_fit structs infos x.ty whole typed.0 typed.1 }, locals_fit structs infos xs whole parts.1)
 
 param_may : (x : ParamKind) → may_be kind.Parameter (param_type x) ≡ true
@@ -246,7 +243,7 @@ param_may (k.Ptr el fixed) = refl
 definition_param : (m : FunctionMarks) (structs : Structs) (infos : List StructInfo) (s : Signature) (y : Param) (x : Var) → Whole structs infos → m.privileged ≡ s.privileged → m.defined ≡ true → param_type y.kind ≡ x.ty
     → variable_fits infos x ≡ true → (not s.privileged || not x.unpriv) ≡ true → ParameterFits m structs infos (marked_var x)
 definition_param m structs infos s y x whole same defined is fits plain =
-    let typed = both_hold (is_variable_type (length infos) x.ty) (is_small infos x.ty) fits in
+    let typed = and_parts (is_variable_type (length infos) x.ty) (is_small infos x.ty) fits in
     record {
       fits = variable_fit structs infos x.ty whole typed.0 typed.1;
       may = subst (λ u. may_be kind.Parameter u ≡ true) is (param_may y.kind);
@@ -277,9 +274,9 @@ definition_params m structs infos s ps zero xs long whole same defined lead fits
 definition_params m structs infos s [] (suc n) xs long whole same defined lead fits plain = absurd (omega (arith, long))
 definition_params m structs infos s (y ∷ ps) (suc n) [] long whole same defined lead fits plain = tt {0}
 definition_params m structs infos s (y ∷ ps) (suc n) (x ∷ xs) long whole same defined lead fits plain =
-    let leads = both_hold (same_type (param_type y.kind) x.ty && same_bool y.marked x.marked) (params_lead ps xs) lead in
-    let is = equal_types (param_type y.kind) x.ty (both_hold (same_type (param_type y.kind) x.ty) (same_bool y.marked x.marked) leads.0).0 in
-    let parts = both_hold (variable_fits infos x) (list_all (variable_fits infos) xs) fits in (
+    let leads = and_parts (same_type (param_type y.kind) x.ty && same_bool y.marked x.marked) (params_lead ps xs) lead in
+    let is = equal_types (param_type y.kind) x.ty (and_parts (same_type (param_type y.kind) x.ty) (same_bool y.marked x.marked) leads.0).0 in
+    let parts = and_parts (variable_fits infos x) (list_all (variable_fits infos) xs) fits in (
       definition_param m structs infos s y x whole same defined is parts.0 (first_plain s.privileged x.unpriv (list_any (λ z. z.unpriv) (take n xs)) plain),
       definition_params m structs infos s ps n xs (omega (arith, long)) whole same defined leads.1 parts.1 (rest_plain s.privileged x.unpriv (list_any (λ z. z.unpriv) (take n xs)) plain),
     )
@@ -297,4 +294,4 @@ definition_params m structs infos s (y ∷ ps) (suc n) (x ∷ xs) long whole sam
 pub dropped_all : (q : Var → Bool) (n : ℕ) (xs : List Var) → list_all q xs ≡ true → list_all q (drop n xs) ≡ true
 dropped_all q zero xs h = h
 dropped_all q (suc n) [] h = refl
-dropped_all q (suc n) (x ∷ xs) h = dropped_all q n xs (both_hold (q x) (list_all q xs) h).1
+dropped_all q (suc n) (x ∷ xs) h = dropped_all q n xs (and_parts (q x) (list_all q xs) h).1

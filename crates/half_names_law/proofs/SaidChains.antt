@@ -3,6 +3,7 @@ use Rattle.std.proofs.Common.{◌≡◌, refl, ap, sym, subst, List, [], ◌∷�
 use Rattle.std.specs.Prelude.{◌&&◌, ◌||◌, not}
 use Rattle.std.proofs.lemmas.Bool.Decides.{nat_tests}
 use Rattle.pt_base.specs.declared.span.Span.{Span}
+use Rattle.pt_base.proofs.Booleans.{both_hold, both_hold_first, both_hold_second, false_not_true}
 use Rattle.pt_int.specs.declared.operator.BinOp.{BinOp}
 use Rattle.pt_tree.specs.declared.operator.BinaryOp.{BinaryOp}
 use Rattle.pt_tree.specs.declared.operator.BinaryOp.TheVariants.{LogicalOr, LogicalAnd}
@@ -15,13 +16,11 @@ use Rattle.type_rules.specs.Operators.{judged, takes, binary_rule, rule_type}
 use Rattle.typed_tree.specs.declared.link.LogicalOp.{LogicalOp}
 use Rattle.typed_tree.specs.declared.types.VarTy.{VarTy}
 use Rattle.typed_tree.specs.ExpressionTree.{ExprTree, LinkTree, link, no_links, link_and, link_trees, operand_trees}
-use Rattle.typed_tree.proofs.WellFormedLemmas.{and_left, and_right, and_both}
 use Rattle.check_expressions.specs.Conversions.{as_type}
 use Rattle.check_expressions.specs.Links.{SoFar, integer_op, logical_of, step_of, converted_by, link_rule, begun, link_type, has_none, first_by, linked, operand_of, links_tree, chained}
 use Rattle.check_declarations.specs.declared.fault.FaultKind.TheVariants.{WrongType}
 use Rattle.check_declarations.specs.Faults.{fault_at}
 use Rattle.check_expressions.specs.Operands.{Known, Made, var_type, value_tree, plain, fine, refused}
-use Rattle.lowered_code_law.proofs.FormsSameTypes.{never}
 use Rattle.half_names_law.specs.SaidNulls.{is_null, is_compared, stands, links_stand, operands_stand, is_placed}
 use Rattle.half_names_law.proofs.SaidConversions.{not_null, placed_of, integer_stands, as_type_placed, is_pointers, converted_stands, KnownStands, faulty_stands, plain_stands, value_stands, value_null}
 
@@ -30,24 +29,24 @@ use Rattle.half_names_law.proofs.SaidConversions.{not_null, placed_of, integer_s
 -- an operand that isn't null, behind what isn't
 beside : (b o p : Bool) → o ≡ true → (if b then o || (not false && p) else not false && o) ≡ true
 beside true true p h = refl
-beside true false p h = never h
+beside true false p h = false_not_true h
 beside false o p h = h
 
 -- an operand that is compared with what isn't null
 compared : (o p : Bool) → (p || o) ≡ true → (o || (not false && p)) ≡ true
 compared true p h = refl
 compared false true h = refl
-compared false false h = never h
+compared false false h = false_not_true h
 
 -- an operand that isn't null, compared with what may be
 compared_first : (nul o p : Bool) → o ≡ true → (o || (not nul && p)) ≡ true
 compared_first nul true p h = refl
-compared_first nul false p h = never h
+compared_first nul false p h = false_not_true h
 
 -- a step behind what isn't null
 link_stands : (r : Rule) (op : BinOp) (s : Span) (ty : VarTy) (own other : Value) (x : ExprTree) → stands x ≡ true → links_stand false (link_and (link s ty (step_of op r) (converted_by r own other x)) no_links) ≡ true
 unfolding step_of converted_by
-link_stands rule.ComparePointers op s ty own other x h = and_both ((stands y) || (not false && is_null y)) true (compared (stands y) (is_null y) (go own.null)) refl
+link_stands rule.ComparePointers op s ty own other x h = both_hold ((stands y) || (not false && is_null y)) true (compared (stands y) (is_null y) (go own.null)) refl
   where
     y : ExprTree
     y = if own.null then as_type other.ty true x else x
@@ -58,22 +57,22 @@ link_stands rule.ComparePointers op s ty own other x h = and_both ((stands y) ||
 link_stands r op s ty own other x h = plain r refl h
   where
     plain : (r : Rule) → is_pointers r ≡ false → stands x ≡ true → links_stand false (link_and (link s ty (step_of op r) (converted_by r own other x)) no_links) ≡ true
-    plain r p h = and_both (if is_compared (step_of op r) then stands (converted_by r own other x) || (not false && is_null (converted_by r own other x)) else not false && stands (converted_by r own other x)) true
+    plain r p h = both_hold (if is_compared (step_of op r) then stands (converted_by r own other x) || (not false && is_null (converted_by r own other x)) else not false && stands (converted_by r own other x)) true
         (beside (is_compared (step_of op r)) (stands (converted_by r own other x)) (is_null (converted_by r own other x)) (converted_stands r own other x p h)) refl
 
 -- a link more
 links_more : (nul : Bool) (ls : List LinkTree) (l : LinkTree) → links_stand nul (link_trees ls) ≡ true → links_stand false (link_trees (l ∷ [])) ≡ true → links_stand nul (link_trees (ls ++ l ∷ [])) ≡ true
-links_more true [] l h k = never h
+links_more true [] l h k = false_not_true h
 links_more false [] l h k = k
 links_more nul (link s ty op a ∷ rest) l h k =
-    and_both (if is_compared op then stands a || (not nul && is_null a) else not nul && stands a) (links_stand false (link_trees (rest ++ l ∷ [])))
-    (and_left (if is_compared op then stands a || (not nul && is_null a) else not nul && stands a) (links_stand false (link_trees rest)) h)
-    (links_more false rest l (and_right (if is_compared op then stands a || (not nul && is_null a) else not nul && stands a) (links_stand false (link_trees rest)) h) k)
+    both_hold (if is_compared op then stands a || (not nul && is_null a) else not nul && stands a) (links_stand false (link_trees (rest ++ l ∷ [])))
+    (both_hold_first (if is_compared op then stands a || (not nul && is_null a) else not nul && stands a) (links_stand false (link_trees rest)) h)
+    (links_more false rest l (both_hold_second (if is_compared op then stands a || (not nul && is_null a) else not nul && stands a) (links_stand false (link_trees rest)) h) k)
 
 operands_more : (ls : List LinkTree) (l : LinkTree) → operands_stand (operand_trees (map operand_of ls)) ≡ true → operands_stand (operand_trees (map operand_of (l ∷ []))) ≡ true → operands_stand (operand_trees (map operand_of (ls ++ l ∷ []))) ≡ true
 unfolding operand_of
 operands_more [] l h k = k
-operands_more (link s ty op a ∷ rest) l h k = and_both (stands a) (operands_stand (operand_trees (map operand_of (rest ++ l ∷ [])))) (and_left (stands a) (operands_stand (operand_trees (map operand_of rest))) h) (operands_more rest l (and_right (stands a) (operands_stand (operand_trees (map operand_of rest))) h) k)
+operands_more (link s ty op a ∷ rest) l h k = both_hold (stands a) (operands_stand (operand_trees (map operand_of (rest ++ l ∷ [])))) (both_hold_first (stands a) (operands_stand (operand_trees (map operand_of rest))) h) (operands_more rest l (both_hold_second (stands a) (operands_stand (operand_trees (map operand_of rest))) h) k)
 
 -- ---- the first link
 
@@ -88,17 +87,17 @@ unfolding step_of converted_by
 pair_pointers op s ty t u true true first x i j h k =
     let y = as_type t true x in
     let nul = is_null (as_type u true first) in
-    record { start = as_type_placed u true first h; next = and_both (stands y || (not nul && is_null y)) true (compared_first nul (stands y) (is_null y) (integer_stands t true x (i refl) k)) refl }
+    record { start = as_type_placed u true first h; next = both_hold (stands y || (not nul && is_null y)) true (compared_first nul (stands y) (is_null y) (integer_stands t true x (i refl) k)) refl }
 pair_pointers op s ty t u true false first x i j h k =
     let nul = is_null (as_type u true first) in
-    record { start = as_type_placed u true first h; next = and_both (stands x || (not nul && is_null x)) true (compared_first nul (stands x) (is_null x) k) refl }
+    record { start = as_type_placed u true first h; next = both_hold (stands x || (not nul && is_null x)) true (compared_first nul (stands x) (is_null x) k) refl }
 pair_pointers op s ty t u false true first x i j h k =
     let y = as_type t true x in
     record {
       start = placed_of first h;
-      next = and_both (stands y || (not (is_null first) && is_null y)) true (subst (λ z. (stands y || (not z && is_null y)) ≡ true) (sym (not_null first h)) (compared (stands y) (is_null y) (as_type_placed t true x k))) refl;
+      next = both_hold (stands y || (not (is_null first) && is_null y)) true (subst (λ z. (stands y || (not z && is_null y)) ≡ true) (sym (not_null first h)) (compared (stands y) (is_null y) (as_type_placed t true x k))) refl;
     }
-pair_pointers op s ty t u false false first x i j h k = record { start = placed_of first h; next = and_both (stands x || (not (is_null first) && is_null x)) true (compared_first (is_null first) (stands x) (is_null x) k) refl }
+pair_pointers op s ty t u false false first x i j h k = record { start = placed_of first h; next = both_hold (stands x || (not (is_null first) && is_null x)) true (compared_first (is_null first) (stands x) (is_null x) k) refl }
 
 pair_plain : (r : Rule) (op : BinOp) (s : Span) (ty : VarTy) (v w : Value) (first x : ExprTree) → is_pointers r ≡ false → stands first ≡ true → stands x ≡ true → Pair op s ty r v w first x
 pair_plain r op s ty v w first x p h k =
@@ -109,7 +108,7 @@ pair_plain r op s ty v w first x p h k =
     record {
       start = placed_of a stand;
       next = subst (λ z. links_stand z (link_and (link s ty step y) no_links) ≡ true) (sym (not_null a stand))
-          (and_both (if is_compared step then stands y || (not false && is_null y) else not false && stands y) true (beside (is_compared step) (stands y) (is_null y) (converted_stands r w v x p k)) refl);
+          (both_hold (if is_compared step then stands y || (not false && is_null y) else not false && stands y) true (beside (is_compared step) (stands y) (is_null y) (converted_stands r w v x p k)) refl);
     }
 
 pair_stands : (r : Rule) (op : BinOp) (s : Span) (ty : VarTy) (v w : Value) (first x : ExprTree) → (v.null ≡ true → is_integer v.ty ≡ true) → (w.null ≡ true → is_integer w.ty ≡ true) → stands first ≡ true → stands x ≡ true → Pair op s ty r v w first x
@@ -144,14 +143,14 @@ some_links l ls = grind (arith, nat_tests)
 
 -- the first operand alone isn't null
 alone : (p o : Bool) → (p || o) ≡ true → not p ≡ true → o ≡ true
-alone true o h k = never k
+alone true o h k = false_not_true k
 alone false o h k = h
 
 going_on : (r : Rule) (op : BinaryOp) (sp at : Span) (v w : Value) (first x : ExprTree) (ls : List LinkTree) → Going (record { value = v; span = at; first = first; links = ls }) → (w.null ≡ true → is_integer w.ty ≡ true) → stands x ≡ true → Going (linked r op sp (record { value = v; span = at; first = first; links = ls }) w x)
 unfolding linked first_by has_none
 going_on r op sp at v w first x [] h j k =
     let pair = pair_stands r (integer_op op) sp (link_type (rule_type r v w)) v w first x h.null j (alone (is_null first) (stands first) h.start h.links) k in
-    record { start = pair.start; links = pair.next; null = λ e. never e }
+    record { start = pair.start; links = pair.next; null = λ e. false_not_true e }
 going_on r op sp at v w first x (l ∷ ls) h j k =
     let new = link sp (link_type (rule_type r v w)) (step_of (integer_op op) r) (converted_by r w v x) in
     let same : first_by (has_none (l ∷ ls)) r v w first ≡ first = ap (λ b. first_by b r v w first) (some_links l ls) in
@@ -159,7 +158,7 @@ going_on r op sp at v w first x (l ∷ ls) h j k =
       start = subst (λ z. is_placed z ≡ true) (sym same) h.start;
       links = subst (λ z. links_stand (is_null z) (link_trees ((l ∷ ls) ++ new ∷ [])) ≡ true) (sym same)
           (links_more (is_null first) (l ∷ ls) new h.links (link_stands r (integer_op op) sp (link_type (rule_type r v w)) w v x k));
-      null = λ e. never e;
+      null = λ e. false_not_true e;
     }
 
 -- ---- `&&` and `||`
@@ -176,13 +175,13 @@ unfolding converted_by
 unconverted rule.Unknown own other x h = refl
 unconverted (rule.Wrong left right) own other x h = refl
 unconverted rule.Logical own other x h = refl
-unconverted (rule.Arithmetic t) own other x h = never h
-unconverted (rule.Comparison t) own other x h = never h
-unconverted (rule.Shift t) own other x h = never h
-unconverted rule.Move own other x h = never h
-unconverted rule.MoveBy own other x h = never h
-unconverted rule.Difference own other x h = never h
-unconverted rule.ComparePointers own other x h = never h
+unconverted (rule.Arithmetic t) own other x h = false_not_true h
+unconverted (rule.Comparison t) own other x h = false_not_true h
+unconverted (rule.Shift t) own other x h = false_not_true h
+unconverted rule.Move own other x h = false_not_true h
+unconverted rule.MoveBy own other x h = false_not_true h
+unconverted rule.Difference own other x h = false_not_true h
+unconverted rule.ComparePointers own other x h = false_not_true h
 
 judged_nothing : (bad left right : Bool) → converts_nothing (judged bad left right rule.Logical) ≡ true
 judged_nothing true left right = refl
@@ -208,7 +207,7 @@ truths_on r op sp far w x n h k =
     let new = link sp (link_type (rule_type r far.value w)) (step_of (integer_op op) r) y in
     record {
       start = subst (λ z. stands z ≡ true) (sym (first_same (has_none far.links) r far.value w far.first n)) h.start;
-      operands = operands_more far.links new h.operands (and_both (stands y) true (subst (λ z. stands z ≡ true) (sym (unconverted r w far.value x n)) k) refl);
+      operands = operands_more far.links new h.operands (both_hold (stands y) true (subst (λ z. stands z ≡ true) (sym (unconverted r w far.value x n)) k) refl);
     }
 
 -- ---- any link, and whole chains
@@ -219,11 +218,11 @@ linked_stands false op sp far w x h j k = going_on (link_rule false op far.value
 
 chain_tree : (s : Span) (far : SoFar) → Going far → stands (links_tree None s (var_type far.value.ty) far.first far.links) ≡ true
 unfolding links_tree
-chain_tree s far h = and_both (is_placed far.first) (links_stand (is_null far.first) (link_trees far.links)) h.start h.links
+chain_tree s far h = both_hold (is_placed far.first) (links_stand (is_null far.first) (link_trees far.links)) h.start h.links
 
 truth_tree : (op : LogicalOp) (s : Span) (far : SoFar) → Truths far → stands (links_tree (Some op) s (var_type far.value.ty) far.first far.links) ≡ true
 unfolding links_tree
-truth_tree op s far h = and_both (stands far.first) (operands_stand (operand_trees (map operand_of far.links))) h.start h.operands
+truth_tree op s far h = both_hold (stands far.first) (operands_stand (operand_trees (map operand_of far.links))) h.start h.operands
 
 either : (b : Bool) (m n : Made) → KnownStands m.operand → KnownStands n.operand → KnownStands (if b then m else n).operand
 either true m n h k = h

@@ -4,6 +4,7 @@ use Rattle.std.specs.Prelude.{◌&&◌, not, slice_get}
 use Rattle.std.specs.List.{list_all}
 use Rattle.pt_base.specs.declared.ids.FnId.{FnId}
 use Rattle.pt_base.specs.declared.span.Span.{Span}
+use Rattle.pt_base.proofs.Booleans.{both_hold, both_hold_first, both_hold_second}
 use Rattle.pt_tree.specs.ExpressionTree as e
 use Rattle.pt_tree.specs.ProgramTree as parsed
 use Rattle.pt_tree.specs.ProgramTree.{ItemTree}
@@ -12,7 +13,6 @@ use Rattle.pt_tree.specs.StatementTree.{BlockTree}
 use Rattle.type_rules.specs.declared.types.Type.{«Type»}
 use Rattle.type_rules.specs.Types.{is_bad}
 use Rattle.typed_tree.specs.ExpressionTree.{ExprTree}
-use Rattle.typed_tree.proofs.WellFormedLemmas.{and_left, and_right, and_both}
 use Rattle.check_declarations.specs.declared.specifiers.Specified.{Specified}
 use Rattle.check_declarations.specs.Specifiers.{specified}
 use Rattle.check_declarations.specs.Structs.{Structs}
@@ -46,10 +46,10 @@ ArePlaced xs = list_all is_placed xs ≡ true
 
 both : (xs ys : List ExprTree) → ArePlaced xs → ArePlaced ys → ArePlaced (xs ++ ys)
 both [] ys h k = k
-both (x ∷ xs) ys h k = and_both (is_placed x) (list_all is_placed (xs ++ ys)) (and_left (is_placed x) (list_all is_placed xs) h) (both xs ys (and_right (is_placed x) (list_all is_placed xs) h) k)
+both (x ∷ xs) ys h k = both_hold (is_placed x) (list_all is_placed (xs ++ ys)) (both_hold_first (is_placed x) (list_all is_placed xs) h) (both xs ys (both_hold_second (is_placed x) (list_all is_placed xs) h) k)
 
 more : (x : ExprTree) (xs : List ExprTree) → is_placed x ≡ true → ArePlaced xs → ArePlaced (x ∷ xs)
-more x xs h k = and_both (is_placed x) (list_all is_placed xs) h k
+more x xs h k = both_hold (is_placed x) (list_all is_placed xs) h k
 
 -- ---- outermost expressions
 

@@ -1,8 +1,10 @@
 -- What the type judgments convert: null comes only where it may stand.
 use Rattle.std.proofs.Common.{◌≡◌, refl, sym, List, [], ◌∷◌, ◌++◌, Bool, true, false, if◌then◌else◌}
+use Rattle.std.proofs.lemmas.Bool.{or_right}
 use Rattle.pt_base.specs.declared.int_type.IntType.{IntType}
 use Rattle.pt_base.specs.declared.span.Span.{Span}
 use Rattle.pt_base.specs.IntTypes.{promoted}
+use Rattle.pt_base.proofs.Booleans.{both_hold, both_hold_first, both_hold_second, false_not_true}
 use Rattle.pt_tree.specs.declared.signature.Elem.{Elem}
 use Rattle.type_rules.specs.declared.types.Type.{«Type»}
 use Rattle.type_rules.specs.declared.types.Type.TheVariants.{Bad, Void, Int, Struct, Array, Pointer}
@@ -12,23 +14,20 @@ use Rattle.type_rules.specs.declared.operators.Rule.TheVariants as rule
 use Rattle.type_rules.specs.Types.{is_integer, value_type}
 use Rattle.typed_tree.specs.declared.types.VarTy.TheVariants as v
 use Rattle.typed_tree.specs.ExpressionTree.{ExprTree, typed, null, StepTree, step_trees, field, item, PlaceTree}
-use Rattle.typed_tree.proofs.WellFormedLemmas.{and_left, and_right, and_both}
 use Rattle.check_expressions.specs.Conversions.{is_of_int, is_of_pointer, converted, to_int, to_pointer, to_null, as_type, as_promoted}
 use Rattle.check_expressions.specs.Links.{converted_by}
 use Rattle.check_expressions.specs.Operands.{Elaboration, value, object, pointed, moved, element, Known, root_of, steps_of, place_of, read_form, read_object, read_tree, value_tree, value_of, faulty, plain, designated}
-use Rattle.lowered_code_law.proofs.FormsSameTypes.{never}
 use Rattle.half_names_law.specs.SaidNulls.{is_null, stands, place_stands, root_stands, steps_stand, is_placed}
-use Rattle.half_names_law.proofs.SaidLemmas.{or_so}
 
 -- ---- null
 
 -- what stands isn't null
 pub not_null : (a : ExprTree) → stands a ≡ true → is_null a ≡ false
-not_null (typed s ty null) h = never h
+not_null (typed s ty null) h = false_not_true h
 not_null (typed s ty form) h = refl
 
 pub placed_of : (a : ExprTree) → stands a ≡ true → is_placed a ≡ true
-placed_of a h = or_so (is_null a) (stands a) h
+placed_of a h = or_right (is_null a) (stands a) h
 
 -- ---- conversions
 
@@ -61,11 +60,11 @@ as_type_stands (Pointer e fixed) x h = to_pointer_stands e fixed x h
 pub integer_stands : (ty : «Type») (nul : Bool) (x : ExprTree) → is_integer ty ≡ true → stands x ≡ true → stands (as_type ty nul x) ≡ true
 unfolding as_type
 integer_stands (Int t) nul x i h = to_int_stands t x h
-integer_stands Bad nul x i h = never i
-integer_stands Void nul x i h = never i
-integer_stands (Struct n) nul x i h = never i
-integer_stands (Array e count) nul x i h = never i
-integer_stands (Pointer e fixed) nul x i h = never i
+integer_stands Bad nul x i h = false_not_true i
+integer_stands Void nul x i h = false_not_true i
+integer_stands (Struct n) nul x i h = false_not_true i
+integer_stands (Array e count) nul x i h = false_not_true i
+integer_stands (Pointer e fixed) nul x i h = false_not_true i
 
 null_placed : (e : Elem) (fixed : Bool) (x : ExprTree) → is_placed (to_null e fixed x) ≡ true
 null_placed e fixed (typed s ty f) = refl
@@ -107,7 +106,7 @@ converted_stands rule.Logical own other x p h = h
 converted_stands rule.Move own other x p h = h
 converted_stands rule.MoveBy own other x p h = h
 converted_stands rule.Difference own other x p h = h
-converted_stands rule.ComparePointers own other x p h = never (sym p)
+converted_stands rule.ComparePointers own other x p h = false_not_true (sym p)
 
 -- ---- what is known of operands
 
@@ -124,13 +123,13 @@ pub record KnownStands (k : Known) : Type 0 where
   pub null : k.null ≡ true → is_integer k.ty ≡ true
 
 pub faulty_stands : KnownStands faulty
-faulty_stands = record { tree = refl; null = λ e. never e }
+faulty_stands = record { tree = refl; null = λ e. false_not_true e }
 
 pub plain_stands : (ty : «Type») (x : ExprTree) → stands x ≡ true → KnownStands (plain ty x)
-plain_stands ty x h = record { tree = h; null = λ e. never e }
+plain_stands ty x h = record { tree = h; null = λ e. false_not_true e }
 
 pub designated_stands : (ty : «Type») (fixed : Bool) (t : Elaboration) → Stands t → KnownStands (designated ty fixed t)
-designated_stands ty fixed t h = record { tree = h; null = λ e. never e }
+designated_stands ty fixed t h = record { tree = h; null = λ e. false_not_true e }
 
 pub root_of_stands : (t : Elaboration) → Stands t → root_stands (root_of t) ≡ true
 unfolding root_of
@@ -144,7 +143,7 @@ root_of_stands (element root steps at i s) h = h.0
 pub steps_more : (ss : List StepTree) (s : StepTree) → steps_stand (step_trees ss) ≡ true → steps_stand (step_trees (s ∷ [])) ≡ true → steps_stand (step_trees (ss ++ s ∷ [])) ≡ true
 steps_more [] s h k = k
 steps_more (field j ∷ rest) s h k = steps_more rest s h k
-steps_more (item i at ∷ rest) s h k = and_both (stands i) (steps_stand (step_trees (rest ++ s ∷ []))) (and_left (stands i) (steps_stand (step_trees rest)) h) (steps_more rest s (and_right (stands i) (steps_stand (step_trees rest)) h) k)
+steps_more (item i at ∷ rest) s h k = both_hold (stands i) (steps_stand (step_trees (rest ++ s ∷ []))) (both_hold_first (stands i) (steps_stand (step_trees rest)) h) (steps_more rest s (both_hold_second (stands i) (steps_stand (step_trees rest)) h) k)
 
 pub steps_of_stand : (t : Elaboration) → Stands t → steps_stand (step_trees (steps_of t)) ≡ true
 unfolding steps_of
@@ -152,10 +151,10 @@ steps_of_stand (value x) h = refl
 steps_of_stand (object root steps) h = h.1
 steps_of_stand (pointed p s) h = refl
 steps_of_stand (moved p) h = refl
-steps_of_stand (element root steps at i s) h = steps_more steps (item i s) h.1 (and_both (stands i) true h.2 refl)
+steps_of_stand (element root steps at i s) h = steps_more steps (item i s) h.1 (both_hold (stands i) true h.2 refl)
 
 pub place_of_stands : (t : Elaboration) → Stands t → place_stands (place_of t) ≡ true
-place_of_stands t h = and_both (root_stands (root_of t)) (steps_stand (step_trees (steps_of t))) (root_of_stands t h) (steps_of_stand t h)
+place_of_stands t h = both_hold (root_stands (root_of t)) (steps_stand (step_trees (steps_of t))) (root_of_stands t h) (steps_of_stand t h)
 
 read_stands : (s : Span) (ty : «Type») (fixed : Bool) (p : PlaceTree) → place_stands p ≡ true → stands (read_object s ty fixed p) ≡ true
 unfolding read_form
@@ -185,8 +184,8 @@ value_null k h e = go k.ty (h.null e)
   where
     go : (ty : «Type») → is_integer ty ≡ true → is_integer (value_type ty k.fixed) ≡ true
     go (Int t) i = refl
-    go Bad i = never i
-    go Void i = never i
-    go (Struct n) i = never i
-    go (Array e count) i = never i
-    go (Pointer e f) i = never i
+    go Bad i = false_not_true i
+    go Void i = false_not_true i
+    go (Struct n) i = false_not_true i
+    go (Array e count) i = false_not_true i
+    go (Pointer e f) i = false_not_true i

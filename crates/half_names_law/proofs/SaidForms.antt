@@ -2,6 +2,8 @@
 use Rattle.std.proofs.Common.{◌≡◌, ◌∙◌, ℕ, ◌+◌, refl, ap, sym, subst, Bool, true, false, Option, None, Some, List, [], ◌∷◌, ◌++◌}
 use Rattle.std.specs.Prelude.{◌&&◌, ◌||◌, not, slice_get}
 use Rattle.pt_base.specs.declared.span.Span.{Span}
+use Rattle.pt_base.proofs.Booleans.{both_hold, false_not_true}
+use Rattle.pt_base.proofs.Lists.{append_nil}
 use Rattle.pt_int.specs.declared.operator.UnOp.{UnOp}
 use Rattle.pt_tree.specs.declared.signature.Param.{Param}
 use Rattle.typed_tree.specs.declared.types.VarTy.{VarTy}
@@ -15,7 +17,6 @@ use Rattle.typed_tree.specs.TypeTests.{same_types, points_to_const, is_scalar}
 use Rattle.typed_tree.specs.TypeRules as r
 use Rattle.typed_tree.specs.TypeRules.{unary_fits, converts}
 use Rattle.typed_tree.specs.WellFormedExpression.{ty_of, param_type}
-use Rattle.typed_tree.proofs.WellFormedLemmas.{and_both}
 use Rattle.pt_core.specs.CodeTree.{ExprTree, StmtTree, read, assign, copy, call, choose, expr_trees, stmt_trees}
 use Rattle.pt_core.specs.Types.{place_type}
 use Rattle.source_meaning.specs.Expressions as x
@@ -25,7 +26,6 @@ use Rattle.lowering.specs.Operators.{converted, prefixed, truth_of, stepped, sto
 use Rattle.lowering.specs.Expressions.{is_struct, linked, started, valued, where_open, with_operand, arm, chosen, copied, given, assigned, compounded, counted, counted_after, argued, call_effects, called}
 use Rattle.lowered_code_law.proofs.FormsSettings.{Setting, Stand, context}
 use Rattle.typed_tree.proofs.SameTypes.{equal_options}
-use Rattle.lowered_code_law.proofs.FormsSameTypes.{never}
 use Rattle.lowered_code_law.proofs.FormsStanding.{stand_first, stand_rest, stand_three}
 use Rattle.lowered_code_law.proofs.FormsSteps.{convert_known, step_operands, unary_operand}
 use Rattle.lowered_code_law.proofs.FormsRules.{scalar_type, type_is}
@@ -44,7 +44,7 @@ prefixed_said w op (typed p (Some b) form) o s v h k = record {
   alone = prefixed_stands op b v.value s k.alone;
   keeps = free_keeps (context w) (prefixed op b v.value s) (type_or_int o) (prefixed_keeps (context w) op (Some b) o b v.value s h refl);
 }
-prefixed_said w op (typed p None form) o s v h k = never (unary_operand op None o h).0
+prefixed_said w op (typed p None form) o s v h k = false_not_true (unary_operand op None o h).0
 
 pub converted_said : (w : Setting) (a : t.ExprTree) (o : Option VarTy) (v : Lowered) → converts (ty_of a) o ≡ true → LoweredSaid w false (x.type_of a) v → LoweredSaid w false (type_or_int o) (record v { value = converted (type_or_int o) v.value })
 converted_said w (typed p (Some b) form) (Some ty) v h k = record {
@@ -52,8 +52,8 @@ converted_said w (typed p (Some b) form) (Some ty) v h k = record {
   alone = converted_stands ty v.value k.alone;
   keeps = converted_keeps (context w) b ty v.value h k.keeps;
 }
-converted_said w (typed p None form) o v h k = never (convert_known 0 None o h).0
-converted_said w (typed p (Some b) form) None v h k = never (convert_known 0 (Some b) None h).1
+converted_said w (typed p None form) o v h k = false_not_true (convert_known 0 None o h).0
+converted_said w (typed p (Some b) form) None v h k = false_not_true (convert_known 0 (Some b) None h).1
 
 -- ---- chains
 
@@ -134,16 +134,12 @@ choice_said w n a b d whole o test first second same_b same_d h i j stand =
       keeps = temp_keeps w k (type_or_int o) rest.0;
     }
 
-no_more : {A : Type 0} (xs : List A) → xs ++ [] ≡ xs
-no_more [] = refl
-no_more (y ∷ ys) = ap (λ zs. y ∷ zs) (no_more ys)
-
 -- the same where its value is dropped
 pub choice_drops : (w : Setting) (ty : VarTy) (n : ℕ) (test : Lowered) (first second : Effects) → (Stand w.variables n test.temps → LoweredSaid w false ty test) →
     (Stand w.variables (past n test.temps) first.temps → AreSaid w first.stmts) → (Stand w.variables (past (past n test.temps) first.temps) second.temps → AreSaid w second.stmts) →
     Stand w.variables n (test.temps ++ [] ++ first.temps ++ second.temps) → AreSaid w (chosen test [] first.stmts first.temps second.stmts second.temps).stmts
 choice_drops w ty n test first second h i j stand =
-    let all = stand_three w.variables n test.temps first.temps second.temps (subst (λ z. Stand w.variables n (z ++ first.temps ++ second.temps)) (no_more test.temps) stand) in
+    let all = stand_three w.variables n test.temps first.temps second.temps (subst (λ z. Stand w.variables n (z ++ first.temps ++ second.temps)) (append_nil test.temps) stand) in
     let v = h (stand_first w.variables n test.temps (first.temps ++ second.temps) all) in
     let rest = stand_rest w.variables n test.temps (first.temps ++ second.temps) all in
     let yes = i (stand_first w.variables (past n test.temps) first.temps second.temps rest) in
@@ -172,9 +168,9 @@ given_said w nul ty n to v h is k stand =
 
 struct_same : (ty : VarTy) → is_struct (Some ty) ≡ true → c.is_struct ty ≡ true
 struct_same (Struct n) h = refl
-struct_same (Int a) h = never h
-struct_same (Array a n) h = never h
-struct_same (Pointer a g) h = never h
+struct_same (Int a) h = false_not_true h
+struct_same (Array a n) h = false_not_true h
+struct_same (Pointer a g) h = false_not_true h
 
 pub copied_said : (w : Setting) (fixed : Bool) (ty : VarTy) (n : ℕ) (to of : LoweredPlace) → is_struct (Some ty) ≡ true → (Stand w.variables n to.temps → PlaceSaid w false to) → (Stand w.variables n to.temps → place_type (context w) to.place ≡ ty) →
     (Stand w.variables (past n to.temps) of.temps → PlaceSaid w fixed of) → Stand w.variables n (to.temps ++ of.temps) → PlaceSaid w false (copied to of)
@@ -183,8 +179,8 @@ copied_said w fixed ty n to of struct h is k stand =
     let p = h own in
     let q = k (stand_rest w.variables n to.temps of.temps stand) in
     let here : is_said (context w) w.called (copy to.place of.place) ≡ true =
-    and_both (place_stands to.place && place_stands of.place) (not (is_const (context w) to.place) && c.is_struct (place_type (context w) to.place)) (and_both (place_stands to.place) (place_stands of.place) p.alone q.alone)
-    (and_both (not (is_const (context w) to.place)) (c.is_struct (place_type (context w) to.place)) (ap not (place_free w to p)) (subst (λ z. c.is_struct z ≡ true) (sym (is own)) (struct_same ty struct))) in
+    both_hold (place_stands to.place && place_stands of.place) (not (is_const (context w) to.place) && c.is_struct (place_type (context w) to.place)) (both_hold (place_stands to.place) (place_stands of.place) p.alone q.alone)
+    (both_hold (not (is_const (context w) to.place)) (c.is_struct (place_type (context w) to.place)) (ap not (place_free w to p)) (subst (λ z. c.is_struct z ≡ true) (sym (is own)) (struct_same ty struct))) in
     record {
       stmts = one_more w (to.stmts ++ of.stmts) (copy to.place of.place) (said_both w to.stmts of.stmts p.stmts q.stmts) here;
       alone = p.alone;
@@ -273,7 +269,7 @@ argued_said w n p ps a v rest same h k stand =
     let others = k (stand_rest w.variables n v.temps rest.temps stand) in
     record {
       stmts = said_both w v.stmts rest.stmts y.stmts others.stmts;
-      passed = and_both (is_stored (context w) (param_type p.kind) v.value) (are_passed (context w) ps (expr_trees rest.values)) (stored_said (context w) true (param_type p.kind) v.value y.alone y.keeps) others.passed;
+      passed = both_hold (is_stored (context w) (param_type p.kind) v.value) (are_passed (context w) ps (expr_trees rest.values)) (stored_said (context w) true (param_type p.kind) v.value y.alone y.keeps) others.passed;
     }
 
 call_here : (w : Setting) (g : ℕ) (s : Span) (result : Option ℕ) (arguments : ExprTrees) (o : Option VarTy) (k : Called w g arguments o) (args : Arguments) → ArgumentsSaid w k.signature.params args → AreSaid w (args.stmts ++ call g (expr_trees args.values) result s ∷ [])
@@ -286,7 +282,7 @@ call_drops w n g s arguments o args k h stand = call_here w g s None arguments o
 
 pub called_said : (w : Setting) (n g : ℕ) (s : Span) (whole : t.ExprTree) (arguments : ExprTrees) (o : Option VarTy) (args : Arguments) (k : Called w g arguments o) → (Stand w.variables n args.temps → ArgumentsSaid w k.signature.params args) →
     Stand w.variables n (called g s o whole n args).temps → LoweredSaid w false (type_or_int o) (called g s o whole n args)
-called_said w n g s whole arguments None args k h stand = record { stmts = call_drops w n g s arguments None args k h stand; alone = refl; keeps = λ e. never e }
+called_said w n g s whole arguments None args k h stand = record { stmts = call_drops w n g s arguments None args k h stand; alone = refl; keeps = λ e. false_not_true e }
 called_said w n g s whole arguments (Some ty) args k h stand =
     let own = holding ty whole ∷ [] in
     let here = (stand_rest w.variables n args.temps own stand).0 in

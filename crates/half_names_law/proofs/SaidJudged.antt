@@ -3,6 +3,7 @@ use Rattle.std.proofs.Common.{◌≡◌, refl, sym, subst, List, [], Bool, true,
 use Rattle.std.specs.Prelude.{◌&&◌, ◌||◌, not, nat_eq}
 use Rattle.pt_base.specs.declared.ids.FnId.{FnId}
 use Rattle.pt_base.specs.declared.span.Span.{Span}
+use Rattle.pt_base.proofs.Booleans.{both_hold, false_not_true}
 use Rattle.pt_int.specs.declared.operator.UnOp.{UnOp}
 use Rattle.pt_int.specs.declared.operator.UnOp.TheVariants.{Minus, Plus, Flip, Not}
 use Rattle.pt_tree.specs.declared.operator.BinaryOp.{BinaryOp}
@@ -32,7 +33,6 @@ use Rattle.type_rules.specs.Conversions.{compound_rule, fit_rule, is_wrong, choi
 use Rattle.typed_tree.specs.declared.link.LinkStep.{LinkStep}
 use Rattle.typed_tree.specs.declared.link.LinkStep.TheVariants as link_step
 use Rattle.typed_tree.specs.ExpressionTree.{ExprTree, typed, expr_trees, RootTree, deref, StepTree, step_trees, field}
-use Rattle.typed_tree.proofs.WellFormedLemmas.{and_both}
 use Rattle.check_declarations.specs.declared.fault.FaultKind.{FaultKind}
 use Rattle.check_declarations.specs.declared.structs.FoundField.{FoundField}
 use Rattle.check_declarations.specs.Structs.{Structs, field_named}
@@ -48,7 +48,6 @@ use Rattle.check_expressions.specs.Postfixes.{moved_tree, element_tree, index_tr
 use Rattle.check_expressions.specs.Prefixes as p
 use Rattle.check_expressions.specs.Prefixes.{unary_operand, unary_rule_of, computed_by, computed, dereferenced_by, dereferenced, address_tree, address_of, address_of_pointer, addressed_as, addressed, stepped_by, stepped, prefixed, cast_target, cast_by, cast_to}
 use Rattle.check_expressions.specs.Targets.{target_fault}
-use Rattle.lowered_code_law.proofs.FormsSameTypes.{never}
 use Rattle.half_names_law.specs.SaidNulls.{is_null, is_compared, stands, arguments_stand, root_stands, steps_stand, is_placed}
 use Rattle.half_names_law.proofs.SaidConversions.{Stands, KnownStands, not_null, placed_of, as_type_stands, as_type_placed, is_pointers, converted_stands, faulty_stands, plain_stands, root_of_stands, steps_of_stand, steps_more, place_of_stands, value_stands}
 
@@ -57,8 +56,8 @@ use Rattle.half_names_law.proofs.SaidConversions.{Stands, KnownStands, not_null,
 meant_stands : (env : Env) (s : Span) (m : Meaning) → KnownStands (meant env s m).operand
 unfolding meant
 meant_stands env s (Function f) = faulty_stands
-meant_stands env s (Global g) = record { tree = (refl, refl); null = λ e. never e }
-meant_stands env s (Local v) = record { tree = (refl, refl); null = λ e. never e }
+meant_stands env s (Global g) = record { tree = (refl, refl); null = λ e. false_not_true e }
+meant_stands env s (Local v) = record { tree = (refl, refl); null = λ e. false_not_true e }
 
 pub named_stands : (env : Env) (w : Word) → KnownStands (named env w).operand
 unfolding named named_as
@@ -88,7 +87,7 @@ computed_stands o s at k h = go (unary_rule_of o (value_of k).ty)
     go : (r : UnaryRule) → KnownStands (computed_by r o s at (value_tree at k)).operand
     go unary_rule.Unknown = faulty_stands
     go unary_rule.Wrong = faulty_stands
-    go (unary_rule.Gives ty) = record { tree = unary_stands o ty (value_tree at k) (value_stands at k h); null = λ e. never e }
+    go (unary_rule.Gives ty) = record { tree = unary_stands o ty (value_tree at k) (value_stands at k h); null = λ e. false_not_true e }
 
 dereferenced_stands : (s at : Span) (k : Known) → KnownStands k → KnownStands (dereferenced s at k).operand
 unfolding dereferenced dereferenced_by
@@ -97,7 +96,7 @@ dereferenced_stands s at k h = go (deref_rule (value_of k).ty)
     go : (r : UnaryRule) → KnownStands (dereferenced_by r (p.points_to_const (value_of k).ty) s at (value_tree at k)).operand
     go unary_rule.Unknown = faulty_stands
     go unary_rule.Wrong = faulty_stands
-    go (unary_rule.Gives ty) = record { tree = value_stands at k h; null = λ e. never e }
+    go (unary_rule.Gives ty) = record { tree = value_stands at k h; null = λ e. false_not_true e }
 
 address_stands : (s : Span) (e : Elem) (fixed : Bool) (t : Elaboration) → Stands t → stands (address_tree s e fixed t) ≡ true
 unfolding address_tree
@@ -105,7 +104,7 @@ address_stands s e fixed (value x) h = place_of_stands (value x) h
 address_stands s e fixed (object root steps) h = place_of_stands (object root steps) h
 address_stands s e fixed (pointed q span) h = h
 address_stands s e fixed (moved (typed span ty f)) h = h
-address_stands s e fixed (element root steps at i span) h = and_both (root_stands root && steps_stand (step_trees steps)) (stands i && true) (and_both (root_stands root) (steps_stand (step_trees steps)) h.0 h.1) (and_both (stands i) true h.2 refl)
+address_stands s e fixed (element root steps at i span) h = both_hold (root_stands root && steps_stand (step_trees steps)) (stands i && true) (both_hold (root_stands root) (steps_stand (step_trees steps)) h.0 h.1) (both_hold (stands i) true h.2 refl)
 
 either : (d : Bool) (m n : Made) → KnownStands m.operand → KnownStands n.operand → KnownStands (if d then m else n).operand
 either true m n h k = h
@@ -139,7 +138,7 @@ stepped_stands structs s back postfix at k h = go (target_fault structs k) (step
     go : (o : Option FaultKind) (r : UnaryRule) → KnownStands (stepped_by o r s back postfix at k.tree).operand
     go o unary_rule.Unknown = faulty_stands
     go o unary_rule.Wrong = faulty_stands
-    go None (unary_rule.Gives ty) = record { tree = place_of_stands k.tree h.tree; null = λ e. never e }
+    go None (unary_rule.Gives ty) = record { tree = place_of_stands k.tree h.tree; null = λ e. false_not_true e }
     go (Some kind) (unary_rule.Gives ty) = faulty_stands
 
 pub prefixed_stands : (structs : Structs) (o : PrefixOp) (s at : Span) (k : Known) → KnownStands k → KnownStands (prefixed structs o s at k).operand
@@ -161,8 +160,8 @@ cast_stands pointer base s at k h = go (cast_rule (cast_target pointer base) (va
     go cast.Unknown = faulty_stands
     go cast.Wrong = faulty_stands
     go cast.OutOfProfile = faulty_stands
-    go (cast.Converts t) = record { tree = value_stands at k h; null = λ e. never e }
-    go cast.Discards = record { tree = value_stands at k h; null = λ e. never e }
+    go (cast.Converts t) = record { tree = value_stands at k h; null = λ e. false_not_true e }
+    go cast.Discards = record { tree = value_stands at k h; null = λ e. false_not_true e }
 
 -- ---- `?:`
 
@@ -173,8 +172,8 @@ arm_placed ty x h = as_type_placed ty (value_at x).null (tree_at x) (value_stand
 choice_stands : (s : Span) (ty : «Type») (test first last : Placed) → KnownStands test.known → KnownStands first.known → KnownStands last.known → stands (choice_tree s ty test first last) ≡ true
 unfolding choice_tree
 choice_stands s ty test first last h k i =
-    and_both (stands (tree_at test)) (is_placed (arm_tree ty first) && is_placed (arm_tree ty last)) (value_stands test.span test.known h)
-    (and_both (is_placed (arm_tree ty first)) (is_placed (arm_tree ty last)) (arm_placed ty first k) (arm_placed ty last i))
+    both_hold (stands (tree_at test)) (is_placed (arm_tree ty first) && is_placed (arm_tree ty last)) (value_stands test.span test.known h)
+    (both_hold (is_placed (arm_tree ty first)) (is_placed (arm_tree ty last)) (arm_placed ty first k) (arm_placed ty last i))
 
 chosen_by_stands : (r : ChoiceRule) (wrong : Bool) (s : Span) (test first last : Placed) → KnownStands test.known → KnownStands first.known → KnownStands last.known → KnownStands (chosen_by r wrong s test first last).operand
 unfolding chosen_by
@@ -201,7 +200,7 @@ known_either false m n h k = k
 
 stored_tree_stands : (s : Span) (left : Known) (w : Value) (x : ExprTree) → KnownStands left → stands x ≡ true → stands (stored_tree s left w x) ≡ true
 unfolding stored_tree
-stored_tree_stands s left w x h k = and_both _ _ (place_of_stands left.tree h.tree) (as_type_placed left.ty w.null x k)
+stored_tree_stands s left w x h k = both_hold _ _ (place_of_stands left.tree h.tree) (as_type_placed left.ty w.null x k)
 
 stored_stands : (structs : Structs) (s at : Span) (left : Known) (to : Span) (right : Known) → KnownStands left → KnownStands right → KnownStands (stored structs s at left to right).operand
 unfolding stored stored_by
@@ -254,14 +253,14 @@ binary_plain b.ShiftLeft v w h = judged_plain (is_bad v.ty || is_bad w.ty) (take
 binary_plain b.ShiftRight v w h = judged_plain (is_bad v.ty || is_bad w.ty) (takes b.ShiftRight v.ty) (takes b.ShiftRight w.ty) (shift v.ty w.ty) (shift_plain v.ty w.ty)
 binary_plain b.Add v w h = judged_plain (is_bad v.ty || is_bad w.ty) (takes b.Add v.ty) (takes b.Add w.ty) (sum v.ty w.ty) (sum_plain v.ty w.ty)
 binary_plain b.Subtract v w h = judged_plain (is_bad v.ty || is_bad w.ty) (takes b.Subtract v.ty) (takes b.Subtract w.ty) (difference v.ty w.ty) (difference_plain v.ty w.ty)
-binary_plain b.LogicalOr v w h = never h
-binary_plain b.LogicalAnd v w h = never h
-binary_plain b.Equal v w h = never h
-binary_plain b.NotEqual v w h = never h
-binary_plain b.Less v w h = never h
-binary_plain b.LessEqual v w h = never h
-binary_plain b.Greater v w h = never h
-binary_plain b.GreaterEqual v w h = never h
+binary_plain b.LogicalOr v w h = false_not_true h
+binary_plain b.LogicalAnd v w h = false_not_true h
+binary_plain b.Equal v w h = false_not_true h
+binary_plain b.NotEqual v w h = false_not_true h
+binary_plain b.Less v w h = false_not_true h
+binary_plain b.LessEqual v w h = false_not_true h
+binary_plain b.Greater v w h = false_not_true h
+binary_plain b.GreaterEqual v w h = false_not_true h
 
 operator_plain : (o : BinaryOp) (ty : «Type») (w : Value) → is_pointers (operator_rule o ty w) ≡ false
 unfolding operator_rule compound_rule
@@ -286,7 +285,7 @@ step_rule_plain o (Pointer e fixed) w = operator_plain o (Pointer e fixed) w
 
 compound_tree_stands : (r : Rule) (o : BinaryOp) (s at : Span) (left : Known) (w : Value) (x : ExprTree) → is_pointers r ≡ false → KnownStands left → stands x ≡ true → stands (compound_tree r o s at left w x) ≡ true
 unfolding compound_tree
-compound_tree_stands r o s at left w x p h k = and_both _ _ (place_of_stands left.tree h.tree) (converted_stands r w (object_value left.ty) x p k)
+compound_tree_stands r o s at left w x p h k = both_hold _ _ (place_of_stands left.tree h.tree) (converted_stands r w (object_value left.ty) x p k)
 
 compounded_stands : (structs : Structs) (o : BinaryOp) (s at : Span) (left : Known) (to : Span) (right : Known) → KnownStands left → KnownStands right → KnownStands (compounded structs o s at left to right).operand
 unfolding compounded compounded_by
@@ -306,9 +305,9 @@ assigned_stands structs (Some o) s at left to right h k = compounded_stands stru
 
 moved_stands : (s : Span) (ty : «Type») (step : LinkStep) (x y : ExprTree) → is_compared step ≡ false → stands x ≡ true → stands y ≡ true → stands (moved_tree s ty step x y) ≡ true
 unfolding moved_tree
-moved_stands s ty step x y p h k = and_both (is_placed x) _ (placed_of x h)
+moved_stands s ty step x y p h k = both_hold (is_placed x) _ (placed_of x h)
     (subst (λ z. ((if is_compared step then stands y || (not z && is_null y) else not z && stands y) && true) ≡ true) (sym (not_null x h))
-    (subst (λ z. ((if z then stands y || (not false && is_null y) else not false && stands y) && true) ≡ true) (sym p) (and_both (stands y) true k refl)))
+    (subst (λ z. ((if z then stands y || (not false && is_null y) else not false && stands y) && true) ≡ true) (sym p) (both_hold (stands y) true k refl)))
 
 element_stands : (ty : «Type») (s at : Span) (k : Known) (y : ExprTree) → KnownStands k → stands y ≡ true → Stands (element_tree ty s at k y)
 unfolding element_tree
@@ -334,8 +333,8 @@ indexed_stands s at k to i h j = go (index_rule (value_of k) (value_of i))
     go (rule.Comparison t) = faulty_stands
     go (rule.Shift t) = faulty_stands
     go rule.Logical = faulty_stands
-    go rule.Move = record { tree = element_stands k.ty s at k (value_tree to i) h (value_stands to i j); null = λ e. never e }
-    go rule.MoveBy = record { tree = index_stands s at k to i h j; null = λ e. never e }
+    go rule.Move = record { tree = element_stands k.ty s at k (value_tree to i) h (value_stands to i j); null = λ e. false_not_true e }
+    go rule.MoveBy = record { tree = index_stands s at k to i h j; null = λ e. false_not_true e }
     go rule.Difference = faulty_stands
     go rule.ComparePointers = faulty_stands
 
@@ -344,7 +343,7 @@ indexed_stands s at k to i h j = go (index_rule (value_of k) (value_of i))
 part_stands : (o : Option FoundField) (w : Word) (fixed designates : Bool) (root : RootTree) (steps : List StepTree) → root_stands root ≡ true → steps_stand (step_trees steps) ≡ true → KnownStands (part_by o w fixed designates root steps).operand
 unfolding part_by
 part_stands None w fixed designates root steps h k = faulty_stands
-part_stands (Some f) w fixed designates root steps h k = record { tree = (h, steps_more steps (field f.number) k refl); null = λ e. never e }
+part_stands (Some f) w fixed designates root steps h k = record { tree = (h, steps_more steps (field f.number) k refl); null = λ e. false_not_true e }
 
 pub dotted_stands : (structs : Structs) (w : Word) (at : Span) (k : Known) → KnownStands k → KnownStands (dotted structs w at k).operand
 unfolding dotted dotted_as

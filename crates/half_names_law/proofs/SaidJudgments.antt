@@ -3,10 +3,10 @@ use Rattle.std.proofs.Common.{◌≡◌, ℕ, ◌+◌, refl, List, Bool, true, f
 use Rattle.std.specs.Prelude.{slice_get}
 use Rattle.pt_base.specs.declared.ids.FnId.{FnId}
 use Rattle.pt_base.specs.declared.span.Span.{Span}
+use Rattle.pt_base.proofs.Booleans.{both_hold}
 use Rattle.pt_tree.specs.ExpressionTree as e
 use Rattle.type_rules.specs.declared.types.Type.{«Type»}
 use Rattle.typed_tree.specs.ExpressionTree.{expr_trees}
-use Rattle.typed_tree.proofs.WellFormedLemmas.{and_both}
 use Rattle.check_declarations.specs.Structs.{Structs}
 use Rattle.check_expressions.specs.Environment.{Env}
 use Rattle.check_expressions.specs.Expressions.{Judged, CastBase, Linked, Arguments, cast_specified, headed, postfix_span, judge, judge_links, judge_link, judge_postfixes, judge_postfix, judge_arguments}
@@ -89,5 +89,5 @@ mutual
   given_stand (e.expr_and a es) env structs params n =
       let p : Judged = judge env structs a in
       let rest : Arguments = judge_arguments env p.structs params (n + 1) es in
-      and_both (is_placed (argument_tree (slice_get params n) (value_of p.operand) (value_tree (span_of a) p.operand))) (arguments_stand (expr_trees rest.trees))
+      both_hold (is_placed (argument_tree (slice_get params n) (value_of p.operand) (value_tree (span_of a) p.operand))) (arguments_stand (expr_trees rest.trees))
       (argument_placed (slice_get params n) (span_of a) p.operand (judged_stands a env structs)) (given_stand es env p.structs params (n + 1))

@@ -2,18 +2,19 @@
 -- says so.
 use Rattle.std.proofs.Common.{◌≡◌, ◌∙◌, ℕ, refl, ap, sym, subst, Bool, true, false, Option, None, Some, List, [], ◌∷◌, ◌++◌}
 use Rattle.std.specs.Prelude.{◌&&◌, ◌||◌, not, slice_get}
+use Rattle.std.proofs.lemmas.Bool.{not_from_false, or_right as or_so}
+use Rattle.std.proofs.lemmas.Option.{get_or_from_slice_get}
 use Rattle.pt_base.specs.declared.int_type.IntType.TheVariants as i
+use Rattle.pt_base.proofs.Booleans.{both_hold, false_not_true}
 use Rattle.pt_tree.specs.declared.signature.Param.{Param}
 use Rattle.typed_tree.specs.declared.types.VarTy.{VarTy}
 use Rattle.typed_tree.specs.declared.types.VarTy.TheVariants.{Int, Struct, Array, Pointer}
 use Rattle.typed_tree.specs.TypeTests.{points_to_const}
-use Rattle.typed_tree.proofs.WellFormedLemmas.{and_both}
 use Rattle.pt_core.specs.CodeTree.{PlaceTree, ExprTree, StmtTree, assign, choose, expr_trees, stmt_trees}
 use Rattle.pt_core.specs.Types.{Context, type_of, place_type}
 use Rattle.lowering.specs.Lowered.{Temp, Lowered, LoweredPlace, Arguments, past, temp, temp_place, hold, held, held_if}
 use Rattle.lowered_code_law.proofs.FormsSettings.{Setting, Stand, context}
-use Rattle.lowered_code_law.proofs.FormsSameTypes.{never}
-use Rattle.lowered_code_law.proofs.FormsStanding.{got_or, stand_first, stand_rest}
+use Rattle.lowered_code_law.proofs.FormsStanding.{stand_first, stand_rest}
 use Rattle.half_meaning_law.specs.CForms.{is_null, stands, place_stands, points_const, is_const, with_const, c_type, keeps_const, is_stored, are_passed, is_said, are_said}
 
 abbrev pub AreSaid : Setting → List StmtTree → Type 0
@@ -55,10 +56,6 @@ or_right true true b h = refl
 or_right true false b h = h
 or_right false a b h = h
 
-pub or_so : (a b : Bool) → b ≡ true → (a || b) ≡ true
-or_so true b h = refl
-or_so false b h = h
-
 pub or_twice : (a b : Bool) → (a || b) ≡ true → ((a && a) || b) ≡ true
 or_twice true b h = refl
 or_twice false b h = h
@@ -71,14 +68,11 @@ pub not_const : (a b : Bool) → (a ≡ true → b ≡ true) → b ≡ false →
 not_const false b h e = refl
 not_const true b h e = sym (h refl) ∙ e
 
-pub not_is : (a : Bool) → a ≡ false → not a ≡ true
-not_is a h = ap not h
-
 stored_by : (n a b k : Bool) → ((n && a) || b) ≡ true → k ≡ true → (a || (b && k)) ≡ true
 stored_by n true b k h i = refl
 stored_by n false true k h i = i
-stored_by true false false k h i = never h
-stored_by false false false k h i = never h
+stored_by true false false k h i = false_not_true h
+stored_by false false false k h i = false_not_true h
 
 -- ---- what is stored
 
@@ -97,8 +91,8 @@ stored_said c nul ty a h k = stored_by nul (is_null a) (stands a) (keeps_const (
 
 pub assign_said : (w : Setting) (nul : Bool) (p : PlaceTree) (ty : VarTy) (a : ExprTree) → place_stands p ≡ true → is_const (context w) p ≡ false → place_type (context w) p ≡ ty → ((nul && is_null a) || stands a) ≡ true → Keeps (context w) a ty → is_said (context w) w.called (assign p a) ≡ true
 assign_said w nul p ty a stand free is h k =
-    and_both (place_stands p) (not (is_const (context w) p) && is_stored (context w) (place_type (context w) p) a) stand
-    (and_both (not (is_const (context w) p)) (is_stored (context w) (place_type (context w) p) a) (not_is (is_const (context w) p) free)
+    both_hold (place_stands p) (not (is_const (context w) p) && is_stored (context w) (place_type (context w) p) a) stand
+    (both_hold (not (is_const (context w) p)) (is_stored (context w) (place_type (context w) p) a) (not_from_false (is_const (context w) p) free)
     (subst (λ z. is_stored (context w) z a ≡ true) (sym is) (stored_said (context w) nul ty a h k)))
 
 -- ---- lists of statements
@@ -113,20 +107,20 @@ one_more w xs x h k = said_both w xs (x ∷ []) h (k, tt)
 
 pub trees_said : (w : Setting) (xs : List StmtTree) → AreSaid w xs → are_said (context w) w.called (stmt_trees xs) ≡ true
 trees_said w [] h = refl
-trees_said w (x ∷ xs) h = and_both (is_said (context w) w.called x) (are_said (context w) w.called (stmt_trees xs)) h.0 (trees_said w xs h.1)
+trees_said w (x ∷ xs) h = both_hold (is_said (context w) w.called x) (are_said (context w) w.called (stmt_trees xs)) h.0 (trees_said w xs h.1)
 
 pub choose_said : (w : Setting) (nul : Bool) (a : ExprTree) (xs ys : List StmtTree) → ((nul && is_null a) || stands a) ≡ true → AreSaid w xs → AreSaid w ys → is_said (context w) w.called (choose a (stmt_trees xs) (stmt_trees ys)) ≡ true
 choose_said w nul a xs ys h k i =
-    and_both (is_null a || stands a) (are_said (context w) w.called (stmt_trees xs) && are_said (context w) w.called (stmt_trees ys)) (allowed nul (is_null a) (stands a) h)
-    (and_both (are_said (context w) w.called (stmt_trees xs)) (are_said (context w) w.called (stmt_trees ys)) (trees_said w xs k) (trees_said w ys i))
+    both_hold (is_null a || stands a) (are_said (context w) w.called (stmt_trees xs) && are_said (context w) w.called (stmt_trees ys)) (allowed nul (is_null a) (stands a) h)
+    (both_hold (are_said (context w) w.called (stmt_trees xs)) (are_said (context w) w.called (stmt_trees ys)) (trees_said w xs k) (trees_said w ys i))
 
 -- ---- temporaries
 
 pub temp_keeps : (w : Setting) (k : ℕ) (ty : VarTy) → slice_get w.variables k ≡ Some ty → Keeps (context w) (temp k) ty
-temp_keeps w k ty h e = subst (λ z. points_to_const (Some z) ≡ true) (got_or w.variables k ty (Int i.Int) h) e
+temp_keeps w k ty h e = subst (λ z. points_to_const (Some z) ≡ true) (get_or_from_slice_get w.variables k ty (Int i.Int) h) e
 
 pub hold_said : (w : Setting) (nul : Bool) (k : ℕ) (ty : VarTy) (a : ExprTree) → slice_get w.variables k ≡ Some ty → ((nul && is_null a) || stands a) ≡ true → Keeps (context w) a ty → is_said (context w) w.called (hold k a) ≡ true
-hold_said w nul k ty a h alone keeps = assign_said w nul (temp_place k) ty a refl refl (got_or w.variables k ty (Int i.Int) h) alone keeps
+hold_said w nul k ty a h alone keeps = assign_said w nul (temp_place k) ty a refl refl (get_or_from_slice_get w.variables k ty (Int i.Int) h) alone keeps
 
 -- ---- values
 

@@ -4,6 +4,7 @@ use Rattle.std.specs.Prelude.{◌&&◌, ◌||◌, not, is_some}
 use Rattle.pt_base.specs.declared.int_type.IntType.{IntType}
 use Rattle.pt_base.specs.declared.span.Span.{Span}
 use Rattle.pt_base.specs.IntTypes.{promoted}
+use Rattle.pt_base.proofs.Booleans.{both_hold, both_hold_second, false_not_true, from_not_true}
 use Rattle.pt_int.specs.declared.operator.UnOp.{UnOp}
 use Rattle.pt_int.specs.declared.operator.UnOp.TheVariants.{Minus, Plus, Flip, Not}
 use Rattle.typed_tree.specs.declared.types.VarTy.{VarTy}
@@ -13,11 +14,10 @@ use Rattle.typed_tree.specs.declared.link.LinkStep.TheVariants.{Arithmetic, Shif
 use Rattle.typed_tree.specs.TypeTests.{same_int, integer_of, pointee_of, points_to_const, is_scalar, same_elem}
 use Rattle.typed_tree.specs.TypeRules as r
 use Rattle.typed_tree.specs.TypeRules.{unary_fits, converts}
-use Rattle.typed_tree.proofs.WellFormedLemmas.{and_right, and_both}
 use Rattle.pt_core.specs.CodeTree.{ExprTree, convert}
 use Rattle.pt_core.specs.Types.{Context}
 use Rattle.lowering.specs.Operators.{as_int, converted, prefixed, truth_of, promoted_of, stepped, stored, unit_step, unit_of}
-use Rattle.lowered_code_law.proofs.FormsSameTypes.{never}
+use Rattle.lowered_code_law.proofs.FormsSteps.{one_type}
 use Rattle.half_meaning_law.specs.CForms.{is_null, stands, points_const}
 use Rattle.half_names_law.specs.SaidNulls.{is_compared}
 use Rattle.half_names_law.proofs.SaidLemmas.{Keeps}
@@ -46,7 +46,7 @@ as_int_free c (Pointer elem fixed) to a h = h
 
 -- what doesn't point to const keeps every type
 pub free_keeps : (c : Context) (a : ExprTree) (ty : VarTy) → points_const c a ≡ false → Keeps c a ty
-free_keeps c a ty h e = never (sym h ∙ e)
+free_keeps c a ty h e = false_not_true (sym h ∙ e)
 
 -- what has an integer's type points to nothing
 pub int_free : (c : Context) (a : ExprTree) (t : IntType) → Keeps c a (Int t) → points_const c a ≡ false
@@ -54,7 +54,7 @@ int_free c a t h = go (points_const c a) h
   where
     go : (b : Bool) → (b ≡ true → false ≡ true) → b ≡ false
     go false k = refl
-    go true k = never (k refl)
+    go true k = false_not_true (k refl)
 
 -- ---- operators before an operand
 
@@ -64,23 +64,23 @@ prefixed_stands Not (Pointer elem fixed) a s h = compared (stands a) (is_null a)
   where
     compared : (b n : Bool) → b ≡ true → ((b && (false || true)) || (n && false)) ≡ true
     compared true n h = refl
-    compared false n h = never h
+    compared false n h = false_not_true h
 prefixed_stands op ty a s h = h
 
 pub prefixed_keeps : (c : Context) (op : UnOp) (a t : Option VarTy) (ty : VarTy) (x : ExprTree) (s : Span) → unary_fits op a t ≡ true → a ≡ Some ty → points_const c (prefixed op ty x s) ≡ false
 prefixed_keeps c op a t (Int u) x s h is = refl
 prefixed_keeps c Not a t (Pointer elem fixed) x s h is = refl
-prefixed_keeps c Minus a t (Pointer elem fixed) x s h is = never (subst (λ z. r.is_same_promoted z t ≡ true) is h)
-prefixed_keeps c Plus a t (Pointer elem fixed) x s h is = never (subst (λ z. r.is_same_promoted z t ≡ true) is h)
-prefixed_keeps c Flip a t (Pointer elem fixed) x s h is = never (subst (λ z. r.is_same_promoted z t ≡ true) is h)
-prefixed_keeps c Minus a t (Struct n) x s h is = never (subst (λ z. r.is_same_promoted z t ≡ true) is h)
-prefixed_keeps c Plus a t (Struct n) x s h is = never (subst (λ z. r.is_same_promoted z t ≡ true) is h)
-prefixed_keeps c Flip a t (Struct n) x s h is = never (subst (λ z. r.is_same_promoted z t ≡ true) is h)
-prefixed_keeps c Not a t (Struct n) x s h is = never (subst (λ z. unary_fits Not z t ≡ true) is h)
-prefixed_keeps c Minus a t (Array elem n) x s h is = never (subst (λ z. r.is_same_promoted z t ≡ true) is h)
-prefixed_keeps c Plus a t (Array elem n) x s h is = never (subst (λ z. r.is_same_promoted z t ≡ true) is h)
-prefixed_keeps c Flip a t (Array elem n) x s h is = never (subst (λ z. r.is_same_promoted z t ≡ true) is h)
-prefixed_keeps c Not a t (Array elem n) x s h is = never (subst (λ z. unary_fits Not z t ≡ true) is h)
+prefixed_keeps c Minus a t (Pointer elem fixed) x s h is = false_not_true (subst (λ z. r.is_same_promoted z t ≡ true) is h)
+prefixed_keeps c Plus a t (Pointer elem fixed) x s h is = false_not_true (subst (λ z. r.is_same_promoted z t ≡ true) is h)
+prefixed_keeps c Flip a t (Pointer elem fixed) x s h is = false_not_true (subst (λ z. r.is_same_promoted z t ≡ true) is h)
+prefixed_keeps c Minus a t (Struct n) x s h is = false_not_true (subst (λ z. r.is_same_promoted z t ≡ true) is h)
+prefixed_keeps c Plus a t (Struct n) x s h is = false_not_true (subst (λ z. r.is_same_promoted z t ≡ true) is h)
+prefixed_keeps c Flip a t (Struct n) x s h is = false_not_true (subst (λ z. r.is_same_promoted z t ≡ true) is h)
+prefixed_keeps c Not a t (Struct n) x s h is = false_not_true (subst (λ z. unary_fits Not z t ≡ true) is h)
+prefixed_keeps c Minus a t (Array elem n) x s h is = false_not_true (subst (λ z. r.is_same_promoted z t ≡ true) is h)
+prefixed_keeps c Plus a t (Array elem n) x s h is = false_not_true (subst (λ z. r.is_same_promoted z t ≡ true) is h)
+prefixed_keeps c Flip a t (Array elem n) x s h is = false_not_true (subst (λ z. r.is_same_promoted z t ≡ true) is h)
+prefixed_keeps c Not a t (Array elem n) x s h is = false_not_true (subst (λ z. unary_fits Not z t ≡ true) is h)
 
 -- ---- truth and conversions
 
@@ -90,15 +90,15 @@ truth_stands (Pointer elem fixed) a s h = compared (stands a) (is_null a) h
   where
     compared : (b n : Bool) → b ≡ true → ((b && (false || true)) || (n && false)) ≡ true
     compared true n h = refl
-    compared false n h = never h
+    compared false n h = false_not_true h
 truth_stands (Struct n) a s h = h
 truth_stands (Array elem n) a s h = h
 
 pub truth_free : (c : Context) (ty : VarTy) (a : ExprTree) (s : Span) → is_scalar (Some ty) ≡ true → points_const c (truth_of ty a s) ≡ false
 truth_free c (Int t) a s h = refl
 truth_free c (Pointer elem fixed) a s h = refl
-truth_free c (Struct n) a s h = never h
-truth_free c (Array elem n) a s h = never h
+truth_free c (Struct n) a s h = false_not_true h
+truth_free c (Array elem n) a s h = false_not_true h
 
 pub converted_stands : (ty : VarTy) (a : ExprTree) → stands a ≡ true → stands (converted ty a) ≡ true
 converted_stands (Int to) a h = h
@@ -107,59 +107,55 @@ converted_stands (Array elem n) a h = h
 converted_stands (Pointer elem fixed) a h = h
 
 pub converted_keeps : (c : Context) (a ty : VarTy) (x : ExprTree) → converts (Some a) (Some ty) ≡ true → Keeps c x a → Keeps c (converted ty x) ty
-converted_keeps c (Int a) (Int t) x h k = λ e. never e
-converted_keeps c (Pointer d f) (Pointer e g) x h k = λ is. kept f g (and_right (same_elem d e) (not f || g) h) (k is)
+converted_keeps c (Int a) (Int t) x h k = λ e. false_not_true e
+converted_keeps c (Pointer d f) (Pointer e g) x h k = λ is. kept f g (both_hold_second (same_elem d e) (not f || g) h) (k is)
   where
     kept : (f g : Bool) → (not f || g) ≡ true → f ≡ true → g ≡ true
     kept true g h e = h
-    kept false g h e = never e
-converted_keeps c (Int a) (Struct n) x h k = never h
-converted_keeps c (Int a) (Array e n) x h k = never h
-converted_keeps c (Int a) (Pointer e g) x h k = never h
-converted_keeps c (Pointer d f) (Int t) x h k = never h
-converted_keeps c (Pointer d f) (Struct n) x h k = never h
-converted_keeps c (Pointer d f) (Array e n) x h k = never h
-converted_keeps c (Struct m) ty x h k = never h
-converted_keeps c (Array d m) ty x h k = never h
+    kept false g h e = false_not_true e
+converted_keeps c (Int a) (Struct n) x h k = false_not_true h
+converted_keeps c (Int a) (Array e n) x h k = false_not_true h
+converted_keeps c (Int a) (Pointer e g) x h k = false_not_true h
+converted_keeps c (Pointer d f) (Int t) x h k = false_not_true h
+converted_keeps c (Pointer d f) (Struct n) x h k = false_not_true h
+converted_keeps c (Pointer d f) (Array e n) x h k = false_not_true h
+converted_keeps c (Struct m) ty x h k = false_not_true h
+converted_keeps c (Array d m) ty x h k = false_not_true h
 
 -- ---- steps
 
 -- two operands, of which neither is null
 both_alone : (n m a b p q : Bool) → ((n && p) || a) ≡ true → ((m && q) || b) ≡ true → n ≡ false → m ≡ false → (a && b) ≡ true
-both_alone true m a b p q h k e d = never (sym e)
-both_alone false true a b p q h k e d = never (sym d)
-both_alone false false a b p q h k e d = and_both a b h k
+both_alone true m a b p q h k e d = false_not_true (sym e)
+both_alone false true a b p q h k e d = false_not_true (sym d)
+both_alone false false a b p q h k e d = both_hold a b h k
 
 -- at most one of two compared operands is null
 one_alone : (n a b p q : Bool) → ((n && p) || a) ≡ true → ((not n && q) || b) ≡ true → ((a && (b || q)) || (p && b)) ≡ true
 one_alone true true true p q h k = refl
 one_alone true false true true q h k = refl
-one_alone true false true false q h k = never h
-one_alone true a false p q h k = never k
+one_alone true false true false q h k = false_not_true h
+one_alone true a false p q h k = false_not_true k
 one_alone false true true p q h k = refl
 one_alone false true false p true h k = refl
-one_alone false true false p false h k = never k
-one_alone false false b p q h k = never h
-
-not_false : (n : Bool) → not n ≡ true → n ≡ false
-not_false false h = refl
-not_false true h = never h
+one_alone false true false p false h k = false_not_true k
+one_alone false false b p q h k = false_not_true h
 
 -- The value so far is null only where it is compared, and then the operand isn't.
 pub stepped_stands : (step : LinkStep) (ty : VarTy) (nul : Bool) (a b : ExprTree) (s : Span) → (is_compared step || not nul) ≡ true → ((nul && is_null a) || stands a) ≡ true → (((is_compared step && not nul) && is_null b) || stands b) ≡ true → stands (stepped ty step a b s) ≡ true
-stepped_stands (Arithmetic op t) ty nul a b s n h k = and_both (stands (as_int ty t a)) (stands b) (as_int_stands ty t a (alone nul (is_null a) (stands a) (not_false nul n) h)) k
+stepped_stands (Arithmetic op t) ty nul a b s n h k = both_hold (stands (as_int ty t a)) (stands b) (as_int_stands ty t a (alone nul (is_null a) (stands a) (from_not_true nul n) h)) k
   where
     alone : (n p a : Bool) → n ≡ false → ((n && p) || a) ≡ true → a ≡ true
-    alone true p a e h = never (sym e)
+    alone true p a e h = false_not_true (sym e)
     alone false p a e h = h
-stepped_stands (Shift to_left) ty nul a b s n h k = and_both (stands (as_int ty (promoted_of ty) a)) (stands b) (as_int_stands ty (promoted_of ty) a (alone nul (is_null a) (stands a) (not_false nul n) h)) k
+stepped_stands (Shift to_left) ty nul a b s n h k = both_hold (stands (as_int ty (promoted_of ty) a)) (stands b) (as_int_stands ty (promoted_of ty) a (alone nul (is_null a) (stands a) (from_not_true nul n) h)) k
   where
     alone : (n p a : Bool) → n ≡ false → ((n && p) || a) ≡ true → a ≡ true
-    alone true p a e h = never (sym e)
+    alone true p a e h = false_not_true (sym e)
     alone false p a e h = h
-stepped_stands (Move back) ty nul a b s n h k = both_alone nul false (stands a) (stands b) (is_null a) (is_null b) h k (not_false nul n) refl
-stepped_stands MoveBy ty nul a b s n h k = both_alone false nul (stands b) (stands a) (is_null b) (is_null a) k h refl (not_false nul n)
-stepped_stands Difference ty nul a b s n h k = both_alone nul false (stands a) (stands b) (is_null a) (is_null b) h k (not_false nul n) refl
+stepped_stands (Move back) ty nul a b s n h k = both_alone nul false (stands a) (stands b) (is_null a) (is_null b) h k (from_not_true nul n) refl
+stepped_stands MoveBy ty nul a b s n h k = both_alone false nul (stands b) (stands a) (is_null b) (is_null a) k h refl (from_not_true nul n)
+stepped_stands Difference ty nul a b s n h k = both_alone nul false (stands a) (stands b) (is_null a) (is_null b) h k (from_not_true nul n) refl
 stepped_stands (Compare op) ty nul a b s n h k = one_alone nul (stands a) (stands b) (is_null a) (is_null b) h k
 
 -- what moves a pointer gives its type
@@ -170,16 +166,13 @@ moved_is p b to h = go (is_some (pointee_of p) && is_some (integer_of b)) h
     go true h = h
     go false h = cc
 
-some_is : (a b : VarTy) → Some a ≡ Some b → a ≡ b
-some_is a b h = cc
-
 pub stepped_keeps : (c : Context) (step : LinkStep) (so_far right to : VarTy) (a b : ExprTree) (s : Span) → r.stepped (Some so_far) step (Some right) ≡ Some to → Keeps c a so_far → Keeps c b right → Keeps c (stepped so_far step a b s) to
-stepped_keeps c (Arithmetic op t) so_far right to a b s is h k e = never e
-stepped_keeps c (Shift to_left) so_far right to a b s is h k e = never e
-stepped_keeps c (Move back) so_far right to a b s is h k e = subst (λ z. points_to_const (Some z) ≡ true) (some_is so_far to (moved_is (Some so_far) (Some right) to is)) (h e)
-stepped_keeps c MoveBy so_far right to a b s is h k e = subst (λ z. points_to_const (Some z) ≡ true) (some_is right to (moved_is (Some right) (Some so_far) to is)) (k e)
-stepped_keeps c Difference so_far right to a b s is h k e = never e
-stepped_keeps c (Compare op) so_far right to a b s is h k e = never e
+stepped_keeps c (Arithmetic op t) so_far right to a b s is h k e = false_not_true e
+stepped_keeps c (Shift to_left) so_far right to a b s is h k e = false_not_true e
+stepped_keeps c (Move back) so_far right to a b s is h k e = subst (λ z. points_to_const (Some z) ≡ true) (one_type so_far to (moved_is (Some so_far) (Some right) to is)) (h e)
+stepped_keeps c MoveBy so_far right to a b s is h k e = subst (λ z. points_to_const (Some z) ≡ true) (one_type right to (moved_is (Some right) (Some so_far) to is)) (k e)
+stepped_keeps c Difference so_far right to a b s is h k e = false_not_true e
+stepped_keeps c (Compare op) so_far right to a b s is h k e = false_not_true e
 
 -- ---- compound assignments
 
@@ -190,21 +183,21 @@ stored_stands ty step a h = h
 
 -- what is stored points to const only where the place's value does
 pub compound_keeps : (c : Context) (step : LinkStep) (ty : VarTy) (x y : ExprTree) (s : Span) → r.is_compound step ≡ true → points_const c (stored ty step (stepped ty step x y s)) ≡ true → points_const c x ≡ true
-compound_keeps c (Arithmetic op t) (Int u) x y s h e = never (sym (as_int_free c (Int t) u (stepped (Int u) (Arithmetic op t) x y s) refl) ∙ e)
-compound_keeps c (Arithmetic op t) (Struct n) x y s h e = never e
-compound_keeps c (Arithmetic op t) (Array d n) x y s h e = never e
-compound_keeps c (Arithmetic op t) (Pointer d f) x y s h e = never e
-compound_keeps c (Shift to_left) (Int u) x y s h e = never (sym (as_int_free c (Int (promoted u)) u (stepped (Int u) (Shift to_left) x y s) refl) ∙ e)
-compound_keeps c (Shift to_left) (Struct n) x y s h e = never e
-compound_keeps c (Shift to_left) (Array d n) x y s h e = never e
-compound_keeps c (Shift to_left) (Pointer d f) x y s h e = never e
+compound_keeps c (Arithmetic op t) (Int u) x y s h e = false_not_true (sym (as_int_free c (Int t) u (stepped (Int u) (Arithmetic op t) x y s) refl) ∙ e)
+compound_keeps c (Arithmetic op t) (Struct n) x y s h e = false_not_true e
+compound_keeps c (Arithmetic op t) (Array d n) x y s h e = false_not_true e
+compound_keeps c (Arithmetic op t) (Pointer d f) x y s h e = false_not_true e
+compound_keeps c (Shift to_left) (Int u) x y s h e = false_not_true (sym (as_int_free c (Int (promoted u)) u (stepped (Int u) (Shift to_left) x y s) refl) ∙ e)
+compound_keeps c (Shift to_left) (Struct n) x y s h e = false_not_true e
+compound_keeps c (Shift to_left) (Array d n) x y s h e = false_not_true e
+compound_keeps c (Shift to_left) (Pointer d f) x y s h e = false_not_true e
 compound_keeps c (Move back) (Int u) x y s h e = e
 compound_keeps c (Move back) (Struct n) x y s h e = e
 compound_keeps c (Move back) (Array d n) x y s h e = e
 compound_keeps c (Move back) (Pointer d f) x y s h e = e
-compound_keeps c MoveBy ty x y s h e = never h
-compound_keeps c Difference ty x y s h e = never h
-compound_keeps c (Compare op) ty x y s h e = never h
+compound_keeps c MoveBy ty x y s h e = false_not_true h
+compound_keeps c Difference ty x y s h e = false_not_true h
+compound_keeps c (Compare op) ty x y s h e = false_not_true h
 
 pub not_compared : (step : LinkStep) → r.is_compound step ≡ true → is_compared step ≡ false
 not_compared (Arithmetic op t) h = refl
@@ -212,7 +205,7 @@ not_compared (Shift to_left) h = refl
 not_compared (Move back) h = refl
 not_compared MoveBy h = refl
 not_compared Difference h = refl
-not_compared (Compare op) h = never h
+not_compared (Compare op) h = false_not_true h
 
 pub unit_compound : (ty : VarTy) (back : Bool) → r.is_compound (unit_step ty back) ≡ true
 unit_compound (Int t) true = refl

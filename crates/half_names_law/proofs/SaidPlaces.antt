@@ -1,10 +1,10 @@
 -- Places, lowered: what is known of their parts is known of them.
 use Rattle.std.proofs.Common.{◌≡◌, ◌∙◌, ℕ, refl, sym, subst, Bool, true, false, Option, None, Some, List, [], ◌∷◌, ◌++◌}
 use Rattle.pt_base.specs.declared.span.Span.{Span}
+use Rattle.pt_base.proofs.Booleans.{both_hold}
 use Rattle.typed_tree.specs.declared.types.VarTy.{VarTy}
 use Rattle.typed_tree.specs.ExpressionTree as src
 use Rattle.typed_tree.specs.TypeTests.{points_to_const}
-use Rattle.typed_tree.proofs.WellFormedLemmas.{and_both}
 use Rattle.pt_core.specs.CodeTree.{local, global, deref, PlaceTree, place, ExprTree, check, decay}
 use Rattle.pt_core.specs.Types.{Context, place_type}
 use Rattle.source_meaning.specs.Expressions as x
@@ -65,7 +65,7 @@ element_said w fixed n s first index b far v h k stand =
     let index_said = k (stand_rest w.variables n base.temps v.temps stand) in
     record {
       stmts = said_both w base.stmts v.stmts all.stmts index_said.stmts;
-      alone = and_both (stands base.value) (stands v.value) all.alone index_said.alone;
+      alone = both_hold (stands base.value) (stands v.value) all.alone index_said.alone;
       keeps = all.keeps;
       own = (h (held_stand b n (holding ty first) array own)).own;
       through = (all.keeps, λ e. e);

@@ -2,9 +2,12 @@
 use Rattle.std.proofs.Common.{◌≡◌, ◌∙◌, ℕ, zero, suc, ◌+◌, refl, sym, subst, arith, Bool, true, false, Option, None, Some, List, [], ◌∷◌, ◌++◌, length, map, if◌then◌else◌}
 use Rattle.std.specs.Prelude.{◌&&◌, slice_get, get_or, option_map}
 use Rattle.std.specs.List.{list_all}
+use Rattle.std.proofs.lemmas.Option.{get_or_from_slice_get}
 use Rattle.pt_base.specs.declared.int_type.IntType.{IntType}
 use Rattle.pt_base.specs.declared.int_type.IntType.TheVariants as i
 use Rattle.pt_base.specs.declared.span.Span.{Span}
+use Rattle.pt_base.proofs.Booleans.{both_hold_first, both_hold_second, false_not_true}
+use Rattle.pt_base.proofs.Places.{get_map}
 use Rattle.pt_int.specs.declared.operator.BinOp.TheVariants.{Le, Eq}
 use Rattle.typed_tree.specs.declared.ids.ExprId.{ExprId}
 use Rattle.typed_tree.specs.declared.types.VarTy.{VarTy}
@@ -26,7 +29,6 @@ use Rattle.typed_tree.specs.WellFormedExpression.{Names, ty_of, is_typed}
 use Rattle.typed_tree.specs.WellFormedStatement as s
 use Rattle.typed_tree.specs.WellFormedStatement.{any_type, promotes_to, option_fits, item_types, items_fit, init_fits, declarator_fits, declaration_fits, for_init_fits, labels_of, labels_fit, is_sound, else_sound, all_sound, sections_sound}
 use Rattle.typed_tree.specs.WellFormed.{is_variable_type, is_small}
-use Rattle.typed_tree.proofs.WellFormedLemmas.{and_left, and_right}
 use Rattle.pt_core.specs.CodeTree.{PlaceTree, place, local, constant, binary, clear, assign, choose, repeat, break_out, give_back, stmt_trees}
 use Rattle.pt_core.specs.Types.{place_type, type_at}
 use Rattle.source_meaning.specs.Expressions as x
@@ -38,17 +40,17 @@ use Rattle.lowering.specs.Leaves.{Step, to_field, to_element, Ways, ways_of, ste
 use Rattle.lowering.specs.Statements.{outermost, Onward, nowhere, to_head, past_flag, number, onwards, inside, behind_switch, variable_place, items_in, value_stored, initialised, declared, tested, stepped, looped, on_the_way_back, first_told, case_of, cases_from, otherwise_of, section_by, switch_temps, switched, chosen, returned, begun, statement_in, otherwise_in, all_in, sections_in}
 use Rattle.lowered_code_law.proofs.FormsSettings.{Agrees, Setting, Stand, context, source}
 use Rattle.typed_tree.proofs.SameTypes.{equal_options}
-use Rattle.lowered_code_law.proofs.FormsSameTypes.{never}
-use Rattle.lowered_code_law.proofs.FormsStanding.{got, got_or, stand_first, stand_rest, stand_three}
+use Rattle.lowered_code_law.proofs.FormsStanding.{stand_first, stand_rest, stand_three}
 use Rattle.lowered_code_law.proofs.FormsPlaces.{variable_fits, variable_known}
 use Rattle.lowered_code_law.proofs.FormsLeaves.{PlacesFit, leaves_fit}
-use Rattle.lowered_code_law.proofs.FormsStatements.{tests, code, found}
+use Rattle.lowered_code_law.proofs.FormsStatements.{tests, code, found, integer_result}
+use Rattle.lowered_code_law.proofs.FormsRules.{type_is}
 use Rattle.half_meaning_law.specs.CForms.{place_stands, is_const, is_said}
 use Rattle.half_names_law.specs.SaidNulls.{stands, is_placed}
 use Rattle.half_names_law.proofs.SaidLemmas.{AreSaid, Keeps, LoweredSaid, PlaceSaid, said_both, one_more, trees_said, choose_said, assign_said, hold_said, said_as}
 use Rattle.half_names_law.proofs.SaidOperators.{as_int_stands, as_int_free, free_keeps, int_free}
 use Rattle.half_names_law.proofs.SaidForms.{copied_said, given_said}
-use Rattle.half_names_law.proofs.SaidExpressions.{value_said, effects_said, object_said, object_const, type_here}
+use Rattle.half_names_law.proofs.SaidExpressions.{value_said, effects_said, object_said, object_const}
 
 -- null stands in the outermost expressions where it may
 abbrev pub Placed : List t.ExprTree → Type 0
@@ -63,8 +65,8 @@ followed_said w n a d h k stand = said_both w a.stmts d.stmts (h (stand_first w.
 
 placed_at : (exprs : List t.ExprTree) (k : ℕ) → Placed exprs → is_placed (get_or exprs k no_expr) ≡ true
 placed_at [] k h = refl
-placed_at (a ∷ rest) zero h = and_left (is_placed a) (list_all is_placed rest) h
-placed_at (a ∷ rest) (suc k) h = placed_at rest k (and_right (is_placed a) (list_all is_placed rest) h)
+placed_at (a ∷ rest) zero h = both_hold_first (is_placed a) (list_all is_placed rest) h
+placed_at (a ∷ rest) (suc k) h = placed_at rest k (both_hold_second (is_placed a) (list_all is_placed rest) h)
 
 -- the value of an outermost expression, of a type that passes a test
 found_said : (w : Setting) (exprs : List t.ExprTree) (test : Option VarTy → Bool) (e : ExprId) (n : ℕ) → Agrees w → Placed exprs → s.expr_fits (tests w exprs) test e ≡ true → Stand w.variables n (value_in (source w.names) (outermost (code w exprs) e) n).temps →
@@ -77,7 +79,7 @@ dropped_said w exprs e n g q h stand = effects_said (outermost (code w exprs) e)
 
 -- an integer isn't null
 integer_stands : (n : Names) (a : t.ExprTree) (t : IntType) → is_typed n a ≡ true → ty_of a ≡ Some (Int t) → is_placed a ≡ true → stands a ≡ true
-integer_stands n (typed p o t.null) u h is k = never (subst (λ z. is_typed n (typed p z t.null) ≡ true) is h)
+integer_stands n (typed p o t.null) u h is k = false_not_true (subst (λ z. is_typed n (typed p z t.null) ≡ true) is h)
 integer_stands n (typed p o form) u h is k = k
 
 -- ---- declarations
@@ -88,7 +90,7 @@ step_said w s (to_element k) p h e = (both (place_stands p) h, e)
   where
     both : (b : Bool) → b ≡ true → (b && true) ≡ true
     both true h = refl
-    both false h = never h
+    both false h = false_not_true h
 
 end_said : (w : Setting) (s : Span) (way : List Step) (p : PlaceTree) → place_stands p ≡ true → is_const (context w) p ≡ false → (place_stands (at_end_of s way p) ≡ true) × (is_const (context w) (at_end_of s way p) ≡ false)
 end_said w s [] p h e = (h, e)
@@ -107,33 +109,33 @@ items_said : (w : Setting) (exprs : List t.ExprTree) (ps : List PlaceTree) (tys 
     Stand w.variables n (items_in (code w exprs) ps es n).temps → AreSaid w (items_in (code w exprs) ps es n).stmts
 items_said w exprs [] tys [] n g q h i k stand = tt
 items_said w exprs (p ∷ ps) tys [] n g q h i k stand = tt
-items_said w exprs [] [] (e ∷ es) n g q h i k stand = never k
-items_said w exprs [] (ty ∷ tys) (e ∷ es) n g q h i k stand = never h
-items_said w exprs (p ∷ ps) [] (e ∷ es) n g q h i k stand = never h
+items_said w exprs [] [] (e ∷ es) n g q h i k stand = false_not_true k
+items_said w exprs [] (ty ∷ tys) (e ∷ es) n g q h i k stand = false_not_true h
+items_said w exprs (p ∷ ps) [] (e ∷ es) n g q h i k stand = false_not_true h
 items_said w exprs (p ∷ ps) (ty ∷ tys) (e ∷ es) n g q h i k stand =
     let a = outermost (code w exprs) e in
     let v = value_in (source w.names) a n in
-    let here = and_left (s.expr_fits (tests w exprs) (same_types (Some ty)) e) (items_fit (tests w exprs) tys es) k in
+    let here = both_hold_first (s.expr_fits (tests w exprs) (same_types (Some ty)) e) (items_fit (tests w exprs) tys es) k in
     let own : ty_of a ≡ Some ty = sym (equal_options (Some ty) (ty_of a) (found w.names exprs (same_types (Some ty)) e.0 here).1) in
     followed_said w n (record { stmts = v.stmts ++ assign p v.value ∷ []; temps = v.temps }) (items_in (code w exprs) ps es (past n v.temps))
-    (λ st. stored w p ty v i.0 i.1 h.1 (said_as w true (x.type_of a) ty v (type_here a ty own) (found_said w exprs (same_types (Some ty)) e n g q here st)))
-    (λ st. items_said w exprs ps tys es (past n v.temps) g q h.3 i.2 (and_right (s.expr_fits (tests w exprs) (same_types (Some ty)) e) (items_fit (tests w exprs) tys es) k) st) stand
+    (λ st. stored w p ty v i.0 i.1 h.1 (said_as w true (x.type_of a) ty v (type_is a ty own) (found_said w exprs (same_types (Some ty)) e n g q here st)))
+    (λ st. items_said w exprs ps tys es (past n v.temps) g q h.3 i.2 (both_hold_second (s.expr_fits (tests w exprs) (same_types (Some ty)) e) (items_fit (tests w exprs) tys es) k) st) stand
   where
     stored : (w : Setting) (p : PlaceTree) (ty : VarTy) (v : Lowered) → place_stands p ≡ true → is_const (context w) p ≡ false → place_type (context w) p ≡ ty → LoweredSaid w true ty v → AreSaid w (v.stmts ++ assign p v.value ∷ [])
     stored w p ty v alone free is y = one_more w v.stmts (assign p v.value) y.stmts (assign_said w true p ty v.value alone free is y.alone y.keeps)
 
 variable_said : (w : Setting) (exprs : List t.ExprTree) (v : ℕ) → PlaceSaid w false (variable_place (code w exprs) v)
-variable_said w exprs v = record { stmts = tt; alone = refl; keeps = λ e. never e; own = λ e. never e; through = tt }
+variable_said w exprs v = record { stmts = tt; alone = refl; keeps = λ e. false_not_true e; own = λ e. false_not_true e; through = tt }
 
 value_initialised : (w : Setting) (exprs : List t.ExprTree) (v : ℕ) (ty : VarTy) (a : t.ExprTree) (n : ℕ) → Agrees w → option_map (λ (y : Var). y.ty) (slice_get w.names.vars v) ≡ Some ty → is_typed w.names a ≡ true → is_placed a ≡ true → ty_of a ≡ Some ty →
     Stand w.variables n (value_stored (code w exprs) v a n).temps → AreSaid w (value_stored (code w exprs) v a n).stmts
 value_initialised w exprs v ty a n g is h q own stand = go (is_struct (Some (type_at (source w.names).variables v))) refl stand
   where
     same : type_at (source w.names).variables v ≡ ty
-    same = got_or (map (λ (y : Var). y.ty) w.names.vars) v ty (Int i.Int) (got (λ (y : Var). y.ty) w.names.vars v ∙ is)
+    same = get_or_from_slice_get (map (λ (y : Var). y.ty) w.names.vars) v ty (Int i.Int) (get_map (λ (y : Var). y.ty) w.names.vars v ∙ is)
 
     here : place_type (context w) (variable_place (code w exprs) v).place ≡ ty
-    here = got_or w.variables v ty (Int i.Int) (g.variables v ty is)
+    here = get_or_from_slice_get w.variables v ty (Int i.Int) (g.variables v ty is)
 
     back : (n : ℕ) (ts : List Temp) → Stand w.variables (n + 0) ts → Stand w.variables n ts
     back n ts st = subst (λ m. Stand w.variables m ts) (plain n) st
@@ -149,7 +151,7 @@ value_initialised w exprs v ty a n g is h q own stand = go (is_struct (Some (typ
         (λ s1. object_said a w n g h q (back n (object_in (source w.names) a n).temps s1)) st).stmts
     go false e st =
         (given_said w true ty n (variable_place (code w exprs) v) (value_in (source w.names) a n) (λ s1. variable_said w exprs v) (λ s1. here)
-        (λ s1. said_as w true (x.type_of a) ty (value_in (source w.names) a n) (type_here a ty own) (value_said a w true n g h q (back n (value_in (source w.names) a n).temps s1))) st).stmts
+        (λ s1. said_as w true (x.type_of a) ty (value_in (source w.names) a n) (type_is a ty own) (value_said a w true n g h q (back n (value_in (source w.names) a n).temps s1))) st).stmts
 
 leaves_said : (w : Setting) (s : Span) (ty : VarTy) (v : ℕ) → PlacesSaid w (leaf_places w.names.structs ty s (place (local v) []))
 leaves_said w s ty v = ends_said w s (place (local v) []) (ways_of w.names.structs ty) refl refl
@@ -158,13 +160,13 @@ initialised_said : (w : Setting) (exprs : List t.ExprTree) (d : TypedInit) (v : 
     Stand w.variables n (initialised (code w exprs) d v n).temps → AreSaid w (initialised (code w exprs) d v n).stmts
 initialised_said w exprs init.Nothing v ty n g q is h stand = tt
 initialised_said w exprs (init.Value e) v ty n g q is h stand =
-    let f = found w.names exprs (same_types (Some ty)) e.0 (and_right (is_value (Some ty)) (s.expr_fits (tests w exprs) (same_types (Some ty)) e) h) in
+    let f = found w.names exprs (same_types (Some ty)) e.0 (both_hold_second (is_value (Some ty)) (s.expr_fits (tests w exprs) (same_types (Some ty)) e) h) in
     value_initialised w exprs v ty (outermost (code w exprs) e) n g is f.0 (placed_at exprs e.0 q) (sym (equal_options (Some ty) (ty_of (outermost (code w exprs) e)) f.1)) stand
 initialised_said w exprs (init.Items at es) v ty n g q is h stand =
-    let same : type_at (source w.names).variables v ≡ ty = got_or (map (λ (y : Var). y.ty) w.names.vars) v ty (Int i.Int) (got (λ (y : Var). y.ty) w.names.vars v ∙ is) in
+    let same : type_at (source w.names).variables v ≡ ty = get_or_from_slice_get (map (λ (y : Var). y.ty) w.names.vars) v ty (Int i.Int) (get_map (λ (y : Var). y.ty) w.names.vars v ∙ is) in
     let known = variable_known w.names.structs w.names.vars v ty g.vars is in
-    let places = leaves_fit (context w) at ty (place (local v) []) g.structs (and_left (is_variable_type (length w.names.structs) ty) (is_small w.names.structs ty) known) (and_right (is_variable_type (length w.names.structs) ty) (is_small w.names.structs ty) known)
-    (variable_fits w v ty g is) (got_or w.variables v ty (Int i.Int) (g.variables v ty is)) in
+    let places = leaves_fit (context w) at ty (place (local v) []) g.structs (both_hold_first (is_variable_type (length w.names.structs) ty) (is_small w.names.structs ty) known) (both_hold_second (is_variable_type (length w.names.structs) ty) (is_small w.names.structs ty) known)
+    (variable_fits w v ty g is) (get_or_from_slice_get w.variables v ty (Int i.Int) (g.variables v ty is)) in
     items_said w exprs (leaf_places w.names.structs (type_at (source w.names).variables v) at (place (local v) [])) (item_types w.names.structs ty) es n g q
     (subst (λ z. PlacesFit (context w) (leaf_places w.names.structs z at (place (local v) [])) (item_types w.names.structs ty)) (sym same) places)
     (leaves_said w at (type_at (source w.names).variables v) v) h stand
@@ -174,7 +176,7 @@ declared_one : (w : Setting) (exprs : List t.ExprTree) (d : TypedDeclarator) (n 
 declared_one w exprs d n g q h stand = go (option_map (λ (y : Var). y.ty) (slice_get w.names.vars d.var.0)) refl h
   where
     go : (o : Option VarTy) → option_map (λ (y : Var). y.ty) (slice_get w.names.vars d.var.0) ≡ o → init_fits (tests w exprs) o d.init ≡ true → AreSaid w (clear d.var.0 ∷ (initialised (code w exprs) d.init d.var.0 n).stmts)
-    go None is k = never k
+    go None is k = false_not_true k
     go (Some ty) is k = (refl, initialised_said w exprs d.init d.var.0 ty n g q is k stand)
 
 declared_said : (w : Setting) (exprs : List t.ExprTree) (ds : List TypedDeclarator) (n : ℕ) → Agrees w → Placed exprs → declaration_fits (tests w exprs) ds ≡ true → Stand w.variables n (declared (code w exprs) ds n).temps → AreSaid w (declared (code w exprs) ds n).stmts
@@ -182,8 +184,8 @@ declared_said w exprs [] n g q h stand = tt
 declared_said w exprs (d ∷ ds) n g q h stand =
     let own = initialised (code w exprs) d.init d.var.0 n in
     followed_said w n (record { stmts = clear d.var.0 ∷ own.stmts; temps = own.temps }) (declared (code w exprs) ds (past n own.temps))
-    (λ st. declared_one w exprs d n g q (and_left (declarator_fits (tests w exprs) d) (list_all (declarator_fits (tests w exprs)) ds) h) st)
-    (λ st. declared_said w exprs ds (past n own.temps) g q (and_right (declarator_fits (tests w exprs) d) (list_all (declarator_fits (tests w exprs)) ds) h) st) stand
+    (λ st. declared_one w exprs d n g q (both_hold_first (declarator_fits (tests w exprs) d) (list_all (declarator_fits (tests w exprs)) ds) h) st)
+    (λ st. declared_said w exprs ds (past n own.temps) g q (both_hold_second (declarator_fits (tests w exprs) d) (list_all (declarator_fits (tests w exprs)) ds) h) st) stand
 
 begun_said : (w : Setting) (exprs : List t.ExprTree) (d : TypedForInit) (n : ℕ) → Agrees w → Placed exprs → for_init_fits (tests w exprs) d ≡ true → Stand w.variables n (begun (code w exprs) d n).temps → AreSaid w (begun (code w exprs) d n).stmts
 begun_said w exprs begin.Nothing n g q h stand = tt
@@ -203,7 +205,7 @@ looped_said : (w : Setting) (at : Span) (body : Effects) → AreSaid w body.stmt
 looped_said w at body h = (trees_said w body.stmts h, tt)
 
 number_held : (w : Setting) (k m : ℕ) → slice_get w.variables k ≡ Some int → is_said (context w) w.called (hold k (number m)) ≡ true
-number_held w k m own = hold_said w false k int (number m) own refl (λ e. never e)
+number_held w k m own = hold_said w false k int (number m) own refl (λ e. false_not_true e)
 
 way_back_said : (w : Setting) (k : ℕ) (back : Effects) → slice_get w.variables k ≡ Some int → AreSaid w back.stmts → AreSaid w (on_the_way_back k back).stmts
 way_back_said w k back own h = (choose_said w false (temp k) (hold k (number 0) ∷ []) back.stmts refl (number_held w k 0 own, tt) h, tt)
@@ -237,10 +239,10 @@ flag_said w (past_flag j) k h = (choose_said w false (temp k) (onwards (past_fla
 -- the value of a switch is an integer
 promoted_from : (o : Option VarTy) (ty : IntType) → promotes_to ty o ≡ true → (z : IntType) × (o ≡ Some (Int z))
 promoted_from (Some (Int a)) ty h = (a, refl)
-promoted_from None ty h = never h
-promoted_from (Some (Struct n)) ty h = never h
-promoted_from (Some (Array e n)) ty h = never h
-promoted_from (Some (Pointer e f)) ty h = never h
+promoted_from None ty h = false_not_true h
+promoted_from (Some (Struct n)) ty h = false_not_true h
+promoted_from (Some (Array e n)) ty h = false_not_true h
+promoted_from (Some (Pointer e f)) ty h = false_not_true h
 
 -- the value, the chosen section and the flag, and the sections behind them
 switched_said : (w : Setting) (at : Span) (ty from : IntType) (a : t.ExprTree) (n : ℕ) (mode : Onward) (ss : SectionTrees) (v : Lowered) (body : Effects) → x.type_of a ≡ Int from → AreSaid w (onwards mode) → (Stand w.variables n v.temps → LoweredSaid w false (x.type_of a) v) →
@@ -279,13 +281,6 @@ chosen_said w n ty v a d h i j stand =
     let no = j (stand_rest w.variables (past n v.temps) a.temps d.temps rest) in
     one_more w v.stmts (choose v.value (stmt_trees a.stmts) (stmt_trees d.stmts)) test.stmts (choose_said w true v.value a.stmts d.stmts test.alone yes no)
 
-integer_result : (o : Option VarTy) (r : Option IntType) → both_int (integer_of o) r ≡ true → (z : IntType) × (o ≡ Some (Int z))
-integer_result (Some (Int a)) r h = (a, refl)
-integer_result None r h = never h
-integer_result (Some (Struct n)) r h = never h
-integer_result (Some (Array e n)) r h = never h
-integer_result (Some (Pointer e f)) r h = never h
-
 -- what is returned is an integer
 returned_said : (w : Setting) (a : t.ExprTree) (v : Lowered) → LoweredSaid w false (x.type_of a) v → AreSaid w (returned v).stmts
 returned_said w a v h = one_more w v.stmts (give_back (Some v.value)) h.stmts h.alone
@@ -301,50 +296,50 @@ mutual
   statement_said (b.choose at e y o) w exprs out again mode n g q h on stand =
       let v = value_in (source w.names) (outermost (code w exprs) e) n in
       let first = statement_in (code w exprs) y mode (past n v.temps) in
-      let arms = and_right (s.expr_fits (tests w exprs) is_scalar e) (is_sound (tests w exprs) out again y && else_sound (tests w exprs) out again o) h in
+      let arms = both_hold_second (s.expr_fits (tests w exprs) is_scalar e) (is_sound (tests w exprs) out again y && else_sound (tests w exprs) out again o) h in
       chosen_said w n (x.type_of (outermost (code w exprs) e)) v first (otherwise_in (code w exprs) o mode (past (past n v.temps) first.temps))
-      (λ st. found_said w exprs is_scalar e n g q (and_left (s.expr_fits (tests w exprs) is_scalar e) (is_sound (tests w exprs) out again y && else_sound (tests w exprs) out again o) h) st)
-      (λ st. statement_said y w exprs out again mode (past n v.temps) g q (and_left (is_sound (tests w exprs) out again y) (else_sound (tests w exprs) out again o) arms) on st)
-      (λ st. else_said o w exprs out again mode (past (past n v.temps) first.temps) g q (and_right (is_sound (tests w exprs) out again y) (else_sound (tests w exprs) out again o) arms) on st) stand
+      (λ st. found_said w exprs is_scalar e n g q (both_hold_first (s.expr_fits (tests w exprs) is_scalar e) (is_sound (tests w exprs) out again y && else_sound (tests w exprs) out again o) h) st)
+      (λ st. statement_said y w exprs out again mode (past n v.temps) g q (both_hold_first (is_sound (tests w exprs) out again y) (else_sound (tests w exprs) out again o) arms) on st)
+      (λ st. else_said o w exprs out again mode (past (past n v.temps) first.temps) g q (both_hold_second (is_sound (tests w exprs) out again y) (else_sound (tests w exprs) out again o) arms) on st) stand
   statement_said (b.while_true at e y) w exprs out again mode n g q h on stand =
       let test = tested (code w exprs) (Some e) n in
       let body = statement_in (code w exprs) y to_head (past n test.temps) in
       looped_said w at (followed test body) (followed_said w n test body
-      (λ st. tested_said w exprs (Some e) n g q (and_left (s.expr_fits (tests w exprs) is_scalar e) (is_sound (tests w exprs) true true y) h) st)
-      (λ st. statement_said y w exprs true true to_head (past n test.temps) g q (and_right (s.expr_fits (tests w exprs) is_scalar e) (is_sound (tests w exprs) true true y) h) (refl, tt) st) stand)
+      (λ st. tested_said w exprs (Some e) n g q (both_hold_first (s.expr_fits (tests w exprs) is_scalar e) (is_sound (tests w exprs) true true y) h) st)
+      (λ st. statement_said y w exprs true true to_head (past n test.temps) g q (both_hold_second (s.expr_fits (tests w exprs) is_scalar e) (is_sound (tests w exprs) true true y) h) (refl, tt) st) stand)
   statement_said (b.do_while at y e) w exprs out again mode n g q h on stand =
       let test = tested (code w exprs) (Some e) (n + 1) in
       let body = statement_in (code w exprs) y to_head (past (n + 1) test.temps) in
       first_told_said w n (looped at (followed (on_the_way_back n test) body)) stand.0 (looped_said w at (followed (on_the_way_back n test) body) (followed_said w (n + 1) (on_the_way_back n test) body
-      (λ st. way_back_said w n test stand.0 (tested_said w exprs (Some e) (n + 1) g q (and_right (is_sound (tests w exprs) true true y) (s.expr_fits (tests w exprs) is_scalar e) h) st))
-      (λ st. statement_said y w exprs true true to_head (past (n + 1) test.temps) g q (and_left (is_sound (tests w exprs) true true y) (s.expr_fits (tests w exprs) is_scalar e) h) (refl, tt) st) stand.1))
+      (λ st. way_back_said w n test stand.0 (tested_said w exprs (Some e) (n + 1) g q (both_hold_second (is_sound (tests w exprs) true true y) (s.expr_fits (tests w exprs) is_scalar e) h) st))
+      (λ st. statement_said y w exprs true true to_head (past (n + 1) test.temps) g q (both_hold_first (is_sound (tests w exprs) true true y) (s.expr_fits (tests w exprs) is_scalar e) h) (refl, tt) st) stand.1))
   statement_said (b.for_each at d test None y) w exprs out again mode n g q h on stand =
       let first = begun (code w exprs) d n in
       let k = past n first.temps in
       let cond = tested (code w exprs) test k in
       let body = statement_in (code w exprs) y to_head (past k cond.temps) in
-      let rest = and_right (for_init_fits (tests w exprs) d) (option_fits (tests w exprs) is_scalar test && (true && is_sound (tests w exprs) true true y)) h in
+      let rest = both_hold_second (for_init_fits (tests w exprs) d) (option_fits (tests w exprs) is_scalar test && (true && is_sound (tests w exprs) true true y)) h in
       followed_said w n first (looped at (followed cond body))
-      (λ st. begun_said w exprs d n g q (and_left (for_init_fits (tests w exprs) d) (option_fits (tests w exprs) is_scalar test && (true && is_sound (tests w exprs) true true y)) h) st)
+      (λ st. begun_said w exprs d n g q (both_hold_first (for_init_fits (tests w exprs) d) (option_fits (tests w exprs) is_scalar test && (true && is_sound (tests w exprs) true true y)) h) st)
       (λ st. looped_said w at (followed cond body) (followed_said w k cond body
-      (λ st1. tested_said w exprs test k g q (and_left (option_fits (tests w exprs) is_scalar test) (true && is_sound (tests w exprs) true true y) rest) st1)
-      (λ st1. statement_said y w exprs true true to_head (past k cond.temps) g q (and_right (option_fits (tests w exprs) is_scalar test) (true && is_sound (tests w exprs) true true y) rest) (refl, tt) st1) st)) stand
+      (λ st1. tested_said w exprs test k g q (both_hold_first (option_fits (tests w exprs) is_scalar test) (true && is_sound (tests w exprs) true true y) rest) st1)
+      (λ st1. statement_said y w exprs true true to_head (past k cond.temps) g q (both_hold_second (option_fits (tests w exprs) is_scalar test) (true && is_sound (tests w exprs) true true y) rest) (refl, tt) st1) st)) stand
   statement_said (b.for_each at d test (Some step) y) w exprs out again mode n g q h on stand =
       let first = begun (code w exprs) d n in
       let k = past n first.temps in
       let back = stepped (code w exprs) (Some step) (k + 1) in
       let cond = tested (code w exprs) test (past (k + 1) back.temps) in
       let body = statement_in (code w exprs) y to_head (past (past (k + 1) back.temps) cond.temps) in
-      let rest = and_right (for_init_fits (tests w exprs) d) (option_fits (tests w exprs) is_scalar test && (s.expr_fits (tests w exprs) any_type step && is_sound (tests w exprs) true true y)) h in
-      let last = and_right (option_fits (tests w exprs) is_scalar test) (s.expr_fits (tests w exprs) any_type step && is_sound (tests w exprs) true true y) rest in
+      let rest = both_hold_second (for_init_fits (tests w exprs) d) (option_fits (tests w exprs) is_scalar test && (s.expr_fits (tests w exprs) any_type step && is_sound (tests w exprs) true true y)) h in
+      let last = both_hold_second (option_fits (tests w exprs) is_scalar test) (s.expr_fits (tests w exprs) any_type step && is_sound (tests w exprs) true true y) rest in
       followed_said w n first (first_told k (looped at (followed (on_the_way_back k back) (followed cond body))))
-      (λ st. begun_said w exprs d n g q (and_left (for_init_fits (tests w exprs) d) (option_fits (tests w exprs) is_scalar test && (s.expr_fits (tests w exprs) any_type step && is_sound (tests w exprs) true true y)) h) st)
+      (λ st. begun_said w exprs d n g q (both_hold_first (for_init_fits (tests w exprs) d) (option_fits (tests w exprs) is_scalar test && (s.expr_fits (tests w exprs) any_type step && is_sound (tests w exprs) true true y)) h) st)
       (λ st. first_told_said w k (looped at (followed (on_the_way_back k back) (followed cond body))) st.0 (looped_said w at (followed (on_the_way_back k back) (followed cond body))
       (followed_said w (k + 1) (on_the_way_back k back) (followed cond body)
-      (λ st1. way_back_said w k back st.0 (dropped_said w exprs step (k + 1) g q (and_left (s.expr_fits (tests w exprs) any_type step) (is_sound (tests w exprs) true true y) last) st1))
+      (λ st1. way_back_said w k back st.0 (dropped_said w exprs step (k + 1) g q (both_hold_first (s.expr_fits (tests w exprs) any_type step) (is_sound (tests w exprs) true true y) last) st1))
       (λ st1. followed_said w (past (k + 1) back.temps) cond body
-      (λ st2. tested_said w exprs test (past (k + 1) back.temps) g q (and_left (option_fits (tests w exprs) is_scalar test) (s.expr_fits (tests w exprs) any_type step && is_sound (tests w exprs) true true y) rest) st2)
-      (λ st2. statement_said y w exprs true true to_head (past (past (k + 1) back.temps) cond.temps) g q (and_right (s.expr_fits (tests w exprs) any_type step) (is_sound (tests w exprs) true true y) last) (refl, tt) st2) st1) st.1))) stand
+      (λ st2. tested_said w exprs test (past (k + 1) back.temps) g q (both_hold_first (option_fits (tests w exprs) is_scalar test) (s.expr_fits (tests w exprs) any_type step && is_sound (tests w exprs) true true y) rest) st2)
+      (λ st2. statement_said y w exprs true true to_head (past (past (k + 1) back.temps) cond.temps) g q (both_hold_second (s.expr_fits (tests w exprs) any_type step) (is_sound (tests w exprs) true true y) last) (refl, tt) st2) st1) st.1))) stand
   statement_said (b.give_back at None) w exprs out again mode n g q h on stand = (refl, tt)
   statement_said (b.give_back at (Some e)) w exprs out again mode n g q h on stand =
       let a = outermost (code w exprs) e in
@@ -357,12 +352,12 @@ mutual
       let a = outermost (code w exprs) e in
       let v = value_in (source w.names) a n in
       let k = past n v.temps in
-      let f = found w.names exprs (promotes_to ty) e.0 (and_left (s.expr_fits (tests w exprs) (promotes_to ty) e) (labels_fit ty (labels_of ss) && sections_sound (tests w exprs) again ss) h) in
-      let rest = and_right (s.expr_fits (tests w exprs) (promotes_to ty) e) (labels_fit ty (labels_of ss) && sections_sound (tests w exprs) again ss) h in
+      let f = found w.names exprs (promotes_to ty) e.0 (both_hold_first (s.expr_fits (tests w exprs) (promotes_to ty) e) (labels_fit ty (labels_of ss) && sections_sound (tests w exprs) again ss) h) in
+      let rest = both_hold_second (s.expr_fits (tests w exprs) (promotes_to ty) e) (labels_fit ty (labels_of ss) && sections_sound (tests w exprs) again ss) h in
       let o = promoted_from (ty_of a) ty f.1 in
-      switched_said w at ty o.0 a n mode ss v (sections_in (code w exprs) at ss (inside mode (k + 2)) k 0 (k + 3)) (type_here a (Int o.0) o.1) on
+      switched_said w at ty o.0 a n mode ss v (sections_in (code w exprs) at ss (inside mode (k + 2)) k 0 (k + 3)) (type_is a (Int o.0) o.1) on
       (λ st. value_said a w false n g f.0 (integer_stands w.names a o.0 f.0 o.1 (placed_at exprs e.0 q)) st)
-      (λ one two st. sections_said ss w exprs again (inside mode (k + 2)) at k 0 (k + 3) g q (and_right (labels_fit ty (labels_of ss)) (sections_sound (tests w exprs) again ss) rest) (inside_said w mode (k + 2) two) st) stand
+      (λ one two st. sections_said ss w exprs again (inside mode (k + 2)) at k 0 (k + 3) g q (both_hold_second (labels_fit ty (labels_of ss)) (sections_sound (tests w exprs) again ss) rest) (inside_said w mode (k + 2) two) st) stand
 
   else_said : (o : ElseTree) (w : Setting) (exprs : List t.ExprTree) (out again : Bool) (mode : Onward) (n : ℕ) → Agrees w → Placed exprs → else_sound (tests w exprs) out again o ≡ true → AreSaid w (onwards mode) → Stand w.variables n (otherwise_in (code w exprs) o mode n).temps → AreSaid w (otherwise_in (code w exprs) o mode n).stmts
   else_said no_else w exprs out again mode n g q h on stand = tt
@@ -373,13 +368,13 @@ mutual
   all_said (body_and y rest) w exprs out again mode n g q h on stand =
       let first = statement_in (code w exprs) y mode n in
       followed_said w n first (all_in (code w exprs) rest mode (past n first.temps))
-      (λ st. statement_said y w exprs out again mode n g q (and_left (is_sound (tests w exprs) out again y) (all_sound (tests w exprs) out again rest) h) on st)
-      (λ st. all_said rest w exprs out again mode (past n first.temps) g q (and_right (is_sound (tests w exprs) out again y) (all_sound (tests w exprs) out again rest) h) on st) stand
+      (λ st. statement_said y w exprs out again mode n g q (both_hold_first (is_sound (tests w exprs) out again y) (all_sound (tests w exprs) out again rest) h) on st)
+      (λ st. all_said rest w exprs out again mode (past n first.temps) g q (both_hold_second (is_sound (tests w exprs) out again y) (all_sound (tests w exprs) out again rest) h) on st) stand
 
   sections_said : (ss : SectionTrees) (w : Setting) (exprs : List t.ExprTree) (again : Bool) (mode : Onward) (at : Span) (k m n : ℕ) → Agrees w → Placed exprs → sections_sound (tests w exprs) again ss ≡ true → AreSaid w (onwards mode) → Stand w.variables n (sections_in (code w exprs) at ss mode k m n).temps → AreSaid w (sections_in (code w exprs) at ss mode k m n).stmts
   sections_said no_sections w exprs again mode at k m n g q h on stand = tt
   sections_said (section_and (section p label ys) rest) w exprs again mode at k m n g q h on stand =
       let inner = all_in (code w exprs) ys mode n in
       followed_said w n (section_by at k m inner) (sections_in (code w exprs) at rest mode k (m + 1) (past n inner.temps))
-      (λ st. section_said w at k m inner (all_said ys w exprs true again mode n g q (and_left (all_sound (tests w exprs) true again ys) (sections_sound (tests w exprs) again rest) h) on st))
-      (λ st. sections_said rest w exprs again mode at k (m + 1) (past n inner.temps) g q (and_right (all_sound (tests w exprs) true again ys) (sections_sound (tests w exprs) again rest) h) on st) stand
+      (λ st. section_said w at k m inner (all_said ys w exprs true again mode n g q (both_hold_first (all_sound (tests w exprs) true again ys) (sections_sound (tests w exprs) again rest) h) on st))
+      (λ st. sections_said rest w exprs again mode at k (m + 1) (past n inner.temps) g q (both_hold_second (all_sound (tests w exprs) true again ys) (sections_sound (tests w exprs) again rest) h) on st) stand

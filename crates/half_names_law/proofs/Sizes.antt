@@ -6,6 +6,7 @@ use Rattle.std.proofs.lemmas.Bool.Decides.{nat_tests}
 use Rattle.std.proofs.lemmas.List.{length-append}
 use Rattle.std.proofs.lemmas.List.Sums.{sum_by-cons}
 use Rattle.pt_base.specs.declared.int_type.IntType.{IntType}
+use Rattle.pt_base.proofs.Booleans.{and_parts}
 use Rattle.pt_tree.specs.declared.signature.Elem.{Elem}
 use Rattle.pt_tree.specs.declared.signature.Elem.TheVariants as elem
 use Rattle.typed_tree.specs.declared.types.Field.{Field}
@@ -17,13 +18,12 @@ use Rattle.typed_tree.specs.TypeTests.{type_of_elem}
 use Rattle.typed_tree.specs.WellFormed.{is_plain_type, is_small, field_sound, structs_sound}
 use Rattle.typed_tree.specs.WellFormedExpression.{is_elem}
 use Rattle.typed_tree.proofs.LeavesLemmas.{leaves_of_int, leaves_of_array}
-use Rattle.core_soundness_law.proofs.Leaves.{struct_leaf}
+use Rattle.core_soundness_law.proofs.Leaves.{struct_leaf, many}
 use Rattle.check_declarations.specs.Cells.{counted, cells_of, cells_of_elem}
 use Rattle.check_declarations.specs.NameTables.{values}
 use Rattle.check_declarations.specs.Structs.{Structs}
 use Rattle.half_meaning_law.specs.Known.{type_as}
 use Rattle.half_names_law.proofs.Tables.{listed}
-use Rattle.half_names_law.proofs.Objects.{both_hold}
 use Rattle.half_names_law.proofs.Structs.{entry_of}
 
 -- the structs before this number have no more cells than integers
@@ -49,7 +49,7 @@ pub object_few : (structs : Structs) (infos : List StructInfo) (n : ℕ) (u : Va
 object_few structs infos n (Int t) few h = let one : length (leaves_of infos (Int t)) ≡ 1 = ap length (leaves_of_int infos t) in omega (arith, one)
 object_few structs infos n (Struct m) few h = few m (grind (arith, nat_tests, h))
 object_few structs infos n (Array el count) few h =
-    let parts = both_hold (is_elem n (Some el)) (nat_le 1 count) h in
+    let parts = and_parts (is_elem n (Some el)) (nat_le 1 count) h in
     let all : length (leaves_of infos (Array el count)) ≡ length (repeated count (leaves_of infos (type_of_elem el))) = ap length (leaves_of_array infos el count) in
     let rows = rows_few count (cells_of_elem structs el) (leaves_of infos (type_of_elem el)) (elem_few structs infos n el few parts.0) in
     let less = counted_less (count * cells_of_elem structs el) in
@@ -60,8 +60,8 @@ fields_few : (structs : Structs) (infos : List StructInfo) (n : ℕ) (all : List
     → sum_by (λ f. cells_of structs f.ty) (values (listed (entry_of all) k fs)) ≤ length (flat_map (λ f. leaves_of infos f.ty) fs)
 fields_few structs infos n all k [] few h = omega arith
 fields_few structs infos n all k (f ∷ fs) few h =
-    let parts = both_hold (field_sound infos n f) (list_all (field_sound infos n) fs) h in
-    let own = both_hold (is_plain_type n f.ty) (is_small infos f.ty) parts.0 in
+    let parts = and_parts (field_sound infos n f) (list_all (field_sound infos n) fs) h in
+    let own = and_parts (is_plain_type n f.ty) (is_small infos f.ty) parts.0 in
     let one = object_few structs infos n f.ty few own.0 in
     let rest = fields_few structs infos n all (suc k) fs few parts.1 in
     let sums = sum_by-cons (λ g. cells_of structs g.ty) (entry_of all k f).1 (values (listed (entry_of all) (suc k) fs)) in
@@ -85,14 +85,10 @@ one_leaf infos sound n low (elem.Struct m) h = struct_leaf infos sound m (below 
     below : (m n all : ℕ) → nat_lt m n ≡ true → n ≤ all → m < all
     below m n all h low = let less : m < n = grind (arith, nat_tests, h) in omega (arith, less, low)
 
-repeated_long : (count : ℕ) (ts : List IntType) → 1 ≤ length ts → count ≤ length (repeated count ts)
-repeated_long zero ts h = omega arith
-repeated_long (suc count) ts h = let long = length-append ts (repeated count ts) in let rest = repeated_long count ts h in omega (arith, long, rest, h)
-
 pub array_few : (infos : List StructInfo) → structs_sound infos 0 infos ≡ true → (n : ℕ) → n ≤ length infos → (el : Elem) (count : ℕ) → is_elem n (Some el) ≡ true → is_small infos (Array el count) ≡ true → nat_le count 65_536 ≡ true
 array_few infos sound n low el count h small =
     let all : length (leaves_of infos (Array el count)) ≡ length (repeated count (leaves_of infos (type_of_elem el))) = ap length (leaves_of_array infos el count) in
-    let long = repeated_long count (leaves_of infos (type_of_elem el)) (one_leaf infos sound n low el h) in
+    let long = many count (leaves_of infos (type_of_elem el)) (one_leaf infos sound n low el h) in
     let most = at_most (length (leaves_of infos (Array el count))) small in
     fewer count (omega (arith, all, long, most))
   where

@@ -1,11 +1,12 @@
 -- What the specifiers in a half's text say.
-use Rattle.std.proofs.Common.{◌≡◌, ◌++◌, ◌∙◌, sym, ap, refl, ℕ, Bool, true, false, List, [], ◌∷◌, map, codes, Option, Some, None, is_none}
+use Rattle.std.proofs.Common.{◌≡◌, ◌++◌, ◌∙◌, sym, ap, refl, ℕ, Bool, true, false, List, [], map, codes, Option, Some, None, is_none}
 use Rattle.std.specs.Prelude.{not}
 use Rattle.std.specs.Option.{option_map_or}
 use Rattle.std.specs.List.{list_any}
 use Rattle.pt_base.specs.declared.int_type.IntType.{IntType}
 use Rattle.pt_base.specs.declared.int_type.IntType.TheVariants as i
 use Rattle.pt_base.specs.declared.span.Span.{Span}
+use Rattle.pt_base.proofs.Lists.{append_nil}
 use Rattle.pt_tree.specs.declared.signature.Elem.{Elem}
 use Rattle.pt_tree.specs.declared.signature.Elem.TheVariants as e
 use Rattle.pt_tree.specs.declared.signature.Signature.{Signature}
@@ -184,12 +185,8 @@ result_first : (o : Option IntType) → first_of (spec_trees (result_specs o)) �
 result_first None = refl
 result_first (Some t) = int_first t
 
-nothing_more : {A : Type 0} (xs : List A) → xs ++ [] ≡ xs
-nothing_more [] = refl
-nothing_more (x ∷ xs) = ap (λ ys. x ∷ ys) (nothing_more xs)
-
 with_says : (structs : Structs) (base : «Type») (fixed : Bool) (more : List Attribute) (j : Judged) → j ≡ says structs base fixed [] → with_attributes more j ≡ says structs base fixed more
-with_says structs base fixed attributes j h = ap (with_attributes attributes) h ∙ ap (says structs base fixed) (nothing_more attributes)
+with_says structs base fixed attributes j h = ap (with_attributes attributes) h ∙ ap (says structs base fixed) (append_nil attributes)
 
 -- the specifiers of an object of this type
 pub object_says : (at_file : Bool) (structs : Structs) (infos : List StructInfo) (a b c : Bool) (u : VarTy) → IsNamed structs infos (element_of u)

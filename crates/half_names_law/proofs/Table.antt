@@ -5,6 +5,10 @@ use Rattle.std.specs.Option.{option_map_or}
 use Rattle.std.specs.List.{list_all, range_with_len}
 use Rattle.std.proofs.lemmas.Bool.Decides.{nat_tests}
 use Rattle.std.proofs.lemmas.List.{length-append}
+use Rattle.std.proofs.lemmas.Bool.{and_from as both_so}
+use Rattle.std.proofs.lemmas.Option.{slice_get-get_or}
+use Rattle.pt_base.proofs.Booleans.{and_parts}
+use Rattle.pt_base.proofs.Places.{each_pushed, get_below_length, get_pushed, get_there}
 use Rattle.pt_tree.specs.declared.signature.Elem.{Elem}
 use Rattle.pt_tree.specs.declared.signature.Elem.TheVariants as elem
 use Rattle.pt_tree.specs.ProgramTree.{ItemTree}
@@ -28,15 +32,15 @@ use Rattle.type_law.proofs.DeclarationsTableLemmas.{elem_cells_before, sound_pus
 use Rattle.check_programs.specs.Functions.{Checked}
 use Rattle.check_programs.specs.Programs.{checked_items}
 use Rattle.check_programs.specs.Progress.{Progress}
-use Rattle.core_soundness_law.proofs.Leaves.{sound_at, got_below}
+use Rattle.core_soundness_law.proofs.Leaves.{sound_at}
 use Rattle.pt_core.specs.Types.{element_of}
 use Rattle.half_trees.specs.Names.{struct_name, field_by}
 use Rattle.half_trees.specs.Declarations.{is_pointer, struct_item}
 use Rattle.half_meaning_law.specs.Known.{type_as}
 use Rattle.half_names_law.specs.Standing.{Marks}
-use Rattle.half_names_law.proofs.Tables.{Differ, pushed, get_end, listed, listed_length, found, sought_first, is_new_where}
+use Rattle.half_names_law.proofs.Tables.{Differ, listed, listed_length, found, sought_first, is_new_where}
 use Rattle.half_names_law.proofs.Specifiers.{IsNamed}
-use Rattle.half_names_law.proofs.Objects.{Fits, is_dense, both_hold}
+use Rattle.half_names_law.proofs.Objects.{Fits, is_dense}
 use Rattle.half_names_law.proofs.Structs.{entry_of, field_entry, fields_as, AllFit, behind, struct_added}
 use Rattle.half_names_law.proofs.Sizes.{CellsFew, object_few, struct_few, array_few}
 
@@ -54,16 +58,6 @@ pub record IsTable (structs : Structs) (infos : List StructInfo) (n : ℕ) : Typ
   pub cells : CellsFew structs infos n
   pub sound : SoundStructs structs
 
-pub get_below : {A : Type 0} (xs : List A) (j : ℕ) (y : A) → slice_get xs j ≡ Some y → j < length xs
-get_below [] j y h = cc
-get_below (x ∷ xs) zero y h = omega arith
-get_below (x ∷ xs) (suc j) y h = let again = get_below xs j y h in omega (arith, again)
-
-pub get_there : {A : Type 0} (xs : List A) (j : ℕ) → j < length xs → (x : A) × (slice_get xs j ≡ Some x)
-get_there [] j h = absurd (omega (arith, h))
-get_there (x ∷ xs) zero h = (x, refl)
-get_there (x ∷ xs) (suc j) h = get_there xs j (omega (arith, h))
-
 -- each struct stands under its name
 pub struct_found : (structs : Structs) (infos : List StructInfo) (n m : ℕ) → IsTable structs infos n → Differ (struct_name infos) n → m < n → number_of structs (struct_name infos m) ≡ Some m
 struct_found structs infos n m table differ low =
@@ -77,7 +71,7 @@ struct_found structs infos n m table differ low =
 pub struct_new : (structs : Structs) (infos : List StructInfo) (n : ℕ) → IsTable structs infos n → Differ (struct_name infos) (suc n) → is_new structs (struct_name infos n) ≡ true
 struct_new structs infos n table differ =
     is_new_where structs (struct_name infos n)
-    (λ j x there same. let long = table.long in let near = get_below structs j x there in
+    (λ j x there same. let long = table.long in let near = get_below_length structs j x there in
     let equal = differ n j (omega arith) (omega (arith, near, long)) (same ∙ (table.entries j x there).named) in omega (arith, near, long, equal))
 
 pub named_elem : (structs : Structs) (infos : List StructInfo) (n : ℕ) (el : Elem) → IsTable structs infos n → Differ (struct_name infos) n → is_elem n (Some el) ≡ true → IsNamed structs infos el
@@ -89,14 +83,14 @@ named_elem structs infos n (elem.Struct m) table differ h = struct_found structs
 plain_named : (structs : Structs) (infos : List StructInfo) (n : ℕ) (u : VarTy) → IsTable structs infos n → Differ (struct_name infos) n → is_plain_type n u ≡ true → IsNamed structs infos (element_of u)
 plain_named structs infos n (Int t) table differ h = tt {0}
 plain_named structs infos n (Struct m) table differ h = struct_found structs infos n m table differ (grind (arith, nat_tests, h))
-plain_named structs infos n (Array el count) table differ h = named_elem structs infos n el table differ (both_hold (is_elem n (Some el)) (nat_le 1 count) h).0
+plain_named structs infos n (Array el count) table differ h = named_elem structs infos n el table differ (and_parts (is_elem n (Some el)) (nat_le 1 count) h).0
 plain_named structs infos n (Pointer el fixed) table differ h = cc
 
 plain_dense : (infos : List StructInfo) (n : ℕ) (u : VarTy) → structs_sound infos 0 infos ≡ true → n ≤ length infos → is_plain_type n u ≡ true → is_small infos u ≡ true → is_dense u ≡ true
 plain_dense infos n (Int t) sound low h small = refl
 plain_dense infos n (Struct m) sound low h small = refl
 plain_dense infos n (Array el count) sound low h small =
-    both_so (nat_le 1 count) (nat_le count 65_536) (both_hold (is_elem n (Some el)) (nat_le 1 count) h).1 (array_few infos sound n low el count (both_hold (is_elem n (Some el)) (nat_le 1 count) h).0 small)
+    both_so (nat_le 1 count) (nat_le count 65_536) (and_parts (is_elem n (Some el)) (nat_le 1 count) h).1 (array_few infos sound n low el count (and_parts (is_elem n (Some el)) (nat_le 1 count) h).0 small)
   where
     both_so : (a b : Bool) → a ≡ true → b ≡ true → (a && b) ≡ true
     both_so a b p q = λ i. p i && q i
@@ -120,8 +114,8 @@ plain_is_none n (Pointer el fixed) h = cc
 all_fit : (structs : Structs) (infos : List StructInfo) (n : ℕ) (fs : List Field) → structs_sound infos 0 infos ≡ true → n ≤ length infos → IsTable structs infos n → Differ (struct_name infos) n → list_all (field_sound infos n) fs ≡ true → AllFit structs infos fs
 all_fit structs infos n [] sound low table differ h = tt {0}
 all_fit structs infos n (f ∷ fs) sound low table differ h =
-    let parts = both_hold (field_sound infos n f) (list_all (field_sound infos n) fs) h in
-    let own = both_hold (is_plain_type n f.ty) (is_small infos f.ty) parts.0 in
+    let parts = and_parts (field_sound infos n f) (list_all (field_sound infos n) fs) h in
+    let own = and_parts (is_plain_type n f.ty) (is_small infos f.ty) parts.0 in
     (record { fits = plain_fits structs infos n f.ty sound low table differ own.0 own.1; plain = plain_is_none n f.ty own.0 }, all_fit structs infos n fs sound low table differ parts.1)
 
 -- ---- nothing is const
@@ -152,8 +146,8 @@ none_const structs infos n m table = go (slice_get structs m) refl
 -- what soundness says of a struct's fields
 pub fields_sound : (infos : List StructInfo) (n : ℕ) → structs_sound infos 0 infos ≡ true → n < length infos → (nat_le 1 (length (fields_of infos n)) ≡ true) × (list_all (field_sound infos n) (fields_of infos n) ≡ true)
 fields_sound infos n sound low =
-    both_hold (nat_le 1 (length (fields_of infos n))) (list_all (field_sound infos n) (fields_of infos n))
-    (sound_at infos n (get_or infos n (record { name = []; fields = [] })) sound (got_below infos n (record { name = []; fields = [] }) low))
+    and_parts (nat_le 1 (length (fields_of infos n))) (list_all (field_sound infos n) (fields_of infos n))
+    (sound_at infos n (get_or infos n (record { name = []; fields = [] })) sound (slice_get-get_or infos n (record { name = []; fields = [] }) low))
 
 abbrev struct_entry : Structs → List StructInfo → ℕ → List ℕ × StructEntry
 struct_entry structs infos n = (struct_name infos n, struct_of structs (fields_as (fields_of infos n)))
@@ -174,10 +168,10 @@ cells_pushed structs infos n sound low table m near = go (nat_lt m n) refl
 
     last : m ≡ n → cells_of_elem (structs ++ struct_entry structs infos n ∷ []) (elem.Struct m) ≤ length (leaves_of infos (Struct m))
     last is =
-        let there : slice_get (structs ++ struct_entry structs infos n ∷ []) m ≡ Some (struct_entry structs infos n) = ap (slice_get (structs ++ struct_entry structs infos n ∷ [])) (is ∙ sym long) ∙ get_end structs (struct_entry structs infos n) in
+        let there : slice_get (structs ++ struct_entry structs infos n ∷ []) m ≡ Some (struct_entry structs infos n) = ap (slice_get (structs ++ struct_entry structs infos n ∷ [])) (is ∙ sym long) ∙ get_pushed structs (struct_entry structs infos n) in
         let here = ap (λ o. option_map_or (λ s. s.cells) (option_map (λ e. e.1) o) 0) there in
         let few = struct_few structs infos n (fields_of infos n) table.cells (fields_sound infos n sound low).1 in
-        let leaves = ap length (leaves_of_struct infos n (get_or infos n (record { name = []; fields = [] })) sound (got_below infos n (record { name = []; fields = [] }) low)) in
+        let leaves = ap length (leaves_of_struct infos n (get_or infos n (record { name = []; fields = [] })) sound (slice_get-get_or infos n (record { name = []; fields = [] }) low)) in
         subst (λ k. cells_of_elem (structs ++ struct_entry structs infos n ∷ []) (elem.Struct m) ≤ length (leaves_of infos (Struct k))) (sym is) (joined _ _ _ _ here few leaves)
       where
         joined : (a b c d : ℕ) → a ≡ b → b ≤ c → d ≡ c → a ≤ d
@@ -196,15 +190,12 @@ plain_as n (Struct m) h = h
 plain_as n (Array el count) h = h
 plain_as n (Pointer el fixed) h = h
 
-pub both_so : (a b : Bool) → a ≡ true → b ≡ true → (a && b) ≡ true
-both_so a b p q = λ i. p i && q i
-
 fields_stay_sound : (structs : Structs) (infos : List StructInfo) (n : ℕ) (all : List Field) (k : ℕ) (fs : List Field) → length structs ≡ n → CellsFew structs infos n → list_all (field_sound infos n) fs ≡ true
     → list_all (law.field_sound structs) (values (listed (entry_of all) k fs)) ≡ true
 fields_stay_sound structs infos n all k [] long few h = refl
 fields_stay_sound structs infos n all k (f ∷ fs) long few h =
-    let parts = both_hold (field_sound infos n f) (list_all (field_sound infos n) fs) h in
-    let own = both_hold (is_plain_type n f.ty) (is_small infos f.ty) parts.0 in
+    let parts = and_parts (field_sound infos n f) (list_all (field_sound infos n) fs) h in
+    let own = and_parts (is_plain_type n f.ty) (is_small infos f.ty) parts.0 in
     let less = object_few structs infos n f.ty few own.0 in
     let most = small_is (length (leaves_of infos f.ty)) own.1 in
     both_so (law.field_sound structs (field_entry f)) (list_all (law.field_sound structs) (values (listed (entry_of all) (suc k) fs)))
@@ -231,7 +222,7 @@ table_pushed structs infos n sound low differ table =
     let more = length-append structs (struct_entry structs infos n ∷ []) in
     record {
       long = omega (arith, long, more);
-      entries = pushed (IsEntry infos) structs (struct_entry structs infos n) table.entries (subst (λ k. IsEntry infos k (struct_entry structs infos n)) (sym table.long) (entry_is structs infos n sound low differ table));
+      entries = each_pushed (IsEntry infos) structs (struct_entry structs infos n) table.entries (subst (λ k. IsEntry infos k (struct_entry structs infos n)) (sym table.long) (entry_is structs infos n sound low differ table));
       cells = cells_pushed structs infos n sound low table;
       sound = sound_pushed structs infos n sound low table;
     }

@@ -1,18 +1,12 @@
 -- Tables of names in which no name stands twice.
-use Rattle.std.proofs.Common.{◌≡◌, ◌<◌, ◌+◌, ◌++◌, ◌∙◌, sym, ap, refl, subst, ℕ, zero, suc, Bool, true, false, List, [], ◌∷◌, length, map, arith, cond, nat_lt, not, Option, Some, None, if◌then◌else◌, is_none}
+use Rattle.std.proofs.Common.{◌≡◌, ◌<◌, ◌+◌, ◌++◌, ◌∙◌, sym, ap, refl, ℕ, zero, suc, Bool, true, false, List, [], ◌∷◌, length, map, arith, cond, nat_lt, not, Option, Some, None, if◌then◌else◌, is_none}
 use Rattle.std.specs.Prelude.{◌&&◌, ◌||◌, slice_get, option_map}
 use Rattle.std.specs.List.{prefix_len, list_any, range_with_len}
 use Rattle.std.specs.Str.{bytes_eq}
 use Rattle.std.proofs.lemmas.Bool.Decides.{nat_tests}
-use Rattle.std.proofs.lemmas.Slice.Eq.{bytes_eq-Decides}
+use Rattle.pt_base.proofs.Lists.{bytes_eq_same, bytes_eq_self}
 use Rattle.typed_tree.specs.WellFormed.{are_distinct}
 use Rattle.check_declarations.specs.NameTables.{Named, number_of, is_new, with_name}
-
-pub name_self : (n : List ℕ) → bytes_eq n n ≡ true
-name_self n = (bytes_eq-Decides n n).1 refl
-
-pub name_same : (m n : List ℕ) → bytes_eq m n ≡ true → m ≡ n
-name_same m n h = (bytes_eq-Decides m n).0 h
 
 module _ {X : Type 0} where
   -- the place of a name
@@ -47,7 +41,7 @@ module _ {X : Type 0} where
   -- an entry is found under its name, where no earlier one has it
   pub sought_first : (t : Named X) (k : ℕ) (e : List ℕ × X) → slice_get t k ≡ Some e → ((j : ℕ) (x : List ℕ × X) → j < k → slice_get t j ≡ Some x → e.0 ≡ x.0 → ⊥) → sought t e.0 ≡ Some k
   sought_first [] k e is others = cc
-  sought_first (x ∷ t) zero e is others = go (bytes_eq e.0 x.0) (ap (λ z. bytes_eq e.0 z.0) (same is) ∙ name_self e.0)
+  sought_first (x ∷ t) zero e is others = go (bytes_eq e.0 x.0) (ap (λ z. bytes_eq e.0 z.0) (same is) ∙ bytes_eq_self e.0)
     where
       same : Some x ≡ Some e → x ≡ e
       same h = cc
@@ -58,7 +52,7 @@ module _ {X : Type 0} where
   sought_first (x ∷ t) (suc k) e is others = go (bytes_eq e.0 x.0) refl (sought_first t k e is (λ j y low there. others (suc j) y (omega (arith, low)) there))
     where
       go : (b : Bool) → bytes_eq e.0 x.0 ≡ b → sought t e.0 ≡ Some k → (if b then Some 0 else option_map suc (sought t e.0)) ≡ Some (suc k)
-      go true h again = absurd (others 0 x (omega arith) refl (name_same e.0 x.0 h))
+      go true h again = absurd (others 0 x (omega arith) refl (bytes_eq_same e.0 x.0 h))
       go false h again = ap (option_map suc) again
 
   -- no entry has the name
@@ -67,7 +61,7 @@ module _ {X : Type 0} where
   sought_none (x ∷ t) n others = go (bytes_eq n x.0) refl (sought_none t n (λ j y there. others (suc j) y there))
     where
       go : (b : Bool) → bytes_eq n x.0 ≡ b → sought t n ≡ None → (if b then Some 0 else option_map suc (sought t n)) ≡ None
-      go true h again = absurd (others 0 x refl (name_same n x.0 h))
+      go true h again = absurd (others 0 x refl (bytes_eq_same n x.0 h))
       go false h again = ap (option_map suc) again
 
   pub is_new_where : (t : Named X) (n : List ℕ) → ((j : ℕ) (x : List ℕ × X) → slice_get t j ≡ Some x → n ≡ x.0 → ⊥) → is_new t n ≡ true
@@ -113,14 +107,11 @@ listed_back g k (suc j) (x ∷ xs) y h = let again = listed_back g (suc k) j xs 
 pub same3 : {A B C R : Type 0} (k : A → B → C → R) {a a' : A} {b b' : B} {c c' : C} → a ≡ a' → b ≡ b' → c ≡ c' → k a b c ≡ k a' b' c'
 same3 k p q r = λ i. k (p i) (q i) (r i)
 
-pub none_joined : {A : Type 0} (xs ys : List A) → xs ≡ [] → ys ≡ [] → xs ++ ys ≡ []
-none_joined xs ys p q = λ i. p i ++ q i
-
 -- ---- names that differ
 
 any_there : (name : List ℕ) (names : List (List ℕ)) (k : ℕ) → slice_get names k ≡ Some name → list_any (bytes_eq name) names ≡ true
 any_there name [] k h = cc
-any_there name (x ∷ xs) zero h = go (bytes_eq name x) (list_any (bytes_eq name) xs) (ap (bytes_eq name) (same h) ∙ name_self name)
+any_there name (x ∷ xs) zero h = go (bytes_eq name x) (list_any (bytes_eq name) xs) (ap (bytes_eq name) (same h) ∙ bytes_eq_self name)
   where
     same : Some x ≡ Some name → x ≡ name
     same e = cc
@@ -176,19 +167,3 @@ differ_from name count h j k low high same =
   where
     behind_none : (n : ℕ) → 0 + n ≡ n
     behind_none n = omega arith
-
--- ---- lists with one more
-
-pub get_end : {A : Type 0} (xs : List A) (y : A) → slice_get (xs ++ y ∷ []) (length xs) ≡ Some y
-get_end [] y = refl
-get_end (x ∷ xs) y = get_end xs y
-
--- what holds of each and of the new one holds of each
-pub pushed : {A : Type 0} (P : ℕ → A → Type 0) (xs : List A) (y : A) → ((j : ℕ) (x : A) → slice_get xs j ≡ Some x → P j x) → P (length xs) y → (j : ℕ) (x : A) → slice_get (xs ++ y ∷ []) j ≡ Some x → P j x
-pushed P [] y old new zero x h = subst (P zero) (same h) new
-  where
-    same : Some y ≡ Some x → y ≡ x
-    same e = cc
-pushed P [] y old new (suc j) x h = cc
-pushed P (z ∷ zs) y old new zero x h = old zero x h
-pushed P (z ∷ zs) y old new (suc j) x h = pushed (λ i. P (suc i)) zs y (λ i w e. old (suc i) w e) new j x h

@@ -2,11 +2,12 @@
 use Rattle.std.proofs.Common.{◌≡◌, ◌∙◌, ◌<◌, ◌≤◌, ◌^◌, sym, ap, refl, ℕ, Bool, true, false, List, [], ◌∷◌, codes, Some, arith, if◌then◌else◌}
 use Rattle.std.specs.Str.{bytes_eq}
 use Rattle.std.proofs.lemmas.Fmt.{decimal_injective}
+use Rattle.pt_base.proofs.Lists.{bytes_eq_same}
 use Rattle.pt_tree.specs.declared.signature.Signature.{Signature}
 use Rattle.typed_tree.specs.WellFormedExpression as m
 use Rattle.check_expressions.specs.Postfixes.{is_main}
 use Rattle.half_trees.specs.Names.{named, local_name, global_name, function_by}
-use Rattle.half_names_law.proofs.Tables.{Differ, name_same}
+use Rattle.half_names_law.proofs.Tables.{Differ}
 
 abbrev first_of : List ℕ → ℕ
 first_of [] = 0
@@ -70,5 +71,5 @@ no_main f s other = go (bytes_eq (function_by f (Some s)) (codes "main")) refl
         differ k = omega (arith, k)
 
     go : (b : Bool) → bytes_eq (function_by f (Some s)) (codes "main") ≡ b → b ≡ false
-    go true is = absurd (apart (ap first_of (name_same (function_by f (Some s)) (codes "main") is)))
+    go true is = absurd (apart (ap first_of (bytes_eq_same (function_by f (Some s)) (codes "main") is)))
     go false is = refl

@@ -4,6 +4,8 @@ use Rattle.std.specs.Prelude.{◌&&◌, not, slice_get, slice_set, get_or, nat_l
 use Rattle.std.specs.Option.{option_map_or}
 use Rattle.std.proofs.lemmas.List.{append_assoc, map-append, take-append-drop}
 use Rattle.pt_base.specs.declared.int_type.IntType.{IntType}
+use Rattle.pt_base.proofs.Booleans.{and_parts}
+use Rattle.pt_base.proofs.Places.{get_mapped}
 use Rattle.pt_tree.specs.declared.signature.Param.{Param}
 use Rattle.pt_tree.specs.declared.signature.ParamKind.{ParamKind}
 use Rattle.pt_tree.specs.declared.signature.ParamKind.TheVariants as k
@@ -36,8 +38,8 @@ use Rattle.half_names_law.specs.Declarable.{Declarable}
 use Rattle.half_names_law.specs.Standing.{Marks, own_marks, whole_marks, before, locals_at, all_said}
 use Rattle.half_names_law.specs.Laws.{statements_checked, judged_tree, field_types, BodyStands, HalfBodiesStand}
 use Rattle.half_names_law.proofs.Tables.{listed}
-use Rattle.half_names_law.proofs.Objects.{both_hold, object_type_is}
-use Rattle.half_names_law.proofs.Numbers.{lookup_place, number_at, mapped_there, once_there}
+use Rattle.half_names_law.proofs.Objects.{object_type_is}
+use Rattle.half_names_law.proofs.Numbers.{lookup_place, number_at, once_there}
 use Rattle.half_names_law.proofs.Structs.{entry_of}
 use Rattle.half_names_law.proofs.Integers.{SameFields, same_fields}
 use Rattle.half_names_law.proofs.Prototypes.{Rest, at, marked_param}
@@ -105,7 +107,7 @@ result_is : (o : Option IntType) → result_type_of (result_as o) ≡ o
 result_is None = refl
 result_is (Some t) = refl
 
-own_result : (monitor : Bool) (f : FunctionTree) (s : Signature) → (with_own monitor (Some f) s).result ≡ s.result
+pub own_result : (monitor : Bool) (f : FunctionTree) (s : Signature) → (with_own monitor (Some f) s).result ≡ s.result
 own_result monitor f s = go (monitor && not s.host)
   where
     go : (b : Bool) → (if b then record s { params = take f.params s.params } else s).result ≡ s.result
@@ -142,18 +144,18 @@ other_before p n k f s rise there place j g t at named =
     let before = take_there n j p.functions g at in
     let low = before.1 in
     let same : g.id ≡ f.id = same_first (g.id, t) (f.id, s) (sym named ∙ place) in
-    let equal = once_there 0 (map (λ x. x.id) p.functions) j n f.id rise (mapped_there (λ x. x.id) p.functions j g before.0 ∙ ap Some same) (mapped_there (λ x. x.id) p.functions n f there) in omega (arith, low, equal)
+    let equal = once_there 0 (map (λ x. x.id) p.functions) j n f.id rise (get_mapped (λ x. x.id) p.functions j g before.0 ∙ ap Some same) (get_mapped (λ x. x.id) p.functions n f there) in omega (arith, low, equal)
 
 other_behind : (p : ProgramTree) (n k : ℕ) (f : FunctionTree) (s : Signature) → are_rising 0 (map (λ g. g.id) p.functions) ≡ true → slice_get p.functions n ≡ Some f → slice_get p.signatures k ≡ Some (f.id, s) → NotAmong p (drop (suc n) p.functions) k
 other_behind p n k f s rise there place j g t at named =
     let behind = drop_there (suc n) j p.functions g at in
     let same : g.id ≡ f.id = same_first (g.id, t) (f.id, s) (sym named ∙ place) in
-    let equal = once_there 0 (map (λ x. x.id) p.functions) (suc n + j) n f.id rise (mapped_there (λ x. x.id) p.functions (suc n + j) g behind ∙ ap Some same) (mapped_there (λ x. x.id) p.functions n f there) in omega (arith, equal)
+    let equal = once_there 0 (map (λ x. x.id) p.functions) (suc n + j) n f.id rise (get_mapped (λ x. x.id) p.functions (suc n + j) g behind ∙ ap Some same) (get_mapped (λ x. x.id) p.functions n f there) in omega (arith, equal)
 
 rising_behind : (n first : ℕ) (fs : List FunctionTree) → are_rising first (map (λ g. g.id) fs) ≡ true → (m : ℕ) × (are_rising m (map (λ g. g.id) (drop n fs)) ≡ true)
 rising_behind zero first fs h = (first, h)
 rising_behind (suc n) first [] h = (first, h)
-rising_behind (suc n) first (f ∷ fs) h = rising_behind n (suc f.id) fs (both_hold (nat_le first f.id) (are_rising (suc f.id) (map (λ g. g.id) fs)) h).1
+rising_behind (suc n) first (f ∷ fs) h = rising_behind n (suc f.id) fs (and_parts (nat_le first f.id) (are_rising (suc f.id) (map (λ g. g.id) fs)) h).1
 
 -- ---- the walk behind a function
 
@@ -196,7 +198,7 @@ ends bodies marks monitor p n f s k r h d said say fits there place fresh first 
     let rise' : are_rising rise.0 (map (λ g. g.id) (f ∷ later)) ≡ true = subst (λ fs. are_rising rise.0 (map (λ g. g.id) fs) ≡ true) split rise.1 in
     let rest = functions_added bodies marks monitor p (half_structs p) (with_function marks monitor p (half_structs p) r f s k) (suc f.id) (suc n) later [] half (functions_fit marks monitor p h d said say)
     (λ j g e. drop_there (suc n) j p.functions g (sym (ap (λ fs. slice_get fs j) (nothing_more later)) ∙ e))
-    (subst (λ fs. are_rising (suc f.id) (map (λ g. g.id) fs) ≡ true) (sym (nothing_more later)) (both_hold (nat_le rise.0 f.id) (are_rising (suc f.id) (map (λ g. g.id) later)) rise').1)
+    (subst (λ fs. are_rising (suc f.id) (map (λ g. g.id) fs) ≡ true) (sym (nothing_more later)) (and_parts (nat_le rise.0 f.id) (are_rising (suc f.id) (map (λ g. g.id) later)) rise').1)
     (subst (Fresh p (with_function marks monitor p (half_structs p) r f s k)) (sym (nothing_more later)) (still_fresh marks monitor p (half_structs p) r f later s k rise.0 rise' place fresh')) in
     record {
       last = rest.rest;
@@ -241,7 +243,7 @@ body_stands bodies marks monitor p n f s h d said say there named =
       globals = ap (λ st. map (λ g. g.var.ty) (tree_of st).globals) end.is ∙ ap (map (λ g. g.var.ty)) (end.globals ∙ passes.holds.globals) ∙ declared.globals;
       cells = ap (λ st. map (λ g. g.cells) (tree_of st).globals) end.is ∙ ap (map (λ g. g.cells)) (end.globals ∙ passes.holds.globals) ∙ declared.cells;
       place = k;
-      number = number_at 0 (map (λ x. x.0) p.signatures) k f.id (mapped_there (λ x. x.0) p.signatures k (f.id, s) place.there);
+      number = number_at 0 (map (λ x. x.0) p.signatures) k f.id (get_mapped (λ x. x.0) p.signatures k (f.id, s) place.there);
       entry = with_parts entry.entry nowhere vars b;
       there = ap (λ st. slice_get (tree_of st).functions k) end.is ∙ end.kept ∙ entry_with r.functions k entry.entry vars b (passes.holds.kept k (other_before p n k f s sound.order.1 there place.there) ∙ entry.there);
       result = ap (λ g. g.result) entry.signature ∙ result_is (own monitor p (f.id, s)).result ∙ ap (λ o. (with_own monitor o s).result) fits.found ∙ own_result monitor f s;

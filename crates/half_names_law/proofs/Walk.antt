@@ -3,13 +3,14 @@ use Rattle.std.proofs.Common.{◌≡◌, ◌++◌, ◌∙◌, ◌≤◌, ◌+◌
 use Rattle.std.specs.Prelude.{is_some, slice_get, sum_by}
 use Rattle.std.proofs.lemmas.List.{append_assoc, length-append, map-append}
 use Rattle.std.proofs.lemmas.List.Sums.{sum_by-cons}
+use Rattle.pt_base.proofs.Lists.{length_map}
+use Rattle.pt_base.proofs.Places.{each_pushed, get_before, get_below_length, get_pushed, get_seam}
 use Rattle.pt_tree.specs.declared.signature.Signature.{Signature}
 use Rattle.pt_tree.specs.ProgramTree as parsed
 use Rattle.pt_tree.specs.ProgramTree.{ItemTree}
 use Rattle.typed_tree.specs.declared.types.StructInfo.{StructInfo}
 use Rattle.typed_tree.specs.declared.variable.TypedGlobal.{TypedGlobal}
 use Rattle.typed_tree.specs.TypedTree.{FunctionTree}
-use Rattle.typed_tree.proofs.LeavesLemmas.{get_before}
 use Rattle.check_declarations.specs.Cells.{counted, cells_of}
 use Rattle.check_declarations.specs.Structs.{Structs}
 use Rattle.check_expressions.specs.declared.meaning.Callable.{Callable}
@@ -24,12 +25,12 @@ use Rattle.half_trees.specs.Declarations.{global_item}
 use Rattle.half_trees.specs.Halves.{prototype_of}
 use Rattle.half_meaning_law.specs.Known.{type_as, function_id}
 use Rattle.half_names_law.specs.Standing.{Marks}
-use Rattle.half_names_law.proofs.Tables.{Differ, listed_more, pushed, get_end}
+use Rattle.half_names_law.proofs.Tables.{Differ, listed_more}
 use Rattle.half_names_law.proofs.Parameters.{ParametersFit}
 use Rattle.half_names_law.proofs.Heads.{declaration_by, file_env}
 use Rattle.half_names_law.proofs.Prototypes.{Rest, at, marked_param, prototype_as, with_prototype, prototype_added}
 use Rattle.half_names_law.proofs.Globals.{GlobalFits, with_global_tree, global_added}
-use Rattle.half_names_law.proofs.Table.{then_rest, get_below}
+use Rattle.half_names_law.proofs.Table.{then_rest}
 use Rattle.half_names_law.proofs.Names.{own, text_name, callable_in, function_entry, global_entry, global_object, functions_file, globals_file, FunctionsApart, GlobalsApart, function_new, global_new}
 use Rattle.half_names_law.proofs.Known.{own_name}
 
@@ -64,16 +65,6 @@ reaches_both marks start env env' structs structs' structs'' r P Q xs ys first t
       holds = more.holds;
     }
 
--- ---- lists
-
-pub map_length : {A B : Type 0} (f : A → B) (xs : List A) → length (map f xs) ≡ length xs
-map_length f [] = refl
-map_length f (x ∷ xs) = ap suc (map_length f xs)
-
-pub get_next : {A : Type 0} (xs : List A) (y : A) (ys : List A) → slice_get (xs ++ y ∷ ys) (length xs) ≡ Some y
-get_next [] y ys = refl
-get_next (x ∷ xs) y ys = get_next xs y ys
-
 -- ---- prototypes
 
 -- what a prototype's declaration asks for, where the program says this of functions
@@ -103,9 +94,9 @@ pub record Declared (marks : Marks) (monitor : Bool) (p : ProgramTree) (done : L
 one_more_entry : (marks : Marks) (monitor : Bool) (p : ProgramTree) (done : List (ℕ × Signature)) (s : ℕ × Signature) (fs : List FunctionTree) (e : FunctionTree) → length fs ≡ length done → e.signature ≡ signature_of (marks (text_name s)) (callable_in monitor p s)
     → ((k : ℕ) (a : ℕ × Signature) → slice_get done k ≡ Some a → Entry marks monitor p fs k a) → (k : ℕ) (a : ℕ × Signature) → slice_get (done ++ s ∷ []) k ≡ Some a → Entry marks monitor p (fs ++ e ∷ []) k a
 one_more_entry marks monitor p done s fs e long is entries =
-    pushed (Entry marks monitor p (fs ++ e ∷ [])) done s
-    (λ k a at. let old = entries k a at in let low = get_below done k a at in record { entry = old.entry; there = get_before fs (e ∷ []) k (omega (arith, low, long)) ∙ old.there; signature = old.signature })
-    (record { entry = e; there = ap (slice_get (fs ++ e ∷ [])) (sym long) ∙ get_end fs e; signature = is })
+    each_pushed (Entry marks monitor p (fs ++ e ∷ [])) done s
+    (λ k a at. let old = entries k a at in let low = get_below_length done k a at in record { entry = old.entry; there = get_before fs (e ∷ []) k (omega (arith, low, long)) ∙ old.there; signature = old.signature })
+    (record { entry = e; there = ap (slice_get (fs ++ e ∷ [])) (sym long) ∙ get_pushed fs e; signature = is })
 
 item_is : (monitor : Bool) (p : ProgramTree) (s : ℕ × Signature) → prototype_of monitor p s ≡ parsed.function (declaration_by p.structs (text_name s) (own monitor p s) (map marked_param (own monitor p s).params) None)
 item_is monitor p s =
@@ -132,7 +123,7 @@ one_prototype marks monitor p structs r done s fits differ new =
     })
   where
     count : length (map (callable_in monitor p) done) ≡ length done
-    count = map_length (callable_in monitor p) done
+    count = length_map (callable_in monitor p) done
 
     file_grown : functions_file done ++ function_entry (length (map (callable_in monitor p) done)) s ∷ [] ≡ functions_file (done ++ s ∷ [])
     file_grown = ap (λ n. functions_file done ++ function_entry n s ∷ []) count ∙ sym (listed_more function_entry 0 (length done) done (s ∷ []) (omega arith))
@@ -172,9 +163,9 @@ prototypes_added marks monitor p structs all done (s ∷ ss) r whole apart fit d
 
     new_name : done ++ s ∷ ss ≡ all → FunctionsApart all → (j : ℕ) (a : ℕ × Signature) → slice_get done j ≡ Some a → text_name s ≡ text_name a → ⊥
     new_name whole apart j a here same =
-        let low = get_below done j a here in
+        let low = get_below_length done j a here in
         let at_j : slice_get all j ≡ Some a = ap (λ xs. slice_get xs j) (sym whole) ∙ get_before done (s ∷ ss) j low ∙ here in
-        let at_s : slice_get all (length done) ≡ Some s = ap (λ xs. slice_get xs (length done)) (sym whole) ∙ get_next done s ss in
+        let at_s : slice_get all (length done) ≡ Some s = ap (λ xs. slice_get xs (length done)) (sym whole) ∙ get_seam done s ss in
         let equal = apart (length done) j s a at_s at_j same in omega (arith, low, equal)
 
 -- ---- globals
@@ -236,7 +227,7 @@ globals_added marks p fs callables structs all done (g ∷ gs) trees r whole apa
     counted_less n = omega arith
 
     count : length (map global_object done) ≡ length done
-    count = map_length global_object done
+    count = length_map global_object done
 
     file_grown : (functions_file fs ++ globals_file done) ++ global_entry (length (map global_object done)) g ∷ [] ≡ functions_file fs ++ globals_file (done ++ g ∷ [])
     file_grown =
@@ -246,7 +237,7 @@ globals_added marks p fs callables structs all done (g ∷ gs) trees r whole apa
 
     new_name : done ++ g ∷ gs ≡ all → GlobalsApart all → (j : ℕ) (a : GlobalTree) → slice_get done j ≡ Some a → global_name g.id ≡ global_name a.id → ⊥
     new_name whole apart j a here same =
-        let low = get_below done j a here in
+        let low = get_below_length done j a here in
         let at_j : slice_get all j ≡ Some a = ap (λ xs. slice_get xs j) (sym whole) ∙ get_before done (g ∷ gs) j low ∙ here in
-        let at_g : slice_get all (length done) ≡ Some g = ap (λ xs. slice_get xs (length done)) (sym whole) ∙ get_next done g gs in
+        let at_g : slice_get all (length done) ≡ Some g = ap (λ xs. slice_get xs (length done)) (sym whole) ∙ get_seam done g gs in
         let equal = apart (length done) j g a at_g at_j same in omega (arith, low, equal)

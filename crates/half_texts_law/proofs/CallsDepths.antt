@@ -1,6 +1,6 @@
 -- Calls come to the same, however deep they go.
 use Rattle.std.proofs.Common.{◌≡◌, ◌∙◌, ◌≤◌, ℕ, zero, suc, ◌+◌, ℤ, refl, ap, sym, subst, arith, Bool, true, false, Option, Some, None, List, [], ◌∷◌, ◌++◌, map, length, drop, if◌then◌else◌}
-use Rattle.std.specs.Prelude.{◌&&◌, ◌||◌, not, is_some, slice_get, take, option_map, unwrap_or}
+use Rattle.std.specs.Prelude.{◌||◌, is_some, slice_get, unwrap_or}
 use Rattle.pt_base.specs.declared.span.Span.{Span}
 use Rattle.pt_base.specs.declared.int_type.IntType.{IntType}
 use Rattle.pt_base.specs.declared.trap.Trap.TheVariants.{Depth}
@@ -30,15 +30,18 @@ use Rattle.pt_core.specs.WellFormedStatement.{stmts_fit}
 use Rattle.half_trees.specs.Names.{nowhere}
 use Rattle.half_meaning_law.specs.Relations.{Scene, frame_of, core_event, Alike, Same}
 use Rattle.half_meaning_law.specs.Statements.{AreArguments, GoesOn, GivesResult, CallsAlike, ListedFrom, code_of}
+use Rattle.half_meaning_law.proofs.Loops.{alike_left}
 use Rattle.half_names_law.specs.Standing.{Marks, statements_at, number_in, scene_of}
 use Rattle.half_names_law.specs.Laws.{statements_checked, MeaningKept}
 use Rattle.half_names_law.proofs.Locals.{declaration_trees}
+use Rattle.half_names_law.proofs.Known.{called_from}
+use Rattle.half_names_law.proofs.Trees.{own_result}
 use Rattle.half_texts_law.specs.Calls.{text_calls, half_calls, FramesEnd, IsActive, OutsideAlike}
 use Rattle.half_texts_law.proofs.CallsFrames.{Leads, types_in, entering}
 use Rattle.half_texts_law.proofs.CallsEntering.{as_many}
 use Rattle.half_texts_law.proofs.CallsReturns.{all_fit}
 use Rattle.half_texts_law.proofs.CallsLocals.{declared_again, opened_clear}
-use Rattle.half_texts_law.proofs.CallsScenes.{alike_in, arguments_in, results_in, left_alike, turn_alike, noted_alike, guarded_same, numbers_same, frames_in, inner_of, ends_in, own_in, entered_alike, returns_alike}
+use Rattle.half_texts_law.proofs.CallsScenes.{alike_in, arguments_in, results_in, turn_alike, noted_alike, guarded_same, numbers_same, frames_in, inner_of, ends_in, own_in, entered_alike, returns_alike}
 
 -- the number in the half of the function at this place of the text
 abbrev pub number_of : ProgramTree → ℕ → ℕ
@@ -78,23 +81,6 @@ pub record TextIs (marks : Marks) (monitor : Bool) (p : ProgramTree) (t : TypedT
   -- where a function's number stands, and there its signature
   pub places : (g : ℕ) (s : Signature) → signature_at p (number_of p g) ≡ Some s → EntryStands monitor p t g (number_of p g) s
   pub bodies : (g : ℕ) (f : FunctionTree) (s : Signature) → signature_at p (number_of p g) ≡ Some s → function_at p (number_of p g) ≡ Some f → (n : ℕ) × (number_of p g ≡ f.id) × BodyIs marks monitor p t g n f s
-
-pub called_from : (monitor : Bool) (p : ProgramTree) (f : ℕ) (signature : Signature) → called_signature monitor p f ≡ Some signature → (s : Signature) × (signature_at p f ≡ Some s) × (with_own monitor (function_at p f) s ≡ signature)
-called_from monitor p f signature h = go (signature_at p f) refl h
-  where
-    go : (o : Option Signature) → signature_at p f ≡ o → option_map (with_own monitor (function_at p f)) o ≡ Some signature → (s : Signature) × (signature_at p f ≡ Some s) × (with_own monitor (function_at p f) s ≡ signature)
-    go None is e = cc
-    go (Some s) is e = (s, is, same e)
-      where
-        same : Some (with_own monitor (function_at p f) s) ≡ Some signature → with_own monitor (function_at p f) s ≡ signature
-        same e = cc
-
-own_result : (monitor : Bool) (f : FunctionTree) (s : Signature) → (with_own monitor (Some f) s).result ≡ s.result
-own_result monitor f s = go (monitor && not s.host)
-  where
-    go : (b : Bool) → (if b then record s { params = take f.params s.params } else s).result ≡ s.result
-    go true = refl
-    go false = refl
 
 -- ---- both calls, by cases on whether there is a body
 
@@ -216,7 +202,7 @@ module _ (marks : Marks) (monitor : Bool) (p : ProgramTree) (t : TypedTree) (tex
       (subst (λ o. Same r (GivesResult r s.result) (text_run (code_of (inner_of p h frames frame s.privileged calls calls') t.exprs) (text_body marks monitor p n h s) s.result vs now) o) (sym (half_entered h s (frame_of r) calls' g xs now' found named))
       (body_alike f h s frames frame a calls a' calls' g n vs xs now now' is ends (within d refl) args
       (noted_alike r (record st { left = left }) (record st' { left = left }) text_events half_events
-      (shown monitor p t g s f frames frame a a' vs xs (with_own monitor (Some h) s).params stands named args (many.0 ∙ ap (λ o. length (with_own monitor o s).params) (sym found))) (left_alike r st st' left al)))))
+      (shown monitor p t g s f frames frame a a' vs xs (with_own monitor (Some h) s).params stands named args (many.0 ∙ ap (λ o. length (with_own monitor o s).params) (sym found))) (alike_left r st st' left al)))))
     where
       many : (length vs ≡ length (with_own monitor (Some h) s).params) × (length xs ≡ length (with_own monitor (Some h) s).params)
       many = as_many (scene_of p f frames frame a a') (with_own monitor (Some h) s).params vs xs args

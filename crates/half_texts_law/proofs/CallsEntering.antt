@@ -2,6 +2,7 @@
 use Rattle.std.proofs.Common.{◌≡◌, ◌∙◌, ◌≤◌, ◌<◌, ℕ, zero, suc, ◌+◌, pos, nat_eq, nat_lt, refl, ap, sym, subst, arith, Bool, true, false, Option, Some, None, List, [], ◌∷◌, map, length, if◌then◌else◌}
 use Rattle.std.specs.Prelude.{slice_get, slice_index_or, get_or}
 use Rattle.std.proofs.lemmas.Bool.Decides.{nat_tests}
+use Rattle.pt_base.proofs.Numbers.{nat_eq_same}
 use Rattle.pt_tree.specs.declared.signature.Param.{Param}
 use Rattle.pt_tree.specs.declared.signature.ParamKind.{ParamKind}
 use Rattle.pt_tree.specs.declared.signature.ParamKind.TheVariants as k
@@ -21,7 +22,6 @@ use Rattle.source_meaning.specs.Functions.{without_locals}
 use Rattle.pt_core.specs.Types.{type_at}
 use Rattle.half_meaning_law.specs.Relations.{Scene, core_cell, SameBlocks, reach_by, reach_of, CellFits, MemoryFits, cells_in, room_of, VariablesLive}
 use Rattle.half_meaning_law.specs.Statements.{AreArguments}
-use Rattle.half_meaning_law.proofs.Memories.{same_number}
 use Rattle.half_texts_law.proofs.CallsFrames.{Enters, Leads, none_read, none_left, cell_moves, cell_passed, cleared_fits, cleared_room, within_by}
 
 -- ---- the cells of the new frame
@@ -114,7 +114,7 @@ entering_fits s i types m ss ps vs xs en lead args fits live (local e x) k = go 
         (cell_moves s i s.frame.depth (reach_by e (type_at (s.frames e) x)) (read m (local e x) k) en.below (within_by e s.frame.depth (type_at (s.frames e) x) le) (fits (local e x) k))
 
     go : (t : Bool) → nat_eq e (s.frame.depth + 1) ≡ t → CellFits i (reach_by e (type_at (i.frames e) x)) (slice_index_or (if t then get_or fc x [] else m (local e x)) k (number (pos 0)))
-    go true is = subst (λ n. CellFits i (reach_by n (type_at (i.frames n) x)) (slice_index_or (get_or fc x []) k (number (pos 0)))) (sym (same_number e (s.frame.depth + 1) is)) own
+    go true is = subst (λ n. CellFits i (reach_by n (type_at (i.frames n) x)) (slice_index_or (get_or fc x []) k (number (pos 0)))) (sym (nat_eq_same e (s.frame.depth + 1) is)) own
     go false is = others (nat_lt s.frame.depth e) refl
 
 same_room : (s i : Scene) (o : Option VarTy) → i.context.structs ≡ s.context.structs → room_of s o ≡ room_of i o
@@ -136,7 +136,7 @@ entering_live s i types m structs ps vs en same lead long live e x = go (nat_eq 
     others false is apart = live e x ∙ same_room s i (slice_get (s.frames e) x) en.structs ∙ ap (λ us. room_of i (slice_get us x)) (sym (en.below e (higher e s.frame.depth is)))
 
     go : (t : Bool) → nat_eq e (s.frame.depth + 1) ≡ t → length (if t then get_or fc x [] else m (local e x)) ≡ room_of i (slice_get (i.frames e) x)
-    go true is = frame_room i structs types ps vs x same lead long ∙ ap (λ us. room_of i (slice_get us x)) (sym (ap i.frames (same_number e (s.frame.depth + 1) is) ∙ en.own))
+    go true is = frame_room i structs types ps vs x same lead long ∙ ap (λ us. room_of i (slice_get us x)) (sym (ap i.frames (nat_eq_same e (s.frame.depth + 1) is) ∙ en.own))
     go false is = others (nat_lt s.frame.depth e) refl is
 
 -- ---- leaving
@@ -185,5 +185,5 @@ leaving_live s i types m en live e x = go (nat_eq e (s.frame.depth + 1)) refl
     others false is apart = live e x ∙ ap (λ us. room_of i (slice_get us x)) (en.below e (higher e s.frame.depth is)) ∙ sym (same_room s i (slice_get (s.frames e) x) en.structs)
 
     go : (t : Bool) → nat_eq e (s.frame.depth + 1) ≡ t → length (if t then [] else m (local e x)) ≡ room_of s (slice_get (s.frames e) x)
-    go true is = sym (no_room s (s.frames e) x (en.ends e (subst (λ n. s.frame.depth < n) (sym (same_number e (s.frame.depth + 1) is)) (next s.frame.depth))))
+    go true is = sym (no_room s (s.frames e) x (en.ends e (subst (λ n. s.frame.depth < n) (sym (nat_eq_same e (s.frame.depth + 1) is)) (next s.frame.depth))))
     go false is = others (nat_lt s.frame.depth e) refl is

@@ -4,6 +4,10 @@ use Rattle.std.specs.Prelude.{◌&&◌, not, is_some, slice_get, if◌then◌els
 use Rattle.std.specs.Option.{option_map_or}
 use Rattle.std.specs.List.{list_all, range_with_len}
 use Rattle.std.proofs.lemmas.List.{length-take-le}
+use Rattle.pt_base.proofs.Booleans.{and_parts}
+use Rattle.pt_base.proofs.Members.{all_true_at}
+use Rattle.pt_base.proofs.Options.{some_same}
+use Rattle.pt_base.proofs.Places.{get_mapped}
 use Rattle.pt_tree.specs.declared.signature.Param.{Param}
 use Rattle.pt_tree.specs.declared.signature.Signature.{Signature}
 use Rattle.pt_tree.specs.PlainNumbers.{plain_numbers}
@@ -32,10 +36,8 @@ use Rattle.typed_tree.proofs.SameTypes.{equal_types}
 use Rattle.half_names_law.specs.Declarable.{Declarable}
 use Rattle.half_names_law.specs.Standing.{Marks, own_marks, locals_at, statements_at, all_said}
 use Rattle.half_names_law.specs.Laws.{statements_checked, judged_tree, BodyStands, MeaningKept}
-use Rattle.half_names_law.proofs.Objects.{both_hold}
-use Rattle.half_names_law.proofs.Numbers.{number_at, number_once, lookup_place, mapped_there}
+use Rattle.half_names_law.proofs.Numbers.{number_at, number_once, lookup_place}
 use Rattle.half_names_law.proofs.Names.{own, text_name, callable_in}
-use Rattle.half_names_law.proofs.Known.{all_there}
 use Rattle.half_names_law.proofs.Parts.{own_params, own_long, enough, function_there}
 use Rattle.half_names_law.proofs.Premises.{MarksSay}
 use Rattle.half_names_law.proofs.Prototypes.{at}
@@ -61,11 +63,11 @@ pub record OwnFits (monitor : Bool) (p : ProgramTree) (f : FunctionTree) (s : Si
 
 pub own_fits : (monitor : Bool) (p : ProgramTree) (n : ℕ) (f : FunctionTree) (s : Signature) → Sound monitor p → slice_get p.functions n ≡ Some f → signature_at p f.id ≡ Some s → OwnFits monitor p f s
 own_fits monitor p n f s sound there named =
-    let fits : function_by monitor p f (Some s) ≡ true = ap (function_by monitor p f) (sym named) ∙ all_there (function_fits monitor p) p.functions n f sound.functions there in
-    let first = both_hold (not s.host && (counts_fit monitor f.params (length s.params) && params_lead (take f.params s.params) f.vars)) (list_all (variable_fits p.structs) f.vars && stmts_fit (scope_of monitor p f s) false f.body) fits in
-    let head = both_hold (not s.host) (counts_fit monitor f.params (length s.params) && params_lead (take f.params s.params) f.vars) first.0 in
-    let lead = both_hold (counts_fit monitor f.params (length s.params)) (params_lead (take f.params s.params) f.vars) head.1 in
-    let rest = both_hold (list_all (variable_fits p.structs) f.vars) (stmts_fit (scope_of monitor p f s) false f.body) first.1 in
+    let fits : function_by monitor p f (Some s) ≡ true = ap (function_by monitor p f) (sym named) ∙ all_true_at (function_fits monitor p) p.functions n f sound.functions there in
+    let first = and_parts (not s.host && (counts_fit monitor f.params (length s.params) && params_lead (take f.params s.params) f.vars)) (list_all (variable_fits p.structs) f.vars && stmts_fit (scope_of monitor p f s) false f.body) fits in
+    let head = and_parts (not s.host) (counts_fit monitor f.params (length s.params) && params_lead (take f.params s.params) f.vars) first.0 in
+    let lead = and_parts (counts_fit monitor f.params (length s.params)) (params_lead (take f.params s.params) f.vars) head.1 in
+    let rest = and_parts (list_all (variable_fits p.structs) f.vars) (stmts_fit (scope_of monitor p f s) false f.body) first.1 in
     record {
       params = own_params monitor f s head.0 lead.0;
       long = length-take-le f.params s.params (own_long monitor f.params (length s.params) lead.0);
@@ -82,8 +84,8 @@ leading (p ∷ ps) [] h = absurd (never h)
     never : false ≡ true → ⊥
     never e = cc
 leading (p ∷ ps) (x ∷ xs) h =
-    let parts = both_hold (same_type (param_type p.kind) x.ty && same_bool p.marked x.marked) (params_lead ps xs) h in
-    (equal_types (param_type p.kind) x.ty (both_hold (same_type (param_type p.kind) x.ty) (same_bool p.marked x.marked) parts.0).0, leading ps xs parts.1)
+    let parts = and_parts (same_type (param_type p.kind) x.ty && same_bool p.marked x.marked) (params_lead ps xs) h in
+    (equal_types (param_type p.kind) x.ty (and_parts (same_type (param_type p.kind) x.ty) (same_bool p.marked x.marked) parts.0).0, leading ps xs parts.1)
 
 counted : (xs : List Var) → length (types_in xs) ≡ length xs
 counted [] = refl
@@ -96,14 +98,11 @@ behind (suc n) (x ∷ xs) h = let again = behind n xs (omega (arith, h)) in omeg
 
 -- ---- places and numbers
 
-same_some : {A : Type 0} (x y : A) → Some x ≡ Some y → x ≡ y
-same_some x y e = cc
-
 -- a function's number stands where the text has the function
 pub placed : (monitor : Bool) (p : ProgramTree) (g : ℕ) (s : Signature) → Sound monitor p → signature_at p (number_of p g) ≡ Some s → slice_get p.signatures g ≡ Some (number_of p g, s)
 placed monitor p g s sound named =
     let place = lookup_place p.signatures (number_of p g) s named in
-    let number = number_at 0 (map (λ x. x.0) p.signatures) place.place (number_of p g) (mapped_there (λ x. x.0) p.signatures place.place (number_of p g, s) place.there) in
+    let number = number_at 0 (map (λ x. x.0) p.signatures) place.place (number_of p g) (get_mapped (λ x. x.0) p.signatures place.place (number_of p g, s) place.there) in
     let same : place.place ≡ g = number_once 0 (map (λ x. x.0) p.signatures) place.place g sound.order.0 number in
     ap (slice_get p.signatures) (sym same) ∙ place.there
 
@@ -176,7 +175,7 @@ module _ (bodies : BodiesKeepTheirMeaning) (marks : Marks) (monitor : Bool) (p :
 
       not_among : NotAmong p (take (length p.functions) p.functions) k
       not_among n f s' at here =
-          let same : (f.id, s') ≡ s = same_some (f.id, s') s (sym here ∙ place) in
+          let same : (f.id, s') ≡ s = some_same (f.id, s') s (sym here ∙ place) in
           let is = function_there 0 p.functions n f sound.order.1 (ap (λ fs. slice_get fs n) (sym whole) ∙ at) in
           no_function f (sym is ∙ ap (λ (z : ℕ × Signature). function_at p z.0) same ∙ none)
 
@@ -273,7 +272,7 @@ module _ (bodies : BodiesKeepTheirMeaning) (marks : Marks) (monitor : Bool) (p :
         let here : stands.place ≡ g = number_once 0 (map (λ x. x.0) p.signatures) stands.place g sound.order.0 (stands.number ∙ sym is) in
         let entry_there : slice_get tree.functions g ≡ Some stands.entry = ap (slice_get tree.functions) (sym here) ∙ stands.there in
         let entry = standing g (number_of p g, s) place named in
-        let equal : entry.entry ≡ stands.entry = same_some entry.entry stands.entry (sym entry.there ∙ entry_there) in
+        let equal : entry.entry ≡ stands.entry = some_same entry.entry stands.entry (sym entry.there ∙ entry_there) in
         let half = half_fits monitor p h d in
         let fits = function_fit marks monitor p n f s h d said_all say there named' in
         let own_parts = own_fits monitor p n f s sound there named' in

@@ -1,6 +1,7 @@
 -- The memories where a function of a half is entered and where it is left.
 use Rattle.std.proofs.Common.{◌≡◌, ◌∙◌, ◌≤◌, ◌<◌, ℕ, zero, suc, ◌+◌, pos, nat_eq, refl, ap, sym, subst, arith, Bool, true, false, Option, Some, None, List, [], ◌∷◌, map, length, if◌then◌else◌}
 use Rattle.std.specs.Prelude.{◌&&◌, slice_set, slice_index_or, get_or, replicate}
+use Rattle.pt_base.proofs.Numbers.{nat_eq_other, nat_eq_same, nat_eq_true}
 use Rattle.pt_tree.specs.declared.signature.Param.{Param}
 use Rattle.pt_tree.specs.declared.signature.ParamKind.{ParamKind}
 use Rattle.pt_tree.specs.declared.signature.ParamKind.TheVariants as k
@@ -27,7 +28,6 @@ use Rattle.pt_core.specs.Types.{shape_of, type_at}
 use Rattle.pt_core.specs.Calls.{with_arguments}
 use Rattle.half_meaning_law.specs.Relations.{Scene, core_cell, SameBlocks, reach_by, CellFits, cells_in}
 use Rattle.half_meaning_law.specs.Statements.{AreArguments}
-use Rattle.half_meaning_law.proofs.Memories.{same_number, is_same, is_other}
 
 -- ---- scenes
 
@@ -141,16 +141,16 @@ Leads (p ∷ ps) (t ∷ types) = (param_type p.kind ≡ t) × Leads ps types
 -- ---- the blocks of a function that is entered
 
 put_there : (blocks : Blocks) (d v : ℕ) (x : b.Block) → bs.put blocks (Local d v) x (Local d v) ≡ x
-put_there blocks d v x = λ i. if is_same d d refl i && is_same v v refl i then x else blocks (Local d v)
+put_there blocks d v x = λ i. if nat_eq_true d d refl i && nat_eq_true v v refl i then x else blocks (Local d v)
 
 put_apart : (blocks : Blocks) (a o : BlockName) (x : b.Block) → is_same_name a o ≡ false → bs.put blocks a x o ≡ blocks o
 put_apart blocks a o x h = ap (λ t. if t then x else blocks o) h
 
 other_variable : (d j x : ℕ) → (j ≡ x → ⊥) → is_same_name (Local d j) (Local d x) ≡ false
-other_variable d j x h = λ i. is_same d d refl i && is_other j x h i
+other_variable d j x h = λ i. nat_eq_true d d refl i && nat_eq_other j x h i
 
 other_depth : (d e j x : ℕ) → nat_eq e d ≡ false → is_same_name (Local d j) (Local e x) ≡ false
-other_depth d e j x h = λ i. is_other d e (λ q. differs (sym (is_same e d (sym q)) ∙ h)) i && nat_eq j x
+other_depth d e j x h = λ i. nat_eq_other d e (λ q. differs (sym (nat_eq_true e d (sym q)) ∙ h)) i && nat_eq j x
   where
     differs : true ≡ false → ⊥
     differs q = cc
@@ -198,7 +198,7 @@ entering_own : (s : Scene) (structs : List StructInfo) (vars : List Var) (d : �
 entering_own s structs vars d ps vs xs blocks x lead args =
     arguments_at s (sizes_of structs) (types_in vars) ps vs xs (bs.with_frame blocks d (shapes_of structs vars)) d 0 x x (omega arith) lead args
     (λ i n e. let same : n ≡ i = omega (arith, e) in
-    (λ j. (if is_same d d refl j then slice_index_or (map fresh (shapes_of structs vars)) n no_block else blocks (Local d n)).cells) ∙ ap (λ m. (slice_index_or (map fresh (shapes_of structs vars)) m no_block).cells) same ∙ fresh_all s structs vars i)
+    (λ j. (if nat_eq_true d d refl j then slice_index_or (map fresh (shapes_of structs vars)) n no_block else blocks (Local d n)).cells) ∙ ap (λ m. (slice_index_or (map fresh (shapes_of structs vars)) m no_block).cells) same ∙ fresh_all s structs vars i)
 
 pub entering_blocks : (s i : Scene) (m : Memory) (blocks : Blocks) (structs : List StructInfo) (vars : List Var) (d : ℕ) (ps : List Param) (vs : List Value) (xs : List core.Cell) → i.global_number ≡ s.global_number → Leads ps (types_in vars) → AreArguments s ps vs xs → SameBlocks s m blocks →
     SameBlocks i (with_frame m d (frame_cells (sizes_of structs) (types_in vars) vs)) (entering structs vars d xs blocks)
@@ -212,7 +212,7 @@ entering_blocks s i m blocks structs vars d ps vs xs numbers lead args same = sa
     as_before (local e x) = go (nat_eq e d) refl
       where
         go : (t : Bool) → nat_eq e d ≡ t → (entering structs vars d xs blocks (Local e x)).cells ≡ map (core_cell s) (if t then get_or fc x [] else m (local e x))
-        go true is = ap (λ n. (entering structs vars d xs blocks (Local n x)).cells) (same_number e d is) ∙ entering_own s structs vars d ps vs xs blocks x lead args
+        go true is = ap (λ n. (entering structs vars d xs blocks (Local n x)).cells) (nat_eq_same e d is) ∙ entering_own s structs vars d ps vs xs blocks x lead args
         go false is =
             ap (λ (z : b.Block). z.cells) (arguments_apart xs (bs.with_frame blocks d (shapes_of structs vars)) d 0 (Local e x) (λ j from. other_depth d e j x is))
             ∙ (λ j. (if is j then slice_index_or (map fresh (shapes_of structs vars)) x no_block else blocks (Local e x)).cells)

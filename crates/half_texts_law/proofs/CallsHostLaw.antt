@@ -4,6 +4,11 @@ use Rattle.std.specs.Prelude.{◌&&◌, ◌||◌, not, is_some, slice_get, nat_e
 use Rattle.std.specs.List.{list_all}
 use Rattle.std.specs.Map.{lookup}
 use Rattle.std.proofs.lemmas.Bool.Decides.{nat_tests}
+use Rattle.pt_base.proofs.Booleans.{and_parts}
+use Rattle.pt_base.proofs.Members.{all_true_at}
+use Rattle.pt_base.proofs.Numbers.{nat_eq_same}
+use Rattle.pt_base.proofs.Options.{none_not_some}
+use Rattle.pt_base.proofs.Places.{get_mapped}
 use Rattle.pt_tree.specs.declared.signature.Param.{Param}
 use Rattle.pt_tree.specs.declared.signature.ParamKind.{ParamKind}
 use Rattle.pt_tree.specs.declared.signature.ParamKind.TheVariants as k
@@ -21,11 +26,10 @@ use Rattle.half_meaning_law.specs.Statements.{BodiesKeepTheirMeaning, CallsAlike
 use Rattle.half_names_law.specs.Declarable.{Declarable, takes_no_pointer, is_pointer_kind, prototypes_take_no_pointers}
 use Rattle.half_names_law.specs.Standing.{own_marks, scene_of, all_said}
 use Rattle.half_names_law.specs.Laws.{judged_tree}
-use Rattle.half_names_law.proofs.Objects.{both_hold}
-use Rattle.half_names_law.proofs.Numbers.{same_number, lookup_place, once_there, number_once, mapped_there}
+use Rattle.half_names_law.proofs.Numbers.{lookup_place, once_there, number_once}
 use Rattle.half_names_law.proofs.Names.{FunctionsApart, text_name}
 use Rattle.half_names_law.proofs.Premises.{MarksSay}
-use Rattle.half_names_law.proofs.Known.{all_there}
+use Rattle.half_names_law.proofs.Known.{called_from}
 use Rattle.half_names_law.proofs.Parts.{function_there}
 use Rattle.half_names_law.proofs.Halves.{soundness, signature_there}
 use Rattle.half_names_law.proofs.Law.{functions_differ, meanings}
@@ -35,7 +39,7 @@ use Rattle.half_texts_law.specs.Calls.{text_calls, prototypes_are_hosts, Outside
 use Rattle.half_texts_law.specs.CallsLaws.{StartsAlike, HalfHostsAgree, HalfHostStartsAgree}
 use Rattle.half_texts_law.proofs.CallsEntering.{as_many}
 use Rattle.half_texts_law.proofs.CallsScenes.{numbers_same}
-use Rattle.half_texts_law.proofs.CallsDepths.{number_of, EntryStands, called_from, shown}
+use Rattle.half_texts_law.proofs.CallsDepths.{number_of, EntryStands, shown}
 use Rattle.half_texts_law.proofs.CallsMarked.{undefined_said}
 use Rattle.half_texts_law.proofs.CallsEntries.{standing, entry_at, beyond}
 use Rattle.half_texts_law.proofs.CallsHosts.{text_hosts, half_hosts, text_within, half_within, host_alike}
@@ -45,7 +49,7 @@ use Rattle.half_texts_law.proofs.CallsLaw.{half_calls_agree, half_starts_agree}
 
 integers_only : (ps : List Param) → list_all is_integer_param ps ≡ true → list_all (λ x. not (is_pointer_kind x.kind)) ps ≡ true
 integers_only [] h = refl
-integers_only (x ∷ ps) h = let parts = both_hold (is_integer_param x) (list_all is_integer_param ps) h in λ i. plain x parts.0 i && integers_only ps parts.1 i
+integers_only (x ∷ ps) h = let parts = and_parts (is_integer_param x) (list_all is_integer_param ps) h in λ i. plain x parts.0 i && integers_only ps parts.1 i
   where
     plain : (x : Param) → is_integer_param x ≡ true → not (is_pointer_kind x.kind) ≡ true
     plain x h = kind_plain x.kind h
@@ -60,9 +64,9 @@ no_pointers p fits hosts = go p.signatures fits hosts
     go : (ss : List (ℕ × Signature)) → list_all (λ s. signature_fits p.structs s.1) ss ≡ true → list_all (λ s. is_some (function_at p s.0) || s.1.host) ss ≡ true → list_all (λ s. is_some (function_at p s.0) || takes_no_pointer s.1) ss ≡ true
     go [] fits hosts = refl
     go (s ∷ ss) fits hosts =
-        let own = both_hold (signature_fits p.structs s.1) (list_all (λ z. signature_fits p.structs z.1) ss) fits in
-        let host = both_hold (is_some (function_at p s.0) || s.1.host) (list_all (λ z. is_some (function_at p z.0) || z.1.host) ss) hosts in
-        λ i. one (is_some (function_at p s.0)) s.1.host host.0 (both_hold _ _ own.0).1 i && go ss own.1 host.1 i
+        let own = and_parts (signature_fits p.structs s.1) (list_all (λ z. signature_fits p.structs z.1) ss) fits in
+        let host = and_parts (is_some (function_at p s.0) || s.1.host) (list_all (λ z. is_some (function_at p z.0) || z.1.host) ss) hosts in
+        λ i. one (is_some (function_at p s.0)) s.1.host host.0 (and_parts _ _ own.0).1 i && go ss own.1 host.1 i
       where
         one : (b host : Bool) → (b || host) ≡ true → (not host || list_all is_integer_param s.1.params) ≡ true → (b || takes_no_pointer s.1) ≡ true
         one true host h g = refl
@@ -84,17 +88,14 @@ lookup_there first (y ∷ ys) n zero x rise at = go (nat_eq n y.0) (self n y.0 (
     go : (b : Bool) → b ≡ true → cond b (Some y.1) (lookup (nat_eq n) ys) ≡ Some x
     go true e = ap (λ z. Some z.1) (same at)
     go false e = cc
-lookup_there first (y ∷ ys) n (suc j) x rise at = go (nat_eq n y.0) refl (lookup_there (suc y.0) ys n j x (both_hold (nat_le first y.0) (are_rising (suc y.0) (map (λ z. z.0) ys)) rise).1 at)
+lookup_there first (y ∷ ys) n (suc j) x rise at = go (nat_eq n y.0) refl (lookup_there (suc y.0) ys n j x (and_parts (nat_le first y.0) (are_rising (suc y.0) (map (λ z. z.0) ys)) rise).1 at)
   where
     apart : n ≡ y.0 → ⊥
-    apart e = let places = once_there first (map (λ z. z.0) (y ∷ ys)) 0 (suc j) n rise (ap Some (sym e)) (mapped_there (λ z. z.0) ys j (n, x) at) in omega (arith, places)
+    apart e = let places = once_there first (map (λ z. z.0) (y ∷ ys)) 0 (suc j) n rise (ap Some (sym e)) (get_mapped (λ z. z.0) ys j (n, x) at) in omega (arith, places)
 
     go : (b : Bool) → nat_eq n y.0 ≡ b → lookup (nat_eq n) ys ≡ Some x → cond b (Some y.1) (lookup (nat_eq n) ys) ≡ Some x
-    go true e again = absurd (apart (same_number n y.0 e))
+    go true e again = absurd (apart (nat_eq_same n y.0 e))
     go false e again = again
-
-no_some : {A X : Type 0} (x : A) → None ≡ Some x → X
-no_some x e = cc
 
 -- ---- who is a host
 
@@ -109,7 +110,7 @@ module _ (bodies : BodiesKeepTheirMeaning) (monitor : Bool) (p : ProgramTree) (h
   half_are f = go (signature_at p f) (function_at p f) refl refl
     where
       fits_at : (g : FunctionTree) (n : ℕ) → slice_get p.functions n ≡ Some g → function_fits monitor p g ≡ true
-      fits_at g n there = all_there (function_fits monitor p) p.functions n g (soundness monitor p h).functions there
+      fits_at g n there = all_true_at (function_fits monitor p) p.functions n g (soundness monitor p h).functions there
 
       is_false : (b : Bool) → not b ≡ true → b ≡ false
       is_false true e = cc
@@ -123,18 +124,18 @@ module _ (bodies : BodiesKeepTheirMeaning) (monitor : Bool) (p : ProgramTree) (h
       no_host g s found named =
           let back = find_back p.functions f g found in
           let fits : function_by monitor p g (Some s) ≡ true = ap (function_by monitor p g) (sym (ap (signature_at p) (sym back.2) ∙ named)) ∙ fits_at g back.0 back.1 in
-          is_false s.host (both_hold (not s.host) _ (both_hold _ _ fits).0).0
+          is_false s.host (and_parts (not s.host) _ (and_parts _ _ fits).0).0
 
       a_host : (s : Signature) → function_at p f ≡ None → signature_at p f ≡ Some s → s.host ≡ true
       a_host s none named =
           let place = lookup_place p.signatures f s named in
-          second (is_some (function_at p f)) s.host (ap is_some none) (all_there (λ z. is_some (function_at p z.0) || z.1.host) p.signatures place.place (f, s) hosts place.there)
+          second (is_some (function_at p f)) s.host (ap is_some none) (all_true_at (λ z. is_some (function_at p z.0) || z.1.host) p.signatures place.place (f, s) hosts place.there)
 
       no_name : (g : FunctionTree) → function_at p f ≡ Some g → signature_at p f ≡ None → ⊥
       no_name g found none =
           let back = find_back p.functions f g found in
           let signature = signature_there monitor p g (fits_at g back.0 back.1) in
-          no_some signature.0 (sym none ∙ ap (signature_at p) back.2 ∙ signature.1)
+          none_not_some signature.0 (sym none ∙ ap (signature_at p) back.2 ∙ signature.1)
 
       go : (o : Option Signature) (q : Option FunctionTree) → signature_at p f ≡ o → function_at p f ≡ q → (unwrap_or (signature_at p f) d.no_signature).host ≡ not (is_some (function_at p f))
       go None None e e' = (λ i. (unwrap_or (e i) d.no_signature).host) ∙ (λ i. not (is_some (sym e' i)))
@@ -157,7 +158,7 @@ module _ (bodies : BodiesKeepTheirMeaning) (monitor : Bool) (p : ProgramTree) (h
           by : (o : Option FunctionTree) → function_at p s.0 ≡ o → (own_marks monitor p (text_name s)).defined ≡ is_some (function_at p s.0)
           by None e =
               undefined_said monitor p g s (soundness monitor p h) apart at
-              (λ j f there is. no_some f (sym e ∙ ap (function_at p) (sym is) ∙ function_there 0 p.functions j f (soundness monitor p h).order.1 there))
+              (λ j f there is. none_not_some f (sym e ∙ ap (function_at p) (sym is) ∙ function_there 0 p.functions j f (soundness monitor p h).order.1 there))
               ∙ sym (ap is_some e)
           by (Some f) e = defined_is monitor p g s (soundness monitor p h) at (ap is_some e) ∙ sym (ap is_some e)
 
@@ -191,7 +192,7 @@ module _ (bodies : BodiesKeepTheirMeaning) (monitor : Bool) (p : ProgramTree) (h
     where
       without : (o : Option FunctionTree) → function_at p (number_of p g) ≡ o → (if is_some (function_at p (number_of p g)) then None else called_signature monitor p (number_of p g)) ≡ Some signature → (function_at p (number_of p g) ≡ None) × (called_signature monitor p (number_of p g) ≡ Some signature)
       without None e is = (e, sym (ap (λ o. if is_some o then None else called_signature monitor p (number_of p g)) e) ∙ is)
-      without (Some x) e is = no_some signature (sym (ap (λ o. if is_some o then None else called_signature monitor p (number_of p g)) e) ∙ is)
+      without (Some x) e is = none_not_some signature (sym (ap (λ o. if is_some o then None else called_signature monitor p (number_of p g)) e) ∙ is)
 
 -- ---- the law
 

@@ -4,6 +4,8 @@ use Rattle.std.specs.Prelude.{not, is_some, nat_eq}
 use Rattle.std.proofs.lemmas.List.{map-append}
 use Rattle.pt_base.specs.declared.int_type.IntType.{IntType}
 use Rattle.pt_base.specs.declared.trap.Trap.TheVariants.{Depth}
+use Rattle.pt_base.proofs.Booleans.{true_not_false}
+use Rattle.pt_base.proofs.Numbers.{nat_eq_other, nat_eq_same, nat_eq_true}
 use Rattle.pt_tree.specs.declared.host_model.HostModel.{HostModel}
 use Rattle.pt_tree.specs.declared.signature.Signature.{Signature}
 use Rattle.pt_tree.specs.HostStep.{Answer, host_step}
@@ -16,7 +18,6 @@ use Rattle.pt_core.specs.CodeTree.{ProgramTree}
 use Rattle.pt_core.specs.Statements as c
 use Rattle.pt_core.specs.Calls as d
 use Rattle.pt_core.specs.WellFormed.{function_at}
-use Rattle.half_meaning_law.proofs.Memories.{differ, same_number, is_same, is_other}
 use Rattle.half_meaning_law.specs.Relations.{Scene, core_event, Alike, Same}
 use Rattle.half_meaning_law.specs.Statements.{SameResult, GivesResult}
 use Rattle.half_texts_law.specs.Calls.{text_calls, half_calls}
@@ -59,8 +60,8 @@ put_same : (f : ℕ → ℕ) → ((j k : ℕ) → f j ≡ f k → j ≡ k) → (
 put_same f one hosts hosts' g model same k = go (nat_eq k g) refl
   where
     go : (b : Bool) → nat_eq k g ≡ b → (if nat_eq (f k) (f g) then model else hosts' (f k)) ≡ (if b then model else hosts k)
-    go true e = ap (λ b. if b then model else hosts' (f k)) (is_same (f k) (f g) (ap f (same_number k g e)))
-    go false e = ap (λ b. if b then model else hosts' (f k)) (is_other (f k) (f g) (λ q. differ (sym (is_same k g (one k g q)) ∙ e))) ∙ same k
+    go true e = ap (λ b. if b then model else hosts' (f k)) (nat_eq_true (f k) (f g) (ap f (nat_eq_same k g e)))
+    go false e = ap (λ b. if b then model else hosts' (f k)) (nat_eq_other (f k) (f g) (λ q. true_not_false (sym (nat_eq_true k g (one k g q)) ∙ e))) ∙ same k
 
 out_same : (s : Scene) (o : Option (List ℕ)) → out_event o ≡ map (core_event s) (out_event o)
 out_same s None = refl

@@ -1,6 +1,7 @@
 -- The laws of calls and of functions.
 use Rattle.std.proofs.Common.{◌≡◌, ◌∙◌, ℕ, zero, suc, refl, ap, sym, subst, Bool, true, Some, List, [], if◌then◌else◌}
 use Rattle.std.specs.Prelude.{is_some, slice_get}
+use Rattle.pt_base.proofs.Members.{all_true_at}
 use Rattle.pt_tree.specs.declared.signature.Signature.{Signature}
 use Rattle.runs.specs.State.{◌>>=◌, take_turn, noted, guarded_event}
 use Rattle.typed_tree.specs.declared.types.StructInfo.{StructInfo}
@@ -18,7 +19,6 @@ use Rattle.half_meaning_law.specs.Statements.{GivesResult, BodiesKeepTheirMeanin
 use Rattle.half_names_law.specs.Declarable.{Declarable}
 use Rattle.half_names_law.specs.Standing.{Marks, own_marks, whole_marks, scene_of, all_said}
 use Rattle.half_names_law.specs.Laws.{judged_tree, BodyStands, MeaningKept}
-use Rattle.half_names_law.proofs.Known.{all_there}
 use Rattle.half_names_law.proofs.Premises.{MarksSay}
 use Rattle.half_names_law.proofs.Halves.{soundness, signature_there}
 use Rattle.half_names_law.proofs.Law.{functions_differ, meanings}
@@ -61,7 +61,7 @@ module _ (bodies : BodiesKeepTheirMeaning) (marks : Marks) (monitor : Bool) (p :
     (means : (n : ℕ) (f : FunctionTree) (s : Signature) → slice_get p.functions n ≡ Some f → signature_at p f.id ≡ Some s → MeaningKept marks monitor p n f s) where
   pub types_same : (n : ℕ) (f : FunctionTree) → slice_get p.functions n ≡ Some f → SameTypes (judged_tree marks monitor p).structs p.structs
   types_same n f there =
-      let signature = signature_there monitor p f (all_there (function_fits monitor p) p.functions n f (soundness monitor p h).functions there) in
+      let signature = signature_there monitor p f (all_true_at (function_fits monitor p) p.functions n f (soundness monitor p h).functions there) in
       same_types (judged_tree marks monitor p).structs p.structs (stand n f signature.0 there signature.1).structs
 
   pub calls : CallsAgree marks monitor p

@@ -1,6 +1,7 @@
 -- The declarations of a function's variables, where it begins: they clear what is clear.
 use Rattle.std.proofs.Common.{◌≡◌, ◌∙◌, ◌≤◌, ◌<◌, ℕ, zero, suc, ◌+◌, refl, ap, sym, arith, Bool, true, false, List, [], ◌∷◌, ◌++◌, length, if◌then◌else◌}
 use Rattle.std.specs.Prelude.{get_or}
+use Rattle.pt_base.proofs.Numbers.{nat_eq_true}
 use Rattle.typed_tree.specs.declared.types.VarTy.{VarTy}
 use Rattle.typed_tree.specs.declared.variable.Var.{Var}
 use Rattle.typed_tree.specs.StatementTree.{BodyTree, body_trees}
@@ -9,7 +10,7 @@ use Rattle.source_meaning.specs.State.{State}
 use Rattle.source_meaning.specs.Values.{Value, cleared, frame_cells}
 use Rattle.source_meaning.specs.Expressions.{sizes, type_at}
 use Rattle.source_meaning.specs.Statements.{Code, cleared_at, all_of}
-use Rattle.half_meaning_law.proofs.Memories.{block_same, is_same}
+use Rattle.half_meaning_law.proofs.Memories.{block_same}
 use Rattle.half_names_law.proofs.Locals.{declaration_trees}
 
 -- a block is put that is there
@@ -48,7 +49,7 @@ pub opened_clear : (code : Code) (st : State) (m : Memory) (vs : List Value) (n 
 opened_clear code st m vs n [] same far low = tt {0}
 opened_clear code st m vs n (x ∷ xs) same far low = (
   ap (λ k. k (local code.context.frame.depth n)) same
-      ∙ (λ i. if is_same code.context.frame.depth code.context.frame.depth refl i then get_or (frame_cells (sizes code.context) code.context.variables vs) n [] else m (local code.context.frame.depth n))
+      ∙ (λ i. if nat_eq_true code.context.frame.depth code.context.frame.depth refl i then get_or (frame_cells (sizes code.context) code.context.variables vs) n [] else m (local code.context.frame.depth n))
       ∙ behind_arguments (sizes code.context) code.context.variables vs n far (omega (arith, low)),
   opened_clear code st m vs (suc n) xs same (omega (arith, far)) (omega (arith, low)),
 )

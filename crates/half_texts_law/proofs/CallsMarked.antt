@@ -4,6 +4,10 @@ use Rattle.std.specs.Prelude.{◌&&◌, ◌||◌, is_some, fold, slice_get, if�
 use Rattle.std.specs.List.{range_with_len}
 use Rattle.std.specs.Str.{bytes_eq}
 use Rattle.std.proofs.lemmas.List.{append_assoc}
+use Rattle.std.proofs.lemmas.Bool.{or_left, or_right}
+use Rattle.pt_base.proofs.Booleans.{and_parts, as_or_with_false}
+use Rattle.pt_base.proofs.Lists.{bytes_eq_same, bytes_eq_self}
+use Rattle.pt_base.proofs.Members.{all_true_at}
 use Rattle.pt_tree.specs.declared.signature.Param.{Param}
 use Rattle.pt_tree.specs.declared.signature.Signature.{Signature}
 use Rattle.pt_tree.specs.PlainNumbers.{plain_numbers, is_plain}
@@ -35,13 +39,11 @@ use Rattle.half_trees.specs.Functions.{function_item}
 use Rattle.half_trees.specs.Halves.{prototype_of, half_tree}
 use Rattle.half_meaning_law.specs.Known.{type_as}
 use Rattle.half_names_law.specs.Standing.{own_marks, definition}
-use Rattle.half_names_law.proofs.Tables.{name_same, name_self}
-use Rattle.half_names_law.proofs.Objects.{both_hold}
 use Rattle.half_names_law.proofs.Numbers.{lookup_place, mapped_back}
 use Rattle.half_names_law.proofs.Parameters.{Marked, parameter_of, parameters_by}
 use Rattle.half_names_law.proofs.Prototypes.{marked_param, prototype_as}
 use Rattle.half_names_law.proofs.Names.{own, text_name, FunctionsApart, joined_each}
-use Rattle.half_names_law.proofs.Known.{own_name, all_there}
+use Rattle.half_names_law.proofs.Known.{own_name}
 use Rattle.half_names_law.proofs.Parts.{marked_var, parameters_in, definition_is}
 use Rattle.half_names_law.proofs.Halves.{Sound, signature_there}
 use Rattle.half_names_law.proofs.Marks.{reached, named_as, declared_in, only_declared, inner, same_entry, prototype_there}
@@ -54,26 +56,15 @@ said m k = (u.marks_at m.params k).marked
 abbrev pub said_by : parsed.FunctionTree → ℕ → Bool
 said_by f k = (u.marks_at (u.params_marks f.params) k).marked
 
-or_none : (a : Bool) → a ≡ (a || false)
-or_none true = refl
-or_none false = refl
-
 union_says : (xs ys : List d.Marks) (k : ℕ) → (u.marks_at (u.union xs ys) k).marked ≡ ((u.marks_at xs k).marked || (u.marks_at ys k).marked)
 union_says [] ys k = refl
-union_says (x ∷ xs) [] k = or_none (u.marks_at (x ∷ xs) k).marked
+union_says (x ∷ xs) [] k = as_or_with_false (u.marks_at (x ∷ xs) k).marked
 union_says (x ∷ xs) (y ∷ ys) zero = refl
 union_says (x ∷ xs) (y ∷ ys) (suc k) = union_says xs ys k
 
 never_said : (k : ℕ) (ds : List parsed.FunctionTree) (m : FunctionMarks) → said m k ≡ false → ((j : ℕ) (f : parsed.FunctionTree) → slice_get ds j ≡ Some f → said_by f k ≡ false) → said (fold with_declaration m ds) k ≡ false
 never_said k [] m h none = h
 never_said k (f ∷ ds) m h none = never_said k ds (with_declaration m f) (union_says m.params (u.params_marks f.params) k ∙ (λ i. h i || none 0 f refl i)) (λ j g e. none (suc j) g e)
-
-or_left : (a b : Bool) → a ≡ true → (a || b) ≡ true
-or_left a b h = λ i. h i || b
-
-or_right : (a b : Bool) → b ≡ true → (a || b) ≡ true
-or_right true b h = refl
-or_right false b h = h
 
 -- ---- the parameters of one declaration
 
@@ -144,13 +135,13 @@ lead_says [] xs n k q lead long h = cc
 lead_says (p ∷ ps) xs zero k q lead long h = absurd (omega (arith, long))
 lead_says (p ∷ ps) [] (suc n) k q lead long h = cc
 lead_says (p ∷ ps) (x ∷ xs) (suc n) zero q lead long h =
-    let first = both_hold (same_type (param_type p.kind) x.ty && same_bool p.marked x.marked) (params_lead ps xs) lead in
-    (x, refl, same_marks p.marked x.marked (both_hold (same_type (param_type p.kind) x.ty) (same_bool p.marked x.marked) first.0).1 ∙ ap (λ z. z.marked) (same h))
+    let first = and_parts (same_type (param_type p.kind) x.ty && same_bool p.marked x.marked) (params_lead ps xs) lead in
+    (x, refl, same_marks p.marked x.marked (and_parts (same_type (param_type p.kind) x.ty) (same_bool p.marked x.marked) first.0).1 ∙ ap (λ z. z.marked) (same h))
   where
     same : Some p ≡ Some q → p ≡ q
     same e = cc
 lead_says (p ∷ ps) (x ∷ xs) (suc n) (suc k) q lead long h =
-    lead_says ps xs n k q (both_hold (same_type (param_type p.kind) x.ty && same_bool p.marked x.marked) (params_lead ps xs) lead).1 (omega (arith, long)) h
+    lead_says ps xs n k q (and_parts (same_type (param_type p.kind) x.ty && same_bool p.marked x.marked) (params_lead ps xs) lead).1 (omega (arith, long)) h
 
 -- ---- all items
 
@@ -178,7 +169,7 @@ items_each Q monitor p n s sound apart there prototypes definitions =
         let back = mapped_back (prototype_of monitor p) p.signatures j x at in
         let t = back.0 in
         let tree = inner _ f (back.2 ∙ is) in
-        let name : text_name t ≡ text_name s = sym (own_name monitor (function_at p t.0) t.1 t.0) ∙ ap (λ g. g.declarator.name.bytes) tree ∙ name_same f.declarator.name.bytes (text_name s) named in
+        let name : text_name t ≡ text_name s = sym (own_name monitor (function_at p t.0) t.1 t.0) ∙ ap (λ g. g.declarator.name.bytes) tree ∙ bytes_eq_same f.declarator.name.bytes (text_name s) named in
         let place = apart j n t s back.1 there name in
         let same = same_entry t s (sym back.1 ∙ ap (slice_get p.signatures) place ∙ there) in
         prototypes f (ap (prototype_of monitor p) (sym same) ∙ back.2 ∙ is)
@@ -187,10 +178,10 @@ items_each Q monitor p n s sound apart there prototypes definitions =
     own_definition j x at f is named =
         let back = mapped_back (function_item p) p.functions j x at in
         let g = back.0 in
-        let signature = signature_there monitor p g (all_there (function_fits monitor p) p.functions j g sound.functions back.1) in
+        let signature = signature_there monitor p g (all_true_at (function_fits monitor p) p.functions j g sound.functions back.1) in
         let place = lookup_place p.signatures g.id signature.0 signature.1 in
         let tree = inner _ f (back.2 ∙ is) in
-        let name : text_name (g.id, signature.0) ≡ text_name s = ap (function_by g.id) (sym signature.1) ∙ ap (λ d. d.declarator.name.bytes) tree ∙ name_same f.declarator.name.bytes (text_name s) named in
+        let name : text_name (g.id, signature.0) ≡ text_name s = ap (function_by g.id) (sym signature.1) ∙ ap (λ d. d.declarator.name.bytes) tree ∙ bytes_eq_same f.declarator.name.bytes (text_name s) named in
         let where_it_is = apart place.place n (g.id, signature.0) s place.there there name in
         let same = same_entry (g.id, signature.0) s (sym place.there ∙ ap (slice_get p.signatures) where_it_is ∙ there) in
         subst Q tree (definitions j g back.1 (ap (λ z. z.0) same) (signature.1 ∙ ap (λ z. Some z.1) same))
@@ -200,7 +191,7 @@ items_each Q monitor p n s sound apart there prototypes definitions =
 -- at least the prototype is there
 first_of : (monitor : Bool) (p : ProgramTree) (n : ℕ) (s : ℕ × Signature) → slice_get p.signatures n ≡ Some s → (j : ℕ) × (f : parsed.FunctionTree) × (slice_get (declarations_of (half_tree monitor p) (text_name s)) j ≡ Some f)
 first_of monitor p n s there =
-    let found = declared_in (half_tree monitor p) (text_name s) _ _ (prototype_there monitor p n s there) (ap (λ name. bytes_eq name (text_name s)) (own_name monitor (function_at p s.0) s.1 s.0) ∙ name_self (text_name s)) in
+    let found = declared_in (half_tree monitor p) (text_name s) _ _ (prototype_there monitor p n s there) (ap (λ name. bytes_eq name (text_name s)) (own_name monitor (function_at p s.0) s.1 s.0) ∙ bytes_eq_self (text_name s)) in
     (found.0, _, found.1)
 
 -- a parameter is marked in the text as in the half

@@ -1,7 +1,8 @@
 -- A function with a result returns with a value.
-use Rattle.std.proofs.Common.{◌≡◌, refl, ℕ, zero, suc, Bool, true, false, Option, Some, None, is_none, Result, Ok, Err, if◌then◌else◌}
+use Rattle.std.proofs.Common.{◌≡◌, ℕ, zero, suc, Bool, true, false, Option, Some, None, is_none, Result, Ok, Err, if◌then◌else◌}
 use Rattle.std.specs.Prelude.{◌&&◌}
 use Rattle.pt_base.specs.declared.int_type.IntType.{IntType}
+use Rattle.pt_base.proofs.Booleans.{and_parts}
 use Rattle.runs.specs.State.{gives, trapped, spent, ◌>>=◌, take_turn}
 use Rattle.block_memory.specs.declared.cell.Cell as core
 use Rattle.pt_core.specs.CodeTree.{StmtTree, clear, check, assign, copy, call, choose, repeat, break_out, continue_on, give_back, StmtTrees, no_stmts, stmt_and, ExprTree}
@@ -26,10 +27,6 @@ abbrev pub RunFits : Option IntType → Outcome Flow → Type 0
 RunFits result (gives flow st) = FlowFits result flow
 RunFits result (trapped trap span st) = Unit {0}
 RunFits result (spent st) = Unit {0}
-
-both_hold : (a o : Bool) → (a && o) ≡ true → (a ≡ true) × (o ≡ true)
-both_hold true o h = (refl, h)
-both_hold false o h = cc
 
 -- what goes on with what was evaluated
 evaluated_fits : {A : Type 0} (result : Option IntType) (r : Result A Stop) (st : State) (next : A → State → Outcome Flow) → ((a : A) → RunFits result (next a st)) → RunFits result (evaluated r st next)
@@ -93,8 +90,8 @@ mutual
   does_fit (call callee args result s) k in_loop f calls st h =
       evaluated_fits k.result (values_of f.context f.depth args st.memory) st (λ vs st1. calls f s callee vs st1 >>= kept_in f result) (λ vs. bind_fits k.result (calls f s callee vs st) (kept_in f result) (λ v st1. tt))
   does_fit (choose e first second) k in_loop f calls st h =
-      let parts = both_hold (expr_fits k.context e && is_scalar (Some (type_of k.context e))) (stmts_fit k in_loop first && stmts_fit k in_loop second) h in
-      let lists = both_hold (stmts_fit k in_loop first) (stmts_fit k in_loop second) parts.1 in
+      let parts = and_parts (expr_fits k.context e && is_scalar (Some (type_of k.context e))) (stmts_fit k in_loop first && stmts_fit k in_loop second) h in
+      let lists = and_parts (stmts_fit k in_loop first) (stmts_fit k in_loop second) parts.1 in
       evaluated_fits k.result (value_of f.context f.depth e st.memory) st (λ v. if holds_in v then do_all first f calls else do_all second f calls)
       (λ v. chosen_fits k.result (holds_in v) (do_all first f calls) (do_all second f calls) st (all_fit first k in_loop f calls st lists.0) (all_fit second k in_loop f calls st lists.1))
   does_fit (repeat body s) k in_loop f calls st h = looped_fits k.result st.left (do_all body f calls) st (λ st1. all_fit body k true f calls st1 h)
@@ -105,5 +102,5 @@ mutual
   pub all_fit : (xs : StmtTrees) (k : Scope) (in_loop : Bool) (f : Frame) (calls : Calls) (st : State) → stmts_fit k in_loop xs ≡ true → RunFits k.result (do_all xs f calls st)
   all_fit no_stmts k in_loop f calls st h = tt {0}
   all_fit (stmt_and a rest) k in_loop f calls st h =
-      let parts = both_hold (stmt_fits k in_loop a) (stmts_fit k in_loop rest) h in
+      let parts = and_parts (stmt_fits k in_loop a) (stmts_fit k in_loop rest) h in
       after_fits k.result (does a f calls st) (do_all rest f calls) (does_fit a k in_loop f calls st parts.0) (λ st1. all_fit rest k in_loop f calls st1 parts.1)

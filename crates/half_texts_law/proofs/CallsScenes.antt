@@ -60,9 +60,6 @@ module _ (p : ProgramTree) (f : FunctionTree) (frames : ℕ → List VarTy) (fra
 
 -- ---- turns and events
 
-pub left_alike : (s : Scene) (st : State) (st' : c.State) (n : ℕ) → Alike s st st' → Alike s (record st { left = n }) (record st' { left = n })
-left_alike s st st' n al = record { blocks = al.blocks; fits = al.fits; live = al.live; hosts = al.hosts; input = al.input; seen = record { events = al.seen.events; left = refl } }
-
 pub turn_alike : {A B : Type 0} (s : Scene) (Q : A → State → B → c.State → Type 0) (st : State) (st' : c.State) (next : State → Outcome A) (next' : c.State → c.Outcome B) → Alike s st st' →
     ((left : ℕ) → Same s Q (next (record st { left = left })) (next' (record st' { left = left }))) → Same s Q (take_turn st.left st next) (take_turn st'.left st' next')
 turn_alike s Q st st' next next' al on = subst (λ n. Same s Q (take_turn st.left st next) (take_turn n st' next')) (sym al.seen.left) (go st.left)

@@ -2,10 +2,10 @@
 use Rattle.std.proofs.Common.{◌≡◌, ◌^◌, ◌<◌, ℕ, suc, zero, Bool, true, false, List, [], ◌∷◌, Some, refl, not, ◌++◌}
 use Rattle.std.specs.Prelude.{IsTrue, ◌&&◌, slice_get}
 use Rattle.std.specs.List.{list_all}
+use Rattle.pt_base.proofs.Booleans.{both_hold, both_hold_first}
 use Rattle.pt_tree.specs.ProgramTree.{ItemTree}
 use Rattle.pt_tree.specs.declared.signature.Signature.{Signature}
 use Rattle.typed_tree.specs.TypedTree.{TypedTree}
-use Rattle.typed_tree.proofs.WellFormedLemmas.{and_left, and_right, and_both}
 use Rattle.check_programs.specs.Programs.{checked_program}
 use Rattle.type_law.specs.ProgramsLaws.{ProgramsAreWellFormed}
 use Rattle.pt_core.specs.CodeTree.{FunctionTree, ProgramTree, SlaveTree, MonitorTree}
@@ -33,15 +33,15 @@ halves_declarable trees programs items a few constants none =
 
 slave_sound : (s : SlaveTree) → IsTrue (is_well_formed_slave s) → IsTrue (is_sound false (slave_program s))
 unfolding is_well_formed_slave is_well_formed
-slave_sound s h = and_left (is_sound false (slave_program s)) (has_main (slave_program s)) h
+slave_sound s h = both_hold_first (is_sound false (slave_program s)) (has_main (slave_program s)) h
 
 monitor_sound : (m : MonitorTree) → IsTrue (is_well_formed_monitor m) → IsTrue (is_sound true (monitor_program m))
 unfolding is_well_formed_monitor
-monitor_sound m h = and_left (is_sound true (monitor_program m)) (entries_fit (monitor_program m) m.entries) h
+monitor_sound m h = both_hold_first (is_sound true (monitor_program m)) (entries_fit (monitor_program m) m.entries) h
 
 each_said : (q : FunctionTree → Bool) (fs : List FunctionTree) → ((n : ℕ) (f : FunctionTree) → slice_get fs n ≡ Some f → IsTrue (q f)) → IsTrue (list_all q fs)
 each_said q [] h = refl
-each_said q (f ∷ fs) h = and_both (q f) (list_all q fs) (h 0 f refl) (each_said q fs (λ n g i. h (suc n) g i))
+each_said q (f ∷ fs) h = both_hold (q f) (list_all q fs) (h 0 f refl) (each_said q fs (λ n g i. h (suc n) g i))
 
 said_all : (monitor : Bool) (p : ProgramTree) → CodeIsSaid monitor p → IsTrue (all_said monitor p)
 said_all monitor p h = each_said (λ f. are_said (context_of p f.vars) (called_signature monitor p) f.body) p.functions h

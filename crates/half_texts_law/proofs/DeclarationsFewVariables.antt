@@ -9,6 +9,7 @@ use Rattle.std.proofs.lemmas.List.Sums.{sum_by-append, sum_by-cons, sum_by-take-
 use Rattle.std.proofs.Math.Seq.{drop-cons}
 use Rattle.pt_base.specs.declared.span.Span.{Span}
 use Rattle.pt_base.specs.declared.ids.VarId.{VarId}
+use Rattle.pt_base.proofs.Booleans.{both_hold, both_hold_first, both_hold_second}
 use Rattle.typed_tree.specs.declared.types.StructInfo.{StructInfo}
 use Rattle.typed_tree.specs.declared.ids.ExprId.{ExprId}
 use Rattle.typed_tree.specs.declared.part.Part.{Part}
@@ -26,7 +27,7 @@ use Rattle.typed_tree.specs.TypedTree.{FunctionTree, TypedTree}
 use Rattle.typed_tree.specs.Parts.{part_of, init_parts, declaration_parts, for_init_parts, optional_part, parts_of, else_parts, all_parts, section_parts, function_parts, function_variables}
 use Rattle.typed_tree.specs.Nodes.{expr_nodes, body_nodes, else_nodes, bodies_nodes, section_nodes, option_nodes, function_nodes, nodes_of}
 use Rattle.typed_tree.specs.WellFormed.{is_well_formed, are_numbered, are_consecutive, are_rising, numbers_sound}
-use Rattle.typed_tree.proofs.WellFormedLemmas.{and_left, and_right, and_both, facts_of}
+use Rattle.typed_tree.proofs.WellFormedLemmas.{facts_of}
 use Rattle.pt_core.specs.CodeTree.{PlaceTree}
 use Rattle.pt_core.specs.Types.{type_at}
 use Rattle.source_meaning.specs.Statements.{no_expr}
@@ -205,14 +206,14 @@ mutual
 
 numbered_within : (ps : List Part) (first last : ℕ) → IsTrue (are_numbered first ps last) → first ≤ last
 numbered_within [] first last h = grind (arith, nat_tests, h)
-numbered_within (p ∷ ps) first last h = let rest = numbered_within ps (suc first) last (and_right (nat_eq p.expr.0 first) (are_numbered (suc first) ps last) h) in omega (arith, rest)
+numbered_within (p ∷ ps) first last h = let rest = numbered_within ps (suc first) last (both_hold_second (nat_eq p.expr.0 first) (are_numbered (suc first) ps last) h) in omega (arith, rest)
 
 -- parts that are numbered from this one on have no more nodes than the expressions from there on
 numbered_few : (ps : List Part) (exprs : List src.ExprTree) (first : ℕ) → IsTrue (are_numbered first ps (length exprs)) → parts_nodes exprs ps ≤ sum_by expr_nodes (drop first exprs)
 numbered_few [] exprs first h = omega arith
 numbered_few (p ∷ ps) exprs first h =
-    let here : p.expr.0 ≡ first = same p.expr.0 first (and_left (nat_eq p.expr.0 first) (are_numbered (suc first) ps (length exprs)) h) in
-    let after = and_right (nat_eq p.expr.0 first) (are_numbered (suc first) ps (length exprs)) h in
+    let here : p.expr.0 ≡ first = same p.expr.0 first (both_hold_first (nat_eq p.expr.0 first) (are_numbered (suc first) ps (length exprs)) h) in
+    let after = both_hold_second (nat_eq p.expr.0 first) (are_numbered (suc first) ps (length exprs)) h in
     let within = numbered_within ps (suc first) (length exprs) after in
     let rest = numbered_few ps exprs (suc first) after in
     let apart : sum_by expr_nodes (drop first exprs) ≡ expr_nodes (get_or exprs first no_expr) + sum_by expr_nodes (drop (suc first) exprs) =
@@ -242,8 +243,8 @@ functions_few : (fs : List FunctionTree) (p : TypedTree) (k limit : ℕ) → IsT
 functions_few [] p k limit h i = refl
 functions_few (f ∷ fs) p k limit h i =
     let sum = sum_by-cons function_nodes f fs in
-    let rest = functions_few fs p (suc k) limit (and_right (numbers_sound p f) (list_all (numbers_sound p) fs) h) (omega (arith, i, sum)) in
-    let parts = and_left (are_consecutive (function_parts f.body) (length p.exprs)) (are_rising (length f.signature.params) (function_variables f.body)) (and_left (numbers_sound p f) (list_all (numbers_sound p) fs) h) in
+    let rest = functions_few fs p (suc k) limit (both_hold_second (numbers_sound p f) (list_all (numbers_sound p) fs) h) (omega (arith, i, sum)) in
+    let parts = both_hold_first (are_consecutive (function_parts f.body) (length p.exprs)) (are_rising (length f.signature.params) (function_variables f.body)) (both_hold_first (numbers_sound p f) (list_all (numbers_sound p) fs) h) in
     let here : 3 * (1 + (length f.vars + option_nodes f.body) + sum_by expr_nodes p.exprs) ≤ limit = omega (arith, i, sum) in
     go f.body rest parts here
   where
@@ -255,7 +256,7 @@ functions_few (f ∷ fs) p k limit h i =
     go None rest parts here = rest
     go (Some b) rest parts here =
         let few = function_few p k f b parts in
-        and_both (nat_le (length (core_of p k f b).vars) limit) (list_all (λ f. nat_le (length f.vars) limit) (functions_from p (suc k) fs)) (at_most (length (core_of p k f b).vars) limit (omega (arith, few, here))) rest
+        both_hold (nat_le (length (core_of p k f b).vars) limit) (list_all (λ f. nat_le (length f.vars) limit) (functions_from p (suc k) fs)) (at_most (length (core_of p k f b).vars) limit (omega (arith, few, here))) rest
 
 -- In the normal form of a well-formed tree no function has more than 2^64 variables.
 pub lowered_few : (p : TypedTree) → IsTrue (is_well_formed p) → IsTrue (list_all (λ f. nat_le (length f.vars) (2 ^ 64)) (functions_from p 0 p.functions))

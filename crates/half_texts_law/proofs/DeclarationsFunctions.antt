@@ -6,6 +6,8 @@ use Rattle.std.specs.Option.{option_map_or}
 use Rattle.std.specs.List.{list_all}
 use Rattle.pt_base.specs.declared.span.Span.{Span}
 use Rattle.pt_base.specs.Names.{is_short}
+use Rattle.pt_base.proofs.Lists.{append_nil_first, append_nil_second, length_map, map_append}
+use Rattle.pt_base.proofs.Places.{get_kept, get_mapped, get_there}
 use Rattle.pt_tree.specs.declared.signature.Param.{Param}
 use Rattle.pt_tree.specs.declared.signature.ParamKind.{ParamKind}
 use Rattle.pt_tree.specs.declared.signature.ParamKind.TheVariants as k
@@ -38,7 +40,7 @@ use Rattle.check_expressions.specs.Environment.{Env, Scope, find_in, opened}
 use Rattle.check_expressions.specs.Operands.{var_type}
 use Rattle.type_law.specs.DeclarationsTypes.{is_parameter, is_result}
 use Rattle.type_law.specs.DeclarationsLaws.{SpecifiersAreSound, ObjectsAreSound, ResultsAreSound}
-use Rattle.type_law.proofs.DeclarationsFaultLemmas.{none_left, none_right, no_fault}
+use Rattle.type_law.proofs.DeclarationsFaultLemmas.{no_fault}
 use Rattle.type_law.specs.ExpressionsAgreement.{taken, HasCallable}
 use Rattle.type_law.specs.StatementsLaws.{BlocksAreKept, BodiesAreSound}
 use Rattle.check_programs.specs.declared.function_marks.FunctionMarks.{FunctionMarks}
@@ -47,13 +49,14 @@ use Rattle.check_programs.specs.Functions.{Head, head_of, result_of, params_of_f
 use Rattle.check_programs.specs.Parameters.{parameters_of, declared_one, declared_all}
 use Rattle.check_programs.specs.Progress.{Progress}
 use Rattle.check_programs.specs.Unions.{own_marks, marks_at, params_marks}
-use Rattle.type_law.proofs.ProgramsListLemmas.{get_below, get_kept, get_pushed, get_mapped, get_unmapped, get_set, map_joined, length_mapped}
+use Rattle.type_law.proofs.ProgramsListLemmas.{get_pushed, get_unmapped, get_set}
 use Rattle.type_law.proofs.ProgramsTableLemmas.{sought}
 use Rattle.type_law.proofs.ProgramsSound.{signatures, SoundTables, SoundProgress, tables_moved}
 use Rattle.type_law.proofs.ProgramsParameters.{SoundParams}
 use Rattle.type_law.proofs.ProgramsHeads.{SoundHead, sound_head}
 use Rattle.type_law.proofs.ProgramsOpened.{Opened, old_opened, new_opened, find_is, some_same}
 use Rattle.type_law.proofs.ProgramsBodies.{signatures_set, here}
+use Rattle.type_law.proofs.ProgramsFunctions.{rebased}
 use Rattle.half_names_law.specs.Declarable.{is_mutable}
 use Rattle.half_texts_law.proofs.DeclarationsStands.{function_declassified}
 use Rattle.half_texts_law.proofs.DeclarationsTags.{Structured, specified_apart}
@@ -107,9 +110,9 @@ head_marked own st f n variables none types =
     let j = specified true st.structs f.specs in
     let wrong = result_faults j.given d.pointer d.suffix d.name.span in
     let marked = mark_faults (carrier.Function own.privileged) j.given.attributes in
-    let none_r = none_left r.faults ps.faults none in
-    let none_marks = none_right (j.faults ++ wrong) marked none_r in
-    let none_ps = none_right r.faults ps.faults none in
+    let none_r = append_nil_first r.faults ps.faults none in
+    let none_marks = append_nil_second (j.faults ++ wrong) marked none_r in
+    let none_ps = append_nil_second r.faults ps.faults none in
     record {
       structs = λ h. params_structured own (is_some f.body) (opened st.env) j.structs (parameters_of f.params) (specified_apart true st.structs f.specs h);
       unpriv = params_unpriv own (is_some f.body) (opened st.env) j.structs (parameters_of f.params) (λ i x h. let none = ap (λ xs. slice_get xs i) variables in cc);
@@ -157,7 +160,7 @@ params_declassified ms n (x ∷ xs) (suc j) q h = params_declassified ms (n + 1)
 -- the first of a function's variables are its parameters
 first_unpriv : (own : FunctionMarks) (variables new : List Variable) → PlacedUnpriv own variables → (j : ℕ) (x : Var) → j < length variables → slice_get (map var_of (variables ++ new)) j ≡ Some x → x.unpriv ≡ (marks_at own.params j).unpriv
 first_unpriv own variables new placed j x less h =
-    let one = get_below variables j less in
+    let one = get_there variables j less in
     let there = get_mapped var_of (variables ++ new) j one.0 (get_kept variables new j one.0 one.1) in
     let same : var_of one.0 ≡ x = some_same (var_of one.0) x (slice_get (map var_of (variables ++ new)) j) there h in
     ap (λ (z : Var). z.unpriv) (sym same) ∙ placed j one.0 one.1
@@ -196,7 +199,7 @@ module _ (bodies : BodiesAreSound) (keep : BlocksAreKept) (marks : List ℕ → 
       → Stage marks (function f ∷ rest) own (is_some f.body) st (declared_as own st c at (function_in o)) c (number_in st (function_in o))
   stage None is fine = record {
     opened = new_opened marks (function f ∷ rest) own (is_some f.body) st c at t params result types own_is short is;
-    kept = λ j s h. ap (λ ss. slice_get ss j) (map_joined (λ (g : FunctionTree). g.signature) st.functions (entry_of own c st.env.variables at ∷ [])) ∙ get_kept (signatures st.functions) ((entry_of own c st.env.variables at).signature ∷ []) j s h;
+    kept = λ j s h. ap (λ ss. slice_get ss j) (map_append (λ (g : FunctionTree). g.signature) st.functions (entry_of own c st.env.variables at ∷ [])) ∙ get_kept (signatures st.functions) ((entry_of own c st.env.variables at).signature ∷ []) j s h;
     entries = λ before j e h. elim (get_pushed st.functions (entry_of own c st.env.variables at) j e h) [ inl i ↦ before j e i | inr i ↦ subst (λ z. EntryMarked marks z) (sym i.is) first_marked ];
     structs = refl;
     globals = refl;
@@ -239,7 +242,7 @@ module _ (bodies : BodiesAreSound) (keep : BlocksAreKept) (marks : List ℕ → 
   }
   ended st' k s (Some b) is none =
       let all = block_in c.result st'.env st'.structs (length st'.exprs) b.items in
-      let fine = none_left all.faults (fault_if (are_too_large all.state.structs all.state.env.variables) TooLarge at) none in
+      let fine = append_nil_first all.faults (fault_if (are_too_large all.state.structs all.state.env.variables) TooLarge at) none in
       let sound : IsTrue (body_sound (Some b)) = subst (λ x. IsTrue (body_sound x)) is constants in
       let o = s.opened in
       let body = here bodies keep marks f rest own st' c k b o name own_is is sound fine in
@@ -254,8 +257,8 @@ module _ (bodies : BodiesAreSound) (keep : BlocksAreKept) (marks : List ℕ → 
       some_same o.entry.signature o.called.signature (slice_get (signatures st'.functions) k) (get_mapped (λ (g : FunctionTree). g.signature) st'.functions k o.entry o.is) o.called.is in
       let own_marks' : marks o.entry.signature.name ≡ own = ap (λ s. marks s.name) entry_signature ∙ ap marks o.called.name ∙ own_is in
       let count : length o.entry.signature.params ≡ length st'.env.variables =
-      sym (length_mapped taken o.entry.signature.params) ∙ ap length (ap (λ s. map taken s.params) entry_signature ∙ o.called.takes ∙ ap (map var_type) o.types)
-      ∙ length_mapped var_type (map (λ x. x.ty) st'.env.variables) ∙ length_mapped (λ (x : Variable). x.ty) st'.env.variables in
+      sym (length_map taken o.entry.signature.params) ∙ ap length (ap (λ s. map taken s.params) entry_signature ∙ o.called.takes ∙ ap (map var_type) o.types)
+      ∙ length_map var_type (map (λ x. x.ty) st'.env.variables) ∙ length_map (λ (x : Variable). x.ty) st'.env.variables in
       let placed' : PlacedUnpriv own st'.env.variables = subst (λ xs. PlacedUnpriv own xs) (sym s.variables) placed in
       let given_marked : EntryMarked marks o.entry → EntryMarked marks given = λ e. record {
         privileged = e.privileged;
@@ -286,7 +289,7 @@ module _ (bodies : BodiesAreSound) (keep : BlocksAreKept) (marks : List ℕ → 
       let others = (with_definition (declared_as own st c at (function_in o)) (number_in st (function_in o)) c.result at f.body).faults in (
         number_in st (function_in o),
         ended (declared_as own st c at (function_in o)) (number_in st (function_in o))
-            (stage o is (no_fault (clashes st c (is_some f.body) o) Redeclared at (none_left own_faults others none))) f.body refl (none_right own_faults others none),
+            (stage o is (no_fault (clashes st c (is_some f.body) o) Redeclared at (append_nil_first own_faults others none))) f.body refl (append_nil_second own_faults others none),
       )
 
   pub completed_ends : (completed own st c f).faults ≡ [] → (k : ℕ) × Ended (completed own st c f).progress k
@@ -308,9 +311,6 @@ env_is e file callables objects f g h =
 abbrev behind_head : Progress → Head → Bool → Env → Progress
 behind_head st h begins env = record { env = env; structs = h.structs; functions = st.functions; globals = st.globals; cells = st.cells; exprs = st.exprs; has_main = begins }
 
-rebased : (own : FunctionMarks) (base : Env) (n : ℕ) (env : Env) → SoundParams own base n env → SoundParams own env n env
-rebased own base n env p = record { file = refl; functions = refl; globals = refl; scope = p.scope; scopes = p.scopes; locals = p.locals; types = p.types; marked = p.marked; few = p.few; integers = p.integers }
-
 pub function_stepped : SpecifiersAreSound → ObjectsAreSound → ResultsAreSound → BodiesAreSound → BlocksAreKept → (marks : List ℕ → FunctionMarks) (f : parsed.FunctionTree) (rest : List ItemTree) (st : Progress)
     → SoundProgress marks (function f ∷ rest) st → IsTrue (is_short f.declarator.name.bytes) → IsTrue (body_sound f.body) → (checked_function (marks f.declarator.name.bytes) st f).faults ≡ []
     → Stepped marks st (checked_function (marks f.declarator.name.bytes) st f).progress f
@@ -320,13 +320,13 @@ function_stepped specifiers objects results bodies keep marks f rest st s short 
     let begins : Bool = is_start h.callable (is_some f.body) || st.has_main in
     let after : Progress = behind_head st h begins h.env in
     let last : List TypeFault = (completed own after h.callable f).faults in
-    let none_head = none_left h.faults last none in
+    let none_head = append_nil_first h.faults last none in
     let head = sound_head specifiers objects results own st f s.tables.structs s.scopes s.variables none_head in
     let marked = head_marked own st f (length h.structs) s.variables none_head head.params.types in
     let tables : SoundTables marks (function f ∷ rest) after =
     subst (λ env. SoundTables marks (function f ∷ rest) (behind_head st h begins env)) (env_is h.env st.env.file st.env.functions st.env.globals head.params.file head.params.functions head.params.globals)
     (tables_moved marks (function f ∷ rest) (function f ∷ rest) st h.env.scopes h.env.variables h.structs head.more begins head.grown head.sound (λ n. refl) s.tables) in
-    let end = completed_ends bodies keep marks f rest own after h.callable tables (rebased own st.env (length h.structs) h.env head.params) head.result head.types head.name (ap marks head.name) (subst (λ n. IsTrue (is_short n)) (sym head.name) short) constants marked.unpriv (none_right h.faults last none) in
+    let end = completed_ends bodies keep marks f rest own after h.callable tables (rebased own st.env (length h.structs) h.env head.params) head.result head.types head.name (ap marks head.name) (subst (λ n. IsTrue (is_short n)) (sym head.name) short) constants marked.unpriv (append_nil_second h.faults last none) in
     record {
       structs = λ i. subst (λ x. Structured x) (sym end.1.structs) (marked.structs i);
       kept = end.1.kept;

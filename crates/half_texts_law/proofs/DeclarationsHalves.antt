@@ -6,6 +6,8 @@ use Rattle.std.specs.Map.{lookup}
 use Rattle.std.proofs.lemmas.Bool.Decides.{nat_tests}
 use Rattle.std.proofs.lemmas.List.{length-map}
 use Rattle.std.proofs.lemmas.List.Sums.{sum_by-cons}
+use Rattle.pt_base.proofs.Booleans.{both_hold, both_hold_first, both_hold_second}
+use Rattle.pt_base.proofs.Members.{all_hold_at}
 use Rattle.pt_tree.specs.declared.signature.Signature.{Signature}
 use Rattle.typed_tree.specs.declared.types.Field.{Field}
 use Rattle.typed_tree.specs.declared.types.StructInfo.{StructInfo}
@@ -16,7 +18,7 @@ use Rattle.typed_tree.specs.TypedTree as t
 use Rattle.typed_tree.specs.TypedTree.{TypedTree, signatures_of}
 use Rattle.typed_tree.specs.Nodes.{nodes_of, function_nodes, expr_nodes}
 use Rattle.typed_tree.specs.WellFormed.{are_distinct, name_of, is_well_formed}
-use Rattle.typed_tree.proofs.WellFormedLemmas.{and_left, and_right, and_both, facts_of, functions_few}
+use Rattle.typed_tree.proofs.WellFormedLemmas.{facts_of, functions_few}
 use Rattle.pt_core.specs.CodeTree.{FunctionTree, ProgramTree}
 use Rattle.pt_core.specs.WellFormed.{signature_at}
 use Rattle.lowering.specs.Lowered.{Temp}
@@ -33,10 +35,10 @@ use Rattle.half_texts_law.proofs.DeclarationsTextNames.{struct_apart, field_apar
 
 pub chosen_all : {X : Type 0} (q has : X → Bool) (xs : List X) → IsTrue (list_all q xs) → IsTrue (list_all q (filter has xs))
 chosen_all q has [] h = refl
-chosen_all {X} q has (x ∷ xs) h = go (chosen_all q has xs (and_right (q x) (list_all q xs) h)) (has x)
+chosen_all {X} q has (x ∷ xs) h = go (chosen_all q has xs (both_hold_second (q x) (list_all q xs) h)) (has x)
   where
     go : IsTrue (list_all q (filter has xs)) → (b : Bool) → IsTrue (list_all q (cond b (x ∷ filter has xs) (filter has xs)))
-    go rest true = and_both (q x) (list_all q (filter has xs)) (and_left (q x) (list_all q xs) h) rest
+    go rest true = both_hold (q x) (list_all q (filter has xs)) (both_hold_first (q x) (list_all q xs) h) rest
     go rest false = rest
 
 at_none : {X : Type 0} (xs : List X) (j : ℕ) → slice_get xs (j + 0) ≡ slice_get xs j
@@ -62,9 +64,9 @@ all_fields_differ : (structs : List StructInfo) → sum_by (λ s. 1 + length s.f
 all_fields_differ [] few apart = refl
 all_fields_differ (s ∷ rest) few apart =
     let sums = sum_by-cons (λ (x : StructInfo). 1 + length x.fields) s rest in
-    and_both (are_distinct (field_names s)) (list_all (λ s. are_distinct (field_names s)) rest)
-    (fields_differ s (omega (arith, sums, few)) (and_left (are_distinct (map (λ f. f.name) s.fields)) (list_all (λ s. are_distinct (map (λ f. f.name) s.fields)) rest) apart))
-    (all_fields_differ rest (omega (arith, sums, few)) (and_right (are_distinct (map (λ f. f.name) s.fields)) (list_all (λ s. are_distinct (map (λ f. f.name) s.fields)) rest) apart))
+    both_hold (are_distinct (field_names s)) (list_all (λ s. are_distinct (field_names s)) rest)
+    (fields_differ s (omega (arith, sums, few)) (both_hold_first (are_distinct (map (λ f. f.name) s.fields)) (list_all (λ s. are_distinct (map (λ f. f.name) s.fields)) rest) apart))
+    (all_fields_differ rest (omega (arith, sums, few)) (both_hold_second (are_distinct (map (λ f. f.name) s.fields)) (list_all (λ s. are_distinct (map (λ f. f.name) s.fields)) rest) apart))
 
 function_texts : (k : ℕ) (ss : List Signature) → map (λ s. function_by s.0 (Some s.1)) (signatures_from k ss) ≡ made_from called_as k (map (λ s. s.name) ss)
 function_texts k [] = refl
@@ -76,7 +78,7 @@ signature_names (f ∷ fs) = ap (λ ns. name_of f ∷ ns) (signature_names fs)
 
 signatures_all : (q : Signature → Bool) (fs : List t.FunctionTree) → IsTrue (list_all (λ f. q f.signature) fs) → IsTrue (list_all q (map (λ f. f.signature) fs))
 signatures_all q [] h = refl
-signatures_all q (f ∷ fs) h = and_both (q f.signature) (list_all q (map (λ f. f.signature) fs)) (and_left (q f.signature) (list_all (λ f. q f.signature) fs) h) (signatures_all q fs (and_right (q f.signature) (list_all (λ f. q f.signature) fs) h))
+signatures_all q (f ∷ fs) h = both_hold (q f.signature) (list_all q (map (λ f. f.signature) fs)) (both_hold_first (q f.signature) (list_all (λ f. q f.signature) fs) h) (signatures_all q fs (both_hold_second (q f.signature) (list_all (λ f. q f.signature) fs) h))
 
 functions_differ : (has : ℕ → Bool) (p : TypedTree) → length p.functions < 2 ^ 28 → IsTrue (are_distinct (map name_of p.functions)) → IsTrue (are_distinct (map (λ s. function_by s.0 (Some s.1)) (chosen_signatures has p)))
 functions_differ has p few apart =
@@ -88,15 +90,15 @@ functions_differ has p few apart =
 
 numbered_signatures : (q : Signature → Bool) (k : ℕ) (ss : List Signature) → IsTrue (list_all q ss) → IsTrue (list_all (λ s. q s.1) (signatures_from k ss))
 numbered_signatures q k [] h = refl
-numbered_signatures q k (s ∷ ss) h = and_both (q s) (list_all (λ s. q s.1) (signatures_from (suc k) ss)) (and_left (q s) (list_all q ss) h) (numbered_signatures q (suc k) ss (and_right (q s) (list_all q ss) h))
+numbered_signatures q k (s ∷ ss) h = both_hold (q s) (list_all (λ s. q s.1) (signatures_from (suc k) ss)) (both_hold_first (q s) (list_all q ss) h) (numbered_signatures q (suc k) ss (both_hold_second (q s) (list_all q ss) h))
 
 numbered_globals : (q : Var → Bool) (k : ℕ) (gs : List TypedGlobal) → IsTrue (list_all (λ g. q g.var) gs) → IsTrue (list_all (λ g. q g.var) (globals_from k gs))
 numbered_globals q k [] h = refl
-numbered_globals q k (g ∷ gs) h = and_both (q g.var) (list_all (λ g. q g.var) (globals_from (suc k) gs)) (and_left (q g.var) (list_all (λ g. q g.var) gs) h) (numbered_globals q (suc k) gs (and_right (q g.var) (list_all (λ g. q g.var) gs) h))
+numbered_globals q k (g ∷ gs) h = both_hold (q g.var) (list_all (λ g. q g.var) (globals_from (suc k) gs)) (both_hold_first (q g.var) (list_all (λ g. q g.var) gs) h) (numbered_globals q (suc k) gs (both_hold_second (q g.var) (list_all (λ g. q g.var) gs) h))
 
 globals_below : (limit k : ℕ) (gs : List TypedGlobal) → k + length gs ≤ limit → IsTrue (list_all (λ g. nat_lt g.id limit) (globals_from k gs))
 globals_below limit k [] h = refl
-globals_below limit k (g ∷ gs) h = and_both (nat_lt k limit) (list_all (λ g. nat_lt g.id limit) (globals_from (suc k) gs)) (below k limit (omega (arith, h))) (globals_below limit (suc k) gs (omega (arith, h)))
+globals_below limit k (g ∷ gs) h = both_hold (nat_lt k limit) (list_all (λ g. nat_lt g.id limit) (globals_from (suc k) gs)) (below k limit (omega (arith, h))) (globals_below limit (suc k) gs (omega (arith, h)))
   where
     below : (m n : ℕ) → m < n → IsTrue (nat_lt m n)
     below m n h = grind (arith, nat_tests)
@@ -145,7 +147,7 @@ code_all q p (f ∷ fs) k h = go (code_all q p fs (suc k) (λ j g b i. let e : s
   where
     go : IsTrue (list_all q (functions_from p (suc k) fs)) → (b : Option BodyTree) → IsTrue (list_all q (code_if p k f b ++ functions_from p (suc k) fs))
     go rest None = rest
-    go rest (Some b) = and_both (q (core_of p k f b)) (list_all q (functions_from p (suc k) fs)) (let e : 0 + k ≡ k = omega arith in subst (λ n. IsTrue (q (core_of p n f b))) e (h 0 f b refl)) rest
+    go rest (Some b) = both_hold (q (core_of p k f b)) (list_all q (functions_from p (suc k) fs)) (let e : 0 + k ≡ k = omega arith in subst (λ n. IsTrue (q (core_of p n f b))) e (h 0 f b refl)) rest
 
 -- temporaries have no marks
 no_temp : (n : ℕ) (temps : List Temp) → list_any (λ x. x.unpriv) (take n (map variable_of temps)) ≡ false
@@ -177,11 +179,6 @@ function_plain has p j f b at plain (Some s) is =
     mapped_at [] j f h = cc
     mapped_at (g ∷ fs) zero f h = cc
     mapped_at (g ∷ fs) (suc j) f h = mapped_at fs j f h
-
-at_all : {X : Type 0} (q : X → Bool) (xs : List X) (j : ℕ) (x : X) → IsTrue (list_all q xs) → slice_get xs j ≡ Some x → IsTrue (q x)
-at_all q [] j x h i = cc
-at_all q (y ∷ xs) zero x h i = let e : y ≡ x = cc in subst (λ z. IsTrue (q z)) e (and_left (q y) (list_all q xs) h)
-at_all q (y ∷ xs) (suc j) x h i = at_all q xs j x (and_right (q y) (list_all q xs) h) i
 
 -- ---- a half
 
@@ -222,7 +219,7 @@ part_declarable p signed kept owned well marked =
     let known = facts_of p well in
     let few = few_of p known.few in
     let plain : IsTrue (list_all (marked_by half) (functions_from p 0 p.functions)) =
-    code_all (marked_by half) p p.functions 0 (λ j f b at. function_plain signed p j f b at (at_all parameters_plain p.functions j f marked.parameters at) (signature_at half (j + 0)) refl) in
+    code_all (marked_by half) p p.functions 0 (λ j f b at. function_plain signed p j f b at (all_hold_at parameters_plain p.functions j f marked.parameters at) (signature_at half (j + 0)) refl) in
     record {
       structs = structs_differ p.structs few.structs marked.tags;
       fields = all_fields_differ p.structs few.fields marked.fields;

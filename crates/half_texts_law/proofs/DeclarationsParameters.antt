@@ -2,6 +2,10 @@
 use Rattle.std.proofs.Common.{◌≡◌, ◌≤◌, ◌+◌, ◌++◌, ◌∙◌, sym, ap, subst, refl, ℕ, zero, suc, Bool, true, false, List, [], ◌∷◌, length, arith, map, not, if◌then◌else◌, Option, Some, None, inl, inr}
 use Rattle.std.specs.Prelude.{IsTrue, ◌&&◌, ◌||◌, nat_eq, slice_get, is_some}
 use Rattle.std.specs.List.{list_all}
+use Rattle.std.proofs.lemmas.Bool.{or_parts}
+use Rattle.pt_base.proofs.Lists.{append_nil_first, append_nil_second, length_pushed}
+use Rattle.pt_base.proofs.Members.{all_hold_at}
+use Rattle.pt_base.proofs.Places.{get_kept, get_mapped, get_pushed as get_last}
 use Rattle.pt_tree.specs.declared.specifier.Suffix.{Suffix}
 use Rattle.pt_tree.specs.declared.specifier.Suffix.TheVariants.{Plain, Open, Sized}
 use Rattle.pt_tree.specs.ProgramTree.{ParamTree}
@@ -19,11 +23,11 @@ use Rattle.check_declarations.specs.Structs.{Structs}
 use Rattle.check_expressions.specs.declared.meaning.Variable.{Variable}
 use Rattle.check_expressions.specs.Environment.{Env}
 use Rattle.type_law.specs.DeclarationsTypes.{is_parameter}
-use Rattle.type_law.proofs.DeclarationsFaultLemmas.{none_left, none_right, no_fault}
+use Rattle.type_law.proofs.DeclarationsFaultLemmas.{no_fault}
 use Rattle.check_programs.specs.declared.function_marks.FunctionMarks.{FunctionMarks}
 use Rattle.check_programs.specs.Parameters.{is_host_pointer, is_refused, lacks_name, place_of, param_type, param_variable, param_carrier, param_faults, attribute_faults, is_repeated, with_param, Declared, declared_one, declared_all}
 use Rattle.check_programs.specs.Unions.{own_marks, marks_at, params_marks}
-use Rattle.type_law.proofs.ProgramsListLemmas.{all_get, get_kept, get_last, get_pushed, get_mapped, length_pushed}
+use Rattle.type_law.proofs.ProgramsListLemmas.{get_pushed}
 use Rattle.half_texts_law.proofs.DeclarationsStands.{parameter_declassified, parameter_unprivileged}
 use Rattle.half_texts_law.proofs.DeclarationsUnions.{May}
 
@@ -62,10 +66,6 @@ mutable n given pointer suffix h i = go (is_wrong_base kind.Parameter given || i
     go true i = cc
     go false i = shaped_mutable n given.base given.fixed pointer suffix h i
 
-neither : (a b : Bool) → (a || b) ≡ false → (a ≡ false) × (b ≡ false)
-neither true b h = cc
-neither false b h = (refl, h)
-
 pub more_variables : (env : Env) (b : Bool) (v : Variable) → (with_param env b v).variables ≡ env.variables ++ v ∷ []
 more_variables env true v = refl
 more_variables env false v = refl
@@ -77,13 +77,13 @@ one_may own defines n k p given repeated same none good =
     let f2 = fault_if (is_refused own k p) OutOfProfile (place_of p given) in
     let f3 = fault_if (lacks_name defines p) OutOfProfile given.first in
     let f4 = fault_if repeated Redeclared (place_of p given) in
-    let n5 = none_right (f1 ++ f2 ++ f3 ++ f4) (attribute_faults own p given) none in
-    let n4 = none_left (f1 ++ f2 ++ f3 ++ f4) (attribute_faults own p given) none in
-    let n3 = none_left (f1 ++ f2 ++ f3) f4 n4 in
-    let n2 = none_left (f1 ++ f2) f3 n3 in
-    let taken : is_refused own k p ≡ false = no_fault (is_refused own k p) OutOfProfile (place_of p given) (none_right f1 f2 n2) in
-    let named : lacks_name defines p ≡ false = no_fault (lacks_name defines p) OutOfProfile given.first (none_right (f1 ++ f2) f3 n3) in
-    let host : is_host_pointer own p ≡ false = (neither (nat_eq k 8) (is_host_pointer own p) taken).1 in
+    let n5 = append_nil_second (f1 ++ f2 ++ f3 ++ f4) (attribute_faults own p given) none in
+    let n4 = append_nil_first (f1 ++ f2 ++ f3 ++ f4) (attribute_faults own p given) none in
+    let n3 = append_nil_first (f1 ++ f2 ++ f3) f4 n4 in
+    let n2 = append_nil_first (f1 ++ f2) f3 n3 in
+    let taken : is_refused own k p ≡ false = no_fault (is_refused own k p) OutOfProfile (place_of p given) (append_nil_second f1 f2 n2) in
+    let named : lacks_name defines p ≡ false = no_fault (lacks_name defines p) OutOfProfile given.first (append_nil_second (f1 ++ f2) f3 n3) in
+    let host : is_host_pointer own p ≡ false = (or_parts (nat_eq k 8) (is_host_pointer own p) taken).1 in
     let is : param_type own defines k p given ≡ object_type kind.Parameter given p.pointer p.suffix =
     ap (λ b. if b || lacks_name defines p then ty.Bad else object_type kind.Parameter given p.pointer p.suffix) taken
     ∙ ap (λ b. if b then ty.Bad else object_type kind.Parameter given p.pointer p.suffix) named in
@@ -116,9 +116,9 @@ params_may own defines n env structs (p ∷ ps) none good zero m h =
     let k = length env.variables in
     let x : Variable = param_variable own defines k p j.given in
     let repeated = is_repeated env (is_some p.name) x in
-    let none_one = none_right j.faults (param_faults own defines k p j.given repeated) (none_left one.faults rest.faults none) in
+    let none_one = append_nil_second j.faults (param_faults own defines k p j.given repeated) (append_nil_first one.faults rest.faults none) in
     let there : slice_get rest.env.variables k ≡ Some x = params_kept own defines one.env one.structs ps k x (ap (λ xs. slice_get xs k) (more_variables env (is_some p.name) x) ∙ get_last env.variables x) in
-    let fits : IsTrue (is_parameter n x.ty) = all_get (is_parameter n) (map (λ x. x.ty) rest.env.variables) k x.ty good (get_mapped (λ (x : Variable). x.ty) rest.env.variables k x there) in
+    let fits : IsTrue (is_parameter n x.ty) = all_hold_at (is_parameter n) (map (λ x. x.ty) rest.env.variables) k x.ty good (get_mapped (λ (x : Variable). x.ty) rest.env.variables k x there) in
     let may = one_may own defines n k p j.given repeated refl none_one fits in
     let is : own_marks p.specs ≡ m = cc in
     let zero_on : k + 0 ≡ k = omega arith in
@@ -137,7 +137,7 @@ params_may own defines n env structs (p ∷ ps) none good (suc j) m h =
     let x : Variable = param_variable own defines (length env.variables) p (specified false structs p.specs).given in
     let longer : length one.env.variables ≡ suc (length env.variables) = ap length (more_variables env (is_some p.name) x) ∙ length_pushed env.variables x in
     let number : length one.env.variables + j ≡ length env.variables + suc j = omega (arith, longer) in
-    subst (λ i. May own.privileged (MutableVariable rest.env.variables i) m) number (params_may own defines n one.env one.structs ps (none_right one.faults rest.faults none) good j m h)
+    subst (λ i. May own.privileged (MutableVariable rest.env.variables i) m) number (params_may own defines n one.env one.structs ps (append_nil_second one.faults rest.faults none) good j m h)
 
 -- each variable has the mark of its place
 abbrev pub PlacedUnpriv : FunctionMarks → List Variable → Type 0

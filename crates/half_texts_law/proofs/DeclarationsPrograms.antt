@@ -3,6 +3,10 @@ use Rattle.std.proofs.Common.{◌≡◌, ◌++◌, ◌∙◌, sym, ap, subst, re
 use Rattle.std.specs.Prelude.{IsTrue, ◌&&◌, ◌||◌, slice_get, ◌<◌, ◌+◌}
 use Rattle.std.specs.List.{list_all, list_any}
 use Rattle.std.specs.Str.{bytes_eq}
+use Rattle.std.proofs.lemmas.Bool.{and_from}
+use Rattle.pt_base.proofs.Booleans.{both_hold, both_hold_first, both_hold_second}
+use Rattle.pt_base.proofs.Lists.{append_nil_first, append_nil_second, bytes_eq_same}
+use Rattle.pt_base.proofs.Members.{all_hold_append}
 use Rattle.pt_tree.specs.declared.signature.Param.{Param}
 use Rattle.pt_tree.specs.declared.signature.Signature.{Signature}
 use Rattle.pt_tree.specs.Facts.{specs_sound, word_sound, suffix_sound, declarator_sound, params_sound, body_sound, item_sound, items_sound}
@@ -12,13 +16,11 @@ use Rattle.pt_tree.specs.StatementTree.{InitDeclaratorTree, DeclarationTree}
 use Rattle.typed_tree.specs.declared.variable.TypedGlobal.{TypedGlobal}
 use Rattle.typed_tree.specs.declared.variable.Var.{Var}
 use Rattle.typed_tree.specs.TypedTree.{FunctionTree}
-use Rattle.typed_tree.proofs.WellFormedLemmas.{and_left, and_right, and_both}
 use Rattle.check_declarations.specs.declared.fault.TypeFault.{TypeFault}
 use Rattle.check_declarations.specs.declared.specifiers.Specified.{Specified}
 use Rattle.check_declarations.specs.Marks.{marks_of, mark_faults}
 use Rattle.check_declarations.specs.Specifiers.{specified}
 use Rattle.check_declarations.specs.Structs.{Structs}
-use Rattle.type_law.proofs.DeclarationsFaultLemmas.{none_left, none_right}
 use Rattle.type_law.specs.DeclarationsTypes.{is_base}
 use Rattle.type_law.specs.DeclarationsLaws.{SpecifiersAreSound, ObjectsAreSound, SizesAreSound, LeavesAreSound}
 use Rattle.check_expressions.specs.declared.meaning.Meaning.{Meaning}
@@ -30,9 +32,9 @@ use Rattle.check_programs.specs.Globals.{declared_one, declared_all, global_carr
 use Rattle.check_programs.specs.Programs.{checked_item, checked_items, function_name, tree_of, nowhere, main_faults, checked_program, type_faults}
 use Rattle.check_programs.specs.Progress.{Progress, at_start}
 use Rattle.check_programs.specs.Unions.{declarations_of, undeclared, function_marks, marks_at, with_declaration}
-use Rattle.type_law.proofs.ProgramsListLemmas.{all_of, all_joined, get_unmapped}
+use Rattle.type_law.proofs.ProgramsListLemmas.{all_of, get_unmapped}
 use Rattle.type_law.proofs.ProgramsOpened.{some_same}
-use Rattle.type_law.proofs.ProgramsTableLemmas.{sought, name_same}
+use Rattle.type_law.proofs.ProgramsTableLemmas.{sought}
 use Rattle.type_law.proofs.ProgramsSound.{signatures, SoundProgress, SoundTables, tables_moved}
 use Rattle.type_law.proofs.ProgramsGlobals.{all_globals}
 use Rattle.type_law.proofs.ProgramLemmas.{Laws, item_step, begun}
@@ -58,7 +60,7 @@ globals_fine : (given : Specified) (st : Progress) (ds : List InitDeclaratorTree
     → IsTrue (list_all global_fine st.globals) → IsTrue (list_all global_fine (declared_all given st ds).progress.globals)
 globals_fine given st [] fine h = h
 globals_fine given st (d ∷ ds) fine h =
-    globals_fine given (declared_one given st d).progress ds fine (all_joined global_fine st.globals _ h (and_both (not ((marks_of given.attributes).marked && (marks_of given.attributes).unpriv)) true fine refl))
+    globals_fine given (declared_one given st d).progress ds fine (all_hold_append global_fine st.globals _ h (both_hold (not ((marks_of given.attributes).marked && (marks_of given.attributes).unpriv)) true fine refl))
 
 -- ---- one item
 
@@ -84,15 +86,15 @@ declaration_walked laws marks d rest st s none =
     let j = specified true st.structs d.specs in
     let own = mark_faults (global_carrier d.declarators) j.given.attributes in
     let all : Checked = declared_all j.given (record st { structs = j.structs }) d.declarators in
-    let none_two = none_left (j.faults ++ own) all.faults none in
-    let judged = laws.specifiers true st.structs d.specs s.tables.structs (none_left j.faults own none_two) in
+    let none_two = append_nil_first (j.faults ++ own) all.faults none in
+    let judged = laws.specifiers true st.structs d.specs s.tables.structs (append_nil_first j.faults own none_two) in
     let tables = tables_moved marks (declares d ∷ rest) rest st st.env.scopes st.env.variables j.structs judged.more st.has_main judged.grown judged.sound (λ n. refl) s.tables in
-    let step = all_globals laws.objects laws.sizes laws.leaves marks rest j.given (record st { structs = j.structs }) d.declarators tables judged.base (none_right (j.faults ++ own) all.faults none) in
+    let step = all_globals laws.objects laws.sizes laws.leaves marks rest j.given (record st { structs = j.structs }) d.declarators tables judged.base (append_nil_second (j.faults ++ own) all.faults none) in
     record {
       walked = λ w. record {
         structs = subst (λ x. Structured x) (sym step.structs) (specified_apart true st.structs d.specs w.structs);
         entries = subst (λ fs. EntriesMarked marks fs) (sym step.functions) w.entries;
-        globals = globals_of j.given d.declarators (none_right j.faults own none_two) w.globals;
+        globals = globals_of j.given d.declarators (append_nil_second j.faults own none_two) w.globals;
       };
       kept = λ k x h. ap (λ fs. slice_get (signatures fs) k) step.functions ∙ h;
       declared = λ name. tt {0};
@@ -106,10 +108,10 @@ declaration_walked laws marks d rest st s none =
 function_walked : Laws → (marks : List ℕ → FunctionMarks) (f : parsed.FunctionTree) (rest : List ItemTree) (st : Progress) → SoundProgress marks (function f ∷ rest) st → IsTrue (item_sound (function f))
     → (checked_item (marks (function_name (function f))) st (function f)).faults ≡ [] → Progressed marks (function f ∷ []) st (checked_item (marks (function_name (function f))) st (function f)).progress
 function_walked laws marks f rest st s constants none =
-    let outer = and_left (specs_sound f.specs && declarator_sound f.declarator) (params_sound f.params && body_sound f.body) constants in
-    let inner = and_right (specs_sound f.specs && declarator_sound f.declarator) (params_sound f.params && body_sound f.body) constants in
-    let short = and_left (word_sound f.declarator.name) (suffix_sound f.declarator.suffix) (and_right (specs_sound f.specs) (declarator_sound f.declarator) outer) in
-    let step = function_stepped laws.specifiers laws.objects laws.results laws.bodies laws.kept marks f rest st s short (and_right (params_sound f.params) (body_sound f.body) inner) none in
+    let outer = both_hold_first (specs_sound f.specs && declarator_sound f.declarator) (params_sound f.params && body_sound f.body) constants in
+    let inner = both_hold_second (specs_sound f.specs && declarator_sound f.declarator) (params_sound f.params && body_sound f.body) constants in
+    let short = both_hold_first (word_sound f.declarator.name) (suffix_sound f.declarator.suffix) (both_hold_second (specs_sound f.specs) (declarator_sound f.declarator) outer) in
+    let step = function_stepped laws.specifiers laws.objects laws.results laws.bodies laws.kept marks f rest st s short (both_hold_second (params_sound f.params) (body_sound f.body) inner) none in
     record {
       walked = λ w. record { structs = step.structs w.structs; entries = step.entries w.entries; globals = subst (λ gs. IsTrue (list_all global_fine gs)) (sym step.globals) w.globals };
       kept = step.kept;
@@ -118,7 +120,7 @@ function_walked laws marks f rest st s constants none =
   where
     go : (name : List ℕ) (b : Bool) → bytes_eq f.declarator.name.bytes name ≡ b → DeclaredIn marks (checked_item (marks (function_name (function f))) st (function f)).progress.functions f.declarator.name.bytes f
         → DeclaredAll marks (checked_item (marks (function_name (function f))) st (function f)).progress.functions name (if b then f ∷ [] else [])
-    go name true e is = (subst (λ n. DeclaredIn marks (checked_item (marks (function_name (function f))) st (function f)).progress.functions n f) (name_same f.declarator.name.bytes name e) is, tt {0})
+    go name true e is = (subst (λ n. DeclaredIn marks (checked_item (marks (function_name (function f))) st (function f)).progress.functions n f) (bytes_eq_same f.declarator.name.bytes name e) is, tt {0})
     go name false e is = tt {0}
 
 item_walked : Laws → (marks : List ℕ → FunctionMarks) (item : ItemTree) (rest : List ItemTree) (st : Progress) → SoundProgress marks (item ∷ rest) st → IsTrue (item_sound item)
@@ -148,11 +150,11 @@ all_through laws marks [] st s constants none = record { progressed = record { w
 all_through laws marks (item ∷ items) st s constants none =
     let one : Checked = checked_item (marks (function_name item)) st item in
     let more : Checked = checked_items marks one.progress items in
-    let sound = and_left (item_sound item) (items_sound items) constants in
-    let none_one = none_left one.faults more.faults none in
+    let sound = both_hold_first (item_sound item) (items_sound items) constants in
+    let none_one = append_nil_first one.faults more.faults none in
     let step = item_walked laws marks item items st s sound none_one in
     let next = item_step laws marks item items st s sound none_one in
-    let rest = all_through laws marks items one.progress next (and_right (item_sound item) (items_sound items) constants) (none_right one.faults more.faults none) in
+    let rest = all_through laws marks items one.progress next (both_hold_second (item_sound item) (items_sound items) constants) (append_nil_second one.faults more.faults none) in
     record {
       progressed = record {
         walked = λ w. rest.progressed.walked (step.walked w);
@@ -197,17 +199,14 @@ excluded false b h = refl
 excluded true false h = refl
 excluded true true h = sym (h refl)
 
-both_true : (a b : Bool) → a ≡ true → b ≡ true → (a && b) ≡ true
-both_true a b h i = and_both a b h i
-
 signature_fine : (marks : List ℕ → FunctionMarks) (e : FunctionTree) → EntryMarked marks e → Fine (marks e.signature.name).privileged e.signature.params (marks e.signature.name) → IsTrue (signature_marked e.signature)
 signature_fine marks e m f =
-    and_both (not e.signature.declassify || e.signature.privileged) (list_all (param_marked e.signature) e.signature.params)
+    both_hold (not e.signature.declassify || e.signature.privileged) (list_all (param_marked e.signature) e.signature.params)
     (implied e.signature.declassify e.signature.privileged (λ h. m.privileged ∙ f.own (sym m.declassify ∙ h)))
     (all_of (param_marked e.signature) e.signature.params (λ j q is.
     implied q.declassify (e.signature.privileged && is_mutable q.kind) (λ h.
     let may = (f.params_may j).declassify (sym (m.params_declassify j q is) ∙ h) in
-    both_true e.signature.privileged (is_mutable q.kind) (m.privileged ∙ may.0) (may.1 q is))))
+    and_from e.signature.privileged (is_mutable q.kind) (m.privileged ∙ may.0) (may.1 q is))))
 
 -- one of the first is such
 taken_any : {X : Type 0} (q : X → Bool) (n : ℕ) (xs : List X) → list_any q (take n xs) ≡ true → (j : ℕ) × (x : X) × (j < n) × (slice_get xs j ≡ Some x) × (q x ≡ true)
@@ -232,7 +231,7 @@ trees_marked laws items constants none =
     let marks : List ℕ → FunctionMarks = function_marks items in
     let c : Checked = checked_items marks at_start items in
     let st : Progress = c.progress in
-    let through = all_through laws marks items at_start (begun items) constants (none_left c.faults (main_faults st.has_main) none) in
+    let through = all_through laws marks items at_start (begun items) constants (append_nil_first c.faults (main_faults st.has_main) none) in
     let walked = through.progressed.walked (record { structs = record { tags = refl; fields = refl }; entries = λ k e h. cc; globals = refl }) in
     let fine : (k : ℕ) (e : FunctionTree) → slice_get st.functions k ≡ Some e → Fine (marks e.signature.name).privileged e.signature.params (marks e.signature.name) =
     λ k e is. fine_all (marks e.signature.name).privileged e.signature.params undeclared (declarations_of items e.signature.name) (fine_none (marks e.signature.name).privileged e.signature.params)

@@ -1,13 +1,13 @@
 -- Whether code can be said depends only on the globals that it names and on what it calls.
 use Rattle.std.proofs.Common.{◌≡◌, ◌∙◌, ℕ, refl, ap, Bool, Option, Some, List, [], ◌∷◌, ◌++◌}
 use Rattle.std.specs.Prelude.{◌&&◌, ◌||◌, not}
+use Rattle.pt_base.proofs.Members.{contains_first}
 use Rattle.pt_tree.specs.declared.signature.Param.{Param}
 use Rattle.pt_tree.specs.declared.signature.Signature.{Signature}
 use Rattle.typed_tree.specs.declared.types.VarTy.{VarTy}
 use Rattle.typed_tree.specs.declared.types.StructInfo.{StructInfo}
 use Rattle.typed_tree.specs.TypeTests.{points_to_const}
 use Rattle.typed_tree.specs.WellFormedExpression.{param_type}
-use Rattle.reach.proofs.ListLemmas.{contains_first}
 use Rattle.pt_core.specs.CodeTree.{RootTree, local, global, deref, PlaceTree, place, ExprTree, constant, read, unary, binary, convert, null, address, decay, move, compare, difference, ExprTrees, no_exprs, expr_and, StmtTree, clear, check, assign, copy, call, choose, repeat, break_out, continue_on, give_back, StmtTrees, no_stmts, stmt_and}
 use Rattle.pt_core.specs.Types.{place_type}
 use Rattle.pt_core.specs.WellFormedStatement.{callees_in, callees_of}

@@ -1,19 +1,18 @@
 -- What can be said of a whole program's code can be said of a half's, which has all that its code names.
-use Rattle.std.proofs.Common.{◌≡◌, ◌∙◌, ℕ, zero, suc, refl, ap, sym, subst, arith, Bool, true, false, not, Option, Some, None, List, [], ◌∷◌, length, map, if◌then◌else◌, take}
-use Rattle.std.specs.Prelude.{IsTrue, nat_eq, slice_get, option_map}
+use Rattle.std.proofs.Common.{◌≡◌, ◌∙◌, ℕ, zero, suc, sym, subst, Bool, true, false, Option, Some, List, [], ◌∷◌, map}
+use Rattle.std.specs.Prelude.{IsTrue, slice_get}
 use Rattle.std.specs.List.{filter, AllByRecursion}
-use Rattle.std.proofs.Math.Seq.{take-length}
-use Rattle.std.proofs.lemmas.Bool.Decides.{nat_tests}
+use Rattle.pt_base.proofs.Booleans.{both_hold_first}
 use Rattle.pt_tree.specs.declared.signature.Signature.{Signature}
 use Rattle.typed_tree.specs.declared.variable.Var.{Var}
 use Rattle.typed_tree.specs.TypedTree.{TypedTree}
 use Rattle.typed_tree.specs.WellFormed.{is_well_formed}
-use Rattle.typed_tree.proofs.WellFormedLemmas.{and_left, and_right, facts_of}
+use Rattle.typed_tree.proofs.WellFormedLemmas.{facts_of}
 use Rattle.pt_core.specs.CodeTree.{FunctionTree, ProgramTree, GlobalTree}
 use Rattle.pt_core.specs.WellFormed as well
-use Rattle.pt_core.specs.WellFormed.{signature_at, function_at, with_own, called_signature, context_of, function_by, has_main, is_sound}
+use Rattle.pt_core.specs.WellFormed.{called_signature, context_of, has_main, is_sound}
 use Rattle.pt_core.specs.WellFormedStatement.{callees_of}
-use Rattle.pt_core.proofs.WellFormedLemmas.{function_is_sound}
+use Rattle.pt_core.proofs.ServingLemmas.{same_calls}
 use Rattle.lowering.specs.Functions.{core_program, functions_from}
 use Rattle.lowered_code_law.proofs.FormsPrograms.{programs_are_well_formed}
 use Rattle.lowered_code_law.specs.NamesNamed.{globals_of}
@@ -81,38 +80,11 @@ slaves_said t h well nulls are =
 
 -- ---- the monitor, whose functions are called with all their parameters
 
-either : {A : Type 0} (b : Bool) (x y : A) → x ≡ y → (if b then x else y) ≡ y
-either true x y h = h
-either false x y h = refl
-
-all_taken : {A : Type 0} (n : ℕ) (xs : List A) → n ≡ length xs → take n xs ≡ xs
-all_taken n xs h = ap (λ k. take k xs) h ∙ take-length xs
-
-all_own : (p : ProgramTree) (g : FunctionTree) (s : Signature) → IsTrue (function_by false p g (Some s)) → g.params ≡ length s.params
-all_own p g s h =
-    let counts : IsTrue (nat_eq g.params (length s.params)) = and_left _ _ (and_right (not s.host) _ (and_left _ _ h)) in
-    grind (arith, nat_tests, counts)
-
-same_number : (f k : ℕ) → IsTrue (nat_eq f k) → f ≡ k
-same_number f k h = grind (arith, nat_tests, h)
-
-own_is_all : (p : ProgramTree) → IsTrue (is_sound false p) → (f : ℕ) (g : Option FunctionTree) (s : Option Signature) → function_at p f ≡ g → signature_at p f ≡ s → option_map (with_own true g) s ≡ option_map (with_own false g) s
-own_is_all p h f None None at is = refl
-own_is_all p h f None (Some s) at is = refl
-own_is_all p h f (Some g) None at is = refl
-own_is_all p h f (Some g) (Some s) at is =
-    let found = function_is_sound false p f g h at in
-    let here = subst (λ x. IsTrue (function_by false p g x)) (ap (signature_at p) (sym (same_number f g.id found.1)) ∙ is) found.0 in
-    ap Some (either (not s.host) (record s { params = take g.params s.params }) s (ap (λ xs. record s { params = xs }) (all_taken g.params s.params (all_own p g s here))))
-
-same_calls : (p : ProgramTree) → IsTrue (is_sound false p) → called_signature true p ≡ called_signature false p
-same_calls p h = λ i f. own_is_all p h f (function_at p f) (signature_at p f) refl refl i
-
 monitor_said : (t : TypedTree) (h : Halves) → IsTrue (is_well_formed t) → IsTrue (nulls_stand t) → AreHalves t h → SharesNothing t → CodeIsSaid true (monitor.half t h)
 unfolding well.is_well_formed
 monitor_said t h sound nulls are apart n f is =
     let p = core_program t in
-    let whole = and_left (is_sound false p) (has_main p) (programs_are_well_formed t sound) in
+    let whole = both_hold_first (is_sound false p) (has_main p) (programs_are_well_formed t sound) in
     let signed = monitor.signed t h in
     let kept = is_among h.monitor in
     let owned = monitor.owned h in

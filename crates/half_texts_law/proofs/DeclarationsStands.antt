@@ -2,6 +2,8 @@
 use Rattle.std.proofs.Common.{◌≡◌, ◌∙◌, sym, ap, subst, refl, ℕ, zero, suc, Bool, true, false, List, [], ◌∷◌, ◌++◌, map, arith, ◌+◌, cond, not, length, Option, Some, None}
 use Rattle.std.specs.Prelude.{IsTrue, ◌&&◌, ◌||◌, slice_get, flat_map}
 use Rattle.std.specs.List.{list_all, list_any}
+use Rattle.pt_base.proofs.Booleans.{from_not_false}
+use Rattle.pt_base.proofs.Lists.{append_nil_first, append_nil_second}
 use Rattle.check_declarations.specs.declared.fault.FaultKind.TheVariants.{BadAttribute}
 use Rattle.check_declarations.specs.declared.fault.TypeFault.{TypeFault}
 use Rattle.check_declarations.specs.declared.marks.Attribute.{Attribute}
@@ -11,11 +13,7 @@ use Rattle.check_declarations.specs.declared.marks.Mark.{Mark}
 use Rattle.check_declarations.specs.declared.marks.Mark.TheVariants.{Priv, Unpriv, Declassify, Other}
 use Rattle.check_declarations.specs.Faults.{fault_if}
 use Rattle.check_declarations.specs.Marks.{is_priv, is_unpriv, is_declassify, marks_of, may_stand, mark_faults}
-use Rattle.type_law.proofs.DeclarationsFaultLemmas.{none_left, none_right, no_fault}
-
-not_false : (b : Bool) → not b ≡ false → b ≡ true
-not_false true h = refl
-not_false false h = cc
+use Rattle.type_law.proofs.DeclarationsFaultLemmas.{no_fault}
 
 -- one of these marks is there, and may stand
 pub record Standing (carrier : Carrier) (marked : Bool) (q : Mark → Bool) : Type 0 where
@@ -28,13 +26,13 @@ faults_of carrier marked attributes = flat_map (λ a. fault_if (not (may_stand c
 
 found : (carrier : Carrier) (marked : Bool) (q : Mark → Bool) (as' : List Attribute) → faults_of carrier marked as' ≡ [] → list_any (λ a. q a.mark) as' ≡ true → Standing carrier marked q
 found carrier marked q [] none h = cc
-found carrier marked q (a ∷ rest) none h = go (found carrier marked q rest (none_right (fault_if (not (may_stand carrier marked a.mark)) BadAttribute a.span) (faults_of carrier marked rest) none)) (q a.mark) refl h
+found carrier marked q (a ∷ rest) none h = go (found carrier marked q rest (append_nil_second (fault_if (not (may_stand carrier marked a.mark)) BadAttribute a.span) (faults_of carrier marked rest) none)) (q a.mark) refl h
   where
     go : (list_any (λ a. q a.mark) rest ≡ true → Standing carrier marked q) → (b : Bool) → q a.mark ≡ b → (b || list_any (λ a. q a.mark) rest) ≡ true → Standing carrier marked q
     go again true e h = record {
       mark = a.mark;
       is = e;
-      stands = not_false (may_stand carrier marked a.mark) (no_fault (not (may_stand carrier marked a.mark)) BadAttribute a.span (none_left (fault_if (not (may_stand carrier marked a.mark)) BadAttribute a.span) (faults_of carrier marked rest) none));
+      stands = from_not_false (may_stand carrier marked a.mark) (no_fault (not (may_stand carrier marked a.mark)) BadAttribute a.span (append_nil_first (fault_if (not (may_stand carrier marked a.mark)) BadAttribute a.span) (faults_of carrier marked rest) none));
     }
     go again false e h = again h
 

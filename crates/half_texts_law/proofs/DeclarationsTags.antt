@@ -4,12 +4,12 @@ use Rattle.std.specs.Prelude.{IsTrue, ◌&&◌, ◌||◌, slice_get, nat_eq}
 use Rattle.std.specs.List.{list_all, list_any}
 use Rattle.std.specs.Str.{bytes_eq}
 use Rattle.pt_base.specs.declared.span.Span.{Span}
+use Rattle.pt_base.proofs.Booleans.{both_hold, both_hold_first, both_hold_second, from_not_true}
 use Rattle.pt_tree.specs.declared.specifier.Declarator.{Declarator}
 use Rattle.pt_tree.specs.declared.word.Word.{Word}
 use Rattle.pt_tree.specs.SpecifierTree.{SpecTree, SpecTrees, FieldTree, FieldTrees, attribute, keyword, structure, no_specs, spec_and, field, no_fields, field_and}
 use Rattle.typed_tree.specs.declared.types.StructInfo.{StructInfo}
 use Rattle.typed_tree.specs.WellFormed.{are_distinct}
-use Rattle.typed_tree.proofs.WellFormedLemmas.{and_left, and_right, and_both}
 use Rattle.check_declarations.specs.declared.specifiers.Specified.{Specified}
 use Rattle.check_declarations.specs.declared.structs.FieldEntry.{FieldEntry}
 use Rattle.check_declarations.specs.declared.structs.StructEntry.{StructEntry}
@@ -29,10 +29,6 @@ Apart table = IsTrue (are_distinct (names_in table))
 
 -- ---- one name more
 
-not_true : (b : Bool) → not b ≡ true → b ≡ false
-not_true true h = cc
-not_true false h = refl
-
 module _ {X : Type 0} where
   pushed_none : (a b : List ℕ) (table : Named X) (x : X) → list_any (bytes_eq a) (names_in table) ≡ false → bytes_eq a b ≡ false → list_any (bytes_eq a) (names_in (table ++ (b, x) ∷ [])) ≡ false
   pushed_none a b [] x h i = ap (λ c. c || false) i
@@ -45,13 +41,13 @@ module _ {X : Type 0} where
 
   pushed_apart : (table : Named X) (b : List ℕ) (x : X) → sought table b ≡ None → Apart table → Apart (table ++ (b, x) ∷ [])
   pushed_apart [] b x new h = refl
-  pushed_apart (e ∷ table) b x new h = go (λ n. pushed_apart table b x n (and_right (not (list_any (bytes_eq e.0) (names_in table))) (are_distinct (names_in table)) h)) (bytes_eq b e.0) refl new
+  pushed_apart (e ∷ table) b x new h = go (λ n. pushed_apart table b x n (both_hold_second (not (list_any (bytes_eq e.0) (names_in table))) (are_distinct (names_in table)) h)) (bytes_eq b e.0) refl new
     where
       go : (sought table b ≡ None → Apart (table ++ (b, x) ∷ [])) → (c : Bool) → bytes_eq b e.0 ≡ c → (if c then Some e.1 else sought table b) ≡ None → Apart (e ∷ (table ++ (b, x) ∷ []))
       go again true i n = cc
       go again false i n =
-          and_both (not (list_any (bytes_eq e.0) (names_in (table ++ (b, x) ∷ [])))) (are_distinct (names_in (table ++ (b, x) ∷ [])))
-          (ap not (pushed_none e.0 b table x (not_true (list_any (bytes_eq e.0) (names_in table)) (and_left (not (list_any (bytes_eq e.0) (names_in table))) (are_distinct (names_in table)) h)) (name_other b e.0 i)))
+          both_hold (not (list_any (bytes_eq e.0) (names_in (table ++ (b, x) ∷ [])))) (are_distinct (names_in (table ++ (b, x) ∷ [])))
+          (ap not (pushed_none e.0 b table x (from_not_true (list_any (bytes_eq e.0) (names_in table)) (both_hold_first (not (list_any (bytes_eq e.0) (names_in table))) (are_distinct (names_in table)) h)) (name_other b e.0 i)))
           (again n)
 
   pub with_apart : (table : Named X) (b : List ℕ) (x : X) → Apart table → Apart (with_name table b x)
@@ -71,8 +67,8 @@ pub record Structured (structs : Structs) : Type 0 where
   pub fields : IsTrue (list_all fields_apart structs)
 
 pushed_all : (structs : Structs) (s : List ℕ × StructEntry) → IsTrue (list_all fields_apart structs) → IsTrue (fields_apart s) → IsTrue (list_all fields_apart (structs ++ s ∷ []))
-pushed_all [] s h i = and_both (fields_apart s) true i refl
-pushed_all (e ∷ structs) s h i = and_both (fields_apart e) (list_all fields_apart (structs ++ s ∷ [])) (and_left (fields_apart e) (list_all fields_apart structs) h) (pushed_all structs s (and_right (fields_apart e) (list_all fields_apart structs) h) i)
+pushed_all [] s h i = both_hold (fields_apart s) true i refl
+pushed_all (e ∷ structs) s h i = both_hold (fields_apart e) (list_all fields_apart (structs ++ s ∷ [])) (both_hold_first (fields_apart e) (list_all fields_apart structs) h) (pushed_all structs s (both_hold_second (fields_apart e) (list_all fields_apart structs) h) i)
 
 struct_more : (structs : Structs) (tag : List ℕ) (fields : Fields) → Structured structs → Apart fields → Structured (with_struct structs tag fields)
 struct_more structs tag fields s h = record { tags = with_apart structs tag (struct_of structs fields) s.tags; fields = go (is_new structs tag) }
@@ -132,6 +128,6 @@ tags_apart structs s = subst (λ ns. IsTrue (are_distinct ns)) (sym (tags_of str
 pub all_fields_apart : (structs : Structs) → IsTrue (list_all fields_apart structs) → IsTrue (list_all (λ s. are_distinct (map (λ f. f.name) s.fields)) (infos_of structs))
 all_fields_apart [] h = refl
 all_fields_apart (s ∷ structs) h =
-    and_both (are_distinct (map (λ f. f.name) (map field_info s.1.fields))) (list_all (λ s. are_distinct (map (λ f. f.name) s.fields)) (infos_of structs))
-    (subst (λ ns. IsTrue (are_distinct ns)) (sym (fields_of s.1.fields)) (and_left (fields_apart s) (list_all fields_apart structs) h))
-    (all_fields_apart structs (and_right (fields_apart s) (list_all fields_apart structs) h))
+    both_hold (are_distinct (map (λ f. f.name) (map field_info s.1.fields))) (list_all (λ s. are_distinct (map (λ f. f.name) s.fields)) (infos_of structs))
+    (subst (λ ns. IsTrue (are_distinct ns)) (sym (fields_of s.1.fields)) (both_hold_first (fields_apart s) (list_all fields_apart structs) h))
+    (all_fields_apart structs (both_hold_second (fields_apart s) (list_all fields_apart structs) h))

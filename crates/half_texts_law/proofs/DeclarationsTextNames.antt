@@ -8,8 +8,9 @@ use Rattle.std.specs.Str.Parse.{AllDigits}
 use Rattle.std.proofs.lemmas.Bool.Decides.{nat_tests}
 use Rattle.std.proofs.lemmas.Fmt.{decimal_injective, decimal_is_IsNumeral}
 use Rattle.std.proofs.lemmas.Str.Parse.{digit_from_value}
+use Rattle.pt_base.proofs.Lists.{bytes_eq_same, bytes_eq_self}
 use Rattle.half_trees.specs.Names.{is_name_start, is_name_byte, is_identifier, named}
-use Rattle.half_texts_law.proofs.DeclarationsNames.{Apart, name_self, name_same, name_other, before_both}
+use Rattle.half_texts_law.proofs.DeclarationsNames.{Apart, name_other, before_both}
 
 -- ---- identifiers and numbers
 
@@ -28,7 +29,7 @@ not_alike : (a b : List ℕ) → (a ≡ b → ⊥) → bytes_eq a b ≡ false
 not_alike a b differ = go (bytes_eq a b) refl
   where
     go : (x : Bool) → bytes_eq a b ≡ x → x ≡ false
-    go true e = absurd (differ (name_same a b e))
+    go true e = absurd (differ (bytes_eq_same a b e))
     go false e = refl
 
 name_no_number : (a : List ℕ) (n : ℕ) → is_identifier a ≡ true → n < 2 ^ 64 → bytes_eq a (decimal n) ≡ false
@@ -68,7 +69,7 @@ pub called_apart : Apart called_as
 called_apart j k a b less small other = go (bytes_eq a (codes "main")) (bytes_eq b (codes "main")) refl refl
   where
     both_main : bytes_eq a (codes "main") ≡ true → bytes_eq b (codes "main") ≡ true → true ≡ false
-    both_main e i = sym (name_self a) ∙ ap (bytes_eq a) (name_same a (codes "main") e ∙ sym (name_same b (codes "main") i)) ∙ other
+    both_main e i = sym (bytes_eq_self a) ∙ ap (bytes_eq a) (bytes_eq_same a (codes "main") e ∙ sym (bytes_eq_same b (codes "main") i)) ∙ other
 
     go : (x y : Bool) → bytes_eq a (codes "main") ≡ x → bytes_eq b (codes "main") ≡ y → bytes_eq (if x then codes "main" else named (codes "f_") j (Some a)) (if y then codes "main" else named (codes "f_") k (Some b)) ≡ false
     go true true e i = let same = both_main e i in cc

@@ -1,7 +1,8 @@
 -- What all declarations of a function mark together, where each of them may.
 use Rattle.std.proofs.Common.{◌≡◌, ◌∙◌, sym, ap, subst, refl, ℕ, zero, suc, Bool, true, false, List, [], ◌∷◌, ◌++◌, map, fold, not, length, Option, Some, None, inl, inr, if◌then◌else◌}
-use Rattle.std.specs.Prelude.{IsTrue, ◌&&◌, ◌||◌, ◌⊎◌, slice_get, unwrap_or, is_none, is_some}
+use Rattle.std.specs.Prelude.{IsTrue, ◌&&◌, ◌||◌, slice_get, unwrap_or, is_none, is_some}
 use Rattle.std.specs.List.{list_all, list_any}
+use Rattle.pt_base.proofs.Booleans.{both_hold_first, or_true_cases}
 use Rattle.pt_tree.specs.declared.signature.Param.{Param}
 use Rattle.pt_tree.specs.declared.specifier.SpecWord.{SpecWord}
 use Rattle.pt_tree.specs.declared.specifier.SpecWord.TheVariants as word
@@ -13,7 +14,6 @@ use Rattle.check_programs.specs.declared.function_marks.FunctionMarks.{FunctionM
 use Rattle.check_programs.specs.Parameters.{are_void_alone, is_void_param, parameters_of}
 use Rattle.check_programs.specs.Unions.{own_marks, no_marks, both, union, marks_at, undeclared, params_marks, with_declaration}
 use Rattle.half_names_law.specs.Declarable.{is_mutable}
-use Rattle.typed_tree.proofs.WellFormedLemmas.{and_left, and_right}
 
 -- what a parameter of these marks has to be
 pub record May (privileged : Bool) (mutable : Type 0) (m : Marks) : Type 0 where
@@ -37,17 +37,13 @@ pub record Fine (privileged : Bool) (params : List Param) (m : FunctionMarks) : 
   pub own : m.declassify ≡ true → privileged ≡ true
   pub params_may : (j : ℕ) → May privileged (MutableAt params j) (marks_at m.params j)
 
-either : (a b : Bool) → (a || b) ≡ true → (a ≡ true) ⊎ (b ≡ true)
-either true b h = inl refl
-either false b h = inr h
-
 may_nothing : (privileged : Bool) (mutable : Type 0) → May privileged mutable no_marks
 may_nothing privileged mutable = record { declassify = λ h. cc; unpriv = λ h. cc }
 
 may_both : (privileged : Bool) (mutable : Type 0) (a b : Marks) → May privileged mutable a → May privileged mutable b → May privileged mutable (both a b)
 may_both privileged mutable a b x y = record {
-  declassify = λ h. elim (either a.declassify b.declassify h) [ inl i ↦ x.declassify i | inr i ↦ y.declassify i ];
-  unpriv = λ h. elim (either a.unpriv b.unpriv h) [ inl i ↦ x.unpriv i | inr i ↦ y.unpriv i ];
+  declassify = λ h. elim (or_true_cases a.declassify b.declassify h) [ inl i ↦ x.declassify i | inr i ↦ y.declassify i ];
+  unpriv = λ h. elim (or_true_cases a.unpriv b.unpriv h) [ inl i ↦ x.unpriv i | inr i ↦ y.unpriv i ];
 }
 
 may_union : (privileged : Bool) (mutable : Type 0) (as' bs : List Marks) (j : ℕ) → May privileged mutable (marks_at as' j) → ((m : Marks) → slice_get bs j ≡ Some m → May privileged mutable m) → May privileged mutable (marks_at (union as' bs) j)
@@ -62,7 +58,7 @@ may_union privileged mutable (a ∷ as') (b ∷ bs) (suc j) x y = may_union priv
 
 fine_more : (privileged : Bool) (params : List Param) (m : FunctionMarks) (d : FunctionTree) → Fine privileged params m → Good privileged params d → Fine privileged params (with_declaration m d)
 fine_more privileged params m d f g = record {
-  own = λ h. elim (either m.declassify (own_marks d.specs).declassify h) [ inl i ↦ f.own i | inr i ↦ g.own i ];
+  own = λ h. elim (or_true_cases m.declassify (own_marks d.specs).declassify h) [ inl i ↦ f.own i | inr i ↦ g.own i ];
   params_may = λ j. may_union privileged (MutableAt params j) m.params (params_marks d.params) j (f.params_may j) (g.params_may j);
 }
 
@@ -93,7 +89,7 @@ written_may privileged mutable (p ∷ []) h j m i = go (is_void_param p) refl h 
     go false e h j m i = h j m i
     go true e h zero m i =
         let one : own_marks p.specs ≡ m = cc in
-        let none : own_marks p.specs ≡ no_marks = no_attributes p.specs (and_left (are_void_alone p.specs) (not (p.pointer || is_array_form p.suffix) && is_none p.name) e) in
+        let none : own_marks p.specs ≡ no_marks = no_attributes p.specs (both_hold_first (are_void_alone p.specs) (not (p.pointer || is_array_form p.suffix) && is_none p.name) e) in
         subst (λ z. May privileged (mutable 0) z) (sym none ∙ one) (may_nothing privileged (mutable 0))
     go true e h (suc j) m i = cc
 written_may privileged mutable (p ∷ q ∷ ps) h j m i = h j m i

@@ -5,14 +5,16 @@ use Rattle.std.specs.Prelude.{IsTrue, ◌&&◌, ◌||◌, if◌then◌else◌, i
 use Rattle.std.specs.Option.{option_map_or}
 use Rattle.std.specs.List.{Contains, filter, list_all, AllByRecursion}
 use Rattle.std.proofs.lemmas.List.Elements.{Contains-append_cases}
+use Rattle.lowered_code_law.proofs.FormsPrograms.{signature_of_function}
 use Rattle.pt_base.specs.declared.ids.FnId.{FnId}
+use Rattle.pt_base.proofs.Booleans.{both_hold, both_hold_first, both_hold_second}
+use Rattle.pt_base.proofs.Members.{contains_cases, contains_nothing}
 use Rattle.pt_tree.specs.declared.signature.Signature.{Signature}
 use Rattle.typed_tree.specs.StatementTree.{BodyTree}
 use Rattle.typed_tree.specs.TypedTree.{TypedTree, FunctionTree, signatures_of}
 use Rattle.typed_tree.specs.WellFormed.{are_rising}
-use Rattle.typed_tree.proofs.WellFormedLemmas.{and_left, and_right, and_both}
 use Rattle.reach.specs.Contexts.{has_body, InMonitor, is_privileged, monitor_calls, privileged, test_function}
-use Rattle.reach.proofs.ListLemmas.{contains_cases, contains_nothing, from_map}
+use Rattle.reach.proofs.ListLemmas.{from_map}
 use Rattle.pt_core.specs.declared.monitor.Entry.{Entry}
 use Rattle.pt_core.specs.CodeTree as core
 use Rattle.pt_core.specs.WellFormed.{bound_by, callee_by, callee_fits, callees, entries_fit, entry_by, entry_fits, function_at, is_sound, is_well_formed_monitor, monitor_program, signature_at}
@@ -22,7 +24,7 @@ use Rattle.splitter.specs.Halves.{Halves, called_by, entry_numbers, is_among, mo
 use Rattle.splitter.proofs.SetLemmas.{among_from, among_has}
 use Rattle.split_law.specs.Laws.{AreHalves, MonitorsAreWellFormed}
 use Rattle.split_law.proofs.Chosen.{chosen_find, chosen_lookup}
-use Rattle.split_law.proofs.LoweredCode.{all_signatures, code_found, signature_of_function}
+use Rattle.split_law.proofs.LoweredCode.{all_signatures, code_found}
 use Rattle.split_law.proofs.Monitors.{code, half, needed, signed}
 use Rattle.half_texts_law.specs.Calls.{prototypes_are_hosts}
 use Rattle.half_texts_law.specs.TextsLaws.{MonitorsDeclareHosts}
@@ -31,10 +33,10 @@ use Rattle.half_texts_law.specs.TextsLaws.{MonitorsDeclareHosts}
 
 each_holds : {A : Type 0} (q : A → Bool) (xs : List A) (x : A) → list_all q xs ≡ true → Contains xs x → q x ≡ true
 each_holds q [] x h c = absurd (contains_nothing x c)
-each_holds {A} q (y ∷ ys) x h c = go (λ i. each_holds q ys x (and_right (q y) (list_all q ys) h) i) (contains_cases y ys x c)
+each_holds {A} q (y ∷ ys) x h c = go (λ i. each_holds q ys x (both_hold_second (q y) (list_all q ys) h) i) (contains_cases y ys x c)
   where
     go : (Contains ys x → q x ≡ true) → (y ≡ x) ⊎ Contains ys x → q x ≡ true
-    go rest (inl e) = subst (λ (z : A). q z ≡ true) e (and_left (q y) (list_all q ys) h)
+    go rest (inl e) = subst (λ (z : A). q z ≡ true) e (both_hold_first (q y) (list_all q ys) h)
     go rest (inr i) = rest i
 
 chosen_hold : {A : Type 0} (q test : A → Bool) (xs : List A) → AllByRecursion (λ (x : A). test x ≡ true → q x ≡ true) xs → list_all q (filter test xs) ≡ true
@@ -42,7 +44,7 @@ chosen_hold q test [] h = refl
 chosen_hold {A} q test (x ∷ xs) h = go (chosen_hold q test xs h.1) (test x) refl
   where
     go : list_all q (filter test xs) ≡ true → (b : Bool) → test x ≡ b → list_all q (cond b (x ∷ filter test xs) (filter test xs)) ≡ true
-    go rest true e = and_both (q x) (list_all q (filter test xs)) (h.0 e) rest
+    go rest true e = both_hold (q x) (list_all q (filter test xs)) (h.0 e) rest
     go rest false e = rest
 
 -- ---- one function or host
@@ -76,7 +78,7 @@ bodied t f (privileged g h) = go (slice_get t.functions g.0) h
   where
     go : (o : Option FunctionTree) → IsTrue (option_map_or is_privileged o false) → IsTrue (option_map_or has_body o false)
     go None i = i
-    go (Some x) i = and_left (is_some x.body) x.signature.privileged i
+    go (Some x) i = both_hold_first (is_some x.body) x.signature.privileged i
 bodied t f (monitor_calls h g r c e) = e
 
 body_in : (o : Option BodyTree) → is_some o ≡ true → (b : BodyTree) × (o ≡ Some b)
@@ -109,7 +111,7 @@ one t h are sound fits k f is e = go (Contains-append_cases (called_by (monitor_
     asked c =
         let from = from_map (λ (x : Entry). x.function.0) (monitor_entries t h (code t)) k c in
         let each : IsTrue (list_all (entry_fits (half t h)) (monitor_entries t h (code t))) =
-        and_right (are_rising 0 (map (λ (x : Entry). x.function.0) (monitor_entries t h (code t)))) (list_all (entry_fits (half t h)) (monitor_entries t h (code t))) fits in
+        both_hold_second (are_rising 0 (map (λ (x : Entry). x.function.0) (monitor_entries t h (code t)))) (list_all (entry_fits (half t h)) (monitor_entries t h (code t))) fits in
         subst (λ (n : ℕ). Stands (half t h) n f.signature) from.2
         (by_entry (half t h) from.0 f.signature (ap (signature_at (half t h)) from.2 ∙ named) (each_holds (entry_fits (half t h)) (monitor_entries t h (code t)) from.0 each from.1))
 
@@ -130,4 +132,4 @@ pub declare_hosts : MonitorsAreWellFormed → MonitorsDeclareHosts
 unfolding is_well_formed_monitor
 declare_hosts monitors t h well are apart =
     let fits = monitors t h well are apart in
-    all_hosts t h are (and_left (is_sound true (half t h)) (entries_fit (half t h) (monitor_entries t h (code t))) fits) (and_right (is_sound true (half t h)) (entries_fit (half t h) (monitor_entries t h (code t))) fits)
+    all_hosts t h are (both_hold_first (is_sound true (half t h)) (entries_fit (half t h) (monitor_entries t h (code t))) fits) (both_hold_second (is_sound true (half t h)) (entries_fit (half t h) (monitor_entries t h (code t))) fits)

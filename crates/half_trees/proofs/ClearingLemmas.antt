@@ -1,7 +1,11 @@
 -- The leaves of structs by those of the structs before, and one part more that is cleared.
-use Rattle.std.proofs.Common.{◌≡◌, ℕ, zero, suc, ◌+◌, ◌-◌, ◌<◌, ◌≤◌, List, [], ◌∷◌, ◌++◌, Option, Some, None, length, get_or, take, drop, map, slice_get, unwrap_or, refl, sym, ap, ◌∙◌, subst, arith, rules, drop-cons, add-one}
+use Rattle.std.proofs.Common.{◌≡◌, ℕ, zero, suc, ◌+◌, ◌-◌, ◌<◌, ◌≤◌, List, [], ◌∷◌, ◌++◌, Option, Some, length, get_or, take, drop, map, slice_get, unwrap_or, refl, sym, ap, ◌∙◌, subst, arith, rules, drop-cons, add-one}
 use Rattle.std.proofs.lemmas.List.{map-append}
 use Rattle.std.specs.List.{flat_map, range_with_len}
+use Rattle.std.proofs.lemmas.Option.{slice_get_past}
+use Rattle.pt_base.proofs.Lists.{append_grouped, length_pushed}
+use Rattle.pt_base.proofs.Members.{range_first}
+use Rattle.pt_base.proofs.Places.{get_before, get_pushed, take_whole}
 use Rattle.pt_tree.specs.ExpressionTree as e
 use Rattle.pt_tree.specs.StatementTree as c
 use Rattle.pt_tree.specs.declared.signature.Elem.TheVariants as elem
@@ -12,27 +16,6 @@ use Rattle.half_trees.specs.Leaves.{Leaf, behind, object_leaves, struct_leaves, 
 use Rattle.half_trees.specs.declared.step.Step.{Step}
 
 -- ---- lists
-
-append_assoc : {A : Type 0} (xs ys zs : List A) → (xs ++ ys) ++ zs ≡ xs ++ (ys ++ zs)
-append_assoc [] ys zs = refl
-append_assoc (x ∷ xs) ys zs = ap (λ l. x ∷ l) (append_assoc xs ys zs)
-
-append_nil : {A : Type 0} (xs : List A) → xs ++ [] ≡ xs
-append_nil [] = refl
-append_nil (x ∷ xs) = ap (λ l. x ∷ l) (append_nil xs)
-
-length_more : {A : Type 0} (xs : List A) (x : A) → length (xs ++ x ∷ []) ≡ suc (length xs)
-length_more [] x = refl
-length_more (y ∷ xs) x = ap suc (length_more xs x)
-
-get_last : {A : Type 0} (xs : List A) (x : A) → slice_get (xs ++ x ∷ []) (length xs) ≡ Some x
-get_last [] x = refl
-get_last (y ∷ xs) x = get_last xs x
-
-get_before : {A : Type 0} (xs ys : List A) (i : ℕ) → i < length xs → slice_get (xs ++ ys) i ≡ slice_get xs i
-get_before [] ys i h = absurd (omega (arith, h))
-get_before (x ∷ xs) ys zero h = refl
-get_before (x ∷ xs) ys (suc i) h = get_before xs ys i (omega arith)
 
 take_less : {A : Type 0} (m n : ℕ) (xs : List A) → m ≤ n → take m (take n xs) ≡ take m xs
 take_less zero n xs h = refl
@@ -51,30 +34,25 @@ length_taken zero xs h = refl
 length_taken (suc n) [] h = absurd (omega (arith, h))
 length_taken (suc n) (x ∷ xs) h = ap suc (length_taken n xs (omega arith))
 
-get_none : {A : Type 0} (xs : List A) (i : ℕ) → length xs ≤ i → slice_get xs i ≡ None
-get_none [] i h = refl
-get_none (x ∷ xs) zero h = absurd (omega (arith, h))
-get_none (x ∷ xs) (suc i) h = get_none xs i (omega arith)
-
 -- ---- the leaves of structs
 
 leaves_kept : (known : List (List Leaf)) (xs : List StructInfo) (i : ℕ) → i < length known → slice_get (leaves_from known xs) i ≡ slice_get known i
 leaves_kept known [] i h = refl
 leaves_kept known (s ∷ xs) i h =
-    leaves_kept (known ++ struct_leaves known s ∷ []) xs i (omega (arith, length_more known (struct_leaves known s))) ∙ get_before known _ i h
+    leaves_kept (known ++ struct_leaves known s ∷ []) xs i (omega (arith, length_pushed known (struct_leaves known s))) ∙ get_before known _ i h
 
 leaves_length : (known : List (List Leaf)) (xs : List StructInfo) → length (leaves_from known xs) ≡ length known + length xs
 leaves_length known [] = omega arith
-leaves_length known (s ∷ xs) = omega (arith, leaves_length (known ++ struct_leaves known s ∷ []) xs, length_more known (struct_leaves known s))
+leaves_length known (s ∷ xs) = omega (arith, leaves_length (known ++ struct_leaves known s ∷ []) xs, length_pushed known (struct_leaves known s))
 
 leaves_at : (known : List (List Leaf)) (xs : List StructInfo) (j i : ℕ) (d : StructInfo) → j < length xs → i ≡ length known + j
     → slice_get (leaves_from known xs) i ≡ Some (struct_leaves (leaves_from known (take j xs)) (get_or xs j d))
 leaves_at known [] j i d h is = absurd (omega (arith, h))
 leaves_at known (s ∷ xs) zero i d h is =
     ap (slice_get (leaves_from (known ++ struct_leaves known s ∷ []) xs)) (omega arith)
-    ∙ leaves_kept (known ++ struct_leaves known s ∷ []) xs (length known) (omega (arith, length_more known (struct_leaves known s)))
-    ∙ get_last known (struct_leaves known s)
-leaves_at known (s ∷ xs) (suc j) i d h is = leaves_at (known ++ struct_leaves known s ∷ []) xs j i d (omega arith) (omega (arith, length_more known (struct_leaves known s)))
+    ∙ leaves_kept (known ++ struct_leaves known s ∷ []) xs (length known) (omega (arith, length_pushed known (struct_leaves known s)))
+    ∙ get_pushed known (struct_leaves known s)
+leaves_at known (s ∷ xs) (suc j) i d h is = leaves_at (known ++ struct_leaves known s ∷ []) xs j i d (omega arith) (omega (arith, length_pushed known (struct_leaves known s)))
 
 abbrev nothing : StructInfo
 nothing = record { name = []; fields = [] }
@@ -90,12 +68,7 @@ struct_is structs below n within all =
 -- another has no leaves
 pub struct_is_none : (structs : List StructInfo) (below n : ℕ) → below ≤ n → below ≤ length structs → element_below structs below (elem.Struct n) ≡ []
 struct_is_none structs below n beyond all =
-    ap (λ o. unwrap_or o []) (get_none (leaves_from [] (take below structs)) n (omega (arith, leaves_length [] (take below structs), length_taken below structs all)))
-
--- all structs
-take_all : {A : Type 0} (xs : List A) → take (length xs) xs ≡ xs
-take_all [] = refl
-take_all (x ∷ xs) = ap (λ l. x ∷ l) (take_all xs)
+    ap (λ o. unwrap_or o []) (slice_get_past (leaves_from [] (take below structs)) n (omega (arith, leaves_length [] (take below structs), length_taken below structs all)))
 
 -- ---- what is cleared
 
@@ -106,35 +79,25 @@ cleared_parts v path (x ∷ xs) ys = ap (λ l. zeroed v (path ++ x) ∷ l) (clea
 cleared_within : (v : ℕ) (path : Leaf) (p : e.PostfixTree) (xs : List Leaf) → cleared_behind v path (behind p xs) ≡ cleared_behind v (path ++ p ∷ []) xs
 cleared_within v path p [] = refl
 cleared_within v path p (x ∷ xs) =
-    ap (λ l. zeroed v l ∷ cleared_behind v path (behind p xs)) (sym (append_assoc path (p ∷ []) x)) ∙ ap (λ l. zeroed v ((path ++ p ∷ []) ++ x) ∷ l) (cleared_within v path p xs)
+    ap (λ l. zeroed v l ∷ cleared_behind v path (behind p xs)) (sym (append_grouped path (p ∷ []) x)) ∙ ap (λ l. zeroed v ((path ++ p ∷ []) ++ x) ∷ l) (cleared_within v path p xs)
 
 -- one part more
 pub part_more : (v : ℕ) (path inner : Leaf) (p : e.PostfixTree) (part rest : List Leaf) (before now all : List c.StmtTree)
     → inner ≡ path ++ p ∷ [] → now ≡ before ++ cleared_behind v inner part → before ++ cleared_behind v path (behind p part ++ rest) ≡ all → now ++ cleared_behind v path rest ≡ all
 part_more v path inner p part rest before now all is more whole =
     ap (λ l. l ++ cleared_behind v path rest) (more ∙ ap (λ l. before ++ cleared_behind v l part) is ∙ ap (λ l. before ++ l) (sym (cleared_within v path p part)))
-    ∙ append_assoc before _ _ ∙ ap (λ l. before ++ l) (sym (cleared_parts v path (behind p part) rest)) ∙ whole
+    ∙ append_grouped before _ _ ∙ ap (λ l. before ++ l) (sym (cleared_parts v path (behind p part) rest)) ∙ whole
 
 pub steps_more : (structs : List StructInfo) (path longer : List Step) (s : Step) → longer ≡ path ++ s ∷ [] → steps structs longer ≡ steps structs path ++ step structs s ∷ []
 steps_more structs path longer s is = ap (steps structs) is ∙ map-append (step structs) path (s ∷ [])
 
-pub nothing_more : {A : Type 0} (xs : List A) → xs ≡ xs ++ []
-nothing_more xs = sym (append_nil xs)
-
--- the first of a range
-pub range_first : (n count : ℕ) → n < count → range_with_len n (count - n) ≡ n ∷ range_with_len (n + 1) (count - (n + 1))
-range_first n count h = ap (range_with_len n) (one_less n count h)
-  where
-    one_less : (n count : ℕ) → n < count → count - n ≡ suc (count - (n + 1))
-    one_less n count h = omega arith
-
 -- the leaves of an object, by all structs
 pub all_leaves : (structs : List StructInfo) (ty : VarTy) → object_below structs (length structs) ty ≡ leaves_of structs ty
 unfolding leaves_of
-all_leaves structs ty = ap (λ ss. object_leaves (leaves_from [] ss) ty) (take_all structs)
+all_leaves structs ty = ap (λ ss. object_leaves (leaves_from [] ss) ty) (take_whole structs)
 
 -- one element more of those that a function gives
 pub element_more : {A : Type 0} (f : ℕ → A) (n count : ℕ) (before now all : List A) → n < count → now ≡ before ++ f n ∷ [] → before ++ map f (range_with_len n (count - n)) ≡ all
     → now ++ map f (range_with_len (n + 1) (count - (n + 1))) ≡ all
 element_more f n count before now all h more whole =
-    ap (λ l. l ++ map f (range_with_len (n + 1) (count - (n + 1)))) more ∙ append_assoc before (f n ∷ []) _ ∙ ap (λ ns. before ++ map f ns) (sym (range_first n count h)) ∙ whole
+    ap (λ l. l ++ map f (range_with_len (n + 1) (count - (n + 1)))) more ∙ append_grouped before (f n ∷ []) _ ∙ ap (λ ns. before ++ map f ns) (sym (range_first n count h)) ∙ whole

@@ -5,6 +5,7 @@ use Rattle.std.proofs.lemmas.Grind.{common_steps}
 use Rattle.std.specs.List.{position_from, find}
 use Rattle.std.specs.Map.{lookup}
 use Rattle.std.specs.Ordering.{nat_cmp, is_eq}
+use Rattle.pt_base.proofs.Numbers.{as_minus_self}
 use Rattle.typed_tree.specs.declared.types.VarTy.{VarTy}
 use Rattle.pt_core.specs.CodeTree.{view_global}
 use Rattle.pt_core.specs.declared.global.GlobalVar.{GlobalVar}
@@ -14,9 +15,6 @@ some_is i j h = search (rules, h)
 
 shifted : (i j : ℕ) → i + 1 ≤ j → j - i ≡ suc (j - (i + 1))
 shifted i j h = omega arith
-
-nothing : (i : ℕ) → 0 ≡ i - i
-nothing i = omega arith
 
 less_nothing : (i : ℕ) → i - 0 ≡ i
 less_nothing i = omega arith
@@ -51,7 +49,7 @@ looked {A} {B} key val n i (x ∷ xs) = go (nat_eq n (key x)) (position_from (na
     go : (b : Bool) (o : Option ℕ) → ((j : ℕ) → o ≡ Some j → i + 1 ≤ j)
         → lookup (nat_eq n) (map (λ x. (key x, val x)) xs) ≡ option_and_then (λ j. option_map val (slice_get xs (j - (i + 1)))) o
         → cond b (Some (val x)) (lookup (nat_eq n) (map (λ x. (key x, val x)) xs)) ≡ option_and_then (λ j. option_map val (slice_get (x ∷ xs) (j - i))) (cond b (Some i) o)
-    go true o bound rest = ap (λ k. option_map val (slice_get (x ∷ xs) k)) (nothing i)
+    go true o bound rest = ap (λ k. option_map val (slice_get (x ∷ xs) k)) (as_minus_self i)
     go false None bound rest = rest
     go false (Some j) bound rest = rest ∙ sym (ap (λ k. option_map val (slice_get (x ∷ xs) k)) (shifted i j (bound j refl)))
 

@@ -1,10 +1,9 @@
 -- No array has more elements than an object may have cells, wherever code names one.
-use Rattle.std.proofs.Common.{◌≡◌, ℕ, zero, suc, ◌+◌, ◌≤◌, Bool, true, false, List, [], ◌∷◌, Some, refl, ap, length, length-append, arith, nat_eq}
+use Rattle.std.proofs.Common.{◌≡◌, ℕ, suc, ◌+◌, ◌≤◌, Bool, true, false, List, [], ◌∷◌, Some, refl, ap, length, arith, nat_eq}
 use Rattle.std.specs.Prelude.{IsTrue, nat_le, unwrap_or}
 use Rattle.std.specs.List.{list_all}
 use Rattle.std.specs.Map.{lookup}
 use Rattle.std.proofs.lemmas.Bool.{and_parts, cond_both, leb-true, ltb-true, le-leb}
-use Rattle.pt_base.specs.declared.int_type.IntType.{IntType}
 use Rattle.pt_base.specs.declared.int_type.IntType.TheVariants as i
 use Rattle.pt_tree.specs.declared.signature.Elem.{Elem}
 use Rattle.pt_tree.specs.declared.signature.Elem.TheVariants as e
@@ -20,7 +19,8 @@ use Rattle.typed_tree.specs.WellFormedExpression.{is_elem}
 use Rattle.typed_tree.proofs.LeavesLemmas.{leaves_of_int, leaves_of_array}
 use Rattle.pt_core.specs.CodeTree.{RootTree, local, global, deref, PlaceTree, place, ExprTree, constant, read, unary, binary, convert, null, address, decay, move, compare, difference}
 use Rattle.pt_core.specs.Types.{Context, type_at, field_type, path_type, pointee_type, type_of, place_type, root_type}
-use Rattle.core_soundness_law.proofs.Leaves.{struct_leaf}
+use Rattle.core_soundness_law.proofs.Leaves.{struct_leaf, many}
+use Rattle.core_soundness_law.proofs.Objects.{plain_variable}
 use Rattle.half_trees_law.proofs.Tests.{both, all_got}
 
 -- as many elements as an object may have cells
@@ -105,14 +105,10 @@ elem_leaf : (structs : List StructInfo) → IsTrue (structs_sound structs 0 stru
 elem_leaf structs sound n low (e.Int t) h = let one : length (leaves_of structs (Int t)) ≡ 1 = ap length (leaves_of_int structs t) in omega (arith, one)
 elem_leaf structs sound n low (e.Struct m) h = let below = ltb-true m n h in struct_leaf structs sound m (omega (arith, low, below))
 
-repeated_length : (count : ℕ) (ts : List IntType) → 1 ≤ length ts → count ≤ length (repeated count ts)
-repeated_length zero ts h = omega arith
-repeated_length (suc count) ts h = let long = length-append ts (repeated count ts) in let rest = repeated_length count ts h in omega (arith, long, rest, h)
-
 array_length : (structs : List StructInfo) → IsTrue (structs_sound structs 0 structs) → (n : ℕ) → n ≤ length structs → (elem : Elem) (count : ℕ) → IsTrue (is_elem n (Some elem)) → count ≤ length (leaves_of structs (Array elem count))
 array_length structs sound n low elem count h =
     let all : length (leaves_of structs (Array elem count)) ≡ length (repeated count (leaves_of structs (type_of_elem elem))) = ap length (leaves_of_array structs elem count) in
-    let long = repeated_length count (leaves_of structs (type_of_elem elem)) (elem_leaf structs sound n low elem h) in
+    let long = many count (leaves_of structs (type_of_elem elem)) (elem_leaf structs sound n low elem h) in
     omega (arith, all, long)
 
 pub typed_counted : (structs : List StructInfo) → IsTrue (structs_sound structs 0 structs) → (n : ℕ) → n ≤ length structs → (ty : VarTy) → IsTrue (is_variable_type n ty) → IsTrue (is_small structs ty) → is_counted ty ≡ true
@@ -123,13 +119,6 @@ typed_counted structs sound n low (Array elem count) h small =
     let long = array_length structs sound n low elem count (and_parts (is_elem n (Some elem)) (nat_le 1 count) h).0 in
     let most = leb-true (length (leaves_of structs (Array elem count))) 65_536 small in
     le-leb count 65_536 (omega (arith, long, most))
-
--- a plain type is one that a variable may have
-pub variable_from_plain : (n : ℕ) (ty : VarTy) → IsTrue (is_plain_type n ty) → IsTrue (is_variable_type n ty)
-variable_from_plain n (Int t) h = h
-variable_from_plain n (Struct m) h = h
-variable_from_plain n (Array elem count) h = h
-variable_from_plain n (Pointer elem fixed) h = grind (arith, h)
 
 -- an object that is no pointer has an integer
 pub plain_leaf : (structs : List StructInfo) → IsTrue (structs_sound structs 0 structs) → (ty : VarTy) → IsTrue (is_plain_type (length structs) ty) → 1 ≤ length (leaves_of structs ty)
@@ -147,7 +136,7 @@ sound_fields_counted structs sound n low [] h = refl
 sound_fields_counted structs sound n low (f ∷ fs) h =
     let parts = and_parts (field_sound structs n f) (list_all (field_sound structs n) fs) h in
     let own = and_parts (is_plain_type n f.ty) (is_small structs f.ty) parts.0 in
-    both (typed_counted structs sound n low f.ty (variable_from_plain n f.ty own.0) own.1) (sound_fields_counted structs sound n low fs parts.1)
+    both (typed_counted structs sound n low f.ty (plain_variable n f.ty own.0) own.1) (sound_fields_counted structs sound n low fs parts.1)
 
 -- the structs of a list, of which so many stand before
 rest_counted : (structs : List StructInfo) → IsTrue (structs_sound structs 0 structs) → (n : ℕ) (rest : List StructInfo) → n + length rest ≤ length structs → IsTrue (structs_sound structs n rest) → structs_counted rest ≡ true

@@ -3,9 +3,11 @@ use Rattle.std.proofs.Common.{◌≡◌, ◌^◌, ◌%◌, ℕ, suc, ◌<◌, �
 use Rattle.std.specs.Prelude.{◌&&◌, IsTrue, int_le, not}
 use Rattle.std.specs.List.{list_all}
 use Rattle.std.proofs.lemmas.Bool.{and_parts, leb-true}
+use Rattle.core_soundness_law.proofs.Objects.{plain_variable}
 use Rattle.pt_base.specs.IntTypes.{high_of}
 use Rattle.pt_base.specs.declared.int_type.IntType.{IntType}
 use Rattle.pt_base.specs.declared.int_type.IntType.TheVariants as i
+use Rattle.pt_base.proofs.Members.{all_true_append}
 use Rattle.pt_tree.specs.declared.signature.Param.{Param}
 use Rattle.pt_tree.specs.declared.signature.Signature.{Signature}
 use Rattle.pt_tree.specs.SpecifierTree.{SpecTree, field_trees}
@@ -29,10 +31,10 @@ use Rattle.half_trees.specs.Names.{local_name, global_name, field_by}
 use Rattle.half_trees.specs.Declarations.{mark_specs, suffix_of, declarator_of, object, field_tree, fields_from, struct_item, parameter, parameters_or_void, declared_from, prototype_item, large, cell_tree, cells_init, integer_init, initial, global_item}
 use Rattle.half_trees.specs.Functions.{is_only_unpriv, variable_marks, parameters_from, locals_from, function_item}
 use Rattle.half_trees.specs.Statements.{statements_trees}
-use Rattle.half_trees_law.proofs.Tests.{both, all_joined, all_mapped_where, all_dropped}
+use Rattle.half_trees_law.proofs.Tests.{both, all_mapped_where, all_dropped}
 use Rattle.half_trees_law.proofs.Names.{local_is_name, global_is_name, function_by_is_name, struct_is_name, field_by_is_name}
 use Rattle.half_trees_law.proofs.Specifiers.{marks_plain, object_specs_plain, function_specs_plain, head_specs_plain}
-use Rattle.half_trees_law.proofs.Counts.{is_counted, are_counted, structs_counted, AreCounted, fields_counted, typed_counted, variable_from_plain, plain_leaf}
+use Rattle.half_trees_law.proofs.Counts.{is_counted, are_counted, structs_counted, AreCounted, fields_counted, typed_counted, plain_leaf}
 use Rattle.half_trees_law.proofs.Expressions.{number_plain}
 use Rattle.half_trees_law.proofs.Leaves.{small_is_int}
 use Rattle.half_trees_law.proofs.Statements.{statements_plain}
@@ -120,7 +122,7 @@ pub global_counted : (structs : List StructInfo) → IsTrue (structs_sound struc
 global_counted structs sound g h =
     let parts = and_parts (is_plain_type (length structs) g.var.ty && is_small structs g.var.ty) (cells_fit (leaves_of structs g.var.ty) g.cells) h in
     let own = and_parts (is_plain_type (length structs) g.var.ty) (is_small structs g.var.ty) parts.0 in
-    typed_counted structs sound (length structs) (omega arith) g.var.ty (variable_from_plain (length structs) g.var.ty own.0) own.1
+    typed_counted structs sound (length structs) (omega arith) g.var.ty (plain_variable (length structs) g.var.ty own.0) own.1
 
 pub global_plain : (structs : List StructInfo) → IsTrue (structs_sound structs 0 structs) → (g : GlobalTree) → IsTrue (global_fits structs g) → item_plain (global_item structs g) ≡ true
 global_plain structs sound g h =
@@ -181,5 +183,5 @@ function_plain monitor p d f h =
     both (head_specs_plain (signature_at p f.id))
     (both (both (function_by_is_name f.id (signature_at p f.id)) refl)
     (both (or_void_plain (parameters_from p.structs 0 (take f.params f.vars)) (parameters_plain p.structs 0 (take f.params f.vars)))
-    (all_joined stmt_plain (locals_from p.structs f.params (drop f.params f.vars)) (statements_trees p.signatures (context_of p f.vars) f.body)
+    (all_true_append stmt_plain (locals_from p.structs f.params (drop f.params f.vars)) (statements_trees p.signatures (context_of p f.vars) f.body)
     (locals_plain p.structs f.params (drop f.params f.vars) (all_dropped (λ (x : Var). is_counted x.ty) f.params f.vars fit.variables)) fit.statements)))

@@ -5,6 +5,7 @@ use Rattle.std.specs.List.{list_all, flat_map, range_with_len}
 use Rattle.std.proofs.lemmas.Bool.{and_parts, leb-true}
 use Rattle.pt_base.specs.IntTypes.{high_of}
 use Rattle.pt_base.specs.declared.int_type.IntType.TheVariants as i
+use Rattle.pt_base.proofs.Members.{all_true_append}
 use Rattle.pt_tree.specs.declared.signature.Elem.{Elem}
 use Rattle.pt_tree.specs.declared.signature.Elem.TheVariants as e
 use Rattle.pt_tree.specs.ExpressionTree.{PostfixTree, dot}
@@ -15,7 +16,7 @@ use Rattle.typed_tree.specs.declared.types.VarTy.TheVariants.{Int, Struct, Array
 use Rattle.c_printer.specs.Plain.{postfix_plain}
 use Rattle.half_trees.specs.Names.{nowhere, word, field_by}
 use Rattle.half_trees.specs.Leaves.{Leaf, behind, element, element_leaves, object_leaves, field_leaves, struct_leaves, leaves_from, leaves_of}
-use Rattle.half_trees_law.proofs.Tests.{both, all_joined}
+use Rattle.half_trees_law.proofs.Tests.{both}
 use Rattle.half_trees_law.proofs.Names.{field_by_is_name}
 use Rattle.half_trees_law.proofs.Counts.{is_counted, are_counted, structs_counted}
 use Rattle.half_trees_law.proofs.Expressions.{number_plain}
@@ -49,7 +50,7 @@ element_leaves_plain known (e.Struct n) h = found_plain known n h
 elements_plain : (leaves : List Leaf) → leaves_plain leaves ≡ true → (first count : ℕ) → first + count ≤ 65_536 → leaves_plain (flat_map (λ n. behind (element n) leaves) (range_with_len first count)) ≡ true
 elements_plain leaves h first zero low = refl
 elements_plain leaves h first (suc count) low =
-    all_joined leaf_plain (behind (element first) leaves) (flat_map (λ n. behind (element n) leaves) (range_with_len (first + 1) count))
+    all_true_append leaf_plain (behind (element first) leaves) (flat_map (λ n. behind (element n) leaves) (range_with_len (first + 1) count))
     (behind_plain (element first) leaves (element_plain first (omega (arith, low))) h) (elements_plain leaves h (first + 1) count (omega (arith, low)))
 
 object_leaves_plain : (known : List (List Leaf)) (ty : VarTy) → list_all leaves_plain known ≡ true → is_counted ty ≡ true → leaves_plain (object_leaves known ty) ≡ true
@@ -64,7 +65,7 @@ field_leaves_plain : (known : List (List Leaf)) (all : List Field) (k : ℕ) (fi
 field_leaves_plain known all k [] h are = refl
 field_leaves_plain known all k (f ∷ fs) h are =
     let parts = and_parts (is_counted f.ty) (are_counted fs) are in
-    all_joined leaf_plain (behind (dot nowhere (word (field_by all k))) (object_leaves known f.ty)) (field_leaves known all (suc k) fs)
+    all_true_append leaf_plain (behind (dot nowhere (word (field_by all k))) (object_leaves known f.ty)) (field_leaves known all (suc k) fs)
     (behind_plain (dot nowhere (word (field_by all k))) (object_leaves known f.ty) (field_by_is_name all k) (object_leaves_plain known f.ty h parts.0))
     (field_leaves_plain known all (suc k) fs h parts.1)
 
@@ -72,7 +73,7 @@ all_leaves_plain : (known : List (List Leaf)) (structs : List StructInfo) → li
 all_leaves_plain known [] h are = h
 all_leaves_plain known (s ∷ ss) h are =
     let parts = and_parts (are_counted s.fields) (structs_counted ss) are in
-    all_leaves_plain (known ++ struct_leaves known s ∷ []) ss (all_joined leaves_plain known (struct_leaves known s ∷ []) h (both (field_leaves_plain known s.fields 0 s.fields h parts.0) refl)) parts.1
+    all_leaves_plain (known ++ struct_leaves known s ∷ []) ss (all_true_append leaves_plain known (struct_leaves known s ∷ []) h (both (field_leaves_plain known s.fields 0 s.fields h parts.0) refl)) parts.1
 
 pub leaves_of_plain : (structs : List StructInfo) (ty : VarTy) → structs_counted structs ≡ true → is_counted ty ≡ true → list_all leaf_plain (leaves_of structs ty) ≡ true
 unfolding leaves_of

@@ -5,6 +5,7 @@ use Rattle.std.specs.List.{list_all}
 use Rattle.std.proofs.lemmas.Bool.{and_parts}
 use Rattle.pt_base.specs.declared.int_type.IntType.{IntType}
 use Rattle.pt_base.specs.declared.int_type.IntType.TheVariants as i
+use Rattle.pt_base.proofs.Members.{all_true_append}
 use Rattle.pt_tree.specs.declared.signature.Elem.{Elem}
 use Rattle.pt_tree.specs.declared.signature.Elem.TheVariants as e
 use Rattle.pt_tree.specs.declared.signature.Signature.{Signature}
@@ -17,7 +18,7 @@ use Rattle.c_lexer.specs.Spelling.{keyword_of}
 use Rattle.c_printer.specs.Plain.{spec_plain, each_spec_plain, specs_plain}
 use Rattle.half_trees.specs.Declarations.{int_specs, elem_specs, result_specs, mark_specs, const_specs, object_specs, function_specs}
 use Rattle.half_trees.specs.Functions.{head_specs}
-use Rattle.half_trees_law.proofs.Tests.{both, all_joined}
+use Rattle.half_trees_law.proofs.Tests.{both}
 use Rattle.half_trees_law.proofs.Names.{struct_is_name}
 
 each_plain : (ss : List SpecTree) → list_all spec_plain ss ≡ true → each_spec_plain (spec_trees ss) ≡ true
@@ -39,7 +40,7 @@ trees_plain (s ∷ ss) h = let parts = and_parts (spec_plain s) (list_all spec_p
 
 behind : (xs ys : List SpecTree) → list_all spec_plain xs ≡ true → are_some ys ≡ true → are_some (xs ++ ys) ≡ true
 behind [] ys h k = k
-behind (x ∷ xs) ys h k = let parts = and_parts (spec_plain x) (list_all spec_plain xs) h in both parts.0 (all_joined spec_plain xs ys parts.1 (all_of_some ys k))
+behind (x ∷ xs) ys h k = let parts = and_parts (spec_plain x) (list_all spec_plain xs) h in both parts.0 (all_true_append spec_plain xs ys parts.1 (all_of_some ys k))
 
 pub marks_plain : (priv unpriv declassify : Bool) → list_all spec_plain (mark_specs priv unpriv declassify) ≡ true
 unfolding keyword_of

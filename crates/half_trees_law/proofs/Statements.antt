@@ -3,6 +3,7 @@ use Rattle.std.proofs.Common.{◌≡◌, ℕ, ◌≤◌, Bool, true, List, [], �
 use Rattle.std.specs.Prelude.{◌&&◌, not}
 use Rattle.std.specs.List.{list_all}
 use Rattle.std.proofs.lemmas.Bool.{and_parts, leb-true}
+use Rattle.pt_base.proofs.Members.{all_true_append}
 use Rattle.pt_tree.specs.declared.signature.Param.{Param}
 use Rattle.pt_tree.specs.declared.signature.Signature.{Signature}
 use Rattle.pt_tree.specs.ExpressionTree as e
@@ -20,7 +21,7 @@ use Rattle.c_printer.specs.Plain.{expr_plain, exprs_plain, maybe_plain, stmt_pla
 use Rattle.half_trees.specs.Expressions.{zero_tree, extended, postfixed, expression_tree, place_tree, argument_trees}
 use Rattle.half_trees.specs.Leaves.{element, leaves_of}
 use Rattle.half_trees.specs.Statements.{evaluated, stored, cleared, element_copied, copied, variable, call_tree, received, else_tree, statement_trees, statements_trees}
-use Rattle.half_trees_law.proofs.Tests.{both, all_joined, all_mapped_where, all_ranged}
+use Rattle.half_trees_law.proofs.Tests.{both, all_mapped_where, all_ranged}
 use Rattle.half_trees_law.proofs.Names.{local_is_name, function_is_name}
 use Rattle.half_trees_law.proofs.Counts.{is_counted, structs_counted, AreCounted, variable_counted, place_counted}
 use Rattle.half_trees_law.proofs.Expressions.{extended_plain, postfixed_plain, expression_plain, place_plain}
@@ -128,4 +129,4 @@ mutual
   statements_plain no_stmts fs k looped are h = refl
   statements_plain (stmt_and a rest) fs k looped are h =
       let parts = and_parts (stmt_fits k looped a) (stmts_fit k looped rest) h in
-      all_joined stmt_plain (statement_trees fs k.context a) (statements_trees fs k.context rest) (statement_plain a fs k looped are parts.0) (statements_plain rest fs k looped are parts.1)
+      all_true_append stmt_plain (statement_trees fs k.context a) (statements_trees fs k.context rest) (statement_plain a fs k looped are parts.0) (statements_plain rest fs k looped are parts.1)

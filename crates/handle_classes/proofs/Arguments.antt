@@ -1,6 +1,7 @@
 -- The arguments of a call are of the classes of its parameters, and nothing within them computes with a
 -- handle.
 use Rattle.std.proofs.Common.{◌≡◌, ℕ, suc, refl, false, List, ◌∷◌, Result, Ok, Err}
+use Rattle.std.proofs.lemmas.Bool.{or_from}
 use Rattle.block_memory.specs.declared.cell.Cell.{Cell}
 use Rattle.block_memory.specs.Blocks.{Blocks}
 use Rattle.pt_core.specs.CodeTree.{ExprTrees, no_exprs, expr_and, ProgramTree}
@@ -12,7 +13,6 @@ use Rattle.handle_classes.specs.Judgment.{Flows, AreFineArguments}
 use Rattle.handle_classes.specs.Invariant.{AllFit}
 use Rattle.handle_classes.specs.Computes.{meet_any}
 use Rattle.handle_classes.specs.Laws.{FitsIf, ValueFits}
-use Rattle.handle_classes.proofs.Places.{or_false}
 use Rattle.handle_classes.proofs.Values.{Here, values}
 use Rattle.handle_classes.proofs.Memory.{flows_fit}
 
@@ -43,5 +43,5 @@ arguments program w a rest blocks at (expr_and e more) into fine =
     record {
       fit = both_fit w (a ∷ rest) (class_of (scope_in program w a.function) e) into (value_of (context_in program a.function) a.depth e blocks)
           (values_of (context_in program a.function) a.depth more blocks) fine.1 first.fits others.fit;
-      unmet = or_false _ _ first.unmet others.unmet;
+      unmet = or_from _ _ first.unmet others.unmet;
     }

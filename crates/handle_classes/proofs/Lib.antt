@@ -8,4 +8,4 @@ pub mod StepKeeps
 pub mod Outside
 mod Examples
 mod WorkedPrograms
-mod WorkedRun
+pub mod WorkedRun

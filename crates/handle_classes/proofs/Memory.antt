@@ -3,6 +3,7 @@ use Rattle.std.proofs.Common.{◌≡◌, ◌∙◌, ◌+◌, ◌≤◌, ◌<◌,
 use Rattle.std.specs.Prelude.{◌⊎◌}
 use Rattle.std.proofs.lemmas.Bool.{eq-eqb}
 use Rattle.std.proofs.lemmas.Bool.Decides.{nat_tests}
+use Rattle.pt_base.proofs.Numbers.{as_zero_plus, at_most_self, nat_eq_below, nat_lt_true}
 use Rattle.block_memory.specs.declared.cell.Cell.{Cell}
 use Rattle.block_memory.specs.declared.cell.Cell.TheVariants.{Int, Ptr, Sealed}
 use Rattle.block_memory.specs.declared.cell.Pointer.TheVariants.{Null, At}
@@ -33,9 +34,6 @@ above_apart x depth d less le = grind (arith, nat_tests)
 never_above : (x depth d : ℕ) → x < depth → depth ≤ d → d ≡ x → ⊥
 never_above x depth d less le same = omega arith
 
-below_apart : (d x : ℕ) → d < x → nat_eq d x ≡ false
-below_apart d x less = grind (arith, nat_tests)
-
 same_at_least : (d x : ℕ) → nat_eq d x ≡ true → x ≤ d
 same_at_least d x e = grind (arith, nat_tests)
 
@@ -45,17 +43,8 @@ apart_is d x e same = grind (arith, nat_tests)
 less_apart : (d x : ℕ) → nat_lt d x ≡ true → nat_eq d x ≡ false
 less_apart d x e = grind (arith, nat_tests)
 
-less_is : (d x : ℕ) → d < x → nat_lt d x ≡ true
-less_is d x less = grind (arith, nat_tests)
-
-not_less : (n : ℕ) → n ≤ n
-not_less n = omega arith
-
 pub count_on : (n k : ℕ) → n + suc k ≡ n + 1 + k
 count_on n k = omega arith
-
-count_none : (k : ℕ) → k ≡ 0 + k
-count_none k = omega arith
 
 -- ---- cells
 
@@ -257,7 +246,7 @@ local_written w a rest blocks x v below fit = memory_written w (a ∷ rest) bloc
     (subst (λ c. MayLie c 0 v) (sym (same_depth a.depth (w.variable a.function x) (local_class w rest a.depth x)))
     (fits_lies w (a ∷ rest) (w.variable a.function x) v fit)) (
       λ y p same. subst (λ z. Fits w (a ∷ rest) (w.variable a.function z) v) (ap variable_in same) fit,
-      takes_above w rest a.depth a.depth x v below (not_less a.depth),
+      takes_above w rest a.depth a.depth x v below (at_most_self a.depth),
     )
 
 -- ---- objects
@@ -377,7 +366,7 @@ frame_fits w a rest blocks shapes below mem = record {
     frame_here v = ap (λ (b : Bool). if b then get_or (map fresh shapes) v no_block else blocks (Local a.depth v)) (eq-eqb a.depth a.depth refl)
 
     frame_below : (d v : ℕ) → d < a.depth → with_frame blocks a.depth shapes (Local d v) ≡ blocks (Local d v)
-    frame_below d v less = ap (λ (b : Bool). if b then get_or (map fresh shapes) v no_block else blocks (Local d v)) (below_apart d a.depth less)
+    frame_below d v less = ap (λ (b : Bool). if b then get_or (map fresh shapes) v no_block else blocks (Local d v)) (nat_eq_below d a.depth less)
 
 -- arguments lie in the variables from this one on
 arguments_fit : (w : World) (a : Active) (rest : List Active) (blocks : Blocks) (n : ℕ) (into : ℕ → Class) (vs : List Cell) → AreBelow a.depth rest →
@@ -394,7 +383,7 @@ pub entered_fits : (program : ProgramTree) (w : World) (a : Active) (rest : List
     MemoryFits w (a ∷ rest) (entered program a.function a.depth vs blocks)
 entered_fits program w a rest blocks vs below fit mem =
     let shapes : List BlockShape = map (λ (x : Var). shape_of program.structs x.ty) (function_in program a.function).vars in
-    arguments_fit w a rest (with_frame blocks a.depth shapes) 0 (w.variable a.function) vs below (λ k. ap (w.variable a.function) (count_none k))
+    arguments_fit w a rest (with_frame blocks a.depth shapes) 0 (w.variable a.function) vs below (λ k. ap (w.variable a.function) (as_zero_plus k))
     (all_among w rest (a ∷ rest) (w.variable a.function) vs (entered_class w a rest below) fit) (frame_fits w a rest blocks shapes below mem)
 
 -- ---- returns
@@ -418,4 +407,4 @@ left_fits w a rest blocks below mem = record {
     lie (Received g) n = mem.handles (Received g) n
 
     kept_below : (d v : ℕ) → d < a.depth → without_frames blocks a.depth (Local d v) ≡ blocks (Local d v)
-    kept_below d v less = ap (λ (b : Bool). if b then blocks (Local d v) else no_block) (less_is d a.depth less)
+    kept_below d v less = ap (λ (b : Bool). if b then blocks (Local d v) else no_block) (nat_lt_true d a.depth less)

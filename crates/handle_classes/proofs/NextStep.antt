@@ -1,6 +1,7 @@
 -- The next step computes with no handle.
 use Rattle.std.proofs.Common.{◌≡◌, ◌∙◌, ℕ, suc, refl, sym, Bool, true, false, ◌&&◌, not, List, [], ◌∷◌, Option, Some, None, Result, Ok, Err, inl, inr}
 use Rattle.std.specs.Prelude.{◌⊎◌}
+use Rattle.std.proofs.lemmas.Bool.{or_from}
 use Rattle.block_memory.specs.declared.cell.Cell.{Cell}
 use Rattle.block_memory.specs.declared.cell.Cell.TheVariants as cell
 use Rattle.block_memory.specs.Blocks.{Blocks}
@@ -13,7 +14,6 @@ use Rattle.handle_classes.specs.Judgment.{Flows, IsFineResult, IsFineStatement, 
 use Rattle.handle_classes.specs.Invariant.{Fits, AllFit, MemoryFits, IsFineWork, ResultFits, ActiveFit}
 use Rattle.handle_classes.specs.Computes.{is_sealed, is_handle, has_handle, has_unmarked, computes_call, if_given, computes_return, computes, computes_work, computes_in}
 use Rattle.handle_classes.specs.Laws.{FitsIf, ValueFits, FitsGate, NoHandleIsComputedWith}
-use Rattle.handle_classes.proofs.Places.{or_false}
 use Rattle.handle_classes.proofs.Values.{Here, values, places, plain_is_no_handle, pointer_is_no_handle}
 use Rattle.handle_classes.proofs.Memory.{flows_fit}
 use Rattle.handle_classes.proofs.Arguments.{AllFitIf, ArgumentsFit, arguments}
@@ -36,7 +36,7 @@ marked_or_not true false h = sym (h refl)
 none_unmarked : (w : World) (active : List Active) (into : ℕ → Class) (vs : List Cell) → AllFit w active into vs →
     has_unmarked (λ n. (into n).may 0) vs ≡ false
 none_unmarked w active into [] fit = refl
-none_unmarked w active into (v ∷ vs) fit = or_false _ _ (marked_or_not (is_sealed v) ((into 0).may 0) (sealed_may w active (into 0) v fit.0))
+none_unmarked w active into (v ∷ vs) fit = or_from _ _ (marked_or_not (is_sealed v) ((into 0).may 0) (sealed_may w active (into 0) v fit.0))
     (none_unmarked w active (λ n. into (suc n)) vs fit.1)
 
 pub not_sealed : (s m : Bool) → m ≡ false → (s ≡ true → m ≡ true) → s ≡ false
@@ -47,7 +47,7 @@ none_sealed : (w : World) (active : List Active) (into : ℕ → Class) (vs : Li
     has_handle vs ≡ false
 none_sealed w active into [] plain fit = refl
 none_sealed w active into (v ∷ vs) plain fit =
-    or_false _ _ (not_sealed (is_sealed v) ((into 0).may 0) (plain 0) (sealed_may w active (into 0) v fit.0))
+    or_from _ _ (not_sealed (is_sealed v) ((into 0).may 0) (plain 0) (sealed_may w active (into 0) v fit.0))
     (none_sealed w active (λ n. into (suc n)) vs (λ n. plain (suc n)) fit.1)
 
 run_here_plain : (w : World) (active : List Active) (into : ℕ → Class) (vs : List Cell) → AllFit w active into vs →
@@ -80,11 +80,11 @@ return_unmet : (program : ProgramTree) (w : World) (a : Active) (rest : List Act
 return_unmet program w a rest blocks at result None fine = refl
 return_unmet program w a [] blocks at result (Some e) fine =
     let of : ValueFits program w a [] blocks e = values program w a [] blocks at e fine.0 in
-    or_false _ _ of.unmet (status_unmet w (a ∷ []) (class_of (scope_in program w a.function) e) (w.result a.function)
+    or_from _ _ of.unmet (status_unmet w (a ∷ []) (class_of (scope_in program w a.function) e) (w.result a.function)
     (value_of (context_in program a.function) a.depth e blocks) result fine.1 of.fits)
 return_unmet program w a (caller ∷ rest) blocks at result (Some e) fine =
     let of : ValueFits program w a (caller ∷ rest) blocks e = values program w a (caller ∷ rest) blocks at e fine.0 in
-    or_false _ _ of.unmet refl
+    or_from _ _ of.unmet refl
 
 condition_unmet : (w : World) (active : List Active) (c : Class) (r : Result Cell Stop) → (c.pointer ≡ false → c.may 0 ≡ false) →
     FitsIf w active c r → is_handle r ≡ false
@@ -102,16 +102,16 @@ statement_unmet : {G : Type 0} (program : ProgramTree) (w : World) (gate : Gate 
     computes (λ f n. (w.param f n).may 0) gate g (context_in program a.function) a.depth rest s blocks ≡ false
 statement_unmet program w gate g a rest blocks ok at result (clear v) fine = refl
 statement_unmet program w gate g a rest blocks ok at result (check p) fine = (places program w a rest blocks at p fine).unmet
-statement_unmet program w gate g a rest blocks ok at result (assign p e) fine = or_false _ _ (places program w a rest blocks at p fine.0).unmet
+statement_unmet program w gate g a rest blocks ok at result (assign p e) fine = or_from _ _ (places program w a rest blocks at p fine.0).unmet
     (values program w a rest blocks at e fine.1).unmet
-statement_unmet program w gate g a rest blocks ok at result (copy to from) fine = or_false _ _ (places program w a rest blocks at to fine.0).unmet
+statement_unmet program w gate g a rest blocks ok at result (copy to from) fine = or_from _ _ (places program w a rest blocks at to fine.0).unmet
     (places program w a rest blocks at from fine.1).unmet
 statement_unmet program w gate g a rest blocks ok at result (call f args v span) fine =
     let known : ArgumentsFit program w a rest blocks (w.param f) args = arguments program w a rest blocks at args (w.param f) fine.0 in
-    or_false _ _ known.unmet (calls_unmet w (a ∷ rest) gate ok g f (values_of (context_in program a.function) a.depth args blocks) known.fit)
+    or_from _ _ known.unmet (calls_unmet w (a ∷ rest) gate ok g f (values_of (context_in program a.function) a.depth args blocks) known.fit)
 statement_unmet program w gate g a rest blocks ok at result (choose e first second) fine =
     let of : ValueFits program w a rest blocks e = values program w a rest blocks at e fine.0 in
-    or_false _ _ of.unmet (condition_unmet w (a ∷ rest) (class_of (scope_in program w a.function) e)
+    or_from _ _ of.unmet (condition_unmet w (a ∷ rest) (class_of (scope_in program w a.function) e)
     (value_of (context_in program a.function) a.depth e blocks) fine.1 of.fits)
 statement_unmet program w gate g a rest blocks ok at result (repeat body span) fine = refl
 statement_unmet program w gate g a rest blocks ok at result break_out fine = refl

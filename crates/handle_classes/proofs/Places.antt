@@ -1,15 +1,11 @@
 -- Parts of objects, and what pointers to them agree with.
-use Rattle.std.proofs.Common.{◌≡◌, ◌∙◌, ◌≤◌, ◌<◌, ℕ, zero, suc, ◌+◌, ◌*◌, refl, ap, sym, subst, arith, Bool, true, false, ◌||◌, List, [], ◌∷◌, zero-add, add-zero, add_assoc}
+use Rattle.std.proofs.Common.{◌≡◌, ◌∙◌, ◌≤◌, ◌<◌, ℕ, zero, suc, ◌+◌, ◌*◌, refl, ap, sym, subst, arith, true, false, List, [], ◌∷◌, zero-add, add-zero, add_assoc}
 use Rattle.pt_core.specs.Types.{Context, field_type, path_type}
 use Rattle.pt_core.specs.Values.{Location, along, field_at, offset_in}
 use Rattle.runs.specs.Pointers.{cell_at}
 use Rattle.handle_classes.specs.Classes.{Class, part, pointer_to, pointed_to, path_offset}
 use Rattle.handle_classes.specs.Judgment.{AreAlike}
 use Rattle.handle_classes.specs.Invariant.{Agrees}
-
-pub or_false : (a b : Bool) → a ≡ false → b ≡ false → (a || b) ≡ false
-or_false false b p q = q
-or_false true b p q = cc
 
 -- an object of the first class lies in one of the second, from this cell on
 pub record IsPart (c of : Class) (from : ℕ) : Type 0 where

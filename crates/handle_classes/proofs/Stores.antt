@@ -1,6 +1,7 @@
 -- What an assignment and a copy store keeps the memory fitting.
 use Rattle.std.proofs.Common.{◌≡◌, ◌∙◌, ◌+◌, ◌<◌, ℕ, zero, suc, pos, refl, sym, subst, arith, Bool, true, false, List, [], ◌∷◌, Result, Ok, Err, take, drop, get_or, add-zero}
 use Rattle.std.proofs.lemmas.List.{get_or-drop}
+use Rattle.pt_base.proofs.Numbers.{suc_below}
 use Rattle.typed_tree.specs.declared.types.VarTy.{VarTy}
 use Rattle.typed_tree.specs.Sizes.{sizes_of, cells_by}
 use Rattle.block_memory.specs.declared.cell.Cell.{Cell}
@@ -102,16 +103,13 @@ moved_lies to from of in_it at cell n size (Sealed h) copies less in_to in_from 
 some_left : (count : ℕ) → 0 < suc count
 some_left count = omega arith
 
-one_more : (n count : ℕ) → n < count → suc n < suc count
-one_more n count less = omega arith
-
 taken_lie : (of : Class) (vs : List Cell) (count at : ℕ) → ((n : ℕ) → n < count → MayLie of (at + n) (get_or vs n (Int (pos 0)))) →
     AllLie of at (take count vs)
 taken_lie of vs zero at lie = tt {0}
 taken_lie of [] (suc count) at lie = tt {0}
 taken_lie of (v ∷ vs) (suc count) at lie = (
   subst (λ m. MayLie of m v) (add-zero at) (lie 0 (some_left count)),
-  taken_lie of vs count (at + 1) (λ n less. subst (λ m. MayLie of m (get_or vs n (Int (pos 0)))) (count_on at n) (lie (suc n) (one_more n count less))),
+  taken_lie of vs count (at + 1) (λ n less. subst (λ m. MayLie of m (get_or vs n (Int (pos 0)))) (count_on at n) (lie (suc n) (suc_below n count less))),
 )
 
 cells_lie : (w : World) (active : List Active) (blocks : Blocks) (to from : Class) (at source : Location) (size : ℕ) → MemoryFits w active blocks →

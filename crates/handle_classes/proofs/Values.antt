@@ -1,7 +1,7 @@
 -- The value of a fine expression is of its class, and nothing within it computes with a handle.
 use Rattle.std.proofs.Common.{◌≡◌, ◌∙◌, ◌≤◌, ◌<◌, ℕ, ◌+◌, ℤ, refl, ap, sym, subst, Bool, true, false, ◌&&◌, not, List, [], ◌∷◌, Option, Some, None, Result, Ok, Err, if◌then◌else◌, add-zero}
 use Rattle.std.specs.Prelude.{nat_lt, nat_eq}
-use Rattle.std.proofs.lemmas.Bool.{ltb-true, eq-eqb}
+use Rattle.std.proofs.lemmas.Bool.{ltb-true, eq-eqb, or_from}
 use Rattle.pt_base.specs.declared.span.Span.{Span}
 use Rattle.pt_base.specs.declared.int_type.IntType.{IntType}
 use Rattle.pt_base.specs.declared.trap.Trap.{Trap}
@@ -26,7 +26,7 @@ use Rattle.handle_classes.specs.Judgment.{IsPlain, HasElements, IsAnArray, IsWit
 use Rattle.handle_classes.specs.Invariant.{Agrees, Fits, MayLie, MemoryFits, block_class, local_class}
 use Rattle.handle_classes.specs.Computes.{is_handle, meets_at, meets_root, needs}
 use Rattle.handle_classes.specs.Laws.{FitsIf, ValueFits, ValuesFit}
-use Rattle.handle_classes.proofs.Places.{or_false, IsPart, whole_part, part_of_part, element_part, address_agrees, decay_agrees, Led, led}
+use Rattle.handle_classes.proofs.Places.{IsPart, whole_part, part_of_part, element_part, address_agrees, decay_agrees, Led, led}
 
 -- ---- cells
 
@@ -208,10 +208,10 @@ pub record PlaceLies (program : ProgramTree) (w : World) (a : Active) (rest : Li
   pub unmet : meets_at (context_in program a.function) a.depth p blocks ≡ false
 
 unneeded : (program : ProgramTree) (w : World) (a : Active) (rest : List Active) (blocks : Blocks) (e : ExprTree) → IsPlain (class_of (scope_in program w a.function) e) → ValueFits program w a rest blocks e → needs (context_in program a.function) a.depth e blocks ≡ false
-unneeded program w a rest blocks e plain k = or_false _ _ k.unmet (plain_is_no_handle w (a ∷ rest) _ _ plain k.fits)
+unneeded program w a rest blocks e plain k = or_from _ _ k.unmet (plain_is_no_handle w (a ∷ rest) _ _ plain k.fits)
 
 pointer_unneeded : (program : ProgramTree) (w : World) (a : Active) (rest : List Active) (blocks : Blocks) (e : ExprTree) → (class_of (scope_in program w a.function) e).pointer ≡ true → ValueFits program w a rest blocks e → needs (context_in program a.function) a.depth e blocks ≡ false
-pointer_unneeded program w a rest blocks e p k = or_false _ _ k.unmet (pointer_is_no_handle w (a ∷ rest) (class_of (scope_in program w a.function) e) _ p k.fits)
+pointer_unneeded program w a rest blocks e p k = or_from _ _ k.unmet (pointer_is_no_handle w (a ∷ rest) (class_of (scope_in program w a.function) e) _ p k.fits)
 
 abbrev pub Here : ProgramTree → World → Active → List Active → Blocks → Type 0
 Here program w a rest blocks = IsFineProgram program w × MemoryFits w (a ∷ rest) blocks
@@ -233,13 +233,13 @@ mutual
       let right : ValueFits program w a rest blocks y = values program w a rest blocks here y fine.1 in
       record {
         fits = bound w (a ∷ rest) _ (value_of (context_in program a.function) a.depth x blocks) _ (λ v. bound w (a ∷ rest) _ (value_of (context_in program a.function) a.depth y blocks) _ (λ u. number_fits w (a ∷ rest) _ _));
-        unmet = or_false _ _ (unneeded program w a rest blocks x fine.2 left) (unneeded program w a rest blocks y fine.3 right);
+        unmet = or_from _ _ (unneeded program w a rest blocks x fine.2 left) (unneeded program w a rest blocks y fine.3 right);
       }
   values program w a rest blocks here (convert to x) fine =
       let of : ValueFits program w a rest blocks x = values program w a rest blocks here x fine.0 in
       record {
         fits = bound_cell w (a ∷ rest) (class_of (scope_in program w a.function) x) _ (value_of (context_in program a.function) a.depth x blocks) _ of.fits (λ v f. converted_fits w (a ∷ rest) (class_of (scope_in program w a.function) x) (is_type (type_of (context_in program a.function) x) to) to v f);
-        unmet = or_false _ _ of.unmet (unconverted w (a ∷ rest) (class_of (scope_in program w a.function) x) (is_type (type_of (context_in program a.function) x) to) _ fine.1 fine.2 of.fits);
+        unmet = or_from _ _ of.unmet (unconverted w (a ∷ rest) (class_of (scope_in program w a.function) x) (is_type (type_of (context_in program a.function) x) to) _ fine.1 fine.2 of.fits);
       }
   values program w a rest blocks here (null elem) fine = record { fits = tt {0}; unmet = refl }
   values program w a rest blocks here (address p) fine =
@@ -257,21 +257,21 @@ mutual
       record {
         fits = bound_cell w (a ∷ rest) (class_of (scope_in program w a.function) x) _ (value_of (context_in program a.function) a.depth x blocks) _ left.fits
             (λ v f. bound w (a ∷ rest) _ (value_of (context_in program a.function) a.depth y blocks) _ (λ u. moved_fits w (a ∷ rest) (class_of (scope_in program w a.function) x) span (directed back (number_in u)) v f));
-        unmet = or_false _ _ (pointer_unneeded program w a rest blocks x fine.2 left) (unneeded program w a rest blocks y fine.3 right);
+        unmet = or_from _ _ (pointer_unneeded program w a rest blocks x fine.2 left) (unneeded program w a rest blocks y fine.3 right);
       }
   values program w a rest blocks here (compare op x y span) fine =
       let left : ValueFits program w a rest blocks x = values program w a rest blocks here x fine.0 in
       let right : ValueFits program w a rest blocks y = values program w a rest blocks here y fine.1 in
       record {
         fits = bound w (a ∷ rest) _ (value_of (context_in program a.function) a.depth x blocks) _ (λ v. bound w (a ∷ rest) _ (value_of (context_in program a.function) a.depth y blocks) _ (λ u. told_fits w (a ∷ rest) _ _));
-        unmet = or_false _ _ (pointer_unneeded program w a rest blocks x fine.2 left) (pointer_unneeded program w a rest blocks y fine.3 right);
+        unmet = or_from _ _ (pointer_unneeded program w a rest blocks x fine.2 left) (pointer_unneeded program w a rest blocks y fine.3 right);
       }
   values program w a rest blocks here (difference x y span) fine =
       let left : ValueFits program w a rest blocks x = values program w a rest blocks here x fine.0 in
       let right : ValueFits program w a rest blocks y = values program w a rest blocks here y fine.1 in
       record {
         fits = bound w (a ∷ rest) _ (value_of (context_in program a.function) a.depth x blocks) _ (λ v. bound w (a ∷ rest) _ (value_of (context_in program a.function) a.depth y blocks) _ (λ u. number_fits w (a ∷ rest) _ _));
-        unmet = or_false _ _ (pointer_unneeded program w a rest blocks x fine.2 left) (pointer_unneeded program w a rest blocks y fine.3 right);
+        unmet = or_from _ _ (pointer_unneeded program w a rest blocks x fine.2 left) (pointer_unneeded program w a rest blocks y fine.3 right);
       }
 
   pub places : (program : ProgramTree) (w : World) (a : Active) (rest : List Active) (blocks : Blocks) → Here program w a rest blocks → (p : PlaceTree) → IsFinePlace (scope_in program w a.function) p → PlaceLies program w a rest blocks p

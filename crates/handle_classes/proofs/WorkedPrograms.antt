@@ -5,6 +5,7 @@ use Rattle.std.proofs.lemmas.Bool.{eqb-true}
 use Rattle.pt_base.specs.declared.span.Span.{Span}
 use Rattle.pt_base.specs.declared.int_type.IntType.{IntType}
 use Rattle.pt_base.specs.declared.int_type.IntType.TheVariants as i
+use Rattle.pt_base.proofs.Booleans.{never_true_and_false}
 use Rattle.pt_int.specs.declared.operator.BinOp.TheVariants.{Add}
 use Rattle.pt_tree.specs.declared.signature.Elem.TheVariants as e
 use Rattle.pt_tree.specs.declared.signature.Param.{Param}
@@ -325,25 +326,21 @@ branching_is_a_program : is_well_formed (with_body branching) ≡ true
 unfolding is_well_formed cells.leaves_of
 branching_is_a_program = refl
 
-never_both : (b : Bool) → b ≡ true → b ≡ false → ⊥
-never_both true p q = let no : true ≡ false = q in cc
-never_both false p q = let no : false ≡ true = p in cc
-
 -- what `load` gave lies in the first variable
 first_variable : (w : World) → w.result 0 ≡ true → Flows (integer_class (w.result 0)) (w.variable 3 0) → (w.variable 3 0).may 0 ≡ true
 first_variable w h flows = flows.first (sym flows.kind) h
 
 adding_is_never_fine : IsNeverFine adding
-adding_is_never_fine w h plain fine = never_both ((w.variable 3 0).may 0) (first_variable w h (fine.code 3).0.1) (fine.code 3).1.0.1.2.number
+adding_is_never_fine w h plain fine = never_true_and_false ((w.variable 3 0).may 0) (first_variable w h (fine.code 3).0.1) (fine.code 3).1.0.1.2.number
 
 printing_is_never_fine : IsNeverFine printing
 printing_is_never_fine w h plain fine = passed (fine.code 3).0.1 (fine.code 3).1.0.0.1
   where
     passed : Flows (integer_class (w.result 0)) (w.variable 3 0) → Flows (w.variable 3 0) (w.param 2 0) → ⊥
-    passed given to = never_both ((w.param 2 0).may 0) (to.first (sym to.kind ∙ sym given.kind) (first_variable w h given)) plain
+    passed given to = never_true_and_false ((w.param 2 0).may 0) (to.first (sym to.kind ∙ sym given.kind) (first_variable w h given)) plain
 
 branching_is_never_fine : IsNeverFine branching
 branching_is_never_fine w h plain fine = chosen (fine.code 3).0.1 (fine.code 3).1.0.1
   where
     chosen : Flows (integer_class (w.result 0)) (w.variable 3 0) → ((w.variable 3 0).pointer ≡ false → (w.variable 3 0).may 0 ≡ false) → ⊥
-    chosen given none = never_both ((w.variable 3 0).may 0) (first_variable w h given) (none (sym given.kind))
+    chosen given none = never_true_and_false ((w.variable 3 0).may 0) (first_variable w h given) (none (sym given.kind))

@@ -29,7 +29,7 @@ pair_gate_fits = record { run_here = λ g f args same. none (nat_eq f 2) same }
     none true same = cc
     none false same = cc
 
-flows_same : (c : Class) → Flows c c
+pub flows_same : (c : Class) → Flows c c
 flows_same c = record { kind = refl; first = λ h may. may; size = λ h. refl; may = λ h n less may. may; must = λ h n less must. must }
 
 pair_gate_enters : EntersFit pair_world pair_gate

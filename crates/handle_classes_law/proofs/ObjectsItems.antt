@@ -1,9 +1,15 @@
 -- The cells of objects and their leaves.
-use Rattle.std.proofs.Common.{◌≡◌, ◌∙◌, ◌≤◌, ◌<◌, ℕ, zero, suc, ◌+◌, ◌*◌, refl, ap, sym, subst, arith, Bool, true, false, Option, Some, None, List, [], ◌∷◌, ◌++◌, length, length-append, map}
+use Rattle.std.proofs.Common.{◌≡◌, ◌∙◌, ◌≤◌, ◌<◌, ℕ, zero, suc, ◌+◌, ◌*◌, refl, ap, sym, subst, arith, true, Option, Some, None, List, [], ◌∷◌, ◌++◌, length, length-append, map}
 use Rattle.std.specs.Prelude.{slice_get, get_or, nat_lt, nat_le, take}
 use Rattle.std.specs.List.{list_all, flat_map}
 use Rattle.std.proofs.lemmas.Bool.Decides.{nat_tests}
 use Rattle.std.proofs.lemmas.List.{length-map, map-append}
+use Rattle.std.proofs.lemmas.Option.{slice_get-get_or}
+use Rattle.pt_base.proofs.Booleans.{both_hold, both_hold_first, both_hold_second, false_not_true}
+use Rattle.pt_base.proofs.Members.{all_true_at}
+use Rattle.pt_base.proofs.Numbers.{nat_lt_next}
+use Rattle.pt_base.proofs.Options.{some_same}
+use Rattle.pt_base.proofs.Places.{get_below_length}
 use Rattle.pt_tree.specs.declared.signature.Elem.{Elem}
 use Rattle.pt_tree.specs.declared.signature.Elem.TheVariants as e
 use Rattle.typed_tree.specs.declared.types.VarTy.{VarTy}
@@ -16,7 +22,6 @@ use Rattle.typed_tree.specs.Sizes.{sizes_of, elem_cells, cells_by, fields_cells,
 use Rattle.typed_tree.specs.TypeTests.{type_of_elem}
 use Rattle.typed_tree.specs.WellFormedExpression.{is_elem}
 use Rattle.typed_tree.specs.WellFormed.{is_plain_type, is_small, field_sound, structs_sound}
-use Rattle.typed_tree.proofs.WellFormedLemmas.{and_left, and_right, and_both}
 use Rattle.typed_tree.proofs.LeavesLemmas.{leaves_of_struct}
 use Rattle.source_meaning.proofs.SizeLemmas.{sizes}
 use Rattle.pt_core.specs.Types.{field_type}
@@ -28,9 +33,6 @@ use Rattle.sides.specs.LeafTables.{leaves_below}
 use Rattle.sides.proofs.LeafLemmas.{entry_of, all_below}
 use Rattle.flow_edges.specs.Items.{elem_items, type_items, fields_items, struct_items, items_of}
 use Rattle.handle_classes_law.specs.ObjectsCells.{cell_leaves, leaf_under}
-
-pub never : {X : Type 0} → false ≡ true → X
-never h = cc
 
 -- ---- lists
 
@@ -51,18 +53,10 @@ at_map a [] n h = absurd (grind (arith, h))
 at_map a (x ∷ xs) zero h = refl
 at_map a (x ∷ xs) (suc n) h = at_map a xs n (omega (arith, h))
 
-same_one : {A : Type 0} (a b : A) → Some a ≡ Some b → a ≡ b
-same_one a b e = cc
-
-all_here : {A : Type 0} (test : A → Bool) (xs : List A) (k : ℕ) (x : A) → list_all test xs ≡ true → slice_get xs k ≡ Some x → test x ≡ true
-all_here test [] k x h is = cc
-all_here test (y ∷ ys) zero x h is = subst (λ z. test z ≡ true) (same_one y x is) (and_left (test y) (list_all test ys) h)
-all_here test (y ∷ ys) (suc k) x h is = all_here test ys k x (and_right (test y) (list_all test ys) h) is
-
 all_less : (bound : ℕ) (xs : List ℕ) (n : ℕ) → list_all (λ x. nat_lt x bound) xs ≡ true → n < length xs → get_or xs n 0 < bound
 all_less bound [] n h less = absurd (grind (arith, less))
-all_less bound (x ∷ xs) zero h less = let one = and_left (nat_lt x bound) (list_all (λ x. nat_lt x bound) xs) h in grind (arith, nat_tests, one)
-all_less bound (x ∷ xs) (suc n) h less = all_less bound xs n (and_right (nat_lt x bound) (list_all (λ x. nat_lt x bound) xs) h) (omega (arith, less))
+all_less bound (x ∷ xs) zero h less = let one = both_hold_first (nat_lt x bound) (list_all (λ x. nat_lt x bound) xs) h in grind (arith, nat_tests, one)
+all_less bound (x ∷ xs) (suc n) h less = all_less bound xs n (both_hold_second (nat_lt x bound) (list_all (λ x. nat_lt x bound) xs) h) (omega (arith, less))
 
 -- ---- arrays
 
@@ -131,15 +125,15 @@ elem_deep v w m s (e.Struct n) h is = h s n (grind (arith, nat_tests, is))
 type_deep : (v w : Within) (m s : ℕ) (ty : VarTy) → ((s n : ℕ) → n < m → v s n ≡ w s n) → is_plain_type m ty ≡ true → type_items v s ty ≡ type_items w s ty
 type_deep v w m s (Int t) h is = refl
 type_deep v w m s (Struct n) h is = h s n (grind (arith, nat_tests, is))
-type_deep v w m s (Array elem count) h is = ap (λ z. repeated count z) (elem_deep v w m s elem h (and_left (is_elem m (Some elem)) (nat_le 1 count) is))
-type_deep v w m s (Pointer elem fixed) h is = never is
+type_deep v w m s (Array elem count) h is = ap (λ z. repeated count z) (elem_deep v w m s elem h (both_hold_first (is_elem m (Some elem)) (nat_le 1 count) is))
+type_deep v w m s (Pointer elem fixed) h is = false_not_true is
 
 fields_deep : (structs : List StructInfo) (v w : Within) (m s : ℕ) (fs : List Field) → ((s n : ℕ) → n < m → v s n ≡ w s n) → list_all (field_sound structs m) fs ≡ true → fields_items (leaf_count structs) v s fs ≡ fields_items (leaf_count structs) w s fs
 fields_deep structs v w m s [] h is = refl
 fields_deep structs v w m s (f ∷ fs) h is =
-    let one = and_left (field_sound structs m f) (list_all (field_sound structs m) fs) is in
-    ap (λ z. z ++ fields_items (leaf_count structs) v (s + leaf_count structs f.ty) fs) (type_deep v w m s f.ty h (and_left (is_plain_type m f.ty) (is_small structs f.ty) one))
-    ∙ ap (λ z. type_items w s f.ty ++ z) (fields_deep structs v w m (s + leaf_count structs f.ty) fs h (and_right (field_sound structs m f) (list_all (field_sound structs m) fs) is))
+    let one = both_hold_first (field_sound structs m f) (list_all (field_sound structs m) fs) is in
+    ap (λ z. z ++ fields_items (leaf_count structs) v (s + leaf_count structs f.ty) fs) (type_deep v w m s f.ty h (both_hold_first (is_plain_type m f.ty) (is_small structs f.ty) one))
+    ∙ ap (λ z. type_items w s f.ty ++ z) (fields_deep structs v w m (s + leaf_count structs f.ty) fs h (both_hold_second (field_sound structs m f) (list_all (field_sound structs m) fs) is))
 
 -- a struct's fields name those before it
 pub fields_sound : (structs : List StructInfo) (n : ℕ) → structs_sound structs 0 structs ≡ true → list_all (field_sound structs n) (fields_of structs n) ≡ true
@@ -159,7 +153,7 @@ fields_sound structs n sound = go (slice_get structs n) refl
     go None is = ap (λ (x : StructInfo). list_all (field_sound structs n) x.fields) (none_or structs n (record { name = []; fields = [] }) is)
     go (Some x) is =
         ap (λ (y : StructInfo). list_all (field_sound structs n) y.fields) (some_or structs n x (record { name = []; fields = [] }) is)
-        ∙ and_right (nat_le 1 (length x.fields)) (list_all (field_sound structs n) x.fields) (sound_at structs n x sound is)
+        ∙ both_hold_second (nat_le 1 (length x.fields)) (list_all (field_sound structs n) x.fields) (sound_at structs n x sound is)
 
 pub depth_free : (structs : List StructInfo) → structs_sound structs 0 structs ≡ true → (d e s n : ℕ) → n < d → n < e → struct_items structs d s n ≡ struct_items structs e s n
 depth_free structs sound zero e s n h k = absurd (grind (arith, h))
@@ -180,14 +174,14 @@ type_long : (structs : List StructInfo) (m : ℕ) (w : Within) (s : ℕ) (ty : V
 type_long structs m w s (Int t) h is = refl
 type_long structs m w s (Struct n) h is = h s n (grind (arith, nat_tests, is))
 type_long structs m w s (Array elem count) h is =
-    repeated_long count (elem_items w s elem) ∙ ap (λ z. count * z) (elem_long structs m w s elem h (and_left (is_elem m (Some elem)) (nat_le 1 count) is))
-type_long structs m w s (Pointer elem fixed) h is = never is
+    repeated_long count (elem_items w s elem) ∙ ap (λ z. count * z) (elem_long structs m w s elem h (both_hold_first (is_elem m (Some elem)) (nat_le 1 count) is))
+type_long structs m w s (Pointer elem fixed) h is = false_not_true is
 
 fields_long : (structs : List StructInfo) (m : ℕ) (w : Within) (s : ℕ) (fs : List Field) → HaveSizes structs m w → list_all (field_sound structs m) fs ≡ true → length (fields_items (leaf_count structs) w s fs) ≡ fields_cells (sizes_of structs) fs
 fields_long structs m w s [] h is = refl
 fields_long structs m w s (f ∷ fs) h is =
-    let one = type_long structs m w s f.ty h (and_left (is_plain_type m f.ty) (is_small structs f.ty) (and_left (field_sound structs m f) (list_all (field_sound structs m) fs) is)) in
-    let rest = fields_long structs m w (s + leaf_count structs f.ty) fs h (and_right (field_sound structs m f) (list_all (field_sound structs m) fs) is) in
+    let one = type_long structs m w s f.ty h (both_hold_first (is_plain_type m f.ty) (is_small structs f.ty) (both_hold_first (field_sound structs m f) (list_all (field_sound structs m) fs) is)) in
+    let rest = fields_long structs m w (s + leaf_count structs f.ty) fs h (both_hold_second (field_sound structs m f) (list_all (field_sound structs m) fs) is) in
     let both = length-append (type_items w s f.ty) (fields_items (leaf_count structs) w (s + leaf_count structs f.ty) fs) in
     omega (arith, one, rest, both)
 
@@ -199,14 +193,9 @@ all_fields structs (f ∷ fs) =
     let rest = all_fields structs fs in
     omega (arith, here, one, rest)
 
-below_got : {A : Type 0} (xs : List A) (k : ℕ) (y : A) → k < length xs → slice_get xs k ≡ Some (get_or xs k y)
-below_got [] k y h = absurd (grind (arith, h))
-below_got (x ∷ xs) zero y h = refl
-below_got (x ∷ xs) (suc k) y h = below_got xs k y (omega (arith, h))
-
 pub struct_cells : (structs : List StructInfo) (n : ℕ) → structs_sound structs 0 structs ≡ true → n < length structs → cells_by (sizes_of structs) (Struct n) ≡ fields_cells (sizes_of structs) (fields_of structs n)
 struct_cells structs n sound less =
-    sizes structs (Struct n) ∙ ap length (leaves_of_struct structs n (get_or structs n (record { name = []; fields = [] })) sound (below_got structs n (record { name = []; fields = [] }) less)) ∙ all_fields structs (fields_of structs n)
+    sizes structs (Struct n) ∙ ap length (leaves_of_struct structs n (get_or structs n (record { name = []; fields = [] })) sound (slice_get-get_or structs n (record { name = []; fields = [] }) less)) ∙ all_fields structs (fields_of structs n)
 
 pub struct_long : (structs : List StructInfo) → structs_sound structs 0 structs ≡ true → (d m : ℕ) → m ≤ d → m ≤ length structs → HaveSizes structs m (struct_items structs d)
 struct_long structs sound zero m small in_list s n less = absurd (grind (arith, small, less))
@@ -224,29 +213,24 @@ fields_at : (structs : List StructInfo) (m : ℕ) (w : Within) (s : ℕ) (fs : L
     get_or (fields_items (leaf_count structs) w s fs) (fields_cells (sizes_of structs) (take k fs) + n) 0 ≡ get_or (type_items w (get_or (field_starts (leaf_count structs) s fs) k 0) x.ty) n 0
 fields_at structs m w s [] k x n h sound is less = cc
 fields_at structs m w s (f ∷ fs) zero x n h sound is less =
-    let one = type_long structs m w s f.ty h (and_left (is_plain_type m f.ty) (is_small structs f.ty) (and_left (field_sound structs m f) (list_all (field_sound structs m) fs) sound)) in
-    let same : cells_by (sizes_of structs) f.ty ≡ cells_by (sizes_of structs) x.ty = ap (λ (z : Field). cells_by (sizes_of structs) z.ty) (same_one f x is) in
+    let one = type_long structs m w s f.ty h (both_hold_first (is_plain_type m f.ty) (is_small structs f.ty) (both_hold_first (field_sound structs m f) (list_all (field_sound structs m) fs) sound)) in
+    let same : cells_by (sizes_of structs) f.ty ≡ cells_by (sizes_of structs) x.ty = ap (λ (z : Field). cells_by (sizes_of structs) z.ty) (some_same f x is) in
     ap (λ z. get_or (type_items w s f.ty ++ fields_items (leaf_count structs) w (s + leaf_count structs f.ty) fs) z 0) (let e : 0 + n ≡ n = omega arith in e)
     ∙ at_first (type_items w s f.ty) (fields_items (leaf_count structs) w (s + leaf_count structs f.ty) fs) n 0 (omega (arith, one, same, less))
-    ∙ ap (λ (z : Field). get_or (type_items w s z.ty) n 0) (same_one f x is)
+    ∙ ap (λ (z : Field). get_or (type_items w s z.ty) n 0) (some_same f x is)
 fields_at structs m w s (f ∷ fs) (suc k) x n h sound is less =
-    let one = type_long structs m w s f.ty h (and_left (is_plain_type m f.ty) (is_small structs f.ty) (and_left (field_sound structs m f) (list_all (field_sound structs m) fs) sound)) in
+    let one = type_long structs m w s f.ty h (both_hold_first (is_plain_type m f.ty) (is_small structs f.ty) (both_hold_first (field_sound structs m f) (list_all (field_sound structs m) fs) sound)) in
     ap (λ z. get_or (type_items w s f.ty ++ fields_items (leaf_count structs) w (s + leaf_count structs f.ty) fs) z 0) (regroup (cells_by (sizes_of structs) f.ty) (fields_cells (sizes_of structs) (take k fs)) n (length (type_items w s f.ty)) one)
     ∙ at_rest (type_items w s f.ty) (fields_items (leaf_count structs) w (s + leaf_count structs f.ty) fs) (fields_cells (sizes_of structs) (take k fs) + n) 0
-    ∙ fields_at structs m w (s + leaf_count structs f.ty) fs k x n h (and_right (field_sound structs m f) (list_all (field_sound structs m) fs) sound) is less
+    ∙ fields_at structs m w (s + leaf_count structs f.ty) fs k x n h (both_hold_second (field_sound structs m f) (list_all (field_sound structs m) fs) sound) is less
   where
     regroup : (a b n l : ℕ) → l ≡ a → a + b + n ≡ l + (b + n)
     regroup a b n l e = omega (arith, e)
 
 fields_room : (sizes : List ℕ) (fs : List Field) (k : ℕ) (x : Field) → slice_get fs k ≡ Some x → fields_cells sizes (take k fs) + cells_by sizes x.ty ≤ fields_cells sizes fs
 fields_room sizes [] k x is = cc
-fields_room sizes (f ∷ fs) zero x is = let same : cells_by sizes f.ty ≡ cells_by sizes x.ty = ap (λ (z : Field). cells_by sizes z.ty) (same_one f x is) in omega (arith, same)
+fields_room sizes (f ∷ fs) zero x is = let same : cells_by sizes f.ty ≡ cells_by sizes x.ty = ap (λ (z : Field). cells_by sizes z.ty) (some_same f x is) in omega (arith, same)
 fields_room sizes (f ∷ fs) (suc k) x is = let rest = fields_room sizes fs k x is in omega (arith, rest)
-
-there : {A : Type 0} (xs : List A) (k : ℕ) (x : A) → slice_get xs k ≡ Some x → k < length xs
-there [] k x is = cc
-there (y ∷ ys) zero x is = omega arith
-there (y ∷ ys) (suc k) x is = let h = there ys k x is in omega (arith, h)
 
 -- the field lies within
 pub field_fits_in : (structs : List StructInfo) (m k : ℕ) → structs_sound structs 0 structs ≡ true → is_field structs (Struct m) k ≡ true → offset_in structs (Struct m) k + cells_by (sizes_of structs) (field_type structs (Struct m) k) ≤ cells_by (sizes_of structs) (Struct m)
@@ -254,7 +238,7 @@ field_fits_in structs m k sound field =
     let f = field_of structs m k field in
     let got : slice_get (fields_of structs m) k ≡ Some f.field = subst (λ z. slice_get z k ≡ Some f.field) (sym f.fields) f.is_field in
     let room = fields_room (sizes_of structs) (fields_of structs m) k f.field got in
-    let whole = struct_cells structs m sound (there structs m f.struct_ f.is_struct) in
+    let whole = struct_cells structs m sound (get_below_length structs m f.struct_ f.is_struct) in
     let own : cells_by (sizes_of structs) (field_type structs (Struct m) k) ≡ cells_by (sizes_of structs) f.field.ty = ap (λ z. cells_by (sizes_of structs) z) f.typed in
     omega (arith, room, whole, own)
 
@@ -263,12 +247,12 @@ pub fields_lie_so : (structs : List StructInfo) (m k n : ℕ) → structs_sound 
     (leaf_under structs (Struct m) (offset_in structs (Struct m) k + n) ≡ field_start structs m k + leaf_under structs (field_type structs (Struct m) k) n)
 fields_lie_so structs m k n sound field less =
     let f = field_of structs m k field in
-    let small = there structs m f.struct_ f.is_struct in
+    let small = get_below_length structs m f.struct_ f.is_struct in
     let got : slice_get (fields_of structs m) k ≡ Some f.field = subst (λ z. slice_get z k ≡ Some f.field) (sym f.fields) f.is_field in
     let each = fields_sound structs m sound in
     let w = struct_items structs (length structs) in
     let sized = struct_long structs sound (length structs) m (omega (arith, small)) (omega (arith, small)) in
-    let plain = and_left (is_plain_type m f.field.ty) (is_small structs f.field.ty) (all_here (field_sound structs m) (fields_of structs m) k f.field each got) in
+    let plain = both_hold_first (is_plain_type m f.field.ty) (is_small structs f.field.ty) (all_true_at (field_sound structs m) (fields_of structs m) k f.field each got) in
     let less2 : n < cells_by (sizes_of structs) f.field.ty = subst (λ z. n < cells_by (sizes_of structs) z) f.typed less in
     let long = type_long structs m w 0 f.field.ty sized plain in
     let room = fields_room (sizes_of structs) (fields_of structs m) k f.field got in
@@ -287,17 +271,17 @@ pub plain_more : (a c : ℕ) (ty : VarTy) → a ≤ c → is_plain_type a ty ≡
 plain_more a c (Int t) le h = refl
 plain_more a c (Struct n) le h = grind (arith, nat_tests, h, le)
 plain_more a c (Array (e.Int t) count) le h = h
-plain_more a c (Array (e.Struct n) count) le h = and_both (nat_lt n c) (nat_le 1 count) (let one = and_left (nat_lt n a) (nat_le 1 count) h in grind (arith, nat_tests, one, le)) (and_right (nat_lt n a) (nat_le 1 count) h)
-plain_more a c (Pointer elem fixed) le h = never h
+plain_more a c (Array (e.Struct n) count) le h = both_hold (nat_lt n c) (nat_le 1 count) (let one = both_hold_first (nat_lt n a) (nat_le 1 count) h in grind (arith, nat_tests, one, le)) (both_hold_second (nat_lt n a) (nat_le 1 count) h)
+plain_more a c (Pointer elem fixed) le h = false_not_true h
 
 -- no field is a pointer
 pub field_plain : (structs : List StructInfo) (m k : ℕ) → structs_sound structs 0 structs ≡ true → is_field structs (Struct m) k ≡ true → is_plain_type (length structs) (field_type structs (Struct m) k) ≡ true
 field_plain structs m k sound field =
     let f = field_of structs m k field in
-    let small = there structs m f.struct_ f.is_struct in
+    let small = get_below_length structs m f.struct_ f.is_struct in
     let got : slice_get (fields_of structs m) k ≡ Some f.field = subst (λ z. slice_get z k ≡ Some f.field) (sym f.fields) f.is_field in
     subst (λ z. is_plain_type (length structs) z ≡ true) (sym f.typed)
-    (plain_more m (length structs) f.field.ty (omega (arith, small)) (and_left (is_plain_type m f.field.ty) (is_small structs f.field.ty) (all_here (field_sound structs m) (fields_of structs m) k f.field (fields_sound structs m sound) got)))
+    (plain_more m (length structs) f.field.ty (omega (arith, small)) (both_hold_first (is_plain_type m f.field.ty) (is_small structs f.field.ty) (all_true_at (field_sound structs m) (fields_of structs m) k f.field (fields_sound structs m sound) got)))
 
 -- ---- elements
 
@@ -305,7 +289,7 @@ pub elements_lie_alike : (structs : List StructInfo) (elem : Elem) (count i n : 
     i < count → n < elem_cells (sizes_of structs) elem → leaf_under structs (Array elem count) (i * elem_cells (sizes_of structs) elem + n) ≡ leaf_under structs (type_of_elem elem) n
 elements_lie_alike structs elem count i n sound plain below less =
     let w = struct_items structs (length structs) in
-    let long = elem_long structs (length structs) w 0 elem (struct_long structs sound (length structs) (length structs) (omega arith) (omega arith)) (and_left (is_elem (length structs) (Some elem)) (nat_le 1 count) plain) in
+    let long = elem_long structs (length structs) w 0 elem (struct_long structs sound (length structs) (length structs) (omega arith) (omega arith)) (both_hold_first (is_elem (length structs) (Some elem)) (nat_le 1 count) plain) in
     ap (λ z. get_or (repeated count (elem_items w 0 elem)) (i * z + n) 0) (sym long)
     ∙ repeated_at count i n (elem_items w 0 elem) below (omega (arith, long, less))
     ∙ same elem
@@ -326,8 +310,8 @@ elem_same structs n (e.Struct m) small is = below_same structs n m (grind (arith
 pub type_same : (structs : List StructInfo) (n : ℕ) (ty : VarTy) → n ≤ length structs → is_plain_type n ty ≡ true → type_leaves (leaves_below structs n) ty ≡ leaves_of structs ty
 type_same structs n (Int t) small is = all_below structs (Int t)
 type_same structs n (Struct m) small is = below_same structs n m (grind (arith, nat_tests, is)) small ∙ all_below structs (Struct m)
-type_same structs n (Array elem count) small is = elem_same structs n elem small (and_left (is_elem n (Some elem)) (nat_le 1 count) is) ∙ all_below structs (Array elem count)
-type_same structs n (Pointer elem fixed) small is = never is
+type_same structs n (Array elem count) small is = elem_same structs n elem small (both_hold_first (is_elem n (Some elem)) (nat_le 1 count) is) ∙ all_below structs (Array elem count)
+type_same structs n (Pointer elem fixed) small is = false_not_true is
 
 -- how many leaves fields have together
 abbrev pub all_leaves : List StructInfo → List Field → ℕ
@@ -337,8 +321,8 @@ all_leaves structs (f ∷ fs) = leaf_count structs f.ty + all_leaves structs fs
 fields_count : (structs : List StructInfo) (n k : ℕ) (fs : List Field) → n ≤ length structs → list_all (field_sound structs n) fs ≡ true → length (fields_leaves (leaves_below structs n) k fs) ≡ all_leaves structs fs
 fields_count structs n k [] small is = refl
 fields_count structs n k (f ∷ fs) small is =
-    let one = ap length (type_same structs n f.ty small (and_left (is_plain_type n f.ty) (is_small structs f.ty) (and_left (field_sound structs n f) (list_all (field_sound structs n) fs) is))) in
-    let rest = fields_count structs n (suc k) fs small (and_right (field_sound structs n f) (list_all (field_sound structs n) fs) is) in
+    let one = ap length (type_same structs n f.ty small (both_hold_first (is_plain_type n f.ty) (is_small structs f.ty) (both_hold_first (field_sound structs n f) (list_all (field_sound structs n) fs) is))) in
+    let rest = fields_count structs n (suc k) fs small (both_hold_second (field_sound structs n f) (list_all (field_sound structs n) fs) is) in
     let both = length-append (map (leaf_of_field k f.marked) (type_leaves (leaves_below structs n) f.ty)) (fields_leaves (leaves_below structs n) (suc k) fs) in
     let same = length-map (type_leaves (leaves_below structs n) f.ty) (leaf_of_field k f.marked) in
     omega (arith, one, rest, both, same)
@@ -355,26 +339,23 @@ AreBelow bound xs = list_all (λ x. nat_lt x bound) xs ≡ true
 more_below : (a b : ℕ) (xs : List ℕ) → a ≤ b → AreBelow a xs → AreBelow b xs
 more_below a b [] le h = refl
 more_below a b (x ∷ xs) le h =
-    let one = and_left (nat_lt x a) (list_all (λ y. nat_lt y a) xs) h in
-    and_both (nat_lt x b) (list_all (λ y. nat_lt y b) xs) (grind (arith, nat_tests, one, le)) (more_below a b xs le (and_right (nat_lt x a) (list_all (λ y. nat_lt y a) xs) h))
+    let one = both_hold_first (nat_lt x a) (list_all (λ y. nat_lt y a) xs) h in
+    both_hold (nat_lt x b) (list_all (λ y. nat_lt y b) xs) (grind (arith, nat_tests, one, le)) (more_below a b xs le (both_hold_second (nat_lt x a) (list_all (λ y. nat_lt y a) xs) h))
 
 both_below : (b : ℕ) (xs ys : List ℕ) → AreBelow b xs → AreBelow b ys → AreBelow b (xs ++ ys)
 both_below b [] ys h k = k
-both_below b (x ∷ xs) ys h k = and_both (nat_lt x b) (list_all (λ y. nat_lt y b) (xs ++ ys)) (and_left (nat_lt x b) (list_all (λ y. nat_lt y b) xs) h) (both_below b xs ys (and_right (nat_lt x b) (list_all (λ y. nat_lt y b) xs) h) k)
+both_below b (x ∷ xs) ys h k = both_hold (nat_lt x b) (list_all (λ y. nat_lt y b) (xs ++ ys)) (both_hold_first (nat_lt x b) (list_all (λ y. nat_lt y b) xs) h) (both_below b xs ys (both_hold_second (nat_lt x b) (list_all (λ y. nat_lt y b) xs) h) k)
 
 repeated_below : (b count : ℕ) (xs : List ℕ) → AreBelow b xs → AreBelow b (repeated count xs)
 repeated_below b zero xs h = refl
 repeated_below b (suc n) xs h = both_below b xs (repeated n xs) h (repeated_below b n xs h)
-
-own_below : (s : ℕ) → nat_lt s (s + 1) ≡ true
-own_below s = grind (arith, nat_tests)
 
 abbrev StayBelow : List StructInfo → ℕ → Within → Type 0
 StayBelow structs m w = (s n : ℕ) → n < m → AreBelow (s + leaf_count structs (Struct n)) (w s n)
 
 elem_below : (structs : List StructInfo) (m : ℕ) (w : Within) (s : ℕ) (elem : Elem) → StayBelow structs m w → is_elem m (Some elem) ≡ true → AreBelow (s + leaf_count structs (type_of_elem elem)) (elem_items w s elem)
 unfolding leaves_of
-elem_below structs m w s (e.Int t) h is = and_both (nat_lt s (s + 1)) true (own_below s) refl
+elem_below structs m w s (e.Int t) h is = both_hold (nat_lt s (s + 1)) true (nat_lt_next s) refl
 elem_below structs m w s (e.Struct n) h is = h s n (grind (arith, nat_tests, is))
 
 same_array : (structs : List StructInfo) (elem : Elem) (count : ℕ) → leaf_count structs (Array elem count) ≡ leaf_count structs (type_of_elem elem)
@@ -384,18 +365,18 @@ same_array structs (e.Struct n) count = refl
 
 type_below : (structs : List StructInfo) (m : ℕ) (w : Within) (s : ℕ) (ty : VarTy) → StayBelow structs m w → is_plain_type m ty ≡ true → AreBelow (s + leaf_count structs ty) (type_items w s ty)
 unfolding leaves_of
-type_below structs m w s (Int t) h is = and_both (nat_lt s (s + 1)) true (own_below s) refl
+type_below structs m w s (Int t) h is = both_hold (nat_lt s (s + 1)) true (nat_lt_next s) refl
 type_below structs m w s (Struct n) h is = h s n (grind (arith, nat_tests, is))
 type_below structs m w s (Array elem count) h is =
     repeated_below (s + leaf_count structs (Array elem count)) count (elem_items w s elem)
-    (subst (λ z. AreBelow (s + z) (elem_items w s elem)) (sym (same_array structs elem count)) (elem_below structs m w s elem h (and_left (is_elem m (Some elem)) (nat_le 1 count) is)))
-type_below structs m w s (Pointer elem fixed) h is = never is
+    (subst (λ z. AreBelow (s + z) (elem_items w s elem)) (sym (same_array structs elem count)) (elem_below structs m w s elem h (both_hold_first (is_elem m (Some elem)) (nat_le 1 count) is)))
+type_below structs m w s (Pointer elem fixed) h is = false_not_true is
 
 fields_below : (structs : List StructInfo) (m : ℕ) (w : Within) (s : ℕ) (fs : List Field) → StayBelow structs m w → list_all (field_sound structs m) fs ≡ true → AreBelow (s + all_leaves structs fs) (fields_items (leaf_count structs) w s fs)
 fields_below structs m w s [] h is = refl
 fields_below structs m w s (f ∷ fs) h is =
-    let one = type_below structs m w s f.ty h (and_left (is_plain_type m f.ty) (is_small structs f.ty) (and_left (field_sound structs m f) (list_all (field_sound structs m) fs) is)) in
-    let rest = fields_below structs m w (s + leaf_count structs f.ty) fs h (and_right (field_sound structs m f) (list_all (field_sound structs m) fs) is) in
+    let one = type_below structs m w s f.ty h (both_hold_first (is_plain_type m f.ty) (is_small structs f.ty) (both_hold_first (field_sound structs m f) (list_all (field_sound structs m) fs) is)) in
+    let rest = fields_below structs m w (s + leaf_count structs f.ty) fs h (both_hold_second (field_sound structs m f) (list_all (field_sound structs m) fs) is) in
     both_below (s + all_leaves structs (f ∷ fs)) (type_items w s f.ty) (fields_items (leaf_count structs) w (s + leaf_count structs f.ty) fs)
     (more_below (s + leaf_count structs f.ty) (s + all_leaves structs (f ∷ fs)) (type_items w s f.ty) (first s (leaf_count structs f.ty) (all_leaves structs fs)) one)
     (subst (λ z. AreBelow z (fields_items (leaf_count structs) w (s + leaf_count structs f.ty) fs)) (regroup s (leaf_count structs f.ty) (all_leaves structs fs)) rest)

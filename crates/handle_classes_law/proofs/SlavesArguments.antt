@@ -12,14 +12,16 @@ use Rattle.flow_rules.specs.Secrets.{Flows, secret_slots, secrets_of, unmarked_l
 use Rattle.flow_rules.specs.declared.rule.Rule.TheVariants.{PrivToHost, PrivToPlainParam}
 use Rattle.handle_classes.specs.Classes.{Class, World, integer_class}
 use Rattle.handle_classes.specs.Judgment as may
-use Rattle.lowered_code_law.proofs.FormsPlaces.{all_at, variable_known}
+use Rattle.lowered_code_law.proofs.FormsPlaces.{variable_known}
 use Rattle.lowered_code_law.proofs.FormsRules.{type_is}
-use Rattle.lowered_code_law.proofs.FormsSameTypes.{never}
 use Rattle.lowered_code_law.proofs.FormsSteps.{one_type}
+use Rattle.lowered_code_law.proofs.FormLemmas.{param_scalar}
 use Rattle.handle_classes_law.specs.ObjectsCells.{class_at, is_pointer, leaf_under}
 use Rattle.pt_base.specs.declared.ids.FnId.{FnId}
 use Rattle.pt_base.specs.declared.int_type.IntType.{IntType}
 use Rattle.pt_base.specs.declared.int_type.IntType.TheVariants as i
+use Rattle.pt_base.proofs.Booleans.{both_hold, both_hold_first, both_hold_second, false_not_true}
+use Rattle.pt_base.proofs.Members.{all_true_at}
 use Rattle.pt_tree.specs.declared.signature.Param.{Param}
 use Rattle.pt_tree.specs.declared.signature.ParamKind.{ParamKind}
 use Rattle.pt_tree.specs.declared.signature.ParamKind.TheVariants as kind
@@ -33,7 +35,6 @@ use Rattle.sides.specs.declared.objects.Object.{Object}
 use Rattle.usages.specs.declared.usage.How.TheVariants.{Passed}
 use Rattle.source_meaning.specs.Expressions.{type_of}
 use Rattle.typed_tree.proofs.SameTypes.{equal_types}
-use Rattle.typed_tree.proofs.WellFormedLemmas.{and_both, and_left, and_right}
 use Rattle.typed_tree.specs.ExpressionTree as src
 use Rattle.typed_tree.specs.Lookup.{function_at}
 use Rattle.typed_tree.specs.Sizes.{cells_by, sizes_of}
@@ -58,12 +59,12 @@ use Rattle.handle_classes_law.specs.SlavesMarked.{entry_by, entry_class, held_cl
 -- a parameter is a variable of its type
 pub param_lies : (ps : List Param) (xs : List Var) (k : ℕ) (q : Param) → params_lead ps xs ≡ true → slice_get ps k ≡ Some q → option_map (λ (y : Var). y.ty) (slice_get xs k) ≡ Some (param_type q.kind)
 param_lies [] xs k q h is = cc
-param_lies (p ∷ ps) [] k q h is = never h
-param_lies (p ∷ ps) (x ∷ xs) zero q h is = subst (λ z. Some x.ty ≡ Some (param_type z.kind)) (same p q is) (ap Some (sym (equal_types (param_type p.kind) x.ty (and_left (same_type (param_type p.kind) x.ty) (same_bool p.marked x.marked) (and_left (same_type (param_type p.kind) x.ty && same_bool p.marked x.marked) (params_lead ps xs) h)))))
+param_lies (p ∷ ps) [] k q h is = false_not_true h
+param_lies (p ∷ ps) (x ∷ xs) zero q h is = subst (λ z. Some x.ty ≡ Some (param_type z.kind)) (same p q is) (ap Some (sym (equal_types (param_type p.kind) x.ty (both_hold_first (same_type (param_type p.kind) x.ty) (same_bool p.marked x.marked) (both_hold_first (same_type (param_type p.kind) x.ty && same_bool p.marked x.marked) (params_lead ps xs) h)))))
   where
     same : (a c : Param) → Some a ≡ Some c → a ≡ c
     same a c e = cc
-param_lies (p ∷ ps) (x ∷ xs) (suc k) q h is = param_lies ps xs k q (and_right (same_type (param_type p.kind) x.ty && same_bool p.marked x.marked) (params_lead ps xs) h) is
+param_lies (p ∷ ps) (x ∷ xs) (suc k) q h is = param_lies ps xs k q (both_hold_second (same_type (param_type p.kind) x.ty && same_bool p.marked x.marked) (params_lead ps xs) h) is
 
 pub object_lies : (count : VarTy → ℕ) (start : ℕ) (xs : List Var) (k : ℕ) (ty : VarTy) → option_map (λ (y : Var). y.ty) (slice_get xs k) ≡ Some ty → (s : ℕ) × (slice_get (objects_from count start (map (λ (y : Var). y.ty) xs)) k ≡ Some (record { ty = ty; start = s }))
 object_lies count start [] k ty h = cc
@@ -90,7 +91,7 @@ callee_is p f b g k x q looks called is = go (slice_get p.tree.functions g) refl
 
     go : (o : Option FunctionTree) → slice_get p.tree.functions g ≡ o → option_map (λ (y : FunctionTree). y.signature) o ≡ Some x → Callee p.tree g k q
     go None e h = cc
-    go (Some y) e h = record { tree = y; at = e; param = subst (λ z. slice_get z.params k ≡ Some q) (sym (same y.signature x h)) is; sound = all_at (function_sound p.tree) p.tree.functions g y looks.functions e }
+    go (Some y) e h = record { tree = y; at = e; param = subst (λ z. slice_get z.params k ≡ Some q) (sym (same y.signature x h)) is; sound = all_true_at (function_sound p.tree) p.tree.functions g y looks.functions e }
 
 -- where the parameter's object begins
 pub record ParamObject (t : TypedTree) (g k : ℕ) (q : Param) (xs : List Var) : Type 0 where
@@ -101,20 +102,16 @@ pub record ParamObject (t : TypedTree) (g k : ℕ) (q : Param) (xs : List Var) :
 
 pub param_object : (t : TypedTree) (g k : ℕ) (q : Param) → (c : Callee t g k q) → ParamObject t g k q c.tree.vars
 param_object t g k q c =
-    let lead = and_right (nat_le (length c.tree.signature.params) 8) (params_lead c.tree.signature.params c.tree.vars) (and_left (nat_le (length c.tree.signature.params) 8 && params_lead c.tree.signature.params c.tree.vars) (list_all (variable_sound t.structs) c.tree.vars && body_sound t c.tree c.tree.body) c.sound) in
-    let vars = and_left (list_all (variable_sound t.structs) c.tree.vars) (body_sound t c.tree c.tree.body) (and_right (nat_le (length c.tree.signature.params) 8 && params_lead c.tree.signature.params c.tree.vars) (list_all (variable_sound t.structs) c.tree.vars && body_sound t c.tree c.tree.body) c.sound) in
+    let lead = both_hold_second (nat_le (length c.tree.signature.params) 8) (params_lead c.tree.signature.params c.tree.vars) (both_hold_first (nat_le (length c.tree.signature.params) 8 && params_lead c.tree.signature.params c.tree.vars) (list_all (variable_sound t.structs) c.tree.vars && body_sound t c.tree c.tree.body) c.sound) in
+    let vars = both_hold_first (list_all (variable_sound t.structs) c.tree.vars) (body_sound t c.tree c.tree.body) (both_hold_second (nat_le (length c.tree.signature.params) 8 && params_lead c.tree.signature.params c.tree.vars) (list_all (variable_sound t.structs) c.tree.vars && body_sound t c.tree c.tree.body) c.sound) in
     let lies = param_lies c.tree.signature.params c.tree.vars k q lead c.param in
     let o = object_lies (leaf_count t.structs) (get_or (function_starts t) g 0) c.tree.vars k (param_type q.kind) lies in
     record {
       start = o.0;
       object = subst (λ z. slice_get (objects_from (leaf_count t.structs) (get_or (function_starts t) g 0) (option_map_or variable_types z [])) k ≡ Some (record { ty = param_type q.kind; start = o.0 })) (sym c.at) o.1;
       below = lies_below c.tree.vars k (param_type q.kind) lies;
-      known = and_left (is_variable_type (length t.structs) (param_type q.kind)) (is_small t.structs (param_type q.kind)) (variable_known t.structs c.tree.vars k (param_type q.kind) vars lies);
+      known = both_hold_first (is_variable_type (length t.structs) (param_type q.kind)) (is_small t.structs (param_type q.kind)) (variable_known t.structs c.tree.vars k (param_type q.kind) vars lies);
     }
-
-pub param_scalar : (d : ParamKind) → is_scalar (Some (param_type d)) ≡ true
-param_scalar (kind.Int t) = refl
-param_scalar (kind.Ptr elem fixed) = refl
 
 -- the structs are the bench's
 pub same_structs : (p : Flows) (f : FnId) (b : Bench) → Looks p f b → p.tree.structs ≡ b.w.names.structs
@@ -166,20 +163,20 @@ unfolding leaves_of
 entry_flows m t g k marked (Int u) starts v sound known scalar by clean back = record {
   kind = by.kind;
   first = λ no e. go marked refl (by.number refl e);
-  size = λ p. never p;
-  may = λ p n less e. never p;
-  must = λ p n less e. never p;
+  size = λ p. false_not_true p;
+  may = λ p n less e. false_not_true p;
+  must = λ p n less e. false_not_true p;
 }
   where
     go : (c : Bool) → marked ≡ c → list_any (λ s. m (s + 0)) starts ≡ true → (c || false) ≡ true
     go true is e = refl
-    go false is e = never (sym (clean is 0 (omega arith) refl) ∙ e)
+    go false is e = false_not_true (sym (clean is 0 (omega arith) refl) ∙ e)
 entry_flows m t g k marked (Pointer elem fixed) starts v sound known scalar by clean back = record {
   kind = by.kind;
-  first = λ no e. never (sym no);
+  first = λ no e. false_not_true (sym no);
   size = λ p. by.size;
   may = λ p n less e. go n marked (get_or (leaves_of t.structs (Pointer elem fixed)) (leaf n) whole).marked refl refl (own n less) (sym (by.may refl n less) ∙ e);
-  must = λ p n less e. by.must refl n less ∙ back (leaf n) (own n less) (and_left (gives_back (slice_get t.functions g) k) (sealed n) e) (and_right (gives_back (slice_get t.functions g) k) (sealed n) e);
+  must = λ p n less e. by.must refl n less ∙ back (leaf n) (own n less) (both_hold_first (gives_back (slice_get t.functions g) k) (sealed n) e) (both_hold_second (gives_back (slice_get t.functions g) k) (sealed n) e);
 }
   where
     leaf : ℕ → ℕ
@@ -194,9 +191,9 @@ entry_flows m t g k marked (Pointer elem fixed) starts v sound known scalar by c
     go : (n : ℕ) (c d : Bool) → marked ≡ c → (get_or (leaves_of t.structs (Pointer elem fixed)) (leaf n) whole).marked ≡ d → leaf n < leaf_count t.structs (Pointer elem fixed) → list_any (λ s. m (s + leaf n)) starts ≡ true → (c || d) ≡ true
     go n true d is of less e = refl
     go n false true is of less e = refl
-    go n false false is of less e = never (sym (clean is (leaf n) less of) ∙ e)
-entry_flows m t g k marked (Struct n) starts v sound known scalar by clean back = never scalar
-entry_flows m t g k marked (Array elem n) starts v sound known scalar by clean back = never scalar
+    go n false false is of less e = false_not_true (sym (clean is (leaf n) less of) ∙ e)
+entry_flows m t g k marked (Struct n) starts v sound known scalar by clean back = false_not_true scalar
+entry_flows m t g k marked (Array elem n) starts v sound known scalar by clean back = false_not_true scalar
 
 -- the leaves of an argument that lie under no marked field
 pub clean_leaves : (p : Flows) (f : FnId) (b : Bench) (g : FnId) (k : ℕ) (q : Param) (a : src.ExprTree) (c : Callee p.tree g.0 k q) → Looks p f b → c.tree.signature.privileged ≡ true → ty_of a ≡ Some (param_type q.kind) → priv_to_plain_param p f (Passed g k) a ≡ [] →
@@ -207,7 +204,7 @@ clean_leaves p f b g k q a c looks privileged is h plain j less free = none_mark
     unmarked = ap (λ z. option_map_or (λ (y : Param). not y.marked) z false) c.param ∙ ap not plain
 
     test : function_is (λ x. x.signature.privileged && is_unmarked_param x k) p.tree g ≡ true
-    test = ap (λ z. option_map_or (λ x. x.signature.privileged && is_unmarked_param x k) z false) c.at ∙ and_both c.tree.signature.privileged (is_unmarked_param c.tree k) privileged unmarked
+    test = ap (λ z. option_map_or (λ x. x.signature.privileged && is_unmarked_param x k) z false) c.at ∙ both_hold c.tree.signature.privileged (is_unmarked_param c.tree k) privileged unmarked
 
     none : secret_slots p (carried (scope_of p.tree f.0) a) (unmarked_leaves p.tree.structs (ty_of a)) ≡ []
     none = not_found PrivToPlainParam (span_of a) (secret_slots p (carried (scope_of p.tree f.0) a) (unmarked_leaves p.tree.structs (ty_of a)))
@@ -229,7 +226,7 @@ clean_leaves p f b g k q a c looks privileged is h plain j less free = none_mark
 pub all_behind : (m : ℕ → Bool) (leaves starts : List ℕ) (j : ℕ) → has leaves j ≡ true → list_all m (flat_map (λ s. map (λ i. s + i) leaves) starts) ≡ true → list_all (λ s. m (s + j)) starts ≡ true
 all_behind m leaves [] j is h = refl
 all_behind m leaves (s ∷ ss) j is h =
-    and_both (m (s + j)) (list_all (λ z. m (z + j)) ss) (in_map s leaves m j is (all_first m (map (λ i. s + i) leaves) (flat_map (λ z. map (λ i. z + i) leaves) ss) h))
+    both_hold (m (s + j)) (list_all (λ z. m (z + j)) ss) (in_map s leaves m j is (all_first m (map (λ i. s + i) leaves) (flat_map (λ z. map (λ i. z + i) leaves) ss) h))
     (all_behind m leaves ss j is (all_rest m (map (λ i. s + i) leaves) (flat_map (λ z. map (λ i. z + i) leaves) ss) h))
 
 -- what comes back secret behind an argument is marked
@@ -280,21 +277,21 @@ entry_passes p f b g k q a c looks other privileged is none sealed = λ v by. su
 
 -- a host takes integers
 pub host_takes : (t : TypedTree) (x : FunctionTree) (k : ℕ) (q : Param) → function_sound t x ≡ true → x.body ≡ None → slice_get x.signature.params k ≡ Some q → (i : IntType) × (param_type q.kind ≡ Int i)
-host_takes t x k q sound none is = go q.kind refl (all_at is_integer_param x.signature.params k q (and_left (list_all is_integer_param x.signature.params) (nat_eq (length x.vars) (length x.signature.params)) host) is)
+host_takes t x k q sound none is = go q.kind refl (all_true_at is_integer_param x.signature.params k q (both_hold_first (list_all is_integer_param x.signature.params) (nat_eq (length x.vars) (length x.signature.params)) host) is)
   where
     body : body_sound t x x.body ≡ true
-    body = and_right (list_all (variable_sound t.structs) x.vars) (body_sound t x x.body) (and_right (nat_le (length x.signature.params) 8 && params_lead x.signature.params x.vars) (list_all (variable_sound t.structs) x.vars && body_sound t x x.body) sound)
+    body = both_hold_second (list_all (variable_sound t.structs) x.vars) (body_sound t x x.body) (both_hold_second (nat_le (length x.signature.params) 8 && params_lead x.signature.params x.vars) (list_all (variable_sound t.structs) x.vars && body_sound t x x.body) sound)
 
     host : (list_all is_integer_param x.signature.params && nat_eq (length x.vars) (length x.signature.params)) ≡ true
-    host = and_right x.signature.host (list_all is_integer_param x.signature.params && nat_eq (length x.vars) (length x.signature.params)) (subst (λ z. body_sound t x z ≡ true) none body)
+    host = both_hold_second x.signature.host (list_all is_integer_param x.signature.params && nat_eq (length x.vars) (length x.signature.params)) (subst (λ z. body_sound t x z ≡ true) none body)
 
     go : (d : ParamKind) → q.kind ≡ d → is_integer_kind q.kind ≡ true → (i : IntType) × (param_type q.kind ≡ Int i)
     go (kind.Int i) e h = (i, ap param_type e)
-    go (kind.Ptr elem fixed) e h = never (subst (λ z. is_integer_kind z ≡ true) e h)
+    go (kind.Ptr elem fixed) e h = false_not_true (subst (λ z. is_integer_kind z ≡ true) e h)
 
 pub no_body : (o : Option BodyTree) → is_some o ≡ false → o ≡ None
 no_body None h = refl
-no_body (Some x) h = never (sym h)
+no_body (Some x) h = false_not_true (sym h)
 
 pub one_leaf : (b : Bench) (t : IntType) → 0 < leaf_count b.w.names.structs (Int t)
 unfolding leaves_of
@@ -305,9 +302,9 @@ pub host_passes : (p : Flows) (f : FnId) (b : Bench) (g : FnId) (k : ℕ) (q : P
 host_passes p f b g k q a c looks other shown is none closed = λ v by. subst (λ z. may.Flows v z) (sym class) (record {
   kind = (arrives b a ty v is by).kind ∙ ap is_pointer int.1;
   first = λ e m. both v by m;
-  size = λ e. never e;
-  may = λ e n less m. never e;
-  must = λ e n less m. never e;
+  size = λ e. false_not_true e;
+  may = λ e n less m. false_not_true e;
+  must = λ e n less m. false_not_true e;
 })
   where
     ty : VarTy
@@ -317,14 +314,14 @@ host_passes p f b g k q a c looks other shown is none closed = λ v by. subst (�
     bodiless = no_body c.tree.body (go (is_some c.tree.body) other)
       where
         go : (x : Bool) → (x && not c.tree.signature.privileged) ≡ false → x ≡ false
-        go true h = never (sym h ∙ ap not shown)
+        go true h = false_not_true (sym h ∙ ap not shown)
         go false h = refl
 
     int : (i : IntType) × (ty ≡ Int i)
     int = host_takes p.tree c.tree k q c.sound bodiless c.param
 
     host : is_slave_host c.tree ≡ true
-    host = and_both (is_none c.tree.body) (not c.tree.signature.privileged) (ap is_none bodiless) (ap not shown)
+    host = both_hold (is_none c.tree.body) (not c.tree.signature.privileged) (ap is_none bodiless) (ap not shown)
 
     class : b.world.param g.0 k ≡ host_class b.marks p.tree g.0 c.tree k q
     class = ap (λ (w : World). w.param g.0 k) looks.world
@@ -342,14 +339,14 @@ host_passes p f b g k q a c looks other shown is none closed = λ v by. subst (�
         unmarked = ap (λ z. option_map_or (λ (y : Param). not y.marked) z false) c.param ∙ ap not plain
 
         test : function_is (λ x. is_slave_host x && is_unmarked_param x k) p.tree g ≡ true
-        test = ap (λ z. option_map_or (λ x. is_slave_host x && is_unmarked_param x k) z false) c.at ∙ and_both (is_slave_host c.tree) (is_unmarked_param c.tree k) host unmarked
+        test = ap (λ z. option_map_or (λ x. is_slave_host x && is_unmarked_param x k) z false) c.at ∙ both_hold (is_slave_host c.tree) (is_unmarked_param c.tree k) host unmarked
 
     -- what may be a handle
     may_be : (v : Class) → IsBy v (class_here b a) → v.may 0 ≡ true → list_any (λ s. b.marks (s + 0)) (carried (seen b) a) ≡ true
     may_be v by m = (subst (λ z. IsBy v (at_slots b z (carried (seen b) a))) int.1 (arrives b a ty v is by)).number refl m
 
     result_marked : is_none c.tree.signature.result ≡ false → q.marked ≡ true → list_any (λ s. b.marks (s + 0)) (carried (seen b) a) ≡ true → b.marks (result_start p.tree + g.0) ≡ true
-    result_marked gives marked m = subst (λ z. b.marks z ≡ true) (plus_none (result_start p.tree + g.0)) (and_left (b.marks (result_start p.tree + g.0 + 0)) true (forward b a ty ((result_start p.tree + g.0) ∷ []) 0 moves is one m))
+    result_marked gives marked m = subst (λ z. b.marks z ≡ true) (plus_none (result_start p.tree + g.0)) (both_hold_first (b.marks (result_start p.tree + g.0 + 0)) true (forward b a ty ((result_start p.tree + g.0) ∷ []) 0 moves is one m))
       where
         plus_none : (j : ℕ) → j + 0 ≡ j
         plus_none j = omega arith
@@ -361,12 +358,12 @@ host_passes p f b g k q a c looks other shown is none closed = λ v by. subst (�
         plain = ap (λ z. option_map_or is_plain z false) c.at ∙ other
 
         some : (o : Option IntType) → is_none o ≡ false → is_some o ≡ true
-        some None h = never (sym h)
+        some None h = false_not_true (sym h)
         some (Some z) h = refl
 
         mixed : option_map_or (λ x. mixes x k) (function_at p.tree g) false ≡ true
-        mixed = ap (λ z. option_map_or (λ x. mixes x k) z false) c.at ∙ and_both (is_slave_host c.tree) (is_some c.tree.signature.result && option_map_or (λ (y : Param). y.marked) (slice_get c.tree.signature.params k) false) host
-            (and_both (is_some c.tree.signature.result) (option_map_or (λ (y : Param). y.marked) (slice_get c.tree.signature.params k) false) (some c.tree.signature.result gives) (ap (λ z. option_map_or (λ (y : Param). y.marked) z false) c.param ∙ marked))
+        mixed = ap (λ z. option_map_or (λ x. mixes x k) z false) c.at ∙ both_hold (is_slave_host c.tree) (is_some c.tree.signature.result && option_map_or (λ (y : Param). y.marked) (slice_get c.tree.signature.params k) false) host
+            (both_hold (is_some c.tree.signature.result) (option_map_or (λ (y : Param). y.marked) (slice_get c.tree.signature.params k) false) (some c.tree.signature.result gives) (ap (λ z. option_map_or (λ (y : Param). y.marked) z false) c.param ∙ marked))
 
         to : passed_slots p.tree g k ≡ (result_start p.tree + g.0) ∷ []
         to = ap (λ z. if z then start_of (slice_get (variable_objects p.tree g.0) k) else (if option_map_or (λ x. mixes x k) (function_at p.tree g) false then (result_start p.tree + g.0) ∷ [] else [])) plain
@@ -384,4 +381,4 @@ host_passes p f b g k q a c looks other shown is none closed = λ v by. subst (�
         go : (x y : Bool) → q.marked ≡ x → is_none c.tree.signature.result ≡ y → (x && (y || b.marks (result_start p.tree + g.0))) ≡ true
         go true true e h = refl
         go true false e h = result_marked h e (may_be v by m)
-        go false y e h = never (sym (unmarked_plain e kind_here) ∙ by.number kind_here m)
+        go false y e h = false_not_true (sym (unmarked_plain e kind_here) ∙ by.number kind_here m)

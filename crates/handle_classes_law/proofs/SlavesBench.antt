@@ -1,10 +1,12 @@
 -- What the code of one function is judged with, and the forms of pure expressions.
 use Rattle.std.proofs.Common.{◌≡◌, ◌∙◌, ◌<◌, ℕ, suc, ◌+◌, refl, ap, sym, subst, arith, Bool, true, false, Some, List, [], ◌∷◌, ◌++◌, length, if◌then◌else◌}
-use Rattle.std.specs.Prelude.{◌&&◌, slice_get}
+use Rattle.std.specs.Prelude.{slice_get}
 use Rattle.std.specs.Option.{option_map}
+use Rattle.std.proofs.lemmas.Bool.{and_right}
 use Rattle.pt_base.specs.declared.int_type.IntType.{IntType}
 use Rattle.pt_base.specs.declared.int_type.IntType.TheVariants as i
 use Rattle.pt_base.specs.declared.span.Span.{Span}
+use Rattle.pt_base.proofs.Booleans.{false_not_true}
 use Rattle.pt_tree.specs.declared.signature.Elem.{Elem}
 use Rattle.pt_tree.specs.declared.signature.Elem.TheVariants as e
 use Rattle.typed_tree.specs.declared.types.VarTy.{VarTy}
@@ -23,7 +25,6 @@ use Rattle.sides.specs.Carried.{carried, linked_slots}
 use Rattle.lowering.specs.Lowered.{Temp, Lowered, past, temp, hold, holding, held, held_if}
 use Rattle.lowering.specs.Operators.{as_int, truth_of}
 use Rattle.lowered_code_law.proofs.FormsSettings.{Agrees, Setting, context}
-use Rattle.lowered_code_law.proofs.FormsSameTypes.{never}
 use Rattle.handle_classes.specs.Classes.{Class, World, Scope, number_class, class_of, place_class}
 use Rattle.handle_classes.specs.Judgment.{IsFine, IsPlain, Goes, IsFineStatement, AreFineStatements}
 use Rattle.handle_classes_law.specs.ObjectsCells.{is_pointer, class_at}
@@ -115,30 +116,30 @@ is_int (Pointer elem fixed) = false
 
 pub int_object : (ty : VarTy) → is_int ty ≡ true → is_pointer ty ≡ false
 int_object (Int t) h = refl
-int_object (Struct n) h = never h
-int_object (Array elem count) h = never h
-int_object (Pointer elem fixed) h = never h
+int_object (Struct n) h = false_not_true h
+int_object (Array elem count) h = false_not_true h
+int_object (Pointer elem fixed) h = false_not_true h
 
 pub int_size : (b : Bench) (ty : VarTy) (slots : List ℕ) → is_int ty ≡ true → (at_slots b ty slots).size ≡ 1
 int_size b (Int t) slots h = refl
-int_size b (Struct n) slots h = never h
-int_size b (Array elem count) slots h = never h
-int_size b (Pointer elem fixed) slots h = never h
+int_size b (Struct n) slots h = false_not_true h
+int_size b (Array elem count) slots h = false_not_true h
+int_size b (Pointer elem fixed) slots h = false_not_true h
 
 pub scalar_room : (b : Bench) (ty : VarTy) (slots : List ℕ) → is_scalar (Some ty) ≡ true → is_pointer ty ≡ false → 0 < (at_slots b ty slots).size
 scalar_room b (Int t) slots h k = omega arith
-scalar_room b (Struct n) slots h k = never h
-scalar_room b (Array elem count) slots h k = never h
-scalar_room b (Pointer elem fixed) slots h k = never (sym k)
+scalar_room b (Struct n) slots h k = false_not_true h
+scalar_room b (Array elem count) slots h k = false_not_true h
+scalar_room b (Pointer elem fixed) slots h k = false_not_true (sym k)
 
 no_pointer : {X : Type 0} (p : Bool) → p ≡ false → p ≡ true → X
-no_pointer p h k = never (sym h ∙ k)
+no_pointer p h k = false_not_true (sym h ∙ k)
 
 pub number_by : (b : Bench) (ty : VarTy) (slots : List ℕ) (c : Class) → is_int ty ≡ true → c.pointer ≡ false → c.size ≡ 1 → c.may 0 ≡ false → IsBy c (at_slots b ty slots)
 number_by b ty slots c int kind size none = record {
   kind = kind ∙ sym (int_object ty int);
   size = size ∙ sym (int_size b ty slots int);
-  number = λ p h. never (sym none ∙ h);
+  number = λ p h. false_not_true (sym none ∙ h);
   may = λ p n less. no_pointer (is_pointer ty) (int_object ty int) p;
   must = λ p n less. no_pointer (is_pointer ty) (int_object ty int) p;
 }
@@ -147,7 +148,7 @@ pub plain_by : (v k : Class) → IsBy v k → k.pointer ≡ false → k.may 0 �
 plain_by v k h p q = record { integer = h.kind ∙ p; number = go (v.may 0) (h.number p) }
   where
     go : (x : Bool) → (x ≡ true → k.may 0 ≡ true) → x ≡ false
-    go true f = never (sym q ∙ f refl)
+    go true f = false_not_true (sym q ∙ f refl)
     go false f = refl
 
 -- the expression is an integer that is no handle
@@ -157,19 +158,15 @@ PlainIf b ty slots = is_pointer ty ≡ false → (at_slots b ty slots).may 0 ≡
 pub plain_value : (b : Bench) (ty : VarTy) (slots : List ℕ) (a : ExprTree) → is_int ty ≡ true → PlainIf b ty slots → ValueIs b ty slots a → IsPlain (class_of (judged b) a)
 plain_value b ty slots a int plain h = plain_by (class_of (judged b) a) (at_slots b ty slots) h.is (int_object ty int) (plain (int_object ty int))
 
-no_more : (x y : Bool) → y ≡ false → (x && y) ≡ false
-no_more true y h = h
-no_more false y h = refl
-
 pub as_int_fine : (b : Bench) (ty : VarTy) (to : IntType) (a : ExprTree) → is_int ty ≡ true → IsFine (judged b) a → IsPlain (class_of (judged b) a) → IsFine (judged b) (as_int ty to a) × IsPlain (class_of (judged b) (as_int ty to a))
 as_int_fine b (Int t) to a int h p = go (same_int t to)
   where
     go : (x : Bool) → IsFine (judged b) (if x then a else convert to a) × IsPlain (class_of (judged b) (if x then a else convert to a))
     go true = (h, p)
-    go false = ((h, p.integer, λ no. p.number), record { integer = refl; number = no_more (is_type (core.type_of (context b.w) a) to) ((class_of (judged b) a).may 0) p.number })
-as_int_fine b (Struct n) to a int h p = never int
-as_int_fine b (Array elem count) to a int h p = never int
-as_int_fine b (Pointer elem fixed) to a int h p = never int
+    go false = ((h, p.integer, λ no. p.number), record { integer = refl; number = and_right (is_type (core.type_of (context b.w) a) to) ((class_of (judged b) a).may 0) p.number })
+as_int_fine b (Struct n) to a int h p = false_not_true int
+as_int_fine b (Array elem count) to a int h p = false_not_true int
+as_int_fine b (Pointer elem fixed) to a int h p = false_not_true int
 
 -- ---- values
 
@@ -177,8 +174,8 @@ pub constant_is : (b : Bench) (ty : VarTy) (t : IntType) (v : _) → is_int ty �
 constant_is b ty t v int = record { fine = tt; is = number_by b ty [] number_class int refl refl refl }
 
 pub null_is : (b : Bench) (elem : Elem) (fixed : Bool) → ValueIs b (Pointer elem fixed) [] (null elem)
-null_is b (e.Int t) fixed = record { fine = tt; is = record { kind = refl; size = refl; number = λ p. never (sym p); may = λ p n less. refl; must = λ p n less. refl } }
-null_is b (e.Struct n) fixed = record { fine = tt; is = record { kind = refl; size = refl; number = λ p. never (sym p); may = λ p n less. refl; must = λ p n less. refl } }
+null_is b (e.Int t) fixed = record { fine = tt; is = record { kind = refl; size = refl; number = λ p. false_not_true (sym p); may = λ p n less. refl; must = λ p n less. refl } }
+null_is b (e.Struct n) fixed = record { fine = tt; is = record { kind = refl; size = refl; number = λ p. false_not_true (sym p); may = λ p n less. refl; must = λ p n less. refl } }
 
 pub at_by : (b : Bench) (ty : VarTy) (slots : List ℕ) (v : Class) → is_scalar (Some ty) ≡ true → IsAt v (at_slots b ty slots) → IsBy v (at_slots b ty slots)
 at_by b ty slots v scalar h = record {
@@ -207,15 +204,15 @@ kept_goes v k h room = go k.pointer refl
     go : (x : Bool) → k.pointer ≡ x → Goes v (kept_of x k)
     go true is = record {
       kind = h.kind;
-      room = λ p. never (sym p ∙ is);
-      sealed = λ p. never (sym p ∙ is);
+      room = λ p. false_not_true (sym p ∙ is);
+      sealed = λ p. false_not_true (sym p ∙ is);
       flows = λ p. record { kind = h.kind; first = h.number; size = λ q. h.size; may = λ q n less m. sym (h.may q n less) ∙ m; must = λ q n less m. h.must q n less ∙ m };
     }
     go false is = record {
       kind = h.kind;
       room = room;
       sealed = h.number;
-      flows = λ p. never (sym is ∙ p);
+      flows = λ p. false_not_true (sym is ∙ p);
     }
 
 pub kept_by : (k : Class) → IsBy (kept_class k) k
@@ -224,7 +221,7 @@ kept_by k = go k.pointer refl
   where
     go : (x : Bool) → k.pointer ≡ x → IsBy (kept_of x k) k
     go true is = by_same k
-    go false is = record { kind = refl; size = refl; number = λ p m. m; may = λ p n less. refl; must = λ p n less. never (sym is ∙ p) }
+    go false is = record { kind = refl; size = refl; number = λ p m. m; may = λ p n less. refl; must = λ p n less. false_not_true (sym is ∙ p) }
 
 -- the class of what a temporary would hold, by its expression
 pub record Keeps (b : Bench) (ty : VarTy) (slots : List ℕ) (x : Temp) : Type 0 where
@@ -266,8 +263,8 @@ truth_is b (Int t) slots a s scalar plain h = record {
   is = number_by b (Int i.Int) [] number_class refl refl refl refl;
 }
 truth_is b (Pointer elem fixed) slots a s scalar plain h = record { fine = (h.fine, tt, h.is.kind, refl); is = number_by b (Int i.Int) [] number_class refl refl refl refl }
-truth_is b (Struct n) slots a s scalar plain h = never scalar
-truth_is b (Array elem count) slots a s scalar plain h = never scalar
+truth_is b (Struct n) slots a s scalar plain h = false_not_true scalar
+truth_is b (Array elem count) slots a s scalar plain h = false_not_true scalar
 
 -- a truth may be dropped to any integer
 pub number_of : (b : Bench) (ty to : VarTy) (slots : List ℕ) (a : ExprTree) → is_int ty ≡ true → is_int to ≡ true → ValueIs b ty [] a → ValueIs b to slots a

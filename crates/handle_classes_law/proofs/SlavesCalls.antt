@@ -4,7 +4,6 @@ use Rattle.std.specs.Prelude.{◌||◌}
 use Rattle.std.specs.Option.{option_map}
 use Rattle.handle_classes.specs.Classes.{Class, Scope, class_of, integer_class, number_class}
 use Rattle.handle_classes.specs.Judgment.{AreFineArguments, Flows}
-use Rattle.lowered_code_law.proofs.FormsSameTypes.{never}
 use Rattle.lowered_code_law.proofs.FormsSettings.{Stand}
 use Rattle.lowered_code_law.proofs.FormsStanding.{stand_first, stand_rest}
 use Rattle.lowered_code_law.proofs.FormsSteps.{one_type}
@@ -13,6 +12,7 @@ use Rattle.lowering.specs.Lowered.{Arguments, Lowered, holding, past}
 use Rattle.pt_base.specs.declared.int_type.IntType.{IntType}
 use Rattle.pt_base.specs.declared.int_type.IntType.TheVariants as i
 use Rattle.pt_base.specs.declared.span.Span.{Span}
+use Rattle.pt_base.proofs.Booleans.{false_not_true}
 use Rattle.pt_core.specs.CodeTree.{ExprTrees, call, expr_and, expr_trees, no_exprs}
 use Rattle.sides.specs.Carried.{carried}
 use Rattle.source_meaning.specs.Expressions.{type_of, type_or_int}
@@ -70,9 +70,9 @@ result_flows : (b : Bench) (g : ℕ) (t : IntType) (c : Class) → Fits b → c 
 result_flows b g t c fits is = subst (λ z. Flows (integer_class (b.world.result g)) z) (sym is) (record {
   kind = refl;
   first = λ p m. marked (b.results + g) (fits.results g m);
-  size = λ p. never p;
-  may = λ p n less m. never p;
-  must = λ p n less m. never p;
+  size = λ p. false_not_true p;
+  may = λ p n less m. false_not_true p;
+  must = λ p n less m. false_not_true p;
 })
   where
     marked : (s : ℕ) → b.marks s ≡ true → (b.marks (s + 0) || false) ≡ true

@@ -3,6 +3,7 @@ use Rattle.std.proofs.Common.{◌≡◌, ◌∙◌, ◌≤◌, ◌<◌, ℕ, ◌
 use Rattle.std.specs.Prelude.{◌||◌, ◌&&◌, nat_le}
 use Rattle.std.specs.List.{list_any, list_all}
 use Rattle.std.proofs.lemmas.Bool.Decides.{nat_tests}
+use Rattle.pt_base.proofs.Booleans.{both_hold_second}
 use Rattle.pt_tree.specs.declared.signature.Elem.{Elem}
 use Rattle.pt_tree.specs.declared.signature.Elem.TheVariants as e
 use Rattle.typed_tree.specs.declared.types.VarTy.{VarTy}
@@ -12,7 +13,6 @@ use Rattle.typed_tree.specs.Sizes.{sizes_of, elem_cells, cells_by}
 use Rattle.typed_tree.specs.TypeTests.{type_of_elem}
 use Rattle.typed_tree.specs.WellFormed.{is_plain_type, structs_sound}
 use Rattle.typed_tree.specs.WellFormedExpression.{is_elem}
-use Rattle.typed_tree.proofs.WellFormedLemmas.{and_right}
 use Rattle.pt_core.specs.CodeTree.{PlaceTree, place}
 use Rattle.pt_core.specs.Types.{Context, field_type, path_type, pointee_type, place_type, root_type}
 use Rattle.pt_core.specs.Values.{offset_in}
@@ -250,7 +250,7 @@ decay_class m structs elem count fixed slots v size sound plain is h = record {
 }
   where
     some_count : 0 < count
-    some_count = let one = and_right (is_elem (length structs) (Some elem)) (nat_le 1 count) plain in grind (arith, nat_tests, one)
+    some_count = let one = both_hold_second (is_elem (length structs) (Some elem)) (nat_le 1 count) plain in grind (arith, nat_tests, one)
 
     within : (n : ℕ) → n < cells_by (sizes_of structs) (type_of_elem elem) → n < elem_cells (sizes_of structs) elem
     within n less = let z = elem_size structs elem in omega (arith, less, z)

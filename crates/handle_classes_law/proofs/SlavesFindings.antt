@@ -7,13 +7,14 @@ use Rattle.std.specs.Option.{option_map}
 use Rattle.flow_rules.specs.Findings.{changed_operand, changed_operands, found}
 use Rattle.flow_rules.specs.Secrets.{Flows, secret_slots, secrets_of, value_leaves}
 use Rattle.flow_rules.specs.declared.rule.Rule.TheVariants.{OperationOnPriv}
-use Rattle.lowered_code_law.proofs.FormsSameTypes.{never}
 use Rattle.pt_base.specs.declared.ids.FnId.{FnId}
 use Rattle.pt_base.specs.declared.span.Span.{Span}
+use Rattle.pt_base.proofs.Booleans.{both_hold, both_hold_first, both_hold_second, false_not_true}
+use Rattle.pt_base.proofs.Lists.{append_nil_first, append_nil_second, filter_append}
+use Rattle.pt_base.proofs.Numbers.{nat_eq_same}
 use Rattle.sides.specs.Carried.{Scope, carried, place_slots, scope_of}
 use Rattle.sides.specs.Leaves.{leaves_of}
 use Rattle.source_meaning.specs.Expressions.{type_of, type_or_int}
-use Rattle.typed_tree.proofs.WellFormedLemmas.{and_both, and_left, and_right}
 use Rattle.typed_tree.specs.ExpressionTree.{FormTree, typed}
 use Rattle.typed_tree.specs.ExpressionTree as src
 use Rattle.typed_tree.specs.TypeTests.{is_scalar}
@@ -27,21 +28,13 @@ use Rattle.handle_classes_law.specs.SlavesMarked.{slave_world}
 
 -- ---- lists
 
-pub none_left : {X : Type 0} (xs ys : List X) → xs ++ ys ≡ [] → xs ≡ []
-none_left [] ys h = refl
-none_left (x ∷ xs) ys h = cc
-
-pub none_right : {X : Type 0} (xs ys : List X) → xs ++ ys ≡ [] → ys ≡ []
-none_right [] ys h = h
-none_right (x ∷ xs) ys h = cc
-
 pub all_first : (f : ℕ → Bool) (xs ys : List ℕ) → list_all f (xs ++ ys) ≡ true → list_all f xs ≡ true
 all_first f [] ys h = refl
-all_first f (x ∷ xs) ys h = and_both (f x) (list_all f xs) (and_left (f x) (list_all f (xs ++ ys)) h) (all_first f xs ys (and_right (f x) (list_all f (xs ++ ys)) h))
+all_first f (x ∷ xs) ys h = both_hold (f x) (list_all f xs) (both_hold_first (f x) (list_all f (xs ++ ys)) h) (all_first f xs ys (both_hold_second (f x) (list_all f (xs ++ ys)) h))
 
 pub all_rest : (f : ℕ → Bool) (xs ys : List ℕ) → list_all f (xs ++ ys) ≡ true → list_all f ys ≡ true
 all_rest f [] ys h = h
-all_rest f (x ∷ xs) ys h = all_rest f xs ys (and_right (f x) (list_all f (xs ++ ys)) h)
+all_rest f (x ∷ xs) ys h = all_rest f xs ys (both_hold_second (f x) (list_all f (xs ++ ys)) h)
 
 pub not_found : (rule : _) (span : _) (ss : List ℕ) → found rule span ss ≡ [] → ss ≡ []
 not_found rule span [] h = refl
@@ -70,12 +63,9 @@ pub either : {R : Type 0} (a c : Bool) → (a || c) ≡ true → (a ≡ true →
 either true c h f g = f refl
 either false c h f g = g h
 
-pub same_number : (a c : ℕ) → nat_eq a c ≡ true → a ≡ c
-same_number a c h = grind (arith, nat_tests)
-
 -- what passes the test stays
 pub in_filter : (test : ℕ → Bool) (xs : List ℕ) (j : ℕ) → test j ≡ true → has xs j ≡ true → has (filter test xs) j ≡ true
-in_filter test [] j is h = never h
+in_filter test [] j is h = false_not_true h
 in_filter test (x ∷ xs) j is h = go (test x) refl (λ k. in_filter test xs j is k)
   where
     go : (c : Bool) → test x ≡ c → (has xs j ≡ true → has (filter test xs) j ≡ true) → has (cond c (x ∷ filter test xs) (filter test xs)) j ≡ true
@@ -84,11 +74,11 @@ in_filter test (x ∷ xs) j is h = go (test x) refl (λ k. in_filter test xs j i
         second : (a c : Bool) → c ≡ true → (a || c) ≡ true
         second true c k = refl
         second false c k = k
-    go false e more = either (nat_eq j x) (has xs j) h (λ k. never (sym (ap test (same_number j x k) ∙ e) ∙ is)) more
+    go false e more = either (nat_eq j x) (has xs j) h (λ k. false_not_true (sym (ap test (nat_eq_same j x k) ∙ e) ∙ is)) more
 
 pub in_map : (a : ℕ) (xs : List ℕ) (m : ℕ → Bool) (j : ℕ) → has xs j ≡ true → list_all m (map (λ x. a + x) xs) ≡ true → m (a + j) ≡ true
-in_map a [] m j h all = never h
-in_map a (x ∷ xs) m j h all = either (nat_eq j x) (has xs j) h (λ k. ap (λ z. m (a + z)) (same_number j x k) ∙ and_left (m (a + x)) (list_all m (map (λ y. a + y) xs)) all) (λ k. in_map a xs m j k (and_right (m (a + x)) (list_all m (map (λ y. a + y) xs)) all))
+in_map a [] m j h all = false_not_true h
+in_map a (x ∷ xs) m j h all = either (nat_eq j x) (has xs j) h (λ k. ap (λ z. m (a + z)) (nat_eq_same j x k) ∙ both_hold_first (m (a + x)) (list_all m (map (λ y. a + y) xs)) all) (λ k. in_map a xs m j k (both_hold_second (m (a + x)) (list_all m (map (λ y. a + y) xs)) all))
 
 -- ---- no secret was found
 
@@ -104,37 +94,29 @@ pub record Looks (p : Flows) (f : FnId) (b : Bench) : Type 0 where
 
 -- among these leaves of what begins at a slot none is marked
 pub none_here : (m : ℕ → Bool) (a : ℕ) (leaves : List ℕ) (j : ℕ) → filter m (map (λ x. a + x) leaves) ≡ [] → has leaves j ≡ true → m (a + j) ≡ false
-none_here m a [] j h is = never is
+none_here m a [] j h is = false_not_true is
 none_here m a (x ∷ xs) j h is = go (m (a + x)) refl h (λ k q. none_here m a xs j k q)
   where
     go : (c : Bool) → m (a + x) ≡ c → cond c ((a + x) ∷ filter m (map (λ y. a + y) xs)) (filter m (map (λ y. a + y) xs)) ≡ [] → (filter m (map (λ y. a + y) xs) ≡ [] → has xs j ≡ true → m (a + j) ≡ false) → m (a + j) ≡ false
     go true e k more = cc
-    go false e k more = either (nat_eq j x) (has xs j) is (λ q. ap (λ z. m (a + z)) (same_number j x q) ∙ e) (λ q. more k q)
-
-pub filter_both : (m : ℕ → Bool) (xs ys : List ℕ) → filter m (xs ++ ys) ≡ filter m xs ++ filter m ys
-filter_both m [] ys = refl
-filter_both m (x ∷ xs) ys = go (m x) (filter_both m xs ys)
-  where
-    go : (c : Bool) → filter m (xs ++ ys) ≡ filter m xs ++ filter m ys → cond c (x ∷ filter m (xs ++ ys)) (filter m (xs ++ ys)) ≡ cond c (x ∷ filter m xs) (filter m xs) ++ filter m ys
-    go true same = ap (λ zs. x ∷ zs) same
-    go false same = same
+    go false e k more = either (nat_eq j x) (has xs j) is (λ q. ap (λ z. m (a + z)) (nat_eq_same j x q) ∙ e) (λ q. more k q)
 
 -- nor among those of what begins at any of these
 pub none_marked : (m : ℕ → Bool) (starts leaves : List ℕ) (j : ℕ) → filter m (flat_map (λ s. map (λ x. s + x) leaves) starts) ≡ [] → has leaves j ≡ true → list_any (λ s. m (s + j)) starts ≡ false
 none_marked m [] leaves j h is = refl
 none_marked m (a ∷ xs) leaves j h is =
-    let both = sym (filter_both m (map (λ x. a + x) leaves) (flat_map (λ s. map (λ x. s + x) leaves) xs)) ∙ h in
-    let one = none_here m a leaves j (none_left (filter m (map (λ x. a + x) leaves)) (filter m (flat_map (λ s. map (λ x. s + x) leaves) xs)) both) is in
-    let rest = none_marked m xs leaves j (none_right (filter m (map (λ x. a + x) leaves)) (filter m (flat_map (λ s. map (λ x. s + x) leaves) xs)) both) is in
+    let both = sym (filter_append m (map (λ x. a + x) leaves) (flat_map (λ s. map (λ x. s + x) leaves) xs)) ∙ h in
+    let one = none_here m a leaves j (append_nil_first (filter m (map (λ x. a + x) leaves)) (filter m (flat_map (λ s. map (λ x. s + x) leaves) xs)) both) is in
+    let rest = none_marked m xs leaves j (append_nil_second (filter m (map (λ x. a + x) leaves)) (filter m (flat_map (λ s. map (λ x. s + x) leaves) xs)) both) is in
     ap (λ z. z || list_any (λ s. m (s + j)) xs) one ∙ rest
 
 pub integer_quiet : (b : Bench) (o : Option VarTy) (xs : List ℕ) → is_scalar o ≡ true → filter b.marks (flat_map (λ s. map (λ j. s + j) (value_leaves b.w.names.structs o)) xs) ≡ [] → PlainIf b (type_or_int o) xs
 unfolding leaves_of
 integer_quiet b (Some (Int t)) xs scalar h p = none_marked b.marks xs (0 ∷ []) 0 h refl
-integer_quiet b (Some (Pointer elem c)) xs scalar h p = never (sym p)
-integer_quiet b None xs scalar h p = never scalar
-integer_quiet b (Some (Struct n)) xs scalar h p = never scalar
-integer_quiet b (Some (Array elem n)) xs scalar h p = never scalar
+integer_quiet b (Some (Pointer elem c)) xs scalar h p = false_not_true (sym p)
+integer_quiet b None xs scalar h p = false_not_true scalar
+integer_quiet b (Some (Struct n)) xs scalar h p = false_not_true scalar
+integer_quiet b (Some (Array elem n)) xs scalar h p = false_not_true scalar
 
 -- what carries slots here has none that is marked
 pub plain_slots : (p : Flows) (f : FnId) (b : Bench) (o : Option VarTy) (slots : Scope → List ℕ) → Looks p f b → is_scalar o ≡ true → secret_slots p (slots (scope_of p.tree f.0)) (value_leaves p.tree.structs o) ≡ [] → PlainIf b (type_or_int o) (slots (seen b))

@@ -25,10 +25,11 @@ use Rattle.lowering.specs.Lowered.{Lowered, hold}
 use Rattle.lowering.specs.Operators.{prefixed, stepped, promoted_of}
 use Rattle.lowered_code_law.proofs.FormsSettings.{context}
 use Rattle.typed_tree.proofs.SameTypes.{equal_options}
-use Rattle.lowered_code_law.proofs.FormsSameTypes.{never}
 use Rattle.handle_classes.specs.Classes.{Class, number_class, class_of, place_class, element_cells}
 use Rattle.lowering.specs.Expressions.{arm}
 use Rattle.std.specs.List.{list_any, list_all}
+use Rattle.pt_base.proofs.Booleans.{and_true_first, and_true_second, false_not_true}
+use Rattle.lowered_code_law.proofs.FormsPlaces.{elem_of_type}
 use Rattle.handle_classes.specs.Judgment.{IsFine, IsFinePlace, HasElements, IsAnArray, Goes}
 use Rattle.handle_classes_law.specs.ObjectsCells.{is_pointer}
 use Rattle.handle_classes_law.specs.SlavesMarked.{kept_class}
@@ -38,23 +39,15 @@ use Rattle.handle_classes_law.proofs.SlavesBench.{Bench, judged, at_slots, IsObj
 -- ---- types
 
 pub promoted_int : (o ty : Option VarTy) → r.is_same_promoted o ty ≡ true → is_int (type_or_int ty) ≡ true
-promoted_int None ty h = never h
+promoted_int None ty h = false_not_true h
 promoted_int (Some (Int a)) None h = refl
 promoted_int (Some (Int a)) (Some (Int b)) h = refl
-promoted_int (Some (Int a)) (Some (Struct n)) h = never h
-promoted_int (Some (Int a)) (Some (Array elem n)) h = never h
-promoted_int (Some (Int a)) (Some (Pointer elem f)) h = never h
-promoted_int (Some (Struct n)) ty h = never h
-promoted_int (Some (Array elem n)) ty h = never h
-promoted_int (Some (Pointer elem f)) ty h = never h
-
-right : (a c : Bool) → (a && c) ≡ true → c ≡ true
-right true c h = h
-right false c h = never h
-
-left : (a c : Bool) → (a && c) ≡ true → a ≡ true
-left true c h = refl
-left false c h = never h
+promoted_int (Some (Int a)) (Some (Struct n)) h = false_not_true h
+promoted_int (Some (Int a)) (Some (Array elem n)) h = false_not_true h
+promoted_int (Some (Int a)) (Some (Pointer elem f)) h = false_not_true h
+promoted_int (Some (Struct n)) ty h = false_not_true h
+promoted_int (Some (Array elem n)) ty h = false_not_true h
+promoted_int (Some (Pointer elem f)) ty h = false_not_true h
 
 pub truth_int : (ty : Option VarTy) → same_types ty r.int ≡ true → is_int (type_or_int ty) ≡ true
 truth_int ty h = subst (λ z. is_int (type_or_int z) ≡ true) (sym (equal_options ty r.int h)) refl
@@ -63,31 +56,31 @@ pub unary_int : (op : UnOp) (o ty : Option VarTy) → r.unary_fits op o ty ≡ t
 unary_int u.Minus o ty h = promoted_int o ty h
 unary_int u.Plus o ty h = promoted_int o ty h
 unary_int u.Flip o ty h = promoted_int o ty h
-unary_int u.Not o ty h = truth_int ty (right (is_scalar o) (same_types ty r.int) h)
+unary_int u.Not o ty h = truth_int ty (and_true_second (is_scalar o) (same_types ty r.int) h)
 
 pub pointer_kind : (ty : VarTy) → is_some (pointee_of (Some ty)) ≡ true → is_pointer ty ≡ true
-pointer_kind (Int t) h = never h
-pointer_kind (Struct n) h = never h
-pointer_kind (Array elem n) h = never h
+pointer_kind (Int t) h = false_not_true h
+pointer_kind (Struct n) h = false_not_true h
+pointer_kind (Array elem n) h = false_not_true h
 pointer_kind (Pointer elem f) h = refl
 
 pub int_kind : (o : Option VarTy) → is_some (integer_of o) ≡ true → is_int (type_or_int o) ≡ true
 int_kind None h = refl
 int_kind (Some (Int t)) h = refl
-int_kind (Some (Struct n)) h = never h
-int_kind (Some (Array elem n)) h = never h
-int_kind (Some (Pointer elem f)) h = never h
+int_kind (Some (Struct n)) h = false_not_true h
+int_kind (Some (Array elem n)) h = false_not_true h
+int_kind (Some (Pointer elem f)) h = false_not_true h
 
 pub pointers_kind : (o q : Option VarTy) → both_elem (pointee_of o) (pointee_of q) ≡ true → (is_pointer (type_or_int o) ≡ true) × (is_pointer (type_or_int q) ≡ true)
 pointers_kind (Some (Pointer a f)) (Some (Pointer c g)) h = (refl, refl)
-pointers_kind (Some (Pointer a f)) None h = never h
-pointers_kind (Some (Pointer a f)) (Some (Int t)) h = never h
-pointers_kind (Some (Pointer a f)) (Some (Struct n)) h = never h
-pointers_kind (Some (Pointer a f)) (Some (Array elem n)) h = never h
-pointers_kind None q h = never h
-pointers_kind (Some (Int t)) q h = never h
-pointers_kind (Some (Struct n)) q h = never h
-pointers_kind (Some (Array elem n)) q h = never h
+pointers_kind (Some (Pointer a f)) None h = false_not_true h
+pointers_kind (Some (Pointer a f)) (Some (Int t)) h = false_not_true h
+pointers_kind (Some (Pointer a f)) (Some (Struct n)) h = false_not_true h
+pointers_kind (Some (Pointer a f)) (Some (Array elem n)) h = false_not_true h
+pointers_kind None q h = false_not_true h
+pointers_kind (Some (Int t)) q h = false_not_true h
+pointers_kind (Some (Struct n)) q h = false_not_true h
+pointers_kind (Some (Array elem n)) q h = false_not_true h
 
 when : (c : Bool) (x y : VarTy) → (if c then Some x else None) ≡ Some y → (c ≡ true) × (x ≡ y)
 when true x y h = (refl, inner x y h)
@@ -126,26 +119,26 @@ moves pointer by to h = go (is_some (pointee_of pointer)) (is_some (integer_of b
 
 pointer_object : (ty : VarTy) → is_pointer ty ≡ true → is_int ty ≡ false
 pointer_object (Pointer elem f) h = refl
-pointer_object (Int t) h = never h
-pointer_object (Struct n) h = never h
-pointer_object (Array elem n) h = never h
+pointer_object (Int t) h = false_not_true h
+pointer_object (Struct n) h = false_not_true h
+pointer_object (Array elem n) h = false_not_true h
 
 -- ---- operators before
 
 pub prefixed_is : (b : Bench) (op : UnOp) (ty : VarTy) (to : Option VarTy) (slots : List ℕ) (a : ExprTree) (s : Span) → r.unary_fits op (Some ty) to ≡ true → PlainIf b ty slots → ValueIs b ty slots a → ValueIs b (type_or_int to) [] (prefixed op ty a s)
 prefixed_is b op (Int t) to slots a s rule plain h = record { fine = (h.fine, plain_value b (Int t) slots a refl plain h); is = number_by b (type_or_int to) [] number_class (unary_int op (Some (Int t)) to rule) refl refl refl }
 prefixed_is b u.Not (Pointer elem f) to slots a s rule plain h = record { fine = (h.fine, tt, h.is.kind, refl); is = number_by b (type_or_int to) [] number_class (unary_int u.Not (Some (Pointer elem f)) to rule) refl refl refl }
-prefixed_is b u.Minus (Pointer elem f) to slots a s rule plain h = never rule
-prefixed_is b u.Plus (Pointer elem f) to slots a s rule plain h = never rule
-prefixed_is b u.Flip (Pointer elem f) to slots a s rule plain h = never rule
-prefixed_is b u.Not (Struct n) to slots a s rule plain h = never rule
-prefixed_is b u.Minus (Struct n) to slots a s rule plain h = never rule
-prefixed_is b u.Plus (Struct n) to slots a s rule plain h = never rule
-prefixed_is b u.Flip (Struct n) to slots a s rule plain h = never rule
-prefixed_is b u.Not (Array elem n) to slots a s rule plain h = never rule
-prefixed_is b u.Minus (Array elem n) to slots a s rule plain h = never rule
-prefixed_is b u.Plus (Array elem n) to slots a s rule plain h = never rule
-prefixed_is b u.Flip (Array elem n) to slots a s rule plain h = never rule
+prefixed_is b u.Minus (Pointer elem f) to slots a s rule plain h = false_not_true rule
+prefixed_is b u.Plus (Pointer elem f) to slots a s rule plain h = false_not_true rule
+prefixed_is b u.Flip (Pointer elem f) to slots a s rule plain h = false_not_true rule
+prefixed_is b u.Not (Struct n) to slots a s rule plain h = false_not_true rule
+prefixed_is b u.Minus (Struct n) to slots a s rule plain h = false_not_true rule
+prefixed_is b u.Plus (Struct n) to slots a s rule plain h = false_not_true rule
+prefixed_is b u.Flip (Struct n) to slots a s rule plain h = false_not_true rule
+prefixed_is b u.Not (Array elem n) to slots a s rule plain h = false_not_true rule
+prefixed_is b u.Minus (Array elem n) to slots a s rule plain h = false_not_true rule
+prefixed_is b u.Plus (Array elem n) to slots a s rule plain h = false_not_true rule
+prefixed_is b u.Flip (Array elem n) to slots a s rule plain h = false_not_true rule
 
 -- ---- conversions
 
@@ -158,13 +151,13 @@ convert_is b from to slots a type plain h = go (same_int from to) refl
 
     go : (x : Bool) → same_int from to ≡ x → ValueIs b (Int to) (if x then slots else []) (convert to a)
     go true is = record {
-      fine = (h.fine, h.is.kind, λ no. never (sym no ∙ (test ∙ is)));
+      fine = (h.fine, h.is.kind, λ no. false_not_true (sym no ∙ (test ∙ is)));
       is = record {
         kind = refl;
         size = refl;
-        number = λ p m. h.is.number refl (right (is_type (core.type_of (context b.w) a) to) ((class_of (judged b) a).may 0) m);
-        may = λ p n less. never p;
-        must = λ p n less. never p;
+        number = λ p m. h.is.number refl (and_true_second (is_type (core.type_of (context b.w) a) to) ((class_of (judged b) a).may 0) m);
+        may = λ p n less. false_not_true p;
+        must = λ p n less. false_not_true p;
       };
     }
     go false is =
@@ -203,7 +196,7 @@ step_is b (Move back) ty to o xs ys a v s is pa pv ha hv =
     let same : ty ≡ to = ap type_or_int m.same in
     record {
       value = record { fine = (ha.fine, hv.fine, ha.is.kind ∙ kind, plain_value b (type_or_int o) ys v (int_kind o m.by_int) pv hv); is = subst (λ z. IsBy (class_of (judged b) a) (at_slots b z xs)) same ha.is };
-      plain = λ p. never (sym p ∙ (ap is_pointer (sym same) ∙ kind));
+      plain = λ p. false_not_true (sym p ∙ (ap is_pointer (sym same) ∙ kind));
     }
 step_is b MoveBy ty to o xs ys a v s is pa pv ha hv =
     let m = moves o (Some ty) to is in
@@ -211,7 +204,7 @@ step_is b MoveBy ty to o xs ys a v s is pa pv ha hv =
     let kind = pointer_kind to (subst (λ z. is_some (pointee_of z) ≡ true) m.same m.pointer_is) in
     record {
       value = record { fine = (hv.fine, ha.fine, hv.is.kind ∙ ap is_pointer same ∙ kind, plain_value b ty xs a (int_kind (Some ty) m.by_int) pa ha); is = subst (λ z. IsBy (class_of (judged b) v) (at_slots b z ys)) same hv.is };
-      plain = λ p. never (sym p ∙ kind);
+      plain = λ p. false_not_true (sym p ∙ kind);
     }
 step_is b Difference ty to o xs ys a v s is pa pv ha hv =
     let w = when (both_elem (pointee_of (Some ty)) (pointee_of o)) _ to is in
@@ -220,7 +213,7 @@ step_is b Difference ty to o xs ys a v s is pa pv ha hv =
     step_number b to (stepped ty Difference a v s) int (ha.fine, hv.fine, ha.is.kind ∙ k.0, hv.is.kind ∙ k.1) (number_by b to [] number_class int refl refl refl)
 step_is b (Compare op) ty to o xs ys a v s is pa pv ha hv =
     let w = when (r.is_comparison op && both_elem (pointee_of (Some ty)) (pointee_of o)) _ to is in
-    let k = pointers_kind (Some ty) o (right (r.is_comparison op) (both_elem (pointee_of (Some ty)) (pointee_of o)) w.0) in
+    let k = pointers_kind (Some ty) o (and_true_second (r.is_comparison op) (both_elem (pointee_of (Some ty)) (pointee_of o)) w.0) in
     let int : is_int to ≡ true = subst (λ z. is_int z ≡ true) w.1 refl in
     step_number b to (stepped ty (Compare op) a v s) int (ha.fine, hv.fine, ha.is.kind ∙ k.0, hv.is.kind ∙ k.1) (number_by b to [] number_class int refl refl refl)
 
@@ -228,8 +221,8 @@ step_is b (Compare op) ty to o xs ys a v s is pa pv ha hv =
 pub step_plain : (b : Bench) (step : LinkStep) (ty to : VarTy) (o : Option VarTy) (xs ys : List ℕ) → r.stepped (Some ty) step o ≡ Some to → PlainIf b to (linked_slots xs step ys)
 step_plain b (Arithmetic op t) ty to o xs ys is = λ p. refl
 step_plain b (Shift to_left) ty to o xs ys is = λ p. refl
-step_plain b (Move back) ty to o xs ys is = let m = moves (Some ty) o to is in λ p. never (sym p ∙ (ap is_pointer (sym (ap type_or_int m.same)) ∙ pointer_kind ty m.pointer_is))
-step_plain b MoveBy ty to o xs ys is = let m = moves o (Some ty) to is in λ p. never (sym p ∙ pointer_kind to (subst (λ z. is_some (pointee_of z) ≡ true) m.same m.pointer_is))
+step_plain b (Move back) ty to o xs ys is = let m = moves (Some ty) o to is in λ p. false_not_true (sym p ∙ (ap is_pointer (sym (ap type_or_int m.same)) ∙ pointer_kind ty m.pointer_is))
+step_plain b MoveBy ty to o xs ys is = let m = moves o (Some ty) to is in λ p. false_not_true (sym p ∙ pointer_kind to (subst (λ z. is_some (pointee_of z) ≡ true) m.same m.pointer_is))
 step_plain b Difference ty to o xs ys is = λ p. refl
 step_plain b (Compare op) ty to o xs ys is = λ p. refl
 
@@ -239,7 +232,7 @@ object_pointee : (ty : VarTy) → is_pointer ty ≡ false → core.pointee_type 
 object_pointee (Int t) h = refl
 object_pointee (Struct n) h = refl
 object_pointee (Array elem n) h = refl
-object_pointee (Pointer elem f) h = never (sym h)
+object_pointee (Pointer elem f) h = false_not_true (sym h)
 
 variable_class_is : (b : Bench) (objects : List Object) (n : ℕ) (ty : VarTy) (c : Class) (p : PlaceTree) → IsFinePlace (judged b) p → place_class (judged b) p ≡ c → (o : IsObject b objects n ty c) →
     ((is_pointer ty ≡ false → c.pointer ≡ false) → (is_pointer ty ≡ false → 0 + cells_by (sizes_of b.w.names.structs) ty ≤ c.size) → PlaceClass b.marks (judged b) ty (o.start ∷ []) p) → PlaceClass b.marks (judged b) ty (o.start ∷ []) p
@@ -269,10 +262,6 @@ pub elem_object : (elem : Elem) → is_pointer (type_of_elem elem) ≡ false
 elem_object (e.Int t) = refl
 elem_object (e.Struct n) = refl
 
-elem_back : (elem : Elem) → core.element_of (type_of_elem elem) ≡ elem
-elem_back (e.Int t) = refl
-elem_back (e.Struct n) = refl
-
 pub decay_is : (b : Bench) (elem : Elem) (count : ℕ) (fixed : Bool) (slots : List ℕ) (p : PlaceTree) → structs_sound b.w.names.structs 0 b.w.names.structs ≡ true → is_plain_type (length b.w.names.structs) (Array elem count) ≡ true →
     core.place_type (context b.w) p ≡ Array elem count → PlaceClass b.marks (judged b) (Array elem count) slots p → ValueIs b (Pointer elem fixed) slots (decay p)
 decay_is b elem count fixed slots p sound plain type h = record {
@@ -282,7 +271,7 @@ decay_is b elem count fixed slots p sound plain type h = record {
 
 pub address_is : (b : Bench) (elem : Elem) (fixed : Bool) (slots : List ℕ) (p : PlaceTree) → core.place_type (context b.w) p ≡ type_of_elem elem → PlaceClass b.marks (judged b) (type_of_elem elem) slots p → ValueIs b (Pointer elem fixed) slots (address p)
 address_is b elem fixed slots p type h =
-    let cells : element_cells (context b.w) p ≡ elem_cells (sizes_of b.w.names.structs) elem = ap (λ z. elem_cells (sizes_of b.w.names.structs) (core.element_of z)) type ∙ ap (λ z. elem_cells (sizes_of b.w.names.structs) z) (elem_back elem) in
+    let cells : element_cells (context b.w) p ≡ elem_cells (sizes_of b.w.names.structs) elem = ap (λ z. elem_cells (sizes_of b.w.names.structs) (core.element_of z)) type ∙ ap (λ z. elem_cells (sizes_of b.w.names.structs) z) (elem_of_type elem) in
     let size = h.is.size ∙ ap (λ z. cells_by (sizes_of b.w.names.structs) z) (elem_pointee elem) ∙ elem_size b.w.names.structs elem in
     record {
       fine = (h.fine, h.is.kind ∙ elem_object elem, omega (arith, cells, size));
@@ -308,8 +297,8 @@ kept_more v k more h into room = go more.pointer refl
     go : (x : Bool) → more.pointer ≡ x → Goes v (kept_of x more)
     go true is = record {
       kind = h.kind ∙ into.kind;
-      room = λ p. never (sym p ∙ is);
-      sealed = λ p. never (sym p ∙ is);
+      room = λ p. false_not_true (sym p ∙ is);
+      sealed = λ p. false_not_true (sym p ∙ is);
       flows = λ p. record {
         kind = h.kind ∙ into.kind;
         first = λ q m. into.may 0 (h.number (into.kind ∙ q) m);
@@ -318,10 +307,10 @@ kept_more v k more h into room = go more.pointer refl
         must = λ q n less m. h.must (into.kind ∙ q) n (let s = into.size in omega (arith, less, s)) ∙ into.must n m;
       };
     }
-    go false is = record { kind = h.kind ∙ into.kind; room = room; sealed = λ q m. into.may 0 (h.number (into.kind ∙ q) m); flows = λ p. never (sym is ∙ p) }
+    go false is = record { kind = h.kind ∙ into.kind; room = room; sealed = λ q m. into.may 0 (h.number (into.kind ∙ q) m); flows = λ p. false_not_true (sym is ∙ p) }
 
 some_first : (f : ℕ → Bool) (xs ys : List ℕ) → list_any f xs ≡ true → list_any f (xs ++ ys) ≡ true
-some_first f [] ys h = never h
+some_first f [] ys h = false_not_true h
 some_first f (x ∷ xs) ys h = go (λ k. some_first f xs ys k) (f x) h
   where
     go : (list_any f xs ≡ true → list_any f (xs ++ ys) ≡ true) → (c : Bool) → (c || list_any f xs) ≡ true → (c || list_any f (xs ++ ys)) ≡ true
@@ -338,7 +327,7 @@ some_second f (x ∷ xs) ys h = go (some_second f xs ys h) (f x)
 
 every_first : (f : ℕ → Bool) (xs ys : List ℕ) → list_all f (xs ++ ys) ≡ true → list_all f xs ≡ true
 every_first f [] ys h = refl
-every_first f (x ∷ xs) ys h = both (f x) (list_all f xs) (left (f x) (list_all f (xs ++ ys)) h) (every_first f xs ys (right (f x) (list_all f (xs ++ ys)) h))
+every_first f (x ∷ xs) ys h = both (f x) (list_all f xs) (and_true_first (f x) (list_all f (xs ++ ys)) h) (every_first f xs ys (and_true_second (f x) (list_all f (xs ++ ys)) h))
   where
     both : (a c : Bool) → a ≡ true → c ≡ true → (a && c) ≡ true
     both true c h k = k
@@ -346,7 +335,7 @@ every_first f (x ∷ xs) ys h = both (f x) (list_all f xs) (left (f x) (list_all
 
 every_second : (f : ℕ → Bool) (xs ys : List ℕ) → list_all f (xs ++ ys) ≡ true → list_all f ys ≡ true
 every_second f [] ys h = h
-every_second f (x ∷ xs) ys h = every_second f xs ys (right (f x) (list_all f (xs ++ ys)) h)
+every_second f (x ∷ xs) ys h = every_second f xs ys (and_true_second (f x) (list_all f (xs ++ ys)) h)
 
 pub into_first : (b : Bench) (ty : VarTy) (xs ys : List ℕ) → Into (at_slots b ty xs) (at_slots b ty (xs ++ ys))
 into_first b ty xs ys = record { kind = refl; size = refl; may = λ n h. some_first _ xs ys h; must = λ n h. every_first _ xs ys h }

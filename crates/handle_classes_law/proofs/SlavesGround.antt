@@ -2,18 +2,20 @@
 use Rattle.std.proofs.Common.{◌≡◌, ◌∙◌, ◌<◌, ℕ, pos, ◌+◌, refl, sym, subst, Bool, true, Option, None, Some, List, [], ◌∷◌, ◌++◌}
 use Rattle.std.specs.Prelude.{slice_get}
 use Rattle.std.specs.List.{AllByRecursion}
+use Rattle.std.proofs.lemmas.Option.{get_or_from_slice_get}
 use Rattle.flow_edges.specs.Edges.{begun_slots}
 use Rattle.handle_classes.specs.Classes.{class_of}
 use Rattle.handle_classes.specs.Judgment.{IsFine, IsFineStatement, IsPlain}
 use Rattle.lowered_code_law.proofs.FormsRules.{no_struct}
-use Rattle.lowered_code_law.proofs.FormsSameTypes.{never}
 use Rattle.lowered_code_law.proofs.FormsSettings.{Stand, source}
-use Rattle.lowered_code_law.proofs.FormsStanding.{got_or, stand_first, stand_rest}
+use Rattle.lowered_code_law.proofs.FormsStanding.{stand_first, stand_rest}
 use Rattle.lowered_code_law.proofs.FormsStatements.{code, found, tests}
 use Rattle.lowering.specs.Expressions.{effects_in, value_in}
 use Rattle.lowering.specs.Lowered.{Effects, Temp, followed, hold, int, past, temp}
 use Rattle.lowering.specs.Statements.{number, outermost}
 use Rattle.pt_base.specs.declared.int_type.IntType.TheVariants as i
+use Rattle.pt_base.proofs.Booleans.{false_not_true}
+use Rattle.pt_base.proofs.Lists.{append_grouped}
 use Rattle.pt_core.specs.CodeTree.{ExprTree, StmtTree, choose, stmt_trees}
 use Rattle.sides.specs.Carried.{carried}
 use Rattle.usages.specs.Usages.{UsageTree, evaluated}
@@ -31,7 +33,7 @@ use Rattle.typed_tree.specs.declared.ids.ExprId.{ExprId}
 use Rattle.typed_tree.specs.declared.types.VarTy.{VarTy}
 use Rattle.handle_classes_law.proofs.SlavesBench.{AreFine, Bench, Fits, Held, LoweredIs, PlainIf, ValueIs, at_slots, constant_is, fine_both, fine_trees, held_first, held_rest, hold_is, is_int, judged, plain_by, plain_value, seen, temp_is}
 use Rattle.handle_classes_law.proofs.SlavesExpressions.{effects_are, value_is}
-use Rattle.handle_classes_law.proofs.SlavesOutermost.{UsedAt, grouped}
+use Rattle.handle_classes_law.proofs.SlavesOutermost.{UsedAt}
 use Rattle.handle_classes_law.proofs.SlavesQuiet.{Quiet, plain_here}
 use Rattle.handle_classes_law.proofs.SlavesWithin.{AllRoom, NoArgument, Rooms, count, kept_free, operated_free}
 use Rattle.handle_classes_law.specs.SlavesMarked.{kept_class}
@@ -68,7 +70,7 @@ pub has_rest : (b : Bench) (n : ℕ) (xs ys : List Temp) → Has b n (xs ++ ys) 
 has_rest b n xs ys h = (stand_rest b.w.variables n xs ys h.0, held_rest b n xs ys h.1)
 
 pub has_three : (b : Bench) (n : ℕ) (xs ys zs : List Temp) → Has b n (xs ++ ys ++ zs) → Has b n (xs ++ (ys ++ zs))
-has_three b n xs ys zs h = subst (λ ts. Has b n ts) (grouped xs ys zs) h
+has_three b n xs ys zs h = subst (λ ts. Has b n ts) (append_grouped xs ys zs) h
 
 -- a temporary that counts is of the class of a number of its type
 abbrev pub Counts : Bench → VarTy → ℕ → Type 0
@@ -96,8 +98,8 @@ pub all_at : (b : Bench) (Q : UsageTree → Type 0) (exprs : List src.ExprTree) 
 all_at b Q exprs test how e h u = go (slice_get exprs e.0) refl h
   where
     go : (o : Option src.ExprTree) → slice_get exprs e.0 ≡ o → s.found_fits b.w.names test o ≡ true → AllByRecursion Q (evaluated how (outermost (code b.w exprs) e))
-    go None is k = never k
-    go (Some a) is k = subst (λ z. AllByRecursion Q (evaluated how z)) (sym (got_or exprs e.0 a no_expr is)) (u a is)
+    go None is k = false_not_true k
+    go (Some a) is k = subst (λ z. AllByRecursion Q (evaluated how z)) (sym (get_or_from_slice_get exprs e.0 a no_expr is)) (u a is)
 
 pub dropped_fine : (b : Bench) (Q : UsageTree → Type 0) (exprs : List src.ExprTree) (e : ExprId) (n : ℕ) → Ground b Q → s.expr_fits (tests b.w exprs) any_type e ≡ true → UsedAt Q exprs Kept e → Has b n (effects_in (source b.w.names) (outermost (code b.w exprs) e) n).temps →
     AreFine b (effects_in (source b.w.names) (outermost (code b.w exprs) e) n).stmts

@@ -1,8 +1,9 @@
 -- Initialisers: a value or the items of a brace list may go where the variable begins.
-use Rattle.std.proofs.Common.{◌≡◌, ◌∙◌, ◌≤◌, ◌<◌, ℕ, suc, ◌+◌, refl, ap, sym, subst, arith, Bool, true, false, Option, None, Some, List, [], ◌∷◌, ◌++◌, length, map, if◌then◌else◌}
+use Rattle.std.proofs.Common.{◌≡◌, ◌∙◌, ◌≤◌, ◌<◌, ℕ, ◌+◌, refl, ap, sym, subst, arith, Bool, true, false, Option, None, Some, List, [], ◌∷◌, ◌++◌, length, map, if◌then◌else◌}
 use Rattle.std.specs.Prelude.{get_or, nat_lt, option_map, slice_get}
 use Rattle.std.proofs.lemmas.Bool.Decides.{nat_tests}
 use Rattle.std.specs.List.{AllByRecursion, list_all}
+use Rattle.std.proofs.lemmas.Option.{get_or_from_slice_get}
 use Rattle.flow_edges.specs.Edges.{begun_slots}
 use Rattle.flow_edges.specs.Items.{items_of}
 use Rattle.handle_classes.specs.Classes.{class_of, place_class}
@@ -11,9 +12,7 @@ use Rattle.lowered_code_law.proofs.FormsExpressions.{value_lowers}
 use Rattle.lowered_code_law.proofs.FormsLeaves.{PlacesFit, leaves_fit}
 use Rattle.lowered_code_law.proofs.FormsPlaces.{variable_fits, variable_known}
 use Rattle.lowered_code_law.proofs.FormsRules.{no_struct, type_is, value_scalar}
-use Rattle.lowered_code_law.proofs.FormsSameTypes.{never}
 use Rattle.lowered_code_law.proofs.FormsSettings.{context, source}
-use Rattle.lowered_code_law.proofs.FormsStanding.{got, got_or}
 use Rattle.lowered_code_law.proofs.FormsStatements.{code, found, tests}
 use Rattle.lowering.specs.Expressions.{copied, given, is_struct, object_in, place_effects, value_in}
 use Rattle.lowering.specs.Leaves.{leaf_places}
@@ -23,6 +22,9 @@ use Rattle.handle_classes_law.proofs.ObjectsItems.{items_below}
 use Rattle.pt_base.specs.declared.ids.VarId.{VarId}
 use Rattle.pt_base.specs.declared.int_type.IntType.{IntType}
 use Rattle.pt_base.specs.declared.int_type.IntType.TheVariants as i
+use Rattle.pt_base.proofs.Booleans.{both_hold_first, both_hold_second, false_not_true}
+use Rattle.pt_base.proofs.Lists.{append_grouped, length_pushed_number}
+use Rattle.pt_base.proofs.Places.{get_map}
 use Rattle.pt_core.specs.CodeTree.{PlaceTree, assign, clear, copy, local, place}
 use Rattle.pt_core.specs.Types.{place_type, type_at}
 use Rattle.sides.specs.Carried.{carried}
@@ -31,7 +33,6 @@ use Rattle.usages.specs.Usages.{UsageTree, evaluated}
 use Rattle.sides.specs.declared.objects.Object.{Object}
 use Rattle.usages.specs.declared.usage.How.TheVariants.{Begins, Returned}
 use Rattle.typed_tree.proofs.SameTypes.{equal_options}
-use Rattle.typed_tree.proofs.WellFormedLemmas.{and_left, and_right}
 use Rattle.typed_tree.specs.Cells.{leaves_of}
 use Rattle.typed_tree.specs.ExpressionTree.{typed}
 use Rattle.typed_tree.specs.ExpressionTree as src
@@ -60,7 +61,7 @@ use Rattle.handle_classes_law.proofs.SlavesForms.{local_is}
 use Rattle.handle_classes_law.proofs.SlavesGround.{Ground, Has, all_at, dropped_fine, followed_fine, one_more, outer_slots}
 use Rattle.handle_classes_law.proofs.SlavesLeaves.{PlacesAre, leaves_are}
 use Rattle.handle_classes_law.proofs.SlavesMoves.{struct_copies, value_goes}
-use Rattle.handle_classes_law.proofs.SlavesOutermost.{BegunUsed, DeclaredUsed, InitUsed, ItemsUsed, grouped}
+use Rattle.handle_classes_law.proofs.SlavesOutermost.{BegunUsed, DeclaredUsed, InitUsed, ItemsUsed}
 use Rattle.handle_classes_law.proofs.SlavesQuiet.{Quiet, quiet_here}
 use Rattle.handle_classes_law.proofs.SlavesWithin.{AllRoom, NoArgument, count, int_leaf}
 
@@ -76,21 +77,21 @@ returned_free g k h = cc
 pub begun_scalar : (structs : List StructInfo) (ty : VarTy) (start k : ℕ) (x : Object) → is_scalar (Some ty) ≡ true → (if f.is_struct (Some ty) then start else get_or (items_of structs x) k start) ≡ get_or (items_of structs x) k start
 begun_scalar structs (Int t) start k x h = refl
 begun_scalar structs (Pointer elem fixed) start k x h = refl
-begun_scalar structs (Struct n) start k x h = never h
-begun_scalar structs (Array elem count) start k x h = never h
+begun_scalar structs (Struct n) start k x h = false_not_true h
+begun_scalar structs (Array elem count) start k x h = false_not_true h
 
 -- a variable of an integer's or a pointer's type is its only item
 pub only_item : (structs : List StructInfo) (ty : VarTy) (start : ℕ) → is_scalar (Some ty) ≡ true → get_or (items_of structs (record { ty = ty; start = start })) 0 start ≡ start
 only_item structs (Int t) start h = refl
 only_item structs (Pointer elem fixed) start h = refl
-only_item structs (Struct n) start h = never h
-only_item structs (Array elem count) start h = never h
+only_item structs (Struct n) start h = false_not_true h
+only_item structs (Array elem count) start h = false_not_true h
 
 pub struct_of : (ty : VarTy) → is_struct (Some ty) ≡ true → (m : ℕ) × (ty ≡ Struct m)
 struct_of (Struct m) h = (m, refl)
-struct_of (Int t) h = never h
-struct_of (Array elem count) h = never h
-struct_of (Pointer elem fixed) h = never h
+struct_of (Int t) h = false_not_true h
+struct_of (Array elem count) h = false_not_true h
+struct_of (Pointer elem fixed) h = false_not_true h
 
 pub begins_moves : (b : Bench) (v : VarId) (k : ℕ) (a : src.ExprTree) → Quiet b (evaluated (Begins v k) a) → Moves b a (begun_slots (seen b) (slice_get b.variables v.0) k (ty_of a))
 begins_moves b v k (typed p ty form) h = (quiet_here b (Begins v k) p ty form h).begins v k refl
@@ -105,7 +106,7 @@ pub integers_room : (b : Bench) (bound top : ℕ) (us : List IntType) (xs : List
 integers_room b bound top [] xs less h = tt
 integers_room b bound top (u ∷ us) [] less h = tt
 integers_room b bound top (u ∷ us) (x ∷ xs) less h =
-    (one x (leaf_count b.w.names.structs (Int u)) (and_left (nat_lt x bound) (list_all (λ y. nat_lt y bound) xs) h) (int_leaf b.w.names.structs u), integers_room b bound top us xs less (and_right (nat_lt x bound) (list_all (λ y. nat_lt y bound) xs) h))
+    (one x (leaf_count b.w.names.structs (Int u)) (both_hold_first (nat_lt x bound) (list_all (λ y. nat_lt y bound) xs) h) (int_leaf b.w.names.structs u), integers_room b bound top us xs less (both_hold_second (nat_lt x bound) (list_all (λ y. nat_lt y bound) xs) h))
   where
     one : (x l : ℕ) → nat_lt x bound ≡ true → l ≡ 1 → x + l ≤ top
     one x l low is = let k : x < bound = grind (arith, nat_tests, low) in omega (arith, k, less, is)
@@ -122,10 +123,6 @@ items_room b top start (Pointer elem fixed) sound known low = (low, tt)
 pub behind : (before : List ℕ) (slot : ℕ) (slots : List ℕ) (d : ℕ) → get_or (before ++ slot ∷ slots) (length before) d ≡ slot
 behind [] slot slots d = refl
 behind (x ∷ xs) slot slots d = behind xs slot slots d
-
-pub longer : (before : List ℕ) (slot : ℕ) → length (before ++ slot ∷ []) ≡ suc (length before)
-longer [] slot = refl
-longer (x ∷ xs) slot = ap suc (longer xs slot)
 
 -- an expression that initialises at this slot: it is quiet, and the marks are closed under its move
 pub record Begun (b : Bench) (v : VarId) (k slot : ℕ) (a : src.ExprTree) : Type 0 where
@@ -149,9 +146,9 @@ struct_begun b Q v m n a c is h own all has =
     let from = object_is a (Begins v 0) b n (Struct m) g h own refl begun.quiet has.0 has.1 in
     let to = local_is b v.0 (Struct m) o in
     let known = variable_known b.w.names.structs b.w.names.vars v.0 (Struct m) g.agrees.vars is in
-    let here : place_type (context b.w) (place (local v.0) []) ≡ Struct m = got_or b.w.variables v.0 (Struct m) (Int i.Int) (g.agrees.variables v.0 (Struct m) is) in
+    let here : place_type (context b.w) (place (local v.0) []) ≡ Struct m = get_or_from_slice_get b.w.variables v.0 (Struct m) (Int i.Int) (g.agrees.variables v.0 (Struct m) is) in
     let copies = struct_copies b a m (o.start ∷ []) (place_class (judged b) (place (local v.0) [])) (place_class (judged b) of.place) g.agrees.structs
-    (and_left (is_variable_type (length b.w.names.structs) (Struct m)) (is_small b.w.names.structs (Struct m)) known) own begun.moves to.is from.class.is in
+    (both_hold_first (is_variable_type (length b.w.names.structs) (Struct m)) (is_small b.w.names.structs (Struct m)) known) own begun.moves to.is from.class.is in
     one_more b of.stmts (copy (place (local v.0) []) of.place) from.stmts
     (to.fine, from.class.fine, subst (λ z. Copies (place_class (judged b) (place (local v.0) [])) (place_class (judged b) of.place) (cells_by (sizes_of b.w.names.structs) z)) (sym here) copies)
 
@@ -171,7 +168,7 @@ pub value_begun : (b : Bench) (Q : UsageTree → Type 0) (exprs : List src.ExprT
 value_begun b Q exprs v ty a n c is value h own all has = go (is_struct (Some (type_at (source b.w.names).variables v.0))) refl has
   where
     same : type_at (source b.w.names).variables v.0 ≡ ty
-    same = got_or (map (λ (y : Var). y.ty) b.w.names.vars) v.0 ty (Int i.Int) (got (λ (y : Var). y.ty) b.w.names.vars v.0 ∙ is)
+    same = get_or_from_slice_get (map (λ (y : Var). y.ty) b.w.names.vars) v.0 ty (Int i.Int) (get_map (λ (y : Var). y.ty) b.w.names.vars v.0 ∙ is)
 
     part : is_scalar (Some ty) ≡ true → Has b n (value_in (source b.w.names) a n).temps → AreFine b ((value_in (source b.w.names) a n).stmts ++ assign (place (local v.0) []) (value_in (source b.w.names) a n).value ∷ [])
     part scalar st =
@@ -191,38 +188,38 @@ pub items_fine : (b : Bench) (Q : UsageTree → Type 0) (exprs : List src.ExprTr
     PlacesFit (context b.w) ps tys → PlacesAre b ps tys slots → ItemsRoom b c.top tys slots → items_fit (tests b.w exprs) tys es ≡ true → ItemsUsed Q exprs v (length before) es → Has b n (items_in (code b.w exprs) ps es n).temps → AreFine b (items_in (code b.w exprs) ps es n).stmts
 items_fine b Q exprs v x before [] tys slots [] n c is all fit at low h u has = tt
 items_fine b Q exprs v x before (p ∷ ps) tys slots [] n c is all fit at low h u has = tt
-items_fine b Q exprs v x before [] [] slots (e ∷ es) n c is all fit at low h u has = never h
-items_fine b Q exprs v x before [] (ty ∷ tys) slots (e ∷ es) n c is all fit at low h u has = never fit
-items_fine b Q exprs v x before (p ∷ ps) [] slots (e ∷ es) n c is all fit at low h u has = never fit
-items_fine b Q exprs v x before (p ∷ ps) (ty ∷ tys) [] (e ∷ es) n c is all fit at low h u has = never at
+items_fine b Q exprs v x before [] [] slots (e ∷ es) n c is all fit at low h u has = false_not_true h
+items_fine b Q exprs v x before [] (ty ∷ tys) slots (e ∷ es) n c is all fit at low h u has = false_not_true fit
+items_fine b Q exprs v x before (p ∷ ps) [] slots (e ∷ es) n c is all fit at low h u has = false_not_true fit
+items_fine b Q exprs v x before (p ∷ ps) (ty ∷ tys) [] (e ∷ es) n c is all fit at low h u has = false_not_true at
 items_fine b Q exprs v x before (p ∷ ps) (ty ∷ tys) (slot ∷ slots) (e ∷ es) n c is all fit at low h u has =
     let a = outermost (code b.w exprs) e in
     let y = value_in (source b.w.names) a n in
-    let here = and_left (s.expr_fits (tests b.w exprs) (same_types (Some ty)) e) (items_fit (tests b.w exprs) tys es) h in
+    let here = both_hold_first (s.expr_fits (tests b.w exprs) (same_types (Some ty)) e) (items_fit (tests b.w exprs) tys es) h in
     let f = found b.w.names exprs (same_types (Some ty)) e.0 here in
     let own : ty_of a ≡ Some ty = sym (equal_options (Some ty) (ty_of a) f.1) in
     let begun = begun_at b Q v (length before) slot x ty a c is f.0 own
     (begun_scalar b.w.names.structs ty x.start (length before) x fit.2 ∙ ap (λ z. get_or z (length before) x.start) all ∙ behind before slot slots x.start) low.0 (all_at b Q exprs (same_types (Some ty)) (Begins v (length before)) e here u.0) in
     followed_fine b n (record { stmts = y.stmts ++ assign p y.value ∷ []; temps = y.temps }) (items_in (code b.w exprs) ps es (past n y.temps))
     (λ st. item_goes b Q v (length before) slot n ty a p c fit.2 at.0 f.0 own begun st)
-    (λ st. items_fine b Q exprs v x (before ++ slot ∷ []) ps tys slots es (past n y.temps) c is (all ∙ sym (grouped before (slot ∷ []) slots)) fit.3 at.1 low.1
-    (and_right (s.expr_fits (tests b.w exprs) (same_types (Some ty)) e) (items_fit (tests b.w exprs) tys es) h) (subst (λ k. ItemsUsed Q exprs v k es) (sym (longer before slot)) u.1) st) has
+    (λ st. items_fine b Q exprs v x (before ++ slot ∷ []) ps tys slots es (past n y.temps) c is (all ∙ sym (append_grouped before (slot ∷ []) slots)) fit.3 at.1 low.1
+    (both_hold_second (s.expr_fits (tests b.w exprs) (same_types (Some ty)) e) (items_fit (tests b.w exprs) tys es) h) (subst (λ k. ItemsUsed Q exprs v k es) (sym (length_pushed_number before slot)) u.1) st) has
 
 pub initialised_fine : (b : Bench) (Q : UsageTree → Type 0) (exprs : List src.ExprTree) (d : TypedInit) (v : VarId) (ty : VarTy) (n : ℕ) → Ground b Q → option_map (λ (y : Var). y.ty) (slice_get b.w.names.vars v.0) ≡ Some ty → init_fits (tests b.w exprs) (Some ty) d ≡ true → InitUsed Q exprs v d →
     Has b n (initialised (code b.w exprs) d v.0 n).temps → AreFine b (initialised (code b.w exprs) d v.0 n).stmts
 initialised_fine b Q exprs init.Nothing v ty n c is h u has = tt
 initialised_fine b Q exprs (init.Value e) v ty n c is h u has =
-    let own = and_right (is_value (Some ty)) (s.expr_fits (tests b.w exprs) (same_types (Some ty)) e) h in
+    let own = both_hold_second (is_value (Some ty)) (s.expr_fits (tests b.w exprs) (same_types (Some ty)) e) h in
     let f = found b.w.names exprs (same_types (Some ty)) e.0 own in
-    value_begun b Q exprs v ty (outermost (code b.w exprs) e) n c is (and_left (is_value (Some ty)) (s.expr_fits (tests b.w exprs) (same_types (Some ty)) e) h) f.0 (sym (equal_options (Some ty) (ty_of (outermost (code b.w exprs) e)) f.1))
+    value_begun b Q exprs v ty (outermost (code b.w exprs) e) n c is (both_hold_first (is_value (Some ty)) (s.expr_fits (tests b.w exprs) (same_types (Some ty)) e) h) f.0 (sym (equal_options (Some ty) (ty_of (outermost (code b.w exprs) e)) f.1))
     (all_at b Q exprs (same_types (Some ty)) (Begins v 0) e own u) has
 initialised_fine b Q exprs (init.Items at es) v ty n c is h u has =
     let g = c.fits in
-    let same : type_at (source b.w.names).variables v.0 ≡ ty = got_or (map (λ (y : Var). y.ty) b.w.names.vars) v.0 ty (Int i.Int) (got (λ (y : Var). y.ty) b.w.names.vars v.0 ∙ is) in
+    let same : type_at (source b.w.names).variables v.0 ≡ ty = get_or_from_slice_get (map (λ (y : Var). y.ty) b.w.names.vars) v.0 ty (Int i.Int) (get_map (λ (y : Var). y.ty) b.w.names.vars v.0 ∙ is) in
     let known = variable_known b.w.names.structs b.w.names.vars v.0 ty g.agrees.vars is in
-    let stands = and_left (is_variable_type (length b.w.names.structs) ty) (is_small b.w.names.structs ty) known in
-    let small = and_right (is_variable_type (length b.w.names.structs) ty) (is_small b.w.names.structs ty) known in
-    let here : place_type (context b.w) (place (local v.0) []) ≡ ty = got_or b.w.variables v.0 ty (Int i.Int) (g.agrees.variables v.0 ty is) in
+    let stands = both_hold_first (is_variable_type (length b.w.names.structs) ty) (is_small b.w.names.structs ty) known in
+    let small = both_hold_second (is_variable_type (length b.w.names.structs) ty) (is_small b.w.names.structs ty) known in
+    let here : place_type (context b.w) (place (local v.0) []) ≡ ty = get_or_from_slice_get b.w.variables v.0 ty (Int i.Int) (g.agrees.variables v.0 ty is) in
     let places = leaves_fit (context b.w) at ty (place (local v.0) []) g.agrees.structs stands small (variable_fits b.w v.0 ty g.agrees is) here in
     let o = g.locals v.0 ty is in
     let slots = leaves_are b at ty o.start (place (local v.0) []) g.agrees.structs stands small (variable_fits b.w v.0 ty g.agrees is) here (local_is b v.0 ty o) in
@@ -235,7 +232,7 @@ pub declared_one : (b : Bench) (Q : UsageTree → Type 0) (exprs : List src.Expr
 declared_one b Q exprs d n c h u has = go (option_map (λ (y : Var). y.ty) (slice_get b.w.names.vars d.var.0)) refl h
   where
     go : (o : Option VarTy) → option_map (λ (y : Var). y.ty) (slice_get b.w.names.vars d.var.0) ≡ o → init_fits (tests b.w exprs) o d.init ≡ true → AreFine b (clear d.var.0 ∷ (initialised (code b.w exprs) d.init d.var.0 n).stmts)
-    go None is k = never k
+    go None is k = false_not_true k
     go (Some ty) is k = (tt, initialised_fine b Q exprs d.init d.var ty n c is k u has)
 
 pub declared_fine : (b : Bench) (Q : UsageTree → Type 0) (exprs : List src.ExprTree) (ds : List TypedDeclarator) (n : ℕ) → Ground b Q → declaration_fits (tests b.w exprs) ds ≡ true → DeclaredUsed Q exprs ds → Has b n (declared (code b.w exprs) ds n).temps → AreFine b (declared (code b.w exprs) ds n).stmts
@@ -243,8 +240,8 @@ declared_fine b Q exprs [] n c h u has = tt
 declared_fine b Q exprs (d ∷ ds) n c h u has =
     let own = initialised (code b.w exprs) d.init d.var.0 n in
     followed_fine b n (record { stmts = clear d.var.0 ∷ own.stmts; temps = own.temps }) (declared (code b.w exprs) ds (past n own.temps))
-    (λ st. declared_one b Q exprs d n c (and_left (declarator_fits (tests b.w exprs) d) (list_all (declarator_fits (tests b.w exprs)) ds) h) u.0 st)
-    (λ st. declared_fine b Q exprs ds (past n own.temps) c (and_right (declarator_fits (tests b.w exprs) d) (list_all (declarator_fits (tests b.w exprs)) ds) h) u.1 st) has
+    (λ st. declared_one b Q exprs d n c (both_hold_first (declarator_fits (tests b.w exprs) d) (list_all (declarator_fits (tests b.w exprs)) ds) h) u.0 st)
+    (λ st. declared_fine b Q exprs ds (past n own.temps) c (both_hold_second (declarator_fits (tests b.w exprs) d) (list_all (declarator_fits (tests b.w exprs)) ds) h) u.1 st) has
 
 pub begun_fine : (b : Bench) (Q : UsageTree → Type 0) (exprs : List src.ExprTree) (d : TypedForInit) (n : ℕ) → Ground b Q → for_init_fits (tests b.w exprs) d ≡ true → BegunUsed Q exprs d → Has b n (begun (code b.w exprs) d n).temps → AreFine b (begun (code b.w exprs) d n).stmts
 begun_fine b Q exprs begin.Nothing n c h u has = tt

@@ -9,6 +9,8 @@ use Rattle.pt_base.specs.declared.ids.FnId.{FnId}
 use Rattle.pt_base.specs.declared.ids.VarId.{VarId}
 use Rattle.pt_base.specs.declared.int_type.IntType.{IntType}
 use Rattle.pt_base.specs.declared.slot.Edge.{Edge}
+use Rattle.pt_base.proofs.Booleans.{both_hold_first, both_hold_second, false_not_true}
+use Rattle.pt_base.proofs.Places.{get_below_length}
 use Rattle.pt_tree.specs.declared.signature.Elem.{Elem}
 use Rattle.pt_tree.specs.declared.signature.Elem.TheVariants as e
 use Rattle.typed_tree.specs.declared.ids.ExprId.{ExprId}
@@ -39,7 +41,7 @@ use Rattle.typed_tree.specs.WellFormedExpression.{form_fits, is_elem, is_typed, 
 use Rattle.typed_tree.specs.WellFormedStatement as s
 use Rattle.typed_tree.specs.WellFormedStatement.{any_type, declaration_fits, declarator_fits, expr_fits, found_fits, init_fits, item_types, items_fit, labels_fit, labels_of, option_fits, promotes_to}
 use Rattle.typed_tree.proofs.SameTypes.{equal_options}
-use Rattle.typed_tree.proofs.WellFormedLemmas.{and_left, and_right, Facts, facts_of}
+use Rattle.typed_tree.proofs.WellFormedLemmas.{Facts, facts_of}
 use Rattle.usages.specs.declared.usage.How.{How}
 use Rattle.usages.specs.Usages.{UsageTree, used, evaluated, form_usages, how_of, item_number, part_usages, parts_usages, usages_in}
 use Rattle.sides.specs.Carried.{carried, place_slots, scope_of}
@@ -51,7 +53,6 @@ use Rattle.flow_rules.specs.declared.accepted.Accepted.{Accepted}
 use Rattle.lowered_code_law.proofs.FormsPlaces.{variable_known}
 use Rattle.lowered_code_law.proofs.FormsPrograms.{sound_at}
 use Rattle.lowered_code_law.proofs.FormsRules.{assign_rules}
-use Rattle.lowered_code_law.proofs.FormsSameTypes.{never}
 use Rattle.lowered_code_law.proofs.FormsStatements.{tests}
 use Rattle.handle_classes_law.proofs.ObjectsItems.{all_leaves, fields_sound, items_below, struct_leaves}
 use Rattle.handle_classes_law.specs.SlavesLaws.{EdgesJoinSlots, JoinsSlots}
@@ -60,7 +61,7 @@ use Rattle.handle_classes_law.proofs.SlavesGround.{outer_slots}
 use Rattle.handle_classes_law.proofs.SlavesInitialisers.{begins_free, returned_free}
 use Rattle.handle_classes_law.proofs.SlavesKnown.{bench, inner_targets, leaf_low, once_room, outer_targets, top_of}
 use Rattle.handle_classes_law.proofs.SlavesPrograms.{bench_fits, bench_rooms}
-use Rattle.handle_classes_law.proofs.SlavesSlots.{listed, result_within}
+use Rattle.handle_classes_law.proofs.SlavesSlots.{result_within}
 use Rattle.handle_classes_law.proofs.SlavesWithin.{AllRoom, IsRight, NoArgument, Rooms, array_leaves, carried_room, count, form_right, int_leaf, kept_free, operated_free, place_room}
 
 -- ---- edges
@@ -194,7 +195,7 @@ module _ (t : TypedTree) (a : Accepted) (n : ℕ) (f : FunctionTree) (facts : Fa
       both : (y : src.ExprTree) → slice_get t.exprs x.0 ≡ Some y → (is_typed own.w.names y ≡ true) × (test (ty_of y) ≡ true)
       both y is =
           let k : found_fits own.w.names test (Some y) ≡ true = subst (λ o. found_fits own.w.names test o ≡ true) is h in
-          (and_left (is_typed own.w.names y) (test (ty_of y)) k, and_right (is_typed own.w.names y) (test (ty_of y)) k)
+          (both_hold_first (is_typed own.w.names y) (test (ty_of y)) k, both_hold_second (is_typed own.w.names y) (test (ty_of y)) k)
 
   value_fits : (x : ExprId) → expr_fits c any_type x ≡ true → Fitting (part_of r.Value x)
   value_fits x h = fitting any_type r.Value x h (λ ty k fits. tt)
@@ -205,8 +206,8 @@ module _ (t : TypedTree) (a : Accepted) (n : ℕ) (f : FunctionTree) (facts : Fa
   -- ---- what is returned
 
   no_integer : {X : Type 0} (o : Option IntType) → both_int None o ≡ true → X
-  no_integer None h = never h
-  no_integer (Some i) h = never h
+  no_integer None h = false_not_true h
+  no_integer (Some i) h = false_not_true h
 
   returned_room : own.results + own.function < top → (ty : Option VarTy) (o : Option IntType) → both_int (integer_of ty) o ≡ true → own.results + own.function + count own ty ≤ top
   returned_room low (Some (Int i)) o h = let one = int_leaf t.structs i in omega (arith, one, low)
@@ -223,30 +224,30 @@ module _ (t : TypedTree) (a : Accepted) (n : ℕ) (f : FunctionTree) (facts : Fa
 
   item_low : (bound : ℕ) (xs : List ℕ) (k d : ℕ) → list_all (λ x. nat_lt x bound) xs ≡ true → d < bound → get_or xs k d < bound
   item_low bound [] k d h low = low
-  item_low bound (x ∷ xs) zero d h low = let one = and_left (nat_lt x bound) (list_all (λ y. nat_lt y bound) xs) h in grind (arith, nat_tests, one)
-  item_low bound (x ∷ xs) (suc k) d h low = item_low bound xs k d (and_right (nat_lt x bound) (list_all (λ y. nat_lt y bound) xs) h) low
+  item_low bound (x ∷ xs) zero d h low = let one = both_hold_first (nat_lt x bound) (list_all (λ y. nat_lt y bound) xs) h in grind (arith, nat_tests, one)
+  item_low bound (x ∷ xs) (suc k) d h low = item_low bound xs k d (both_hold_second (nat_lt x bound) (list_all (λ y. nat_lt y bound) xs) h) low
 
   -- an object of a plain type has a leaf
   plain_leaf : (structs : List StructInfo) (m : ℕ) → ((k : ℕ) → k < m → 1 ≤ leaf_count structs (Struct k)) → (ty : VarTy) → is_plain_type m ty ≡ true → 1 ≤ leaf_count structs ty
   plain_leaf structs m below (Int i) is = let one = int_leaf structs i in omega (arith, one)
   plain_leaf structs m below (Struct k) is = below k (grind (arith, nat_tests, is))
-  plain_leaf structs m below (Array elem many) is = let same = array_leaves structs elem many in let one = element elem (and_left (is_elem m (Some elem)) (nat_le 1 many) is) in omega (arith, same, one)
+  plain_leaf structs m below (Array elem many) is = let same = array_leaves structs elem many in let one = element elem (both_hold_first (is_elem m (Some elem)) (nat_le 1 many) is) in omega (arith, same, one)
     where
       element : (elem : Elem) → is_elem m (Some elem) ≡ true → 1 ≤ leaf_count structs (type_of_elem elem)
       element (e.Int i) k = let one = int_leaf structs i in omega (arith, one)
       element (e.Struct k) h = below k (grind (arith, nat_tests, h))
-  plain_leaf structs m below (Pointer elem fixed) is = never is
+  plain_leaf structs m below (Pointer elem fixed) is = false_not_true is
 
   has_fields : (all : List StructInfo) (earlier : ℕ) (xs : List StructInfo) (k : ℕ) → structs_sound all earlier xs ≡ true → k < length xs → 1 ≤ length (get_or xs k (record { name = []; fields = [] })).fields
   has_fields all earlier [] k h less = absurd (omega (arith, less))
   has_fields all earlier (x ∷ xs) zero h less =
-      let one = and_left (nat_le 1 (length x.fields)) (list_all (field_sound all earlier) x.fields) (and_left (struct_sound all earlier x) (structs_sound all (suc earlier) xs) h) in grind (arith, nat_tests, one)
-  has_fields all earlier (x ∷ xs) (suc k) h less = has_fields all (suc earlier) xs k (and_right (struct_sound all earlier x) (structs_sound all (suc earlier) xs) h) (omega (arith, less))
+      let one = both_hold_first (nat_le 1 (length x.fields)) (list_all (field_sound all earlier) x.fields) (both_hold_first (struct_sound all earlier x) (structs_sound all (suc earlier) xs) h) in grind (arith, nat_tests, one)
+  has_fields all earlier (x ∷ xs) (suc k) h less = has_fields all (suc earlier) xs k (both_hold_second (struct_sound all earlier x) (structs_sound all (suc earlier) xs) h) (omega (arith, less))
 
   fields_leaf : (structs : List StructInfo) (m : ℕ) → ((k : ℕ) → k < m → 1 ≤ leaf_count structs (Struct k)) → (fs : List Field) → 1 ≤ length fs → list_all (field_sound structs m) fs ≡ true → 1 ≤ all_leaves structs fs
   fields_leaf structs m below [] some h = absurd (omega (arith, some))
   fields_leaf structs m below (x ∷ fs) some h =
-      let one = plain_leaf structs m below x.ty (and_left (is_plain_type m x.ty) (is_small structs x.ty) (and_left (field_sound structs m x) (list_all (field_sound structs m) fs) h)) in omega (arith, one)
+      let one = plain_leaf structs m below x.ty (both_hold_first (is_plain_type m x.ty) (is_small structs x.ty) (both_hold_first (field_sound structs m x) (list_all (field_sound structs m) fs) h)) in omega (arith, one)
 
   struct_leaf : (structs : List StructInfo) → structs_sound structs 0 structs ≡ true → (m : ℕ) → m ≤ length structs → (k : ℕ) → k < m → 1 ≤ leaf_count structs (Struct k)
   struct_leaf structs sound zero small k less = absurd (omega (arith, less))
@@ -267,7 +268,7 @@ module _ (t : TypedTree) (a : Accepted) (n : ℕ) (f : FunctionTree) (facts : Fa
       go (Int i) low value = (subst (λ z. z + leaf_count t.structs (Int i) ≤ top) (sym (one_item start k)) low, tt)
       go (Pointer elem fixed) low value = (subst (λ z. z + leaf_count t.structs (Pointer elem fixed) ≤ top) (sym (one_item start k)) low, tt)
       go (Struct m) low value = (low, tt)
-      go (Array elem many) low value = never value
+      go (Array elem many) low value = false_not_true value
 
   -- what an item of each of these types initialises
   abbrev ItemRooms : VarId → List VarTy → Type 0
@@ -292,35 +293,35 @@ module _ (t : TypedTree) (a : Accepted) (n : ℕ) (f : FunctionTree) (facts : Fa
 
   items_fit_all : (v : VarId) (es : List ExprId) (tys : List VarTy) → items_fit c tys es ≡ true → ItemRooms v tys → AllFit (map (part_of (r.Init v)) es)
   items_fit_all v [] tys h all = tt
-  items_fit_all v (x ∷ es) [] h all = never h
+  items_fit_all v (x ∷ es) [] h all = false_not_true h
   items_fit_all v (x ∷ es) (ty ∷ tys) h all = (
-    fitting (same_types (Some ty)) (r.Init v) x (and_left (expr_fits c (same_types (Some ty)) x) (items_fit c tys es) h)
+    fitting (same_types (Some ty)) (r.Init v) x (both_hold_first (expr_fits c (same_types (Some ty)) x) (items_fit c tys es) h)
         (λ o k fits. subst (λ z. AllRoom top (count own z) (begun_slots (seen own) (slice_get own.variables v.0) k z)) (equal_options (Some ty) o fits) (all.0 k)),
-    items_fit_all v es tys (and_right (expr_fits c (same_types (Some ty)) x) (items_fit c tys es) h) all.1,
+    items_fit_all v es tys (both_hold_second (expr_fits c (same_types (Some ty)) x) (items_fit c tys es) h) all.1,
   )
 
   init_fit : (v : VarId) (d : TypedInit) → init_fits c (option_map (λ (x : Var). x.ty) (slice_get own.w.names.vars v.0)) d ≡ true → AllFit (init_parts v d)
   init_fit v d h = go (option_map (λ (x : Var). x.ty) (slice_get own.w.names.vars v.0)) refl d h
     where
       go : (o : Option VarTy) → option_map (λ (x : Var). x.ty) (slice_get own.w.names.vars v.0) ≡ o → (d : TypedInit) → init_fits c o d ≡ true → AllFit (init_parts v d)
-      go None is d h = never h
+      go None is d h = false_not_true h
       go (Some ty) is init.Nothing h = tt
       go (Some ty) is (init.Value x) h =
           let o = g.locals v.0 ty is in
-          let value = and_left (is_value (Some ty)) (expr_fits c (same_types (Some ty)) x) h in (
-            fitting (same_types (Some ty)) (r.Init v) x (and_right (is_value (Some ty)) (expr_fits c (same_types (Some ty)) x) h)
+          let value = both_hold_first (is_value (Some ty)) (expr_fits c (same_types (Some ty)) x) h in (
+            fitting (same_types (Some ty)) (r.Init v) x (both_hold_second (is_value (Some ty)) (expr_fits c (same_types (Some ty)) x) h)
                 (λ z k fits. subst (λ y. AllRoom top (count own y) (begun_slots (seen own) (slice_get own.variables v.0) k y)) (equal_options (Some ty) z fits) (whole_room v o.start ty k o.object (rooms.locals v.0 o.start ty o.object) value)),
             tt,
           )
       go (Some ty) is (init.Items at es) h =
           let o = g.locals v.0 ty is in
-          let known = and_left (is_variable_type (length t.structs) ty) (is_small t.structs ty) (variable_known t.structs own.w.names.vars v.0 ty g.agrees.vars is) in
+          let known = both_hold_first (is_variable_type (length t.structs) ty) (is_small t.structs ty) (variable_known t.structs own.w.names.vars v.0 ty g.agrees.vars is) in
           items_fit_all v es (item_types t.structs ty) h (item_rooms v o.start ty o.object (rooms.locals v.0 o.start ty o.object) known)
 
   declared_fit : (ds : List TypedDeclarator) → declaration_fits c ds ≡ true → AllFit (declaration_parts ds)
   declared_fit [] h = tt
   declared_fit (d ∷ ds) h =
-      fit_both (declarator_parts d) (declaration_parts ds) (init_fit d.var d.init (and_left (declarator_fits c d) (declaration_fits c ds) h)) (declared_fit ds (and_right (declarator_fits c d) (declaration_fits c ds) h))
+      fit_both (declarator_parts d) (declaration_parts ds) (init_fit d.var d.init (both_hold_first (declarator_fits c d) (declaration_fits c ds) h)) (declared_fit ds (both_hold_second (declarator_fits c d) (declaration_fits c ds) h))
 
   begun_fit : (d : TypedForInit) → s.for_init_fits c d ≡ true → AllFit (for_init_parts d)
   begun_fit begin.Nothing h = tt
@@ -349,28 +350,28 @@ module _ (t : TypedTree) (a : Accepted) (n : ℕ) (f : FunctionTree) (facts : Fa
       body_fit (b.evaluate at x) out again h = (value_fits x h, tt)
       body_fit (b.declare d) out again h = declared_fit d.declarators h
       body_fit (b.choose at x y o) out again h =
-          let rest = and_right (expr_fits c is_scalar x) (s.is_sound c out again y && s.else_sound c out again o) h in (
-            condition_fits is_scalar x (and_left (expr_fits c is_scalar x) (s.is_sound c out again y && s.else_sound c out again o) h),
-            fit_both (parts_of y) (else_parts o) (body_fit y out again (and_left (s.is_sound c out again y) (s.else_sound c out again o) rest)) (else_fit o out again (and_right (s.is_sound c out again y) (s.else_sound c out again o) rest)),
+          let rest = both_hold_second (expr_fits c is_scalar x) (s.is_sound c out again y && s.else_sound c out again o) h in (
+            condition_fits is_scalar x (both_hold_first (expr_fits c is_scalar x) (s.is_sound c out again y && s.else_sound c out again o) h),
+            fit_both (parts_of y) (else_parts o) (body_fit y out again (both_hold_first (s.is_sound c out again y) (s.else_sound c out again o) rest)) (else_fit o out again (both_hold_second (s.is_sound c out again y) (s.else_sound c out again o) rest)),
           )
       body_fit (b.while_true at x y) out again h =
-          (condition_fits is_scalar x (and_left (expr_fits c is_scalar x) (s.is_sound c true true y) h), body_fit y true true (and_right (expr_fits c is_scalar x) (s.is_sound c true true y) h))
+          (condition_fits is_scalar x (both_hold_first (expr_fits c is_scalar x) (s.is_sound c true true y) h), body_fit y true true (both_hold_second (expr_fits c is_scalar x) (s.is_sound c true true y) h))
       body_fit (b.do_while at y x) out again h =
-          fit_both (parts_of y) (part_of r.Condition x ∷ []) (body_fit y true true (and_left (s.is_sound c true true y) (expr_fits c is_scalar x) h)) (condition_fits is_scalar x (and_right (s.is_sound c true true y) (expr_fits c is_scalar x) h), tt)
+          fit_both (parts_of y) (part_of r.Condition x ∷ []) (body_fit y true true (both_hold_first (s.is_sound c true true y) (expr_fits c is_scalar x) h)) (condition_fits is_scalar x (both_hold_second (s.is_sound c true true y) (expr_fits c is_scalar x) h), tt)
       body_fit (b.for_each at d test step y) out again h =
-          let second = and_right (s.for_init_fits c d) (option_fits c is_scalar test && (option_fits c any_type step && s.is_sound c true true y)) h in
-          let third = and_right (option_fits c is_scalar test) (option_fits c any_type step && s.is_sound c true true y) second in
+          let second = both_hold_second (s.for_init_fits c d) (option_fits c is_scalar test && (option_fits c any_type step && s.is_sound c true true y)) h in
+          let third = both_hold_second (option_fits c is_scalar test) (option_fits c any_type step && s.is_sound c true true y) second in
           let tests_ = optional_part r.Condition test in
           let steps = optional_part r.Value step in
-          fit_both (for_init_parts d) (tests_ ++ (steps ++ parts_of y)) (begun_fit d (and_left (s.for_init_fits c d) (option_fits c is_scalar test && (option_fits c any_type step && s.is_sound c true true y)) h))
-          (fit_both tests_ (steps ++ parts_of y) (tested_fit test (and_left (option_fits c is_scalar test) (option_fits c any_type step && s.is_sound c true true y) second))
-          (fit_both steps (parts_of y) (stepped_fit step (and_left (option_fits c any_type step) (s.is_sound c true true y) third)) (body_fit y true true (and_right (option_fits c any_type step) (s.is_sound c true true y) third))))
+          fit_both (for_init_parts d) (tests_ ++ (steps ++ parts_of y)) (begun_fit d (both_hold_first (s.for_init_fits c d) (option_fits c is_scalar test && (option_fits c any_type step && s.is_sound c true true y)) h))
+          (fit_both tests_ (steps ++ parts_of y) (tested_fit test (both_hold_first (option_fits c is_scalar test) (option_fits c any_type step && s.is_sound c true true y) second))
+          (fit_both steps (parts_of y) (stepped_fit step (both_hold_first (option_fits c any_type step) (s.is_sound c true true y) third)) (body_fit y true true (both_hold_second (option_fits c any_type step) (s.is_sound c true true y) third))))
       body_fit (b.give_back at o) out again h = returned_fit o h
       body_fit (b.stop_loop at) out again h = tt
       body_fit (b.next_turn at) out again h = tt
       body_fit (b.switch at x i ss) out again h =
-          let rest = and_right (expr_fits c (promotes_to i) x) (labels_fit i (labels_of ss) && s.sections_sound c again ss) h in
-          (condition_fits (promotes_to i) x (and_left (expr_fits c (promotes_to i) x) (labels_fit i (labels_of ss) && s.sections_sound c again ss) h), sections_fit ss again (and_right (labels_fit i (labels_of ss)) (s.sections_sound c again ss) rest))
+          let rest = both_hold_second (expr_fits c (promotes_to i) x) (labels_fit i (labels_of ss) && s.sections_sound c again ss) h in
+          (condition_fits (promotes_to i) x (both_hold_first (expr_fits c (promotes_to i) x) (labels_fit i (labels_of ss) && s.sections_sound c again ss) h), sections_fit ss again (both_hold_second (labels_fit i (labels_of ss)) (s.sections_sound c again ss) rest))
 
       else_fit : (o : ElseTree) (out again : Bool) → s.else_sound c out again o ≡ true → AllFit (else_parts o)
       else_fit no_else out again h = tt
@@ -379,12 +380,12 @@ module _ (t : TypedTree) (a : Accepted) (n : ℕ) (f : FunctionTree) (facts : Fa
       all_fit : (ys : BodyTrees) (out again : Bool) → s.all_sound c out again ys ≡ true → AllFit (all_parts ys)
       all_fit no_bodies out again h = tt
       all_fit (body_and y rest) out again h =
-          fit_both (parts_of y) (all_parts rest) (body_fit y out again (and_left (s.is_sound c out again y) (s.all_sound c out again rest) h)) (all_fit rest out again (and_right (s.is_sound c out again y) (s.all_sound c out again rest) h))
+          fit_both (parts_of y) (all_parts rest) (body_fit y out again (both_hold_first (s.is_sound c out again y) (s.all_sound c out again rest) h)) (all_fit rest out again (both_hold_second (s.is_sound c out again y) (s.all_sound c out again rest) h))
 
       sections_fit : (ss : SectionTrees) (again : Bool) → s.sections_sound c again ss ≡ true → AllFit (section_parts ss)
       sections_fit no_sections again h = tt
       sections_fit (section_and (section at label ys) rest) again h =
-          fit_both (all_parts ys) (section_parts rest) (all_fit ys true again (and_left (s.all_sound c true again ys) (s.sections_sound c again rest) h)) (sections_fit rest again (and_right (s.all_sound c true again ys) (s.sections_sound c again rest) h))
+          fit_both (all_parts ys) (section_parts rest) (all_fit ys true again (both_hold_first (s.all_sound c true again ys) (s.sections_sound c again rest) h)) (sections_fit rest again (both_hold_second (s.all_sound c true again ys) (s.sections_sound c again rest) h))
 
 -- ---- functions
 
@@ -401,7 +402,7 @@ function_usages t a f facts = go (slice_get t.functions f.0) refl
     body x here (Some y) is =
         let g = bench_fits t a f.0 x y [] facts here is in
         let rooms = bench_rooms t a f.0 x [] in
-        parts_join t a f.0 x facts g rooms (parts_of y) (body_fit t a f.0 x facts g rooms (result_within t f.0 (listed t.functions f.0 x here)) y false false (sound_at t f.0 x y facts here is).body) r.Value 0
+        parts_join t a f.0 x facts g rooms (parts_of y) (body_fit t a f.0 x facts g rooms (result_within t f.0 (get_below_length t.functions f.0 x here)) y false false (sound_at t f.0 x y facts here is).body) r.Value 0
 
     go : (o : Option FunctionTree) → slice_get t.functions f.0 ≡ o → AllByRecursion (λ u. Joins (top_of t) (usage_edges t f.0 u)) (parts_usages t.exprs r.Value 0 (function_parts (option_and_then (λ (x : FunctionTree). x.body) o)))
     go None is = tt

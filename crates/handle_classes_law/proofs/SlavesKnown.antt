@@ -8,6 +8,10 @@ use Rattle.std.proofs.lemmas.List.{get_or_default}
 use Rattle.pt_base.specs.declared.ids.FnId.{FnId}
 use Rattle.pt_base.specs.declared.slot.Slot.{Slot}
 use Rattle.pt_base.specs.declared.slot.Edge.{Edge}
+use Rattle.pt_base.proofs.Booleans.{both_hold, both_hold_first, both_hold_second, false_not_true}
+use Rattle.pt_base.proofs.Lists.{append_nil_first, append_nil_second}
+use Rattle.pt_base.proofs.Members.{all_true_at, all_true_numbers_append, contains_cases, contains_first, contains_later, contains_nothing}
+use Rattle.pt_base.proofs.Places.{get_below_length, get_map}
 use Rattle.pt_tree.specs.declared.signature.Param.{Param}
 use Rattle.pt_tree.specs.declared.signature.ParamKind.{ParamKind}
 use Rattle.pt_tree.specs.declared.signature.ParamKind.TheVariants as kind
@@ -22,11 +26,11 @@ use Rattle.typed_tree.specs.TypeTests.{same_type, same_bool}
 use Rattle.typed_tree.specs.Lookup.{function_at}
 use Rattle.typed_tree.specs.WellFormed.{names_in, function_sound, body_sound, params_lead, is_integer_kind, is_integer_param, variable_sound}
 use Rattle.typed_tree.specs.WellFormedExpression.{is_typed, form_fits, ty_of, param_type}
-use Rattle.typed_tree.proofs.WellFormedLemmas.{and_left, and_right, and_both, Facts}
+use Rattle.typed_tree.proofs.WellFormedLemmas.{Facts}
 use Rattle.typed_tree.proofs.SameTypes.{equal_types}
 use Rattle.propagation.specs.Marks.{AreMarks, Shown, path_shown}
-use Rattle.propagation.specs.Paths.{no_edge, from_of, to_of, Leads, IsPriv}
-use Rattle.propagation.proofs.LawLemmas.{marked_priv, priv_marked}
+use Rattle.propagation.specs.Paths.{no_edge, Leads, IsPriv}
+use Rattle.propagation.proofs.LawLemmas.{marked_priv, priv_marked, leads_push}
 use Rattle.sides.specs.declared.objects.Object.{Object}
 use Rattle.usages.specs.declared.usage.How.{How}
 use Rattle.usages.specs.declared.usage.How.TheVariants.{Kept, Operated, Passed, Begins, Returned}
@@ -38,16 +42,13 @@ use Rattle.sides.specs.Objects.{global_objects, variable_objects, variable_types
 use Rattle.sides.specs.Seeds.{gives_back, is_sealed_leaf, sealed_leaves, sealed_behind, usage_sealed}
 use Rattle.sides.specs.Slots.{slots_of}
 use Rattle.reach.specs.Tables.{slot_number}
-use Rattle.reach.proofs.ListLemmas.{contains_nothing, contains_first, contains_later, contains_cases, contains_flat}
+use Rattle.reach.proofs.ListLemmas.{contains_flat}
 use Rattle.flow_edges.specs.Edges.{mixes, moved_to, passed_slots, target_slots, assigned_edges, form_edges, usage_edges, edges_in}
 use Rattle.flow_edges.specs.Moves.{Move, first_of_each, edges_between, edges_from, leaf_edges, move_edges}
 use Rattle.flow_rules.specs.declared.accepted.Accepted.{Accepted}
 use Rattle.flow_rules.specs.Faults.{IsAccepted, edges_of_all, flows_of}
 use Rattle.flow_rules.specs.Findings.{usage_findings, slave_findings, monitor_findings, variables_findings, global_findings, function_findings, findings_of}
 use Rattle.lowering.specs.Lowered.{Temp}
-use Rattle.lowered_code_law.proofs.FormsSameTypes.{never}
-use Rattle.lowered_code_law.proofs.FormsStanding.{got}
-use Rattle.lowered_code_law.proofs.FormsPlaces.{all_at}
 use Rattle.lowered_code_law.proofs.FormsPrograms.{setting}
 use Rattle.lowered_code_law.proofs.FormsRules.{assign_rules}
 use Rattle.handle_classes_law.specs.SlavesMarked.{slave_world}
@@ -58,7 +59,7 @@ use Rattle.handle_classes_law.proofs.SlavesQuiet.{Quiet}
 use Rattle.handle_classes_law.proofs.SlavesFindings.{Looks}
 use Rattle.handle_classes_law.proofs.SlavesUsages.{usages_are_quiet}
 use Rattle.handle_classes_law.proofs.SlavesOutermost.{used_first, used_rest}
-use Rattle.handle_classes_law.proofs.SlavesSlots.{object_type, variable_within, result_within, listed}
+use Rattle.handle_classes_law.proofs.SlavesSlots.{object_type, variable_within, result_within}
 use Rattle.handle_classes_law.proofs.SlavesGround.{outer_slots}
 use Rattle.handle_classes_law.proofs.SlavesWithin.{AllRoom, Rooms, IsInner, IsRight, NoArgument, Passes, count, int_leaf, carried_room, place_room, form_right}
 
@@ -97,12 +98,8 @@ pub record IsKnown (t : TypedTree) (a : Accepted) (n : ℕ) (u : UsageTree) : Ty
   pub edges : Loose (top_of t) (marks_of t a) (usage_edges t n u)
   pub sealed : LooseAll (top_of t) (marks_of t a) (usage_sealed t (function_id n) u.how u.value)
 
-leads_push : (edges : List Edge) (path : List ℕ) (x y : Slot) (k : ℕ) → Leads edges path x y → k < length edges → from_of edges k ≡ y → Leads edges (path ++ k ∷ []) x (to_of edges k)
-leads_push edges [] x y k h lt f = (lt, f ∙ sym h, refl)
-leads_push edges (j ∷ path) x y k h lt f = (h.0, h.1, leads_push edges path (to_of edges j) y k h.2 lt f)
-
 some_is : (o : Option (List ℕ)) → is_some o ≡ true → IsSome o
-some_is None h = never h
+some_is None h = false_not_true h
 some_is (Some x) h = refl
 
 is_some_of : (o : Option (List ℕ)) → IsSome o → is_some o ≡ true
@@ -133,20 +130,12 @@ loose_all_in : (top : ℕ) (m : ℕ → Bool) (xs : List ℕ) → ((x : ℕ) →
 loose_all_in top m [] h = tt
 loose_all_in top m (x ∷ xs) h = (h x (contains_first x xs), loose_all_in top m xs (λ y c. h y (contains_later x xs y c)))
 
-none_left : {X : Type 0} (xs ys : List X) → xs ++ ys ≡ [] → xs ≡ []
-none_left [] ys h = refl
-none_left (x ∷ xs) ys h = cc
-
-none_right : {X : Type 0} (xs ys : List X) → xs ++ ys ≡ [] → ys ≡ []
-none_right [] ys h = h
-none_right (x ∷ xs) ys h = cc
-
 none_in : {X Y : Type 0} (f : X → List Y) (xs : List X) (x : X) → Contains xs x → flat_map f xs ≡ [] → f x ≡ []
 none_in f [] x c h = absurd (contains_nothing x c)
-none_in {X} {Y} f (y ∷ ys) x c h = go (contains_cases y ys x c) (λ k. none_in f ys x k (none_right (f y) (flat_map f ys) h))
+none_in {X} {Y} f (y ∷ ys) x c h = go (contains_cases y ys x c) (λ k. none_in f ys x k (append_nil_second (f y) (flat_map f ys) h))
   where
     go : (y ≡ x) ⊎ Contains ys x → (Contains ys x → f x ≡ []) → f x ≡ []
-    go (inl same) later = ap f (sym same) ∙ none_left (f y) (flat_map f ys) h
+    go (inl same) later = ap f (sym same) ∙ append_nil_first (f y) (flat_map f ys) h
     go (inr k) later = later k
 
 -- ---- an accepted program
@@ -155,8 +144,8 @@ faultless_slave : (t : TypedTree) (a : Accepted) → IsAccepted t a → flat_map
 unfolding findings_of
 faultless_slave t a accepted =
     let p = flows_of t a.sides a.marks in
-    none_left (flat_map (slave_findings p) a.sides.slave) (flat_map (monitor_findings p) a.sides.monitor)
-    (none_left (flat_map (slave_findings p) a.sides.slave ++ flat_map (monitor_findings p) a.sides.monitor) (global_findings p ++ flat_map function_findings t.functions) accepted.faultless)
+    append_nil_first (flat_map (slave_findings p) a.sides.slave) (flat_map (monitor_findings p) a.sides.monitor)
+    (append_nil_first (flat_map (slave_findings p) a.sides.slave ++ flat_map (monitor_findings p) a.sides.monitor) (global_findings p ++ flat_map function_findings t.functions) accepted.faultless)
 
 edge_there : (t : TypedTree) (f : FnId) (u : UsageTree) (e : Edge) → Contains (usages_in t f) u → Contains (usage_edges t f.0 u) e → Contains (edges_in t f) e
 unfolding edges_in
@@ -167,7 +156,7 @@ known_usages t a n accepted inside =
     let p = flows_of t a.sides a.marks in
     let f = function_id n in
     let here = (accepted.sides.slave.same f).1 inside in
-    let none = none_left (flat_map (usage_findings p f) (usages_in t f)) (variables_findings p f) (none_in (slave_findings p) a.sides.slave f here (faultless_slave t a accepted)) in
+    let none = append_nil_first (flat_map (usage_findings p f) (usages_in t f)) (variables_findings p f) (none_in (slave_findings p) a.sides.slave f here (faultless_slave t a accepted)) in
     each_in (IsKnown t a n) (usages_in t f) (λ u c. record {
       found = none_in (usage_findings p f) (usages_in t f) u c none;
       edges = loose_in (top_of t) (marks_of t a) (usage_edges t n u) (λ e d less m.
@@ -250,11 +239,7 @@ move_closed b top e ys from to h =
 
 tight_all : (top : ℕ) (m : ℕ → Bool) (xs : List ℕ) → LooseAll top m xs → AllRoom top 1 xs → list_all m xs ≡ true
 tight_all top m [] h k = refl
-tight_all top m (x ∷ xs) h k = and_both (m x) (list_all m xs) (h.0 (let a = k.0 in omega (arith, a))) (tight_all top m xs h.1 k.1)
-
-all_both : (m : ℕ → Bool) (xs ys : List ℕ) → list_all m xs ≡ true → list_all m ys ≡ true → list_all m (xs ++ ys) ≡ true
-all_both m [] ys h k = k
-all_both m (x ∷ xs) ys h k = and_both (m x) (list_all m (xs ++ ys)) (and_left (m x) (list_all m xs) h) (all_both m xs ys (and_right (m x) (list_all m xs) h) k)
+tight_all top m (x ∷ xs) h k = both_hold (m x) (list_all m xs) (h.0 (let a = k.0 in omega (arith, a))) (tight_all top m xs h.1 k.1)
 
 -- leaves below a number
 abbrev LeavesBelow : ℕ → List ℕ → Type 0
@@ -286,13 +271,13 @@ behind_room top k js (x ∷ xs) low h = room_joined top (map (λ j. x + j) js) (
 -- the variable of a parameter
 lead_at : (ps : List Param) (xs : List Var) (k : ℕ) (q : Param) → params_lead ps xs ≡ true → slice_get ps k ≡ Some q → (y : Var) × (slice_get xs k ≡ Some y) × (param_type q.kind ≡ y.ty)
 lead_at [] xs k q h is = cc
-lead_at (p ∷ ps) [] k q h is = never h
+lead_at (p ∷ ps) [] k q h is = false_not_true h
 lead_at (p ∷ ps) (x ∷ xs) zero q h is =
-    (x, refl, ap (λ (z : Param). param_type z.kind) (sym (same p q is)) ∙ equal_types (param_type p.kind) x.ty (and_left (same_type (param_type p.kind) x.ty) (same_bool p.marked x.marked) (and_left (same_type (param_type p.kind) x.ty && same_bool p.marked x.marked) (params_lead ps xs) h)))
+    (x, refl, ap (λ (z : Param). param_type z.kind) (sym (same p q is)) ∙ equal_types (param_type p.kind) x.ty (both_hold_first (same_type (param_type p.kind) x.ty) (same_bool p.marked x.marked) (both_hold_first (same_type (param_type p.kind) x.ty && same_bool p.marked x.marked) (params_lead ps xs) h)))
   where
     same : (p q : Param) → Some p ≡ Some q → p ≡ q
     same p q e = cc
-lead_at (p ∷ ps) (x ∷ xs) (suc k) q h is = lead_at ps xs k q (and_right (same_type (param_type p.kind) x.ty && same_bool p.marked x.marked) (params_lead ps xs) h) is
+lead_at (p ∷ ps) (x ∷ xs) (suc k) q h is = lead_at ps xs k q (both_hold_second (same_type (param_type p.kind) x.ty && same_bool p.marked x.marked) (params_lead ps xs) h) is
 
 -- what is passed to has a function
 record Callee (t : TypedTree) (g k : ℕ) (o : Option VarTy) : Type 0 where
@@ -303,7 +288,7 @@ record Callee (t : TypedTree) (g k : ℕ) (o : Option VarTy) : Type 0 where
   same : o ≡ Some (param_type param.kind)
 
 callee_of : (t : TypedTree) (f : FunctionTree) (g : FnId) (k : ℕ) (o : Option VarTy) → Passes (names_in t f) g k o → Callee t g.0 k o
-callee_of t f g k o h = go (slice_get t.functions g.0) refl (sym (got (λ (x : FunctionTree). x.signature) t.functions g.0) ∙ h.is)
+callee_of t f g k o h = go (slice_get t.functions g.0) refl (sym (get_map (λ (x : FunctionTree). x.signature) t.functions g.0) ∙ h.is)
   where
     same : (a c : Signature) → Some a ≡ Some c → a ≡ c
     same a c e = cc
@@ -315,41 +300,41 @@ callee_of t f g k o h = go (slice_get t.functions g.0) refl (sym (got (λ (x : F
 -- the object of a parameter has its type
 param_object : (t : TypedTree) (g k : ℕ) (o : Option VarTy) (x : Object) → Facts t → Callee t g k o → slice_get (variable_objects t g) k ≡ Some x → o ≡ Some x.ty
 param_object t g k o x facts c at =
-    let one = all_at (function_sound t) t.functions g c.function facts.functions c.is in
-    let lead = and_right (nat_le (length c.function.signature.params) 8) (params_lead c.function.signature.params c.function.vars)
-    (and_left (nat_le (length c.function.signature.params) 8 && params_lead c.function.signature.params c.function.vars) (list_all (variable_sound t.structs) c.function.vars && body_sound t c.function c.function.body) one) in
+    let one = all_true_at (function_sound t) t.functions g c.function facts.functions c.is in
+    let lead = both_hold_second (nat_le (length c.function.signature.params) 8) (params_lead c.function.signature.params c.function.vars)
+    (both_hold_first (nat_le (length c.function.signature.params) 8 && params_lead c.function.signature.params c.function.vars) (list_all (variable_sound t.structs) c.function.vars && body_sound t c.function c.function.body) one) in
     let y = lead_at c.function.signature.params c.function.vars k c.param lead c.at in
     let typed_at : slice_get (option_map_or variable_types (Some c.function) []) k ≡ Some x.ty = subst (λ z. slice_get (option_map_or variable_types z []) k ≡ Some x.ty) c.is (object_type (leaf_count t.structs) (get_or (function_starts t) g 0) (option_map_or variable_types (slice_get t.functions g) []) k x at) in
-    let here : Some y.0.ty ≡ Some x.ty = sym (got (λ (z : Var). z.ty) c.function.vars k ∙ ap (option_map (λ (z : Var). z.ty)) y.1) ∙ typed_at in
+    let here : Some y.0.ty ≡ Some x.ty = sym (get_map (λ (z : Var). z.ty) c.function.vars k ∙ ap (option_map (λ (z : Var). z.ty)) y.1) ∙ typed_at in
     c.same ∙ ap Some y.2 ∙ here
 
-integer_param : (ps : List Param) (k : ℕ) (q : Param) → list_all is_integer_param ps ≡ true → slice_get ps k ≡ Some q → is_integer_kind q.kind ≡ true
+pub integer_param : (ps : List Param) (k : ℕ) (q : Param) → list_all is_integer_param ps ≡ true → slice_get ps k ≡ Some q → is_integer_kind q.kind ≡ true
 integer_param [] k q h is = cc
-integer_param (p ∷ ps) zero q h is = subst (λ (z : Param). is_integer_kind z.kind ≡ true) (same p q is) (and_left (is_integer_kind p.kind) (list_all is_integer_param ps) h)
+integer_param (p ∷ ps) zero q h is = subst (λ (z : Param). is_integer_kind z.kind ≡ true) (same p q is) (both_hold_first (is_integer_kind p.kind) (list_all is_integer_param ps) h)
   where
     same : (p q : Param) → Some p ≡ Some q → p ≡ q
     same p q e = cc
-integer_param (p ∷ ps) (suc k) q h is = integer_param ps k q (and_right (is_integer_kind p.kind) (list_all is_integer_param ps) h) is
+integer_param (p ∷ ps) (suc k) q h is = integer_param ps k q (both_hold_second (is_integer_kind p.kind) (list_all is_integer_param ps) h) is
 
 integer_leaves : (t : TypedTree) (k : ParamKind) → is_integer_kind k ≡ true → leaf_count t.structs (param_type k) ≡ 1
 integer_leaves t (kind.Int i) h = int_leaf t.structs i
-integer_leaves t (kind.Ptr elem fixed) h = never h
+integer_leaves t (kind.Ptr elem fixed) h = false_not_true h
 
 -- a mixed host takes integers
 mixed_leaves : (t : TypedTree) (g k : ℕ) (o : Option VarTy) → Facts t → Callee t g k o → is_none (option_map_or (λ (x : FunctionTree). x.body) (slice_get t.functions g) None) ≡ true → value_count (leaf_count t.structs) o ≡ 1
 mixed_leaves t g k o facts c none = go c.function.body refl
   where
     one : body_sound t c.function c.function.body ≡ true
-    one = and_right (list_all (variable_sound t.structs) c.function.vars) (body_sound t c.function c.function.body)
-        (and_right (nat_le (length c.function.signature.params) 8 && params_lead c.function.signature.params c.function.vars) (list_all (variable_sound t.structs) c.function.vars && body_sound t c.function c.function.body)
-        (all_at (function_sound t) t.functions g c.function facts.functions c.is))
+    one = both_hold_second (list_all (variable_sound t.structs) c.function.vars) (body_sound t c.function c.function.body)
+        (both_hold_second (nat_le (length c.function.signature.params) 8 && params_lead c.function.signature.params c.function.vars) (list_all (variable_sound t.structs) c.function.vars && body_sound t c.function c.function.body)
+        (all_true_at (function_sound t) t.functions g c.function facts.functions c.is))
 
     go : (x : Option BodyTree) → c.function.body ≡ x → value_count (leaf_count t.structs) o ≡ 1
     go None is =
         let host : body_sound t c.function None ≡ true = subst (λ z. body_sound t c.function z ≡ true) is one in
-        let all = and_left (list_all is_integer_param c.function.signature.params) (nat_eq (length c.function.vars) (length c.function.signature.params)) (and_right c.function.signature.host (list_all is_integer_param c.function.signature.params && nat_eq (length c.function.vars) (length c.function.signature.params)) host) in
+        let all = both_hold_first (list_all is_integer_param c.function.signature.params) (nat_eq (length c.function.vars) (length c.function.signature.params)) (both_hold_second c.function.signature.host (list_all is_integer_param c.function.signature.params && nat_eq (length c.function.vars) (length c.function.signature.params)) host) in
         ap (value_count (leaf_count t.structs)) c.same ∙ integer_leaves t c.param.kind (integer_param c.function.signature.params k c.param all c.at)
-    go (Some b) is = never (sym (ap is_none is) ∙ subst (λ z. is_none (option_map_or (λ (x : FunctionTree). x.body) z None) ≡ true) c.is none)
+    go (Some b) is = false_not_true (sym (ap is_none is) ∙ subst (λ z. is_none (option_map_or (λ (x : FunctionTree). x.body) z None) ≡ true) c.is none)
 
 passed_room : (t : TypedTree) (g : FnId) (k : ℕ) (o : Option VarTy) → Facts t → Callee t g.0 k o → AllRoom (top_of t) (value_count (leaf_count t.structs) o) (passed_slots t g k)
 passed_room t g k o facts c = go (test_function is_plain t g)
@@ -360,11 +345,11 @@ passed_room t g k o facts c = go (test_function is_plain t g)
 
     result : (x : Option FunctionTree) → slice_get t.functions g.0 ≡ x → (d : Bool) → option_map_or (λ f. mixes f k) x false ≡ d → AllRoom (top_of t) (value_count (leaf_count t.structs) o) (if d then (result_start t + g.0) ∷ [] else [])
     result x is false e = tt
-    result None is true e = never e
+    result None is true e = false_not_true e
     result (Some f) is true e =
-        let none = and_left (is_none f.body) (not f.signature.privileged) (and_left (is_none f.body && not f.signature.privileged) (is_some f.signature.result && option_map_or (λ (p : Param). p.marked) (slice_get f.signature.params k) false) e) in
+        let none = both_hold_first (is_none f.body) (not f.signature.privileged) (both_hold_first (is_none f.body && not f.signature.privileged) (is_some f.signature.result && option_map_or (λ (p : Param). p.marked) (slice_get f.signature.params k) false) e) in
         let one = mixed_leaves t g.0 k o facts c (subst (λ z. is_none (option_map_or (λ (x : FunctionTree). x.body) z None) ≡ true) (sym is) none) in
-        let low = result_within t g.0 (listed t.functions g.0 f is) in
+        let low = result_within t g.0 (get_below_length t.functions g.0 f is) in
         (omega (arith, one, low), tt)
 
     go : (d : Bool) → AllRoom (top_of t) (value_count (leaf_count t.structs) o) (if d then start_of (slice_get (variable_objects t g.0) k) else (if option_map_or (λ f. mixes f k) (function_at t g) false then (result_start t + g.0) ∷ [] else []))
@@ -437,16 +422,16 @@ pub inner_targets : (how : How) (t : TypedTree) (n : ℕ) (f : FunctionTree) (o 
 inner_targets Kept t n f o facts inner passes = tt
 inner_targets Operated t n f o facts inner passes = tt
 inner_targets (Passed g k) t n f o facts inner passes = passed_room t g k o facts (callee_of t f g k o (passes g k refl))
-inner_targets (Begins v k) t n f o facts inner passes = never inner
-inner_targets Returned t n f o facts inner passes = never inner
+inner_targets (Begins v k) t n f o facts inner passes = false_not_true inner
+inner_targets Returned t n f o facts inner passes = false_not_true inner
 
 inner_sealed : (how : How) (t : TypedTree) (n : ℕ) (f : FunctionTree) (e : src.ExprTree) → Facts t → IsInner how → ((g : FnId) (k : ℕ) → how ≡ Passed g k → Passes (names_in t f) g k (ty_of e)) →
     AllRoom (top_of t) (value_count (leaf_count t.structs) (ty_of e)) (carried (scope_of t n) e) → AllRoom (top_of t) 1 (usage_sealed t (function_id n) how e)
 inner_sealed Kept t n f e facts inner passes room = tt
 inner_sealed Operated t n f e facts inner passes room = tt
 inner_sealed (Passed g k) t n f e facts inner passes room = sealed_room t n g k e facts (callee_of t f g k (ty_of e) (passes g k refl)) room
-inner_sealed (Begins v k) t n f e facts inner passes room = never inner
-inner_sealed Returned t n f e facts inner passes room = never inner
+inner_sealed (Begins v k) t n f e facts inner passes room = false_not_true inner
+inner_sealed Returned t n f e facts inner passes room = false_not_true inner
 
 inner_tight : (t : TypedTree) (a : Accepted) (n : ℕ) (f : FunctionTree) (temps : List Temp) (us : List UsageTree) → let b = bench t a n f temps in Facts t → Fits b → Rooms (top_of t) b → AllByRecursion (IsKnown t a n) us → AllByRecursion (IsRight (names_in t f)) us → AllByRecursion (IsTight t a n) us
 inner_tight t a n f temps [] facts g rooms known right = tt
@@ -461,14 +446,14 @@ inner_tight t a n f temps (u ∷ us) facts g rooms known right =
 pub outer_targets : (how : How) (t : TypedTree) (a : Accepted) (n : ℕ) (f : FunctionTree) (temps : List Temp) (o : Option VarTy) → let b = bench t a n f temps in NoArgument how → AllRoom (top_of t) (count b o) (outer_slots b how o) → AllRoom (top_of t) (count b o) (target_slots t n how o)
 outer_targets Kept t a n f temps o free room = tt
 outer_targets Operated t a n f temps o free room = tt
-outer_targets (Passed g k) t a n f temps o free room = never (free g k refl)
+outer_targets (Passed g k) t a n f temps o free room = false_not_true (free g k refl)
 outer_targets (Begins v k) t a n f temps o free room = room
 outer_targets Returned t a n f temps o free room = room
 
 outer_sealed : (how : How) (t : TypedTree) (n : ℕ) (e : src.ExprTree) → NoArgument how → AllRoom (top_of t) 1 (usage_sealed t (function_id n) how e)
 outer_sealed Kept t n e free = tt
 outer_sealed Operated t n e free = tt
-outer_sealed (Passed g k) t n e free = never (free g k refl)
+outer_sealed (Passed g k) t n e free = false_not_true (free g k refl)
 outer_sealed (Begins v k) t n e free = tt
 outer_sealed Returned t n e free = tt
 
@@ -488,7 +473,7 @@ all_closed t a n (u ∷ us) h = closed_both (marks_of t a) (usage_edges t n u) (
 
 all_sealed : (t : TypedTree) (a : Accepted) (n : ℕ) (us : List UsageTree) → AllByRecursion (IsTight t a n) us → list_all (marks_of t a) (flat_map (λ (u : UsageTree). usage_sealed t (function_id n) u.how u.value) us) ≡ true
 all_sealed t a n [] h = refl
-all_sealed t a n (u ∷ us) h = all_both (marks_of t a) (usage_sealed t (function_id n) u.how u.value) (flat_map (λ (z : UsageTree). usage_sealed t (function_id n) z.how z.value) us) h.0.sealed (all_sealed t a n us h.1)
+all_sealed t a n (u ∷ us) h = all_true_numbers_append (marks_of t a) (usage_sealed t (function_id n) u.how u.value) (flat_map (λ (z : UsageTree). usage_sealed t (function_id n) z.how z.value) us) h.0.sealed (all_sealed t a n us h.1)
 
 -- an outermost expression is quiet, where there is room for what it moves to
 pub known_quiet : (e : src.ExprTree) (how : How) (t : TypedTree) (a : Accepted) (n : ℕ) (f : FunctionTree) (temps : List Temp) → let b = bench t a n f temps in Facts t → Fits b → Rooms (top_of t) b → Looks (flows_of t a.sides a.marks) (function_id n) b → NoArgument how → is_typed b.w.names e ≡ true →

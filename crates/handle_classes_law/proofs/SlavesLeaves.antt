@@ -3,12 +3,11 @@ use Rattle.std.proofs.Common.{◌≡◌, ◌∙◌, ◌≤◌, ◌<◌, ℕ, zer
 use Rattle.std.specs.Prelude.{get_or, nat_le, nat_lt, slice_get}
 use Rattle.std.proofs.lemmas.Bool.Decides.{nat_tests}
 use Rattle.std.specs.List.{list_all}
+use Rattle.std.proofs.lemmas.Option.{get_or_from_slice_get}
 use Rattle.flow_edges.specs.Items.{elem_items, fields_items, items_of, struct_items, type_items}
 use Rattle.lowered_code_law.proofs.FormsLeaves.{PlacesFit, leaves_fit}
 use Rattle.lowered_code_law.proofs.FormsPlaces.{FieldIs, elem_more, field_in_struct, field_typed}
-use Rattle.lowered_code_law.proofs.FormsSameTypes.{never}
 use Rattle.lowered_code_law.proofs.FormsSettings.{context}
-use Rattle.lowered_code_law.proofs.FormsStanding.{got_or}
 use Rattle.lowering.specs.Expressions.{place_with_field}
 use Rattle.lowering.specs.Leaves.{Ways, at_end_of, begun_with, elem_ways, element_ways, field_ways, leaf_places, object_ways, stepped_to, to_element, to_field, ways_from, ways_of}
 use Rattle.lowering.specs.Lowered.{int}
@@ -16,6 +15,9 @@ use Rattle.handle_classes_law.proofs.ObjectsItems.{depth_free, field_plain, stru
 use Rattle.pt_base.specs.declared.int_type.IntType.{IntType}
 use Rattle.pt_base.specs.declared.int_type.IntType.TheVariants as i
 use Rattle.pt_base.specs.declared.span.Span.{Span}
+use Rattle.pt_base.proofs.Booleans.{both_hold, both_hold_first, both_hold_second, false_not_true}
+use Rattle.pt_base.proofs.Lists.{length_pushed}
+use Rattle.pt_base.proofs.Places.{get_or_before, get_or_pushed}
 use Rattle.pt_core.specs.CodeTree.{PlaceTree, constant, decay, move}
 use Rattle.lowering.specs.Leaves.{Step}
 use Rattle.pt_core.specs.Types.{pointee_type}
@@ -23,8 +25,6 @@ use Rattle.pt_core.specs.Types as core
 use Rattle.pt_tree.specs.declared.signature.Elem.{Elem}
 use Rattle.pt_tree.specs.declared.signature.Elem.TheVariants as e
 use Rattle.sides.specs.Leaves.{field_start, field_starts, leaf_count}
-use Rattle.typed_tree.proofs.LeavesLemmas.{longer}
-use Rattle.typed_tree.proofs.WellFormedLemmas.{and_both, and_left, and_right}
 use Rattle.typed_tree.specs.Cells.{leaves_of, repeated}
 use Rattle.typed_tree.specs.Sizes.{fields_of}
 use Rattle.typed_tree.specs.TypeTests.{type_of_elem}
@@ -58,8 +58,8 @@ AllLead b s ty (way ∷ ways) (x ∷ xs) = SlotLeads b s ty way x × AllLead b s
 
 lead_both : (b : Bench) (s : Span) (ty : VarTy) (ws vs : Ways) (xs ys : List ℕ) → AllLead b s ty ws xs → AllLead b s ty vs ys → AllLead b s ty (ws ++ vs) (xs ++ ys)
 lead_both b s ty [] vs [] ys h k = k
-lead_both b s ty [] vs (x ∷ xs) ys h k = never h
-lead_both b s ty (w ∷ ws) vs [] ys h k = never h
+lead_both b s ty [] vs (x ∷ xs) ys h k = false_not_true h
+lead_both b s ty (w ∷ ws) vs [] ys h k = false_not_true h
 lead_both b s ty (w ∷ ws) vs (x ∷ xs) ys h k = (h.0, lead_both b s ty ws vs xs ys h.1 k)
 
 -- a step leads to a part that begins so far behind
@@ -70,8 +70,8 @@ record StepLeads (b : Bench) (s : Span) (ty part : VarTy) (step : Step) (far : �
 -- the ways from a part, behind the step to it
 lead_behind : (b : Bench) (s : Span) (ty part : VarTy) (step : Step) (far : ℕ) (ws : Ways) (xs : List ℕ) → StepLeads b s ty part step far → AllLead b s part ws xs → AllLead b s ty (begun_with step ws) (map (λ x. far + x) xs)
 lead_behind b s ty part step far [] [] one h = tt
-lead_behind b s ty part step far [] (x ∷ xs) one h = never h
-lead_behind b s ty part step far (w ∷ ws) [] one h = never h
+lead_behind b s ty part step far [] (x ∷ xs) one h = false_not_true h
+lead_behind b s ty part step far (w ∷ ws) [] one h = false_not_true h
 lead_behind b s ty part step far (w ∷ ws) (x ∷ xs) one h = (
   λ p start is class. subst (λ z. PlaceClass b.marks (judged b) int (z ∷ []) (at_end_of s w (stepped_to s p step))) (regroup start far x) (h.0 (stepped_to s p step) (start + far) (one.type p is) (one.class p start is class)),
   lead_behind b s ty part step far ws xs one h.1,
@@ -149,11 +149,11 @@ object_leads b s ways (Int t) sound few h plain = (λ p start is class. subst (�
 object_leads b s ways (Struct n) sound few h plain = h.each n (grind (arith, nat_tests))
 object_leads b s ways (Array elem count) sound few h plain =
     elements_lead b s elem count count 0 (elem_ways ways elem) (elem_items (items b.w.names.structs) 0 elem) sound (more_plain (length ways) (length b.w.names.structs) elem count few plain)
-    (elem_leads b s ways elem h (and_left (is_elem (length ways) (Some elem)) (nat_le 1 count) plain))
+    (elem_leads b s ways elem h (both_hold_first (is_elem (length ways) (Some elem)) (nat_le 1 count) plain))
   where
     more_plain : (a c : ℕ) (elem : Elem) (count : ℕ) → a ≤ c → is_plain_type a (Array elem count) ≡ true → is_plain_type c (Array elem count) ≡ true
-    more_plain a c elem count few plain = and_both (is_elem c (Some elem)) (nat_le 1 count) (elem_more a c elem few (and_left (is_elem a (Some elem)) (nat_le 1 count) plain)) (and_right (is_elem a (Some elem)) (nat_le 1 count) plain)
-object_leads b s ways (Pointer elem fixed) sound few h plain = never plain
+    more_plain a c elem count few plain = both_hold (is_elem c (Some elem)) (nat_le 1 count) (elem_more a c elem few (both_hold_first (is_elem a (Some elem)) (nat_le 1 count) plain)) (both_hold_second (is_elem a (Some elem)) (nat_le 1 count) plain)
+object_leads b s ways (Pointer elem fixed) sound few h plain = false_not_true plain
 
 -- a field, by its place in the struct
 record FieldLies (structs : List StructInfo) (n j k start : ℕ) (u : VarTy) : Type 0 where
@@ -167,15 +167,15 @@ fields_lead : (b : Bench) (s : Span) (ways : List Ways) (n j far : ℕ) (fs : Li
 fields_lead b s ways n j far [] sound few h fine at = tt
 fields_lead b s ways n j far (f ∷ fs) sound few h fine at =
     let structs = b.w.names.structs in
-    let one = and_left (field_sound structs (length ways) f) (list_all (field_sound structs (length ways)) fs) fine in
-    let plain = and_left (is_plain_type (length ways) f.ty) (is_small structs f.ty) one in
+    let one = both_hold_first (field_sound structs (length ways) f) (list_all (field_sound structs (length ways)) fs) fine in
+    let plain = both_hold_first (is_plain_type (length ways) f.ty) (is_small structs f.ty) one in
     let here = at 0 f refl in
     let is : FieldIs structs (Struct n) f.ty j = subst (λ z. FieldIs structs (Struct n) f.ty z) (first j) here.field in
     let begins_at : field_start structs n j ≡ far = subst (λ z. field_start structs n z ≡ far) (first j) here.far in
     let own = lead_behind b s (Struct n) f.ty (to_field j) (field_start structs n j) (object_ways ways f.ty) (type_items (items structs) 0 f.ty) (to_field_leads b s n j f.ty sound is) (object_leads b s ways f.ty sound few h plain) in
     lead_both b s (Struct n) (begun_with (to_field j) (object_ways ways f.ty)) (field_ways ways (j + 1) fs) (type_items (items structs) far f.ty) (fields_items (leaf_count structs) (items structs) (far + leaf_count structs f.ty) fs)
     (subst (λ z. AllLead b s (Struct n) (begun_with (to_field j) (object_ways ways f.ty)) z) (shifted structs (field_start structs n j) far f.ty begins_at) own)
-    (fields_lead b s ways n (j + 1) (far + leaf_count structs f.ty) fs sound few h (and_right (field_sound structs (length ways) f) (list_all (field_sound structs (length ways)) fs) fine)
+    (fields_lead b s ways n (j + 1) (far + leaf_count structs f.ty) fs sound few h (both_hold_second (field_sound structs (length ways) f) (list_all (field_sound structs (length ways)) fs) fine)
     (λ k y is. let there = at (suc k) y is in record { field = subst (λ z. FieldIs structs (Struct n) y.ty z) (next j k) there.field; far = subst (λ z. field_start structs n z ≡ get_or (field_starts (leaf_count structs) (far + leaf_count structs f.ty) fs) k 0) (next j k) there.far }))
   where
     first : (j : ℕ) → j + 0 ≡ j
@@ -190,27 +190,16 @@ fields_lead b s ways n j far (f ∷ fs) sound few h fine at =
         plain : (d : ℕ) → d + 0 ≡ d
         plain d = omega arith
 
-last_or : {A : Type 0} (xs : List A) (y d : A) (n : ℕ) → n ≡ length xs → get_or (xs ++ y ∷ []) n d ≡ y
-last_or [] y d zero h = refl
-last_or [] y d (suc n) h = absurd (grind (arith, h))
-last_or (x ∷ xs) y d zero h = absurd (grind (arith, h))
-last_or (x ∷ xs) y d (suc n) h = last_or xs y d n (omega (arith, h))
-
-before_or : {A : Type 0} (xs : List A) (y d : A) (n : ℕ) → n < length xs → get_or (xs ++ y ∷ []) n d ≡ get_or xs n d
-before_or [] y d n h = absurd (grind (arith, h))
-before_or (x ∷ xs) y d zero h = refl
-before_or (x ∷ xs) y d (suc n) h = before_or xs y d n (omega (arith, h))
-
 -- one struct more
 table_with : (b : Bench) (s : Span) (ways : List Ways) (ws : Ways) → TableLeads b s ways → AllLead b s (Struct (length ways)) ws (items b.w.names.structs 0 (length ways)) → TableLeads b s (ways ++ ws ∷ [])
 table_with b s ways ws h k = record { each = λ n below. go n below (nat_lt n (length ways)) refl }
   where
     newest : (n : ℕ) → n ≡ length ways → AllLead b s (Struct n) (get_or (ways ++ ws ∷ []) n []) (items b.w.names.structs 0 n)
-    newest n is = subst (λ z. AllLead b s (Struct n) z (items b.w.names.structs 0 n)) (sym (last_or ways ws [] n is)) (subst (λ z. AllLead b s (Struct z) ws (items b.w.names.structs 0 z)) (sym is) k)
+    newest n is = subst (λ z. AllLead b s (Struct n) z (items b.w.names.structs 0 n)) (sym (get_or_pushed ways ws [] n is)) (subst (λ z. AllLead b s (Struct z) ws (items b.w.names.structs 0 z)) (sym is) k)
 
     go : (n : ℕ) → n < length (ways ++ ws ∷ []) → (c : Bool) → nat_lt n (length ways) ≡ c → AllLead b s (Struct n) (get_or (ways ++ ws ∷ []) n []) (items b.w.names.structs 0 n)
-    go n below true is = let low : n < length ways = grind (arith, nat_tests, is) in subst (λ z. AllLead b s (Struct n) z (items b.w.names.structs 0 n)) (sym (before_or ways ws [] n low)) (h.each n low)
-    go n below false is = let more = longer ways ws in newest n (grind (arith, nat_tests, is, below, more))
+    go n below true is = let low : n < length ways = grind (arith, nat_tests, is) in subst (λ z. AllLead b s (Struct n) z (items b.w.names.structs 0 n)) (sym (get_or_before ways ws [] n low)) (h.each n low)
+    go n below false is = let more = length_pushed ways ws in newest n (grind (arith, nat_tests, is, below, more))
 
 -- the structs of the list, of which these stand behind so many
 structs_lead : (b : Bench) (s : Span) (before rest : List StructInfo) (ways : List Ways) → structs_sound b.w.names.structs 0 b.w.names.structs ≡ true → before ++ rest ≡ b.w.names.structs → length ways ≡ length before → structs_sound b.w.names.structs (length ways) rest ≡ true → TableLeads b s ways →
@@ -222,18 +211,18 @@ structs_lead b s before [] ways all is at sound h = (h, at ∙ ap length (sym (n
     no_more (x ∷ xs) = ap (λ zs. x ∷ zs) (no_more xs)
 structs_lead b s before (x ∷ rest) ways all is at sound h =
     let structs = b.w.names.structs in
-    let one = and_left (struct_sound structs (length ways) x) (structs_sound structs (suc (length ways)) rest) sound in
-    let fields = and_right (nat_le 1 (length x.fields)) (list_all (field_sound structs (length ways)) x.fields) one in
+    let one = both_hold_first (struct_sound structs (length ways) x) (structs_sound structs (suc (length ways)) rest) sound in
+    let fields = both_hold_second (nat_le 1 (length x.fields)) (list_all (field_sound structs (length ways)) x.fields) one in
     let found : slice_get structs (length ways) ≡ Some x = subst (λ z. slice_get z (length ways) ≡ Some x) is (found_behind before (length ways) at) in
     let small : length ways < length structs = subst (λ z. length ways < length z) is (within before (length ways) at) in
-    let own : fields_of structs (length ways) ≡ x.fields = ap (λ (z : StructInfo). z.fields) (got_or structs (length ways) x (record { name = []; fields = [] }) found) in
+    let own : fields_of structs (length ways) ≡ x.fields = ap (λ (z : StructInfo). z.fields) (get_or_from_slice_get structs (length ways) x (record { name = []; fields = [] }) found) in
     let new = fields_lead b s ways (length ways) 0 0 x.fields all (below (length ways) (length structs) small) h fields
     (λ k y e. record { field = subst (λ z. FieldIs structs (Struct (length ways)) y.ty z) (zero_plus k) (field_in_struct structs (length ways) k x y all found e); far = ap (λ z. field_start structs (length ways) z) (sym (zero_plus k)) ∙ ap (λ z. get_or (field_starts (leaf_count structs) 0 z) k 0) own }) in
     let here : AllLead b s (Struct (length ways)) (field_ways ways 0 x.fields) (items structs 0 (length ways)) =
     subst (λ z. AllLead b s (Struct (length ways)) (field_ways ways 0 x.fields) z) (ap (λ z. fields_items (leaf_count structs) (items structs) 0 z) (sym own) ∙ sym (depth_free structs all (length structs) (suc (length structs)) 0 (length ways) small (more (length ways) (length structs) small))) new in
     structs_lead b s (before ++ x ∷ []) rest (ways ++ field_ways ways 0 x.fields ∷ []) all (regroup before ∙ is)
-    (longer ways (field_ways ways 0 x.fields) ∙ ap suc at ∙ sym (longer before x))
-    (subst (λ z. structs_sound structs z rest ≡ true) (sym (longer ways (field_ways ways 0 x.fields))) (and_right (struct_sound structs (length ways) x) (structs_sound structs (suc (length ways)) rest) sound))
+    (length_pushed ways (field_ways ways 0 x.fields) ∙ ap suc at ∙ sym (length_pushed before x))
+    (subst (λ z. structs_sound structs z rest ≡ true) (sym (length_pushed ways (field_ways ways 0 x.fields))) (both_hold_second (struct_sound structs (length ways) x) (structs_sound structs (suc (length ways)) rest) sound))
     (table_with b s ways (field_ways ways 0 x.fields) h here)
   where
     zero_plus : (k : ℕ) → k ≡ 0 + k
@@ -275,17 +264,17 @@ AtSlots b (p ∷ ps) (x ∷ xs) = PlaceClass b.marks (judged b) int (x ∷ []) p
 
 led_places : (b : Bench) (s : Span) (ty : VarTy) (p : PlaceTree) (start : ℕ) (ws : Ways) (xs : List ℕ) → core.place_type (context b.w) p ≡ ty → PlaceClass b.marks (judged b) ty (start ∷ []) p → AllLead b s ty ws xs → AtSlots b (map (λ way. at_end_of s way p) ws) (map (λ x. start + x) xs)
 led_places b s ty p start [] [] is class h = tt
-led_places b s ty p start [] (x ∷ xs) is class h = never h
-led_places b s ty p start (w ∷ ws) [] is class h = never h
+led_places b s ty p start [] (x ∷ xs) is class h = false_not_true h
+led_places b s ty p start (w ∷ ws) [] is class h = false_not_true h
 led_places b s ty p start (w ∷ ws) (x ∷ xs) is class h = (h.0 p start is class, led_places b s ty p start ws xs is class h.1)
 
 -- of the types that their items have
 typed_places : (b : Bench) (ps : List PlaceTree) (us : List IntType) (xs : List ℕ) → PlacesFit (context b.w) ps (map Int us) → AtSlots b ps xs → PlacesAre b ps (map Int us) xs
 typed_places b [] [] [] h k = tt
-typed_places b [] (u ∷ us) xs h k = never h
-typed_places b (p ∷ ps) [] xs h k = never h
-typed_places b [] [] (x ∷ xs) h k = never k
-typed_places b (p ∷ ps) (u ∷ us) [] h k = never k
+typed_places b [] (u ∷ us) xs h k = false_not_true h
+typed_places b (p ∷ ps) [] xs h k = false_not_true h
+typed_places b [] [] (x ∷ xs) h k = false_not_true k
+typed_places b (p ∷ ps) (u ∷ us) [] h k = false_not_true k
 typed_places b (p ∷ ps) (u ∷ us) (x ∷ xs) h k = (int_place b i.Int u (x ∷ []) p k.0, typed_places b ps us xs h.3 k.1)
 
 plain_leaves : (b : Bench) (s : Span) (ty : VarTy) (start : ℕ) (p : PlaceTree) → structs_sound b.w.names.structs 0 b.w.names.structs ≡ true → is_plain_type (length b.w.names.structs) ty ≡ true → core.place_type (context b.w) p ≡ ty → PlaceClass b.marks (judged b) ty (start ∷ []) p →

@@ -2,6 +2,7 @@
 use Rattle.std.proofs.Common.{◌≡◌, ◌∙◌, ◌<◌, ℕ, ◌+◌, refl, sym, subst, arith, Bool, true, false, Some, List, [], ◌∷◌, length}
 use Rattle.std.specs.Prelude.{◌&&◌, ◌||◌, is_some}
 use Rattle.std.specs.List.{list_any, list_all}
+use Rattle.pt_base.proofs.Booleans.{false_not_true}
 use Rattle.pt_tree.specs.declared.signature.Elem.{Elem}
 use Rattle.pt_tree.specs.declared.signature.Elem.TheVariants as e
 use Rattle.typed_tree.specs.declared.types.VarTy.{VarTy}
@@ -16,7 +17,6 @@ use Rattle.pt_core.specs.Types.{pointee_type}
 use Rattle.sides.specs.Carried.{carried}
 use Rattle.sides.specs.Leaves.{leaves_of, leaf_count, value_count}
 use Rattle.flow_edges.specs.Edges.{moved_to}
-use Rattle.lowered_code_law.proofs.FormsSameTypes.{never}
 use Rattle.handle_classes.specs.Classes.{Class}
 use Rattle.handle_classes.specs.Judgment.{Flows, Goes, Copies}
 use Rattle.handle_classes_law.specs.ObjectsCells.{is_pointer, leaf_under}
@@ -36,7 +36,7 @@ backward b a z ys j h is points less some =
     (moved_back b.marks (moved_to (seen b) a ys) j (subst (λ o. is_some (pointee_of o) ≡ true) (sym is) points) h (subst (λ o. j < value_count (leaf_count b.w.names.structs) o) (sym is) less) (any_of_each (λ s. b.marks (s + j)) ys some))
 
 -- the leaf of a cell, of an object or of what is pointed to
-elem_plain : (n : ℕ) (elem : Elem) → is_elem n (Some elem) ≡ true → is_plain_type n (type_of_elem elem) ≡ true
+pub elem_plain : (n : ℕ) (elem : Elem) → is_elem n (Some elem) ≡ true → is_plain_type n (type_of_elem elem) ≡ true
 elem_plain n (e.Int t) h = refl
 elem_plain n (e.Struct k) h = h
 
@@ -71,7 +71,7 @@ value_goes b a z ys v k sound known scalar is one h hv hk = record {
   sealed = λ p m. let q = sym hk.kind ∙ p in hk.must 0 (first_cell b z scalar q) ∙ forward b a z ys (leaf_under b.w.names.structs (pointee_type z) 0) h is (own_leaf b.w.names.structs z 0 sound known (first_cell b z scalar q)) (hv.number q m);
   flows = λ p. let q = sym hk.kind ∙ p in record {
     kind = hv.kind ∙ sym hk.kind;
-    first = λ no m. never (sym no ∙ p);
+    first = λ no m. false_not_true (sym no ∙ p);
     size = λ w. hv.size ∙ sym hk.size;
     may = λ w n less m. let l = inside n less in
         hk.may n l ∙ single q (leaf_under b.w.names.structs (pointee_type z) n) ∙ forward b a z ys (leaf_under b.w.names.structs (pointee_type z) n) h is (own_leaf b.w.names.structs z n sound known l) (sym (hv.may q n l) ∙ m);
@@ -88,9 +88,9 @@ value_goes b a z ys v k sound known scalar is one h hv hk = record {
 
     points : (z : VarTy) → is_pointer z ≡ true → is_some (pointee_of (Some z)) ≡ true
     points (Pointer elem fixed) q = refl
-    points (Int t) q = never q
-    points (Struct n) q = never q
-    points (Array elem n) q = never q
+    points (Int t) q = false_not_true q
+    points (Struct n) q = false_not_true q
+    points (Array elem n) q = false_not_true q
 
 -- a struct may be copied, also where some of its fields alone are marked
 pub struct_copies : (b : Bench) (a : src.ExprTree) (m : ℕ) (ys : List ℕ) (to from : Class) → structs_sound b.w.names.structs 0 b.w.names.structs ≡ true → is_variable_type (length b.w.names.structs) (Struct m) ≡ true → ty_of a ≡ Some (Struct m) →

@@ -1,11 +1,14 @@
 -- What holds of all that a body evaluates holds of what each outermost expression of its statements evaluates, with
 -- what that is used for.
-use Rattle.std.proofs.Common.{◌≡◌, ◌∙◌, ◌≤◌, ◌<◌, ℕ, suc, refl, ap, sym, subst, arith, true, false, Option, None, Some, List, [], ◌∷◌, ◌++◌, map, if◌then◌else◌}
-use Rattle.std.specs.Prelude.{slice_get, nat_eq, nat_le, option_and_then, length}
+use Rattle.std.proofs.Common.{◌≡◌, ◌∙◌, ◌≤◌, ◌<◌, ℕ, suc, refl, sym, subst, arith, true, false, Option, None, Some, List, [], ◌∷◌, ◌++◌, map, if◌then◌else◌}
+use Rattle.std.specs.Prelude.{slice_get, nat_eq, nat_le, length}
 use Rattle.std.specs.List.{AllByRecursion}
 use Rattle.std.proofs.lemmas.Bool.Decides.{nat_tests}
+use Rattle.lowered_code_law.proofs.LocalityParts.{parts_are}
 use Rattle.pt_base.specs.declared.ids.FnId.{FnId}
 use Rattle.pt_base.specs.declared.ids.VarId.{VarId}
+use Rattle.pt_base.proofs.Booleans.{both_hold_first, both_hold_second}
+use Rattle.pt_base.proofs.Lists.{append_grouped, as_append_nil}
 use Rattle.typed_tree.specs.declared.ids.ExprId.{ExprId}
 use Rattle.typed_tree.specs.declared.part.Part.{Part}
 use Rattle.typed_tree.specs.declared.part.Role.{Role}
@@ -22,7 +25,6 @@ use Rattle.typed_tree.specs.TypedTree.{TypedTree, FunctionTree}
 use Rattle.typed_tree.specs.Lookup.{function_at, parts_in}
 use Rattle.typed_tree.specs.Parts.{part_of, optional_part, init_parts, declarator_parts, declaration_parts, for_init_parts, parts_of, else_parts, all_parts, section_parts, function_parts, declarator_variables, for_init_variables, variables_of, else_variables, all_variables, section_variables, function_variables}
 use Rattle.typed_tree.specs.WellFormed.{are_consecutive, are_rising, numbers_sound}
-use Rattle.typed_tree.proofs.WellFormedLemmas.{and_left, and_right}
 use Rattle.usages.specs.declared.usage.How.{How}
 use Rattle.usages.specs.declared.usage.How.TheVariants.{Kept, Operated, Begins, Returned}
 use Rattle.usages.specs.Usages.{UsageTree, evaluated, how_of, part_usages, item_number, parts_usages, usages_in}
@@ -93,14 +95,6 @@ pub used_rest : (Q : UsageTree → Type 0) (us vs : List UsageTree) → AllByRec
 used_rest Q [] vs h = h
 used_rest Q (u ∷ us) vs h = used_rest Q us vs h.1
 
-pub grouped : {A : Type 0} (xs ys zs : List A) → (xs ++ ys) ++ zs ≡ xs ++ (ys ++ zs)
-grouped [] ys zs = refl
-grouped (x ∷ xs) ys zs = ap (λ r. x ∷ r) (grouped xs ys zs)
-
-whole : {A : Type 0} (xs : List A) → xs ≡ xs ++ []
-whole [] = refl
-whole (x ∷ xs) = ap (λ r. x ∷ r) (whole xs)
-
 -- ---- the parts that are ahead
 
 -- the variable of this role has a number below this one
@@ -121,10 +115,10 @@ record Ahead (Q : UsageTree → Type 0) (exprs : List ExprTree) (ps : List Part)
   used : AllByRecursion Q (parts_usages exprs before number ps)
 
 regrouped : (Q : UsageTree → Type 0) (exprs : List ExprTree) (xs ys ps : List Part) (vs : List ℕ) → Ahead Q exprs ((xs ++ ys) ++ ps) vs → Ahead Q exprs (xs ++ (ys ++ ps)) vs
-regrouped Q exprs xs ys ps vs h = subst (λ z. Ahead Q exprs z vs) (grouped xs ys ps) h
+regrouped Q exprs xs ys ps vs h = subst (λ z. Ahead Q exprs z vs) (append_grouped xs ys ps) h
 
 both_regrouped : (Q : UsageTree → Type 0) (exprs : List ExprTree) (xs ys ps : List Part) (us ws vs : List ℕ) → Ahead Q exprs ((xs ++ ys) ++ ps) ((us ++ ws) ++ vs) → Ahead Q exprs (xs ++ (ys ++ ps)) (us ++ (ws ++ vs))
-both_regrouped Q exprs xs ys ps us ws vs h = regrouped Q exprs xs ys ps (us ++ (ws ++ vs)) (subst (λ z. Ahead Q exprs ((xs ++ ys) ++ ps) z) (grouped us ws vs) h)
+both_regrouped Q exprs xs ys ps us ws vs h = regrouped Q exprs xs ys ps (us ++ (ws ++ vs)) (subst (λ z. Ahead Q exprs ((xs ++ ys) ++ ps) z) (append_grouped us ws vs) h)
 
 part_used : (Q : UsageTree → Type 0) (exprs : List ExprTree) (how : How) (e : ExprId) (us : List UsageTree) → AllByRecursion Q (part_usages how (slice_get exprs e.0) ++ us) → UsedAt Q exprs how e × AllByRecursion Q us
 part_used Q exprs how e us h = (
@@ -195,10 +189,10 @@ init_ahead : (d : TypedInit) (Q : UsageTree → Type 0) (exprs : List ExprTree) 
 init_ahead d Q exprs v ps vs h = go d h.used
   where
     low : h.first ≤ v.0
-    low = let e = and_left (nat_le h.first v.0) (are_rising (suc v.0) vs) h.rise in grind (arith, nat_tests, e)
+    low = let e = both_hold_first (nat_le h.first v.0) (are_rising (suc v.0) vs) h.rise in grind (arith, nat_tests, e)
 
     rest : are_rising (suc v.0) vs ≡ true
-    rest = and_right (nat_le h.first v.0) (are_rising (suc v.0) vs) h.rise
+    rest = both_hold_second (nat_le h.first v.0) (are_rising (suc v.0) vs) h.rise
 
     -- nothing is initialised
     same : AllByRecursion Q (parts_usages exprs h.before h.number ps) → Ahead Q exprs ps vs
@@ -302,10 +296,6 @@ mutual
 
 -- ---- a function
 
--- the parts of the function of this number are those of its body
-parts_are : (t : TypedTree) (f : FnId) (g : FunctionTree) (body : BodyTree) → function_at t f ≡ Some g → g.body ≡ Some body → parts_in t f ≡ parts_of body
-parts_are t f g body found is = ap (λ (o : Option FunctionTree). function_parts (option_and_then (λ (g : FunctionTree). g.body) o)) found ∙ ap function_parts is
-
 parts_used : (Q : UsageTree → Type 0) (t : TypedTree) (f : FnId) → AllByRecursion Q (usages_in t f) → AllByRecursion Q (parts_usages t.exprs r.Value 0 (parts_in t f))
 unfolding usages_in
 parts_used Q t f h = h
@@ -317,9 +307,9 @@ body_used Q t f g body found is sound h =
       number = 0;
       first = length g.signature.params;
       below = tt;
-      rise = subst (λ z. are_rising (length g.signature.params) z ≡ true) (whole (variables_of body)) rising;
-      used = subst (λ z. AllByRecursion Q (parts_usages t.exprs r.Value 0 z)) (parts_are t f g body found is ∙ whole (parts_of body)) (parts_used Q t f h);
+      rise = subst (λ z. are_rising (length g.signature.params) z ≡ true) (as_append_nil (variables_of body)) rising;
+      used = subst (λ z. AllByRecursion Q (parts_usages t.exprs r.Value 0 z)) (parts_are t f g body found is ∙ as_append_nil (parts_of body)) (parts_used Q t f h);
     })).0
   where
     rising : are_rising (length g.signature.params) (variables_of body) ≡ true
-    rising = subst (λ o. are_rising (length g.signature.params) (function_variables o) ≡ true) is (and_right (are_consecutive (function_parts g.body) (length t.exprs)) (are_rising (length g.signature.params) (function_variables g.body)) sound)
+    rising = subst (λ o. are_rising (length g.signature.params) (function_variables o) ≡ true) is (both_hold_second (are_consecutive (function_parts g.body) (length t.exprs)) (are_rising (length g.signature.params) (function_variables g.body)) sound)

@@ -4,7 +4,7 @@ use Rattle.std.specs.Prelude.{is_none, not, ◌||◌}
 use Rattle.handle_classes.specs.Classes.{class_of}
 use Rattle.handle_classes.specs.Judgment.{IsFine, IsFineStatement}
 use Rattle.lowered_code_law.proofs.FormsParts.{held_stand}
-use Rattle.lowered_code_law.proofs.FormsSameTypes.{never, stands_int}
+use Rattle.lowered_code_law.proofs.FormsSameTypes.{stands_int}
 use Rattle.lowered_code_law.proofs.FormsSettings.{Stand, context}
 use Rattle.lowered_code_law.proofs.FormsStanding.{stand_first, stand_rest}
 use Rattle.lowered_code_law.proofs.FormsSteps.{step_operands, unary_operand}
@@ -12,6 +12,7 @@ use Rattle.lowering.specs.Expressions.{arm, chain_so_far, checked, chosen, linke
 use Rattle.lowering.specs.Lowered.{Effects, Lowered, LoweredPlace, Temp, held, held_if, hold, holding, int, past, temp}
 use Rattle.lowering.specs.Operators.{converted, truth_of}
 use Rattle.pt_base.specs.declared.span.Span.{Span}
+use Rattle.pt_base.proofs.Booleans.{both_hold_first, false_not_true}
 use Rattle.pt_core.specs.CodeTree.{StmtTree, check, choose, stmt_trees}
 use Rattle.pt_core.specs.Types as core
 use Rattle.pt_core.specs.WellFormedExpression.{stands_for}
@@ -22,7 +23,6 @@ use Rattle.usages.specs.declared.usage.How.{How}
 use Rattle.usages.specs.declared.usage.How.TheVariants.{Kept, Operated}
 use Rattle.source_meaning.specs.Expressions.{type_of, type_or_int}
 use Rattle.typed_tree.proofs.SameTypes.{equal_elems}
-use Rattle.typed_tree.proofs.WellFormedLemmas.{and_left}
 use Rattle.typed_tree.specs.ExpressionTree.{LinkTree, link, link_trees, typed}
 use Rattle.typed_tree.specs.ExpressionTree as src
 use Rattle.typed_tree.specs.TypeRules.{converts, promoted_value, unary_fits}
@@ -56,11 +56,11 @@ links_more b xs [] s t step a = refl
 links_more b xs (link s2 t2 step2 a2 ∷ ls) s t step a = links_more b (linked_slots xs step2 (carried (seen b) a2)) ls s t step a
 
 pub constant_int : (t : Option VarTy) (v : _) → constant_fits v (integer_of t) ≡ true → is_int (type_or_int t) ≡ true
-constant_int None v h = never h
+constant_int None v h = false_not_true h
 constant_int (Some (Int t)) v h = refl
-constant_int (Some (Struct n)) v h = never h
-constant_int (Some (Array elem n)) v h = never h
-constant_int (Some (Pointer elem g)) v h = never h
+constant_int (Some (Struct n)) v h = false_not_true h
+constant_int (Some (Array elem n)) v h = false_not_true h
+constant_int (Some (Pointer elem g)) v h = false_not_true h
 
 -- a step behind what is held first
 pub linked_is : (b : Bench) (n : ℕ) (step : LinkStep) (so_far to : VarTy) (o : Option VarTy) (xs ys : List ℕ) (waits : Bool) (x : Temp) (far v : Lowered) (at : Span) → r.stepped (Some so_far) step o ≡ Some to → PlainIf b so_far xs → PlainIf b (type_or_int o) ys → is_scalar (Some so_far) ≡ true → Keeps b so_far xs x →
@@ -83,18 +83,18 @@ plain_when b how (typed s t form) scalar h is = (quiet_rest b (form_usages t for
 pub convert_form : (b : Bench) (o ty : Option VarTy) (slots : List ℕ) (v : Lowered) → converts o ty ≡ true → (conversion o ty ≡ Operated → PlainIf b (type_or_int o) slots) → stands_for (core.type_of (context b.w) v.value) (type_or_int o) ≡ true → LoweredIs b (type_or_int o) slots v →
     LoweredIs b (type_or_int ty) (if keeps_value o ty then slots else []) (record v { value = converted (type_or_int ty) v.value })
 convert_form b (Some (Int x)) (Some (Int y)) slots v rule plain stands h = record { stmts = h.stmts; value = convert_is b x y slots v.value (stands_int (core.type_of (context b.w) v.value) x stands) (λ no. plain (ap (λ z. if z then Kept else Operated) no)) h.value }
-convert_form b (Some (Pointer x c)) (Some (Pointer y d)) slots v rule plain stands h = record { stmts = h.stmts; value = record { fine = h.value.fine; is = subst (λ z. IsBy (class_of (judged b) v.value) (at_slots b (Pointer z d) slots)) (equal_elems x y (and_left (same_elem x y) (not c || d) rule)) h.value.is } }
-convert_form b None ty slots v rule plain stands h = never rule
-convert_form b (Some (Struct m)) ty slots v rule plain stands h = never rule
-convert_form b (Some (Array elem m)) ty slots v rule plain stands h = never rule
-convert_form b (Some (Int x)) None slots v rule plain stands h = never rule
-convert_form b (Some (Int x)) (Some (Struct m)) slots v rule plain stands h = never rule
-convert_form b (Some (Int x)) (Some (Array elem m)) slots v rule plain stands h = never rule
-convert_form b (Some (Int x)) (Some (Pointer elem m)) slots v rule plain stands h = never rule
-convert_form b (Some (Pointer x c)) None slots v rule plain stands h = never rule
-convert_form b (Some (Pointer x c)) (Some (Int m)) slots v rule plain stands h = never rule
-convert_form b (Some (Pointer x c)) (Some (Struct m)) slots v rule plain stands h = never rule
-convert_form b (Some (Pointer x c)) (Some (Array elem m)) slots v rule plain stands h = never rule
+convert_form b (Some (Pointer x c)) (Some (Pointer y d)) slots v rule plain stands h = record { stmts = h.stmts; value = record { fine = h.value.fine; is = subst (λ z. IsBy (class_of (judged b) v.value) (at_slots b (Pointer z d) slots)) (equal_elems x y (both_hold_first (same_elem x y) (not c || d) rule)) h.value.is } }
+convert_form b None ty slots v rule plain stands h = false_not_true rule
+convert_form b (Some (Struct m)) ty slots v rule plain stands h = false_not_true rule
+convert_form b (Some (Array elem m)) ty slots v rule plain stands h = false_not_true rule
+convert_form b (Some (Int x)) None slots v rule plain stands h = false_not_true rule
+convert_form b (Some (Int x)) (Some (Struct m)) slots v rule plain stands h = false_not_true rule
+convert_form b (Some (Int x)) (Some (Array elem m)) slots v rule plain stands h = false_not_true rule
+convert_form b (Some (Int x)) (Some (Pointer elem m)) slots v rule plain stands h = false_not_true rule
+convert_form b (Some (Pointer x c)) None slots v rule plain stands h = false_not_true rule
+convert_form b (Some (Pointer x c)) (Some (Int m)) slots v rule plain stands h = false_not_true rule
+convert_form b (Some (Pointer x c)) (Some (Struct m)) slots v rule plain stands h = false_not_true rule
+convert_form b (Some (Pointer x c)) (Some (Array elem m)) slots v rule plain stands h = false_not_true rule
 
 -- a condition is no handle
 pub condition_is : (b : Bench) (ty : VarTy) (slots : List ℕ) (v : Lowered) → PlainIf b ty slots → ValueIs b ty slots v.value → (class_of (judged b) v.value).pointer ≡ false → (class_of (judged b) v.value).may 0 ≡ false
@@ -158,14 +158,14 @@ operand_is b n k op ta xa s far v scalar plain i h stand held =
 -- void as an integer
 pub none_int : (o : Option VarTy) → is_none o ≡ true → is_int (type_or_int o) ≡ true
 none_int None h = refl
-none_int (Some ty) h = never h
+none_int (Some ty) h = false_not_true h
 
 -- the right side of a compound assignment is an integer or a pointer
 pub operand_scalar : (step : LinkStep) (z : VarTy) (o : Option VarTy) → converts (r.stepped (promoted_value (Some z)) step o) (Some z) ≡ true → is_scalar o ≡ true
 operand_scalar step z o h = go (r.stepped (promoted_value (Some z)) step o) refl h
   where
     go : (q : Option VarTy) → r.stepped (promoted_value (Some z)) step o ≡ q → converts q (Some z) ≡ true → is_scalar o ≡ true
-    go None is k = never k
+    go None is k = false_not_true k
     go (Some m) is k = let two = step_operands step (promoted_value (Some z)) o m is in subst (λ y. is_scalar y ≡ true) (sym two.by) two.right_scalar
 
 -- the object is found
@@ -174,7 +174,7 @@ checked_is b ty slots p h = fine_both b p.stmts (check p.place ∷ []) h.stmts (
 
 pub held_drops : (b : Bench) (n : ℕ) (o : Option VarTy) (slots : List ℕ) (whole : src.ExprTree) (v : Lowered) → is_scalar o ≡ true → type_of whole ≡ type_or_int o → carried (seen b) whole ≡ slots → (Stand b.w.variables n v.temps → Held b n v.temps → LoweredIs b (type_or_int o) slots v) →
     Stand b.w.variables n (held n (holding (type_or_int o) whole) v).temps → Held b n (held n (holding (type_or_int o) whole) v).temps → AreFine b (held n (holding (type_or_int o) whole) v).stmts
-held_drops b n None slots whole v scalar type from h stand keeps = never scalar
+held_drops b n None slots whole v scalar type from h stand keeps = false_not_true scalar
 held_drops b n (Some ty) slots whole v scalar type from h stand keeps =
     (held_is b ty slots n (holding ty whole) v scalar (holding_keeps b ty ty slots whole type from) (λ hl. h (stand_first b.w.variables n v.temps (holding ty whole ∷ []) stand) hl) keeps).stmts
 

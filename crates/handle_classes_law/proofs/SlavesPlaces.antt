@@ -4,7 +4,7 @@ use Rattle.std.specs.Option.{option_map}
 use Rattle.lowered_code_law.proofs.FormsParts.{array_decays, array_value, held_stand}
 use Rattle.lowered_code_law.proofs.FormsPlaces.{field_in_fits, field_is}
 use Rattle.lowered_code_law.proofs.FormsRules.{assigned_struct, element_of_array, pointee_of_pointer, type_is}
-use Rattle.lowered_code_law.proofs.FormsSameTypes.{never, stands_pointer}
+use Rattle.lowered_code_law.proofs.FormsSameTypes.{stands_pointer}
 use Rattle.lowered_code_law.proofs.FormsSettings.{PlaceFits, Stand, context, source}
 use Rattle.lowered_code_law.proofs.FormsStanding.{held_if_fits, stand_first, stand_rest}
 use Rattle.lowered_code_law.proofs.FormsSteps.{integer_is, one_type}
@@ -14,6 +14,7 @@ use Rattle.handle_classes_law.proofs.ObjectsItems.{field_plain}
 use Rattle.handle_classes_law.specs.ObjectsCells.{is_pointer}
 use Rattle.pt_base.specs.declared.int_type.IntType.{IntType}
 use Rattle.pt_base.specs.declared.span.Span.{Span}
+use Rattle.pt_base.proofs.Booleans.{false_not_true}
 use Rattle.pt_core.specs.CodeTree.{move}
 use Rattle.pt_core.specs.Types as core
 use Rattle.sides.specs.Carried.{carried, place_slots, root_slots, start_of}
@@ -53,7 +54,7 @@ no_step structs (step_and (src.item a p) rest) ty h = go (λ k. no_step structs 
 
 -- what a place begins with has a type
 pub begins : (structs : List StructInfo) (o : Option VarTy) (steps : StepTrees) (ty : VarTy) → steps_type structs o steps ≡ Some ty → (z : VarTy) × (o ≡ Some z)
-begins structs None steps ty h = never (no_step structs steps ty h)
+begins structs None steps ty h = false_not_true (no_step structs steps ty h)
 begins structs (Some z) steps ty h = (z, refl)
 
 -- the type behind these steps
@@ -179,7 +180,7 @@ struct_object : (z : VarTy) → is_struct (Some z) ≡ true → is_pointer z ≡
 struct_object (Struct n) h = refl
 struct_object (Int t) h = refl
 struct_object (Array elem n) h = refl
-struct_object (Pointer elem g) h = never h
+struct_object (Pointer elem g) h = false_not_true h
 
 -- a part of an object is none
 part_object : (structs : List StructInfo) (steps : StepTrees) (z ty : VarTy) → structs_sound structs 0 structs ≡ true → is_pointer z ≡ false → steps_type structs (Some z) steps ≡ Some ty → is_pointer ty ≡ false
@@ -195,8 +196,8 @@ part_object structs (step_and (src.item a s) rest) z ty sound h is =
 one_root : (root : RootTree) (b : Bench) (z : VarTy) → Fits b → root_type b.w.names root ≡ Some z → is_pointer z ≡ true → (s : ℕ) × (root_slots (seen b) root ≡ s ∷ [])
 one_root (src.local v) b z g is q = let o = g.locals v.0 z is in (o.start, ap start_of o.object)
 one_root (src.global v) b z g is q = let o = g.globals v.0 z is in (o.start, ap start_of o.object)
-one_root (src.deref a s) b z g is q = let o = pointee_of_pointer (ty_of a) z is in never (sym (subst (λ y. is_pointer y ≡ false) o.is (elem_object o.elem)) ∙ q)
-one_root (src.assigned a) b z g is q = never (sym (struct_object z (assigned_struct a z is).1) ∙ q)
+one_root (src.deref a s) b z g is q = let o = pointee_of_pointer (ty_of a) z is in false_not_true (sym (subst (λ y. is_pointer y ≡ false) o.is (elem_object o.elem)) ∙ q)
+one_root (src.assigned a) b z g is q = false_not_true (sym (struct_object z (assigned_struct a z is).1) ∙ q)
 
 pub one_place : (p : src.PlaceTree) (b : Bench) (ty : VarTy) → Fits b → place_type b.w.names p ≡ Some ty → is_pointer ty ≡ true → (s : ℕ) × (place_slots (seen b) p ≡ s ∷ [])
 one_place (src.place root steps) b ty g is q =
@@ -204,5 +205,5 @@ one_place (src.place root steps) b ty g is q =
     go z.0 z.1 (is_pointer z.0) refl
   where
     go : (z : VarTy) → root_type b.w.names root ≡ Some z → (c : Bool) → is_pointer z ≡ c → (s : ℕ) × (place_slots (seen b) (src.place root steps) ≡ s ∷ [])
-    go z from false kind = never (sym (part_object b.w.names.structs steps z ty g.agrees.structs kind (subst (λ o. steps_type b.w.names.structs o steps ≡ Some ty) from is)) ∙ q)
+    go z from false kind = false_not_true (sym (part_object b.w.names.structs steps z ty g.agrees.structs kind (subst (λ o. steps_type b.w.names.structs o steps ≡ Some ty) from is)) ∙ q)
     go z from true kind = let o = one_root root b z g from kind in (o.0 + slots.steps_offset b.w.names.structs (slots.root_type (seen b) root) steps, ap (λ xs. behind (slots.steps_offset b.w.names.structs (slots.root_type (seen b) root) steps) xs) o.1)

@@ -6,6 +6,10 @@ use Rattle.std.specs.List.{AllByRecursion, filter, find}
 use Rattle.std.proofs.lemmas.Bool.Decides.{nat_tests}
 use Rattle.pt_base.specs.declared.ids.FnId.{FnId}
 use Rattle.pt_base.specs.declared.int_type.IntType.TheVariants as i
+use Rattle.pt_base.proofs.Booleans.{both_hold_first, both_hold_second, false_not_true, if_false, if_true}
+use Rattle.pt_base.proofs.Members.{all_true_at}
+use Rattle.pt_base.proofs.Numbers.{nat_eq_same}
+use Rattle.pt_base.proofs.Places.{get_below_length, get_map}
 use Rattle.pt_tree.specs.declared.signature.Signature.{Signature}
 use Rattle.typed_tree.specs.declared.types.VarTy.{VarTy}
 use Rattle.typed_tree.specs.declared.types.VarTy.TheVariants.{Int}
@@ -16,7 +20,7 @@ use Rattle.typed_tree.specs.TypedTree.{TypedTree, FunctionTree}
 use Rattle.typed_tree.specs.WellFormed.{is_plain_type, is_small, cells_fit, global_sound, numbers_sound}
 use Rattle.typed_tree.specs.Cells.{leaves_of}
 use Rattle.typed_tree.specs.WellFormedExpression.{is_main}
-use Rattle.typed_tree.proofs.WellFormedLemmas.{and_left, and_right, Facts, facts_of}
+use Rattle.typed_tree.proofs.WellFormedLemmas.{Facts, facts_of}
 use Rattle.sides.specs.declared.objects.Object.{Object}
 use Rattle.sides.specs.declared.slots.Owner.TheVariants.{Result}
 use Rattle.sides.specs.declared.slots.SlotInfo.{SlotInfo}
@@ -36,9 +40,6 @@ use Rattle.pt_core.specs.Calls.{function_in, no_function}
 use Rattle.lowering.specs.Lowered.{Temp}
 use Rattle.lowering.specs.Functions.{core_of, core_program, functions_from, globals_from, lowered_body, main_end}
 use Rattle.lowering.specs.Statements.{nowhere}
-use Rattle.lowered_code_law.proofs.FormsSameTypes.{never}
-use Rattle.lowered_code_law.proofs.FormsStanding.{got}
-use Rattle.lowered_code_law.proofs.FormsPlaces.{all_at}
 use Rattle.lowered_code_law.proofs.FormsLists.{stand_behind}
 use Rattle.lowered_code_law.proofs.FormsPrograms.{agrees, sound_at}
 use Rattle.lowered_code_law.proofs.NamesBodies.{lowered_names}
@@ -61,7 +62,7 @@ use Rattle.handle_classes_law.proofs.SlavesContexts.{judge, stmts_fine}
 use Rattle.handle_classes_law.proofs.SlavesKnown.{IsKnown, bench, top_of, known_usages, known_quiet, seed_marked}
 use Rattle.handle_classes_law.proofs.SlavesFindings.{Looks}
 use Rattle.handle_classes_law.proofs.SlavesOutermost.{body_used}
-use Rattle.handle_classes_law.proofs.SlavesSlots.{object_found, global_within, variable_within, result_within, listed, signed as numbered}
+use Rattle.handle_classes_law.proofs.SlavesSlots.{object_found, global_within, variable_within, result_within, signed as numbered}
 use Rattle.handle_classes_law.proofs.SlavesGround.{Ground}
 use Rattle.handle_classes_law.proofs.SlavesStatements.{statement_fine}
 use Rattle.handle_classes_law.proofs.SlavesWithin.{Rooms}
@@ -72,14 +73,6 @@ abbrev function_id : ℕ → FnId
 function_id n = record { 0 = n }
 
 -- ---- the classes of a function's variables
-
-if_true : {A : Type 0} (c : Bool) (x y : A) → c ≡ true → (if c then x else y) ≡ x
-if_true true x y h = refl
-if_true false x y h = never h
-
-if_false : {A : Type 0} (c : Bool) (x y : A) → c ≡ false → (if c then x else y) ≡ y
-if_false false x y h = refl
-if_false true x y h = never (sym h)
 
 own_class : (m : Marks) (t : TypedTree) (n v : ℕ) (f : FunctionTree) (x : Object) → slice_get t.functions n ≡ Some f → v < length f.vars → slice_get (variable_objects t n) v ≡ Some x → variable_class m t n v ≡ class_at m t.structs x.ty (x.start ∷ [])
 own_class m t n v f x here less is =
@@ -118,7 +111,7 @@ held_from b k (x ∷ xs) h = (
 local_object : (t : TypedTree) (a : Accepted) (n : ℕ) (f : FunctionTree) (temps : List Temp) → slice_get t.functions n ≡ Some f → (x : ℕ) (ty : VarTy) → option_map (λ (y : Var). y.ty) (slice_get f.vars x) ≡ Some ty →
     IsObject (bench t a n f temps) (variable_objects t n) x ty (variable_class (marks_of t a) t n x)
 local_object t a n f temps here x ty is =
-    let types : slice_get (option_map_or variable_types (slice_get t.functions n) []) x ≡ Some ty = subst (λ o. slice_get (option_map_or variable_types o []) x ≡ Some ty) (sym here) (got (λ (y : Var). y.ty) f.vars x ∙ is) in
+    let types : slice_get (option_map_or variable_types (slice_get t.functions n) []) x ≡ Some ty = subst (λ o. slice_get (option_map_or variable_types o []) x ≡ Some ty) (sym here) (get_map (λ (y : Var). y.ty) f.vars x ∙ is) in
     let o = object_found (leaf_count t.structs) (get_or (function_starts t) n 0) (option_map_or variable_types (slice_get t.functions n) []) x ty types in
     record { start = o.0; object = o.1; class = own_class (marks_of t a) t n x f (record { ty = ty; start = o.0 }) here (in_list f.vars x is) o.1 }
   where
@@ -130,7 +123,7 @@ local_object t a n f temps here x ty is =
 global_object : (t : TypedTree) (a : Accepted) (n : ℕ) (f : FunctionTree) (temps : List Temp) → Facts t → (g : ℕ) (ty : VarTy) → option_map (λ (y : TypedGlobal). y.var.ty) (slice_get t.globals g) ≡ Some ty →
     IsObject (bench t a n f temps) (global_objects t) g ty (global_class (marks_of t a) t g)
 global_object t a n f temps facts g ty is =
-    let o = object_found (leaf_count t.structs) 0 (global_types t) g ty (got (λ (y : TypedGlobal). y.var.ty) t.globals g ∙ is) in
+    let o = object_found (leaf_count t.structs) 0 (global_types t) g ty (get_map (λ (y : TypedGlobal). y.var.ty) t.globals g ∙ is) in
     record {
       start = o.0;
       object = o.1;
@@ -140,9 +133,9 @@ global_object t a n f temps facts g ty is =
     plain : (o : Option TypedGlobal) → slice_get t.globals g ≡ o → option_map (λ (y : TypedGlobal). y.var.ty) o ≡ Some ty → is_pointer ty ≡ false
     plain None at e = cc
     plain (Some x) at e =
-        let sound = all_at (global_sound t.structs) t.globals g x facts.globals at in
+        let sound = all_true_at (global_sound t.structs) t.globals g x facts.globals at in
         plain_object (length t.structs) ty (subst (λ z. is_plain_type (length t.structs) z ≡ true) (same x.var.ty ty e)
-        (and_left (is_plain_type (length t.structs) x.var.ty) (is_small t.structs x.var.ty) (and_left (is_plain_type (length t.structs) x.var.ty && is_small t.structs x.var.ty) (is_none x.var.holds && cells_fit (leaves_of t.structs x.var.ty) x.cells) sound)))
+        (both_hold_first (is_plain_type (length t.structs) x.var.ty) (is_small t.structs x.var.ty) (both_hold_first (is_plain_type (length t.structs) x.var.ty && is_small t.structs x.var.ty) (is_none x.var.holds && cells_fit (leaves_of t.structs x.var.ty) x.cells) sound)))
       where
         same : (c d : VarTy) → Some c ≡ Some d → c ≡ d
         same c d h = cc
@@ -152,7 +145,7 @@ bench_fits t a n f body temps facts here is = record {
   agrees = agrees t f temps facts (sound_at t n f body facts here is).vars;
   locals = local_object t a n f temps here;
   globals = global_object t a n f temps facts;
-  results = λ g h. and_right (not (option_map_or (λ (x : FunctionTree). is_main x.signature) (slice_get t.functions g) false)) (marks_of t a (result_start t + g)) h;
+  results = λ g h. both_hold_second (not (option_map_or (λ (x : FunctionTree). is_main x.signature) (slice_get t.functions g) false)) (marks_of t a (result_start t + g)) h;
 }
 
 pub bench_rooms : (t : TypedTree) (a : Accepted) (n : ℕ) (f : FunctionTree) (temps : List Temp) → Rooms (top_of t) (bench t a n f temps)
@@ -168,7 +161,7 @@ bench_looks t a n f body temps facts here is = record {
   scope = refl;
   function = refl;
   world = refl;
-  calls = λ g. (agrees t f temps facts (sound_at t n f body facts here is).vars).calls g ∙ got (λ (x : FunctionTree). x.signature) t.functions g;
+  calls = λ g. (agrees t f temps facts (sound_at t n f body facts here is).vars).calls g ∙ get_map (λ (x : FunctionTree). x.signature) t.functions g;
   structs = facts.structs;
   functions = facts.functions;
 }
@@ -178,7 +171,7 @@ end_fine : (b : Bench) (s : Signature) → AreFine b (main_end s)
 end_fine b s = go (is_main s)
   where
     go : (c : Bool) → AreFine b (if c then give_back (Some (constant i.Int (pos 0))) ∷ [] else [])
-    go true = ((tt, record { kind = refl; first = λ p h. never h; size = λ p. never p; may = λ p. never p; must = λ p. never p }), tt)
+    go true = ((tt, record { kind = refl; first = λ p h. false_not_true h; size = λ p. false_not_true p; may = λ p. false_not_true p; must = λ p. false_not_true p }), tt)
     go false = tt
 
 function_fine : (t : TypedTree) (a : Accepted) (n : ℕ) (f : FunctionTree) (body : BodyTree) → Facts t → IsAccepted t a → slice_get t.functions n ≡ Some f → f.body ≡ Some body → InSlave t (function_id n) →
@@ -193,10 +186,10 @@ function_fine t a n f body facts accepted here is inside =
       fits = g;
       top = top_of t;
       rooms = rooms;
-      own = result_within t n (listed t.functions n f here);
+      own = result_within t n (get_below_length t.functions n f here);
       quiet = λ e how free h known room. known_quiet e how t a n f code.temps facts g rooms (bench_looks t a n f body code.temps facts here is) free h known room;
     } in
-    let used = body_used (IsKnown t a n) t (function_id n) f body here is (all_at (numbers_sound t) t.functions n f facts.numbered here) (known_usages t a n accepted inside) in
+    let used = body_used (IsKnown t a n) t (function_id n) f body here is (all_true_at (numbers_sound t) t.functions n f facts.numbered here) (known_usages t a n accepted inside) in
     let temps : temps_of t f ≡ code.temps = ap (λ o. option_map_or (λ body. (lowered_body t f body).temps) o []) is in
     let held = held_from b (length f.vars) code.temps (λ j x at. temp_class (marks_of t a) t n j f code.temps x here temps at) in
     fine_trees b (code.stmts ++ main_end f.signature)
@@ -258,9 +251,6 @@ own_fine t a facts accepted =
       each_in_turn cs h.1,
     )
 
-same_number : (n k : ℕ) → nat_eq n k ≡ true → n ≡ k
-same_number n k h = grind (arith, nat_tests, h)
-
 code_fine : (t : TypedTree) (a : Accepted) (w : World) → AllByRecursion (CodeFine t w (own_globals t (halves_of a.sides))) (slave_half t a).functions → (n : ℕ) → AreFineStatements w (scope_in (slave_half t a) w n) n (function_in (slave_half t a) n).body
 code_fine t a w all n = go (find (λ (c : core.FunctionTree). nat_eq n c.id) (slave_half t a).functions) refl
   where
@@ -269,14 +259,14 @@ code_fine t a w all n = go (find (λ (c : core.FunctionTree). nat_eq n c.id) (sl
     go None is = tt
     go (Some c) is =
         let f = found_in (CodeFine t w (own_globals t (halves_of a.sides))) (λ (c : core.FunctionTree). nat_eq n c.id) (slave_half t a).functions c all is in
-        subst (λ k. AreFineStatements w (judge t.structs (map (λ (x : Var). x.ty) c.vars) (w.variable k) w.global (own_globals t (halves_of a.sides))) k c.body) (sym (same_number n c.id f.1)) f.0
+        subst (λ k. AreFineStatements w (judge t.structs (map (λ (x : Var). x.ty) c.vars) (w.variable k) w.global (own_globals t (halves_of a.sides))) k c.body) (sym (nat_eq_same n c.id f.1)) f.0
 
 -- ---- results
 
 sealed_come : (t : TypedTree) (a : Accepted) → IsAccepted t a → SealedMayCome t (slave_world (marks_of t a) t)
 sealed_come t a accepted f x here plain sealed =
-    let less = result_within t f (listed t.functions f x here) in
-    let at : slot_at t (result_start t + f) ≡ slot_of (Result (function_id f)) whole = (objects_stand t).results f (listed t.functions f x here) in
+    let less = result_within t f (get_below_length t.functions f x here) in
+    let at : slot_at t (result_start t + f) ≡ slot_of (Result (function_id f)) whole = (objects_stand t).results f (get_below_length t.functions f x here) in
     let marked : IsMarkedSlot t (result_start t + f) = subst (λ (z : SlotInfo). StandsInSlave t z.owner × IsTrue (owner_marked t z.owner || z.marked)) (sym at) (tt, first (owner_marked t (Result (function_id f))) false (ap (λ o. option_map_or (λ (y : FunctionTree). is_sealed_result y.signature) o false) here ∙ sealed)) in
     let m : marks_of t a (result_start t + f) ≡ true = seed_marked a.sides.seeds (edges_of_all t a.sides) (top_of t) a.marks accepted.marks (result_start t + f) ((accepted.sides.seeds.same (slot_number (result_start t + f))).1 (less, inl marked)) less in
     both (not (option_map_or (λ (y : FunctionTree). is_main y.signature) (slice_get t.functions f) false)) (marks_of t a (result_start t + f))
@@ -284,11 +274,11 @@ sealed_come t a accepted f x here plain sealed =
   where
     first : (c d : Bool) → c ≡ true → (c || d) ≡ true
     first true d h = refl
-    first false d h = never h
+    first false d h = false_not_true h
 
     both : (c d : Bool) → c ≡ true → d ≡ true → (c && d) ≡ true
     both true d h k = k
-    both false d h k = never h
+    both false d h k = false_not_true h
 
 pub slave_classes : SlaveClasses
 slave_classes t a sound accepted =

@@ -1,8 +1,10 @@
 -- The pointer through which a place leads, held: the place stays what it is.
 use Rattle.std.proofs.Common.{◌≡◌, ◌∙◌, ◌≤◌, ◌<◌, ℕ, ◌+◌, refl, ap, sym, subst, arith, Bool, true, false, Option, Some, None, List, [], ◌∷◌, ◌++◌}
 use Rattle.std.specs.Prelude.{slice_get}
+use Rattle.std.proofs.lemmas.Option.{get_or_from_slice_get}
 use Rattle.pt_base.specs.declared.int_type.IntType.TheVariants as i
 use Rattle.pt_base.specs.declared.span.Span.{Span}
+use Rattle.pt_base.proofs.Booleans.{false_not_true}
 use Rattle.pt_tree.specs.declared.signature.Elem.{Elem}
 use Rattle.typed_tree.specs.declared.types.VarTy.{VarTy}
 use Rattle.typed_tree.specs.declared.types.VarTy.TheVariants.{Int, Struct, Array, Pointer}
@@ -14,8 +16,7 @@ use Rattle.pt_core.specs.Types.{Context, pointee_type}
 use Rattle.lowering.specs.Lowered.{Temp, LoweredPlace, past, temp, hold}
 use Rattle.lowering.specs.Expressions.{fixed_root, fixed_through, fixed_if, place_with_field}
 use Rattle.lowered_code_law.proofs.FormsSettings.{Stand, context}
-use Rattle.lowered_code_law.proofs.FormsStanding.{got_or, stand_first, stand_rest}
-use Rattle.lowered_code_law.proofs.FormsSameTypes.{never}
+use Rattle.lowered_code_law.proofs.FormsStanding.{stand_first, stand_rest}
 use Rattle.handle_classes.specs.Classes.{Class, Scope, path_offset, along_class, root_class}
 use Rattle.handle_classes.specs.Judgment.{IsWithin, IsFineRoot}
 use Rattle.handle_classes_law.specs.ObjectsCells.{is_pointer, class_at}
@@ -23,11 +24,11 @@ use Rattle.handle_classes_law.proofs.SlavesClasses.{IsAt, PlaceClass, along_may,
 use Rattle.handle_classes_law.proofs.SlavesBench.{Bench, judged, at_slots, Held, held_first, held_rest, AreFine, fine_both, ValueIs, Keeps, temp_is, hold_is}
 use Rattle.handle_classes_law.proofs.SlavesForms.{deref_is}
 
-object_pointee : (ty : VarTy) → is_pointer ty ≡ false → pointee_type ty ≡ ty
+pub object_pointee : (ty : VarTy) → is_pointer ty ≡ false → pointee_type ty ≡ ty
 object_pointee (Int t) h = refl
 object_pointee (Struct n) h = refl
 object_pointee (Array elem n) h = refl
-object_pointee (Pointer elem f) h = never (sym h)
+object_pointee (Pointer elem f) h = false_not_true (sym h)
 
 along_kind : (c : Context) (rt inner : VarTy) (path : List ℕ) (v k : Class) → v.pointer ≡ k.pointer → (along_class c rt inner path v).pointer ≡ (along_class c rt inner path k).pointer
 along_kind c rt inner [] v k h = h
@@ -98,7 +99,7 @@ pub record PlaceIs (b : Bench) (ty : VarTy) (slots : List ℕ) (p : LoweredPlace
   pub through : LeadsIf b ty p.place p.through
 
 held_pointer : (b : Bench) (k : ℕ) (x : Temp) (ty : VarTy) → slice_get b.w.variables k ≡ Some x.ty → x.ty ≡ ty → core.type_of (context b.w) (temp k) ≡ ty
-held_pointer b k x ty here is = got_or b.w.variables k x.ty (Int i.Int) here ∙ is
+held_pointer b k x ty here is = get_or_from_slice_get b.w.variables k x.ty (Int i.Int) here ∙ is
 
 fixed_place : (b : Bench) (n : ℕ) (ty : VarTy) (slots : List ℕ) (x : Temp) (p : LoweredPlace) (a : ExprTree) (s : Span) (path : List ℕ) → p.place ≡ place (deref a s) path → p.through ≡ Some x →
     (Stand b.w.variables n p.temps → Held b n p.temps → PlaceIs b ty slots p) → Stand b.w.variables n (p.temps ++ x ∷ []) → Held b n (p.temps ++ x ∷ []) → PlaceIs b ty slots (fixed_root n x p (place (deref a s) path))

@@ -2,9 +2,9 @@
 use Rattle.std.proofs.Common.{◌≡◌, ◌∙◌, ◌<◌, ℕ, ◌+◌, refl, ap, sym, subst, Bool, true, false, Some, if◌then◌else◌}
 use Rattle.std.specs.Prelude.{get_or, is_some, not, slice_get, ◌&&◌, ◌||◌}
 use Rattle.std.specs.Option.{option_map_or}
+use Rattle.pt_base.proofs.Booleans.{both_hold as and_both, false_not_true}
+use Rattle.pt_base.proofs.Members.{all_true_at}
 use Rattle.handle_classes.specs.Classes.{Class, integer_class}
-use Rattle.lowered_code_law.proofs.FormsPlaces.{all_at}
-use Rattle.lowered_code_law.proofs.FormsSameTypes.{never}
 use Rattle.handle_classes_law.specs.ObjectsCells.{is_pointer, leaf_under}
 use Rattle.pt_core.specs.Types.{pointee_type}
 use Rattle.pt_tree.specs.declared.signature.Param.{Param}
@@ -17,7 +17,7 @@ use Rattle.sides.specs.Seeds.{gives_back, is_out, is_sealed_leaf, seals_all}
 use Rattle.sides.specs.Slots.{slot_at}
 use Rattle.sides.specs.declared.objects.Object.{Object}
 use Rattle.sides.specs.declared.slots.SlotInfo.{SlotInfo}
-use Rattle.typed_tree.proofs.WellFormedLemmas.{and_both, facts_of}
+use Rattle.typed_tree.proofs.WellFormedLemmas.{facts_of}
 use Rattle.pt_tree.specs.declared.signature.ParamKind.TheVariants as kind
 use Rattle.typed_tree.specs.TypedTree.{TypedTree}
 use Rattle.typed_tree.specs.WellFormed.{function_sound}
@@ -30,7 +30,7 @@ use Rattle.handle_classes_law.specs.SlavesMarked.{entry_by, entry_class, host_cl
 
 -- a parameter through which something comes back is a pointer
 out_pointer : (d : ParamKind) → is_out d ≡ true → is_pointer (param_type d) ≡ true
-out_pointer (kind.Int t) h = never h
+out_pointer (kind.Int t) h = false_not_true h
 out_pointer (kind.Ptr elem fixed) h = refl
 
 -- of a leaf of a parameter's object the slot has the mark
@@ -50,7 +50,7 @@ sealed_cells m t sound f n j x p here secret param out less sealed =
     leaf = leaf_under t.structs (pointee_type ty) j
 
     callee : Callee t f n p
-    callee = record { tree = x; at = here; param = param; sound = all_at (function_sound t) t.functions f x (facts_of t sound).functions here }
+    callee = record { tree = x; at = here; param = param; sound = all_true_at (function_sound t) t.functions f x (facts_of t sound).functions here }
 
     own : ParamObject t f n p x.vars
     own = param_object t f n p callee

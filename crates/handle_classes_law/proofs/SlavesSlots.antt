@@ -10,6 +10,7 @@ use Rattle.sides.specs.Leaves.{leaf_count}
 use Rattle.sides.specs.Objects.{types_count, objects_from, variable_types, global_types, function_starts_from, functions_count, global_objects, function_starts, result_start, variable_objects}
 use Rattle.sides.specs.Slots.{globals_slots, functions_slots, results_slots, slots_of}
 use Rattle.sides.proofs.LayoutLemmas.{globals_long, functions_long}
+use Rattle.sides.proofs.RoomLemmas.{results_long}
 
 -- ---- objects one after the other
 
@@ -52,10 +53,6 @@ function_within count start (g ∷ gs) (suc n) f h = let rest = function_within 
 
 -- ---- the program's slots
 
-results_long : (k : ℕ) (fs : List FunctionTree) → length (results_slots k fs) ≡ length fs
-results_long k [] = refl
-results_long k (f ∷ fs) = ap suc (results_long (suc k) fs)
-
 pub slots_long : (t : TypedTree) → length (slots_of t) ≡ types_count (leaf_count t.structs) (global_types t) + (functions_count (leaf_count t.structs) t.functions + length t.functions)
 unfolding slots_of
 slots_long t =
@@ -82,11 +79,6 @@ variable_within t f v x h = go (slice_get t.functions f) refl h
         let b = function_within (leaf_count t.structs) (types_count (leaf_count t.structs) (global_types t)) t.functions f g is in
         let c = slots_long t in
         omega (arith, a, b, c)
-
-pub listed : {A : Type 0} (xs : List A) (n : ℕ) (x : A) → slice_get xs n ≡ Some x → n < length xs
-listed [] n x h = cc
-listed (y ∷ ys) zero x h = omega arith
-listed (y ∷ ys) (suc n) x h = let rest = listed ys n x h in omega (arith, rest)
 
 pub result_within : (t : TypedTree) (f : ℕ) → f < length t.functions → result_start t + f < length (slots_of t)
 result_within t f less = let a = slots_long t in omega (arith, a, less)

@@ -4,21 +4,20 @@ use Rattle.std.specs.Prelude.{◌&&◌}
 use Rattle.handle_classes.specs.Classes.{Class, class_of, integer_class}
 use Rattle.handle_classes.specs.Judgment.{Flows, IsFineStatement}
 use Rattle.lowered_code_law.proofs.FormsRules.{no_struct, type_is}
-use Rattle.lowered_code_law.proofs.FormsSameTypes.{never}
 use Rattle.lowered_code_law.proofs.FormsSettings.{source}
-use Rattle.lowered_code_law.proofs.FormsStatements.{code, found, tests}
+use Rattle.lowered_code_law.proofs.FormsStatements.{code, found, tests, integer_result}
 use Rattle.lowering.specs.Expressions.{value_in}
 use Rattle.lowering.specs.Lowered.{Effects, Lowered, followed, hold, int, past, temp}
 use Rattle.lowering.specs.Operators.{as_int}
 use Rattle.lowering.specs.Statements.{Onward, all_in, begun, inside, behind_switch, case_of, cases_from, chosen, first_told, looped, nowhere, number, on_the_way_back, onwards, otherwise_in, otherwise_of, outermost, past_flag, returned, section_by, sections_in, statement_in, stepped, switch_temps, switched, tested, to_head}
 use Rattle.pt_base.specs.declared.int_type.IntType.{IntType}
 use Rattle.pt_base.specs.declared.span.Span.{Span}
+use Rattle.pt_base.proofs.Booleans.{both_hold_first, both_hold_second, false_not_true}
 use Rattle.pt_core.specs.CodeTree.{ExprTree, StmtTree, break_out, choose, convert, give_back, repeat, stmt_trees}
 use Rattle.sides.specs.Carried.{carried}
 use Rattle.usages.specs.Usages.{UsageTree, evaluated}
 use Rattle.usages.specs.declared.usage.How.TheVariants.{Operated, Returned}
 use Rattle.source_meaning.specs.Expressions.{type_of}
-use Rattle.typed_tree.proofs.WellFormedLemmas.{and_left, and_right}
 use Rattle.typed_tree.specs.ExpressionTree.{typed}
 use Rattle.typed_tree.specs.ExpressionTree as src
 use Rattle.typed_tree.specs.StatementTree.{BodyTree, BodyTrees, ElseTree, SectionTrees, body_and, no_bodies, no_else, no_sections, otherwise, section, section_and}
@@ -104,10 +103,10 @@ number_as b from to slots a plain h =
 -- the value of a switch is an integer
 promoted_from : (o : Option VarTy) (ty : IntType) → promotes_to ty o ≡ true → (z : IntType) × (o ≡ Some (Int z))
 promoted_from (Some (Int a)) ty h = (a, refl)
-promoted_from None ty h = never h
-promoted_from (Some (Struct n)) ty h = never h
-promoted_from (Some (Array e n)) ty h = never h
-promoted_from (Some (Pointer e f)) ty h = never h
+promoted_from None ty h = false_not_true h
+promoted_from (Some (Struct n)) ty h = false_not_true h
+promoted_from (Some (Array e n)) ty h = false_not_true h
+promoted_from (Some (Pointer e f)) ty h = false_not_true h
 
 -- the value, the chosen section and the flag, and the sections behind them
 switched_fine : (b : Bench) (at : Span) (ty from : IntType) (slots : List ℕ) (n : ℕ) (mode : Onward) (ss : SectionTrees) (v : Lowered) (body : Effects) → PlainIf b (Int from) slots → AreFine b (onwards mode) → (Has b n v.temps → LoweredIs b (Int from) slots v) →
@@ -147,24 +146,17 @@ chosen_fine b n ty slots v a d plain h i j has =
     let no = j (has_rest b (past n v.temps) a.temps d.temps rest) in
     one_more b v.stmts (choose v.value (stmt_trees a.stmts) (stmt_trees d.stmts)) test.stmts (choose_fine b ty slots v.value a.stmts d.stmts plain test.value yes no)
 
-integer_result : (o : Option VarTy) (r : Option IntType) → both_int (integer_of o) r ≡ true → (z : IntType) × (o ≡ Some (Int z))
-integer_result (Some (Int a)) r h = (a, refl)
-integer_result None r h = never h
-integer_result (Some (Struct n)) r h = never h
-integer_result (Some (Array e n)) r h = never h
-integer_result (Some (Pointer e f)) r h = never h
-
 no_pointer : {X : Type 0} (p : Bool) → p ≡ false → p ≡ true → X
-no_pointer p h k = never (sym h ∙ k)
+no_pointer p h k = false_not_true (sym h ∙ k)
 
 -- an integer may be what a function gives, if that may be a handle where it may
 result_flows : (v k : Class) (sealed : Bool) → IsBy v k → k.pointer ≡ false → (k.may 0 ≡ true → sealed ≡ true) → Flows v (integer_class sealed)
 result_flows v k sealed h p may = record {
   kind = h.kind ∙ p;
   first = λ q m. may (h.number p m);
-  size = λ q. never q;
-  may = λ q n less m. never q;
-  must = λ q n less m. never q;
+  size = λ q. false_not_true q;
+  may = λ q n less m. false_not_true q;
+  must = λ q n less m. false_not_true q;
 }
 
 returned_may : (b : Bench) (a : src.ExprTree) (t : IntType) → Quiet b (evaluated Returned a) → ty_of a ≡ Some (Int t) → (at_slots b (type_of a) (carried (seen b) a)).may 0 ≡ true → b.world.result b.function ≡ true
@@ -190,51 +182,51 @@ mutual
       let a = outermost (code w.w exprs) e in
       let v = value_in (source w.w.names) a n in
       let first = statement_in (code w.w exprs) y mode (past n v.temps) in
-      let test = and_left (s.expr_fits (tests w.w exprs) is_scalar e) (is_sound (tests w.w exprs) out again y && else_sound (tests w.w exprs) out again o) h in
-      let arms = and_right (s.expr_fits (tests w.w exprs) is_scalar e) (is_sound (tests w.w exprs) out again y && else_sound (tests w.w exprs) out again o) h in
+      let test = both_hold_first (s.expr_fits (tests w.w exprs) is_scalar e) (is_sound (tests w.w exprs) out again y && else_sound (tests w.w exprs) out again o) h in
+      let arms = both_hold_second (s.expr_fits (tests w.w exprs) is_scalar e) (is_sound (tests w.w exprs) out again y && else_sound (tests w.w exprs) out again o) h in
       chosen_fine w n (type_of a) (carried (seen w) a) v first (otherwise_in (code w.w exprs) o mode (past (past n v.temps) first.temps)) (condition_plain w Q exprs e c test u.0)
       (λ st. condition_fine w Q exprs e n c test u.0 st)
-      (λ st. statement_fine y w Q exprs out again mode (past n v.temps) c (and_left (is_sound (tests w.w exprs) out again y) (else_sound (tests w.w exprs) out again o) arms) u.1 on st)
-      (λ st. else_fine o w Q exprs out again mode (past (past n v.temps) first.temps) c (and_right (is_sound (tests w.w exprs) out again y) (else_sound (tests w.w exprs) out again o) arms) u.2 on st) has
+      (λ st. statement_fine y w Q exprs out again mode (past n v.temps) c (both_hold_first (is_sound (tests w.w exprs) out again y) (else_sound (tests w.w exprs) out again o) arms) u.1 on st)
+      (λ st. else_fine o w Q exprs out again mode (past (past n v.temps) first.temps) c (both_hold_second (is_sound (tests w.w exprs) out again y) (else_sound (tests w.w exprs) out again o) arms) u.2 on st) has
   statement_fine (b.while_true at e y) w Q exprs out again mode n c h u on has =
       let test = tested (code w.w exprs) (Some e) n in
       let body = statement_in (code w.w exprs) y to_head (past n test.temps) in
       looped_fine w at (followed test body) (followed_fine w n test body
-      (λ st. tested_fine w Q exprs (Some e) n c (and_left (s.expr_fits (tests w.w exprs) is_scalar e) (is_sound (tests w.w exprs) true true y) h) u.0 st)
-      (λ st. statement_fine y w Q exprs true true to_head (past n test.temps) c (and_right (s.expr_fits (tests w.w exprs) is_scalar e) (is_sound (tests w.w exprs) true true y) h) u.1 (tt, tt) st) has)
+      (λ st. tested_fine w Q exprs (Some e) n c (both_hold_first (s.expr_fits (tests w.w exprs) is_scalar e) (is_sound (tests w.w exprs) true true y) h) u.0 st)
+      (λ st. statement_fine y w Q exprs true true to_head (past n test.temps) c (both_hold_second (s.expr_fits (tests w.w exprs) is_scalar e) (is_sound (tests w.w exprs) true true y) h) u.1 (tt, tt) st) has)
   statement_fine (b.do_while at y e) w Q exprs out again mode n c h u on has =
       let test = tested (code w.w exprs) (Some e) (n + 1) in
       let body = statement_in (code w.w exprs) y to_head (past (n + 1) test.temps) in
       first_told_fine w n (looped at (followed (on_the_way_back n test) body)) has.1.0 (looped_fine w at (followed (on_the_way_back n test) body) (followed_fine w (n + 1) (on_the_way_back n test) body
-      (λ st. way_back_fine w n test has.1.0 (tested_fine w Q exprs (Some e) (n + 1) c (and_right (is_sound (tests w.w exprs) true true y) (s.expr_fits (tests w.w exprs) is_scalar e) h) u.1 st))
-      (λ st. statement_fine y w Q exprs true true to_head (past (n + 1) test.temps) c (and_left (is_sound (tests w.w exprs) true true y) (s.expr_fits (tests w.w exprs) is_scalar e) h) u.0 (tt, tt) st) (has.0.1, has.1.1)))
+      (λ st. way_back_fine w n test has.1.0 (tested_fine w Q exprs (Some e) (n + 1) c (both_hold_second (is_sound (tests w.w exprs) true true y) (s.expr_fits (tests w.w exprs) is_scalar e) h) u.1 st))
+      (λ st. statement_fine y w Q exprs true true to_head (past (n + 1) test.temps) c (both_hold_first (is_sound (tests w.w exprs) true true y) (s.expr_fits (tests w.w exprs) is_scalar e) h) u.0 (tt, tt) st) (has.0.1, has.1.1)))
   statement_fine (b.for_each at d test None y) w Q exprs out again mode n c h u on has =
       let first = begun (code w.w exprs) d n in
       let k = past n first.temps in
       let cond = tested (code w.w exprs) test k in
       let body = statement_in (code w.w exprs) y to_head (past k cond.temps) in
-      let rest = and_right (for_init_fits (tests w.w exprs) d) (option_fits (tests w.w exprs) is_scalar test && (true && is_sound (tests w.w exprs) true true y)) h in
+      let rest = both_hold_second (for_init_fits (tests w.w exprs) d) (option_fits (tests w.w exprs) is_scalar test && (true && is_sound (tests w.w exprs) true true y)) h in
       followed_fine w n first (looped at (followed cond body))
-      (λ st. begun_fine w Q exprs d n c (and_left (for_init_fits (tests w.w exprs) d) (option_fits (tests w.w exprs) is_scalar test && (true && is_sound (tests w.w exprs) true true y)) h) u.0 st)
+      (λ st. begun_fine w Q exprs d n c (both_hold_first (for_init_fits (tests w.w exprs) d) (option_fits (tests w.w exprs) is_scalar test && (true && is_sound (tests w.w exprs) true true y)) h) u.0 st)
       (λ st. looped_fine w at (followed cond body) (followed_fine w k cond body
-      (λ st1. tested_fine w Q exprs test k c (and_left (option_fits (tests w.w exprs) is_scalar test) (true && is_sound (tests w.w exprs) true true y) rest) u.1 st1)
-      (λ st1. statement_fine y w Q exprs true true to_head (past k cond.temps) c (and_right (option_fits (tests w.w exprs) is_scalar test) (true && is_sound (tests w.w exprs) true true y) rest) u.3 (tt, tt) st1) st)) has
+      (λ st1. tested_fine w Q exprs test k c (both_hold_first (option_fits (tests w.w exprs) is_scalar test) (true && is_sound (tests w.w exprs) true true y) rest) u.1 st1)
+      (λ st1. statement_fine y w Q exprs true true to_head (past k cond.temps) c (both_hold_second (option_fits (tests w.w exprs) is_scalar test) (true && is_sound (tests w.w exprs) true true y) rest) u.3 (tt, tt) st1) st)) has
   statement_fine (b.for_each at d test (Some step) y) w Q exprs out again mode n c h u on has =
       let first = begun (code w.w exprs) d n in
       let k = past n first.temps in
       let back = stepped (code w.w exprs) (Some step) (k + 1) in
       let cond = tested (code w.w exprs) test (past (k + 1) back.temps) in
       let body = statement_in (code w.w exprs) y to_head (past (past (k + 1) back.temps) cond.temps) in
-      let rest = and_right (for_init_fits (tests w.w exprs) d) (option_fits (tests w.w exprs) is_scalar test && (s.expr_fits (tests w.w exprs) any_type step && is_sound (tests w.w exprs) true true y)) h in
-      let last = and_right (option_fits (tests w.w exprs) is_scalar test) (s.expr_fits (tests w.w exprs) any_type step && is_sound (tests w.w exprs) true true y) rest in
+      let rest = both_hold_second (for_init_fits (tests w.w exprs) d) (option_fits (tests w.w exprs) is_scalar test && (s.expr_fits (tests w.w exprs) any_type step && is_sound (tests w.w exprs) true true y)) h in
+      let last = both_hold_second (option_fits (tests w.w exprs) is_scalar test) (s.expr_fits (tests w.w exprs) any_type step && is_sound (tests w.w exprs) true true y) rest in
       followed_fine w n first (first_told k (looped at (followed (on_the_way_back k back) (followed cond body))))
-      (λ st. begun_fine w Q exprs d n c (and_left (for_init_fits (tests w.w exprs) d) (option_fits (tests w.w exprs) is_scalar test && (s.expr_fits (tests w.w exprs) any_type step && is_sound (tests w.w exprs) true true y)) h) u.0 st)
+      (λ st. begun_fine w Q exprs d n c (both_hold_first (for_init_fits (tests w.w exprs) d) (option_fits (tests w.w exprs) is_scalar test && (s.expr_fits (tests w.w exprs) any_type step && is_sound (tests w.w exprs) true true y)) h) u.0 st)
       (λ st. first_told_fine w k (looped at (followed (on_the_way_back k back) (followed cond body))) st.1.0 (looped_fine w at (followed (on_the_way_back k back) (followed cond body))
       (followed_fine w (k + 1) (on_the_way_back k back) (followed cond body)
-      (λ st1. way_back_fine w k back st.1.0 (dropped_fine w Q exprs step (k + 1) c (and_left (s.expr_fits (tests w.w exprs) any_type step) (is_sound (tests w.w exprs) true true y) last) u.2 st1))
+      (λ st1. way_back_fine w k back st.1.0 (dropped_fine w Q exprs step (k + 1) c (both_hold_first (s.expr_fits (tests w.w exprs) any_type step) (is_sound (tests w.w exprs) true true y) last) u.2 st1))
       (λ st1. followed_fine w (past (k + 1) back.temps) cond body
-      (λ st2. tested_fine w Q exprs test (past (k + 1) back.temps) c (and_left (option_fits (tests w.w exprs) is_scalar test) (s.expr_fits (tests w.w exprs) any_type step && is_sound (tests w.w exprs) true true y) rest) u.1 st2)
-      (λ st2. statement_fine y w Q exprs true true to_head (past (past (k + 1) back.temps) cond.temps) c (and_right (s.expr_fits (tests w.w exprs) any_type step) (is_sound (tests w.w exprs) true true y) last) u.3 (tt, tt) st2) st1) (st.0.1, st.1.1)))) has
+      (λ st2. tested_fine w Q exprs test (past (k + 1) back.temps) c (both_hold_first (option_fits (tests w.w exprs) is_scalar test) (s.expr_fits (tests w.w exprs) any_type step && is_sound (tests w.w exprs) true true y) rest) u.1 st2)
+      (λ st2. statement_fine y w Q exprs true true to_head (past (past (k + 1) back.temps) cond.temps) c (both_hold_second (s.expr_fits (tests w.w exprs) any_type step) (is_sound (tests w.w exprs) true true y) last) u.3 (tt, tt) st2) st1) (st.0.1, st.1.1)))) has
   statement_fine (b.give_back at None) w Q exprs out again mode n c h u on has = (tt, tt)
   statement_fine (b.give_back at (Some e)) w Q exprs out again mode n c h u on has =
       let a = outermost (code w.w exprs) e in
@@ -253,8 +245,8 @@ mutual
       let a = outermost (code w.w exprs) e in
       let v = value_in (source w.w.names) a n in
       let k = past n v.temps in
-      let test = and_left (s.expr_fits (tests w.w exprs) (promotes_to ty) e) (labels_fit ty (labels_of ss) && sections_sound (tests w.w exprs) again ss) h in
-      let rest = and_right (s.expr_fits (tests w.w exprs) (promotes_to ty) e) (labels_fit ty (labels_of ss) && sections_sound (tests w.w exprs) again ss) h in
+      let test = both_hold_first (s.expr_fits (tests w.w exprs) (promotes_to ty) e) (labels_fit ty (labels_of ss) && sections_sound (tests w.w exprs) again ss) h in
+      let rest = both_hold_second (s.expr_fits (tests w.w exprs) (promotes_to ty) e) (labels_fit ty (labels_of ss) && sections_sound (tests w.w exprs) again ss) h in
       let f = found w.w.names exprs (promotes_to ty) e.0 test in
       let o = promoted_from (ty_of a) ty f.1 in
       let type = type_is a (Int o.0) o.1 in
@@ -264,7 +256,7 @@ mutual
       subst (λ z. Has w n (switched at ty z k mode ss v body).temps → AreFine w (switched at ty z k mode ss v body).stmts) (sym type)
       (switched_fine w at ty o.0 (carried (seen w) a) n mode ss v body (subst (λ z. PlainIf w z (carried (seen w) a)) type (plain_here w a scalar quiet)) on
       (λ st. subst (λ z. LoweredIs w z (carried (seen w) a) v) type (value_is a Operated w n c.fits f.0 (no_struct (ty_of a) scalar) quiet st.0 st.1))
-      (λ one two st. sections_fine ss w Q exprs again (inside mode (k + 2)) at k 0 (k + 3) c (and_right (labels_fit ty (labels_of ss)) (sections_sound (tests w.w exprs) again ss) rest) u.1 one (inside_fine w mode (k + 2) two) st)) has
+      (λ one two st. sections_fine ss w Q exprs again (inside mode (k + 2)) at k 0 (k + 3) c (both_hold_second (labels_fit ty (labels_of ss)) (sections_sound (tests w.w exprs) again ss) rest) u.1 one (inside_fine w mode (k + 2) two) st)) has
 
   else_fine : (o : ElseTree) (b : Bench) (Q : UsageTree → Type 0) (exprs : List src.ExprTree) (out again : Bool) (mode : Onward) (n : ℕ) → Ground b Q → else_sound (tests b.w exprs) out again o ≡ true → ElseUsed Q exprs o → AreFine b (onwards mode) →
       Has b n (otherwise_in (code b.w exprs) o mode n).temps → AreFine b (otherwise_in (code b.w exprs) o mode n).stmts
@@ -277,8 +269,8 @@ mutual
   all_fine (body_and y rest) w Q exprs out again mode n c h u on has =
       let first = statement_in (code w.w exprs) y mode n in
       followed_fine w n first (all_in (code w.w exprs) rest mode (past n first.temps))
-      (λ st. statement_fine y w Q exprs out again mode n c (and_left (is_sound (tests w.w exprs) out again y) (all_sound (tests w.w exprs) out again rest) h) u.0 on st)
-      (λ st. all_fine rest w Q exprs out again mode (past n first.temps) c (and_right (is_sound (tests w.w exprs) out again y) (all_sound (tests w.w exprs) out again rest) h) u.1 on st) has
+      (λ st. statement_fine y w Q exprs out again mode n c (both_hold_first (is_sound (tests w.w exprs) out again y) (all_sound (tests w.w exprs) out again rest) h) u.0 on st)
+      (λ st. all_fine rest w Q exprs out again mode (past n first.temps) c (both_hold_second (is_sound (tests w.w exprs) out again y) (all_sound (tests w.w exprs) out again rest) h) u.1 on st) has
 
   sections_fine : (ss : SectionTrees) (b : Bench) (Q : UsageTree → Type 0) (exprs : List src.ExprTree) (again : Bool) (mode : Onward) (at : Span) (k m n : ℕ) → Ground b Q → sections_sound (tests b.w exprs) again ss ≡ true → SectionsUsed Q exprs ss → Counts b int (k + 1) → AreFine b (onwards mode) →
       Has b n (sections_in (code b.w exprs) at ss mode k m n).temps → AreFine b (sections_in (code b.w exprs) at ss mode k m n).stmts
@@ -286,5 +278,5 @@ mutual
   sections_fine (section_and (section p label ys) rest) w Q exprs again mode at k m n c h u here on has =
       let inner = all_in (code w.w exprs) ys mode n in
       followed_fine w n (section_by at k m inner) (sections_in (code w.w exprs) at rest mode k (m + 1) (past n inner.temps))
-      (λ st. section_fine w at k m inner here (all_fine ys w Q exprs true again mode n c (and_left (all_sound (tests w.w exprs) true again ys) (sections_sound (tests w.w exprs) again rest) h) u.0 on st))
-      (λ st. sections_fine rest w Q exprs again mode at k (m + 1) (past n inner.temps) c (and_right (all_sound (tests w.w exprs) true again ys) (sections_sound (tests w.w exprs) again rest) h) u.1 here on st) has
+      (λ st. section_fine w at k m inner here (all_fine ys w Q exprs true again mode n c (both_hold_first (all_sound (tests w.w exprs) true again ys) (sections_sound (tests w.w exprs) again rest) h) u.0 on st))
+      (λ st. sections_fine rest w Q exprs again mode at k (m + 1) (past n inner.temps) c (both_hold_second (all_sound (tests w.w exprs) true again ys) (sections_sound (tests w.w exprs) again rest) h) u.1 here on st) has

@@ -5,7 +5,6 @@ use Rattle.handle_classes.specs.Classes.{Class, class_of, number_class, place_cl
 use Rattle.handle_classes.specs.Judgment.{Copies, Goes, IsFine, IsPlain}
 use Rattle.lowered_code_law.proofs.FormsPlaces.{fixed_if_fits}
 use Rattle.lowered_code_law.proofs.FormsRules.{AssignRules, CompoundRules, type_is, value_scalar}
-use Rattle.lowered_code_law.proofs.FormsSameTypes.{never}
 use Rattle.lowered_code_law.proofs.FormsSettings.{PlaceFits, Stand, context}
 use Rattle.lowered_code_law.proofs.FormsStanding.{stand_first, stand_rest}
 use Rattle.lowered_code_law.proofs.FormsSteps.{arithmetic_step, shift_step}
@@ -18,6 +17,7 @@ use Rattle.pt_base.specs.IntTypes.{promoted, usual}
 use Rattle.pt_base.specs.declared.int_type.IntType.{IntType}
 use Rattle.pt_base.specs.declared.int_type.IntType.TheVariants as i
 use Rattle.pt_base.specs.declared.span.Span.{Span}
+use Rattle.pt_base.proofs.Booleans.{false_not_true}
 use Rattle.pt_core.specs.CodeTree.{ExprTree, StmtTree, assign, binary, constant, convert, copy, read}
 use Rattle.pt_core.specs.Types as core
 use Rattle.pt_core.specs.Values.{is_type}
@@ -84,9 +84,9 @@ pub assigned_is : (whole : Bool) (b : Bench) (n : ℕ) (a : src.ExprTree) (z : V
     (whole ≡ false → Stand b.w.variables (past n to.temps) v.temps → Held b (past n to.temps) v.temps → LoweredIs b (type_of a) (carried (seen b) a) v) →
     Stand b.w.variables n (assigned whole to of v).temps → Held b n (assigned whole to of v).temps → PlaceIs b z ys (assigned whole to of v)
 assigned_is true b n a (Struct m) ys to of v g many scalar is one moves low h i j stand held = copied_is b n a m ys to of g is moves low h (i refl) stand held
-assigned_is true b n a (Int t) ys to of v g many scalar is one moves low h i j stand held = never (many refl)
-assigned_is true b n a (Array elem t) ys to of v g many scalar is one moves low h i j stand held = never (many refl)
-assigned_is true b n a (Pointer elem t) ys to of v g many scalar is one moves low h i j stand held = never (many refl)
+assigned_is true b n a (Int t) ys to of v g many scalar is one moves low h i j stand held = false_not_true (many refl)
+assigned_is true b n a (Array elem t) ys to of v g many scalar is one moves low h i j stand held = false_not_true (many refl)
+assigned_is true b n a (Pointer elem t) ys to of v g many scalar is one moves low h i j stand held = false_not_true (many refl)
 assigned_is false b n a z ys to of v g many scalar is one moves low h i j stand held = given_is b n a z ys to v g (scalar refl) is one moves low h (j refl) stand held
 
 -- an assignment, by its place and its right side
@@ -110,10 +110,10 @@ pub back_goes : (b : Bench) (ty : VarTy) (slots : List ℕ) (v k : Class) → is
 back_goes b ty slots v k scalar plain h at = record {
   kind = h.kind ∙ sym at.kind;
   room = λ q. let s = at.size in let room = scalar_room b ty slots scalar (sym at.kind ∙ q) in omega (arith, s, room);
-  sealed = λ q m. never (sym (plain (sym at.kind ∙ q)) ∙ h.number (sym at.kind ∙ q) m);
+  sealed = λ q m. false_not_true (sym (plain (sym at.kind ∙ q)) ∙ h.number (sym at.kind ∙ q) m);
   flows = λ q. record {
     kind = h.kind ∙ sym at.kind;
-    first = λ no m. never (sym no ∙ q);
+    first = λ no m. false_not_true (sym no ∙ q);
     size = λ w. h.size ∙ sym at.size;
     may = λ w n less m. let l = inside n less in at.may n l ∙ (sym (h.may (sym at.kind ∙ q) n l) ∙ m);
     must = λ w n less m. let l = inside n less in h.must (sym at.kind ∙ q) n l ∙ (sym (at.must n l) ∙ m);
@@ -156,38 +156,38 @@ pub compound_is : (b : Bench) (step : LinkStep) (ty : VarTy) (o : Option VarTy) 
 compound_is b (Arithmetic op u) (Int t) o xs ys x v s comp h px pv hx hv = go (r.stepped (Some (Int (promoted t))) (Arithmetic op u) o) refl h
   where
     go : (q : Option VarTy) → r.stepped (Some (Int (promoted t))) (Arithmetic op u) o ≡ q → converts q (Some (Int t)) ≡ true → ValueIs b (Int t) xs (stored (Int t) (Arithmetic op u) (stepped (Int t) (Arithmetic op u) x v s))
-    go None e k = never k
+    go None e k = false_not_true k
     go (Some m) e k = let a = arithmetic_step op u (Some (Int (promoted t))) o m e in computed_is b op t u u xs ys o x v s (subst (λ z. is_int (type_or_int z) ≡ true) (sym a.right) refl) px pv hx hv
 compound_is b (Shift to_left) (Int t) o xs ys x v s comp h px pv hx hv = go (r.stepped (Some (Int (promoted t))) (Shift to_left) o) refl h
   where
     go : (q : Option VarTy) → r.stepped (Some (Int (promoted t))) (Shift to_left) o ≡ q → converts q (Some (Int t)) ≡ true → ValueIs b (Int t) xs (stored (Int t) (Shift to_left) (stepped (Int t) (Shift to_left) x v s))
-    go None e k = never k
+    go None e k = false_not_true k
     go (Some m) e k = let a = shift_step (Some (Int (promoted t))) o m e in computed_is b (shift_of to_left) t (promoted t) (promoted t) xs ys o x v s (subst (λ z. is_int (type_or_int z) ≡ true) (sym a.right) refl) px pv hx hv
-compound_is b (Move back) (Int t) o xs ys x v s comp h px pv hx hv = never h
-compound_is b (Arithmetic op u) (Pointer e f) o xs ys x v s comp h px pv hx hv = never h
-compound_is b (Shift to_left) (Pointer e f) o xs ys x v s comp h px pv hx hv = never h
+compound_is b (Move back) (Int t) o xs ys x v s comp h px pv hx hv = false_not_true h
+compound_is b (Arithmetic op u) (Pointer e f) o xs ys x v s comp h px pv hx hv = false_not_true h
+compound_is b (Shift to_left) (Pointer e f) o xs ys x v s comp h px pv hx hv = false_not_true h
 compound_is b (Move back) (Pointer e f) (Some (Int u)) xs ys x v s comp h px pv hx hv = record { fine = (hx.fine, hv.fine, hx.is.kind, plain_value b (Int u) ys v refl pv hv); is = hx.is }
-compound_is b (Move back) (Pointer e f) None xs ys x v s comp h px pv hx hv = never h
-compound_is b (Move back) (Pointer e f) (Some (Struct n)) xs ys x v s comp h px pv hx hv = never h
-compound_is b (Move back) (Pointer e f) (Some (Array d n)) xs ys x v s comp h px pv hx hv = never h
-compound_is b (Move back) (Pointer e f) (Some (Pointer d n)) xs ys x v s comp h px pv hx hv = never h
-compound_is b (Arithmetic op u) (Struct n) o xs ys x v s comp h px pv hx hv = never h
-compound_is b (Shift to_left) (Struct n) o xs ys x v s comp h px pv hx hv = never h
-compound_is b (Move back) (Struct n) o xs ys x v s comp h px pv hx hv = never h
-compound_is b (Arithmetic op u) (Array e n) o xs ys x v s comp h px pv hx hv = never h
-compound_is b (Shift to_left) (Array e n) o xs ys x v s comp h px pv hx hv = never h
-compound_is b (Move back) (Array e n) o xs ys x v s comp h px pv hx hv = never h
-compound_is b MoveBy ty o xs ys x v s comp h px pv hx hv = never comp
-compound_is b Difference ty o xs ys x v s comp h px pv hx hv = never comp
-compound_is b (Compare op) ty o xs ys x v s comp h px pv hx hv = never comp
+compound_is b (Move back) (Pointer e f) None xs ys x v s comp h px pv hx hv = false_not_true h
+compound_is b (Move back) (Pointer e f) (Some (Struct n)) xs ys x v s comp h px pv hx hv = false_not_true h
+compound_is b (Move back) (Pointer e f) (Some (Array d n)) xs ys x v s comp h px pv hx hv = false_not_true h
+compound_is b (Move back) (Pointer e f) (Some (Pointer d n)) xs ys x v s comp h px pv hx hv = false_not_true h
+compound_is b (Arithmetic op u) (Struct n) o xs ys x v s comp h px pv hx hv = false_not_true h
+compound_is b (Shift to_left) (Struct n) o xs ys x v s comp h px pv hx hv = false_not_true h
+compound_is b (Move back) (Struct n) o xs ys x v s comp h px pv hx hv = false_not_true h
+compound_is b (Arithmetic op u) (Array e n) o xs ys x v s comp h px pv hx hv = false_not_true h
+compound_is b (Shift to_left) (Array e n) o xs ys x v s comp h px pv hx hv = false_not_true h
+compound_is b (Move back) (Array e n) o xs ys x v s comp h px pv hx hv = false_not_true h
+compound_is b MoveBy ty o xs ys x v s comp h px pv hx hv = false_not_true comp
+compound_is b Difference ty o xs ys x v s comp h px pv hx hv = false_not_true comp
+compound_is b (Compare op) ty o xs ys x v s comp h px pv hx hv = false_not_true comp
 
 -- 1 is added or subtracted
 pub unit_is : (b : Bench) (ty : VarTy) (back : Bool) (xs : List ℕ) (x : ExprTree) (s : Span) → is_scalar (Some ty) ≡ true → PlainIf b ty xs → ValueIs b ty xs x → ValueIs b ty xs (stored ty (unit_step ty back) (stepped ty (unit_step ty back) x (unit_of ty) s))
 unit_is b (Int t) true xs x s h px hx = computed_is b Sub t (usual t i.Int) (usual t i.Int) xs [] (Some (Int (usual t i.Int))) x (constant (usual t i.Int) (pos 1)) s refl px (λ q. refl) hx (constant_is b (Int (usual t i.Int)) (usual t i.Int) (pos 1) refl)
 unit_is b (Int t) false xs x s h px hx = computed_is b Add t (usual t i.Int) (usual t i.Int) xs [] (Some (Int (usual t i.Int))) x (constant (usual t i.Int) (pos 1)) s refl px (λ q. refl) hx (constant_is b (Int (usual t i.Int)) (usual t i.Int) (pos 1) refl)
 unit_is b (Pointer e f) back xs x s h px hx = record { fine = (hx.fine, tt, hx.is.kind, record { integer = refl; number = refl }); is = hx.is }
-unit_is b (Struct n) back xs x s h px hx = never h
-unit_is b (Array e n) back xs x s h px hx = never h
+unit_is b (Struct n) back xs x s h px hx = false_not_true h
+unit_is b (Array e n) back xs x s h px hx = false_not_true h
 
 -- the place with a new value
 pub stored_is : (b : Bench) (ty : VarTy) (slots : List ℕ) (to : LoweredPlace) (stmts : List StmtTree) (a : ExprTree) → is_scalar (Some ty) ≡ true → PlainIf b ty slots → AreFine b stmts → PlaceClass b.marks (judged b) ty slots to.place → LeadsIf b ty to.place to.through → ValueIs b ty slots a →
@@ -255,5 +255,5 @@ counted_after_is b n s back ty xs x to scalar px keeps low h stand held =
 pub counted_value : (b : Bench) (ty : VarTy) (xs : List ℕ) (a : ExprTree) → is_scalar (Some ty) ≡ true → PlainIf b ty xs → ValueIs b ty xs a → ValueIs b ty (if is_some (pointee_of (Some ty)) then xs else []) a
 counted_value b (Int t) xs a h px v = record { fine = v.fine; is = let p = plain_value b (Int t) xs a refl px v in number_by b (Int t) [] (class_of (judged b) a) refl p.integer v.is.size p.number }
 counted_value b (Pointer e f) xs a h px v = v
-counted_value b (Struct n) xs a h px v = never h
-counted_value b (Array e n) xs a h px v = never h
+counted_value b (Struct n) xs a h px v = false_not_true h
+counted_value b (Array e n) xs a h px v = false_not_true h

@@ -4,6 +4,8 @@ use Rattle.std.specs.Prelude.{◌&&◌, ◌||◌, not, slice_get, get_or, is_non
 use Rattle.std.specs.List.{AllByRecursion}
 use Rattle.pt_base.specs.declared.ids.FnId.{FnId}
 use Rattle.pt_base.specs.declared.int_type.IntType.{IntType}
+use Rattle.pt_base.proofs.Booleans.{both_hold_first as and_left, both_hold_second, false_not_true}
+use Rattle.pt_base.proofs.Numbers.{as_zero_plus}
 use Rattle.pt_tree.specs.declared.signature.Elem.{Elem}
 use Rattle.pt_tree.specs.declared.signature.Elem.TheVariants as e
 use Rattle.pt_tree.specs.declared.signature.Param.{Param}
@@ -22,7 +24,6 @@ use Rattle.typed_tree.specs.TypeRules as r
 use Rattle.typed_tree.specs.TypeRules.{converts, is_arm}
 use Rattle.typed_tree.specs.WellFormed.{structs_sound}
 use Rattle.typed_tree.specs.WellFormedExpression.{Names, param_type, has_operands, operands_fit, is_typed, form_fits, all_typed, call_fits, arguments_fit, is_main, has_links, links_fit, place_fits, root_fits, steps_fit, ty_of, root_type, steps_type, place_type, field_type, item_type, is_addressed, keeps_const, place_const}
-use Rattle.typed_tree.proofs.WellFormedLemmas.{and_left, and_right}
 use Rattle.typed_tree.proofs.SameTypes.{equal_elems, equal_options}
 use Rattle.sides.specs.declared.objects.Object.{Object}
 use Rattle.usages.specs.declared.usage.How.{How}
@@ -31,8 +32,8 @@ use Rattle.usages.specs.Usages.{UsageTree, used, keeps_value, converted as conve
 use Rattle.sides.specs.Leaves.{leaves_of, leaf_count, field_starts, field_start, value_count}
 use Rattle.sides.specs.Carried as slots
 use Rattle.sides.specs.Carried.{carried, form_slots, links_slots, linked_slots, place_slots, root_slots, start_of}
-use Rattle.lowered_code_law.proofs.FormsSameTypes.{never}
 use Rattle.lowered_code_law.proofs.FormsRules.{array_of, object_of, pointee_of_pointer, assigned_struct, assign_rules, compound_rules, count_rules, value_type}
+use Rattle.lowered_code_law.proofs.FormsSteps.{one_type}
 use Rattle.handle_classes_law.proofs.ObjectsItems.{all_leaves, struct_leaves}
 use Rattle.handle_classes_law.proofs.SlavesBench.{Bench, seen, Fits}
 
@@ -133,12 +134,9 @@ nowhere structs no_steps z h = cc
 nowhere structs (step_and (src.field k) rest) z h = nowhere structs rest z h
 nowhere structs (step_and (src.item a s) rest) z h = no_item structs rest z (λ k. nowhere structs rest z k) (integer_of (ty_of a)) h
 
-same_type : (z u : VarTy) → Some z ≡ Some u → z ≡ u
-same_type z u h = cc
-
 -- how far behind an object's first leaf a part begins, and that it lies within
 steps_room : (structs : List StructInfo) (steps : StepTrees) (z u : VarTy) → structs_sound structs 0 structs ≡ true → steps_type structs (Some z) steps ≡ Some u → slots.steps_offset structs (Some z) steps + leaf_count structs u ≤ leaf_count structs z
-steps_room structs no_steps z u sound h = subst (λ w. 0 + leaf_count structs w ≤ leaf_count structs z) (same_type z u h) (omega arith)
+steps_room structs no_steps z u sound h = subst (λ w. 0 + leaf_count structs w ≤ leaf_count structs z) (one_type z u h) (omega arith)
 steps_room structs (step_and (src.field k) rest) (Struct n) u sound h = go (λ w e. steps_room structs rest w u sound e) (field_type structs (Some (Struct n)) k) refl h
   where
     go : ((w : VarTy) → steps_type structs (Some w) rest ≡ Some u → slots.steps_offset structs (Some w) rest + leaf_count structs u ≤ leaf_count structs w) → (o : Option VarTy) → field_type structs (Some (Struct n)) k ≡ o → steps_type structs o rest ≡ Some u → field_start structs n k + slots.steps_offset structs (field_type structs (Some (Struct n)) k) rest + leaf_count structs u ≤ leaf_count structs (Struct n)
@@ -222,24 +220,24 @@ converted_room b top (Some (Int x)) (Some (Int y)) xs rule h = go (same_int x y)
 converted_room b top (Some (Pointer x c)) (Some (Pointer y d)) xs rule h =
     room_as top (leaf_count b.w.names.structs (Pointer x c)) (leaf_count b.w.names.structs (Pointer y d)) xs
     (pointer_leaves b.w.names.structs x c ∙ ap (λ z. leaf_count b.w.names.structs (type_of_elem z)) (equal_elems x y (and_left (same_elem x y) (not c || d) rule)) ∙ sym (pointer_leaves b.w.names.structs y d)) h
-converted_room b top None ty xs rule h = never rule
-converted_room b top (Some (Struct m)) ty xs rule h = never rule
-converted_room b top (Some (Array elem m)) ty xs rule h = never rule
-converted_room b top (Some (Int x)) None xs rule h = never rule
-converted_room b top (Some (Int x)) (Some (Struct m)) xs rule h = never rule
-converted_room b top (Some (Int x)) (Some (Array elem m)) xs rule h = never rule
-converted_room b top (Some (Int x)) (Some (Pointer elem m)) xs rule h = never rule
-converted_room b top (Some (Pointer x c)) None xs rule h = never rule
-converted_room b top (Some (Pointer x c)) (Some (Int m)) xs rule h = never rule
-converted_room b top (Some (Pointer x c)) (Some (Struct m)) xs rule h = never rule
-converted_room b top (Some (Pointer x c)) (Some (Array elem m)) xs rule h = never rule
+converted_room b top None ty xs rule h = false_not_true rule
+converted_room b top (Some (Struct m)) ty xs rule h = false_not_true rule
+converted_room b top (Some (Array elem m)) ty xs rule h = false_not_true rule
+converted_room b top (Some (Int x)) None xs rule h = false_not_true rule
+converted_room b top (Some (Int x)) (Some (Struct m)) xs rule h = false_not_true rule
+converted_room b top (Some (Int x)) (Some (Array elem m)) xs rule h = false_not_true rule
+converted_room b top (Some (Int x)) (Some (Pointer elem m)) xs rule h = false_not_true rule
+converted_room b top (Some (Pointer x c)) None xs rule h = false_not_true rule
+converted_room b top (Some (Pointer x c)) (Some (Int m)) xs rule h = false_not_true rule
+converted_room b top (Some (Pointer x c)) (Some (Struct m)) xs rule h = false_not_true rule
+converted_room b top (Some (Pointer x c)) (Some (Array elem m)) xs rule h = false_not_true rule
 
 -- ---- calls
 
 -- a result has a leaf at most
 result_room : (b : Bench) (top g : ℕ) (s : Signature) (arguments : ExprTrees) (ty : Option VarTy) → Rooms top b → slice_get b.w.names.signatures g ≡ Some s → call_fits (Some s) arguments ty ≡ true → AllRoom top (count b ty) ((b.results + g) ∷ [])
 result_room b top g s arguments ty rooms is h =
-    let same = equal_options ty (option_map Int s.result) (and_right (arguments_fit s.params arguments) (same_types ty (option_map Int s.result)) (and_right (not (is_main s)) (arguments_fit s.params arguments && same_types ty (option_map Int s.result)) h)) in
+    let same = equal_options ty (option_map Int s.result) (both_hold_second (arguments_fit s.params arguments) (same_types ty (option_map Int s.result)) (both_hold_second (not (is_main s)) (arguments_fit s.params arguments && same_types ty (option_map Int s.result)) h)) in
     let few = one s.result in
     let less = rooms.results g s is in
     (subst (λ o. b.results + g + count b o ≤ top) (sym same) (omega (arith, few, less)), tt)
@@ -274,54 +272,54 @@ mutual
   form_room (src.constant v) ty b top g rooms h = tt
   form_room src.null ty b top g rooms h = tt
   form_room (src.read p) ty b top g rooms h =
-      let rest = and_right (place_fits b.w.names p) (same_types (place_type b.w.names p) ty && is_value ty) h in
-      let v = value_type ty (and_right (same_types (place_type b.w.names p) ty) (is_value ty) rest) in
+      let rest = both_hold_second (place_fits b.w.names p) (same_types (place_type b.w.names p) ty && is_value ty) h in
+      let v = value_type ty (both_hold_second (same_types (place_type b.w.names p) ty) (is_value ty) rest) in
       typed_as b top v.type ty (place_slots (seen b) p) v.is (place_room p b top v.type g rooms (and_left (place_fits b.w.names p) (same_types (place_type b.w.names p) ty && is_value ty) h)
       (equal_options (place_type b.w.names p) ty (and_left (same_types (place_type b.w.names p) ty) (is_value ty) rest) ∙ v.is))
   form_room (src.decay p) ty b top g rooms h =
-      let rest = and_right (place_fits b.w.names p) (both_elem (item_of (place_type b.w.names p)) (pointee_of ty) && keeps_const (place_const b.w.names p) ty) h in
+      let rest = both_hold_second (place_fits b.w.names p) (both_elem (item_of (place_type b.w.names p)) (pointee_of ty) && keeps_const (place_const b.w.names p) ty) h in
       let o = array_of (place_type b.w.names p) ty (and_left (both_elem (item_of (place_type b.w.names p)) (pointee_of ty)) (keeps_const (place_const b.w.names p) ty) rest) in
       room_as top (leaf_count b.w.names.structs (Array o.elem o.count)) (count b ty) (place_slots (seen b) p)
       (array_leaves b.w.names.structs o.elem o.count ∙ sym (pointer_leaves b.w.names.structs o.elem o.fixed) ∙ ap (count b) (sym o.to))
       (place_room p b top (Array o.elem o.count) g rooms (and_left (place_fits b.w.names p) (both_elem (item_of (place_type b.w.names p)) (pointee_of ty) && keeps_const (place_const b.w.names p) ty) h) o.from)
   form_room (src.address p) ty b top g rooms h =
-      let rest = and_right (place_fits b.w.names p) (is_addressed p && (both_elem (element_of (place_type b.w.names p)) (pointee_of ty) && keeps_const (place_const b.w.names p) ty)) h in
-      let more = and_right (is_addressed p) (both_elem (element_of (place_type b.w.names p)) (pointee_of ty) && keeps_const (place_const b.w.names p) ty) rest in
+      let rest = both_hold_second (place_fits b.w.names p) (is_addressed p && (both_elem (element_of (place_type b.w.names p)) (pointee_of ty) && keeps_const (place_const b.w.names p) ty)) h in
+      let more = both_hold_second (is_addressed p) (both_elem (element_of (place_type b.w.names p)) (pointee_of ty) && keeps_const (place_const b.w.names p) ty) rest in
       let o = object_of (place_type b.w.names p) ty (and_left (both_elem (element_of (place_type b.w.names p)) (pointee_of ty)) (keeps_const (place_const b.w.names p) ty) more) in
       room_as top (leaf_count b.w.names.structs (type_of_elem o.elem)) (count b ty) (place_slots (seen b) p) (sym (pointer_leaves b.w.names.structs o.elem o.fixed) ∙ ap (count b) (sym o.to))
       (place_room p b top (type_of_elem o.elem) g rooms (and_left (place_fits b.w.names p) (is_addressed p && (both_elem (element_of (place_type b.w.names p)) (pointee_of ty) && keeps_const (place_const b.w.names p) ty)) h) o.from)
   form_room (src.unary op a) ty b top g rooms h = tt
   form_room (src.convert a) ty b top g rooms h =
-      converted_room b top (ty_of a) ty (carried (seen b) a) (and_right (is_typed b.w.names a) (converts (ty_of a) ty) h) (carried_room a b top g rooms (and_left (is_typed b.w.names a) (converts (ty_of a) ty) h))
+      converted_room b top (ty_of a) ty (carried (seen b) a) (both_hold_second (is_typed b.w.names a) (converts (ty_of a) ty) h) (carried_room a b top g rooms (and_left (is_typed b.w.names a) (converts (ty_of a) ty) h))
   form_room (src.discard a) ty b top g rooms h = tt
   form_room (src.chain a ls) ty b top g rooms h =
-      let rest = and_right (is_typed b.w.names a) (has_links ls && links_fit b.w.names (ty_of a) ls ty) h in
-      links_room ls b top (ty_of a) (carried (seen b) a) ty g rooms (and_right (has_links ls) (links_fit b.w.names (ty_of a) ls ty) rest) (carried_room a b top g rooms (and_left (is_typed b.w.names a) (has_links ls && links_fit b.w.names (ty_of a) ls ty) h))
+      let rest = both_hold_second (is_typed b.w.names a) (has_links ls && links_fit b.w.names (ty_of a) ls ty) h in
+      links_room ls b top (ty_of a) (carried (seen b) a) ty g rooms (both_hold_second (has_links ls) (links_fit b.w.names (ty_of a) ls ty) rest) (carried_room a b top g rooms (and_left (is_typed b.w.names a) (has_links ls && links_fit b.w.names (ty_of a) ls ty) h))
   form_room (src.logical op a os) ty b top g rooms h = tt
   form_room (src.choice a c d) ty b top g rooms h =
-      let arms = and_right (is_typed b.w.names a && is_scalar (ty_of a)) ((is_typed b.w.names c && same_types (ty_of c) ty) && ((is_typed b.w.names d && same_types (ty_of d) ty) && is_arm ty)) h in
+      let arms = both_hold_second (is_typed b.w.names a && is_scalar (ty_of a)) ((is_typed b.w.names c && same_types (ty_of c) ty) && ((is_typed b.w.names d && same_types (ty_of d) ty) && is_arm ty)) h in
       let one = and_left (is_typed b.w.names c && same_types (ty_of c) ty) ((is_typed b.w.names d && same_types (ty_of d) ty) && is_arm ty) arms in
-      let two = and_left (is_typed b.w.names d && same_types (ty_of d) ty) (is_arm ty) (and_right (is_typed b.w.names c && same_types (ty_of c) ty) ((is_typed b.w.names d && same_types (ty_of d) ty) && is_arm ty) arms) in
+      let two = and_left (is_typed b.w.names d && same_types (ty_of d) ty) (is_arm ty) (both_hold_second (is_typed b.w.names c && same_types (ty_of c) ty) ((is_typed b.w.names d && same_types (ty_of d) ty) && is_arm ty) arms) in
       room_both top (count b ty) (carried (seen b) c) (carried (seen b) d)
-      (room_as top (count b (ty_of c)) (count b ty) (carried (seen b) c) (ap (count b) (equal_options (ty_of c) ty (and_right (is_typed b.w.names c) (same_types (ty_of c) ty) one))) (carried_room c b top g rooms (and_left (is_typed b.w.names c) (same_types (ty_of c) ty) one)))
-      (room_as top (count b (ty_of d)) (count b ty) (carried (seen b) d) (ap (count b) (equal_options (ty_of d) ty (and_right (is_typed b.w.names d) (same_types (ty_of d) ty) two))) (carried_room d b top g rooms (and_left (is_typed b.w.names d) (same_types (ty_of d) ty) two)))
+      (room_as top (count b (ty_of c)) (count b ty) (carried (seen b) c) (ap (count b) (equal_options (ty_of c) ty (both_hold_second (is_typed b.w.names c) (same_types (ty_of c) ty) one))) (carried_room c b top g rooms (and_left (is_typed b.w.names c) (same_types (ty_of c) ty) one)))
+      (room_as top (count b (ty_of d)) (count b ty) (carried (seen b) d) (ap (count b) (equal_options (ty_of d) ty (both_hold_second (is_typed b.w.names d) (same_types (ty_of d) ty) two))) (carried_room d b top g rooms (and_left (is_typed b.w.names d) (same_types (ty_of d) ty) two)))
   form_room (src.assign p a) ty b top g rooms h = let o = assign_rules b.w.names p a ty h in typed_as b top o.type ty (place_slots (seen b) p) o.is (place_room p b top o.type g rooms o.fits o.place)
   form_room (src.compound p at op a) ty b top g rooms h = let o = compound_rules b.w.names p at op a ty h in typed_as b top o.type ty (place_slots (seen b) p) o.is (place_room p b top o.type g rooms o.fits o.place)
   form_room (src.step p at back postfix) ty b top g rooms h =
       let o = count_rules b.w.names p at back postfix ty h in
       pointed (is_some (pointee_of ty)) (count b ty) (place_slots (seen b) p) top (typed_as b top o.type ty (place_slots (seen b) p) o.is (place_room p b top o.type g rooms o.fits o.place))
-  form_room (src.call f arguments) ty b top g rooms h = called (slice_get b.w.names.signatures f.0) refl (and_right (all_typed b.w.names arguments) (call_fits (slice_get b.w.names.signatures f.0) arguments ty) h)
+  form_room (src.call f arguments) ty b top g rooms h = called (slice_get b.w.names.signatures f.0) refl (both_hold_second (all_typed b.w.names arguments) (call_fits (slice_get b.w.names.signatures f.0) arguments ty) h)
     where
       called : (o : Option Signature) → slice_get b.w.names.signatures f.0 ≡ o → call_fits o arguments ty ≡ true → AllRoom top (count b ty) ((b.results + f.0) ∷ [])
-      called None is k = never k
+      called None is k = false_not_true k
       called (Some s) is k = result_room b top f.0 s arguments ty rooms is k
 
   links_room : (ls : LinkTrees) (b : Bench) (top : ℕ) (o : Option VarTy) (xs : List ℕ) (ty : Option VarTy) → Fits b → Rooms top b → links_fit b.w.names o ls ty ≡ true → AllRoom top (count b o) xs → AllRoom top (count b ty) (links_slots (seen b) xs ls)
   links_room no_links b top o xs ty g rooms h k = room_as top (count b o) (count b ty) xs (ap (count b) (equal_options o ty h)) k
   links_room (link_and (link s t op a) rest) b top o xs ty g rooms h k =
-      let own = and_right (is_typed b.w.names a) (same_types (r.stepped o op (ty_of a)) (Some t) && links_fit b.w.names (Some t) rest ty) h in
+      let own = both_hold_second (is_typed b.w.names a) (same_types (r.stepped o op (ty_of a)) (Some t) && links_fit b.w.names (Some t) rest ty) h in
       let is = equal_options (r.stepped o op (ty_of a)) (Some t) (and_left (same_types (r.stepped o op (ty_of a)) (Some t)) (links_fit b.w.names (Some t) rest ty) own) in
-      links_room rest b top (Some t) (linked_slots xs op (carried (seen b) a)) ty g rooms (and_right (same_types (r.stepped o op (ty_of a)) (Some t)) (links_fit b.w.names (Some t) rest ty) own)
+      links_room rest b top (Some t) (linked_slots xs op (carried (seen b) a)) ty g rooms (both_hold_second (same_types (r.stepped o op (ty_of a)) (Some t)) (links_fit b.w.names (Some t) rest ty) own)
       (linked_room op b top o (ty_of a) t xs (carried (seen b) a) is k (carried_room a b top g rooms (and_left (is_typed b.w.names a) (same_types (r.stepped o op (ty_of a)) (Some t) && links_fit b.w.names (Some t) rest ty) h)))
 
   pub place_room : (p : src.PlaceTree) (b : Bench) (top : ℕ) (z : VarTy) → Fits b → Rooms top b → place_fits b.w.names p ≡ true → place_type b.w.names p ≡ Some z → AllRoom top (leaf_count b.w.names.structs z) (place_slots (seen b) p)
@@ -386,15 +384,12 @@ converted_free o t = go (keeps_value o t)
     go true = kept_free
     go false = operated_free
 
-plain : (i : ℕ) → i ≡ 0 + i
-plain i = omega arith
-
 -- a call's arguments, by the signature of what is called
 call_right : (f : FnId) (arguments : ExprTrees) (ty : Option VarTy) (n : Names) (o : Option Signature) → slice_get n.signatures f.0 ≡ o → call_fits o arguments ty ≡ true →
     ((s : Signature) → slice_get n.signatures f.0 ≡ Some s → arguments_fit s.params arguments ≡ true → AllByRecursion (IsRight n) (argument_usages f 0 arguments)) → AllByRecursion (IsRight n) (argument_usages f 0 arguments)
-call_right f arguments ty n None is h make = never h
+call_right f arguments ty n None is h make = false_not_true h
 call_right f arguments ty n (Some s) is h make =
-    make s is (and_left (arguments_fit s.params arguments) (same_types ty (option_map Int s.result)) (and_right (not (is_main s)) (arguments_fit s.params arguments && same_types ty (option_map Int s.result)) h))
+    make s is (and_left (arguments_fit s.params arguments) (same_types ty (option_map Int s.result)) (both_hold_second (not (is_main s)) (arguments_fit s.params arguments && same_types ty (option_map Int s.result)) h))
 
 same_argument : (f g : FnId) (k m : ℕ) → Passed f k ≡ Passed g m → (f ≡ g) × (k ≡ m)
 same_argument f g k m h = (cc, cc)
@@ -419,47 +414,47 @@ mutual
   form_right (src.read p) ty n h = place_right p n (and_left (place_fits n p) (same_types (place_type n p) ty && is_value ty) h)
   form_right (src.decay p) ty n h = place_right p n (and_left (place_fits n p) (both_elem (item_of (place_type n p)) (pointee_of ty) && keeps_const (place_const n p) ty) h)
   form_right (src.address p) ty n h = place_right p n (and_left (place_fits n p) (is_addressed p && (both_elem (element_of (place_type n p)) (pointee_of ty) && keeps_const (place_const n p) ty)) h)
-  form_right (src.unary op a) ty n h = right_as a n Operated tt (and_left (is_typed n a) (r.unary_fits op (ty_of a) ty) h) (λ g k e. never (operated_free g k e))
-  form_right (src.convert a) ty n h = right_as a n (conversion (ty_of a) ty) (converted_inner (ty_of a) ty) (and_left (is_typed n a) (converts (ty_of a) ty) h) (λ g k e. never (converted_free (ty_of a) ty g k e))
-  form_right (src.discard a) ty n h = right_as a n Kept tt (and_left (is_typed n a) (is_none ty) h) (λ g k e. never (kept_free g k e))
+  form_right (src.unary op a) ty n h = right_as a n Operated tt (and_left (is_typed n a) (r.unary_fits op (ty_of a) ty) h) (λ g k e. false_not_true (operated_free g k e))
+  form_right (src.convert a) ty n h = right_as a n (conversion (ty_of a) ty) (converted_inner (ty_of a) ty) (and_left (is_typed n a) (converts (ty_of a) ty) h) (λ g k e. false_not_true (converted_free (ty_of a) ty g k e))
+  form_right (src.discard a) ty n h = right_as a n Kept tt (and_left (is_typed n a) (is_none ty) h) (λ g k e. false_not_true (kept_free g k e))
   form_right (src.chain a ls) ty n h =
-      let rest = and_right (is_typed n a) (has_links ls && links_fit n (ty_of a) ls ty) h in
-      right_both n (evaluated Operated a) (link_usages ls) (right_as a n Operated tt (and_left (is_typed n a) (has_links ls && links_fit n (ty_of a) ls ty) h) (λ g k e. never (operated_free g k e)))
-      (links_right ls n (ty_of a) ty (and_right (has_links ls) (links_fit n (ty_of a) ls ty) rest))
+      let rest = both_hold_second (is_typed n a) (has_links ls && links_fit n (ty_of a) ls ty) h in
+      right_both n (evaluated Operated a) (link_usages ls) (right_as a n Operated tt (and_left (is_typed n a) (has_links ls && links_fit n (ty_of a) ls ty) h) (λ g k e. false_not_true (operated_free g k e)))
+      (links_right ls n (ty_of a) ty (both_hold_second (has_links ls) (links_fit n (ty_of a) ls ty) rest))
   form_right (src.logical op a os) ty n h =
       let first = and_left (is_typed n a && is_scalar (ty_of a)) ((has_operands os && operands_fit n os) && same_types ty r.int) h in
-      let rest = and_right (is_typed n a && is_scalar (ty_of a)) ((has_operands os && operands_fit n os) && same_types ty r.int) h in
-      right_both n (evaluated Operated a) (operand_usages os) (right_as a n Operated tt (and_left (is_typed n a) (is_scalar (ty_of a)) first) (λ g k e. never (operated_free g k e)))
-      (operands_right os n (and_right (has_operands os) (operands_fit n os) (and_left (has_operands os && operands_fit n os) (same_types ty r.int) rest)))
+      let rest = both_hold_second (is_typed n a && is_scalar (ty_of a)) ((has_operands os && operands_fit n os) && same_types ty r.int) h in
+      right_both n (evaluated Operated a) (operand_usages os) (right_as a n Operated tt (and_left (is_typed n a) (is_scalar (ty_of a)) first) (λ g k e. false_not_true (operated_free g k e)))
+      (operands_right os n (both_hold_second (has_operands os) (operands_fit n os) (and_left (has_operands os && operands_fit n os) (same_types ty r.int) rest)))
   form_right (src.choice a c d) ty n h =
       let first = and_left (is_typed n a && is_scalar (ty_of a)) ((is_typed n c && same_types (ty_of c) ty) && ((is_typed n d && same_types (ty_of d) ty) && is_arm ty)) h in
-      let arms = and_right (is_typed n a && is_scalar (ty_of a)) ((is_typed n c && same_types (ty_of c) ty) && ((is_typed n d && same_types (ty_of d) ty) && is_arm ty)) h in
+      let arms = both_hold_second (is_typed n a && is_scalar (ty_of a)) ((is_typed n c && same_types (ty_of c) ty) && ((is_typed n d && same_types (ty_of d) ty) && is_arm ty)) h in
       let one = and_left (is_typed n c && same_types (ty_of c) ty) ((is_typed n d && same_types (ty_of d) ty) && is_arm ty) arms in
-      let two = and_left (is_typed n d && same_types (ty_of d) ty) (is_arm ty) (and_right (is_typed n c && same_types (ty_of c) ty) ((is_typed n d && same_types (ty_of d) ty) && is_arm ty) arms) in
-      right_both n (evaluated Operated a) (evaluated Kept c ++ evaluated Kept d) (right_as a n Operated tt (and_left (is_typed n a) (is_scalar (ty_of a)) first) (λ g k e. never (operated_free g k e)))
-      (right_both n (evaluated Kept c) (evaluated Kept d) (right_as c n Kept tt (and_left (is_typed n c) (same_types (ty_of c) ty) one) (λ g k e. never (kept_free g k e))) (right_as d n Kept tt (and_left (is_typed n d) (same_types (ty_of d) ty) two) (λ g k e. never (kept_free g k e))))
+      let two = and_left (is_typed n d && same_types (ty_of d) ty) (is_arm ty) (both_hold_second (is_typed n c && same_types (ty_of c) ty) ((is_typed n d && same_types (ty_of d) ty) && is_arm ty) arms) in
+      right_both n (evaluated Operated a) (evaluated Kept c ++ evaluated Kept d) (right_as a n Operated tt (and_left (is_typed n a) (is_scalar (ty_of a)) first) (λ g k e. false_not_true (operated_free g k e)))
+      (right_both n (evaluated Kept c) (evaluated Kept d) (right_as c n Kept tt (and_left (is_typed n c) (same_types (ty_of c) ty) one) (λ g k e. false_not_true (kept_free g k e))) (right_as d n Kept tt (and_left (is_typed n d) (same_types (ty_of d) ty) two) (λ g k e. false_not_true (kept_free g k e))))
   form_right (src.assign p a) ty n h =
       let o = assign_rules n p a ty h in
-      right_both n (place_usages p) (evaluated Kept a) (place_right p n o.fits) (right_as a n Kept tt o.right (λ g k e. never (kept_free g k e)))
+      right_both n (place_usages p) (evaluated Kept a) (place_right p n o.fits) (right_as a n Kept tt o.right (λ g k e. false_not_true (kept_free g k e)))
   form_right (src.compound p at op a) ty n h =
       let o = compound_rules n p at op a ty h in
-      right_both n (place_usages p) (evaluated Operated a) (place_right p n o.fits) (right_as a n Operated tt o.right (λ g k e. never (operated_free g k e)))
+      right_both n (place_usages p) (evaluated Operated a) (place_right p n o.fits) (right_as a n Operated tt o.right (λ g k e. false_not_true (operated_free g k e)))
   form_right (src.step p at back postfix) ty n h = place_right p n (count_rules n p at back postfix ty h).fits
   form_right (src.call f arguments) ty n h =
-      call_right f arguments ty n (slice_get n.signatures f.0) refl (and_right (all_typed n arguments) (call_fits (slice_get n.signatures f.0) arguments ty) h)
-      (λ s is fit. arguments_right arguments n f s 0 s.params is fit (λ i q at. subst (λ m. slice_get s.params m ≡ Some q) (plain i) at) (and_left (all_typed n arguments) (call_fits (slice_get n.signatures f.0) arguments ty) h))
+      call_right f arguments ty n (slice_get n.signatures f.0) refl (both_hold_second (all_typed n arguments) (call_fits (slice_get n.signatures f.0) arguments ty) h)
+      (λ s is fit. arguments_right arguments n f s 0 s.params is fit (λ i q at. subst (λ m. slice_get s.params m ≡ Some q) (as_zero_plus i) at) (and_left (all_typed n arguments) (call_fits (slice_get n.signatures f.0) arguments ty) h))
 
   arguments_right : (arguments : ExprTrees) (n : Names) (f : FnId) (s : Signature) (k : ℕ) (ps : List Param) → slice_get n.signatures f.0 ≡ Some s → arguments_fit ps arguments ≡ true → ((i : ℕ) (q : Param) → slice_get ps i ≡ Some q → slice_get s.params (k + i) ≡ Some q) →
       all_typed n arguments ≡ true → AllByRecursion (IsRight n) (argument_usages f k arguments)
   arguments_right no_exprs n f s k ps is fit at h = tt
-  arguments_right (expr_and a rest) n f s k [] is fit at h = never fit
+  arguments_right (expr_and a rest) n f s k [] is fit at h = false_not_true fit
   arguments_right (expr_and a rest) n f s k (q ∷ qs) is fit at h =
       let own : ty_of a ≡ Some (param_type q.kind) = equal_options (ty_of a) (Some (param_type q.kind)) (and_left (same_types (ty_of a) (Some (param_type q.kind))) (arguments_fit qs rest) fit) in
       let here : slice_get s.params k ≡ Some q = subst (λ m. slice_get s.params m ≡ Some q) (first k) (at 0 q refl) in
       right_both n (evaluated (Passed f k) a) (argument_usages f (suc k) rest)
       (right_as a n (Passed f k) tt (and_left (is_typed n a) (all_typed n rest) h) (λ g m e. passes_as n f g k m (ty_of a) (record { signature = s; param = q; is = is; at = here; same = own }) e))
-      (arguments_right rest n f s (suc k) qs is (and_right (same_types (ty_of a) (Some (param_type q.kind))) (arguments_fit qs rest) fit)
-      (λ i p e. subst (λ m. slice_get s.params m ≡ Some p) (next k i) (at (suc i) p e)) (and_right (is_typed n a) (all_typed n rest) h))
+      (arguments_right rest n f s (suc k) qs is (both_hold_second (same_types (ty_of a) (Some (param_type q.kind))) (arguments_fit qs rest) fit)
+      (λ i p e. subst (λ m. slice_get s.params m ≡ Some p) (next k i) (at (suc i) p e)) (both_hold_second (is_typed n a) (all_typed n rest) h))
     where
       first : (k : ℕ) → k + 0 ≡ k
       first k = omega arith
@@ -470,28 +465,28 @@ mutual
   links_right : (ls : LinkTrees) (n : Names) (o t : Option VarTy) → links_fit n o ls t ≡ true → AllByRecursion (IsRight n) (link_usages ls)
   links_right no_links n o t h = tt
   links_right (link_and (link s ty op a) rest) n o t h =
-      let own = and_right (is_typed n a) (same_types (r.stepped o op (ty_of a)) (Some ty) && links_fit n (Some ty) rest t) h in
-      right_both n (evaluated Operated a) (link_usages rest) (right_as a n Operated tt (and_left (is_typed n a) (same_types (r.stepped o op (ty_of a)) (Some ty) && links_fit n (Some ty) rest t) h) (λ g k e. never (operated_free g k e)))
-      (links_right rest n (Some ty) t (and_right (same_types (r.stepped o op (ty_of a)) (Some ty)) (links_fit n (Some ty) rest t) own))
+      let own = both_hold_second (is_typed n a) (same_types (r.stepped o op (ty_of a)) (Some ty) && links_fit n (Some ty) rest t) h in
+      right_both n (evaluated Operated a) (link_usages rest) (right_as a n Operated tt (and_left (is_typed n a) (same_types (r.stepped o op (ty_of a)) (Some ty) && links_fit n (Some ty) rest t) h) (λ g k e. false_not_true (operated_free g k e)))
+      (links_right rest n (Some ty) t (both_hold_second (same_types (r.stepped o op (ty_of a)) (Some ty)) (links_fit n (Some ty) rest t) own))
 
   operands_right : (os : OperandTrees) (n : Names) → operands_fit n os ≡ true → AllByRecursion (IsRight n) (operand_usages os)
   operands_right no_operands n h = tt
   operands_right (operand_and (operand s a) rest) n h =
       let first = and_left (is_typed n a && is_scalar (ty_of a)) (operands_fit n rest) h in
-      right_both n (evaluated Operated a) (operand_usages rest) (right_as a n Operated tt (and_left (is_typed n a) (is_scalar (ty_of a)) first) (λ g k e. never (operated_free g k e)))
-      (operands_right rest n (and_right (is_typed n a && is_scalar (ty_of a)) (operands_fit n rest) h))
+      right_both n (evaluated Operated a) (operand_usages rest) (right_as a n Operated tt (and_left (is_typed n a) (is_scalar (ty_of a)) first) (λ g k e. false_not_true (operated_free g k e)))
+      (operands_right rest n (both_hold_second (is_typed n a && is_scalar (ty_of a)) (operands_fit n rest) h))
 
   place_right : (p : src.PlaceTree) (n : Names) → place_fits n p ≡ true → AllByRecursion (IsRight n) (place_usages p)
-  place_right (src.place root steps) n h = right_both n (root_usages root) (step_usages steps) (root_right root n (and_left (root_fits n root) (steps_fit n steps) h)) (steps_right steps n (and_right (root_fits n root) (steps_fit n steps) h))
+  place_right (src.place root steps) n h = right_both n (root_usages root) (step_usages steps) (root_right root n (and_left (root_fits n root) (steps_fit n steps) h)) (steps_right steps n (both_hold_second (root_fits n root) (steps_fit n steps) h))
 
   root_right : (root : RootTree) (n : Names) → root_fits n root ≡ true → AllByRecursion (IsRight n) (root_usages root)
   root_right (src.local v) n h = tt
   root_right (src.global g) n h = tt
-  root_right (src.deref a s) n h = right_as a n Kept tt h (λ g k e. never (kept_free g k e))
-  root_right (src.assigned a) n h = right_as a n Kept tt h (λ g k e. never (kept_free g k e))
+  root_right (src.deref a s) n h = right_as a n Kept tt h (λ g k e. false_not_true (kept_free g k e))
+  root_right (src.assigned a) n h = right_as a n Kept tt h (λ g k e. false_not_true (kept_free g k e))
 
   steps_right : (steps : StepTrees) (n : Names) → steps_fit n steps ≡ true → AllByRecursion (IsRight n) (step_usages steps)
   steps_right no_steps n h = tt
   steps_right (step_and (src.field k) rest) n h = steps_right rest n h
   steps_right (step_and (src.item a s) rest) n h =
-      right_both n (evaluated Operated a) (step_usages rest) (right_as a n Operated tt (and_left (is_typed n a) (steps_fit n rest) h) (λ g k e. never (operated_free g k e))) (steps_right rest n (and_right (is_typed n a) (steps_fit n rest) h))
+      right_both n (evaluated Operated a) (step_usages rest) (right_as a n Operated tt (and_left (is_typed n a) (steps_fit n rest) h) (λ g k e. false_not_true (operated_free g k e))) (steps_right rest n (both_hold_second (is_typed n a) (steps_fit n rest) h))

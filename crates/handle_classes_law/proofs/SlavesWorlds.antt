@@ -4,6 +4,7 @@ use Rattle.std.specs.Prelude.{◌&&◌, ◌||◌, not, slice_get, is_some, is_no
 use Rattle.std.specs.Option.{option_map_or}
 use Rattle.pt_base.specs.declared.int_type.IntType.{IntType}
 use Rattle.pt_base.specs.declared.int_type.IntType.TheVariants as i
+use Rattle.pt_base.proofs.Booleans.{and_true_first, and_true_second, false_not_true, or_without_and}
 use Rattle.pt_tree.specs.declared.signature.Param.{Param}
 use Rattle.typed_tree.specs.declared.types.VarTy.TheVariants.{Int}
 use Rattle.typed_tree.specs.declared.types.StructInfo.{StructInfo}
@@ -15,7 +16,6 @@ use Rattle.sides.specs.Carried as carried
 use Rattle.sides.specs.Carried.{scope_of}
 use Rattle.sides.specs.Objects.{global_objects, variable_objects, result_start}
 use Rattle.lowering.specs.Lowered.{Temp}
-use Rattle.lowered_code_law.proofs.FormsSameTypes.{never}
 use Rattle.handle_classes.specs.Classes.{Class, integer_class}
 use Rattle.handle_classes_law.specs.ObjectsCells.{is_pointer, leaf_under, class_at}
 use Rattle.handle_classes_law.specs.SlavesMarked.{Marks, nothing_class, object_class, class_by, kept_class, held_class, temps_of, variable_in, variable_class, global_class, entry_class, host_class, may_give, param_in, param_class, slave_world}
@@ -33,7 +33,7 @@ kept_owns : (c : Class) → OwnsIf (kept_class c)
 kept_owns c = go c.pointer refl
   where
     go : (x : Bool) → c.pointer ≡ x → OwnsIf (if x then c else record c { must = c.may })
-    go true is p n h = never (sym p ∙ is)
+    go true is p n h = false_not_true (sym p ∙ is)
     go false is p n h = h
 
 one_owns : (x : Bool) → (x && true) ≡ true → (x || false) ≡ true
@@ -76,27 +76,18 @@ globals_own m t g n = go (slice_get (global_objects t) g)
     go None h = kept_owns (class_at m t.structs (Int i.Int) []) refl n h
     go (Some x) h = one_owns (m (x.start + leaf_under t.structs _ n)) h
 
-left : (a c : Bool) → (a && c) ≡ true → a ≡ true
-left true c h = refl
-left false c h = never h
-
-or_none : (a c d : Bool) → c ≡ false → (a || (c && d)) ≡ true → a ≡ true
-or_none true c d h k = refl
-or_none false false d h k = never k
-or_none false true d h k = never (sym h)
-
 asks_marked : (m : Marks) (t : TypedTree) → AsksMarkedAlone t (slave_world m t)
 asks_marked m t f n own kind may = go (slice_get t.functions f) own kind may
   where
     param : (x : FunctionTree) (b : Bool) (o : Option Param) → (option_map_or (λ p. if b then entry_class t f n p else host_class m t f x n p) o (integer_class false)).pointer ≡ false →
         (option_map_or (λ p. if b then entry_class t f n p else host_class m t f x n p) o (integer_class false)).may 0 ≡ true → option_map_or (λ (p : Param). p.marked) o false ≡ true
-    param x b None kind may = never may
-    param x true (Some p) kind may = or_none p.marked (is_pointer (param_type p.kind)) _ kind may
-    param x false (Some p) kind may = left p.marked (is_none x.signature.result || m (result_start t + f)) may
+    param x b None kind may = false_not_true may
+    param x true (Some p) kind may = or_without_and p.marked (is_pointer (param_type p.kind)) _ kind may
+    param x false (Some p) kind may = and_true_first p.marked (is_none x.signature.result || m (result_start t + f)) may
 
     go : (o : Option FunctionTree) → option_map_or (λ (x : FunctionTree). is_some x.body && not x.signature.privileged) o false ≡ false → (option_map_or (λ x. param_in m t f x n) o (integer_class false)).pointer ≡ false →
         (option_map_or (λ x. param_in m t f x n) o (integer_class false)).may 0 ≡ true → option_map_or (λ (x : FunctionTree). option_map_or (λ (p : Param). p.marked) (slice_get x.signature.params n) false) o false ≡ true
-    go None own kind may = never may
+    go None own kind may = false_not_true may
     go (Some x) own kind may = param x x.signature.privileged (slice_get x.signature.params n)
         (subst (λ z. (if z then variable_class m t f n else option_map_or (λ p. if x.signature.privileged then entry_class t f n p else host_class m t f x n p) (slice_get x.signature.params n) (integer_class false)).pointer ≡ false) own kind)
         (subst (λ z. (if z then variable_class m t f n else option_map_or (λ p. if x.signature.privileged then entry_class t f n p else host_class m t f x n p) (slice_get x.signature.params n) (integer_class false)).may 0 ≡ true) own may)
@@ -108,13 +99,9 @@ enters_own : (m : Marks) (t : TypedTree) → EntersOwn t (slave_world m t)
 enters_own m t f n own = go (slice_get t.functions f) refl own
   where
     go : (o : Option FunctionTree) → slice_get t.functions f ≡ o → option_map_or (λ (x : FunctionTree). is_some x.body && not x.signature.privileged) o false ≡ true → param_class m t f n ≡ variable_class m t f n
-    go None is h = never h
+    go None is h = false_not_true h
     go (Some x) is h = ap (λ z. option_map_or (λ y. param_in m t f y n) z (integer_class false)) is
         ∙ ap (λ z. if z then variable_class m t f n else option_map_or (λ p. if x.signature.privileged then entry_class t f n p else host_class m t f x n p) (slice_get x.signature.params n) (integer_class false)) h
-
-right : (a c : Bool) → (a && c) ≡ true → c ≡ true
-right true c h = h
-right false c h = never h
 
 mixed_come : (m : Marks) (t : TypedTree) → MixedMayCome t (slave_world m t)
 mixed_come m t f n x here plain bodiless shown gives may = given
@@ -128,12 +115,12 @@ mixed_come m t f n x here plain bodiless shown gives may = given
         ∙ ap (λ z. option_map_or (λ p. if z then entry_class t f n p else host_class m t f x n p) (slice_get x.signature.params n) (integer_class false)) shown
 
     some : (o : Option IntType) → is_some o ≡ true → is_none o ≡ false
-    some None h = never h
+    some None h = false_not_true h
     some (Some u) h = refl
 
     of_param : (o : Option Param) → (option_map_or (λ p. host_class m t f x n p) o (integer_class false)).may 0 ≡ true → m (result_start t + f) ≡ true
-    of_param None h = never h
-    of_param (Some p) h = subst (λ z. (z || m (result_start t + f)) ≡ true) (some x.signature.result gives) (right p.marked (is_none x.signature.result || m (result_start t + f)) h)
+    of_param None h = false_not_true h
+    of_param (Some p) h = subst (λ z. (z || m (result_start t + f)) ≡ true) (some x.signature.result gives) (and_true_second p.marked (is_none x.signature.result || m (result_start t + f)) h)
 
     marked : m (result_start t + f) ≡ true
     marked = of_param (slice_get x.signature.params n) (subst (λ (c : Class). c.may 0 ≡ true) class may)

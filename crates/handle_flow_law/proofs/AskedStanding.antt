@@ -1,12 +1,12 @@
 -- Handles stand under marks where each cell by itself does.
 use Rattle.std.proofs.Common.{◌≡◌, ◌∙◌, ℕ, zero, suc, ◌+◌, refl, ap, arith, Bool, true, false, Some, List, [], ◌∷◌, map, get_or}
 use Rattle.std.specs.Prelude.{◌&&◌, ◌||◌, not, drop, slice_get}
+use Rattle.std.proofs.lemmas.Bool.{and_from}
 use Rattle.pt_tree.specs.declared.signature.Param.{Param}
 use Rattle.typed_tree.specs.declared.types.StructInfo.{StructInfo}
 use Rattle.block_memory.specs.declared.cell.Cell.{Cell}
 use Rattle.block_memory.specs.declared.cell.Cell.TheVariants as cell
 use Rattle.block_memory.specs.Blocks.{Blocks}
-use Rattle.lowered_code_law.proofs.FormsSameTypes.{never}
 use Rattle.marshalling.specs.declared.leaf.Leaf.{Leaf}
 use Rattle.marshalling_law.specs.CallsSending.{are_allowed, StandsFor, HandlesStand}
 use Rattle.handle_classes.specs.Computes.{is_sealed, has_unmarked}
@@ -17,10 +17,6 @@ all_stand structs x [] args h = tt
 all_stand structs x (p ∷ params) [] h = tt
 all_stand structs x (p ∷ params) (v ∷ args) h = (h 0 p v refl refl, all_stand structs x params args (λ n q u at is. h (suc n) q u at is))
 
-and_both : (c d : Bool) → c ≡ true → d ≡ true → (c && d) ≡ true
-and_both true d h k = k
-and_both false d h k = never h
-
 -- cells under marks, one by one
 pub all_allowed : (marked : Bool) (marks : List Bool) (cells : List Cell) → ((r : ℕ) (under : Bool) (handle : ℕ) → slice_get marks r ≡ Some under → slice_get cells r ≡ Some (cell.Sealed handle) → (marked || under) ≡ true) → are_allowed marked marks cells ≡ true
 all_allowed marked [] cells h = refl
@@ -28,7 +24,7 @@ all_allowed marked (under ∷ marks) [] h = refl
 all_allowed marked (under ∷ marks) (cell.Int v ∷ cells) h = all_allowed marked marks cells (λ r u handle at is. h (suc r) u handle at is)
 all_allowed marked (under ∷ marks) (cell.Ptr p ∷ cells) h = all_allowed marked marks cells (λ r u handle at is. h (suc r) u handle at is)
 all_allowed marked (under ∷ marks) (cell.Sealed handle ∷ cells) h =
-    and_both (marked || under) (are_allowed marked marks cells) (h 0 under handle refl refl) (all_allowed marked marks cells (λ r u other at is. h (suc r) u other at is))
+    and_from (marked || under) (are_allowed marked marks cells) (h 0 under handle refl refl) (all_allowed marked marks cells (λ r u other at is. h (suc r) u other at is))
 
 -- the leaf of a mark
 pub marked_leaf : (leaves : List Leaf) (r : ℕ) (under : Bool) → slice_get (map (λ leaf. leaf.marked) leaves) r ≡ Some under → (leaf : Leaf) × (slice_get leaves r ≡ Some leaf) × (leaf.marked ≡ under)

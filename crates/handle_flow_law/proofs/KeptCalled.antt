@@ -1,13 +1,16 @@
 -- The classes of what the slave's code calls, and its code that is fine in them; what the slave's gate does with calls.
-use Rattle.std.proofs.Common.{◌≡◌, ◌∙◌, ℕ, zero, suc, ◌+◌, refl, ap, sym, subst, arith, inl, inr, ◌⊎◌, Bool, true, false, Option, None, Some, List, [], ◌∷◌, ◌++◌, length, cond, if◌then◌else◌}
+use Rattle.std.proofs.Common.{◌≡◌, ◌∙◌, ℕ, zero, suc, ◌+◌, refl, ap, sym, subst, inl, inr, ◌⊎◌, Bool, true, false, Option, None, Some, List, [], ◌∷◌, ◌++◌, length, cond, if◌then◌else◌}
 use Rattle.std.specs.Prelude.{IsTrue, ◌&&◌, ◌||◌, not, codes, slice_get, nat_eq, nat_le, is_none, is_some, option_map, unwrap_or}
 use Rattle.std.specs.Option.{option_map_or}
 use Rattle.std.specs.List.{AllByRecursion, Contains, find, list_all, list_any}
 use Rattle.std.specs.Map.{lookup}
-use Rattle.std.proofs.lemmas.Bool.Decides.{nat_tests}
 use Rattle.std.proofs.lemmas.List.Elements.{Contains-append_left, Contains-append_right}
 use Rattle.std.proofs.lemmas.Slice.Eq.{bytes_eq-Decides}
+use Rattle.std.proofs.lemmas.Bool.{and_left as no_and, and_right as and_no}
 use Rattle.pt_base.specs.declared.ids.FnId.{FnId}
+use Rattle.pt_base.proofs.Booleans.{both_hold, both_hold_first, both_hold_second, false_not_true}
+use Rattle.pt_base.proofs.Members.{all_true_at, contains_first, contains_nothing, each_implies}
+use Rattle.pt_base.proofs.Numbers.{nat_eq_same}
 use Rattle.pt_tree.specs.declared.signature.Param.{Param}
 use Rattle.pt_tree.specs.declared.signature.Signature.{Signature}
 use Rattle.typed_tree.specs.StatementTree.{BodyTree}
@@ -16,12 +19,11 @@ use Rattle.typed_tree.specs.Lookup.{HasName}
 use Rattle.typed_tree.specs.WellFormedStatement.{is_sound}
 use Rattle.typed_tree.specs.WellFormed.{is_well_formed, is_block, scope_in as scope_of, function_sound, body_sound, variable_sound, params_lead, is_start, is_int_result}
 use Rattle.typed_tree.specs.WellFormedExpression.{is_main}
-use Rattle.typed_tree.proofs.WellFormedLemmas.{and_left, and_right, and_both, Facts}
+use Rattle.typed_tree.proofs.WellFormedLemmas.{Facts}
 use Rattle.typed_tree.proofs.NameLemmas.{named_is}
 use Rattle.host_models.specs.Mixed.{is_mixed}
 use Rattle.block_memory.specs.declared.cell.Cell.{Cell}
 use Rattle.block_memory.specs.declared.cell.Cell.TheVariants as cell
-use Rattle.reach.proofs.ListLemmas.{contains_first, contains_nothing}
 use Rattle.reach.specs.Contexts.{main}
 use Rattle.sides.specs.Objects.{result_start}
 use Rattle.flow_rules.specs.declared.accepted.Accepted.{Accepted}
@@ -32,14 +34,13 @@ use Rattle.pt_core.specs.Calls.{function_in, no_function, signature_in, no_signa
 use Rattle.pt_core.specs.Steps.{Active, enters, here, away}
 use Rattle.pt_core.specs.WellFormedStatement.{callees_in, callees_of}
 use Rattle.lowering.specs.Functions.{core_program, functions_from, signatures_from}
-use Rattle.lowered_code_law.proofs.FormsSameTypes.{never}
-use Rattle.lowered_code_law.proofs.FormsPlaces.{all_at}
 use Rattle.lowered_code_law.proofs.NamesBodies.{lowered_names}
+use Rattle.lowered_code_law.proofs.FormsPrograms.{signature_of_function}
 use Rattle.splitter.specs.Halves.{asked, halves_of, is_among}
 use Rattle.splitter.proofs.SetLemmas.{among_has}
 use Rattle.split_law.proofs.Accepted.{accepted_shares_nothing}
-use Rattle.split_law.proofs.Chosen.{chosen_lookup, each, each_chosen}
-use Rattle.split_law.proofs.LoweredCode.{all_hold, all_signatures, body_there, signature_of_function}
+use Rattle.split_law.proofs.Chosen.{chosen_lookup, each_chosen}
+use Rattle.split_law.proofs.LoweredCode.{all_hold, all_signatures, body_there}
 use Rattle.split_law.proofs.Parts.{Holds}
 use Rattle.split_law.proofs.Slaves.{signed, keeps}
 use Rattle.handle_classes.specs.Classes.{Class, World, Scope, scope_in, integer_class}
@@ -47,6 +48,7 @@ use Rattle.handle_classes.specs.Judgment.{Flows, AreFineArguments, TakesResult, 
 use Rattle.handle_classes.specs.Invariant.{Fits, AllFit}
 use Rattle.handle_classes.specs.Computes.{is_sealed, has_handle, has_unmarked}
 use Rattle.handle_classes.specs.Laws.{FitsGate, EntersFit}
+use Rattle.handle_classes.proofs.WorkedRun.{flows_same}
 use Rattle.handle_classes_law.specs.SlavesLaws.{slave_half, marks_of, is_own, IsSlaveWorld}
 use Rattle.handle_classes_law.specs.SlavesMarked.{slave_world, host_class, entry_class, variable_class, param_class, param_in}
 use Rattle.pair_meaning.specs.SlaveRun.{is_handle, goes_with_handles, way_by, slave_gate}
@@ -60,9 +62,6 @@ has_signature t a = signed t (halves_of a.sides)
 -- of what has none, no handle is asked for
 abbrev pub called_world : (ℕ → Bool) → World → World
 called_world has w = record w { param = λ f n. if has f then w.param f n else integer_class false }
-
-same_number : (n k : ℕ) → nat_eq n k ≡ true → n ≡ k
-same_number n k h = grind (arith, nat_tests, h)
 
 pub signature_here : (t : TypedTree) (a : Accepted) (f : ℕ) (x : FunctionTree) → has_signature t a f ≡ true → slice_get t.functions f ≡ Some x → signature_in (slave_half t a) f ≡ x.signature
 signature_here t a f x has is =
@@ -83,7 +82,7 @@ looked_up {V} P f (x ∷ xs) s h e = go (nat_eq f x.0) refl (λ k. looked_up P f
     same y z k = cc
 
     go : (c : Bool) → nat_eq f x.0 ≡ c → (lookup (nat_eq f) xs ≡ Some s → P f s) → cond c (Some x.1) (lookup (nat_eq f) xs) ≡ Some s → P f s
-    go true is later k = subst (λ z. P f z) (same x.1 s k) (subst (λ n. P n x.1) (sym (same_number f x.0 is)) h.0)
+    go true is later k = subst (λ z. P f z) (same x.1 s k) (subst (λ n. P n x.1) (sym (nat_eq_same f x.0 is)) h.0)
     go false is later k = later k
 
 pub all_called : (t : TypedTree) (a : Accepted) → AllByRecursion (λ (x : ℕ × Signature). IsCalled t a x.0 x.1) (slave_half t a).signatures
@@ -153,7 +152,7 @@ callees_have t a facts accepted f = go (find (λ (c : core.FunctionTree). nat_eq
         let h = halves_of a.sides in
         let are = (accepted_shares_nothing t a accepted).0 in
         each_chosen (λ (c : core.FunctionTree). AllHas (has_signature t a) (callees_of c.body)) (λ (c : core.FunctionTree). is_among h.slave c.id) (functions_from t 0 t.functions)
-        (each (λ (c : core.FunctionTree). is_among h.slave c.id ≡ true → Holds false (core_program t) (signed t h) (is_among h.slave) (is_among h.owned) c) (λ (c : core.FunctionTree). is_among h.slave c.id ≡ true → AllHas (has_signature t a) (callees_of c.body))
+        (each_implies (λ (c : core.FunctionTree). is_among h.slave c.id ≡ true → Holds false (core_program t) (signed t h) (is_among h.slave) (is_among h.owned) c) (λ (c : core.FunctionTree). is_among h.slave c.id ≡ true → AllHas (has_signature t a) (callees_of c.body))
         (λ c k among. (k among).called) (functions_from t 0 t.functions) (all_hold lowered_names false t (signed t h) (is_among h.slave) (is_among h.owned) facts.functions (keeps t h are)))
 
     go : (o : Option core.FunctionTree) → find (λ (c : core.FunctionTree). nat_eq f c.id) (slave_half t a).functions ≡ o → AllHas (has_signature t a) (callees_of (unwrap_or o no_function).body)
@@ -225,31 +224,20 @@ away_called t a f args h = go (called_or_not t a f)
 -- ---- functions and hosts
 
 sound_here : (t : TypedTree) (f : ℕ) (x : FunctionTree) → Facts t → slice_get t.functions f ≡ Some x → function_sound t x ≡ true
-sound_here t f x facts is = all_at (function_sound t) t.functions f x facts.functions is
+sound_here t f x facts is = all_true_at (function_sound t) t.functions f x facts.functions is
 
 pub host_body : (t : TypedTree) (f : ℕ) (x : FunctionTree) → Facts t → slice_get t.functions f ≡ Some x → x.signature.host ≡ true → is_some x.body ≡ false
-host_body t f x facts is host = go x.body (and_right (list_all (variable_sound t.structs) x.vars) (body_sound t x x.body)
-    (and_right (nat_le (length x.signature.params) 8 && params_lead x.signature.params x.vars) (list_all (variable_sound t.structs) x.vars && body_sound t x x.body) (sound_here t f x facts is)))
+host_body t f x facts is host = go x.body (both_hold_second (list_all (variable_sound t.structs) x.vars) (body_sound t x x.body)
+    (both_hold_second (nat_le (length x.signature.params) 8 && params_lead x.signature.params x.vars) (list_all (variable_sound t.structs) x.vars && body_sound t x x.body) (sound_here t f x facts is)))
   where
     go : (o : Option BodyTree) → body_sound t x o ≡ true → is_some o ≡ false
     go None s = refl
-    go (Some b) s = never (sym (ap not host) ∙ and_left (not x.signature.host) (is_block b && is_sound (scope_of t x) false false b) s)
+    go (Some b) s = false_not_true (sym (ap not host) ∙ both_hold_first (not x.signature.host) (is_block b && is_sound (scope_of t x) false false b) s)
 
 pub own_there : (t : TypedTree) (f : ℕ) (x : FunctionTree) → slice_get t.functions f ≡ Some x → is_own t f ≡ (is_some x.body && not x.signature.privileged)
 own_there t f x is = ap (λ o. option_map_or (λ (z : FunctionTree). is_some z.body && not z.signature.privileged) o false) is
 
-no_and : (c d : Bool) → c ≡ false → (c && d) ≡ false
-no_and false d h = refl
-no_and true d h = never (sym h)
-
-and_no : (c d : Bool) → d ≡ false → (c && d) ≡ false
-and_no true d h = h
-and_no false d h = refl
-
 -- ---- the gate
-
-flows_same : (c : Class) → Flows c c
-flows_same c = record { kind = refl; first = λ p h. h; size = λ p. refl; may = λ p n less h. h; must = λ p n less h. h }
 
 pub enters_fit : (t : TypedTree) (a : Accepted) (w : World) → Facts t → IsSlaveWorld t (slave_half t a) w → EntersFit (called_world (has_signature t a) w) (slave_gate (slave_half t a))
 enters_fit t a w facts world g f args h n = go (called_or_not t a f)
@@ -258,17 +246,17 @@ enters_fit t a w facts world g f args h n = go (called_or_not t a f)
     way = way_enters (signature_in (slave_half t a) f) args h
 
     go : (signature_in (slave_half t a) f ≡ no_signature) ⊎ IsCalled t a f (signature_in (slave_half t a) f) → Flows (if has_signature t a f then w.param f n else integer_class false) (w.variable f n)
-    go (inl none) = never (sym way.own ∙ ap (λ (s : Signature). s.host) none)
+    go (inl none) = false_not_true (sym way.own ∙ ap (λ (s : Signature). s.host) none)
     go (inr c) =
         let body = body_there t c.function (sound_here t f c.function facts c.is) (ap (λ (s : Signature). s.host) c.same ∙ way.own) in
-        let own : is_own t f ≡ true = own_there t f c.function c.is ∙ and_both (is_some c.function.body) (not c.function.signature.privileged) (ap is_some body.1) (ap not (ap (λ (s : Signature). s.privileged) c.same ∙ way.free)) in
+        let own : is_own t f ≡ true = own_there t f c.function c.is ∙ both_hold (is_some c.function.body) (not c.function.signature.privileged) (ap is_some body.1) (ap not (ap (λ (s : Signature). s.privileged) c.same ∙ way.free)) in
         subst (λ (b : Bool). Flows (if b then w.param f n else integer_class false) (w.variable f n)) (sym c.has) (subst (λ (k : Class). Flows k (w.variable f n)) (sym (world.enters f n own)) (flows_same (w.variable f n)))
 
 handle_none : (args : List Cell) → list_any is_handle args ≡ false → has_handle args ≡ false
 handle_none [] h = refl
 handle_none (cell.Int v ∷ args) h = handle_none args h
 handle_none (cell.Ptr p ∷ args) h = handle_none args h
-handle_none (cell.Sealed k ∷ args) h = never (sym h)
+handle_none (cell.Sealed k ∷ args) h = false_not_true (sym h)
 
 -- no marked parameter
 none_marked : (ps : List Param) (n : ℕ) (q : Param) → list_any (λ (p : Param). p.marked) ps ≡ false → slice_get ps n ≡ Some q → q.marked ≡ false
@@ -280,12 +268,12 @@ none_marked (p ∷ ps) zero q h is = subst (λ (z : Param). z.marked ≡ false) 
 
     first : (c d : Bool) → (c || d) ≡ false → c ≡ false
     first false d e = refl
-    first true d e = never (sym e)
+    first true d e = false_not_true (sym e)
 none_marked (p ∷ ps) (suc n) q h is = none_marked ps n q (rest p.marked (list_any (λ (p : Param). p.marked) ps) h) is
   where
     rest : (c d : Bool) → (c || d) ≡ false → d ≡ false
     rest false d e = e
-    rest true d e = never (sym e)
+    rest true d e = false_not_true (sym e)
 
 -- a host that isn't mixed takes no handle
 plain_host : (t : TypedTree) (m : ℕ → Bool) (f : ℕ) (x : FunctionTree) → Facts t → slice_get t.functions f ≡ Some x → x.signature.host ≡ true → x.signature.privileged ≡ false → is_mixed x.signature ≡ false → (n : ℕ) → (param_class m t f n).may 0 ≡ false
@@ -333,7 +321,7 @@ unmarked_none w active into marked (v ∷ vs) fit h =
   where
     or_none : (c d : Bool) → c ≡ false → d ≡ false → (c || d) ≡ false
     or_none false d e k = k
-    or_none true d e k = never (sym e)
+    or_none true d e k = false_not_true (sym e)
 
     one : (v : Cell) → Fits w active (into 0) v → (is_sealed v && not (marked 0)) ≡ false
     one (cell.Int n) f = refl
@@ -395,7 +383,7 @@ pub start_of : (t : TypedTree) → Facts t → Starts t
 start_of t facts = let s = among t.functions facts.start in record { number = s.0; function = s.1; is = s.2; start = s.3 }
   where
     among : (fs : List FunctionTree) → list_any is_start fs ≡ true → (n : ℕ) × (f : FunctionTree) × (slice_get fs n ≡ Some f) × (is_start f ≡ true)
-    among [] h = never h
+    among [] h = false_not_true h
     among (f ∷ fs) h = go (is_start f) refl (λ k. among fs k) h
       where
         go : (c : Bool) → is_start f ≡ c → (list_any is_start fs ≡ true → (n : ℕ) × (x : FunctionTree) × (slice_get fs n ≡ Some x) × (is_start x ≡ true)) → (c || list_any is_start fs) ≡ true →
@@ -411,11 +399,11 @@ host_not_main t f x sound facts is none = go (is_main x.signature) refl
     go false e = e
     go true e =
         let s = start_of t facts in
-        let starts = and_left (is_main s.function.signature) (is_some s.function.body && (is_int_result s.function.signature.result && nat_eq (length s.function.signature.params) 0)) s.start in
-        let body = and_left (is_some s.function.body) (is_int_result s.function.signature.result && nat_eq (length s.function.signature.params) 0)
-        (and_right (is_main s.function.signature) (is_some s.function.body && (is_int_result s.function.signature.result && nat_eq (length s.function.signature.params) 0)) s.start) in
+        let starts = both_hold_first (is_main s.function.signature) (is_some s.function.body && (is_int_result s.function.signature.result && nat_eq (length s.function.signature.params) 0)) s.start in
+        let body = both_hold_first (is_some s.function.body) (is_int_result s.function.signature.result && nat_eq (length s.function.signature.params) 0)
+        (both_hold_second (is_main s.function.signature) (is_some s.function.body && (is_int_result s.function.signature.result && nat_eq (length s.function.signature.params) 0)) s.start) in
         let one = main_is_one t f s.number x s.function sound is s.is e starts in
-        never (sym none ∙ ap body_some one ∙ body)
+        false_not_true (sym none ∙ ap body_some one ∙ body)
       where
         body_some : Option FunctionTree → Bool
         body_some None = false

@@ -7,20 +7,21 @@ use Rattle.std.proofs.lemmas.Bool.{cases_lt, eqb-true, ltb-false}
 use Rattle.std.proofs.lemmas.List.{get_or_past}
 use Rattle.std.proofs.lemmas.Option.{slice_get-map}
 use Rattle.pt_base.specs.declared.int_type.IntType.TheVariants as i
+use Rattle.pt_base.proofs.Booleans.{both_hold_first, false_not_true}
+use Rattle.pt_base.proofs.Members.{all_true_at, contains_first, contains_later}
 use Rattle.typed_tree.specs.declared.types.VarTy.{VarTy}
-use Rattle.typed_tree.specs.declared.types.VarTy.TheVariants.{Int, Struct, Array, Pointer}
+use Rattle.typed_tree.specs.declared.types.VarTy.TheVariants.{Int}
 use Rattle.typed_tree.specs.declared.variable.TypedGlobal.{TypedGlobal}
 use Rattle.typed_tree.specs.declared.types.StructInfo.{StructInfo}
 use Rattle.typed_tree.specs.Cells.{leaves_of}
 use Rattle.typed_tree.specs.ExpressionTree.{ExprTree}
 use Rattle.typed_tree.specs.TypedTree.{TypedTree, FunctionTree}
 use Rattle.typed_tree.specs.WellFormed.{global_sound, is_plain_type, is_small, is_well_formed, cells_fit}
-use Rattle.typed_tree.proofs.WellFormedLemmas.{Facts, and_left, facts_of}
+use Rattle.typed_tree.proofs.WellFormedLemmas.{Facts, facts_of}
 use Rattle.source_meaning.specs.Expressions.{type_of}
 use Rattle.propagation.specs.Marks.{path_shown}
 use Rattle.propagation.specs.Paths.{IsShortestPath}
 use Rattle.reach.specs.Tables.{slot_number}
-use Rattle.reach.proofs.ListLemmas.{contains_first, contains_later}
 use Rattle.block_memory.specs.declared.cell.BlockName.{BlockName}
 use Rattle.block_memory.specs.declared.cell.BlockName.TheVariants.{Local, Global, Received}
 use Rattle.sides.specs.declared.objects.Object.{Object}
@@ -33,8 +34,6 @@ use Rattle.flow_rules.specs.Faults.{IsAccepted, edges_of_all}
 use Rattle.pt_core.specs.Steps.{Active}
 use Rattle.pt_core.specs.Types.{pointee_type}
 use Rattle.lowering.specs.Lowered.{Temp}
-use Rattle.lowered_code_law.proofs.FormsPlaces.{all_at}
-use Rattle.lowered_code_law.proofs.FormsSameTypes.{never}
 use Rattle.handle_classes.specs.Classes.{Class}
 use Rattle.handle_classes.specs.Invariant.{MayLie, block_class, local_class}
 use Rattle.handle_classes_law.specs.ObjectsCells.{class_at, is_pointer, leaf_under}
@@ -42,6 +41,7 @@ use Rattle.handle_classes_law.specs.SlavesLaws.{IsSlaveWorld, marks_of, slave_ha
 use Rattle.handle_classes_law.specs.SlavesMarked.{Marks, class_by, held_class, kept_class, nothing_class, object_class, slave_world, temps_of, variable_class, variable_in}
 use Rattle.handle_classes_law.proofs.SlavesClasses.{plain_object}
 use Rattle.handle_classes_law.proofs.SlavesSlots.{object_type}
+use Rattle.handle_classes_law.proofs.SlavesRoots.{object_pointee}
 use Rattle.pair_meaning.specs.SlaveRun.{Slave, slave_of}
 use Rattle.pair_meaning.specs.Pair.{slave_at}
 use Rattle.handle_flow_law.specs.KeptLaws.{boot_of}
@@ -55,14 +55,14 @@ secret_of_mark : (t : TypedTree) (a : Accepted) (s : ℕ) → IsAccepted t a →
 secret_of_mark t a s accepted marked = go (cases_lt s (length (slots_of t)))
   where
     shown : (o : Option (List ℕ)) → is_some o ≡ true → MatchOption o (¬ (IsSecret t a s)) (λ path. IsShortestPath a.sides.seeds (edges_of_all t a.sides) path (slot_number s)) → IsSecret t a s
-    shown None is h = never is
+    shown None is h = false_not_true is
     shown (Some path) is (seed, among, leads, fewest) = (seed, path, among, leads)
 
     go : (s < length (slots_of t)) ⊎ (length (slots_of t) ≤ s) → IsSecret t a s
     go (inl within) = shown (path_shown a.marks (slot_number s)) marked (accepted.marks.paths (slot_number s) within)
     go (inr past) =
         let size = accepted.marks.size in
-        never (ap is_some (sym (get_or_past a.marks s None (omega (arith, size, past)))) ∙ marked)
+        false_not_true (ap is_some (sym (get_or_past a.marks s None (omega (arith, size, past)))) ∙ marked)
 
 -- ---- classes
 
@@ -71,18 +71,12 @@ abbrev MayBe : Class → ℕ → Type 0
 MayBe c n = (c.pointer ≡ false) × (c.may n ≡ true)
 
 any_of : {X : Type 0} (test : X → Bool) (xs : List X) → list_any test xs ≡ true → (x : X) × Contains xs x × (test x ≡ true)
-any_of test [] h = never h
+any_of test [] h = false_not_true h
 any_of {X} test (y ∷ ys) h = go (test y) refl (any_of test ys) h
   where
     go : (b : Bool) → test y ≡ b → (list_any test ys ≡ true → (x : X) × Contains ys x × (test x ≡ true)) → (b || list_any test ys) ≡ true → (x : X) × Contains (y ∷ ys) x × (test x ≡ true)
     go true is rest h = (y, contains_first y ys, is)
     go false is rest h = let found = rest h in (found.0, contains_later y ys found.0 found.1, found.2)
-
-own_pointee : (ty : VarTy) → is_pointer ty ≡ false → pointee_type ty ≡ ty
-own_pointee (Int t) h = refl
-own_pointee (Struct k) h = refl
-own_pointee (Array elem count) h = refl
-own_pointee (Pointer elem fixed) h = never (sym h)
 
 kept_as : (c : Class) (n : ℕ) → MayBe (kept_class c) n → MayBe c n
 kept_as c n = go c.pointer refl
@@ -92,7 +86,7 @@ kept_as c n = go c.pointer refl
     go false is h = h
 
 nothing_may : {A : Type 0} (m : Marks) (structs : List StructInfo) (ty : VarTy) (n : ℕ) → MayBe (nothing_class m structs ty) n → A
-nothing_may m structs ty n h = never (kept_as (class_at m structs ty []) n h).1
+nothing_may m structs ty n h = false_not_true (kept_as (class_at m structs ty []) n h).1
 
 or_nothing : (b : Bool) → (b || false) ≡ true → b ≡ true
 or_nothing true h = refl
@@ -103,7 +97,7 @@ or_nothing false h = h
 cell_secret : (t : TypedTree) (a : Accepted) (x : Object) (n : ℕ) → IsAccepted t a → MayBe (class_at (marks_of t a) t.structs x.ty (x.start ∷ [])) n → IsSecretCell t a x n
 cell_secret t a x n accepted h = record {
   integer = h.0;
-  secret = subst (λ ty. IsSecret t a (x.start + leaf_under t.structs ty n)) (own_pointee x.ty h.0)
+  secret = subst (λ ty. IsSecret t a (x.start + leaf_under t.structs ty n)) (object_pointee x.ty h.0)
       (secret_of_mark t a (x.start + leaf_under t.structs (pointee_type x.ty) n) accepted (or_nothing (marks_of t a (x.start + leaf_under t.structs (pointee_type x.ty) n)) h.1));
 }
 
@@ -115,7 +109,7 @@ value_secret t a c e n same accepted h =
       slot = found.0;
       carries = found.1;
       secret = subst (λ structs. IsSecret t a (found.0 + leaf_under structs (type_of e) n)) same
-          (subst (λ ty. IsSecret t a (found.0 + leaf_under c.structs ty n)) (own_pointee (type_of e) h.0)
+          (subst (λ ty. IsSecret t a (found.0 + leaf_under c.structs ty n)) (object_pointee (type_of e) h.0)
           (secret_of_mark t a (found.0 + leaf_under c.structs (pointee_type (type_of e)) n) accepted found.2));
     }
 
@@ -151,7 +145,7 @@ variable_secret t a f x v n accepted = go (nat_lt v (length x.vars)) refl
 
 -- of the function that was entered at the depth
 local_secret : (t : TypedTree) (a : Accepted) (active : List Active) (depth v n : ℕ) → IsAccepted t a → MayBe (local_class (world_of t a) active depth v) n → IsSecretLocal t a active depth v n
-local_secret t a [] depth v n accepted h = never (sym h.0)
+local_secret t a [] depth v n accepted h = false_not_true (sym h.0)
 local_secret t a (x ∷ active) depth v n accepted h = go (nat_eq depth x.depth) refl h (local_secret t a active depth v n accepted)
   where
     here : (o : Option FunctionTree) → slice_get t.functions x.function ≡ o → x.depth ≡ depth →
@@ -184,7 +178,7 @@ local_secret t a (x ∷ active) depth v n accepted h = go (nat_eq depth x.depth)
 -- a global is no pointer
 global_secret : (t : TypedTree) (a : Accepted) (g n : ℕ) → Facts t → IsAccepted t a → (o : Option Object) → slice_get (global_objects t) g ≡ o → (object_class (marks_of t a) t.structs o).may n ≡ true →
     (x : Object) × (slice_get (global_objects t) g ≡ Some x) × IsSecretCell t a x n
-global_secret t a g n facts accepted None is h = never h
+global_secret t a g n facts accepted None is h = false_not_true h
 global_secret t a g n facts accepted (Some x) is h = (x, is, cell_secret t a x n accepted (plain, h))
   where
     same : (u z : VarTy) → Some u ≡ Some z → u ≡ z
@@ -197,8 +191,8 @@ global_secret t a g n facts accepted (Some x) is h = (x, is, cell_secret t a x n
     typed None at has = nothing x.ty has
     typed (Some y) at has =
         ap is_pointer (sym (same y.var.ty x.ty has)) ∙ plain_object (length t.structs) y.var.ty
-        (and_left (is_plain_type (length t.structs) y.var.ty) (is_small t.structs y.var.ty)
-        (and_left (is_plain_type (length t.structs) y.var.ty && is_small t.structs y.var.ty) (is_none y.var.holds && cells_fit (leaves_of t.structs y.var.ty) y.cells) (all_at (global_sound t.structs) t.globals g y facts.globals at)))
+        (both_hold_first (is_plain_type (length t.structs) y.var.ty) (is_small t.structs y.var.ty)
+        (both_hold_first (is_plain_type (length t.structs) y.var.ty && is_small t.structs y.var.ty) (is_none y.var.holds && cells_fit (leaves_of t.structs y.var.ty) y.cells) (all_true_at (global_sound t.structs) t.globals g y facts.globals at)))
 
     plain : is_pointer x.ty ≡ false
     plain = typed (slice_get t.globals g) refl (sym (slice_get-map (λ (y : TypedGlobal). y.var.ty) t.globals g) ∙ object_type (leaf_count t.structs) 0 (global_types t) g x is)
@@ -206,7 +200,7 @@ global_secret t a g n facts accepted (Some x) is h = (x, is, cell_secret t a x n
 lies : (t : TypedTree) (a : Accepted) (active : List Active) (block : BlockName) (n : ℕ) → Facts t → IsAccepted t a → MayBe (block_class (world_of t a) active block) n → LiesUnderMark t a active block n
 lies t a active (Local depth v) n facts accepted h = local_secret t a active depth v n accepted h
 lies t a active (Global g) n facts accepted h = global_secret t a g n facts accepted (slice_get (global_objects t) g) refl h.1
-lies t a active (Received k) n facts accepted h = never h.1
+lies t a active (Received k) n facts accepted h = false_not_true h.1
 
 pub handles_lie : ((t : TypedTree) (a : Accepted) → IsTrue (is_well_formed t) → IsAccepted t a → IsSlaveWorld t (slave_half t a) (slave_world (marks_of t a) t)) → HandlesLieUnderMarks
 handles_lie classes t a hosts input turns replies k sound accepted block n handle is =

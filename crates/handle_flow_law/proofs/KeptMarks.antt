@@ -5,7 +5,12 @@ use Rattle.std.specs.Prelude.{◌||◌, slice_get, nat_lt, nat_le, option_map}
 use Rattle.std.specs.List.{list_all, flat_map}
 use Rattle.std.proofs.lemmas.Bool.Decides.{nat_tests}
 use Rattle.std.proofs.lemmas.List.{length-map, map-append}
+use Rattle.std.proofs.lemmas.Option.{get_or_from_slice_get as got}
+use Rattle.marshalling_law.proofs.CallsSendable.{map_repeated}
 use Rattle.pt_base.specs.declared.int_type.IntType.{IntType}
+use Rattle.pt_base.proofs.Booleans.{both_hold_first, both_hold_second, false_not_true}
+use Rattle.pt_base.proofs.Lists.{map_of_map}
+use Rattle.pt_base.proofs.Places.{get_after, get_before, get_map}
 use Rattle.pt_tree.specs.declared.signature.Elem.{Elem}
 use Rattle.pt_tree.specs.declared.signature.Elem.TheVariants as e
 use Rattle.typed_tree.specs.declared.types.Field.{Field}
@@ -13,11 +18,10 @@ use Rattle.typed_tree.specs.declared.types.StructInfo.{StructInfo}
 use Rattle.typed_tree.specs.declared.types.VarTy.{VarTy}
 use Rattle.typed_tree.specs.declared.types.VarTy.TheVariants.{Int, Struct, Array, Pointer}
 use Rattle.typed_tree.specs.Cells.{repeated}
-use Rattle.typed_tree.specs.Sizes.{sizes_of, elem_cells, cells_by, fields_of}
+use Rattle.typed_tree.specs.Sizes.{sizes_of, elem_cells, fields_of}
 use Rattle.typed_tree.specs.TypeTests.{type_of_elem}
 use Rattle.typed_tree.specs.WellFormed.{is_plain_type, is_small, field_sound, structs_sound}
 use Rattle.typed_tree.specs.WellFormedExpression.{is_elem}
-use Rattle.typed_tree.proofs.WellFormedLemmas.{and_left, and_right}
 use Rattle.sides.specs.Leaves as sides
 use Rattle.sides.specs.Leaves.{leaf_of_field, whole, leaf_count, type_leaves, fields_leaves}
 use Rattle.sides.specs.LeafTables.{leaves_below}
@@ -29,25 +33,16 @@ use Rattle.marshalling.proofs.LeafLemmas.{leaves_of_int, leaves_of_struct}
 use Rattle.marshalling.proofs.SoundStructs.{structs_stand}
 use Rattle.handle_classes_law.specs.ObjectsCells.{cell_leaves, leaf_under}
 use Rattle.handle_classes_law.proofs.ObjectsItems.{cells_have_leaves, depth_free, fields_sound, items_below, plain_more, struct_shifts, type_same, type_shifts}
-
-never : {X : Type 0} → false ≡ true → X
-never h = cc
+use Rattle.handle_classes_law.proofs.SlavesClasses.{elem_size}
+use Rattle.handle_classes_law.proofs.SlavesMoves.{elem_plain}
 
 -- ---- lists
-
-map_again : {A B C : Type 0} (f : B → C) (g : A → B) (xs : List A) → map f (map g xs) ≡ map (λ x. f (g x)) xs
-map_again f g [] = refl
-map_again f g (x ∷ xs) = ap (λ ys. f (g x) ∷ ys) (map_again f g xs)
-
-map_repeated : {A B : Type 0} (f : A → B) (count : ℕ) (xs : List A) → map f (repeated count xs) ≡ repeated count (map f xs)
-map_repeated f zero xs = refl
-map_repeated f (suc n) xs = map-append f xs (repeated n xs) ∙ ap (λ ys. map f xs ++ ys) (map_repeated f n xs)
 
 map_below : {B : Type 0} (bound : ℕ) (f g : ℕ → B) (xs : List ℕ) → list_all (λ x. nat_lt x bound) xs ≡ true → ((x : ℕ) → x < bound → f x ≡ g x) → map f xs ≡ map g xs
 map_below bound f g [] h same = refl
 map_below bound f g (x ∷ xs) h same =
-    let less = and_left (nat_lt x bound) (list_all (λ y. nat_lt y bound) xs) h in
-    ap (λ z. z ∷ map f xs) (same x (grind (arith, nat_tests, less))) ∙ ap (λ ys. g x ∷ ys) (map_below bound f g xs (and_right (nat_lt x bound) (list_all (λ y. nat_lt y bound) xs) h) same)
+    let less = both_hold_first (nat_lt x bound) (list_all (λ y. nat_lt y bound) xs) h in
+    ap (λ z. z ∷ map f xs) (same x (grind (arith, nat_tests, less))) ∙ ap (λ ys. g x ∷ ys) (map_below bound f g xs (both_hold_second (nat_lt x bound) (list_all (λ y. nat_lt y bound) xs) h) same)
 
 behind_these : {A : Type 0} (xs ys : List A) (n k : ℕ) (d : A) → n ≡ length xs → get_or (xs ++ ys) (n + k) d ≡ get_or ys k d
 behind_these [] ys n k d is = ap (λ z. get_or ys z d) (let e : n + k ≡ k = omega (arith, is) in e)
@@ -58,16 +53,6 @@ of_map : {A : Type 0} (f : A → A) (xs ys : List A) (k : ℕ) (d : A) → k < l
 of_map f [] ys k d less = absurd (omega (arith, less))
 of_map f (x ∷ xs) ys zero d less = refl
 of_map f (x ∷ xs) ys (suc k) d less = of_map f xs ys k d (omega (arith, less))
-
-got_map : {A B : Type 0} (f : A → B) (xs : List A) (k : ℕ) → slice_get (map f xs) k ≡ option_map f (slice_get xs k)
-got_map f [] k = refl
-got_map f (x ∷ xs) zero = refl
-got_map f (x ∷ xs) (suc k) = got_map f xs k
-
-got : {A : Type 0} (xs : List A) (k : ℕ) (x d : A) → slice_get xs k ≡ Some x → get_or xs k d ≡ x
-got [] k x d h = cc
-got (y ∷ ys) zero x d h = cc
-got (y ∷ ys) (suc k) x d h = got ys k x d h
 
 -- ---- marks
 
@@ -101,12 +86,12 @@ AllKnown structs known (f ∷ fs) = FieldKnown structs known f × AllKnown struc
 field_marks : (structs : List StructInfo) (k far : ℕ) (secret : Bool) (ty : VarTy) (before rest : List sides.Leaf) → far ≡ length before → list_all (λ x. nat_lt x (leaf_count structs ty)) (type_items (items structs) 0 ty) ≡ true → AreMarked structs ty →
     marks (map (under secret) (object_cells structs ty)) ≡ map (λ l. (get_or (before ++ (map (leaf_of_field k secret) (sides.leaves_of structs ty) ++ rest)) l whole).marked) (type_items (items structs) far ty)
 field_marks structs k far secret ty before rest is below own =
-    map_again (λ (c : Leaf). c.marked) (under secret) (object_cells structs ty)
-    ∙ sym (map_again (λ x. secret || x) (λ (c : Leaf). c.marked) (object_cells structs ty))
+    map_of_map (λ (c : Leaf). c.marked) (under secret) (object_cells structs ty)
+    ∙ sym (map_of_map (λ x. secret || x) (λ (c : Leaf). c.marked) (object_cells structs ty))
     ∙ ap (λ xs. map (λ x. secret || x) xs) own
-    ∙ map_again (λ x. secret || x) (mark_at structs ty) (type_items (items structs) 0 ty)
+    ∙ map_of_map (λ x. secret || x) (mark_at structs ty) (type_items (items structs) 0 ty)
     ∙ map_below (leaf_count structs ty) (λ l. secret || mark_at structs ty l) (λ l. whole_mark (far + l)) (type_items (items structs) 0 ty) below (λ l less. sym (at_leaf l less))
-    ∙ sym (map_again whole_mark (λ l. far + l) (type_items (items structs) 0 ty))
+    ∙ sym (map_of_map whole_mark (λ l. far + l) (type_items (items structs) 0 ty))
     ∙ ap (λ xs. map whole_mark xs) (sym (type_shifts (items structs) (struct_shifts structs (length structs)) far 0 ty) ∙ ap (λ z. type_items (items structs) z ty) (plain far))
   where
     whole_mark : ℕ → Bool
@@ -173,30 +158,30 @@ array_marked structs elem count h =
 object_marked : (structs : List StructInfo) (n : ℕ) (ty : VarTy) → ((m : ℕ) → m < n → AreMarked structs (Struct m)) → is_plain_type n ty ≡ true → AreMarked structs ty
 object_marked structs n (Int t) h plain = int_marked structs t
 object_marked structs n (Struct m) h plain = h m (grind (arith, nat_tests, plain))
-object_marked structs n (Array elem count) h plain = array_marked structs elem count (elem_marked elem (and_left (is_elem n (Some elem)) (nat_le 1 count) plain))
+object_marked structs n (Array elem count) h plain = array_marked structs elem count (elem_marked elem (both_hold_first (is_elem n (Some elem)) (nat_le 1 count) plain))
   where
     elem_marked : (elem : Elem) → is_elem n (Some elem) ≡ true → AreMarked structs (type_of_elem elem)
     elem_marked (e.Int t) is = int_marked structs t
     elem_marked (e.Struct m) is = h m (grind (arith, nat_tests, is))
-object_marked structs n (Pointer elem fixed) h plain = never plain
+object_marked structs n (Pointer elem fixed) h plain = false_not_true plain
 
 all_known : (structs : List StructInfo) (n : ℕ) (fs : List Field) → structs_sound structs 0 structs ≡ true → n ≤ length structs → ((m : ℕ) → m < n → AreMarked structs (Struct m)) → list_all (field_sound structs n) fs ≡ true → AllKnown structs (leaves_below structs n) fs
 all_known structs n [] sound small h fine = tt
 all_known structs n (f ∷ fs) sound small h fine =
-    let plain = and_left (is_plain_type n f.ty) (is_small structs f.ty) (and_left (field_sound structs n f) (list_all (field_sound structs n) fs) fine) in (
+    let plain = both_hold_first (is_plain_type n f.ty) (is_small structs f.ty) (both_hold_first (field_sound structs n f) (list_all (field_sound structs n) fs) fine) in (
       record {
         same = type_same structs n f.ty small plain;
         below = subst (λ z. list_all (λ x. nat_lt x z) (type_items (items structs) 0 f.ty) ≡ true) (none (leaf_count structs f.ty)) (items_below structs f.ty 0 sound (plain_more n (length structs) f.ty small plain));
         marked = object_marked structs n f.ty h plain;
       },
-      all_known structs n fs sound small h (and_right (field_sound structs n f) (list_all (field_sound structs n) fs) fine),
+      all_known structs n fs sound small h (both_hold_second (field_sound structs n f) (list_all (field_sound structs n) fs) fine),
     )
   where
     none : (a : ℕ) → 0 + a ≡ a
     none a = omega arith
 
 earlier : (structs : List StructInfo) → structs_sound structs 0 structs ≡ true → name_earlier 0 structs ≡ true
-earlier structs sound = and_left (name_earlier 0 structs) true (structs_stand structs [] sound refl)
+earlier structs sound = both_hold_first (name_earlier 0 structs) true (structs_stand structs [] sound refl)
 
 there : (structs : List StructInfo) (n : ℕ) (d : StructInfo) → n < length structs → slice_get structs n ≡ Some (get_or structs n d)
 there [] n d h = absurd (grind (arith, h))
@@ -225,7 +210,7 @@ elem_cells_marked structs (e.Struct n) sound is = struct_marked structs sound (l
 pub cells_are_marked : (structs : List StructInfo) (elem : Elem) (q : ℕ) (leaf : Leaf) → structs_sound structs 0 structs ≡ true → is_elem (length structs) (Some elem) ≡ true → slice_get (leaves_of structs elem) q ≡ Some leaf →
     leaf.marked ≡ (get_or (sides.leaves_of structs (type_of_elem elem)) (leaf_under structs (type_of_elem elem) q) whole).marked
 cells_are_marked structs elem q leaf sound is at = go (slice_get (cell_leaves structs (type_of_elem elem)) q) refl
-    (sym (got_map (mark_at structs (type_of_elem elem)) (cell_leaves structs (type_of_elem elem)) q) ∙ ap (λ xs. slice_get xs q) (sym (elem_cells_marked structs elem sound is)) ∙ got_map (λ (c : Leaf). c.marked) (leaves_of structs elem) q ∙ ap (λ o. option_map (λ (c : Leaf). c.marked) o) at)
+    (sym (get_map (mark_at structs (type_of_elem elem)) (cell_leaves structs (type_of_elem elem)) q) ∙ ap (λ xs. slice_get xs q) (sym (elem_cells_marked structs elem sound is)) ∙ get_map (λ (c : Leaf). c.marked) (leaves_of structs elem) q ∙ ap (λ o. option_map (λ (c : Leaf). c.marked) o) at)
   where
     go : (o : Option ℕ) → slice_get (cell_leaves structs (type_of_elem elem)) q ≡ o → option_map (mark_at structs (type_of_elem elem)) o ≡ Some leaf.marked → leaf.marked ≡ mark_at structs (type_of_elem elem) (leaf_under structs (type_of_elem elem) q)
     go None e h = cc
@@ -234,19 +219,11 @@ cells_are_marked structs elem q leaf sound is at = go (slice_get (cell_leaves st
         same : (a c : Bool) → Some a ≡ Some c → c ≡ a
         same a c k = cc
 
-plain_elem : (n : ℕ) (elem : Elem) → is_elem n (Some elem) ≡ true → is_plain_type n (type_of_elem elem) ≡ true
-plain_elem n (e.Int t) h = refl
-plain_elem n (e.Struct k) h = h
-
-elem_size : (structs : List StructInfo) (elem : Elem) → cells_by (sizes_of structs) (type_of_elem elem) ≡ elem_cells (sizes_of structs) elem
-elem_size structs (e.Int t) = refl
-elem_size structs (e.Struct n) = refl
-
 -- there are as many as its size
 pub cells_are_counted : (structs : List StructInfo) (elem : Elem) → structs_sound structs 0 structs ≡ true → is_elem (length structs) (Some elem) ≡ true → length (leaves_of structs elem) ≡ elem_cells (sizes_of structs) elem
 cells_are_counted structs elem sound is =
     sym (length-map (leaves_of structs elem) (λ (c : Leaf). c.marked)) ∙ ap length (elem_cells_marked structs elem sound is) ∙ length-map (cell_leaves structs (type_of_elem elem)) (mark_at structs (type_of_elem elem))
-    ∙ cells_have_leaves structs (type_of_elem elem) sound (plain_elem (length structs) elem is) ∙ elem_size structs elem
+    ∙ cells_have_leaves structs (type_of_elem elem) sound (elem_plain (length structs) elem is) ∙ elem_size structs elem
 
 -- ---- ranges
 
@@ -258,18 +235,6 @@ record Repetition {A : Type 0} (xs : List A) (count r : ℕ) (x : A) : Type 0 wh
   pub within : place < length xs
   pub at : r ≡ turn * length xs + place
   pub is : slice_get xs place ≡ Some x
-
-in_first : {A : Type 0} (xs ys : List A) (r : ℕ) → r < length xs → slice_get (xs ++ ys) r ≡ slice_get xs r
-in_first [] ys r h = absurd (grind (arith, h))
-in_first (x ∷ xs) ys zero h = refl
-in_first (x ∷ xs) ys (suc r) h = in_first xs ys r (omega (arith, h))
-
-in_rest : {A : Type 0} (xs ys : List A) (r : ℕ) → slice_get (xs ++ ys) (length xs + r) ≡ slice_get ys r
-in_rest [] ys r = ap (λ z. slice_get ys z) (let k : 0 + r ≡ r = omega arith in k)
-in_rest (x ∷ xs) ys r = ap (λ z. slice_get (x ∷ (xs ++ ys)) z) (next (length xs) r) ∙ in_rest xs ys r
-  where
-    next : (a r : ℕ) → suc a + r ≡ suc (a + r)
-    next a r = omega arith
 
 -- a number is less than this one, or behind it
 data Side (n r : ℕ) : Type 0 where
@@ -296,9 +261,9 @@ repetition {A} xs (suc count) r x h = go (side_of (length xs) r) (λ k e. repeti
     next r l j q k h e = grind (arith, h, e)
 
     go : Side (length xs) r → ((k : ℕ) → slice_get (repeated count xs) k ≡ Some x → Repetition xs count k x) → Repetition xs (suc count) r x
-    go (less low) later = record { turn = 0; place = r; below = omega arith; within = low; at = first r (length xs); is = sym (in_first xs (repeated count xs) r low) ∙ h }
+    go (less low) later = record { turn = 0; place = r; below = omega arith; within = low; at = first r (length xs); is = sym (get_before xs (repeated count xs) r low) ∙ h }
     go (behind k e) later =
-        let rest = later k (sym (in_rest xs (repeated count xs) k) ∙ ap (λ z. slice_get (xs ++ repeated count xs) z) (sym e) ∙ h) in
+        let rest = later k (sym (get_after xs (repeated count xs) k) ∙ ap (λ z. slice_get (xs ++ repeated count xs) z) (sym e) ∙ h) in
         let low = rest.below in
         record { turn = suc rest.turn; place = rest.place; below = omega (arith, low); within = rest.within; at = next r (length xs) rest.turn rest.place k e rest.at; is = rest.is }
 

@@ -3,12 +3,13 @@ use Rattle.std.proofs.Common.{◌≡◌, ◌∙◌, ℕ, zero, suc, ◌+◌, ref
 use Rattle.std.specs.Prelude.{IsTrue, bytes_eq, ◌&&◌, codes, is_some, nat_eq, nat_le, option_map, unwrap_or}
 use Rattle.std.specs.List.{find}
 use Rattle.std.specs.Map.{lookup}
+use Rattle.pt_base.proofs.Booleans.{both_hold_first, false_not_true}
 use Rattle.pt_tree.specs.declared.host_model.HostModel.{HostModel}
 use Rattle.pt_tree.specs.declared.signature.Signature.{Signature}
 use Rattle.typed_tree.specs.TypedTree.{TypedTree, signatures_of}
 use Rattle.typed_tree.specs.WellFormed.{is_well_formed, is_int_result}
 use Rattle.typed_tree.specs.WellFormedExpression.{is_main}
-use Rattle.typed_tree.proofs.WellFormedLemmas.{and_left, Facts, facts_of}
+use Rattle.typed_tree.proofs.WellFormedLemmas.{Facts, facts_of}
 use Rattle.block_memory.specs.declared.cell.Cell.{Cell}
 use Rattle.wire.specs.declared.message.Message.{Message}
 use Rattle.wire.specs.declared.message.ReplyBody.{ReplyBody}
@@ -18,11 +19,10 @@ use Rattle.pt_core.specs.Calls.{signature_in}
 use Rattle.pt_core.specs.CoreRun.{main_in}
 use Rattle.pt_core.specs.Steps.{Machine, away, Answer, moved, asked, ended, trapped, spent, idle, at_rest, step, with_blocks}
 use Rattle.lowering.specs.Functions.{signatures_from}
-use Rattle.lowered_code_law.proofs.FormsSameTypes.{never}
+use Rattle.lowered_code_law.proofs.FormsPrograms.{signature_of_function}
 use Rattle.marshalling.specs.Replies.{result_places}
 use Rattle.marshalling.specs.Taking.{after_reply, known_reply, taken_result}
 use Rattle.split_law.proofs.Chosen.{chosen_lookup}
-use Rattle.split_law.proofs.LoweredCode.{signature_of_function}
 use Rattle.handle_classes.specs.Classes.{World}
 use Rattle.handle_classes.specs.Invariant.{Fine}
 use Rattle.handle_classes.specs.Computes.{computes_next}
@@ -212,8 +212,8 @@ main_gives_none t a known = go (find named_main (slave_half t a).signatures) ref
     go : (o : Option (ℕ × Signature)) → find named_main (slave_half t a).signatures ≡ o → (slave_world (marks_of t a) t).result (unwrap_or (option_map (λ s. s.0) o) 0) ≡ false
     go None is =
         let s = start_of t known.facts in
-        let main = and_left (is_main s.function.signature) (is_some s.function.body && (is_int_result s.function.signature.result && nat_eq (length s.function.signature.params) 0)) s.start in
-        never (sym (none_looked_up s.number (slave_half t a).signatures s.function.signature is
+        let main = both_hold_first (is_main s.function.signature) (is_some s.function.body && (is_int_result s.function.signature.result && nat_eq (length s.function.signature.params) 0)) s.start in
+        false_not_true (sym (none_looked_up s.number (slave_half t a).signatures s.function.signature is
         (chosen_lookup (has_signature t a) s.number (signatures_from 0 (signatures_of t)) (λ _. has_main t a s.number s.function known.accepted s.is main) ∙ signature_of_function t s.number s.function s.is)) ∙ main)
     go (Some s) is =
         let c = found_in (λ (x : ℕ × Signature). IsCalled t a x.0 x.1) named_main (slave_half t a).signatures s (all_called t a) is in

@@ -5,6 +5,9 @@ use Rattle.std.specs.Option.{option_map_or}
 use Rattle.std.specs.List.{flat_map, list_all, list_any}
 use Rattle.std.proofs.lemmas.Bool.Decides.{nat_tests}
 use Rattle.pt_base.specs.declared.int_type.IntType.{IntType}
+use Rattle.pt_base.proofs.Booleans.{and_true_second, both_hold, both_hold_first, both_hold_second, false_not_true, if_false, if_true}
+use Rattle.pt_base.proofs.Lists.{append_nil_second}
+use Rattle.pt_base.proofs.Members.{all_true_at}
 use Rattle.pt_tree.specs.declared.signature.Elem.{Elem}
 use Rattle.pt_tree.specs.declared.signature.Elem.TheVariants as e
 use Rattle.pt_tree.specs.declared.signature.Param.{Param}
@@ -21,7 +24,7 @@ use Rattle.typed_tree.specs.WellFormed.{is_well_formed, is_integer_kind, is_inte
 use Rattle.typed_tree.specs.WellFormedExpression.{is_main, is_elem, param_type}
 use Rattle.typed_tree.specs.declared.variable.Var.{Var}
 use Rattle.typed_tree.specs.StatementTree.{BodyTree}
-use Rattle.typed_tree.proofs.WellFormedLemmas.{and_left, and_right, and_both, Facts}
+use Rattle.typed_tree.proofs.WellFormedLemmas.{Facts}
 use Rattle.host_models.specs.Mixed.{is_mixed}
 use Rattle.block_memory.specs.declared.cell.Cell.{Cell}
 use Rattle.block_memory.specs.declared.cell.Cell.TheVariants as cell
@@ -44,8 +47,6 @@ use Rattle.flow_rules.specs.Findings.{findings_of, found_if, function_findings, 
 use Rattle.pt_core.specs.Types.{pointee_type}
 use Rattle.pt_core.specs.Calls.{signature_in}
 use Rattle.pt_core.specs.Steps.{Active, Machine, away, with_blocks}
-use Rattle.lowered_code_law.proofs.FormsSameTypes.{never}
-use Rattle.lowered_code_law.proofs.FormsPlaces.{all_at}
 use Rattle.marshalling.specs.declared.crossing.Crossing.{Crossing}
 use Rattle.marshalling.specs.declared.crossing.Crossing.TheVariants.{Stays, Plain, Sealed}
 use Rattle.marshalling.specs.declared.leaf.Leaf.{Leaf}
@@ -64,6 +65,7 @@ use Rattle.handle_classes_law.specs.ObjectsCells.{is_pointer, leaf_under}
 use Rattle.handle_classes_law.specs.SlavesLaws.{slave_half, marks_of, IsSlaveWorld}
 use Rattle.handle_classes_law.specs.SlavesMarked.{Marks, slave_world, entry_class, host_class, variable_class, param_class, param_in}
 use Rattle.handle_classes_law.proofs.SlavesClasses.{elem_size}
+use Rattle.handle_classes_law.proofs.SlavesKnown.{integer_param}
 use Rattle.pair_meaning.specs.SlaveRun.{is_handle, way_by}
 use Rattle.handle_flow_law.proofs.KeptCalled.{IsCalled, Mixes, has_signature, called_world, away_called, way_away, host_body, host_not_main}
 use Rattle.handle_flow_law.proofs.KeptMarks.{cells_are_marked, range_cell}
@@ -102,7 +104,7 @@ either Plain Stays way h = inl h
 either Stays c way h = inr h
 
 stays_moves : {X : Type 0} (way : Crossing) → Stays ≡ way → Moves way → X
-stays_moves way h m = never (subst Moves (sym h) m)
+stays_moves way h m = false_not_true (subst Moves (sym h) m)
 
 by_one : (structs : List StructInfo) (p : Param) (ps : List Param) (names : List BlockName) (v : Cell) (vs : List Cell) (k i : ℕ) (way : Crossing) → Moves way → crossing_by structs (is_secret p) p.kind (packed_argument names p v) k i ≡ way →
     Crosses structs (p ∷ ps) names (v ∷ vs) k i way
@@ -191,14 +193,6 @@ fit_at w active into (x ∷ xs) zero v fit is = subst (λ z. Fits w active (into
     one x y e = cc
 fit_at w active into (x ∷ xs) (suc n) v fit is = fit_at w active (λ k. into (suc k)) xs n v fit.1 is
 
-if_true : {A : Type 0} (c : Bool) (x y : A) → c ≡ true → (if c then x else y) ≡ x
-if_true true x y h = refl
-if_true false x y h = never h
-
-if_false : {A : Type 0} (c : Bool) (x y : A) → c ≡ false → (if c then x else y) ≡ y
-if_false false x y h = refl
-if_false true x y h = never (sym h)
-
 pub entry_at : (t : TypedTree) (m : Marks) (f n : ℕ) (x : FunctionTree) (q : Param) → slice_get t.functions f ≡ Some x → x.signature.privileged ≡ true → slice_get x.signature.params n ≡ Some q → param_class m t f n ≡ entry_class t f n q
 entry_at t m f n x q is free at =
     ap (λ o. option_map_or (λ y. param_in m t f y n) o (integer_class false)) is
@@ -208,25 +202,16 @@ entry_at t m f n x q is free at =
   where
     no_plain : (b p : Bool) → p ≡ true → (b && not p) ≡ false
     no_plain true true h = refl
-    no_plain true false h = never h
+    no_plain true false h = false_not_true h
     no_plain false p h = refl
 
--- a host takes integers
-integer_at : (ps : List Param) (n : ℕ) (q : Param) → list_all is_integer_param ps ≡ true → slice_get ps n ≡ Some q → is_integer_kind q.kind ≡ true
-integer_at [] n q h is = cc
-integer_at (p ∷ ps) zero q h is = subst (λ (z : Param). is_integer_kind z.kind ≡ true) (one p q is) (and_left (is_integer_kind p.kind) (list_all is_integer_param ps) h)
-  where
-    one : (p q : Param) → Some p ≡ Some q → p ≡ q
-    one p q e = cc
-integer_at (p ∷ ps) (suc n) q h is = integer_at ps n q (and_right (is_integer_kind p.kind) (list_all is_integer_param ps) h) is
-
 host_integers : (t : TypedTree) (f : ℕ) (x : FunctionTree) → Facts t → slice_get t.functions f ≡ Some x → x.signature.host ≡ true → list_all is_integer_param x.signature.params ≡ true
-host_integers t f x facts is host = go x.body refl (and_right (list_all (variable_sound t.structs) x.vars) (body_sound t x x.body)
-    (and_right (nat_le (length x.signature.params) 8 && params_lead x.signature.params x.vars) (list_all (variable_sound t.structs) x.vars && body_sound t x x.body) (all_at (function_sound t) t.functions f x facts.functions is)))
+host_integers t f x facts is host = go x.body refl (both_hold_second (list_all (variable_sound t.structs) x.vars) (body_sound t x x.body)
+    (both_hold_second (nat_le (length x.signature.params) 8 && params_lead x.signature.params x.vars) (list_all (variable_sound t.structs) x.vars && body_sound t x x.body) (all_true_at (function_sound t) t.functions f x facts.functions is)))
   where
     go : (o : Option BodyTree) → x.body ≡ o → body_sound t x o ≡ true → list_all is_integer_param x.signature.params ≡ true
-    go None e s = and_left (list_all is_integer_param x.signature.params) (nat_eq (length x.vars) (length x.signature.params)) (and_right x.signature.host (list_all is_integer_param x.signature.params && nat_eq (length x.vars) (length x.signature.params)) s)
-    go (Some b) e s = never (sym (host_body t f x facts is host) ∙ ap is_some e)
+    go None e s = both_hold_first (list_all is_integer_param x.signature.params) (nat_eq (length x.vars) (length x.signature.params)) (both_hold_second x.signature.host (list_all is_integer_param x.signature.params && nat_eq (length x.vars) (length x.signature.params)) s)
+    go (Some b) e s = false_not_true (sym (host_body t f x facts is host) ∙ ap is_some e)
 
 -- what goes away with a pointer is privileged
 pub pointer_free : (t : TypedTree) (a : Accepted) (f n : ℕ) (args : List Cell) (q : Param) (elem : Elem) (fixed : Bool) → Facts t → (c : IsCalled t a f (signature_in (slave_half t a) f)) → way_by (signature_in (slave_half t a) f) args ≡ away →
@@ -235,29 +220,29 @@ pointer_free t a f n args q elem fixed facts c way at points = go (way_away (sig
   where
     go : ((signature_in (slave_half t a) f).privileged ≡ true) ⊎ Mixes (signature_in (slave_half t a) f) args → c.function.signature.privileged ≡ true
     go (inl p) = ap (λ (s : Signature). s.privileged) c.same ∙ p
-    go (inr k) = never (sym (ap is_integer_kind points) ∙ integer_at c.function.signature.params n q (host_integers t f c.function facts c.is (ap (λ (s : Signature). s.host) c.same ∙ k.host)) at)
+    go (inr k) = false_not_true (sym (ap is_integer_kind points) ∙ integer_param c.function.signature.params n q (host_integers t f c.function facts c.is (ap (λ (s : Signature). s.host) c.same ∙ k.host)) at)
 
 -- a parameter's element is one of the program's
 param_elem : (ps : List Param) (xs : List Var) (structs : List StructInfo) (n : ℕ) (q : Param) (elem : Elem) (fixed : Bool) → params_lead ps xs ≡ true → list_all (variable_sound structs) xs ≡ true → slice_get ps n ≡ Some q → q.kind ≡ kind.Ptr elem fixed → is_elem (length structs) (Some elem) ≡ true
 param_elem [] xs structs n q elem fixed lead sound is points = cc
-param_elem (p ∷ ps) [] structs n q elem fixed lead sound is points = never lead
+param_elem (p ∷ ps) [] structs n q elem fixed lead sound is points = false_not_true lead
 param_elem (p ∷ ps) (x ∷ xs) structs zero q elem fixed lead sound is points =
-    let same : param_type p.kind ≡ x.ty = equal_types (param_type p.kind) x.ty (and_left (same_type (param_type p.kind) x.ty) (same_bool p.marked x.marked) (and_left (same_type (param_type p.kind) x.ty && same_bool p.marked x.marked) (params_lead ps xs) lead)) in
-    let known = and_left (is_variable_type (length structs) x.ty) (is_small structs x.ty && is_none x.holds) (and_left (variable_sound structs x) (list_all (variable_sound structs) xs) sound) in
+    let same : param_type p.kind ≡ x.ty = equal_types (param_type p.kind) x.ty (both_hold_first (same_type (param_type p.kind) x.ty) (same_bool p.marked x.marked) (both_hold_first (same_type (param_type p.kind) x.ty && same_bool p.marked x.marked) (params_lead ps xs) lead)) in
+    let known = both_hold_first (is_variable_type (length structs) x.ty) (is_small structs x.ty && is_none x.holds) (both_hold_first (variable_sound structs x) (list_all (variable_sound structs) xs) sound) in
     subst (λ z. is_variable_type (length structs) z ≡ true) (sym same ∙ ap (λ (z : Param). param_type z.kind) (one p q is) ∙ ap param_type points) known
   where
     one : (p q : Param) → Some p ≡ Some q → p ≡ q
     one p q e = cc
 param_elem (p ∷ ps) (x ∷ xs) structs (suc n) q elem fixed lead sound is points =
-    param_elem ps xs structs n q elem fixed (and_right (same_type (param_type p.kind) x.ty && same_bool p.marked x.marked) (params_lead ps xs) lead) (and_right (variable_sound structs x) (list_all (variable_sound structs) xs) sound) is points
+    param_elem ps xs structs n q elem fixed (both_hold_second (same_type (param_type p.kind) x.ty && same_bool p.marked x.marked) (params_lead ps xs) lead) (both_hold_second (variable_sound structs x) (list_all (variable_sound structs) xs) sound) is points
 
 pub known_elem : (t : TypedTree) (f n : ℕ) (x : FunctionTree) (q : Param) (elem : Elem) (fixed : Bool) → Facts t → slice_get t.functions f ≡ Some x → slice_get x.signature.params n ≡ Some q → q.kind ≡ kind.Ptr elem fixed → is_elem (length t.structs) (Some elem) ≡ true
 known_elem t f n x q elem fixed facts is at points =
-    let sound = all_at (function_sound t) t.functions f x facts.functions is in
-    let lead = and_right (nat_le (length x.signature.params) 8) (params_lead x.signature.params x.vars)
-    (and_left (nat_le (length x.signature.params) 8 && params_lead x.signature.params x.vars) (list_all (variable_sound t.structs) x.vars && body_sound t x x.body) sound) in
-    let vars = and_left (list_all (variable_sound t.structs) x.vars) (body_sound t x x.body)
-    (and_right (nat_le (length x.signature.params) 8 && params_lead x.signature.params x.vars) (list_all (variable_sound t.structs) x.vars && body_sound t x x.body) sound) in
+    let sound = all_true_at (function_sound t) t.functions f x facts.functions is in
+    let lead = both_hold_second (nat_le (length x.signature.params) 8) (params_lead x.signature.params x.vars)
+    (both_hold_first (nat_le (length x.signature.params) 8 && params_lead x.signature.params x.vars) (list_all (variable_sound t.structs) x.vars && body_sound t x x.body) sound) in
+    let vars = both_hold_first (list_all (variable_sound t.structs) x.vars) (body_sound t x x.body)
+    (both_hold_second (nat_le (length x.signature.params) 8 && params_lead x.signature.params x.vars) (list_all (variable_sound t.structs) x.vars && body_sound t x x.body) sound) in
     param_elem x.signature.params x.vars t.structs n q elem fixed lead vars at points
 
 -- the cells of a pointer's leaves
@@ -270,7 +255,7 @@ swap_or : (a c d : Bool) → a ≡ d → (a || c) ≡ true → (c || d) ≡ true
 swap_or true true d e h = refl
 swap_or true false d e h = sym e
 swap_or false true d e h = refl
-swap_or false false d e h = never h
+swap_or false false d e h = false_not_true h
 
 -- ---- writing
 
@@ -327,7 +312,7 @@ cell_fine t a m crossing k name i part writes fine = go (crossing k i) refl
   where
     number : crossing k i ≡ Plain → (sent : List WireCell) → FineAt t a m (taking.with_number name i sent part.next part.blocks).blocks
     number is [] = fine
-    number is (s ∷ sent) = writes i Plain is tt (cell.Int (taking.number_of s)) (λ h. never h) part.blocks fine
+    number is (s ∷ sent) = writes i Plain is tt (cell.Int (taking.number_of s)) (λ h. false_not_true h) part.blocks fine
 
     go : (way : Crossing) → crossing k i ≡ way → FineAt t a m (taken_cell way name i part).blocks
     go Stays is = fine
@@ -379,19 +364,15 @@ none_at {X} {Y} f (y ∷ ys) (suc n) x h is = none_at f ys n x (rest (f y) (flat
     rest [] bs h = h
     rest (z ∷ zs) bs h = cc
 
-none_right : {X : Type 0} (xs ys : List X) → xs ++ ys ≡ [] → ys ≡ []
-none_right [] ys h = h
-none_right (x ∷ xs) ys h = cc
-
 functions_faultless : (t : TypedTree) (a : Accepted) → IsAccepted t a → flat_map function_findings t.functions ≡ []
 unfolding findings_of
 functions_faultless t a accepted =
     let p = flows_of t a.sides a.marks in
-    none_right (global_findings p) (flat_map function_findings t.functions) (none_right (flat_map (slave_findings p) a.sides.slave ++ flat_map (monitor_findings p) a.sides.monitor) (global_findings p ++ flat_map function_findings t.functions) accepted.faultless)
+    append_nil_second (global_findings p) (flat_map function_findings t.functions) (append_nil_second (flat_map (slave_findings p) a.sides.slave ++ flat_map (monitor_findings p) a.sides.monitor) (global_findings p ++ flat_map function_findings t.functions) accepted.faultless)
 
 -- what is privileged isn't main
 free_not_main : (t : TypedTree) (a : Accepted) (f : ℕ) (x : FunctionTree) → IsAccepted t a → slice_get t.functions f ≡ Some x → x.signature.privileged ≡ true → is_main x.signature ≡ false
-free_not_main t a f x accepted is free = go (is_main x.signature) refl (none_right (unmarked_out x) (priv_main x) (none_at function_findings t.functions f x (functions_faultless t a accepted) is))
+free_not_main t a f x accepted is free = go (is_main x.signature) refl (append_nil_second (unmarked_out x) (priv_main x) (none_at function_findings t.functions f x (functions_faultless t a accepted) is))
   where
     go : (c : Bool) → is_main x.signature ≡ c → priv_main x ≡ [] → is_main x.signature ≡ false
     go false e h = e
@@ -399,11 +380,11 @@ free_not_main t a f x accepted is free = go (is_main x.signature) refl (none_rig
       where
         both : (c d : Bool) → c ≡ true → d ≡ true → (c && d) ≡ true
         both true d p q = q
-        both false d p q = never p
+        both false d p q = false_not_true p
 
         wrong : (c : Bool) → c ≡ true → found_if c PrivMain x.name ≡ [] → is_main x.signature ≡ false
         wrong true p q = cc
-        wrong false p q = never p
+        wrong false p q = false_not_true p
 
 -- one of the arguments is a handle
 record HasHandle (args : List Cell) : Type 0 where
@@ -412,14 +393,10 @@ record HasHandle (args : List Cell) : Type 0 where
   is : slice_get args n ≡ Some (cell.Sealed handle)
 
 handle_among : (args : List Cell) → list_any is_handle args ≡ true → HasHandle args
-handle_among [] h = never h
+handle_among [] h = false_not_true h
 handle_among (cell.Int v ∷ args) h = let r = handle_among args h in record { n = suc r.n; handle = r.handle; is = r.is }
 handle_among (cell.Ptr p ∷ args) h = let r = handle_among args h in record { n = suc r.n; handle = r.handle; is = r.is }
 handle_among (cell.Sealed k ∷ args) h = record { n = 0; handle = k; is = refl }
-
-and_second : (c d : Bool) → (c && d) ≡ true → d ≡ true
-and_second true d h = h
-and_second false d h = never h
 
 -- a result that comes back sealed may be a handle
 result_gives : (t : TypedTree) (a : Accepted) (m : Machine) (f : ℕ) (args : List Cell) → IsTrue (is_well_formed t) → Facts t → IsAccepted t a → IsSlaveWorld t (slave_half t a) (slave_world (marks_of t a) t) → Asked t a m f args →
@@ -430,12 +407,12 @@ result_gives t a m f args sound facts accepted world asked some open' = go (way_
     go (inl p) =
         let c = away_called t a f args asked.way in
         let free = ap (λ (s : Signature). s.privileged) c.same ∙ p in
-        world.comes f c.function c.is (free_not_main t a f c.function accepted c.is free) (and_both c.function.signature.privileged (not c.function.signature.declassify) free (ap not (ap (λ (s : Signature). s.declassify) c.same ∙ open')))
+        world.comes f c.function c.is (free_not_main t a f c.function accepted c.is free) (both_hold c.function.signature.privileged (not c.function.signature.declassify) free (ap not (ap (λ (s : Signature). s.declassify) c.same ∙ open')))
     go (inr k) =
         let c = away_called t a f args asked.way in
         let host = ap (λ (s : Signature). s.host) c.same ∙ k.host in
         let none = host_body t f c.function facts c.is host in
-        let h = handle_among args (and_second (is_mixed (signature_in (slave_half t a) f)) (list_any is_handle args) k.secret) in
+        let h = handle_among args (and_true_second (is_mixed (signature_in (slave_half t a) f)) (list_any is_handle args) k.secret) in
         let fits = fit_at (called_world (has_signature t a) (slave_world (marks_of t a) t)) m.active (λ n. if has_signature t a f then param_class (marks_of t a) t f n else integer_class false) args h.n (cell.Sealed h.handle) asked.fits h.is in
         world.mixed f h.n c.function c.is (host_not_main t f c.function sound facts c.is none) none (ap (λ (s : Signature). s.privileged) c.same ∙ k.free) (ap (λ (s : Signature). is_some s.result) c.same ∙ some)
         (subst (λ (b : Bool). (if b then param_class (marks_of t a) t f h.n else integer_class false).may 0 ≡ true) c.has fits.1)
@@ -457,7 +434,7 @@ result_may t a m f args next o sound facts accepted world asked =
   where
     number : (o : Option WireCell) → MayGive (called_world (has_signature t a) (slave_world (marks_of t a) t)) f (option_map (λ s. cell.Int (taking.number_of s)) o)
     number None = tt
-    number (Some s) = λ h. never h
+    number (Some s) = λ h. false_not_true h
 
     go : (r : Option IntType) → (signature_in (slave_half t a) f).result ≡ r → (d : Bool) → (signature_in (slave_half t a) f).declassify ≡ d →
         MayGive (called_world (has_signature t a) (slave_world (marks_of t a) t)) f (taken_result (result_by_sign d r) next o)

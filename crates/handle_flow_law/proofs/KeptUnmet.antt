@@ -1,19 +1,18 @@
 -- By which marks it is tested whether the next step computes with a handle makes a difference for requests alone.
-use Rattle.std.proofs.Common.{◌≡◌, ℕ, refl, sym, Bool, true, false, List, [], ◌∷◌, Result, Ok, Err}
-use Rattle.std.specs.Prelude.{◌||◌}
+use Rattle.std.proofs.Common.{◌≡◌, ℕ, refl, Bool, false, List, [], ◌∷◌, Result, Ok, Err}
+use Rattle.std.proofs.lemmas.Bool.{or_from}
+use Rattle.pt_base.proofs.Booleans.{or_false_second}
 use Rattle.block_memory.specs.declared.cell.Cell.{Cell}
 use Rattle.block_memory.specs.Blocks.{Blocks}
 use Rattle.pt_core.specs.CodeTree.{StmtTree, clear, check, assign, copy, call, choose, repeat, break_out, continue_on, give_back, no_stmts, stmt_and, ProgramTree}
 use Rattle.pt_core.specs.Values.{Stop, values_of}
 use Rattle.pt_core.specs.Calls.{context_in}
 use Rattle.pt_core.specs.Steps.{Work, run, head, Active, Machine, Gate, Way, enters, here, away, settled}
-use Rattle.lowered_code_law.proofs.FormsSameTypes.{never}
 use Rattle.handle_classes.specs.Classes.{World, scope_in}
 use Rattle.handle_classes.specs.Judgment.{IsFineStatement, IsFineProgram}
 use Rattle.handle_classes.specs.Invariant.{AllFit, MemoryFits, IsFineWork, ActiveFit, Fine}
 use Rattle.handle_classes.specs.Computes.{has_unmarked, computes_call, if_given, meet_any, computes, computes_work, computes_in, computes_next}
 use Rattle.handle_classes.specs.Laws.{FitsGate}
-use Rattle.handle_classes.proofs.Places.{or_false}
 use Rattle.handle_classes.proofs.Values.{Here}
 use Rattle.handle_classes.proofs.Arguments.{AllFitIf, ArgumentsFit, arguments}
 use Rattle.handle_classes.proofs.NextStep.{settled_fine, no_handle_is_computed_with}
@@ -21,10 +20,6 @@ use Rattle.handle_classes.proofs.NextStep.{settled_fine, no_handle_is_computed_w
 -- a request has no handle for what isn't marked, where its arguments are of their classes
 abbrev pub AsksMarked : {G : Type 0} → World → Gate G → (ℕ → ℕ → Bool) → Type 0
 AsksMarked {G} w gate marked = (g : G) (active : List Active) (f : ℕ) (vs : List Cell) → gate.way g f vs ≡ away → AllFit w active (w.param f) vs → has_unmarked (marked f) vs ≡ false
-
-or_rest : (c d : Bool) → (c || d) ≡ false → d ≡ false
-or_rest false d h = h
-or_rest true d h = never (sym h)
 
 call_marked : {G : Type 0} (w : World) (gate : Gate G) (marked : ℕ → ℕ → Bool) → AsksMarked w gate marked → (g : G) (active : List Active) (f : ℕ) (r : Result (List Cell) Stop) → AllFitIf w active (w.param f) r →
     if_given r (λ vs. computes_call (λ n. (w.param f n).may 0) vs (gate.way g f vs)) ≡ false → if_given r (λ vs. computes_call (marked f) vs (gate.way g f vs)) ≡ false
@@ -46,8 +41,8 @@ statement_marked program w gate marked asks g a rest blocks at (copy to from) fi
 statement_marked program w gate marked asks g a rest blocks at (call f args v span) fine h =
     let known : ArgumentsFit program w a rest blocks (w.param f) args = arguments program w a rest blocks at args (w.param f) fine.0 in
     let r = values_of (context_in program a.function) a.depth args blocks in
-    or_false (meet_any (context_in program a.function) a.depth args blocks) (if_given r (λ vs. computes_call (marked f) vs (gate.way g f vs))) known.unmet
-    (call_marked w gate marked asks g (a ∷ rest) f r known.fit (or_rest (meet_any (context_in program a.function) a.depth args blocks) (if_given r (λ vs. computes_call (λ n. (w.param f n).may 0) vs (gate.way g f vs))) h))
+    or_from (meet_any (context_in program a.function) a.depth args blocks) (if_given r (λ vs. computes_call (marked f) vs (gate.way g f vs))) known.unmet
+    (call_marked w gate marked asks g (a ∷ rest) f r known.fit (or_false_second (meet_any (context_in program a.function) a.depth args blocks) (if_given r (λ vs. computes_call (λ n. (w.param f n).may 0) vs (gate.way g f vs))) h))
 statement_marked program w gate marked asks g a rest blocks at (choose e first second) fine h = h
 statement_marked program w gate marked asks g a rest blocks at (repeat body span) fine h = refl
 statement_marked program w gate marked asks g a rest blocks at break_out fine h = refl

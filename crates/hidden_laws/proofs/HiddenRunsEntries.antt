@@ -4,10 +4,12 @@ use Rattle.std.specs.Prelude.{◌&&◌, ◌||◌, Contains, nat_eq, slice_get, u
 use Rattle.std.specs.List.{filter}
 use Rattle.std.specs.Map.{lookup}
 use Rattle.std.proofs.lemmas.List.Elements.{Contains-append_left, Contains-append_right}
+use Rattle.pt_base.proofs.Members.{contains_cases, contains_first, contains_later, contains_nothing}
+use Rattle.pt_base.proofs.Numbers.{plus_suc_moved, plus_zero}
 use Rattle.pt_tree.specs.declared.signature.Signature.{Signature}
 use Rattle.host_models.specs.Mixed.{is_mixed}
 use Rattle.typed_tree.specs.TypedTree.{TypedTree, signatures_of}
-use Rattle.reach.proofs.ListLemmas.{contains_cases, contains_first, contains_later, contains_map, contains_nothing, from_filter}
+use Rattle.reach.proofs.ListLemmas.{contains_map, from_filter}
 use Rattle.pt_core.specs.declared.monitor.Entry.{Entry}
 use Rattle.pt_core.specs.Calls.{no_signature, signature_in}
 use Rattle.pt_core.specs.WellFormed.{monitor_program}
@@ -27,9 +29,6 @@ asked_for called ss = filter (λ (s : Numbered). is_entry (called s.0) s.1) (sig
 
 -- ---- numbered signatures
 
-own : (k : ℕ) → k + 0 ≡ k
-own k = omega arith
-
 -- one stands at the place of its number
 placed : (k : ℕ) (ss : List Signature) (x : Numbered) → Contains (signatures_from k ss) x → (j : ℕ) × (x.0 ≡ k + j) × (slice_get ss j ≡ Some x.1)
 placed k [] x h = absurd (contains_nothing x h)
@@ -39,7 +38,7 @@ placed k (s ∷ ss) x h = go (λ i. placed (suc k) ss x i) (contains_cases (k, s
     later n j e = omega (arith, e)
 
     go : (Contains (signatures_from (suc k) ss) x → (j : ℕ) × (x.0 ≡ suc k + j) × (slice_get ss j ≡ Some x.1)) → ((k, s) ≡ x) ⊎ Contains (signatures_from (suc k) ss) x → (j : ℕ) × (x.0 ≡ k + j) × (slice_get (s ∷ ss) j ≡ Some x.1)
-    go rest (inl e) = (0, ap (λ (y : Numbered). y.0) (sym e) ∙ sym (own k), ap (λ (y : Numbered). Some y.1) e)
+    go rest (inl e) = (0, ap (λ (y : Numbered). y.0) (sym e) ∙ sym (plus_zero k), ap (λ (y : Numbered). Some y.1) e)
     go rest (inr i) = let r = rest i in (suc (r.0), later x.0 r.0 r.1, r.2)
 
 -- among those that are chosen a number finds its own
@@ -62,32 +61,29 @@ same_item s r e = cc
 no_item : {A : Type 0} (s : Signature) → None ≡ Some s → A
 no_item s e = cc
 
-next : (k i : ℕ) → k + suc i ≡ suc k + i
-next k i = omega arith
-
 -- where what is called is called with the same, the same may be asked for
 same_asked : (called : ℕ → Bool) (k : ℕ) (ss rs : List Signature) → ((i : ℕ) → called (k + i) ≡ true → slice_get ss i ≡ slice_get rs i) →
     filter (λ (s : Numbered). is_entry (called s.0) s.1) (signatures_from k ss) ≡ filter (λ (s : Numbered). is_entry (called s.0) s.1) (signatures_from k rs)
 same_asked called k [] [] h = refl
-same_asked called k [] (r ∷ rs) h = go (called k) refl (same_asked called (suc k) [] rs (λ i c. h (suc i) (ap called (next k i) ∙ c)))
+same_asked called k [] (r ∷ rs) h = go (called k) refl (same_asked called (suc k) [] rs (λ i c. h (suc i) (ap called (plus_suc_moved k i) ∙ c)))
   where
     go : (b : Bool) → called k ≡ b → [] ≡ filter (λ (s : Numbered). is_entry (called s.0) s.1) (signatures_from (suc k) rs) →
         [] ≡ cond (is_asked r && b) ((k, r) ∷ filter (λ (s : Numbered). is_entry (called s.0) s.1) (signatures_from (suc k) rs)) (filter (λ (s : Numbered). is_entry (called s.0) s.1) (signatures_from (suc k) rs))
-    go true e more = no_item r (h 0 (ap called (own k) ∙ e))
+    go true e more = no_item r (h 0 (ap called (plus_zero k) ∙ e))
     go false e more = more ∙ sym (none_asked (is_asked r) _ _)
-same_asked called k (s ∷ ss) [] h = go (called k) refl (same_asked called (suc k) ss [] (λ i c. h (suc i) (ap called (next k i) ∙ c)))
+same_asked called k (s ∷ ss) [] h = go (called k) refl (same_asked called (suc k) ss [] (λ i c. h (suc i) (ap called (plus_suc_moved k i) ∙ c)))
   where
     go : (b : Bool) → called k ≡ b → filter (λ (s : Numbered). is_entry (called s.0) s.1) (signatures_from (suc k) ss) ≡ [] →
         cond (is_asked s && b) ((k, s) ∷ filter (λ (s : Numbered). is_entry (called s.0) s.1) (signatures_from (suc k) ss)) (filter (λ (s : Numbered). is_entry (called s.0) s.1) (signatures_from (suc k) ss)) ≡ []
-    go true e more = no_item s (sym (h 0 (ap called (own k) ∙ e)))
+    go true e more = no_item s (sym (h 0 (ap called (plus_zero k) ∙ e)))
     go false e more = none_asked (is_asked s) _ _ ∙ more
-same_asked called k (s ∷ ss) (r ∷ rs) h = go (called k) refl (same_asked called (suc k) ss rs (λ i c. h (suc i) (ap called (next k i) ∙ c)))
+same_asked called k (s ∷ ss) (r ∷ rs) h = go (called k) refl (same_asked called (suc k) ss rs (λ i c. h (suc i) (ap called (plus_suc_moved k i) ∙ c)))
   where
     go : (b : Bool) → called k ≡ b → filter (λ (s : Numbered). is_entry (called s.0) s.1) (signatures_from (suc k) ss) ≡ filter (λ (s : Numbered). is_entry (called s.0) s.1) (signatures_from (suc k) rs) →
         cond (is_asked s && b) ((k, s) ∷ filter (λ (s : Numbered). is_entry (called s.0) s.1) (signatures_from (suc k) ss)) (filter (λ (s : Numbered). is_entry (called s.0) s.1) (signatures_from (suc k) ss))
         ≡ cond (is_asked r && b) ((k, r) ∷ filter (λ (s : Numbered). is_entry (called s.0) s.1) (signatures_from (suc k) rs)) (filter (λ (s : Numbered). is_entry (called s.0) s.1) (signatures_from (suc k) rs))
     go true e more =
-        let same : s ≡ r = same_item s r (h 0 (ap called (own k) ∙ e)) in
+        let same : s ≡ r = same_item s r (h 0 (ap called (plus_zero k) ∙ e)) in
         λ i. cond (is_asked (same i) && true) ((k, same i) ∷ more i) (more i)
     go false e more = none_asked (is_asked s) _ _ ∙ more ∙ sym (none_asked (is_asked r) _ _)
 

@@ -5,13 +5,14 @@ use Rattle.wire.specs.declared.message.Message.{Message}
 use Rattle.wire.specs.Frames.{BeginsBad, BeginsTooLong, Ending, IsStream, Stops, bad_frame_at, open_end, too_long_at}
 use Rattle.wire.specs.Spelling.{four_bytes, spelling}
 use Rattle.wire.proofs.StreamLaws.{streams_once}
+use Rattle.wire.proofs.RunLaws.{begins_more}
 use Rattle.pair_protocol.specs.SlaveRun.{listed}
 use Rattle.pair_meaning.specs.Monitors.{Monitor}
 use Rattle.pair_meaning.specs.Peer.{boot_frames}
 use Rattle.pair_meaning.specs.Streams.{still_open, Talk, serve_frames}
 use Rattle.pair_runner.specs.Sending.{boot_talk, given_in, sent_in}
 use Rattle.pair_runner.specs.Serves.{Serves, asks, before, breaks, ends, goes_on, hears_the_end, is_bad, is_too_long}
-use Rattle.pair_runner.proofs.Frames.{begins_more, breaks_first, ends_first, first_is, goes_first, talks_reply}
+use Rattle.pair_runner.proofs.Frames.{breaks_first, ends_first, first_is, goes_first, talks_reply}
 use Rattle.pair_runner.proofs.Moving.{given_reply, sent_append}
 use Rattle.pair_runner.proofs.Pieces.{boot_sent}
 use Rattle.hidden_laws.specs.HiddenRunsLaws.{RunsServeStreams}

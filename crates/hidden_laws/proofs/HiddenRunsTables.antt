@@ -2,6 +2,8 @@
 use Rattle.std.proofs.Common.{◌≡◌, ◌∙◌, ℕ, suc, ◌+◌, Bool, true, false, cond, List, [], ◌∷◌, map, Option, Some, refl, sym, ap, subst, arith}
 use Rattle.std.specs.Prelude.{◌&&◌, not, slice_get}
 use Rattle.std.specs.List.{filter}
+use Rattle.pt_base.proofs.Booleans.{and_parts, from_not_true}
+use Rattle.pt_base.proofs.Numbers.{as_zero_plus}
 use Rattle.pt_tree.specs.declared.host_model.HostModel.{HostModel}
 use Rattle.pt_tree.specs.declared.signature.Signature.{Signature}
 use Rattle.runs.specs.State.{Hosts}
@@ -28,14 +30,6 @@ use Rattle.hidden_laws.specs.HiddenRunsLaws.{AreSameOfPlain, BootsAndRulesTellAl
 
 -- ---- the slave's own hosts
 
-both : (p q : Bool) → (p && q) ≡ true → (p ≡ true) × (q ≡ true)
-both true q e = (refl, e)
-both false q e = absurd cc
-
-not_true : (p : Bool) → not p ≡ true → p ≡ false
-not_true true e = absurd cc
-not_true false e = refl
-
 abbrev Agree : (ℕ → Option HostModel) → (ℕ → Option HostModel) → ℕ → List Signature → Type 0
 Agree hosts others k ss = (i : ℕ) (s : Signature) → slice_get ss i ≡ Some s → s.host ≡ true → s.privileged ≡ false → hosts (k + i) ≡ others (k + i)
 
@@ -57,9 +51,9 @@ same_models hosts others called k (s ∷ ss) agree =
 
     here : is_slave_host (called k) s ≡ true → hosts k ≡ others k
     here e =
-        let parts = both (s.host && not s.privileged) (called k) e in
-        let two = both s.host (not s.privileged) parts.0 in
-        subst (λ n. hosts n ≡ others n) own (agree 0 s refl two.0 (not_true s.privileged two.1))
+        let parts = and_parts (s.host && not s.privileged) (called k) e in
+        let two = and_parts s.host (not s.privileged) parts.0 in
+        subst (λ n. hosts n ≡ others n) own (agree 0 s refl two.0 (from_not_true s.privileged two.1))
 
     go : (b : Bool) → is_slave_host (called k) s ≡ b → models_for (models_of hosts) (map (λ s. s.0) rest) ≡ models_for (models_of others) (map (λ s. s.0) rest) →
         models_for (models_of hosts) (map (λ s. s.0) (cond b ((k, s) ∷ rest) rest)) ≡ models_for (models_of others) (map (λ s. s.0) (cond b ((k, s) ∷ rest) rest))
@@ -91,9 +85,6 @@ same_rules t u text other rules rules' trees texts is is' =
 
 -- ---- what both begin with
 
-from_none : (i : ℕ) → i ≡ 0 + i
-from_none i = omega arith
-
 boots_same : (half half' : SlaveTree) (hosts others : Hosts) (input other : List ℕ) (turns : ℕ) → half ≡ half' → input ≡ other → models_for hosts half.hosts ≡ models_for others half.hosts →
     boot_of half hosts input turns ≡ boot_of half' others other turns
 boots_same half half' hosts others input other turns halves inputs models =
@@ -115,7 +106,7 @@ module _ (t t' : Texts) (turns : ℕ) (b b' : BootTree) (m m' : Monitor) (one : 
       one.started.boot_is
       ∙ boots_same half (slave_half other.started.tree other.started.accepted) (models_of one.started.hosts.models) (models_of other.started.hosts.models) t.input t'.input turns slaves inputs
       (same_models one.started.hosts.models other.started.hosts.models (is_among (asked (halves_of one.started.accepted.sides) (functions_from one.started.tree 0 one.started.tree.functions))) 0 (signatures_of one.started.tree)
-      (λ i s e host open_to. subst (λ n. one.started.hosts.models n ≡ other.started.hosts.models n) (from_none i) (plain i s e host open_to)))
+      (λ i s e host open_to. subst (λ n. one.started.hosts.models n ≡ other.started.hosts.models n) (as_zero_plus i) (plain i s e host open_to)))
       ∙ sym other.started.boot_is
 
   rules : t.policy ≡ t'.policy → one.started.rules ≡ other.started.rules

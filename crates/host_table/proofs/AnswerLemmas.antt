@@ -2,8 +2,9 @@
 use Rattle.std.proofs.Common.{◌≡◌, ◌∙◌, ◌++◌, ℕ, ℤ, Bool, true, false, List, Option, Some, None, Result, Ok, Err, IsSome, nat_eq, if◌then◌else◌, option_map, refl, sym, ap, subst}
 use Rattle.std.specs.Prelude.{pos, IfOk, IfSome, IsOk, IsSomeAnd, OnOk}
 use Rattle.std.specs.declared.alloc.AllocError.{AllocError}
-use Rattle.std.proofs.lemmas.Bool.{eqb-true, eq-eqb}
+use Rattle.std.proofs.lemmas.Bool.{eqb-true}
 use Rattle.std.proofs.lemmas.List.{append-nil}
+use Rattle.pt_base.proofs.Numbers.{nat_eq_turned}
 use Rattle.pt_tree.specs.declared.host_model.HostModel.{HostModel}
 use Rattle.pt_tree.specs.HostStep.{Answer, host_step}
 use Rattle.runs.specs.State.{put_host}
@@ -12,21 +13,13 @@ use Rattle.host_table.specs.RunHosts.{answer_in, AreAfter, model_or_none, models
 
 -- ---- one model changes
 
-sides : (a b : Bool) → (a ≡ true → b ≡ true) → (b ≡ true → a ≡ true) → a ≡ b
-sides true b h k = sym (h refl)
-sides false true h k = k refl
-sides false false h k = refl
-
-nat_sides : (a b : ℕ) → nat_eq a b ≡ nat_eq b a
-nat_sides a b = sides (nat_eq a b) (nat_eq b a) (λ h. eq-eqb b a (sym (eqb-true a b h))) (λ h. eq-eqb a b (sym (eqb-true b a h)))
-
 choose : (b c : Bool) (next : HostModel) (o : Option HostModel) → b ≡ c → model_or_none (if b then Some next else o) ≡ (if c then next else model_or_none o)
 choose true c next o e = ap (λ x. if x then next else model_or_none o) e
 choose false c next o e = ap (λ x. if x then next else model_or_none o) e
 
 -- the next model stands for the host
 put_is : (h : Hosts) (f : ℕ) (next : HostModel) → models_of (with_model h f next).models ≡ put_host (models_of h.models) f next
-put_is h f next = λ i g. choose (nat_eq f g) (nat_eq g f) next (h.models g) (nat_sides f g) i
+put_is h f next = λ i g. choose (nat_eq f g) (nat_eq g f) next (h.models g) (nat_eq_turned f g) i
 
 -- no model for a number: what stands for it stays
 kept : (b : Bool) (g f : ℕ) (models : ℕ → Option HostModel) → nat_eq g f ≡ b → (b ≡ true → g ≡ f) → models f ≡ None → model_or_none (models g) ≡ (if b then no_model else model_or_none (models g))

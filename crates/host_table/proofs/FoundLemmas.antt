@@ -6,6 +6,7 @@ use Rattle.std.specs.List.{IsDistinct, AllByRecursion}
 use Rattle.std.specs.Map.{keys_of}
 use Rattle.std.specs.Option.{option_to_list, option_and_then}
 use Rattle.std.specs.Prelude.{Result}
+use Rattle.pt_base.proofs.Numbers.{nat_eq_above, nat_eq_below as apart}
 use Rattle.pt_tree.specs.declared.host_model.HostModel.{HostModel}
 use Rattle.pt_tree.specs.declared.signature.Signature.{Signature}
 use Rattle.serde_json.specs.Data.{Data}
@@ -33,12 +34,6 @@ own_first : (n : ℕ) (o : Option HostModel) (rest : Models) → models_by rest 
 own_first n None rest none = none
 own_first n (Some model) rest none = ap (λ b. cond b (Some model) (models_by rest n)) (nat_eq_equiv.refl n)
 
-apart : (m n : ℕ) → m < n → nat_eq m n ≡ false
-apart m n lt = grind (arith, nat_tests)
-
-apart_above : (m n : ℕ) → n < m → nat_eq m n ≡ false
-apart_above m n lt = grind (arith, nat_tests)
-
 -- no number before the first has a model
 models_below : (table : Data) (n q : ℕ) (fns : List Signature) → q < n → models_by (models_from table n fns) q ≡ None
 models_below table n q [] lt = refl
@@ -54,7 +49,7 @@ models_at table n zero q (s ∷ fns) at =
     ap (models_by (models_from table n (s ∷ fns))) same
     ∙ own_first n (host_model table s) (models_from table (suc n) fns) (models_below table (suc n) n fns (omega arith))
 models_at table n (suc k) q (s ∷ fns) at =
-    other_first n q (host_model table s) (models_from table (suc n) fns) (apart_above q n (omega arith)) ∙ models_at table (suc n) k q fns (omega arith)
+    other_first n q (host_model table s) (models_from table (suc n) fns) (nat_eq_above q n (omega arith)) ∙ models_at table (suc n) k q fns (omega arith)
 
 pub models_of_table : (table : Data) (fns : List Signature) (f : ℕ) → models_by (models_from table 0 fns) f ≡ option_and_then (host_model table) (slice_get fns f)
 models_of_table table fns f = models_at table 0 f f fns (omega arith)

@@ -1,6 +1,5 @@
 -- Models by the numbers of their functions.
-use Rattle.std.proofs.Common.{◌≡◌, ◌<◌, ◌≤◌, ℕ, zero, suc, List, [], ◌∷◌, length, get_or, set, slice_get, cond, if◌then◌else◌, ◌||◌, Bool, true, false, true≢false, Option, Some, None, refl, sym, ap, subst, ◌∙◌, arith, nat_eq, nat_cmp, Ordering, Less, Equal, Greater}
-use Rattle.std.proofs.lemmas.Bool.Decides.{nat_tests}
+use Rattle.std.proofs.Common.{◌≡◌, ◌<◌, ◌≤◌, ℕ, zero, suc, List, [], ◌∷◌, length, get_or, set, slice_get, cond, if◌then◌else◌, ◌||◌, Bool, true, false, true≢false, Option, Some, None, refl, sym, ap, subst, ◌∙◌, arith, nat_eq, nat_cmp, Less, Equal, Greater}
 use Rattle.std.proofs.lemmas.Cmp.{nat_cmp_total, nat_eq_equiv, ranked}
 use Rattle.std.proofs.lemmas.List.{get_or-map, length-map}
 use Rattle.std.proofs.lemmas.List.Sorted.{IsNonDecreasingBy-from_default, IsPermutation-map, Contains-permutation, IsPermutation-sym}
@@ -11,8 +10,8 @@ use Rattle.std.proofs.lemmas.Option.{slice_get-get_or, get_or_from_slice_get, no
 use Rattle.std.specs.List.{IsDistinct, AllByRecursion, HoldsAt, filter}
 use Rattle.std.specs.List.Sorted.{IsPermutation, IsNonDecreasing, IsNonDecreasingBy, IsStrictlySortedBy, IsPartitionPoint}
 use Rattle.std.specs.Map.{keys_of, lookup}
-use Rattle.std.specs.Ordering.{ordering_index, ordering_reverse}
-use Rattle.std.specs.BTreeMap.{is_at}
+use Rattle.std.specs.Ordering.{ordering_index}
+use Rattle.pt_base.proofs.Orders.{cmp_index_rises, cmp_turned, nat_eq_is_cmp}
 use Rattle.pt_tree.specs.declared.host_model.HostModel.{HostModel}
 use Rattle.pt_tree.specs.declared.host_model.HostModel.TheVariants.{Bytes}
 use Rattle.host_table.specs.Hosts.{Hosts, models_by, IsPlaceOf}
@@ -69,11 +68,8 @@ models_by-permutation xs ys moved differ f = by_xs (models_by xs f) refl
 
 -- ---- a search among numbers in order
 
-pub tests : (f k : ℕ) → nat_eq f k ≡ is_at (nat_cmp f) k
-tests f k = grind (arith, nat_tests)
-
 pub distinct_from_sorted : (models : Models) → IsStrictlySortedBy nat_cmp (keys_of models) → IsDistinct nat_eq (keys_of models)
-distinct_from_sorted models sorted = subst (λ (eq : ℕ → ℕ → Bool). IsDistinct eq (keys_of models)) (λ i f k. sym (tests f k) i) (IsDistinct-from_sorted nat_cmp (keys_of models) sorted)
+distinct_from_sorted models sorted = subst (λ (eq : ℕ → ℕ → Bool). IsDistinct eq (keys_of models)) (λ i f k. sym (nat_eq_is_cmp f k) i) (IsDistinct-from_sorted nat_cmp (keys_of models) sorted)
 
 numbers_rise : (models : Models) → IsStrictlySortedBy nat_cmp (keys_of models) → (i j : ℕ) → i ≤ j → j < length models → (get_or models i any_model).0 ≤ (get_or models j any_model).0
 numbers_rise models sorted i j le within =
@@ -84,14 +80,11 @@ numbers_rise models sorted i j le within =
     let same : i ≡ j → (get_or models i any_model).0 ≡ (get_or models j any_model).0 = λ e. ap (λ n. (get_or models n any_model).0) e in
     grind arith
 
-index_rises : (x y f : ℕ) → x ≤ y → ordering_index (nat_cmp x f) ≤ ordering_index (nat_cmp y f)
-index_rises x y f le = grind (arith, nat_tests)
-
 -- the comparisons with a number rise along the models, as a binary search asks
 rises_to : (models : Models) (f : ℕ) → IsStrictlySortedBy nat_cmp (keys_of models) → IsNonDecreasingBy (λ (m : ℕ × HostModel). ordering_index (nat_cmp m.0 f)) models
 rises_to models f sorted =
     IsNonDecreasingBy-from_default (λ (m : ℕ × HostModel). ordering_index (nat_cmp m.0 f)) models any_model
-    (λ i j le within. index_rises (get_or models i any_model).0 (get_or models j any_model).0 f (numbers_rise models sorted i j le within))
+    (λ i j le within. cmp_index_rises (get_or models i any_model).0 (get_or models j any_model).0 f (numbers_rise models sorted i j le within))
 
 -- the search ends at the number
 pub found_place : (models : Models) (f i : ℕ) → i < length models → HoldsAt (λ (m : ℕ × HostModel). nat_cmp m.0 f ≡ Equal) models i → IsPlaceOf models f i
@@ -100,19 +93,16 @@ found_place models f i within equal = record {
   stands = slice_get-get_or models i any_model within ∙ ap (λ n. Some (n, (get_or models i any_model).1)) (ranked (get_or models i any_model).0 f Equal (sym (equal any_model)));
 }
 
-turned : (x f : ℕ) (o : Ordering) → nat_cmp x f ≡ o → nat_cmp f x ≡ ordering_reverse o
-turned x f o is = nat_cmp_total.antisymm f x ∙ ap ordering_reverse is
-
 -- or at the gap for it
 pub no_place : (models : Models) (f i : ℕ) → IsStrictlySortedBy nat_cmp (keys_of models)
     → (IsNonDecreasingBy (λ (m : ℕ × HostModel). ordering_index (nat_cmp m.0 f)) models → IsPartitionPoint (λ (m : ℕ × HostModel). nat_cmp m.0 f ≡ Less) (λ (m : ℕ × HostModel). nat_cmp m.0 f ≡ Greater) models i)
     → i ≤ length models → lookup (nat_eq f) models ≡ None
 no_place models f i sorted parted within =
     let halves = parted (rises_to models f sorted) in
-    ap (λ test. lookup test models) (λ j k. tests f k j)
+    ap (λ test. lookup test models) (λ j k. nat_eq_is_cmp f k j)
     ∙ lookup_at_gap nat_cmp_total f models i sorted
-    (λ j e lt stands. turned e.0 f Less (ap (λ (m : ℕ × HostModel). nat_cmp m.0 f) (sym (get_or_from_slice_get models j e any_model stands)) ∙ halves.0 j any_model (omega arith) lt))
-    (λ e stands. turned e.0 f Greater (ap (λ (m : ℕ × HostModel). nat_cmp m.0 f) (sym (get_or_from_slice_get models i e any_model stands)) ∙ halves.1 i any_model (omega arith) (slice_get_within models i e stands)))
+    (λ j e lt stands. cmp_turned e.0 f Less (ap (λ (m : ℕ × HostModel). nat_cmp m.0 f) (sym (get_or_from_slice_get models j e any_model stands)) ∙ halves.0 j any_model (omega arith) lt))
+    (λ e stands. cmp_turned e.0 f Greater (ap (λ (m : ℕ × HostModel). nat_cmp m.0 f) (sym (get_or_from_slice_get models i e any_model stands)) ∙ halves.1 i any_model (omega arith) (slice_get_within models i e stands)))
 
 -- what stands at a host's place is its model
 pub place_model : (models : Models) (f i : ℕ) → IsStrictlySortedBy nat_cmp (keys_of models) → (place : IsPlaceOf models f i) → lookup (nat_eq f) models ≡ Some place.model

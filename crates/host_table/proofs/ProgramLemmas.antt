@@ -3,11 +3,11 @@ use Rattle.std.proofs.Common.{◌≡◌, ℕ, zero, suc, List, [], ◌∷◌, ma
 use Rattle.std.proofs.lemmas.Option.{none-some, same_Some}
 use Rattle.std.specs.List.{list_all}
 use Rattle.pt_base.specs.Names.{is_short}
+use Rattle.pt_base.proofs.Booleans.{both_hold_first, both_hold_second}
 use Rattle.pt_tree.specs.declared.signature.Signature.{Signature}
 use Rattle.typed_tree.specs.TypedTree.{FunctionTree, view_function}
 use Rattle.typed_tree.specs.WellFormed.{name_of}
 use Rattle.typed_tree.specs.declared.function.TypedFn.{TypedFn}
-use Rattle.typed_tree.proofs.WellFormedLemmas.{and_left, and_right}
 
 pub same_signatures : (fns : List TypedFn) → map (λ f. f.signature) (map view_function fns) ≡ map (λ f. f.signature) fns
 same_signatures [] = refl
@@ -17,5 +17,5 @@ same_signatures (f ∷ fns) = ap (λ rest. f.signature ∷ rest) (same_signature
 pub short_at : (fns : List FunctionTree) (k : ℕ) (s : Signature) → IsTrue (list_all is_short (map name_of fns)) → slice_get (map (λ f. f.signature) fns) k ≡ Some s → is_short s.name ≡ true
 short_at [] zero s short at = absurd (none-some s at)
 short_at [] (suc k) s short at = absurd (none-some s at)
-short_at (f ∷ fns) zero s short at = subst (λ (x : Signature). is_short x.name ≡ true) (same_Some f.signature s at) (and_left (is_short (name_of f)) (list_all is_short (map name_of fns)) short)
-short_at (f ∷ fns) (suc k) s short at = short_at fns k s (and_right (is_short (name_of f)) (list_all is_short (map name_of fns)) short) at
+short_at (f ∷ fns) zero s short at = subst (λ (x : Signature). is_short x.name ≡ true) (same_Some f.signature s at) (both_hold_first (is_short (name_of f)) (list_all is_short (map name_of fns)) short)
+short_at (f ∷ fns) (suc k) s short at = short_at fns k s (both_hold_second (is_short (name_of f)) (list_all is_short (map name_of fns)) short) at

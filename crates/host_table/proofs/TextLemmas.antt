@@ -6,6 +6,7 @@ use Rattle.std.proofs.lemmas.Str.{IsUtf8-string_bytes, IsUtf8-from_is_utf8, is_u
 use Rattle.std.specs.Cmp.Lexicographic.{slice_cmp}
 use Rattle.std.specs.Ordering.{match_ordering}
 use Rattle.std.specs.Str.{IsUtf8, is_utf8}
+use Rattle.std.proofs.lemmas.Bool.{false_from_ne_true}
 use Rattle.serde_json.specs.Data.{Data}
 use Rattle.serde_json.specs.Find.{get, get_member}
 use Rattle.serde_json.specs.Read.{read}
@@ -28,15 +29,11 @@ other_key Less a b e = refl
 other_key Equal a b e = absurd (true≢false e)
 other_key Greater a b e = refl
 
-is_false : (b : Bool) → (b ≡ true → ⊥) → b ≡ false
-is_false true other = absurd (other refl)
-is_false false other = refl
-
 get_member-no_text : (name : List ℕ) (ms : List (String Global × Data)) → (IsUtf8 name → ⊥) → None ≡ get_member name (members_of ms)
 get_member-no_text name [] other = refl
 get_member-no_text name (m ∷ ms) other =
     get_member-no_text name ms other ∙ sym (other_key (slice_cmp nat_cmp name (string_bytes m.0)) _ _
-    (is_eq-slice_cmp name (string_bytes m.0) ∙ is_false _ (λ e. no_text name m.0 other ((bytes_eq-Decides name (string_bytes m.0)).0 e))))
+    (is_eq-slice_cmp name (string_bytes m.0) ∙ false_from_ne_true _ (λ e. no_text name m.0 other ((bytes_eq-Decides name (string_bytes m.0)).0 e))))
 
 -- by one level of a value
 get-no_text_step : (name : List ℕ) (x : Value-F Data) → (IsUtf8 name → ⊥) → None ≡ get name (view_step x)

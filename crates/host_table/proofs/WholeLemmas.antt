@@ -4,6 +4,7 @@ use Rattle.std.proofs.lemmas.Option.{none-some, same_Some}
 use Rattle.std.specs.Option.{option_and_then, option_to_list}
 use Rattle.pt_base.specs.Names.{is_short}
 use Rattle.pt_base.specs.declared.ids.FnId.{FnId}
+use Rattle.pt_base.proofs.Lists.{cons_not_nil}
 use Rattle.pt_tree.specs.declared.host_model.HostModel.{HostModel}
 use Rattle.pt_tree.specs.declared.host_model.HostModel.TheVariants.{Table, Feed, Input, Bytes, Line}
 use Rattle.pt_tree.specs.declared.row.Row.{Row}
@@ -57,12 +58,9 @@ short_entry name (Some d) m short is = short_model name d (kind_in d) m short (s
 
 -- ---- no fault at any host
 
-filled : {X : Type 0} (x : X) (xs : List X) → x ∷ xs ≡ [] → ⊥
-filled x xs e = cc
-
 no_items : {X : Type 0} (o : Option X) (xs : List X) → option_to_list o ++ xs ≡ [] → (o ≡ None) × (xs ≡ [])
 no_items None xs none = (refl, none)
-no_items (Some x) xs none = absurd (filled x xs none)
+no_items (Some x) xs none = absurd (cons_not_nil x xs none)
 
 -- a function without a fault, whatever stands before it
 pub record HasNone (table : Data) (s : Signature) : Type 0 where
@@ -78,7 +76,7 @@ none_at table before (t ∷ fns) zero s none at =
 none_at table before (t ∷ fns) (suc k) s none at =
     none_at table (before ++ t ∷ []) fns k s (no_items (fault_after table before t) (faults_after table (before ++ t ∷ []) fns) none).1 at
 
-both : (a b : Bool) → a ≡ true → b ≡ true → a && b ≡ true
+pub both : (a b : Bool) → a ≡ true → b ≡ true → a && b ≡ true
 both true true p q = refl
 both true false p q = absurd (true≢false (sym q))
 both false b p q = absurd (true≢false (sym p))
@@ -134,7 +132,7 @@ table_has table fns short none = record {
 
 by_object : (b : Bool) (table : Data) (fns : List Signature) → HaveShortNames fns → (if b then faults_after table [] fns else Shape None ∷ []) ≡ [] → HasHosts (table_hosts table fns) fns
 by_object true table fns short none = table_has table fns short none
-by_object false table fns short none = absurd (filled (Shape None) [] none)
+by_object false table fns short none = absurd (cons_not_nil (Shape None) [] none)
 
 by_reading : (o : Option Data) (fns : List Signature) (hosts : Hosts) → HaveShortNames fns → faults_by o fns ≡ [] → option_map (λ table. table_hosts table fns) o ≡ Some hosts → HasHosts hosts fns
 by_reading None fns hosts short none is = absurd (none-some hosts is)
@@ -142,7 +140,7 @@ by_reading (Some table) fns hosts short none is =
     subst (λ (h : Hosts). HasHosts h fns) (same_Some (table_hosts table fns) hosts is) (by_object (is_some (as_object table)) table fns short none)
 
 by_length : (b : Bool) (faults : List HostFault) → (if b then TooLong ∷ [] else faults) ≡ [] → faults ≡ []
-by_length true faults none = absurd (filled TooLong [] none)
+by_length true faults none = absurd (cons_not_nil TooLong [] none)
 by_length false faults none = none
 
 -- a reading has a model for each host, and it fits

@@ -3,6 +3,7 @@ use Rattle.std.proofs.Common.{◌≡◌, ◌∙◌, ◌<◌, ℕ, zero, suc, ◌
 use Rattle.std.specs.Prelude.{IsTrue, slice_get, slice_index_or, nat_lt}
 use Rattle.std.proofs.lemmas.Bool.Decides.{nat_tests}
 use Rattle.pt_base.specs.declared.int_type.IntType.{IntType}
+use Rattle.pt_base.proofs.Booleans.{both_hold_first, both_hold_second, false_not_true}
 use Rattle.pt_tree.specs.declared.signature.Elem.{Elem}
 use Rattle.pt_tree.specs.declared.signature.Param.{Param}
 use Rattle.typed_tree.specs.declared.types.VarTy.{VarTy}
@@ -11,10 +12,9 @@ use Rattle.typed_tree.specs.declared.types.StructInfo.{StructInfo}
 use Rattle.typed_tree.specs.declared.variable.Var.{Var}
 use Rattle.typed_tree.specs.TypeTests.{same_type}
 use Rattle.typed_tree.specs.WellFormedExpression.{param_type}
-use Rattle.typed_tree.proofs.WellFormedLemmas.{and_left, and_right}
 use Rattle.block_memory.specs.declared.cell.Cell.{Cell}
 use Rattle.block_memory.specs.declared.cell.Cell.TheVariants as cell
-use Rattle.block_memory.specs.declared.cell.BlockName.TheVariants.{Local, Global, Received}
+use Rattle.block_memory.specs.declared.cell.BlockName.TheVariants.{Local, Global}
 use Rattle.block_memory.specs.declared.shape.BlockShape.{BlockShape}
 use Rattle.block_memory.specs.Block.{no_block, fresh, with_cell}
 use Rattle.block_memory.specs.Blocks.{Blocks, put, with_frame, without_frames}
@@ -28,10 +28,10 @@ use Rattle.pt_core.specs.WellFormedStatement.{result_fits}
 use Rattle.core_soundness_law.specs.Fits.{variables_at}
 use Rattle.core_soundness_law.proofs.Entering.{Lead}
 use Rattle.core_soundness_law.proofs.Frames.{other_depth}
-use Rattle.core_soundness_law.proofs.Leaves.{never}
 use Rattle.typed_tree.proofs.SameTypes.{equal_types}
 use Rattle.core_soundness_law.proofs.Settings.{same_depth}
 use Rattle.core_soundness_law.proofs.Values.{known_variable}
+use Rattle.core_soundness_law.proofs.Shapes.{arguments_beside}
 use Rattle.lent_blocks_law.specs.Lent.{Writable, Owns, Stays, PointsToWritable, ValueIsLent, AreLent, PointersAreLent}
 use Rattle.lent_blocks_law.proofs.Stores.{stays_self, locals_change, put_lent, no_pointer_put, first_set, fresh_lent, LentChange}
 
@@ -86,10 +86,6 @@ arguments_global : (blocks : Blocks) (depth v : ℕ) (vs : List Cell) (g : ℕ) 
 arguments_global blocks depth v [] g = refl
 arguments_global blocks depth v (x ∷ vs) g = arguments_global (put blocks (Local depth v) (with_cell (blocks (Local depth v)) 0 x)) depth (v + 1) vs g
 
-arguments_received : (blocks : Blocks) (depth v : ℕ) (vs : List Cell) (n : ℕ) → with_arguments blocks depth v vs (Received n) ≡ blocks (Received n)
-arguments_received blocks depth v [] n = refl
-arguments_received blocks depth v (x ∷ vs) n = arguments_received (put blocks (Local depth v) (with_cell (blocks (Local depth v)) 0 x)) depth (v + 1) vs n
-
 -- above those that are active, with arguments that are lent
 pub entered_lent : (w : Writable) (program : ProgramTree) (a : Active) (active : List Active) (blocks : Blocks) (ps : List Param) (args : List Cell) → Owns w program → PointersAreLent w program active blocks →
     Lead (context_in program a.function).variables 0 ps → AreLent w program.structs ps args → LentChange w program (a ∷ active) blocks (entered program a.function a.depth args blocks)
@@ -97,7 +93,7 @@ entered_lent w program a active blocks ps args owns all lead lent =
     let shapes : List BlockShape = map (λ (x : Var). shape_of program.structs x.ty) (function_in program a.function).vars in
     let framed : Blocks = with_frame blocks a.depth shapes in
     record {
-      stays = locals_change w program blocks (with_arguments framed a.depth 0 args) owns (λ g. arguments_global framed a.depth 0 args g) (λ n. arguments_received framed a.depth 0 args n);
+      stays = locals_change w program blocks (with_arguments framed a.depth 0 args) owns (λ g. arguments_global framed a.depth 0 args g) (λ n. arguments_beside framed a.depth 0 args n);
       pointers = arguments_lent w program a active framed 0 ps args (framed_lent w program a active blocks shapes all) lead lent;
     }
 
@@ -105,10 +101,10 @@ entered_lent w program a active blocks ps args owns all lead lent =
 
 -- a variable that takes a result is no pointer
 no_result : (c : Context) (result : Option IntType) (x : ℕ) (elem : Elem) → IsTrue (result_fits c result (Some x)) → slice_get c.variables x ≡ Some (Pointer elem false) → ⊥
-no_result c None x elem h is = never (and_right (nat_lt x (length c.variables)) false h)
+no_result c None x elem h is = false_not_true (both_hold_second (nat_lt x (length c.variables)) false h)
 no_result c (Some t) x elem h is =
-    let same : Int t ≡ type_at c.variables x = equal_types (Int t) (type_at c.variables x) (and_right (nat_lt x (length c.variables)) (same_type (Int t) (type_at c.variables x)) h) in
-    let known : slice_get c.variables x ≡ Some (type_at c.variables x) = known_variable c x (and_left (nat_lt x (length c.variables)) (same_type (Int t) (type_at c.variables x)) h) in
+    let same : Int t ≡ type_at c.variables x = equal_types (Int t) (type_at c.variables x) (both_hold_second (nat_lt x (length c.variables)) (same_type (Int t) (type_at c.variables x)) h) in
+    let known : slice_get c.variables x ≡ Some (type_at c.variables x) = known_variable c x (both_hold_first (nat_lt x (length c.variables)) (same_type (Int t) (type_at c.variables x)) h) in
     differ (ap Some same ∙ sym known ∙ is)
   where
     differ : Some (Int t) ≡ Some (Pointer elem false) → ⊥

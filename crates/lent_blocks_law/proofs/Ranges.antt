@@ -1,12 +1,13 @@
 -- Ranges of cells that may be written, along paths and behind pointers.
-use Rattle.std.proofs.Common.{◌≡◌, ◌∙◌, ◌≤◌, ◌<◌, ℕ, zero, suc, ◌+◌, ◌*◌, ℤ, pos, negsuc, ◌+ℤ◌, refl, ap, sym, subst, arith, Bool, true, false, not, Some, None, Result, Ok, Err, IfOk, if◌then◌else◌, List, [], ◌∷◌, length, length-append}
-use Rattle.std.proofs.Math.Nat.{suc-mul}
+use Rattle.std.proofs.Common.{◌≡◌, ◌∙◌, ◌≤◌, ◌<◌, ℕ, zero, suc, ◌+◌, ◌*◌, ℤ, pos, negsuc, ◌+ℤ◌, refl, ap, sym, subst, arith, Bool, true, false, not, Some, None, Result, Ok, Err, IfOk, if◌then◌else◌, List, [], ◌∷◌, length}
 use Rattle.std.specs.Prelude.{IsTrue, ◌||◌, nat_lt, nat_le, is_some}
 use Rattle.std.proofs.lemmas.Bool.{ltb-true}
+use Rattle.source_meaning.proofs.SizeLemmas.{repeated_size}
 use Rattle.pt_base.specs.declared.int_type.IntType.{IntType}
 use Rattle.pt_base.specs.declared.span.Span.{Span}
 use Rattle.pt_base.specs.declared.trap.Trap.{Trap}
 use Rattle.pt_base.specs.declared.trap.Trap.TheVariants.{Bounds}
+use Rattle.pt_base.proofs.Booleans.{both_hold_first, both_hold_second, false_not_true}
 use Rattle.pt_tree.specs.declared.signature.Elem.{Elem}
 use Rattle.typed_tree.specs.declared.types.VarTy.{VarTy}
 use Rattle.typed_tree.specs.declared.types.VarTy.TheVariants.{Int, Struct, Array, Pointer}
@@ -16,7 +17,6 @@ use Rattle.typed_tree.specs.Sizes.{elem_cells, sizes_of}
 use Rattle.typed_tree.specs.TypeTests.{type_of_elem, item_of, pointee_of, element_of, same_elem}
 use Rattle.typed_tree.specs.WellFormed.{structs_sound}
 use Rattle.typed_tree.proofs.LeavesLemmas.{leaves_of_array}
-use Rattle.typed_tree.proofs.WellFormedLemmas.{and_left, and_right}
 use Rattle.runs.specs.Pointers.{Target, cell_at, up_to, at_index, moved}
 use Rattle.block_memory.specs.declared.cell.Cell.{Cell}
 use Rattle.block_memory.specs.declared.cell.Cell.TheVariants as cell
@@ -28,7 +28,7 @@ use Rattle.pt_core.specs.Values.{Stop, ◌>>?◌, at_span, pointed, target_of, L
 use Rattle.pt_core.specs.WellFormedExpression.{is_field, is_path, stands_for}
 use Rattle.core_soundness_law.specs.Fits.{BeginsWith, LieAt}
 use Rattle.core_soundness_law.proofs.Integers.{element_lies}
-use Rattle.core_soundness_law.proofs.Leaves.{never, field_in}
+use Rattle.core_soundness_law.proofs.Leaves.{field_in}
 use Rattle.core_soundness_law.proofs.Objects.{element_size}
 use Rattle.typed_tree.proofs.SameTypes.{equal_elems}
 use Rattle.half_meaning_law.specs.CForms.{with_const, keeps_const}
@@ -52,9 +52,6 @@ pub or_cases : {Z : Type 0} (x y : Bool) → IsTrue (x || y) → (IsTrue x → Z
 or_cases true y h f g = f refl
 or_cases false y h f g = g h
 
-pub clash : {Z : Type 0} (x : Bool) → x ≡ true → x ≡ false → Z
-clash x h k = absurd (cc)
-
 -- ---- lengths
 
 begins_length : (types ts : List IntType) → BeginsWith types ts → length ts ≤ length types
@@ -67,14 +64,9 @@ lies_length types zero ts h = let all = begins_length types ts h in omega (arith
 lies_length [] (suc n) ts h = elim h [ ]
 lies_length (x ∷ types) (suc n) ts h = let rest = lies_length types n ts h in omega (arith, rest)
 
-pub repeated_length : (count : ℕ) (ts : List IntType) → length (repeated count ts) ≡ count * length ts
-repeated_length zero ts = omega arith
-repeated_length (suc count) ts =
-    let long = length-append ts (repeated count ts) in let rest = repeated_length count ts in let product = suc-mul count (length ts) in omega (arith, long, rest, product)
-
 element_within : (count index : ℕ) (ts : List IntType) → index < count → index * length ts + length ts ≤ count * length ts
 element_within count index ts less =
-    let lies = lies_length (repeated count ts) (index * length ts) ts (element_lies count index ts less) in let all = repeated_length count ts in omega (arith, lies, all)
+    let lies = lies_length (repeated count ts) (index * length ts) ts (element_lies count index ts less) in let all = repeated_size count ts in omega (arith, lies, all)
 
 -- ---- parts
 
@@ -90,15 +82,15 @@ inner_writable w block at size offset count fit all i less = subst (λ n. w bloc
 pub path_lent : (w : Writable) (c : Context) → IsTrue (structs_sound c.structs 0 c.structs) → (path : List ℕ) (ty : VarTy) (at : Location) → IsTrue (is_path c.structs ty path) → at.ty ≡ ty →
     AreWritable w at.block at.cell (cells_of c.structs ty) → AreWritable w (along c path at).block (along c path at).cell (cells_of c.structs (path_type c.structs ty path))
 path_lent w c sound [] ty at h is all = all
-path_lent w c sound (k ∷ ks) (Int t) at h is all = never h
-path_lent w c sound (k ∷ ks) (Array elem count) at h is all = never h
-path_lent w c sound (k ∷ ks) (Pointer elem fixed) at h is all = never h
+path_lent w c sound (k ∷ ks) (Int t) at h is all = false_not_true h
+path_lent w c sound (k ∷ ks) (Array elem count) at h is all = false_not_true h
+path_lent w c sound (k ∷ ks) (Pointer elem fixed) at h is all = false_not_true h
 path_lent w c sound (k ∷ ks) (Struct n) at h is all =
     let field : VarTy = field_type c.structs (Struct n) k in
-    path_lent w c sound ks field (field_at c k at) (and_right (is_field c.structs (Struct n) k) (is_path c.structs field ks) h) (ap (λ u. field_type c.structs u k) is)
+    path_lent w c sound ks field (field_at c k at) (both_hold_second (is_field c.structs (Struct n) k) (is_path c.structs field ks) h) (ap (λ u. field_type c.structs u k) is)
     (subst (λ u. AreWritable w at.block (at.cell + offset_in c.structs u k) (cells_of c.structs field)) (sym is)
     (inner_writable w at.block at.cell (cells_of c.structs (Struct n)) (offset_in c.structs (Struct n) k) (cells_of c.structs field)
-    (lies_length (leaves_of c.structs (Struct n)) (offset_in c.structs (Struct n) k) (leaves_of c.structs field) (field_in c.structs n k sound (and_left (is_field c.structs (Struct n) k) (is_path c.structs field ks) h))) all))
+    (lies_length (leaves_of c.structs (Struct n)) (offset_in c.structs (Struct n) k) (leaves_of c.structs field) (field_in c.structs n k sound (both_hold_first (is_field c.structs (Struct n) k) (is_path c.structs field ks) h))) all))
 
 -- ---- behind pointers
 
@@ -116,9 +108,9 @@ reached_lent w c elem s p all true less =
 
 pub pointee_lent : (w : Writable) (c : Context) (s : Span) (ty : VarTy) (v : Cell) → IsTrue (is_some (pointee_of (Some ty))) → ValueIsLent w c.structs (with_const false ty) v →
     IfOk (pointee c s ty v) (λ at. AreWritable w at.block at.cell (cells_of c.structs (pointee_type ty)))
-pointee_lent w c s (Int t) v h f = never h
-pointee_lent w c s (Struct n) v h f = never h
-pointee_lent w c s (Array elem count) v h f = never h
+pointee_lent w c s (Int t) v h f = false_not_true h
+pointee_lent w c s (Struct n) v h f = false_not_true h
+pointee_lent w c s (Array elem count) v h f = false_not_true h
 pointee_lent w c s (Pointer elem fixed) (cell.Int v) h f = tt {0}
 pointee_lent w c s (Pointer elem fixed) (cell.Sealed v) h f = tt {0}
 pointee_lent w c s (Pointer elem fixed) (cell.Ptr pointer.Null) h f = tt {0}
@@ -138,17 +130,17 @@ pub address_lent : (w : Writable) (structs : List StructInfo) (ty : VarTy) (at :
     PointsToWritable w structs (type.element_of ty) (cell.Ptr (pointer.At at.block at.cell 1 0))
 address_lent w structs (Int t) at h all = subst (λ n. AreWritable w at.block at.cell n) (one_times (cells_of structs (Int t))) all
 address_lent w structs (Struct n) at h all = subst (λ k. AreWritable w at.block at.cell k) (one_times (cells_of structs (Struct n))) all
-address_lent w structs (Array elem count) at h all = never h
-address_lent w structs (Pointer elem fixed) at h all = never h
+address_lent w structs (Array elem count) at h all = false_not_true h
+address_lent w structs (Pointer elem fixed) at h all = false_not_true h
 
 pub decay_lent : (w : Writable) (structs : List StructInfo) (ty : VarTy) (at : Location) → IsTrue (is_some (item_of (Some ty))) → at.ty ≡ ty → AreWritable w at.block at.cell (cells_of structs ty) →
     PointsToWritable w structs (type.element_of ty) (decayed at at.ty)
-decay_lent w structs (Int t) at h is all = never h
-decay_lent w structs (Struct n) at h is all = never h
-decay_lent w structs (Pointer elem fixed) at h is all = never h
+decay_lent w structs (Int t) at h is all = false_not_true h
+decay_lent w structs (Struct n) at h is all = false_not_true h
+decay_lent w structs (Pointer elem fixed) at h is all = false_not_true h
 decay_lent w structs (Array elem count) at h is all =
     subst (λ u. PointsToWritable w structs elem (decayed at u)) (sym is)
-    (subst (λ n. AreWritable w at.block at.cell n) (ap length (leaves_of_array structs elem count) ∙ repeated_length count (leaves_of structs (type_of_elem elem))) all)
+    (subst (λ n. AreWritable w at.block at.cell n) (ap length (leaves_of_array structs elem count) ∙ repeated_size count (leaves_of structs (type_of_elem elem))) all)
 
 pub moved_lent : (w : Writable) (structs : List StructInfo) (s : Span) (amount : ℤ) (ty : VarTy) (v : Cell) → ValueIsLent w structs ty v → IfOk (pointed (at_span s (moved amount (target_of v)))) (ValueIsLent w structs ty)
 moved_lent w structs s amount (Int t) v f = always (ValueIsLent w structs (Int t)) _ (λ x. tt {0})
@@ -179,8 +171,8 @@ lent_on w structs fixed a (Int t) v h g f = tt {0}
 lent_on w structs fixed a (Struct n) v h g f = tt {0}
 lent_on w structs fixed a (Array elem count) v h g f = tt {0}
 lent_on w structs fixed a (Pointer y true) v h g f = tt {0}
-lent_on w structs fixed (Int t) (Pointer y false) v h g f = never h
-lent_on w structs fixed (Struct n) (Pointer y false) v h g f = never h
-lent_on w structs fixed (Array elem count) (Pointer y false) v h g f = never h
-lent_on w structs true (Pointer x other) (Pointer y false) v h g f = never g
-lent_on w structs false (Pointer x other) (Pointer y false) v h g f = subst (λ elem. PointsToWritable w structs elem v) (equal_elems x y (and_left (same_elem x y) (not other || false) h)) f
+lent_on w structs fixed (Int t) (Pointer y false) v h g f = false_not_true h
+lent_on w structs fixed (Struct n) (Pointer y false) v h g f = false_not_true h
+lent_on w structs fixed (Array elem count) (Pointer y false) v h g f = false_not_true h
+lent_on w structs true (Pointer x other) (Pointer y false) v h g f = false_not_true g
+lent_on w structs false (Pointer x other) (Pointer y false) v h g f = subst (λ elem. PointsToWritable w structs elem v) (equal_elems x y (both_hold_first (same_elem x y) (not other || false) h)) f

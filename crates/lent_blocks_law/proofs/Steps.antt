@@ -5,10 +5,10 @@ use Rattle.std.specs.Prelude.{◌++◌, IsTrue, ◌&&◌, ◌||◌, not, is_some
 use Rattle.pt_base.specs.declared.int_type.IntType.{IntType}
 use Rattle.pt_base.specs.declared.span.Span.{Span}
 use Rattle.pt_base.specs.declared.trap.Trap.TheVariants.{Depth}
+use Rattle.pt_base.proofs.Booleans.{both_hold_first, both_hold_second, false_not_true}
 use Rattle.pt_tree.specs.declared.signature.Signature.{Signature}
 use Rattle.typed_tree.specs.TypeTests.{same_type}
 use Rattle.typed_tree.specs.WellFormedExpression.{is_main}
-use Rattle.typed_tree.proofs.WellFormedLemmas.{and_left, and_right}
 use Rattle.runs.specs.Run.{deepest}
 use Rattle.block_memory.specs.declared.cell.Cell.{Cell}
 use Rattle.block_memory.specs.Blocks.{Blocks, without_frames}
@@ -26,7 +26,6 @@ use Rattle.core_soundness_law.specs.Fits.{MemoryFits, scope_in, is_looped, work_
 use Rattle.core_soundness_law.specs.Outside.{own_params}
 use Rattle.core_soundness_law.specs.StepLaws.{StepFits}
 use Rattle.core_soundness_law.specs.StepLaws as sound
-use Rattle.core_soundness_law.proofs.Leaves.{never}
 use Rattle.core_soundness_law.proofs.Objects.{Setting}
 use Rattle.core_soundness_law.proofs.Programs.{ProgramFacts, facts_of, FunctionFacts, function_facts}
 use Rattle.core_soundness_law.proofs.Settings.{setting}
@@ -234,15 +233,15 @@ way_lent monitor program w gate m g a rest work span f args result s ok own said
 call_lent : {G : Type 0} {kept : Kept} (monitor : Bool) (program : ProgramTree) (w : Writable) (gate : Gate G) (m : Machine) (g : G) (a : Active) (rest : List Active) (work : List Work) (span : Span) (f : ℕ) (args : ExprTrees) (result : Option ℕ) → Scene kept monitor program w m a rest → FitsCalls program gate g → IsTrue (is_called program f) →
     OwnWork monitor program a work → (o : Option Signature) → called_signature monitor program f ≡ o → IsTrue (call_fits (context_in program a.function) o args result) → IsTrue (are_passed (context_in program a.function) (params_of o) args) →
     StepIsLent monitor program w m.blocks (act program gate m g a rest work (call f args result span))
-call_lent {G} monitor program w gate m g a rest work span f args result s ok own said None is h passed = never h
+call_lent {G} monitor program w gate m g a rest work span f args result s ok own said None is h passed = false_not_true h
 call_lent {G} monitor program w gate m g a rest work span f args result s ok own said (Some t) is h passed =
     let c : Context = context_in program a.function in
-    let sides : IsTrue (arguments_fit c t.params args && result_fits c t.result result) = and_right (not (is_main t)) (arguments_fit c t.params args && result_fits c t.result result) h in
+    let sides : IsTrue (arguments_fit c t.params args && result_fits c t.result result) = both_hold_second (not (is_main t)) (arguments_fit c t.params args && result_fits c t.result result) h in
     value_or_trap monitor program w m g (AreLent w program.structs t.params) (values_of c a.depth args m.blocks)
     (λ vs. by_way program gate (working m a rest work) g span f vs result a.depth (gate.way g f vs)) s.before
-    (passed_lent w c a.depth m.blocks (own_setting monitor program w m a rest s) (own_sees monitor program w m a rest s) t.params args (and_left (arguments_fit c t.params args) (result_fits c t.result result) sides) passed)
+    (passed_lent w c a.depth m.blocks (own_setting monitor program w m a rest s) (own_sees monitor program w m a rest s) t.params args (both_hold_first (arguments_fit c t.params args) (result_fits c t.result result) sides) passed)
     (λ vs lent. way_lent monitor program w gate m g a rest work span f vs result s ok own said
-    (record { signature = t; is = is; lent = lent; gives = t.result; takes = and_right (arguments_fit c t.params args) (result_fits c t.result result) sides }) (gate.way g f vs) refl)
+    (record { signature = t; is = is; lent = lent; gives = t.result; takes = both_hold_second (arguments_fit c t.params args) (result_fits c t.result result) sides }) (gate.way g f vs) refl)
 
 -- ---- statements
 
@@ -264,23 +263,23 @@ act_lent monitor program w gate m g a rest s ok work said looped (assign p e) ow
     (λ blocks change. goes_on monitor program w m g a rest s work blocks said change)
 act_lent monitor program w gate m g a rest s ok work said looped (copy p q) own h k =
     let c : Context = context_in program a.function in
-    let may : IsTrue (not (is_const c p) && is_struct (place_type c p)) = and_right (place_stands p && place_stands q) (not (is_const c p) && is_struct (place_type c p)) k in
+    let may : IsTrue (not (is_const c p) && is_struct (place_type c p)) = both_hold_second (place_stands p && place_stands q) (not (is_const c p) && is_struct (place_type c p)) k in
     value_or_trap monitor program w m g (LentChange w program (a ∷ rest) m.blocks) (copied c a.depth p q m.blocks) (λ blocks. answers moved (with_blocks blocks (working m a rest work)) g) s.before
     (copied_lent w program a rest m.blocks (own_setting monitor program w m a rest s) (own_sees monitor program w m a rest s) s.memory s.pointers p q
-    (and_left (place_fits c p) (place_fits c q) (and_left (place_fits c p && place_fits c q) (is_compound (place_type c p) && same_type (place_type c p) (place_type c q)) h))
-    (and_left (not (is_const c p)) (is_struct (place_type c p)) may) (and_right (not (is_const c p)) (is_struct (place_type c p)) may))
+    (both_hold_first (place_fits c p) (place_fits c q) (both_hold_first (place_fits c p && place_fits c q) (is_compound (place_type c p) && same_type (place_type c p) (place_type c q)) h))
+    (both_hold_first (not (is_const c p)) (is_struct (place_type c p)) may) (both_hold_second (not (is_const c p)) (is_struct (place_type c p)) may))
     (λ blocks change. goes_on monitor program w m g a rest s work blocks said change)
-act_lent monitor program w gate m g a rest s ok work said looped (call f args result span) own h k = call_lent monitor program w gate m g a rest work span f args result s ok (and_left (is_called program f) true own) said (called_signature monitor program f) refl h k
+act_lent monitor program w gate m g a rest s ok work said looped (call f args result span) own h k = call_lent monitor program w gate m g a rest work span f args result s ok (both_hold_first (is_called program f) true own) said (called_signature monitor program f) refl h k
 act_lent monitor program w gate m g a rest s ok work said looped (choose e xs ys) own h k =
     let c : Context = context_in program a.function in
     let arms : IsTrue (are_said c (called_signature monitor program) xs && are_said c (called_signature monitor program) ys) =
-    and_right (is_null e || stands e) (are_said c (called_signature monitor program) xs && are_said c (called_signature monitor program) ys) k in
+    both_hold_second (is_null e || stands e) (are_said c (called_signature monitor program) xs && are_said c (called_signature monitor program) ys) k in
     value_or_trap monitor program w m g (λ x. Unit {0}) (value_of c a.depth e m.blocks) (λ v. answers moved (working m a rest (run (if holds_in v then xs else ys) ∷ work)) g) s.before
     (always (λ x. Unit {0}) (value_of c a.depth e m.blocks) (λ x. tt {0}))
     (λ v _. record {
       stays = stays_self w m.blocks;
       lends = with_work monitor program w m a rest s (run (if holds_in v then xs else ys) ∷ work)
-          (choice_said c (called_signature monitor program) (holds_in v) xs ys (and_left (are_said c (called_signature monitor program) xs) (are_said c (called_signature monitor program) ys) arms) (and_right (are_said c (called_signature monitor program) xs) (are_said c (called_signature monitor program) ys) arms), said);
+          (choice_said c (called_signature monitor program) (holds_in v) xs ys (both_hold_first (are_said c (called_signature monitor program) xs) (are_said c (called_signature monitor program) ys) arms) (both_hold_second (are_said c (called_signature monitor program) xs) (are_said c (called_signature monitor program) ys) arms), said);
       asks = s.free;
     })
 act_lent monitor program w gate m g a rest s ok work said looped (repeat body span) own h k = begins_lent monitor program w m g a rest s body work k said
@@ -299,10 +298,10 @@ works_lent monitor program w gate m g a rest s ok (run no_stmts ∷ work) own h 
 works_lent monitor program w gate m g a rest s ok (run (stmt_and t more) ∷ work) own h said =
     let k = scope_in monitor program a.function in
     let c : Context = context_in program a.function in
-    let fit : IsTrue (stmt_fits k (is_looped work) t && stmts_fit k (is_looped work) more) = and_left (stmt_fits k (is_looped work) t && stmts_fit k (is_looped work) more) (work_fits k work) h in
-    act_lent monitor program w gate m g a rest s ok (run more ∷ work) (and_right (is_said c (called_signature monitor program) t) (are_said c (called_signature monitor program) more) said.0, said.1)
+    let fit : IsTrue (stmt_fits k (is_looped work) t && stmts_fit k (is_looped work) more) = both_hold_first (stmt_fits k (is_looped work) t && stmts_fit k (is_looped work) more) (work_fits k work) h in
+    act_lent monitor program w gate m g a rest s ok (run more ∷ work) (both_hold_second (is_said c (called_signature monitor program) t) (are_said c (called_signature monitor program) more) said.0, said.1)
     (is_looped work) t (first_holds (is_called program) (callees_in t) (callees_of more) (first_holds (is_called program) (callees_in t ++ callees_of more) (calls_left work) own))
-    (and_left (stmt_fits k (is_looped work) t) (stmts_fit k (is_looped work) more) fit) (and_left (is_said c (called_signature monitor program) t) (are_said c (called_signature monitor program) more) said.0)
+    (both_hold_first (stmt_fits k (is_looped work) t) (stmts_fit k (is_looped work) more) fit) (both_hold_first (is_said c (called_signature monitor program) t) (are_said c (called_signature monitor program) more) said.0)
 works_lent monitor program w gate m g a rest s ok (head body ∷ work) own h said = begins_lent monitor program w m g a rest s body work said.0 said.1
 
 pub lent_blocks_stay : {G : Type 0} → LentBlocksStay G

@@ -2,6 +2,7 @@
 use Rattle.std.proofs.Common.{◌≡◌, ◌∙◌, ◌≤◌, ◌<◌, ℕ, zero, suc, ◌+◌, pos, refl, ap, sym, subst, arith, Bool, true, false, Option, Some, None, IfOk, if◌then◌else◌, List, [], ◌∷◌, length}
 use Rattle.std.specs.Prelude.{IsTrue, ◌&&◌, not, slice_get, slice_set, slice_index_or, take, drop}
 use Rattle.pt_base.specs.declared.int_type.IntType.{IntType}
+use Rattle.pt_base.proofs.Booleans.{both_hold_first, both_hold_second, false_not_true, true_and_false}
 use Rattle.pt_tree.specs.declared.signature.Elem.{Elem}
 use Rattle.typed_tree.specs.declared.types.VarTy.{VarTy}
 use Rattle.typed_tree.specs.declared.types.VarTy.TheVariants.{Int, Struct, Array, Pointer}
@@ -10,7 +11,6 @@ use Rattle.typed_tree.specs.Cells.{leaves_of, cells_of}
 use Rattle.typed_tree.specs.Sizes.{cells_by, sizes_of}
 use Rattle.typed_tree.specs.TypeTests.{is_scalar}
 use Rattle.typed_tree.proofs.LeavesLemmas.{leaves_of_int}
-use Rattle.typed_tree.proofs.WellFormedLemmas.{and_left, and_right}
 use Rattle.source_meaning.proofs.SizeLemmas.{sizes}
 use Rattle.block_memory.specs.declared.cell.Cell.{Cell}
 use Rattle.block_memory.specs.declared.cell.Cell.TheVariants as cell
@@ -20,6 +20,7 @@ use Rattle.block_memory.specs.declared.shape.BlockShape.{BlockShape}
 use Rattle.block_memory.specs.declared.shape.BlockShape.TheVariants.{OnePointer, Ints}
 use Rattle.block_memory.specs.Block.{Block, fresh, with_cell}
 use Rattle.block_memory.specs.Blocks.{Blocks, is_same_name, put}
+use Rattle.block_memory.proofs.BlocksLemmas.{same_name}
 use Rattle.pt_core.specs.CodeTree.{PlaceTree, ExprTree, ProgramTree}
 use Rattle.pt_core.specs.Types.{Context, type_at, place_type, shape_of}
 use Rattle.pt_core.specs.Values.{Location, value_of, location_of, cells_at, written, all_written}
@@ -31,14 +32,12 @@ use Rattle.pt_core.specs.WellFormedStatement.{value_fits}
 use Rattle.core_soundness_law.specs.Kept.{Kept}
 use Rattle.core_soundness_law.specs.Fits.{LieAt, LocalFits, variables_at, MemoryFits}
 use Rattle.core_soundness_law.specs.Laws.{LocationFits}
-use Rattle.core_soundness_law.proofs.Leaves.{never}
-use Rattle.core_soundness_law.proofs.Memory.{same_name}
 use Rattle.core_soundness_law.proofs.Objects.{Setting}
 use Rattle.core_soundness_law.proofs.Values.{bound, places}
 use Rattle.core_soundness_law.proofs.Settings.{same_depth}
 use Rattle.half_meaning_law.specs.CForms.{place_stands, is_const, is_stored, is_struct}
 use Rattle.lent_blocks_law.specs.Lent.{Writable, AreWritable, Owns, Stays, PointsToWritable, ValueIsLent, PointersAreLent}
-use Rattle.lent_blocks_law.proofs.Ranges.{always, both, clash, lies_length}
+use Rattle.lent_blocks_law.proofs.Ranges.{always, both, lies_length}
 use Rattle.lent_blocks_law.proofs.Values.{Sees, Lies, places_lent, stored_value}
 
 -- ---- what stays
@@ -51,7 +50,7 @@ stays_on w a b c f g name i denied = g name i denied ∙ f name i denied
 
 -- only locals are changed
 pub locals_change : (w : Writable) (program : ProgramTree) (before after : Blocks) → Owns w program → ((g : ℕ) → after (Global g) ≡ before (Global g)) → ((n : ℕ) → after (Received n) ≡ before (Received n)) → Stays w before after
-locals_change w program before after owns f g (Local depth v) i denied = clash (w (Local depth v) i) (owns.locals depth v i) denied
+locals_change w program before after owns f g (Local depth v) i denied = true_and_false (w (Local depth v) i) (owns.locals depth v i) denied
 locals_change w program before after owns f g (Global n) i denied = ap (λ (b : Block). slice_get b.cells i) (f n)
 locals_change w program before after owns f g (Received n) i denied = ap (λ (b : Block). slice_get b.cells i) (g n)
 
@@ -67,7 +66,7 @@ pub written_stays : (w : Writable) (blocks : Blocks) (block : BlockName) (at : �
 written_stays w blocks block at v may name i denied = go (is_same_name block name) refl
   where
     differ : block ≡ name → i ≡ at → ⊥
-    differ same e = clash (w name i) (subst (λ k. w name k ≡ true) (sym e) (subst (λ b. w b at ≡ true) same may)) denied
+    differ same e = true_and_false (w name i) (subst (λ k. w name k ≡ true) (sym e) (subst (λ b. w b at ≡ true) same may)) denied
 
     go : (t : Bool) → is_same_name block name ≡ t → slice_get (if t then with_cell (blocks block) at v else blocks name).cells i ≡ slice_get (blocks name).cells i
     go false e = refl
@@ -137,8 +136,8 @@ one_integer structs t = ap length (leaves_of_int structs t)
 
 pub stored_lent : {kept : Kept} (w : Writable) (program : ProgramTree) (a : Active) (rest : List Active) (blocks : Blocks) → MemoryFits kept program (a ∷ rest) blocks → PointersAreLent w program (a ∷ rest) blocks → (ty : VarTy) (at : Location) (v : Cell) → IsTrue (is_scalar (Some ty)) →
     LocationFits (context_in program a.function) blocks a.depth ty at → ValueIsLent w program.structs ty v → PointersAreLent w program (a ∷ rest) (written blocks at.block at.cell v)
-stored_lent w program a rest blocks mem all (Struct n) at v h fits f = never h
-stored_lent w program a rest blocks mem all (Array elem count) at v h fits f = never h
+stored_lent w program a rest blocks mem all (Struct n) at v h fits f = false_not_true h
+stored_lent w program a rest blocks mem all (Array elem count) at v h fits f = false_not_true h
 stored_lent w program a rest blocks mem all (Int t) at v h fits f = no_pointer_put w program (a ∷ rest) blocks at.block (with_cell (blocks at.block) at.cell v) all
     (λ elem is. no_object (blocks at.block).types at.cell (leaves_of program.structs (Int t)) (pointer_types program (a ∷ rest) blocks mem at.block elem is) fits.lies.1 (some (one_integer program.structs t)))
   where
@@ -158,8 +157,8 @@ stored_lent w program a rest blocks mem all (Pointer elem fixed) at v h fits f =
 
 stored_where : (w : Writable) (program : ProgramTree) (a : Active) (blocks : Blocks) → Owns w program → (ty : VarTy) (at : Location) → IsTrue (is_scalar (Some ty)) →
     LocationFits (context_in program a.function) blocks a.depth ty at → AreWritable w at.block at.cell (cells_of program.structs ty) → w at.block at.cell ≡ true
-stored_where w program a blocks owns (Struct n) at h fits all = never h
-stored_where w program a blocks owns (Array elem count) at h fits all = never h
+stored_where w program a blocks owns (Struct n) at h fits all = false_not_true h
+stored_where w program a blocks owns (Array elem count) at h fits all = false_not_true h
 stored_where w program a blocks owns (Int t) at h fits all = subst (λ n. w at.block n ≡ true) (plus_zero at.cell) (all 0 (some (one_integer program.structs t)))
   where
     plus_zero : (n : ℕ) → n + 0 ≡ n
@@ -182,22 +181,22 @@ pub assigned_lent : {kept : Kept} (w : Writable) (program : ProgramTree) (a : Ac
 assigned_lent w program a rest blocks f s owns mem all p e h said =
     let c : Context = context_in program a.function in
     let ty : VarTy = place_type c p in
-    let lies : IsTrue (place_fits c p) = and_left (place_fits c p) (is_scalar (Some ty) && value_fits c ty e) h in
-    let more : IsTrue (is_scalar (Some ty) && value_fits c ty e) = and_right (place_fits c p) (is_scalar (Some ty) && value_fits c ty e) h in
-    let scalar : IsTrue (is_scalar (Some ty)) = and_left (is_scalar (Some ty)) (value_fits c ty e) more in
-    let may : IsTrue (not (is_const c p) && is_stored c ty e) = and_right (place_stands p) (not (is_const c p) && is_stored c ty e) said in
-    let open_ : is_const c p ≡ false = not_true (is_const c p) (and_left (not (is_const c p)) (is_stored c ty e) may) in
+    let lies : IsTrue (place_fits c p) = both_hold_first (place_fits c p) (is_scalar (Some ty) && value_fits c ty e) h in
+    let more : IsTrue (is_scalar (Some ty) && value_fits c ty e) = both_hold_second (place_fits c p) (is_scalar (Some ty) && value_fits c ty e) h in
+    let scalar : IsTrue (is_scalar (Some ty)) = both_hold_first (is_scalar (Some ty)) (value_fits c ty e) more in
+    let may : IsTrue (not (is_const c p) && is_stored c ty e) = both_hold_second (place_stands p) (not (is_const c p) && is_stored c ty e) said in
+    let open_ : is_const c p ≡ false = not_true (is_const c p) (both_hold_first (not (is_const c p)) (is_stored c ty e) may) in
     bound (λ at. LocationFits c blocks a.depth ty at × Lies w c (is_const c p) ty at) (LentChange w program (a ∷ rest) blocks) (location_of c a.depth p blocks) _
     (both (LocationFits c blocks a.depth ty) (Lies w c (is_const c p) ty) (location_of c a.depth p blocks) (places _ c a.depth blocks f p lies) (places_lent w c a.depth blocks f s p lies))
     (λ at fits. bound (ValueIsLent w c.structs ty) (LentChange w program (a ∷ rest) blocks) (value_of c a.depth e blocks) _
-    (stored_value w c a.depth blocks f s ty e (and_right (is_scalar (Some ty)) (value_fits c ty e) more) (and_right (not (is_const c p)) (is_stored c ty e) may))
+    (stored_value w c a.depth blocks f s ty e (both_hold_second (is_scalar (Some ty)) (value_fits c ty e) more) (both_hold_second (not (is_const c p)) (is_stored c ty e) may))
     (λ v lent. record {
       stays = written_stays w blocks at.block at.cell v (stored_where w program a blocks owns ty at scalar fits.0 (fits.1 open_));
       pointers = stored_lent w program a rest blocks mem all ty at v scalar fits.0 lent;
     }))
   where
     not_true : (b : Bool) → IsTrue (not b) → b ≡ false
-    not_true true h = never h
+    not_true true h = false_not_true h
     not_true false h = refl
 
 -- ---- copies
@@ -224,10 +223,10 @@ struct_put w program active blocks name n ts (c ∷ cs) mem all lies short = all
     some h = omega (arith, h)
 
 struct_lies : (c : Context) (blocks : Blocks) (depth : ℕ) (ty : VarTy) (at : Location) → IsTrue (is_struct ty) → LocationFits c blocks depth ty at → LieAt (blocks at.block).types at.cell (leaves_of c.structs ty)
-struct_lies c blocks depth (Int t) at h fits = never h
+struct_lies c blocks depth (Int t) at h fits = false_not_true h
 struct_lies c blocks depth (Struct n) at h fits = fits.lies.1
-struct_lies c blocks depth (Array elem count) at h fits = never h
-struct_lies c blocks depth (Pointer elem fixed) at h fits = never h
+struct_lies c blocks depth (Array elem count) at h fits = false_not_true h
+struct_lies c blocks depth (Pointer elem fixed) at h fits = false_not_true h
 
 fewer_writable : (w : Writable) (block : BlockName) (at count size : ℕ) → count ≤ size → AreWritable w block at size → AreWritable w block at count
 fewer_writable w block at count size h all i less = all i (omega (arith, h, less))
@@ -251,7 +250,7 @@ copied_lent w program a rest blocks f s mem all p q lies may struct_ =
     }))
   where
     not_true : (b : Bool) → IsTrue (not b) → b ≡ false
-    not_true true h = never h
+    not_true true h = false_not_true h
     not_true false h = refl
 
 -- ---- declarations

@@ -1,5 +1,5 @@
 -- A call that is made breaks no rule.
-use Rattle.std.proofs.Common.{◌≡◌, ◌∙◌, ◌+◌, ◌≤◌, ℕ, suc, nat_eq, refl, arith, Bool, true, false, List, [], ◌∷◌, Option, Some, None, Ok, Err, if◌then◌else◌}
+use Rattle.std.proofs.Common.{◌≡◌, ◌∙◌, ◌+◌, ◌≤◌, ℕ, suc, nat_eq, refl, arith, Bool, true, false, List, [], ◌∷◌, Option, Some, None, Ok, if◌then◌else◌}
 use Rattle.std.specs.Prelude.{not, ◌&&◌, option_map}
 use Rattle.std.specs.Map.{lookup}
 use Rattle.pt_tree.specs.declared.signature.Signature.{Signature}
@@ -8,11 +8,10 @@ use Rattle.wire.specs.declared.message.CallBody.{CallBody}
 use Rattle.wire.specs.declared.message.Message.{Message}
 use Rattle.wire.specs.declared.message.Message.TheVariants as message
 use Rattle.marshalling.specs.declared.fault.BadCall.{BadCall}
-use Rattle.marshalling.specs.declared.fault.BadCall.TheVariants.{Shape}
-use Rattle.marshalling.specs.declared.inputs.Inputs.{Inputs}
-use Rattle.marshalling.specs.Handles.{handle_fault, inputs_unless, unpacked, unpacking}
+use Rattle.marshalling.specs.Handles.{handle_fault, unpacked, unpacking}
 use Rattle.marshalling.specs.Shape.{is_shaped}
 use Rattle.marshalling_law.proofs.RepliesFaults.{faults_see_types}
+use Rattle.marshalling_law.proofs.SendableLemmas.{served}
 use Rattle.policy.specs.Answers.{allowed, function_of}
 use Rattle.policy.specs.Verdicts as policy
 use Rattle.policy.specs.Verdicts.{Standing}
@@ -47,11 +46,6 @@ no_fault : (o : Option BadCall) → option_map rule_of_fault o ≡ None → o �
 no_fault None h = refl
 no_fault (Some fault) h = cc
 
-opened_so : (b : Bool) (o : Option BadCall) (inputs : Inputs) → b ≡ true → o ≡ None → (if b then inputs_unless o inputs else Err Shape) ≡ Ok inputs
-opened_so true None inputs h k = refl
-opened_so true (Some fault) inputs h k = cc
-opened_so false o inputs h k = cc
-
 -- its depth is one that it may have, and its body is opened
 record IsUnbroken (m : Monitor) (s : Signature) (depth : ℕ) (body : CallBody) : Type 0 where
   depth_is : has_depth s depth ≡ true
@@ -68,7 +62,7 @@ unbroken m s depth wants body h =
     let last = none_first (handle_rule (types_in m.store) s body) [] third.1 in
     record {
       depth_is = kept_rule (has_depth s depth) bad_depth first.0;
-      opened = opened_so (is_shaped m.program.structs s.params body) (handle_fault m.store s.params body) (unpacked m.store body)
+      opened = served (is_shaped m.program.structs s.params body) (handle_fault m.store s.params body) (unpacked m.store body)
           (kept_rule (is_shaped m.program.structs s.params body) bad_shape second.0)
           (faults_see_types m.store s.params body ∙ no_fault (handle_fault (blank (types_in m.store)) s.params body) last.0);
     }

@@ -1,10 +1,10 @@
 -- What a slave may know tells the verdict on a message, its reply, and what the slave may know then.
 use Rattle.std.proofs.Common.{◌≡◌, ◌∙◌, ◌⊎◌, inl, inr, ◌+◌, ◌-◌, ◌≤◌, ℕ, suc, ℤ, nat_lt, refl, ap, sym, subst, arith, Bool, true, false, List, length, Option, Some, None, if◌then◌else◌}
 use Rattle.std.specs.Prelude.{option_map}
-use Rattle.std.proofs.lemmas.Bool.Decides.{nat_tests}
 use Rattle.std.proofs.lemmas.List.{length-map}
 use Rattle.pt_base.specs.declared.int_type.IntType.{IntType}
 use Rattle.pt_base.specs.declared.end.End.TheVariants.{Spent}
+use Rattle.pt_base.proofs.Numbers.{nat_lt_false}
 use Rattle.runs.specs.Run.{written}
 use Rattle.runs.specs.State as r
 use Rattle.runs.specs.State.{gives}
@@ -106,11 +106,8 @@ stays_sound m last sound = record {
   budget = sound.budget;
 }
 
-not_less : (a b : ℕ) → nat_lt a b ≡ false → b ≤ a
-not_less a b h = grind (arith, nat_tests)
-
 room_left : (budget n turns : ℕ) → nat_lt budget (n + turns) ≡ false → 1 ≤ n → suc ((budget - (n + turns)) + turns) ≤ budget
-room_left budget n turns h some = let enough = not_less budget (n + turns) h in omega (arith, enough, some)
+room_left budget n turns h some = let enough = nat_lt_false budget (n + turns) h in omega (arith, enough, some)
 
 acted_told : (m : Monitor) (x : Message) (v : Verdict) → IsSound m → is_spent m x ≡ false → Makes m x v → Follows (low m) x v v (acted m x (left_for m x) v)
 acted_told m x (breaks rule) sound fits made = refl

@@ -15,6 +15,7 @@ use Rattle.marshalling.specs.declared.crossing.Crossing.TheVariants.{Stays, Plai
 use Rattle.marshalling.specs.Crossings.{crossing_of, result_crossing}
 use Rattle.marshalling.specs.Handles.{Entries}
 use Rattle.marshalling.specs.Replies.{AreServed, IsResult, Place, kept, kept_results, next_after, packed_results, received, result_places, sent, types_in}
+use Rattle.marshalling.proofs.ReplyLemmas.{result_count}
 use Rattle.marshalling_law.proofs.PostingLemmas.{places_served}
 use Rattle.pair_meaning.specs.Monitors as monitors
 use Rattle.pair_meaning.specs.Monitors.{Low}
@@ -45,12 +46,6 @@ result_is_told : (sig : Signature) (t : Option IntType) (handle : ℕ) (value : 
 result_is_told sig None handle value h = refl
 result_is_told sig (Some t) handle None h = elim h [ ]
 result_is_told sig (Some t) handle (Some v) h = one_told (result_crossing sig) t handle v
-
-result_count : (sig : Signature) (t : Option IntType) (value : Option ℤ) → IsResult t value → length (result_places sig t) ≡ length (option_to_list value)
-result_count sig None None h = refl
-result_count sig None (Some v) h = elim h [ ]
-result_count sig (Some t) None h = elim h [ ]
-result_count sig (Some t) (Some v) h = refl
 
 -- ---- the reply
 

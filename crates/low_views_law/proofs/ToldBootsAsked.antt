@@ -2,18 +2,20 @@
 use Rattle.std.proofs.Common.{◌≡◌, ◌∙◌, ℕ, suc, ◌+◌, refl, ap, sym, subst, arith, ◌⊎◌, inl, inr, true, Option, None, Some, List, [], ◌∷◌, ◌++◌}
 use Rattle.std.specs.Prelude.{◌↔◌, Contains, slice_get}
 use Rattle.pt_base.specs.declared.ids.FnId.{FnId}
+use Rattle.pt_base.proofs.Members.{contains_cases, contains_nothing}
+use Rattle.pt_base.proofs.Numbers.{as_plus_zero}
 use Rattle.pt_tree.specs.declared.signature.Signature.{Signature}
 use Rattle.typed_tree.specs.StatementTree.{BodyTree}
 use Rattle.typed_tree.specs.TypedTree.{FunctionTree, TypedTree}
 use Rattle.reach.specs.Contexts.{Calls, InSlave, IsOwned, callees_in}
-use Rattle.reach.proofs.ListLemmas.{contains_cases, contains_nothing, from_filter, from_flat, from_map}
+use Rattle.reach.proofs.ListLemmas.{from_filter, from_flat, from_map}
 use Rattle.pt_core.specs.CodeTree as core
 use Rattle.pt_core.specs.WellFormedStatement.{callees_of}
 use Rattle.lowering.specs.Functions.{code_if, core_of, functions_from, signatures_from}
 use Rattle.lowered_code_law.specs.NamesLaws.{LoweredNames}
 use Rattle.splitter.specs.Halves.{Halves, asked, is_among, slave_code}
 use Rattle.splitter.proofs.SetLemmas.{among_from}
-use Rattle.low_views_law.proofs.ToldBootsNumbered.{later, own}
+use Rattle.low_views_law.proofs.ToldBootsNumbered.{later}
 
 -- this is the code of a function of the list, the first of which has the number k
 record IsCodeOf (t : TypedTree) (k : ℕ) (fs : List FunctionTree) (c : core.FunctionTree) : Type 0 where
@@ -43,7 +45,7 @@ code_from t k (f ∷ fs) c h = go (λ i. further (code_from t (suc k) fs c i)) f
     }
 
     first : (b : BodyTree) → f.body ≡ Some b → core_of t k f b ≡ c → IsCodeOf t k (f ∷ fs) c
-    first b e s = record { number = k; place = 0; function = f; body = b; at = own k; there = refl; has = e; is = s }
+    first b e s = record { number = k; place = 0; function = f; body = b; at = as_plus_zero k; there = refl; has = e; is = s }
 
     either : (Contains (functions_from t (suc k) fs) c → IsCodeOf t k (f ∷ fs) c) → (b : BodyTree) → f.body ≡ Some b → (core_of t k f b ≡ c) ⊎ Contains (functions_from t (suc k) fs) c → IsCodeOf t k (f ∷ fs) c
     either rest b e (inl s) = first b e s
@@ -93,5 +95,5 @@ signature_place k [] x h = absurd (contains_nothing x h)
 signature_place k (s ∷ ss) x h = go (λ i. signature_place (suc k) ss x i) (contains_cases (k, s) (signatures_from (suc k) ss) x h)
   where
     go : (Contains (signatures_from (suc k) ss) x → (j : ℕ) × (x.0 ≡ suc k + j) × (slice_get ss j ≡ Some x.1)) → ((k, s) ≡ x) ⊎ Contains (signatures_from (suc k) ss) x → (j : ℕ) × (x.0 ≡ k + j) × (slice_get (s ∷ ss) j ≡ Some x.1)
-    go rest (inl e) = (0, ap (λ (y : ℕ × Signature). y.0) (sym e) ∙ own k, ap (λ (y : ℕ × Signature). Some y.1) e)
+    go rest (inl e) = (0, ap (λ (y : ℕ × Signature). y.0) (sym e) ∙ as_plus_zero k, ap (λ (y : ℕ × Signature). Some y.1) e)
     go rest (inr i) = let r = rest i in (suc (r.0), later x.0 k r.0 r.1, r.2)

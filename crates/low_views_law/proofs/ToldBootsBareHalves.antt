@@ -6,6 +6,7 @@ use Rattle.std.specs.Option.{option_map_or}
 use Rattle.std.proofs.lemmas.List.{length-map, map-append}
 use Rattle.pt_base.specs.declared.ids.FnId.{FnId}
 use Rattle.pt_base.specs.declared.ids.GlobalId.{GlobalId}
+use Rattle.pt_base.proofs.Options.{some_same}
 use Rattle.pt_tree.specs.declared.signature.Signature.{Signature}
 use Rattle.typed_tree.specs.declared.variable.TypedGlobal.{TypedGlobal}
 use Rattle.typed_tree.specs.Lookup.{function_at, signature_of}
@@ -23,7 +24,7 @@ use Rattle.lowered_code_law.specs.PlacesLaws.{PlacesAloneFollowPlaces}
 use Rattle.lowered_code_law.proofs.PlacesUsages.{callees_bare, function_bare, globals_bare}
 use Rattle.low_views_law.specs.ToldBootsBareBoots.{bare_owned}
 use Rattle.low_views_law.proofs.ToldBootsAsked.{HasSlave}
-use Rattle.low_views_law.proofs.ToldBootsReached.{IsSound, same_item}
+use Rattle.low_views_law.proofs.ToldBootsReached.{IsSound}
 
 -- ---- functions
 
@@ -54,7 +55,7 @@ bodies_bare t f g s is = go (function_at t f) refl (sym (function_bare t f) ∙ 
     go : (o : Option FunctionTree) → function_at t f ≡ o → option_map bare_function o ≡ Some g → is_some g.body ≡ not g.signature.host
     go None e i = cc
     go (Some x) e i =
-        let same = same_item (bare_function x) g i in
+        let same = some_same (bare_function x) g i in
         sym (ap (λ (z : FunctionTree). is_some z.body) same) ∙ body_stays x.body ∙ s.bodies f x e ∙ ap (λ (z : FunctionTree). not z.signature.host) same
 
 pub bare_sound : (t : TypedTree) → IsSound t → IsSound (bare_program t)

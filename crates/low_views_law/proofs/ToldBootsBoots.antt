@@ -3,15 +3,16 @@ use Rattle.std.proofs.Common.{◌≡◌, ◌∙◌, ℕ, refl, ap, sym, arith, B
 use Rattle.std.specs.Prelude.{◌+◌, ◌&&◌, ◌||◌, Contains, slice_get}
 use Rattle.std.specs.List.{filter, list_any}
 use Rattle.std.proofs.lemmas.Option.{slice_get-map}
+use Rattle.pt_base.proofs.Booleans.{both_hold_first, both_hold_second, false_not_true}
+use Rattle.pt_base.proofs.Members.{contains_first, contains_later}
 use Rattle.pt_tree.specs.declared.host_model.HostModel.{HostModel}
 use Rattle.pt_tree.specs.declared.signature.Signature.{Signature}
 use Rattle.host_table.specs.RunHosts.{model_or_none, models_of}
 use Rattle.runs.specs.State.{Hosts}
 use Rattle.typed_tree.specs.TypedTree.{FunctionTree, TypedTree, signatures_of}
-use Rattle.typed_tree.proofs.WellFormedLemmas.{and_left, and_right}
 use Rattle.flow_rules.specs.declared.accepted.Accepted.{Accepted}
 use Rattle.flow_rules.specs.Faults.{IsAccepted}
-use Rattle.reach.proofs.ListLemmas.{contains_first, contains_later, from_filter, from_map}
+use Rattle.reach.proofs.ListLemmas.{from_filter, from_map}
 use Rattle.lowering.specs.Functions.{functions_from, signatures_from}
 use Rattle.lowered_code_law.specs.NamesLaws.{LoweredNames}
 use Rattle.lowered_code_law.specs.LocalityLaws.{LoweringSeesOneBody}
@@ -27,7 +28,7 @@ use Rattle.low_views_law.specs.ToldBootsSameForSlave.{IsOwnHost}
 use Rattle.low_views_law.proofs.ToldBootsAsked.{HasSlave, called_by_slave, signature_place}
 use Rattle.low_views_law.proofs.ToldBootsHalves.{Same, half_same}
 use Rattle.low_views_law.proofs.ToldBootsBareHalves.{bare_half, bare_lists, bare_sound, half_bare, half_in}
-use Rattle.low_views_law.proofs.ToldBootsReached.{never, sound_of}
+use Rattle.low_views_law.proofs.ToldBootsReached.{sound_of}
 
 -- ---- the slave's own hosts
 
@@ -37,8 +38,8 @@ host_is_own names t h are n c =
     let test = λ (s : ℕ × Signature). is_slave_host (called s.0) s.1 in
     let x = from_map (λ (s : ℕ × Signature). s.0) (filter test (signatures_from 0 (signatures_of t))) n c in
     let chosen = from_filter test (signatures_from 0 (signatures_of t)) x.0 x.1 in
-    let passes = and_left (x.0.1.host && not x.0.1.privileged) (called x.0.0) chosen.1 in
-    let call = called_by_slave names t h are n (ap called (sym x.2) ∙ and_right (x.0.1.host && not x.0.1.privileged) (called x.0.0) chosen.1) in
+    let passes = both_hold_first (x.0.1.host && not x.0.1.privileged) (called x.0.0) chosen.1 in
+    let call = called_by_slave names t h are n (ap called (sym x.2) ∙ both_hold_second (x.0.1.host && not x.0.1.privileged) (called x.0.0) chosen.1) in
     let at = signature_place 0 (signatures_of t) x.0 chosen.0 in
     record {
       caller = call.caller;
@@ -46,15 +47,15 @@ host_is_own names t h are n c =
       runs = call.runs;
       calls = call.calls;
       is = sym (slice_get-map (λ (f : FunctionTree). f.signature) t.functions n) ∙ ap (slice_get (signatures_of t)) (plain n x.0.0 at.0 x.2 at.1) ∙ at.2;
-      host = and_left x.0.1.host (not x.0.1.privileged) passes;
-      plain = no x.0.1.privileged (and_right x.0.1.host (not x.0.1.privileged) passes);
+      host = both_hold_first x.0.1.host (not x.0.1.privileged) passes;
+      plain = no x.0.1.privileged (both_hold_second x.0.1.host (not x.0.1.privileged) passes);
     }
   where
     plain : (n m j : ℕ) → m ≡ n → m ≡ 0 + j → n ≡ j
     plain n m j e f = omega (arith, e, f)
 
     no : (b : Bool) → not b ≡ true → b ≡ false
-    no true h = never h
+    no true h = false_not_true h
     no false h = refl
 
 -- ---- models and input
@@ -68,7 +69,7 @@ models_same models others fns h = same_at_each (λ (f : ℕ). (f, models f)) (λ
 
 -- a member that passes, where one does
 any_of : {A : Type 0} (test : A → Bool) (xs : List A) → list_any test xs ≡ true → (x : A) × Contains xs x × (test x ≡ true)
-any_of test [] h = never h
+any_of test [] h = false_not_true h
 any_of {A} test (x ∷ xs) h = go (test x) refl (λ i. any_of test xs i) h
   where
     go : (b : Bool) → test x ≡ b → (list_any test xs ≡ true → (y : A) × Contains xs y × (test y ≡ true)) → (b || list_any test xs) ≡ true → (y : A) × Contains (x ∷ xs) y × (test y ≡ true)

@@ -6,6 +6,7 @@ use Rattle.std.proofs.lemmas.List.Elements.{Contains-append_cases}
 use Rattle.std.proofs.lemmas.Option.{slice_get-map}
 use Rattle.pt_base.specs.declared.ids.FnId.{FnId}
 use Rattle.pt_base.specs.declared.ids.GlobalId.{GlobalId}
+use Rattle.pt_base.proofs.Booleans.{same_truth}
 use Rattle.pt_tree.specs.declared.signature.Signature.{Signature}
 use Rattle.typed_tree.specs.declared.variable.TypedGlobal.{TypedGlobal}
 use Rattle.typed_tree.specs.Lookup.{signature_of}
@@ -17,7 +18,7 @@ use Rattle.lowering.specs.Functions.{code_if, functions_from, globals_from, sign
 use Rattle.lowered_code_law.specs.NamesLaws.{LoweredNames}
 use Rattle.lowered_code_law.specs.LocalityLaws.{LoweringSeesOneBody}
 use Rattle.splitter.specs.Halves.{Halves, asked, called_by, chosen_globals, chosen_signatures, is_among, slave_code, slave_hosts, slave_of}
-use Rattle.splitter.proofs.SetLemmas.{among_from, among_has, same_truth}
+use Rattle.splitter.proofs.SetLemmas.{among_from, among_has}
 use Rattle.low_views_law.specs.ToldBootsSameForSlave.{IsSameForSlave}
 use Rattle.low_views_law.proofs.ToldBootsAsked.{HasSlave, called_by_slave}
 use Rattle.low_views_law.proofs.ToldBootsNumbered.{code_with, functions_given, given_by, given_same, global_with, globals_given, host_with, hosts_given, signature_with, signatures_given}

@@ -2,6 +2,7 @@
 use Rattle.std.proofs.Common.{◌≡◌, ℕ, suc, ◌+◌, refl, ap, arith, Bool, true, false, not, Option, None, Some, List, [], ◌∷◌, ◌++◌, cond}
 use Rattle.std.specs.Prelude.{◌&&◌, slice_get}
 use Rattle.std.specs.List.{filter}
+use Rattle.pt_base.proofs.Numbers.{as_plus_zero}
 use Rattle.pt_tree.specs.declared.signature.Signature.{Signature}
 use Rattle.typed_tree.specs.declared.variable.TypedGlobal.{TypedGlobal}
 use Rattle.typed_tree.specs.StatementTree.{BodyTree}
@@ -11,9 +12,6 @@ use Rattle.pt_core.specs.CodeTree.{GlobalTree}
 use Rattle.lowering.specs.Functions.{code_if, core_of, functions_from, globals_from, signatures_from}
 use Rattle.splitter.specs.Halves.{is_slave_host}
 use Rattle.splitter.specs.Sets.{numbered_global}
-
-pub own : (n : ℕ) → n ≡ n + 0
-own n = omega arith
 
 pub later : (n k j : ℕ) → n ≡ suc k + j → n ≡ k + suc j
 later n k j e = omega (arith, e)
@@ -34,17 +32,17 @@ GiveSame has give other k xs ys = (n i : ℕ) → n ≡ k + i → has n ≡ true
 
 pub given_same : {A B : Type 0} (has : ℕ → Bool) (give other : ℕ → A → List B) (k : ℕ) (xs ys : List A) → GiveSame has give other k xs ys → given has give k xs ≡ given has other k ys
 given_same has give other k [] [] h = refl
-given_same {A} {B} has give other k [] (y ∷ ys) h = λ i. go (has k) (h k 0 (own k)) i ++ given_same has give other (suc k) [] ys (λ n j e c. h n (suc j) (later n k j e) c) i
+given_same {A} {B} has give other k [] (y ∷ ys) h = λ i. go (has k) (h k 0 (as_plus_zero k)) i ++ given_same has give other (suc k) [] ys (λ n j e c. h n (suc j) (later n k j e) c) i
   where
     go : (b : Bool) → (b ≡ true → [] ≡ other k y) → [] ≡ cond b (other k y) []
     go true e = e refl
     go false e = refl
-given_same {A} {B} has give other k (x ∷ xs) [] h = λ i. go (has k) (h k 0 (own k)) i ++ given_same has give other (suc k) xs [] (λ n j e c. h n (suc j) (later n k j e) c) i
+given_same {A} {B} has give other k (x ∷ xs) [] h = λ i. go (has k) (h k 0 (as_plus_zero k)) i ++ given_same has give other (suc k) xs [] (λ n j e c. h n (suc j) (later n k j e) c) i
   where
     go : (b : Bool) → (b ≡ true → give k x ≡ []) → cond b (give k x) [] ≡ []
     go true e = e refl
     go false e = refl
-given_same {A} {B} has give other k (x ∷ xs) (y ∷ ys) h = λ i. go (has k) (h k 0 (own k)) i ++ given_same has give other (suc k) xs ys (λ n j e c. h n (suc j) (later n k j e) c) i
+given_same {A} {B} has give other k (x ∷ xs) (y ∷ ys) h = λ i. go (has k) (h k 0 (as_plus_zero k)) i ++ given_same has give other (suc k) xs ys (λ n j e c. h n (suc j) (later n k j e) c) i
   where
     go : (b : Bool) → (b ≡ true → give k x ≡ other k y) → cond b (give k x) [] ≡ cond b (other k y) []
     go true e = e refl

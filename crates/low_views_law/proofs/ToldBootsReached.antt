@@ -6,6 +6,8 @@ use Rattle.std.specs.Option.{option_map_or}
 use Rattle.std.proofs.lemmas.Slice.Eq.{bytes_eq-Decides}
 use Rattle.pt_base.specs.declared.ids.FnId.{FnId}
 use Rattle.pt_base.specs.declared.ids.GlobalId.{GlobalId}
+use Rattle.pt_base.proofs.Booleans.{both_hold_first, both_hold_second, false_not_true}
+use Rattle.pt_base.proofs.Options.{some_same}
 use Rattle.pt_tree.specs.declared.signature.Signature.{Signature}
 use Rattle.typed_tree.specs.Lookup.{function_at, HasName, signature_of}
 use Rattle.typed_tree.specs.StatementTree.{BodyTree}
@@ -13,18 +15,12 @@ use Rattle.typed_tree.specs.TypedTree.{FunctionTree, TypedTree}
 use Rattle.typed_tree.specs.WellFormed.{body_sound, function_sound, is_start, is_well_formed, variable_sound}
 use Rattle.typed_tree.specs.WellFormedExpression.{is_main}
 use Rattle.typed_tree.proofs.NameLemmas.{named_is}
-use Rattle.typed_tree.proofs.WellFormedLemmas.{and_left, and_right, facts_of}
+use Rattle.typed_tree.proofs.WellFormedLemmas.{facts_of}
 use Rattle.usages.specs.Usages.{UsageTree}
 use Rattle.reach.specs.Contexts.{InSlave, IsOwned, callees_in, expr_callees, expr_globals, globals_in, is_plain, main, slave_calls, test_function}
 use Rattle.lowered_code_law.specs.LocalitySameFunctions.{IsSameFunction}
 use Rattle.lowered_code_law.proofs.LocalityParts.{same_usages}
 use Rattle.low_views_law.specs.ToldBootsSameForSlave.{IsSameForSlave}
-
-pub never : {X : Type 0} → false ≡ true → X
-never h = cc
-
-pub same_item : {A : Type 0} (x y : A) → Some x ≡ Some y → x ≡ y
-same_item x y h = cc
 
 -- ---- what is known of a program
 
@@ -47,16 +43,16 @@ found t f s h = go (function_at t f) refl h
   where
     go : (o : Option FunctionTree) → function_at t f ≡ o → option_map (λ (g : FunctionTree). g.signature) o ≡ Some s → (k : Known t f) × (k.function.signature ≡ s)
     go None e i = cc
-    go (Some g) e i = (record { function = g; is = e }, same_item g.signature s i)
+    go (Some g) e i = (record { function = g; is = e }, some_same g.signature s i)
 
 all_at : {A : Type 0} (test : A → Bool) (xs : List A) (k : ℕ) (x : A) → slice_get xs k ≡ Some x → list_all test xs ≡ true → test x ≡ true
 all_at test [] k x e h = cc
-all_at test (y ∷ ys) zero x e h = ap test (sym (same_item y x e)) ∙ and_left (test y) (list_all test ys) h
-all_at test (y ∷ ys) (suc k) x e h = all_at test ys k x e (and_right (test y) (list_all test ys) h)
+all_at test (y ∷ ys) zero x e h = ap test (sym (some_same y x e)) ∙ both_hold_first (test y) (list_all test ys) h
+all_at test (y ∷ ys) (suc k) x e h = all_at test ys k x e (both_hold_second (test y) (list_all test ys) h)
 
 -- a function has a body, or is a host
 body_of_function : (t : TypedTree) (f : FnId) (g : FunctionTree) → IsTrue (is_well_formed t) → function_at t f ≡ Some g → is_some g.body ≡ not g.signature.host
-body_of_function t f g well is = go g.body refl (and_right (list_all (variable_sound t.structs) g.vars) (body_sound t g g.body) (and_right _ (list_all (variable_sound t.structs) g.vars && body_sound t g g.body) (all_at (function_sound t) t.functions f.0 g is (facts_of t well).functions)))
+body_of_function t f g well is = go g.body refl (both_hold_second (list_all (variable_sound t.structs) g.vars) (body_sound t g g.body) (both_hold_second _ (list_all (variable_sound t.structs) g.vars && body_sound t g g.body) (all_at (function_sound t) t.functions f.0 g is (facts_of t well).functions)))
   where
     opposite : (b : Bool) → not b ≡ true → true ≡ not b
     opposite b h = sym h
@@ -65,11 +61,11 @@ body_of_function t f g well is = go g.body refl (and_right (list_all (variable_s
     hosts b h = sym (ap not h)
 
     go : (o : Option BodyTree) → g.body ≡ o → body_sound t g g.body ≡ true → is_some g.body ≡ not g.signature.host
-    go None e h = ap is_some e ∙ hosts g.signature.host (and_left g.signature.host _ (sym (ap (body_sound t g) e) ∙ h))
-    go (Some b) e h = ap is_some e ∙ opposite g.signature.host (and_left (not g.signature.host) _ (sym (ap (body_sound t g) e) ∙ h))
+    go None e h = ap is_some e ∙ hosts g.signature.host (both_hold_first g.signature.host _ (sym (ap (body_sound t g) e) ∙ h))
+    go (Some b) e h = ap is_some e ∙ opposite g.signature.host (both_hold_first (not g.signature.host) _ (sym (ap (body_sound t g) e) ∙ h))
 
 any_at : {A : Type 0} (test : A → Bool) (xs : List A) → list_any test xs ≡ true → (k : ℕ) × (x : A) × (slice_get xs k ≡ Some x) × (test x ≡ true)
-any_at test [] h = never h
+any_at test [] h = false_not_true h
 any_at {A} test (x ∷ xs) h = go (test x) refl (λ i. any_at test xs i) h
   where
     go : (b : Bool) → test x ≡ b → (list_any test xs ≡ true → (k : ℕ) × (y : A) × (slice_get xs k ≡ Some y) × (test y ≡ true)) → (b || list_any test xs) ≡ true → (k : ℕ) × (y : A) × (slice_get (x ∷ xs) k ≡ Some y) × (test y ≡ true)
@@ -81,14 +77,14 @@ has_main : (t : TypedTree) → IsTrue (is_well_formed t) → (f : FnId) × HasNa
 has_main t well =
     let m = any_at is_start t.functions (facts_of t well).start in (
       record { 0 = m.0 },
-      ap (λ (o : Option FunctionTree). option_map (λ (s : Signature). s.name) (option_map (λ (g : FunctionTree). g.signature) o)) m.2 ∙ ap Some ((bytes_eq-Decides m.1.signature.name (codes "main")).0 (and_left (is_main m.1.signature) _ m.3)),
+      ap (λ (o : Option FunctionTree). option_map (λ (s : Signature). s.name) (option_map (λ (g : FunctionTree). g.signature) o)) m.2 ∙ ap Some ((bytes_eq-Decides m.1.signature.name (codes "main")).0 (both_hold_first (is_main m.1.signature) _ m.3)),
       m.1,
       m.2,
-      and_left (is_some m.1.body) _ (and_right (is_main m.1.signature) _ m.3),
+      both_hold_first (is_some m.1.body) _ (both_hold_second (is_main m.1.signature) _ m.3),
     )
 
 one_has_name : (t : TypedTree) → IsTrue (is_well_formed t) → (name : List ℕ) (f g : FnId) → HasName t f name → HasName t g name → f ≡ g
-one_has_name t well name f g h i = same_item f g (sym ((named_is t name f well).1 h) ∙ (named_is t name g well).1 i)
+one_has_name t well name f g h i = some_same f g (sym ((named_is t name f well).1 h) ∙ (named_is t name g well).1 i)
 
 pub main_has_body : (t : TypedTree) → IsTrue (is_well_formed t) → (f : FnId) → HasName t f (codes "main") → (g : FunctionTree) × (function_at t f ≡ Some g) × (is_some g.body ≡ true)
 main_has_body t well f h =
@@ -106,7 +102,7 @@ plain_known : (t : TypedTree) (f : FnId) → test_function is_plain t f ≡ true
 plain_known t f h = go (function_at t f) refl h
   where
     go : (o : Option FunctionTree) → function_at t f ≡ o → option_map_or is_plain o false ≡ true → Known t f
-    go None e i = never i
+    go None e i = false_not_true i
     go (Some g) e i = record { function = g; is = e }
 
 -- ---- the same functions

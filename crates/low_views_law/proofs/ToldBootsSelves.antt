@@ -3,6 +3,7 @@ use Rattle.std.proofs.Common.{◌≡◌, refl, ap, true, false, Option, None, So
 use Rattle.std.specs.Prelude.{IsTrue, is_some}
 use Rattle.std.specs.Option.{option_map_or}
 use Rattle.pt_base.specs.declared.ids.FnId.{FnId}
+use Rattle.pt_base.proofs.Booleans.{both_hold_first, false_not_true}
 use Rattle.typed_tree.specs.declared.ids.ExprId.{ExprId}
 use Rattle.typed_tree.specs.declared.statement.TypedInit.{TypedInit}
 use Rattle.typed_tree.specs.declared.statement.TypedInit.TheVariants as init
@@ -14,12 +15,11 @@ use Rattle.typed_tree.specs.StatementTree as b
 use Rattle.typed_tree.specs.StatementTree.{BodyTree, ElseTree, no_else, otherwise, BodyTrees, no_bodies, body_and, section, SectionTrees, no_sections, section_and}
 use Rattle.typed_tree.specs.TypedTree.{FunctionTree, TypedTree}
 use Rattle.typed_tree.specs.WellFormed.{is_well_formed}
-use Rattle.typed_tree.proofs.WellFormedLemmas.{and_left}
 use Rattle.reach.specs.Contexts.{InSlave, is_plain, main, slave_calls}
 use Rattle.lowered_code_law.specs.LocalityRenumbered.{all_by, declarator_by, else_by, for_init_by, init_by, renumbered, sections_by}
 use Rattle.lowered_code_law.specs.LocalitySameFunctions.{IsSameFunction}
 use Rattle.low_views_law.specs.ToldBootsLaws.{ProgramsAreTheSameAsThemselves}
-use Rattle.low_views_law.proofs.ToldBootsReached.{main_has_body, never}
+use Rattle.low_views_law.proofs.ToldBootsReached.{main_has_body}
 
 -- ---- bodies with the numbers that they have
 
@@ -94,12 +94,12 @@ with_body : (t : TypedTree) (f : FnId) (g : FunctionTree) → function_at t f �
 with_body t f g is has = go g.body refl has
   where
     go : (o : Option BodyTree) → g.body ≡ o → is_some o ≡ true → IsSameFunction t t f
-    go None e h = never h
+    go None e h = false_not_true h
     go (Some body) e h = function_self t f g body is e
 
 plain_self : (t : TypedTree) (f : FnId) (o : Option FunctionTree) → function_at t f ≡ o → option_map_or is_plain o false ≡ true → IsSameFunction t t f
-plain_self t f None is h = never h
-plain_self t f (Some g) is h = with_body t f g is (and_left (is_some g.body) _ h)
+plain_self t f None is h = false_not_true h
+plain_self t f (Some g) is h = with_body t f g is (both_hold_first (is_some g.body) _ h)
 
 slave_self : (t : TypedTree) → IsTrue (is_well_formed t) → (f : FnId) → InSlave t f → IsSameFunction t t f
 slave_self t well f (main g h) = let m = main_has_body t well g h in with_body t g m.0 m.1 m.2

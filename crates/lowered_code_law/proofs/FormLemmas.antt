@@ -1,9 +1,12 @@
 -- The forms of expressions, each by what is known of its parts.
 use Rattle.std.proofs.Common.{◌≡◌, ◌∙◌, ℕ, ◌+◌, ℤ, pos, refl, ap, sym, subst, Bool, true, false, Option, Some, None, List, [], ◌∷◌, ◌++◌, length}
 use Rattle.std.specs.Prelude.{◌&&◌, not, slice_get, option_map, nat_lt}
+use Rattle.std.proofs.lemmas.Option.{get_or_from_slice_get}
 use Rattle.pt_base.specs.declared.int_type.IntType.{IntType}
 use Rattle.pt_base.specs.declared.int_type.IntType.TheVariants as i
 use Rattle.pt_base.specs.declared.span.Span.{Span}
+use Rattle.pt_base.proofs.Booleans.{both_hold, both_hold_first, both_hold_second, false_not_true}
+use Rattle.pt_base.proofs.Lists.{append_nil}
 use Rattle.pt_int.specs.declared.operator.UnOp.{UnOp}
 use Rattle.pt_tree.specs.declared.signature.Param.{Param}
 use Rattle.pt_tree.specs.declared.signature.ParamKind.{ParamKind}
@@ -22,7 +25,6 @@ use Rattle.typed_tree.specs.TypeRules.{unary_fits, converts, promoted_value, is_
 use Rattle.typed_tree.specs.WellFormedExpression as f
 use Rattle.typed_tree.specs.WellFormedExpression.{is_elem, ty_of, param_type, is_main}
 use Rattle.typed_tree.specs.WellFormed.{is_variable_type}
-use Rattle.typed_tree.proofs.WellFormedLemmas.{and_left, and_right, and_both}
 use Rattle.pt_core.specs.CodeTree.{StmtTree, constant, read, null, assign, copy, check, call, choose, expr_trees, stmt_trees}
 use Rattle.pt_core.specs.Types.{Context, type_of, place_type, type_at}
 use Rattle.pt_core.specs.WellFormedExpression.{stands_for, expr_fits, place_fits}
@@ -35,8 +37,7 @@ use Rattle.lowering.specs.Operators.{converted, prefixed, truth_of, stepped, sto
 use Rattle.lowering.specs.Expressions.{int_of, elem_of, is_struct, value_at, checked, linked, started, valued, where_open, with_operand, arm, chosen, copied, given, assigned, compounded, counted, counted_after, argued, call_effects, called}
 use Rattle.lowered_code_law.proofs.FormsSettings.{Agrees, EffectsFit, Fit, Known, LoweredFits, PlaceFits, Setting, Stand, ValueFits, context, is_known, scope}
 use Rattle.typed_tree.proofs.SameTypes.{equal_options, type_self}
-use Rattle.lowered_code_law.proofs.FormsSameTypes.{never}
-use Rattle.lowered_code_law.proofs.FormsStanding.{assign_fits, choose_fits, fit_both, got_or, hold_fits, in_list, known_both, read_fits, stand_first, stand_rest, stand_three, temp_value}
+use Rattle.lowered_code_law.proofs.FormsStanding.{assign_fits, choose_fits, fit_both, hold_fits, in_list, known_both, read_fits, stand_first, stand_rest, stand_three, temp_value}
 use Rattle.lowered_code_law.proofs.FormsSteps.{compound_fits, constant_fits, conversion_known, convert_known, converted_fits, counted_fits, null_fits, one_type, prefixed_fits, step_fits, step_known, step_operands, truth_fits, unary_known, unary_operand}
 use Rattle.lowered_code_law.proofs.FormsRules.{no_struct, scalar_type, type_is}
 
@@ -44,17 +45,17 @@ use Rattle.lowered_code_law.proofs.FormsRules.{no_struct, scalar_type, type_is}
 
 pub constant_lowers : (w : Setting) (l : Bool) (v : ℤ) (t : Option VarTy) → f.constant_fits v (integer_of t) ≡ true → LoweredFits w l (type_or_int t) (pure (constant (int_of t) v))
 constant_lowers w l v (Some (Int t)) h = record { stmts = tt; value = constant_fits (context w) t v h; temps = tt; known = refl }
-constant_lowers w l v None h = never h
-constant_lowers w l v (Some (Struct n)) h = never h
-constant_lowers w l v (Some (Array a n)) h = never h
-constant_lowers w l v (Some (Pointer a g)) h = never h
+constant_lowers w l v None h = false_not_true h
+constant_lowers w l v (Some (Struct n)) h = false_not_true h
+constant_lowers w l v (Some (Array a n)) h = false_not_true h
+constant_lowers w l v (Some (Pointer a g)) h = false_not_true h
 
 pub null_lowers : (w : Setting) (l : Bool) (t : Option VarTy) → is_elem (length w.names.structs) (pointee_of t) ≡ true → LoweredFits w l (type_or_int t) (pure (null (elem_of (type_or_int t))))
 null_lowers w l (Some (Pointer a g)) h = record { stmts = tt; value = null_fits (context w) a g h; temps = tt; known = h }
-null_lowers w l None h = never h
-null_lowers w l (Some (Int t)) h = never h
-null_lowers w l (Some (Struct n)) h = never h
-null_lowers w l (Some (Array a n)) h = never h
+null_lowers w l None h = false_not_true h
+null_lowers w l (Some (Int t)) h = false_not_true h
+null_lowers w l (Some (Struct n)) h = false_not_true h
+null_lowers w l (Some (Array a n)) h = false_not_true h
 
 -- the value of an integer or a pointer
 pub value_at_fits : (w : Setting) (l : Bool) (ty : VarTy) (p : LoweredPlace) → is_scalar (Some ty) ≡ true → PlaceFits w l ty p → LoweredFits w l ty (value_at p)
@@ -78,10 +79,10 @@ prefixed_lowers w l op (typed p (Some b) form) (Some ty) s v h k = record {
   stmts = k.stmts;
   value = prefixed_fits (context w) op b ty v.value s h k.known k.value;
   temps = k.temps;
-  known = and_right (is_scalar (Some ty)) (is_variable_type (length w.names.structs) ty) (unary_known (length w.names.structs) op (Some b) (Some ty) h ty refl);
+  known = both_hold_second (is_scalar (Some ty)) (is_variable_type (length w.names.structs) ty) (unary_known (length w.names.structs) op (Some b) (Some ty) h ty refl);
 }
-prefixed_lowers w l op (typed p None form) t s v h k = never (unary_operand op None t h).0
-prefixed_lowers w l op (typed p (Some b) form) None s v h k = never (unary_operand op (Some b) None h).1
+prefixed_lowers w l op (typed p None form) t s v h k = false_not_true (unary_operand op None t h).0
+prefixed_lowers w l op (typed p (Some b) form) None s v h k = false_not_true (unary_operand op (Some b) None h).1
 
 pub converted_lowers : (w : Setting) (l : Bool) (a : t.ExprTree) (t : Option VarTy) (v : Lowered) → converts (ty_of a) t ≡ true → LoweredFits w l (x.type_of a) v → LoweredFits w l (type_or_int t) (record v { value = converted (type_or_int t) v.value })
 converted_lowers w l (typed p (Some b) form) (Some ty) v h k = record {
@@ -90,8 +91,8 @@ converted_lowers w l (typed p (Some b) form) (Some ty) v h k = record {
   temps = k.temps;
   known = conversion_known (length w.names.structs) b ty h k.known;
 }
-converted_lowers w l (typed p None form) t v h k = never (convert_known 0 None t h).0
-converted_lowers w l (typed p (Some b) form) None v h k = never (convert_known 0 (Some b) None h).1
+converted_lowers w l (typed p None form) t v h k = false_not_true (convert_known 0 None t h).0
+converted_lowers w l (typed p (Some b) form) None v h k = false_not_true (convert_known 0 (Some b) None h).1
 
 -- ---- chains
 
@@ -111,7 +112,7 @@ linked_fits w l n so_far to step at a ready v is h k stand =
       stmts = fit_both (scope w) l ready.stmts v.stmts first.stmts second.stmts;
       value = step_fits (context w) step so_far o.right to ready.value v.value at rule first.value value;
       temps = known_both w.names.structs ready.temps v.temps first.temps second.temps;
-      known = and_right (is_scalar (Some to)) (is_variable_type (length w.names.structs) to) (step_known (length w.names.structs) step so_far o.right to rule first.known known);
+      known = both_hold_second (is_scalar (Some to)) (is_variable_type (length w.names.structs) to) (step_known (length w.names.structs) step so_far o.right to rule first.known known);
     }
 
 -- the value so far of a link is an integer or a pointer
@@ -174,8 +175,8 @@ pub arm_scalar : (t : Option VarTy) → is_arm t ≡ true → is_scalar (Some (t
 arm_scalar None h = refl
 arm_scalar (Some (Int a)) h = refl
 arm_scalar (Some (Pointer a g)) h = refl
-arm_scalar (Some (Struct n)) h = never h
-arm_scalar (Some (Array a n)) h = never h
+arm_scalar (Some (Struct n)) h = false_not_true h
+arm_scalar (Some (Array a n)) h = false_not_true h
 
 pub arm_type : (b : t.ExprTree) (t : Option VarTy) → same_types (ty_of b) t ≡ true → x.type_of b ≡ type_or_int t
 arm_type (typed s o form) t h = ap type_or_int (equal_options o t h)
@@ -204,13 +205,9 @@ choice_lowers w l n a b d whole t test first second scalar is_one same_b same_d 
       );
       value = temp_value w (past n test.temps) (type_or_int t) rest.0 one;
       temps = known_both w.names.structs (test.temps ++ own ++ first.temps) second.temps (known_both w.names.structs (test.temps ++ own) first.temps
-          (known_both w.names.structs test.temps own v.temps (and_both (is_scalar (Some (type_or_int t))) (is_variable_type (length w.names.structs) (type_or_int t)) one yes.known, tt)) yes.temps) no.temps;
+          (known_both w.names.structs test.temps own v.temps (both_hold (is_scalar (Some (type_or_int t))) (is_variable_type (length w.names.structs) (type_or_int t)) one yes.known, tt)) yes.temps) no.temps;
       known = yes.known;
     }
-
-no_more : {A : Type 0} (xs : List A) → xs ++ [] ≡ xs
-no_more [] = refl
-no_more (y ∷ ys) = ap (λ zs. y ∷ zs) (no_more ys)
 
 -- the same where its value is dropped
 pub choice_drops : (w : Setting) (l : Bool) (n : ℕ) (a : t.ExprTree) (test : Lowered) (first second : Effects) → is_scalar (ty_of a) ≡ true →
@@ -220,7 +217,7 @@ pub choice_drops : (w : Setting) (l : Bool) (n : ℕ) (a : t.ExprTree) (test : L
     Stand w.variables n (test.temps ++ [] ++ first.temps ++ second.temps) →
     EffectsFit w l (chosen test [] first.stmts first.temps second.stmts second.temps).stmts (chosen test [] first.stmts first.temps second.stmts second.temps).temps
 choice_drops w l n a test first second scalar h i j stand =
-    let all = stand_three w.variables n test.temps first.temps second.temps (subst (λ z. Stand w.variables n (z ++ first.temps ++ second.temps)) (no_more test.temps) stand) in
+    let all = stand_three w.variables n test.temps first.temps second.temps (subst (λ z. Stand w.variables n (z ++ first.temps ++ second.temps)) (append_nil test.temps) stand) in
     let v = h (stand_first w.variables n test.temps (first.temps ++ second.temps) all) in
     let rest = stand_rest w.variables n test.temps (first.temps ++ second.temps) all in
     let yes = i (stand_first w.variables (past n test.temps) first.temps second.temps rest) in
@@ -256,9 +253,9 @@ copied_fits w l ty n to of many h k stand =
     let p = h (stand_first w.variables n to.temps of.temps stand) in
     let q = k (stand_rest w.variables n to.temps of.temps stand) in
     let here : stmt_fits (scope w) l (copy to.place of.place) ≡ true =
-    and_both (place_fits (context w) to.place && place_fits (context w) of.place) (is_compound (place_type (context w) to.place) && same_type (place_type (context w) to.place) (place_type (context w) of.place))
-    (and_both (place_fits (context w) to.place) (place_fits (context w) of.place) p.place q.place)
-    (subst (λ z. (is_compound z && same_type z (place_type (context w) of.place)) ≡ true) (sym p.type) (subst (λ z. (is_compound ty && same_type ty z) ≡ true) (sym q.type) (and_both (is_compound ty) (same_type ty ty) many (type_self ty)))) in
+    both_hold (place_fits (context w) to.place && place_fits (context w) of.place) (is_compound (place_type (context w) to.place) && same_type (place_type (context w) to.place) (place_type (context w) of.place))
+    (both_hold (place_fits (context w) to.place) (place_fits (context w) of.place) p.place q.place)
+    (subst (λ z. (is_compound z && same_type z (place_type (context w) of.place)) ≡ true) (sym p.type) (subst (λ z. (is_compound ty && same_type ty z) ≡ true) (sym q.type) (both_hold (is_compound ty) (same_type ty ty) many (type_self ty)))) in
     record {
       stmts = fit_both (scope w) l (to.stmts ++ of.stmts) (copy to.place of.place ∷ []) (fit_both (scope w) l to.stmts of.stmts p.stmts q.stmts) (here, tt);
       place = p.place;
@@ -277,9 +274,9 @@ assigned_fits false w l ty n to of v many one h i j stand = given_fits w l ty n 
 
 pub struct_compound : (ty : VarTy) → is_struct (Some ty) ≡ true → is_compound ty ≡ true
 struct_compound (Struct n) h = refl
-struct_compound (Int a) h = never h
-struct_compound (Array a n) h = never h
-struct_compound (Pointer a g) h = never h
+struct_compound (Int a) h = false_not_true h
+struct_compound (Array a n) h = false_not_true h
+struct_compound (Pointer a g) h = false_not_true h
 
 -- a compound assignment, by its place and its right side
 pub compounded_fits : (w : Setting) (l : Bool) (ty : VarTy) (n : ℕ) (s : Span) (step : LinkStep) (a : t.ExprTree) (to : LoweredPlace) (v : Lowered) → r.is_compound step ≡ true → converts (r.stepped (promoted_value (Some ty)) step (ty_of a)) (Some ty) ≡ true →
@@ -288,7 +285,7 @@ pub compounded_fits : (w : Setting) (l : Bool) (ty : VarTy) (n : ℕ) (s : Span)
 compounded_fits w l ty n s step a to v comp conv h k stand = go (r.stepped (promoted_value (Some ty)) step (ty_of a)) refl conv
   where
     go : (o : Option VarTy) → r.stepped (promoted_value (Some ty)) step (ty_of a) ≡ o → converts o (Some ty) ≡ true → PlaceFits w l ty (compounded s step to v)
-    go None is c = never c
+    go None is c = false_not_true c
     go (Some m) is c =
         let o = step_operands step (promoted_value (Some ty)) (ty_of a) m is in
         let scalar = (convert_known 0 (Some m) (Some ty) c).1 in
@@ -337,7 +334,7 @@ counted_after_fits w l ty n s back y to scalar same h stand =
     let all = stand_first w.variables n (to.temps ++ y ∷ []) [] stand in
     let p = h (stand_first w.variables n to.temps (y ∷ []) all) in
     let own : slice_get w.variables (past n to.temps) ≡ Some ty = (stand_rest w.variables n to.temps (y ∷ []) all).0 ∙ ap Some (same ∙ p.own) in
-    let kept = subst (λ z. is_known w.names.structs z ≡ true) (sym (same ∙ p.own)) (and_both (is_scalar (Some ty)) (is_variable_type (length w.names.structs) ty) scalar p.known) in
+    let kept = subst (λ z. is_known w.names.structs z ≡ true) (sym (same ∙ p.own)) (both_hold (is_scalar (Some ty)) (is_variable_type (length w.names.structs) ty) scalar p.known) in
     record {
       stmts = fit_both (scope w) l (to.stmts ++ hold (past n to.temps) (read to.place) ∷ [] ++ []) (assign to.place (stored to.ty (unit_step to.ty back) (stepped to.ty (unit_step to.ty back) (read to.place) (unit_of to.ty) s)) ∷ [])
           (fit_both (scope w) l (to.stmts ++ hold (past n to.temps) (read to.place) ∷ []) [] (fit_both (scope w) l to.stmts (hold (past n to.temps) (read to.place) ∷ []) p.stmts (hold_fits w l (past n to.temps) ty (read to.place) own scalar (read_fits (context w) to.place ty p.place p.type scalar), tt)) tt)
@@ -354,7 +351,7 @@ pub record ArgumentsFit (w : Setting) (l : Bool) (ps : List Param) (a : Argument
   pub values : core.arguments_fit (context w) ps (expr_trees a.values) ≡ true
   pub temps : Known w.names.structs a.temps
 
-param_scalar : (p : ParamKind) → is_scalar (Some (param_type p)) ≡ true
+pub param_scalar : (p : ParamKind) → is_scalar (Some (param_type p)) ≡ true
 param_scalar (k.Int t) = refl
 param_scalar (k.Ptr a g) = refl
 
@@ -372,7 +369,7 @@ argued_fits w l n p ps a v rest same h k stand =
     let value = subst (λ z. ValueFits (context w) z v.value) (type_is a (param_type p.kind) (equal_options (ty_of a) (Some (param_type p.kind)) same)) y.value in
     record {
       stmts = fit_both (scope w) l v.stmts rest.stmts y.stmts others.stmts;
-      values = and_both (value_fits (context w) (param_type p.kind) v.value) (core.arguments_fit (context w) ps (expr_trees rest.values)) (and_both (expr_fits (context w) v.value) (stands_for (type_of (context w) v.value) (param_type p.kind)) value.fits value.type) others.values;
+      values = both_hold (value_fits (context w) (param_type p.kind) v.value) (core.arguments_fit (context w) ps (expr_trees rest.values)) (both_hold (expr_fits (context w) v.value) (stands_for (type_of (context w) v.value) (param_type p.kind)) value.fits value.type) others.values;
       temps = known_both w.names.structs v.temps rest.temps y.temps others.temps;
     }
 
@@ -388,22 +385,22 @@ pub called_is : (w : Setting) (g : ℕ) (arguments : ExprTrees) (t : Option VarT
 called_is w g arguments t a h = go (slice_get w.names.signatures g) refl h
   where
     go : (o : Option Signature) → slice_get w.names.signatures g ≡ o → f.call_fits o arguments t ≡ true → Called w g arguments t
-    go None is h = never h
+    go None is h = false_not_true h
     go (Some s) is h =
-        let rest = and_right (not (is_main s)) (f.arguments_fit s.params arguments && same_types t (option_map Int s.result)) h in
+        let rest = both_hold_second (not (is_main s)) (f.arguments_fit s.params arguments && same_types t (option_map Int s.result)) h in
         record {
           signature = s;
           is = a.calls g ∙ is;
-          other = and_left (not (is_main s)) (f.arguments_fit s.params arguments && same_types t (option_map Int s.result)) h;
-          given = and_left (f.arguments_fit s.params arguments) (same_types t (option_map Int s.result)) rest;
-          result = equal_options t (option_map Int s.result) (and_right (f.arguments_fit s.params arguments) (same_types t (option_map Int s.result)) rest);
+          other = both_hold_first (not (is_main s)) (f.arguments_fit s.params arguments && same_types t (option_map Int s.result)) h;
+          given = both_hold_first (f.arguments_fit s.params arguments) (same_types t (option_map Int s.result)) rest;
+          result = equal_options t (option_map Int s.result) (both_hold_second (f.arguments_fit s.params arguments) (same_types t (option_map Int s.result)) rest);
         }
 
 call_here : (w : Setting) (l : Bool) (g : ℕ) (s : Span) (v : Option ℕ) (arguments : ExprTrees) (t : Option VarTy) (c : Called w g arguments t) (args : Arguments) → core.arguments_fit (context w) c.signature.params (expr_trees args.values) ≡ true → result_fits (context w) c.signature.result v ≡ true →
     stmt_fits (scope w) l (call g (expr_trees args.values) v s) ≡ true
 call_here w l g s v arguments t c args h k = subst (λ z. call_fits (context w) z (expr_trees args.values) v ≡ true) (sym c.is)
-    (and_both (not (is_main c.signature)) (core.arguments_fit (context w) c.signature.params (expr_trees args.values) && result_fits (context w) c.signature.result v) c.other
-    (and_both (core.arguments_fit (context w) c.signature.params (expr_trees args.values)) (result_fits (context w) c.signature.result v) h k))
+    (both_hold (not (is_main c.signature)) (core.arguments_fit (context w) c.signature.params (expr_trees args.values) && result_fits (context w) c.signature.result v) c.other
+    (both_hold (core.arguments_fit (context w) c.signature.params (expr_trees args.values)) (result_fits (context w) c.signature.result v) h k))
 
 -- a call whose result is dropped
 pub call_drops : (w : Setting) (l : Bool) (n g : ℕ) (s : Span) (arguments : ExprTrees) (t : Option VarTy) (args : Arguments) → (c : Called w g arguments t) → (Stand w.variables n args.temps → ArgumentsFit w l c.signature.params args) →
@@ -421,7 +418,7 @@ result_known n None ty h = cc
 result_known n (Some t) ty h = subst (λ z. is_variable_type n z ≡ true) (sym (one_type ty (Int t) h)) refl
 
 result_here : (c : Context) (o : Option IntType) (v : ℕ) (ty : VarTy) → Some ty ≡ option_map Int o → nat_lt v (length c.variables) ≡ true → type_at c.variables v ≡ ty → result_fits c o (Some v) ≡ true
-result_here c o v ty h k is = and_both (nat_lt v (length c.variables)) (same_types (option_map Int o) (Some (type_at c.variables v))) k
+result_here c o v ty h k is = both_hold (nat_lt v (length c.variables)) (same_types (option_map Int o) (Some (type_at c.variables v))) k
     (subst (λ z. same_types z (Some (type_at c.variables v)) ≡ true) h (subst (λ z. same_types (Some ty) (Some z) ≡ true) (sym is) (type_self ty)))
 
 pub called_lowers : (w : Setting) (l : Bool) (n g : ℕ) (s : Span) (whole : t.ExprTree) (arguments : ExprTrees) (t : Option VarTy) (args : Arguments) (c : Called w g arguments t) → (Stand w.variables n args.temps → ArgumentsFit w l c.signature.params args) →
@@ -433,10 +430,10 @@ called_lowers w l n g s whole arguments (Some ty) args c h stand =
     let here = (stand_rest w.variables n args.temps own stand).0 in
     let scalar = result_int c.signature.result ty c.result in
     let known = result_known (length w.names.structs) c.signature.result ty c.result in
-    let result = result_here (context w) c.signature.result (past n args.temps) ty c.result (in_list w.variables (past n args.temps) ty here) (got_or w.variables (past n args.temps) ty (Int i.Int) here) in
+    let result = result_here (context w) c.signature.result (past n args.temps) ty c.result (in_list w.variables (past n args.temps) ty here) (get_or_from_slice_get w.variables (past n args.temps) ty (Int i.Int) here) in
     record {
       stmts = fit_both (scope w) l args.stmts (call g (expr_trees args.values) (Some (past n args.temps)) s ∷ []) a.stmts (call_here w l g s (Some (past n args.temps)) arguments (Some ty) c args a.values result, tt);
       value = temp_value w (past n args.temps) ty here scalar;
-      temps = known_both w.names.structs args.temps own a.temps (and_both (is_scalar (Some ty)) (is_variable_type (length w.names.structs) ty) scalar known, tt);
+      temps = known_both w.names.structs args.temps own a.temps (both_hold (is_scalar (Some ty)) (is_variable_type (length w.names.structs) ty) scalar known, tt);
       known = known;
     }

@@ -8,6 +8,9 @@ use Rattle.pt_base.specs.declared.int_type.IntType.{IntType}
 use Rattle.pt_base.specs.declared.int_type.IntType.TheVariants as i
 use Rattle.pt_base.specs.declared.span.Span.{Span}
 use Rattle.pt_base.specs.IntTypes.{low_of, high_of}
+use Rattle.pt_base.proofs.Booleans.{both_hold, both_hold_first, both_hold_second, false_not_true}
+use Rattle.pt_base.proofs.Lists.{length_pushed}
+use Rattle.pt_base.proofs.Places.{get_before, get_or_before, get_or_pushed, get_pushed_at}
 use Rattle.pt_int.specs.Conversion.{is_in_range}
 use Rattle.pt_tree.specs.declared.signature.Elem.{Elem}
 use Rattle.pt_tree.specs.declared.signature.Elem.TheVariants as e
@@ -20,13 +23,11 @@ use Rattle.typed_tree.specs.TypeTests.{type_of_elem, is_scalar}
 use Rattle.typed_tree.specs.WellFormedExpression.{is_elem}
 use Rattle.typed_tree.specs.WellFormedStatement.{item_types}
 use Rattle.typed_tree.specs.WellFormed.{is_plain_type, is_variable_type, is_small, field_sound, struct_sound, structs_sound}
-use Rattle.typed_tree.proofs.WellFormedLemmas.{and_left, and_right, and_both}
-use Rattle.typed_tree.proofs.LeavesLemmas.{get_before, longer}
+use Rattle.typed_tree.proofs.LeavesLemmas.{kept}
 use Rattle.pt_core.specs.CodeTree.{PlaceTree, constant, decay, move}
 use Rattle.pt_core.specs.Types.{Context, place_type, field_type}
 use Rattle.pt_core.specs.WellFormedExpression.{is_field, place_fits}
 use Rattle.lowering.specs.Leaves.{Step, to_field, to_element, Ways, begun_with, element_ways, elem_ways, object_ways, field_ways, ways_from, ways_of, stepped_to, at_end_of, leaf_places}
-use Rattle.lowered_code_law.proofs.FormsSameTypes.{never}
 use Rattle.lowered_code_law.proofs.FormsSteps.{constant_fits, move_fits}
 use Rattle.lowered_code_law.proofs.FormsPlaces.{FieldIs, decay_fits, deref_fits, deref_type, field_fits, field_in_struct, field_typed}
 
@@ -36,7 +37,7 @@ at_most : (a b : ℤ) → a ≤ℤ b → int_le a b ≡ true
 at_most a b h = grind (arith, ints)
 
 pub number_fits : (k : ℕ) → k ≤ 0x7fff_ffff → is_in_range i.Int (pos k) ≡ true
-number_fits k h = and_both (int_le (low_of i.Int) (pos k)) (int_le (pos k) (high_of i.Int)) (at_most (low_of i.Int) (pos k) (grind (arith, ints))) (at_most (pos k) (high_of i.Int) (grind (arith, ints)))
+number_fits k h = both_hold (int_le (low_of i.Int) (pos k)) (int_le (pos k) (high_of i.Int)) (at_most (low_of i.Int) (pos k) (grind (arith, ints))) (at_most (pos k) (high_of i.Int) (grind (arith, ints)))
 
 -- ---- ways that lead to integers
 
@@ -53,16 +54,16 @@ AllLead c s ty (way ∷ ways) (u ∷ us) = LeadsTo c s ty way (Int u) × AllLead
 
 lead_both : (c : Context) (s : Span) (ty : VarTy) (ws vs : Ways) (us ts : List IntType) → AllLead c s ty ws us → AllLead c s ty vs ts → AllLead c s ty (ws ++ vs) (us ++ ts)
 lead_both c s ty [] vs [] ts h k = k
-lead_both c s ty [] vs (u ∷ us) ts h k = never h
-lead_both c s ty (w ∷ ws) vs [] ts h k = never h
+lead_both c s ty [] vs (u ∷ us) ts h k = false_not_true h
+lead_both c s ty (w ∷ ws) vs [] ts h k = false_not_true h
 lead_both c s ty (w ∷ ws) vs (u ∷ us) ts h k = (h.0, lead_both c s ty ws vs us ts h.1 k)
 
 -- the ways from a part, behind a step to it
 lead_behind : (c : Context) (s : Span) (ty part : VarTy) (step : Step) (ws : Ways) (us : List IntType) →
     ((p : PlaceTree) → place_fits c p ≡ true → place_type c p ≡ ty → (place_fits c (stepped_to s p step) ≡ true) × (place_type c (stepped_to s p step) ≡ part)) → AllLead c s part ws us → AllLead c s ty (begun_with step ws) us
 lead_behind c s ty part step [] [] one h = tt
-lead_behind c s ty part step [] (u ∷ us) one h = never h
-lead_behind c s ty part step (w ∷ ws) [] one h = never h
+lead_behind c s ty part step [] (u ∷ us) one h = false_not_true h
+lead_behind c s ty part step (w ∷ ws) [] one h = false_not_true h
 lead_behind c s ty part step (w ∷ ws) (u ∷ us) one h = (λ p k is. let there = one p k is in h.0 (stepped_to s p step) there.0 there.1, lead_behind c s ty part step ws us one h.1)
 
 to_field_leads : (c : Context) (s : Span) (ty u : VarTy) (k : ℕ) → FieldIs c.structs ty u k → (p : PlaceTree) → place_fits c p ≡ true → place_type c p ≡ ty → (place_fits c (stepped_to s p (to_field k)) ≡ true) × (place_type c (stepped_to s p (to_field k)) ≡ u)
@@ -104,7 +105,7 @@ count_below (suc n) u us = let h = count_below n u us in let k = longer_behind u
 
 array_leads : (c : Context) (s : Span) (elem : Elem) (count : ℕ) (ws : Ways) (us : List IntType) → length (repeated count us) ≤ 65_536 → AllLead c s (type_of_elem elem) ws us → AllLead c s (Array elem count) (element_ways count 0 ws) (repeated count us)
 array_leads c s elem count [] [] small h = no_elements_lead c s (Array elem count) count 0
-array_leads c s elem count (w ∷ ws) [] small h = never h
+array_leads c s elem count (w ∷ ws) [] small h = false_not_true h
 array_leads c s elem count ws (u ∷ us) small h = let k = count_below count u us in elements_lead c s elem count count 0 ws (u ∷ us) (omega (arith, k, small)) h
 
 -- ---- structs
@@ -122,24 +123,17 @@ object_leads : (c : Context) (s : Span) (ways : List Ways) (leaves : List (List 
 object_leads c s ways leaves (Int t) h k small = (λ p fits is. (fits, is), tt)
 object_leads c s ways leaves (Struct n) h k small = h.each n (grind (arith, nat_tests))
 object_leads c s ways leaves (Array elem count) h k small =
-    array_leads c s elem count (elem_ways ways elem) (element_leaves leaves elem) small (elem_leads c s ways leaves elem h (and_left (is_elem (length leaves) (Some elem)) (nat_le 1 count) k))
-object_leads c s ways leaves (Pointer elem fixed) h k small = never k
-
--- what is known of earlier structs stays
-kept : (known : List (List IntType)) (ss : List StructInfo) (k : ℕ) → k < length known → slice_get (leaves_from known ss) k ≡ slice_get known k
-kept known [] k h = refl
-kept known (s ∷ ss) k h =
-    let more = longer known (struct_leaves known s) in
-    kept (known ++ struct_leaves known s ∷ []) ss k (omega (arith, h, more)) ∙ get_before known (struct_leaves known s ∷ []) k h
+    array_leads c s elem count (elem_ways ways elem) (element_leaves leaves elem) small (elem_leads c s ways leaves elem h (both_hold_first (is_elem (length leaves) (Some elem)) (nat_le 1 count) k))
+object_leads c s ways leaves (Pointer elem fixed) h k small = false_not_true k
 
 same_leaves : (known : List (List IntType)) (ss : List StructInfo) (ty : VarTy) → is_plain_type (length known) ty ≡ true → object_leaves (leaves_from known ss) ty ≡ object_leaves known ty
 same_leaves known ss (Int t) h = refl
 same_leaves known ss (Struct n) h = ap (λ o. unwrap_or o []) (kept known ss n (grind (arith, nat_tests)))
 same_leaves known ss (Array (e.Int t) count) h = refl
 same_leaves known ss (Array (e.Struct n) count) h =
-    let below = and_left (nat_lt n (length known)) (nat_le 1 count) h in
+    let below = both_hold_first (nat_lt n (length known)) (nat_le 1 count) h in
     ap (λ o. repeated count (unwrap_or o [])) (kept known ss n (grind (arith, nat_tests, below)))
-same_leaves known ss (Pointer elem fixed) h = never h
+same_leaves known ss (Pointer elem fixed) h = false_not_true h
 
 -- the cells of a field that is small are as few by the structs before it
 few : (structs ss : List StructInfo) (known : List (List IntType)) (ty : VarTy) → leaves_from known ss ≡ leaves_from [] structs → is_plain_type (length known) ty ≡ true → is_small structs ty ≡ true → length (object_leaves known ty) ≤ 65_536
@@ -154,13 +148,13 @@ fields_lead : (c : Context) (s : Span) (ss : List StructInfo) (ways : List Ways)
     AllLead c s (Struct n) (field_ways ways j fs) (flat_map (λ f. object_leaves leaves f.ty) fs)
 fields_lead c s ss ways leaves n j [] h whole sound at = tt
 fields_lead c s ss ways leaves n j (f ∷ fs) h whole sound at =
-    let one = and_left (field_sound c.structs (length leaves) f) (list_all (field_sound c.structs (length leaves)) fs) sound in
-    let plain = and_left (is_plain_type (length leaves) f.ty) (is_small c.structs f.ty) one in
-    let small = few c.structs ss leaves f.ty whole plain (and_right (is_plain_type (length leaves) f.ty) (is_small c.structs f.ty) one) in
+    let one = both_hold_first (field_sound c.structs (length leaves) f) (list_all (field_sound c.structs (length leaves)) fs) sound in
+    let plain = both_hold_first (is_plain_type (length leaves) f.ty) (is_small c.structs f.ty) one in
+    let small = few c.structs ss leaves f.ty whole plain (both_hold_second (is_plain_type (length leaves) f.ty) (is_small c.structs f.ty) one) in
     let here : FieldIs c.structs (Struct n) f.ty j = subst (λ z. FieldIs c.structs (Struct n) f.ty z) (first j) (at 0 f refl) in
     lead_both c s (Struct n) (begun_with (to_field j) (object_ways ways f.ty)) (field_ways ways (j + 1) fs) (object_leaves leaves f.ty) (flat_map (λ f. object_leaves leaves f.ty) fs)
     (lead_behind c s (Struct n) f.ty (to_field j) (object_ways ways f.ty) (object_leaves leaves f.ty) (to_field_leads c s (Struct n) f.ty j here) (object_leads c s ways leaves f.ty h plain small))
-    (fields_lead c s ss ways leaves n (j + 1) fs h whole (and_right (field_sound c.structs (length leaves) f) (list_all (field_sound c.structs (length leaves)) fs) sound)
+    (fields_lead c s ss ways leaves n (j + 1) fs h whole (both_hold_second (field_sound c.structs (length leaves) f) (list_all (field_sound c.structs (length leaves)) fs) sound)
     (λ k y is. subst (λ z. FieldIs c.structs (Struct n) y.ty z) (next j k) (at (suc k) y is)))
   where
     first : (j : ℕ) → j + 0 ≡ j
@@ -169,58 +163,41 @@ fields_lead c s ss ways leaves n j (f ∷ fs) h whole sound at =
     next : (j k : ℕ) → j + suc k ≡ j + 1 + k
     next j k = omega arith
 
-last_or : {A : Type 0} (xs : List A) (y d : A) (n : ℕ) → n ≡ length xs → get_or (xs ++ y ∷ []) n d ≡ y
-last_or [] y d zero h = refl
-last_or [] y d (suc n) h = absurd (grind (arith, h))
-last_or (x ∷ xs) y d zero h = absurd (grind (arith, h))
-last_or (x ∷ xs) y d (suc n) h = last_or xs y d n (omega (arith, h))
-
-last_get : {A : Type 0} (xs : List A) (y : A) (n : ℕ) → n ≡ length xs → slice_get (xs ++ y ∷ []) n ≡ Some y
-last_get [] y zero h = refl
-last_get [] y (suc n) h = absurd (grind (arith, h))
-last_get (x ∷ xs) y zero h = absurd (grind (arith, h))
-last_get (x ∷ xs) y (suc n) h = last_get xs y n (omega (arith, h))
-
-before_or : {A : Type 0} (xs : List A) (y d : A) (n : ℕ) → n < length xs → get_or (xs ++ y ∷ []) n d ≡ get_or xs n d
-before_or [] y d n h = absurd (grind (arith, h))
-before_or (x ∷ xs) y d zero h = refl
-before_or (x ∷ xs) y d (suc n) h = before_or xs y d n (omega (arith, h))
-
 -- one struct more
 table_with : (c : Context) (s : Span) (ways : List Ways) (leaves : List (List IntType)) (ws : Ways) (us : List IntType) → TablesLead c s ways leaves → AllLead c s (Struct (length leaves)) ws us → TablesLead c s (ways ++ ws ∷ []) (leaves ++ us ∷ [])
 table_with c s ways leaves ws us h k = record {
-  same = longer ways ws ∙ ap suc h.same ∙ sym (longer leaves us);
+  same = length_pushed ways ws ∙ ap suc h.same ∙ sym (length_pushed leaves us);
   each = λ n below. go n below (nat_lt n (length leaves)) refl;
 }
   where
     earlier : (n : ℕ) → n < length leaves → AllLead c s (Struct n) (get_or (ways ++ ws ∷ []) n []) (unwrap_or (slice_get (leaves ++ us ∷ []) n) [])
     earlier n low =
         let same = h.same in
-        subst (λ z. AllLead c s (Struct n) z (unwrap_or (slice_get (leaves ++ us ∷ []) n) [])) (sym (before_or ways ws [] n (omega (arith, low, same))))
+        subst (λ z. AllLead c s (Struct n) z (unwrap_or (slice_get (leaves ++ us ∷ []) n) [])) (sym (get_or_before ways ws [] n (omega (arith, low, same))))
         (subst (λ z. AllLead c s (Struct n) (get_or ways n []) (unwrap_or z [])) (sym (get_before leaves (us ∷ []) n low)) (h.each n low))
 
     newest : (n : ℕ) → n ≡ length leaves → AllLead c s (Struct n) (get_or (ways ++ ws ∷ []) n []) (unwrap_or (slice_get (leaves ++ us ∷ []) n) [])
     newest n is =
-        subst (λ z. AllLead c s (Struct n) z (unwrap_or (slice_get (leaves ++ us ∷ []) n) [])) (sym (last_or ways ws [] n (is ∙ sym h.same)))
-        (subst (λ z. AllLead c s (Struct n) ws (unwrap_or z [])) (sym (last_get leaves us n is)) (subst (λ z. AllLead c s (Struct z) ws us) (sym is) k))
+        subst (λ z. AllLead c s (Struct n) z (unwrap_or (slice_get (leaves ++ us ∷ []) n) [])) (sym (get_or_pushed ways ws [] n (is ∙ sym h.same)))
+        (subst (λ z. AllLead c s (Struct n) ws (unwrap_or z [])) (sym (get_pushed_at leaves us n is)) (subst (λ z. AllLead c s (Struct z) ws us) (sym is) k))
 
     go : (n : ℕ) → n < length (leaves ++ us ∷ []) → (b : Bool) → nat_lt n (length leaves) ≡ b → AllLead c s (Struct n) (get_or (ways ++ ws ∷ []) n []) (unwrap_or (slice_get (leaves ++ us ∷ []) n) [])
     go n below true is = earlier n (grind (arith, nat_tests, is))
-    go n below false is = let more = longer leaves us in newest n (grind (arith, nat_tests, is, below, more))
+    go n below false is = let more = length_pushed leaves us in newest n (grind (arith, nat_tests, is, below, more))
 
 -- the structs of a list, of which these stand behind so many
 structs_lead : (c : Context) (s : Span) (before rest : List StructInfo) (ways : List Ways) (leaves : List (List IntType)) → structs_sound c.structs 0 c.structs ≡ true → before ++ rest ≡ c.structs → length leaves ≡ length before →
     structs_sound c.structs (length leaves) rest ≡ true → leaves_from leaves rest ≡ leaves_from [] c.structs → TablesLead c s ways leaves → TablesLead c s (ways_from ways rest) (leaves_from leaves rest)
 structs_lead c s before [] ways leaves all is at sound whole h = h
 structs_lead c s before (x ∷ rest) ways leaves all is at sound whole h =
-    let one = and_left (struct_sound c.structs (length leaves) x) (structs_sound c.structs (suc (length leaves)) rest) sound in
-    let fields = and_right (nat_le 1 (length x.fields)) (list_all (field_sound c.structs (length leaves)) x.fields) one in
+    let one = both_hold_first (struct_sound c.structs (length leaves) x) (structs_sound c.structs (suc (length leaves)) rest) sound in
+    let fields = both_hold_second (nat_le 1 (length x.fields)) (list_all (field_sound c.structs (length leaves)) x.fields) one in
     let found : slice_get c.structs (length leaves) ≡ Some x = subst (λ z. slice_get z (length leaves) ≡ Some x) is (found_behind before (length leaves) at) in
     let new : AllLead c s (Struct (length leaves)) (field_ways ways 0 x.fields) (struct_leaves leaves x) =
     fields_lead c s (x ∷ rest) ways leaves (length leaves) 0 x.fields h whole fields (λ k y e. subst (λ z. FieldIs c.structs (Struct (length leaves)) y.ty z) (zero_plus k) (field_in_struct c.structs (length leaves) k x y all found e)) in
     structs_lead c s (before ++ x ∷ []) rest (ways ++ field_ways ways 0 x.fields ∷ []) (leaves ++ struct_leaves leaves x ∷ []) all (regroup before ∙ is)
-    (longer leaves (struct_leaves leaves x) ∙ ap suc at ∙ sym (longer before x))
-    (subst (λ z. structs_sound c.structs z rest ≡ true) (sym (longer leaves (struct_leaves leaves x))) (and_right (struct_sound c.structs (length leaves) x) (structs_sound c.structs (suc (length leaves)) rest) sound))
+    (length_pushed leaves (struct_leaves leaves x) ∙ ap suc at ∙ sym (length_pushed before x))
+    (subst (λ z. structs_sound c.structs z rest ≡ true) (sym (length_pushed leaves (struct_leaves leaves x))) (both_hold_second (struct_sound c.structs (length leaves) x) (structs_sound c.structs (suc (length leaves)) rest) sound))
     whole (table_with c s ways leaves (field_ways ways 0 x.fields) (struct_leaves leaves x) h new)
   where
     zero_plus : (k : ℕ) → k ≡ 0 + k
@@ -239,7 +216,7 @@ structs_lead c s before (x ∷ rest) ways leaves all is at sound whole h =
 -- the table is as long as the list of structs
 table_length : (leaves : List (List IntType)) (ss : List StructInfo) → length (leaves_from leaves ss) ≡ length leaves + length ss
 table_length leaves [] = omega arith
-table_length leaves (s ∷ ss) = let h = table_length (leaves ++ struct_leaves leaves s ∷ []) ss in let k = longer leaves (struct_leaves leaves s) in omega (arith, h, k)
+table_length leaves (s ∷ ss) = let h = table_length (leaves ++ struct_leaves leaves s ∷ []) ss in let k = length_pushed leaves (struct_leaves leaves s) in omega (arith, h, k)
 
 pub all_ways_lead : (c : Context) (s : Span) (ty : VarTy) → structs_sound c.structs 0 c.structs ≡ true → is_plain_type (length c.structs) ty ≡ true → is_small c.structs ty ≡ true → AllLead c s ty (ways_of c.structs ty) (leaves_of c.structs ty)
 unfolding leaves_of
@@ -262,8 +239,8 @@ PlacesFit c (p ∷ ps) (ty ∷ tys) = (place_fits c p ≡ true) × (place_type c
 
 led_places : (c : Context) (s : Span) (ty : VarTy) (p : PlaceTree) (ws : Ways) (us : List IntType) → place_fits c p ≡ true → place_type c p ≡ ty → AllLead c s ty ws us → PlacesFit c (map (λ way. at_end_of s way p) ws) (map Int us)
 led_places c s ty p [] [] h is k = tt
-led_places c s ty p [] (u ∷ us) h is k = never k
-led_places c s ty p (w ∷ ws) [] h is k = never k
+led_places c s ty p [] (u ∷ us) h is k = false_not_true k
+led_places c s ty p (w ∷ ws) [] h is k = false_not_true k
 led_places c s ty p (w ∷ ws) (u ∷ us) h is k = let there = k.0 p h is in (there.0, there.1, refl, led_places c s ty p ws us h is k.1)
 
 -- the places of a brace list have the types of its items

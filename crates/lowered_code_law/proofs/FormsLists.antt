@@ -1,10 +1,12 @@
 -- Numbered lists: what a number finds in them, and that they are in order.
-use Rattle.std.proofs.Common.{◌≡◌, ◌∙◌, ◌≤◌, ℕ, zero, suc, ◌+◌, refl, ap, sym, subst, arith, Bool, true, false, cond, Option, Some, None, List, [], ◌∷◌, ◌++◌, length, map}
-use Rattle.std.specs.Prelude.{slice_get, option_map, nat_eq, nat_le, take, is_some, sum_by}
-use Rattle.std.specs.List.{list_all, find}
+use Rattle.std.proofs.Common.{◌≡◌, ◌∙◌, ◌≤◌, ℕ, zero, suc, ◌+◌, refl, ap, sym, subst, arith, true, Option, Some, None, List, [], ◌∷◌, ◌++◌, length, map}
+use Rattle.std.specs.Prelude.{slice_get, option_map, nat_eq, nat_le, is_some, sum_by}
+use Rattle.std.specs.List.{find}
 use Rattle.std.specs.Map.{lookup}
 use Rattle.std.proofs.lemmas.Bool.Decides.{nat_tests}
 use Rattle.std.proofs.lemmas.List.Sums.{sum_by-cons}
+use Rattle.pt_base.proofs.Booleans.{both_hold, cond_false, cond_true}
+use Rattle.pt_base.proofs.Numbers.{nat_eq_plus_suc, nat_eq_plus_zero}
 use Rattle.pt_tree.specs.declared.signature.Signature.{Signature}
 use Rattle.typed_tree.specs.declared.types.VarTy.{VarTy}
 use Rattle.typed_tree.specs.declared.variable.Var.{Var}
@@ -12,55 +14,32 @@ use Rattle.typed_tree.specs.declared.variable.TypedGlobal.{TypedGlobal}
 use Rattle.typed_tree.specs.StatementTree.{BodyTree}
 use Rattle.typed_tree.specs.TypedTree.{TypedTree, FunctionTree}
 use Rattle.typed_tree.specs.WellFormed.{are_rising}
-use Rattle.typed_tree.proofs.WellFormedLemmas.{and_left, and_right, and_both}
 use Rattle.pt_core.specs.CodeTree as core
 use Rattle.pt_core.specs.CodeTree.{GlobalTree}
 use Rattle.lowering.specs.Lowered.{Temp}
 use Rattle.lowering.specs.Functions.{variable_of, core_of, code_if, functions_from, signatures_from, globals_from}
 use Rattle.lowered_code_law.proofs.FormsSettings.{Stand}
 
-pub when_true : {A : Type 0} (b : Bool) (x y : A) → b ≡ true → cond b x y ≡ x
-when_true true x y h = refl
-when_true false x y h = cc
-
-pub when_false : {A : Type 0} (b : Bool) (x y : A) → b ≡ false → cond b x y ≡ y
-when_false false x y h = refl
-when_false true x y h = cc
-
-pub all_both : {A : Type 0} (test : A → Bool) (xs ys : List A) → list_all test xs ≡ true → list_all test ys ≡ true → list_all test (xs ++ ys) ≡ true
-all_both test [] ys h k = k
-all_both test (x ∷ xs) ys h k = and_both (test x) (list_all test (xs ++ ys)) (and_left (test x) (list_all test xs) h) (all_both test xs ys (and_right (test x) (list_all test xs) h) k)
-
-pub take_all : {A : Type 0} (xs : List A) → take (length xs) xs ≡ xs
-take_all [] = refl
-take_all (x ∷ xs) = ap (λ ys. x ∷ ys) (take_all xs)
-
-other_number : (m n k : ℕ) → m ≡ n + suc k → nat_eq m n ≡ false
-other_number m n k h = grind (arith, nat_tests)
-
-own_number : (m n : ℕ) → m ≡ n + 0 → nat_eq m n ≡ true
-own_number m n h = grind (arith, nat_tests)
-
 -- ---- what a number finds
 
 pub found_signature : (m n k : ℕ) (ss : List Signature) → m ≡ n + k → lookup (nat_eq m) (signatures_from n ss) ≡ slice_get ss k
 found_signature m n k [] h = refl
-found_signature m n zero (s ∷ ss) h = when_true (nat_eq m n) (Some s) (lookup (nat_eq m) (signatures_from (suc n) ss)) (own_number m n h)
-found_signature m n (suc k) (s ∷ ss) h = when_false (nat_eq m n) (Some s) (lookup (nat_eq m) (signatures_from (suc n) ss)) (other_number m n k h) ∙ found_signature m (suc n) k ss (omega (arith, h))
+found_signature m n zero (s ∷ ss) h = cond_true (nat_eq m n) (Some s) (lookup (nat_eq m) (signatures_from (suc n) ss)) (nat_eq_plus_zero m n h)
+found_signature m n (suc k) (s ∷ ss) h = cond_false (nat_eq m n) (Some s) (lookup (nat_eq m) (signatures_from (suc n) ss)) (nat_eq_plus_suc m n k h) ∙ found_signature m (suc n) k ss (omega (arith, h))
 
 abbrev pub global_entry : GlobalTree → ℕ × VarTy
 global_entry g = (g.id, g.var.ty)
 
 pub found_global : (m n k : ℕ) (gs : List TypedGlobal) → m ≡ n + k → lookup (nat_eq m) (map global_entry (globals_from n gs)) ≡ option_map (λ (y : TypedGlobal). y.var.ty) (slice_get gs k)
 found_global m n k [] h = refl
-found_global m n zero (g ∷ gs) h = when_true (nat_eq m n) (Some g.var.ty) (lookup (nat_eq m) (map global_entry (globals_from (suc n) gs))) (own_number m n h)
-found_global m n (suc k) (g ∷ gs) h = when_false (nat_eq m n) (Some g.var.ty) (lookup (nat_eq m) (map global_entry (globals_from (suc n) gs))) (other_number m n k h) ∙ found_global m (suc n) k gs (omega (arith, h))
+found_global m n zero (g ∷ gs) h = cond_true (nat_eq m n) (Some g.var.ty) (lookup (nat_eq m) (map global_entry (globals_from (suc n) gs))) (nat_eq_plus_zero m n h)
+found_global m n (suc k) (g ∷ gs) h = cond_false (nat_eq m n) (Some g.var.ty) (lookup (nat_eq m) (map global_entry (globals_from (suc n) gs))) (nat_eq_plus_suc m n k h) ∙ found_global m (suc n) k gs (omega (arith, h))
 
 -- a function that has a body is among the code's
 pub found_function : (t : TypedTree) (m n k : ℕ) (fs : List FunctionTree) (f : FunctionTree) (b : BodyTree) → m ≡ n + k → slice_get fs k ≡ Some f → f.body ≡ Some b → is_some (find (λ (g : core.FunctionTree). nat_eq m g.id) (functions_from t n fs)) ≡ true
 found_function t m n k [] f b h is body = cc
 found_function t m n zero (g ∷ gs) f b h is body = subst (λ z. is_some (find (λ (c : core.FunctionTree). nat_eq m c.id) (code_if t n g z ++ functions_from t (suc n) gs)) ≡ true) (sym (ap (λ (z : FunctionTree). z.body) (same is) ∙ body))
-    (ap is_some (when_true (nat_eq m n) (Some (core_of t n g b)) (find (λ (c : core.FunctionTree). nat_eq m c.id) (functions_from t (suc n) gs)) (own_number m n h)))
+    (ap is_some (cond_true (nat_eq m n) (Some (core_of t n g b)) (find (λ (c : core.FunctionTree). nat_eq m c.id) (functions_from t (suc n) gs)) (nat_eq_plus_zero m n h)))
   where
     same : Some g ≡ Some f → g ≡ f
     same e = cc
@@ -68,7 +47,7 @@ found_function t m n (suc k) (g ∷ gs) f b h is body = go (found_function t m (
   where
     go : is_some (find (λ (c : core.FunctionTree). nat_eq m c.id) (functions_from t (suc n) gs)) ≡ true → (o : Option BodyTree) → is_some (find (λ (c : core.FunctionTree). nat_eq m c.id) (code_if t n g o ++ functions_from t (suc n) gs)) ≡ true
     go rest None = rest
-    go rest (Some y) = ap is_some (when_false (nat_eq m n) (Some (core_of t n g y)) (find (λ (c : core.FunctionTree). nat_eq m c.id) (functions_from t (suc n) gs)) (other_number m n k h)) ∙ rest
+    go rest (Some y) = ap is_some (cond_false (nat_eq m n) (Some (core_of t n g y)) (find (λ (c : core.FunctionTree). nat_eq m c.id) (functions_from t (suc n) gs)) (nat_eq_plus_suc m n k h)) ∙ rest
 
 -- ---- in order
 
@@ -77,11 +56,11 @@ less_self n = grind (arith, nat_tests)
 
 pub signatures_rise : (n : ℕ) (ss : List Signature) → are_rising n (map (λ (s : ℕ × Signature). s.0) (signatures_from n ss)) ≡ true
 signatures_rise n [] = refl
-signatures_rise n (s ∷ ss) = and_both (nat_le n n) (are_rising (suc n) (map (λ (s : ℕ × Signature). s.0) (signatures_from (suc n) ss))) (less_self n) (signatures_rise (suc n) ss)
+signatures_rise n (s ∷ ss) = both_hold (nat_le n n) (are_rising (suc n) (map (λ (s : ℕ × Signature). s.0) (signatures_from (suc n) ss))) (less_self n) (signatures_rise (suc n) ss)
 
 pub globals_rise : (n : ℕ) (gs : List TypedGlobal) → are_rising n (map (λ (g : GlobalTree). g.id) (globals_from n gs)) ≡ true
 globals_rise n [] = refl
-globals_rise n (g ∷ gs) = and_both (nat_le n n) (are_rising (suc n) (map (λ (g : GlobalTree). g.id) (globals_from (suc n) gs))) (less_self n) (globals_rise (suc n) gs)
+globals_rise n (g ∷ gs) = both_hold (nat_le n n) (are_rising (suc n) (map (λ (g : GlobalTree). g.id) (globals_from (suc n) gs))) (less_self n) (globals_rise (suc n) gs)
 
 pub functions_rise : (t : TypedTree) (m n : ℕ) (fs : List FunctionTree) → m ≤ n → are_rising m (map (λ (f : core.FunctionTree). f.id) (functions_from t n fs)) ≡ true
 functions_rise t m n [] h = refl
@@ -89,7 +68,7 @@ functions_rise t m n (f ∷ fs) h = go (functions_rise t m (suc n) fs (omega (ar
   where
     go : are_rising m (map (λ (f : core.FunctionTree). f.id) (functions_from t (suc n) fs)) ≡ true → are_rising (suc n) (map (λ (f : core.FunctionTree). f.id) (functions_from t (suc n) fs)) ≡ true → (o : Option BodyTree) → are_rising m (map (λ (f : core.FunctionTree). f.id) (code_if t n f o ++ functions_from t (suc n) fs)) ≡ true
     go skip rest None = skip
-    go skip rest (Some b) = and_both (nat_le m n) (are_rising (suc n) (map (λ (f : core.FunctionTree). f.id) (functions_from t (suc n) fs))) (grind (arith, nat_tests)) rest
+    go skip rest (Some b) = both_hold (nat_le m n) (are_rising (suc n) (map (λ (f : core.FunctionTree). f.id) (functions_from t (suc n) fs))) (grind (arith, nat_tests)) rest
 
 -- ---- variables, and temporaries behind them
 

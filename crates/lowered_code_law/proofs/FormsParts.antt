@@ -3,6 +3,7 @@ use Rattle.std.proofs.Common.{◌≡◌, ◌∙◌, ℕ, pos, refl, ap, sym, sub
 use Rattle.std.specs.Prelude.{◌&&◌, ◌||◌, not, is_none, nat_le}
 use Rattle.pt_base.specs.declared.int_type.IntType.TheVariants as i
 use Rattle.pt_base.specs.declared.span.Span.{Span}
+use Rattle.pt_base.proofs.Booleans.{both_hold_first, both_hold_second, false_not_true}
 use Rattle.pt_tree.specs.declared.signature.Elem.{Elem}
 use Rattle.pt_tree.specs.declared.signature.Elem.TheVariants as e
 use Rattle.typed_tree.specs.declared.types.VarTy.{VarTy}
@@ -14,7 +15,6 @@ use Rattle.typed_tree.specs.TypeTests.{same_types, integer_of, is_scalar, is_val
 use Rattle.typed_tree.specs.WellFormedExpression as f
 use Rattle.typed_tree.specs.WellFormedExpression.{Names, is_typed, form_fits, all_typed, links_fit, operands_fit, place_fits, root_fits, steps_fit, ty_of, root_type, step_type, steps_type, place_type, field_type, item_type, has_links, has_operands, is_addressed, is_written, keeps_const, place_const, is_assign, assigned_type, is_named, ends_in_field, is_object}
 use Rattle.typed_tree.specs.WellFormed.{is_variable_type}
-use Rattle.typed_tree.proofs.WellFormedLemmas.{and_left, and_right}
 use Rattle.pt_core.specs.CodeTree.{decay, address, constant}
 use Rattle.pt_core.specs.WellFormedExpression as core
 use Rattle.source_meaning.specs.Expressions.{type_or_int, type_of}
@@ -23,7 +23,6 @@ use Rattle.lowering.specs.Purity.{is_pure}
 use Rattle.lowering.specs.Expressions.{Scope, is_struct, field_in, decayed, decayed_type, element_place, left_place, valued, assigned, compounded, value_at, value_in, place_in, root_in, steps_in}
 use Rattle.lowered_code_law.proofs.FormsSettings.{Agrees, EffectsFit, LoweredFits, PlaceFits, Setting, Stand, context, source}
 use Rattle.typed_tree.proofs.SameTypes.{equal_options}
-use Rattle.lowered_code_law.proofs.FormsSameTypes.{never}
 use Rattle.lowered_code_law.proofs.FormsStanding.{held_fits, held_if_fits, stand_first}
 use Rattle.lowered_code_law.proofs.FormsSteps.{integer_is}
 use Rattle.lowered_code_law.proofs.FormsPlaces.{address_fits, decay_fits, element_fits, field_addressed, field_in_fits, field_is, fixed_if_fits}
@@ -42,7 +41,7 @@ array_value far = record { stmts = far.stmts; value = decay far.place; temps = f
 
 -- an array as a pointer to its first element
 pub array_decays : (w : Setting) (l : Bool) (elem : Elem) (count : ℕ) (g : Bool) (p : LoweredPlace) → PlaceFits w l (Array elem count) p → LoweredFits w l (Pointer elem g) (array_value p)
-array_decays w l elem count g p h = record { stmts = h.stmts; value = decay_fits (context w) p.place elem count g h.place h.type; temps = h.temps; known = and_left (f.is_elem (length w.names.structs) (Some elem)) (nat_le 1 count) h.known }
+array_decays w l elem count g p h = record { stmts = h.stmts; value = decay_fits (context w) p.place elem count g h.place h.type; temps = h.temps; known = both_hold_first (f.is_elem (length w.names.structs) (Some elem)) (nat_le 1 count) h.known }
 
 -- an index of an array
 pub item_fits : (w : Setting) (l : Bool) (n : ℕ) (b : Bool) (s : Span) (first index : src.ExprTree) (o : Option VarTy) (u : VarTy) (far : LoweredPlace) (v : Lowered) → item_type o (integer_of (ty_of index)) ≡ Some u →
@@ -70,32 +69,32 @@ steps_addressed c (step_and (src.item index s) rest) root before far n start h k
     let first = decayed s (src.place root (step_trees before)) far in
     let ty = decayed_type far.fixed far.ty in
     let base = held_if (not (is_pure index)) n (holding ty first) (array_value far) in
-    steps_addressed c rest root (before ++ src.item index s ∷ []) (element_place s first index ty base (value_in c index (past n base.temps))) n false (λ e. never e) k
+    steps_addressed c rest root (before ++ src.item index s ∷ []) (element_place s first index ty base (value_in c index (past n base.temps))) n false (λ e. false_not_true e) k
 
 pub root_addressed : (c : Scope) (root : RootTree) (n : ℕ) → is_named root ≡ true → core.is_addressed (root_in c root n).place ≡ true
 root_addressed c (src.local v) n h = refl
 root_addressed c (src.global g) n h = refl
-root_addressed c (src.deref a s) n h = never h
-root_addressed c (src.assigned a) n h = never h
+root_addressed c (src.deref a s) n h = false_not_true h
+root_addressed c (src.assigned a) n h = false_not_true h
 
 pub place_addressed : (c : Scope) (p : src.PlaceTree) (n : ℕ) → is_addressed p ≡ true → core.is_addressed (place_in c p n).place ≡ true
 place_addressed c (src.place root steps) n h =
-    steps_addressed c steps root [] (root_in c root n) n (is_named root) (root_addressed c root n) (and_right (is_object (src.place root steps)) (ends_in_field (is_named root) steps) h)
+    steps_addressed c steps root [] (root_in c root n) n (is_named root) (root_addressed c root n) (both_hold_second (is_object (src.place root steps)) (ends_in_field (is_named root) steps) h)
 
 -- ---- forms by their parts
 
 -- a read of a value that is no struct
 pub read_lowers : (w : Setting) (l : Bool) (n : ℕ) (p : src.PlaceTree) (t : Option VarTy) (v : LoweredPlace) → (same_types (place_type w.names p) t && is_value t) ≡ true → is_struct t ≡ false →
     ((ty : VarTy) → place_type w.names p ≡ Some ty → PlaceFits w l ty v) → LoweredFits w l (type_or_int t) (value_at v)
-read_lowers w l n p None v h ns k = never (and_right (same_types (place_type w.names p) None) false h)
+read_lowers w l n p None v h ns k = false_not_true (both_hold_second (same_types (place_type w.names p) None) false h)
 read_lowers w l n p (Some ty) v h ns k =
-    value_at_fits w l ty v (value_scalar ty (and_right (same_types (place_type w.names p) (Some ty)) (is_value (Some ty)) h) ns) (k ty (equal_options (place_type w.names p) (Some ty) (and_left (same_types (place_type w.names p) (Some ty)) (is_value (Some ty)) h)))
+    value_at_fits w l ty v (value_scalar ty (both_hold_second (same_types (place_type w.names p) (Some ty)) (is_value (Some ty)) h) ns) (k ty (equal_options (place_type w.names p) (Some ty) (both_hold_first (same_types (place_type w.names p) (Some ty)) (is_value (Some ty)) h)))
 
 -- a place of some type
 pub placed : (w : Setting) (p : src.PlaceTree) (t : Option VarTy) → (same_types (place_type w.names p) t && is_value t) ≡ true → Typed (place_type w.names p)
 placed w p t h =
-    let v = value_type t (and_right (same_types (place_type w.names p) t) (is_value t) h) in
-    record { type = v.type; is = equal_options (place_type w.names p) t (and_left (same_types (place_type w.names p) t) (is_value t) h) ∙ v.is }
+    let v = value_type t (both_hold_second (same_types (place_type w.names p) t) (is_value t) h) in
+    record { type = v.type; is = equal_options (place_type w.names p) t (both_hold_first (same_types (place_type w.names p) t) (is_value t) h) ∙ v.is }
 
 pub assignment_fits : (w : Setting) (l : Bool) (n : ℕ) (used : Bool) (p : src.PlaceTree) (a : src.ExprTree) (t : Option VarTy) (at of : LoweredPlace) (v : Lowered) (k : AssignRules w.names p a t) → (Stand w.variables n at.temps → PlaceFits w l k.type at) →
     (is_struct (Some k.type) ≡ true → Stand w.variables (past n (left_place used a n at).temps) of.temps → PlaceFits w l k.type of) →
@@ -131,12 +130,12 @@ address_lowers w l elem g p there h = record { stmts = h.stmts; value = address_
 
 pub discard_lowers : (w : Setting) (l : Bool) (t : Option VarTy) (d : Effects) → is_none t ≡ true → EffectsFit w l d.stmts d.temps → LoweredFits w l (type_or_int t) (valued d (constant i.Int (pos 0)))
 discard_lowers w l None d h k = nothing_fits w l d k
-discard_lowers w l (Some ty) d h k = never h
+discard_lowers w l (Some ty) d h k = false_not_true h
 
 -- a value that is held and dropped
 pub held_effects : (w : Setting) (l : Bool) (t : Option VarTy) (n : ℕ) (whole : src.ExprTree) (v : Lowered) → is_scalar t ≡ true → (Stand w.variables n v.temps → LoweredFits w l (type_or_int t) v) →
     Stand w.variables n (held n (holding (type_or_int t) whole) v).temps → EffectsFit w l (held n (holding (type_or_int t) whole) v).stmts (held n (holding (type_or_int t) whole) v).temps
-held_effects w l None n whole v h k stand = never h
+held_effects w l None n whole v h k stand = false_not_true h
 held_effects w l (Some ty) n whole v h k stand = let all = held_fits w l ty n (holding ty whole) v refl h k stand in record { stmts = all.stmts; temps = all.temps }
 
 pub field_lowers : (w : Setting) (l : Bool) (j : ℕ) (o : Option VarTy) (u : VarTy) (far : LoweredPlace) → Agrees w → field_type w.names.structs o j ≡ Some u → ((a : VarTy) → o ≡ Some a → PlaceFits w l a far) → PlaceFits w l u (field_in (source w.names) j far)

@@ -4,9 +4,13 @@ use Rattle.std.specs.Prelude.{◌&&◌, ◌||◌, not, slice_get, get_or, option
 use Rattle.std.specs.List.{list_all}
 use Rattle.std.specs.Map.{lookup}
 use Rattle.std.proofs.lemmas.Bool.Decides.{nat_tests}
+use Rattle.std.proofs.lemmas.Option.{get_or_from_slice_get}
 use Rattle.pt_base.specs.declared.int_type.IntType.{IntType}
 use Rattle.pt_base.specs.declared.int_type.IntType.TheVariants as i
 use Rattle.pt_base.specs.declared.span.Span.{Span}
+use Rattle.pt_base.proofs.Booleans.{both_hold, both_hold_first, both_hold_second, false_not_true}
+use Rattle.pt_base.proofs.Members.{all_true_at}
+use Rattle.pt_base.proofs.Places.{get_map}
 use Rattle.pt_tree.specs.declared.signature.Elem.{Elem}
 use Rattle.pt_tree.specs.declared.signature.Elem.TheVariants as e
 use Rattle.typed_tree.specs.declared.types.VarTy.{VarTy}
@@ -22,7 +26,6 @@ use Rattle.typed_tree.specs.TypeTests.{type_of_elem, same_elem, pointee_of, item
 use Rattle.typed_tree.specs.WellFormedExpression as f
 use Rattle.typed_tree.specs.WellFormedExpression.{is_elem, ty_of}
 use Rattle.typed_tree.specs.WellFormed.{is_plain_type, is_variable_type, is_small, field_sound, struct_sound, structs_sound, cells_fit, variable_sound, global_sound}
-use Rattle.typed_tree.proofs.WellFormedLemmas.{and_left, and_right, and_both}
 use Rattle.pt_core.specs.CodeTree.{ExprTree, local, global, deref, PlaceTree, place, check, decay, address, move}
 use Rattle.pt_core.specs.Types as core
 use Rattle.pt_core.specs.Types.{Context, type_of, type_at, place_type, root_type, path_type, field_type, pointee_type, global_type}
@@ -32,19 +35,11 @@ use Rattle.lowering.specs.Lowered.{Temp, Lowered, LoweredPlace, past, temp, hold
 use Rattle.lowering.specs.Expressions.{place_with_field, field_in, behind, fixed_root, fixed_through, fixed_if, named_place, element_place}
 use Rattle.lowered_code_law.proofs.FormsSettings.{Agrees, Leads, LoweredFits, PlaceFits, Setting, Stand, ValueFits, context, is_known, scope, source}
 use Rattle.typed_tree.proofs.SameTypes.{equal_elems}
-use Rattle.lowered_code_law.proofs.FormsSameTypes.{never, points, stands_pointer}
-use Rattle.lowered_code_law.proofs.FormsStanding.{fit_both, got, got_or, hold_fits, in_list, known_both, stand_first, stand_rest, temp_value}
+use Rattle.lowered_code_law.proofs.FormsSameTypes.{points, stands_pointer}
+use Rattle.lowered_code_law.proofs.FormsStanding.{fit_both, hold_fits, in_list, known_both, stand_first, stand_rest, temp_value}
 use Rattle.lowered_code_law.proofs.FormsSteps.{move_fits, one_type}
 
 -- ---- what is known of what there is
-
-pub all_at : {A : Type 0} (test : A → Bool) (xs : List A) (k : ℕ) (x : A) → list_all test xs ≡ true → slice_get xs k ≡ Some x → test x ≡ true
-all_at test [] k x h is = cc
-all_at test (y ∷ ys) zero x h is = subst (λ z. test z ≡ true) (same is) (and_left (test y) (list_all test ys) h)
-  where
-    same : Some y ≡ Some x → y ≡ x
-    same e = cc
-all_at test (y ∷ ys) (suc k) x h is = all_at test ys k x (and_right (test y) (list_all test ys) h) is
 
 pub elem_more : (a b : ℕ) (elem : Elem) → a ≤ b → is_elem a (Some elem) ≡ true → is_elem b (Some elem) ≡ true
 elem_more a b (e.Int t) k h = refl
@@ -54,17 +49,17 @@ elem_more a b (e.Struct n) k h = grind (arith, nat_tests)
 pub plain_variable : (a b : ℕ) (ty : VarTy) → a ≤ b → is_plain_type a ty ≡ true → is_variable_type b ty ≡ true
 plain_variable a b (Int t) k h = refl
 plain_variable a b (Struct n) k h = grind (arith, nat_tests)
-plain_variable a b (Array elem count) k h = and_both (is_elem b (Some elem)) (nat_le 1 count) (elem_more a b elem k (and_left (is_elem a (Some elem)) (nat_le 1 count) h)) (and_right (is_elem a (Some elem)) (nat_le 1 count) h)
-plain_variable a b (Pointer elem fixed) k h = never h
+plain_variable a b (Array elem count) k h = both_hold (is_elem b (Some elem)) (nat_le 1 count) (elem_more a b elem k (both_hold_first (is_elem a (Some elem)) (nat_le 1 count) h)) (both_hold_second (is_elem a (Some elem)) (nat_le 1 count) h)
+plain_variable a b (Pointer elem fixed) k h = false_not_true h
 
 struct_at : (structs rest : List StructInfo) (earlier k : ℕ) (s : StructInfo) → structs_sound structs earlier rest ≡ true → slice_get rest k ≡ Some s → (n : ℕ) × (n ≤ earlier + length rest) × (struct_sound structs n s ≡ true)
 struct_at structs [] earlier k s h is = cc
-struct_at structs (y ∷ rest) earlier zero s h is = (earlier, omega arith, subst (λ z. struct_sound structs earlier z ≡ true) (same is) (and_left (struct_sound structs earlier y) (structs_sound structs (suc earlier) rest) h))
+struct_at structs (y ∷ rest) earlier zero s h is = (earlier, omega arith, subst (λ z. struct_sound structs earlier z ≡ true) (same is) (both_hold_first (struct_sound structs earlier y) (structs_sound structs (suc earlier) rest) h))
   where
     same : Some y ≡ Some s → y ≡ s
     same e = cc
 struct_at structs (y ∷ rest) earlier (suc k) s h is =
-    let there = struct_at structs rest (suc earlier) k s (and_right (struct_sound structs earlier y) (structs_sound structs (suc earlier) rest) h) is in
+    let there = struct_at structs rest (suc earlier) k s (both_hold_second (struct_sound structs earlier y) (structs_sound structs (suc earlier) rest) h) is in
     let bound = there.1 in
     (there.0, more earlier there.0 (length rest) bound, there.2)
   where
@@ -85,14 +80,14 @@ no_struct = record { name = []; fields = [] }
 
 pub field_in_struct : (structs : List StructInfo) (n k : ℕ) (s : StructInfo) (y : Field) → structs_sound structs 0 structs ≡ true → slice_get structs n ≡ Some s → slice_get s.fields k ≡ Some y → FieldIs structs (Struct n) y.ty k
 field_in_struct structs n k s y sound p q =
-    let fields : fields_of structs n ≡ s.fields = ap (λ z. z.fields) (got_or structs n s no_struct p) in
+    let fields : fields_of structs n ≡ s.fields = ap (λ z. z.fields) (get_or_from_slice_get structs n s no_struct p) in
     let there = struct_at structs structs 0 n s sound p in
     let bound = there.1 in
-    let one = all_at (field_sound structs there.0) s.fields k y (and_right (nat_le 1 (length s.fields)) (list_all (field_sound structs there.0) s.fields) there.2) q in
+    let one = all_true_at (field_sound structs there.0) s.fields k y (both_hold_second (nat_le 1 (length s.fields)) (list_all (field_sound structs there.0) s.fields) there.2) q in
     record {
       field = subst (λ fs. nat_lt k (length fs) ≡ true) (sym fields) (in_list s.fields k y q);
-      type = ap (λ fs. (get_or fs k no_field).ty) fields ∙ ap (λ z. z.ty) (got_or s.fields k y no_field q);
-      known = plain_variable there.0 (length structs) y.ty (below there.0 (length structs) bound) (and_left (is_plain_type there.0 y.ty) (is_small structs y.ty) one);
+      type = ap (λ fs. (get_or fs k no_field).ty) fields ∙ ap (λ z. z.ty) (get_or_from_slice_get s.fields k y no_field q);
+      known = plain_variable there.0 (length structs) y.ty (below there.0 (length structs) bound) (both_hold_first (is_plain_type there.0 y.ty) (is_small structs y.ty) one);
     }
   where
     below : (a b : ℕ) → a ≤ 0 + b → a ≤ b
@@ -115,10 +110,10 @@ field_is structs (Pointer elem g) u k sound h = cc
 -- ---- paths
 
 path_with : (structs : List StructInfo) (ty : VarTy) (path : List ℕ) (k : ℕ) → is_path structs ty path ≡ true → is_field structs (path_type structs ty path) k ≡ true → is_path structs ty (path ++ k ∷ []) ≡ true
-path_with structs ty [] k h i = and_both (is_field structs ty k) true i refl
+path_with structs ty [] k h i = both_hold (is_field structs ty k) true i refl
 path_with structs ty (j ∷ js) k h i =
-    and_both (is_field structs ty j) (is_path structs (field_type structs ty j) (js ++ k ∷ [])) (and_left (is_field structs ty j) (is_path structs (field_type structs ty j) js) h)
-    (path_with structs (field_type structs ty j) js k (and_right (is_field structs ty j) (is_path structs (field_type structs ty j) js) h) i)
+    both_hold (is_field structs ty j) (is_path structs (field_type structs ty j) (js ++ k ∷ [])) (both_hold_first (is_field structs ty j) (is_path structs (field_type structs ty j) js) h)
+    (path_with structs (field_type structs ty j) js k (both_hold_second (is_field structs ty j) (is_path structs (field_type structs ty j) js) h) i)
 
 type_with : (structs : List StructInfo) (ty : VarTy) (path : List ℕ) (k : ℕ) → path_type structs ty (path ++ k ∷ []) ≡ field_type structs (path_type structs ty path) k
 type_with structs ty [] k = refl
@@ -127,8 +122,8 @@ type_with structs ty (j ∷ js) k = type_with structs (field_type structs ty j) 
 -- a field of a place
 pub field_fits : (c : Context) (p : PlaceTree) (k : ℕ) → place_fits c p ≡ true → is_field c.structs (place_type c p) k ≡ true → place_fits c (place_with_field p k) ≡ true
 field_fits c (place root path) k h i =
-    and_both (root_fits c root) (is_path c.structs (root_type c root) (path ++ k ∷ [])) (and_left (root_fits c root) (is_path c.structs (root_type c root) path) h)
-    (path_with c.structs (root_type c root) path k (and_right (root_fits c root) (is_path c.structs (root_type c root) path) h) i)
+    both_hold (root_fits c root) (is_path c.structs (root_type c root) (path ++ k ∷ [])) (both_hold_first (root_fits c root) (is_path c.structs (root_type c root) path) h)
+    (path_with c.structs (root_type c root) path k (both_hold_second (root_fits c root) (is_path c.structs (root_type c root) path) h) i)
 
 pub field_typed : (c : Context) (p : PlaceTree) (k : ℕ) → place_type c (place_with_field p k) ≡ field_type c.structs (place_type c p) k
 field_typed c (place root path) k = type_with c.structs (root_type c root) path k
@@ -158,10 +153,10 @@ variable_known structs vars k ty h is = go (slice_get vars k) refl is
     go : (o : Option Var) → slice_get vars k ≡ o → option_map (λ (y : Var). y.ty) o ≡ Some ty → (is_variable_type (length structs) ty && is_small structs ty) ≡ true
     go None p q = cc
     go (Some y) p q =
-        let sound = all_at (variable_sound structs) vars k y h p in
-        let type = and_left (is_variable_type (length structs) y.ty) (is_small structs y.ty && is_none y.holds) sound in
-        let small = and_left (is_small structs y.ty) (is_none y.holds) (and_right (is_variable_type (length structs) y.ty) (is_small structs y.ty && is_none y.holds) sound) in
-        subst (λ z. (is_variable_type (length structs) z && is_small structs z) ≡ true) (one_type y.ty ty q) (and_both (is_variable_type (length structs) y.ty) (is_small structs y.ty) type small)
+        let sound = all_true_at (variable_sound structs) vars k y h p in
+        let type = both_hold_first (is_variable_type (length structs) y.ty) (is_small structs y.ty && is_none y.holds) sound in
+        let small = both_hold_first (is_small structs y.ty) (is_none y.holds) (both_hold_second (is_variable_type (length structs) y.ty) (is_small structs y.ty && is_none y.holds) sound) in
+        subst (λ z. (is_variable_type (length structs) z && is_small structs z) ≡ true) (one_type y.ty ty q) (both_hold (is_variable_type (length structs) y.ty) (is_small structs y.ty) type small)
 
 global_known : (structs : List StructInfo) (globals : List TypedGlobal) (k : ℕ) (ty : VarTy) → list_all (global_sound structs) globals ≡ true → option_map (λ (y : TypedGlobal). y.var.ty) (slice_get globals k) ≡ Some ty → is_variable_type (length structs) ty ≡ true
 global_known structs globals k ty h is = go (slice_get globals k) refl is
@@ -169,32 +164,32 @@ global_known structs globals k ty h is = go (slice_get globals k) refl is
     go : (o : Option TypedGlobal) → slice_get globals k ≡ o → option_map (λ (y : TypedGlobal). y.var.ty) o ≡ Some ty → is_variable_type (length structs) ty ≡ true
     go None p q = cc
     go (Some y) p q =
-        let sound = and_left (is_plain_type (length structs) y.var.ty && is_small structs y.var.ty) (is_none y.var.holds && cells_fit (leaves_of structs y.var.ty) y.cells) (all_at (global_sound structs) globals k y h p) in
+        let sound = both_hold_first (is_plain_type (length structs) y.var.ty && is_small structs y.var.ty) (is_none y.var.holds && cells_fit (leaves_of structs y.var.ty) y.cells) (all_true_at (global_sound structs) globals k y h p) in
         subst (λ z. is_variable_type (length structs) z ≡ true) (one_type y.var.ty ty q)
-        (plain_variable (length structs) (length structs) y.var.ty (omega arith) (and_left (is_plain_type (length structs) y.var.ty) (is_small structs y.var.ty) sound))
+        (plain_variable (length structs) (length structs) y.var.ty (omega arith) (both_hold_first (is_plain_type (length structs) y.var.ty) (is_small structs y.var.ty) sound))
 
 pub variable_fits : (w : Setting) (v : ℕ) (ty : VarTy) → Agrees w → option_map (λ (y : Var). y.ty) (slice_get w.names.vars v) ≡ Some ty → place_fits (context w) (place (local v) []) ≡ true
-variable_fits w v ty a is = and_both (nat_lt v (length w.variables)) true (in_list w.variables v ty (a.variables v ty is)) refl
+variable_fits w v ty a is = both_hold (nat_lt v (length w.variables)) true (in_list w.variables v ty (a.variables v ty is)) refl
 
 pub variable_place_fits : (w : Setting) (l : Bool) (r : t.RootTree) (v : ℕ) (ty : VarTy) → Agrees w → option_map (λ (y : Var). y.ty) (slice_get w.names.vars v) ≡ Some ty →
     PlaceFits w l ty (named_place r (type_at (source w.names).variables v) (place (local v) []))
 variable_place_fits w l r v ty a is = record {
   stmts = tt;
   place = variable_fits w v ty a is;
-  type = got_or w.variables v ty (Int i.Int) (a.variables v ty is);
-  own = got_or (map (λ (y : Var). y.ty) w.names.vars) v ty (Int i.Int) (got (λ (y : Var). y.ty) w.names.vars v ∙ is);
+  type = get_or_from_slice_get w.variables v ty (Int i.Int) (a.variables v ty is);
+  own = get_or_from_slice_get (map (λ (y : Var). y.ty) w.names.vars) v ty (Int i.Int) (get_map (λ (y : Var). y.ty) w.names.vars v ∙ is);
   through = tt;
   temps = tt;
-  known = and_left (is_variable_type (length w.names.structs) ty) (is_small w.names.structs ty) (variable_known w.names.structs w.names.vars v ty a.vars is);
+  known = both_hold_first (is_variable_type (length w.names.structs) ty) (is_small w.names.structs ty) (variable_known w.names.structs w.names.vars v ty a.vars is);
 }
 
 pub global_place_fits : (w : Setting) (l : Bool) (r : t.RootTree) (g : ℕ) (ty : VarTy) → Agrees w → option_map (λ (y : TypedGlobal). y.var.ty) (slice_get w.names.globals g) ≡ Some ty →
     PlaceFits w l ty (named_place r (type_at (source w.names).globals g) (place (global g) []))
 global_place_fits w l r g ty a is = record {
   stmts = tt;
-  place = and_both (is_some (lookup (nat_eq g) w.globals)) true (subst (λ z. is_some z ≡ true) (sym (a.globals g ty is)) refl) refl;
+  place = both_hold (is_some (lookup (nat_eq g) w.globals)) true (subst (λ z. is_some z ≡ true) (sym (a.globals g ty is)) refl) refl;
   type = ap (λ z. unwrap_or z (Int i.Int)) (a.globals g ty is);
-  own = got_or (map (λ (y : TypedGlobal). y.var.ty) w.names.globals) g ty (Int i.Int) (got (λ (y : TypedGlobal). y.var.ty) w.names.globals g ∙ is);
+  own = get_or_from_slice_get (map (λ (y : TypedGlobal). y.var.ty) w.names.globals) g ty (Int i.Int) (get_map (λ (y : TypedGlobal). y.var.ty) w.names.globals g ∙ is);
   through = tt;
   temps = tt;
   known = global_known w.names.structs w.names.globals g ty a.plain is;
@@ -209,7 +204,7 @@ elem_known n (e.Struct k) h = h
 pub deref_fits : (c : Context) (elem : Elem) (g : Bool) (a : ExprTree) (s : Span) → ValueFits c (Pointer elem g) a → place_fits c (place (deref a s) []) ≡ true
 deref_fits c elem g a s v =
     let p = stands_pointer (type_of c a) elem g v.type in
-    and_both (expr_fits c a && is_some (pointee_of (Some (type_of c a)))) true (and_both (expr_fits c a) (is_some (pointee_of (Some (type_of c a)))) v.fits (subst (λ z. is_some (pointee_of (Some z)) ≡ true) (sym p.is) refl)) refl
+    both_hold (expr_fits c a && is_some (pointee_of (Some (type_of c a)))) true (both_hold (expr_fits c a) (is_some (pointee_of (Some (type_of c a)))) v.fits (subst (λ z. is_some (pointee_of (Some z)) ≡ true) (sym p.is) refl)) refl
 
 pub deref_type : (c : Context) (elem : Elem) (g : Bool) (a : ExprTree) (s : Span) → ValueFits c (Pointer elem g) a → place_type c (place (deref a s) []) ≡ type_of_elem elem
 deref_type c elem g a s v = ap pointee_type (stands_pointer (type_of c a) elem g v.type).is
@@ -256,13 +251,13 @@ record Lead (a b : VarTy) : Type 0 where
   to : b ≡ Pointer elem held
 
 lead : (a b : VarTy) → is_some (pointee_of (Some a)) ≡ true → stands_for a b ≡ true → Lead a b
-lead (Pointer elem g) (Pointer d k) h i = record { elem = elem; own = g; held = k; from = refl; to = ap (λ z. Pointer z k) (sym (equal_elems elem d (and_left (same_elem elem d) (not g || k) i))) }
-lead (Pointer elem g) (Int t) h i = never i
-lead (Pointer elem g) (Struct n) h i = never i
-lead (Pointer elem g) (Array d n) h i = never i
-lead (Int t) b h i = never h
-lead (Struct n) b h i = never h
-lead (Array d n) b h i = never h
+lead (Pointer elem g) (Pointer d k) h i = record { elem = elem; own = g; held = k; from = refl; to = ap (λ z. Pointer z k) (sym (equal_elems elem d (both_hold_first (same_elem elem d) (not g || k) i))) }
+lead (Pointer elem g) (Int t) h i = false_not_true i
+lead (Pointer elem g) (Struct n) h i = false_not_true i
+lead (Pointer elem g) (Array d n) h i = false_not_true i
+lead (Int t) b h i = false_not_true h
+lead (Struct n) b h i = false_not_true h
+lead (Array d n) b h i = false_not_true h
 
 -- the same place through a temporary that holds its pointer
 fixed_place : (w : Setting) (l : Bool) (ty : VarTy) (n : ℕ) (y : Temp) (p : LoweredPlace) (a : ExprTree) (s : Span) (path : List ℕ) → p.place ≡ place (deref a s) path → p.through ≡ Some y →
@@ -273,21 +268,21 @@ fixed_place w l ty n y p a s path is by h stand =
     let old : place_fits (context w) (place (deref a s) path) ≡ true = subst (λ z. place_fits (context w) z ≡ true) is all.place in
     let kind : place_type (context w) (place (deref a s) path) ≡ ty = subst (λ z. place_type (context w) z ≡ ty) is all.type in
     let leads : Leads w (place (deref a s) path) (Some y) = subst (λ o. Leads w (place (deref a s) path) o) by (subst (λ z. Leads w z p.through) is all.through) in
-    let root = and_left (root_fits (context w) (deref a s)) (is_path w.names.structs (root_type (context w) (deref a s)) path) old in
-    let way = and_right (root_fits (context w) (deref a s)) (is_path w.names.structs (root_type (context w) (deref a s)) path) old in
-    let two = lead (type_of (context w) a) y.ty (and_right (expr_fits (context w) a) (is_some (pointee_of (Some (type_of (context w) a)))) root) leads.0 in
+    let root = both_hold_first (root_fits (context w) (deref a s)) (is_path w.names.structs (root_type (context w) (deref a s)) path) old in
+    let way = both_hold_second (root_fits (context w) (deref a s)) (is_path w.names.structs (root_type (context w) (deref a s)) path) old in
+    let two = lead (type_of (context w) a) y.ty (both_hold_second (expr_fits (context w) a) (is_some (pointee_of (Some (type_of (context w) a)))) root) leads.0 in
     let scalar : is_scalar (Some y.ty) ≡ true = subst (λ z. is_scalar (Some z) ≡ true) (sym two.to) refl in
     let value = temp_value w (past n p.temps) y.ty here scalar in
-    let held_is : type_of (context w) (temp (past n p.temps)) ≡ y.ty = got_or w.variables (past n p.temps) y.ty (Int i.Int) here in
+    let held_is : type_of (context w) (temp (past n p.temps)) ≡ y.ty = get_or_from_slice_get w.variables (past n p.temps) y.ty (Int i.Int) here in
     let same : root_type (context w) (deref a s) ≡ root_type (context w) (deref (temp (past n p.temps)) s) =
     ap pointee_type two.from ∙ sym (ap pointee_type (held_is ∙ two.to)) in
     let there : place_fits (context w) (place (deref (temp (past n p.temps)) s) path) ≡ true =
-    and_both (root_fits (context w) (deref (temp (past n p.temps)) s)) (is_path w.names.structs (root_type (context w) (deref (temp (past n p.temps)) s)) path)
-    (and_both (expr_fits (context w) (temp (past n p.temps))) (is_some (pointee_of (Some (type_of (context w) (temp (past n p.temps)))))) value.fits (subst (λ z. is_some (pointee_of (Some z)) ≡ true) (sym (held_is ∙ two.to)) refl))
+    both_hold (root_fits (context w) (deref (temp (past n p.temps)) s)) (is_path w.names.structs (root_type (context w) (deref (temp (past n p.temps)) s)) path)
+    (both_hold (expr_fits (context w) (temp (past n p.temps))) (is_some (pointee_of (Some (type_of (context w) (temp (past n p.temps)))))) value.fits (subst (λ z. is_some (pointee_of (Some z)) ≡ true) (sym (held_is ∙ two.to)) refl))
     (subst (λ z. is_path w.names.structs z path ≡ true) same way) in
     record {
       stmts = fit_both (scope w) l p.stmts (hold (past n p.temps) a ∷ check (place (deref (temp (past n p.temps)) s) path) ∷ []) all.stmts
-          (hold_fits w l (past n p.temps) y.ty a here scalar (record { fits = and_left (expr_fits (context w) a) (is_some (pointee_of (Some (type_of (context w) a)))) root; type = leads.0 }), (there, tt));
+          (hold_fits w l (past n p.temps) y.ty a here scalar (record { fits = both_hold_first (expr_fits (context w) a) (is_some (pointee_of (Some (type_of (context w) a)))) root; type = leads.0 }), (there, tt));
       place = there;
       type = sym (ap (λ z. path_type w.names.structs z path) same) ∙ kind;
       own = all.own;
@@ -315,11 +310,11 @@ fixed_if_fits false w l ty n p h stand = h stand
 
 pub decay_fits : (c : Context) (p : PlaceTree) (elem : Elem) (count : ℕ) (g : Bool) → place_fits c p ≡ true → place_type c p ≡ Array elem count → ValueFits c (Pointer elem g) (decay p)
 decay_fits c p elem count g h is = record {
-  fits = and_both (place_fits c p) (is_some (item_of (Some (place_type c p)))) h (subst (λ z. is_some (item_of (Some z)) ≡ true) (sym is) refl);
+  fits = both_hold (place_fits c p) (is_some (item_of (Some (place_type c p)))) h (subst (λ z. is_some (item_of (Some z)) ≡ true) (sym is) refl);
   type = subst (λ z. stands_for (Pointer (core.element_of z) false) (Pointer elem g) ≡ true) (sym is) (points elem false g refl);
 }
 
-elem_of_type : (elem : Elem) → core.element_of (type_of_elem elem) ≡ elem
+pub elem_of_type : (elem : Elem) → core.element_of (type_of_elem elem) ≡ elem
 elem_of_type (e.Int t) = refl
 elem_of_type (e.Struct n) = refl
 
@@ -329,8 +324,8 @@ elem_is_some (e.Struct n) = refl
 
 pub address_fits : (c : Context) (p : PlaceTree) (elem : Elem) (g : Bool) → place_fits c p ≡ true → place_type c p ≡ type_of_elem elem → is_addressed p ≡ true → ValueFits c (Pointer elem g) (address p)
 address_fits c p elem g h is k = record {
-  fits = and_both (place_fits c p) (is_addressed p && is_some (element_of (Some (place_type c p)))) h
-      (and_both (is_addressed p) (is_some (element_of (Some (place_type c p)))) k (subst (λ z. is_some (element_of (Some z)) ≡ true) (sym is) (elem_is_some elem)));
+  fits = both_hold (place_fits c p) (is_addressed p && is_some (element_of (Some (place_type c p)))) h
+      (both_hold (is_addressed p) (is_some (element_of (Some (place_type c p)))) k (subst (λ z. is_some (element_of (Some z)) ≡ true) (sym is) (elem_is_some elem)));
   type = subst (λ z. stands_for (Pointer (core.element_of z) false) (Pointer elem g) ≡ true) (sym is) (subst (λ z. stands_for (Pointer z false) (Pointer elem g) ≡ true) (sym (elem_of_type elem)) (points elem false g refl));
 }
 

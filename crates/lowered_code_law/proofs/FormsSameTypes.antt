@@ -11,23 +11,16 @@ use Rattle.typed_tree.specs.declared.types.VarTy.{VarTy}
 use Rattle.typed_tree.specs.declared.types.VarTy.TheVariants as v
 use Rattle.typed_tree.specs.TypeTests.{place_of, same_int, same_elem, same_bool, same_type, same_types, is_scalar}
 use Rattle.typed_tree.specs.TypeRules.{is_promoted}
-use Rattle.typed_tree.proofs.WellFormedLemmas.{and_left, and_right, and_both}
 use Rattle.pt_core.specs.WellFormedExpression.{stands_for}
-use Rattle.pt_base.proofs.SameNumbers.{number_self}
+use Rattle.pt_base.proofs.Booleans.{both_hold, both_hold_first, both_hold_second, false_not_true, not_or_self}
+use Rattle.pt_base.proofs.Numbers.{nat_eq_self}
 use Rattle.typed_tree.proofs.SameTypes.{equal_ints, equal_elems, equal_types, int_self, elem_self, type_self}
-
-pub never : {X : Type 0} → false ≡ true → X
-never h = cc
-
-pub keeps_self : (f : Bool) → (not f || f) ≡ true
-keeps_self true = refl
-keeps_self false = refl
 
 pub stands_self : (a : VarTy) → stands_for a a ≡ true
 stands_self (v.Int t) = int_self t
-stands_self (v.Struct n) = number_self n
+stands_self (v.Struct n) = nat_eq_self n
 stands_self (v.Array e count) = type_self (v.Array e count)
-stands_self (v.Pointer e fixed) = and_both (same_elem e e) (not fixed || fixed) (elem_self e) (keeps_self fixed)
+stands_self (v.Pointer e fixed) = both_hold (same_elem e e) (not fixed || fixed) (elem_self e) (not_or_self fixed)
 
 -- ---- what may stand where another is wanted
 
@@ -44,18 +37,18 @@ pub record PointsTo (a : VarTy) (elem : Elem) (fixed : Bool) : Type 0 where
 
 pub stands_pointer : (a : VarTy) (e : Elem) (f : Bool) → stands_for a (v.Pointer e f) ≡ true → PointsTo a e f
 stands_pointer (v.Pointer a g) e f h =
-    record { own = g; is = ap (λ x. v.Pointer x g) (equal_elems a e (and_left (same_elem a e) (not g || f) h)); keeps = and_right (same_elem a e) (not g || f) h }
+    record { own = g; is = ap (λ x. v.Pointer x g) (equal_elems a e (both_hold_first (same_elem a e) (not g || f) h)); keeps = both_hold_second (same_elem a e) (not g || f) h }
 stands_pointer (v.Int a) e f h = cc
 stands_pointer (v.Struct n) e f h = cc
 stands_pointer (v.Array a n) e f h = cc
 
 pub points : (e : Elem) (f g : Bool) → (not f || g) ≡ true → stands_for (v.Pointer e f) (v.Pointer e g) ≡ true
-points e f g h = and_both (same_elem e e) (not f || g) (elem_self e) h
+points e f g h = both_hold (same_elem e e) (not f || g) (elem_self e) h
 
 pub keeps_both : (f g h : Bool) → (not f || g) ≡ true → (not g || h) ≡ true → (not f || h) ≡ true
 keeps_both false g h p q = refl
 keeps_both true true h p q = q
-keeps_both true false h p q = never p
+keeps_both true false h p q = false_not_true p
 
 pub stands_scalar : (a b : VarTy) → stands_for a b ≡ true → is_scalar (Some b) ≡ true → is_scalar (Some a) ≡ true
 stands_scalar (v.Int t) b h k = refl

@@ -1,14 +1,15 @@
 -- Statements one after the other, and temporaries where they stand.
 use Rattle.std.proofs.Common.{◌≡◌, ◌∙◌, ℕ, zero, suc, ◌+◌, refl, ap, sym, subst, arith, Bool, true, false, Some, List, [], ◌∷◌, ◌++◌, length}
-use Rattle.std.specs.Prelude.{◌&&◌, slice_get, get_or, nat_lt, option_map, map}
+use Rattle.std.specs.Prelude.{◌&&◌, slice_get, nat_lt}
 use Rattle.std.proofs.lemmas.Bool.Decides.{nat_tests}
+use Rattle.std.proofs.lemmas.Option.{get_or_from_slice_get}
 use Rattle.pt_base.specs.declared.int_type.IntType.TheVariants as i
+use Rattle.pt_base.proofs.Booleans.{both_hold, both_hold_first, both_hold_second}
 use Rattle.typed_tree.specs.declared.types.VarTy.{VarTy}
 use Rattle.typed_tree.specs.declared.types.VarTy.TheVariants.{Int}
 use Rattle.typed_tree.specs.declared.types.StructInfo.{StructInfo}
 use Rattle.typed_tree.specs.TypeTests.{is_scalar}
 use Rattle.typed_tree.specs.WellFormed.{is_variable_type}
-use Rattle.typed_tree.proofs.WellFormedLemmas.{and_left, and_right, and_both}
 use Rattle.pt_core.specs.CodeTree.{ExprTree, PlaceTree, StmtTree, assign, choose, read, stmt_trees}
 use Rattle.pt_core.specs.Types.{Context, type_of, place_type}
 use Rattle.pt_core.specs.WellFormedExpression.{stands_for, expr_fits, place_fits}
@@ -24,16 +25,6 @@ in_list [] k x h = cc
 in_list (y ∷ ys) zero x h = grind (arith, nat_tests)
 in_list (y ∷ ys) (suc k) x h = let rest = in_list ys k x h in grind (arith, nat_tests, rest)
 
-pub got_or : {A : Type 0} (xs : List A) (k : ℕ) (x d : A) → slice_get xs k ≡ Some x → get_or xs k d ≡ x
-got_or [] k x d h = cc
-got_or (z ∷ zs) zero x d h = cc
-got_or (z ∷ zs) (suc k) x d h = got_or zs k x d h
-
-pub got : {A B : Type 0} (f : A → B) (xs : List A) (k : ℕ) → slice_get (map f xs) k ≡ option_map f (slice_get xs k)
-got f [] k = refl
-got f (x ∷ xs) zero = refl
-got f (x ∷ xs) (suc k) = got f xs k
-
 pub regroup : {A : Type 0} (xs ys zs : List A) → xs ++ ys ++ zs ≡ xs ++ (ys ++ zs)
 regroup [] ys zs = refl
 regroup (x ∷ xs) ys zs = ap (λ rest. x ∷ rest) (regroup xs ys zs)
@@ -46,7 +37,7 @@ fit_both k l (x ∷ xs) ys h i = (h.0, fit_both k l xs ys h.1 i)
 
 pub fit_trees : (k : Scope) (l : Bool) (xs : List StmtTree) → Fit k l xs → stmts_fit k l (stmt_trees xs) ≡ true
 fit_trees k l [] h = refl
-fit_trees k l (x ∷ xs) h = and_both (stmt_fits k l x) (stmts_fit k l (stmt_trees xs)) h.0 (fit_trees k l xs h.1)
+fit_trees k l (x ∷ xs) h = both_hold (stmt_fits k l x) (stmts_fit k l (stmt_trees xs)) h.0 (fit_trees k l xs h.1)
 
 -- ---- temporaries
 
@@ -73,10 +64,10 @@ pub stand_three : (vs : List VarTy) (k : ℕ) (xs ys zs : List Temp) → Stand v
 stand_three vs k xs ys zs h = subst (λ ts. Stand vs k ts) (regroup xs ys zs) h
 
 pub known_scalar : (structs : List StructInfo) (ty : VarTy) → is_known structs ty ≡ true → is_scalar (Some ty) ≡ true
-known_scalar structs ty h = and_left (is_scalar (Some ty)) (is_variable_type (length structs) ty) h
+known_scalar structs ty h = both_hold_first (is_scalar (Some ty)) (is_variable_type (length structs) ty) h
 
 pub known_variable : (structs : List StructInfo) (ty : VarTy) → is_known structs ty ≡ true → is_variable_type (length structs) ty ≡ true
-known_variable structs ty h = and_right (is_scalar (Some ty)) (is_variable_type (length structs) ty) h
+known_variable structs ty h = both_hold_second (is_scalar (Some ty)) (is_variable_type (length structs) ty) h
 
 -- ---- reading and storing
 
@@ -85,21 +76,21 @@ value_of_type c a b x e h = subst (λ z. ValueFits c z x) e h
 
 pub read_fits : (c : Context) (p : PlaceTree) (ty : VarTy) → place_fits c p ≡ true → place_type c p ≡ ty → is_scalar (Some ty) ≡ true → ValueFits c ty (read p)
 read_fits c p ty h is scalar = record {
-  fits = and_both (place_fits c p) (is_scalar (Some (place_type c p))) h (subst (λ z. is_scalar (Some z) ≡ true) (sym is) scalar);
+  fits = both_hold (place_fits c p) (is_scalar (Some (place_type c p))) h (subst (λ z. is_scalar (Some z) ≡ true) (sym is) scalar);
   type = subst (λ z. stands_for z ty ≡ true) (sym is) (stands_self ty);
 }
 
 pub assign_fits : (w : Setting) (l : Bool) (p : PlaceTree) (ty : VarTy) (a : ExprTree) → place_fits (context w) p ≡ true → place_type (context w) p ≡ ty → is_scalar (Some ty) ≡ true → ValueFits (context w) ty a → stmt_fits (scope w) l (assign p a) ≡ true
 assign_fits w l p ty a h is scalar v =
-    and_both (place_fits (context w) p) (is_scalar (Some (place_type (context w) p)) && (expr_fits (context w) a && stands_for (type_of (context w) a) (place_type (context w) p))) h
-    (and_both (is_scalar (Some (place_type (context w) p))) (expr_fits (context w) a && stands_for (type_of (context w) a) (place_type (context w) p)) (subst (λ z. is_scalar (Some z) ≡ true) (sym is) scalar)
-    (and_both (expr_fits (context w) a) (stands_for (type_of (context w) a) (place_type (context w) p)) v.fits (subst (λ z. stands_for (type_of (context w) a) z ≡ true) (sym is) v.type)))
+    both_hold (place_fits (context w) p) (is_scalar (Some (place_type (context w) p)) && (expr_fits (context w) a && stands_for (type_of (context w) a) (place_type (context w) p))) h
+    (both_hold (is_scalar (Some (place_type (context w) p))) (expr_fits (context w) a && stands_for (type_of (context w) a) (place_type (context w) p)) (subst (λ z. is_scalar (Some z) ≡ true) (sym is) scalar)
+    (both_hold (expr_fits (context w) a) (stands_for (type_of (context w) a) (place_type (context w) p)) v.fits (subst (λ z. stands_for (type_of (context w) a) z ≡ true) (sym is) v.type)))
 
 pub temp_fits : (w : Setting) (k : ℕ) (ty : VarTy) → slice_get w.variables k ≡ Some ty → place_fits (context w) (temp_place k) ≡ true
-temp_fits w k ty h = and_both (nat_lt k (length w.variables)) true (in_list w.variables k ty h) refl
+temp_fits w k ty h = both_hold (nat_lt k (length w.variables)) true (in_list w.variables k ty h) refl
 
 pub temp_type : (w : Setting) (k : ℕ) (ty : VarTy) → slice_get w.variables k ≡ Some ty → place_type (context w) (temp_place k) ≡ ty
-temp_type w k ty h = got_or w.variables k ty (Int i.Int) h
+temp_type w k ty h = get_or_from_slice_get w.variables k ty (Int i.Int) h
 
 pub temp_value : (w : Setting) (k : ℕ) (ty : VarTy) → slice_get w.variables k ≡ Some ty → is_scalar (Some ty) ≡ true → ValueFits (context w) ty (temp k)
 temp_value w k ty h scalar = read_fits (context w) (temp_place k) ty (temp_fits w k ty h) (temp_type w k ty h) scalar
@@ -113,7 +104,7 @@ pub held_fits : (w : Setting) (l : Bool) (ty : VarTy) (n : ℕ) (x : Temp) (v : 
 held_fits w l ty n x v is scalar h stand =
     let all = h (stand_first w.variables n v.temps (x ∷ []) stand) in
     let here : slice_get w.variables (past n v.temps) ≡ Some ty = (stand_rest w.variables n v.temps (x ∷ []) stand).0 ∙ ap Some is in
-    let known = and_both (is_scalar (Some ty)) (is_variable_type (length w.names.structs) ty) scalar all.known in
+    let known = both_hold (is_scalar (Some ty)) (is_variable_type (length w.names.structs) ty) scalar all.known in
     record {
       stmts = fit_both (scope w) l v.stmts (hold (past n v.temps) v.value ∷ []) all.stmts (hold_fits w l (past n v.temps) ty v.value here scalar all.value, tt);
       value = temp_value w (past n v.temps) ty here scalar;
@@ -130,6 +121,6 @@ held_if_fits false w l ty n x v is scalar h stand = h stand
 
 pub choose_fits : (w : Setting) (l : Bool) (ty : VarTy) (a : ExprTree) (xs ys : List StmtTree) → ValueFits (context w) ty a → is_scalar (Some ty) ≡ true → Fit (scope w) l xs → Fit (scope w) l ys → stmt_fits (scope w) l (choose a (stmt_trees xs) (stmt_trees ys)) ≡ true
 choose_fits w l ty a xs ys v scalar h i =
-    and_both (expr_fits (context w) a && is_scalar (Some (type_of (context w) a))) (stmts_fit (scope w) l (stmt_trees xs) && stmts_fit (scope w) l (stmt_trees ys))
-    (and_both (expr_fits (context w) a) (is_scalar (Some (type_of (context w) a))) v.fits (stands_scalar (type_of (context w) a) ty v.type scalar))
-    (and_both (stmts_fit (scope w) l (stmt_trees xs)) (stmts_fit (scope w) l (stmt_trees ys)) (fit_trees (scope w) l xs h) (fit_trees (scope w) l ys i))
+    both_hold (expr_fits (context w) a && is_scalar (Some (type_of (context w) a))) (stmts_fit (scope w) l (stmt_trees xs) && stmts_fit (scope w) l (stmt_trees ys))
+    (both_hold (expr_fits (context w) a) (is_scalar (Some (type_of (context w) a))) v.fits (stands_scalar (type_of (context w) a) ty v.type scalar))
+    (both_hold (stmts_fit (scope w) l (stmt_trees xs)) (stmts_fit (scope w) l (stmt_trees ys)) (fit_trees (scope w) l xs h) (fit_trees (scope w) l ys i))

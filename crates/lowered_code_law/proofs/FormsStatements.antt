@@ -2,10 +2,13 @@
 use Rattle.std.proofs.Common.{◌≡◌, ◌∙◌, ◌≤◌, ℕ, pos, suc, ◌+◌, refl, sym, subst, arith, Bool, true, false, Option, Some, None, List, [], ◌∷◌, ◌++◌, length, map, if◌then◌else◌}
 use Rattle.std.specs.Prelude.{◌&&◌, slice_get, get_or, option_map, unwrap_or}
 use Rattle.std.specs.List.{list_all}
+use Rattle.std.proofs.lemmas.Option.{get_or_from_slice_get}
 use Rattle.pt_base.specs.declared.int_type.IntType.{IntType}
 use Rattle.pt_base.specs.declared.int_type.IntType.TheVariants as i
 use Rattle.pt_base.specs.declared.span.Span.{Span}
 use Rattle.pt_base.specs.IntTypes.{promoted}
+use Rattle.pt_base.proofs.Booleans.{both_hold, both_hold_first, both_hold_second, false_not_true}
+use Rattle.pt_base.proofs.Places.{get_map}
 use Rattle.pt_int.specs.declared.operator.BinOp.TheVariants.{Le, Eq}
 use Rattle.typed_tree.specs.declared.ids.ExprId.{ExprId}
 use Rattle.typed_tree.specs.declared.types.VarTy.{VarTy}
@@ -28,7 +31,6 @@ use Rattle.typed_tree.specs.WellFormedExpression.{Names, ty_of, is_typed}
 use Rattle.typed_tree.specs.WellFormedStatement as s
 use Rattle.typed_tree.specs.WellFormedStatement.{found_fits, any_type, promotes_to, option_fits, item_types, items_fit, init_fits, declarator_fits, declaration_fits, for_init_fits, labels_of, label_fits, labels_distinct, labels_fit, is_sound, else_sound, all_sound, sections_sound}
 use Rattle.typed_tree.specs.WellFormed.{is_variable_type, is_small}
-use Rattle.typed_tree.proofs.WellFormedLemmas.{and_left, and_right, and_both}
 use Rattle.pt_core.specs.CodeTree.{PlaceTree, place, local, constant, binary, clear, assign, choose, repeat, break_out, give_back, stmt_trees}
 use Rattle.pt_core.specs.Types.{type_of, place_type, type_at}
 use Rattle.pt_core.specs.WellFormedExpression.{expr_fits, place_fits}
@@ -41,8 +43,8 @@ use Rattle.lowering.specs.Leaves.{leaf_places}
 use Rattle.lowering.specs.Statements.{Code, outermost, Onward, nowhere, to_head, past_flag, number, onwards, inside, behind_switch, variable_place, items_in, value_stored, initialised, declared, tested, stepped, looped, on_the_way_back, first_told, case_of, cases_from, otherwise_of, section_by, switch_temps, switched, chosen, returned, begun, statement_in, otherwise_in, all_in, sections_in}
 use Rattle.lowered_code_law.proofs.FormsSettings.{Agrees, EffectsFit, Fit, LoweredFits, PlaceFits, Setting, Stand, ValueFits, context, scope, source}
 use Rattle.typed_tree.proofs.SameTypes.{equal_ints, equal_options}
-use Rattle.lowered_code_law.proofs.FormsSameTypes.{never, promoted_promoted, stands_int, usual_promoted}
-use Rattle.lowered_code_law.proofs.FormsStanding.{assign_fits, choose_fits, fit_both, fit_trees, got, got_or, hold_fits, in_list, known_both, stand_first, stand_rest, stand_three, temp_value}
+use Rattle.lowered_code_law.proofs.FormsSameTypes.{promoted_promoted, stands_int, usual_promoted}
+use Rattle.lowered_code_law.proofs.FormsStanding.{assign_fits, choose_fits, fit_both, fit_trees, hold_fits, in_list, known_both, stand_first, stand_rest, stand_three, temp_value}
 use Rattle.lowered_code_law.proofs.FormsSteps.{as_int_fits, binary_fits, constant_fits}
 use Rattle.lowered_code_law.proofs.FormsPlaces.{variable_fits, variable_known, variable_place_fits}
 use Rattle.lowered_code_law.proofs.FormsRules.{no_struct, scalar_type, type_is, value_scalar}
@@ -78,8 +80,8 @@ pub found : (n : Names) (exprs : List t.ExprTree) (test : Option VarTy → Bool)
 found n exprs test a h = go (slice_get exprs a) refl h
   where
     go : (o : Option t.ExprTree) → slice_get exprs a ≡ o → found_fits n test o ≡ true → (is_typed n (get_or exprs a no_expr) ≡ true) × (test (ty_of (get_or exprs a no_expr)) ≡ true)
-    go None is k = never k
-    go (Some e) is k = subst (λ z. (is_typed n z ≡ true) × (test (ty_of z) ≡ true)) (sym (got_or exprs a e no_expr is)) (and_left (is_typed n e) (test (ty_of e)) k, and_right (is_typed n e) (test (ty_of e)) k)
+    go None is k = false_not_true k
+    go (Some e) is k = subst (λ z. (is_typed n z ≡ true) × (test (ty_of z) ≡ true)) (sym (get_or_from_slice_get exprs a e no_expr is)) (both_hold_first (is_typed n e) (test (ty_of e)) k, both_hold_second (is_typed n e) (test (ty_of e)) k)
 
 -- the type of an expression of an integer's or a pointer's type
 scalar_own : (a : t.ExprTree) → is_scalar (ty_of a) ≡ true → is_scalar (Some (x.type_of a)) ≡ true
@@ -102,17 +104,17 @@ items_lower : (w : Setting) (exprs : List t.ExprTree) (l : Bool) (ps : List Plac
     Stand w.variables n (items_in (code w exprs) ps es n).temps → EffectsFit w l (items_in (code w exprs) ps es n).stmts (items_in (code w exprs) ps es n).temps
 items_lower w exprs l [] tys [] n g h k stand = nothing_lowers w l
 items_lower w exprs l (p ∷ ps) tys [] n g h k stand = nothing_lowers w l
-items_lower w exprs l [] [] (e ∷ es) n g h k stand = never k
-items_lower w exprs l [] (ty ∷ tys) (e ∷ es) n g h k stand = never h
-items_lower w exprs l (p ∷ ps) [] (e ∷ es) n g h k stand = never h
+items_lower w exprs l [] [] (e ∷ es) n g h k stand = false_not_true k
+items_lower w exprs l [] (ty ∷ tys) (e ∷ es) n g h k stand = false_not_true h
+items_lower w exprs l (p ∷ ps) [] (e ∷ es) n g h k stand = false_not_true h
 items_lower w exprs l (p ∷ ps) (ty ∷ tys) (e ∷ es) n g h k stand =
     let a = outermost (code w exprs) e in
     let v = value_in (source w.names) a n in
-    let f = found w.names exprs (same_types (Some ty)) e.0 (and_left (s.expr_fits (tests w exprs) (same_types (Some ty)) e) (items_fit (tests w exprs) tys es) k) in
+    let f = found w.names exprs (same_types (Some ty)) e.0 (both_hold_first (s.expr_fits (tests w exprs) (same_types (Some ty)) e) (items_fit (tests w exprs) tys es) k) in
     let own : ty_of a ≡ Some ty = sym (equal_options (Some ty) (ty_of a) f.1) in
     followed_fits w l n (record { stmts = v.stmts ++ assign p v.value ∷ []; temps = v.temps }) (items_in (code w exprs) ps es (past n v.temps))
     (λ st. stored w l p ty a v h.0 h.1 h.2 own (value_lowers a w l n g f.0 (subst (λ z. is_struct z ≡ false) (sym own) (no_struct (Some ty) h.2)) st))
-    (λ st. items_lower w exprs l ps tys es (past n v.temps) g h.3 (and_right (s.expr_fits (tests w exprs) (same_types (Some ty)) e) (items_fit (tests w exprs) tys es) k) st) stand
+    (λ st. items_lower w exprs l ps tys es (past n v.temps) g h.3 (both_hold_second (s.expr_fits (tests w exprs) (same_types (Some ty)) e) (items_fit (tests w exprs) tys es) k) st) stand
   where
     stored : (w : Setting) (l : Bool) (p : PlaceTree) (ty : VarTy) (a : t.ExprTree) (v : Lowered) → place_fits (context w) p ≡ true → place_type (context w) p ≡ ty → is_scalar (Some ty) ≡ true → ty_of a ≡ Some ty → LoweredFits w l (x.type_of a) v →
         EffectsFit w l (v.stmts ++ assign p v.value ∷ []) v.temps
@@ -129,7 +131,7 @@ value_initialised w exprs l v ty a n g is value h own stand = go (is_struct (Som
     to = variable_place_fits w l (t.local (record { 0 = v })) v ty g is
 
     same : type_at (source w.names).variables v ≡ ty
-    same = got_or (map (λ (y : Var). y.ty) w.names.vars) v ty (Int i.Int) (got (λ (y : Var). y.ty) w.names.vars v ∙ is)
+    same = get_or_from_slice_get (map (λ (y : Var). y.ty) w.names.vars) v ty (Int i.Int) (get_map (λ (y : Var). y.ty) w.names.vars v ∙ is)
 
     back : (n : ℕ) (ts : List Temp) → Stand w.variables (n + 0) ts → Stand w.variables n ts
     back n ts st = subst (λ m. Stand w.variables m ts) (plain n) st
@@ -155,13 +157,13 @@ initialised_lowers : (w : Setting) (exprs : List t.ExprTree) (l : Bool) (d : Typ
     Stand w.variables n (initialised (code w exprs) d v n).temps → EffectsFit w l (initialised (code w exprs) d v n).stmts (initialised (code w exprs) d v n).temps
 initialised_lowers w exprs l init.Nothing v ty n g is h stand = nothing_lowers w l
 initialised_lowers w exprs l (init.Value e) v ty n g is h stand =
-    let f = found w.names exprs (same_types (Some ty)) e.0 (and_right (is_value (Some ty)) (s.expr_fits (tests w exprs) (same_types (Some ty)) e) h) in
-    value_initialised w exprs l v ty (outermost (code w exprs) e) n g is (and_left (is_value (Some ty)) (s.expr_fits (tests w exprs) (same_types (Some ty)) e) h) f.0 (sym (equal_options (Some ty) (ty_of (outermost (code w exprs) e)) f.1)) stand
+    let f = found w.names exprs (same_types (Some ty)) e.0 (both_hold_second (is_value (Some ty)) (s.expr_fits (tests w exprs) (same_types (Some ty)) e) h) in
+    value_initialised w exprs l v ty (outermost (code w exprs) e) n g is (both_hold_first (is_value (Some ty)) (s.expr_fits (tests w exprs) (same_types (Some ty)) e) h) f.0 (sym (equal_options (Some ty) (ty_of (outermost (code w exprs) e)) f.1)) stand
 initialised_lowers w exprs l (init.Items at es) v ty n g is h stand =
-    let same : type_at (source w.names).variables v ≡ ty = got_or (map (λ (y : Var). y.ty) w.names.vars) v ty (Int i.Int) (got (λ (y : Var). y.ty) w.names.vars v ∙ is) in
+    let same : type_at (source w.names).variables v ≡ ty = get_or_from_slice_get (map (λ (y : Var). y.ty) w.names.vars) v ty (Int i.Int) (get_map (λ (y : Var). y.ty) w.names.vars v ∙ is) in
     let known = variable_known w.names.structs w.names.vars v ty g.vars is in
-    let places = leaves_fit (context w) at ty (place (local v) []) g.structs (and_left (is_variable_type (length w.names.structs) ty) (is_small w.names.structs ty) known) (and_right (is_variable_type (length w.names.structs) ty) (is_small w.names.structs ty) known)
-    (variable_fits w v ty g is) (got_or w.variables v ty (Int i.Int) (g.variables v ty is)) in
+    let places = leaves_fit (context w) at ty (place (local v) []) g.structs (both_hold_first (is_variable_type (length w.names.structs) ty) (is_small w.names.structs ty) known) (both_hold_second (is_variable_type (length w.names.structs) ty) (is_small w.names.structs ty) known)
+    (variable_fits w v ty g is) (get_or_from_slice_get w.variables v ty (Int i.Int) (g.variables v ty is)) in
     items_lower w exprs l (leaf_places w.names.structs (type_at (source w.names).variables v) at (place (local v) [])) (item_types w.names.structs ty) es n g
     (subst (λ z. PlacesFit (context w) (leaf_places w.names.structs z at (place (local v) [])) (item_types w.names.structs ty)) (sym same) places) h stand
 
@@ -171,7 +173,7 @@ declared_one w exprs l d n g h stand = go (option_map (λ (y : Var). y.ty) (slic
   where
     go : (o : Option VarTy) → option_map (λ (y : Var). y.ty) (slice_get w.names.vars d.var.0) ≡ o → init_fits (tests w exprs) o d.init ≡ true →
         EffectsFit w l (clear d.var.0 ∷ (initialised (code w exprs) d.init d.var.0 n).stmts) (initialised (code w exprs) d.init d.var.0 n).temps
-    go None is k = never k
+    go None is k = false_not_true k
     go (Some ty) is k = let rest = initialised_lowers w exprs l d.init d.var.0 ty n g is k stand in record { stmts = (in_list w.variables d.var.0 ty (g.variables d.var.0 ty is), rest.stmts); temps = rest.temps }
 
 declared_lowers : (w : Setting) (exprs : List t.ExprTree) (l : Bool) (ds : List TypedDeclarator) (n : ℕ) → Agrees w → declaration_fits (tests w exprs) ds ≡ true → Stand w.variables n (declared (code w exprs) ds n).temps →
@@ -180,8 +182,8 @@ declared_lowers w exprs l [] n g h stand = nothing_lowers w l
 declared_lowers w exprs l (d ∷ ds) n g h stand =
     let own = initialised (code w exprs) d.init d.var.0 n in
     followed_fits w l n (record { stmts = clear d.var.0 ∷ own.stmts; temps = own.temps }) (declared (code w exprs) ds (past n own.temps))
-    (λ st. declared_one w exprs l d n g (and_left (declarator_fits (tests w exprs) d) (list_all (declarator_fits (tests w exprs)) ds) h) st)
-    (λ st. declared_lowers w exprs l ds (past n own.temps) g (and_right (declarator_fits (tests w exprs) d) (list_all (declarator_fits (tests w exprs)) ds) h) st) stand
+    (λ st. declared_one w exprs l d n g (both_hold_first (declarator_fits (tests w exprs) d) (list_all (declarator_fits (tests w exprs)) ds) h) st)
+    (λ st. declared_lowers w exprs l ds (past n own.temps) g (both_hold_second (declarator_fits (tests w exprs) d) (list_all (declarator_fits (tests w exprs)) ds) h) st) stand
 
 begun_lowers : (w : Setting) (exprs : List t.ExprTree) (l : Bool) (d : TypedForInit) (n : ℕ) → Agrees w → for_init_fits (tests w exprs) d ≡ true → Stand w.variables n (begun (code w exprs) d n).temps → EffectsFit w l (begun (code w exprs) d n).stmts (begun (code w exprs) d n).temps
 begun_lowers w exprs l begin.Nothing n g h stand = nothing_lowers w l
@@ -244,8 +246,8 @@ cases_fit : (w : Setting) (l : Bool) (at : Span) (ty : IntType) (k m : ℕ) (ss 
 cases_fit w l at ty k m no_sections prom own next small h = tt
 cases_fit w l at ty k m (section_and (section p label bs) rest) prom own next small h =
     fit_both (scope w) l (case_of at ty k m label) (cases_from at ty k (m + 1) rest)
-    (case_fits w l at ty k m label prom own next (below m (count_of rest) small) (and_left (label_fits ty label) (list_all (label_fits ty) (labels_of rest)) h))
-    (cases_fit w l at ty k (m + 1) rest prom own next (more m (count_of rest) small) (and_right (label_fits ty label) (list_all (label_fits ty) (labels_of rest)) h))
+    (case_fits w l at ty k m label prom own next (below m (count_of rest) small) (both_hold_first (label_fits ty label) (list_all (label_fits ty) (labels_of rest)) h))
+    (cases_fit w l at ty k (m + 1) rest prom own next (more m (count_of rest) small) (both_hold_second (label_fits ty label) (list_all (label_fits ty) (labels_of rest)) h))
   where
     below : (m c : ℕ) → m + suc c ≤ 0x7fff_ffff → m ≤ 0x7fff_ffff
     below m c h = omega (arith, h)
@@ -281,10 +283,10 @@ record SwitchType (o : Option VarTy) (ty : IntType) : Type 0 where
 
 switch_type : (o : Option VarTy) (ty : IntType) → promotes_to ty o ≡ true → SwitchType o ty
 switch_type (Some (Int a)) ty h = record { from = a; is = refl; prom = subst (λ z. is_promoted z ≡ true) (equal_ints (promoted a) ty h) (promoted_promoted a) }
-switch_type None ty h = never h
-switch_type (Some (Struct n)) ty h = never h
-switch_type (Some (Array e n)) ty h = never h
-switch_type (Some (Pointer e f)) ty h = never h
+switch_type None ty h = false_not_true h
+switch_type (Some (Struct n)) ty h = false_not_true h
+switch_type (Some (Array e n)) ty h = false_not_true h
+switch_type (Some (Pointer e f)) ty h = false_not_true h
 
 -- the value, the chosen section and the flag, and the sections behind them
 switched_fits : (w : Setting) (l : Bool) (at : Span) (ty : IntType) (a : t.ExprTree) (n : ℕ) (mode : Onward) (ss : SectionTrees) (v : Lowered) (body : Effects) → promotes_to ty (ty_of a) ≡ true → list_all (label_fits ty) (labels_of ss) ≡ true → section_nodes ss ≤ few_nodes →
@@ -347,12 +349,12 @@ chosen_fits w l n ty v a d scalar h i j stand =
       temps = known_both w.names.structs (v.temps ++ a.temps) d.temps (known_both w.names.structs v.temps a.temps test.temps yes.temps) no.temps;
     }
 
-integer_result : (o : Option VarTy) (r : Option IntType) → both_int (integer_of o) r ≡ true → (z : IntType) × (o ≡ Some (Int z))
+pub integer_result : (o : Option VarTy) (r : Option IntType) → both_int (integer_of o) r ≡ true → (z : IntType) × (o ≡ Some (Int z))
 integer_result (Some (Int a)) r h = (a, refl)
-integer_result None r h = never h
-integer_result (Some (Struct n)) r h = never h
-integer_result (Some (Array e n)) r h = never h
-integer_result (Some (Pointer e f)) r h = never h
+integer_result None r h = false_not_true h
+integer_result (Some (Struct n)) r h = false_not_true h
+integer_result (Some (Array e n)) r h = false_not_true h
+integer_result (Some (Pointer e f)) r h = false_not_true h
 
 returned_fits : (w : Setting) (l : Bool) (n : ℕ) (a : t.ExprTree) (v : Lowered) → both_int (integer_of (ty_of a)) w.result ≡ true → (is_struct (ty_of a) ≡ false → LoweredFits w l (x.type_of a) v) → EffectsFit w l (returned v).stmts (returned v).temps
 returned_fits w l n a v rule h =
@@ -362,7 +364,7 @@ returned_fits w l n a v rule h =
     let result : both_int (integer_of (Some (type_of (context w) v.value))) w.result ≡ true =
     subst (λ z. both_int (integer_of (Some z)) w.result ≡ true) (sym (stands_int (type_of (context w) v.value) o.0 value.type)) (subst (λ z. both_int (integer_of z) w.result ≡ true) o.1 rule) in
     record {
-      stmts = fit_both (scope w) l v.stmts (give_back (Some v.value) ∷ []) y.stmts (and_both (expr_fits (context w) v.value) (both_int (integer_of (Some (type_of (context w) v.value))) w.result) value.fits result, tt);
+      stmts = fit_both (scope w) l v.stmts (give_back (Some v.value) ∷ []) y.stmts (both_hold (expr_fits (context w) v.value) (both_int (integer_of (Some (type_of (context w) v.value))) w.result) value.fits result, tt);
       temps = y.temps;
     }
 
@@ -405,52 +407,52 @@ mutual
   statement_lowers (b.choose at e y o) w exprs out again l mode n g h br on few stand =
       let v = value_in (source w.names) (outermost (code w exprs) e) n in
       let first = statement_in (code w exprs) y mode (past n v.temps) in
-      let cond = and_left (s.expr_fits (tests w exprs) is_scalar e) (is_sound (tests w exprs) out again y && else_sound (tests w exprs) out again o) h in
-      let arms = and_right (s.expr_fits (tests w exprs) is_scalar e) (is_sound (tests w exprs) out again y && else_sound (tests w exprs) out again o) h in
+      let cond = both_hold_first (s.expr_fits (tests w exprs) is_scalar e) (is_sound (tests w exprs) out again y && else_sound (tests w exprs) out again o) h in
+      let arms = both_hold_second (s.expr_fits (tests w exprs) is_scalar e) (is_sound (tests w exprs) out again y && else_sound (tests w exprs) out again o) h in
       let less = one_less (body_nodes y + else_nodes o) few in
       chosen_fits w l n (x.type_of (outermost (code w exprs) e)) v first (otherwise_in (code w exprs) o mode (past (past n v.temps) first.temps)) (scalar_own (outermost (code w exprs) e) (found w.names exprs is_scalar e.0 cond).1)
       (λ st. (condition_lowers w exprs l e n g cond st).0)
-      (λ st. statement_lowers y w exprs out again l mode (past n v.temps) g (and_left (is_sound (tests w exprs) out again y) (else_sound (tests w exprs) out again o) arms) br on (left_less (body_nodes y) (else_nodes o) less) st)
-      (λ st. else_lowers o w exprs out again l mode (past (past n v.temps) first.temps) g (and_right (is_sound (tests w exprs) out again y) (else_sound (tests w exprs) out again o) arms) br on (right_less (body_nodes y) (else_nodes o) less) st) stand
+      (λ st. statement_lowers y w exprs out again l mode (past n v.temps) g (both_hold_first (is_sound (tests w exprs) out again y) (else_sound (tests w exprs) out again o) arms) br on (left_less (body_nodes y) (else_nodes o) less) st)
+      (λ st. else_lowers o w exprs out again l mode (past (past n v.temps) first.temps) g (both_hold_second (is_sound (tests w exprs) out again y) (else_sound (tests w exprs) out again o) arms) br on (right_less (body_nodes y) (else_nodes o) less) st) stand
   statement_lowers (b.while_true at e y) w exprs out again l mode n g h br on few stand =
       let test = tested (code w exprs) (Some e) n in
       let body = statement_in (code w exprs) y to_head (past n test.temps) in
       looped_fits w l at (followed test body) (followed_fits w true n test body
-      (λ st. tested_lowers w exprs (Some e) n g (and_left (s.expr_fits (tests w exprs) is_scalar e) (is_sound (tests w exprs) true true y) h) st)
-      (λ st. statement_lowers y w exprs true true true to_head (past n test.temps) g (and_right (s.expr_fits (tests w exprs) is_scalar e) (is_sound (tests w exprs) true true y) h) (λ e. e) (refl, tt) (one_less (body_nodes y) few) st) stand)
+      (λ st. tested_lowers w exprs (Some e) n g (both_hold_first (s.expr_fits (tests w exprs) is_scalar e) (is_sound (tests w exprs) true true y) h) st)
+      (λ st. statement_lowers y w exprs true true true to_head (past n test.temps) g (both_hold_second (s.expr_fits (tests w exprs) is_scalar e) (is_sound (tests w exprs) true true y) h) (λ e. e) (refl, tt) (one_less (body_nodes y) few) st) stand)
   statement_lowers (b.do_while at y e) w exprs out again l mode n g h br on few stand =
       let test = tested (code w exprs) (Some e) (n + 1) in
       let body = statement_in (code w exprs) y to_head (past (n + 1) test.temps) in
       first_told_fits w l n (looped at (followed (on_the_way_back n test) body)) stand.0 (looped_fits w l at (followed (on_the_way_back n test) body) (followed_fits w true (n + 1) (on_the_way_back n test) body
-      (λ st. way_back_fits w n test stand.0 (tested_lowers w exprs (Some e) (n + 1) g (and_right (is_sound (tests w exprs) true true y) (s.expr_fits (tests w exprs) is_scalar e) h) st))
-      (λ st. statement_lowers y w exprs true true true to_head (past (n + 1) test.temps) g (and_left (is_sound (tests w exprs) true true y) (s.expr_fits (tests w exprs) is_scalar e) h) (λ e. e) (refl, tt) (one_less (body_nodes y) few) st) stand.1))
+      (λ st. way_back_fits w n test stand.0 (tested_lowers w exprs (Some e) (n + 1) g (both_hold_second (is_sound (tests w exprs) true true y) (s.expr_fits (tests w exprs) is_scalar e) h) st))
+      (λ st. statement_lowers y w exprs true true true to_head (past (n + 1) test.temps) g (both_hold_first (is_sound (tests w exprs) true true y) (s.expr_fits (tests w exprs) is_scalar e) h) (λ e. e) (refl, tt) (one_less (body_nodes y) few) st) stand.1))
   statement_lowers (b.for_each at d test None y) w exprs out again l mode n g h br on few stand =
       let first = begun (code w exprs) d n in
       let k = past n first.temps in
       let cond = tested (code w exprs) test k in
       let body = statement_in (code w exprs) y to_head (past k cond.temps) in
-      let rest = and_right (for_init_fits (tests w exprs) d) (option_fits (tests w exprs) is_scalar test && (true && is_sound (tests w exprs) true true y)) h in
+      let rest = both_hold_second (for_init_fits (tests w exprs) d) (option_fits (tests w exprs) is_scalar test && (true && is_sound (tests w exprs) true true y)) h in
       followed_fits w l n first (looped at (followed cond body))
-      (λ st. begun_lowers w exprs l d n g (and_left (for_init_fits (tests w exprs) d) (option_fits (tests w exprs) is_scalar test && (true && is_sound (tests w exprs) true true y)) h) st)
+      (λ st. begun_lowers w exprs l d n g (both_hold_first (for_init_fits (tests w exprs) d) (option_fits (tests w exprs) is_scalar test && (true && is_sound (tests w exprs) true true y)) h) st)
       (λ st. looped_fits w l at (followed cond body) (followed_fits w true k cond body
-      (λ st1. tested_lowers w exprs test k g (and_left (option_fits (tests w exprs) is_scalar test) (true && is_sound (tests w exprs) true true y) rest) st1)
-      (λ st1. statement_lowers y w exprs true true true to_head (past k cond.temps) g (and_right (option_fits (tests w exprs) is_scalar test) (true && is_sound (tests w exprs) true true y) rest) (λ e. e) (refl, tt) (right_less (for_init_nodes d) (body_nodes y) (one_less (for_init_nodes d + body_nodes y) few)) st1) st)) stand
+      (λ st1. tested_lowers w exprs test k g (both_hold_first (option_fits (tests w exprs) is_scalar test) (true && is_sound (tests w exprs) true true y) rest) st1)
+      (λ st1. statement_lowers y w exprs true true true to_head (past k cond.temps) g (both_hold_second (option_fits (tests w exprs) is_scalar test) (true && is_sound (tests w exprs) true true y) rest) (λ e. e) (refl, tt) (right_less (for_init_nodes d) (body_nodes y) (one_less (for_init_nodes d + body_nodes y) few)) st1) st)) stand
   statement_lowers (b.for_each at d test (Some step) y) w exprs out again l mode n g h br on few stand =
       let first = begun (code w exprs) d n in
       let k = past n first.temps in
       let back = stepped (code w exprs) (Some step) (k + 1) in
       let cond = tested (code w exprs) test (past (k + 1) back.temps) in
       let body = statement_in (code w exprs) y to_head (past (past (k + 1) back.temps) cond.temps) in
-      let rest = and_right (for_init_fits (tests w exprs) d) (option_fits (tests w exprs) is_scalar test && (s.expr_fits (tests w exprs) any_type step && is_sound (tests w exprs) true true y)) h in
-      let last = and_right (option_fits (tests w exprs) is_scalar test) (s.expr_fits (tests w exprs) any_type step && is_sound (tests w exprs) true true y) rest in
+      let rest = both_hold_second (for_init_fits (tests w exprs) d) (option_fits (tests w exprs) is_scalar test && (s.expr_fits (tests w exprs) any_type step && is_sound (tests w exprs) true true y)) h in
+      let last = both_hold_second (option_fits (tests w exprs) is_scalar test) (s.expr_fits (tests w exprs) any_type step && is_sound (tests w exprs) true true y) rest in
       followed_fits w l n first (first_told k (looped at (followed (on_the_way_back k back) (followed cond body))))
-      (λ st. begun_lowers w exprs l d n g (and_left (for_init_fits (tests w exprs) d) (option_fits (tests w exprs) is_scalar test && (s.expr_fits (tests w exprs) any_type step && is_sound (tests w exprs) true true y)) h) st)
+      (λ st. begun_lowers w exprs l d n g (both_hold_first (for_init_fits (tests w exprs) d) (option_fits (tests w exprs) is_scalar test && (s.expr_fits (tests w exprs) any_type step && is_sound (tests w exprs) true true y)) h) st)
       (λ st. first_told_fits w l k (looped at (followed (on_the_way_back k back) (followed cond body))) st.0 (looped_fits w l at (followed (on_the_way_back k back) (followed cond body))
       (followed_fits w true (k + 1) (on_the_way_back k back) (followed cond body)
-      (λ st1. way_back_fits w k back st.0 (dropped_lowers w exprs true step (k + 1) g (and_left (s.expr_fits (tests w exprs) any_type step) (is_sound (tests w exprs) true true y) last) st1))
+      (λ st1. way_back_fits w k back st.0 (dropped_lowers w exprs true step (k + 1) g (both_hold_first (s.expr_fits (tests w exprs) any_type step) (is_sound (tests w exprs) true true y) last) st1))
       (λ st1. followed_fits w true (past (k + 1) back.temps) cond body
-      (λ st2. tested_lowers w exprs test (past (k + 1) back.temps) g (and_left (option_fits (tests w exprs) is_scalar test) (s.expr_fits (tests w exprs) any_type step && is_sound (tests w exprs) true true y) rest) st2)
-      (λ st2. statement_lowers y w exprs true true true to_head (past (past (k + 1) back.temps) cond.temps) g (and_right (s.expr_fits (tests w exprs) any_type step) (is_sound (tests w exprs) true true y) last) (λ e. e) (refl, tt)
+      (λ st2. tested_lowers w exprs test (past (k + 1) back.temps) g (both_hold_first (option_fits (tests w exprs) is_scalar test) (s.expr_fits (tests w exprs) any_type step && is_sound (tests w exprs) true true y) rest) st2)
+      (λ st2. statement_lowers y w exprs true true true to_head (past (past (k + 1) back.temps) cond.temps) g (both_hold_second (s.expr_fits (tests w exprs) any_type step) (is_sound (tests w exprs) true true y) last) (λ e. e) (refl, tt)
       (right_less (for_init_nodes d) (body_nodes y) (one_less (for_init_nodes d + body_nodes y) few)) st2) st1) st.1))) stand
   statement_lowers (b.give_back at None) w exprs out again l mode n g h br on few stand = record { stmts = (h, tt); temps = tt }
   statement_lowers (b.give_back at (Some e)) w exprs out again l mode n g h br on few stand =
@@ -462,12 +464,12 @@ mutual
       let a = outermost (code w exprs) e in
       let v = value_in (source w.names) a n in
       let k = past n v.temps in
-      let f = found w.names exprs (promotes_to ty) e.0 (and_left (s.expr_fits (tests w exprs) (promotes_to ty) e) (labels_fit ty (labels_of ss) && sections_sound (tests w exprs) again ss) h) in
-      let rest = and_right (s.expr_fits (tests w exprs) (promotes_to ty) e) (labels_fit ty (labels_of ss) && sections_sound (tests w exprs) again ss) h in
-      let labels = and_left (list_all (label_fits ty) (labels_of ss)) (labels_distinct (labels_of ss)) (and_left (labels_fit ty (labels_of ss)) (sections_sound (tests w exprs) again ss) rest) in
+      let f = found w.names exprs (promotes_to ty) e.0 (both_hold_first (s.expr_fits (tests w exprs) (promotes_to ty) e) (labels_fit ty (labels_of ss) && sections_sound (tests w exprs) again ss) h) in
+      let rest = both_hold_second (s.expr_fits (tests w exprs) (promotes_to ty) e) (labels_fit ty (labels_of ss) && sections_sound (tests w exprs) again ss) h in
+      let labels = both_hold_first (list_all (label_fits ty) (labels_of ss)) (labels_distinct (labels_of ss)) (both_hold_first (labels_fit ty (labels_of ss)) (sections_sound (tests w exprs) again ss) rest) in
       let less = one_less (section_nodes ss) few in
       switched_fits w l at ty a n mode ss v (sections_in (code w exprs) at ss (inside mode (k + 2)) k 0 (k + 3)) f.1 labels less on (λ ns st. value_lowers a w l n g f.0 ns st)
-      (λ one two st. sections_lower ss w exprs again (inside mode (k + 2)) at k 0 (k + 3) g (and_right (labels_fit ty (labels_of ss)) (sections_sound (tests w exprs) again ss) rest) (inside_fits w mode (k + 2) two) one (zero_plus (section_nodes ss) less) st) stand
+      (λ one two st. sections_lower ss w exprs again (inside mode (k + 2)) at k 0 (k + 3) g (both_hold_second (labels_fit ty (labels_of ss)) (sections_sound (tests w exprs) again ss) rest) (inside_fits w mode (k + 2) two) one (zero_plus (section_nodes ss) less) st) stand
 
   else_lowers : (o : ElseTree) (w : Setting) (exprs : List t.ExprTree) (out again l : Bool) (mode : Onward) (n : ℕ) → Agrees w → else_sound (tests w exprs) out again o ≡ true → Breaks out l → Fit (scope w) l (onwards mode) → else_nodes o ≤ few_nodes →
       Stand w.variables n (otherwise_in (code w exprs) o mode n).temps → EffectsFit w l (otherwise_in (code w exprs) o mode n).stmts (otherwise_in (code w exprs) o mode n).temps
@@ -480,8 +482,8 @@ mutual
   all_lower (body_and y rest) w exprs out again l mode n g h br on few stand =
       let first = statement_in (code w exprs) y mode n in
       followed_fits w l n first (all_in (code w exprs) rest mode (past n first.temps))
-      (λ st. statement_lowers y w exprs out again l mode n g (and_left (is_sound (tests w exprs) out again y) (all_sound (tests w exprs) out again rest) h) br on (left_less (body_nodes y) (bodies_nodes rest) few) st)
-      (λ st. all_lower rest w exprs out again l mode (past n first.temps) g (and_right (is_sound (tests w exprs) out again y) (all_sound (tests w exprs) out again rest) h) br on (right_less (body_nodes y) (bodies_nodes rest) few) st) stand
+      (λ st. statement_lowers y w exprs out again l mode n g (both_hold_first (is_sound (tests w exprs) out again y) (all_sound (tests w exprs) out again rest) h) br on (left_less (body_nodes y) (bodies_nodes rest) few) st)
+      (λ st. all_lower rest w exprs out again l mode (past n first.temps) g (both_hold_second (is_sound (tests w exprs) out again y) (all_sound (tests w exprs) out again rest) h) br on (right_less (body_nodes y) (bodies_nodes rest) few) st) stand
 
   sections_lower : (ss : SectionTrees) (w : Setting) (exprs : List t.ExprTree) (again : Bool) (mode : Onward) (at : Span) (k m n : ℕ) → Agrees w → sections_sound (tests w exprs) again ss ≡ true → Fit (scope w) true (onwards mode) → slice_get w.variables (k + 1) ≡ Some int → m + section_nodes ss ≤ few_nodes →
       Stand w.variables n (sections_in (code w exprs) at ss mode k m n).temps → EffectsFit w true (sections_in (code w exprs) at ss mode k m n).stmts (sections_in (code w exprs) at ss mode k m n).temps
@@ -490,5 +492,5 @@ mutual
       let inner = all_in (code w exprs) ys mode n in
       followed_fits w true n (section_by at k m inner) (sections_in (code w exprs) at rest mode k (m + 1) (past n inner.temps))
       (λ st. section_fits w at k m inner own (small m (bodies_nodes ys) (section_nodes rest) few)
-      (all_lower ys w exprs true again true mode n g (and_left (all_sound (tests w exprs) true again ys) (sections_sound (tests w exprs) again rest) h) (λ e. e) on (inner_less m (bodies_nodes ys) (section_nodes rest) few) st))
-      (λ st. sections_lower rest w exprs again mode at k (m + 1) (past n inner.temps) g (and_right (all_sound (tests w exprs) true again ys) (sections_sound (tests w exprs) again rest) h) on own (next_less m (bodies_nodes ys) (section_nodes rest) few) st) stand
+      (all_lower ys w exprs true again true mode n g (both_hold_first (all_sound (tests w exprs) true again ys) (sections_sound (tests w exprs) again rest) h) (λ e. e) on (inner_less m (bodies_nodes ys) (section_nodes rest) few) st))
+      (λ st. sections_lower rest w exprs again mode at k (m + 1) (past n inner.temps) g (both_hold_second (all_sound (tests w exprs) true again ys) (sections_sound (tests w exprs) again rest) h) on own (next_less m (bodies_nodes ys) (section_nodes rest) few) st) stand

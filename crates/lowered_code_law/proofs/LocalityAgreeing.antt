@@ -3,13 +3,13 @@ use Rattle.std.proofs.Common.{◌≡◌, subst, ◌⊎◌, inl, inr, List, [], �
 use Rattle.std.specs.Prelude.{Contains}
 use Rattle.std.proofs.lemmas.List.Elements.{Contains-append_left, Contains-append_right}
 use Rattle.pt_base.specs.declared.ids.GlobalId.{GlobalId}
+use Rattle.pt_base.proofs.Members.{contains_cases, contains_first, contains_nothing}
 use Rattle.typed_tree.specs.declared.types.VarTy.{VarTy}
 use Rattle.typed_tree.specs.declared.types.StructInfo.{StructInfo}
 use Rattle.pt_core.specs.Types.{type_at}
 use Rattle.usages.specs.declared.usage.How.{How}
 use Rattle.usages.specs.Usages.{UsageTree, evaluated, used}
 use Rattle.reach.specs.Contexts.{expr_globals}
-use Rattle.reach.proofs.ListLemmas.{contains_cases, contains_first, contains_nothing}
 use Rattle.source_meaning.specs.Statements.{no_expr}
 use Rattle.lowering.specs.Expressions.{Scope}
 

@@ -4,6 +4,7 @@ use Rattle.std.specs.Prelude.{◌||◌, not, pos}
 use Rattle.pt_base.specs.declared.ids.FnId.{FnId}
 use Rattle.pt_base.specs.declared.int_type.IntType.TheVariants as int
 use Rattle.pt_base.specs.declared.span.Span.{Span}
+use Rattle.pt_base.proofs.Members.{contains_first}
 use Rattle.typed_tree.specs.declared.types.VarTy.{VarTy}
 use Rattle.typed_tree.specs.declared.link.LogicalOp.{LogicalOp}
 use Rattle.typed_tree.specs.ExpressionTree as src
@@ -15,7 +16,6 @@ use Rattle.usages.specs.declared.usage.How.{How}
 use Rattle.usages.specs.declared.usage.How.TheVariants.{Kept, Operated, Passed}
 use Rattle.usages.specs.Usages.{converted, used, evaluated, form_usages, argument_usages, link_usages, operand_usages, place_usages, root_usages, step_usages}
 use Rattle.reach.specs.Contexts.{form_globals, place_globals, root_globals}
-use Rattle.reach.proofs.ListLemmas.{contains_first}
 use Rattle.lowering.specs.Lowered.{Effects, Lowered, LoweredPlace, past, temp, holding, effects_of, held, held_if}
 use Rattle.lowering.specs.Operators as operators
 use Rattle.lowering.specs.Purity.{takes_left_first, is_pure, are_pure}

@@ -2,6 +2,7 @@
 use Rattle.std.proofs.Common.{◌≡◌, ◌∙◌, sym, ap, ℕ, zero, suc, Option, List, [], ◌∷◌, ◌++◌}
 use Rattle.std.specs.Prelude.{Contains, get_or, slice_get, unwrap_or}
 use Rattle.std.proofs.lemmas.Option.{unwrap_or-slice_get}
+use Rattle.pt_base.proofs.Members.{contains_first, contains_later}
 use Rattle.typed_tree.specs.declared.ids.ExprId.{ExprId}
 use Rattle.typed_tree.specs.declared.part.Part.{Part}
 use Rattle.typed_tree.specs.declared.part.Role.{Role}
@@ -10,7 +11,6 @@ use Rattle.source_meaning.specs.Expressions.{type_of}
 use Rattle.source_meaning.specs.Statements.{no_expr}
 use Rattle.usages.specs.declared.usage.How.{How}
 use Rattle.usages.specs.Usages.{evaluated, how_of, item_number, part_usages, parts_usages}
-use Rattle.reach.proofs.ListLemmas.{contains_first, contains_later}
 use Rattle.lowering.specs.Expressions.{effects_in, object_in, value_in}
 use Rattle.lowering.specs.Statements.{Code, outermost}
 use Rattle.lowered_code_law.proofs.LocalityAgreeing.{Scopes, here, there, Agree, former, latter, nothing_named}

@@ -4,6 +4,7 @@ use Rattle.std.specs.Prelude.{Contains, option_and_then, slice_get}
 use Rattle.std.proofs.lemmas.List.{map-append}
 use Rattle.pt_base.specs.declared.ids.FnId.{FnId}
 use Rattle.pt_base.specs.declared.ids.VarId.{VarId}
+use Rattle.pt_base.proofs.Members.{contains_first, contains_later}
 use Rattle.typed_tree.specs.declared.ids.ExprId.{ExprId}
 use Rattle.typed_tree.specs.declared.part.Part.{Part}
 use Rattle.typed_tree.specs.declared.part.Role.{Role}
@@ -20,7 +21,6 @@ use Rattle.typed_tree.specs.StatementTree as b
 use Rattle.typed_tree.specs.StatementTree.{BodyTree, ElseTree, no_else, otherwise, BodyTrees, no_bodies, body_and, section, SectionTrees, no_sections, section_and}
 use Rattle.typed_tree.specs.TypedTree.{FunctionTree, TypedTree}
 use Rattle.usages.specs.Usages.{how_of, item_number, part_usages, parts_usages, usages_in}
-use Rattle.reach.proofs.ListLemmas.{contains_first, contains_later}
 use Rattle.lowered_code_law.specs.LocalityRenumbered.{all_by, declarator_by, else_by, for_init_by, init_by, renumbered, sections_by}
 use Rattle.lowered_code_law.specs.LocalitySameFunctions.{IsSameBody, IsSameFunction}
 

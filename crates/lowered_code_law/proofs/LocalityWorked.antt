@@ -2,6 +2,7 @@
 use Rattle.std.proofs.Common.{◌≡◌, refl, subst, ℕ, ◌+◌, false, true, ◌⊎◌, inl, inr, Some, [], ◌∷◌}
 use Rattle.std.specs.Prelude.{Contains, codes, pos, slice_get}
 use Rattle.pt_base.specs.declared.int_type.IntType.TheVariants as int
+use Rattle.pt_base.proofs.Members.{contains_cases, contains_nothing}
 use Rattle.typed_tree.specs.declared.part.Part.{Part}
 use Rattle.typed_tree.specs.declared.part.Role.TheVariants.{Returned}
 use Rattle.typed_tree.specs.declared.types.VarTy.TheVariants.{Int}
@@ -9,7 +10,6 @@ use Rattle.typed_tree.specs.ExpressionTree.{ExprTree, constant, typed}
 use Rattle.typed_tree.specs.Parts.{part_of}
 use Rattle.typed_tree.specs.StatementTree.{BodyTree, block, body_and, evaluate, give_back, no_bodies}
 use Rattle.typed_tree.specs.TypedTree.{FunctionTree, TypedTree}
-use Rattle.reach.proofs.ListLemmas.{contains_cases, contains_nothing}
 use Rattle.lowering.specs.Functions.{core_of}
 use Rattle.lowered_code_law.specs.LocalitySameFunctions.{IsSameFunction}
 

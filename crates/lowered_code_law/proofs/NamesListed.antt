@@ -2,9 +2,9 @@
 use Rattle.std.proofs.Common.{◌≡◌, ℕ, subst, ◌⊎◌, inl, inr, Option, Some, None, List, [], ◌∷◌, ◌++◌}
 use Rattle.std.specs.Prelude.{Contains}
 use Rattle.std.proofs.lemmas.List.Elements.{Contains-append_cases}
+use Rattle.pt_base.proofs.Members.{contains_cases, contains_nothing}
 use Rattle.pt_core.specs.CodeTree.{RootTree, local, global, deref, PlaceTree, place, ExprTree, constant, read, unary, binary, convert, null, address, decay, move, compare, difference, ExprTrees, no_exprs, expr_and, StmtTree, clear, check, assign, copy, call, choose, repeat, break_out, continue_on, give_back, StmtTrees, no_stmts, stmt_and}
 use Rattle.pt_core.specs.WellFormedStatement.{callees_in, callees_of}
-use Rattle.reach.proofs.ListLemmas.{contains_cases, contains_nothing}
 use Rattle.lowered_code_law.specs.NamesNamed.{root_globals, place_globals, expr_globals, argument_globals, returned_globals, stmt_globals, globals_of}
 use Rattle.lowered_code_law.proofs.NamesNaming.{Allowed, RootWithin, PlaceWithin, ExprWithin, ExprsWithin, ReturnWithin, StmtWithin, StmtsWithin}
 

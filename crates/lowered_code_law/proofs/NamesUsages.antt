@@ -4,6 +4,7 @@ use Rattle.std.specs.Prelude.{Contains, slice_get, get_or}
 use Rattle.std.proofs.lemmas.List.Elements.{Contains-append_left, Contains-append_right}
 use Rattle.pt_base.specs.declared.ids.FnId.{FnId}
 use Rattle.pt_base.specs.declared.ids.GlobalId.{GlobalId}
+use Rattle.pt_base.proofs.Members.{contains_first}
 use Rattle.typed_tree.specs.declared.part.Part.{Part}
 use Rattle.typed_tree.specs.declared.part.Role.{Role}
 use Rattle.typed_tree.specs.declared.part.Role.TheVariants.{Value}
@@ -17,7 +18,7 @@ use Rattle.usages.specs.declared.usage.How.{How}
 use Rattle.usages.specs.declared.usage.How.TheVariants.{Kept, Operated, Passed}
 use Rattle.usages.specs.Usages.{UsageTree, used, converted, evaluated, form_usages, argument_usages, link_usages, operand_usages, place_usages, root_usages, step_usages, how_of, part_usages, item_number, parts_usages, usages_in}
 use Rattle.reach.specs.Contexts.{form_callees, expr_callees, root_globals, place_globals, form_globals, expr_globals, globals_in, callees_in}
-use Rattle.reach.proofs.ListLemmas.{contains_first, contains_flat}
+use Rattle.reach.proofs.ListLemmas.{contains_flat}
 use Rattle.lowered_code_law.proofs.NamesNaming.{Allowed, ExprNames, FormNames, ExprsName, LinksName, OperandsName, PlaceNames, RootNames, StepsName, FoundNames, PartsName}
 
 -- ---- lists of what is evaluated

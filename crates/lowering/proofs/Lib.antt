@@ -1,5 +1,4 @@
 pub mod FormLemmas
-pub mod Lists
 pub mod OutputLemmas
 pub mod PieceLemmas
 pub mod PurityLemmas

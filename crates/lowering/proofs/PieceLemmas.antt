@@ -12,6 +12,7 @@ use Rattle.source_meaning.specs.Expressions.{type_of}
 use Rattle.pt_core.specs.Types.{field_type, pointee_type}
 use Rattle.pt_core.specs.CodeTree as core
 use Rattle.pt_core.specs.CodeTree.{local, PlaceTree, place, deref, ExprTree, read, StmtTree, check, assign, copy, call, choose, expr_trees, stmt_trees}
+use Rattle.pt_core.proofs.Rows.{same_choice}
 use Rattle.lowering.specs.declared.temporary.Temporary.{Temporary}
 use Rattle.lowering.specs.declared.place.FoundPlace.{FoundPlace}
 use Rattle.lowering.specs.Lowered.{Temp, Effects, Lowered, LoweredPlace, Arguments, pure, past, temp, hold, holding, int}
@@ -169,10 +170,6 @@ pub started_is : (o o1 o2 : Output) (whole : tree.ExprTree) (ty : VarTy) (s : Sp
 started_is o o1 o2 whole ty s low v truth g es et e = record {
   made = then_held o o1 o2 low.stmts low.temps (holding int whole) (record { ty = int; holds = Some s }) truth (truth_of ty low.value s) g.made (ap (λ z. record { ty = int; holds = Some z }) es) (et ∙ ap (λ z. truth_of ty z s) g.is) e;
 }
-
--- of equal parts
-pub same_choice : (a b : ExprTree) (xs ys us vs : List StmtTree) → a ≡ b → xs ≡ ys → us ≡ vs → choose a (stmt_trees xs) (stmt_trees us) ≡ choose b (stmt_trees ys) (stmt_trees vs)
-same_choice a b xs ys us vs h i j = ap (λ x. choose x (stmt_trees xs) (stmt_trees us)) h ∙ ap (λ x. choose b (stmt_trees x) (stmt_trees us)) i ∙ ap (λ x. choose b (stmt_trees ys) (stmt_trees x)) j
 
 -- a choice between two lists, behind the condition
 pub chosen_is : (o o1 o3 o4 o5 : Output) (xs : List StmtTree) (ys : List Temp) (c c' : ExprTree) (first second : Effects) (us vs : List StmtTree) → o1 ≡ more o xs ys → c ≡ c' → Collects o1 first o3 us → Collects o3 second o4 vs → o5 ≡ added o4 (choose c (stmt_trees us) (stmt_trees vs) ∷ []) [] →

@@ -3,6 +3,7 @@ use Rattle.std.proofs.Common.{◌≡◌, ℕ, ◌+◌, ◌-◌, ◌<◌, ◌≤�
 use Rattle.std.specs.Prelude.{nat_lt}
 use Rattle.std.proofs.lemmas.List.{drop-drop, drop_more}
 use Rattle.std.proofs.lemmas.Bool.{ltb-false, ltb-true, le-ltb}
+use Rattle.pt_base.proofs.Booleans.{and_true_second}
 use Rattle.typed_tree.specs.declared.expression.TypedExpr.{TypedExpr}
 use Rattle.typed_tree.specs.ExpressionTree as tree
 use Rattle.typed_tree.specs.ExpressionTree.{StepTree, StepTrees, step_and, expr_trees, view_expr}
@@ -16,15 +17,10 @@ pure_steps (tree.item e s) rest = refl
 abbrev pub all_pure : List TypedExpr → Bool
 all_pure es = are_pure (expr_trees (map view_expr es))
 
-and_right : (a b : Bool) → (a && b) ≡ true → b ≡ true
-and_right true b h = h
-and_right false true h = refl
-and_right false false h = h
-
 pure_drop : (es : List TypedExpr) (n : ℕ) → all_pure es ≡ true → all_pure (drop n es) ≡ true
 pure_drop es zero h = h
 pure_drop [] (suc n) h = refl
-pure_drop (x ∷ es) (suc n) h = pure_drop es n (and_right (is_pure (view_expr x)) (all_pure es) h)
+pure_drop (x ∷ es) (suc n) h = pure_drop es n (and_true_second (is_pure (view_expr x)) (all_pure es) h)
 
 -- what stands behind pure ones is pure
 pub pure_behind : (es : List TypedExpr) (i k : ℕ) → i ≤ k → all_pure (drop i es) ≡ true → all_pure (drop k es) ≡ true

@@ -4,6 +4,7 @@ use Rattle.std.specs.Prelude.{nat_lt, if◌then◌else◌}
 use Rattle.std.proofs.lemmas.List.{append-nil, map-append, get_or_append_left, get_or_push, get_or_past, length-take, take_all}
 use Rattle.std.proofs.lemmas.Option.{same_Some}
 use Rattle.std.proofs.lemmas.Bool.Decides.{nat_tests}
+use Rattle.pt_base.proofs.Numbers.{plus_one}
 use Rattle.pt_tree.specs.declared.signature.Elem.{Elem}
 use Rattle.pt_tree.specs.declared.signature.Elem.TheVariants as e
 use Rattle.typed_tree.specs.declared.types.VarTy.{VarTy}
@@ -104,11 +105,8 @@ from_next structs ty j (suc k) [] = refl
 from_next structs ty j zero (q ∷ qs) = refl
 from_next structs ty j (suc k) (q ∷ qs) = from_next structs ty j k qs
 
-next_number : (k : ℕ) → k + 1 ≡ suc k
-next_number k = omega arith
-
 from_part : (structs : List StructInfo) (ty : VarTy) (j k : ℕ) (qs : List Object) → begun_with (step_to ty j) (ways_here structs (slice_get qs k)) ++ ways_from_part structs ty (j + 1) (drop (k + 1) qs) ≡ ways_from_part structs ty j (drop k qs)
-from_part structs ty j k qs = ap (λ m. begun_with (step_to ty j) (ways_here structs (slice_get qs k)) ++ ways_from_part structs ty (j + 1) (drop m qs)) (next_number k) ∙ from_next structs ty j k qs
+from_part structs ty j k qs = ap (λ m. begun_with (step_to ty j) (ways_here structs (slice_get qs k)) ++ ways_from_part structs ty (j + 1) (drop m qs)) (plus_one k) ∙ from_next structs ty j k qs
 
 around_last : (structs : List StructInfo) (ls : List Level) (l : Level) (inner : Ways) → ways_around structs (ls ++ l ∷ []) inner ≡ ways_around structs ls (begun_with (step_at l) inner ++ ways_behind structs l)
 around_last structs [] l inner = refl
@@ -170,7 +168,7 @@ most_from_next structs zero (q ∷ qs) = omega arith
 most_from_next structs (suc k) (q ∷ qs) = most_from_next structs k qs
 
 weight_from_part : (structs : List StructInfo) (k : ℕ) (qs : List Object) → weight_here structs (slice_get qs k) + weight_of_parts structs (drop (k + 1) qs) ≤ weight_of_parts structs (drop k qs)
-weight_from_part structs k qs = subst (λ m. weight_here structs (slice_get qs k) + weight_of_parts structs (drop m qs) ≤ weight_of_parts structs (drop k qs)) (sym (next_number k)) (most_from_next structs k qs)
+weight_from_part structs k qs = subst (λ m. weight_here structs (slice_get qs k) + weight_of_parts structs (drop m qs) ≤ weight_of_parts structs (drop k qs)) (sym (plus_one k)) (most_from_next structs k qs)
 
 less_from_next : (structs : List StructInfo) (k : ℕ) (qs : List Object) (q : Object) → slice_get qs k ≡ Some q → weight structs q + weight_of_parts structs (drop (suc k) qs) < weight_of_parts structs (drop k qs)
 less_from_next structs zero [] q h = absurd (grind arith)
@@ -179,7 +177,7 @@ less_from_next structs zero (p ∷ qs) q h = subst (λ z. weight structs z + wei
 less_from_next structs (suc k) (p ∷ qs) q h = less_from_next structs k qs q h
 
 less_from_part : (structs : List StructInfo) (k : ℕ) (qs : List Object) (q : Object) → slice_get qs k ≡ Some q → weight structs q + weight_of_parts structs (drop (k + 1) qs) < weight_of_parts structs (drop k qs)
-less_from_part structs k qs q h = subst (λ m. weight structs q + weight_of_parts structs (drop m qs) < weight_of_parts structs (drop k qs)) (sym (next_number k)) (less_from_next structs k qs q h)
+less_from_part structs k qs q h = subst (λ m. weight structs q + weight_of_parts structs (drop m qs) < weight_of_parts structs (drop k qs)) (sym (plus_one k)) (less_from_next structs k qs q h)
 
 weight_last : (structs : List StructInfo) (ls : List Level) (l : Level) → weight_around structs (ls ++ l ∷ []) ≡ weight_around structs ls + weight_around structs (l ∷ [])
 weight_last structs [] l = omega arith

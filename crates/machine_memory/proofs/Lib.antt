@@ -9,4 +9,4 @@ mod OpenLemmas
 mod PutLemmas
 mod ShapeLemmas
 mod VariableLemmas
-mod WordLemmas
+pub mod WordLemmas

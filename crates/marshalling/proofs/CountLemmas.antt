@@ -4,6 +4,7 @@ use Rattle.std.specs.Prelude.{nat_le}
 use Rattle.std.specs.List.{AllByRecursion, list_all, zip}
 use Rattle.std.proofs.lemmas.Bool.Decides.{nat_tests}
 use Rattle.std.proofs.lemmas.List.{length-map}
+use Rattle.pt_base.proofs.Booleans.{and_true_first, and_true_second}
 use Rattle.block_memory.specs.declared.cell.BlockName.{BlockName}
 use Rattle.block_memory.specs.declared.cell.Cell.{Cell}
 use Rattle.block_memory.specs.declared.cell.Cell.TheVariants.{Int, Ptr, Sealed}
@@ -14,7 +15,6 @@ use Rattle.wire.specs.Limits.{IsBlock}
 use Rattle.marshalling.specs.Laws.{BodiesKeepCounts}
 use Rattle.marshalling.specs.Packing.{is_among, names_from, names_of, packed, packed_block, packed_typed, with_name, with_target}
 use Rattle.marshalling.specs.Taking.{is_whole}
-use Rattle.marshalling.proofs.Lists.{first, second}
 use Rattle.marshalling.proofs.TakingLemmas.{whole_count, whole_small}
 
 -- ---- lengths
@@ -30,20 +30,20 @@ zip_same [] (y ∷ ys) h = h
 zip_same (x ∷ xs) [] h = refl
 zip_same (x ∷ xs) (y ∷ ys) h = ap suc (zip_same xs ys (omega arith))
 
-name_more : (names : List BlockName) (name : BlockName) → length (with_name names name) ≤ length names + 1
+pub name_more : (names : List BlockName) (name : BlockName) → length (with_name names name) ≤ length names + 1
 name_more names name = go (is_among names name)
   where
     go : (b : Bool) → length (if b then names else names ++ name ∷ []) ≤ length names + 1
     go true = omega arith
     go false = let more = length-append names (name ∷ []) in omega arith
 
-target_more : (names : List BlockName) (c : Cell) → length (with_target names c) ≤ length names + 1
+pub target_more : (names : List BlockName) (c : Cell) → length (with_target names c) ≤ length names + 1
 target_more names (Int v) = omega arith
 target_more names (Ptr Null) = omega arith
 target_more names (Ptr (At block base count index)) = name_more names block
 target_more names (Sealed handle) = omega arith
 
-names_more : (names : List BlockName) (args : List Cell) → length (names_from names args) ≤ length names + length args
+pub names_more : (names : List BlockName) (args : List Cell) → length (names_from names args) ≤ length names + length args
 names_more names [] = omega arith
 names_more names (c ∷ args) =
     let here = target_more names c in
@@ -65,10 +65,10 @@ blocks_keep : (blocks : Blocks) (names : List BlockName) → list_all (λ name. 
     → AllByRecursion IsBlock (map (λ name. packed_block (blocks name)) names)
 blocks_keep blocks [] whole some = tt
 blocks_keep blocks (name ∷ names) whole some =
-    let here = block_keeps (blocks name) (first (is_whole (blocks name)) (list_all (λ name. is_whole (blocks name)) names) whole)
-    (first (nat_le 1 (length (blocks name).cells)) (list_all (λ name. nat_le 1 (length (blocks name).cells)) names) some) in
-    let rest = blocks_keep blocks names (second (is_whole (blocks name)) (list_all (λ name. is_whole (blocks name)) names) whole)
-    (second (nat_le 1 (length (blocks name).cells)) (list_all (λ name. nat_le 1 (length (blocks name).cells)) names) some) in
+    let here = block_keeps (blocks name) (and_true_first (is_whole (blocks name)) (list_all (λ name. is_whole (blocks name)) names) whole)
+    (and_true_first (nat_le 1 (length (blocks name).cells)) (list_all (λ name. nat_le 1 (length (blocks name).cells)) names) some) in
+    let rest = blocks_keep blocks names (and_true_second (is_whole (blocks name)) (list_all (λ name. is_whole (blocks name)) names) whole)
+    (and_true_second (nat_le 1 (length (blocks name).cells)) (list_all (λ name. nat_le 1 (length (blocks name).cells)) names) some) in
     (here, rest)
 
 pub counts_kept : BodiesKeepCounts

@@ -5,6 +5,9 @@ use Rattle.std.specs.List.{list_all, flat_map}
 use Rattle.std.proofs.lemmas.Bool.Decides.{nat_tests}
 use Rattle.std.proofs.lemmas.List.{map-append}
 use Rattle.pt_base.specs.declared.int_type.IntType.{IntType}
+use Rattle.pt_base.proofs.Booleans.{and_true_first, and_true_second, as_or_with_false, or_assoc}
+use Rattle.pt_base.proofs.Lists.{length_pushed}
+use Rattle.pt_base.proofs.Places.{get_before, get_pushed_at}
 use Rattle.pt_tree.specs.declared.signature.Elem.{Elem}
 use Rattle.pt_tree.specs.declared.signature.Elem.TheVariants as e
 use Rattle.typed_tree.specs.declared.types.VarTy.{VarTy}
@@ -14,13 +17,9 @@ use Rattle.typed_tree.specs.declared.types.StructInfo.{StructInfo}
 use Rattle.typed_tree.specs.Cells.{repeated}
 use Rattle.marshalling.specs.declared.leaf.Leaf.{Leaf}
 use Rattle.marshalling.specs.Leaves.{under, object_leaves, field_leaves, leaves_from, leaves_of, object_cells, field_cells, is_elem, is_object, name_earlier}
-use Rattle.marshalling.proofs.Lists.{all_at, at_drop, first, get_at, second}
+use Rattle.marshalling.proofs.Lists.{all_at, at_drop, get_at}
 
 -- ---- marks
-
-or_assoc : (a b c : Bool) → (a || (b || c)) ≡ ((a || b) || c)
-or_assoc true b c = refl
-or_assoc false b c = refl
 
 -- marks one above another are one
 pub under-under : (a b : Bool) (leaves : List Leaf) → map (under a) (map (under b) leaves) ≡ map (under (a || b)) leaves
@@ -36,21 +35,6 @@ under_none (leaf ∷ leaves) = ap (λ xs. leaf ∷ xs) (under_none leaves)
 
 -- ---- tables
 
-get_before : {X : Type 0} (xs ys : List X) (k : ℕ) → k < length xs → slice_get (xs ++ ys) k ≡ slice_get xs k
-get_before [] ys k h = absurd (omega arith)
-get_before (x ∷ xs) ys zero h = refl
-get_before (x ∷ xs) ys (suc k) h = get_before xs ys k (omega arith)
-
-get_last : {X : Type 0} (xs : List X) (y : X) (n : ℕ) → n ≡ length xs → slice_get (xs ++ y ∷ []) n ≡ Some y
-get_last [] y zero h = refl
-get_last [] y (suc n) h = absurd (omega arith)
-get_last (x ∷ xs) y zero h = absurd (omega arith)
-get_last (x ∷ xs) y (suc n) h = get_last xs y n (omega arith)
-
-longer : {X : Type 0} (xs : List X) (y : X) → length (xs ++ y ∷ []) ≡ suc (length xs)
-longer [] y = refl
-longer (x ∷ xs) y = ap suc (longer xs y)
-
 abbrev struct_leaves : List (List Leaf) → StructInfo → List Leaf
 struct_leaves known s = flat_map (field_leaves known) s.fields
 
@@ -58,7 +42,7 @@ struct_leaves known s = flat_map (field_leaves known) s.fields
 kept : (known : List (List Leaf)) (ss : List StructInfo) (k : ℕ) → k < length known → slice_get (leaves_from known ss) k ≡ slice_get known k
 kept known [] k h = refl
 kept known (s ∷ ss) k h =
-    let more = longer known (struct_leaves known s) in
+    let more = length_pushed known (struct_leaves known s) in
     kept (known ++ struct_leaves known s ∷ []) ss k (omega (arith, h, more)) ∙ get_before known (struct_leaves known s ∷ []) k h
 
 -- what names earlier structs only has the same leaves
@@ -74,8 +58,8 @@ same_fields : (known : List (List Leaf)) (ss : List StructInfo) (fs : List Field
     → flat_map (field_leaves known) fs ≡ flat_map (field_leaves (leaves_from known ss)) fs
 same_fields known ss [] h = refl
 same_fields known ss (f ∷ fs) h =
-    let here = first (is_object (length known) f.ty) (list_all (λ f. is_object (length known) f.ty) fs) h in
-    let rest = same_fields known ss fs (second (is_object (length known) f.ty) (list_all (λ f. is_object (length known) f.ty) fs) h) in
+    let here = and_true_first (is_object (length known) f.ty) (list_all (λ f. is_object (length known) f.ty) fs) h in
+    let rest = same_fields known ss fs (and_true_second (is_object (length known) f.ty) (list_all (λ f. is_object (length known) f.ty) fs) h) in
     ap (λ xs. map (under f.marked) xs ++ flat_map (field_leaves known) fs) (sym (same_object known ss f.ty here))
     ∙ ap (λ xs. field_leaves (leaves_from known ss) f ++ xs) rest
 
@@ -84,19 +68,19 @@ struct_at : (known : List (List Leaf)) (ss : List StructInfo) (i : ℕ) (s : Str
     → unwrap_or (slice_get (leaves_from known ss) k) [] ≡ flat_map (field_leaves (leaves_from known ss)) s.fields
 struct_at known [] i s n k is at h e = cc
 struct_at known (s' ∷ ss) zero s n k is at h e =
-    let fields = first (list_all (λ f. is_object n f.ty) s'.fields) (name_earlier (suc n) ss) h in
+    let fields = and_true_first (list_all (λ f. is_object n f.ty) s'.fields) (name_earlier (suc n) ss) h in
     let fields' : list_all (λ f. is_object (length known) f.ty) s'.fields ≡ true = rw (← is) fields in
-    let more = longer known (struct_leaves known s') in
+    let more = length_pushed known (struct_leaves known s') in
     let here : slice_get (leaves_from (known ++ struct_leaves known s' ∷ []) ss) k ≡ Some (struct_leaves known s') =
     kept (known ++ struct_leaves known s' ∷ []) ss k (omega (arith, is, at, more))
-    ∙ get_last known (struct_leaves known s') k (omega (arith, is, at)) in
+    ∙ get_pushed_at known (struct_leaves known s') k (omega (arith, is, at)) in
     let one : s' ≡ s = cc in
     ap (λ o. unwrap_or o []) here ∙ same_fields known (s' ∷ ss) s'.fields fields'
     ∙ ap (λ x. flat_map (field_leaves (leaves_from known (s' ∷ ss))) x.fields) one
 struct_at known (s' ∷ ss) (suc i) s n k is at h e =
-    let more = longer known (struct_leaves known s') in
+    let more = length_pushed known (struct_leaves known s') in
     struct_at (known ++ struct_leaves known s' ∷ []) ss i s (suc n) k (omega (arith, is, more)) (omega (arith, at))
-    (second (list_all (λ f. is_object n f.ty) s'.fields) (name_earlier (suc n) ss) h) e
+    (and_true_second (list_all (λ f. is_object n f.ty) s'.fields) (name_earlier (suc n) ss) h) e
 
 -- ---- parts
 
@@ -134,11 +118,11 @@ pub fields_earlier : (structs : List StructInfo) (from n : ℕ) (s : StructInfo)
     → list_all (λ f. is_object k f.ty) s.fields ≡ true
 fields_earlier [] from n s k at h lt e = absurd (omega arith)
 fields_earlier (s' ∷ ss) from zero s k at h lt e =
-    let here = first (list_all (λ f. is_object from f.ty) s'.fields) (name_earlier (suc from) ss) h in
+    let here = and_true_first (list_all (λ f. is_object from f.ty) s'.fields) (name_earlier (suc from) ss) h in
     let same : k ≡ from = omega arith in
     rw (same, e) here
 fields_earlier (s' ∷ ss) from (suc n) s k at h lt e =
-    fields_earlier ss (suc from) n s k (omega arith) (second (list_all (λ f. is_object from f.ty) s'.fields) (name_earlier (suc from) ss) h)
+    fields_earlier ss (suc from) n s k (omega arith) (and_true_second (list_all (λ f. is_object from f.ty) s'.fields) (name_earlier (suc from) ss) h)
     (omega arith) e
 
 -- ---- steps of the walk
@@ -179,14 +163,10 @@ field_more structs m fields i f secret before after whole lt e so_far both is =
 abbrev leaf_at : IntType → Bool → Leaf
 leaf_at t m = record { ty = t; marked = m }
 
-or_false : (b : Bool) → b ≡ (b || false)
-or_false true = refl
-or_false false = refl
-
 pub int_cells : (structs : List StructInfo) (m : Bool) (t : IntType) (elem : Elem) → elem ≡ e.Int t
     → leaf_at t m ∷ [] ≡ map (under m) (leaves_of structs elem)
 int_cells structs m t elem is =
-    ap (λ b. leaf_at t b ∷ []) (or_false m) ∙ sym (ap (λ x. map (under m) (leaves_of structs x)) is ∙ ap (map (under m)) (leaves_of_int structs t))
+    ap (λ b. leaf_at t b ∷ []) (as_or_with_false m) ∙ sym (ap (λ x. map (under m) (leaves_of structs x)) is ∙ ap (map (under m)) (leaves_of_int structs t))
 
 pub known_struct : (n k : ℕ) (elem : Elem) → is_elem n elem ≡ true → elem ≡ e.Struct k → k < n
 known_struct n k elem h is =

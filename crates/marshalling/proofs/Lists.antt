@@ -3,14 +3,7 @@ use Rattle.std.proofs.Common.{◌≡◌, ◌<◌, ◌+◌, ◌∙◌, sym, ap, r
 use Rattle.std.specs.Prelude.{◌&&◌, slice_get}
 use Rattle.std.specs.List.{list_all}
 use Rattle.std.proofs.lemmas.List.{drop_more, get_or_default}
-
-pub first : (a b : Bool) → (a && b) ≡ true → a ≡ true
-first true b h = refl
-first false b h = h
-
-pub second : (a b : Bool) → (a && b) ≡ true → b ≡ true
-second true b h = h
-second false b h = cc
+use Rattle.pt_base.proofs.Booleans.{and_true_first, and_true_second}
 
 pub and_assoc : (a b c : Bool) → (a && b && c) ≡ (a && (b && c))
 and_assoc true b c = refl
@@ -19,8 +12,8 @@ and_assoc false b c = refl
 -- what holds of all holds of each
 pub all_at : {X : Type 0} (test : X → Bool) (xs : List X) (i : ℕ) (x : X) → list_all test xs ≡ true → i < length xs → x ≡ get_or xs i x → test x ≡ true
 all_at test [] i x h lt e = absurd (omega arith)
-all_at test (y ∷ xs) zero x h lt e = ap test e ∙ first (test y) (list_all test xs) h
-all_at test (y ∷ xs) (suc i) x h lt e = all_at test xs i x (second (test y) (list_all test xs) h) (omega arith) e
+all_at test (y ∷ xs) zero x h lt e = ap test e ∙ and_true_first (test y) (list_all test xs) h
+all_at test (y ∷ xs) (suc i) x h lt e = all_at test xs i x (and_true_second (test y) (list_all test xs) h) (omega arith) e
 
 -- a function of what is left of a list, one step on
 pub at_drop : {X Y : Type 0} (F : List X → Y) (xs : List X) (i : ℕ) (x : X) → i < length xs → x ≡ get_or xs i x
@@ -38,10 +31,6 @@ pub get_at : {X : Type 0} (xs : List X) (i : ℕ) (x : X) → i < length xs → 
 get_at [] i x lt e = absurd (omega arith)
 get_at (y ∷ xs) zero x lt e = ap Some (sym e)
 get_at (y ∷ xs) (suc i) x lt e = get_at xs i x (omega arith) e
-
--- a list from a place on
-pub drops : {X : Type 0} (xs : List X) (i : ℕ) (x : X) → i < length xs → x ≡ get_or xs i x → drop i xs ≡ x ∷ drop (i + 1) xs
-drops xs i x lt e = drop_more xs i x lt ∙ ap (λ y. y ∷ drop (i + 1) xs) (sym e)
 
 -- what is read at a place is there
 pub self_read : {X : Type 0} (xs : List X) (i : ℕ) (d : X) → i < length xs → get_or xs i d ≡ get_or xs i (get_or xs i d)

@@ -1,7 +1,9 @@
 -- The blocks of a call by number: each name that an argument has is among them, once.
 use Rattle.std.proofs.Common.{◌≡◌, ◌<◌, ◌∙◌, refl, ap, sym, ℕ, zero, suc, Bool, true, false, List, [], ◌∷◌, ◌++◌, length, map, get_or, arith, if◌then◌else◌}
-use Rattle.std.specs.Prelude.{◌&&◌, ◌||◌, not}
+use Rattle.std.specs.Prelude.{◌||◌, not}
 use Rattle.std.specs.List.{list_all, list_any}
+use Rattle.std.proofs.lemmas.Bool.{and_from, not_from_false, or_from, or_left, or_parts, or_right}
+use Rattle.pt_base.proofs.Booleans.{and_true_first, and_true_second, from_not_true, or_assoc}
 use Rattle.block_memory.specs.declared.cell.BlockName.{BlockName}
 use Rattle.block_memory.specs.declared.cell.Cell.{Cell}
 use Rattle.block_memory.specs.declared.cell.Cell.TheVariants.{Int, Ptr, Sealed}
@@ -9,33 +11,6 @@ use Rattle.block_memory.specs.declared.cell.Pointer.TheVariants.{Null, At}
 use Rattle.block_memory.specs.Blocks.{is_same_name}
 use Rattle.block_memory.proofs.BlocksLemmas.{is_same_name-self, same_name}
 use Rattle.marshalling.specs.Packing.{are_distinct, is_among, names_from, number_of, with_name, with_target}
-use Rattle.marshalling.proofs.Lists.{first, second}
-
--- ---- tests
-
-or_true : (a b : Bool) → b ≡ true → (a || b) ≡ true
-or_true true b h = refl
-or_true false b h = h
-
-or_left : (a b : Bool) → a ≡ true → (a || b) ≡ true
-or_left true b h = refl
-or_left false b h = cc
-
-or_assoc : (a b c : Bool) → (a || (b || c)) ≡ ((a || b) || c)
-or_assoc true b c = refl
-or_assoc false b c = refl
-
-and_true : (a b : Bool) → a ≡ true → b ≡ true → (a && b) ≡ true
-and_true true b h k = k
-and_true false b h k = cc
-
-not_false : (b : Bool) → b ≡ false → not b ≡ true
-not_false true h = cc
-not_false false h = refl
-
-from_not : (b : Bool) → not b ≡ true → b ≡ false
-from_not true h = cc
-from_not false h = refl
 
 -- ---- a name among names
 
@@ -82,7 +57,7 @@ with_added names b = go (is_among names b) refl
   where
     go : (t : Bool) → is_among names b ≡ t → is_among (if t then names else names ++ b ∷ []) b ≡ true
     go true e = e
-    go false e = among_append names b b ∙ or_true (is_among names b) (is_same_name b b) (is_same_name-self b)
+    go false e = among_append names b b ∙ or_right (is_among names b) (is_same_name b b) (is_same_name-self b)
 
 target_stays : (names : List BlockName) (c : Cell) (x : BlockName) → is_among names x ≡ true → is_among (with_target names c) x ≡ true
 target_stays names (Int v) x h = h
@@ -110,7 +85,7 @@ one_target names (Sealed handle) args = refl
 pub all_targets : (names : List BlockName) (args : List Cell) → list_all (has_target (names_from names args)) args ≡ true
 all_targets names [] = refl
 all_targets names (c ∷ args) =
-    and_true (has_target (names_from names (c ∷ args)) c) (list_all (has_target (names_from names (c ∷ args))) args) (one_target names c args)
+    and_from (has_target (names_from names (c ∷ args)) c) (list_all (has_target (names_from names (c ∷ args))) args) (one_target names c args)
     (all_targets (with_target names c) args)
 
 -- ---- names are distinct
@@ -122,24 +97,16 @@ same_back a b h = go (is_same_name b a) refl
     go true e = let self = is_same_name-self a in let same = ap (λ x. is_same_name a x) (same_name b a e) in cc
     go false e = refl
 
-or_false : (a b : Bool) → a ≡ false → b ≡ false → (a || b) ≡ false
-or_false true b h k = h
-or_false false b h k = k
-
-neither : (a b : Bool) → (a || b) ≡ false → (a ≡ false) × (b ≡ false)
-neither true b h = cc
-neither false b h = (refl, h)
-
 distinct_append : (names : List BlockName) (x : BlockName) → are_distinct names ≡ true → is_among names x ≡ false
     → are_distinct (names ++ x ∷ []) ≡ true
 distinct_append [] x h k = refl
 distinct_append (n ∷ names) x h k =
-    let parts = neither (is_same_name n x) (is_among names x) k in
-    let alone = from_not (is_among names n) (first (not (is_among names n)) (are_distinct names) h) in
+    let parts = or_parts (is_same_name n x) (is_among names x) k in
+    let alone = from_not_true (is_among names n) (and_true_first (not (is_among names n)) (are_distinct names) h) in
     let here : is_among (names ++ x ∷ []) n ≡ false = among_append names x n
-    ∙ or_false (is_among names n) (is_same_name x n) alone (same_back n x parts.0) in
-    and_true (not (is_among (names ++ x ∷ []) n)) (are_distinct (names ++ x ∷ [])) (not_false (is_among (names ++ x ∷ []) n) here)
-    (distinct_append names x (second (not (is_among names n)) (are_distinct names) h) parts.1)
+    ∙ or_from (is_among names n) (is_same_name x n) alone (same_back n x parts.0) in
+    and_from (not (is_among (names ++ x ∷ []) n)) (are_distinct (names ++ x ∷ [])) (not_from_false (is_among (names ++ x ∷ []) n) here)
+    (distinct_append names x (and_true_second (not (is_among names n)) (are_distinct names) h) parts.1)
 
 with_distinct : (names : List BlockName) (b : BlockName) → are_distinct names ≡ true → are_distinct (with_name names b) ≡ true
 with_distinct names b h = go (is_among names b) refl
@@ -161,15 +128,15 @@ from_distinct names (c ∷ args) h = from_distinct (with_target names c) args (t
 pub get_among : (names : List BlockName) (k : ℕ) (d : BlockName) → k < length names → is_among names (get_or names k d) ≡ true
 get_among [] k d lt = absurd (omega arith)
 get_among (n ∷ names) zero d lt = or_left (is_same_name n n) (is_among names n) (is_same_name-self n)
-get_among (n ∷ names) (suc k) d lt = or_true (is_same_name n (get_or names k d)) (is_among names (get_or names k d)) (get_among names k d (omega arith))
+get_among (n ∷ names) (suc k) d lt = or_right (is_same_name n (get_or names k d)) (is_among names (get_or names k d)) (get_among names k d (omega arith))
 
 -- the number of the name at a place is the place
 pub number_at : (names : List BlockName) (k : ℕ) (d : BlockName) → are_distinct names ≡ true → k < length names → number_of names (get_or names k d) ≡ k
 number_at [] k d h lt = absurd (omega arith)
 number_at (n ∷ names) zero d h lt = ap (λ t. if t then 0 else suc (number_of names n)) (is_same_name-self n)
 number_at (n ∷ names) (suc k) d h lt =
-    let alone = from_not (is_among names n) (first (not (is_among names n)) (are_distinct names) h) in
-    let rest = number_at names k d (second (not (is_among names n)) (are_distinct names) h) (omega arith) in
+    let alone = from_not_true (is_among names n) (and_true_first (not (is_among names n)) (are_distinct names) h) in
+    let rest = number_at names k d (and_true_second (not (is_among names n)) (are_distinct names) h) (omega arith) in
     let other = differs n (get_or names k d) names alone (get_among names k d (omega arith)) in
     ap (λ t. if t then 0 else suc (number_of names (get_or names k d))) other ∙ ap suc rest
   where
@@ -211,7 +178,7 @@ from_new names (c ∷ args) x h =
         → (is_among names x || (points_to x c || list_any (points_to x) args)) ≡ true
     go true e k = or_assoc (is_among names x) (points_to x c) (list_any (points_to x) args)
         ∙ or_left (is_among names x || points_to x c) (list_any (points_to x) args) (target_new names c x e)
-    go false e k = or_true (is_among names x) (points_to x c || list_any (points_to x) args) (or_true (points_to x c) (list_any (points_to x) args) k)
+    go false e k = or_right (is_among names x) (points_to x c || list_any (points_to x) args) (or_right (points_to x c) (list_any (points_to x) args) k)
 
 -- ---- one name more
 

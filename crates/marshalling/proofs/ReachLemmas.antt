@@ -5,6 +5,7 @@ use Rattle.std.specs.List.{flat_map}
 use Rattle.std.proofs.lemmas.Bool.Decides.{nat_tests}
 use Rattle.std.proofs.lemmas.List.{drop_all, length-append, length-map}
 use Rattle.pt_base.specs.declared.int_type.IntType.{IntType}
+use Rattle.pt_base.proofs.Booleans.{and_true_first, and_true_second}
 use Rattle.pt_tree.specs.declared.signature.Elem.{Elem}
 use Rattle.pt_tree.specs.declared.signature.Elem.TheVariants as e
 use Rattle.pt_tree.specs.declared.signature.Param.{Param}
@@ -22,7 +23,7 @@ use Rattle.wire.specs.declared.message.CallBody.{CallBody}
 use Rattle.marshalling.specs.Leaves.{field_cells, leaves_of, name_earlier, object_cells, under}
 use Rattle.marshalling.specs.Shape.{all_within, fit_all, fits_kind, fits_range, is_shaped, kind_within, up_to}
 use Rattle.marshalling.proofs.LeafLemmas.{leaves_of_int, leaves_of_struct}
-use Rattle.marshalling.proofs.Lists.{at_drop, first, second}
+use Rattle.marshalling.proofs.Lists.{at_drop}
 
 -- ---- sizes up to a most
 
@@ -94,7 +95,7 @@ size_fails structs fields i f size most whole lt read room got so_far =
 
 -- ---- the sizes of several elements
 
-repeated_size : {X : Type 0} (count : ℕ) (xs : List X) → length (repeated count xs) ≡ count * length xs
+pub repeated_size : {X : Type 0} (count : ℕ) (xs : List X) → length (repeated count xs) ≡ count * length xs
 repeated_size zero xs = omega arith
 repeated_size (suc count) xs =
     let more = length-append xs (repeated count xs) in
@@ -137,15 +138,15 @@ all_within_if_fit structs blocks [] args h = refl
 all_within_if_fit structs blocks (p ∷ params) [] h = refl
 all_within_if_fit structs blocks (p ∷ params) (a ∷ args) h =
     let here = within_if_fits structs blocks p.marked p.kind a
-    (first (fits_kind structs blocks p.marked p.kind a) (fit_all structs blocks params args) h) in
+    (and_true_first (fits_kind structs blocks p.marked p.kind a) (fit_all structs blocks params args) h) in
     let rest = all_within_if_fit structs blocks params args
-    (second (fits_kind structs blocks p.marked p.kind a) (fit_all structs blocks params args) h) in
+    (and_true_second (fits_kind structs blocks p.marked p.kind a) (fit_all structs blocks params args) h) in
     ap (λ b. b && all_within structs blocks params args) here ∙ rest
 
 -- what a body of the shape reaches lies within it
 pub shaped_within : (structs : List StructInfo) (params : List Param) (body : CallBody) → is_shaped structs params body ≡ true
     → all_within structs body.blocks params body.args ≡ true
-shaped_within structs params body h = all_within_if_fit structs body.blocks params body.args (first (fit_all structs body.blocks params body.args) _ h)
+shaped_within structs params body h = all_within_if_fit structs body.blocks params body.args (and_true_first (fit_all structs body.blocks params body.args) _ h)
 
 -- so a body that reaches further has no such shape
 pub outside : (structs : List StructInfo) (params : List Param) (body : CallBody) (blocks : List (List (IntType × WireCell))) (args : List Arg)

@@ -3,6 +3,7 @@ use Rattle.std.proofs.Common.{◌≡◌, ◌+◌, ◌++◌, ◌∙◌, sym, ap, 
 use Rattle.std.specs.Prelude.{◌<◌, ◌||◌, if◌then◌else◌, Bool, true, false, nat_eq, option_to_list, slice_get}
 use Rattle.std.proofs.lemmas.List.{append-nil, length-map}
 use Rattle.pt_base.specs.declared.int_type.IntType.{IntType}
+use Rattle.pt_base.proofs.Places.{drop_step_at}
 use Rattle.pt_tree.specs.declared.signature.Signature.{Signature}
 use Rattle.block_memory.specs.declared.cell.Cell.{Cell}
 use Rattle.block_memory.specs.declared.cell.BlockName.TheVariants.{Received}
@@ -17,7 +18,7 @@ use Rattle.marshalling.specs.Handles.{Entries}
 use Rattle.marshalling.specs.Ranges.{crossing_among}
 use Rattle.marshalling.specs.Returns.{is_ranged}
 use Rattle.marshalling.specs.Replies.{AreServed, HoldNumbers, HoldsNumber, IsResult, Place, block_types, kept, kept_by, next_after, next_by, number_in, places_from, places_of, received, reply_of, result_places, sent, sent_by, types_of}
-use Rattle.marshalling.proofs.Lists.{at_drop, at_drops, drops}
+use Rattle.marshalling.proofs.Lists.{at_drop, at_drops}
 
 -- the reply of these parts
 abbrev pub reply_with : Option WireCell → List WireCell → ReplyBody
@@ -148,7 +149,7 @@ pub served_here : (memory : Blocks) (k : ℕ) (blocks : List (List (IntType × W
     → AreServed memory k (types_of (drop k blocks))
     → (k < 256) × HoldNumbers (block_types block) (memory (Received k)).cells × AreServed memory (k + 1) (types_of (drop (k + 1) blocks))
 served_here memory k blocks block lt e h =
-    let here = subst (λ bs. AreServed memory k (types_of bs)) (drops blocks k block lt e) h in
+    let here = subst (λ bs. AreServed memory k (types_of bs)) (drop_step_at blocks k block lt e) h in
     (here.0, here.1, subst (λ j. AreServed memory j (types_of (drop (k + 1) blocks))) (sym (add-one k)) here.2)
 
 places_count : (crossing : ℕ → ℕ → Crossing) (k : ℕ) (block : List (IntType × WireCell)) (cells : List Cell) → HoldNumbers (block_types block) cells

@@ -5,7 +5,9 @@ use Rattle.std.specs.List.{list_all, list_any}
 use Rattle.std.proofs.Math.Path.{fun_ext}
 use Rattle.std.proofs.lemmas.List.{drop-set-lt, drop_all, take_more_set}
 use Rattle.std.proofs.lemmas.Grind.{drop_more_same}
+use Rattle.std.proofs.lemmas.Bool.{or_parts}
 use Rattle.pt_base.specs.declared.int_type.IntType.{IntType}
+use Rattle.pt_base.proofs.Booleans.{and_true_first, and_true_second}
 use Rattle.block_memory.specs.declared.cell.BlockName.{BlockName}
 use Rattle.block_memory.specs.declared.cell.Cell.{Cell}
 use Rattle.block_memory.specs.declared.cell.Cell.TheVariants as cell
@@ -25,14 +27,8 @@ use Rattle.marshalling.specs.Ranges.{crossing_among}
 use Rattle.marshalling.specs.Replies.{next_by}
 use Rattle.marshalling.specs.Returns.{AreAsLong, copied, counted, is_ranged, seen, with_cells}
 use Rattle.marshalling.specs.Taking.{Part, Taken, ended, is_whole, taken_blocks, taken_cell, taken_cells}
-use Rattle.marshalling.proofs.Lists.{at_drop, first, second}
+use Rattle.marshalling.proofs.Lists.{at_drop}
 use Rattle.marshalling.proofs.TakingLemmas.{cell_next, cells_shape, next_grows, whole_count}
-
--- ---- tests
-
-neither : (a b : Bool) → (a || b) ≡ false → (a ≡ false) × (b ≡ false)
-neither true b h = cc
-neither false b h = (refl, h)
 
 -- ---- blocks that are put
 
@@ -135,7 +131,7 @@ copies_stay : (blocks : Blocks) (name : BlockName) (block : Block) (rest : List 
     → AreCopies blocks rest → AreCopies (put blocks name block) rest
 copies_stay blocks name block [] alone h = tt {0}
 copies_stay blocks name block (b ∷ rest) alone h =
-    let parts = neither (is_same_name b.name name) (is_among (names_listed rest) name) alone in
+    let parts = or_parts (is_same_name b.name name) (is_among (names_listed rest) name) alone in
     let same : put blocks name block b.name ≡ blocks b.name = put_other blocks name b.name block (same_back b.name name parts.0) in
     (ap (λ (x : Block). x.cells) same ∙ h.0, ap (λ (x : Block). length x.types) same ∙ h.1, h.2, copies_stay blocks name block rest parts.1 h.3)
   where
@@ -323,7 +319,7 @@ among_copied : (test : ℕ → Bool) (before : Blocks) (k : ℕ) (names : List B
 among_copied test before k [] [] x is alone = refl
 among_copied test before k [] (b ∷ blocks) x is alone = cc
 among_copied test before k (name ∷ names) blocks x is alone =
-    let parts = neither (is_same_name name x) (is_among names x) alone in
+    let parts = or_parts (is_same_name name x) (is_among names x) alone in
     go parts.0 (λ bs others. among_copied test before (suc k) names bs x others parts.1) (test k) blocks is
   where
     join : (a b : Bool) → a ≡ false → b ≡ false → (a || b) ≡ false
@@ -350,11 +346,11 @@ pub are_copies : (test : ℕ → Bool) (before : Blocks) (k : ℕ) (names : List
 are_copies test before k [] [] is distinct whole = tt {0}
 are_copies test before k [] (b ∷ blocks) is distinct whole = cc
 are_copies test before k (name ∷ names) blocks is distinct whole =
-    let alone : is_among names name ≡ false = from_not (is_among names name) (first (not (is_among names name)) (are_distinct names) distinct) in
-    let count = whole_count (before name) (first (is_whole (before name)) (list_all (λ name. is_whole (before name)) names) whole) in
+    let alone : is_among names name ≡ false = from_not (is_among names name) (and_true_first (not (is_among names name)) (are_distinct names) distinct) in
+    let count = whole_count (before name) (and_true_first (is_whole (before name)) (list_all (λ name. is_whole (before name)) names) whole) in
     go alone count
-    (λ bs others. are_copies test before (suc k) names bs others (second (not (is_among names name)) (are_distinct names) distinct)
-    (second (is_whole (before name)) (list_all (λ name. is_whole (before name)) names) whole))
+    (λ bs others. are_copies test before (suc k) names bs others (and_true_second (not (is_among names name)) (are_distinct names) distinct)
+    (and_true_second (is_whole (before name)) (list_all (λ name. is_whole (before name)) names) whole))
     (test k) blocks is
   where
     from_not : (b : Bool) → not b ≡ true → b ≡ false
@@ -385,7 +381,7 @@ are_copies test before k (name ∷ names) blocks is distinct whole =
 pub not_ranged : (ranges : List Range) (k i : ℕ) → is_ranged ranges k ≡ false → crossing_among ranges k i ≡ Stays
 not_ranged [] k i h = refl
 not_ranged (r ∷ ranges) k i h =
-    let parts = neither (nat_eq r.block k) (is_ranged ranges k) h in
+    let parts = or_parts (nat_eq r.block k) (is_ranged ranges k) h in
     ap (λ (t : Bool). stronger (if t then range_crossing r.secret r.leaves.items r.base i else Stays) (crossing_among ranges k i)) parts.0
     ∙ not_ranged ranges k i parts.1
 

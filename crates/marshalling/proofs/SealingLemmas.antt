@@ -2,7 +2,9 @@
 use Rattle.std.proofs.Common.{◌≡◌, ◌≤◌, ◌++◌, ◌∙◌, sym, ap, refl, subst, ℕ, suc, Bool, true, false, List, [], ◌∷◌, map, arith, Option, Some, None}
 use Rattle.std.specs.Prelude.{◌||◌, ◌↔◌, not}
 use Rattle.std.specs.List.{list_any}
+use Rattle.std.proofs.lemmas.Bool.{or_parts}
 use Rattle.pt_base.specs.declared.int_type.IntType.{IntType}
+use Rattle.pt_base.proofs.Booleans.{true_not_false}
 use Rattle.pt_tree.specs.declared.signature.Signature.{Signature}
 use Rattle.typed_tree.specs.declared.types.StructInfo.{StructInfo}
 use Rattle.block_memory.specs.declared.cell.BlockName.{BlockName}
@@ -27,13 +29,6 @@ abbrev Holds : Bool → Type 0
 Holds true = Unit {0}
 Holds false = ⊥
 
-never : {A : Type 0} → true ≡ false → A
-never e = absurd (subst Holds e (tt {0}))
-
-neither : (a b : Bool) → (a || b) ≡ false → (a ≡ false) × (b ≡ false)
-neither true b h = cc
-neither false b h = (refl, h)
-
 or_assoc : (a b c : Bool) → ((a || b) || c) ≡ (a || (b || c))
 or_assoc true b c = refl
 or_assoc false b c = refl
@@ -48,7 +43,7 @@ record Alike (p q : Part) : Type 0 where
 cell_alike : (w : Crossing) (name : BlockName) (i : ℕ) (p q : Part) → is_plain w ≡ false → Alike p q
     → Alike (taken_cell w name i p) (taken_cell w name i q)
 cell_alike Stays name i p q h same = same
-cell_alike Plain name i p q h same = never h
+cell_alike Plain name i p q h same = true_not_false h
 cell_alike Sealed name i p q h same = record {
   next = ap suc same.next;
   blocks = ap (λ (b : Blocks). put b name (with_cell (b name) i (cell.Sealed p.next))) same.blocks
@@ -60,7 +55,7 @@ cells_alike : (crossing : ℕ → ℕ → Crossing) (name : BlockName) (k i : �
     → Alike (taken_cells crossing name k i types p) (taken_cells crossing name k i types q)
 cells_alike crossing name k i [] p q h same = same
 cells_alike crossing name k i (t ∷ types) p q h same =
-    let parts = neither (is_plain (crossing k i)) (has_plain (places_from crossing k (suc i) types)) h in
+    let parts = or_parts (is_plain (crossing k i)) (has_plain (places_from crossing k (suc i) types)) h in
     cells_alike crossing name k (suc i) types (taken_cell (crossing k i) name i p) (taken_cell (crossing k i) name i q) parts.1
     (cell_alike (crossing k i) name i p q parts.0 same)
 
@@ -77,7 +72,7 @@ blocks_alike : (crossing : ℕ → ℕ → Crossing) (start : Blocks) (k : ℕ) 
 blocks_alike crossing start k [] p q shape h same = same
 blocks_alike crossing start k (name ∷ names) p q shape h same =
     let types = (start name).types in
-    let parts = neither (has_plain (places_from crossing k 0 types)) (has_plain (places_of crossing (suc k) (types_by start names)))
+    let parts = or_parts (has_plain (places_from crossing k 0 types)) (has_plain (places_of crossing (suc k) (types_by start names)))
     (sym (plain_append (places_from crossing k 0 types) (places_of crossing (suc k) (types_by start names))) ∙ h) in
     let q_types : (q.blocks name).types ≡ types = shape.types name in
     let p_types : (p.blocks name).types ≡ types = ap (λ (b : Blocks). (b name).types) same.blocks ∙ q_types in
@@ -100,7 +95,7 @@ one_result Sealed next r s h = refl
 
 result_alike : (places : List Place) (next : ℕ) (r s : Option WireCell) → has_plain places ≡ false → taken_result places next r ≡ taken_result places next s
 result_alike [] next r s h = refl
-result_alike (p ∷ places) next r s h = one_result p.way next r s (neither (is_plain p.way) (has_plain places) h).0
+result_alike (p ∷ places) next r s h = one_result p.way next r s (or_parts (is_plain p.way) (has_plain places) h).0
 
 none_by : (sig : Signature) (t : Option IntType) (handle : ℕ) (r : Option Cell) → has_plain (result_places sig t) ≡ false
     → r ≡ taken_result (result_places sig t) handle None → (r ≡ None) ↔ (t ≡ None)

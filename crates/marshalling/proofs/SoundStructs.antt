@@ -1,7 +1,9 @@
 -- The structs of a program that is well formed are there.
-use Rattle.std.proofs.Common.{◌≡◌, refl, ℕ, suc, Bool, true, false, List, [], ◌∷◌, length, Some}
-use Rattle.std.specs.Prelude.{◌&&◌, nat_le}
+use Rattle.std.proofs.Common.{◌≡◌, refl, ℕ, suc, true, List, [], ◌∷◌, length, Some}
+use Rattle.std.specs.Prelude.{nat_le}
 use Rattle.std.specs.List.{list_all}
+use Rattle.std.proofs.lemmas.Bool.{and_from}
+use Rattle.pt_base.proofs.Booleans.{and_true_first, and_true_second}
 use Rattle.pt_tree.specs.declared.signature.Elem.{Elem}
 use Rattle.pt_tree.specs.declared.signature.Elem.TheVariants as e
 use Rattle.pt_tree.specs.declared.signature.Param.{Param}
@@ -15,11 +17,6 @@ use Rattle.typed_tree.specs.WellFormed.{field_sound, is_plain_type, is_small, is
 use Rattle.typed_tree.specs.WellFormedExpression as typed
 use Rattle.marshalling.specs.Laws.{StructsStand}
 use Rattle.marshalling.specs.Leaves.{is_elem, is_object, is_pointee, name_earlier}
-use Rattle.marshalling.proofs.Lists.{first, second}
-
-and_true : (a b : Bool) → a ≡ true → b ≡ true → (a && b) ≡ true
-and_true true b h k = k
-and_true false b h k = cc
 
 element_stands : (n : ℕ) (elem : Elem) → typed.is_elem n (Some elem) ≡ true → is_elem n elem ≡ true
 element_stands n (e.Int t) h = refl
@@ -28,25 +25,25 @@ element_stands n (e.Struct m) h = h
 object_stands : (n : ℕ) (ty : VarTy) → is_plain_type n ty ≡ true → is_object n ty ≡ true
 object_stands n (Int t) h = refl
 object_stands n (Struct m) h = h
-object_stands n (Array elem count) h = element_stands n elem (first (typed.is_elem n (Some elem)) (nat_le 1 count) h)
+object_stands n (Array elem count) h = element_stands n elem (and_true_first (typed.is_elem n (Some elem)) (nat_le 1 count) h)
 object_stands n (Pointer elem fixed) h = refl
 
 fields_stand : (structs : List StructInfo) (n : ℕ) (fs : List Field) → list_all (field_sound structs n) fs ≡ true
     → list_all (λ f. is_object n f.ty) fs ≡ true
 fields_stand structs n [] h = refl
 fields_stand structs n (f ∷ fs) h =
-    let here = first (field_sound structs n f) (list_all (field_sound structs n) fs) h in
-    and_true (is_object n f.ty) (list_all (λ f. is_object n f.ty) fs)
-    (object_stands n f.ty (first (is_plain_type n f.ty) (is_small structs f.ty) here))
-    (fields_stand structs n fs (second (field_sound structs n f) (list_all (field_sound structs n) fs) h))
+    let here = and_true_first (field_sound structs n f) (list_all (field_sound structs n) fs) h in
+    and_from (is_object n f.ty) (list_all (λ f. is_object n f.ty) fs)
+    (object_stands n f.ty (and_true_first (is_plain_type n f.ty) (is_small structs f.ty) here))
+    (fields_stand structs n fs (and_true_second (field_sound structs n f) (list_all (field_sound structs n) fs) h))
 
 earlier_stand : (structs : List StructInfo) (n : ℕ) (ss : List StructInfo) → structs_sound structs n ss ≡ true → name_earlier n ss ≡ true
 earlier_stand structs n [] h = refl
 earlier_stand structs n (s ∷ ss) h =
-    let here = first (struct_sound structs n s) (structs_sound structs (suc n) ss) h in
-    and_true (list_all (λ f. is_object n f.ty) s.fields) (name_earlier (suc n) ss)
-    (fields_stand structs n s.fields (second (nat_le 1 (length s.fields)) (list_all (field_sound structs n) s.fields) here))
-    (earlier_stand structs (suc n) ss (second (struct_sound structs n s) (structs_sound structs (suc n) ss) h))
+    let here = and_true_first (struct_sound structs n s) (structs_sound structs (suc n) ss) h in
+    and_from (list_all (λ f. is_object n f.ty) s.fields) (name_earlier (suc n) ss)
+    (fields_stand structs n s.fields (and_true_second (nat_le 1 (length s.fields)) (list_all (field_sound structs n) s.fields) here))
+    (earlier_stand structs (suc n) ss (and_true_second (struct_sound structs n s) (structs_sound structs (suc n) ss) h))
 
 pointee_stands : (n : ℕ) (k : ParamKind) → is_variable_type n (typed.param_type k) ≡ true → is_pointee n k ≡ true
 pointee_stands n (kind.Int t) h = refl
@@ -56,13 +53,13 @@ pointees_stand : (n : ℕ) (params : List Param) → list_all (λ p. is_variable
     → list_all (λ p. is_pointee n p.kind) params ≡ true
 pointees_stand n [] h = refl
 pointees_stand n (p ∷ params) h =
-    and_true (is_pointee n p.kind) (list_all (λ p. is_pointee n p.kind) params)
+    and_from (is_pointee n p.kind) (list_all (λ p. is_pointee n p.kind) params)
     (pointee_stands n p.kind
-    (first (is_variable_type n (typed.param_type p.kind)) (list_all (λ p. is_variable_type n (typed.param_type p.kind)) params) h))
+    (and_true_first (is_variable_type n (typed.param_type p.kind)) (list_all (λ p. is_variable_type n (typed.param_type p.kind)) params) h))
     (pointees_stand n params
-    (second (is_variable_type n (typed.param_type p.kind)) (list_all (λ p. is_variable_type n (typed.param_type p.kind)) params) h))
+    (and_true_second (is_variable_type n (typed.param_type p.kind)) (list_all (λ p. is_variable_type n (typed.param_type p.kind)) params) h))
 
 pub structs_stand : StructsStand
 structs_stand structs params sound fit =
-    and_true (name_earlier 0 structs) (list_all (λ p. is_pointee (length structs) p.kind) params) (earlier_stand structs 0 structs sound)
+    and_from (name_earlier 0 structs) (list_all (λ p. is_pointee (length structs) p.kind) params) (earlier_stand structs 0 structs sound)
     (pointees_stand (length structs) params fit)

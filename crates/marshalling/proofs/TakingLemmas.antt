@@ -3,6 +3,8 @@ use Rattle.std.proofs.Common.{◌≡◌, ◌<◌, ◌≤◌, ◌+◌, ◌∙◌,
 use Rattle.std.specs.Prelude.{◌&&◌, nat_eq, nat_le}
 use Rattle.std.proofs.lemmas.Bool.Decides.{nat_tests}
 use Rattle.pt_base.specs.declared.int_type.IntType.{IntType}
+use Rattle.pt_base.proofs.Booleans.{and_true_first, and_true_second}
+use Rattle.pt_base.proofs.Places.{drop_step_at}
 use Rattle.block_memory.specs.declared.cell.BlockName.{BlockName}
 use Rattle.block_memory.specs.Block.{Block}
 use Rattle.block_memory.specs.Blocks.{Blocks}
@@ -12,7 +14,6 @@ use Rattle.marshalling.specs.declared.crossing.Crossing.{Crossing}
 use Rattle.marshalling.specs.declared.crossing.Crossing.TheVariants.{Stays, Plain, Sealed}
 use Rattle.marshalling.specs.Replies.{Place, next_after, next_by}
 use Rattle.marshalling.specs.Taking.{Part, is_whole, taken_blocks, taken_cell, taken_cells, with_number}
-use Rattle.marshalling.proofs.Lists.{drops, first, second}
 
 -- ---- what writing keeps
 
@@ -123,7 +124,7 @@ pub block_goes : (crossing : ℕ → ℕ → Crossing) (k : ℕ) (names : List B
 block_goes crossing k names name before after whole lt e one so_far =
     ap (taken_blocks crossing (k + 1) (drop (k + 1) names)) one
     ∙ ap (λ j. taken_blocks crossing j (drop (k + 1) names) (taken_cells crossing name k 0 (before.blocks name).types before)) (add-one k)
-    ∙ sym (ap (λ ns. taken_blocks crossing k ns before) (drops names k name lt e)) ∙ so_far
+    ∙ sym (ap (λ ns. taken_blocks crossing k ns before) (drop_step_at names k name lt e)) ∙ so_far
 
 pub block_room : (crossing : ℕ → ℕ → Crossing) (k : ℕ) (names : List BlockName) (name : BlockName) (before whole : Part) (limit : ℕ)
     → k < length names → name ≡ get_or names k name
@@ -139,10 +140,10 @@ block_room crossing k names name before whole limit lt e so_far room =
 -- ---- whole blocks
 
 pub whole_count : (b : Block) → is_whole b ≡ true → length b.types ≡ length b.cells
-whole_count b h = let same = first (nat_eq (length b.types) (length b.cells)) (nat_le (length b.cells) 65_536) h in grind (arith, nat_tests, same)
+whole_count b h = let same = and_true_first (nat_eq (length b.types) (length b.cells)) (nat_le (length b.cells) 65_536) h in grind (arith, nat_tests, same)
 
 pub whole_small : (b : Block) → is_whole b ≡ true → length b.cells ≤ 65_536
-whole_small b h = let small = second (nat_eq (length b.types) (length b.cells)) (nat_le (length b.cells) 65_536) h in grind (arith, nat_tests, small)
+whole_small b h = let small = and_true_second (nat_eq (length b.types) (length b.cells)) (nat_le (length b.cells) 65_536) h in grind (arith, nat_tests, small)
 
 -- a block that keeps its shape stays whole
 pub whole_stays : (old new : Blocks) (name : BlockName) → SameShape old new → is_whole (old name) ≡ true → is_whole (new name) ≡ true
@@ -158,7 +159,3 @@ places_grow handle (p ∷ places) =
     let here = next_grows p.way handle in
     let rest = places_grow (next_by p.way handle) places in
     omega (arith, here, rest)
-
--- one bound below another
-pub within : (a b c : ℕ) → a ≤ b → b ≤ c → a ≤ c
-within a b c h k = omega arith

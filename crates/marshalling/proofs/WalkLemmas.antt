@@ -4,6 +4,7 @@ use Rattle.std.specs.Prelude.{◌&&◌, nat_le}
 use Rattle.std.proofs.lemmas.Bool.Decides.{nat_tests}
 use Rattle.std.proofs.lemmas.List.{drop_all}
 use Rattle.pt_base.specs.declared.int_type.IntType.{IntType}
+use Rattle.pt_base.proofs.Places.{drop_step_at}
 use Rattle.block_memory.specs.declared.cell.BlockName.{BlockName}
 use Rattle.wire.specs.declared.cell.WireCell.{WireCell}
 use Rattle.marshalling.specs.declared.crossing.Crossing.{Crossing}
@@ -11,7 +12,6 @@ use Rattle.marshalling.specs.declared.walk.Walk.{Walk}
 use Rattle.marshalling.specs.Replies.{Place, next_by, places_from, places_of}
 use Rattle.marshalling.specs.Taking.{are_sent, comes_back, is_sent_by}
 use Rattle.marshalling.specs.Walks.{Walks}
-use Rattle.marshalling.proofs.Lists.{drops}
 
 -- the place of a cell of a block
 abbrev pub place_at : (ℕ → ℕ → Crossing) → ℕ → ℕ → IntType → Place
@@ -40,7 +40,7 @@ pub walk_wrong : (crossing : Crossing) (t : IntType) (w : Walk) (cells : List Wi
     → w.at < length cells → c ≡ get_or cells w.at c
     → fits ≡ is_sent_by crossing t w.next c → fits ≡ false → Walks None (place_by crossing t ∷ []) w cells
 walk_wrong crossing t w cells c fits h lt e is wrong rest =
-    ap (are_sent w.next (place_by crossing t ∷ rest)) (drops cells w.at c lt e)
+    ap (are_sent w.next (place_by crossing t ∷ rest)) (drop_step_at cells w.at c lt e)
     ∙ some_sent w.next (place_by crossing t) rest c (drop (w.at + 1) cells) h
     ∙ ap (λ b. b && are_sent (next_by crossing w.next) rest (drop (w.at + 1) cells)) (sym is ∙ wrong)
 
@@ -49,7 +49,7 @@ pub walk_right : (crossing : Crossing) (t : IntType) (w v : Walk) (cells : List 
     → fits ≡ is_sent_by crossing t w.next c → fits ≡ true → v.at ≡ w.at + 1 → v.next ≡ next_by crossing w.next
     → Walks (Some v) (place_by crossing t ∷ []) w cells
 walk_right crossing t w v cells c fits h lt e is right at next rest =
-    ap (are_sent w.next (place_by crossing t ∷ rest)) (drops cells w.at c lt e)
+    ap (are_sent w.next (place_by crossing t ∷ rest)) (drop_step_at cells w.at c lt e)
     ∙ some_sent w.next (place_by crossing t) rest c (drop (w.at + 1) cells) h
     ∙ ap (λ b. b && are_sent (next_by crossing w.next) rest (drop (w.at + 1) cells)) (sym is ∙ right)
     ∙ ap (λ n. are_sent n rest (drop (w.at + 1) cells)) (sym next) ∙ ap (λ n. are_sent v.next rest (drop n cells)) (sym at)
@@ -84,7 +84,7 @@ left_all all w cells = record { same = λ rest. refl }
 pub places_rest : (crossing : ℕ → ℕ → Crossing) (k i : ℕ) (types : List IntType) (t : IntType) → i < length types → t ≡ get_or types i t
     → places_from crossing k i (drop i types) ≡ place_at crossing k i t ∷ places_from crossing k (i + 1) (drop (i + 1) types)
 places_rest crossing k i types t lt e =
-    ap (places_from crossing k i) (drops types i t lt e)
+    ap (places_from crossing k i) (drop_step_at types i t lt e)
     ∙ ap (λ j. place_at crossing k i t ∷ places_from crossing k j (drop (i + 1) types)) (sym (add-one i))
 
 pub blocks_rest : (crossing : ℕ → ℕ → Crossing) (types : BlockName → List IntType) (k : ℕ) (names : List BlockName) (name : BlockName)
@@ -92,7 +92,7 @@ pub blocks_rest : (crossing : ℕ → ℕ → Crossing) (types : BlockName → L
     → places_of crossing k (map types (drop k names)) ≡ places_from crossing k 0 (types name) ++ places_of crossing (k + 1)
     (map types (drop (k + 1) names))
 blocks_rest crossing types k names name lt e =
-    ap (λ ns. places_of crossing k (map types ns)) (drops names k name lt e)
+    ap (λ ns. places_of crossing k (map types ns)) (drop_step_at names k name lt e)
     ∙ ap (λ j. places_from crossing k 0 (types name) ++ places_of crossing j (map types (drop (k + 1) names))) (sym (add-one k))
 
 -- ---- the end of the cells

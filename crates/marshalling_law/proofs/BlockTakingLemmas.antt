@@ -1,9 +1,11 @@
 -- What taking a reply leaves, block by block.
 use Rattle.std.proofs.Common.{◌≡◌, ◌∙◌, append_assoc, length-append, sym, ap, refl, ℕ, ℤ, suc, Bool, true, false, List, [], ◌∷◌, ◌++◌, length, drop, map, arith, subst}
-use Rattle.std.specs.Prelude.{◌&&◌, ◌||◌, not, slice_set}
+use Rattle.std.specs.Prelude.{not, slice_set}
 use Rattle.std.specs.List.{list_all}
 use Rattle.std.proofs.lemmas.List.{length-map, set_at}
+use Rattle.std.proofs.lemmas.Bool.{and_from, or_left, or_parts, or_right}
 use Rattle.pt_base.specs.declared.int_type.IntType.{IntType}
+use Rattle.pt_base.proofs.Booleans.{and_true_first, and_true_second, from_not_true}
 use Rattle.block_memory.specs.declared.cell.BlockName.{BlockName}
 use Rattle.block_memory.specs.declared.cell.BlockName.TheVariants.{Received}
 use Rattle.block_memory.specs.declared.cell.Cell.{Cell}
@@ -19,31 +21,10 @@ use Rattle.marshalling.specs.HonestCalls.{AreLeft, left_cell, left_cells}
 use Rattle.marshalling.specs.Packing.{are_distinct, is_among}
 use Rattle.marshalling.specs.Replies.{AreServed, Place, next_after, next_by, number_in, places_from, places_of, received, sent, sent_by}
 use Rattle.marshalling.specs.Taking.{Part, is_whole, taken_blocks, taken_cell, taken_cells, with_number}
-use Rattle.marshalling.proofs.Lists.{first, second}
 use Rattle.marshalling.proofs.ReplyLemmas.{holds_length, length-places_from, sent-append}
 use Rattle.marshalling.proofs.TakingLemmas.{SameShape, cells_shape, whole_count, whole_stays}
 
 -- ---- tests
-
-and_true : (a b : Bool) → a ≡ true → b ≡ true → (a && b) ≡ true
-and_true true b h k = k
-and_true false b h k = cc
-
-or_right : (a b : Bool) → b ≡ true → (a || b) ≡ true
-or_right true b h = refl
-or_right false b h = h
-
-or_left : (a b : Bool) → a ≡ true → (a || b) ≡ true
-or_left true b h = refl
-or_left false b h = cc
-
-neither : (a b : Bool) → (a || b) ≡ false → (a ≡ false) × (b ≡ false)
-neither true b h = cc
-neither false b h = (refl, h)
-
-from_not : (b : Bool) → not b ≡ true → b ≡ false
-from_not true h = cc
-from_not false h = refl
 
 -- a name that isn't among the names differs from one that is
 pub apart : (n x : BlockName) (names : List BlockName) → is_among names n ≡ false → is_among names x ≡ true → is_same_name n x ≡ false
@@ -167,9 +148,9 @@ pub all_whole : (old new : Blocks) (names : List BlockName) → SameShape old ne
     → list_all (λ name. is_whole (new name)) names ≡ true
 all_whole old new [] same h = refl
 all_whole old new (n ∷ names) same h =
-    and_true (is_whole (new n)) (list_all (λ name. is_whole (new name)) names)
-    (whole_stays old new n same (first (is_whole (old n)) (list_all (λ name. is_whole (old name)) names) h))
-    (all_whole old new names same (second (is_whole (old n)) (list_all (λ name. is_whole (old name)) names) h))
+    and_from (is_whole (new n)) (list_all (λ name. is_whole (new name)) names)
+    (whole_stays old new n same (and_true_first (is_whole (old n)) (list_all (λ name. is_whole (old name)) names) h))
+    (all_whole old new names same (and_true_second (is_whole (old n)) (list_all (λ name. is_whole (old name)) names) h))
 
 -- what was there before counts only in the blocks of these names
 left_same : (crossing : ℕ → ℕ → Crossing) (k : ℕ) (names : List BlockName) (handle : ℕ) (a b served after : Blocks)
@@ -206,7 +187,7 @@ then_all crossing served k name names middle more p q r alone one all =
       );
       types = λ other. all.types other ∙ one.types other;
       beside = λ other h.
-          let parts = neither (is_same_name name other) (is_among names other) h in
+          let parts = or_parts (is_same_name name other) (is_among names other) h in
           all.beside other parts.1 ∙ one.others other parts.0;
     }
 
@@ -224,8 +205,8 @@ blocks_took crossing served k (name ∷ names) more p distinct whole serves has 
     let rest = types_by p.blocks names in
     let tail = sent (next_after p.next places) (places_of crossing (suc k) rest) (received served (suc k) rest) in
     let q = taken_cells crossing name k 0 types p in
-    let alone : is_among names name ≡ false = from_not (is_among names name) (first (not (is_among names name)) (are_distinct names) distinct) in
-    let here = whole_count (p.blocks name) (first (is_whole (p.blocks name)) (list_all (λ name. is_whole (p.blocks name)) names) whole) in
+    let alone : is_among names name ≡ false = from_not_true (is_among names name) (and_true_first (not (is_among names name)) (are_distinct names) distinct) in
+    let here = whole_count (p.blocks name) (and_true_first (is_whole (p.blocks name)) (list_all (λ name. is_whole (p.blocks name)) names) whole) in
     let count : length types ≡ length vs = holds_length types numbers serves.1 ∙ sym (length-map numbers number_in) in
     let cut : p.sent ≡ sent p.next places vs ++ (tail ++ more) =
     has ∙ ap (λ xs. xs ++ more) (sent-append p.next places (places_of crossing (suc k) rest) vs (received served (suc k) rest)
@@ -235,9 +216,9 @@ blocks_took crossing served k (name ∷ names) more p distinct whole serves has 
     cells_took crossing name k 0 types [] (p.blocks name).cells vs (tail ++ more) p cut refl refl here count in
     let same : types_by q.blocks names ≡ rest = same_types q.blocks p.blocks names one.types in
     let all : TookAll crossing served (suc k) names more q (taken_blocks crossing (suc k) names q) =
-    blocks_took crossing served (suc k) names more q (second (not (is_among names name)) (are_distinct names) distinct)
+    blocks_took crossing served (suc k) names more q (and_true_second (not (is_among names name)) (are_distinct names) distinct)
     (all_whole p.blocks q.blocks names (cells_shape crossing name k 0 types p)
-    (second (is_whole (p.blocks name)) (list_all (λ name. is_whole (p.blocks name)) names) whole))
+    (and_true_second (is_whole (p.blocks name)) (list_all (λ name. is_whole (p.blocks name)) names) whole))
     (subst (AreServed served (suc k)) (sym same) serves.2)
     (one.left ∙ ap (λ ts. sent (next_after p.next places) (places_of crossing (suc k) ts) (received served (suc k) ts) ++ more) (sym same)
     ∙ ap (λ n. sent n (places_of crossing (suc k) (types_by q.blocks names)) (received served (suc k) (types_by q.blocks names)) ++ more)

@@ -1,11 +1,12 @@
 -- What a machine asks for may be packed.
-use Rattle.std.proofs.Common.{◌≡◌, ◌+◌, ◌≤◌, ℕ, zero, suc, ap, sym, refl, subst, arith, nat_eq, List, [], ◌∷◌, ◌++◌, map, length, length-append, Bool, true, false, Option, Some, None, if◌then◌else◌}
+use Rattle.std.proofs.Common.{◌≡◌, ◌≤◌, ℕ, zero, suc, ap, sym, refl, subst, arith, nat_eq, List, [], ◌∷◌, map, length, Bool, true, false, Option, Some, None, if◌then◌else◌}
 use Rattle.std.specs.Prelude.{IsTrue, ◌&&◌, ◌||◌, not, is_some, nat_le, option_map, slice_get, take, unwrap_or}
 use Rattle.std.specs.List.{list_all}
 use Rattle.std.specs.Map.{lookup}
-use Rattle.std.proofs.lemmas.Bool.{eq-eqb}
+use Rattle.std.proofs.lemmas.Bool.{eq-eqb, and_from}
 use Rattle.std.proofs.lemmas.Bool.Decides.{nat_tests}
 use Rattle.pt_base.specs.declared.int_type.IntType.{IntType}
+use Rattle.pt_base.proofs.Booleans.{both_hold_first, both_hold_second}
 use Rattle.pt_tree.specs.declared.signature.Param.{Param}
 use Rattle.pt_tree.specs.declared.signature.Signature.{Signature}
 use Rattle.typed_tree.specs.declared.types.StructInfo.{StructInfo}
@@ -15,12 +16,10 @@ use Rattle.typed_tree.specs.declared.variable.Var.{Var}
 use Rattle.typed_tree.specs.Cells.{leaves_of}
 use Rattle.typed_tree.specs.WellFormed.{cells_fit, is_integer_param, is_plain_type, is_small, is_variable_type}
 use Rattle.typed_tree.specs.WellFormedExpression.{param_type}
-use Rattle.typed_tree.proofs.WellFormedLemmas.{and_left, and_right}
 use Rattle.block_memory.specs.declared.cell.BlockName.{BlockName}
 use Rattle.block_memory.specs.declared.cell.BlockName.TheVariants.{Local, Global, Received}
 use Rattle.block_memory.specs.declared.cell.Cell.{Cell}
 use Rattle.block_memory.specs.declared.cell.Cell.TheVariants as cell
-use Rattle.block_memory.specs.declared.cell.Pointer.TheVariants.{Null, At}
 use Rattle.block_memory.specs.Block.{Block}
 use Rattle.block_memory.specs.Blocks.{Blocks}
 use Rattle.pt_core.specs.Calls.{context_in, function_in, no_function, no_signature}
@@ -33,34 +32,15 @@ use Rattle.core_soundness_law.specs.Outside.{ArgumentsFit}
 use Rattle.core_soundness_law.specs.StepLaws.{called_params, params_of}
 use Rattle.core_soundness_law.proofs.Programs.{FunctionFacts, GlobalOf, ProgramFacts, facts_of, function_facts, global_of, variable_of}
 use Rattle.marshalling.specs.HonestCalls.{is_integer}
-use Rattle.marshalling.specs.Packing.{is_among, names_from, names_of, with_name, with_target}
+use Rattle.marshalling.specs.Packing.{is_among, names_of}
 use Rattle.marshalling.specs.Taking.{is_whole}
 use Rattle.marshalling.proofs.SoundStructs.{structs_stand}
+use Rattle.marshalling.proofs.CountLemmas.{names_more}
 use Rattle.marshalling_law.specs.CallsPackable.{AllAreGiven, AreSmall, CallsArePackable}
 use Rattle.marshalling_law.specs.CallsSending.{AreParameters}
-use Rattle.marshalling_law.proofs.CallsTargets.{IsTarget, all_integers, and_true, as_many, block_integers, each_name, target_among}
+use Rattle.marshalling_law.proofs.CallsTargets.{IsTarget, all_integers, as_many, block_integers, each_name, target_among}
 
 -- ---- names
-
-name_more : (names : List BlockName) (name : BlockName) → length (with_name names name) ≤ length names + 1
-name_more names name = go (is_among names name)
-  where
-    go : (b : Bool) → length (if b then names else names ++ name ∷ []) ≤ length names + 1
-    go true = omega arith
-    go false = let more = length-append names (name ∷ []) in omega (arith, more)
-
-target_more : (names : List BlockName) (c : Cell) → length (with_target names c) ≤ length names + 1
-target_more names (cell.Int v) = omega arith
-target_more names (cell.Ptr Null) = omega arith
-target_more names (cell.Ptr (At block base count index)) = name_more names block
-target_more names (cell.Sealed handle) = omega arith
-
-names_more : (names : List BlockName) (args : List Cell) → length (names_from names args) ≤ length names + length args
-names_more names [] = omega arith
-names_more names (c ∷ args) =
-    let here = target_more names c in
-    let rest = names_more (with_target names c) args in
-    omega (arith, here, rest)
 
 pub few_names : (args : List Cell) → length (names_of args) ≤ length args
 few_names args = let most = names_more [] args in omega (arith, most)
@@ -91,7 +71,7 @@ variable_small monitor program facts f v ty is = go (function_at program f) refl
         let function : FunctionFacts monitor program f = function_facts monitor program facts f (subst (λ o. IsTrue (is_some o)) (sym e) refl) in
         let all = subst (λ (g : FunctionTree). IsTrue (list_all (variable_fits program.structs) g.vars)) (sym function.tree_is) function.variables in
         let of : (x : Var) × IsTrue (variable_fits program.structs x) × (x.ty ≡ ty) = variable_of (variable_fits program.structs) (function_in program f).vars v ty is all in
-        subst (IsSmall program.structs) of.2 (small program.structs of.0.ty (and_right (is_variable_type (length program.structs) of.0.ty) (is_small program.structs of.0.ty) of.1))
+        subst (IsSmall program.structs) of.2 (small program.structs of.0.ty (both_hold_second (is_variable_type (length program.structs) of.0.ty) (is_small program.structs of.0.ty) of.1))
 
 variables_small : (monitor : Bool) (program : ProgramTree) → ProgramFacts monitor program → (active : List Active) (d v : ℕ) (ty : VarTy) → slice_get (variables_at program active d) v ≡ Some ty → IsSmall program.structs ty
 variables_small monitor program facts [] d v ty is = cc
@@ -128,9 +108,9 @@ block_small kept monitor program facts active x mem received (Global g) = go (lo
     go None e = as_small (x (Global g)).types [] (ap types_in (mem.beyond g e)) no_more
     go (Some ty) e =
         let of : GlobalOf (global_fits program.structs) ty = global_of (global_fits program.structs) g program.globals ty e facts.globals in
-        let fits = and_left (is_plain_type (length program.structs) of.of.var.ty && is_small program.structs of.of.var.ty) (cells_fit (leaves_of program.structs of.of.var.ty) of.of.cells) of.fits in
+        let fits = both_hold_first (is_plain_type (length program.structs) of.of.var.ty && is_small program.structs of.of.var.ty) (cells_fit (leaves_of program.structs of.of.var.ty) of.of.cells) of.fits in
         as_small (x (Global g)).types (leaves_of program.structs ty) (mem.globals g ty e)
-        (subst (IsSmall program.structs) of.typed (small program.structs of.of.var.ty (and_right (is_plain_type (length program.structs) of.of.var.ty) (is_small program.structs of.of.var.ty) fits)))
+        (subst (IsSmall program.structs) of.typed (small program.structs of.of.var.ty (both_hold_second (is_plain_type (length program.structs) of.of.var.ty) (is_small program.structs of.of.var.ty) fits)))
 
 -- ---- parameters
 
@@ -147,15 +127,15 @@ take_few (suc n) (x ∷ xs) = let rest : length (take n xs) ≤ length xs = take
 take_each : {A : Type 0} (Q : A → Bool) (n : ℕ) (xs : List A) → list_all Q xs ≡ true → list_all Q (take n xs) ≡ true
 take_each Q zero xs h = refl
 take_each Q (suc n) [] h = refl
-take_each Q (suc n) (x ∷ xs) h = and_true (Q x) (list_all Q (take n xs)) (and_left (Q x) (list_all Q xs) h) (take_each Q n xs (and_right (Q x) (list_all Q xs) h))
+take_each Q (suc n) (x ∷ xs) h = and_from (Q x) (list_all Q (take n xs)) (both_hold_first (Q x) (list_all Q xs) h) (take_each Q n xs (both_hold_second (Q x) (list_all Q xs) h))
 
 abbrev is_parameter : List StructInfo → Param → Bool
 is_parameter structs p = is_variable_type (length structs) (param_type p.kind)
 
 signature_params : (structs : List StructInfo) (s : Signature) → IsTrue (signature_fits structs s) → AreFew structs s.params
 signature_params structs s h =
-    let both = and_left (nat_le (length s.params) 8 && list_all (is_parameter structs) s.params) (not s.host || list_all is_integer_param s.params) h in
-    record { few = low (length s.params) (and_left (nat_le (length s.params) 8) (list_all (is_parameter structs) s.params) both); are = and_right (nat_le (length s.params) 8) (list_all (is_parameter structs) s.params) both }
+    let both = both_hold_first (nat_le (length s.params) 8 && list_all (is_parameter structs) s.params) (not s.host || list_all is_integer_param s.params) h in
+    record { few = low (length s.params) (both_hold_first (nat_le (length s.params) 8) (list_all (is_parameter structs) s.params) both); are = both_hold_second (nat_le (length s.params) 8) (list_all (is_parameter structs) s.params) both }
   where
     low : (k : ℕ) → IsTrue (nat_le k 8) → k ≤ 8
     low k h = grind (arith, nat_tests)
@@ -168,15 +148,15 @@ with_own_params structs monitor (Some g) s h = go (monitor && not s.host)
     go false = h
     go true = let most = take_few g.params s.params in let few = h.few in record { few = omega (arith, most, few); are = take_each (is_parameter structs) g.params s.params h.are }
 
-found_signature : (Q : Signature → Bool) (f : ℕ) (xs : List (ℕ × Signature)) (s : Signature) → lookup (nat_eq f) xs ≡ Some s → list_all (λ x. Q x.1) xs ≡ true → Q s ≡ true
+pub found_signature : (Q : Signature → Bool) (f : ℕ) (xs : List (ℕ × Signature)) (s : Signature) → lookup (nat_eq f) xs ≡ Some s → list_all (λ x. Q x.1) xs ≡ true → Q s ≡ true
 found_signature Q f [] s is h = cc
-found_signature Q f (x ∷ xs) s is h = go (λ e. found_signature Q f xs s e (and_right (Q x.1) (list_all (λ y. Q y.1) xs) h)) (nat_eq f x.0) is
+found_signature Q f (x ∷ xs) s is h = go (λ e. found_signature Q f xs s e (both_hold_second (Q x.1) (list_all (λ y. Q y.1) xs) h)) (nat_eq f x.0) is
   where
     same : Some x.1 ≡ Some s → x.1 ≡ s
     same e = cc
 
     go : (lookup (nat_eq f) xs ≡ Some s → Q s ≡ true) → (b : Bool) → (if b then Some x.1 else lookup (nat_eq f) xs) ≡ Some s → Q s ≡ true
-    go more true e = subst (λ (y : Signature). Q y ≡ true) (same e) (and_left (Q x.1) (list_all (λ y. Q y.1) xs) h)
+    go more true e = subst (λ (y : Signature). Q y ≡ true) (same e) (both_hold_first (Q x.1) (list_all (λ y. Q y.1) xs) h)
     go more false e = more e
 
 pub called_few : (monitor : Bool) (program : ProgramTree) → ProgramFacts monitor program → (f : ℕ) → AreFew program.structs (called_params monitor program f)
@@ -220,7 +200,7 @@ calls_are_packable kept monitor program a rest x f args sound mem received given
     whole : (name : BlockName) → IsTarget x a.depth name → is_whole (x name) ≡ true
     whole name t =
         let same = as_many kept (x name).types (x name).cells (integers name t.some) in
-        and_true (nat_eq (length (x name).types) (length (x name).cells)) (nat_le (length (x name).cells) 65_536) (eq-eqb (length (x name).types) (length (x name).cells) same)
+        and_from (nat_eq (length (x name).types) (length (x name).cells)) (nat_le (length (x name).cells) 65_536) (eq-eqb (length (x name).types) (length (x name).cells) same)
         (fits_in (length (x name).types) (length (x name).cells) same (block_small kept monitor program facts (a ∷ rest) x mem received name))
       where
         fits_in : (a b : ℕ) → a ≡ b → a ≤ 65_536 → nat_le b 65_536 ≡ true

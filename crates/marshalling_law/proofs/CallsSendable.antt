@@ -1,10 +1,12 @@
 -- What fits by a store may be sent to a monitor with that store.
-use Rattle.std.proofs.Common.{◌≡◌, ◌∙◌, ◌+◌, ◌*◌, ◌≤◌, ◌<◌, ℕ, zero, suc, ap, sym, refl, subst, arith, List, [], ◌∷◌, ◌++◌, map, length, length-append, Bool, true, false, Option, Some, None, ℤ}
+use Rattle.std.proofs.Common.{◌≡◌, ◌∙◌, ◌+◌, ◌*◌, ◌≤◌, ◌<◌, ℕ, zero, suc, ap, sym, refl, subst, arith, List, [], ◌∷◌, ◌++◌, map, length, Bool, true, false, Option, Some, None, ℤ}
 use Rattle.std.specs.Prelude.{IsTrue, ◌&&◌, ◌||◌, drop, nat_le, slice_get, unwrap_or}
 use Rattle.std.specs.List.{flat_map, list_all, zip}
-use Rattle.std.proofs.lemmas.Bool.{lt-ltb}
+use Rattle.std.proofs.lemmas.Bool.{lt-ltb, and_from}
 use Rattle.std.proofs.lemmas.Bool.Decides.{nat_tests}
 use Rattle.pt_base.specs.declared.int_type.IntType.{IntType}
+use Rattle.pt_base.proofs.Booleans.{and_true_first, and_true_second, both_hold_first, both_hold_second}
+use Rattle.pt_base.proofs.Lists.{map_append}
 use Rattle.pt_tree.specs.declared.signature.Elem.{Elem}
 use Rattle.pt_tree.specs.declared.signature.Elem.TheVariants as e
 use Rattle.pt_tree.specs.declared.signature.Param.{Param}
@@ -19,7 +21,7 @@ use Rattle.typed_tree.specs.Cells as typed
 use Rattle.typed_tree.specs.TypeTests.{same_int, type_of_elem}
 use Rattle.typed_tree.specs.WellFormed.{is_variable_type, structs_sound}
 use Rattle.typed_tree.specs.WellFormedExpression.{param_type}
-use Rattle.typed_tree.proofs.WellFormedLemmas.{and_left, and_right}
+use Rattle.typed_tree.proofs.SameTypes.{int_self}
 use Rattle.block_memory.specs.declared.cell.Cell.{Cell}
 use Rattle.block_memory.specs.declared.cell.Cell.TheVariants as cell
 use Rattle.block_memory.specs.declared.cell.Pointer.TheVariants.{Null, At}
@@ -38,10 +40,10 @@ use Rattle.marshalling.specs.Leaves.{range_leaves, under}
 use Rattle.marshalling.specs.Packing.{names_of, packed_block, packed_cell, packed_typed}
 use Rattle.marshalling.specs.Sendable.{holds, is_kept, sends_all, sends_kind}
 use Rattle.marshalling.specs.Shape.{fits_block, fits_range, may_stand}
-use Rattle.marshalling.proofs.Lists.{first, second}
 use Rattle.marshalling.proofs.NameLemmas.{from_new}
+use Rattle.marshalling.proofs.ReachLemmas.{repeated_size}
 use Rattle.marshalling_law.specs.CallsSending.{AreParameters, HandlesStand, KnownByFits, SendableByFits, StandsFor, are_allowed, may_hold}
-use Rattle.marshalling_law.proofs.CallsTargets.{IsTarget, and_true, block_integers, each_name, target_of, targets}
+use Rattle.marshalling_law.proofs.CallsTargets.{IsTarget, block_integers, each_name, target_of, targets}
 
 -- ---- leaves have the types of an object's integers
 
@@ -57,10 +59,6 @@ got_typed f [] (y ∷ ys) n h = elim h [ ]
 got_typed f (x ∷ xs) [] n h = elim h [ ]
 got_typed f (x ∷ xs) (y ∷ ys) zero h = h.0
 got_typed f (x ∷ xs) (y ∷ ys) (suc n) h = got_typed f xs ys n h.1
-
-map_append : {A B : Type 0} (f : A → B) (xs ys : List A) → map f (xs ++ ys) ≡ map f xs ++ map f ys
-map_append f [] ys = refl
-map_append f (x ∷ xs) ys = ap (λ zs. f x ∷ zs) (map_append f xs ys)
 
 pub map_repeated : {A B : Type 0} (f : A → B) (count : ℕ) (xs : List A) → map f (repeated count xs) ≡ repeated count (map f xs)
 map_repeated f zero xs = refl
@@ -106,9 +104,6 @@ leaf_types structs (e.Struct n) = got_typed (λ leaf. (under false leaf).ty) (le
 
 -- ---- ranges
 
-same_self : (t : IntType) → same_int t t ≡ true
-same_self t = grind (arith, nat_tests)
-
 stands : (kept : Kept) (secret : Bool) (t : IntType) (c : Cell) → IntegerFits kept t c → may_hold secret c ≡ true → may_stand secret (packed_cell c) ≡ true
 stands kept secret t (cell.Int v) f h = refl
 stands kept secret t (cell.Ptr p) f h = elim f [ ]
@@ -124,10 +119,10 @@ range_fits kept marked [] (c ∷ cells) base L lies f h = elim f [ ]
 range_fits kept marked (t ∷ types) [] base L lies f h = elim f [ ]
 range_fits kept marked (t ∷ types) (c ∷ cells) zero [] lies f h = (refl, omega arith)
 range_fits kept marked (t ∷ types) (c ∷ cells) zero (l ∷ L) lies f h =
-    let rest = range_fits kept marked types cells zero L lies.1 f.1 (second (may_hold (marked || l.marked) c) (are_allowed marked (map (λ leaf. (under false leaf).marked) L) cells) h) in
-    let here : same_int l.ty t ≡ true = subst (λ u. same_int u t ≡ true) lies.0 (same_self t) in
-    let held = stands kept (marked || l.marked) t c f.0 (first (may_hold (marked || l.marked) c) (are_allowed marked (map (λ leaf. (under false leaf).marked) L) cells) h) in (
-      and_true (same_int l.ty t && may_stand (marked || l.marked) (packed_cell c)) (fits_range marked L (map packed_typed (zip types cells))) (and_true (same_int l.ty t) (may_stand (marked || l.marked) (packed_cell c)) here held) rest.0,
+    let rest = range_fits kept marked types cells zero L lies.1 f.1 (and_true_second (may_hold (marked || l.marked) c) (are_allowed marked (map (λ leaf. (under false leaf).marked) L) cells) h) in
+    let here : same_int l.ty t ≡ true = subst (λ u. same_int u t ≡ true) lies.0 (int_self t) in
+    let held = stands kept (marked || l.marked) t c f.0 (and_true_first (may_hold (marked || l.marked) c) (are_allowed marked (map (λ leaf. (under false leaf).marked) L) cells) h) in (
+      and_from (same_int l.ty t && may_stand (marked || l.marked) (packed_cell c)) (fits_range marked L (map packed_typed (zip types cells))) (and_from (same_int l.ty t) (may_stand (marked || l.marked) (packed_cell c)) here held) rest.0,
       let long = rest.1 in omega (arith, long),
     )
 range_fits kept marked (t ∷ types) (c ∷ cells) (suc n) L lies f h = let rest = range_fits kept marked types cells n L lies f.1 h in (rest.0, let long = rest.1 in omega (arith, long))
@@ -148,16 +143,12 @@ blocks_hold : (store : Entries) (types : List IntType) (cells : List Cell) → I
 blocks_hold store [] [] f = refl
 blocks_hold store [] (c ∷ cells) f = elim f [ ]
 blocks_hold store (t ∷ types) [] f = elim f [ ]
-blocks_hold store (t ∷ types) (c ∷ cells) f = and_true (holds store (packed_typed (t, c))) (list_all (holds store) (map packed_typed (zip types cells))) (one t c f.0) (blocks_hold store types cells f.1)
+blocks_hold store (t ∷ types) (c ∷ cells) f = and_from (holds store (packed_typed (t, c))) (list_all (holds store) (map packed_typed (zip types cells))) (one t c f.0) (blocks_hold store types cells f.1)
   where
     one : (t : IntType) (c : Cell) → IntegerFits (by_store store) t c → holds store (packed_typed (t, c)) ≡ true
     one t (cell.Int v) f = f
     one t (cell.Ptr p) f = elim f [ ]
     one t (cell.Sealed h) f = stored_kept t (slice_get store h) f
-
-pub range_count : {A : Type 0} (count : ℕ) (xs : List A) → length (repeated count xs) ≡ count * length xs
-range_count zero xs = omega arith
-range_count (suc count) xs = let more = length-append xs (repeated count xs) in let rest = range_count count xs in more ∙ ap (λ k. length xs + k) rest ∙ omega arith
 
 at_most : (a b : ℕ) → a ≤ b → nat_le a b ≡ true
 at_most a b h = grind (arith, nat_tests, h)
@@ -169,8 +160,8 @@ block_fits : (kept : Kept) (structs : List StructInfo) (x : Blocks) (marked : Bo
 block_fits kept structs x marked elem block base count lies ints allowed =
     let all = range_fits kept marked (x block).types (x block).cells base (repeated count (leaves.leaves_of structs elem))
     (subst (λ ts. LieAt (x block).types base ts) (sym (map_repeated (λ leaf. (under false leaf).ty) count (leaves.leaves_of structs elem) ∙ ap (repeated count) (leaf_types structs elem))) lies) ints allowed in
-    and_true (nat_le (base + count * length (leaves.leaves_of structs elem)) (length (packed_block (x block)))) (fits_range marked (repeated count (leaves.leaves_of structs elem)) (drop base (packed_block (x block))))
-    (ap (λ n. nat_le (base + n) (length (packed_block (x block)))) (sym (range_count count (leaves.leaves_of structs elem))) ∙ at_most (base + length (repeated count (leaves.leaves_of structs elem))) (length (packed_block (x block))) all.1)
+    and_from (nat_le (base + count * length (leaves.leaves_of structs elem)) (length (packed_block (x block)))) (fits_range marked (repeated count (leaves.leaves_of structs elem)) (drop base (packed_block (x block))))
+    (ap (λ n. nat_le (base + n) (length (packed_block (x block)))) (sym (repeated_size count (leaves.leaves_of structs elem))) ∙ at_most (base + length (repeated count (leaves.leaves_of structs elem))) (length (packed_block (x block))) all.1)
     all.0
 
 one_sent : (store : Entries) (structs : List StructInfo) (x : Blocks) (depth : ℕ) (marked : Bool) (of : ParamKind) (c : Cell) → IsTrue (structs_sound structs 0 structs) → IsTrue (is_variable_type (length structs) (param_type of)) →
@@ -178,14 +169,14 @@ one_sent : (store : Entries) (structs : List StructInfo) (x : Blocks) (depth : �
     sends_kind store structs x marked of c ≡ true
 one_sent store structs x depth marked (kind.Int t) (cell.Int v) sound ok ints f h = f
 one_sent store structs x depth marked (kind.Int t) (cell.Ptr p) sound ok ints f h = elim f [ ]
-one_sent store structs x depth marked (kind.Int t) (cell.Sealed s) sound ok ints f h = and_true marked (is_kept t (slice_get store s)) h (stored_kept t (slice_get store s) f)
+one_sent store structs x depth marked (kind.Int t) (cell.Sealed s) sound ok ints f h = and_from marked (is_kept t (slice_get store s)) h (stored_kept t (slice_get store s) f)
 one_sent store structs x depth marked (kind.Ptr elem fixed) (cell.Int v) sound ok ints f h = elim f [ ]
 one_sent store structs x depth marked (kind.Ptr elem fixed) (cell.Sealed s) sound ok ints f h = elim f [ ]
 one_sent store structs x depth marked (kind.Ptr elem fixed) (cell.Ptr Null) sound ok ints f h = refl
 one_sent store structs x depth marked (kind.Ptr elem fixed) (cell.Ptr (At block base count index)) sound ok ints f h =
     let target : IsTarget x depth block = target_of (by_store store) structs x depth block (kind.Ptr elem fixed) (cell.Ptr (At block base count index)) sound ok f (is_same_name-self block) in
-    and_true (nat_le 1 count && nat_le index count) (fits_block marked (leaves.leaves_of structs elem) base count (packed_block (x block)))
-    (and_true (nat_le 1 count) (nat_le index count) (at_most 1 count f.some) (at_most index count f.within))
+    and_from (nat_le 1 count && nat_le index count) (fits_block marked (leaves.leaves_of structs elem) base count (packed_block (x block)))
+    (and_from (nat_le 1 count) (nat_le index count) (at_most 1 count f.some) (at_most index count f.within))
     (block_fits (by_store store) structs x marked elem block base count f.types (ints block target.some) h)
 
 all_sent : (store : Entries) (structs : List StructInfo) (x : Blocks) (depth : ℕ) (params : List Param) (args : List Cell) → IsTrue (structs_sound structs 0 structs) → AreParameters structs params →
@@ -195,13 +186,13 @@ all_sent store structs x depth [] [] sound ok ints f h = refl
 all_sent store structs x depth [] (c ∷ args) sound ok ints f h = elim f [ ]
 all_sent store structs x depth (p ∷ params) [] sound ok ints f h = elim f [ ]
 all_sent store structs x depth (p ∷ params) (c ∷ args) sound ok ints f h =
-    and_true (sends_kind store structs x p.marked p.kind c) (sends_all store structs x params args)
-    (one_sent store structs x depth p.marked p.kind c sound (and_left (is_variable_type (length structs) (param_type p.kind)) (list_all (λ (q : Param). is_variable_type (length structs) (param_type q.kind)) params) ok) ints f.0 h.0)
-    (all_sent store structs x depth params args sound (and_right (is_variable_type (length structs) (param_type p.kind)) (list_all (λ (q : Param). is_variable_type (length structs) (param_type q.kind)) params) ok) ints f.1 h.1)
+    and_from (sends_kind store structs x p.marked p.kind c) (sends_all store structs x params args)
+    (one_sent store structs x depth p.marked p.kind c sound (both_hold_first (is_variable_type (length structs) (param_type p.kind)) (list_all (λ (q : Param). is_variable_type (length structs) (param_type q.kind)) params) ok) ints f.0 h.0)
+    (all_sent store structs x depth params args sound (both_hold_second (is_variable_type (length structs) (param_type p.kind)) (list_all (λ (q : Param). is_variable_type (length structs) (param_type q.kind)) params) ok) ints f.1 h.1)
 
 pub sendable_by_fits : SendableByFits
 sendable_by_fits slave store params x a rest args sound ok mem given stand =
-    and_true (sends_all store slave.structs x params args) (list_all (λ name. list_all (holds store) (packed_block (x name))) (names_of args))
+    and_from (sends_all store slave.structs x params args) (list_all (λ name. list_all (holds store) (packed_block (x name))) (names_of args))
     (all_sent store slave.structs x a.depth params args sound ok integers given stand)
     (each_name (λ name. list_all (holds store) (packed_block (x name))) (names_of args) (λ name among.
     blocks_hold store (x name).types (x name).cells (integers name (targets (by_store store) slave.structs x a.depth name params args sound ok given (from_new [] args name among)).some)))
@@ -215,7 +206,7 @@ integers_known : (store : Entries) (types : List IntType) (cells : List Cell) �
 integers_known store [] [] f = refl
 integers_known store [] (c ∷ cells) f = elim f [ ]
 integers_known store (t ∷ types) [] f = elim f [ ]
-integers_known store (t ∷ types) (c ∷ cells) f = and_true (is_known store c) (list_all (is_known store) cells) (one t c f.0) (integers_known store types cells f.1)
+integers_known store (t ∷ types) (c ∷ cells) f = and_from (is_known store c) (list_all (is_known store) cells) (one t c f.0) (integers_known store types cells f.1)
   where
     one : (t : IntType) (c : Cell) → IntegerFits (by_store store) t c → is_known store c ≡ true
     one t (cell.Int v) f = refl

@@ -4,10 +4,10 @@ use Rattle.std.proofs.Math.Nat.{suc-mul}
 use Rattle.std.specs.Prelude.{IsTrue, ◌&&◌, ◌||◌, drop, nat_le, nat_lt, slice_get, slice_index_or}
 use Rattle.std.specs.List.{AllByRecursion, list_all}
 use Rattle.std.proofs.lemmas.Bool.Decides.{nat_tests}
-use Rattle.std.proofs.lemmas.Int.{ints}
 use Rattle.std.proofs.lemmas.List.{length-map}
 use Rattle.pt_base.specs.IntTypes.{InRange}
 use Rattle.pt_base.specs.declared.int_type.IntType.{IntType}
+use Rattle.pt_base.proofs.Booleans.{both_hold_first, both_hold_second}
 use Rattle.pt_int.specs.Conversion.{is_in_range}
 use Rattle.pt_tree.specs.declared.signature.Elem.{Elem}
 use Rattle.pt_tree.specs.declared.signature.Param.{Param}
@@ -21,7 +21,6 @@ use Rattle.typed_tree.specs.TypeTests.{same_int, type_of_elem}
 use Rattle.typed_tree.specs.WellFormed.{is_variable_type, structs_sound}
 use Rattle.typed_tree.specs.WellFormedExpression.{param_type}
 use Rattle.typed_tree.proofs.SameTypes.{equal_ints}
-use Rattle.typed_tree.proofs.WellFormedLemmas.{and_left, and_right}
 use Rattle.block_memory.specs.declared.cell.BlockName.TheVariants.{Received}
 use Rattle.block_memory.specs.declared.cell.Cell.{Cell}
 use Rattle.block_memory.specs.declared.cell.Cell.TheVariants as cell
@@ -32,6 +31,7 @@ use Rattle.core_soundness_law.specs.Kept.{none}
 use Rattle.core_soundness_law.specs.Fits.{IntegerFits, IntegersFit, LieAt, PointerFits, ValueFits}
 use Rattle.core_soundness_law.specs.Outside.{ArgumentsFit}
 use Rattle.core_soundness_law.proofs.Numbers.{in_range}
+pub use Rattle.core_soundness_law.proofs.Numbers.{range_of}
 use Rattle.wire.specs.Limits.{IsBlock}
 use Rattle.wire.specs.declared.cell.Arg.{Arg}
 use Rattle.wire.specs.declared.cell.Arg.TheVariants as argument
@@ -50,9 +50,6 @@ use Rattle.marshalling_law.specs.CallsSending.{AreParameters}
 use Rattle.marshalling_law.specs.CallsServed.{AllHold, AreInputs, AreOfTypes, BodiesAreServed, InputsFit, ResultsAreNumbers}
 use Rattle.marshalling_law.proofs.CallsSendable.{leaf_types, map_repeated}
 use Rattle.marshalling_law.proofs.CallsTargets.{elem_leaf}
-
-pub range_of : (t : IntType) (v : ℤ) → IsTrue (is_in_range t v) → InRange t v
-range_of t v h = (grind (arith, ints), grind (arith, ints))
 
 -- ---- what is left
 
@@ -148,15 +145,15 @@ one_cell store (t, wire.Sealed handle) ranged h clean = handle_value store t han
 one_block : (store : Entries) (cells : List (IntType × WireCell)) → AreInRange store → list_all is_typed cells ≡ true → block_fault store cells ≡ None → IntegersFit none (block_types cells) (map (unpacked_cell store) cells)
 one_block store [] ranged h clean = tt {0}
 one_block store (c ∷ cells) ranged h clean = (
-  one_cell store c ranged (and_left (is_typed c) (list_all is_typed cells) h) (first_clean (cell_fault store c) (block_fault store cells) clean),
-  one_block store cells ranged (and_right (is_typed c) (list_all is_typed cells) h) (rest_clean (cell_fault store c) (block_fault store cells) clean),
+  one_cell store c ranged (both_hold_first (is_typed c) (list_all is_typed cells) h) (first_clean (cell_fault store c) (block_fault store cells) clean),
+  one_block store cells ranged (both_hold_second (is_typed c) (list_all is_typed cells) h) (rest_clean (cell_fault store c) (block_fault store cells) clean),
 )
 
 all_blocks : (store : Entries) (blocks : List (List (IntType × WireCell))) → AreInRange store → list_all (list_all is_typed) blocks ≡ true → blocks_fault store blocks ≡ None → AllHold (types_of blocks) (map (map (unpacked_cell store)) blocks)
 all_blocks store [] ranged h clean = tt {0}
 all_blocks store (b ∷ blocks) ranged h clean = (
-  one_block store b ranged (and_left (list_all is_typed b) (list_all (list_all is_typed) blocks) h) (first_clean (block_fault store b) (blocks_fault store blocks) clean),
-  all_blocks store blocks ranged (and_right (list_all is_typed b) (list_all (list_all is_typed) blocks) h) (rest_clean (block_fault store b) (blocks_fault store blocks) clean),
+  one_block store b ranged (both_hold_first (list_all is_typed b) (list_all (list_all is_typed) blocks) h) (first_clean (block_fault store b) (blocks_fault store blocks) clean),
+  all_blocks store blocks ranged (both_hold_second (list_all is_typed b) (list_all (list_all is_typed) blocks) h) (rest_clean (block_fault store b) (blocks_fault store blocks) clean),
 )
 
 types_at : (blocks : List (List (IntType × WireCell))) (k : ℕ) → slice_index_or (types_of blocks) k [] ≡ block_types (slice_index_or blocks k [])
@@ -178,8 +175,8 @@ range_lies marked [] zero (l ∷ L) within h = cc
 range_lies marked [] (suc n) L within h = absurd (omega (arith, within))
 range_lies marked (c ∷ cells) zero [] within h = tt {0}
 range_lies marked (c ∷ cells) zero (l ∷ L) within h = (
-  sym (equal_ints l.ty c.0 (and_left (same_int l.ty c.0) (may_stand (marked || l.marked) c.1) (and_left (same_int l.ty c.0 && may_stand (marked || l.marked) c.1) (fits_range marked L cells) h))),
-  range_lies marked cells zero L (omega arith) (and_right (same_int l.ty c.0 && may_stand (marked || l.marked) c.1) (fits_range marked L cells) h),
+  sym (equal_ints l.ty c.0 (both_hold_first (same_int l.ty c.0) (may_stand (marked || l.marked) c.1) (both_hold_first (same_int l.ty c.0 && may_stand (marked || l.marked) c.1) (fits_range marked L cells) h))),
+  range_lies marked cells zero L (omega arith) (both_hold_second (same_int l.ty c.0 && may_stand (marked || l.marked) c.1) (fits_range marked L cells) h),
 )
 range_lies marked (c ∷ cells) (suc n) L within h = range_lies marked cells n L (omega (arith, within)) h
 
@@ -194,28 +191,28 @@ one_pointer : (structs : List StructInfo) (y : Blocks) (blocks : List (List (Int
     PointerFits structs y 0 elem (cell.Ptr (At (Received block) base count index))
 one_pointer structs y blocks marked elem fixed block base count index sound ok few is h = record {
   near = omega arith;
-  some = least count (and_left (nat_le 1 count) (nat_le index count) counts);
+  some = least count (both_hold_first (nat_le 1 count) (nat_le index count) counts);
   few = bounded count (count * length (leaves.leaves_of structs elem)) (length (slice_index_or blocks block [])) base (times count (length (leaves.leaves_of structs elem)) one_leaf) (at_most (base + count * length (leaves.leaves_of structs elem)) (length (slice_index_or blocks block [])) size) (few_cells blocks block few);
-  within = at_most index count (and_right (nat_le 1 count) (nat_le index count) counts);
+  within = at_most index count (both_hold_second (nat_le 1 count) (nat_le index count) counts);
   types = subst (λ ts. LieAt ts base (repeated count (typed.leaves_of structs (type_of_elem elem)))) (sym (is ∙ types_at blocks block))
       (subst (λ ts. LieAt (block_types (slice_index_or blocks block [])) base ts) (map_repeated (λ leaf. (under false leaf).ty) count (leaves.leaves_of structs elem) ∙ ap (repeated count) (leaf_types structs elem))
       (range_lies marked (slice_index_or blocks block []) base (repeated count (leaves.leaves_of structs elem)) (first_part base (count * length (leaves.leaves_of structs elem)) (length (slice_index_or blocks block [])) (at_most (base + count * length (leaves.leaves_of structs elem)) (length (slice_index_or blocks block [])) size)) range));
 }
   where
     rest : IsTrue ((nat_le 1 count && nat_le index count) && fits_block marked (leaves.leaves_of structs elem) base count (slice_index_or blocks block []))
-    rest = and_right (nat_lt block (length blocks)) ((nat_le 1 count && nat_le index count) && fits_block marked (leaves.leaves_of structs elem) base count (slice_index_or blocks block [])) h
+    rest = both_hold_second (nat_lt block (length blocks)) ((nat_le 1 count && nat_le index count) && fits_block marked (leaves.leaves_of structs elem) base count (slice_index_or blocks block [])) h
 
     counts : IsTrue (nat_le 1 count && nat_le index count)
-    counts = and_left (nat_le 1 count && nat_le index count) (fits_block marked (leaves.leaves_of structs elem) base count (slice_index_or blocks block [])) rest
+    counts = both_hold_first (nat_le 1 count && nat_le index count) (fits_block marked (leaves.leaves_of structs elem) base count (slice_index_or blocks block [])) rest
 
     fits : IsTrue (fits_block marked (leaves.leaves_of structs elem) base count (slice_index_or blocks block []))
-    fits = and_right (nat_le 1 count && nat_le index count) (fits_block marked (leaves.leaves_of structs elem) base count (slice_index_or blocks block [])) rest
+    fits = both_hold_second (nat_le 1 count && nat_le index count) (fits_block marked (leaves.leaves_of structs elem) base count (slice_index_or blocks block [])) rest
 
     size : IsTrue (nat_le (base + count * length (leaves.leaves_of structs elem)) (length (slice_index_or blocks block [])))
-    size = and_left (nat_le (base + count * length (leaves.leaves_of structs elem)) (length (slice_index_or blocks block []))) (fits_range marked (repeated count (leaves.leaves_of structs elem)) (drop base (slice_index_or blocks block []))) fits
+    size = both_hold_first (nat_le (base + count * length (leaves.leaves_of structs elem)) (length (slice_index_or blocks block []))) (fits_range marked (repeated count (leaves.leaves_of structs elem)) (drop base (slice_index_or blocks block []))) fits
 
     range : fits_range marked (repeated count (leaves.leaves_of structs elem)) (drop base (slice_index_or blocks block [])) ≡ true
-    range = and_right (nat_le (base + count * length (leaves.leaves_of structs elem)) (length (slice_index_or blocks block []))) (fits_range marked (repeated count (leaves.leaves_of structs elem)) (drop base (slice_index_or blocks block []))) fits
+    range = both_hold_second (nat_le (base + count * length (leaves.leaves_of structs elem)) (length (slice_index_or blocks block []))) (fits_range marked (repeated count (leaves.leaves_of structs elem)) (drop base (slice_index_or blocks block []))) fits
 
     least : (k : ℕ) → IsTrue (nat_le 1 k) → 1 ≤ k
     least k h = grind (arith, nat_tests)
@@ -256,10 +253,10 @@ all_arguments structs store y blocks [] [] sound ok few ranged are h clean = tt 
 all_arguments structs store y blocks [] (a ∷ args) sound ok few ranged are h clean = cc
 all_arguments structs store y blocks (p ∷ params) [] sound ok few ranged are h clean = cc
 all_arguments structs store y blocks (p ∷ params) (a ∷ args) sound ok few ranged are h clean = (
-  one_argument structs store y blocks p.marked p.kind a sound (and_left (is_variable_type (length structs) (param_type p.kind)) (list_all (λ (q : Param). is_variable_type (length structs) (param_type q.kind)) params) ok) few ranged are
-      (and_left (fits_kind structs blocks p.marked p.kind a) (fit_all structs blocks params args) h) (first_clean (argument_fault store p.kind a) (arguments_fault store params args) clean),
-  all_arguments structs store y blocks params args sound (and_right (is_variable_type (length structs) (param_type p.kind)) (list_all (λ (q : Param). is_variable_type (length structs) (param_type q.kind)) params) ok) few ranged are
-      (and_right (fits_kind structs blocks p.marked p.kind a) (fit_all structs blocks params args) h) (rest_clean (argument_fault store p.kind a) (arguments_fault store params args) clean),
+  one_argument structs store y blocks p.marked p.kind a sound (both_hold_first (is_variable_type (length structs) (param_type p.kind)) (list_all (λ (q : Param). is_variable_type (length structs) (param_type q.kind)) params) ok) few ranged are
+      (both_hold_first (fits_kind structs blocks p.marked p.kind a) (fit_all structs blocks params args) h) (first_clean (argument_fault store p.kind a) (arguments_fault store params args) clean),
+  all_arguments structs store y blocks params args sound (both_hold_second (is_variable_type (length structs) (param_type p.kind)) (list_all (λ (q : Param). is_variable_type (length structs) (param_type q.kind)) params) ok) few ranged are
+      (both_hold_second (fits_kind structs blocks p.marked p.kind a) (fit_all structs blocks params args) h) (rest_clean (argument_fault store p.kind a) (arguments_fault store params args) clean),
 )
 
 -- ---- bodies
@@ -286,13 +283,13 @@ opened structs store params body inputs h = go (is_shaped structs params body) r
 
 pub inputs_fit : InputsFit
 inputs_fit structs store params body inputs sound ok call ranged h = subst (AreInputs structs params body) open_body.same (record {
-  blocks = all_blocks store body.blocks ranged (and_right (are_named body.args 0 body.blocks) (list_all (list_all is_typed) body.blocks) typed_blocks) (rest_clean (arguments_fault store params body.args) (blocks_fault store body.blocks) open_body.clean);
+  blocks = all_blocks store body.blocks ranged (both_hold_second (are_named body.args 0 body.blocks) (list_all (list_all is_typed) body.blocks) typed_blocks) (rest_clean (arguments_fault store params body.args) (blocks_fault store body.blocks) open_body.clean);
   args = λ y are. all_arguments structs store y body.blocks params body.args sound ok call.each ranged are
-      (and_left (fit_all structs body.blocks params body.args) (are_named body.args 0 body.blocks && list_all (list_all is_typed) body.blocks) open_body.shaped) (first_clean (arguments_fault store params body.args) (blocks_fault store body.blocks) open_body.clean);
+      (both_hold_first (fit_all structs body.blocks params body.args) (are_named body.args 0 body.blocks && list_all (list_all is_typed) body.blocks) open_body.shaped) (first_clean (arguments_fault store params body.args) (blocks_fault store body.blocks) open_body.clean);
 })
   where
     open_body : IsOpened structs store params body inputs
     open_body = opened structs store params body inputs h
 
     typed_blocks : IsTrue (are_named body.args 0 body.blocks && list_all (list_all is_typed) body.blocks)
-    typed_blocks = and_right (fit_all structs body.blocks params body.args) (are_named body.args 0 body.blocks && list_all (list_all is_typed) body.blocks) open_body.shaped
+    typed_blocks = both_hold_second (fit_all structs body.blocks params body.args) (are_named body.args 0 body.blocks && list_all (list_all is_typed) body.blocks) open_body.shaped

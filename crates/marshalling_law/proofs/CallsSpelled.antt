@@ -7,6 +7,7 @@ use Rattle.std.proofs.lemmas.Int.{ints}
 use Rattle.pt_base.specs.IntTypes.{InRange}
 use Rattle.pt_base.specs.declared.int_type.IntType.{IntType}
 use Rattle.pt_base.specs.declared.int_type.IntType.TheVariants as i
+use Rattle.pt_base.proofs.Booleans.{both_hold_first, both_hold_second}
 use Rattle.pt_int.specs.Conversion.{conv, is_in_range}
 use Rattle.pt_int.proofs.Conversions.{conv-in_range}
 use Rattle.pt_int.proofs.Ranges.{around_zero}
@@ -16,7 +17,6 @@ use Rattle.pt_tree.specs.declared.signature.ParamKind.TheVariants as kind
 use Rattle.typed_tree.specs.declared.types.StructInfo.{StructInfo}
 use Rattle.typed_tree.specs.WellFormed.{is_variable_type, structs_sound}
 use Rattle.typed_tree.specs.WellFormedExpression.{param_type}
-use Rattle.typed_tree.proofs.WellFormedLemmas.{and_left, and_right}
 use Rattle.block_memory.specs.declared.cell.BlockName.{BlockName}
 use Rattle.block_memory.specs.declared.cell.Cell.{Cell}
 use Rattle.block_memory.specs.declared.cell.Cell.TheVariants as cell
@@ -30,6 +30,7 @@ use Rattle.core_soundness_law.specs.Fits.{IntegerFits, IntegersFit, ValueFits}
 use Rattle.core_soundness_law.specs.Outside.{ArgumentsFit}
 use Rattle.core_soundness_law.specs.StepLaws.{called_params}
 use Rattle.core_soundness_law.proofs.Programs.{ProgramFacts, facts_of}
+use Rattle.core_soundness_law.proofs.Numbers.{range_of}
 use Rattle.wire.specs.Laws.{IsShort}
 use Rattle.wire.specs.Limits.{FitsArgument, FitsBlock, FitsCall, FitsTypedCell, FitsTypes, KeepsCounts}
 use Rattle.wire.specs.declared.cell.Arg.TheVariants as argument
@@ -43,12 +44,11 @@ use Rattle.marshalling_law.specs.CallsPackable.{IsPackable}
 use Rattle.marshalling_law.specs.CallsSending.{AreParameters}
 use Rattle.marshalling_law.specs.CallsSpelled.{AreNumbered, CallsAreSpelled, ExitsAreSpelled, HasSpelling, ParksAreSpelled, TrapsAreSpelled}
 use Rattle.marshalling_law.proofs.CallsPackable.{AreFew, block_small, called_few, calls_are_packable}
-use Rattle.marshalling_law.proofs.CallsServed.{range_of}
 use Rattle.marshalling_law.proofs.CallsTargets.{IsTarget, base_within, block_integers, target_among}
 
 -- ---- numbers
 
-in_word : (t : IntType) (v : ℤ) → InRange t v → FitsSigned w128 v
+pub in_word : (t : IntType) (v : ℤ) → InRange t v → FitsSigned w128 v
 in_word i.Char v p = grind (arith, ints)
 in_word i.SChar v p = grind (arith, ints)
 in_word i.UChar v p = grind (arith, ints)
@@ -126,8 +126,8 @@ all_arguments kept structs x depth names [] [] numbered sound ok few small f = t
 all_arguments kept structs x depth names [] (c ∷ args) numbered sound ok few small f = elim f [ ]
 all_arguments kept structs x depth names (p ∷ params) [] numbered sound ok few small f = elim f [ ]
 all_arguments kept structs x depth names (p ∷ params) (c ∷ args) numbered sound ok few small f = (
-  one_argument kept structs x depth names p c numbered sound (and_left (is_variable_type (length structs) (param_type p.kind)) (list_all (λ (q : Param). is_variable_type (length structs) (param_type q.kind)) params) ok) few small f.0,
-  all_arguments kept structs x depth names params args numbered sound (and_right (is_variable_type (length structs) (param_type p.kind)) (list_all (λ (q : Param). is_variable_type (length structs) (param_type q.kind)) params) ok) few small f.1,
+  one_argument kept structs x depth names p c numbered sound (both_hold_first (is_variable_type (length structs) (param_type p.kind)) (list_all (λ (q : Param). is_variable_type (length structs) (param_type q.kind)) params) ok) few small f.0,
+  all_arguments kept structs x depth names params args numbered sound (both_hold_second (is_variable_type (length structs) (param_type p.kind)) (list_all (λ (q : Param). is_variable_type (length structs) (param_type q.kind)) params) ok) few small f.1,
 )
 
 -- ---- blocks

@@ -1,8 +1,11 @@
 -- The blocks that the arguments of a call point into, where the memory fits.
 use Rattle.std.proofs.Common.{◌≡◌, ◌+◌, ◌≤◌, ℕ, zero, suc, ap, refl, subst, arith, List, [], ◌∷◌, length, length-append, Bool, true, false, Option, Some, None}
-use Rattle.std.specs.Prelude.{IsTrue, ◌&&◌, ◌||◌, slice_get}
+use Rattle.std.specs.Prelude.{IsTrue, ◌||◌, slice_get}
 use Rattle.std.specs.List.{list_all, list_any}
+use Rattle.std.proofs.lemmas.Bool.{and_from}
 use Rattle.pt_base.specs.declared.int_type.IntType.{IntType}
+use Rattle.pt_base.proofs.Booleans.{both_hold_first, both_hold_second}
+use Rattle.pt_base.proofs.Numbers.{below_holds}
 use Rattle.pt_tree.specs.declared.signature.Elem.{Elem}
 use Rattle.pt_tree.specs.declared.signature.Elem.TheVariants as e
 use Rattle.pt_tree.specs.declared.signature.Param.{Param}
@@ -16,7 +19,6 @@ use Rattle.typed_tree.specs.TypeTests.{type_of_elem}
 use Rattle.typed_tree.specs.WellFormed.{is_variable_type, structs_sound}
 use Rattle.typed_tree.specs.WellFormedExpression.{param_type}
 use Rattle.typed_tree.proofs.LeavesLemmas.{leaves_of_int}
-use Rattle.typed_tree.proofs.WellFormedLemmas.{and_left, and_right}
 use Rattle.block_memory.specs.declared.cell.BlockName.{BlockName}
 use Rattle.block_memory.specs.declared.cell.BlockName.TheVariants.{Local, Global, Received}
 use Rattle.block_memory.specs.declared.cell.Cell.{Cell}
@@ -30,15 +32,11 @@ use Rattle.pt_core.specs.Steps.{Active}
 use Rattle.core_soundness_law.specs.Kept.{Kept}
 use Rattle.core_soundness_law.specs.Fits.{IntegerFits, IntegersFit, LieAt, LocalFits, MemoryFits, PointerFits, ValueFits, depth_of, variables_at}
 use Rattle.core_soundness_law.specs.Outside.{ArgumentsFit}
-use Rattle.core_soundness_law.proofs.Leaves.{below, struct_leaf}
+use Rattle.core_soundness_law.proofs.Leaves.{struct_leaf}
 use Rattle.marshalling.specs.HonestCalls.{is_integer}
 use Rattle.marshalling.specs.Packing.{is_among, names_of}
 use Rattle.marshalling.proofs.NameLemmas.{from_new, points_to}
 use Rattle.marshalling_law.specs.CallsSending.{AreParameters}
-
-pub and_true : (a b : Bool) → a ≡ true → b ≡ true → (a && b) ≡ true
-and_true true b h k = k
-and_true false b h k = cc
 
 -- ---- what arguments point to
 
@@ -49,13 +47,13 @@ lie_some [] (suc n) (t ∷ ts) f some = elim f [ ]
 lie_some (u ∷ types) zero (t ∷ ts) f some = omega arith
 lie_some (u ∷ types) (suc n) (t ∷ ts) f some = let rest : n + 1 ≤ length types = lie_some types n (t ∷ ts) f some in omega (arith, rest)
 
-some_repeated : (count : ℕ) (ts : List IntType) → 1 ≤ count → 1 ≤ length ts → 1 ≤ length (repeated count ts)
+pub some_repeated : (count : ℕ) (ts : List IntType) → 1 ≤ count → 1 ≤ length ts → 1 ≤ length (repeated count ts)
 some_repeated zero ts h k = absurd (omega (arith, h))
 some_repeated (suc count) ts h k = let long = length-append ts (repeated count ts) in omega (arith, long, k)
 
 pub elem_leaf : (structs : List StructInfo) (elem : Elem) (fixed : Bool) → IsTrue (structs_sound structs 0 structs) → IsTrue (is_variable_type (length structs) (Pointer elem fixed)) → 1 ≤ length (leaves_of structs (type_of_elem elem))
 elem_leaf structs (e.Int t) fixed sound h = let one : length (leaves_of structs (Int t)) ≡ 1 = ap (λ (ts : List IntType). length ts) (leaves_of_int structs t) in omega (arith, one)
-elem_leaf structs (e.Struct n) fixed sound h = struct_leaf structs sound n (below n (length structs) h)
+elem_leaf structs (e.Struct n) fixed sound h = struct_leaf structs sound n (below_holds n (length structs) h)
 
 -- the block is of no deeper function, and has integers
 pub record IsTarget (x : Blocks) (base : ℕ) (name : BlockName) : Type 0 where
@@ -86,10 +84,10 @@ targets kept structs x base name [] [] sound ok f h = cc
 targets kept structs x base name [] (c ∷ args) sound ok f h = elim f [ ]
 targets kept structs x base name (p ∷ params) [] sound ok f h = elim f [ ]
 targets kept structs x base name (p ∷ params) (c ∷ args) sound ok f h =
-    go (points_to name c) refl h (targets kept structs x base name params args sound (and_right (is_variable_type (length structs) (param_type p.kind)) (list_all (λ (q : Param). is_variable_type (length structs) (param_type q.kind)) params) ok) f.1)
+    go (points_to name c) refl h (targets kept structs x base name params args sound (both_hold_second (is_variable_type (length structs) (param_type p.kind)) (list_all (λ (q : Param). is_variable_type (length structs) (param_type q.kind)) params) ok) f.1)
   where
     go : (t : Bool) → points_to name c ≡ t → (t || list_any (points_to name) args) ≡ true → (list_any (points_to name) args ≡ true → IsTarget x base name) → IsTarget x base name
-    go true here k rest = target_of kept structs x base name p.kind c sound (and_left (is_variable_type (length structs) (param_type p.kind)) (list_all (λ (q : Param). is_variable_type (length structs) (param_type q.kind)) params) ok) f.0 here
+    go true here k rest = target_of kept structs x base name p.kind c sound (both_hold_first (is_variable_type (length structs) (param_type p.kind)) (list_all (λ (q : Param). is_variable_type (length structs) (param_type q.kind)) params) ok) f.0 here
     go false here k rest = rest k
 
 pub target_among : (kept : Kept) (structs : List StructInfo) (x : Blocks) (base : ℕ) (name : BlockName) (params : List Param) (args : List Cell) → IsTrue (structs_sound structs 0 structs) → AreParameters structs params →
@@ -102,7 +100,7 @@ pub all_integers : (kept : Kept) (types : List IntType) (cells : List Cell) → 
 all_integers kept [] [] f = refl
 all_integers kept [] (c ∷ cells) f = elim f [ ]
 all_integers kept (t ∷ types) [] f = elim f [ ]
-all_integers kept (t ∷ types) (c ∷ cells) f = and_true (is_integer c) (list_all is_integer cells) (one t c f.0) (all_integers kept types cells f.1)
+all_integers kept (t ∷ types) (c ∷ cells) f = and_from (is_integer c) (list_all is_integer cells) (one t c f.0) (all_integers kept types cells f.1)
   where
     one : (t : IntType) (c : Cell) → IntegerFits kept t c → is_integer c ≡ true
     one t (cell.Int v) f = refl
@@ -115,7 +113,7 @@ as_many kept [] (c ∷ cells) f = elim f [ ]
 as_many kept (t ∷ types) [] f = elim f [ ]
 as_many kept (t ∷ types) (c ∷ cells) f = ap suc (as_many kept types cells f.1)
 
-no_types : {A : Type 0} (types : List IntType) → types ≡ [] → 1 ≤ length types → A
+pub no_types : {A : Type 0} (types : List IntType) → types ≡ [] → 1 ≤ length types → A
 no_types types is some = let long : length types ≡ 0 = ap (λ (ts : List IntType). length ts) is in absurd (omega (arith, long, some))
 
 -- where a local's block has types, it has integers
@@ -134,7 +132,7 @@ block_integers kept program active x mem (Received n) some = mem.received_cells 
 
 pub each_name : (f : BlockName → Bool) (names : List BlockName) → ((name : BlockName) → is_among names name ≡ true → f name ≡ true) → list_all f names ≡ true
 each_name f [] h = refl
-each_name f (n ∷ names) h = and_true (f n) (list_all f names) (h n (or_left (is_same_name n n) (is_among names n) (is_same_name-self n))) (each_name f names (λ name among. h name (or_right (is_same_name n name) (is_among names name) among)))
+each_name f (n ∷ names) h = and_from (f n) (list_all f names) (h n (or_left (is_same_name n n) (is_among names n) (is_same_name-self n))) (each_name f names (λ name among. h name (or_right (is_same_name n name) (is_among names name) among)))
   where
     or_left : (a b : Bool) → a ≡ true → (a || b) ≡ true
     or_left true b h = refl

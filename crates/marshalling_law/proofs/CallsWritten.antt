@@ -13,6 +13,7 @@ use Rattle.std.proofs.lemmas.List.Elements.{All-append}
 use Rattle.pt_base.specs.IntTypes.{InRange}
 use Rattle.pt_base.specs.declared.int_type.IntType.{IntType}
 use Rattle.pt_base.specs.declared.int_type.IntType.TheVariants as i
+use Rattle.pt_base.proofs.Options.{some_same_bytes}
 use Rattle.pt_int.proofs.Ranges.{around_zero}
 use Rattle.pt_tree.specs.HostStep.{host_step, low_byte, spaced}
 use Rattle.pt_tree.specs.declared.host_model.HostModel.{HostModel}
@@ -29,12 +30,12 @@ use Rattle.pt_core.specs.Values.{number_in}
 use Rattle.core_soundness_law.specs.Kept.{Kept}
 use Rattle.core_soundness_law.specs.Fits.{ValueFits}
 use Rattle.core_soundness_law.specs.Outside.{ArgumentsFit}
+use Rattle.core_soundness_law.proofs.Numbers.{range_of}
 use Rattle.wire.specs.Limits.{IsBytes}
 use Rattle.wire.specs.declared.message.Message.TheVariants as message
 use Rattle.host_models.specs.Fitting.{has_short_name}
 use Rattle.marshalling_law.specs.CallsSpelled.{HasBytes, WritesAreSpelled}
 use Rattle.marshalling_law.proofs.CallsPackable.{as_many_given}
-use Rattle.marshalling_law.proofs.CallsServed.{range_of}
 use Rattle.marshalling_law.proofs.CallsSpelled.{spelled}
 
 -- at most so many bytes
@@ -135,17 +136,14 @@ values kept structs x depth (p ∷ params) (c ∷ args) f = (value kept structs 
 
 -- ---- what is written
 
-same_bytes : (xs ys : List ℕ) → Some xs ≡ Some ys → xs ≡ ys
-same_bytes xs ys e = cc
-
 written : (numbers : List ℤ) (input : List ℕ) (host : HostModel) (bytes : List ℕ) → AreNumbers numbers → length numbers ≤ 8 → IsTrue (has_short_name host) → HasBytes host → (host_step input host numbers).written ≡ Some bytes → IsText 1_048_760 bytes
 written numbers input (model.Table rows other) bytes are few short named is = cc
 written numbers input (model.Feed values other next) bytes are few short named is = cc
 written numbers input (model.Input next) bytes are few short named is = cc
 written numbers input model.Bytes bytes are few short named is =
-    subst (IsText 1_048_760) (same_bytes (map low_byte numbers) bytes is) (more (length numbers) 1_048_760 (map low_byte numbers) (omega (arith, few)) (low_bytes numbers))
+    subst (IsText 1_048_760) (some_same_bytes (map low_byte numbers) bytes is) (more (length numbers) 1_048_760 (map low_byte numbers) (omega (arith, few)) (low_bytes numbers))
 written numbers input (model.Line name) bytes are few short named is =
-    subst (IsText 1_048_760) (same_bytes (name ++ spaced numbers ++ codes "\n") bytes is)
+    subst (IsText 1_048_760) (some_same_bytes (name ++ spaced numbers ++ codes "\n") bytes is)
     (more (1_048_576 + length numbers * 22 + 1) 1_048_760 (name ++ spaced numbers ++ codes "\n") (omega (arith, few))
     (joined (1_048_576 + length numbers * 22) 1 (name ++ spaced numbers) (codes "\n") (joined 1_048_576 (length numbers * 22) name (spaced numbers) (record { few = at_most (length name) short; are = named }) (line numbers are)) (one 10 (omega arith))))
   where

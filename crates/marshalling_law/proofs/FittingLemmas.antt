@@ -1,11 +1,12 @@
 -- The reply that is made of numbers of the right types is one that the call can have.
-use Rattle.std.proofs.Common.{◌≡◌, refl, ℕ, ℤ, suc, Bool, true, false, List, [], ◌∷◌, ◌++◌, map, arith, Option, Some, None}
-use Rattle.std.specs.Prelude.{◌&&◌, not, nat_eq, option_to_list, slice_get}
-use Rattle.std.proofs.lemmas.Bool.Decides.{nat_tests}
-use Rattle.std.proofs.lemmas.Int.{ints}
+use Rattle.std.proofs.Common.{◌≡◌, refl, ℕ, ℤ, suc, Bool, true, false, List, [], ◌∷◌, ◌++◌, map, Option, Some, None}
+use Rattle.std.specs.Prelude.{not, nat_eq, option_to_list, slice_get}
+use Rattle.std.proofs.lemmas.Bool.{and_from}
 use Rattle.pt_base.specs.declared.int_type.IntType.{IntType}
 use Rattle.pt_base.specs.IntTypes.{InRange}
+use Rattle.pt_base.proofs.Numbers.{nat_eq_self}
 use Rattle.pt_int.specs.Conversion.{is_in_range}
+use Rattle.pt_int.proofs.Division.{in_range-test}
 use Rattle.pt_tree.specs.declared.signature.Signature.{Signature}
 use Rattle.block_memory.specs.declared.cell.BlockName.TheVariants.{Received}
 use Rattle.block_memory.specs.declared.cell.Cell.{Cell}
@@ -18,16 +19,6 @@ use Rattle.marshalling.specs.Crossings.{sealed_if}
 use Rattle.marshalling.specs.Replies.{AreServed, HoldNumbers, HoldsNumber, IsResult, Place, next_by, number_in, places_from, places_of, received, result_places, sent, sent_by}
 use Rattle.marshalling.specs.Taking.{are_sent}
 use Rattle.marshalling.proofs.WalkLemmas.{place_by}
-
-and_true : (a b : Bool) → a ≡ true → b ≡ true → (a && b) ≡ true
-and_true true b h k = k
-and_true false b h k = cc
-
-in_range-test : (t : IntType) (v : ℤ) → InRange t v → is_in_range t v ≡ true
-in_range-test t v p = grind (arith, ints)
-
-same_handle : (handle : ℕ) → nat_eq handle handle ≡ true
-same_handle handle = grind (arith, nat_tests)
 
 -- ---- numbers for places
 
@@ -44,7 +35,7 @@ fit_append [] qs (v ∷ vs) ws h k = absurd h
 fit_append (p ∷ ps) qs [] ws h k = absurd h
 fit_append (p ∷ ps) qs (v ∷ vs) ws h k = (h.0, fit_append ps qs vs ws h.1 k)
 
-number_fits : (t : IntType) (c : Cell) → HoldsNumber t c → InRange t (number_in c)
+pub number_fits : (t : IntType) (c : Cell) → HoldsNumber t c → InRange t (number_in c)
 number_fits t (cell.Int v) h = h
 number_fits t (cell.Ptr p) h = absurd h
 number_fits t (cell.Sealed handle) h = absurd h
@@ -70,9 +61,9 @@ one_fits : (w : Crossing) (t : IntType) (v : ℤ) (handle : ℕ) (places : List 
     → are_sent (next_by w handle) places cells ≡ true → are_sent handle (place_by w t ∷ places) (sent_by w handle v ++ cells) ≡ true
 one_fits Stays t v handle places [] r h = h
 one_fits Stays t v handle places (c ∷ cells) r h = h
-one_fits Plain t v handle places cells r h = and_true (is_in_range t v) (are_sent handle places cells) (in_range-test t v r) h
+one_fits Plain t v handle places cells r h = and_from (is_in_range t v) (are_sent handle places cells) (in_range-test t v r) h
 one_fits Sealed t v handle places cells r h =
-    and_true (nat_eq handle handle) (are_sent (suc handle) places cells) (same_handle handle) h
+    and_from (nat_eq handle handle) (are_sent (suc handle) places cells) (nat_eq_self handle) h
 
 places_fit : (handle : ℕ) (places : List Place) (vs : List ℤ) → FitPlaces places vs → are_sent handle places (sent handle places vs) ≡ true
 places_fit handle [] [] h = refl
@@ -97,5 +88,5 @@ result_fits sig (Some t) (Some v) handle h = go (not sig.declassify)
   where
     go : (secret : Bool)
         → are_sent handle (place_by (sealed_if secret) t ∷ []) (option_to_list (slice_get (sent_by (sealed_if secret) handle v ++ []) 0)) ≡ true
-    go true = and_true (nat_eq handle handle) true (same_handle handle) refl
-    go false = and_true (is_in_range t v) true (in_range-test t v h) refl
+    go true = and_from (nat_eq handle handle) true (nat_eq_self handle) refl
+    go false = and_from (is_in_range t v) true (in_range-test t v h) refl

@@ -1,10 +1,12 @@
 -- An honest call returns, and leaves what its callee would have left in the caller's own memory.
 use Rattle.std.proofs.Common.{◌≡◌, ◌+◌, ◌∙◌, zero-add, append_assoc, sym, ap, refl, ℕ, ℤ, pos, suc, Bool, true, false, List, [], ◌∷◌, ◌++◌, length, map, arith, subst, Option, Some, None, Ok, if◌then◌else◌}
-use Rattle.std.specs.Prelude.{◌&&◌, not, option_to_list, slice_get}
+use Rattle.std.specs.Prelude.{not, option_to_list, slice_get}
 use Rattle.std.specs.List.{list_all, zip}
 use Rattle.std.specs.Option.{option_map}
 use Rattle.std.proofs.lemmas.List.{append-nil, length-map}
+use Rattle.std.proofs.lemmas.Bool.{and_from}
 use Rattle.pt_base.specs.declared.int_type.IntType.{IntType}
+use Rattle.pt_base.proofs.Booleans.{and_true_first, and_true_second}
 use Rattle.pt_tree.specs.declared.signature.Param.{Param}
 use Rattle.pt_tree.specs.declared.signature.ParamKind.{ParamKind}
 use Rattle.pt_tree.specs.declared.signature.ParamKind.TheVariants as kind
@@ -31,17 +33,12 @@ use Rattle.marshalling.specs.Sendable.{holds, is_sendable, sends_all, sends_kind
 use Rattle.marshalling.specs.Taking.{Part, after_reply, are_whole, call_crossing, is_reply, is_whole, result_by, taken_blocks, taken_result}
 use Rattle.marshalling_law.proofs.BlockTakingLemmas.{TookAll, blocks_took, types_by}
 use Rattle.marshalling_law.proofs.FittingLemmas.{cells_fit, result_fits}
-use Rattle.marshalling.proofs.Lists.{first, second}
 use Rattle.marshalling.proofs.NameLemmas.{block_at, from_distinct}
 use Rattle.marshalling_law.proofs.PostingLemmas.{packed_types, places_served}
 use Rattle.marshalling.proofs.ReplyLemmas.{holds_length, length-kept, result_count}
 use Rattle.marshalling_law.proofs.RevealLemmas.{Shown, blocks_shown, cell_shown, chosen, ints_of, known_more, merged, reveal_more}
 use Rattle.marshalling_law.proofs.SendableLemmas.{never_refused}
 use Rattle.marshalling.proofs.TakingLemmas.{whole_count}
-
-and_true : (a b : Bool) → a ≡ true → b ≡ true → (a && b) ≡ true
-and_true true b h k = k
-and_true false b h k = cc
 
 -- ---- what the callee gets
 
@@ -72,8 +69,8 @@ arguments_opened store structs blocks names [] [] h = refl
 arguments_opened store structs blocks names [] (c ∷ args) h = cc
 arguments_opened store structs blocks names (p ∷ params) [] h = cc
 arguments_opened store structs blocks names (p ∷ params) (c ∷ args) h =
-    let here = first (sends_kind store structs blocks p.marked p.kind c) (sends_all store structs blocks params args) h in
-    let rest = second (sends_kind store structs blocks p.marked p.kind c) (sends_all store structs blocks params args) h in
+    let here = and_true_first (sends_kind store structs blocks p.marked p.kind c) (sends_all store structs blocks params args) h in
+    let rest = and_true_second (sends_kind store structs blocks p.marked p.kind c) (sends_all store structs blocks params args) h in
     ap (λ x. x ∷ map (unpacked_argument store) (packed_arguments names params args))
     (argument_opened store structs blocks names p p.kind c here)
     ∙ ap (λ xs. renamed names (revealed store c) ∷ xs) (arguments_opened store structs blocks names params args rest)
@@ -90,18 +87,18 @@ cells_opened store [] (c ∷ cells) same h = absurd (omega arith)
 cells_opened store (t ∷ types) [] same h = absurd (omega arith)
 cells_opened store (t ∷ types) (c ∷ cells) same h =
     ap (λ x. x ∷ map (unpacked_cell store) (map packed_typed (zip types cells)))
-    (cell_opened store t c (first (is_integer c) (list_all is_integer cells) h))
-    ∙ ap (λ xs. revealed store c ∷ xs) (cells_opened store types cells (omega arith) (second (is_integer c) (list_all is_integer cells) h))
+    (cell_opened store t c (and_true_first (is_integer c) (list_all is_integer cells) h))
+    ∙ ap (λ xs. revealed store c ∷ xs) (cells_opened store types cells (omega arith) (and_true_second (is_integer c) (list_all is_integer cells) h))
 
 blocks_opened : (store : Entries) (blocks : Blocks) (names : List BlockName) → list_all (λ name. is_whole (blocks name)) names ≡ true
     → list_all (λ name. list_all is_integer (blocks name).cells) names ≡ true
     → map (map (unpacked_cell store)) (map (λ name. packed_block (blocks name)) names) ≡ map (λ name. map (revealed store) (blocks name).cells) names
 blocks_opened store blocks [] whole h = refl
 blocks_opened store blocks (n ∷ names) whole h =
-    let count = whole_count (blocks n) (first (is_whole (blocks n)) (list_all (λ name. is_whole (blocks name)) names) whole) in
-    let all = second (is_whole (blocks n)) (list_all (λ name. is_whole (blocks name)) names) whole in
-    let here = first (list_all is_integer (blocks n).cells) (list_all (λ name. list_all is_integer (blocks name).cells) names) h in
-    let rest = second (list_all is_integer (blocks n).cells) (list_all (λ name. list_all is_integer (blocks name).cells) names) h in
+    let count = whole_count (blocks n) (and_true_first (is_whole (blocks n)) (list_all (λ name. is_whole (blocks name)) names) whole) in
+    let all = and_true_second (is_whole (blocks n)) (list_all (λ name. is_whole (blocks name)) names) whole in
+    let here = and_true_first (list_all is_integer (blocks n).cells) (list_all (λ name. list_all is_integer (blocks name).cells) names) h in
+    let rest = and_true_second (list_all is_integer (blocks n).cells) (list_all (λ name. list_all is_integer (blocks name).cells) names) h in
     ap (λ x. x ∷ map (map (unpacked_cell store)) (map (λ name. packed_block (blocks name)) names))
     (cells_opened store (blocks n).types (blocks n).cells count here)
     ∙ ap (λ xs. map (revealed store) (blocks n).cells ∷ xs) (blocks_opened store blocks names all rest)
@@ -112,7 +109,7 @@ pub call_opened : (store : Entries) (structs : List StructInfo) (params : List P
     → unpacking store structs params (packed blocks params args) ≡ Ok (for_callee store blocks args)
 call_opened store structs params blocks args sendable whole integers =
     let names = names_of args in
-    let sends = first (sends_all store structs blocks params args)
+    let sends = and_true_first (sends_all store structs blocks params args)
     (list_all (λ name. list_all (holds store) (packed_block (blocks name))) names) sendable in
     never_refused store structs params blocks args sendable
     ∙ ap (λ xs. Ok (inputs_of xs (map (map (unpacked_cell store)) (map (λ name. packed_block (blocks name)) names))))
@@ -194,7 +191,7 @@ told store structs sig blocks args served value whole known serves right =
     let split : store ++ (first_kept ++ rest_kept) ≡ (store ++ first_kept) ++ (rest_kept ++ []) =
     sym (append_assoc store first_kept rest_kept) ∙ ap (λ xs. (store ++ first_kept) ++ xs) (sym (append-nil rest_kept)) in
     record {
-      fits = and_true _ _ (result_fits sig sig.result value (length store) right) (cells_fit crossing served behind types serves);
+      fits = and_from _ _ (result_fits sig sig.result value (length store) right) (cells_fit crossing served behind types serves);
       next = took.handle ∙ sym all_long;
       result = result_shown sig sig.result value store rest_kept right;
       cells = took.cells;
@@ -274,7 +271,7 @@ merged_is way i (x ∷ xs) (y ∷ ys) same h =
     one Plain x y h = refl
     one Sealed x y h = refl
 
-block_same : (a b : Block) → a.types ≡ b.types → a.cells ≡ b.cells → a ≡ b
+pub block_same : (a b : Block) → a.types ≡ b.types → a.cells ≡ b.cells → a ≡ b
 block_same a b p q = λ i. record { types = p i; cells = q i }
 
 -- a block that was sent

@@ -1,9 +1,11 @@
 -- Posting is taking.
-use Rattle.std.proofs.Common.{◌≡◌, ◌+◌, ◌∙◌, sym, ap, refl, ℕ, ℤ, suc, Bool, true, false, List, [], ◌∷◌, ◌++◌, length, map, arith, length-append, subst, Option}
+use Rattle.std.proofs.Common.{◌≡◌, ◌+◌, ◌∙◌, sym, ap, refl, ℕ, ℤ, suc, true, false, List, [], ◌∷◌, ◌++◌, length, map, arith, length-append, subst, Option}
 use Rattle.std.specs.Prelude.{◌||◌, option_to_list, slice_get}
 use Rattle.std.specs.List.{list_all, zip}
 use Rattle.std.proofs.lemmas.List.{length-map}
+use Rattle.std.proofs.lemmas.Bool.{or_parts}
 use Rattle.pt_base.specs.declared.int_type.IntType.{IntType}
+use Rattle.pt_base.proofs.Booleans.{and_true_first, and_true_second}
 use Rattle.pt_tree.specs.declared.signature.Signature.{Signature}
 use Rattle.typed_tree.specs.declared.types.StructInfo.{StructInfo}
 use Rattle.block_memory.specs.declared.cell.Cell.{Cell}
@@ -16,15 +18,10 @@ use Rattle.marshalling.specs.Laws.{PostingIsTaking, RepliesHoldNumbers}
 use Rattle.marshalling.specs.Packing.{names_of, packed, packed_block, packed_typed}
 use Rattle.marshalling.specs.Replies.{AreServed, Place, block_types, has_plain, is_plain, next_after, next_by, number_in, packed_results, places_from, places_of, received, reply_of, result_places, sent, sent_by}
 use Rattle.marshalling.specs.Taking.{after_reply, are_whole, call_crossing, call_places, is_whole, zeros}
-use Rattle.marshalling.proofs.Lists.{first, second}
 use Rattle.marshalling.proofs.ReplyLemmas.{holds_length, length-places_from, reply_with, result_count}
 use Rattle.marshalling.proofs.TakingLemmas.{whole_count}
 
 -- ---- what is sent where nothing is plain
-
-neither : (a b : Bool) → (a || b) ≡ false → (a ≡ false) × (b ≡ false)
-neither true b h = cc
-neither false b h = (refl, h)
 
 same_sent : (way : Crossing) (handle : ℕ) (v w : ℤ) → is_plain way ≡ false → sent_by way handle v ≡ sent_by way handle w
 same_sent Stays handle v w h = refl
@@ -38,7 +35,7 @@ sent_known handle [] vs ws h lv lw = refl
 sent_known handle (p ∷ places) [] ws h lv lw = absurd (omega arith)
 sent_known handle (p ∷ places) (v ∷ vs) [] h lv lw = absurd (omega arith)
 sent_known handle (p ∷ places) (v ∷ vs) (w ∷ ws) h lv lw =
-    let parts = neither (is_plain p.way) (has_plain places) h in
+    let parts = or_parts (is_plain p.way) (has_plain places) h in
     ap (λ xs. xs ++ sent (next_by p.way handle) places vs) (same_sent p.way handle v w parts.0)
     ∙ ap (λ xs. sent_by p.way handle w ++ xs) (sent_known (next_by p.way handle) places vs ws parts.1 (omega arith) (omega arith))
 
@@ -68,8 +65,8 @@ pub packed_types : (blocks : Blocks) (names : List BlockName) → list_all (λ n
     → map block_types (map (λ name. packed_block (blocks name)) names) ≡ map (λ name. (blocks name).types) names
 packed_types blocks [] h = refl
 packed_types blocks (name ∷ names) h =
-    let here = whole_count (blocks name) (first (is_whole (blocks name)) (list_all (λ name. is_whole (blocks name)) names) h) in
-    let rest = packed_types blocks names (second (is_whole (blocks name)) (list_all (λ name. is_whole (blocks name)) names) h) in
+    let here = whole_count (blocks name) (and_true_first (is_whole (blocks name)) (list_all (λ name. is_whole (blocks name)) names) h) in
+    let rest = packed_types blocks names (and_true_second (is_whole (blocks name)) (list_all (λ name. is_whole (blocks name)) names) h) in
     ap (λ ts. ts ∷ map block_types (map (λ name. packed_block (blocks name)) names)) (zip_types (blocks name).types (blocks name).cells here)
     ∙ ap (λ ts. (blocks name).types ∷ ts) rest
 

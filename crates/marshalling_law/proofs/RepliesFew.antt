@@ -4,6 +4,7 @@ use Rattle.std.specs.Prelude.{◌&&◌, nat_eq, nat_le}
 use Rattle.std.specs.List.{list_all}
 use Rattle.std.proofs.lemmas.Bool.Decides.{nat_tests}
 use Rattle.pt_base.specs.declared.int_type.IntType.{IntType}
+use Rattle.pt_base.proofs.Booleans.{and_true_first, and_true_second}
 use Rattle.pt_tree.specs.declared.signature.Signature.{Signature}
 use Rattle.block_memory.specs.declared.cell.BlockName.{BlockName}
 use Rattle.block_memory.specs.Block.{Block}
@@ -16,7 +17,6 @@ use Rattle.marshalling.specs.Crossings.{result_crossing}
 use Rattle.marshalling.specs.Packing.{names_of}
 use Rattle.marshalling.specs.Replies.{next_after, next_by, result_places}
 use Rattle.marshalling.specs.Taking.{Part, call_crossing, is_whole, known_reply, taken_blocks, taken_cell, taken_cells, with_number}
-use Rattle.marshalling.proofs.Lists.{first, second}
 use Rattle.marshalling_law.specs.RepliesLaws.{PostingsGiveFew, RepliesGiveFew}
 
 one_more : (w : Crossing) (handle : ℕ) → next_by w handle ≤ handle + 1
@@ -88,10 +88,10 @@ blocks_more crossing k (n ∷ names) p small =
 
 whole_small : (x : Blocks) (names : List BlockName) → list_all (λ name. is_whole (x name)) names ≡ true → AreSmall names x
 whole_small x [] h = tt {0}
-whole_small x (n ∷ names) h = (one (length (x n).types) (length (x n).cells) (first (is_whole (x n)) (list_all (λ name. is_whole (x name)) names) h), whole_small x names (second (is_whole (x n)) (list_all (λ name. is_whole (x name)) names) h))
+whole_small x (n ∷ names) h = (one (length (x n).types) (length (x n).cells) (and_true_first (is_whole (x n)) (list_all (λ name. is_whole (x name)) names) h), whole_small x names (and_true_second (is_whole (x n)) (list_all (λ name. is_whole (x name)) names) h))
   where
     one : (a b : ℕ) → (nat_eq a b && nat_le b 65_536) ≡ true → a ≤ 65_536
-    one a b h = both (first (nat_eq a b) (nat_le b 65_536) h) (second (nat_eq a b) (nat_le b 65_536) h)
+    one a b h = both (and_true_first (nat_eq a b) (nat_le b 65_536) h) (and_true_second (nat_eq a b) (nat_le b 65_536) h)
       where
         both : nat_eq a b ≡ true → nat_le b 65_536 ≡ true → a ≤ 65_536
         both h k = grind (arith, nat_tests)

@@ -1,5 +1,5 @@
 -- A reply is made of what it tells and of the next handles.
-use Rattle.std.proofs.Common.{◌≡◌, ◌∙◌, ◌+◌, ◌≤◌, ℕ, zero, suc, ℤ, ap, sym, refl, subst, arith, List, [], ◌∷◌, length, Option, Some, None}
+use Rattle.std.proofs.Common.{◌≡◌, ◌∙◌, ◌+◌, ◌≤◌, ℕ, zero, suc, ℤ, ap, sym, refl, subst, arith, List, [], ◌∷◌, Option, Some, None}
 use Rattle.std.specs.Prelude.{option_to_list, slice_get}
 use Rattle.pt_base.specs.declared.int_type.IntType.{IntType}
 use Rattle.pt_tree.specs.declared.signature.Signature.{Signature}
@@ -10,6 +10,7 @@ use Rattle.marshalling.specs.declared.crossing.Crossing.{Crossing}
 use Rattle.marshalling.specs.declared.crossing.Crossing.TheVariants.{Stays, Plain, Sealed}
 use Rattle.marshalling.specs.Crossings.{crossing_of, result_crossing}
 use Rattle.marshalling.specs.Replies.{IsResult, Place, next_after, places_of, received, result_places, sent, types_in}
+use Rattle.marshalling.proofs.ReplyLemmas.{result_count}
 use Rattle.marshalling_law.proofs.PostingLemmas.{places_served}
 use Rattle.marshalling_law.specs.RepliesLaws.{CellsByWhatIsTold, RepliesByWhatIsTold, given, told_in}
 
@@ -36,12 +37,6 @@ result_list sig None handle None h = refl
 result_list sig None handle (Some v) h = refl
 result_list sig (Some t) handle None h = refl
 result_list sig (Some t) handle (Some v) h = one_cell (result_crossing sig) t handle v
-
-result_count : (sig : Signature) (t : Option IntType) (value : Option ℤ) → IsResult t value → length (result_places sig t) ≡ length (option_to_list value)
-result_count sig None None h = refl
-result_count sig None (Some v) h = elim h [ ]
-result_count sig (Some t) None h = elim h [ ]
-result_count sig (Some t) (Some v) h = refl
 
 abbrev reply_with : Option WireCell → List WireCell → ReplyBody
 reply_with result cells = record { result = result; cells = cells }

@@ -1,10 +1,12 @@
 -- With values in the place of handles, what was left are the numbers that came back.
 use Rattle.std.proofs.Common.{◌≡◌, ◌<◌, ◌≤◌, ◌+◌, ◌∙◌, add-zero, append_assoc, length-append, sym, ap, refl, ℕ, ℤ, zero, suc, Bool, true, false, List, [], ◌∷◌, ◌++◌, length, map, arith, subst, if◌then◌else◌, Some}
-use Rattle.std.specs.Prelude.{◌&&◌, ◌||◌, nat_lt, slice_get}
+use Rattle.std.specs.Prelude.{◌||◌, nat_lt, slice_get}
 use Rattle.std.specs.List.{list_all}
 use Rattle.std.proofs.lemmas.Bool.Decides.{nat_tests}
 use Rattle.std.proofs.lemmas.List.{length-map}
+use Rattle.std.proofs.lemmas.Bool.{and_from}
 use Rattle.pt_base.specs.declared.int_type.IntType.{IntType}
+use Rattle.pt_base.proofs.Booleans.{and_true_first, and_true_second, true_not_false}
 use Rattle.block_memory.specs.declared.cell.BlockName.{BlockName}
 use Rattle.block_memory.specs.declared.cell.BlockName.TheVariants.{Received}
 use Rattle.block_memory.specs.declared.cell.Cell.{Cell}
@@ -19,20 +21,12 @@ use Rattle.marshalling.specs.Packing.{is_among, number_of}
 use Rattle.marshalling.specs.Replies.{AreServed, HoldNumbers, kept, kept_by, next_after, next_by, number_in, places_from, places_of, received}
 use Rattle.marshalling.specs.Taking.{is_whole}
 use Rattle.marshalling_law.proofs.BlockTakingLemmas.{types_by}
-use Rattle.marshalling.proofs.Lists.{first, second}
 use Rattle.marshalling.proofs.ReplyLemmas.{holds_length, kept-append, length-kept, length-kept_by, length-places_from}
 use Rattle.marshalling.proofs.TakingLemmas.{places_grow, whole_count}
-
-and_true : (a b : Bool) → a ≡ true → b ≡ true → (a && b) ≡ true
-and_true true b h k = k
-and_true false b h k = cc
 
 abbrev Holds : Bool → Type 0
 Holds true = Unit {0}
 Holds false = ⊥
-
-never : {A : Type 0} → true ≡ false → A
-never e = absurd (subst Holds e (tt {0}))
 
 -- ---- a longer store
 
@@ -57,8 +51,8 @@ pub reveal_more : (store more : Entries) (cells : List Cell) → list_all (is_kn
     → map (revealed (store ++ more)) cells ≡ map (revealed store) cells
 reveal_more store more [] h = refl
 reveal_more store more (c ∷ cells) h =
-    ap (λ x. x ∷ map (revealed (store ++ more)) cells) (cell_more store more c (first (is_known store c) (list_all (is_known store) cells) h))
-    ∙ ap (λ xs. revealed store c ∷ xs) (reveal_more store more cells (second (is_known store c) (list_all (is_known store) cells) h))
+    ap (λ x. x ∷ map (revealed (store ++ more)) cells) (cell_more store more c (and_true_first (is_known store c) (list_all (is_known store) cells) h))
+    ∙ ap (λ xs. revealed store c ∷ xs) (reveal_more store more cells (and_true_second (is_known store c) (list_all (is_known store) cells) h))
 
 known_cell : (store more : Entries) (c : Cell) → is_known store c ≡ true → is_known (store ++ more) c ≡ true
 known_cell store more (cell.Int v) h = refl
@@ -74,9 +68,9 @@ pub known_more : (store more : Entries) (cells : List Cell) → list_all (is_kno
     → list_all (is_known (store ++ more)) cells ≡ true
 known_more store more [] h = refl
 known_more store more (c ∷ cells) h =
-    and_true (is_known (store ++ more) c) (list_all (is_known (store ++ more)) cells)
-    (known_cell store more c (first (is_known store c) (list_all (is_known store) cells) h))
-    (known_more store more cells (second (is_known store c) (list_all (is_known store) cells) h))
+    and_from (is_known (store ++ more) c) (list_all (is_known (store ++ more)) cells)
+    (known_cell store more c (and_true_first (is_known store c) (list_all (is_known store) cells) h))
+    (known_more store more cells (and_true_second (is_known store c) (list_all (is_known store) cells) h))
 
 -- ---- one block
 
@@ -104,7 +98,7 @@ cell_shown Sealed store pre rest post handle c v t is here =
     (ap (slice_get store) (sym here) ∙ ap (λ (s : Entries). slice_get s (length pre)) is ∙ entry_at pre (rest ++ post) (t, v))
 
 -- the store's values behind the first one's
-store_on : (store pre one rest post : Entries) → store ≡ pre ++ ((one ++ rest) ++ post) → store ≡ (pre ++ one) ++ (rest ++ post)
+pub store_on : (store pre one rest post : Entries) → store ≡ pre ++ ((one ++ rest) ++ post) → store ≡ (pre ++ one) ++ (rest ++ post)
 store_on store pre one rest post is = is ∙ ap (λ xs. pre ++ xs) (append_assoc one rest post) ∙ sym (append_assoc pre one (rest ++ post))
 
 block_shown : (crossing : ℕ → ℕ → Crossing) (store pre post : Entries) (k i handle : ℕ) (types : List IntType) (cells : List Cell) (vs : List ℤ)
@@ -141,10 +135,10 @@ block_known crossing store k i handle (t ∷ types) (c ∷ cells) (v ∷ vs) h l
     let w = crossing k i in
     let grows : next_by w handle ≤ next_after (next_by w handle) (places_from crossing k (suc i) types) =
     places_grow (next_by w handle) (places_from crossing k (suc i) types) in
-    and_true (is_known store (left_cell w handle c v)) (list_all (is_known store) (left_cells (crossing k) (suc i) (next_by w handle) cells vs))
-    (one_known w store handle c v (first (is_known store c) (list_all (is_known store) cells) h) (omega (arith, grows, le)))
+    and_from (is_known store (left_cell w handle c v)) (list_all (is_known store) (left_cells (crossing k) (suc i) (next_by w handle) cells vs))
+    (one_known w store handle c v (and_true_first (is_known store c) (list_all (is_known store) cells) h) (omega (arith, grows, le)))
     (block_known crossing store k (suc i) (next_by w handle) types cells vs
-    (second (is_known store c) (list_all (is_known store) cells) h) le (omega arith))
+    (and_true_second (is_known store c) (list_all (is_known store) cells) h) le (omega arith))
 
 -- ---- all blocks
 
@@ -176,7 +170,7 @@ pub blocks_shown : (crossing : ℕ → ℕ → Crossing) (store pre post : Entri
     → length pre ≡ handle → list_all (λ n. is_whole (before n)) names ≡ true → AreServed served k (types_by before names)
     → AreKnown store before → is_among names name ≡ true
     → Shown crossing store before served after name (k + number_of names name)
-blocks_shown crossing store pre post before served after k handle [] name left is here whole serves known among = never (sym among)
+blocks_shown crossing store pre post before served after k handle [] name left is here whole serves known among = true_not_false (sym among)
 blocks_shown crossing store pre post before served after k handle (n ∷ names) name left is here whole serves known among =
     let types = (before n).types in
     let cells = (before n).cells in
@@ -185,7 +179,7 @@ blocks_shown crossing store pre post before served after k handle (n ∷ names) 
     let places = places_from crossing k 0 types in
     let first_kept = kept places vs in
     let rest_kept = kept (places_of crossing (suc k) (types_by before names)) (received served (suc k) (types_by before names)) in
-    let full = whole_count (before n) (first (is_whole (before n)) (list_all (λ n. is_whole (before n)) names) whole) in
+    let full = whole_count (before n) (and_true_first (is_whole (before n)) (list_all (λ n. is_whole (before n)) names) whole) in
     let count : length types ≡ length vs = holds_length types numbers serves.1 ∙ sym (length-map numbers number_in) in
     let many : length places ≡ length vs = length-places_from crossing k 0 types ∙ count in
     let parts : store ≡ pre ++ ((first_kept ++ rest_kept) ++ post) =
@@ -207,5 +201,5 @@ blocks_shown crossing store pre post before served after k handle (n ∷ names) 
     } in
     shown_step crossing store before served after n name names k (is_same_name n name) refl one
     (blocks_shown crossing store (pre ++ first_kept) post before served after (suc k) (next_after handle places) names name left.1 on long
-    (second (is_whole (before n)) (list_all (λ n. is_whole (before n)) names) whole) serves.2 known)
+    (and_true_second (is_whole (before n)) (list_all (λ n. is_whole (before n)) names) whole) serves.2 known)
     among

@@ -4,7 +4,9 @@ use Rattle.std.specs.Prelude.{◌&&◌, ◌||◌, nat_le, nat_lt, slice_get, sli
 use Rattle.std.specs.List.{list_all, list_any}
 use Rattle.std.proofs.lemmas.Bool.Decides.{nat_tests}
 use Rattle.std.proofs.lemmas.List.{length-map}
+use Rattle.std.proofs.lemmas.Bool.{and_from, or_left, or_right}
 use Rattle.pt_base.specs.declared.int_type.IntType.{IntType}
+use Rattle.pt_base.proofs.Booleans.{and_true_first, and_true_second}
 use Rattle.pt_tree.specs.declared.signature.Elem.{Elem}
 use Rattle.pt_tree.specs.declared.signature.Param.{Param}
 use Rattle.pt_tree.specs.declared.signature.ParamKind.{ParamKind}
@@ -31,15 +33,10 @@ use Rattle.marshalling.specs.Leaves.{leaves_of}
 use Rattle.marshalling.specs.Packing.{names_of, number_of, packed, packed_argument, packed_arguments, packed_block}
 use Rattle.marshalling.specs.Sendable.{holds, holds_wire, is_kept, sends_all, sends_integer, sends_kind, sends_pointer}
 use Rattle.marshalling.specs.Shape.{are_named, fit_all, fits_block, fits_integer, fits_kind, fits_pointer, is_number_of, is_shaped, is_typed, points_into}
-use Rattle.marshalling.proofs.Lists.{first, second}
 use Rattle.marshalling.proofs.NameLemmas.{all_targets, block_at, from_distinct, from_new, get_among, has_target, number_at, number_below, points_to}
 
 abbrev Cells : Type 0
 Cells = List (IntType × WireCell)
-
-and_true : (a b : Bool) → a ≡ true → b ≡ true → (a && b) ≡ true
-and_true true b h k = k
-and_true false b h k = cc
 
 -- ---- arguments fit
 
@@ -54,17 +51,17 @@ pointer_fits : (names : List BlockName) (blocks : Blocks) (marked : Bool) (leave
     → sends_pointer blocks marked leaves (Ptr (At block base count index)) ≡ true
     → fits_pointer (map (λ name. packed_block (blocks name)) names) marked leaves (argument.At (number_of names block) base count index) ≡ true
 pointer_fits names blocks marked leaves block base count index among h =
-    let counts = first (nat_le 1 count && nat_le index count) (fits_block marked leaves base count (packed_block (blocks block))) h in
-    let range = second (nat_le 1 count && nat_le index count) (fits_block marked leaves base count (packed_block (blocks block))) h in
+    let counts = and_true_first (nat_le 1 count && nat_le index count) (fits_block marked leaves base count (packed_block (blocks block))) h in
+    let range = and_true_second (nat_le 1 count && nat_le index count) (fits_block marked leaves base count (packed_block (blocks block))) h in
     let sent = map (λ name. packed_block (blocks name)) names in
     let below = number_below names block among in
     let many : length sent ≡ length names = length-map names _ in
     let there : nat_lt (number_of names block) (length sent) ≡ true = grind (arith, nat_tests, below, many) in
     let cells : slice_index_or sent (number_of names block) [] ≡ packed_block (blocks block) = block_at
     (λ name. packed_block (blocks name)) names block among in
-    and_true (nat_lt (number_of names block) (length sent))
+    and_from (nat_lt (number_of names block) (length sent))
     ((nat_le 1 count && nat_le index count) && fits_block marked leaves base count (slice_index_or sent (number_of names block) [])) there
-    (and_true (nat_le 1 count && nat_le index count) (fits_block marked leaves base count (slice_index_or sent (number_of names block) [])) counts
+    (and_from (nat_le 1 count && nat_le index count) (fits_block marked leaves base count (slice_index_or sent (number_of names block) [])) counts
     (ap (fits_block marked leaves base count) cells ∙ range))
 
 one_fits : (store : Entries) (structs : List StructInfo) (blocks : Blocks) (names : List BlockName) (p : Param) (k : ParamKind) (c : Cell)
@@ -90,11 +87,11 @@ all_fit store structs blocks names [] (c ∷ args) among h = cc
 all_fit store structs blocks names (p ∷ params) [] among h = cc
 all_fit store structs blocks names (p ∷ params) (c ∷ args) among h =
     let sent = map (λ name. packed_block (blocks name)) names in
-    and_true (fits_kind structs sent p.marked p.kind (packed_argument names p c)) (fit_all structs sent params (packed_arguments names params args))
-    (one_fits store structs blocks names p p.kind c (first (has_target names c) (list_all (has_target names) args) among)
-    (first (sends_kind store structs blocks p.marked p.kind c) (sends_all store structs blocks params args) h))
-    (all_fit store structs blocks names params args (second (has_target names c) (list_all (has_target names) args) among)
-    (second (sends_kind store structs blocks p.marked p.kind c) (sends_all store structs blocks params args) h))
+    and_from (fits_kind structs sent p.marked p.kind (packed_argument names p c)) (fit_all structs sent params (packed_arguments names params args))
+    (one_fits store structs blocks names p p.kind c (and_true_first (has_target names c) (list_all (has_target names) args) among)
+    (and_true_first (sends_kind store structs blocks p.marked p.kind c) (sends_all store structs blocks params args) h))
+    (all_fit store structs blocks names params args (and_true_second (has_target names c) (list_all (has_target names) args) among)
+    (and_true_second (sends_kind store structs blocks p.marked p.kind c) (sends_all store structs blocks params args) h))
 
 -- ---- blocks are named
 
@@ -106,14 +103,6 @@ into_here names p (Ptr (At block base count index)) x k at h =
     let same : number_of names block ≡ k = ap (number_of names) (same_name block x h) ∙ at in
     grind (arith, nat_tests, same)
 into_here names p (Sealed handle) x k at h = cc
-
-or_left : (a b : Bool) → a ≡ true → (a || b) ≡ true
-or_left true b h = refl
-or_left false b h = cc
-
-or_right : (a b : Bool) → b ≡ true → (a || b) ≡ true
-or_right true b h = refl
-or_right false b h = h
 
 -- one of two holds here, where the first leads to the first and the second to the second
 or_maps : (a b c d : Bool) → (a ≡ true → c ≡ true) → (b ≡ true → d ≡ true) → (a || b) ≡ true → (c || d) ≡ true
@@ -127,7 +116,7 @@ any_into : (store : Entries) (structs : List StructInfo) (blocks : Blocks) (name
 any_into store structs blocks names params [] x k at h g = cc
 any_into store structs blocks names [] (c ∷ args) x k at h g = cc
 any_into store structs blocks names (p ∷ params) (c ∷ args) x k at h g =
-    let rest = second (sends_kind store structs blocks p.marked p.kind c) (sends_all store structs blocks params args) h in
+    let rest = and_true_second (sends_kind store structs blocks p.marked p.kind c) (sends_all store structs blocks params args) h in
     or_maps (points_to x c) (list_any (points_to x) args) (points_into k (packed_argument names p c))
     (list_any (points_into k) (packed_arguments names params args))
     (into_here names p c x k at) (any_into store structs blocks names params args x k at rest) g
@@ -139,7 +128,7 @@ each_named : (sent : List Arg) (blocks : Blocks) (names : List BlockName) (k : �
 each_named sent blocks [] k h = refl
 each_named sent blocks (n ∷ names) k h =
     let here : list_any (points_into k) sent ≡ true = rw (← zero-add k) (h 0 (omega arith)) in
-    and_true (list_any (points_into k) sent) (are_named sent (suc k) (map (λ name. packed_block (blocks name)) names)) here
+    and_from (list_any (points_into k) sent) (are_named sent (suc k) (map (λ name. packed_block (blocks name)) names)) here
     (each_named sent blocks names (suc k) (λ j lt. let same : suc j + k ≡ j + suc k = omega arith in rw (← same) (h (suc j) (omega arith))))
 
 no_name : BlockName
@@ -163,19 +152,19 @@ wire_typed store t (wire.Sealed handle) h = refl
 cells_typed : (store : Entries) (cells : Cells) → list_all (holds store) cells ≡ true → list_all is_typed cells ≡ true
 cells_typed store [] h = refl
 cells_typed store (c ∷ cells) h =
-    and_true (is_typed c) (list_all is_typed cells) (wire_typed store c.0 c.1 (first (holds store c) (list_all (holds store) cells) h))
-    (cells_typed store cells (second (holds store c) (list_all (holds store) cells) h))
+    and_from (is_typed c) (list_all is_typed cells) (wire_typed store c.0 c.1 (and_true_first (holds store c) (list_all (holds store) cells) h))
+    (cells_typed store cells (and_true_second (holds store c) (list_all (holds store) cells) h))
 
 blocks_typed : (store : Entries) (blocks : Blocks) (names : List BlockName)
     → list_all (λ name. list_all (holds store) (packed_block (blocks name))) names ≡ true
     → list_all (list_all is_typed) (map (λ name. packed_block (blocks name)) names) ≡ true
 blocks_typed store blocks [] h = refl
 blocks_typed store blocks (n ∷ names) h =
-    let here = first (list_all (holds store) (packed_block (blocks n)))
+    let here = and_true_first (list_all (holds store) (packed_block (blocks n)))
     (list_all (λ name. list_all (holds store) (packed_block (blocks name))) names) h in
-    let rest = second (list_all (holds store) (packed_block (blocks n)))
+    let rest = and_true_second (list_all (holds store) (packed_block (blocks n)))
     (list_all (λ name. list_all (holds store) (packed_block (blocks name))) names) h in
-    and_true (list_all is_typed (packed_block (blocks n))) (list_all (list_all is_typed) (map (λ name. packed_block (blocks name)) names))
+    and_from (list_all is_typed (packed_block (blocks n))) (list_all (list_all is_typed) (map (λ name. packed_block (blocks name)) names))
     (cells_typed store (packed_block (blocks n)) here)
     (blocks_typed store blocks names rest)
 
@@ -195,17 +184,17 @@ neither_fault a b h k = ap (λ x. or_else x b) h ∙ k
 cells_sound : (store : Entries) (cells : Cells) → list_all (holds store) cells ≡ true → block_fault store cells ≡ None
 cells_sound store [] h = refl
 cells_sound store (c ∷ cells) h =
-    neither_fault (cell_fault store c) (block_fault store cells) (wire_sound store c.0 c.1 (first (holds store c) (list_all (holds store) cells) h))
-    (cells_sound store cells (second (holds store c) (list_all (holds store) cells) h))
+    neither_fault (cell_fault store c) (block_fault store cells) (wire_sound store c.0 c.1 (and_true_first (holds store c) (list_all (holds store) cells) h))
+    (cells_sound store cells (and_true_second (holds store c) (list_all (holds store) cells) h))
 
 blocks_sound : (store : Entries) (blocks : Blocks) (names : List BlockName)
     → list_all (λ name. list_all (holds store) (packed_block (blocks name))) names ≡ true
     → blocks_fault store (map (λ name. packed_block (blocks name)) names) ≡ None
 blocks_sound store blocks [] h = refl
 blocks_sound store blocks (n ∷ names) h =
-    let here = first (list_all (holds store) (packed_block (blocks n)))
+    let here = and_true_first (list_all (holds store) (packed_block (blocks n)))
     (list_all (λ name. list_all (holds store) (packed_block (blocks name))) names) h in
-    let rest = second (list_all (holds store) (packed_block (blocks n)))
+    let rest = and_true_second (list_all (holds store) (packed_block (blocks n)))
     (list_all (λ name. list_all (holds store) (packed_block (blocks name))) names) h in
     neither_fault (block_fault store (packed_block (blocks n))) (blocks_fault store (map (λ name. packed_block (blocks name)) names))
     (cells_sound store (packed_block (blocks n)) here)
@@ -236,13 +225,13 @@ arguments_sound store structs blocks names (p ∷ params) [] h = cc
 arguments_sound store structs blocks names (p ∷ params) (c ∷ args) h =
     neither_fault (argument_fault store p.kind (packed_argument names p c)) (arguments_fault store params (packed_arguments names params args))
     (one_sound store structs blocks names p p.kind c
-    (first (sends_kind store structs blocks p.marked p.kind c) (sends_all store structs blocks params args) h))
+    (and_true_first (sends_kind store structs blocks p.marked p.kind c) (sends_all store structs blocks params args) h))
     (arguments_sound store structs blocks names params args
-    (second (sends_kind store structs blocks p.marked p.kind c) (sends_all store structs blocks params args) h))
+    (and_true_second (sends_kind store structs blocks p.marked p.kind c) (sends_all store structs blocks params args) h))
 
 -- ---- the law
 
-served : (shaped : Bool) (fault : Option BadCall) (inputs : Inputs) → shaped ≡ true → fault ≡ None
+pub served : (shaped : Bool) (fault : Option BadCall) (inputs : Inputs) → shaped ≡ true → fault ≡ None
     → (if shaped then inputs_unless fault inputs else Err Shape) ≡ Ok inputs
 served shaped fault inputs h k = ap (λ b. if b then inputs_unless fault inputs else Err Shape) h ∙ ap (λ f. inputs_unless f inputs) k
 
@@ -251,12 +240,12 @@ never_refused store structs params blocks args h =
     let names = names_of args in
     let sent = packed_arguments names params args in
     let cells = map (λ name. packed_block (blocks name)) names in
-    let all = first (sends_all store structs blocks params args) (list_all (λ name. list_all (holds store) (packed_block (blocks name))) names) h in
-    let held = second (sends_all store structs blocks params args) (list_all (λ name. list_all (holds store) (packed_block (blocks name))) names) h in
+    let all = and_true_first (sends_all store structs blocks params args) (list_all (λ name. list_all (holds store) (packed_block (blocks name))) names) h in
+    let held = and_true_second (sends_all store structs blocks params args) (list_all (λ name. list_all (holds store) (packed_block (blocks name))) names) h in
     let shaped : is_shaped structs params (packed blocks params args) ≡ true =
-    and_true (fit_all structs cells params sent) (are_named sent 0 cells && list_all (list_all is_typed) cells)
+    and_from (fit_all structs cells params sent) (are_named sent 0 cells && list_all (list_all is_typed) cells)
     (all_fit store structs blocks names params args (all_targets [] args) all)
-    (and_true (are_named sent 0 cells) (list_all (list_all is_typed) cells) (all_named store structs blocks params args all)
+    (and_from (are_named sent 0 cells) (list_all (list_all is_typed) cells) (all_named store structs blocks params args all)
     (blocks_typed store blocks names held)) in
     let sound : handle_fault store params (packed blocks params args) ≡ None =
     neither_fault (arguments_fault store params sent) (blocks_fault store cells) (arguments_sound store structs blocks names params args all)

@@ -4,6 +4,7 @@ use Rattle.std.specs.Prelude.{◌||◌, not, nat_eq, option_to_list, slice_get}
 use Rattle.std.specs.List.{list_all}
 use Rattle.std.specs.Option.{option_map}
 use Rattle.std.proofs.lemmas.List.{append-nil, length-take-le, map-append, take-append-drop}
+use Rattle.std.proofs.lemmas.Bool.{or_parts}
 use Rattle.pt_base.specs.declared.int_type.IntType.{IntType}
 use Rattle.pt_int.specs.Conversion.{is_in_range}
 use Rattle.pt_tree.specs.declared.signature.Signature.{Signature}
@@ -24,29 +25,18 @@ use Rattle.marshalling.specs.Replies.{Place, next_after, next_by, places_from, p
 use Rattle.marshalling.specs.TakenReplies.{RepliesAreTaken, as_sent, back_from, back_of}
 use Rattle.marshalling.specs.Taking.{Part, are_sent, call_crossing, call_places, comes_back, is_whole, result_by, taken_blocks, taken_cells, taken_result}
 use Rattle.marshalling_law.proofs.BlockTakingLemmas.{Took, all_whole, cells_took, next_after-append, same_types, types_by}
-use Rattle.marshalling.proofs.Lists.{first, second}
 use Rattle.marshalling.proofs.NameLemmas.{from_distinct}
 use Rattle.marshalling.proofs.ReplyLemmas.{length-places_from, sent-append}
 use Rattle.marshalling.proofs.TakingLemmas.{cells_shape, whole_count}
 use Rattle.marshalling.proofs.WalkLemmas.{place_by}
-use Rattle.pt_base.proofs.SameNumbers.{same_number}
+use Rattle.pt_base.proofs.Booleans.{and_true_first, and_true_second, false_not_true, from_not_true}
+use Rattle.pt_base.proofs.Numbers.{nat_eq_same}
 
 -- ---- tests
 
 abbrev Holds : Bool → Type 0
 Holds true = Unit {0}
 Holds false = ⊥
-
-never : {A : Type 0} → false ≡ true → A
-never e = absurd (subst Holds (sym e) (tt {0}))
-
-neither : (a b : Bool) → (a || b) ≡ false → (a ≡ false) × (b ≡ false)
-neither true b h = cc
-neither false b h = (refl, h)
-
-from_not : (b : Bool) → not b ≡ true → b ≡ false
-from_not true h = cc
-from_not false h = refl
 
 -- ---- the numbers of a reply
 
@@ -61,17 +51,17 @@ begins : (w : Crossing) (t : IntType) (handle : ℕ) (places : List Place) (cell
     → are_sent handle (place_by w t ∷ places) cells ≡ true → Begins w handle places cells
 begins Stays t handle places [] h = record { value = pos 0; rest = []; are = refl; fit = h }
 begins Stays t handle places (c ∷ cells) h = record { value = pos 0; rest = c ∷ cells; are = refl; fit = h }
-begins Plain t handle places [] h = never h
+begins Plain t handle places [] h = false_not_true h
 begins Plain t handle places (wire.Number v ∷ cells) h =
-    record { value = v; rest = cells; are = refl; fit = second (is_in_range t v) (are_sent handle places cells) h }
-begins Plain t handle places (wire.Sealed given ∷ cells) h = never h
-begins Sealed t handle places [] h = never h
-begins Sealed t handle places (wire.Number v ∷ cells) h = never h
+    record { value = v; rest = cells; are = refl; fit = and_true_second (is_in_range t v) (are_sent handle places cells) h }
+begins Plain t handle places (wire.Sealed given ∷ cells) h = false_not_true h
+begins Sealed t handle places [] h = false_not_true h
+begins Sealed t handle places (wire.Number v ∷ cells) h = false_not_true h
 begins Sealed t handle places (wire.Sealed given ∷ cells) h = record {
   value = pos 0;
   rest = cells;
-  are = ap (λ n. wire.Sealed n ∷ cells) (same_number given handle (first (nat_eq given handle) (are_sent (suc handle) places cells) h));
-  fit = second (nat_eq given handle) (are_sent (suc handle) places cells) h;
+  are = ap (λ n. wire.Sealed n ∷ cells) (nat_eq_same given handle (and_true_first (nat_eq given handle) (are_sent (suc handle) places cells) h));
+  fit = and_true_second (nat_eq given handle) (are_sent (suc handle) places cells) h;
 }
 
 -- the cells are what is sent of these numbers
@@ -82,7 +72,7 @@ record Numbers (handle : ℕ) (places : List Place) (cells : List WireCell) : Ty
 
 numbers : (handle : ℕ) (places : List Place) (cells : List WireCell) → are_sent handle places cells ≡ true → Numbers handle places cells
 numbers handle [] [] h = record { values = []; count = refl; are = refl }
-numbers handle [] (c ∷ cells) h = never h
+numbers handle [] (c ∷ cells) h = false_not_true h
 numbers handle (p ∷ places) cells h =
     let b = begins p.way p.ty handle places cells h in
     let r = numbers (next_by p.way handle) places b.rest b.fit in
@@ -181,7 +171,7 @@ then_back crossing k name names vs now later all more p q r alone whole count is
           (rest.stays x i) (one.others x) among way;
       types = λ other. rest.types other ∙ one.types other;
       beside = λ other h.
-          let parts = neither (is_same_name name other) (is_among names other) h in
+          let parts = or_parts (is_same_name name other) (is_among names other) h in
           rest.beside other parts.1 ∙ one.others other parts.0;
     }
 
@@ -194,7 +184,7 @@ blocks_back crossing k [] vs all more p distinct whole count is has = record {
   left = has ∙ ap (λ xs. xs ++ more) is;
   handle = refl;
   cells = sym (ap (map as_sent) is);
-  stays = λ name i among way. never among;
+  stays = λ name i among way. false_not_true among;
   types = λ other. refl;
   beside = λ other h. refl;
 }
@@ -208,8 +198,8 @@ blocks_back crossing k (name ∷ names) vs all more p distinct whole count is ha
     let now = sent p.next places vs1 in
     let later = sent (next_after p.next places) others vs2 in
     let q = taken_cells crossing name k 0 types p in
-    let alone : is_among names name ≡ false = from_not (is_among names name) (first (not (is_among names name)) (are_distinct names) distinct) in
-    let full = whole_count (p.blocks name) (first (is_whole (p.blocks name)) (list_all (λ name. is_whole (p.blocks name)) names) whole) in
+    let alone : is_among names name ≡ false = from_not_true (is_among names name) (and_true_first (not (is_among names name)) (are_distinct names) distinct) in
+    let full = whole_count (p.blocks name) (and_true_first (is_whole (p.blocks name)) (list_all (λ name. is_whole (p.blocks name)) names) whole) in
     let long_places : length places ≡ length types = length-places_from crossing k 0 types in
     let long_all : length (places ++ others) ≡ length places + length others = length-append places others in
     let both : vs1 ++ vs2 ≡ vs = take-append-drop (length types) vs in
@@ -226,9 +216,9 @@ blocks_back crossing k (name ∷ names) vs all more p distinct whole count is ha
     cells_took crossing name k 0 types [] (p.blocks name).cells vs1 (later ++ more) p cut refl refl full (sym long_first) in
     let same : types_by q.blocks names ≡ rest = same_types q.blocks p.blocks names one.types in
     then_back crossing k name names vs1 now later all more p q (taken_blocks crossing (suc k) names q) alone full (sym long_first) refl parts one
-    (blocks_back crossing (suc k) names vs2 later more q (second (not (is_among names name)) (are_distinct names) distinct)
+    (blocks_back crossing (suc k) names vs2 later more q (and_true_second (not (is_among names name)) (are_distinct names) distinct)
     (all_whole p.blocks q.blocks names (cells_shape crossing name k 0 types p)
-    (second (is_whole (p.blocks name)) (list_all (λ name. is_whole (p.blocks name)) names) whole))
+    (and_true_second (is_whole (p.blocks name)) (list_all (λ name. is_whole (p.blocks name)) names) whole))
     (ap (λ ts. length (places_of crossing (suc k) ts)) same ∙ count_rest)
     (ap (λ n. sent n others vs2) (sym one.handle) ∙ ap (λ ts. sent q.next (places_of crossing (suc k) ts) vs2) (sym same))
     one.left)
@@ -238,18 +228,18 @@ blocks_back crossing k (name ∷ names) vs all more p distinct whole count is ha
 result_taken : (sig : Signature) (t : Option IntType) (handle : ℕ) (r : Option WireCell)
     → are_sent handle (result_places sig t) (option_to_list r) ≡ true → taken_result (result_places sig t) handle r ≡ option_map as_sent r
 result_taken sig None handle None h = refl
-result_taken sig None handle (Some c) h = never h
+result_taken sig None handle (Some c) h = false_not_true h
 result_taken sig (Some t) handle r h = go (not sig.declassify) r h
   where
     go : (secret : Bool) (r : Option WireCell) → are_sent handle (place_by (sealed_if secret) t ∷ []) (option_to_list r) ≡ true
         → result_by (sealed_if secret) handle r ≡ option_map as_sent r
-    go true None h = never h
-    go true (Some (wire.Number v)) h = never h
+    go true None h = false_not_true h
+    go true (Some (wire.Number v)) h = false_not_true h
     go true (Some (wire.Sealed given)) h =
-        ap (λ n. Some (cell.Sealed n)) (sym (same_number given handle (first (nat_eq given handle) true h)))
-    go false None h = never h
+        ap (λ n. Some (cell.Sealed n)) (sym (nat_eq_same given handle (and_true_first (nat_eq given handle) true h)))
+    go false None h = false_not_true h
     go false (Some (wire.Number v)) h = refl
-    go false (Some (wire.Sealed given)) h = never h
+    go false (Some (wire.Sealed given)) h = false_not_true h
 
 -- ---- the law
 
@@ -260,8 +250,8 @@ replies_are_taken handle structs sig blocks args reply whole good =
     let results = result_places sig sig.result in
     let places = call_places blocks structs sig.params args in
     let behind = next_after handle results in
-    let first_half = first (are_sent handle results (option_to_list reply.result)) (are_sent behind places reply.cells) good in
-    let second_half = second (are_sent handle results (option_to_list reply.result)) (are_sent behind places reply.cells) good in
+    let first_half = and_true_first (are_sent handle results (option_to_list reply.result)) (are_sent behind places reply.cells) good in
+    let second_half = and_true_second (are_sent handle results (option_to_list reply.result)) (are_sent behind places reply.cells) good in
     let n = numbers behind places reply.cells second_half in
     let start : Part = record { sent = reply.cells; next = behind; blocks = blocks } in
     let back : BackAll crossing 0 names reply.cells [] start (taken_blocks crossing 0 names start) =

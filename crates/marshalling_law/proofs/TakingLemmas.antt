@@ -2,9 +2,9 @@
 use Rattle.std.proofs.Common.{◌≡◌, ◌∙◌, ℕ, zero, suc, nat_eq, refl, ap, sym, subst, Bool, true, false, Option, Some, None, List, [], ◌∷◌, ◌++◌, drop, length, map}
 use Rattle.std.specs.Prelude.{ℤ, IsTrue, ◌&&◌, option_to_list, if◌then◌else◌}
 use Rattle.pt_base.specs.declared.int_type.IntType.{IntType}
+use Rattle.pt_base.proofs.Booleans.{both_hold_first, both_hold_second}
 use Rattle.pt_int.specs.Conversion.{is_in_range}
 use Rattle.pt_tree.specs.declared.signature.Signature.{Signature}
-use Rattle.typed_tree.proofs.WellFormedLemmas.{and_left, and_right}
 use Rattle.block_memory.specs.declared.cell.BlockName.{BlockName}
 use Rattle.block_memory.specs.declared.cell.Cell.TheVariants as cell
 use Rattle.block_memory.specs.Blocks.{Blocks}
@@ -68,9 +68,9 @@ module _ (kept : Kept) (monitor : Bool) (program : ProgramTree) (m : Machine) (x
       never : false ≡ true → ⊥
       never e = cc
   number_holds t name i rest (wire.Number v ∷ sent) next blocks h lies = record {
-    fits = written_fits kept monitor program (with_blocks blocks m) name i t (cell.Int v) h.fits (subst (λ ts. LieAt ts i (t ∷ [])) (sym (h.shape.types name)) lies) (and_left (is_in_range t v) (are_sent next rest sent) h.sent);
+    fits = written_fits kept monitor program (with_blocks blocks m) name i t (cell.Int v) h.fits (subst (λ ts. LieAt ts i (t ∷ [])) (sym (h.shape.types name)) lies) (both_hold_first (is_in_range t v) (are_sent next rest sent) h.sent);
     shape = shape-then x blocks _ h.shape (cells_shape (λ k j. Plain) name 0 i (t ∷ []) (record { sent = wire.Number v ∷ sent; next = next; blocks = blocks }));
-    sent = and_right (is_in_range t v) (are_sent next rest sent) h.sent;
+    sent = both_hold_second (is_in_range t v) (are_sent next rest sent) h.sent;
     stand = h.stand.1;
   }
   number_holds t name i rest (wire.Sealed given ∷ sent) next blocks h lies = absurd (never h.sent)
@@ -92,7 +92,7 @@ module _ (kept : Kept) (monitor : Bool) (program : ProgramTree) (m : Machine) (x
   handle_holds t name i rest (wire.Sealed given ∷ sent) next blocks h lies = record {
     fits = written_fits kept monitor program (with_blocks blocks m) name i t (cell.Sealed next) h.fits (subst (λ ts. LieAt ts i (t ∷ [])) (sym (h.shape.types name)) lies) h.stand.0;
     shape = shape-then x blocks _ h.shape (cells_shape (λ k j. Sealed) name 0 i (t ∷ []) (record { sent = wire.Sealed given ∷ sent; next = next; blocks = blocks }));
-    sent = and_right (nat_eq given next) (are_sent (suc next) rest sent) h.sent;
+    sent = both_hold_second (nat_eq given next) (are_sent (suc next) rest sent) h.sent;
     stand = h.stand.1;
   }
 
@@ -125,7 +125,7 @@ result_fits kept false t handle None h s = absurd (never h)
   where
     never : false ≡ true → ⊥
     never e = cc
-result_fits kept false t handle (Some (wire.Number v)) h s = and_left (is_in_range t v) (are_sent handle [] []) h
+result_fits kept false t handle (Some (wire.Number v)) h s = both_hold_first (is_in_range t v) (are_sent handle [] []) h
 result_fits kept false t handle (Some (wire.Sealed given)) h s = absurd (never h)
   where
     never : false ≡ true → ⊥
@@ -140,13 +140,13 @@ pub taken_replies_fit : TakenRepliesFit
 taken_replies_fit kept monitor program m handle structs sig args reply fits is stand =
     let results : List Place = result_places sig sig.result in
     let crossing : ℕ → ℕ → Crossing = call_crossing structs sig.params args in
-    let first : IsTrue (are_sent handle results (option_to_list reply.result)) = and_left (are_sent handle results (option_to_list reply.result)) (are_sent (next_after handle results) (call_places m.blocks structs sig.params args) reply.cells) is in
+    let first : IsTrue (are_sent handle results (option_to_list reply.result)) = both_hold_first (are_sent handle results (option_to_list reply.result)) (are_sent (next_after handle results) (call_places m.blocks structs sig.params args) reply.cells) is in
     let begun : Part = record { sent = reply.cells; next = next_after handle results; blocks = m.blocks } in
     let held : Holds kept monitor program m m.blocks [] (taken_blocks crossing 0 (names_of args) begun) =
     blocks_hold kept monitor program m m.blocks crossing 0 (names_of args) begun (record {
       fits = record { memory = fits.memory; active = fits.active; awaited = fits.awaited };
       shape = same_shape m.blocks;
-      sent = and_right (are_sent handle results (option_to_list reply.result)) (are_sent (next_after handle results) (call_places m.blocks structs sig.params args) reply.cells) is;
+      sent = both_hold_second (are_sent handle results (option_to_list reply.result)) (are_sent (next_after handle results) (call_places m.blocks structs sig.params args) reply.cells) is;
       stand = stand.cells;
     }) in
     record {

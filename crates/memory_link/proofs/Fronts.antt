@@ -1,9 +1,10 @@
 -- What bytes begin with, as frames are cut off them.
-use Rattle.std.proofs.Common.{◌≡◌, ◌<◌, ◌≤◌, ◌-◌, ◌^◌, inl, inr, ℕ, List, ◌++◌, length, take, drop, Bool, true, false, ltb, Option, Some, None, refl, sym, ap, subst, ◌∙◌, append_assoc, arith, length-append, length-drop}
+use Rattle.std.proofs.Common.{◌≡◌, ◌<◌, ◌≤◌, ◌-◌, inl, inr, ℕ, List, ◌++◌, length, take, drop, Bool, true, false, ltb, Option, Some, None, refl, sym, ap, subst, ◌∙◌, append_assoc, arith, length-append, length-drop}
 use Rattle.std.specs.Prelude.{◌||◌, if◌then◌else◌, nat_lt, option_map}
 use Rattle.std.specs.Int.{w32, from_be_bytes}
 use Rattle.std.proofs.lemmas.Bool.{lt-ltb, le-ltb, ltb-false}
 use Rattle.std.proofs.lemmas.List.{take_at, drop_at}
+use Rattle.pt_base.proofs.Booleans.{or_with_true}
 use Rattle.wire.specs.declared.message.Message.{Message}
 use Rattle.wire.specs.Frames.{IsUnfinished, HoldsFrame, BeginsBad, BeginsTooLong, Begins}
 use Rattle.wire.specs.Limits.{longest_payload}
@@ -12,18 +13,11 @@ use Rattle.wire.specs.Spelling.{four_bytes, payload}
 use Rattle.wire.proofs.Bytes.{AreBytes, AreBytes-take}
 use Rattle.wire.proofs.Fields.{field32, guard_fails, some_is}
 use Rattle.wire.proofs.PayloadLaws.{payload_again, payload_takes}
+use Rattle.wire.proofs.Front.{number_in_front, short_none}
 use Rattle.pair_meaning.specs.Peer.{frame_at, framed, framed_by}
 
 some_none : {A B : Type 0} (x : B) → Some x ≡ None → A
 some_none x e = cc
-
--- ---- the number in front
-
-short_none : (bytes : List ℕ) → length bytes < 4 → number_at w32 bytes ≡ None
-short_none bytes lt = rw (lt-ltb (length bytes) 4 lt) refl
-
-number_in_front : (bytes : List ℕ) (n : ℕ) (tail : List ℕ) → n < 2 ^ 32 → bytes ≡ four_bytes n ++ tail → number_at w32 bytes ≡ Some (n, tail)
-number_in_front bytes n tail lt are = ap (number_at w32) are ∙ field32.again n tail lt
 
 -- ---- by the number
 
@@ -33,14 +27,10 @@ framed_if long cut size tail = if long || cut then None else option_map (λ m. (
 too_long_none : (size : ℕ) (tail : List ℕ) → longest_payload < size → framed size tail ≡ None
 too_long_none size tail lt = ap (λ (b : Bool). framed_if b (nat_lt (length tail) size) size tail) (lt-ltb longest_payload size lt)
 
-or_true : (b : Bool) → (b || true) ≡ true
-or_true true = refl
-or_true false = refl
-
 cut_none : (size : ℕ) (tail : List ℕ) → length tail < size → framed size tail ≡ None
 cut_none size tail lt =
     ap (λ (b : Bool). framed_if (nat_lt longest_payload size) b size tail) (lt-ltb (length tail) size lt)
-    ∙ ap (λ (b : Bool). if b then None else option_map (λ m. (m, drop size tail)) (payload_of (take size tail))) (or_true (nat_lt longest_payload size))
+    ∙ ap (λ (b : Bool). if b then None else option_map (λ m. (m, drop size tail)) (payload_of (take size tail))) (or_with_true (nat_lt longest_payload size))
 
 whole_framed : (size : ℕ) (tail : List ℕ) → size ≤ longest_payload → size ≤ length tail → framed size tail ≡ option_map (λ m. (m, drop size tail)) (payload_of (take size tail))
 whole_framed size tail le inside =

@@ -1,9 +1,11 @@
 -- The slave with its queue.
 use Rattle.std.proofs.Common.{◌≡◌, ◌++◌, ℕ, Bool, true, false, Option, refl, sym, ap, subst, ◌∙◌}
+use Rattle.pt_base.proofs.Booleans.{true_not_false}
 use Rattle.wire.specs.declared.message.Message.{Message}
-use Rattle.pair_protocol.specs.Sides.{Mode, Moved, going, over}
+use Rattle.pair_protocol.specs.Sides.{Mode, Moved, going}
 use Rattle.pair_protocol.specs.SlaveRun.{listed}
 use Rattle.pair_protocol.specs.Links.{Half, moved}
+use Rattle.pair_protocol.proofs.OrderFacts.{over_going}
 use Rattle.pair_meaning.specs.Pair.{the_sides}
 use Rattle.pair_meaning.specs.SlaveRun as s
 use Rattle.slave_interp.specs.declared.slave.Slave.{Slave}
@@ -12,14 +14,8 @@ use Rattle.slave_interp.specs.Slaves.{HasRun, IsSlave}
 use Rattle.memory_link.specs.declared.slave_half.SlaveHalf.{SlaveHalf}
 use Rattle.memory_link.specs.Halves.{HasRunTo, IsHalf, IsHeld}
 
-over_going : {A : Type 0} → over ≡ going → A
-over_going e = cc
-
-true_false : {A : Type 0} → true ≡ false → A
-true_false e = cc
-
 held_slave : (refused : Bool) (x : Slave) (y : s.Slave) → refused ≡ false → IsHeld refused x y → IsSlave x y
-held_slave true x y e held = true_false e
+held_slave true x y e held = true_not_false e
 held_slave false x y e held = held
 
 -- what goes on refused nothing

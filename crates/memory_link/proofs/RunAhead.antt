@@ -1,11 +1,14 @@
 -- Many steps while nothing waits hand over what one after the other does, whatever the answers are.
-use Rattle.std.proofs.Common.{◌≡◌, ◌<◌, ℕ, zero, suc, List, [], ◌∷◌, ◌++◌, length, Bool, true, false, Option, Some, None, refl, sym, ap, subst, ◌∙◌, arith}
+use Rattle.std.proofs.Common.{◌≡◌, ◌<◌, ℕ, zero, suc, List, [], ◌∷◌, ◌++◌, length, Bool, true, Option, Some, None, refl, sym, ap, subst, ◌∙◌, arith}
 use Rattle.std.specs.Prelude.{◌&&◌, ◌||◌, nat_lt}
 use Rattle.std.proofs.lemmas.Bool.{lt-ltb}
+use Rattle.pt_base.proofs.Booleans.{or_with_true}
+use Rattle.pt_base.proofs.Numbers.{suc_below, suc_same, zero_not_suc}
 use Rattle.pair_protocol.specs.Sides.{Mode, going, waits, over, Sides}
-use Rattle.pair_protocol.specs.SlaveRun.{At, Ready, came, having, listed, moved_on, ready, ready_in, slave_at, with_said}
+use Rattle.pair_protocol.specs.SlaveRun.{At, Ready, came, having, listed, moved_on, ready_in, slave_at, with_said}
 use Rattle.pair_protocol.specs.Pair.{Who, is_going, is_slaves, moves}
 use Rattle.pair_protocol.specs.Links.{half, Half, Either, Pops, Hands}
+use Rattle.pair_protocol.proofs.OrderSlaveFacts.{ready_none}
 
 -- ---- steps without replies
 
@@ -14,14 +17,11 @@ ready_by g x going = refl
 ready_by g x waits = refl
 ready_by g x over = refl
 
-none_ready : {S M X R E Q : Type 0} (g : Sides S M X R E Q) (x : S) → ready g x [] ≡ having x []
-none_ready g x = ready_by g x (g.mode x)
-
 none_made : {S M X R E Q : Type 0} (g : Sides S M X R E Q) (x : S) → slave_at g 0 x [] ≡ came x [] [] 0
-none_made {S = S} {R = R} g x = ap (λ (r : Ready S R). came r.slave [] r.left 0) (none_ready g x)
+none_made {S = S} {R = R} g x = ap (λ (r : Ready S R). came r.slave [] r.left 0) (ready_none g x)
 
 made_by : {S M X R E Q : Type 0} (g : Sides S M X R E Q) (k : ℕ) (x : S) → slave_at g (suc k) x [] ≡ moved_on g (g.mode x) (having x []) (slave_at g k (g.step x).slave [])
-made_by {S = S} {R = R} g k x = ap (λ (r : Ready S R). moved_on g (g.mode r.slave) r (slave_at g k (g.step r.slave).slave r.left)) (none_ready g x)
+made_by {S = S} {R = R} g k x = ap (λ (r : Ready S R). moved_on g (g.mode r.slave) r (slave_at g k (g.step r.slave).slave r.left)) (ready_none g x)
 
 abbrev behind_step : {X S R : Type 0} → Option X → At S X R → At S X R
 behind_step said rest = came rest.slave (with_said said rest.said) rest.left (suc rest.made)
@@ -29,45 +29,32 @@ behind_step said rest = came rest.slave (with_said said rest.said) rest.left (su
 made_going : {S M X R E Q : Type 0} (g : Sides S M X R E Q) (k : ℕ) (x : S) → g.mode x ≡ going → slave_at g (suc k) x [] ≡ behind_step (g.step x).said (slave_at g k (g.step x).slave [])
 made_going g k x m = made_by g k x ∙ ap (λ (m : Mode). moved_on g m (having x []) (slave_at g k (g.step x).slave [])) m
 
-none_suc : {A : Type 0} (k : ℕ) → 0 ≡ suc k → A
-none_suc k e = absurd (omega (arith, e))
-
 -- it goes on where it makes a step
 goes : {S M X R E Q : Type 0} (g : Sides S M X R E Q) (k : ℕ) (x : S) (m : Mode) → g.mode x ≡ m → (slave_at g (suc k) x []).made ≡ suc k → g.mode x ≡ going
 goes g k x going e made = e
 goes {S = S} {X = X} {R = R} g k x waits e made =
-    none_suc k (sym (ap (λ (a : At S X R). a.made) (made_by g k x ∙ ap (λ (m : Mode). moved_on g m (having x []) (slave_at g k (g.step x).slave [])) e)) ∙ made)
+    zero_not_suc k (sym (ap (λ (a : At S X R). a.made) (made_by g k x ∙ ap (λ (m : Mode). moved_on g m (having x []) (slave_at g k (g.step x).slave [])) e)) ∙ made)
 goes {S = S} {X = X} {R = R} g k x over e made =
-    none_suc k (sym (ap (λ (a : At S X R). a.made) (made_by g k x ∙ ap (λ (m : Mode). moved_on g m (having x []) (slave_at g k (g.step x).slave [])) e)) ∙ made)
+    zero_not_suc k (sym (ap (λ (a : At S X R). a.made) (made_by g k x ∙ ap (λ (m : Mode). moved_on g m (having x []) (slave_at g k (g.step x).slave [])) e)) ∙ made)
 
 -- ---- any answer
-
-or_true : (b : Bool) → (b || true) ≡ true
-or_true true = refl
-or_true false = refl
 
 any_moves : {S M X R E Q : Type 0} (g : Sides S M X R E Q) (window : ℕ) (who : Who) (x : S) → g.mode x ≡ going → 0 < window → moves g window who x [] ≡ true
 any_moves g window who x m room =
     ap (λ (m : Mode). (is_going m && nat_lt 0 window) && (is_slaves who || true)) m
     ∙ ap (λ (b : Bool). b && (is_slaves who || true)) (lt-ltb 0 window room)
-    ∙ or_true (is_slaves who)
+    ∙ or_with_true (is_slaves who)
 
 -- the rest of the steps, behind one that said this
 abbrev From : {S M X R E Q : Type 0} → Sides S M X R E Q → ℕ → S → S → Option X → Type 0
 From g k x to said = (slave_at g k x [] ≡ came to (listed said) [] k) × ((j : ℕ) → j < k → (slave_at g j x []).said ≡ [])
-
-less_more : (j k : ℕ) → j < k → suc j < suc k
-less_more j k h = omega (arith, h)
-
-suc_same : (a b : ℕ) → suc a ≡ suc b → a ≡ b
-suc_same a b e = omega (arith, e)
 
 not_none : {A X : Type 0} (x : X) (xs : List X) → x ∷ xs ≡ [] → A
 not_none x xs e = cc
 
 no_answers : (under : List Who) → length under ≡ 0 → under ≡ []
 no_answers [] e = refl
-no_answers (who ∷ under) e = none_suc (length under) (sym e)
+no_answers (who ∷ under) e = zero_not_suc (length under) (sym e)
 
 -- a step that said nothing
 silent_rest : {S M X R E Q : Type 0} (g : Sides S M X R E Q) (k : ℕ) (x to : S) (said : Option X) → g.mode x ≡ going → (g.step x).said ≡ None → From g (suc k) x to said → From g k (g.step x).slave to said
@@ -81,7 +68,7 @@ silent_rest {S = S} {X = X} {R = R} g k x to said m is (e, quiet) =
       λ i. came (slave i) (words i) (left i) (made i),
       λ j less.
           sym (ap (λ (w : Option X). with_said w (slave_at g j (g.step x).slave []).said) is)
-          ∙ sym (ap (λ (a : At S X R). a.said) (made_going g j x m)) ∙ quiet (suc j) (less_more j k less),
+          ∙ sym (ap (λ (a : At S X R). a.said) (made_going g j x m)) ∙ quiet (suc j) (suc_below j k less),
     )
 
 -- a step that said something is the last one
@@ -122,8 +109,8 @@ module _ {S M X R E Q : Type 0} (g : Sides S M X R E Q) (window : ℕ) (room : 0
   runs_ahead zero x to said [] len (e, quiet) h =
       let same : came x [] [] 0 ≡ came to (listed said) [] 0 = sym (none_made g x) ∙ e in
       subst (λ (y : S). HandsFrom [] y []) (sym (ap (λ (a : At S X R). a.slave) same)) (subst (λ (q : List X). HandsFrom [] to q) (sym (ap (λ (a : At S X R). a.said) same)) h)
-  runs_ahead zero x to said (who ∷ under) len from h = none_suc (length under) (sym len)
-  runs_ahead (suc k) x to said [] len from h = none_suc k len
+  runs_ahead zero x to said (who ∷ under) len from h = zero_not_suc (length under) (sym len)
+  runs_ahead (suc k) x to said [] len from h = zero_not_suc k len
   runs_ahead (suc k) x to said (who ∷ under) len from h =
       let m : g.mode x ≡ going = goes g k x (g.mode x) refl (ap (λ (a : At S X R). a.made) from.0) in
       subst (λ (b : Bool). Either b (HandsFrom under (g.step x).slave (listed (g.step x).said)) (Pops (under ++ answers) (half x []) o end)) (sym (any_moves g window who x m room))

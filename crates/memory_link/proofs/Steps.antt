@@ -4,10 +4,11 @@ use Rattle.std.specs.Prelude.{◌&&◌, ◌||◌, nat_lt}
 use Rattle.pt_base.specs.Turns.{DropsFirst}
 use Rattle.pt_base.specs.declared.chooser.Who as base
 use Rattle.wire.specs.declared.message.Message.{Message}
-use Rattle.pair_protocol.specs.Sides.{Mode, going, waits, over}
+use Rattle.pair_protocol.specs.Sides.{going}
 use Rattle.pair_protocol.specs.SlaveRun.{listed}
 use Rattle.pair_protocol.specs.Links.{half, Half, front, behind, is_live, moved, Either, Pops, Hands}
 use Rattle.pair_protocol.specs.Pair.{Who, is_going, is_slaves, is_empty, moves}
+use Rattle.pair_protocol.proofs.OrderEvery.{is_going_so}
 use Rattle.pair_meaning.specs.Pair.{the_sides}
 use Rattle.pair_meaning.specs.SlaveRun.{Slave, mode_of}
 use Rattle.pair_meaning.specs.LinkChoosing.{half_named, AreTaken}
@@ -36,11 +37,6 @@ pub all_asked : (n times : ℕ) (a b : Option (ℕ → base.Who)) → n ≡ time
 all_asked n times a b e h = subst (λ (k : ℕ). Asked k a b) e h
 
 -- ---- where the slave moves
-
-is_going_so : (m : Mode) → is_going m ≡ true → m ≡ going
-is_going_so going e = refl
-is_going_so waits e = cc
-is_going_so over e = cc
 
 and_first : (a b c : Bool) → ((a && b) && c) ≡ true → a ≡ true
 and_first true b c e = refl

@@ -5,10 +5,10 @@ use Rattle.std.specs.Map.{lookup}
 use Rattle.std.proofs.lemmas.List.{length-map}
 use Rattle.pt_base.specs.declared.end.End.{End}
 use Rattle.pt_base.specs.declared.int_type.IntType.{IntType}
+use Rattle.pt_base.proofs.Booleans.{both_hold_first, both_hold_second}
 use Rattle.pt_tree.specs.declared.signature.Signature.{Signature}
 use Rattle.typed_tree.specs.declared.types.StructInfo.{StructInfo}
 use Rattle.typed_tree.specs.WellFormed.{are_rising}
-use Rattle.typed_tree.proofs.WellFormedLemmas.{and_left, and_right}
 use Rattle.runs.specs.Run.{written}
 use Rattle.runs.specs.State as r
 use Rattle.runs.specs.State.{Hosts, gives}
@@ -81,11 +81,11 @@ use Rattle.monitor_interp.proofs.BlockLemmas.{opened_alike}
 pub signatures_rise : (program : MonitorProgram) (p : MonitorTree) → view_monitor program ≡ p → IsTrue (is_well_formed_monitor p) → IsTrue (are_rising 0 (map (λ s. s.0) (numbered program.signatures)))
 signatures_rise program p named well =
     subst (λ (q : MonitorTree). IsTrue (are_rising 0 (map (λ s. s.0) q.signatures))) (sym named)
-    (and_left (are_rising 0 (map (λ s. s.0) p.signatures)) _ (facts_of true (monitor_program p) (sound_of p well)).order)
+    (both_hold_first (are_rising 0 (map (λ s. s.0) p.signatures)) _ (facts_of true (monitor_program p) (sound_of p well)).order)
 
 entries_rise_in : (p : MonitorTree) → IsTrue (is_well_formed_monitor p) → IsTrue (are_rising 0 (map (λ e. e.function.0) p.entries))
 unfolding is_well_formed_monitor
-entries_rise_in p h = and_left (are_rising 0 (map (λ e. e.function.0) p.entries)) _ (and_right (is_sound true (monitor_program p)) (entries_fit (monitor_program p) p.entries) h)
+entries_rise_in p h = both_hold_first (are_rising 0 (map (λ e. e.function.0) p.entries)) _ (both_hold_second (is_sound true (monitor_program p)) (entries_fit (monitor_program p) p.entries) h)
 
 pub entries_rise : (program : MonitorProgram) (p : MonitorTree) → view_monitor program ≡ p → IsTrue (is_well_formed_monitor p) → IsTrue (are_rising 0 (map (λ e. e.function.0) program.entries))
 entries_rise program p named well = subst (λ (q : MonitorTree). IsTrue (are_rising 0 (map (λ e. e.function.0) q.entries))) (sym named) (entries_rise_in p well)

@@ -1,8 +1,9 @@
 -- The gate of a monitor's hosts shows as the gate that keeps the bytes.
-use Rattle.std.proofs.Common.{◌≡◌, ◌∙◌, ℕ, nat_eq, refl, ap, sym, subst, arith, cond, Bool, true, false, Option, Some, None, List, [], ◌∷◌, ◌++◌, map, if◌then◌else◌, append-nil}
+use Rattle.std.proofs.Common.{◌≡◌, ◌∙◌, ℕ, nat_eq, refl, ap, sym, subst, cond, Bool, true, false, Option, Some, None, List, [], ◌∷◌, ◌++◌, map, if◌then◌else◌, append-nil}
 use Rattle.std.specs.Prelude.{ℤ, IsTrue, is_some, option_map, pos, unwrap_or}
 use Rattle.std.specs.Map.{lookup}
-use Rattle.std.proofs.lemmas.Bool.Decides.{nat_tests}
+use Rattle.pt_base.proofs.Lists.{map_map_turned}
+use Rattle.pt_base.proofs.Numbers.{nat_eq_same, nat_eq_turned}
 use Rattle.pt_tree.specs.declared.host_model.HostModel.{HostModel}
 use Rattle.pt_tree.specs.declared.signature.Signature.{Signature}
 use Rattle.pt_tree.specs.HostStep.{Answer, host_step}
@@ -18,18 +19,11 @@ use Rattle.pt_core.specs.Steps.{enters, here}
 use Rattle.core_machine.specs.Gates.{gate_of}
 use Rattle.core_steps_law.specs.GatesShown.{Shows}
 use Rattle.core_steps_law.specs.GatesWritten.{bytes_gate}
-use Rattle.serving_rules.proofs.SearchLemmas.{twice}
 use Rattle.monitor_interp.specs.declared.marks.Mark.{Mark}
 use Rattle.monitor_interp.specs.Heard.{Heard, Known}
 use Rattle.monitor_interp.specs.Marks.{mark_of}
 use Rattle.monitor_interp.specs.Gates.{changed, heard, heard_answer, heard_of, heard_way, hosts_among, hosts_for, hosts_in, is_host_in, known_by, model_in, models_among, told_of}
 use Rattle.monitor_interp.specs.Working.{at_first}
-
-same_number : (m n : ℕ) → nat_eq m n ≡ true → m ≡ n
-same_number m n e = grind (arith, nat_tests)
-
-turned : (m n : ℕ) → nat_eq m n ≡ nat_eq n m
-turned m n = grind (arith, nat_tests)
 
 -- ---- one host's model changes
 
@@ -43,7 +37,7 @@ found_changed (k ∷ ks) f next n = go (nat_eq n k.number) refl (found_changed k
   where
     go : (b : Bool) → nat_eq n k.number ≡ b → lookup (nat_eq n) (models_among (map (changed f next) ks)) ≡ option_map (model_by n f next) (lookup (nat_eq n) (models_among ks)) →
         cond b (Some (model_by k.number f next k.model)) (lookup (nat_eq n) (models_among (map (changed f next) ks))) ≡ option_map (model_by n f next) (cond b (Some k.model) (lookup (nat_eq n) (models_among ks)))
-    go true e rest = ap (λ i. Some (model_by i f next k.model)) (sym (same_number n k.number e))
+    go true e rest = ap (λ i. Some (model_by i f next k.model)) (sym (nat_eq_same n k.number e))
     go false e rest = rest
 
 -- what answers where nothing is known stays the same
@@ -55,7 +49,7 @@ model_changed : (h : Heard) (f : ℕ) (next : HostModel) → (lookup (nat_eq f) 
 model_changed h f next stays n = sym (ap (λ o. unwrap_or o no_model) (found_changed h.known f next n) ∙ go (lookup (nat_eq n) (models_among h.known)) refl)
   where
     none_at : (b : Bool) → nat_eq n f ≡ b → lookup (nat_eq n) (models_among h.known) ≡ None → no_model ≡ (if b then next else no_model)
-    none_at true e is = sym (stays (ap (λ i. lookup (nat_eq i) (models_among h.known)) (sym (same_number n f e)) ∙ is))
+    none_at true e is = sym (stays (ap (λ i. lookup (nat_eq i) (models_among h.known)) (sym (nat_eq_same n f e)) ∙ is))
     none_at false e is = refl
 
     go : (o : Option HostModel) → lookup (nat_eq n) (models_among h.known) ≡ o → unwrap_or (option_map (model_by n f next) o) no_model ≡ model_by n f next (unwrap_or o no_model)
@@ -63,7 +57,7 @@ model_changed h f next stays n = sym (ap (λ o. unwrap_or o no_model) (found_cha
     go (Some m) is = refl
 
 hosts_same : (ks : List Known) (f : ℕ) (next : HostModel) → hosts_among (map (changed f next) ks) ≡ hosts_among ks
-hosts_same ks f next = twice (changed f next) (λ (k : Known). (k.number, k.host)) ks
+hosts_same ks f next = map_map_turned (changed f next) (λ (k : Known). (k.number, k.host)) ks
 
 -- no number becomes a host by an answer
 pub marks_stay : (h : Heard) (f : ℕ) (numbers : List ℤ) → is_host_in (heard_answer f numbers h).1 ≡ is_host_in h
@@ -89,7 +83,7 @@ known_models models (s ∷ sigs) n = go (nat_eq n s.0) refl (known_models models
   where
     go : (b : Bool) → nat_eq n s.0 ≡ b → lookup (nat_eq n) (models_among (map (known_by models) (map mark_of sigs))) ≡ (if is_some (lookup (nat_eq n) sigs) then Some (models n) else None) →
         cond b (Some (models s.0)) (lookup (nat_eq n) (models_among (map (known_by models) (map mark_of sigs)))) ≡ (if is_some (cond b (Some s.1) (lookup (nat_eq n) sigs)) then Some (models n) else None)
-    go true e rest = ap (λ i. Some (models i)) (sym (same_number n s.0 e))
+    go true e rest = ap (λ i. Some (models i)) (sym (nat_eq_same n s.0 e))
     go false e rest = rest
 
 pub told_first : (p : MonitorTree) (hosts : Hosts) → told_of (heard_of hosts [] (map mark_of p.signatures)) ≡ at_first (hosts_for p (models_of hosts.models)) hosts.input
@@ -116,7 +110,7 @@ knows_first program hosts bytes = λ i n. known_hosts (models_of hosts.models) p
 
 -- the marks are in the order of the signatures
 pub marks_rise : (sigs : List (ℕ × Signature)) → IsTrue (are_rising 0 (map (λ s. s.0) sigs)) → IsTrue (are_rising 0 (map (λ (m : Mark). m.number) (map mark_of sigs)))
-marks_rise sigs h = subst (λ ns. IsTrue (are_rising 0 ns)) (sym (twice mark_of (λ (m : Mark). m.number) sigs)) h
+marks_rise sigs h = subst (λ ns. IsTrue (are_rising 0 ns)) (sym (map_map_turned mark_of (λ (m : Mark). m.number) sigs)) h
 
 -- ---- a search among marks
 
@@ -124,7 +118,7 @@ abbrev pub marked : List Mark → List (ℕ × Bool)
 marked marks = map (λ m. (m.number, m.host)) marks
 
 pub host_is : (hosts : Hosts) (bytes : List ℕ) (marks : List Mark) (f : ℕ) → unwrap_or (lookup (nat_eq f) (marked marks)) true ≡ is_host_in (heard_of hosts bytes marks) f
-host_is hosts bytes marks f = ap (λ ks. unwrap_or (lookup (nat_eq f) ks) true) (sym (twice (known_by (models_of hosts.models)) (λ (k : Known). (k.number, k.host)) marks))
+host_is hosts bytes marks f = ap (λ ks. unwrap_or (lookup (nat_eq f) ks) true) (sym (map_map_turned (known_by (models_of hosts.models)) (λ (k : Known). (k.number, k.host)) marks))
 
 -- ---- a call
 
@@ -139,7 +133,7 @@ there_at models (m ∷ marks) f is = go (nat_eq f m.number) refl (there_at model
   where
     go : (b : Bool) → nat_eq f m.number ≡ b → (is_some (lookup (nat_eq f) (marked marks)) ≡ true → lookup (nat_eq f) (models_among (map (known_by models) marks)) ≡ Some (models f)) →
         is_some (cond b (Some m.host) (lookup (nat_eq f) (marked marks))) ≡ true → cond b (Some (models m.number)) (lookup (nat_eq f) (models_among (map (known_by models) marks))) ≡ Some (models f)
-    go true e rest is = ap (λ i. Some (models i)) (sym (same_number f m.number e))
+    go true e rest is = ap (λ i. Some (models i)) (sym (nat_eq_same f m.number e))
     go false e rest is = rest is
 
 absent_at : (models : r.Hosts) (marks : List Mark) (f : ℕ) → is_some (lookup (nat_eq f) (marked marks)) ≡ false → lookup (nat_eq f) (models_among (map (known_by models) marks)) ≡ None
@@ -160,12 +154,12 @@ absent_same models (m ∷ marks) f next is = go (nat_eq f m.number) refl (absent
         is_some (cond b (Some m.host) (lookup (nat_eq f) (marked marks))) ≡ false → changed f next (known_by models m) ∷ map (changed f next) (map (known_by models) marks) ≡ known_by models m ∷ map (known_by models) marks
     go true e rest is = cc
     go false e rest is =
-        ap (λ b. record { number = m.number; host = m.host; model = if b then next else models m.number } ∷ map (changed f next) (map (known_by models) marks)) (turned m.number f ∙ e)
+        ap (λ b. record { number = m.number; host = m.host; model = if b then next else models m.number } ∷ map (changed f next) (map (known_by models) marks)) (nat_eq_turned m.number f ∙ e)
         ∙ ap (λ ks. known_by models m ∷ ks) (rest is)
 
 -- the models by number behind a change
 known_after : (old new : r.Hosts) (marks : List Mark) (f : ℕ) (next : HostModel) → new ≡ put_host old f next → map (changed f next) (map (known_by old) marks) ≡ map (known_by new) marks
-known_after old new marks f next is = twice (known_by old) (changed f next) marks ∙ ap (λ (h : r.Hosts). map (known_by h) marks) (sym is)
+known_after old new marks f next is = map_map_turned (known_by old) (changed f next) marks ∙ ap (λ (h : r.Hosts). map (known_by h) marks) (sym is)
 
 -- a number was called that isn't there
 pub called_absent : (hosts : Hosts) (bytes : List ℕ) (marks : List Mark) (f : ℕ) (numbers : List ℤ) → is_some (lookup (nat_eq f) (marked marks)) ≡ false →

@@ -4,6 +4,7 @@ use Rattle.std.specs.Prelude.{IsTrue, is_some, nat_lt}
 use Rattle.std.proofs.lemmas.Bool.Decides.{nat_tests}
 use Rattle.pt_base.specs.declared.end.End.{End}
 use Rattle.pt_base.specs.declared.end.End.TheVariants.{Spent}
+use Rattle.pt_base.proofs.Booleans.{false_not_true}
 use Rattle.runs.specs.State as r
 use Rattle.host_table.specs.RunHosts.{no_model}
 use Rattle.wire.specs.declared.message.Message.{Message}
@@ -14,7 +15,6 @@ use Rattle.pt_core.specs.Calls.{signature_in}
 use Rattle.pt_core.specs.WellFormed.{callee_by, callee_fits, callees, is_well_formed_monitor, monitor_program, signature_at}
 use Rattle.pt_tree.specs.declared.signature.Signature.{Signature}
 use Rattle.host_models.specs.Fitting.{fits}
-use Rattle.core_soundness_law.proofs.Leaves.{never}
 use Rattle.core_soundness_law.proofs.Programs.{facts_of}
 use Rattle.core_soundness_law.specs.Called.{is_called}
 use Rattle.slave_soundness_law.proofs.Hosts.{each_holds}
@@ -176,7 +176,7 @@ serve_for p models well serve = record {
     there f is = ap (λ b. if b then models f else no_model) is
 
     by_callee : (f : ℕ) (o : Option Signature) → IsTrue (callee_by true (monitor_program p) f o) → is_some o ≡ true
-    by_callee f None h = never h
+    by_callee f None h = false_not_true h
     by_callee f (Some s) h = refl
 
     signed_by : (f : ℕ) → IsTrue (is_called (monitor_program p) f) → is_some (signature_at (monitor_program p) f) ≡ true

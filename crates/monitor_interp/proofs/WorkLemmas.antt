@@ -3,6 +3,7 @@ use Rattle.std.proofs.Common.{◌≡◌, ◌∙◌, ◌+◌, ◌-◌, ◌<◌, �
 use Rattle.std.specs.Prelude.{ℤ, option_map}
 use Rattle.pt_base.specs.declared.span.Span.{Span}
 use Rattle.pt_base.specs.declared.trap.Trap.{Trap}
+use Rattle.pt_base.proofs.Numbers.{as_minus_self}
 use Rattle.pt_tree.specs.HostStep.{Answer, host_step}
 use Rattle.runs.specs.Run.{deepest}
 use Rattle.runs.specs.State.{Hosts, gives, out_event, put_host}
@@ -47,9 +48,6 @@ number_back : (o : Option ℤ) → o ≡ option_map number_in (number_cell o)
 number_back None = refl
 number_back (Some v) = refl
 
-none_left : (n : ℕ) → 0 ≡ n - n
-none_left n = omega arith
-
 no_more : (a b : ℕ) → a ≤ b → a ≤ b + 0
 no_more a b h = omega (arith, h)
 
@@ -69,7 +67,7 @@ works_host program task args most blocks hosts input x g0 g1 value at is =
     let told : wrote_first hosts input task.function.0 (map number_in args) ≡ (value, told_of g1) = told_answer program task.function.0 (map number_in args) hosts input g0 g1 value at.knows at.heard is in
     let a : Answer = host_step input (hosts task.function.0) (map number_in args) in (
       sym (ap (λ (p : Option ℤ × Written). p.0) told) ∙ number_back a.result,
-      none_left task.left,
+      as_minus_self task.left,
       record {
         taken = at.taken;
         limit = at.limit;

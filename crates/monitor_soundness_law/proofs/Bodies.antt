@@ -28,7 +28,6 @@ use Rattle.core_soundness_law.specs.Kept.{none}
 use Rattle.core_soundness_law.specs.Fits.{Fits, MemoryFits, AllFit}
 use Rattle.core_soundness_law.specs.Outside.{ArgumentsFit, GivenFits, own_params}
 use Rattle.core_soundness_law.specs.StepLaws.{AnswerFits, IsSameShape, NumberFits, StepFits}
-use Rattle.core_soundness_law.proofs.Leaves.{never}
 use Rattle.core_soundness_law.proofs.Programs.{ProgramFacts, facts_of}
 use Rattle.core_soundness_law.proofs.Shapes.{received_stay}
 use Rattle.core_soundness_law.proofs.Starting.{started_fits}
@@ -40,17 +39,17 @@ use Rattle.core_soundness_law.proofs.CalledKeeping.{steps_keep_called}
 use Rattle.core_soundness_law.proofs.CalledSteps.{started_call_own, steps_call_own}
 use Rattle.core_steps_law.specs.MachinesBodies.{body_frame, body_outcome, written_then, BodyIsSteps, IsOutcome}
 use Rattle.core_steps_law.proofs.MachinesBodies.{bodies_are_steps}
-use Rattle.slave_soundness_law.proofs.Hosts.{each_holds}
+use Rattle.slave_soundness_law.proofs.Hosts.{each_holds, number_fits}
 use Rattle.monitor_soundness_law.specs.Laws.{HostsFit, IsAtRest, LeavesNumbers, BodiesLeaveNumbers}
-use Rattle.monitor_soundness_law.proofs.Hosts.{number_fits, put_fits}
+use Rattle.monitor_soundness_law.proofs.Hosts.{put_fits}
 
 -- ---- the gate of bytes
 
-way_enters : (host : Bool) → (if host then here else enters) ≡ enters → host ≡ false
+pub way_enters : (host : Bool) → (if host then here else enters) ≡ enters → host ≡ false
 way_enters true e = cc
 way_enters false e = refl
 
-way_here : (host : Bool) → (if host then here else enters) ≡ here → host ≡ true
+pub way_here : (host : Bool) → (if host then here else enters) ≡ here → host ≡ true
 way_here true e = refl
 way_here false e = cc
 

@@ -4,6 +4,7 @@ use Rattle.std.specs.Prelude.{slice_index_or}
 use Rattle.std.proofs.lemmas.Bool.{cases_lt}
 use Rattle.std.proofs.lemmas.Bool.Decides.{nat_tests}
 use Rattle.pt_base.specs.declared.int_type.IntType.{IntType}
+use Rattle.pt_base.proofs.Numbers.{nat_eq_above, nat_eq_below, nat_eq_true, plus_suc_moved, plus_zero, zero_plus}
 use Rattle.block_memory.specs.declared.cell.Cell.{Cell}
 use Rattle.block_memory.specs.declared.cell.BlockName.{BlockName}
 use Rattle.block_memory.specs.declared.cell.BlockName.TheVariants.{Local, Global, Received}
@@ -22,34 +23,13 @@ use Rattle.monitor_soundness_law.specs.ServingLaws.{emptied}
 
 -- ---- numbers
 
-pub same_number : (m n : ℕ) → nat_eq m n ≡ true → m ≡ n
-same_number m n e = grind (arith, nat_tests)
-
-itself : (m n : ℕ) → m ≡ n → nat_eq m n ≡ true
-itself m n e = grind (arith, nat_tests)
-
-below : (m n : ℕ) → m < n → nat_eq m n ≡ false
-below m n lt = grind (arith, nat_tests)
-
-above : (m n : ℕ) → n < m → nat_eq m n ≡ false
-above m n lt = grind (arith, nat_tests)
-
 less : (m n : ℕ) → n < suc m → nat_eq m n ≡ false → n < m
 less m n lt e = grind (arith, nat_tests)
-
-pub plain : (n : ℕ) → 0 + n ≡ n
-plain n = omega arith
-
-plus_none : (n : ℕ) → n + 0 ≡ n
-plus_none n = omega arith
-
-one_on : (n i : ℕ) → n + suc i ≡ suc n + i
-one_on n i = omega arith
 
 -- ---- one block
 
 put_here : (x : Blocks) (k j : ℕ) (b : Block) → k ≡ j → put x (Received k) b (Received j) ≡ b
-put_here x k j b e = ap (λ t. if t then b else x (Received j)) (itself k j e)
+put_here x k j b e = ap (λ t. if t then b else x (Received j)) (nat_eq_true k j e)
 
 put_beside : (x : Blocks) (k j : ℕ) (b : Block) → nat_eq k j ≡ false → put x (Received k) b (Received j) ≡ x (Received j)
 put_beside x k j b e = ap (λ t. if t then b else x (Received j)) e
@@ -59,7 +39,7 @@ abbrev pub NoneFrom : ℕ → Blocks → Type 0
 NoneFrom k x = (j : ℕ) → k ≤ j → x (Received j) ≡ no_block
 
 none_behind : (k : ℕ) (x : Blocks) (b : Block) → NoneFrom k x → NoneFrom (suc k) (put x (Received k) b)
-none_behind k x b none_at j le = put_beside x k j b (below k j (omega (arith, le))) ∙ none_at j (omega (arith, le))
+none_behind k x b none_at j le = put_beside x k j b (nat_eq_below k j (omega (arith, le))) ∙ none_at j (omega (arith, le))
 
 -- ---- the blocks of a call
 
@@ -67,21 +47,21 @@ brought_below : (k : ℕ) (tss : List (List IntType)) (css : List (List Cell)) (
 brought_below k [] css x j lt = refl
 brought_below k (ts ∷ tss) [] x j lt = refl
 brought_below k (ts ∷ tss) (cs ∷ css) x j lt =
-    brought_below (suc k) tss css (put x (Received k) (record { types = ts; cells = cs })) j (omega (arith, lt)) ∙ put_beside x k j (record { types = ts; cells = cs }) (above k j lt)
+    brought_below (suc k) tss css (put x (Received k) (record { types = ts; cells = cs })) j (omega (arith, lt)) ∙ put_beside x k j (record { types = ts; cells = cs }) (nat_eq_above k j lt)
 
 types_from : (k : ℕ) (tss : List (List IntType)) (css : List (List Cell)) (x : Blocks) (i : ℕ) → AllHold tss css → NoneFrom k x → (with_brought k tss css x (Received (k + i))).types ≡ slice_index_or tss i []
 types_from k [] css x i holds none_at = ap (λ (b : Block). b.types) (none_at (k + i) (omega arith))
 types_from k (ts ∷ tss) [] x i holds none_at = elim holds [ ]
 types_from k (ts ∷ tss) (cs ∷ css) x zero holds none_at =
-    ap (λ (n : ℕ). (with_brought (suc k) tss css (put x (Received k) (record { types = ts; cells = cs })) (Received n)).types) (plus_none k)
+    ap (λ (n : ℕ). (with_brought (suc k) tss css (put x (Received k) (record { types = ts; cells = cs })) (Received n)).types) (plus_zero k)
     ∙ ap (λ (b : Block). b.types) (brought_below (suc k) tss css (put x (Received k) (record { types = ts; cells = cs })) k (omega arith) ∙ put_here x k k (record { types = ts; cells = cs }) refl)
 types_from k (ts ∷ tss) (cs ∷ css) x (suc i) holds none_at =
-    ap (λ (n : ℕ). (with_brought (suc k) tss css (put x (Received k) (record { types = ts; cells = cs })) (Received n)).types) (one_on k i)
+    ap (λ (n : ℕ). (with_brought (suc k) tss css (put x (Received k) (record { types = ts; cells = cs })) (Received n)).types) (plus_suc_moved k i)
     ∙ types_from (suc k) tss css (put x (Received k) (record { types = ts; cells = cs })) i holds.1 (none_behind k x (record { types = ts; cells = cs }) none_at)
 
 -- each has its types
 pub brought_types : (tss : List (List IntType)) (css : List (List Cell)) (x : Blocks) → AllHold tss css → NoneFrom 0 x → (k : ℕ) → (with_brought 0 tss css x (Received k)).types ≡ slice_index_or tss k []
-brought_types tss css x holds none_at k = ap (λ (n : ℕ). (with_brought 0 tss css x (Received n)).types) (sym (plain k)) ∙ types_from 0 tss css x k holds none_at
+brought_types tss css x holds none_at k = ap (λ (n : ℕ). (with_brought 0 tss css x (Received n)).types) (sym (zero_plus k)) ∙ types_from 0 tss css x k holds none_at
 
 -- there are no more
 none_from : (k : ℕ) (tss : List (List IntType)) (css : List (List Cell)) (x : Blocks) (j : ℕ) → k + length tss ≤ j → NoneFrom k x → with_brought k tss css x (Received j) ≡ no_block
@@ -132,7 +112,7 @@ emptied_none k zero x j before behind = go (cases_lt j k)
     go (inl lt) = before lt
     go (inr le) = behind (omega (arith, le))
 emptied_none k (suc n) x j before behind =
-    emptied_none (suc k) n (put x (Received k) no_block) j (λ lt. gone lt (nat_eq k j) refl) (λ le. put_beside x k j no_block (below k j (omega (arith, le))) ∙ behind (omega (arith, le)))
+    emptied_none (suc k) n (put x (Received k) no_block) j (λ lt. gone lt (nat_eq k j) refl) (λ le. put_beside x k j no_block (nat_eq_below k j (omega (arith, le))) ∙ behind (omega (arith, le)))
   where
     gone : j < suc k → (t : Bool) → nat_eq k j ≡ t → (if t then no_block else x (Received j)) ≡ no_block
     gone lt true e = refl

@@ -1,6 +1,7 @@
 -- Hosts that may be asked for go on fitting, and the input stays.
 use Rattle.std.proofs.Common.{◌≡◌, ◌∙◌, ◌≤◌, ◌<◌, ◌-◌, ℕ, zero, suc, ℤ, nat_eq, refl, ap, sym, subst, arith, List, [], Option, None, Bool, true, false, map}
 use Rattle.std.specs.Prelude.{IsTrue, All, if◌then◌else◌}
+use Rattle.pt_base.proofs.Numbers.{nat_eq_same}
 use Rattle.pt_tree.specs.HostStep.{host_step}
 use Rattle.runs.specs.Run.{deepest}
 use Rattle.runs.specs.State.{Hosts, gives, put_host}
@@ -24,14 +25,13 @@ use Rattle.core_soundness_law.proofs.CalledSteps.{started_call_own, steps_call_o
 use Rattle.core_steps_law.specs.MachinesBodies.{body_frame, body_outcome, written_then, BodyIsSteps, IsOutcome}
 use Rattle.core_steps_law.proofs.MachinesBodies.{bodies_are_steps}
 use Rattle.monitor_soundness_law.specs.ServingSound.{AskedFit}
-use Rattle.monitor_soundness_law.proofs.ServingBlocks.{same_number}
 
 -- what stands for a host behind an answer may do so too
 pub put_asked : (p : MonitorTree) (hosts : Hosts) (f : ℕ) (input : List ℕ) (numbers : List ℤ) → AskedFit p hosts → All (λ b. b < 256) input → AskedFit p (put_host hosts f (host_step input (hosts f) numbers).next)
 put_asked p hosts f input numbers old bytes k sig entry host = go (nat_eq k f) refl
   where
     go : (b : Bool) → nat_eq k f ≡ b → IsTrue (fits (if b then (host_step input (hosts f) numbers).next else hosts k) sig)
-    go true e = (fits_in_range input (hosts f) numbers sig bytes (subst (λ n. IsTrue (fits (hosts n) sig)) (same_number k f e) (old k sig entry host))).next
+    go true e = (fits_in_range input (hosts f) numbers sig bytes (subst (λ n. IsTrue (fits (hosts n) sig)) (nat_eq_same k f e) (old k sig entry host))).next
     go false e = old k sig entry host
 
 -- ---- steps

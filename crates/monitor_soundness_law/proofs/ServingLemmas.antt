@@ -3,11 +3,12 @@ use Rattle.std.proofs.Common.{◌≡◌, ◌∙◌, ◌+◌, ◌-◌, ◌≤◌,
 use Rattle.std.specs.Prelude.{IsTrue, ◌&&◌, if◌then◌else◌, nat_eq, nat_le, option_map, slice_index_or, take}
 use Rattle.std.proofs.lemmas.Bool.Decides.{nat_tests}
 use Rattle.std.proofs.lemmas.List.{length-map}
+use Rattle.pt_base.proofs.Booleans.{both_hold_first, both_hold_second, if_false_holds}
+use Rattle.pt_base.proofs.Numbers.{at_most_holds}
 use Rattle.pt_tree.specs.HostStep.{Answer, host_step}
 use Rattle.pt_tree.specs.declared.signature.Param.{Param}
 use Rattle.pt_tree.specs.declared.signature.Signature.{Signature}
 use Rattle.typed_tree.specs.declared.types.StructInfo.{StructInfo}
-use Rattle.typed_tree.proofs.WellFormedLemmas.{and_left, and_right}
 use Rattle.runs.specs.Run.{deepest}
 use Rattle.runs.specs.State as r
 use Rattle.runs.specs.State.{gives}
@@ -141,18 +142,11 @@ host_left m call left v st sound opened host is =
 low_depth : (d : ℕ) → IsTrue (nat_le 2 d) → 1 ≤ d
 low_depth d h = grind (arith, nat_tests)
 
-high_depth : (d n : ℕ) → IsTrue (nat_le d n) → d ≤ n
-high_depth d n h = grind (arith, nat_tests)
-
-function_depth : (host : Bool) (a b : Bool) → host ≡ false → IsTrue (if host then a else b) → IsTrue b
-function_depth true a b e h = cc
-function_depth false a b e h = h
-
 function_left : (m : Monitor) (call : Admitted) (left : ℕ) (v : Option Cell) (st : State) → IsSound m → IsOpened m call → call.signature.host ≡ false →
     function_work (program_of m) call (inputs_of m call).args (state_of m call left) ≡ gives v st → Left m call v st
 function_left m call left v st sound opened plain is =
     let facts : EntryFacts (program_of m) call.function call.signature = facts_for m call sound opened in
-    let deep : IsTrue (nat_le 2 call.depth && nat_le call.depth deepest) = function_depth call.signature.host (nat_eq call.depth 0) (nat_le 2 call.depth && nat_le call.depth deepest) plain opened.depth in
+    let deep : IsTrue (nat_le 2 call.depth && nat_le call.depth deepest) = if_false_holds call.signature.host (nat_eq call.depth 0) (nat_le 2 call.depth && nat_le call.depth deepest) plain opened.depth in
     let all : ArgumentsFit none m.program.structs (before_of m call) 0 call.signature.params (inputs_of m call).args = (inputs_for m call sound opened).args (before_of m call) (before_types m call sound opened) in
     let own : ArgumentsFit none m.program.structs (before_of m call) 0 (own_params (program_of m) call.function) (take (function_in (program_of m) call.function).params (inputs_of m call).args) =
     subst (λ (s : Signature). ArgumentsFit none m.program.structs (before_of m call) 0 (take (function_in (program_of m) call.function).params s.params) (take (function_in (program_of m) call.function).params (inputs_of m call).args))
@@ -160,8 +154,8 @@ function_left m call left v st sound opened plain is =
     let heard = body_heard m.program call.function call.depth (take (function_in (program_of m) call.function).params (inputs_of m call).args) (before_of m call) m.hosts m.input left v st sound.rest.bytes sound.asked is in
     record {
       leaves = bodies_leave_numbers (program_of m) true call.function call.depth (take (function_in (program_of m) call.function).params (inputs_of m call).args) (before_of m call) m.hosts m.input left v st
-          (rest_before m call sound opened) (facts.known plain) (low_depth call.depth (and_left (nat_le 2 call.depth) (nat_le call.depth deepest) deep))
-          (high_depth call.depth deepest (and_right (nat_le 2 call.depth) (nat_le call.depth deepest) deep)) own is;
+          (rest_before m call sound opened) (facts.known plain) (low_depth call.depth (both_hold_first (nat_le 2 call.depth) (nat_le call.depth deepest) deep))
+          (at_most_holds call.depth deepest (both_hold_second (nat_le 2 call.depth) (nat_le call.depth deepest) deep)) own is;
       asked = heard.0;
       input = heard.1;
     }

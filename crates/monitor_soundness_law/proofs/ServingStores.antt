@@ -3,6 +3,7 @@ use Rattle.std.proofs.Common.{◌≡◌, ◌∙◌, ℕ, suc, sym, subst, List, 
 use Rattle.std.specs.Prelude.{ℤ, option_to_list}
 use Rattle.std.proofs.lemmas.List.{length-map}
 use Rattle.std.proofs.lemmas.List.Elements.{All-append, All-cons, All-nil}
+use Rattle.marshalling_law.proofs.FittingLemmas.{number_fits}
 use Rattle.pt_base.specs.declared.int_type.IntType.{IntType}
 use Rattle.pt_base.specs.IntTypes.{InRange}
 use Rattle.pt_tree.specs.declared.signature.Signature.{Signature}
@@ -17,7 +18,7 @@ use Rattle.marshalling.specs.declared.crossing.Crossing.{Crossing}
 use Rattle.marshalling.specs.declared.crossing.Crossing.TheVariants.{Stays, Plain, Sealed}
 use Rattle.marshalling.specs.Crossings.{crossing_of, result_crossing}
 use Rattle.marshalling.specs.Handles.{Entries}
-use Rattle.marshalling.specs.Replies.{AreServed, HoldNumbers, HoldsNumber, IsResult, kept, kept_by, kept_results, number_in, places_from, places_of, received, result_places, types_in}
+use Rattle.marshalling.specs.Replies.{AreServed, HoldNumbers, IsResult, kept, kept_by, kept_results, number_in, places_from, places_of, received, result_places, types_in}
 use Rattle.marshalling.proofs.ReplyLemmas.{holds_length, kept-append, length-places_from}
 
 abbrev InRanges : IntType × ℤ → Type 0
@@ -28,18 +29,13 @@ one_ranged Stays t v h = All-nil InRanges
 one_ranged Plain t v h = All-nil InRanges
 one_ranged Sealed t v h = All-cons InRanges (t, v) [] h (All-nil InRanges)
 
-number_of : (t : IntType) (c : Cell) → HoldsNumber t c → InRange t (number_in c)
-number_of t (cell.Int v) h = h
-number_of t (cell.Ptr p) h = elim h [ ]
-number_of t (cell.Sealed s) h = elim h [ ]
-
 places_ranged : (crossing : ℕ → ℕ → Crossing) (k i : ℕ) (types : List IntType) (cells : List Cell) → HoldNumbers types cells → AreInRange (kept (places_from crossing k i types) (map number_in cells))
 places_ranged crossing k i [] [] h = All-nil InRanges
 places_ranged crossing k i [] (c ∷ cells) h = elim h [ ]
 places_ranged crossing k i (t ∷ types) [] h = elim h [ ]
 places_ranged crossing k i (t ∷ types) (c ∷ cells) h =
     All-append InRanges (kept_by (crossing k i) t (number_in c)) (kept (places_from crossing k (suc i) types) (map number_in cells))
-    (one_ranged (crossing k i) t (number_in c) (number_of t c h.0)) (places_ranged crossing k (suc i) types cells h.1)
+    (one_ranged (crossing k i) t (number_in c) (number_fits t c h.0)) (places_ranged crossing k (suc i) types cells h.1)
 
 blocks_ranged : (crossing : ℕ → ℕ → Crossing) (z : Blocks) (k : ℕ) (tss : List (List IntType)) → AreServed z k tss → AreInRange (kept (places_of crossing k tss) (received z k tss))
 blocks_ranged crossing z k [] h = All-nil InRanges

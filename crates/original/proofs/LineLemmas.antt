@@ -1,5 +1,6 @@
 -- The lines that answers hold are those of the texts' faults.
-use Rattle.std.proofs.Common.{◌≡◌, ◌≢◌, ℕ, List, [], Some, None, Err}
+use Rattle.std.proofs.Common.{◌≡◌, ◌≢◌, ℕ, List, [], Some, Err}
+use Rattle.pt_base.proofs.Options.{none_not_some_bytes, some_same_bytes_turned}
 use Rattle.typed_tree.specs.TypedTree.{TypedTree, signatures_of}
 use Rattle.front_end.specs.declared.error.FrontError.{FrontError}
 use Rattle.front_end.specs.declared.error.FrontError.TheVariants.{Lex, Parse, Types, Memory}
@@ -11,17 +12,11 @@ use Rattle.host_lines.specs.HostLines.{host_lines}
 use Rattle.original.specs.Original.{Texts, lex, parse, types, host}
 use Rattle.original.specs.OutcomeSeen.{AreLinesOf}
 
-some_is : (a b : List ℕ) → Some a ≡ Some b → b ≡ a
-some_is a b e = cc
-
-some_none : (a : List ℕ) → None ≡ Some a → ⊥
-some_none a e = cc
-
 pub front_are : (t : Texts) (error : FrontError) (lines : List ℕ) → Reads t.program (Err error) → front_lines error ≡ Some lines → AreLinesOf t lines
-front_are t (Lex fault) lines reads is = record { refusal = lex fault; is = reads; lines_are = some_is _ _ is }
-front_are t (Parse fault) lines reads is = record { refusal = parse fault; is = reads; lines_are = some_is _ _ is }
-front_are t (Types faults) lines reads is = record { refusal = types faults.items; is = reads; lines_are = some_is _ _ is }
-front_are t Memory lines reads is = absurd (some_none lines is)
+front_are t (Lex fault) lines reads is = record { refusal = lex fault; is = reads; lines_are = some_same_bytes_turned _ _ is }
+front_are t (Parse fault) lines reads is = record { refusal = parse fault; is = reads; lines_are = some_same_bytes_turned _ _ is }
+front_are t (Types faults) lines reads is = record { refusal = types faults.items; is = reads; lines_are = some_same_bytes_turned _ _ is }
+front_are t Memory lines reads is = absurd (none_not_some_bytes lines is)
 
 pub host_are : (t : Texts) (tree : TypedTree) (faults : List HostFault) (lines : List ℕ) → HasTypedTree t.program tree
     → faults ≡ host_faults t.host (signatures_of tree) → faults ≢ [] → lines ≡ host_lines tree faults → AreLinesOf t lines

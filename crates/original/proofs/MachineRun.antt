@@ -25,6 +25,7 @@ use Rattle.core_machine.specs.States.{answer_of}
 use Rattle.core_machine.specs.Stops.{MovesOn}
 use Rattle.lowering.specs.Functions.{core_program}
 use Rattle.c_lower_law.specs.Statements.{LoweringKeepsTheRun}
+use Rattle.c_lower_law.proofs.MainRuns.{core_main}
 use Rattle.core_steps_law.specs.GatesLaws.{BytesAreTheRuns, HasRun}
 use Rattle.core_steps_law.specs.GatesShown.{step_shown}
 use Rattle.core_steps_law.specs.GatesWritten.{Written, bytes_after, bytes_gate}
@@ -34,7 +35,6 @@ use Rattle.original.specs.MachineRunHostGates.{AreOf, heard_answer, heard_of, he
 use Rattle.original.specs.MachineRunRunTold.{IsOfARun}
 use Rattle.original.proofs.MachineRunEndLemmas.{bytes_of_a_run}
 use Rattle.original.proofs.MachineRunGateLemmas.{heard_shows, told_first}
-use Rattle.original.proofs.MachineRunMarkLemmas.{main_is}
 
 -- what is told of a run, in parts
 pub record Told (run : Run) (bytes : List ℕ) (end : End) (turns : ℕ) : Type 0 where
@@ -90,7 +90,7 @@ pub made_steps : (t : TypedTree) (hosts : Hosts) (turns main : ℕ) → function
 made_steps t hosts turns main named code lowered x0 x1 x2 made entered g0 g1 begins answer most left stops runs =
     let rests : Shown (core_program t) x0 (s.at_rest (core_program t) turns) = subst (λ (p : ProgramTree). Shown p x0 (s.at_rest p turns)) lowered made in
     let starts : Shown (core_program t) x1 (begun_machine (core_program t) turns) =
-    subst (λ (f : ℕ). Shown (core_program t) x1 (s.started (core_program t) false f 1 [] (s.at_rest (core_program t) turns))) (sym (main_is t main named)) (entered (core_program t) false (s.at_rest (core_program t) turns) rests) in
+    subst (λ (f : ℕ). Shown (core_program t) x1 (s.started (core_program t) false f 1 [] (s.at_rest (core_program t) turns))) (sym (core_main t main named)) (entered (core_program t) false (s.at_rest (core_program t) turns) rests) in
     let ran' = runs (core_program t) (begun_machine (core_program t) turns) starts in
     record {
       many = ran'.0;

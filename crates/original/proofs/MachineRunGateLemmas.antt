@@ -4,6 +4,7 @@ use Rattle.std.specs.Prelude.{ℤ, pos}
 use Rattle.std.specs.List.{range_with_len}
 use Rattle.std.proofs.lemmas.List.{get_or-set_same, get_or-set_other, get_or_past, set_past, ext_get_or}
 use Rattle.std.proofs.lemmas.List.FromFn.{length-map-range_with_len, get_or-map-range_with_len}
+use Rattle.pt_base.proofs.Numbers.{nat_eq_same, nat_eq_true}
 use Rattle.pt_tree.specs.declared.host_model.HostModel.{HostModel}
 use Rattle.pt_tree.specs.HostStep.{Answer, host_step}
 use Rattle.runs.specs.Run.{written}
@@ -17,7 +18,6 @@ use Rattle.core_machine.specs.Gates.{gate_of}
 use Rattle.lowering.specs.Functions.{core_program}
 use Rattle.core_steps_law.specs.GatesShown.{Shows}
 use Rattle.core_steps_law.specs.GatesWritten.{begun_written, bytes_gate}
-use Rattle.c_lower_law.proofs.Memories.{is_same, same_number}
 use Rattle.original.specs.MachineRunHeard.{Heard}
 use Rattle.original.specs.MachineRunHostGates.{heard, heard_answer, heard_of, heard_way, marks_of, model_in, told_of}
 use Rattle.original.proofs.MachineRunMarkLemmas.{mark_is}
@@ -35,8 +35,8 @@ same_or_other a b = go (nat_eq a b) refl
     not_both n y = cc
 
     go : (t : Bool) → nat_eq a b ≡ t → SameOrOther a b
-    go true e = inl (e, same_number a b e)
-    go false e = inr (e, λ same. not_both e (is_same a b same))
+    go true e = inl (e, nat_eq_same a b e)
+    go false e = inr (e, λ same. not_both e (nat_eq_true a b same))
 
 past_or_within : (ms : List HostModel) (f : ℕ) → (f < length ms) ⊎ (length ms ≤ f)
 past_or_within [] f = inr (omega arith)

@@ -5,6 +5,7 @@ use Rattle.std.specs.List.{flat_map, list_any}
 use Rattle.std.proofs.lemmas.Bool.Decides.{nat_tests}
 use Rattle.std.proofs.lemmas.List.{append-nil, map-append}
 use Rattle.std.proofs.lemmas.List.Folds.{list_any-append}
+use Rattle.pt_base.proofs.Booleans.{or_with_false}
 use Rattle.pt_tree.specs.declared.signature.Elem.{Elem}
 use Rattle.pt_tree.specs.declared.signature.Elem.TheVariants as e
 use Rattle.typed_tree.specs.declared.types.Field.{Field}
@@ -46,16 +47,12 @@ seen_under false xs = λ i. record { some = some_under false xs i; marked = none
 
 -- ---- so many elements
 
-or_false : (a : Bool) → (a || false) ≡ a
-or_false true = refl
-or_false false = refl
-
 or_same : (a : Bool) → (a || a) ≡ a
 or_same true = refl
 or_same false = refl
 
 both_none : (c : Cells) → both c no_cells ≡ c
-both_none c = λ i. record { some = or_false c.some i; marked = or_false c.marked i }
+both_none c = λ i. record { some = or_with_false c.some i; marked = or_with_false c.marked i }
 
 both_same : (c : Cells) → both c c ≡ c
 both_same c = λ i. record { some = or_same c.some i; marked = or_same c.marked i }

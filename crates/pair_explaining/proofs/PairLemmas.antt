@@ -1,6 +1,7 @@
 -- What the stages answer is what explaining a pair comes to.
-use Rattle.std.proofs.Common.{◌≡◌, ◌∙◌, ℕ, List, Some, None, Result, Ok, Err, MatchResult, ap, subst}
+use Rattle.std.proofs.Common.{◌≡◌, ◌∙◌, ℕ, List, Some, Result, Ok, Err, MatchResult, ap, subst}
 use Rattle.std.specs.List.{flat_map}
+use Rattle.pt_base.proofs.Options.{none_not_some_bytes, some_same_bytes_turned}
 use Rattle.front_end.specs.declared.error.FrontError.{FrontError}
 use Rattle.front_end.specs.declared.error.FrontError.TheVariants.{Lex, Parse, Types, Memory}
 use Rattle.front_end.specs.Reading.{HasTypedTree, Reads, typed_tree}
@@ -36,18 +37,12 @@ use Rattle.pair_explaining.specs.PolicyBlocks.{policy_block}
 
 -- ---- lexer, parser and types
 
-some_is : (a b : List ℕ) → Some a ≡ Some b → b ≡ a
-some_is a b e = cc
-
-some_none : (a : List ℕ) → None ≡ Some a → ⊥
-some_none a e = cc
-
 pub error_told : (names : Names) (t : Texts) (error : FrontError) (report : List ℕ) → Reads t.program (Err error)
     → error_blocks names.program t.program error ≡ Some report → ExplainsPair names t report
-error_told names t (Lex fault) report reads is = record { refusal = lex fault; refused = reads; blocks = some_is _ _ is }
-error_told names t (Parse fault) report reads is = record { refusal = parse fault; refused = reads; blocks = some_is _ _ is }
-error_told names t (Types faults) report reads is = record { refusal = types faults.items; refused = reads; blocks = some_is _ _ is }
-error_told names t Memory report reads is = absurd (some_none report is)
+error_told names t (Lex fault) report reads is = record { refusal = lex fault; refused = reads; blocks = some_same_bytes_turned _ _ is }
+error_told names t (Parse fault) report reads is = record { refusal = parse fault; refused = reads; blocks = some_same_bytes_turned _ _ is }
+error_told names t (Types faults) report reads is = record { refusal = types faults.items; refused = reads; blocks = some_same_bytes_turned _ _ is }
+error_told names t Memory report reads is = absurd (none_not_some_bytes report is)
 
 -- ---- host tables
 

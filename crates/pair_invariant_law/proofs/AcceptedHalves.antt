@@ -1,14 +1,17 @@
 -- The halves of an accepted program are halves of it.
-use Rattle.std.proofs.Common.{◌≡◌, ◌∙◌, ℕ, refl, ap, sym, subst, ◌⊎◌, inl, inr, Bool, true, false, not, Option, Some, List, [], ◌∷◌, ◌++◌, length, take}
+use Rattle.std.proofs.Common.{◌≡◌, ◌∙◌, ℕ, refl, ap, sym, subst, ◌⊎◌, inl, inr, Bool, true, false, not, Option, Some, List, ◌++◌, length, take}
 use Rattle.std.specs.Prelude.{IsTrue, ◌&&◌, ◌||◌, is_some, slice_get, unwrap_or}
 use Rattle.std.specs.List.{Contains}
 use Rattle.std.proofs.lemmas.List.Elements.{Contains-append_cases, Contains-append_left, Contains-append_right}
+use Rattle.pt_base.proofs.Booleans.{both_hold, both_hold_first, false_not_true, or_without_and}
+use Rattle.pt_base.proofs.Options.{some_same}
+use Rattle.pt_base.proofs.Places.{take_whole}
 use Rattle.pt_tree.specs.declared.signature.Signature.{Signature}
 use Rattle.host_models.specs.Mixed.{is_mixed}
 use Rattle.typed_tree.specs.StatementTree.{BodyTree}
 use Rattle.typed_tree.specs.TypedTree.{TypedTree, FunctionTree}
 use Rattle.typed_tree.specs.WellFormed.{is_well_formed}
-use Rattle.typed_tree.proofs.WellFormedLemmas.{Facts, and_both, and_left, facts_of}
+use Rattle.typed_tree.proofs.WellFormedLemmas.{Facts, facts_of}
 use Rattle.reach.specs.Contexts.{Calls}
 use Rattle.flow_rules.specs.declared.accepted.Accepted.{Accepted}
 use Rattle.flow_rules.specs.Faults.{IsAccepted}
@@ -25,18 +28,17 @@ use Rattle.lowered_code_law.specs.NamesLaws.{LoweredNames}
 use Rattle.splitter.specs.Halves.{Halves, asked, called_by, entry_numbers, halves_of, is_among, monitor_code, monitor_entries}
 use Rattle.splitter.proofs.SetLemmas.{among_from, among_has}
 use Rattle.split_law.specs.Laws.{AcceptedShareNothing, AreHalves, MonitorsAreWellFormed, SharesNothing, SlavesAreWellFormed}
-use Rattle.split_law.proofs.Chosen.{never}
 use Rattle.split_law.proofs.LoweredCode.{body_there, sound_at}
 use Rattle.split_law.proofs.Monitors as monitors_of
-use Rattle.split_law.proofs.Parts.{part}
+use Rattle.split_law.proofs.Parts.{part, same_signature}
 use Rattle.split_law.proofs.Slaves as slaves_of
 use Rattle.core_soundness_law.specs.Outside.{own_params}
 use Rattle.part_views_law.specs.StepsParts.{HasSignature}
 use Rattle.pair_invariant_law.specs.Halves.{AreHalvesOf, is_asked_for}
 use Rattle.pair_invariant_law.specs.AcceptedLaws.{AcceptedHalves, monitor_half, slave_half}
 use Rattle.pair_invariant_law.proofs.AcceptedEntries.{called_from, code, entry_from, entry_has, is_asked}
-use Rattle.pair_invariant_law.proofs.AcceptedMembers.{each_at, said_of, same_item, some_is}
-use Rattle.pair_invariant_law.proofs.AcceptedParted.{IsNamed, called_there, function_kept, is_part, is_signed, named_in, same_signature, share_none, signature_same}
+use Rattle.pair_invariant_law.proofs.AcceptedMembers.{each_at, said_of, some_is}
+use Rattle.pair_invariant_law.proofs.AcceptedParted.{IsNamed, called_there, function_kept, is_part, is_signed, named_in, share_none, signature_same}
 use Rattle.pair_invariant_law.proofs.AcceptedRules.{IsMain, body_no_host, code_calls, main_in_slave, main_number, main_of, monitor_has_body, monitor_hosts, part_main, privileged_monitor, slave_is_plain, start_has_body}
 
 -- ---- what is known
@@ -77,12 +79,12 @@ pub record IsKnown (t : TypedTree) (a : Accepted) : Type 0 where
 
 slave_is_sound : SlavesAreWellFormed → (t : TypedTree) (a : Accepted) → IsTrue (is_well_formed t) → AreHalves t (halves a) → IsTrue (is_sound false (the_slave t a))
 unfolding well.is_well_formed_slave well.is_well_formed
-slave_is_sound slaves t a given are = and_left (is_sound false (the_slave t a)) (has_main (the_slave t a)) (slaves t (halves a) given are)
+slave_is_sound slaves t a given are = both_hold_first (is_sound false (the_slave t a)) (has_main (the_slave t a)) (slaves t (halves a) given are)
 
 monitor_is_sound : MonitorsAreWellFormed → (t : TypedTree) (a : Accepted) → IsTrue (is_well_formed t) → AreHalves t (halves a) → SharesNothing t → IsTrue (is_sound true (the_monitor t a))
 unfolding well.is_well_formed_monitor
 monitor_is_sound monitors t a given are apart =
-    and_left (is_sound true (the_monitor t a)) (entries_fit (the_monitor t a) (monitor_entries t (halves a) (code t))) (monitors t (halves a) given are apart)
+    both_hold_first (is_sound true (the_monitor t a)) (entries_fit (the_monitor t a) (monitor_entries t (halves a) (code t))) (monitors t (halves a) given are apart)
 
 pub known_of : AcceptedShareNothing → SlavesAreWellFormed → MonitorsAreWellFormed → LoweredNames → (t : TypedTree) (a : Accepted) → IsTrue (is_well_formed t) → IsAccepted t a → IsKnown t a
 known_of shares slaves monitors names t a given accepted =
@@ -177,26 +179,26 @@ asked_there t a known f has outer = go (slave_cases t a f (is_signed (core_progr
 
     neither : (priv host : Bool) → priv ≡ false → host ≡ false → (priv || host) ≡ false
     neither false host p h = h
-    neither true host p h = never (sym p)
+    neither true host p h = false_not_true (sym p)
 
     go : Contains (asked (halves a) (code t)) f ⊎ Contains (halves a).slave f → Contains (asked (halves a) (code t)) f
     go (inl c) = c
     go (inr c) =
         let y = slave_is_plain t a known.given known.accepted (record { 0 = f }) ((known.are.slave f).0 c) in
-        let same : y.0.signature ≡ signature_in (the_slave t a) f = ap (λ (z : FunctionTree). z.signature) (same_item y.0 x.function (sym y.1 ∙ x.is)) ∙ sym x.same in
-        never (sym (neither y.0.signature.privileged y.0.signature.host y.3 (body_no_host t f y.0 known.facts.functions y.1 y.2)) ∙ ap (λ (s : Signature). s.privileged || s.host) same ∙ outer)
+        let same : y.0.signature ≡ signature_in (the_slave t a) f = ap (λ (z : FunctionTree). z.signature) (some_same y.0 x.function (sym y.1 ∙ x.is)) ∙ sym x.same in
+        false_not_true (sym (neither y.0.signature.privileged y.0.signature.host y.3 (body_no_host t f y.0 known.facts.functions y.1 y.2)) ∙ ap (λ (s : Signature). s.privileged || s.host) same ∙ outer)
 
 -- what may be asked for is such
 outer_of : (priv host mixed : Bool) → (priv || (host && mixed)) ≡ true → (priv || host) ≡ true
 outer_of true host mixed h = refl
 outer_of false true mixed h = refl
-outer_of false false mixed h = never h
+outer_of false false mixed h = false_not_true h
 
 -- so it is an entry
 entry_there : (t : TypedTree) (a : Accepted) → IsKnown t a → (f : ℕ) → HasSignature (the_slave t a) f → is_asked_for (signature_in (the_slave t a) f) ≡ true → Contains (entry_numbers (monitor_entries t (halves a) (code t))) f
 entry_there t a known f has wanted =
     let x = slave_named t a f has in
-    entry_has t (halves a) f x.function x.is (and_both (is_asked_for x.function.signature) (is_asked t (halves a) f) (ap is_asked_for (sym x.same) ∙ wanted) (among_has (asked (halves a) (code t)) f (asked_there t a known f has (outer_of (signature_in (the_slave t a) f).privileged (signature_in (the_slave t a) f).host (is_mixed (signature_in (the_slave t a) f)) wanted))))
+    entry_has t (halves a) f x.function x.is (both_hold (is_asked_for x.function.signature) (is_asked t (halves a) f) (ap is_asked_for (sym x.same) ∙ wanted) (among_has (asked (halves a) (code t)) f (asked_there t a known f has (outer_of (signature_in (the_slave t a) f).privileged (signature_in (the_slave t a) f).host (is_mixed (signature_in (the_slave t a) f)) wanted))))
 
 -- ---- the monitor
 
@@ -214,12 +216,6 @@ privileged_here : (t : TypedTree) (a : Accepted) → IsKnown t a → (f : ℕ) (
 privileged_here t a known f x is host priv =
     let body = body_there t x (sound_at t t.functions f x known.facts.functions is) host in
     (body.0, monitor_has t a f x body.0 ((known.are.monitor f).1 (privileged_monitor t f x is (ap is_some body.1) priv)) is body.1)
-
--- what may be asked for and is no host is privileged
-is_privileged : (priv host mixed : Bool) → host ≡ false → (priv || (host && mixed)) ≡ true → priv ≡ true
-is_privileged true host mixed h e = refl
-is_privileged false false mixed h e = e
-is_privileged false true mixed h e = never (sym h)
 
 monitor_own : (t : TypedTree) (a : Accepted) → IsKnown t a → (f : ℕ) → HasSignature (the_monitor t a) f → (signature_in (the_monitor t a) f).host ≡ false → IsTrue (is_some (function_at (the_monitor t a) f))
 monitor_own t a known f has host = go (monitor_cases t a f (is_signed (core_program t) (signed_monitor t a) (kept_monitor a) (λ n. not (owned a n)) f has))
@@ -241,8 +237,8 @@ monitor_own t a known f has host = go (monitor_cases t a f (is_signed (core_prog
         ap is_some (monitor_has t a f x.function body.0 c x.is body.1)
     go (is_entered c) =
         let e = entry_from t (halves a) f c in
-        let host' : e.0.signature.host ≡ false = ap (λ (z : FunctionTree). z.signature.host) (same_item e.0 x.function (sym e.1 ∙ x.is)) ∙ plain in
-        ap is_some (privileged_here t a known f e.0 e.1 host' (is_privileged e.0.signature.privileged e.0.signature.host (is_mixed e.0.signature) host' (and_left (is_asked_for e.0.signature) (is_asked t (halves a) f) e.2))).1
+        let host' : e.0.signature.host ≡ false = ap (λ (z : FunctionTree). z.signature.host) (some_same e.0 x.function (sym e.1 ∙ x.is)) ∙ plain in
+        ap is_some (privileged_here t a known f e.0 e.1 host' (or_without_and e.0.signature.privileged e.0.signature.host (is_mixed e.0.signature) host' (both_hold_first (is_asked_for e.0.signature) (is_asked t (halves a) f) e.2))).1
 
 -- a host of the monitor's may be asked for
 hosts_asked : (t : TypedTree) (a : Accepted) → IsKnown t a → (f : ℕ) → HasSignature (the_monitor t a) f → (signature_in (the_monitor t a) f).host ≡ true → is_asked_for (signature_in (the_monitor t a) f) ≡ true
@@ -261,23 +257,19 @@ hosts_asked t a known f has host = ap is_asked_for x.same ∙ go (monitor_cases 
         (each_at (λ (z : core.FunctionTree). (n : ℕ) → Contains (callees_of z.body) n → Calls t (record { 0 = z.id }) (record { 0 = n })) (code t) g.0 (code_calls known.names t) g.1 f g.3) x.is is_host
     go (is_kept c) =
         let y = monitor_has_body t (record { 0 = f }) ((known.are.monitor f).0 c) in
-        never (sym (body_no_host t f y.0 known.facts.functions y.1 y.2) ∙ ap (λ (z : FunctionTree). z.signature.host) (same_item y.0 x.function (sym y.1 ∙ x.is)) ∙ is_host)
+        false_not_true (sym (body_no_host t f y.0 known.facts.functions y.1 y.2) ∙ ap (λ (z : FunctionTree). z.signature.host) (some_same y.0 x.function (sym y.1 ∙ x.is)) ∙ is_host)
     go (is_entered c) =
         let e = entry_from t (halves a) f c in
-        ap (λ (z : FunctionTree). is_asked_for z.signature) (same_item x.function e.0 (sym x.is ∙ e.1)) ∙ and_left (is_asked_for e.0.signature) (is_asked t (halves a) f) e.2
+        ap (λ (z : FunctionTree). is_asked_for z.signature) (some_same x.function e.0 (sym x.is ∙ e.1)) ∙ both_hold_first (is_asked_for e.0.signature) (is_asked t (halves a) f) e.2
 
 -- ---- parameters
-
-take_all : {A : Type 0} (xs : List A) → take (length xs) xs ≡ xs
-take_all [] = refl
-take_all {A} (x ∷ xs) = ap (λ (ys : List A). x ∷ ys) (take_all xs)
 
 params_own : (t : TypedTree) (a : Accepted) → IsKnown t a → (f : ℕ) → HasSignature (the_slave t a) f → is_asked_for (signature_in (the_slave t a) f) ≡ true → (signature_in (the_slave t a) f).host ≡ false →
     own_params (the_monitor t a) f ≡ (signature_in (the_slave t a) f).params
 params_own t a known f has wanted host =
     ap (λ (o : Option core.FunctionTree). take (unwrap_or o no_function).params (signature_in (the_monitor t a) f).params) here.1
     ∙ ap (λ (s : Signature). take (length x.function.signature.params) s.params) (same_in_both t a known f has wanted ∙ x.same)
-    ∙ take_all x.function.signature.params ∙ ap (λ (s : Signature). s.params) (sym x.same)
+    ∙ take_whole x.function.signature.params ∙ ap (λ (s : Signature). s.params) (sym x.same)
   where
     x : IsNamed t (the_slave t a) f
     x = slave_named t a f has
@@ -287,7 +279,7 @@ params_own t a known f has wanted host =
 
     here : (b : BodyTree) × (function_at (the_monitor t a) f ≡ Some (core_of t f x.function b))
     here = privileged_here t a known f x.function x.is plain
-        (is_privileged x.function.signature.privileged x.function.signature.host (is_mixed x.function.signature) plain (ap is_asked_for (sym x.same) ∙ wanted))
+        (or_without_and x.function.signature.privileged x.function.signature.host (is_mixed x.function.signature) plain (ap is_asked_for (sym x.same) ∙ wanted))
 
 -- ---- main
 

@@ -4,6 +4,8 @@ use Rattle.std.specs.Prelude.{IsTrue, ◌&&◌, ◌||◌, is_some, nat_eq, slice
 use Rattle.std.specs.List.{Contains, filter}
 use Rattle.std.specs.Map.{lookup}
 use Rattle.pt_base.specs.declared.int_type.IntType.TheVariants as int
+use Rattle.pt_base.proofs.Booleans.{cond_false, false_not_true}
+use Rattle.pt_base.proofs.Numbers.{nat_eq_same}
 use Rattle.pt_tree.specs.declared.signature.Signature.{Signature}
 use Rattle.typed_tree.specs.declared.types.VarTy.{VarTy}
 use Rattle.typed_tree.specs.declared.types.VarTy.TheVariants.{Int}
@@ -15,18 +17,14 @@ use Rattle.pt_core.specs.Calls.{no_function, no_signature, signature_in}
 use Rattle.pt_core.specs.WellFormed.{callee_by, callee_fits, callees, function_at, is_sound, signature_at}
 use Rattle.pt_core.proofs.WellFormedLemmas.{facts_of}
 use Rattle.lowering.specs.Functions.{core_of, core_program}
-use Rattle.split_law.proofs.Chosen.{chosen_find, chosen_lookup, never, same_number, when_false}
+use Rattle.split_law.proofs.Chosen.{chosen_find}
 use Rattle.split_law.proofs.LoweredCode.{code_found, function_of_signature}
-use Rattle.split_law.proofs.Parts.{entry, part, same_global}
+use Rattle.split_law.proofs.Parts.{entry, part, same_global, same_signature}
 use Rattle.part_views_law.specs.Views.{has_global}
 use Rattle.part_views_law.specs.StepsParts.{HasSignature, IsPart}
 use Rattle.pair_invariant_law.proofs.AcceptedMembers.{all_at, found_chosen, looked_up, some_is}
 
 -- ---- signatures
-
--- a number that has a signature in the part has the same in the whole
-pub same_signature : (p : ProgramTree) (signed kept owned : ℕ → Bool) (f : ℕ) → signed f ≡ true → signature_at (part signed kept owned p) f ≡ signature_at p f
-same_signature p signed kept owned f h = chosen_lookup signed f p.signatures (λ _. h)
 
 pub signature_same : (p : ProgramTree) (signed kept owned : ℕ → Bool) (f : ℕ) → signed f ≡ true → signature_in p f ≡ signature_in (part signed kept owned p) f
 signature_same p signed kept owned f h = ap (λ (o : Option Signature). unwrap_or o no_signature) (sym (same_signature p signed kept owned f h))
@@ -59,11 +57,11 @@ called_there monitor q f sound called host own = go (signature_at q f) refl (all
   where
     last : (h d b : Bool) → h ≡ false → d ≡ false → ((h || d) || b) ≡ true → b ≡ true
     last false false b u v k = k
-    last false true b u v k = never (sym v)
-    last true d b u v k = never (sym u)
+    last false true b u v k = false_not_true (sym v)
+    last true d b u v k = false_not_true (sym u)
 
     go : (o : Option Signature) → signature_at q f ≡ o → callee_by monitor q f o ≡ true → is_some (function_at q f) ≡ true
-    go None e k = never k
+    go None e k = false_not_true k
     go (Some s) e k =
         let same : signature_in q f ≡ s = ap (λ (o : Option Signature). unwrap_or o no_signature) e in
         last s.host (s.privileged && not monitor) (is_some (function_at q f)) (ap (λ (z : Signature). z.host) (sym same) ∙ host) (ap (λ (z : Signature). z.privileged && not monitor) (sym same) ∙ own) k
@@ -72,14 +70,14 @@ called_there monitor q f sound called host own = go (signature_at q f) refl (all
 
 -- a global of the part is one of the owned
 pub global_owned : (owned : ℕ → Bool) (n : ℕ) (gs : List GlobalTree) → is_some (lookup (nat_eq n) (map entry (filter (λ (g : GlobalTree). owned g.id) gs))) ≡ true → owned n ≡ true
-global_owned owned n [] h = never h
+global_owned owned n [] h = false_not_true h
 global_owned owned n (g ∷ gs) h = go (global_owned owned n gs) (owned g.id) refl (nat_eq n g.id) refl h
   where
     go : (is_some (lookup (nat_eq n) (map entry (filter (λ (x : GlobalTree). owned x.id) gs))) ≡ true → owned n ≡ true) → (kept : Bool) → owned g.id ≡ kept → (same : Bool) → nat_eq n g.id ≡ same →
         is_some (lookup (nat_eq n) (map entry (cond kept (g ∷ filter (λ (x : GlobalTree). owned x.id) gs) (filter (λ (x : GlobalTree). owned x.id) gs)))) ≡ true → owned n ≡ true
     go rest false f same e k = rest k
-    go rest true f true e k = ap owned (same_number n g.id e) ∙ f
-    go rest true f false e k = rest (ap is_some (sym (when_false (nat_eq n g.id) (Some g.var.ty) (lookup (nat_eq n) (map entry (filter (λ (x : GlobalTree). owned x.id) gs))) e)) ∙ k)
+    go rest true f true e k = ap owned (nat_eq_same n g.id e) ∙ f
+    go rest true f false e k = rest (ap is_some (sym (cond_false (nat_eq n g.id) (Some g.var.ty) (lookup (nat_eq n) (map entry (filter (λ (x : GlobalTree). owned x.id) gs))) e)) ∙ k)
 
 pub has_owned : (p : ProgramTree) (signed kept owned : ℕ → Bool) (g : ℕ) → has_global (part signed kept owned p) g ≡ true → owned g ≡ true
 has_owned p signed kept owned g there = global_owned owned g p.globals there
@@ -89,8 +87,8 @@ pub share_none : (p : ProgramTree) (signed kept signed' kept' owned : ℕ → Bo
 share_none p signed kept signed' kept' owned g there = go (has_global (part signed kept owned p) g) refl
   where
     both : (b : Bool) → not b ≡ true → b ≡ true → ⊥
-    both true h k = never h
-    both false h k = never k
+    both true h k = false_not_true h
+    both false h k = false_not_true k
 
     go : (b : Bool) → has_global (part signed kept owned p) g ≡ b → has_global (part signed kept owned p) g ≡ false
     go false e = e

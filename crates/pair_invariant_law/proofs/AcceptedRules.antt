@@ -7,6 +7,8 @@ use Rattle.std.specs.Str.{bytes_eq}
 use Rattle.std.proofs.lemmas.Slice.Eq.{bytes_eq-Decides}
 use Rattle.pt_base.specs.declared.ids.FnId.{FnId}
 use Rattle.pt_base.specs.declared.span.Span.{Span}
+use Rattle.pt_base.proofs.Booleans.{both_hold, both_hold_first, both_hold_second, false_not_true}
+use Rattle.pt_base.proofs.Lists.{append_nil_first, append_nil_second}
 use Rattle.pt_tree.specs.declared.signature.Param.{Param}
 use Rattle.pt_tree.specs.declared.signature.Signature.{Signature}
 use Rattle.usages.specs.Usages.{UsageTree, usages_in}
@@ -17,7 +19,7 @@ use Rattle.typed_tree.specs.WellFormed.{body_sound, function_sound, is_block, is
 use Rattle.typed_tree.specs.WellFormedExpression.{is_main}
 use Rattle.typed_tree.specs.WellFormedStatement.{is_sound}
 use Rattle.typed_tree.proofs.NameLemmas.{named_is}
-use Rattle.typed_tree.proofs.WellFormedLemmas.{and_both, and_left, and_right, facts_of}
+use Rattle.typed_tree.proofs.WellFormedLemmas.{facts_of}
 use Rattle.reach.specs.Contexts.{Calls, InMonitor, InSlave, callees_in, expr_callees, has_body, is_plain, is_privileged, main, monitor_calls, privileged, slave_calls, test_function}
 use Rattle.reach.proofs.ListLemmas.{from_flat, from_map}
 use Rattle.flow_edges.specs.Edges.{span_of}
@@ -32,11 +34,10 @@ use Rattle.pt_core.specs.CoreRun.{main_in}
 use Rattle.pt_core.specs.WellFormedStatement.{callees_of}
 use Rattle.lowering.specs.Functions.{core_program, functions_from, signatures_from}
 use Rattle.lowered_code_law.specs.NamesLaws.{LoweredNames}
-use Rattle.split_law.proofs.Chosen.{never}
 use Rattle.split_law.proofs.LoweredCode.{all_code, sound_at}
 use Rattle.split_law.proofs.Parts.{part}
 use Rattle.pair_invariant_law.specs.Halves.{is_asked_for}
-use Rattle.pair_invariant_law.proofs.AcceptedMembers.{found_stays, listed, none_of_each, none_passes, nothing_before, nothing_behind}
+use Rattle.pair_invariant_law.proofs.AcceptedMembers.{found_stays, listed, none_of_each, none_passes}
 
 abbrev function_id : ℕ → FnId
 function_id n = record { 0 = n }
@@ -48,41 +49,41 @@ tested : (test : FunctionTree → Bool) (t : TypedTree) (f : FnId) → IsTrue (t
 tested test t f h = go (slice_get t.functions f.0) refl h
   where
     go : (o : Option FunctionTree) → slice_get t.functions f.0 ≡ o → option_map_or test o false ≡ true → (x : FunctionTree) × (slice_get t.functions f.0 ≡ Some x) × (test x ≡ true)
-    go None is k = never k
+    go None is k = false_not_true k
     go (Some x) is k = (x, is, k)
 
 -- a function that has a body is no host
 pub body_no_host : (t : TypedTree) (f : ℕ) (x : FunctionTree) → list_all (function_sound t) t.functions ≡ true → slice_get t.functions f ≡ Some x → is_some x.body ≡ true → x.signature.host ≡ false
 body_no_host t f x sound is body =
     go x.body refl
-    (and_right (list_all (variable_sound t.structs) x.vars) (body_sound t x x.body)
-    (and_right (nat_le (length x.signature.params) 8 && params_lead x.signature.params x.vars) (list_all (variable_sound t.structs) x.vars && body_sound t x x.body) (sound_at t t.functions f x sound is)))
+    (both_hold_second (list_all (variable_sound t.structs) x.vars) (body_sound t x x.body)
+    (both_hold_second (nat_le (length x.signature.params) 8 && params_lead x.signature.params x.vars) (list_all (variable_sound t.structs) x.vars && body_sound t x x.body) (sound_at t t.functions f x sound is)))
   where
     no : (b : Bool) → not b ≡ true → b ≡ false
     no false h = refl
-    no true h = never h
+    no true h = false_not_true h
 
     go : (o : Option BodyTree) → x.body ≡ o → body_sound t x o ≡ true → x.signature.host ≡ false
-    go None e k = never (ap is_some (sym e) ∙ body)
-    go (Some b) e k = no x.signature.host (and_left (not x.signature.host) (is_block b && is_sound (scope_in t x) false false b) k)
+    go None e k = false_not_true (ap is_some (sym e) ∙ body)
+    go (Some b) e k = no x.signature.host (both_hold_first (not x.signature.host) (is_block b && is_sound (scope_in t x) false false b) k)
 
 host_no_body : (t : TypedTree) (f : ℕ) (x : FunctionTree) → list_all (function_sound t) t.functions ≡ true → slice_get t.functions f ≡ Some x → x.signature.host ≡ true → is_none x.body ≡ true
 host_no_body t f x sound is host = go x.body refl
   where
     go : (o : Option BodyTree) → x.body ≡ o → is_none x.body ≡ true
     go None e = ap is_none e
-    go (Some b) e = never (sym (body_no_host t f x sound is (ap is_some e)) ∙ host)
+    go (Some b) e = false_not_true (sym (body_no_host t f x sound is (ap is_some e)) ∙ host)
 
 -- ---- the monitor's functions
 
 pub monitor_has_body : (t : TypedTree) (f : FnId) → InMonitor t f → (x : FunctionTree) × (slice_get t.functions f.0 ≡ Some x) × (is_some x.body ≡ true)
-monitor_has_body t f (privileged g h) = let x = tested is_privileged t g h in (x.0, x.1, and_left (is_some x.0.body) x.0.signature.privileged x.2)
+monitor_has_body t f (privileged g h) = let x = tested is_privileged t g h in (x.0, x.1, both_hold_first (is_some x.0.body) x.0.signature.privileged x.2)
 monitor_has_body t f (monitor_calls h g r c e) = tested has_body t g e
 
 -- a privileged function is one of them
 pub privileged_monitor : (t : TypedTree) (f : ℕ) (x : FunctionTree) → slice_get t.functions f ≡ Some x → is_some x.body ≡ true → x.signature.privileged ≡ true → InMonitor t (record { 0 = f })
 privileged_monitor t f x is body priv =
-    privileged (record { 0 = f }) (ap (λ (o : Option FunctionTree). option_map_or is_privileged o false) is ∙ and_both (is_some x.body) x.signature.privileged body priv)
+    privileged (record { 0 = f }) (ap (λ (o : Option FunctionTree). option_map_or is_privileged o false) is ∙ both_hold (is_some x.body) x.signature.privileged body priv)
 
 -- ---- no finding
 
@@ -93,14 +94,14 @@ unfound false rule span e = refl
 no_monitor_findings : (p : Flows) → findings_of p ≡ [] → flat_map (monitor_findings p) p.monitor ≡ []
 unfolding findings_of
 no_monitor_findings p h =
-    nothing_behind (flat_map (slave_findings p) p.slave) (flat_map (monitor_findings p) p.monitor)
-    (nothing_before (flat_map (slave_findings p) p.slave ++ flat_map (monitor_findings p) p.monitor) (global_findings p ++ flat_map function_findings p.tree.functions) h)
+    append_nil_second (flat_map (slave_findings p) p.slave) (flat_map (monitor_findings p) p.monitor)
+    (append_nil_first (flat_map (slave_findings p) p.slave ++ flat_map (monitor_findings p) p.monitor) (global_findings p ++ flat_map function_findings p.tree.functions) h)
 
 no_function_findings : (p : Flows) → findings_of p ≡ [] → flat_map function_findings p.tree.functions ≡ []
 unfolding findings_of
 no_function_findings p h =
-    nothing_behind (global_findings p) (flat_map function_findings p.tree.functions)
-    (nothing_behind (flat_map (slave_findings p) p.slave ++ flat_map (monitor_findings p) p.monitor) (global_findings p ++ flat_map function_findings p.tree.functions) h)
+    append_nil_second (global_findings p) (flat_map function_findings p.tree.functions)
+    (append_nil_second (flat_map (slave_findings p) p.slave ++ flat_map (monitor_findings p) p.monitor) (global_findings p ++ flat_map function_findings p.tree.functions) h)
 
 -- The rule HostInMonitor: a host that the monitor's code calls is privileged or mixed.
 pub monitor_hosts : (t : TypedTree) (a : Accepted) → IsAccepted t a → list_all (function_sound t) t.functions ≡ true → (f g : FnId) (x : FunctionTree) → InMonitor t f → Calls t f g → slice_get t.functions g.0 ≡ Some x → x.signature.host ≡ true →
@@ -119,11 +120,11 @@ monitor_hosts t a accepted sound f g x here call is host =
     nothing = none_of_each (host_in_monitor p) (usages_in t f) u.0 u.1 (none_of_each (monitor_findings p) p.monitor f ((accepted.sides.monitor.same f).1 here) (no_monitor_findings p accepted.faultless))
 
     asked : (none host priv marked : Bool) → none ≡ true → host ≡ true → ((none && not priv) && not marked) ≡ false → (priv || (host && (not priv && marked))) ≡ true
-    asked false host priv marked n h e = never n
-    asked true false priv marked n h e = never h
+    asked false host priv marked n h e = false_not_true n
+    asked true false priv marked n h e = false_not_true h
     asked true true true marked n h e = refl
     asked true true false true n h e = refl
-    asked true true false false n h e = never (sym e)
+    asked true true false false n h e = false_not_true (sym e)
 
 -- ---- main
 
@@ -141,15 +142,15 @@ is_named t f x is named =
     ap (λ (o : Option FunctionTree). option_map (λ (s : Signature). s.name) (option_map (λ (z : FunctionTree). z.signature) o)) is ∙ ap Some ((bytes_eq-Decides x.signature.name (codes "main")).0 named)
 
 pub start_named : (x : FunctionTree) → is_start x ≡ true → is_main x.signature ≡ true
-start_named x h = and_left (is_main x.signature) (is_some x.body && (is_int_result x.signature.result && nat_eq (length x.signature.params) 0)) h
+start_named x h = both_hold_first (is_main x.signature) (is_some x.body && (is_int_result x.signature.result && nat_eq (length x.signature.params) 0)) h
 
 pub start_has_body : (x : FunctionTree) → is_start x ≡ true → is_some x.body ≡ true
 start_has_body x h =
-    and_left (is_some x.body) (is_int_result x.signature.result && nat_eq (length x.signature.params) 0)
-    (and_right (is_main x.signature) (is_some x.body && (is_int_result x.signature.result && nat_eq (length x.signature.params) 0)) h)
+    both_hold_first (is_some x.body) (is_int_result x.signature.result && nat_eq (length x.signature.params) 0)
+    (both_hold_second (is_main x.signature) (is_some x.body && (is_int_result x.signature.result && nat_eq (length x.signature.params) 0)) h)
 
 starts : (fs : List FunctionTree) → list_any is_start fs ≡ true → (n : ℕ) × (x : FunctionTree) × (slice_get fs n ≡ Some x) × (is_start x ≡ true)
-starts [] h = never h
+starts [] h = false_not_true h
 starts (f ∷ fs) h = go (is_start f) refl (starts fs) h
   where
     go : (b : Bool) → is_start f ≡ b → (list_any is_start fs ≡ true → (n : ℕ) × (x : FunctionTree) × (slice_get fs n ≡ Some x) × (is_start x ≡ true)) → (b || list_any is_start fs) ≡ true →
@@ -178,12 +179,12 @@ main_plain : (t : TypedTree) (a : Accepted) → IsAccepted t a → (m : IsMain t
 main_plain t a accepted m =
     rest (is_main m.function.signature) m.function.signature.privileged (start_named m.function m.start)
     (unfound (is_main_function m.function && m.function.signature.privileged) PrivMain m.function.name
-    (nothing_behind (unmarked_out m.function) (priv_main m.function)
+    (append_nil_second (unmarked_out m.function) (priv_main m.function)
     (none_of_each function_findings t.functions m.function (listed t.functions m.number m.function m.is) (no_function_findings (flows_of t a.sides a.marks) accepted.faultless))))
   where
     rest : (b c : Bool) → b ≡ true → (b && c) ≡ false → c ≡ false
     rest true c h e = e
-    rest false c h e = never h
+    rest false c h e = false_not_true h
 
 -- ---- the slave's functions
 
@@ -194,11 +195,11 @@ slave_is_plain t a well accepted f (main g h) =
     (m.function, subst (λ (n : ℕ). slice_get t.functions n ≡ Some m.function) (main_alone t well m g h) m.is, start_has_body m.function m.start, main_plain t a accepted m)
 slave_is_plain t a well accepted f (slave_calls h g r c e) =
     let x = tested is_plain t g e in
-    (x.0, x.1, and_left (is_some x.0.body) (not x.0.signature.privileged) x.2, no x.0.signature.privileged (and_right (is_some x.0.body) (not x.0.signature.privileged) x.2))
+    (x.0, x.1, both_hold_first (is_some x.0.body) (not x.0.signature.privileged) x.2, no x.0.signature.privileged (both_hold_second (is_some x.0.body) (not x.0.signature.privileged) x.2))
   where
     no : (b : Bool) → not b ≡ true → b ≡ false
     no false k = refl
-    no true k = never k
+    no true k = false_not_true k
 
 -- main is one of them
 pub main_in_slave : (t : TypedTree) (m : IsMain t) → InSlave t (record { 0 = m.number })

@@ -2,7 +2,10 @@
 use Rattle.std.proofs.Common.{◌≡◌, ◌∙◌, ℕ, ℤ, nat_eq, refl, ap, sym, subst, List, [], ◌∷◌, ◌++◌, append_assoc, append-nil, map, Bool, true, false, Option, Some, None}
 use Rattle.std.specs.Prelude.{◌&&◌, not, if◌then◌else◌, is_some}
 use Rattle.std.proofs.Math.Path.{fun_ext}
+use Rattle.std.proofs.lemmas.Bool.{and_from}
+use Rattle.monitor_soundness_law.proofs.Bodies.{way_here}
 use Rattle.pt_base.specs.declared.end.End.{End}
+use Rattle.pt_base.proofs.Numbers.{nat_eq_same}
 use Rattle.pt_tree.specs.HostStep.{Answer, host_step}
 use Rattle.pt_tree.specs.declared.host_model.HostModel.{HostModel}
 use Rattle.pt_tree.specs.declared.signature.Signature.{Signature}
@@ -19,7 +22,7 @@ use Rattle.core_steps_law.specs.MachinesJudged.{Judgement, Judging, judged, judg
 use Rattle.part_views_law.specs.Views.{View, seen_cell}
 use Rattle.part_views_law.specs.StepsParts.{GatesAgree, HasSignature, ShowAlike}
 use Rattle.pair_invariant_law.specs.MonitorGatesLaws.{AreFixed, BodiesGatesAgree, Told, hosts_by, is_host_of, told_body, told_whole}
-use Rattle.pair_invariant_law.proofs.MonitorGatesModels.{both_true, equal, way_away, way_here}
+use Rattle.pair_invariant_law.proofs.MonitorGatesModels.{way_away}
 
 -- ---- what is noted
 
@@ -50,7 +53,7 @@ bytes_judged {S} policy j bytes (Some more) open_still = go j.refused open_still
 -- ---- hosts
 
 put_by : (test : ℕ → Bool) (now before : Hosts) (f : ℕ) (next : HostModel) → test f ≡ true → put_host (hosts_by test now before) f next ≡ hosts_by test (put_host now f next) before
-put_by test now before f next of = fun_ext (λ other. go other (nat_eq other f) (test other) (λ e. subst (λ n. test n ≡ true) (sym (equal other f e)) of) refl refl)
+put_by test now before f next of = fun_ext (λ other. go other (nat_eq other f) (test other) (λ e. subst (λ n. test n ≡ true) (sym (nat_eq_same other f e)) of) refl refl)
   where
     go : (other : ℕ) (b c : Bool) → (nat_eq other f ≡ true → test other ≡ true) → nat_eq other f ≡ b → test other ≡ c →
         (if b then next else (if c then now other else before other)) ≡ (if c then (if b then next else now other) else before other)
@@ -71,7 +74,7 @@ put_fixed test now before f next same fixed = fun_ext (λ other. go other (nat_e
 
     go : (other : ℕ) (b c : Bool) → nat_eq other f ≡ b → test other ≡ c → before other ≡ (if c then (if b then next else now other) else before other)
     go other true true e1 e2 =
-        let is : other ≡ f = equal other f e1 in
+        let is : other ≡ f = nat_eq_same other f e1 in
         ap before is ∙ sym (fixed (subst (λ n. test n ≡ true) is e2))
     go other false true e1 e2 = there other e2
     go other true false e1 e2 = refl
@@ -155,7 +158,7 @@ module _ {S : Type 0} (policy : Answers S) (whole monitor : ProgramTree) (fixed 
       subst (λ (now : Judging S). Alike now g) (sym (none_noted policy (signature_in whole f) f (map number_in (map (seen_cell v) args)) h)) same,
     );
     made = λ h g f args same known e plain.
-        let is : is_host_of monitor f ≡ true = both_true (is_some (signature_at monitor f)) (signature_in monitor f).host known (way_here (signature_in monitor f).host e) in
+        let is : is_host_of monitor f ≡ true = and_from (is_some (signature_at monitor f)) (signature_in monitor f).host known (way_here (signature_in monitor f).host e) in
         let quiet : with_judged policy (guarded_event true (signature_in whole f) f (map number_in (map (seen_cell v) args))) h ≡ h = none_noted policy (signature_in whole f) f (map number_in (map (seen_cell v) args)) h in (
           ap (λ b. if b then here else enters) (whole_host f known) ∙ e,
           ap (λ (answer : Answer). answer.result) (step_same f (map number_in args) h g same is),

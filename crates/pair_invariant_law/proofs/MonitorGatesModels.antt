@@ -1,7 +1,9 @@
 -- Hosts that have models, and what the gate of bytes fits.
-use Rattle.std.proofs.Common.{◌≡◌, ◌<◌, ℕ, ℤ, nat_eq, refl, sym, subst, arith, List, map, Bool, true, false, Option, Some, None}
-use Rattle.std.specs.Prelude.{IsTrue, All, ◌&&◌, if◌then◌else◌, is_some}
-use Rattle.std.proofs.lemmas.Bool.Decides.{nat_tests}
+use Rattle.std.proofs.Common.{◌≡◌, ◌<◌, ℕ, ℤ, nat_eq, refl, sym, subst, List, map, Bool, true, false, Option, Some, None}
+use Rattle.std.specs.Prelude.{IsTrue, All, if◌then◌else◌, is_some}
+use Rattle.std.proofs.lemmas.Bool.{and_from}
+use Rattle.pt_base.proofs.Booleans.{false_not_true}
+use Rattle.pt_base.proofs.Numbers.{nat_eq_same}
 use Rattle.pt_tree.specs.HostStep.{host_step}
 use Rattle.pt_tree.specs.declared.host_model.HostModel.{HostModel}
 use Rattle.pt_tree.specs.declared.signature.Signature.{Signature}
@@ -17,33 +19,15 @@ use Rattle.core_steps_law.specs.WholeRun.{steps_run, whole_way}
 use Rattle.core_steps_law.specs.GatesShown.{Shows, step_shown}
 use Rattle.core_steps_law.specs.GatesWritten.{Written, bytes_gate, wrote}
 use Rattle.core_steps_law.proofs.GatesAgreement.{gates_agree}
-use Rattle.core_soundness_law.proofs.Leaves.{never}
 use Rattle.core_soundness_law.proofs.Programs.{facts_of}
 use Rattle.core_soundness_law.specs.Called.{is_called}
 use Rattle.core_soundness_law.specs.CalledKeeping.{FitsCalls}
 use Rattle.part_views_law.specs.StepsParts.{HasSignature}
-use Rattle.slave_soundness_law.proofs.Hosts.{each_holds}
-use Rattle.monitor_soundness_law.proofs.Hosts.{number_fits}
+use Rattle.slave_soundness_law.proofs.Hosts.{each_holds, number_fits}
+use Rattle.monitor_soundness_law.proofs.Bodies.{way_enters, way_here}
 use Rattle.pair_invariant_law.specs.MonitorGatesLaws.{HasFunctions, HaveModels, BodiesCallsFit, HostsKeepModels, is_host_of}
 
--- ---- tests
-
-pub both_true : (a b : Bool) → a ≡ true → b ≡ true → (a && b) ≡ true
-both_true true b e h = h
-both_true false b e h = cc
-
-pub equal : (m n : ℕ) → nat_eq m n ≡ true → m ≡ n
-equal m n e = grind (arith, nat_tests)
-
 -- ---- ways
-
-pub way_enters : (host : Bool) → (if host then here else enters) ≡ enters → host ≡ false
-way_enters true e = cc
-way_enters false e = refl
-
-pub way_here : (host : Bool) → (if host then here else enters) ≡ here → host ≡ true
-way_here true e = refl
-way_here false e = cc
 
 pub way_away : (host : Bool) → (if host then here else enters) ≡ away → ⊥
 way_away true e = cc
@@ -55,7 +39,7 @@ put_models : (program : ProgramTree) (hosts : Hosts) (f : ℕ) (next : HostModel
 put_models program hosts f next old fit f1 is = go (nat_eq f1 f) refl
   where
     go : (b : Bool) → nat_eq f1 f ≡ b → IsTrue (fits (if b then next else hosts f1) (signature_in program f1))
-    go true e = subst (λ n. IsTrue (fits next (signature_in program n))) (sym (equal f1 f e)) (fit (subst (λ n. IsTrue (is_host_of program n)) (equal f1 f e) is))
+    go true e = subst (λ n. IsTrue (fits next (signature_in program n))) (sym (nat_eq_same f1 f e)) (fit (subst (λ n. IsTrue (is_host_of program n)) (nat_eq_same f1 f e) is))
     go false e = old f1 is
 
 -- what stands for a host behind a call may stand for it
@@ -69,7 +53,7 @@ bodies_calls_fit monitor g functions models bytes = record {
   made = λ f args known e. way_here (signature_in monitor f).host e;
   answered = λ privileged f args known e.
       number_fits (signature_in monitor f).result (host_step g.input (g.hosts f) (map number_in args)).result
-      (fits_in_range g.input (g.hosts f) (map number_in args) (signature_in monitor f) bytes (models f (both_true (is_some (signature_at monitor f)) (signature_in monitor f).host known (way_here (signature_in monitor f).host e)))).result;
+      (fits_in_range g.input (g.hosts f) (map number_in args) (signature_in monitor f) bytes (models f (and_from (is_some (signature_at monitor f)) (signature_in monitor f).host known (way_here (signature_in monitor f).host e)))).result;
 }
 
 -- what is called has a signature
@@ -77,7 +61,7 @@ pub called_signed : (p : ProgramTree) (f : ℕ) → IsTrue (is_sound true p) →
 called_signed p f sound own = go (signature_at p f) (each_holds (callee_fits true p) f (callees p) (facts_of true p sound).calls own)
   where
     go : (o : Option Signature) → IsTrue (callee_by true p f o) → IsTrue (is_some o)
-    go None h = never h
+    go None h = false_not_true h
     go (Some s) h = refl
 
 -- ---- a gate whose hosts always have models

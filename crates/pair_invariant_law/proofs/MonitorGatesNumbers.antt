@@ -1,8 +1,10 @@
 -- A memory without a handle: whatever a step works out there is none.
-use Rattle.std.proofs.Common.{◌≡◌, ℕ, zero, suc, ℤ, pos, refl, sym, subst, List, [], ◌∷◌, Bool, true, false, Option, Some, None, Result, Ok, Err}
+use Rattle.std.proofs.Common.{◌≡◌, ℕ, zero, suc, ℤ, pos, refl, sym, subst, List, [], ◌∷◌, Bool, false, Option, Some, None, Result, Ok, Err}
 use Rattle.std.specs.Prelude.{◌&&◌, ◌||◌, not, slice_get, slice_index_or}
-use Rattle.std.proofs.lemmas.Bool.{or_from, or_parts}
+use Rattle.std.proofs.lemmas.Bool.{or_from, and_right}
+use Rattle.part_views_law.proofs.StepsAdded.{none_unmarked}
 use Rattle.pt_base.specs.declared.int_type.IntType.{IntType}
+use Rattle.pt_base.proofs.Booleans.{false_not_true}
 use Rattle.pt_tree.specs.declared.signature.Elem.{Elem}
 use Rattle.typed_tree.specs.declared.types.StructInfo.{StructInfo}
 use Rattle.typed_tree.specs.declared.types.VarTy.{VarTy}
@@ -21,8 +23,7 @@ use Rattle.pt_core.specs.Calls.{context_in}
 use Rattle.pt_core.specs.Steps.{Work, run, head, Active, Gate, Machine, Way, enters, here, away, settled}
 use Rattle.core_soundness_law.specs.Fits.{IntegerFits, IntegersFit, LocalFits, MemoryFits, PointerFits, variables_at}
 use Rattle.core_soundness_law.specs.Kept.{none}
-use Rattle.core_soundness_law.proofs.Leaves.{never}
-use Rattle.handle_classes.specs.Computes.{computes, computes_call, computes_in, computes_next, computes_return, computes_status, computes_work, has_handle, has_unmarked, if_given, is_handle, is_sealed, meet_any, meets, meets_at, meets_root}
+use Rattle.handle_classes.specs.Computes.{computes, computes_call, computes_in, computes_next, computes_return, computes_status, computes_work, has_handle, if_given, is_handle, is_sealed, meet_any, meets, meets_at, meets_root}
 
 -- no cell holds one
 abbrev pub HasNone : Blocks → Type 0
@@ -33,7 +34,7 @@ HasNone blocks = (name : BlockName) (i : ℕ) → is_sealed (slice_index_or (blo
 integer_none : (t : IntType) (c : Cell) → IntegerFits none t c → is_sealed c ≡ false
 integer_none t (cell.Int v) f = refl
 integer_none t (cell.Ptr p) f = refl
-integer_none t (cell.Sealed h) f = never f
+integer_none t (cell.Sealed h) f = false_not_true f
 
 cells_none : (types : List IntType) (cells : List Cell) → IntegersFit none types cells → (i : ℕ) → is_sealed (slice_index_or cells i (cell.Int (pos 0))) ≡ false
 cells_none [] [] f i = refl
@@ -94,14 +95,6 @@ decayed_none at (Struct n) = refl
 decayed_none at (Array elem count) = refl
 decayed_none at (Pointer elem fixed) = refl
 
-and_second : (x y : Bool) → y ≡ false → (x && y) ≡ false
-and_second true y e = e
-and_second false y e = refl
-
-and_first : (x y : Bool) → x ≡ false → (x && y) ≡ false
-and_first true y e = cc
-and_first false y e = refl
-
 module _ (c : Context) (depth : ℕ) (blocks : Blocks) (none_there : HasNone blocks) where
   value_none : (e : ExprTree) → is_handle (value_of c depth e blocks) ≡ false
   value_none (constant t v) = refl
@@ -130,7 +123,7 @@ module _ (c : Context) (depth : ℕ) (blocks : Blocks) (none_there : HasNone blo
     meets_none (read p) = meets_at_none p
     meets_none (unary op t a s) = wants_none a (meets_none a)
     meets_none (binary op t a b s) = both_none a b (meets_none a) (meets_none b)
-    meets_none (convert to a) = or_from (meets c depth a blocks) (not (is_type (type_of c a) to) && is_handle (value_of c depth a blocks)) (meets_none a) (and_second (not (is_type (type_of c a) to)) (is_handle (value_of c depth a blocks)) (value_none a))
+    meets_none (convert to a) = or_from (meets c depth a blocks) (not (is_type (type_of c a) to) && is_handle (value_of c depth a blocks)) (meets_none a) (and_right (not (is_type (type_of c a) to)) (is_handle (value_of c depth a blocks)) (value_none a))
     meets_none (null elem) = refl
     meets_none (address p) = meets_at_none p
     meets_none (decay p) = meets_at_none p
@@ -161,16 +154,10 @@ module _ (c : Context) (depth : ℕ) (blocks : Blocks) (none_there : HasNone blo
 
 -- ---- calls
 
-unmarked_none : (marked : ℕ → Bool) (vs : List Cell) → has_handle vs ≡ false → has_unmarked marked vs ≡ false
-unmarked_none marked [] e = refl
-unmarked_none marked (v ∷ vs) e =
-    let parts = or_parts (is_sealed v) (has_handle vs) e in
-    or_from (is_sealed v && not (marked 0)) (has_unmarked (λ n. marked (suc n)) vs) (and_first (is_sealed v) (not (marked 0)) parts.0) (unmarked_none (λ n. marked (suc n)) vs parts.1)
-
 way_none : (marked : ℕ → Bool) (vs : List Cell) (way : Way) → has_handle vs ≡ false → computes_call marked vs way ≡ false
 way_none marked vs enters e = refl
 way_none marked vs here e = e
-way_none marked vs away e = unmarked_none marked vs e
+way_none marked vs away e = none_unmarked marked vs e
 
 call_none : (marked : ℕ → Bool) (r : Result (List Cell) Stop) (way : List Cell → Way) → if_given r has_handle ≡ false → if_given r (λ vs. computes_call marked vs (way vs)) ≡ false
 call_none marked (Ok vs) way e = way_none marked vs (way vs) e

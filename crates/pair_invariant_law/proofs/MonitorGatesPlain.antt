@@ -1,6 +1,7 @@
 -- No step of a monitor's machine computes with a handle.
 use Rattle.std.proofs.Common.{◌≡◌, ◌∙◌, ◌<◌, zero, suc, refl, subst, map, true}
 use Rattle.std.specs.Prelude.{IsTrue, All}
+use Rattle.monitor_soundness_law.proofs.Bodies.{way_enters, way_here}
 use Rattle.pt_core.specs.CodeTree.{ProgramTree}
 use Rattle.pt_core.specs.Values.{number_in}
 use Rattle.pt_core.specs.Calls.{signature_in}
@@ -18,7 +19,7 @@ use Rattle.core_soundness_law.proofs.CalledSteps.{steps_call_own}
 use Rattle.part_views_law.specs.StepsLaws.{After}
 use Rattle.part_views_law.specs.StepsRuns.{AllPlain}
 use Rattle.pair_invariant_law.specs.MonitorGatesLaws.{BodiesArePlain, HasFunctions, HaveModels}
-use Rattle.pair_invariant_law.proofs.MonitorGatesModels.{bodies_calls_fit, called_signed, next_models, way_enters, way_here}
+use Rattle.pair_invariant_law.proofs.MonitorGatesModels.{bodies_calls_fit, called_signed, next_models}
 use Rattle.pair_invariant_law.proofs.MonitorGatesNumbers.{none_by_fits, plain_next}
 
 pub bytes_fit : (program : ProgramTree) (g : Written) → IsTrue (is_sound true program) → HasFunctions program → HaveModels program g.hosts → All (λ b. b < 256) g.input → FitsCalls program (bytes_gate program) g

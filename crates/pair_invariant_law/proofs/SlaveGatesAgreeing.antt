@@ -1,6 +1,7 @@
 -- The slave's gate agrees with the whole's.
 use Rattle.std.proofs.Common.{◌≡◌, ◌∙◌, ℕ, ℤ, nat_eq, refl, ap, sym, subst, List, [], ◌∷◌, append_assoc, Option, Some, None, Bool, true, false, map}
 use Rattle.std.specs.Prelude.{◌&&◌, not, if◌then◌else◌}
+use Rattle.pt_base.proofs.Numbers.{nat_eq_same}
 use Rattle.pt_tree.specs.HostStep.{Answer, host_step}
 use Rattle.pt_tree.specs.PlainNumbers.{plain_numbers}
 use Rattle.pt_tree.specs.declared.host_model.HostModel.{HostModel}
@@ -26,7 +27,6 @@ use Rattle.pair_invariant_law.specs.Hosts.{HostsAgree}
 use Rattle.pair_invariant_law.specs.SlaveGatesGathering.{AreAlike, Gathered, Meanwhile, gathering_gate, judgement_at, with_written}
 use Rattle.pair_invariant_law.specs.SlaveGatesLaws.{SlaveGatesAgree}
 use Rattle.pair_invariant_law.proofs.SlaveGatesFitting.{IsOfWay, enters_by, here_by, own_host}
-use Rattle.pair_invariant_law.proofs.SlaveGatesHosts.{equal}
 
 -- ---- one call of a host
 
@@ -61,7 +61,7 @@ module _ (slave monitor : ProgramTree) (hosts : Hosts) (input : List ℕ) (slave
   monitor_after f1 of_monitor host = go (nat_eq f1 f) refl
     where
       go : (b : Bool) → nat_eq f1 f ≡ b → monitor_hosts f1 ≡ (if b then next else hosts f1)
-      go true e = agree.monitor_has f1 of_monitor host ∙ ap hosts (equal f1 f e) ∙ sym (same_next (subst (λ n. HasSignature monitor n) (equal f1 f e) of_monitor))
+      go true e = agree.monitor_has f1 of_monitor host ∙ ap hosts (nat_eq_same f1 f e) ∙ sym (same_next (subst (λ n. HasSignature monitor n) (nat_eq_same f1 f e) of_monitor))
       go false e = agree.monitor_has f1 of_monitor host
 
   reads_after : (f1 : ℕ) → HasSignature slave f1 → is_own_host (signature_in slave f1) ≡ true → reads_input (put_host hosts f next f1) ≡ true → slave_input ≡ input
@@ -76,7 +76,7 @@ module _ (slave monitor : ProgramTree) (hosts : Hosts) (input : List ℕ) (slave
     where
       go : (b : Bool) → nat_eq f1 f ≡ b → (host_step input (if b then next else hosts f1) args).next ≡ (if b then next else hosts f1)
       go true e =
-          let there : HasSignature monitor f = subst (λ n. HasSignature monitor n) (equal f1 f e) of_monitor in
+          let there : HasSignature monitor f = subst (λ n. HasSignature monitor n) (nat_eq_same f1 f e) of_monitor in
           subst (λ model. (host_step input model args).next ≡ model) (sym (same_next there)) (agree.stays f signed own there args)
       go false e = agree.stays f1 signed1 own1 of_monitor args
 

@@ -1,22 +1,19 @@
 -- The slave's gate fits what the slave has signatures for.
-use Rattle.std.proofs.Common.{◌≡◌, ◌<◌, ℕ, ℤ, refl, sym, subst, List, [], Option, Some, None, Bool, true, false, map}
-use Rattle.std.specs.Prelude.{IsTrue, All, ◌&&◌, not, if◌then◌else◌}
-use Rattle.pt_base.specs.declared.int_type.IntType.{IntType}
+use Rattle.std.proofs.Common.{◌≡◌, ◌<◌, ℕ, refl, sym, subst, List, [], Bool, true, false, map}
+use Rattle.std.specs.Prelude.{IsTrue, All, ◌&&◌, not}
+use Rattle.slave_soundness_law.proofs.Hosts.{enters_way, here_way, number_fits}
 use Rattle.pt_tree.specs.HostStep.{host_step}
 use Rattle.pt_tree.specs.declared.host_model.HostModel.{HostModel}
 use Rattle.pt_tree.specs.declared.signature.Signature.{Signature}
 use Rattle.runs.specs.State.{Hosts}
-use Rattle.host_models.specs.Answering.{is_result}
 use Rattle.host_models.specs.Fitting.{fits}
 use Rattle.host_models.proofs.AnswerLemmas.{fits_in_range}
 use Rattle.block_memory.specs.declared.cell.Cell.{Cell}
 use Rattle.pt_core.specs.CodeTree.{MonitorTree, ProgramTree}
 use Rattle.pt_core.specs.Values.{number_in}
 use Rattle.pt_core.specs.Calls.{signature_in}
-use Rattle.pt_core.specs.Steps.{away, enters, here}
+use Rattle.pt_core.specs.Steps.{enters, here}
 use Rattle.pt_core.specs.WellFormed.{monitor_program}
-use Rattle.core_soundness_law.specs.StepLaws.{NumberFits}
-use Rattle.core_soundness_law.proofs.Leaves.{never}
 use Rattle.part_views_law.specs.StepsParts.{CallsFit}
 use Rattle.pair_meaning.specs.SlaveRun.{goes_with_handles, way_by}
 use Rattle.pair_invariant_law.specs.Halves.{AreHalvesOf, is_own_host}
@@ -29,18 +26,6 @@ use Rattle.pair_invariant_law.specs.SlaveGatesLaws.{SlaveGatesFit}
 pub record IsOfWay (s : Signature) (host privileged : Bool) : Type 0 where
   pub host_is : s.host ≡ host
   pub privileged_is : s.privileged ≡ privileged
-
-enters_way : (p h w : Bool) → (if p then away else (if h then (if w then away else here) else enters)) ≡ enters → (p ≡ false) × (h ≡ false)
-enters_way true h w e = cc
-enters_way false true true e = cc
-enters_way false true false e = cc
-enters_way false false w e = (refl, refl)
-
-here_way : (p h w : Bool) → (if p then away else (if h then (if w then away else here) else enters)) ≡ here → (h ≡ true) × (p ≡ false)
-here_way true h w e = cc
-here_way false true true e = cc
-here_way false true false e = (refl, refl)
-here_way false false w e = cc
 
 pub enters_by : (s : Signature) (args : List Cell) → way_by s args ≡ enters → IsOfWay s false false
 enters_by s args e = let h = enters_way s.privileged s.host (goes_with_handles s args) e in record { host_is = h.1; privileged_is = h.0 }
@@ -57,12 +42,6 @@ pub own_host : (s : Signature) → IsOfWay s true false → is_own_host s ≡ tr
 own_host s is = own_by s.host s.privileged is.host_is is.privileged_is
 
 -- ---- what hosts answer
-
-number_fits : (t : Option IntType) (v : Option ℤ) → IsTrue (is_result t v) → NumberFits t v
-number_fits None None h = tt {0}
-number_fits None (Some v) h = never h
-number_fits (Some t) None h = never h
-number_fits (Some t) (Some v) h = h
 
 -- whatever was gathered
 pub gathering_fits : (whole slave : ProgramTree) (monitor : MonitorTree) (hosts : Hosts) (input : List ℕ) (monitor_hosts : Hosts) (g : Gathered) →

@@ -1,7 +1,7 @@
 -- The hosts of the whole go on fitting.
-use Rattle.std.proofs.Common.{◌≡◌, ◌⊎◌, inl, inr, ◌<◌, ℕ, zero, suc, nat_eq, refl, sym, subst, arith, List, Bool, true, false, map}
+use Rattle.std.proofs.Common.{◌≡◌, ◌⊎◌, inl, inr, ◌<◌, ℕ, zero, suc, nat_eq, refl, sym, subst, List, Bool, true, false, map}
 use Rattle.std.specs.Prelude.{IsTrue, All, if◌then◌else◌}
-use Rattle.std.proofs.lemmas.Bool.Decides.{nat_tests}
+use Rattle.pt_base.proofs.Numbers.{nat_eq_same}
 use Rattle.pt_tree.specs.HostStep.{host_step}
 use Rattle.pt_tree.specs.declared.host_model.HostModel.{HostModel}
 use Rattle.runs.specs.Run.{Answers}
@@ -23,9 +23,6 @@ use Rattle.pair_invariant_law.specs.SlaveGatesLaws.{HostsGoOnFitting}
 use Rattle.pair_invariant_law.specs.SlaveGatesOnce.{CalledOnce, LeftBy}
 use Rattle.pair_invariant_law.proofs.SlaveGatesOnce.{steps_call_once}
 
-pub equal : (m n : ℕ) → nat_eq m n ≡ true → m ≡ n
-equal m n e = grind (arith, nat_tests)
-
 module _ (policy : Answers Standing) (program part : ProgramTree) (input : List ℕ) (bytes : All (λ b. b < 256) input) where
   abbrev Fit : Judging Standing → Type 0
   Fit h = AllHostsFit part h.hosts × (h.input ≡ input)
@@ -35,7 +32,7 @@ module _ (policy : Answers Standing) (program part : ProgramTree) (input : List 
     where
       go : (b : Bool) → nat_eq f1 f ≡ b → IsTrue (fits (if b then next else hosts f1) (signature_in part f1))
       go true e =
-          let same : f1 ≡ f = equal f1 f e in
+          let same : f1 ≡ f = nat_eq_same f1 f e in
           subst (λ n. IsTrue (fits next (signature_in part n))) (sym same) (fit (subst (λ n. HasSignature part n) same signed) (subst (λ n. (signature_in part n).host ≡ true) same host))
       go false e = old f1 signed host
 

@@ -1,7 +1,8 @@
 -- The pair of an accepted program begins in the invariant, and so comes to what is expected of its normal form, whose run is its own.
-use Rattle.std.proofs.Common.{◌≡◌, ◌<◌, ◌^◌, ℕ, Bool, true, false, List, [], if◌then◌else◌, ap, arith, subst}
+use Rattle.std.proofs.Common.{◌≡◌, ◌<◌, ◌^◌, ℕ, List, ap, subst}
 use Rattle.std.specs.Prelude.{All, IsTrue}
 use Rattle.std.specs.List.{list_any}
+use Rattle.pt_base.proofs.Lists.{bytes_if}
 use Rattle.pt_tree.specs.ProgramTree.{ItemTree}
 use Rattle.runs.specs.Run.{Expected, expected}
 use Rattle.runs.specs.State.{Hosts}
@@ -45,16 +46,12 @@ pub same_expected : LoweringKeepsTheRun → (t : TypedTree) (a : Accepted) (poli
     setting_expected (setting_of t a policy hosts input turns) ≡ expected_of t policy hosts input turns
 same_expected lowers t a policy hosts input turns well = ap (expected (answers_of policy)) (lowers t (models_of hosts.models) input turns well)
 
-bytes_given : (reads : Bool) (input : List ℕ) → All (λ b. b < 256) input → All (λ b. b < 256) (if reads then input else [])
-bytes_given true input bytes = bytes
-bytes_given false input bytes = λ k d lt. absurd (omega (arith, lt))
-
 stays : BootsAreWellFormed → AcceptedSlavesStay → (t : TypedTree) (a : Accepted) (hosts : table.Hosts) (input : List ℕ) (turns : ℕ) → IsAcceptedWith t a hosts → All (λ b. b < 256) input → turns < 2 ^ 32 →
     Stays (slave_at t a hosts input turns)
 stays boots slaves t a hosts input turns ready bytes small =
     let b = boot_at t a hosts input turns in
     let reads = list_any (λ h. reads_input h.1) b.hosts in
-    slaves t a b.hosts b.input b.turns ready.well_formed ready.accepted (boots t a hosts input turns ready) (bytes_given reads input bytes) small
+    slaves t a b.hosts b.input b.turns ready.well_formed ready.accepted (boots t a hosts input turns ready) (bytes_if reads input bytes) small
 
 -- it begins in the invariant
 pub pairs_begin : ProgramsAreWellFormed → CheckedProgramsPlaceNulls → BootsAreWellFormed → AcceptedSlavesStay → AcceptedPairsBegin → (items : List ItemTree) (a : Accepted) (policy : Standing) (hosts : table.Hosts) (input : List ℕ) (turns : ℕ) (own : Hosts) →

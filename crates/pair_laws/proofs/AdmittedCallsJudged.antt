@@ -3,6 +3,7 @@ use Rattle.std.proofs.Common.{◌≡◌, ◌∙◌, ◌⊎◌, inl, inr, ℕ, �
 use Rattle.std.specs.Prelude.{◌&&◌, not}
 use Rattle.std.specs.List.{list_all}
 use Rattle.pt_base.specs.declared.end.End.TheVariants.{Refused}
+use Rattle.pt_base.proofs.Booleans.{and_true_first}
 use Rattle.pt_tree.specs.PlainNumbers.{plain_numbers}
 use Rattle.runs.specs.State.{Event, guarded, guarded_event}
 use Rattle.policy.specs.Answers.{allowed, answers_of, function_of}
@@ -13,7 +14,6 @@ use Rattle.core_steps_law.specs.MachinesJudged as judge
 use Rattle.core_steps_law.specs.MachinesJudged.{Judgement, judged}
 use Rattle.marshalling.specs.Packing.{names_of, packed_block}
 use Rattle.marshalling.specs.Sendable.{holds, sends_all}
-use Rattle.marshalling.proofs.Lists.{first}
 use Rattle.pair_meaning.specs.Monitors.{low}
 use Rattle.pair_meaning.specs.Rules.{Admitted, decided, makes, plain_of}
 use Rattle.pair_meaning.specs.Serving.{verdict_on}
@@ -40,7 +40,7 @@ module _ (s : Scene) (ok : IsScene s) (depth : ℕ) (honest : IsHonest s depth) 
   numbers_same : plain_numbers (signature s).params (map number_in (shown_args s)) ≡ numbers
   numbers_same =
       sym (plain_same s.monitor.store s.slave.structs s.machine.blocks (names_of s.args) (view s) (signature s).params s.args
-      (first (sends_all s.monitor.store s.slave.structs s.machine.blocks (signature s).params s.args) (list_all (λ name. list_all (holds s.monitor.store) (packed_block (s.machine.blocks name))) (names_of s.args)) (sent s ok).sendable))
+      (and_true_first (sends_all s.monitor.store s.slave.structs s.machine.blocks (signature s).params s.args) (list_all (λ name. list_all (holds s.monitor.store) (packed_block (s.machine.blocks name))) (names_of s.args)) (sent s ok).sendable))
 
   -- the events of the call
   abbrev events_by : Bool → List ℤ → List Event

@@ -1,6 +1,6 @@
 -- A reply behind which the slave goes on is one that its call can have.
 use Rattle.std.proofs.Common.{◌≡◌, ℕ, refl, ap, ◌∙◌, Bool, true, false, List, [], ◌∷◌, ◌++◌, if◌then◌else◌, inl, inr}
-use Rattle.std.specs.Prelude.{◌&&◌}
+use Rattle.host_table.proofs.WholeLemmas.{both as and_true}
 use Rattle.pt_base.specs.declared.end.End.{End}
 use Rattle.block_memory.specs.declared.cell.Cell.{Cell}
 use Rattle.wire.specs.declared.message.Message.{Message}
@@ -8,6 +8,7 @@ use Rattle.wire.specs.declared.message.ReplyBody.{ReplyBody}
 use Rattle.pt_core.specs.CodeTree.{BootTree}
 use Rattle.pair_protocol.specs.Sides.{going, waits}
 use Rattle.pair_protocol.specs.Pair.{Both, run}
+use Rattle.pair_protocol.proofs.OrderFacts.{going_waits, over_going, over_waits}
 use Rattle.pair_meaning.specs.Monitors.{Monitor}
 use Rattle.pair_meaning.specs.Rules.{PeerRule}
 use Rattle.pair_meaning.specs.SlaveRun.{Doing, Slave, goes, is_over, is_reply_to, longest, mode_by, mode_of, slave_of, take, taken_by, waits_for, with_reply, may_take}
@@ -18,7 +19,6 @@ use Rattle.pair_invariant_law.specs.Laws.{CallsKeep}
 use Rattle.pair_invariant_law.specs.Live.{IsKept, Setting}
 use Rattle.pair_laws.proofs.PairStepsPair.{the_pair_keeps}
 use Rattle.pair_laws.specs.AwaitedRepliesLaws.{RepliesAreAwaited, WhatIsSaidGrows}
-use Rattle.pair_laws.proofs.AwaitedRepliesFacts.{going_waits, over_going, over_waits}
 use Rattle.pair_laws.proofs.AwaitedRepliesGrowing.{grows}
 use Rattle.pair_laws.proofs.AwaitedRepliesTaking.{AllTaken, GoesOn, taking}
 
@@ -32,10 +32,6 @@ awaited_by : (x : Slave) (reply : ReplyBody) (d : Doing) → mode_by d ≡ waits
 awaited_by x reply goes is e = going_waits is
 awaited_by x reply (waits_for f args) is e = fits_by x (with_reply x f args reply) (is_reply_to x f args reply) e
 awaited_by x reply is_over is e = over_waits is
-
-and_true : (p q : Bool) → p ≡ true → q ≡ true → p && q ≡ true
-and_true true q e h = h
-and_true false q e h = e
 
 -- ---- all of them
 

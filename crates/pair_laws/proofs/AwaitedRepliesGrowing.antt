@@ -2,7 +2,7 @@
 use Rattle.std.proofs.Common.{◌≡◌, ℕ, zero, suc, List, [], ◌∷◌, ◌++◌, refl, sym, ◌∙◌, ap, Option}
 use Rattle.pair_protocol.specs.Sides.{Mode, going, waits, over, Sides}
 use Rattle.pair_protocol.specs.SlaveRun.{Ready, having, ready_in, ready, with_said, moved_on, slave_at}
-use Rattle.pair_laws.proofs.AwaitedRepliesFacts.{said_more}
+use Rattle.pair_protocol.proofs.OrderFacts.{said_more}
 
 abbrev pub IsFront : {X : Type 0} → List X → List X → Type 0
 IsFront {X = X} xs ys = (rest : List X) × (ys ≡ xs ++ rest)

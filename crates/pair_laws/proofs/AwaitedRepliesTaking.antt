@@ -1,11 +1,13 @@
 -- While the pair in which each message is served at once goes on, its slave waits for each reply, and goes on behind it.
 use Rattle.std.proofs.Common.{◌≡◌, ℕ, zero, suc, List, [], ◌∷◌, ◌++◌, refl, sym, ◌∙◌, ap, subst, true, false, Option, Some, None}
+use Rattle.pt_base.proofs.Lists.{append_grouped, nil_not_cons}
 use Rattle.pair_protocol.specs.Sides.{Mode, going, waits, over, Served, goes_on, ends, bad, Sides, AreFair, HasReply, of_bool, waiting, asks}
 use Rattle.pair_protocol.specs.SlaveRun.{At, having, with_said, moved_on, ready, slave_at}
 use Rattle.pair_protocol.specs.Serving.{after, serve_all}
 use Rattle.pair_protocol.specs.Pair.{Both, run, answered, heard, both_in, both_step}
 use Rattle.pair_protocol.proofs.OrderSlaveFacts.{ready_none, taken_first}
-use Rattle.pair_laws.proofs.AwaitedRepliesFacts.{append_all, first, none_some, one_waits, opens, others}
+use Rattle.pair_protocol.proofs.OrderWalks.{one_waits}
+use Rattle.pair_laws.proofs.AwaitedRepliesFacts.{first, opens, others}
 
 -- behind the replies before, it waits for the next one, and goes on with it; and so on
 abbrev pub AllTaken : {S M X R E Q : Type 0} → Sides S M X R E Q → ℕ → S → List R → List R → Type 0
@@ -30,7 +32,7 @@ moved_over g n n' s s' more alike before [] h = tt {0}
 moved_over g n n' s s' more alike before (r ∷ rs) h = (
   ap g.mode (alike before) ∙ h.0,
   ap (λ x. g.mode (g.take r x)) (alike before) ∙ h.1,
-  subst (λ bs. AllTaken g n s bs rs) (sym (append_all more before (r ∷ []))) (moved_over g n n' s s' more alike (before ++ r ∷ []) rs h.2),
+  subst (λ bs. AllTaken g n s bs rs) (sym (append_grouped more before (r ∷ []))) (moved_over g n n' s s' more alike (before ++ r ∷ []) rs h.2),
 )
 
 -- one that waits, and is given nothing, stays
@@ -81,7 +83,7 @@ take_step g fair Good keeps goes n rec s m w xs rest good e =
 
 at_start : {S M X R E Q : Type 0} (g : Sides S M X R E Q) (s : S) (m : M) (xs rest : List X) → [] ≡ xs ++ rest → AllTaken g 0 s [] (serve_all g m xs).replies
 at_start g s m [] rest e = tt {0}
-at_start g s m (x ∷ xs) rest e = none_some x (xs ++ rest) e
+at_start g s m (x ∷ xs) rest e = nil_not_cons x (xs ++ rest) e
 
 pub taking : {S M X R E Q : Type 0} (g : Sides S M X R E Q) → AreFair g → (Good : Both S M E Q → Type 0) → Keeps g Good → GoesOn g Good → (n : ℕ) → Taking g Good n
 taking g fair Good keeps goes zero s m w xs rest good e = at_start g s m xs rest e

@@ -5,6 +5,7 @@ use Rattle.std.proofs.lemmas.Bool.Decides.{nat_tests}
 use Rattle.pt_base.specs.declared.int_type.IntType.{IntType}
 use Rattle.pt_base.specs.declared.span.Span.{Span}
 use Rattle.pt_base.specs.declared.trap.Trap.TheVariants.{Depth}
+use Rattle.pt_base.proofs.Booleans.{true_and_false}
 use Rattle.runs.specs.Run.{deepest}
 use Rattle.block_memory.specs.declared.cell.Cell.{Cell}
 use Rattle.pt_core.specs.CodeTree.{StmtTree, clear, check, assign, copy, call, choose, repeat, break_out, continue_on, give_back, StmtTrees, no_stmts, stmt_and, ProgramTree}
@@ -30,10 +31,6 @@ Asks program gate g d idle left = Unit {0}
 
 within : (d : ℕ) → nat_le d deepest ≡ true → d ≤ deepest
 within d h = grind (arith, nat_tests, h)
-
-differ : {A : Type 0} (b : Bool) → b ≡ true → b ≡ false → A
-differ true e f = cc
-differ false e f = cc
 
 module _ {G : Type 0} (program : ProgramTree) (gate : Gate G) (g : G) (d : ℕ) where
   abbrev Fine : Step G → Type 0
@@ -66,8 +63,8 @@ module _ {G : Type 0} (program : ProgramTree) (gate : Gate G) (g : G) (d : ℕ) 
     where
       go : (host : Bool) → (signature_in program f).host ≡ host → (fits : Bool) → nat_le (d + 1) deepest ≡ fits →
           Fine (if host then answers (asked f vs 0) (awaiting f result m) g else (if fits then answers (asked f vs (d + 1)) (awaiting f result m) g else answers (trapped Depth s) m g))
-      go true e fits k = record { way = is; host = λ h. refl; deeper = λ h. differ (signature_in program f).host e h; same = refl }
-      go false e true k = record { way = is; host = λ h. differ (signature_in program f).host h e; deeper = λ h. (refl, within (d + 1) k); same = refl }
+      go true e fits k = record { way = is; host = λ h. refl; deeper = λ h. true_and_false (signature_in program f).host e h; same = refl }
+      go false e true k = record { way = is; host = λ h. true_and_false (signature_in program f).host h e; deeper = λ h. (refl, within (d + 1) k); same = refl }
       go false e false k = tt {0}
 
   deep_fine : (b : Bool) (s : Span) (m : Machine) (next : Machine → Step G) → Fine (next (with_turn m)) → Fine (if b then turned m g next else answers (trapped Depth s) m g)

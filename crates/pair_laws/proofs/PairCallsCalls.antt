@@ -4,8 +4,10 @@ use Rattle.std.specs.Prelude.{nat_le}
 use Rattle.std.proofs.lemmas.Bool.{or_parts}
 use Rattle.std.proofs.lemmas.Bool.Decides.{nat_tests}
 use Rattle.std.proofs.lemmas.List.{length-map}
+use Rattle.monitor_soundness_law.proofs.ServingBlocks.{brought_is}
 use Rattle.pt_base.specs.declared.end.End.{End}
 use Rattle.pt_base.specs.declared.end.End.TheVariants.{Spent, Trapped}
+use Rattle.pt_base.proofs.Numbers.{nat_le_at_most, nat_lt_below, nat_lt_false, nat_lt_true}
 use Rattle.runs.specs.Run.{written as bytes_of}
 use Rattle.runs.specs.State as r
 use Rattle.runs.specs.State.{Hosts, gives}
@@ -42,7 +44,6 @@ use Rattle.pair_invariant_law.specs.Live.{IsKept, IsLive, IsSetting, Setting, ex
 use Rattle.pair_laws.specs.ServedBodiesLaws.{Ends, IsNoted, IsSpent, IsTheWholes, IsWhole, number_of}
 use Rattle.pair_laws.specs.ServedBodiesScene.{IsScene, Scene, admitted, noted, sent_body, signature, turns_left}
 use Rattle.pair_laws.proofs.ServedBodiesCalled.{calls_are_noted, calls_are_spent}
-use Rattle.pair_laws.proofs.ServedBodiesMemory.{brought_is}
 use Rattle.pair_laws.proofs.ServedBodiesServed.{served_calls_are_the_wholes}
 use Rattle.pair_laws.proofs.ServedBodiesWork.{sent}
 use Rattle.pair_invariant_law.specs.MonitorGatesLaws.{Told}
@@ -55,18 +56,6 @@ use Rattle.pair_laws.proofs.PairCallsScenes.{after_call, at_call, budget_same, d
 
 not_less : (a b : ℕ) → b ≤ a → nat_lt a b ≡ false
 not_less a b h = grind (arith, nat_tests, h)
-
-is_less : (a b : ℕ) → a < b → nat_lt a b ≡ true
-is_less a b h = grind (arith, nat_tests, h)
-
-less_of : (a b : ℕ) → nat_lt a b ≡ true → a < b
-less_of a b h = grind (arith, nat_tests, h)
-
-most_of : (a b : ℕ) → nat_lt a b ≡ false → b ≤ a
-most_of a b h = grind (arith, nat_tests, h)
-
-le_of : (a b : ℕ) → nat_le a b ≡ true → a ≤ b
-le_of a b h = grind (arith, nat_tests, h)
 
 -- a message whose turns are fine, for which both have none left
 spent_by : (m : Monitor) (x : Message) → rule.early_rule m.last x ≡ None → is_spent m x ≡ true → serve m x ≡ side.ends [] Spent
@@ -246,8 +235,8 @@ module _ (whole : ProgramTree) (policy : Standing) (hosts : Hosts) (Own : Slave 
   by_turns : (slave : Slave) → (((s.machine.turns + 1) + m.turns ≤ m.budget) → Kept slave (serve m msg)) → (b : Bool) → is_spent m msg ≡ b → Kept slave (serve m msg)
   by_turns slave further true e =
       subst (λ (served : Served Monitor ReplyBody End PeerRule). Kept slave served) (sym (spent_by m msg (early_fine m.last s.machine.turns (honest whole policy hosts Own x m written setting live f args depth is).last) e))
-      (spent_expected (room s.machine.turns m.turns m.budget (less_of m.budget ((s.machine.turns + 1) + m.turns) e)))
-  by_turns slave further false e = further (most_of m.budget ((s.machine.turns + 1) + m.turns) e)
+      (spent_expected (room s.machine.turns m.turns m.budget (nat_lt_below m.budget ((s.machine.turns + 1) + m.turns) e)))
+  by_turns slave further false e = further (nat_lt_false m.budget ((s.machine.turns + 1) + m.turns) e)
 
   kept_wait : holds_number s ≡ true → Own (awaits_reply asker f args depth).slave → Kept (awaits_reply asker f args depth).slave (serve m msg)
   kept_wait holds own =
@@ -286,8 +275,8 @@ module _ (whole : ProgramTree) (policy : Standing) (hosts : Hosts) (Own : Slave 
       let same = budget_same whole policy hosts Own x m written setting live f args depth is in
       subst (λ (served : Served Monitor ReplyBody End PeerRule). Kept (parks asker).slave served)
       (sym (spent_by m park (early_fine m.last (s.machine.budget + 1) (late_park m.last x.machine.turns m.turns m.budget s.machine.budget live.beside.last live.turns same))
-      (is_less m.budget ((s.machine.budget + 1) + m.turns) (over_park s.machine.budget m.budget m.turns same))))
-      (spent_expected (no_turn s.machine.budget m.budget s.machine.turns x.calls m.turns same (le_of s.machine.budget (s.machine.turns + x.calls) e) live.beside.calls))
+      (nat_lt_true m.budget ((s.machine.budget + 1) + m.turns) (over_park s.machine.budget m.budget m.turns same))))
+      (spent_expected (no_turn s.machine.budget m.budget s.machine.turns x.calls m.turns same (nat_le_at_most s.machine.budget (s.machine.turns + x.calls) e) live.beside.calls))
 
   by_budget : (b : Bool) → nat_le s.machine.budget (s.machine.turns + x.calls) ≡ b → Own (if b then parks asker else says_call asker f args depth).slave → IsKept w Own (hears (if b then parks asker else says_call asker f args depth))
   by_budget true e own = parked e

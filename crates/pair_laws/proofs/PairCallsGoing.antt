@@ -2,7 +2,10 @@
 use Rattle.std.proofs.Common.{◌≡◌, ◌∙◌, ℕ, suc, ◌+◌, ◌-◌, ◌≤◌, ap, sym, refl, subst, arith, List, [], ◌∷◌, ◌++◌, Bool, true, false, Option, None, if◌then◌else◌}
 use Rattle.std.specs.Prelude.{ℤ, pos, ◌&&◌, is_some}
 use Rattle.std.proofs.lemmas.List.{map-append}
+use Rattle.std.proofs.lemmas.Bool.{and_from}
+use Rattle.monitor_soundness_law.proofs.ServingBlocks.{brought_is, globals_fit}
 use Rattle.pt_base.specs.declared.int_type.IntType.{IntType}
+use Rattle.pt_base.proofs.Numbers.{at_most_self}
 use Rattle.pt_tree.specs.HostStep.{host_step}
 use Rattle.pt_tree.specs.declared.host_model.HostModel.{HostModel}
 use Rattle.runs.specs.Run.{written as bytes_of}
@@ -10,15 +13,12 @@ use Rattle.runs.specs.State.{Hosts}
 use Rattle.policy.specs.Verdicts.{Standing}
 use Rattle.handle_store.specs.Stored.{AreInRange}
 use Rattle.block_memory.specs.declared.cell.Cell.{Cell}
-use Rattle.block_memory.specs.Blocks.{Blocks}
 use Rattle.pt_core.specs.CodeTree.{ProgramTree}
 use Rattle.pt_core.specs.Statements.{State}
 use Rattle.pt_core.specs.Calls.{signature_in}
 use Rattle.pt_core.specs.Steps.{answers, asked, moved}
 use Rattle.pt_core.specs.WellFormed.{monitor_program, signature_at}
 use Rattle.core_steps_law.specs.MachinesJudged.{Judgement, Judging}
-use Rattle.core_soundness_law.specs.Fits.{MemoryFits}
-use Rattle.core_soundness_law.specs.Kept.{none}
 use Rattle.marshalling.specs.Handles.{Entries}
 use Rattle.marshalling.specs.HonestCalls.{returned}
 use Rattle.marshalling.specs.Replies.{Place, kept, kept_by, kept_results, result_places}
@@ -36,16 +36,15 @@ use Rattle.pair_meaning.specs.Serving.{global_part, served_with, turns_taken}
 use Rattle.pair_meaning.specs.SlaveRun.{Slave, goes, machine_step, stepped, types_given}
 use Rattle.pair_meaning.specs.Start.{reads_input}
 use Rattle.pair_invariant_law.specs.MonitorGatesLaws.{Told, is_host_of}
-use Rattle.pair_invariant_law.proofs.MonitorGatesModels.{both_true, called_signed}
+use Rattle.pair_invariant_law.proofs.MonitorGatesModels.{called_signed}
 use Rattle.pair_invariant_law.specs.Halves.{is_own_host}
 use Rattle.pair_invariant_law.specs.Hosts.{HostsAgree}
 use Rattle.pair_invariant_law.specs.Live.{IsBeside, IsLive, IsSetting, IsTheirs, Setting, whole_after}
 use Rattle.pair_laws.specs.ServedBodiesLaws.{IsTold, IsWhole, ShowsTaking, number_of, store_then, taking}
 use Rattle.pair_laws.specs.ServedBodiesScene.{IsScene, Scene, admitted, noted, sent_body, signature, turns_left}
-use Rattle.pair_laws.proofs.ServedBodiesMemory.{brought_is}
 use Rattle.pair_laws.proofs.ServedBodiesWork.{sent}
 use Rattle.pair_laws.specs.AdmittedCallsLaws.{call_said, holds_number}
-use Rattle.pair_laws.proofs.PairCallsScenes.{after_call, asked_by, both_are, budget_same, scene, scene_ok, setting_of, shared_hosts}
+use Rattle.pair_laws.proofs.PairCallsScenes.{after_call, asked_by, budget_same, scene, scene_ok, setting_of, shared_hosts}
 
 -- ---- types of what comes back
 
@@ -55,17 +54,6 @@ types_same (p ∷ places) = ap (λ ts. types_in (kept_by p.way p.ty (pos 0)) ++ 
   where
     joined_types : (a b : Entries) → store_types (a ++ b) ≡ store_types a ++ store_types b
     joined_types a b = map-append (λ (entry : IntType × ℤ). entry.0) a b
-
--- ---- the monitor's globals alone
-
-globals_fit : (program : ProgramTree) (blocks : Blocks) → MemoryFits none program [] blocks → MemoryFits none program [] (global_part blocks)
-globals_fit program blocks mem = record {
-  locals = λ depth v. refl;
-  globals = mem.globals;
-  global_cells = mem.global_cells;
-  received_cells = λ n. tt {0};
-  beyond = mem.beyond;
-}
 
 -- ---- numbers
 
@@ -77,9 +65,6 @@ one_more c m k h = omega (arith, h)
 
 enough : (a b c : ℕ) → a ≡ b → b ≤ a + c
 enough a b c e = omega (arith, e)
-
-self : (n : ℕ) → n ≤ n
-self n = omega arith
 
 module _ (whole : ProgramTree) (policy : Standing) (hosts : Hosts) (Own : Slave → Type 0) (x : Slave) (m : Monitor) (written : List ℕ)
     (setting : IsSetting (setting_of whole policy hosts x m) Own) (live : IsLive (setting_of whole policy hosts x m) Own x m written)
@@ -132,7 +117,7 @@ module _ (whole : ProgramTree) (policy : Standing) (hosts : Hosts) (Own : Slave 
       ranged = subst AreInRange (sym store_is) (grows.ranged live.theirs.ranged);
       input = live.theirs.input;
       budget = live.theirs.budget;
-      hosts_fit = λ g own host. work.models g (both_true (is_some (signature_at code g)) (signature_in code g).host (called_signed code g setting.halves.monitor_sound own) host);
+      hosts_fit = λ g own host. work.models g (and_from (is_some (signature_at code g)) (signature_in code g).host (called_signed code g setting.halves.monitor_sound own) host);
     }
 
     -- ---- the slave
@@ -161,7 +146,7 @@ module _ (whole : ProgramTree) (policy : Standing) (hosts : Hosts) (Own : Slave 
       given = given_is;
       budget = budget_same whole policy hosts Own x m written setting live f args depth is;
       calls = one_more x.calls m.turns (turns_left s - st.left) live.beside.calls;
-      last = self s.machine.turns;
+      last = at_most_self s.machine.turns;
     }
 
     -- ---- the whole's hosts
@@ -186,13 +171,13 @@ module _ (whole : ProgramTree) (policy : Standing) (hosts : Hosts) (Own : Slave 
         go true e =
             hosts_told g ∙ ap (λ (b : Bool). if b then st.hosts g else live.gate.hosts g) e
             ∙ sym (fixed_told g ∙ ap (λ (b : Bool). if b then st.hosts g else live.gate.hosts g)
-            (both_are (is_some (signature_at x.program g) && is_own_host (signature_in x.program g)) (is_host_of code g) (both_are (is_some (signature_at x.program g)) (is_own_host (signature_in x.program g)) known own) e))
+            (and_from (is_some (signature_at x.program g) && is_own_host (signature_in x.program g)) (is_host_of code g) (and_from (is_some (signature_at x.program g)) (is_own_host (signature_in x.program g)) known own) e))
         go false e = hosts_told g ∙ ap (λ (b : Bool). if b then st.hosts g else live.gate.hosts g) e
 
     hosts_agree : HostsAgree x.program code gate_now.hosts m.input next_slave.hosts x.input st.hosts
     hosts_agree = record {
       slave_has = λ g known own. ap (λ h. h.hosts g) (asked_by whole policy hosts Own x m written setting live f args depth is).same ∙ live.hosts.slave_has g known own ∙ sym (own_stays g known own);
-      monitor_has = λ g known host. sym (hosts_told g ∙ ap (λ (b : Bool). if b then st.hosts g else live.gate.hosts g) (both_are (is_some (signature_at code g)) (signature_in code g).host known host));
+      monitor_has = λ g known host. sym (hosts_told g ∙ ap (λ (b : Bool). if b then st.hosts g else live.gate.hosts g) (and_from (is_some (signature_at code g)) (signature_in code g).host known host));
       reads = λ g known own reads. live.hosts.reads g known own (subst (λ (now : HostModel). reads_input now ≡ true) (own_stays g known own) reads);
       stays = λ g known own its numbers. subst (λ (now : HostModel). (host_step m.input now numbers).next ≡ now) (sym (own_stays g known own)) (live.hosts.stays g known own its numbers);
     }

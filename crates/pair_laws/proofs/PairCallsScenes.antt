@@ -1,13 +1,13 @@
 -- Where the slave of a live pair asks for a call, what its scene is.
-use Rattle.std.proofs.Common.{◌≡◌, ◌∙◌, ◌⊎◌, inl, inr, ℕ, suc, ◌+◌, ◌≤◌, nat_eq, ap, sym, refl, subst, arith, List, [], ◌∷◌, length, Bool, true, false, Option, Some, if◌then◌else◌}
+use Rattle.std.proofs.Common.{◌≡◌, ◌∙◌, ◌⊎◌, inl, inr, ℕ, suc, ◌+◌, ◌≤◌, nat_eq, ap, sym, refl, subst, arith, List, ◌∷◌, length, Bool, true, false, Option, Some, if◌then◌else◌}
 use Rattle.std.specs.Prelude.{IsTrue, ◌&&◌, ◌||◌, is_some, nat_le, unwrap_or}
 use Rattle.std.specs.List.{list_all, list_any}
-use Rattle.std.specs.Map.{lookup}
 use Rattle.std.proofs.lemmas.Bool.Decides.{nat_tests}
+use Rattle.std.proofs.lemmas.Bool.{and_from}
+use Rattle.pt_base.proofs.Booleans.{and_parts, both_hold_first, both_hold_second}
 use Rattle.pt_tree.specs.HostStep.{host_step}
 use Rattle.pt_tree.specs.declared.signature.Param.{Param}
 use Rattle.pt_tree.specs.declared.signature.Signature.{Signature}
-use Rattle.typed_tree.proofs.WellFormedLemmas.{and_left, and_right}
 use Rattle.runs.specs.Run.{deepest}
 use Rattle.runs.specs.State.{Hosts}
 use Rattle.host_models.specs.Fitting as model
@@ -38,7 +38,7 @@ use Rattle.part_views_law.specs.Views.{View, slave_view}
 use Rattle.part_views_law.proofs.Instances.{slaves_are_viewed}
 use Rattle.marshalling_law.specs.CallsPackable.{AreSmall}
 use Rattle.marshalling_law.specs.CallsSending.{AreParameters}
-use Rattle.marshalling_law.proofs.CallsPackable.{all_are_given, block_small}
+use Rattle.marshalling_law.proofs.CallsPackable.{all_are_given, block_small, found_signature}
 use Rattle.part_views_law.specs.StepsOutward.{AskSeen, Outward}
 use Rattle.part_views_law.specs.StepsParts.{AllAbove, HasSignature, IsViewed, Stands}
 use Rattle.part_views_law.proofs.StepsInstances.{slaves_stand}
@@ -58,16 +58,6 @@ use Rattle.pair_laws.specs.ServedBodiesScene.{IsScene, Scene, called, called_and
 use Rattle.pair_laws.proofs.ServedBodiesRuns.{no_further}
 use Rattle.pair_laws.specs.AdmittedCallsLaws.{IsHonest}
 use Rattle.pair_laws.proofs.PairCallsAsked.{Asks, IsAsked, bare_asks_none, steps_ask}
-
--- ---- tests
-
-pub and_parts : (a b : Bool) → (a && b) ≡ true → (a ≡ true) × (b ≡ true)
-and_parts true b e = (refl, e)
-and_parts false b e = cc
-
-pub both_are : (a b : Bool) → a ≡ true → b ≡ true → (a && b) ≡ true
-both_are true b e h = h
-both_are false b e h = cc
 
 -- ---- what goes away is asked for
 
@@ -91,22 +81,11 @@ function_guarded s is plain = go s.privileged s.host is plain
 
 -- ---- signatures
 
-found_signature : (Q : Signature → Bool) (f : ℕ) (xs : List (ℕ × Signature)) (s : Signature) → lookup (nat_eq f) xs ≡ Some s → list_all (λ x. Q x.1) xs ≡ true → Q s ≡ true
-found_signature Q f [] s is h = cc
-found_signature Q f (x ∷ xs) s is h = go (λ e. found_signature Q f xs s e (and_right (Q x.1) (list_all (λ y. Q y.1) xs) h)) (nat_eq f x.0) is
-  where
-    same : Some x.1 ≡ Some s → x.1 ≡ s
-    same e = cc
-
-    go : (lookup (nat_eq f) xs ≡ Some s → Q s ≡ true) → (b : Bool) → (if b then Some x.1 else lookup (nat_eq f) xs) ≡ Some s → Q s ≡ true
-    go more true e = subst (λ (y : Signature). Q y ≡ true) (same e) (and_left (Q x.1) (list_all (λ y. Q y.1) xs) h)
-    go more false e = more e
-
 parameters : (p : ProgramTree) (f : ℕ) (s : Signature) → IsTrue (is_sound false p) → signature_at p f ≡ Some s → AreParameters p.structs (signature_in p f).params
 parameters p f s sound is =
     subst (λ (sig : Signature). AreParameters p.structs sig.params) (sym (ap (λ (o : Option Signature). unwrap_or o no_signature) is))
-    (and_right (nat_le (length s.params) 8) (list_all (param_fits (length p.structs)) s.params)
-    (and_left (nat_le (length s.params) 8 && list_all (param_fits (length p.structs)) s.params) _ (found_signature (signature_fits p.structs) f p.signatures s is (facts_of false p sound).signatures)))
+    (both_hold_second (nat_le (length s.params) 8) (list_all (param_fits (length p.structs)) s.params)
+    (both_hold_first (nat_le (length s.params) 8 && list_all (param_fits (length p.structs)) s.params) _ (found_signature (signature_fits p.structs) f p.signatures s is (facts_of false p sound).signatures)))
 
 -- ---- depths
 
@@ -114,7 +93,7 @@ same_head : (a b : Active) (as' bs : List Active) → a ∷ as' ≡ b ∷ bs →
 same_head a b as' bs e = cc
 
 low_depth : (d depth : ℕ) → 1 ≤ d → depth ≡ d + 1 → depth ≤ deepest → (nat_le 2 depth && nat_le depth deepest) ≡ true
-low_depth d depth h e k = both_are (nat_le 2 depth) (nat_le depth deepest) (grind (arith, nat_tests, h, e)) (grind (arith, nat_tests, k))
+low_depth d depth h e k = and_from (nat_le 2 depth) (nat_le depth deepest) (grind (arith, nat_tests, h, e)) (grind (arith, nat_tests, k))
 
 first_depth : (depth : ℕ) → depth ≡ 0 → nat_eq depth 0 ≡ true
 first_depth depth e = grind (arith, nat_tests, e)

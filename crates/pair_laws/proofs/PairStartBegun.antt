@@ -1,14 +1,15 @@
 -- Where the slave of an accepted program begins: its machine fits, and what is seen of it is where the whole begins.
-use Rattle.std.proofs.Common.{◌≡◌, ◌∙◌, ℕ, zero, suc, refl, ap, sym, subst, arith, true, false, Option, None, List, [], ◌∷◌, length, map, take}
+use Rattle.std.proofs.Common.{◌≡◌, ◌∙◌, ℕ, zero, suc, refl, ap, sym, subst, arith, false, Option, None, List, [], ◌∷◌, length, map, take}
 use Rattle.std.specs.Prelude.{◌&&◌, is_some, nat_eq, unwrap_or}
-use Rattle.std.proofs.lemmas.Bool.Decides.{nat_tests}
+use Rattle.pt_base.proofs.Booleans.{both_hold_second}
+use Rattle.lowered_code_law.proofs.FormsPrograms.{signature_of_function}
+use Rattle.c_lower_law.proofs.MainRuns.{none_given}
 use Rattle.pt_tree.specs.declared.signature.Param.{Param}
 use Rattle.pt_tree.specs.declared.signature.Signature.{Signature}
 use Rattle.typed_tree.specs.declared.variable.Var.{Var}
 use Rattle.typed_tree.specs.TypedTree.{TypedTree}
 use Rattle.typed_tree.specs.WellFormed.{is_int_result}
 use Rattle.typed_tree.specs.WellFormedExpression.{is_main}
-use Rattle.typed_tree.proofs.WellFormedLemmas.{and_right}
 use Rattle.flow_rules.specs.declared.accepted.Accepted.{Accepted}
 use Rattle.block_memory.specs.Blocks.{Blocks, no_blocks, with_frame}
 use Rattle.pt_core.specs.CodeTree.{FunctionTree, ProgramTree}
@@ -23,7 +24,6 @@ use Rattle.core_soundness_law.specs.Fits.{Fits}
 use Rattle.core_soundness_law.specs.Outside.{ArgumentsFit, own_params}
 use Rattle.core_soundness_law.proofs.Resting.{rest_fits}
 use Rattle.core_soundness_law.proofs.Starting.{started_fits}
-use Rattle.split_law.proofs.LoweredCode.{signature_of_function}
 use Rattle.part_views_law.specs.Machines.{nobody, seen_machine}
 use Rattle.part_views_law.specs.Views.{View, seen, slave_view}
 use Rattle.part_views_law.proofs.Instances.{slaves_are_viewed}
@@ -35,20 +35,13 @@ use Rattle.pair_laws.proofs.PairStartGlobals.{globals_seen}
 
 -- ---- main takes no arguments
 
-no_params : (ps : List Param) → nat_eq (length ps) 0 ≡ true → ps ≡ []
-no_params [] h = refl
-no_params (p ∷ ps) h = absurd (some (length ps) h)
-  where
-    some : (n : ℕ) → nat_eq (suc n) 0 ≡ true → ⊥
-    some n h = grind (arith, nat_tests, h)
-
 start_params : (t : TypedTree) (m : IsMain t) → m.function.signature.params ≡ []
 start_params t m =
     let s = m.function.signature in
-    no_params s.params
-    (and_right (is_int_result s.result) (nat_eq (length s.params) 0)
-    (and_right (is_some m.function.body) (is_int_result s.result && nat_eq (length s.params) 0)
-    (and_right (is_main s) (is_some m.function.body && (is_int_result s.result && nat_eq (length s.params) 0)) m.start)))
+    none_given s.params
+    (both_hold_second (is_int_result s.result) (nat_eq (length s.params) 0)
+    (both_hold_second (is_some m.function.body) (is_int_result s.result && nat_eq (length s.params) 0)
+    (both_hold_second (is_main s) (is_some m.function.body && (is_int_result s.result && nat_eq (length s.params) 0)) m.start)))
 
 -- the slave's main has the program's signature
 main_signature : (t : TypedTree) (a : Accepted) (known : IsKnown t a) → signature_in (the_slave t a) (main_in (the_slave t a)) ≡ known.main.function.signature

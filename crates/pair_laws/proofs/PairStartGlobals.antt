@@ -3,6 +3,8 @@ use Rattle.std.proofs.Common.{◌≡◌, ◌∙◌, ℕ, ℤ, refl, ap, sym, Boo
 use Rattle.std.specs.Prelude.{IsTrue, is_some, nat_eq}
 use Rattle.std.specs.List.{filter}
 use Rattle.std.specs.Map.{lookup}
+use Rattle.pt_base.proofs.Booleans.{false_not_true}
+use Rattle.pt_base.proofs.Numbers.{nat_eq_same}
 use Rattle.typed_tree.specs.declared.types.VarTy.{VarTy}
 use Rattle.typed_tree.specs.declared.types.StructInfo.{StructInfo}
 use Rattle.typed_tree.specs.Cells.{leaves_of}
@@ -17,8 +19,7 @@ use Rattle.pt_core.specs.Calls.{context_in}
 use Rattle.pt_core.specs.CoreRun.{with_globals}
 use Rattle.pt_core.specs.WellFormed.{is_sound}
 use Rattle.core_soundness_law.specs.Kept.{none}
-use Rattle.core_soundness_law.proofs.Resting.{rest_fits}
-use Rattle.split_law.proofs.Chosen.{never, same_number}
+use Rattle.core_soundness_law.proofs.Resting.{rest_fits, locals_stay, received_stay}
 use Rattle.split_law.proofs.Parts.{part}
 use Rattle.marshalling.specs.Handles.{Entries}
 use Rattle.part_views_law.specs.Views.{View, has_global, lying, seen, seen_block, seen_cell, slave_of, slave_view}
@@ -37,20 +38,12 @@ chosen_global structs owned g (x ∷ xs) b c own same = go (λ b' c' same'. chos
   where
     other : owned x.id ≡ false → (t : Bool) → nat_eq x.id g ≡ t → (if t then block_of structs x else c (Global g)) ≡ c (Global g)
     other e false h = refl
-    other e true h = never (sym e ∙ ap owned (same_number x.id g h) ∙ own)
+    other e true h = false_not_true (sym e ∙ ap owned (nat_eq_same x.id g h) ∙ own)
 
     go : ((b' c' : Blocks) → b' (Global g) ≡ c' (Global g) → with_globals structs b' (filter (λ (y : GlobalTree). owned y.id) xs) (Global g) ≡ with_globals structs c' xs (Global g)) → (kept : Bool) → owned x.id ≡ kept →
         with_globals structs b (cond kept (x ∷ filter (λ (y : GlobalTree). owned y.id) xs) (filter (λ (y : GlobalTree). owned y.id) xs)) (Global g) ≡ with_globals structs (put c (Global x.id) (block_of structs x)) xs (Global g)
     go rest true e = rest (put b (Global x.id) (block_of structs x)) (put c (Global x.id) (block_of structs x)) (ap (λ (z : Block). if nat_eq x.id g then block_of structs x else z) same)
     go rest false e = rest b (put c (Global x.id) (block_of structs x)) (same ∙ sym (other e (nat_eq x.id g) refl))
-
-locals_stay : (structs : List StructInfo) (gs : List GlobalTree) (blocks : Blocks) (depth v : ℕ) → with_globals structs blocks gs (Local depth v) ≡ blocks (Local depth v)
-locals_stay structs [] blocks depth v = refl
-locals_stay structs (x ∷ xs) blocks depth v = locals_stay structs xs (put blocks (Global x.id) (block_of structs x)) depth v
-
-pub received_stay : (structs : List StructInfo) (gs : List GlobalTree) (blocks : Blocks) (n : ℕ) → with_globals structs blocks gs (Received n) ≡ blocks (Received n)
-received_stay structs [] blocks n = refl
-received_stay structs (x ∷ xs) blocks n = received_stay structs xs (put blocks (Global x.id) (block_of structs x)) n
 
 -- ---- numbers are seen as they are
 
@@ -80,7 +73,7 @@ unknown monitor q g sound outside = (rest_fits none monitor q 0 sound).memory.be
   where
     go : (o : Option VarTy) → is_some o ≡ false → o ≡ None
     go None h = refl
-    go (Some ty) h = never (sym h)
+    go (Some ty) h = false_not_true (sym h)
 
 -- What the slave's view shows of its globals, beside those of the monitor, which owns all others.
 pub globals_seen : (p : ProgramTree) (signed kept signed' kept' owned : ℕ → Bool) (store : Entries) → IsTrue (is_sound false (part signed kept owned p)) → IsTrue (is_sound true (part signed' kept' (λ n. not (owned n)) p)) →
@@ -108,7 +101,7 @@ globals_seen p signed kept signed' kept' owned store slave_sound monitor_sound =
 
     none_beside : (g : ℕ) → owned g ≡ true → (b : Bool) → has_global monitor g ≡ b → beside (Global g) ≡ no_block
     none_beside g here false e = unknown true monitor g monitor_sound e
-    none_beside g here true e = never (ap not (sym here) ∙ has_owned p signed' kept' (λ n. not (owned n)) g e)
+    none_beside g here true e = false_not_true (ap not (sym here) ∙ has_owned p signed' kept' (λ n. not (owned n)) g e)
 
     -- a global that the slave doesn't have is the monitor's, or there is none
     others : (g : ℕ) → has_global slave g ≡ false → (b : Bool) → owned g ≡ b → whole (Global g) ≡ beside (Global g)

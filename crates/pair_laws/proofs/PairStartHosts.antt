@@ -1,9 +1,13 @@
 -- The hosts of a table without faults, as the halves of an accepted program have them.
-use Rattle.std.proofs.Common.{◌≡◌, ◌∙◌, ◌<◌, ℕ, zero, suc, ℤ, refl, ap, sym, subst, arith, ◌⊎◌, inl, inr, Bool, true, false, not, Option, Some, None, List, [], ◌∷◌, ◌++◌, length, map, option_map, if◌then◌else◌}
-use Rattle.std.specs.Prelude.{IsTrue, All, ◌&&◌, ◌||◌, is_some, nat_eq, nat_le, slice_get}
+use Rattle.std.proofs.Common.{◌≡◌, ◌∙◌, ℕ, ℤ, refl, ap, sym, subst, arith, Bool, true, false, not, Option, Some, None, List, [], ◌∷◌, ◌++◌, length, map, option_map, if◌then◌else◌}
+use Rattle.std.specs.Prelude.{IsTrue, ◌&&◌, ◌||◌, is_some, nat_eq, slice_get}
 use Rattle.std.specs.List.{Contains, filter, list_all, list_any}
-use Rattle.std.proofs.lemmas.Bool.Decides.{nat_tests}
 use Rattle.std.proofs.lemmas.List.Elements.{Contains-append_left}
+use Rattle.std.proofs.lemmas.Bool.{or_right}
+use Rattle.pt_base.proofs.Booleans.{both_hold, both_hold_first, both_hold_second, false_not_true}
+use Rattle.pt_base.proofs.Lists.{bytes_if}
+use Rattle.pt_base.proofs.Members.{any_true, contains_first, contains_later}
+use Rattle.pt_base.proofs.Places.{get_map}
 use Rattle.pt_tree.specs.HostStep.{host_step}
 use Rattle.pt_tree.specs.declared.host_model.HostModel.{HostModel}
 use Rattle.pt_tree.specs.declared.host_model.HostModel.TheVariants.{Table, Feed, Input, Bytes, Line}
@@ -16,8 +20,7 @@ use Rattle.host_table.specs.RunHosts.{model_or_none, models_of}
 use Rattle.host_table.specs.Whole.{HasHosts}
 use Rattle.typed_tree.specs.TypedTree.{TypedTree, FunctionTree, signatures_of}
 use Rattle.typed_tree.specs.WellFormed.{are_rising}
-use Rattle.typed_tree.proofs.WellFormedLemmas.{and_both, and_left, and_right}
-use Rattle.reach.proofs.ListLemmas.{contains_cases, contains_filter, contains_first, contains_later, contains_map, contains_nothing, from_filter, from_map}
+use Rattle.reach.proofs.ListLemmas.{contains_filter, contains_map, from_filter, from_map}
 use Rattle.flow_rules.specs.declared.accepted.Accepted.{Accepted}
 use Rattle.pt_core.specs.CodeTree.{ProgramTree}
 use Rattle.pt_core.specs.BootLaw.{BootsAddHosts}
@@ -26,12 +29,14 @@ use Rattle.pt_core.specs.WellFormed.{callee_by, callee_fits, callees, host_by, h
 use Rattle.pt_core.proofs.WellFormedLemmas as core_facts
 use Rattle.lowering.specs.Functions.{core_program, signatures_from}
 use Rattle.lowered_code_law.specs.NamesLaws.{LoweredNames}
+use Rattle.lowered_code_law.proofs.FormsLists.{signatures_rise}
+use Rattle.lowered_code_law.proofs.FormsPrograms.{signature_of_function}
 use Rattle.splitter.specs.Halves.{asked, is_slave_host}
 use Rattle.splitter.proofs.SetLemmas.{among_from, among_has}
 use Rattle.split_law.specs.Laws.{AcceptedShareNothing, MonitorsAreWellFormed, SlavesAreWellFormed}
-use Rattle.split_law.proofs.Chosen.{chosen_rise, never}
-use Rattle.split_law.proofs.LoweredCode.{all_signatures, function_of_signature, signature_listed, signature_of_function}
-use Rattle.split_law.proofs.Parts.{part}
+use Rattle.split_law.proofs.Chosen.{chosen_rise}
+use Rattle.split_law.proofs.LoweredCode.{all_signatures, function_of_signature, signature_listed}
+use Rattle.split_law.proofs.Parts.{part, same_signature}
 use Rattle.part_views_law.specs.StepsParts.{HasSignature}
 use Rattle.slave_soundness_law.specs.Laws.{SlavesBeginSound}
 use Rattle.core_soundness_law.specs.Called.{is_called}
@@ -45,7 +50,7 @@ use Rattle.pair_invariant_law.specs.AcceptedLaws.{monitor_half, slave_half}
 use Rattle.pair_invariant_law.proofs.AcceptedEntries.{code, is_asked}
 use Rattle.pair_invariant_law.proofs.AcceptedHalves.{IsKnown, are_halves, asked_there, halves, kept_monitor, kept_slave, known_of, owned, signed_monitor, signed_slave, slave_named, the_monitor, the_slave}
 use Rattle.pair_invariant_law.proofs.AcceptedMembers.{all_at, each_at, said_of}
-use Rattle.pair_invariant_law.proofs.AcceptedParted.{named_in, same_signature}
+use Rattle.pair_invariant_law.proofs.AcceptedParted.{named_in}
 use Rattle.pair_laws.specs.PairStartLaws.{AcceptedMonitorsAreWellFormed, BootsAreWellFormed, HostsAgreeAtTheStart, MonitorsHostsServe, SlavesOfBootsAreSound}
 use Rattle.pair_laws.specs.PairStartOwn.{HostsAre}
 use Rattle.pair_laws.specs.PairStartStart.{boot_at, slave_at}
@@ -55,29 +60,7 @@ use Rattle.pair_laws.specs.PairStartStart.{boot_at, slave_at}
 -- what all members pass
 all_of : {A : Type 0} (test : A → Bool) (xs : List A) → ((x : A) → Contains xs x → test x ≡ true) → list_all test xs ≡ true
 all_of test [] h = refl
-all_of test (x ∷ xs) h = and_both (test x) (list_all test xs) (h x (contains_first x xs)) (all_of test xs (λ y c. h y (contains_later x xs y c)))
-
-either_left : (a b : Bool) → a ≡ true → (a || b) ≡ true
-either_left true b h = refl
-either_left false b h = never h
-
-either_right : (a b : Bool) → b ≡ true → (a || b) ≡ true
-either_right true b h = refl
-either_right false b h = h
-
--- where a member passes, one does
-some_passes : {A : Type 0} (test : A → Bool) (xs : List A) (x : A) → Contains xs x → test x ≡ true → list_any test xs ≡ true
-some_passes test [] x c e = absurd (contains_nothing x c)
-some_passes {A} test (y ∷ ys) x c e = go (λ i. some_passes test ys x i e) (contains_cases y ys x c)
-  where
-    go : (Contains ys x → list_any test ys ≡ true) → (y ≡ x) ⊎ Contains ys x → (test y || list_any test ys) ≡ true
-    go rest (inl s) = either_left (test y) (list_any test ys) (ap test s ∙ e)
-    go rest (inr i) = either_right (test y) (list_any test ys) (rest i)
-
-got : {A B : Type 0} (f : A → B) (xs : List A) (k : ℕ) → slice_get (map f xs) k ≡ option_map f (slice_get xs k)
-got f [] k = refl
-got f (x ∷ xs) zero = refl
-got f (x ∷ xs) (suc k) = got f xs k
+all_of test (x ∷ xs) h = both_hold (test x) (list_all test xs) (h x (contains_first x xs)) (all_of test xs (λ y c. h y (contains_later x xs y c)))
 
 -- ---- models
 
@@ -89,10 +72,10 @@ pub models_fit : (t : TypedTree) (hosts : table.Hosts) → HasHosts hosts (signa
 models_fit t hosts have f x is host = go (hosts.models f) refl (have.model f x.signature at host)
   where
     at : slice_get (signatures_of t) f ≡ Some x.signature
-    at = got (λ (g : FunctionTree). g.signature) t.functions f ∙ ap (option_map (λ (g : FunctionTree). g.signature)) is
+    at = get_map (λ (g : FunctionTree). g.signature) t.functions f ∙ ap (option_map (λ (g : FunctionTree). g.signature)) is
 
     go : (o : Option HostModel) → hosts.models f ≡ o → is_some o ≡ true → IsTrue (fits (model_or_none (hosts.models f)) x.signature)
-    go None e h = never h
+    go None e h = false_not_true h
     go (Some model) e h = subst (λ (o : Option HostModel). IsTrue (fits (model_or_none o) x.signature)) (sym e) (have.fit f x.signature model at e)
 
 -- so does each host that a half has a signature for
@@ -106,7 +89,7 @@ tables_stay : (input : List ℕ) (args : List ℤ) (model : HostModel) (s : Sign
 tables_stay input args model s mixed fit = go model fit
   where
     wrong : (model : HostModel) → has_right_params s model ≡ false → IsTrue (fits model s) → ⊥
-    wrong model unfit fit = never (sym (ap (λ (b : Bool). b && has_numbers_in_range s model && has_short_name model) unfit) ∙ fit)
+    wrong model unfit fit = false_not_true (sym (ap (λ (b : Bool). b && has_numbers_in_range s model && has_short_name model) unfit) ∙ fit)
 
     last : (b : Bool) → (b && not true) ≡ false
     last true = refl
@@ -155,8 +138,8 @@ own_there t a known f has own =
     let x = slave_named t a f has in
     let s = signature_in (the_slave t a) f in
     host_has t a f x.function x.is
-    (and_both (is_own_host x.function.signature) (is_asked t (halves a) f) (ap is_own_host (sym x.same) ∙ own)
-    (among_has (asked (halves a) (code t)) f (asked_there t a known f has (either_right s.privileged s.host (and_left s.host (not s.privileged) own)))))
+    (both_hold (is_own_host x.function.signature) (is_asked t (halves a) f) (ap is_own_host (sym x.same) ∙ own)
+    (among_has (asked (halves a) (code t)) f (asked_there t a known f has (or_right s.privileged s.host (both_hold_first s.host (not s.privileged) own)))))
 
 -- ---- the boot
 
@@ -165,15 +148,8 @@ numbers_same : (hosts : Hosts) (ns : List ℕ) → map (λ (h : ℕ × HostModel
 numbers_same hosts [] = refl
 numbers_same hosts (n ∷ ns) = ap (λ (ms : List ℕ). n ∷ ms) (numbers_same hosts ns)
 
-rise : (n : ℕ) (ss : List Signature) → are_rising n (map (λ (s : ℕ × Signature). s.0) (signatures_from n ss)) ≡ true
-rise n [] = refl
-rise n (s ∷ ss) = and_both (nat_le n n) (are_rising (suc n) (map (λ (s : ℕ × Signature). s.0) (signatures_from (suc n) ss))) (self n) (rise (suc n) ss)
-  where
-    self : (n : ℕ) → nat_le n n ≡ true
-    self n = grind (arith, nat_tests)
-
 slave_rises : (t : TypedTree) (a : Accepted) → are_rising 0 (own_hosts t a) ≡ true
-slave_rises t a = chosen_rise (λ (s : ℕ × Signature). s.0) (passes t a) 0 0 (numbered t) (omega arith) (rise 0 (signatures_of t))
+slave_rises t a = chosen_rise (λ (s : ℕ × Signature). s.0) (passes t a) 0 0 (numbered t) (omega arith) (signatures_rise 0 (signatures_of t))
 
 -- what the slave's code calls has a signature in it
 asked_signature : (t : TypedTree) (a : Accepted) (f : ℕ) → Contains (asked (halves a) (code t)) f → signature_at (the_slave t a) f ≡ signature_at (core_program t) f
@@ -187,10 +163,10 @@ models_stand t a hosts have = all_of (host_fits fits (the_slave t a)) (models_fo
     one : (f : ℕ) → Contains (own_hosts t a) f → host_by fits (hosts f) (signature_at (the_slave t a) f) ≡ true
     one f c =
         let x = host_from t a f c in
-        let own = and_left (is_own_host x.0.signature) (is_asked t (halves a) f) x.2 in
-        let called = among_from (asked (halves a) (code t)) f (and_right (is_own_host x.0.signature) (is_asked t (halves a) f) x.2) in
-        let host = and_left x.0.signature.host (not x.0.signature.privileged) own in
-        ap (host_by fits (hosts f)) (asked_signature t a f called ∙ signature_of_function t f x.0 x.1) ∙ and_both x.0.signature.host (fits (hosts f) x.0.signature) host (have f x.0 x.1 host)
+        let own = both_hold_first (is_own_host x.0.signature) (is_asked t (halves a) f) x.2 in
+        let called = among_from (asked (halves a) (code t)) f (both_hold_second (is_own_host x.0.signature) (is_asked t (halves a) f) x.2) in
+        let host = both_hold_first x.0.signature.host (not x.0.signature.privileged) own in
+        ap (host_by fits (hosts f)) (asked_signature t a f called ∙ signature_of_function t f x.0 x.1) ∙ both_hold x.0.signature.host (fits (hosts f) x.0.signature) host (have f x.0 x.1 host)
 
     each : (h : ℕ × HostModel) → Contains (models_for hosts (own_hosts t a)) h → host_fits fits (the_slave t a) h ≡ true
     each h c =
@@ -208,7 +184,7 @@ all_answered t a ns same = all_of (is_answered (the_slave t a) ns) (callees (the
             let whole : signature_at (core_program t) f ≡ Some s = sym (asked_signature t a f c) ∙ e in
             let x = function_of_signature t f s whole in
             ap (λ (ms : List ℕ). list_any (nat_eq f) ms) same
-            ∙ among_has (own_hosts t a) f (host_has t a f x.0 x.1 (and_both (is_own_host x.0.signature) (is_asked t (halves a) f) (ap is_own_host x.2 ∙ own) (among_has (asked (halves a) (code t)) f c)))
+            ∙ among_has (own_hosts t a) f (host_has t a f x.0 x.1 (both_hold (is_own_host x.0.signature) (is_asked t (halves a) f) (ap is_own_host x.2 ∙ own) (among_has (asked (halves a) (code t)) f c)))
 
         by_test : (b : Bool) → (b ≡ true → list_any (nat_eq f) ns ≡ true) → (not b || list_any (nat_eq f) ns) ≡ true
         by_test true h = h refl
@@ -221,8 +197,8 @@ all_answered t a ns same = all_of (is_answered (the_slave t a) ns) (callees (the
 hosts_stand : (t : TypedTree) (a : Accepted) (hosts : Hosts) → HaveModels t hosts → IsTrue (hosts_fit fits (the_slave t a) (models_for hosts (own_hosts t a)))
 hosts_stand t a hosts have =
     let models = models_for hosts (own_hosts t a) in
-    and_both (are_rising 0 (map (λ (h : ℕ × HostModel). h.0) models) && list_all (host_fits fits (the_slave t a)) models) (list_all (is_answered (the_slave t a) (map (λ (h : ℕ × HostModel). h.0) models)) (callees (the_slave t a)))
-    (and_both (are_rising 0 (map (λ (h : ℕ × HostModel). h.0) models)) (list_all (host_fits fits (the_slave t a)) models) (ap (are_rising 0) (numbers_same hosts (own_hosts t a)) ∙ slave_rises t a) (models_stand t a hosts have))
+    both_hold (are_rising 0 (map (λ (h : ℕ × HostModel). h.0) models) && list_all (host_fits fits (the_slave t a)) models) (list_all (is_answered (the_slave t a) (map (λ (h : ℕ × HostModel). h.0) models)) (callees (the_slave t a)))
+    (both_hold (are_rising 0 (map (λ (h : ℕ × HostModel). h.0) models)) (list_all (host_fits fits (the_slave t a)) models) (ap (are_rising 0) (numbers_same hosts (own_hosts t a)) ∙ slave_rises t a) (models_stand t a hosts have))
     (all_answered t a (map (λ (h : ℕ × HostModel). h.0) models) (numbers_same hosts (own_hosts t a)))
 
 pub boots_well_formed : AcceptedShareNothing → SlavesAreWellFormed → MonitorsAreWellFormed → LoweredNames → BootsAddHosts → BootsAreWellFormed
@@ -231,15 +207,10 @@ boots_well_formed shares slaves monitors names adds t a hosts input budget ready
     (adds fits (slave_half t a) models (input_for models input) budget).1
     (slaves t (halves a) ready.well_formed (shares t a ready.accepted).0, hosts_stand t a (models_of hosts.models) (models_fit t hosts ready.has_hosts))
 
--- the input of a boot is of bytes
-pub bytes_given : (b : Bool) (input : List ℕ) → All (λ n. n < 256) input → All (λ n. n < 256) (if b then input else [])
-bytes_given true input h = h
-bytes_given false input h = λ k d lt. absurd (omega (arith, lt))
-
 pub slaves_sound : BootsAreWellFormed → SlavesBeginSound → SlavesOfBootsAreSound
 slaves_sound boots sound t a hosts input budget ready bytes small =
     sound (boot_at t a hosts input budget) (boots t a hosts input budget ready)
-    (bytes_given (list_any (λ (h : ℕ × HostModel). reads_input h.1) (models_for (models_of hosts.models) (own_hosts t a))) input bytes) small
+    (bytes_if (list_any (λ (h : ℕ × HostModel). reads_input h.1) (models_for (models_of hosts.models) (own_hosts t a))) input bytes) small
 
 -- ---- the monitor's hosts
 
@@ -248,7 +219,7 @@ callee_signed : (monitor : Bool) (q : ProgramTree) (f : ℕ) → IsTrue (is_soun
 callee_signed monitor q f sound called = go (signature_at q f) refl (all_at (callee_fits monitor q) (callees q) f called (core_facts.facts_of monitor q sound).calls)
   where
     go : (o : Option Signature) → signature_at q f ≡ o → callee_by monitor q f o ≡ true → is_some (signature_at q f) ≡ true
-    go None e k = never k
+    go None e k = false_not_true k
     go (Some s) e k = ap is_some e
 
 call_signed : (t : TypedTree) (a : Accepted) → IsKnown t a → (f : ℕ) → IsTrue (is_called (the_monitor t a) f) → HasSignature (the_monitor t a) f
@@ -291,7 +262,7 @@ agree_at_start t a known hosts input budget own have are = record {
   slave_has = λ f has own. ap model_or_none (said_of (λ (n : ℕ). n) whole f (own_hosts t a) (contains_map (λ (n : ℕ). n) (own_hosts t a) f (own_there t a known f has own)));
   monitor_has = are;
   reads = λ f has own read. ap (λ (b : Bool). if b then input else [])
-      (some_passes (λ (h : ℕ × HostModel). reads_input h.1) (models_for whole (own_hosts t a)) (f, whole f) (contains_map (λ (n : ℕ). (n, whole n)) (own_hosts t a) f (own_there t a known f has own)) read);
+      (any_true (λ (h : ℕ × HostModel). reads_input h.1) (models_for whole (own_hosts t a)) (f, whole f) (contains_map (λ (n : ℕ). (n, whole n)) (own_hosts t a) f (own_there t a known f has own)) read);
   stays = λ f has own too args. tables_stay input args (whole f) (signature_in (the_slave t a) f) (mixed f has own too) (fit f has own);
 }
   where
@@ -300,13 +271,13 @@ agree_at_start t a known hosts input budget own have are = record {
 
     fit : (f : ℕ) → HasSignature (the_slave t a) f → is_own_host (signature_in (the_slave t a) f) ≡ true → IsTrue (fits (whole f) (signature_in (the_slave t a) f))
     fit f has own =
-        let s = signature_in (the_slave t a) f in part_fits t (signed_slave t a) (kept_slave a) (owned a) whole have f has (and_left s.host (not s.privileged) own)
+        let s = signature_in (the_slave t a) f in part_fits t (signed_slave t a) (kept_slave a) (owned a) whole have f has (both_hold_first s.host (not s.privileged) own)
 
     by_marks : (priv host mixed : Bool) → (host && not priv) ≡ true → (priv || (host && mixed)) ≡ true → mixed ≡ true
     by_marks false true mixed own for_it = for_it
-    by_marks false false mixed own for_it = never own
-    by_marks true true mixed own for_it = never own
-    by_marks true false mixed own for_it = never own
+    by_marks false false mixed own for_it = false_not_true own
+    by_marks true true mixed own for_it = false_not_true own
+    by_marks true false mixed own for_it = false_not_true own
 
     -- a host that both may call is mixed
     mixed : (f : ℕ) → HasSignature (the_slave t a) f → is_own_host (signature_in (the_slave t a) f) ≡ true → HasSignature (the_monitor t a) f → is_mixed (signature_in (the_slave t a) f) ≡ true
@@ -314,7 +285,7 @@ agree_at_start t a known hosts input budget own have are = record {
         let both = are_halves t a known in
         let s = signature_in (the_slave t a) f in
         let same : signature_in (the_monitor t a) f ≡ signature_in (the_slave t a) f = sym (both.monitor_signatures f too) ∙ both.slave_signatures f has in
-        by_marks s.privileged s.host (is_mixed s) own (ap is_asked_for (sym same) ∙ both.hosts f too (ap (λ (z : Signature). z.host) same ∙ and_left s.host (not s.privileged) own))
+        by_marks s.privileged s.host (is_mixed s) own (ap is_asked_for (sym same) ∙ both.hosts f too (ap (λ (z : Signature). z.host) same ∙ both_hold_first s.host (not s.privileged) own))
 
 pub hosts_agree : AcceptedShareNothing → SlavesAreWellFormed → MonitorsAreWellFormed → LoweredNames → HostsAgreeAtTheStart
 hosts_agree shares slaves monitors names t a hosts input budget own ready are =

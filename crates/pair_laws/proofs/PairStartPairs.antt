@@ -1,6 +1,7 @@
 -- The pair of an accepted program begins live.
 use Rattle.std.proofs.Common.{◌<◌, ◌≤◌, ◌+◌, ℕ, refl, ap, arith, true, false, not, None, List, []}
 use Rattle.std.specs.Prelude.{All, IsTrue}
+use Rattle.pt_base.proofs.Numbers.{zero_at_most}
 use Rattle.runs.specs.State.{Hosts}
 use Rattle.host_table.specs.Hosts as table
 use Rattle.host_table.specs.RunHosts.{models_of}
@@ -11,7 +12,7 @@ use Rattle.policy.specs.Verdicts.{Standing}
 use Rattle.lowering.specs.Functions.{core_program}
 use Rattle.lowered_code_law.specs.NamesLaws.{LoweredNames}
 use Rattle.core_soundness_law.specs.Kept.{none}
-use Rattle.core_soundness_law.proofs.Resting.{rest_fits}
+use Rattle.core_soundness_law.proofs.Resting.{rest_fits, received_stay}
 use Rattle.block_memory.specs.Blocks.{no_blocks}
 use Rattle.pt_core.specs.CoreRun.{main_in}
 use Rattle.pt_core.specs.Steps.{Machine, answers, just_entered, moved}
@@ -31,10 +32,6 @@ use Rattle.pair_laws.specs.PairStartOwn.{HostsAre, with_hosts}
 use Rattle.pair_laws.specs.PairStartStart.{monitor_at, setting_of, slave_at}
 use Rattle.pair_laws.proofs.PairStartBegun.{begun_fits, begun_seen, beside_of}
 use Rattle.pair_laws.proofs.PairStartHosts.{HaveModels, agree_at_start, models_fit, own_fit, part_fits}
-use Rattle.pair_laws.proofs.PairStartGlobals.{received_stay}
-
-none_taken : (n : ℕ) → 0 ≤ n
-none_taken n = omega arith
 
 as_many : (n : ℕ) → n ≤ n + 0
 as_many n = omega arith
@@ -63,8 +60,8 @@ beside Own t a known policy hosts input budget own first = record {
       (begun_fits t a known budget) (omega arith, refl, tt) (as_many budget)).1;
   given = refl;
   budget = refl;
-  calls = none_taken 0;
-  last = none_taken 0;
+  calls = zero_at_most 0;
+  last = zero_at_most 0;
 }
 
 live : (Own : Slave → Type 0) (t : TypedTree) (a : Accepted) → IsKnown t a → (policy : Standing) (hosts : table.Hosts) (input : List ℕ) (budget : ℕ) (own : Hosts) → HaveModels t (models_of hosts.models) → HostsAre (monitor_half t a) own (models_of hosts.models) →
@@ -78,7 +75,7 @@ live Own t a known policy hosts input budget own have are first = record {
   judgement = refl;
   input = refl;
   hosts = agree_at_start t a known hosts input budget own have are;
-  turns = none_taken budget;
+  turns = zero_at_most budget;
 }
 
 -- ---- all that is asked

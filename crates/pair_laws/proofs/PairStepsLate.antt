@@ -2,6 +2,8 @@
 use Rattle.std.proofs.Common.{◌≡◌, ◌∙◌, inl, inr, ◌+◌, ◌<◌, ◌≤◌, ℕ, suc, refl, ap, sym, subst, arith, List, [], ◌∷◌, Option, Some, None, Bool, true, false}
 use Rattle.std.specs.Prelude.{nat_le, if◌then◌else◌}
 use Rattle.pt_base.specs.declared.end.End.{End}
+use Rattle.pt_base.proofs.Numbers.{at_most_trans}
+use Rattle.pt_base.proofs.Options.{none_not_some, some_same}
 use Rattle.block_memory.specs.declared.cell.Cell.{Cell}
 use Rattle.wire.specs.declared.message.Message.{Message}
 use Rattle.wire.specs.declared.message.Message.TheVariants as message
@@ -58,19 +60,10 @@ heard_at x m written s = heard the_sides (after_step (stepped x s) s.answer s.ga
 pub step_is : (x : Slave) (m : Monitor) (written : List ℕ) (s : Step Heard) → x.doing ≡ goes → machine_step x ≡ s → both_step the_sides (run x m written) ≡ heard_at x m written s
 step_is x m written s going e = ap (λ (d : Doing). both_in the_sides (mode_by d) x m written) going ∙ ap (heard_at x m written) e
 
-pub none_some : {A B : Type 0} (x : A) → None ≡ Some x → B
-none_some x e = cc
-
-pub same_some : {A : Type 0} (x y : A) → Some x ≡ Some y → x ≡ y
-same_some x y e = cc
-
-pub more_turns : (last before after : ℕ) → last ≤ before → before ≤ after → last ≤ after
-more_turns last before after h k = omega (arith, h, k)
-
 -- a write has taken a turn
 pub wrote_turn : (x : Machine) (s : Step Gathered) (bytes : List ℕ) → Wrote x s → s.gate.heard.wrote ≡ Some bytes → (s.gate.bytes ≡ bytes) × (s.machine.turns ≡ suc x.turns)
-wrote_turn x s bytes (inl (none, empty)) e = none_some bytes (sym none ∙ e)
-wrote_turn x s bytes (inr (more, h)) e = (h.gathered ∙ same_some more bytes (sym h.wrote ∙ e), h.turn)
+wrote_turn x s bytes (inl (none, empty)) e = none_not_some bytes (sym none ∙ e)
+wrote_turn x s bytes (inr (more, h)) e = (h.gathered ∙ some_same more bytes (sym h.wrote ∙ e), h.turn)
 
 -- ---- the step
 
@@ -103,7 +96,7 @@ module _ (w : Setting) (Own : Slave → Type 0) (x : Slave) (m : Monitor) (writt
       ((gathering_steps_alike x.program x.machine (begun x)).computes plain.0 ∙ plain.1)
 
   last_before : m.last ≤ y.machine.turns
-  last_before = more_turns m.last x.machine.turns y.machine.turns late.last turns.none_back
+  last_before = at_most_trans m.last x.machine.turns y.machine.turns late.last turns.none_back
 
   still_over : (n a b t more : ℕ) → n < a + t → a ≤ b → b ≤ more → n < more + t
   still_over n a b t more h k l = omega (arith, h, k, l)

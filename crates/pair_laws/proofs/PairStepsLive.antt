@@ -4,6 +4,8 @@ use Rattle.pt_base.specs.declared.end.End.{End}
 use Rattle.pt_base.specs.declared.end.End.TheVariants.{Exit, Spent, Trapped}
 use Rattle.pt_base.specs.declared.span.Span.{Span}
 use Rattle.pt_base.specs.declared.trap.Trap.{Trap}
+use Rattle.pt_base.proofs.Numbers.{at_most_trans}
+use Rattle.pt_base.proofs.Options.{none_not_some}
 use Rattle.block_memory.specs.declared.cell.Cell.{Cell}
 use Rattle.wire.specs.declared.message.Message.{Message}
 use Rattle.wire.specs.declared.message.Message.TheVariants as message
@@ -48,7 +50,7 @@ use Rattle.pair_invariant_law.proofs.SlaveGatesFitting.{gathering_fits}
 use Rattle.pair_invariant_law.proofs.SlaveGatesGathering.{gathering_steps_alike, one_run, slaves_write_once}
 use Rattle.pair_invariant_law.proofs.SlaveGatesHosts.{hosts_go_on_fitting}
 use Rattle.pair_laws.specs.PairStepsSteps.{IsNoCall, StepsKeep}
-use Rattle.pair_laws.proofs.PairStepsLate.{begun, more_turns, none_some, stays_active, step_is, wrote_turn}
+use Rattle.pair_laws.proofs.PairStepsLate.{begun, stays_active, step_is, wrote_turn}
 use Rattle.pair_laws.proofs.PairStepsProper.{Proper, status_seen, steps_are_proper}
 use Rattle.pair_laws.proofs.PairStepsServing.{emit_goes, expect, kept_end, kept_late, ruled, turns_go}
 
@@ -177,7 +179,7 @@ module _ (w : Setting) (Own : Slave → Type 0) (x : Slave) (m : Monitor) (writt
   -- ---- turns
 
   last_before : m.last ≤ y.machine.turns
-  last_before = more_turns m.last x.machine.turns y.machine.turns live.beside.last turns.none_back
+  last_before = at_most_trans m.last x.machine.turns y.machine.turns live.beside.last turns.none_back
 
   same_budget : m.budget ≡ w.budget
   same_budget = live.theirs.budget
@@ -249,7 +251,7 @@ module _ (w : Setting) (Own : Slave → Type 0) (x : Slave) (m : Monitor) (writt
     where
       unwritten : Wrote x.machine y → y.gate.bytes ≡ []
       unwritten (inl (_, empty)) = empty
-      unwritten (inr (more, h)) = none_some more (sym none ∙ h.wrote)
+      unwritten (inr (more, h)) = none_not_some more (sym none ∙ h.wrote)
   silent_step e none own (inr s) = inr (goes_late e own s)
 
   -- ---- it moved, and wrote

@@ -6,9 +6,10 @@ use Rattle.wire.specs.declared.message.Message.{Message}
 use Rattle.wire.specs.declared.message.ReplyBody.{ReplyBody}
 use Rattle.pt_core.specs.Steps.{Answer, asked, ended, idle, moved, spent, trapped}
 use Rattle.pair_protocol.specs.Pair.{Both, answered, both_from, both_in, both_step, done, heard, run, wrong}
-use Rattle.pair_protocol.specs.Sides.{HasReply, IsReply, Mode, Served, asks, bad, ends, goes_on, going, of_bool, over, waiting, waits}
+use Rattle.pair_protocol.specs.Sides.{HasReply, IsReply, Served, asks, bad, ends, goes_on, going, of_bool, waiting, waits}
 use Rattle.pair_protocol.specs.SlaveRun.{At, Ready, having, moved_on, ready, ready_in, slave_at}
 use Rattle.pair_protocol.proofs.OrderSlaveFacts.{taken_first}
+use Rattle.pair_protocol.proofs.OrderWalks.{one_waits}
 use Rattle.pair_meaning.specs.Monitors.{Monitor}
 use Rattle.pair_meaning.specs.Pair.{both, the_sides, wants_reply}
 use Rattle.pair_meaning.specs.Rules.{PeerRule}
@@ -43,11 +44,6 @@ the_pair_keeps Own calls w (done bytes end) setting kept = kept
 the_pair_keeps Own calls w (wrong bytes rule) setting kept = absurd kept
 
 -- ---- it goes on only as long as the slave does
-
-one_waits : (mode : Mode) → waiting mode ≡ 1 → mode ≡ waits
-one_waits going e = cc
-one_waits waits e = refl
-one_waits over e = cc
 
 module _ (w : Setting) (Own : Slave → Type 0) (setting : IsSetting w Own) (calls : CallsKeep Own) where
   -- the pair comes to what is expected

@@ -1,9 +1,10 @@
 -- What a monitor answers to what a slave says that asks for no call, or too late for one.
-use Rattle.std.proofs.Common.{◌≡◌, ◌∙◌, ◌+◌, ◌<◌, ◌≤◌, ℕ, ap, sym, subst, arith, List, [], append-nil, Some, None, true, false}
+use Rattle.std.proofs.Common.{◌≡◌, ◌∙◌, ◌+◌, ◌<◌, ◌≤◌, ℕ, ap, sym, subst, arith, List, [], append-nil, Some, None, false}
 use Rattle.std.specs.Prelude.{nat_lt, nat_le, if◌then◌else◌}
 use Rattle.std.proofs.lemmas.Bool.Decides.{nat_tests}
 use Rattle.pt_base.specs.declared.end.End.{End}
 use Rattle.pt_base.specs.declared.end.End.TheVariants.{Spent}
+use Rattle.pt_base.proofs.Numbers.{nat_lt_true}
 use Rattle.runs.specs.Run.{Expected}
 use Rattle.wire.specs.declared.message.Message.{Message}
 use Rattle.wire.specs.declared.message.Message.TheVariants as message
@@ -19,9 +20,6 @@ use Rattle.pair_meaning.specs.SlaveRun.{Slave}
 use Rattle.pair_invariant_law.specs.Live.{IsKept, Setting, expected_of}
 
 -- ---- numbers
-
-pub is_less : (a b : ℕ) → a < b → nat_lt a b ≡ true
-is_less a b h = grind (arith, nat_tests, h)
 
 pub not_less : (a b : ℕ) → b ≤ a → nat_lt a b ≡ false
 not_less a b h = grind (arith, nat_tests, h)
@@ -48,7 +46,7 @@ ruled m x early room =
 pub late_served : (m : Monitor) (x : Message) → early_rule m.last x ≡ None → m.budget < needs x + m.turns → serve m x ≡ ends [] Spent
 late_served m x early over =
     ap (λ o. acted m x (left_for m x) (unless_broken o (if is_spent m x then rule.ends Spent else rules (low m) x))) early
-    ∙ ap (λ b. acted m x (left_for m x) (if b then rule.ends Spent else rules (low m) x)) (is_less m.budget (needs x + m.turns) over)
+    ∙ ap (λ b. acted m x (left_for m x) (if b then rule.ends Spent else rules (low m) x)) (nat_lt_true m.budget (needs x + m.turns) over)
 
 -- ---- what is expected
 

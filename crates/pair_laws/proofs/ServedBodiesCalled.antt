@@ -1,12 +1,11 @@
 -- What the whole does at a call, whatever the policy says of it.
-use Rattle.std.proofs.Common.{◌≡◌, ◌∙◌, ℕ, suc, ◌+◌, ◌≤◌, nat_le, nat_lt, ap, sym, refl, arith, List, [], ◌∷◌, map, Bool, true, false, Some, None, if◌then◌else◌, ◌||◌}
+use Rattle.std.proofs.Common.{◌≡◌, ◌∙◌, ℕ, suc, ◌+◌, ◌≤◌, nat_lt, ap, sym, refl, arith, List, [], ◌∷◌, map, Bool, true, false, Some, None, if◌then◌else◌, ◌||◌}
 use Rattle.std.specs.Prelude.{IsTrue, is_some}
 use Rattle.std.proofs.lemmas.Bool.Decides.{nat_tests}
 use Rattle.pt_base.specs.declared.end.End.{End}
 use Rattle.pt_base.specs.declared.trap.Trap.TheVariants.{Depth}
 use Rattle.pt_tree.specs.HostStep.{host_step}
 use Rattle.pt_tree.specs.declared.signature.Signature.{Signature}
-use Rattle.runs.specs.Run.{deepest}
 use Rattle.runs.specs.State.{out_event}
 use Rattle.policy.specs.Answers.{answers_of}
 use Rattle.policy.specs.Verdicts.{Standing}
@@ -20,7 +19,7 @@ use Rattle.part_views_law.specs.Machines.{joined, nobody, seated, seen_machine}
 use Rattle.part_views_law.specs.Views.{seen}
 use Rattle.part_views_law.specs.CrossingsCalls.{body_view}
 use Rattle.part_views_law.specs.CrossingsMachines.{resting}
-use Rattle.part_views_law.proofs.CallsWhole.{calls_are_entered}
+use Rattle.part_views_law.proofs.CallsWhole.{calls_are_entered, deep_enough}
 use Rattle.pair_laws.specs.ServedBodiesLaws.{CallsAreNoted, CallsAreSpent, IsNoted, IsSpent}
 use Rattle.pair_laws.specs.ServedBodiesScene.{IsScene, Scene, called, code, noted, outer, shown_args, signature, view}
 use Rattle.pair_laws.proofs.ServedBodiesWork.{called_by, inputs, memory, none_active, sent, whole_same}
@@ -39,9 +38,6 @@ turn_there t m n h = grind (arith, nat_tests, h)
 
 no_turn : (t m n : ℕ) → n ≤ t + m → nat_lt (t + m) n ≡ false
 no_turn t m n h = grind (arith, nat_tests, h)
-
-deep_enough : (d : ℕ) → d ≤ deepest → nat_le d deepest ≡ true
-deep_enough d h = grind (arith, nat_tests, h)
 
 module _ (s : Scene) (ok : IsScene s) where
   -- the whole's machine that shows the slave

@@ -1,6 +1,7 @@
 -- Where a body has ended, the whole shows the slave going on.
 use Rattle.std.proofs.Common.{◌≡◌, ◌∙◌, ℕ, suc, ◌+◌, ◌-◌, ◌≤◌, ap, sym, refl, subst, arith, List, [], ◌∷◌, length, true, false, Option, Some, None}
 use Rattle.std.specs.Prelude.{ℤ, option_map, slice_get}
+use Rattle.pt_base.proofs.Numbers.{as_plus_one}
 use Rattle.pt_tree.specs.declared.signature.Signature.{Signature}
 use Rattle.typed_tree.specs.declared.types.StructInfo.{StructInfo}
 use Rattle.runs.specs.State.{gives}
@@ -57,9 +58,6 @@ resumed_same v (Some awaited) (a ∷ rest) blocks = refl
 seen_number : (v : View) (o : Option ℤ) → option_map (seen_cell v) (number_cell o) ≡ number_cell o
 seen_number v None = refl
 seen_number v (Some n) = refl
-
-add_one : (t : ℕ) → suc t ≡ t + 1
-add_one t = omega arith
 
 -- what both have taken by then
 turns_then : (z m n t l : ℕ) → (n - suc t) - l ≡ z → l ≤ (n - suc t) - m → (t + 1) + m ≤ n → z + 1 ≡ m + suc ((n - ((t + 1) + m)) - l)
@@ -206,7 +204,7 @@ module _ (s : Scene) (ok : IsScene s) (plain : (signature s).host ≡ false) (in
       came =
           called_big (suc i)
           ∙ returns
-          ∙ (λ j. returned (seen_machine (shows_body s ok plain in_budget unrefused) (record { result = s.result; frames = frames_are s ok j }) (add_one s.machine.turns j) s.budget x) h
+          ∙ (λ j. returned (seen_machine (shows_body s ok plain in_budget unrefused) (record { result = s.result; frames = frames_are s ok j }) (as_plus_one s.machine.turns j) s.budget x) h
           (seated (record { result = s.result; frames = frames_are s ok j }) [] leads.last) (frames_are s ok j) (option_map (seen_cell (shows_body s ok plain in_budget unrefused)) (sym numbers.same j)))
           ∙ calls_return s.slave (code s) s.monitor.store (store_then s v st) (joined_machine s ok) x (seated nobody s.rest s.caller) leads.last (joined nobody s.rest) (record { callee = s.function; result = s.result })
           s.args s.monitor.globals (global_part st.memory) (number_of v) t 1 s.budget h (frames_are s ok) (joined_twice s.machine.active) ok.awaits last_depth

@@ -1,6 +1,7 @@
 -- A host of the monitor's answers as the whole's call of it does.
 use Rattle.std.proofs.Common.{◌≡◌, ◌∙◌, ℕ, suc, ◌+◌, ◌-◌, ◌≤◌, ap, sym, refl, subst, arith, List, [], map, true, Option, Some, None}
 use Rattle.std.specs.Prelude.{ℤ, is_some, option_map}
+use Rattle.std.proofs.lemmas.Bool.{and_from}
 use Rattle.pt_tree.specs.HostStep.{Answer, host_step}
 use Rattle.pt_tree.specs.declared.signature.Signature.{Signature}
 use Rattle.runs.specs.State.{after_answer}
@@ -25,7 +26,7 @@ use Rattle.monitor_soundness_law.specs.Laws.{AnswersNumber, HostsFit}
 use Rattle.monitor_soundness_law.proofs.Hosts.{hosts_leave_numbers}
 use Rattle.pair_meaning.specs.Serving.{global_part, host_gives}
 use Rattle.pair_invariant_law.proofs.MonitorGatesGates.{answers_alike, step_same}
-use Rattle.pair_invariant_law.proofs.MonitorGatesModels.{both_true, called_signed, next_models}
+use Rattle.pair_invariant_law.proofs.MonitorGatesModels.{called_signed, next_models}
 use Rattle.pair_laws.specs.ServedBodiesLaws.{IsTheWholes, IsTold, ShowsTaking, number_of, store_then, taking}
 use Rattle.pair_laws.specs.ServedBodiesScene.{IsScene, Scene, called, code, noted, outer, signature, turns_left}
 use Rattle.pair_laws.proofs.ServedBodiesCalled.{makes_noted, whole_now}
@@ -39,7 +40,7 @@ number_back (Some n) = refl
 
 -- hosts that have models fit what is called
 pub models_fit : (s : Scene) → IsScene s → HostsFit (code s) s.monitor.hosts
-models_fit s ok f own host = ok.models f (both_true (is_some (signature_at (code s) f)) (signature_in (code s) f).host (called_signed (code s) f ok.halves.monitor_sound own) host)
+models_fit s ok f own host = ok.models f (and_from (is_some (signature_at (code s) f)) (signature_in (code s) f).host (called_signed (code s) f ok.halves.monitor_sound own) host)
 
 module _ (s : Scene) (ok : IsScene s) (host : (signature s).host ≡ true) where
   abbrev numbers : List ℤ

@@ -3,6 +3,7 @@ use Rattle.std.proofs.Common.{◌≡◌, ◌∙◌, ℕ, zero, suc, ◌+◌, ◌
 use Rattle.std.proofs.Math.Path.{fun_ext}
 use Rattle.std.proofs.lemmas.Bool.Decides.{nat_tests}
 use Rattle.pt_base.specs.declared.int_type.IntType.{IntType}
+use Rattle.pt_base.proofs.Numbers.{nat_eq_below, nat_eq_self}
 use Rattle.pt_tree.specs.declared.signature.Param.{Param}
 use Rattle.typed_tree.specs.declared.types.StructInfo.{StructInfo}
 use Rattle.block_memory.specs.declared.cell.Cell.{Cell}
@@ -17,7 +18,7 @@ use Rattle.marshalling.specs.declared.inputs.Inputs.{Inputs}
 use Rattle.marshalling.specs.Handles.{Entries, handle_fault, inputs_unless, unpacked, unpacking}
 use Rattle.marshalling.specs.Shape.{is_shaped}
 use Rattle.part_views_law.specs.CrossingsCalls.{with_received}
-use Rattle.pair_meaning.specs.Serving.{brought, name_of, with_brought}
+use Rattle.pair_meaning.specs.Serving.{name_of, with_brought}
 
 -- ---- what is opened
 
@@ -40,21 +41,15 @@ opened_parts store structs params body inputs e = go (is_shaped structs params b
 
 -- ---- blocks
 
-other_number : (k j : ℕ) → k < j → nat_eq k j ≡ false
-other_number k j h = grind (arith, nat_tests, h)
-
-same_number : (k : ℕ) → nat_eq k k ≡ true
-same_number k = grind (arith, nat_tests)
-
 -- one block more
 abbrev with_one : ℕ → List IntType → List Cell → Blocks → Blocks
 with_one k types cells blocks = put blocks (name_of k) (record { types = types; cells = cells })
 
 one_there : (k : ℕ) (types : List IntType) (cells : List Cell) (blocks : Blocks) → with_one k types cells blocks (Received k) ≡ record { types = types; cells = cells }
-one_there k types cells blocks = ap (λ (b : Bool). if b then record { types = types; cells = cells } else blocks (Received k)) (same_number k)
+one_there k types cells blocks = ap (λ (b : Bool). if b then record { types = types; cells = cells } else blocks (Received k)) (nat_eq_self k)
 
 one_beside : (k j : ℕ) (types : List IntType) (cells : List Cell) (blocks : Blocks) → k < j → with_one k types cells blocks (Received j) ≡ blocks (Received j)
-one_beside k j types cells blocks less = ap (λ (b : Bool). if b then record { types = types; cells = cells } else blocks (Received j)) (other_number k j less)
+one_beside k j types cells blocks less = ap (λ (b : Bool). if b then record { types = types; cells = cells } else blocks (Received j)) (nat_eq_below k j less)
 
 one_below : (k j : ℕ) (types : List IntType) (cells : List Cell) (blocks : Blocks) → j < k → with_one k types cells blocks (Received j) ≡ blocks (Received j)
 one_below k j types cells blocks less = ap (λ (b : Bool). if b then record { types = types; cells = cells } else blocks (Received j)) (apart k j less)
@@ -99,15 +94,6 @@ brought_received types cells m same free alone = fun_ext at
     at (Local d v) = brought_local 0 d v types cells m ∙ free d v
     at (Global g) = brought_global 0 g types cells m
     at (Received k) = brought_there 0 k k types cells m (omega arith) same (λ i le. alone i)
-
--- what stands under the names of a call's blocks
-pub brought_is : (blocks : Blocks) → brought blocks ≡ blocks
-brought_is blocks = fun_ext at
-  where
-    at : (name : BlockName) → brought blocks name ≡ blocks name
-    at (Local d v) = refl
-    at (Global g) = refl
-    at (Received k) = refl
 
 -- ---- arguments
 

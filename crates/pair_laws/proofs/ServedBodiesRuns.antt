@@ -1,5 +1,7 @@
 -- Runs step by step.
-use Rattle.std.proofs.Common.{◌≡◌, ◌∙◌, ℕ, zero, suc, ◌+◌, ◌≤◌, ap, sym, refl, subst, arith}
+use Rattle.std.proofs.Common.{◌≡◌, ◌∙◌, ℕ, zero, suc, ◌≤◌, ap, sym, refl, subst}
+use Rattle.pt_base.proofs.Numbers.{as_plus_one}
+use Rattle.pair_invariant_law.proofs.SlaveGatesGathering.{one_run}
 use Rattle.pt_core.specs.CodeTree.{ProgramTree}
 use Rattle.pt_core.specs.Steps.{Answer, Gate, Machine, Step, answers, asked, ended, idle, moved, spent, step, trapped}
 use Rattle.core_steps_law.specs.Laws.{TakesATurn}
@@ -23,18 +25,12 @@ no_further program gate s = further_none s.answer s.machine s.gate
 pub moved_on : {G : Type 0} (s : Step G) (next : Machine → G → Step G) → s.answer ≡ moved → further s next ≡ next s.machine s.gate
 moved_on s next e = ap (λ r. further_by r s next) e
 
-pub one_step : {G : Type 0} (program : ProgramTree) (gate : Gate G) (m : Machine) (g : G) → steps_run program gate 1 m g ≡ step program gate m g
-one_step program gate m g = no_further program gate (step program gate m g)
-
-add_one : (k : ℕ) → suc k ≡ k + 1
-add_one k = omega arith
-
 -- one step more, where so many have moved the machine
 pub last_step : {G : Type 0} (program : ProgramTree) (gate : Gate G) (k : ℕ) (m : Machine) (g : G) → (steps_run program gate k m g).answer ≡ moved →
     steps_run program gate (suc k) m g ≡ step program gate (steps_run program gate k m g).machine (steps_run program gate k m g).gate
 last_step {G} program gate k m g e =
-    ap (λ i. steps_run program gate i m g) (add_one k) ∙ steps_add G program gate k 1 m g ∙ moved_on (steps_run program gate k m g) (steps_run program gate 1) e
-    ∙ one_step program gate (steps_run program gate k m g).machine (steps_run program gate k m g).gate
+    ap (λ i. steps_run program gate i m g) (as_plus_one k) ∙ steps_add G program gate k 1 m g ∙ moved_on (steps_run program gate k m g) (steps_run program gate 1) e
+    ∙ one_run program gate (steps_run program gate k m g).machine (steps_run program gate k m g).gate
 
 -- no turn is taken that the budget doesn't have
 pub runs_within : {G : Type 0} (program : ProgramTree) (gate : Gate G) (k : ℕ) (m : Machine) (g : G) → m.turns ≤ m.budget → (steps_run program gate k m g).machine.turns ≤ m.budget

@@ -2,6 +2,7 @@
 use Rattle.std.proofs.Common.{◌≡◌, ◌∙◌, ℕ, ◌+◌, ◌-◌, ◌≤◌, ap, sym, subst, arith, [], length, map, take, Bool, true, false, if◌then◌else◌}
 use Rattle.std.specs.Prelude.{is_some}
 use Rattle.std.proofs.lemmas.List.{length-map}
+use Rattle.std.proofs.lemmas.Bool.{and_from}
 use Rattle.pt_tree.specs.HostStep.{host_step}
 use Rattle.pt_tree.specs.declared.signature.Signature.{Signature}
 use Rattle.runs.specs.Run.{deepest}
@@ -31,7 +32,6 @@ use Rattle.part_views_law.proofs.CallsShown.{shown_calls_are_sent}
 use Rattle.pair_meaning.specs.Serving.{function_work, host_gives, host_work, inputs_of, state_of, with_brought, work_of}
 use Rattle.pair_invariant_law.specs.MonitorGatesLaws.{is_host_of, told_body, told_whole}
 use Rattle.pair_invariant_law.proofs.MonitorGatesGates.{begun_alike}
-use Rattle.pair_invariant_law.proofs.MonitorGatesModels.{both_true}
 use Rattle.pair_laws.specs.ServedBodiesLaws.{ScenesAreSent}
 use Rattle.pair_laws.specs.ServedBodiesScene.{IsScene, Scene, admitted, called, code, noted, outer, sent_body, shown_args, signature, turns_left, view}
 use Rattle.pair_laws.proofs.ServedBodiesMemory.{IsOpened, all_taken, brought_received, opened_parts}
@@ -134,7 +134,7 @@ module _ (s : Scene) (ok : IsScene s) where
 
   -- a host that is asked for is the monitor's
   pub is_its : (signature s).host ≡ true → is_host_of (code s) s.function ≡ true
-  is_its host = both_true (is_some (signature_at (code s) s.function)) (signature_in (code s) s.function).host ok.known (ap (λ (sig : Signature). sig.host) ok.same ∙ host)
+  is_its host = and_from (is_some (signature_at (code s) s.function)) (signature_in (code s) s.function).host ok.known (ap (λ (sig : Signature). sig.host) ok.same ∙ host)
 
   pub few : length (names_of s.args) ≤ 8
   few = within (length (names_of s.args)) (length s.args) ok.packable.named ok.packable.few

@@ -1,9 +1,11 @@
 -- A slave that keeps a machine makes only so many steps.
 use Rattle.std.proofs.Common.{◌≡◌, ◌⊎◌, inl, inr, ◌∙◌, ℕ, zero, suc, ◌≤◌, ◌<◌, List, [], ◌∷◌, refl, sym, ap, subst, arith}
+use Rattle.pt_base.proofs.Numbers.{at_most_self}
 use Rattle.pt_core.specs.CodeTree.{ProgramTree}
 use Rattle.pt_core.specs.Steps.{Machine}
 use Rattle.pair_protocol.specs.Sides.{Mode, going, waits, over, Sides}
 use Rattle.pair_protocol.specs.SlaveRun.{At, Ready, taken, ready_in, ready, moved_on, slave_at}
+use Rattle.pair_protocol.proofs.OrderFacts.{over_going, waits_going}
 use Rattle.core_steps_law.specs.MachinesRoom.{breadth, room_by, room}
 use Rattle.core_steps_law.specs.MachinesBounded.{IsUsed, IsLeft, GoesOn}
 use Rattle.pair_meaning.specs.BoundsLongest.{KeepsMachine, SlavesAreBounded}
@@ -20,12 +22,6 @@ going_over x e f = differ (sym e ∙ f)
   where
     differ : {A : Type 0} → over ≡ going → A
     differ e = cc
-
-going_waits : {A : Type 0} → waits ≡ going → A
-going_waits e = cc
-
-going_ended : {A : Type 0} → over ≡ going → A
-going_ended e = cc
 
 module _ {S M X R E Q G : Type 0} (g : Sides S M X R E Q) (program : S → ProgramTree) (machine : S → Machine) (keeps : KeepsMachine S M X R E Q G g program machine) (wide : ℕ) where
   abbrev HoldsAt : ℕ → S → Type 0
@@ -62,12 +58,12 @@ module _ {S M X R E Q G : Type 0} (g : Sides S M X R E Q) (program : S → Progr
   over_ready over s rs e = refl
 
   ended_at : (mode : Mode) (c : Ready S R) (rest : At S X R) → mode ≡ over → (moved_on g mode c rest).made ≡ 0
-  ended_at going c rest e = absurd (going_ended (sym e))
+  ended_at going c rest e = absurd (over_going (sym e))
   ended_at waits c rest e = refl
   ended_at over c rest e = refl
 
   ended_slave : (mode : Mode) (c : Ready S R) (rest : At S X R) → mode ≡ over → (moved_on g mode c rest).slave ≡ c.slave
-  ended_slave going c rest e = absurd (going_ended (sym e))
+  ended_slave going c rest e = absurd (over_going (sym e))
   ended_slave waits c rest e = refl
   ended_slave over c rest e = refl
 
@@ -130,8 +126,8 @@ module _ {S M X R E Q G : Type 0} (g : Sides S M X R E Q) (program : S → Progr
           let used = used_by n c.slave holds goes in
           let less : room_by wide (machine (g.step c.slave).slave) < room_by wide (machine c.slave) = used.less in
           more (room_by wide (machine (g.step c.slave).slave)) (omega arith) (record { most = omega arith; fits = used.fits }) f
-  stops_by n k c rest waits le e h ended more f = going_waits (sym e ∙ f)
-  stops_by n k c rest over le e h ended more f = going_ended (sym e ∙ f)
+  stops_by n k c rest waits le e h ended more f = waits_going (sym e ∙ f)
+  stops_by n k c rest over le e h ended more f = over_going (sym e ∙ f)
 
   stops : (k n : ℕ) (s : S) (rs : List R) → n < k → HoldsAt n s → g.mode (slave_at g k s rs).slave ≡ going → ⊥
   stops zero n s rs less h f = absurd (omega arith)
@@ -141,14 +137,11 @@ module _ {S M X R E Q G : Type 0} (g : Sides S M X R E Q) (program : S → Progr
       (over_stays k (g.step c.slave).slave c.left)
       (λ j lower holds. stops k j (g.step c.slave).slave c.left lower holds) f
 
-self : (n : ℕ) → n ≤ n
-self n = omega arith
-
 pub slaves_are_bounded : {S M X R E Q G : Type 0} → SlavesAreBounded S M X R E Q G
 slaves_are_bounded g program machine keeps s =
     let m : Machine = machine s in
     let wide : ℕ = breadth (program s) m.active in
-    let holds : Holds (program s) wide (room (program s) m) m = record { most = self (room (program s) m); fits = self wide } in
+    let holds : Holds (program s) wide (room (program s) m) m = record { most = at_most_self (room (program s) m); fits = at_most_self wide } in
     record {
       bound = λ replies k. few_made g program machine keeps wide k (room (program s) m) s replies holds;
       stops = λ replies. stops g program machine keeps wide (suc (room (program s) m)) (room (program s) m) s replies (more (room (program s) m)) holds;

@@ -14,7 +14,8 @@ use Rattle.wire.specs.declared.message.ReplyBody.{ReplyBody}
 use Rattle.policy.specs.Verdicts.{Standing}
 use Rattle.pt_core.specs.Statements.{Outcome}
 use Rattle.pt_core.specs.Steps.{Answer, moved, asked, ended, trapped, spent, idle}
-use Rattle.pair_protocol.specs.Sides.{going, waits, over, Moved, Served, goes_on, IsReply, HasReply, waiting, asks}
+use Rattle.pair_protocol.specs.Sides.{going, waits, Moved, Served, goes_on, IsReply, HasReply, waiting, asks}
+use Rattle.pair_protocol.proofs.OrderFacts.{going_waits, over_waits}
 use Rattle.pair_meaning.specs.Monitors.{Monitor, Low, low}
 use Rattle.pair_meaning.specs.Rules as rule
 use Rattle.pair_meaning.specs.Rules.{PeerRule, Admitted, Verdict, breaks, writes, makes, call_rule, decided, early_rule, permitted, unless_broken, asked_for, rules, turns_of}
@@ -50,14 +51,8 @@ fair_step x (trapped trap span) wrote e = refl
 fair_step x spent wrote e = refl
 fair_step x idle wrote e = refl
 
-goes_waits : {A : Type 0} → going ≡ waits → A
-goes_waits e = cc
-
-over_waits : {A : Type 0} → over ≡ waits → A
-over_waits e = cc
-
 fair_take : (x : Slave) (d : Doing) (reply : ReplyBody) → mode_by d ≡ waits → waiting (mode_of (taken_by x d reply)) ≡ 0
-fair_take x goes reply e = goes_waits e
+fair_take x goes reply e = going_waits e
 fair_take x is_over reply e = over_waits e
 fair_take x (waits_for f args) reply e = by_test (is_reply_to x f args reply) (with_reply x f args reply) (record x { doing = is_over }) refl refl
   where

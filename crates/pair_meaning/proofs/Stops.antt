@@ -8,6 +8,7 @@ use Rattle.wire.specs.declared.message.ReplyBody.{ReplyBody}
 use Rattle.pt_core.specs.Steps.{Machine, Answer, moved, asked, ended, trapped, spent, idle}
 use Rattle.pair_meaning.specs.BoundsLongest.{goes as goes_on, IsLeft, GoesOn}
 use Rattle.pair_protocol.specs.Sides.{going, waits, over, Moved}
+use Rattle.pair_protocol.proofs.OrderFacts.{going_waits, over_waits}
 use Rattle.pair_meaning.specs.BoundsLongest.{KeepsMachine}
 use Rattle.pair_meaning.proofs.BoundsLongest.{slaves_are_bounded}
 use Rattle.pair_meaning.specs.Monitors.{Monitor}
@@ -56,14 +57,8 @@ steps_by x (trapped trap span) e = inl refl
 steps_by x spent e = inl refl
 steps_by x idle e = inl refl
 
-goes_waits : {A : Type 0} → going ≡ waits → A
-goes_waits e = cc
-
-over_waits : {A : Type 0} → over ≡ waits → A
-over_waits e = cc
-
 takes_by : (x : Slave) (d : Doing) (reply : ReplyBody) → mode_by d ≡ waits → Keeps x.machine (taken_by x d reply)
-takes_by x goes reply e = goes_waits e
+takes_by x goes reply e = going_waits e
 takes_by x is_over reply e = over_waits e
 takes_by x (waits_for f args) reply e = by_test (is_reply_to x f args reply)
   where

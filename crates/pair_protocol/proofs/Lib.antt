@@ -1,12 +1,12 @@
 pub mod OrderAdderFacts
 mod OrderAhead
 mod OrderEnds
-mod OrderEvery
-mod OrderFacts
+pub mod OrderEvery
+pub mod OrderFacts
 mod OrderFolds
 pub mod OrderLinkFacts
 mod OrderParents
 pub mod OrderSlaveFacts
 mod OrderSynchronous
 pub mod OrderTheorems
-mod OrderWalks
+pub mod OrderWalks

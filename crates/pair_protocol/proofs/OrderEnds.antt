@@ -1,11 +1,11 @@
 -- Every order comes to the end.
 use Rattle.std.proofs.Common.{◌≡◌, ◌+◌, ◌<◌, ◌≤◌, ℕ, zero, suc, List, [], ◌∷◌, ◌++◌, length, refl, sym, ◌∙◌, ap, subst, arith, Bool, true, false, ◌&&◌, ◌||◌, nat_lt, Option, Some, None, length-append}
 use Rattle.std.proofs.lemmas.Bool.{lt-ltb}
+use Rattle.facts.proofs.Booleans.{or_with_true, true_not_false}
 use Rattle.pair_protocol.specs.Sides.{Mode, going, waits, over, Served, goes_on, ends, bad, Sides, AreFair, waiting}
 use Rattle.pair_protocol.specs.SlaveRun.{At, Ready, ready, listed, with_said, moved_on, slave_at, IsLongest}
 use Rattle.pair_protocol.specs.Pair.{delivered, run, done, wrong, both_in, both, Who, Going, going_with, Pair, goes, is_going, is_slaves, moves, replied, monitor_turn, turn, pair_step, IsWholeFrom}
 use Rattle.pair_protocol.specs.OrderLaws.{IsAfter}
-use Rattle.pair_protocol.proofs.OrderFacts.{true_false}
 use Rattle.pair_protocol.proofs.OrderSlaveFacts.{ready_none}
 use Rattle.pair_protocol.proofs.OrderSynchronous.{is_done, ends_once, same_end}
 use Rattle.pair_protocol.proofs.OrderEvery.{slave_turn, monitor_goes, monitor_ends, monitor_breaks, moves_going}
@@ -48,14 +48,10 @@ one_more g window bytes e who answers p p' is h =
     (who ∷ h.0, h.1, ap (λ xs. who ∷ xs) h.2, subst (λ p. IsWholeFrom g window h.0 p bytes e) (sym is) h.3)
 
 idle_mode : {S M X R E Q : Type 0} (g : Sides S M X R E Q) (s : S) (mode : Mode) (b : Bool) → g.mode s ≡ mode → b ≡ true → ((is_going mode && b) && (false || true)) ≡ false → waiting mode ≡ 0 → (m : M) (w : List ℕ) → both_in g mode s m w ≡ run s m w
-idle_mode g s going true is room e idle m w = true_false e
-idle_mode g s going false is room e idle m w = true_false (sym room)
+idle_mode g s going true is room e idle m w = true_not_false e
+idle_mode g s going false is room e idle m w = true_not_false (sym room)
 idle_mode g s waits b is room e idle m w = refl
 idle_mode g s over b is room e idle m w = refl
-
-last_true : (a : Bool) → (a || true) ≡ true
-last_true true = refl
-last_true false = refl
 
 idle : {S M X R E Q : Type 0} (g : Sides S M X R E Q) (s : S) (m : M) (j : ℕ) (bytes : List ℕ) (e : E) → both g s m j ≡ done bytes e →
     (k : ℕ) (served : List X) (replies : List R) (s1 : S) (m1 : M) (w : List ℕ) → IsAfter g s m k served replies (going_with s1 [] m1 w) → (window : ℕ) (who : Who) → 0 < window →
@@ -63,8 +59,8 @@ idle : {S M X R E Q : Type 0} (g : Sides S M X R E Q) (s : S) (m : M) (j : ℕ) 
 idle g s m j bytes e ends' k served replies s1 m1 w d window who room none =
     let v = w ++ [] in
     let at_last = sym d.ahead ∙ ap (λ c. run c.slave m1 v) (ready_none g s1) in
-    let quiet = idle_mode g s1 (g.mode s1) (nat_lt 0 window) refl (lt-ltb 0 window room) (sym (ap (λ b. (is_going (g.mode s1) && nat_lt 0 window) && b) (last_true (is_slaves who))) ∙ none) (sym d.waits_for) m1 v in
-    true_false (sym (ap is_done (ends_once g k j (run s m []) (run s1 m1 v) (done bytes e) at_last ends' quiet refl)))
+    let quiet = idle_mode g s1 (g.mode s1) (nat_lt 0 window) refl (lt-ltb 0 window room) (sym (ap (λ b. (is_going (g.mode s1) && nat_lt 0 window) && b) (or_with_true (is_slaves who))) ∙ none) (sym d.waits_for) m1 v in
+    true_not_false (sym (ap is_done (ends_once g k j (run s m []) (run s1 m1 v) (done bytes e) at_last ends' quiet refl)))
 
 -- ---- whatever the answers
 
@@ -83,7 +79,7 @@ reach_served g fair s m longest window j bytes e end answers more k served repli
     ([], answers, refl, same_end g over'.steps j (run s m []) (w ++ b) bytes e' e over'.ahead end)
 reach_served g fair s m longest window j bytes e end answers more k served replies s1 m1 w x queue d h (bad q) is =
     let over' = monitor_breaks g s m k served replies s1 m1 w x queue d q is in
-    true_false (sym (ap is_done (ends_once g over'.steps j (run s m []) (wrong w q) (done bytes e) over'.ahead end refl refl)))
+    true_not_false (sym (ap is_done (ends_once g over'.steps j (run s m []) (wrong w q) (done bytes e) over'.ahead end refl refl)))
 
 reach_monitor : {S M X R E Q : Type 0} (g : Sides S M X R E Q) → AreFair g → (s : S) (m : M) (longest window j : ℕ) → 0 < window → (bytes : List ℕ) (e : E) → both g s m j ≡ done bytes e → (who : Who) (answers : List Who) → Ready' g s m longest window bytes e answers →
     (k : ℕ) (served : List X) (replies : List R) (s1 : S) (m1 : M) (w : List ℕ) (queue : List X) → IsAfter g s m k served replies (going_with s1 queue m1 w) →

@@ -1,11 +1,12 @@
 -- What every turn keeps.
 use Rattle.std.proofs.Common.{◌≡◌, ◌+◌, ℕ, suc, List, [], ◌∷◌, ◌++◌, length, refl, sym, ◌∙◌, ap, subst, arith, Bool, true, false, ◌&&◌, ◌||◌, nat_lt, Option, Some, None}
+use Rattle.facts.proofs.Booleans.{true_not_false}
+use Rattle.facts.proofs.Lists.{append_grouped, append_nil}
 use Rattle.pair_protocol.specs.Sides.{Mode, going, waits, over, Served, goes_on, ends, bad, Sides, AreFair, IsReply, HasReply, of_bool, waiting}
 use Rattle.pair_protocol.specs.SlaveRun.{came, slave_at, listed}
 use Rattle.pair_protocol.specs.Serving.{still, ended, broken, all, after, serve_all}
 use Rattle.pair_protocol.specs.Pair.{delivered, run, done, wrong, both_step, Who, Going, going_with, Pair, goes, stops, breaks, is_going, is_slaves, is_empty, moves, replied, monitor_turn, turn, pair_step, pair_from, start, pair_steps, seen, asked}
 use Rattle.pair_protocol.specs.OrderLaws.{IsAfter, Described, Over}
-use Rattle.pair_protocol.proofs.OrderFacts.{append_none, append_all, true_false}
 use Rattle.pair_protocol.proofs.OrderSlaveFacts.{ready_none, one_step, one_reply}
 use Rattle.pair_protocol.proofs.OrderFolds.{last_by, last, push, asked_more}
 use Rattle.pair_protocol.proofs.OrderAhead.{slave_ahead, monitor_ahead}
@@ -19,7 +20,7 @@ pub slave_turn : {S M X R E Q : Type 0} (g : Sides S M X R E Q) → AreFair g �
 slave_turn g fair s m k served replies p d mode =
     let none : asked g p.queue ≡ 0 = d.waits_for ∙ ap waiting mode in
     record {
-      slave_so = one_step g k s replies p.slave (served ++ p.queue) d.slave_so mode ∙ ap (λ xs. came (g.step p.slave).slave xs [] (suc k)) (append_all served p.queue (listed (g.step p.slave).said));
+      slave_so = one_step g k s replies p.slave (served ++ p.queue) d.slave_so mode ∙ ap (λ xs. came (g.step p.slave).slave xs [] (suc k)) (append_grouped served p.queue (listed (g.step p.slave).said));
       monitor_so = d.monitor_so;
       ahead = slave_ahead g fair p.slave p.monitor p.written p.queue mode none ∙ ap (both_step g) d.ahead ∙ step_last g k (run s m []);
       waits_for = asked_more g p.queue (g.step p.slave).said none ∙ sym (fair.steps p.slave mode);
@@ -46,9 +47,9 @@ told_slave : {S M X R E Q : Type 0} (g : Sides S M X R E Q) → AreFair g → (s
     slave_at g k s replies ≡ came s1 (served ++ x ∷ queue) [] k → (IsReply true o → g.mode s1 ≡ waits) →
     slave_at g k s (replies ++ listed o) ≡ came (delivered g s1 o) ((served ++ x ∷ []) ++ queue) [] k
 told_slave g fair s s1 k served queue replies x None e h =
-    ap (slave_at g k s) (append_none replies) ∙ e ∙ ap (λ xs. came s1 xs [] k) (sym (append_all served (x ∷ []) queue))
+    ap (slave_at g k s) (append_nil replies) ∙ e ∙ ap (λ xs. came s1 xs [] k) (sym (append_grouped served (x ∷ []) queue))
 told_slave g fair s s1 k served queue replies x (Some r) e h =
-    one_reply g fair r k s replies s1 (served ++ x ∷ queue) e (h (tt {0})) ∙ ap (λ xs. came (g.take r s1) xs [] k) (sym (append_all served (x ∷ []) queue))
+    one_reply g fair r k s replies s1 (served ++ x ∷ queue) e (h (tt {0})) ∙ ap (λ xs. came (g.take r s1) xs [] k) (sym (append_grouped served (x ∷ []) queue))
 
 told_waits : {S M X R E Q : Type 0} (g : Sides S M X R E Q) → AreFair g → (s1 : S) (queue : List X) (wants : Bool) (o : Option R) → IsReply wants o →
     of_bool wants + asked g queue ≡ waiting (g.mode s1) → (IsReply true o → g.mode s1 ≡ waits) → asked g queue ≡ waiting (g.mode (delivered g s1 o))
@@ -82,7 +83,7 @@ monitor_ends g s m k served replies s1 m1 w x queue d bytes e is = record {
   served = served ++ x ∷ [];
   rest = queue;
   replies = replies;
-  slave = ap (λ a. a.said) d.slave_so ∙ sym (append_all served (x ∷ []) queue);
+  slave = ap (λ a. a.said) d.slave_so ∙ sym (append_grouped served (x ∷ []) queue);
   made = ap (λ a. a.made) d.slave_so;
   monitor = served_more g m m1 served replies w x (ends bytes e) d.monitor_so is;
   ahead = sym d.ahead ∙ ap (λ r. seen g s1 w (after r (λ m. serve_all g m queue))) is;
@@ -95,10 +96,10 @@ monitor_breaks g s m k served replies s1 m1 w x queue d q is = record {
   served = served ++ x ∷ [];
   rest = queue;
   replies = replies;
-  slave = ap (λ a. a.said) d.slave_so ∙ sym (append_all served (x ∷ []) queue);
+  slave = ap (λ a. a.said) d.slave_so ∙ sym (append_grouped served (x ∷ []) queue);
   made = ap (λ a. a.made) d.slave_so;
   monitor = served_more g m m1 served replies w x (bad q) d.monitor_so is;
-  ahead = sym d.ahead ∙ ap (λ r. seen g s1 w (after r (λ m. serve_all g m queue))) is ∙ ap (λ v. wrong v q) (append_none w);
+  ahead = sym d.ahead ∙ ap (λ r. seen g s1 w (after r (λ m. serve_all g m queue))) is ∙ ap (λ v. wrong v q) (append_nil w);
 }
 
 -- ---- every order
@@ -112,10 +113,10 @@ abbrev pub both_true : (a b : Bool) → (a && b) ≡ true → a ≡ true
 both_true true b e = refl
 both_true false b e = e
 
-is_going_so : (mode : Mode) → is_going mode ≡ true → mode ≡ going
+pub is_going_so : (mode : Mode) → is_going mode ≡ true → mode ≡ going
 is_going_so going e = refl
-is_going_so waits e = true_false (sym e)
-is_going_so over e = true_false (sym e)
+is_going_so waits e = true_not_false (sym e)
+is_going_so over e = true_not_false (sym e)
 
 pub moves_going : {S M X R E Q : Type 0} (g : Sides S M X R E Q) (window : ℕ) (who : Who) (s : S) (queue : List X) → moves g window who s queue ≡ true → g.mode s ≡ going
 moves_going g window who s queue e =

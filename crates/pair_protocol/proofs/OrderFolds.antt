@@ -1,11 +1,12 @@
 -- A monitor over a list of messages, and one more.
 use Rattle.std.proofs.Common.{◌≡◌, ◌+◌, ℕ, List, [], ◌∷◌, ◌++◌, refl, sym, ◌∙◌, ap, subst, arith, Bool, true, false, Option, Some, None}
+use Rattle.facts.proofs.Lists.{append_grouped, append_nil}
+use Rattle.facts.proofs.Numbers.{zero_not_suc}
 use Rattle.pair_protocol.specs.Sides.{Served, goes_on, ends, bad, Sides, AreFair, HasReply, of_bool, asks}
 use Rattle.pair_protocol.specs.SlaveRun.{listed}
 use Rattle.pair_protocol.specs.Serving.{Stop, still, ended, broken, All, all, after, serve_all}
 use Rattle.pair_protocol.specs.Pair.{asked}
 use Rattle.pair_protocol.specs.OrderLaws.{IsFirst}
-use Rattle.pair_protocol.proofs.OrderFacts.{append_none, append_all, zero_suc}
 
 -- one more message behind all
 abbrev pub last_by : {M R E Q : Type 0} → List R → List ℕ → Served M R E Q → All M R E Q
@@ -22,16 +23,16 @@ abbrev pub last : {S M X R E Q : Type 0} → Sides S M X R E Q → X → All M R
 last g x a = last_in g x a.replies a.bytes a.stop
 
 alone : {M R E Q : Type 0} (r : Served M R E Q) → after r (λ m. all [] [] (still m)) ≡ last_by [] [] r
-alone (goes_on m o bytes) = ap (λ rs. all rs (bytes ++ []) (still m)) (append_none (listed o)) ∙ ap (λ bs. all (listed o) bs (still m)) (append_none bytes)
+alone (goes_on m o bytes) = ap (λ rs. all rs (bytes ++ []) (still m)) (append_nil (listed o)) ∙ ap (λ bs. all (listed o) bs (still m)) (append_nil bytes)
 alone (ends bytes e) = refl
 alone (bad q) = refl
 
 behind_by : {M R E Q : Type 0} (rs rs' : List R) (bs bs' : List ℕ) (r : Served M R E Q) →
     all (rs ++ (last_by rs' bs' r).replies) (bs ++ (last_by rs' bs' r).bytes) (last_by rs' bs' r).stop ≡ last_by (rs ++ rs') (bs ++ bs') r
 behind_by rs rs' bs bs' (goes_on m o more) =
-    ap (λ us. all us (bs ++ (bs' ++ more)) (still m)) (sym (append_all rs rs' (listed o))) ∙
-    ap (λ us. all ((rs ++ rs') ++ listed o) us (still m)) (sym (append_all bs bs' more))
-behind_by rs rs' bs bs' (ends more e) = ap (λ us. all (rs ++ rs') us (ended e)) (sym (append_all bs bs' more))
+    ap (λ us. all us (bs ++ (bs' ++ more)) (still m)) (sym (append_grouped rs rs' (listed o))) ∙
+    ap (λ us. all ((rs ++ rs') ++ listed o) us (still m)) (sym (append_grouped bs bs' more))
+behind_by rs rs' bs bs' (ends more e) = ap (λ us. all (rs ++ rs') us (ended e)) (sym (append_grouped bs bs' more))
 behind_by rs rs' bs bs' (bad q) = refl
 
 behind_in : {S M X R E Q : Type 0} (g : Sides S M X R E Q) (x : X) (rs rs' : List R) (bs bs' : List ℕ) (stop : Stop M E Q) →
@@ -56,7 +57,7 @@ push g (y ∷ xs) x m = push_in g xs x (push g xs x) (g.serve m y)
 
 no_reply : {M R E Q : Type 0} (r : Served M R E Q) (rest : M → All M R E Q) (wants : Bool) → HasReply wants r → of_bool wants ≡ 0 → ((m : M) → (rest m).replies ≡ []) → (after r rest).replies ≡ []
 no_reply (goes_on m None bytes) rest wants h e more = more m
-no_reply (goes_on m (Some r) bytes) rest true h e more = zero_suc 0 (sym e)
+no_reply (goes_on m (Some r) bytes) rest true h e more = zero_not_suc 0 (sym e)
 no_reply (goes_on m (Some r) bytes) rest false h e more = absurd h
 no_reply (ends bytes e') rest wants h e more = refl
 no_reply (bad q) rest wants h e more = refl
@@ -73,7 +74,7 @@ asked_push g [] x = omega arith
 asked_push g (y ∷ xs) x = let more : asked g (xs ++ x ∷ []) ≡ asked g xs + of_bool (g.wants x) = asked_push g xs x in omega (arith, more)
 
 pub asked_more : {S M X R E Q : Type 0} (g : Sides S M X R E Q) (xs : List X) (o : Option X) → asked g xs ≡ 0 → asked g (xs ++ listed o) ≡ asks g.wants o
-asked_more g xs None e = ap (asked g) (append_none xs) ∙ e
+asked_more g xs None e = ap (asked g) (append_nil xs) ∙ e
 asked_more g xs (Some x) e = let more : asked g (xs ++ x ∷ []) ≡ asked g xs + of_bool (g.wants x) = asked_push g xs x in omega (arith, more, e)
 
 -- ---- a first part
@@ -89,8 +90,8 @@ continued a rest = continued_in a.replies a.bytes a.stop rest
 shifted : {M R E Q : Type 0} (rs rs' : List R) (bs bs' : List ℕ) (stop : Stop M E Q) (rest : M → All M R E Q) →
     all (rs ++ (continued_in rs' bs' stop rest).replies) (bs ++ (continued_in rs' bs' stop rest).bytes) (continued_in rs' bs' stop rest).stop ≡ continued_in (rs ++ rs') (bs ++ bs') stop rest
 shifted rs rs' bs bs' (still m) rest =
-    ap (λ us. all us (bs ++ (bs' ++ (rest m).bytes)) (rest m).stop) (sym (append_all rs rs' (rest m).replies)) ∙
-    ap (λ us. all ((rs ++ rs') ++ (rest m).replies) us (rest m).stop) (sym (append_all bs bs' (rest m).bytes))
+    ap (λ us. all us (bs ++ (bs' ++ (rest m).bytes)) (rest m).stop) (sym (append_grouped rs rs' (rest m).replies)) ∙
+    ap (λ us. all ((rs ++ rs') ++ (rest m).replies) us (rest m).stop) (sym (append_grouped bs bs' (rest m).bytes))
 shifted rs rs' bs bs' (ended e) rest = refl
 shifted rs rs' bs bs' (broken q) rest = refl
 
@@ -105,8 +106,8 @@ joined g (x ∷ xs) ys m = joined_in (g.serve m x) (λ m. serve_all g m (xs ++ y
 
 firsts_in : {M R E Q : Type 0} (rs : List R) (bs : List ℕ) (stop : Stop M E Q) (rest : M → All M R E Q) → IsFirst bs (continued_in rs bs stop rest).bytes × IsFirst rs (continued_in rs bs stop rest).replies
 firsts_in rs bs (still m) rest = (((rest m).bytes, refl), ((rest m).replies, refl))
-firsts_in rs bs (ended e) rest = (([], sym (append_none bs)), ([], sym (append_none rs)))
-firsts_in rs bs (broken q) rest = (([], sym (append_none bs)), ([], sym (append_none rs)))
+firsts_in rs bs (ended e) rest = (([], sym (append_nil bs)), ([], sym (append_nil rs)))
+firsts_in rs bs (broken q) rest = (([], sym (append_nil bs)), ([], sym (append_nil rs)))
 
 pub first_parts : {S M X R E Q : Type 0} (g : Sides S M X R E Q) (m : M) (xs ys : List X) →
     IsFirst (serve_all g m xs).bytes (serve_all g m (xs ++ ys)).bytes × IsFirst (serve_all g m xs).replies (serve_all g m (xs ++ ys)).replies

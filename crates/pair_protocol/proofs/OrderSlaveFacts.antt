@@ -1,8 +1,9 @@
 -- A slave's steps, taken one more at the end.
 use Rattle.std.proofs.Common.{◌≡◌, ◌≤◌, ℕ, zero, suc, List, [], ◌∷◌, ◌++◌, refl, sym, ◌∙◌, ap, arith, Option, Some, None}
+use Rattle.facts.proofs.Numbers.{suc_same, zero_not_suc}
 use Rattle.pair_protocol.specs.Sides.{Mode, going, waits, over, Sides, AreFair, waiting}
 use Rattle.pair_protocol.specs.SlaveRun.{At, came, Ready, having, ready_in, ready, listed, with_said, moved_on, slave_at, IsLongest}
-use Rattle.pair_protocol.proofs.OrderFacts.{said_more, zero_suc, suc_same, waits_going, over_going, going_waits, over_waits}
+use Rattle.pair_protocol.proofs.OrderFacts.{said_more, waits_going, over_going, going_waits, over_waits}
 
 -- ---- what is ready
 
@@ -16,7 +17,7 @@ ready_none g s = ready_none_in g (g.mode s) s
 
 ready_idle_in : {S M X R E Q : Type 0} (g : Sides S M X R E Q) (mode : Mode) (s : S) (rs : List R) → waiting mode ≡ 0 → ready_in g mode s rs ≡ having s rs
 ready_idle_in g going s rs e = refl
-ready_idle_in g waits s rs e = zero_suc 0 (sym e)
+ready_idle_in g waits s rs e = zero_not_suc 0 (sym e)
 ready_idle_in g over s rs e = refl
 
 pub ready_idle : {S M X R E Q : Type 0} (g : Sides S M X R E Q) (s : S) (rs : List R) → waiting (g.mode s) ≡ 0 → ready g s rs ≡ having s rs
@@ -50,8 +51,8 @@ step_in g k c more going left made mode =
     let a = slave_at g k (g.step c.slave).slave c.left in
     ap (moved_on g going c) (more left (suc_same _ _ made) mode) ∙
     ap (λ xs. came (g.step a.slave).slave xs [] (suc (suc k))) (said_more (g.step c.slave).said a.said (listed (g.step a.slave).said))
-step_in g k c more waits left made mode = zero_suc k made
-step_in g k c more over left made mode = zero_suc k made
+step_in g k c more waits left made mode = zero_not_suc k made
+step_in g k c more over left made mode = zero_not_suc k made
 
 step_more : {S M X R E Q : Type 0} (g : Sides S M X R E Q) (k : ℕ) (s : S) (rs : List R) → Longer g k s rs
 step_more g zero s rs left made mode =
@@ -71,13 +72,13 @@ ready_last_in : {S M X R E Q : Type 0} (g : Sides S M X R E Q) → AreFair g →
 ready_last_in g fair going s rs r is left mode = going_waits (sym is ∙ mode)
 ready_last_in g fair over s rs r is left mode = over_waits (sym is ∙ mode)
 ready_last_in g fair waits s [] r is left mode = refl
-ready_last_in g fair waits s (r' ∷ rs) r is left mode = zero_suc 0 (sym (fair.takes s r' is) ∙ ap waiting mode)
+ready_last_in g fair waits s (r' ∷ rs) r is left mode = zero_not_suc 0 (sym (fair.takes s r' is) ∙ ap waiting mode)
 
 ready_longer_in : {S M X R E Q : Type 0} (g : Sides S M X R E Q) (mode : Mode) (s : S) (rs : List R) (r : R) → g.mode s ≡ mode →
     waiting (g.mode (ready_in g mode s rs).slave) ≡ 0 → ready_in g mode s (rs ++ r ∷ []) ≡ having (ready_in g mode s rs).slave ((ready_in g mode s rs).left ++ r ∷ [])
 ready_longer_in g going s rs r is idle = refl
 ready_longer_in g over s rs r is idle = refl
-ready_longer_in g waits s [] r is idle = zero_suc 0 (sym idle ∙ ap waiting is)
+ready_longer_in g waits s [] r is idle = zero_not_suc 0 (sym idle ∙ ap waiting is)
 ready_longer_in g waits s (r' ∷ rs) r is idle = refl
 
 abbrev With : {S M X R E Q : Type 0} → Sides S M X R E Q → R → ℕ → S → List R → Type 0
@@ -97,8 +98,8 @@ take_in g r k s rs c e more going is left made mode longer =
     ap (after_ready g k) (longer (ap waiting is)) ∙
     ap (λ mode. moved_on g mode (having c.slave (c.left ++ r ∷ [])) (slave_at g k (g.step c.slave).slave (c.left ++ r ∷ []))) is ∙
     ap (moved_on g going c) (more left (suc_same _ _ made) mode)
-take_in g r k s rs c e more waits is left made mode longer = zero_suc k made
-take_in g r k s rs c e more over is left made mode longer = zero_suc k made
+take_in g r k s rs c e more waits is left made mode longer = zero_not_suc k made
+take_in g r k s rs c e more over is left made mode longer = zero_not_suc k made
 
 take_more : {S M X R E Q : Type 0} (g : Sides S M X R E Q) → AreFair g → (r : R) (k : ℕ) (s : S) (rs : List R) → With g r k s rs
 take_more g fair r zero s rs left made mode = ap (λ c. came c.slave [] c.left 0) (ready_last_in g fair (g.mode s) s rs r refl left mode)

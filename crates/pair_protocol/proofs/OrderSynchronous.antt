@@ -1,8 +1,9 @@
 -- Facts on the synchronous pair.
 use Rattle.std.proofs.Common.{◌≡◌, ℕ, zero, suc, List, [], ◌++◌, refl, sym, ◌∙◌, ap, subst, Bool, true, false, Option, Some, None}
+use Rattle.facts.proofs.Booleans.{true_not_false}
+use Rattle.facts.proofs.Lists.{append_grouped, append_nil}
 use Rattle.pair_protocol.specs.Sides.{Mode, going, waits, over, Served, goes_on, ends, bad, Sides}
 use Rattle.pair_protocol.specs.Pair.{Both, run, done, wrong, answered, heard, both_in, both_step, both_from}
-use Rattle.pair_protocol.proofs.OrderFacts.{append_none, append_all, true_false}
 use Rattle.pair_protocol.proofs.OrderSlaveFacts.{IsFirstOf}
 
 abbrev pub is_done : {S M E Q : Type 0} → Both S M E Q → Bool
@@ -52,7 +53,7 @@ Begins v (done b e) = IsFirstOf v b
 Begins v (wrong b q) = IsFirstOf v b
 
 first_more : {X : Type 0} (v w more : List X) → IsFirstOf v w → IsFirstOf v (w ++ more)
-first_more v w more h = (h.0 ++ more, ap (λ u. u ++ more) h.1 ∙ append_all v h.0 more)
+first_more v w more h = (h.0 ++ more, ap (λ u. u ++ more) h.1 ∙ append_grouped v h.0 more)
 
 begins_answered : {S M X R E Q : Type 0} (g : Sides S M X R E Q) (v : List ℕ) (s : S) (w : List ℕ) (r : Served M R E Q) → IsFirstOf v w → Begins v (answered g s w r)
 begins_answered g v s w (goes_on m o more) h = first_more v w more h
@@ -78,6 +79,6 @@ begins_from g v zero b h = h
 begins_from g v (suc k) b h = begins_from g v k (both_step g b) (begins_step g v b h)
 
 pub bytes_grow : {S M X R E Q : Type 0} (g : Sides S M X R E Q) (j k : ℕ) (c : Both S M E Q) (s : S) (m : M) (v b : List ℕ) (e : E) → both_from g j c ≡ run s m v → both_from g k c ≡ done b e → IsFirstOf v b
-bytes_grow g zero k c s m v b e p q = subst (Begins v) q (begins_from g v k c (subst (Begins v) (sym p) ([], sym (append_none v))))
-bytes_grow g (suc j) zero c s m v b e p q = true_false (ap is_done (sym (stays g (suc j) (done b e) refl) ∙ ap (both_from g (suc j)) (sym q) ∙ p))
+bytes_grow g zero k c s m v b e p q = subst (Begins v) q (begins_from g v k c (subst (Begins v) (sym p) ([], sym (append_nil v))))
+bytes_grow g (suc j) zero c s m v b e p q = true_not_false (ap is_done (sym (stays g (suc j) (done b e) refl) ∙ ap (both_from g (suc j)) (sym q) ∙ p))
 bytes_grow g (suc j) (suc k) c s m v b e p q = bytes_grow g j k (both_step g c) s m v b e p q

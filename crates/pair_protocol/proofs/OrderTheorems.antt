@@ -1,11 +1,12 @@
 -- The laws.
 use Rattle.std.proofs.Common.{◌≡◌, ◌+◌, ◌≤◌, ℕ, suc, List, [], ◌∷◌, ◌++◌, refl, sym, ◌∙◌, ap, subst, arith, Bool, true, false}
+use Rattle.facts.proofs.Booleans.{true_not_false}
+use Rattle.facts.proofs.Lists.{append_grouped, append_nil}
 use Rattle.pair_protocol.specs.Sides.{Sides, AreFair, waiting}
 use Rattle.pair_protocol.specs.SlaveRun.{came, listed, slave_at, IsLongest}
 use Rattle.pair_protocol.specs.Serving.{Stop, still, ended, broken, serve_all, IsHonest, IsExpectedBy}
 use Rattle.pair_protocol.specs.Pair.{Both, run, done, wrong, both_in, both, Who, Going, going_with, Pair, goes, stops, breaks, pair_step, pair_from, start, pair_steps, IsWholeFrom, caught_up}
 use Rattle.pair_protocol.specs.OrderLaws.{IsAfter, ComesTo, SaidBy, IsDescribed, PairIsDescribed, EveryOrderEnds, OrdersAreExpected, HonestPeersAreExpected, FirstPartsAgree, FirstPartsBegin, SlavesAreCounted, ParentsReach, IsServedHonestly, PairsAreHonest}
-use Rattle.pair_protocol.proofs.OrderFacts.{append_none, append_all, true_false}
 use Rattle.pair_protocol.proofs.OrderSlaveFacts.{ready_none, one_step, one_reply, said_grows, at_rest}
 use Rattle.pair_protocol.proofs.OrderSynchronous.{is_done, ends_once, same_end, bytes_grow}
 use Rattle.pair_protocol.proofs.OrderEvery.{Inv, inv_steps, begins}
@@ -79,16 +80,16 @@ expected_by g s m k bytes e end at_end T written (still m') h none =
     (none refl, grown.0, grown.1)
 expected_by g s m k bytes e end at_end T written (ended e') h none = same_end g h.0 k (run s m []) written bytes e' e h.1 end
 expected_by g s m k bytes e end at_end T written (broken q) h none =
-    true_false (sym (ap is_done (ends_once g h.0 k (run s m []) (wrong written q) (done bytes e) h.1 end refl refl)))
+    true_not_false (sym (ap is_done (ends_once g h.0 k (run s m []) (wrong written q) (done bytes e) h.1 end refl refl)))
 
 never_open : {S M X R E Q : Type 0} (g : Sides S M X R E Q) → AreFair g → (s : S) (m : M) → waiting (g.mode s) ≡ 0 → (k : ℕ) (bytes : List ℕ) (e : E) → both g s m k ≡ done bytes e → (longest : ℕ) → IsLongest g longest s →
     (given : List X) (at_end : Bool) → IsHonest g longest s given at_end (serve_all g m given).replies → is_open (serve_all g m given).stop ≡ true → at_end ≡ false
 never_open g fair s m idle k bytes e end longest bound given false honest open' = refl
 never_open g fair s m idle k bytes e end longest bound given true honest open' =
     let replies = (serve_all g m given).replies in
-    let all' : (slave_at g longest s replies).said ≡ given = sym honest.first ∙ ap (λ rest. given ++ rest) (honest.whole refl) ∙ append_none given in
+    let all' : (slave_at g longest s replies).said ≡ given = sym honest.first ∙ ap (λ rest. given ++ rest) (honest.whole refl) ∙ append_nil given in
     let there = rests g fair longest s m [] given idle (at_rest g longest s bound replies) all' open' in
-    true_false (sym (ap is_done (ends_once g there.0 k (run s m []) (run there.1 there.2 there.3) (done bytes e) there.4 end (ap (λ mode. both_in g mode there.1 there.2 there.3) there.5) refl)))
+    true_not_false (sym (ap is_done (ends_once g there.0 k (run s m []) (run there.1 there.2 there.3) (done bytes e) there.4 end (ap (λ mode. both_in g mode there.1 there.2 there.3) there.5) refl)))
 
 pub honest_peers_are_expected : (S M X R E Q : Type 0) → HonestPeersAreExpected S M X R E Q
 honest_peers_are_expected S M X R E Q g s m fair idle k bytes e end longest bound given at_end honest =
@@ -105,8 +106,8 @@ honest_by g s longest k bound served rest replies said' made replies' same =
     let grown = said_grows g k longest s replies (omega (arith, made, most)) in
     record {
       rest = rest ++ grown.0;
-      first = sym (append_all served rest grown.0) ∙ ap (λ xs. xs ++ grown.0) (sym said') ∙ sym grown.1 ∙ ap (λ rs. (slave_at g longest s rs).said) same;
-      whole = λ no'. true_false (sym no');
+      first = sym (append_grouped served rest grown.0) ∙ ap (λ xs. xs ++ grown.0) (sym said') ∙ sym grown.1 ∙ ap (λ rs. (slave_at g longest s rs).said) same;
+      whole = λ no'. true_not_false (sym no');
     }
 
 honest_in : {S M X R E Q : Type 0} (g : Sides S M X R E Q) (s : S) (m : M) (longest : ℕ) → IsLongest g longest s → (p : Pair S M X E Q) → Inv g s m p → IsServedHonestly g longest s m p

@@ -4,6 +4,7 @@ use Rattle.std.specs.Prelude.{if◌then◌else◌, nat_lt, nat_le}
 use Rattle.std.proofs.lemmas.Bool.{ltb-false, leb-false}
 use Rattle.pt_base.specs.declared.end.End.{End}
 use Rattle.pt_base.specs.declared.end.End.TheVariants.{Spent}
+use Rattle.pt_base.proofs.Options.{some_not_none}
 use Rattle.pt_tree.specs.declared.signature.Signature.{Signature}
 use Rattle.runs.specs.State as r
 use Rattle.block_memory.specs.declared.cell.Cell.{Cell}
@@ -74,11 +75,8 @@ passes m x next reply bytes e = go (early_rule m.last x) refl (is_spent m x) ref
     go None b true l h = ends_goes [] Spent next reply bytes h
     go None b false l h = record { early = b; within = l; acts = h }
 
-some_none : {A B : Type 0} (a : A) → Some a ≡ None → B
-some_none a e = cc
-
 unbroken : (b : Bool) (broken : PeerRule) → broken_if b broken ≡ None → b ≡ false
-unbroken true broken e = some_none broken e
+unbroken true broken e = some_not_none broken e
 unbroken false broken e = refl
 
 -- ---- progress
@@ -117,7 +115,7 @@ call_progress m x body (writes out) next reply bytes made before later e = absur
 call_progress m x body (makes call) next reply bytes made before later e = call_takes m x call (left_for m x) (work_of m call (left_for m x)) next reply bytes before later e
 
 pub progress : (m : Monitor) (x : Message) (next : Monitor) (reply : Option ReplyBody) (bytes : List ℕ) → Passes m x (goes_on next reply bytes) → Progress m next
-progress m (message.Boot piece) next reply bytes p = some_none _ p.early
+progress m (message.Boot piece) next reply bytes p = some_not_none _ p.early
 progress m (message.Call turns f depth wants body) next reply bytes p =
     let early = ltb-false turns m.last (unbroken (nat_lt turns m.last) bad_turns p.early) in
     let within = ltb-false m.budget (turns + 1 + m.turns) p.within in
@@ -129,7 +127,7 @@ progress m (message.Emit turns out) next reply bytes p =
 progress m (message.Exit turns status) next reply bytes p = ends_goes _ _ next reply bytes p.acts
 progress m (message.Trap turns kind span) next reply bytes p = ends_goes _ _ next reply bytes p.acts
 progress m (message.Park turns) next reply bytes p = bad_goes _ next reply bytes p.acts
-progress m (message.Reply body) next reply bytes p = some_none _ p.early
+progress m (message.Reply body) next reply bytes p = some_not_none _ p.early
 
 -- ---- frames
 

@@ -17,7 +17,7 @@ use Rattle.pair_runner.proofs.Moving.{Law, talks_more, parts_behind, breaks_by_p
 use Rattle.pair_runner.proofs.Parts.{part_more}
 use Rattle.pair_runner.proofs.Pieces.{boot_given, boot_sent}
 
-stops_mapped : (moves moves' : List Event → List ℕ → Type 0) (m : Monitor) (stopped : Stopped) → ((talk : List Event) (bytes : List ℕ) → moves talk bytes → moves' talk bytes) → Stops moves m stopped → Stops moves' m stopped
+pub stops_mapped : (moves moves' : List Event → List ℕ → Type 0) (m : Monitor) (stopped : Stopped) → ((talk : List Event) (bytes : List ℕ) → moves talk bytes → moves' talk bytes) → Stops moves m stopped → Stops moves' m stopped
 stops_mapped moves moves' m stopped f s = record {
   talk = s.talk;
   served = s.served;
@@ -32,10 +32,10 @@ stops_mapped moves moves' m stopped f s = record {
   stop = s.stop;
 }
 
-broken_mapped : (breaks breaks' : List ℕ → List ℕ → List ℕ → Type 0) (m : Monitor) → ((given sent bytes : List ℕ) → breaks given sent bytes → breaks' given sent bytes) → BreaksOff breaks m → BreaksOff breaks' m
+pub broken_mapped : (breaks breaks' : List ℕ → List ℕ → List ℕ → Type 0) (m : Monitor) → ((given sent bytes : List ℕ) → breaks given sent bytes → breaks' given sent bytes) → BreaksOff breaks m → BreaksOff breaks' m
 broken_mapped breaks breaks' m f b = record { given = b.given; few = b.few; frames = b.frames; ending = b.ending; stream = b.stream; broke = f b.given _ _ b.broke }
 
-outcome_mapped : (moves moves' : List Event → List ℕ → Type 0) (breaks breaks' : List ℕ → List ℕ → List ℕ → Type 0) (m : Monitor) → ((talk : List Event) (bytes : List ℕ) → moves talk bytes → moves' talk bytes) →
+pub outcome_mapped : (moves moves' : List Event → List ℕ → Type 0) (breaks breaks' : List ℕ → List ℕ → List ℕ → Type 0) (m : Monitor) → ((talk : List Event) (bytes : List ℕ) → moves talk bytes → moves' talk bytes) →
     ((given sent bytes : List ℕ) → breaks given sent bytes → breaks' given sent bytes) → (result : Result End RunFault) → IsOutcome moves breaks m result → IsOutcome moves' breaks' m result
 outcome_mapped moves moves' breaks breaks' m f g (Ok end) h = stops_mapped moves moves' m _ f h
 outcome_mapped moves moves' breaks breaks' m f g (Err (BadPeer rule offset)) (r, e, s) = (r, e, stops_mapped moves moves' m _ f s)

@@ -18,9 +18,7 @@ use Rattle.pair_runner.specs.Sending.{given_in, sent_in, reply_frames}
 use Rattle.pair_runner.specs.Serves.{stops, before, Serves, asks, goes_on, ends, breaks, is_bad, is_too_long, hears_the_end}
 use Rattle.pair_runner.proofs.Moving.{given_reply, sent_reply}
 use Rattle.std.proofs.lemmas.Grind.{flat_map-append}
-
-pub begins_more : (x : Message) (bytes left more : List ℕ) → Begins x bytes left → Begins x (bytes ++ more) (left ++ more)
-begins_more x bytes left more b = record { spelled = b.spelled; are = ap (λ l. l ++ more) b.are ∙ append_assoc (spelling x) left more }
+use Rattle.wire.proofs.RunLaws.{begins_more}
 
 -- the frames of bytes that begin with a message begin with it
 pub first_is : (x : Message) (at : ℕ) (bytes left : List ℕ) (frames : List (Message × ℕ)) (ending : Ending) → Begins x bytes left → IsStream at bytes frames ending →

@@ -1,17 +1,13 @@
 -- Bytes that are told optionally: parts behind whole ones.
-use Rattle.std.proofs.Common.{◌≡◌, ℕ, List, [], ◌∷◌, ◌++◌, length, take, drop, Option, Some, None, refl, sym, ap, ◌∙◌, append_assoc, append-nil, take-append-drop}
+use Rattle.std.proofs.Common.{◌≡◌, ℕ, List, [], ◌++◌, length, take, drop, Option, Some, None, refl, sym, ap, ◌∙◌, append_assoc, append-nil, take-append-drop}
 use Rattle.std.specs.Io.KnownBytes.{Appends, Keeps}
 use Rattle.pt_base.specs.Told.{AppendsPart}
+use Rattle.pt_base.proofs.Places.{take_front}
 
 pub keeps_nil : (a b : Option (List ℕ)) → Keeps a b → Appends a b []
 keeps_nil None b k = tt {0}
 keeps_nil (Some x) None k = absurd k
 keeps_nil (Some x) (Some y) k = k ∙ sym (append-nil x)
-
-pub take_front : (front rest : List ℕ) → take (length front) (front ++ rest) ≡ front
-take_front [] [] = refl
-take_front [] (y ∷ rest) = refl
-take_front (x ∷ front) rest = ap (λ l. x ∷ l) (take_front front rest)
 
 -- a first part
 part_from : (old front rest bytes new : List ℕ) → bytes ≡ front ++ rest → new ≡ old ++ front → (n : ℕ) × (new ≡ old ++ take n bytes)

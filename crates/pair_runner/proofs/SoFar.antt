@@ -9,6 +9,7 @@ use Rattle.wire.specs.Frames.{IsUnfinished, Begins, Ending, IsStream}
 use Rattle.wire.specs.Limits.{IsBytes}
 use Rattle.wire.specs.Spelling.{spelling}
 use Rattle.wire.proofs.StreamLaws.{one_stream}
+use Rattle.wire.proofs.RunLaws.{begins_more}
 use Rattle.pair_protocol.specs.Sides as sides
 use Rattle.pair_protocol.specs.SlaveRun.{listed}
 use Rattle.pair_meaning.specs.Monitors.{Monitor}
@@ -18,7 +19,7 @@ use Rattle.pair_runner.specs.Sending.{IsSpelled, given_in, sent_in, sent_of, rep
 use Rattle.pair_runner.specs.Serves.{before, Serves, asks, goes_on}
 use Rattle.pair_runner.specs.Bounds.{longest_frame, most_at_once}
 use Rattle.pair_runner.specs.Outcomes.{Stops, BreaksOff}
-use Rattle.pair_runner.proofs.Frames.{begins_more, first_is, goes_first, talks_are_frames, talks_reply}
+use Rattle.pair_runner.proofs.Frames.{first_is, goes_first, talks_are_frames, talks_reply}
 use Rattle.pair_runner.proofs.Moving.{given_append, given_reply, sent_append, sent_reply}
 use Rattle.pair_runner.proofs.Received.{Received, none_received, nothing_short, received_frame, received_piece, received_whole}
 
@@ -52,7 +53,7 @@ begins moves m none = record {
 abbrev pub Then : (List Event → List ℕ → Type 0) → (List Event → List ℕ → Type 0) → List Event → List ℕ → Type 0
 Then moves moves' more bytes = (talk : List Event) (written : List ℕ) → moves talk written → moves' (talk ++ more) (written ++ bytes)
 
-given_gave : (talk : List Event) (piece : List ℕ) → given_in (talk ++ gave piece ∷ []) ≡ given_in talk ++ piece
+pub given_gave : (talk : List Event) (piece : List ℕ) → given_in (talk ++ gave piece ∷ []) ≡ given_in talk ++ piece
 given_gave talk piece = given_append talk (gave piece ∷ []) ∙ ap (λ l. given_in talk ++ l) (append-nil piece)
 
 pub hears : (moves moves' : List Event → List ℕ → Type 0) (m now : Monitor) (at : ℕ) (bytes piece : List ℕ) → SoFar moves m now at bytes →

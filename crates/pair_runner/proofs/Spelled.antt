@@ -1,10 +1,11 @@
 -- The reply to a message within the counts of the format has a spelling.
-use Rattle.std.proofs.Common.{◌≡◌, ◌≤◌, ℕ, suc, ◌*◌, ℤ, List, [], ◌∷◌, length, Bool, true, false, Option, Some, None, refl, sym, ap, subst, arith, length-append}
+use Rattle.std.proofs.Common.{◌≡◌, ◌≤◌, ℕ, suc, ◌*◌, ℤ, List, [], ◌∷◌, length, Bool, true, false, Option, Some, None, sym, ap, subst, arith, length-append}
 use Rattle.std.proofs.lemmas.List.{length-map}
 use Rattle.std.specs.Prelude.{if◌then◌else◌, option_map}
 use Rattle.std.specs.List.{AllByRecursion}
 use Rattle.pt_base.specs.declared.end.End.{End}
 use Rattle.pt_base.specs.declared.int_type.IntType.{IntType}
+use Rattle.pt_base.proofs.Options.{some_same}
 use Rattle.block_memory.specs.declared.cell.Cell.{Cell}
 use Rattle.runs.specs.State as r
 use Rattle.pt_core.specs.Statements.{Outcome, State}
@@ -19,6 +20,7 @@ use Rattle.wire.proofs.Sizes.{counts_suffice}
 use Rattle.marshalling.specs.declared.crossing.Crossing.{Crossing}
 use Rattle.marshalling.specs.declared.crossing.Crossing.TheVariants.{Stays, Plain, Sealed}
 use Rattle.marshalling.specs.Replies.{Place, block_types, next_by, places_from, places_of, sent, sent_by, types_of}
+use Rattle.marshalling.proofs.ReplyLemmas.{length-places_from}
 use Rattle.pair_protocol.specs.Sides.{Served, goes_on, ends, bad}
 use Rattle.pair_meaning.specs.Monitors.{Monitor, low}
 use Rattle.pair_meaning.specs.Rules as rule
@@ -41,16 +43,12 @@ sent_short handle (p ∷ places) (v ∷ values) =
     let more = sent_short (next_by p.way handle) places values in
     omega (arith, one, more, length-append (sent_by p.way handle v) (sent (next_by p.way handle) places values))
 
-length_places : (crossing : ℕ → ℕ → Crossing) (k i : ℕ) (types : List IntType) → length (places_from crossing k i types) ≡ length types
-length_places crossing k i [] = refl
-length_places crossing k i (t ∷ types) = ap suc (length_places crossing k (suc i) types)
-
 places_short : (crossing : ℕ → ℕ → Crossing) (k : ℕ) (blocks : List (List (IntType × WireCell))) → AllByRecursion IsBlock blocks → length (places_of crossing k (types_of blocks)) ≤ length blocks * 65_536
 places_short crossing k [] all = omega arith
 places_short crossing k (cells ∷ blocks) all =
     let most = all.0.1 in
     let more = places_short crossing (suc k) blocks all.1 in
-    let here = length_places crossing k 0 (block_types cells) in
+    let here = length-places_from crossing k 0 (block_types cells) in
     omega (arith, most, more, here, length-map cells (λ (typed : IntType × WireCell). typed.0), length-append (places_from crossing k 0 (block_types cells)) (places_of crossing (suc k) (types_of blocks)))
 
 few_cells : (crossing : ℕ → ℕ → Crossing) (body : CallBody) (handle : ℕ) (values : List ℤ) → IsCall body → length (sent handle (places_of crossing 0 (types_of body.blocks)) values) ≤ 524_288
@@ -70,11 +68,8 @@ replies_in (goes_on next reply bytes) = reply
 replies_in (ends bytes end) = None
 replies_in (bad broken) = None
 
-some_is : {A : Type 0} (a b : A) → Some a ≡ Some b → a ≡ b
-some_is a b e = cc
-
 wanted : (wants : Bool) (made reply : ReplyBody) → KeepsLimits (message.Reply made) → (if wants then Some made else None) ≡ Some reply → KeepsLimits (message.Reply reply)
-wanted true made reply k e = subst (λ (w : ReplyBody). KeepsLimits (message.Reply w)) (some_is made reply e) k
+wanted true made reply k e = subst (λ (w : ReplyBody). KeepsLimits (message.Reply w)) (some_same made reply e) k
 wanted false made reply k e = cc
 
 reply_spelled : (m : Monitor) (call : Admitted) (value : Option ℤ) (st : State) → IsCall call.body → KeepsLimits (message.Reply (reply_with m call value st))

@@ -1,5 +1,5 @@
 -- Where a turn breaks off.
-use Rattle.std.proofs.Common.{◌≡◌, ◌≢◌, ◌==◌, ℕ, List, [], ◌∷◌, length, Bool, true, false, Option, Result, Ok, Err, OnErr, sym}
+use Rattle.std.proofs.Common.{ℕ, List, [], ◌∷◌, Option, Result, Ok, Err, OnErr}
 use Rattle.std.proofs.KnownBytes.{Keeps-refl}
 use Rattle.pt_base.specs.declared.link.LinkFault.{LinkFault}
 use Rattle.pt_base.specs.declared.link.LinkFault.TheVariants as link
@@ -33,16 +33,6 @@ unfed_moves came sent given taken a b k SinkFailed h = absurd h
 unfed_moves came sent given taken a b k (BadPeer number offset) h = absurd h
 unfed_moves came sent given taken a b k PeerEnded h = moves_by_talk came sent given taken a b k (gave [] ∷ []) h
 unfed_moves came sent given taken a b k Memory (piece, fits, small, h) = (piece, fits, small, breaks_by_parts sent given taken a b k piece [] [] h)
-
-pub filled : (b : Bool) (xs : List ℕ) → b ≡ (length xs == 0) → b ≡ false → xs ≢ []
-filled b [] e f = λ z. true_false (sym e) f
-  where
-    true_false : true ≡ b → b ≡ false → ⊥
-    true_false e f = cc
-filled b (x ∷ xs) e f = λ z. cons_nil z
-  where
-    cons_nil : x ∷ xs ≡ [] → ⊥
-    cons_nil z = cc
 
 -- whatever the result is
 pub on_err : {T E : Type 0} (r : Result T E) (P : Type 0) → P → OnErr r P

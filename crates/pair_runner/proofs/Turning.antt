@@ -24,10 +24,11 @@ use Rattle.pair_runner.specs.Serves.{stops, before, Serves, is_bad, is_too_long,
 use Rattle.pair_runner.specs.Bounds.{longest_frame, most_at_once}
 use Rattle.pair_runner.specs.Outcomes.{Stops, BreaksOff, IsOutcome}
 use Rattle.pair_runner.specs.Turns.{Stuck, Refused, Answered, Unfed, Turned}
-use Rattle.pair_runner.proofs.Frames.{begins_more, first_is, goes_first, ends_first}
+use Rattle.pair_runner.proofs.Frames.{first_is, goes_first, ends_first}
 use Rattle.pair_runner.proofs.Received.{nothing_short, piece_short}
 use Rattle.pair_runner.proofs.SoFar.{SoFar, BeginsWith, begins_with_nothing, hears, serves_one, stops_at, breaks_off}
 use Rattle.std.proofs.lemmas.Grind.{flat_map-append}
+use Rattle.wire.proofs.RunLaws.{begins_more}
 
 -- one talk behind the other
 abbrev pub Joins : (List Event → List ℕ → Type 0) → (List Event → List ℕ → Type 0) → (List Event → List ℕ → Type 0) → Type 0

@@ -1,7 +1,8 @@
 -- The pair that begins from faultless texts is a fair one.
-use Rattle.std.proofs.Common.{◌<◌, ◌^◌, ℕ, Bool, true, false, List, [], if◌then◌else◌, subst, sym, arith}
+use Rattle.std.proofs.Common.{◌<◌, ◌^◌, ℕ, subst, sym}
 use Rattle.std.specs.Prelude.{All, IsTrue}
 use Rattle.std.specs.List.{list_any}
+use Rattle.pt_base.proofs.Lists.{bytes_if}
 use Rattle.runs.specs.State.{Hosts}
 use Rattle.typed_tree.specs.TypedTree.{TypedTree}
 use Rattle.policy.specs.Verdicts.{start}
@@ -23,10 +24,6 @@ use Rattle.pair_texts.specs.OutcomeSeen.{HaveBegun}
 use Rattle.pair_texts.specs.Start.{Texts}
 use Rattle.pair_running.specs.HonestTalksLaws.{BegunPairsAreFair}
 
-bytes_given : (reads : Bool) (input : List ℕ) → All (λ b. b < 256) input → All (λ b. b < 256) (if reads then input else [])
-bytes_given true input bytes = bytes
-bytes_given false input bytes = λ k d lt. absurd (omega (arith, lt))
-
 -- what both begin as the halves of
 module _ (t : Texts) (turns : ℕ) (boot : BootTree) (monitor : Monitor) (b : HaveBegun t turns boot monitor) where
   abbrev tree : TypedTree
@@ -38,7 +35,7 @@ module _ (t : Texts) (turns : ℕ) (boot : BootTree) (monitor : Monitor) (b : Ha
   stays : BegunBootsAreWellFormed → AcceptedSlavesStay → All (λ b. b < 256) t.input → turns < 2 ^ 32 → Stays (slave_of at_start)
   stays boots slaves bytes small =
       let well : IsTrue (is_well_formed_boot fits at_start) = subst (λ (x : BootTree). IsTrue (is_well_formed_boot fits x)) b.started.boot_is (boots t turns boot monitor b) in
-      slaves tree b.started.accepted at_start.hosts at_start.input at_start.turns b.well_formed b.started.is well (bytes_given (list_any (λ h. reads_input h.1) at_start.hosts) t.input bytes) small
+      slaves tree b.started.accepted at_start.hosts at_start.input at_start.turns b.well_formed b.started.is well (bytes_if (list_any (λ h. reads_input h.1) at_start.hosts) t.input bytes) small
 
   begins : CheckedProgramsPlaceNulls → BegunBootsAreWellFormed → AcceptedSlavesStay → AcceptedPairsBegin → (own : Hosts) → All (λ b. b < 256) t.input → turns < 2 ^ 32 → HostsAre monitor.program own monitor.hosts →
       Begins Stays (setting_of tree b.started.accepted (start b.started.rules) b.started.hosts t.input turns) boot (with_hosts own monitor)

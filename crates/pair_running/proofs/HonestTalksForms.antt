@@ -1,9 +1,10 @@
 -- What the monitor sends has the form of what may be sent.
-use Rattle.std.proofs.Common.{◌≡◌, ◌∙◌, ℕ, List, [], ◌∷◌, ◌++◌, length, take, map, refl, sym, ap, subst, append_assoc, append-nil, Bool, true, false}
-use Rattle.std.specs.Prelude.{◌&&◌, ◌||◌, IsTrue}
+use Rattle.std.proofs.Common.{◌≡◌, ◌∙◌, ℕ, List, [], ◌∷◌, ◌++◌, length, take, map, refl, sym, ap, subst, append_assoc, append-nil, true}
+use Rattle.std.specs.Prelude.{IsTrue}
 use Rattle.std.specs.List.{AllByRecursion, flat_map}
 use Rattle.std.proofs.lemmas.List.{take_at, drop_at}
 use Rattle.std.proofs.lemmas.Slice.Eq.{bytes_eq-Decides}
+use Rattle.std.proofs.lemmas.Bool.{and_from, or_left, or_right}
 use Rattle.pt_base.specs.Talk.{Event}
 use Rattle.wire.specs.declared.message.Message.TheVariants as message
 use Rattle.wire.specs.declared.message.ReplyBody.{ReplyBody}
@@ -17,23 +18,11 @@ use Rattle.pair_running.proofs.HonestTalksCutting.{cut_to, reply_messages, repli
 begins_itself : (xs more : List ℕ) → begins xs (xs ++ more) ≡ true
 begins_itself xs more = (bytes_eq-Decides (take (length xs) (xs ++ more)) xs).1 (take_at xs more (length xs) refl)
 
-left_or : (p q : Bool) → p ≡ true → (p || q) ≡ true
-left_or true q e = refl
-left_or false q e = absurd cc
-
-right_or : (p q : Bool) → q ≡ true → (p || q) ≡ true
-right_or true q e = refl
-right_or false q e = e
-
-both : (p q : Bool) → p ≡ true → q ≡ true → (p && q) ≡ true
-both true q e h = h
-both false q e h = absurd cc
-
 -- ---- a part of the boot
 
 part_has_form : (bytes : List ℕ) (b : BootTree) (sent more : List ℕ) → boot_frames bytes ≡ sent ++ more → IsTrue (is_form bytes b sent)
 part_has_form bytes b sent more are =
-    left_or (begins sent (boot_frames bytes)) _ (ap (begins sent) are ∙ begins_itself sent more)
+    or_left (begins sent (boot_frames bytes)) _ (ap (begins sent) are ∙ begins_itself sent more)
 
 abbrev piece_frame : List ℕ → List ℕ
 piece_frame piece = spelling (message.Boot piece)
@@ -61,14 +50,14 @@ only_replies (reply ∷ replies) = only_replies replies
 
 its_replies : (b : BootTree) (replies : List ReplyBody) → are_awaited b [] replies ≡ true → are_its_replies b (cut_to (reply_messages replies) []) ≡ true
 its_replies b replies awaited =
-    both (are_replies (reply_messages replies)) _ (only_replies replies)
-    (both (are_awaited b [] (flat_map reply_in (reply_messages replies))) _ (ap (are_awaited b []) (same_replies replies) ∙ awaited) refl)
+    and_from (are_replies (reply_messages replies)) _ (only_replies replies)
+    (and_from (are_awaited b [] (flat_map reply_in (reply_messages replies))) _ (ap (are_awaited b []) (same_replies replies) ∙ awaited) refl)
 
 -- the boot, and then replies that were awaited
 pub replies_have_form : (bytes : List ℕ) (b : BootTree) (replies : List ReplyBody) → AllByRecursion IsSpelled replies → are_awaited b [] replies ≡ true → IsTrue (is_form bytes b (boot_frames bytes ++ reply_frames replies))
 replies_have_form bytes b replies spelled awaited =
     let boot = boot_frames bytes in
     let sent = boot ++ reply_frames replies in
-    right_or (begins sent boot) _
-    (both (begins boot sent) _ (begins_itself boot (reply_frames replies))
+    or_right (begins sent boot) _
+    (and_from (begins boot sent) _ (begins_itself boot (reply_frames replies))
     (ap (λ l. are_its_replies b (cut l)) (drop_at boot (reply_frames replies) (length boot) refl) ∙ ap (are_its_replies b) (replies_cut replies spelled) ∙ its_replies b replies awaited))

@@ -5,7 +5,7 @@ use Rattle.wire.specs.declared.message.Message.{Message}
 use Rattle.wire.specs.Frames.{IsUnfinished, BeginsBad, BeginsTooLong, Begins, open_end, bad_frame_at, too_long_at}
 use Rattle.wire.specs.Spelling.{four_bytes, spelling}
 use Rattle.wire.proofs.StreamLaws.{same_message, stops_no_message, frame_not_unfinished, too_long_not_unfinished}
-use Rattle.pair_runner.proofs.Frames.{begins_more}
+use Rattle.wire.proofs.RunLaws.{begins_more}
 use Rattle.slave_soundness_law.specs.MessagesLaws.{AllAreSpelled}
 
 -- the spellings, one behind the other

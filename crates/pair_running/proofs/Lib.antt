@@ -7,8 +7,7 @@ mod SpawnedPairBeginning
 pub mod SpawnedPairCuts
 mod SpawnedPairEnding
 mod SpawnedPairHonest
-mod SpawnedPairLinks
-mod SpawnedPairMapped
+pub mod SpawnedPairLinks
 mod SpawnedPairServing
 mod GeneratedPairOutcomes
 mod GeneratedPairRuns

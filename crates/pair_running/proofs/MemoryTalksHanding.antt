@@ -1,15 +1,10 @@
 -- What handing over a message does to the pair, and where nothing moves it any more.
 use Rattle.std.proofs.Common.{◌≡◌, ◌∙◌, ℕ, List, [], ◌∷◌, ◌++◌, length, refl, sym, ap, subst, Bool, true, false, Option, Some, None}
 use Rattle.std.specs.Prelude.{◌&&◌, ◌||◌, nat_lt}
+use Rattle.pt_base.proofs.Booleans.{or_with_true, true_not_false}
 use Rattle.pair_protocol.specs.Sides.{Sides}
 use Rattle.pair_protocol.specs.Pair.{Who, Going, going_with, Pair, goes, stops, breaks, is_going, is_slaves, moves, replied, monitor_turn, turn, pair_step, pair_from, IsWholeFrom}
 use Rattle.pair_protocol.specs.Links.{Half, half, moved, front, behind, is_live, Either, Pops, Hands}
-
-true_false : {B : Type 0} → true ≡ false → B
-true_false e = absurd (clash e)
-  where
-    clash : true ≡ false → ⊥
-    clash e = cc
 
 abbrev is_some : {X : Type 0} → Option X → Bool
 is_some None = false
@@ -27,7 +22,7 @@ IsEarlier {S = S} {M = M} {X = X} g window T = (who : Who) (answers : List Who) 
 
 popped : {S M X R E Q : Type 0} (g : Sides S M X R E Q) (T : Pair S M X E Q → Type 0) (s : S) (queue : List X) (at : Half S X) (m : M) (w : List ℕ) (x : X) → Some x ≡ front queue → at ≡ half s (behind queue) →
     T (replied g at.slave at.queue w (g.serve m x)) → T (monitor_turn g s m w queue)
-popped g T s [] at m w x is same h = true_false (ap is_some is)
+popped g T s [] at m w x is same h = true_not_false (ap is_some is)
 popped g T s (y ∷ queue) at m w x is same h =
     subst (λ y. T (replied g s queue w (g.serve m y))) (ap (some_or x) is) (subst (λ at. T (replied g at.slave at.queue w (g.serve m x))) same h)
 
@@ -43,7 +38,7 @@ handed_in g window T first rest h at m w x more holds false hands =
 -- under the answers by which a message is handed over, the monitor serves it with the last
 pub handed : {S M X R E Q : Type 0} (g : Sides S M X R E Q) (window : ℕ) (T : List Who → Pair S M X E Q → Type 0) → IsEarlier g window T → (first rest : List Who) (h at : Half S X) (m : M) (w : List ℕ) (x : X) →
     Hands g window first h (Some x) at → T rest (replied g at.slave at.queue w (g.serve m x)) → T (first ++ rest) (goes (going_with h.slave h.queue m w))
-handed g window T earlier [] rest h at m w x hands holds = true_false (ap is_some hands.1)
+handed g window T earlier [] rest h at m w x hands holds = true_not_false (ap is_some hands.1)
 handed g window T earlier (who ∷ first) rest h at m w x hands holds =
     earlier who (first ++ rest) (going_with h.slave h.queue m w)
     (handed_in g window T first rest h at m w x (λ hands. handed g window T earlier first rest (moved g h) at m w x hands holds) holds (moves g window who h.slave h.queue) hands)
@@ -56,12 +51,8 @@ Rests g window (goes p) = (who : Who) → pair_step g window who (goes p) ≡ go
 Rests g window (stops bytes e) = ⊥
 Rests g window (breaks bytes q) = Unit {0}
 
-last_true : (b : Bool) → (b || true) ≡ true
-last_true true = refl
-last_true false = refl
-
 first_false : (a b : Bool) → (a && (b || true)) ≡ false → a ≡ false
-first_false true b e = true_false (sym (last_true b) ∙ e)
+first_false true b e = true_not_false (sym (or_with_true b) ∙ e)
 first_false false b e = refl
 
 left_false : (a : Bool) → (a || false) ≡ false → a ≡ false
@@ -74,13 +65,13 @@ quiet g window s m w idle who = ap (λ b. turn g (b && (is_slaves who || true)) 
 
 no_live : {S M X R E Q : Type 0} (g : Sides S M X R E Q) (window : ℕ) (s : S) (queue : List X) (m : M) (w : List ℕ) → is_live g window (half s queue) ≡ false → Rests g window (goes (going_with s queue m w))
 no_live g window s [] m w idle = quiet g window s m w (left_false (is_going (g.mode s) && nat_lt 0 window) idle)
-no_live g window s (y ∷ queue) m w idle = true_false (sym (last_true (is_going (g.mode s) && nat_lt (length (y ∷ queue)) window)) ∙ idle)
+no_live g window s (y ∷ queue) m w idle = true_not_false (sym (or_with_true (is_going (g.mode s) && nat_lt (length (y ∷ queue)) window)) ∙ idle)
 
 -- an empty queue's front was asked for
 none_popped : {S M X R E Q : Type 0} (g : Sides S M X R E Q) (window : ℕ) (who : Who) (s : S) (queue : List X) (m : M) (w : List ℕ) → None ≡ front queue → moves g window who s queue ≡ false →
     Rests g window (monitor_turn g s m w queue)
 none_popped g window who s [] m w none stays = quiet g window s m w (first_false (is_going (g.mode s) && nat_lt 0 window) (is_slaves who) stays)
-none_popped g window who s (y ∷ queue) m w none stays = true_false (sym (ap is_some none))
+none_popped g window who s (y ∷ queue) m w none stays = true_not_false (sym (ap is_some none))
 
 ended_in : {S M X R E Q : Type 0} (g : Sides S M X R E Q) (window : ℕ) (who : Who) (first : List Who) (h at : Half S X) (m : M) (w : List ℕ) →
     (Hands g window first (moved g h) None at → Rests g window (pair_from g window first (goes (going_with (moved g h).slave (moved g h).queue m w)))) →

@@ -12,21 +12,20 @@ use Rattle.pair_runner.specs.declared.fault.RunFault.{RunFault}
 use Rattle.pair_runner.specs.Faults.{of_link}
 use Rattle.pair_runner.specs.Outcomes.{IsOutcome, behind_boot, broken_behind_boot}
 use Rattle.pair_runner.specs.Sending.{Breaks, Moves, boot_talk}
-use Rattle.pair_runner.proofs.Finishing.{boot_unsent}
+use Rattle.pair_runner.proofs.Finishing.{boot_unsent, outcome_mapped}
 use Rattle.pair_runner.proofs.Moving.{parts_none}
-use Rattle.pair_running.proofs.SpawnedPairMapped.{outcome_mapped}
 
 -- so supervising behind the boot came to this
 abbrev pub Behind : {L K : Type 0} → (L → List Event → L → Type 0) → (L → Option (List ℕ)) → (L → Option (List ℕ)) → (K → Option (List ℕ)) → L → L → K → K → List ℕ → Monitor → Result End RunFault → Type 0
 Behind came sent given taken a b k n boot m result = IsOutcome (behind_boot (Moves came sent given taken a b k n) boot) (broken_behind_boot (Breaks sent given taken a b k n) boot) m result
 
-appends_kept : (a b c : Option (List ℕ)) (xs : List ℕ) → Keeps a b → Appends b c xs → Appends a c xs
+pub appends_kept : (a b c : Option (List ℕ)) (xs : List ℕ) → Keeps a b → Appends b c xs → Appends a c xs
 appends_kept None b c xs p q = tt {0}
 appends_kept (Some x) None c xs p q = absurd p
 appends_kept (Some x) (Some y) None xs p q = absurd q
 appends_kept (Some x) (Some y) (Some z) xs p q = q ∙ ap (λ l. l ++ xs) p
 
-part_kept : (a b c : Option (List ℕ)) (xs : List ℕ) → Keeps a b → AppendsPart b c xs → AppendsPart a c xs
+pub part_kept : (a b c : Option (List ℕ)) (xs : List ℕ) → Keeps a b → AppendsPart b c xs → AppendsPart a c xs
 part_kept None b c xs p q = tt {0}
 part_kept (Some x) None c xs p q = absurd p
 part_kept (Some x) (Some y) None xs p q = absurd q

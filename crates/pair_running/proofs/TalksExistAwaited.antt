@@ -1,13 +1,11 @@
 -- Each reply that a slave waits for has a spelling.
-use Rattle.std.proofs.Common.{◌≡◌, ◌≤◌, ◌<◌, ℕ, suc, ◌+◌, ◌*◌, ◌^◌, ℤ, refl, subst, arith, List, [], ◌∷◌, ◌++◌, ap, Option, Some, None, true, false, length, map, if◌then◌else◌, length-append}
-use Rattle.std.specs.Prelude.{FitsSigned, IfSome, ◌&&◌, nat_eq, nat_le, nat_lt, option_to_list}
-use Rattle.std.specs.Int.{w128}
+use Rattle.std.proofs.Common.{◌≡◌, ◌≤◌, ◌<◌, ℕ, suc, ◌+◌, ◌*◌, ◌^◌, refl, subst, arith, List, [], ◌∷◌, ◌++◌, Option, Some, None, true, length, map, if◌then◌else◌, length-append}
+use Rattle.std.specs.Prelude.{IfSome, ◌&&◌, nat_eq, nat_le, nat_lt, option_to_list}
 use Rattle.std.specs.List.{AllByRecursion, list_all}
 use Rattle.std.proofs.lemmas.Bool.Decides.{nat_tests}
-use Rattle.std.proofs.lemmas.Int.{ints}
-use Rattle.pt_base.specs.IntTypes.{InRange}
 use Rattle.pt_base.specs.declared.int_type.IntType.{IntType}
 use Rattle.pt_base.specs.declared.int_type.IntType.TheVariants as i
+use Rattle.pt_base.proofs.Booleans.{and_true_first, and_true_second, false_not_true}
 use Rattle.block_memory.specs.declared.cell.BlockName.{BlockName}
 use Rattle.block_memory.specs.declared.cell.Cell.{Cell}
 use Rattle.block_memory.specs.Blocks.{Blocks}
@@ -22,12 +20,13 @@ use Rattle.marshalling.specs.declared.crossing.Crossing.TheVariants.{Stays, Plai
 use Rattle.marshalling.specs.Packing.{names_of}
 use Rattle.marshalling.specs.Replies.{Place, next_after, next_by, places_from, places_of}
 use Rattle.marshalling.specs.Taking.{are_sent, call_crossing, comes_back, is_sent_by, is_whole}
-use Rattle.marshalling.proofs.Lists.{first, second}
+use Rattle.marshalling.proofs.ReplyLemmas.{length-places_from}
 use Rattle.marshalling_law.specs.TakingLaws.{AllStand, Stands}
 use Rattle.pt_core.specs.CodeTree.{BootTree}
 use Rattle.pt_core.specs.Calls.{signature_in}
 use Rattle.marshalling_law.specs.CallsPackable.{IsPackable}
 use Rattle.marshalling_law.proofs.CallsServed.{range_of}
+use Rattle.marshalling_law.proofs.CallsSpelled.{in_word}
 use Rattle.pair_meaning.specs.Pair.{slave_at}
 use Rattle.pair_meaning.specs.Peer.{are_awaited, is_awaited}
 use Rattle.pair_meaning.specs.SlaveRun.{Slave, Doing, goes, waits_for, is_over, is_reply_to, longest, may_take, places_of_call, results_of}
@@ -38,30 +37,16 @@ use Rattle.slave_soundness_law.proofs.MessagesTaking.{given_stand}
 use Rattle.pair_runner.specs.Sending.{IsSpelled}
 use Rattle.pair_running.specs.TalksExistLaws.{AwaitedRepliesAreSpelled}
 
-false_true : {A : Type 0} → false ≡ true → A
-false_true e = cc
-
 -- ---- cells
-
-in_word : (t : IntType) (v : ℤ) → InRange t v → FitsSigned w128 v
-in_word i.Char v p = grind (arith, ints)
-in_word i.SChar v p = grind (arith, ints)
-in_word i.UChar v p = grind (arith, ints)
-in_word i.Short v p = grind (arith, ints)
-in_word i.UShort v p = grind (arith, ints)
-in_word i.Int v p = grind (arith, ints)
-in_word i.UInt v p = grind (arith, ints)
-in_word i.Long v p = grind (arith, ints)
-in_word i.ULong v p = grind (arith, ints)
 
 below : (a b n : ℕ) → nat_eq a b ≡ true → nat_lt b n ≡ true → a < n
 below a b n h k = grind (arith, nat_tests)
 
 cell_fits : (way : Crossing) (t : IntType) (handle : ℕ) (c : WireCell) → is_sent_by way t handle c ≡ true → Stands numbered way t handle → FitsCell c
-cell_fits Stays t handle c e s = false_true e
+cell_fits Stays t handle c e s = false_not_true e
 cell_fits Plain t handle (wire.Number v) e s = in_word t v (range_of t v e)
-cell_fits Plain t handle (wire.Sealed given) e s = false_true e
-cell_fits Sealed t handle (wire.Number v) e s = false_true e
+cell_fits Plain t handle (wire.Sealed given) e s = false_not_true e
+cell_fits Sealed t handle (wire.Number v) e s = false_not_true e
 cell_fits Sealed t handle (wire.Sealed given) e s = below given handle (2 ^ 64) e s
 
 -- their numbers are those of the fields, and they are at most so many
@@ -71,7 +56,7 @@ record AreFine (cells : List WireCell) (most : ℕ) : Type 0 where
 
 cells_fine : (places : List Place) (handle : ℕ) (cells : List WireCell) → are_sent handle places cells ≡ true → AllStand numbered handle places → AreFine cells (length places)
 cells_fine [] handle [] e s = record { fit = tt {0}; few = omega arith }
-cells_fine [] handle (c ∷ cells) e s = false_true e
+cells_fine [] handle (c ∷ cells) e s = false_not_true e
 cells_fine (p ∷ places) handle [] e s = record { fit = tt {0}; few = omega arith }
 cells_fine (p ∷ places) handle (c ∷ cells) e s = go (λ handle cells e s. cells_fine places handle cells e s) p.way e s
   where
@@ -85,20 +70,16 @@ cells_fine (p ∷ places) handle (c ∷ cells) e s = go (λ handle cells e s. ce
     go more Plain e s =
         let here = is_sent_by Plain p.ty handle c in
         let rest = are_sent handle places cells in
-        with_one (cell_fits Plain p.ty handle c (first here rest e) s.0) (more handle cells (second here rest e) s.1)
+        with_one (cell_fits Plain p.ty handle c (and_true_first here rest e) s.0) (more handle cells (and_true_second here rest e) s.1)
     go more Sealed e s =
         let here = is_sent_by Sealed p.ty handle c in
         let rest = are_sent (suc handle) places cells in
-        with_one (cell_fits Sealed p.ty handle c (first here rest e) s.0) (more (suc handle) cells (second here rest e) s.1)
+        with_one (cell_fits Sealed p.ty handle c (and_true_first here rest e) s.0) (more (suc handle) cells (and_true_second here rest e) s.1)
 
 -- ---- how many places there are
 
-length_places : (crossing : ℕ → ℕ → Crossing) (k i : ℕ) (types : List IntType) → length (places_from crossing k i types) ≡ length types
-length_places crossing k i [] = refl
-length_places crossing k i (t ∷ types) = ap suc (length_places crossing k (suc i) types)
-
 small : (a b : ℕ) → (nat_eq a b && nat_le b 65_536) ≡ true → a ≤ 65_536
-small a b h = both (first (nat_eq a b) (nat_le b 65_536) h) (second (nat_eq a b) (nat_le b 65_536) h)
+small a b h = both (and_true_first (nat_eq a b) (nat_le b 65_536) h) (and_true_second (nat_eq a b) (nat_le b 65_536) h)
   where
     both : nat_eq a b ≡ true → nat_le b 65_536 ≡ true → a ≤ 65_536
     both h k = grind (arith, nat_tests)
@@ -109,9 +90,9 @@ few_places crossing blocks k [] h = omega arith
 few_places crossing blocks k (n ∷ names) h =
     let whole = is_whole (blocks n) in
     let others = list_all (λ name. is_whole (blocks name)) names in
-    let here : length (blocks n).types ≤ 65_536 = small (length (blocks n).types) (length (blocks n).cells) (first whole others h) in
-    let same : length (places_from crossing k 0 (blocks n).types) ≡ length (blocks n).types = length_places crossing k 0 (blocks n).types in
-    let rest = few_places crossing blocks (suc k) names (second whole others h) in
+    let here : length (blocks n).types ≤ 65_536 = small (length (blocks n).types) (length (blocks n).cells) (and_true_first whole others h) in
+    let same : length (places_from crossing k 0 (blocks n).types) ≡ length (blocks n).types = length-places_from crossing k 0 (blocks n).types in
+    let rest = few_places crossing blocks (suc k) names (and_true_second whole others h) in
     omega (arith, here, same, rest, length-append (places_from crossing k 0 (blocks n).types) (places_of crossing (suc k) (map (λ name. (blocks name).types) names)))
 
 -- ---- a reply
@@ -129,8 +110,8 @@ reply_spelled x f args reply is packable room =
     let next : ℕ = next_after (length x.given) results in
     let one = are_sent (length x.given) results (option_to_list reply.result) in
     let other = are_sent next places reply.cells in
-    let result = cells_fine results (length x.given) (option_to_list reply.result) (first one other is) stand.result in
-    let cells = cells_fine places next reply.cells (second one other is) stand.cells in
+    let result = cells_fine results (length x.given) (option_to_list reply.result) (and_true_first one other is) stand.result in
+    let cells = cells_fine places next reply.cells (and_true_second one other is) stand.cells in
     let few : length reply.cells ≤ length places = cells.few in
     let all : length places ≤ length (names_of args) * 65_536 =
     few_places (call_crossing x.program.structs (signature_in x.program f).params args) x.machine.blocks 0 (names_of args) packable.whole in
@@ -149,11 +130,11 @@ slave_awaits x reply h is = go x.doing refl is
     enough g c b room few most = omega (arith, room, few, most)
 
     go : (d : Doing) → x.doing ≡ d → may_take x d reply ≡ true → IsSpelled reply
-    go goes e is = false_true is
+    go goes e is = false_not_true is
     go (waits_for f args) e is =
         let waiting : IsWaiting x f args = subst (λ d. IsDoing x d) e h.sound.doing in
         reply_spelled x f args reply is waiting.packable (enough (length x.given) x.calls x.machine.budget waiting.room h.sound.calls h.sound.budget)
-    go is_over e is = false_true is
+    go is_over e is = false_not_true is
 
 -- ---- all of them
 
@@ -163,7 +144,7 @@ all_spelled b reached before (reply ∷ replies) is =
     let x : Slave = (slave_at b before (longest b)).slave in
     let here = is_awaited x reply in
     let rest = are_awaited b (before ++ reply ∷ []) replies in
-    (slave_awaits x reply (reached before) (first here rest is), all_spelled b reached (before ++ reply ∷ []) replies (second here rest is))
+    (slave_awaits x reply (reached before) (and_true_first here rest is), all_spelled b reached (before ++ reply ∷ []) replies (and_true_second here rest is))
 
 pub awaited_replies : ReachedSlavesAreInFormat → AwaitedRepliesAreSpelled
 awaited_replies reached b bytes spells well replies is = all_spelled b (λ replies. reached b bytes spells well replies (longest b)) [] replies is

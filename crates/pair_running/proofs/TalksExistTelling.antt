@@ -2,6 +2,7 @@
 use Rattle.std.proofs.Common.{◌≡◌, ◌∙◌, ℕ, Bool, List, [], ◌∷◌, ◌++◌, Some, sym, ap, subst, append_assoc, append-nil}
 use Rattle.std.specs.Prelude.{⊤, IsTrue}
 use Rattle.pt_base.specs.Talk.{Event, gave, took}
+use Rattle.pt_base.proofs.Options.{some_same_bytes}
 use Rattle.honest_link.specs.Came.{IsHonest}
 use Rattle.honest_link.specs.Talks.{Along}
 use Rattle.pair_runner.specs.Sending.{given_in, sent_in}
@@ -28,13 +29,10 @@ module _ (says : List ℕ → List ℕ) (form : List ℕ → Bool) (b : Planned)
   comes (gave piece ∷ talk) sent given along formed sent_so given_so =
       (along.0, along.1, comes talk sent (given ++ piece) along.2 formed sent_so (given_so ∙ sym (append_assoc given piece (given_in talk))))
 
-some_is : (xs ys : List ℕ) → Some xs ≡ Some ys → xs ≡ ys
-some_is xs ys e = cc
-
 pub links_tell : PlannedLinksTell
 links_tell a b talk came says form s g h =
-    let sent : a.sent ≡ s = some_is a.sent s h.sent_so in
-    let given : a.given ≡ g = some_is a.given g h.given_so in
+    let sent : a.sent ≡ s = some_same_bytes a.sent s h.sent_so in
+    let given : a.given ≡ g = some_same_bytes a.given g h.given_so in
     let along : Goes says form s g (talk ++ b.left) =
     subst (λ (l : List Event). Goes says form s g l) came.left
     (subst (λ (l : List ℕ). Goes says form s l a.left) given (subst (λ (l : List ℕ). Goes says form l a.given a.left) sent h.is)) in

@@ -15,7 +15,7 @@ use Rattle.part_views_law.specs.CrossingsMachines.{entering}
 use Rattle.part_views_law.proofs.CrossingsMachines.{bodies_are_entered, bodies_return}
 use Rattle.part_views_law.specs.CallsWhole.{CallsAreEntered, CallsReturn}
 
-deep_enough : (d : ℕ) → d ≤ deepest → nat_le d deepest ≡ true
+pub deep_enough : (d : ℕ) → d ≤ deepest → nat_le d deepest ≡ true
 deep_enough d h = grind (arith, nat_tests, h)
 
 pub calls_are_entered : {H : Type 0} → CallsAreEntered H

@@ -3,6 +3,7 @@ use Rattle.std.proofs.Common.{◌≡◌, ◌∙◌, ℕ, ap, sym, refl, subst, L
 use Rattle.std.specs.Prelude.{◌||◌}
 use Rattle.std.specs.List.{list_all}
 use Rattle.pt_base.specs.declared.int_type.IntType.{IntType}
+use Rattle.pt_base.proofs.Booleans.{and_true_first, and_true_second}
 use Rattle.pt_tree.specs.declared.signature.Param.{Param}
 use Rattle.typed_tree.specs.declared.types.StructInfo.{StructInfo}
 use Rattle.block_memory.specs.declared.cell.Cell.{Cell}
@@ -19,16 +20,15 @@ use Rattle.marshalling.specs.HonestCalls.{for_callee, is_integer, renamed, revea
 use Rattle.marshalling.specs.Packing.{is_among, names_of, number_of, packed}
 use Rattle.marshalling.specs.Replies.{types_in}
 use Rattle.marshalling.specs.Taking.{is_whole}
-use Rattle.marshalling.proofs.Lists.{first, second}
 use Rattle.marshalling.proofs.NameLemmas.{all_targets, block_at, from_distinct, has_target, name_at}
-use Rattle.marshalling_law.proofs.HonestLemmas.{call_opened}
+use Rattle.marshalling_law.proofs.HonestLemmas.{call_opened, block_same}
 use Rattle.marshalling_law.proofs.PostingLemmas.{packed_types}
 use Rattle.part_views_law.specs.Views.{View, has_global, lying, seen, seen_block, seen_cell, served_view, slave_of, slave_view}
 use Rattle.part_views_law.proofs.Instances.{none_own, received_lie, served_are_viewed}
 use Rattle.part_views_law.specs.CrossingsCalls.{IsSent, Meet, body_memory, body_view, whole_memory}
 use Rattle.part_views_law.specs.CrossingsLaws.{CallsBegin, BodiesAreViewed}
 use Rattle.part_views_law.proofs.CrossingsMeeting.{views_meet}
-use Rattle.part_views_law.proofs.CrossingsCells.{block_same, numbers_seen, integers_seen, block_shows}
+use Rattle.part_views_law.proofs.CrossingsCells.{numbers_seen, integers_seen, block_shows}
 
 -- ---- arguments
 
@@ -36,8 +36,8 @@ arguments_are : (slave monitor : ProgramTree) (base : ℕ) (store : Entries) (m 
     map (seen_cell (served_view monitor base names others)) (map (renamed names) (map (revealed store) args)) ≡ map (seen_cell (slave_view slave store m)) args
 arguments_are slave monitor base store m others names [] h = refl
 arguments_are slave monitor base store m others names (c ∷ args) h =
-    ap (λ d. d ∷ map (seen_cell (served_view monitor base names others)) (map (renamed names) (map (revealed store) args))) (one c (first (has_target names c) (list_all (has_target names) args) h))
-    ∙ ap (λ ds. seen_cell (slave_view slave store m) c ∷ ds) (arguments_are slave monitor base store m others names args (second (has_target names c) (list_all (has_target names) args) h))
+    ap (λ d. d ∷ map (seen_cell (served_view monitor base names others)) (map (renamed names) (map (revealed store) args))) (one c (and_true_first (has_target names c) (list_all (has_target names) args) h))
+    ∙ ap (λ ds. seen_cell (slave_view slave store m) c ∷ ds) (arguments_are slave monitor base store m others names args (and_true_second (has_target names c) (list_all (has_target names) args) h))
   where
     one : (c : Cell) → has_target names c ≡ true → seen_cell (served_view monitor base names others) (renamed names (revealed store c)) ≡ seen_cell (slave_view slave store m) c
     one (cell.Int n) h = refl
@@ -62,10 +62,10 @@ numbers_are slave store m names (c ∷ args) =
 -- what all blocks of a call have, one of them has
 pub of_name : (f : BlockName → Bool) (names : List BlockName) (name : BlockName) → list_all f names ≡ true → is_among names name ≡ true → f name ≡ true
 of_name f [] name h among = cc
-of_name f (n ∷ names) name h among = go (is_same_name n name) refl (of_name f names name (second (f n) (list_all f names) h)) among
+of_name f (n ∷ names) name h among = go (is_same_name n name) refl (of_name f names name (and_true_second (f n) (list_all f names) h)) among
   where
     go : (t : Bool) → is_same_name n name ≡ t → (is_among names name ≡ true → f name ≡ true) → (t || is_among names name) ≡ true → f name ≡ true
-    go true e rest k = subst (λ b. f b ≡ true) (same_name n name e) (first (f n) (list_all f names) h)
+    go true e rest k = subst (λ b. f b ≡ true) (same_name n name e) (and_true_first (f n) (list_all f names) h)
     go false e rest k = rest k
 
 pub types_named : (params : List Param) (x : Blocks) (args : List Cell) (name : BlockName) → list_all (λ n. is_whole (x n)) (names_of args) ≡ true → is_among (names_of args) name ≡ true →

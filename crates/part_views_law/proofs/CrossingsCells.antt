@@ -2,6 +2,7 @@
 use Rattle.std.proofs.Common.{◌≡◌, ◌∙◌, ◌+◌, add-zero, ℕ, suc, ap, sym, refl, arith, subst, List, [], ◌∷◌, map, Bool, true, false, ◌||◌, if◌then◌else◌}
 use Rattle.std.specs.List.{list_all}
 use Rattle.pt_base.specs.declared.int_type.IntType.{IntType}
+use Rattle.pt_base.proofs.Booleans.{and_true_first, and_true_second}
 use Rattle.block_memory.specs.declared.cell.Cell.{Cell}
 use Rattle.block_memory.specs.declared.cell.Cell.TheVariants as cell
 use Rattle.block_memory.specs.declared.cell.Pointer.TheVariants.{Null, At}
@@ -15,12 +16,8 @@ use Rattle.marshalling.specs.Handles.{Entries}
 use Rattle.marshalling.specs.HonestCalls.{is_integer, revealed, revealed_block}
 use Rattle.marshalling.specs.Packing.{is_among, number_of}
 use Rattle.marshalling.specs.Replies.{AreServed, HoldNumbers, HoldsNumber}
-use Rattle.marshalling.proofs.Lists.{first, second}
 use Rattle.part_views_law.specs.Views.{View, seen_block, seen_cell, slave_view}
 use Rattle.part_views_law.specs.CrossingsCalls.{is_number}
-
-pub block_same : (a b : Block) → a.types ≡ b.types → a.cells ≡ b.cells → a ≡ b
-block_same a b p q = λ i. record { types = p i; cells = q i }
 
 -- ---- numbers
 
@@ -32,8 +29,8 @@ number_seen v (cell.Sealed handle) h = cc
 pub numbers_seen : (v : View) (cells : List Cell) → list_all is_number cells ≡ true → map (seen_cell v) cells ≡ cells
 numbers_seen v [] h = refl
 numbers_seen v (c ∷ cells) h =
-    ap (λ d. d ∷ map (seen_cell v) cells) (number_seen v c (first (is_number c) (list_all is_number cells) h))
-    ∙ ap (λ ds. c ∷ ds) (numbers_seen v cells (second (is_number c) (list_all is_number cells) h))
+    ap (λ d. d ∷ map (seen_cell v) cells) (number_seen v c (and_true_first (is_number c) (list_all is_number cells) h))
+    ∙ ap (λ ds. c ∷ ds) (numbers_seen v cells (and_true_second (is_number c) (list_all is_number cells) h))
 
 integer_seen : (v : View) (store : Entries) (c : Cell) → is_integer c ≡ true → seen_cell v (revealed store c) ≡ revealed store c
 integer_seen v store (cell.Int n) h = refl
@@ -44,8 +41,8 @@ integer_seen v store (cell.Sealed handle) h = refl
 pub integers_seen : (v : View) (store : Entries) (cells : List Cell) → list_all is_integer cells ≡ true → map (seen_cell v) (map (revealed store) cells) ≡ map (revealed store) cells
 integers_seen v store [] h = refl
 integers_seen v store (c ∷ cells) h =
-    ap (λ d. d ∷ map (seen_cell v) (map (revealed store) cells)) (integer_seen v store c (first (is_integer c) (list_all is_integer cells) h))
-    ∙ ap (λ ds. revealed store c ∷ ds) (integers_seen v store cells (second (is_integer c) (list_all is_integer cells) h))
+    ap (λ d. d ∷ map (seen_cell v) (map (revealed store) cells)) (integer_seen v store c (and_true_first (is_integer c) (list_all is_integer cells) h))
+    ∙ ap (λ ds. revealed store c ∷ ds) (integers_seen v store cells (and_true_second (is_integer c) (list_all is_integer cells) h))
 
 pub held_seen : (v : View) (types : List IntType) (cells : List Cell) → HoldNumbers types cells → map (seen_cell v) cells ≡ cells
 held_seen v [] [] h = refl

@@ -18,14 +18,14 @@ use Rattle.marshalling.specs.Packing.{is_among, names_of, number_of}
 use Rattle.marshalling.specs.Replies.{AreServed, HoldNumbers}
 use Rattle.marshalling.specs.Taking.{Taken, call_crossing, comes_back}
 use Rattle.marshalling.proofs.NameLemmas.{number_below}
-use Rattle.marshalling_law.proofs.HonestLemmas.{calls_are_transparent, honest_calls_return}
+use Rattle.marshalling_law.proofs.HonestLemmas.{calls_are_transparent, honest_calls_return, block_same}
 use Rattle.marshalling_law.proofs.PostingLemmas.{packed_types, posting_takes}
 use Rattle.part_views_law.specs.Views.{View, has_global, is_own, lying, seen, seen_block, seen_cell, slave_of, slave_view}
 use Rattle.part_views_law.proofs.Memories.{never_both}
 use Rattle.part_views_law.specs.CrossingsCalls.{IsEnded, IsSent, IsWorked, Meet, body_view, whole_memory}
 use Rattle.part_views_law.specs.CrossingsLaws.{CallsEnd, PostedCallsEnd}
 use Rattle.part_views_law.proofs.CrossingsMeeting.{views_meet}
-use Rattle.part_views_law.proofs.CrossingsCells.{block_same, numbers_seen, held_seen, served_at_name, shows}
+use Rattle.part_views_law.proofs.CrossingsCells.{numbers_seen, held_seen, served_at_name, shows}
 use Rattle.part_views_law.proofs.CrossingsBeginning.{types_named, cells_named, slave_has, slave_shows}
 
 -- what the body would have left in the slave's own memory, with values for handles

@@ -3,7 +3,7 @@ use Rattle.std.proofs.Common.{◌≡◌, ◌∙◌, ◌<◌, ◌≤◌, ℕ, suc
 use Rattle.std.specs.Prelude.{ℤ, is_some, nat_eq, nat_le, nat_lt, slice_get}
 use Rattle.std.specs.List.{list_all}
 use Rattle.std.specs.Map.{lookup}
-use Rattle.std.proofs.lemmas.Bool.{eq-eqb, ne_eqb}
+use Rattle.std.proofs.lemmas.Bool.{eq-eqb, ne_eqb, and_from}
 use Rattle.std.proofs.lemmas.Bool.Decides.{nat_tests}
 use Rattle.std.proofs.lemmas.List.{length-map}
 use Rattle.pt_base.specs.declared.int_type.IntType.{IntType}
@@ -19,14 +19,15 @@ use Rattle.pt_core.specs.Steps.{Active}
 use Rattle.core_soundness_law.specs.Fits.{AllFit, IntegerFits, IntegersFit, LocalFits, variables_at}
 use Rattle.core_soundness_law.specs.Kept.{by_store, none}
 use Rattle.core_soundness_law.specs.Outside.{GivenFits}
+use Rattle.core_soundness_law.proofs.Numbers.{range_of}
 use Rattle.marshalling.specs.HonestCalls.{is_integer}
 use Rattle.marshalling.specs.Packing.{is_among, names_of, packed}
 use Rattle.marshalling.specs.Replies.{IsResult, types_in}
 use Rattle.marshalling.specs.Taking.{is_whole}
 use Rattle.marshalling_law.proofs.PostingLemmas.{packed_types}
 use Rattle.marshalling_law.proofs.CallsSendable.{known_by_fits, sendable_by_fits}
-use Rattle.marshalling_law.proofs.CallsServed.{bodies_are_served, range_of}
-use Rattle.marshalling_law.proofs.CallsTargets.{IsTarget, all_integers, and_true, as_many, block_integers, each_name, target_among}
+use Rattle.marshalling_law.proofs.CallsServed.{bodies_are_served}
+use Rattle.marshalling_law.proofs.CallsTargets.{IsTarget, all_integers, as_many, block_integers, each_name, target_among, no_types}
 use Rattle.part_views_law.specs.Views.{has_global, is_own}
 use Rattle.part_views_law.proofs.Memories.{never_both}
 use Rattle.part_views_law.specs.CrossingsCalls.{is_number}
@@ -38,7 +39,7 @@ numbers_alone : (types : List IntType) (cells : List Cell) → IntegersFit none 
 numbers_alone [] [] f = refl
 numbers_alone [] (c ∷ cells) f = elim f [ ]
 numbers_alone (t ∷ types) [] f = elim f [ ]
-numbers_alone (t ∷ types) (c ∷ cells) f = and_true (is_number c) (list_all is_number cells) (one t c f.0) (numbers_alone types cells f.1)
+numbers_alone (t ∷ types) (c ∷ cells) f = and_from (is_number c) (list_all is_number cells) (one t c f.0) (numbers_alone types cells f.1)
   where
     one : (t : IntType) (c : Cell) → IntegerFits none t c → is_number c ≡ true
     one t (cell.Int v) f = refl
@@ -85,9 +86,6 @@ none_deeper program a (c ∷ rest) d v fit above =
     ap (λ (t : Bool). slice_get (if t then (context_in program a.function).variables else variables_at program (c ∷ rest) d) v) (ne_eqb d a.depth (λ e. absurd (omega (arith, e, above))))
     ∙ none_deeper program c rest d v fit.2 (omega (arith, up, above))
 
-no_integers : {A : Type 0} (types : List IntType) → types ≡ [] → 1 ≤ length types → A
-no_integers types is some = let long : length types ≡ 0 = ap (λ (ts : List IntType). length ts) is in absurd (omega (arith, long, some))
-
 pub sent_by_fits : SentByFits
 sent_by_fits slave monitor store params x m a rest args sound ok mem all given other apart stand small = record {
   sendable = sendable_by_fits slave store params x a rest args sound ok mem given stand;
@@ -108,7 +106,7 @@ sent_by_fits slave monitor store params x m a rest args sound ok mem all given o
     whole name t =
         let same = as_many (by_store store) (x name).types (x name).cells (block_integers (by_store store) slave (a ∷ rest) x mem name t.some) in
         let few = small name in
-        and_true (nat_eq (length (x name).types) (length (x name).cells)) (nat_le (length (x name).cells) 65_536) (eq-eqb (length (x name).types) (length (x name).cells) same) (fits_in (length (x name).types) (length (x name).cells) same few)
+        and_from (nat_eq (length (x name).types) (length (x name).cells)) (nat_le (length (x name).cells) 65_536) (eq-eqb (length (x name).types) (length (x name).cells) same) (fits_in (length (x name).types) (length (x name).cells) same few)
       where
         fits_in : (a b : ℕ) → a ≡ b → a ≤ 65_536 → nat_le b 65_536 ≡ true
         fits_in a b h k = grind (arith, nat_tests, h, k)
@@ -118,7 +116,7 @@ sent_by_fits slave monitor store params x m a rest args sound ok mem all given o
       where
         go : (s : Bool) → has_global slave g ≡ s → s ≡ true
         go true h = refl
-        go false h = no_integers (x (Global g)).types (ap (λ (b : Block). b.types) (mem.beyond g (has_none (lookup (nat_eq g) (context_in slave 0).globals) h))) t.some
+        go false h = no_types (x (Global g)).types (ap (λ (b : Block). b.types) (mem.beyond g (has_none (lookup (nat_eq g) (context_in slave 0).globals) h))) t.some
 
     outside : (name : BlockName) → IsTarget x a.depth name → is_own monitor a.depth name ≡ false
     outside (Local d v) t = not_less a.depth d t.near

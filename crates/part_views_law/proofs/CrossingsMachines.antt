@@ -1,7 +1,8 @@
 -- A body is entered and left in the whole's machine.
-use Rattle.std.proofs.Common.{◌≡◌, ◌∙◌, ◌+◌, ℕ, pos, suc, ap, sym, refl, arith, List, [], ◌∷◌, map, Bool, true, false, Option, Some, None}
+use Rattle.std.proofs.Common.{◌≡◌, ◌∙◌, ◌+◌, ℕ, pos, suc, ap, sym, refl, arith, List, [], ◌∷◌, map, Bool, true, Option, Some, None}
 use Rattle.std.specs.Prelude.{ℤ, ◌||◌}
 use Rattle.std.specs.Option.{option_map}
+use Rattle.pt_base.proofs.Booleans.{or_with_true}
 use Rattle.typed_tree.specs.declared.types.StructInfo.{StructInfo}
 use Rattle.typed_tree.specs.declared.variable.Var.{Var}
 use Rattle.block_memory.specs.declared.cell.Cell.{Cell}
@@ -32,10 +33,6 @@ kept_seen slave store m blocks depth None o = refl
 kept_seen slave store m blocks depth (Some k) None = written_seen (slave_view slave store m) 0 slave (slaves_are_viewed slave 0 store m) blocks (Local depth k) 0 (cell.Int (pos 0)) refl
 kept_seen slave store m blocks depth (Some k) (Some c) = written_seen (slave_view slave store m) 0 slave (slaves_are_viewed slave 0 store m) blocks (Local depth k) 0 c refl
 
-or_true : (b : Bool) → (b || true) ≡ true
-or_true true = refl
-or_true false = refl
-
 abbrev shapes : List StructInfo → FunctionTree → List BlockShape
 shapes structs f = map (λ (v : Var). shape_of structs v.ty) f.vars
 
@@ -59,7 +56,7 @@ bodies_are_entered whole slave monitor store structs params x a rest f args resu
     begun = calls_begin slave monitor a.depth store structs params x.blocks m args sent
 
     flag : true ≡ (is_active (joined nobody x.active) || (signature_in whole f).privileged)
-    flag = sym (or_true (is_active (joined nobody x.active))) ∙ ap (λ (t : Bool). is_active (joined nobody x.active) || t) (sym privileged)
+    flag = sym (or_with_true (is_active (joined nobody x.active))) ∙ ap (λ (t : Bool). is_active (joined nobody x.active) || t) (sym privileged)
 
     count : turns + suc x.turns ≡ suc (x.turns + turns)
     count = omega arith

@@ -1,7 +1,6 @@
 -- What a slave has after a call fits by the new store.
 use Rattle.std.proofs.Common.{◌≡◌, ◌∙◌, append_assoc, ℕ, zero, suc, ap, sym, refl, subst, arith, List, [], ◌∷◌, ◌++◌, map, length, Bool, true, false, Option, Some, None}
 use Rattle.std.specs.Prelude.{ℤ, IsTrue, ◌||◌, not, option_to_list, slice_get}
-use Rattle.std.proofs.lemmas.Bool.Decides.{nat_tests}
 use Rattle.std.proofs.lemmas.List.{append-nil, length-map}
 use Rattle.pt_base.specs.declared.int_type.IntType.{IntType}
 use Rattle.pt_base.specs.IntTypes.{InRange}
@@ -14,15 +13,16 @@ use Rattle.block_memory.specs.declared.cell.Cell.{Cell}
 use Rattle.block_memory.specs.declared.cell.Cell.TheVariants as cell
 use Rattle.block_memory.specs.declared.cell.BlockName.{BlockName}
 use Rattle.block_memory.specs.declared.cell.BlockName.TheVariants.{Local, Global, Received}
-use Rattle.block_memory.specs.Block.{Block, no_block}
+use Rattle.block_memory.specs.Block.{Block}
 use Rattle.block_memory.specs.Blocks.{Blocks, is_same_name}
 use Rattle.block_memory.proofs.BlocksLemmas.{is_same_name-self, same_name}
 use Rattle.core_soundness_law.specs.Fits.{IntegerFits, IntegersFit, LocalFits, variables_at}
 use Rattle.core_soundness_law.specs.Kept.{Kept, by_store, is_stored}
 use Rattle.core_soundness_law.specs.Outside.{GivenFits}
-use Rattle.core_soundness_law.proofs.Memory.{pointer_stays}
+use Rattle.core_soundness_law.proofs.Memory.{pointer_stays, emptied}
 use Rattle.core_soundness_law.proofs.Numbers.{in_range}
 use Rattle.typed_tree.specs.TypeTests.{same_int}
+use Rattle.typed_tree.proofs.SameTypes.{int_self}
 use Rattle.marshalling.specs.declared.crossing.Crossing.{Crossing}
 use Rattle.marshalling.specs.Crossings.{sealed_if}
 use Rattle.marshalling.specs.Handles.{Entries}
@@ -32,9 +32,9 @@ use Rattle.marshalling.specs.Replies.{AreServed, HoldNumbers, HoldsNumber, IsRes
 use Rattle.marshalling.specs.Taking.{call_crossing, is_whole, result_by, taken_result}
 use Rattle.marshalling.proofs.TakingLemmas.{whole_count}
 use Rattle.part_views_law.proofs.CrossingsBeginning.{of_name}
-use Rattle.part_views_law.proofs.CrossingsCells.{block_same}
 use Rattle.marshalling_law.proofs.HonestLemmas.{honest_calls_return}
 use Rattle.marshalling_law.proofs.PostingLemmas.{packed_types}
+use Rattle.marshalling_law.proofs.RevealLemmas.{store_on}
 use Rattle.marshalling.proofs.ReplyLemmas.{holds_length, kept-append, length-kept, length-kept_by, length-places_from, result_count}
 use Rattle.part_views_law.specs.CrossingsFits.{ReturnedFits}
 
@@ -62,20 +62,13 @@ kept_at : (pre rest : Entries) (t : IntType) (v : ℤ) → same_int t t ≡ true
 kept_at [] rest t v self = self
 kept_at (entry ∷ pre) rest t v self = kept_at pre rest t v self
 
-same_self : (t : IntType) → same_int t t ≡ true
-same_self t = grind (arith, nat_tests)
-
 sealed_here : (new pre rest : Entries) (handle : ℕ) (t : IntType) (v : ℤ) → new ≡ pre ++ (t, v) ∷ rest → length pre ≡ handle → IsTrue (is_stored t (slice_get new handle))
 sealed_here new pre rest handle t v is here =
-    ap (λ h. is_stored t (slice_get new h)) (sym here) ∙ ap (λ (s : Entries). is_stored t (slice_get s (length pre))) is ∙ kept_at pre rest t v (same_self t)
+    ap (λ h. is_stored t (slice_get new h)) (sym here) ∙ ap (λ (s : Entries). is_stored t (slice_get s (length pre))) is ∙ kept_at pre rest t v (int_self t)
 
 one_left : (p : Place) (new pre rest post : Entries) (handle : ℕ) (c : Cell) (v : ℤ) → new ≡ pre ++ ((kept_by p.way p.ty v ++ rest) ++ post) → length pre ≡ handle →
     IntegerFits (by_store new) p.ty c → IsTrue (is_in_range p.ty v) → (new ≡ pre ++ (p.ty, v) ∷ (rest ++ post) → IsTrue (is_stored p.ty (slice_get new handle))) → IntegerFits (by_store new) p.ty (left_cell p.way handle c v)
 one_left p new pre rest post handle c v is here f r sealed = grind (arith, is, here, f, r, sealed)
-
--- the store's values behind the first one's
-store_on : (store pre one rest post : Entries) → store ≡ pre ++ ((one ++ rest) ++ post) → store ≡ (pre ++ one) ++ (rest ++ post)
-store_on store pre one rest post is = is ∙ ap (λ xs. pre ++ xs) (append_assoc one rest post) ∙ sym (append_assoc pre one (rest ++ post))
 
 abbrev InRanges : List IntType → List ℤ → Type 0
 InRanges [] vs = Unit {0}
@@ -160,17 +153,10 @@ given_fits sig (Some t) None store more h = elim h [ ]
 given_fits sig (Some t) (Some v) store more h = go (not sig.declassify)
   where
     go : (secret : Bool) → GivenFits (by_store (store ++ ((kept_by (sealed_if secret) t v ++ []) ++ more))) (Some t) (result_by (sealed_if secret) (length store) (slice_get (sent_by (sealed_if secret) (length store) v ++ []) 0))
-    go true = kept_at store more t v (same_self t)
+    go true = kept_at store more t v (int_self t)
     go false = in_range t v h
 
 -- ---- the memory
-
-empty : (kept : Kept) (b : Block) → b.types ≡ [] → IntegersFit kept b.types b.cells → b ≡ no_block
-empty kept b none f = block_same b no_block none (no_cells b.cells (subst (λ ts. IntegersFit kept ts b.cells) none f))
-  where
-    no_cells : (cells : List Cell) → IntegersFit kept [] cells → cells ≡ []
-    no_cells [] f = refl
-    no_cells (c ∷ cells) f = elim f [ ]
 
 -- a whole block has integers
 local_whole : (kept : Kept) (structs : List StructInfo) (x : Blocks) (depth : ℕ) (o : Option VarTy) (b : Block) → LocalFits kept structs x depth o b → length b.types ≡ length b.cells → IntegersFit kept b.types b.cells
@@ -193,7 +179,7 @@ local_more store more structs x after depth (Some (Pointer elem fixed)) b same f
 -- a local that was sent
 local_back : (kept new : Kept) (structs : List StructInfo) (x after : Blocks) (depth : ℕ) (o : Option VarTy) (b c : Block) → c.types ≡ b.types → length b.types ≡ length b.cells →
     LocalFits kept structs x depth o b → IntegersFit new c.types c.cells → LocalFits new structs after depth o c
-local_back kept new structs x after depth None b c types same f g = empty new c (types ∙ ap (λ (d : Block). d.types) f) g
+local_back kept new structs x after depth None b c types same f g = emptied new c (types ∙ ap (λ (d : Block). d.types) f) g
 local_back kept new structs x after depth (Some (Int t)) b c types same f g = record { types_are = types ∙ f.types_are; cells = g }
 local_back kept new structs x after depth (Some (Struct n)) b c types same f g = record { types_are = types ∙ f.types_are; cells = g }
 local_back kept new structs x after depth (Some (Array elem count)) b c types same f g = record { types_are = types ∙ f.types_are; cells = g }
@@ -206,7 +192,7 @@ returned_fits slave active store structs sig x args z value mem s = (
     globals = λ g ty is. answer.types (Global g) ∙ mem.globals g ty is;
     global_cells = λ g. block (Global g) (mem.global_cells g) (is_among (names_of args) (Global g)) refl;
     received_cells = λ n. block (Received n) (mem.received_cells n) (is_among (names_of args) (Received n)) refl;
-    beyond = λ g none. empty (by_store new) (after (Global g)) (answer.types (Global g) ∙ ap (λ (b : Block). b.types) (mem.beyond g none)) (block (Global g) (mem.global_cells g) (is_among (names_of args) (Global g)) refl);
+    beyond = λ g none. emptied (by_store new) (after (Global g)) (answer.types (Global g) ∙ ap (λ (b : Block). b.types) (mem.beyond g none)) (block (Global g) (mem.global_cells g) (is_among (names_of args) (Global g)) refl);
   },
   given_fits sig sig.result value store (kept (places_of (call_crossing structs sig.params args) 0 (types_in (packed x sig.params args))) (received z 0 (types_in (packed x sig.params args)))) s.result,
 )

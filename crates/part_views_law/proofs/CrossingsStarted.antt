@@ -5,6 +5,8 @@ use Rattle.std.specs.List.{list_all}
 use Rattle.std.proofs.lemmas.Bool.{ltb-true, ltb-false}
 use Rattle.std.proofs.lemmas.List.{length-map}
 use Rattle.pt_base.specs.declared.int_type.IntType.{IntType}
+use Rattle.pt_base.proofs.Booleans.{and_true_first, and_true_second}
+use Rattle.pt_base.proofs.Places.{get_or_past}
 use Rattle.pt_int.specs.Conversion.{is_in_range}
 use Rattle.pt_tree.specs.declared.signature.Param.{Param}
 use Rattle.pt_tree.specs.declared.signature.ParamKind.{ParamKind}
@@ -29,7 +31,6 @@ use Rattle.marshalling.specs.Handles.{Entries, stored}
 use Rattle.marshalling.specs.HonestCalls.{for_callee, renamed, revealed}
 use Rattle.marshalling.specs.Packing.{names_of, number_of, packed}
 use Rattle.marshalling.specs.Replies.{types_in}
-use Rattle.marshalling.proofs.Lists.{first, second}
 use Rattle.marshalling.proofs.NameLemmas.{all_targets, from_distinct, get_among, has_target, number_at}
 use Rattle.marshalling_law.proofs.PostingLemmas.{packed_types}
 use Rattle.marshalling_law.proofs.CallsTargets.{block_integers, target_among}
@@ -59,11 +60,6 @@ all_revealed store (t ∷ types) (c ∷ cells) ranged f = (one t c f.0, all_reve
     one t (cell.Ptr p) f = elim f [ ]
     one t (cell.Sealed h) f = stored_fits store t h ranged f
 
-past : {A : Type 0} (xs : List A) (k : ℕ) (d : A) → length xs ≤ k → get_or xs k d ≡ d
-past [] k d h = refl
-past (x ∷ xs) zero d h = absurd (omega (arith, h))
-past (x ∷ xs) (suc k) d h = past xs k d (omega (arith, h))
-
 one_given : (structs : List StructInfo) (store : Entries) (x y : Blocks) (depth : ℕ) (names : List BlockName) (of : ParamKind) (c : Cell) → AreInRange store →
     ((name : BlockName) → has_target names (cell.Ptr (At name 0 0 0)) ≡ true → (y (Received (number_of names name))).types ≡ (x name).types) → has_target names c ≡ true →
     ValueFits (by_store store) structs x depth (param_type of) c → ValueFits none structs y 0 (param_type of) (renamed names (revealed store c))
@@ -86,8 +82,8 @@ all_given structs store x y depth names [] [] ranged same among f = tt {0}
 all_given structs store x y depth names [] (c ∷ args) ranged same among f = elim f [ ]
 all_given structs store x y depth names (p ∷ params) [] ranged same among f = elim f [ ]
 all_given structs store x y depth names (p ∷ params) (c ∷ args) ranged same among f = (
-  one_given structs store x y depth names p.kind c ranged same (first (has_target names c) (list_all (has_target names) args) among) f.0,
-  all_given structs store x y depth names params args ranged same (second (has_target names c) (list_all (has_target names) args) among) f.1,
+  one_given structs store x y depth names p.kind c ranged same (and_true_first (has_target names c) (list_all (has_target names) args) among) f.0,
+  all_given structs store x y depth names params args ranged same (and_true_second (has_target names c) (list_all (has_target names) args) among) f.1,
 )
 
 pub bodies_fit : BodiesFit
@@ -125,5 +121,5 @@ bodies_fit slave monitor store params x m a rest args sound ok same mem given ot
     received n true e = there n (ltb-true n (length (names_of args)) e)
     received n false e =
         let le : length (names_of args) ≤ n = ltb-false n (length (names_of args)) e in
-        subst (λ ts. IntegersFit none ts (body_memory store params x m args (Received n)).cells) (sym (past (types_in (packed x params args)) n [] (omega (arith, count, le))))
-        (subst (λ cs. IntegersFit none [] cs) (sym (past (for_callee store x args).blocks n [] (omega (arith, count_cells, le)))) (tt {0}))
+        subst (λ ts. IntegersFit none ts (body_memory store params x m args (Received n)).cells) (sym (get_or_past (types_in (packed x params args)) n [] (omega (arith, count, le))))
+        (subst (λ cs. IntegersFit none [] cs) (sym (get_or_past (for_callee store x args).blocks n [] (omega (arith, count_cells, le)))) (tt {0}))

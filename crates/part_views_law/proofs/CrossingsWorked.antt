@@ -3,6 +3,7 @@ use Rattle.std.proofs.Common.{◌≡◌, ◌<◌, ℕ, zero, suc, pos, refl, ap,
 use Rattle.std.specs.List.{list_all}
 use Rattle.std.specs.Prelude.{◌||◌, nat_eq, slice_index_or, slice_get, is_some}
 use Rattle.std.proofs.lemmas.Bool.{eqb-true}
+use Rattle.core_soundness_law.proofs.Numbers.{range_of}
 use Rattle.pt_base.specs.declared.int_type.IntType.TheVariants as i
 use Rattle.pt_tree.specs.declared.signature.Signature.{Signature}
 use Rattle.typed_tree.specs.declared.types.VarTy.TheVariants as ty
@@ -21,7 +22,6 @@ use Rattle.marshalling.specs.HonestCalls.{AreKnown, grown, returned}
 use Rattle.marshalling.specs.Packing.{is_among}
 use Rattle.marshalling.specs.Taking.{Taken, after_posting, call_crossing, comes_back}
 use Rattle.marshalling_law.proofs.Worked.{function, number, pointer, secret}
-use Rattle.marshalling_law.proofs.CallsServed.{range_of}
 use Rattle.part_views_law.specs.Views.{has_global, is_own, seen}
 use Rattle.part_views_law.specs.CrossingsCalls.{IsSent, IsBegun, IsWorked, IsEnded, body_memory, body_view, is_number, whole_memory}
 use Rattle.part_views_law.proofs.CrossingsBeginning.{calls_begin}

@@ -3,6 +3,8 @@ use Rattle.std.proofs.Common.{◌≡◌, ◌∙◌, ◌+◌, ◌<◌, ◌≤◌,
 use Rattle.std.specs.Prelude.{drop, not, slice_set, take}
 use Rattle.std.specs.Option.{option_map}
 use Rattle.std.proofs.lemmas.Bool.{eqb-true, ltb-false, lt-ltb}
+use Rattle.pt_base.proofs.Booleans.{same_truth}
+use Rattle.pt_base.proofs.Options.{some_not_none, some_same}
 use Rattle.block_memory.specs.declared.cell.Cell.{Cell}
 use Rattle.block_memory.specs.declared.cell.Cell.TheVariants as cell
 use Rattle.block_memory.specs.declared.cell.BlockName.{BlockName}
@@ -22,18 +24,6 @@ pub never_both : (b : Bool) {A : Type 0} → b ≡ true → b ≡ false → A
 never_both true p q = cc
 never_both false p q = cc
 
-pub same_some : {A : Type 0} (a b : A) → Some a ≡ Some b → a ≡ b
-same_some {A} a b e = ap (λ (o : Option A). elim o as (λ _. A) [ None ↦ a | Some c ↦ c ]) e
-
-pub some_none : {A B : Type 0} (a : A) → Some a ≡ None → B
-some_none a e = cc
-
--- two tests that hold together
-pub alike : (a b : Bool) → (a ≡ true → b ≡ true) → (b ≡ true → a ≡ true) → a ≡ b
-alike true b f g = sym (f refl)
-alike false true f g = g refl
-alike false false f g = refl
-
 -- ---- names
 
 is_same : (name other : BlockName) → name ≡ other → is_same_name name other ≡ true
@@ -42,8 +32,8 @@ is_same name other e = subst (λ o. is_same_name name o ≡ true) e (is_same_nam
 -- blocks that lie somewhere are told apart there
 pub same_at : (v : View) (b b' : BlockName) → Lies v b → Lies v b' → is_same_name (v.at b) (v.at b') ≡ is_same_name b b'
 same_at v b b' lies lies' =
-    alike (is_same_name (v.at b) (v.at b')) (is_same_name b b')
-    (λ h. is_same b b' (same_some b b' (sym lies ∙ ap v.of (same_name (v.at b) (v.at b') h) ∙ lies')))
+    same_truth (is_same_name (v.at b) (v.at b')) (is_same_name b b')
+    (λ h. is_same b b' (some_same b b' (sym lies ∙ ap v.of (same_name (v.at b) (v.at b') h) ∙ lies')))
     (λ h. is_same (v.at b) (v.at b') (ap v.at (same_name b b' h)))
 
 -- ---- cells
@@ -115,7 +105,7 @@ put_seen v base part view blocks b block lies =
     (λ name e. other name e (is_same_name (v.at b) name) refl)
   where
     other : (name : BlockName) → v.of name ≡ None → (t : Bool) → is_same_name (v.at b) name ≡ t → t ≡ false
-    other name e true h = some_none b (sym lies ∙ ap v.of (same_name (v.at b) name h) ∙ e)
+    other name e true h = some_not_none b (sym lies ∙ ap v.of (same_name (v.at b) name h) ∙ e)
     other name e false h = refl
 
 pub written_seen : (v : View) (base : ℕ) (part : ProgramTree) → IsView v base part → (blocks : Blocks) (b : BlockName) (i : ℕ) (c : Cell) → Lies v b → written (seen v blocks) (v.at b) i (seen_cell v c) ≡ seen v (written blocks b i c)
@@ -177,17 +167,17 @@ deep_seen : (v : View) (base : ℕ) (part : ProgramTree) → IsView v base part 
     changed hit new (seen v blocks) ≡ seen v (changed hit new blocks)
 deep_seen v base part view hit new blocks deep plain =
     changed_seen v hit hit new new blocks
-    (λ name b e. (alike (hit name) (hit b) (λ h. subst (λ o. hit o ≡ true) (down name b e h) h) (λ h. subst (λ o. hit o ≡ true) (up name b e h) h), λ h. ap new (sym (up name b e h)) ∙ plain b))
+    (λ name b e. (same_truth (hit name) (hit b) (λ h. subst (λ o. hit o ≡ true) (down name b e h) h) (λ h. subst (λ o. hit o ≡ true) (up name b e h) h), λ h. ap new (sym (up name b e h)) ∙ plain b))
     (λ name e. out name e (hit name) refl)
   where
     down : (name b : BlockName) → v.of name ≡ Some b → hit name ≡ true → name ≡ b
-    down name b e h = same_some name b (sym (deep_own v base part view name (deep name h)).1 ∙ e)
+    down name b e h = some_same name b (sym (deep_own v base part view name (deep name h)).1 ∙ e)
 
     up : (name b : BlockName) → v.of name ≡ Some b → hit b ≡ true → b ≡ name
     up name b e h = sym (deep_own v base part view b (deep b h)).0 ∙ view.back name b e
 
     out : (name : BlockName) → v.of name ≡ None → (t : Bool) → hit name ≡ t → t ≡ false
-    out name e true h = some_none name (sym (deep_own v base part view name (deep name h)).1 ∙ e)
+    out name e true h = some_not_none name (sym (deep_own v base part view name (deep name h)).1 ∙ e)
     out name e false h = refl
 
 abbrev at_depth : ℕ → BlockName → Bool

@@ -6,13 +6,13 @@ use Rattle.std.proofs.lemmas.Bool.{or_parts, ltb-true, ltb-false}
 use Rattle.pt_base.specs.declared.int_type.IntType.{IntType}
 use Rattle.pt_base.specs.declared.span.Span.{Span}
 use Rattle.pt_base.specs.declared.trap.Trap.TheVariants.{Depth}
+use Rattle.pt_base.proofs.Booleans.{both_hold_first, both_hold_second, false_not_true}
 use Rattle.pt_tree.specs.declared.signature.Param.{Param}
 use Rattle.pt_tree.specs.declared.signature.Signature.{Signature}
 use Rattle.typed_tree.specs.TypeTests.{same_type}
 use Rattle.typed_tree.specs.WellFormedExpression.{is_main, param_type}
 use Rattle.typed_tree.specs.TypeTests.{both_int, integer_of, is_scalar}
 use Rattle.typed_tree.specs.declared.variable.Var.{Var}
-use Rattle.typed_tree.proofs.WellFormedLemmas.{and_left, and_right}
 use Rattle.runs.specs.Run.{deepest}
 use Rattle.block_memory.specs.declared.cell.Cell.{Cell}
 use Rattle.block_memory.specs.Blocks.{Blocks, with_frame, without_frames}
@@ -26,7 +26,6 @@ use Rattle.pt_core.specs.WellFormed.{called_signature, function_at, signature_at
 use Rattle.pt_core.specs.WellFormedExpression.{expr_fits, place_fits, stands_for}
 use Rattle.pt_core.specs.WellFormedStatement.{Scope, arguments_fit, call_fits, is_compound, result_fits, return_fits, stmt_fits, stmts_fit, value_fits}
 use Rattle.core_soundness_law.specs.Fits.{is_looped, scope_in, work_fits}
-use Rattle.core_soundness_law.proofs.Leaves.{never}
 use Rattle.handle_classes.specs.Computes.{computes, computes_call, computes_return, computes_status, computes_work, has_handle, if_given, is_handle, meet_any, meets, meets_at}
 use Rattle.part_views_law.specs.Machines.{Below, joined, seated, seen_machine}
 use Rattle.part_views_law.specs.Views.{View, seen, seen_cell}
@@ -271,31 +270,31 @@ way_seen {H} {G} Alike w marked x h g a rest work f args result span s signed pl
 
 arguments_are : (c : Context) (params : List Param) (args : ExprTrees) → IsTrue (arguments_fit c params args) → IsTrue (exprs_fit c args)
 arguments_are c [] no_exprs h = refl
-arguments_are c [] (expr_and e rest) h = never h
-arguments_are c (p ∷ params) no_exprs h = never h
+arguments_are c [] (expr_and e rest) h = false_not_true h
+arguments_are c (p ∷ params) no_exprs h = false_not_true h
 arguments_are c (p ∷ params) (expr_and e rest) h = both (expr_fits c e) (exprs_fit c rest)
-    (and_left (expr_fits c e) (stands_for (type_of c e) (param_type p.kind)) (and_left (value_fits c (param_type p.kind) e) (arguments_fit c params rest) h))
-    (arguments_are c params rest (and_right (value_fits c (param_type p.kind) e) (arguments_fit c params rest) h))
+    (both_hold_first (expr_fits c e) (stands_for (type_of c e) (param_type p.kind)) (both_hold_first (value_fits c (param_type p.kind) e) (arguments_fit c params rest) h))
+    (arguments_are c params rest (both_hold_second (value_fits c (param_type p.kind) e) (arguments_fit c params rest) h))
   where
     both : (a b : Bool) → IsTrue a → IsTrue b → IsTrue (a && b)
     both true b h k = k
-    both false b h k = never h
+    both false b h k = false_not_true h
 
 pub call_args : (c : Context) (o : Option Signature) (args : ExprTrees) (result : Option ℕ) → IsTrue (call_fits c o args result) → IsTrue (exprs_fit c args)
-call_args c None args result h = never h
+call_args c None args result h = false_not_true h
 call_args c (Some s) args result h =
-    arguments_are c s.params args (and_left (arguments_fit c s.params args) (result_fits c s.result result) (and_right (not (is_main s)) (arguments_fit c s.params args && result_fits c s.result result) h))
+    arguments_are c s.params args (both_hold_first (arguments_fit c s.params args) (result_fits c s.result result) (both_hold_second (not (is_main s)) (arguments_fit c s.params args && result_fits c s.result result) h))
 
 pub call_signed : (monitor : Bool) (part : ProgramTree) (c : Context) (f : ℕ) (args : ExprTrees) (result : Option ℕ) → IsTrue (call_fits c (called_signature monitor part f) args result) → HasSignature part f
 call_signed monitor part c f args result h = go (signature_at part f) h
   where
     go : (o : Option Signature) → IsTrue (call_fits c (option_map (with_own monitor (function_at part f)) o) args result) → IsTrue (is_some o)
-    go None h = never h
+    go None h = false_not_true h
     go (Some s) h = refl
 
 pub return_args : (k : Scope) (e : Option ExprTree) → IsTrue (return_fits k e) → IsTrue (return_expr_fits k.context e)
 return_args k None h = refl
-return_args k (Some a) h = and_left (expr_fits k.context a) (both_int (integer_of (Some (type_of k.context a))) k.result) h
+return_args k (Some a) h = both_hold_first (expr_fits k.context a) (both_int (integer_of (Some (type_of k.context a))) k.result) h
 
 pub return_plain : (c : Context) (depth : ℕ) (e : Option ExprTree) (rest : List Active) (blocks : Blocks) → computes_return c depth e rest blocks ≡ false → return_meets c depth e blocks ≡ false
 return_plain c depth None rest blocks h = refl
@@ -326,19 +325,19 @@ act_seen {H} {G} Alike w marked x h g a rest work looped s (check p) fits none =
 act_seen {H} {G} Alike w marked x h g a rest work looped s (assign p e) fits none =
     let small = context_in w.part a.function in
     let both = or_parts (meets_at small a.depth p x.blocks) (meets small a.depth e x.blocks) none in
-    let place_is : IsTrue (place_fits small p) = and_left (place_fits small p) (is_scalar (Some (place_type small p)) && value_fits small (place_type small p) e) fits in
-    let value_is : IsTrue (value_fits small (place_type small p) e) = and_right (is_scalar (Some (place_type small p))) (value_fits small (place_type small p) e) (and_right (place_fits small p) (is_scalar (Some (place_type small p)) && value_fits small (place_type small p) e) fits) in
+    let place_is : IsTrue (place_fits small p) = both_hold_first (place_fits small p) (is_scalar (Some (place_type small p)) && value_fits small (place_type small p) e) fits in
+    let value_is : IsTrue (value_fits small (place_type small p) e) = both_hold_second (is_scalar (Some (place_type small p))) (value_fits small (place_type small p) e) (both_hold_second (place_fits small p) (is_scalar (Some (place_type small p)) && value_fits small (place_type small p) e) fits) in
     value_then Alike w (seen w.v) Always (assigned (context_in w.whole a.function) a.depth p e (seen w.v x.blocks)) (assigned small a.depth p e x.blocks) x h g _ _ s.alike
     (in_context Alike w a.function s.known (λ c. Known (seen w.v) Always (assigned c a.depth p e (seen w.v x.blocks)) (assigned small a.depth p e x.blocks))
-    (assigned_known w.v w.base w.part w.viewed.view small (context_in w.whole a.function).globals a.depth x.blocks s.reads p e place_is (and_left (expr_fits small e) (stands_for (type_of small e) (place_type small p)) value_is) both.0 both.1))
+    (assigned_known w.v w.base w.part w.viewed.view small (context_in w.whole a.function).globals a.depth x.blocks s.reads p e place_is (both_hold_first (expr_fits small e) (stands_for (type_of small e) (place_type small p)) value_is) both.0 both.1))
     (λ blocks _. moves Alike w h h g _ _ refl s.alike)
 act_seen {H} {G} Alike w marked x h g a rest work looped s (copy to from) fits none =
     let small = context_in w.part a.function in
     let both = or_parts (meets_at small a.depth to x.blocks) (meets_at small a.depth from x.blocks) none in
-    let places : IsTrue (place_fits small to && place_fits small from) = and_left (place_fits small to && place_fits small from) (is_compound (place_type small to) && same_type (place_type small to) (place_type small from)) fits in
+    let places : IsTrue (place_fits small to && place_fits small from) = both_hold_first (place_fits small to && place_fits small from) (is_compound (place_type small to) && same_type (place_type small to) (place_type small from)) fits in
     value_then Alike w (seen w.v) Always (copied (context_in w.whole a.function) a.depth to from (seen w.v x.blocks)) (copied small a.depth to from x.blocks) x h g _ _ s.alike
     (in_context Alike w a.function s.known (λ c. Known (seen w.v) Always (copied c a.depth to from (seen w.v x.blocks)) (copied small a.depth to from x.blocks))
-    (copied_known w.v w.base w.part w.viewed.view small (context_in w.whole a.function).globals a.depth x.blocks s.reads to from (and_left (place_fits small to) (place_fits small from) places) (and_right (place_fits small to) (place_fits small from) places) both.0 both.1))
+    (copied_known w.v w.base w.part w.viewed.view small (context_in w.whole a.function).globals a.depth x.blocks s.reads to from (both_hold_first (place_fits small to) (place_fits small from) places) (both_hold_second (place_fits small to) (place_fits small from) places) both.0 both.1))
     (λ blocks _. moves Alike w h h g _ _ refl s.alike)
 act_seen {H} {G} Alike w marked x h g a rest work looped s (call f args result span) fits none =
     let small = context_in w.part a.function in
@@ -352,7 +351,7 @@ act_seen {H} {G} Alike w marked x h g a rest work looped s (call f args result s
 act_seen {H} {G} Alike w marked x h g a rest work looped s (choose e first second) fits none =
     let small = context_in w.part a.function in
     let both = or_parts (meets small a.depth e x.blocks) (is_handle (value_of small a.depth e x.blocks)) none in
-    let value_is : IsTrue (expr_fits small e) = and_left (expr_fits small e) (is_scalar (Some (type_of small e))) (and_left (expr_fits small e && is_scalar (Some (type_of small e))) (stmts_fit (scope_in w.monitor w.part a.function) looped first && stmts_fit (scope_in w.monitor w.part a.function) looped second) fits) in
+    let value_is : IsTrue (expr_fits small e) = both_hold_first (expr_fits small e) (is_scalar (Some (type_of small e))) (both_hold_first (expr_fits small e && is_scalar (Some (type_of small e))) (stmts_fit (scope_in w.monitor w.part a.function) looped first && stmts_fit (scope_in w.monitor w.part a.function) looped second) fits) in
     value_then Alike w (seen_cell w.v) (λ c. OwnCell w.v c × IsPlain c) (value_of (context_in w.whole a.function) a.depth e (seen w.v x.blocks)) (value_of small a.depth e x.blocks) x h g _ _ s.alike
     (in_context Alike w a.function s.known (λ c. Known (seen_cell w.v) (λ d. OwnCell w.v d × IsPlain d) (value_of c a.depth e (seen w.v x.blocks)) (value_of small a.depth e x.blocks))
     (plain_known w.v (value_of (in_whole (context_in w.whole a.function).globals small) a.depth e (seen w.v x.blocks)) (value_of small a.depth e x.blocks)
@@ -376,5 +375,5 @@ works_seen {H} {G} Alike w marked x h g a rest s (run no_stmts ∷ work) fits no
 works_seen {H} {G} Alike w marked x h g a rest s (run (stmt_and t more) ∷ work) fits none =
     let scope : Scope = scope_in w.monitor w.part a.function in
     act_seen Alike w marked x h g a rest (run more ∷ work) (is_looped work) s t
-    (and_left (stmt_fits scope (is_looped work) t) (stmts_fit scope (is_looped work) more) (and_left (stmts_fit scope (is_looped work) (stmt_and t more)) (work_fits scope work) fits)) none
+    (both_hold_first (stmt_fits scope (is_looped work) t) (stmts_fit scope (is_looped work) more) (both_hold_first (stmts_fit scope (is_looped work) (stmt_and t more)) (work_fits scope work) fits)) none
 works_seen {H} {G} Alike w marked x h g a rest s (head body ∷ work) fits none = begins_seen Alike w x h g a rest body work s

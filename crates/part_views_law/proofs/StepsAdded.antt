@@ -1,6 +1,7 @@
 -- A step with further arguments computes with a handle where that without them does.
-use Rattle.std.proofs.Common.{◌≡◌, ◌∙◌, ℕ, suc, List, [], ◌∷◌, ◌++◌, map, refl, ap, Bool, true, false, ◌&&◌, ◌||◌, Option, Some, None, Result, Ok, Err}
+use Rattle.std.proofs.Common.{◌≡◌, ◌∙◌, ℕ, suc, List, [], ◌∷◌, ◌++◌, map, refl, ap, Bool, false, ◌&&◌, ◌||◌, Option, Some, None, Result, Ok, Err}
 use Rattle.std.specs.Prelude.{not}
+use Rattle.std.proofs.lemmas.Bool.{or_parts}
 use Rattle.pt_tree.specs.declared.signature.Param.{Param}
 use Rattle.typed_tree.specs.declared.types.VarTy.{VarTy}
 use Rattle.typed_tree.specs.declared.types.VarTy.TheVariants.{Int, Struct, Array, Pointer}
@@ -20,14 +21,10 @@ use Rattle.part_views_law.specs.StepsAdded.{AddedComputeAlike, ArePlain, Pointer
 
 -- ---- handles among arguments
 
-or_false : (a b : Bool) → (a || b) ≡ false → (a ≡ false) × (b ≡ false)
-or_false true b h = cc
-or_false false b h = (refl, h)
-
-none_unmarked : (marked : ℕ → Bool) (vs : List Cell) → has_handle vs ≡ false → has_unmarked marked vs ≡ false
+pub none_unmarked : (marked : ℕ → Bool) (vs : List Cell) → has_handle vs ≡ false → has_unmarked marked vs ≡ false
 none_unmarked marked [] none = refl
 none_unmarked marked (v ∷ vs) none =
-    let parts = or_false (is_sealed v) (has_handle vs) none in
+    let parts = or_parts (is_sealed v) (has_handle vs) none in
     ap (λ b. (b && not (marked 0)) || has_unmarked (λ n. marked (suc n)) vs) parts.0 ∙ none_unmarked (λ n. marked (suc n)) vs parts.1
 
 handles_with : (vs more : List Cell) → has_handle more ≡ false → has_handle (vs ++ more) ≡ has_handle vs

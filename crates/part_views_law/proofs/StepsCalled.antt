@@ -2,7 +2,7 @@
 use Rattle.std.proofs.Common.{◌≡◌, ◌∙◌, ℕ, List, [], ◌∷◌, refl, sym, ap, subst, Bool, true, false, if◌then◌else◌, Option, None, Result, Ok, Err}
 use Rattle.std.specs.Prelude.{IsTrue, is_some}
 use Rattle.pt_base.specs.declared.span.Span.{Span}
-use Rattle.typed_tree.proofs.WellFormedLemmas.{and_left}
+use Rattle.pt_base.proofs.Booleans.{both_hold_first}
 use Rattle.block_memory.specs.declared.cell.Cell.{Cell}
 use Rattle.pt_core.specs.CodeTree.{ProgramTree, StmtTree, clear, check, assign, copy, call, choose, repeat, break_out, continue_on, give_back, no_stmts, stmt_and}
 use Rattle.pt_core.specs.Values.{Stop, values_of}
@@ -77,7 +77,7 @@ works_same monitor part gate m g a rest (run no_stmts ∷ work) fits = refl
 works_same monitor part gate m g a rest (run (stmt_and t more) ∷ work) fits =
     let scope : Scope = scope_in monitor part a.function in
     act_same monitor part gate m g a rest (run more ∷ work) (is_looped work) t
-    (and_left (stmt_fits scope (is_looped work) t) (stmts_fit scope (is_looped work) more) (and_left (stmts_fit scope (is_looped work) (stmt_and t more)) (work_fits scope work) fits))
+    (both_hold_first (stmt_fits scope (is_looped work) t) (stmts_fit scope (is_looped work) more) (both_hold_first (stmts_fit scope (is_looped work) (stmt_and t more)) (work_fits scope work) fits))
 works_same monitor part gate m g a rest (head body ∷ work) fits = refl
 
 pub step_same : {G : Type 0} (monitor : Bool) (part : ProgramTree) (gate : Gate G) (m : Machine) (g : G) → AllFit monitor part m.active → step part gate m g ≡ step part (narrowed part gate) m g

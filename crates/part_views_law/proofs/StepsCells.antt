@@ -7,6 +7,7 @@ use Rattle.pt_base.specs.declared.span.Span.{Span}
 use Rattle.pt_base.specs.declared.trap.Trap.{Trap}
 use Rattle.pt_base.specs.declared.trap.Trap.TheVariants as trap
 use Rattle.pt_base.specs.IntTypes.{InRange}
+use Rattle.pt_base.proofs.Booleans.{false_not_true}
 use Rattle.pt_int.specs.declared.operator.BinOp.{BinOp}
 use Rattle.pt_int.specs.declared.operator.BinOp.TheVariants.{Mul, Div, Rem, Add, Sub, Shl, Shr, Lt, Gt, Le, Ge, Eq, Ne, And, Xor, Or}
 use Rattle.pt_int.specs.declared.operator.UnOp.{UnOp}
@@ -31,7 +32,6 @@ use Rattle.pt_core.specs.Types.{Context}
 use Rattle.pt_core.specs.Values.{Location, Stop, ◌>>?◌, at_span, converted, decayed, holds_in, is_type, number_in, numbered, pointed, pointee, right_operand, target_of, told, unary_operand}
 use Rattle.core_soundness_law.specs.Fits.{ValueFits}
 use Rattle.core_soundness_law.specs.Kept.{by_store}
-use Rattle.core_soundness_law.proofs.Leaves.{never}
 use Rattle.handle_classes.specs.Computes.{has_handle, is_handle, is_sealed}
 use Rattle.marshalling.specs.Handles.{Entries, stored}
 use Rattle.part_views_law.specs.Views.{Lies, View, seen_cell}
@@ -252,9 +252,9 @@ abbrev if_within : Bool → BlockName → ℕ → Result (BlockName × ℕ) Trap
 if_within b block n = if b then Ok (block, n) else Err trap.Bounds
 
 pub pointee_known : (v : View) (c : Context) (s : Span) (ty : VarTy) (d : Cell) → IsTrue (is_some (pointee_of (Some ty))) → OwnCell v d → Known (seen_place v) (OwnPlace v) (pointee c s ty (seen_cell v d)) (pointee c s ty d)
-pointee_known v c s (ty.Int t) d h own = never h
-pointee_known v c s (ty.Struct n) d h own = never h
-pointee_known v c s (ty.Array elem count) d h own = never h
+pointee_known v c s (ty.Int t) d h own = false_not_true h
+pointee_known v c s (ty.Struct n) d h own = false_not_true h
+pointee_known v c s (ty.Array elem count) d h own = false_not_true h
 pointee_known v c s (ty.Pointer elem fixed) (cell.Int n) h own = record { sight = refl; own = tt {0} }
 pointee_known v c s (ty.Pointer elem fixed) (cell.Ptr Null) h own = record { sight = refl; own = tt {0} }
 pointee_known v c s (ty.Pointer elem fixed) (cell.Sealed n) h own = record { sight = refl; own = tt {0} }

@@ -1,10 +1,12 @@
 -- Where a machine fits, each block of it that has integers lies somewhere, and so does each block that a pointer points into.
-use Rattle.std.proofs.Common.{◌≡◌, ◌∙◌, ◌<◌, ◌≤◌, ℕ, zero, suc, pos, List, [], ◌∷◌, length, length-append, get_or, refl, sym, ap, subst, arith, Bool, true, false, nat_eq, if◌then◌else◌, Option, Some, None}
+use Rattle.std.proofs.Common.{◌≡◌, ◌∙◌, ◌<◌, ◌≤◌, ℕ, zero, suc, pos, List, [], ◌∷◌, length, get_or, refl, sym, ap, subst, arith, Bool, true, false, nat_eq, if◌then◌else◌, Option, Some, None}
 use Rattle.std.specs.Prelude.{IsTrue, is_some, slice_get}
 use Rattle.std.specs.List.{list_all}
 use Rattle.std.specs.Map.{lookup}
 use Rattle.std.proofs.lemmas.Bool.{eqb-true, lt-ltb}
+use Rattle.marshalling_law.proofs.CallsTargets.{elem_leaf, no_types, some_repeated}
 use Rattle.pt_base.specs.declared.int_type.IntType.{IntType}
+use Rattle.pt_base.proofs.Booleans.{both_hold_first}
 use Rattle.pt_tree.specs.declared.signature.Elem.{Elem}
 use Rattle.pt_tree.specs.declared.signature.Elem.TheVariants as e
 use Rattle.typed_tree.specs.declared.types.StructInfo.{StructInfo}
@@ -14,8 +16,6 @@ use Rattle.typed_tree.specs.declared.variable.Var.{Var}
 use Rattle.typed_tree.specs.Cells.{leaves_of, repeated}
 use Rattle.typed_tree.specs.TypeTests.{type_of_elem}
 use Rattle.typed_tree.specs.WellFormed.{is_small, is_variable_type, structs_sound}
-use Rattle.typed_tree.proofs.LeavesLemmas.{leaves_of_int}
-use Rattle.typed_tree.proofs.WellFormedLemmas.{and_left}
 use Rattle.block_memory.specs.declared.cell.Cell.{Cell}
 use Rattle.block_memory.specs.declared.cell.Cell.TheVariants as cell
 use Rattle.block_memory.specs.declared.cell.Pointer.TheVariants.{Null, At}
@@ -29,7 +29,6 @@ use Rattle.pt_core.specs.Steps.{Active}
 use Rattle.pt_core.specs.WellFormed.{is_sound, variable_fits}
 use Rattle.core_soundness_law.specs.Fits.{AllFit, IntegerFits, IntegersFit, LieAt, LocalFits, MemoryFits, PointerFits, variables_at}
 use Rattle.core_soundness_law.specs.Kept.{Kept}
-use Rattle.core_soundness_law.proofs.Leaves.{below, struct_leaf}
 use Rattle.core_soundness_law.proofs.Programs.{FunctionFacts, ProgramFacts, facts_of, function_facts, variable_of}
 use Rattle.part_views_law.specs.Views.{IsView, Lies, View}
 use Rattle.part_views_law.specs.StepsParts.{AllAbove}
@@ -38,9 +37,6 @@ use Rattle.part_views_law.proofs.StepsCells.{MemoryOwn, OwnCell}
 -- each block that has integers lies somewhere
 abbrev pub Covers : View → Blocks → Type 0
 Covers v blocks = (b : BlockName) → 1 ≤ length (blocks b).types → Lies v b
-
-no_integers : {A : Type 0} (types : List IntType) → types ≡ [] → 1 ≤ length types → A
-no_integers types is some = let long : length types ≡ 0 = ap (λ (ts : List IntType). length ts) is in absurd (omega (arith, long, some))
 
 own_lies : (v : View) (base : ℕ) (part : ProgramTree) → IsView v base part → (name : BlockName) → (v.at name ≡ name) × (v.of name ≡ Some name) → Lies v name
 own_lies v base part view name own = ap v.of own.0 ∙ own.1
@@ -59,12 +55,12 @@ pub covers_by_fits : (v : View) (base : ℕ) (kept : Kept) (monitor : Bool) (par
 covers_by_fits v base kept monitor part view active blocks mem above received (Local d k) some = go (slice_get (variables_at part active d) k) refl (mem.locals d k)
   where
     go : (o : Option VarTy) → slice_get (variables_at part active d) k ≡ o → LocalFits kept part.structs blocks d o (blocks (Local d k)) → Lies v (Local d k)
-    go None e f = no_integers (blocks (Local d k)).types (ap (λ (b : Block). b.types) f) some
+    go None e f = no_types (blocks (Local d k)).types (ap (λ (b : Block). b.types) f) some
     go (Some ty) e f = own_lies v base part view (Local d k) (view.own (Local d k) (lt-ltb base d (variable_above part base monitor active d k ty above e)))
 covers_by_fits v base kept monitor part view active blocks mem above received (Global g) some = go (lookup (nat_eq g) (context_in part 0).globals) refl
   where
     go : (o : Option VarTy) → lookup (nat_eq g) (context_in part 0).globals ≡ o → Lies v (Global g)
-    go None e = no_integers (blocks (Global g)).types (ap (λ (b : Block). b.types) (mem.beyond g e)) some
+    go None e = no_types (blocks (Global g)).types (ap (λ (b : Block). b.types) (mem.beyond g e)) some
     go (Some ty) e = own_lies v base part view (Global g) (view.own (Global g) (ap is_some e))
 covers_by_fits v base kept monitor part view active blocks mem above received (Received n) some = received n some
 
@@ -75,14 +71,6 @@ lie_some types n [] f some = absurd (omega (arith, some))
 lie_some [] zero (t ∷ ts) f some = elim f [ ]
 lie_some [] (suc n) (t ∷ ts) f some = elim f [ ]
 lie_some (u ∷ types) n (t ∷ ts) f some = omega arith
-
-some_repeated : (count : ℕ) (ts : List IntType) → 1 ≤ count → 1 ≤ length ts → 1 ≤ length (repeated count ts)
-some_repeated zero ts h k = absurd (omega (arith, h))
-some_repeated (suc count) ts h k = let long = length-append ts (repeated count ts) in omega (arith, long, k)
-
-elem_leaf : (structs : List StructInfo) (elem : Elem) (fixed : Bool) → IsTrue (structs_sound structs 0 structs) → IsTrue (is_variable_type (length structs) (Pointer elem fixed)) → 1 ≤ length (leaves_of structs (type_of_elem elem))
-elem_leaf structs (e.Int t) fixed sound h = let one : length (leaves_of structs (Int t)) ≡ 1 = ap (λ (ts : List IntType). length ts) (leaves_of_int structs t) in omega (arith, one)
-elem_leaf structs (e.Struct n) fixed sound h = struct_leaf structs sound n (below n (length structs) h)
 
 pointer_own : (v : View) (structs : List StructInfo) (blocks : Blocks) (depth : ℕ) (elem : Elem) (fixed : Bool) (c : Cell) → Covers v blocks → IsTrue (structs_sound structs 0 structs) → IsTrue (is_variable_type (length structs) (Pointer elem fixed)) →
     PointerFits structs blocks depth elem c → OwnCell v c
@@ -132,7 +120,7 @@ variable_typed monitor program facts (a ∷ rest) depth k ty fit is = go (variab
     go deeper true h =
         let all = subst (λ (g : FunctionTree). IsTrue (list_all (variable_fits program.structs) g.vars)) (sym function.tree_is) function.variables in
         let of : (x : Var) × IsTrue (variable_fits program.structs x) × (x.ty ≡ ty) = variable_of (variable_fits program.structs) (function_in program a.function).vars k ty h all in
-        subst (λ u. IsTrue (is_variable_type (length program.structs) u)) of.2 (and_left (is_variable_type (length program.structs) of.0.ty) (is_small program.structs of.0.ty) of.1)
+        subst (λ u. IsTrue (is_variable_type (length program.structs) u)) of.2 (both_hold_first (is_variable_type (length program.structs) of.0.ty) (is_small program.structs of.0.ty) of.1)
 
 pub held_by_fits : (v : View) (kept : Kept) (monitor : Bool) (part : ProgramTree) (active : List Active) (blocks : Blocks) → IsTrue (is_sound monitor part) → MemoryFits kept part active blocks → AllFit monitor part active → Covers v blocks → MemoryOwn v blocks
 held_by_fits v kept monitor part active blocks sound mem fit covers (Local d k) i =

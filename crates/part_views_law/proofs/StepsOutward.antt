@@ -6,7 +6,7 @@ use Rattle.std.proofs.lemmas.Bool.{or_parts}
 use Rattle.pt_base.specs.declared.int_type.IntType.{IntType}
 use Rattle.pt_base.specs.declared.span.Span.{Span}
 use Rattle.pt_base.specs.declared.trap.Trap.TheVariants.{Depth}
-use Rattle.typed_tree.proofs.WellFormedLemmas.{and_left}
+use Rattle.pt_base.proofs.Booleans.{both_hold_first}
 use Rattle.runs.specs.Run.{deepest}
 use Rattle.block_memory.specs.declared.cell.Cell.{Cell}
 use Rattle.pt_core.specs.CodeTree.{ProgramTree, StmtTree, clear, check, assign, copy, call, choose, repeat, break_out, continue_on, give_back, no_stmts, stmt_and}
@@ -156,7 +156,7 @@ works_out {H} {G} w marked x h g a rest is known r (run no_stmts ∷ work) fits 
 works_out {H} {G} w marked x h g a rest is known r (run (stmt_and t more) ∷ work) fits none =
     let scope : Scope = scope_in w.monitor w.part a.function in
     act_out w marked x h g a rest (run more ∷ work) (is_looped work) is known r t
-    (and_left (stmt_fits scope (is_looped work) t) (stmts_fit scope (is_looped work) more) (and_left (stmts_fit scope (is_looped work) (stmt_and t more)) (work_fits scope work) fits)) none
+    (both_hold_first (stmt_fits scope (is_looped work) t) (stmts_fit scope (is_looped work) more) (both_hold_first (stmts_fit scope (is_looped work) (stmt_and t more)) (work_fits scope work) fits)) none
 works_out {H} {G} w marked x h g a rest is known r (head body ∷ work) fits none = turned_out w x h _ x g (λ m1. working m1 a rest (run body ∷ head body ∷ work)) (λ m1. g)
 
 pub parts_lead : {H G : Type 0} → PartsLead H G

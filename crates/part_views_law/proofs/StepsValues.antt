@@ -4,6 +4,7 @@ use Rattle.std.specs.Prelude.{ℤ, IsTrue, is_some, not}
 use Rattle.std.specs.Map.{lookup}
 use Rattle.std.proofs.lemmas.Bool.{or_parts}
 use Rattle.pt_base.specs.declared.span.Span.{Span}
+use Rattle.pt_base.proofs.Booleans.{both_hold_first, both_hold_second as and_right}
 use Rattle.pt_int.specs.Conversion.{conv}
 use Rattle.pt_int.specs.Operator.{binary_of, unary_of}
 use Rattle.typed_tree.specs.declared.types.VarTy.{VarTy}
@@ -12,7 +13,6 @@ use Rattle.typed_tree.specs.declared.link.LinkStep.TheVariants.{Move, Difference
 use Rattle.typed_tree.specs.TypeTests.{integer_of, is_scalar, item_of, pointee_of}
 use Rattle.typed_tree.specs.TypeTests as t
 use Rattle.typed_tree.specs.TypeRules.{stepped}
-use Rattle.typed_tree.proofs.WellFormedLemmas.{and_left, and_right}
 use Rattle.handle_store.specs.Stored.{AreInRange}
 use Rattle.runs.specs.Pointers.{compared, difference as difference_in, directed, moved}
 use Rattle.block_memory.specs.declared.cell.Cell.{Cell}
@@ -54,25 +54,25 @@ SameTypes c globals = (g : ℕ) → IsTrue (is_some (lookup (nat_eq g) c.globals
 mutual
   pub type_same : (c : Context) (globals : List (ℕ × VarTy)) → SameTypes c globals → (e : ExprTree) → IsTrue (expr_fits c e) → type_of (in_whole globals c) e ≡ type_of c e
   type_same c globals same (constant t n) h = refl
-  type_same c globals same (read p) h = place_same c globals same p (and_left (place_fits c p) (is_scalar (Some (place_type c p))) h)
+  type_same c globals same (read p) h = place_same c globals same p (both_hold_first (place_fits c p) (is_scalar (Some (place_type c p))) h)
   type_same c globals same (unary op t a s) h = refl
   type_same c globals same (binary op t a b s) h = refl
   type_same c globals same (convert to a) h = refl
   type_same c globals same (null elem) h = refl
-  type_same c globals same (address p) h = ap (λ u. Pointer (element_of u) false) (place_same c globals same p (and_left (place_fits c p) (is_addressed p && is_some (t.element_of (Some (place_type c p)))) h))
-  type_same c globals same (decay p) h = ap (λ u. Pointer (element_of u) false) (place_same c globals same p (and_left (place_fits c p) (is_some (item_of (Some (place_type c p)))) h))
+  type_same c globals same (address p) h = ap (λ u. Pointer (element_of u) false) (place_same c globals same p (both_hold_first (place_fits c p) (is_addressed p && is_some (t.element_of (Some (place_type c p)))) h))
+  type_same c globals same (decay p) h = ap (λ u. Pointer (element_of u) false) (place_same c globals same p (both_hold_first (place_fits c p) (is_some (item_of (Some (place_type c p)))) h))
   type_same c globals same (move a b back s) h =
-      type_same c globals same a (and_left (expr_fits c a) (expr_fits c b) (and_left (expr_fits c a && expr_fits c b) (is_some (stepped (Some (type_of c a)) (Move back) (Some (type_of c b)))) h))
+      type_same c globals same a (both_hold_first (expr_fits c a) (expr_fits c b) (both_hold_first (expr_fits c a && expr_fits c b) (is_some (stepped (Some (type_of c a)) (Move back) (Some (type_of c b)))) h))
   type_same c globals same (compare op a b s) h = refl
   type_same c globals same (difference a b s) h = refl
 
   pub place_same : (c : Context) (globals : List (ℕ × VarTy)) → SameTypes c globals → (p : PlaceTree) → IsTrue (place_fits c p) → place_type (in_whole globals c) p ≡ place_type c p
-  place_same c globals same (place root path) h = ap (λ u. path_type c.structs u path) (root_same c globals same root (and_left (root_fits c root) (is_path c.structs (root_type c root) path) h))
+  place_same c globals same (place root path) h = ap (λ u. path_type c.structs u path) (root_same c globals same root (both_hold_first (root_fits c root) (is_path c.structs (root_type c root) path) h))
 
   pub root_same : (c : Context) (globals : List (ℕ × VarTy)) → SameTypes c globals → (r : RootTree) → IsTrue (root_fits c r) → root_type (in_whole globals c) r ≡ root_type c r
   root_same c globals same (local k) h = refl
   root_same c globals same (global g) h = same g h
-  root_same c globals same (deref a s) h = ap pointee_type (type_same c globals same a (and_left (expr_fits c a) (is_some (pointee_of (Some (type_of c a)))) h))
+  root_same c globals same (deref a s) h = ap pointee_type (type_same c globals same a (both_hold_first (expr_fits c a) (is_some (pointee_of (Some (type_of c a)))) h))
 
 -- ---- along a path
 
@@ -121,29 +121,29 @@ mutual
   value_known v c globals depth blocks r (constant t n) fits h = record { sight = refl; own = tt {0} }
   value_known v c globals depth blocks r (read p) fits h =
       then_known (seen_place v) (seen_cell v) (OwnPlace v) (OwnCell v) (location_of (in_whole globals c) depth p (seen v blocks)) (location_of c depth p blocks) _ _
-      (place_known v c globals depth blocks r p (and_left (place_fits c p) (is_scalar (Some (place_type c p))) fits) h)
+      (place_known v c globals depth blocks r p (both_hold_first (place_fits c p) (is_scalar (Some (place_type c p))) fits) h)
       (λ at own. record { sight = ap Ok (cell_seen v blocks at own); own = r.held at.block at.cell })
   value_known v c globals depth blocks r (unary op t a s) fits h =
       let parts = or_parts (meets c depth a blocks) (is_handle (value_of c depth a blocks)) h in
       then_known (seen_cell v) (seen_cell v) (λ d. OwnCell v d × IsPlain d) (OwnCell v) (value_of (in_whole globals c) depth a (seen v blocks)) (value_of c depth a blocks) _ _
       (plain_known v (value_of (in_whole globals c) depth a (seen v blocks)) (value_of c depth a blocks)
-      (value_known v c globals depth blocks r a (and_left (expr_fits c a) (takes_one op t (type_of c a)) fits) parts.0) parts.1)
+      (value_known v c globals depth blocks r a (both_hold_first (expr_fits c a) (takes_one op t (type_of c a)) fits) parts.0) parts.1)
       (λ d own. numbers_known v (at_span s (unary_of op t (unary_operand op t d))) (at_span s (unary_of op t (unary_operand op t (seen_cell v d))))
       (ap (λ n. at_span s (unary_of op t n)) (operand_seen op t (seen_cell v d) d (number_seen v d own.1))))
   value_known v c globals depth blocks r (binary op t a b s) fits h =
-      let both : IsTrue (expr_fits c a && expr_fits c b) = and_left (expr_fits c a && expr_fits c b) (takes_two op t (type_of c a) (type_of c b)) fits in
+      let both : IsTrue (expr_fits c a && expr_fits c b) = both_hold_first (expr_fits c a && expr_fits c b) (takes_two op t (type_of c a) (type_of c b)) fits in
       let sides = or_parts (meets c depth a blocks || is_handle (value_of c depth a blocks)) (meets c depth b blocks || is_handle (value_of c depth b blocks)) h in
       let left = or_parts (meets c depth a blocks) (is_handle (value_of c depth a blocks)) sides.0 in
       let right = or_parts (meets c depth b blocks) (is_handle (value_of c depth b blocks)) sides.1 in
       then_known (seen_cell v) (seen_cell v) (λ d. OwnCell v d × IsPlain d) (OwnCell v) (value_of (in_whole globals c) depth a (seen v blocks)) (value_of c depth a blocks) _ _
-      (plain_known v (value_of (in_whole globals c) depth a (seen v blocks)) (value_of c depth a blocks) (value_known v c globals depth blocks r a (and_left (expr_fits c a) (expr_fits c b) both) left.0) left.1)
+      (plain_known v (value_of (in_whole globals c) depth a (seen v blocks)) (value_of c depth a blocks) (value_known v c globals depth blocks r a (both_hold_first (expr_fits c a) (expr_fits c b) both) left.0) left.1)
       (λ d own.
       then_known (seen_cell v) (seen_cell v) (λ d'. OwnCell v d' × IsPlain d') (OwnCell v) (value_of (in_whole globals c) depth b (seen v blocks)) (value_of c depth b blocks) _ _
       (plain_known v (value_of (in_whole globals c) depth b (seen v blocks)) (value_of c depth b blocks) (value_known v c globals depth blocks r b (and_right (expr_fits c a) (expr_fits c b) both) right.0) right.1)
       (λ d' own'. numbers_known v (at_span s (binary_of op t (conv t (number_in d)) (right_operand op t d'))) (at_span s (binary_of op t (conv t (number_in (seen_cell v d))) (right_operand op t (seen_cell v d'))))
       (λ i. at_span s (binary_of op t (conv t (number_seen v d own.1 i)) (right_seen op t (seen_cell v d') d' (number_seen v d' own'.1) i)))))
   value_known v c globals depth blocks r (convert to a) fits h =
-      let inner : IsTrue (expr_fits c a) = and_left (expr_fits c a) (is_some (integer_of (Some (type_of c a)))) fits in
+      let inner : IsTrue (expr_fits c a) = both_hold_first (expr_fits c a) (is_some (integer_of (Some (type_of c a)))) fits in
       let parts = or_parts (meets c depth a blocks) (not (is_type (type_of c a) to) && is_handle (value_of c depth a blocks)) h in
       then_known (seen_cell v) (seen_cell v) (λ d. (OwnCell v d × ValueFits (by_store v.store) c.structs blocks depth (type_of c a) d) × ((not (is_type (type_of c a) to) && is_sealed d) ≡ false)) (OwnCell v)
       (value_of (in_whole globals c) depth a (seen v blocks)) (value_of c depth a blocks) _ _
@@ -156,29 +156,29 @@ mutual
   value_known v c globals depth blocks r (null elem) fits h = record { sight = refl; own = tt {0} }
   value_known v c globals depth blocks r (address p) fits h =
       then_known (seen_place v) (seen_cell v) (OwnPlace v) (OwnCell v) (location_of (in_whole globals c) depth p (seen v blocks)) (location_of c depth p blocks) _ _
-      (place_known v c globals depth blocks r p (and_left (place_fits c p) (is_addressed p && is_some (t.element_of (Some (place_type c p)))) fits) h)
+      (place_known v c globals depth blocks r p (both_hold_first (place_fits c p) (is_addressed p && is_some (t.element_of (Some (place_type c p)))) fits) h)
       (λ at own. record { sight = refl; own = own })
   value_known v c globals depth blocks r (decay p) fits h =
       then_known (seen_place v) (seen_cell v) (OwnPlace v) (OwnCell v) (location_of (in_whole globals c) depth p (seen v blocks)) (location_of c depth p blocks) _ _
-      (place_known v c globals depth blocks r p (and_left (place_fits c p) (is_some (item_of (Some (place_type c p)))) fits) h)
+      (place_known v c globals depth blocks r p (both_hold_first (place_fits c p) (is_some (item_of (Some (place_type c p)))) fits) h)
       (λ at own. decayed_known v at at.ty own)
   value_known v c globals depth blocks r (move a b back s) fits h =
-      let both : IsTrue (expr_fits c a && expr_fits c b) = and_left (expr_fits c a && expr_fits c b) (is_some (stepped (Some (type_of c a)) (Move back) (Some (type_of c b)))) fits in
+      let both : IsTrue (expr_fits c a && expr_fits c b) = both_hold_first (expr_fits c a && expr_fits c b) (is_some (stepped (Some (type_of c a)) (Move back) (Some (type_of c b)))) fits in
       let sides = or_parts (meets c depth a blocks || is_handle (value_of c depth a blocks)) (meets c depth b blocks || is_handle (value_of c depth b blocks)) h in
       let left = or_parts (meets c depth a blocks) (is_handle (value_of c depth a blocks)) sides.0 in
       let right = or_parts (meets c depth b blocks) (is_handle (value_of c depth b blocks)) sides.1 in
       then_known (seen_cell v) (seen_cell v) (OwnCell v) (OwnCell v) (value_of (in_whole globals c) depth a (seen v blocks)) (value_of c depth a blocks) _ _
-      (value_known v c globals depth blocks r a (and_left (expr_fits c a) (expr_fits c b) both) left.0)
+      (value_known v c globals depth blocks r a (both_hold_first (expr_fits c a) (expr_fits c b) both) left.0)
       (λ d own.
       then_known (seen_cell v) (seen_cell v) (λ d'. OwnCell v d' × IsPlain d') (OwnCell v) (value_of (in_whole globals c) depth b (seen v blocks)) (value_of c depth b blocks) _ _
       (plain_known v (value_of (in_whole globals c) depth b (seen v blocks)) (value_of c depth b blocks) (value_known v c globals depth blocks r b (and_right (expr_fits c a) (expr_fits c b) both) right.0) right.1)
       (λ d' own'. subst (λ n. Known (seen_cell v) (OwnCell v) (moving s back n (seen_cell v d)) (moving s back (number_in d') d)) (sym (number_seen v d' own'.1)) (moved_known v s (directed back (number_in d')) d own)))
   value_known v c globals depth blocks r (compare op a b s) fits h =
-      let both : IsTrue (expr_fits c a && expr_fits c b) = and_left (expr_fits c a && expr_fits c b) (is_some (stepped (Some (type_of c a)) (Compare op) (Some (type_of c b)))) fits in
+      let both : IsTrue (expr_fits c a && expr_fits c b) = both_hold_first (expr_fits c a && expr_fits c b) (is_some (stepped (Some (type_of c a)) (Compare op) (Some (type_of c b)))) fits in
       let sides = or_parts (meets c depth a blocks || is_handle (value_of c depth a blocks)) (meets c depth b blocks || is_handle (value_of c depth b blocks)) h in
       let left = or_parts (meets c depth a blocks) (is_handle (value_of c depth a blocks)) sides.0 in
       let right = or_parts (meets c depth b blocks) (is_handle (value_of c depth b blocks)) sides.1 in
-      let inner : IsTrue (expr_fits c a) = and_left (expr_fits c a) (expr_fits c b) both in
+      let inner : IsTrue (expr_fits c a) = both_hold_first (expr_fits c a) (expr_fits c b) both in
       then_known (seen_cell v) (seen_cell v) (OwnCell v) (OwnCell v) (value_of (in_whole globals c) depth a (seen v blocks)) (value_of c depth a blocks) _ _
       (value_known v c globals depth blocks r a inner left.0)
       (λ d own.
@@ -189,12 +189,12 @@ mutual
       (ap (λ size. at_span s (compared is_same_name op size (target_of (seen_cell v d)) (target_of (seen_cell v d')))) (cells_same c globals (type_of (in_whole globals c) a) ∙ ap (pointee_cells c) (type_same c globals r.typed a inner))
       ∙ ap (λ q. at_span s q) (compared_seen v op (pointee_cells c (type_of c a)) d d' own own'))))
   value_known v c globals depth blocks r (difference a b s) fits h =
-      let both : IsTrue (expr_fits c a && expr_fits c b) = and_left (expr_fits c a && expr_fits c b) (is_some (stepped (Some (type_of c a)) Difference (Some (type_of c b)))) fits in
+      let both : IsTrue (expr_fits c a && expr_fits c b) = both_hold_first (expr_fits c a && expr_fits c b) (is_some (stepped (Some (type_of c a)) Difference (Some (type_of c b)))) fits in
       let sides = or_parts (meets c depth a blocks || is_handle (value_of c depth a blocks)) (meets c depth b blocks || is_handle (value_of c depth b blocks)) h in
       let left = or_parts (meets c depth a blocks) (is_handle (value_of c depth a blocks)) sides.0 in
       let right = or_parts (meets c depth b blocks) (is_handle (value_of c depth b blocks)) sides.1 in
       then_known (seen_cell v) (seen_cell v) (OwnCell v) (OwnCell v) (value_of (in_whole globals c) depth a (seen v blocks)) (value_of c depth a blocks) _ _
-      (value_known v c globals depth blocks r a (and_left (expr_fits c a) (expr_fits c b) both) left.0)
+      (value_known v c globals depth blocks r a (both_hold_first (expr_fits c a) (expr_fits c b) both) left.0)
       (λ d own.
       then_known (seen_cell v) (seen_cell v) (OwnCell v) (OwnCell v) (value_of (in_whole globals c) depth b (seen v blocks)) (value_of c depth b blocks) _ _
       (value_known v c globals depth blocks r b (and_right (expr_fits c a) (expr_fits c b) both) right.0)
@@ -205,7 +205,7 @@ mutual
       Known (seen_place v) (OwnPlace v) (location_of (in_whole globals c) depth p (seen v blocks)) (location_of c depth p blocks)
   place_known v c globals depth blocks r (place root path) fits h =
       then_known (seen_place v) (seen_place v) (OwnPlace v) (OwnPlace v) (root_location (in_whole globals c) depth root (seen v blocks)) (root_location c depth root blocks) _ _
-      (root_known v c globals depth blocks r root (and_left (root_fits c root) (is_path c.structs (root_type c root) path) fits) h)
+      (root_known v c globals depth blocks r root (both_hold_first (root_fits c root) (is_path c.structs (root_type c root) path) fits) h)
       (λ at own. record { sight = ap Ok (along_whole c globals path (seen_place v at) ∙ along_seen v c path at); own = along_own v c path at own })
 
   pub root_known : (v : View) (c : Context) (globals : List (ℕ × VarTy)) (depth : ℕ) (blocks : Blocks) → Reads v c globals depth blocks → (root : RootTree) → IsTrue (root_fits c root) → meets_root c depth root blocks ≡ false →
@@ -218,7 +218,7 @@ mutual
       let typed = r.typed g fits in
       record { sight = λ i. Ok (record { block = sym own.0 i; cell = 0; ty = typed i }); own = ap v.of own.0 ∙ own.1 }
   root_known v c globals depth blocks r (deref a s) fits h =
-      let inner : IsTrue (expr_fits c a) = and_left (expr_fits c a) (is_some (pointee_of (Some (type_of c a)))) fits in
+      let inner : IsTrue (expr_fits c a) = both_hold_first (expr_fits c a) (is_some (pointee_of (Some (type_of c a)))) fits in
       let parts = or_parts (meets c depth a blocks) (is_handle (value_of c depth a blocks)) h in
       then_known (seen_cell v) (seen_place v) (OwnCell v) (OwnPlace v) (value_of (in_whole globals c) depth a (seen v blocks)) (value_of c depth a blocks) _ _
       (value_known v c globals depth blocks r a inner parts.0)
@@ -239,7 +239,7 @@ values_known v c globals depth blocks r no_exprs fits h = record { sight = refl;
 values_known v c globals depth blocks r (expr_and e rest) fits h =
     let parts = or_parts (meets c depth e blocks) (meet_any c depth rest blocks) h in
     then_known (seen_cell v) (map (seen_cell v)) (OwnCell v) Always (value_of (in_whole globals c) depth e (seen v blocks)) (value_of c depth e blocks) _ _
-    (value_known v c globals depth blocks r e (and_left (expr_fits c e) (exprs_fit c rest) fits) parts.0)
+    (value_known v c globals depth blocks r e (both_hold_first (expr_fits c e) (exprs_fit c rest) fits) parts.0)
     (λ d own.
     then_known (map (seen_cell v)) (map (seen_cell v)) Always Always (values_of (in_whole globals c) depth rest (seen v blocks)) (values_of c depth rest blocks) _ _
     (values_known v c globals depth blocks r rest (and_right (expr_fits c e) (exprs_fit c rest) fits) parts.1) (λ ds own'. record { sight = refl; own = tt {0} }))

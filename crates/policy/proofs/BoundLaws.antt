@@ -2,9 +2,12 @@
 use Rattle.std.proofs.Common.{◌≡◌, ◌∙◌, ◌+◌, ℕ, ℤ, zero, suc, cond, not, ◌&&◌, ◌==◌, if◌then◌else◌, List, [], ◌∷◌, ◌++◌, length, take, drop, slice_index, Option, Some, None, refl, ap, ap₂, sym, arith, one-add, add-zero, suc-add}
 use Rattle.std.specs.List.{position_or_len}
 use Rattle.std.proofs.lemmas.Bool.{eqb-true}
+use Rattle.pt_base.proofs.Booleans.{and_parts}
+use Rattle.pt_base.proofs.Numbers.{plus_one}
+use Rattle.pt_base.proofs.Places.{take_front}
 use Rattle.policy.specs.Rules.{AreBounds}
 use Rattle.policy.specs.Reading.{bound_of, bounds_of, pair_of}
-use Rattle.policy.proofs.OptionLemmas.{if_some, both}
+use Rattle.policy.proofs.OptionLemmas.{if_some}
 use Rattle.policy.proofs.DecimalLaws.{bound_is, bound_gives, bound_pointless, Pointless}
 
 -- two points stand at the place
@@ -16,9 +19,6 @@ cut_at (x ∷ word) (suc k) a b = ap (λ w. x ∷ w) (cut_at word k a b)
 
 add_two : (k : ℕ) → k + 2 ≡ suc (suc k)
 add_two k = omega arith
-
-next : (k : ℕ) → k + 1 ≡ suc k
-next k = omega arith
 
 record Cut (word : List ℕ) (dot : ℕ) (p : ℤ × ℤ) : Type 0 where
   spelled : word ≡ take dot word ++ (46 ∷ 46 ∷ drop (dot + 2) word)
@@ -36,9 +36,9 @@ cut_is : (word : List ℕ) (dot : ℕ) (p : ℤ × ℤ)
     → (if (slice_index word dot == 46) && (slice_index word (dot + 1) == 46) then pair_of (bound_of (take dot word)) (bound_of (drop (dot + 2) word)) else None) ≡ Some p → Cut word dot p
 cut_is word dot p e =
     let found = if_some ((slice_index word dot == 46) && (slice_index word (dot + 1) == 46)) (pair_of (bound_of (take dot word)) (bound_of (drop (dot + 2) word))) p e in
-    let points = both (slice_index word dot == 46) (slice_index word (dot + 1) == 46) found.0 in
+    let points = and_parts (slice_index word dot == 46) (slice_index word (dot + 1) == 46) found.0 in
     let first : slice_index word dot ≡ 46 = eqb-true (slice_index word dot) 46 points.0 in
-    let second : slice_index word (suc dot) ≡ 46 = ap (slice_index word) (sym (next dot)) ∙ eqb-true (slice_index word (dot + 1)) 46 points.1 in
+    let second : slice_index word (suc dot) ≡ 46 = ap (slice_index word) (sym (plus_one dot)) ∙ eqb-true (slice_index word (dot + 1)) 46 points.1 in
     let pair = pair_is (bound_of (take dot word)) (bound_of (drop (dot + 2) word)) p found.1 in
     record {
       spelled = cut_at word dot first second ∙ ap (λ n. take dot word ++ (46 ∷ 46 ∷ drop n word)) (sym (add_two dot));
@@ -70,10 +70,6 @@ at_behind : (low rest : List ℕ) (k : ℕ) → slice_index (low ++ rest) (lengt
 at_behind [] rest k = ap (slice_index rest) (omega arith)
 at_behind (b ∷ bs) rest k = ap (slice_index (b ∷ (bs ++ rest))) (suc-add (length bs) k) ∙ at_behind bs rest k
 
-take_behind : (low rest : List ℕ) → take (length low) (low ++ rest) ≡ low
-take_behind [] rest = refl
-take_behind (b ∷ bs) rest = ap (λ w. b ∷ w) (take_behind bs rest)
-
 drop_behind : (low rest : List ℕ) (k : ℕ) → drop (length low + k) (low ++ rest) ≡ drop k rest
 drop_behind [] rest k = ap (λ n. drop n rest) (omega arith)
 drop_behind (b ∷ bs) rest k = ap (λ n. drop n (b ∷ (bs ++ rest))) (suc-add (length bs) k) ∙ drop_behind bs rest k
@@ -88,5 +84,5 @@ bounds_give word low high are = ap bounds_of are.spelled ∙ given are.low_word 
         let second : slice_index word' (length l + 1) ≡ 46 = at_behind l (46 ∷ 46 ∷ h) 1 in
         ap (λ dot. if (slice_index word' dot == 46) && (slice_index word' (dot + 1) == 46) then pair_of (bound_of (take dot word')) (bound_of (drop (dot + 2) word')) else None) (dot_behind l (46 ∷ h) none)
         ∙ ap₂ (λ x y. if (x == 46) && (y == 46) then pair_of (bound_of (take (length l) word')) (bound_of (drop (length l + 2) word')) else None) first second
-        ∙ ap₂ (λ x y. pair_of (bound_of x) (bound_of y)) (take_behind l (46 ∷ 46 ∷ h)) (drop_behind l (46 ∷ 46 ∷ h) 2)
+        ∙ ap₂ (λ x y. pair_of (bound_of x) (bound_of y)) (take_front l (46 ∷ 46 ∷ h)) (drop_behind l (46 ∷ 46 ∷ h) 2)
         ∙ ap₂ pair_of a b

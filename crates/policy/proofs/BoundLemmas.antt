@@ -1,7 +1,7 @@
 -- The two bounds of a word.
 use Rattle.std.proofs.Common.{◌≡◌, ◌∙◌, ◌+◌, ◌-◌, ◌<◌, ℕ, ℤ, suc, Bool, true, false, cond, not, ◌&&◌, nat_lt, ◌==◌, if◌then◌else◌, List, [], ◌∷◌, length, take, drop, slice_index, Option, Some, None, refl, ap, ap₂, sym, arith, one-add, length-drop, take_all, eq-eqb}
-use Rattle.std.proofs.lemmas.Bool.Decides.{nat_tests}
 use Rattle.std.specs.List.{position, position_or_len}
+use Rattle.pt_base.proofs.Numbers.{nat_lt_below}
 use Rattle.policy.specs.Reading.{bound_of, bounds_of, pair_of}
 
 -- at the first place that passes, the byte passes
@@ -21,15 +21,12 @@ some_if : (t : Bool) (m n : ℕ) → ◌≡◌ {A = Option ℕ} (Some n) (cond t
 some_if true m n e = (refl, cc)
 some_if false m n e = cc
 
-below : (m n : ℕ) → nat_lt m n ≡ true → m < n
-below m n h = grind (arith, nat_tests)
-
 pub bounds_is : (word : List ℕ) (n : ℕ) (low high : ℤ) → Some n ≡ position (λ b. b == 46) word → slice_index word (n + 1) ≡ 46
     → Some low ≡ bound_of (take n word) → Some high ≡ bound_of (take (length word - (n + 2)) (drop (n + 2) word)) → Some (low, high) ≡ bounds_of word
 bounds_is word n low high found second l h =
     let is : (nat_lt (position_or_len (λ b. b == 46) word) (length word) ≡ true) × (n ≡ position_or_len (λ b. b == 46) word)
     = some_if (nat_lt (position_or_len (λ b. b == 46) word) (length word)) (position_or_len (λ b. b == 46) word) n found in
-    let within : position_or_len (λ b. b == 46) word < length word = below (position_or_len (λ b. b == 46) word) (length word) is.0 in
+    let within : position_or_len (λ b. b == 46) word < length word = nat_lt_below (position_or_len (λ b. b == 46) word) (length word) is.0 in
     let tail : take (length word - (n + 2)) (drop (n + 2) word) ≡ drop (n + 2) word = take_all (length word - (n + 2)) (drop (n + 2) word) (omega (arith, length-drop (n + 2) word)) in
     let next : (slice_index word (n + 1) == 46) ≡ true = eq-eqb (slice_index word (n + 1)) 46 second in
     ap₂ pair_of l (h ∙ ap bound_of tail)

@@ -4,11 +4,12 @@ use Rattle.std.specs.Option.{option_map}
 use Rattle.std.specs.List.{list_all}
 use Rattle.std.specs.Char.{is_ascii_digit}
 use Rattle.std.proofs.lemmas.Int.{ints}
-use Rattle.std.proofs.lemmas.Bool.{ltb-true, lt-ltb, eqb-true}
+use Rattle.std.proofs.lemmas.Bool.{ltb-true, lt-ltb, eqb-true, and_from}
 use Rattle.std.proofs.lemmas.Bool.Decides.{nat_tests}
+use Rattle.pt_base.proofs.Booleans.{and_parts, if_false, if_true}
 use Rattle.policy.specs.Numbers.{decimal_value, are_digits, IsDecimal, plain, minus, IsBound, IsCount}
 use Rattle.policy.specs.Reading.{digits_below, bound_of, negative}
-use Rattle.policy.proofs.OptionLemmas.{if_some, map_some, both, both_true, if_true, if_false}
+use Rattle.policy.proofs.OptionLemmas.{if_some, map_some}
 
 pub record Digits (limit : ℕ) (word : List ℕ) (n : ℕ) : Type 0 where
   pub digits : are_digits word ≡ true
@@ -18,13 +19,13 @@ pub record Digits (limit : ℕ) (word : List ℕ) (n : ℕ) : Type 0 where
 pub digits_are : (limit : ℕ) (word : List ℕ) (n : ℕ) → digits_below limit word ≡ Some n → Digits limit word n
 digits_are limit word n e =
     let found = if_some (are_digits word && nat_lt (decimal_value word) limit) (Some (decimal_value word)) n e in
-    let tests = both (are_digits word) (nat_lt (decimal_value word) limit) found.0 in
+    let tests = and_parts (are_digits word) (nat_lt (decimal_value word) limit) found.0 in
     record { digits = tests.0; small = ltb-true (decimal_value word) limit tests.1; is = cc found.1 }
 
 pub digits_give : (limit : ℕ) (word : List ℕ) → are_digits word ≡ true → decimal_value word < limit → digits_below limit word ≡ Some (decimal_value word)
 digits_give limit word digits small =
     if_true (are_digits word && nat_lt (decimal_value word) limit) (Some (decimal_value word)) None
-    (both_true (are_digits word) (nat_lt (decimal_value word) limit) digits (lt-ltb (decimal_value word) limit small))
+    (and_from (are_digits word) (nat_lt (decimal_value word) limit) digits (lt-ltb (decimal_value word) limit small))
 
 pub count_is : (word : List ℕ) (n : ℕ) → digits_below (2 ^ 32) word ≡ Some n → IsCount word n
 count_is word n e =
@@ -73,9 +74,9 @@ bound_is (b ∷ bs) v e = go (b == 45) refl e
 
 no_minus : (b : ℕ) (bs : List ℕ) → are_digits (b ∷ bs) ≡ true → (b == 45) ≡ false
 no_minus b bs e =
-    let some = both (nat_lt 0 (suc (length bs))) (list_all is_ascii_digit (b ∷ bs)) e in
-    let first = both (is_ascii_digit b) (list_all is_ascii_digit bs) some.1 in
-    let range = both (nat_le 48 b) (nat_le b 57) first.0 in
+    let some = and_parts (nat_lt 0 (suc (length bs))) (list_all is_ascii_digit (b ∷ bs)) e in
+    let first = and_parts (is_ascii_digit b) (list_all is_ascii_digit bs) some.1 in
+    let range = and_parts (nat_le 48 b) (nat_le b 57) first.0 in
     grind (arith, nat_tests, range.0)
 
 plain_gives : (word : List ℕ) → are_digits word ≡ true → decimal_value word < 2 ^ 64 → bound_of word ≡ Some (pos (decimal_value word))
@@ -94,7 +95,7 @@ bound_gives word v b = spelled_gives word v b.spelled b.least b.greatest
 
 -- no byte of a number is a point
 no_point : (b : ℕ) → is_ascii_digit b ≡ true → (b == 46) ≡ false
-no_point b e = let range = both (nat_le 48 b) (nat_le b 57) e in grind (arith, nat_tests, range.0)
+no_point b e = let range = and_parts (nat_le 48 b) (nat_le b 57) e in grind (arith, nat_tests, range.0)
 
 unfoldable pub Pointless : List ℕ → Type 0
 Pointless [] = Unit {0}
@@ -103,12 +104,12 @@ Pointless (b ∷ bs) = ((b == 46) ≡ false) × Pointless bs
 digits_pointless : (bs : List ℕ) → list_all is_ascii_digit bs ≡ true → Pointless bs
 unfolding Pointless
 digits_pointless [] e = tt
-digits_pointless (b ∷ bs) e = let each = both (is_ascii_digit b) (list_all is_ascii_digit bs) e in (no_point b each.0, digits_pointless bs each.1)
+digits_pointless (b ∷ bs) e = let each = and_parts (is_ascii_digit b) (list_all is_ascii_digit bs) e in (no_point b each.0, digits_pointless bs each.1)
 
 decimal_pointless : (word : List ℕ) (v : ℤ) → IsDecimal word v → Pointless word
 unfolding Pointless
-decimal_pointless word v (plain digits are) = digits_pointless digits (both (nat_lt 0 (length digits)) (list_all is_ascii_digit digits) are).1
-decimal_pointless word v (minus digits are) = (refl, digits_pointless digits (both (nat_lt 0 (length digits)) (list_all is_ascii_digit digits) are).1)
+decimal_pointless word v (plain digits are) = digits_pointless digits (and_parts (nat_lt 0 (length digits)) (list_all is_ascii_digit digits) are).1
+decimal_pointless word v (minus digits are) = (refl, digits_pointless digits (and_parts (nat_lt 0 (length digits)) (list_all is_ascii_digit digits) are).1)
 
 pub bound_pointless : (word : List ℕ) (v : ℤ) → IsBound word v → Pointless word
 bound_pointless word v b = decimal_pointless word v b.spelled

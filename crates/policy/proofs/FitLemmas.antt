@@ -1,13 +1,15 @@
 -- The first rule that fits is found by its state and function.
 use Rattle.std.proofs.Common.{◌≡◌, ◌∙◌, ◌+◌, ◌-◌, ◌<◌, ◌≤◌, ℕ, ℤ, zero, suc, Bool, true, false, ◌&&◌, nat_eq, if◌then◌else◌, List, [], ◌∷◌, length, drop, get_or, slice_get, slice_index, Option, Some, None, refl, ap, ap₂, sym, subst, arith, drop-cons, add-one, drop-drop, get_or-drop, unwrap_or, bytes_eq, length-drop}
 use Rattle.std.specs.List.{position_from, list_all}
-use Rattle.std.proofs.lemmas.Bool.{eqb-true, eq-eqb}
+use Rattle.std.proofs.lemmas.Bool.{eqb-true, and_from}
 use Rattle.pt_base.specs.declared.ids.FnId.{FnId}
+use Rattle.pt_base.proofs.Booleans.{and_parts, if_false, if_true}
+use Rattle.pt_base.proofs.Numbers.{nat_eq_self}
 use Rattle.policy.specs.Places.{first_in, state_number, is_keyed, steps_from}
 use Rattle.policy.specs.Verdicts.{is_within, is_left, is_of, fits, first_fit_from}
 use Rattle.policy.specs.declared.rule.Rule.{Rule}
 use Rattle.policy.specs.declared.step.Step.{Step}
-use Rattle.policy.proofs.OptionLemmas.{both, both_true, bytes_same, bytes_equal, if_true, if_false}
+use Rattle.policy.proofs.OptionLemmas.{bytes_same, bytes_equal}
 
 -- the rest of what it takes to fit
 abbrev pub may_use : List ℤ → Rule → ℕ → Bool
@@ -133,7 +135,7 @@ ahead_found key plain rules uses k rule same ahead read free =
     let keyed : key rule ≡ true = ap key read ∙ ahead.keyed k rule refl in
     ahead.fit
     ∙ ap₂ (first_fit_from (keyed_fits key plain) k) (drop-cons rules k rule inside ∙ ap (λ r. r ∷ drop (suc k) rules) (sym read)) (drop-cons uses k 0 used)
-    ∙ if_true (key rule && may_use plain rule (slice_index uses k)) (Some k) (first_fit_from (keyed_fits key plain) (k + 1) (drop (suc k) rules) (drop (suc k) uses)) (both_true (key rule) (may_use plain rule (slice_index uses k)) keyed free)
+    ∙ if_true (key rule && may_use plain rule (slice_index uses k)) (Some k) (first_fit_from (keyed_fits key plain) (k + 1) (drop (suc k) rules) (drop (suc k) uses)) (and_from (key rule) (may_use plain rule (slice_index uses k)) keyed free)
 
 -- the steps of an index
 
@@ -163,7 +165,7 @@ steps_long all [] from = refl
 steps_long all (rule ∷ rules) from = ap suc (steps_long all rules (from + 1))
 
 key_is : (number g h f : ℕ) → (nat_eq number h && nat_eq g f) ≡ true → (number ≡ h) × (g ≡ f)
-key_is number g h f e = let t = both (nat_eq number h) (nat_eq g f) e in (eqb-true number h t.0, eqb-true g f t.1)
+key_is number g h f e = let t = and_parts (nat_eq number h) (nat_eq g f) e in (eqb-true number h t.0, eqb-true g f t.1)
 
 -- the step of a rule of the key leads to the next one of the key
 pub key_step : (rules : List Rule) (k state f : ℕ) (step : Step) (d : Rule) → slice_get (steps_from rules 0 rules) k ≡ Some step → is_keyed rules state f (get_or rules k d) ≡ true
@@ -234,15 +236,12 @@ same_number rules from state p a same = go (first_in rules state) refl
         absurd (omega arith)
     go (Some q) some = same_first rules from state p q a some (sym number ∙ same ∙ ap (λ o. unwrap_or o (length rules)) some)
 
-eq_same : (n : ℕ) → nat_eq n n ≡ true
-eq_same n = eq-eqb n n refl
-
 -- of a rule's state, the numbers are equal exactly where the names are
 number_tells : (rules : List Rule) (from state : List ℕ) (p : ℕ) → first_in rules from ≡ Some p → nat_eq (state_number rules from) (state_number rules state) ≡ bytes_eq from state
 number_tells rules from state p a = go (bytes_eq from state) refl
   where
     go : (b : Bool) → bytes_eq from state ≡ b → nat_eq (state_number rules from) (state_number rules state) ≡ b
-    go true is = ap (λ s. nat_eq (state_number rules from) (state_number rules s)) (sym (bytes_equal from state is)) ∙ eq_same (state_number rules from)
+    go true is = ap (λ s. nat_eq (state_number rules from) (state_number rules s)) (sym (bytes_equal from state is)) ∙ nat_eq_self (state_number rules from)
     go false isnt = differ (nat_eq (state_number rules from) (state_number rules state)) refl
       where
         differ : (b : Bool) → nat_eq (state_number rules from) (state_number rules state) ≡ b → b ≡ false
@@ -284,8 +283,8 @@ fit_is_left state f plain low k (rule ∷ rules) (n ∷ uses) e = go (fits state
         → (past : ℕ) × (k ≡ low + past) × ((d : Rule) → is_left (get_or (rule ∷ rules) past d).most (slice_index (n ∷ uses) past) ≡ true)
     go true is others here =
         let same : low ≡ k = some_is low k here in
-        let rest = both (is_of state f rule) (may_use plain rule n) is in
-        (0, (omega arith), λ d. (both (list_all (is_within plain) rule.ranges) (is_left rule.most n) rest.1).1)
+        let rest = and_parts (is_of state f rule) (may_use plain rule n) is in
+        (0, (omega arith), λ d. (and_parts (list_all (is_within plain) rule.ranges) (is_left rule.most n) rest.1).1)
     go false is others there =
         let rest = others there in
         let place : k ≡ low + 1 + rest.0 = rest.1 in

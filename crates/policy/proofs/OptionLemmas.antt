@@ -1,5 +1,5 @@
 -- What a step that may fail has given, where all steps succeed.
-use Rattle.std.proofs.Common.{◌≡◌, Bool, true, false, ◌&&◌, if◌then◌else◌, Option, Some, None, refl, List, ℕ, bytes_eq}
+use Rattle.std.proofs.Common.{◌≡◌, Bool, true, false, if◌then◌else◌, Option, Some, None, refl, List, ℕ, bytes_eq}
 use Rattle.std.specs.Option.{option_map, option_and_then}
 use Rattle.std.proofs.lemmas.Slice.Eq.{bytes_eq-Decides}
 
@@ -14,21 +14,6 @@ map_some f (Some a) b e = (a, refl, cc)
 pub if_some : {A : Type 0} (t : Bool) (o : Option A) (a : A) → (if t then o else None) ≡ Some a → (t ≡ true) × (o ≡ Some a)
 if_some true o a e = (refl, e)
 if_some false o a e = cc
-
-pub both : (t u : Bool) → (t && u) ≡ true → (t ≡ true) × (u ≡ true)
-both true u e = (refl, e)
-both false u e = cc
-
-pub both_true : (t u : Bool) → t ≡ true → u ≡ true → (t && u) ≡ true
-both_true t u p q = cc
-
-pub if_true : {A : Type 0} (t : Bool) (x y : A) → t ≡ true → (if t then x else y) ≡ x
-if_true true x y e = refl
-if_true false x y e = cc
-
-pub if_false : {A : Type 0} (t : Bool) (x y : A) → t ≡ false → (if t then x else y) ≡ y
-if_false false x y e = refl
-if_false true x y e = cc
 
 pub bytes_same : (xs : List ℕ) → bytes_eq xs xs ≡ true
 bytes_same xs = (bytes_eq-Decides xs xs).1 refl

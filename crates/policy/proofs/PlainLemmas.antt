@@ -5,7 +5,7 @@ use Rattle.std.proofs.lemmas.List.Sums.{sum_by-cons}
 use Rattle.pt_tree.specs.PlainNumbers.{is_plain, plain_numbers}
 use Rattle.policy.specs.Plain.{plain_place, PlacesAreArguments}
 
-no_numbers : (params : List Param) → plain_numbers params [] ≡ []
+pub no_numbers : (params : List Param) → plain_numbers params [] ≡ []
 no_numbers [] = refl
 no_numbers (p ∷ ps) = refl
 

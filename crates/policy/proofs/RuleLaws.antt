@@ -4,12 +4,13 @@ use Rattle.std.specs.Option.{option_map, option_map_or, option_and_then}
 use Rattle.std.specs.Int.{is_in_range}
 use Rattle.std.proofs.lemmas.Bool.{eqb-true}
 use Rattle.std.proofs.lemmas.Bool.Decides.{nat_tests}
+use Rattle.pt_base.proofs.Booleans.{and_parts, if_true}
 use Rattle.policy.specs.Numbers.{IsCount}
 use Rattle.policy.specs.Spelled.{SpelledRule}
 use Rattle.policy.specs.Rules.{is_state, IsParameter, AreBounds, AreRanges, none, more, IsLimit, without, at_most, IsRule}
 use Rattle.policy.specs.Reading.{after_word, first_word, first_state, digits_below, parameter_of, range_with, range_of, onto_ranges, ranges_of, count_from, limit_from, alone, target_of, ending_of, Beginning, beginning_of, bounds_of, rule_with, rule_of}
 use Rattle.policy.specs.declared.argument.ArgRange.{ArgRange}
-use Rattle.policy.proofs.OptionLemmas.{if_some, if_true, map_some, then_some, both, bytes_same, bytes_equal}
+use Rattle.policy.proofs.OptionLemmas.{if_some, map_some, then_some, bytes_same, bytes_equal}
 use Rattle.policy.proofs.DecimalLaws.{count_is, count_gives}
 use Rattle.policy.proofs.BoundLaws.{bounds_are, bounds_give}
 
@@ -22,8 +23,8 @@ parameter_is (a ∷ b ∷ []) i e = cc
 parameter_is (a ∷ b ∷ c ∷ []) i e = cc
 parameter_is (a ∷ b ∷ c ∷ d ∷ []) i e =
     let found = if_some (bytes_eq (a ∷ b ∷ c ∷ []) (codes "arg") && is_in_range 49 56 d) (Some (d - 49)) i e in
-    let tests = both (bytes_eq (a ∷ b ∷ c ∷ []) (codes "arg")) (is_in_range 49 56 d) found.0 in
-    let range = both (nat_le 49 d) (nat_le d 56) tests.1 in
+    let tests = and_parts (bytes_eq (a ∷ b ∷ c ∷ []) (codes "arg")) (is_in_range 49 56 d) found.0 in
+    let range = and_parts (nat_le 49 d) (nat_le d 56) tests.1 in
     let is : i ≡ d - 49 = cc found.1 in
     let low : 49 ≤ d = grind (arith, nat_tests, range.0) in
     let high : d ≤ 56 = grind (arith, nat_tests, range.1) in
@@ -31,8 +32,8 @@ parameter_is (a ∷ b ∷ c ∷ d ∷ []) i e =
     record { spelled = ap₂ (λ w x. w ++ x ∷ []) (bytes_equal (a ∷ b ∷ c ∷ []) (codes "arg") tests.0) same; small = omega arith }
 parameter_is (a ∷ b ∷ c ∷ d ∷ f ∷ word) i e =
     let found = if_some (((length (a ∷ b ∷ c ∷ d ∷ f ∷ word) == 4) && bytes_eq (a ∷ b ∷ c ∷ []) (codes "arg")) && is_in_range 49 56 d) (Some (d - 49)) i e in
-    let tests = both ((length (a ∷ b ∷ c ∷ d ∷ f ∷ word) == 4) && bytes_eq (a ∷ b ∷ c ∷ []) (codes "arg")) (is_in_range 49 56 d) found.0 in
-    let long = both (length (a ∷ b ∷ c ∷ d ∷ f ∷ word) == 4) (bytes_eq (a ∷ b ∷ c ∷ []) (codes "arg")) tests.0 in
+    let tests = and_parts ((length (a ∷ b ∷ c ∷ d ∷ f ∷ word) == 4) && bytes_eq (a ∷ b ∷ c ∷ []) (codes "arg")) (is_in_range 49 56 d) found.0 in
+    let long = and_parts (length (a ∷ b ∷ c ∷ d ∷ f ∷ word) == 4) (bytes_eq (a ∷ b ∷ c ∷ []) (codes "arg")) tests.0 in
     let four : length (a ∷ b ∷ c ∷ d ∷ f ∷ word) ≡ 4 = eqb-true (length (a ∷ b ∷ c ∷ d ∷ f ∷ word)) 4 long.0 in
     absurd (omega arith)
 

@@ -4,6 +4,7 @@ use Rattle.std.specs.Option.{option_map_or}
 use Rattle.std.specs.List.{filter, slice_split, onto_first}
 use Rattle.std.proofs.lemmas.Bool.{eqb-true, ltb-true, lt-ltb}
 use Rattle.std.proofs.lemmas.Bool.Decides.{nat_tests}
+use Rattle.pt_base.proofs.Booleans.{if_false, if_true}
 use Rattle.pt_tree.specs.declared.signature.Signature.{Signature}
 use Rattle.policy.specs.Lines.{lines_of, words_of, is_passed_over, is_blank, is_word}
 use Rattle.policy.specs.Spelled.{SpelledRule}
@@ -19,7 +20,6 @@ use Rattle.policy.specs.declared.error.PolicyFault.{PolicyFault}
 use Rattle.policy.specs.declared.error.PolicyError.{PolicyError}
 use Rattle.policy.specs.declared.error.PolicyError.TheVariants.{Memory, Fault}
 use Rattle.policy.specs.declared.TheConstants.{RULE_LIMIT, TEXT_LIMIT}
-use Rattle.policy.proofs.OptionLemmas.{if_true, if_false}
 use Rattle.policy.proofs.RuleLaws.{rule_is, rule_gives}
 
 -- a line that is passed over spells no rule

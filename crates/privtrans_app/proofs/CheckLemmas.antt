@@ -1,6 +1,7 @@
 -- What the file of a check comes to.
 use Rattle.std.proofs.Common.{◌≡◌, ℕ, nat_eq, if◌then◌else◌, List, [], get_or, refl, sym, take, ◌∙◌, ap, subst, Option, Some, None, inl, inr}
 use Rattle.pt_base.specs.Files.{Files, GivesFirst}
+use Rattle.pt_base.proofs.Options.{some_same_bytes}
 use Rattle.flow_check.specs.Checked as flows
 use Rattle.flow_check.specs.Checked.{Outcome, refused, checked, lex, parse, types, flow}
 use Rattle.flow_check.proofs.Cuts.{cut_whole}
@@ -92,9 +93,6 @@ checked_come given manner program files cut reads reads' o o' writes writes' x l
 
 -- ---- the words and the file determine the text, its file's name and the manner
 
-some_is : (x y : List ℕ) → Some x ≡ Some y → x ≡ y
-some_is x y e = cc
-
 -- the manner that a word with this first letter asks for
 abbrev asked : ℕ → Manner
 asked letter = if nat_eq letter 99 then by_lines else (if nat_eq letter 101 then in_blocks else (if nat_eq letter 111 then as_outline else as_picture))
@@ -120,7 +118,7 @@ same_finds given files text text' a b f finds =
     let words = sym a.form.are ∙ b.form.are in
     let names : a.program_name ≡ b.program_name = word _ _ 1 words in
     let manners : a.manner ≡ b.manner = same_manner a.manner b.manner (word _ _ 0 words) in
-    let texts : text ≡ text' = some_is text text' (sym a.program ∙ ap files names ∙ b.program) in
+    let texts : text ≡ text' = some_same_bytes text text' (sym a.program ∙ ap files names ∙ b.program) in
     subst (λ (m : Manner). Finds m b.program_name text' f) manners
     (subst (λ (n : List ℕ). Finds a.manner n text' f) names (subst (λ (t : List ℕ). Finds a.manner a.program_name t f) texts finds))
 

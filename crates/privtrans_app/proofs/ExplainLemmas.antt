@@ -2,6 +2,7 @@
 use Rattle.std.proofs.Common.{◌≡◌, ◌≤◌, ℕ, true, List, [], ◌∷◌, get_or, refl, sym, take, ◌∙◌, ap, subst, arith, Option, Some, None, inr}
 use Rattle.std.specs.Prelude.{codes}
 use Rattle.pt_base.specs.Files.{Files}
+use Rattle.pt_base.proofs.Options.{some_same_bytes}
 use Rattle.pair_texts.specs.Laws as begun
 use Rattle.pair_texts.specs.Start.{IsRefused, Refusal}
 use Rattle.pair_explaining.specs.Laws.{first_bytes}
@@ -88,11 +89,8 @@ explained_come given words files cut reads reads' o o' writes writes' lines came
 abbrev codes_explain : Names → List (List ℕ)
 codes_explain n = codes "explain" ∷ n.program ∷ n.host ∷ n.policy ∷ []
 
-some_is : (x y : List ℕ) → Some x ≡ Some y → x ≡ y
-some_is x y e = cc
-
 held_at : (files : Files) (name name' x y : List ℕ) → name ≡ name' → files name ≡ Some x → files name' ≡ Some y → x ≡ y
-held_at files name name' x y same a b = some_is x y (sym a ∙ ap files same ∙ b)
+held_at files name name' x y same a b = some_same_bytes x y (sym a ∙ ap files same ∙ b)
 
 pub same_held : (given : List (List ℕ)) (files : Files) (n n' : Names) (t t' : Texts) → AreHeld given (Some files) n t → AreHeld given (Some files) n' t' → (n ≡ n') × (t ≡ t')
 same_held given files n n' t t' a b =

@@ -2,6 +2,7 @@
 use Rattle.std.proofs.Common.{◌≡◌, ◌⊎◌, ◌∙◌, ℕ, List, [], Option, arith, get_or, refl, sym, ap, subst, inl, inr}
 use Rattle.std.proofs.lemmas.Fmt.{decimal_injective}
 use Rattle.std.specs.Io.KnownBytes.{Appends}
+use Rattle.pair_runner.proofs.Parts.{keeps_nil}
 use Rattle.pt_base.specs.declared.chooser.Who.{Who}
 use Rattle.front_end.specs.FaultLinesSeen.{Seen}
 use Rattle.runs.specs.Run.{Expected}
@@ -20,7 +21,7 @@ use Rattle.privtrans_app.specs.LocalRun.{bytes_of, ending_at, ending_of}
 use Rattle.privtrans_app.specs.Whole.{Told}
 use Rattle.privtrans_app.proofs.CauseLemmas.{keeps_same}
 use Rattle.privtrans_app.proofs.InterleavingLemmas.{other}
-use Rattle.privtrans_app.proofs.ProcessLemmas.{Reported, keeps_appends}
+use Rattle.privtrans_app.proofs.ProcessLemmas.{Reported}
 use Rattle.privtrans_app.proofs.WholeLemmas.{pair_seen, seen}
 
 -- ---- the command
@@ -28,7 +29,7 @@ use Rattle.privtrans_app.proofs.WholeLemmas.{pair_seen, seen}
 -- texts with faults: nothing is written
 pub faults_come : (seed count : ℕ) (out : Option (List ℕ)) (writes : ℕ) (lines : List ℕ) → AreLinesOf (texts_of seed count) lines → ComesTo seed count out out writes writes (faults lines)
 faults_come seed count out writes lines are =
-    inl (refused are.refusal, (refused are.refusal, are.is, refl), inl (ap faults are.lines_are, keeps_appends out out (keeps_same out)))
+    inl (refused are.refusal, (refused are.refusal, are.is, refl), inl (ap faults are.lines_are, keeps_nil out out (keeps_same out)))
 
 -- what writing the line comes to
 pub ran_comes : (seed count : ℕ) (out out' : Option (List ℕ)) (writes writes' : ℕ) (line : List ℕ) (end : ends.Ended) (came : Ending) → generated.ComesTo seed count (ran line end)

@@ -3,6 +3,7 @@ use Rattle.std.proofs.Common.{◌≡◌, ℕ, Bool, true, false, ◌||◌, nat_e
 use Rattle.std.specs.Io.KnownBytes.{Appends}
 use Rattle.pt_base.specs.Files.{Files}
 use Rattle.pt_base.specs.declared.chooser.Who.{Who}
+use Rattle.pt_base.proofs.Booleans.{false_true_absurd}
 use Rattle.pair_meaning.specs.LinkChoosing.{AreTaken}
 use Rattle.pair_texts.specs.Start.{Texts}
 use Rattle.pair_running.specs.LocalPairEnds as ends
@@ -102,12 +103,9 @@ is_of_run n (inr (inl is)) = ap of_run is
 is_of_run n (inr (inr (inl is))) = ap of_run is
 is_of_run n (inr (inr (inr is))) = ap of_run is
 
-false_or_true : false ≡ true → ⊥
-false_or_true e = cc
-
 -- a status that is none of a run
 pub other : (n m : ℕ) → n ≡ m → of_run m ≡ false → IsOfRun n → ⊥
-other n m same apart is = false_or_true (sym apart ∙ sym (ap of_run same) ∙ is_of_run n is)
+other n m same apart is = false_true_absurd (sym apart ∙ sym (ap of_run same) ∙ is_of_run n is)
 
 by_ending : (words : List (List ℕ)) (files : Option Files) (told told' : Option (ℕ → Who)) (o o' : Option (List ℕ)) (status : ℕ) (e : Ending)
     → status ≡ status_of e → IsOfRun status → TakesTurns words files told told' o o' e → IsInterleaved words files told told' o o'
@@ -151,7 +149,7 @@ is_of_no_run n (inr (inr (inr is))) = ap of_no_run is
 
 -- a status of a run or of something that is done
 ran : (n m : ℕ) → n ≡ m → of_no_run m ≡ false → IsOfNoRun n → ⊥
-ran n m same apart is = false_or_true (sym apart ∙ sym (ap of_no_run same) ∙ is_of_no_run n is)
+ran n m same apart is = false_true_absurd (sym apart ∙ sym (ap of_no_run same) ∙ is_of_no_run n is)
 
 is_quiet : (status : ℕ) (e : Ending) → status ≡ status_of e → IsOfNoRun status → is_idle e ≡ true
 is_quiet status help is none = absurd (ran status 0 is refl none)

@@ -5,6 +5,7 @@ use Rattle.std.specs.Fmt.{decimal}
 use Rattle.std.specs.Io.KnownBytes.{Appends}
 use Rattle.std.proofs.lemmas.Fmt.{decimal_injective}
 use Rattle.pt_base.specs.Files.{Files}
+use Rattle.pt_base.proofs.Options.{some_same_bytes}
 use Rattle.pair_texts.specs.OutcomeSeen.{AreLinesOf}
 use Rattle.pair_texts.specs.Start.{Texts, lex, parse, types, host, policy, flow, input}
 use Rattle.pair_running.specs.LocalPairEnds as ends
@@ -107,11 +108,8 @@ same_turns given p h q i p' h' q' i' m w m' w' a b =
     let most' : m' ≤ 4294967295 = b.turns_most in
     decimal_injective m m' (omega arith) (omega arith) (ap (λ xs. get_or xs 5 []) (sym a.are ∙ b.are))
 
-some_is : (x y : List ℕ) → Some x ≡ Some y → x ≡ y
-some_is x y e = cc
-
 held_at : (files : Files) (name name' x y : List ℕ) → name ≡ name' → files name ≡ Some x → files name' ≡ Some y → x ≡ y
-held_at files name name' x y same a b = some_is x y (sym a ∙ ap files same ∙ b)
+held_at files name name' x y same a b = some_same_bytes x y (sym a ∙ ap files same ∙ b)
 
 pub same_held : (given : List (List ℕ)) (files : Files) (t t' : Texts) (m w m' w' : ℕ) → AreHeld given (Some files) t m w → AreHeld given (Some files) t' m' w' → (t ≡ t') × (m ≡ m')
 same_held given files t t' m w m' w' a b =

@@ -7,6 +7,7 @@ use Rattle.std.proofs.lemmas.Fmt.{decimal_injective}
 use Rattle.pt_base.specs.declared.end.End.{End}
 use Rattle.pt_base.specs.declared.end.End.TheVariants.{Exit, Trapped, Spent, Refused}
 use Rattle.pt_base.specs.Files.{Files}
+use Rattle.pt_base.proofs.Options.{some_same_bytes}
 use Rattle.original.specs.Original as original
 use Rattle.original.specs.Original.{Texts, Outcome, refused, ran, AreCut}
 use Rattle.original.specs.OutcomeSeen.{AreLinesOf}
@@ -106,11 +107,8 @@ same_turns given p h i p' h' i' m m' a b =
     let most' : m' ≤ 4294967295 = b.turns_most in
     decimal_injective m m' (omega arith) (omega arith) (ap (λ xs. get_or xs 4 []) (sym a.are ∙ b.are))
 
-some_is : (x y : List ℕ) → Some x ≡ Some y → x ≡ y
-some_is x y e = cc
-
 held_at : (files : Files) (name name' x y : List ℕ) → name ≡ name' → files name ≡ Some x → files name' ≡ Some y → x ≡ y
-held_at files name name' x y same a b = some_is x y (sym a ∙ ap files same ∙ b)
+held_at files name name' x y same a b = some_same_bytes x y (sym a ∙ ap files same ∙ b)
 
 pub same_orig : (given : List (List ℕ)) (files : Files) (t t' : Texts) (m m' : ℕ) → AreHeld given (Some files) t m → AreHeld given (Some files) t' m' → (t ≡ t') × (m ≡ m')
 same_orig given files t t' m m' a b =

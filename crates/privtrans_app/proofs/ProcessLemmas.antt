@@ -4,12 +4,14 @@ use Rattle.std.specs.Prelude.{codes}
 use Rattle.std.specs.Fmt.{decimal}
 use Rattle.std.specs.Io.KnownBytes.{Appends, Keeps}
 use Rattle.std.proofs.lemmas.Fmt.{decimal_injective}
-use Rattle.std.proofs.lemmas.List.{append-nil}
 use Rattle.pt_base.specs.Faults.{Rose}
 use Rattle.pt_base.specs.Files.{Files, Lacks}
 use Rattle.pt_base.specs.Talk.{Event}
+use Rattle.pt_base.proofs.Booleans.{false_true_absurd}
+use Rattle.pt_base.proofs.Options.{some_same_bytes}
 use Rattle.front_end.specs.FaultLinesSeen.{Seen, faulty}
 use Rattle.pair_runner.specs.declared.fault.RunFault.TheVariants.{LinkFailed, SinkFailed, BadPeer, PeerEnded, Memory}
+use Rattle.pair_runner.proofs.Parts.{keeps_nil}
 use Rattle.pair_texts.specs.Laws as begun
 use Rattle.pair_texts.specs.OutcomeSeen.{AreLinesOf}
 use Rattle.pair_texts.specs.Start.{IsRefused, Refusal, Texts, lines_of}
@@ -40,9 +42,6 @@ Names given words = IsProcessRun given words.names.program.now words.names.host.
 
 pub process_run : (given : List (List ℕ)) (words : RunWords) → Names given words → AreRun given (list_of words.names)
 process_run given words form = of_process_run _ _ _ _ _ form
-
-false_or_true : false ≡ true → ⊥
-false_or_true e = cc
 
 -- ---- files that aren't read
 
@@ -140,15 +139,15 @@ silent_so untouched moves breaks t turns (Ok (Refused lines)) silent served = se
 silent_so untouched moves breaks t turns (Ok (Ran end)) silent served = absurd (loud (ended_seen end) silent)
   where
     loud : (end : ends.Ended) → is_silent (ending_at end) ≡ true → ⊥
-    loud (ends.exit status) silent = false_or_true silent
-    loud (ends.trapped trap span) silent = false_or_true silent
-    loud ends.spent silent = false_or_true silent
-    loud (ends.refused call function state) silent = false_or_true silent
-silent_so untouched moves breaks t turns (Err LinkFailed) silent served = absurd (false_or_true silent)
-silent_so untouched moves breaks t turns (Err SinkFailed) silent served = absurd (false_or_true silent)
-silent_so untouched moves breaks t turns (Err (BadPeer rule offset)) silent served = absurd (false_or_true silent)
-silent_so untouched moves breaks t turns (Err PeerEnded) silent served = absurd (false_or_true silent)
-silent_so untouched moves breaks t turns (Err Memory) silent served = absurd (false_or_true silent)
+    loud (ends.exit status) silent = false_true_absurd silent
+    loud (ends.trapped trap span) silent = false_true_absurd silent
+    loud ends.spent silent = false_true_absurd silent
+    loud (ends.refused call function state) silent = false_true_absurd silent
+silent_so untouched moves breaks t turns (Err LinkFailed) silent served = absurd (false_true_absurd silent)
+silent_so untouched moves breaks t turns (Err SinkFailed) silent served = absurd (false_true_absurd silent)
+silent_so untouched moves breaks t turns (Err (BadPeer rule offset)) silent served = absurd (false_true_absurd silent)
+silent_so untouched moves breaks t turns (Err PeerEnded) silent served = absurd (false_true_absurd silent)
+silent_so untouched moves breaks t turns (Err Memory) silent served = absurd (false_true_absurd silent)
 
 -- a run that has run nothing writes nothing
 pub idle_so : (answer : Answer) → is_idle (ending_of answer) ≡ true → is_silent (ending_of answer) ≡ true
@@ -156,15 +155,15 @@ idle_so (Ok (Refused lines)) idle = refl
 idle_so (Ok (Ran end)) idle = absurd (busy (ended_seen end) idle)
   where
     busy : (end : ends.Ended) → is_idle (ending_at end) ≡ true → ⊥
-    busy (ends.exit status) idle = false_or_true idle
-    busy (ends.trapped trap span) idle = false_or_true idle
-    busy ends.spent idle = false_or_true idle
-    busy (ends.refused call function state) idle = false_or_true idle
-idle_so (Err LinkFailed) idle = absurd (false_or_true idle)
-idle_so (Err SinkFailed) idle = absurd (false_or_true idle)
-idle_so (Err (BadPeer rule offset)) idle = absurd (false_or_true idle)
-idle_so (Err PeerEnded) idle = absurd (false_or_true idle)
-idle_so (Err Memory) idle = absurd (false_or_true idle)
+    busy (ends.exit status) idle = false_true_absurd idle
+    busy (ends.trapped trap span) idle = false_true_absurd idle
+    busy ends.spent idle = false_true_absurd idle
+    busy (ends.refused call function state) idle = false_true_absurd idle
+idle_so (Err LinkFailed) idle = absurd (false_true_absurd idle)
+idle_so (Err SinkFailed) idle = absurd (false_true_absurd idle)
+idle_so (Err (BadPeer rule offset)) idle = absurd (false_true_absurd idle)
+idle_so (Err PeerEnded) idle = absurd (false_true_absurd idle)
+idle_so (Err Memory) idle = absurd (false_true_absurd idle)
 
 -- the ending of an answer, with its cause
 module _ (is : Texts → ℕ → Answer → Type 0) (given : List (List ℕ)) (files : Option Files) (reads reads' : ℕ) (o o' : Option (List ℕ)) (writes writes' links links' : ℕ) where
@@ -189,11 +188,8 @@ module _ (is : Texts → ℕ → Answer → Type 0) (given : List (List ℕ)) (f
 abbrev codes_run : List ℕ → List ℕ → List ℕ → List ℕ → ℕ → List (List ℕ)
 codes_run p h q i m = codes "run" ∷ p ∷ h ∷ q ∷ i ∷ decimal m ∷ []
 
-some_is : (x y : List ℕ) → Some x ≡ Some y → x ≡ y
-some_is x y e = cc
-
 held_at : (files : Files) (name name' x y : List ℕ) → name ≡ name' → files name ≡ Some x → files name' ≡ Some y → x ≡ y
-held_at files name name' x y same a b = some_is x y (sym a ∙ ap files same ∙ b)
+held_at files name name' x y same a b = some_same_bytes x y (sym a ∙ ap files same ∙ b)
 
 same_turns : (given : List (List ℕ)) (p h q i p' h' q' i' : List ℕ) (m m' : ℕ) → IsProcessRun given p h q i m → IsProcessRun given p' h' q' i' m' → m ≡ m'
 same_turns given p h q i p' h' q' i' m m' a b =
@@ -244,8 +240,8 @@ module _ (is : Texts → ℕ → Answer → Type 0) (words : List (List ℕ)) (f
   inside : (e : Ending) → from_outside (status_of e) ≡ false → Runs is words files e → Way e
   inside e apart runs = inr (inl (record {
     runs = runs;
-    link = λ same. absurd (false_or_true (sym apart ∙ ap (λ x. from_outside (status_of x)) same));
-    sink = λ same. absurd (false_or_true (sym apart ∙ ap (λ x. from_outside (status_of x)) same));
+    link = λ same. absurd (false_true_absurd (sym apart ∙ ap (λ x. from_outside (status_of x)) same));
+    sink = λ same. absurd (false_true_absurd (sym apart ∙ ap (λ x. from_outside (status_of x)) same));
   }))
 
   unread : (name : List ℕ) → Lacks files name ⊎ Rose reads reads' → ((missing name ≡ missing name) × Lacks files name) ⊎ Rose reads reads'
@@ -288,12 +284,6 @@ pub twelve : (report report' : Option (List ℕ)) (status : ℕ) → Reported me
 twelve report report' status (inl is) = is.0
 twelve report report' status (inr is) = is
 
--- nothing more came
-pub keeps_appends : (o o' : Option (List ℕ)) → Keeps o o' → Appends o o' []
-keeps_appends None o' k = tt
-keeps_appends (Some xs) None k = absurd k
-keeps_appends (Some xs) (Some ys) k = k ∙ sym (append-nil xs)
-
 -- what the texts of a pair give
 abbrev pub PairTold : Texts → ℕ → Option (List ℕ) → Option (List ℕ) → Option (List ℕ) → Option (List ℕ) → ℕ → Type 0
 PairTold t turns o o' report report' status = (status ≡ 12) ⊎ ((s : Seen) × pair_views.Gives t turns s × Told s o o' report report' status)
@@ -306,7 +296,7 @@ module _ (o o' report report' : Option (List ℕ)) (status : ℕ) where
   lines_told : (t : Texts) (lines : List ℕ) → AreLinesOf t lines → Keeps o o' → Reported (faults lines) report report' status → FaultsTold t o o' report report' status
   lines_told t lines are keeps (inr is) = inl is
   lines_told t lines are keeps (inl tells) =
-      inr (are.refusal, are.is, record { writes = keeps_appends o o' keeps; reports = subst (Appends report report') are.lines_are tells.1; ends = tells.0 })
+      inr (are.refusal, are.is, record { writes = keeps_nil o o' keeps; reports = subst (Appends report report') are.lines_are tells.1; ends = tells.0 })
 
   faults_as_pair : (t : Texts) (turns : ℕ) → FaultsTold t o o' report report' status → PairTold t turns o o' report report' status
   faults_as_pair t turns (inl is) = inl is

@@ -1,8 +1,9 @@
 -- What a slave's work comes to.
-use Rattle.std.proofs.Common.{◌≤◌, ◌⊎◌, ℕ, List, [], ◌∷◌, ◌++◌, take, Option, Some, None, Result, Ok, Err, OnOk, IfErr, refl, sym, ◌∙◌, ap, inl, inr, arith}
+use Rattle.std.proofs.Common.{◌≤◌, ◌⊎◌, ℕ, List, [], ◌∷◌, ◌++◌, Option, Some, None, Result, Ok, Err, OnOk, IfErr, refl, sym, ◌∙◌, inl, inr, arith}
 use Rattle.std.specs.Prelude.{⊤}
 use Rattle.std.specs.Io.KnownBytes.{Appends, Keeps}
 use Rattle.std.proofs.lemmas.List.{append-nil}
+use Rattle.pair_running.proofs.SpawnedPairLinks.{appends_kept, part_kept}
 use Rattle.pt_base.specs.Faults.{HasCause}
 use Rattle.pt_base.specs.Talk.{Event, gave}
 use Rattle.pt_base.specs.Told.{AppendsPart}
@@ -53,18 +54,6 @@ parts_other parts other on b = record {
 
 -- ---- since the link was inherited
 
-keeps_then : (a b c : Option (List ℕ)) (bytes : List ℕ) → Keeps a b → Appends b c bytes → Appends a c bytes
-keeps_then None b c bytes k is = tt
-keeps_then (Some x) None c bytes k is = absurd k
-keeps_then (Some x) (Some y) None bytes k is = absurd is
-keeps_then (Some x) (Some y) (Some z) bytes k is = is ∙ ap (λ xs. xs ++ bytes) k
-
-keeps_then_part : (a b c : Option (List ℕ)) (bytes : List ℕ) → Keeps a b → AppendsPart b c bytes → AppendsPart a c bytes
-keeps_then_part None b c bytes k is = tt
-keeps_then_part (Some x) None c bytes k is = absurd k
-keeps_then_part (Some x) (Some y) None bytes k is = absurd is
-keeps_then_part (Some x) (Some y) (Some z) bytes k is = (is.0, is.1 ∙ ap (λ xs. xs ++ take is.0 bytes) k)
-
 nothing_part : (a b : Option (List ℕ)) → Keeps a b → AppendsPart a b []
 nothing_part None b k = tt
 nothing_part (Some x) None k = absurd k
@@ -75,7 +64,7 @@ module _ {S : Type 0} (inherits : S → S → Type 0) (came : S → List Event �
   inherited became talk talked = record { link = m; became = became; sent_so = sent_kept; given_so = given_kept; talked = talked }
 
   parts_since : (g t : List ℕ) → Parts sent given m s' g t → Parts sent given s s' g t
-  parts_since g t p = record { given_so = keeps_then (given s) (given m) (given s') g given_kept p.given_so; sent_so = keeps_then_part (sent s) (sent m) (sent s') t sent_kept p.sent_so }
+  parts_since g t p = record { given_so = appends_kept (given s) (given m) (given s') g given_kept p.given_so; sent_so = part_kept (sent s) (sent m) (sent s') t sent_kept p.sent_so }
 
   -- what the work over it comes to
   pub work_comes : (f0 f1 f2 : ℕ) (answer : Result ⊤ WorkFault) → f0 ≤ f1 → OnOk answer (Stops (Talks came sent given m s') has_ended)
@@ -96,7 +85,7 @@ none_said sent given s s' sent_kept given_kept = record {
   frames = [];
   ending = open_end;
   stream = inl (omega arith);
-  broke = inl (record { given_so = keeps_then (given s) (given s') (given s') [] given_kept (nothing_more (given s')); sent_so = nothing_part (sent s) (sent s') sent_kept });
+  broke = inl (record { given_so = appends_kept (given s) (given s') (given s') [] given_kept (nothing_more (given s')); sent_so = nothing_part (sent s) (sent s') sent_kept });
 }
   where
     nothing_more : (a : Option (List ℕ)) → Appends a a []

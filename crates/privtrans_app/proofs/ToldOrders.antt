@@ -7,8 +7,9 @@ use Rattle.std.specs.Ordering.{nat_cmp, ordering_reverse}
 use Rattle.std.specs.declared.cmp.Ordering.{Ordering}
 use Rattle.std.specs.declared.cmp.Ordering.TheVariants.{Less, Equal}
 use Rattle.std.proofs.lemmas.Cmp.{nat_cmp_total, on_total, then_total}
-use Rattle.pt_base.proofs.SortedLists.{ascending, ascends, both_tie, from_ascending, in_ascending, in_cases, in_nothing, numbers_tie}
-use Rattle.pt_base.specs.declared.span.Span.{Span}
+use Rattle.flow_picture.proofs.OrderLemmas.{span_total}
+use Rattle.pt_base.proofs.SortedLists.{ascending, ascends, both_tie, from_ascending, in_ascending, numbers_tie}
+use Rattle.pt_base.proofs.Members.{contains_cases, contains_nothing}
 use Rattle.typed_tree.specs.TypedTree.{TypedTree}
 use Rattle.flow_rules.specs.declared.fault.FlowFault.{FlowFault}
 use Rattle.flow_rules.specs.Faults.{fault_cmp, span_cmp}
@@ -21,8 +22,8 @@ use Rattle.explaining.specs.Order.{AreInTurn, beginning, beginning_cmp, known, s
 module _ {K : Type 0} (R : K → K → Ordering) where
   -- a member of a list that is above x as a whole is above it
   member_above : (x : K) (xs : List K) (y : K) → AllByRecursion (λ z. R x z ≡ Less) xs → Contains xs y → R x y ≡ Less
-  member_above x [] y all h = absurd (in_nothing y h)
-  member_above x (z ∷ xs) y all h = go (member_above x xs y all.1) (in_cases z xs y h)
+  member_above x [] y all h = absurd (contains_nothing y h)
+  member_above x (z ∷ xs) y all h = go (member_above x xs y all.1) (contains_cases z xs y h)
     where
       go : (Contains xs y → R x y ≡ Less) → (z ≡ y) ⊎ Contains xs y → R x y ≡ Less
       go rest (inl e) = subst (λ (w : K). R x w ≡ Less) e all.0
@@ -38,8 +39,8 @@ module _ {K : Type 0} (R : K → K → Ordering) (total : IsTotalOrder R) where
   -- members of a strictly ascending list that tie are one
   tied_are_one : (xs : List K) → IsStrictlySortedBy R xs → (x y : K) → R x y ≡ Equal → Contains xs x → Contains xs y → x ≡ y
   unfolding IsStrictlySortedBy
-  tied_are_one [] up x y tie a b = absurd (in_nothing x a)
-  tied_are_one (z ∷ xs) up x y tie a b = go (tied_are_one xs up.1 x y tie) (in_cases z xs x a) (in_cases z xs y b)
+  tied_are_one [] up x y tie a b = absurd (contains_nothing x a)
+  tied_are_one (z ∷ xs) up x y tie a b = go (tied_are_one xs up.1 x y tie) (contains_cases z xs x a) (contains_cases z xs y b)
     where
       go : (Contains xs x → Contains xs y → x ≡ y) → (z ≡ x) ⊎ Contains xs x → (z ≡ y) ⊎ Contains xs y → x ≡ y
       go rest (inl p) (inl q) = sym p ∙ q
@@ -76,9 +77,6 @@ homes_ascend t =
     }
 
 -- ---- faults
-
-span_total : IsTotalOrder span_cmp
-span_total = then_total (on_total (λ (s : Span). s.from) nat_cmp_total) (on_total (λ (s : Span). s.to) nat_cmp_total)
 
 fault_total : IsTotalOrder fault_cmp
 fault_total = then_total (on_total (λ (f : FlowFault). f.span) span_total) (on_total (λ (f : FlowFault). rule_number f.rule) nat_cmp_total)

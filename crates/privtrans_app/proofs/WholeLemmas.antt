@@ -1,6 +1,7 @@
 -- Of told files, where no count of faults rose, a command tells what its texts give, or memory was wanting.
 use Rattle.std.proofs.Common.{◌≡◌, ◌∙◌, ◌⊎◌, ℕ, List, [], length, get_or, refl, sym, ap, subst, Option, Some, None, inl, inr}
 use Rattle.std.specs.Io.KnownBytes.{Appends, Keeps}
+use Rattle.pair_runner.proofs.Parts.{keeps_nil}
 use Rattle.pt_base.specs.declared.end.End.{End}
 use Rattle.pt_base.specs.declared.end.End.TheVariants.{Exit, Trapped, Spent, Refused}
 use Rattle.pt_base.specs.Faults.{Rose}
@@ -45,7 +46,7 @@ use Rattle.privtrans_app.proofs.CheckLemmas.{no_check_of, same_finds}
 use Rattle.privtrans_app.proofs.ExplainLemmas as explanations
 use Rattle.privtrans_app.proofs.LocalLemmas.{same_comes}
 use Rattle.privtrans_app.proofs.OrigLemmas.{same_orig}
-use Rattle.privtrans_app.proofs.ProcessLemmas.{PairTold, Reported, keeps_appends, process_faults, process_told, reported, twelve}
+use Rattle.privtrans_app.proofs.ProcessLemmas.{PairTold, Reported, process_faults, process_told, reported, twelve}
 
 -- the words are a split of files of one list of names
 word : (words words' : List (List ℕ)) (n : ℕ) → words ≡ words' → get_or words n [] ≡ get_or words' n []
@@ -159,7 +160,7 @@ module _ (words : List (List ℕ)) (files : Files) (reads reads' : ℕ) (o o' : 
   by_pair t turns window held (missing name) came tells = absurd (none_missing name (local_held words files t turns window held) came)
   by_pair t turns window held (read_fault name) came tells = absurd (r came.1)
   by_pair t turns window held write_fault came tells = absurd (w came.0)
-  by_pair t turns window held (faults lines) came tells = pair_told words files o o' report report' status t turns window held [] (faults lines) came.0 (keeps_appends o o' came.1) tells
+  by_pair t turns window held (faults lines) came tells = pair_told words files o o' report report' status t turns window held [] (faults lines) came.0 (keeps_nil o o' came.1) tells
   by_pair t turns window held (drawn lines) came tells = pair_told words files o o' report report' status t turns window held came.0 (drawn lines) came.1 came.2 tells
   by_pair t turns window held (trapped trap span) came tells = pair_told words files o o' report report' status t turns window held came.0 (trapped trap span) came.1 came.2 tells
   by_pair t turns window held (endings.refused call function state) came tells =
@@ -181,7 +182,7 @@ module _ (words : List (List ℕ)) (files : Files) (reads reads' : ℕ) (o o' : 
   by_orig t turns held (missing name) came tells = absurd (none_missing name (orig_held words files t turns held) came)
   by_orig t turns held (read_fault name) came tells = absurd (r came.1)
   by_orig t turns held write_fault came tells = absurd (w came.0)
-  by_orig t turns held (faults lines) came tells = orig_told words files o o' report report' status t turns held [] (faults lines) came.0 (keeps_appends o o' came.1) tells
+  by_orig t turns held (faults lines) came tells = orig_told words files o o' report report' status t turns held [] (faults lines) came.0 (keeps_nil o o' came.1) tells
   by_orig t turns held (drawn lines) came tells = orig_told words files o o' report report' status t turns held came.0 (drawn lines) came.1 came.2 tells
   by_orig t turns held (trapped trap span) came tells = orig_told words files o o' report report' status t turns held came.0 (trapped trap span) came.1 came.2 tells
   by_orig t turns held (endings.refused call function state) came tells = orig_told words files o o' report report' status t turns held came.0 (endings.refused call function state) came.1 came.2 tells
@@ -202,7 +203,7 @@ module _ (words : List (List ℕ)) (files : Files) (reads reads' : ℕ) (o o' : 
   by_check text held (missing name) came tells = absurd (none_missing name (check_held words files text held) came)
   by_check text held (read_fault name) came tells = absurd (r came.1)
   by_check text held write_fault came tells = absurd (w came.0)
-  by_check text held (faults lines) came tells = check_told words files o o' report report' status text held [] (faults lines) came.0 (keeps_appends o o' came.1) tells
+  by_check text held (faults lines) came tells = check_told words files o o' report report' status text held [] (faults lines) came.0 (keeps_nil o o' came.1) tells
   by_check text held (drawn lines) came tells = check_told words files o o' report report' status text held came.0 (drawn lines) came.1 came.2 tells
   by_check text held (trapped trap span) came tells = check_told words files o o' report report' status text held came.0 (trapped trap span) came.1 came.2 tells
   by_check text held (endings.refused call function state) came tells = check_told words files o o' report report' status text held came.0 (endings.refused call function state) came.1 came.2 tells
@@ -223,7 +224,7 @@ module _ (words : List (List ℕ)) (files : Files) (reads reads' : ℕ) (o o' : 
   by_explain names t held (missing name) came tells = absurd (none_missing name (explain_held words files names t held) came)
   by_explain names t held (read_fault name) came tells = absurd (r came.1)
   by_explain names t held write_fault came tells = absurd (w came.0)
-  by_explain names t held (faults lines) came tells = explain_told words files o o' report report' status names t held [] (faults lines) came.0 (keeps_appends o o' came.1) tells
+  by_explain names t held (faults lines) came tells = explain_told words files o o' report report' status names t held [] (faults lines) came.0 (keeps_nil o o' came.1) tells
   by_explain names t held (drawn lines) came tells = explain_told words files o o' report report' status names t held came.0 (drawn lines) came.1 came.2 tells
   by_explain names t held (trapped trap span) came tells = explain_told words files o o' report report' status names t held came.0 (trapped trap span) came.1 came.2 tells
   by_explain names t held (endings.refused call function state) came tells = explain_told words files o o' report report' status names t held came.0 (endings.refused call function state) came.1 came.2 tells
@@ -248,7 +249,7 @@ module _ (names : Names) (files : Files) (files' : Option Files) (reads reads' f
       inr (
         halves.split slave monitor,
         subst (λ (x : List ℕ). halves.ComesTo x (halves.split slave monitor)) same is.2,
-        record { writes = keeps_appends o o' keeps; reports = tells.1; ends = tells.0 },
+        record { writes = keeps_nil o o' keeps; reports = tells.1; ends = tells.0 },
         (s, m),
       )
 
@@ -259,7 +260,7 @@ module _ (names : Names) (files : Files) (files' : Option Files) (reads reads' f
       inr (
         halves.refused is.2.0,
         subst (λ (x : List ℕ). halves.ComesTo x (halves.refused is.2.0)) same is.2.1,
-        record { writes = keeps_appends o o' keeps; reports = subst (Appends report report') is.2.2 tells.1; ends = tells.0 },
+        record { writes = keeps_nil o o' keeps; reports = subst (Appends report report') is.2.2 tells.1; ends = tells.0 },
         same_files,
       )
 

@@ -55,7 +55,7 @@ free seeds seeds' edges edges' slots marks marks' are are' ss ss' es es' s =
 
 -- ---- the least set
 
-leads_push : (edges : List Edge) (path : List ℕ) (a b : Slot) (k : ℕ) → Leads edges path a b → k < length edges → from_of edges k ≡ b → Leads edges (path ++ k ∷ []) a (to_of edges k)
+pub leads_push : (edges : List Edge) (path : List ℕ) (a b : Slot) (k : ℕ) → Leads edges path a b → k < length edges → from_of edges k ≡ b → Leads edges (path ++ k ∷ []) a (to_of edges k)
 leads_push edges [] a b k h lt f = (lt, f ∙ sym h, refl)
 leads_push edges (j ∷ path) a b k h lt f = (h.0, h.1, leads_push edges path (to_of edges j) b k h.2 lt f)
 

@@ -2,8 +2,8 @@
 use Rattle.std.proofs.Common.{◌≡◌, ℕ, Bool, true, false, List, [], ◌∷◌, Some, refl, subst, arith}
 use Rattle.std.specs.Prelude.{IsTrue, nat_eq, if◌then◌else◌}
 use Rattle.std.specs.List.{list_all, find}
+use Rattle.pt_base.proofs.Booleans.{both_hold_first, both_hold_second}
 use Rattle.typed_tree.specs.WellFormed.{structs_sound}
-use Rattle.typed_tree.proofs.WellFormedLemmas.{and_left, and_right}
 use Rattle.pt_core.specs.CodeTree.{FunctionTree, ProgramTree}
 use Rattle.pt_core.specs.WellFormed.{are_in_order, global_fits, are_small, signature_fits, function_fits, callees, callee_fits, function_at, is_sound}
 
@@ -19,26 +19,26 @@ pub record Facts (monitor : Bool) (p : ProgramTree) : Type 0 where
 
 pub facts_of : (monitor : Bool) (p : ProgramTree) → IsTrue (is_sound monitor p) → Facts monitor p
 facts_of monitor p h =
-    let declared = and_left _ _ h in
-    let rest = and_right _ _ h in
-    let code = and_right _ _ rest in
+    let declared = both_hold_first _ _ h in
+    let rest = both_hold_second _ _ h in
+    let code = both_hold_second _ _ rest in
     record {
-      order = and_left _ _ declared;
-      structs = and_right _ _ declared;
-      globals = and_left _ _ (and_left _ _ rest);
-      small = and_right _ _ (and_left _ _ rest);
-      signatures = and_left _ _ (and_left _ _ code);
-      functions = and_right _ _ (and_left _ _ code);
-      calls = and_right _ _ code;
+      order = both_hold_first _ _ declared;
+      structs = both_hold_second _ _ declared;
+      globals = both_hold_first _ _ (both_hold_first _ _ rest);
+      small = both_hold_second _ _ (both_hold_first _ _ rest);
+      signatures = both_hold_first _ _ (both_hold_first _ _ code);
+      functions = both_hold_second _ _ (both_hold_first _ _ code);
+      calls = both_hold_second _ _ code;
     }
 
 -- what holds of each holds of the first that passes a test
 pub found_holds : {A : Type 0} (keep test : A → Bool) (xs : List A) (a : A) → IsTrue (list_all keep xs) → find test xs ≡ Some a → IsTrue (keep a) × IsTrue (test a)
 found_holds keep test [] a h is = grind (arith, is)
-found_holds keep test (x ∷ xs) a h is = go (test x) refl is (found_holds keep test xs a (and_right _ _ h))
+found_holds keep test (x ∷ xs) a h is = go (test x) refl is (found_holds keep test xs a (both_hold_second _ _ h))
   where
     go : (b : Bool) → test x ≡ b → (if b then Some x else find test xs) ≡ Some a → (find test xs ≡ Some a → IsTrue (keep a) × IsTrue (test a)) → IsTrue (keep a) × IsTrue (test a)
-    go true passes e later = let same : x ≡ a = grind (arith, e) in (subst (λ y. IsTrue (keep y)) same (and_left _ _ h), subst (λ y. IsTrue (test y)) same passes)
+    go true passes e later = let same : x ≡ a = grind (arith, e) in (subst (λ y. IsTrue (keep y)) same (both_hold_first _ _ h), subst (λ y. IsTrue (test y)) same passes)
     go false passes e later = later e
 
 -- a function of a sound program, by its number

@@ -5,6 +5,7 @@ use Rattle.std.specs.Ordering.{int_eq}
 use Rattle.std.proofs.lemmas.Int.{ints}
 use Rattle.std.proofs.Math.Nat.{div-le_self, div-lt_self}
 use Rattle.std.proofs.lemmas.Bool.Decides.{Decides-int_eq}
+use Rattle.std.proofs.lemmas.Bool.{false_from_ne_true}
 use Rattle.pt_base.specs.declared.int_type.IntType.{IntType}
 use Rattle.pt_base.specs.declared.int_type.IntType.TheVariants.{Char, SChar, UChar, Short, UShort, Int, UInt, Long, ULong}
 use Rattle.pt_base.specs.declared.trap.Trap.{Trap}
@@ -55,7 +56,7 @@ quotient-in_range t (negsuc n) (negsuc zero) p r other =
     subst (λ (q : ℕ). InRange t (pos q)) whole (turned t n p (other refl))
 quotient-in_range t (negsuc n) (negsuc (suc m)) p r other = back t n (suc n / suc (suc m)) p (half n m)
 
-in_range-test : (t : IntType) (v : ℤ) → InRange t v → is_in_range t v ≡ true
+pub in_range-test : (t : IntType) (v : ℤ) → InRange t v → is_in_range t v ≡ true
 in_range-test t v p = grind (arith, ints)
 
 picked : (s i : Bool) (v w : ℤ) → i ≡ true → w ≡ v → ◌≡◌ {A = Result ℤ Trap} (if s then (if i then Ok v else Err Overflow) else Ok w) (Ok v)
@@ -65,13 +66,9 @@ picked false i v w e f = ap Ok f
 fitted-same : (t : IntType) (v : ℤ) → InRange t v → fitted t v ≡ Ok v
 fitted-same t v p = picked (is_signed t) (is_in_range t v) v (conv t v) (in_range-test t v p) (conv-same t v p)
 
-not_true : (b : Bool) → (b ≡ true → ⊥) → b ≡ false
-not_true true h = absurd (h refl)
-not_true false h = refl
-
 pub quotient-is : (t : IntType) (a b : ℤ) → HasQuotient t a b → quotient_of t a b ≡ Ok (int_div a b)
 quotient-is t a b h =
-    let some : int_eq b (pos 0) ≡ false = not_true (int_eq b (pos 0)) (λ e. h.0 ((Decides-int_eq b (pos 0)).0 e)) in
+    let some : int_eq b (pos 0) ≡ false = false_from_ne_true (int_eq b (pos 0)) (λ e. h.0 ((Decides-int_eq b (pos 0)).0 e)) in
     rw some (fitted-same t (int_div a b) h.1)
 
 least-turned : (t : IntType) → InRange t (negsuc 0) → quotient_of t (low_of t) (negsuc 0) ≡ Err Overflow

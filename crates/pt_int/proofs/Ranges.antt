@@ -27,7 +27,7 @@ if-ok : (b : Bool) (r s : Result ℤ Trap) (P : ℤ → Type 0) → (b ≡ true 
 if-ok true r s P h k = h refl
 if-ok false r s P h k = k
 
-in_range-test : (t : IntType) (v : ℤ) → is_in_range t v ≡ true → InRange t v
+pub in_range-test : (t : IntType) (v : ℤ) → is_in_range t v ≡ true → InRange t v
 in_range-test t v h = (grind (arith, ints), grind (arith, ints))
 
 fitted-range : (t : IntType) (v : ℤ) → IfOk (fitted t v) (InRange t)

@@ -7,6 +7,7 @@ use Rattle.std.specs.BTreeMap.{insert_entry}
 use Rattle.std.specs.Map.{lookup}
 use Rattle.std.specs.Ordering.{int_cmp, int_eq, is_eq, match_ordering, ordering_then}
 use Rattle.std.specs.declared.alloc.Global.{Global}
+use Rattle.pt_base.proofs.Orders.{is_eq_equal}
 use Rattle.pt_tree.specs.HostStep.{same_numbers, first_result}
 use Rattle.pt_tree.specs.RowIndex.{IsIndexOf}
 use Rattle.pt_tree.specs.declared.row.Row.{Row}
@@ -49,15 +50,10 @@ by_other_tests true false v w rest apart = refl
 by_other_tests false true v w rest apart = refl
 by_other_tests false false v w rest apart = refl
 
-is_Equal : (o : Ordering) → is_eq o ≡ true → o ≡ Equal
-is_Equal Less e = absurd (true≢false (sym e))
-is_Equal Equal e = refl
-is_Equal Greater e = absurd (true≢false (sym e))
-
 -- nothing is equal to two lists that differ
 apart : (args k e : List ℤ) → cmp k e ≡ Greater → is_eq (cmp args k) ≡ true → is_eq (cmp args e) ≡ true → ⊥
 apart args k e greater here there =
-    true≢false (sym (ap is_eq (sym (total.congr args k e (is_Equal (cmp args k) here)) ∙ is_Equal (cmp args e) there)) ∙ ap is_eq greater)
+    true≢false (sym (ap is_eq (sym (total.congr args k e (is_eq_equal (cmp args k) here)) ∙ is_eq_equal (cmp args e) there)) ∙ ap is_eq greater)
 
 -- an entry more
 found-insert_entry : (order : Vec ℤ Global → Vec ℤ Global → Ordering) → ((a b : Vec ℤ Global) → order a b ≡ cmp a.items b.items) → (args : List ℤ) (key : Vec ℤ Global) (v : ℤ) (entries : Entries)

@@ -8,15 +8,17 @@ use Rattle.std.proofs.lemmas.List.Elements.{Contains-append_left, Contains-appen
 use Rattle.pt_base.specs.declared.ids.FnId.{FnId}
 use Rattle.pt_base.specs.declared.slot.Slot.{Slot}
 use Rattle.pt_base.specs.declared.slot.Edge.{Edge}
+use Rattle.pt_base.proofs.Members.{contains_cases, contains_first, contains_later, contains_nothing}
 use Rattle.typed_tree.specs.TypedTree.{FunctionTree, TypedTree}
 use Rattle.typed_tree.specs.Lookup.{function_named, HasName}
-use Rattle.propagation.specs.Paths.{no_edge, from_of, to_of, Leads, IsPriv}
+use Rattle.propagation.specs.Paths.{no_edge, to_of, Leads, IsPriv}
+use Rattle.propagation.proofs.LawLemmas.{leads_push}
 use Rattle.reach.specs.declared.calls.Half.{Half}
 use Rattle.reach.specs.declared.calls.Half.TheVariants.{Monitor, Slave}
 use Rattle.reach.specs.CallGraph.{is_entered, call_edge, calls_of, calls_from, call_edges, main_start, privileged_from, half_starts}
 use Rattle.reach.specs.Contexts.{test_function, has_body, is_privileged, is_plain, callees_in, Calls, InMonitor, privileged, monitor_calls, InSlave, main, slave_calls}
 use Rattle.reach.specs.Reached.{InHalf, IsReached}
-use Rattle.reach.proofs.ListLemmas.{contains_nothing, contains_first, contains_later, contains_cases, contains_map, from_map, contains_filter, from_filter}
+use Rattle.reach.proofs.ListLemmas.{contains_map, from_map, contains_filter, from_filter}
 
 -- ---- the edges
 
@@ -161,14 +163,10 @@ along t half (k ∷ path) a b h start =
 pub priv_in : (t : TypedTree) (half : Half) → NamesMain t → (s : Slot) → IsPriv (half_starts t half) (call_edges t half) s → InHalf t half (fn_of s)
 priv_in t half names s h = along t half h.1 h.0 s h.3 (start_in t half names h.0 h.2)
 
-leads_on : (edges : List Edge) (path : List ℕ) (a b : Slot) (k : ℕ) → Leads edges path a b → k < length edges → from_of edges k ≡ b → Leads edges (path ++ k ∷ []) a (to_of edges k)
-leads_on edges [] a b k h lt from = (lt, from ∙ sym h, refl)
-leads_on edges (j ∷ path) a b k h lt from = (h.0, h.1, leads_on edges path (to_of edges j) b k h.2 lt from)
-
 one_more : (seeds : List Slot) (edges : List Edge) (e : Edge) → Contains edges e → IsPriv seeds edges e.from → IsPriv seeds edges e.to
 one_more seeds edges e c h =
     let is : get_or edges c.0 no_edge ≡ e = get_or_default edges c.0 no_edge e c.1 ∙ c.2 in
-    (h.0, h.1 ++ c.0 ∷ [], h.2, subst (λ (x : Slot). Leads edges (h.1 ++ c.0 ∷ []) h.0 x) (ap (λ (x : Edge). x.to) is) (leads_on edges h.1 h.0 e.from c.0 h.3 c.1 (ap (λ (x : Edge). x.from) is)))
+    (h.0, h.1 ++ c.0 ∷ [], h.2, subst (λ (x : Slot). Leads edges (h.1 ++ c.0 ∷ []) h.0 x) (ap (λ (x : Edge). x.to) is) (leads_push edges h.1 h.0 e.from c.0 h.3 c.1 (ap (λ (x : Edge). x.from) is)))
 
 calls_on : (t : TypedTree) (half : Half) (f g : FnId) → f.0 < length t.functions → Calls t f g → test_function (is_entered half) t g ≡ true → IsPriv (half_starts t half) (call_edges t half) (slot_of f) → IsPriv (half_starts t half) (call_edges t half) (slot_of g)
 calls_on t half f g lt calls enters h =

@@ -4,9 +4,10 @@ use Rattle.std.specs.List.{All, AllPairs, Contains}
 use Rattle.std.proofs.Math.ListN.{set, length-set, replicate}
 use Rattle.std.proofs.lemmas.List.Elements.{All-nil, All-cons, All-map, All-weaker}
 use Rattle.std.proofs.lemmas.List.Kept.{AllPairs-cons}
+use Rattle.pt_base.proofs.Members.{contains_cases, contains_first, contains_later, contains_nothing}
 use Rattle.reach.specs.Sorted.{Lists}
 use Rattle.reach.specs.Tables.{places_true, set_all}
-use Rattle.reach.proofs.ListLemmas.{contains_nothing, contains_first, contains_later, contains_cases, contains_map, from_map}
+use Rattle.reach.proofs.ListLemmas.{contains_map, from_map}
 
 -- ---- the places of what is true
 

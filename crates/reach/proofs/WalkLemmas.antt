@@ -1,5 +1,5 @@
 -- Lists that code gathers one by one.
-use Rattle.std.proofs.Common.{◌≡◌, ◌∙◌, ◌<◌, ◌↔◌, ℕ, zero, suc, ◌+◌, ◌-◌, refl, ap, sym, arith, Bool, true, false, Option, Some, None, List, [], ◌∷◌, ◌++◌, length, map, get_or, cond}
+use Rattle.std.proofs.Common.{◌≡◌, ◌∙◌, ◌<◌, ◌↔◌, ℕ, zero, suc, ◌+◌, ◌-◌, refl, ap, sym, Bool, true, false, Option, Some, None, List, [], ◌∷◌, ◌++◌, length, map, get_or, cond}
 use Rattle.std.specs.Prelude.{Vec, if◌then◌else◌, is_some, MatchOption, vec_len}
 use Rattle.std.specs.declared.alloc.Global.{Global}
 use Rattle.std.specs.Vec.{with_items}
@@ -8,6 +8,7 @@ use Rattle.std.proofs.Math.ListN.{set, length-set}
 use Rattle.std.proofs.lemmas.List.{map-append, with_items_is}
 use Rattle.pt_base.specs.declared.slot.Slot.{Slot}
 use Rattle.pt_base.specs.declared.slot.Edge.{Edge}
+use Rattle.pt_base.proofs.Members.{range_first}
 use Rattle.typed_tree.specs.TypedTree.{FunctionTree, TypedTree}
 use Rattle.propagation.specs.Paths.{IsPriv, IsShortestPath}
 use Rattle.propagation.specs.Marks.{AreMarks, Shown, path_shown}
@@ -49,10 +50,6 @@ filter_append test (x ∷ xs) ys = go (filter_append test xs ys) (test x)
 pub chosen_append : {X Y : Type 0} (f : X → Y) (test : X → Bool) (xs ys : List X) → map f (filter test (xs ++ ys)) ≡ map f (filter test xs) ++ map f (filter test ys)
 chosen_append f test xs ys = ap (map f) (filter_append test xs ys) ∙ map-append f (filter test xs) (filter test ys)
 
--- the numbers from k up to n, of which the first is left out
-pub range_on : (k n : ℕ) → k < n → range_with_len k (n - k) ≡ k ∷ range_with_len (k + 1) (n - (k + 1))
-range_on k n h = ap (range_with_len k) (let e : n - k ≡ suc (n - (k + 1)) = omega arith in e)
-
 -- ---- calls
 
 pub calls_on : (t : TypedTree) (half : Half) (k more : ℕ) (edges edges' all : List Edge) → edges' ≡ edges ++ calls_of t half k → edges ++ calls_from t half k (suc more) ≡ all → edges' ++ calls_from t half (suc k) more ≡ all
@@ -88,7 +85,7 @@ pub leaf_on : (test : ℕ → Bool) (start k n : ℕ) (table table' all : List B
     set_all table (map (λ j. start + j) (filter test (range_with_len k (n - k)))) ≡ all → set_all table' (map (λ j. start + j) (filter test (range_with_len (k + 1) (n - (k + 1))))) ≡ all
 leaf_on test start k n table table' all lt e h =
     sets_on table table' all (map (λ j. start + j) (filter test (k ∷ []))) (map (λ j. start + j) (filter test (range_with_len (k + 1) (n - (k + 1))))) e
-    (ap (set_all table) (sym (ap (λ xs. map (λ j. start + j) (filter test xs)) (range_on k n lt) ∙ chosen_append (λ j. start + j) test (k ∷ []) (range_with_len (k + 1) (n - (k + 1))))) ∙ h)
+    (ap (set_all table) (sym (ap (λ xs. map (λ j. start + j) (filter test xs)) (range_first k n lt) ∙ chosen_append (λ j. start + j) test (k ∷ []) (range_with_len (k + 1) (n - (k + 1))))) ∙ h)
 
 -- ---- one body, and then the others
 

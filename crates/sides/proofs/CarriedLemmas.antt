@@ -1,20 +1,13 @@
 -- What the forms of an expression carry, in code's steps.
 use Rattle.std.proofs.Common.{◌≡◌, ◌∙◌, ◌≤◌, ℕ, zero, suc, ◌+◌, refl, ap, sym, arith, Option, List, [], ◌∷◌, ◌++◌, length, take, drop}
 use Rattle.pt_base.specs.declared.ids.FnId.{FnId}
+use Rattle.pt_base.proofs.Places.{drop_front, take_front}
 use Rattle.typed_tree.specs.declared.types.VarTy.{VarTy}
 use Rattle.typed_tree.specs.ExpressionTree as t
 use Rattle.typed_tree.specs.ExpressionTree.{ExprTree, FormTree, ExprTrees, LinkTrees, RootTree, StepTrees, place}
 use Rattle.sides.specs.Carried.{Scope, carried, form_slots, place_slots, root_slots, root_type, steps_offset}
 use Rattle.sides.specs.Moved.{moved, links_moved}
 use Rattle.sides.proofs.MovedLemmas.{moved_twice, links_are}
-
-pub take_left : (xs ys : List ℕ) → take (length xs) (xs ++ ys) ≡ xs
-take_left [] ys = refl
-take_left (x ∷ xs) ys = ap (λ zs. x ∷ zs) (take_left xs ys)
-
-pub drop_left : (xs ys : List ℕ) → drop (length xs) (xs ++ ys) ≡ ys
-drop_left [] ys = refl
-drop_left (x ∷ xs) ys = drop_left xs ys
 
 pub take_taken : (n : ℕ) (xs ys : List ℕ) → n ≤ length xs → take n (take n xs ++ ys) ≡ take n xs
 take_taken zero xs ys h = refl
@@ -57,8 +50,8 @@ chain_done c by ty form a a' ls ls' before old mid new f ea el eb em en =
     en
     ∙ ap (λ n. take n mid ++ links_moved c by (drop n mid) ls') eb
     ∙ ap (λ xs. take (length old) xs ++ links_moved c by (drop (length old) xs) ls') em
-    ∙ ap (λ xs. xs ++ links_moved c by (drop (length old) (old ++ moved by (carried c a'))) ls') (take_left old (moved by (carried c a')))
-    ∙ ap (λ xs. old ++ links_moved c by xs ls') (drop_left old (moved by (carried c a')))
+    ∙ ap (λ xs. xs ++ links_moved c by (drop (length old) (old ++ moved by (carried c a'))) ls') (take_front old (moved by (carried c a')))
+    ∙ ap (λ xs. old ++ links_moved c by xs ls') (drop_front old (moved by (carried c a')))
     ∙ ap (λ x. old ++ links_moved c by (moved by (carried c x)) ls') ea
     ∙ ap (λ x. old ++ links_moved c by (moved by (carried c a)) x) el
     ∙ ap (λ xs. old ++ xs) (sym (links_are c by (carried c a) ls))

@@ -5,6 +5,7 @@ use Rattle.std.specs.List.{Contains, list_any}
 use Rattle.std.proofs.Math.ListN.{set}
 use Rattle.std.proofs.lemmas.Bool.Decides.{nat_tests}
 use Rattle.std.proofs.lemmas.List.Elements.{Contains-append_cases}
+use Rattle.pt_base.proofs.Members.{contains_cases, contains_first, contains_later, contains_nothing}
 use Rattle.indexmap.specs.IndexSet.{insert_key}
 use Rattle.indexmap.proofs.CallerLemmas.{Contains-list_any}
 use Rattle.sides.specs.contracts.outs.SealedPartialEq.TheImpl as sealed_eq
@@ -13,7 +14,6 @@ use Rattle.sides.specs.declared.outs.Sealed.{Sealed}
 use Rattle.sides.specs.declared.slots.SlotInfo.{SlotInfo}
 use Rattle.sides.specs.Outs.{IsNoted, Remembers, behind_start, out_of}
 use Rattle.reach.specs.Tables.{set_all}
-use Rattle.reach.proofs.ListLemmas.{contains_cases, contains_first, contains_later, contains_nothing}
 use Rattle.reach.proofs.TableLemmas.{set_all_keeps, set_all_has}
 use Rattle.reach.proofs.WalkLemmas.{long_all}
 

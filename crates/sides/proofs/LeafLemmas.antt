@@ -1,10 +1,11 @@
 -- The leaves of structs, as they are counted and gone over.
-use Rattle.std.proofs.Common.{◌≡◌, ◌∙◌, ◌≤◌, ◌<◌, ℕ, zero, suc, ◌+◌, ◌-◌, refl, ap, sym, arith, Bool, true, false, Option, Some, None, List, [], ◌∷◌, ◌++◌, length, length-append, map, append_assoc}
+use Rattle.std.proofs.Common.{◌≡◌, ◌∙◌, ◌≤◌, ◌<◌, ℕ, zero, suc, ◌+◌, ◌-◌, refl, ap, sym, arith, Bool, false, Option, Some, None, List, [], ◌∷◌, ◌++◌, length, length-append, map, append_assoc}
 use Rattle.std.specs.Prelude.{◌||◌, slice_get, get_or, take}
 use Rattle.std.proofs.Math.ListN.{get_or-append}
 use Rattle.std.proofs.Math.Seq.{get_or-append_seam}
 use Rattle.std.proofs.lemmas.List.{append-nil, length-map, map-append, take_all, get_or_past}
 use Rattle.std.proofs.lemmas.Option.{get_or_from_slice_get}
+use Rattle.pt_base.proofs.Booleans.{or_assoc, or_with_false}
 use Rattle.pt_tree.specs.declared.signature.Elem.{Elem}
 use Rattle.pt_tree.specs.declared.signature.Elem.TheVariants as e
 use Rattle.typed_tree.specs.declared.types.VarTy.{VarTy}
@@ -138,10 +139,6 @@ all_below structs ty = ap (λ ss. type_leaves (leaves_after [] ss) ty) (take_all
 
 -- ---- slots of leaves
 
-or_assoc : (a b c : Bool) → (a || (b || c)) ≡ ((a || b) || c)
-or_assoc true b c = refl
-or_assoc false b c = refl
-
 behind_field : (owner : Owner) (path : List ℕ) (marked : Bool) (k : ℕ) (field : Bool) (leaf : Leaf) → slot_behind owner path marked (leaf_of_field k field leaf) ≡ slot_behind owner (path ++ k ∷ []) (marked || field) leaf
 behind_field owner path marked k field leaf =
     let paths : path ++ (k ∷ leaf.path) ≡ (path ++ k ∷ []) ++ leaf.path = sym (append_assoc path (k ∷ []) leaf.path) in
@@ -154,15 +151,11 @@ behind_fields owner path marked k field (l ∷ ls) =
     ap (λ x. x ∷ map (slot_behind owner path marked) (map (leaf_of_field k field) ls)) (behind_field owner path marked k field l)
     ∙ ap (λ xs. slot_behind owner (path ++ k ∷ []) (marked || field) l ∷ xs) (behind_fields owner path marked k field ls)
 
-or_false : (a : Bool) → (a || false) ≡ a
-or_false true = refl
-or_false false = refl
-
 -- the slot of a leaf that is all of an object
 pub leaf_is : (owner : Owner) (path : List ℕ) (marked : Bool) → slot_behind owner path marked whole ≡ record { owner = owner; path = path; marked = marked }
 leaf_is owner path marked =
     let paths = append-nil path in
-    let marks = or_false marked in
+    let marks = or_with_false marked in
     λ i. record { owner = owner; path = paths i; marked = marks i }
 
 pub named_is : (known : List (List Leaf)) (ty : VarTy) → named_leaves known (named_struct ty) ≡ type_leaves known ty

@@ -2,7 +2,7 @@
 use Rattle.std.proofs.Common.{◌≡◌, ◌∙◌, ◌<◌, ◌⊎◌, ℕ, zero, suc, refl, ap, sym, subst, arith, inl, inr, List, [], ◌∷◌, length, map, get_or}
 use Rattle.std.specs.List.{All, AllPairs, Contains}
 use Rattle.std.proofs.lemmas.List.Elements.{All-contains}
-use Rattle.reach.proofs.ListLemmas.{contains_cases, contains_first, contains_later, contains_nothing}
+use Rattle.pt_base.proofs.Members.{contains_cases, contains_first, contains_later, contains_nothing}
 
 module _ {X K : Type 0} (key : X → K) (R : K → K → Type 0) (one_way : (a b : K) → R a b → R b a → ⊥) where
   abbrev InOrder : List X → Type 0

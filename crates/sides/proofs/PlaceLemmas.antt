@@ -1,11 +1,13 @@
 -- The lists that `place` gives have exactly the members that the definitions say.
 use Rattle.std.proofs.Common.{◌≡◌, ◌∙◌, ◌<◌, ◌↔◌, ℕ, zero, suc, refl, ap, sym, subst, arith, ◌⊎◌, inl, inr, Bool, true, false, List, [], ◌∷◌, length, map, get_or}
-use Rattle.std.specs.Prelude.{◌&&◌, ◌||◌, replicate}
+use Rattle.std.specs.Prelude.{◌||◌, replicate}
 use Rattle.std.specs.List.{Contains, flat_map}
 use Rattle.std.proofs.lemmas.List.{length-map, length-replicate}
+use Rattle.std.proofs.lemmas.Bool.{and_from}
 use Rattle.pt_base.specs.declared.ids.FnId.{FnId}
 use Rattle.pt_base.specs.declared.ids.GlobalId.{GlobalId}
 use Rattle.pt_base.specs.declared.slot.Slot.{Slot}
+use Rattle.pt_base.proofs.Booleans.{and_true_first, and_true_second}
 use Rattle.typed_tree.specs.TypedTree.{TypedTree}
 use Rattle.reach.specs.declared.calls.Half.{Half}
 use Rattle.reach.specs.declared.calls.Half.TheVariants.{Slave}
@@ -62,18 +64,6 @@ stands t table owned r own (Variable f v) = r.same f
 stands t table owned r own (Global g) = own g
 stands t table owned r own (Result f) = (λ h. tt, λ h. refl)
 
-both_left : (a b : Bool) → (a && b) ≡ true → a ≡ true
-both_left true b h = refl
-both_left false b h = cc
-
-both_right : (a b : Bool) → (a && b) ≡ true → b ≡ true
-both_right true b h = h
-both_right false b h = cc
-
-both : (a b : Bool) → a ≡ true → b ≡ true → (a && b) ≡ true
-both true b h k = k
-both false b h k = cc
-
 marked_at : (test : SlotInfo → Bool) (slots : List SlotInfo) (k : ℕ) → get_or (map test slots) k false ≡ true → (k < length slots) × (test (get_or slots k no_slot) ≡ true)
 marked_at test [] k h = cc
 marked_at test (s ∷ ss) zero h = (omega arith, h)
@@ -92,7 +82,7 @@ module _ (t : TypedTree) (table owned : List Bool) (r : IsReached t Slave table)
       go (inl e) =
           let m = marked_at (is_marked_slot t table owned) (slots_of t) s.0 e in
           let x : SlotInfo = slot_at t s.0 in
-          (m.0, inl ((stands t table owned r own (slot_at t s.0).owner).0 (both_left (stands_in table owned (slot_at t s.0).owner) (owner_marked t (slot_at t s.0).owner || (slot_at t s.0).marked) m.1), both_right (stands_in table owned (slot_at t s.0).owner) (owner_marked t (slot_at t s.0).owner || (slot_at t s.0).marked) m.1))
+          (m.0, inl ((stands t table owned r own (slot_at t s.0).owner).0 (and_true_first (stands_in table owned (slot_at t s.0).owner) (owner_marked t (slot_at t s.0).owner || (slot_at t s.0).marked) m.1), and_true_second (stands_in table owned (slot_at t s.0).owner) (owner_marked t (slot_at t s.0).owner || (slot_at t s.0).marked) m.1))
       go (inr i) =
           let long = length-map (slots_of t) (is_marked_slot t table owned) in
           let f = from_flat (sealed_in t) fs s.0 i.1 in
@@ -101,7 +91,7 @@ module _ (t : TypedTree) (table owned : List Bool) (r : IsReached t Slave table)
   is_seed : (s : Slot) → IsSeed t s → get_or (seed_table t table owned (slots_of t) fs) s.0 false ≡ true
   is_seed s (lt, inl m) =
       set_all_keeps (map (is_marked_slot t table owned) (slots_of t)) (flat_map (sealed_in t) fs) s.0
-      (at_marked (is_marked_slot t table owned) (slots_of t) s.0 lt (both (stands_in table owned (slot_at t s.0).owner) (owner_marked t (slot_at t s.0).owner || (slot_at t s.0).marked) ((stands t table owned r own (slot_at t s.0).owner).1 m.0) m.1))
+      (at_marked (is_marked_slot t table owned) (slots_of t) s.0 lt (and_from (stands_in table owned (slot_at t s.0).owner) (owner_marked t (slot_at t s.0).owner || (slot_at t s.0).marked) ((stands t table owned r own (slot_at t s.0).owner).1 m.0) m.1))
   is_seed s (lt, inr x) =
       let long = length-map (slots_of t) (is_marked_slot t table owned) in
       set_all_has (map (is_marked_slot t table owned) (slots_of t)) (flat_map (sealed_in t) fs) s.0 (omega (arith, long))

@@ -20,7 +20,7 @@ function_count_on count fs rest f n n' own total split is more e =
     let here : n + functions_count count fs ≡ n + (types_count count (variable_types f) + functions_count count rest) = ap (λ xs. n + functions_count count xs) split in
     omega (arith, here, is, more, e)
 
-results_long : (k : ℕ) (fs : List FunctionTree) → length (results_slots k fs) ≡ length fs
+pub results_long : (k : ℕ) (fs : List FunctionTree) → length (results_slots k fs) ≡ length fs
 results_long k [] = refl
 results_long k (f ∷ fs) = ap suc (results_long (suc k) fs)
 

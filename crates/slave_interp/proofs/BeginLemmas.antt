@@ -1,16 +1,16 @@
 -- The slave of a well-formed boot, as code begins it.
 use Rattle.std.proofs.Common.{◌≡◌, ◌∙◌, ◌+◌, ◌<◌, ◌≤◌, ◌^◌, ℕ, zero, suc, nat_eq, refl, sym, ap, subst, arith, nat_cmp, List, [], ◌∷◌, drop, get_or, map, length, Bool, true, false, Option, Some, None}
-use Rattle.std.specs.Prelude.{IsTrue, All, ◌&&◌, codes, if◌then◌else◌, nat_le, option_map, unwrap_or}
+use Rattle.std.specs.Prelude.{IsTrue, All, ◌&&◌, codes, if◌then◌else◌, option_map, unwrap_or}
 use Rattle.std.specs.List.{IsDistinct, find, list_all}
 use Rattle.std.specs.Str.{bytes_eq}
 use Rattle.std.specs.List.Sorted.{IsStrictlySortedBy}
 use Rattle.std.specs.Map.{keys_of, lookup}
-use Rattle.std.proofs.lemmas.Bool.Decides.{nat_tests}
 use Rattle.pt_base.specs.declared.ids.FnId.{FnId}
+use Rattle.pt_base.proofs.Booleans.{both_hold_first, both_hold_second, false_not_true}
+use Rattle.pt_base.proofs.Numbers.{nat_eq_same}
 use Rattle.pt_tree.specs.declared.host_model.HostModel.{HostModel}
 use Rattle.pt_tree.specs.declared.signature.Signature.{Signature}
 use Rattle.typed_tree.specs.WellFormed.{are_rising}
-use Rattle.typed_tree.proofs.WellFormedLemmas.{and_left, and_right}
 use Rattle.host_models.specs.Fitting.{fits}
 use Rattle.host_table.specs.Hosts.{Hosts, models_by}
 use Rattle.host_table.specs.RunHosts.{models_of}
@@ -21,10 +21,10 @@ use Rattle.pt_core.proofs.WellFormedLemmas.{facts_of}
 use Rattle.core_steps_law.specs.WholeRun.{begun_machine}
 use Rattle.core_machine.specs.Machines.{Shown}
 use Rattle.core_machine.specs.Sound as machine
-use Rattle.core_machine.proofs.RiseLemmas.{RiseFrom, sorted_from_rise}
-use Rattle.core_soundness_law.proofs.Leaves.{never}
+use Rattle.core_machine.proofs.RiseLemmas.{sorted_from_rise}
+use Rattle.core_machine.proofs.SoundLemmas.{rise_from}
 use Rattle.pair_meaning.specs.SlaveRun.{slave_of}
-use Rattle.slave_soundness_law.proofs.Beginning.{slaves_begin_sound}
+use Rattle.slave_soundness_law.proofs.Beginning.{slaves_begin_sound, boot_parts}
 use Rattle.slave_interp.specs.declared.doing.Doing.TheVariants.{Goes}
 use Rattle.slave_interp.specs.declared.engine.Engine.{Engine}
 use Rattle.slave_interp.specs.Beginning.{main_among}
@@ -37,11 +37,10 @@ use Rattle.slave_interp.proofs.HearingLemmas.{begun_hosts}
 
 program_parts : (p : ProgramTree) → IsTrue (is_well_formed p) → IsTrue (is_sound false p)
 unfolding is_well_formed
-program_parts p h = and_left (is_sound false p) (has_main p) h
+program_parts p h = both_hold_first (is_sound false p) (has_main p) h
 
-boot_parts : (b : BootTree) → IsTrue (is_well_formed_boot fits b) → IsTrue (is_well_formed (boot_program b)) × IsTrue (hosts_fit fits (boot_program b) b.hosts)
 unfolding is_well_formed_boot
-boot_parts b h = (and_left (is_well_formed (boot_program b)) (hosts_fit fits (boot_program b) b.hosts) h, and_right (is_well_formed (boot_program b)) (hosts_fit fits (boot_program b) b.hosts) h)
+boot_parts b h = (both_hold_first (is_well_formed (boot_program b)) (hosts_fit fits (boot_program b) b.hosts) h, both_hold_second (is_well_formed (boot_program b)) (hosts_fit fits (boot_program b) b.hosts) h)
 
 pub boot_sound : (b : BootTree) → IsTrue (is_well_formed_boot fits b) → IsTrue (is_sound false (boot_program b))
 boot_sound b h = program_parts (boot_program b) (boot_parts b h).0
@@ -56,27 +55,20 @@ abbrev ordered : BootTree → Bool
 ordered b = are_rising 0 (map (λ h. h.0) b.hosts)
 
 pub hosts_rise : (b : BootTree) → IsTrue (is_well_formed_boot fits b) → IsTrue (are_rising 0 (map (λ h. h.0) b.hosts))
-hosts_rise b h = and_left (ordered b) (modelled b) (and_left (ordered b && modelled b) (answered b) (boot_parts b h).1)
+hosts_rise b h = both_hold_first (ordered b) (modelled b) (both_hold_first (ordered b && modelled b) (answered b) (boot_parts b h).1)
 
 hosts_are_modelled : (b : BootTree) → IsTrue (is_well_formed_boot fits b) → IsTrue (list_all (host_fits fits (boot_program b)) b.hosts)
-hosts_are_modelled b h = and_right (ordered b) (modelled b) (and_left (ordered b && modelled b) (answered b) (boot_parts b h).1)
+hosts_are_modelled b h = both_hold_second (ordered b) (modelled b) (both_hold_first (ordered b && modelled b) (answered b) (boot_parts b h).1)
 
 pub signatures_rise : (p : ProgramTree) → IsTrue (is_sound false p) → IsTrue (are_rising 0 (map (λ x. x.0) p.signatures))
 signatures_rise p h =
-    and_left (are_rising 0 (map (λ (x : ℕ × Signature). x.0) p.signatures)) (are_rising 0 (map (λ (f : FunctionTree). f.id) p.functions) && are_rising 0 (map (λ (g : GlobalTree). g.id) p.globals))
+    both_hold_first (are_rising 0 (map (λ (x : ℕ × Signature). x.0) p.signatures)) (are_rising 0 (map (λ (f : FunctionTree). f.id) p.functions) && are_rising 0 (map (λ (g : GlobalTree). g.id) p.globals))
     (facts_of false p h).order
 
 pub machine_sound : (p : ProgramTree) → IsTrue (is_sound false p) → machine.IsSound p
 machine_sound p h = (false, h)
 
 -- ---- hosts by number
-
-rise_from : (low : ℕ) (ks : List ℕ) → IsTrue (are_rising low ks) → RiseFrom low ks
-rise_from low [] h = tt
-rise_from low (k ∷ ks) h =
-    let first = and_left (nat_le low k) (are_rising (suc k) ks) h in
-    let least : low ≤ k = grind (arith, nat_tests, first) in
-    (least, rise_from (suc k) ks (and_right (nat_le low k) (are_rising (suc k) ks) h))
 
 keys_are : (hosts : List (ℕ × HostModel)) → map (λ (h : ℕ × HostModel). h.0) hosts ≡ keys_of hosts
 keys_are [] = refl
@@ -86,23 +78,20 @@ keys_are (h ∷ hosts) = ap (λ ks. h.0 ∷ ks) (keys_are hosts)
 pub models_differ : (hosts : List (ℕ × HostModel)) → IsTrue (are_rising 0 (map (λ h. h.0) hosts)) → IsDistinct nat_eq (keys_of hosts)
 models_differ hosts h = distinct_from_sorted hosts (subst (λ ks. IsStrictlySortedBy nat_cmp ks) (keys_are hosts) (sorted_from_rise 0 (map (λ (x : ℕ × HostModel). x.0) hosts) (rise_from 0 (map (λ (x : ℕ × HostModel). x.0) hosts) h)))
 
-equal : (m n : ℕ) → nat_eq m n ≡ true → m ≡ n
-equal m n e = grind (arith, nat_tests)
-
 -- what has a model has a signature
 no_model_without : (p : ProgramTree) (hosts : List (ℕ × HostModel)) → IsTrue (list_all (host_fits fits p) hosts) → (f : ℕ) → signature_at p f ≡ None → lookup (nat_eq f) hosts ≡ None
 no_model_without p [] all f none = refl
-no_model_without p (h ∷ hosts) all f none = go (nat_eq f h.0) refl (no_model_without p hosts (and_right (host_fits fits p h) (list_all (host_fits fits p) hosts) all) f none)
+no_model_without p (h ∷ hosts) all f none = go (nat_eq f h.0) refl (no_model_without p hosts (both_hold_second (host_fits fits p h) (list_all (host_fits fits p) hosts) all) f none)
   where
     unsigned : (o : Option Signature) → o ≡ None → IsTrue (host_by fits h.1 o) → ⊥
-    unsigned None e k = never k
+    unsigned None e k = false_not_true k
     unsigned (Some s) e k = clash e
       where
         clash : Some s ≡ None → ⊥
         clash e = cc
 
     go : (b : Bool) → nat_eq f h.0 ≡ b → lookup (nat_eq f) hosts ≡ None → (if b then Some h.1 else lookup (nat_eq f) hosts) ≡ None
-    go true e more = absurd (unsigned (signature_at p h.0) (ap (λ n. signature_at p n) (sym (equal f h.0 e)) ∙ none) (and_left (host_fits fits p h) (list_all (host_fits fits p) hosts) all))
+    go true e more = absurd (unsigned (signature_at p h.0) (ap (λ n. signature_at p n) (sym (nat_eq_same f h.0 e)) ∙ none) (both_hold_first (host_fits fits p h) (list_all (host_fits fits p) hosts) all))
     go false e more = more
 
 -- ---- the beginning

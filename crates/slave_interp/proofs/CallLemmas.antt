@@ -5,6 +5,7 @@ use Rattle.std.specs.Map.{lookup}
 use Rattle.std.proofs.Math.Logic.{∥∥₁_elim, ∥∥₁_prop}
 use Rattle.std.proofs.Props.{props}
 use Rattle.std.proofs.lemmas.List.{length-append}
+use Rattle.pt_base.proofs.Booleans.{truth_is_prop}
 use Rattle.pt_tree.specs.declared.signature.Signature.{Signature}
 use Rattle.typed_tree.specs.declared.types.StructInfo.{StructInfo}
 use Rattle.block_memory.specs.declared.cell.Cell.{Cell}
@@ -37,9 +38,6 @@ use Rattle.slave_interp.specs.declared.calling.Packed.{Packed}
 use Rattle.slave_interp.specs.declared.engine.Engine.{Engine}
 use Rattle.slave_interp.specs.Engines.{IsPacked, MayCall, Runs}
 use Rattle.slave_interp.specs.Returning.{MayReturn}
-
-true_set : (b : Bool) → IsProp (IsTrue b)
-true_set b = hlevel props
 
 false_set : (b : Bool) → IsProp (b ≡ false)
 false_set b = hlevel props
@@ -86,10 +84,10 @@ module _ (e : Engine) (f : ℕ) (args : List Cell) (x : Blocks) (structs : List 
   same y runs = same_call e f x structs sig seen y runs
 
   pub whole : IsTrue (are_whole x args)
-  whole = ∥∥₁_elim may (true_set _) (λ c. subst (λ (blocks : Blocks). IsTrue (are_whole blocks args)) (sym (same c.slave c.runs).blocks) c.packable.whole)
+  whole = ∥∥₁_elim may (truth_is_prop _) (λ c. subst (λ (blocks : Blocks). IsTrue (are_whole blocks args)) (sym (same c.slave c.runs).blocks) c.packable.whole)
 
   pub structs_there : IsTrue (has_structs structs sig.params)
-  structs_there = ∥∥₁_elim may (true_set _) (λ c.
+  structs_there = ∥∥₁_elim may (truth_is_prop _) (λ c.
       subst (λ (t : Signature). IsTrue (has_structs structs t.params)) (sym (same c.slave c.runs).signature)
       (subst (λ (ss : List StructInfo). IsTrue (has_structs ss (signature_in c.slave.program f).params)) (sym (same c.slave c.runs).structs_is) c.packable.there))
 

@@ -4,6 +4,7 @@ use Rattle.std.specs.Prelude.{ℤ, pos, if◌then◌else◌, option_map, unwrap_
 use Rattle.std.specs.Map.{lookup}
 use Rattle.std.proofs.lemmas.Bool.Decides.{nat_tests}
 use Rattle.pt_base.specs.declared.ids.FnId.{FnId}
+use Rattle.pt_base.proofs.Numbers.{nat_eq_same}
 use Rattle.pt_tree.specs.HostStep.{Answer, host_step}
 use Rattle.pt_tree.specs.declared.host_model.HostModel.{HostModel}
 use Rattle.pt_tree.specs.declared.signature.Signature.{Signature}
@@ -24,9 +25,6 @@ use Rattle.slave_interp.specs.Hearings.{hearing_answer, hearing_of, hearing_way,
 
 -- ---- lists by number
 
-equal : (m n : ℕ) → nat_eq m n ≡ true → m ≡ n
-equal m n e = grind (arith, nat_tests)
-
 back : (m n : ℕ) → nat_eq m n ≡ false → nat_eq n m ≡ false
 back m n e = grind (arith, nat_tests)
 
@@ -37,7 +35,7 @@ found_by {A} F g (e ∷ es) = go (nat_eq g e.0) refl (found_by F g es)
   where
     go : (b : Bool) → nat_eq g e.0 ≡ b → lookup (nat_eq g) (map (λ (x : ℕ × A). (x.0, F x.0 x.1)) es) ≡ option_map (F g) (lookup (nat_eq g) es) →
         (if b then Some (F e.0 e.1) else lookup (nat_eq g) (map (λ (x : ℕ × A). (x.0, F x.0 x.1)) es)) ≡ option_map (F g) (if b then Some e.1 else lookup (nat_eq g) es)
-    go true t more = ap (λ n. Some (F n e.1)) (sym (equal g e.0 t))
+    go true t more = ap (λ n. Some (F n e.1)) (sym (nat_eq_same g e.0 t))
     go false t more = more
 
 -- ---- one host's model changes
@@ -56,7 +54,7 @@ put_is models f next stays g = ap model_or_none (found_by (λ n model. if nat_eq
     replaced same (Some model) e = refl
 
     go : (b : Bool) → nat_eq g f ≡ b → model_or_none (option_map (λ model. if b then next else model) (lookup (nat_eq g) models)) ≡ (if b then next else model_or_none (lookup (nat_eq g) models))
-    go true t = replaced (equal g f t) (lookup (nat_eq g) models) refl
+    go true t = replaced (nat_eq_same g f t) (lookup (nat_eq g) models) refl
     go false t = kept (lookup (nat_eq g) models)
 
 pub hearing_shows : (program : ProgramTree) → Shows told_of (λ h. h.signatures) program.signatures (gate_of hearing_way hearing_answer) (slave_gate program)

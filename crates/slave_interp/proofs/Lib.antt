@@ -5,5 +5,5 @@ mod MovedLemmas
 mod ReachedLemmas
 mod ReturnLemmas
 mod SignedLemmas
-mod SlaveLemmas
+pub mod SlaveLemmas
 mod WalkLemmas

@@ -3,6 +3,7 @@ use Rattle.std.proofs.Common.{◌≡◌, ◌∙◌, ◌⊎◌, inl, inr, ◌+◌
 use Rattle.std.specs.Prelude.{is_some}
 use Rattle.std.proofs.Math.Logic.{∥∥₁_elim, ∥∥₁_prop}
 use Rattle.std.proofs.Props.{props}
+use Rattle.pt_base.proofs.Numbers.{below_is_prop}
 use Rattle.block_memory.specs.declared.cell.Cell.{Cell}
 use Rattle.wire.specs.declared.message.Message.{Message}
 use Rattle.runs.specs.Run.{deepest}
@@ -38,9 +39,6 @@ use Rattle.slave_interp.proofs.WalkLemmas.{Walk, has_heard, steps_of, walk}
 
 less_set : (m n : ℕ) → IsProp (m ≤ n)
 less_set m n = hlevel props
-
-below_set : (m n : ℕ) → IsProp (m < n)
-below_set m n = hlevel props
 
 -- so many steps of the definitions under the gate of code
 abbrev code_steps : ProgramTree → ℕ → Machine → Hearing → Step Hearing
@@ -145,7 +143,7 @@ pub may_ask : (e : Engine) (x : code.Machine) (g h : Hearing) (r : Stepped) (lef
     (f : ℕ) (args : List Cell) (depth : ℕ) → answer_of r ≡ asked f args depth → MayAsk (record e { machine = x; gate = h }) f args depth
 may_ask e x g h r left most some cleared went f args depth is = (
   ∥∥₁_elim some ∥∥₁_prop (λ at. ∣ may_call (record e { machine = x; gate = h }) (answer_of r) left most at.0 (reached e x g h r left most cleared at.0 at.1 went) f args depth is ∣₁),
-  ∥∥₁_elim some (below_set _ _) (λ at. shallow depth ((reached e x g h r left most cleared at.0 at.1 went).ready_for f args depth is).depth_is),
+  ∥∥₁_elim some (below_is_prop _ _) (λ at. shallow depth ((reached e x g h r left most cleared at.0 at.1 went).ready_for f args depth is).depth_is),
 )
   where
     shallow : (d : ℕ) → d ≤ deepest → d < 256

@@ -1,8 +1,8 @@
 -- Cells that come back, block by block.
-use Rattle.std.proofs.Common.{◌≡◌, ◌∙◌, ◌<◌, ℕ, refl, ap, arith, sym, subst, List, [], ◌∷◌, Bool, true, false, drop, get_or, length}
+use Rattle.std.proofs.Common.{◌≡◌, ◌∙◌, ◌<◌, refl, ap, arith, sym, subst, List, [], ◌∷◌, Bool, true, false, drop, get_or, length}
 use Rattle.std.specs.Prelude.{if◌then◌else◌}
 use Rattle.std.proofs.Math.Logic.{∥∥₁_elim, ∥∥₁_prop}
-use Rattle.std.proofs.Props.{props}
+use Rattle.pt_base.proofs.Numbers.{equal_is_prop}
 use Rattle.block_memory.specs.declared.cell.BlockName.{BlockName}
 use Rattle.block_memory.specs.declared.cell.Cell.{Cell}
 use Rattle.block_memory.specs.Blocks.{Blocks, is_same_name, put}
@@ -15,15 +15,12 @@ use Rattle.marshalling.specs.declared.returned.ReturnedBlock.{ReturnedBlock}
 use Rattle.marshalling.specs.Returns.{AreAsLong, with_cells}
 use Rattle.slave_interp.specs.Returning.{MayReturn}
 
-numbers_set : (m n : ℕ) → IsProp (m ≡ n)
-numbers_set m n = hlevel props
-
 -- the blocks of a machine are those that it shows
 shown_blocks : (program : ProgramTree) (x : Machine) (m : s.Machine) → Shown program x m → m.blocks ≡ (state_of x).blocks
 shown_blocks program x m shown = ap (λ (k : s.Machine). k.blocks) shown.shows.same
 
 pub first_long : (x : Machine) (b : ReturnedBlock) (rest : List ReturnedBlock) → MayReturn x (b ∷ rest) → length b.cells.items ≡ length ((state_of x).blocks b.name).cells
-first_long x b rest may = ∥∥₁_elim may (numbers_set _ _) (λ r. r.long.0 ∙ ap (λ (blocks : Blocks). length (blocks b.name).cells) (shown_blocks r.program x r.machine r.shown))
+first_long x b rest may = ∥∥₁_elim may (equal_is_prop _ _) (λ r. r.long.0 ∙ ap (λ (blocks : Blocks). length (blocks b.name).cells) (shown_blocks r.program x r.machine r.shown))
 
 -- as many cells in the place of a block's own leave all blocks as long as they were
 still_long : (x : Blocks) (name : BlockName) (cells : List Cell) → length cells ≡ length (x name).cells → (blocks : List ReturnedBlock) → AreAsLong x blocks → AreAsLong (put x name (record (x name) { cells = cells })) blocks

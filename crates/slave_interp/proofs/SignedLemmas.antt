@@ -1,22 +1,23 @@
 -- A signature that stands at a place.
-use Rattle.std.proofs.Common.{◌≡◌, ◌∙◌, ◌<◌, ◌≤◌, ℕ, zero, suc, List, [], ◌∷◌, length, map, get_or, Bool, true, false, cond, Some, refl, sym, ap, subst, arith, nat_eq}
+use Rattle.std.proofs.Common.{◌≡◌, ◌∙◌, ◌<◌, ◌≤◌, ℕ, zero, suc, List, [], ◌∷◌, length, map, get_or, Some, refl, sym, ap, subst, arith, nat_eq}
 use Rattle.std.proofs.lemmas.Bool.Decides.{nat_tests}
 use Rattle.std.specs.Map.{lookup}
 use Rattle.std.specs.Prelude.{IsTrue, nat_le}
 use Rattle.pt_base.specs.declared.ids.FnId.{FnId}
+use Rattle.pt_base.proofs.Booleans.{both_hold_first, both_hold_second, cond_false, cond_true}
+use Rattle.pt_base.proofs.Numbers.{nat_eq_from_suc, nat_eq_true_turned}
 use Rattle.pt_tree.specs.declared.signature.Signature.{Signature}
 use Rattle.typed_tree.specs.WellFormed.{are_rising}
-use Rattle.typed_tree.proofs.WellFormedLemmas.{and_left, and_right}
 use Rattle.pt_core.specs.CodeTree.{numbered}
 
 abbrev Rise : ℕ → List (FnId × Signature) → Type 0
 Rise low xs = IsTrue (are_rising low (map (λ s. s.0) (numbered xs)))
 
 head_is : (low : ℕ) (x : FnId × Signature) (xs : List (FnId × Signature)) → Rise low (x ∷ xs) → low ≤ x.0.0
-head_is low x xs h = let first = and_left (nat_le low x.0.0) (are_rising (suc x.0.0) (map (λ s. s.0) (numbered xs))) h in grind (arith, nat_tests, first)
+head_is low x xs h = let first = both_hold_first (nat_le low x.0.0) (are_rising (suc x.0.0) (map (λ s. s.0) (numbered xs))) h in grind (arith, nat_tests, first)
 
 rest_rises : (low : ℕ) (x : FnId × Signature) (xs : List (FnId × Signature)) → Rise low (x ∷ xs) → Rise (suc x.0.0) xs
-rest_rises low x xs h = and_right (nat_le low x.0.0) (are_rising (suc x.0.0) (map (λ s. s.0) (numbered xs))) h
+rest_rises low x xs h = both_hold_second (nat_le low x.0.0) (are_rising (suc x.0.0) (map (λ s. s.0) (numbered xs))) h
 
 -- none is below where they begin
 no_less : (low : ℕ) (xs : List (FnId × Signature)) (i : ℕ) (d : FnId × Signature) → Rise low xs → i < length xs → low ≤ (get_or xs i d).0.0
@@ -27,28 +28,14 @@ no_less low (x ∷ xs) (suc i) d h within =
     let rest : suc x.0.0 ≤ (get_or xs i d).0.0 = no_less (suc x.0.0) xs i d (rest_rises low x xs h) (omega arith) in
     omega arith
 
-hit : (f k : ℕ) → k ≡ f → nat_eq f k ≡ true
-hit f k e = grind (arith, nat_tests)
-
-passed : (f k : ℕ) → suc k ≤ f → nat_eq f k ≡ false
-passed f k lt = grind (arith, nat_tests)
-
-when_true : {A : Type 0} (b : Bool) (x y : A) → b ≡ true → cond b x y ≡ x
-when_true true x y h = refl
-when_true false x y h = cc
-
-when_false : {A : Type 0} (b : Bool) (x y : A) → b ≡ false → cond b x y ≡ y
-when_false false x y h = refl
-when_false true x y h = cc
-
 found_from : (low f : ℕ) (xs : List (FnId × Signature)) (i : ℕ) (x : FnId × Signature) → Rise low xs → i < length xs → x ≡ get_or xs i x → x.0.0 ≡ f → lookup (nat_eq f) (numbered xs) ≡ Some x.1
 found_from low f [] i x h within is same = absurd (omega arith)
 found_from low f (y ∷ ys) zero x h within is same =
-    when_true (nat_eq f y.0.0) (Some y.1) (lookup (nat_eq f) (numbered ys)) (hit f y.0.0 (ap (λ (z : FnId × Signature). z.0.0) (sym is) ∙ same)) ∙ ap (λ (z : FnId × Signature). Some z.1) (sym is)
+    cond_true (nat_eq f y.0.0) (Some y.1) (lookup (nat_eq f) (numbered ys)) (nat_eq_true_turned f y.0.0 (ap (λ (z : FnId × Signature). z.0.0) (sym is) ∙ same)) ∙ ap (λ (z : FnId × Signature). Some z.1) (sym is)
 found_from low f (y ∷ ys) (suc i) x h within is same =
     let above : suc y.0.0 ≤ (get_or ys i x).0.0 = no_less (suc y.0.0) ys i x (rest_rises low y ys h) (omega arith) in
     let there : (get_or ys i x).0.0 ≡ f = ap (λ (z : FnId × Signature). z.0.0) (sym is) ∙ same in
-    when_false (nat_eq f y.0.0) (Some y.1) (lookup (nat_eq f) (numbered ys)) (passed f y.0.0 (omega (arith, above, there)))
+    cond_false (nat_eq f y.0.0) (Some y.1) (lookup (nat_eq f) (numbered ys)) (nat_eq_from_suc f y.0.0 (omega (arith, above, there)))
     ∙ found_from (suc y.0.0) f ys i x (rest_rises low y ys h) (omega arith) is same
 
 same_item : (xs : List (FnId × Signature)) (i : ℕ) (x y : FnId × Signature) → i < length xs → get_or xs i x ≡ get_or xs i y

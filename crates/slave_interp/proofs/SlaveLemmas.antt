@@ -94,7 +94,7 @@ at_end a xs m = came a xs [] m
 slaves_are : (a b : s.Slave) (xs ys : List Message) (m n : ℕ) → at_end a xs m ≡ at_end b ys n → (a ≡ b) × (xs ≡ ys)
 slaves_are a b xs ys m n e = (ap (λ (x : At'). x.slave) e, ap (λ (x : At'). x.said) e)
 
-none_listed : (o : Option Message) → [] ≡ listed o → o ≡ None
+pub none_listed : (o : Option Message) → [] ≡ listed o → o ≡ None
 none_listed None e = refl
 none_listed (Some m) e = cc
 

@@ -10,8 +10,11 @@ use Rattle.wire.specs.Limits.{IsBytes}
 use Rattle.wire.specs.Steps.{Takes}
 use Rattle.wire.specs.View.{ReaderView, fresh}
 use Rattle.wire.proofs.StreamLaws.{one_stream, streams_once}
+use Rattle.wire.proofs.RunLaws.{begins_more}
 use Rattle.pair_runner.specs.Sending.{given_in, sent_in}
-use Rattle.pair_runner.proofs.Frames.{begins_more, first_is}
+use Rattle.pair_runner.proofs.Frames.{first_is}
+use Rattle.pair_runner.proofs.SoFar.{given_gave}
+use Rattle.pair_runner.proofs.Turning.{no_bytes}
 use Rattle.slave_runner.specs.declared.fault.WorkFault.{WorkFault}
 use Rattle.slave_runner.specs.declared.fault.WorkFault.TheVariants.{LinkFailed, BadPeer, PeerEnded, Memory}
 use Rattle.boots.specs.declared.fault.BootError.{BootError}
@@ -25,7 +28,7 @@ use Rattle.slave_runner.specs.Outcomes.{BreaksOff, IsRefused}
 use Rattle.slave_runner.specs.Reading.{Pieces, whole, stops, before_boot, piece_in, read_piece, read_pieces}
 use Rattle.slave_runner.specs.Rules.{Stopped, still_open, at_rule, too_long, bad_boot}
 use Rattle.slave_runner.specs.SoFar.{Talked, Follow, Begun, Whole, Read}
-use Rattle.slave_runner.proofs.TalkLemmas.{Joins, JoinsParts, no_bytes, given_gave, sent_gave, talked_none, talked_gave}
+use Rattle.slave_runner.proofs.TalkLemmas.{Joins, JoinsParts, sent_gave, talked_none, talked_gave}
 
 -- ---- frames at the front
 

@@ -9,6 +9,7 @@ use Rattle.pair_protocol.specs.Sides.{Mode, going, waits, over}
 use Rattle.pair_protocol.specs.SlaveRun as run
 use Rattle.pair_protocol.specs.SlaveRun.{At, Ready, came, having, listed, moved_on, with_said}
 use Rattle.pair_protocol.proofs.OrderSlaveFacts.{one_reply, one_step, ready_none}
+use Rattle.pair_protocol.proofs.OrderFacts.{over_waits, waits_going}
 use Rattle.pair_meaning.specs.Pair.{said, slave_at, the_sides}
 use Rattle.pair_meaning.specs.Peer.{is_awaited}
 use Rattle.pair_meaning.specs.SlaveRun.{Slave, Doing, goes, waits_for, is_over, longest, mode_by, mode_of, slave_of, slave_step, take}
@@ -87,9 +88,6 @@ one_further n x e r = record {
     on (inl live) = inl live
     on (inr (o, h)) = inr (o, end_with (slave_step x).said r.messages h)
 
-waits_going : {A : Type 0} → waits ≡ going → A
-waits_going z = cc
-
 one_step_more : (n : ℕ) (x : Slave) → mode_of x ≡ going → ((y : Slave) → IsLive y → Rests n y) → LivesOrEnds (slave_step x) → Rests (suc n) x
 one_step_more n x e more (inl on) = one_further n x e (more (slave_step x).slave on)
 one_step_more n x e more (inr ended) = ends_there n x e ended
@@ -154,9 +152,6 @@ waits_is : (m : Mode) → is_wait m ≡ true → m ≡ waits
 waits_is going e = cc
 waits_is waits e = refl
 waits_is over e = cc
-
-over_waits : {A : Type 0} → over ≡ waits → A
-over_waits z = cc
 
 live_now : (x : Slave) (messages : List Message) → mode_of x ≡ waits → IsLive x ⊎ ((mode_of x ≡ over) × HasEnd messages) → IsLive x
 live_now x messages w (inl live) = live

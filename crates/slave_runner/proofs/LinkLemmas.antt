@@ -1,5 +1,5 @@
 -- Links one behind the other.
-use Rattle.std.proofs.Common.{◌≡◌, ◌≢◌, ◌==◌, ℕ, List, [], ◌∷◌, Bool, true, false, Option, length, sym}
+use Rattle.std.proofs.Common.{ℕ, List, [], Option}
 use Rattle.pt_base.specs.Talk.{Event}
 use Rattle.pair_runner.specs.Sending.{Talks, Parts}
 use Rattle.pair_runner.proofs.Moving.{Law, parts_behind, parts_none, talks_more}
@@ -15,13 +15,3 @@ joins_parts came sent given a b c talk g s more p q = parts_behind came sent giv
 -- nothing is done
 pub idle : {L : Type 0} (sent given : L → Option (List ℕ)) (a : L) (s : List ℕ) → Parts sent given a a [] s
 idle sent given a s = parts_none sent given a a s (Keeps-refl (sent a)) (Keeps-refl (given a))
-
-pub filled : (b : Bool) (xs : List ℕ) → b ≡ (length xs == 0) → b ≡ false → xs ≢ []
-filled b [] e f = λ z. true_false (sym e) f
-  where
-    true_false : true ≡ b → b ≡ false → ⊥
-    true_false e f = cc
-filled b (x ∷ xs) e f = λ z. cons_nil z
-  where
-    cons_nil : x ∷ xs ≡ [] → ⊥
-    cons_nil z = cc

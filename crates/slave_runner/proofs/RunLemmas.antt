@@ -1,14 +1,9 @@
 -- A slave's steps, some behind others.
 use Rattle.std.proofs.Common.{◌≡◌, ◌≤◌, ℕ, ◌+◌, ◌-◌, zero, suc, List, [], ◌∷◌, ◌++◌, refl, sym, ap, subst, ◌∙◌, arith, Option, Some, None, append_assoc, append-nil}
+use Rattle.pt_base.proofs.Numbers.{suc_same, zero_not_suc}
 use Rattle.pair_protocol.specs.Sides.{Mode, going, waits, over, Sides}
 use Rattle.pair_protocol.specs.SlaveRun.{At, came, Ready, having, ready, listed, with_said, moved_on, slave_at, IsLongest}
 use Rattle.pair_protocol.proofs.OrderSlaveFacts.{one_step, ready_none}
-
-zero_suc : {B : Type 0} (n : ℕ) → 0 ≡ suc n → B
-zero_suc n e = absurd (omega (arith, e))
-
-suc_same : (m n : ℕ) → suc m ≡ suc n → m ≡ n
-suc_same m n e = omega (arith, e)
 
 -- ---- steps without replies, behind others
 
@@ -34,8 +29,8 @@ more_in g n k s rs s' s'' xs ys going is more e h =
     (record { slave_is = h.slave_is; said_is = refl; made_is = suc_same rest.made n h.made_is }) in
     subst (λ m. slave_at g m s rs ≡ came s'' (xs ++ ys) [] m) (omega arith)
     (far ∙ ap (λ l. came s'' l [] (suc k + n)) (said_behind xs (g.step s').said rest.said ∙ ap (λ l. xs ++ l) h.said_is))
-more_in g n k s rs s' s'' xs ys waits is more e h = zero_suc n h.made_is
-more_in g n k s rs s' s'' xs ys over is more e h = zero_suc n h.made_is
+more_in g n k s rs s' s'' xs ys waits is more e h = zero_not_suc n h.made_is
+more_in g n k s rs s' s'' xs ys over is more e h = zero_not_suc n h.made_is
 
 pub more_steps : {S M X R E Q : Type 0} (g : Sides S M X R E Q) (n : ℕ) → MoreSteps g n
 more_steps g zero k s rs s' s'' xs ys e h =

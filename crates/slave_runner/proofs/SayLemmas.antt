@@ -1,5 +1,5 @@
 -- What is said, gathered and sent.
-use Rattle.std.proofs.Common.{◌≡◌, ◌≤◌, ◌==◌, ℕ, zero, suc, List, [], ◌∷◌, ◌++◌, Bool, true, false, Option, Some, None, length, refl, sym, ap, subst, inl, inr, ◌∙◌, append-nil, arith}
+use Rattle.std.proofs.Common.{◌≡◌, ◌≤◌, ◌==◌, ℕ, zero, suc, List, [], ◌∷◌, ◌++◌, Bool, true, false, Option, Some, None, length, sym, ap, subst, inl, inr, ◌∙◌, append-nil, arith}
 use Rattle.std.specs.Prelude.{◌<◌, ◌⊎◌}
 use Rattle.pt_base.specs.Talk.{Event, took}
 use Rattle.pt_base.specs.declared.link.LinkFault.{LinkFault}
@@ -12,6 +12,7 @@ use Rattle.pair_protocol.specs.SlaveRun.{At, listed}
 use Rattle.pair_meaning.specs.SlaveRun as s
 use Rattle.slave_interp.specs.declared.slave.Slave.{Slave}
 use Rattle.slave_interp.specs.Slaves.{HasRun, IsSlave}
+use Rattle.slave_interp.proofs.SlaveLemmas.{none_listed}
 use Rattle.slave_runner.specs.declared.fault.WorkFault.{WorkFault}
 use Rattle.slave_runner.specs.declared.fault.WorkFault.TheVariants.{LinkFailed, BadPeer, PeerEnded, Memory}
 use Rattle.slave_runner.specs.Comes.{spellings}
@@ -47,10 +48,6 @@ gathered_sent talks all waiting after moved is none = record { bytes = waiting; 
 spell_one : (m : Message) → spellings (listed (Some m)) ≡ spelling m
 spell_one m = append-nil (spelling m)
 
-said_none : (o : Option Message) → [] ≡ listed o → o ≡ None
-said_none None e = refl
-said_none (Some m) e = cc
-
 same_mode : (x y : s.Slave) → x ≡ y → (s.mode_of y ≡ going → ⊥) → s.mode_of x ≡ going → ⊥
 same_mode x y e stopped m = stopped (ap s.mode_of (sym e) ∙ m)
 
@@ -59,7 +56,7 @@ some_made : (slave : Slave) (made most : ℕ) (x : s.Slave) (o : Option Message)
 some_made slave zero most x o r more m = absurd (none (r.stops more))
   where
     none : (o ≡ None → ⊥) ⊎ (s.mode_of r.to ≡ going → ⊥) → ⊥
-    none (inl said) = said (said_none o (ap (λ (a : At s.Slave Message ReplyBody). a.said) (sym (none_made x) ∙ r.came_to)))
+    none (inl said) = said (none_listed o (ap (λ (a : At s.Slave Message ReplyBody). a.said) (sym (none_made x) ∙ r.came_to)))
     none (inr stopped) = same_mode x r.to (ap (λ (a : At s.Slave Message ReplyBody). a.slave) (sym (none_made x) ∙ r.came_to)) stopped m
 some_made slave (suc made) most x o r more m = omega arith
 

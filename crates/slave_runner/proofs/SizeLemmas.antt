@@ -1,11 +1,10 @@
 -- A boot of few bytes has few statements, so its slave makes few steps.
-use Rattle.std.proofs.Common.{◌≤◌, ◌<◌, ◌^◌, ℕ, suc, ◌+◌, ◌-◌, ◌*◌, List, [], ◌∷◌, ◌++◌, Bool, true, false, Option, Some, length, ap, arith}
-use Rattle.std.specs.Prelude.{if◌then◌else◌, nat_eq, unwrap_or}
-use Rattle.std.specs.List.{find, flat_map}
+use Rattle.std.proofs.Common.{◌≤◌, ◌<◌, ◌^◌, ℕ, suc, ◌+◌, ◌-◌, ◌*◌, List, [], ◌∷◌, ◌++◌, length, ap, arith}
+use Rattle.std.specs.List.{flat_map}
 use Rattle.std.proofs.lemmas.List.{length-append}
 use Rattle.std.proofs.lemmas.Nat.{mul-le}
 use Rattle.pt_core.specs.CodeTree.{StmtTree, clear, check, assign, copy, call, choose, repeat, break_out, continue_on, give_back, StmtTrees, no_stmts, stmt_and, FunctionTree, BootTree}
-use Rattle.pt_core.specs.Calls.{function_in, no_function}
+use Rattle.pt_core.specs.Calls.{function_in}
 use Rattle.pt_core.specs.CoreRun.{main_in}
 use Rattle.pt_core.specs.WellFormed.{boot_program}
 use Rattle.boot_fields.specs.Limits.{Spells}
@@ -13,7 +12,7 @@ use Rattle.boot_fields.specs.Spelling.{count_of, expr_bytes, function_bytes, glo
 use Rattle.wire.specs.Spelling.{eight_bytes, four_bytes}
 use Rattle.core_steps_law.specs.WholeRun.{begun_machine}
 use Rattle.core_steps_law.specs.MachinesRoom.{breadth, larger, largest_active, largest_function, stmt_size, stmts_size}
-use Rattle.core_steps_law.proofs.MachinesRooms.{first_less, larger_less, second_less}
+use Rattle.core_steps_law.proofs.MachinesRooms.{larger_less, body_found}
 use Rattle.pair_meaning.specs.SlaveRun.{longest}
 
 -- ---- no more statements than bytes
@@ -81,16 +80,6 @@ few_code b bytes s =
     )
 
 -- ---- few steps
-
-body_by : (c : Bool) (f : FunctionTree) (o : Option FunctionTree) (n : ℕ) → stmts_size f.body ≤ n → stmts_size (unwrap_or o no_function).body ≤ n → stmts_size (unwrap_or (if c then Some f else o) no_function).body ≤ n
-body_by true f o n h k = h
-body_by false f o n h k = k
-
-body_found : (fs : List FunctionTree) (f n : ℕ) → largest_function fs ≤ n → stmts_size (unwrap_or (find (λ (g : FunctionTree). nat_eq f g.id) fs) no_function).body ≤ n
-body_found [] f n h = omega arith
-body_found (g ∷ rest) f n h =
-    body_by (nat_eq f g.id) g (find (λ (g : FunctionTree). nat_eq f g.id) rest) n (first_less (stmts_size g.body) (largest_function rest) n h)
-    (body_found rest f n (second_less (stmts_size g.body) (largest_function rest) n h))
 
 room_of : (k w s : ℕ) → k < 2 ^ 32 → w < 2 ^ 64 → s < 2 ^ 64 → suc (k * (w + 1) + (suc (s + 0) + 0)) < 2 ^ 100
 room_of k w s few_turns few_wide few_long = let m : k * (w + 1) ≤ 2 ^ 32 * 2 ^ 64 = mul-le k (w + 1) (2 ^ 32) (2 ^ 64) (omega arith) (omega arith) in omega arith

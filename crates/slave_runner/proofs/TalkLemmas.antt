@@ -1,10 +1,12 @@
 -- Talks in turn.
 use Rattle.std.proofs.Common.{◌≡◌, ◌≢◌, ◌<◌, ◌^◌, ℕ, List, [], ◌∷◌, ◌++◌, refl, sym, ap, subst, ◌∙◌, append_assoc, append-nil}
-use Rattle.std.proofs.lemmas.List.Elements.{All-append, All-nil}
+use Rattle.std.proofs.lemmas.List.Elements.{All-append}
 use Rattle.pt_base.specs.Talk.{Event, gave, took}
 use Rattle.wire.specs.Limits.{IsBytes}
 use Rattle.pair_runner.specs.Sending.{given_in, sent_in}
 use Rattle.pair_runner.proofs.Moving.{given_append, sent_append}
+use Rattle.pair_runner.proofs.SoFar.{given_gave}
+use Rattle.pair_runner.proofs.Turning.{no_bytes}
 use Rattle.slave_runner.specs.Comes.{IsOpen, InTurn}
 use Rattle.slave_runner.specs.Saying.{sending}
 use Rattle.slave_runner.specs.SoFar.{Talked}
@@ -16,18 +18,12 @@ Joins talks next both = (talk more : List Event) → talks talk → next more �
 abbrev pub JoinsParts : (List Event → Type 0) → (List ℕ → List ℕ → Type 0) → (List ℕ → List ℕ → Type 0) → Type 0
 JoinsParts talks next both = (talk : List Event) (given sent more : List ℕ) → talks talk → next given sent → both (given_in talk ++ given) (sent_in talk ++ (sent ++ more))
 
-pub no_bytes : IsBytes []
-no_bytes = All-nil (λ b. b < 2 ^ 8)
-
 pub turns_more : (given sent : List ℕ) (talk more : List Event) → InTurn given sent talk → InTurn (given ++ given_in talk) (sent ++ sent_in talk) more → InTurn given sent (talk ++ more)
 turns_more given sent [] more t u = subst (λ l. InTurn l sent more) (append-nil given) (subst (λ l. InTurn (given ++ []) l more) (append-nil sent) u)
 turns_more given sent (gave piece ∷ talk) more (open_then, some, t) u =
     (open_then, some, turns_more (given ++ piece) sent talk more t (subst (λ l. InTurn l (sent ++ sent_in talk) more) (sym (append_assoc given piece (given_in talk))) u))
 turns_more given sent (took bytes ∷ talk) more t u =
     turns_more given (sent ++ bytes) talk more t (subst (λ l. InTurn (given ++ given_in talk) l more) (sym (append_assoc sent bytes (sent_in talk))) u)
-
-pub given_gave : (talk : List Event) (piece : List ℕ) → given_in (talk ++ gave piece ∷ []) ≡ given_in talk ++ piece
-given_gave talk piece = given_append talk (gave piece ∷ []) ∙ ap (λ l. given_in talk ++ l) (append-nil piece)
 
 pub sent_gave : (talk : List Event) (piece : List ℕ) → sent_in (talk ++ gave piece ∷ []) ≡ sent_in talk
 sent_gave talk piece = sent_append talk (gave piece ∷ []) ∙ append-nil (sent_in talk)

@@ -23,6 +23,8 @@ use Rattle.pair_meaning.specs.SlaveRun.{Slave, longest, may_take, mode_of, slave
 use Rattle.pair_meaning.proofs.Fair.{the_sides_are_fair}
 use Rattle.pair_meaning.proofs.Stops.{slaves_stop}
 use Rattle.pair_runner.specs.Sending.{given_in, sent_in}
+use Rattle.pair_runner.proofs.SoFar.{given_gave}
+use Rattle.pair_runner.proofs.Turning.{no_bytes}
 use Rattle.slave_runner.specs.declared.fault.WorkFault.{WorkFault}
 use Rattle.slave_runner.specs.declared.fault.WorkFault.TheVariants.{LinkFailed, BadPeer, PeerEnded, Memory}
 use Rattle.slave_runner.specs.Comes.{IsBoot, IsOpen, ComesBy, spellings}
@@ -38,7 +40,7 @@ use Rattle.slave_runner.specs.SoFar.{Whole, Working, WorksOn}
 use Rattle.slave_runner.specs.Taking.{Taken}
 use Rattle.slave_runner.proofs.BootLemmas.{no_frames, takes_frames}
 use Rattle.slave_runner.proofs.RunLemmas.{Makes, few_made, more_steps, rests_at}
-use Rattle.slave_runner.proofs.TalkLemmas.{Joins, JoinsParts, no_bytes, given_gave, sent_gave, given_sending, sent_sending, talked_gave, talked_sent}
+use Rattle.slave_runner.proofs.TalkLemmas.{Joins, JoinsParts, sent_gave, given_sending, sent_sending, talked_gave, talked_sent}
 
 -- ---- the slave's steps
 

@@ -5,33 +5,31 @@ use Rattle.std.specs.List.{list_all, list_any, find, filter}
 use Rattle.std.specs.Map.{lookup}
 use Rattle.std.specs.Str.{bytes_eq}
 use Rattle.std.proofs.lemmas.Bool.Decides.{nat_tests}
+use Rattle.pt_base.proofs.Booleans.{both_hold_first, both_hold_second, false_not_true}
+use Rattle.pt_base.proofs.Numbers.{nat_eq_same}
 use Rattle.pt_tree.specs.declared.host_model.HostModel.{HostModel}
 use Rattle.pt_tree.specs.declared.signature.Param.{Param}
 use Rattle.pt_tree.specs.declared.signature.Signature.{Signature}
-use Rattle.typed_tree.specs.declared.types.StructInfo.{StructInfo}
 use Rattle.typed_tree.specs.WellFormed.{are_rising, is_int_result}
 use Rattle.typed_tree.specs.WellFormedExpression.{is_main}
-use Rattle.typed_tree.proofs.WellFormedLemmas.{and_left, and_right, and_both}
 use Rattle.runs.specs.Run.{deepest}
 use Rattle.host_models.specs.Fitting.{fits}
 use Rattle.host_table.specs.Hosts.{models_by}
 use Rattle.host_table.specs.RunHosts.{model_or_none, models_of}
-use Rattle.block_memory.specs.declared.cell.BlockName.TheVariants.{Received}
 use Rattle.block_memory.specs.Block.{no_block}
-use Rattle.block_memory.specs.Blocks.{Blocks, no_blocks}
+use Rattle.block_memory.specs.Blocks.{no_blocks}
 use Rattle.wire.specs.Limits.{most_in_a_block}
-use Rattle.pt_core.specs.CodeTree.{FunctionTree, GlobalTree, ProgramTree, BootTree, no_stmts}
+use Rattle.pt_core.specs.CodeTree.{FunctionTree, ProgramTree, BootTree, no_stmts}
 use Rattle.pt_core.specs.Calls.{signature_in, function_in, no_function, no_signature}
-use Rattle.pt_core.specs.CoreRun.{main_in, with_globals}
+use Rattle.pt_core.specs.CoreRun.{main_in}
 use Rattle.pt_core.specs.Steps.{Machine, run, at_rest, just_entered, started}
 use Rattle.pt_core.specs.WellFormed.{signature_at, function_at, are_in_order, boot_program, callees, callee_by, callee_fits, has_main, host_by, host_fits, hosts_fit, is_answered, is_main_by, is_only_start, is_plain_host, is_sound, is_well_formed, is_well_formed_boot, starts_by}
 use Rattle.core_steps_law.specs.WholeRun.{begun_machine}
 use Rattle.core_soundness_law.specs.Kept.{Kept, any}
 use Rattle.core_soundness_law.specs.Fits.{Fits}
 use Rattle.core_soundness_law.specs.Outside.{ArgumentsFit, own_params}
-use Rattle.core_soundness_law.proofs.Leaves.{never}
 use Rattle.core_soundness_law.proofs.Programs.{ProgramFacts, facts_of}
-use Rattle.core_soundness_law.proofs.Resting.{rest_fits}
+use Rattle.core_soundness_law.proofs.Resting.{rest_fits, received_stay}
 use Rattle.core_soundness_law.proofs.Starting.{started_fits}
 use Rattle.core_soundness_law.specs.Called.{is_called}
 use Rattle.core_soundness_law.proofs.CalledSteps.{started_call_own}
@@ -50,11 +48,11 @@ record BootFacts (b : BootTree) : Type 0 where
 
 program_facts : (p : ProgramTree) → IsTrue (is_well_formed p) → IsTrue (is_sound false p) × IsTrue (has_main p)
 unfolding is_well_formed
-program_facts p h = (and_left (is_sound false p) (has_main p) h, and_right (is_sound false p) (has_main p) h)
+program_facts p h = (both_hold_first (is_sound false p) (has_main p) h, both_hold_second (is_sound false p) (has_main p) h)
 
-boot_parts : (b : BootTree) → IsTrue (is_well_formed_boot fits b) → IsTrue (is_well_formed (boot_program b)) × IsTrue (hosts_fit fits (boot_program b) b.hosts)
+pub boot_parts : (b : BootTree) → IsTrue (is_well_formed_boot fits b) → IsTrue (is_well_formed (boot_program b)) × IsTrue (hosts_fit fits (boot_program b) b.hosts)
 unfolding is_well_formed_boot
-boot_parts b h = (and_left (is_well_formed (boot_program b)) (hosts_fit fits (boot_program b) b.hosts) h, and_right (is_well_formed (boot_program b)) (hosts_fit fits (boot_program b) b.hosts) h)
+boot_parts b h = (both_hold_first (is_well_formed (boot_program b)) (hosts_fit fits (boot_program b) b.hosts) h, both_hold_second (is_well_formed (boot_program b)) (hosts_fit fits (boot_program b) b.hosts) h)
 
 boot_facts : (b : BootTree) → IsTrue (is_well_formed_boot fits b) → BootFacts b
 boot_facts b h =
@@ -66,27 +64,24 @@ boot_facts b h =
     record {
       sound = program.0;
       main = program.1;
-      models = and_right rising models (and_left (rising && models) answered parts.1);
-      answered = and_right (rising && models) answered parts.1;
+      models = both_hold_second rising models (both_hold_first (rising && models) answered parts.1);
+      answered = both_hold_second (rising && models) answered parts.1;
     }
 
 -- ---- hosts
 
-equal : (m n : ℕ) → nat_eq m n ≡ true → m ≡ n
-equal m n e = grind (arith, nat_tests)
-
 -- a model that fits a host's signature fits what the number has
 model_by : (model : HostModel) (o : Option Signature) → IsTrue (host_by fits model o) → IsTrue (fits model (unwrap_or o no_signature))
-model_by model None h = never h
-model_by model (Some s) h = and_right s.host (fits model s) h
+model_by model None h = false_not_true h
+model_by model (Some s) h = both_hold_second s.host (fits model s) h
 
 host_found : (p : ProgramTree) (hosts : List (ℕ × HostModel)) (f : ℕ) → IsTrue (list_any (nat_eq f) (map (λ h. h.0) hosts)) → IsTrue (list_all (host_fits fits p) hosts) → IsTrue (fits (model_or_none (lookup (nat_eq f) hosts)) (signature_in p f))
-host_found p [] f among all = never among
-host_found p (h ∷ hosts) f among all = go (λ more. host_found p hosts f more (and_right (host_fits fits p h) (list_all (host_fits fits p) hosts) all)) (nat_eq f h.0) refl among
+host_found p [] f among all = false_not_true among
+host_found p (h ∷ hosts) f among all = go (λ more. host_found p hosts f more (both_hold_second (host_fits fits p h) (list_all (host_fits fits p) hosts) all)) (nat_eq f h.0) refl among
   where
     go : (IsTrue (list_any (nat_eq f) (map (λ x. x.0) hosts)) → IsTrue (fits (model_or_none (lookup (nat_eq f) hosts)) (signature_in p f))) → (b : Bool) → nat_eq f h.0 ≡ b → IsTrue (b || list_any (nat_eq f) (map (λ x. x.0) hosts)) →
         IsTrue (fits (model_or_none (if b then Some h.1 else lookup (nat_eq f) hosts)) (signature_in p f))
-    go more true e k = subst (λ n. IsTrue (fits h.1 (signature_in p n))) (sym (equal f h.0 e)) (model_by h.1 (signature_at p h.0) (and_left (host_fits fits p h) (list_all (host_fits fits p) hosts) all))
+    go more true e k = subst (λ n. IsTrue (fits h.1 (signature_in p n))) (sym (nat_eq_same f h.0 e)) (model_by h.1 (signature_at p h.0) (both_hold_first (host_fits fits p h) (list_all (host_fits fits p) hosts) all))
     go more false e k = more k
 
 hosts_begin : (b : BootTree) → BootFacts b → HostsFit (boot_program b) (models_of (models_by b.hosts))
@@ -98,11 +93,11 @@ hosts_begin b facts f own plain =
   where
     by_test : (t among : Bool) → IsTrue t → IsTrue (not t || among) → IsTrue among
     by_test true among h k = k
-    by_test false among h k = never h
+    by_test false among h k = false_not_true h
 
     listed : (o : Option Signature) → IsTrue (callee_by false (boot_program b) f o) → IsTrue ((unwrap_or o no_signature).host && not (unwrap_or o no_signature).privileged) →
         IsTrue (not (is_plain_host o) || list_any (nat_eq f) (map (λ h. h.0) b.hosts)) → IsTrue (list_any (nat_eq f) (map (λ h. h.0) b.hosts))
-    listed None fit plain h = never fit
+    listed None fit plain h = false_not_true fit
     listed (Some s) fit plain h = by_test (s.host && not s.privileged) (list_any (nat_eq f) (map (λ h. h.0) b.hosts)) plain h
 
 -- ---- main
@@ -111,10 +106,10 @@ hosts_begin b facts f own plain =
 not_below : (first n : ℕ) (xs : List (ℕ × Signature)) → n < first → IsTrue (are_rising first (map (λ s. s.0) xs)) → (P : (ℕ × Signature) → Bool) (found : ℕ × Signature) → find P xs ≡ Some found → nat_eq found.0 n ≡ false
 not_below first n [] less rising P found e = cc
 not_below first n (x ∷ xs) less rising P found e =
-    go (λ k. not_below (suc x.0) n xs (further first n x.0 less here) (and_right (nat_le first x.0) (are_rising (suc x.0) (map (λ s. s.0) xs)) rising) P found k) (P x) e
+    go (λ k. not_below (suc x.0) n xs (further first n x.0 less here) (both_hold_second (nat_le first x.0) (are_rising (suc x.0) (map (λ s. s.0) xs)) rising) P found k) (P x) e
   where
     here : nat_le first x.0 ≡ true
-    here = and_left (nat_le first x.0) (are_rising (suc x.0) (map (λ s. s.0) xs)) rising
+    here = both_hold_first (nat_le first x.0) (are_rising (suc x.0) (map (λ s. s.0) xs)) rising
 
     further : (first n k : ℕ) → n < first → nat_le first k ≡ true → n < suc k
     further first n k h e = grind (arith, nat_tests)
@@ -136,7 +131,7 @@ found_named first (x ∷ xs) P found rising e =
     go (found_named (suc x.0) xs P found more_rising) (P x) refl e
   where
     more_rising : IsTrue (are_rising (suc x.0) (map (λ s. s.0) xs))
-    more_rising = and_right (nat_le first x.0) (are_rising (suc x.0) (map (λ s. s.0) xs)) rising
+    more_rising = both_hold_second (nat_le first x.0) (are_rising (suc x.0) (map (λ s. s.0) xs)) rising
 
     same : (a b : ℕ × Signature) → Some a ≡ Some b → a ≡ b
     same a b k = cc
@@ -188,7 +183,7 @@ start_is p T f (x ∷ xs) g e t only = go (λ k. start_is p T f xs g k t) (nat_e
 
     alone : (rest : List FunctionTree) → IsTrue (is_only_start p (x ∷ rest)) → IsTrue (starts_by (signature_at p x.id)) × (rest ≡ [])
     alone [] h = (h, refl)
-    alone (z ∷ rest) h = never h
+    alone (z ∷ rest) h = false_not_true h
 
     go : (find (λ y. nat_eq f y.id) xs ≡ Some g → IsTrue (is_only_start p (filter T xs)) → IsTrue (starts_by (signature_at p g.id))) → (b c : Bool) → T x ≡ c → (if b then Some x else find (λ y. nat_eq f y.id) xs) ≡ Some g →
         IsTrue (is_only_start p (if c then x ∷ filter T xs else filter T xs)) → IsTrue (starts_by (signature_at p g.id))
@@ -198,8 +193,8 @@ start_is p T f (x ∷ xs) g e t only = go (λ k. start_is p T f xs g k t) (nat_e
     go more false false u k l = more k l
 
 no_params : (o : Option Signature) → IsTrue (starts_by o) → (unwrap_or o no_signature).params ≡ []
-no_params None h = never h
-no_params (Some s) h = none s.params (and_right (is_int_result s.result) (nat_eq (length s.params) 0) h)
+no_params None h = false_not_true h
+no_params (Some s) h = none s.params (both_hold_second (is_int_result s.result) (nat_eq (length s.params) 0) h)
   where
     none : (ps : List Param) → IsTrue (nat_eq (length ps) 0) → ps ≡ []
     none [] h = refl
@@ -217,7 +212,7 @@ found_number f (x ∷ xs) g e = go (found_number f xs g) (nat_eq f x.id) refl e
     same k = cc
 
     go : (find (λ y. nat_eq f y.id) xs ≡ Some g → f ≡ g.id) → (b : Bool) → nat_eq f x.id ≡ b → (if b then Some x else find (λ y. nat_eq f y.id) xs) ≡ Some g → f ≡ g.id
-    go more true t k = equal f x.id t ∙ ap (λ (z : FunctionTree). z.id) (same k)
+    go more true t k = nat_eq_same f x.id t ∙ ap (λ (z : FunctionTree). z.id) (same k)
     go more false t k = more k
 
 abbrev names_main : (ℕ × Signature) → Bool
@@ -228,7 +223,7 @@ main_params : (p : ProgramTree) (g : FunctionTree) → IsTrue (are_in_order p) �
 main_params p g order main e = go (find names_main p.signatures) refl
   where
     rising : IsTrue (are_rising 0 (map (λ s. s.0) p.signatures))
-    rising = and_left (are_rising 0 (map (λ s. s.0) p.signatures)) (are_rising 0 (map (λ f. f.id) p.functions) && are_rising 0 (map (λ g. g.id) p.globals)) order
+    rising = both_hold_first (are_rising 0 (map (λ s. s.0) p.signatures)) (are_rising 0 (map (λ f. f.id) p.functions) && are_rising 0 (map (λ g. g.id) p.globals)) order
 
     -- a function that is a start has a name among the signatures
     no_start : find names_main p.signatures ≡ None → (fs : List FunctionTree) → IsTrue (is_only_start p (filter (λ f. is_main_by (signature_at p f.id)) fs)) → ⊥
@@ -262,10 +257,6 @@ main_params p g order main e = go (find names_main p.signatures) refl
 
 -- ---- its machine
 
-no_received : (structs : List StructInfo) (globals : List GlobalTree) (blocks : Blocks) (n : ℕ) → with_globals structs blocks globals (Received n) ≡ blocks (Received n)
-no_received structs [] blocks n = refl
-no_received structs (g ∷ gs) blocks n = no_received structs gs _ n
-
 -- Where main is a function of its own its machine fits, whichever handles stand for numbers: it has none.
 module _ (b : BootTree) (well : IsTrue (is_well_formed_boot fits b)) (g : FunctionTree) (main : function_at (boot_program b) (main_in (boot_program b)) ≡ Some g) where
   abbrev p : ProgramTree
@@ -292,7 +283,7 @@ module _ (b : BootTree) (well : IsTrue (is_well_formed_boot fits b)) (g : Functi
     running = record {
       machine = begun_fits any;
       own = started_call_own p false (main_in p) 1 [] (at_rest p b.turns);
-      small = λ n. subst (λ (x : _). length x.types ≤ most_in_a_block) (sym (no_received p.structs p.globals no_blocks n)) (least most_in_a_block);
+      small = λ n. subst (λ (x : _). length x.types ≤ most_in_a_block) (sym (received_stay p.structs p.globals no_blocks n)) (least most_in_a_block);
       hosts = hosts_begin b facts_here;
     };
     free = refl;

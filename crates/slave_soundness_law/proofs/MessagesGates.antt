@@ -4,46 +4,29 @@ use Rattle.std.specs.Prelude.{Result, Ok, Err, IfOk, IsTrue, ◌&&◌, ◌||◌,
 use Rattle.std.specs.List.{list_all}
 use Rattle.pt_base.specs.declared.int_type.IntType.{IntType}
 use Rattle.pt_base.specs.declared.span.Span.{Span}
-use Rattle.pt_tree.specs.declared.signature.Param.{Param}
+use Rattle.pt_base.proofs.Booleans.{both_hold_first, both_hold_second, false_not_true}
 use Rattle.pt_tree.specs.declared.signature.Signature.{Signature}
-use Rattle.typed_tree.specs.WellFormedExpression.{param_type, is_main}
-use Rattle.typed_tree.proofs.WellFormedLemmas.{and_left, and_right}
+use Rattle.typed_tree.specs.WellFormedExpression.{is_main}
 use Rattle.runs.specs.Run.{deepest}
 use Rattle.block_memory.specs.declared.cell.Cell.{Cell}
-use Rattle.block_memory.specs.Blocks.{Blocks}
-use Rattle.pt_core.specs.CodeTree.{ExprTrees, no_exprs, expr_and, StmtTree, clear, check, assign, copy, call, choose, repeat, break_out, continue_on, give_back, StmtTrees, no_stmts, stmt_and, ProgramTree}
-use Rattle.pt_core.specs.Types.{Context, type_of}
+use Rattle.pt_core.specs.CodeTree.{ExprTrees, StmtTree, clear, check, assign, copy, call, choose, repeat, break_out, continue_on, give_back, StmtTrees, no_stmts, stmt_and, ProgramTree}
+use Rattle.pt_core.specs.Types.{Context}
 use Rattle.pt_core.specs.Values.{Stop, number_in, value_of, values_of, location_of}
 use Rattle.pt_core.specs.Statements.{assigned, copied, returned_value}
 use Rattle.pt_core.specs.Calls.{signature_in, function_in, context_in, entered}
 use Rattle.pt_core.specs.Steps.{Work, run, head, Active, Machine, Way, enters, here, away, Gate, moved, spent, Step, answers, settled, working, with_turn, turned, on_value, returned, at_end, is_active, just_entered, begins, made, by_way, act, works, stepped, step}
 use Rattle.pt_core.specs.WellFormed.{called_signature, is_sound}
-use Rattle.pt_core.specs.WellFormedExpression.{stands_for, expr_fits}
-use Rattle.pt_core.specs.WellFormedStatement.{value_fits, arguments_fit, call_fits, result_fits, callees_in, callees_of, stmt_fits, stmts_fit}
+use Rattle.pt_core.specs.WellFormedStatement.{arguments_fit, call_fits, result_fits, callees_in, callees_of, stmt_fits, stmts_fit}
 use Rattle.core_soundness_law.specs.Kept.{Kept}
-use Rattle.core_soundness_law.specs.Fits.{ValueFits, MemoryFits, scope_in, is_looped, work_fits, AllFit, Fits}
+use Rattle.core_soundness_law.specs.Fits.{MemoryFits, scope_in, is_looped, work_fits, AllFit, Fits}
 use Rattle.core_soundness_law.specs.Outside.{ArgumentsFit}
 use Rattle.core_soundness_law.specs.StepLaws.{called_params, params_of}
-use Rattle.core_soundness_law.proofs.Leaves.{never}
 use Rattle.core_soundness_law.proofs.Objects.{Setting}
 use Rattle.core_soundness_law.proofs.Programs.{ProgramFacts, facts_of, function_facts}
 use Rattle.core_soundness_law.proofs.Settings.{setting}
-use Rattle.core_soundness_law.proofs.Steps.{settled_fits}
-use Rattle.core_soundness_law.proofs.Stores.{stands}
-use Rattle.core_soundness_law.proofs.Values.{bound, values}
+use Rattle.core_soundness_law.proofs.Steps.{settled_fits, values_fit_params}
 use Rattle.core_soundness_law.specs.Called.{is_called, calls_left, CallOwn}
 use Rattle.core_soundness_law.proofs.CalledSteps.{first_holds, settled_calls}
-
--- arguments that the code's test lets pass fit the parameters
-given_fit : (kept : Kept) (c : Context) (depth : ℕ) (blocks : Blocks) → Setting kept c depth blocks → (ps : List Param) (args : ExprTrees) → IsTrue (arguments_fit c ps args) → IfOk (values_of c depth args blocks) (ArgumentsFit kept c.structs blocks depth ps)
-given_fit kept c depth blocks s [] no_exprs h = tt {0}
-given_fit kept c depth blocks s [] (expr_and a rest) h = never h
-given_fit kept c depth blocks s (p ∷ ps) no_exprs h = never h
-given_fit kept c depth blocks s (p ∷ ps) (expr_and a rest) h =
-    let here : IsTrue (value_fits c (param_type p.kind) a) = and_left (value_fits c (param_type p.kind) a) (arguments_fit c ps rest) h in
-    bound (ValueFits kept c.structs blocks depth (type_of c a)) (ArgumentsFit kept c.structs blocks depth (p ∷ ps)) (value_of c depth a blocks) _ (values kept c depth blocks s a (and_left (expr_fits c a) (stands_for (type_of c a) (param_type p.kind)) here))
-    (λ v f. bound (ArgumentsFit kept c.structs blocks depth ps) (ArgumentsFit kept c.structs blocks depth (p ∷ ps)) (values_of c depth rest blocks) _ (given_fit kept c depth blocks s ps rest (and_right (value_fits c (param_type p.kind) a) (arguments_fit c ps rest) h))
-    (λ vs fs. (stands kept c.structs blocks depth (type_of c a) (param_type p.kind) v (and_right (expr_fits c a) (stands_for (type_of c a) (param_type p.kind)) here) f, fs)))
 
 -- what a step begins with, and that what holds of its gate is kept by each answer to a call of its innermost function
 module _ {G : Type 0} (kept : Kept) (monitor : Bool) (program : ProgramTree) (gate : Gate G) (m : Machine) (g : G) (sound : IsTrue (is_sound monitor program)) (P : G → Type 0) (p : P g) (noted : (active : Bool) (f : ℕ) (args : List Cell) → P (gate.noted active f args g))
@@ -100,12 +83,12 @@ module _ {G : Type 0} (kept : Kept) (monitor : Bool) (program : ProgramTree) (ga
 
   stays_call : (a : Active) (rest : List Active) → Setting kept (context_in program a.function) a.depth m.blocks → (work : List Work) (span : Span) (f : ℕ) (args : ExprTrees) (result : Option ℕ) → IsTrue (is_called program f) →
       (o : Option Signature) → called_signature monitor program f ≡ o → IsTrue (call_fits (context_in program a.function) o args result) → P (act program gate m g a rest work (call f args result span)).gate
-  stays_call a rest s work span f args result own None is h = never h
+  stays_call a rest s work span f args result own None is h = false_not_true h
   stays_call a rest s work span f args result own (Some t) is h =
       let c : Context = context_in program a.function in
-      let both : IsTrue (arguments_fit c t.params args && result_fits c t.result result) = and_right (not (is_main t)) (arguments_fit c t.params args && result_fits c t.result result) h in
+      let both : IsTrue (arguments_fit c t.params args && result_fits c t.result result) = both_hold_second (not (is_main t)) (arguments_fit c t.params args && result_fits c t.result result) h in
       stays_each (values_of c a.depth args m.blocks) (λ vs. by_way program gate (working m a rest work) g span f vs result a.depth (gate.way g f vs)) (ArgumentsFit kept program.structs m.blocks a.depth t.params)
-      (given_fit kept c a.depth m.blocks s t.params args (and_left (arguments_fit c t.params args) (result_fits c t.result result) both))
+      (values_fit_params kept c a.depth m.blocks s t.params args (both_hold_first (arguments_fit c t.params args) (result_fits c t.result result) both))
       (λ vs given. stays_way a rest work span f vs result (gate.way g f vs) own refl (subst (λ o. ArgumentsFit kept program.structs m.blocks a.depth (params_of o) vs) (sym is) given))
 
   stays_act : (a : Active) (rest : List Active) → Setting kept (context_in program a.function) a.depth m.blocks → (work : List Work) (s : StmtTree) (looped : Bool) → IsTrue (stmt_fits (scope_in monitor program a.function) looped s) →
@@ -115,7 +98,7 @@ module _ {G : Type 0} (kept : Kept) (monitor : Bool) (program : ProgramTree) (ga
   stays_act a rest seen work (assign q x) looped h c = stays_value (assigned (context_in program a.function) a.depth q x m.blocks) _ (λ blocks. p)
   stays_act a rest seen work (copy to of) looped h c = stays_value (copied (context_in program a.function) a.depth to of m.blocks) _ (λ blocks. p)
   stays_act a rest seen work (call f args result span) looped h c =
-      stays_call a rest seen work span f args result (and_left (is_called program f) true c) (called_signature monitor program f) refl h
+      stays_call a rest seen work span f args result (both_hold_first (is_called program f) true c) (called_signature monitor program f) refl h
   stays_act a rest seen work (choose x first second) looped h c = stays_value (value_of (context_in program a.function) a.depth x m.blocks) _ (λ v. p)
   stays_act a rest seen work (repeat body span) looped h c = stays_begin a rest body work
   stays_act a rest seen work break_out looped h c = p
@@ -128,8 +111,8 @@ module _ {G : Type 0} (kept : Kept) (monitor : Bool) (program : ProgramTree) (ga
   stays_works a rest seen (run no_stmts ∷ work) w h = p
   stays_works a rest seen (run (stmt_and s more) ∷ work) w h =
       let k = scope_in monitor program a.function in
-      let both : IsTrue (stmt_fits k (is_looped work) s && stmts_fit k (is_looped work) more) = and_left (stmt_fits k (is_looped work) s && stmts_fit k (is_looped work) more) (work_fits k work) w in
-      stays_act a rest seen (run more ∷ work) s (is_looped work) (and_left (stmt_fits k (is_looped work) s) (stmts_fit k (is_looped work) more) both)
+      let both : IsTrue (stmt_fits k (is_looped work) s && stmts_fit k (is_looped work) more) = both_hold_first (stmt_fits k (is_looped work) s && stmts_fit k (is_looped work) more) (work_fits k work) w in
+      stays_act a rest seen (run more ∷ work) s (is_looped work) (both_hold_first (stmt_fits k (is_looped work) s) (stmts_fit k (is_looped work) more) both)
       (first_holds (is_called program) (callees_in s) (callees_of more) (first_holds (is_called program) (callees_in s ++ callees_of more) (calls_left work) h))
   stays_works a rest seen (head body ∷ work) w h = stays_begin a rest body work
 

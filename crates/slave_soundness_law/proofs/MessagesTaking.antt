@@ -10,6 +10,7 @@ use Rattle.marshalling.specs.declared.crossing.Crossing.{Crossing}
 use Rattle.marshalling.specs.declared.crossing.Crossing.TheVariants.{Stays, Plain, Sealed}
 use Rattle.marshalling.specs.Replies.{Place, next_after, next_by}
 use Rattle.marshalling.specs.Taking.{Taken, after_reply}
+use Rattle.marshalling.proofs.TakingLemmas.{places_grow}
 use Rattle.marshalling_law.specs.TakingLaws.{AllStand, GivenStand, IsTakenWell, Stands}
 use Rattle.marshalling_law.proofs.TakingLemmas.{taken_replies_fit}
 use Rattle.pt_core.specs.Calls.{signature_in}
@@ -27,9 +28,6 @@ use Rattle.slave_soundness_law.specs.MessagesLaws.{TakersStayInFormat}
 
 -- ---- the handles of a reply
 
-grows : (h : ℕ) (places : List Place) → h ≤ next_after h places
-grows h places = let next : next_after h places ≡ h + length (types_kept places) = next_counts h places in omega (arith, next)
-
 one_stands : (way : Crossing) (t : IntType) (h n : ℕ) → next_by way h ≤ n → n ≤ 2 ^ 64 → Stands numbered way t h
 one_stands Stays t h n less most = tt {0}
 one_stands Plain t h n less most = tt {0}
@@ -43,7 +41,7 @@ one_stands Sealed t h n less most = low h (2 ^ 64) (below h n less most)
 
 stand_below : (h : ℕ) (places : List Place) → next_after h places ≤ 2 ^ 64 → AllStand numbered h places
 stand_below h [] most = tt {0}
-stand_below h (p ∷ places) most = (one_stands p.way p.ty h (next_after (next_by p.way h) places) (grows (next_by p.way h) places) most, stand_below (next_by p.way h) places most)
+stand_below h (p ∷ places) most = (one_stands p.way p.ty h (next_after (next_by p.way h) places) (places_grow (next_by p.way h) places) most, stand_below (next_by p.way h) places most)
 
 pub given_stand : (x : Slave) (f : ℕ) (args : List Cell) (reply : ReplyBody) → is_reply_to x f args reply ≡ true → IsPackable x.program.structs (signature_in x.program f).params x.machine.blocks args → length x.given + most_given ≤ 2 ^ 63 →
     GivenStand numbered (length x.given) x.machine.blocks x.program.structs (signature_in x.program f) args

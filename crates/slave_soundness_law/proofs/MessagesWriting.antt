@@ -1,11 +1,11 @@
 -- What a slave's hosts write in a step has a spelling, and their names stay bytes.
 use Rattle.std.proofs.Common.{◌≡◌, ◌<◌, ◌^◌, ℕ, ℤ, nat_eq, refl, List, Option, Some, None, Bool, true, false, map, if◌then◌else◌}
 use Rattle.std.specs.Prelude.{IsTrue, ◌&&◌, not}
+use Rattle.pt_base.proofs.Booleans.{both_hold_second}
 use Rattle.pt_tree.specs.HostStep.{host_step}
 use Rattle.pt_tree.specs.declared.host_model.HostModel.{HostModel}
 use Rattle.pt_tree.specs.declared.host_model.HostModel.TheVariants as model
 use Rattle.pt_tree.specs.declared.signature.Signature.{Signature}
-use Rattle.typed_tree.proofs.WellFormedLemmas.{and_right}
 use Rattle.runs.specs.State.{Hosts, put_host}
 use Rattle.host_models.specs.Fitting.{has_numbers_in_range, has_right_params, has_short_name}
 use Rattle.block_memory.specs.declared.cell.Cell.{Cell}
@@ -70,7 +70,7 @@ heard_fits x h running fits =
     short : (f : ℕ) (args : List Cell) → IsTrue (is_called x.program f) → way_by (signature_in x.program f) args ≡ here → IsTrue (has_short_name (x.hosts f))
     short f args own e =
         let s : Signature = signature_in x.program f in
-        and_right (has_right_params s (x.hosts f) && has_numbers_in_range s (x.hosts f)) (has_short_name (x.hosts f)) (running.hosts f own (plain_here s.privileged s.host (goes_with_handles s args) e))
+        both_hold_second (has_right_params s (x.hosts f) && has_numbers_in_range s (x.hosts f)) (has_short_name (x.hosts f)) (running.hosts f own (plain_here s.privileged s.host (goes_with_handles s args) e))
 
     written : (depth f : ℕ) (args : List Cell) → IsTrue (is_called x.program f) → way_by (signature_in x.program f) args ≡ here → ArgumentsFit numbered x.program.structs x.machine.blocks depth (called_params false x.program f) args →
         (o : Option (List ℕ)) → (host_step x.input (x.hosts f) (map number_in args)).written ≡ o → WroteFits o

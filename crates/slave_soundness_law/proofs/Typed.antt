@@ -2,6 +2,7 @@
 use Rattle.std.proofs.Common.{◌≡◌, ◌∙◌, ◌<◌, ◌⊎◌, inl, inr, ℕ, zero, suc, ◌+◌, refl, ap, sym, subst, arith, List, [], ◌∷◌, ◌++◌, Option, Some, None, Bool, true, false, length, slice_get}
 use Rattle.std.specs.Prelude.{IsTrue, ◌||◌, is_some, nat_le, pos, if◌then◌else◌}
 use Rattle.pt_base.specs.declared.int_type.IntType.{IntType}
+use Rattle.pt_base.proofs.Places.{get_before, get_kept}
 use Rattle.typed_tree.specs.declared.types.VarTy.{VarTy}
 use Rattle.typed_tree.specs.declared.types.VarTy.TheVariants.{Int, Struct, Array, Pointer}
 use Rattle.typed_tree.proofs.SameTypes.{equal_ints, int_self}
@@ -47,11 +48,6 @@ use Rattle.slave_soundness_law.proofs.Taking.{next_counts, reply_well, taken_fre
 
 -- ---- lists of types
 
-front : {X : Type 0} (xs ys : List X) (i : ℕ) (x : X) → slice_get xs i ≡ Some x → slice_get (xs ++ ys) i ≡ Some x
-front [] ys i x e = cc
-front (z ∷ xs) ys zero x e = e
-front (z ∷ xs) ys (suc i) x e = front xs ys i x e
-
 -- behind the first list stands the second
 behind_at : {X : Type 0} (xs ys : List X) (n i : ℕ) → n ≡ length xs + i → slice_get (xs ++ ys) n ≡ slice_get ys i
 behind_at [] ys n i e = ap (slice_get ys) (same n i e)
@@ -60,11 +56,6 @@ behind_at [] ys n i e = ap (slice_get ys) (same n i e)
     same n i e = omega (arith, e)
 behind_at (x ∷ xs) ys zero i e = absurd (omega (arith, e))
 behind_at (x ∷ xs) ys (suc n) i e = behind_at xs ys n i (omega (arith, e))
-
-front_of : {X : Type 0} (xs ys : List X) (i : ℕ) → i < length xs → slice_get (xs ++ ys) i ≡ slice_get xs i
-front_of [] ys i lt = absurd (omega (arith, lt))
-front_of (x ∷ xs) ys zero lt = refl
-front_of (x ∷ xs) ys (suc i) lt = front_of xs ys i (omega (arith, lt))
 
 -- ---- which handles stand for numbers
 
@@ -77,7 +68,7 @@ within_more given more t handle = go (slice_get given handle) refl
       where
         none : false ≡ true → is_given t (slice_get (given ++ more) handle) ≡ true
         none h = cc
-    go (Some of) e h = ap (is_given t) (front given more handle of e) ∙ h
+    go (Some of) e h = ap (is_given t) (get_kept given more handle of e) ∙ h
 
 -- these types stand from this handle on
 abbrev StandFrom : List IntType → ℕ → List IntType → Type 0
@@ -149,7 +140,7 @@ reply_typed x f args result reply sound k awaits is = record {
     taken = after_reply (length x.given) x.machine.blocks x.program.structs (signature_in x.program f) args reply
 
     first : StandFrom (x.given ++ (types_kept results ++ types_kept places)) (length x.given) (types_kept results)
-    first i lt = behind_at x.given (types_kept results ++ types_kept places) (length x.given + i) i refl ∙ front_of (types_kept results) (types_kept places) i lt
+    first i lt = behind_at x.given (types_kept results ++ types_kept places) (length x.given + i) i refl ∙ get_before (types_kept results) (types_kept places) i lt
 
     second : StandFrom (x.given ++ (types_kept results ++ types_kept places)) (next_after (length x.given) results) (types_kept places)
     second i lt =

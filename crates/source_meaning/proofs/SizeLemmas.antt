@@ -25,7 +25,7 @@ element_size : (known : List (List IntType)) (a : Elem) → elem_cells (map leng
 element_size known (e.Int t) = refl
 element_size known (e.Struct n) = known_size known n
 
-repeated_size : (n : ℕ) (xs : List IntType) → length (repeated n xs) ≡ n * length xs
+pub repeated_size : (n : ℕ) (xs : List IntType) → length (repeated n xs) ≡ n * length xs
 repeated_size zero xs = let e : 0 * length xs ≡ 0 = zero-mul (length xs) in sym e
 repeated_size (suc n) xs =
     let here = length-append xs (repeated n xs) in

@@ -3,6 +3,7 @@ use Rattle.std.proofs.Common.{◌≡◌, ◌∙◌, ◌<◌, ◌≤◌, ◌+◌,
 use Rattle.std.specs.Prelude.{if◌then◌else◌}
 use Rattle.std.specs.List.Sorted.{IsNonDecreasingBy}
 use Rattle.std.proofs.lemmas.Bool.{le-leb, lt-leb}
+use Rattle.facts.proofs.Numbers.{plus_suc_moved as more}
 use Rattle.source_places.specs.Places.{behind_feed, feeds_in, is_feed, line_after, place_at}
 use Rattle.source_places.specs.Starts.{begun, end_of, start_if, start_of, starts_of}
 
@@ -67,9 +68,6 @@ abbrev IsColumnIf : ℕ → List ℕ → ℕ → ℕ → Bool → ℕ → Type 0
 IsColumnIf at bs off n t zero = (if t then behind_feed 0 (take off bs) else behind_feed (suc n) (take off bs)) ≡ n + min (suc off) (suc (length bs))
 IsColumnIf at bs off n t (suc k) =
     (if t then behind_feed 0 (take off bs) else behind_feed (suc n) (take off bs)) + get_or (start_if t (suc at) ++ starts_of (suc at) bs) k 0 ≡ at + min (suc off) (suc (length bs))
-
-more : (at off : ℕ) → at + suc off ≡ suc at + off
-more at off = omega arith
 
 place : (at : ℕ) (text : List ℕ) (off n : ℕ) → IsPlace at text off n
 place at [] zero n = record { feeds = refl; column = go }

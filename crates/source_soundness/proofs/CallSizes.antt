@@ -34,15 +34,16 @@ use Rattle.source_meaning.proofs.SizeLemmas.{sizes}
 use Rattle.source_soundness.specs.Worlds.{World, type_in, depth_of, IsScoped, Fits, ValueFits}
 use Rattle.source_soundness.specs.Laws.{ArgumentsFit, CallsFit, IsWorldOf, main_world}
 use Rattle.source_soundness.specs.Sizes.{object_cells, PointsWithin, Sized, KeepsSizes, ValueSized, ArgumentsSized, CallsKeepSizes, DeepCallsKeepSizes, ProgramsBeginSized}
-use Rattle.source_soundness.proofs.Tests.{left, right, never}
 use Rattle.source_soundness.proofs.Operators.{scoped_of_pointer}
 use Rattle.source_soundness.proofs.CallSoundness.{deeper, still_live, newly_live, live_depth, Leads, leads, entered_fits}
-use Rattle.source_soundness.proofs.ProgramFacts.{Facts, facts, all_at, globals_are_plain}
+use Rattle.source_soundness.proofs.ProgramFacts.{Facts, facts, globals_are_plain}
 use Rattle.source_soundness.proofs.Programs.{code_of, entered_as, types_of, bodied, deeper_is, code_fits, body_is, function_is, named, calls_keep, outer_world, outer_fits, with_globals_holds}
 use Rattle.source_soundness.proofs.Layouts.{plain_cells}
 use Rattle.source_soundness.proofs.SizedObjects.{within_of_pointer}
 use Rattle.source_soundness.proofs.StatementSizes.{Good, Steady, cleared_length, cleared_points, statement_good}
-use Rattle.pt_base.proofs.SameNumbers.{same_number}
+use Rattle.pt_base.proofs.Booleans.{both_hold_first as left, both_hold_second, false_not_true}
+use Rattle.pt_base.proofs.Members.{all_true_at}
+use Rattle.pt_base.proofs.Numbers.{nat_eq_same}
 
 -- ---- worlds one deeper
 
@@ -117,7 +118,7 @@ entered_sized w m ss types ps vs lead args size h z = record { cells = cells_at;
     cells_at (local d x) ty is = go (nat_eq d (suc w.depth)) refl
       where
         go : (b : Bool) → nat_eq d (suc w.depth) ≡ b → length (if b then get_or (frame_cells ss types vs) x [] else m (local d x)) ≡ object_cells ss ty
-        go true e = frame_length ss w types ps vs x ty lead args (own d x ty is (same_number d (suc w.depth) e))
+        go true e = frame_length ss w types ps vs x ty lead args (own d x ty is (nat_eq_same d (suc w.depth) e))
         go false e = z.cells (local d x) ty (old d x ty is e)
 
     points_at : (b : Block) (elem : Elem) (fixed : Bool) → type_in (deeper w types) b ≡ Some (Pointer elem fixed) → PointsWithin (deeper w types) ss elem (read (with_frame m (suc w.depth) (frame_cells ss types vs)) b 0)
@@ -125,12 +126,12 @@ entered_sized w m ss types ps vs lead args size h z = record { cells = cells_at;
     points_at (local d x) elem fixed is = go (nat_eq d (suc w.depth)) refl
       where
         go : (b : Bool) → nat_eq d (suc w.depth) ≡ b → PointsWithin (deeper w types) ss elem (slice_index_or (if b then get_or (frame_cells ss types vs) x [] else m (local d x)) 0 (number (pos 0)))
-        go true e = frame_points w types ss types ps vs x elem fixed lead args size (own d x (Pointer elem fixed) is (same_number d (suc w.depth) e))
+        go true e = frame_points w types ss types ps vs x elem fixed lead args size (own d x (Pointer elem fixed) is (nat_eq_same d (suc w.depth) e))
         go false e = held_deeper w types ss m (local d x) elem fixed h z (old d x (Pointer elem fixed) is e)
 
 -- a function is left
 not_own : (w : World) (d x : ℕ) (ty : VarTy) → type_in w (local d x) ≡ Some ty → nat_eq d (suc w.depth) ≡ true → ⊥
-not_own w d x ty is e = apart d w.depth (live_depth w (local d x) ty is) (same_number d (suc w.depth) e)
+not_own w d x ty is e = apart d w.depth (live_depth w (local d x) ty is) (nat_eq_same d (suc w.depth) e)
   where
     apart : (d n : ℕ) → d ≤ n → d ≡ suc n → ⊥
     apart d n le e = omega (arith, le, e)
@@ -195,7 +196,7 @@ entered_sizes : (program : TypedTree) (w : World) (frame : Frame) (g : FunctionT
     ArgumentsFit w g.signature.params vs → ArgumentsSized w (sizes_of program.structs) g.signature.params vs → Good w (sizes_of program.structs) st.memory → CallSizes w (sizes_of program.structs) (entered_as program calls frame g vs st)
 entered_sizes program w frame g calls vs st facts world at sound no_host calls_fit calls_size args size m =
     let has = bodied program g sound no_host in
-    let lead = leads g.signature.params g.vars (right (nat_le (length g.signature.params) 8) (params_lead g.signature.params g.vars) (left (nat_le (length g.signature.params) 8 && params_lead g.signature.params g.vars) (list_all (variable_sound program.structs) g.vars && body_sound program g g.body) sound)) in
+    let lead = leads g.signature.params g.vars (both_hold_second (nat_le (length g.signature.params) 8) (params_lead g.signature.params g.vars) (left (nat_le (length g.signature.params) 8 && params_lead g.signature.params g.vars) (list_all (variable_sound program.structs) g.vars && body_sound program g g.body) sound)) in
     let depth_is = deeper_is w frame at in
     let begins : Good (deeper w (types_of g)) (sizes_of program.structs) (with_frame st.memory (suc w.depth) (frame_cells (sizes_of program.structs) (types_of g) vs)) = (
       entered_fits w st.memory (sizes_of program.structs) (types_of g) g.signature.params vs lead args m.0,
@@ -215,7 +216,7 @@ function_sizes : (program : TypedTree) (w : World) (frame : Frame) (f : ℕ) (ca
 function_sizes program w frame f calls vs st g facts world at is no_host calls_fit calls_size args size m =
     turn_sizes w (sizes_of program.structs) st.left st (λ st1. entered program calls frame f vs (noted (guarded_event frame.privileged (function_or_none program f).signature f (numbers_of vs)) st1)) m
     (λ st1 m1. subst (λ y. CallSizes w (sizes_of program.structs) (entered_as program calls frame y vs (noted (guarded_event frame.privileged (function_or_none program f).signature f (numbers_of vs)) st1))) (sym (function_is program f (Some g) is))
-    (entered_sizes program w frame g calls vs (noted (guarded_event frame.privileged (function_or_none program f).signature f (numbers_of vs)) st1) facts world at (all_at (function_sound program) program.functions f g facts.functions is) no_host calls_fit calls_size args size m1))
+    (entered_sizes program w frame g calls vs (noted (guarded_event frame.privileged (function_or_none program f).signature f (numbers_of vs)) st1) facts world at (all_true_at (function_sound program) program.functions f g facts.functions is) no_host calls_fit calls_size args size m1))
 
 -- a host's call is made, and any other entered
 by_host : (program : TypedTree) (w : World) (ss : List ℕ) (frame : Frame) (f : ℕ) (vs : List Value) (st : State) (g : FunctionTree) (deep : ℕ) (s : Span) → slice_get program.functions f ≡ Some g → Good w ss st.memory →
@@ -248,9 +249,9 @@ calls_keep_sizes program n w frame deep h world at sigs = calls_sized deep progr
 
 cells_length : (ts : List IntType) (vs : List ℤ) → cells_fit ts vs ≡ true → length vs ≡ length ts
 cells_length [] [] h = refl
-cells_length [] (v ∷ vs) h = never h
-cells_length (t ∷ ts) [] h = never h
-cells_length (t ∷ ts) (v ∷ vs) h = ap suc (cells_length ts vs (right (is_in_range t v) (cells_fit ts vs) h))
+cells_length [] (v ∷ vs) h = false_not_true h
+cells_length (t ∷ ts) [] h = false_not_true h
+cells_length (t ∷ ts) (v ∷ vs) h = ap suc (cells_length ts vs (both_hold_second (is_in_range t v) (cells_fit ts vs) h))
 
 -- what lies below the globals that are laid out stays
 earlier_stay : (xs : List TypedGlobal) (m : Memory) (k j : ℕ) → j < k → with_globals m k xs (global j) ≡ m (global j)
@@ -283,7 +284,7 @@ laid_out (y ∷ xs) m k (suc i) j x e is = laid_out xs (put m (global k) (map nu
 global_size : (structs : List StructInfo) (x : TypedGlobal) → global_sound structs x ≡ true → length (map number x.cells) ≡ cells_by (sizes_of structs) x.var.ty
 unfolding leaves_of
 global_size structs x h =
-    let fit = right (is_none x.var.holds) (cells_fit (leaves_of structs x.var.ty) x.cells) (right (is_plain_type (length structs) x.var.ty && is_small structs x.var.ty) (is_none x.var.holds && cells_fit (leaves_of structs x.var.ty) x.cells) h) in
+    let fit = both_hold_second (is_none x.var.holds) (cells_fit (leaves_of structs x.var.ty) x.cells) (both_hold_second (is_plain_type (length structs) x.var.ty && is_small structs x.var.ty) (is_none x.var.holds && cells_fit (leaves_of structs x.var.ty) x.cells) h) in
     length-map x.cells number ∙ cells_length (leaves_of structs x.var.ty) x.cells fit ∙ sym (sizes structs x.var.ty)
 
 entry_type : (xs : List TypedGlobal) (g : ℕ) (ty : VarTy) → slice_get (map (λ (x : TypedGlobal). x.var.ty) xs) g ≡ Some ty → (x : TypedGlobal) × (slice_get xs g ≡ Some x) × (x.var.ty ≡ ty)
@@ -305,12 +306,12 @@ outer_sized program facts = record { cells = cells_at; pointers = points_at }
     cells_at : (b : Block) (ty : VarTy) → type_in (outer_world program) b ≡ Some ty → length (with_globals nothing_live 0 program.globals b) ≡ object_cells (sizes_of program.structs) ty
     cells_at (global g) ty is =
         let entry = entry_type program.globals g ty is in
-        ap length (laid_out program.globals nothing_live 0 g g entry.0 (from_none g) entry.1) ∙ global_size program.structs entry.0 (all_at (global_sound program.structs) program.globals g entry.0 facts.globals entry.1)
+        ap length (laid_out program.globals nothing_live 0 g g entry.0 (from_none g) entry.1) ∙ global_size program.structs entry.0 (all_true_at (global_sound program.structs) program.globals g entry.0 facts.globals entry.1)
         ∙ ap (cells_by (sizes_of program.structs)) entry.2 ∙ sym (plain_cells (sizes_of program.structs) ty (globals_are_plain program.structs program.globals g ty facts.globals is))
     cells_at (local d x) ty is = none_live ty (nat_le 1 d) (nat_le d 0) is
 
     points_at : (b : Block) (elem : Elem) (fixed : Bool) → type_in (outer_world program) b ≡ Some (Pointer elem fixed) → PointsWithin (outer_world program) (sizes_of program.structs) elem (read (with_globals nothing_live 0 program.globals) b 0)
-    points_at (global g) elem fixed is = never (sym (globals_are_plain program.structs program.globals g (Pointer elem fixed) facts.globals is))
+    points_at (global g) elem fixed is = false_not_true (sym (globals_are_plain program.structs program.globals g (Pointer elem fixed) facts.globals is))
     points_at (local d x) elem fixed is = none_live (Pointer elem fixed) (nat_le 1 d) (nat_le d 0) is
 
 begun_sized : (program : TypedTree) (g : FunctionTree) → Facts program → Sized (main_world program g) (sizes_of program.structs) (with_frame (with_globals nothing_live 0 program.globals) 1 (frame_cells (sizes_of program.structs) (types_of g) []))

@@ -17,10 +17,10 @@ use Rattle.source_meaning.specs.Functions.{without_locals}
 use Rattle.source_soundness.specs.Worlds.{World, type_in, depth_of, IsScoped, CellsFit, Fits, ValueFits}
 use Rattle.source_soundness.specs.Laws.{ArgumentsFit}
 use Rattle.typed_tree.proofs.SameTypes.{equal_types}
-use Rattle.source_soundness.proofs.Tests.{left, right, never}
 use Rattle.source_soundness.proofs.Operators.{number_of_int, scoped_of_pointer}
 use Rattle.source_soundness.proofs.StatementSoundness.{cleared_fit}
-use Rattle.pt_base.proofs.SameNumbers.{same_number}
+use Rattle.pt_base.proofs.Booleans.{both_hold_first, both_hold_second, false_not_true}
+use Rattle.pt_base.proofs.Numbers.{nat_eq_same}
 
 -- ---- worlds one deeper
 
@@ -91,10 +91,10 @@ Leads (p ∷ ps) (ty ∷ types) = (param_type p.kind ≡ ty) × Leads ps types
 
 pub leads : (ps : List Param) (xs : List Var) → IsTrue (params_lead ps xs) → Leads ps (map (λ (x : Var). x.ty) xs)
 leads [] xs h = tt
-leads (p ∷ ps) [] h = never h
+leads (p ∷ ps) [] h = false_not_true h
 leads (p ∷ ps) (x ∷ xs) h =
-    let first = left (same_type (param_type p.kind) x.ty && same_bool p.marked x.marked) (params_lead ps xs) h in
-    (equal_types (param_type p.kind) x.ty (left (same_type (param_type p.kind) x.ty) (same_bool p.marked x.marked) first), leads ps xs (right (same_type (param_type p.kind) x.ty && same_bool p.marked x.marked) (params_lead ps xs) h))
+    let first = both_hold_first (same_type (param_type p.kind) x.ty && same_bool p.marked x.marked) (params_lead ps xs) h in
+    (equal_types (param_type p.kind) x.ty (both_hold_first (same_type (param_type p.kind) x.ty) (same_bool p.marked x.marked) first), leads ps xs (both_hold_second (same_type (param_type p.kind) x.ty && same_bool p.marked x.marked) (params_lead ps xs) h))
 
 argument_cell : (w : World) (types : List VarTy) (kind : ParamKind) (v : Value) → ValueFits w (Some (param_type kind)) v → CellsFit (deeper w types) (suc w.depth) (param_type kind) (cell_of v ∷ [])
 argument_cell w types (k.Int t) v h = (number_of_int w t v h, tt)
@@ -134,7 +134,7 @@ entered_fits w m ss types ps vs lead args h (local d x) ty is = go (nat_eq d (su
     below le e = grind (arith, nat_tests)
 
     go : (b : Bool) → nat_eq d (suc w.depth) ≡ b → CellsFit (deeper w types) d ty (if b then get_or (frame_cells ss types vs) x [] else m (local d x))
-    go true e = own (same_number d (suc w.depth) e)
+    go true e = own (nat_eq_same d (suc w.depth) e)
     go false e =
         let le = below (live_depth (deeper w types) (local d x) ty is) e in
         cells_deeper w types d ty (m (local d x)) le (h (local d x) ty (sym (still_live w types (local d x) le) ∙ is))
@@ -148,7 +148,7 @@ left_fits w m types h (local d x) ty is = go (nat_eq d (suc w.depth)) refl
     le = live_depth w (local d x) ty is
 
     go : (b : Bool) → nat_eq d (suc w.depth) ≡ b → CellsFit w d ty (if b then [] else m (local d x))
-    go true e = none_so (same_number d (suc w.depth) e)
+    go true e = none_so (nat_eq_same d (suc w.depth) e)
       where
         none_so : d ≡ suc w.depth → CellsFit w d ty []
         none_so e = absurd (impossible le e)

@@ -13,4 +13,3 @@ pub mod Soundness
 pub mod StatementSizes
 pub mod StatementSoundness
 pub mod Steps
-pub mod Tests

@@ -7,8 +7,8 @@ use Rattle.typed_tree.specs.declared.types.VarTy.TheVariants.{Int, Struct, Array
 use Rattle.source_meaning.specs.Memory.{Block, local, global, same_block, Cell, number, Memory, put, write}
 use Rattle.source_meaning.specs.Expressions.{write_all}
 use Rattle.source_soundness.specs.Worlds.{World, type_in, depth_of, is_pointer, IsNumber, AreNumbers, CellsFit, Fits}
-use Rattle.source_soundness.proofs.Tests.{left, right}
-use Rattle.pt_base.proofs.SameNumbers.{same_number}
+use Rattle.pt_base.proofs.Booleans.{both_hold_first, both_hold_second}
+use Rattle.pt_base.proofs.Numbers.{nat_eq_same}
 
 -- ---- lists of numbers
 
@@ -36,10 +36,10 @@ numbers_drop (suc n) (c ∷ cs) h = numbers_drop n cs h.1
 
 pub equal_blocks : (a b : Block) → same_block a b ≡ true → a ≡ b
 equal_blocks (local d x) (local e y) h =
-    ap (λ z. local z x) (same_number d e (left (nat_eq d e) (nat_eq x y) h)) ∙ ap (local e) (same_number x y (right (nat_eq d e) (nat_eq x y) h))
+    ap (λ z. local z x) (nat_eq_same d e (both_hold_first (nat_eq d e) (nat_eq x y) h)) ∙ ap (local e) (nat_eq_same x y (both_hold_second (nat_eq d e) (nat_eq x y) h))
 equal_blocks (local d x) (global g) h = cc
 equal_blocks (global g) (local d x) h = cc
-equal_blocks (global g) (global k) h = ap global (same_number g k h)
+equal_blocks (global g) (global k) h = ap global (nat_eq_same g k h)
 
 -- an object that is no pointer variable has numbers
 pub numbers_in : (w : World) (d : ℕ) (ty : VarTy) (cells : List Cell) → is_pointer ty ≡ false → CellsFit w d ty cells → AreNumbers cells

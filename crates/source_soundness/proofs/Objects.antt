@@ -1,6 +1,7 @@
 -- Reading and writing objects.
 use Rattle.std.proofs.Common.{◌≡◌, ◌∙◌, ◌≤◌, ℕ, pos, refl, ap, sym, subst, arith, true, false, Some, List, [], ◌∷◌}
 use Rattle.std.specs.Prelude.{IsTrue, slice_set, slice_index_or, drop}
+use Rattle.pt_base.proofs.Booleans.{false_not_true}
 use Rattle.typed_tree.specs.declared.types.VarTy.{VarTy}
 use Rattle.typed_tree.specs.declared.types.VarTy.TheVariants.{Int, Struct, Array, Pointer}
 use Rattle.typed_tree.specs.Sizes.{cells_by}
@@ -10,7 +11,6 @@ use Rattle.source_meaning.specs.State.{State}
 use Rattle.source_meaning.specs.Values.{Value, holds, whole, nothing, Location}
 use Rattle.source_meaning.specs.Expressions.{Context, sizes, loaded, cells_at, stored_in}
 use Rattle.source_soundness.specs.Worlds.{World, type_in, depth_of, is_pointer, IsScoped, CellsFit, Fits, ValueFits, PartFits, LocationFits}
-use Rattle.source_soundness.proofs.Tests.{never}
 use Rattle.source_soundness.proofs.Memories.{numbers_get, numbers_take, numbers_drop, numbers_in, put_fits, number_written, numbers_written}
 
 -- a part that is no pointer lies in an object that is none
@@ -18,7 +18,7 @@ pub plain_part : (cell : ℕ) (in_ ty : VarTy) → PartFits cell in_ ty → is_p
 plain_part cell (Int t) ty part p = refl
 plain_part cell (Struct n) ty part p = refl
 plain_part cell (Array elem count) ty part p = refl
-plain_part cell (Pointer elem fixed) ty part p = never (sym p ∙ ap is_pointer part.1)
+plain_part cell (Pointer elem fixed) ty part p = false_not_true (sym p ∙ ap is_pointer part.1)
 
 -- a pointer is a variable itself
 pub record PointerPart (cell : ℕ) (in_ ty : VarTy) : Type 0 where
@@ -26,9 +26,9 @@ pub record PointerPart (cell : ℕ) (in_ ty : VarTy) : Type 0 where
   pub whole_is : in_ ≡ ty
 
 pub pointer_part : (cell : ℕ) (in_ ty : VarTy) → PartFits cell in_ ty → is_pointer ty ≡ true → PointerPart cell in_ ty
-pointer_part cell (Int t) ty part p = never (sym part ∙ p)
-pointer_part cell (Struct n) ty part p = never (sym part ∙ p)
-pointer_part cell (Array elem count) ty part p = never (sym part ∙ p)
+pointer_part cell (Int t) ty part p = false_not_true (sym part ∙ p)
+pointer_part cell (Struct n) ty part p = false_not_true (sym part ∙ p)
+pointer_part cell (Array elem count) ty part p = false_not_true (sym part ∙ p)
 pointer_part cell (Pointer elem fixed) ty part p = record { first = part.0; whole_is = sym part.1 }
 
 pub scoped_up : (w : World) (d e : ℕ) (c : Cell) → d ≤ e → IsScoped w d c → IsScoped w e c
@@ -60,7 +60,7 @@ loaded_as w c at st in_ (Struct n) h live low part v = (
   numbers_take (cells_by (sizes c) (Struct n)) (drop at.cell (st.memory at.block))
       (numbers_drop at.cell (st.memory at.block) (numbers_in w (depth_of at.block) in_ (st.memory at.block) (plain_part at.cell in_ (Struct n) part refl) (h at.block in_ live))),
 )
-loaded_as w c at st in_ (Array elem count) h live low part v = never v
+loaded_as w c at st in_ (Array elem count) h live low part v = false_not_true v
 loaded_as w c at st in_ (Pointer elem fixed) h live low part v =
     let p = pointer_part at.cell in_ (Pointer elem fixed) part refl in
     let held = held_pointer w st.memory at.block at.cell (Pointer elem fixed) in_ h live p refl in

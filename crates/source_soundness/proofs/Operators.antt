@@ -2,6 +2,7 @@
 use Rattle.std.proofs.Common.{◌≡◌, ℕ, ℤ, refl, sym, subst, Bool, true, Option, Some, None, Result, Ok, Err}
 use Rattle.pt_base.specs.declared.int_type.IntType.{IntType}
 use Rattle.pt_base.specs.declared.trap.Trap.{Trap}
+use Rattle.pt_base.proofs.Booleans.{both_hold_second, false_not_true}
 use Rattle.pt_int.specs.declared.operator.UnOp.{UnOp}
 use Rattle.pt_int.specs.declared.operator.UnOp.TheVariants as u
 use Rattle.pt_int.specs.Conversion.{conv}
@@ -18,7 +19,6 @@ use Rattle.source_meaning.specs.Values.{Value, holds, whole, nothing, cell_of, n
 use Rattle.source_meaning.specs.Expressions.{type_or_int}
 use Rattle.source_soundness.specs.Worlds.{World, IsNumber, IsScoped, ValueFits}
 use Rattle.typed_tree.proofs.SameTypes.{equal_options}
-use Rattle.source_soundness.proofs.Tests.{right, never}
 
 -- where there is a result, it is so
 abbrev pub Gives : {A : Type 0} → (A → Type 0) → Result A Trap → Type 0
@@ -81,14 +81,14 @@ at_type w a t r e h = subst (λ x. Gives (FitsAs w x) r) e h
 -- both are of one type
 pub same_promoted_is : (a t : Option VarTy) → r.is_same_promoted a t ≡ true → (x : IntType) × (y : IntType) × (a ≡ Some (Int x)) × (t ≡ Some (Int y))
 same_promoted_is (Some (Int a)) (Some (Int b)) h = (a, b, refl, refl)
-same_promoted_is None t h = never h
-same_promoted_is (Some (Struct n)) t h = never h
-same_promoted_is (Some (Array e n)) t h = never h
-same_promoted_is (Some (Pointer e f)) t h = never h
-same_promoted_is (Some (Int a)) None h = never h
-same_promoted_is (Some (Int a)) (Some (Struct n)) h = never h
-same_promoted_is (Some (Int a)) (Some (Array e n)) h = never h
-same_promoted_is (Some (Int a)) (Some (Pointer e f)) h = never h
+same_promoted_is None t h = false_not_true h
+same_promoted_is (Some (Struct n)) t h = false_not_true h
+same_promoted_is (Some (Array e n)) t h = false_not_true h
+same_promoted_is (Some (Pointer e f)) t h = false_not_true h
+same_promoted_is (Some (Int a)) None h = false_not_true h
+same_promoted_is (Some (Int a)) (Some (Struct n)) h = false_not_true h
+same_promoted_is (Some (Int a)) (Some (Array e n)) h = false_not_true h
+same_promoted_is (Some (Int a)) (Some (Pointer e f)) h = false_not_true h
 
 promoted_unary : (w : World) (op : UnOp) (a t : Option VarTy) (c : Cell) → r.is_same_promoted a t ≡ true → Gives (FitsAs w t) (unary_cell op (type_or_int a) c)
 promoted_unary w op a t c h =
@@ -101,7 +101,7 @@ unary_gives w u.Minus a t c h = promoted_unary w u.Minus a t c h
 unary_gives w u.Plus a t c h = promoted_unary w u.Plus a t c h
 unary_gives w u.Flip a t c h = promoted_unary w u.Flip a t c h
 unary_gives w u.Not a t c h =
-    at_type w r.int t (unary_cell u.Not (type_or_int a) c) (sym (equal_options t r.int (right (is_scalar a) (same_types t r.int) h))) tt
+    at_type w r.int t (unary_cell u.Not (type_or_int a) c) (sym (equal_options t r.int (both_hold_second (is_scalar a) (same_types t r.int) h))) tt
 
 pub converted_fits : (w : World) (a t : Option VarTy) (v : Value) → converts a t ≡ true → ValueFits w a v → ValueFits w t (converted (type_or_int t) v)
 converted_fits w (Some (Int a)) (Some (Int b)) v h fit = number_conv v (number_of_int w a v fit)
@@ -114,14 +114,14 @@ converted_fits w (Some (Int a)) (Some (Int b)) v h fit = number_conv v (number_o
         go null n = absurd n
         go (pointer block base count index) n = absurd n
 converted_fits w (Some (Pointer a f)) (Some (Pointer b g)) v h fit = (cell_of v, refl, scoped_of_pointer w a f v fit)
-converted_fits w None t v h fit = never h
-converted_fits w (Some (Struct n)) t v h fit = never h
-converted_fits w (Some (Array e n)) t v h fit = never h
-converted_fits w (Some (Int a)) None v h fit = never h
-converted_fits w (Some (Int a)) (Some (Struct n)) v h fit = never h
-converted_fits w (Some (Int a)) (Some (Array e n)) v h fit = never h
-converted_fits w (Some (Int a)) (Some (Pointer e f)) v h fit = never h
-converted_fits w (Some (Pointer a f)) None v h fit = never h
-converted_fits w (Some (Pointer a f)) (Some (Int b)) v h fit = never h
-converted_fits w (Some (Pointer a f)) (Some (Struct n)) v h fit = never h
-converted_fits w (Some (Pointer a f)) (Some (Array e n)) v h fit = never h
+converted_fits w None t v h fit = false_not_true h
+converted_fits w (Some (Struct n)) t v h fit = false_not_true h
+converted_fits w (Some (Array e n)) t v h fit = false_not_true h
+converted_fits w (Some (Int a)) None v h fit = false_not_true h
+converted_fits w (Some (Int a)) (Some (Struct n)) v h fit = false_not_true h
+converted_fits w (Some (Int a)) (Some (Array e n)) v h fit = false_not_true h
+converted_fits w (Some (Int a)) (Some (Pointer e f)) v h fit = false_not_true h
+converted_fits w (Some (Pointer a f)) None v h fit = false_not_true h
+converted_fits w (Some (Pointer a f)) (Some (Int b)) v h fit = false_not_true h
+converted_fits w (Some (Pointer a f)) (Some (Struct n)) v h fit = false_not_true h
+converted_fits w (Some (Pointer a f)) (Some (Array e n)) v h fit = false_not_true h

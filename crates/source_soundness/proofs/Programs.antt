@@ -6,6 +6,9 @@ use Rattle.std.proofs.lemmas.Bool.Decides.{nat_tests}
 use Rattle.pt_base.specs.declared.int_type.IntType.{IntType}
 use Rattle.pt_base.specs.declared.span.Span.{Span}
 use Rattle.pt_base.specs.declared.trap.Trap.TheVariants as trap
+use Rattle.pt_base.proofs.Booleans.{both_hold_first, both_hold_second, false_not_true}
+use Rattle.pt_base.proofs.Members.{all_true_at}
+use Rattle.pt_base.proofs.Places.{get_map}
 use Rattle.pt_tree.specs.declared.signature.Signature.{Signature}
 use Rattle.runs.specs.State.{gives, trapped, spent, ◌>>=◌, noted, guarded_event, answer_of}
 use Rattle.typed_tree.specs.declared.types.VarTy.{VarTy}
@@ -26,11 +29,10 @@ use Rattle.source_meaning.specs.Functions.{no_function, function_or_none, body_o
 use Rattle.source_meaning.specs.WholeRun.{with_globals}
 use Rattle.source_soundness.specs.Worlds.{World, AreNumbers, CellsFit, Fits, ValueFits}
 use Rattle.source_soundness.specs.Laws.{Keeps, ArgumentsFit, CallsFit, FlowFits, CodeFits, IsWorldOf, main_world, CallsKeepTypes, ProgramsBeginFitting}
-use Rattle.source_soundness.proofs.Tests.{left, right, never, got}
 use Rattle.source_soundness.proofs.Memories.{numbers_fit}
 use Rattle.source_soundness.proofs.StatementSoundness.{turn_keeps, statement_keeps}
 use Rattle.source_soundness.proofs.CallSoundness.{deeper, leads, entered_fits, left_fits}
-use Rattle.source_soundness.proofs.ProgramFacts.{Facts, facts, all_at, fields_are_plain, globals_are_plain}
+use Rattle.source_soundness.proofs.ProgramFacts.{Facts, facts, fields_are_plain, globals_are_plain}
 
 -- a part in one world, and then one that ends in another
 keeps_across : {A B : Type 0} (w w' : World) (Q : A → Type 0) (R : B → Type 0) (o : Outcome A) (next : A → State → Outcome B) → Keeps w' Q o → ((a : A) (st : State) → Q a → Fits w' st.memory → Keeps w R (next a st)) → Keeps w R (o >>= next)
@@ -95,11 +97,11 @@ pub record Bodied (program : TypedTree) (g : FunctionTree) : Type 0 where
   pub sound : is_sound (scope_in program g) false false body ≡ true
 
 pub bodied : (program : TypedTree) (g : FunctionTree) → function_sound program g ≡ true → g.signature.host ≡ false → Bodied program g
-bodied program g h no_host = go g.body refl (right (list_all (variable_sound program.structs) g.vars) (body_sound program g g.body) (right (nat_le (length g.signature.params) 8 && params_lead g.signature.params g.vars) (list_all (variable_sound program.structs) g.vars && body_sound program g g.body) h))
+bodied program g h no_host = go g.body refl (both_hold_second (list_all (variable_sound program.structs) g.vars) (body_sound program g g.body) (both_hold_second (nat_le (length g.signature.params) 8 && params_lead g.signature.params g.vars) (list_all (variable_sound program.structs) g.vars && body_sound program g g.body) h))
   where
     go : (o : Option BodyTree) → g.body ≡ o → body_sound program g o ≡ true → Bodied program g
-    go None e h = never (sym no_host ∙ left g.signature.host (list_all is_integer_param g.signature.params && nat_eq (length g.vars) (length g.signature.params)) h)
-    go (Some body) e h = record { body = body; is = e; sound = right (is_block body) (is_sound (scope_in program g) false false body) (right (not g.signature.host) (is_block body && is_sound (scope_in program g) false false body) h) }
+    go None e h = false_not_true (sym no_host ∙ both_hold_first g.signature.host (list_all is_integer_param g.signature.params && nat_eq (length g.vars) (length g.signature.params)) h)
+    go (Some body) e h = record { body = body; is = e; sound = both_hold_second (is_block body) (is_sound (scope_in program g) false false body) (both_hold_second (not g.signature.host) (is_block body && is_sound (scope_in program g) false false body) h) }
 
 abbrev pub types_of : FunctionTree → List VarTy
 types_of g = map (λ x. x.ty) g.vars
@@ -137,7 +139,7 @@ entered_keeps : (program : TypedTree) (w : World) (frame : Frame) (g : FunctionT
     CallsFit (deeper w (types_of g)) (names_in program g) (frame_in frame g.signature) calls → ArgumentsFit w g.signature.params vs → Fits w st.memory → Keeps w (ValueFits w (option_map Int g.signature.result)) (entered_as program calls frame g vs st)
 entered_keeps program w frame g calls vs st k world at sound no_host calls_fit args m =
     let has = bodied program g sound no_host in
-    let lead = right (nat_le (length g.signature.params) 8) (params_lead g.signature.params g.vars) (left (nat_le (length g.signature.params) 8 && params_lead g.signature.params g.vars) (list_all (variable_sound program.structs) g.vars && body_sound program g g.body) sound) in
+    let lead = both_hold_second (nat_le (length g.signature.params) 8) (params_lead g.signature.params g.vars) (both_hold_first (nat_le (length g.signature.params) 8 && params_lead g.signature.params g.vars) (list_all (variable_sound program.structs) g.vars && body_sound program g g.body) sound) in
     let depth_is = deeper_is w frame at in
     let begins = entered_fits w st.memory (sizes (code_of program g (frame_in frame g.signature) calls).context) (types_of g) g.signature.params vs (leads g.signature.params g.vars lead) args m in
     keeps_across w (deeper w (types_of g)) (FlowFits (deeper w (types_of g)) g.signature.result) (ValueFits w (option_map Int g.signature.result))
@@ -160,7 +162,7 @@ pub record Named (program : TypedTree) (f : ℕ) (signature : Signature) : Type 
   pub has : entry.signature ≡ signature
 
 pub named : (program : TypedTree) (f : ℕ) (signature : Signature) → slice_get (signatures_of program) f ≡ Some signature → Named program f signature
-named program f signature h = go (slice_get program.functions f) refl (sym (got (λ (g : FunctionTree). g.signature) program.functions f) ∙ h)
+named program f signature h = go (slice_get program.functions f) refl (sym (get_map (λ (g : FunctionTree). g.signature) program.functions f) ∙ h)
   where
     go : (o : Option FunctionTree) → slice_get program.functions f ≡ o → option_map (λ (g : FunctionTree). g.signature) o ≡ Some signature → Named program f signature
     go None e h = cc
@@ -175,7 +177,7 @@ function_keeps : (program : TypedTree) (w : World) (frame : Frame) (f : ℕ) (ca
 function_keeps program w frame f calls vs st g k world at is no_host calls_fit args m =
     turn_keeps w (ValueFits w (option_map Int g.signature.result)) st.left st (λ st1. entered program calls frame f vs (noted (guarded_event frame.privileged (function_or_none program f).signature f (numbers_of vs)) st1)) m
     (λ st1 m1. subst (λ z. Keeps w (ValueFits w (option_map Int g.signature.result)) (entered_as program calls frame z vs (noted (guarded_event frame.privileged (function_or_none program f).signature f (numbers_of vs)) st1))) (sym (function_is program f (Some g) is))
-    (entered_keeps program w frame g calls vs (noted (guarded_event frame.privileged (function_or_none program f).signature f (numbers_of vs)) st1) k world at (all_at (function_sound program) program.functions f g k.functions is) no_host calls_fit args m1))
+    (entered_keeps program w frame g calls vs (noted (guarded_event frame.privileged (function_or_none program f).signature f (numbers_of vs)) st1) k world at (all_true_at (function_sound program) program.functions f g k.functions is) no_host calls_fit args m1))
 
 -- a host's call is made, and any other entered
 by_host : (program : TypedTree) (w : World) (frame : Frame) (f : ℕ) (vs : List Value) (st : State) (g : FunctionTree) (signature : Signature) (deep : ℕ) (s : Span) → slice_get program.functions f ≡ Some g → g.signature ≡ signature → Fits w st.memory →

@@ -2,8 +2,9 @@
 use Rattle.std.proofs.Common.{◌≡◌, ◌∙◌, ◌≤◌, ◌<◌, ℕ, zero, suc, ◌+◌, ◌*◌, pos, ℤ, refl, ap, sym, subst, arith, Bool, true, false, Option, Some, None, List, [], ◌∷◌, length, length-drop, length-take-le, Ok, Err, if◌then◌else◌, nat_lt}
 use Rattle.std.specs.Prelude.{slice_set, slice_index_or, take, drop}
 use Rattle.std.proofs.Math.Nat.{mul-le-mul_right, suc-mul}
-use Rattle.std.proofs.lemmas.Bool.Decides.{nat_tests}
 use Rattle.pt_base.specs.declared.trap.Trap.TheVariants.{Bounds}
+use Rattle.pt_base.proofs.Booleans.{false_not_true}
+use Rattle.pt_base.proofs.Numbers.{nat_lt_below}
 use Rattle.pt_tree.specs.declared.signature.Elem.{Elem}
 use Rattle.pt_tree.specs.declared.signature.Elem.TheVariants as e
 use Rattle.runs.specs.Pointers.{if_ok, moved_index, at_index, cell_at}
@@ -17,7 +18,6 @@ use Rattle.source_meaning.specs.Values.{Value, holds, whole, nothing, cell_of, p
 use Rattle.source_meaning.specs.Expressions.{Context, sizes, dereferenced, object_at, loaded, write_all, stored_in}
 use Rattle.source_soundness.specs.Worlds.{World, type_in, is_pointer, ValueFits, PartFits, LocationFits}
 use Rattle.source_soundness.specs.Sizes.{object_cells, PointsWithin, Sized, ValueSized, LiesWithin}
-use Rattle.source_soundness.proofs.Tests.{never}
 use Rattle.source_soundness.proofs.Memories.{equal_blocks}
 use Rattle.source_soundness.proofs.Objects.{plain_part, pointer_part}
 use Rattle.source_soundness.proofs.Operators.{Gives}
@@ -70,9 +70,6 @@ within_of_pointer w ss elem fixed (holds c) h = h
 within_of_pointer w ss elem fixed (whole cells) h = tt
 within_of_pointer w ss elem fixed nothing h = tt
 
-less : (n m : ℕ) → nat_lt n m ≡ true → n < m
-less n m h = grind (arith, nat_tests)
-
 -- an element that a pointer reaches lies within
 element_fits : (base count index size own all : ℕ) → index < count → own ≡ size → base + count * size ≤ all → base + index * size + own ≤ all
 element_fits base count index size own all lt e h =
@@ -87,7 +84,7 @@ pointee_within w c elem fixed null h = tt
 pointee_within w c elem fixed (pointer block base count index) h = go (nat_lt index count) refl
   where
     go : (b : Bool) → nat_lt index count ≡ b → Gives (LiesWithin w (sizes c)) (if_ok (if b then Ok (block, cell_at (elem_cells (sizes c) elem) base index) else Err Bounds) (object_at (type_of_elem elem)))
-    go true lt = λ ty is. element_fits base count index (elem_cells (sizes c) elem) (object_cells (sizes c) (type_of_elem elem)) (object_cells (sizes c) ty) (less index count lt) (elem_object (sizes c) elem) (h ty is)
+    go true lt = λ ty is. element_fits base count index (elem_cells (sizes c) elem) (object_cells (sizes c) (type_of_elem elem)) (object_cells (sizes c) ty) (nat_lt_below index count lt) (elem_object (sizes c) elem) (h ty is)
     go false lt = tt
 
 -- ---- memories
@@ -117,7 +114,7 @@ no_pointer w b in_ elem fixed live plain is = ap is_pointer (one_type w b (Point
 pub cell_written : (w : World) (ss : List ℕ) (m : Memory) (b : Block) (at : ℕ) (c : Cell) (in_ : VarTy) → Sized w ss m → type_in w b ≡ Some in_ → is_pointer in_ ≡ false → Sized w ss (write m b at c)
 cell_written w ss m b at c in_ z live plain =
     put_sized w ss m b (slice_set (m b) at c) z (λ ty is. set_length (m b) at c ∙ z.cells b ty is)
-    (λ elem fixed is. never (sym (no_pointer w b in_ elem fixed live plain is)))
+    (λ elem fixed is. false_not_true (sym (no_pointer w b in_ elem fixed live plain is)))
 
 cells_written : (w : World) (ss : List ℕ) (m : Memory) (b : Block) (at : ℕ) (cells : List Cell) (in_ : VarTy) → Sized w ss m → type_in w b ≡ Some in_ → is_pointer in_ ≡ false → Sized w ss (write_all m b at cells)
 cells_written w ss m b at [] in_ z live plain = z

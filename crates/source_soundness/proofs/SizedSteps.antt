@@ -4,6 +4,7 @@ use Rattle.std.specs.Prelude.{IsTrue, ◌&&◌, ◌||◌, not}
 use Rattle.pt_base.specs.declared.int_type.IntType.{IntType}
 use Rattle.pt_base.specs.declared.int_type.IntType.TheVariants as i
 use Rattle.pt_base.specs.declared.trap.Trap.{Trap}
+use Rattle.pt_base.proofs.Booleans.{both_hold_first, both_hold_second, false_not_true}
 use Rattle.pt_int.specs.declared.operator.UnOp.{UnOp}
 use Rattle.pt_int.specs.declared.operator.UnOp.TheVariants as u
 use Rattle.pt_int.specs.Conversion.{conv}
@@ -30,7 +31,6 @@ use Rattle.source_soundness.specs.Worlds.{World, type_in, LocationFits}
 use Rattle.source_soundness.specs.Laws.{ContextFits}
 use Rattle.source_soundness.specs.Sizes.{object_cells, PointsWithin, Sized, ValueSized, LiesWithin, CallsKeepSizes}
 use Rattle.typed_tree.proofs.SameTypes.{equal_options, equal_elems}
-use Rattle.source_soundness.proofs.Tests.{left, right, never}
 use Rattle.source_soundness.proofs.Operators.{Gives, same_promoted_is}
 use Rattle.source_soundness.proofs.Steps.{when, IsInt, arithmetic_int, shift_int, moved_is, field_is}
 use Rattle.source_soundness.proofs.Layouts.{field_within}
@@ -68,22 +68,22 @@ pub unary_sized : (w : World) (ss : List ℕ) (op : UnOp) (a t : Option VarTy) (
 unary_sized w ss u.Minus a t v h = let p = same_promoted_is a t h in int_sized w ss p.1 t v p.3
 unary_sized w ss u.Plus a t v h = let p = same_promoted_is a t h in int_sized w ss p.1 t v p.3
 unary_sized w ss u.Flip a t v h = let p = same_promoted_is a t h in int_sized w ss p.1 t v p.3
-unary_sized w ss u.Not a t v h = int_sized w ss i.Int t v (equal_options t r.int (right (is_scalar a) (same_types t r.int) h))
+unary_sized w ss u.Not a t v h = int_sized w ss i.Int t v (equal_options t r.int (both_hold_second (is_scalar a) (same_types t r.int) h))
 
 pub converted_sized : (w : World) (ss : List ℕ) (a t : Option VarTy) (v : Value) → converts a t ≡ true → ValueSized w ss a v → ValueSized w ss t (converted (type_or_int t) v)
 converted_sized w ss (Some (Int a)) (Some (Int b)) v h p = tt
-converted_sized w ss (Some (Pointer a g)) (Some (Pointer b k)) v h p = subst (λ z. PointsWithin w ss z (cell_of v)) (equal_elems a b (left (same_elem a b) (not g || k) h)) (within_of_pointer w ss a g v p)
-converted_sized w ss None t v h p = never h
-converted_sized w ss (Some (Struct n)) t v h p = never h
-converted_sized w ss (Some (Array e n)) t v h p = never h
-converted_sized w ss (Some (Int a)) None v h p = never h
-converted_sized w ss (Some (Int a)) (Some (Struct n)) v h p = never h
-converted_sized w ss (Some (Int a)) (Some (Array e n)) v h p = never h
-converted_sized w ss (Some (Int a)) (Some (Pointer e k)) v h p = never h
-converted_sized w ss (Some (Pointer a g)) None v h p = never h
-converted_sized w ss (Some (Pointer a g)) (Some (Int b)) v h p = never h
-converted_sized w ss (Some (Pointer a g)) (Some (Struct n)) v h p = never h
-converted_sized w ss (Some (Pointer a g)) (Some (Array e n)) v h p = never h
+converted_sized w ss (Some (Pointer a g)) (Some (Pointer b k)) v h p = subst (λ z. PointsWithin w ss z (cell_of v)) (equal_elems a b (both_hold_first (same_elem a b) (not g || k) h)) (within_of_pointer w ss a g v p)
+converted_sized w ss None t v h p = false_not_true h
+converted_sized w ss (Some (Struct n)) t v h p = false_not_true h
+converted_sized w ss (Some (Array e n)) t v h p = false_not_true h
+converted_sized w ss (Some (Int a)) None v h p = false_not_true h
+converted_sized w ss (Some (Int a)) (Some (Struct n)) v h p = false_not_true h
+converted_sized w ss (Some (Int a)) (Some (Array e n)) v h p = false_not_true h
+converted_sized w ss (Some (Int a)) (Some (Pointer e k)) v h p = false_not_true h
+converted_sized w ss (Some (Pointer a g)) None v h p = false_not_true h
+converted_sized w ss (Some (Pointer a g)) (Some (Int b)) v h p = false_not_true h
+converted_sized w ss (Some (Pointer a g)) (Some (Struct n)) v h p = false_not_true h
+converted_sized w ss (Some (Pointer a g)) (Some (Array e n)) v h p = false_not_true h
 
 -- ---- steps of chains
 
@@ -124,7 +124,7 @@ stepped_sized w ss ty b step old v h p q = go (r.stepped (promoted_value (Some t
     each a (Err trap) h k = tt
 
     go : (a : Option VarTy) → r.stepped (promoted_value (Some ty)) step b ≡ a → IsTrue (converts a (Some ty)) → Gives (StorableSized w ss ty) (stepped ss ty step old (cell_of v))
-    go None is h = never h
+    go None is h = false_not_true h
     go (Some a) is h = each a (stepped ss ty step old (cell_of v)) h (step_sized w ss ty (promoted_value (Some ty)) b a step (holds old) v is p q)
 
 pub unit_sized : (w : World) (ss : List ℕ) (ty : VarTy) (back : Bool) (old : Cell) → IsTrue (is_scalar (Some ty)) → SizedAs w ss (promoted_value (Some ty)) old → Gives (StorableSized w ss ty) (stepped ss ty (unit_step ty back) old (number (pos 1)))
@@ -138,8 +138,8 @@ unit_sized w ss (Pointer elem fixed) back old h p = each (stepped ss (Pointer el
     each : (o : Result Cell Trap) → Gives (PointsWithin w ss elem) o → Gives (StorableSized w ss (Pointer elem fixed)) o
     each (Ok cell) k = k
     each (Err trap) k = tt
-unit_sized w ss (Struct n) back old h p = never h
-unit_sized w ss (Array elem n) back old h p = never h
+unit_sized w ss (Struct n) back old h p = false_not_true h
+unit_sized w ss (Array elem n) back old h p = false_not_true h
 
 type_is : (a b : VarTy) → Some a ≡ Some b → a ≡ b
 type_is a b h = cc
@@ -148,8 +148,8 @@ pub read_sized : (w : World) (c : Context) (at : Location) (st : State) (ty : Va
 read_sized w c at st (Int t) l lies h z = tt
 read_sized w c at st (Pointer elem fixed) l lies h z =
     subst (λ ty. ValueSized w (sizes c) (Some (Pointer elem fixed)) (loaded c at ty st)) (sym (type_is (Pointer elem fixed) at.ty l.has)) (loaded_sized w c at st (Pointer elem fixed) l lies z)
-read_sized w c at st (Struct n) l lies h z = never h
-read_sized w c at st (Array elem n) l lies h z = never h
+read_sized w c at st (Struct n) l lies h z = false_not_true h
+read_sized w c at st (Array elem n) l lies h z = false_not_true h
 
 -- ---- places
 

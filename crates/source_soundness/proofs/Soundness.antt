@@ -2,6 +2,7 @@
 use Rattle.std.proofs.Common.{◌≡◌, ◌∙◌, ◌≤◌, ℕ, ◌+◌, pos, ℤ, refl, ap, sym, subst, arith, Bool, true, false, Option, Some, None, List, [], ◌∷◌, Result, Ok, Err, if◌then◌else◌, nat_le}
 use Rattle.std.specs.Prelude.{IsTrue, ◌&&◌, not, is_none, slice_get, option_map}
 use Rattle.std.proofs.lemmas.Bool.Decides.{nat_tests}
+use Rattle.std.proofs.lemmas.Option.{get_or_from_slice_get}
 use Rattle.pt_base.specs.declared.int_type.IntType.{IntType}
 use Rattle.pt_base.specs.declared.int_type.IntType.TheVariants as i
 use Rattle.pt_base.specs.declared.ids.FnId.{FnId}
@@ -9,6 +10,8 @@ use Rattle.pt_base.specs.declared.span.Span.{Span}
 use Rattle.pt_int.specs.declared.operator.UnOp.{UnOp}
 use Rattle.pt_base.specs.declared.trap.Trap.{Trap}
 use Rattle.pt_base.specs.IntTypes.{usual}
+use Rattle.pt_base.proofs.Booleans.{both_hold_first, both_hold_second, false_not_true}
+use Rattle.pt_base.proofs.Places.{get_map}
 use Rattle.pt_int.specs.declared.operator.BinOp.TheVariants.{Add, Sub}
 use Rattle.pt_int.specs.Conversion.{conv}
 use Rattle.pt_int.specs.Operator.{binary_of}
@@ -40,7 +43,6 @@ use Rattle.source_meaning.specs.Expressions.{Frame, Calls, Context, sizes, or_tr
 use Rattle.source_soundness.specs.Worlds.{World, type_in, is_pointer, IsNumber, IsScoped, Fits, ValueFits, PartFits, LocationFits}
 use Rattle.source_soundness.specs.Laws.{Keeps, ArgumentsFit, ContextFits}
 use Rattle.typed_tree.proofs.SameTypes.{equal_options, equal_elems}
-use Rattle.source_soundness.proofs.Tests.{left, right, never, got, got_or}
 use Rattle.source_soundness.proofs.Objects.{plain_part, loaded_fits, stored_fits}
 use Rattle.source_soundness.proofs.Operators.{Gives, FitsAs, gives_number, moves, scoped_of_pointer, unary_gives, converted_fits}
 use Rattle.source_soundness.proofs.Steps.{step_fits, plain_elem, plain_in, whole_part, pointee_fits, field_is}
@@ -72,7 +74,7 @@ keeps_branch w Q false first second h k = k
 
 -- a type that is there
 pub some_of : (t : Option VarTy) → IsTrue (is_value t) → (ty : VarTy) × (t ≡ Some ty)
-some_of None h = never h
+some_of None h = false_not_true h
 some_of (Some ty) h = (ty, refl)
 
 pub scalar_value : (t : Option VarTy) → IsTrue (is_scalar t) → IsTrue (is_value t)
@@ -92,14 +94,14 @@ pub record ArrayOf (p t : Option VarTy) : Type 0 where
 pub array_of : (p t : Option VarTy) → IsTrue (both_elem (item_of p) (pointee_of t)) → ArrayOf p t
 array_of (Some (Array a count)) (Some (Pointer b fixed)) h =
     record { elem = a; count = count; fixed = fixed; from = refl; to = ap (λ z. Some (Pointer z fixed)) (sym (equal_elems a b h)) }
-array_of None t h = never h
-array_of (Some (Int a)) t h = never h
-array_of (Some (Struct n)) t h = never h
-array_of (Some (Pointer a g)) t h = never h
-array_of (Some (Array a count)) None h = never h
-array_of (Some (Array a count)) (Some (Int b)) h = never h
-array_of (Some (Array a count)) (Some (Struct n)) h = never h
-array_of (Some (Array a count)) (Some (Array b n)) h = never h
+array_of None t h = false_not_true h
+array_of (Some (Int a)) t h = false_not_true h
+array_of (Some (Struct n)) t h = false_not_true h
+array_of (Some (Pointer a g)) t h = false_not_true h
+array_of (Some (Array a count)) None h = false_not_true h
+array_of (Some (Array a count)) (Some (Int b)) h = false_not_true h
+array_of (Some (Array a count)) (Some (Struct n)) h = false_not_true h
+array_of (Some (Array a count)) (Some (Array b n)) h = false_not_true h
 
 pub record ObjectOf (p t : Option VarTy) : Type 0 where
   pub elem : Elem
@@ -110,17 +112,17 @@ pub record ObjectOf (p t : Option VarTy) : Type 0 where
 pub object_of : (p t : Option VarTy) → IsTrue (both_elem (element_of p) (pointee_of t)) → ObjectOf p t
 object_of (Some (Int a)) (Some (Pointer b fixed)) h = record { elem = e.Int a; fixed = fixed; from = refl; to = ap (λ z. Some (Pointer z fixed)) (sym (equal_elems (e.Int a) b h)) }
 object_of (Some (Struct a)) (Some (Pointer b fixed)) h = record { elem = e.Struct a; fixed = fixed; from = refl; to = ap (λ z. Some (Pointer z fixed)) (sym (equal_elems (e.Struct a) b h)) }
-object_of None t h = never h
-object_of (Some (Array a n)) t h = never h
-object_of (Some (Pointer a g)) t h = never h
-object_of (Some (Int a)) None h = never h
-object_of (Some (Int a)) (Some (Int b)) h = never h
-object_of (Some (Int a)) (Some (Struct n)) h = never h
-object_of (Some (Int a)) (Some (Array b n)) h = never h
-object_of (Some (Struct a)) None h = never h
-object_of (Some (Struct a)) (Some (Int b)) h = never h
-object_of (Some (Struct a)) (Some (Struct n)) h = never h
-object_of (Some (Struct a)) (Some (Array b n)) h = never h
+object_of None t h = false_not_true h
+object_of (Some (Array a n)) t h = false_not_true h
+object_of (Some (Pointer a g)) t h = false_not_true h
+object_of (Some (Int a)) None h = false_not_true h
+object_of (Some (Int a)) (Some (Int b)) h = false_not_true h
+object_of (Some (Int a)) (Some (Struct n)) h = false_not_true h
+object_of (Some (Int a)) (Some (Array b n)) h = false_not_true h
+object_of (Some (Struct a)) None h = false_not_true h
+object_of (Some (Struct a)) (Some (Int b)) h = false_not_true h
+object_of (Some (Struct a)) (Some (Struct n)) h = false_not_true h
+object_of (Some (Struct a)) (Some (Array b n)) h = false_not_true h
 
 -- ---- values
 
@@ -129,17 +131,17 @@ truth_fits w b = tt
 
 constant_is : (w : World) (v : ℤ) (t : Option VarTy) → IsTrue (constant_fits v (integer_of t)) → ValueFits w t (holds (number v))
 constant_is w v (Some (Int t)) h = tt
-constant_is w v None h = never h
-constant_is w v (Some (Struct n)) h = never h
-constant_is w v (Some (Array a n)) h = never h
-constant_is w v (Some (Pointer a g)) h = never h
+constant_is w v None h = false_not_true h
+constant_is w v (Some (Struct n)) h = false_not_true h
+constant_is w v (Some (Array a n)) h = false_not_true h
+constant_is w v (Some (Pointer a g)) h = false_not_true h
 
 null_is : (w : World) (n : ℕ) (t : Option VarTy) → IsTrue (is_elem n (pointee_of t)) → ValueFits w t (holds null)
 null_is w n (Some (Pointer a g)) h = (null, refl, tt)
-null_is w n None h = never h
-null_is w n (Some (Int t)) h = never h
-null_is w n (Some (Struct k)) h = never h
-null_is w n (Some (Array a k)) h = never h
+null_is w n None h = false_not_true h
+null_is w n (Some (Int t)) h = false_not_true h
+null_is w n (Some (Struct k)) h = false_not_true h
+null_is w n (Some (Array a k)) h = false_not_true h
 
 -- a pointer to the first element of an array, or to an object
 array_decays : (w : World) (at : Location) (elem : Elem) (count : ℕ) → LocationFits w (Some (Array elem count)) at → IsScoped w w.depth (decayed at at.ty)
@@ -175,8 +177,8 @@ read_promoted w c at st (Pointer elem fixed) l h m = let fit = loaded_fits w c a
 
     pointer_is : (ty : VarTy) → Pointer elem fixed ≡ ty → ValueFits w (Some (Pointer elem fixed)) (loaded c at ty st) → FitsAs w (Some (Pointer elem fixed)) (read st.memory at.block at.cell)
     pointer_is ty is fit = subst (λ z. ValueFits w (Some (Pointer elem fixed)) (loaded c at z st)) (sym is) fit
-read_promoted w c at st (Struct n) l h m = never h
-read_promoted w c at st (Array elem n) l h m = never h
+read_promoted w c at st (Struct n) l h m = false_not_true h
+read_promoted w c at st (Array elem n) l h m = false_not_true h
 
 -- what a compound assignment stores
 abbrev pub Storable : World → VarTy → Cell → Type 0
@@ -200,21 +202,21 @@ stepped_storable w ss ty b step old v h fit fit' = go (r.stepped (promoted_value
     each u (Err trap) h k = tt
 
     go : (u : Option VarTy) → r.stepped (promoted_value (Some ty)) step b ≡ u → IsTrue (converts u (Some ty)) → Gives (Storable w ty) (stepped ss ty step old (cell_of v))
-    go None is h = never h
+    go None is h = false_not_true h
     go (Some u) is h = each u (stepped ss ty step old (cell_of v)) h (step_fits w ss ty (promoted_value (Some ty)) b u step (holds old) v is fit fit')
 
 pub converts_scalar : (u : Option VarTy) (ty : VarTy) → IsTrue (converts u (Some ty)) → IsTrue (is_scalar (Some ty))
 converts_scalar (Some (Int a)) (Int b) h = refl
 converts_scalar (Some (Pointer a g)) (Pointer b k) h = refl
-converts_scalar None ty h = never h
-converts_scalar (Some (Struct n)) ty h = never h
-converts_scalar (Some (Array a n)) ty h = never h
-converts_scalar (Some (Int a)) (Struct n) h = never h
-converts_scalar (Some (Int a)) (Array b n) h = never h
-converts_scalar (Some (Int a)) (Pointer b g) h = never h
-converts_scalar (Some (Pointer a g)) (Int b) h = never h
-converts_scalar (Some (Pointer a g)) (Struct n) h = never h
-converts_scalar (Some (Pointer a g)) (Array b n) h = never h
+converts_scalar None ty h = false_not_true h
+converts_scalar (Some (Struct n)) ty h = false_not_true h
+converts_scalar (Some (Array a n)) ty h = false_not_true h
+converts_scalar (Some (Int a)) (Struct n) h = false_not_true h
+converts_scalar (Some (Int a)) (Array b n) h = false_not_true h
+converts_scalar (Some (Int a)) (Pointer b g) h = false_not_true h
+converts_scalar (Some (Pointer a g)) (Int b) h = false_not_true h
+converts_scalar (Some (Pointer a g)) (Struct n) h = false_not_true h
+converts_scalar (Some (Pointer a g)) (Array b n) h = false_not_true h
 
 number_of_step : (w : World) (ss : List ℕ) (t : IntType) (back : Bool) (old : Cell) → Gives IsNumber (stepped ss (Int t) (unit_step (Int t) back) old (number (pos 1)))
 number_of_step w ss t back old = gives_number (binary_of (if back then Sub else Add) (usual t i.Int) (conv (usual t i.Int) (number_in old)) (conv (usual t i.Int) (pos 1))) number (λ v. tt)
@@ -236,8 +238,8 @@ unit_storable w ss (Pointer elem fixed) back old h fit = each (stepped ss (Point
     each : (o : Result Cell Trap) → Gives (IsScoped w w.depth) o → Gives (Storable w (Pointer elem fixed)) o
     each (Ok cell) k = (cell, refl, k)
     each (Err trap) k = tt
-unit_storable w ss (Struct n) back old h fit = never h
-unit_storable w ss (Array elem n) back old h fit = never h
+unit_storable w ss (Struct n) back old h fit = false_not_true h
+unit_storable w ss (Array elem n) back old h fit = false_not_true h
 
 -- ---- where names lie
 
@@ -251,7 +253,7 @@ own_live w x ty active h = go (nat_le 1 w.depth) (nat_le w.depth w.depth) (grind
 
 -- the type of a variable among those of its function
 pub entry_type : (w : World) (n : Names) (c : Context) (x : ℕ) (ty : VarTy) → ContextFits w n c → option_map (λ (y : Var). y.ty) (slice_get n.vars x) ≡ Some ty → slice_get c.variables x ≡ Some ty
-entry_type w n c x ty k is = ap (λ xs. slice_get xs x) k.variables ∙ got (λ (y : Var). y.ty) n.vars x ∙ is
+entry_type w n c x ty k is = ap (λ xs. slice_get xs x) k.variables ∙ get_map (λ (y : Var). y.ty) n.vars x ∙ is
 
 -- a variable of the function that runs is live
 pub names_live : (w : World) (n : Names) (c : Context) (x : ℕ) (ty : VarTy) → ContextFits w n c → option_map (λ (y : Var). y.ty) (slice_get n.vars x) ≡ Some ty → type_in w (local c.frame.depth x) ≡ Some ty
@@ -260,7 +262,7 @@ names_live w n c x ty k is = subst (λ d. type_in w (local d x) ≡ Some ty) (sy
 pub names_variable : (w : World) (n : Names) (c : Context) (x : ℕ) (ty : VarTy) → ContextFits w n c → option_map (λ (y : Var). y.ty) (slice_get n.vars x) ≡ Some ty →
     LocationFits w (Some ty) (record { block = local c.frame.depth x; cell = 0; ty = type_at c.variables x })
 names_variable w n c x ty k is =
-    let ty_is : type_at c.variables x ≡ ty = got_or c.variables x ty (Int i.Int) (entry_type w n c x ty k is) in
+    let ty_is : type_at c.variables x ≡ ty = get_or_from_slice_get c.variables x ty (Int i.Int) (entry_type w n c x ty k is) in
     record {
       has = ap Some (sym ty_is);
       in_ = ty;
@@ -273,15 +275,15 @@ names_variable w n c x ty k is =
 names_global : (w : World) (n : Names) (c : Context) (g : ℕ) (ty : VarTy) → ContextFits w n c → option_map (λ (y : TypedGlobal). y.var.ty) (slice_get n.globals g) ≡ Some ty →
     LocationFits w (Some ty) (record { block = global g; cell = 0; ty = type_at c.globals g })
 names_global w n c g ty k is =
-    let entry : slice_get c.globals g ≡ Some ty = ap (λ xs. slice_get xs g) k.globals ∙ got (λ (y : TypedGlobal). y.var.ty) n.globals g ∙ is in
-    let ty_is : type_at c.globals g ≡ ty = got_or c.globals g ty (Int i.Int) entry in
+    let entry : slice_get c.globals g ≡ Some ty = ap (λ xs. slice_get xs g) k.globals ∙ get_map (λ (y : TypedGlobal). y.var.ty) n.globals g ∙ is in
+    let ty_is : type_at c.globals g ≡ ty = get_or_from_slice_get c.globals g ty (Int i.Int) entry in
     record {
       has = ap Some (sym ty_is);
       in_ = ty;
       live = ap (λ xs. slice_get xs g) k.known ∙ entry;
       shallow = omega arith;
       part = subst (λ z. PartFits 0 ty z) (sym ty_is) (whole_part ty);
-      own = λ p. never (sym (k.plain_globals g ty entry) ∙ ap is_pointer (sym ty_is) ∙ p);
+      own = λ p. false_not_true (sym (k.plain_globals g ty entry) ∙ ap is_pointer (sym ty_is) ∙ p);
     }
 
 -- a field of a struct that is live
@@ -311,7 +313,7 @@ field_lies w n c k (Struct m) at ty fit l h = go at.ty (type_is (Struct m) at.ty
               live = l.live;
               shallow = l.shallow;
               part = subst (λ z. PartFits (at.cell + offset_of c.structs m k) l.in_ z) (sym new_is) (plain_in (at.cell + offset_of c.structs m k) l.in_ ty (plain_part at.cell l.in_ (Struct m) (subst (λ z. PartFits at.cell l.in_ z) (sym is) part) refl) plain);
-              own = λ p. never (sym plain ∙ ap is_pointer (sym new_is) ∙ p);
+              own = λ p. false_not_true (sym plain ∙ ap is_pointer (sym new_is) ∙ p);
             })
     go (Int t) is part = cc
     go (Array elem count) is part = cc
@@ -440,7 +442,7 @@ to_item w n c rest at b s a st ty index l on is = go (item_type (Some a) (intege
 compound_from : (p : PlaceTree) (step : LinkStep) (a : ExprTree) (s : Span) (ty : Option VarTy) (w : World) (c : Context) (st : State) →
     ((z : VarTy) → ty ≡ Some z → Keeps w (LocationFits w (Some z)) (location_of p c st)) → ((st1 : State) → Fits w st1.memory → Keeps w (ValueFits w (ty_of a)) (value_of a c st1)) →
     IsTrue (converts (r.stepped (promoted_value ty) step (ty_of a)) ty) → Keeps w (ValueFits w ty) (location_of p c st >>= λ at st1. value_of a c st1 >>= compounded c s at step)
-compound_from p step a s None w c st first second stores = never (no_conversion (r.stepped (promoted_value None) step (ty_of a)) stores)
+compound_from p step a s None w c st first second stores = false_not_true (no_conversion (r.stepped (promoted_value None) step (ty_of a)) stores)
   where
     no_conversion : (u : Option VarTy) → converts u None ≡ true → false ≡ true
     no_conversion None h = h
@@ -458,12 +460,12 @@ compound_from p step a s (Some ty) w c st first second stores =
 call_from : (g : FnId) (arguments : ExprTrees) (s : Span) (ty : Option VarTy) (w : World) (n : Names) (c : Context) (st : State) → ContextFits w n c →
     ((ps : List Param) → IsTrue (arguments_fit ps arguments) → Keeps w (ArgumentsFit w ps) (values_of arguments c st)) →
     (o : Option Signature) → slice_get n.signatures g.0 ≡ o → IsTrue (call_fits o arguments ty) → Keeps w (ValueFits w ty) (values_of arguments c st >>= c.calls c.frame s g.0)
-call_from g arguments s ty w n c st k first None is h = never h
+call_from g arguments s ty w n c st k first None is h = false_not_true h
 call_from g arguments s ty w n c st k first (Some signature) is h =
-    let rest = right (not (is_main signature)) (arguments_fit signature.params arguments && same_types ty (option_map Int signature.result)) h in
-    let result_is = equal_options ty (option_map Int signature.result) (right (arguments_fit signature.params arguments) (same_types ty (option_map Int signature.result)) rest) in
+    let rest = both_hold_second (not (is_main signature)) (arguments_fit signature.params arguments && same_types ty (option_map Int signature.result)) h in
+    let result_is = equal_options ty (option_map Int signature.result) (both_hold_second (arguments_fit signature.params arguments) (same_types ty (option_map Int signature.result)) rest) in
     keeps_bind w (ArgumentsFit w signature.params) (ValueFits w ty) (values_of arguments c st) (c.calls c.frame s g.0)
-    (first signature.params (left (arguments_fit signature.params arguments) (same_types ty (option_map Int signature.result)) rest))
+    (first signature.params (both_hold_first (arguments_fit signature.params arguments) (same_types ty (option_map Int signature.result)) rest))
     (λ vs st1 q m1. subst (λ z. Keeps w (ValueFits w z) (c.calls c.frame s g.0 vs st1)) (sym result_is) (k.calls s g.0 vs st1 signature is q m1))
 
 mutual
@@ -474,128 +476,128 @@ mutual
   form_keeps (t.constant v) s ty w n c st k h m = (constant_is w v ty h, m)
   form_keeps t.null s ty w n c st k h m = (null_is w _ ty h, m)
   form_keeps (t.read p) s ty w n c st k h m =
-      let there = left (place_fits n p) (same_types (place_type n p) ty && is_value ty) h in
-      let is = right (place_fits n p) (same_types (place_type n p) ty && is_value ty) h in
-      let value = right (same_types (place_type n p) ty) (is_value ty) is in
+      let there = both_hold_first (place_fits n p) (same_types (place_type n p) ty && is_value ty) h in
+      let is = both_hold_second (place_fits n p) (same_types (place_type n p) ty && is_value ty) h in
+      let value = both_hold_second (same_types (place_type n p) ty) (is_value ty) is in
       let some = some_of ty value in
-      let place_is = equal_options (place_type n p) ty (left (same_types (place_type n p) ty) (is_value ty) is) ∙ some.1 in
+      let place_is = equal_options (place_type n p) ty (both_hold_first (same_types (place_type n p) ty) (is_value ty) is) ∙ some.1 in
       keeps_bind w (LocationFits w (Some some.0)) (ValueFits w ty) (location_of p c st) (λ at st1. gives (loaded c at at.ty st1) st1) (place_keeps p w n c st some.0 k there place_is m)
       (λ at st1 l m1. (subst (λ z. ValueFits w z (loaded c at at.ty st1)) (sym some.1) (loaded_fits w c at st1 some.0 l (subst (λ z. IsTrue (is_value z)) some.1 value) m1), m1))
   form_keeps (t.decay p) s ty w n c st k h m =
-      let there = left (place_fits n p) (both_elem (item_of (place_type n p)) (pointee_of ty) && keeps_const (place_const n p) ty) h in
-      let is = left (both_elem (item_of (place_type n p)) (pointee_of ty)) (keeps_const (place_const n p) ty) (right (place_fits n p) (both_elem (item_of (place_type n p)) (pointee_of ty) && keeps_const (place_const n p) ty) h) in
+      let there = both_hold_first (place_fits n p) (both_elem (item_of (place_type n p)) (pointee_of ty) && keeps_const (place_const n p) ty) h in
+      let is = both_hold_first (both_elem (item_of (place_type n p)) (pointee_of ty)) (keeps_const (place_const n p) ty) (both_hold_second (place_fits n p) (both_elem (item_of (place_type n p)) (pointee_of ty) && keeps_const (place_const n p) ty) h) in
       let array = array_of (place_type n p) ty is in
       keeps_bind w (LocationFits w (Some (Array array.elem array.count))) (ValueFits w ty) (location_of p c st) (λ at. gives (holds (decayed at at.ty))) (place_keeps p w n c st (Array array.elem array.count) k there array.from m)
       (λ at st1 l m1. (subst (λ z. ValueFits w z (holds (decayed at at.ty))) (sym array.to) (decayed at at.ty, refl, array_decays w at array.elem array.count l), m1))
   form_keeps (t.address p) s ty w n c st k h m =
-      let rest = right (place_fits n p) (is_addressed p && (both_elem (element_of (place_type n p)) (pointee_of ty) && keeps_const (place_const n p) ty)) h in
-      let there = left (place_fits n p) (is_addressed p && (both_elem (element_of (place_type n p)) (pointee_of ty) && keeps_const (place_const n p) ty)) h in
-      let is = left (both_elem (element_of (place_type n p)) (pointee_of ty)) (keeps_const (place_const n p) ty) (right (is_addressed p) (both_elem (element_of (place_type n p)) (pointee_of ty) && keeps_const (place_const n p) ty) rest) in
+      let rest = both_hold_second (place_fits n p) (is_addressed p && (both_elem (element_of (place_type n p)) (pointee_of ty) && keeps_const (place_const n p) ty)) h in
+      let there = both_hold_first (place_fits n p) (is_addressed p && (both_elem (element_of (place_type n p)) (pointee_of ty) && keeps_const (place_const n p) ty)) h in
+      let is = both_hold_first (both_elem (element_of (place_type n p)) (pointee_of ty)) (keeps_const (place_const n p) ty) (both_hold_second (is_addressed p) (both_elem (element_of (place_type n p)) (pointee_of ty) && keeps_const (place_const n p) ty) rest) in
       let object = object_of (place_type n p) ty is in
       keeps_bind w (LocationFits w (Some (type_of_elem object.elem))) (ValueFits w ty) (location_of p c st) (λ at. gives (holds (address_of at))) (place_keeps p w n c st (type_of_elem object.elem) k there object.from m)
       (λ at st1 l m1. (subst (λ z. ValueFits w z (holds (address_of at))) (sym object.to) (address_of at, refl, object_addressed w at object.elem l), m1))
   form_keeps (t.unary op a) s ty w n c st k h m =
-      keeps_bind w (ValueFits w (ty_of a)) (ValueFits w ty) (value_of a c st) (λ v. cell_or_trap s (unary_cell op (type_of a) (cell_of v))) (value_fits a w n c st k (left (is_typed n a) (unary_fits op (ty_of a) ty) h) m)
-      (λ v st1 q m1. keeps_cell w ty s (unary_cell op (type_of a) (cell_of v)) st1 (unary_of_type op a ty (cell_of v) (right (is_typed n a) (unary_fits op (ty_of a) ty) h)) m1)
+      keeps_bind w (ValueFits w (ty_of a)) (ValueFits w ty) (value_of a c st) (λ v. cell_or_trap s (unary_cell op (type_of a) (cell_of v))) (value_fits a w n c st k (both_hold_first (is_typed n a) (unary_fits op (ty_of a) ty) h) m)
+      (λ v st1 q m1. keeps_cell w ty s (unary_cell op (type_of a) (cell_of v)) st1 (unary_of_type op a ty (cell_of v) (both_hold_second (is_typed n a) (unary_fits op (ty_of a) ty) h)) m1)
     where
       unary_of_type : (op : UnOp) (a : ExprTree) (ty : Option VarTy) (cell : Cell) → unary_fits op (ty_of a) ty ≡ true → Gives (FitsAs w ty) (unary_cell op (type_of a) cell)
       unary_of_type op (typed s' ty' form) ty cell h = unary_gives w op ty' ty cell h
   form_keeps (t.convert a) s ty w n c st k h m =
-      keeps_bind w (ValueFits w (ty_of a)) (ValueFits w ty) (value_of a c st) (λ v. gives (converted (type_or_int ty) v)) (value_fits a w n c st k (left (is_typed n a) (converts (ty_of a) ty) h) m)
-      (λ v st1 q m1. (converted_fits w (ty_of a) ty v (right (is_typed n a) (converts (ty_of a) ty) h) q, m1))
+      keeps_bind w (ValueFits w (ty_of a)) (ValueFits w ty) (value_of a c st) (λ v. gives (converted (type_or_int ty) v)) (value_fits a w n c st k (both_hold_first (is_typed n a) (converts (ty_of a) ty) h) m)
+      (λ v st1 q m1. (converted_fits w (ty_of a) ty v (both_hold_second (is_typed n a) (converts (ty_of a) ty) h) q, m1))
   form_keeps (t.discard a) s ty w n c st k h m =
-      keeps_bind w (ValueFits w (ty_of a)) (ValueFits w ty) (value_of a c st) (λ v. gives nothing) (value_fits a w n c st k (left (is_typed n a) (is_none ty) h) m)
-      (λ v st1 q m1. (void_is ty (right (is_typed n a) (is_none ty) h), m1))
+      keeps_bind w (ValueFits w (ty_of a)) (ValueFits w ty) (value_of a c st) (λ v. gives nothing) (value_fits a w n c st k (both_hold_first (is_typed n a) (is_none ty) h) m)
+      (λ v st1 q m1. (void_is ty (both_hold_second (is_typed n a) (is_none ty) h), m1))
     where
       void_is : (ty : Option VarTy) → IsTrue (is_none ty) → ValueFits w ty nothing
       void_is None h = tt
-      void_is (Some z) h = never h
+      void_is (Some z) h = false_not_true h
   form_keeps (t.chain a links) s ty w n c st k h m =
-      let is = right (is_typed n a) (has_links links && links_fit n (ty_of a) links ty) h in
-      keeps_bind w (ValueFits w (ty_of a)) (ValueFits w ty) (value_of a c st) (λ v. links_value links (type_of a) v c) (value_fits a w n c st k (left (is_typed n a) (has_links links && links_fit n (ty_of a) links ty) h) m)
-      (λ v st1 q m1. links_keep links (type_of a) (ty_of a) v ty w n c st1 k (right (has_links links) (links_fit n (ty_of a) links ty) is) q m1)
+      let is = both_hold_second (is_typed n a) (has_links links && links_fit n (ty_of a) links ty) h in
+      keeps_bind w (ValueFits w (ty_of a)) (ValueFits w ty) (value_of a c st) (λ v. links_value links (type_of a) v c) (value_fits a w n c st k (both_hold_first (is_typed n a) (has_links links && links_fit n (ty_of a) links ty) h) m)
+      (λ v st1 q m1. links_keep links (type_of a) (ty_of a) v ty w n c st1 k (both_hold_second (has_links links) (links_fit n (ty_of a) links ty) is) q m1)
   form_keeps (t.logical op a operands) s ty w n c st k h m =
-      let first = left (is_typed n a && is_scalar (ty_of a)) ((has_operands operands && operands_fit n operands) && same_types ty r.int) h in
-      let rest = right (is_typed n a && is_scalar (ty_of a)) ((has_operands operands && operands_fit n operands) && same_types ty r.int) h in
-      let all = left (has_operands operands && operands_fit n operands) (same_types ty r.int) rest in
-      let is = equal_options ty r.int (right (has_operands operands && operands_fit n operands) (same_types ty r.int) rest) in
-      keeps_bind w (ValueFits w (ty_of a)) (ValueFits w ty) (value_of a c st) (λ v. operands_value operands op (is_true v) c) (value_fits a w n c st k (left (is_typed n a) (is_scalar (ty_of a)) first) m)
-      (λ v st1 q m1. subst (λ z. Keeps w (ValueFits w z) (operands_value operands op (is_true v) c st1)) (sym is) (operands_keep operands op (is_true v) w n c st1 k (right (has_operands operands) (operands_fit n operands) all) m1))
+      let first = both_hold_first (is_typed n a && is_scalar (ty_of a)) ((has_operands operands && operands_fit n operands) && same_types ty r.int) h in
+      let rest = both_hold_second (is_typed n a && is_scalar (ty_of a)) ((has_operands operands && operands_fit n operands) && same_types ty r.int) h in
+      let all = both_hold_first (has_operands operands && operands_fit n operands) (same_types ty r.int) rest in
+      let is = equal_options ty r.int (both_hold_second (has_operands operands && operands_fit n operands) (same_types ty r.int) rest) in
+      keeps_bind w (ValueFits w (ty_of a)) (ValueFits w ty) (value_of a c st) (λ v. operands_value operands op (is_true v) c) (value_fits a w n c st k (both_hold_first (is_typed n a) (is_scalar (ty_of a)) first) m)
+      (λ v st1 q m1. subst (λ z. Keeps w (ValueFits w z) (operands_value operands op (is_true v) c st1)) (sym is) (operands_keep operands op (is_true v) w n c st1 k (both_hold_second (has_operands operands) (operands_fit n operands) all) m1))
   form_keeps (t.choice a b d) s ty w n c st k h m =
-      let test = left (is_typed n a && is_scalar (ty_of a)) ((is_typed n b && same_types (ty_of b) ty) && ((is_typed n d && same_types (ty_of d) ty) && is_arm ty)) h in
-      let arms = right (is_typed n a && is_scalar (ty_of a)) ((is_typed n b && same_types (ty_of b) ty) && ((is_typed n d && same_types (ty_of d) ty) && is_arm ty)) h in
-      let first = left (is_typed n b && same_types (ty_of b) ty) ((is_typed n d && same_types (ty_of d) ty) && is_arm ty) arms in
-      let second = left (is_typed n d && same_types (ty_of d) ty) (is_arm ty) (right (is_typed n b && same_types (ty_of b) ty) ((is_typed n d && same_types (ty_of d) ty) && is_arm ty) arms) in
-      keeps_bind w (ValueFits w (ty_of a)) (ValueFits w ty) (value_of a c st) (λ v. if is_true v then value_of b c else value_of d c) (value_fits a w n c st k (left (is_typed n a) (is_scalar (ty_of a)) test) m)
+      let test = both_hold_first (is_typed n a && is_scalar (ty_of a)) ((is_typed n b && same_types (ty_of b) ty) && ((is_typed n d && same_types (ty_of d) ty) && is_arm ty)) h in
+      let arms = both_hold_second (is_typed n a && is_scalar (ty_of a)) ((is_typed n b && same_types (ty_of b) ty) && ((is_typed n d && same_types (ty_of d) ty) && is_arm ty)) h in
+      let first = both_hold_first (is_typed n b && same_types (ty_of b) ty) ((is_typed n d && same_types (ty_of d) ty) && is_arm ty) arms in
+      let second = both_hold_first (is_typed n d && same_types (ty_of d) ty) (is_arm ty) (both_hold_second (is_typed n b && same_types (ty_of b) ty) ((is_typed n d && same_types (ty_of d) ty) && is_arm ty) arms) in
+      keeps_bind w (ValueFits w (ty_of a)) (ValueFits w ty) (value_of a c st) (λ v. if is_true v then value_of b c else value_of d c) (value_fits a w n c st k (both_hold_first (is_typed n a) (is_scalar (ty_of a)) test) m)
       (λ v st1 q m1. keeps_either w (ValueFits w ty) (is_true v) (value_of b c) (value_of d c) st1
-      (subst (λ z. Keeps w (ValueFits w z) (value_of b c st1)) (equal_options (ty_of b) ty (right (is_typed n b) (same_types (ty_of b) ty) first)) (value_fits b w n c st1 k (left (is_typed n b) (same_types (ty_of b) ty) first) m1))
-      (subst (λ z. Keeps w (ValueFits w z) (value_of d c st1)) (equal_options (ty_of d) ty (right (is_typed n d) (same_types (ty_of d) ty) second)) (value_fits d w n c st1 k (left (is_typed n d) (same_types (ty_of d) ty) second) m1)))
+      (subst (λ z. Keeps w (ValueFits w z) (value_of b c st1)) (equal_options (ty_of b) ty (both_hold_second (is_typed n b) (same_types (ty_of b) ty) first)) (value_fits b w n c st1 k (both_hold_first (is_typed n b) (same_types (ty_of b) ty) first) m1))
+      (subst (λ z. Keeps w (ValueFits w z) (value_of d c st1)) (equal_options (ty_of d) ty (both_hold_second (is_typed n d) (same_types (ty_of d) ty) second)) (value_fits d w n c st1 k (both_hold_first (is_typed n d) (same_types (ty_of d) ty) second) m1)))
   form_keeps (t.assign p a) s ty w n c st k h m =
-      let there = left (place_fits n p) (is_written n p) (left (place_fits n p && is_written n p) ((same_types (place_type n p) ty && is_value ty) && (is_typed n a && same_types (ty_of a) ty)) h) in
-      let rest = right (place_fits n p && is_written n p) ((same_types (place_type n p) ty && is_value ty) && (is_typed n a && same_types (ty_of a) ty)) h in
-      let own = left (same_types (place_type n p) ty && is_value ty) (is_typed n a && same_types (ty_of a) ty) rest in
-      let of = right (same_types (place_type n p) ty && is_value ty) (is_typed n a && same_types (ty_of a) ty) rest in
-      let some = some_of ty (right (same_types (place_type n p) ty) (is_value ty) own) in
-      let place_is = equal_options (place_type n p) ty (left (same_types (place_type n p) ty) (is_value ty) own) ∙ some.1 in
-      let of_is = equal_options (ty_of a) ty (right (is_typed n a) (same_types (ty_of a) ty) of) ∙ some.1 in
+      let there = both_hold_first (place_fits n p) (is_written n p) (both_hold_first (place_fits n p && is_written n p) ((same_types (place_type n p) ty && is_value ty) && (is_typed n a && same_types (ty_of a) ty)) h) in
+      let rest = both_hold_second (place_fits n p && is_written n p) ((same_types (place_type n p) ty && is_value ty) && (is_typed n a && same_types (ty_of a) ty)) h in
+      let own = both_hold_first (same_types (place_type n p) ty && is_value ty) (is_typed n a && same_types (ty_of a) ty) rest in
+      let of = both_hold_second (same_types (place_type n p) ty && is_value ty) (is_typed n a && same_types (ty_of a) ty) rest in
+      let some = some_of ty (both_hold_second (same_types (place_type n p) ty) (is_value ty) own) in
+      let place_is = equal_options (place_type n p) ty (both_hold_first (same_types (place_type n p) ty) (is_value ty) own) ∙ some.1 in
+      let of_is = equal_options (ty_of a) ty (both_hold_second (is_typed n a) (same_types (ty_of a) ty) of) ∙ some.1 in
       keeps_bind w (LocationFits w (Some some.0)) (ValueFits w ty) (location_of p c st) (λ at st1. value_of a c st1 >>= store at) (place_keeps p w n c st some.0 k there place_is m)
-      (λ at st1 l m1. keeps_bind w (ValueFits w (ty_of a)) (ValueFits w ty) (value_of a c st1) (store at) (value_fits a w n c st1 k (left (is_typed n a) (same_types (ty_of a) ty) of) m1)
+      (λ at st1 l m1. keeps_bind w (ValueFits w (ty_of a)) (ValueFits w ty) (value_of a c st1) (store at) (value_fits a w n c st1 k (both_hold_first (is_typed n a) (same_types (ty_of a) ty) of) m1)
       (λ v st2 q m2. subst (λ z. Keeps w (ValueFits w z) (store at v st2)) (sym some.1) (keeps_store w at v some.0 st2 l (subst (λ z. ValueFits w z v) of_is q) m2)))
   form_keeps (t.compound p at step a) s ty w n c st k h m =
-      let there = left (place_fits n p) (is_written n p) (left (place_fits n p && is_written n p) (same_types (place_type n p) ty && (is_typed n a && (is_compound step && converts (r.stepped (promoted_value ty) step (ty_of a)) ty))) h) in
-      let rest = right (place_fits n p && is_written n p) (same_types (place_type n p) ty && (is_typed n a && (is_compound step && converts (r.stepped (promoted_value ty) step (ty_of a)) ty))) h in
-      let of = right (same_types (place_type n p) ty) (is_typed n a && (is_compound step && converts (r.stepped (promoted_value ty) step (ty_of a)) ty)) rest in
-      let stores = right (is_compound step) (converts (r.stepped (promoted_value ty) step (ty_of a)) ty) (right (is_typed n a) (is_compound step && converts (r.stepped (promoted_value ty) step (ty_of a)) ty) of) in
-      let place_is = equal_options (place_type n p) ty (left (same_types (place_type n p) ty) (is_typed n a && (is_compound step && converts (r.stepped (promoted_value ty) step (ty_of a)) ty)) rest) in
+      let there = both_hold_first (place_fits n p) (is_written n p) (both_hold_first (place_fits n p && is_written n p) (same_types (place_type n p) ty && (is_typed n a && (is_compound step && converts (r.stepped (promoted_value ty) step (ty_of a)) ty))) h) in
+      let rest = both_hold_second (place_fits n p && is_written n p) (same_types (place_type n p) ty && (is_typed n a && (is_compound step && converts (r.stepped (promoted_value ty) step (ty_of a)) ty))) h in
+      let of = both_hold_second (same_types (place_type n p) ty) (is_typed n a && (is_compound step && converts (r.stepped (promoted_value ty) step (ty_of a)) ty)) rest in
+      let stores = both_hold_second (is_compound step) (converts (r.stepped (promoted_value ty) step (ty_of a)) ty) (both_hold_second (is_typed n a) (is_compound step && converts (r.stepped (promoted_value ty) step (ty_of a)) ty) of) in
+      let place_is = equal_options (place_type n p) ty (both_hold_first (same_types (place_type n p) ty) (is_typed n a && (is_compound step && converts (r.stepped (promoted_value ty) step (ty_of a)) ty)) rest) in
       compound_from p step a s ty w c st (λ z is. place_keeps p w n c st z k there (place_is ∙ is) m)
-      (λ st1 m1. value_fits a w n c st1 k (left (is_typed n a) (is_compound step && converts (r.stepped (promoted_value ty) step (ty_of a)) ty) of) m1) stores
+      (λ st1 m1. value_fits a w n c st1 k (both_hold_first (is_typed n a) (is_compound step && converts (r.stepped (promoted_value ty) step (ty_of a)) ty) of) m1) stores
   form_keeps (t.step p at back postfix) s ty w n c st k h m =
-      let there = left (place_fits n p) (is_written n p) (left (place_fits n p && is_written n p) (same_types (place_type n p) ty && is_scalar ty) h) in
-      let rest = right (place_fits n p && is_written n p) (same_types (place_type n p) ty && is_scalar ty) h in
-      let scalar = right (same_types (place_type n p) ty) (is_scalar ty) rest in
+      let there = both_hold_first (place_fits n p) (is_written n p) (both_hold_first (place_fits n p && is_written n p) (same_types (place_type n p) ty && is_scalar ty) h) in
+      let rest = both_hold_second (place_fits n p && is_written n p) (same_types (place_type n p) ty && is_scalar ty) h in
+      let scalar = both_hold_second (same_types (place_type n p) ty) (is_scalar ty) rest in
       let some = some_of ty (scalar_value ty scalar) in
-      let place_is = equal_options (place_type n p) ty (left (same_types (place_type n p) ty) (is_scalar ty) rest) ∙ some.1 in
+      let place_is = equal_options (place_type n p) ty (both_hold_first (same_types (place_type n p) ty) (is_scalar ty) rest) ∙ some.1 in
       keeps_bind w (LocationFits w (Some some.0)) (ValueFits w ty) (location_of p c st) (counted c s back postfix) (place_keeps p w n c st some.0 k there place_is m)
       (λ at st1 l m1. subst (λ z. Keeps w (ValueFits w z) (counted c s back postfix at st1)) (sym some.1) (counted_keeps w c s back postfix at some.0 st1 l (subst (λ z. IsTrue (is_scalar z)) some.1 scalar) m1))
   form_keeps (t.call g arguments) s ty w n c st k h m =
-      call_from g arguments s ty w n c st k (λ ps fit. arguments_keep arguments ps w n c st k (left (all_typed n arguments) (call_fits (slice_get n.signatures g.0) arguments ty) h) fit m)
-      (slice_get n.signatures g.0) refl (right (all_typed n arguments) (call_fits (slice_get n.signatures g.0) arguments ty) h)
+      call_from g arguments s ty w n c st k (λ ps fit. arguments_keep arguments ps w n c st k (both_hold_first (all_typed n arguments) (call_fits (slice_get n.signatures g.0) arguments ty) h) fit m)
+      (slice_get n.signatures g.0) refl (both_hold_second (all_typed n arguments) (call_fits (slice_get n.signatures g.0) arguments ty) h)
 
   pub arguments_keep : (arguments : ExprTrees) (ps : List Param) (w : World) (n : Names) (c : Context) (st : State) → ContextFits w n c → IsTrue (all_typed n arguments) → IsTrue (arguments_fit ps arguments) → Fits w st.memory → Keeps w (ArgumentsFit w ps) (values_of arguments c st)
   arguments_keep no_exprs [] w n c st k all h m = (tt, m)
-  arguments_keep no_exprs (p ∷ ps) w n c st k all h m = never h
-  arguments_keep (expr_and a rest) [] w n c st k all h m = never h
+  arguments_keep no_exprs (p ∷ ps) w n c st k all h m = false_not_true h
+  arguments_keep (expr_and a rest) [] w n c st k all h m = false_not_true h
   arguments_keep (expr_and a rest) (p ∷ ps) w n c st k all h m =
-      let is = equal_options (ty_of a) (Some (param_type p.kind)) (left (same_types (ty_of a) (Some (param_type p.kind))) (arguments_fit ps rest) h) in
-      keeps_bind w (ValueFits w (ty_of a)) (ArgumentsFit w (p ∷ ps)) (value_of a c st) (λ v st1. values_of rest c st1 >>= λ vs. gives (v ∷ vs)) (value_fits a w n c st k (left (is_typed n a) (all_typed n rest) all) m)
+      let is = equal_options (ty_of a) (Some (param_type p.kind)) (both_hold_first (same_types (ty_of a) (Some (param_type p.kind))) (arguments_fit ps rest) h) in
+      keeps_bind w (ValueFits w (ty_of a)) (ArgumentsFit w (p ∷ ps)) (value_of a c st) (λ v st1. values_of rest c st1 >>= λ vs. gives (v ∷ vs)) (value_fits a w n c st k (both_hold_first (is_typed n a) (all_typed n rest) all) m)
       (λ v st1 q m1. keeps_bind w (ArgumentsFit w ps) (ArgumentsFit w (p ∷ ps)) (values_of rest c st1) (λ vs. gives (v ∷ vs))
-      (arguments_keep rest ps w n c st1 k (right (is_typed n a) (all_typed n rest) all) (right (same_types (ty_of a) (Some (param_type p.kind))) (arguments_fit ps rest) h) m1)
+      (arguments_keep rest ps w n c st1 k (both_hold_second (is_typed n a) (all_typed n rest) all) (both_hold_second (same_types (ty_of a) (Some (param_type p.kind))) (arguments_fit ps rest) h) m1)
       (λ vs st2 qs m2. ((subst (λ z. ValueFits w z v) is q, qs), m2)))
 
   links_keep : (links : LinkTrees) (so_far : VarTy) (a : Option VarTy) (v : Value) (ty : Option VarTy) (w : World) (n : Names) (c : Context) (st : State) → ContextFits w n c → IsTrue (links_fit n a links ty) → ValueFits w a v → Fits w st.memory → Keeps w (ValueFits w ty) (links_value links so_far v c st)
   links_keep no_links so_far a v ty w n c st k h fit m = (subst (λ z. ValueFits w z v) (equal_options a ty h) fit, m)
   links_keep (link_and (link s to step b) rest) so_far a v ty w n c st k h fit m =
-      let more = right (is_typed n b) (same_types (r.stepped a step (ty_of b)) (Some to) && links_fit n (Some to) rest ty) h in
-      let is = equal_options (r.stepped a step (ty_of b)) (Some to) (left (same_types (r.stepped a step (ty_of b)) (Some to)) (links_fit n (Some to) rest ty) more) in
+      let more = both_hold_second (is_typed n b) (same_types (r.stepped a step (ty_of b)) (Some to) && links_fit n (Some to) rest ty) h in
+      let is = equal_options (r.stepped a step (ty_of b)) (Some to) (both_hold_first (same_types (r.stepped a step (ty_of b)) (Some to)) (links_fit n (Some to) rest ty) more) in
       keeps_bind w (ValueFits w (Some to)) (ValueFits w ty) (link_value (link s to step b) so_far v c st) (λ u. links_value rest to u c)
       (keeps_bind w (ValueFits w (ty_of b)) (ValueFits w (Some to)) (value_of b c st) (λ u. cell_or_trap s (stepped (sizes c) so_far step (cell_of v) (cell_of u)))
-      (value_fits b w n c st k (left (is_typed n b) (same_types (r.stepped a step (ty_of b)) (Some to) && links_fit n (Some to) rest ty) h) m)
+      (value_fits b w n c st k (both_hold_first (is_typed n b) (same_types (r.stepped a step (ty_of b)) (Some to) && links_fit n (Some to) rest ty) h) m)
       (λ u st1 q m1. keeps_cell w (Some to) s (stepped (sizes c) so_far step (cell_of v) (cell_of u)) st1 (step_fits w (sizes c) so_far a (ty_of b) to step v u is fit q) m1))
-      (λ u st1 q m1. links_keep rest to (Some to) u ty w n c st1 k (right (same_types (r.stepped a step (ty_of b)) (Some to)) (links_fit n (Some to) rest ty) more) q m1)
+      (λ u st1 q m1. links_keep rest to (Some to) u ty w n c st1 k (both_hold_second (same_types (r.stepped a step (ty_of b)) (Some to)) (links_fit n (Some to) rest ty) more) q m1)
 
   operands_keep : (operands : OperandTrees) (op : LogicalOp) (b : Bool) (w : World) (n : Names) (c : Context) (st : State) → ContextFits w n c → IsTrue (operands_fit n operands) → Fits w st.memory → Keeps w (ValueFits w r.int) (operands_value operands op b c st)
   operands_keep no_operands op b w n c st k h m = (truth_fits w b, m)
   operands_keep (operand_and (operand s a) rest) op b w n c st k h m =
-      let first = left (is_typed n a && is_scalar (ty_of a)) (operands_fit n rest) h in
+      let first = both_hold_first (is_typed n a && is_scalar (ty_of a)) (operands_fit n rest) h in
       keeps_branch w (ValueFits w r.int) (is_decided op b) (gives (truth_value b) st) (value_of a c st >>= λ v. operands_value rest op (is_true v) c)
       (truth_fits w b, m)
-      (keeps_bind w (ValueFits w (ty_of a)) (ValueFits w r.int) (value_of a c st) (λ v. operands_value rest op (is_true v) c) (value_fits a w n c st k (left (is_typed n a) (is_scalar (ty_of a)) first) m)
-      (λ v st1 q m1. operands_keep rest op (is_true v) w n c st1 k (right (is_typed n a && is_scalar (ty_of a)) (operands_fit n rest) h) m1))
+      (keeps_bind w (ValueFits w (ty_of a)) (ValueFits w r.int) (value_of a c st) (λ v. operands_value rest op (is_true v) c) (value_fits a w n c st k (both_hold_first (is_typed n a) (is_scalar (ty_of a)) first) m)
+      (λ v st1 q m1. operands_keep rest op (is_true v) w n c st1 k (both_hold_second (is_typed n a && is_scalar (ty_of a)) (operands_fit n rest) h) m1))
 
   pub place_keeps : (p : PlaceTree) (w : World) (n : Names) (c : Context) (st : State) (ty : VarTy) → ContextFits w n c → IsTrue (place_fits n p) → place_type n p ≡ Some ty → Fits w st.memory → Keeps w (LocationFits w (Some ty)) (location_of p c st)
   place_keeps (place root steps) w n c st ty k h is m =
-      leads_on w n c root steps st ty (λ a e. root_keeps root w n c st a k (left (root_fits n root) (steps_fit n steps) h) e m)
-      (λ a at st1 e l m1. steps_keep steps a at w n c st1 ty k (right (root_fits n root) (steps_fit n steps) h) e l m1) is
+      leads_on w n c root steps st ty (λ a e. root_keeps root w n c st a k (both_hold_first (root_fits n root) (steps_fit n steps) h) e m)
+      (λ a at st1 e l m1. steps_keep steps a at w n c st1 ty k (both_hold_second (root_fits n root) (steps_fit n steps) h) e l m1) is
 
   pub root_keeps : (root : RootTree) (w : World) (n : Names) (c : Context) (st : State) (a : VarTy) → ContextFits w n c → IsTrue (root_fits n root) → root_type n root ≡ Some a → Fits w st.memory → Keeps w (LocationFits w (Some a)) (root_location root c st)
   root_keeps (t.local v) w n c st a k h is m = (names_variable w n c v.0 a k is, m)
@@ -615,15 +617,15 @@ mutual
   -- the left object of an assignment of structs
   assigned_keeps : (b : ExprTree) (w : World) (n : Names) (c : Context) (st : State) (a : VarTy) → ContextFits w n c → IsTrue (is_typed n b) → assigned_type b ≡ Some a → Fits w st.memory → Keeps w (LocationFits w (Some a)) (assigned_location b c st)
   assigned_keeps (typed s ty (t.assign p d)) w n c st a k h is m =
-      let there = left (place_fits n p) (is_written n p) (left (place_fits n p && is_written n p) ((same_types (place_type n p) ty && is_value ty) && (is_typed n d && same_types (ty_of d) ty)) h) in
-      let rest = right (place_fits n p && is_written n p) ((same_types (place_type n p) ty && is_value ty) && (is_typed n d && same_types (ty_of d) ty)) h in
-      let own = left (same_types (place_type n p) ty && is_value ty) (is_typed n d && same_types (ty_of d) ty) rest in
-      let of = right (same_types (place_type n p) ty && is_value ty) (is_typed n d && same_types (ty_of d) ty) rest in
+      let there = both_hold_first (place_fits n p) (is_written n p) (both_hold_first (place_fits n p && is_written n p) ((same_types (place_type n p) ty && is_value ty) && (is_typed n d && same_types (ty_of d) ty)) h) in
+      let rest = both_hold_second (place_fits n p && is_written n p) ((same_types (place_type n p) ty && is_value ty) && (is_typed n d && same_types (ty_of d) ty)) h in
+      let own = both_hold_first (same_types (place_type n p) ty && is_value ty) (is_typed n d && same_types (ty_of d) ty) rest in
+      let of = both_hold_second (same_types (place_type n p) ty && is_value ty) (is_typed n d && same_types (ty_of d) ty) rest in
       let ty_is = given_struct ty a is in
-      let place_is = equal_options (place_type n p) ty (left (same_types (place_type n p) ty) (is_value ty) own) ∙ ty_is in
-      let of_is = equal_options (ty_of d) ty (right (is_typed n d) (same_types (ty_of d) ty) of) ∙ ty_is in
+      let place_is = equal_options (place_type n p) ty (both_hold_first (same_types (place_type n p) ty) (is_value ty) own) ∙ ty_is in
+      let of_is = equal_options (ty_of d) ty (both_hold_second (is_typed n d) (same_types (ty_of d) ty) of) ∙ ty_is in
       keeps_bind w (LocationFits w (Some a)) (LocationFits w (Some a)) (location_of p c st) (λ at st1. value_of d c st1 >>= λ v st2. store at v st2 >>= λ u. gives at) (place_keeps p w n c st a k there place_is m)
-      (λ at st1 l m1. keeps_bind w (ValueFits w (ty_of d)) (LocationFits w (Some a)) (value_of d c st1) (λ v st2. store at v st2 >>= λ u. gives at) (value_fits d w n c st1 k (left (is_typed n d) (same_types (ty_of d) ty) of) m1)
+      (λ at st1 l m1. keeps_bind w (ValueFits w (ty_of d)) (LocationFits w (Some a)) (value_of d c st1) (λ v st2. store at v st2 >>= λ u. gives at) (value_fits d w n c st1 k (both_hold_first (is_typed n d) (same_types (ty_of d) ty) of) m1)
       (λ v st2 q m2. (l, stored_fits w st2.memory at v a l (subst (λ z. ValueFits w z v) of_is q) m2)))
   assigned_keeps (typed s ty (t.constant v)) w n c st a k h is m = cc
   assigned_keeps (typed s ty t.null) w n c st a k h is m = cc
@@ -645,5 +647,5 @@ mutual
   steps_keep (step_and (t.field j) rest) a at w n c st ty k h is l m =
       to_field w n c rest at j a st ty (λ b e' e. steps_keep rest b (field_at c j at) w n c st ty k h e' (field_lies w n c j a at b k l e) m) is
   steps_keep (step_and (t.item b s) rest) a at w n c st ty k h is l m =
-      to_item w n c rest at b s a st ty (value_fits b w n c st k (left (is_typed n b) (steps_fit n rest) h) m) l
-      (λ d next st1 e l1 m1. steps_keep rest d next w n c st1 ty k (right (is_typed n b) (steps_fit n rest) h) e l1 m1) is
+      to_item w n c rest at b s a st ty (value_fits b w n c st k (both_hold_first (is_typed n b) (steps_fit n rest) h) m) l
+      (λ d next st1 e l1 m1. steps_keep rest d next w n c st1 ty k (both_hold_second (is_typed n b) (steps_fit n rest) h) e l1 m1) is

@@ -3,8 +3,10 @@ use Rattle.std.proofs.Common.{◌≡◌, ◌∙◌, ℕ, zero, suc, ◌+◌, pos
 use Rattle.std.specs.Prelude.{IsTrue, ◌&&◌, slice_get, get_or, slice_index_or, option_map}
 use Rattle.std.specs.List.{list_all}
 use Rattle.std.proofs.lemmas.List.{length-replicate}
+use Rattle.std.proofs.lemmas.Option.{get_or_from_slice_get}
 use Rattle.pt_base.specs.declared.int_type.IntType.{IntType}
 use Rattle.pt_base.specs.declared.int_type.IntType.TheVariants as i
+use Rattle.pt_base.proofs.Booleans.{both_hold_first as left, both_hold_second, false_not_true}
 use Rattle.pt_int.specs.Conversion.{conv}
 use Rattle.pt_tree.specs.declared.signature.Elem.{Elem}
 use Rattle.runs.specs.State.{gives, trapped, spent, ◌>>=◌, take_turn}
@@ -35,7 +37,6 @@ use Rattle.source_soundness.specs.Worlds.{World, type_in, is_pointer, Fits, Valu
 use Rattle.source_soundness.specs.Laws.{Keeps, CodeFits}
 use Rattle.source_soundness.specs.Sizes.{object_cells, PointsWithin, Sized, KeepsSizes, ValueSized, CallsKeepSizes}
 use Rattle.typed_tree.proofs.SameTypes.{equal_options}
-use Rattle.source_soundness.proofs.Tests.{left, right, never, got_or}
 use Rattle.source_soundness.proofs.Objects.{stored_fits}
 use Rattle.source_soundness.proofs.Soundness.{names_live, entry_type, value_fits}
 use Rattle.source_soundness.proofs.StatementSoundness.{Passed, Entry, lies, clearing, same_as, number_stored}
@@ -98,8 +99,8 @@ outermost_then w scope code test e st next u h m on = go (slice_get scope.exprs 
         (λ v st1 q p m1. on v st1 (record { passed = record { ty = ty_of a; passes = passes; fit = q }; size = p }) m1))
 
     go : (o : Option ExprTree) → slice_get scope.exprs e.0 ≡ o → found_fits scope.names test o ≡ true → Steady w (sizes code.context) (outermost code e st >>= next)
-    go None is h = never h
-    go (Some a) is h = at_entry a (ap (λ xs. get_or xs e.0 no_expr) u.fits.exprs ∙ got_or scope.exprs e.0 a no_expr is) (left (is_typed scope.names a) (test (ty_of a)) h) (right (is_typed scope.names a) (test (ty_of a)) h)
+    go None is h = false_not_true h
+    go (Some a) is h = at_entry a (ap (λ xs. get_or xs e.0 no_expr) u.fits.exprs ∙ get_or_from_slice_get scope.exprs e.0 a no_expr is) (left (is_typed scope.names a) (test (ty_of a)) h) (both_hold_second (is_typed scope.names a) (test (ty_of a)) h)
 
 same_size : (w : World) (ss : List ℕ) (ty : VarTy) (v : Value) → Measured w ss (same_types (Some ty)) v → ValueSized w ss (Some ty) v
 same_size w ss ty v p = subst (λ y. ValueSized w ss y v) (sym (equal_options (Some ty) p.passed.ty p.passed.passes)) p.size
@@ -127,7 +128,7 @@ clearing_good : (w : World) (scope : Scope) (code : Code) (x : ℕ) (ty : VarTy)
 clearing_good w scope code x ty st u en m = (
   clearing w scope code x ty st u.fits en m.0,
   put_sized w (sizes code.context) st.memory (local code.context.frame.depth x) (cleared (sizes code.context) (type_at code.context.variables x)) m.1
-      (λ a is. cleared_length (sizes code.context) (type_at code.context.variables x) ∙ ap (object_cells (sizes code.context)) (same (type_at code.context.variables x) ty a (got_or code.context.variables x ty (Int i.Int) (entry_type w scope.names code.context x ty u.fits.context en.is)) (names_live w scope.names code.context x ty u.fits.context en.is) is))
+      (λ a is. cleared_length (sizes code.context) (type_at code.context.variables x) ∙ ap (object_cells (sizes code.context)) (same (type_at code.context.variables x) ty a (get_or_from_slice_get code.context.variables x ty (Int i.Int) (entry_type w scope.names code.context x ty u.fits.context en.is)) (names_live w scope.names code.context x ty u.fits.context en.is) is))
       (λ elem fixed is. cleared_points w (sizes code.context) elem (type_at code.context.variables x)),
 )
   where
@@ -150,11 +151,11 @@ number_good w scope code x cell ty t v st u en plain p m = (
 
 numbers_good : (es : List ExprId) (ts : List IntType) (w : World) (scope : Scope) (code : Code) (x cell : ℕ) (ty : VarTy) (st : State) → Ready w scope code → Entry scope x ty → is_pointer ty ≡ false → IsTrue (items_fit scope (map Int ts) es) → Good w (sizes code.context) st.memory → Steady w (sizes code.context) (items_stored es x cell code st)
 numbers_good [] ts w scope code x cell ty st u en plain h m = m
-numbers_good (e ∷ es) [] w scope code x cell ty st u en plain h m = never h
+numbers_good (e ∷ es) [] w scope code x cell ty st u en plain h m = false_not_true h
 numbers_good (e ∷ es) (t ∷ ts) w scope code x cell ty st u en plain h m =
     outermost_then w scope code (same_types (Some (Int t))) e st (λ v st1. store (variable_at code x cell) v st1 >>= λ y. items_stored es x (cell + 1) code) u (left (expr_fits scope (same_types (Some (Int t))) e) (items_fit scope (map Int ts) es) h) m
     (λ v st1 p m1. numbers_good es ts w scope code x (cell + 1) ty (record st1 { memory = stored_in st1.memory (variable_at code x cell) v }) u en plain
-    (right (expr_fits scope (same_types (Some (Int t))) e) (items_fit scope (map Int ts) es) h) (number_good w scope code x cell ty t v st1 u en plain p m1))
+    (both_hold_second (expr_fits scope (same_types (Some (Int t))) e) (items_fit scope (map Int ts) es) h) (number_good w scope code x cell ty t v st1 u en plain p m1))
 
 items_good : (es : List ExprId) (w : World) (scope : Scope) (code : Code) (x : ℕ) (ty : VarTy) (st : State) → Ready w scope code → Entry scope x ty → IsTrue (items_fit scope (item_types scope.names.structs ty) es) → Good w (sizes code.context) st.memory → Steady w (sizes code.context) (items_stored es x 0 code st)
 items_good es w scope code x (Int t) st u en h m = numbers_good es (leaves_of scope.names.structs (Int t)) w scope code x 0 (Int t) st u en refl h m
@@ -164,12 +165,12 @@ items_good [] w scope code x (Pointer elem fixed) st u en h m = m
 items_good (e ∷ []) w scope code x (Pointer elem fixed) st u en h m =
     outermost_then w scope code (same_types (Some (Pointer elem fixed))) e st (λ v st1. store (variable_at code x 0) v st1 >>= λ y. items_stored [] x 1 code) u (left (expr_fits scope (same_types (Some (Pointer elem fixed))) e) (items_fit scope [] []) h) m
     (λ v st1 p m1. whole_good w scope code x (Pointer elem fixed) v st1 u en p m1)
-items_good (e ∷ e' ∷ es) w scope code x (Pointer elem fixed) st u en h m = never (right (expr_fits scope (same_types (Some (Pointer elem fixed))) e) false h)
+items_good (e ∷ e' ∷ es) w scope code x (Pointer elem fixed) st u en h m = false_not_true (both_hold_second (expr_fits scope (same_types (Some (Pointer elem fixed))) e) false h)
 
 init_good : (init : TypedInit) (w : World) (scope : Scope) (code : Code) (x : ℕ) (ty : VarTy) (st : State) → Ready w scope code → Entry scope x ty → IsTrue (init_fits scope (Some ty) init) → Good w (sizes code.context) st.memory → Steady w (sizes code.context) (initialised init x code st)
 init_good n.Nothing w scope code x ty st u en h m = m
 init_good (n.Value e) w scope code x ty st u en h m =
-    outermost_then w scope code (same_types (Some ty)) e st (λ v st1. store (variable_at code x 0) v st1 >>= λ y. gives goes_on) u (right (is_value (Some ty)) (expr_fits scope (same_types (Some ty)) e) h) m
+    outermost_then w scope code (same_types (Some ty)) e st (λ v st1. store (variable_at code x 0) v st1 >>= λ y. gives goes_on) u (both_hold_second (is_value (Some ty)) (expr_fits scope (same_types (Some ty)) e) h) m
     (λ v st1 p m1. whole_good w scope code x ty v st1 u en p m1)
 init_good (n.Items s es) w scope code x ty st u en h m = items_good es w scope code x ty st u en h m
 
@@ -178,10 +179,10 @@ declared_good [] w scope code st u h m = m
 declared_good (d ∷ ds) w scope code st u h m =
     steady_bind w (sizes code.context) (initialised d.init d.var.0 code (cleared_at code d.var.0 st)) (λ flow. declared ds code)
     (at_entry (option_map (λ (y : Var). y.ty) (slice_get scope.names.vars d.var.0)) refl (left (declarator_fits scope d) (list_all (declarator_fits scope) ds) h))
-    (λ flow st1 m1. declared_good ds w scope code st1 u (right (declarator_fits scope d) (list_all (declarator_fits scope) ds) h) m1)
+    (λ flow st1 m1. declared_good ds w scope code st1 u (both_hold_second (declarator_fits scope d) (list_all (declarator_fits scope) ds) h) m1)
   where
     at_entry : (o : Option VarTy) → option_map (λ (y : Var). y.ty) (slice_get scope.names.vars d.var.0) ≡ o → init_fits scope o d.init ≡ true → Steady w (sizes code.context) (initialised d.init d.var.0 code (cleared_at code d.var.0 st))
-    at_entry None is h = never h
+    at_entry None is h = false_not_true h
     at_entry (Some ty) is h = let en : Entry scope d.var.0 ty = record { is = is } in
         init_good d.init w scope code d.var.0 ty (cleared_at code d.var.0 st) u en h (clearing_good w scope code d.var.0 ty st u en m)
 
@@ -253,40 +254,40 @@ mutual
   statement_good (b.evaluate s e) w scope code out back st u h m = outermost_then w scope code any_type e st (λ v. gives goes_on) u h m (λ v st1 p m1. m1)
   statement_good (b.declare d) w scope code out back st u h m = declared_good d.declarators w scope code st u h m
   statement_good (b.choose s e a o) w scope code out back st u h m =
-      let rest = right (expr_fits scope is_scalar e) (is_sound scope out back a && else_sound scope out back o) h in
+      let rest = both_hold_second (expr_fits scope is_scalar e) (is_sound scope out back a && else_sound scope out back o) h in
       outermost_then w scope code is_scalar e st (λ v. if is_true v then statement a code else otherwise_of o code) u (left (expr_fits scope is_scalar e) (is_sound scope out back a && else_sound scope out back o) h) m
       (λ v st1 p m1. steady_either w (sizes code.context) (is_true v) (statement a code) (otherwise_of o code) st1
       (statement_good a w scope code out back st1 u (left (is_sound scope out back a) (else_sound scope out back o) rest) m1)
-      (else_good o w scope code out back st1 u (right (is_sound scope out back a) (else_sound scope out back o) rest) m1))
+      (else_good o w scope code out back st1 u (both_hold_second (is_sound scope out back a) (else_sound scope out back o) rest) m1))
   statement_good (b.while_true s e a) w scope code out back st u h m =
       looped_good st.left w (sizes code.context) (λ first. tested (Some e) code (λ st1. statement a code st1 >>= body_round)) true st
       (λ first st1 m1. tested_good w scope code (Some e) (λ st2. statement a code st2 >>= body_round) st1 u (left (expr_fits scope is_scalar e) (is_sound scope true true a) h)
-      (λ st2 m2. steady_bind w (sizes code.context) (statement a code st2) body_round (statement_good a w scope code true true st2 u (right (expr_fits scope is_scalar e) (is_sound scope true true a) h) m2) (round_good w (sizes code.context))) m1) m
+      (λ st2 m2. steady_bind w (sizes code.context) (statement a code st2) body_round (statement_good a w scope code true true st2 u (both_hold_second (expr_fits scope is_scalar e) (is_sound scope true true a) h) m2) (round_good w (sizes code.context))) m1) m
   statement_good (b.do_while s a e) w scope code out back st u h m =
       looped_good st.left w (sizes code.context) (λ first. tested_later first e code (λ st1. statement a code st1 >>= body_round)) true st
-      (λ first st1 m1. later_good first w scope code e (λ st2. statement a code st2 >>= body_round) st1 u (right (is_sound scope true true a) (expr_fits scope is_scalar e) h)
+      (λ first st1 m1. later_good first w scope code e (λ st2. statement a code st2 >>= body_round) st1 u (both_hold_second (is_sound scope true true a) (expr_fits scope is_scalar e) h)
       (λ st2 m2. steady_bind w (sizes code.context) (statement a code st2) body_round (statement_good a w scope code true true st2 u (left (is_sound scope true true a) (expr_fits scope is_scalar e) h) m2) (round_good w (sizes code.context))) m1) m
   statement_good (b.for_each s begin test step a) w scope code out back st u h m =
-      let rest = right (for_init_fits scope begin) (option_fits scope is_scalar test && (option_fits scope any_type step && is_sound scope true true a)) h in
-      let more = right (option_fits scope is_scalar test) (option_fits scope any_type step && is_sound scope true true a) rest in
+      let rest = both_hold_second (for_init_fits scope begin) (option_fits scope is_scalar test && (option_fits scope any_type step && is_sound scope true true a)) h in
+      let more = both_hold_second (option_fits scope is_scalar test) (option_fits scope any_type step && is_sound scope true true a) rest in
       steady_bind w (sizes code.context) (for_begins begin code st) (λ flow st1. looped st1.left (λ first. stepped_first first step code (tested test code (λ st2. statement a code st2 >>= body_round))) true st1)
       (begins_good begin w scope code st u (left (for_init_fits scope begin) (option_fits scope is_scalar test && (option_fits scope any_type step && is_sound scope true true a)) h) m)
       (λ flow st1 m1. looped_good st1.left w (sizes code.context) (λ first. stepped_first first step code (tested test code (λ st2. statement a code st2 >>= body_round))) true st1
       (λ first st2 m2. stepped_good first w scope code step (tested test code (λ st3. statement a code st3 >>= body_round)) st2 u (left (option_fits scope any_type step) (is_sound scope true true a) more)
       (λ st3 m3. tested_good w scope code test (λ st4. statement a code st4 >>= body_round) st3 u (left (option_fits scope is_scalar test) (option_fits scope any_type step && is_sound scope true true a) rest)
-      (λ st4 m4. steady_bind w (sizes code.context) (statement a code st4) body_round (statement_good a w scope code true true st4 u (right (option_fits scope any_type step) (is_sound scope true true a) more) m4) (round_good w (sizes code.context))) m3) m2) m1)
+      (λ st4 m4. steady_bind w (sizes code.context) (statement a code st4) body_round (statement_good a w scope code true true st4 u (both_hold_second (option_fits scope any_type step) (is_sound scope true true a) more) m4) (round_good w (sizes code.context))) m3) m2) m1)
   statement_good (b.give_back s None) w scope code out back st u h m = m
   statement_good (b.give_back s (Some e)) w scope code out back st u h m =
       outermost_then w scope code (λ t. both_int (integer_of t) scope.result) e st (λ v. gives (returned v)) u h m (λ v st1 p m1. m1)
   statement_good (b.stop_loop s) w scope code out back st u h m = m
   statement_good (b.next_turn s) w scope code out back st u h m = m
   statement_good (b.switch s e ty sections) w scope code out back st u h m =
-      let rest = right (expr_fits scope (promotes_to ty) e) (labels_fit ty (labels_of sections) && sections_sound scope back sections) h in
+      let rest = both_hold_second (expr_fits scope (promotes_to ty) e) (labels_fit ty (labels_of sections) && sections_sound scope back sections) h in
       outermost_then w scope code (promotes_to ty) e st (λ v st1. take_turn st1.left st1 (λ st2. sections_from sections (chosen sections (conv ty (number_of v))) code st2 >>= past_switch)) u
       (left (expr_fits scope (promotes_to ty) e) (labels_fit ty (labels_of sections) && sections_sound scope back sections) h) m
       (λ v st1 p m1. turn_good w (sizes code.context) st1.left st1 (λ st2. sections_from sections (chosen sections (conv ty (number_of v))) code st2 >>= past_switch) m1
       (λ st2 m2. steady_bind w (sizes code.context) (sections_from sections (chosen sections (conv ty (number_of v))) code st2) past_switch
-      (sections_good sections (chosen sections (conv ty (number_of v))) w scope code back st2 u (right (labels_fit ty (labels_of sections)) (sections_sound scope back sections) rest) m2) (past_good w (sizes code.context))))
+      (sections_good sections (chosen sections (conv ty (number_of v))) w scope code back st2 u (both_hold_second (labels_fit ty (labels_of sections)) (sections_sound scope back sections) rest) m2) (past_good w (sizes code.context))))
 
   else_good : (o : ElseTree) (w : World) (scope : Scope) (code : Code) (out back : Bool) (st : State) → Ready w scope code → IsTrue (else_sound scope out back o) → Good w (sizes code.context) st.memory → Steady w (sizes code.context) (otherwise_of o code st)
   else_good no_else w scope code out back st u h m = m
@@ -296,11 +297,11 @@ mutual
   all_good no_bodies w scope code out back st u h m = m
   all_good (body_and a rest) w scope code out back st u h m =
       steady_bind w (sizes code.context) (statement a code st) (after_flow (all_of rest code)) (statement_good a w scope code out back st u (left (is_sound scope out back a) (all_sound scope out back rest) h) m)
-      (λ flow st1 m1. after_good w (sizes code.context) (all_of rest code) flow st1 m1 (all_good rest w scope code out back st1 u (right (is_sound scope out back a) (all_sound scope out back rest) h) m1))
+      (λ flow st1 m1. after_good w (sizes code.context) (all_of rest code) flow st1 m1 (all_good rest w scope code out back st1 u (both_hold_second (is_sound scope out back a) (all_sound scope out back rest) h) m1))
 
   sections_good : (xs : SectionTrees) (skipped : ℕ) (w : World) (scope : Scope) (code : Code) (back : Bool) (st : State) → Ready w scope code → IsTrue (sections_sound scope back xs) → Good w (sizes code.context) st.memory → Steady w (sizes code.context) (sections_from xs skipped code st)
   sections_good no_sections skipped w scope code back st u h m = m
   sections_good (section_and (section s l bs) rest) zero w scope code back st u h m =
       steady_bind w (sizes code.context) (all_of bs code st) (after_flow (sections_from rest zero code)) (all_good bs w scope code true back st u (left (all_sound scope true back bs) (sections_sound scope back rest) h) m)
-      (λ flow st1 m1. after_good w (sizes code.context) (sections_from rest zero code) flow st1 m1 (sections_good rest zero w scope code back st1 u (right (all_sound scope true back bs) (sections_sound scope back rest) h) m1))
-  sections_good (section_and (section s l bs) rest) (suc skipped) w scope code back st u h m = sections_good rest skipped w scope code back st u (right (all_sound scope true back bs) (sections_sound scope back rest) h) m
+      (λ flow st1 m1. after_good w (sizes code.context) (sections_from rest zero code) flow st1 m1 (sections_good rest zero w scope code back st1 u (both_hold_second (all_sound scope true back bs) (sections_sound scope back rest) h) m1))
+  sections_good (section_and (section s l bs) rest) (suc skipped) w scope code back st u h m = sections_good rest skipped w scope code back st u (both_hold_second (all_sound scope true back bs) (sections_sound scope back rest) h) m

@@ -2,8 +2,10 @@
 use Rattle.std.proofs.Common.{◌≡◌, ◌∙◌, ℕ, zero, suc, ◌+◌, pos, refl, ap, sym, subst, Bool, true, false, Option, Some, None, List, [], ◌∷◌, if◌then◌else◌, map, replicate}
 use Rattle.std.specs.Prelude.{IsTrue, ◌&&◌, is_none, slice_get, get_or, option_map}
 use Rattle.std.specs.List.{list_all}
+use Rattle.std.proofs.lemmas.Option.{get_or_from_slice_get}
 use Rattle.pt_base.specs.declared.int_type.IntType.{IntType}
 use Rattle.pt_base.specs.declared.int_type.IntType.TheVariants as i
+use Rattle.pt_base.proofs.Booleans.{both_hold_first as left, both_hold_second, false_not_true}
 use Rattle.pt_int.specs.Conversion.{conv}
 use Rattle.runs.specs.State.{gives, trapped, spent, ◌>>=◌, take_turn}
 use Rattle.typed_tree.specs.declared.ids.ExprId.{ExprId}
@@ -31,7 +33,6 @@ use Rattle.source_meaning.specs.Statements.{Code, no_expr, outermost, Flow, goes
 use Rattle.source_soundness.specs.Worlds.{World, type_in, is_pointer, AreNumbers, CellsFit, Fits, ValueFits, LocationFits}
 use Rattle.source_soundness.specs.Laws.{Keeps, FlowFits, CodeFits}
 use Rattle.typed_tree.proofs.SameTypes.{equal_options, equal_ints}
-use Rattle.source_soundness.proofs.Tests.{left, right, never, got_or}
 use Rattle.source_soundness.proofs.Memories.{put_fits, number_written}
 use Rattle.source_soundness.proofs.Soundness.{keeps_bind, keeps_either, keeps_store, names_live, entry_type, names_variable, value_fits}
 
@@ -56,8 +57,8 @@ outermost_keeps w scope code test e st k h m = go (slice_get scope.exprs e.0) re
         (keeps_weaker w (ValueFits w (ty_of a)) (Passed w test) (value_of a code.context st) (value_fits a w scope.names code.context st k.context typed_a m) (λ v q. record { ty = ty_of a; passes = passes; fit = q }))
 
     go : (o : Option ExprTree) → slice_get scope.exprs e.0 ≡ o → found_fits scope.names test o ≡ true → Keeps w (Passed w test) (outermost code e st)
-    go None is h = never h
-    go (Some a) is h = at_entry a (ap (λ xs. get_or xs e.0 no_expr) k.exprs ∙ got_or scope.exprs e.0 a no_expr is) (left (is_typed scope.names a) (test (ty_of a)) h) (right (is_typed scope.names a) (test (ty_of a)) h)
+    go None is h = false_not_true h
+    go (Some a) is h = at_entry a (ap (λ xs. get_or xs e.0 no_expr) k.exprs ∙ get_or_from_slice_get scope.exprs e.0 a no_expr is) (left (is_typed scope.names a) (test (ty_of a)) h) (both_hold_second (is_typed scope.names a) (test (ty_of a)) h)
 
 -- ---- declarations
 
@@ -82,7 +83,7 @@ lies w scope code x ty k en = names_variable w scope.names code.context x ty k.c
 pub clearing : (w : World) (scope : Scope) (code : Code) (x : ℕ) (ty : VarTy) (st : State) → CodeFits w scope code → Entry scope x ty → Fits w st.memory → Fits w (cleared_at code x st).memory
 clearing w scope code x ty st k en m =
     put_fits w st.memory (local code.context.frame.depth x) (cleared (sizes code.context) (type_at code.context.variables x)) m
-    (λ u is. subst (λ z. CellsFit w code.context.frame.depth z (cleared (sizes code.context) (type_at code.context.variables x))) (same (type_at code.context.variables x) ty u (got_or code.context.variables x ty (Int i.Int) (entry_type w scope.names code.context x ty k.context en.is)) (names_live w scope.names code.context x ty k.context en.is) is)
+    (λ u is. subst (λ z. CellsFit w code.context.frame.depth z (cleared (sizes code.context) (type_at code.context.variables x))) (same (type_at code.context.variables x) ty u (get_or_from_slice_get code.context.variables x ty (Int i.Int) (entry_type w scope.names code.context x ty k.context en.is)) (names_live w scope.names code.context x ty k.context en.is) is)
     (cleared_fit w code.context.frame.depth (sizes code.context) (type_at code.context.variables x)))
   where
     same : (a ty u : VarTy) → a ≡ ty → type_in w (local code.context.frame.depth x) ≡ Some ty → type_in w (local code.context.frame.depth x) ≡ Some u → a ≡ u
@@ -104,12 +105,12 @@ number_stored w scope code x cell ty t nothing st k en plain fit m = absurd fit
 -- the items of a brace list of an object without pointers
 numbers_stored : (es : List ExprId) (ts : List IntType) (w : World) (scope : Scope) (code : Code) (x cell : ℕ) (ty : VarTy) (result : Option IntType) (st : State) → CodeFits w scope code → Entry scope x ty → is_pointer ty ≡ false → IsTrue (items_fit scope (map Int ts) es) → Fits w st.memory → Keeps w (FlowFits w result) (items_stored es x cell code st)
 numbers_stored [] ts w scope code x cell ty result st k en plain h m = (tt, m)
-numbers_stored (e ∷ es) [] w scope code x cell ty result st k en plain h m = never h
+numbers_stored (e ∷ es) [] w scope code x cell ty result st k en plain h m = false_not_true h
 numbers_stored (e ∷ es) (t ∷ ts) w scope code x cell ty result st k en plain h m =
     keeps_bind w (Passed w (same_types (Some (Int t)))) (FlowFits w result) (outermost code e st) (λ v st1. store (variable_at code x cell) v st1 >>= λ u. items_stored es x (cell + 1) code)
     (outermost_keeps w scope code (same_types (Some (Int t))) e st k (left (expr_fits scope (same_types (Some (Int t))) e) (items_fit scope (map Int ts) es) h) m)
     (λ v st1 p m1. numbers_stored es ts w scope code x (cell + 1) ty result (record st1 { memory = stored_in st1.memory (variable_at code x cell) v }) k en plain
-    (right (expr_fits scope (same_types (Some (Int t))) e) (items_fit scope (map Int ts) es) h) (number_stored w scope code x cell ty t v st1 k en plain (same_as w (Int t) v p) m1))
+    (both_hold_second (expr_fits scope (same_types (Some (Int t))) e) (items_fit scope (map Int ts) es) h) (number_stored w scope code x cell ty t v st1 k en plain (same_as w (Int t) v p) m1))
 
 items_keep : (es : List ExprId) (w : World) (scope : Scope) (code : Code) (x : ℕ) (ty : VarTy) (result : Option IntType) (st : State) → CodeFits w scope code → Entry scope x ty → IsTrue (items_fit scope (item_types scope.names.structs ty) es) → Fits w st.memory → Keeps w (FlowFits w result) (items_stored es x 0 code st)
 items_keep es w scope code x (Int t) result st k en h m = numbers_stored es (leaves_of scope.names.structs (Int t)) w scope code x 0 (Int t) result st k en refl h m
@@ -120,13 +121,13 @@ items_keep (e ∷ []) w scope code x (Pointer elem fixed) result st k en h m =
     keeps_bind w (Passed w (same_types (Some (Pointer elem fixed)))) (FlowFits w result) (outermost code e st) (λ v st1. store (variable_at code x 0) v st1 >>= λ u. items_stored [] x 1 code)
     (outermost_keeps w scope code (same_types (Some (Pointer elem fixed))) e st k (left (expr_fits scope (same_types (Some (Pointer elem fixed))) e) (items_fit scope [] []) h) m)
     (λ v st1 p m1. (tt, (store_whole w scope code x (Pointer elem fixed) v st1 k en (same_as w (Pointer elem fixed) v p) m1).1))
-items_keep (e ∷ e' ∷ es) w scope code x (Pointer elem fixed) result st k en h m = never (right (expr_fits scope (same_types (Some (Pointer elem fixed))) e) false h)
+items_keep (e ∷ e' ∷ es) w scope code x (Pointer elem fixed) result st k en h m = false_not_true (both_hold_second (expr_fits scope (same_types (Some (Pointer elem fixed))) e) false h)
 
 init_keeps : (init : TypedInit) (w : World) (scope : Scope) (code : Code) (x : ℕ) (ty : VarTy) (result : Option IntType) (st : State) → CodeFits w scope code → Entry scope x ty → IsTrue (init_fits scope (Some ty) init) → Fits w st.memory → Keeps w (FlowFits w result) (initialised init x code st)
 init_keeps n.Nothing w scope code x ty result st k en h m = (tt, m)
 init_keeps (n.Value e) w scope code x ty result st k en h m =
     keeps_bind w (Passed w (same_types (Some ty))) (FlowFits w result) (outermost code e st) (λ v st1. store (variable_at code x 0) v st1 >>= λ u. gives goes_on)
-    (outermost_keeps w scope code (same_types (Some ty)) e st k (right (is_value (Some ty)) (expr_fits scope (same_types (Some ty)) e) h) m)
+    (outermost_keeps w scope code (same_types (Some ty)) e st k (both_hold_second (is_value (Some ty)) (expr_fits scope (same_types (Some ty)) e) h) m)
     (λ v st1 p m1. (tt, (store_whole w scope code x ty v st1 k en (same_as w ty v p) m1).1))
 init_keeps (n.Items s es) w scope code x ty result st k en h m = items_keep es w scope code x ty result st k en h m
 
@@ -135,10 +136,10 @@ declared_keeps [] w scope code st k h m = (tt, m)
 declared_keeps (d ∷ ds) w scope code st k h m =
     keeps_bind w (FlowFits w scope.result) (FlowFits w scope.result) (initialised d.init d.var.0 code (cleared_at code d.var.0 st)) (λ flow. declared ds code)
     (at_entry (option_map (λ (y : Var). y.ty) (slice_get scope.names.vars d.var.0)) refl (left (declarator_fits scope d) (list_all (declarator_fits scope) ds) h))
-    (λ flow st1 q m1. declared_keeps ds w scope code st1 k (right (declarator_fits scope d) (list_all (declarator_fits scope) ds) h) m1)
+    (λ flow st1 q m1. declared_keeps ds w scope code st1 k (both_hold_second (declarator_fits scope d) (list_all (declarator_fits scope) ds) h) m1)
   where
     at_entry : (o : Option VarTy) → option_map (λ (y : Var). y.ty) (slice_get scope.names.vars d.var.0) ≡ o → init_fits scope o d.init ≡ true → Keeps w (FlowFits w scope.result) (initialised d.init d.var.0 code (cleared_at code d.var.0 st))
-    at_entry None is h = never h
+    at_entry None is h = false_not_true h
     at_entry (Some ty) is h = let en : Entry scope d.var.0 ty = record { is = is } in
         init_keeps d.init w scope code d.var.0 ty scope.result (cleared_at code d.var.0 st) k en h (clearing w scope code d.var.0 ty st k en m)
 
@@ -215,12 +216,12 @@ result_fits w result v p = go p.ty p.passes p.fit
     go (Some (Int a)) h fit = at_result result h
       where
         at_result : (o : Option IntType) → both_int (Some a) o ≡ true → ValueFits w (option_map Int o) v
-        at_result None h = never h
+        at_result None h = false_not_true h
         at_result (Some b) h = subst (λ z. ValueFits w (Some (Int z)) v) (equal_ints a b h) fit
-    go None h fit = never h
-    go (Some (Struct j)) h fit = never h
-    go (Some (Array elem count)) h fit = never h
-    go (Some (Pointer elem fixed)) h fit = never h
+    go None h fit = false_not_true h
+    go (Some (Struct j)) h fit = false_not_true h
+    go (Some (Array elem count)) h fit = false_not_true h
+    go (Some (Pointer elem fixed)) h fit = false_not_true h
 
 -- ---- the induction
 
@@ -232,46 +233,46 @@ mutual
       keeps_bind w (Passed w any_type) (FlowFits w scope.result) (outermost code e st) (λ v. gives goes_on) (outermost_keeps w scope code any_type e st k h m) (λ v st1 p m1. (tt, m1))
   statement_keeps (b.declare d) w scope code out back st k h m = declared_keeps d.declarators w scope code st k h m
   statement_keeps (b.choose s e a o) w scope code out back st k h m =
-      let rest = right (expr_fits scope is_scalar e) (is_sound scope out back a && else_sound scope out back o) h in
+      let rest = both_hold_second (expr_fits scope is_scalar e) (is_sound scope out back a && else_sound scope out back o) h in
       keeps_bind w (Passed w is_scalar) (FlowFits w scope.result) (outermost code e st) (λ v. if is_true v then statement a code else otherwise_of o code)
       (outermost_keeps w scope code is_scalar e st k (left (expr_fits scope is_scalar e) (is_sound scope out back a && else_sound scope out back o) h) m)
       (λ v st1 p m1. keeps_either w (FlowFits w scope.result) (is_true v) (statement a code) (otherwise_of o code) st1
       (statement_keeps a w scope code out back st1 k (left (is_sound scope out back a) (else_sound scope out back o) rest) m1)
-      (else_keeps o w scope code out back st1 k (right (is_sound scope out back a) (else_sound scope out back o) rest) m1))
+      (else_keeps o w scope code out back st1 k (both_hold_second (is_sound scope out back a) (else_sound scope out back o) rest) m1))
   statement_keeps (b.while_true s e a) w scope code out back st k h m =
       looped_keeps st.left w scope.result (λ first. tested (Some e) code (λ st1. statement a code st1 >>= body_round)) true st
       (λ first st1 m1. tested_keeps w scope code (Some e) (λ st2. statement a code st2 >>= body_round) st1 k (left (expr_fits scope is_scalar e) (is_sound scope true true a) h)
-      (λ st2 m2. keeps_bind w (FlowFits w scope.result) (RoundFits w scope.result) (statement a code st2) body_round (statement_keeps a w scope code true true st2 k (right (expr_fits scope is_scalar e) (is_sound scope true true a) h) m2) (body_rounds w scope.result)) m1) m
+      (λ st2 m2. keeps_bind w (FlowFits w scope.result) (RoundFits w scope.result) (statement a code st2) body_round (statement_keeps a w scope code true true st2 k (both_hold_second (expr_fits scope is_scalar e) (is_sound scope true true a) h) m2) (body_rounds w scope.result)) m1) m
   statement_keeps (b.do_while s a e) w scope code out back st k h m =
       looped_keeps st.left w scope.result (λ first. tested_later first e code (λ st1. statement a code st1 >>= body_round)) true st
-      (λ first st1 m1. later_keeps first w scope code e (λ st2. statement a code st2 >>= body_round) st1 k (right (is_sound scope true true a) (expr_fits scope is_scalar e) h)
+      (λ first st1 m1. later_keeps first w scope code e (λ st2. statement a code st2 >>= body_round) st1 k (both_hold_second (is_sound scope true true a) (expr_fits scope is_scalar e) h)
       (λ st2 m2. keeps_bind w (FlowFits w scope.result) (RoundFits w scope.result) (statement a code st2) body_round (statement_keeps a w scope code true true st2 k (left (is_sound scope true true a) (expr_fits scope is_scalar e) h) m2) (body_rounds w scope.result)) m1) m
   statement_keeps (b.for_each s begin test step a) w scope code out back st k h m =
-      let rest = right (for_init_fits scope begin) (option_fits scope is_scalar test && (option_fits scope any_type step && is_sound scope true true a)) h in
-      let more = right (option_fits scope is_scalar test) (option_fits scope any_type step && is_sound scope true true a) rest in
+      let rest = both_hold_second (for_init_fits scope begin) (option_fits scope is_scalar test && (option_fits scope any_type step && is_sound scope true true a)) h in
+      let more = both_hold_second (option_fits scope is_scalar test) (option_fits scope any_type step && is_sound scope true true a) rest in
       keeps_bind w (FlowFits w scope.result) (FlowFits w scope.result) (for_begins begin code st) (λ flow st1. looped st1.left (λ first. stepped_first first step code (tested test code (λ st2. statement a code st2 >>= body_round))) true st1)
       (begins_keep begin w scope code st k (left (for_init_fits scope begin) (option_fits scope is_scalar test && (option_fits scope any_type step && is_sound scope true true a)) h) m)
       (λ flow st1 q m1. looped_keeps st1.left w scope.result (λ first. stepped_first first step code (tested test code (λ st2. statement a code st2 >>= body_round))) true st1
       (λ first st2 m2. stepped_keeps first w scope code step (tested test code (λ st3. statement a code st3 >>= body_round)) st2 k (left (option_fits scope any_type step) (is_sound scope true true a) more)
       (λ st3 m3. tested_keeps w scope code test (λ st4. statement a code st4 >>= body_round) st3 k (left (option_fits scope is_scalar test) (option_fits scope any_type step && is_sound scope true true a) rest)
-      (λ st4 m4. keeps_bind w (FlowFits w scope.result) (RoundFits w scope.result) (statement a code st4) body_round (statement_keeps a w scope code true true st4 k (right (option_fits scope any_type step) (is_sound scope true true a) more) m4) (body_rounds w scope.result)) m3) m2) m1)
+      (λ st4 m4. keeps_bind w (FlowFits w scope.result) (RoundFits w scope.result) (statement a code st4) body_round (statement_keeps a w scope code true true st4 k (both_hold_second (option_fits scope any_type step) (is_sound scope true true a) more) m4) (body_rounds w scope.result)) m3) m2) m1)
   statement_keeps (b.give_back s None) w scope code out back st k h m = (nothing_fits scope.result h, m)
     where
       nothing_fits : (o : Option IntType) → IsTrue (is_none o) → ValueFits w (option_map Int o) nothing
       nothing_fits None h = tt
-      nothing_fits (Some t) h = never h
+      nothing_fits (Some t) h = false_not_true h
   statement_keeps (b.give_back s (Some e)) w scope code out back st k h m =
       keeps_bind w (Passed w (λ t. both_int (integer_of t) scope.result)) (FlowFits w scope.result) (outermost code e st) (λ v. gives (returned v))
       (outermost_keeps w scope code (λ t. both_int (integer_of t) scope.result) e st k h m) (λ v st1 p m1. (result_fits w scope.result v p, m1))
   statement_keeps (b.stop_loop s) w scope code out back st k h m = (tt, m)
   statement_keeps (b.next_turn s) w scope code out back st k h m = (tt, m)
   statement_keeps (b.switch s e ty sections) w scope code out back st k h m =
-      let rest = right (expr_fits scope (promotes_to ty) e) (labels_fit ty (labels_of sections) && sections_sound scope back sections) h in
+      let rest = both_hold_second (expr_fits scope (promotes_to ty) e) (labels_fit ty (labels_of sections) && sections_sound scope back sections) h in
       keeps_bind w (Passed w (promotes_to ty)) (FlowFits w scope.result) (outermost code e st) (λ v st1. take_turn st1.left st1 (λ st2. sections_from sections (chosen sections (conv ty (number_of v))) code st2 >>= past_switch))
       (outermost_keeps w scope code (promotes_to ty) e st k (left (expr_fits scope (promotes_to ty) e) (labels_fit ty (labels_of sections) && sections_sound scope back sections) h) m)
       (λ v st1 p m1. turn_keeps w (FlowFits w scope.result) st1.left st1 (λ st2. sections_from sections (chosen sections (conv ty (number_of v))) code st2 >>= past_switch) m1
       (λ st2 m2. keeps_bind w (FlowFits w scope.result) (FlowFits w scope.result) (sections_from sections (chosen sections (conv ty (number_of v))) code st2) past_switch
-      (sections_keep sections (chosen sections (conv ty (number_of v))) w scope code back st2 k (right (labels_fit ty (labels_of sections)) (sections_sound scope back sections) rest) m2) (past_keeps w scope.result)))
+      (sections_keep sections (chosen sections (conv ty (number_of v))) w scope code back st2 k (both_hold_second (labels_fit ty (labels_of sections)) (sections_sound scope back sections) rest) m2) (past_keeps w scope.result)))
 
   else_keeps : (o : ElseTree) (w : World) (scope : Scope) (code : Code) (out back : Bool) (st : State) → CodeFits w scope code → IsTrue (else_sound scope out back o) → Fits w st.memory → Keeps w (FlowFits w scope.result) (otherwise_of o code st)
   else_keeps no_else w scope code out back st k h m = (tt, m)
@@ -281,11 +282,11 @@ mutual
   all_keep no_bodies w scope code out back st k h m = (tt, m)
   all_keep (body_and a rest) w scope code out back st k h m =
       keeps_bind w (FlowFits w scope.result) (FlowFits w scope.result) (statement a code st) (after_flow (all_of rest code)) (statement_keeps a w scope code out back st k (left (is_sound scope out back a) (all_sound scope out back rest) h) m)
-      (λ flow st1 q m1. after_keeps w scope.result (all_of rest code) flow st1 q m1 (all_keep rest w scope code out back st1 k (right (is_sound scope out back a) (all_sound scope out back rest) h) m1))
+      (λ flow st1 q m1. after_keeps w scope.result (all_of rest code) flow st1 q m1 (all_keep rest w scope code out back st1 k (both_hold_second (is_sound scope out back a) (all_sound scope out back rest) h) m1))
 
   sections_keep : (ss : SectionTrees) (skipped : ℕ) (w : World) (scope : Scope) (code : Code) (back : Bool) (st : State) → CodeFits w scope code → IsTrue (sections_sound scope back ss) → Fits w st.memory → Keeps w (FlowFits w scope.result) (sections_from ss skipped code st)
   sections_keep no_sections skipped w scope code back st k h m = (tt, m)
   sections_keep (section_and (section s l bs) rest) zero w scope code back st k h m =
       keeps_bind w (FlowFits w scope.result) (FlowFits w scope.result) (all_of bs code st) (after_flow (sections_from rest zero code)) (all_keep bs w scope code true back st k (left (all_sound scope true back bs) (sections_sound scope back rest) h) m)
-      (λ flow st1 q m1. after_keeps w scope.result (sections_from rest zero code) flow st1 q m1 (sections_keep rest zero w scope code back st1 k (right (all_sound scope true back bs) (sections_sound scope back rest) h) m1))
-  sections_keep (section_and (section s l bs) rest) (suc skipped) w scope code back st k h m = sections_keep rest skipped w scope code back st k (right (all_sound scope true back bs) (sections_sound scope back rest) h) m
+      (λ flow st1 q m1. after_keeps w scope.result (sections_from rest zero code) flow st1 q m1 (sections_keep rest zero w scope code back st1 k (both_hold_second (all_sound scope true back bs) (sections_sound scope back rest) h) m1))
+  sections_keep (section_and (section s l bs) rest) (suc skipped) w scope code back st k h m = sections_keep rest skipped w scope code back st k (both_hold_second (all_sound scope true back bs) (sections_sound scope back rest) h) m

@@ -1,11 +1,13 @@
 -- Steps of chains and of places give what their types say.
 use Rattle.std.proofs.Common.{◌≡◌, ◌∙◌, ℕ, refl, ap, sym, subst, Bool, true, false, Option, Some, None, List, [], Result, Ok, Err, if◌then◌else◌, nat_lt}
 use Rattle.std.specs.Prelude.{◌&&◌, not, is_some, slice_get, get_or, option_map, option_and_then}
+use Rattle.std.proofs.lemmas.Option.{get_or_from_slice_get}
 use Rattle.pt_base.specs.declared.int_type.IntType.{IntType}
 use Rattle.pt_base.specs.declared.int_type.IntType.TheVariants as i
 use Rattle.pt_base.specs.IntTypes.{usual}
 use Rattle.pt_base.specs.declared.trap.Trap.{Trap}
 use Rattle.pt_base.specs.declared.trap.Trap.TheVariants.{Bounds}
+use Rattle.pt_base.proofs.Booleans.{false_not_true}
 use Rattle.pt_int.specs.declared.operator.BinOp.{BinOp}
 use Rattle.pt_int.specs.Conversion.{conv}
 use Rattle.pt_int.specs.Operator.{binary_of, truth, is_shift, binary_type}
@@ -27,7 +29,6 @@ use Rattle.source_meaning.specs.Memory.{same_block, Cell, number, null, pointer}
 use Rattle.source_meaning.specs.Values.{Value, cell_of, number_in, target_of, moved_cell, shift_of, pointee_cells, promoted_of, stepped}
 use Rattle.source_meaning.specs.Expressions.{Context, sizes, field_type, dereferenced, object_at}
 use Rattle.source_soundness.specs.Worlds.{World, is_pointer, IsNumber, IsScoped, ValueFits, PartFits, LocationFits}
-use Rattle.source_soundness.proofs.Tests.{never, got_or}
 use Rattle.source_soundness.proofs.Operators.{Gives, FitsAs, gives_number, moves, scoped_of_pointer}
 
 -- ---- chains
@@ -36,7 +37,7 @@ pub when : (c : Bool) (x y : VarTy) → (if c then Some x else None) ≡ Some y 
 when true x y h = cc
 when false x y h = cc
 
-holds_when : (c : Bool) (x : Option VarTy) (y : VarTy) → (if c then x else None) ≡ Some y → c ≡ true
+pub holds_when : (c : Bool) (x : Option VarTy) (y : VarTy) → (if c then x else None) ≡ Some y → c ≡ true
 holds_when true x y h = refl
 holds_when false x y h = cc
 
@@ -116,7 +117,7 @@ pub plain_in : (cell : ℕ) (in_ ty : VarTy) → is_pointer in_ ≡ false → is
 plain_in cell (Int t) ty p q = q
 plain_in cell (Struct n) ty p q = q
 plain_in cell (Array elem count) ty p q = q
-plain_in cell (Pointer elem fixed) ty p q = never (sym p)
+plain_in cell (Pointer elem fixed) ty p q = false_not_true (sym p)
 
 pub whole_part : (ty : VarTy) → PartFits 0 ty ty
 whole_part (Int t) = refl
@@ -131,7 +132,7 @@ pointee_fits w c elem fixed null h = tt
 pointee_fits w c elem fixed (pointer block base count index) h = go (nat_lt index count)
   where
     there : LocationFits w (Some (type_of_elem elem)) (object_at (type_of_elem elem) (block, cell_at (elem_cells (sizes c) elem) base index))
-    there = record { has = refl; in_ = h.0; live = h.1; shallow = h.3; part = plain_in (cell_at (elem_cells (sizes c) elem) base index) h.0 (type_of_elem elem) h.2 (plain_elem elem); own = λ p. never (sym (plain_elem elem) ∙ p) }
+    there = record { has = refl; in_ = h.0; live = h.1; shallow = h.3; part = plain_in (cell_at (elem_cells (sizes c) elem) base index) h.0 (type_of_elem elem) h.2 (plain_elem elem); own = λ p. false_not_true (sym (plain_elem elem) ∙ p) }
 
     go : (b : Bool) → Gives (LocationFits w (Some (type_of_elem elem))) (if_ok (if b then Ok (block, cell_at (elem_cells (sizes c) elem) base index) else Err Bounds) (object_at (type_of_elem elem)))
     go true = there
@@ -160,7 +161,7 @@ field_is structs n k ty h = at_struct (slice_get structs n) refl h
     at_field : (s : StructInfo) (o : Option Field) → slice_get structs n ≡ Some s → slice_get s.fields k ≡ o → option_map (λ x. x.ty) o ≡ Some ty → field_type structs n k ≡ ty
     at_field s None is is' h = cc
     at_field s (Some x) is is' h =
-        ap (field_type_in k) (got_or structs n s no_struct is) ∙ ap type_of_field (got_or s.fields k x no_field is') ∙ same_some x.ty ty h
+        ap (field_type_in k) (get_or_from_slice_get structs n s no_struct is) ∙ ap type_of_field (get_or_from_slice_get s.fields k x no_field is') ∙ same_some x.ty ty h
 
     at_struct : (o : Option StructInfo) → slice_get structs n ≡ o → option_and_then (λ s. option_map (λ x. x.ty) (slice_get s.fields k)) o ≡ Some ty → field_type structs n k ≡ ty
     at_struct None is h = cc

@@ -1,9 +1,13 @@
 -- What is kept of an accepted program: its halves, which share no global.
-use Rattle.std.proofs.Common.{◌≡◌, ◌∙◌, ◌<◌, ◌↔◌, ℕ, zero, suc, ◌+◌, refl, ap, sym, subst, arith, ◌⊎◌, inl, inr, Bool, true, false, List, [], ◌∷◌, ◌++◌, length, map}
-use Rattle.std.specs.Prelude.{◌&&◌, ◌||◌, nat_eq}
+use Rattle.std.proofs.Common.{◌≡◌, ◌∙◌, ◌<◌, ◌↔◌, ℕ, zero, suc, ◌+◌, refl, ap, sym, subst, arith, Bool, true, false, List, [], ◌∷◌, ◌++◌, length, map}
+use Rattle.std.specs.Prelude.{◌&&◌, nat_eq}
 use Rattle.std.specs.List.{Contains, flat_map, list_any}
+use Rattle.std.proofs.lemmas.Bool.{and_from}
 use Rattle.pt_base.specs.declared.ids.FnId.{FnId}
 use Rattle.pt_base.specs.declared.ids.GlobalId.{GlobalId}
+use Rattle.pt_base.proofs.Lists.{append_nil_first, append_nil_second}
+use Rattle.pt_base.proofs.Members.{any_true}
+use Rattle.pt_base.proofs.Numbers.{nat_eq_self}
 use Rattle.typed_tree.specs.declared.variable.TypedGlobal.{TypedGlobal}
 use Rattle.typed_tree.specs.TypedTree.{TypedTree}
 use Rattle.sides.specs.declared.halves.Sides.{Sides}
@@ -11,7 +15,7 @@ use Rattle.reach.specs.Contexts.{InMonitor, InSlave, IsOwned, globals_in}
 use Rattle.sides.specs.Objects.{global_objects}
 use Rattle.sides.specs.Placed.{AreSides}
 use Rattle.reach.specs.Sorted.{Lists}
-use Rattle.reach.proofs.ListLemmas.{contains_cases, contains_map, contains_nothing, from_map}
+use Rattle.reach.proofs.ListLemmas.{contains_map, from_map}
 use Rattle.flow_rules.specs.declared.accepted.Accepted.{Accepted}
 use Rattle.flow_rules.specs.declared.rule.Rule.TheVariants.{SharedGlobal}
 use Rattle.flow_rules.specs.Faults.{IsAccepted, flows_of}
@@ -19,7 +23,6 @@ use Rattle.flow_rules.specs.Findings.{findings_of, found_if, function_findings, 
 use Rattle.flow_rules.specs.Secrets.{Flows}
 use Rattle.splitter.specs.Halves.{halves_of}
 use Rattle.split_law.specs.Laws.{AcceptedShareNothing, AreHalves, SharesNothing}
-use Rattle.split_law.proofs.Chosen.{never, number_self}
 
 -- ---- halves
 
@@ -49,36 +52,12 @@ halves_here t s are = record {
 
 -- ---- shared globals
 
-nothing_behind : {A : Type 0} (xs ys : List A) → xs ++ ys ≡ [] → ys ≡ []
-nothing_behind [] ys h = h
-nothing_behind (x ∷ xs) ys h = cc
-
-nothing_before : {A : Type 0} (xs ys : List A) → xs ++ ys ≡ [] → xs ≡ []
-nothing_before [] ys h = refl
-nothing_before (x ∷ xs) ys h = cc
-
-right : (a b : Bool) → b ≡ true → (a || b) ≡ true
-right true b h = refl
-right false b h = h
-
-left : (a b : Bool) → a ≡ true → (a || b) ≡ true
-left true b h = refl
-left false b h = never h
-
-any_of : {X : Type 0} (test : X → Bool) (xs : List X) (x : X) → Contains xs x → test x ≡ true → list_any test xs ≡ true
-any_of test [] x h e = absurd (contains_nothing x h)
-any_of {X} test (y ∷ ys) x h e = go (λ i. any_of test ys x i e) (contains_cases y ys x h)
-  where
-    go : (Contains ys x → list_any test ys ≡ true) → (y ≡ x) ⊎ Contains ys x → (test y || list_any test ys) ≡ true
-    go rest (inl s) = left (test y) (list_any test ys) (ap test s ∙ e)
-    go rest (inr i) = right (test y) (list_any test ys) (rest i)
-
 named_here : (t : TypedTree) (fs : List FnId) (f : FnId) (g : GlobalId) → Contains fs f → Contains (globals_in t f) g → is_named_in t g.0 fs ≡ true
-named_here t fs f g h i = any_of (λ (f : FnId). list_any (λ (x : GlobalId). nat_eq x.0 g.0) (globals_in t f)) fs f h (any_of (λ (x : GlobalId). nat_eq x.0 g.0) (globals_in t f) g i (number_self g.0))
+named_here t fs f g h i = any_true (λ (f : FnId). list_any (λ (x : GlobalId). nat_eq x.0 g.0) (globals_in t f)) fs f h (any_true (λ (x : GlobalId). nat_eq x.0 g.0) (globals_in t f) g i (nat_eq_self g.0))
 
 none_shared : (p : Flows) (n k : ℕ) (gs : List TypedGlobal) → k < length gs → shared_globals p n gs ≡ [] → (is_named_in p.tree (n + k) p.slave && is_named_in p.tree (n + k) p.monitor) ≡ true → ⊥
 none_shared p n k [] lt h e = absurd (omega arith)
-none_shared p n zero (x ∷ xs) lt h e = go (is_named_in p.tree n p.slave && is_named_in p.tree n p.monitor) (nothing_before (found_if (is_named_in p.tree n p.slave && is_named_in p.tree n p.monitor) SharedGlobal x.var.span) (shared_globals p (suc n) xs) h) (subst (λ (m : ℕ). (is_named_in p.tree m p.slave && is_named_in p.tree m p.monitor) ≡ true) (plain n) e)
+none_shared p n zero (x ∷ xs) lt h e = go (is_named_in p.tree n p.slave && is_named_in p.tree n p.monitor) (append_nil_first (found_if (is_named_in p.tree n p.slave && is_named_in p.tree n p.monitor) SharedGlobal x.var.span) (shared_globals p (suc n) xs) h) (subst (λ (m : ℕ). (is_named_in p.tree m p.slave && is_named_in p.tree m p.monitor) ≡ true) (plain n) e)
   where
     plain : (n : ℕ) → n + 0 ≡ n
     plain n = omega arith
@@ -87,7 +66,7 @@ none_shared p n zero (x ∷ xs) lt h e = go (is_named_in p.tree n p.slave && is_
     go true i j = cc
     go false i j = cc
 none_shared p n (suc k) (x ∷ xs) lt h e =
-    none_shared p (suc n) k xs (omega (arith, lt)) (nothing_behind (found_if (is_named_in p.tree n p.slave && is_named_in p.tree n p.monitor) SharedGlobal x.var.span) (shared_globals p (suc n) xs) h)
+    none_shared p (suc n) k xs (omega (arith, lt)) (append_nil_second (found_if (is_named_in p.tree n p.slave && is_named_in p.tree n p.monitor) SharedGlobal x.var.span) (shared_globals p (suc n) xs) h)
     (subst (λ (m : ℕ). (is_named_in p.tree m p.slave && is_named_in p.tree m p.monitor) ≡ true) (next n k) e)
   where
     next : (n k : ℕ) → n + suc k ≡ suc n + k
@@ -96,18 +75,14 @@ none_shared p n (suc k) (x ∷ xs) lt h e =
 faultless_globals : (p : Flows) → findings_of p ≡ [] → shared_globals p 0 p.tree.globals ≡ []
 unfolding findings_of
 faultless_globals p h =
-    nothing_behind (objects_findings p (map (λ (x : TypedGlobal). x.var) p.tree.globals) (global_objects p.tree)) (shared_globals p 0 p.tree.globals)
-    (nothing_before (global_findings p) (flat_map function_findings p.tree.functions)
-    (nothing_behind (flat_map (slave_findings p) p.slave ++ flat_map (monitor_findings p) p.monitor) (global_findings p ++ flat_map function_findings p.tree.functions) h))
-
-both_true : (a b : Bool) → a ≡ true → b ≡ true → (a && b) ≡ true
-both_true true b h i = i
-both_true false b h i = never h
+    append_nil_second (objects_findings p (map (λ (x : TypedGlobal). x.var) p.tree.globals) (global_objects p.tree)) (shared_globals p 0 p.tree.globals)
+    (append_nil_first (global_findings p) (flat_map function_findings p.tree.functions)
+    (append_nil_second (flat_map (slave_findings p) p.slave ++ flat_map (monitor_findings p) p.monitor) (global_findings p ++ flat_map function_findings p.tree.functions) h))
 
 apart : (t : TypedTree) (a : Accepted) → IsAccepted t a → SharesNothing t
 apart t a accepted f g monitor named owned =
     none_shared (flows_of t a.sides a.marks) 0 g.0 t.globals owned.0 (faultless_globals (flows_of t a.sides a.marks) accepted.faultless)
-    (both_true (is_named_in t (0 + g.0) a.sides.slave) (is_named_in t (0 + g.0) a.sides.monitor)
+    (and_from (is_named_in t (0 + g.0) a.sides.slave) (is_named_in t (0 + g.0) a.sides.monitor)
     (subst (λ (m : ℕ). is_named_in t m a.sides.slave ≡ true) (behind g.0) (named_here t a.sides.slave owned.1.0 g ((accepted.sides.slave.same owned.1.0).1 owned.1.1) owned.1.2))
     (subst (λ (m : ℕ). is_named_in t m a.sides.monitor ≡ true) (behind g.0) (named_here t a.sides.monitor f g ((accepted.sides.monitor.same f).1 monitor) named)))
   where

@@ -6,6 +6,7 @@ use Rattle.std.specs.Map.{lookup}
 use Rattle.std.proofs.lemmas.List.Elements.{Contains-append_left, Contains-append_right}
 use Rattle.pt_base.specs.declared.int_type.IntType.{IntType}
 use Rattle.pt_base.specs.declared.int_type.IntType.TheVariants as int
+use Rattle.pt_base.proofs.Members.{contains_first}
 use Rattle.pt_tree.specs.declared.signature.Param.{Param}
 use Rattle.pt_tree.specs.declared.signature.Signature.{Signature}
 use Rattle.typed_tree.specs.declared.types.VarTy.{VarTy}
@@ -16,7 +17,6 @@ use Rattle.typed_tree.specs.TypeTests as tests
 use Rattle.typed_tree.specs.TypeTests.{both_int, integer_of, is_scalar, item_of, pointee_of, same_type}
 use Rattle.typed_tree.specs.TypeRules.{stepped}
 use Rattle.typed_tree.specs.WellFormedExpression.{is_main, param_type}
-use Rattle.reach.proofs.ListLemmas.{contains_first}
 use Rattle.pt_core.specs.CodeTree.{RootTree, local, global, deref, PlaceTree, place, ExprTree, constant, read, unary, binary, convert, null, address, decay, move, compare, difference, ExprTrees, no_exprs, expr_and, StmtTree, clear, check, assign, copy, call, choose, repeat, break_out, continue_on, give_back, StmtTrees, no_stmts, stmt_and}
 use Rattle.pt_core.specs.Types.{Context, element_of, path_type, place_type, pointee_type, root_type, type_of}
 use Rattle.pt_core.specs.WellFormedExpression.{expr_fits, is_addressed, is_path, place_fits, root_fits, stands_for, takes_one, takes_two}

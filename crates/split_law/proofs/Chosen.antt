@@ -5,31 +5,11 @@ use Rattle.std.specs.List.{list_all, find, filter, AllByRecursion}
 use Rattle.std.specs.Map.{lookup}
 use Rattle.std.proofs.lemmas.Bool.Decides.{nat_tests}
 use Rattle.std.proofs.lemmas.List.Filters.{sum_by-filter_both}
+use Rattle.pt_base.proofs.Booleans.{both_hold, both_hold_first, both_hold_second, cond_false, cond_true, false_not_true}
+use Rattle.pt_base.proofs.Numbers.{nat_eq_same}
 use Rattle.typed_tree.specs.WellFormed.{are_rising}
-use Rattle.typed_tree.proofs.WellFormedLemmas.{and_left, and_right, and_both}
-
-pub never : {X : Type 0} → false ≡ true → X
-never h = cc
-
-pub when_true : {A : Type 0} (b : Bool) (x y : A) → b ≡ true → cond b x y ≡ x
-when_true true x y h = refl
-when_true false x y h = never h
-
-pub when_false : {A : Type 0} (b : Bool) (x y : A) → b ≡ false → cond b x y ≡ y
-when_false false x y h = refl
-when_false true x y h = never (sym h)
-
-pub same_number : (n k : ℕ) → nat_eq n k ≡ true → n ≡ k
-same_number n k h = grind (arith, nat_tests, h)
-
-pub number_self : (n : ℕ) → nat_eq n n ≡ true
-number_self n = grind (arith, nat_tests)
 
 -- ---- what holds of each
-
-pub each : {A : Type 0} (P Q : A → Type 0) → ((x : A) → P x → Q x) → (xs : List A) → AllByRecursion P xs → AllByRecursion Q xs
-each P Q f [] h = tt
-each P Q f (x ∷ xs) h = (f x h.0, each P Q f xs h.1)
 
 pub each_both : {A : Type 0} (P : A → Type 0) (xs ys : List A) → AllByRecursion P xs → AllByRecursion P ys → AllByRecursion P (xs ++ ys)
 each_both P [] ys h i = i
@@ -45,32 +25,28 @@ each_chosen {A} P test (x ∷ xs) h = go (each_chosen P test xs h.1) (test x) re
 
 pub all_of_each : {A : Type 0} (test : A → Bool) (xs : List A) → AllByRecursion (λ (x : A). test x ≡ true) xs → list_all test xs ≡ true
 all_of_each test [] h = refl
-all_of_each test (x ∷ xs) h = and_both (test x) (list_all test xs) h.0 (all_of_each test xs h.1)
+all_of_each test (x ∷ xs) h = both_hold (test x) (list_all test xs) h.0 (all_of_each test xs h.1)
 
 pub each_of_all : {A : Type 0} (test : A → Bool) (xs : List A) → list_all test xs ≡ true → AllByRecursion (λ (x : A). test x ≡ true) xs
 each_of_all test [] h = tt
-each_of_all test (x ∷ xs) h = (and_left (test x) (list_all test xs) h, each_of_all test xs (and_right (test x) (list_all test xs) h))
-
-pub all_both : {A : Type 0} (test : A → Bool) (xs ys : List A) → list_all test xs ≡ true → list_all test ys ≡ true → list_all test (xs ++ ys) ≡ true
-all_both test [] ys h k = k
-all_both test (x ∷ xs) ys h k = and_both (test x) (list_all test (xs ++ ys)) (and_left (test x) (list_all test xs) h) (all_both test xs ys (and_right (test x) (list_all test xs) h) k)
+each_of_all test (x ∷ xs) h = (both_hold_first (test x) (list_all test xs) h, each_of_all test xs (both_hold_second (test x) (list_all test xs) h))
 
 pub all_first : {A : Type 0} (test : A → Bool) (xs ys : List A) → list_all test (xs ++ ys) ≡ true → list_all test xs ≡ true
 all_first test [] ys h = refl
-all_first test (x ∷ xs) ys h = and_both (test x) (list_all test xs) (and_left (test x) (list_all test (xs ++ ys)) h) (all_first test xs ys (and_right (test x) (list_all test (xs ++ ys)) h))
+all_first test (x ∷ xs) ys h = both_hold (test x) (list_all test xs) (both_hold_first (test x) (list_all test (xs ++ ys)) h) (all_first test xs ys (both_hold_second (test x) (list_all test (xs ++ ys)) h))
 
 pub all_rest : {A : Type 0} (test : A → Bool) (xs ys : List A) → list_all test (xs ++ ys) ≡ true → list_all test ys ≡ true
 all_rest test [] ys h = h
-all_rest test (x ∷ xs) ys h = all_rest test xs ys (and_right (test x) (list_all test (xs ++ ys)) h)
+all_rest test (x ∷ xs) ys h = all_rest test xs ys (both_hold_second (test x) (list_all test (xs ++ ys)) h)
 
 -- ---- what was true of all
 
 pub all_chosen : {A : Type 0} (keep test : A → Bool) (xs : List A) → list_all keep xs ≡ true → list_all keep (filter test xs) ≡ true
 all_chosen keep test [] h = refl
-all_chosen {A} keep test (x ∷ xs) h = go (all_chosen keep test xs (and_right (keep x) (list_all keep xs) h)) (test x)
+all_chosen {A} keep test (x ∷ xs) h = go (all_chosen keep test xs (both_hold_second (keep x) (list_all keep xs) h)) (test x)
   where
     go : list_all keep (filter test xs) ≡ true → (b : Bool) → list_all keep (cond b (x ∷ filter test xs) (filter test xs)) ≡ true
-    go rest true = and_both (keep x) (list_all keep (filter test xs)) (and_left (keep x) (list_all keep xs) h) rest
+    go rest true = both_hold (keep x) (list_all keep (filter test xs)) (both_hold_first (keep x) (list_all keep xs) h) rest
     go rest false = rest
 
 lower : (m k n : ℕ) → m ≤ k → nat_le k n ≡ true → nat_le m n ≡ true
@@ -82,9 +58,9 @@ below_next m k n h i = let l : k ≤ n = grind (arith, nat_tests, i) in omega (a
 pub chosen_rise : {A : Type 0} (number : A → ℕ) (test : A → Bool) (k m : ℕ) (xs : List A) → m ≤ k → are_rising k (map number xs) ≡ true → are_rising m (map number (filter test xs)) ≡ true
 chosen_rise number test k m [] h r = refl
 chosen_rise {A} number test k m (x ∷ xs) h r =
-    let first = and_left (nat_le k (number x)) (are_rising (suc (number x)) (map number xs)) r in
-    let rest = and_right (nat_le k (number x)) (are_rising (suc (number x)) (map number xs)) r in
-    go (and_both (nat_le m (number x)) (are_rising (suc (number x)) (map number (filter test xs))) (lower m k (number x) h first) (chosen_rise number test (suc (number x)) (suc (number x)) xs (omega arith) rest))
+    let first = both_hold_first (nat_le k (number x)) (are_rising (suc (number x)) (map number xs)) r in
+    let rest = both_hold_second (nat_le k (number x)) (are_rising (suc (number x)) (map number xs)) r in
+    go (both_hold (nat_le m (number x)) (are_rising (suc (number x)) (map number (filter test xs))) (lower m k (number x) h first) (chosen_rise number test (suc (number x)) (suc (number x)) xs (omega arith) rest))
     (chosen_rise number test (suc (number x)) m xs (below_next m k (number x) h first) rest) (test x)
   where
     go : are_rising m (map number (x ∷ filter test xs)) ≡ true → are_rising m (map number (filter test xs)) ≡ true → (b : Bool) → are_rising m (map number (cond b (x ∷ filter test xs) (filter test xs))) ≡ true
@@ -104,9 +80,9 @@ chosen_lookup {V} has n (x ∷ xs) h = go (λ i. chosen_lookup has n xs i) (nat_
     go : ((is_some (lookup (nat_eq n) xs) ≡ true → has n ≡ true) → lookup (nat_eq n) (filter (λ (x : ℕ × V). has x.0) xs) ≡ lookup (nat_eq n) xs) → (same : Bool) → nat_eq n x.0 ≡ same → (kept : Bool) → has x.0 ≡ kept →
         (is_some (cond same (Some x.1) (lookup (nat_eq n) xs)) ≡ true → has n ≡ true) →
         lookup (nat_eq n) (cond kept (x ∷ filter (λ (x : ℕ × V). has x.0) xs) (filter (λ (x : ℕ × V). has x.0) xs)) ≡ cond same (Some x.1) (lookup (nat_eq n) xs)
-    go rest true e true f k = when_true (nat_eq n x.0) (Some x.1) (lookup (nat_eq n) (filter (λ (x : ℕ × V). has x.0) xs)) e
-    go rest true e false f k = never (sym f ∙ ap has (sym (same_number n x.0 e)) ∙ k refl)
-    go rest false e true f k = when_false (nat_eq n x.0) (Some x.1) (lookup (nat_eq n) (filter (λ (x : ℕ × V). has x.0) xs)) e ∙ rest k
+    go rest true e true f k = cond_true (nat_eq n x.0) (Some x.1) (lookup (nat_eq n) (filter (λ (x : ℕ × V). has x.0) xs)) e
+    go rest true e false f k = false_not_true (sym f ∙ ap has (sym (nat_eq_same n x.0 e)) ∙ k refl)
+    go rest false e true f k = cond_false (nat_eq n x.0) (Some x.1) (lookup (nat_eq n) (filter (λ (x : ℕ × V). has x.0) xs)) e ∙ rest k
     go rest false e false f k = rest k
 
 pub chosen_find : {A : Type 0} (number : A → ℕ) (has : ℕ → Bool) (n : ℕ) (xs : List A) → has n ≡ true → find (λ (x : A). nat_eq n (number x)) (filter (λ (x : A). has (number x)) xs) ≡ find (λ (x : A). nat_eq n (number x)) xs
@@ -115,7 +91,7 @@ chosen_find {A} number has n (x ∷ xs) h = go (chosen_find number has n xs h) (
   where
     go : find (λ (x : A). nat_eq n (number x)) (filter (λ (x : A). has (number x)) xs) ≡ find (λ (x : A). nat_eq n (number x)) xs → (same : Bool) → nat_eq n (number x) ≡ same → (kept : Bool) → has (number x) ≡ kept →
         find (λ (x : A). nat_eq n (number x)) (cond kept (x ∷ filter (λ (x : A). has (number x)) xs) (filter (λ (x : A). has (number x)) xs)) ≡ cond same (Some x) (find (λ (x : A). nat_eq n (number x)) xs)
-    go rest true e true f = when_true (nat_eq n (number x)) (Some x) (find (λ (x : A). nat_eq n (number x)) (filter (λ (x : A). has (number x)) xs)) e
-    go rest true e false f = never (sym f ∙ ap has (sym (same_number n (number x) e)) ∙ h)
-    go rest false e true f = when_false (nat_eq n (number x)) (Some x) (find (λ (x : A). nat_eq n (number x)) (filter (λ (x : A). has (number x)) xs)) e ∙ rest
+    go rest true e true f = cond_true (nat_eq n (number x)) (Some x) (find (λ (x : A). nat_eq n (number x)) (filter (λ (x : A). has (number x)) xs)) e
+    go rest true e false f = false_not_true (sym f ∙ ap has (sym (nat_eq_same n (number x) e)) ∙ h)
+    go rest false e true f = cond_false (nat_eq n (number x)) (Some x) (find (λ (x : A). nat_eq n (number x)) (filter (λ (x : A). has (number x)) xs)) e ∙ rest
     go rest false e false f = rest

@@ -3,56 +3,34 @@ use Rattle.std.proofs.Common.{◌≡◌, ◌∙◌, ◌<◌, ℕ, zero, suc, ◌
 use Rattle.std.specs.Prelude.{◌&&◌, nat_eq, nat_le, slice_get, is_some, option_map}
 use Rattle.std.specs.List.{Contains, list_all, find, AllByRecursion}
 use Rattle.std.specs.Map.{lookup}
-use Rattle.std.proofs.lemmas.Bool.Decides.{nat_tests}
 use Rattle.pt_base.specs.declared.ids.FnId.{FnId}
 use Rattle.pt_base.specs.declared.ids.GlobalId.{GlobalId}
+use Rattle.pt_base.proofs.Booleans.{both_hold_first, both_hold_second, cond_false, cond_true, false_not_true}
+use Rattle.pt_base.proofs.Members.{contains_first, contains_later}
+use Rattle.pt_base.proofs.Numbers.{as_zero_plus, nat_eq_plus_suc, nat_eq_plus_zero}
+use Rattle.pt_base.proofs.Options.{some_same}
+use Rattle.pt_base.proofs.Places.{get_map}
 use Rattle.pt_tree.specs.declared.signature.Signature.{Signature}
 use Rattle.typed_tree.specs.declared.variable.TypedGlobal.{TypedGlobal}
 use Rattle.typed_tree.specs.StatementTree.{BodyTree}
 use Rattle.typed_tree.specs.TypedTree.{TypedTree, FunctionTree, signatures_of}
 use Rattle.typed_tree.specs.WellFormed.{body_sound, function_sound, is_integer_param, params_lead, variable_sound}
-use Rattle.typed_tree.proofs.WellFormedLemmas.{and_left, and_right}
 use Rattle.reach.specs.Contexts.{Calls, callees_in, globals_in}
-use Rattle.reach.proofs.ListLemmas.{contains_first, contains_later, contains_filter, contains_flat, from_map}
+use Rattle.reach.proofs.ListLemmas.{contains_filter, contains_flat, from_map}
 use Rattle.pt_core.specs.CodeTree as core
 use Rattle.pt_core.specs.CodeTree.{GlobalTree}
 use Rattle.pt_core.specs.WellFormedStatement.{callees_of}
 use Rattle.pt_core.specs.WellFormed.{function_at, signature_at}
 use Rattle.lowering.specs.Functions.{code_if, core_of, core_program, functions_from, globals_from, signatures_from}
 use Rattle.lowered_code_law.specs.NamesLaws.{LoweredNames}
+use Rattle.lowered_code_law.proofs.FormsLists.{found_signature}
 use Rattle.splitter.specs.Halves.{called_by, chosen_functions}
-use Rattle.split_law.proofs.Chosen.{never, when_false, when_true}
 use Rattle.split_law.proofs.Parts.{AllHold, Holds, entry}
-
-other_number : (m n k : ℕ) → m ≡ n + suc k → nat_eq m n ≡ false
-other_number m n k h = grind (arith, nat_tests, h)
-
-own_number : (m n : ℕ) → m ≡ n + 0 → nat_eq m n ≡ true
-own_number m n h = grind (arith, nat_tests, h)
-
-behind : (n : ℕ) → n ≡ 0 + n
-behind n = omega arith
-
-same_item : {A : Type 0} (x y : A) → Some x ≡ Some y → x ≡ y
-same_item x y h = cc
 
 -- ---- signatures
 
-got : {A B : Type 0} (f : A → B) (xs : List A) (k : ℕ) → slice_get (map f xs) k ≡ option_map f (slice_get xs k)
-got f [] k = refl
-got f (x ∷ xs) zero = refl
-got f (x ∷ xs) (suc k) = got f xs k
-
-found_signature : (m n k : ℕ) (ss : List Signature) → m ≡ n + k → lookup (nat_eq m) (signatures_from n ss) ≡ slice_get ss k
-found_signature m n k [] h = refl
-found_signature m n zero (s ∷ ss) h = when_true (nat_eq m n) (Some s) (lookup (nat_eq m) (signatures_from (suc n) ss)) (own_number m n h)
-found_signature m n (suc k) (s ∷ ss) h = when_false (nat_eq m n) (Some s) (lookup (nat_eq m) (signatures_from (suc n) ss)) (other_number m n k h) ∙ found_signature m (suc n) k ss (omega (arith, h))
-
 signature_here : (t : TypedTree) (n : ℕ) → signature_at (core_program t) n ≡ option_map (λ (f : FunctionTree). f.signature) (slice_get t.functions n)
-signature_here t n = found_signature n 0 n (signatures_of t) (behind n) ∙ got (λ (f : FunctionTree). f.signature) t.functions n
-
-pub signature_of_function : (t : TypedTree) (n : ℕ) (f : FunctionTree) → slice_get t.functions n ≡ Some f → signature_at (core_program t) n ≡ Some f.signature
-signature_of_function t n f is = signature_here t n ∙ ap (option_map (λ (f : FunctionTree). f.signature)) is
+signature_here t n = found_signature n 0 n (signatures_of t) (as_zero_plus n) ∙ get_map (λ (f : FunctionTree). f.signature) t.functions n
 
 -- the function that a signature is of
 pub function_of_signature : (t : TypedTree) (n : ℕ) (s : Signature) → signature_at (core_program t) n ≡ Some s → (f : FunctionTree) × (slice_get t.functions n ≡ Some f) × (f.signature ≡ s)
@@ -60,7 +38,7 @@ function_of_signature t n s h = go (slice_get t.functions n) refl (sym (signatur
   where
     go : (o : Option FunctionTree) → slice_get t.functions n ≡ o → option_map (λ (f : FunctionTree). f.signature) o ≡ Some s → (f : FunctionTree) × (slice_get t.functions n ≡ Some f) × (f.signature ≡ s)
     go None is e = cc
-    go (Some f) is e = (f, is, same_item f.signature s e)
+    go (Some f) is e = (f, is, some_same f.signature s e)
 
 -- ---- functions
 
@@ -68,10 +46,10 @@ function_of_signature t n s h = go (slice_get t.functions n) refl (sym (signatur
 found_function : (t : TypedTree) (m n k : ℕ) (fs : List FunctionTree) (f : FunctionTree) (b : BodyTree) → m ≡ n + k → slice_get fs k ≡ Some f → f.body ≡ Some b → find (λ (g : core.FunctionTree). nat_eq m g.id) (functions_from t n fs) ≡ Some (core_of t m f b)
 found_function t m n k [] f b h is body = cc
 found_function t m n zero (g ∷ gs) f b h is body =
-    ap (λ (o : Option BodyTree). find (λ (c : core.FunctionTree). nat_eq m c.id) (code_if t n g o ++ functions_from t (suc n) gs)) (ap (λ (z : FunctionTree). z.body) (same_item g f is) ∙ body)
-    ∙ when_true (nat_eq m n) (Some (core_of t n g b)) (find (λ (c : core.FunctionTree). nat_eq m c.id) (functions_from t (suc n) gs)) (own_number m n h)
+    ap (λ (o : Option BodyTree). find (λ (c : core.FunctionTree). nat_eq m c.id) (code_if t n g o ++ functions_from t (suc n) gs)) (ap (λ (z : FunctionTree). z.body) (some_same g f is) ∙ body)
+    ∙ cond_true (nat_eq m n) (Some (core_of t n g b)) (find (λ (c : core.FunctionTree). nat_eq m c.id) (functions_from t (suc n) gs)) (nat_eq_plus_zero m n h)
     ∙ ap (λ (j : ℕ). Some (core_of t j g b)) (plain m n h)
-    ∙ ap (λ (z : FunctionTree). Some (core_of t m z b)) (same_item g f is)
+    ∙ ap (λ (z : FunctionTree). Some (core_of t m z b)) (some_same g f is)
   where
     plain : (m n : ℕ) → m ≡ n + 0 → n ≡ m
     plain m n h = omega (arith, h)
@@ -79,10 +57,10 @@ found_function t m n (suc k) (g ∷ gs) f b h is body = go (found_function t m (
   where
     go : find (λ (c : core.FunctionTree). nat_eq m c.id) (functions_from t (suc n) gs) ≡ Some (core_of t m f b) → (o : Option BodyTree) → find (λ (c : core.FunctionTree). nat_eq m c.id) (code_if t n g o ++ functions_from t (suc n) gs) ≡ Some (core_of t m f b)
     go rest None = rest
-    go rest (Some y) = when_false (nat_eq m n) (Some (core_of t n g y)) (find (λ (c : core.FunctionTree). nat_eq m c.id) (functions_from t (suc n) gs)) (other_number m n k h) ∙ rest
+    go rest (Some y) = cond_false (nat_eq m n) (Some (core_of t n g y)) (find (λ (c : core.FunctionTree). nat_eq m c.id) (functions_from t (suc n) gs)) (nat_eq_plus_suc m n k h) ∙ rest
 
 pub code_found : (t : TypedTree) (n : ℕ) (f : FunctionTree) (b : BodyTree) → slice_get t.functions n ≡ Some f → f.body ≡ Some b → function_at (core_program t) n ≡ Some (core_of t n f b)
-code_found t n f b is body = found_function t n 0 n t.functions f b (behind n) is body
+code_found t n f b is body = found_function t n 0 n t.functions f b (as_zero_plus n) is body
 
 -- these are the functions of the program from number n on
 abbrev Listed : TypedTree → ℕ → List FunctionTree → Type 0
@@ -101,7 +79,7 @@ first_listed t n f fs h = subst (λ (m : ℕ). slice_get t.functions m ≡ Some 
     plain n = omega arith
 
 whole_listed : (t : TypedTree) → Listed t 0 t.functions
-whole_listed t k f is = subst (λ (m : ℕ). slice_get t.functions m ≡ Some f) (behind k) is
+whole_listed t k f is = subst (λ (m : ℕ). slice_get t.functions m ≡ Some f) (as_zero_plus k) is
 
 -- what holds of the code of each function that has a body
 code_each : (P : core.FunctionTree → Type 0) (t : TypedTree) (n : ℕ) (fs : List FunctionTree) → Listed t n fs → ((k : ℕ) (f : FunctionTree) (b : BodyTree) → slice_get t.functions k ≡ Some f → f.body ≡ Some b → P (core_of t k f b)) →
@@ -129,8 +107,8 @@ all_signatures P t each = signatures_each P t 0 t.functions (whole_listed t) eac
 code_has : (t : TypedTree) (m n k : ℕ) (fs : List FunctionTree) (f : FunctionTree) (b : BodyTree) → m ≡ n + k → slice_get fs k ≡ Some f → f.body ≡ Some b → Contains (functions_from t n fs) (core_of t m f b)
 code_has t m n k [] f b h is body = cc
 code_has t m n zero (g ∷ gs) f b h is body =
-    subst (λ (c : core.FunctionTree). Contains (functions_from t n (g ∷ gs)) c) (ap (λ (j : ℕ). core_of t j g b) (plain m n h) ∙ ap (λ (z : FunctionTree). core_of t m z b) (same_item g f is))
-    (subst (λ (o : Option BodyTree). Contains (code_if t n g o ++ functions_from t (suc n) gs) (core_of t n g b)) (sym (ap (λ (z : FunctionTree). z.body) (same_item g f is) ∙ body)) (contains_first (core_of t n g b) (functions_from t (suc n) gs)))
+    subst (λ (c : core.FunctionTree). Contains (functions_from t n (g ∷ gs)) c) (ap (λ (j : ℕ). core_of t j g b) (plain m n h) ∙ ap (λ (z : FunctionTree). core_of t m z b) (some_same g f is))
+    (subst (λ (o : Option BodyTree). Contains (code_if t n g o ++ functions_from t (suc n) gs) (core_of t n g b)) (sym (ap (λ (z : FunctionTree). z.body) (some_same g f is) ∙ body)) (contains_first (core_of t n g b) (functions_from t (suc n) gs)))
   where
     plain : (m n : ℕ) → m ≡ n + 0 → n ≡ m
     plain m n h = omega (arith, h)
@@ -143,7 +121,7 @@ code_has t m n (suc k) (g ∷ gs) f b h is body = go (code_has t m (suc n) k gs 
 signatures_have : (m n k : ℕ) (fs : List FunctionTree) (f : FunctionTree) → m ≡ n + k → slice_get fs k ≡ Some f → Contains (signatures_from n (map (λ (f : FunctionTree). f.signature) fs)) (m, f.signature)
 signatures_have m n k [] f h is = cc
 signatures_have m n zero (g ∷ gs) f h is =
-    subst (λ (s : ℕ × Signature). Contains (signatures_from n (map (λ (f : FunctionTree). f.signature) (g ∷ gs))) s) (ap (λ (j : ℕ). (j, g.signature)) (plain m n h) ∙ ap (λ (z : FunctionTree). (m, z.signature)) (same_item g f is))
+    subst (λ (s : ℕ × Signature). Contains (signatures_from n (map (λ (f : FunctionTree). f.signature) (g ∷ gs))) s) (ap (λ (j : ℕ). (j, g.signature)) (plain m n h) ∙ ap (λ (z : FunctionTree). (m, z.signature)) (some_same g f is))
     (contains_first (n, g.signature) (signatures_from (suc n) (map (λ (f : FunctionTree). f.signature) gs)))
   where
     plain : (m n : ℕ) → m ≡ n + 0 → n ≡ m
@@ -151,14 +129,14 @@ signatures_have m n zero (g ∷ gs) f h is =
 signatures_have m n (suc k) (g ∷ gs) f h is = contains_later (n, g.signature) (signatures_from (suc n) (map (λ (f : FunctionTree). f.signature) gs)) (m, f.signature) (signatures_have m (suc n) k gs f (omega (arith, h)) is)
 
 pub signature_listed : (t : TypedTree) (n : ℕ) (f : FunctionTree) → slice_get t.functions n ≡ Some f → Contains (signatures_from 0 (signatures_of t)) (n, f.signature)
-signature_listed t n f is = signatures_have n 0 n t.functions f (behind n) is
+signature_listed t n f is = signatures_have n 0 n t.functions f (as_zero_plus n) is
 
 -- ---- globals
 
 found_global : (m n k : ℕ) (gs : List TypedGlobal) → m ≡ n + k → lookup (nat_eq m) (map entry (globals_from n gs)) ≡ option_map (λ (y : TypedGlobal). y.var.ty) (slice_get gs k)
 found_global m n k [] h = refl
-found_global m n zero (g ∷ gs) h = when_true (nat_eq m n) (Some g.var.ty) (lookup (nat_eq m) (map entry (globals_from (suc n) gs))) (own_number m n h)
-found_global m n (suc k) (g ∷ gs) h = when_false (nat_eq m n) (Some g.var.ty) (lookup (nat_eq m) (map entry (globals_from (suc n) gs))) (other_number m n k h) ∙ found_global m (suc n) k gs (omega (arith, h))
+found_global m n zero (g ∷ gs) h = cond_true (nat_eq m n) (Some g.var.ty) (lookup (nat_eq m) (map entry (globals_from (suc n) gs))) (nat_eq_plus_zero m n h)
+found_global m n (suc k) (g ∷ gs) h = cond_false (nat_eq m n) (Some g.var.ty) (lookup (nat_eq m) (map entry (globals_from (suc n) gs))) (nat_eq_plus_suc m n k h) ∙ found_global m (suc n) k gs (omega (arith, h))
 
 in_list : {A B : Type 0} (f : A → B) (xs : List A) (k : ℕ) → is_some (option_map f (slice_get xs k)) ≡ true → k < length xs
 in_list f [] k h = cc
@@ -166,23 +144,23 @@ in_list f (x ∷ xs) zero h = omega arith
 in_list f (x ∷ xs) (suc k) h = let rest = in_list f xs k h in omega (arith, rest)
 
 global_there : (t : TypedTree) (n : ℕ) → is_some (lookup (nat_eq n) (map entry (globals_from 0 t.globals))) ≡ true → n < length t.globals
-global_there t n h = in_list (λ (y : TypedGlobal). y.var.ty) t.globals n (ap is_some (sym (found_global n 0 n t.globals (behind n))) ∙ h)
+global_there t n h = in_list (λ (y : TypedGlobal). y.var.ty) t.globals n (ap is_some (sym (found_global n 0 n t.globals (as_zero_plus n))) ∙ h)
 
 -- ---- bodies
 
 -- what is no host has a body
 pub body_there : (t : TypedTree) (f : FunctionTree) → function_sound t f ≡ true → f.signature.host ≡ false → (b : BodyTree) × (f.body ≡ Some b)
 body_there t f sound plain = go f.body refl
-    (and_right (list_all (variable_sound t.structs) f.vars) (body_sound t f f.body) (and_right (nat_le (length f.signature.params) 8 && params_lead f.signature.params f.vars) (list_all (variable_sound t.structs) f.vars && body_sound t f f.body) sound))
+    (both_hold_second (list_all (variable_sound t.structs) f.vars) (body_sound t f f.body) (both_hold_second (nat_le (length f.signature.params) 8 && params_lead f.signature.params f.vars) (list_all (variable_sound t.structs) f.vars && body_sound t f f.body) sound))
   where
     go : (o : Option BodyTree) → f.body ≡ o → body_sound t f o ≡ true → (b : BodyTree) × (f.body ≡ Some b)
-    go None is e = never (sym plain ∙ and_left f.signature.host (list_all is_integer_param f.signature.params && nat_eq (length f.vars) (length f.signature.params)) e)
+    go None is e = false_not_true (sym plain ∙ both_hold_first f.signature.host (list_all is_integer_param f.signature.params && nat_eq (length f.vars) (length f.signature.params)) e)
     go (Some b) is e = (b, is)
 
 pub sound_at : (t : TypedTree) (fs : List FunctionTree) (k : ℕ) (f : FunctionTree) → list_all (function_sound t) fs ≡ true → slice_get fs k ≡ Some f → function_sound t f ≡ true
 sound_at t [] k f h is = cc
-sound_at t (g ∷ gs) zero f h is = subst (λ (z : FunctionTree). function_sound t z ≡ true) (same_item g f is) (and_left (function_sound t g) (list_all (function_sound t) gs) h)
-sound_at t (g ∷ gs) (suc k) f h is = sound_at t gs k f (and_right (function_sound t g) (list_all (function_sound t) gs) h) is
+sound_at t (g ∷ gs) zero f h is = subst (λ (z : FunctionTree). function_sound t z ≡ true) (some_same g f is) (both_hold_first (function_sound t g) (list_all (function_sound t) gs) h)
+sound_at t (g ∷ gs) (suc k) f h is = sound_at t gs k f (both_hold_second (function_sound t g) (list_all (function_sound t) gs) h) is
 
 -- ---- halves
 
@@ -219,7 +197,7 @@ holds_at law monitor t signed kept owned sound keeps k f b is body here = record
   names = λ n c there. keeps.names k n here (named_there (globals_in t (record { 0 = k })) n ((law t k f b is body).0 n c)) (global_there t n there);
   called = λ n c. keeps.called n
       (contains_flat (λ (g : core.FunctionTree). callees_of g.body) (chosen_functions kept (functions_from t 0 t.functions)) (core_of t k f b) n
-      (contains_filter (λ (g : core.FunctionTree). kept g.id) (functions_from t 0 t.functions) (core_of t k f b) (code_has t k 0 k t.functions f b (behind k) is body) here) c);
+      (contains_filter (λ (g : core.FunctionTree). kept g.id) (functions_from t 0 t.functions) (core_of t k f b) (code_has t k 0 k t.functions f b (as_zero_plus k) is body) here) c);
   calls = λ n s c at host own. reaches n s at host own (called_there (callees_in t (record { 0 = k })) n ((law t k f b is body).1 n c));
 }
   where

@@ -4,19 +4,19 @@ use Rattle.std.specs.Prelude.{IsTrue, ◌&&◌, ◌||◌, nat_eq, nat_le, is_som
 use Rattle.std.specs.List.{Contains, list_all, filter, flat_map, AllByRecursion}
 use Rattle.std.specs.Map.{lookup}
 use Rattle.std.proofs.lemmas.Bool.Decides.{nat_tests}
+use Rattle.pt_base.proofs.Booleans.{both_hold, both_hold_first, both_hold_second, false_not_true}
+use Rattle.pt_base.proofs.Members.{all_true_append, contains_first, contains_later}
 use Rattle.pt_tree.specs.declared.signature.Signature.{Signature}
 use Rattle.typed_tree.specs.declared.types.VarTy.{VarTy}
 use Rattle.typed_tree.specs.declared.variable.Var.{Var}
 use Rattle.typed_tree.specs.WellFormed.{are_rising, params_lead, structs_sound}
-use Rattle.typed_tree.proofs.WellFormedLemmas.{and_left, and_right, and_both}
-use Rattle.reach.proofs.ListLemmas.{contains_first, contains_later}
 use Rattle.pt_core.specs.CodeTree.{FunctionTree, GlobalTree, ProgramTree}
 use Rattle.pt_core.specs.WellFormedStatement.{callees_of, stmts_fit}
 use Rattle.pt_core.specs.WellFormed.{are_in_order, are_small, called_signature, callee_by, callee_fits, callees, counts_fit, function_at, function_by, function_fits, global_fits, has_main, is_main_by, is_only_start, is_sound, scope_of, signature_at, signature_fits, starts_by, variable_fits, with_own}
 use Rattle.pt_core.proofs.WellFormedLemmas.{facts_of}
 use Rattle.lowered_code_law.specs.NamesNamed.{globals_of}
 use Rattle.split_law.proofs.Agreeing.{Agree, Call, stmts_same}
-use Rattle.split_law.proofs.Chosen.{all_both, all_chosen, all_first, all_rest, chosen_find, chosen_lookup, chosen_rise, chosen_sum, each_chosen, never}
+use Rattle.split_law.proofs.Chosen.{all_chosen, all_first, all_rest, chosen_find, chosen_lookup, chosen_rise, chosen_sum, each_chosen}
 
 abbrev pub part : (ℕ → Bool) → (ℕ → Bool) → (ℕ → Bool) → ProgramTree → ProgramTree
 part signed kept owned p = record {
@@ -43,7 +43,7 @@ AllHold monitor p signed kept owned fs = AllByRecursion (λ (f : FunctionTree). 
 
 -- ---- look-ups
 
-same_signature : (p : ProgramTree) (signed kept owned : ℕ → Bool) (n : ℕ) → signed n ≡ true → signature_at (part signed kept owned p) n ≡ signature_at p n
+pub same_signature : (p : ProgramTree) (signed kept owned : ℕ → Bool) (n : ℕ) → signed n ≡ true → signature_at (part signed kept owned p) n ≡ signature_at p n
 same_signature p signed kept owned n h = chosen_lookup signed n p.signatures (λ _. h)
 
 entries_chosen : (owned : ℕ → Bool) (gs : List GlobalTree) → map entry (filter (λ (g : GlobalTree). owned g.id) gs) ≡ filter (λ (x : ℕ × VarTy). owned x.0) (map entry gs)
@@ -83,24 +83,24 @@ function_kept p signed kept owned f holds fits =
     go : (o : Option Signature) → function_by false p f o ≡ true → function_by false (part signed kept owned p) f o ≡ true
     go None e = e
     go (Some s) e =
-        let head = and_left (not s.host && (counts_fit false f.params (length s.params) && params_lead (take f.params s.params) f.vars)) (list_all (variable_fits p.structs) f.vars && stmts_fit (scope_of false p f s) false f.body) e in
-        let rest = and_right (not s.host && (counts_fit false f.params (length s.params) && params_lead (take f.params s.params) f.vars)) (list_all (variable_fits p.structs) f.vars && stmts_fit (scope_of false p f s) false f.body) e in
+        let head = both_hold_first (not s.host && (counts_fit false f.params (length s.params) && params_lead (take f.params s.params) f.vars)) (list_all (variable_fits p.structs) f.vars && stmts_fit (scope_of false p f s) false f.body) e in
+        let rest = both_hold_second (not s.host && (counts_fit false f.params (length s.params) && params_lead (take f.params s.params) f.vars)) (list_all (variable_fits p.structs) f.vars && stmts_fit (scope_of false p f s) false f.body) e in
         let same = stmts_same f.body false p.structs (map (λ (x : Var). x.ty) f.vars) s.result (map entry p.globals) (map entry (filter (λ (g : GlobalTree). owned g.id) p.globals)) (called_signature false p) (called_signature false (part signed kept owned p)) agree call in
-        and_both (not s.host && (counts_fit false f.params (length s.params) && params_lead (take f.params s.params) f.vars)) (list_all (variable_fits p.structs) f.vars && stmts_fit (scope_of false (part signed kept owned p) f s) false f.body) head
-        (and_both (list_all (variable_fits p.structs) f.vars) (stmts_fit (scope_of false (part signed kept owned p) f s) false f.body) (and_left (list_all (variable_fits p.structs) f.vars) (stmts_fit (scope_of false p f s) false f.body) rest)
-        (sym same ∙ and_right (list_all (variable_fits p.structs) f.vars) (stmts_fit (scope_of false p f s) false f.body) rest))
+        both_hold (not s.host && (counts_fit false f.params (length s.params) && params_lead (take f.params s.params) f.vars)) (list_all (variable_fits p.structs) f.vars && stmts_fit (scope_of false (part signed kept owned p) f s) false f.body) head
+        (both_hold (list_all (variable_fits p.structs) f.vars) (stmts_fit (scope_of false (part signed kept owned p) f s) false f.body) (both_hold_first (list_all (variable_fits p.structs) f.vars) (stmts_fit (scope_of false p f s) false f.body) rest)
+        (sym same ∙ both_hold_second (list_all (variable_fits p.structs) f.vars) (stmts_fit (scope_of false p f s) false f.body) rest))
 
 functions_kept : (p : ProgramTree) (signed kept owned : ℕ → Bool) (fs : List FunctionTree) → AllHold false p signed kept owned fs → list_all (function_fits false p) fs ≡ true →
     list_all (function_fits false (part signed kept owned p)) (filter (λ (f : FunctionTree). kept f.id) fs) ≡ true
 functions_kept p signed kept owned [] hold fits = refl
 functions_kept p signed kept owned (f ∷ fs) hold fits =
-    go (functions_kept p signed kept owned fs hold.1 (and_right (function_fits false p f) (list_all (function_fits false p) fs) fits)) (kept f.id) refl
+    go (functions_kept p signed kept owned fs hold.1 (both_hold_second (function_fits false p f) (list_all (function_fits false p) fs) fits)) (kept f.id) refl
   where
     go : list_all (function_fits false (part signed kept owned p)) (filter (λ (f : FunctionTree). kept f.id) fs) ≡ true → (b : Bool) → kept f.id ≡ b →
         list_all (function_fits false (part signed kept owned p)) (cond b (f ∷ filter (λ (f : FunctionTree). kept f.id) fs) (filter (λ (f : FunctionTree). kept f.id) fs)) ≡ true
     go rest true e =
-        and_both (function_fits false (part signed kept owned p) f) (list_all (function_fits false (part signed kept owned p)) (filter (λ (f : FunctionTree). kept f.id) fs))
-        (function_kept p signed kept owned f (hold.0 e) (and_left (function_fits false p f) (list_all (function_fits false p) fs) fits)) rest
+        both_hold (function_fits false (part signed kept owned p) f) (list_all (function_fits false (part signed kept owned p)) (filter (λ (f : FunctionTree). kept f.id) fs))
+        (function_kept p signed kept owned f (hold.0 e) (both_hold_first (function_fits false p f) (list_all (function_fits false p) fs) fits)) rest
     go rest false e = rest
 
 -- ---- calls
@@ -128,9 +128,9 @@ each_kept : (monitor : Bool) (p : ProgramTree) (signed kept owned : ℕ → Bool
     list_all (callee_fits false p) ns ≡ true → list_all (callee_fits monitor (part signed kept owned p)) ns ≡ true
 each_kept monitor p signed kept owned [] own calls fits = refl
 each_kept monitor p signed kept owned (n ∷ ns) own calls fits =
-    and_both (callee_fits monitor (part signed kept owned p) n) (list_all (callee_fits monitor (part signed kept owned p)) ns)
-    (callee_kept monitor p signed kept owned n (own n (contains_first n ns)) (λ s. calls n s (contains_first n ns)) (and_left (callee_fits false p n) (list_all (callee_fits false p) ns) fits))
-    (each_kept monitor p signed kept owned ns (λ m c. own m (contains_later n ns m c)) (λ m s c. calls m s (contains_later n ns m c)) (and_right (callee_fits false p n) (list_all (callee_fits false p) ns) fits))
+    both_hold (callee_fits monitor (part signed kept owned p) n) (list_all (callee_fits monitor (part signed kept owned p)) ns)
+    (callee_kept monitor p signed kept owned n (own n (contains_first n ns)) (λ s. calls n s (contains_first n ns)) (both_hold_first (callee_fits false p n) (list_all (callee_fits false p) ns) fits))
+    (each_kept monitor p signed kept owned ns (λ m c. own m (contains_later n ns m c)) (λ m s c. calls m s (contains_later n ns m c)) (both_hold_second (callee_fits false p n) (list_all (callee_fits false p) ns) fits))
 
 callees_kept : (monitor : Bool) (p : ProgramTree) (signed kept owned : ℕ → Bool) (fs : List FunctionTree) → AllHold monitor p signed kept owned fs → list_all (callee_fits false p) (flat_map (λ (f : FunctionTree). callees_of f.body) fs) ≡ true →
     list_all (callee_fits monitor (part signed kept owned p)) (flat_map (λ (f : FunctionTree). callees_of f.body) (filter (λ (f : FunctionTree). kept f.id) fs)) ≡ true
@@ -141,7 +141,7 @@ callees_kept monitor p signed kept owned (f ∷ fs) hold fits =
     go : list_all (callee_fits monitor (part signed kept owned p)) (flat_map (λ (f : FunctionTree). callees_of f.body) (filter (λ (f : FunctionTree). kept f.id) fs)) ≡ true → (b : Bool) → kept f.id ≡ b →
         list_all (callee_fits monitor (part signed kept owned p)) (flat_map (λ (f : FunctionTree). callees_of f.body) (cond b (f ∷ filter (λ (f : FunctionTree). kept f.id) fs) (filter (λ (f : FunctionTree). kept f.id) fs))) ≡ true
     go rest true e =
-        all_both (callee_fits monitor (part signed kept owned p)) (callees_of f.body) (flat_map (λ (f : FunctionTree). callees_of f.body) (filter (λ (f : FunctionTree). kept f.id) fs))
+        all_true_append (callee_fits monitor (part signed kept owned p)) (callees_of f.body) (flat_map (λ (f : FunctionTree). callees_of f.body) (filter (λ (f : FunctionTree). kept f.id) fs))
         (each_kept monitor p signed kept owned (callees_of f.body) (hold.0 e).called (hold.0 e).calls (all_first (callee_fits false p) (callees_of f.body) (flat_map (λ (f : FunctionTree). callees_of f.body) fs) fits)) rest
     go rest false e = rest
 
@@ -162,20 +162,20 @@ pub part_sound : (p : ProgramTree) (signed kept owned : ℕ → Bool) → IsTrue
 part_sound p signed kept owned sound hold =
     let facts = facts_of false p sound in
     let q = part signed kept owned p in
-    let rise = and_right (are_rising 0 (map (λ (s : ℕ × Signature). s.0) p.signatures)) (are_rising 0 (map (λ (f : FunctionTree). f.id) p.functions) && are_rising 0 (map (λ (g : GlobalTree). g.id) p.globals)) facts.order in
-    and_both (are_in_order q && structs_sound q.structs 0 q.structs)
+    let rise = both_hold_second (are_rising 0 (map (λ (s : ℕ × Signature). s.0) p.signatures)) (are_rising 0 (map (λ (f : FunctionTree). f.id) p.functions) && are_rising 0 (map (λ (g : GlobalTree). g.id) p.globals)) facts.order in
+    both_hold (are_in_order q && structs_sound q.structs 0 q.structs)
     ((list_all (global_fits q.structs) q.globals && are_small q.globals) && ((list_all (λ (s : ℕ × Signature). signature_fits q.structs s.1) q.signatures && list_all (function_fits false q) q.functions) && list_all (callee_fits false q) (callees q)))
-    (and_both (are_in_order q) (structs_sound q.structs 0 q.structs)
-    (and_both (are_rising 0 (map (λ (s : ℕ × Signature). s.0) q.signatures)) (are_rising 0 (map (λ (f : FunctionTree). f.id) q.functions) && are_rising 0 (map (λ (g : GlobalTree). g.id) q.globals))
-    (chosen_rise (λ (s : ℕ × Signature). s.0) (λ (s : ℕ × Signature). signed s.0) 0 0 p.signatures (omega arith) (and_left (are_rising 0 (map (λ (s : ℕ × Signature). s.0) p.signatures)) (are_rising 0 (map (λ (f : FunctionTree). f.id) p.functions) && are_rising 0 (map (λ (g : GlobalTree). g.id) p.globals)) facts.order))
-    (and_both (are_rising 0 (map (λ (f : FunctionTree). f.id) q.functions)) (are_rising 0 (map (λ (g : GlobalTree). g.id) q.globals))
-    (chosen_rise (λ (f : FunctionTree). f.id) (λ (f : FunctionTree). kept f.id) 0 0 p.functions (omega arith) (and_left (are_rising 0 (map (λ (f : FunctionTree). f.id) p.functions)) (are_rising 0 (map (λ (g : GlobalTree). g.id) p.globals)) rise))
-    (chosen_rise (λ (g : GlobalTree). g.id) (λ (g : GlobalTree). owned g.id) 0 0 p.globals (omega arith) (and_right (are_rising 0 (map (λ (f : FunctionTree). f.id) p.functions)) (are_rising 0 (map (λ (g : GlobalTree). g.id) p.globals)) rise))))
+    (both_hold (are_in_order q) (structs_sound q.structs 0 q.structs)
+    (both_hold (are_rising 0 (map (λ (s : ℕ × Signature). s.0) q.signatures)) (are_rising 0 (map (λ (f : FunctionTree). f.id) q.functions) && are_rising 0 (map (λ (g : GlobalTree). g.id) q.globals))
+    (chosen_rise (λ (s : ℕ × Signature). s.0) (λ (s : ℕ × Signature). signed s.0) 0 0 p.signatures (omega arith) (both_hold_first (are_rising 0 (map (λ (s : ℕ × Signature). s.0) p.signatures)) (are_rising 0 (map (λ (f : FunctionTree). f.id) p.functions) && are_rising 0 (map (λ (g : GlobalTree). g.id) p.globals)) facts.order))
+    (both_hold (are_rising 0 (map (λ (f : FunctionTree). f.id) q.functions)) (are_rising 0 (map (λ (g : GlobalTree). g.id) q.globals))
+    (chosen_rise (λ (f : FunctionTree). f.id) (λ (f : FunctionTree). kept f.id) 0 0 p.functions (omega arith) (both_hold_first (are_rising 0 (map (λ (f : FunctionTree). f.id) p.functions)) (are_rising 0 (map (λ (g : GlobalTree). g.id) p.globals)) rise))
+    (chosen_rise (λ (g : GlobalTree). g.id) (λ (g : GlobalTree). owned g.id) 0 0 p.globals (omega arith) (both_hold_second (are_rising 0 (map (λ (f : FunctionTree). f.id) p.functions)) (are_rising 0 (map (λ (g : GlobalTree). g.id) p.globals)) rise))))
     facts.structs)
-    (and_both (list_all (global_fits q.structs) q.globals && are_small q.globals) ((list_all (λ (s : ℕ × Signature). signature_fits q.structs s.1) q.signatures && list_all (function_fits false q) q.functions) && list_all (callee_fits false q) (callees q))
-    (and_both (list_all (global_fits q.structs) q.globals) (are_small q.globals) (all_chosen (global_fits p.structs) (λ (g : GlobalTree). owned g.id) p.globals facts.globals) (small_part owned p.globals facts.small))
-    (and_both (list_all (λ (s : ℕ × Signature). signature_fits q.structs s.1) q.signatures && list_all (function_fits false q) q.functions) (list_all (callee_fits false q) (callees q))
-    (and_both (list_all (λ (s : ℕ × Signature). signature_fits q.structs s.1) q.signatures) (list_all (function_fits false q) q.functions)
+    (both_hold (list_all (global_fits q.structs) q.globals && are_small q.globals) ((list_all (λ (s : ℕ × Signature). signature_fits q.structs s.1) q.signatures && list_all (function_fits false q) q.functions) && list_all (callee_fits false q) (callees q))
+    (both_hold (list_all (global_fits q.structs) q.globals) (are_small q.globals) (all_chosen (global_fits p.structs) (λ (g : GlobalTree). owned g.id) p.globals facts.globals) (small_part owned p.globals facts.small))
+    (both_hold (list_all (λ (s : ℕ × Signature). signature_fits q.structs s.1) q.signatures && list_all (function_fits false q) q.functions) (list_all (callee_fits false q) (callees q))
+    (both_hold (list_all (λ (s : ℕ × Signature). signature_fits q.structs s.1) q.signatures) (list_all (function_fits false q) q.functions)
     (all_chosen (λ (s : ℕ × Signature). signature_fits p.structs s.1) (λ (s : ℕ × Signature). signed s.0) p.signatures facts.signatures) (functions_kept p signed kept owned p.functions hold facts.functions))
     (calls_kept false p signed kept owned sound hold)))
 
@@ -197,7 +197,7 @@ mains_same p signed kept owned (f ∷ fs) hold main = go (mains_same p signed ke
         ap (λ (c : Bool). cond c (f ∷ filter (λ (f : FunctionTree). is_main_by (signature_at (part signed kept owned p) f.id)) (filter (λ (f : FunctionTree). kept f.id) fs)) (filter (λ (f : FunctionTree). is_main_by (signature_at (part signed kept owned p) f.id)) (filter (λ (f : FunctionTree). kept f.id) fs)))
         (ap is_main_by (same_signature p signed kept owned f.id (hold.0 e).own) ∙ is)
         ∙ ap (λ (ys : List FunctionTree). cond m (f ∷ ys) ys) rest
-    go rest false e true is = never (sym e ∙ main.0 is)
+    go rest false e true is = false_not_true (sym e ∙ main.0 is)
     go rest false e false is = rest
 
 starts_same : (p : ProgramTree) (signed kept owned : ℕ → Bool) (fs : List FunctionTree) → AllByRecursion (λ (f : FunctionTree). signature_at (part signed kept owned p) f.id ≡ signature_at p f.id) fs → is_only_start (part signed kept owned p) fs ≡ is_only_start p fs

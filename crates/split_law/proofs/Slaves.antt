@@ -4,11 +4,12 @@ use Rattle.std.specs.Prelude.{IsTrue, ◌&&◌, codes, is_some, option_map, slic
 use Rattle.std.specs.Option.{option_map_or}
 use Rattle.std.proofs.lemmas.List.Elements.{Contains-append_left, Contains-append_right}
 use Rattle.std.proofs.lemmas.Slice.Eq.{bytes_eq-Decides}
+use Rattle.pt_base.proofs.Booleans.{both_hold, both_hold_first, both_hold_second}
 use Rattle.pt_tree.specs.declared.signature.Signature.{Signature}
 use Rattle.typed_tree.specs.TypedTree.{TypedTree, FunctionTree}
 use Rattle.typed_tree.specs.Lookup.{HasName}
 use Rattle.typed_tree.specs.WellFormedExpression.{is_main}
-use Rattle.typed_tree.proofs.WellFormedLemmas.{and_left, and_right, and_both, facts_of}
+use Rattle.typed_tree.proofs.WellFormedLemmas.{facts_of}
 use Rattle.reach.specs.Contexts.{is_plain, main, slave_calls, test_function}
 use Rattle.pt_core.specs.CodeTree as core
 use Rattle.pt_core.specs.WellFormed as well
@@ -16,10 +17,11 @@ use Rattle.pt_core.specs.WellFormed.{has_main, is_main_by, is_sound, signature_a
 use Rattle.lowering.specs.Functions.{core_program, functions_from}
 use Rattle.lowered_code_law.specs.FormsLaws.{LoweredProgramsAreWellFormed}
 use Rattle.lowered_code_law.specs.NamesLaws.{LoweredNames}
+use Rattle.lowered_code_law.proofs.FormsPrograms.{signature_of_function}
 use Rattle.splitter.specs.Halves.{Halves, asked, is_among}
 use Rattle.splitter.proofs.SetLemmas.{among_from, among_has}
 use Rattle.split_law.specs.Laws.{AreHalves, SlavesAreWellFormed}
-use Rattle.split_law.proofs.LoweredCode.{Keeps, all_code, all_hold, signature_of_function}
+use Rattle.split_law.proofs.LoweredCode.{Keeps, all_code, all_hold}
 use Rattle.split_law.proofs.Parts.{HasMain, part, part_sound, part_starts}
 
 abbrev pub signed : TypedTree → Halves → ℕ → Bool
@@ -33,7 +35,7 @@ unmarked true e = cc
 unmarked false e = refl
 
 plain : (f : FunctionTree) → is_some f.body ≡ true → (f.signature.privileged && true) ≡ false → IsTrue (is_plain f)
-plain f body own = and_both (is_some f.body) (not f.signature.privileged) body (unmarked f.signature.privileged own)
+plain f body own = both_hold (is_some f.body) (not f.signature.privileged) body (unmarked f.signature.privileged own)
 
 pub keeps : (t : TypedTree) (h : Halves) → AreHalves t h → Keeps false t (signed t h) (is_among h.slave) (is_among h.owned)
 keeps t h are = record {
@@ -58,6 +60,6 @@ slaves forms law t h sound are =
     let whole = forms t sound in
     let facts = facts_of t sound in
     let hold = all_hold law false t (signed t h) (is_among h.slave) (is_among h.owned) facts.functions (keeps t h are) in
-    and_both (is_sound false (part (signed t h) (is_among h.slave) (is_among h.owned) p)) (has_main (part (signed t h) (is_among h.slave) (is_among h.owned) p))
-    (part_sound p (signed t h) (is_among h.slave) (is_among h.owned) (and_left (is_sound false p) (has_main p) whole) hold)
-    (part_starts p (signed t h) (is_among h.slave) (is_among h.owned) hold (has_main_here t h are) (and_right (is_sound false p) (has_main p) whole))
+    both_hold (is_sound false (part (signed t h) (is_among h.slave) (is_among h.owned) p)) (has_main (part (signed t h) (is_among h.slave) (is_among h.owned) p))
+    (part_sound p (signed t h) (is_among h.slave) (is_among h.owned) (both_hold_first (is_sound false p) (has_main p) whole) hold)
+    (part_starts p (signed t h) (is_among h.slave) (is_among h.owned) hold (has_main_here t h are) (both_hold_second (is_sound false p) (has_main p) whole))

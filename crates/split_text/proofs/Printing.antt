@@ -1,23 +1,16 @@
 -- Words that are laid one list after the other.
 use Rattle.std.proofs.Common.{◌≡◌, ℕ, ◌+◌, ◌-◌, ◌<◌, suc, List, [], ◌∷◌, ◌++◌, map, refl, sym, ap, ◌∙◌, arith}
 use Rattle.std.specs.List.{flat_map, range_with_len}
+use Rattle.facts.proofs.Lists.{append_grouped}
 use Rattle.pt_tree.specs.ProgramTree.{ItemTree}
-use Rattle.c_printer.specs.Pieces.{Piece}
-use Rattle.c_printer.specs.Sheets.{Written, lay, put}
+use Rattle.c_printer.specs.Sheets.{Written, lay}
 use Rattle.c_printer.specs.Items.{item_words}
+use Rattle.c_printer.proofs.Laying.{lay_both}
 use Rattle.split_text.specs.Texts.{printed}
-
-lay_both : (xs ys : List Piece) (w : Written) → lay (xs ++ ys) w ≡ lay ys (lay xs w)
-lay_both [] ys w = refl
-lay_both (x ∷ xs) ys w = lay_both xs ys (put x w)
-
-append_assoc : {A : Type 0} (xs ys zs : List A) → (xs ++ ys) ++ zs ≡ xs ++ (ys ++ zs)
-append_assoc [] ys zs = refl
-append_assoc (x ∷ xs) ys zs = ap (λ l. x ∷ l) (append_assoc xs ys zs)
 
 words_both : (xs ys : List ItemTree) → flat_map item_words (xs ++ ys) ≡ flat_map item_words xs ++ flat_map item_words ys
 words_both [] ys = refl
-words_both (x ∷ xs) ys = ap (λ l. item_words x ++ l) (words_both xs ys) ∙ sym (append_assoc (item_words x) (flat_map item_words xs) (flat_map item_words ys))
+words_both (x ∷ xs) ys = ap (λ l. item_words x ++ l) (words_both xs ys) ∙ sym (append_grouped (item_words x) (flat_map item_words xs) (flat_map item_words ys))
 
 pub printed_both : (xs ys : List ItemTree) (w : Written) → printed (xs ++ ys) w ≡ printed ys (printed xs w)
 printed_both xs ys w = ap (λ l. lay l w) (words_both xs ys) ∙ lay_both (flat_map item_words xs) (flat_map item_words ys) w

@@ -2,15 +2,17 @@
 use Rattle.std.proofs.Common.{◌≡◌, ◌∙◌, ◌≤◌, ◌<◌, ℕ, zero, suc, ◌+◌, refl, ap, sym, subst, arith, ◌⊎◌, inl, inr, Bool, true, false, Option, None, Some, List, [], ◌∷◌, ◌++◌, length, map, cond}
 use Rattle.std.specs.Prelude.{◌||◌, get_or, nat_eq, replicate}
 use Rattle.std.specs.List.{Contains, filter, list_any, AllByRecursion}
-use Rattle.std.proofs.lemmas.Bool.Decides.{nat_tests}
 use Rattle.std.proofs.lemmas.List.{length-replicate, length-map}
+use Rattle.std.proofs.lemmas.Bool.{or_left, or_right}
+use Rattle.pt_base.proofs.Booleans.{same_truth}
+use Rattle.pt_base.proofs.Members.{contains_cases, contains_first, contains_later, contains_nothing, each_implies}
+use Rattle.pt_base.proofs.Numbers.{nat_eq_same, nat_eq_true_turned}
 use Rattle.pt_tree.specs.declared.signature.Signature.{Signature}
 use Rattle.typed_tree.specs.declared.variable.TypedGlobal.{TypedGlobal}
 use Rattle.typed_tree.specs.StatementTree.{BodyTree}
 use Rattle.typed_tree.specs.TypedTree as typed
 use Rattle.typed_tree.specs.TypedTree.{TypedTree}
 use Rattle.reach.specs.Tables.{set_all}
-use Rattle.reach.proofs.ListLemmas.{contains_nothing, contains_first, contains_later, contains_cases}
 use Rattle.reach.proofs.TableLemmas.{set_all_has, set_all_from, none_true}
 use Rattle.pt_core.specs.CodeTree.{FunctionTree, GlobalTree}
 use Rattle.lowering.specs.Functions.{code_if, functions_from, signatures_from, globals_from}
@@ -19,31 +21,12 @@ use Rattle.splitter.specs.Sets.{is_set}
 
 -- ---- members
 
-pub same_truth : (a b : Bool) → (a ≡ true → b ≡ true) → (b ≡ true → a ≡ true) → a ≡ b
-same_truth true b f g = sym (f refl)
-same_truth false true f g = g refl
-same_truth false false f g = refl
-
-same_number : (n k : ℕ) → nat_eq n k ≡ true → n ≡ k
-same_number n k h = grind (arith, nat_tests, h)
-
-own_number : (n k : ℕ) → k ≡ n → nat_eq n k ≡ true
-own_number n k h = grind (arith, nat_tests, h)
-
-either_left : (a b : Bool) → a ≡ true → (a || b) ≡ true
-either_left true b h = refl
-either_left false b h = cc
-
-either_right : (a b : Bool) → b ≡ true → (a || b) ≡ true
-either_right true b h = refl
-either_right false b h = h
-
 pub among_from : (ns : List ℕ) (n : ℕ) → is_among ns n ≡ true → Contains ns n
 among_from [] n h = cc
 among_from (k ∷ ks) n h = go (λ i. among_from ks n i) (nat_eq n k) refl h
   where
     go : (is_among ks n ≡ true → Contains ks n) → (b : Bool) → nat_eq n k ≡ b → (b || is_among ks n) ≡ true → Contains (k ∷ ks) n
-    go rest true e i = subst (λ (m : ℕ). Contains (k ∷ ks) m) (sym (same_number n k e)) (contains_first k ks)
+    go rest true e i = subst (λ (m : ℕ). Contains (k ∷ ks) m) (sym (nat_eq_same n k e)) (contains_first k ks)
     go rest false e i = contains_later k ks n (rest i)
 
 pub among_has : (ns : List ℕ) (n : ℕ) → Contains ns n → is_among ns n ≡ true
@@ -51,8 +34,8 @@ among_has [] n h = absurd (contains_nothing n h)
 among_has (k ∷ ks) n h = go (λ i. among_has ks n i) (contains_cases k ks n h)
   where
     go : (Contains ks n → is_among ks n ≡ true) → (k ≡ n) ⊎ Contains ks n → (nat_eq n k || is_among ks n) ≡ true
-    go rest (inl e) = either_left (nat_eq n k) (is_among ks n) (own_number n k e)
-    go rest (inr i) = either_right (nat_eq n k) (is_among ks n) (rest i)
+    go rest (inl e) = or_left (nat_eq n k) (is_among ks n) (nat_eq_true_turned n k e)
+    go rest (inr i) = or_right (nat_eq n k) (is_among ks n) (rest i)
 
 pub set_tells : (bound : ℕ) (ns : List ℕ) (n : ℕ) → n < bound → is_set (set_all (replicate bound false) ns) n ≡ is_among ns n
 set_tells bound ns n lt =
@@ -65,10 +48,6 @@ set_tells bound ns n lt =
 
 -- ---- what tests choose
 
-pub each : {A : Type 0} (P Q : A → Type 0) → ((x : A) → P x → Q x) → (xs : List A) → AllByRecursion P xs → AllByRecursion Q xs
-each P Q f [] h = tt
-each P Q f (x ∷ xs) h = (f x h.0, each P Q f xs h.1)
-
 -- tests that agree on each item choose the same
 pub same_chosen : {A : Type 0} (p q : A → Bool) (xs : List A) → AllByRecursion (λ (x : A). p x ≡ q x) xs → filter p xs ≡ filter q xs
 same_chosen p q [] h = refl
@@ -78,7 +57,7 @@ same_chosen {A} p q (x ∷ xs) h =
 
 -- the same of tests that agree on each item whose number is below a bound
 pub chosen_below : {A : Type 0} (number : A → ℕ) (bound : ℕ) (p q : A → Bool) → ((x : A) → number x < bound → p x ≡ q x) → (xs : List A) → AllByRecursion (λ (x : A). number x < bound) xs → filter p xs ≡ filter q xs
-chosen_below {A} number bound p q agree xs h = same_chosen p q xs (each (λ (x : A). number x < bound) (λ (x : A). p x ≡ q x) agree xs h)
+chosen_below {A} number bound p q agree xs h = same_chosen p q xs (each_implies (λ (x : A). number x < bound) (λ (x : A). p x ≡ q x) agree xs h)
 
 -- ---- numbers below a bound
 

@@ -6,6 +6,7 @@ use Rattle.std.proofs.lemmas.Option.{none-some}
 use Rattle.pt_base.specs.declared.ids.FnId.{FnId}
 use Rattle.pt_base.specs.declared.int_type.IntType.{IntType}
 use Rattle.pt_base.specs.declared.int_type.IntType.TheVariants as t
+use Rattle.pt_base.proofs.Lists.{cons_not_nil}
 use Rattle.pt_tree.specs.declared.host_model.HostModel.{HostModel}
 use Rattle.pt_tree.specs.declared.host_model.HostModel.TheVariants.{Table, Feed, Input, Bytes, Line}
 use Rattle.pt_tree.specs.declared.signature.Signature.{Signature}
@@ -154,12 +155,9 @@ unfit_fault table before s unfit none =
     number : FnId
     number = record { 0 = length before }
 
-filled : {X : Type 0} (x : X) (xs : List X) → x ∷ xs ≡ [] → ⊥
-filled x xs e = cc
-
 parts : {X : Type 0} (o : Option X) (xs : List X) → option_to_list o ++ xs ≡ [] → (o ≡ None) × (xs ≡ [])
 parts None xs none = (refl, none)
-parts (Some x) xs none = absurd (filled x xs none)
+parts (Some x) xs none = absurd (cons_not_nil x xs none)
 
 unfit_faults : (table : Data) (before fns : List Signature) → list_any is_unfit fns ≡ true → faults_after table before fns ≡ [] → ⊥
 unfit_faults table before [] some none = true≢false (sym some)
@@ -171,16 +169,16 @@ unfit_faults table before (s ∷ fns) some none =
     ]
 
 unfit_value : (o : Option Data) (fns : List Signature) → list_any is_unfit fns ≡ true → faults_by o fns ≡ [] → ⊥
-unfit_value None fns some none = filled NotJson [] none
+unfit_value None fns some none = cons_not_nil NotJson [] none
 unfit_value (Some table) fns some none = go (is_some (as_object table)) none
   where
     go : (b : Bool) → cond b (faults_after table [] fns) (Shape None ∷ []) ≡ [] → ⊥
     go true e = unfit_faults table [] fns some e
-    go false e = filled (Shape None) [] e
+    go false e = cons_not_nil (Shape None) [] e
 
 pub at_fault : UnfitHostsAreAtFault
 at_fault program f text some none = go (nat_lt 1048576 (length text)) none
   where
     go : (b : Bool) → cond b (TooLong ∷ []) (faults_by (reading_of text) (signatures_of program)) ≡ [] → ⊥
-    go true e = filled TooLong [] e
+    go true e = cons_not_nil TooLong [] e
     go false e = unfit_value (reading_of text) (signatures_of program) (some_unfit (signatures_of program) 0 f some) e

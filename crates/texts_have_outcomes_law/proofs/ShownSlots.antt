@@ -1,19 +1,15 @@
 -- The privileged slots of an accepted program can be shown: those that pass a test by what is kept of it, in order.
-use Rattle.std.proofs.Common.{◌≡◌, ◌∙◌, ◌<◌, ◌+◌, ◌↔◌, ◌⊎◌, ◌&&◌, ℕ, refl, ap, sym, subst, arith, inl, inr, Bool, true, false, List, length, map, get_or, Option, Some, None}
-use Rattle.std.specs.Prelude.{MatchOption, is_some, replicate}
+use Rattle.std.proofs.Common.{◌≡◌, ◌<◌, ◌⊎◌, ℕ, ap, sym, subst, inl, inr, Bool, true, false, List, length, map, get_or}
+use Rattle.std.specs.Prelude.{is_some, replicate}
 use Rattle.std.specs.Cmp.{IsTotalOrder}
 use Rattle.std.specs.List.{Contains, filter, range_with_len}
 use Rattle.std.specs.Ordering.{nat_cmp}
 use Rattle.std.specs.declared.cmp.Ordering.TheVariants.{Equal}
 use Rattle.std.proofs.lemmas.Cmp.{nat_cmp_total, on_total, then_total}
 use Rattle.std.proofs.lemmas.List.{length-replicate}
-use Rattle.std.proofs.lemmas.List.Elements.{Contains-get_or}
-use Rattle.std.proofs.lemmas.List.FromFn.{get_or-range_with_len, length-range_with_len}
+use Rattle.std.proofs.lemmas.Bool.{and_from}
 use Rattle.pt_base.specs.declared.ids.GlobalId.{GlobalId}
-use Rattle.pt_base.specs.declared.slot.Edge.{Edge}
-use Rattle.pt_base.specs.declared.slot.Slot.{Slot}
-use Rattle.propagation.specs.Marks.{AreMarks, Shown, path_shown}
-use Rattle.propagation.specs.Paths.{IsPriv, IsShortestPath}
+use Rattle.propagation.specs.Marks.{path_shown}
 use Rattle.reach.proofs.ListLemmas.{contains_filter, contains_map, from_filter, from_map}
 use Rattle.reach.proofs.TableLemmas.{none_true, set_all_from, set_all_has}
 use Rattle.reach.specs.Contexts.{IsOwned}
@@ -27,25 +23,12 @@ use Rattle.sides.specs.Slots.{slot_at, slots_of}
 use Rattle.typed_tree.specs.TypedTree.{TypedTree}
 use Rattle.flow_rules.specs.declared.accepted.Accepted.{Accepted}
 use Rattle.flow_rules.specs.Faults.{IsAccepted, edges_of_all}
+use Rattle.flow_rules.proofs.FlowLemmas.{privileged}
 use Rattle.flow_check.specs.Kept.{is_kept, is_slaves, owned_table, owner_in}
 use Rattle.flow_check.specs.Shown.{AreShown, IsShown, IsSlaves, name_at, shown_cmp}
 use Rattle.pt_base.proofs.SortedLists.{ascending, ascends, both_tie, from_ascending, in_ascending, numbers_tie}
-
--- ---- numbers
-
-in_range : (n m : ℕ) → m < n → Contains (range_with_len 0 n) m
-in_range n m lt =
-    let long : length (range_with_len 0 n) ≡ n = length-range_with_len 0 n in
-    let is : get_or (range_with_len 0 n) m 0 ≡ 0 + m = get_or-range_with_len 0 n m 0 lt in
-    let there : Contains (range_with_len 0 n) (get_or (range_with_len 0 n) m 0) = Contains-get_or (range_with_len 0 n) m 0 (subst (λ k. m < k) (sym long) lt) in
-    subst (λ k. Contains (range_with_len 0 n) k) (let e : get_or (range_with_len 0 n) m 0 ≡ m = omega (arith, is) in e) there
-
-from_range : (n m : ℕ) → Contains (range_with_len 0 n) m → m < n
-from_range n m h =
-    let long : length (range_with_len 0 n) ≡ n = length-range_with_len 0 n in
-    let lt : h.0 < n = subst (λ k. h.0 < k) long h.1 in
-    let is : m ≡ 0 + h.0 = sym h.2 ∙ get_or-range_with_len 0 n h.0 m lt in
-    omega (arith, is, lt)
+use Rattle.pt_base.proofs.Booleans.{and_parts}
+use Rattle.pt_base.proofs.Members.{range_below, range_contains}
 
 -- ---- order
 
@@ -56,23 +39,6 @@ same_slot : (t : TypedTree) (m n : ℕ) → shown_cmp t m n ≡ Equal → m ≡ 
 same_slot t m n e = numbers_tie m n (both_tie (nat_cmp (name_at t (slot_at t m).owner) (name_at t (slot_at t n).owner)) (nat_cmp m n) e).1
 
 -- ---- which are shown
-
-marked : (seeds : List Slot) (edges : List Edge) (s : Slot) (o : Option (List ℕ)) →
-    MatchOption o (¬ IsPriv seeds edges s) (λ path. IsShortestPath seeds edges path s) → (is_some o ≡ true) ↔ IsPriv seeds edges s
-marked seeds edges s None none = (λ h. cc, λ p. absurd (none p))
-marked seeds edges s (Some path) is = (λ h. (is.0, path, is.1, is.2), λ p. refl)
-
--- a marked slot is one to which a way leads
-privileged : (seeds : List Slot) (edges : List Edge) (slots : ℕ) (marks : Shown) → AreMarks seeds edges slots marks → (n : ℕ) → n < slots →
-    (is_some (path_shown marks (slot_number n)) ≡ true) ↔ IsPriv seeds edges (slot_number n)
-privileged seeds edges slots marks are n lt = marked seeds edges (slot_number n) (path_shown marks (slot_number n)) (are.paths (slot_number n) lt)
-
-both : (p q : Bool) → (p && q) ≡ true → (p ≡ true) × (q ≡ true)
-both true q h = (refl, h)
-both false q h = cc
-
-together : (p q : Bool) → p ≡ true → q ≡ true → (p && q) ≡ true
-together p q a b = rw (a, b) refl
 
 module _ (t : TypedTree) (s : Sides) (are : AreSides t s) where
   abbrev globals : List Bool
@@ -120,7 +86,7 @@ module _ (t : TypedTree) (a : Accepted) (is : IsAccepted t a) where
 
   kept_shown : (n : ℕ) → n < length (slots_of t) → is_kept a owned n ≡ true → IsShown t a.sides n
   kept_shown n lt h =
-      let two = both (is_slaves a.sides.in_slave.items owned (owner n)) (is_some (path_shown a.marks (slot_number n))) h in record {
+      let two = and_parts (is_slaves a.sides.in_slave.items owned (owner n)) (is_some (path_shown a.marks (slot_number n))) h in record {
         within = lt;
         slaves = subst (IsSlaves t) (same_owner n) (slaves_from t a.sides is.sides (owner n) two.0);
         privileged = (privileged a.sides.seeds (edges_of_all t a.sides) (length (slots_of t)) a.marks is.marks n lt).0 two.1;
@@ -128,7 +94,7 @@ module _ (t : TypedTree) (a : Accepted) (is : IsAccepted t a) where
 
   shown_kept : (n : ℕ) → IsShown t a.sides n → is_kept a owned n ≡ true
   shown_kept n shown =
-      together (is_slaves a.sides.in_slave.items owned (owner n)) (is_some (path_shown a.marks (slot_number n)))
+      and_from (is_slaves a.sides.in_slave.items owned (owner n)) (is_some (path_shown a.marks (slot_number n)))
       (slaves_is t a.sides is.sides (owner n) (subst (IsSlaves t) (sym (same_owner n)) shown.slaves))
       ((privileged a.sides.seeds (edges_of_all t a.sides) (length (slots_of t)) a.marks is.marks n shown.within).1 shown.privileged)
 
@@ -138,10 +104,10 @@ module _ (t : TypedTree) (a : Accepted) (is : IsAccepted t a) where
   picked_shown : (n : ℕ) → Contains picked n → IsShown t a.sides n
   picked_shown n h =
       let there = from_filter (is_kept a owned) (range_with_len 0 (length (slots_of t))) n h in
-      kept_shown n (from_range (length (slots_of t)) n there.0) there.1
+      kept_shown n (range_below (length (slots_of t)) n there.0) there.1
 
   shown_picked : (n : ℕ) → IsShown t a.sides n → Contains picked n
-  shown_picked n shown = contains_filter (is_kept a owned) (range_with_len 0 (length (slots_of t))) n (in_range (length (slots_of t)) n shown.within) (shown_kept n shown)
+  shown_picked n shown = contains_filter (is_kept a owned) (range_with_len 0 (length (slots_of t))) n (range_contains (length (slots_of t)) n shown.within) (shown_kept n shown)
 
   shown_there : (n : ℕ) → IsShown t a.sides n → Contains (ascending (shown_cmp t) picked) n
   shown_there n shown =

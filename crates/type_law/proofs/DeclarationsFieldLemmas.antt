@@ -5,11 +5,12 @@ use Rattle.std.specs.List.{list_all, prefix_len}
 use Rattle.std.specs.Str.{bytes_eq}
 use Rattle.std.proofs.lemmas.Bool.Decides.{nat_tests}
 use Rattle.std.proofs.lemmas.Option.{slice_get_within, slice_get-map}
+use Rattle.pt_base.proofs.Booleans.{both_hold_first, both_hold_second}
+use Rattle.pt_base.proofs.Places.{get_before}
 use Rattle.type_rules.specs.declared.types.Type.{«Type»}
 use Rattle.type_rules.specs.declared.types.Type.TheVariants.{Bad, Void, Int, Struct, Array, Pointer}
 use Rattle.typed_tree.specs.declared.types.VarTy.TheVariants as v
 use Rattle.typed_tree.specs.WellFormedExpression.{field_type}
-use Rattle.typed_tree.proofs.WellFormedLemmas.{and_left, and_right}
 use Rattle.check_declarations.specs.declared.structs.FieldEntry.{FieldEntry}
 use Rattle.check_declarations.specs.declared.structs.FoundField.{FoundField}
 use Rattle.check_declarations.specs.declared.structs.StructEntry.{StructEntry}
@@ -21,7 +22,6 @@ use Rattle.check_expressions.specs.StructInfos.{object_type_of, field_info, stru
 use Rattle.type_law.specs.DeclarationsTypes.{is_plain, is_variable}
 use Rattle.type_law.specs.DeclarationsSound.{SoundStructs}
 use Rattle.type_law.proofs.DeclarationsGoodTypes.{plain_more}
-use Rattle.typed_tree.proofs.LeavesLemmas.{get_before}
 use Rattle.type_law.proofs.DeclarationsTableLemmas.{field_at, sound_at}
 
 -- a name that is found has a number within the table
@@ -43,8 +43,8 @@ value_within table n x h = let entry = value_entry table n x h in slice_get_with
 
 all_at : {X : Type 0} (p : X → Bool) (xs : Named X) (k : ℕ) (e : List ℕ × X) → IsTrue (list_all p (values xs)) → slice_get xs k ≡ Some e → IsTrue (p e.1)
 all_at p [] k e h is = cc
-all_at p (x ∷ xs) zero e h is = let same : x ≡ e = cc in subst (λ y. IsTrue (p y.1)) same (and_left (p x.1) (list_all p (values xs)) h)
-all_at p (x ∷ xs) (suc k) e h is = all_at p xs k e (and_right (p x.1) (list_all p (values xs)) h) is
+all_at p (x ∷ xs) zero e h is = let same : x ≡ e = cc in subst (λ y. IsTrue (p y.1)) same (both_hold_first (p x.1) (list_all p (values xs)) h)
+all_at p (x ∷ xs) (suc k) e h is = all_at p xs k e (both_hold_second (p x.1) (list_all p (values xs)) h) is
 
 -- a field that is found in a sound table, with its struct
 pub record SoundField (structs : Structs) (n : ℕ) (f : FoundField) : Type 0 where
@@ -81,8 +81,8 @@ sound_field structs n name f h is =
     let entry = value_entry owner.0.fields f.number f.entry (found_number owner.0.fields (number_of owner.0.fields name) f owner.2) in
     let within : n < length structs = value_within structs n owner.0 owner.1 in
     let good = all_at (field_at structs n) owner.0.fields f.number (entry.0, f.entry) (sound_at structs n (tag.0, owner.0) h tag.1).fields entry.1 in
-    let plain = and_left (is_plain n f.entry.ty) (nat_le (cells_of structs f.entry.ty) object_limit) good in
-    let small = and_right (is_plain n f.entry.ty) (nat_le (cells_of structs f.entry.ty) object_limit) good in
+    let plain = both_hold_first (is_plain n f.entry.ty) (nat_le (cells_of structs f.entry.ty) object_limit) good in
+    let small = both_hold_second (is_plain n f.entry.ty) (nat_le (cells_of structs f.entry.ty) object_limit) good in
     record {
       owner = (tag.0, owner.0);
       at = tag.1;

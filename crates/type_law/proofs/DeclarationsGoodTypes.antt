@@ -2,12 +2,12 @@
 use Rattle.std.proofs.Common.{◌≤◌, ℕ, arith, Some}
 use Rattle.std.specs.Prelude.{IsTrue, ◌&&◌, nat_le}
 use Rattle.std.proofs.lemmas.Bool.Decides.{nat_tests}
+use Rattle.pt_base.proofs.Booleans.{both_hold, both_hold_first, both_hold_second}
 use Rattle.pt_tree.specs.declared.signature.Elem.{Elem}
 use Rattle.pt_tree.specs.declared.signature.Elem.TheVariants as elem
 use Rattle.type_rules.specs.declared.types.Type.{«Type»}
 use Rattle.type_rules.specs.declared.types.Type.TheVariants.{Bad, Void, Int, Struct, Array, Pointer}
 use Rattle.typed_tree.specs.WellFormedExpression.{is_elem}
-use Rattle.typed_tree.proofs.WellFormedLemmas.{and_left, and_right, and_both}
 use Rattle.type_law.specs.DeclarationsTypes.{is_good, is_base, is_variable, is_plain, is_parameter, is_result}
 
 -- ---- among more structs
@@ -17,7 +17,7 @@ elem_more m n (elem.Int t) le h = h
 elem_more m n (elem.Struct k) le h = grind (arith, nat_tests, h)
 
 array_more : (m n : ℕ) (e : Elem) (count : ℕ) → m ≤ n → IsTrue (is_elem m (Some e) && nat_le 1 count) → IsTrue (is_elem n (Some e) && nat_le 1 count)
-array_more m n e count le h = and_both _ _ (elem_more m n e le (and_left (is_elem m (Some e)) (nat_le 1 count) h)) (and_right (is_elem m (Some e)) (nat_le 1 count) h)
+array_more m n e count le h = both_hold _ _ (elem_more m n e le (both_hold_first (is_elem m (Some e)) (nat_le 1 count) h)) (both_hold_second (is_elem m (Some e)) (nat_le 1 count) h)
 
 pub good_more : (m n : ℕ) (t : «Type») → m ≤ n → IsTrue (is_good m t) → IsTrue (is_good n t)
 good_more m n Bad le h = h

@@ -7,13 +7,14 @@ use Rattle.std.proofs.lemmas.Bool.Decides.{nat_tests}
 use Rattle.std.proofs.lemmas.List.{length-append}
 use Rattle.std.proofs.lemmas.List.Sums.{sum_by-cons}
 use Rattle.pt_base.specs.declared.int_type.IntType.{IntType}
+use Rattle.pt_base.proofs.Booleans.{both_hold_first, both_hold_second}
+use Rattle.pt_base.proofs.Places.{get_there}
 use Rattle.pt_tree.specs.declared.signature.Elem.TheVariants as elem
 use Rattle.type_rules.specs.declared.types.Type.{«Type»}
 use Rattle.type_rules.specs.declared.types.Type.TheVariants.{Bad, Void, Int, Struct, Array, Pointer}
 use Rattle.typed_tree.specs.declared.types.VarTy.TheVariants as v
 use Rattle.typed_tree.specs.Cells as typed
 use Rattle.typed_tree.proofs.LeavesLemmas.{leaves_of_int, leaves_of_array}
-use Rattle.typed_tree.proofs.WellFormedLemmas.{and_left, and_right}
 use Rattle.check_declarations.specs.declared.structs.FieldEntry.{FieldEntry}
 use Rattle.check_declarations.specs.declared.structs.StructEntry.{StructEntry}
 use Rattle.check_declarations.specs.declared.fault.FaultKind.TheVariants.{TooLarge}
@@ -26,7 +27,7 @@ use Rattle.type_law.specs.DeclarationsTypes.{is_plain}
 use Rattle.type_law.specs.DeclarationsSound.{SoundStructs}
 use Rattle.type_law.specs.DeclarationsLaws.{SizesAreSound}
 use Rattle.type_law.proofs.DeclarationsFaultLemmas.{no_fault}
-use Rattle.type_law.proofs.DeclarationsTableLemmas.{get_some, cells_before, field_at, sound_at}
+use Rattle.type_law.proofs.DeclarationsTableLemmas.{cells_before, field_at, sound_at}
 use Rattle.type_law.proofs.DeclarationsTypedLeaves.{leaves_of_struct}
 
 -- the integers of an object of this type in the typed tree
@@ -85,8 +86,8 @@ object_counts all n (Struct m) counts h few = unclipped _ _ (counts m (grind (ar
 object_counts all n (Array (elem.Int t) count) counts h few =
     ap length (integers_of_ints all t count) ∙ length_repeated count (t ∷ []) ∙ omega (arith, few)
 object_counts all n (Array (elem.Struct m) count) counts h few =
-    let below = and_left (nat_lt m n) (nat_le 1 count) h in
-    let some = and_right (nat_lt m n) (nat_le 1 count) h in
+    let below = both_hold_first (nat_lt m n) (nat_le 1 count) h in
+    let some = both_hold_second (nat_lt m n) (nat_le 1 count) h in
     let cells = elements_few count (cells_of_elem all (elem.Struct m)) (grind (arith, nat_tests, some)) few in
     let one = unclipped _ _ (counts m (grind (arith, nat_tests, below))) cells in
     ap length (integers_of_structs all m count) ∙ length_repeated count (integers_of all (Struct m)) ∙ ap (λ k. count * k) one ∙ omega (arith, few)
@@ -96,11 +97,11 @@ fields_count : (all : Structs) (n : ℕ) (fs : List FieldEntry) → Counts all n
     → length (flat_map (λ f. integers_of all f.ty) fs) ≡ sum_by (λ f. cells_of all f.ty) fs
 fields_count all n [] counts h = refl
 fields_count all n (f ∷ fs) counts h =
-    let here = and_left (field_at all n f) (list_all (field_at all n) fs) h in
-    let plain = and_left (is_plain n f.ty) (nat_le (cells_of all f.ty) object_limit) here in
-    let small = and_right (is_plain n f.ty) (nat_le (cells_of all f.ty) object_limit) here in
+    let here = both_hold_first (field_at all n f) (list_all (field_at all n) fs) h in
+    let plain = both_hold_first (is_plain n f.ty) (nat_le (cells_of all f.ty) object_limit) here in
+    let small = both_hold_second (is_plain n f.ty) (nat_le (cells_of all f.ty) object_limit) here in
     let one = object_counts all n f.ty counts plain (grind (arith, nat_tests, small)) in
-    let rest = fields_count all n fs counts (and_right (field_at all n f) (list_all (field_at all n) fs) h) in
+    let rest = fields_count all n fs counts (both_hold_second (field_at all n f) (list_all (field_at all n) fs) h) in
     let parts = length-append (integers_of all f.ty) (flat_map (λ g. integers_of all g.ty) fs) in
     let sums = sum_by-cons (λ g. cells_of all g.ty) f fs in
     parts ∙ ap (λ k. k + length (flat_map (λ g. integers_of all g.ty) fs)) one ∙ ap (λ k. cells_of all f.ty + k) rest ∙ sym sums
@@ -109,7 +110,7 @@ struct_counts : (all : Structs) (depth m : ℕ) → SoundStructs all → m < dep
     → counted (length (integers_of all (Struct m))) ≡ cells_of_elem all (elem.Struct m)
 struct_counts all zero m h deep within = absurd (omega (arith, deep))
 struct_counts all (suc depth) m h deep within =
-    let found = get_some all m within in
+    let found = get_there all m within in
     let sound = sound_at all m found.0 h found.1 in
     let counts : Counts all m = λ k below. struct_counts all depth k h (omega (arith, below, deep)) (omega (arith, below, within)) in
     ap (λ xs. counted (length xs)) (integers_in_struct all m found.0 h found.1)

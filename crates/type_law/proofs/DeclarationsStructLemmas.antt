@@ -4,8 +4,8 @@ use Rattle.std.specs.Prelude.{IsTrue, nat_le}
 use Rattle.std.specs.List.{list_all}
 use Rattle.std.proofs.lemmas.Bool.Decides.{nat_tests}
 use Rattle.std.proofs.lemmas.List.{append_assoc, length-append, length-map}
+use Rattle.pt_base.proofs.Booleans.{both_hold, both_hold_first, both_hold_second}
 use Rattle.typed_tree.specs.WellFormed as typed
-use Rattle.typed_tree.proofs.WellFormedLemmas.{and_left, and_right, and_both}
 use Rattle.check_declarations.specs.declared.structs.StructEntry.{StructEntry}
 use Rattle.check_declarations.specs.Cells.{cells_of, object_limit}
 use Rattle.check_declarations.specs.NameTables.{values}
@@ -22,19 +22,19 @@ fields_fit : (all : Structs) (n : ℕ) (fs : Fields) → Counts all n → IsTrue
     → IsTrue (list_all (typed.field_sound (infos_of all) n) (map field_info fs))
 fields_fit all n [] counts h = refl
 fields_fit all n (f ∷ fs) counts h =
-    let here = and_left (field_at all n f.1) (list_all (field_at all n) (values fs)) h in
-    let plain = and_left (is_plain n f.1.ty) (nat_le (cells_of all f.1.ty) object_limit) here in
-    let small = and_right (is_plain n f.1.ty) (nat_le (cells_of all f.1.ty) object_limit) here in
+    let here = both_hold_first (field_at all n f.1) (list_all (field_at all n) (values fs)) h in
+    let plain = both_hold_first (is_plain n f.1.ty) (nat_le (cells_of all f.1.ty) object_limit) here in
+    let small = both_hold_second (is_plain n f.1.ty) (nat_le (cells_of all f.1.ty) object_limit) here in
     let exact = object_counts all n f.1.ty counts plain (grind (arith, nat_tests, small)) in
-    and_both _ _ (and_both _ _ (typed_plain n f.1.ty plain) (subst (λ k. IsTrue (nat_le k 65536)) (sym exact) small))
-    (fields_fit all n fs counts (and_right (field_at all n f.1) (list_all (field_at all n) (values fs)) h))
+    both_hold _ _ (both_hold _ _ (typed_plain n f.1.ty plain) (subst (λ k. IsTrue (nat_le k 65536)) (sym exact) small))
+    (fields_fit all n fs counts (both_hold_second (field_at all n f.1) (list_all (field_at all n) (values fs)) h))
 
 struct_fits : (all : Structs) (n : ℕ) (s : List ℕ × StructEntry) → Counts all n → SoundAt all n s.1 → IsTrue (typed.struct_sound (infos_of all) n (struct_info s))
 struct_fits all n s counts h =
     let some = h.some in
     let same = length-map s.1.fields field_info in
     let more : 1 ≤ length (map field_info s.1.fields) = omega (arith, some, same) in
-    and_both _ _ (grind (arith, nat_tests, more)) (fields_fit all n s.1.fields counts h.fields)
+    both_hold _ _ (grind (arith, nat_tests, more)) (fields_fit all n s.1.fields counts h.fields)
 
 structs_fit : (all before rest : Structs) (n : ℕ) → all ≡ before ++ rest → n ≡ length before → Counts all (length all) → SoundFrom before rest
     → IsTrue (typed.structs_sound (infos_of all) n (infos_of rest))
@@ -43,7 +43,7 @@ structs_fit all before (s ∷ rest) n is at counts h =
     let here : SoundAt all n s.1 = subst (λ x. SoundAt x n s.1) (sym is) (sound_from before (s ∷ rest) 0 n s (omega (arith, at)) h refl) in
     let long : n ≤ length all = omega (arith, at, ap length is, length-append before (s ∷ rest)) in
     let earlier : Counts all n = λ m below. counts m (omega (arith, below, long)) in
-    and_both _ _ (struct_fits all n s earlier here)
+    both_hold _ _ (struct_fits all n s earlier here)
     (structs_fit all (before ++ s ∷ []) rest (suc n) (is ∙ sym (append_assoc before (s ∷ []) rest)) (omega (arith, at, length-append before (s ∷ []))) counts h.1)
 
 pub structs_are_well_formed : StructsAreWellFormed

@@ -6,13 +6,13 @@ use Rattle.std.specs.List.{list_all}
 use Rattle.std.proofs.lemmas.Bool.Decides.{nat_tests}
 use Rattle.std.proofs.lemmas.List.{append_assoc, append-nil, length-append}
 use Rattle.std.proofs.lemmas.List.Sums.{sum_by-cons}
+use Rattle.pt_base.proofs.Booleans.{both_hold, both_hold_first, both_hold_second}
+use Rattle.pt_base.proofs.Places.{get_before}
 use Rattle.pt_tree.specs.declared.signature.Elem.{Elem}
 use Rattle.pt_tree.specs.declared.signature.Elem.TheVariants as elem
 use Rattle.type_rules.specs.declared.types.Type.{«Type»}
 use Rattle.type_rules.specs.declared.types.Type.TheVariants.{Bad, Void, Int, Struct, Array, Pointer}
 use Rattle.typed_tree.specs.WellFormedExpression.{is_elem}
-use Rattle.typed_tree.proofs.WellFormedLemmas.{and_left, and_right, and_both}
-use Rattle.typed_tree.proofs.LeavesLemmas.{get_before}
 use Rattle.check_declarations.specs.declared.structs.FieldEntry.{FieldEntry}
 use Rattle.check_declarations.specs.declared.structs.StructEntry.{StructEntry}
 use Rattle.check_declarations.specs.Cells.{counted, cells_of, cells_of_elem, cells_in, object_limit}
@@ -22,11 +22,6 @@ use Rattle.type_law.specs.DeclarationsTypes.{is_plain}
 use Rattle.type_law.specs.DeclarationsSound.{field_sound, SoundStruct, SoundFrom, SoundStructs}
 
 -- ---- tables that grow
-
-pub get_some : {X : Type 0} (xs : List X) (k : ℕ) → k < length xs → (x : X) × (slice_get xs k ≡ Some x)
-get_some [] k h = absurd (omega (arith, h))
-get_some (x ∷ xs) zero h = (x, refl)
-get_some (x ∷ xs) (suc k) h = get_some xs k (omega (arith, h))
 
 -- a value keeps its number
 pub value_before : {X : Type 0} (table more : Named X) (n : ℕ) → n < length table → value_at (table ++ more) n ≡ value_at table n
@@ -42,7 +37,7 @@ cells_before structs more Bad h = refl
 cells_before structs more Void h = refl
 cells_before structs more (Int t) h = refl
 cells_before structs more (Struct n) h = elem_cells_before structs more (elem.Struct n) h
-cells_before structs more (Array e count) h = ap (λ c. counted (count * c)) (elem_cells_before structs more e (and_left (is_elem (length structs) (Some e)) (nat_le 1 count) h))
+cells_before structs more (Array e count) h = ap (λ c. counted (count * c)) (elem_cells_before structs more e (both_hold_first (is_elem (length structs) (Some e)) (nat_le 1 count) h))
 cells_before structs more (Pointer e fixed) h = refl
 
 -- ---- structs by number
@@ -59,23 +54,23 @@ pub record SoundAt (all : Structs) (n : ℕ) (s : StructEntry) : Type 0 where
 
 pub field_before : (structs more : Structs) (f : FieldEntry) → IsTrue (field_sound structs f) → IsTrue (field_at (structs ++ more) (length structs) f)
 field_before structs more f h =
-    let plain = and_left (is_plain (length structs) f.ty) (nat_le (cells_of structs f.ty) object_limit) h in
-    let small = and_right (is_plain (length structs) f.ty) (nat_le (cells_of structs f.ty) object_limit) h in
-    and_both _ _ plain (subst (λ c. IsTrue (nat_le c object_limit)) (sym (cells_before structs more f.ty plain)) small)
+    let plain = both_hold_first (is_plain (length structs) f.ty) (nat_le (cells_of structs f.ty) object_limit) h in
+    let small = both_hold_second (is_plain (length structs) f.ty) (nat_le (cells_of structs f.ty) object_limit) h in
+    both_hold _ _ plain (subst (λ c. IsTrue (nat_le c object_limit)) (sym (cells_before structs more f.ty plain)) small)
 
 pub fields_before : (structs more : Structs) (fs : List FieldEntry) → IsTrue (list_all (field_sound structs) fs) → IsTrue (list_all (field_at (structs ++ more) (length structs)) fs)
 fields_before structs more [] h = refl
 fields_before structs more (f ∷ fs) h =
-    and_both _ _ (field_before structs more f (and_left (field_sound structs f) (list_all (field_sound structs) fs) h))
-    (fields_before structs more fs (and_right (field_sound structs f) (list_all (field_sound structs) fs) h))
+    both_hold _ _ (field_before structs more f (both_hold_first (field_sound structs f) (list_all (field_sound structs) fs) h))
+    (fields_before structs more fs (both_hold_second (field_sound structs f) (list_all (field_sound structs) fs) h))
 
 sums_before : (structs more : Structs) (fs : List FieldEntry) → IsTrue (list_all (field_sound structs) fs)
     → sum_by (λ f. cells_of (structs ++ more) f.ty) fs ≡ sum_by (λ f. cells_of structs f.ty) fs
 sums_before structs more [] h = refl
 sums_before structs more (f ∷ fs) h =
-    let here = and_left (field_sound structs f) (list_all (field_sound structs) fs) h in
-    let plain = and_left (is_plain (length structs) f.ty) (nat_le (cells_of structs f.ty) object_limit) here in
-    let rest = sums_before structs more fs (and_right (field_sound structs f) (list_all (field_sound structs) fs) h) in
+    let here = both_hold_first (field_sound structs f) (list_all (field_sound structs) fs) h in
+    let plain = both_hold_first (is_plain (length structs) f.ty) (nat_le (cells_of structs f.ty) object_limit) here in
+    let rest = sums_before structs more fs (both_hold_second (field_sound structs f) (list_all (field_sound structs) fs) h) in
     let one = cells_before structs more f.ty plain in
     let left = sum_by-cons (λ g. cells_of (structs ++ more) g.ty) f fs in
     let right = sum_by-cons (λ g. cells_of structs g.ty) f fs in

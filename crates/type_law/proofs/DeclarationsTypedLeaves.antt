@@ -5,13 +5,14 @@ use Rattle.std.specs.List.{list_all, flat_map}
 use Rattle.std.proofs.lemmas.List.Folds.{flat_map-map}
 use Rattle.std.proofs.lemmas.Option.{slice_get-map}
 use Rattle.pt_base.specs.declared.int_type.IntType.{IntType}
+use Rattle.pt_base.proofs.Booleans.{both_hold, both_hold_first, both_hold_second}
+use Rattle.pt_base.proofs.Lists.{length_pushed}
 use Rattle.type_rules.specs.declared.types.Type.{«Type»}
 use Rattle.type_rules.specs.declared.types.Type.TheVariants.{Bad, Void, Int, Struct, Array, Pointer}
 use Rattle.typed_tree.specs.declared.types.VarTy.TheVariants as v
 use Rattle.typed_tree.specs.Cells.{leaves_of}
 use Rattle.typed_tree.specs.WellFormed.{is_plain_type}
-use Rattle.typed_tree.proofs.LeavesLemmas.{longer, names_earlier, all_name_earlier, leaves_of_earlier}
-use Rattle.typed_tree.proofs.WellFormedLemmas.{and_left, and_right, and_both}
+use Rattle.typed_tree.proofs.LeavesLemmas.{names_earlier, all_name_earlier, leaves_of_earlier}
 use Rattle.check_declarations.specs.declared.structs.StructEntry.{StructEntry}
 use Rattle.check_declarations.specs.Cells.{cells_of, object_limit}
 use Rattle.check_declarations.specs.NameTables.{values}
@@ -42,17 +43,17 @@ typed_plain structs (Pointer e fixed) h = h
 fields_earlier : (before : Structs) (fs : Fields) → IsTrue (list_all (field_sound before) (values fs)) → IsTrue (list_all (λ f. is_plain_type (length before) f.ty) (map field_info fs))
 fields_earlier before [] h = refl
 fields_earlier before (f ∷ fs) h =
-    let here = and_left (field_sound before f.1) (list_all (field_sound before) (values fs)) h in
-    let plain = and_left (is_plain (length before) f.1.ty) (nat_le (cells_of before f.1.ty) object_limit) here in
-    and_both (is_plain_type (length before) (object_type_of f.1.ty)) (list_all (λ g. is_plain_type (length before) g.ty) (map field_info fs)) (typed_plain (length before) f.1.ty plain)
-    (fields_earlier before fs (and_right (field_sound before f.1) (list_all (field_sound before) (values fs)) h))
+    let here = both_hold_first (field_sound before f.1) (list_all (field_sound before) (values fs)) h in
+    let plain = both_hold_first (is_plain (length before) f.1.ty) (nat_le (cells_of before f.1.ty) object_limit) here in
+    both_hold (is_plain_type (length before) (object_type_of f.1.ty)) (list_all (λ g. is_plain_type (length before) g.ty) (map field_info fs)) (typed_plain (length before) f.1.ty plain)
+    (fields_earlier before fs (both_hold_second (field_sound before f.1) (list_all (field_sound before) (values fs)) h))
 
 -- the fields of a sound table's structs name earlier structs alone
 structs_earlier : (before rest : Structs) → SoundFrom before rest → IsTrue (all_name_earlier (length before) (infos_of rest))
 structs_earlier before [] h = refl
 structs_earlier before (s ∷ rest) h =
-    and_both (names_earlier (length before) (struct_info s)) (all_name_earlier (suc (length before)) (infos_of rest)) (fields_earlier before s.1.fields h.0.fields)
-    (subst (λ n. IsTrue (all_name_earlier n (infos_of rest))) (longer before s) (structs_earlier (before ++ s ∷ []) rest h.1))
+    both_hold (names_earlier (length before) (struct_info s)) (all_name_earlier (suc (length before)) (infos_of rest)) (fields_earlier before s.1.fields h.0.fields)
+    (subst (λ n. IsTrue (all_name_earlier n (infos_of rest))) (length_pushed before s) (structs_earlier (before ++ s ∷ []) rest h.1))
 
 -- a struct's leaves are those of its fields, one after the other
 pub leaves_of_struct : (all : Structs) (n : ℕ) (s : List ℕ × StructEntry) → SoundStructs all → slice_get all n ≡ Some s

@@ -1,8 +1,10 @@
 -- Assignments without a fault are sound values.
 use Rattle.std.proofs.Common.{◌≡◌, ◌∙◌, ◌≤◌, ℕ, refl, ap, sym, subst, [], Bool, true, false, Option, Some, None, length, if◌then◌else◌, is_some}
 use Rattle.std.specs.Prelude.{IsTrue, ◌&&◌, ◌||◌, not}
+use Rattle.std.proofs.lemmas.Bool.{or_from}
 use Rattle.pt_base.specs.declared.span.Span.{Span}
 use Rattle.pt_base.specs.IntTypes.{promoted}
+use Rattle.pt_base.proofs.Booleans.{both_hold, not_or_self, or_false_first, true_and_false}
 use Rattle.pt_tree.specs.declared.operator.BinaryOp.{BinaryOp}
 use Rattle.pt_tree.specs.declared.operator.BinaryOp.TheVariants.{LogicalOr, LogicalAnd, BitOr, BitXor, BitAnd, Equal, NotEqual, Less, Greater, LessEqual, GreaterEqual, ShiftLeft, ShiftRight, Add, Subtract, Multiply, Divide, Remainder}
 use Rattle.type_rules.specs.declared.types.Type.{«Type»}
@@ -28,16 +30,15 @@ use Rattle.check_expressions.specs.Links.{integer_op, step_of, converted_by, rul
 use Rattle.check_expressions.specs.Operands.{Known, var_type, place_of, value_of, value_tree, plain}
 use Rattle.check_expressions.specs.Targets.{optional_fault, object_fault, target_fault_of, target_fault}
 use Rattle.type_law.specs.DeclarationsTypes.{is_good, is_variable}
-use Rattle.type_law.proofs.DeclarationsFaultLemmas.{or_left}
 use Rattle.type_law.specs.ExpressionsLaws.{SoundValue, Fitted}
-use Rattle.type_law.proofs.ExpressionsLists.{nowhere_where, true≢false}
-use Rattle.type_law.proofs.ExpressionsSameTypes.{same_types-equal, same_elem-self, usual-promoted-left}
+use Rattle.type_law.proofs.ExpressionsLists.{nowhere_where}
+use Rattle.type_law.proofs.ExpressionsSameTypes.{same_types-equal, usual-promoted-left}
 use Rattle.type_law.proofs.ExpressionsFits.{values_fit}
 use Rattle.type_law.proofs.ExpressionsKnown.{SoundKnown, plain_sound, value_sound, place_sound, designated_variable, good-variable}
 use Rattle.type_law.proofs.ExpressionsLinks.{no_struct}
-use Rattle.type_law.proofs.ExpressionsOutcomes.{good_known, neither, val, Outcome, numbers, truths, shifts, moves, moves_by, differs, compares, null_right, null_left, binary_outcome}
+use Rattle.type_law.proofs.ExpressionsOutcomes.{good_known, val, Outcome, numbers, truths, shifts, moves, moves_by, differs, compares, null_right, null_left, binary_outcome}
 use Rattle.type_law.proofs.ExpressionsTakes.{numbers_take, shifts_take, moves_take}
-use Rattle.typed_tree.proofs.WellFormedLemmas.{and_both}
+use Rattle.typed_tree.proofs.SameTypes.{elem_self}
 
 -- ---- what may be written
 
@@ -91,9 +92,9 @@ pub target_sound : (n : Names) (structs : Structs) (count : ℕ) (k : Known) →
 unfolding target_fault
 target_sound n structs count k h e =
     let w = target_written k.ty k.designates (k.fixed || has_const structs k.ty) (good_of n count k h) e in
-    let p = place_sound n count k.ty k.fixed k.designates k.tree h.tree (λ u d. true≢false k.designates w.object d) in
-    let free = or_left k.fixed (has_const structs k.ty) w.free in
-    record { fits = p.fits; has = p.has; written = and_both (is_object (place_of k.tree)) _ (p.written w.object) (nowhere_where (place_const n (place_of k.tree)) k.fixed p.kept free); variable = designated_variable n count k.ty k.fixed k.designates k.tree h.tree w.object; whole = w.whole }
+    let p = place_sound n count k.ty k.fixed k.designates k.tree h.tree (λ u d. true_and_false k.designates w.object d) in
+    let free = or_false_first k.fixed (has_const structs k.ty) w.free in
+    record { fits = p.fits; has = p.has; written = both_hold (is_object (place_of k.tree)) _ (p.written w.object) (nowhere_where (place_const n (place_of k.tree)) k.fixed p.kept free); variable = designated_variable n count k.ty k.fixed k.designates k.tree h.tree w.object; whole = w.whole }
 
 -- ---- =
 
@@ -139,10 +140,10 @@ stored_by_sound n structs s left right None false k w x below t h e z =
     let y = values_fit n structs k.ty w x h p.variable below (not_wrong structs k.ty w p.variable p.whole (sym e)) in
     plain_sound n structs k.ty (stored_tree s k w x)
     (record {
-      typed = and_both (place_fits n (place_of k.tree) && is_written n (place_of k.tree)) _ (and_both (place_fits n (place_of k.tree)) _ p.fits p.written)
-          (and_both (test.same_types (place_type n (place_of k.tree)) (var_type k.ty) && test.is_value (var_type k.ty)) _
-          (and_both (test.same_types (place_type n (place_of k.tree)) (var_type k.ty)) _ (same_types-equal _ _ p.has) (is_value_variable structs k.ty p.variable p.whole))
-          (and_both (is_typed n (as_type k.ty w.null x)) _ y.typed (same_types-equal _ _ y.has)));
+      typed = both_hold (place_fits n (place_of k.tree) && is_written n (place_of k.tree)) _ (both_hold (place_fits n (place_of k.tree)) _ p.fits p.written)
+          (both_hold (test.same_types (place_type n (place_of k.tree)) (var_type k.ty) && test.is_value (var_type k.ty)) _
+          (both_hold (test.same_types (place_type n (place_of k.tree)) (var_type k.ty)) _ (same_types-equal _ _ p.has) (is_value_variable structs k.ty p.variable p.whole))
+          (both_hold (is_typed n (as_type k.ty w.null x)) _ y.typed (same_types-equal _ _ y.has)));
       has = refl;
     })
     (variable_good structs k.ty p.variable p.whole) p.whole (λ q. stored_struct n s k w x q)
@@ -150,7 +151,7 @@ stored_by_sound n structs s left right None false k w x below t h e z =
 pub stored_sound : (n : Names) (structs : Structs) (count : ℕ) (s left right : Span) (a b : Known) → count ≤ length n.structs → SoundKnown n count a → SoundKnown n count b → (stored structs s left a right b).faults ≡ [] → SoundKnown n count (stored structs s left a right b).operand
 unfolding stored
 stored_sound n structs count s left right a b below g h k =
-    let known : (is_bad a.ty || is_bad b.ty) ≡ false = neither (is_bad a.ty) (is_bad b.ty) (good_of n count a g) (good_of n count b h) in
+    let known : (is_bad a.ty || is_bad b.ty) ≡ false = or_from (is_bad a.ty) (is_bad b.ty) (good_of n count a g) (good_of n count b h) in
     let k' = rw known at k in
     rw known (stored_by_sound n count s left right (target_fault structs a) (misfits a.ty (value_of b)) a (value_of b) (value_tree right b) below (target_sound n structs count a g) (value_sound n count right b h) refl k')
 
@@ -205,27 +206,23 @@ record Compounds (n : Names) (op : BinaryOp) (r : Rule) (s t : «Type») (k : Bo
   back : IsTrue (converts (stepped (promoted_value (var_type s)) (step_of (integer_op op) r) (ty_of (converted_by r (val t k) (val s false) y))) (var_type s))
   kept : is_refused r ≡ false
 
-pub or_not : (f : Bool) → (not f || f) ≡ true
-or_not true = refl
-or_not false = refl
-
 compound_takes : (n : Names) (structs : ℕ) (op : BinaryOp) (s t : «Type») (m k : Bool) (r : Rule) (y : ExprTree) → Outcome op s m t k r → is_compounding op ≡ true → is_wrong (fit_rule s (val (rule_type r (val s false) (val t k)) false)) ≡ false → IsTrue (is_variable structs s) → Fitted n t y → Compounds n op r s t k y
 unfolding fit_rule var_type is_refused step_of link_type
 compound_takes n structs op s t i j r y (numbers a b m k p c d) o w good h =
     let z = numbers_take n structs op (promoted a) a b false k y p (usual-promoted-left a b) d h in
     record { typed = z.typed; step = ap not c; back = ap (λ u. converts u (Some (v.Int a))) z.is; kept = refl }
-compound_takes n structs op s t i j r y (truths a b m k p c d) o w good h = true≢false (is_comparison (integer_op op)) c (no_comparison op o)
+compound_takes n structs op s t i j r y (truths a b m k p c d) o w good h = true_and_false (is_comparison (integer_op op)) c (no_comparison op o)
 compound_takes n structs op s t i j r y (shifts a b m k) o w good h =
     let z = shifts_take n structs op a b false k y h in
     record { typed = z.typed; step = refl; back = ap (λ u. converts u (Some (v.Int a))) z.is; kept = refl }
 compound_takes n structs op s t i j r y (moves e f b m k) o w good h =
     let z = moves_take n structs op e f b false k y good h in
-    record { typed = z.typed; step = refl; back = ap (λ u. converts u (Some (v.Pointer e f))) z.is ∙ and_both (test.same_elem e e) _ (same_elem-self e) (or_not f); kept = refl }
+    record { typed = z.typed; step = refl; back = ap (λ u. converts u (Some (v.Pointer e f))) z.is ∙ both_hold (test.same_elem e e) _ (elem_self e) (not_or_self f); kept = refl }
 compound_takes n structs op s t i j r y (moves_by a e f m k) o w good h = cc
 compound_takes n structs op s t i j r y (differs e e' f f' m k same) o w good h = cc
-compound_takes n structs op s t i j r y (compares e e' f f' m k c same) o w good h = true≢false (is_comparison (integer_op op)) c (no_comparison op o)
-compound_takes n structs op s t i j r y (null_right e f b m c) o w good h = true≢false (is_comparison (integer_op op)) c (no_comparison op o)
-compound_takes n structs op s t i j r y (null_left a e f k c) o w good h = true≢false (is_comparison (integer_op op)) c (no_comparison op o)
+compound_takes n structs op s t i j r y (compares e e' f f' m k c same) o w good h = true_and_false (is_comparison (integer_op op)) c (no_comparison op o)
+compound_takes n structs op s t i j r y (null_right e f b m c) o w good h = true_and_false (is_comparison (integer_op op)) c (no_comparison op o)
+compound_takes n structs op s t i j r y (null_left a e f k c) o w good h = true_and_false (is_comparison (integer_op op)) c (no_comparison op o)
 
 -- a rule without a fault is that of the operator, and its result fits
 record Kept (op : BinaryOp) (ty : «Type») (w : Value) (r : Rule) : Type 0 where
@@ -267,9 +264,9 @@ unfolding compound_tree
 compound_sound n structs op s left k w x r p h e =
     plain_sound n structs k.ty (compound_tree r op s left k w x)
     (record {
-      typed = and_both (place_fits n (place_of k.tree) && is_written n (place_of k.tree)) _ (and_both (place_fits n (place_of k.tree)) _ p.fits p.written)
-          (and_both (test.same_types (place_type n (place_of k.tree)) (var_type k.ty)) _ (same_types-equal _ _ p.has)
-          (and_both (is_typed n (converted_by r w (val k.ty false) x)) _ h.typed (and_both (is_compound (step_of (integer_op op) r)) _ h.step h.back)));
+      typed = both_hold (place_fits n (place_of k.tree) && is_written n (place_of k.tree)) _ (both_hold (place_fits n (place_of k.tree)) _ p.fits p.written)
+          (both_hold (test.same_types (place_type n (place_of k.tree)) (var_type k.ty)) _ (same_types-equal _ _ p.has)
+          (both_hold (is_typed n (converted_by r w (val k.ty false) x)) _ h.typed (both_hold (is_compound (step_of (integer_op op) r)) _ h.step h.back)));
       has = refl;
     })
     (variable_good structs k.ty p.variable p.whole) p.whole (λ q. no_struct k.ty e q)
@@ -289,7 +286,7 @@ compounded_by_sound n structs op s left right None k w x t h z =
 pub compounded_sound : (n : Names) (structs : Structs) (count : ℕ) (op : BinaryOp) (s left right : Span) (a b : Known) → SoundKnown n count a → SoundKnown n count b → (compounded structs op s left a right b).faults ≡ [] → SoundKnown n count (compounded structs op s left a right b).operand
 unfolding compounded
 compounded_sound n structs count op s left right a b g h k =
-    let known : (is_bad a.ty || is_bad b.ty) ≡ false = neither (is_bad a.ty) (is_bad b.ty) (good_of n count a g) (good_of n count b h) in
+    let known : (is_bad a.ty || is_bad b.ty) ≡ false = or_from (is_bad a.ty) (is_bad b.ty) (good_of n count a g) (good_of n count b h) in
     let k' = rw known at k in
     rw known (compounded_by_sound n count op s left right (target_fault structs a) a (value_of b) (value_tree right b) (target_sound n structs count a g) (value_sound n count right b h) k')
 

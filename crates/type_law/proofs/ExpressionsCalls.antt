@@ -5,6 +5,8 @@ use Rattle.std.specs.List.{list_all}
 use Rattle.std.specs.Str.{bytes_eq}
 use Rattle.pt_base.specs.declared.span.Span.{Span}
 use Rattle.pt_base.specs.declared.ids.FnId.{FnId}
+use Rattle.pt_base.proofs.Booleans.{both_hold}
+use Rattle.pt_base.proofs.Numbers.{nat_eq_same}
 use Rattle.pt_tree.specs.declared.signature.Param.{Param}
 use Rattle.type_rules.specs.declared.types.Type.{«Type»}
 use Rattle.type_rules.specs.declared.types.Type.TheVariants.{Bad, Void, Int, Struct, Array, Pointer}
@@ -27,12 +29,11 @@ use Rattle.check_expressions.specs.Postfixes.{is_main, function_params, params_o
 use Rattle.type_law.specs.DeclarationsTypes.{is_good, is_variable, is_parameter, is_result}
 use Rattle.type_law.specs.ExpressionsAgreement.{HasCallable, Agrees, taken}
 use Rattle.type_law.specs.ExpressionsLaws.{SoundValue, Fitted}
-use Rattle.type_law.proofs.ExpressionsSameTypes.{same_types-equal, same_number}
+use Rattle.type_law.proofs.ExpressionsSameTypes.{same_types-equal}
 use Rattle.type_law.proofs.ExpressionsFits.{values_fit}
 use Rattle.type_law.proofs.ExpressionsKnown.{SoundKnown, plain_sound}
 use Rattle.type_law.proofs.ExpressionsAssignments.{if_fault}
 use Rattle.type_law.proofs.ExpressionsNames.{there}
-use Rattle.typed_tree.proofs.WellFormedLemmas.{and_both}
 
 -- ---- arguments
 
@@ -99,8 +100,8 @@ all_fit n (p ∷ ps) (t ∷ ts) (x ∷ xs) e l h =
     let same = first_same (taken p) (var_type t) (map taken ps) (map var_type ts) e in
     let rest = all_fit n ps ts xs same.1 (omega arith) h.1 in
     record {
-      typed = and_both (is_typed n x) _ h.0.typed rest.typed;
-      fit = and_both (test.same_types (ty_of x) (Some (param_type p.kind))) _ (same_types-equal _ _ (h.0.has ∙ sym same.0)) rest.fit;
+      typed = both_hold (is_typed n x) _ h.0.typed rest.typed;
+      fit = both_hold (test.same_types (ty_of x) (Some (param_type p.kind))) _ (same_types-equal _ _ (h.0.has ∙ sym same.0)) rest.fit;
     }
 
 -- ---- the call
@@ -135,10 +136,10 @@ call_typed n structs c f s trees h m l p =
     let a = all_fit n h.signature.params c.params trees h.takes l p in
     let named : w.is_main h.signature ≡ false = ap (λ x. bytes_eq x (codes "main")) h.name ∙ m in
     let fits : IsTrue (call_fits (Some h.signature) (expr_trees trees) (var_type c.result)) =
-    and_both (not (w.is_main h.signature)) _ (ap not named)
-    (and_both (arguments_fit h.signature.params (expr_trees trees)) _ a.fit (same_types-equal (var_type c.result) (option_map v.Int h.signature.result) (sym h.gives))) in
+    both_hold (not (w.is_main h.signature)) _ (ap not named)
+    (both_hold (arguments_fit h.signature.params (expr_trees trees)) _ a.fit (same_types-equal (var_type c.result) (option_map v.Int h.signature.result) (sym h.gives))) in
     plain_sound n structs c.result (call_tree s c.result f trees)
-    (record { typed = and_both (all_typed n (expr_trees trees)) _ a.typed (ap (λ o. call_fits o (expr_trees trees) (var_type c.result)) h.is ∙ fits); has = refl })
+    (record { typed = both_hold (all_typed n (expr_trees trees)) _ a.typed (ap (λ o. call_fits o (expr_trees trees) (var_type c.result)) h.is ∙ fits); has = refl })
     (result_good structs c.result h.result) (result_whole c.result h.result) (λ k. result_plain c.result h.result k)
 
 call_of_sound : (n : Names) (structs : ℕ) (c : Callable) (f : FnId) (s : Span) (trees : List ExprTree) → HasCallable structs c (slice_get n.signatures f.0) → Passed n (function_params c) trees → (call_of c s f trees).faults ≡ [] → SoundKnown n structs (call_of c s f trees).operand
@@ -147,7 +148,7 @@ call_of_sound n structs c f s trees h p z = by_tests (is_main c.name) (nat_eq (l
   where
     by_tests : (b d : Bool) → is_main c.name ≡ b → nat_eq (length trees) (length c.params) ≡ d → Passed n (if b then [] else c.params) trees → (if b then refused (fault_at OutOfProfile s ∷ []) else if d then fine (plain c.result (call_tree s c.result f trees)) else refused (fault_at ArgCount s ∷ [])).faults ≡ [] → SoundKnown n structs (if b then refused (fault_at OutOfProfile s ∷ []) else if d then fine (plain c.result (call_tree s c.result f trees)) else refused (fault_at ArgCount s ∷ [])).operand
     by_tests true d e g q y = cc
-    by_tests false true e g q y = call_typed n structs c f s trees h e (same_number (length trees) (length c.params) g) q
+    by_tests false true e g q y = call_typed n structs c f s trees h e (nat_eq_same (length trees) (length c.params) g) q
     by_tests false false e g q y = cc
 
 pub called_sound : (n : Names) (env : Env) (structs : Structs) → Agrees env structs n → (f : FnId) (ty : «Type») (s : Span) (trees : List ExprTree) → IsTrue (nat_lt f.0 (length env.functions)) → Passed n (params_for env (Some f)) trees → (called env (Some f) ty s trees).faults ≡ [] → SoundKnown n (length structs) (called env (Some f) ty s trees).operand

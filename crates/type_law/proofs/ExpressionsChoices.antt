@@ -1,8 +1,10 @@
 -- A choice without a fault is a sound value.
 use Rattle.std.proofs.Common.{◌≡◌, ◌≤◌, ℕ, refl, sym, subst, [], Bool, true, false, length, if◌then◌else◌}
-use Rattle.std.specs.Prelude.{⊤, IsTrue, ◌&&◌, ◌||◌, not}
+use Rattle.std.specs.Prelude.{⊤, IsTrue, ◌&&◌, ◌||◌}
+use Rattle.std.proofs.lemmas.Bool.{or_from}
 use Rattle.pt_base.specs.declared.span.Span.{Span}
 use Rattle.pt_base.specs.IntTypes.{usual}
+use Rattle.pt_base.proofs.Booleans.{both_hold, or_not_first, or_not_second, or_not_self}
 use Rattle.type_rules.specs.declared.types.Type.{«Type»}
 use Rattle.type_rules.specs.declared.types.Type.TheVariants.{Bad, Void, Int, Struct, Array, Pointer}
 use Rattle.type_rules.specs.declared.types.Value.{Value}
@@ -26,8 +28,7 @@ use Rattle.type_law.proofs.ExpressionsSameTypes.{same_types-equal, usual-promote
 use Rattle.type_law.proofs.ExpressionsFits.{int_fits, pointer_fits, null_fits}
 use Rattle.type_law.proofs.ExpressionsKnown.{SoundKnown, plain_sound, value_sound}
 use Rattle.type_law.proofs.ExpressionsLinks.{no_struct, scalar_has}
-use Rattle.type_law.proofs.ExpressionsOutcomes.{good_known, neither}
-use Rattle.typed_tree.proofs.WellFormedLemmas.{and_both}
+use Rattle.type_law.proofs.ExpressionsOutcomes.{good_known}
 
 -- the arms as values of their common type
 pub record Arms (n : Names) (structs : ℕ) (ty : «Type») (m k : Bool) (x y : ExprTree) : Type 0 where
@@ -44,39 +45,25 @@ JoinedFits n structs arms.Wrong m k x y = ⊤
 JoinedFits n structs arms.Structs m k x y = ⊤
 JoinedFits n structs (arms.Gives ty) m k x y = Arms n structs ty m k x y
 
-or_left : (f g : Bool) → ((f || g) || not f) ≡ true
-or_left true g = refl
-or_left false true = refl
-or_left false false = refl
-
-or_right : (f g : Bool) → ((f || g) || not g) ≡ true
-or_right true g = refl
-or_right false true = refl
-or_right false false = refl
-
-or_self : (f : Bool) → (f || not f) ≡ true
-or_self true = refl
-or_self false = refl
-
 joined_fits : (n : Names) (structs : ℕ) (s t : «Type») (m k : Bool) (x y : ExprTree) → structs ≤ length n.structs → IsTrue (is_good structs s) → IsTrue (is_good structs t) → (m ≡ true → is_integer s ≡ true) → (k ≡ true → is_integer t ≡ true) → Fitted n s x → Fitted n t y → JoinedFits n structs (joined s m t k) m k x y
 unfolding as_type var_type
 joined_fits n structs (Int a) (Int b) m k x y below p q u w g h = record { first = int_fits n a (usual a b) x g; last = int_fits n b (usual a b) y h; arm = usual-promoted a b; good = refl; whole = refl; plain = refl }
 joined_fits n structs (Int a) (Pointer e f) true true x y below p q u w g h = let z : false ≡ true = w refl in cc
-joined_fits n structs (Int a) (Pointer e f) true false x y below p q u w g h = record { first = null_fits n e f x (elem-more structs (length n.structs) e below q); last = pointer_fits n e e f f y (is_same_elem-self e) (or_self f) h; arm = refl; good = q; whole = refl; plain = refl }
+joined_fits n structs (Int a) (Pointer e f) true false x y below p q u w g h = record { first = null_fits n e f x (elem-more structs (length n.structs) e below q); last = pointer_fits n e e f f y (is_same_elem-self e) (or_not_self f) h; arm = refl; good = q; whole = refl; plain = refl }
 joined_fits n structs (Int a) (Pointer e f) false k x y below p q u w g h = tt
 joined_fits n structs (Int a) Bad m k x y below p q u w g h = tt
 joined_fits n structs (Int a) Void m k x y below p q u w g h = tt
 joined_fits n structs (Int a) (Struct b) m k x y below p q u w g h = tt
 joined_fits n structs (Int a) (Array e c) m k x y below p q u w g h = tt
 joined_fits n structs (Pointer e f) (Int b) true true x y below p q u w g h = let z : false ≡ true = u refl in cc
-joined_fits n structs (Pointer e f) (Int b) false true x y below p q u w g h = record { first = pointer_fits n e e f f x (is_same_elem-self e) (or_self f) g; last = null_fits n e f y (elem-more structs (length n.structs) e below p); arm = refl; good = p; whole = refl; plain = refl }
+joined_fits n structs (Pointer e f) (Int b) false true x y below p q u w g h = record { first = pointer_fits n e e f f x (is_same_elem-self e) (or_not_self f) g; last = null_fits n e f y (elem-more structs (length n.structs) e below p); arm = refl; good = p; whole = refl; plain = refl }
 joined_fits n structs (Pointer e f) (Int b) m false x y below p q u w g h = tt
 joined_fits n structs (Pointer e f) (Pointer e' f') true k x y below p q u w g h = let z : false ≡ true = u refl in cc
 joined_fits n structs (Pointer e f) (Pointer e' f') false true x y below p q u w g h = let z : false ≡ true = w refl in cc
 joined_fits n structs (Pointer e f) (Pointer e' f') false false x y below p q u w g h = by_test (is_same_elem e e') refl
   where
     by_test : (b : Bool) → is_same_elem e e' ≡ b → JoinedFits n structs (if b then arms.Gives (Pointer e (f || f')) else arms.Wrong) false false x y
-    by_test true same = record { first = pointer_fits n e e (f || f') f x (is_same_elem-self e) (or_left f f') g; last = pointer_fits n e e' (f || f') f' y same (or_right f f') h; arm = refl; good = p; whole = refl; plain = refl }
+    by_test true same = record { first = pointer_fits n e e (f || f') f x (is_same_elem-self e) (or_not_first f f') g; last = pointer_fits n e e' (f || f') f' y same (or_not_second f f') h; arm = refl; good = p; whole = refl; plain = refl }
     by_test false same = tt
 joined_fits n structs (Pointer e f) Bad m k x y below p q u w g h = tt
 joined_fits n structs (Pointer e f) Void m k x y below p q u w g h = tt
@@ -105,7 +92,7 @@ joined_fits n structs (Array e c) (Pointer e' f) m k x y below p q u w g h = tt
 rule_fits : (n : Names) (structs : ℕ) (a b : Value) (x y : ExprTree) → structs ≤ length n.structs → SoundValue n structs a x → SoundValue n structs b y → JoinedFits n structs (choice_rule a b) a.null b.null x y
 unfolding choice_rule
 rule_fits n structs a b x y below g h =
-    let known : (is_bad a.ty || is_bad b.ty) ≡ false = neither (is_bad a.ty) (is_bad b.ty) (good_known structs a.ty g.good) (good_known structs b.ty h.good) in
+    let known : (is_bad a.ty || is_bad b.ty) ≡ false = or_from (is_bad a.ty) (is_bad b.ty) (good_known structs a.ty g.good) (good_known structs b.ty h.good) in
     subst (λ c. JoinedFits n structs (if c then arms.Unknown else joined a.ty a.null b.ty b.null) a.null b.null x y) (sym known)
     (joined_fits n structs a.ty b.ty a.null b.null x y below g.good h.good g.null h.null (record { typed = g.typed; has = g.has }) (record { typed = h.typed; has = h.has }))
 
@@ -116,11 +103,11 @@ unfolding choice_tree arm_tree
 gives_sound n structs s ty one first last g c h =
     plain_sound n structs ty (choice_tree s ty one first last)
     (record {
-      typed = and_both (is_typed n (tree_at one) && test.is_scalar (ty_of (tree_at one))) _ (and_both (is_typed n (tree_at one)) _ g c)
-          (and_both (is_typed n (arm_tree ty first) && test.same_types (ty_of (arm_tree ty first)) (var_type ty)) _
-          (and_both (is_typed n (arm_tree ty first)) _ h.first.typed (same_types-equal _ _ h.first.has))
-          (and_both (is_typed n (arm_tree ty last) && test.same_types (ty_of (arm_tree ty last)) (var_type ty)) _
-          (and_both (is_typed n (arm_tree ty last)) _ h.last.typed (same_types-equal _ _ h.last.has))
+      typed = both_hold (is_typed n (tree_at one) && test.is_scalar (ty_of (tree_at one))) _ (both_hold (is_typed n (tree_at one)) _ g c)
+          (both_hold (is_typed n (arm_tree ty first) && test.same_types (ty_of (arm_tree ty first)) (var_type ty)) _
+          (both_hold (is_typed n (arm_tree ty first)) _ h.first.typed (same_types-equal _ _ h.first.has))
+          (both_hold (is_typed n (arm_tree ty last) && test.same_types (ty_of (arm_tree ty last)) (var_type ty)) _
+          (both_hold (is_typed n (arm_tree ty last)) _ h.last.typed (same_types-equal _ _ h.last.has))
           h.arm));
       has = refl;
     })

@@ -1,9 +1,11 @@
 -- What would write a const object has the fault ConstWrite.
-use Rattle.std.proofs.Common.{◌≡◌, sym, subst, refl, List, [], ◌∷◌, ◌++◌, Bool, true, false, Option, Some, None, if◌then◌else◌, arith}
+use Rattle.std.proofs.Common.{◌≡◌, sym, subst, refl, [], ◌∷◌, ◌++◌, Bool, true, false, Option, Some, None, if◌then◌else◌}
 use Rattle.std.specs.Prelude.{◌||◌}
 use Rattle.std.specs.List.{Contains}
 use Rattle.std.proofs.lemmas.List.Elements.{Contains-append_right}
+use Rattle.std.proofs.lemmas.Bool.{or_from}
 use Rattle.pt_base.specs.declared.span.Span.{Span}
+use Rattle.pt_base.proofs.Members.{contains_first}
 use Rattle.pt_tree.specs.declared.operator.BinaryOp.{BinaryOp}
 use Rattle.type_rules.specs.declared.types.Type.{«Type»}
 use Rattle.type_rules.specs.declared.types.Type.TheVariants.{Bad, Void, Int, Struct, Array, Pointer}
@@ -21,10 +23,6 @@ use Rattle.check_expressions.specs.Operands.{Known, value_of, value_tree, refuse
 use Rattle.check_expressions.specs.Prefixes.{stepped_by, stepped, prefixed}
 use Rattle.check_expressions.specs.Targets.{optional_fault, object_fault, target_fault_of, target_fault}
 use Rattle.type_law.specs.ExpressionsLaws.{ConstIsNotWritten, IsConstObject, is_array}
-use Rattle.type_law.proofs.ExpressionsOutcomes.{neither}
-
-first_in : {X : Type 0} (x : X) (xs : List X) → Contains (x ∷ xs) x
-first_in x xs = (0, omega arith, refl)
 
 object_const : (d c : Bool) → d ≡ true → c ≡ true → object_fault d c ≡ Some ConstWrite
 unfolding object_fault
@@ -50,13 +48,13 @@ unfolding assigned stored compounded stored_by compounded_by optional_fault
 assigned_const structs None s left right a b h known =
     let w = value_of b in
     let x = value_tree right b in
-    subst (λ c. Contains (if c then refused [] else stored_by (target_fault structs a) (misfits a.ty w) s left a right w x).faults (fault_at ConstWrite left)) (sym (neither (is_bad a.ty) (is_bad b.ty) h.known known))
-    (subst (λ (t : Option FaultKind). Contains (stored_by t (misfits a.ty w) s left a right w x).faults (fault_at ConstWrite left)) (sym (const_target structs a h)) (first_in _ _))
+    subst (λ c. Contains (if c then refused [] else stored_by (target_fault structs a) (misfits a.ty w) s left a right w x).faults (fault_at ConstWrite left)) (sym (or_from (is_bad a.ty) (is_bad b.ty) h.known known))
+    (subst (λ (t : Option FaultKind). Contains (stored_by t (misfits a.ty w) s left a right w x).faults (fault_at ConstWrite left)) (sym (const_target structs a h)) (contains_first _ _))
 assigned_const structs (Some o) s left right a b h known =
     let w = value_of b in
     let x = value_tree right b in
-    subst (λ c. Contains (if c then refused [] else compounded_by (target_fault structs a) (step_rule_of o a.ty w) o s left a right w x).faults (fault_at ConstWrite left)) (sym (neither (is_bad a.ty) (is_bad b.ty) h.known known))
-    (subst (λ (t : Option FaultKind). Contains (compounded_by t (step_rule_of o a.ty w) o s left a right w x).faults (fault_at ConstWrite left)) (sym (const_target structs a h)) (first_in _ _))
+    subst (λ c. Contains (if c then refused [] else compounded_by (target_fault structs a) (step_rule_of o a.ty w) o s left a right w x).faults (fault_at ConstWrite left)) (sym (or_from (is_bad a.ty) (is_bad b.ty) h.known known))
+    (subst (λ (t : Option FaultKind). Contains (compounded_by t (step_rule_of o a.ty w) o s left a right w x).faults (fault_at ConstWrite left)) (sym (const_target structs a h)) (contains_first _ _))
 
 stepped_const : (structs : Structs) (s : Span) (back postfix : Bool) (at : Span) (k : Known) → IsConstObject structs k → Contains (stepped structs s back postfix at k).faults (fault_at ConstWrite at)
 unfolding stepped stepped_by optional_fault
@@ -64,9 +62,9 @@ stepped_const structs s back postfix at k h =
     subst (λ (t : Option FaultKind). Contains (stepped_by t (step_rule k.ty) s back postfix at k.tree).faults (fault_at ConstWrite at)) (sym (const_target structs k h)) (by_rule (step_rule k.ty))
   where
     by_rule : (r : UnaryRule) → Contains (stepped_by (Some ConstWrite) r s back postfix at k.tree).faults (fault_at ConstWrite at)
-    by_rule unary.Unknown = first_in (fault_at ConstWrite at) []
-    by_rule unary.Wrong = first_in (fault_at ConstWrite at) (fault_at WrongType at ∷ [])
-    by_rule (unary.Gives t) = first_in (fault_at ConstWrite at) []
+    by_rule unary.Unknown = contains_first (fault_at ConstWrite at) []
+    by_rule unary.Wrong = contains_first (fault_at ConstWrite at) (fault_at WrongType at ∷ [])
+    by_rule (unary.Gives t) = contains_first (fault_at ConstWrite at) []
 
 pub const_is_not_written : ConstIsNotWritten
 unfolding judge judge_postfix prefixed

@@ -4,14 +4,15 @@ use Rattle.std.specs.Prelude.{IsTrue, slice_get, option_map, option_and_then, na
 use Rattle.std.proofs.lemmas.Bool.Decides.{nat_tests}
 use Rattle.std.proofs.lemmas.List.{length-append, length-map}
 use Rattle.std.proofs.lemmas.Option.{slice_get-map, slice_get_within}
+use Rattle.pt_base.proofs.Booleans.{both_hold, both_hold_first, both_hold_second}
+use Rattle.pt_base.proofs.Members.{all_hold_at}
+use Rattle.pt_base.proofs.Places.{get_kept}
 use Rattle.type_rules.specs.declared.types.Type.{«Type»}
 use Rattle.type_rules.specs.declared.types.Type.TheVariants.{Bad, Void, Int, Struct, Array, Pointer}
 use Rattle.typed_tree.specs.declared.types.VarTy.TheVariants as v
 use Rattle.typed_tree.specs.declared.types.Field.{Field}
 use Rattle.typed_tree.specs.declared.types.StructInfo.{StructInfo}
 use Rattle.typed_tree.specs.WellFormedExpression.{Names, field_type, is_elem}
-use Rattle.typed_tree.proofs.WellFormedLemmas.{and_left, and_right, and_both}
-use Rattle.typed_tree.proofs.NumberLemmas.{passes_at}
 use Rattle.check_declarations.specs.declared.structs.FieldEntry.{FieldEntry}
 use Rattle.check_declarations.specs.declared.structs.FoundField.{FoundField}
 use Rattle.check_declarations.specs.declared.structs.StructEntry.{StructEntry}
@@ -59,11 +60,6 @@ found_at structs m name f h = by_struct (slice_get structs m) refl h
 
 -- ---- the struct in the typed tree
 
-pub get-left : {X : Type 0} (xs ys : List X) (k : ℕ) (x : X) → slice_get xs k ≡ Some x → slice_get (xs ++ ys) k ≡ Some x
-get-left [] ys k x h = cc
-get-left (a ∷ xs) ys zero x h = h
-get-left (a ∷ xs) ys (suc k) x h = get-left xs ys k x h
-
 plain_type : (count : ℕ) (ty : «Type») → IsTrue (is_plain count ty) → Some (object_type_of ty) ≡ var_type ty
 unfolding var_type
 plain_type count Bad h = cc
@@ -81,7 +77,7 @@ plain_variable a b Bad k h = cc
 plain_variable a b Void k h = cc
 plain_variable a b (Int t) k h = refl
 plain_variable a b (Struct m) k h = lower m a b k h
-plain_variable a b (Array e c) k h = and_both (is_elem b (Some e)) (nat_le 1 c) (elem-more a b e k (and_left (is_elem a (Some e)) (nat_le 1 c) h)) (and_right (is_elem a (Some e)) (nat_le 1 c) h)
+plain_variable a b (Array e c) k h = both_hold (is_elem b (Some e)) (nat_le 1 c) (elem-more a b e k (both_hold_first (is_elem a (Some e)) (nat_le 1 c) h)) (both_hold_second (is_elem a (Some e)) (nat_le 1 c) h)
 plain_variable a b (Pointer e f) k h = cc
 
 pub record SoundAt (first j : ℕ) (x : StructEntry) : Type 0 where
@@ -106,9 +102,9 @@ field_plain : (structs : Structs) (m : ℕ) (f : FoundField) (more : Structs) �
 field_plain structs m f more h p =
     let s = sound_at [] structs m p.entry (sound_prefix [] structs more h) p.at in
     let entry : slice_get (values p.entry.1.fields) f.number ≡ Some f.entry = slice_get-map (λ (e : List ℕ × FieldEntry). e.1) p.entry.1.fields f.number ∙ ap (option_map (λ (e : List ℕ × FieldEntry). e.1)) p.field in
-    let passes = passes_at (field_sound s.before) (values p.entry.1.fields) f.number f.entry s.sound.fields entry in
+    let passes = all_hold_at (field_sound s.before) (values p.entry.1.fields) f.number f.entry s.sound.fields entry in
     let size : length s.before ≡ m = s.size ∙ omega arith in
-    subst (λ k. IsTrue (is_plain k f.entry.ty)) size (and_left (is_plain (length s.before) f.entry.ty) _ passes)
+    subst (λ k. IsTrue (is_plain k f.entry.ty)) size (both_hold_first (is_plain (length s.before) f.entry.ty) _ passes)
 
 type_in : (structs : List StructInfo) (m k : ℕ) (s : StructInfo) (f : Field) → slice_get structs m ≡ Some s → slice_get s.fields k ≡ Some f → field_type structs (Some (v.Struct m)) k ≡ Some f.ty
 type_in structs m k s f h g = ap (λ o. option_and_then (λ (x : StructInfo). option_map (λ (y : Field). y.ty) (slice_get x.fields k)) o) h ∙ ap (option_map (λ (y : Field). y.ty)) g
@@ -117,7 +113,7 @@ pub fields_agree : (n : Names) (structs more : Structs) → SoundStructs (struct
 fields_agree n structs more h is m name f found =
     let p = found_at structs m name f found in
     let plain = field_plain structs m f more h p in
-    let info : slice_get (infos_of (structs ++ more)) m ≡ Some (struct_info p.entry) = slice_get-map struct_info (structs ++ more) m ∙ ap (option_map struct_info) (get-left structs more m p.entry p.at) in
+    let info : slice_get (infos_of (structs ++ more)) m ≡ Some (struct_info p.entry) = slice_get-map struct_info (structs ++ more) m ∙ ap (option_map struct_info) (get_kept structs more m p.entry p.at) in
     let field : slice_get (struct_info p.entry).fields f.number ≡ Some (field_info (p.name, f.entry)) = slice_get-map field_info p.entry.1.fields f.number ∙ ap (option_map field_info) p.field in
     let within : m < length structs = slice_get_within structs m p.entry p.at in (
       ap (λ ss. field_type ss (Some (v.Struct m)) f.number) is ∙ type_in (infos_of (structs ++ more)) m f.number (struct_info p.entry) (field_info (p.name, f.entry)) info field ∙ plain_type m f.entry.ty plain,

@@ -4,12 +4,13 @@ use Rattle.std.specs.Prelude.{IsTrue, ◌&&◌, slice_get, nat_lt}
 use Rattle.std.specs.List.{list_all}
 use Rattle.pt_base.specs.declared.span.Span.{Span}
 use Rattle.pt_base.specs.declared.ids.FnId.{FnId}
+use Rattle.pt_base.proofs.Booleans.{both_hold_first, both_hold_second}
+use Rattle.pt_base.proofs.Lists.{append_nil_first, append_nil_second as none_right}
 use Rattle.pt_tree.specs.ExpressionTree as e
 use Rattle.pt_tree.specs.SpecifierTree.{SpecTrees}
 use Rattle.pt_tree.specs.Facts.{expr_sound, exprs_sound, link_sound, links_sound, postfix_sound, postfixes_sound, specs_sound}
 use Rattle.type_rules.specs.declared.types.Type.{«Type»}
 use Rattle.typed_tree.specs.WellFormedExpression.{Names}
-use Rattle.typed_tree.proofs.WellFormedLemmas.{and_left, and_right}
 use Rattle.check_declarations.specs.declared.fault.TypeFault.{TypeFault}
 use Rattle.check_declarations.specs.Specifiers.{specified}
 use Rattle.check_declarations.specs.Structs.{Structs}
@@ -33,7 +34,6 @@ use Rattle.type_law.proofs.ExpressionsPostfixes.{FieldsAgree, indexed_sound, dot
 use Rattle.type_law.proofs.ExpressionsFields.{fields_agree, count_within, sound_prefix}
 use Rattle.type_law.proofs.ExpressionsNames.{CalledAt, named_sound, literal_sound, called_entry}
 use Rattle.type_law.proofs.ExpressionsCalls.{Passed, FromOn, from_here, from_next, from_none, from_start, argument_fits, argument_typed, called_sound, no_call, params_are}
-use Rattle.type_law.proofs.DeclarationsFaultLemmas.{none_left, none_right}
 
 -- ---- what is carried
 
@@ -90,7 +90,7 @@ record CastSound (structs : Structs) (c : CastBase) : Type 0 where
 cast_base_sound : SpecifiersAreSound → (structs : Structs) (specs : SpecTrees) → SoundStructs structs → (cast_specified structs specs).faults ≡ [] → CastSound structs (cast_specified structs specs)
 unfolding cast_specified
 cast_base_sound spec structs specs h z =
-    let r = spec false structs specs h (none_left (specified false structs specs).faults _ z) in
+    let r = spec false structs specs h (append_nil_first (specified false structs specs).faults _ z) in
     record { same = r.none refl; base = r.base }
 
 -- ---- the head of postfixes
@@ -101,7 +101,7 @@ postfixes_case : (n : Names) (env : Env) (structs : Structs) (o : Option FnId) (
     Well n structs (judge_postfixes env (headed o structs p).structs s o at (headed o structs p).operand ps)
 unfolding headed
 postfixes_case n env structs None s at p ps first called rest z =
-    let h = first (none_left p.faults _ z) in
+    let h = first (append_nil_first p.faults _ z) in
     let r = rest p.structs p.operand h.same h.known (none_right p.faults _ z) in
     record { same = r.same ∙ h.same; known = r.known }
 postfixes_case n env structs (Some f) s at p ps first called rest z =
@@ -117,41 +117,41 @@ mutual
   law spec n env structs (e.constant c) h ok z = record { same = refl; known = literal_sound n (length structs) c ok }
   law spec n env structs (e.prefix s op a) h ok z =
       let p : Judged = judge env structs a in
-      let r = law spec n env structs a h ok (none_left p.faults _ z) in
+      let r = law spec n env structs a h ok (append_nil_first p.faults _ z) in
       record { same = r.same; known = prefixed_sound n p.structs (length p.structs) op s (span_of a) p.operand r.known (none_right p.faults _ z) }
   law spec n env structs (e.cast s specs pointer a) h ok z =
       let c : CastBase = cast_specified structs specs in
       let p : Judged = judge env c.structs a in
-      let parts = none_left (c.faults ++ p.faults) _ z in
-      let b = cast_base_sound spec structs specs (sound_prefix [] structs h.more h.sound) (none_left c.faults p.faults parts) in
-      let r = law spec n env c.structs a (agrees_at n env structs c.structs b.same h) (and_right (specs_sound specs) (expr_sound a) ok) (none_right c.faults p.faults parts) in
+      let parts = append_nil_first (c.faults ++ p.faults) _ z in
+      let b = cast_base_sound spec structs specs (sound_prefix [] structs h.more h.sound) (append_nil_first c.faults p.faults parts) in
+      let r = law spec n env c.structs a (agrees_at n env structs c.structs b.same h) (both_hold_second (specs_sound specs) (expr_sound a) ok) (none_right c.faults p.faults parts) in
       let base = subst (λ (t : Structs). IsTrue (is_base (length t) c.base)) (sym r.same) b.base in
       record { same = r.same ∙ b.same; known = cast_sound n (length p.structs) pointer c.base s (span_of a) p.operand base r.known (none_right (c.faults ++ p.faults) _ z) }
   law spec n env structs (e.postfix s a ps) h ok z =
       let r = postfixes_case n env structs (function_called env a ps) s (span_of a) (judge env structs a) ps
-      (λ y. law spec n env structs a h (and_left (expr_sound a) (postfixes_sound ps) ok) y)
+      (λ y. law spec n env structs a h (both_hold_first (expr_sound a) (postfixes_sound ps) ok) y)
       (λ f y. called_entry n env structs h a ps f y)
-      (λ later k same head y. law_postfixes spec n env later s (function_called env a ps) (span_of a) k ps (agrees_at n env structs later same h) (and_right (expr_sound a) (postfixes_sound ps) ok) head y) z in
+      (λ later k same head y. law_postfixes spec n env later s (function_called env a ps) (span_of a) k ps (agrees_at n env structs later same h) (both_hold_second (expr_sound a) (postfixes_sound ps) ok) head y) z in
       record { same = r.same; known = r.known }
   law spec n env structs (e.chain s a ls) h ok z =
       let p : Judged = judge env structs a in
       let q : Linked = judge_links env p.structs s (is_some (sort_of ls)) (begun (span_of a) p.operand) ls in
-      let parts = none_left (p.faults ++ q.faults) _ z in
-      let r = law spec n env structs a h (and_left (expr_sound a) (links_sound ls) ok) (none_left p.faults q.faults parts) in
-      let t = law_links spec n env p.structs s (is_some (sort_of ls)) (begun (span_of a) p.operand) ls (agrees_at n env structs p.structs r.same h) (and_right (expr_sound a) (links_sound ls) ok) (begun_before n (length p.structs) (is_some (sort_of ls)) (span_of a) p.operand r.known) (none_right p.faults q.faults parts) in
+      let parts = append_nil_first (p.faults ++ q.faults) _ z in
+      let r = law spec n env structs a h (both_hold_first (expr_sound a) (links_sound ls) ok) (append_nil_first p.faults q.faults parts) in
+      let t = law_links spec n env p.structs s (is_some (sort_of ls)) (begun (span_of a) p.operand) ls (agrees_at n env structs p.structs r.same h) (both_hold_second (expr_sound a) (links_sound ls) ok) (begun_before n (length p.structs) (is_some (sort_of ls)) (span_of a) p.operand r.known) (none_right p.faults q.faults parts) in
       record { same = t.same ∙ r.same; known = chained_sound n (length q.structs) (sort_of ls) s q.far t.far (none_right (p.faults ++ q.faults) _ z) }
   law spec n env structs (e.choice s a b c) h ok z =
       let p : Judged = judge env structs a in
       let q : Judged = judge env p.structs b in
       let r : Judged = judge env q.structs c in
-      let parts = none_left (p.faults ++ q.faults ++ r.faults) _ z in
-      let two = none_left (p.faults ++ q.faults) r.faults parts in
-      let f = law spec n env structs a h (and_left (expr_sound a) (expr_sound b && expr_sound c) ok) (none_left p.faults q.faults two) in
-      let others = and_right (expr_sound a) (expr_sound b && expr_sound c) ok in
+      let parts = append_nil_first (p.faults ++ q.faults ++ r.faults) _ z in
+      let two = append_nil_first (p.faults ++ q.faults) r.faults parts in
+      let f = law spec n env structs a h (both_hold_first (expr_sound a) (expr_sound b && expr_sound c) ok) (append_nil_first p.faults q.faults two) in
+      let others = both_hold_second (expr_sound a) (expr_sound b && expr_sound c) ok in
       let agree = agrees_at n env structs p.structs f.same h in
-      let g = law spec n env p.structs b agree (and_left (expr_sound b) (expr_sound c) others) (none_right p.faults q.faults two) in
+      let g = law spec n env p.structs b agree (both_hold_first (expr_sound b) (expr_sound c) others) (none_right p.faults q.faults two) in
       let agree' = agrees_at n env p.structs q.structs g.same agree in
-      let i = law spec n env q.structs c agree' (and_right (expr_sound b) (expr_sound c) others) (none_right (p.faults ++ q.faults) r.faults parts) in
+      let i = law spec n env q.structs c agree' (both_hold_second (expr_sound b) (expr_sound c) others) (none_right (p.faults ++ q.faults) r.faults parts) in
       let known = known_at n q.structs r.structs p.operand i.same (known_at n p.structs q.structs p.operand g.same f.known) in
       let known' = known_at n q.structs r.structs q.operand i.same g.known in
       record {
@@ -161,10 +161,10 @@ mutual
   law spec n env structs (e.assign s op a b) h ok z =
       let p : Judged = judge env structs a in
       let q : Judged = judge env p.structs b in
-      let parts = none_left (p.faults ++ q.faults) _ z in
-      let f = law spec n env structs a h (and_left (expr_sound a) (expr_sound b) ok) (none_left p.faults q.faults parts) in
+      let parts = append_nil_first (p.faults ++ q.faults) _ z in
+      let f = law spec n env structs a h (both_hold_first (expr_sound a) (expr_sound b) ok) (append_nil_first p.faults q.faults parts) in
       let agree = agrees_at n env structs p.structs f.same h in
-      let g = law spec n env p.structs b agree (and_right (expr_sound a) (expr_sound b) ok) (none_right p.faults q.faults parts) in
+      let g = law spec n env p.structs b agree (both_hold_second (expr_sound a) (expr_sound b) ok) (none_right p.faults q.faults parts) in
       record {
         same = g.same ∙ f.same;
         known = assigned_sound n q.structs (length q.structs) op s (span_of a) (span_of b) p.operand q.operand (below n env q.structs (agrees_at n env p.structs q.structs g.same agree)) (known_at n p.structs q.structs p.operand g.same f.known) g.known (none_right (p.faults ++ q.faults) _ z);
@@ -175,14 +175,14 @@ mutual
   law_links spec n env structs s is_logical far (e.link_and l ls) h ok b z =
       let one : Linked = judge_link env structs s is_logical far l in
       let rest : Linked = judge_links env one.structs s is_logical one.far ls in
-      let f = law_link spec n env structs s is_logical far l h (and_left (link_sound l) (links_sound ls) ok) b (none_left one.faults rest.faults z) in
-      let g = law_links spec n env one.structs s is_logical one.far ls (agrees_at n env structs one.structs f.same h) (and_right (link_sound l) (links_sound ls) ok) f.far (none_right one.faults rest.faults z) in
+      let f = law_link spec n env structs s is_logical far l h (both_hold_first (link_sound l) (links_sound ls) ok) b (append_nil_first one.faults rest.faults z) in
+      let g = law_links spec n env one.structs s is_logical one.far ls (agrees_at n env structs one.structs f.same h) (both_hold_second (link_sound l) (links_sound ls) ok) f.far (none_right one.faults rest.faults z) in
       record { same = g.same ∙ f.same; far = g.far }
 
   law_link : SpecifiersAreSound → (n : Names) (env : Env) (structs : Structs) (s : Span) (is_logical : Bool) (far : SoFar) (l : e.LinkTree) → Agrees env structs n → IsTrue (link_sound l) → Before n (length structs) is_logical far → (judge_link env structs s is_logical far l).faults ≡ [] → WellLinked n structs is_logical (judge_link env structs s is_logical far l)
   law_link spec n env structs s is_logical far (e.link span op a) h ok b z =
       let q : Judged = judge env structs a in
-      let r = law spec n env structs a h ok (none_left q.faults _ z) in
+      let r = law spec n env structs a h ok (append_nil_first q.faults _ z) in
       let before = subst (λ (t : Structs). Before n (length t) is_logical far) (sym r.same) b in
       let w = value_sound n (length q.structs) (span_of a) q.operand r.known in
       let under = links.link_sound n (length q.structs) is_logical op (joined s span) far (value_of q.operand) (value_tree (span_of a) q.operand) far.span (span_of a) (below n env q.structs (agrees_at n env structs q.structs r.same h)) before w (none_right q.faults _ z) in
@@ -194,14 +194,14 @@ mutual
   law_postfixes spec n env structs s callee at k (e.postfix_and p ps) h ok head z =
       let one : Judged = judge_postfix env structs s callee at k p in
       let rest : Judged = judge_postfixes env one.structs s None (joined s (postfix_span p)) one.operand ps in
-      let f = law_postfix spec n env structs s callee at k p h (and_left (postfix_sound p) (postfixes_sound ps) ok) (head_one n env (length structs) callee k p ps head) (none_left one.faults rest.faults z) in
-      let g = law_postfixes spec n env one.structs s None (joined s (postfix_span p)) one.operand ps (agrees_at n env structs one.structs f.same h) (and_right (postfix_sound p) (postfixes_sound ps) ok) f.known (none_right one.faults rest.faults z) in
+      let f = law_postfix spec n env structs s callee at k p h (both_hold_first (postfix_sound p) (postfixes_sound ps) ok) (head_one n env (length structs) callee k p ps head) (append_nil_first one.faults rest.faults z) in
+      let g = law_postfixes spec n env one.structs s None (joined s (postfix_span p)) one.operand ps (agrees_at n env structs one.structs f.same h) (both_hold_second (postfix_sound p) (postfixes_sound ps) ok) f.known (none_right one.faults rest.faults z) in
       record { same = g.same ∙ f.same; known = g.known }
 
   law_postfix : SpecifiersAreSound → (n : Names) (env : Env) (structs : Structs) (s : Span) (callee : Option FnId) (at : Span) (k : Known) (p : e.PostfixTree) → Agrees env structs n → IsTrue (postfix_sound p) → HeadOne n env (length structs) callee k p → (judge_postfix env structs s callee at k p).faults ≡ [] → Well n structs (judge_postfix env structs s callee at k p)
   law_postfix spec n env structs s None at k (e.index span a) h ok head z =
       let q : Judged = judge env structs a in
-      let r = law spec n env structs a h ok (none_left q.faults _ z) in
+      let r = law spec n env structs a h ok (append_nil_first q.faults _ z) in
       record { same = r.same; known = indexed_sound n (length q.structs) (joined s span) at k (span_of a) q.operand (known_at n structs q.structs k r.same head) r.known (none_right q.faults _ z) }
   law_postfix spec n env structs s None at k (e.call span es) h ok head z =
       let q : Arguments = judge_arguments env structs (params_for env None) 0 es in
@@ -214,7 +214,7 @@ mutual
   law_postfix spec n env structs s (Some f) at k (e.call span es) h ok head z =
       let params = params_for env (Some f) in
       let q : Arguments = judge_arguments env structs (params_for env (Some f)) 0 es in
-      let r = law_arguments spec n env structs (params_for env (Some f)) 0 (params_for env (Some f)) es h ok (from_start (params_for env (Some f))) (params_are n env structs h f head.entry) (none_left q.faults _ z) in
+      let r = law_arguments spec n env structs (params_for env (Some f)) 0 (params_for env (Some f)) es h ok (from_start (params_for env (Some f))) (params_are n env structs h f head.entry) (append_nil_first q.faults _ z) in
       record { same = r.same; known = called_sound n env q.structs (agrees_at n env structs q.structs r.same h) f k.ty (joined s span) q.trees head.entry r.passed (none_right q.faults _ z) }
   law_postfix spec n env structs s (Some f) at k (e.dot span w) h ok head z = let y : false ≡ true = head.call in cc
   law_postfix spec n env structs s (Some f) at k (e.arrow span w) h ok head z = let y : false ≡ true = head.call in cc
@@ -226,22 +226,22 @@ mutual
   law_arguments spec n env structs params k [] (e.expr_and a es) h ok on are z =
       let p : Judged = judge env structs a in
       let others : Arguments = judge_arguments env p.structs params (k + 1) es in
-      let parts = none_left (p.faults ++ argument_faults (slice_get params k) (value_of p.operand) (span_of a)) others.faults z in
-      let r = law spec n env structs a h (and_left (expr_sound a) (exprs_sound es) ok) (none_left p.faults _ parts) in
-      let t = law_arguments spec n env p.structs params (k + 1) [] es (agrees_at n env structs p.structs r.same h) (and_right (expr_sound a) (exprs_sound es) ok) (from_none params k on) refl (none_right (p.faults ++ argument_faults (slice_get params k) (value_of p.operand) (span_of a)) others.faults z) in
+      let parts = append_nil_first (p.faults ++ argument_faults (slice_get params k) (value_of p.operand) (span_of a)) others.faults z in
+      let r = law spec n env structs a h (both_hold_first (expr_sound a) (exprs_sound es) ok) (append_nil_first p.faults _ parts) in
+      let t = law_arguments spec n env p.structs params (k + 1) [] es (agrees_at n env structs p.structs r.same h) (both_hold_second (expr_sound a) (exprs_sound es) ok) (from_none params k on) refl (none_right (p.faults ++ argument_faults (slice_get params k) (value_of p.operand) (span_of a)) others.faults z) in
       record { same = t.same ∙ r.same; passed = (argument_typed n (length p.structs) (slice_get params k) (value_of p.operand) (value_tree (span_of a) p.operand) (from_here params k [] on) (value_sound n (length p.structs) (span_of a) p.operand r.known), t.passed) }
   law_arguments spec n env structs params k (q ∷ rest) (e.expr_and a es) h ok on are z =
       let p : Judged = judge env structs a in
       let others : Arguments = judge_arguments env p.structs params (k + 1) es in
-      let parts = none_left (p.faults ++ argument_faults (slice_get params k) (value_of p.operand) (span_of a)) others.faults z in
-      let r = law spec n env structs a h (and_left (expr_sound a) (exprs_sound es) ok) (none_left p.faults _ parts) in
+      let parts = append_nil_first (p.faults ++ argument_faults (slice_get params k) (value_of p.operand) (span_of a)) others.faults z in
+      let r = law spec n env structs a h (both_hold_first (expr_sound a) (exprs_sound es) ok) (append_nil_first p.faults _ parts) in
       let agree = agrees_at n env structs p.structs r.same h in
       let are' = subst (λ (t : Structs). IsTrue (list_all (is_parameter (length t)) (q ∷ rest))) (sym r.same) are in
-      let t = law_arguments spec n env p.structs params (k + 1) rest es agree (and_right (expr_sound a) (exprs_sound es) ok) (from_next params k q rest on) (and_right (is_parameter (length p.structs) q) _ are') (none_right (p.faults ++ argument_faults (slice_get params k) (value_of p.operand) (span_of a)) others.faults z) in
+      let t = law_arguments spec n env p.structs params (k + 1) rest es agree (both_hold_second (expr_sound a) (exprs_sound es) ok) (from_next params k q rest on) (both_hold_second (is_parameter (length p.structs) q) _ are') (none_right (p.faults ++ argument_faults (slice_get params k) (value_of p.operand) (span_of a)) others.faults z) in
       record {
         same = t.same ∙ r.same;
         passed = (
-          argument_fits n (length p.structs) (slice_get params k) q (value_of p.operand) (value_tree (span_of a) p.operand) (span_of a) (below n env p.structs agree) (from_here params k (q ∷ rest) on) (and_left (is_parameter (length p.structs) q) _ are') (value_sound n (length p.structs) (span_of a) p.operand r.known) (none_right p.faults _ parts),
+          argument_fits n (length p.structs) (slice_get params k) q (value_of p.operand) (value_tree (span_of a) p.operand) (span_of a) (below n env p.structs agree) (from_here params k (q ∷ rest) on) (both_hold_first (is_parameter (length p.structs) q) _ are') (value_sound n (length p.structs) (span_of a) p.operand r.known) (none_right p.faults _ parts),
           t.passed,
         );
       }

@@ -3,6 +3,7 @@ use Rattle.std.proofs.Common.{◌≡◌, ◌∙◌, ℕ, refl, ap, sym, subst, L
 use Rattle.std.specs.Prelude.{IsTrue, option_map}
 use Rattle.pt_base.specs.declared.span.Span.{Span}
 use Rattle.pt_base.specs.declared.int_type.IntType.{IntType}
+use Rattle.pt_base.proofs.Booleans.{both_hold, both_hold_first, both_hold_second, true_and_false}
 use Rattle.pt_tree.specs.declared.signature.Elem.{Elem}
 use Rattle.pt_tree.specs.declared.signature.Elem.TheVariants as elem
 use Rattle.type_rules.specs.declared.types.Type.{«Type»}
@@ -12,13 +13,13 @@ use Rattle.typed_tree.specs.declared.types.VarTy.TheVariants as v
 use Rattle.typed_tree.specs.ExpressionTree.{ExprTree, typed, StepTree, item, step_trees, no_steps, RootTree, deref, PlaceTree, place}
 use Rattle.typed_tree.specs.TypeTests.{same_types, both_elem, item_of, integer_of, pointee_of, points_to_const, type_of_elem}
 use Rattle.typed_tree.specs.WellFormedExpression.{Names, is_typed, ty_of, is_elem, place_fits, place_type, place_const, is_object, is_named, ends_in_field, assigned_type, root_fits, root_type, item_type}
-use Rattle.typed_tree.proofs.WellFormedLemmas.{and_left, and_right, and_both}
+use Rattle.typed_tree.proofs.SameTypes.{elem_self}
 use Rattle.check_declarations.specs.Objects.{is_struct}
 use Rattle.check_expressions.specs.Operands.{Elaboration, value, object, pointed, moved, element, Known, var_type, root_of, steps_of, place_of, read_form, read_object, read_tree, value_tree, value_of, plain}
 use Rattle.type_law.specs.DeclarationsTypes.{is_good, is_variable}
 use Rattle.type_law.specs.ExpressionsLaws.{SoundValue, Fitted}
-use Rattle.type_law.proofs.ExpressionsLists.{only_where, true≢false}
-use Rattle.type_law.proofs.ExpressionsSameTypes.{same_elem-self, same_types-equal}
+use Rattle.type_law.proofs.ExpressionsLists.{only_where}
+use Rattle.type_law.proofs.ExpressionsSameTypes.{same_types-equal}
 use Rattle.type_law.proofs.ExpressionsSteps.{steps_fit-last, steps_type-last, element_is_object}
 
 -- a place of an object of this type, which is const in the tree only where it is known as const
@@ -74,7 +75,7 @@ good-variable structs Bad fixed h = cc
 good-variable structs Void fixed h = cc
 good-variable structs (Int t) fixed h = refl
 good-variable structs (Struct m) fixed h = h
-good-variable structs (Array e count) fixed h = and_left (is_elem structs (Some e)) _ h
+good-variable structs (Array e count) fixed h = both_hold_first (is_elem structs (Some e)) _ h
 good-variable structs (Pointer e f) fixed h = h
 
 pub elem-variable : (structs : ℕ) (e : Elem) → IsTrue (is_elem structs (Some e)) → IsTrue (is_variable structs (elem_type e))
@@ -108,7 +109,7 @@ pub record SoundPlace (n : Names) (structs : ℕ) (ty : «Type») (fixed designa
 pub pointed-object : (n : Names) (structs : ℕ) (ty : «Type») (fixed : Bool) (x : ExprTree) (s : Span) → SoundPointed n structs ty fixed x → SoundObject n structs ty fixed (place (deref x s) no_steps)
 unfolding var_type
 pointed-object n structs ty fixed x s h = record {
-  fits = and_both (is_typed n x) true h.pointer.typed refl;
+  fits = both_hold (is_typed n x) true h.pointer.typed refl;
   has = ap (λ t. option_map type_of_elem (pointee_of t)) h.pointer.has ∙ elem-var_type h.of ∙ ap var_type h.is;
   good = subst (λ t. IsTrue (is_variable structs t)) h.is (elem-variable structs h.of h.good);
   kept = λ c. sym (ap points_to_const h.pointer.has) ∙ c;
@@ -117,20 +118,20 @@ pointed-object n structs ty fixed x s h = record {
 pub element-object : (n : Names) (structs : ℕ) (ty : «Type») (fixed : Bool) (root : RootTree) (steps : List StepTree) (i : ExprTree) (s : Span) → SoundElement n structs ty fixed root steps i → SoundObject n structs ty fixed (place root (step_trees (steps ++ item i s ∷ [])))
 unfolding var_type
 element-object n structs ty fixed root steps i s h = record {
-  fits = and_both (root_fits n root) _ (and_left (root_fits n root) _ h.array.fits) (steps_fit-last n steps (item i s) (and_right (root_fits n root) _ h.array.fits) (and_both (is_typed n i) true h.at.typed refl));
+  fits = both_hold (root_fits n root) _ (both_hold_first (root_fits n root) _ h.array.fits) (steps_fit-last n steps (item i s) (both_hold_second (root_fits n root) _ h.array.fits) (both_hold (is_typed n i) true h.at.typed refl));
   has =
       steps_type-last n.structs (root_type n root) steps (item i s)
       ∙ ap (λ t. item_type t (integer_of (ty_of i))) h.array.has
       ∙ ap (λ t. item_type (Some (v.Array h.of h.count)) (integer_of t)) h.at.has
       ∙ elem-var_type h.of ∙ ap var_type h.is;
-  good = subst (λ t. IsTrue (is_variable structs t)) h.is (elem-variable structs h.of (and_left (is_elem structs (Some h.of)) _ h.array.good));
+  good = subst (λ t. IsTrue (is_variable structs t)) h.is (elem-variable structs h.of (both_hold_first (is_elem structs (Some h.of)) _ h.array.good));
   kept = h.array.kept;
 }
 
 -- what isn't just a value, or is a struct, is a place
 pub place_sound : (n : Names) (structs : ℕ) (ty : «Type») (fixed designates : Bool) (t : Elaboration) → SoundTree n structs ty fixed designates t → (value_type ty false ≡ ty → designates ≡ false → is_struct ty ≡ true) → SoundPlace n structs ty fixed designates (place_of t)
 unfolding root_of steps_of
-place_sound n structs ty fixed designates (value x) h k = record { fits = and_both (is_typed n x) true h.fits.typed refl; has = h.stored (k h.whole h.none); written = λ d. true≢false designates d h.none; kept = λ c. cc }
+place_sound n structs ty fixed designates (value x) h k = record { fits = both_hold (is_typed n x) true h.fits.typed refl; has = h.stored (k h.whole h.none); written = λ d. true_and_false designates d h.none; kept = λ c. cc }
 place_sound n structs ty fixed designates (object root steps) h k = record { fits = h.object.fits; has = h.object.has; written = h.written; kept = h.object.kept }
 place_sound n structs ty fixed designates (pointed x s) h k =
     let o = pointed-object n structs ty fixed x s h in
@@ -144,7 +145,7 @@ place_sound n structs ty fixed designates (element root steps at i s) h k =
 
 -- what designates an object is of the type of one
 pub designated_variable : (n : Names) (structs : ℕ) (ty : «Type») (fixed designates : Bool) (t : Elaboration) → SoundTree n structs ty fixed designates t → designates ≡ true → IsTrue (is_variable structs ty)
-designated_variable n structs ty fixed designates (value x) h d = true≢false designates d h.none
+designated_variable n structs ty fixed designates (value x) h d = true_and_false designates d h.none
 designated_variable n structs ty fixed designates (object root steps) h d = h.object.good
 designated_variable n structs ty fixed designates (pointed x s) h d = (pointed-object n structs ty fixed x s h).good
 designated_variable n structs ty fixed designates (moved x) h d = subst (λ t. IsTrue (is_variable structs t)) h.is (elem-variable structs h.of h.good)
@@ -156,10 +157,10 @@ read_fits : (n : Names) (structs : ℕ) (s : Span) (ty : «Type») (fixed : Bool
 unfolding read_form var_type
 read_fits n structs s Bad fixed p h = let k : false ≡ true = h.good in cc
 read_fits n structs s Void fixed p h = let k : false ≡ true = h.good in cc
-read_fits n structs s (Int t) fixed p h = record { typed = and_both (place_fits n p) _ h.fits (and_both (same_types (place_type n p) (Some (v.Int t))) true (same_types-equal _ _ h.has) refl); has = refl }
-read_fits n structs s (Struct m) fixed p h = record { typed = and_both (place_fits n p) _ h.fits (and_both (same_types (place_type n p) (Some (v.Struct m))) true (same_types-equal _ _ h.has) refl); has = refl }
-read_fits n structs s (Array e count) fixed p h = record { typed = and_both (place_fits n p) _ h.fits (and_both (both_elem (item_of (place_type n p)) (Some e)) _ (ap (λ t. both_elem (item_of t) (Some e)) h.has ∙ same_elem-self e) (only_where (place_const n p) fixed h.kept)); has = refl }
-read_fits n structs s (Pointer e f) fixed p h = record { typed = and_both (place_fits n p) _ h.fits (and_both (same_types (place_type n p) (Some (v.Pointer e f))) true (same_types-equal _ _ h.has) refl); has = refl }
+read_fits n structs s (Int t) fixed p h = record { typed = both_hold (place_fits n p) _ h.fits (both_hold (same_types (place_type n p) (Some (v.Int t))) true (same_types-equal _ _ h.has) refl); has = refl }
+read_fits n structs s (Struct m) fixed p h = record { typed = both_hold (place_fits n p) _ h.fits (both_hold (same_types (place_type n p) (Some (v.Struct m))) true (same_types-equal _ _ h.has) refl); has = refl }
+read_fits n structs s (Array e count) fixed p h = record { typed = both_hold (place_fits n p) _ h.fits (both_hold (both_elem (item_of (place_type n p)) (Some e)) _ (ap (λ t. both_elem (item_of t) (Some e)) h.has ∙ elem_self e) (only_where (place_const n p) fixed h.kept)); has = refl }
+read_fits n structs s (Pointer e f) fixed p h = record { typed = both_hold (place_fits n p) _ h.fits (both_hold (same_types (place_type n p) (Some (v.Pointer e f))) true (same_types-equal _ _ h.has) refl); has = refl }
 
 record Good (n : Names) (structs : ℕ) (ty : «Type») (x : ExprTree) : Type 0 where
   fits : Fitted n ty x

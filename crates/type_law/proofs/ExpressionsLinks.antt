@@ -4,6 +4,7 @@ use Rattle.std.specs.Prelude.{IsTrue, ◌&&◌}
 use Rattle.std.proofs.lemmas.Bool.Decides.{nat_tests}
 use Rattle.pt_base.specs.declared.span.Span.{Span}
 use Rattle.pt_base.specs.declared.int_type.IntType.TheVariants as int
+use Rattle.pt_base.proofs.Booleans.{both_hold, both_hold_first, both_hold_second}
 use Rattle.pt_tree.specs.declared.operator.BinaryOp.{BinaryOp}
 use Rattle.type_rules.specs.declared.types.Type.{«Type»}
 use Rattle.type_rules.specs.declared.types.Type.TheVariants.{Bad, Void, Int, Struct, Array, Pointer}
@@ -18,7 +19,6 @@ use Rattle.typed_tree.specs.ExpressionTree.{ExprTree, LinkTree, link, link_trees
 use Rattle.typed_tree.specs.TypeTests as test
 use Rattle.typed_tree.specs.TypeRules.{stepped}
 use Rattle.typed_tree.specs.WellFormedExpression.{Names, is_typed, ty_of, links_fit, has_links, operands_fit, has_operands}
-use Rattle.typed_tree.proofs.WellFormedLemmas.{and_left, and_right, and_both}
 use Rattle.check_declarations.specs.Objects.{is_struct}
 use Rattle.check_expressions.specs.Links.{SoFar, integer_op, logical_of, step_of, converted_by, rule_faults, link_rule, begun, link_type, has_none, first_by, linked, operand_of, links_tree, chained}
 use Rattle.check_expressions.specs.Operands.{Known, var_type, plain}
@@ -41,12 +41,12 @@ leads-last n a (link s ty op b ∷ rest) t l u h k = (h.0, h.1, leads-last n (So
 
 leads-fit : (n : Names) (a : Option VarTy) (ls : List LinkTree) (t : Option VarTy) → Leads n a ls t → IsTrue (links_fit n a (link_trees ls) t)
 leads-fit n a [] t h = same_types-equal a t h
-leads-fit n a (link s ty op b ∷ rest) t h = and_both (is_typed n b) _ h.0 (and_both (test.same_types (stepped a op (ty_of b)) (Some ty)) _ (same_types-equal (stepped a op (ty_of b)) (Some ty) h.1) (leads-fit n (Some ty) rest t h.2))
+leads-fit n a (link s ty op b ∷ rest) t h = both_hold (is_typed n b) _ h.0 (both_hold (test.same_types (stepped a op (ty_of b)) (Some ty)) _ (same_types-equal (stepped a op (ty_of b)) (Some ty) h.1) (leads-fit n (Some ty) rest t h.2))
 
 operands-last : (n : Names) (ls : List LinkTree) (l : LinkTree) → IsTrue (operands_fit n (operand_trees (map operand_of ls))) → IsTrue (operands_fit n (operand_trees (map operand_of (l ∷ [])))) → IsTrue (operands_fit n (operand_trees (map operand_of (ls ++ l ∷ []))))
 unfolding operand_of
 operands-last n [] l h k = k
-operands-last n (link s ty op b ∷ rest) l h k = and_both (is_typed n b && test.is_scalar (ty_of b)) _ (and_left (is_typed n b && test.is_scalar (ty_of b)) _ h) (operands-last n rest l (and_right (is_typed n b && test.is_scalar (ty_of b)) _ h) k)
+operands-last n (link s ty op b ∷ rest) l h k = both_hold (is_typed n b && test.is_scalar (ty_of b)) _ (both_hold_first (is_typed n b && test.is_scalar (ty_of b)) _ h) (operands-last n rest l (both_hold_second (is_typed n b && test.is_scalar (ty_of b)) _ h) k)
 
 some-last : (ls : List LinkTree) (l : LinkTree) → has_none (ls ++ l ∷ []) ≡ false
 unfolding has_none
@@ -164,7 +164,7 @@ truths_on n structs op sp far w y g s os h k =
     record {
       typed = subst (λ x. IsTrue (is_typed n x)) (sym first) g;
       scalar = subst (λ x. IsTrue (test.is_scalar (ty_of x))) (sym first) s;
-      operands = operands-last n far.links l os (and_both (is_typed n y && test.is_scalar (ty_of y)) true (and_both (is_typed n y) _ h.typed (scalar_has w.ty y k h.has)) refl);
+      operands = operands-last n far.links l os (both_hold (is_typed n y && test.is_scalar (ty_of y)) true (both_hold (is_typed n y) _ h.typed (scalar_has w.ty y k h.has)) refl);
       truth = refl;
       some = some-last far.links l;
     }
@@ -213,7 +213,7 @@ going_sound : (n : Names) (structs : ℕ) (s : Span) (far : SoFar) → Going n s
 unfolding links_tree
 going_sound n structs s far h =
     plain_sound n structs far.value.ty _
-    (record { typed = and_both (is_typed n far.first) _ h.typed (and_both (has_links (link_trees far.links)) _ (some-links far.links h.some) (leads-fit n (ty_of far.first) far.links (var_type far.value.ty) h.leads)); has = refl })
+    (record { typed = both_hold (is_typed n far.first) _ h.typed (both_hold (has_links (link_trees far.links)) _ (some-links far.links h.some) (leads-fit n (ty_of far.first) far.links (var_type far.value.ty) h.leads)); has = refl })
     (ready_good structs far.value.ty h.ready)
     (ready_whole structs far.value.ty h.ready)
     (λ k. no_struct far.value.ty (ready_plain structs far.value.ty h.ready) k)
@@ -224,7 +224,7 @@ truths_sound n structs op s far h =
     let x : «Type» → ExprTree = λ t. links_tree (Some op) s (var_type t) far.first far.links in
     subst (λ (t : «Type»). SoundKnown n structs (plain t (x t))) (sym h.truth)
     (plain_sound n structs (Int int.Int) (x (Int int.Int))
-    (record { typed = and_both (is_typed n far.first && test.is_scalar (ty_of far.first)) _ (and_both (is_typed n far.first) _ h.typed h.scalar) (and_both (has_operands (operand_trees (map operand_of far.links)) && operands_fit n (operand_trees (map operand_of far.links))) true (and_both (has_operands (operand_trees (map operand_of far.links))) _ (some-operands far.links h.some) h.operands) refl); has = refl })
+    (record { typed = both_hold (is_typed n far.first && test.is_scalar (ty_of far.first)) _ (both_hold (is_typed n far.first) _ h.typed h.scalar) (both_hold (has_operands (operand_trees (map operand_of far.links)) && operands_fit n (operand_trees (map operand_of far.links))) true (both_hold (has_operands (operand_trees (map operand_of far.links))) _ (some-operands far.links h.some) h.operands) refl); has = refl })
     refl refl (λ k. cc))
 
 whole_sound : (n : Names) (structs : ℕ) (op : Option LogicalOp) (s : Span) (far : SoFar) → Under n structs (is_some op) far → SoundKnown n structs (plain far.value.ty (links_tree op s (var_type far.value.ty) far.first far.links))

@@ -10,7 +10,3 @@ only_where false b h = refl
 pub nowhere_where : (a b : Bool) → (a ≡ true → b ≡ true) → b ≡ false → IsTrue (not a)
 nowhere_where true b h e = let k = h refl in cc
 nowhere_where false b h e = refl
-
-pub true≢false : {X : Type 0} (b : Bool) → b ≡ true → b ≡ false → X
-true≢false true h k = cc
-true≢false false h k = cc

@@ -2,6 +2,7 @@
 use Rattle.std.proofs.Common.{◌≡◌, ◌∙◌, refl, ap, [], ◌∷◌, Bool, Option, Some}
 use Rattle.pt_base.specs.declared.span.Span.{Span}
 use Rattle.pt_base.specs.declared.int_type.IntType.{IntType}
+use Rattle.pt_base.proofs.Booleans.{both_hold}
 use Rattle.pt_tree.specs.declared.signature.Elem.{Elem}
 use Rattle.type_rules.specs.declared.types.Type.TheVariants.{Int, Pointer}
 use Rattle.typed_tree.specs.declared.link.LinkStep.TheVariants as link_step
@@ -14,7 +15,6 @@ use Rattle.typed_tree.specs.WellFormedExpression.{Names, is_typed, ty_of}
 use Rattle.check_expressions.specs.Operands.{var_type}
 use Rattle.type_law.specs.ExpressionsLaws.{Fitted}
 use Rattle.type_law.proofs.ExpressionsSameTypes.{same_types-self, same_types-equal}
-use Rattle.typed_tree.proofs.WellFormedLemmas.{and_both}
 
 pub move_fits : (n : Names) (s sp : Span) (e : Elem) (f back : Bool) (b : IntType) (x y : ExprTree) → Fitted n (Pointer e f) x → Fitted n (Int b) y → Fitted n (Pointer e f) (typed s (Some (v.Pointer e f)) (chain x (link_trees (link sp (v.Pointer e f) (link_step.Move back) y ∷ []))))
 unfolding var_type
@@ -22,7 +22,7 @@ move_fits n s sp e f back b x y g h =
     let p : Option VarTy = Some (v.Pointer e f) in
     let is : stepped (ty_of x) (link_step.Move back) (ty_of y) ≡ p = ap (λ z. stepped z (link_step.Move back) (ty_of y)) g.has ∙ ap (λ z. stepped p (link_step.Move back) z) h.has in
     record {
-      typed = and_both (is_typed n x) _ g.typed (and_both (is_typed n y) _ h.typed (and_both (test.same_types (stepped (ty_of x) (link_step.Move back) (ty_of y)) p) _ (same_types-equal _ p is) (same_types-self p)));
+      typed = both_hold (is_typed n x) _ g.typed (both_hold (is_typed n y) _ h.typed (both_hold (test.same_types (stepped (ty_of x) (link_step.Move back) (ty_of y)) p) _ (same_types-equal _ p is) (same_types-self p)));
       has = refl;
     }
 
@@ -32,6 +32,6 @@ move_by_fits n s sp e f a x y g h =
     let p : Option VarTy = Some (v.Pointer e f) in
     let is : stepped (ty_of x) link_step.MoveBy (ty_of y) ≡ p = ap (λ z. stepped z link_step.MoveBy (ty_of y)) g.has ∙ ap (λ z. stepped (Some (v.Int a)) link_step.MoveBy z) h.has in
     record {
-      typed = and_both (is_typed n x) _ g.typed (and_both (is_typed n y) _ h.typed (and_both (test.same_types (stepped (ty_of x) link_step.MoveBy (ty_of y)) p) _ (same_types-equal _ p is) (same_types-self p)));
+      typed = both_hold (is_typed n x) _ g.typed (both_hold (is_typed n y) _ h.typed (both_hold (test.same_types (stepped (ty_of x) link_step.MoveBy (ty_of y)) p) _ (same_types-equal _ p is) (same_types-self p)));
       has = refl;
     }

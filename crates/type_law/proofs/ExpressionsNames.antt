@@ -7,6 +7,7 @@ use Rattle.std.proofs.lemmas.Option.{slice_get_within, get_or_from_slice_get}
 use Rattle.std.proofs.lemmas.List.Elements.{All-head, All-tail}
 use Rattle.pt_base.specs.declared.span.Span.{Span}
 use Rattle.pt_base.specs.declared.ids.FnId.{FnId}
+use Rattle.pt_base.proofs.Booleans.{both_hold}
 use Rattle.pt_tree.specs.declared.word.Word.{Word}
 use Rattle.pt_tree.specs.declared.word.Constant.{Constant}
 use Rattle.pt_tree.specs.Facts.{is_sound}
@@ -25,7 +26,6 @@ use Rattle.check_expressions.specs.Operands.{var_type}
 use Rattle.check_expressions.specs.Postfixes.{function_meant, function_named, is_called, function_called}
 use Rattle.type_law.specs.ExpressionsAgreement.{HasType, is_entry, AreEntries, Agrees}
 use Rattle.type_law.proofs.ExpressionsKnown.{SoundKnown}
-use Rattle.typed_tree.proofs.WellFormedLemmas.{and_both}
 
 -- ---- what a name means is an entry
 
@@ -67,7 +67,7 @@ there (x ∷ xs) (suc k) h = there xs k (grind (arith, nat_tests))
 object_sound : (n : Names) (count : ℕ) (o : Object) (root : RootTree) → IsTrue (root_fits n root) → IsTrue (is_object (place root no_steps)) → IsTrue (is_named root) → HasType count o.ty (root_type n root) → (root_const n root ≡ true → o.fixed ≡ true) → SoundKnown n count (an_object o root)
 object_sound n count o root f i d h c = record {
   tree = record {
-    object = record { fits = and_both (root_fits n root) true f refl; has = h.1; good = h.0; kept = c };
+    object = record { fits = both_hold (root_fits n root) true f refl; has = h.1; good = h.0; kept = c };
     written = λ x. i;
     ends = d;
   };

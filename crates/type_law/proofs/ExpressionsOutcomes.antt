@@ -2,6 +2,7 @@
 use Rattle.std.proofs.Common.{◌≡◌, ◌∙◌, refl, ap, sym, subst, [], Bool, true, false, if◌then◌else◌, is_some}
 use Rattle.std.specs.Prelude.{IsTrue, ◌||◌}
 use Rattle.std.proofs.Math.Bool.{beq}
+use Rattle.std.proofs.lemmas.Bool.{or_from}
 use Rattle.pt_base.specs.declared.span.Span.{Span}
 use Rattle.pt_base.specs.IntTypes.{promoted, usual}
 use Rattle.pt_base.specs.declared.int_type.IntType.{IntType}
@@ -60,10 +61,6 @@ good_known structs (Int a) h = refl
 good_known structs (Struct a) h = refl
 good_known structs (Array e c) h = refl
 good_known structs (Pointer e f) h = refl
-
-pub neither : (a b : Bool) → a ≡ false → b ≡ false → (a || b) ≡ false
-neither true b h k = cc
-neither false b h k = k
 
 -- ---- one family of operators after the other
 
@@ -184,7 +181,7 @@ pair_outcome Remainder s t m k l q o g h z = arithmetic_outcome Remainder s t m 
 pub binary_outcome : (op : BinaryOp) (s t : «Type») (m k : Bool) (l q : Span) → is_some (logical_of op) ≡ false → is_bad s ≡ false → is_bad t ≡ false → rule_faults (binary_rule op (val s m) (val t k)) l q ≡ [] → Outcome op s m t k (binary_rule op (val s m) (val t k))
 unfolding binary_rule
 binary_outcome op s t m k l q o g h z =
-    let j = taken (is_bad s || is_bad t) (takes op s) (takes op t) (pair_rule op (val s m) (val t k)) l q (neither (is_bad s) (is_bad t) g h) z in
+    let j = taken (is_bad s || is_bad t) (takes op s) (takes op t) (pair_rule op (val s m) (val t k)) l q (or_from (is_bad s) (is_bad t) g h) z in
     subst (λ r. Outcome op s m t k r) (sym j.same) (pair_outcome op s t m k l q o j.left_is j.right_is j.fine)
 
 -- ---- && and ||
@@ -197,10 +194,10 @@ pub record BothScalar (r : Rule) (s t : «Type») : Type 0 where
 pub logical_outcome : (op : BinaryOp) (s t : «Type») (m k : Bool) (l q : Span) → is_some (logical_of op) ≡ true → is_bad s ≡ false → is_bad t ≡ false → rule_faults (binary_rule op (val s m) (val t k)) l q ≡ [] → BothScalar (binary_rule op (val s m) (val t k)) s t
 unfolding binary_rule logical_of
 logical_outcome LogicalOr s t m k l q o g h z =
-    let j = taken (is_bad s || is_bad t) (is_scalar s) (is_scalar t) rule.Logical l q (neither (is_bad s) (is_bad t) g h) z in
+    let j = taken (is_bad s || is_bad t) (is_scalar s) (is_scalar t) rule.Logical l q (or_from (is_bad s) (is_bad t) g h) z in
     record { is = j.same; left = j.left_is; right = j.right_is }
 logical_outcome LogicalAnd s t m k l q o g h z =
-    let j = taken (is_bad s || is_bad t) (is_scalar s) (is_scalar t) rule.Logical l q (neither (is_bad s) (is_bad t) g h) z in
+    let j = taken (is_bad s || is_bad t) (is_scalar s) (is_scalar t) rule.Logical l q (or_from (is_bad s) (is_bad t) g h) z in
     record { is = j.same; left = j.left_is; right = j.right_is }
 logical_outcome BitOr s t m k l q o g h z = cc
 logical_outcome BitXor s t m k l q o g h z = cc

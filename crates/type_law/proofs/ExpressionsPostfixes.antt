@@ -1,8 +1,10 @@
 -- What stands behind an operand: elements, parts and calls, without a fault.
 use Rattle.std.proofs.Common.{◌≡◌, ◌∙◌, ◌⊎◌, inl, inr, ℕ, refl, ap, sym, subst, List, [], Bool, true, false, Option, Some, None, length}
 use Rattle.std.specs.Prelude.{IsTrue, ◌||◌}
+use Rattle.std.proofs.lemmas.Bool.{or_from}
 use Rattle.pt_base.specs.declared.span.Span.{Span}
 use Rattle.pt_base.specs.declared.int_type.IntType.{IntType}
+use Rattle.pt_base.proofs.Booleans.{both_hold, both_hold_first, both_hold_second}
 use Rattle.pt_tree.specs.declared.signature.Elem.{Elem}
 use Rattle.pt_tree.specs.declared.signature.Elem.TheVariants as elem
 use Rattle.pt_tree.specs.declared.word.Word.{Word}
@@ -16,7 +18,6 @@ use Rattle.typed_tree.specs.declared.types.VarTy.TheVariants as v
 use Rattle.typed_tree.specs.declared.link.LinkStep.TheVariants as link_step
 use Rattle.typed_tree.specs.ExpressionTree.{ExprTree, RootTree, StepTree, field, deref, place, step_trees}
 use Rattle.typed_tree.specs.WellFormedExpression.{Names, is_elem, root_fits, root_type, step_type, field_type, is_named}
-use Rattle.typed_tree.proofs.WellFormedLemmas.{and_left, and_right, and_both}
 use Rattle.check_declarations.specs.declared.structs.FoundField.{FoundField}
 use Rattle.check_declarations.specs.Structs.{Structs, field_named}
 use Rattle.check_expressions.specs.Links.{link_type, rule_faults}
@@ -29,7 +30,7 @@ use Rattle.type_law.proofs.ExpressionsSteps.{steps_fit-last, steps_type-last, en
 use Rattle.type_law.proofs.ExpressionsKnown.{SoundKnown, SoundTree, SoundPlace, value_sound, place_sound, elem-variable}
 use Rattle.type_law.proofs.ExpressionsAssignments.{good_of}
 use Rattle.type_law.proofs.ExpressionsMoves.{move_fits, move_by_fits}
-use Rattle.type_law.proofs.ExpressionsOutcomes.{taken, good_known, neither}
+use Rattle.type_law.proofs.ExpressionsOutcomes.{taken, good_known}
 
 -- ---- [ ]
 
@@ -93,7 +94,7 @@ element_at n structs s at (Array e' c) fixed designates null t e f b y h i k =
     array_good (object root steps) z = z.object.good
     array_good (pointed x sp) z = subst (λ u. IsTrue (is_variable structs u)) z.is (elem-variable structs z.of z.good)
     array_good (moved x) z = subst (λ u. IsTrue (is_variable structs u)) z.is (elem-variable structs z.of z.good)
-    array_good (element root steps a i sp) z = subst (λ u. IsTrue (is_variable structs u)) z.is (elem-variable structs z.of (and_left (is_elem structs (Some z.of)) _ z.array.good))
+    array_good (element root steps a i sp) z = subst (λ u. IsTrue (is_variable structs u)) z.is (elem-variable structs z.of (both_hold_first (is_elem structs (Some z.of)) _ z.array.good))
 element_at n structs s at (Pointer e' f') fixed designates null t e f b y h i k =
     let w = value_sound n structs at (record { ty = Pointer e' f'; fixed = fixed; designates = designates; null = null; tree = t }) h in
     pointer_moved n structs s e' f' b (value_tree at (record { ty = Pointer e' f'; fixed = fixed; designates = designates; null = null; tree = t })) y w.good (record { typed = w.typed; has = w.has }) k
@@ -112,7 +113,7 @@ unfolding indexed index_rule indexed_by index_tree rule_faults value_of
 indexed_sound n structs s at k at_index i h g z =
     let v' = value_sound n structs at k h in
     let w = value_sound n structs at_index i g in
-    let bad = neither (is_bad (value_of k).ty) (is_bad (value_of i).ty) (good_known structs (value_of k).ty v'.good) (good_known structs (value_of i).ty w.good) in
+    let bad = or_from (is_bad (value_of k).ty) (is_bad (value_of i).ty) (good_known structs (value_of k).ty v'.good) (good_known structs (value_of i).ty w.good) in
     go (index_rule (value_of k) (value_of i)) refl z bad v' w
   where
     faultless : (r : Rule) → (indexed_by r s at k at_index i).faults ≡ [] → rule_faults r at at_index ≡ []
@@ -151,7 +152,7 @@ part_sound n count m (Some f) w fixed designates root steps agree p z =
     record {
       tree = record {
         object = record {
-          fits = and_both (root_fits n root) _ (and_left (root_fits n root) _ p.fits) (steps_fit-last n steps (field f.number) (and_right (root_fits n root) _ p.fits) refl);
+          fits = both_hold (root_fits n root) _ (both_hold_first (root_fits n root) _ p.fits) (steps_fit-last n steps (field f.number) (both_hold_second (root_fits n root) _ p.fits) refl);
           has = steps_type-last n.structs (root_type n root) steps (field f.number) ∙ ap (λ t. step_type n.structs t (field f.number)) p.has ∙ a.0;
           good = a.1;
           kept = λ c. ap (λ b. b || f.entry.fixed) (p.kept c);

@@ -1,10 +1,12 @@
 -- Operators before an operand, and casts, without a fault.
 use Rattle.std.proofs.Common.{◌≡◌, ◌∙◌, ℕ, refl, ap, sym, subst, [], ◌∷◌, Bool, true, false, Option, Some, None, if◌then◌else◌}
 use Rattle.std.specs.Prelude.{IsTrue, ◌&&◌, ◌||◌}
+use Rattle.std.proofs.lemmas.Bool.{or_from}
 use Rattle.pt_base.specs.declared.span.Span.{Span}
 use Rattle.pt_base.specs.IntTypes.{promoted}
 use Rattle.pt_base.specs.declared.int_type.IntType.{IntType}
 use Rattle.pt_base.specs.declared.int_type.IntType.TheVariants as int
+use Rattle.pt_base.proofs.Booleans.{both_hold, not_or_self, true_and_false}
 use Rattle.pt_int.specs.declared.operator.UnOp.{UnOp}
 use Rattle.pt_int.specs.declared.operator.UnOp.TheVariants.{Minus, Plus, Flip, Not}
 use Rattle.pt_tree.specs.declared.operator.PrefixOp.{PrefixOp}
@@ -34,20 +36,20 @@ use Rattle.check_expressions.specs.Prefixes.{unary_rule_of, unary_operand, compu
 use Rattle.check_expressions.specs.Targets.{optional_fault, target_fault}
 use Rattle.type_law.specs.DeclarationsTypes.{is_good, is_base, is_variable}
 use Rattle.type_law.specs.ExpressionsLaws.{Fitted}
-use Rattle.type_law.proofs.ExpressionsLists.{only_where, true≢false}
-use Rattle.type_law.proofs.ExpressionsSameTypes.{same_int-self, same_elem-self, same_types-equal, promoted-promoted}
+use Rattle.type_law.proofs.ExpressionsLists.{only_where}
+use Rattle.type_law.proofs.ExpressionsSameTypes.{same_types-equal, promoted-promoted}
 use Rattle.type_law.proofs.ExpressionsFits.{int_fits}
 use Rattle.type_law.proofs.ExpressionsKnown.{SoundKnown, SoundTree, plain_sound, value_sound, designated_variable}
-use Rattle.type_law.proofs.ExpressionsAssignments.{Target, target_sound, good_of, or_not}
+use Rattle.type_law.proofs.ExpressionsAssignments.{Target, target_sound, good_of}
 use Rattle.type_law.proofs.ExpressionsMoves.{move_fits}
-use Rattle.type_law.proofs.ExpressionsOutcomes.{good_known, neither}
-use Rattle.typed_tree.proofs.WellFormedLemmas.{and_both}
+use Rattle.type_law.proofs.ExpressionsOutcomes.{good_known}
+use Rattle.typed_tree.proofs.SameTypes.{elem_self, int_self}
 
 -- ---- + - ~ !
 
 promoted_operand : (n : Names) (t : IntType) (x : ExprTree) → Fitted n (Int (promoted t)) x → IsTrue (is_typed n x && is_same_promoted (ty_of x) (Some (v.Int (promoted t))))
 unfolding var_type
-promoted_operand n t x h = and_both (is_typed n x) _ h.typed (ap (λ z. is_same_promoted z (Some (v.Int (promoted t)))) h.has ∙ and_both (test.same_int (promoted t) (promoted t)) _ (same_int-self (promoted t)) (promoted-promoted t))
+promoted_operand n t x h = both_hold (is_typed n x) _ h.typed (ap (λ z. is_same_promoted z (Some (v.Int (promoted t)))) h.has ∙ both_hold (test.same_int (promoted t) (promoted t)) _ (int_self (promoted t)) (promoted-promoted t))
 
 int_sound : (n : Names) (structs : ℕ) (t : IntType) (x : ExprTree) → IsTrue (is_typed n x) → ty_of x ≡ Some (v.Int t) → SoundKnown n structs (plain (Int t) x)
 unfolding var_type
@@ -73,8 +75,8 @@ computed_at n structs Flip s at Void x g h k = cc
 computed_at n structs Flip s at (Struct m) x g h k = cc
 computed_at n structs Flip s at (Array e c) x g h k = cc
 computed_at n structs Flip s at (Pointer e f) x g h k = cc
-computed_at n structs Not s at (Int t) x g h k = int_sound n structs int.Int _ (and_both (is_typed n x) _ h.typed (and_both (test.is_scalar (ty_of x)) true (ap test.is_scalar h.has) refl)) refl
-computed_at n structs Not s at (Pointer e f) x g h k = int_sound n structs int.Int _ (and_both (is_typed n x) _ h.typed (and_both (test.is_scalar (ty_of x)) true (ap test.is_scalar h.has) refl)) refl
+computed_at n structs Not s at (Int t) x g h k = int_sound n structs int.Int _ (both_hold (is_typed n x) _ h.typed (both_hold (test.is_scalar (ty_of x)) true (ap test.is_scalar h.has) refl)) refl
+computed_at n structs Not s at (Pointer e f) x g h k = int_sound n structs int.Int _ (both_hold (is_typed n x) _ h.typed (both_hold (test.is_scalar (ty_of x)) true (ap test.is_scalar h.has) refl)) refl
 computed_at n structs Not s at Bad x g h k = cc
 computed_at n structs Not s at Void x g h k = cc
 computed_at n structs Not s at (Struct m) x g h k = cc
@@ -113,24 +115,24 @@ same_of (elem.Struct m) (elem.Int t) h = cc
 
 element_self : (e : Elem) → IsTrue (test.both_elem (test.element_of (var_type (elem_type e))) (Some e))
 unfolding var_type
-element_self (elem.Int t) = same_elem-self (elem.Int t)
-element_self (elem.Struct m) = same_elem-self (elem.Struct m)
+element_self (elem.Int t) = elem_self (elem.Int t)
+element_self (elem.Struct m) = elem_self (elem.Struct m)
 
 address_fits : (n : Names) (structs : ℕ) (s : Span) (e : Elem) (fixed designates : Bool) (t : Elaboration) → SoundTree n structs (elem_type e) fixed designates t → designates ≡ true → Fitted n (Pointer e fixed) (address_tree s e fixed t)
 unfolding address_tree var_type root_of steps_of
-address_fits n structs s e fixed designates (value x) h d = true≢false designates d h.none
+address_fits n structs s e fixed designates (value x) h d = true_and_false designates d h.none
 address_fits n structs s e fixed designates (object root steps) h d = record {
-  typed = and_both (place_fits n (place root (step_trees steps))) _ h.object.fits
-      (and_both (is_addressed (place root (step_trees steps))) _ (and_both (is_object (place root (step_trees steps))) _ (h.written d) h.ends)
-      (and_both (test.both_elem (test.element_of (place_type n (place root (step_trees steps)))) (Some e)) _ (ap (λ z. test.both_elem (test.element_of z) (Some e)) h.object.has ∙ element_self e)
+  typed = both_hold (place_fits n (place root (step_trees steps))) _ h.object.fits
+      (both_hold (is_addressed (place root (step_trees steps))) _ (both_hold (is_object (place root (step_trees steps))) _ (h.written d) h.ends)
+      (both_hold (test.both_elem (test.element_of (place_type n (place root (step_trees steps)))) (Some e)) _ (ap (λ z. test.both_elem (test.element_of z) (Some e)) h.object.has ∙ element_self e)
       (only_where (place_const n (place root (step_trees steps))) fixed h.object.kept)));
   has = refl;
 }
 address_fits n structs s e fixed designates (pointed x span) h d =
     let same = same_of h.of e h.is in
     record {
-      typed = and_both (is_typed n x) _ h.pointer.typed
-          (ap (λ z. converts z (Some (v.Pointer e fixed))) h.pointer.has ∙ and_both (test.same_elem h.of e) _ (ap (λ z. test.same_elem z e) same ∙ same_elem-self e) (or_not fixed));
+      typed = both_hold (is_typed n x) _ h.pointer.typed
+          (ap (λ z. converts z (Some (v.Pointer e fixed))) h.pointer.has ∙ both_hold (test.same_elem h.of e) _ (ap (λ z. test.same_elem z e) same ∙ elem_self e) (not_or_self fixed));
       has = refl;
     }
 address_fits n structs s e fixed designates (moved (typed span t f)) h d = record { typed = h.pointer.typed; has = h.pointer.has ∙ ap (λ z. Some (v.Pointer z fixed)) (same_of h.of e h.is) }
@@ -138,8 +140,8 @@ address_fits n structs s e fixed designates (element root steps at i span) h d =
     let same = same_of h.of e h.is in
     move_fits n s span e fixed false h.index (typed at (Some (v.Pointer e fixed)) _) i
     (record {
-      typed = and_both (place_fits n (place root (step_trees steps))) _ h.array.fits
-          (and_both (test.both_elem (test.item_of (place_type n (place root (step_trees steps)))) (Some e)) _ (ap (λ z. test.both_elem (test.item_of z) (Some e)) h.array.has ∙ ap (λ z. test.same_elem z e) same ∙ same_elem-self e)
+      typed = both_hold (place_fits n (place root (step_trees steps))) _ h.array.fits
+          (both_hold (test.both_elem (test.item_of (place_type n (place root (step_trees steps)))) (Some e)) _ (ap (λ z. test.both_elem (test.item_of z) (Some e)) h.array.has ∙ ap (λ z. test.same_elem z e) same ∙ elem_self e)
           (only_where (place_const n (place root (step_trees steps))) fixed h.array.kept));
       has = refl;
     })
@@ -183,8 +185,8 @@ step_sound : (n : Names) (structs : ℕ) (s at : Span) (back postfix : Bool) (k 
 step_sound n structs s at back postfix k t p e c g w ns =
     plain_sound n structs t (step_tree s t back postfix at k.tree)
     (record {
-      typed = and_both (place_fits n (place_of k.tree) && is_written n (place_of k.tree)) _ (and_both (place_fits n (place_of k.tree)) _ p.fits p.written)
-          (and_both (test.same_types (place_type n (place_of k.tree)) (var_type t)) _ (same_types-equal _ _ (p.has ∙ ap var_type e)) c);
+      typed = both_hold (place_fits n (place_of k.tree) && is_written n (place_of k.tree)) _ (both_hold (place_fits n (place_of k.tree)) _ p.fits p.written)
+          (both_hold (test.same_types (place_type n (place_of k.tree)) (var_type t)) _ (same_types-equal _ _ (p.has ∙ ap var_type e)) c);
       has = refl;
     })
     g w (λ q. absurd (ns q))
@@ -228,9 +230,9 @@ prefixed_sound n structs count op.Decrement s at k h z = stepped_sound n structs
 
 cast_known : (n : Names) (structs : ℕ) (s at : Span) (t u : «Type») (x : ExprTree) → IsTrue (is_good structs u) → Fitted n u x → (cast_by (conversion.converted t u) s at x).faults ≡ [] → SoundKnown n structs (cast_by (conversion.converted t u) s at x).operand
 unfolding cast_by var_type
-cast_known n structs s at Void u x g h z = plain_sound n structs Void _ (record { typed = and_both (is_typed n x) true h.typed refl; has = refl }) refl refl (λ q. cc)
+cast_known n structs s at Void u x g h z = plain_sound n structs Void _ (record { typed = both_hold (is_typed n x) true h.typed refl; has = refl }) refl refl (λ q. cc)
 cast_known n structs s at (Pointer e f) u x g h z = cc
-cast_known n structs s at (Int t) (Int a) x g h z = int_sound n structs t _ (and_both (is_typed n x) _ h.typed (ap (λ y. converts y (Some (v.Int t))) h.has)) refl
+cast_known n structs s at (Int t) (Int a) x g h z = int_sound n structs t _ (both_hold (is_typed n x) _ h.typed (ap (λ y. converts y (Some (v.Int t))) h.has)) refl
 cast_known n structs s at (Int t) Bad x g h z = cc
 cast_known n structs s at (Int t) Void x g h z = cc
 cast_known n structs s at (Int t) (Struct m) x g h z = cc
@@ -260,7 +262,7 @@ unfolding cast_to cast_rule
 cast_sound n structs pointer base s at k b h z =
     let w = value_sound n structs at k h in
     let t = cast_target pointer base in
-    let known : (is_bad t || is_bad (value_of k).ty) ≡ false = neither (is_bad t) (is_bad (value_of k).ty) (target_known structs pointer base b) (good_known structs (value_of k).ty w.good) in
+    let known : (is_bad t || is_bad (value_of k).ty) ≡ false = or_from (is_bad t) (is_bad (value_of k).ty) (target_known structs pointer base b) (good_known structs (value_of k).ty w.good) in
     let z' : (cast_by (if false then cast.Unknown else conversion.converted t (value_of k).ty) s at (value_tree at k)).faults ≡ [] = subst (λ c. (cast_by (if c then cast.Unknown else conversion.converted t (value_of k).ty) s at (value_tree at k)).faults ≡ []) known z in
     subst (λ c. SoundKnown n structs (cast_by (if c then cast.Unknown else conversion.converted t (value_of k).ty) s at (value_tree at k)).operand) (sym known)
     (cast_known n structs s at t (value_of k).ty (value_tree at k) w.good (record { typed = w.typed; has = w.has }) z')

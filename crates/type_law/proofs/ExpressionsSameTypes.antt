@@ -1,5 +1,5 @@
 -- The tests of types hold of equal types; the integer types of conversions.
-use Rattle.std.proofs.Common.{◌≡◌, ◌∙◌, ◌≤◌, ℕ, nat_eq, refl, ap, sym, arith, Bool, true, false, Option, Some, None}
+use Rattle.std.proofs.Common.{◌≡◌, ◌∙◌, ◌≤◌, ℕ, nat_eq, refl, ap, sym, arith, true, Option, Some, None}
 use Rattle.std.specs.Prelude.{IsTrue}
 use Rattle.std.proofs.lemmas.Bool.Decides.{nat_tests}
 use Rattle.pt_base.specs.IntTypes.{promoted, usual}
@@ -9,40 +9,19 @@ use Rattle.pt_tree.specs.declared.signature.Elem.{Elem}
 use Rattle.pt_tree.specs.declared.signature.Elem.TheVariants as elem
 use Rattle.typed_tree.specs.declared.types.VarTy.{VarTy}
 use Rattle.typed_tree.specs.declared.types.VarTy.TheVariants as v
-use Rattle.typed_tree.specs.TypeTests.{same_int, same_elem, same_bool, same_types}
+use Rattle.typed_tree.specs.TypeTests.{same_elem, same_bool, same_types}
 use Rattle.typed_tree.specs.TypeRules.{is_promoted}
 use Rattle.typed_tree.specs.WellFormedExpression.{is_elem}
-use Rattle.typed_tree.proofs.WellFormedLemmas.{and_both}
-pub use Rattle.pt_base.proofs.SameNumbers.{same_number}
-
-pub number-self : (a : ℕ) → nat_eq a a ≡ true
-number-self a = grind (arith, nat_tests)
-
-pub same_int-self : (a : IntType) → same_int a a ≡ true
-same_int-self Char = refl
-same_int-self SChar = refl
-same_int-self UChar = refl
-same_int-self Short = refl
-same_int-self UShort = refl
-same_int-self Int = refl
-same_int-self UInt = refl
-same_int-self Long = refl
-same_int-self ULong = refl
-
-pub same_elem-self : (a : Elem) → same_elem a a ≡ true
-same_elem-self (elem.Int a) = same_int-self a
-same_elem-self (elem.Struct n) = number-self n
-
-pub same_bool-self : (a : Bool) → same_bool a a ≡ true
-same_bool-self true = refl
-same_bool-self false = refl
+use Rattle.typed_tree.proofs.SameTypes.{bool_self, elem_self, int_self}
+use Rattle.pt_base.proofs.Booleans.{both_hold}
+use Rattle.pt_base.proofs.Numbers.{nat_eq_self}
 
 pub same_types-self : (a : Option VarTy) → same_types a a ≡ true
 same_types-self None = refl
-same_types-self (Some (v.Int t)) = same_int-self t
-same_types-self (Some (v.Struct n)) = number-self n
-same_types-self (Some (v.Array e count)) = and_both (same_elem e e) (nat_eq count count) (same_elem-self e) (number-self count)
-same_types-self (Some (v.Pointer e fixed)) = and_both (same_elem e e) (same_bool fixed fixed) (same_elem-self e) (same_bool-self fixed)
+same_types-self (Some (v.Int t)) = int_self t
+same_types-self (Some (v.Struct n)) = nat_eq_self n
+same_types-self (Some (v.Array e count)) = both_hold (same_elem e e) (nat_eq count count) (elem_self e) (nat_eq_self count)
+same_types-self (Some (v.Pointer e fixed)) = both_hold (same_elem e e) (same_bool fixed fixed) (elem_self e) (bool_self fixed)
 
 pub same_types-equal : (a b : Option VarTy) → a ≡ b → same_types a b ≡ true
 same_types-equal a b h = ap (λ x. same_types a x) (sym h) ∙ same_types-self a

@@ -2,6 +2,7 @@
 use Rattle.std.proofs.Common.{◌≡◌, ◌∙◌, ap, refl, List, [], ◌++◌, Bool, true, false, Option, Some, None, append-nil, if◌then◌else◌, is_some}
 use Rattle.std.specs.Prelude.{◌||◌}
 use Rattle.std.proofs.Math.Bool.{beq}
+use Rattle.std.proofs.lemmas.Bool.{or_right}
 use Rattle.pt_base.specs.declared.ids.FnId.{FnId}
 use Rattle.pt_base.specs.declared.span.Span.{Span}
 use Rattle.pt_int.specs.declared.operator.UnOp.{UnOp}
@@ -42,10 +43,6 @@ use Rattle.type_law.specs.ExpressionsLaws.{BadOperandsAreSilent, is_simple}
 
 adds_none : {X : Type 0} (xs ys : List X) → ys ≡ [] → xs ++ ys ≡ xs
 adds_none xs ys h = ap (λ zs. xs ++ zs) h ∙ append-nil xs
-
-second_true : (a b : Bool) → b ≡ true → (a || b) ≡ true
-second_true true b h = refl
-second_true false b h = h
 
 -- the value of an operand is Bad where the operand is
 value_bad : (t : «Type») (f : Bool) → is_bad (value_type t f) ≡ is_bad t
@@ -119,7 +116,7 @@ cast_silent : (pointer : Bool) (base : «Type») (s at : Span) (k : Known) → i
 unfolding cast_to cast_rule cast_by
 cast_silent pointer base s at k h =
     let t = cast_target pointer base in
-    ap (λ b. (cast_by (if b then cast.Unknown else conversion.converted t (value_of k).ty) s at (value_tree at k)).faults) (second_true (is_bad t) (is_bad (value_of k).ty) (known_bad k ∙ h))
+    ap (λ b. (cast_by (if b then cast.Unknown else conversion.converted t (value_of k).ty) s at (value_tree at k)).faults) (or_right (is_bad t) (is_bad (value_of k).ty) (known_bad k ∙ h))
 
 -- ---- of two and three operands
 
@@ -201,7 +198,7 @@ called_silent env (Pointer el g) s trees h = cc
 passed_silent : (t : Option «Type») (w : Value) (at : Span) → is_bad w.ty ≡ true → argument_faults t w at ≡ []
 unfolding argument_faults fit_rule
 passed_silent None w at h = refl
-passed_silent (Some t) w at h = ap (λ c. fault_if (is_wrong (if c then fit.Unknown else taken t w.ty w.null)) WrongType at) (second_true (is_bad t) (is_bad w.ty) h)
+passed_silent (Some t) w at h = ap (λ c. fault_if (is_wrong (if c then fit.Unknown else taken t w.ty w.null)) WrongType at) (or_right (is_bad t) (is_bad w.ty) h)
 
 -- ---- all
 

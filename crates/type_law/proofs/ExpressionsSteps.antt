@@ -2,16 +2,16 @@
 use Rattle.std.proofs.Common.{◌≡◌, refl, List, [], ◌∷◌, ◌++◌, Bool, true, false, ℕ, Option}
 use Rattle.std.specs.Prelude.{IsTrue}
 use Rattle.pt_base.specs.declared.span.Span.{Span}
+use Rattle.pt_base.proofs.Booleans.{both_hold, both_hold_first, both_hold_second}
 use Rattle.typed_tree.specs.declared.types.StructInfo.{StructInfo}
 use Rattle.typed_tree.specs.declared.types.VarTy.{VarTy}
 use Rattle.typed_tree.specs.ExpressionTree.{ExprTree, StepTree, field, item, no_steps, step_and, step_trees, RootTree, local, global, deref, assigned, place}
 use Rattle.typed_tree.specs.WellFormedExpression.{Names, is_typed, steps_fit, steps_type, step_type, ends_in_field, has_item, is_object}
-use Rattle.typed_tree.proofs.WellFormedLemmas.{and_left, and_right, and_both}
 
 pub steps_fit-last : (n : Names) (ss : List StepTree) (s : StepTree) → IsTrue (steps_fit n (step_trees ss)) → IsTrue (steps_fit n (step_and s no_steps)) → IsTrue (steps_fit n (step_trees (ss ++ s ∷ [])))
 steps_fit-last n [] s h k = k
 steps_fit-last n (field m ∷ rest) s h k = steps_fit-last n rest s h k
-steps_fit-last n (item i p ∷ rest) s h k = and_both (is_typed n i) _ (and_left (is_typed n i) _ h) (steps_fit-last n rest s (and_right (is_typed n i) _ h) k)
+steps_fit-last n (item i p ∷ rest) s h k = both_hold (is_typed n i) _ (both_hold_first (is_typed n i) _ h) (steps_fit-last n rest s (both_hold_second (is_typed n i) _ h) k)
 
 pub steps_type-last : (structs : List StructInfo) (t : Option VarTy) (ss : List StepTree) (s : StepTree) → steps_type structs t (step_trees (ss ++ s ∷ [])) ≡ step_type structs (steps_type structs t (step_trees ss)) s
 steps_type-last structs t [] s = refl

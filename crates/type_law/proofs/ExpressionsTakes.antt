@@ -4,6 +4,7 @@ use Rattle.std.specs.Prelude.{IsTrue, ◌&&◌, not}
 use Rattle.pt_base.specs.IntTypes.{promoted, usual}
 use Rattle.pt_base.specs.declared.int_type.IntType.{IntType}
 use Rattle.pt_base.specs.declared.int_type.IntType.TheVariants as int
+use Rattle.pt_base.proofs.Booleans.{both_hold}
 use Rattle.pt_int.specs.declared.operator.BinOp.{BinOp}
 use Rattle.pt_int.specs.Operator.{is_shift, binary_type}
 use Rattle.pt_tree.specs.declared.operator.BinaryOp.{BinaryOp}
@@ -28,10 +29,10 @@ use Rattle.check_expressions.specs.Links.{integer_op, step_of, is_shift_left, is
 use Rattle.check_expressions.specs.Operands.{var_type}
 use Rattle.type_law.specs.DeclarationsTypes.{is_good}
 use Rattle.type_law.specs.ExpressionsLaws.{Fitted}
-use Rattle.type_law.proofs.ExpressionsSameTypes.{same_int-self, same_elem-self, promoted-promoted, promoted-same, usual-promoted, usual-left, usual-both, elem-more}
+use Rattle.type_law.proofs.ExpressionsSameTypes.{promoted-promoted, promoted-same, usual-promoted, usual-left, usual-both, elem-more}
 use Rattle.type_law.proofs.ExpressionsFits.{int_fits, promoted_fits, null_fits}
 use Rattle.type_law.proofs.ExpressionsOutcomes.{val, Outcome, numbers, truths, shifts, moves, moves_by, differs, compares, null_right, null_left}
-use Rattle.typed_tree.proofs.WellFormedLemmas.{and_both}
+use Rattle.typed_tree.proofs.SameTypes.{elem_self, int_self}
 
 -- a type that links give: integers are promoted
 abbrev pub is_ready : ℕ → «Type» → Bool
@@ -54,7 +55,7 @@ takes_at n structs s t r op a b y e h = subst (λ z. Takes n structs z r op a b 
 
 arithmetic_step : (op : BinOp) (a t : IntType) → is_shift op ≡ false → usual a t ≡ t → stepped (Some (v.Int a)) (link_step.Arithmetic op t) (Some (v.Int t)) ≡ Some (v.Int (binary_type op t))
 arithmetic_step op a t s u =
-    let fits : (not (is_shift op) && (test.same_int (usual a t) t && test.same_int t t)) ≡ true = and_both (not (is_shift op)) _ (ap not s) (and_both (test.same_int (usual a t) t) _ (ap (λ z. test.same_int z t) u ∙ same_int-self t) (same_int-self t)) in
+    let fits : (not (is_shift op) && (test.same_int (usual a t) t && test.same_int t t)) ≡ true = both_hold (not (is_shift op)) _ (ap not s) (both_hold (test.same_int (usual a t) t) _ (ap (λ z. test.same_int z t) u ∙ int_self t) (int_self t)) in
     let result : Bool → Option VarTy = λ c. if c then Some (v.Int (binary_type op t)) else None in
     ap result fits
 
@@ -83,7 +84,7 @@ truths_take n structs op c a b m k y s u t h =
 shift_step : (left : Bool) (a b : IntType) → stepped (Some (v.Int (promoted a))) (link_step.Shift left) (Some (v.Int (promoted b))) ≡ Some (v.Int (promoted a))
 shift_step left a b =
     let result : Bool → Option VarTy = λ c. if c then Some (v.Int (promoted a)) else None in
-    ap result (and_both (is_promoted (promoted a)) _ (promoted-promoted a) (promoted-promoted b))
+    ap result (both_hold (is_promoted (promoted a)) _ (promoted-promoted a) (promoted-promoted b))
 
 pub shifts_take : (n : Names) (structs : ℕ) (op : BinaryOp) (a b : IntType) (m k : Bool) (y : ExprTree) → Fitted n (Int b) y → Takes n structs (Some (v.Int (promoted a))) (rule.Shift (promoted a)) op (val (Int a) m) (val (Int b) k) y
 unfolding converted_by step_of link_type var_type
@@ -120,16 +121,16 @@ differs_take n structs op e e' f f' m k y s h =
     let result : Bool → Option VarTy = λ c. if c then Some (v.Int int.Long) else None in
     record {
       typed = h.typed;
-      is = ap (λ z. stepped (Some (v.Pointer e f)) link_step.Difference z) h.has ∙ ap result (ap (λ z. test.same_elem e z) (sym (same_elem e e' s)) ∙ same_elem-self e);
+      is = ap (λ z. stepped (Some (v.Pointer e f)) link_step.Difference z) h.has ∙ ap result (ap (λ z. test.same_elem e z) (sym (same_elem e e' s)) ∙ elem_self e);
       has = refl;
       ready = refl;
     }
 
 compare_step : (op : BinOp) (e e' : Elem) (f f' : Bool) → is_comparison op ≡ true → is_same_elem e e' ≡ true → stepped (Some (v.Pointer e f)) (link_step.Compare op) (Some (v.Pointer e' f')) ≡ Some (v.Int int.Int)
-compare_step op e e' f f' c s = ap int_where (and_both (is_comparison op) _ c (ap (λ z. test.same_elem e z) (sym (same_elem e e' s)) ∙ same_elem-self e))
+compare_step op e e' f f' c s = ap int_where (both_hold (is_comparison op) _ c (ap (λ z. test.same_elem e z) (sym (same_elem e e' s)) ∙ elem_self e))
 
 own_step : (op : BinOp) (e : Elem) (f f' : Bool) → is_comparison op ≡ true → stepped (Some (v.Pointer e f)) (link_step.Compare op) (Some (v.Pointer e f')) ≡ Some (v.Int int.Int)
-own_step op e f f' c = ap int_where (and_both (is_comparison op) _ c (same_elem-self e))
+own_step op e f f' c = ap int_where (both_hold (is_comparison op) _ c (elem_self e))
 
 -- the operand isn't null
 pub compares_take : (n : Names) (structs : ℕ) (op : BinaryOp) (e e' : Elem) (f f' m : Bool) (y : ExprTree) → is_comparison (integer_op op) ≡ true → is_same_elem e e' ≡ true → Fitted n (Pointer e' f') y → Takes n structs (Some (v.Pointer e f)) rule.ComparePointers op (val (Pointer e f) m) (val (Pointer e' f') false) y

@@ -8,6 +8,10 @@ use Rattle.std.proofs.lemmas.List.Elements.{All-nil, All-cons}
 use Rattle.pt_base.specs.declared.ids.FnId.{FnId}
 use Rattle.pt_base.specs.declared.int_type.IntType.{IntType}
 use Rattle.pt_base.specs.declared.int_type.IntType.TheVariants as int
+use Rattle.pt_base.proofs.Booleans.{both_hold, both_hold_first, both_hold_second}
+use Rattle.pt_base.proofs.Lists.{append_nil, bytes_eq_same, bytes_eq_self, length_map, map_append}
+use Rattle.pt_base.proofs.Members.{all_hold_append, all_hold_at}
+use Rattle.pt_base.proofs.Places.{get_kept, get_mapped}
 use Rattle.pt_tree.specs.declared.signature.Param.{Param}
 use Rattle.pt_tree.specs.Facts.{stmt_list_sound, stmt_sound, stmts_sound}
 use Rattle.pt_tree.specs.ProgramTree.{ItemTree, function}
@@ -45,16 +49,15 @@ use Rattle.check_programs.specs.declared.function_marks.FunctionMarks.{FunctionM
 use Rattle.check_programs.specs.Functions.{var_of, with_parts, with_body, behind_body, is_int, is_start}
 use Rattle.check_programs.specs.Unions.{marks_at}
 use Rattle.check_programs.specs.Progress.{Progress}
-use Rattle.typed_tree.proofs.WellFormedLemmas.{and_left, and_right, and_both}
-use Rattle.type_law.proofs.ProgramsListLemmas.{all_joined, all_weaker, all_get, all_pass, joined_none, get_kept, get_mapped, get_set, get_set_same, get_after_set, length_set, length_mapped, map_joined}
-use Rattle.type_law.proofs.ProgramsTableLemmas.{sought, name_self, name_same}
+use Rattle.type_law.proofs.ProgramsListLemmas.{all_weaker, all_pass, get_set, get_set_same, get_after_set, length_set}
+use Rattle.type_law.proofs.ProgramsTableLemmas.{sought}
 use Rattle.type_law.proofs.ProgramsTypeLemmas.{object_there, parameter_variable, params_lead_vars}
 use Rattle.type_law.proofs.ProgramsSound.{signatures, Extends, Grows, defines, SoundEntry, entry_kept, is_file_entry, is_local_entry, HasObject, Known, SoundTables, HasStart, callable_kept, extends_back}
 use Rattle.type_law.proofs.ProgramsOpened.{Opened, params_sound, structs_many, some_same}
 
 pub constants_sound : (items : List StmtTree) → IsTrue (stmt_list_sound items) → IsTrue (stmts_sound (stmt_trees items))
 constants_sound [] h = refl
-constants_sound (s ∷ ss) h = and_both (stmt_sound s) (stmts_sound (stmt_trees ss)) (and_left (stmt_sound s) (stmt_list_sound ss) h) (constants_sound ss (and_right (stmt_sound s) (stmt_list_sound ss) h))
+constants_sound (s ∷ ss) h = both_hold (stmt_sound s) (stmts_sound (stmt_trees ss)) (both_hold_first (stmt_sound s) (stmt_list_sound ss) h) (constants_sound ss (both_hold_second (stmt_sound s) (stmt_list_sound ss) h))
 
 -- ---- names agree
 
@@ -92,7 +95,7 @@ agrees marks rest own defining st c k o t x f new vars =
 
     variables : (j : ℕ) (y : Variable) → slice_get st.env.variables j ≡ Some y → HasType (length st.structs) y.ty (option_map (λ z. z.ty) (slice_get f.vars j))
     variables j y h =
-        let good = parameter_variable (length st.structs) y.ty (all_get (is_parameter (length st.structs)) (map (λ (z : Variable). z.ty) st.env.variables) j y.ty o.params.types (get_mapped (λ (z : Variable). z.ty) st.env.variables j y h)) in
+        let good = parameter_variable (length st.structs) y.ty (all_hold_at (is_parameter (length st.structs)) (map (λ (z : Variable). z.ty) st.env.variables) j y.ty o.params.types (get_mapped (λ (z : Variable). z.ty) st.env.variables j y h)) in
         let there : slice_get f.vars j ≡ Some (var_of y) = ap (λ vs. slice_get vs j) vars ∙ get_mapped var_of (st.env.variables ++ new) j y (get_kept st.env.variables new j y h) in
         (good, ap (option_map (λ z. z.ty)) there ∙ object_there (length st.structs) y.ty good)
 
@@ -112,8 +115,8 @@ signatures_set (f ∷ fs) (suc k) e e' h i = ap (λ ss. f.signature ∷ ss) (sig
 new_sound : (structs : List StructInfo) (xs : List Variable) → IsTrue (list_all (is_sound_variable structs) xs) → IsTrue (list_all (variable_sound structs) (map var_of xs))
 new_sound structs [] h = refl
 new_sound structs (x ∷ xs) h =
-    and_both (variable_sound structs (var_of x)) (list_all (variable_sound structs) (map var_of xs)) (one _ _ (and_left (is_sound_variable structs x) (list_all (is_sound_variable structs) xs) h))
-    (new_sound structs xs (and_right (is_sound_variable structs x) (list_all (is_sound_variable structs) xs) h))
+    both_hold (variable_sound structs (var_of x)) (list_all (variable_sound structs) (map var_of xs)) (one _ _ (both_hold_first (is_sound_variable structs x) (list_all (is_sound_variable structs) xs) h))
+    (new_sound structs xs (both_hold_second (is_sound_variable structs x) (list_all (is_sound_variable structs) xs) h))
   where
     one : (a b : Bool) → IsTrue (a && b) → IsTrue (a && (b && true))
     one true true h = refl
@@ -175,7 +178,7 @@ module _ (bodies : BodiesAreSound) (keep : BlocksAreKept) (marks : List ℕ → 
   grows : Grows st after
   grows = record {
     more = [];
-    structs = sym (joined_none st.structs);
+    structs = sym (append_nil st.structs);
     functions = λ j s h. ap (λ ss. slice_get ss j) same_signatures ∙ h;
     globals = λ j g h. h;
     new = all.trees;
@@ -198,13 +201,13 @@ module _ (bodies : BodiesAreSound) (keep : BlocksAreKept) (marks : List ℕ → 
   pub here : SoundBody (names_in (record { structs = infos_of st.structs; globals = st.globals; functions = st.functions; exprs = st.exprs ++ all.trees }) given) (st.exprs ++ all.trees) o.entry.signature.result start all
   here = at (record { structs = infos_of st.structs; globals = st.globals; functions = st.functions; exprs = st.exprs ++ all.trees }) (record {
     more = [];
-    sound = subst (λ s. SoundStructs s) (sym (joined_none st.structs)) o.tables.structs;
-    structs = ap infos_of (sym (joined_none st.structs));
+    sound = subst (λ s. SoundStructs s) (sym (append_nil st.structs)) o.tables.structs;
+    structs = ap infos_of (sym (append_nil st.structs));
     functions = λ j s h. h;
     globals = λ j g h. h;
     after = all.trees;
     exprs = refl;
-  }) [] (sym (joined_none (st.exprs ++ all.trees)))
+  }) [] (sym (append_nil (st.exprs ++ all.trees)))
 
   body_at : (t : TypedTree) (x : Extends after t) → SoundBody (names_in t given) t.exprs o.entry.signature.result start all
   body_at t x = at t (extends_back st after t grows x) x.after x.exprs
@@ -213,8 +216,8 @@ module _ (bodies : BodiesAreSound) (keep : BlocksAreKept) (marks : List ℕ → 
   vars_at t x =
       let sound = body_at t x in
       subst (λ xs. IsTrue (list_all (variable_sound t.structs) (map var_of xs))) (sym sound.variables)
-      (subst (λ ys. IsTrue (list_all (variable_sound t.structs) ys)) (sym (map_joined var_of st.env.variables sound.new))
-      (all_joined (variable_sound t.structs) (map var_of st.env.variables) (map var_of sound.new)
+      (subst (λ ys. IsTrue (list_all (variable_sound t.structs) ys)) (sym (map_append var_of st.env.variables sound.new))
+      (all_hold_append (variable_sound t.structs) (map var_of st.env.variables) (map var_of sound.new)
       (params_sound t.structs (length st.structs) st.env.variables (structs_many after t x) o.params.types) (new_sound t.structs sound.new sound.sized)))
 
   entry_sound : SoundEntry marks (function f ∷ rest) st o.entry
@@ -227,7 +230,7 @@ module _ (bodies : BodiesAreSound) (keep : BlocksAreKept) (marks : List ℕ → 
   is_defined =
       entry_sound.defined
       ∙ ap (λ d. d || defines (function f ∷ rest) o.entry.signature.name) (o.fresh (ap is_some body_is))
-      ∙ ap (λ d. (d && is_some f.body) || defines rest o.entry.signature.name) (ap (bytes_eq f.declarator.name.bytes) entry_name ∙ name_self f.declarator.name.bytes)
+      ∙ ap (λ d. (d && is_some f.body) || defines rest o.entry.signature.name) (ap (bytes_eq f.declarator.name.bytes) entry_name ∙ bytes_eq_self f.declarator.name.bytes)
       ∙ ap (λ d. is_some d || defines rest o.entry.signature.name) body_is
 
   given_sound : SoundEntry marks rest after given
@@ -249,7 +252,7 @@ module _ (bodies : BodiesAreSound) (keep : BlocksAreKept) (marks : List ℕ → 
 
       -- as many parameters as variables
       count : length o.entry.signature.params ≡ length st.env.variables
-      count = sym (length_mapped taken o.entry.signature.params) ∙ ap length takes ∙ length_mapped var_type (map (λ x. x.ty) st.env.variables) ∙ length_mapped (λ (x : Variable). x.ty) st.env.variables
+      count = sym (length_map taken o.entry.signature.params) ∙ ap length takes ∙ length_map var_type (map (λ x. x.ty) st.env.variables) ∙ length_map (λ (x : Variable). x.ty) st.env.variables
 
       entry_marked : (j : ℕ) (p : Param) → slice_get o.entry.signature.params j ≡ Some p → p.marked ≡ (marks_at own.params j).marked
       entry_marked j p h =
@@ -263,7 +266,7 @@ module _ (bodies : BodiesAreSound) (keep : BlocksAreKept) (marks : List ℕ → 
       go : (d : Bool) → bytes_eq f.declarator.name.bytes g.signature.name ≡ d → d ≡ false
       go false e = refl
       go true e =
-          let same : o.entry.signature.name ≡ g.signature.name = entry_name ∙ name_same f.declarator.name.bytes g.signature.name e in
+          let same : o.entry.signature.name ≡ g.signature.name = entry_name ∙ bytes_eq_same f.declarator.name.bytes g.signature.name e in
           let one = o.tables.named k o.entry o.is in
           let two = o.tables.named j g is in
           let both : Function (record { 0 = j }) ≡ Function (record { 0 = k }) = some_same (Function (record { 0 = j })) (Function (record { 0 = k })) (sought st.env.file o.entry.signature.name) (ap (sought st.env.file) same ∙ two) one in
@@ -300,7 +303,7 @@ module _ (bodies : BodiesAreSound) (keep : BlocksAreKept) (marks : List ℕ → 
       go : (d : Bool) → bytes_eq f.declarator.name.bytes n ≡ d → d ≡ false
       go false e = refl
       go true e =
-          let same : o.entry.signature.name ≡ n = entry_name ∙ name_same f.declarator.name.bytes n e in
+          let same : o.entry.signature.name ≡ n = entry_name ∙ bytes_eq_same f.declarator.name.bytes n e in
           let one = o.tables.named k o.entry o.is in
           let two : sought st.env.file o.entry.signature.name ≡ None = ap (sought st.env.file) same ∙ h in
           cc
@@ -352,20 +355,20 @@ module _ (bodies : BodiesAreSound) (keep : BlocksAreKept) (marks : List ℕ → 
     entry = given;
     is = get_set_same st.functions k o.entry given o.is;
     start =
-        and_both (is_main given.signature) (true && (is_int_result given.signature.result && nat_eq (length given.signature.params) 0))
-        (ap (λ n. bytes_eq n (codes "main")) (ap (λ s. s.name) entry_signature ∙ o.called.name) ∙ and_left (bytes_eq c.name (codes "main")) (is_int c.result && nat_eq (length c.params) 0) h)
-        (and_both (is_int_result given.signature.result) (nat_eq (length given.signature.params) 0)
-        (int_result given.signature.result c.result (ap (λ s. option_map v.Int s.result) entry_signature ∙ o.called.gives) (and_left (is_int c.result) (nat_eq (length c.params) 0) rest_of))
-        (ap (λ n. nat_eq n 0) many ∙ and_right (is_int c.result) (nat_eq (length c.params) 0) rest_of));
+        both_hold (is_main given.signature) (true && (is_int_result given.signature.result && nat_eq (length given.signature.params) 0))
+        (ap (λ n. bytes_eq n (codes "main")) (ap (λ s. s.name) entry_signature ∙ o.called.name) ∙ both_hold_first (bytes_eq c.name (codes "main")) (is_int c.result && nat_eq (length c.params) 0) h)
+        (both_hold (is_int_result given.signature.result) (nat_eq (length given.signature.params) 0)
+        (int_result given.signature.result c.result (ap (λ s. option_map v.Int s.result) entry_signature ∙ o.called.gives) (both_hold_first (is_int c.result) (nat_eq (length c.params) 0) rest_of))
+        (ap (λ n. nat_eq n 0) many ∙ both_hold_second (is_int c.result) (nat_eq (length c.params) 0) rest_of));
   }
     where
       rest_of : IsTrue (is_int c.result && nat_eq (length c.params) 0)
-      rest_of = and_right (bytes_eq c.name (codes "main")) (is_int c.result && nat_eq (length c.params) 0) h
+      rest_of = both_hold_second (bytes_eq c.name (codes "main")) (is_int c.result && nat_eq (length c.params) 0) h
 
       many : length given.signature.params ≡ length c.params
       many =
           ap (λ s. length s.params) entry_signature
-          ∙ sym (length_mapped taken o.called.signature.params) ∙ ap length o.called.takes ∙ length_mapped var_type c.params
+          ∙ sym (length_map taken o.called.signature.params) ∙ ap length o.called.takes ∙ length_map var_type c.params
 
   still : HasStart st.functions → HasStart (slice_set st.functions k given)
   still s = elim (get_after_set st.functions k s.number o.entry given s.entry o.is s.is) [

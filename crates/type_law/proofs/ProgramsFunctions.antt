@@ -4,6 +4,9 @@ use Rattle.std.specs.Prelude.{IsTrue, ◌&&◌, ◌||◌, ◌⊎◌, is_some, co
 use Rattle.std.specs.Str.{bytes_eq}
 use Rattle.pt_base.specs.declared.span.Span.{Span}
 use Rattle.pt_base.specs.Names.{is_short}
+use Rattle.pt_base.proofs.Booleans.{or_true_cases}
+use Rattle.pt_base.proofs.Lists.{append_nil, append_nil_first, append_nil_second}
+use Rattle.pt_base.proofs.Places.{get_kept}
 use Rattle.pt_tree.specs.Facts.{body_sound}
 use Rattle.pt_tree.specs.ProgramTree.{ItemTree, function}
 use Rattle.pt_tree.specs.ProgramTree as parsed
@@ -24,14 +27,13 @@ use Rattle.check_programs.specs.declared.function_marks.FunctionMarks.{FunctionM
 use Rattle.check_programs.specs.Blocks.{block_in}
 use Rattle.check_programs.specs.Functions.{Head, head_of, clashes, function_in, number_in, declared_as, is_int, is_start, are_too_large, with_definition, completed, checked_function}
 use Rattle.check_programs.specs.Progress.{Progress}
-use Rattle.type_law.proofs.ProgramsListLemmas.{joined_none, get_kept}
 use Rattle.type_law.proofs.ProgramsTableLemmas.{sought}
 use Rattle.type_law.proofs.ProgramsSound.{defines, SoundTables, SoundProgress, HasStart, tables_moved}
 use Rattle.type_law.proofs.ProgramsParameters.{SoundParams}
 use Rattle.type_law.proofs.ProgramsHeads.{sound_head}
 use Rattle.type_law.proofs.ProgramsOpened.{Opened, old_opened, new_opened, find_is}
 use Rattle.type_law.proofs.ProgramsBodies.{behind, behind_start}
-use Rattle.type_law.proofs.DeclarationsFaultLemmas.{none_left, none_right, no_fault}
+use Rattle.type_law.proofs.DeclarationsFaultLemmas.{no_fault}
 
 -- a function that is declared, and with which the program begins if it did before
 record Stage (marks : List ℕ → FunctionMarks) (rest : List ItemTree) (own : FunctionMarks) (defining : Bool) (before st : Progress) (c : Callable) (k : ℕ) : Type 0 where
@@ -84,7 +86,7 @@ module _ (bodies : BodiesAreSound) (keep : BlocksAreKept) (marks : List ℕ → 
       → SoundProgress marks rest (with_definition st' k c.result at b).progress
   unfolding block_in
   ended st' k s None is none = record {
-    tables = tables_moved marks (function f ∷ rest) rest st' [] [] st'.structs [] st'.has_main (sym (joined_none st'.structs)) s.opened.tables.structs (same_defines is) s.opened.tables;
+    tables = tables_moved marks (function f ∷ rest) rest st' [] [] st'.structs [] st'.has_main (sym (append_nil st'.structs)) s.opened.tables.structs (same_defines is) s.opened.tables;
     scopes = refl;
     variables = refl;
     start = λ h. go (starts (sym s.same ∙ h));
@@ -95,7 +97,7 @@ module _ (bodies : BodiesAreSound) (keep : BlocksAreKept) (marks : List ℕ → 
       go (inr i) = s.start i
   ended st' k s (Some b) is none =
       let all = block_in c.result st'.env st'.structs (length st'.exprs) b.items in
-      let fine = none_left all.faults (fault_if (are_too_large all.state.structs all.state.env.variables) TooLarge at) none in
+      let fine = append_nil_first all.faults (fault_if (are_too_large all.state.structs all.state.env.variables) TooLarge at) none in
       let sound : IsTrue (body_sound (Some b)) = subst (λ x. IsTrue (body_sound x)) is constants in
       record {
         tables = behind bodies keep marks f rest own st' c k b s.opened name own_is is sound fine;
@@ -115,7 +117,7 @@ module _ (bodies : BodiesAreSound) (keep : BlocksAreKept) (marks : List ℕ → 
       let own_faults = fault_if (clashes st c (is_some f.body) o) Redeclared at in
       let others = (with_definition (declared_as own st c at (function_in o)) (number_in st (function_in o)) c.result at f.body).faults in
       ended (declared_as own st c at (function_in o)) (number_in st (function_in o))
-      (stage o is (no_fault (clashes st c (is_some f.body) o) Redeclared at (none_left own_faults others none))) f.body refl (none_right own_faults others none)
+      (stage o is (no_fault (clashes st c (is_some f.body) o) Redeclared at (append_nil_first own_faults others none))) f.body refl (append_nil_second own_faults others none)
 
   pub completed_sound : (completed own st c f).faults ≡ [] → SoundProgress marks rest (completed own st c f).progress
   unfolding completed
@@ -134,12 +136,8 @@ env_is e file callables objects f g h =
 abbrev behind_head : Progress → Head → Bool → Env → Progress
 behind_head st h begins env = record { env = env; structs = h.structs; functions = st.functions; globals = st.globals; cells = st.cells; exprs = st.exprs; has_main = begins }
 
-rebased : (own : FunctionMarks) (base : Env) (n : ℕ) (env : Env) → SoundParams own base n env → SoundParams own env n env
+pub rebased : (own : FunctionMarks) (base : Env) (n : ℕ) (env : Env) → SoundParams own base n env → SoundParams own env n env
 rebased own base n env p = record { file = refl; functions = refl; globals = refl; scope = p.scope; scopes = p.scopes; locals = p.locals; types = p.types; marked = p.marked; few = p.few; integers = p.integers }
-
-one_of : (a b : Bool) → (a || b) ≡ true → (a ≡ true) ⊎ (b ≡ true)
-one_of true b h = inl refl
-one_of false b h = inr h
 
 pub function_step : SpecifiersAreSound → ObjectsAreSound → ResultsAreSound → BodiesAreSound → BlocksAreKept → (marks : List ℕ → FunctionMarks) (f : parsed.FunctionTree) (rest : List ItemTree) (st : Progress)
     → SoundProgress marks (function f ∷ rest) st → IsTrue (is_short f.declarator.name.bytes) → IsTrue (body_sound f.body) → (checked_function (marks f.declarator.name.bytes) st f).faults ≡ []
@@ -150,9 +148,9 @@ function_step specifiers objects results bodies keep marks f rest st s short con
     let begins : Bool = is_start h.callable (is_some f.body) || st.has_main in
     let after : Progress = behind_head st h begins h.env in
     let last : List TypeFault = (completed own after h.callable f).faults in
-    let head = sound_head specifiers objects results own st f s.tables.structs s.scopes s.variables (none_left h.faults last none) in
+    let head = sound_head specifiers objects results own st f s.tables.structs s.scopes s.variables (append_nil_first h.faults last none) in
     let tables : SoundTables marks (function f ∷ rest) after =
     subst (λ env. SoundTables marks (function f ∷ rest) (behind_head st h begins env)) (env_is h.env st.env.file st.env.functions st.env.globals head.params.file head.params.functions head.params.globals)
     (tables_moved marks (function f ∷ rest) (function f ∷ rest) st h.env.scopes h.env.variables h.structs head.more begins head.grown head.sound (λ n. refl) s.tables) in
     completed_sound bodies keep marks f rest own after h.callable tables (rebased own st.env (length h.structs) h.env head.params) head.result head.types head.name (ap marks head.name) (subst (λ n. IsTrue (is_short n)) (sym head.name) short) constants
-    (λ i. elim (one_of (is_start h.callable (is_some f.body)) st.has_main i) [ inl e ↦ inl e | inr e ↦ inr (s.start e) ]) (none_right h.faults last none)
+    (λ i. elim (or_true_cases (is_start h.callable (is_some f.body)) st.has_main i) [ inl e ↦ inl e | inr e ↦ inr (s.start e) ]) (append_nil_second h.faults last none)

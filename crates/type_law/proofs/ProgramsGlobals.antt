@@ -6,6 +6,10 @@ use Rattle.std.proofs.lemmas.Bool.Decides.{nat_tests}
 use Rattle.std.proofs.lemmas.List.{length-take, length-replicate}
 use Rattle.std.proofs.lemmas.List.Sums.{sum_by-append}
 use Rattle.pt_base.specs.declared.ids.FnId.{FnId}
+use Rattle.pt_base.proofs.Booleans.{both_hold, from_not_false}
+use Rattle.pt_base.proofs.Lists.{append_nil, append_nil_first, append_nil_second, length_append, length_map, length_pushed}
+use Rattle.pt_base.proofs.Members.{all_hold_append}
+use Rattle.pt_base.proofs.Places.{get_kept, get_pushed as get_last}
 use Rattle.pt_tree.specs.ProgramTree.{ItemTree, declares}
 use Rattle.pt_tree.specs.StatementTree.{InitDeclaratorTree, DeclarationTree}
 use Rattle.type_rules.specs.declared.types.Type.{«Type»}
@@ -36,20 +40,15 @@ use Rattle.type_law.specs.DeclarationsLaws.{SpecifiersAreSound, ObjectsAreSound,
 use Rattle.check_programs.specs.declared.function_marks.FunctionMarks.{FunctionMarks}
 use Rattle.check_programs.specs.Globals.{globals_limit, global_type, object_of, cells_with, brings_over, padded, start_cells, typed_global, declared_one, declared_all, global_carrier, checked_declaration}
 use Rattle.check_programs.specs.Progress.{Progress}
-use Rattle.type_law.proofs.ProgramsListLemmas.{all_joined, joined_none, length_joined, length_mapped, length_pushed, get_kept, get_last, get_pushed, IsLast}
+use Rattle.type_law.proofs.ProgramsListLemmas.{get_pushed, IsLast}
 use Rattle.type_law.proofs.ProgramsTableLemmas.{sought, none_where_new, sought_pushed, sought_kept, pushed}
 use Rattle.type_law.proofs.ProgramsTypeLemmas.{plain_fine, plain_more, plain_type, plain_variable, object_there}
 use Rattle.type_law.proofs.ProgramsSound.{Extends, Grows, defines, entry_kept, is_file_meaning, is_file_entry, HasObject, Known, SoundTables, SoundProgress, HasStart, object_kept, extends_back, tables_moved}
 use Rattle.type_law.proofs.ProgramsOpened.{some_same, files_more}
 use Rattle.type_law.proofs.ProgramsValues.{init_sound, padded_fits}
-use Rattle.type_law.proofs.DeclarationsFaultLemmas.{none_left, none_right, no_fault}
-use Rattle.typed_tree.proofs.WellFormedLemmas.{and_both}
+use Rattle.type_law.proofs.DeclarationsFaultLemmas.{no_fault}
 
 -- ---- cells
-
-not_true : (b : Bool) → not b ≡ false → b ≡ true
-not_true true h = refl
-not_true false h = cc
 
 -- where no limit is passed, all cells are counted
 pub record Counted (total count : ℕ) (values : List ℤ) : Type 0 where
@@ -72,7 +71,7 @@ counted_cells total count values h over =
 
 padded_many : (count : ℕ) (values : List ℤ) → length (padded count values) ≡ count
 padded_many count values =
-    let both = length_joined (take count values) (replicate (count - length values) (pos 0)) in
+    let both = length_append (take count values) (replicate (count - length values) (pos 0)) in
     let taken = length-take count values in
     let zeros = length-replicate (count - length values) (pos 0) in
     omega (arith, both, taken, zeros)
@@ -104,11 +103,11 @@ module _ (marks : List ℕ → FunctionMarks) (rest : List ItemTree) (st : Progr
   grows : Grows st with_one
   grows = record {
     more = [];
-    structs = sym (joined_none st.structs);
+    structs = sym (append_nil st.structs);
     functions = λ k s h. h;
     globals = λ k x h. get_kept st.globals (g ∷ []) k x h;
     new = [];
-    exprs = sym (joined_none st.exprs);
+    exprs = sym (append_nil st.exprs);
   }
 
   still_known : (n : List ℕ) (k : FnId) → sought (st.env.file ++ (name, named_global) ∷ []) n ≡ Some (Function k) → Known st.functions n k.0
@@ -153,9 +152,9 @@ module _ (marks : List ℕ → FunctionMarks) (rest : List ItemTree) (st : Progr
       record {
         structs = t.structs;
         file =
-            all_joined (is_file_entry (length st.functions) (length (st.globals ++ g ∷ []))) st.env.file ((name, named_global) ∷ [])
+            all_hold_append (is_file_entry (length st.functions) (length (st.globals ++ g ∷ []))) st.env.file ((name, named_global) ∷ [])
             (files_more (length st.functions) (length st.functions) (length st.globals) (length (st.globals ++ g ∷ [])) (omega arith) (omega (arith, many)) st.env.file t.file)
-            (and_both (is_file_meaning (length st.functions) (length (st.globals ++ g ∷ [])) named_global) true (last_below (length st.env.globals) (length (st.globals ++ g ∷ [])) (omega (arith, many, numbered))) refl);
+            (both_hold (is_file_meaning (length st.functions) (length (st.globals ++ g ∷ [])) named_global) true (last_below (length st.env.globals) (length (st.globals ++ g ∷ [])) (omega (arith, many, numbered))) refl);
         numbers = t.numbers;
         global_numbers = omega (arith, many, many', numbered);
         callables = t.callables;
@@ -197,21 +196,21 @@ one_global objects sizes leaves marks rest given st i t base none =
     let f2 = size_faults st.structs ty d.name.span in
     let f3 = fault_if (not (is_new st.env.file d.name.bytes)) Redeclared d.name.span in
     let f4 = fault_if (brings_over st.cells count) TooLarge d.name.span in
-    let none_own = none_left (f1 ++ f2 ++ f3 ++ f4) init.faults none in
-    let none_init = none_right (f1 ++ f2 ++ f3 ++ f4) init.faults none in
-    let n3 = none_left (f1 ++ f2 ++ f3) f4 none_own in
-    let n2 = none_left (f1 ++ f2) f3 n3 in
-    let plain : IsTrue (is_plain (length st.structs) ty) = objects kind.Global (length st.structs) given d.pointer d.suffix d.name.span base (none_left f1 f2 n2) in
-    let small = none_right f1 f2 n2 in
-    let new : is_new st.env.file d.name.bytes ≡ true = not_true (is_new st.env.file d.name.bytes) (no_fault (not (is_new st.env.file d.name.bytes)) Redeclared d.name.span (none_right (f1 ++ f2) f3 n3)) in
-    let over : brings_over st.cells count ≡ false = no_fault (brings_over st.cells count) TooLarge d.name.span (none_right (f1 ++ f2 ++ f3) f4 none_own) in
+    let none_own = append_nil_first (f1 ++ f2 ++ f3 ++ f4) init.faults none in
+    let none_init = append_nil_second (f1 ++ f2 ++ f3 ++ f4) init.faults none in
+    let n3 = append_nil_first (f1 ++ f2 ++ f3) f4 none_own in
+    let n2 = append_nil_first (f1 ++ f2) f3 n3 in
+    let plain : IsTrue (is_plain (length st.structs) ty) = objects kind.Global (length st.structs) given d.pointer d.suffix d.name.span base (append_nil_first f1 f2 n2) in
+    let small = append_nil_second f1 f2 n2 in
+    let new : is_new st.env.file d.name.bytes ≡ true = from_not_false (is_new st.env.file d.name.bytes) (no_fault (not (is_new st.env.file d.name.bytes)) Redeclared d.name.span (append_nil_second (f1 ++ f2) f3 n3)) in
+    let over : brings_over st.cells count ≡ false = no_fault (brings_over st.cells count) TooLarge d.name.span (append_nil_second (f1 ++ f2 ++ f3) f4 none_own) in
     let counted = counted_cells st.cells count init.values t.limit over in
     let g : TypedGlobal = typed_global given d (start_cells st.cells count init.values) in
     let many : length g.cells ≡ count = ap length counted.start ∙ padded_many count init.values in
     let limit : cells_with st.cells count ≤ globals_limit = let a = counted.cells in let b = counted.limit in omega (arith, a, b) in
     let cells : cells_with st.cells count ≡ st.cells + length g.cells = let a = counted.cells in omega (arith, a, many) in
     let has : HasObject (length st.structs) (object_of given d) (Some g) = record { global = g; is = refl; good = plain_variable (length st.structs) ty plain; has = object_there (length st.structs) ty (plain_variable (length st.structs) ty plain); fixed = refl } in
-    let first = leaves st.structs [] ty d.name.span (subst (λ s. SoundStructs s) (sym (joined_none st.structs)) t.structs) plain small in
+    let first = leaves st.structs [] ty d.name.span (subst (λ s. SoundStructs s) (sym (append_nil st.structs)) t.structs) plain small in
     let same = (init_sound known st.structs ty i.init (typed.leaves_of (infos_of (st.structs ++ [])) (object_type_of ty)) first (plain_fine (length st.structs) ty plain) none_init).same in
     let tables = one_tables marks rest st d.name.bytes (object_of given d) g (cells_with st.cells count) t (none_where_new st.env.file d.name.bytes new) has cells limit
     (λ x z. subst (λ s. IsTrue (global_sound s g)) (sym z.structs) (holds z.more z.sound counted.start plain small none_init)) in
@@ -240,13 +239,13 @@ one_global objects sizes leaves marks rest given st i t base none =
         let ts = typed.leaves_of all (object_type_of ty) in
         let size = sizes st.structs more ty i.declarator.name.span sound plain small in
         let fits = (init_sound known st.structs ty i.init ts (leaves st.structs more ty i.declarator.name.span sound plain small) (plain_fine (length st.structs) ty plain) none_init).fits in
-        let long = length_joined st.structs more in
-        let mapped = length_mapped struct_info (st.structs ++ more) in
+        let long = length_append st.structs more in
+        let mapped = length_map struct_info (st.structs ++ more) in
         let structs : length st.structs ≤ length all = omega (arith, long, mapped) in
         let filled : IsTrue (cells_fit ts (start_cells st.cells (cells_of st.structs ty) init.values)) =
         subst (λ cs. IsTrue (cells_fit ts cs)) (sym start) (subst (λ n. IsTrue (cells_fit ts (padded n init.values))) size.0 (padded_fits ts init.values fits)) in
-        and_both (is_plain_type (length all) (object_type_of ty) && is_small all (object_type_of ty)) (true && cells_fit ts (start_cells st.cells (cells_of st.structs ty) init.values))
-        (and_both (is_plain_type (length all) (object_type_of ty)) (is_small all (object_type_of ty)) (plain_type (length all) ty (plain_more (length st.structs) (length all) structs ty plain)) size.1)
+        both_hold (is_plain_type (length all) (object_type_of ty) && is_small all (object_type_of ty)) (true && cells_fit ts (start_cells st.cells (cells_of st.structs ty) init.values))
+        (both_hold (is_plain_type (length all) (object_type_of ty)) (is_small all (object_type_of ty)) (plain_type (length all) ty (plain_more (length st.structs) (length all) structs ty plain)) size.1)
         filled
 
 -- ---- all declarators, and declarations
@@ -257,8 +256,8 @@ all_globals objects sizes leaves marks rest given st [] t base none = record { t
 all_globals objects sizes leaves marks rest given st (d ∷ ds) t base none =
     let one = declared_one given st d in
     let more = declared_all given one.progress ds in
-    let s = one_global objects sizes leaves marks rest given st d t base (none_left one.faults more.faults none) in
-    let r = all_globals objects sizes leaves marks rest given one.progress ds s.tables (subst (λ z. IsTrue (is_base (length z) given.base)) (sym s.structs) base) (none_right one.faults more.faults none) in
+    let s = one_global objects sizes leaves marks rest given st d t base (append_nil_first one.faults more.faults none) in
+    let r = all_globals objects sizes leaves marks rest given one.progress ds s.tables (subst (λ z. IsTrue (is_base (length z) given.base)) (sym s.structs) base) (append_nil_second one.faults more.faults none) in
     record {
       tables = r.tables;
       structs = r.structs ∙ s.structs;
@@ -274,10 +273,10 @@ declaration_step specifiers objects sizes leaves marks rest st d s none =
     let j = specified true st.structs d.specs in
     let marked = mark_faults (global_carrier d.declarators) j.given.attributes in
     let all = declared_all j.given (record st { structs = j.structs }) d.declarators in
-    let own = none_left (j.faults ++ marked) all.faults none in
-    let judged = specifiers true st.structs d.specs s.tables.structs (none_left j.faults marked own) in
+    let own = append_nil_first (j.faults ++ marked) all.faults none in
+    let judged = specifiers true st.structs d.specs s.tables.structs (append_nil_first j.faults marked own) in
     let tables = tables_moved marks (declares d ∷ rest) rest st st.env.scopes st.env.variables j.structs judged.more st.has_main judged.grown judged.sound (λ n. refl) s.tables in
-    let step = all_globals objects sizes leaves marks rest j.given (record st { structs = j.structs }) d.declarators tables judged.base (none_right (j.faults ++ marked) all.faults none) in
+    let step = all_globals objects sizes leaves marks rest j.given (record st { structs = j.structs }) d.declarators tables judged.base (append_nil_second (j.faults ++ marked) all.faults none) in
     record {
       tables = step.tables;
       scopes = step.scopes ∙ s.scopes;

@@ -2,6 +2,7 @@
 use Rattle.std.proofs.Common.{◌≡◌, ◌++◌, ◌∙◌, sym, ap, subst, refl, ℕ, true, [], ◌∷◌, length, arith, map}
 use Rattle.std.specs.Prelude.{IsTrue, slice_get, is_some}
 use Rattle.std.specs.List.{list_all}
+use Rattle.pt_base.proofs.Lists.{append_nil_first, append_nil_second}
 use Rattle.pt_tree.specs.ProgramTree as parsed
 use Rattle.type_rules.specs.Types.{is_integer}
 use Rattle.check_declarations.specs.declared.marks.Carrier.TheVariants as carrier
@@ -18,7 +19,6 @@ use Rattle.check_programs.specs.Parameters.{parameters_of}
 use Rattle.check_programs.specs.Functions.{Head, head_of, result_of, params_of_function}
 use Rattle.check_programs.specs.Progress.{Progress}
 use Rattle.type_law.proofs.ProgramsParameters.{SoundParams, all_params}
-use Rattle.type_law.proofs.DeclarationsFaultLemmas.{none_left, none_right}
 
 pub record SoundHead (marks : FunctionMarks) (st : Progress) (f : parsed.FunctionTree) (h : Head) : Type 0 where
   pub more : Structs
@@ -54,11 +54,11 @@ sound_head specifiers objects results marks st f sound scopes variables none =
     let j = specified true st.structs f.specs in
     let wrong = result_faults j.given d.pointer d.suffix d.name.span in
     let marked = mark_faults (carrier.Function marks.privileged) j.given.attributes in
-    let none_r = none_left r.faults ps.faults none in
-    let none_j = none_left (j.faults ++ wrong) marked none_r in
-    let judged = specifiers true st.structs f.specs sound (none_left j.faults wrong none_j) in
-    let result = results (length j.structs) j.given d.pointer d.suffix d.name.span judged.base (none_right j.faults wrong none_j) in
-    let all = all_params specifiers objects marks st.env (is_some f.body) (opened st.env) j.structs (parameters_of f.params) judged.sound (no_params marks st (length j.structs) scopes variables) (none_right r.faults ps.faults none) in
+    let none_r = append_nil_first r.faults ps.faults none in
+    let none_j = append_nil_first (j.faults ++ wrong) marked none_r in
+    let judged = specifiers true st.structs f.specs sound (append_nil_first j.faults wrong none_j) in
+    let result = results (length j.structs) j.given d.pointer d.suffix d.name.span judged.base (append_nil_second j.faults wrong none_j) in
+    let all = all_params specifiers objects marks st.env (is_some f.body) (opened st.env) j.structs (parameters_of f.params) judged.sound (no_params marks st (length j.structs) scopes variables) (append_nil_second r.faults ps.faults none) in
     record {
       more = judged.more;
       grown = all.same ∙ judged.grown;

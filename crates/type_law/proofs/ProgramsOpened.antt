@@ -8,6 +8,10 @@ use Rattle.std.proofs.lemmas.Bool.Decides.{nat_tests}
 use Rattle.pt_base.specs.declared.ids.FnId.{FnId}
 use Rattle.pt_base.specs.declared.span.Span.{Span}
 use Rattle.pt_base.specs.Names.{is_short}
+use Rattle.pt_base.proofs.Booleans.{both_hold as and_both, both_hold_first, both_hold_second}
+use Rattle.pt_base.proofs.Lists.{append_nil, bytes_eq_same, bytes_eq_self, length_append, length_map, length_pushed, map_append}
+use Rattle.pt_base.proofs.Members.{all_hold_append}
+use Rattle.pt_base.proofs.Places.{get_below_length, get_kept, get_mapped, get_pushed as get_last, get_there}
 use Rattle.pt_tree.specs.declared.signature.Param.{Param}
 use Rattle.pt_tree.specs.ProgramTree.{ItemTree}
 use Rattle.type_rules.specs.Types.{is_integer}
@@ -28,12 +32,11 @@ use Rattle.check_programs.specs.declared.function_marks.FunctionMarks.{FunctionM
 use Rattle.check_programs.specs.Functions.{agree, all_agree, differ, has_body, has_other_types, clashes, var_of, entry_of, declared_as}
 use Rattle.check_programs.specs.Unions.{marks_at}
 use Rattle.check_programs.specs.Progress.{Progress}
-use Rattle.type_law.proofs.ProgramsListLemmas.{all_joined, all_weaker, length_pushed, length_joined, length_mapped, map_joined, joined_none, get_kept, get_last, get_pushed, get_below, get_within, get_mapped, IsLast}
-use Rattle.type_law.proofs.ProgramsTableLemmas.{sought, value_of, found, name_self, name_same, new_where_none, sought_pushed, sought_kept, pushed}
+use Rattle.type_law.proofs.ProgramsListLemmas.{all_weaker, get_pushed, IsLast}
+use Rattle.type_law.proofs.ProgramsTableLemmas.{sought, value_of, found, new_where_none, sought_pushed, sought_kept, pushed}
 use Rattle.type_law.proofs.ProgramsTypeLemmas.{result_fine, agree_same, all_agree_same, result_given, params_taken, params_many, params_marked, params_lead_vars, integers_taken, parameter_variable, variable_more, variable_type, parameter_small}
 use Rattle.type_law.proofs.ProgramsSound.{signatures, Extends, Grows, defines, SoundEntry, entry_kept, is_file_meaning, is_file_entry, Known, SoundTables, callable_kept, extends_back}
 use Rattle.type_law.proofs.ProgramsParameters.{SoundParams}
-use Rattle.typed_tree.proofs.WellFormedLemmas.{and_left, and_right, and_both}
 
 meaning_same : (file : Scope) (o : Option ℕ) → meaning_at file o ≡ value_of file o
 meaning_same file None = refl
@@ -51,10 +54,10 @@ some_same x y o e f = cc
 pub params_sound : (structs : List StructInfo) (n : ℕ) (xs : List Variable) → n ≤ length structs → IsTrue (list_all (is_parameter n) (map (λ x. x.ty) xs)) → IsTrue (list_all (variable_sound structs) (map var_of xs))
 params_sound structs n [] h i = refl
 params_sound structs n (x ∷ xs) h i =
-    let good = and_left (is_parameter n x.ty) (list_all (is_parameter n) (map (λ x. x.ty) xs)) i in
+    let good = both_hold_first (is_parameter n x.ty) (list_all (is_parameter n) (map (λ x. x.ty) xs)) i in
     let type = variable_type (length structs) x.ty (variable_more n (length structs) h x.ty (parameter_variable n x.ty good)) in
     let small = parameter_small structs n x.ty good in
-    let all = params_sound structs n xs h (and_right (is_parameter n x.ty) (list_all (is_parameter n) (map (λ x. x.ty) xs)) i) in
+    let all = params_sound structs n xs h (both_hold_second (is_parameter n x.ty) (list_all (is_parameter n) (map (λ x. x.ty) xs)) i) in
     and_both (variable_sound structs (var_of x)) (list_all (variable_sound structs) (map var_of xs))
     (and_both (is_variable_type (length structs) (object_type_of x.ty)) (is_small structs (object_type_of x.ty) && true) type (and_both (is_small structs (object_type_of x.ty)) true small refl)) all
 
@@ -62,8 +65,8 @@ params_sound structs n (x ∷ xs) h i =
 pub structs_many : (st : Progress) (t : TypedTree) → Extends st t → length st.structs ≤ length t.structs
 structs_many st t e =
     let same = ap length e.structs in
-    let mapped = length_mapped struct_info (st.structs ++ e.more) in
-    let long = length_joined st.structs e.more in
+    let mapped = length_map struct_info (st.structs ++ e.more) in
+    let long = length_append st.structs e.more in
     omega (arith, same, mapped, long)
 
 -- ---- a function whose scope is open
@@ -84,8 +87,8 @@ module _ (marks : List ℕ → FunctionMarks) (rest : List ItemTree) (own : Func
       → sought st.env.file c.name ≡ Some (Function k) → clashes st c defining (Some (Function k)) ≡ false → Opened marks rest own defining st c k.0
   old_opened k t params result types is fine =
       let there = t.known c.name k is in
-      let within = get_within st.functions k.0 there.entry there.is in
-      let one = get_below st.env.functions k.0 (omega (arith, within, t.numbers)) in
+      let within = get_below_length st.functions k.0 there.entry there.is in
+      let one = get_there st.env.functions k.0 (omega (arith, within, t.numbers)) in
       let g : Callable = one.0 in
       let at : slice_get st.env.functions k.0 ≡ Some g = one.1 in
       let has = t.callables k.0 g at in
@@ -93,8 +96,8 @@ module _ (marks : List ℕ → FunctionMarks) (rest : List ItemTree) (own : Func
       let agrees : differ g c ≡ false = sym (ap (λ o. option_map_or (λ h. differ h c) o false) at) ∙ parts.0 in
       let both : (agree g.result c.result && all_agree g.params c.params) ≡ true = not_not (agree g.result c.result && all_agree g.params c.params) agrees in
       let good : IsTrue (list_all (is_parameter (length st.structs)) c.params) = ap (list_all (is_parameter (length st.structs))) types ∙ params.types in
-      let same_result : g.result ≡ c.result = agree_same g.result c.result (result_fine g.result has.result) (result_fine c.result result) (and_left (agree g.result c.result) (all_agree g.params c.params) both) in
-      let same_params : g.params ≡ c.params = all_agree_same (length st.structs) g.params c.params has.params good (and_right (agree g.result c.result) (all_agree g.params c.params) both) in
+      let same_result : g.result ≡ c.result = agree_same g.result c.result (result_fine g.result has.result) (result_fine c.result result) (both_hold_first (agree g.result c.result) (all_agree g.params c.params) both) in
+      let same_params : g.params ≡ c.params = all_agree_same (length st.structs) g.params c.params has.params good (both_hold_second (agree g.result c.result) (all_agree g.params c.params) both) in
       let signature : there.entry.signature ≡ has.signature = some_same there.entry.signature has.signature (slice_get (signatures st.functions) k.0) (get_mapped (λ (f : FunctionTree). f.signature) st.functions k.0 there.entry there.is) has.is in
       record {
         tables = t;
@@ -157,11 +160,11 @@ files_more m n k l h i file j = all_weaker (is_file_entry m k) (is_file_entry n 
 grown_by : (st : Progress) (c : Callable) (e : FunctionTree) → Grows st (with_entry st c e)
 grown_by st c e = record {
   more = [];
-  structs = sym (joined_none st.structs);
-  functions = λ k s h. ap (λ ss. slice_get ss k) (map_joined (λ (f : FunctionTree). f.signature) st.functions (e ∷ [])) ∙ get_kept (signatures st.functions) (e.signature ∷ []) k s h;
+  structs = sym (append_nil st.structs);
+  functions = λ k s h. ap (λ ss. slice_get ss k) (map_append (λ (f : FunctionTree). f.signature) st.functions (e ∷ [])) ∙ get_kept (signatures st.functions) (e.signature ∷ []) k s h;
   globals = λ k g h. h;
   new = [];
-  exprs = sym (joined_none st.exprs);
+  exprs = sym (append_nil st.exprs);
 }
 
 module _ (marks : List ℕ → FunctionMarks) (rest : List ItemTree) (st : Progress) (c : Callable) (e : FunctionTree) (t : SoundTables marks rest st) (new : sought st.env.file c.name ≡ None) (same : e.signature.name ≡ c.name) where
@@ -180,7 +183,7 @@ module _ (marks : List ℕ → FunctionMarks) (rest : List ItemTree) (st : Progr
           let number : length st.env.functions ≡ k = t.numbers ∙ sym i.at in
           ap (sought (st.env.file ++ (c.name, Function (record { 0 = length st.env.functions })) ∷ [])) name
           ∙ sought_pushed st.env.file c.name c.name (Function (record { 0 = length st.env.functions })) new
-          ∙ ap (λ b. if b then Some (Function (record { 0 = length st.env.functions })) else None) (name_self c.name)
+          ∙ ap (λ b. if b then Some (Function (record { 0 = length st.env.functions })) else None) (bytes_eq_self c.name)
           ∙ ap (λ n. Some (Function (record { 0 = n }))) number
 
   entry_known : (n : List ℕ) (k : FnId) → sought (st.env.file ++ (c.name, Function (record { 0 = length st.env.functions })) ∷ []) n ≡ Some (Function k) → Known (st.functions ++ e ∷ []) n k.0
@@ -192,7 +195,7 @@ module _ (marks : List ℕ → FunctionMarks) (rest : List ItemTree) (st : Progr
           record {
             entry = e;
             is = ap (slice_get (st.functions ++ e ∷ [])) (sym number ∙ t.numbers) ∙ get_last st.functions e;
-            name = same ∙ sym (name_same n c.name is);
+            name = same ∙ sym (bytes_eq_same n c.name is);
           }
       here false is i = cc
 
@@ -231,7 +234,7 @@ module _ (marks : List ℕ → FunctionMarks) (rest : List ItemTree) (st : Progr
       record {
         structs = t.structs;
         file =
-            all_joined (is_file_entry (length (st.functions ++ e ∷ [])) (length st.globals)) st.env.file ((c.name, Function (record { 0 = length st.env.functions })) ∷ [])
+            all_hold_append (is_file_entry (length (st.functions ++ e ∷ [])) (length st.globals)) st.env.file ((c.name, Function (record { 0 = length st.env.functions })) ∷ [])
             (files_more (length st.functions) (length (st.functions ++ e ∷ [])) (length st.globals) (length st.globals) (omega (arith, many)) (omega arith) st.env.file t.file)
             (and_both (is_file_meaning (length (st.functions ++ e ∷ [])) (length st.globals) (Function (record { 0 = length st.env.functions }))) true (last_below (length st.env.functions) (length (st.functions ++ e ∷ [])) (omega (arith, many, numbered))) refl);
         numbers = omega (arith, many, many', numbered);
@@ -275,12 +278,12 @@ module _ (marks : List ℕ → FunctionMarks) (rest : List ItemTree) (own : Func
   }
 
   count : length first.signature.params ≡ length st.env.variables
-  count = params_many own.params 0 c.params ∙ ap length types ∙ length_mapped (λ (x : Variable). x.ty) st.env.variables
+  count = params_many own.params 0 c.params ∙ ap length types ∙ length_map (λ (x : Variable). x.ty) st.env.variables
 
   host_holds : first.signature.host ≡ true → IsTrue (list_all is_integer_param first.signature.params) × IsTrue (nat_eq (length first.vars) (length first.signature.params))
   host_holds h =
       let integers : IsTrue (list_all is_integer c.params) = ap (list_all is_integer) types ∙ params.integers (not_true own.defined h) in
-      let vars = length_mapped var_of st.env.variables in
+      let vars = length_map var_of st.env.variables in
       let number = count in
       (integers_taken own.params 0 c.params integers, equal (length first.vars) (length first.signature.params) (vars ∙ sym number))
     where
@@ -296,7 +299,7 @@ module _ (marks : List ℕ → FunctionMarks) (rest : List ItemTree) (own : Func
 
   first_lead : IsTrue (params_lead first.signature.params first.vars)
   first_lead =
-      subst (λ xs. IsTrue (params_lead first.signature.params (map var_of xs))) (joined_none st.env.variables)
+      subst (λ xs. IsTrue (params_lead first.signature.params (map var_of xs))) (append_nil st.env.variables)
       (params_lead_vars (length st.structs) first.signature.params st.env.variables [] params.types (params_taken own.params 0 (length st.structs) c.params good ∙ ap (map var_type) types)
       (λ j p x h i. first_marked j p h ∙ sym (params.marked j x i)))
 

@@ -3,6 +3,10 @@ use Rattle.std.proofs.Common.{◌≡◌, ◌≤◌, ◌++◌, ◌∙◌, sym, ap
 use Rattle.std.specs.Prelude.{IsTrue, ◌&&◌, ◌||◌, nat_lt, nat_eq, slice_get, is_some}
 use Rattle.std.specs.List.{list_all}
 use Rattle.std.proofs.lemmas.Bool.Decides.{nat_tests}
+use Rattle.std.proofs.lemmas.Bool.{or_parts}
+use Rattle.pt_base.proofs.Booleans.{both_hold}
+use Rattle.pt_base.proofs.Lists.{append_nil_first, append_nil_second, length_pushed, map_append}
+use Rattle.pt_base.proofs.Members.{all_hold_append}
 use Rattle.pt_tree.specs.declared.specifier.Suffix.{Suffix}
 use Rattle.pt_tree.specs.declared.specifier.Suffix.TheVariants.{Plain, Open, Sized}
 use Rattle.pt_tree.specs.ProgramTree.{ParamTree}
@@ -27,10 +31,9 @@ use Rattle.type_law.specs.DeclarationsLaws.{SpecifiersAreSound, ObjectsAreSound}
 use Rattle.check_programs.specs.declared.function_marks.FunctionMarks.{FunctionMarks}
 use Rattle.check_programs.specs.Unions.{marks_at}
 use Rattle.check_programs.specs.Parameters.{is_pointer_form, is_host_pointer, is_refused, lacks_name, place_of, param_type, param_variable, param_faults, attribute_faults, is_repeated, with_param, Declared, declared_one, declared_all}
-use Rattle.type_law.proofs.ProgramsListLemmas.{all_joined, all_weaker, length_pushed, map_joined, get_pushed}
+use Rattle.type_law.proofs.ProgramsListLemmas.{all_weaker, get_pushed}
 use Rattle.type_law.proofs.ProgramsSound.{is_local_meaning, is_local_entry}
-use Rattle.type_law.proofs.DeclarationsFaultLemmas.{none_left, none_right, no_fault}
-use Rattle.typed_tree.proofs.WellFormedLemmas.{and_both}
+use Rattle.type_law.proofs.DeclarationsFaultLemmas.{no_fault}
 
 -- the parameters so far, in a scope that is open
 pub record SoundParams (marks : FunctionMarks) (base : Env) (structs : ℕ) (env : Env) : Type 0 where
@@ -50,16 +53,12 @@ local_more m n h (name, Function f) i = i
 local_more m n h (name, Global g) i = i
 local_more m n h (name, Local x) i = grind (arith, nat_tests)
 
-neither : (a b : Bool) → (a || b) ≡ false → (a ≡ false) × (b ≡ false)
-neither true b h = cc
-neither false b h = (refl, h)
-
 -- a name more, or none
 named_all : (p : List ℕ × Meaning → Bool) (scope : Scope) (name : List ℕ) (m : Meaning) → IsTrue (list_all p scope) → IsTrue (p (name, m)) → IsTrue (list_all p (with_name scope name m))
 named_all p scope name m h i = go (is_new scope name)
   where
     go : (b : Bool) → IsTrue (list_all p (if b then scope ++ (name, m) ∷ [] else scope))
-    go true = all_joined p scope ((name, m) ∷ []) h (and_both (p (name, m)) true i refl)
+    go true = all_hold_append p scope ((name, m) ∷ []) h (both_hold (p (name, m)) true i refl)
     go false = h
 
 -- a variable more, which has the marks of its position
@@ -98,27 +97,27 @@ one_param objects marks base defines structs env p given repeated s good none =
     let f2 = fault_if (is_refused marks k p) OutOfProfile (place_of p given) in
     let f3 = fault_if (lacks_name defines p) OutOfProfile given.first in
     let f4 = fault_if repeated Redeclared (place_of p given) in
-    let n4 = none_left (f1 ++ f2 ++ f3 ++ f4) (attribute_faults marks p given) none in
-    let n3 = none_left (f1 ++ f2 ++ f3) f4 n4 in
-    let n2 = none_left (f1 ++ f2) f3 n3 in
-    let fits = none_left f1 f2 n2 in
-    let taken : is_refused marks k p ≡ false = no_fault (is_refused marks k p) OutOfProfile (place_of p given) (none_right f1 f2 n2) in
-    let named : lacks_name defines p ≡ false = no_fault (lacks_name defines p) OutOfProfile given.first (none_right (f1 ++ f2) f3 n3) in
-    let both = neither (nat_eq k 8) (is_host_pointer marks p) taken in
+    let n4 = append_nil_first (f1 ++ f2 ++ f3 ++ f4) (attribute_faults marks p given) none in
+    let n3 = append_nil_first (f1 ++ f2 ++ f3) f4 n4 in
+    let n2 = append_nil_first (f1 ++ f2) f3 n3 in
+    let fits = append_nil_first f1 f2 n2 in
+    let taken : is_refused marks k p ≡ false = no_fault (is_refused marks k p) OutOfProfile (place_of p given) (append_nil_second f1 f2 n2) in
+    let named : lacks_name defines p ≡ false = no_fault (lacks_name defines p) OutOfProfile given.first (append_nil_second (f1 ++ f2) f3 n3) in
+    let both = or_parts (nat_eq k 8) (is_host_pointer marks p) taken in
     let sound = objects kind.Parameter structs given p.pointer p.suffix (place_of p given) good fits in
     let is : param_type marks defines k p given ≡ object_type kind.Parameter given p.pointer p.suffix =
     ap (λ b. if b || lacks_name defines p then ty.Bad else object_type kind.Parameter given p.pointer p.suffix) taken
     ∙ ap (λ b. if b then ty.Bad else object_type kind.Parameter given p.pointer p.suffix) named in
     let right : IsTrue (is_parameter structs v.ty) = ap (is_parameter structs) is ∙ sound in
     let types : IsTrue (list_all (is_parameter structs) (map (λ x. x.ty) (env.variables ++ v ∷ []))) =
-    subst (λ xs. IsTrue (list_all (is_parameter structs) xs)) (sym (map_joined (λ (x : Variable). x.ty) env.variables (v ∷ [])))
-    (all_joined (is_parameter structs) (map (λ x. x.ty) env.variables) (v.ty ∷ []) s.types (and_both (is_parameter structs v.ty) true right refl)) in
+    subst (λ xs. IsTrue (list_all (is_parameter structs) xs)) (sym (map_append (λ (x : Variable). x.ty) env.variables (v ∷ [])))
+    (all_hold_append (is_parameter structs) (map (λ x. x.ty) env.variables) (v.ty ∷ []) s.types (both_hold (is_parameter structs v.ty) true right refl)) in
     let integers : marks.defined ≡ false → IsTrue (list_all is_integer (map (λ x. x.ty) (env.variables ++ v ∷ []))) =
     λ host.
     let form : is_pointer_form p ≡ false = ap (λ d. not d && is_pointer_form p) (sym host) ∙ both.1 in
     let whole : IsTrue (is_integer v.ty) = ap is_integer is ∙ integer_param structs given p.pointer p.suffix good form sound in
-    subst (λ xs. IsTrue (list_all is_integer xs)) (sym (map_joined (λ (x : Variable). x.ty) env.variables (v ∷ [])))
-    (all_joined is_integer (map (λ x. x.ty) env.variables) (v.ty ∷ []) (s.integers host) (and_both (is_integer v.ty) true whole refl)) in
+    subst (λ xs. IsTrue (list_all is_integer xs)) (sym (map_append (λ (x : Variable). x.ty) env.variables (v ∷ [])))
+    (all_hold_append is_integer (map (λ x. x.ty) env.variables) (v.ty ∷ []) (s.integers host) (both_hold (is_integer v.ty) true whole refl)) in
     let marked = marked_more marks env.variables v s.marked refl in
     let longer = length_pushed env.variables v in
     let few : length (env.variables ++ v ∷ []) ≤ 8 = at_most k (length (env.variables ++ v ∷ [])) longer s.few both.0 in
@@ -176,14 +175,14 @@ all_params specifiers objects marks base defines env structs [] sound s none = r
 all_params specifiers objects marks base defines env structs (p ∷ ps) sound s none =
     let one = declared_one marks defines env structs p in
     let rest = declared_all marks defines one.env one.structs ps in
-    let none_one = none_left one.faults rest.faults none in
-    let none_rest = none_right one.faults rest.faults none in
+    let none_one = append_nil_first one.faults rest.faults none in
+    let none_rest = append_nil_second one.faults rest.faults none in
     let j = specified false structs p.specs in
     let own = param_faults marks defines (length env.variables) p j.given (is_repeated env (is_some p.name) (param_variable marks defines (length env.variables) p j.given)) in
-    let judged = specifiers false structs p.specs sound (none_left j.faults own none_one) in
+    let judged = specifiers false structs p.specs sound (append_nil_first j.faults own none_one) in
     let same : one.structs ≡ structs = judged.none refl in
     let base_good : IsTrue (is_base (length structs) j.given.base) = subst (λ x. IsTrue (is_base (length x) j.given.base)) same judged.base in
-    let next = one_param objects marks base defines (length structs) env p j.given (is_repeated env (is_some p.name) (param_variable marks defines (length env.variables) p j.given)) s base_good (none_right j.faults own none_one) in
+    let next = one_param objects marks base defines (length structs) env p j.given (is_repeated env (is_some p.name) (param_variable marks defines (length env.variables) p j.given)) s base_good (append_nil_second j.faults own none_one) in
     let next' : SoundParams marks base (length one.structs) one.env = subst (λ x. SoundParams marks base (length x) one.env) (sym same) next in
     let all = all_params specifiers objects marks base defines one.env one.structs ps judged.sound next' none_rest in
     record {

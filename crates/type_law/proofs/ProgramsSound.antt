@@ -5,6 +5,7 @@ use Rattle.std.specs.List.{list_all}
 use Rattle.std.specs.Str.{bytes_eq}
 use Rattle.pt_base.specs.declared.ids.FnId.{FnId}
 use Rattle.pt_base.specs.Names.{is_short}
+use Rattle.pt_base.proofs.Lists.{append_grouped, append_nil, length_append}
 use Rattle.pt_tree.specs.declared.signature.Param.{Param}
 use Rattle.pt_tree.specs.declared.signature.Signature.{Signature}
 use Rattle.pt_tree.specs.ProgramTree.{ItemTree, declares, function}
@@ -31,7 +32,7 @@ use Rattle.check_programs.specs.declared.function_marks.FunctionMarks.{FunctionM
 use Rattle.check_programs.specs.Progress.{Progress}
 use Rattle.check_programs.specs.Unions.{marks_at}
 use Rattle.check_programs.specs.Globals.{globals_limit}
-use Rattle.type_law.proofs.ProgramsListLemmas.{joined_again, joined_none, length_joined, all_weaker}
+use Rattle.type_law.proofs.ProgramsListLemmas.{all_weaker}
 use Rattle.type_law.proofs.ProgramsTypeLemmas.{variable_more, parameter_more}
 use Rattle.type_law.proofs.ProgramsTableLemmas.{sought}
 
@@ -59,7 +60,7 @@ pub record Grows (a b : Progress) : Type 0 where
 
 pub extends_back : (a b : Progress) (t : TypedTree) → Grows a b → Extends b t → Extends a t
 extends_back a b t g e =
-    let same : b.structs ++ e.more ≡ a.structs ++ (g.more ++ e.more) = ap (λ s. s ++ e.more) g.structs ∙ joined_again a.structs g.more e.more in
+    let same : b.structs ++ e.more ≡ a.structs ++ (g.more ++ e.more) = ap (λ s. s ++ e.more) g.structs ∙ append_grouped a.structs g.more e.more in
     record {
       more = g.more ++ e.more;
       sound = subst (λ s. SoundStructs s) same e.sound;
@@ -67,7 +68,7 @@ extends_back a b t g e =
       functions = λ k s h. e.functions k s (g.functions k s h);
       globals = λ k x h. e.globals k x (g.globals k x h);
       after = g.new ++ e.after;
-      exprs = e.exprs ∙ ap (λ xs. xs ++ e.after) g.exprs ∙ joined_again a.exprs g.new e.after;
+      exprs = e.exprs ∙ ap (λ xs. xs ++ e.after) g.exprs ∙ append_grouped a.exprs g.new e.after;
     }
 
 -- ---- functions
@@ -191,7 +192,7 @@ moved st scopes variables structs has_main = record {
 }
 
 pub more_structs : (a b more : Structs) → b ≡ a ++ more → length a ≤ length b
-more_structs a b more h = let long = length_joined a more in let same = ap length h in omega (arith, long, same)
+more_structs a b more h = let long = length_append a more in let same = ap length h in omega (arith, long, same)
 
 pub callable_kept : (m n : ℕ) (c : Callable) (o o' : Option Signature) → m ≤ n → ((s : Signature) → o ≡ Some s → o' ≡ Some s) → HasCallable m c o → HasCallable n c o'
 callable_kept m n c o o' h f k = record {
@@ -213,7 +214,7 @@ pub tables_moved : (marks : List ℕ → FunctionMarks) (rest rest' : List ItemT
 tables_moved marks rest rest' st scopes variables structs more has_main grown sound same t =
     let after : Progress = moved st scopes variables structs has_main in
     let many : length st.structs ≤ length structs = more_structs st.structs structs more grown in
-    let grows : Grows st after = record { more = more; structs = grown; functions = λ k s h. h; globals = λ k g h. h; new = []; exprs = sym (joined_none st.exprs) } in
+    let grows : Grows st after = record { more = more; structs = grown; functions = λ k s h. h; globals = λ k g h. h; new = []; exprs = sym (append_nil st.exprs) } in
     record {
       structs = sound;
       file = t.file;

@@ -3,14 +3,7 @@ use Rattle.std.proofs.Common.{◌≡◌, ◌<◌, ◌+◌, ◌++◌, ◌∙◌, 
 use Rattle.std.specs.List.{prefix_len}
 use Rattle.std.specs.Str.{bytes_eq}
 use Rattle.std.proofs.lemmas.Bool.Decides.{nat_tests}
-use Rattle.std.proofs.lemmas.Slice.Eq.{bytes_eq-Decides}
 use Rattle.check_declarations.specs.NameTables.{Named, number_of, value_at, is_new, with_name}
-
-pub name_self : (n : List ℕ) → bytes_eq n n ≡ true
-name_self n = (bytes_eq-Decides n n).1 refl
-
-pub name_same : (m n : List ℕ) → bytes_eq m n ≡ true → m ≡ n
-name_same m n h = (bytes_eq-Decides m n).0 h
 
 module _ {X : Type 0} where
   abbrev pub value_of : Named X → Option ℕ → Option X

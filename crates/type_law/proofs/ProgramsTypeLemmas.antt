@@ -4,6 +4,7 @@ use Rattle.std.specs.Prelude.{IsTrue, ◌&&◌, nat_lt, nat_le, slice_get, optio
 use Rattle.std.specs.List.{list_all}
 use Rattle.std.proofs.lemmas.Bool.Decides.{nat_tests}
 use Rattle.pt_base.specs.declared.int_type.IntType.{IntType}
+use Rattle.pt_base.proofs.Booleans.{both_hold, both_hold_first, both_hold_second}
 use Rattle.pt_tree.specs.declared.signature.Elem.{Elem}
 use Rattle.pt_tree.specs.declared.signature.Param.{Param}
 use Rattle.pt_tree.specs.declared.signature.Elem.TheVariants as elem
@@ -18,7 +19,6 @@ use Rattle.typed_tree.specs.Cells.{leaves_of}
 use Rattle.typed_tree.specs.TypeTests as typed
 use Rattle.typed_tree.specs.WellFormedExpression.{is_elem, param_type}
 use Rattle.typed_tree.specs.WellFormed.{is_plain_type, is_variable_type, is_small, params_lead, is_integer_param}
-use Rattle.typed_tree.proofs.WellFormedLemmas.{and_left, and_right, and_both}
 use Rattle.check_declarations.specs.declared.marks.Marks.{Marks}
 use Rattle.check_expressions.specs.declared.meaning.Variable.{Variable}
 use Rattle.check_expressions.specs.Operands.{var_type}
@@ -43,7 +43,7 @@ variable_more m n h Bad i = i
 variable_more m n h Void i = i
 variable_more m n h (Int x) i = i
 variable_more m n h (Struct k) i = below_more m n k h i
-variable_more m n h (Array e count) i = and_both _ _ (elem_more m n h e (and_left (is_elem m (Some e)) (nat_le 1 count) i)) (and_right (is_elem m (Some e)) (nat_le 1 count) i)
+variable_more m n h (Array e count) i = both_hold _ _ (elem_more m n h e (both_hold_first (is_elem m (Some e)) (nat_le 1 count) i)) (both_hold_second (is_elem m (Some e)) (nat_le 1 count) i)
 variable_more m n h (Pointer e fixed) i = elem_more m n h e i
 
 pub plain_more : (m n : ℕ) → m ≤ n → (x : «Type») → IsTrue (is_plain m x) → IsTrue (is_plain n x)
@@ -51,7 +51,7 @@ plain_more m n h Bad i = i
 plain_more m n h Void i = i
 plain_more m n h (Int x) i = i
 plain_more m n h (Struct k) i = below_more m n k h i
-plain_more m n h (Array e count) i = and_both _ _ (elem_more m n h e (and_left (is_elem m (Some e)) (nat_le 1 count) i)) (and_right (is_elem m (Some e)) (nat_le 1 count) i)
+plain_more m n h (Array e count) i = both_hold _ _ (elem_more m n h e (both_hold_first (is_elem m (Some e)) (nat_le 1 count) i)) (both_hold_second (is_elem m (Some e)) (nat_le 1 count) i)
 plain_more m n h (Pointer e fixed) i = i
 
 pub parameter_more : (m n : ℕ) → m ≤ n → (x : «Type») → IsTrue (is_parameter m x) → IsTrue (is_parameter n x)
@@ -170,13 +170,13 @@ agree_same Void Void g h e = refl
 agree_same (Int x) (Int y) g h e = ap Int (same_int x y e)
 agree_same (Struct m) (Struct n) g h e = let is : m ≡ n = grind (arith, nat_tests) in ap Struct is
 agree_same (Array d few) (Array e count) g h i =
-    let one = same_elem d e (and_left (is_same_elem d e) (nat_eq few count) i) in
-    let many : nat_eq few count ≡ true = and_right (is_same_elem d e) (nat_eq few count) i in
+    let one = same_elem d e (both_hold_first (is_same_elem d e) (nat_eq few count) i) in
+    let many : nat_eq few count ≡ true = both_hold_second (is_same_elem d e) (nat_eq few count) i in
     let is : few ≡ count = grind (arith, nat_tests) in
     ap (λ x. Array x few) one ∙ ap (Array e) is
 agree_same (Pointer d a) (Pointer e b) g h i =
-    let one = same_elem d e (and_left (is_same_elem d e) (typed.same_bool a b) i) in
-    ap (λ x. Pointer x a) one ∙ ap (Pointer e) (bools_same a b (and_right (is_same_elem d e) (typed.same_bool a b) i))
+    let one = same_elem d e (both_hold_first (is_same_elem d e) (typed.same_bool a b) i) in
+    ap (λ x. Pointer x a) one ∙ ap (Pointer e) (bools_same a b (both_hold_second (is_same_elem d e) (typed.same_bool a b) i))
 agree_same a b g h e = cc
 
 pub all_agree_same : (n : ℕ) (xs ys : List «Type») → IsTrue (list_all (is_parameter n) xs) → IsTrue (list_all (is_parameter n) ys) → all_agree xs ys ≡ true → xs ≡ ys
@@ -184,8 +184,8 @@ all_agree_same n [] [] g h e = refl
 all_agree_same n [] (y ∷ ys) g h e = cc
 all_agree_same n (x ∷ xs) [] g h e = cc
 all_agree_same n (x ∷ xs) (y ∷ ys) g h e =
-    let one = agree_same x y (parameter_fine n x (and_left (is_parameter n x) (list_all (is_parameter n) xs) g)) (parameter_fine n y (and_left (is_parameter n y) (list_all (is_parameter n) ys) h)) (and_left (agree x y) (all_agree xs ys) e) in
-    let rest = all_agree_same n xs ys (and_right (is_parameter n x) (list_all (is_parameter n) xs) g) (and_right (is_parameter n y) (list_all (is_parameter n) ys) h) (and_right (agree x y) (all_agree xs ys) e) in
+    let one = agree_same x y (parameter_fine n x (both_hold_first (is_parameter n x) (list_all (is_parameter n) xs) g)) (parameter_fine n y (both_hold_first (is_parameter n y) (list_all (is_parameter n) ys) h)) (both_hold_first (agree x y) (all_agree xs ys) e) in
+    let rest = all_agree_same n xs ys (both_hold_second (is_parameter n x) (list_all (is_parameter n) xs) g) (both_hold_second (is_parameter n y) (list_all (is_parameter n) ys) h) (both_hold_second (agree x y) (all_agree xs ys) e) in
     ap (λ z. z ∷ xs) one ∙ ap (λ zs. y ∷ zs) rest
 
 -- ---- parameters
@@ -193,8 +193,8 @@ all_agree_same n (x ∷ xs) (y ∷ ys) g h e =
 pub params_taken : (ms : List Marks) (k n : ℕ) (xs : List «Type») → IsTrue (list_all (is_parameter n) xs) → map taken (params_of ms k xs) ≡ map var_type xs
 params_taken ms k n [] h = refl
 params_taken ms k n (x ∷ xs) h =
-    ap (λ o. o ∷ map taken (params_of ms (k + 1) xs)) (param_taken (marks_at ms k) n x (and_left (is_parameter n x) (list_all (is_parameter n) xs) h))
-    ∙ ap (λ os. var_type x ∷ os) (params_taken ms (k + 1) n xs (and_right (is_parameter n x) (list_all (is_parameter n) xs) h))
+    ap (λ o. o ∷ map taken (params_of ms (k + 1) xs)) (param_taken (marks_at ms k) n x (both_hold_first (is_parameter n x) (list_all (is_parameter n) xs) h))
+    ∙ ap (λ os. var_type x ∷ os) (params_taken ms (k + 1) n xs (both_hold_second (is_parameter n x) (list_all (is_parameter n) xs) h))
 
 pub params_many : (ms : List Marks) (k : ℕ) (xs : List «Type») → length (params_of ms k xs) ≡ length xs
 params_many ms k [] = refl
@@ -214,8 +214,8 @@ same_bool_self false = refl
 same_type_self : (x : VarTy) → IsTrue (typed.same_type x x)
 same_type_self (v.Int x) = same_self x
 same_type_self (v.Struct n) = grind (arith, nat_tests)
-same_type_self (v.Array e count) = and_both (typed.same_elem e e) (nat_eq count count) (same_elem_self e) (grind (arith, nat_tests))
-same_type_self (v.Pointer e fixed) = and_both (typed.same_elem e e) (typed.same_bool fixed fixed) (same_elem_self e) (same_bool_self fixed)
+same_type_self (v.Array e count) = both_hold (typed.same_elem e e) (nat_eq count count) (same_elem_self e) (grind (arith, nat_tests))
+same_type_self (v.Pointer e fixed) = both_hold (typed.same_elem e e) (typed.same_bool fixed fixed) (same_elem_self e) (same_bool_self fixed)
 
 -- each parameter has the marks of its position
 pub params_marked : (ms : List Marks) (k : ℕ) (xs : List «Type») (j : ℕ) (p : Param) → slice_get (params_of ms k xs) j ≡ Some p → p.marked ≡ (marks_at ms (k + j)).marked
@@ -233,14 +233,14 @@ params_lead_vars n (p ∷ ps) [] new h e m = cc
 params_lead_vars n (p ∷ ps) (x ∷ xs) new h e m =
     let first : Some (param_type p.kind) ≡ var_type x.ty = cc in
     let rest : map taken ps ≡ map var_type (map (λ x. x.ty) xs) = cc in
-    let good = parameter_variable n x.ty (and_left (is_parameter n x.ty) (list_all (is_parameter n) (map (λ x. x.ty) xs)) h) in
+    let good = parameter_variable n x.ty (both_hold_first (is_parameter n x.ty) (list_all (is_parameter n) (map (λ x. x.ty) xs)) h) in
     let there = object_there n x.ty good in
     let same : param_type p.kind ≡ object_type_of x.ty = cc in
     let type = subst (λ z. IsTrue (typed.same_type (param_type p.kind) z)) same (same_type_self (param_type p.kind)) in
     let mark = subst (λ b. IsTrue (typed.same_bool p.marked b)) (m 0 p x refl refl) (same_bool_self p.marked) in
-    and_both (typed.same_type (param_type p.kind) (object_type_of x.ty) && typed.same_bool p.marked x.marked) (params_lead ps (map var_of (xs ++ new)))
-    (and_both (typed.same_type (param_type p.kind) (object_type_of x.ty)) (typed.same_bool p.marked x.marked) type mark)
-    (params_lead_vars n ps xs new (and_right (is_parameter n x.ty) (list_all (is_parameter n) (map (λ x. x.ty) xs)) h) rest (λ j q y a b. m (suc j) q y a b))
+    both_hold (typed.same_type (param_type p.kind) (object_type_of x.ty) && typed.same_bool p.marked x.marked) (params_lead ps (map var_of (xs ++ new)))
+    (both_hold (typed.same_type (param_type p.kind) (object_type_of x.ty)) (typed.same_bool p.marked x.marked) type mark)
+    (params_lead_vars n ps xs new (both_hold_second (is_parameter n x.ty) (list_all (is_parameter n) (map (λ x. x.ty) xs)) h) rest (λ j q y a b. m (suc j) q y a b))
 
 integer_taken : (m : Marks) (x : «Type») → IsTrue (is_integer x) → IsTrue (is_integer_param (param_of m x))
 integer_taken m Bad i = cc
@@ -253,4 +253,4 @@ integer_taken m (Pointer e fixed) i = cc
 pub integers_taken : (ms : List Marks) (k : ℕ) (xs : List «Type») → IsTrue (list_all is_integer xs) → IsTrue (list_all is_integer_param (params_of ms k xs))
 integers_taken ms k [] h = refl
 integers_taken ms k (x ∷ xs) h =
-    and_both _ _ (integer_taken (marks_at ms k) x (and_left (is_integer x) (list_all is_integer xs) h)) (integers_taken ms (k + 1) xs (and_right (is_integer x) (list_all is_integer xs) h))
+    both_hold _ _ (integer_taken (marks_at ms k) x (both_hold_first (is_integer x) (list_all is_integer xs) h)) (integers_taken ms (k + 1) xs (both_hold_second (is_integer x) (list_all is_integer xs) h))

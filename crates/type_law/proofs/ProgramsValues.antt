@@ -5,6 +5,8 @@ use Rattle.std.proofs.lemmas.Int.{ints}
 use Rattle.pt_base.specs.declared.int_type.IntType.{IntType}
 use Rattle.pt_base.specs.declared.int_type.IntType.TheVariants as t
 use Rattle.pt_base.specs.IntTypes.{InRange, low_of, high_of}
+use Rattle.pt_base.proofs.Booleans.{both_hold, both_hold_first, both_hold_second}
+use Rattle.pt_base.proofs.Lists.{append_nil_first, append_nil_second, length_pushed}
 use Rattle.pt_int.specs.Conversion.{conv, is_in_range}
 use Rattle.pt_int.proofs.Conversions.{conv-in_range}
 use Rattle.pt_tree.specs.ExpressionTree as e
@@ -24,9 +26,7 @@ use Rattle.check_statements.specs.Constants.{number_of}
 use Rattle.check_statements.specs.Leaves.{leaves_of}
 use Rattle.check_statements.specs.GlobalInitialisers.{GlobalInit, stored_in, misfit, item_of, excess_faults, global_items, global_initialised}
 use Rattle.check_programs.specs.Globals.{padded}
-use Rattle.typed_tree.proofs.WellFormedLemmas.{and_left, and_right, and_both}
-use Rattle.type_law.proofs.ProgramsListLemmas.{length_pushed}
-use Rattle.type_law.proofs.DeclarationsFaultLemmas.{none_left, none_right, no_fault}
+use Rattle.type_law.proofs.DeclarationsFaultLemmas.{no_fault}
 
 -- ---- numbers in range
 
@@ -46,7 +46,7 @@ at_most a b h = grind (arith, ints)
 conv_fits : (x : IntType) (v : ℤ) → IsTrue (is_in_range x (conv x v))
 conv_fits x v =
     let h : InRange x (conv x v) = conv-in_range x v in
-    and_both (int_le (low_of x) (conv x v)) (int_le (conv x v) (high_of x)) (at_most (low_of x) (conv x v) h.0) (at_most (conv x v) (high_of x) h.1)
+    both_hold (int_le (low_of x) (conv x v)) (int_le (conv x v) (high_of x)) (at_most (low_of x) (conv x v) h.0) (at_most (conv x v) (high_of x) h.1)
 
 zero_fits : (x : IntType) → IsTrue (is_in_range x (pos 0))
 zero_fits t.Char = refl
@@ -61,15 +61,15 @@ zero_fits t.ULong = refl
 
 zeros_fit : (ts : List IntType) → IsTrue (cells_fit ts (replicate (length ts) (pos 0)))
 zeros_fit [] = refl
-zeros_fit (x ∷ ts) = and_both (is_in_range x (pos 0)) (cells_fit ts (replicate (length ts) (pos 0))) (zero_fits x) (zeros_fit ts)
+zeros_fit (x ∷ ts) = both_hold (is_in_range x (pos 0)) (cells_fit ts (replicate (length ts) (pos 0))) (zero_fits x) (zeros_fit ts)
 
 pub padded_fits : (ts : List IntType) (vs : List ℤ) → IsTrue (fits_front ts vs) → IsTrue (cells_fit ts (padded (length ts) vs))
 padded_fits [] vs h = let none : 0 - length vs ≡ 0 = omega arith in subst (λ n. IsTrue (cells_fit [] (replicate n (pos 0)))) (sym none) refl
 padded_fits (x ∷ ts) [] h = let all : suc (length ts) - 0 ≡ suc (length ts) = omega arith in subst (λ n. IsTrue (cells_fit (x ∷ ts) (replicate n (pos 0)))) (sym all) (zeros_fit (x ∷ ts))
 padded_fits (x ∷ ts) (v ∷ vs) h =
     let less : suc (length ts) - suc (length vs) ≡ length ts - length vs = omega arith in
-    let rest = padded_fits ts vs (and_right (is_in_range x v) (fits_front ts vs) h) in
-    and_both (is_in_range x v) (cells_fit ts (take (length ts) vs ++ replicate (suc (length ts) - suc (length vs)) (pos 0))) (and_left (is_in_range x v) (fits_front ts vs) h)
+    let rest = padded_fits ts vs (both_hold_second (is_in_range x v) (fits_front ts vs) h) in
+    both_hold (is_in_range x v) (cells_fit ts (take (length ts) vs ++ replicate (suc (length ts) - suc (length vs)) (pos 0))) (both_hold_first (is_in_range x v) (fits_front ts vs) h)
     (subst (λ n. IsTrue (cells_fit ts (take (length ts) vs ++ replicate n (pos 0)))) (sym less) rest)
 
 -- ---- initialisers
@@ -99,7 +99,7 @@ module _ (env : Env) (structs : Structs) (leaves : List «Type») where
   no_more None n a o es is none =
       let one = item_of env structs None a o in
       let rest = global_items env one.structs leaves (true && false) (n + 1) es in
-      let wrong = no_fault (true && not false) WrongType (span_of a) (none_right one.faults (excess_faults true None a) (none_left (one.faults ++ excess_faults true None a) rest.faults none)) in
+      let wrong = no_fault (true && not false) WrongType (span_of a) (append_nil_second one.faults (excess_faults true None a) (append_nil_first (one.faults ++ excess_faults true None a) rest.faults none)) in
       cc
 
   one_more : (x : IntType) (ts : List IntType) (n : ℕ) (a : e.ExprTree) (o : Option Number) (es : e.ExprTrees)
@@ -107,12 +107,12 @@ module _ (env : Env) (structs : Structs) (leaves : List «Type») where
       → (items_of env structs leaves (Some (Int x)) n a o es).faults ≡ [] → SoundInit structs (x ∷ ts) (items_of env structs leaves (Some (Int x)) n a o es)
   one_more x ts n a (Some m) es again none =
       let rest = global_items env structs leaves true (n + 1) es in
-      let sound = again (none_right (fault_if (misfit (Some (Int x)) m) WrongType (span_of a) ++ excess_faults true (Some (Int x)) a) rest.faults none) in
-      record { same = sound.same; fits = and_both (is_in_range x (conv x m.value)) (fits_front ts rest.values) (conv_fits x m.value) sound.fits }
+      let sound = again (append_nil_second (fault_if (misfit (Some (Int x)) m) WrongType (span_of a) ++ excess_faults true (Some (Int x)) a) rest.faults none) in
+      record { same = sound.same; fits = both_hold (is_in_range x (conv x m.value)) (fits_front ts rest.values) (conv_fits x m.value) sound.fits }
   one_more x ts n a None es again none =
       let j = judge env structs a in
       let rest = global_items env j.structs leaves true (n + 1) es in
-      let wrong = none_right j.faults (fault_at OutOfProfile (span_of a) ∷ []) (none_left (j.faults ++ fault_at OutOfProfile (span_of a) ∷ []) (excess_faults true (Some (Int x)) a) (none_left ((j.faults ++ fault_at OutOfProfile (span_of a) ∷ []) ++ excess_faults true (Some (Int x)) a) rest.faults none)) in
+      let wrong = append_nil_second j.faults (fault_at OutOfProfile (span_of a) ∷ []) (append_nil_first (j.faults ++ fault_at OutOfProfile (span_of a) ∷ []) (excess_faults true (Some (Int x)) a) (append_nil_first ((j.faults ++ fault_at OutOfProfile (span_of a) ∷ []) ++ excess_faults true (Some (Int x)) a) rest.faults none)) in
       cc
 
   longer : (done : List IntType) (x : IntType) (ts : List IntType) → done ++ x ∷ ts ≡ (done ++ x ∷ []) ++ ts
@@ -140,14 +140,14 @@ stored_fits structs Void v ts h = front_none ts
 stored_fits structs (Int x) v [] h = refl
 stored_fits structs (Int x) v (y ∷ ts) h =
     let same : x ≡ y = cc in
-    and_both (is_in_range y (conv x v)) (fits_front ts []) (subst (λ z. IsTrue (is_in_range z (conv x v))) same (conv_fits x v)) (front_none ts)
+    both_hold (is_in_range y (conv x v)) (fits_front ts []) (subst (λ z. IsTrue (is_in_range z (conv x v))) same (conv_fits x v)) (front_none ts)
 stored_fits structs (Struct n) v ts h = front_none ts
 stored_fits structs (Array d n) v ts h = front_none ts
 stored_fits structs (Pointer d f) v ts h = front_none ts
 
 single_sound : (env : Env) (structs : Structs) (ty : «Type») (a : e.ExprTree) (o : Option Number) (ts : List IntType) → leaves_of structs ty ≡ map Int ts → (item_of env structs (Some ty) a o).faults ≡ [] → SoundInit structs ts (item_of env structs (Some ty) a o)
 single_sound env structs ty a (Some m) ts h none = record { same = refl; fits = stored_fits structs ty m.value ts h }
-single_sound env structs ty a None ts h none = let wrong = none_right (judge env structs a).faults (fault_at OutOfProfile (span_of a) ∷ []) none in cc
+single_sound env structs ty a None ts h none = let wrong = append_nil_second (judge env structs a).faults (fault_at OutOfProfile (span_of a) ∷ []) none in cc
 
 pub init_sound : (env : Env) (structs : Structs) (ty : «Type») (init : InitTree) (ts : List IntType) → leaves_of structs ty ≡ map Int ts → is_bad ty ≡ false → (global_initialised env structs ty init).faults ≡ [] → SoundInit structs ts (global_initialised env structs ty init)
 init_sound env structs ty no_init ts h fine none = record { same = refl; fits = front_none ts }

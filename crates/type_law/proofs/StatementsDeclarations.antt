@@ -2,6 +2,8 @@
 use Rattle.std.proofs.Common.{◌≡◌, refl, sym, ◌∙◌, subst, true, false, List, [], ◌∷◌, ◌++◌, length, Option, Some}
 use Rattle.std.specs.Prelude.{IsTrue, ◌&&◌, not, slice_get, option_map}
 use Rattle.pt_base.specs.declared.span.Span.{Span}
+use Rattle.pt_base.proofs.Booleans.{both_hold, both_hold_first, both_hold_second}
+use Rattle.pt_base.proofs.Lists.{append_nil_first, append_nil_second}
 use Rattle.pt_tree.specs.StatementTree as s
 use Rattle.pt_tree.specs.StatementTree.{InitDeclaratorTree, DeclarationTree, ForInitTree}
 use Rattle.pt_tree.specs.Facts.{specs_sound, declarator_sound, init_sound, inits_sound, declaration_sound, for_init_sound}
@@ -13,7 +15,6 @@ use Rattle.typed_tree.specs.Cells as typed
 use Rattle.typed_tree.specs.Parts.{declarator_parts, declaration_parts}
 use Rattle.typed_tree.specs.WellFormed.{is_small, is_variable_type}
 use Rattle.typed_tree.specs.WellFormedStatement.{Scope, init_fits, declarator_fits, declaration_fits, for_init_fits}
-use Rattle.typed_tree.proofs.WellFormedLemmas.{and_left, and_right, and_both}
 use Rattle.check_declarations.specs.declared.fault.FaultKind.TheVariants.{Redeclared}
 use Rattle.check_declarations.specs.declared.objects.ObjectKind.TheVariants as kind
 use Rattle.check_declarations.specs.declared.specifiers.Specified.{Specified}
@@ -41,7 +42,6 @@ use Rattle.type_law.proofs.StatementsEnvironments.{agrees_variable, structs_with
 use Rattle.type_law.proofs.StatementsGiven.{Laws, Ready, Keeps, keeps_nowhere, keeps_on, has_first, ready_first, ready_second}
 use Rattle.type_law.proofs.StatementsInitialisers.{initialised_sound}
 use Rattle.type_law.proofs.StatementsOutermost.{evaluated_sound}
-use Rattle.type_law.proofs.DeclarationsFaultLemmas.{none_left, none_right}
 
 -- ---- one variable
 
@@ -68,12 +68,12 @@ known laws sc given st d base r none =
     let forms = object_faults kind.Local given d.declarator.pointer d.declarator.suffix name.span in
     let sizes = size_faults st.structs x.ty name.span in
     let again = fault_if (not (is_new_inside st.env.scopes name.bytes)) Redeclared name.span in
-    let good = laws.objects kind.Local (length st.structs) given d.declarator.pointer d.declarator.suffix name.span base (none_left forms sizes (none_left (forms ++ sizes) again none)) in
-    let small = none_right forms sizes (none_left (forms ++ sizes) again none) in
+    let good = laws.objects kind.Local (length st.structs) given d.declarator.pointer d.declarator.suffix name.span base (append_nil_first forms sizes (append_nil_first (forms ++ sizes) again none)) in
+    let small = append_nil_second forms sizes (append_nil_first (forms ++ sizes) again none) in
     let g = initialiser_goes given st d in
     let has = has_first sc.names (st.env.variables ++ x ∷ []) g.new (subst (λ (xs : List Variable). HasVariables sc.names xs) g.variables r.variables) in
     let type = variable_type (length st.structs) (length sc.names.structs) x.ty (structs_within st.env st.structs sc.names r.agrees) good in
-    let sized = and_both (is_variable_type (length sc.names.structs) (object_type_of x.ty)) (is_small sc.names.structs (object_type_of x.ty)) type (small_object laws sc st x.ty name.span r.agrees good small) in
+    let sized = both_hold (is_variable_type (length sc.names.structs) (object_type_of x.ty)) (is_small sc.names.structs (object_type_of x.ty)) type (small_object laws sc st x.ty name.span r.agrees good small) in
     record {
       good = good;
       small = small;
@@ -82,7 +82,7 @@ known laws sc given st d base r none =
         structs = refl;
         new = x ∷ [];
         variables = refl;
-        sized = and_both (is_sound_variable sc.names.structs x) true sized refl;
+        sized = both_hold (is_sound_variable sc.names.structs x) true sized refl;
       };
       entry = has (length st.env.variables) x (get_end st.env.variables [] x);
     }
@@ -93,9 +93,9 @@ declared_one_sound laws sc given st d base r sound none =
     let before = known_variable st given d.declarator in
     let init = initialised before ty d.init in
     let own = variable_faults st.env st.structs given d.declarator in
-    let k = known laws sc given st d base r (none_left own init.faults none) in
+    let k = known laws sc given st d base r (append_nil_first own init.faults none) in
     let ready : Ready sc before init.state init.trees = record { agrees = k.keeps.agrees; variables = r.variables; stand = r.stand } in
-    let fits = initialised_sound laws sc before ty d.declarator.name.span (record { 0 = length st.env.variables }) d.init ready k.good k.small sound (none_right own init.faults none) in
+    let fits = initialised_sound laws sc before ty d.declarator.name.span (record { 0 = length st.env.variables }) d.init ready k.good k.small sound (append_nil_second own init.faults none) in
     (keeps_on sc.names st before init.state k.keeps fits.0, subst (λ (o : Option VarTy). IsTrue (init_fits sc o init.init)) (sym k.entry) fits.1)
 
 -- ---- a declaration
@@ -106,14 +106,14 @@ declared_all_sound laws sc given st (d ∷ ds) base r sound none =
     let one = declared_one given st d in
     let rest = declared_all given one.state ds in
     let parts = declaration_parts rest.declarators in
-    let here = and_left (declarator_sound d.declarator && init_sound d.init) (inits_sound ds) sound in
-    let later = and_right (declarator_sound d.declarator && init_sound d.init) (inits_sound ds) sound in
+    let here = both_hold_first (declarator_sound d.declarator && init_sound d.init) (inits_sound ds) sound in
+    let later = both_hold_second (declarator_sound d.declarator && init_sound d.init) (inits_sound ds) sound in
     let ready = ready_first sc st one.state rest.state one.trees rest.trees parts (declared_all_goes given one.state ds) r in
-    let first = declared_one_sound laws sc given st d base ready (and_right (declarator_sound d.declarator) (init_sound d.init) here) (none_left one.faults rest.faults none) in
+    let first = declared_one_sound laws sc given st d base ready (both_hold_second (declarator_sound d.declarator) (init_sound d.init) here) (append_nil_first one.faults rest.faults none) in
     let next = ready_second sc st one.state rest.state one.trees rest.trees (declarator_parts one.declarator) (declared_one_goes given st d) first.0 r in
     let base' = subst (λ (x : Structs). IsTrue (is_base (length x) given.base)) (sym first.0.structs) base in
-    let second = declared_all_sound laws sc given one.state ds base' next later (none_right one.faults rest.faults none) in
-    (keeps_on sc.names st one.state rest.state first.0 second.0, and_both (declarator_fits sc one.declarator) (declaration_fits sc rest.declarators) first.1 second.1)
+    let second = declared_all_sound laws sc given one.state ds base' next later (append_nil_second one.faults rest.faults none) in
+    (keeps_on sc.names st one.state rest.state first.0 second.0, both_hold (declarator_fits sc one.declarator) (declaration_fits sc rest.declarators) first.1 second.1)
 
 -- the first structs of a sound table are sound
 sound_before : (before xs ys : Structs) → SoundFrom before (xs ++ ys) → SoundFrom before xs
@@ -126,11 +126,11 @@ declared_sound laws sc st d r sound none =
     let before = with_structs st j.structs in
     let all = declared_all j.given before d.declarators in
     let marks = mark_faults (carrier_of d.declarators) j.given.attributes in
-    let s = laws.specifiers false st.structs d.specs (sound_before [] st.structs r.agrees.more r.agrees.sound) (none_left j.faults marks (none_left (j.faults ++ marks) all.faults none)) in
+    let s = laws.specifiers false st.structs d.specs (sound_before [] st.structs r.agrees.more r.agrees.sound) (append_nil_first j.faults marks (append_nil_first (j.faults ++ marks) all.faults none)) in
     let same = s.none refl in
     let agrees = subst (λ (x : Structs). Agrees st.env x sc.names) (sym same) r.agrees in
     let ready : Ready sc before all.state all.trees = record { agrees = agrees; variables = r.variables; stand = r.stand } in
-    let k = declared_all_sound laws sc j.given before d.declarators s.base ready (and_right (specs_sound d.specs) (inits_sound d.declarators) sound) (none_right (j.faults ++ marks) all.faults none) in
+    let k = declared_all_sound laws sc j.given before d.declarators s.base ready (both_hold_second (specs_sound d.specs) (inits_sound d.declarators) sound) (append_nil_second (j.faults ++ marks) all.faults none) in
     (record { agrees = k.0.agrees; structs = k.0.structs ∙ same; new = k.0.new; variables = k.0.variables; sized = k.0.sized }, k.1)
 
 pub begun_sound : (laws : Laws) (sc : Scope) (st : State) (i : ForInitTree) → Ready sc st (for_begun st i).state (for_begun st i).trees → IsTrue (for_init_sound i) → (for_begun st i).faults ≡ [] → Keeps sc.names st (for_begun st i).state × IsTrue (for_init_fits sc (for_begun st i).init)

@@ -2,6 +2,8 @@
 use Rattle.std.proofs.Common.{◌≡◌, ℕ, refl, sym, ap, ◌∙◌, subst, List, [], ◌++◌, append_assoc, append-nil}
 use Rattle.std.specs.Prelude.{IsTrue, option_map}
 use Rattle.std.specs.List.{list_all}
+use Rattle.pt_base.proofs.Members.{all_hold_append}
+use Rattle.pt_base.proofs.Places.{get_kept}
 use Rattle.type_rules.specs.declared.types.Type.{«Type»}
 use Rattle.typed_tree.specs.declared.part.Part.{Part}
 use Rattle.typed_tree.specs.declared.types.VarTy.TheVariants as v
@@ -18,7 +20,6 @@ use Rattle.type_law.specs.DeclarationsLaws.{SpecifiersAreSound, ObjectsAreSound,
 use Rattle.type_law.specs.ExpressionsAgreement.{Agrees}
 use Rattle.type_law.specs.ExpressionsLaws.{ExpressionsAreSound, ValuesFit}
 use Rattle.type_law.specs.StatementsLaws.{HasVariables, is_sound_variable}
-use Rattle.type_law.proofs.StatementsListLemmas.{get_left, all_append}
 use Rattle.type_law.proofs.StatementsNumbering.{StandAt, stand_left, stand_right, Goes}
 use Rattle.type_law.proofs.StatementsEnvironments.{agrees_opened, agrees_closed}
 
@@ -63,7 +64,7 @@ keeps_on n st st1 st2 a b = record {
   structs = b.structs ∙ a.structs;
   new = a.new ++ b.new;
   variables = b.variables ∙ ap (λ xs. xs ++ b.new) a.variables ∙ append_assoc st.env.variables a.new b.new;
-  sized = all_append (is_sound_variable n.structs) a.new b.new a.sized b.sized;
+  sized = all_hold_append (is_sound_variable n.structs) a.new b.new a.sized b.sized;
 }
 
 -- past an expression that leaves the structs as they are
@@ -86,7 +87,7 @@ ready_scope sc st st' trees r = record { agrees = agrees_opened st.env st.struct
 -- ---- of two parts the first and the second
 
 pub has_first : (n : Names) (xs new : List Variable) → HasVariables n (xs ++ new) → HasVariables n xs
-has_first n xs new h = λ k x e. h k x (get_left xs new k x e)
+has_first n xs new h = λ k x e. h k x (get_kept xs new k x e)
 
 pub ready_first : (sc : Scope) (st st1 st2 : State) (ts us : List ExprTree) (qs : List Part) → Goes st1 st2 us qs → Ready sc st st2 (ts ++ us) → Ready sc st st1 ts
 ready_first sc st st1 st2 ts us qs g r = record {

@@ -3,6 +3,8 @@ use Rattle.std.proofs.Common.{◌≡◌, ℕ, suc, ◌+◌, ◌-◌, ℤ, pos, r
 use Rattle.std.specs.Prelude.{⊤, IsTrue, ◌&&◌, is_some, not, slice_get}
 use Rattle.std.proofs.lemmas.Int.{ints}
 use Rattle.pt_base.specs.declared.int_type.IntType.{IntType}
+use Rattle.pt_base.proofs.Booleans.{both_hold}
+use Rattle.pt_base.proofs.Lists.{append_nil_first, append_nil_second}
 use Rattle.pt_int.specs.Conversion.{is_in_range}
 use Rattle.pt_int.proofs.Ranges.{around_zero}
 use Rattle.pt_tree.specs.ExpressionTree as e
@@ -29,8 +31,6 @@ use Rattle.type_law.specs.DeclarationsLaws.{LeavesAreSound}
 use Rattle.type_law.specs.DeclarationsTypes.{is_plain}
 use Rattle.type_law.specs.StatementsLaws.{StartsAreSound}
 use Rattle.type_law.proofs.StatementsLabels.{converted_in_range}
-use Rattle.type_law.proofs.DeclarationsFaultLemmas.{none_left, none_right}
-use Rattle.typed_tree.proofs.WellFormedLemmas.{and_both}
 
 -- ---- numbers in the range of integer types
 
@@ -46,7 +46,7 @@ zero_in_range t = let z = around_zero t in grind (arith, ints, z.0, z.1)
 
 zeros_fit : (ts : List IntType) → IsTrue (cells_fit ts (replicate (length ts) (pos 0)))
 zeros_fit [] = refl
-zeros_fit (t ∷ ts) = and_both (is_in_range t (pos 0)) (cells_fit ts (replicate (length ts) (pos 0))) (zero_in_range t) (zeros_fit ts)
+zeros_fit (t ∷ ts) = both_hold (is_in_range t (pos 0)) (cells_fit ts (replicate (length ts) (pos 0))) (zero_in_range t) (zeros_fit ts)
 
 cells_padded : (ts : List IntType) (vs : List ℤ) → Starts ts vs → IsTrue (cells_fit ts (take (length ts) vs ++ replicate (length ts - length vs) (pos 0)))
 cells_padded [] [] h = refl
@@ -57,7 +57,7 @@ cells_padded (t ∷ ts) [] h =
 cells_padded (t ∷ ts) (v ∷ vs) h =
     let rest : length (t ∷ ts) - length (v ∷ vs) ≡ length ts - length vs = omega arith in
     subst (λ (k : ℕ). IsTrue (cells_fit (t ∷ ts) (v ∷ (take (length ts) vs ++ replicate k (pos 0))))) (sym rest)
-    (and_both (is_in_range t v) (cells_fit ts (take (length ts) vs ++ replicate (length ts - length vs) (pos 0))) h.0 (cells_padded ts vs h.1))
+    (both_hold (is_in_range t v) (cells_fit ts (take (length ts) vs ++ replicate (length ts - length vs) (pos 0))) h.0 (cells_padded ts vs h.1))
 
 -- ---- items
 
@@ -82,7 +82,7 @@ no_number env structs leaves ts k a es leaf none =
     let own = j.faults ++ fault_at OutOfProfile (span_of a) ∷ [] in
     let excess = excess_faults true leaf a in
     let rest = global_items env j.structs leaves (true && is_some leaf) (k + 1) es in
-    let no : fault_at OutOfProfile (span_of a) ∷ [] ≡ [] = none_right j.faults (fault_at OutOfProfile (span_of a) ∷ []) (none_left own excess (none_left (own ++ excess) rest.faults none)) in
+    let no : fault_at OutOfProfile (span_of a) ∷ [] ≡ [] = append_nil_second j.faults (fault_at OutOfProfile (span_of a) ∷ []) (append_nil_first own excess (append_nil_first (own ++ excess) rest.faults none)) in
     cc
 
 items_start : (env : Env) (structs : Structs) (leaves : List «Type») (ts : List IntType) (k : ℕ) (es : e.ExprTrees) → ((j : ℕ) → slice_get leaves (k + j) ≡ slice_get (map Int ts) j) → IsGood structs ts (global_items env structs leaves true k es)
@@ -95,7 +95,7 @@ items_start env structs leaves [] k (e.expr_and a es) leads =
     go : (o : Option Number) → IsGood structs [] (step env structs leaves k a es None o)
     go None = no_number env structs leaves [] k a es None
     go (Some n) = λ none.
-        let excess : excess_faults true None a ≡ [] = none_left (excess_faults true None a) (global_items env structs leaves false (k + 1) es).faults none in
+        let excess : excess_faults true None a ≡ [] = append_nil_first (excess_faults true None a) (global_items env structs leaves false (k + 1) es).faults none in
         cc
 items_start env structs leaves (t ∷ ts) k (e.expr_and a es) leads =
     let here : slice_get leaves k ≡ Some (Int t) = ap (slice_get leaves) (omega arith) ∙ leads 0 in
@@ -106,14 +106,14 @@ items_start env structs leaves (t ∷ ts) k (e.expr_and a es) leads =
     go None rest = no_number env structs leaves (t ∷ ts) k a es (Some (Int t))
     go (Some n) rest = λ none.
         let own = fault_if (misfit (Some (Int t)) n) WrongType (span_of a) in
-        let good = rest (none_right (own ++ []) (global_items env structs leaves true (k + 1) es).faults none) in
+        let good = rest (append_nil_second (own ++ []) (global_items env structs leaves true (k + 1) es).faults none) in
         record { same = good.same; starts = (converted_in_range t n.value, good.starts) }
 
 -- ---- initialisers
 
 single_start : (env : Env) (structs : Structs) (infos : List StructInfo) (ty : «Type») (a : e.ExprTree) (o : Option Number) → IsTrue (is_plain (length structs) ty) → IsGood structs (typed.leaves_of infos (object_type_of ty)) (item_of env structs (Some ty) a o)
 unfolding var_type fit_rule typed.leaves_of
-single_start env structs infos ty a None plain none = let no : fault_at OutOfProfile (span_of a) ∷ [] ≡ [] = none_right (judge env structs a).faults (fault_at OutOfProfile (span_of a) ∷ []) none in cc
+single_start env structs infos ty a None plain none = let no : fault_at OutOfProfile (span_of a) ∷ [] ≡ [] = append_nil_second (judge env structs a).faults (fault_at OutOfProfile (span_of a) ∷ []) none in cc
 single_start env structs infos Bad a (Some n) plain none = cc
 single_start env structs infos Void a (Some n) plain none = cc
 single_start env structs infos (Int t) a (Some n) plain none = record { same = refl; starts = (converted_in_range t n.value, tt) }

@@ -4,6 +4,8 @@ use Rattle.std.specs.Prelude.{⊤, IsTrue, ◌&&◌, is_some, not, slice_get}
 use Rattle.pt_base.specs.declared.int_type.IntType.{IntType}
 use Rattle.pt_base.specs.declared.span.Span.{Span}
 use Rattle.pt_base.specs.declared.ids.VarId.{VarId}
+use Rattle.pt_base.proofs.Booleans.{both_hold, both_hold_first, both_hold_second}
+use Rattle.pt_base.proofs.Lists.{append_nil_first, append_nil_second}
 use Rattle.pt_tree.specs.ExpressionTree as e
 use Rattle.pt_tree.specs.StatementTree.{InitTree, no_init, single, braces}
 use Rattle.pt_tree.specs.Facts.{expr_sound, exprs_sound, init_sound}
@@ -18,7 +20,6 @@ use Rattle.typed_tree.specs.Cells as typed
 use Rattle.typed_tree.specs.Parts.{part_of}
 use Rattle.typed_tree.specs.TypeTests.{same_types, is_value}
 use Rattle.typed_tree.specs.WellFormedStatement.{Scope, expr_fits, item_types, items_fit, init_fits}
-use Rattle.typed_tree.proofs.WellFormedLemmas.{and_left, and_right, and_both}
 use Rattle.check_declarations.specs.declared.fault.FaultKind.TheVariants.{WrongType}
 use Rattle.check_declarations.specs.Faults.{fault_if}
 use Rattle.check_declarations.specs.Objects.{size_faults}
@@ -33,7 +34,6 @@ use Rattle.type_law.specs.ExpressionsAgreement.{Agrees}
 use Rattle.type_law.proofs.StatementsNumbering.{goes_one}
 use Rattle.type_law.proofs.StatementsGiven.{Laws, Ready, Keeps, keeps_nowhere, keeps_on, ready_second}
 use Rattle.type_law.proofs.StatementsOutermost.{fitted_sound, takes_same}
-use Rattle.type_law.proofs.DeclarationsFaultLemmas.{none_left, none_right}
 
 -- ---- leaves
 
@@ -91,7 +91,7 @@ items_sound laws sc st leaves [] [] k x (e.expr_and a es) at alike sound =
     let p = evaluated st a in
     let rest = items p.state leaves false (k + 1) es in
     subst (λ (leaf : Option «Type»). IsSoundListing sc st [] (step st leaves k a es leaf)) (sym past)
-    (λ r none. let excess : fault_if true WrongType (span_of a) ≡ [] = none_right p.faults (fault_if true WrongType (span_of a)) (none_left (p.faults ++ fault_if true WrongType (span_of a)) rest.faults none) in cc)
+    (λ r none. let excess : fault_if true WrongType (span_of a) ≡ [] = append_nil_second p.faults (fault_if true WrongType (span_of a)) (append_nil_first (p.faults ++ fault_if true WrongType (span_of a)) rest.faults none) in cc)
 items_sound laws sc st leaves [] (t ∷ ts) k x (e.expr_and a es) at alike sound = absurd alike
 items_sound laws sc st leaves (ty ∷ left) [] k x (e.expr_and a es) at alike sound = absurd alike
 items_sound laws sc st leaves (ty ∷ left) (t ∷ ts) k x (e.expr_and a es) at alike sound =
@@ -101,12 +101,12 @@ items_sound laws sc st leaves (ty ∷ left) (t ∷ ts) k x (e.expr_and a es) at 
     let later : (j : ℕ) → slice_get leaves (k + 1 + j) ≡ slice_get left j = λ j. ap (slice_get leaves) (omega arith) ∙ at (suc j) in
     subst (λ (leaf : Option «Type»). IsSoundListing sc st (t ∷ ts) (step st leaves k a es leaf)) (sym here)
     (λ r none.
-    let first = fitted_sound laws sc st ty a r.agrees r.stand.0 (and_left (expr_sound a) (exprs_sound es) sound) alike.0 (none_left p.faults rest.faults none) in
+    let first = fitted_sound laws sc st ty a r.agrees r.stand.0 (both_hold_first (expr_sound a) (exprs_sound es) sound) alike.0 (append_nil_first p.faults rest.faults none) in
     let fits = subst (λ (u : VarTy). IsTrue (expr_fits sc (same_types (Some u)) p.id)) alike.1 (takes_same sc (length st.structs) ty p.id alike.0 first.1) in
     let others = subst (λ (s : Structs). AreAlike (length s) left ts) (sym first.0.structs) alike.2 in
     let ready = ready_second sc st p.state rest.state (p.tree ∷ []) rest.trees (part_of (role.Init x) p.id ∷ []) (goes_one st _ _ _) first.0 r in
-    let second = items_sound laws sc p.state leaves left ts (k + 1) x es later others (and_right (expr_sound a) (exprs_sound es) sound) ready (none_right p.faults rest.faults none) in
-    (keeps_on sc.names st p.state rest.state first.0 second.0, and_both (expr_fits sc (same_types (Some t)) p.id) (items_fit sc ts rest.ids) fits second.1))
+    let second = items_sound laws sc p.state leaves left ts (k + 1) x es later others (both_hold_second (expr_sound a) (exprs_sound es) sound) ready (append_nil_second p.faults rest.faults none) in
+    (keeps_on sc.names st p.state rest.state first.0 second.0, both_hold (expr_fits sc (same_types (Some t)) p.id) (items_fit sc ts rest.ids) fits second.1))
 
 -- ---- initialisers
 
@@ -123,7 +123,7 @@ initialised_sound laws sc st ty at x no_init r good small sound none = (keeps_no
 initialised_sound laws sc st ty at x (single a) r good small sound none =
     let p = fitted_sound laws sc st ty a r.agrees r.stand.0 sound good none in
     let id = (fitted st ty a).id in
-    (p.0, and_both (is_value (Some (object_type_of ty))) (expr_fits sc (same_types (Some (object_type_of ty))) id) p.1.value (takes_same sc (length st.structs) ty id good p.1))
+    (p.0, both_hold (is_value (Some (object_type_of ty))) (expr_fits sc (same_types (Some (object_type_of ty))) id) p.1.value (takes_same sc (length st.structs) ty id good p.1))
 initialised_sound laws sc st ty at x (braces s es) r good small sound none =
     let leaves = leaves_of st.structs ty in
     let ts = item_types sc.names.structs (object_type_of ty) in

@@ -9,6 +9,8 @@ use Rattle.std.proofs.lemmas.List.Folds.{list_any-append}
 use Rattle.pt_base.specs.declared.int_type.IntType.{IntType}
 use Rattle.pt_base.specs.declared.span.Span.{Span}
 use Rattle.pt_base.specs.IntTypes.{InRange}
+use Rattle.pt_base.proofs.Booleans.{both_hold, both_hold_first, both_hold_second}
+use Rattle.pt_base.proofs.Lists.{append_nil_second}
 use Rattle.pt_int.specs.Conversion.{conv, is_in_range}
 use Rattle.pt_int.proofs.Conversions.{conv-in_range}
 use Rattle.pt_tree.specs.ExpressionTree as e
@@ -16,7 +18,6 @@ use Rattle.pt_tree.specs.StatementTree.{LabelTree, case_label, default_label}
 use Rattle.typed_tree.specs.declared.statement.TypedLabel.{TypedLabel}
 use Rattle.typed_tree.specs.declared.statement.TypedLabel.TheVariants.{Case, Default}
 use Rattle.typed_tree.specs.WellFormedStatement.{same_label, label_fits}
-use Rattle.typed_tree.proofs.WellFormedLemmas.{and_left, and_right, and_both}
 use Rattle.check_declarations.specs.declared.fault.FaultKind.TheVariants.{Redeclared, OutOfProfile}
 use Rattle.check_declarations.specs.Faults.{fault_at}
 use Rattle.check_declarations.specs.Structs.{Structs}
@@ -27,7 +28,7 @@ use Rattle.check_statements.specs.declared.constants.Number.{Number}
 use Rattle.check_statements.specs.declared.switches.Kind.{Kind}
 use Rattle.check_statements.specs.Constants.{number_of}
 use Rattle.check_statements.specs.Labels.{Seen, is_seen, case_by, case_of, labelled, default_word}
-use Rattle.type_law.proofs.DeclarationsFaultLemmas.{none_right, no_fault}
+use Rattle.type_law.proofs.DeclarationsFaultLemmas.{no_fault}
 
 -- the label is none of those that were seen
 abbrev pub is_fresh : Seen → TypedLabel → Bool
@@ -103,7 +104,7 @@ case_sound kind structs seen s p v within compared none =
 case_by_sound : (env : Env) (kind : Kind) (structs : Structs) (seen : Seen) (s : Span) (a : e.ExprTree) (o : Option Number) → IsTrue kind.compared → (case_by env kind structs seen s a o).faults ≡ [] → SoundLabel kind.ty (case_by env kind structs seen s a o).structs structs (case_by env kind structs seen s a o).seen seen (case_by env kind structs seen s a o).label
 case_by_sound env kind structs seen s a (Some n) compared none = case_sound kind structs seen s (span_of a) (conv kind.ty n.value) (converted_in_range kind.ty n.value) compared none
 case_by_sound env kind structs seen s a None compared none =
-    let no : fault_at OutOfProfile (span_of a) ∷ [] ≡ [] = none_right (judge env structs a).faults (fault_at OutOfProfile (span_of a) ∷ []) none in
+    let no : fault_at OutOfProfile (span_of a) ∷ [] ≡ [] = append_nil_second (judge env structs a).faults (fault_at OutOfProfile (span_of a) ∷ []) none in
     cc
 
 other_default : (cases : List ℤ) (s : Span) (m : TypedLabel) → IsTrue (is_fresh (record { cases = cases; has_default = true }) m) → IsTrue (not (same_label (Default s) m))
@@ -129,6 +130,6 @@ labelled_sound env kind structs seen (default_label s) compared none = record {
 pub fresh_labels : (seen' seen : Seen) (l : TypedLabel) → ((m : TypedLabel) → IsTrue (is_fresh seen' m) → IsTrue (not (same_label l m))) → ((m : TypedLabel) → IsTrue (is_fresh seen' m) → IsTrue (is_fresh seen m)) → (ls : List TypedLabel) → IsTrue (list_all (is_fresh seen') ls) → IsTrue (not (list_any (same_label l) ls)) × IsTrue (list_all (is_fresh seen) ls)
 fresh_labels seen' seen l other before [] h = (refl, refl)
 fresh_labels seen' seen l other before (m ∷ ls) h =
-    let here = and_left (is_fresh seen' m) (list_all (is_fresh seen') ls) h in
-    let rest = fresh_labels seen' seen l other before ls (and_right (is_fresh seen' m) (list_all (is_fresh seen') ls) h) in
-    (nor (same_label l m) (list_any (same_label l) ls) (other m here) rest.0, and_both (is_fresh seen m) (list_all (is_fresh seen) ls) (before m here) rest.1)
+    let here = both_hold_first (is_fresh seen' m) (list_all (is_fresh seen') ls) h in
+    let rest = fresh_labels seen' seen l other before ls (both_hold_second (is_fresh seen' m) (list_all (is_fresh seen') ls) h) in
+    (nor (same_label l m) (list_any (same_label l) ls) (other m here) rest.0, both_hold (is_fresh seen m) (list_all (is_fresh seen) ls) (before m here) rest.1)

@@ -3,6 +3,7 @@
 use Rattle.std.proofs.Common.{◌≡◌, ◌≤◌, ℕ, suc, ◌+◌, refl, sym, ap, ◌∙◌, subst, List, [], ◌∷◌, ◌++◌, length, length-append, append_assoc, append-nil, arith, Some}
 use Rattle.std.specs.Prelude.{⊤, IsTrue, nat_eq, slice_get}
 use Rattle.std.proofs.lemmas.Bool.Decides.{nat_tests}
+use Rattle.pt_base.proofs.Booleans.{both_hold}
 use Rattle.typed_tree.specs.declared.part.Part.{Part}
 use Rattle.typed_tree.specs.declared.part.Role.{Role}
 use Rattle.typed_tree.specs.ExpressionTree.{ExprTree}
@@ -12,7 +13,6 @@ use Rattle.check_declarations.specs.Structs.{Structs}
 use Rattle.check_expressions.specs.declared.meaning.Variable.{Variable}
 use Rattle.check_statements.specs.Outermost.{State, behind}
 use Rattle.check_statements.specs.Statements.{inside, outside, with_structs}
-use Rattle.typed_tree.proofs.WellFormedLemmas.{and_both}
 
 -- ---- places
 
@@ -61,7 +61,7 @@ numbered k [] last h within = grind (arith, nat_tests, within)
 numbered k (p ∷ ps) last h within =
     let rest : suc k + length ps ≤ last = omega (arith, within) in
     let first : p.expr.0 ≡ k = h.0 in
-    and_both (nat_eq p.expr.0 k) (are_numbered (suc k) ps last) (grind (arith, nat_tests, first)) (numbered (suc k) ps last h.1 rest)
+    both_hold (nat_eq p.expr.0 k) (are_numbered (suc k) ps last) (grind (arith, nat_tests, first)) (numbered (suc k) ps last h.1 rest)
 
 pub consecutive : (k : ℕ) (ps : List Part) (last : ℕ) → AreFrom k ps → k + length ps ≤ last → IsTrue (are_consecutive ps last)
 consecutive k [] last h within = refl

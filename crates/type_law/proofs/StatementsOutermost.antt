@@ -3,6 +3,8 @@ use Rattle.std.proofs.Common.{◌≡◌, ℕ, refl, sym, ap, subst, Bool, true, 
 use Rattle.std.specs.Prelude.{IsTrue, slice_get, option_map}
 use Rattle.pt_base.specs.declared.int_type.IntType.{IntType}
 use Rattle.pt_base.specs.declared.span.Span.{Span}
+use Rattle.pt_base.proofs.Booleans.{both_hold}
+use Rattle.pt_base.proofs.Lists.{append_nil_first, append_nil_second}
 use Rattle.pt_tree.specs.ExpressionTree as e
 use Rattle.pt_tree.specs.Facts.{expr_sound, option_sound}
 use Rattle.type_rules.specs.declared.types.Type.{«Type»}
@@ -30,13 +32,12 @@ use Rattle.type_law.specs.ExpressionsLaws.{SoundValue}
 use Rattle.type_law.proofs.StatementsTypeLemmas.{has_object_type, condition_type, no_void, taking, switch_type, same_int_self, same_type_self}
 use Rattle.type_law.proofs.StatementsEnvironments.{structs_within}
 use Rattle.type_law.proofs.StatementsGiven.{Laws, Returns, Ready, Keeps, keeps_nowhere, keeps_behind}
-use Rattle.type_law.proofs.DeclarationsFaultLemmas.{none_left, none_right, no_fault}
-use Rattle.typed_tree.proofs.WellFormedLemmas.{and_both}
+use Rattle.type_law.proofs.DeclarationsFaultLemmas.{no_fault}
 
 -- a well formed tree of a type that passes the test, which stands at a number
 found : (sc : Scope) (test : Option VarTy → Bool) (k : ℕ) (tree : ExprTree) → slice_get sc.exprs k ≡ Some tree → IsTrue (is_typed sc.names tree) → IsTrue (test (ty_of tree)) → IsTrue (expr_fits sc test (record { 0 = k }))
 found sc test k tree here typed passes =
-    subst (λ (o : Option ExprTree). IsTrue (found_fits sc.names test o)) (sym here) (and_both (is_typed sc.names tree) (test (ty_of tree)) typed passes)
+    subst (λ (o : Option ExprTree). IsTrue (found_fits sc.names test o)) (sym here) (both_hold (is_typed sc.names tree) (test (ty_of tree)) typed passes)
 
 -- a test of the type of a value
 passing : (test : Option VarTy → Bool) (n : Names) (structs : ℕ) (w : Value) (tree : ExprTree) → SoundValue n structs w tree → IsTrue (test (var_type w.ty)) → IsTrue (test (ty_of tree))
@@ -53,10 +54,10 @@ tested_sound laws sc st a agrees here sound none =
     let j = judge st.env st.structs a in
     let wrong = is_no_condition (condition_rule (value_of j.operand)) in
     let own = fault_if wrong WrongType (span_of a) in
-    let s = laws.expressions sc.names st.env st.structs a agrees sound (none_left j.faults own none) in
+    let s = laws.expressions sc.names st.env st.structs a agrees sound (append_nil_first j.faults own none) in
     let w = s.value (span_of a) in
     let value = value_of j.operand in
-    let scalar = condition_type (length st.structs) value.ty value.null w.good (no_fault wrong WrongType (span_of a) (none_right j.faults own none)) in
+    let scalar = condition_type (length st.structs) value.ty value.null w.good (no_fault wrong WrongType (span_of a) (append_nil_second j.faults own none)) in
     (keeps_behind sc.names st j.structs s.same agrees, found sc is_scalar st.next (tested st a).tree here w.typed (passing is_scalar sc.names (length st.structs) value (tested st a).tree w scalar))
 
 -- a value for an object or a result, in the typed tree: of its type, and one that a value can have
@@ -71,9 +72,9 @@ fitted_sound laws sc st ty a agrees here sound good none =
     let value = value_of j.operand in
     let wrong = is_wrong (fit_rule ty value) in
     let own = fault_if wrong WrongType (span_of a) in
-    let s = laws.expressions sc.names st.env st.structs a agrees sound (none_left j.faults own none) in
+    let s = laws.expressions sc.names st.env st.structs a agrees sound (append_nil_first j.faults own none) in
     let w = s.value (span_of a) in
-    let right = no_fault wrong WrongType (span_of a) (none_right j.faults own none) in
+    let right = no_fault wrong WrongType (span_of a) (append_nil_second j.faults own none) in
     let f = laws.values sc.names (length st.structs) ty value (value_tree (span_of a) j.operand) w good (structs_within st.env st.structs sc.names agrees) right in (
       keeps_behind sc.names st j.structs s.same agrees,
       record {
@@ -123,9 +124,9 @@ value_back laws sc st Void a returns agrees here sound none =
     let value = value_of j.operand in
     let wrong = is_wrong (fit_rule Void value) in
     let own = fault_if wrong WrongType (span_of a) in
-    let s = laws.expressions sc.names st.env st.structs a agrees sound (none_left j.faults own none) in
+    let s = laws.expressions sc.names st.env st.structs a agrees sound (append_nil_first j.faults own none) in
     let w = s.value (span_of a) in
-    absurd (no_void (length st.structs) value.ty value.null w.good (no_fault wrong WrongType (span_of a) (none_right j.faults own none)))
+    absurd (no_void (length st.structs) value.ty value.null w.good (no_fault wrong WrongType (span_of a) (append_nil_second j.faults own none)))
 value_back laws sc st (Int t) a returns agrees here sound none =
     let p = fitted_sound laws sc st (Int t) a agrees here sound refl none in
     (p.0, p.1.fits (λ o. both_int (integer_of o) sc.result) (result_type sc.result t returns.is))
@@ -152,9 +153,9 @@ switched_sound laws sc st a agrees here sound none =
     let value = value_of j.operand in
     let wrong = is_no_integer value.ty in
     let own = fault_if wrong WrongType (span_of a) in
-    let s = laws.expressions sc.names st.env st.structs a agrees sound (none_left j.faults own none) in
+    let s = laws.expressions sc.names st.env st.structs a agrees sound (append_nil_first j.faults own none) in
     let w = s.value (span_of a) in
-    let is = switch_type (length st.structs) value.ty w.good (no_fault wrong WrongType (span_of a) (none_right j.faults own none)) in
+    let is = switch_type (length st.structs) value.ty w.good (no_fault wrong WrongType (span_of a) (append_nil_second j.faults own none)) in
     let test = promotes_to (kind_of value.ty).ty in
     record {
       keeps = keeps_behind sc.names st j.structs s.same agrees;

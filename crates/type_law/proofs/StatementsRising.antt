@@ -8,10 +8,10 @@ use Rattle.pt_tree.specs.StatementTree as s
 use Rattle.pt_tree.specs.StatementTree.{InitDeclaratorTree, DeclarationTree, ForInitTree}
 use Rattle.type_rules.specs.declared.types.Type.{«Type»}
 use Rattle.pt_base.specs.declared.span.Span.{Span}
+use Rattle.pt_base.proofs.Booleans.{both_hold}
 use Rattle.typed_tree.specs.Parts.{declarator_variables, for_init_variables, variables_of, else_variables, all_variables, section_variables}
 use Rattle.typed_tree.specs.StatementTree.{body_trees, section_trees}
 use Rattle.typed_tree.specs.WellFormed.{are_rising}
-use Rattle.typed_tree.proofs.WellFormedLemmas.{and_both}
 use Rattle.check_declarations.specs.declared.specifiers.Specified.{Specified}
 use Rattle.check_declarations.specs.Specifiers.{specified}
 use Rattle.check_expressions.specs.declared.meaning.Variable.{Variable}
@@ -42,7 +42,7 @@ pub rising : (first : ℕ) (ns : List ℕ) (last : ℕ) → IsFrom first ns last
 rising first [] last h = refl
 rising first (n ∷ ns) last h =
     let here = h.0 in
-    and_both (nat_le first n) (are_rising (suc n) ns) (grind (arith, nat_tests, here)) (rising (suc n) ns last h.1)
+    both_hold (nat_le first n) (are_rising (suc n) ns) (grind (arith, nat_tests, here)) (rising (suc n) ns last h.1)
 
 -- from one state to another the variables with these numbers came, and maybe others
 abbrev Rises : State → State → List ℕ → Type 0

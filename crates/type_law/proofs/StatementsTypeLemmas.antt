@@ -4,6 +4,7 @@ use Rattle.std.specs.Prelude.{IsTrue, nat_le, nat_eq}
 use Rattle.std.proofs.lemmas.Bool.Decides.{nat_tests}
 use Rattle.pt_base.specs.declared.int_type.IntType.{IntType}
 use Rattle.pt_base.specs.IntTypes.{promoted}
+use Rattle.pt_base.proofs.Booleans.{both_hold, both_hold_first, both_hold_second}
 use Rattle.pt_tree.specs.declared.signature.Elem.{Elem}
 use Rattle.pt_tree.specs.declared.signature.Elem.TheVariants as elem
 use Rattle.type_rules.specs.declared.types.Type.{«Type»}
@@ -16,7 +17,6 @@ use Rattle.typed_tree.specs.TypeTests.{place_of, same_int, same_bool, same_elem,
 use Rattle.typed_tree.specs.WellFormed.{is_variable_type}
 use Rattle.typed_tree.specs.WellFormedExpression.{is_elem}
 use Rattle.typed_tree.specs.WellFormedStatement.{promotes_to}
-use Rattle.typed_tree.proofs.WellFormedLemmas.{and_left, and_right, and_both}
 use Rattle.check_expressions.specs.Operands.{var_type}
 use Rattle.check_expressions.specs.StructInfos.{object_type_of}
 use Rattle.check_statements.specs.Labels.{kind_of, is_no_integer}
@@ -45,9 +45,9 @@ variable_type structs more Void within h = cc
 variable_type structs more (Int t) within h = refl
 variable_type structs more (Struct n) within h = grind (arith, nat_tests, within, h)
 variable_type structs more (Array e count) within h =
-    and_both (is_elem more (Some e)) (nat_le 1 count)
-    (elem_more structs more e within (and_left (is_elem structs (Some e)) (nat_le 1 count) h))
-    (and_right (is_elem structs (Some e)) (nat_le 1 count) h)
+    both_hold (is_elem more (Some e)) (nat_le 1 count)
+    (elem_more structs more e within (both_hold_first (is_elem structs (Some e)) (nat_le 1 count) h))
+    (both_hold_second (is_elem structs (Some e)) (nat_le 1 count) h)
 variable_type structs more (Pointer e fixed) within h = elem_more structs more e within h
 
 -- ---- equal types
@@ -69,8 +69,8 @@ same_elem_self (elem.Struct n) = same_number n
 pub same_type_self : (t : VarTy) → IsTrue (same_type t t)
 same_type_self (v.Int t) = same_int_self t
 same_type_self (v.Struct n) = same_number n
-same_type_self (v.Array e count) = and_both (same_elem e e) (nat_eq count count) (same_elem_self e) (same_number count)
-same_type_self (v.Pointer e fixed) = and_both (same_elem e e) (same_bool fixed fixed) (same_elem_self e) (same_bool_self fixed)
+same_type_self (v.Array e count) = both_hold (same_elem e e) (nat_eq count count) (same_elem_self e) (same_number count)
+same_type_self (v.Pointer e fixed) = both_hold (same_elem e e) (same_bool fixed fixed) (same_elem_self e) (same_bool_self fixed)
 
 -- ---- values
 

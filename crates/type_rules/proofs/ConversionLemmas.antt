@@ -1,6 +1,8 @@
 -- The laws of conversions.
 use Rattle.std.proofs.Common.{◌≡◌, ◌≢◌, ◌∙◌, ◌&&◌, ◌||◌, not, nat_eq, Bool, true, false, if◌then◌else◌, IsTrue, refl, ap, sym, subst}
+use Rattle.std.proofs.lemmas.Bool.{or_from}
 use Rattle.pt_base.specs.IntTypes.{usual}
+use Rattle.pt_base.proofs.Booleans.{and_parts, from_not_false, or_false_first, or_false_second, or_not_first, or_not_second, or_not_self}
 use Rattle.pt_tree.specs.declared.operator.BinaryOp.{BinaryOp}
 use Rattle.pt_tree.specs.declared.signature.Elem.{Elem}
 use Rattle.type_rules.specs.declared.types.Type.{«Type»}
@@ -28,10 +30,6 @@ integers t v = fitted v.ty
     fitted (Int s) = refl
     fitted s = refl
 
-both : (a b : Bool) → (a && b) ≡ true → (a ≡ true) × (b ≡ true)
-both true b h = (refl, h)
-both false b h = cc
-
 kept : (fixed fixed' : Bool) → (fixed || not fixed') ≡ true → IsTrue fixed' → IsTrue fixed
 kept true fixed' h t = search
 kept false true h t = cc
@@ -50,7 +48,7 @@ unfolding fit_rule
 points e e' fixed fixed' null = (stored (is_same_elem e e' && (fixed || not fixed')) refl, stores)
   where
     stored : (b : Bool) → (is_same_elem e e' && (fixed || not fixed')) ≡ b → pointed b ≡ fit.Points → (e ≡ e') × (IsTrue fixed' → IsTrue fixed)
-    stored true h p = let parts = both (is_same_elem e e') (fixed || not fixed') h in (same_elem e e' parts.0, kept fixed fixed' parts.1)
+    stored true h p = let parts = and_parts (is_same_elem e e') (fixed || not fixed') h in (same_elem e e' parts.0, kept fixed fixed' parts.1)
     stored false h p = cc
 
     stores : (e ≡ e') × (IsTrue fixed' → IsTrue fixed) → pointed (is_same_elem e e' && (fixed || not fixed')) ≡ fit.Points
@@ -74,26 +72,12 @@ same_given s t h = ap given h
 abbrev chosen : «Type» → Bool → «Type» → Bool → ChoiceRule
 chosen a m b n = if is_bad a || is_bad b then choice.Unknown else joined a m b n
 
-with_first : (f f' : Bool) → ((f || f') || not f) ≡ true
-with_first true f' = refl
-with_first false true = refl
-with_first false false = refl
-
-with_last : (f f' : Bool) → ((f || f') || not f') ≡ true
-with_last true f' = refl
-with_last false true = refl
-with_last false false = refl
-
 fits_pointed : (same const : Bool) → same ≡ true → const ≡ true → fits (pointed (same && const)) ≡ true
 fits_pointed same const h k = ap (λ b. fits (pointed (b && const))) h ∙ ap (λ b. fits (pointed b)) k
 
-fixed_or_not : (f : Bool) → (f || not f) ≡ true
-fixed_or_not true = refl
-fixed_or_not false = refl
-
 fits_itself : (e : Elem) (f null : Bool) → fits (fit_rule (Pointer e f) (record { ty = Pointer e f; null = null })) ≡ true
 unfolding fit_rule
-fits_itself e f null = fits_pointed (is_same_elem e e) (f || not f) (is_same_elem-self e) (fixed_or_not f)
+fits_itself e f null = fits_pointed (is_same_elem e e) (f || not f) (is_same_elem-self e) (or_not_self f)
 
 pub arms : ArmsFitTheirChoice
 unfolding fit_rule choice_rule
@@ -105,8 +89,8 @@ arms v w t e some = arm v.ty v.null w.ty w.null t e some
       where
         either : (s : Bool) → is_same_elem e e' ≡ s → (if s then choice.Gives (Pointer e (f || f')) else choice.Wrong) ≡ choice.Gives t → Fits t (Pointer e f) m (Pointer e' f') n
         either true same g = subst (λ t. Fits t (Pointer e f) m (Pointer e' f') n) (same_given (Pointer e (f || f')) t g) (
-          fits_pointed (is_same_elem e e) ((f || f') || not f) (is_same_elem-self e) (with_first f f'),
-          fits_pointed (is_same_elem e e') ((f || f') || not f') same (with_last f f'),
+          fits_pointed (is_same_elem e e) ((f || f') || not f) (is_same_elem-self e) (or_not_first f f'),
+          fits_pointed (is_same_elem e e') ((f || f') || not f') same (or_not_second f f'),
         )
         either false same g = cc
     arm (Pointer e f) m (Int b) true t h some = subst (λ t. Fits t (Pointer e f) m (Int b) true) (same_given (Pointer e f) t h) (fits_itself e f m, refl)
@@ -147,22 +131,6 @@ right_fits : (bad : Bool) (f : Fit) → fits f ≡ not (is_wrong f) → bad ≡ 
 right_fits true f h e w = cc
 right_fits false f h e w = h ∙ ap not w
 
-first_false : (a b : Bool) → (a || b) ≡ false → a ≡ false
-first_false true b h = cc
-first_false false b h = refl
-
-last_false : (a b : Bool) → (a || b) ≡ false → b ≡ false
-last_false true b h = cc
-last_false false b h = h
-
-neither : (a b : Bool) → a ≡ false → b ≡ false → (a || b) ≡ false
-neither true b h k = cc
-neither false b h k = k
-
-true_of_not : (b : Bool) → not b ≡ false → b ≡ true
-true_of_not true h = refl
-true_of_not false h = cc
-
 given_known : (rule : Rule) → is_given rule ≡ true → is_unknown rule ≡ false
 given_known Unknown h = cc
 given_known rule h = refl
@@ -184,8 +152,8 @@ compound_answers op t w = go (is_wrong (fit_rule t (outcome op t w))) refl
     go : (b : Bool) → is_wrong (fit_rule t (outcome op t w)) ≡ b → Answers (if b then at_right else binary_rule op (object t) w) (object t) w
     go false e = computed
     go true e =
-        let bad = last_false (is_bad t) (is_bad (outcome op t w).ty) (wrong_not_bad _ (taken t (outcome op t w).ty false) e) in
-        let known = given_known (binary_rule op (object t) w) (true_of_not _ (sym computed.bad ∙ bad)) in
+        let bad = or_false_second (is_bad t) (is_bad (outcome op t w).ty) (wrong_not_bad _ (taken t (outcome op t w).ty false) e) in
+        let known = given_known (binary_rule op (object t) w) (from_not_false _ (sym computed.bad ∙ bad)) in
         record { silent = sym known ∙ computed.silent; named = refl; typed = refl; bad = refl }
 
 pub compounds : CompoundsFit
@@ -199,9 +167,9 @@ compounds op t w = go (is_wrong (fit_rule t (outcome op t w))) refl
         ((if b then at_right else binary_rule op (object t) w) ≡ binary_rule op (object t) w) × (fits (fit_rule t (outcome op t w)) ≡ true)
     go true e given = cc
     go false e given =
-        let target = first_false (is_bad t) (is_bad w.ty) (sym computed.silent ∙ given_known (binary_rule op (object t) w) given) in
+        let target = or_false_first (is_bad t) (is_bad w.ty) (sym computed.silent ∙ given_known (binary_rule op (object t) w) given) in
         let computes = computed.bad ∙ ap not given in
-        (refl, right_fits _ (taken t (outcome op t w).ty false) (taken_fits t (outcome op t w).ty false) (neither _ _ target computes) e)
+        (refl, right_fits _ (taken t (outcome op t w).ty false) (taken_fits t (outcome op t w).ty false) (or_from _ _ target computes) e)
 
 pub operators : OperatorsAnswer
 operators = record { binary = binary_answers; index = index_answers; compound = compound_answers }

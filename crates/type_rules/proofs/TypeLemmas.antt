@@ -1,16 +1,12 @@
 -- When two types are one.
-use Rattle.std.proofs.Common.{◌≡◌, ◌∙◌, ℕ, true, nat_eq, refl, ap, arith}
-use Rattle.std.proofs.lemmas.Bool.Decides.{nat_tests}
+use Rattle.std.proofs.Common.{◌≡◌, ◌∙◌, true, refl, ap}
 use Rattle.pt_base.specs.IntTypes.{usual}
 use Rattle.pt_base.specs.declared.int_type.IntType.{IntType}
 use Rattle.pt_base.specs.declared.int_type.IntType.TheVariants.{Char, SChar, UChar, Short, UShort, Int, UInt, Long, ULong}
 use Rattle.pt_tree.specs.declared.signature.Elem.{Elem}
 use Rattle.pt_tree.specs.declared.signature.Elem.TheVariants as elem
 use Rattle.type_rules.specs.Types.{is_same_int, is_same_elem}
-use Rattle.pt_base.proofs.SameNumbers.{same_number}
-
-number-self : (a : ℕ) → nat_eq a a ≡ true
-number-self a = grind (arith, nat_tests)
+use Rattle.pt_base.proofs.Numbers.{nat_eq_same, nat_eq_self}
 
 pub same_int : (a b : IntType) → is_same_int a b ≡ true → a ≡ b
 same_int Char Char h = refl
@@ -24,7 +20,7 @@ same_int Long Long h = refl
 same_int ULong ULong h = refl
 same_int a b h = cc
 
-is_same_int-self : (a : IntType) → is_same_int a a ≡ true
+pub is_same_int-self : (a : IntType) → is_same_int a a ≡ true
 is_same_int-self Char = refl
 is_same_int-self SChar = refl
 is_same_int-self UChar = refl
@@ -37,13 +33,13 @@ is_same_int-self ULong = refl
 
 pub same_elem : (a b : Elem) → is_same_elem a b ≡ true → a ≡ b
 same_elem (elem.Int a) (elem.Int b) h = ap elem.Int (same_int a b h)
-same_elem (elem.Struct m) (elem.Struct n) h = ap elem.Struct (same_number m n h)
+same_elem (elem.Struct m) (elem.Struct n) h = ap elem.Struct (nat_eq_same m n h)
 same_elem (elem.Int a) (elem.Struct n) h = cc
 same_elem (elem.Struct m) (elem.Int b) h = cc
 
 pub is_same_elem-self : (a : Elem) → is_same_elem a a ≡ true
 is_same_elem-self (elem.Int a) = is_same_int-self a
-is_same_elem-self (elem.Struct n) = number-self n
+is_same_elem-self (elem.Struct n) = nat_eq_self n
 
 -- a true test stays true when its types change places
 pub same_elem_back : (a b : Elem) → is_same_elem a b ≡ true → is_same_elem b a ≡ true

@@ -5,10 +5,11 @@ use Rattle.std.specs.List.{list_any}
 use Rattle.std.specs.Str.{bytes_eq}
 use Rattle.std.proofs.lemmas.Slice.Eq.{bytes_eq-Decides}
 use Rattle.pt_base.specs.declared.ids.FnId.{FnId}
+use Rattle.pt_base.proofs.Booleans.{both_hold_first, both_hold_second}
 use Rattle.typed_tree.specs.TypedTree.{FunctionTree, TypedTree}
 use Rattle.typed_tree.specs.Lookup.{named_from, function_named, HasName}
 use Rattle.typed_tree.specs.WellFormed.{is_well_formed, name_of, are_distinct}
-use Rattle.typed_tree.proofs.WellFormedLemmas.{and_left, and_right, facts_of}
+use Rattle.typed_tree.proofs.WellFormedLemmas.{facts_of}
 
 -- the name of the function of this number
 abbrev name_at : List FunctionTree → ℕ → Option (List ℕ)
@@ -46,12 +47,12 @@ has_found (g ∷ fs) k name zero d e = go (bytes_eq (name_of g) name) ((bytes_eq
     go : (b : Bool) → b ≡ true → chosen b k (named_from (suc k) fs name) ≡ Some (record { 0 = k + 0 })
     go true is = ap (λ n. Some (record { 0 = n })) (omega arith)
     go false is = grind (arith, is)
-has_found (g ∷ fs) k name (suc i) d e = go (bytes_eq (name_of g) name) refl (has_found fs (suc k) name i (and_right (not (list_any (bytes_eq (name_of g)) (map name_of fs))) (are_distinct (map name_of fs)) d) e)
+has_found (g ∷ fs) k name (suc i) d e = go (bytes_eq (name_of g) name) refl (has_found fs (suc k) name i (both_hold_second (not (list_any (bytes_eq (name_of g)) (map name_of fs))) (are_distinct (map name_of fs)) d) e)
   where
     go : (b : Bool) → bytes_eq (name_of g) name ≡ b → named_from (suc k) fs name ≡ Some (record { 0 = suc k + i }) → chosen b k (named_from (suc k) fs name) ≡ Some (record { 0 = k + suc i })
     go true same h =
         let again = has_name fs i (name_of g) name e same in
-        let lone = and_left (not (list_any (bytes_eq (name_of g)) (map name_of fs))) (are_distinct (map name_of fs)) d in
+        let lone = both_hold_first (not (list_any (bytes_eq (name_of g)) (map name_of fs))) (are_distinct (map name_of fs)) d in
         grind (arith, again, lone)
     go false other h = h ∙ ap (λ n. Some (record { 0 = n })) (omega arith)
 

@@ -1,11 +1,13 @@
 -- Which numbers name an entry of a well formed program.
-use Rattle.std.proofs.Common.{◌≡◌, ◌<◌, ◌+◌, ℕ, zero, suc, refl, Bool, List, [], ◌∷◌, length, arith, Option, Some, None}
+use Rattle.std.proofs.Common.{◌≡◌, ◌<◌, ◌+◌, ℕ, suc, refl, Bool, List, [], ◌∷◌, length, arith, Option, Some, None}
 use Rattle.std.specs.Prelude.{◌≤◌, IsTrue, nat_lt, nat_eq, slice_get, option_and_then, All}
 use Rattle.std.specs.List.{list_all}
 use Rattle.std.proofs.lemmas.Bool.Decides.{nat_tests}
 use Rattle.std.proofs.lemmas.Option.{slice_get_within}
 use Rattle.std.proofs.lemmas.List.Sums.{AllPass-from_list_all}
 use Rattle.pt_base.specs.declared.ids.FnId.{FnId}
+use Rattle.pt_base.proofs.Booleans.{both_hold_first, both_hold_second}
+use Rattle.pt_base.proofs.Members.{all_hold_at}
 use Rattle.typed_tree.specs.declared.ids.ExprId.{ExprId}
 use Rattle.typed_tree.specs.declared.part.Part.{Part}
 use Rattle.typed_tree.specs.declared.types.VarTy.{VarTy}
@@ -15,30 +17,24 @@ use Rattle.typed_tree.specs.Parts.{function_parts}
 use Rattle.typed_tree.specs.Lookup.{parts_in}
 use Rattle.typed_tree.specs.WellFormedStatement.{Scope, found_fits, expr_fits}
 use Rattle.typed_tree.specs.WellFormed.{is_well_formed, function_sound, are_numbered, are_consecutive, numbers_sound}
-use Rattle.typed_tree.proofs.WellFormedLemmas.{and_left, and_right, facts_of}
-
--- what passes for all passes for each
-pub passes_at : {X : Type 0} (p : X → Bool) → (xs : List X) (k : ℕ) (x : X) → IsTrue (list_all p xs) → slice_get xs k ≡ Some x → IsTrue (p x)
-passes_at p [] k x h e = grind (arith, e)
-passes_at p (y ∷ ys) zero x h e = grind (arith, e, and_left (p y) (list_all p ys) h)
-passes_at p (y ∷ ys) (suc k) x h e = passes_at p ys k x (and_right (p y) (list_all p ys) h) e
+use Rattle.typed_tree.proofs.WellFormedLemmas.{facts_of}
 
 -- each function is sound
 pub function_is_sound : (t : TypedTree) (k : ℕ) (f : FunctionTree) → IsTrue (is_well_formed t) → slice_get t.functions k ≡ Some f → IsTrue (function_sound t f)
-function_is_sound t k f h e = passes_at (function_sound t) t.functions k f (facts_of t h).functions e
+function_is_sound t k f h e = all_hold_at (function_sound t) t.functions k f (facts_of t h).functions e
 
 numbered_count : (first : ℕ) (ps : List Part) (last : ℕ) → IsTrue (are_numbered first ps last) → first + length ps ≤ last
 numbered_count first [] last h = grind (arith, nat_tests, h)
 numbered_count first (p ∷ ps) last h =
-    let rest = numbered_count (suc first) ps last (and_right (nat_eq p.expr.0 first) (are_numbered (suc first) ps last) h) in
+    let rest = numbered_count (suc first) ps last (both_hold_second (nat_eq p.expr.0 first) (are_numbered (suc first) ps last) h) in
     omega (arith, rest)
 
 numbered_below : (first : ℕ) (ps : List Part) (last : ℕ) → IsTrue (are_numbered first ps last) → IsTrue (list_all (λ p. nat_lt p.expr.0 last) ps)
 numbered_below first [] last h = refl
 numbered_below first (p ∷ ps) last h =
     let count = numbered_count first (p ∷ ps) last h in
-    let here = and_left (nat_eq p.expr.0 first) (are_numbered (suc first) ps last) h in
-    let rest = numbered_below (suc first) ps last (and_right (nat_eq p.expr.0 first) (are_numbered (suc first) ps last) h) in
+    let here = both_hold_first (nat_eq p.expr.0 first) (are_numbered (suc first) ps last) h in
+    let rest = numbered_below (suc first) ps last (both_hold_second (nat_eq p.expr.0 first) (are_numbered (suc first) ps last) h) in
     grind (arith, nat_tests, count, here, rest)
 
 consecutive_below : (ps : List Part) (last : ℕ) → IsTrue (are_consecutive ps last) → IsTrue (list_all (λ p. nat_lt p.expr.0 last) ps)
@@ -51,8 +47,8 @@ parts_below t f h = go (slice_get t.functions f.0) refl
     go : (o : Option FunctionTree) → slice_get t.functions f.0 ≡ o → IsTrue (list_all (λ p. nat_lt p.expr.0 (length t.exprs)) (function_parts (option_and_then (λ g. g.body) o)))
     go None e = refl
     go (Some g) e =
-        let numbers = passes_at (numbers_sound t) t.functions f.0 g (facts_of t h).numbered e in
-        consecutive_below (function_parts g.body) (length t.exprs) (and_left _ _ numbers)
+        let numbers = all_hold_at (numbers_sound t) t.functions f.0 g (facts_of t h).numbered e in
+        consecutive_below (function_parts g.body) (length t.exprs) (both_hold_first _ _ numbers)
 
 -- each part names an outermost expression
 pub parts_known : (t : TypedTree) (f : FnId) → IsTrue (is_well_formed t) → All (λ p. p.expr.0 < length t.exprs) (parts_in t f)

@@ -1,26 +1,15 @@
 -- What is known of a well formed program.
-use Rattle.std.proofs.Common.{◌≤◌, ◌<◌, ◌^◌, ℕ, refl, Bool, true, false, List, [], ◌∷◌, length, arith, map}
-use Rattle.std.specs.Prelude.{IsTrue, ◌&&◌, nat_lt, sum_by}
+use Rattle.std.proofs.Common.{◌≤◌, ◌<◌, ◌^◌, ℕ, List, [], ◌∷◌, length, arith, map}
+use Rattle.std.specs.Prelude.{IsTrue, nat_lt, sum_by}
 use Rattle.std.specs.List.{list_all, list_any}
 use Rattle.std.proofs.lemmas.Bool.Decides.{nat_tests}
 use Rattle.std.proofs.lemmas.List.Sums.{sum_by-cons}
 use Rattle.pt_base.specs.Names.{is_short}
+use Rattle.pt_base.proofs.Booleans.{both_hold_first, both_hold_second}
 use Rattle.typed_tree.specs.TypedTree.{FunctionTree, TypedTree}
 use Rattle.typed_tree.specs.Nodes.{nodes_of, function_nodes, expr_nodes}
 use Rattle.typed_tree.specs.ExpressionTree.{ExprTree, typed}
 use Rattle.typed_tree.specs.WellFormed.{is_well_formed, structs_sound, global_sound, globals_small, function_sound, name_of, are_distinct, is_start, numbers_sound}
-
-pub and_left : (a b : Bool) → IsTrue (a && b) → IsTrue a
-and_left true b h = refl
-and_left false b h = h
-
-pub and_right : (a b : Bool) → IsTrue (a && b) → IsTrue b
-and_right true b h = h
-and_right false b h = grind (arith, h)
-
-pub and_both : (a b : Bool) → IsTrue a → IsTrue b → IsTrue (a && b)
-and_both true b h i = i
-and_both false b h i = h
 
 -- the facts that make a program well formed
 pub record Facts (t : TypedTree) : Type 0 where
@@ -37,20 +26,20 @@ pub record Facts (t : TypedTree) : Type 0 where
 pub facts_of : (t : TypedTree) → IsTrue (is_well_formed t) → Facts t
 unfolding is_well_formed
 facts_of t h =
-    let declared = and_left _ _ h in
-    let rest = and_right _ _ h in
-    let functions = and_left _ _ rest in
-    let exprs = and_right _ _ rest in
+    let declared = both_hold_first _ _ h in
+    let rest = both_hold_second _ _ h in
+    let functions = both_hold_first _ _ rest in
+    let exprs = both_hold_second _ _ rest in
     record {
-      structs = and_left _ _ declared;
-      globals = and_left _ _ (and_right _ _ declared);
-      small = and_right _ _ (and_right _ _ declared);
-      functions = and_left _ _ functions;
-      names = and_left _ _ (and_left _ _ (and_right _ _ functions));
-      short = and_right _ _ (and_left _ _ (and_right _ _ functions));
-      start = and_right _ _ (and_right _ _ functions);
-      numbered = and_left _ _ exprs;
-      few = and_right _ _ exprs;
+      structs = both_hold_first _ _ declared;
+      globals = both_hold_first _ _ (both_hold_second _ _ declared);
+      small = both_hold_second _ _ (both_hold_second _ _ declared);
+      functions = both_hold_first _ _ functions;
+      names = both_hold_first _ _ (both_hold_first _ _ (both_hold_second _ _ functions));
+      short = both_hold_second _ _ (both_hold_first _ _ (both_hold_second _ _ functions));
+      start = both_hold_second _ _ (both_hold_second _ _ functions);
+      numbered = both_hold_first _ _ exprs;
+      few = both_hold_second _ _ exprs;
     }
 
 -- a list is no longer than the sum over it of what is at least 1

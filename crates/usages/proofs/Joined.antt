@@ -1,11 +1,5 @@
 -- What was added in several steps.
-use Rattle.std.proofs.Common.{◌≡◌, ◌∙◌, ap, sym, List, ◌++◌, append_assoc, Result, Ok, Err}
-use Rattle.std.specs.Result.{OnOk}
-
--- what follows from what holds after a success holds too
-pub on_ok : {T E : Type 0} (r : Result T E) (P Q : Type 0) → (P → Q) → OnOk r P → OnOk r Q
-on_ok (Ok x) P Q f h = f h
-on_ok (Err e) P Q f h = h
+use Rattle.std.proofs.Common.{◌≡◌, ◌∙◌, ap, sym, List, ◌++◌, append_assoc}
 
 pub one : {X : Type 0} (new old xs whole : List X) → whole ≡ xs → new ≡ old ++ xs → new ≡ old ++ whole
 one new old xs whole w h = h ∙ ap (λ ys. old ++ ys) (sym w)

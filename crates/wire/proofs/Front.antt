@@ -59,10 +59,10 @@ begins_whole bytes size tail read at le inside is =
 
 -- ---- what is said of bytes is what they begin with
 
-short_none : (bytes : List ℕ) → length bytes < 4 → number_at w32 bytes ≡ None
+pub short_none : (bytes : List ℕ) → length bytes < 4 → number_at w32 bytes ≡ None
 short_none bytes lt = rw (lt-ltb (length bytes) 4 lt) refl
 
-number_in_front : (bytes : List ℕ) (n : ℕ) (tail : List ℕ) → n < 2 ^ 32 → bytes ≡ four_bytes n ++ tail → number_at w32 bytes ≡ Some (n, tail)
+pub number_in_front : (bytes : List ℕ) (n : ℕ) (tail : List ℕ) → n < 2 ^ 32 → bytes ≡ four_bytes n ++ tail → number_at w32 bytes ≡ Some (n, tail)
 number_in_front bytes n tail lt are = ap (number_at w32) are ∙ field32.again n tail lt
 
 pub unfinished_is : (bytes : List ℕ) → IsUnfinished bytes → beginning_of bytes ≡ unfinished

@@ -1,9 +1,10 @@
 -- Lists that are read are the lists that were written, and what was written is read again.
-use Rattle.std.proofs.Common.{◌≡◌, ℕ, zero, suc, ◌^◌, ◌<◌, ◌≤◌, Bool, true, false, cond, leb, ◌&&◌, List, [], ◌∷◌, ◌++◌, length, Some, None, refl, sym, ap, subst, ◌∙◌, append_assoc, arith}
+use Rattle.std.proofs.Common.{◌≡◌, ℕ, zero, suc, ◌^◌, ◌<◌, ◌≤◌, cond, leb, ◌&&◌, List, [], ◌∷◌, ◌++◌, length, Some, None, refl, sym, ap, subst, ◌∙◌, append_assoc, arith}
 use Rattle.std.specs.List.{flat_map, AllByRecursion}
 use Rattle.std.specs.Int.{w32}
 use Rattle.std.proofs.lemmas.Bool.{leb-true, le-leb}
 use Rattle.pt_base.specs.declared.int_type.IntType.{IntType}
+use Rattle.pt_base.proofs.Booleans.{and_parts}
 use Rattle.wire.specs.declared.cell.WireCell.{WireCell}
 use Rattle.wire.specs.declared.message.CallBody.{CallBody}
 use Rattle.wire.specs.declared.message.ReplyBody.{ReplyBody}
@@ -63,17 +64,12 @@ few_again field xs rest le fits = rw (le-leb _ _ le) (many_again field xs rest f
 abbrev pub IsGoodBlock : List (IntType × WireCell) → Type 0
 IsGoodBlock cells = IsBlock cells × FitsBlock cells
 
-both_pass : (a b : Bool) → (a && b) ≡ true → (a ≡ true) × (b ≡ true)
-both_pass true true e = (refl, refl)
-both_pass true false e = absurd cc
-both_pass false b e = absurd cc
-
 block_takes : (bytes : List ℕ) (found : List (IntType × WireCell) × List ℕ) → AreBytes bytes → block_at bytes ≡ Some found → Takes bytes (block_bytes found.0) found.1 × IsGoodBlock found.0
 unfolding block_at
 block_takes bytes found fits e =
     let a = bind_some (number_at w32 bytes) (λ n. cond (leb 1 n.0 && leb n.0 most_in_a_block) (many typed_cell_at n.0 n.1) None) found e in
     let g = guard_some (leb 1 a.0.0 && leb a.0.0 most_in_a_block) (many typed_cell_at a.0.0 a.0.1) found a.2 in
-    let within = both_pass (leb 1 a.0.0) (leb a.0.0 most_in_a_block) g.0 in
+    let within = and_parts (leb 1 a.0.0) (leb a.0.0 most_in_a_block) g.0 in
     let count = field32.takes bytes a.0 fits a.1 in
     let items = many_takes typed_cell_field a.0.0 a.0.1 found count.0.rest_fits g.1 in
     let both = Takes-then bytes (four_bytes a.0.0) a.0.1 (flat_map typed_cell_bytes found.0) found.1 count.0 items.0 in

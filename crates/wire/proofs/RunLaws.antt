@@ -101,7 +101,7 @@ one_answer before first second (Err error.Memory) b p q first_ran second_ran = a
 
 -- what begins bytes begins them with more behind them
 
-begins_more : (m : Message) (bytes rest more : List ℕ) → Begins m bytes rest → Begins m (bytes ++ more) (rest ++ more)
+pub begins_more : (m : Message) (bytes rest more : List ℕ) → Begins m bytes rest → Begins m (bytes ++ more) (rest ++ more)
 begins_more m bytes rest more b = record { spelled = b.spelled; are = ap (λ x. x ++ more) b.are ∙ append_assoc (spelling m) rest more }
 
 fault_more : (kind : FrameFault) (bytes more : List ℕ) → FaultBegins kind bytes → FaultBegins kind (bytes ++ more)

@@ -1,11 +1,11 @@
 use Rattle.std.proofs.Common.{ap, drop, ◌+◌, [], ◌∷◌}
 use Rattle.std.proofs.lemmas.List.{drop_all}
+use Rattle.pt_base.proofs.Places.{drop_step_at}
 use Rattle.pt_core.specs.CodeTree.{clear}
 use Rattle.lowering.specs.Lowered.{Effects}
 use Rattle.lowering.specs.Names.{code_in}
 use Rattle.lowering.specs.Output.{output_of, next}
 use Rattle.lowering.specs.Statements.{declared, initialised}
-use Rattle.lowering.proofs.Lists.{split_at}
 use Rattle.c_lower.proofs.LoopLemmas.{leads_step, leads_end, stmts_then}
 use Rattle.c_lower.proofs.declarations.declare.Goals as goal
 
@@ -19,7 +19,7 @@ loop-declarator-preserved c =
     let d = c.declarator-item.result in
     let init = initialised code d.init d.var.0 in
     let low : Effects = record { stmts = clear d.var.0 ∷ (init (next now)).stmts; temps = (init (next now)).temps } in
-    let split = ap (λ ds. declared code ds (next now)) (split_at all i d c.loop-declarator-test.true c.declarator-item.is) in
+    let split = ap (λ ds. declared code ds (next now)) (drop_step_at all i d c.loop-declarator-test.true c.declarator-item.is) in
     leads_step now _ first (declared code all (next first)) low (declared code (drop i all) (next now)) (declared code (drop (i + 1) all)) split (stmts_then now _ _ (clear d.var.0 ∷ []) init c.in_ok-add.ensures c.in_ok-initialise.ensures)
     c.loop-declarator.invariant
 

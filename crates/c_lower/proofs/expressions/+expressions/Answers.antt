@@ -1,5 +1,6 @@
 use Rattle.std.proofs.Common.{◌∙◌, ◌+◌, ◌∷◌, [], ap, sym, refl, map, false, not, Some}
 use Rattle.std.proofs.lemmas.List.{map-append, drop_all}
+use Rattle.pt_base.proofs.Places.{drop_step_at}
 use Rattle.typed_tree.specs.declared.expression.TypedExpr.{TypedExpr}
 use Rattle.typed_tree.specs.ExpressionTree as tree
 use Rattle.typed_tree.proofs.Rows.{view_read, view_decay, view_address, view_chain, view_logical, view_assign, view_compound, view_increment, view_call}
@@ -12,7 +13,6 @@ use Rattle.lowering.specs.Output.{output_of, next}
 use Rattle.lowering.proofs.OutputLemmas.{same_stmt, also}
 use Rattle.lowering.proofs.FormLemmas.{checked_is, choice_is, choice_dropped, count_is, operand_begun, operand_typed}
 use Rattle.c_lower.proofs.ArmLemmas.{chain_is, logical_is, compound_is, compound_dropped, copied_in, given_in, assign_is, assign_dropped, assign_object, counted_dropped, unary_dropped, chain_dropped, held_dropped, link_is, read_of, decay_of, address_of, behind_is, standing_is, field_step, item_is, flip}
-use Rattle.lowering.proofs.Lists.{split_at}
 use Rattle.c_lower.proofs.WalkLemmas.{links_begin, links_step, links_end, operands_begin, operands_step, operands_end, steps_begin, steps_step, steps_end, arguments_step, arguments_end}
 use Rattle.c_lower.proofs.expressions.+expressions.Goals as goal
 
@@ -191,7 +191,7 @@ chained-loop-link-init t c = λ o whole far s g h. links_begin _ _ whole s far o
 pub chained-loop-link-preserved : goal.chained-loop-link-preserved
 chained-loop-link-preserved t c = λ o whole far s g h.
     let sf = c.loop-link.invariant o whole far s g h in
-    let split = ap (λ xs. tree.link_trees (map tree.view_link xs)) (split_at c.args.links.now c.loop-link.link-index c.link-item.result c.loop-link-test.true c.link-item.is) in
+    let split = ap (λ xs. tree.link_trees (map tree.view_link xs)) (drop_step_at c.args.links.now c.loop-link.link-index c.link-item.result c.loop-link-test.true c.link-item.is) in
     rw c.holding-keeper.ensures (links_step (scope_of c.args.names.now) _ _ _ whole s _ far o _ _ _ _ _ _ _ _ _ split sf (c.in_ok-so_far.ensures o _ sf.far sf.gives sf.holds))
 
 pub chained-returns : goal.chained-returns
@@ -204,7 +204,7 @@ operands-loop-operand-init t c = λ o far d. operands_begin _ _ _ _ far o _ d
 pub operands-loop-operand-preserved : goal.operands-loop-operand-preserved
 operands-loop-operand-preserved t c = λ o far d.
     let sf = c.loop-operand.invariant o far d in
-    let split = ap (λ xs. tree.operand_trees (map tree.view_operand xs)) (split_at c.args.all.now c.loop-operand.operand-index c.operand-item.result c.loop-operand-test.true c.operand-item.is) in
+    let split = ap (λ xs. tree.operand_trees (map tree.view_operand xs)) (drop_step_at c.args.all.now c.loop-operand.operand-index c.operand-item.result c.loop-operand-test.true c.operand-item.is) in
     operands_step (scope_of c.args.names.now) _ _ _ _ _ far o _ _ _ _ split sf (c.in_ok-operand_of.ensures o sf.far sf.does)
 
 pub operands-returns : goal.operands-returns
@@ -217,7 +217,7 @@ part-loop-step-init t c = λ o root low h. steps_begin _ _ root low o _ _ h
 pub part-loop-step-preserved : goal.part-loop-step-preserved
 part-loop-step-preserved t c = λ o root low h.
     let sf = c.loop-step.invariant o root low h in
-    let split = ap (λ xs. tree.step_trees (map tree.view_step xs)) (split_at c.args.steps.now c.loop-step.step-index c.step-item.result c.loop-step-test.true c.step-item.is) in
+    let split = ap (λ xs. tree.step_trees (map tree.view_step xs)) (drop_step_at c.args.steps.now c.loop-step.step-index c.step-item.result c.loop-step-test.true c.step-item.is) in
     steps_step (scope_of c.args.names.now) _ _ _ root low o _ _ _ _ _ split sf (c.in_ok-at.ensures o root sf.before sf.far sf.finds)
 
 pub part-returns : goal.part-returns
@@ -226,7 +226,7 @@ part-returns t c = λ o root low h.
 
 pub arguments-loop-i-preserved : goal.arguments-loop-i-preserved
 arguments-loop-i-preserved t c =
-    let split = ap (λ xs. tree.expr_trees (map tree.view_expr xs)) (split_at c.args.all.now c.loop-i.i c.index-all-i.result c.loop-i-test.true c.index-all-i.is) in
+    let split = ap (λ xs. tree.expr_trees (map tree.view_expr xs)) (drop_step_at c.args.all.now c.loop-i.i c.index-all-i.result c.loop-i-test.true c.index-all-i.is) in
     arguments_step (scope_of c.args.names.now) (tree.view_expr c.index-all-i.result) _ _ _ _ (output_of c.args.lowering.now) _ _ _ _ _ split (flip _ _ (c.pure_from-from.ensures (c.loop-i.i + 1))) c.loop-i.invariant c.in_ok-argument.ensures
     (ap (map view_expr) c.in_ok-push.ensures.items ∙ map-append view_expr c.loop-i.values.items (c.in_ok-argument.field-0 ∷ []))
 

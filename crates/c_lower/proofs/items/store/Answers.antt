@@ -1,10 +1,10 @@
 use Rattle.std.proofs.Common.{ap, refl, ◌∙◌, drop, ◌+◌}
 use Rattle.std.proofs.lemmas.List.{drop_all}
+use Rattle.pt_base.proofs.Places.{drop_step}
 use Rattle.lowering.specs.Leaves.{ways_of}
 use Rattle.lowering.specs.Names.{code_in}
 use Rattle.lowering.specs.Output.{output_of}
 use Rattle.lowering.specs.Statements.{variable}
-use Rattle.lowering.proofs.Lists.{split_here}
 use Rattle.lowering.proofs.WaysLemmas.{arrives, none_comes}
 use Rattle.c_lower.proofs.LeafLemmas.{items_begin, item_stored, no_way_left, no_item_left}
 use Rattle.c_lower.proofs.items.store.Goals as goal
@@ -17,7 +17,7 @@ loop-item-init c =
 pub loop-item-preserved : goal.loop-item-preserved
 loop-item-preserved c =
     let code = code_in c.args.names.now in
-    let split = split_here c.args.items.now c.loop-item.item-index _ c.loop-item-test.true in
+    let split = drop_step c.args.items.now c.loop-item.item-index _ c.loop-item-test.true in
     item_stored code c.args.span (variable code c.args.var.0) _ _ _ _ _ _ (drop (c.loop-item.item-index + 1) c.args.items.now) (output_of c.args.lowering.now) (output_of c.loop-item.lowering) _ _
     (arrives _ c.in_ok-found.found _ _ c.if-not-found.false c.in_ok-found.ensures).first split c.in_ok-place.ensures c.in_ok-store_item.ensures c.loop-item.invariant
 

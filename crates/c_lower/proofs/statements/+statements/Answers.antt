@@ -1,5 +1,6 @@
 use Rattle.std.proofs.Common.{◌≡◌, ◌∙◌, ◌+◌, [], map, ap, refl, sym, subst, None, Some, drop, rules}
 use Rattle.std.proofs.lemmas.List.{drop_all}
+use Rattle.pt_base.proofs.Places.{drop_step_at}
 use Rattle.typed_tree.specs.StatementTree as tree
 use Rattle.typed_tree.proofs.Rows.{view_block, view_switch}
 use Rattle.pt_core.specs.CodeTree.{view_expr, view_stmt}
@@ -13,7 +14,6 @@ use Rattle.lowering.specs.StatementParts.{for_from, section_in}
 use Rattle.lowering.proofs.OutputLemmas.{same_stmt, also}
 use Rattle.c_lower.proofs.LoopLemmas.{one_then, then_makes, looped_makes, way_back_makes, chosen_makes, chosen_alone, leads_step, leads_end}
 use Rattle.lowering.proofs.SwitchLemmas.{switched_does}
-use Rattle.lowering.proofs.Lists.{split_at}
 use Rattle.c_lower.proofs.statements.+statements.Goals as goal
 
 pub statement-returns-in-Block : goal.statement-returns-in-Block
@@ -99,7 +99,7 @@ statements-loop-body-preserved t c =
     let i = c.loop-body.body-index in
     let first = output_of c.args.lowering.now in
     let now = output_of c.loop-body.lowering in
-    let split = ap (λ xs. is.all_in code (tree.body_trees (map tree.view_body xs)) mode (next now)) (split_at all i c.body-item.result c.loop-body-test.true c.body-item.is) in
+    let split = ap (λ xs. is.all_in code (tree.body_trees (map tree.view_body xs)) mode (next now)) (drop_step_at all i c.body-item.result c.loop-body-test.true c.body-item.is) in
     leads_step now _ first (is.all_in code (tree.body_trees (map tree.view_body all)) mode (next first)) (is.statement_in code (tree.view_body c.body-item.result) mode (next now)) (is.all_in code (tree.body_trees (map tree.view_body (drop i all))) mode (next now))
     (is.all_in code (tree.body_trees (map tree.view_body (drop (i + 1) all))) mode) split c.in_ok-statement.ensures c.loop-body.invariant
 
@@ -124,7 +124,7 @@ sections-loop-m-preserved t c =
     let m = c.loop-m.m in
     let first = output_of c.args.lowering.now in
     let now = output_of c.loop-m.lowering in
-    let split = ap (λ xs. is.sections_in code s (tree.section_trees (map tree.view_section xs)) mode k m (next now)) (split_at all m c.index-all-m.result c.loop-m-test.true c.index-all-m.is) in
+    let split = ap (λ xs. is.sections_in code s (tree.section_trees (map tree.view_section xs)) mode k m (next now)) (drop_step_at all m c.index-all-m.result c.loop-m-test.true c.index-all-m.is) in
     leads_step now _ first (is.sections_in code s (tree.section_trees (map tree.view_section all)) mode k 0 (next first)) (section_in code s (tree.view_section c.index-all-m.result) mode k m (next now))
     (is.sections_in code s (tree.section_trees (map tree.view_section (drop m all))) mode k m (next now)) (is.sections_in code s (tree.section_trees (map tree.view_section (drop (m + 1) all))) mode k (m + 1)) split c.in_ok-section_at.ensures c.loop-m.invariant
 

@@ -1,7 +1,9 @@
 use Rattle.std.proofs.Common.{rules, ◌≡◌, ◌∙◌, map, [], ◌∷◌, ◌++◌, slice_get, ap, sym, refl, subst, Some, None, Ok, List, append-nil, is_some, true, false}
 use Rattle.std.proofs.lemmas.List.{map-append}
+use Rattle.pt_base.proofs.Places.{drop_step_at}
 use Rattle.pt_tree.specs.ExpressionTree as parsed
 use Rattle.pt_tree.specs.SpecifierTree.{spec_trees, view_spec}
+use Rattle.pt_tree.proofs.ListsInTrees.{view_call}
 use Rattle.typed_tree.specs.ExpressionTree.{view_expr, ExprTree}
 use Rattle.check_declarations.specs.Gives.{Reaches}
 use Rattle.check_expressions.specs.EnvOf.{env_of}
@@ -12,15 +14,15 @@ use Rattle.check_expressions.specs.Operands.{span_of, value_of, value_tree, join
 use Rattle.check_expressions.specs.Postfixes.{argument_tree, argument_faults, indexed, arrow, called, params_for, function_called}
 use Rattle.check_expressions.specs.Prefixes.{prefixed, stepped}
 use Rattle.check_expressions.specs.Views.{known, placed, so_far}
-use Rattle.check_expressions.proofs.Rows.{view_call, view_chain, view_postfixes}
-use Rattle.check_expressions.proofs.Walks.{split_at, LinksStep, links_step, ArgumentsStep, arguments_step, made_alone, made_fine, made_over, judge_at, cast_gives, assign_gives, choice_gives, chain_gives, head_is, postfix_gives, postfix_at}
+use Rattle.check_expressions.proofs.Rows.{view_chain, view_postfixes}
+use Rattle.check_expressions.proofs.Walks.{LinksStep, links_step, ArgumentsStep, arguments_step, made_alone, made_fine, made_over, judge_at, cast_gives, assign_gives, choice_gives, chain_gives, head_is, postfix_gives, postfix_at}
 use Rattle.check_expressions.proofs.expressions.+expressions.Goals as goal
 
 pub more_links-loop-link-preserved : goal.more_links-loop-link-preserved
 more_links-loop-link-preserved t c =
     let env = env_of c.args.names.now in
     let whole = c.args.whole in
-    let split = ap (λ xs. parsed.link_trees (map parsed.view_link xs)) (split_at c.args.links.now c.loop-link.link-index c.link-item.result (search rules) c.link-item.is) in
+    let split = ap (λ xs. parsed.link_trees (map parsed.view_link xs)) (drop_step_at c.args.links.now c.loop-link.link-index c.link-item.result (search rules) c.link-item.is) in
     let all = judge_links env c.args.findings.now.structs whole.span whole.is_logical (so_far c.args.far) (parsed.link_trees (map parsed.view_link c.args.links.now)) in
     let before = subst (λ x. LinksStep (judge_links env c.loop-link.findings.structs whole.span whole.is_logical (so_far c.loop-link.far) x) all c.loop-link.findings.faults.items c.args.findings.now.faults.items) split
     (record { far = c.loop-link.invariant.far; structs = c.loop-link.invariant.structs; faults = c.loop-link.invariant.faults }) in
@@ -34,7 +36,7 @@ arguments-loop-n-preserved t c =
     let a = parsed.view_expr c.index-args-n.result in
     let params = c.args.params.now in
     let n = c.loop-n.n in
-    let split = ap (λ xs. parsed.expr_trees (map parsed.view_expr xs)) (split_at c.args.args.now n c.index-args-n.result (search rules) c.index-args-n.is) in
+    let split = ap (λ xs. parsed.expr_trees (map parsed.view_expr xs)) (drop_step_at c.args.args.now n c.index-args-n.result (search rules) c.index-args-n.is) in
     let all = judge_arguments env c.args.findings.now.structs params 0 (parsed.expr_trees (map parsed.view_expr c.args.args.now)) in
     let before = subst (λ x. ArgumentsStep (judge_arguments env c.loop-n.findings.structs params n x) all (map view_expr c.loop-n.trees.items) c.loop-n.findings.faults.items c.args.findings.now.faults.items) split
     (record { trees_are = c.loop-n.invariant.trees; structs = c.loop-n.invariant.structs; faults = c.loop-n.invariant.faults }) in

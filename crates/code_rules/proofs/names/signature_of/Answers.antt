@@ -1,18 +1,18 @@
 use Rattle.std.proofs.Common.{◌∙◌, Some, ap, rules, sym}
 use Rattle.std.proofs.lemmas.List.Sorted.{answers_always}
 use Rattle.pt_base.specs.declared.ids.FnId.{FnId}
+use Rattle.pt_base.proofs.Booleans.{both_hold_first}
 use Rattle.pt_tree.specs.declared.signature.Signature.{Signature}
-use Rattle.typed_tree.proofs.WellFormedLemmas.{and_left}
 use Rattle.code_rules.proofs.SearchLemmas.{found_signature, no_signature}
 use Rattle.code_rules.proofs.names.signature_of.Goals as goal
 
 pub returns-in-Ok : goal.returns-in-Ok
 returns-in-Ok c =
     ap (λ (z : FnId × Signature). Some z.1) (sym c.index-signatures-place.is)
-    ∙ sym (found_signature c.args.names.now.signatures.now c.args.f.0 c.in-Ok.place c.index-signatures-place.result (and_left _ _ c.requires) c.in-Ok.ensures.bound
+    ∙ sym (found_signature c.args.names.now.signatures.now c.args.f.0 c.in-Ok.place c.index-signatures-place.result (both_hold_first _ _ c.requires) c.in-Ok.ensures.bound
     (c.in-Ok.ensures.position (λ m. m.0.0) (answers_always _ _ _ (λ f a r g called. search rules))) c.index-signatures-place.is)
 
 pub returns-in-Err : goal.returns-in-Err
 returns-in-Err c =
-    sym (no_signature c.args.names.now.signatures.now c.args.f.0 c.in-Err.field-0 (and_left _ _ c.requires)
+    sym (no_signature c.args.names.now.signatures.now c.args.f.0 c.in-Err.field-0 (both_hold_first _ _ c.requires)
     (c.in-Err.ensures.position (λ m. m.0.0) (answers_always _ _ _ (λ f a r g called. search rules))))

@@ -1,5 +1,6 @@
+use Rattle.flow_check.proofs.LineLemmas.{faults_are}
 use Rattle.typed_tree.specs.TypedView.{view_typed}
-use Rattle.explaining.proofs.ExplainLemmas.{explained, faults_are, in_order}
+use Rattle.explaining.proofs.ExplainLemmas.{explained, in_order}
 use Rattle.explaining.proofs.explanations.explain_typed.Goals as goal
 
 pub flow_blocks-requires : goal.flow_blocks-requires

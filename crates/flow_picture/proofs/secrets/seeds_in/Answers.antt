@@ -1,4 +1,4 @@
-use Rattle.reach.proofs.MoreLemmas.{split_or}
+use Rattle.pt_base.proofs.Places.{drop_step as split_or}
 use Rattle.typed_tree.specs.TypedView.{view_typed}
 use Rattle.flow_picture.specs.Kept.{seed_nodes}
 use Rattle.flow_picture.proofs.SameLemmas.{flat_on, same_end}

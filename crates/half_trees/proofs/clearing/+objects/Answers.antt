@@ -1,6 +1,8 @@
 use Rattle.std.proofs.Common.{◌≡◌, ℕ, suc, ◌+◌, ◌-◌, ◌<◌, ◌∷◌, ◌++◌, ◌∙◌, [], List, ap, sym, subst, map, drop, get_or, take, add-one, drop-cons}
 use Rattle.std.specs.Result.{OnOk}
 use Rattle.std.specs.List.{flat_map, range_with_len}
+use Rattle.pt_base.proofs.Lists.{as_append_nil}
+use Rattle.pt_base.proofs.Members.{range_first}
 use Rattle.pt_tree.specs.StatementTree.{StmtTree, view_stmt}
 use Rattle.pt_tree.specs.ExpressionTree.{dot}
 use Rattle.typed_tree.specs.declared.types.Field.{Field}
@@ -8,7 +10,7 @@ use Rattle.half_trees.specs.Names.{nowhere, word, field_by}
 use Rattle.half_trees.specs.Clearing.{cleared_behind, steps, step, element_below, object_below, struct_at}
 use Rattle.half_trees.specs.Leaves.{Leaf, behind, element, field_leaves, leaves_from, object_leaves}
 use Rattle.half_trees.specs.declared.step.Step.TheVariants as s
-use Rattle.half_trees.proofs.ClearingLemmas.{part_more, steps_more, struct_is, struct_is_none, nothing_more, range_first}
+use Rattle.half_trees.proofs.ClearingLemmas.{part_more, steps_more, struct_is, struct_is_none}
 use Rattle.half_trees.proofs.clearing.+objects.Goals as goal
 
 pub clear_element-returns-then-n-below : goal.clear_element-returns-then-n-below
@@ -19,7 +21,7 @@ clear_element-returns-then-n-below t c =
 pub clear_element-returns-else-n-below : goal.clear_element-returns-else-n-below
 clear_element-returns-else-n-below t c =
     let is = ap (element_below c.args.structs.now c.args.below) c.in-Struct.is ∙ struct_is_none c.args.structs.now c.args.below c.in-Struct.n c.if-n-below.false c.requires in
-    nothing_more (map view_stmt c.args.out.now.items)
+    as_append_nil (map view_stmt c.args.out.now.items)
     ∙ ap (λ ls. map view_stmt c.args.out.now.items ++ cleared_behind c.args.v (steps c.args.structs.now c.args.path.now) ls) (sym is)
 
 pub clear_struct-loop-k-preserved : goal.clear_struct-loop-k-preserved

@@ -1,8 +1,9 @@
 use Rattle.std.proofs.Common.{drop, get_or, length}
 use Rattle.std.specs.List.{list_all}
+use Rattle.pt_base.proofs.Booleans.{and_true_second}
 use Rattle.marshalling.specs.Crossings.{crossing_by, is_secret}
 use Rattle.marshalling.specs.Leaves.{is_pointee, name_earlier}
-use Rattle.marshalling.proofs.Lists.{all_at, second, self_read}
+use Rattle.marshalling.proofs.Lists.{all_at, self_read}
 use Rattle.marshalling.proofs.RangeLemmas.{no_arg, no_param, ranges_end, ranges_more, same_crossings}
 use Rattle.marshalling.proofs.ranges.ranges_of.Goals as goal
 
@@ -14,7 +15,7 @@ returns-then-i-args c =
 pub range_of-requires-clause-known : goal.range_of-requires-clause-known
 range_of-requires-clause-known c =
     all_at (λ p. is_pointee (length c.args.structs.now) p.kind) c.args.params.now c.loop-i.i (get_or c.args.params.now c.loop-i.i no_param)
-    (second (name_earlier 0 c.args.structs.now) (list_all (λ p. is_pointee (length c.args.structs.now) p.kind) c.args.params.now) c.requires)
+    (and_true_second (name_earlier 0 c.args.structs.now) (list_all (λ p. is_pointee (length c.args.structs.now) p.kind) c.args.params.now) c.requires)
     c.loop-i-test.true
     (self_read c.args.params.now c.loop-i.i no_param c.loop-i-test.true)
 

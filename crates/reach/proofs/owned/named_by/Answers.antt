@@ -1,7 +1,7 @@
 use Rattle.std.proofs.Common.{get_or}
+use Rattle.pt_base.proofs.Places.{drop_step as split_or}
 use Rattle.typed_tree.specs.TypedView.{view_typed}
 use Rattle.reach.specs.Owned.{global_numbers}
-use Rattle.reach.proofs.MoreLemmas.{split_or}
 use Rattle.reach.proofs.WalkLemmas.{item_on, kept_items}
 use Rattle.reach.proofs.owned.named_by.Goals as goal
 

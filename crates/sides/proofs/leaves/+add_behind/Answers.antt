@@ -1,8 +1,8 @@
 use Rattle.std.proofs.Common.{◌≡◌, ◌∙◌, ◌∷◌, ◌++◌, [], add-one, ap, arith, length, map, sym, vec_len}
 use Rattle.std.proofs.lemmas.List.{drop_all}
+use Rattle.pt_base.proofs.Places.{drop_step_at}
 use Rattle.sides.specs.Leaves.{fields_leaves}
 use Rattle.sides.specs.LeafTables.{leaves_below, named_leaves, slot_behind}
-use Rattle.reach.proofs.MoreLemmas.{split_at}
 use Rattle.sides.proofs.LeafLemmas.{field_behind, none_behind, fields_done, popped}
 use Rattle.sides.proofs.leaves.+add_behind.Goals as goal
 
@@ -11,7 +11,7 @@ returns-then-inner-bound-clause-slots t c = none_behind c.args.structs.now c.arg
 
 pub loop-field-preserved : goal.loop-field-preserved
 loop-field-preserved t c =
-    let split = split_at c.fields_of-fields.result.now c.loop-field.field-index c.field-item.result c.loop-field-test.true c.field-item.is in
+    let split = drop_step_at c.fields_of-fields.result.now c.loop-field.field-index c.field-item.result c.loop-field-test.true c.field-item.is in
     let pushed = c.in_ok-push.ensures.items ∙ ap (λ xs. xs ++ c.loop-field.number ∷ []) c.loop-field.invariant.path in
     let under = c.is_under-under.ensures in
     let of = c.struct_of.ensures in

@@ -1,11 +1,11 @@
 use Rattle.std.proofs.Common.{◌≡◌, ℕ, List, ◌++◌, Err, subst, sym, rules}
+use Rattle.pt_base.proofs.Lists.{not_nil_by_length}
 use Rattle.wire.specs.Limits.{IsBytes}
 use Rattle.wire.specs.View.{ReaderView}
 use Rattle.pair_runner.proofs.Moving.{gave_one}
 use Rattle.pair_runner.proofs.Parts.{nothing}
 use Rattle.slave_runner.specs.declared.fault.WorkFault.TheVariants.{Memory}
 use Rattle.slave_runner.specs.Turns.{IsShort}
-use Rattle.slave_runner.proofs.LinkLemmas.{filled}
 use Rattle.slave_runner.proofs.hearing.hear.Goals as goal
 
 pub returns-in_err-feed-clause-err : goal.returns-in_err-feed-clause-err
@@ -20,7 +20,7 @@ returns-in_err-feed-clause-err g c =
 pub returns-clause-ok : goal.returns-clause-ok
 returns-clause-ok g c = (
   c.in_ok-piece.piece.items,
-  subst (λ (l : List ℕ). l ≡ _ → ⊥) c.as_slice-bytes.ensures.value (filled _ _ c.is_empty.ensures c.if-is_empty.false),
+  subst (λ (l : List ℕ). l ≡ _ → ⊥) c.as_slice-bytes.ensures.value (not_nil_by_length _ _ c.is_empty.ensures c.if-is_empty.false),
   subst IsBytes c.as_slice-bytes.ensures.value c.are_bytes.ensures,
   subst (λ (l : List ℕ). c.feed.new.self ≡ record { unread = c.args.reader.now.unread ++ l; offset = c.args.reader.now.offset; fault = c.args.reader.now.fault }) c.as_slice-bytes.ensures.value c.in_ok-feed.ensures.ok,
   gave_one g.L.Link.came g.L.Link.sent g.L.Link.given _ _ _ c.in_ok-piece.ensures.came c.in_ok-piece.ensures.sent c.in_ok-piece.ensures.ok,

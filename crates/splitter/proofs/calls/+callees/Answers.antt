@@ -1,6 +1,6 @@
 use Rattle.std.proofs.Common.{ap, map, ◌∙◌, sym}
+use Rattle.pt_base.proofs.Places.{drop_step_at}
 use Rattle.reach.specs.Tables.{set_all}
-use Rattle.reach.proofs.MoreLemmas.{split_at}
 use Rattle.pt_core.specs.CodeTree.{view_expr, view_stmt}
 use Rattle.pt_core.specs.WellFormedStatement.{callees_in}
 use Rattle.pt_core.proofs.Rows.{view_choose, view_repeat}
@@ -19,5 +19,5 @@ add_callees-returns-in-Loop t c =
 
 pub add_all_callees-loop-statement-preserved : goal.add_all_callees-loop-statement-preserved
 add_all_callees-loop-statement-preserved t c =
-    statement_on (view_stmt c.statement-item.result) _ _ _ _ _ (ap (map view_stmt) (split_at c.args.statements.now c.loop-statement.statement-index c.statement-item.result c.loop-statement-test.true c.statement-item.is)) c.add_callees.ensures
+    statement_on (view_stmt c.statement-item.result) _ _ _ _ _ (ap (map view_stmt) (drop_step_at c.args.statements.now c.loop-statement.statement-index c.statement-item.result c.loop-statement-test.true c.statement-item.is)) c.add_callees.ensures
     c.loop-statement.invariant

@@ -1,9 +1,10 @@
 use Rattle.std.proofs.Common.{◌∙◌, ◌++◌, ◌∷◌, [], ap, append-nil, length, pos, replicate, sym}
+use Rattle.pt_base.proofs.Results.{on_err_of}
 use Rattle.block_memory.specs.declared.cell.Cell.TheVariants.{Int, Ptr}
 use Rattle.block_memory.specs.declared.cell.Pointer.TheVariants.{Null}
 use Rattle.block_memory.specs.declared.shape.BlockShape.TheVariants.{Ints}
 use Rattle.block_memory.specs.Block.{fresh}
-use Rattle.block_memory.proofs.StackLemmas.{IsStack-grown, on_err, stacked-begun, stacked-grown}
+use Rattle.block_memory.proofs.StackLemmas.{IsStack-grown, stacked-begun, stacked-grown}
 use Rattle.block_memory.proofs.stack.Stack.push.Goals as goal
 
 pub invariant_of-self-in-Continue-branch-2 : goal.invariant_of-self-in-Continue-branch-2
@@ -95,7 +96,7 @@ returns-in_ok-add_zeros-in-Ints-clause-ok c =
 
 pub returns-in_err-push-in-OnePointer-clause-err : goal.returns-in_err-push-in-OnePointer-clause-err
 returns-in_err-push-in-OnePointer-clause-err c =
-    on_err _ (
+    on_err_of _ (
     stacked-begun _ _ _ _ _ _ [] [] _ _
     (record {
       starts-are = c.in_ok-push.ensures.items;
@@ -109,7 +110,7 @@ returns-in_err-push-in-OnePointer-clause-err c =
 
 pub returns-in_err-add_types-in-Ints-clause-err : goal.returns-in_err-add_types-in-Ints-clause-err
 returns-in_err-add_types-in-Ints-clause-err c =
-    on_err _ (
+    on_err_of _ (
     stacked-begun _ _ _ _ _ _ [] [] _ _
     (record {
       starts-are = c.in_ok-push.ensures.items;
@@ -123,7 +124,7 @@ returns-in_err-add_types-in-Ints-clause-err c =
 
 pub returns-in_err-add_zeros-in-Ints-clause-err : goal.returns-in_err-add_zeros-in-Ints-clause-err
 returns-in_err-add_zeros-in-Ints-clause-err c =
-    on_err _ (
+    on_err_of _ (
     stacked-begun _ _ _ _ _ _ c.as_slice-types.result.now [] _ _
     (record {
       starts-are = c.in_ok-push.ensures.items;

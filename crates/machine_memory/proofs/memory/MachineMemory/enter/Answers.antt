@@ -1,14 +1,15 @@
 use Rattle.std.proofs.Common.{◌≡◌, ◌∙◌, ap, arith, List}
+use Rattle.pt_base.proofs.Results.{on_err_of}
 use Rattle.block_memory.specs.Blocks.{Blocks, with_frame}
 use Rattle.machine_memory.specs.Layouts.{FrameLayout}
 use Rattle.machine_memory.specs.Frames.{layout_in}
 use Rattle.machine_memory.specs.Memory.{blocks_of, layout_at, live_count}
-use Rattle.machine_memory.proofs.LocalsLemmas.{live_same, on_err, on_err-then, on_ok-then, Stands-same, without_frames-free}
+use Rattle.machine_memory.proofs.LocalsLemmas.{live_same, on_err-then, on_ok-then, Stands-same, without_frames-free}
 use Rattle.machine_memory.proofs.memory.MachineMemory.enter.Goals as goal
 
 pub returns-in_err-reach-clause-err : goal.returns-in_err-reach-clause-err
 returns-in_err-reach-clause-err c =
-    on_err _ (c.reach.ensures.blocks ∙ c.leave.ensures.blocks ∙ without_frames-free (blocks_of c.args.self.now) c.args.depth c.requires)
+    on_err_of _ (c.reach.ensures.blocks ∙ c.leave.ensures.blocks ∙ without_frames-free (blocks_of c.args.self.now) c.args.depth c.requires)
 
 pub returns-clause-ok : goal.returns-clause-ok
 returns-clause-ok c =

@@ -1,13 +1,13 @@
 use Rattle.std.proofs.Common.{◌∙◌, ap, length, List, sym}
+use Rattle.pt_base.proofs.Results.{on_err_of}
 use Rattle.block_memory.specs.declared.cell.BlockName.TheVariants.{Local}
 use Rattle.block_memory.specs.declared.cell.Cell.{Cell}
 use Rattle.block_memory.specs.Blocks.{Blocks, put}
 use Rattle.machine_memory.specs.Memory.{blocks_of}
-use Rattle.machine_memory.proofs.LocalsLemmas.{on_err}
 use Rattle.machine_memory.proofs.memory.MachineMemory.put_local.Goals as goal
 
 pub returns-in_err-open-clause-err : goal.returns-in_err-open-clause-err
-returns-in_err-open-clause-err c = on_err _ c.open.ensures.blocks
+returns-in_err-open-clause-err c = on_err_of _ c.open.ensures.blocks
 
 pub put_opened-requires-clause-long : goal.put_opened-requires-clause-long
 put_opened-requires-clause-long c =
