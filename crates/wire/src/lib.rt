@@ -6,7 +6,7 @@
 //! (`Reader`, `one_answer`, `any_cutting`).
 #![tactic(auto)]
 
-mod bytes;
+mod byte_range;
 mod cell;
 mod fault;
 mod laws;
@@ -17,7 +17,7 @@ mod reader;
 mod reading;
 mod writing;
 
-pub use bytes::are_bytes;
+pub use byte_range::are_bytes;
 pub use cell::{Arg, WireCell};
 pub use fault::{FrameFault, WireError};
 pub use laws::{
