@@ -7,6 +7,7 @@ ghost use Rattle.flow_rules.specs.Findings as is;
 ghost use Rattle.flow_rules.specs.FlowsView.{view_flows};
 ghost use Rattle.flow_rules.specs.Kept.{kept};
 ghost use Rattle.flow_rules.specs.Memory.{Knows};
+ghost use Rattle.usages.specs.Lent.{AreUsages};
 
 use crate::flows::Flows;
 use crate::found::Found;
@@ -25,6 +26,7 @@ fn add_slave_usages(
     memo: &mut Memo,
     list: &mut Vec<Found>,
 ) -> Result<(), AllocError>
+    requires used { AreUsages (view_typed flows.now.t.now) flows.now.usages.now }
     requires memo { Knows (view_flows flows.now) memo.old }
     ensures found { OnOk result (list.new.items ≡ list.old.items ++ map kept (flat_map (is.usage_findings (view_flows flows.now) f) (usages.usages_in (view_typed flows.now.t.now) f))) }
     ensures memo { OnOk result (Knows (view_flows flows.now) memo.new) }
@@ -45,6 +47,7 @@ fn add_slave_function(
     memo: &mut Memo,
     list: &mut Vec<Found>,
 ) -> Result<(), AllocError>
+    requires used { AreUsages (view_typed flows.now.t.now) flows.now.usages.now }
     requires memo { Knows (view_flows flows.now) memo.old }
     ensures found { OnOk result (list.new.items ≡ list.old.items ++ map kept (is.slave_findings (view_flows flows.now) f)) }
     ensures memo { OnOk result (Knows (view_flows flows.now) memo.new) }
@@ -60,6 +63,7 @@ pub(crate) fn add_slave(
     flows: &Flows<'_>,
     list: &mut Vec<Found>,
 ) -> Result<(), AllocError>
+    requires used { AreUsages (view_typed flows.now.t.now) flows.now.usages.now }
     ensures { OnOk result (list.new.items ≡ list.old.items ++ map kept (flat_map (is.slave_findings (view_flows flows.now)) flows.now.sides.now.slave)) }
 {
     let functions = flows.sides.slave.as_slice();
@@ -72,6 +76,7 @@ pub(crate) fn add_slave(
 
 // what the body of a function of the monitor breaks
 fn add_monitor_usages(flows: &Flows<'_>, f: FnId, list: &mut Vec<Found>) -> Result<(), AllocError>
+    requires used { AreUsages (view_typed flows.now.t.now) flows.now.usages.now }
     ensures { OnOk result (list.new.items ≡ list.old.items ++ map kept (is.monitor_findings (view_flows flows.now) f)) }
 {
     let usages = flows.usages.of(flows.t, f);
@@ -83,6 +88,7 @@ fn add_monitor_usages(flows: &Flows<'_>, f: FnId, list: &mut Vec<Found>) -> Resu
 
 /// Adds what the functions of the monitor break.
 pub(crate) fn add_monitor(flows: &Flows<'_>, list: &mut Vec<Found>) -> Result<(), AllocError>
+    requires used { AreUsages (view_typed flows.now.t.now) flows.now.usages.now }
     ensures { OnOk result (list.new.items ≡ list.old.items ++ map kept (flat_map (is.monitor_findings (view_flows flows.now)) flows.now.sides.now.monitor)) }
 {
     let functions = flows.sides.monitor.as_slice();

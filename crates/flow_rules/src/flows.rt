@@ -3,7 +3,6 @@ ghost use Rattle.std.specs.Prelude.{◌≡◌, length};
 ghost use Rattle.sides.specs.Layouts.{IsLayout};
 ghost use Rattle.sides.specs.Slots.{slots_of};
 ghost use Rattle.typed_tree.specs.TypedView.{view_typed};
-ghost use Rattle.usages.specs.Lent.{AreUsages};
 
 use propagation::Marks;
 use sides::Sides;
@@ -17,7 +16,6 @@ pub(crate) struct Flows<'a> {
     pub usages: &'a Usages<'a>,
     pub sides: &'a Sides,
     pub marks: &'a Marks,
-    pub ghost used: { AreUsages (view_typed t.now) usages.now },
     pub ghost laid: { IsLayout (view_typed t.now) sides.now.layout },
     pub ghost listed: { sides.now.slots ≡ slots_of (view_typed t.now) },
     pub ghost sized: { length marks.now ≡ length sides.now.slots },

@@ -5,6 +5,7 @@ ghost use Rattle.typed_tree.specs.TypedView.{view_typed};
 ghost use Rattle.flow_rules.specs.Findings as is;
 ghost use Rattle.flow_rules.specs.FlowsView.{view_flows};
 ghost use Rattle.flow_rules.specs.Kept.{kept, shared_in};
+ghost use Rattle.usages.specs.Lent.{AreUsages};
 
 use crate::flows::Flows;
 use crate::found::Found;
@@ -135,6 +136,7 @@ fn add_shared_in(
 
 // the globals that code of both halves names
 fn add_shared(alloc: Global, flows: &Flows<'_>, list: &mut Vec<Found>) -> Result<(), AllocError>
+    requires used { AreUsages (view_typed flows.now.t.now) flows.now.usages.now }
     ensures { OnOk result (list.new.items ≡ list.old.items ++ map kept (is.shared_globals (view_flows flows.now) 0 (view_typed flows.now.t.now).globals)) }
 {
     let of_slave = flows.sides.slave.as_slice();
@@ -154,6 +156,7 @@ pub(crate) fn add_globals(
     flows: &Flows<'_>,
     list: &mut Vec<Found>,
 ) -> Result<(), AllocError>
+    requires used { AreUsages (view_typed flows.now.t.now) flows.now.usages.now }
     ensures { OnOk result (list.new.items ≡ list.old.items ++ map kept (is.global_findings (view_flows flows.now))) }
 {
     let globals = flows.t.globals.as_slice();

@@ -8,7 +8,6 @@ use Rattle.flow_rules.proofs.check.all_faults.Goals as goal
 
 pub invariant_of-flows : goal.invariant_of-flows
 invariant_of-flows c = record {
-  used = c.requires.used;
   laid = c.requires.sides.layout;
   listed = c.requires.sides.slots;
   sized = c.requires.marks.size ∙ ap length (sym c.requires.sides.slots);
