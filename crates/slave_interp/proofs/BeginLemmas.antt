@@ -39,9 +39,6 @@ program_parts : (p : ProgramTree) → IsTrue (is_well_formed p) → IsTrue (is_s
 unfolding is_well_formed
 program_parts p h = both_hold_first (is_sound false p) (has_main p) h
 
-unfolding is_well_formed_boot
-boot_parts b h = (both_hold_first (is_well_formed (boot_program b)) (hosts_fit fits (boot_program b) b.hosts) h, both_hold_second (is_well_formed (boot_program b)) (hosts_fit fits (boot_program b) b.hosts) h)
-
 pub boot_sound : (b : BootTree) → IsTrue (is_well_formed_boot fits b) → IsTrue (is_sound false (boot_program b))
 boot_sound b h = program_parts (boot_program b) (boot_parts b h).0
 
