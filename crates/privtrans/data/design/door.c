@@ -1,0 +1,21 @@
+// A door that opens to its code. The code lies in a global of the monitor: nobody hands it in.
+__attribute__((priv)) int load_code(int door);
+__attribute__((priv)) void open_door(int door);
+int next_guess(void);
+
+int code;
+
+__attribute__((priv)) void start(void) { code = load_code(1); }
+
+__attribute__((priv, declassify)) int try_code(int guess) {
+  if (guess != code) return 0;
+  open_door(1);
+  return 1;
+}
+
+int main(void) {
+  int tries = 0;
+  start();
+  while (tries < 3 && !try_code(next_guess())) tries++;
+  return tries;
+}
