@@ -4,7 +4,7 @@ __attribute__((priv)) int load_pin(int number);
 int next_guess(void);
 void answer(int ok, int fails);
 
-__attribute__((priv, declassify)) int try_pin(struct user *u, int guess) {
+__attribute__((priv, declassify)) int try_pin(__attribute__((priv, declassify)) struct user *u, int guess) {
   if (u->fails >= 3) return 0;
   if (u->pin == guess) return 1;
   u->fails++;
