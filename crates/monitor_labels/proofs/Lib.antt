@@ -1,0 +1,7 @@
+pub mod CountLemmas
+pub mod EdgeLemmas
+pub mod NumberLemmas
+pub mod OrderLemmas
+pub mod PlaceLemmas
+pub mod SeedLemmas
+mod Worked
