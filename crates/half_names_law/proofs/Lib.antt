@@ -32,6 +32,7 @@ pub mod SaidPlaces
 pub mod SaidForms
 pub mod SaidExpressions
 pub mod SaidStatements
+pub mod SaidUsages
 pub mod SaidPrograms
 pub mod SaidConversions
 pub mod SaidChains

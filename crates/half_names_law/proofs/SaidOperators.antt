@@ -18,7 +18,7 @@ use Rattle.pt_core.specs.CodeTree.{ExprTree, convert}
 use Rattle.pt_core.specs.Types.{Context}
 use Rattle.lowering.specs.Operators.{as_int, converted, prefixed, truth_of, promoted_of, stepped, stored, unit_step, unit_of}
 use Rattle.lowered_code_law.proofs.FormsSteps.{one_type}
-use Rattle.half_meaning_law.specs.CForms.{is_null, stands, points_const}
+use Rattle.half_meaning_law.specs.CForms.{Guard, is_null, stands, points_const_by}
 use Rattle.half_names_law.specs.SaidNulls.{is_compared}
 use Rattle.half_names_law.proofs.SaidLemmas.{Keeps}
 
@@ -34,23 +34,23 @@ as_int_stands (Struct n) to a h = h
 as_int_stands (Array elem count) to a h = h
 as_int_stands (Pointer elem fixed) to a h = h
 
-pub as_int_free : (c : Context) (ty : VarTy) (to : IntType) (a : ExprTree) → points_const c a ≡ false → points_const c (as_int ty to a) ≡ false
-as_int_free c (Int t) to a h = go (same_int t to)
+pub as_int_free : (guard : Guard) (c : Context) (ty : VarTy) (to : IntType) (a : ExprTree) → points_const_by guard c a ≡ false → points_const_by guard c (as_int ty to a) ≡ false
+as_int_free guard c (Int t) to a h = go (same_int t to)
   where
-    go : (b : Bool) → points_const c (if b then a else convert to a) ≡ false
+    go : (b : Bool) → points_const_by guard c (if b then a else convert to a) ≡ false
     go true = h
     go false = refl
-as_int_free c (Struct n) to a h = h
-as_int_free c (Array elem count) to a h = h
-as_int_free c (Pointer elem fixed) to a h = h
+as_int_free guard c (Struct n) to a h = h
+as_int_free guard c (Array elem count) to a h = h
+as_int_free guard c (Pointer elem fixed) to a h = h
 
 -- what doesn't point to const keeps every type
-pub free_keeps : (c : Context) (a : ExprTree) (ty : VarTy) → points_const c a ≡ false → Keeps c a ty
-free_keeps c a ty h e = false_not_true (sym h ∙ e)
+pub free_keeps : (guard : Guard) (c : Context) (a : ExprTree) (ty : VarTy) → points_const_by guard c a ≡ false → Keeps guard c a ty
+free_keeps guard c a ty h e = false_not_true (sym h ∙ e)
 
 -- what has an integer's type points to nothing
-pub int_free : (c : Context) (a : ExprTree) (t : IntType) → Keeps c a (Int t) → points_const c a ≡ false
-int_free c a t h = go (points_const c a) h
+pub int_free : (guard : Guard) (c : Context) (a : ExprTree) (t : IntType) → Keeps guard c a (Int t) → points_const_by guard c a ≡ false
+int_free guard c a t h = go (points_const_by guard c a) h
   where
     go : (b : Bool) → (b ≡ true → false ≡ true) → b ≡ false
     go false k = refl
@@ -67,20 +67,20 @@ prefixed_stands Not (Pointer elem fixed) a s h = compared (stands a) (is_null a)
     compared false n h = false_not_true h
 prefixed_stands op ty a s h = h
 
-pub prefixed_keeps : (c : Context) (op : UnOp) (a t : Option VarTy) (ty : VarTy) (x : ExprTree) (s : Span) → unary_fits op a t ≡ true → a ≡ Some ty → points_const c (prefixed op ty x s) ≡ false
-prefixed_keeps c op a t (Int u) x s h is = refl
-prefixed_keeps c Not a t (Pointer elem fixed) x s h is = refl
-prefixed_keeps c Minus a t (Pointer elem fixed) x s h is = false_not_true (subst (λ z. r.is_same_promoted z t ≡ true) is h)
-prefixed_keeps c Plus a t (Pointer elem fixed) x s h is = false_not_true (subst (λ z. r.is_same_promoted z t ≡ true) is h)
-prefixed_keeps c Flip a t (Pointer elem fixed) x s h is = false_not_true (subst (λ z. r.is_same_promoted z t ≡ true) is h)
-prefixed_keeps c Minus a t (Struct n) x s h is = false_not_true (subst (λ z. r.is_same_promoted z t ≡ true) is h)
-prefixed_keeps c Plus a t (Struct n) x s h is = false_not_true (subst (λ z. r.is_same_promoted z t ≡ true) is h)
-prefixed_keeps c Flip a t (Struct n) x s h is = false_not_true (subst (λ z. r.is_same_promoted z t ≡ true) is h)
-prefixed_keeps c Not a t (Struct n) x s h is = false_not_true (subst (λ z. unary_fits Not z t ≡ true) is h)
-prefixed_keeps c Minus a t (Array elem n) x s h is = false_not_true (subst (λ z. r.is_same_promoted z t ≡ true) is h)
-prefixed_keeps c Plus a t (Array elem n) x s h is = false_not_true (subst (λ z. r.is_same_promoted z t ≡ true) is h)
-prefixed_keeps c Flip a t (Array elem n) x s h is = false_not_true (subst (λ z. r.is_same_promoted z t ≡ true) is h)
-prefixed_keeps c Not a t (Array elem n) x s h is = false_not_true (subst (λ z. unary_fits Not z t ≡ true) is h)
+pub prefixed_keeps : (guard : Guard) (c : Context) (op : UnOp) (a t : Option VarTy) (ty : VarTy) (x : ExprTree) (s : Span) → unary_fits op a t ≡ true → a ≡ Some ty → points_const_by guard c (prefixed op ty x s) ≡ false
+prefixed_keeps guard c op a t (Int u) x s h is = refl
+prefixed_keeps guard c Not a t (Pointer elem fixed) x s h is = refl
+prefixed_keeps guard c Minus a t (Pointer elem fixed) x s h is = false_not_true (subst (λ z. r.is_same_promoted z t ≡ true) is h)
+prefixed_keeps guard c Plus a t (Pointer elem fixed) x s h is = false_not_true (subst (λ z. r.is_same_promoted z t ≡ true) is h)
+prefixed_keeps guard c Flip a t (Pointer elem fixed) x s h is = false_not_true (subst (λ z. r.is_same_promoted z t ≡ true) is h)
+prefixed_keeps guard c Minus a t (Struct n) x s h is = false_not_true (subst (λ z. r.is_same_promoted z t ≡ true) is h)
+prefixed_keeps guard c Plus a t (Struct n) x s h is = false_not_true (subst (λ z. r.is_same_promoted z t ≡ true) is h)
+prefixed_keeps guard c Flip a t (Struct n) x s h is = false_not_true (subst (λ z. r.is_same_promoted z t ≡ true) is h)
+prefixed_keeps guard c Not a t (Struct n) x s h is = false_not_true (subst (λ z. unary_fits Not z t ≡ true) is h)
+prefixed_keeps guard c Minus a t (Array elem n) x s h is = false_not_true (subst (λ z. r.is_same_promoted z t ≡ true) is h)
+prefixed_keeps guard c Plus a t (Array elem n) x s h is = false_not_true (subst (λ z. r.is_same_promoted z t ≡ true) is h)
+prefixed_keeps guard c Flip a t (Array elem n) x s h is = false_not_true (subst (λ z. r.is_same_promoted z t ≡ true) is h)
+prefixed_keeps guard c Not a t (Array elem n) x s h is = false_not_true (subst (λ z. unary_fits Not z t ≡ true) is h)
 
 -- ---- truth and conversions
 
@@ -94,11 +94,11 @@ truth_stands (Pointer elem fixed) a s h = compared (stands a) (is_null a) h
 truth_stands (Struct n) a s h = h
 truth_stands (Array elem n) a s h = h
 
-pub truth_free : (c : Context) (ty : VarTy) (a : ExprTree) (s : Span) → is_scalar (Some ty) ≡ true → points_const c (truth_of ty a s) ≡ false
-truth_free c (Int t) a s h = refl
-truth_free c (Pointer elem fixed) a s h = refl
-truth_free c (Struct n) a s h = false_not_true h
-truth_free c (Array elem n) a s h = false_not_true h
+pub truth_free : (guard : Guard) (c : Context) (ty : VarTy) (a : ExprTree) (s : Span) → is_scalar (Some ty) ≡ true → points_const_by guard c (truth_of ty a s) ≡ false
+truth_free guard c (Int t) a s h = refl
+truth_free guard c (Pointer elem fixed) a s h = refl
+truth_free guard c (Struct n) a s h = false_not_true h
+truth_free guard c (Array elem n) a s h = false_not_true h
 
 pub converted_stands : (ty : VarTy) (a : ExprTree) → stands a ≡ true → stands (converted ty a) ≡ true
 converted_stands (Int to) a h = h
@@ -106,21 +106,21 @@ converted_stands (Struct n) a h = h
 converted_stands (Array elem n) a h = h
 converted_stands (Pointer elem fixed) a h = h
 
-pub converted_keeps : (c : Context) (a ty : VarTy) (x : ExprTree) → converts (Some a) (Some ty) ≡ true → Keeps c x a → Keeps c (converted ty x) ty
-converted_keeps c (Int a) (Int t) x h k = λ e. false_not_true e
-converted_keeps c (Pointer d f) (Pointer e g) x h k = λ is. kept f g (both_hold_second (same_elem d e) (not f || g) h) (k is)
+pub converted_keeps : (guard : Guard) (c : Context) (a ty : VarTy) (x : ExprTree) → converts (Some a) (Some ty) ≡ true → Keeps guard c x a → Keeps guard c (converted ty x) ty
+converted_keeps guard c (Int a) (Int t) x h k = λ e. false_not_true e
+converted_keeps guard c (Pointer d f) (Pointer e g) x h k = λ is. kept f g (both_hold_second (same_elem d e) (not f || g) h) (k is)
   where
     kept : (f g : Bool) → (not f || g) ≡ true → f ≡ true → g ≡ true
     kept true g h e = h
     kept false g h e = false_not_true e
-converted_keeps c (Int a) (Struct n) x h k = false_not_true h
-converted_keeps c (Int a) (Array e n) x h k = false_not_true h
-converted_keeps c (Int a) (Pointer e g) x h k = false_not_true h
-converted_keeps c (Pointer d f) (Int t) x h k = false_not_true h
-converted_keeps c (Pointer d f) (Struct n) x h k = false_not_true h
-converted_keeps c (Pointer d f) (Array e n) x h k = false_not_true h
-converted_keeps c (Struct m) ty x h k = false_not_true h
-converted_keeps c (Array d m) ty x h k = false_not_true h
+converted_keeps guard c (Int a) (Struct n) x h k = false_not_true h
+converted_keeps guard c (Int a) (Array e n) x h k = false_not_true h
+converted_keeps guard c (Int a) (Pointer e g) x h k = false_not_true h
+converted_keeps guard c (Pointer d f) (Int t) x h k = false_not_true h
+converted_keeps guard c (Pointer d f) (Struct n) x h k = false_not_true h
+converted_keeps guard c (Pointer d f) (Array e n) x h k = false_not_true h
+converted_keeps guard c (Struct m) ty x h k = false_not_true h
+converted_keeps guard c (Array d m) ty x h k = false_not_true h
 
 -- ---- steps
 
@@ -166,13 +166,13 @@ moved_is p b to h = go (is_some (pointee_of p) && is_some (integer_of b)) h
     go true h = h
     go false h = cc
 
-pub stepped_keeps : (c : Context) (step : LinkStep) (so_far right to : VarTy) (a b : ExprTree) (s : Span) → r.stepped (Some so_far) step (Some right) ≡ Some to → Keeps c a so_far → Keeps c b right → Keeps c (stepped so_far step a b s) to
-stepped_keeps c (Arithmetic op t) so_far right to a b s is h k e = false_not_true e
-stepped_keeps c (Shift to_left) so_far right to a b s is h k e = false_not_true e
-stepped_keeps c (Move back) so_far right to a b s is h k e = subst (λ z. points_to_const (Some z) ≡ true) (one_type so_far to (moved_is (Some so_far) (Some right) to is)) (h e)
-stepped_keeps c MoveBy so_far right to a b s is h k e = subst (λ z. points_to_const (Some z) ≡ true) (one_type right to (moved_is (Some right) (Some so_far) to is)) (k e)
-stepped_keeps c Difference so_far right to a b s is h k e = false_not_true e
-stepped_keeps c (Compare op) so_far right to a b s is h k e = false_not_true e
+pub stepped_keeps : (guard : Guard) (c : Context) (step : LinkStep) (so_far right to : VarTy) (a b : ExprTree) (s : Span) → r.stepped (Some so_far) step (Some right) ≡ Some to → Keeps guard c a so_far → Keeps guard c b right → Keeps guard c (stepped so_far step a b s) to
+stepped_keeps guard c (Arithmetic op t) so_far right to a b s is h k e = false_not_true e
+stepped_keeps guard c (Shift to_left) so_far right to a b s is h k e = false_not_true e
+stepped_keeps guard c (Move back) so_far right to a b s is h k e = subst (λ z. points_to_const (Some z) ≡ true) (one_type so_far to (moved_is (Some so_far) (Some right) to is)) (h e)
+stepped_keeps guard c MoveBy so_far right to a b s is h k e = subst (λ z. points_to_const (Some z) ≡ true) (one_type right to (moved_is (Some right) (Some so_far) to is)) (k e)
+stepped_keeps guard c Difference so_far right to a b s is h k e = false_not_true e
+stepped_keeps guard c (Compare op) so_far right to a b s is h k e = false_not_true e
 
 -- ---- compound assignments
 
@@ -182,22 +182,22 @@ stored_stands (Int to) (Shift to_left) a h = as_int_stands (Int (promoted to)) t
 stored_stands ty step a h = h
 
 -- what is stored points to const only where the place's value does
-pub compound_keeps : (c : Context) (step : LinkStep) (ty : VarTy) (x y : ExprTree) (s : Span) → r.is_compound step ≡ true → points_const c (stored ty step (stepped ty step x y s)) ≡ true → points_const c x ≡ true
-compound_keeps c (Arithmetic op t) (Int u) x y s h e = false_not_true (sym (as_int_free c (Int t) u (stepped (Int u) (Arithmetic op t) x y s) refl) ∙ e)
-compound_keeps c (Arithmetic op t) (Struct n) x y s h e = false_not_true e
-compound_keeps c (Arithmetic op t) (Array d n) x y s h e = false_not_true e
-compound_keeps c (Arithmetic op t) (Pointer d f) x y s h e = false_not_true e
-compound_keeps c (Shift to_left) (Int u) x y s h e = false_not_true (sym (as_int_free c (Int (promoted u)) u (stepped (Int u) (Shift to_left) x y s) refl) ∙ e)
-compound_keeps c (Shift to_left) (Struct n) x y s h e = false_not_true e
-compound_keeps c (Shift to_left) (Array d n) x y s h e = false_not_true e
-compound_keeps c (Shift to_left) (Pointer d f) x y s h e = false_not_true e
-compound_keeps c (Move back) (Int u) x y s h e = e
-compound_keeps c (Move back) (Struct n) x y s h e = e
-compound_keeps c (Move back) (Array d n) x y s h e = e
-compound_keeps c (Move back) (Pointer d f) x y s h e = e
-compound_keeps c MoveBy ty x y s h e = false_not_true h
-compound_keeps c Difference ty x y s h e = false_not_true h
-compound_keeps c (Compare op) ty x y s h e = false_not_true h
+pub compound_keeps : (guard : Guard) (c : Context) (step : LinkStep) (ty : VarTy) (x y : ExprTree) (s : Span) → r.is_compound step ≡ true → points_const_by guard c (stored ty step (stepped ty step x y s)) ≡ true → points_const_by guard c x ≡ true
+compound_keeps guard c (Arithmetic op t) (Int u) x y s h e = false_not_true (sym (as_int_free guard c (Int t) u (stepped (Int u) (Arithmetic op t) x y s) refl) ∙ e)
+compound_keeps guard c (Arithmetic op t) (Struct n) x y s h e = false_not_true e
+compound_keeps guard c (Arithmetic op t) (Array d n) x y s h e = false_not_true e
+compound_keeps guard c (Arithmetic op t) (Pointer d f) x y s h e = false_not_true e
+compound_keeps guard c (Shift to_left) (Int u) x y s h e = false_not_true (sym (as_int_free guard c (Int (promoted u)) u (stepped (Int u) (Shift to_left) x y s) refl) ∙ e)
+compound_keeps guard c (Shift to_left) (Struct n) x y s h e = false_not_true e
+compound_keeps guard c (Shift to_left) (Array d n) x y s h e = false_not_true e
+compound_keeps guard c (Shift to_left) (Pointer d f) x y s h e = false_not_true e
+compound_keeps guard c (Move back) (Int u) x y s h e = e
+compound_keeps guard c (Move back) (Struct n) x y s h e = e
+compound_keeps guard c (Move back) (Array d n) x y s h e = e
+compound_keeps guard c (Move back) (Pointer d f) x y s h e = e
+compound_keeps guard c MoveBy ty x y s h e = false_not_true h
+compound_keeps guard c Difference ty x y s h e = false_not_true h
+compound_keeps guard c (Compare op) ty x y s h e = false_not_true h
 
 pub not_compared : (step : LinkStep) → r.is_compound step ≡ true → is_compared step ≡ false
 not_compared (Arithmetic op t) h = refl

@@ -1,5 +1,6 @@
 pub mod Declarable
 pub mod Standing
 pub mod Laws
+pub mod SaidGuards
 pub mod SaidLaws
 pub mod SaidNulls

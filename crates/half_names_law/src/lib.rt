@@ -10,8 +10,8 @@ mod said;
 ghost use Rattle.half_names_law.specs.Laws.{HalfBodiesStand, HalfNamesAreKnown, HalvesHaveNoFault, HalvesKeepTheirMeaning, OwnNamesAreKnown, SlavesHaveNoTypeFault};
 
 pub use said::{
-    checked_functions_are_said, checked_programs_place_nulls, lowered_functions_are_said,
-    lowered_programs_are_said,
+    checked_functions_are_said, checked_programs_place_nulls, lowered_functions_are_guarded,
+    lowered_functions_are_said, lowered_programs_are_said,
 };
 
 /// At each function with a body all names are known, where each function counts as one that has a body.

@@ -1,11 +1,16 @@
 // The code that the lowering makes of a well formed typed program can be said in C, if null stands in the
 // program only where C's null constant may stand; and it does in what the type judgments give.
 
-ghost use Rattle.half_names_law.specs.SaidLaws.{CheckedFunctionsAreSaid, CheckedProgramsPlaceNulls, LoweredFunctionsAreSaid, LoweredProgramsAreSaid};
+ghost use Rattle.half_names_law.specs.SaidLaws.{CheckedFunctionsAreSaid, CheckedProgramsPlaceNulls, LoweredFunctionsAreGuarded, LoweredFunctionsAreSaid, LoweredProgramsAreSaid};
 
 /// The code of each function that has a body.
 pub fn lowered_functions_are_said()
     ensures { LoweredFunctionsAreSaid }
+{}
+
+/// The code of each function that has a body, where globals that it doesn't change are guarded.
+pub fn lowered_functions_are_guarded()
+    ensures { LoweredFunctionsAreGuarded }
 {}
 
 /// Each function of the lowered program.

@@ -11,6 +11,7 @@ use Rattle.host_models.specs.Mixed.{is_mixed}
 use Rattle.typed_tree.specs.TypedTree.{TypedTree, signatures_of}
 use Rattle.reach.proofs.ListLemmas.{contains_map, from_filter}
 use Rattle.pt_core.specs.declared.monitor.Entry.{Entry}
+use Rattle.pt_core.specs.CodeTree.{MonitorTree}
 use Rattle.pt_core.specs.Calls.{no_signature, signature_in}
 use Rattle.pt_core.specs.WellFormed.{monitor_program}
 use Rattle.lowering.specs.Functions.{functions_from, signatures_from}
@@ -18,7 +19,7 @@ use Rattle.lowered_code_law.proofs.FormsLists.{found_signature}
 use Rattle.splitter.specs.Halves.{Halves, asked, called_by, entry_numbers, entry_of, is_among, is_entry, monitor_code, monitor_entries, monitor_of, slave_of}
 use Rattle.splitter.proofs.SetLemmas.{among_from, among_has}
 use Rattle.split_law.proofs.Chosen.{chosen_lookup}
-use Rattle.pair_meaning.specs.Monitors.{entries_in}
+use Rattle.pair_meaning.specs.Monitors.{Bound, bound_of, bounds_in, entries_in}
 
 abbrev Numbered : Type 0
 Numbered = ℕ × Signature
@@ -94,6 +95,13 @@ entries_of_each : (signature : ℕ → Signature) (xs : List Numbered) → ((x :
 entries_of_each signature [] h = refl
 entries_of_each signature (x ∷ xs) h = λ i. (x.0, h x (contains_first x xs) i) ∷ entries_of_each signature xs (λ y c. h y (contains_later x xs y c)) i
 
+-- they bind nothing
+bounds_of_each : (p : MonitorTree) (signature : ℕ → Signature) (xs : List Numbered) →
+    map (λ (e : Entry). (e.function.0, map (bound_of p) e.shared)) (map (λ (s : Numbered). entry_of (record { 0 = s.0 })) xs)
+    ≡ map (λ (e : Numbered). (e.0, [])) (map (λ (e : Entry). (e.function.0, signature e.function.0)) (map (λ (s : Numbered). entry_of (record { 0 = s.0 })) xs))
+bounds_of_each p signature [] = refl
+bounds_of_each p signature (x ∷ xs) = ap (λ (ys : List (ℕ × List Bound)). (x.0, []) ∷ ys) (bounds_of_each p signature xs)
+
 module _ (t : TypedTree) (h : Halves) where
   abbrev called : ℕ → Bool
   called = is_among (asked h (functions_from t 0 t.functions))
@@ -121,6 +129,9 @@ module _ (t : TypedTree) (h : Halves) where
   entries_are : entries_in (monitor_of t h (functions_from t 0 t.functions)) ≡ asked_for called (signatures_of t)
   entries_are = entries_of_each (signature_in (monitor_program (monitor_of t h (functions_from t 0 t.functions)))) (asked_for called (signatures_of t)) entry_signature
 
+  bounds_are : bounds_in (monitor_of t h (functions_from t 0 t.functions)) ≡ map (λ (e : Numbered). (e.0, [])) (entries_in (monitor_of t h (functions_from t 0 t.functions)))
+  bounds_are = bounds_of_each (monitor_of t h (functions_from t 0 t.functions)) (signature_in (monitor_program (monitor_of t h (functions_from t 0 t.functions)))) (asked_for called (signatures_of t))
+
   -- what the slave's code calls has the signature that the slave has of it
   known_called : (n : ℕ) → called n ≡ true → lookup (nat_eq n) (slave_of t h (functions_from t 0 t.functions)).signatures ≡ slice_get (signatures_of t) n
   known_called n e =
@@ -144,3 +155,8 @@ entries_same t u h k calls signatures =
     at n e =
         sym (known_called t h n e) ∙ ap (λ (l : List Numbered). lookup (nat_eq n) l) signatures
         ∙ known_called u k n (ap (λ (ns : List ℕ). is_among ns n) (sym calls) ∙ e)
+
+-- so nothing stands for globals in either
+pub bounds_same : (t u : TypedTree) (h k : Halves) → entries_in (monitor_of t h (functions_from t 0 t.functions)) ≡ entries_in (monitor_of u k (functions_from u 0 u.functions)) →
+    bounds_in (monitor_of t h (functions_from t 0 t.functions)) ≡ bounds_in (monitor_of u k (functions_from u 0 u.functions))
+bounds_same t u h k same = bounds_are t h ∙ ap (λ (es : List Numbered). map (λ (e : Numbered). (e.0, [])) es) same ∙ sym (bounds_are u k)

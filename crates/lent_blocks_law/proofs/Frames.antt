@@ -4,6 +4,7 @@ use Rattle.std.specs.Prelude.{IsTrue, slice_get, slice_index_or, nat_lt}
 use Rattle.std.proofs.lemmas.Bool.Decides.{nat_tests}
 use Rattle.pt_base.specs.declared.int_type.IntType.{IntType}
 use Rattle.pt_base.proofs.Booleans.{both_hold_first, both_hold_second, false_not_true}
+use Rattle.pt_base.proofs.Numbers.{nat_eq_below}
 use Rattle.pt_tree.specs.declared.signature.Elem.{Elem}
 use Rattle.pt_tree.specs.declared.signature.Param.{Param}
 use Rattle.typed_tree.specs.declared.types.VarTy.{VarTy}
@@ -18,7 +19,7 @@ use Rattle.block_memory.specs.declared.cell.BlockName.TheVariants.{Local, Global
 use Rattle.block_memory.specs.declared.shape.BlockShape.{BlockShape}
 use Rattle.block_memory.specs.Block.{no_block, fresh, with_cell}
 use Rattle.block_memory.specs.Blocks.{Blocks, put, with_frame, without_frames}
-use Rattle.pt_core.specs.CodeTree.{ProgramTree}
+use Rattle.pt_core.specs.CodeTree.{ProgramTree, local, place}
 use Rattle.pt_core.specs.Types.{Context, type_at, shape_of}
 use Rattle.pt_core.specs.Values.{written}
 use Rattle.pt_core.specs.Statements.{kept}
@@ -32,20 +33,22 @@ use Rattle.typed_tree.proofs.SameTypes.{equal_types}
 use Rattle.core_soundness_law.proofs.Settings.{same_depth}
 use Rattle.core_soundness_law.proofs.Values.{known_variable}
 use Rattle.core_soundness_law.proofs.Shapes.{arguments_beside}
-use Rattle.lent_blocks_law.specs.Lent.{Writable, Owns, Stays, PointsToWritable, ValueIsLent, AreLent, PointersAreLent}
+use Rattle.lent_blocks_law.specs.Lent.{Writable, Owns, Stays, PointsToWritable, ValueIsLent, AreLent, PointersAreLent, is_held_at}
 use Rattle.lent_blocks_law.proofs.Stores.{stays_self, locals_change, put_lent, no_pointer_put, first_set, fresh_lent, LentChange}
 
 -- ---- a function is left
 
 pub left_lent : (w : Writable) (program : ProgramTree) (a : Active) (rest : List Active) (blocks : Blocks) → PointersAreLent w program (a ∷ rest) blocks → PointersAreLent w program rest (without_frames blocks a.depth)
-left_lent w program a rest blocks all d v elem is = go (nat_lt d a.depth) refl
+left_lent w program a rest blocks all d v elem is free = go (nat_lt d a.depth) refl
   where
     less : (d depth : ℕ) → nat_lt d depth ≡ true → d < depth
     less d depth h = grind (arith, nat_tests)
 
     go : (t : Bool) → nat_lt d a.depth ≡ t → PointsToWritable w program.structs elem (slice_index_or (if t then blocks (Local d v) else no_block).cells 0 (cell.Int (pos 0)))
     go false e = tt {0}
-    go true e = all d v elem (ap (λ tys. slice_get tys v) (other_depth d a.depth (context_in program a.function).variables (variables_at program rest d) (less d a.depth e)) ∙ is)
+    go true e =
+        all d v elem (ap (λ tys. slice_get tys v) (other_depth d a.depth (context_in program a.function).variables (variables_at program rest d) (less d a.depth e)) ∙ is)
+        (ap (λ b. if b then (w.guards a.function).held (place (local v) []) else is_held_at w rest d v) (nat_eq_below d a.depth (less d a.depth e)) ∙ free)
 
 pub left_stays : (w : Writable) (program : ProgramTree) (blocks : Blocks) (depth : ℕ) → Owns w program → Stays w blocks (without_frames blocks depth)
 left_stays w program blocks depth owns = locals_change w program blocks (without_frames blocks depth) owns (λ g. refl) (λ n. refl)
@@ -58,12 +61,13 @@ frame_lent w structs elem (s ∷ shapes) zero = fresh_lent w structs elem s
 frame_lent w structs elem (s ∷ shapes) (suc v) = frame_lent w structs elem shapes v
 
 pub framed_lent : (w : Writable) (program : ProgramTree) (a : Active) (active : List Active) (blocks : Blocks) (shapes : List BlockShape) → PointersAreLent w program active blocks → PointersAreLent w program (a ∷ active) (with_frame blocks a.depth shapes)
-framed_lent w program a active blocks shapes all d v elem is = go (nat_eq d a.depth) is
+framed_lent w program a active blocks shapes all d v elem is free = go (nat_eq d a.depth) is free
   where
     go : (t : Bool) → slice_get (if t then (context_in program a.function).variables else variables_at program active d) v ≡ Some (Pointer elem false) →
+        (if t then (w.guards a.function).held (place (local v) []) else is_held_at w active d v) ≡ false →
         PointsToWritable w program.structs elem (slice_index_or (if t then slice_index_or (map fresh shapes) v no_block else blocks (Local d v)).cells 0 (cell.Int (pos 0)))
-    go true e = frame_lent w program.structs elem shapes v
-    go false e = all d v elem e
+    go true e no = frame_lent w program.structs elem shapes v
+    go false e no = all d v elem e no
 
 arguments_lent : (w : Writable) (program : ProgramTree) (a : Active) (rest : List Active) (blocks : Blocks) (v : ℕ) (ps : List Param) (vs : List Cell) → PointersAreLent w program (a ∷ rest) blocks → Lead (context_in program a.function).variables v ps →
     AreLent w program.structs ps vs → PointersAreLent w program (a ∷ rest) (with_arguments blocks a.depth v vs)
@@ -73,7 +77,7 @@ arguments_lent w program a rest blocks v (p ∷ ps) [] all lead f = elim f [ ]
 arguments_lent w program a rest blocks v (p ∷ ps) (x ∷ vs) all lead f =
     arguments_lent w program a rest (written blocks (Local a.depth v) 0 x) (v + 1) ps vs
     (put_lent w program (a ∷ rest) blocks (Local a.depth v) (with_cell (blocks (Local a.depth v)) 0 x) all
-    (λ elem is. first_set (PointsToWritable w program.structs elem) (blocks (Local a.depth v)).cells x (cell.Int (pos 0))
+    (λ elem is free. first_set (PointsToWritable w program.structs elem) (blocks (Local a.depth v)).cells x (cell.Int (pos 0))
     (subst (λ ty. ValueIsLent w program.structs ty x) (same (param_type p.kind) (Pointer elem false) (sym named ∙ is)) f.0) (tt {0}))) lead.1 f.1
   where
     same : (x y : VarTy) → Some x ≡ Some y → x ≡ y

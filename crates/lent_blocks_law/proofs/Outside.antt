@@ -20,16 +20,16 @@ use Rattle.lent_blocks_law.proofs.Calls.{body_said}
 pub values_are_lent : ValuesAreLent
 values_are_lent kept monitor program w a rest blocks e sound known mem owns lent fits =
     let facts : ProgramFacts monitor program = facts_of monitor program sound in
-    values_lent w (context_in program a.function) a.depth blocks (setting _ monitor program a rest blocks facts (function_facts monitor program facts a.function known) mem) (sees w program a rest blocks owns lent) e fits
+    values_lent w (w.guards a.function) (context_in program a.function) a.depth blocks (setting _ monitor program a rest blocks facts (function_facts monitor program facts a.function known) mem) (sees w program a rest blocks owns lent) e fits
 
 pub places_are_lent : PlacesAreLent
 places_are_lent kept monitor program w a rest blocks p sound known mem owns lent fits =
     let facts : ProgramFacts monitor program = facts_of monitor program sound in
-    places_lent w (context_in program a.function) a.depth blocks (setting _ monitor program a rest blocks facts (function_facts monitor program facts a.function known) mem) (sees w program a rest blocks owns lent) p fits
+    places_lent w (w.guards a.function) (context_in program a.function) a.depth blocks (setting _ monitor program a rest blocks facts (function_facts monitor program facts a.function known) mem) (sees w program a rest blocks owns lent) p fits
 
 -- no function is active, so there is no variable
 pub none_active : (w : Writable) (program : ProgramTree) (blocks : Blocks) → PointersAreLent w program [] blocks
-none_active w program blocks depth v elem is = cc
+none_active w program blocks depth v elem is free = cc
 
 pub rest_lends : RestLends
 rest_lends monitor program w budget = record { pointers = none_active w program (at_rest program budget).blocks; code = tt {0} }
@@ -40,7 +40,7 @@ starts_are_lent monitor program w m privileged f depth args sound coded known id
     let a : Active = just_entered program privileged f depth None in
     let k : LentChange w program (a ∷ []) m.blocks (entered program f depth args m.blocks) =
     entered_lent w program a [] m.blocks (own_params program f) args owns (none_active w program m.blocks) (own_lead monitor program f facts) lent in
-    record { stays = k.stays; lends = record { pointers = k.pointers; code = ((body_said monitor program f facts coded, tt {0}), tt {0}) } }
+    record { stays = k.stays; lends = record { pointers = k.pointers; code = ((body_said w monitor program f facts coded, tt {0}), tt {0}) } }
 
 resumed_lent : (w : Writable) (program : ProgramTree) (v : Option Cell) (active : List Active) (blocks : Blocks) → Owns w program → PointersAreLent w program active blocks → (o : Option Awaited) → AwaitedFits program active o →
     LentChange w program active blocks (resumed_in v o active blocks)

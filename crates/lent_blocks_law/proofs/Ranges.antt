@@ -71,7 +71,7 @@ element_within count index ts less =
 -- ---- parts
 
 pub inner_writable : (w : Writable) (block : BlockName) (at size offset count : ℕ) → offset + count ≤ size → AreWritable w block at size → AreWritable w block (at + offset) count
-inner_writable w block at size offset count fit all i less = subst (λ n. w block n ≡ true) (plus at offset i) (all (offset + i) (within offset i count size less fit))
+inner_writable w block at size offset count fit all i less = subst (λ n. w.may block n ≡ true) (plus at offset i) (all (offset + i) (within offset i count size less fit))
   where
     plus : (a b c : ℕ) → a + (b + c) ≡ a + b + c
     plus a b c = omega arith

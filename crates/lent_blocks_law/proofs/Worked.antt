@@ -1,6 +1,6 @@
 -- The law tried on a body that is lent one struct through a pointer to const, and a second one: it is kept from the first;
 -- and bodies that write through the first all fit, but none can be said.
-use Rattle.std.proofs.Common.{◌≡◌, ◌∙◌, ℕ, zero, suc, pos, refl, ap, sym, subst, arith, Bool, true, false, List, [], ◌∷◌, Some, None, codes}
+use Rattle.std.proofs.Common.{◌≡◌, ◌∙◌, ℕ, zero, suc, pos, refl, ap, sym, subst, arith, Bool, true, false, List, [], ◌∷◌, Some, None, codes, nat_eq}
 use Rattle.std.specs.Prelude.{IsTrue, slice_get}
 use Rattle.pt_base.specs.declared.span.Span.{Span}
 use Rattle.pt_base.specs.declared.int_type.IntType.TheVariants as i
@@ -17,10 +17,11 @@ use Rattle.typed_tree.specs.Cells as cells
 use Rattle.block_memory.specs.declared.cell.Cell.{Cell}
 use Rattle.block_memory.specs.declared.cell.Cell.TheVariants as cell
 use Rattle.block_memory.specs.declared.cell.Pointer.TheVariants as pointer
+use Rattle.block_memory.specs.declared.cell.BlockName.{BlockName}
 use Rattle.block_memory.specs.declared.cell.BlockName.TheVariants.{Local, Global, Received}
 use Rattle.block_memory.specs.Block.{Block, no_block}
 use Rattle.block_memory.specs.Blocks.{Blocks}
-use Rattle.pt_core.specs.CodeTree.{local, deref, PlaceTree, place, ExprTree, constant, read, address, no_exprs, expr_and, StmtTree, assign, call, stmt_trees, FunctionTree, ProgramTree}
+use Rattle.pt_core.specs.CodeTree.{local, global, deref, PlaceTree, place, ExprTree, constant, read, address, decay, move, no_exprs, expr_and, StmtTree, assign, call, stmt_trees, FunctionTree, ProgramTree}
 use Rattle.pt_core.specs.Types.{Context}
 use Rattle.pt_core.specs.Steps.{Machine, Gate, away, started}
 use Rattle.pt_core.specs.WellFormed.{context_of, called_signature, is_sound}
@@ -31,7 +32,7 @@ use Rattle.core_soundness_law.specs.Outside.{ArgumentsFit}
 use Rattle.core_soundness_law.specs.CalledKeeping.{FitsCalls}
 use Rattle.core_soundness_law.proofs.CalledSteps.{started_call_own}
 use Rattle.core_soundness_law.proofs.Starting.{started_fits}
-use Rattle.half_meaning_law.specs.CForms.{is_said, are_said}
+use Rattle.half_meaning_law.specs.CForms.{Guard, are_said, are_said_by, is_said, is_said_by, unguarded}
 use Rattle.lent_blocks_law.specs.Lent.{Writable, Owns, Stays, AreLent, CodeIsSaid}
 use Rattle.lent_blocks_law.specs.Laws.{StartIsLent, StepIsLent}
 use Rattle.lent_blocks_law.proofs.Stores.{stays_on}
@@ -138,6 +139,50 @@ takes_pointer = record { name = codes "g"; result = None; params = taking (k.Ptr
 passing_is_not_said : is_said context (λ f. Some takes_pointer) (call 1 (expr_and (address (field 0 0)) no_exprs) None anywhere) ≡ false
 passing_is_not_said = refl
 
+-- ---- a guarded global: int t[2], of which a body only reads
+
+abbrev array : Var
+array = of_type (ty.Array (e.Int i.Int) 2)
+
+-- int *r; int n; with t as global 0
+abbrev reading : Context
+reading = context_of (record (with_body []) { globals = record { id = 0; var = array; cells = [] } ∷ [] }) (of_type (ty.Pointer (e.Int i.Int) false) ∷ of_type (ty.Int i.Int) ∷ [])
+
+abbrev is_first : PlaceTree → Bool
+is_first (place (local zero) []) = true
+is_first p = false
+
+abbrev read_alone : Guard
+read_alone = record { globals = λ g. nat_eq g 0; held = is_first }
+
+abbrev first_item : PlaceTree
+first_item = place (deref (move (decay (place (global 0) [])) (value 1) false anywhere) anywhere) []
+
+-- n = t[n], and r = t; n = *(r + n) where r holds it
+abbrev reads : List StmtTree
+reads = assign (place (local 1) []) (read first_item) ∷ assign (place (local 0) []) (decay (place (global 0) []))
+    ∷ assign (place (local 1) []) (read (place (deref (move (value 0) (value 1) false anywhere) anywhere) [])) ∷ []
+
+reads_are_said : are_said_by read_alone reading (λ f. Some takes_pointer) (stmt_trees reads) ≡ true
+reads_are_said = refl
+
+-- t[n] = 9; r = t; *r = 9, where r holds it; g(t), of void g(int *)
+item_write_is_not_said : is_said_by read_alone reading (λ f. Some takes_pointer) (assign first_item nine) ≡ false
+item_write_is_not_said = refl
+
+held_write_is_not_said : is_said_by read_alone reading (λ f. Some takes_pointer) (assign (place (deref (value 0) anywhere) []) nine) ≡ false
+held_write_is_not_said = refl
+
+guarded_passing_is_not_said : is_said_by read_alone reading (λ f. Some takes_pointer) (call 1 (expr_and (decay (place (global 0) [])) no_exprs) None anywhere) ≡ false
+guarded_passing_is_not_said = refl
+
+held_passing_is_not_said : is_said_by read_alone reading (λ f. Some takes_pointer) (call 1 (expr_and (value 0) no_exprs) None anywhere) ≡ false
+held_passing_is_not_said = refl
+
+-- unguarded all of these can be said
+unguarded_write_is_said : is_said reading (λ f. Some takes_pointer) (assign first_item nine) ≡ true
+unguarded_write_is_said = refl
+
 -- ---- a machine
 
 abbrev two : ℕ → ℕ → Block
@@ -163,11 +208,14 @@ abbrev args : List Cell
 args = pointer_to 0 ∷ pointer_to 1 ∷ []
 
 -- all but the first block
+abbrev is_writable : BlockName → ℕ → Bool
+is_writable (Local depth v) n = true
+is_writable (Global g) n = true
+is_writable (Received zero) n = false
+is_writable (Received (suc k)) n = true
+
 abbrev writable : Writable
-writable (Local depth v) n = true
-writable (Global g) n = true
-writable (Received zero) n = false
-writable (Received (suc k)) n = true
+writable = record { may = is_writable; guards = λ f. unguarded }
 
 abbrev gate : Gate ℕ
 gate = record { way = λ g f vs. away; noted = λ b f vs g. g; answer = λ f ns g. (None, g) }
@@ -206,7 +254,7 @@ args_fit = (
 )
 
 owns : (program : ProgramTree) → Owns writable program
-owns program = record { locals = λ depth v n. refl; globals = λ g n known. refl }
+owns program = record { locals = λ depth v n. refl; globals = λ f g n known free. refl; wholes = λ f p held. cc }
 
 args_lent : AreLent writable (pair ∷ []) taken.params args
 args_lent = (tt {0}, (λ n less. refl, tt {0}))

@@ -17,8 +17,8 @@ use Rattle.core_soundness_law.specs.Outside.{own_params}
 use Rattle.core_soundness_law.specs.StepLaws.{called_params}
 use Rattle.core_soundness_law.specs.Called.{CallOwn}
 use Rattle.core_soundness_law.specs.CalledKeeping.{FitsCalls}
-use Rattle.half_meaning_law.specs.CForms.{c_type, is_const}
-use Rattle.lent_blocks_law.specs.Lent.{Writable, AreWritable, Owns, Stays, ValueIsLent, AreLent, PointersAreLent, CodeIsSaid, Lends}
+use Rattle.half_meaning_law.specs.CForms.{c_type_by, is_const_by}
+use Rattle.lent_blocks_law.specs.Lent.{Writable, AreWritable, Owns, Stays, ValueIsLent, AreLent, PointersAreLent, CodeIsSaidBy, Lends}
 
 -- ---- expressions and places
 
@@ -27,11 +27,11 @@ abbrev pub ValuesAreLent : Type 0
 ValuesAreLent = (kept : Kept) (monitor : Bool) (program : ProgramTree) (w : Writable) (a : Active) (rest : List Active) (blocks : Blocks) (e : ExprTree) →
     IsTrue (is_sound monitor program) → IsTrue (is_some (function_at program a.function)) → MemoryFits kept program (a ∷ rest) blocks →
     Owns w program → PointersAreLent w program (a ∷ rest) blocks → IsTrue (expr_fits (context_in program a.function) e) →
-    IfOk (value_of (context_in program a.function) a.depth e blocks) (ValueIsLent w program.structs (c_type (context_in program a.function) e))
+    IfOk (value_of (context_in program a.function) a.depth e blocks) (ValueIsLent w program.structs (c_type_by (w.guards a.function) (context_in program a.function) e))
 
 -- an object that isn't const may be written
 abbrev pub IsLentAt : Writable → ProgramTree → Active → PlaceTree → Location → Type 0
-IsLentAt w program a p at = is_const (context_in program a.function) p ≡ false → AreWritable w at.block at.cell (cells_of program.structs (place_type (context_in program a.function) p))
+IsLentAt w program a p at = is_const_by (w.guards a.function) (context_in program a.function) p ≡ false → AreWritable w at.block at.cell (cells_of program.structs (place_type (context_in program a.function) p))
 
 abbrev pub PlacesAreLent : Type 0
 PlacesAreLent = (kept : Kept) (monitor : Bool) (program : ProgramTree) (w : Writable) (a : Active) (rest : List Active) (blocks : Blocks) (p : PlaceTree) →
@@ -59,7 +59,7 @@ pub record StepIsLent (monitor : Bool) (program : ProgramTree) (w : Writable) (b
 -- that may not be written, and keeps that each pointer to no const points to what may be written.
 abbrev pub LentBlocksStay : Type 0 → Type 0
 LentBlocksStay G = (kept : Kept) (monitor : Bool) (program : ProgramTree) (w : Writable) (gate : Gate G) (m : Machine) (g : G) →
-    IsTrue (is_sound monitor program) → CodeIsSaid monitor program → FitsCalls program gate g → CallOwn program m.active → Fits kept monitor program m → m.awaits ≡ None →
+    IsTrue (is_sound monitor program) → CodeIsSaidBy w.guards monitor program → FitsCalls program gate g → CallOwn program m.active → Fits kept monitor program m → m.awaits ≡ None →
     Owns w program → Lends monitor program w m.active m.blocks → StepIsLent monitor program w m.blocks (step program gate m g)
 
 -- ---- so many steps
@@ -67,7 +67,7 @@ LentBlocksStay G = (kept : Kept) (monitor : Bool) (program : ProgramTree) (w : W
 -- under a gate that fits in each of its states
 abbrev pub LentBlocksStayInRuns : Type 0 → Type 0
 LentBlocksStayInRuns G = (kept : Kept) (monitor : Bool) (program : ProgramTree) (w : Writable) (gate : Gate G) (n : ℕ) (m : Machine) (g : G) →
-    IsTrue (is_sound monitor program) → CodeIsSaid monitor program → ((now : G) → FitsCalls program gate now) → CallOwn program m.active → Fits kept monitor program m → m.awaits ≡ None →
+    IsTrue (is_sound monitor program) → CodeIsSaidBy w.guards monitor program → ((now : G) → FitsCalls program gate now) → CallOwn program m.active → Fits kept monitor program m → m.awaits ≡ None →
     Owns w program → Lends monitor program w m.active m.blocks → StepIsLent monitor program w m.blocks (steps_run program gate n m g)
 
 -- ---- what comes from outside
@@ -82,7 +82,7 @@ pub record StartIsLent (monitor : Bool) (program : ProgramTree) (w : Writable) (
 -- a function is entered with arguments of its own parameters, of which pointers to no const point to what may be written
 abbrev pub StartsAreLent : Type 0
 StartsAreLent = (monitor : Bool) (program : ProgramTree) (w : Writable) (m : Machine) (privileged : Bool) (f depth : ℕ) (args : List Cell) →
-    IsTrue (is_sound monitor program) → CodeIsSaid monitor program → IsTrue (is_some (function_at program f)) → m.active ≡ [] → Owns w program →
+    IsTrue (is_sound monitor program) → CodeIsSaidBy w.guards monitor program → IsTrue (is_some (function_at program f)) → m.active ≡ [] → Owns w program →
     AreLent w program.structs (own_params program f) args → StartIsLent monitor program w m.blocks (started program privileged f depth args m)
 
 abbrev pub ResumesAreLent : Type 0

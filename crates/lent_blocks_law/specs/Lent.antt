@@ -1,5 +1,5 @@
 -- Where only some cells may be written: what holds of pointers and of code.
-use Rattle.std.specs.Prelude.{◌≡◌, ◌<◌, ◌+◌, ◌*◌, ℕ, Bool, true, false, List, [], ◌∷◌, Option, Some, IsTrue, nat_eq, slice_get, is_some}
+use Rattle.std.specs.Prelude.{◌≡◌, ◌<◌, ◌+◌, ◌*◌, ℕ, Bool, true, false, List, [], ◌∷◌, Option, Some, IsTrue, if◌then◌else◌, nat_eq, slice_get, is_some}
 use Rattle.std.specs.Map.{lookup}
 use Rattle.pt_tree.specs.declared.signature.Elem.{Elem}
 use Rattle.pt_tree.specs.declared.signature.Param.{Param}
@@ -16,35 +16,38 @@ use Rattle.block_memory.specs.declared.cell.Pointer.TheVariants as pointer
 use Rattle.block_memory.specs.declared.cell.BlockName.{BlockName}
 use Rattle.block_memory.specs.declared.cell.BlockName.TheVariants.{Local, Global}
 use Rattle.block_memory.specs.Blocks.{Blocks}
-use Rattle.pt_core.specs.CodeTree.{ProgramTree}
+use Rattle.pt_core.specs.CodeTree.{PlaceTree, ProgramTree, local, place}
 use Rattle.pt_core.specs.Types.{Context}
 use Rattle.pt_core.specs.Values.{cell_in}
 use Rattle.pt_core.specs.Calls.{context_in}
 use Rattle.pt_core.specs.Steps.{Work, run, head, Active}
 use Rattle.pt_core.specs.WellFormed.{called_signature}
 use Rattle.core_soundness_law.specs.Fits.{variables_at}
-use Rattle.half_meaning_law.specs.CForms.{are_said}
-pub use Rattle.half_meaning_law.specs.CForms.{CodeIsSaid}
+use Rattle.half_meaning_law.specs.CForms.{Guard, are_said_by}
+pub use Rattle.half_meaning_law.specs.CForms.{CodeIsSaid, CodeIsSaidBy}
 
 -- ---- cells
 
--- which cells of which blocks may be written
-abbrev pub Writable : Type 0
-Writable = BlockName → ℕ → Bool
+-- Which cells of which blocks may be written, and what guards the code of each function, by its number.
+pub record Writable : Type 0 where
+  pub may : BlockName → ℕ → Bool
+  pub guards : ℕ → Guard
 
 -- so many cells of the block, from this one on
 abbrev pub AreWritable : Writable → BlockName → ℕ → ℕ → Type 0
-AreWritable w block at count = (i : ℕ) → i < count → w block (at + i) ≡ true
+AreWritable w block at count = (i : ℕ) → i < count → w.may block (at + i) ≡ true
 
--- Each variable of each function may be written, and each global that the program's code names. So what may
--- be denied are cells of received blocks, and of globals of others.
+-- Each variable of each function may be written, and each global that the program's code names and that one of its functions
+-- doesn't guard. So what may be denied are cells of received blocks, of globals of others, and of guarded ones. Only whole
+-- variables hold pointers into these.
 pub record Owns (w : Writable) (program : ProgramTree) : Type 0 where
-  pub locals : (depth v i : ℕ) → w (Local depth v) i ≡ true
-  pub globals : (g i : ℕ) → IsTrue (is_some (lookup (nat_eq g) (context_in program 0).globals)) → w (Global g) i ≡ true
+  pub locals : (depth v i : ℕ) → w.may (Local depth v) i ≡ true
+  pub globals : (f g i : ℕ) → IsTrue (is_some (lookup (nat_eq g) (context_in program 0).globals)) → (w.guards f).globals g ≡ false → w.may (Global g) i ≡ true
+  pub wholes : (f : ℕ) (p : PlaceTree) → (w.guards f).held p ≡ true → (v : ℕ) × (p ≡ place (local v) [])
 
 -- what may not be written is as it was
 abbrev pub Stays : Writable → Blocks → Blocks → Type 0
-Stays w before after = (name : BlockName) (i : ℕ) → w name i ≡ false → slice_get (after name).cells i ≡ slice_get (before name).cells i
+Stays w before after = (name : BlockName) (i : ℕ) → w.may name i ≡ false → slice_get (after name).cells i ≡ slice_get (before name).cells i
 
 -- ---- values
 
@@ -72,26 +75,31 @@ AreLent w structs (p ∷ ps) (v ∷ vs) = ValueIsLent w structs (param_type p.ki
 
 -- ---- variables
 
--- each live variable that is a pointer to no const
+-- whether a live variable holds pointers into guarded globals
+abbrev pub is_held_at : Writable → List Active → ℕ → ℕ → Bool
+is_held_at w [] depth v = false
+is_held_at w (a ∷ rest) depth v = if nat_eq depth a.depth then (w.guards a.function).held (place (local v) []) else is_held_at w rest depth v
+
+-- each other live variable that is a pointer to no const
 abbrev pub PointersAreLent : Writable → ProgramTree → List Active → Blocks → Type 0
-PointersAreLent w program active blocks = (depth v : ℕ) (elem : Elem) → slice_get (variables_at program active depth) v ≡ Some (Pointer elem false) →
+PointersAreLent w program active blocks = (depth v : ℕ) (elem : Elem) → slice_get (variables_at program active depth) v ≡ Some (Pointer elem false) → is_held_at w active depth v ≡ false →
     PointsToWritable w program.structs elem (cell_in blocks (record { block = Local depth v; cell = 0; ty = Pointer elem false }))
 
 -- ---- code
 
 -- what is left of a function's work
-abbrev pub WorkIsSaid : Context → (ℕ → Option Signature) → List Work → Type 0
-WorkIsSaid c called [] = Unit {0}
-WorkIsSaid c called (run stmts ∷ work) = IsTrue (are_said c called stmts) × WorkIsSaid c called work
-WorkIsSaid c called (head body ∷ work) = IsTrue (are_said c called body) × WorkIsSaid c called work
+abbrev pub WorkIsSaid : Guard → Context → (ℕ → Option Signature) → List Work → Type 0
+WorkIsSaid k c called [] = Unit {0}
+WorkIsSaid k c called (run stmts ∷ work) = IsTrue (are_said_by k c called stmts) × WorkIsSaid k c called work
+WorkIsSaid k c called (head body ∷ work) = IsTrue (are_said_by k c called body) × WorkIsSaid k c called work
 
-abbrev pub AllAreSaid : Bool → ProgramTree → List Active → Type 0
-AllAreSaid monitor program [] = Unit {0}
-AllAreSaid monitor program (a ∷ rest) = WorkIsSaid (context_in program a.function) (called_signature monitor program) a.work × AllAreSaid monitor program rest
+abbrev pub AllAreSaid : Writable → Bool → ProgramTree → List Active → Type 0
+AllAreSaid w monitor program [] = Unit {0}
+AllAreSaid w monitor program (a ∷ rest) = WorkIsSaid (w.guards a.function) (context_in program a.function) (called_signature monitor program) a.work × AllAreSaid w monitor program rest
 
 -- ---- machines
 
 -- what these functions have in these blocks, and have still to do, writes nothing but what may be written
 pub record Lends (monitor : Bool) (program : ProgramTree) (w : Writable) (active : List Active) (blocks : Blocks) : Type 0 where
   pub pointers : PointersAreLent w program active blocks
-  pub code : AllAreSaid monitor program active
+  pub code : AllAreSaid w monitor program active

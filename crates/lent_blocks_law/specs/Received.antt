@@ -3,6 +3,7 @@ use Rattle.std.specs.Prelude.{◌≡◌, ◌≤◌, ℕ, Bool, true, false, List
 use Rattle.pt_tree.specs.declared.signature.Param.{Param}
 use Rattle.typed_tree.specs.declared.types.StructInfo.{StructInfo}
 use Rattle.block_memory.specs.declared.cell.Cell.{Cell}
+use Rattle.block_memory.specs.declared.cell.BlockName.{BlockName}
 use Rattle.block_memory.specs.declared.cell.BlockName.TheVariants.{Local, Global, Received}
 use Rattle.block_memory.specs.Blocks.{Blocks}
 use Rattle.runs.specs.Run.{deepest}
@@ -18,13 +19,18 @@ use Rattle.core_soundness_law.specs.CalledKeeping.{FitsCalls}
 use Rattle.marshalling.specs.Handles.{Entries}
 use Rattle.marshalling.specs.HonestCalls.{for_callee}
 use Rattle.marshalling.specs.Taking.{comes_back, call_crossing}
+use Rattle.half_meaning_law.specs.CForms.{unguarded}
 use Rattle.lent_blocks_law.specs.Lent.{Writable, Owns, Stays, AreLent, CodeIsSaid}
 
 -- the cells of a call's blocks that come back, and all that isn't received
+abbrev pub is_returning : List StructInfo → List Param → List Cell → BlockName → ℕ → Bool
+is_returning structs params args (Local depth v) i = true
+is_returning structs params args (Global g) i = true
+is_returning structs params args (Received k) i = comes_back (call_crossing structs params args k i)
+
+-- no global is guarded
 abbrev pub returning : List StructInfo → List Param → List Cell → Writable
-returning structs params args (Local depth v) i = true
-returning structs params args (Global g) i = true
-returning structs params args (Received k) i = comes_back (call_crossing structs params args k i)
+returning structs params args = record { may = is_returning structs params args; guards = λ f. unguarded }
 
 -- What a call sends is lent so: all arguments, and also those alone of the first parameters, which a body takes.
 pub record IsLentCall (store : Entries) (structs : List StructInfo) (params : List Param) (blocks : Blocks) (args : List Cell) : Type 0 where

@@ -28,7 +28,7 @@ use Rattle.pair_protocol.specs.Serving.{Stop, still, ended, broken}
 use Rattle.pair_meaning.specs.Monitors.{Monitor, Low, entries_in, low}
 use Rattle.pair_meaning.specs.Pair.{serve_all}
 use Rattle.pair_meaning.specs.Rules as rule
-use Rattle.pair_meaning.specs.Rules.{PeerRule, Admitted, Verdict, breaks, writes, makes, asked_for, call_rule, decided, early_rule, permitted, plain_of, rules, unless_broken}
+use Rattle.pair_meaning.specs.Rules.{PeerRule, Admitted, Verdict, breaks, writes, makes, asked_for, bounds_for, call_rule, decided, early_rule, permitted, plain_of, rules, unless_broken}
 use Rattle.pair_meaning.specs.Serving.{acted, is_spent, left_for, serve, served_by, verdict_on, work_of}
 use Rattle.pair_meaning.specs.Start.{monitor_start}
 use Rattle.pair_meaning.specs.Streams.{behind, guarded_calls, guarded_in}
@@ -110,7 +110,7 @@ by_asking : (view : Low) (turns f depth : ℕ) (wants : Bool) (body : CallBody) 
     Decides view (message.Call turns f depth wants body) (asked_for view f depth wants body s)
 by_asking view turns f depth wants body None e = tt {0}
 by_asking view turns f depth wants body (Some s) e =
-    unless view (message.Call turns f depth wants body) (call_rule view s depth wants body) (permitted view (admitted view f s depth wants body))
+    unless view (message.Call turns f depth wants body) (call_rule view (bounds_for view f) s depth wants body) (permitted view (admitted view f s depth wants body))
     (by_permission view turns f s depth wants body e s.privileged refl)
 
 by_rules : (view : Low) (x : Message) → Decides view x (rules view x)

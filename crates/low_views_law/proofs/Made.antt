@@ -2,6 +2,7 @@
 use Rattle.std.proofs.Common.{◌≡◌, ◌∙◌, ◌+◌, ◌≤◌, ℕ, suc, nat_eq, refl, arith, Bool, true, false, List, [], ◌∷◌, Option, Some, None, Ok, if◌then◌else◌}
 use Rattle.std.specs.Prelude.{not, ◌&&◌, option_map}
 use Rattle.std.specs.Map.{lookup}
+use Rattle.pt_base.proofs.Booleans.{both_hold_first, both_hold_second}
 use Rattle.pt_tree.specs.declared.signature.Signature.{Signature}
 use Rattle.wire.specs.Limits.{IsCall, KeepsCounts}
 use Rattle.wire.specs.declared.message.CallBody.{CallBody}
@@ -15,9 +16,9 @@ use Rattle.marshalling_law.proofs.SendableLemmas.{served}
 use Rattle.policy.specs.Answers.{allowed, function_of}
 use Rattle.policy.specs.Verdicts as policy
 use Rattle.policy.specs.Verdicts.{Standing}
-use Rattle.pair_meaning.specs.Monitors.{Monitor, entries_in, low, types_in}
+use Rattle.pair_meaning.specs.Monitors.{Bound, Monitor, entries_in, low, types_in}
 use Rattle.pair_meaning.specs.Rules as rule
-use Rattle.pair_meaning.specs.Rules.{PeerRule, Admitted, Verdict, asked_for, bad_depth, bad_shape, blank, breaks, broken_if, call_rule, decided, first_broken, handle_rule, has_depth, makes, needs, permitted, plain_of, posted_plain, rule_of_fault, rules, tells, unless_broken, writes}
+use Rattle.pair_meaning.specs.Rules.{PeerRule, Admitted, Verdict, are_bound, asked_for, bad_depth, bad_shape, blank, bounds_for, breaks, broken_if, call_rule, decided, first_broken, handle_rule, has_depth, makes, needs, permitted, plain_of, posted_plain, rule_of_fault, rules, tells, unless_broken, writes}
 use Rattle.monitor_soundness_law.specs.ServingLaws.{IsOpened}
 
 -- a call that may be served, with the turn that it takes
@@ -46,24 +47,27 @@ no_fault : (o : Option BadCall) → option_map rule_of_fault o ≡ None → o �
 no_fault None h = refl
 no_fault (Some fault) h = cc
 
--- its depth is one that it may have, and its body is opened
-record IsUnbroken (m : Monitor) (s : Signature) (depth : ℕ) (body : CallBody) : Type 0 where
+-- its depth is one that it may have, shared globals have their blocks, and its body is opened
+record IsUnbroken (m : Monitor) (bounds : List Bound) (s : Signature) (depth : ℕ) (body : CallBody) : Type 0 where
   depth_is : has_depth s depth ≡ true
+  bound : are_bound bounds body ≡ true
   opened : unpacking m.store m.program.structs s.params body ≡ Ok (unpacked m.store body)
 
-unbroken : (m : Monitor) (s : Signature) (depth : ℕ) (wants : Bool) (body : CallBody) → call_rule (low m) s depth wants body ≡ None → IsUnbroken m s depth body
-unbroken m s depth wants body h =
+unbroken : (m : Monitor) (bounds : List Bound) (s : Signature) (depth : ℕ) (wants : Bool) (body : CallBody) → call_rule (low m) bounds s depth wants body ≡ None → IsUnbroken m bounds s depth body
+unbroken m bounds s depth wants body h =
     let handles : List (Option PeerRule) = handle_rule (types_in m.store) s body ∷ [] in
     let posted : List (Option PeerRule) = broken_if (not wants && tells m.program.structs s body) posted_plain ∷ handles in
-    let shaped : List (Option PeerRule) = broken_if (not (is_shaped m.program.structs s.params body)) bad_shape ∷ posted in
+    let shaped : List (Option PeerRule) = broken_if (not (are_bound bounds body && is_shaped m.program.structs s.params body)) bad_shape ∷ posted in
     let first = none_first (broken_if (not (has_depth s depth)) bad_depth) shaped h in
-    let second = none_first (broken_if (not (is_shaped m.program.structs s.params body)) bad_shape) posted first.1 in
+    let second = none_first (broken_if (not (are_bound bounds body && is_shaped m.program.structs s.params body)) bad_shape) posted first.1 in
+    let shape = kept_rule (are_bound bounds body && is_shaped m.program.structs s.params body) bad_shape second.0 in
     let third = none_first (broken_if (not wants && tells m.program.structs s body) posted_plain) handles second.1 in
     let last = none_first (handle_rule (types_in m.store) s body) [] third.1 in
     record {
       depth_is = kept_rule (has_depth s depth) bad_depth first.0;
+      bound = both_hold_first (are_bound bounds body) (is_shaped m.program.structs s.params body) shape;
       opened = served (is_shaped m.program.structs s.params body) (handle_fault m.store s.params body) (unpacked m.store body)
-          (kept_rule (is_shaped m.program.structs s.params body) bad_shape second.0)
+          (both_hold_second (are_bound bounds body) (is_shaped m.program.structs s.params body) shape)
           (faults_see_types m.store s.params body ∙ no_fault (handle_fault (blank (types_in m.store)) s.params body) last.0);
     }
 
@@ -75,7 +79,7 @@ one_more n = omega arith
 by_policy : (m : Monitor) (x : Message) (call : Admitted) (next : Option Standing) → IsOpened m call → 1 ≤ needs x → Makes m x (decided (low m) call next)
 by_policy m x call None opened turn = tt {0}
 by_policy m x call (Some next) opened turn = record {
-  opened = record { entry = opened.entry; depth = opened.depth; opened = opened.opened; counts = opened.counts };
+  opened = record { entry = opened.entry; depth = opened.depth; bound = opened.bound; opened = opened.opened; counts = opened.counts };
   calls = one_more m.calls;
   turn = turn;
 }
@@ -93,18 +97,18 @@ when_permitted m x call opened calls turn = go call.signature.privileged
 asked_made : (m : Monitor) (turns f depth : ℕ) (wants : Bool) (body : CallBody) (o : Option Signature) → IsCall body → lookup (nat_eq f) (entries_in m.program) ≡ o →
     Makes m (message.Call turns f depth wants body) (asked_for (low m) f depth wants body o)
 asked_made m turns f depth wants body None counts entry = tt {0}
-asked_made m turns f depth wants body (Some s) counts entry = go (call_rule (low m) s depth wants body) refl
+asked_made m turns f depth wants body (Some s) counts entry = go (call_rule (low m) (bounds_for (low m) f) s depth wants body) refl
   where
     some : (n : ℕ) → 1 ≤ n + 1
     some n = omega arith
 
-    go : (o : Option PeerRule) → call_rule (low m) s depth wants body ≡ o →
+    go : (o : Option PeerRule) → call_rule (low m) (bounds_for (low m) f) s depth wants body ≡ o →
         Makes m (message.Call turns f depth wants body) (unless_broken o (permitted (low m) (record { function = f; signature = s; depth = depth; wants = wants; body = body; policy = m.policy; calls = m.calls })))
     go (Some rule) e = tt {0}
     go None e =
-        let clean = unbroken m s depth wants body e in
+        let clean = unbroken m (bounds_for (low m) f) s depth wants body e in
         when_permitted m (message.Call turns f depth wants body) (record { function = f; signature = s; depth = depth; wants = wants; body = body; policy = m.policy; calls = m.calls })
-        (record { entry = entry; depth = clean.depth_is; opened = clean.opened; counts = counts }) refl (some turns)
+        (record { entry = entry; depth = clean.depth_is; bound = clean.bound; opened = clean.opened; counts = counts }) refl (some turns)
 
 pub rules_make : (m : Monitor) (x : Message) → KeepsCounts x → Makes m x (rules (low m) x)
 rules_make m (message.Boot piece) counts = tt {0}

@@ -16,16 +16,15 @@ use Rattle.wire.specs.declared.message.ReplyBody.{ReplyBody}
 use Rattle.pt_core.specs.Statements.{State}
 use Rattle.pt_core.specs.Statements as core
 use Rattle.pt_core.specs.Values.{number_in}
-use Rattle.marshalling.specs.Replies.{AreServed, packed_results, types_in}
+use Rattle.marshalling.specs.Replies.{packed_results}
 use Rattle.pair_protocol.specs.Sides.{goes_on, ends, bad}
 use Rattle.pair_meaning.specs.LowView.{low_by, reply_by, reply_of_told, told_by, told_in}
 use Rattle.pair_meaning.specs.Monitors.{Monitor, Low, low}
 use Rattle.pair_meaning.specs.Rules as rule
 use Rattle.pair_meaning.specs.Rules.{PeerRule, Admitted, Verdict, breaks, early_rule, makes, needs, rules, turns_of, unless_broken, writes}
-use Rattle.pair_meaning.specs.Serving.{acted, brought, is_spent, left_for, reply_with, serve, served_by, served_with, verdict_on, work_of}
+use Rattle.pair_meaning.specs.Serving.{acted, bound_in, brought, is_spent, left_for, reply_with, serve, served_by, served_with, verdict_on, work_of}
 use Rattle.monitor_soundness_law.specs.ServingLaws.{IsServed}
 use Rattle.monitor_soundness_law.specs.ServingSound.{IsSound}
-use Rattle.monitor_soundness_law.proofs.ServingBlocks.{brought_is}
 use Rattle.monitor_soundness_law.proofs.ServingLemmas.{calls_are_served}
 use Rattle.low_views_law.specs.Unserved.{Outcome}
 use Rattle.low_views_law.specs.Alike.{AreAlike, both_break, both_end, both_make, both_write, IsLow, IsOwn}
@@ -63,10 +62,9 @@ abbrev IsRepliedTo : Monitor → Admitted → Option ℤ → Blocks → ℕ → 
 IsRepliedTo m call value blocks handle =
     packed_results handle m.program.structs call.signature call.body blocks value ≡ reply_of_told (low m) call (told_in (packed_results handle m.program.structs call.signature call.body blocks value))
 
-reply_told : (m : Monitor) (x : Message) (call : Admitted) (left : ℕ) (v : Option Cell) (st : State) → IsServed m x call left v st → IsRepliedTo m call (option_map number_in v) (brought st.memory) (length m.store)
+reply_told : (m : Monitor) (x : Message) (call : Admitted) (left : ℕ) (v : Option Cell) (st : State) → IsServed m x call left v st → IsRepliedTo m call (option_map number_in v) (brought (bound_in m call) st.memory) (length m.store)
 reply_told m x call left v st is =
-    subst (IsRepliedTo m call (option_map number_in v) (brought st.memory)) (length-map m.store (λ entry. entry.0))
-    (reply_again (low m) call (brought st.memory) (option_map number_in v) (subst (λ (z : Blocks). AreServed z 0 (types_in call.body)) (sym (brought_is st.memory)) is.served) is.result)
+    subst (IsRepliedTo m call (option_map number_in v) (brought (bound_in m call) st.memory)) (length-map m.store (λ entry. entry.0)) (reply_again (low m) call (brought (bound_in m call) st.memory) (option_map number_in v) is.served is.result)
 
 gives_told : (m : Monitor) (x : Message) (call : Admitted) (left : ℕ) (v : Option Cell) (st : State) → IsServed m x call left v st → Follows (low m) x (makes call) (makes call) (served_by m x call left (gives v st))
 gives_told m x call left v st is = (
@@ -74,7 +72,7 @@ gives_told m x call left v st is = (
   record {
     reply_is = go call.wants;
     view_is = ap (λ (ts : List IntType). record (low m) { types = ts; policy = call.policy; calls = call.calls; last = turns_of x })
-        (types_again m.store m.program.structs call (brought st.memory) (option_map number_in v) (subst (λ (z : Blocks). AreServed z 0 (types_in call.body)) (sym (brought_is st.memory)) is.served) is.result);
+        (types_again m.store m.program.structs call (brought (bound_in m call) st.memory) (option_map number_in v) is.served is.result);
     sound = is.next;
   },
 )

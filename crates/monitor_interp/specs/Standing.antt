@@ -14,7 +14,7 @@ use Rattle.marshalling.specs.declared.inputs.Inputs.{Inputs}
 use Rattle.policy.specs.Verdicts.{Standing}
 use Rattle.pair_meaning.specs.Monitors.{Monitor}
 use Rattle.pair_meaning.specs.Rules.{Admitted}
-use Rattle.pair_meaning.specs.Serving.{inputs_of, work_of}
+use Rattle.pair_meaning.specs.Serving.{binds_for, bound_in, inputs_of, work_of}
 use Rattle.serving_rules.specs.declared.asked.Asked.{Asked}
 use Rattle.monitor_soundness_law.specs.ServingLaws.{IsOpened}
 use Rattle.monitor_soundness_law.specs.ServingSound.{IsSound}
@@ -52,6 +52,7 @@ pub record IsCallOf (call : Call) (signature : Signature) (m : Monitor) (c : Adm
 -- what its work is done with, where so many turns are left
 pub record IsPrepared (asked : Asked) (inputs : Inputs) (left : ℕ) (m : Monitor) (c : Admitted) : Type 0 where
   pub own : asked.signature.now.host ≡ false → asked.own ≡ (function_in (monitor_program m.program) c.function).params
+  pub binds : asked.binds.now ≡ binds_for m.program c.function
   pub inputs_are : inputs ≡ inputs_of m c
   pub room : suc (left + m.turns) ≤ m.budget
   pub calls : c.calls ≤ suc m.calls
@@ -70,9 +71,10 @@ pub record IsGranted (program : MonitorProgram) (x : State) (call : Call) (asked
   pub prepared : IsPrepared asked inputs left m c
   pub stands : StandsAt program x m c.policy c.calls m.globals m.hosts [] m.turns
 
--- its work is done and its bytes are handed out: what it gave, and in how many turns
-pub record IsDone (program : MonitorProgram) (x : State) (call : Call) (signature : Signature) (value : Option ℤ) (turns : ℕ) (left : ℕ) (m : Monitor) (c : Admitted) (v : Option Cell) (st : t.State) : Type 0 where
+-- its work is done and its bytes are handed out: what it gave, and in how many turns; these blocks stood for globals
+pub record IsDone (program : MonitorProgram) (x : State) (call : Call) (signature : Signature) (bound : List (ℕ × ℕ)) (value : Option ℤ) (turns : ℕ) (left : ℕ) (m : Monitor) (c : Admitted) (v : Option Cell) (st : t.State) : Type 0 where
   pub of : IsCallOf call signature m c
+  pub bound_are : bound ≡ bound_in m c
   pub room : suc (left + m.turns) ≤ m.budget
   pub calls : c.calls ≤ suc m.calls
   pub gave : work_of m c left ≡ gives v st

@@ -10,10 +10,12 @@ ghost use Rattle.pair_meaning.specs.Monitors as pair;
 ghost use Rattle.pair_meaning.specs.Monitors.{entries_in, low};
 ghost use Rattle.pair_meaning.specs.Rules.{Admitted, asked_for, permitted, turns_of};
 ghost use Rattle.pair_meaning.specs.Serving.{reply_with, served_by, served_with, work_of};
+ghost use Rattle.monitor_interp.specs.Bringing.{pairs_of};
 ghost use Rattle.monitor_interp.specs.Handling.{Acts, Serves};
 ghost use Rattle.monitor_interp.specs.Standing.{IsReady, IsDone, IsGranted, Stands};
 
-use crate::blocks::{put_blocks, take_blocks};
+use crate::blocks::{forget, put_blocks, take_back, take_blocks};
+use crate::bound::{Bound, bound_in, placed};
 use crate::call::Call;
 use crate::handled::Handled;
 use crate::state::State;
@@ -21,7 +23,6 @@ use crate::work::{Task, work};
 use crate::worked::Worked;
 use marshalling::{Inputs, pack_results};
 use pt_core::MonitorProgram;
-use pt_tree::Signature;
 use serving_rules::{Asked, Names, Opened, PeerRule, Permission, asked_for, opened_call, permit};
 use std::alloc::{AllocError, Global};
 use wire::ReplyBody;
@@ -47,8 +48,8 @@ pub(crate) fn serve_call(
     match opened_call(
         alloc,
         &state.store,
-        names.structs,
-        asked.signature,
+        &names,
+        asked,
         call.depth,
         call.wants,
         call.body,
@@ -66,11 +67,13 @@ fn names_of(program: &MonitorProgram) -> Names<'_>
     ensures structs { result.structs.now ≡ program.now.structs }
     ensures signatures { result.signatures.now ≡ program.now.signatures }
     ensures entries { result.entries.now ≡ program.now.entries }
+    ensures globals { result.globals.now ≡ program.now.globals }
 {
     Names {
         structs: program.structs.as_slice(),
         signatures: program.signatures.as_slice(),
         entries: program.entries.as_slice(),
+        globals: program.globals.as_slice(),
     }
 }
 
@@ -121,9 +124,11 @@ fn serve_granted(
     ensures { IfOk result (λ h. (m : pair.Monitor) (x : Message) (c : Admitted) → IsGranted program.now state.old call.entry asked.entry inputs.now left m c → turns_of x ≡ call.entry.turns →
         Serves (Stands program.now state.new) (served_by m x c left (work_of m c left)) h out.old.items out.new.items) }
 {
+    let bound = bound_in(alloc, asked.binds, call.body)?;
     put_blocks(
         &mut state.bench.machine,
         alloc,
+        bound.as_slice(),
         0,
         call.body.blocks.as_slice(),
         inputs.blocks.as_slice(),
@@ -135,11 +140,12 @@ fn serve_granted(
         depth: call.depth,
         left,
     };
-    let worked = work(&mut state.bench, alloc, task, inputs.args.as_slice())?;
+    let args = placed(alloc, bound.as_slice(), inputs.args.as_slice())?;
+    let worked = work(&mut state.bench, alloc, task, args.as_slice())?;
     state.bench.gate.hand_out(alloc, out)?;
     match worked {
         Worked::Gave(value, turns) => {
-            let reply = finish(program, state, alloc, call, asked.signature, value, turns)?;
+            let reply = finish(program, state, alloc, call, asked, bound.as_slice(), value, turns)?;
             Ok(Handled::GoesOn(reply))
         }
         Worked::Stopped(end) => Ok(Handled::Ended(end)),
@@ -152,25 +158,28 @@ fn finish(
     state: &mut State,
     alloc: Global,
     call: Call<'_>,
-    sig: &Signature,
+    asked: Asked<'_>,
+    bound: &[Bound],
     value: Option<i128>,
     turns: u64,
 ) -> Result<Option<ReplyBody>, AllocError>
-    requires { (left : ℕ) × (m : pair.Monitor) × (c : Admitted) × (v : Option Cell) × (st : t.State) × IsDone program.now state.old call sig.now value turns left m c v st }
-    ensures { IfOk result (λ reply. (x : Message) (left : ℕ) (m : pair.Monitor) (c : Admitted) (v : Option Cell) (st : t.State) → IsDone program.now state.old call.entry sig.now value turns left m c v st → turns_of x ≡ call.entry.turns →
+    requires { (left : ℕ) × (m : pair.Monitor) × (c : Admitted) × (v : Option Cell) × (st : t.State) × IsDone program.now state.old call asked.signature.now (pairs_of bound.now) value turns left m c v st }
+    ensures { IfOk result (λ reply. (x : Message) (left : ℕ) (m : pair.Monitor) (c : Admitted) (v : Option Cell) (st : t.State) → IsDone program.now state.old call.entry asked.entry.signature.now (pairs_of bound.now) value turns left m c v st → turns_of x ≡ call.entry.turns →
         (reply ≡ (if c.wants then Some (reply_with m c (option_map number_in v) st) else None)) × Stands program.now state.new (served_with m x c left (option_map number_in v) st)) }
 {
+    take_back(&mut state.bench.machine, alloc, bound)?;
     let reply = pack_results(
         alloc,
         &mut state.store,
         program.structs.as_slice(),
-        sig,
+        asked.signature,
         call.body,
         state.bench.machine.memory(),
         value,
     )?;
     let count = call.body.blocks.as_slice().len() as u8;
     take_blocks(&mut state.bench.machine, 0, count)?;
+    forget(&mut state.bench.machine, alloc, program.globals.as_slice(), bound)?;
     state.turns += 1 + turns;
     state.last = call.turns;
     Ok(wanted(call.wants, reply))

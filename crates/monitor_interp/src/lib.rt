@@ -9,6 +9,7 @@
 mod asking;
 mod bench;
 mod blocks;
+mod bound;
 mod call;
 mod calls;
 mod gate;

@@ -1,7 +1,7 @@
 -- What a monitor may be asked for.
 use Rattle.std.proofs.Common.{◌≡◌, ◌∙◌, ℕ, nat_eq, refl, ap, sym, subst, Bool, true, false, cond, List, [], ◌∷◌, Option, Some, None, length, map}
 use Rattle.std.specs.Prelude.{IsTrue, ◌&&◌, ◌||◌, not, is_some, nat_le, unwrap_or}
-use Rattle.std.specs.List.{list_all}
+use Rattle.std.specs.List.{find, list_all}
 use Rattle.std.specs.Map.{lookup}
 use Rattle.pt_base.proofs.Booleans.{both_hold_first, both_hold_second, false_not_true, if_false_holds}
 use Rattle.pt_base.proofs.Numbers.{nat_eq_same}
@@ -33,28 +33,33 @@ each_fits p h =
 -- ---- an entry
 
 -- the entry that was found
-pub record IsEntryOf (program : ProgramTree) (f : ℕ) (s : Signature) : Type 0 where
+pub record IsEntryOf (program : ProgramTree) (f : ℕ) (s : Signature) (es : List Entry) : Type 0 where
   pub of : Entry
+  pub found : find (λ (e : Entry). nat_eq f e.function.0) es ≡ Some of
   pub fits : IsTrue (entry_fits program of)
   pub number : f ≡ of.function.0
   pub signature : signature_in program f ≡ s
 
-pub entry_of : (program : ProgramTree) (f : ℕ) (s : Signature) (es : List Entry) → IsTrue (list_all (entry_fits program) es) → lookup (nat_eq f) (map (λ (e : Entry). (e.function.0, signature_in program e.function.0)) es) ≡ Some s → IsEntryOf program f s
+pub entry_of : (program : ProgramTree) (f : ℕ) (s : Signature) (es : List Entry) → IsTrue (list_all (entry_fits program) es) → lookup (nat_eq f) (map (λ (e : Entry). (e.function.0, signature_in program e.function.0)) es) ≡ Some s → IsEntryOf program f s es
 entry_of program f s [] all is = cc
 entry_of program f s (e ∷ es) all is = go (entry_of program f s es (both_hold_second (entry_fits program e) (list_all (entry_fits program) es) all)) (nat_eq f e.function.0) refl is
   where
     same : Some (signature_in program e.function.0) ≡ Some s → signature_in program e.function.0 ≡ s
     same h = cc
 
-    go : (lookup (nat_eq f) (map (λ (e : Entry). (e.function.0, signature_in program e.function.0)) es) ≡ Some s → IsEntryOf program f s) → (b : Bool) → nat_eq f e.function.0 ≡ b →
-        cond b (Some (signature_in program e.function.0)) (lookup (nat_eq f) (map (λ (e : Entry). (e.function.0, signature_in program e.function.0)) es)) ≡ Some s → IsEntryOf program f s
+    found_so : (b : Bool) → nat_eq f e.function.0 ≡ b → find (λ (x : Entry). nat_eq f x.function.0) (e ∷ es) ≡ cond b (Some e) (find (λ (x : Entry). nat_eq f x.function.0) es)
+    found_so b t = ap (λ c. cond c (Some e) (find (λ (x : Entry). nat_eq f x.function.0) es)) t
+
+    go : (lookup (nat_eq f) (map (λ (e : Entry). (e.function.0, signature_in program e.function.0)) es) ≡ Some s → IsEntryOf program f s es) → (b : Bool) → nat_eq f e.function.0 ≡ b →
+        cond b (Some (signature_in program e.function.0)) (lookup (nat_eq f) (map (λ (e : Entry). (e.function.0, signature_in program e.function.0)) es)) ≡ Some s → IsEntryOf program f s (e ∷ es)
     go more true t h = record {
       of = e;
+      found = found_so true t;
       fits = both_hold_first (entry_fits program e) (list_all (entry_fits program) es) all;
       number = nat_eq_same f e.function.0 t;
       signature = ap (λ n. signature_in program n) (nat_eq_same f e.function.0 t) ∙ same h;
     }
-    go more false t h = more h
+    go more false t h = let rest = more h in record { of = rest.of; found = found_so false t ∙ rest.found; fits = rest.fits; number = rest.number; signature = rest.signature }
 
 -- what is known of its signature and, where it is no host, of its function
 pub record EntryFacts (program : ProgramTree) (f : ℕ) (s : Signature) : Type 0 where
@@ -66,8 +71,8 @@ bound_known : (program : ProgramTree) (shared : List Bind) (s : Signature) (o : 
 bound_known program shared s None h = false_not_true h
 bound_known program shared s (Some g) h = refl
 
-entry_facts : (program : ProgramTree) (f : ℕ) (s : Signature) → IsEntryOf program f s → EntryFacts program f s
-entry_facts program f s entry = go (signature_at program f) refl (subst (λ n. IsTrue (entry_by program entry.of (signature_at program n))) (sym entry.number) entry.fits)
+entry_facts : (program : ProgramTree) (f : ℕ) (s : Signature) (es : List Entry) → IsEntryOf program f s es → EntryFacts program f s
+entry_facts program f s es entry = go (signature_at program f) refl (subst (λ n. IsTrue (entry_by program entry.of (signature_at program n))) (sym entry.number) entry.fits)
   where
     go : (o : Option Signature) → signature_at program f ≡ o → IsTrue (entry_by program entry.of o) → EntryFacts program f s
     go None e h = false_not_true h
@@ -83,7 +88,7 @@ entry_facts program f s entry = go (signature_at program f) refl (subst (λ n. I
         }
 
 pub facts_of_entry : (p : MonitorTree) (f : ℕ) (s : Signature) → IsTrue (is_well_formed_monitor p) → lookup (nat_eq f) (entries_in p) ≡ Some s → EntryFacts (monitor_program p) f s
-facts_of_entry p f s well is = entry_facts (monitor_program p) f s (entry_of (monitor_program p) f s p.entries (each_fits p well) is)
+facts_of_entry p f s well is = entry_facts (monitor_program p) f s p.entries (entry_of (monitor_program p) f s p.entries (each_fits p well) is)
 
 -- ---- its signature
 

@@ -1,25 +1,27 @@
 -- A call is served, and the monitor stays sound.
-use Rattle.std.proofs.Common.{◌≡◌, ◌∙◌, ◌+◌, ◌-◌, ◌≤◌, ℕ, zero, suc, refl, sym, subst, arith, Bool, true, false, List, [], ◌∷◌, length, map, Option, Some, None}
+use Rattle.std.proofs.Common.{◌≡◌, ◌∙◌, ◌+◌, ◌-◌, ◌≤◌, ℕ, zero, suc, refl, ap, sym, subst, arith, Bool, true, false, List, [], ◌∷◌, length, map, Option, Some, None}
 use Rattle.std.specs.Prelude.{IsTrue, ◌&&◌, if◌then◌else◌, nat_eq, nat_le, option_map, slice_index_or, take}
+use Rattle.std.specs.Map.{lookup}
 use Rattle.std.proofs.lemmas.Bool.Decides.{nat_tests}
 use Rattle.std.proofs.lemmas.List.{length-map}
 use Rattle.pt_base.proofs.Booleans.{both_hold_first, both_hold_second, if_false_holds}
-use Rattle.pt_base.proofs.Numbers.{at_most_holds}
+use Rattle.pt_base.proofs.Numbers.{as_zero_plus, at_most_holds}
 use Rattle.pt_tree.specs.HostStep.{Answer, host_step}
 use Rattle.pt_tree.specs.declared.signature.Param.{Param}
 use Rattle.pt_tree.specs.declared.signature.Signature.{Signature}
 use Rattle.typed_tree.specs.declared.types.StructInfo.{StructInfo}
+use Rattle.typed_tree.specs.declared.types.VarTy.{VarTy}
 use Rattle.runs.specs.Run.{deepest}
 use Rattle.runs.specs.State as r
 use Rattle.runs.specs.State.{gives}
 use Rattle.block_memory.specs.declared.cell.Cell.{Cell}
 use Rattle.block_memory.specs.declared.cell.Cell.TheVariants as cell
-use Rattle.block_memory.specs.declared.cell.BlockName.TheVariants.{Received}
+use Rattle.block_memory.specs.declared.cell.BlockName.TheVariants.{Global, Received}
 use Rattle.block_memory.specs.Block.{Block}
 use Rattle.block_memory.specs.Blocks.{Blocks}
 use Rattle.wire.specs.declared.message.Message.{Message}
 use Rattle.pt_core.specs.CodeTree.{ProgramTree}
-use Rattle.pt_core.specs.Calls.{function_in, number_cell}
+use Rattle.pt_core.specs.Calls.{context_in, function_in, number_cell}
 use Rattle.pt_core.specs.Statements.{State}
 use Rattle.pt_core.specs.Values.{number_in}
 use Rattle.pt_core.specs.WellFormed.{is_sound, monitor_program}
@@ -38,10 +40,11 @@ use Rattle.monitor_soundness_law.proofs.Bodies.{bodies_leave_numbers}
 use Rattle.monitor_soundness_law.proofs.Hosts.{hosts_leave_numbers}
 use Rattle.pair_meaning.specs.Monitors.{Monitor}
 use Rattle.pair_meaning.specs.Rules.{Admitted}
-use Rattle.pair_meaning.specs.Serving.{brought, function_work, host_work, inputs_of, served_with, state_of, with_brought, work_of}
+use Rattle.pair_meaning.specs.Serving.{bound_in, brought, function_work, global_part, host_work, inputs_of, named_by, placed, served_with, state_of, with_brought, work_of}
 use Rattle.monitor_soundness_law.specs.ServingSound.{AskedFit, IsSound}
 use Rattle.monitor_soundness_law.specs.ServingLaws.{CallsArePrepared, CallsAreServed, IsOpened, MonitorsBeginSound}
-use Rattle.monitor_soundness_law.proofs.ServingBlocks.{NoneFrom, alone_none, begun_alone, brought_fits, brought_is, brought_none, brought_types, emptied_is, globals_fit, no_locals, shape_of_none, twice_alone}
+use Rattle.monitor_soundness_law.proofs.ServingBlocks.{HaveTypes, NoneFrom, all_placed, alone_none, begun_alone, brought_fits, brought_none, brought_types, emptied_is, forgotten_alone, forgotten_fits, globals_fit, have_types, no_locals, seen_fits, seen_types, shape_of_none, twice_alone}
+use Rattle.monitor_soundness_law.proofs.ServingBound.{shared_blocks_fit}
 use Rattle.monitor_soundness_law.proofs.ServingEntries.{EntryFacts, facts_of_entry, parameters_of, sound_of}
 use Rattle.monitor_soundness_law.proofs.ServingHosts.{body_heard, put_asked}
 use Rattle.monitor_soundness_law.proofs.ServingStores.{kept_ranged, none_ranged, stored_ranged}
@@ -69,7 +72,7 @@ abbrev pub program_of : Monitor → ProgramTree
 program_of m = monitor_program m.program
 
 abbrev pub before_of : Monitor → Admitted → Blocks
-before_of m call = with_brought 0 (types_in call.body) (inputs_of m call).blocks m.globals
+before_of m call = with_brought (bound_in m call) 0 (types_in call.body) (inputs_of m call).blocks m.globals
 
 facts_for : (m : Monitor) (call : Admitted) → IsSound m → IsOpened m call → EntryFacts (program_of m) call.function call.signature
 facts_for m call sound opened = facts_of_entry m.program call.function call.signature sound.program opened.entry
@@ -82,13 +85,18 @@ inputs_for m call sound opened =
 pub calls_are_prepared : CallsArePrepared
 calls_are_prepared m call sound opened = (inputs_for m call sound opened).blocks
 
-before_types : (m : Monitor) (call : Admitted) → IsSound m → IsOpened m call → (k : ℕ) → (before_of m call (Received k)).types ≡ slice_index_or (types_in call.body) k []
-before_types m call sound opened k = brought_types (types_in call.body) (inputs_of m call).blocks m.globals (inputs_for m call sound opened).blocks (alone_none m.globals sound.alone) k
+shared_types : (m : Monitor) (call : Admitted) → IsSound m → IsOpened m call → HaveTypes (bound_in m call) 0 (types_in call.body) m.globals
+shared_types m call sound opened = have_types (bound_in m call) 0 (types_in call.body) m.globals (λ k g is. shared_blocks_fit m call sound opened k g (ap (λ n. lookup (nat_eq n) (bound_in m call)) (as_zero_plus k) ∙ is))
+
+-- each block, wherever it is
+before_types : (m : Monitor) (call : Admitted) → IsSound m → IsOpened m call → (k : ℕ) → (brought (bound_in m call) (before_of m call) (Received k)).types ≡ slice_index_or (types_in call.body) k []
+before_types m call sound opened k =
+    seen_types (bound_in m call) (types_in call.body) (inputs_of m call).blocks m.globals (inputs_for m call sound opened).blocks (alone_none m.globals sound.alone) (shared_types m call sound opened) (shared_blocks_fit m call sound opened) k
 
 rest_before : (m : Monitor) (call : Admitted) → IsSound m → IsOpened m call → IsAtRest (program_of m) (before_of m call) m.hosts m.input
 rest_before m call sound opened = record {
   sound = sound.rest.sound;
-  memory = brought_fits (program_of m) (types_in call.body) (inputs_of m call).blocks m.globals sound.rest.memory (inputs_for m call sound opened).blocks;
+  memory = brought_fits (program_of m) (bound_in m call) (types_in call.body) (inputs_of m call).blocks m.globals sound.rest.memory (shared_types m call sound opened) (inputs_for m call sound opened).blocks;
   hosts_fit = sound.rest.hosts_fit;
   bytes = sound.rest.bytes;
 }
@@ -143,17 +151,19 @@ low_depth : (d : ℕ) → IsTrue (nat_le 2 d) → 1 ≤ d
 low_depth d h = grind (arith, nat_tests)
 
 function_left : (m : Monitor) (call : Admitted) (left : ℕ) (v : Option Cell) (st : State) → IsSound m → IsOpened m call → call.signature.host ≡ false →
-    function_work (program_of m) call (inputs_of m call).args (state_of m call left) ≡ gives v st → Left m call v st
+    function_work (program_of m) call (map (placed (bound_in m call)) (inputs_of m call).args) (state_of m call left) ≡ gives v st → Left m call v st
 function_left m call left v st sound opened plain is =
     let facts : EntryFacts (program_of m) call.function call.signature = facts_for m call sound opened in
     let deep : IsTrue (nat_le 2 call.depth && nat_le call.depth deepest) = if_false_holds call.signature.host (nat_eq call.depth 0) (nat_le 2 call.depth && nat_le call.depth deepest) plain opened.depth in
-    let all : ArgumentsFit none m.program.structs (before_of m call) 0 call.signature.params (inputs_of m call).args = (inputs_for m call sound opened).args (before_of m call) (before_types m call sound opened) in
-    let own : ArgumentsFit none m.program.structs (before_of m call) 0 (own_params (program_of m) call.function) (take (function_in (program_of m) call.function).params (inputs_of m call).args) =
-    subst (λ (s : Signature). ArgumentsFit none m.program.structs (before_of m call) 0 (take (function_in (program_of m) call.function).params s.params) (take (function_in (program_of m) call.function).params (inputs_of m call).args))
-    (sym facts.signature) (first_fit m.program.structs (before_of m call) (function_in (program_of m) call.function).params call.signature.params (inputs_of m call).args all) in
-    let heard = body_heard m.program call.function call.depth (take (function_in (program_of m) call.function).params (inputs_of m call).args) (before_of m call) m.hosts m.input left v st sound.rest.bytes sound.asked is in
+    let given : List Cell = map (placed (bound_in m call)) (inputs_of m call).args in
+    let all : ArgumentsFit none m.program.structs (before_of m call) 0 call.signature.params (map (placed (bound_in m call)) (inputs_of m call).args) =
+    all_placed m.program.structs (bound_in m call) (before_of m call) call.signature.params (inputs_of m call).args ((inputs_for m call sound opened).args (brought (bound_in m call) (before_of m call)) (before_types m call sound opened)) in
+    let own : ArgumentsFit none m.program.structs (before_of m call) 0 (own_params (program_of m) call.function) (take (function_in (program_of m) call.function).params (map (placed (bound_in m call)) (inputs_of m call).args)) =
+    subst (λ (s : Signature). ArgumentsFit none m.program.structs (before_of m call) 0 (take (function_in (program_of m) call.function).params s.params) (take (function_in (program_of m) call.function).params (map (placed (bound_in m call)) (inputs_of m call).args)))
+    (sym facts.signature) (first_fit m.program.structs (before_of m call) (function_in (program_of m) call.function).params call.signature.params given all) in
+    let heard = body_heard m.program call.function call.depth (take (function_in (program_of m) call.function).params given) (before_of m call) m.hosts m.input left v st sound.rest.bytes sound.asked is in
     record {
-      leaves = bodies_leave_numbers (program_of m) true call.function call.depth (take (function_in (program_of m) call.function).params (inputs_of m call).args) (before_of m call) m.hosts m.input left v st
+      leaves = bodies_leave_numbers (program_of m) true call.function call.depth (take (function_in (program_of m) call.function).params given) (before_of m call) m.hosts m.input left v st
           (rest_before m call sound opened) (facts.known plain) (low_depth call.depth (both_hold_first (nat_le 2 call.depth) (nat_le call.depth deepest) deep))
           (at_most_holds call.depth deepest (both_hold_second (nat_le 2 call.depth) (nat_le call.depth deepest) deep)) own is;
       asked = heard.0;
@@ -164,21 +174,33 @@ work_left : (m : Monitor) (call : Admitted) (left : ℕ) (v : Option Cell) (st :
 work_left m call left v st sound opened is = go call.signature.host refl is
   where
     go : (host : Bool) → call.signature.host ≡ host →
-        (if host then host_work call (inputs_of m call).args (state_of m call left) else function_work (program_of m) call (inputs_of m call).args (state_of m call left)) ≡ gives v st → Left m call v st
+        (if host then host_work call (inputs_of m call).args (state_of m call left) else function_work (program_of m) call (map (placed (bound_in m call)) (inputs_of m call).args) (state_of m call left)) ≡ gives v st → Left m call v st
     go true e h = host_left m call left v st sound opened e h
     go false e h = function_left m call left v st sound opened e h
 
 -- ---- a reply is made of it
 
-types_left : (m : Monitor) (call : Admitted) (v : Option Cell) (st : State) → IsSound m → IsOpened m call → Left m call v st → (k : ℕ) → (st.memory (Received k)).types ≡ slice_index_or (types_in call.body) k []
-types_left m call v st sound opened left k = (left.leaves.received k).types ∙ before_types m call sound opened k
+-- a global for which a block was brought has its types
+bound_left : (m : Monitor) (call : Admitted) (v : Option Cell) (st : State) → IsSound m → IsOpened m call → Left m call v st → (k g : ℕ) → lookup (nat_eq k) (bound_in m call) ≡ Some g → (st.memory (Global g)).types ≡ (m.globals (Global g)).types
+bound_left m call v st sound opened left k g is = go (lookup (nat_eq g) (context_in (program_of m) 0).globals) refl
+  where
+    go : (o : Option VarTy) → lookup (nat_eq g) (context_in (program_of m) 0).globals ≡ o → (st.memory (Global g)).types ≡ (m.globals (Global g)).types
+    go None e = ap (λ (b : Block). b.types) (left.leaves.memory.beyond g e) ∙ sym (ap (λ (b : Block). b.types) (sound.rest.memory.beyond g e))
+    go (Some ty) e = left.leaves.memory.globals g ty e ∙ sym (sound.rest.memory.globals g ty e)
+
+types_left : (m : Monitor) (call : Admitted) (v : Option Cell) (st : State) → IsSound m → IsOpened m call → Left m call v st → (k : ℕ) → (brought (bound_in m call) st.memory (Received k)).types ≡ slice_index_or (types_in call.body) k []
+types_left m call v st sound opened left k = go (lookup (nat_eq k) (bound_in m call)) refl
+  where
+    go : (o : Option ℕ) → lookup (nat_eq k) (bound_in m call) ≡ o → (st.memory (named_by k o)).types ≡ slice_index_or (types_in call.body) k []
+    go None is = (left.leaves.received k).types ∙ brought_types (bound_in m call) (types_in call.body) (inputs_of m call).blocks m.globals (inputs_for m call sound opened).blocks (alone_none m.globals sound.alone) k is
+    go (Some g) is = bound_left m call v st sound opened left k g is ∙ shared_blocks_fit m call sound opened k g is
 
 few_types : (m : Monitor) (call : Admitted) → IsOpened m call → length (types_in call.body) ≤ 256
 few_types m call opened = let few = opened.counts.blocks in let same = length-map call.body.blocks replies.block_types in omega (arith, few, same)
 
-served_left : (m : Monitor) (call : Admitted) (v : Option Cell) (st : State) → IsSound m → IsOpened m call → Left m call v st → AreServed st.memory 0 (types_in call.body)
+served_left : (m : Monitor) (call : Admitted) (v : Option Cell) (st : State) → IsSound m → IsOpened m call → Left m call v st → AreServed (brought (bound_in m call) st.memory) 0 (types_in call.body)
 served_left m call v st sound opened left =
-    bodies_are_served (program_of m) [] st.memory (types_in call.body) left.leaves.memory (few_types m call opened) (λ k lt. types_left m call v st sound opened left k)
+    bodies_are_served (program_of m) [] (brought (bound_in m call) st.memory) (types_in call.body) (seen_fits (program_of m) (bound_in m call) st.memory left.leaves.memory) (few_types m call opened) (λ k lt. types_left m call v st sound opened left k)
 
 same_numbers : (v : Option Cell) → option_map replies.number_in v ≡ option_map number_in v
 same_numbers None = refl
@@ -194,7 +216,7 @@ result_left m call v st sound opened left =
 none_left : (m : Monitor) (call : Admitted) (v : Option Cell) (st : State) → IsSound m → Left m call v st → NoneFrom (length (types_in call.body)) st.memory
 none_left m call v st sound left j le =
     shape_of_none (st.memory (Received j))
-    (subst (λ (b : Block). IsSameShape (st.memory (Received j)) b) (brought_none (types_in call.body) (inputs_of m call).blocks m.globals (alone_none m.globals sound.alone) j le) (left.leaves.received j))
+    (subst (λ (b : Block). IsSameShape (st.memory (Received j)) b) (brought_none (bound_in m call) (types_in call.body) (inputs_of m call).blocks m.globals (alone_none m.globals sound.alone) j le) (left.leaves.received j))
 
 -- ---- and the monitor is sound
 
@@ -210,15 +232,14 @@ next_sound m x call left v st sound opened calls turns left_so = record {
   program = sound.program;
   rest = record {
     sound = sound.rest.sound;
-    memory = globals_fit (program_of m) st.memory left_so.leaves.memory;
+    memory = forgotten_fits m.program (rest_fits none true (program_of m) 0 sound.rest.sound).memory (bound_in m call) (global_part st.memory) (globals_fit (program_of m) st.memory left_so.leaves.memory);
     hosts_fit = left_so.leaves.hosts_fit;
     bytes = sound.rest.bytes;
   };
   asked = left_so.asked;
-  alone = twice_alone st.memory;
-  store = stored_ranged m.store (kept_results m.program.structs call.signature call.body (brought st.memory) (option_map number_in v)) sound.store
-      (kept_ranged m.program.structs call.signature call.body (brought st.memory) (option_map number_in v)
-      (subst (λ (z : Blocks). AreServed z 0 (types_in call.body)) (sym (brought_is st.memory)) (served_left m call v st sound opened left_so)) (result_left m call v st sound opened left_so));
+  alone = forgotten_alone m.program (bound_in m call) (global_part st.memory) (twice_alone st.memory);
+  store = stored_ranged m.store (kept_results m.program.structs call.signature call.body (brought (bound_in m call) st.memory) (option_map number_in v)) sound.store
+      (kept_ranged m.program.structs call.signature call.body (brought (bound_in m call) st.memory) (option_map number_in v) (served_left m call v st sound opened left_so) (result_left m call v st sound opened left_so));
   calls = few_calls call.calls m.calls m.turns (left - st.left) calls sound.calls;
   turns = few_turns left st.left m.turns m.budget turns;
   budget = sound.budget;
@@ -232,5 +253,6 @@ calls_are_served m x call left v st sound opened calls turns is =
       result = result_left m call v st sound opened left_so;
       input = left_so.input;
       cleared = emptied_is (length (types_in call.body)) st.memory (no_locals (program_of m) st.memory left_so.leaves.memory) (none_left m call v st sound left_so);
+      bound = bound_left m call v st sound opened left_so;
       next = next_sound m x call left v st sound opened calls turns left_so;
     }

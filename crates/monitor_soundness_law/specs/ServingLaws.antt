@@ -1,9 +1,9 @@
 -- A monitor stays sound.
-use Rattle.std.specs.Prelude.{◌≡◌, ◌≤◌, ◌<◌, ◌+◌, ◌^◌, ℕ, zero, suc, true, List, Option, Some, Ok, IsTrue, All, length, nat_eq, option_map}
+use Rattle.std.specs.Prelude.{◌≡◌, ◌≤◌, ◌<◌, ◌+◌, ◌^◌, ℕ, zero, suc, true, List, [], Option, Some, Ok, IsTrue, All, length, nat_eq, option_map, slice_index_or}
 use Rattle.std.specs.Map.{lookup}
 use Rattle.pt_tree.specs.declared.signature.Signature.{Signature}
 use Rattle.runs.specs.State.{Hosts, gives}
-use Rattle.block_memory.specs.declared.cell.BlockName.TheVariants.{Received}
+use Rattle.block_memory.specs.declared.cell.BlockName.TheVariants.{Global, Received}
 use Rattle.block_memory.specs.declared.cell.Cell.{Cell}
 use Rattle.block_memory.specs.Block.{no_block}
 use Rattle.block_memory.specs.Blocks.{Blocks, put}
@@ -19,9 +19,9 @@ use Rattle.marshalling.specs.Leaves.{has_structs}
 use Rattle.marshalling.specs.Replies.{AreServed, IsResult, types_in}
 use Rattle.marshalling_law.specs.CallsServed.{AllHold}
 use Rattle.policy.specs.Verdicts.{Standing}
-use Rattle.pair_meaning.specs.Monitors.{Monitor, entries_in}
-use Rattle.pair_meaning.specs.Rules.{Admitted, has_depth}
-use Rattle.pair_meaning.specs.Serving.{global_part, inputs_of, served_with, work_of}
+use Rattle.pair_meaning.specs.Monitors.{Monitor, entries_in, low}
+use Rattle.pair_meaning.specs.Rules.{Admitted, are_bound, bounds_for, has_depth}
+use Rattle.pair_meaning.specs.Serving.{bound_in, brought, global_part, inputs_of, served_with, work_of}
 use Rattle.pair_meaning.specs.Start.{monitor_start}
 use Rattle.monitor_soundness_law.specs.ServingSound.{HostsServe, IsSound}
 
@@ -43,10 +43,12 @@ EntriesAreNamed = (p : MonitorTree) (f : ℕ) (s : Signature) → IsTrue (is_wel
 
 -- ---- the work of a call
 
--- a call of what may be asked for, at a depth that it may have, whose body isn't refused and keeps the counts of the format
+-- a call of what may be asked for, at a depth that it may have, with a block for each shared global, whose body isn't refused and
+-- keeps the counts of the format
 pub record IsOpened (m : Monitor) (call : Admitted) : Type 0 where
   pub entry : lookup (nat_eq call.function) (entries_in m.program) ≡ Some call.signature
   pub depth : has_depth call.signature call.depth ≡ true
+  pub bound : are_bound (bounds_for (low m) call.function) call.body ≡ true
   pub opened : unpacking m.store m.program.structs call.signature.params call.body ≡ Ok (inputs_of m call)
   pub counts : IsCall call.body
 
@@ -54,18 +56,23 @@ pub record IsOpened (m : Monitor) (call : Admitted) : Type 0 where
 abbrev pub CallsArePrepared : Type 0
 CallsArePrepared = (m : Monitor) (call : Admitted) → IsSound m → IsOpened m call → AllHold (types_in call.body) (inputs_of m call).blocks
 
+-- one for a shared global has the types of that
+abbrev pub SharedBlocksFit : Type 0
+SharedBlocksFit = (m : Monitor) (call : Admitted) → IsSound m → IsOpened m call → (k g : ℕ) → lookup (nat_eq k) (bound_in m call) ≡ Some g → (m.globals (Global g)).types ≡ slice_index_or (types_in call.body) k []
+
 -- so many received blocks are taken away, of which the first has the number k
 abbrev pub emptied : ℕ → ℕ → Blocks → Blocks
 emptied k zero blocks = blocks
 emptied k (suc n) blocks = emptied (suc k) n (put blocks (Received k) no_block)
 
 -- What it leaves is what a reply is made of. Without the blocks that it brought the globals alone are left, and the monitor behind
--- it is sound.
+-- it is sound. A global for which a block was brought has its own types throughout.
 pub record IsServed (m : Monitor) (x : Message) (call : Admitted) (left : ℕ) (v : Option Cell) (st : State) : Type 0 where
-  pub served : AreServed st.memory 0 (types_in call.body)
+  pub served : AreServed (brought (bound_in m call) st.memory) 0 (types_in call.body)
   pub result : IsResult call.signature.result (option_map number_in v)
   pub input : st.input ≡ m.input
   pub cleared : emptied 0 (length (types_in call.body)) st.memory ≡ global_part st.memory
+  pub bound : (k g : ℕ) → lookup (nat_eq k) (bound_in m call) ≡ Some g → (st.memory (Global g)).types ≡ (m.globals (Global g)).types
   pub next : IsSound (served_with m x call left (option_map number_in v) st)
 
 -- It has taken a turn of its own, and its work at most the turns that were left.

@@ -1,6 +1,7 @@
 -- The rules for a slave's messages: the first that a message breaks, or what it asks for. They look at nothing that a
 -- slave may not know.
-use Rattle.std.specs.Prelude.{ℕ, ◌+◌, ℤ, pos, Bool, true, false, not, ◌&&◌, ◌||◌, List, [], ◌∷◌, Option, Some, None, map, nat_eq, nat_lt, nat_le, if◌then◌else◌, option_map}
+use Rattle.std.specs.Prelude.{ℕ, ◌+◌, ℤ, pos, Bool, true, false, not, ◌&&◌, ◌||◌, List, [], ◌∷◌, Option, Some, None, length, map, nat_eq, nat_lt, nat_le, if◌then◌else◌, option_map, slice_get, slice_index_or, unwrap_or}
+use Rattle.std.specs.List.{flat_map, list_all}
 use Rattle.std.specs.Map.{lookup}
 use Rattle.pt_base.specs.declared.int_type.IntType.{IntType}
 use Rattle.pt_base.specs.declared.end.End.{End}
@@ -11,6 +12,7 @@ use Rattle.typed_tree.specs.declared.types.StructInfo.{StructInfo}
 use Rattle.runs.specs.Run.{deepest}
 use Rattle.wire.specs.declared.cell.Arg.{Arg}
 use Rattle.wire.specs.declared.cell.Arg.TheVariants as argument
+use Rattle.wire.specs.declared.cell.WireCell.{WireCell}
 use Rattle.wire.specs.declared.message.CallBody.{CallBody}
 use Rattle.wire.specs.declared.message.Message.{Message}
 use Rattle.wire.specs.declared.message.Message.TheVariants as message
@@ -20,9 +22,10 @@ use Rattle.marshalling.specs.Crossings.{crossing_of}
 use Rattle.marshalling.specs.Handles.{handle_fault}
 use Rattle.marshalling.specs.Replies.{Place, has_plain, places_of, result_places, types_in}
 use Rattle.marshalling.specs.Shape.{is_shaped}
+use Rattle.pt_core.specs.WellFormed.{are_different}
 use Rattle.policy.specs.Answers.{allowed, function_of}
 use Rattle.policy.specs.Verdicts.{Standing, verdict_on}
-use Rattle.pair_meaning.specs.Monitors.{Low}
+use Rattle.pair_meaning.specs.Monitors.{Bound, Low}
 pub use Rattle.marshalling.specs.Handles.{blank}
 
 -- The rules for what a peer says, each named for what breaks it.
@@ -127,11 +130,34 @@ rule_of_fault fault.Memory = bad_shape
 abbrev pub handle_rule : List IntType → Signature → CallBody → Option PeerRule
 handle_rule types s body = option_map rule_of_fault (handle_fault (blank types) s.params body)
 
--- the first rule that a call of this signature breaks
-abbrev pub call_rule : Low → Signature → ℕ → Bool → CallBody → Option PeerRule
-call_rule low s depth wants body = first_broken (
+-- the block into which an argument points
+abbrev pub block_at : Option Arg → List ℕ
+block_at None = []
+block_at (Some (argument.Number v)) = []
+block_at (Some (argument.Sealed handle)) = []
+block_at (Some argument.Null) = []
+block_at (Some (argument.At block base count index)) = block ∷ []
+
+-- it points to all of a global, as a block of that size
+abbrev pub spans_all : List (List (IntType × WireCell)) → Bound → Option Arg → Bool
+spans_all blocks b None = false
+spans_all blocks b (Some (argument.Number v)) = false
+spans_all blocks b (Some (argument.Sealed handle)) = false
+spans_all blocks b (Some argument.Null) = false
+spans_all blocks b (Some (argument.At block base count index)) =
+    (nat_eq base 0 && nat_eq index 0) && (nat_eq count b.count && nat_eq (length (slice_index_or blocks block [])) b.cells)
+
+-- each argument for a shared global does, and no two have one block
+abbrev pub are_bound : List Bound → CallBody → Bool
+are_bound bounds body =
+    list_all (λ b. spans_all body.blocks b (slice_get body.args b.argument)) bounds
+    && are_different (flat_map (λ b. block_at (slice_get body.args b.argument)) bounds)
+
+-- the first rule that a call of this signature breaks, whose parameters stand for these globals
+abbrev pub call_rule : Low → List Bound → Signature → ℕ → Bool → CallBody → Option PeerRule
+call_rule low bounds s depth wants body = first_broken (
     broken_if (not (has_depth s depth)) bad_depth
-    ∷ broken_if (not (is_shaped low.structs s.params body)) bad_shape
+    ∷ broken_if (not (are_bound bounds body && is_shaped low.structs s.params body)) bad_shape
     ∷ broken_if (not wants && tells low.structs s body) posted_plain
     ∷ handle_rule low.types s body
     ∷ [])
@@ -180,9 +206,13 @@ abbrev pub unless_broken : Option PeerRule → Verdict → Verdict
 unless_broken None verdict = verdict
 unless_broken (Some rule) verdict = breaks rule
 
+-- what stands for globals in a call of this function
+abbrev pub bounds_for : Low → ℕ → List Bound
+bounds_for low f = unwrap_or (lookup (nat_eq f) low.bounds) []
+
 abbrev pub asked_for : Low → ℕ → ℕ → Bool → CallBody → Option Signature → Verdict
 asked_for low f depth wants body None = breaks no_entry
-asked_for low f depth wants body (Some s) = unless_broken (call_rule low s depth wants body)
+asked_for low f depth wants body (Some s) = unless_broken (call_rule low (bounds_for low f) s depth wants body)
     (permitted low (record { function = f; signature = s; depth = depth; wants = wants; body = body; policy = low.policy; calls = low.calls }))
 
 -- what a message comes to whose turns are fine: the slave's own end is the run's

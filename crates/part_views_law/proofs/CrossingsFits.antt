@@ -12,7 +12,7 @@ use Rattle.block_memory.specs.declared.cell.Cell.{Cell}
 use Rattle.block_memory.specs.declared.cell.Cell.TheVariants as cell
 use Rattle.block_memory.specs.declared.cell.BlockName.{BlockName}
 use Rattle.block_memory.specs.declared.cell.BlockName.TheVariants.{Local, Global, Received}
-use Rattle.block_memory.specs.Block.{Block}
+use Rattle.block_memory.specs.Block.{Block, no_block}
 use Rattle.pt_core.specs.CodeTree.{ProgramTree}
 use Rattle.pt_core.specs.Calls.{context_in, number_cell}
 use Rattle.pt_core.specs.Steps.{Active}
@@ -28,10 +28,11 @@ use Rattle.marshalling_law.proofs.PostingLemmas.{packed_types}
 use Rattle.marshalling_law.proofs.CallsSendable.{known_by_fits, sendable_by_fits}
 use Rattle.marshalling_law.proofs.CallsServed.{bodies_are_served}
 use Rattle.marshalling_law.proofs.CallsTargets.{IsTarget, all_integers, as_many, block_integers, each_name, target_among, no_types}
-use Rattle.part_views_law.specs.Views.{has_global, is_own}
-use Rattle.part_views_law.proofs.Memories.{never_both}
+use Rattle.pair_meaning.specs.Serving.{brought}
+use Rattle.part_views_law.specs.Views.{has_global}
 use Rattle.part_views_law.specs.CrossingsCalls.{is_number}
-use Rattle.part_views_law.specs.CrossingsFits.{SentByFits, WorkedByFits}
+use Rattle.part_views_law.specs.CrossingsFits.{SentByFits, WorkedByFits, part_memory}
+use Rattle.part_views_law.proofs.CrossingsPlaced.{brought_fits}
 
 -- ---- cells without handles
 
@@ -56,14 +57,14 @@ few_enough : (n k : ℕ) → n ≡ k → k ≤ 8 → n ≤ 256
 few_enough n k e h = omega (arith, e, h)
 
 pub worked_by_fits : WorkedByFits
-worked_by_fits monitor base store structs sig x m args z after value before end given few types stays left whole = record {
-  numbers = bodies_are_served monitor [] z (types_in (packed x sig.params args)) end (few_enough (length (types_in (packed x sig.params args))) (length (names_of args)) count few) (λ k lt. types k);
+worked_by_fits slave monitor base store structs sig bound x m args z after value end given few types stays others left whole = record {
+  numbers = bodies_are_served monitor [] (brought bound z) (types_in (packed x sig.params args)) (brought_fits monitor bound z end) (few_enough (length (types_in (packed x sig.params args))) (length (names_of args)) count few) (λ k lt. types k);
   result = result_is sig.result value given;
   types = λ k lt. types k;
   stays = λ k i lt back. stays k i back;
   free = λ depth v above. end.locals depth v;
-  alone = λ g h. numbers_alone (z (Global g)).types (z (Global g)).cells (end.global_cells g);
-  others = λ g h. end.beyond g (has_none (lookup (nat_eq g) (context_in monitor 0).globals) h) ∙ sym (before.beyond g (has_none (lookup (nat_eq g) (context_in monitor 0).globals) h));
+  alone = λ g h own. numbers_alone (z (Global g)).types (z (Global g)).cells (end.global_cells g);
+  others = others;
   left = left;
 }
   where
@@ -87,16 +88,16 @@ none_deeper program a (c ∷ rest) d v fit above =
     ∙ none_deeper program c rest d v fit.2 (omega (arith, up, above))
 
 pub sent_by_fits : SentByFits
-sent_by_fits slave monitor store params x m a rest args sound ok mem all given other apart stand small = record {
+sent_by_fits slave monitor store params bound x m a rest args sound ok mem all given other are stand small = record {
   sendable = sendable_by_fits slave store params x a rest args sound ok mem given stand;
   whole = each_name (λ name. is_whole (x name)) (names_of args) (λ name among. whole name (target name among));
   integers = each_name (λ name. list_all is_integer (x name).cells) (names_of args) (λ name among. all_integers (by_store store) (x name).types (x name).cells (block_integers (by_store store) slave (a ∷ rest) x mem name (target name among).some));
   known = known_by_fits slave store (a ∷ rest) x mem;
-  apart = apart;
+  bound_are = are;
   free = λ depth v above. subst (λ o. LocalFits (by_store store) slave.structs x depth o (x (Local depth v))) (none_deeper slave a rest depth v all above) (mem.locals depth v);
-  outside = λ name among. outside name (target name among);
+  near = λ depth v among. not_less a.depth depth (target (Local depth v) among).near;
   there = λ g among. there g (target (Global g) among);
-  numbers = λ g h. numbers_alone (m (Global g)).types (m (Global g)).cells (other.global_cells g);
+  numbers = λ g h own. subst (λ (b : Block). list_all is_number b.cells ≡ true) (ap (λ (t : Bool). if t then m (Global g) else no_block) h) (numbers_alone (part_memory monitor m (Global g)).types (part_memory monitor m (Global g)).cells (other.global_cells g));
 }
   where
     target : (name : BlockName) → is_among (names_of args) name ≡ true → IsTarget x a.depth name
@@ -118,14 +119,5 @@ sent_by_fits slave monitor store params x m a rest args sound ok mem all given o
         go true h = refl
         go false h = no_types (x (Global g)).types (ap (λ (b : Block). b.types) (mem.beyond g (has_none (lookup (nat_eq g) (context_in slave 0).globals) h))) t.some
 
-    outside : (name : BlockName) → IsTarget x a.depth name → is_own monitor a.depth name ≡ false
-    outside (Local d v) t = not_less a.depth d t.near
-      where
-        not_less : (base d : ℕ) → d ≤ base → nat_lt base d ≡ false
-        not_less base d h = grind (arith, nat_tests, h)
-    outside (Global g) t = go (has_global monitor g) refl
-      where
-        go : (s : Bool) → has_global monitor g ≡ s → s ≡ false
-        go true h = never_both (has_global slave g) (there g t) (apart g h)
-        go false h = refl
-    outside (Received n) t = refl
+    not_less : (base d : ℕ) → d ≤ base → nat_lt base d ≡ false
+    not_less base d h = grind (arith, nat_tests, h)

@@ -18,7 +18,7 @@ views_meet slave monitor base names store x m y others meet = λ i name. at name
     own (Local d k) h =
         let none = meet.locals d k (ltb-true base d h) in
         ap (λ (b : Block). seen_block (served_view monitor base names others) b) none.1 ∙ sym (ap (λ (b : Block). seen_block (slave_view slave store m) b) none.0)
-    own (Global g) h = meet.globals g h ∙ sym (ap (λ (t : Bool). lying (slave_view slave store m) x (Global g) (if t then Some (Global g) else None)) (meet.apart g h))
+    own (Global g) h = meet.globals g h
     own (Received n) h = cc
 
     other : (name : BlockName) → is_own monitor base name ≡ false → (t : Bool) → is_among names name ≡ t → lying (served_view monitor base names others) y name (if t then Some (Received (number_of names name)) else None) ≡ seen (slave_view slave store m) x name

@@ -1,6 +1,7 @@
 -- What a body is started with fits.
-use Rattle.std.proofs.Common.{◌≡◌, ◌∙◌, ◌<◌, ◌≤◌, ℕ, zero, suc, ap, sym, refl, subst, arith, List, [], ◌∷◌, map, length, get_or, Bool, true, false}
-use Rattle.std.specs.Prelude.{IsTrue, nat_lt}
+use Rattle.std.proofs.Common.{◌≡◌, ◌∙◌, ◌<◌, ◌≤◌, ℕ, zero, suc, ap, sym, refl, subst, arith, List, [], ◌∷◌, map, length, get_or, Bool, true, false, Option, Some, None}
+use Rattle.std.specs.Prelude.{IsTrue, is_some, nat_eq, nat_lt, unwrap_or}
+use Rattle.std.specs.Map.{lookup}
 use Rattle.std.specs.List.{list_all}
 use Rattle.std.proofs.lemmas.Bool.{ltb-true, ltb-false}
 use Rattle.std.proofs.lemmas.List.{length-map}
@@ -12,6 +13,7 @@ use Rattle.pt_tree.specs.declared.signature.Param.{Param}
 use Rattle.pt_tree.specs.declared.signature.ParamKind.{ParamKind}
 use Rattle.pt_tree.specs.declared.signature.ParamKind.TheVariants as kind
 use Rattle.typed_tree.specs.declared.types.StructInfo.{StructInfo}
+use Rattle.typed_tree.specs.declared.types.VarTy.{VarTy}
 use Rattle.typed_tree.specs.Cells.{leaves_of, repeated}
 use Rattle.typed_tree.specs.TypeTests.{type_of_elem}
 use Rattle.typed_tree.specs.WellFormedExpression.{param_type}
@@ -20,9 +22,11 @@ use Rattle.block_memory.specs.declared.cell.Cell.{Cell}
 use Rattle.block_memory.specs.declared.cell.Cell.TheVariants as cell
 use Rattle.block_memory.specs.declared.cell.Pointer.TheVariants.{Null, At}
 use Rattle.block_memory.specs.declared.cell.BlockName.{BlockName}
-use Rattle.block_memory.specs.declared.cell.BlockName.TheVariants.{Received}
+use Rattle.block_memory.specs.declared.cell.BlockName.TheVariants.{Global, Received}
+use Rattle.block_memory.specs.Block.{Block, no_block}
 use Rattle.block_memory.specs.Blocks.{Blocks}
 use Rattle.handle_store.specs.Stored.{AreInRange}
+use Rattle.pt_core.specs.Calls.{context_in}
 use Rattle.core_soundness_law.specs.Fits.{IntegerFits, IntegersFit, LieAt, ValueFits}
 use Rattle.core_soundness_law.specs.Kept.{by_store, none}
 use Rattle.core_soundness_law.specs.Outside.{ArgumentsFit}
@@ -34,9 +38,13 @@ use Rattle.marshalling.specs.Replies.{types_in}
 use Rattle.marshalling.proofs.NameLemmas.{all_targets, from_distinct, get_among, has_target, number_at}
 use Rattle.marshalling_law.proofs.PostingLemmas.{packed_types}
 use Rattle.marshalling_law.proofs.CallsTargets.{block_integers, target_among}
-use Rattle.part_views_law.specs.CrossingsCalls.{body_memory}
+use Rattle.pair_meaning.specs.Serving.{brought, named_by}
+use Rattle.part_views_law.specs.Views.{has_global}
+use Rattle.part_views_law.specs.CrossingsCalls.{block_for, body_memory, global_block, received_block, sent_block}
 use Rattle.part_views_law.specs.CrossingsFits.{BodiesFit}
 use Rattle.part_views_law.proofs.CrossingsBeginning.{types_named, cells_named}
+use Rattle.part_views_law.proofs.CrossingsPlaced.{all_placed}
+use Rattle.part_views_law.proofs.Memories.{never_both}
 
 -- what a handle of the type stands for is a number of it
 stored_fits : (store : Entries) (t : IntType) (h : ℕ) → AreInRange store → IsTrue (by_store store t h) → IsTrue (is_in_range t (stored store h))
@@ -87,20 +95,36 @@ all_given structs store x y depth names (p ∷ params) (c ∷ args) ranged same 
 )
 
 pub bodies_fit : BodiesFit
-bodies_fit slave monitor store params x m a rest args sound ok same mem given other ranged whole = (
+bodies_fit slave monitor store params bound x m a rest args sound ok same types_same are mem given other ranged whole = (
   record {
     locals = λ depth v. refl;
-    globals = other.globals;
-    global_cells = other.global_cells;
-    received_cells = λ n. received n (nat_lt n (length (names_of args))) refl;
-    beyond = other.beyond;
+    globals = λ g ty listed. global_types g ty listed (block_for bound g) refl;
+    global_cells = λ g. global_numbers g (block_for bound g);
+    received_cells = λ n. received_numbers n (lookup (nat_eq n) bound);
+    beyond = λ g none. beyond g none (block_for bound g) refl;
   },
-  subst (λ structs. ArgumentsFit none structs (body_memory store params x m args) 0 params (for_callee store x args).args) same
-      (all_given slave.structs store x (body_memory store params x m args) a.depth (names_of args) params args ranged (λ name among. types_named params x args name whole among) (all_targets [] args) given),
+  all_placed monitor.structs bound (body_memory bound monitor store params x m args) params (for_callee store x args).args
+      (subst (λ structs. ArgumentsFit none structs (brought bound (body_memory bound monitor store params x m args)) 0 params (for_callee store x args).args) same
+      (all_given slave.structs store x (brought bound (body_memory bound monitor store params x m args)) a.depth (names_of args) params args ranged
+      (λ name among. ap (λ (b : Block). b.types) (brought_sent (number_of (names_of args) name)) ∙ types_named params x args name whole among) (all_targets [] args) given)),
 )
   where
+    types : List (List IntType)
+    types = types_in (packed x params args)
+
+    cells : List (List Cell)
+    cells = (for_callee store x args).blocks
+
+    -- each block is where it was brought
+    brought_sent : (k : ℕ) → brought bound (body_memory bound monitor store params x m args) (Received k) ≡ sent_block (types_in (packed x params args)) (for_callee store x args).blocks k
+    brought_sent k = go (lookup (nat_eq k) bound) refl
+      where
+        go : (o : Option ℕ) → lookup (nat_eq k) bound ≡ o → body_memory bound monitor store params x m args (named_by k o) ≡ sent_block (types_in (packed x params args)) (for_callee store x args).blocks k
+        go None is = ap (λ o. received_block (sent_block types cells k) o) is
+        go (Some g) is = ap (λ (o : Option ℕ). global_block monitor (sent_block types cells (unwrap_or o 0)) (m (Global g)) g o) (are.block_of k g is)
+
     FitsAt : ℕ → Type 0
-    FitsAt n = IntegersFit none (body_memory store params x m args (Received n)).types (body_memory store params x m args (Received n)).cells
+    FitsAt n = IntegersFit none (sent_block (types_in (packed x params args)) (for_callee store x args).blocks n).types (sent_block (types_in (packed x params args)) (for_callee store x args).blocks n).cells
 
     there : (n : ℕ) → n < length (names_of args) → FitsAt n
     there n lt =
@@ -108,7 +132,7 @@ bodies_fit slave monitor store params x m a rest args sound ok same mem given ot
         let among = get_among (names_of args) n (Received n) lt in
         let some = (target_among (by_store store) slave.structs x a.depth name params args sound ok given among).some in
         subst FitsAt (number_at (names_of args) n (Received n) (from_distinct [] args refl) lt)
-        (subst (λ ts. IntegersFit none ts (body_memory store params x m args (Received (number_of (names_of args) name))).cells) (sym (types_named params x args name whole among))
+        (subst (λ ts. IntegersFit none ts (sent_block types cells (number_of (names_of args) name)).cells) (sym (types_named params x args name whole among))
         (subst (λ cs. IntegersFit none (x name).types cs) (sym (cells_named store x args name among)) (all_revealed store (x name).types (x name).cells ranged (block_integers (by_store store) slave (a ∷ rest) x mem name some))))
 
     count : length (types_in (packed x params args)) ≡ length (names_of args)
@@ -117,9 +141,31 @@ bodies_fit slave monitor store params x m a rest args sound ok same mem given ot
     count_cells : length (for_callee store x args).blocks ≡ length (names_of args)
     count_cells = length-map (names_of args) _
 
-    received : (n : ℕ) (t : Bool) → nat_lt n (length (names_of args)) ≡ t → FitsAt n
-    received n true e = there n (ltb-true n (length (names_of args)) e)
-    received n false e =
+    sent_fits : (n : ℕ) (t : Bool) → nat_lt n (length (names_of args)) ≡ t → FitsAt n
+    sent_fits n true e = there n (ltb-true n (length (names_of args)) e)
+    sent_fits n false e =
         let le : length (names_of args) ≤ n = ltb-false n (length (names_of args)) e in
-        subst (λ ts. IntegersFit none ts (body_memory store params x m args (Received n)).cells) (sym (get_or_past (types_in (packed x params args)) n [] (omega (arith, count, le))))
+        subst (λ ts. IntegersFit none ts (sent_block types cells n).cells) (sym (get_or_past (types_in (packed x params args)) n [] (omega (arith, count, le))))
         (subst (λ cs. IntegersFit none [] cs) (sym (get_or_past (for_callee store x args).blocks n [] (omega (arith, count_cells, le)))) (tt {0}))
+
+    received_numbers : (n : ℕ) (o : Option ℕ) → IntegersFit none (received_block (sent_block types cells n) o).types (received_block (sent_block types cells n) o).cells
+    received_numbers n None = sent_fits n (nat_lt n (length (names_of args))) refl
+    received_numbers n (Some g) = tt {0}
+
+    global_numbers : (g : ℕ) (o : Option ℕ) → IntegersFit none (global_block monitor (sent_block types cells (unwrap_or o 0)) (m (Global g)) g o).types (global_block monitor (sent_block types cells (unwrap_or o 0)) (m (Global g)) g o).cells
+    global_numbers g None = other.global_cells g
+    global_numbers g (Some k) = sent_fits k (nat_lt k (length (names_of args))) refl
+
+    global_types : (g : ℕ) (ty : VarTy) → lookup (nat_eq g) (context_in monitor 0).globals ≡ Some ty → (o : Option ℕ) → block_for bound g ≡ o → (global_block monitor (sent_block types cells (unwrap_or o 0)) (m (Global g)) g o).types ≡ leaves_of monitor.structs ty
+    global_types g ty listed None is = other.globals g ty listed
+    global_types g ty listed (Some k) is =
+        let named = are.named g k is in
+        let shared : has_global slave g ≡ true = are.both g (ap is_some listed) ∙ ap is_some is in
+        ap (λ n. (sent_block types cells n).types) (sym named.1)
+        ∙ types_named params x args (Global g) whole named.0
+        ∙ mem.globals g ty (types_same g ty listed shared)
+        ∙ ap (λ structs. leaves_of structs ty) same
+
+    beyond : (g : ℕ) → lookup (nat_eq g) (context_in monitor 0).globals ≡ None → (o : Option ℕ) → block_for bound g ≡ o → global_block monitor (sent_block types cells (unwrap_or o 0)) (m (Global g)) g o ≡ no_block
+    beyond g none None is = other.beyond g none
+    beyond g none (Some k) is = never_both (has_global monitor g) (are.part_has g k is) (ap is_some none)

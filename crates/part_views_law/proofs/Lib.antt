@@ -2,6 +2,7 @@ pub mod Memories
 pub mod Instances
 pub mod CrossingsCells
 pub mod CrossingsMeeting
+pub mod CrossingsPlaced
 pub mod CrossingsBeginning
 pub mod CrossingsEnding
 pub mod CrossingsMachines

@@ -1,7 +1,8 @@
 -- What a search for an entry finds.
 use Rattle.std.proofs.Common.{◌≡◌, ◌∙◌, ◌-◌, ◌≤◌, ℕ, suc, nat_eq, refl, ap, sym, subst, arith, Bool, true, false, cond, List, [], ◌∷◌, Option, Some, None, length, map}
 use Rattle.std.specs.Prelude.{IsTrue, ◌&&◌, drop, is_some, unwrap_or}
-use Rattle.std.specs.List.{list_all}
+use Rattle.std.specs.List.{find, list_all}
+use Rattle.std.specs.Option.{option_map_or}
 use Rattle.std.specs.Map.{lookup}
 use Rattle.std.proofs.lemmas.List.{length-drop}
 use Rattle.pt_base.proofs.Booleans.{both_hold_first, both_hold_second, false_not_true, if_false_holds}
@@ -16,6 +17,7 @@ use Rattle.pt_core.specs.Calls.{function_in, no_function, no_signature, signatur
 use Rattle.pt_core.specs.WellFormed.{are_different, bind_by, binds_fit, bound_by, entries_fit, entry_by, entry_fits, function_at, global_at, is_sound, is_well_formed_monitor, monitor_program, signature_at}
 use Rattle.core_soundness_law.proofs.Programs.{FunctionFacts, facts_of, function_facts}
 use Rattle.pair_meaning.specs.Monitors.{entries_in}
+use Rattle.pair_meaning.specs.Serving.{binds_for}
 use Rattle.serving_rules.specs.declared.names.Names.{Names}
 use Rattle.serving_rules.specs.Asking.{IsNamedBy}
 
@@ -41,6 +43,7 @@ signed program es = map (λ e. (e.function.0, signature_in program e.function.0)
 
 -- the entry of a number that was found
 record Found (program : ProgramTree) (f : ℕ) (es : List Entry) (e : Entry) : Type 0 where
+  found : find (λ (x : Entry). nat_eq f x.function.0) es ≡ Some e
   signature : lookup (nat_eq f) (signed program es) ≡ Some (signature_in program f)
   number : f ≡ e.function.0
   fits : IsTrue (entry_fits program e)
@@ -55,13 +58,17 @@ found_in program f (x ∷ es) e all is = go (found_in program f es e (both_hold_
     test_so : (b : Bool) → nat_eq f x.function.0 ≡ b → lookup (nat_eq f) (signed program (x ∷ es)) ≡ cond b (Some (signature_in program x.function.0)) (lookup (nat_eq f) (signed program es))
     test_so b t = ap (λ c. cond c (Some (signature_in program x.function.0)) (lookup (nat_eq f) (signed program es))) t
 
+    find_so : (b : Bool) → nat_eq f x.function.0 ≡ b → find (λ (y : Entry). nat_eq f y.function.0) (x ∷ es) ≡ cond b (Some x) (find (λ (y : Entry). nat_eq f y.function.0) es)
+    find_so b t = ap (λ c. cond c (Some x) (find (λ (y : Entry). nat_eq f y.function.0) es)) t
+
     go : (lookup (nat_eq f) (listed es) ≡ Some e → Found program f es e) → (b : Bool) → nat_eq f x.function.0 ≡ b → cond b (Some x) (lookup (nat_eq f) (listed es)) ≡ Some e → Found program f (x ∷ es) e
     go more true t h = record {
+      found = find_so true t ∙ ap Some (same h);
       signature = test_so true t ∙ ap (λ n. Some (signature_in program n)) (sym (nat_eq_same f x.function.0 t));
       number = nat_eq_same f x.function.0 t ∙ ap (λ (z : Entry). z.function.0) (same h);
       fits = subst (λ (z : Entry). IsTrue (entry_fits program z)) (same h) (both_hold_first (entry_fits program x) (list_all (entry_fits program) es) all);
     }
-    go more false t h = let rest : Found program f es e = more h in record { signature = test_so false t ∙ rest.signature; number = rest.number; fits = rest.fits }
+    go more false t h = let rest : Found program f es e = more h in record { found = find_so false t ∙ rest.found; signature = test_so false t ∙ rest.signature; number = rest.number; fits = rest.fits }
 
 none_in : (program : ProgramTree) (f : ℕ) (es : List Entry) → lookup (nat_eq f) (listed es) ≡ None → lookup (nat_eq f) (signed program es) ≡ None
 none_in program f [] is = refl
@@ -116,12 +123,13 @@ asked_signed p names f e named is none =
     false_not_true (subst (λ o. IsTrue (entry_by (monitor_program p) e o)) (signature_there p names f named None none) (subst (λ n. IsTrue (entry_by (monitor_program p) e (signature_at (monitor_program p) n))) (sym found.number) found.fits))
 
 -- what is asked for
-pub record IsEntry (p : MonitorTree) (f : ℕ) (s : Signature) (own : ℕ) : Type 0 where
+pub record IsEntry (p : MonitorTree) (f : ℕ) (s : Signature) (own : ℕ) (binds : List Bind) : Type 0 where
   pub entry : lookup (nat_eq f) (entries_in p) ≡ Some s
   pub own_is : s.host ≡ false → own ≡ (function_in (monitor_program p) f).params
+  pub binds_are : binds ≡ binds_for p f
 
 pub asked_is : (p : MonitorTree) (names : Names) (f : ℕ) (e : Entry) (s : Signature) (own : ℕ) → IsNamedBy p names → Some e ≡ lookup (nat_eq f) (listed names.entries.now) → Some s ≡ lookup (nat_eq f) (numbered names.signatures.now) →
-    own ≡ length s.params - length e.shared → IsEntry p f s own
+    own ≡ length s.params - length e.shared → IsEntry p f s own e.shared
 asked_is p names f e s own named is signature counts =
     let program : ProgramTree = monitor_program p in
     let found : Found program f p.entries e = found_in program f p.entries e (each_fits p named.well_formed) (sym (entries_at p names f named) ∙ sym is) in
@@ -134,4 +142,5 @@ asked_is p names f e s own named is signature counts =
           counts
           ∙ own_of program f s e.shared (sound_of p named.well_formed) there (function_at program f) refl
           (subst (λ n. IsTrue (bound_by program e.shared s (function_at program n))) (sym found.number) (if_false_holds s.host _ (bound_by program e.shared s (function_at program e.function.0)) plain fits));
+      binds_are = ap (λ (o : Option Entry). option_map_or (λ (x : Entry). x.shared) o []) (sym found.found);
     }

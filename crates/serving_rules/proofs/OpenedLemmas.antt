@@ -1,7 +1,8 @@
 -- The rules for a call of what may be asked for.
-use Rattle.std.proofs.Common.{◌≡◌, ◌∙◌, ℕ, zero, suc, ℤ, pos, refl, ap, Bool, true, false, List, [], ◌∷◌, Option, Some, None, Result, Err, if◌then◌else◌}
+use Rattle.std.proofs.Common.{◌≡◌, ◌∙◌, ℕ, zero, suc, ℤ, pos, refl, ap, sym, Bool, true, false, List, [], ◌∷◌, Option, Some, None, Result, Err, if◌then◌else◌}
 use Rattle.std.specs.Prelude.{◌&&◌, not, option_map, slice_get}
 use Rattle.pt_base.specs.declared.int_type.IntType.{IntType}
+use Rattle.pt_base.proofs.Booleans.{false_not_true, true_not_false}
 use Rattle.pt_tree.specs.declared.signature.Param.{Param}
 use Rattle.pt_tree.specs.declared.signature.ParamKind.{ParamKind}
 use Rattle.pt_tree.specs.declared.signature.ParamKind.TheVariants as kind
@@ -17,7 +18,7 @@ use Rattle.marshalling.specs.declared.inputs.Inputs.{Inputs}
 use Rattle.marshalling.specs.Handles.{Entries, argument_fault, arguments_fault, block_fault, blocks_fault, cell_fault, entry_fault, handle_fault, inputs_unless, or_else, wire_fault}
 use Rattle.pair_meaning.specs.Monitors.{types_in}
 use Rattle.pair_meaning.specs.Rules as r
-use Rattle.pair_meaning.specs.Rules.{blank, broken_if, first_broken, has_depth, rule_of_fault, tells}
+use Rattle.pair_meaning.specs.Rules.{are_bound, blank, broken_if, first_broken, has_depth, rule_of_fault, tells}
 use Rattle.marshalling.specs.Shape.{is_shaped}
 use Rattle.serving_rules.specs.Opening.{IsOpened, RulesSeeTypes}
 use Rattle.serving_rules.specs.declared.opened.Opened.TheVariants.{Breaks}
@@ -55,6 +56,16 @@ shape_breaks true true posted (Some fault.Shape) inputs of d e = elim of [ ]
 shape_breaks true true posted (Some (fault.BadHandle h)) inputs of d e = cc
 shape_breaks true true posted (Some (fault.WrongType h)) inputs of d e = cc
 shape_breaks true true posted (Some fault.Memory) inputs of d e = elim of [ ]
+
+-- where the arguments for globals are as they are to be, the shape alone counts
+pub when_bound : (deep bound shaped posted : Bool) (bad : Option BadCall) → bound ≡ true → rule_by deep shaped posted bad ≡ rule_by deep (bound && shaped) posted bad
+when_bound deep bound shaped posted bad e = ap (λ b. rule_by deep (b && shaped) posted bad) (sym e)
+
+-- and where they aren't, the rule on shape is broken whatever else is
+pub unbound_breaks : (deep bound shaped posted : Bool) (bad : Option BadCall) (answer : Result Inputs BadCall) → deep ≡ true → bound ≡ false → IsOpened (Breaks BadShape) (rule_by deep (bound && shaped) posted bad) answer
+unbound_breaks true false shaped posted bad answer d e = refl
+unbound_breaks true true shaped posted bad answer d e = true_not_false e
+unbound_breaks false bound shaped posted bad answer d e = false_not_true d
 
 -- ---- faults of handles
 
@@ -155,6 +166,6 @@ faults_same store params body =
     (blocks_same store body.blocks)
 
 pub rules_see_types : RulesSeeTypes
-rules_see_types low store s depth wants body types =
-    ap (λ bad. rule_by (has_depth s depth) (is_shaped low.structs s.params body) (not wants && tells low.structs s body) bad)
+rules_see_types low store bounds s depth wants body types =
+    ap (λ bad. rule_by (has_depth s depth) (are_bound bounds body && is_shaped low.structs s.params body) (not wants && tells low.structs s body) bad)
     (ap (λ ts. handle_fault (blank ts) s.params body) types ∙ faults_same store s.params body)

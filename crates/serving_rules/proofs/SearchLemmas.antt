@@ -15,6 +15,7 @@ use Rattle.pt_base.proofs.Numbers.{nat_eq_from_suc, nat_eq_other_turned, nat_eq_
 use Rattle.pt_base.proofs.Orders.{cmp_greater_apart, cmp_index_rises, cmp_less_apart}
 use Rattle.pt_tree.specs.declared.signature.Signature.{Signature}
 use Rattle.typed_tree.specs.WellFormed.{are_rising}
+use Rattle.pt_core.specs.declared.global.GlobalVar.{GlobalVar}
 use Rattle.pt_core.specs.declared.monitor.Entry.{Entry}
 use Rattle.pt_core.specs.CodeTree.{numbered}
 
@@ -117,3 +118,16 @@ pub none_listed : (xs : List Entry) (f i : ℕ) → IsTrue (are_rising 0 (map (�
     → (IsNonDecreasingBy (λ (y : Entry). ordering_index (nat_cmp y.function.0 f)) xs → IsPartitionPoint (λ (y : Entry). nat_cmp y.function.0 f ≡ Less) (λ (y : Entry). nat_cmp y.function.0 f ≡ Greater) xs i)
     → lookup (nat_eq f) (map (λ e. (e.function.0, e)) xs) ≡ None
 none_listed xs f i h parted = no_entry entry_number (λ y. y) f xs i h parted
+
+-- ---- globals
+
+abbrev global_number : GlobalVar → ℕ
+global_number g = g.id.0
+
+pub found_global : (xs : List GlobalVar) (g i : ℕ) (x : GlobalVar) → IsTrue (are_rising 0 (map (λ y. y.id.0) xs)) → i < length xs → HoldsAt (λ (y : GlobalVar). nat_cmp y.id.0 g ≡ Equal) xs i → x ≡ get_or xs i x → lookup (nat_eq g) (map (λ y. (y.id.0, y)) xs) ≡ Some x
+found_global xs g i x h within equal is = found_entry global_number (λ y. y) g xs i x h within equal is
+
+pub no_global : (xs : List GlobalVar) (g i : ℕ) → IsTrue (are_rising 0 (map (λ y. y.id.0) xs))
+    → (IsNonDecreasingBy (λ (y : GlobalVar). ordering_index (nat_cmp y.id.0 g)) xs → IsPartitionPoint (λ (y : GlobalVar). nat_cmp y.id.0 g ≡ Less) (λ (y : GlobalVar). nat_cmp y.id.0 g ≡ Greater) xs i)
+    → lookup (nat_eq g) (map (λ y. (y.id.0, y)) xs) ≡ None
+no_global xs g i h parted = no_entry global_number (λ y. y) g xs i h parted

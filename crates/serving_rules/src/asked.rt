@@ -6,14 +6,16 @@ ghost use Rattle.serving_rules.specs.Asking.{Finds, IsNamedBy};
 
 use crate::names::{Names, entry_of, signature_of};
 use pt_base::FnId;
-use pt_core::Entry;
+use pt_core::{Bind, Entry};
 use pt_tree::Signature;
 
-/// What was asked for: what it is called with, and how many of its parameters are its own. Those behind them stand for globals.
+/// What was asked for: what it is called with, and how many of its parameters are its own. Those behind them stand for globals: for
+/// which, each bind tells.
 #[derive(Clone, Copy)]
 pub struct Asked<'a> {
     pub signature: &'a Signature,
     pub own: usize,
+    pub binds: &'a [Bind],
 }
 
 /// What a slave may ask for by this number: the signature of the entry, None where it may not be asked for.
@@ -31,6 +33,7 @@ pub fn asked_for<'a>(names: &Names<'a>, f: FnId) -> Option<Asked<'a>>
     Some(Asked {
         signature,
         own: own_count(signature, entry),
+        binds: entry.shared.as_slice(),
     })
 }
 

@@ -3,6 +3,7 @@
 #![tactic(auto)]
 
 mod asked;
+mod bound;
 mod laws;
 mod names;
 mod opened;
@@ -13,7 +14,7 @@ mod turns;
 
 pub use asked::{Asked, asked_for};
 pub use laws::{permissions_decide, rules_see_types};
-pub use names::Names;
+pub use names::{Names, global_of};
 pub use opened::{Opened, opened_call};
 pub use peer_rule::PeerRule;
 pub use permission::{Permission, permit};

@@ -5,8 +5,8 @@ ghost use Rattle.std.specs.Option.{option_copied};
 ghost use Rattle.typed_tree.specs.WellFormed.{are_rising};
 ghost use Rattle.pt_core.specs.CodeTree.{numbered};
 
-use pt_base::FnId;
-use pt_core::Entry;
+use pt_base::{FnId, GlobalId};
+use pt_core::{Entry, GlobalVar};
 use pt_tree::Signature;
 use typed_tree::StructInfo;
 
@@ -18,6 +18,8 @@ pub struct Names<'a> {
     pub signatures: &'a [(FnId, Signature)],
     /// What may be asked for, in the order of the numbers.
     pub entries: &'a [Entry],
+    /// The globals, in the order of their numbers.
+    pub globals: &'a [GlobalVar],
 }
 
 // What a function or host is called with; None where there is none of this number. It is searched for by halves.
@@ -41,6 +43,17 @@ pub(crate) fn entry_of<'a>(entries: &'a [Entry], f: FnId) -> Option<&'a Entry>
 {
     match entries.binary_search_by_key(&f.0, |entry| entry.function.0) {
         Ok(place) => Some(&entries[place]),
+        Err(_) => None,
+    }
+}
+
+/// The global of this number, if there is one.
+pub fn global_of<'a>(globals: &'a [GlobalVar], g: GlobalId) -> Option<&'a GlobalVar>
+    requires { IsTrue (are_rising 0 (map (λ x. x.id.0) globals.now)) }
+    ensures { option_copied result ≡ lookup (nat_eq g.0) (map (λ x. (x.id.0, x)) globals.now) }
+{
+    match globals.binary_search_by_key(&g.0, |global| global.id.0) {
+        Ok(place) => Some(&globals[place]),
         Err(_) => None,
     }
 }

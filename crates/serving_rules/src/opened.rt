@@ -1,13 +1,18 @@
 // The rules for a call of what may be asked for.
-ghost use Rattle.std.specs.Prelude.{◌≡◌, ◌&&◌, IsTrue, IfOk, if◌then◌else◌, not};
+ghost use Rattle.std.specs.Prelude.{◌≡◌, ◌&&◌, IsTrue, IfOk, if◌then◌else◌, map, not};
+ghost use Rattle.typed_tree.specs.WellFormed.{are_rising};
 ghost use Rattle.marshalling.specs.Handles.{unpacking};
 ghost use Rattle.marshalling.specs.Leaves.{has_structs};
 ghost use Rattle.pair_meaning.specs.Rules as rules;
 ghost use Rattle.pair_meaning.specs.Rules.{tells};
 ghost use Rattle.serving_rules.specs.declared.opened.Opened.TheVariants as opened;
 ghost use Rattle.serving_rules.specs.declared.peer_rule.PeerRule.TheVariants as peer;
+ghost use Rattle.serving_rules.specs.Bounding.{bounds_at};
 ghost use Rattle.serving_rules.specs.Opening.{IsOpened, broken_by};
 
+use crate::asked::Asked;
+use crate::bound::are_bound;
+use crate::names::Names;
 use crate::peer_rule::PeerRule;
 use handle_store::Store;
 use marshalling::{BadCall, Inputs, reply_holds_number, unpack_args};
@@ -28,22 +33,28 @@ pub enum Opened {
     Breaks(PeerRule),
 }
 
-/// The arguments and blocks of a call of this signature, or the first rule that it breaks: on its depth, on the shape of its body,
-/// on a reply that isn't wanted though it holds a number, on its handles.
+/// The arguments and blocks of a call of what was asked for, or the first rule that it breaks: on its depth, on the arguments for
+/// globals and the shape of its body, on a reply that isn't wanted though it holds a number, on its handles.
 pub fn opened_call(
     alloc: Global,
     store: &Store,
-    structs: &[StructInfo],
-    sig: &Signature,
+    names: &Names<'_>,
+    asked: Asked<'_>,
     depth: u8,
     wants: bool,
     body: &CallBody,
 ) -> Result<Opened, AllocError>
-    requires { IsTrue (has_structs structs.now sig.now.params) }
-    ensures { IfOk result (λ o. IsOpened o (broken_by structs.now store.now sig.now depth wants body.now) (unpacking store.now structs.now sig.now.params body.now)) }
+    requires structs { IsTrue (has_structs names.now.structs.now asked.signature.now.params) }
+    requires globals { IsTrue (are_rising 0 (map (λ g. g.id.0) names.now.globals.now)) }
+    ensures { IfOk result (λ o. IsOpened o (broken_by names.now.structs.now store.now (bounds_at names.now.globals.now asked.binds.now) asked.signature.now depth wants body.now) (unpacking store.now names.now.structs.now asked.signature.now.params body.now)) }
 {
+    let sig = asked.signature;
+    let structs = names.structs;
     if !has_depth(sig, depth) {
         return Ok(Opened::Breaks(PeerRule::BadDepth));
+    }
+    if !are_bound(names.globals, asked.binds, body) {
+        return Ok(Opened::Breaks(PeerRule::BadShape));
     }
     match unpack_args(alloc, store, structs, sig, body) {
         Ok(inputs) => fitting(alloc, structs, sig, wants, body, inputs),

@@ -14,4 +14,4 @@ returns-in_default-signature_of c p named =
 pub returns : goal.returns
 returns c p named =
     let is = asked_is p c.args.names.now c.args.f.0 c.in-Some.entry.now c.in-Some-signature_of.signature.now c.own_count.result named c.in-Some.ensures c.in-Some-signature_of.ensures c.own_count.ensures in
-    record { entry = is.entry; own = is.own_is }
+    record { entry = is.entry; own = is.own_is; binds = c.as_slice.ensures ∙ is.binds_are }

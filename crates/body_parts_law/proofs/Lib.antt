@@ -1,0 +1,4 @@
+pub mod Beside
+pub mod Runs
+pub mod Steps
+pub mod Works

@@ -1,0 +1,4 @@
+pub mod CallerLemmas
+pub mod ReachedLemmas
+pub mod SharingLemmas
+pub mod WalkLemmas
