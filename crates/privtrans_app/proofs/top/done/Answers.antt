@@ -33,7 +33,7 @@ returns-in-Version-clause-ending g c = λ report report'.
     version_comes _ _ _ _ _ _ (same_refl (g.F.Folder.files c.args.folder.now)) (ap command_seen c.in-Version.is) c.put-in-Version.ensures.ending
 
 pub returns-in-Show-clause-ending : goal.returns-in-Show-clause-ending
-returns-in-Show-clause-ending g c = λ report report'. ?
+returns-in-Show-clause-ending g c = ?
 
 pub returns-in-Show-clause-turns : goal.returns-in-Show-clause-turns
 returns-in-Show-clause-turns g c = ?
