@@ -114,7 +114,7 @@ rows_have t rows c (suc more) f (suc i) lt below calls =
     (rows_have t (called_by rows c (called_numbers t c)) (suc c) more f i (let long : length (called_by rows c (called_numbers t c)) ≡ length rows = called_long rows c (called_numbers t c) in omega arith) (omega arith)
     (subst (λ n. Contains (called_numbers t n) f) same calls))
 
-none_there : (n f x : ℕ) → Contains (row_of (replicate n []) f) x → ⊥
+pub none_there : (n f x : ℕ) → Contains (row_of (replicate n []) f) x → ⊥
 none_there zero f x h = contains_nothing x h
 none_there (suc n) zero x h = contains_nothing x h
 none_there (suc n) (suc f) x h = none_there n f x h

@@ -1,4 +1,5 @@
 pub mod CallerLemmas
+pub mod CodeLemmas
 pub mod ReachedLemmas
 pub mod SharingLemmas
 pub mod WalkLemmas
