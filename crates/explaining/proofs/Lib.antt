@@ -1,5 +1,4 @@
 pub mod Cuts
-mod ExplainLemmas
 mod HoldingLemmas
 mod HomeLemmas
 mod TurnLemmas

@@ -1,4 +1,4 @@
--- What explaining a text in a file of a given name comes to.
+-- What is told of a text in a file of a given name.
 use Rattle.std.specs.Prelude.{◌≡◌, ℕ, List}
 use Rattle.std.specs.List.{flat_map}
 use Rattle.front_end.specs.Reading.{HasTypedTree}
@@ -6,11 +6,10 @@ use Rattle.typed_tree.specs.TypedTree.{TypedTree}
 use Rattle.flow_rules.specs.declared.accepted.Accepted.{Accepted}
 use Rattle.flow_rules.specs.declared.fault.FlowFault.{FlowFault}
 use Rattle.flow_rules.specs.Faults.{IsAccepted}
-use Rattle.flow_check.specs.Checked.{IsRefused, Refusal, lex, parse, types, flow}
+use Rattle.stages.specs.Climb.{Texts}
 use Rattle.flow_check.specs.Shown.{AreShown}
 use Rattle.explaining.specs.declared.homes.Home.{Home}
 use Rattle.explaining.specs.FlowBlocks.{flow_block}
-use Rattle.explaining.specs.FrontBlocks.{lex_block, parse_block, type_block}
 use Rattle.explaining.specs.Homes.{AreHomes}
 use Rattle.explaining.specs.Holdings.{holding}
 use Rattle.explaining.specs.Order.{AreInTurn}
@@ -22,19 +21,6 @@ abbrev pub AreFlowBlocks : List ℕ → List ℕ → TypedTree → List FlowFaul
 AreFlowBlocks name text t faults report =
     (homes : List Home) × AreHomes t homes × (order : List FlowFault) × AreInTurn faults order × (report ≡ flat_map (flow_block name text t homes) order)
 
--- the report has a block for each of these faults
-abbrev pub AreBlocks : List ℕ → List ℕ → Refusal → List ℕ → Type 0
-AreBlocks name text (lex fault) report = report ≡ lex_block name text fault
-AreBlocks name text (parse fault) report = report ≡ parse_block name text fault
-AreBlocks name text (types faults) report = report ≡ flat_map (type_block name text) faults
-AreBlocks name text (flow faults) report = (tree : TypedTree) × HasTypedTree text tree × AreFlowBlocks name text tree faults report
-
--- the report explains the faults for which `check` refuses the text
-pub record Explains (name text report : List ℕ) : Type 0 where
-  pub refusal : Refusal
-  pub refused : IsRefused text refusal
-  pub blocks : AreBlocks name text refusal report
-
 -- ---- a text that is accepted
 
 -- the lines tell the privileged slots that `check` shows
@@ -45,5 +31,6 @@ pub record HasHoldings (name text : List ℕ) (t : TypedTree) (lines : List ℕ)
   pub shown : AreShown t accepted.sides slots
   pub lines_are : lines ≡ flat_map (holding name text t) slots
 
-abbrev pub IsHeld : List ℕ → List ℕ → List ℕ → Type 0
-IsHeld name text lines = (tree : TypedTree) × HasTypedTree text tree × HasHoldings name text tree lines
+-- no stage has a fault, and the lines tell these slots of the program in a file of this name
+abbrev pub IsHeld : List ℕ → Texts → List ℕ → Type 0
+IsHeld name t lines = (tree : TypedTree) × HasTypedTree t.program tree × HasHoldings name t.program tree lines

@@ -10,7 +10,7 @@ use Rattle.typed_tree.specs.TypedTree.{TypedTree}
 use Rattle.flow_rules.specs.declared.fault.FlowFault.{FlowFault}
 use Rattle.flow_rules.specs.declared.rule.Rule.{Rule}
 use Rattle.flow_rules.specs.declared.rule.Rule.TheVariants.{OperationOnPriv, PrivToHost, PrivIntoUnpriv, SharedGlobal, UnmarkedOut, HostInMonitor, PrivToPlainParam, PrivStatus, PrivMain}
-use Rattle.flow_check.specs.FlowLines.{flow_line, shows_way}
+use Rattle.refusal_lines.specs.FlowLines.{flow_line, shows_way}
 use Rattle.source_places.specs.Excerpts.{quoted}
 use Rattle.source_places.specs.Heads.{head}
 use Rattle.explaining.specs.FrontBlocks.{span_excerpt}

@@ -1,13 +1,10 @@
 -- The blocks that explain faults of lexer, parser and types: a sentence, the line with a mark under it, and the
 -- line that `check` reports. An empty line ends a block.
-use Rattle.std.specs.Prelude.{ℕ, List, [], ◌++◌, ◌-◌, Bool, Option, Some, None, codes, length, ltb, slice_index_or}
-use Rattle.std.specs.List.{flat_map}
+use Rattle.std.specs.Prelude.{ℕ, List, [], ◌++◌, ◌-◌, Bool, codes, length, ltb, slice_index_or}
 use Rattle.pt_base.specs.declared.span.Span.{Span}
 use Rattle.c_lexer.specs.declared.error.LexFault.{LexFault}
 use Rattle.c_lexer.specs.declared.error.LexFaultKind.{LexFaultKind}
 use Rattle.c_lexer.specs.declared.error.LexFaultKind.TheVariants.{BadByte, OpenComment, BadNumber, BadChar, TooLong}
-use Rattle.front_end.specs.declared.error.FrontError.{FrontError}
-use Rattle.front_end.specs.declared.error.FrontError.TheVariants.{Lex, Parse, Types, Memory}
 use Rattle.front_end.specs.declared.parse_fault.ParseFault.{ParseFault}
 use Rattle.check_declarations.specs.declared.fault.FaultKind.{FaultKind}
 use Rattle.check_declarations.specs.declared.fault.FaultKind.TheVariants.{UnknownName, Redeclared, NotLvalue, WrongType, ArgCount, ConstWrite, OutOfProfile, NoMain, TooLarge, BadAttribute}
@@ -67,10 +64,3 @@ type_text name text f = head name text f.span.from ++ type_sentence f.kind ++ co
 
 abbrev pub type_block : List ℕ → List ℕ → TypeFault → List ℕ
 type_block name text f = type_text name text f ++ type_line f ++ codes "\n"
-
--- those of an error of the front end; want of memory has none
-abbrev pub error_blocks : List ℕ → List ℕ → FrontError → Option (List ℕ)
-error_blocks name text (Lex fault) = Some (lex_block name text fault)
-error_blocks name text (Parse fault) = Some (parse_block name text fault)
-error_blocks name text (Types faults) = Some (flat_map (type_block name text) faults.items)
-error_blocks name text Memory = None

@@ -7,7 +7,6 @@ pub mod Order
 pub mod Homes
 pub mod Holdings
 pub mod Explains
-pub mod ExplainedSeen
 pub mod Laws
 -- What code keeps; no public clause speaks of it.
 pub mod Turns

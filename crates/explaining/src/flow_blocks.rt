@@ -17,11 +17,12 @@ use crate::sentences::{rule_mend, rule_sentence};
 use crate::spans::{push_span_excerpt, push_span_quote};
 use crate::turns::{Turn, turns_of};
 use crate::ways::push_way;
-use flow_check::{push_fault, room_for, shows_way};
 use flow_rules::{FlowFault, Rule};
 use pt_base::Span;
+use refusal_lines::{push_fault, shows_way};
 use sides::all_slots;
 use source_places::Lines;
+use stages::room_for;
 use std::alloc::{AllocError, Global};
 use typed_tree::Typed;
 
@@ -188,10 +189,14 @@ fn blocks_in_turn(
     Ok(text)
 }
 
-/// The blocks that explain the faults of a program's flows, of which each stands once and in order. Those of
-/// one beginning stand together. Time is linear in the text and in what is written, but for putting the
-/// faults in order and finding their lines.
-pub(crate) fn flow_blocks(
+/// The blocks that explain the faults of a program's flows, of which each stands once and in order: of the program of
+/// this text and typed tree, in a file of this name. Those of one beginning stand together. Time is linear in the text
+/// and in what is written, but for putting the faults in order and finding their lines.
+///
+/// # Errors
+///
+/// Want of memory; more than [`MOST_BYTES`](stages::MOST_BYTES) of blocks are that too.
+pub fn flow_fault_blocks(
     alloc: Global,
     name: &[u8],
     program: &[u8],

@@ -1,5 +1,5 @@
 // The blocks that explain faults of lexer, parser and types.
-ghost use Rattle.std.specs.Prelude.{◌≡◌, ◌++◌, IfOk, OnOk, Some, codes, length, ltb, slice_index_or};
+ghost use Rattle.std.specs.Prelude.{◌≡◌, ◌++◌, IfOk, OnOk, codes, length, ltb, slice_index_or};
 ghost use Rattle.std.specs.List.{flat_map};
 ghost use Rattle.front_end.specs.FaultLines as lines_are;
 ghost use Rattle.source_places.specs.LinesSeen.{text_of};
@@ -9,10 +9,10 @@ use crate::sentences::{lex_sentence, parse_sentence, type_sentence};
 use crate::spans::push_span_excerpt;
 use c_lexer::{LexFault, LexFaultKind};
 use check_declarations::{FaultKind, TypeFault};
-use flow_check::room_for;
-use front_end::{FrontError, ParseFault, push_numbered, push_span};
+use front_end::{ParseFault, push_numbered, push_span};
 use pt_base::Span;
 use source_places::{Lines, push_number};
+use stages::room_for;
 use std::alloc::{AllocError, Global};
 
 // the byte at an offset; 0 behind the end
@@ -128,8 +128,13 @@ fn lex_block_at(
     Ok(text)
 }
 
-// the block that explains why a text has no tokens
-fn lex_block(
+/// The block that explains why the text of a file of this name has no tokens. Time is linear in the text and in what is
+/// written.
+///
+/// # Errors
+///
+/// Want of memory alone.
+pub fn lex_block(
     alloc: Global,
     name: &[u8],
     program: &[u8],
@@ -176,8 +181,13 @@ fn parse_block_in(
     Ok(text)
 }
 
-// the block that explains why a text's tokens are no program
-fn parse_block(
+/// The block that explains why the tokens of the text of a file of this name are no program. Time is linear in the text
+/// and in what is written.
+///
+/// # Errors
+///
+/// Want of memory alone.
+pub fn parse_block(
     alloc: Global,
     name: &[u8],
     program: &[u8],
@@ -253,8 +263,13 @@ fn blocks_of(
     Ok(text)
 }
 
-// the blocks that explain the type faults of a program
-fn type_blocks(
+/// The blocks that explain the type faults of the program of this text, in a file of this name. Time is linear in the
+/// text and in what is written, but for finding the lines of faults.
+///
+/// # Errors
+///
+/// Want of memory; more than [`MOST_BYTES`](stages::MOST_BYTES) of blocks are that too.
+pub fn type_blocks(
     alloc: Global,
     name: &[u8],
     program: &[u8],
@@ -265,26 +280,4 @@ fn type_blocks(
     let lines = Lines::new(alloc, program)?;
     let text = blocks_of(alloc, name, &lines, faults)?;
     Ok(text)
-}
-
-/// The blocks that explain why the text of a file of this name has no typed tree. Time is linear in the text
-/// and in what is written, but for finding the lines of faults.
-///
-/// # Errors
-///
-/// Want of memory, here or there; more than [`MOST_BYTES`](flow_check::MOST_BYTES) of blocks are that too.
-pub fn error_blocks(
-    alloc: Global,
-    name: &[u8],
-    program: &[u8],
-    error: FrontError,
-) -> Result<Vec<u8>, AllocError>
-    ensures { IfOk result (λ text. is.error_blocks name.now program.now error ≡ Some text.items) }
-{
-    match error {
-        FrontError::Lex(fault) => lex_block(alloc, name, program, fault),
-        FrontError::Parse(fault) => parse_block(alloc, name, program, fault),
-        FrontError::Types(faults) => type_blocks(alloc, name, program, &faults),
-        FrontError::Memory => Err(AllocError),
-    }
 }

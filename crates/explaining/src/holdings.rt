@@ -7,11 +7,12 @@ ghost use Rattle.flow_rules.specs.Faults.{IsAccepted};
 ghost use Rattle.explaining.specs.Explains.{HasHoldings};
 ghost use Rattle.explaining.specs.Holdings as is;
 
-use flow_check::{ShownSlot, push_fields, room_for, shown_slots, variable_of};
+use flow_check::{ShownSlot, push_fields, shown_slots, variable_of};
 use flow_rules::Accepted;
 use pt_base::FnId;
 use sides::{Owner, SlotInfo};
 use source_places::Lines;
+use stages::room_for;
 use std::alloc::{AllocError, Global};
 use typed_tree::{StructInfo, Typed, Var};
 
@@ -122,8 +123,14 @@ fn lines_of(
     Ok(text)
 }
 
-/// The lines that tell which variables of a program that breaks no rule hold secrets.
-pub(crate) fn holdings(
+/// The lines that tell which variables hold secrets of a program that breaks no rule: of this text and typed tree, in a
+/// file of this name. Time is linear in the text, in the program's slots and in what is written, but for putting slots
+/// in order and finding their lines.
+///
+/// # Errors
+///
+/// Want of memory; more than [`MOST_BYTES`](stages::MOST_BYTES) of lines are that too.
+pub fn holding_lines(
     alloc: Global,
     name: &[u8],
     program: &[u8],

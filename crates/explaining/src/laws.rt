@@ -1,13 +1,7 @@
 // What holds of explanations.
-ghost use Rattle.explaining.specs.Laws.{ExplainedIsReported, FirstBytesAreEnough, FirstBytesHold};
+ghost use Rattle.explaining.specs.Laws.{FirstBytesAreEnough};
 
-/// One byte more than a text may have is enough: what is told of those bytes holds of the whole text.
+/// One byte more than a text may have is enough: what those bytes come to, the whole text comes to. It does nothing.
 pub fn first_bytes_are_enough()
-    ensures explained { FirstBytesAreEnough }
-    ensures held { FirstBytesHold }
-{}
-
-/// What is explained of a text is what `check` may report of it.
-pub fn explained_is_reported()
-    ensures { ExplainedIsReported }
+    ensures { FirstBytesAreEnough }
 {}

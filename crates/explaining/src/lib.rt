@@ -2,7 +2,6 @@
 //! text with a mark under it, by which way a secret came there and how it may be mended.
 #![tactic(auto)]
 
-mod explained;
 mod explanations;
 mod flow_blocks;
 mod front_blocks;
@@ -16,8 +15,9 @@ mod spans;
 mod turns;
 mod ways;
 
-pub use explained::Explained;
-pub use explanations::{explain, explain_typed};
-pub use front_blocks::error_blocks;
-pub use laws::{explained_is_reported, first_bytes_are_enough};
+pub use explanations::explain;
+pub use flow_blocks::flow_fault_blocks;
+pub use front_blocks::{lex_block, parse_block, type_blocks};
+pub use holdings::holding_lines;
+pub use laws::first_bytes_are_enough;
 pub use spans::push_span_excerpt;

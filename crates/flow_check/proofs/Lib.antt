@@ -1,5 +1,3 @@
-pub mod Cuts
-mod JudgeLemmas
 pub mod LineLemmas
 mod NumberLemmas
 pub mod OneOutcome

@@ -1,10 +1,9 @@
--- The lines of slots and faults, tried by computing.
+-- The lines of slots, tried by computing.
 use Rattle.std.proofs.Common.{◌≡◌, ℕ, refl, false, Some, None, List, [], ◌∷◌, codes, map}
 use Rattle.std.specs.Fmt.{digits}
 use Rattle.pt_base.specs.declared.int_type.IntType.TheVariants as i
 use Rattle.pt_base.specs.declared.span.Span.{Span}
 use Rattle.pt_tree.specs.declared.signature.Elem.TheVariants as el
-use Rattle.reach.specs.Tables.{slot_number}
 use Rattle.sides.proofs.Worked.{span, int, function, body}
 use Rattle.sides.specs.Leaves.{leaves_of}
 use Rattle.sides.specs.Slots.{slot_at, slots_of}
@@ -13,9 +12,6 @@ use Rattle.typed_tree.specs.declared.types.VarTy.{VarTy}
 use Rattle.typed_tree.specs.declared.types.VarTy.TheVariants as ty
 use Rattle.typed_tree.specs.declared.variable.Var.{Var}
 use Rattle.typed_tree.specs.TypedTree.{TypedTree}
-use Rattle.flow_rules.specs.declared.fault.FlowFault.{FlowFault}
-use Rattle.flow_rules.specs.declared.rule.Rule.TheVariants.{PrivStatus, PrivToHost, UnmarkedOut}
-use Rattle.flow_check.specs.FlowLines.{flow_lines}
 use Rattle.flow_check.specs.Shown.{name_at}
 use Rattle.flow_check.specs.SlotLines.{slot_line}
 
@@ -46,19 +42,3 @@ names_lines = refl
 names_places : map (λ n. name_at names (slot_at names n).owner) (0 ∷ 1 ∷ 3 ∷ 4 ∷ 5 ∷ []) ≡ 83 ∷ 116 ∷ 116 ∷ 123 ∷ 0 ∷ []
 unfolding slots_of leaves_of
 names_places = refl
-
--- ---- faults
-
-abbrev steps : FlowFault
-steps = record { rule = PrivStatus; span = span 114 115; origin = Some (slot_number 3); path = span 63 70 ∷ span 102 104 ∷ [] }
-
-abbrev at_once : FlowFault
-at_once = record { rule = PrivToHost; span = span 157 164; origin = Some (slot_number 2); path = [] }
-
-abbrev marks_alone : FlowFault
-marks_alone = record { rule = UnmarkedOut; span = span 34 35; origin = None; path = [] }
-
-faults_lines : flow_lines (steps ∷ at_once ∷ marks_alone ∷ [])
-    ≡ codes "flow 8 PrivStatus 114..115 path 63..70 102..104\nflow 2 PrivToHost 157..164 path\nflow 5 UnmarkedOut 34..35\n"
-unfolding digits
-faults_lines = refl

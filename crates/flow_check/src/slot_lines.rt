@@ -9,13 +9,13 @@ ghost use Rattle.flow_check.specs.Kept.{kept_lines};
 ghost use Rattle.flow_check.specs.SlotLines as is;
 
 use crate::line_end::LineEnd;
-use crate::room::room_for;
 use crate::shown::{ShownSlot, shown_slots};
 use crate::variables::variable_of;
 use flow_rules::Accepted;
 use pt_base::Span;
 use pt_tree::Elem;
 use sides::SlotInfo;
+use stages::room_for;
 use std::alloc::{AllocError, Global};
 use typed_tree::{Field, StructInfo, Typed, Var, VarTy};
 

@@ -1,24 +1,18 @@
--- What is drawn of the first bytes of a text is drawn of the whole text.
-use Rattle.std.proofs.Common.{◌≡◌, ◌≤◌, ℕ, List, length, min, take, subst, arith}
-use Rattle.std.proofs.lemmas.List.{length-take, take_all}
-use Rattle.flow_check.specs.Checked.{lex, parse, types, flow, refused as stopped}
-use Rattle.flow_check.proofs.Cuts.{cut_whole}
+-- Texts of which only the first bytes were read, one more than each may have, come to what the whole texts come to.
+use Rattle.std.proofs.Common.{ℕ, List, [], subst}
+use Rattle.front_end.specs.Reading.{HasTypedTree}
+use Rattle.typed_tree.specs.TypedTree.{TypedTree}
+use Rattle.stages.specs.Climb.{Texts}
+use Rattle.stages.specs.Commands.{AreCut}
+use Rattle.stages.proofs.Commands.{whole_climb}
+use Rattle.stages.proofs.Cuts.{short_cut}
 use Rattle.flow_picture.specs.Laws.{FirstBytesAreEnough}
-use Rattle.flow_picture.specs.Pictures.{ComesTo, refused, faulty, drawn}
+use Rattle.flow_picture.specs.Pictures.{AreJudged, IsPicture, IsPictured, Picture}
 
-abbrev first : List ℕ → List ℕ
-first text = take 1048577 text
-
--- a text is whole whose first bytes are few
-short_cut : (text : List ℕ) → length (first text) ≤ 1048576 → first text ≡ text
-short_cut text short =
-    take_all 1048577 text (let same : length (first text) ≡ min 1048577 (length text) = length-take 1048577 text in
-    let small : length (first text) ≤ 1048576 = short in omega arith)
+picture_whole : (whole cut : Texts) (p : Picture) → AreCut whole cut → IsPictured cut p → IsPictured whole p
+picture_whole whole cut p are is =
+    subst (λ (xs : List ℕ). (tree : TypedTree) × HasTypedTree xs tree × AreJudged tree p.faults × IsPicture xs tree p.faults p.picture)
+    (short_cut whole.program cut.program are.program is.1.reads.lexed.short) is
 
 pub enough : FirstBytesAreEnough
-enough text (refused (lex fault)) comes = cut_whole text (stopped (lex fault)) comes
-enough text (refused (parse fault)) comes = cut_whole text (stopped (parse fault)) comes
-enough text (refused (types faults)) comes = cut_whole text (stopped (types faults)) comes
-enough text (refused (flow faults)) comes = comes
-enough text (faulty faults picture) comes = subst (λ xs. ComesTo xs (faulty faults picture)) (short_cut text comes.1.reads.lexed.short) comes
-enough text (drawn picture) comes = subst (λ xs. ComesTo xs (drawn picture)) (short_cut text comes.1.reads.lexed.short) comes
+enough = whole_climb [] IsPictured picture_whole

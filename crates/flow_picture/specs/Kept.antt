@@ -114,10 +114,10 @@ way_arrows nodes shown told e = if is_told told e.span then edge_arrows nodes sh
 
 -- ---- faults
 
--- none, where the rules answer that there are none
-abbrev pub answered : Answer Accepted FlowError → Option (Option (List FlowFault))
-answered (Ok a) = Some None
-answered (Err (Faults fs)) = Some (Some fs)
+-- those that the rules answer, none of a program that is accepted; want of memory tells nothing
+abbrev pub answered : Answer Accepted FlowError → Option (List FlowFault)
+answered (Ok a) = Some []
+answered (Err (Faults fs)) = Some fs
 answered (Err Memory) = None
 
 -- all steps of the ways of faults

@@ -1,5 +1,5 @@
 -- What holds of pictures.
-use Rattle.std.specs.Prelude.{◌<◌, ◌≤◌, ◌↔◌, ℕ, List, length, take, IsTrue}
+use Rattle.std.specs.Prelude.{◌<◌, ◌≤◌, ◌↔◌, ℕ, List, [], length, IsTrue}
 use Rattle.std.specs.List.{Contains}
 use Rattle.typed_tree.specs.TypedTree.{TypedTree}
 use Rattle.typed_tree.specs.WellFormed.{is_well_formed}
@@ -7,11 +7,13 @@ use Rattle.flow_law.specs.SlotsLaws.{HasFewSlots}
 use Rattle.flow_rules.specs.declared.fault.FlowFault.{FlowFault}
 use Rattle.flow_picture.specs.declared.node.Node.{Node}
 use Rattle.flow_picture.specs.Objects.{HoldsSecret, IsObject, shown_of}
-use Rattle.flow_picture.specs.Pictures.{ComesTo, Drawing, IsPicture}
+use Rattle.stages.specs.Climb.{Texts}
+use Rattle.stages.specs.Commands.{AreCut, Climb, ComesTo}
+use Rattle.flow_picture.specs.Pictures.{IsPicture, IsPictured, Picture}
 
--- what is drawn of the first bytes of a text, one more than it may have, is drawn of the whole text
+-- what the first bytes of texts come to, one more than each may have, the whole texts come to
 abbrev pub FirstBytesAreEnough : Type 0
-FirstBytesAreEnough = (text : List ℕ) (d : Drawing) → ComesTo (take 1048577 text) d → ComesTo text d
+FirstBytesAreEnough = (whole cut : Texts) (o : Climb Picture) → AreCut whole cut → ComesTo [] IsPictured cut o → ComesTo [] IsPictured whole o
 
 -- each well formed program of at most 2^25 slots has a picture, whatever faults it is to show
 abbrev pub ProgramsHavePictures : Type 0

@@ -1,5 +1,5 @@
 -- What drawing a text comes to.
-use Rattle.std.specs.Prelude.{◌≡◌, ℕ, List, [], length}
+use Rattle.std.specs.Prelude.{◌≡◌, ℕ, List, [], ◌∷◌, length}
 use Rattle.front_end.specs.Reading.{HasTypedTree}
 use Rattle.sides.specs.declared.halves.Sides.{Sides}
 use Rattle.sides.specs.Placed.{AreSides}
@@ -7,7 +7,8 @@ use Rattle.typed_tree.specs.TypedTree.{TypedTree}
 use Rattle.flow_rules.specs.declared.accepted.Accepted.{Accepted}
 use Rattle.flow_rules.specs.declared.fault.FlowFault.{FlowFault}
 use Rattle.flow_rules.specs.Faults.{IsAccepted}
-use Rattle.flow_check.specs.Checked.{HasFlowFaults, IsRefused, Refusal, lex, parse, types, flow}
+use Rattle.stages.specs.Climb.{Texts}
+use Rattle.stages.specs.FlowFaults.{HasFlowFaults}
 use Rattle.flow_picture.specs.declared.arrow.Arrow.{Arrow}
 use Rattle.flow_picture.specs.declared.node.Node.{Node}
 use Rattle.flow_picture.specs.Arrows.{AreArrows, IsArrow, IsWay}
@@ -33,21 +34,16 @@ pub record IsPicture (text : List ℕ) (t : TypedTree) (faults : List FlowFault)
   pub ways_are : AreArrows (IsWay t sides (shown_of objects secrets) faults) ways
   pub text_is : picture ≡ picture_text text (node_at t) t (length objects) (shown_of objects secrets) secrets seeds arrows ways faults
 
--- What drawing a text comes to: the faults of lexer, parser or types; faults of flows and the picture with them;
--- or the picture of a program that breaks no rule.
-pub data Drawing : Type 0 where
-  refused : Refusal → Drawing
-  faulty : List FlowFault → List ℕ → Drawing
-  drawn : List ℕ → Drawing
+-- these are the faults of the program's flows; there are none where it breaks no rule
+abbrev pub AreJudged : TypedTree → List FlowFault → Type 0
+AreJudged t [] = (a : Accepted) × IsAccepted t a
+AreJudged t (f ∷ fs) = HasFlowFaults t (f ∷ fs)
 
--- these are the faults of lexer, parser or types
-abbrev pub IsUnread : List ℕ → Refusal → Type 0
-IsUnread text (lex fault) = IsRefused text (lex fault)
-IsUnread text (parse fault) = IsRefused text (parse fault)
-IsUnread text (types faults) = IsRefused text (types faults)
-IsUnread text (flow faults) = ⊥
+-- A picture, and the faults of flows that it shows.
+pub record Picture : Type 0 where
+  pub faults : List FlowFault
+  pub picture : List ℕ
 
-abbrev pub ComesTo : List ℕ → Drawing → Type 0
-ComesTo text (refused refusal) = IsUnread text refusal
-ComesTo text (faulty faults picture) = (t : TypedTree) × HasTypedTree text t × (HasFlowFaults t faults × IsPicture text t faults picture)
-ComesTo text (drawn picture) = (t : TypedTree) × HasTypedTree text t × (((a : Accepted) × IsAccepted t a) × IsPicture text t [] picture)
+-- the program has a typed tree, these are the faults of its flows, and it is the picture with them
+abbrev pub IsPictured : Texts → Picture → Type 0
+IsPictured t p = (tree : TypedTree) × HasTypedTree t.program tree × AreJudged tree p.faults × IsPicture t.program tree p.faults p.picture

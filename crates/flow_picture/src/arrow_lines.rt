@@ -8,7 +8,7 @@ ghost use Rattle.flow_picture.specs.PictureText as is;
 use crate::arrow::Arrow;
 use crate::node::push_name;
 use crate::search::has_arrow;
-use flow_check::room_for;
+use stages::room_for;
 use std::alloc::AllocError;
 
 // appends how thick an arrow is

@@ -10,9 +10,9 @@ use crate::functions::is_monitors;
 use crate::node::Node;
 use crate::node_lines::push_node;
 use crate::shown::are_many;
-use flow_check::room_for;
 use reach::Half;
 use source_places::push_number;
+use stages::room_for;
 use std::alloc::AllocError;
 use typed_tree::Typed;
 

@@ -18,10 +18,10 @@ use crate::fault_nodes::push_faults;
 use crate::node::Node;
 use crate::objects::Objects;
 use crate::shown::shown_of;
-use flow_check::room_for;
 use flow_rules::FlowFault;
 use pt_base::Edge;
 use source_places::Lines;
+use stages::room_for;
 use std::alloc::{AllocError, Global};
 use typed_tree::Typed;
 

@@ -9,10 +9,10 @@ ghost use Rattle.flow_picture.specs.PictureText as is;
 use crate::arrow::node_in;
 use crate::node::{Node, push_name};
 use crate::search::has_node;
-use flow_check::room_for;
 use flow_rules::FlowFault;
 use pt_base::Slot;
 use source_places::{Lines, Place, push_number};
+use stages::room_for;
 use std::alloc::AllocError;
 
 // appends `LINE:COLUMN`

@@ -1,7 +1,7 @@
 // What holds of pictures.
 ghost use Rattle.flow_picture.specs.Laws.{FirstBytesAreEnough, ObjectsAreShown, ProgramsHavePictures};
 
-/// One byte more than a text may have is enough: what is drawn of those bytes is drawn of the whole text.
+/// One byte more than a text may have is enough: what those bytes come to, the whole text comes to.
 pub fn first_bytes_are_enough()
     ensures { FirstBytesAreEnough }
 {}

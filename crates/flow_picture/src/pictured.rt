@@ -1,12 +1,13 @@
-// What drawing a text comes to.
+// A picture.
+use flow_rules::FlowFault;
+use pt_base::Listed;
 
-/// What drawing a text comes to.
+/// The picture of a program's flows.
 #[derive(Drop)]
-pub enum Pictured {
-    /// The lexer, the parser or types have faults: the lines of `check`.
-    Refused(Vec<u8>),
-    /// Flows have faults: the picture with them, and the lines of `check`.
-    Faulty { picture: Vec<u8>, report: Vec<u8> },
-    /// The program breaks no rule: the picture.
-    Drawn(Vec<u8>),
+pub struct Pictured {
+    /// Its text, in the language DOT.
+    pub picture: Vec<u8>,
+    /// The faults of flows that it shows, by where they begin, then by where they end, then by the number of the
+    /// rule; none where the program breaks no rule.
+    pub faults: Listed<FlowFault>,
 }

@@ -15,8 +15,7 @@ use Rattle.pair_meaning.specs.Monitors.{Monitor}
 use Rattle.monitor_soundness_law.specs.ServingLaws.{MonitorsBeginSound}
 use Rattle.monitor_soundness_law.specs.ServingSound.{HostsServe, IsSound}
 use Rattle.monitor_soundness_law.proofs.ServingEntries.{facts_of_entry, sound_of}
-use Rattle.pair_texts.specs.OutcomeSeen.{HaveBegun}
-use Rattle.pair_texts.specs.Start.{Texts}
+use Rattle.pair_texts.specs.Start.{HaveBegun, Texts}
 use Rattle.pair_laws.specs.BegunPairsLaws.{BegunMonitorsAreWellFormed, BegunMonitorsHostsServe, HostsAre, with_hosts}
 use Rattle.hidden_laws.specs.HiddenRunsLaws.{BegunRunsAreLow, RunsAreLow, RunsGoAlike}
 

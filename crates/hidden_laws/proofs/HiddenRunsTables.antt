@@ -24,8 +24,7 @@ use Rattle.pt_core.specs.CodeTree.{BootTree, SlaveTree}
 use Rattle.pt_core.specs.BootLaw.{boot_with}
 use Rattle.pair_meaning.specs.Monitors.{Monitor}
 use Rattle.pair_meaning.specs.Start.{boot_of, input_for, models_for}
-use Rattle.pair_texts.specs.OutcomeSeen.{HaveBegun}
-use Rattle.pair_texts.specs.Start.{Texts}
+use Rattle.pair_texts.specs.Start.{HaveBegun, Texts}
 use Rattle.hidden_laws.specs.HiddenRunsLaws.{AreSameOfPlain, BootsAndRulesTellAll, PrivilegedRowsAreHidden}
 
 -- ---- the slave's own hosts

@@ -7,8 +7,7 @@ use Rattle.policy.specs.Verdicts.{start}
 use Rattle.splitter.specs.Halves.{called_by, halves_of}
 use Rattle.pt_core.specs.CodeTree.{BootTree}
 use Rattle.pair_meaning.specs.Monitors.{Low, Monitor, low}
-use Rattle.pair_texts.specs.OutcomeSeen.{HaveBegun}
-use Rattle.pair_texts.specs.Start.{Texts}
+use Rattle.pair_texts.specs.Start.{HaveBegun, Texts}
 use Rattle.hidden_laws.specs.HiddenRunsLaws.{BegunRunsAreLow, BootsAndRulesTellAll}
 use Rattle.hidden_laws.proofs.HiddenRunsEntries.{entries_same}
 

@@ -12,8 +12,7 @@ use Rattle.pair_meaning.specs.Monitors.{Monitor, low}
 use Rattle.pair_meaning.specs.Streams.{serve_frames}
 use Rattle.monitor_soundness_law.specs.ServingSound.{IsSound}
 use Rattle.low_views_law.specs.Alike.{GoAlike, TellTheSame}
-use Rattle.pair_texts.specs.OutcomeSeen.{HaveBegun}
-use Rattle.pair_texts.specs.Start.{Texts}
+use Rattle.pair_texts.specs.Start.{HaveBegun, Texts}
 pub use Rattle.pair_laws.specs.BegunPairsLaws.{HostsAre, with_hosts}
 use Rattle.hidden_laws.specs.HiddenRunsRuns.{AreSeenAlike, IsRun, frames_of, sent_by}
 

@@ -1,8 +1,7 @@
 pub mod Cuts
-pub mod LineLemmas
 pub mod OneOutcome
-pub mod OneSeen
 pub mod RunLemmas
+mod Parts
 mod MachineRunEndLemmas
 mod MachineRunGateLemmas
 mod MachineRun

@@ -1,5 +1,5 @@
+pub mod Laws
 pub mod Original
-pub mod OutcomeSeen
 pub mod Seen
 pub mod MachineRunHeard
 pub mod MachineRunHostGates

@@ -1,6 +1,5 @@
 // What holds of all texts.
-ghost use Rattle.original.specs.Original.{CutsAreEnough, OutcomeIsOne};
-ghost use Rattle.original.specs.Seen.{SeenIsOne};
+ghost use Rattle.original.specs.Laws.{CutsAreEnough, OrigIsNeverRefused, OutcomeIsOne};
 
 /// Texts come to one outcome at most within a budget of turns. It does nothing.
 pub fn texts_have_one_outcome()
@@ -13,8 +12,7 @@ pub fn first_bytes_are_enough()
     ensures { CutsAreEnough }
 {}
 
-/// Of texts out's bytes, the report and the status of a run of them within a budget of turns are one at most. It
-/// does nothing.
-pub fn seen_is_one()
-    ensures { SeenIsOne }
+/// No run ends because a policy refuses a call. It does nothing.
+pub fn orig_is_never_refused()
+    ensures { OrigIsNeverRefused }
 {}

@@ -1,14 +1,14 @@
-//! The original program: from its text, its host table and its input to what it writes and how it ends, or to the
-//! faults of the first stage that has one. No policy is asked. It is run on the step machine: lowered in threads,
-//! entered at main, with the hosts of a table behind its gate.
+//! The original program: from its text, its host table and its input to what hosts write in its run and how that ends.
+//! The texts go through lexer, parser, types, host table and input first, and the first of them that has a fault refuses
+//! them. No policy is asked. The program is run on the step machine: lowered in threads, entered at main, with the hosts of
+//! a table behind its gate.
 #![tactic(auto)]
 
 mod laws;
 mod machine_run;
-mod outcome;
+mod ran;
 mod running;
-mod stages;
 
-pub use laws::{first_bytes_are_enough, seen_is_one, texts_have_one_outcome};
-pub use outcome::{Ended, Outcome};
-pub use stages::outcome_of;
+pub use laws::{first_bytes_are_enough, orig_is_never_refused, texts_have_one_outcome};
+pub use ran::Ran;
+pub use running::run;

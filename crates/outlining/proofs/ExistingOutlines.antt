@@ -15,6 +15,7 @@ halves_outlined t slave monitor =
     (outline_text t slave monitor table.0 policy.0, record { table = table.0; table_is = table.1; policy = policy.0; policy_is = policy.1; out_is = refl })
 
 pub accepted_outlined : AcceptedTextsHaveOutlines
-accepted_outlined text t a typed is =
-    let out = halves_outlined t (slave_half t a) (monitor_half t a) in
-    (out.0, record { tree = t; typed = typed; accepted = a; is = is; outlined = out.1 })
+accepted_outlined t tree passed =
+    let a = passed.1.0 in
+    let out = halves_outlined tree (slave_half tree a.0) (monitor_half tree a.0) in
+    (out.0, record { tree = tree; typed = passed.0; accepted = a.0; is = a.1; outlined = out.1 })

@@ -2,7 +2,6 @@
 pub mod EntryTexts
 pub mod OutlineTexts
 pub mod Outlines
-pub mod OutlinedSeen
 pub mod Laws
 -- What code keeps; no public clause speaks of it.
 pub mod Added

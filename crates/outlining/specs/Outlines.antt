@@ -4,9 +4,9 @@ use Rattle.front_end.specs.Reading.{HasTypedTree}
 use Rattle.typed_tree.specs.TypedTree.{TypedTree}
 use Rattle.flow_rules.specs.declared.accepted.Accepted.{Accepted}
 use Rattle.flow_rules.specs.Faults.{IsAccepted}
-use Rattle.flow_check.specs.Checked.{IsRefused, Refusal}
 use Rattle.pt_core.specs.CodeTree.{MonitorTree, SlaveTree}
 use Rattle.program_halves.specs.ProgramHalves.{monitor_half, slave_half}
+use Rattle.stages.specs.Climb.{Texts}
 use Rattle.starting_texts.specs.declared.texts.StartingTable.{StartingTable}
 use Rattle.starting_texts.specs.declared.texts.StartingPolicy.{StartingPolicy}
 use Rattle.starting_texts.specs.Tables.{IsStartingTable}
@@ -22,18 +22,9 @@ pub record IsOutlineOf (t : TypedTree) (slave : SlaveTree) (monitor : MonitorTre
   pub out_is : out ≡ outline_text t slave monitor table policy
 
 -- no stage has a fault, and it is the outline of the program
-pub record IsOutline (text out : List ℕ) : Type 0 where
+pub record IsOutline (t : Texts) (out : List ℕ) : Type 0 where
   pub tree : TypedTree
-  pub typed : HasTypedTree text tree
+  pub typed : HasTypedTree t.program tree
   pub accepted : Accepted
   pub is : IsAccepted tree accepted
   pub outlined : IsOutlineOf tree (slave_half tree accepted) (monitor_half tree accepted) out
-
--- What a text comes to: the faults of the first stage that has one, or the outline of its program.
-pub data Outcome : Type 0 where
-  refused : Refusal → Outcome
-  outline : List ℕ → Outcome
-
-abbrev pub ComesTo : List ℕ → Outcome → Type 0
-ComesTo text (refused refusal) = IsRefused text refusal
-ComesTo text (outline out) = IsOutline text out

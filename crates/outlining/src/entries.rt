@@ -7,10 +7,10 @@ ghost use Rattle.outlining.specs.OutlineTexts as whole;
 ghost use Rattle.outlining.specs.StructCells.{is_marked_in};
 
 use crate::struct_cells::{Cells, is_marked_in};
-use flow_check::room_for;
 use pt_base::FnId;
 use pt_core::Entry;
 use pt_tree::{Param, ParamKind, Signature};
+use stages::room_for;
 use std::alloc::AllocError;
 use typed_tree::Typed;
 

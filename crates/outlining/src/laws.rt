@@ -1,7 +1,7 @@
 // What holds of outlines.
 ghost use Rattle.outlining.specs.Laws.{AcceptedTextsHaveOutlines, FirstBytesAreEnough, WordsTellCells};
 
-/// A text of which only the first 1,048,577 bytes were read comes to what the whole text comes to. It does
+/// Texts of which only the first 1,048,577 bytes were read come to what the whole texts come to. It does
 /// nothing.
 pub fn first_bytes_are_enough()
     ensures { FirstBytesAreEnough }
@@ -12,7 +12,7 @@ pub fn words_tell_cells()
     ensures { WordsTellCells }
 {}
 
-/// Each text in which no stage of `check` has a fault has an outline. It does nothing.
+/// Texts in which no stage of `check` has a fault have an outline. It does nothing.
 pub fn accepted_texts_have_outlines()
     ensures { AcceptedTextsHaveOutlines }
 {}

@@ -6,11 +6,9 @@ mod entries;
 mod halves;
 mod laws;
 mod lines;
-mod outlined;
 mod outlines;
 mod starting;
 mod struct_cells;
 
 pub use laws::{accepted_texts_have_outlines, first_bytes_are_enough, words_tell_cells};
-pub use outlined::Outlined;
 pub use outlines::outline;

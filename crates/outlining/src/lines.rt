@@ -4,9 +4,9 @@ ghost use Rattle.pt_core.specs.CodeTree.{view_function, view_global};
 ghost use Rattle.typed_tree.specs.TypedView.{view_typed};
 ghost use Rattle.outlining.specs.OutlineTexts as is;
 
-use flow_check::room_for;
 use pt_base::FnId;
 use pt_core::{CoreFn, GlobalVar};
+use stages::room_for;
 use std::alloc::AllocError;
 use typed_tree::Typed;
 

@@ -1,4 +1,5 @@
 pub mod Cuts
-mod PairLemmas
+pub mod GivenBlocks
 pub mod Reports
 mod ShownLines
+pub mod Told

@@ -2,7 +2,7 @@
 -- entry is told where the program declares its host, with that line and a mark under it. An empty line ends a block.
 use Rattle.std.specs.Prelude.{ℕ, List, [], ◌++◌, Option, codes, option_and_then}
 use Rattle.std.specs.Option.{option_map_or}
-use Rattle.host_lines.specs.HostLines.{host_line}
+use Rattle.refusal_lines.specs.HostLines.{host_line}
 use Rattle.host_table.specs.declared.fault.HostFault.{HostFault}
 use Rattle.host_table.specs.ReportLines.{faulty_function}
 use Rattle.typed_tree.specs.Lookup.{function_at}

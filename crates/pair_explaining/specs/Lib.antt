@@ -3,6 +3,7 @@ pub mod PairSentences
 pub mod PairNames
 pub mod HostBlocks
 pub mod PolicyBlocks
+pub mod RefusalBlocks
 pub mod PairExplains
 pub mod PairSeen
 pub mod Laws

@@ -2,7 +2,7 @@
 -- and the line that `local` reports. An empty line ends it.
 use Rattle.std.specs.Prelude.{ℕ, List, [], ◌++◌, codes, if◌then◌else◌, nat_eq}
 use Rattle.policy.specs.declared.error.PolicyFault.{PolicyFault}
-use Rattle.pair_texts.specs.Start.{policy_line}
+use Rattle.refusal_lines.specs.Lines.{policy_line}
 use Rattle.source_places.specs.declared.place.Place.{Place}
 use Rattle.source_places.specs.Excerpts.{line_excerpt}
 use Rattle.source_places.specs.Heads.{head_of}

@@ -1,7 +1,7 @@
 // The blocks that explain the faults of a host table.
 ghost use Rattle.std.specs.Prelude.{◌≡◌, ◌++◌, IfOk, OnOk, option_map};
 ghost use Rattle.std.specs.List.{flat_map};
-ghost use Rattle.host_lines.specs.HostLines.{host_line};
+ghost use Rattle.refusal_lines.specs.HostLines.{host_line};
 ghost use Rattle.host_table.specs.ReportLines.{faulty_function};
 ghost use Rattle.source_places.specs.LinesSeen.{text_of};
 ghost use Rattle.typed_tree.specs.TypedTree.{view_function};
@@ -12,11 +12,11 @@ ghost use Rattle.pair_explaining.specs.PairSeen.{view_names};
 use crate::files::FileNames;
 use crate::sentences::push_host_sentence;
 use explaining::push_span_excerpt;
-use flow_check::room_for;
 use host_table::HostFault;
 use pt_base::FnId;
 use reach::function_at;
 use source_places::{Lines, Place, push_place};
+use stages::room_for;
 use std::alloc::{AllocError, Global};
 use typed_tree::{Typed, TypedFn};
 

@@ -1,6 +1,6 @@
 // The block that explains the fault of a policy.
 ghost use Rattle.std.specs.Prelude.{◌≡◌, ◌++◌, IfOk, OnOk};
-ghost use Rattle.pair_texts.specs.Start.{policy_line};
+ghost use Rattle.refusal_lines.specs.Lines.{policy_line};
 ghost use Rattle.source_places.specs.LinesSeen.{text_of};
 ghost use Rattle.pair_explaining.specs.PolicyBlocks as is;
 

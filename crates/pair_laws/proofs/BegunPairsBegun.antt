@@ -16,8 +16,7 @@ use Rattle.pt_core.specs.CodeTree.{BootTree}
 use Rattle.pt_core.specs.WellFormed.{is_well_formed_boot, is_well_formed_monitor}
 use Rattle.pair_meaning.specs.Monitors.{Monitor}
 use Rattle.pair_laws.specs.AcceptedPairsLaws.{HostsServe, monitor_half, AcceptedMonitorsAreWellFormed, BootsAreWellFormed, IsAcceptedWith, MonitorsHostsServe, HostsAre, with_hosts, boot_at, monitor_at, AcceptedPairsAreExpected, DoesWhatIsExpected, MayRun, expected_of}
-use Rattle.pair_texts.specs.OutcomeSeen.{HaveBegun}
-use Rattle.pair_texts.specs.Start.{Texts}
+use Rattle.pair_texts.specs.Start.{HaveBegun, Texts}
 use Rattle.pair_laws.specs.BegunPairsLaws.{BegunBootsAreWellFormed, BegunMonitorsAreWellFormed, BegunMonitorsHostsServe, BegunPairsAreExpected}
 
 -- ---- what both start from

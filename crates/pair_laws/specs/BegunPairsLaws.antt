@@ -7,8 +7,7 @@ use Rattle.pt_core.specs.CodeTree.{BootTree}
 use Rattle.pt_core.specs.WellFormed.{is_well_formed_boot, is_well_formed_monitor}
 use Rattle.pair_meaning.specs.Monitors.{Monitor}
 pub use Rattle.pair_laws.specs.AcceptedPairsLaws.{AcceptedPairsBegin, AcceptedSlavesStay, DoesWhatIsExpected, HostsAre, HostsServe, boot_at, expected_of, setting_of, with_hosts}
-use Rattle.pair_texts.specs.OutcomeSeen.{HaveBegun}
-use Rattle.pair_texts.specs.Start.{Texts}
+use Rattle.pair_texts.specs.Start.{HaveBegun, Texts}
 
 -- ---- what both start from
 

@@ -1,3 +1,3 @@
 pub mod Laws
-pub mod OutcomeSeen
+pub mod Seen
 pub mod Start

@@ -1,5 +1,5 @@
 // What holds of all texts.
-ghost use Rattle.pair_texts.specs.Laws.{CutsAreEnough, OutcomeIsOne};
+ghost use Rattle.pair_texts.specs.Laws.{CutsAreEnough, OutcomeIsOne, PassedTextsBegin};
 
 /// Texts come to one outcome at most within a budget of turns, but for the ways by which faults of flows
 /// show how a secret comes there. It does nothing.
@@ -11,4 +11,9 @@ pub fn texts_have_one_outcome()
 /// does nothing.
 pub fn first_bytes_are_enough()
     ensures { CutsAreEnough }
+{}
+
+/// A slave and a monitor start from texts that pass all stages. It does nothing.
+pub fn passed_texts_begin()
+    ensures { PassedTextsBegin }
 {}

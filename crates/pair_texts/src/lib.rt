@@ -1,15 +1,14 @@
-//! Where the pair begins: from the texts of a program, its host table, its policy and its input to
-//! what the slave and the monitor start from, or to the faults of the first stage that has one, of
-//! lexer, parser, types, host table, policy, flows and input.
+//! Where the pair begins: from the texts of a program, its host table, its policy and its input to what the slave and
+//! the monitor start from. The texts go through lexer, parser, types, host table, policy, flows and input first, and the
+//! first of them that has a fault refuses them.
 #![tactic(auto)]
 
-mod fault_text;
+mod beginning;
 mod laws;
 mod models;
 mod names;
-mod outcome;
-mod stages;
+mod pair;
 
-pub use laws::{first_bytes_are_enough, texts_have_one_outcome};
-pub use outcome::{Outcome, Pair};
-pub use stages::{Beside, outcome_of};
+pub use beginning::{Beside, begin};
+pub use laws::{first_bytes_are_enough, passed_texts_begin, texts_have_one_outcome};
+pub use pair::Pair;

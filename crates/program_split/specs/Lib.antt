@@ -1,4 +1,3 @@
 pub mod Laws
-pub mod OutcomeSeen
 pub mod Seen
 pub mod Split

@@ -1,11 +1,6 @@
--- What is seen of `split` with a given text, beside the files of the halves: out's bytes, the report and the
--- status.
-use Rattle.std.specs.Prelude.{[], codes}
-use Rattle.front_end.specs.FaultLinesSeen.{Seen, faulty}
-use Rattle.flow_check.specs.Checked.{lines_of}
-use Rattle.program_split.specs.Split.{Outcome, refused, split}
+-- What contracts see of the texts of halves.
+use Rattle.program_split.specs.Split as s
+use Rattle.program_split.specs.declared.half_texts.HalfTexts.{HalfTexts}
 
--- of what a text comes to
-abbrev pub shown : Outcome → Seen
-shown (refused refusal) = faulty (lines_of refusal)
-shown (split slave monitor) = record { out = []; report = codes "split\n"; status = 0 }
+abbrev pub view_texts : HalfTexts → s.HalfTexts
+view_texts h = record { slave = h.slave.items; monitor = h.monitor.items }

@@ -1,12 +1,17 @@
--- What the text of a program comes to when it is split.
+-- What texts come to when their program is split.
 use Rattle.std.specs.Prelude.{◌≡◌, ℕ, List}
 use Rattle.front_end.specs.Reading.{HasTypedTree}
 use Rattle.typed_tree.specs.TypedTree.{TypedTree}
 use Rattle.flow_rules.specs.declared.accepted.Accepted.{Accepted}
 use Rattle.flow_rules.specs.Faults.{IsAccepted}
-use Rattle.flow_check.specs.Checked.{Refusal, IsRefused}
 use Rattle.program_halves.specs.ProgramHalves.{monitor_half, slave_half}
 use Rattle.split_text.specs.Texts.{slave_text, monitor_text}
+use Rattle.stages.specs.Climb.{Texts}
+
+-- The texts of a program's halves.
+pub record HalfTexts : Type 0 where
+  pub slave : List ℕ
+  pub monitor : List ℕ
 
 -- the program breaks no rule, and these are the texts of its halves
 pub record HasHalves (t : TypedTree) (slave monitor : List ℕ) : Type 0 where
@@ -16,14 +21,5 @@ pub record HasHalves (t : TypedTree) (slave monitor : List ℕ) : Type 0 where
   pub monitor_is : monitor ≡ monitor_text (monitor_half t accepted)
 
 -- no stage has a fault, and these are the texts of the program's halves
-abbrev pub IsSplit : List ℕ → List ℕ → List ℕ → Type 0
-IsSplit text slave monitor = (tree : TypedTree) × HasTypedTree text tree × HasHalves tree slave monitor
-
--- What a text comes to: the faults of the first stage that has one, or the texts of its halves.
-pub data Outcome : Type 0 where
-  refused : Refusal → Outcome
-  split : List ℕ → List ℕ → Outcome
-
-abbrev pub ComesTo : List ℕ → Outcome → Type 0
-ComesTo text (refused refusal) = IsRefused text refusal
-ComesTo text (split slave monitor) = IsSplit text slave monitor
+abbrev pub IsSplit : Texts → HalfTexts → Type 0
+IsSplit t h = (tree : TypedTree) × HasTypedTree t.program tree × HasHalves tree h.slave h.monitor

@@ -1,8 +1,8 @@
 // What holds of all texts.
 ghost use Rattle.program_split.specs.Laws.{FirstBytesAreEnough, OutcomeIsOne};
 
-/// A text comes to one outcome at most, but for the ways by which its faults show how a secret comes
-/// there. It does nothing.
+/// Texts come to one outcome at most, but for the ways by which faults show how a secret comes there. It does
+/// nothing.
 pub fn texts_have_one_outcome()
     ensures { OutcomeIsOne }
 {}

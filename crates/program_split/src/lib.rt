@@ -1,11 +1,11 @@
-//! What a program comes to when it is split: from its text to the texts of its two halves, or to the
-//! faults of the first stage that has one, of lexer, parser, types and flows.
+//! The texts of the two halves of a program that breaks no rule. The text goes through lexer, parser, types and flows
+//! first, and the first of them that has a fault refuses it.
 #![tactic(auto)]
 
+mod half_texts;
 mod laws;
-mod outcome;
-mod stages;
+mod splitting;
 
+pub use half_texts::HalfTexts;
 pub use laws::{first_bytes_are_enough, texts_have_one_outcome};
-pub use outcome::Outcome;
-pub use stages::outcome_of;
+pub use splitting::split;

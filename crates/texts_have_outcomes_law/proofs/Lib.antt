@@ -1,6 +1,5 @@
 mod ShownSlots
 pub mod Judged
-pub mod Checks
-pub mod Splits
+pub mod Climbs
+pub mod Commands
 pub mod NoOutcomes
-pub mod Runs

@@ -1,5 +1,5 @@
--- What texts come to by `check`, `split` and `orig`.
-use Rattle.std.specs.Prelude.{◌<◌, ◌^◌, ◌⊎◌, ℕ, List, length, IsTrue}
+-- What texts come to: where they stop, or what `check`, `split` and `orig` make of them.
+use Rattle.std.specs.Prelude.{◌<◌, ◌^◌, ◌⊎◌, ℕ, List, [], ◌∷◌, Contains, length, IsTrue}
 use Rattle.typed_tree.specs.TypedTree.{TypedTree}
 use Rattle.typed_tree.specs.WellFormed.{is_well_formed}
 use Rattle.front_end.specs.Reading.{HasTypedTree}
@@ -8,12 +8,12 @@ use Rattle.flow_law.specs.SlotsLaws.{HasFewSlots}
 use Rattle.flow_rules.specs.declared.accepted.Accepted.{Accepted}
 use Rattle.flow_rules.specs.declared.fault.FlowFault.{FlowFault}
 use Rattle.flow_rules.specs.Faults.{IsAccepted}
-use Rattle.front_end.specs.FaultLinesSeen.{Seen}
-use Rattle.flow_check.specs.Checked as checks
-use Rattle.flow_check.specs.Checked.{HasFlowFaults}
-use Rattle.program_split.specs.Split as splits
-use Rattle.original.specs.Original.{Texts}
-use Rattle.original.specs.Seen as runs
+use Rattle.stages.specs.Climb.{HasPassed, IsRefused, Refusal, Stage, Texts, flows, hosts, inputs}
+use Rattle.stages.specs.Commands.{Climb, ComesTo}
+use Rattle.stages.specs.FlowFaults.{HasFlowFaults}
+use Rattle.flow_check.specs.Checked.{IsChecked}
+use Rattle.program_split.specs.Split.{HalfTexts, IsSplit}
+use Rattle.original.specs.Original.{IsOriginal, Ran}
 
 -- the program is accepted, or its flows have faults
 abbrev pub IsJudged : TypedTree → Type 0
@@ -27,19 +27,36 @@ ProgramsAreJudged = (t : TypedTree) → IsTrue (is_well_formed t) → HasFewSlot
 abbrev pub HasTooManySlots : List ℕ → Type 0
 HasTooManySlots text = (tree : TypedTree) × HasTypedTree text tree × (2 ^ 25 < length (slots_of tree))
 
+-- ---- all climbs
+
+-- a command refuses texts, or they pass its stages, but for programs of too many slots
+abbrev pub ClimbsEnd : Type 0
+ClimbsEnd = (ss : List Stage) (t : Texts) → ((r : Refusal) × IsRefused ss t r) ⊎ (((tree : TypedTree) × HasPassed ss t tree) ⊎ HasTooManySlots t.program)
+
+-- one that doesn't ask for flows refuses all texts that don't pass
+abbrev pub ClimbsEndWithoutFlows : Type 0
+ClimbsEndWithoutFlows = (ss : List Stage) (t : Texts) → (Contains ss flows → ⊥) → ((r : Refusal) × IsRefused ss t r) ⊎ ((tree : TypedTree) × HasPassed ss t tree)
+
+-- one that asks for flows first doesn't refuse a program of too many slots, and that doesn't pass
+abbrev pub TooManySlotsStopNothing : Type 0
+TooManySlotsStopNothing = (ss : List Stage) (t : Texts) → HasTooManySlots t.program →
+    ((r : Refusal) → IsRefused (flows ∷ ss) t r → ⊥) × ((tree : TypedTree) → HasPassed (flows ∷ ss) t tree → ⊥)
+
+-- ---- commands
+
 -- each text comes to an outcome of a check, but for programs of too many slots
 abbrev pub ChecksComeToAnOutcome : Type 0
-ChecksComeToAnOutcome = (text : List ℕ) → ((o : checks.Outcome) × checks.ComesTo text o) ⊎ HasTooManySlots text
+ChecksComeToAnOutcome = (t : Texts) → ((o : Climb (List ℕ)) × ComesTo (flows ∷ []) IsChecked t o) ⊎ HasTooManySlots t.program
 
 -- each text comes to an outcome of a split, but for the same
 abbrev pub SplitsComeToAnOutcome : Type 0
-SplitsComeToAnOutcome = (text : List ℕ) → ((o : splits.Outcome) × splits.ComesTo text o) ⊎ HasTooManySlots text
+SplitsComeToAnOutcome = (t : Texts) → ((o : Climb HalfTexts) × ComesTo (flows ∷ []) IsSplit t o) ⊎ HasTooManySlots t.program
 
 -- those come to none
 abbrev pub TooManySlotsHaveNoOutcome : Type 0
-TooManySlotsHaveNoOutcome = (text : List ℕ) → HasTooManySlots text →
-    ((o : checks.Outcome) → checks.ComesTo text o → ⊥) × ((o : splits.Outcome) → splits.ComesTo text o → ⊥)
+TooManySlotsHaveNoOutcome = (t : Texts) → HasTooManySlots t.program →
+    ((o : Climb (List ℕ)) → ComesTo (flows ∷ []) IsChecked t o → ⊥) × ((o : Climb HalfTexts) → ComesTo (flows ∷ []) IsSplit t o → ⊥)
 
--- of each three texts something is seen within so many turns: what they come to
-abbrev pub RunsAreSeen : Type 0
-RunsAreSeen = (t : Texts) (turns : ℕ) → (s : Seen) × runs.Gives t turns s
+-- texts come to an outcome of the original within so many turns
+abbrev pub RunsComeToAnOutcome : Type 0
+RunsComeToAnOutcome = (t : Texts) (turns : ℕ) → (o : Climb Ran) × ComesTo (hosts ∷ inputs ∷ []) (IsOriginal turns) t o

@@ -1,10 +1,11 @@
-//! Each text comes to an outcome of `check` and of `split`, but for programs of too many slots, and texts come to
-//! an outcome of `orig`.
+//! Texts stop at a stage or pass all stages of a command, but for programs of too many slots; and those that pass come to
+//! lines, halves and runs.
 #![tactic(auto)]
 
 mod laws;
 
 pub use laws::{
-    checks_come_to_an_outcome, programs_are_judged, runs_are_seen, splits_come_to_an_outcome,
-    too_many_slots_have_no_outcome,
+    checks_come_to_an_outcome, climbs_end, climbs_end_without_flows, programs_are_judged,
+    runs_come_to_an_outcome, splits_come_to_an_outcome, too_many_slots_have_no_outcome,
+    too_many_slots_stop_nothing,
 };

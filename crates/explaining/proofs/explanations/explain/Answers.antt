@@ -1,5 +1,12 @@
-use Rattle.explaining.proofs.ExplainLemmas.{error_told}
+use Rattle.std.proofs.Common.{◌≡◌, [], Err, refl, rules}
+use Rattle.typed_tree.specs.TypedView.{view_typed}
+use Rattle.stages.specs.Climb.{alone}
 use Rattle.explaining.proofs.explanations.explain.Goals as goal
 
-pub returns-in_ok-error_blocks-in-Err : goal.returns-in_ok-error_blocks-in-Err
-returns-in_ok-error_blocks-in-Err g c = error_told c.args.name.now _ c.in-Err.error _ c.in-Err.ensures.reading c.in_ok-error_blocks-in-Err.ensures
+pub returns-in_err-judged : goal.returns-in_err-judged
+returns-in_err-judged g c =
+    let is : c.from_residual.result ≡ Err c.in_err-judged.field-0.0 = search rules in
+    rw is (c.in_err-judged.ensures.stop [] (alone c.args.program.now) refl)
+
+pub returns : goal.returns
+returns g c = (view_typed c.in_ok-judged.judged.program, c.in_ok-judged.ensures.tree, c.in_ok-holding_lines.ensures)

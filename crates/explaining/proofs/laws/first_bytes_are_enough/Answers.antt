@@ -1,8 +1,5 @@
-use Rattle.explaining.proofs.Cuts.{enough, holds}
+use Rattle.explaining.proofs.Cuts.{enough}
 use Rattle.explaining.proofs.laws.first_bytes_are_enough.Goals as goal
 
-pub returns-clause-explained : goal.returns-clause-explained
-returns-clause-explained c = enough
-
-pub returns-clause-held : goal.returns-clause-held
-returns-clause-held c = holds
+pub returns : goal.returns
+returns c = enough

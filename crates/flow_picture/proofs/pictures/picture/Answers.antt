@@ -1,5 +1,8 @@
-use Rattle.flow_picture.proofs.StageLemmas.{unread}
+use Rattle.std.proofs.Common.{◌≡◌, [], Err, refl, rules}
+use Rattle.stages.specs.Climb.{alone}
 use Rattle.flow_picture.proofs.pictures.picture.Goals as goal
 
-pub returns-in_ok-front_lines-in-Err : goal.returns-in_ok-front_lines-in-Err
-returns-in_ok-front_lines-in-Err g c = unread _ c.in-Err.error _ c.in-Err.ensures.reading c.in_ok-front_lines-in-Err.ensures
+pub returns-in_err-t : goal.returns-in_err-t
+returns-in_err-t g c =
+    let is : c.from_residual.result ≡ Err c.in_err-t.field-0.0 = search rules in
+    rw is (c.in_err-t.ensures.stop [] (alone c.args.program.now) refl)

@@ -1,8 +1,17 @@
-use Rattle.host_table.specs.Hosts.{hosts_of}
-use Rattle.host_table.specs.RunHosts.{models_of}
+use Rattle.std.proofs.Common.{◌≡◌, [], ◌∷◌, Err, refl, rules}
 use Rattle.typed_tree.specs.TypedView.{view_typed}
-use Rattle.original.proofs.RunLemmas.{never_refused}
+use Rattle.stages.specs.Climb.{hosts, inputs}
+use Rattle.original.specs.Original.{original_texts}
+use Rattle.original.proofs.Parts.{behind_tree}
 use Rattle.original.proofs.running.run.Goals as goal
 
-pub ended-requires : goal.ended-requires
-ended-requires g c = never_refused (view_typed c.args.program.now) (models_of (hosts_of c.args.hosts).models) (hosts_of c.args.hosts).input c.args.turns c.in_ok-ran.ran.end c.in_ok-ran.ensures.end_is
+pub returns-in_err-program : goal.returns-in_err-program
+returns-in_err-program g c =
+    let is : c.from_residual.result ≡ Err c.in_err-program.field-0.0 = search rules in
+    rw is (c.in_err-program.ensures.stop (hosts ∷ inputs ∷ []) (original_texts c.args.program.now c.args.host.now c.args.input.now) refl)
+
+pub returns : goal.returns
+returns g c =
+    let t = original_texts c.args.program.now c.args.host.now c.args.input.now in
+    let has = c.in_ok-program.ensures.tree in
+    behind_tree c.args.turns t (view_typed c.in_ok-program.program) c.with_table.result has (c.with_table.ensures t has refl refl)

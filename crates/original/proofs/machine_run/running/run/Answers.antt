@@ -1,4 +1,4 @@
-use Rattle.std.proofs.Common.{◌≡◌, ℕ, false, subst, sym}
+use Rattle.std.proofs.Common.{ℕ, false, subst, sym}
 use Rattle.std.specs.Prelude.{IsTrue}
 use Rattle.host_table.specs.Hosts.{hosts_of}
 use Rattle.typed_tree.specs.TypedView.{view_typed}

@@ -1,7 +1,0 @@
-use Rattle.std.proofs.Common.{◌≡◌, ◌++◌, drop}
-use Rattle.typed_tree.specs.TypedView.{view_typed}
-use Rattle.host_lines.specs.HostLines.{host_lines}
-use Rattle.host_lines.proofs.lines.host_lines.Given as goal
-
-abbrev pub invariant-loop-fault : goal.invariant-loop-fault
-invariant-loop-fault l = l.lines.items ++ host_lines (view_typed l.program) (drop l.fault-index l.faults) ≡ host_lines (view_typed l.program) l.fn.faults

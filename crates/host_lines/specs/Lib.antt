@@ -1,2 +1,0 @@
-pub mod GivenHosts
-pub mod HostLines

@@ -1,9 +1,0 @@
-use Rattle.typed_tree.specs.TypedView.{view_typed}
-use Rattle.pt_core.specs.CodeTree.{view_monitor, view_slave}
-use Rattle.program_split.proofs.Parts.{is_split}
-use Rattle.program_split.proofs.stages.printed.Goals as goal
-
-pub returns : goal.returns
-returns g c = λ text has.
-    is_split text (view_typed c.args.program) c.args.accepted (view_slave c.in_ok-slave.slave) (view_monitor c.in_ok-slave.monitor) c.in_ok-slave-2.slave.items c.in_ok-monitor.monitor.items
-    has c.requires c.in_ok-slave.ensures c.in_ok-slave-2.ensures.text c.in_ok-monitor.ensures.text

@@ -1,0 +1,4 @@
+pub mod Ends
+pub mod FlowLines
+pub mod HostLines
+pub mod Lines
